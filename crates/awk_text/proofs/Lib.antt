@@ -1,0 +1,8 @@
+pub mod Values
+pub mod Magnitude
+pub mod ReadingFacts
+pub mod Splits
+pub mod Sound
+pub mod Longest
+pub mod Meaning
+pub mod LongExponent

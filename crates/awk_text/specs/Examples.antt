@@ -1,0 +1,85 @@
+-- Numbers of texts, computed from the definition.
+use Rattle.std.specs.Prelude.{◌≡◌, ◌^◌, true, false, Ok, Err, pos, neg_ℤ, codes, refl}
+use Rattle.awk_text.specs.Reading.{numeral_at, sign_at, fraction_at, exponent_at}
+use Rattle.awk_text.specs.Number.{numerator, denominator, number_of_text, truncated_of_text, looks_numeric_text}
+use Rattle.awk_text.specs.declared.number.NumberFault.TheVariants.{Range, Fraction}
+
+pub signed_with_exponent : number_of_text (codes " +1.50e1 x") ≡ Ok (pos 15)
+unfolding numeral_at sign_at fraction_at exponent_at numerator denominator
+signed_with_exponent = refl
+
+pub more_behind : looks_numeric_text (codes " +1.50e1 x") ≡ false
+unfolding numeral_at sign_at fraction_at exponent_at
+more_behind = refl
+
+pub spaces_behind : looks_numeric_text (codes " +1.50e1 \n") ≡ true
+unfolding numeral_at sign_at fraction_at exponent_at
+spaces_behind = refl
+
+pub no_hexadecimal : number_of_text (codes "0x1A") ≡ Ok (pos 0)
+unfolding numeral_at sign_at fraction_at exponent_at numerator denominator
+no_hexadecimal = refl
+
+pub tenth : number_of_text (codes "1e-1") ≡ Err Fraction
+unfolding numeral_at sign_at fraction_at exponent_at numerator denominator
+tenth = refl
+
+pub too_large : number_of_text (codes "1e16") ≡ Err Range
+unfolding numeral_at sign_at fraction_at exponent_at numerator denominator
+too_large = refl
+
+pub towards_zero : truncated_of_text (codes "-7.9") ≡ Ok (neg_ℤ (pos 7))
+unfolding numeral_at sign_at fraction_at exponent_at numerator denominator
+towards_zero = refl
+
+pub mark_without_digits : number_of_text (codes "1e") ≡ Ok (pos 1)
+unfolding numeral_at sign_at fraction_at exponent_at numerator denominator
+mark_without_digits = refl
+
+pub mark_and_sign_without_digits : number_of_text (codes "1e+") ≡ Ok (pos 1)
+unfolding numeral_at sign_at fraction_at exponent_at numerator denominator
+mark_and_sign_without_digits = refl
+
+pub point_without_digits : number_of_text (codes ".") ≡ Ok (pos 0)
+unfolding numeral_at sign_at fraction_at exponent_at numerator denominator
+point_without_digits = refl
+
+pub point_first : number_of_text (codes ".5e1") ≡ Ok (pos 5)
+unfolding numeral_at sign_at fraction_at exponent_at numerator denominator
+point_first = refl
+
+pub point_last : number_of_text (codes "1.e2") ≡ Ok (pos 100)
+unfolding numeral_at sign_at fraction_at exponent_at numerator denominator
+point_last = refl
+
+pub whole_by_exponent : number_of_text (codes "10e-1") ≡ Ok (pos 1)
+unfolding numeral_at sign_at fraction_at exponent_at numerator denominator
+whole_by_exponent = refl
+
+pub zero_with_exponent : number_of_text (codes "0e999") ≡ Ok (pos 0)
+unfolding numeral_at sign_at fraction_at exponent_at numerator denominator
+zero_with_exponent = refl
+
+pub largest : number_of_text (codes "9007199254740992") ≡ Ok (pos (2 ^ 53))
+unfolding numeral_at sign_at fraction_at exponent_at numerator denominator
+largest = refl
+
+pub least : number_of_text (codes "-9007199254740992") ≡ Ok (neg_ℤ (pos (2 ^ 53)))
+unfolding numeral_at sign_at fraction_at exponent_at numerator denominator
+least = refl
+
+pub past_largest : number_of_text (codes "9007199254740993") ≡ Err Range
+unfolding numeral_at sign_at fraction_at exponent_at numerator denominator
+past_largest = refl
+
+pub fraction_before_range : number_of_text (codes "90071992547409930.5") ≡ Err Fraction
+unfolding numeral_at sign_at fraction_at exponent_at numerator denominator
+fraction_before_range = refl
+
+pub range_of_truncated : truncated_of_text (codes "90071992547409930.5") ≡ Err Range
+unfolding numeral_at sign_at fraction_at exponent_at numerator denominator
+range_of_truncated = refl
+
+pub truncated_into_range : truncated_of_text (codes "9007199254740992.5") ≡ Ok (pos (2 ^ 53))
+unfolding numeral_at sign_at fraction_at exponent_at numerator denominator
+truncated_into_range = refl

@@ -1,0 +1,5 @@
+pub mod Reading
+pub mod Number
+pub mod NumberText
+pub mod Parts
+pub mod Examples

@@ -1,0 +1,162 @@
+ghost use Rattle.std.specs.Prelude.{◌≡◌, ℕ, ◌+◌, ◌-◌, ◌*◌, ◌/◌, ◌%◌, ◌^◌, ◌<◌, ◌≤◌, ◌==◌, ◌↔◌, IsTrue, min};
+ghost use Rattle.awk_text.specs.Number.{capped, ranged, denominator, is_nonzero_text, looks_numeric_text, number_of_text, numerator, truncated_of_text, value_after};
+ghost use Rattle.awk_text.specs.NumberText.{IsNumberOf, IsNumericLooking, IsTruncatedValue, IsWholeValue};
+ghost use Rattle.awk_text.specs.Parts.{parts};
+ghost use Rattle.awk_text.specs.Reading.{AreDigits};
+
+use crate::reading::{Numeral, read_numeral, spaces};
+
+/// Why a text has no number.
+#[derive(Clone, Copy, Debug, PartialEq, Eq, Drop)]
+pub enum NumberFault {
+    /// It is whole and outside -2^53 to 2^53.
+    Range,
+    /// It is not whole.
+    Fraction,
+}
+
+/// The greatest number; the least is its negation.
+const LIMIT: u64 = 1 << 53;
+
+/// The number that digits go on from `before`, cut to one past the range.
+#[tactic(auto, using(crate::proofs::Values::cut_step))]
+fn more_digits(before: u64, digits: &[u8]) -> u64
+    requires { before ≤ 2 ^ 53 + 1 }
+    ensures { result ≡ capped (value_after before digits.now) }
+{
+    let mut number = before;
+    for digit in digits {
+        let next = number * 10 + u64::from(digit.saturating_sub(b'0'));
+        number = next.min(LIMIT + 1);
+    }
+    number
+}
+
+/// The number that digits stand for, cut to 64 bits.
+#[tactic(auto, using(crate::proofs::Values::cut_step))]
+fn scale_of(digits: &[u8]) -> u64
+    ensures { result ≡ min (value_after 0 digits.now) (2 ^ 64 - 1) }
+{
+    let mut number = 0u64;
+    for digit in digits {
+        number = number
+            .saturating_mul(10)
+            .saturating_add(u64::from(digit.saturating_sub(b'0')));
+    }
+    number
+}
+
+/// The number with zeros behind it, cut to one past the range.
+#[tactic(auto, using(crate::proofs::Values::power_step, crate::proofs::Values::zeros_end))]
+fn with_zeros(before: u64, zeros: u64) -> u64
+    requires { before ≤ 2 ^ 53 + 1 }
+    ensures { result ≡ capped (before * 10 ^ zeros) }
+{
+    let mut number = before;
+    for _place in 0..zeros.min(16) {
+        number = (number * 10).min(LIMIT + 1);
+    }
+    number
+}
+
+fn are_zeros(digits: &[u8]) -> bool
+    requires { AreDigits digits.now }
+    ensures { result ≡ (value_after 0 digits.now == 0) }
+{
+    for digit in digits {
+        if *digit != b'0' {
+            return false;
+        }
+    }
+    true
+}
+
+/// The magnitude towards 0, cut to one past the range, and whether it is exact.
+fn magnitude(numeral: &Numeral<'_>) -> (u64, bool)
+    requires whole { AreDigits (parts numeral.now).whole }
+    requires fraction { AreDigits (parts numeral.now).fraction }
+    ensures towards_zero { result.0 ≡ capped (numerator (parts numeral.now) / denominator (parts numeral.now)) }
+    ensures exact { result.1 ≡ (numerator (parts numeral.now) % denominator (parts numeral.now) == 0) }
+{
+    let scale = scale_of(numeral.exponent);
+    if numeral.exponent_negative {
+        let len = numeral.whole.len();
+        let (whole, below) = numeral.whole.split_at(len - len.min(scale as usize));
+        let exact = are_zeros(below) && are_zeros(numeral.fraction);
+        (more_digits(0, whole), exact)
+    } else {
+        let taken = numeral.fraction.len().min(scale as usize);
+        let (above, below) = numeral.fraction.split_at(taken);
+        let shown = more_digits(more_digits(0, numeral.whole), above);
+        (with_zeros(shown, scale - taken as u64), are_zeros(below))
+    }
+}
+
+fn ranged_number(negative: bool, magnitude: u64) -> Result<i64, NumberFault>
+    ensures { result ≡ ranged negative magnitude }
+{
+    if magnitude > LIMIT {
+        return Err(NumberFault::Range);
+    }
+    let number = magnitude as i64;
+    Ok(if negative { -number } else { number })
+}
+
+/// The number of a text: that of its longest prefix that is number text, or 0 where no prefix is.
+///
+/// Number text is what POSIX awk calls a decimal-floating-constant (POSIX.1-2017 awk, "Expressions in awk"), after optional space bytes
+/// and an optional sign; there is no hexadecimal, no infinity and no NaN. The number lies from -2^53 to 2^53.
+///
+/// # Errors
+///
+/// [`NumberFault::Fraction`] where the value is not whole, and else [`NumberFault::Range`] where it is outside the range.
+pub fn number_of(text: &[u8]) -> Result<i64, NumberFault>
+    ensures value { result ≡ number_of_text text.now }
+    ensures meaning { IsNumberOf IsWholeValue text.now result }
+{
+    match read_numeral(text) {
+        None => Ok(0),
+        Some((numeral, _)) => match magnitude(&numeral) {
+            (number, true) => ranged_number(numeral.negative, number),
+            (_, false) => Err(NumberFault::Fraction),
+        },
+    }
+}
+
+/// The number of a text as by [`number_of`], cut to the whole number towards 0.
+///
+/// # Errors
+///
+/// [`NumberFault::Range`] where the number that is cut is outside the range; never [`NumberFault::Fraction`].
+pub fn truncated_of(text: &[u8]) -> Result<i64, NumberFault>
+    ensures value { result ≡ truncated_of_text text.now }
+    ensures meaning { IsNumberOf IsTruncatedValue text.now result }
+{
+    match read_numeral(text) {
+        None => Ok(0),
+        Some((numeral, _)) => ranged_number(numeral.negative, magnitude(&numeral).0),
+    }
+}
+
+/// Whether a text is number text with nothing but space bytes behind it, as a numeric string is (POSIX.1-2017 awk, "Expressions in awk").
+pub fn looks_numeric(text: &[u8]) -> bool
+    ensures value { result ≡ looks_numeric_text text.now }
+    ensures meaning { IsTrue result ↔ IsNumericLooking text.now }
+{
+    match read_numeral(text) {
+        None => false,
+        Some((_, rest)) => spaces(rest) == rest.len(),
+    }
+}
+
+/// Whether the longest prefix that is number text has a mantissa digit other than 0; false where no prefix is number text.
+///
+/// This is the truth of a numeric string: it never faults, however long the exponent or the fraction.
+pub fn is_nonzero(text: &[u8]) -> bool
+    ensures { result ≡ is_nonzero_text text.now }
+{
+    match read_numeral(text) {
+        None => false,
+        Some((numeral, _)) => !(are_zeros(numeral.whole) & are_zeros(numeral.fraction)),
+    }
+}

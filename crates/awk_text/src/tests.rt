@@ -1,0 +1,91 @@
+use super::*;
+use std::test::Fail;
+
+#[test]
+fn numbers_of_texts(rt: HostRuntime) -> Result<(), Fail> {
+    let rows: [(
+        &[u8],
+        Result<i64, NumberFault>,
+        Result<i64, NumberFault>,
+        bool,
+    ); 24] = [
+        (b"", Ok(0), Ok(0), false),
+        (b" +1.50e1 x", Ok(15), Ok(15), false),
+        (b" +1.50e1 \n", Ok(15), Ok(15), true),
+        (b"\x0b\x0c\r12\t", Ok(12), Ok(12), true),
+        (b"0x1A", Ok(0), Ok(0), false),
+        (b"1e-1", Err(NumberFault::Fraction), Ok(0), true),
+        (
+            b"1e16",
+            Err(NumberFault::Range),
+            Err(NumberFault::Range),
+            true,
+        ),
+        (b"-7.9", Err(NumberFault::Fraction), Ok(-7), true),
+        (b"1e", Ok(1), Ok(1), false),
+        (b"1e+", Ok(1), Ok(1), false),
+        (b".", Ok(0), Ok(0), false),
+        (b"+-1", Ok(0), Ok(0), false),
+        (b"1.", Ok(1), Ok(1), true),
+        (b".5e1", Ok(5), Ok(5), true),
+        (b"1.e2", Ok(100), Ok(100), true),
+        (b"10E-1", Ok(1), Ok(1), true),
+        (b"1.0", Ok(1), Ok(1), true),
+        (b"0e999999999999", Ok(0), Ok(0), true),
+        (
+            b"1e-99999999999999999999",
+            Err(NumberFault::Fraction),
+            Ok(0),
+            true,
+        ),
+        (
+            b"9007199254740992",
+            Ok(9007199254740992),
+            Ok(9007199254740992),
+            true,
+        ),
+        (
+            b"-9007199254740993",
+            Err(NumberFault::Range),
+            Err(NumberFault::Range),
+            true,
+        ),
+        (
+            b"9007199254740992.5",
+            Err(NumberFault::Fraction),
+            Ok(9007199254740992),
+            true,
+        ),
+        (
+            b"90071992547409930.5",
+            Err(NumberFault::Fraction),
+            Err(NumberFault::Range),
+            true,
+        ),
+        (b"12 34", Ok(12), Ok(12), false),
+    ];
+    for (text, number, truncated, looks) in rows {
+        assert!(rt; number_of(text) == number, "the number of {text:?}");
+        assert!(rt;
+            truncated_of(text) == truncated,
+            "the truncated number of {text:?}"
+        );
+        assert_eq!(rt; looks_numeric(text), looks, "the look of {text:?}");
+    }
+    Ok(())
+}
+
+#[test]
+fn texts_of_numbers(rt: HostRuntime) -> Result<(), Fail> {
+    assert_eq!(rt; text_of(-12).as_bytes(), b"-12".as_slice());
+    assert_eq!(rt; text_of(0).as_bytes(), b"0".as_slice());
+    assert_eq!(rt;
+        text_of(9007199254740992).as_bytes(),
+        b"9007199254740992".as_slice()
+    );
+    assert_eq!(rt;
+        text_of(i64::MIN).as_bytes(),
+        b"-9223372036854775808".as_slice()
+    );
+    Ok(())
+}

@@ -1,0 +1,9 @@
+pub mod Maximal
+pub mod LongestNumber
+pub mod Unique
+pub mod Longest
+pub mod Whole
+pub mod Fronts
+pub mod States
+pub mod Steps
+pub mod Rows

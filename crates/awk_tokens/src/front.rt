@@ -1,0 +1,181 @@
+//! The longest piece at the front of bytes.
+
+ghost use Rattle.std.specs.Prelude.{◌≡◌, length, false};
+ghost use Rattle.awk_tokens.specs.Words.{entry, reserved_word_of};
+ghost use Rattle.awk_tokens.specs.Pieces.{goes_on, on_line, starts_name, word_kind, punctuators};
+ghost use Rattle.awk_tokens.specs.Reading.{count_while, close_at, joined_at, name_of, punctuator_of, front_of};
+
+use crate::number::number;
+use crate::token::{Piece, Punctuator, TokenKind};
+use crate::words::{ReservedWord, reserved_word};
+
+fn begins_name(byte: u8) -> bool
+    ensures { result ≡ starts_name byte }
+{
+    (b'A' <= byte && byte <= b'Z') || (b'a' <= byte && byte <= b'z') || byte == b'_'
+}
+
+fn continues_name(byte: u8) -> bool
+    ensures { result ≡ goes_on byte }
+{
+    begins_name(byte) || (b'0' <= byte && byte <= b'9')
+}
+
+fn name_bytes(bytes: &[u8]) -> usize
+    ensures { result ≡ count_while goes_on bytes.now }
+{
+    bytes.iter().take_while(|b| continues_name(**b)).count()
+}
+
+fn line_bytes(bytes: &[u8]) -> usize
+    ensures { result ≡ count_while on_line bytes.now }
+{
+    bytes.iter().take_while(|b| **b != b'\n').count()
+}
+
+/// How many bytes there are up to the closing quote.
+#[tactic(auto, using(crate::proofs::Fronts::step_escaped, crate::proofs::Fronts::step_plain, crate::proofs::Fronts::stop_escaped, crate::proofs::Fronts::stop_quote, crate::proofs::Fronts::stop_line, crate::proofs::Fronts::close_end))]
+fn closing(newlines: bool, quote: u8, bytes: &[u8]) -> Option<usize>
+    ensures { result ≡ close_at newlines quote false bytes.now }
+{
+    let mut escaped = false;
+    for (i, b) in bytes.iter().enumerate() {
+        if escaped {
+            if *b == b'\n' && !newlines {
+                return None;
+            }
+            escaped = false;
+        } else if *b == quote {
+            return Some(i + 1);
+        } else if *b == b'\n' {
+            return None;
+        } else {
+            escaped = *b == b'\\';
+        }
+    }
+    None
+}
+
+fn word(text: &[u8]) -> TokenKind
+    ensures { result ≡ word_kind (reserved_word_of text.now) }
+{
+    match reserved_word(text) {
+        None => TokenKind::Name,
+        Some(ReservedWord::Keyword(word)) => TokenKind::Keyword(word),
+        Some(ReservedWord::Builtin(function)) => TokenKind::Builtin(function),
+        Some(ReservedWord::LeftOut(word)) => TokenKind::LeftOut(word),
+    }
+}
+
+#[tactic(auto, using(crate::proofs::Fronts::name_from))]
+fn name(bytes: &[u8]) -> Option<(Piece, usize)>
+    ensures { result ≡ name_of bytes.now }
+{
+    match bytes {
+        [_, rest @ ..] => {
+            let more = name_bytes(rest);
+            let kind = word(&bytes[..more + 1]);
+            Some((Piece::Token(kind), more))
+        }
+        [] => None,
+    }
+}
+
+#[tactic(auto, unfolding(crate::specs::Pieces::punctuators))]
+fn mark(text: &[u8]) -> Option<Punctuator>
+    ensures { result ≡ entry text.now punctuators }
+{
+    match text {
+        [b'{'] => Some(Punctuator::OpenBrace),
+        [b'}'] => Some(Punctuator::CloseBrace),
+        [b'('] => Some(Punctuator::OpenParen),
+        [b')'] => Some(Punctuator::CloseParen),
+        [b'['] => Some(Punctuator::OpenBracket),
+        [b']'] => Some(Punctuator::CloseBracket),
+        [b';'] => Some(Punctuator::Semicolon),
+        [b','] => Some(Punctuator::Comma),
+        [b'+'] => Some(Punctuator::Plus),
+        [b'-'] => Some(Punctuator::Minus),
+        [b'*'] => Some(Punctuator::Star),
+        [b'/'] => Some(Punctuator::Slash),
+        [b'%'] => Some(Punctuator::Percent),
+        [b'^'] => Some(Punctuator::Caret),
+        [b'!'] => Some(Punctuator::Bang),
+        [b'>'] => Some(Punctuator::Greater),
+        [b'<'] => Some(Punctuator::Less),
+        [b'|'] => Some(Punctuator::Pipe),
+        [b'?'] => Some(Punctuator::Question),
+        [b':'] => Some(Punctuator::Colon),
+        [b'~'] => Some(Punctuator::Tilde),
+        [b'$'] => Some(Punctuator::Dollar),
+        [b'='] => Some(Punctuator::Assign),
+        [b'+', b'='] => Some(Punctuator::PlusAssign),
+        [b'-', b'='] => Some(Punctuator::MinusAssign),
+        [b'*', b'='] => Some(Punctuator::StarAssign),
+        [b'/', b'='] => Some(Punctuator::SlashAssign),
+        [b'%', b'='] => Some(Punctuator::PercentAssign),
+        [b'^', b'='] => Some(Punctuator::CaretAssign),
+        [b'=', b'='] => Some(Punctuator::Equal),
+        [b'<', b'='] => Some(Punctuator::LessEqual),
+        [b'>', b'='] => Some(Punctuator::GreaterEqual),
+        [b'!', b'='] => Some(Punctuator::NotEqual),
+        [b'!', b'~'] => Some(Punctuator::NotTilde),
+        [b'+', b'+'] => Some(Punctuator::Increment),
+        [b'-', b'-'] => Some(Punctuator::Decrement),
+        [b'&', b'&'] => Some(Punctuator::And),
+        [b'|', b'|'] => Some(Punctuator::Or),
+        [b'>', b'>'] => Some(Punctuator::Append),
+        _ => None,
+    }
+}
+
+#[tactic(auto, unfolding(crate::specs::Reading::mark_at))]
+fn punctuator(bytes: &[u8]) -> Option<(Piece, usize)>
+    ensures { result ≡ punctuator_of bytes.now }
+{
+    match bytes {
+        [] => None,
+        [_] => mark(bytes).map(|p| (Piece::Token(TokenKind::Punctuator(p)), 0)),
+        _ => match mark(&bytes[..2]) {
+            Some(p) => Some((Piece::Token(TokenKind::Punctuator(p)), 1)),
+            None => mark(&bytes[..1]).map(|p| (Piece::Token(TokenKind::Punctuator(p)), 0)),
+        },
+    }
+}
+
+#[tactic(auto, unfolding(crate::specs::Reading::joined_at))]
+fn line_end(bytes: &[u8]) -> Option<(Piece, usize)>
+    ensures { result ≡ joined_at bytes.now }
+{
+    match bytes {
+        [b'\n', ..] => Some((Piece::Blank, 1)),
+        _ => None,
+    }
+}
+
+/// The longest piece, and how many bytes it takes beside the first.
+#[tactic(auto, unfolding(crate::specs::Reading::front_at))]
+pub(crate) fn front(division: bool, bytes: &[u8]) -> Option<(Piece, usize)>
+    ensures { result ≡ front_of division bytes.now }
+{
+    match bytes {
+        [] => None,
+        [b' ' | b'\t', ..] => Some((Piece::Blank, 0)),
+        [b'\\', rest @ ..] => line_end(rest),
+        [b'\n', ..] => Some((Piece::Newline, 0)),
+        [b'#', rest @ ..] => Some((Piece::Blank, line_bytes(rest))),
+        [first, rest @ ..] => {
+            if begins_name(*first) {
+                name(bytes)
+            } else if (b'0' <= *first && *first <= b'9') || *first == b'.' {
+                number(bytes).map(|more| (Piece::Token(TokenKind::Number), more))
+            } else if *first == b'"' {
+                closing(true, b'"', rest).map(|more| (Piece::Token(TokenKind::Str), more))
+            } else if *first == b'/' && !division {
+                closing(false, b'/', rest).map(|more| (Piece::Token(TokenKind::Ere), more))
+            } else {
+                punctuator(bytes)
+            }
+        }
+    }
+}

@@ -1,0 +1,10 @@
+pub mod Sound
+pub mod Complete
+pub mod StmtComplete
+pub mod ItemComplete
+pub mod StmtSound
+pub mod ItemSound
+pub mod Deeper
+pub mod Views
+pub mod Fine
+pub mod StmtDeeper

@@ -1,0 +1,13 @@
+pub mod Token
+pub mod Tree
+pub mod Reading
+pub mod Stmt
+pub mod ReadStmt
+pub mod Item
+pub mod ReadItem
+pub mod Shape
+pub mod View
+pub mod WellFormed
+pub mod ViewStmt
+pub mod Lexeme
+pub mod TreeOf

@@ -1,0 +1,6 @@
+pub mod Faults
+pub mod Operators
+pub mod Values
+pub mod Comparison
+pub mod Texts
+pub mod Examples

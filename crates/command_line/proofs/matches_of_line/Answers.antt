@@ -1,0 +1,18 @@
+use Rattle.std.proofs.Common.{◌∙◌, ap, map}
+use Rattle.std.proofs.lemmas.Result.{IfErr-weaker, IfOk-weaker}
+use Rattle.clap.specs.Words.{App, takes, is_simple, matches_of, subcommand_of}
+use Rattle.command_line.proofs.LineLemmas.{line_is_simple}
+use Rattle.command_line.proofs.matches_of_line.Goals as goal
+
+pub returns-clause-ok : goal.returns-clause-ok
+returns-clause-ok c =
+    let parse = c.try_get_matches_from in
+    IfOk-weaker parse.result _ _ (λ m h. let same = h (ap is_simple c.in_ok-command.ensures ∙ line_is_simple) in (
+      same.0 ∙ ap (λ (a : App). matches_of a (map (λ s. s.now) c.args.words.now)) c.in_ok-command.ensures,
+      same.1 ∙ ap (λ (a : App). subcommand_of a (map (λ s. s.now) c.args.words.now)) c.in_ok-command.ensures,
+    )) parse.ensures.matches
+
+pub returns-clause-err : goal.returns-clause-err
+returns-clause-err c =
+    let parse = c.try_get_matches_from in
+    IfErr-weaker parse.result _ _ (λ e h taken. h (ap (λ (a : App). takes a (map (λ s. s.now) c.args.words.now)) c.in_ok-command.ensures ∙ taken)) parse.ensures.passes

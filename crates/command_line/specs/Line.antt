@@ -1,0 +1,55 @@
+-- The command line of awkwasm, as the words of clap's specification say it.
+use Rattle.std.specs.Prelude.{ℕ, ◌^◌, ◌-◌, List, Some, true, codes}
+use Rattle.clap.specs.Words.{App, Rule, Text, new_app, new_rule, with_rule, with_subcommand}
+use Rattle.clap.specs.Simple.{on_top}
+use Rattle.clap.specs.declared.builder.action.ArgAction.TheVariants.{Set, Append}
+use Rattle.clap.specs.declared.error.kind.ErrorKind.{ErrorKind}
+use Rattle.clap.specs.declared.error.kind.ErrorKind.TheVariants.{DisplayHelp, DisplayVersion, OutOfMemory}
+use Rattle.clap.specs.declared.builder.value_parser.ValueParser.TheVariants.{Unsigned}
+
+-- one word that must be there
+abbrev pub single : Text → Rule
+single id = record (new_rule id) { required = true; action = Some Set }
+
+-- `-F s`, any number of times
+abbrev pub separator_rule : Rule
+separator_rule = record (new_rule (codes "separator")) { short = Some 70; action = Some Append; value_names = 1 }
+
+-- `-v name=text`, any number of times
+abbrev pub assign_rule : Rule
+assign_rule = record (new_rule (codes "assign")) { short = Some 118; action = Some Append; value_names = 1 }
+
+-- `--steps N`, a number of 64 bits
+abbrev pub steps_rule : Rule
+steps_rule = record (new_rule (codes "steps")) { long = Some (codes "steps"); action = Some Set; value_names = 1; parser = Some (Unsigned 0 (2 ^ 64 - 1)) }
+
+abbrev pub words_rule : Rule
+words_rule = record (new_rule (codes "words")) { action = Some Append }
+
+-- `compile SCRIPTFILE OUT`
+abbrev pub compile_app : App
+compile_app = with_rule (with_rule (new_app (codes "compile")) (single (codes "scriptfile"))) (single (codes "out"))
+
+-- `NAME [-F s] [-v n=t].. [--steps N]`
+abbrev pub options_app : Text → App
+options_app name = with_rule (with_rule (with_rule (new_app name) separator_rule) assign_rule) steps_rule
+
+-- `NAME [-F s] [-v n=t].. [--steps N] SUBJECT WORDS..`
+abbrev pub task_app : Text → Text → App
+task_app name subject = with_rule (with_rule (options_app name) (single subject)) words_rule
+
+-- the line's own settings: a subcommand is wanted, and `--version` is known
+abbrev pub top_app : App
+top_app = on_top (λ s. record s { has_version = true; subcommand_required = true }) (new_app (codes "awkwasm"))
+
+-- the whole line
+abbrev pub line_app : App
+line_app =
+    with_subcommand (with_subcommand (with_subcommand top_app compile_app.top) (task_app (codes "run") (codes "script")).top) (task_app (codes "exec") (codes "module")).top
+
+-- the exit status of a line that asks for nothing
+abbrev pub status_of_kind : ErrorKind → ℕ
+status_of_kind DisplayHelp = 0
+status_of_kind DisplayVersion = 0
+status_of_kind OutOfMemory = 5
+status_of_kind _ = 8

@@ -1,0 +1,228 @@
+//! The command line of awkwasm: what it asks for, and what is said of a line that asks for nothing.
+#![tactic(auto)]
+
+ghost use Rattle.std.specs.Prelude.{◌≡◌, IfOk, false};
+ghost use Rattle.std.specs.Prelude.{map, true, IfErr, codes};
+ghost use Rattle.clap.specs.Words.{app_of, rule_of, takes, kind_of, rows_of, found_of, matches_of, subcommand_rows_of, subcommand_of};
+ghost use Rattle.clap.specs.declared.builder.command.Command.TheViews.{out-Command as fields_of};
+ghost use Rattle.command_line.specs.Line.{single, separator_rule, assign_rule, steps_rule, words_rule, options_app, compile_app, task_app, line_app, status_of_kind};
+
+use clap::builder::ValueParser;
+use clap::error::ErrorKind;
+use clap::{Arg, ArgAction, ArgMatches, Command, Error};
+use std::alloc::{AllocError, Global};
+
+#[cfg(test)]
+mod tests;
+
+/// A run that is asked for: of what, and on what.
+#[derive(Drop)]
+pub struct Task<'a> {
+    /// The separators of `-F`, in order: each is assigned to FS after every assignment of `-v`, so the last one counts.
+    pub separators: Vec<&'a str>,
+    /// The words of `-v`, in order, as they were written.
+    pub assigns: Vec<&'a str>,
+    /// The greatest number of steps to take; without `--steps` the greatest of 64 bits.
+    pub steps: u64,
+    /// The script's text for `run`, the module's file name for `exec`.
+    pub subject: &'a str,
+    /// The operands.
+    pub words: Vec<&'a str>,
+}
+
+/// What a command line asks for.
+#[derive(Drop)]
+pub enum Request<'a> {
+    /// `compile SCRIPTFILE OUT`: the names of two files.
+    Compile { script_file: &'a str, out: &'a str },
+    /// `run SCRIPT WORDS..`
+    Run(Task<'a>),
+    /// `exec MODULE WORDS..`
+    Exec(Task<'a>),
+}
+
+fn single_arg<'a>(alloc: Global, id: &'a str, help: &'a str) -> Arg<'a>
+    ensures rule { rule_of result ≡ single id.now }
+    ensures local { result.global ≡ false }
+{
+    Arg::new(alloc, id)
+        .help(help)
+        .required(true)
+        .action(ArgAction::Set)
+}
+
+fn separator_arg<'a>(alloc: Global) -> Arg<'a>
+    ensures rule { rule_of result ≡ separator_rule }
+    ensures local { result.global ≡ false }
+{
+    Arg::new(alloc, "separator")
+        .short('F')
+        .help("Separate fields by this text: a last -v FS=TEXT")
+        .value_name("TEXT")
+        .action(ArgAction::Append)
+}
+
+fn assign_arg<'a>(alloc: Global) -> Arg<'a>
+    ensures rule { rule_of result ≡ assign_rule }
+    ensures local { result.global ≡ false }
+{
+    Arg::new(alloc, "assign")
+        .short('v')
+        .help("Assign to a variable before the script begins")
+        .value_name("NAME=TEXT")
+        .action(ArgAction::Append)
+}
+
+fn steps_arg<'a>(alloc: Global) -> Arg<'a>
+    ensures rule { rule_of result ≡ steps_rule }
+    ensures local { result.global ≡ false }
+{
+    Arg::new(alloc, "steps")
+        .long("steps")
+        .help("Stop after this many steps of the module")
+        .value_name("N")
+        .value_parser(ValueParser::unsigned(0, u64::MAX))
+        .action(ArgAction::Set)
+}
+
+fn words_arg<'a>(alloc: Global) -> Arg<'a>
+    ensures rule { rule_of result ≡ words_rule }
+    ensures local { result.global ≡ false }
+{
+    Arg::new(alloc, "words")
+        .help("Files to read, - for standard input, and assignments NAME=TEXT")
+        .action(ArgAction::Append)
+}
+
+fn options_command<'a>(
+    alloc: Global,
+    name: &'a str,
+    about: &'a str,
+) -> Result<Command<'a>, AllocError>
+    ensures app { IfOk result (λ c. app_of c ≡ options_app name.now) }
+    ensures local { IfOk result (λ c. (fields_of c).has_globals ≡ false) }
+{
+    Command::new(alloc, name)
+        .about(about)
+        .arg(separator_arg(alloc))?
+        .arg(assign_arg(alloc))?
+        .arg(steps_arg(alloc))
+}
+
+fn run_command<'a>(alloc: Global) -> Result<Command<'a>, AllocError>
+    ensures app { IfOk result (λ c. app_of c ≡ task_app (codes "run") (codes "script")) }
+    ensures local { IfOk result (λ c. (fields_of c).has_globals ≡ false) }
+{
+    options_command(alloc, "run", "Run a script")?
+        .arg(single_arg(alloc, "script", "The script's text"))?
+        .arg(words_arg(alloc))
+}
+
+fn exec_command<'a>(alloc: Global) -> Result<Command<'a>, AllocError>
+    ensures app { IfOk result (λ c. app_of c ≡ task_app (codes "exec") (codes "module")) }
+    ensures local { IfOk result (λ c. (fields_of c).has_globals ≡ false) }
+{
+    options_command(alloc, "exec", "Run a compiled module")?
+        .arg(single_arg(alloc, "module", "The module's file"))?
+        .arg(words_arg(alloc))
+}
+
+fn compile_command<'a>(alloc: Global) -> Result<Command<'a>, AllocError>
+    ensures app { IfOk result (λ c. app_of c ≡ compile_app) }
+    ensures local { IfOk result (λ c. (fields_of c).has_globals ≡ false) }
+{
+    Command::new(alloc, "compile")
+        .about("Compile a script to a WebAssembly module")
+        .arg(single_arg(alloc, "scriptfile", "The script's file"))?
+        .arg(single_arg(alloc, "out", "The file to write the module to"))
+}
+
+fn command<'a>(alloc: Global) -> Result<Command<'a>, AllocError>
+    ensures { IfOk result (λ c. app_of c ≡ line_app) }
+{
+    let compile = compile_command(alloc)?;
+    Command::new(alloc, "awkwasm")
+        .about("Compiles AWK scripts to WebAssembly modules, and runs them")
+        .version("0.1.0")
+        .subcommand_required(true)
+        .subcommand(compile)?
+        .subcommand(run_command(alloc)?)?
+        .subcommand(exec_command(alloc)?)
+}
+
+/// What clap finds in a line, whose first word is the program's name: it follows from the words.
+///
+/// # Errors
+///
+/// Where the words are not taken (help and the version are such answers), or for want of memory.
+pub fn matches_of_line<'a>(alloc: Global, words: &'a [&'a str]) -> Result<ArgMatches<'a>, Error>
+    ensures ok { IfOk result (λ m. (rows_of (found_of m) ≡ matches_of line_app (map (λ s. s.now) words.now)) × (subcommand_rows_of m ≡ subcommand_of line_app (map (λ s. s.now) words.now))) }
+    ensures err { IfErr result (λ e. takes line_app (map (λ s. s.now) words.now) ≡ true → kind_of e ≡ ErrorKind.OutOfMemory) }
+{
+    command(alloc)?.try_get_matches_from(words)
+}
+
+/// The exit status of a line that asks for nothing: 0 where help or the version was asked for, 5 for want of memory, else 8.
+pub fn exit_status(error: &Error) -> u8
+    ensures { result ≡ status_of_kind (kind_of error.now) }
+{
+    match error.kind() {
+        ErrorKind::DisplayHelp | ErrorKind::DisplayVersion => 0,
+        ErrorKind::OutOfMemory => 5,
+        _ => 8,
+    }
+}
+
+fn texts<'a>(
+    alloc: Global,
+    matches: &ArgMatches<'a>,
+    id: &str,
+) -> Result<Vec<&'a str>, AllocError> {
+    let mut texts = Vec::new(alloc);
+    if let Some(values) = matches.get_strs(id) {
+        for value in values {
+            texts.push(*value)?;
+        }
+    }
+    Ok(texts)
+}
+
+fn task_of<'a>(
+    alloc: Global,
+    matches: &ArgMatches<'a>,
+    subject: &str,
+) -> Result<Task<'a>, AllocError> {
+    Ok(Task {
+        separators: texts(alloc, matches, "separator")?,
+        assigns: texts(alloc, matches, "assign")?,
+        steps: matches.get_one::<u64>("steps").unwrap_or(u64::MAX),
+        subject: matches.get_str(subject).unwrap_or(""),
+        words: texts(alloc, matches, "words")?,
+    })
+}
+
+fn request_in<'a>(alloc: Global, matches: &ArgMatches<'a>) -> Result<Request<'a>, AllocError> {
+    match matches.subcommand() {
+        Some(("compile", inner)) => Ok(Request::Compile {
+            script_file: inner.get_str("scriptfile").unwrap_or(""),
+            out: inner.get_str("out").unwrap_or(""),
+        }),
+        Some(("run", inner)) => Ok(Request::Run(task_of(alloc, inner, "script")?)),
+        Some((_, inner)) => Ok(Request::Exec(task_of(alloc, inner, "module")?)),
+        None => Err(AllocError),
+    }
+}
+
+/// The request of a command line, whose first word is the program's name.
+///
+/// # Errors
+///
+/// Where the words are not taken, with the text to print (help and the version are such answers), or for want of memory. [`exit_status`]
+/// gives the program's status.
+pub fn request_of<'a>(alloc: Global, words: &'a [&'a str]) -> Result<Request<'a>, Error>
+    ensures { IfErr result (λ e. takes line_app (map (λ s. s.now) words.now) ≡ true → kind_of e ≡ ErrorKind.OutOfMemory) }
+{
+    let matches = matches_of_line(alloc, words)?;
+    let request = request_in(alloc, &matches)?;
+    Ok(request)
+}

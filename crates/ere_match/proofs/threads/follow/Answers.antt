@@ -1,0 +1,29 @@
+use Rattle.std.proofs.Common.{refl, sym, subst, true, false, Bool, ◌≡◌}
+use Rattle.std.specs.Prelude.{◌||◌}
+use Rattle.ere_match.specs.Threads.{IsFollowed}
+use Rattle.ere_match.specs.declared.node.Node.{Node}
+use Rattle.ere_match.specs.declared.node.Node.TheVariants as nodes
+use Rattle.ere_match.proofs.Marks.{followed_split}
+use Rattle.ere_match.proofs.threads.follow.Goals as goal
+
+pub returns-then-one : goal.returns-then-one
+returns-then-one c = λ bound small.
+    (let f = followed_split c.args.text.now c.args.at bound c.args.start c.in-Split.first c.in-Split.second c.args.set.now c.mark-one.new.set c.mark-two.new.set c.mark-one.result c.mark-two.result (c.mark-one.ensures bound small) (c.mark-two.ensures bound small) in
+    let one : (c.mark-one.result || c.mark-two.result) ≡ c.mark-one.result = joined c.mark-one.result c.mark-two.result c.if-one.true in
+    let P : Node → Type 0 = λ n. IsFollowed c.args.text.now c.args.at bound c.args.start n c.args.set.now c.mark-two.new.set c.mark-one.result in
+    subst P (sym c.in-Split.is) (subst (λ (b : Bool). IsFollowed c.args.text.now c.args.at bound c.args.start (nodes.Split c.in-Split.first c.in-Split.second) c.args.set.now c.mark-two.new.set b) one f))
+  where
+    joined : (a b : Bool) → a ≡ true → (a || b) ≡ a
+    joined true b e = refl
+    joined false b e = absurd cc
+
+pub returns-else-one : goal.returns-else-one
+returns-else-one c = λ bound small.
+    (let f = followed_split c.args.text.now c.args.at bound c.args.start c.in-Split.first c.in-Split.second c.args.set.now c.mark-one.new.set c.mark-two.new.set c.mark-one.result c.mark-two.result (c.mark-one.ensures bound small) (c.mark-two.ensures bound small) in
+    let two : (c.mark-one.result || c.mark-two.result) ≡ c.mark-two.result = joined c.mark-one.result c.mark-two.result c.if-one.false in
+    let P : Node → Type 0 = λ n. IsFollowed c.args.text.now c.args.at bound c.args.start n c.args.set.now c.mark-two.new.set c.mark-two.result in
+    subst P (sym c.in-Split.is) (subst (λ (b : Bool). IsFollowed c.args.text.now c.args.at bound c.args.start (nodes.Split c.in-Split.first c.in-Split.second) c.args.set.now c.mark-two.new.set b) two f))
+  where
+    joined : (a b : Bool) → a ≡ false → (a || b) ≡ b
+    joined true b e = absurd cc
+    joined false b e = refl

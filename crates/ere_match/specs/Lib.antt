@@ -1,0 +1,5 @@
+pub mod Runs
+pub mod Means
+pub mod Threads
+pub mod FirstMatch
+pub mod Autos

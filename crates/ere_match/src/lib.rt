@@ -1,0 +1,17 @@
+//! Matching extended regular expressions: the first match, and the longest there.
+#![tactic(auto)]
+
+mod assemble;
+mod automaton;
+mod matching;
+mod node;
+#[cfg(test)]
+mod plain;
+mod scan;
+mod step;
+#[cfg(test)]
+mod tests;
+mod threads;
+
+pub use automaton::Auto;
+pub use matching::{build, first_match, is_match};

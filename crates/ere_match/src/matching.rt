@@ -1,0 +1,62 @@
+//! Building automata, and matching with them.
+ghost use Rattle.std.specs.Prelude.{◌≡◌, ◌≤◌, ℕ, IfErr, IfOk, length};
+ghost use Rattle.ere_syntax.specs.Tree.{Tree};
+ghost use Rattle.ere_syntax.specs.View.{view};
+ghost use Rattle.ere_syntax.specs.declared.fault.EreFault.TheVariants.{NoMemory};
+ghost use Rattle.ere_match.specs.Autos.{IsAutoOf};
+ghost use Rattle.ere_match.specs.FirstMatch.{IsFirstMatch, IsMatch};
+
+use crate::assemble::{add, build as build_nodes};
+use crate::automaton::Auto;
+use crate::node::Node;
+use crate::scan::scan;
+use ere_syntax::{Ere, EreFault};
+use std::alloc::{AllocError, Global};
+
+/// The automaton of an expression. It is refused only where memory ran out: what `read_ere` gives is within the limits.
+pub fn build(alloc: Global, ere: &Ere) -> Result<Auto, EreFault>
+    ensures auto { IfOk result (λ auto. IsAutoOf auto (view ere.now)) }
+    ensures refused { IfErr result (λ fault. fault ≡ NoMemory) }
+{
+    let mut nodes = Vec::new(alloc);
+    let accept = add(&mut nodes, Node::Accept)?;
+    let entry = build_nodes(alloc, &mut nodes, ere, accept)?;
+    let set = vec![in alloc; None; nodes.len()]?;
+    let next = vec![in alloc; None; nodes.len()]?;
+    Ok(Auto {
+        nodes,
+        entry,
+        set,
+        next,
+    })
+}
+
+/// Whether the expression matches somewhere in the text.
+pub fn is_match(auto: &mut Auto, text: &[u8]) -> Result<bool, AllocError>
+    ensures found { (t : Tree) → IsAutoOf auto.old t → IfOk result (λ found. IsMatch t text.now found) }
+    ensures kept { (t : Tree) → IsAutoOf auto.old t → IsAutoOf auto.new t }
+{
+    let found = first_match(auto, text, 0)?;
+    Ok(found.is_some())
+}
+
+/// The first match that begins at `from` or behind it, and the longest of those that begin there, as the places of its
+/// first byte and behind its last one: POSIX's leftmost longest match.
+pub fn first_match(
+    auto: &mut Auto,
+    text: &[u8],
+    from: usize,
+) -> Result<Option<(usize, usize)>, AllocError>
+    requires { from ≤ length text.now }
+    ensures found { (t : Tree) → IsAutoOf auto.old t → IfOk result (λ found. IsFirstMatch t text.now from found) }
+    ensures kept { (t : Tree) → IsAutoOf auto.old t → IsAutoOf auto.new t }
+{
+    Ok(scan(
+        &auto.nodes,
+        auto.entry,
+        text,
+        from,
+        &mut auto.set,
+        &mut auto.next,
+    ))
+}

@@ -1,0 +1,102 @@
+//! A scan of a text: threads from all starts at once, of which the earliest at each node is kept.
+ghost use Rattle.std.specs.Prelude.{◌≡◌, ◌+◌, ◌<◌, ◌≤◌, ℕ, false, length, true, List};
+ghost use Rattle.ere_match.specs.Threads.{AreThreads, Holds, IsBest, IsSettled, SpecNode, better_of};
+
+use crate::node::Node;
+use crate::step::{accepted, step};
+use crate::threads::{clear, close, mark};
+
+/// The best match so far, with the least start that is accepted at this place.
+fn better(
+    accepted: Option<usize>,
+    at: usize,
+    best: Option<(usize, usize)>,
+) -> Option<(usize, usize)>
+    ensures { result ≡ better_of accepted at best }
+{
+    match accepted {
+        None => best,
+        Some(start) => match best {
+            None => Some((start, at)),
+            Some(found) => {
+                if start <= found.0 {
+                    Some((start, at))
+                } else {
+                    Some(found)
+                }
+            }
+        },
+    }
+}
+
+/// Whether no thread is left.
+fn is_empty(set: &[Option<usize>]) -> bool
+    ensures { result ≡ true → (id start : ℕ) → Holds set.now id start → ⊥ }
+{
+    for thread in set {
+        if thread.is_some() {
+            return false;
+        }
+    }
+    true
+}
+
+/// Begins a thread at this place.
+fn seed(set: &mut [Option<usize>], entry: usize, at: usize, best: Option<(usize, usize)>)
+    requires { (k s : ℕ) → Holds set.old k s → s ≤ at }
+    ensures starts { (k s : ℕ) → Holds set.new k s → s ≤ at }
+    ensures threads { (nodes : List SpecNode) (text : List ℕ) (from : ℕ) → from ≤ at → AreThreads nodes text entry from at at set.old best → IsBest nodes text entry from at best → AreThreads nodes text entry from at (at + 1) set.new best }
+{
+    match best {
+        None => {
+            mark(set, entry, at);
+        }
+        Some(_) => {}
+    }
+}
+
+/// Leads the threads of a place on as far as they go, and looks for those that are accepted.
+fn settle(
+    nodes: &[Node],
+    entry: usize,
+    text: &[u8],
+    at: usize,
+    set: &mut [Option<usize>],
+    best: Option<(usize, usize)>,
+) -> Option<(usize, usize)>
+    requires same_len { length set.old ≡ length nodes.now }
+    requires starts { (k s : ℕ) → Holds set.old k s → s ≤ at }
+    ensures { (from : ℕ) → from ≤ at → at ≤ length text.now → AreThreads nodes.now text.now entry from at at set.old best → IsBest nodes.now text.now entry from at best → IsSettled nodes.now text.now entry from at set.new result }
+{
+    seed(set, entry, at, best);
+    close(nodes, set, text, at);
+    better(accepted(nodes, set), at, best)
+}
+
+/// The least start not before a place, and its greatest end, of the runs from the entry.
+pub(crate) fn scan(
+    nodes: &[Node],
+    entry: usize,
+    text: &[u8],
+    from: usize,
+    set: &mut [Option<usize>],
+    next: &mut [Option<usize>],
+) -> Option<(usize, usize)>
+    requires inside { from ≤ length text.now }
+    requires set_len { length set.old ≡ length nodes.now }
+    requires next_len { length next.old ≡ length nodes.now }
+    ensures { IsBest nodes.now text.now entry from (length text.now + 1) result }
+{
+    clear(set);
+    let mut best = None;
+    for at in from..text.len() {
+        best = settle(nodes, entry, text, at, set, best);
+        step(nodes, set, text, at, next);
+        match best {
+            Some(_) if is_empty(next) => return best,
+            _ => {}
+        }
+        set.copy_from_slice(next);
+    }
+    settle(nodes, entry, text, text.len(), set, best)
+}

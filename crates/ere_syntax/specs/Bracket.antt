@@ -1,0 +1,211 @@
+-- Bytes, escapes and bracket expressions: how they are spelled, and how they are read from the front of a text.
+use Rattle.std.specs.Prelude.{◌≡◌, ℕ, zero, suc, ◌+◌, ◌-◌, ◌*◌, ◌%◌, Bool, true, false, ◌&&◌, ◌||◌, ◌==◌, nat_le, if◌then◌else◌, Option, Some, None, List, [], ◌∷◌, ◌++◌, length}
+use Rattle.ere_syntax.specs.Reading.{◌>>=◌}
+use Rattle.ere_syntax.specs.declared.bracket.Front.{Front}
+use Rattle.ere_syntax.specs.declared.bracket.Front.TheVariants.{Closes, Names, Begins, Wrong}
+use Rattle.ere_syntax.specs.declared.class.Class.{Class}
+use Rattle.ere_syntax.specs.declared.class.Class.TheVariants.{Alnum, Alpha, Blank, Cntrl, Digit, Graph, Lower, Print, Punct, Space, Upper, Xdigit}
+
+abbrev pub not : Bool → Bool
+not true = false
+not false = true
+
+abbrev pub starts : ℕ → List ℕ → Bool
+starts b [] = false
+starts b (c ∷ cs) = c == b
+
+-- ---- escapes
+
+abbrev pub is_octal : ℕ → Bool
+is_octal c = nat_le 48 c && nat_le c 55
+
+pub data Escape : Type 0 where
+  Octal : ℕ → List ℕ → Escape
+  Letter : ℕ → Escape
+
+-- after the backslash
+abbrev pub spell_escape : Escape → List ℕ
+spell_escape (Octal d ds) = d ∷ ds
+spell_escape (Letter c) = c ∷ []
+
+-- at most n octal digits, and fewer only where no further one follows
+abbrev pub AreOctals : ℕ → List ℕ → List ℕ → Type 0
+AreOctals zero [] rest = Unit {0}
+AreOctals zero (d ∷ ds) rest = ⊥
+AreOctals (suc n) [] [] = Unit {0}
+AreOctals (suc n) [] (c ∷ cs) = is_octal c ≡ false
+AreOctals (suc n) (d ∷ ds) rest = (is_octal d ≡ true) × AreOctals n ds rest
+
+abbrev pub IsEscape : Escape → List ℕ → Type 0
+IsEscape (Octal d ds) rest = (is_octal d ≡ true) × AreOctals 2 ds rest
+IsEscape (Letter c) rest = is_octal c ≡ false
+
+abbrev pub octal_value : ℕ → List ℕ → ℕ
+octal_value n [] = n % 256
+octal_value n (d ∷ ds) = octal_value (n * 8 + (d - 48)) ds
+
+abbrev pub letter_value : ℕ → ℕ
+letter_value c = if c == 97 then 7 else if c == 98 then 8 else if c == 102 then 12 else if c == 110 then 10 else if c == 114 then 13 else if c == 116 then 9 else if c == 118 then 11 else c
+
+abbrev pub escape_value : Escape → ℕ
+escape_value (Octal d ds) = octal_value 0 (d ∷ ds)
+escape_value (Letter c) = letter_value c
+
+abbrev pub octals_at : ℕ → List ℕ → List ℕ × List ℕ
+octals_at zero ts = ([], ts)
+octals_at (suc n) [] = ([], [])
+octals_at (suc n) (c ∷ cs) = if is_octal c then (c ∷ (octals_at n cs).0, (octals_at n cs).1) else ([], c ∷ cs)
+
+abbrev pub escape_at : List ℕ → Option (Escape × List ℕ)
+escape_at [] = None
+escape_at (c ∷ cs) = if is_octal c then Some (Octal c (octals_at 2 cs).0, (octals_at 2 cs).1) else Some (Letter c, cs)
+
+-- ---- one byte in brackets
+
+pub data One : Type 0 where
+  Raw : ℕ → One
+  Escaped : Escape → One
+
+abbrev pub spell_one : One → List ℕ
+spell_one (Raw c) = c ∷ []
+spell_one (Escaped e) = 92 ∷ spell_escape e
+
+abbrev pub IsOne : One → List ℕ → Type 0
+IsOne (Raw c) rest = (c == 92) ≡ false
+IsOne (Escaped e) rest = IsEscape e rest
+
+abbrev pub value : One → ℕ
+value (Raw c) = c
+value (Escaped e) = escape_value e
+
+abbrev pub one_at : List ℕ → Option (One × List ℕ)
+one_at [] = None
+one_at (c ∷ cs) = if c == 92 then (escape_at cs >>= λ x. Some (Escaped x.0, x.1)) else Some (Raw c, cs)
+
+-- ---- classes
+
+-- with the `:]` behind it
+abbrev pub closed_name : Class → List ℕ
+closed_name Alnum = 97 ∷ 108 ∷ 110 ∷ 117 ∷ 109 ∷ 58 ∷ 93 ∷ []
+closed_name Alpha = 97 ∷ 108 ∷ 112 ∷ 104 ∷ 97 ∷ 58 ∷ 93 ∷ []
+closed_name Blank = 98 ∷ 108 ∷ 97 ∷ 110 ∷ 107 ∷ 58 ∷ 93 ∷ []
+closed_name Cntrl = 99 ∷ 110 ∷ 116 ∷ 114 ∷ 108 ∷ 58 ∷ 93 ∷ []
+closed_name Digit = 100 ∷ 105 ∷ 103 ∷ 105 ∷ 116 ∷ 58 ∷ 93 ∷ []
+closed_name Graph = 103 ∷ 114 ∷ 97 ∷ 112 ∷ 104 ∷ 58 ∷ 93 ∷ []
+closed_name Lower = 108 ∷ 111 ∷ 119 ∷ 101 ∷ 114 ∷ 58 ∷ 93 ∷ []
+closed_name Print = 112 ∷ 114 ∷ 105 ∷ 110 ∷ 116 ∷ 58 ∷ 93 ∷ []
+closed_name Punct = 112 ∷ 117 ∷ 110 ∷ 99 ∷ 116 ∷ 58 ∷ 93 ∷ []
+closed_name Space = 115 ∷ 112 ∷ 97 ∷ 99 ∷ 101 ∷ 58 ∷ 93 ∷ []
+closed_name Upper = 117 ∷ 112 ∷ 112 ∷ 101 ∷ 114 ∷ 58 ∷ 93 ∷ []
+closed_name Xdigit = 120 ∷ 100 ∷ 105 ∷ 103 ∷ 105 ∷ 116 ∷ 58 ∷ 93 ∷ []
+
+abbrev pub strip : List ℕ → List ℕ → Option (List ℕ)
+strip [] ts = Some ts
+strip (c ∷ cs) [] = None
+strip (c ∷ cs) (d ∷ ds) = if d == c then strip cs ds else None
+
+abbrev pub class_or : Class → Option (List ℕ) → Option (Class × List ℕ) → Option (Class × List ℕ)
+class_or c (Some rest) other = Some (c, rest)
+class_or c None other = other
+
+abbrev pub or_class : Class → List ℕ → Option (Class × List ℕ) → Option (Class × List ℕ)
+or_class c ts other = class_or c (strip (closed_name c) ts) other
+
+abbrev pub class_at : List ℕ → Option (Class × List ℕ)
+class_at ts = or_class Alnum ts (or_class Alpha ts (or_class Blank ts (or_class Cntrl ts (or_class Digit ts (or_class Graph ts (or_class Lower ts (or_class Print ts (or_class Punct ts (or_class Space ts (or_class Upper ts (or_class Xdigit ts None)))))))))))
+
+-- ---- members
+
+pub data Member : Type 0 where
+  Single : One → Member
+  Range : One → One → Member
+  Named : Class → Member
+
+abbrev pub spell_member : Member → List ℕ
+spell_member (Single o) = spell_one o
+spell_member (Range l h) = spell_one l ++ (45 ∷ spell_one h)
+spell_member (Named c) = 91 ∷ (58 ∷ closed_name c)
+
+-- behind a bracket, that it names a class or the like
+abbrev pub names : List ℕ → Bool
+names cs = starts 58 cs || (starts 46 cs || starts 61 cs)
+
+-- what stands at the front within brackets, where the first argument says that no member stands before it
+abbrev pub front : Bool → List ℕ → Front
+front first [] = Wrong
+front first (c ∷ cs) = if (c == 93) && not first then Closes else if (c == 91) && names cs then Names else if (c == 45) && (not first && not (starts 93 cs)) then Wrong else Begins
+
+-- a dash that makes a range
+abbrev pub dash_at : List ℕ → Option (List ℕ)
+dash_at [] = None
+dash_at (c ∷ []) = None
+dash_at (c ∷ d ∷ cs) = if (c == 45) && not (d == 93) then Some (d ∷ cs) else None
+
+-- the upper byte of a range is no class
+abbrev pub names_front : List ℕ → Bool
+names_front [] = false
+names_front (c ∷ cs) = (c == 91) && names cs
+
+abbrev pub IsMember : Bool → Member → List ℕ → Type 0
+IsMember first (Single o) rest = IsOne o rest × (front first (spell_one o ++ rest) ≡ Begins) × (dash_at rest ≡ None)
+IsMember first (Range l h) rest = IsOne l (45 ∷ (spell_one h ++ rest)) × (front first (spell_one l ++ (45 ∷ (spell_one h ++ rest))) ≡ Begins) × IsOne h rest × (starts 93 (spell_one h ++ rest) ≡ false) × (names_front (spell_one h ++ rest) ≡ false) × (nat_le (value l) (value h) ≡ true)
+IsMember first (Named c) rest = Unit {0}
+
+abbrev pub spell_members : List Member → List ℕ
+spell_members [] = 93 ∷ []
+spell_members (m ∷ ms) = spell_member m ++ spell_members ms
+
+abbrev pub AreMembers : Bool → List Member → List ℕ → Type 0
+AreMembers first [] rest = first ≡ false
+AreMembers first (m ∷ ms) rest = IsMember first m (spell_members ms ++ rest) × AreMembers false ms rest
+
+abbrev pub range_to : One → List ℕ → Option (Member × List ℕ)
+range_to l ts = if names_front ts then None else (one_at ts >>= λ h. if nat_le (value l) (value h.0) then Some (Range l h.0, h.1) else None)
+
+abbrev pub single_or : One → List ℕ → Option (List ℕ) → Option (Member × List ℕ)
+single_or l ts None = Some (Single l, ts)
+single_or l ts (Some us) = range_to l us
+
+abbrev pub named_at : List ℕ → Option (Member × List ℕ)
+named_at (c ∷ d ∷ cs) = if d == 58 then (class_at cs >>= λ x. Some (Named x.0, x.1)) else None
+named_at _ = None
+
+abbrev pub member_at : List ℕ → Front → Option (Member × List ℕ)
+member_at ts Closes = None
+member_at ts Wrong = None
+member_at ts Names = named_at ts
+member_at ts Begins = one_at ts >>= λ x. single_or x.0 x.1 (dash_at x.1)
+
+abbrev pub behind : List ℕ → List ℕ
+behind [] = []
+behind (c ∷ cs) = cs
+
+abbrev pub members_by : (List ℕ → Option (List Member × List ℕ)) → List ℕ → Front → Option (List Member × List ℕ)
+members_by go ts Closes = Some ([], behind ts)
+members_by go ts f = member_at ts f >>= λ x. go x.1 >>= λ y. Some (x.0 ∷ y.0, y.1)
+
+abbrev pub members_at : ℕ → Bool → List ℕ → Option (List Member × List ℕ)
+members_at zero first ts = None
+members_at (suc w) first ts = members_by (members_at w false) ts (front first ts)
+
+-- ---- brackets, behind the `[`
+
+pub record Bracket : Type 0 where
+  pub negated : Bool
+  pub members : List Member
+
+abbrev pub spell_bracket : Bracket → List ℕ
+spell_bracket b = if b.negated then (94 ∷ spell_members b.members) else spell_members b.members
+
+abbrev pub IsBracket : Bracket → List ℕ → Type 0
+IsBracket b rest = AreMembers true b.members rest × ((not b.negated && starts 94 (spell_members b.members ++ rest)) ≡ false)
+
+abbrev pub bracket_by : List ℕ → Bool → Option (Bracket × List ℕ)
+bracket_by ts true = members_at (length ts) true (behind ts) >>= λ x. Some (record { negated = true; members = x.0 }, x.1)
+bracket_by ts false = members_at (length ts) true ts >>= λ x. Some (record { negated = false; members = x.0 }, x.1)
+
+abbrev pub bracket_at : List ℕ → Option (Bracket × List ℕ)
+bracket_at ts = bracket_by ts (starts 94 ts)
+
+abbrev pub byte_and : ℕ → List ℕ → ℕ × List ℕ
+byte_and c rest = (c, rest)

@@ -1,0 +1,13 @@
+pub mod Tree
+pub mod Reading
+pub mod Bracket
+pub mod Scan
+pub mod View
+pub mod Matches
+pub mod Reads
+pub mod Counts
+pub mod Lexing
+pub mod Sizes
+pub mod Frames
+pub mod Steps
+pub mod Answers

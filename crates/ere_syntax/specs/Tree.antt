@@ -1,0 +1,88 @@
+-- Trees of regular expressions, and their tokens.
+use Rattle.std.specs.Prelude.{ℕ, ◌+◌, ◌*◌, ◌≤◌, max, Bool, List, [], ◌∷◌, ◌++◌, Option, Some, None}
+
+-- a set of bytes: for each byte whether it is in it
+abbrev pub Bytes : Type 0
+Bytes = List Bool
+
+pub data Token : Type 0 where
+  Atom : Bytes → Token
+  Begin : Token
+  Stop : Token
+  Open : Token
+  Close : Token
+  Bar : Token
+  Times : ℕ → Option ℕ → Token
+
+pub data Tree : Type 0 where
+  Empty : Tree
+  Set : Bytes → Tree
+  Start : Tree
+  End : Tree
+  Group : Tree → Tree
+  Repeat : Tree → ℕ → Option ℕ → Tree
+  Concat : Tree → Tree → Tree
+  Or : Tree → Tree → Tree
+
+abbrev pub print : Tree → List Token
+print Empty = []
+print (Set s) = Atom s ∷ []
+print Start = Begin ∷ []
+print End = Stop ∷ []
+print (Group t) = Open ∷ (print t ++ (Close ∷ []))
+print (Repeat t low high) = print t ++ (Times low high ∷ [])
+print (Concat a b) = print a ++ print b
+print (Or a b) = print a ++ (Bar ∷ print b)
+
+-- how tightly the tree binds: alternatives, branches, the anchor that takes no repetition, what takes one
+abbrev pub level : Tree → ℕ
+level Empty = 0
+level (Or a b) = 1
+level (Concat a b) = 2
+level Start = 3
+level _ = 4
+
+-- below the whole; lists lean to the left
+abbrev pub IsPart : Tree → Type 0
+IsPart Empty = ⊥
+IsPart (Set s) = Unit {0}
+IsPart Start = Unit {0}
+IsPart End = Unit {0}
+IsPart (Group t) = IsPart t
+IsPart (Repeat t low high) = IsPart t × (4 ≤ level t)
+IsPart (Concat a b) = IsPart a × IsPart b × (2 ≤ level a) × (3 ≤ level b)
+IsPart (Or a b) = IsPart a × IsPart b × (2 ≤ level b)
+
+abbrev pub IsEre : Tree → Type 0
+IsEre Empty = Unit {0}
+IsEre t = IsPart t
+
+-- ---- limits
+
+abbrev pub times : ℕ → Option ℕ → ℕ
+times low None = max low 1
+times low (Some high) = high
+
+abbrev pub positions : Tree → ℕ
+positions Empty = 0
+positions (Set s) = 1
+positions Start = 1
+positions End = 1
+positions (Group t) = positions t
+positions (Repeat t low high) = positions t * times low high
+positions (Concat a b) = positions a + positions b
+positions (Or a b) = positions a + positions b
+
+abbrev pub nesting : Tree → ℕ
+nesting Empty = 0
+nesting (Set s) = 0
+nesting Start = 0
+nesting End = 0
+nesting (Group t) = nesting t + 1
+nesting (Repeat t low high) = nesting t + 1
+nesting (Concat a b) = max (nesting a) (nesting b)
+nesting (Or a b) = max (nesting a) (nesting b)
+
+-- the limits on what is accepted
+abbrev pub IsWithinLimits : Tree → Type 0
+IsWithinLimits t = (positions t ≤ 10000) × (nesting t ≤ 1000)

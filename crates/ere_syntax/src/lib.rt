@@ -1,0 +1,24 @@
+//! Extended regular expressions (POSIX XBD 9.4): from their text to their tree, and what a tree matches.
+#![tactic(auto)]
+
+mod bracket;
+mod check;
+mod class;
+mod escape;
+mod fault;
+mod frame;
+mod interval;
+mod laws;
+mod read;
+mod sign;
+mod size;
+mod step;
+#[cfg(test)]
+mod tests;
+mod token;
+mod tree;
+
+pub use fault::EreFault;
+pub use laws::{matches_inside, one_tree};
+pub use read::read_ere;
+pub use tree::{ByteSet, Ere, Times};

@@ -1,0 +1,10 @@
+pub mod Loops
+pub mod Sound
+pub mod SoundBody
+pub mod SoundParts
+pub mod SoundModule
+pub mod Complete
+pub mod CompleteBody
+pub mod CompleteParts
+pub mod CompleteModule
+pub mod Rows

@@ -1,0 +1,22 @@
+-- Worked modules, computed from the reader.
+use Rattle.std.proofs.Common.{◌≡◌, [], ◌∷◌, ◌++◌, Ok, Err, refl}
+use Rattle.wasm_types.specs.Leb128.{u32_at}
+use Rattle.wasm_types.specs.ModuleGrammar.{no_parts, module_of, header}
+use Rattle.module_decoder.specs.declared.fault.DecodeFault.TheVariants.{BadHeader, Truncated, BadSection, BadInteger}
+use Rattle.module_decoder.specs.Reading.{module_at}
+
+header_alone : module_at header ≡ Ok (module_of no_parts)
+header_alone = refl
+
+header_cut : module_at (0x00 ∷ 0x61 ∷ 0x73 ∷ 0x6d ∷ 0x01 ∷ 0x00 ∷ 0x00 ∷ []) ≡ Err (Truncated 7)
+header_cut = refl
+
+header_other : module_at (0x00 ∷ 0x61 ∷ 0x73 ∷ 0x6e ∷ []) ≡ Err BadHeader
+header_other = refl
+
+unused_bits : module_at (header ++ 0x01 ∷ 0x80 ∷ 0x80 ∷ 0x80 ∷ 0x80 ∷ 0x10 ∷ []) ≡ Err (BadInteger 9)
+unfolding u32_at
+unused_bits = refl
+
+unknown_section : module_at (header ++ 0x0c ∷ 0x00 ∷ []) ≡ Err (BadSection 8)
+unknown_section = refl

@@ -1,0 +1,23 @@
+use Rattle.std.proofs.Common.{◌≡◌, ◌*◌, ◌+◌, ◌-◌}
+use Rattle.wasm_types.specs.View.{views}
+use Rattle.module_decoder.specs.Reading.{body_at, body_by}
+use Rattle.module_decoder.proofs.Loops.{with_front}
+use Rattle.module_decoder.proofs.body.+body.Given as goal
+
+abbrev pub decreases-block : goal.decreases-block
+decreases-block l = 3 * l.limit + 1
+
+abbrev pub decreases-looped : goal.decreases-looped
+decreases-looped l = 3 * l.limit + 1
+
+abbrev pub decreases-choice : goal.decreases-choice
+decreases-choice l = 3 * l.limit + 1
+
+abbrev pub decreases-instr : goal.decreases-instr
+decreases-instr l = 3 * l.limit + 2
+
+abbrev pub decreases-body_of : goal.decreases-body_of
+decreases-body_of l = 3 * l.limit
+
+abbrev pub invariant-body_of-loop : goal.invariant-body_of-loop
+invariant-body_of-loop l = with_front (views l.instrs.items) (body_by l.c (body_at l.c (l.limit - 1)) (l.turns - l.counter) l.rest) ≡ body_at l.c l.limit l.bytes

@@ -1,0 +1,3 @@
+pub mod Readers
+pub mod Reading
+pub mod View

@@ -1,0 +1,254 @@
+//! Instructions and their bodies.
+
+ghost use Rattle.std.specs.Prelude.{◌≡◌, ◌+◌, ◌-◌, Some, None, MatchOption, length};
+ghost use Rattle.wasm_types.specs.Syntax.{Block, Loop, If};
+ghost use Rattle.wasm_types.specs.View.{view, views};
+ghost use Rattle.module_decoder.specs.Readers.{Gives, vec_at, index_at};
+ghost use Rattle.module_decoder.specs.Reading.{step_by, step_at, made_body, block_at, loop_at, if_at, table_at, instr_by, body_at, expr_at};
+
+use crate::basics::{Span, bits32, bits64, block_type, index, mem_arg, reserved};
+use crate::fault::DecodeFault;
+use std::alloc::Global;
+use std::rc::Rc;
+use wasm_types::{Instr, Lead, Simple, lead_of};
+
+/// How deep bodies may be nested.
+const MAX_NESTING: u32 = 4000;
+
+/// What ends instructions.
+#[derive(Clone, Copy, Debug, PartialEq, Eq)]
+pub enum Ending {
+    End,
+    Else,
+}
+
+/// What comes next.
+#[derive(Clone, Copy, Debug, PartialEq, Eq)]
+pub enum Step {
+    Ends(Ending),
+    Opens(Lead),
+}
+
+/// Instructions, what ended them, and the bytes after it.
+#[derive(Drop)]
+pub struct Sequence<'a> {
+    pub instrs: Vec<Instr>,
+    pub ending: Ending,
+    pub rest: &'a [u8],
+}
+
+fn step_of(lead: Lead) -> Step
+    ensures { result ≡ step_by lead }
+{
+    match lead {
+        Lead::Else => Step::Ends(Ending::Else),
+        Lead::End => Step::Ends(Ending::End),
+        Lead::Bare(p) => Step::Opens(Lead::Bare(p)),
+        Lead::Index(i) => Step::Opens(Lead::Index(i)),
+        Lead::Load(op) => Step::Opens(Lead::Load(op)),
+        Lead::Store(op) => Step::Opens(Lead::Store(op)),
+        Lead::I32Const => Step::Opens(Lead::I32Const),
+        Lead::I64Const => Step::Opens(Lead::I64Const),
+        Lead::CallIndirect => Step::Opens(Lead::CallIndirect),
+        Lead::MemorySize => Step::Opens(Lead::MemorySize),
+        Lead::MemoryGrow => Step::Opens(Lead::MemoryGrow),
+        Lead::BrTable => Step::Opens(Lead::BrTable),
+        Lead::Block => Step::Opens(Lead::Block),
+        Lead::Loop => Step::Opens(Lead::Loop),
+        Lead::If => Step::Opens(Lead::If),
+        Lead::Float => Step::Opens(Lead::Float),
+        Lead::Unknown => Step::Opens(Lead::Unknown),
+    }
+}
+
+fn next_of(bytes: &[u8]) -> Option<(Step, &[u8])>
+    ensures { MatchOption result (step_at bytes.now ≡ None) (λ o. step_at bytes.now ≡ Some (o.0, o.1.now)) }
+{
+    match bytes {
+        [] => None,
+        [b, rest @ ..] => Some((step_of(lead_of(*b)), rest)),
+    }
+}
+
+// The byte before these.
+fn behind(c: Span, bytes: &[u8]) -> usize
+    ensures { result ≡ c.end - (length bytes.now + 1) }
+{
+    c.end.saturating_sub(bytes.len() + 1)
+}
+
+/// Indices with their number before them.
+pub fn indices(alloc: Global, c: Span, bytes: &[u8]) -> Result<(Vec<u32>, &[u8]), DecodeFault>
+    ensures { Gives (λ x. (x.0.items, x.1.now)) result (vec_at c (index_at c) bytes.now) }
+{
+    let (count, first) = index(c, bytes)?;
+    let mut all = Vec::new(alloc);
+    let mut rest = first;
+    for _ in 0..count {
+        let (one, after) = index(c, rest)?;
+        all.push(one)?;
+        rest = after;
+    }
+    Ok((all, rest))
+}
+
+fn table(alloc: Global, c: Span, bytes: &[u8]) -> Result<(Instr, &[u8]), DecodeFault>
+    ensures { Gives (λ x. (view x.0, x.1.now)) result (table_at c bytes.now) }
+{
+    let (labels, rest) = indices(alloc, c, bytes)?;
+    let (last, rest) = index(c, rest)?;
+    Ok((Instr::BrTable(labels, last), rest))
+}
+
+#[cycle(body)]
+fn block(alloc: Global, c: Span, limit: u32, bytes: &[u8]) -> Result<(Instr, &[u8]), DecodeFault>
+    ensures { Gives (λ x. (view x.0, x.1.now)) result (block_at c (body_at c limit) bytes.now) }
+{
+    let (kind, rest) = block_type(c, bytes)?;
+    let inner = body_of(alloc, c, limit, rest)?;
+    match inner.ending {
+        Ending::End => Ok((
+            Instr::Block(kind, Rc::new(alloc, inner.instrs)?),
+            inner.rest,
+        )),
+        Ending::Else => Err(DecodeFault::BadOpcode(behind(c, inner.rest))),
+    }
+}
+
+#[cycle(body)]
+fn looped(alloc: Global, c: Span, limit: u32, bytes: &[u8]) -> Result<(Instr, &[u8]), DecodeFault>
+    ensures { Gives (λ x. (view x.0, x.1.now)) result (loop_at c (body_at c limit) bytes.now) }
+{
+    let (kind, rest) = block_type(c, bytes)?;
+    let inner = body_of(alloc, c, limit, rest)?;
+    match inner.ending {
+        Ending::End => Ok((Instr::Loop(kind, Rc::new(alloc, inner.instrs)?), inner.rest)),
+        Ending::Else => Err(DecodeFault::BadOpcode(behind(c, inner.rest))),
+    }
+}
+
+#[cycle(body)]
+fn choice(alloc: Global, c: Span, limit: u32, bytes: &[u8]) -> Result<(Instr, &[u8]), DecodeFault>
+    ensures { Gives (λ x. (view x.0, x.1.now)) result (if_at c (body_at c limit) bytes.now) }
+{
+    let (kind, rest) = block_type(c, bytes)?;
+    let first = body_of(alloc, c, limit, rest)?;
+    let then = Rc::new(alloc, first.instrs)?;
+    match first.ending {
+        Ending::End => {
+            let none = Rc::new(alloc, Vec::new(alloc))?;
+            Ok((Instr::If(kind, then, none), first.rest))
+        }
+        Ending::Else => {
+            let second = body_of(alloc, c, limit, first.rest)?;
+            match second.ending {
+                Ending::End => Ok((
+                    Instr::If(kind, then, Rc::new(alloc, second.instrs)?),
+                    second.rest,
+                )),
+                Ending::Else => Err(DecodeFault::BadOpcode(behind(c, second.rest))),
+            }
+        }
+    }
+}
+
+#[cycle(body)]
+fn instr(
+    alloc: Global,
+    c: Span,
+    limit: u32,
+    lead: Lead,
+    bytes: &[u8],
+) -> Result<(Instr, &[u8]), DecodeFault>
+    ensures { Gives (λ x. (view x.0, x.1.now)) result (instr_by c (body_at c limit) lead bytes.now) }
+{
+    match lead {
+        Lead::Bare(p) => Ok((Instr::Plain(p), bytes)),
+        Lead::Index(op) => {
+            let (n, rest) = index(c, bytes)?;
+            Ok((Instr::Plain(op.with(n)), rest))
+        }
+        Lead::Load(op) => {
+            let (arg, rest) = mem_arg(c, bytes)?;
+            Ok((Instr::Plain(Simple::Load(op, arg)), rest))
+        }
+        Lead::Store(op) => {
+            let (arg, rest) = mem_arg(c, bytes)?;
+            Ok((Instr::Plain(Simple::Store(op, arg)), rest))
+        }
+        Lead::I32Const => {
+            let (n, rest) = bits32(c, bytes)?;
+            Ok((Instr::Plain(Simple::I32Const(n)), rest))
+        }
+        Lead::I64Const => {
+            let (n, rest) = bits64(c, bytes)?;
+            Ok((Instr::Plain(Simple::I64Const(n)), rest))
+        }
+        Lead::CallIndirect => {
+            let (n, rest) = index(c, bytes)?;
+            let (_, rest) = reserved(c, rest)?;
+            Ok((Instr::Plain(Simple::CallIndirect(n)), rest))
+        }
+        Lead::MemorySize => {
+            let (_, rest) = reserved(c, bytes)?;
+            Ok((Instr::Plain(Simple::MemorySize), rest))
+        }
+        Lead::MemoryGrow => {
+            let (_, rest) = reserved(c, bytes)?;
+            Ok((Instr::Plain(Simple::MemoryGrow), rest))
+        }
+        Lead::BrTable => table(alloc, c, bytes),
+        Lead::Block => block(alloc, c, limit, bytes),
+        Lead::Loop => looped(alloc, c, limit, bytes),
+        Lead::If => choice(alloc, c, limit, bytes),
+        Lead::Float => Err(DecodeFault::Float(behind(c, bytes))),
+        Lead::Else | Lead::End | Lead::Unknown => Err(DecodeFault::BadOpcode(behind(c, bytes))),
+    }
+}
+
+/// Instructions up to what ends them.
+#[cycle(body)]
+pub fn body_of(
+    alloc: Global,
+    c: Span,
+    limit: u32,
+    bytes: &[u8],
+) -> Result<Sequence<'_>, DecodeFault>
+    ensures { Gives (λ x. made_body (views x.instrs.items) x.ending x.rest.now) result (body_at c limit bytes.now) }
+{
+    if limit == 0 {
+        return Err(DecodeFault::TooLarge);
+    }
+    let mut instrs = Vec::new(alloc);
+    let mut rest = bytes;
+    let turns = bytes.len();
+    for _ in 0..turns {
+        match next_of(rest) {
+            None => return Err(c.malformed()),
+            Some((Step::Ends(ending), after)) => {
+                return Ok(Sequence {
+                    instrs,
+                    ending,
+                    rest: after,
+                });
+            }
+            Some((Step::Opens(lead), after)) => {
+                let (next, after_next) = instr(alloc, c, limit - 1, lead, after)?;
+                instrs.push(next)?;
+                rest = after_next;
+            }
+        }
+    }
+    Err(c.malformed())
+}
+
+/// Instructions and their end.
+pub fn expr(alloc: Global, c: Span, bytes: &[u8]) -> Result<(Vec<Instr>, &[u8]), DecodeFault>
+    ensures { Gives (λ x. (views x.0.items, x.1.now)) result (expr_at c bytes.now) }
+{
+    let body = body_of(alloc, c, MAX_NESTING + 1, bytes)?;
+    match body.ending {
+        Ending::End => Ok((body.instrs, body.rest)),
+        Ending::Else => Err(DecodeFault::BadOpcode(behind(c, body.rest))),
+    }
+}

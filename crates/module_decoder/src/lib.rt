@@ -1,0 +1,15 @@
+//! Modules from their bytes (Core 1.0, chapter 5).
+#![tactic(auto)]
+
+mod basics;
+mod body;
+mod fault;
+pub mod laws;
+mod parts;
+mod sections;
+
+pub use fault::DecodeFault;
+pub use sections::decode;
+
+#[cfg(test)]
+mod tests;

@@ -1,0 +1,423 @@
+//! The parts of modules.
+
+ghost use Rattle.std.specs.Prelude.{◌≡◌, ◌≤◌, ◌-◌, ◌+◌, map, length, replicate};
+ghost use Rattle.wasm_types.specs.View.{signature_of, view_import, view_global, view_export, view_elem, view_data};
+ghost use Rattle.module_decoder.specs.View.{view_code};
+ghost use Rattle.module_decoder.specs.Readers.{Gives, vec_at, option_at, tagged_at, index_at};
+ghost use Rattle.std.specs.Prelude.{◌++◌, OnOk, IfErr};
+ghost use Rattle.module_decoder.specs.declared.fault.DecodeFault.TheVariants.{NoMemory};
+ghost use Rattle.module_decoder.specs.Reading.{val_type_at, func_type_at, import_at, limits_at, limits_by, table_type_at, global_type_at, global_at, export_desc_at, export_at, elem_at, data_at, runs_at, locals_at, code_parts_at, code_at};
+
+use crate::basics::{Span, counted, ended, index, mutability, name, val_type};
+use crate::body::{expr, indices};
+use crate::fault::DecodeFault;
+use std::alloc::Global;
+use wasm_types::{
+    Data, Elem, Export, ExportDesc, FuncType, GlobalType, Import, Instr, Limits, ValType,
+};
+
+/// How many locals a function may have.
+const MAX_LOCALS: u32 = 50000;
+
+/// The locals and the body of a function.
+#[derive(Drop)]
+pub struct Code {
+    pub locals: Vec<ValType>,
+    pub body: Vec<Instr>,
+}
+
+/// Types of values with their number before them.
+pub fn params(alloc: Global, c: Span, bytes: &[u8]) -> Result<(Vec<ValType>, &[u8]), DecodeFault>
+    ensures { Gives (λ x. (x.0.items, x.1.now)) result (vec_at c (val_type_at c) bytes.now) }
+{
+    let (count, first) = index(c, bytes)?;
+    let mut all = Vec::new(alloc);
+    let mut rest = first;
+    for _ in 0..count {
+        let (one, after) = val_type(c, rest)?;
+        all.push(one)?;
+        rest = after;
+    }
+    Ok((all, rest))
+}
+
+/// At most one type of a value, with the number before it.
+pub fn result_type(c: Span, bytes: &[u8]) -> Result<(Option<ValType>, &[u8]), DecodeFault>
+    ensures { Gives (λ x. (x.0, x.1.now)) result (option_at c (val_type_at c) bytes.now) }
+{
+    let (count, rest) = index(c, bytes)?;
+    match count {
+        0 => Ok((None, rest)),
+        1 => {
+            let (t, rest) = val_type(c, rest)?;
+            Ok((Some(t), rest))
+        }
+        _ => Err(c.malformed()),
+    }
+}
+
+fn func_type(alloc: Global, c: Span, bytes: &[u8]) -> Result<(FuncType, &[u8]), DecodeFault>
+    ensures { Gives (λ x. (signature_of x.0, x.1.now)) result (func_type_at c bytes.now) }
+{
+    match bytes {
+        [] => Err(c.malformed()),
+        [b, rest @ ..] => {
+            if *b != 0x60 {
+                return Err(c.malformed());
+            }
+            let (params, rest) = params(alloc, c, rest)?;
+            let (result, rest) = result_type(c, rest)?;
+            Ok((FuncType { params, result }, rest))
+        }
+    }
+}
+
+/// The contents of a type section.
+pub fn func_types(
+    alloc: Global,
+    c: Span,
+    bytes: &[u8],
+) -> Result<(Vec<FuncType>, &[u8]), DecodeFault>
+    ensures { Gives (λ x. (map signature_of x.0.items, x.1.now)) result (vec_at c (func_type_at c) bytes.now) }
+{
+    let (count, first) = index(c, bytes)?;
+    let mut all = Vec::new(alloc);
+    let mut rest = first;
+    for _ in 0..count {
+        let (one, after) = func_type(alloc, c, rest)?;
+        all.push(one)?;
+        rest = after;
+    }
+    Ok((all, rest))
+}
+
+// The index behind a byte that is 0.
+fn type_use(c: Span, bytes: &[u8]) -> Result<(u32, &[u8]), DecodeFault>
+    ensures { Gives (λ x. (x.0, x.1.now)) result (tagged_at c 0 (index_at c) bytes.now) }
+{
+    match bytes {
+        [] => Err(c.malformed()),
+        [b, rest @ ..] => {
+            if *b == 0 {
+                index(c, rest)
+            } else {
+                Err(c.malformed())
+            }
+        }
+    }
+}
+
+fn import(alloc: Global, c: Span, bytes: &[u8]) -> Result<(Import, &[u8]), DecodeFault>
+    ensures { Gives (λ x. (view_import x.0, x.1.now)) result (import_at c bytes.now) }
+{
+    let (module, rest) = name(alloc, c, bytes)?;
+    let (name, rest) = name(alloc, c, rest)?;
+    let (ty, rest) = type_use(c, rest)?;
+    Ok((Import { module, name, ty }, rest))
+}
+
+/// The contents of an import section.
+pub fn imports(alloc: Global, c: Span, bytes: &[u8]) -> Result<(Vec<Import>, &[u8]), DecodeFault>
+    ensures { Gives (λ x. (map view_import x.0.items, x.1.now)) result (vec_at c (import_at c) bytes.now) }
+{
+    let (count, first) = index(c, bytes)?;
+    let mut all = Vec::new(alloc);
+    let mut rest = first;
+    for _ in 0..count {
+        let (one, after) = import(alloc, c, rest)?;
+        all.push(one)?;
+        rest = after;
+    }
+    Ok((all, rest))
+}
+
+fn limits_by(c: Span, b: u8, bytes: &[u8]) -> Result<(Limits, &[u8]), DecodeFault>
+    ensures { Gives (λ x. (x.0, x.1.now)) result (limits_by c b bytes.now) }
+{
+    match b {
+        0 => {
+            let (min, rest) = index(c, bytes)?;
+            Ok((Limits { min, max: None }, rest))
+        }
+        1 => {
+            let (min, rest) = index(c, bytes)?;
+            let (max, rest) = index(c, rest)?;
+            Ok((
+                Limits {
+                    min,
+                    max: Some(max),
+                },
+                rest,
+            ))
+        }
+        _ => Err(c.malformed()),
+    }
+}
+
+fn limits(c: Span, most: u32, bytes: &[u8]) -> Result<(Limits, &[u8]), DecodeFault>
+    ensures { Gives (λ x. (x.0, x.1.now)) result (limits_at c most bytes.now) }
+{
+    match bytes {
+        [] => Err(c.malformed()),
+        [b, rest @ ..] => {
+            let (limits, rest) = limits_by(c, *b, rest)?;
+            if limits.min <= most {
+                Ok((limits, rest))
+            } else {
+                Err(DecodeFault::TooLarge)
+            }
+        }
+    }
+}
+
+fn table_type(c: Span, bytes: &[u8]) -> Result<(Limits, &[u8]), DecodeFault>
+    ensures { Gives (λ x. (x.0, x.1.now)) result (table_type_at c bytes.now) }
+{
+    match bytes {
+        [] => Err(c.malformed()),
+        [b, rest @ ..] => {
+            if *b == 0x70 {
+                limits(c, 65536, rest)
+            } else {
+                Err(c.malformed())
+            }
+        }
+    }
+}
+
+/// The contents of a table section.
+pub fn table(c: Span, bytes: &[u8]) -> Result<(Option<Limits>, &[u8]), DecodeFault>
+    ensures { Gives (λ x. (x.0, x.1.now)) result (option_at c (table_type_at c) bytes.now) }
+{
+    let (count, rest) = index(c, bytes)?;
+    match count {
+        0 => Ok((None, rest)),
+        1 => {
+            let (t, rest) = table_type(c, rest)?;
+            Ok((Some(t), rest))
+        }
+        _ => Err(c.malformed()),
+    }
+}
+
+/// The contents of a memory section.
+pub fn memory(c: Span, bytes: &[u8]) -> Result<(Option<Limits>, &[u8]), DecodeFault>
+    ensures { Gives (λ x. (x.0, x.1.now)) result (option_at c (limits_at c 256) bytes.now) }
+{
+    let (count, rest) = index(c, bytes)?;
+    match count {
+        0 => Ok((None, rest)),
+        1 => {
+            let (t, rest) = limits(c, 256, rest)?;
+            Ok((Some(t), rest))
+        }
+        _ => Err(c.malformed()),
+    }
+}
+
+fn global_type(c: Span, bytes: &[u8]) -> Result<(GlobalType, &[u8]), DecodeFault>
+    ensures { Gives (λ x. (x.0, x.1.now)) result (global_type_at c bytes.now) }
+{
+    let (value, rest) = val_type(c, bytes)?;
+    let (mutable, rest) = mutability(c, rest)?;
+    Ok((GlobalType { value, mutable }, rest))
+}
+
+fn global(alloc: Global, c: Span, bytes: &[u8]) -> Result<(wasm_types::Global, &[u8]), DecodeFault>
+    ensures { Gives (λ x. (view_global x.0, x.1.now)) result (global_at c bytes.now) }
+{
+    let (ty, rest) = global_type(c, bytes)?;
+    let (init, rest) = expr(alloc, c, rest)?;
+    Ok((wasm_types::Global { ty, init }, rest))
+}
+
+/// The contents of a global section.
+pub fn globals(
+    alloc: Global,
+    c: Span,
+    bytes: &[u8],
+) -> Result<(Vec<wasm_types::Global>, &[u8]), DecodeFault>
+    ensures { Gives (λ x. (map view_global x.0.items, x.1.now)) result (vec_at c (global_at c) bytes.now) }
+{
+    let (count, first) = index(c, bytes)?;
+    let mut all = Vec::new(alloc);
+    let mut rest = first;
+    for _ in 0..count {
+        let (one, after) = global(alloc, c, rest)?;
+        all.push(one)?;
+        rest = after;
+    }
+    Ok((all, rest))
+}
+
+fn export_desc(c: Span, bytes: &[u8]) -> Result<(ExportDesc, &[u8]), DecodeFault>
+    ensures { Gives (λ x. (x.0, x.1.now)) result (export_desc_at c bytes.now) }
+{
+    match bytes {
+        [] => Err(c.malformed()),
+        [b, rest @ ..] => {
+            let b = *b;
+            if b > 3 {
+                return Err(c.malformed());
+            }
+            let (n, rest) = index(c, rest)?;
+            match b {
+                0 => Ok((ExportDesc::Func(n), rest)),
+                1 => Ok((ExportDesc::Table(n), rest)),
+                2 => Ok((ExportDesc::Memory(n), rest)),
+                _ => Ok((ExportDesc::Global(n), rest)),
+            }
+        }
+    }
+}
+
+fn export(alloc: Global, c: Span, bytes: &[u8]) -> Result<(Export, &[u8]), DecodeFault>
+    ensures { Gives (λ x. (view_export x.0, x.1.now)) result (export_at c bytes.now) }
+{
+    let (name, rest) = name(alloc, c, bytes)?;
+    let (desc, rest) = export_desc(c, rest)?;
+    Ok((Export { name, desc }, rest))
+}
+
+/// The contents of an export section.
+pub fn exports(alloc: Global, c: Span, bytes: &[u8]) -> Result<(Vec<Export>, &[u8]), DecodeFault>
+    ensures { Gives (λ x. (map view_export x.0.items, x.1.now)) result (vec_at c (export_at c) bytes.now) }
+{
+    let (count, first) = index(c, bytes)?;
+    let mut all = Vec::new(alloc);
+    let mut rest = first;
+    for _ in 0..count {
+        let (one, after) = export(alloc, c, rest)?;
+        all.push(one)?;
+        rest = after;
+    }
+    Ok((all, rest))
+}
+
+fn elem(alloc: Global, c: Span, bytes: &[u8]) -> Result<(Elem, &[u8]), DecodeFault>
+    ensures { Gives (λ x. (view_elem x.0, x.1.now)) result (elem_at c bytes.now) }
+{
+    let (table, rest) = index(c, bytes)?;
+    let (offset, rest) = expr(alloc, c, rest)?;
+    let (init, rest) = indices(alloc, c, rest)?;
+    Ok((
+        Elem {
+            table,
+            offset,
+            init,
+        },
+        rest,
+    ))
+}
+
+/// The contents of an element section.
+pub fn elems(alloc: Global, c: Span, bytes: &[u8]) -> Result<(Vec<Elem>, &[u8]), DecodeFault>
+    ensures { Gives (λ x. (map view_elem x.0.items, x.1.now)) result (vec_at c (elem_at c) bytes.now) }
+{
+    let (count, first) = index(c, bytes)?;
+    let mut all = Vec::new(alloc);
+    let mut rest = first;
+    for _ in 0..count {
+        let (one, after) = elem(alloc, c, rest)?;
+        all.push(one)?;
+        rest = after;
+    }
+    Ok((all, rest))
+}
+
+fn segment(alloc: Global, c: Span, bytes: &[u8]) -> Result<(Data, &[u8]), DecodeFault>
+    ensures { Gives (λ x. (view_data x.0, x.1.now)) result (data_at c bytes.now) }
+{
+    let (memory, rest) = index(c, bytes)?;
+    let (offset, rest) = expr(alloc, c, rest)?;
+    let (init, rest) = counted(c, rest)?;
+    Ok((
+        Data {
+            memory,
+            offset,
+            init: Vec::from_slice(alloc, init)?,
+        },
+        rest,
+    ))
+}
+
+/// The contents of a data section.
+pub fn segments(alloc: Global, c: Span, bytes: &[u8]) -> Result<(Vec<Data>, &[u8]), DecodeFault>
+    ensures { Gives (λ x. (map view_data x.0.items, x.1.now)) result (vec_at c (data_at c) bytes.now) }
+{
+    let (count, first) = index(c, bytes)?;
+    let mut all = Vec::new(alloc);
+    let mut rest = first;
+    for _ in 0..count {
+        let (one, after) = segment(alloc, c, rest)?;
+        all.push(one)?;
+        rest = after;
+    }
+    Ok((all, rest))
+}
+
+fn locals(alloc: Global, c: Span, bytes: &[u8]) -> Result<(Vec<ValType>, &[u8]), DecodeFault>
+    ensures { Gives (λ x. (x.0.items, x.1.now)) result (locals_at c bytes.now) }
+{
+    let (count, first) = index(c, bytes)?;
+    let mut all = Vec::new(alloc);
+    let mut left = MAX_LOCALS;
+    let mut rest = first;
+    for _ in 0..count {
+        let (n, after) = index(c, rest)?;
+        let (t, after) = val_type(c, after)?;
+        if n > left {
+            return Err(DecodeFault::TooLarge);
+        }
+        add_run(&mut all, n, t)?;
+        left -= n;
+        rest = after;
+    }
+    Ok((all, rest))
+}
+
+fn add_run(all: &mut Vec<ValType>, n: u32, t: ValType) -> Result<(), DecodeFault>
+    ensures ok { OnOk result (all.new.items ≡ all.old.items ++ replicate n t) }
+    ensures err { IfErr result (λ e. e ≡ NoMemory) }
+{
+    for _ in 0..n {
+        all.push(t)?;
+    }
+    Ok(())
+}
+
+fn code_parts(alloc: Global, c: Span, bytes: &[u8]) -> Result<(Code, &[u8]), DecodeFault>
+    ensures { Gives (λ x. (view_code x.0, x.1.now)) result (code_parts_at c bytes.now) }
+{
+    let (locals, rest) = locals(alloc, c, bytes)?;
+    let (body, rest) = expr(alloc, c, rest)?;
+    Ok((Code { locals, body }, rest))
+}
+
+fn code_entry(alloc: Global, c: Span, bytes: &[u8]) -> Result<(Code, &[u8]), DecodeFault>
+    ensures { Gives (λ x. (view_code x.0, x.1.now)) result (code_at c bytes.now) }
+{
+    let (content, rest) = counted(c, bytes)?;
+    let within = Span {
+        section: c.section,
+        end: c.end.saturating_sub(rest.len()),
+    };
+    let (code, left) = code_parts(alloc, within, content)?;
+    ended(within, left)?;
+    Ok((code, rest))
+}
+
+/// The contents of a code section.
+pub fn codes(alloc: Global, c: Span, bytes: &[u8]) -> Result<(Vec<Code>, &[u8]), DecodeFault>
+    ensures { Gives (λ x. (map view_code x.0.items, x.1.now)) result (vec_at c (code_at c) bytes.now) }
+{
+    let (count, first) = index(c, bytes)?;
+    let mut all = Vec::new(alloc);
+    let mut rest = first;
+    for _ in 0..count {
+        let (one, after) = code_entry(alloc, c, rest)?;
+        all.push(one)?;
+        rest = after;
+    }
+    Ok((all, rest))
+}

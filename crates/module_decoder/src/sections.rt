@@ -1,0 +1,404 @@
+//! Sections and modules.
+
+ghost use Rattle.std.specs.Prelude.{◌≡◌, ◌-◌, ◌+◌, Some, None, MatchResult, MatchOption, IfOk, Ok, map, length, [], ◌∷◌};
+ghost use Rattle.wasm_types.specs.Syntax.{ModuleForm};
+ghost use Rattle.wasm_types.specs.View.{view_func, view_module};
+ghost use Rattle.wasm_types.specs.ModuleGrammar.{number, no_parts, joined, module_of, IsModule};
+ghost use Rattle.module_decoder.specs.View.{view_code, view_parts, view_progress};
+ghost use Rattle.module_decoder.specs.Readers.{Gives, Fails};
+ghost use Rattle.module_decoder.specs.Reading.{made_frame, section_by, part_at, Frame, frame_at, section_at, sections_at, no_progress, custom_at, known_by, finished_by, after_header, module_at};
+
+use crate::basics::{Span, ended, index, name, unfinished};
+use crate::body::indices;
+use crate::fault::DecodeFault;
+use crate::parts::{
+    Code, codes, elems, exports, func_types, globals, imports, memory, segments, table,
+};
+use std::alloc::{AllocError, Global};
+use std::rc::Rc;
+use wasm_types::{Data, Elem, Export, Func, FuncType, Import, Limits, Module, SectionId, take_u32};
+
+/// "\0asm" and version 1.
+const HEADER: [u8; 8] = [0x00, 0x61, 0x73, 0x6d, 0x01, 0x00, 0x00, 0x00];
+
+/// How many bytes a module may have.
+const MAX_SIZE: usize = 16777216;
+
+/// What sections have given so far.
+#[derive(Drop)]
+pub struct Parts {
+    pub types: Vec<FuncType>,
+    pub imports: Vec<Import>,
+    pub type_indices: Vec<u32>,
+    pub table: Option<Limits>,
+    pub memory: Option<Limits>,
+    pub globals: Vec<wasm_types::Global>,
+    pub exports: Vec<Export>,
+    pub start: Option<u32>,
+    pub elems: Vec<Elem>,
+    pub codes: Vec<Code>,
+    pub data: Vec<Data>,
+}
+
+/// How far the sections are read: the id of the last one, the place of the function section, and the parts.
+#[derive(Drop)]
+pub struct Progress {
+    pub last: u8,
+    pub functions: usize,
+    pub parts: Parts,
+}
+
+fn section_by(id: u8) -> Option<SectionId>
+    ensures { result ≡ section_by id }
+{
+    match id {
+        1 => Some(SectionId::Type),
+        2 => Some(SectionId::Import),
+        3 => Some(SectionId::Function),
+        4 => Some(SectionId::Table),
+        5 => Some(SectionId::Memory),
+        6 => Some(SectionId::Global),
+        7 => Some(SectionId::Export),
+        8 => Some(SectionId::Start),
+        9 => Some(SectionId::Element),
+        10 => Some(SectionId::Code),
+        11 => Some(SectionId::Data),
+        _ => None,
+    }
+}
+
+fn number(id: SectionId) -> u8
+    ensures { result ≡ number id }
+{
+    match id {
+        SectionId::Type => 1,
+        SectionId::Import => 2,
+        SectionId::Function => 3,
+        SectionId::Table => 4,
+        SectionId::Memory => 5,
+        SectionId::Global => 6,
+        SectionId::Export => 7,
+        SectionId::Start => 8,
+        SectionId::Element => 9,
+        SectionId::Code => 10,
+        SectionId::Data => 11,
+    }
+}
+
+impl Parts {
+    fn new(alloc: Global) -> Parts
+        ensures { view_parts result ≡ no_parts }
+    {
+        Parts {
+            types: Vec::new(alloc),
+            imports: Vec::new(alloc),
+            type_indices: Vec::new(alloc),
+            table: None,
+            memory: None,
+            globals: Vec::new(alloc),
+            exports: Vec::new(alloc),
+            start: None,
+            elems: Vec::new(alloc),
+            codes: Vec::new(alloc),
+            data: Vec::new(alloc),
+        }
+    }
+
+    // Takes what the contents of a section give.
+    fn take(
+        &mut self,
+        alloc: Global,
+        c: Span,
+        id: SectionId,
+        bytes: &[u8],
+    ) -> Result<(), DecodeFault>
+        ensures { MatchResult result (λ _. part_at c id (view_parts self.old) bytes.now ≡ Ok (view_parts self.new)) (λ e. Fails e (part_at c id (view_parts self.old) bytes.now)) }
+    {
+        match id {
+            SectionId::Type => {
+                let (types, rest) = func_types(alloc, c, bytes)?;
+                ended(c, rest)?;
+                self.types = types;
+            }
+            SectionId::Import => {
+                let (imports, rest) = imports(alloc, c, bytes)?;
+                ended(c, rest)?;
+                self.imports = imports;
+            }
+            SectionId::Function => {
+                let (type_indices, rest) = indices(alloc, c, bytes)?;
+                ended(c, rest)?;
+                self.type_indices = type_indices;
+            }
+            SectionId::Table => {
+                let (table, rest) = table(c, bytes)?;
+                ended(c, rest)?;
+                self.table = table;
+            }
+            SectionId::Memory => {
+                let (memory, rest) = memory(c, bytes)?;
+                ended(c, rest)?;
+                self.memory = memory;
+            }
+            SectionId::Global => {
+                let (globals, rest) = globals(alloc, c, bytes)?;
+                ended(c, rest)?;
+                self.globals = globals;
+            }
+            SectionId::Export => {
+                let (exports, rest) = exports(alloc, c, bytes)?;
+                ended(c, rest)?;
+                self.exports = exports;
+            }
+            SectionId::Start => {
+                let (start, rest) = index(c, bytes)?;
+                ended(c, rest)?;
+                self.start = Some(start);
+            }
+            SectionId::Element => {
+                let (elems, rest) = elems(alloc, c, bytes)?;
+                ended(c, rest)?;
+                self.elems = elems;
+            }
+            SectionId::Code => {
+                let (codes, rest) = codes(alloc, c, bytes)?;
+                ended(c, rest)?;
+                if codes.len() != self.type_indices.len() {
+                    return Err(c.malformed());
+                }
+                self.codes = codes;
+            }
+            SectionId::Data => {
+                let (data, rest) = segments(alloc, c, bytes)?;
+                ended(c, rest)?;
+                self.data = data;
+            }
+        }
+        Ok(())
+    }
+}
+
+// The contents of a section and the bytes after it.
+fn frame(total: usize, bytes: &[u8]) -> Result<(&[u8], &[u8]), DecodeFault>
+    ensures { Gives (λ x. made_frame x.0.now x.1.now) result (frame_at total bytes.now) }
+{
+    match take_u32(bytes) {
+        None => {
+            if unfinished(bytes, 5) {
+                Err(DecodeFault::Truncated(total))
+            } else {
+                Err(DecodeFault::BadInteger(total.saturating_sub(bytes.len())))
+            }
+        }
+        Some((n, rest)) => {
+            let n = n as usize;
+            if n <= rest.len() {
+                Ok((&rest[..n], &rest[n..]))
+            } else {
+                Err(DecodeFault::Truncated(total))
+            }
+        }
+    }
+}
+
+impl Progress {
+    fn custom<'a>(
+        &self,
+        alloc: Global,
+        total: usize,
+        at: usize,
+        bytes: &'a [u8],
+    ) -> Result<&'a [u8], DecodeFault>
+        ensures { Gives (λ x. (view_progress self.now, x.now)) result (custom_at total at (view_progress self.now) bytes.now) }
+    {
+        let (contents, after) = frame(total, bytes)?;
+        let c = Span {
+            section: at,
+            end: total.saturating_sub(after.len()),
+        };
+        let (_, _) = name(alloc, c, contents)?;
+        Ok(after)
+    }
+
+    fn known<'a>(
+        &mut self,
+        alloc: Global,
+        total: usize,
+        at: usize,
+        id: SectionId,
+        bytes: &'a [u8],
+    ) -> Result<&'a [u8], DecodeFault>
+        ensures { MatchResult result (λ x. known_by total at (Some id) (view_progress self.old) bytes.now ≡ Ok (view_progress self.new, x.now)) (λ e. Fails e (known_by total at (Some id) (view_progress self.old) bytes.now)) }
+    {
+        if number(id) <= self.last {
+            return Err(DecodeFault::BadSection(at));
+        }
+        let (contents, after) = frame(total, bytes)?;
+        let c = Span {
+            section: at,
+            end: total.saturating_sub(after.len()),
+        };
+        self.parts.take(alloc, c, id, contents)?;
+        self.last = number(id);
+        if id == SectionId::Function {
+            self.functions = at;
+        }
+        Ok(after)
+    }
+
+    fn section<'a>(
+        &mut self,
+        alloc: Global,
+        total: usize,
+        id: u8,
+        bytes: &'a [u8],
+    ) -> Result<&'a [u8], DecodeFault>
+        ensures { MatchResult result (λ x. section_at total (view_progress self.old) id bytes.now ≡ Ok (view_progress self.new, x.now)) (λ e. Fails e (section_at total (view_progress self.old) id bytes.now)) }
+    {
+        let at = total.saturating_sub(bytes.len() + 1);
+        if id == 0 {
+            return self.custom(alloc, total, at, bytes);
+        }
+        match section_by(id) {
+            None => Err(DecodeFault::BadSection(at)),
+            Some(id) => self.known(alloc, total, at, id, bytes),
+        }
+    }
+}
+
+fn first_of(bytes: &[u8]) -> Option<(u8, &[u8])>
+    ensures { MatchOption result (bytes.now ≡ []) (λ x. bytes.now ≡ x.0 ∷ x.1.now) }
+{
+    match bytes {
+        [] => None,
+        [b, rest @ ..] => Some((*b, rest)),
+    }
+}
+
+fn first_index(indices: &[u32]) -> Option<(u32, &[u32])>
+    ensures { MatchOption result (indices.now ≡ []) (λ x. indices.now ≡ x.0 ∷ x.1.now) }
+{
+    match indices {
+        [] => None,
+        [n, rest @ ..] => Some((*n, rest)),
+    }
+}
+
+fn sections(alloc: Global, total: usize, bytes: &[u8]) -> Result<Progress, DecodeFault>
+    ensures { Gives view_progress result (sections_at total (length bytes.now) no_progress bytes.now) }
+{
+    let mut progress = Progress {
+        last: 0,
+        functions: 0,
+        parts: Parts::new(alloc),
+    };
+    let mut rest = bytes;
+    let turns = bytes.len();
+    for _ in 0..turns {
+        match first_of(rest) {
+            None => return Ok(progress),
+            Some((id, after)) => {
+                rest = progress.section(alloc, total, id, after)?;
+            }
+        }
+    }
+    match first_of(rest) {
+        None => Ok(progress),
+        Some(_) => Err(DecodeFault::TooLarge),
+    }
+}
+
+/// The functions from the indices of their types and their codes, of which there are as many.
+fn joined(alloc: Global, type_indices: Vec<u32>, codes: Vec<Code>) -> Result<Vec<Func>, AllocError>
+    ensures { IfOk result (λ v. map view_func v.items ≡ joined type_indices.items (map view_code codes.items)) }
+{
+    let mut funcs = Vec::new(alloc);
+    let mut rest = type_indices.as_slice();
+    for code in codes {
+        match first_index(rest) {
+            None => return Ok(funcs),
+            Some((ty, after)) => {
+                funcs.push(Func {
+                    ty,
+                    locals: code.locals,
+                    body: Rc::new(alloc, code.body)?,
+                })?;
+                rest = after;
+            }
+        }
+    }
+    Ok(funcs)
+}
+
+fn finish(alloc: Global, functions: usize, parts: Parts) -> Result<Module, DecodeFault>
+    ensures { Gives view_module result (finished_by functions (view_parts parts)) }
+{
+    let Parts {
+        types,
+        imports,
+        type_indices,
+        table,
+        memory,
+        globals,
+        exports,
+        start,
+        elems,
+        codes,
+        data,
+    } = parts;
+    if type_indices.len() != codes.len() {
+        return Err(DecodeFault::BadSection(functions));
+    }
+    let funcs = joined(alloc, type_indices, codes)?;
+    Ok(Module {
+        types,
+        imports,
+        funcs,
+        table,
+        memory,
+        globals,
+        exports,
+        start,
+        elems,
+        data,
+    })
+}
+
+fn after_header<'a>(total: usize, header: &[u8], bytes: &'a [u8]) -> Result<&'a [u8], DecodeFault>
+    ensures { Gives (λ x. x.now) result (after_header total header.now bytes.now) }
+{
+    match header {
+        [] => Ok(bytes),
+        [h, hs @ ..] => match bytes {
+            [] => Err(DecodeFault::Truncated(total)),
+            [b, rest @ ..] => {
+                if *b == *h {
+                    after_header(total, hs, rest)
+                } else {
+                    Err(DecodeFault::BadHeader)
+                }
+            }
+        },
+    }
+}
+
+/// The module of these bytes.
+pub fn decode(alloc: Global, bytes: &[u8]) -> Result<Module, DecodeFault>
+    ensures read { Gives view_module result (module_at bytes.now) }
+    ensures found { IfOk result (λ m. IsModule bytes.now (view_module m)) }
+    ensures only { (m : ModuleForm) → IsModule bytes.now m → Gives view_module result (Ok m) }
+{
+    read_module(alloc, bytes)
+}
+
+fn read_module(alloc: Global, bytes: &[u8]) -> Result<Module, DecodeFault>
+    ensures { Gives view_module result (module_at bytes.now) }
+{
+    let total = bytes.len();
+    let rest = after_header(total, &HEADER, bytes)?;
+    if total > MAX_SIZE {
+        return Err(DecodeFault::TooLarge);
+    }
+    let progress = sections(alloc, total, rest)?;
+    finish(alloc, progress.functions, progress.parts)
+}

@@ -1,0 +1,10 @@
+//! The validator: which modules the typing rules of WebAssembly 1.0 allow (Core 1.0, section 3).
+#![tactic(auto)]
+
+mod checker;
+pub mod laws;
+mod level;
+mod stack;
+mod valid;
+
+pub use valid::{InvalidFault, ValidModule, validate};

@@ -1,0 +1,154 @@
+//! Validation of modules.
+ghost use Rattle.std.specs.Prelude.{◌≡◌, ◌++◌, ◌⊎◌, ◌-◌, ◌<◌, OnOk, IfOk, IfErr, Some, MatchResult, slice_get, get_or, length};
+ghost use Rattle.std.specs.List.{All};
+ghost use Rattle.module_validator.specs.Forms.{Judges};
+ghost use Rattle.module_validator.specs.Faults.{Refuses, fault_of};
+ghost use Rattle.wasm_types.specs.Typing.{FuncOk, ModuleOk};
+ghost use Rattle.wasm_types.specs.View.{view_func, view_module};
+
+use crate::checker::{Scope, typed};
+use crate::level::level_ok;
+use crate::stack::{Labels, Refusal};
+use std::alloc::{AllocError, Global};
+use std::marker::Model;
+use thiserror::Error;
+use wasm_types::{Func, FuncType, Module, ValType};
+
+/// Why a module is refused. A function is named by its index, imported functions counted first.
+#[derive(Clone, Copy, Debug, PartialEq, Eq, Drop, Error)]
+pub enum InvalidFault {
+    /// The function names a type, function, local, global, label, table or memory that is not there.
+    #[error("BadIndex {0}")]
+    BadIndex(usize),
+    /// The function's operands are not of the types that are wanted, or it sets a global that cannot be set.
+    #[error("BadType {0}")]
+    BadType(usize),
+    /// The function has a load or a store whose alignment is larger than what it moves.
+    #[error("BadAlign {0}")]
+    BadAlign(usize),
+    /// Something outside the functions' bodies is wrong: an index, a limit, a constant expression, the start function, or two exports
+    /// of one name.
+    #[error("BadModule")]
+    BadModule,
+    #[error("NoMemory")]
+    NoMemory,
+}
+
+/// A module that the typing rules allow.
+#[derive(Drop)]
+pub struct ValidModule {
+    whole: Module,
+}
+
+impl Model for ValidModule {
+    ghost use Rattle.std.specs.Coded.{codes};
+    ghost use Rattle.wasm_types.specs.Typing.{ModuleOk};
+    ghost use Rattle.wasm_types.specs.View.{view_module};
+    ghost use Rattle.wasm_types.specs.contracts.instr.Instr as instr;
+    ghost use Rattle.wasm_types.specs.declared.module.Module.{Module};
+
+    ghost Value = { Module };
+
+    ghost coded = { Prim.hlevel (codes, instr.the_row.coded) };
+
+    ghost view = { λ v. v.whole };
+
+    ghost invariant = { λ v. ModuleOk (view_module v.whole) };
+}
+
+impl ValidModule {
+    /// The module.
+    pub fn get(&self) -> &Module
+        ensures same { result.now ≡ self.now }
+        ensures valid { ModuleOk (view_module self.now) }
+    {
+        &self.whole
+    }
+
+    /// The module, given up.
+    pub fn into_module(self) -> Module
+        ensures same { result ≡ self }
+        ensures valid { ModuleOk (view_module self) }
+    {
+        self.whole
+    }
+}
+
+fn locals_of(alloc: Global, t: &FuncType, f: &Func) -> Result<Vec<ValType>, AllocError>
+    ensures { IfOk result (λ v. v.items ≡ t.now.params.items ++ f.now.locals.items) }
+{
+    let mut locals = Vec::new(alloc);
+    locals.extend_from_slice(&t.params)?;
+    locals.extend_from_slice(&f.locals)?;
+    Ok(locals)
+}
+
+fn check_func(alloc: Global, m: &Module, f: &Func) -> Result<(), Refusal>
+    ensures { Judges result (FuncOk (view_module m.now) (view_func f.now)) }
+{
+    let Some(t) = typed(m, f.ty) else {
+        return Err(Refusal::BadIndex);
+    };
+    let locals = locals_of(alloc, t, f)?;
+    let scope = Scope {
+        whole: m,
+        locals: &locals,
+        gives: t.result,
+    };
+    let mut labels = Labels::new(alloc);
+    scope.body(alloc, &mut labels, &f.body, t.result, t.result)
+}
+
+/// What is said of a function that is refused.
+fn fault_of(function: usize, refusal: Refusal) -> InvalidFault
+    ensures { result ≡ fault_of function refusal }
+{
+    match refusal {
+        Refusal::BadIndex => InvalidFault::BadIndex(function),
+        Refusal::BadType => InvalidFault::BadType(function),
+        Refusal::BadAlign => InvalidFault::BadAlign(function),
+        Refusal::NoMemory => InvalidFault::NoMemory,
+    }
+}
+
+/// Checks the functions of a module, one after the other.
+fn check_funcs(alloc: Global, m: &Module, imports: usize) -> Result<(), InvalidFault>
+    requires { imports ≡ length (view_module m.now).imports }
+    ensures { MatchResult result (λ _. All (FuncOk (view_module m.now)) (view_module m.now).funcs) (Refuses (view_module m.now)) }
+{
+    for (index, f) in m.funcs.iter().enumerate() {
+        if let Err(refusal) = check_func(alloc, m, f) {
+            return Err(fault_of(imports + index, refusal));
+        }
+    }
+    Ok(())
+}
+
+fn check(alloc: Global, m: &Module) -> Result<(), InvalidFault>
+    ensures { MatchResult result (λ _. ModuleOk (view_module m.now)) (Refuses (view_module m.now)) }
+{
+    match level_ok(alloc, m) {
+        Err(_) => Err(InvalidFault::NoMemory),
+        Ok(false) => Err(InvalidFault::BadModule),
+        Ok(true) => check_funcs(alloc, m, m.imports.len()),
+    }
+}
+
+/// The module, if the typing rules allow it (Core 1.0, section 3).
+///
+/// # Errors
+///
+/// The module is handed back: with [`InvalidFault::BadModule`] where the module level is not typed, with `BadIndex`, `BadType` or
+/// `BadAlign` of the first function that is not typed, or with `NoMemory`.
+pub fn validate(alloc: Global, m: Module) -> Result<ValidModule, (Module, InvalidFault)>
+    ensures ok { IfOk result (λ v. v ≡ m) }
+    ensures valid { OnOk result (ModuleOk (view_module m)) }
+    ensures handed_back { IfErr result (λ e. e.0 ≡ m) }
+    ensures cause { IfErr result (λ e. Refuses (view_module m) e.1) }
+    ensures untyped { IfErr result (λ e. (e.1 ≡ InvalidFault.NoMemory) ⊎ (ModuleOk (view_module m) → ⊥)) }
+{
+    match check(alloc, &m) {
+        Ok(()) => Ok(ValidModule { whole: m }),
+        Err(fault) => Err((m, fault)),
+    }
+}
