@@ -1,5 +1,6 @@
 -- Lists of trees of the code, as the definitions see them.
-use Rattle.std.proofs.Common.{◌≡◌, ℕ, ◌<◌, ◌≤◌, true, false, List, [], ◌∷◌, length, refl, ap, ◌∙◌, sym, arith}
+use Rattle.std.specs.Prelude.{nat_le, min, ◌&&◌}
+use Rattle.std.proofs.Common.{rules, ◌≡◌, ℕ, ◌<◌, ◌≤◌, true, false, List, [], ◌∷◌, length, refl, ap, ◌∙◌, sym, arith}
 use Rattle.awk_tree.specs.Tree.{count, second_is_var, third_is_lvalue, Trees, Then, Index, Call as Called, Apply as Applied, HasList}
 use Rattle.awk_tree.specs.WellFormed.{is_some_tree}
 use Rattle.awk_tree.specs.View.{view, view_row, views}
@@ -13,6 +14,10 @@ use Rattle.std.specs.declared.alloc.Global.{Global}
 use Rattle.awk_tokens.specs.declared.words.Builtin.{Builtin}
 use Rattle.awk_tree.specs.declared.tree.Expr.TheBlock.{hidden-the_row-Expr-0}
 use Rattle.awk_tree.specs.declared.tree.Expr.{Expr, Element, Call, Apply, InList, Row_of-Expr, end_of-Expr, more_of-Expr, items-the_row-Expr, items_hidden-the_row-Expr-0}
+
+-- the lesser of two is at least what both are at least
+pub floor_of_min : (f a b : ℕ) → nat_le f (min a b) ≡ (nat_le f a && nat_le f b)
+floor_of_min f a b = search rules
 
 pub count_views : (es : List Expr) → count (views es) ≡ length es
 count_views [] = refl

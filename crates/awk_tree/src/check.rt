@@ -7,8 +7,8 @@ ghost use Rattle.awk_tree.specs.WellFormed.{joins, is_some_tree, well_formed, al
 ghost use Rattle.awk_tree.specs.View.{view, views, view_binary, view_assign};
 
 use crate::shape::{
-    Next, behind_left, edge, fits_right, head, is_allowed, is_field, left_floor, level, may_begin,
-    suits, takes,
+    Next, behind_left, fits_right, has_edge, head, is_allowed, is_field, left_floor, level,
+    may_begin, suits, takes,
 };
 use crate::tree::{AssignOp, BinaryOp, Builtin, Expr};
 
@@ -17,7 +17,7 @@ fn joins(greater: bool, op: BinaryOp, a: &Expr, b: &Expr) -> bool
     ensures { result ≡ joins greater (view_binary op) (view a.now) (view b.now) }
 {
     let first = head(b);
-    left_floor(op) <= edge(a)
+    has_edge(left_floor(op), a)
         && fits_right(op, b)
         && may_begin(op, first)
         && !takes(true, a, behind_left(op, first))
@@ -28,7 +28,7 @@ fn joins(greater: bool, op: BinaryOp, a: &Expr, b: &Expr) -> bool
 fn assigns(greater: bool, op: AssignOp, a: &Expr, b: &Expr) -> bool
     ensures { result ≡ joins greater (Other (Assign (view_assign op))) (view a.now) (view b.now) }
 {
-    13 <= edge(a) && !takes(true, a, Next::Other)
+    has_edge(13, a) && !takes(true, a, Next::Other)
 }
 
 #[tactic(auto, using(crate::proofs::Views::some_views))]
@@ -68,10 +68,10 @@ pub(crate) fn is_fine(greater: bool, e: &Expr) -> bool
         Expr::Assign(op, a, b) => {
             assigns(greater, *op, a, b) && is_fine(greater, a) && is_fine(greater, b)
         }
-        Expr::In(a, _) => edge(a) >= 3 && is_fine(greater, a),
+        Expr::In(a, _) => has_edge(3, a) && is_fine(greater, a),
         Expr::InList(first, others, _) => is_fine(true, first) && are_subscripts(others),
         Expr::Conditional(a, b, c) => {
-            edge(a) >= 1 && is_fine(greater, a) && is_fine(greater, b) && is_fine(greater, c)
+            has_edge(1, a) && is_fine(greater, a) && is_fine(greater, b) && is_fine(greater, c)
         }
         Expr::GetlineFrom(file) => level(file) >= 12 && is_fine(greater, file),
         Expr::GetlineIntoFrom(place, file) => {

@@ -107,15 +107,18 @@ pub(crate) fn level(e: &Expr) -> u8
     }
 }
 
-/// The level of an expression as a left operand: the least at its right edge.
-pub(crate) fn edge(e: &Expr) -> u8
-    ensures { result ≡ edge (view e.now) }
+/// Whether an expression may be a left operand where this level is wanted: none at its right edge is less.
+///
+/// It asks level by level, since clang compiles a recursion that ends in `.min(9)` to a wrong answer.
+#[tactic(auto, using(crate::proofs::Views::floor_of_min))]
+pub(crate) fn has_edge(floor: u8, e: &Expr) -> bool
+    ensures { result ≡ nat_le floor (edge (view e.now)) }
 {
     match e {
-        Expr::Unary(_, inner) => edge(inner).min(9),
-        Expr::Binary(op, _, b) => edge(b).min(binary_level(*op)),
-        Expr::Assign(_, _, _) => 0,
-        _ => level(e),
+        Expr::Unary(_, inner) => floor <= 9 && has_edge(floor, inner),
+        Expr::Binary(op, _, b) => floor <= binary_level(*op) && has_edge(floor, b),
+        Expr::Assign(_, _, _) => floor == 0,
+        _ => floor <= level(e),
     }
 }
 

@@ -113,10 +113,10 @@ fn elem_ok(m: &Module, elem: &Elem) -> bool
         && elem.init.iter().all(|n| (*n as usize) < functions)
 }
 
-fn data_ok(m: &Module, data: &Data) -> bool
-    ensures { IsTrue result ↔ DataOk (view_module m.now) (view_data data.now) }
+fn data_ok(m: &Module, segment: &Data) -> bool
+    ensures { IsTrue result ↔ DataOk (view_module m.now) (view_data segment.now) }
 {
-    data.memory == 0 && m.memory.is_some() && is_constant(&data.offset, ValType::I32)
+    segment.memory == 0 && m.memory.is_some() && is_constant(&segment.offset, ValType::I32)
 }
 
 fn elems_ok(m: &Module, elems: &[Elem]) -> bool
@@ -125,10 +125,10 @@ fn elems_ok(m: &Module, elems: &[Elem]) -> bool
     elems.iter().all(|e| elem_ok(m, e))
 }
 
-fn data_all_ok(m: &Module, data: &[Data]) -> bool
-    ensures { IsTrue result ↔ All (λ d. DataOk (view_module m.now) (view_data d)) data.now }
+fn data_all_ok(m: &Module, segments: &[Data]) -> bool
+    ensures { IsTrue result ↔ All (λ d. DataOk (view_module m.now) (view_data d)) segments.now }
 {
-    data.iter().all(|d| data_ok(m, d))
+    segments.iter().all(|d| data_ok(m, d))
 }
 
 fn start_ok(m: &Module) -> bool

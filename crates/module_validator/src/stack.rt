@@ -46,7 +46,7 @@ impl Model for Stack {
 }
 
 impl Stack {
-    pub fn new(alloc: Global) -> Stack
+    pub(crate) fn new(alloc: Global) -> Stack
         ensures { result ≡ ([], false) }
     {
         Stack {
@@ -56,7 +56,7 @@ impl Stack {
     }
 
     /// Puts an entry on top.
-    pub fn put(&mut self, entry: Option<ValType>) -> Result<(), AllocError>
+    pub(crate) fn put(&mut self, entry: Option<ValType>) -> Result<(), AllocError>
         ensures { OnOk result (self.new ≡ push entry self.old) }
     {
         self.items.push(entry)?;
@@ -64,7 +64,7 @@ impl Stack {
     }
 
     /// Puts a result, if there is one, on top.
-    pub fn put_one(&mut self, kind: Option<ValType>) -> Result<(), AllocError>
+    pub(crate) fn put_one(&mut self, kind: Option<ValType>) -> Result<(), AllocError>
         ensures { OnOk result (self.new ≡ push_one kind self.old) }
     {
         match kind {
@@ -74,7 +74,7 @@ impl Stack {
     }
 
     /// Takes whatever lies on top.
-    pub fn take_any(&mut self) -> Result<Option<ValType>, Refusal>
+    pub(crate) fn take_any(&mut self) -> Result<Option<ValType>, Refusal>
         ensures { SeesAny result self.new (pop_any self.old) }
     {
         match self.items.pop() {
@@ -90,7 +90,7 @@ impl Stack {
     }
 
     /// Takes an operand of a type.
-    pub fn take(&mut self, kind: ValType) -> Result<(), Refusal>
+    pub(crate) fn take(&mut self, kind: ValType) -> Result<(), Refusal>
         ensures { Sees result self.new (pop kind self.old) }
     {
         match self.take_any()? {
@@ -106,7 +106,7 @@ impl Stack {
     }
 
     /// Takes a result, if there is one.
-    pub fn take_one(&mut self, kind: Option<ValType>) -> Result<(), Refusal>
+    pub(crate) fn take_one(&mut self, kind: Option<ValType>) -> Result<(), Refusal>
         ensures { Sees result self.new (pops (one kind) self.old) }
     {
         match kind {
@@ -116,7 +116,7 @@ impl Stack {
     }
 
     /// Takes operands of such types, the last on top.
-    pub fn take_all(&mut self, kinds: &[ValType]) -> Result<(), Refusal>
+    pub(crate) fn take_all(&mut self, kinds: &[ValType]) -> Result<(), Refusal>
         ensures { Sees result self.new (pops (reverse kinds.now) self.old) }
     {
         let mut left = kinds;
@@ -128,7 +128,7 @@ impl Stack {
     }
 
     /// The code that follows is not reached.
-    pub fn cut(&mut self)
+    pub(crate) fn cut(&mut self)
         ensures { self.new ≡ ([], true) }
     {
         self.items.clear();
@@ -136,7 +136,7 @@ impl Stack {
     }
 
     /// Takes one operand and gives a result.
-    pub fn unary(&mut self, kind: ValType, gives: ValType) -> Result<(), Refusal>
+    pub(crate) fn unary(&mut self, kind: ValType, gives: ValType) -> Result<(), Refusal>
         ensures { Sees result self.new (after (Fixed (kind ∷ []) (Some gives)) self.old) }
     {
         self.take(kind)?;
@@ -145,7 +145,7 @@ impl Stack {
     }
 
     /// Takes two operands and gives a result.
-    pub fn binary(&mut self, kind: ValType, gives: ValType) -> Result<(), Refusal>
+    pub(crate) fn binary(&mut self, kind: ValType, gives: ValType) -> Result<(), Refusal>
         ensures { Sees result self.new (after (Fixed (kind ∷ (kind ∷ [])) (Some gives)) self.old) }
     {
         self.take(kind)?;
@@ -154,14 +154,14 @@ impl Stack {
         Ok(())
     }
 
-    pub fn discard(&mut self) -> Result<(), Refusal>
+    pub(crate) fn discard(&mut self) -> Result<(), Refusal>
         ensures { Sees result self.new (after Drops self.old) }
     {
         self.take_any()?;
         Ok(())
     }
 
-    pub fn select(&mut self) -> Result<(), Refusal>
+    pub(crate) fn select(&mut self) -> Result<(), Refusal>
         ensures { Sees result self.new (after Selects self.old) }
     {
         self.take(ValType::I32)?;
@@ -179,15 +179,15 @@ impl Stack {
     }
 
     /// Whether this may be the empty stack.
-    pub fn is_done(&self) -> bool
+    pub(crate) fn is_done(&self) -> bool
         ensures { IsTrue result ↔ Fits self.now [] }
     {
         self.items.is_empty()
     }
 
     /// Whether this may be a stack of just that result.
-    pub fn end(&mut self, kind: Option<ValType>) -> Result<(), Refusal>
-        ensures { Judges result (Fits self.old (one kind)) }
+    pub(crate) fn end(mut self, kind: Option<ValType>) -> Result<(), Refusal>
+        ensures { Judges result (Fits self (one kind)) }
     {
         self.take_one(kind)?;
         if self.is_done() {
@@ -214,7 +214,7 @@ impl Model for Labels {
 }
 
 impl Labels {
-    pub fn new(alloc: Global) -> Labels
+    pub(crate) fn new(alloc: Global) -> Labels
         ensures { result ≡ [] }
     {
         Labels {
@@ -222,20 +222,20 @@ impl Labels {
         }
     }
 
-    pub fn enter(&mut self, kind: Option<ValType>) -> Result<(), AllocError>
+    pub(crate) fn enter(&mut self, kind: Option<ValType>) -> Result<(), AllocError>
         ensures { OnOk result (self.new ≡ kind ∷ self.old) }
     {
         self.items.push(kind)?;
         Ok(())
     }
 
-    pub fn leave(&mut self)
+    pub(crate) fn leave(&mut self)
         ensures { self.new ≡ drop 1 self.old }
     {
         self.items.pop();
     }
 
-    pub fn get(&self, n: u32) -> Option<Option<ValType>>
+    pub(crate) fn get(&self, n: u32) -> Option<Option<ValType>>
         ensures { result ≡ slice_get self.now n }
     {
         let n = n as usize;
@@ -247,7 +247,7 @@ impl Labels {
     }
 
     /// Whether these labels have all this type.
-    pub fn are_all(&self, ns: &[u32], kind: Option<ValType>) -> bool
+    pub(crate) fn are_all(&self, ns: &[u32], kind: Option<ValType>) -> bool
         ensures { IsTrue result ↔ All (λ k. slice_get self.now k ≡ Some kind) ns.now }
     {
         ns.iter().all(|n| self.get(*n) == Some(kind))
