@@ -1,12 +1,13 @@
 -- The conditions of the grammar as tests.
 use Rattle.std.specs.Prelude.{Bool, true, false, not}
 use Rattle.awk_tree.specs.Token.{Prefix, Not, Signed, Less as LessMark, Symbol, Compare}
-use Rattle.awk_tree.specs.Tree.{Op, Join, Add, Other as Infixed, Tree, Leaf, Length, Var, Index, Field, Group, Call, Apply, Unary, Pre, Post, Bin, Has, HasList, Cond, Get, GetInto, GetFrom, GetIntoFrom, Class, Opens, StartsLValue, IsLess, Steps, Free}
+use Rattle.awk_tree.specs.Tree.{Op, Join, Add, Other as Infixed, Tree, Leaf, Length, Var, Index, Field, Group, Call, Apply, Unary, Pre, Post, Bin, Has, HasList, Cond, Get, GetInto, GetFrom, GetIntoFrom, Class, Opens, OpensIndex, StartsLValue, IsLess, Steps, Free}
 use Rattle.awk_tree.specs.declared.shape.Next.{Next}
-use Rattle.awk_tree.specs.declared.shape.Next.TheVariants.{Paren, LValue, Less, Step, Sign, Other}
+use Rattle.awk_tree.specs.declared.shape.Next.TheVariants.{Paren, Bracket, LValue, Less, Step, Sign, Other}
 
 abbrev pub view_next : Next → Class
 view_next Paren = Opens
+view_next Bracket = OpensIndex
 view_next LValue = StartsLValue
 view_next Less = IsLess
 view_next Step = Steps

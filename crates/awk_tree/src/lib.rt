@@ -18,6 +18,7 @@ pub use laws::{
 };
 pub use printed::Printed;
 pub use printer_stmt::print_tokens;
+pub use shape::{Next, binary_level, has_edge, is_field, left_floor, level, suits, takes};
 pub use tree::{
     AssignOp, BinaryOp, Builtin, Expr, Item, Jump, Leaving, Pattern, PrintArgs, PrintTarget,
     PrintWord, Script, SimpleStmt, StepOp, Stmt, UnaryOp,

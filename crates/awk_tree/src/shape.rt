@@ -9,8 +9,9 @@ use crate::tree::{BinaryOp, Builtin, Expr, UnaryOp};
 
 /// What a token is to the end of the expression before it.
 #[derive(Clone, Copy, Debug, PartialEq, Eq)]
-pub(crate) enum Next {
+pub enum Next {
     Paren,
+    Bracket,
     LValue,
     Less,
     Step,
@@ -18,7 +19,8 @@ pub(crate) enum Next {
     Other,
 }
 
-fn binary_level(op: BinaryOp) -> u8
+/// The level of the expression that an operator makes.
+pub fn binary_level(op: BinaryOp) -> u8
     ensures level { result ≡ op_level (view_binary op) }
     ensures edge { result ≡ op_edge (view_binary op) }
 {
@@ -40,7 +42,7 @@ fn binary_level(op: BinaryOp) -> u8
 }
 
 /// The least level of an operator's left operand.
-pub(crate) fn left_floor(op: BinaryOp) -> u8
+pub fn left_floor(op: BinaryOp) -> u8
     ensures { result ≡ op_left (view_binary op) }
 {
     match op {
@@ -82,7 +84,7 @@ pub(crate) fn fits_right(op: BinaryOp, e: &Expr) -> bool
 }
 
 /// How tightly an expression holds together.
-pub(crate) fn level(e: &Expr) -> u8
+pub fn level(e: &Expr) -> u8
     ensures { result ≡ level (view e.now) }
 {
     match e {
@@ -111,7 +113,7 @@ pub(crate) fn level(e: &Expr) -> u8
 ///
 /// It asks level by level, since clang compiles a recursion that ends in `.min(9)` to a wrong answer.
 #[tactic(auto, using(crate::proofs::Views::floor_of_min))]
-pub(crate) fn has_edge(floor: u8, e: &Expr) -> bool
+pub fn has_edge(floor: u8, e: &Expr) -> bool
     ensures { result ≡ nat_le floor (edge (view e.now)) }
 {
     match e {
@@ -123,7 +125,7 @@ pub(crate) fn has_edge(floor: u8, e: &Expr) -> bool
 }
 
 /// Whether an expression may stand directly behind `$`.
-pub(crate) fn is_field(e: &Expr) -> bool
+pub fn is_field(e: &Expr) -> bool
     ensures { result ≡ is_field (view e.now) }
 {
     match e {
@@ -134,7 +136,7 @@ pub(crate) fn is_field(e: &Expr) -> bool
 }
 
 /// Whether the end of an expression takes this token; `steps` says whether a step behind an LValue is taken.
-pub(crate) fn takes(steps: bool, e: &Expr, next: Next) -> bool
+pub fn takes(steps: bool, e: &Expr, next: Next) -> bool
     ensures { result ≡ takes steps (view e.now) (view_next next) }
 {
     match e {
@@ -148,7 +150,8 @@ pub(crate) fn takes(steps: bool, e: &Expr, next: Next) -> bool
         | Expr::In(_, _)
         | Expr::InList(_, _, _) => false,
         Expr::Length => matches!(next, Next::Paren),
-        Expr::Var(_) | Expr::Element(_, _) => matches!(next, Next::Step) && steps,
+        Expr::Var(_) => matches!(next, Next::Bracket) || (matches!(next, Next::Step) && steps),
+        Expr::Element(_, _) => matches!(next, Next::Step) && steps,
         Expr::Field(inner) => takes(false, inner, next) || (matches!(next, Next::Step) && steps),
         Expr::Unary(_, inner)
         | Expr::PreStep(_, inner)
@@ -261,7 +264,7 @@ fn are_some(arguments: &[Expr]) -> bool
 }
 
 /// Whether a built-in function takes these arguments.
-pub(crate) fn suits(function: Builtin, arguments: &[Expr]) -> bool
+pub fn suits(function: Builtin, arguments: &[Expr]) -> bool
     ensures { result ≡ suits function (views arguments.now) }
 {
     match function {

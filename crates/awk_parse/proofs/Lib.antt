@@ -1,0 +1,3 @@
+pub mod Peeks
+pub mod Binds
+pub mod Blocks

@@ -1,0 +1,60 @@
+-- The first token of what follows an expression.
+use Rattle.std.proofs.Common.{◌≡◌, ℕ, Bool, true, false, cond, ◌∙◌, List, ◌∷◌, Option, Some, None, Ok, Err, ap, refl}
+use Rattle.std.specs.Prelude.{option_map}
+use Rattle.awk_tree.specs.Token.{Token as Lexeme, Symbol, Lit, Name, FuncName, Word, GetlineWord, InWord, Dollar, Open, Close, OpenBracket, CloseBracket, OpenBrace, CloseBrace, Comma, Semicolon, Question, Colon, SignMark, NotMark, StepMark, Infix, Append, Key, Outside, Syntax}
+use Rattle.awk_tree.specs.Tree.{Join, Other, allowed}
+use Rattle.awk_tree.specs.Reading.{Link, Joined, Within, Chosen, link_at, name_at, in_at, close_at}
+use Rattle.awk_tree.specs.ReadStmt.{keys_at}
+use Rattle.awk_tree.proofs.Sound.{ok_is, cons, name_ok, close_ok}
+use Rattle.awk_parse.specs.Seen.{begins_operand, infix_link}
+
+infix_is : (b : Bool) (s : Symbol) (ts : List Lexeme) → cond {A = Option (Link × List Lexeme)} b (Some (Joined (Other s), ts)) None ≡ option_map (λ (l : Link). (l, ts)) (cond b (Some (Joined (Other s))) None)
+infix_is true s ts = refl
+infix_is false s ts = refl
+
+pub link_is : (g : Bool) (t : Lexeme) (ts : List Lexeme) → link_at g (t ∷ ts) ≡ cond {A = Option (Link × List Lexeme)} (begins_operand t) (Some (Joined Join, t ∷ ts)) (option_map (λ (l : Link). (l, ts)) (infix_link g t))
+link_is g (Infix s) ts = infix_is (allowed g s) s ts
+link_is g t ts = refl
+
+pub link_joins : (g : Bool) (t : Lexeme) (ts : List Lexeme) → begins_operand t ≡ true → link_at g (t ∷ ts) ≡ Some (Joined Join, t ∷ ts)
+link_joins g t ts b = link_is g t ts ∙ rw b refl
+
+pub link_none : (g : Bool) (t : Lexeme) (ts : List Lexeme) → begins_operand t ≡ false → infix_link g t ≡ None → link_at g (t ∷ ts) ≡ None
+link_none g t ts b n = link_is g t ts ∙ rw (b, n) refl
+
+pub link_some : (g : Bool) (t : Lexeme) (ts : List Lexeme) (l : Link) → begins_operand t ≡ false → infix_link g t ≡ Some l → link_at g (t ∷ ts) ≡ Some (l, ts)
+link_some g t ts l b n = link_is g t ts ∙ rw (b, n) refl
+
+-- ---- the head of a loop over keys
+
+in_ok : (ts us : List Lexeme) → in_at ts ≡ Ok us → ts ≡ InWord ∷ us
+in_ok (InWord ∷ ts) us e = ap (cons InWord) (ok_is ts us e)
+in_ok _ us e = absurd cc
+
+pub keys_no_key : (ts : List Lexeme) → name_at ts ≡ Err Syntax → keys_at ts ≡ None
+keys_no_key (Name k ∷ ts) e = absurd cc
+keys_no_key _ e = refl
+
+after_key : (k : List ℕ) (ts : List Lexeme) → in_at ts ≡ Err Syntax → keys_at (Name k ∷ ts) ≡ None
+after_key k (InWord ∷ ts) e = absurd cc
+after_key k _ e = refl
+
+after_in : (k : List ℕ) (ts : List Lexeme) → name_at ts ≡ Err Syntax → keys_at (Name k ∷ (InWord ∷ ts)) ≡ None
+after_in k (Name a ∷ ts) e = absurd cc
+after_in k _ e = refl
+
+after_array : (k a : List ℕ) (ts : List Lexeme) → close_at ts ≡ Err Syntax → keys_at (Name k ∷ (InWord ∷ (Name a ∷ ts))) ≡ None
+after_array k a (Close ∷ ts) e = absurd cc
+after_array k a _ e = refl
+
+pub keys_no_in : (ts : List Lexeme) (x : List ℕ × List Lexeme) → name_at ts ≡ Ok x → in_at x.1 ≡ Err Syntax → keys_at ts ≡ None
+keys_no_in ts x n e = ap keys_at (name_ok ts x n) ∙ after_key x.0 x.1 e
+
+pub keys_no_array : (ts us : List Lexeme) (x : List ℕ × List Lexeme) → name_at ts ≡ Ok x → in_at x.1 ≡ Ok us → name_at us ≡ Err Syntax → keys_at ts ≡ None
+keys_no_array ts us x n i e = ap keys_at (name_ok ts x n ∙ ap (cons (Name x.0)) (in_ok x.1 us i)) ∙ after_in x.0 us e
+
+pub keys_no_close : (ts us : List Lexeme) (x y : List ℕ × List Lexeme) → name_at ts ≡ Ok x → in_at x.1 ≡ Ok us → name_at us ≡ Ok y → close_at y.1 ≡ Err Syntax → keys_at ts ≡ None
+keys_no_close ts us x y n i m e = ap keys_at (name_ok ts x n ∙ ap (cons (Name x.0)) (in_ok x.1 us i ∙ ap (cons InWord) (name_ok us y m))) ∙ after_array x.0 y.0 y.1 e
+
+pub keys_found : (ts us vs : List Lexeme) (x y : List ℕ × List Lexeme) → name_at ts ≡ Ok x → in_at x.1 ≡ Ok us → name_at us ≡ Ok y → close_at y.1 ≡ Ok vs → keys_at ts ≡ Some (x.0, y.0, vs)
+keys_found ts us vs x y n i m e = ap keys_at (name_ok ts x n ∙ ap (cons (Name x.0)) (in_ok x.1 us i ∙ ap (cons InWord) (name_ok us y m ∙ ap (cons (Name y.0)) (close_ok y.1 vs e))))

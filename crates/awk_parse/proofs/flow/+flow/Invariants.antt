@@ -1,0 +1,33 @@
+use Rattle.std.proofs.Common.{◌≡◌, ◌*◌, ◌+◌, ◌-◌, length}
+use Rattle.awk_tree.specs.ReadStmt.{stmts_at, stmt_at}
+use Rattle.awk_tree.specs.ViewStmt.{view_stmts}
+use Rattle.awk_parse.specs.Seen.{seen}
+use Rattle.awk_parse.proofs.Blocks.{with_stmts}
+use Rattle.awk_parse.proofs.flow.+flow.Given as goal
+
+abbrev pub decreases-statement : goal.decreases-statement
+decreases-statement l = 8 * l.limit
+
+abbrev pub decreases-statements : goal.decreases-statements
+decreases-statements l = 8 * l.limit + 1
+
+abbrev pub decreases-block : goal.decreases-block
+decreases-block l = 8 * l.limit + 2
+
+abbrev pub decreases-if_statement : goal.decreases-if_statement
+decreases-if_statement l = 8 * l.limit + 1
+
+abbrev pub decreases-while_loop : goal.decreases-while_loop
+decreases-while_loop l = 8 * l.limit + 1
+
+abbrev pub decreases-do_loop : goal.decreases-do_loop
+decreases-do_loop l = 8 * l.limit + 1
+
+abbrev pub decreases-for_loop : goal.decreases-for_loop
+decreases-for_loop l = 8 * l.limit + 2
+
+abbrev pub decreases-counted_loop : goal.decreases-counted_loop
+decreases-counted_loop l = 8 * l.limit + 1
+
+abbrev pub invariant-statements-loop : goal.invariant-statements-loop
+invariant-statements-loop l = with_stmts (view_stmts l.body.items) (stmts_at (stmt_at l.limit) (l.turns - l.counter) (seen l.rest)) ≡ stmts_at (stmt_at l.limit) (length (seen l.tokens)) (seen l.tokens)

@@ -1,0 +1,661 @@
+//! Expressions, by operator precedence: an operand, and the operators behind it that may stand there.
+
+ghost use Rattle.std.specs.Prelude.{◌≡◌, ◌<◌, ◌≤◌, ◌+◌, ◌-◌, ◌∷◌, IfOk, IfErr, true, None, length};
+ghost use Rattle.awk_tree.specs.Lexeme.{mark_lexeme};
+ghost use Rattle.awk_tree.specs.Reading.{expr_at, posted, stops, after, climb, list_at, arguments_at, indexed_by, call_by, applied_by, checked, getline_at, from_by, first_at, bare, open_at, index_at, less_at};
+ghost use Rattle.awk_tree.specs.Tree.{depth, depths, is_start, class_at};
+ghost use Rattle.awk_tree.specs.View.{view, views, view_step, view_unary};
+ghost use Rattle.awk_parse.specs.Operands.{done, extended_at, field_at, unary_at, pre_at, paren_at, in_list_at, conditional_at};
+ghost use Rattle.awk_parse.specs.Seen.{seen, seen_tree, seen_trees, view_mode, view_link, Gives};
+ghost use Rattle.awk_parse.specs.declared.fault.Refusal.TheVariants.{NoMemory};
+
+use crate::fault::Refusal;
+use crate::mode::{Mode, fits, floor, is_normal, right_of, under};
+use crate::node::{application, call_of, element, membership};
+use crate::peek::{
+    Link, after_bracket, after_close, after_comma, after_less, after_open, close, close_bracket,
+    colon, in_word, line_of, link_left, link_level, name, next_link, next_of, step, stopped,
+};
+use awk_tokens::{Keyword, Punctuator, Token, TokenKind};
+use awk_tree::{Builtin, Expr, Next, StepOp, UnaryOp, has_edge, suits, takes};
+use std::alloc::Global;
+
+/// An expression that was read, its depth, and the tokens behind it.
+#[derive(Drop)]
+pub(crate) struct Parsed<'a> {
+    pub(crate) tree: Expr,
+    pub(crate) depth: u32,
+    pub(crate) rest: &'a [Token<'a>],
+}
+
+/// Expressions that were read, the greatest depth among them, and the tokens behind them.
+#[derive(Drop)]
+pub(crate) struct ParsedList<'a> {
+    pub(crate) trees: Vec<Expr>,
+    pub(crate) depth: u32,
+    pub(crate) rest: &'a [Token<'a>],
+}
+
+/// An expression of at most this depth, where `greater` says whether `>` may stand outside parentheses and brackets.
+#[cycle(expr)]
+pub(crate) fn expression<'a>(
+    alloc: Global,
+    limit: u32,
+    greater: bool,
+    mode: Mode,
+    tokens: &'a [Token<'a>],
+) -> Result<Parsed<'a>, Refusal>
+    requires room { limit < 4294967295 }
+    ensures tree { Gives seen_tree result (expr_at limit greater (view_mode mode) (seen tokens.now)) }
+    ensures depth { IfOk result (λ x. x.depth ≡ depth (view x.tree)) }
+    ensures small { IfOk result (λ x. x.depth ≤ limit) }
+{
+    if limit == 0 {
+        return Err(Refusal::TooDeep(line_of(tokens)));
+    }
+    let bare = operand(alloc, limit - 1, greater, mode, tokens)?;
+    let first = with_step(alloc, mode, bare)?;
+    if !fits(mode, &first.tree) {
+        return Err(stopped(tokens));
+    }
+    let first = within(limit, first)?;
+    chain(alloc, limit, greater, floor(mode), first)
+}
+
+/// An expression that must not be deeper than this.
+fn within<'a>(limit: u32, read: Parsed<'a>) -> Result<Parsed<'a>, Refusal>
+    requires depth { read.depth ≡ depth (view read.tree) }
+    ensures tree { Gives seen_tree result (checked limit done (seen_tree read.entry)) }
+    ensures same { IfOk result (λ x. (x ≡ read.entry) × (x.depth ≤ limit)) }
+{
+    if read.depth > limit {
+        return Err(Refusal::TooDeep(line_of(read.rest)));
+    }
+    Ok(read)
+}
+
+/// An LValue with the step behind it, if there is one and it may stand there.
+fn with_step<'a>(alloc: Global, mode: Mode, bare: Parsed<'a>) -> Result<Parsed<'a>, Refusal>
+    requires room { bare.depth < 4294967295 }
+    requires depth { bare.depth ≡ depth (view bare.tree) }
+    ensures tree { IfOk result (λ x. seen_tree x ≡ posted (view_mode mode) (seen_tree bare.entry)) }
+    ensures depth { IfOk result (λ x. x.depth ≡ depth (view x.tree)) }
+    ensures small { IfOk result (λ x. x.depth ≤ bare.entry.depth + 1) }
+    ensures refused { IfErr result (λ e. e ≡ NoMemory) }
+{
+    if !is_normal(mode) || !fits(Mode::LValue, &bare.tree) {
+        return Ok(bare);
+    }
+    let Some((op, rest)) = step(bare.rest) else {
+        return Ok(bare);
+    };
+    let inner = Box::new(alloc, bare.tree)?;
+    Ok(Parsed {
+        tree: Expr::PostStep(op, inner),
+        depth: bare.depth + 1,
+        rest,
+    })
+}
+
+/// Whether a link does not take the expression as its left side where this level is the least.
+fn stops(least: u8, left: &Expr, tokens: &[Token<'_>], link: Link) -> bool
+    ensures { result ≡ stops least (view left.now) (seen tokens.now) (view_link link) }
+{
+    link_level(link) < least
+        || !has_edge(link_left(link), left)
+        || takes(true, left, next_of(tokens))
+}
+
+/// The operators behind an expression that bind at this level or tighter, from the left.
+#[cycle(expr)]
+fn chain<'a>(
+    alloc: Global,
+    limit: u32,
+    greater: bool,
+    least: u8,
+    first: Parsed<'a>,
+) -> Result<Parsed<'a>, Refusal>
+    requires some { 0 < limit }
+    requires room { limit < 4294967295 }
+    requires depth { first.depth ≡ depth (view first.tree) }
+    requires small { first.depth ≤ limit }
+    ensures tree { Gives seen_tree result (climb (expr_at (limit - 1)) greater limit (length (seen first.entry.rest.now)) least (view first.entry.tree) (seen first.entry.rest.now)) }
+    ensures depth { IfOk result (λ x. x.depth ≡ depth (view x.tree)) }
+    ensures small { IfOk result (λ x. x.depth ≤ limit) }
+{
+    let turns = first.rest.len();
+    let mut left = first;
+    for _ in 0..turns {
+        let Some((link, behind)) = next_link(greater, left.rest) else {
+            return Ok(left);
+        };
+        if stops(least, &left.tree, left.rest, link) {
+            return Ok(left);
+        }
+        left = linked(
+            alloc,
+            limit - 1,
+            greater,
+            left.tree,
+            left.depth,
+            link,
+            behind,
+        )?;
+        if left.depth > limit {
+            return Err(Refusal::TooDeep(line_of(left.rest)));
+        }
+    }
+    Ok(left)
+}
+
+/// An expression, a link, and what stands behind it.
+#[cycle(expr)]
+#[tactic(auto, using(crate::proofs::Binds::fails_bind))]
+fn linked<'a>(
+    alloc: Global,
+    limit: u32,
+    greater: bool,
+    left: Expr,
+    left_depth: u32,
+    link: Link,
+    tokens: &'a [Token<'a>],
+) -> Result<Parsed<'a>, Refusal>
+    requires room { limit < 4294967294 }
+    requires depth { left_depth ≡ depth (view left) }
+    requires small { left_depth ≤ limit + 1 }
+    ensures tree { Gives seen_tree result (after (expr_at limit) greater (view left) (view_link link) (seen tokens.now)) }
+    ensures depth { IfOk result (λ x. x.depth ≡ depth (view x.tree)) }
+    ensures small { IfOk result (λ x. x.depth ≤ limit + 2) }
+{
+    match link {
+        Link::Binary(op) => {
+            let right = expression(alloc, limit, greater, right_of(op), tokens)?;
+            let a = Box::new(alloc, left)?;
+            let b = Box::new(alloc, right.tree)?;
+            Ok(Parsed {
+                tree: Expr::Binary(op, a, b),
+                depth: left_depth.max(right.depth) + 1,
+                rest: right.rest,
+            })
+        }
+        Link::Assign(op) => {
+            let right = expression(alloc, limit, greater, Mode::Whole, tokens)?;
+            let a = Box::new(alloc, left)?;
+            let b = Box::new(alloc, right.tree)?;
+            Ok(Parsed {
+                tree: Expr::Assign(op, a, b),
+                depth: left_depth.max(right.depth) + 1,
+                rest: right.rest,
+            })
+        }
+        Link::In => {
+            let (array, rest) = name(alloc, tokens)?;
+            let subscript = Box::new(alloc, left)?;
+            Ok(Parsed {
+                tree: Expr::In(subscript, array),
+                depth: left_depth + 1,
+                rest,
+            })
+        }
+        Link::Question => conditional(alloc, limit, greater, left, left_depth, tokens),
+    }
+}
+
+/// A condition, and the two sides behind its `?`.
+#[cycle(expr)]
+#[tactic(auto, using(crate::proofs::Binds::fails_bind))]
+fn conditional<'a>(
+    alloc: Global,
+    limit: u32,
+    greater: bool,
+    condition: Expr,
+    condition_depth: u32,
+    tokens: &'a [Token<'a>],
+) -> Result<Parsed<'a>, Refusal>
+    requires room { limit < 4294967294 }
+    requires depth { condition_depth ≡ depth (view condition) }
+    requires small { condition_depth ≤ limit + 1 }
+    ensures tree { Gives seen_tree result (conditional_at (expr_at limit) greater (view condition) (seen tokens.now)) }
+    ensures depth { IfOk result (λ x. x.depth ≡ depth (view x.tree)) }
+    ensures small { IfOk result (λ x. x.depth ≤ limit + 2) }
+{
+    let then = expression(alloc, limit, greater, Mode::Whole, tokens)?;
+    let rest = colon(then.rest)?;
+    let otherwise = expression(alloc, limit, greater, Mode::Whole, rest)?;
+    let a = Box::new(alloc, condition)?;
+    let b = Box::new(alloc, then.tree)?;
+    let c = Box::new(alloc, otherwise.tree)?;
+    Ok(Parsed {
+        tree: Expr::Conditional(a, b, c),
+        depth: condition_depth.max(then.depth.max(otherwise.depth)) + 1,
+        rest: otherwise.rest,
+    })
+}
+
+/// One expression or more, with commas between them.
+#[cycle(expr)]
+pub(crate) fn list<'a>(
+    alloc: Global,
+    limit: u32,
+    greater: bool,
+    tokens: &'a [Token<'a>],
+) -> Result<ParsedList<'a>, Refusal>
+    requires room { limit < 4294967295 }
+    ensures trees { Gives seen_trees result (list_at (expr_at limit) greater (seen tokens.now)) }
+    ensures depth { IfOk result (λ x. x.depth ≡ depths (views x.trees.items)) }
+    ensures small { IfOk result (λ x. x.depth ≤ limit) }
+{
+    let first = expression(alloc, limit, greater, Mode::Whole, tokens)?;
+    let mut trees = Vec::new(alloc);
+    trees.push(first.tree)?;
+    let mut depth = first.depth;
+    let mut rest = first.rest;
+    let turns = rest.len();
+    for _ in 0..turns {
+        let Some(behind) = after_comma(rest) else {
+            return Ok(ParsedList { trees, depth, rest });
+        };
+        let next = expression(alloc, limit, greater, Mode::Whole, behind)?;
+        trees.push(next.tree)?;
+        depth = depth.max(next.depth);
+        rest = next.rest;
+    }
+    Ok(ParsedList { trees, depth, rest })
+}
+
+/// Arguments, none or more, and the parenthesis that closes them.
+#[cycle(expr)]
+#[tactic(auto, using(crate::proofs::Binds::fails_bind))]
+fn arguments<'a>(
+    alloc: Global,
+    limit: u32,
+    tokens: &'a [Token<'a>],
+) -> Result<ParsedList<'a>, Refusal>
+    requires room { limit < 4294967295 }
+    ensures trees { Gives seen_trees result (arguments_at (expr_at limit) (seen tokens.now)) }
+    ensures depth { IfOk result (λ x. x.depth ≡ depths (views x.trees.items)) }
+    ensures small { IfOk result (λ x. x.depth ≤ limit) }
+{
+    if let Some(rest) = after_close(tokens) {
+        return Ok(ParsedList {
+            trees: Vec::new(alloc),
+            depth: 0,
+            rest,
+        });
+    }
+    let inner = list(alloc, limit, true, tokens)?;
+    let rest = close(inner.rest)?;
+    Ok(ParsedList {
+        trees: inner.trees,
+        depth: inner.depth,
+        rest,
+    })
+}
+
+/// A variable, or an element of an array.
+#[cycle(expr)]
+#[tactic(auto, using(crate::proofs::Binds::fails_bind))]
+fn named<'a>(
+    alloc: Global,
+    limit: u32,
+    text: &[u8],
+    tokens: &'a [Token<'a>],
+) -> Result<Parsed<'a>, Refusal>
+    requires room { limit < 4294967295 }
+    ensures tree { Gives seen_tree result (indexed_by (expr_at limit) text.now (seen tokens.now) (index_at (seen tokens.now))) }
+    ensures depth { IfOk result (λ x. x.depth ≡ depth (view x.tree)) }
+    ensures small { IfOk result (λ x. x.depth ≤ limit + 1) }
+{
+    let array = text.to_vec(alloc)?;
+    let Some(behind) = after_bracket(tokens) else {
+        return Ok(Parsed {
+            tree: Expr::Var(array),
+            depth: 1,
+            rest: tokens,
+        });
+    };
+    let inner = list(alloc, limit, true, behind)?;
+    let rest = close_bracket(inner.rest)?;
+    Ok(Parsed {
+        tree: element(array, inner.trees),
+        depth: inner.depth + 1,
+        rest,
+    })
+}
+
+/// A call of a function of the script.
+#[cycle(expr)]
+#[tactic(auto, using(crate::proofs::Binds::fails_bind))]
+fn call<'a>(
+    alloc: Global,
+    limit: u32,
+    text: &[u8],
+    tokens: &'a [Token<'a>],
+) -> Result<Parsed<'a>, Refusal>
+    requires room { limit < 4294967295 }
+    ensures tree { Gives seen_tree result (call_by (expr_at limit) text.now (open_at (seen tokens.now))) }
+    ensures depth { IfOk result (λ x. x.depth ≡ depth (view x.tree)) }
+    ensures small { IfOk result (λ x. x.depth ≤ limit + 1) }
+{
+    let function = text.to_vec(alloc)?;
+    let Some(behind) = after_open(tokens) else {
+        return Err(stopped(tokens));
+    };
+    let inner = arguments(alloc, limit, behind)?;
+    Ok(Parsed {
+        tree: call_of(function, inner.trees),
+        depth: inner.depth + 1,
+        rest: inner.rest,
+    })
+}
+
+/// A call of a built-in function; `length` may stand alone.
+#[cycle(expr)]
+#[tactic(auto, using(crate::proofs::Binds::fails_bind))]
+fn applied<'a>(
+    alloc: Global,
+    limit: u32,
+    function: Builtin,
+    tokens: &'a [Token<'a>],
+) -> Result<Parsed<'a>, Refusal>
+    requires room { limit < 4294967295 }
+    ensures tree { Gives seen_tree result (applied_by (expr_at limit) function (seen tokens.now) (open_at (seen tokens.now))) }
+    ensures depth { IfOk result (λ x. x.depth ≡ depth (view x.tree)) }
+    ensures small { IfOk result (λ x. x.depth ≤ limit + 1) }
+{
+    let Some(behind) = after_open(tokens) else {
+        return bare(function, tokens);
+    };
+    let inner = arguments(alloc, limit, behind)?;
+    if !suits(function, &inner.trees) {
+        return Err(stopped(tokens));
+    }
+    Ok(Parsed {
+        tree: application(function, inner.trees),
+        depth: inner.depth + 1,
+        rest: inner.rest,
+    })
+}
+
+/// A built-in function without parentheses.
+fn bare<'a>(function: Builtin, tokens: &'a [Token<'a>]) -> Result<Parsed<'a>, Refusal>
+    ensures tree { Gives seen_tree result (bare function (seen tokens.now)) }
+    ensures depth { IfOk result (λ x. (x.depth ≡ depth (view x.tree)) × (x.depth ≡ 1)) }
+{
+    match function {
+        Builtin::Length => Ok(Parsed {
+            tree: Expr::Length,
+            depth: 1,
+            rest: tokens,
+        }),
+        _ => Err(stopped(tokens)),
+    }
+}
+
+/// What stands behind `(`: an expression in parentheses, or a list of subscripts and `in`.
+#[cycle(expr)]
+#[tactic(auto, using(crate::proofs::Binds::fails_bind))]
+fn parenthesised<'a>(
+    alloc: Global,
+    limit: u32,
+    tokens: &'a [Token<'a>],
+) -> Result<Parsed<'a>, Refusal>
+    requires room { limit < 4294967295 }
+    ensures tree { Gives seen_tree result (paren_at (expr_at limit) (seen tokens.now)) }
+    ensures depth { IfOk result (λ x. x.depth ≡ depth (view x.tree)) }
+    ensures small { IfOk result (λ x. x.depth ≤ limit + 1) }
+{
+    let first = expression(alloc, limit, true, Mode::Whole, tokens)?;
+    if let Some(behind) = after_comma(first.rest) {
+        return in_list(alloc, limit, first.tree, first.depth, behind);
+    }
+    let rest = close(first.rest)?;
+    let inner = Box::new(alloc, first.tree)?;
+    Ok(Parsed {
+        tree: Expr::Group(inner),
+        depth: first.depth + 1,
+        rest,
+    })
+}
+
+/// Two subscripts or more in parentheses, and `in` and the array behind them.
+#[cycle(expr)]
+#[tactic(auto, using(crate::proofs::Binds::fails_bind))]
+fn in_list<'a>(
+    alloc: Global,
+    limit: u32,
+    first: Expr,
+    first_depth: u32,
+    tokens: &'a [Token<'a>],
+) -> Result<Parsed<'a>, Refusal>
+    requires room { limit < 4294967295 }
+    requires depth { first_depth ≡ depth (view first) }
+    requires small { first_depth ≤ limit }
+    ensures tree { Gives seen_tree result (in_list_at (expr_at limit) (view first) (seen tokens.now)) }
+    ensures depth { IfOk result (λ x. x.depth ≡ depth (view x.tree)) }
+    ensures small { IfOk result (λ x. x.depth ≤ limit + 1) }
+{
+    let others = list(alloc, limit, true, tokens)?;
+    let behind = close(others.rest)?;
+    let behind = in_word(behind)?;
+    let (array, rest) = name(alloc, behind)?;
+    let subscript = Box::new(alloc, first)?;
+    Ok(Parsed {
+        tree: membership(subscript, others.trees, array),
+        depth: first_depth.max(others.depth) + 1,
+        rest,
+    })
+}
+
+/// What stands behind `getline`: a variable or none, and a file or none.
+#[cycle(expr)]
+#[tactic(auto, using(crate::proofs::Binds::fails_bind))]
+fn getline<'a>(
+    alloc: Global,
+    limit: u32,
+    greater: bool,
+    tokens: &'a [Token<'a>],
+) -> Result<Parsed<'a>, Refusal>
+    requires room { limit < 4294967295 }
+    ensures tree { Gives seen_tree result (getline_at (expr_at limit) greater (seen tokens.now)) }
+    ensures depth { IfOk result (λ x. x.depth ≡ depth (view x.tree)) }
+    ensures small { IfOk result (λ x. x.depth ≤ limit + 1) }
+{
+    if !begins_lvalue(tokens) {
+        return getline_line(alloc, limit, greater, tokens);
+    }
+    let variable = expression(alloc, limit, greater, Mode::LValue, tokens)?;
+    let place = Box::new(alloc, variable.tree)?;
+    let Some(behind) = after_less(variable.rest) else {
+        return Ok(Parsed {
+            tree: Expr::GetlineInto(place),
+            depth: variable.depth + 1,
+            rest: variable.rest,
+        });
+    };
+    let file = expression(alloc, limit, greater, Mode::Plain, behind)?;
+    let source = Box::new(alloc, file.tree)?;
+    Ok(Parsed {
+        tree: Expr::GetlineIntoFrom(place, source),
+        depth: variable.depth.max(file.depth) + 1,
+        rest: file.rest,
+    })
+}
+
+/// What stands behind `getline` without a variable.
+#[cycle(expr)]
+#[tactic(auto, using(crate::proofs::Binds::fails_bind))]
+fn getline_line<'a>(
+    alloc: Global,
+    limit: u32,
+    greater: bool,
+    tokens: &'a [Token<'a>],
+) -> Result<Parsed<'a>, Refusal>
+    requires room { limit < 4294967295 }
+    ensures tree { Gives seen_tree result (from_by (expr_at limit) greater None (seen tokens.now) (less_at (seen tokens.now))) }
+    ensures depth { IfOk result (λ x. x.depth ≡ depth (view x.tree)) }
+    ensures small { IfOk result (λ x. x.depth ≤ limit + 1) }
+{
+    let Some(behind) = after_less(tokens) else {
+        return Ok(Parsed {
+            tree: Expr::Getline,
+            depth: 1,
+            rest: tokens,
+        });
+    };
+    let file = expression(alloc, limit, greater, Mode::Plain, behind)?;
+    let source = Box::new(alloc, file.tree)?;
+    Ok(Parsed {
+        tree: Expr::GetlineFrom(source),
+        depth: file.depth + 1,
+        rest: file.rest,
+    })
+}
+
+/// Whether an LValue may begin here.
+fn begins_lvalue(tokens: &[Token<'_>]) -> bool
+    ensures { result ≡ is_start (class_at (seen tokens.now)) }
+{
+    matches!(next_of(tokens), Next::LValue)
+}
+
+/// What stands behind `$`.
+#[cycle(expr)]
+#[tactic(auto, using(crate::proofs::Binds::fails_bind))]
+fn field<'a>(
+    alloc: Global,
+    limit: u32,
+    greater: bool,
+    tokens: &'a [Token<'a>],
+) -> Result<Parsed<'a>, Refusal>
+    requires room { limit < 4294967295 }
+    ensures tree { Gives seen_tree result (field_at (expr_at limit) greater (seen tokens.now)) }
+    ensures depth { IfOk result (λ x. x.depth ≡ depth (view x.tree)) }
+    ensures small { IfOk result (λ x. x.depth ≤ limit + 1) }
+{
+    let inner = expression(alloc, limit, greater, Mode::InField, tokens)?;
+    let number = Box::new(alloc, inner.tree)?;
+    Ok(Parsed {
+        tree: Expr::Field(number),
+        depth: inner.depth + 1,
+        rest: inner.rest,
+    })
+}
+
+/// What stands behind a sign or `!`.
+#[cycle(expr)]
+#[tactic(auto, using(crate::proofs::Binds::fails_bind))]
+fn unary<'a>(
+    alloc: Global,
+    limit: u32,
+    greater: bool,
+    mode: Mode,
+    op: UnaryOp,
+    tokens: &'a [Token<'a>],
+) -> Result<Parsed<'a>, Refusal>
+    requires room { limit < 4294967295 }
+    ensures tree { Gives seen_tree result (unary_at (expr_at limit) greater (view_mode mode) (view_unary op) (seen tokens.now)) }
+    ensures depth { IfOk result (λ x. x.depth ≡ depth (view x.tree)) }
+    ensures small { IfOk result (λ x. x.depth ≤ limit + 1) }
+{
+    let inner = expression(alloc, limit, greater, under(mode), tokens)?;
+    let operand = Box::new(alloc, inner.tree)?;
+    Ok(Parsed {
+        tree: Expr::Unary(op, operand),
+        depth: inner.depth + 1,
+        rest: inner.rest,
+    })
+}
+
+/// What stands behind a step.
+#[cycle(expr)]
+#[tactic(auto, using(crate::proofs::Binds::fails_bind))]
+fn pre_step<'a>(
+    alloc: Global,
+    limit: u32,
+    greater: bool,
+    op: StepOp,
+    tokens: &'a [Token<'a>],
+) -> Result<Parsed<'a>, Refusal>
+    requires room { limit < 4294967295 }
+    ensures tree { Gives seen_tree result (pre_at (expr_at limit) greater (view_step op) (seen tokens.now)) }
+    ensures depth { IfOk result (λ x. x.depth ≡ depth (view x.tree)) }
+    ensures small { IfOk result (λ x. x.depth ≤ limit + 1) }
+{
+    let inner = expression(alloc, limit, greater, Mode::LValue, tokens)?;
+    let place = Box::new(alloc, inner.tree)?;
+    Ok(Parsed {
+        tree: Expr::PreStep(op, place),
+        depth: inner.depth + 1,
+        rest: inner.rest,
+    })
+}
+
+/// The operand that a punctuator begins, with the tokens behind that.
+#[cycle(expr)]
+fn marked<'a>(
+    alloc: Global,
+    limit: u32,
+    greater: bool,
+    mode: Mode,
+    mark: Punctuator,
+    tokens: &'a [Token<'a>],
+) -> Result<Parsed<'a>, Refusal>
+    requires room { limit < 4294967295 }
+    ensures tree { Gives seen_tree result (first_at (expr_at limit) greater (view_mode mode) (mark_lexeme mark ∷ seen tokens.now)) }
+    ensures depth { IfOk result (λ x. x.depth ≡ depth (view x.tree)) }
+    ensures small { IfOk result (λ x. x.depth ≤ limit + 1) }
+{
+    match mark {
+        Punctuator::Dollar => field(alloc, limit, greater, tokens),
+        Punctuator::OpenParen => parenthesised(alloc, limit, tokens),
+        Punctuator::Bang => unary(alloc, limit, greater, mode, UnaryOp::Not, tokens),
+        Punctuator::Plus => unary(alloc, limit, greater, mode, UnaryOp::Plus, tokens),
+        Punctuator::Minus => unary(alloc, limit, greater, mode, UnaryOp::Minus, tokens),
+        Punctuator::Increment => pre_step(alloc, limit, greater, StepOp::Increment, tokens),
+        Punctuator::Decrement => pre_step(alloc, limit, greater, StepOp::Decrement, tokens),
+        _ => Err(stopped(tokens)),
+    }
+}
+
+/// An operand, without the step behind it.
+#[cycle(expr)]
+fn operand<'a>(
+    alloc: Global,
+    limit: u32,
+    greater: bool,
+    mode: Mode,
+    tokens: &'a [Token<'a>],
+) -> Result<Parsed<'a>, Refusal>
+    requires room { limit < 4294967295 }
+    ensures tree { Gives seen_tree result (first_at (expr_at limit) greater (view_mode mode) (seen tokens.now)) }
+    ensures depth { IfOk result (λ x. x.depth ≡ depth (view x.tree)) }
+    ensures small { IfOk result (λ x. x.depth ≤ limit + 1) }
+{
+    let [first, rest @ ..] = tokens else {
+        return Err(stopped(tokens));
+    };
+    match first.kind {
+        TokenKind::Number => Ok(Parsed {
+            tree: Expr::Number(first.text.to_vec(alloc)?),
+            depth: 1,
+            rest,
+        }),
+        TokenKind::Str => Ok(Parsed {
+            tree: Expr::Str(first.text.to_vec(alloc)?),
+            depth: 1,
+            rest,
+        }),
+        TokenKind::Ere => Ok(Parsed {
+            tree: Expr::Ere(first.text.to_vec(alloc)?),
+            depth: 1,
+            rest,
+        }),
+        TokenKind::Name => named(alloc, limit, first.text, rest),
+        TokenKind::FuncName => call(alloc, limit, first.text, rest),
+        TokenKind::Builtin(function) => applied(alloc, limit, function, rest),
+        TokenKind::Keyword(Keyword::Getline) => getline(alloc, limit, greater, rest),
+        TokenKind::Punctuator(mark) => marked(alloc, limit, greater, mode, mark, rest),
+        TokenKind::Keyword(_) | TokenKind::LeftOut(_) => Err(stopped(tokens)),
+    }
+}

@@ -1,0 +1,61 @@
+//! Why tokens have no script.
+
+ghost use Rattle.std.specs.Prelude.{◌≡◌};
+ghost use Rattle.awk_parse.specs.declared.fault.Refusal.TheVariants.{NoMemory};
+
+use awk_tokens::LeftOut;
+use std::alloc::{AllocError, AllocFailed};
+
+/// What a script uses and this language leaves out.
+#[derive(Clone, Copy, Debug, PartialEq, Eq)]
+pub enum Feature {
+    /// A word that is left out.
+    Word(LeftOut),
+    /// `|`.
+    Pipe,
+    /// `delete` of a whole array.
+    Delete,
+}
+
+/// Why tokens have no script. Lines count from 1.
+#[derive(Clone, Copy, Debug, PartialEq, Eq)]
+pub enum ParseFault {
+    /// The token on this line begins something that the language leaves out.
+    LeftOut(usize, Feature),
+    /// A number on this line is not whole.
+    NotWhole(usize),
+    /// A number on this line is outside -2^53 to 2^53.
+    ConstantRange(usize),
+    /// The tokens are those of no script; the line is that of the token at which reading stopped.
+    Syntax(usize),
+    /// The tokens are those of no script of depth 1,000 or less; the line is that of the token at which reading stopped.
+    TooDeep(usize),
+    /// `next`, `break`, `continue` or `return` on this line stands where it has no meaning.
+    Misplaced(usize),
+    /// Memory was refused.
+    NoMemory,
+}
+
+/// Why reading stopped, with the line of the token at which it did.
+#[derive(Clone, Copy, Debug, PartialEq, Eq)]
+pub(crate) enum Refusal {
+    Syntax(usize),
+    TooDeep(usize),
+    NoMemory,
+}
+
+impl From<AllocError> for Refusal {
+    ghost from_gives = { λ _ e. e ≡ NoMemory };
+
+    fn from(_e: AllocError) -> Refusal {
+        Refusal::NoMemory
+    }
+}
+
+impl<T: Drop> From<AllocFailed<T>> for Refusal {
+    ghost from_gives = { λ _ e. e ≡ NoMemory };
+
+    fn from(_e: AllocFailed<T>) -> Refusal {
+        Refusal::NoMemory
+    }
+}

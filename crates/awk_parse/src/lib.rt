@@ -1,0 +1,10 @@
+//! The parser: from the tokens of a script to its tree (POSIX.1-2017 awk, "Grammar", in the profile of this project).
+#![tactic(auto)]
+
+mod expr;
+mod fault;
+mod mode;
+mod node;
+mod peek;
+
+pub use fault::{Feature, ParseFault};
