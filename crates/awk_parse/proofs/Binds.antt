@@ -2,9 +2,9 @@
 use Rattle.std.proofs.lemmas.List.{length-map}
 use Rattle.std.proofs.Common.{◌≡◌, ℕ, zero, suc, ◌+◌, ◌-◌, ◌<◌, max, Bool, true, false, cond, ltb, Option, Some, None, List, [], ◌∷◌, ◌++◌, length, map, Result, Ok, Err, refl, sym, ap, subst, ◌∙◌, arith}
 use Rattle.awk_tokens.specs.Cutting.{Spelled}
-use Rattle.awk_tree.specs.Token.{Token, Fault, TooDeep}
-use Rattle.awk_tree.specs.Tree.{Tree, Trees, NoTree, Then, depth, depths, Whole}
-use Rattle.awk_tree.specs.Reading.{◌>>=◌, Read, ReadMany, Reader, Link, comma_at, more_at, list_at, link_at, stops, after, checked, climb, expr_at}
+use Rattle.awk_tree.specs.Token.{Token, Fault, Syntax, TooDeep}
+use Rattle.awk_tree.specs.Tree.{Tree, Trees, NoTree, Then, depth, depths, Whole, Mode, floor, fits}
+use Rattle.awk_tree.specs.Reading.{◌>>=◌, Read, ReadMany, Reader, Link, comma_at, more_at, list_at, link_at, stops, after, checked, climb, expr_at, first_at, fitting, posted}
 use Rattle.awk_parse.specs.Operands.{done, extended_at}
 use Rattle.awk_tokens.specs.declared.token.Token.{Token as ScriptToken}
 use Rattle.awk_tokens.specs.Views.{spelled}
@@ -13,7 +13,7 @@ use Rattle.awk_tree.specs.View.{view, views}
 use Rattle.awk_tree.specs.declared.tree.Expr.{Expr}
 use Rattle.awk_parse.specs.declared.fault.Refusal.{Refusal}
 use Rattle.awk_parse.specs.declared.fault.Refusal.TheVariants as refusals
-use Rattle.awk_parse.specs.Seen.{Fails, seen}
+use Rattle.awk_parse.specs.Seen.{Fails, Gives, seen}
 
 pub fails_bind : {A B : Type 0} (e : Refusal) (r : Result A Fault) (f : A → Result B Fault) → Fails e r → Fails e (r >>= f)
 fails_bind refusals.NoMemory r f h = tt
@@ -63,6 +63,9 @@ more_next expr g i n ts rest r lt e q =
     let m : n - i ≡ suc (n - (i + 1)) = omega arith in
     rw (m, e, q) refl
 
+pub more_done : (expr : Reader) (g : Bool) (w : ℕ) (ts : List Token) → w ≡ 0 → more_at expr g w ts ≡ Ok (NoTree, ts)
+more_done expr g w ts e = rw e refl
+
 -- one expression more
 pub front_next : (expr : Reader) (g : Bool) (i n : ℕ) (front : Trees) (ts rest rest' : List Token) (t : Tree) → i < n → comma_at ts ≡ Some rest → expr g Whole rest ≡ Ok (t, rest') → with_front (followed_by front (Then t NoTree)) (more_at expr g (n - (i + 1)) rest') ≡ with_front front (more_at expr g (n - i) ts)
 front_next expr g i n front ts rest rest' t lt e q = rw (more_next expr g i n ts rest (Ok (t, rest')) lt e q) (sym (front_step front t (more_at expr g (n - (i + 1)) rest')))
@@ -94,5 +97,40 @@ climb_goes g limit i n l t ts o lt e s =
 pub fails_is : {A : Type 0} (e : Refusal) (r s : Result A Fault) → r ≡ s → Fails e s → Fails e r
 fails_is e r s q h = subst (Fails e) (sym q) h
 
+pub gives_is : {X Y : Type 0} (f : X → Y) (x : Result X Refusal) (r s : Result Y Fault) → r ≡ s → Gives f x s → Gives f x r
+gives_is f x r s q h = subst (Gives f x) (sym q) h
+
 pub seen_length : (ts : List ScriptToken) → length (seen ts) ≡ length ts
 seen_length ts = spoken_length false (map spelled ts) ∙ length-map ts spelled
+
+-- ---- an expression: its operand, the step behind it, and the operators behind that
+
+pub expr_none : (limit : ℕ) (g : Bool) (m : Mode) (ts : List Token) → limit ≡ 0 → expr_at limit g m ts ≡ Err TooDeep
+unfolding expr_at
+expr_none limit g m ts e = rw e refl
+
+abbrev pub rest_of : ℕ → Bool → Mode → Tree × List Token → Read
+rest_of limit g m x = fitting m (posted m x) >>= checked limit (λ t us. climb (expr_at (limit - 1)) g limit (length us) (floor m) t us)
+
+expr_some : (limit : ℕ) (g : Bool) (m : Mode) (ts : List Token) → 0 < limit → expr_at limit g m ts ≡ (first_at (expr_at (limit - 1)) g m ts >>= λ x. fitting m (posted m x) >>= checked limit (λ t us. climb (expr_at (limit - 1)) g limit (length us) (floor m) t us))
+unfolding expr_at
+expr_some zero g m ts h = absurd (omega arith)
+expr_some (suc d) g m ts h = let e : suc d - 1 ≡ d = omega arith in rw e refl
+
+pub expr_fails : (e : Refusal) (limit : ℕ) (g : Bool) (m : Mode) (ts : List Token) → 0 < limit → Fails e (first_at (expr_at (limit - 1)) g m ts) → Fails e (expr_at limit g m ts)
+expr_fails e limit g m ts h f = fails_is e _ _ (expr_some limit g m ts h) (fails_bind e _ (rest_of limit g m) f)
+
+expr_first : (limit : ℕ) (g : Bool) (m : Mode) (ts : List Token) (x : Tree × List Token) → 0 < limit → first_at (expr_at (limit - 1)) g m ts ≡ Ok x → expr_at limit g m ts ≡ rest_of limit g m x
+expr_first limit g m ts x h f = expr_some limit g m ts h ∙ ap (λ (r : Read). r >>= rest_of limit g m) f
+
+pub expr_unfit : (limit : ℕ) (g : Bool) (m : Mode) (ts : List Token) (x y : Tree × List Token) → 0 < limit → first_at (expr_at (limit - 1)) g m ts ≡ Ok x → y ≡ posted m x → fits m y.0 ≡ false → expr_at limit g m ts ≡ Err Syntax
+expr_unfit limit g m ts x y h f p n = expr_first limit g m ts x h f ∙ ap (λ (z : Tree × List Token). fitting m z >>= checked limit (λ t us. climb (expr_at (limit - 1)) g limit (length us) (floor m) t us)) (sym p) ∙ rw n refl
+
+expr_checked : (limit : ℕ) (g : Bool) (m : Mode) (ts : List Token) (x y : Tree × List Token) → 0 < limit → first_at (expr_at (limit - 1)) g m ts ≡ Ok x → y ≡ posted m x → fits m y.0 ≡ true → expr_at limit g m ts ≡ (checked limit done y >>= λ z. climb (expr_at (limit - 1)) g limit (length z.1) (floor m) z.0 z.1)
+expr_checked limit g m ts x y h f p n = expr_first limit g m ts x h f ∙ ap (λ (z : Tree × List Token). fitting m z >>= checked limit (λ t us. climb (expr_at (limit - 1)) g limit (length us) (floor m) t us)) (sym p) ∙ rw n (checked_then limit (λ t us. climb (expr_at (limit - 1)) g limit (length us) (floor m) t us) (Ok y))
+
+pub expr_deep : (e : Refusal) (limit : ℕ) (g : Bool) (m : Mode) (ts : List Token) (x y : Tree × List Token) → 0 < limit → first_at (expr_at (limit - 1)) g m ts ≡ Ok x → y ≡ posted m x → fits m y.0 ≡ true → Fails e (checked limit done y) → Fails e (expr_at limit g m ts)
+expr_deep e limit g m ts x y h f p n d = fails_is e _ _ (expr_checked limit g m ts x y h f p n) (fails_bind e _ (λ z. climb (expr_at (limit - 1)) g limit (length z.1) (floor m) z.0 z.1) d)
+
+pub expr_goes : (limit : ℕ) (g : Bool) (m : Mode) (ts : List Token) (x y z : Tree × List Token) → 0 < limit → first_at (expr_at (limit - 1)) g m ts ≡ Ok x → y ≡ posted m x → fits m y.0 ≡ true → checked limit done y ≡ Ok z → expr_at limit g m ts ≡ climb (expr_at (limit - 1)) g limit (length z.1) (floor m) z.0 z.1
+expr_goes limit g m ts x y z h f p n c = expr_checked limit g m ts x y h f p n ∙ ap (λ (r : Read). r >>= λ w. climb (expr_at (limit - 1)) g limit (length w.1) (floor m) w.0 w.1) c

@@ -1,3 +1,4 @@
 pub mod Peeks
 pub mod Binds
 pub mod Blocks
+pub mod Names

@@ -38,6 +38,7 @@ pub(crate) struct ParsedList<'a> {
 
 /// An expression of at most this depth, where `greater` says whether `>` may stand outside parentheses and brackets.
 #[cycle(expr)]
+#[tactic(auto, using(crate::proofs::Binds::expr_none, crate::proofs::Binds::expr_fails))]
 pub(crate) fn expression<'a>(
     alloc: Global,
     limit: u32,
@@ -132,20 +133,40 @@ fn chain<'a>(
         if stops(least, &left.tree, left.rest, link) {
             return Ok(left);
         }
-        left = linked(
-            alloc,
-            limit - 1,
-            greater,
-            left.tree,
-            left.depth,
-            link,
-            behind,
-        )?;
-        if left.depth > limit {
-            return Err(Refusal::TooDeep(line_of(left.rest)));
-        }
+        left = extended(alloc, limit, greater, left, link, behind)?;
     }
     Ok(left)
+}
+
+/// An expression and one link more.
+#[cycle(expr)]
+#[tactic(auto, using(crate::proofs::Binds::fails_bind))]
+fn extended<'a>(
+    alloc: Global,
+    limit: u32,
+    greater: bool,
+    left: Parsed<'a>,
+    link: Link,
+    tokens: &'a [Token<'a>],
+) -> Result<Parsed<'a>, Refusal>
+    requires some { 0 < limit }
+    requires room { limit < 4294967295 }
+    requires depth { left.depth ≡ depth (view left.tree) }
+    requires small { left.depth ≤ limit }
+    ensures tree { Gives seen_tree result (extended_at limit greater (view left.entry.tree) (view_link link) (seen tokens.now)) }
+    ensures depth { IfOk result (λ x. x.depth ≡ depth (view x.tree)) }
+    ensures small { IfOk result (λ x. x.depth ≤ limit) }
+{
+    let read = linked(
+        alloc,
+        limit - 1,
+        greater,
+        left.tree,
+        left.depth,
+        link,
+        tokens,
+    )?;
+    within(limit, read)
 }
 
 /// An expression, a link, and what stands behind it.

@@ -3,8 +3,11 @@
 
 mod expr;
 mod fault;
+mod flow;
+mod item;
 mod mode;
 mod node;
 mod peek;
+mod stmt;
 
 pub use fault::{Feature, ParseFault};

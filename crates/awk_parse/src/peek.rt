@@ -349,6 +349,22 @@ pub(crate) fn after_in<'a>(tokens: &'a [Token<'a>]) -> Option<&'a [Token<'a>]>
     }
 }
 
+/// The tokens behind `;`.
+pub(crate) fn after_semicolon<'a>(tokens: &'a [Token<'a>]) -> Option<&'a [Token<'a>]>
+    ensures { MatchOption result (semicolon_at (seen tokens.now) ≡ Err SyntaxFault) (λ r. semicolon_at (seen tokens.now) ≡ Ok (seen r.now)) }
+{
+    match tokens {
+        [
+            Token {
+                kind: TokenKind::Punctuator(Punctuator::Semicolon),
+                ..
+            },
+            rest @ ..,
+        ] => Some(rest),
+        _ => None,
+    }
+}
+
 /// A name, and the tokens behind it.
 pub(crate) fn after_name<'a>(tokens: &'a [Token<'a>]) -> Option<(&'a [u8], &'a [Token<'a>])>
     ensures { MatchOption result (name_at (seen tokens.now) ≡ Err SyntaxFault) (λ n. name_at (seen tokens.now) ≡ Ok (n.0.now, seen n.1.now)) }

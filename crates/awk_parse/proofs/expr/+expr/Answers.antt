@@ -1,11 +1,12 @@
-use Rattle.std.proofs.Common.{◌≡◌, ℕ, ◌+◌, ◌-◌, ◌<◌, List, length, Some, Ok, true, false, refl, sym, ap, ◌∙◌, arith}
+use Rattle.std.proofs.Common.{◌≡◌, ℕ, ◌+◌, ◌-◌, ◌<◌, List, [], ◌∷◌, ◌++◌, length, Some, Ok, true, false, refl, sym, ap, subst, ◌∙◌, arith}
 use Rattle.std.proofs.lemmas.Result.{err_from_is_err_and}
-use Rattle.awk_tree.specs.Tree.{Tree, Trees, NoTree, Then, Whole, depths}
-use Rattle.awk_tree.specs.Reading.{comma_at, stops, more_at, expr_at}
+use Rattle.awk_tree.specs.Tree.{Tree, Trees, NoTree, Then, Whole, depths, fits}
+use Rattle.awk_tree.specs.Reading.{comma_at, stops, more_at, climb, expr_at}
 use Rattle.awk_tree.specs.View.{view, views}
+use Rattle.awk_tree.specs.declared.tree.Expr.{Expr}
 use Rattle.awk_parse.specs.Operands.{extended_at}
-use Rattle.awk_parse.specs.Seen.{seen, view_link}
-use Rattle.awk_parse.proofs.Binds.{seen_length, followed_by, with_front, views_push, front_next, front_none, depths_push, more_none, more_next, climb_goes, fails_bind, fails_is}
+use Rattle.awk_parse.specs.Seen.{seen, seen_tree, view_mode, view_link, Gives}
+use Rattle.awk_parse.proofs.Binds.{seen_length, followed_by, with_front, views_push, front_next, front_none, depths_push, more_none, more_next, more_done, climb_goes, fails_bind, fails_is, gives_is, expr_unfit, expr_deep, expr_goes}
 use Rattle.awk_parse.proofs.expr.+expr.Goals as goal
 
 pub chain-loop-init : goal.chain-loop-init
@@ -36,7 +37,7 @@ chain-loop-preserved t c =
 pub list-loop-init : goal.list-loop-init
 list-loop-init t c =
     let first : expr_at c.args.limit c.args.greater Whole (seen c.args.tokens.now) ≡ Ok (view c.in_ok-first.first.tree, seen c.in_ok-first.first.rest.now) = c.in_ok-first.ensures.tree in
-    let items : views c.push.new.self.items ≡ Then (view c.in_ok-first.first.tree) NoTree = ap views c.in_ok-push.ensures.items in
+    let items : views c.push.new.self.items ≡ Then (view c.in_ok-first.first.tree) NoTree = ap views (c.in_ok-push.ensures.items ∙ ap (λ (es : List Expr). es ++ (c.in_ok-first.first.tree ∷ [])) c.new-trees.ensures.items) in
     let turns : length c.in_ok-first.first.rest.now - 0 ≡ length (seen c.in_ok-first.first.rest.now) = omega (arith, seen_length c.in_ok-first.first.rest.now) in
     record {
       same = rw (items, turns, first) refl;
@@ -58,12 +59,36 @@ list-returns-in_err-next-clause-trees t c =
 pub list-loop-preserved : goal.list-loop-preserved
 list-loop-preserved t c =
     let next = c.in_ok-next.next in
-    let items : views c.push-in-Some.new.self.items ≡ followed_by (views c.loop.trees.items) (Then (view next.tree) NoTree) = ap views c.in_ok-push-in-Some.ensures.items ∙ views_push c.loop.trees.items next.tree in
+    let items : views c.push-in-loop.new.self.items ≡ followed_by (views c.loop.trees.items) (Then (view next.tree) NoTree) = ap views c.in_ok-push-2.ensures.items ∙ views_push c.loop.trees.items next.tree in
     record {
       same = rw items (front_next (expr_at c.args.limit) c.args.greater c.loop.counter (length c.in_ok-first.first.rest.now) (views c.loop.trees.items) (seen c.loop.rest.now) (seen c.in-Some.behind.now) (seen next.rest.now) (view next.tree) c.loop-test.true c.in-Some.ensures c.in_ok-next.ensures.tree ∙ c.loop.invariant.same);
-      depth = rw items (omega (arith, depths_push (views c.loop.trees.items) (view next.tree), c.in_ok-next.ensures.depth, c.loop.invariant.depth));
-      small = omega (arith, c.in_ok-next.ensures.small, c.loop.invariant.small);
+      depth = rw items (omega (arith, c.max-depth.ensures, depths_push (views c.loop.trees.items) (view next.tree), c.in_ok-next.ensures.depth, c.loop.invariant.depth));
+      small = omega (arith, c.max-depth.ensures, c.in_ok-next.ensures.small, c.loop.invariant.small);
     }
 
 pub list-returns-clause-trees : goal.list-returns-clause-trees
-list-returns-clause-trees t c = ?
+list-returns-clause-trees t c =
+    sym c.loop.invariant.same ∙ ap (with_front (views c.loop.trees.items)) (more_done (expr_at c.args.limit) c.args.greater (length c.in_ok-first.first.rest.now - c.loop.counter) (seen c.loop.rest.now) (omega (arith, c.loop-test.false)))
+    ∙ ap (λ (u : Trees). Ok (u, seen c.loop.rest.now)) (front_none (views c.loop.trees.items))
+
+pub expression-returns-clause-tree : goal.expression-returns-clause-tree
+expression-returns-clause-tree t c =
+    let mode = view_mode c.args.mode in
+    let some : 0 < c.args.limit = omega arith in
+    let last = c.in_ok-first-2.first in
+    let fit : fits mode (view c.in_ok-first.first.tree) ≡ true = sym c.fits.ensures ∙ c.if-not-fits.false in
+    let goes = expr_goes c.args.limit c.args.greater mode (seen c.args.tokens.now) (seen_tree c.in_ok-bare.bare) (seen_tree c.in_ok-first.first) (seen_tree last) some c.in_ok-bare.ensures.tree c.in_ok-first.ensures.tree fit c.in_ok-first-2.ensures.tree in
+    gives_is seen_tree c.chain.result _ _ goes (subst (λ (n : ℕ). Gives seen_tree c.chain.result (climb (expr_at (c.args.limit - 1)) c.args.greater c.args.limit (length (seen last.rest.now)) n (view last.tree) (seen last.rest.now))) c.floor.ensures c.chain.ensures.tree)
+
+pub expression-returns-then-not-fits-clause-tree : goal.expression-returns-then-not-fits-clause-tree
+expression-returns-then-not-fits-clause-tree t c =
+    let some : 0 < c.args.limit = omega arith in
+    rw c.stopped.ensures (expr_unfit c.args.limit c.args.greater (view_mode c.args.mode) (seen c.args.tokens.now) (seen_tree c.in_ok-bare.bare) (seen_tree c.in_ok-first.first) some c.in_ok-bare.ensures.tree c.in_ok-first.ensures.tree (sym c.fits.ensures ∙ c.if-not-fits.true))
+
+pub expression-returns-in_err-first-2-clause-tree : goal.expression-returns-in_err-first-2-clause-tree
+expression-returns-in_err-first-2-clause-tree t c =
+    let mode = view_mode c.args.mode in
+    let some : 0 < c.args.limit = omega arith in
+    let p = err_from_is_err_and c.from_residual-in_err-first-2.result c.from_residual-in_err-first-2.ensures.1 in
+    let fit : fits mode (view c.in_ok-first.first.tree) ≡ true = sym c.fits.ensures ∙ c.if-not-fits.false in
+    rw (p.1, p.2) (expr_deep c.in_err-first-2.field-0.0 c.args.limit c.args.greater mode (seen c.args.tokens.now) (seen_tree c.in_ok-bare.bare) (seen_tree c.in_ok-first.first) some c.in_ok-bare.ensures.tree c.in_ok-first.ensures.tree fit c.in_err-first-2.ensures.tree)

@@ -1,0 +1,199 @@
+//! Items and scripts.
+
+ghost use Rattle.std.specs.Prelude.{◌≡◌, ◌∷◌, [], true, length, map};
+ghost use Rattle.awk_tokens.specs.Views.{spelled};
+ghost use Rattle.awk_tree.specs.Lexeme.{spoken_after};
+ghost use Rattle.awk_tree.specs.ReadItem.{body_at, names_at, params_at, function_at, function_by, pattern_at, action_at, rule_at, item_at, script_at};
+ghost use Rattle.awk_tree.specs.ViewStmt.{view_stmts, view_names, view_pattern, view_item, view_items};
+ghost use Rattle.awk_parse.specs.Seen.{seen, Gives};
+ghost use Rattle.awk_parse.specs.Names.{with_names};
+
+use crate::expr::expression;
+use crate::fault::Refusal;
+use crate::flow::statements;
+use crate::mode::Mode;
+use crate::peek::{after_comma, after_name, after_semicolon, close, name, open, stopped};
+use awk_tokens::{Keyword, Punctuator, Token, TokenKind};
+use awk_tree::{Item, Pattern, Stmt};
+use std::alloc::Global;
+
+/// The greatest depth of a script.
+pub(crate) const LIMIT: u32 = 1000;
+
+/// Statements in braces.
+#[tactic(auto, using(crate::proofs::Binds::fails_bind))]
+fn body<'a>(alloc: Global, tokens: &'a [Token<'a>]) -> Result<(Vec<Stmt>, &'a [Token<'a>]), Refusal>
+    ensures { Gives (λ x. (view_stmts x.0.items, seen x.1.now)) result (body_at 1000 (seen tokens.now)) }
+{
+    match tokens {
+        [
+            Token {
+                kind: TokenKind::Punctuator(Punctuator::OpenBrace),
+                ..
+            },
+            rest @ ..,
+        ] => statements(alloc, LIMIT, rest),
+        _ => Err(stopped(tokens)),
+    }
+}
+
+/// The parameters behind the first, each behind a comma.
+fn names<'a>(
+    alloc: Global,
+    first: &[u8],
+    tokens: &'a [Token<'a>],
+) -> Result<(Vec<Vec<u8>>, &'a [Token<'a>]), Refusal>
+    ensures { Gives (λ x. (view_names x.0.items, seen x.1.now)) result (with_names (first.now ∷ []) (names_at (length (seen tokens.now)) (seen tokens.now))) }
+{
+    let mut found = Vec::new(alloc);
+    found.push(first.to_vec(alloc)?)?;
+    let mut rest = tokens;
+    let turns = tokens.len();
+    for _ in 0..turns {
+        let Some(behind) = after_comma(rest) else {
+            return Ok((found, rest));
+        };
+        let (next, behind) = name(alloc, behind)?;
+        found.push(next)?;
+        rest = behind;
+    }
+    Ok((found, rest))
+}
+
+/// The parameters of a function.
+#[tactic(auto, using(crate::proofs::Names::params_named, crate::proofs::Names::params_none))]
+fn params<'a>(
+    alloc: Global,
+    tokens: &'a [Token<'a>],
+) -> Result<(Vec<Vec<u8>>, &'a [Token<'a>]), Refusal>
+    ensures { Gives (λ x. (view_names x.0.items, seen x.1.now)) result (params_at (seen tokens.now)) }
+{
+    match after_name(tokens) {
+        Some((first, behind)) => names(alloc, first, behind),
+        None => Ok((Vec::new(alloc), tokens)),
+    }
+}
+
+/// What stands behind the name of a function.
+#[tactic(auto, using(crate::proofs::Binds::fails_bind))]
+fn function<'a>(
+    alloc: Global,
+    text: &[u8],
+    tokens: &'a [Token<'a>],
+) -> Result<(Item, &'a [Token<'a>]), Refusal>
+    ensures { Gives (λ x. (view_item x.0, seen x.1.now)) result (function_by 1000 text.now (seen tokens.now)) }
+{
+    let behind = open(tokens)?;
+    let (parameters, behind) = params(alloc, behind)?;
+    let behind = close(behind)?;
+    let (statements, rest) = body(alloc, behind)?;
+    let called = text.to_vec(alloc)?;
+    Ok((Item::Function(called, parameters, statements), rest))
+}
+
+/// What stands behind `function`, where a name may also be one directly before `(`.
+fn named_function<'a>(
+    alloc: Global,
+    tokens: &'a [Token<'a>],
+) -> Result<(Item, &'a [Token<'a>]), Refusal>
+    ensures { Gives (λ x. (view_item x.0, seen x.1.now)) result (function_at 1000 (spoken_after true (map spelled tokens.now))) }
+{
+    match tokens {
+        [
+            Token {
+                kind: TokenKind::Name | TokenKind::FuncName,
+                text,
+                ..
+            },
+            rest @ ..,
+        ] => function(alloc, text, rest),
+        _ => Err(stopped(tokens)),
+    }
+}
+
+/// A pattern.
+#[tactic(auto, using(crate::proofs::Binds::fails_bind))]
+fn pattern<'a>(
+    alloc: Global,
+    tokens: &'a [Token<'a>],
+) -> Result<(Pattern, &'a [Token<'a>]), Refusal>
+    ensures { Gives (λ x. (view_pattern x.0, seen x.1.now)) result (pattern_at 1000 (seen tokens.now)) }
+{
+    let first = expression(alloc, LIMIT, true, Mode::Whole, tokens)?;
+    let Some(behind) = after_comma(first.rest) else {
+        return Ok((Pattern::One(first.tree), first.rest));
+    };
+    let last = expression(alloc, LIMIT, true, Mode::Whole, behind)?;
+    Ok((Pattern::Range(first.tree, last.tree), last.rest))
+}
+
+/// A pattern, and its action or a `;`.
+#[tactic(auto, using(crate::proofs::Binds::fails_bind))]
+fn rule<'a>(alloc: Global, tokens: &'a [Token<'a>]) -> Result<(Item, &'a [Token<'a>]), Refusal>
+    ensures { Gives (λ x. (view_item x.0, seen x.1.now)) result (rule_at 1000 (seen tokens.now)) }
+{
+    let (condition, behind) = pattern(alloc, tokens)?;
+    action(alloc, condition, behind)
+}
+
+#[tactic(auto, using(crate::proofs::Binds::fails_bind))]
+fn action<'a>(
+    alloc: Global,
+    condition: Pattern,
+    tokens: &'a [Token<'a>],
+) -> Result<(Item, &'a [Token<'a>]), Refusal>
+    ensures { Gives (λ x. (view_item x.0, seen x.1.now)) result (action_at 1000 (view_pattern condition) (seen tokens.now)) }
+{
+    match after_semicolon(tokens) {
+        Some(rest) => Ok((Item::PatternOnly(condition), rest)),
+        None => {
+            let (statements, rest) = body(alloc, tokens)?;
+            Ok((Item::Rule(condition, statements), rest))
+        }
+    }
+}
+
+/// An item.
+#[tactic(auto, using(crate::proofs::Binds::fails_bind))]
+fn item<'a>(alloc: Global, tokens: &'a [Token<'a>]) -> Result<(Item, &'a [Token<'a>]), Refusal>
+    ensures { Gives (λ x. (view_item x.0, seen x.1.now)) result (item_at 1000 (seen tokens.now)) }
+{
+    let [first, rest @ ..] = tokens else {
+        return rule(alloc, tokens);
+    };
+    match first.kind {
+        TokenKind::Keyword(Keyword::Function) => named_function(alloc, rest),
+        TokenKind::Keyword(Keyword::Begin) => {
+            let (statements, rest) = body(alloc, rest)?;
+            Ok((Item::Begin(statements), rest))
+        }
+        TokenKind::Keyword(Keyword::End) => {
+            let (statements, rest) = body(alloc, rest)?;
+            Ok((Item::End(statements), rest))
+        }
+        TokenKind::Punctuator(Punctuator::OpenBrace) => {
+            let (statements, rest) = body(alloc, tokens)?;
+            Ok((Item::Action(statements), rest))
+        }
+        TokenKind::Punctuator(Punctuator::Semicolon) => Ok((Item::Empty, rest)),
+        _ => rule(alloc, tokens),
+    }
+}
+
+/// The items of a script.
+pub(crate) fn items<'a>(alloc: Global, tokens: &'a [Token<'a>]) -> Result<Vec<Item>, Refusal>
+    ensures { Gives (λ x. view_items x.items) result (script_at 1000 (seen tokens.now)) }
+{
+    let mut found = Vec::new(alloc);
+    let mut rest = tokens;
+    let turns = tokens.len() + 1;
+    for _ in 0..turns {
+        if rest.is_empty() {
+            return Ok(found);
+        }
+        let (next, behind) = item(alloc, rest)?;
+        found.push(next)?;
+        rest = behind;
+    }
+    Err(stopped(rest))
+}
