@@ -1,15 +1,15 @@
 -- Reading statements in a loop.
 use Rattle.std.proofs.Common.{◌≡◌, ℕ, zero, suc, ◌+◌, ◌-◌, ◌<◌, Option, Some, None, List, [], ◌∷◌, ◌++◌, Result, Ok, Err, refl, sym, ap, ◌∙◌, arith}
-use Rattle.awk_tree.specs.Token.{Token, Fault}
-use Rattle.awk_tree.specs.Reading.{◌>>=◌}
+use Rattle.awk_tree.specs.Token.{Token, Fault, Syntax, TooDeep}
+use Rattle.awk_tree.specs.Reading.{◌>>=◌, expr_at}
 use Rattle.awk_tree.specs.Stmt.{Stmts, NoStmt, And, Stmt as PlainStmt}
-use Rattle.awk_tree.specs.ReadStmt.{Read, StmtReader, brace_at, stmts_at}
+use Rattle.awk_tree.specs.ReadStmt.{Read, StmtReader, brace_at, stmts_at, one_at, stmt_at}
+use Rattle.awk_parse.specs.declared.fault.Refusal.{Refusal}
+use Rattle.awk_parse.specs.Seen.{Gives}
+use Rattle.awk_parse.specs.Bodies.{stmts_then, with_one}
+use Rattle.awk_parse.proofs.Binds.{gives_is}
 use Rattle.awk_tree.specs.ViewStmt.{view_stmt, view_stmts}
 use Rattle.awk_tree.specs.declared.tree.Stmt.{Stmt}
-
-abbrev pub stmts_then : Stmts → Stmts → Stmts
-stmts_then NoStmt us = us
-stmts_then (And s ss) us = And s (stmts_then ss us)
 
 pub stmts_push : (ss : List Stmt) (s : Stmt) → view_stmts (ss ++ (s ∷ [])) ≡ stmts_then (view_stmts ss) (And (view_stmt s) NoStmt)
 stmts_push [] s = refl
@@ -22,6 +22,10 @@ then-assoc (And s a) b c = ap (And s) (then-assoc a b c)
 -- what was read before, and what is still read
 abbrev pub with_stmts : Stmts → Read Stmts → Read Stmts
 with_stmts front read = read >>= λ y. Ok (stmts_then front y.0, y.1)
+
+pub stmts_start : (read : Read Stmts) → with_stmts NoStmt read ≡ read
+stmts_start (Ok y) = refl
+stmts_start (Err f) = refl
 
 stmts_step : (front : Stmts) (s : PlainStmt) (read : Read Stmts) → with_stmts front (read >>= λ y. Ok (And s y.0, y.1)) ≡ with_stmts (stmts_then front (And s NoStmt)) read
 stmts_step front s (Ok y) = ap (λ (u : Stmts). Ok (u, y.1)) (sym (then-assoc front (And s NoStmt) y.0))
@@ -36,11 +40,31 @@ stmts_end stmt i n ts rest lt e =
     let m : n - i ≡ suc (n - (i + 1)) = omega arith in
     rw (m, e) refl
 
-pub stmts_next : (stmt : StmtReader) (i n : ℕ) (ts : List Token) (r : Read PlainStmt) → i < n → brace_at ts ≡ None → stmt ts ≡ r → stmts_at stmt (n - i) ts ≡ (r >>= λ x. stmts_at stmt (n - (i + 1)) x.1 >>= λ y. Ok (And x.0 y.0, y.1))
-stmts_next stmt i n ts r lt e q =
-    let m : n - i ≡ suc (n - (i + 1)) = omega arith in
-    rw (m, e, q) refl
-
 -- one statement more
-pub stmts_more : (stmt : StmtReader) (i n : ℕ) (front : Stmts) (ts rest : List Token) (s : PlainStmt) → i < n → brace_at ts ≡ None → stmt ts ≡ Ok (s, rest) → with_stmts (stmts_then front (And s NoStmt)) (stmts_at stmt (n - (i + 1)) rest) ≡ with_stmts front (stmts_at stmt (n - i) ts)
-stmts_more stmt i n front ts rest s lt e q = rw (stmts_next stmt i n ts (Ok (s, rest)) lt e q) (sym (stmts_step front s (stmts_at stmt (n - (i + 1)) rest)))
+pub stmts_more : (stmt : StmtReader) (i n : ℕ) (front : Stmts) (ts : List Token) → i < n → brace_at ts ≡ None → with_stmts front (stmts_at stmt (n - i) ts) ≡ (with_one stmt front ts >>= λ y. with_stmts y.0 (stmts_at stmt (n - (i + 1)) y.1))
+stmts_more stmt i n front ts lt e =
+    let m : n - i ≡ suc (n - (i + 1)) = omega arith in
+    rw (m, e) (by (stmt ts))
+  where
+    ahead : PlainStmt × List Token → Read Stmts
+    ahead x = Ok (stmts_then front (And x.0 NoStmt), x.1)
+    by : (r : Read PlainStmt) → with_stmts front (r >>= λ x. stmts_at stmt (n - (i + 1)) x.1 >>= λ y. Ok (And x.0 y.0, y.1)) ≡ (r >>= ahead >>= λ y. with_stmts y.0 (stmts_at stmt (n - (i + 1)) y.1))
+    by (Ok x) = stmts_step front x.0 (stmts_at stmt (n - (i + 1)) x.1)
+    by (Err f) = refl
+
+pub stmts_done : (stmt : StmtReader) (w : ℕ) (ts : List Token) → w ≡ 0 → stmts_at stmt w ts ≡ Err Syntax
+stmts_done stmt w ts e = rw e refl
+
+-- ---- one statement
+
+pub stmt_none : (limit : ℕ) (ts : List Token) → limit ≡ 0 → stmt_at limit ts ≡ Err TooDeep
+unfolding stmt_at
+stmt_none limit ts e = rw e refl
+
+stmt_some : (limit : ℕ) (ts : List Token) → 0 < limit → stmt_at limit ts ≡ one_at (expr_at (limit - 1)) (stmt_at (limit - 1)) ts
+unfolding stmt_at
+stmt_some zero ts h = absurd (omega arith)
+stmt_some (suc d) ts h = let e : suc d - 1 ≡ d = omega arith in rw e refl
+
+pub stmt_gives : {X : Type 0} (f : X → PlainStmt × List Token) (x : Result X Refusal) (limit : ℕ) (ts : List Token) → 0 < limit → Gives f x (one_at (expr_at (limit - 1)) (stmt_at (limit - 1)) ts) → Gives f x (stmt_at limit ts)
+stmt_gives f x limit ts h g = gives_is f x _ _ (stmt_some limit ts h) g

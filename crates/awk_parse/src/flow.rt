@@ -5,6 +5,7 @@ ghost use Rattle.awk_tree.specs.Reading.{expr_at};
 ghost use Rattle.awk_tree.specs.ReadStmt.{stmts_at, if_at, loop_at, do_at, for_at, for_by, leave_at, jump_at, simple_at, block_at, one_at, stmt_at};
 ghost use Rattle.awk_tree.specs.ViewStmt.{view_stmt, view_stmts, view_jump, view_leaving};
 ghost use Rattle.awk_parse.specs.Seen.{seen, Gives};
+ghost use Rattle.awk_parse.specs.Bodies.{seen_body, with_one};
 
 use crate::fault::Refusal;
 use crate::node::block_of;
@@ -18,6 +19,7 @@ use std::alloc::Global;
 
 /// A statement of at most this depth.
 #[cycle(flow)]
+#[tactic(auto, using(crate::proofs::Blocks::stmt_none, crate::proofs::Blocks::stmt_gives))]
 pub(crate) fn statement<'a>(
     alloc: Global,
     limit: u32,
@@ -29,23 +31,43 @@ pub(crate) fn statement<'a>(
     if limit == 0 {
         return Err(Refusal::TooDeep(line_of(tokens)));
     }
+    one(alloc, limit - 1, tokens)
+}
+
+/// A statement whose parts are of at most this depth.
+#[cycle(flow)]
+fn one<'a>(
+    alloc: Global,
+    limit: u32,
+    tokens: &'a [Token<'a>],
+) -> Result<(Stmt, &'a [Token<'a>]), Refusal>
+    requires room { limit < 4294967295 }
+    ensures { Gives (λ x. (view_stmt x.0, seen x.1.now)) result (one_at (expr_at limit) (stmt_at limit) (seen tokens.now)) }
+{
     let [first, rest @ ..] = tokens else {
-        return simple_statement(alloc, limit - 1, tokens);
+        return simple_statement(alloc, limit, tokens);
     };
     match first.kind {
-        TokenKind::Punctuator(Punctuator::OpenBrace) => block(alloc, limit - 1, rest),
+        TokenKind::Punctuator(Punctuator::OpenBrace) => block(alloc, limit, rest),
         TokenKind::Punctuator(Punctuator::Semicolon) => Ok((Stmt::Empty, rest)),
-        TokenKind::Keyword(Keyword::If) => if_statement(alloc, limit - 1, rest),
-        TokenKind::Keyword(Keyword::While) => while_loop(alloc, limit - 1, rest),
-        TokenKind::Keyword(Keyword::Do) => do_loop(alloc, limit - 1, rest),
-        TokenKind::Keyword(Keyword::For) => for_loop(alloc, limit - 1, rest),
+        TokenKind::Keyword(Keyword::If) => if_statement(alloc, limit, rest),
+        TokenKind::Keyword(Keyword::While) => while_loop(alloc, limit, rest),
+        TokenKind::Keyword(Keyword::Do) => do_loop(alloc, limit, rest),
+        TokenKind::Keyword(Keyword::For) => for_loop(alloc, limit, rest),
         TokenKind::Keyword(Keyword::Break) => jump(Jump::Break, rest),
         TokenKind::Keyword(Keyword::Continue) => jump(Jump::Continue, rest),
         TokenKind::Keyword(Keyword::Next) => jump(Jump::Next, rest),
-        TokenKind::Keyword(Keyword::Exit) => leave(alloc, limit - 1, Leaving::Exit, rest),
-        TokenKind::Keyword(Keyword::Return) => leave(alloc, limit - 1, Leaving::Return, rest),
-        _ => simple_statement(alloc, limit - 1, tokens),
+        TokenKind::Keyword(Keyword::Exit) => leave(alloc, limit, Leaving::Exit, rest),
+        TokenKind::Keyword(Keyword::Return) => leave(alloc, limit, Leaving::Return, rest),
+        _ => simple_statement(alloc, limit, tokens),
     }
+}
+
+/// Statements that were read, and the tokens behind them.
+#[derive(Drop)]
+pub(crate) struct Body<'a> {
+    pub(crate) statements: Vec<Stmt>,
+    pub(crate) rest: &'a [Token<'a>],
 }
 
 /// Statements and the brace that closes them.
@@ -54,22 +76,37 @@ pub(crate) fn statements<'a>(
     alloc: Global,
     limit: u32,
     tokens: &'a [Token<'a>],
-) -> Result<(Vec<Stmt>, &'a [Token<'a>]), Refusal>
+) -> Result<Body<'a>, Refusal>
     requires room { limit < 4294967295 }
-    ensures { Gives (λ x. (view_stmts x.0.items, seen x.1.now)) result (stmts_at (stmt_at limit) (length (seen tokens.now)) (seen tokens.now)) }
+    ensures { Gives seen_body result (stmts_at (stmt_at limit) (length (seen tokens.now)) (seen tokens.now)) }
 {
-    let mut body = Vec::new(alloc);
-    let mut rest = tokens;
     let turns = tokens.len();
+    let mut read = Body {
+        statements: Vec::new(alloc),
+        rest: tokens,
+    };
     for _ in 0..turns {
-        if let Some(behind) = after_brace(rest) {
-            return Ok((body, behind));
+        if let Some(rest) = after_brace(read.rest) {
+            return Ok(Body {
+                statements: read.statements,
+                rest,
+            });
         }
-        let (next, behind) = statement(alloc, limit, rest)?;
-        body.push(next)?;
-        rest = behind;
+        read = with_statement(alloc, limit, read)?;
     }
-    Err(stopped(rest))
+    Err(stopped(read.rest))
+}
+
+/// Statements and one more.
+#[cycle(flow)]
+fn with_statement<'a>(alloc: Global, limit: u32, front: Body<'a>) -> Result<Body<'a>, Refusal>
+    requires room { limit < 4294967295 }
+    ensures { Gives seen_body result (with_one (stmt_at limit) (view_stmts front.entry.statements.items) (seen front.entry.rest.now)) }
+{
+    let (next, rest) = statement(alloc, limit, front.rest)?;
+    let mut statements = front.statements;
+    statements.push(next)?;
+    Ok(Body { statements, rest })
 }
 
 #[cycle(flow)]
@@ -82,8 +119,8 @@ fn block<'a>(
     requires room { limit < 4294967295 }
     ensures { Gives (λ x. (view_stmt x.0, seen x.1.now)) result (block_at (stmt_at limit) (seen tokens.now)) }
 {
-    let (body, rest) = statements(alloc, limit, tokens)?;
-    Ok((block_of(body), rest))
+    let body = statements(alloc, limit, tokens)?;
+    Ok((block_of(body.statements), body.rest))
 }
 
 /// What stands behind `if`.

@@ -4,17 +4,18 @@ ghost use Rattle.std.specs.Prelude.{◌≡◌, ◌∷◌, [], true, length, map}
 ghost use Rattle.awk_tokens.specs.Views.{spelled};
 ghost use Rattle.awk_tree.specs.Lexeme.{spoken_after};
 ghost use Rattle.awk_tree.specs.ReadItem.{body_at, names_at, params_at, function_at, function_by, pattern_at, action_at, rule_at, item_at, script_at};
-ghost use Rattle.awk_tree.specs.ViewStmt.{view_stmts, view_names, view_pattern, view_item, view_items};
+ghost use Rattle.awk_tree.specs.ViewStmt.{view_names, view_pattern, view_item, view_items};
 ghost use Rattle.awk_parse.specs.Seen.{seen, Gives};
+ghost use Rattle.awk_parse.specs.Bodies.{seen_body};
 ghost use Rattle.awk_parse.specs.Names.{with_names};
 
 use crate::expr::expression;
 use crate::fault::Refusal;
-use crate::flow::statements;
+use crate::flow::{Body, statements};
 use crate::mode::Mode;
 use crate::peek::{after_comma, after_name, after_semicolon, close, name, open, stopped};
 use awk_tokens::{Keyword, Punctuator, Token, TokenKind};
-use awk_tree::{Item, Pattern, Stmt};
+use awk_tree::{Item, Pattern};
 use std::alloc::Global;
 
 /// The greatest depth of a script.
@@ -22,8 +23,8 @@ pub(crate) const LIMIT: u32 = 1000;
 
 /// Statements in braces.
 #[tactic(auto, using(crate::proofs::Binds::fails_bind))]
-fn body<'a>(alloc: Global, tokens: &'a [Token<'a>]) -> Result<(Vec<Stmt>, &'a [Token<'a>]), Refusal>
-    ensures { Gives (λ x. (view_stmts x.0.items, seen x.1.now)) result (body_at 1000 (seen tokens.now)) }
+fn body<'a>(alloc: Global, tokens: &'a [Token<'a>]) -> Result<Body<'a>, Refusal>
+    ensures { Gives seen_body result (body_at 1000 (seen tokens.now)) }
 {
     match tokens {
         [
@@ -86,9 +87,12 @@ fn function<'a>(
     let behind = open(tokens)?;
     let (parameters, behind) = params(alloc, behind)?;
     let behind = close(behind)?;
-    let (statements, rest) = body(alloc, behind)?;
+    let action = body(alloc, behind)?;
     let called = text.to_vec(alloc)?;
-    Ok((Item::Function(called, parameters, statements), rest))
+    Ok((
+        Item::Function(called, parameters, action.statements),
+        action.rest,
+    ))
 }
 
 /// What stands behind `function`, where a name may also be one directly before `(`.
@@ -147,8 +151,8 @@ fn action<'a>(
     match after_semicolon(tokens) {
         Some(rest) => Ok((Item::PatternOnly(condition), rest)),
         None => {
-            let (statements, rest) = body(alloc, tokens)?;
-            Ok((Item::Rule(condition, statements), rest))
+            let action = body(alloc, tokens)?;
+            Ok((Item::Rule(condition, action.statements), action.rest))
         }
     }
 }
@@ -164,16 +168,16 @@ fn item<'a>(alloc: Global, tokens: &'a [Token<'a>]) -> Result<(Item, &'a [Token<
     match first.kind {
         TokenKind::Keyword(Keyword::Function) => named_function(alloc, rest),
         TokenKind::Keyword(Keyword::Begin) => {
-            let (statements, rest) = body(alloc, rest)?;
-            Ok((Item::Begin(statements), rest))
+            let action = body(alloc, rest)?;
+            Ok((Item::Begin(action.statements), action.rest))
         }
         TokenKind::Keyword(Keyword::End) => {
-            let (statements, rest) = body(alloc, rest)?;
-            Ok((Item::End(statements), rest))
+            let action = body(alloc, rest)?;
+            Ok((Item::End(action.statements), action.rest))
         }
         TokenKind::Punctuator(Punctuator::OpenBrace) => {
-            let (statements, rest) = body(alloc, tokens)?;
-            Ok((Item::Action(statements), rest))
+            let action = body(alloc, tokens)?;
+            Ok((Item::Action(action.statements), action.rest))
         }
         TokenKind::Punctuator(Punctuator::Semicolon) => Ok((Item::Empty, rest)),
         _ => rule(alloc, tokens),

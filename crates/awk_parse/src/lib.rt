@@ -8,6 +8,10 @@ mod item;
 mod mode;
 mod node;
 mod peek;
+mod placed;
+mod scan;
+mod script;
 mod stmt;
 
 pub use fault::{Feature, ParseFault};
+pub use script::parse;

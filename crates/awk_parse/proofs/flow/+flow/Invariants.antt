@@ -9,10 +9,10 @@ abbrev pub decreases-statement : goal.decreases-statement
 decreases-statement l = 8 * l.limit
 
 abbrev pub decreases-statements : goal.decreases-statements
-decreases-statements l = 8 * l.limit + 1
+decreases-statements l = 8 * l.limit + 2
 
 abbrev pub decreases-block : goal.decreases-block
-decreases-block l = 8 * l.limit + 2
+decreases-block l = 8 * l.limit + 3
 
 abbrev pub decreases-if_statement : goal.decreases-if_statement
 decreases-if_statement l = 8 * l.limit + 1
@@ -30,4 +30,10 @@ abbrev pub decreases-counted_loop : goal.decreases-counted_loop
 decreases-counted_loop l = 8 * l.limit + 1
 
 abbrev pub invariant-statements-loop : goal.invariant-statements-loop
-invariant-statements-loop l = with_stmts (view_stmts l.body.items) (stmts_at (stmt_at l.limit) (l.turns - l.counter) (seen l.rest)) ≡ stmts_at (stmt_at l.limit) (length (seen l.tokens)) (seen l.tokens)
+invariant-statements-loop l = with_stmts (view_stmts l.read.statements.items) (stmts_at (stmt_at l.limit) (l.turns - l.counter) (seen l.read.rest.now)) ≡ stmts_at (stmt_at l.limit) (length (seen l.tokens)) (seen l.tokens)
+
+abbrev pub decreases-one : goal.decreases-one
+decreases-one l = 8 * l.limit + 4
+
+abbrev pub decreases-with_statement : goal.decreases-with_statement
+decreases-with_statement l = 8 * l.limit + 1

@@ -1,0 +1,56 @@
+//! Scripts from tokens.
+
+ghost use Rattle.std.specs.Prelude.{◌≡◌, IfOk, IfErr, MatchResult, List, map};
+ghost use Rattle.awk_tokens.specs.Views.{spelled};
+ghost use Rattle.awk_tree.specs.Item.{Item};
+ghost use Rattle.awk_tree.specs.ReadItem.{script_at};
+ghost use Rattle.awk_tree.specs.ViewStmt.{view_script};
+ghost use Rattle.awk_parse.specs.Seen.{seen, Gives};
+ghost use Rattle.awk_parse.specs.Parsing.{IsParsed, IsRefused};
+ghost use Rattle.awk_parse.specs.declared.fault.ParseFault.TheVariants.{NoMemory};
+
+use crate::fault::{ParseFault, Refusal};
+use crate::item::items;
+use crate::placed::misplaced;
+use crate::scan::scan;
+use awk_tokens::Token;
+use awk_tree::Script;
+use std::alloc::Global;
+
+/// The tree of a script, jumps aside.
+fn tree(alloc: Global, tokens: &[Token<'_>]) -> Result<Script, Refusal>
+    ensures { Gives view_script result (script_at 1000 (seen tokens.now)) }
+{
+    Ok(Script {
+        items: items(alloc, tokens)?,
+    })
+}
+
+/// The one well-formed script, of depth at most 1,000, that has these tokens (POSIX.1-2017 awk, "Grammar", in the profile of this project).
+///
+/// # Errors
+///
+/// In this order: the first token, by its place, that begins something left out ([`ParseFault::LeftOut`]) or is a number that is not whole
+/// (`NotWhole`) or outside -2^53 to 2^53 (`ConstantRange`); `Syntax` where the tokens have no script at all, `TooDeep` where they have none
+/// within the depth, each with the line of the token at which reading stopped; `Misplaced`, with the line of the first `next` in `BEGIN` or
+/// `END`, `break` or `continue` outside a loop, or `return` outside a function; `NoMemory` at any point, and only where memory was refused.
+pub fn parse(alloc: Global, tokens: &[Token<'_>]) -> Result<Script, ParseFault>
+    ensures parsed { IfOk result (λ s. IsParsed (map spelled tokens.now) (view_script s)) }
+    ensures refused { IfErr result (λ e. IsRefused (map spelled tokens.now) e) }
+    ensures found { (script : List Item) → IsParsed (map spelled tokens.now) script → MatchResult result (λ s. view_script s ≡ script) (λ e. e ≡ NoMemory) }
+{
+    if let Some(fault) = scan(tokens) {
+        return Err(fault);
+    }
+    let script = match tree(alloc, tokens) {
+        Ok(script) => script,
+        Err(Refusal::Syntax(line)) => return Err(ParseFault::Syntax(line)),
+        Err(Refusal::TooDeep(line)) => return Err(ParseFault::TooDeep(line)),
+        Err(Refusal::NoMemory) => return Err(ParseFault::NoMemory),
+    };
+    match misplaced(alloc, &script, tokens) {
+        Ok(None) => Ok(script),
+        Ok(Some(line)) => Err(ParseFault::Misplaced(line)),
+        Err(_) => Err(ParseFault::NoMemory),
+    }
+}
