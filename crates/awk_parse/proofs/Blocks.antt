@@ -48,6 +48,7 @@ stmts_more stmt i n front ts lt e =
   where
     ahead : PlainStmt × List Token → Read Stmts
     ahead x = Ok (stmts_then front (And x.0 NoStmt), x.1)
+
     by : (r : Read PlainStmt) → with_stmts front (r >>= λ x. stmts_at stmt (n - (i + 1)) x.1 >>= λ y. Ok (And x.0 y.0, y.1)) ≡ (r >>= ahead >>= λ y. with_stmts y.0 (stmts_at stmt (n - (i + 1)) y.1))
     by (Ok x) = stmts_step front x.0 (stmts_at stmt (n - (i + 1)) x.1)
     by (Err f) = refl

@@ -4,13 +4,14 @@ use Rattle.std.proofs.lemmas.List.{append-nil}
 use Rattle.awk_tree.specs.Token.{Token, Fault, Syntax, Name}
 use Rattle.awk_tree.specs.Reading.{◌>>=◌, comma_at, name_at}
 use Rattle.awk_tree.specs.ReadStmt.{Read}
-use Rattle.awk_tree.specs.ReadItem.{names_at, params_at, item_at, items_at}
+use Rattle.awk_tree.specs.ReadItem.{names_at, params_at, item_at, items_at, script_at}
 use Rattle.awk_tree.specs.Item.{Item}
 use Rattle.awk_tree.proofs.Sound.{name_ok}
-use Rattle.awk_parse.specs.Names.{with_names}
-use Rattle.awk_parse.specs.declared.fault.Refusal.{Refusal}
-use Rattle.awk_parse.specs.Seen.{Fails}
-use Rattle.awk_parse.proofs.Binds.{fails_bind, fails_is}
+use Rattle.std.specs.declared.vec.Vec.{Vec}
+use Rattle.std.specs.declared.alloc.Global.{Global}
+use Rattle.awk_tree.specs.ViewStmt.{view_names, view_item, view_items}
+use Rattle.awk_tree.specs.declared.tree.Item.{Item as ScriptItem}
+use Rattle.awk_parse.specs.Names.{with_names, one_name, one_item}
 
 front_end : (front : List (List ℕ)) (ts : List Token) → with_names front (Ok ([], ts)) ≡ Ok (front, ts)
 front_end front ts = ap (λ (ns : List (List ℕ)). Ok (ns, ts)) (append-nil front)
@@ -22,21 +23,32 @@ names_none front (suc w) ts e = rw e (front_end front ts)
 pub names_done : (front : List (List ℕ)) (w : ℕ) (ts : List Token) → w ≡ 0 → with_names front (names_at w ts) ≡ Ok (front, ts)
 names_done front w ts e = rw e (front_end front ts)
 
-names_next : (i n : ℕ) (ts us : List Token) → i < n → comma_at ts ≡ Some us → names_at (n - i) ts ≡ (name_at us >>= λ x. names_at (n - (i + 1)) x.1 >>= λ y. Ok (x.0 ∷ y.0, y.1))
-names_next i n ts us lt e =
-    let m : n - i ≡ suc (n - (i + 1)) = omega arith in
-    rw (m, e) refl
+abbrev pub IsPair : List (List ℕ) × List Token → Read (List (List ℕ))
+IsPair x = Ok x
 
-pub names_fail : (e : Refusal) (front : List (List ℕ)) (i n : ℕ) (ts us : List Token) → i < n → comma_at ts ≡ Some us → Fails e (name_at us) → Fails e (with_names front (names_at (n - i) ts))
-names_fail e front i n ts us lt c f = fails_bind e _ _ (fails_is e _ _ (names_next i n ts us lt c) (fails_bind e _ _ f))
-
-front_step : (front : List (List ℕ)) (name : List ℕ) (read : Read (List (List ℕ))) → with_names front (read >>= λ y. Ok (name ∷ y.0, y.1)) ≡ with_names (front ++ (name ∷ [])) read
-front_step front name (Ok y) = ap (λ (ns : List (List ℕ)). Ok (ns, y.1)) (sym (append_assoc front (name ∷ []) y.0))
-front_step front name (Err f) = refl
+pub ok_pair : (x y : List (List ℕ) × List Token) → IsPair x ≡ IsPair y → x ≡ y
+ok_pair x y e = cc
 
 -- one name more
-pub names_more : (front : List (List ℕ)) (i n : ℕ) (ts us : List Token) (x : List ℕ × List Token) → i < n → comma_at ts ≡ Some us → name_at us ≡ Ok x → with_names (front ++ (x.0 ∷ [])) (names_at (n - (i + 1)) x.1) ≡ with_names front (names_at (n - i) ts)
-names_more front i n ts us x lt c q = sym (ap (with_names front) (names_next i n ts us lt c ∙ rw q refl) ∙ front_step front x.0 (names_at (n - (i + 1)) x.1))
+pub names_more : (front : List (List ℕ)) (i n : ℕ) (ts us : List Token) → i < n → comma_at ts ≡ Some us → with_names front (names_at (n - i) ts) ≡ (one_name front us >>= λ y. with_names y.0 (names_at (n - (i + 1)) y.1))
+names_more front i n ts us lt e =
+    let m : n - i ≡ suc (n - (i + 1)) = omega arith in
+    rw (m, e) (by (name_at us))
+  where
+    ahead : List ℕ × List Token → Read (List (List ℕ))
+    ahead x = Ok (front ++ (x.0 ∷ []), x.1)
+
+    step : (name : List ℕ) (read : Read (List (List ℕ))) → with_names front (read >>= λ y. Ok (name ∷ y.0, y.1)) ≡ with_names (front ++ (name ∷ [])) read
+    step name (Ok y) = ap (λ (ns : List (List ℕ)). Ok (ns, y.1)) (sym (append_assoc front (name ∷ []) y.0))
+    step name (Err f) = refl
+
+    by : (r : Result (List ℕ × List Token) Fault) → with_names front (r >>= λ x. names_at (n - (i + 1)) x.1 >>= λ y. Ok (x.0 ∷ y.0, y.1)) ≡ (r >>= ahead >>= λ y. with_names y.0 (names_at (n - (i + 1)) y.1))
+    by (Ok x) = step x.0 (names_at (n - (i + 1)) x.1)
+    by (Err f) = refl
+
+pub view_names_push : (ns : List (Vec ℕ Global)) (n : Vec ℕ Global) → view_names (ns ++ (n ∷ [])) ≡ view_names ns ++ (n.items ∷ [])
+view_names_push [] n = refl
+view_names_push (m ∷ ns) n = ap (λ (xs : List (List ℕ)). m.items ∷ xs) (view_names_push ns n)
 
 pub params_named : (ts : List Token) (x : List ℕ × List Token) → name_at ts ≡ Ok x → params_at ts ≡ with_names (x.0 ∷ []) (names_at (length x.1) x.1)
 params_named ts x e = ap params_at (name_ok ts x e)
@@ -59,22 +71,35 @@ items_end d front i n [] lt e =
     let m : n - i ≡ suc (n - (i + 1)) = omega arith in
     rw m (ap (λ (is : List Item). Ok is) (append-nil front))
 
-items_next : (d i n : ℕ) (ts : List Token) → i < n → 0 < length ts → items_at d (n - i) ts ≡ (item_at d ts >>= λ x. items_at d (n - (i + 1)) x.1 >>= λ is. Ok (x.0 ∷ is))
-items_next d i n [] lt h = absurd (omega arith)
-items_next d i n (t ∷ ts) lt h =
-    let m : n - i ≡ suc (n - (i + 1)) = omega arith in
-    rw m refl
-
-pub items_fail : (e : Refusal) (d : ℕ) (front : List Item) (i n : ℕ) (ts : List Token) → i < n → 0 < length ts → Fails e (item_at d ts) → Fails e (with_items front (items_at d (n - i) ts))
-items_fail e d front i n ts lt h f = fails_bind e _ _ (fails_is e _ _ (items_next d i n ts lt h) (fails_bind e _ _ f))
-
-items_step : (front : List Item) (item : Item) (read : Items) → with_items front (read >>= λ is. Ok (item ∷ is)) ≡ with_items (front ++ (item ∷ [])) read
-items_step front item (Ok is) = ap (λ (js : List Item). Ok js) (sym (append_assoc front (item ∷ []) is))
-items_step front item (Err f) = refl
-
 -- one item more
-pub items_more : (d : ℕ) (front : List Item) (i n : ℕ) (ts : List Token) (x : Item × List Token) → i < n → 0 < length ts → item_at d ts ≡ Ok x → with_items (front ++ (x.0 ∷ [])) (items_at d (n - (i + 1)) x.1) ≡ with_items front (items_at d (n - i) ts)
-items_more d front i n ts x lt h q = sym (ap (with_items front) (items_next d i n ts lt h ∙ rw q refl) ∙ items_step front x.0 (items_at d (n - (i + 1)) x.1))
+pub items_more : (front : List Item) (i n : ℕ) (ts : List Token) → i < n → 0 < length ts → with_items front (items_at 1000 (n - i) ts) ≡ (one_item front ts >>= λ y. with_items y.0 (items_at 1000 (n - (i + 1)) y.1))
+items_more front i n [] lt h = absurd (omega arith)
+items_more front i n (t ∷ ts) lt h =
+    let m : n - i ≡ suc (n - (i + 1)) = omega arith in
+    rw m (by (item_at 1000 (t ∷ ts)))
+  where
+    ahead : Item × List Token → Read (List Item)
+    ahead x = Ok (front ++ (x.0 ∷ []), x.1)
+
+    step : (item : Item) (read : Items) → with_items front (read >>= λ is. Ok (item ∷ is)) ≡ with_items (front ++ (item ∷ [])) read
+    step item (Ok is) = ap (λ (js : List Item). Ok js) (sym (append_assoc front (item ∷ []) is))
+    step item (Err f) = refl
+
+    by : (r : Read Item) → with_items front (r >>= λ x. items_at 1000 (n - (i + 1)) x.1 >>= λ is. Ok (x.0 ∷ is)) ≡ (r >>= ahead >>= λ y. with_items y.0 (items_at 1000 (n - (i + 1)) y.1))
+    by (Ok x) = step x.0 (items_at 1000 (n - (i + 1)) x.1)
+    by (Err f) = refl
+
+pub view_items_push : (is : List ScriptItem) (i : ScriptItem) → view_items (is ++ (i ∷ [])) ≡ view_items is ++ (view_item i ∷ [])
+view_items_push [] i = refl
+view_items_push (j ∷ is) i = ap (λ (xs : List Item). view_item j ∷ xs) (view_items_push is i)
+
+pub items_start : (read : Items) → with_items [] read ≡ read
+items_start (Ok is) = refl
+items_start (Err f) = refl
+
+pub script_is : (ts : List Token) → script_at 1000 ts ≡ items_at 1000 (length ts + 1) ts
+unfolding script_at
+script_is ts = refl
 
 pub items_done : (d : ℕ) (front : List Item) (w : ℕ) (ts : List Token) → w ≡ 0 → with_items front (items_at d w ts) ≡ Err Syntax
 items_done d front w ts e = rw e refl

@@ -1,5 +1,5 @@
 -- What the parser answers.
-use Rattle.std.specs.Prelude.{◌≡◌, ℕ, ◌≤◌, ⊥, Option, Some, None, List}
+use Rattle.std.specs.Prelude.{◌≡◌, ℕ, ◌≤◌, Option, Some, None, List}
 use Rattle.awk_tokens.specs.Cutting.{Spelled}
 use Rattle.awk_tree.specs.Item.{Item, script_depth}
 use Rattle.awk_tree.specs.TreeOf.{IsTreeOf}

@@ -1,13 +1,13 @@
 //! Items and scripts.
 
-ghost use Rattle.std.specs.Prelude.{◌≡◌, ◌∷◌, [], true, length, map};
+ghost use Rattle.std.specs.Prelude.{◌≡◌, ◌∷◌, [], Ok, true, length, map};
 ghost use Rattle.awk_tokens.specs.Views.{spelled};
 ghost use Rattle.awk_tree.specs.Lexeme.{spoken_after};
 ghost use Rattle.awk_tree.specs.ReadItem.{body_at, names_at, params_at, function_at, function_by, pattern_at, action_at, rule_at, item_at, script_at};
 ghost use Rattle.awk_tree.specs.ViewStmt.{view_names, view_pattern, view_item, view_items};
 ghost use Rattle.awk_parse.specs.Seen.{seen, Gives};
 ghost use Rattle.awk_parse.specs.Bodies.{seen_body};
-ghost use Rattle.awk_parse.specs.Names.{with_names};
+ghost use Rattle.awk_parse.specs.Names.{seen_names, with_names, one_name, seen_items, one_item};
 
 use crate::expr::expression;
 use crate::fault::Refusal;
@@ -38,40 +38,70 @@ fn body<'a>(alloc: Global, tokens: &'a [Token<'a>]) -> Result<Body<'a>, Refusal>
     }
 }
 
+/// Parameters that were read, and the tokens behind them.
+#[derive(Drop)]
+struct NamesRead<'a> {
+    names: Vec<Vec<u8>>,
+    rest: &'a [Token<'a>],
+}
+
 /// The parameters behind the first, each behind a comma.
-fn names<'a>(
+#[tactic(auto, using(crate::proofs::Names::names_none, crate::proofs::Names::names_done))]
+fn names<'a>(alloc: Global, first: &[u8], tokens: &'a [Token<'a>]) -> Result<NamesRead<'a>, Refusal>
+    ensures { Gives seen_names result (with_names (first.now ∷ []) (names_at (length (seen tokens.now)) (seen tokens.now))) }
+{
+    let turns = tokens.len();
+    let mut read = only_name(alloc, first, tokens)?;
+    for _ in 0..turns {
+        let Some(behind) = after_comma(read.rest) else {
+            return Ok(read);
+        };
+        read = with_name(alloc, read.names, behind)?;
+    }
+    Ok(read)
+}
+
+fn only_name<'a>(
     alloc: Global,
     first: &[u8],
     tokens: &'a [Token<'a>],
-) -> Result<(Vec<Vec<u8>>, &'a [Token<'a>]), Refusal>
-    ensures { Gives (λ x. (view_names x.0.items, seen x.1.now)) result (with_names (first.now ∷ []) (names_at (length (seen tokens.now)) (seen tokens.now))) }
+) -> Result<NamesRead<'a>, Refusal>
+    ensures { Gives seen_names result (Ok (first.now ∷ [], seen tokens.now)) }
 {
-    let mut found = Vec::new(alloc);
-    found.push(first.to_vec(alloc)?)?;
-    let mut rest = tokens;
-    let turns = tokens.len();
-    for _ in 0..turns {
-        let Some(behind) = after_comma(rest) else {
-            return Ok((found, rest));
-        };
-        let (next, behind) = name(alloc, behind)?;
-        found.push(next)?;
-        rest = behind;
-    }
-    Ok((found, rest))
+    let mut names = Vec::new(alloc);
+    names.push(first.to_vec(alloc)?)?;
+    Ok(NamesRead {
+        names,
+        rest: tokens,
+    })
+}
+
+/// Names and one more.
+#[tactic(auto, using(crate::proofs::Binds::fails_bind, crate::proofs::Names::view_names_push))]
+fn with_name<'a>(
+    alloc: Global,
+    front: Vec<Vec<u8>>,
+    tokens: &'a [Token<'a>],
+) -> Result<NamesRead<'a>, Refusal>
+    ensures { Gives seen_names result (one_name (view_names front.items) (seen tokens.now)) }
+{
+    let (next, rest) = name(alloc, tokens)?;
+    let mut names = front;
+    names.push(next)?;
+    Ok(NamesRead { names, rest })
 }
 
 /// The parameters of a function.
 #[tactic(auto, using(crate::proofs::Names::params_named, crate::proofs::Names::params_none))]
-fn params<'a>(
-    alloc: Global,
-    tokens: &'a [Token<'a>],
-) -> Result<(Vec<Vec<u8>>, &'a [Token<'a>]), Refusal>
-    ensures { Gives (λ x. (view_names x.0.items, seen x.1.now)) result (params_at (seen tokens.now)) }
+fn params<'a>(alloc: Global, tokens: &'a [Token<'a>]) -> Result<NamesRead<'a>, Refusal>
+    ensures { Gives seen_names result (params_at (seen tokens.now)) }
 {
     match after_name(tokens) {
         Some((first, behind)) => names(alloc, first, behind),
-        None => Ok((Vec::new(alloc), tokens)),
+        None => Ok(NamesRead {
+            names: Vec::new(alloc),
+            rest: tokens,
+        }),
     }
 }
 
@@ -85,12 +115,12 @@ fn function<'a>(
     ensures { Gives (λ x. (view_item x.0, seen x.1.now)) result (function_by 1000 text.now (seen tokens.now)) }
 {
     let behind = open(tokens)?;
-    let (parameters, behind) = params(alloc, behind)?;
-    let behind = close(behind)?;
+    let parameters = params(alloc, behind)?;
+    let behind = close(parameters.rest)?;
     let action = body(alloc, behind)?;
     let called = text.to_vec(alloc)?;
     Ok((
-        Item::Function(called, parameters, action.statements),
+        Item::Function(called, parameters.names, action.statements),
         action.rest,
     ))
 }
@@ -184,20 +214,38 @@ fn item<'a>(alloc: Global, tokens: &'a [Token<'a>]) -> Result<(Item, &'a [Token<
     }
 }
 
+/// Items that were read, and the tokens behind them.
+#[derive(Drop)]
+struct ItemsRead<'a> {
+    items: Vec<Item>,
+    rest: &'a [Token<'a>],
+}
+
+/// Items and one more.
+#[tactic(auto, using(crate::proofs::Binds::fails_bind, crate::proofs::Names::view_items_push))]
+fn with_item<'a>(alloc: Global, front: ItemsRead<'a>) -> Result<ItemsRead<'a>, Refusal>
+    ensures { Gives seen_items result (one_item (view_items front.entry.items.items) (seen front.entry.rest.now)) }
+{
+    let (next, rest) = item(alloc, front.rest)?;
+    let mut items = front.items;
+    items.push(next)?;
+    Ok(ItemsRead { items, rest })
+}
+
 /// The items of a script.
 pub(crate) fn items<'a>(alloc: Global, tokens: &'a [Token<'a>]) -> Result<Vec<Item>, Refusal>
     ensures { Gives (λ x. view_items x.items) result (script_at 1000 (seen tokens.now)) }
 {
-    let mut found = Vec::new(alloc);
-    let mut rest = tokens;
     let turns = tokens.len() + 1;
+    let mut read = ItemsRead {
+        items: Vec::new(alloc),
+        rest: tokens,
+    };
     for _ in 0..turns {
-        if rest.is_empty() {
-            return Ok(found);
+        if read.rest.is_empty() {
+            return Ok(read.items);
         }
-        let (next, behind) = item(alloc, rest)?;
-        found.push(next)?;
-        rest = behind;
+        read = with_item(alloc, read)?;
     }
-    Err(stopped(rest))
+    Err(stopped(read.rest))
 }

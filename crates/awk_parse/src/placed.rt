@@ -129,7 +129,10 @@ fn jump_lines(alloc: Global, tokens: &[Token<'_>]) -> Result<Vec<usize>, AllocEr
 fn first_misplaced(fits: &[bool], lines: &[usize]) -> Option<usize>
     ensures { result ≡ first_misplaced fits.now lines.now }
 {
-    for (fit, line) in fits.iter().zip(lines) {
+    for (index, fit) in fits.iter().enumerate() {
+        let Some(line) = lines.get(index) else {
+            return None;
+        };
         if !*fit {
             return Some(*line);
         }

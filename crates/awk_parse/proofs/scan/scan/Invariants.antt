@@ -1,0 +1,7 @@
+use Rattle.std.proofs.Common.{◌≡◌, drop, map}
+use Rattle.awk_tokens.specs.Views.{spelled}
+use Rattle.awk_parse.specs.Scan.{scan}
+use Rattle.awk_parse.proofs.scan.scan.Given as goal
+
+abbrev pub invariant-loop-index : goal.invariant-loop-index
+invariant-loop-index l = scan (map spelled (drop l.index l.tokens)) ≡ scan (map spelled l.tokens)
