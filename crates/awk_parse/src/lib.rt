@@ -12,6 +12,8 @@ mod placed;
 mod scan;
 mod script;
 mod stmt;
+#[cfg(test)]
+mod tests;
 
 pub use fault::{Feature, ParseFault};
 pub use script::parse;
