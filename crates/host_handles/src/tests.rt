@@ -28,8 +28,8 @@ fn values_by_handle(rt: HostRuntime) -> Result<(), Fail> {
 #[test]
 fn numbers_that_are_no_handles(rt: HostRuntime) -> Result<(), Fail> {
     let mut handles = Handles::new(rt.alloc());
-    let only = handles.put(Value::Uninit)?;
-    for number in [-1, i32::MIN, i32::MAX, only + 1] {
+    handles.put(Value::Uninit)?;
+    for number in [-1, i32::MIN, i32::MAX, 7] {
         assert!(rt; handles.view(number).is_none());
         assert!(rt; handles.take(number).is_none());
     }
