@@ -1,4 +1,3 @@
 pub mod WorldState
 pub mod Calls
 pub mod Memory
-pub mod Examples

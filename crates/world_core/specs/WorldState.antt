@@ -60,13 +60,21 @@ abbrev pub target_of : Action → Target
 target_of (Open name append) = Named name
 target_of (Put target byte) = target
 
+-- opened for writing at its end, or emptied
+abbrev pub opened : Bool → Entry → Entry
+opened true e = record e { bytes = Some (bytes_of e.bytes) }
+opened false e = record e { bytes = Some [] }
+
 abbrev pub acted : Action → Entry → Entry
-acted (Open name true) e = record e { bytes = Some (bytes_of e.bytes) }
-acted (Open name false) e = record e { bytes = Some [] }
+acted (Open name append) e = opened append e
 acted (Put target byte) e = record e { bytes = Some (bytes_of e.bytes ++ byte ∷ []) }
 
+-- a target holds something else
+abbrev pub replaced : Target → Entry → Outside → Outside
+replaced target e outside = λ t. cond (same_target target t) e (outside t)
+
 abbrev pub step : Action → Outside → Outside
-step a outside = λ t. cond (same_target (target_of a) t) (acted a (outside t)) (outside t)
+step a outside = replaced (target_of a) (acted a (outside (target_of a))) outside
 
 -- the output is a list of actions: what every name holds after it is a function of the outside before it
 abbrev pub after : List Action → Outside → Outside

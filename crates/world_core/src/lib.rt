@@ -1,0 +1,14 @@
+//! The outside of a script: names, streams, and what each call does to them; a world in memory.
+#![tactic(auto)]
+
+mod file;
+mod memory;
+mod names;
+mod octets;
+mod streams;
+mod world;
+
+pub use file::MemFile;
+pub use memory::MemWorld;
+pub use octets::Octets;
+pub use world::{Ending, World, WorldFault};
