@@ -1,2 +1,3 @@
 pub mod NameLemmas
 pub mod StateLemmas
+pub mod StreamLemmas

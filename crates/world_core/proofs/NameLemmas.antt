@@ -1,5 +1,5 @@
 -- What the list of named files answers, and what a write of one of them does to it.
-use Rattle.std.proofs.Common.{◌≡◌, ℕ, zero, suc, ◌+◌, ◌<◌, ◌==◌, List, [], ◌∷◌, ◌++◌, length, set, get_or, Option, Some, None, cond, Bool, true, false, nat_lt, not, refl, sym, ap, subst, ◌∙◌, arith, true≢false}
+use Rattle.std.proofs.Common.{◌≡◌, ℕ, zero, suc, ◌+◌, ◌<◌, ◌==◌, List, [], ◌∷◌, ◌++◌, length, set, get_or, Option, Some, None, cond, Bool, true, false, refl, sym, ap, ◌∙◌, arith, true≢false}
 use Rattle.std.specs.List.{position_from}
 use Rattle.std.proofs.lemmas.Iterator.Adapters.{position_from-zero}
 use Rattle.std.specs.Option.{option_map, unwrap_or}
@@ -7,8 +7,8 @@ use Rattle.std.specs.Cmp.Lexicographic.{pointwise}
 use Rattle.std.proofs.lemmas.Cmp.{nat_list_eq_equiv}
 use Rattle.std.proofs.lemmas.Option.{none-some}
 use Rattle.std.proofs.lemmas.Slice.Eq.{bytes_eq-Decides}
-use Rattle.world_core.specs.WorldState.{Entry, absent}
-use Rattle.world_core.specs.Memory.{entry_of, is_named, entry_at, place, KeepsNames, KeepsOtherNames}
+use Rattle.world_core.specs.WorldState.{absent}
+use Rattle.world_core.specs.Memory.{entry_of, is_named, entry_at, place, KeepsNames}
 use Rattle.world_core.specs.declared.file.MemFile.{MemFile}
 use Rattle.world_core.specs.declared.names.NamedFile.{NamedFile}
 

@@ -1,13 +1,13 @@
 -- What becomes of the state of a world in memory when a part of it changes.
-use Rattle.std.proofs.Common.{◌≡◌, ◌≢◌, ℕ, zero, suc, ◌+◌, ◌-◌, ◌<◌, ◌≤◌, ◌==◌, List, [], ◌∷◌, ◌++◌, map, length, take, drop, set, get_or, Option, Some, None, Result, Ok, Err, cond, Bool, true, false, refl, sym, ap, subst, ◌∙◌, arith, inl, inr}
+use Rattle.std.proofs.Common.{◌≡◌, ℕ, ◌==◌, List, [], ◌∷◌, take, Some, Result, Ok, Err, cond, Bool, true, false, refl, sym, ap, ◌∙◌}
 use Rattle.std.proofs.lemmas.List.{append_assoc}
 use Rattle.std.specs.Cmp.Lexicographic.{pointwise}
 use Rattle.std.proofs.Math.Path.{fun_ext}
 use Rattle.world_core.specs.declared.world.WorldFault.{WorldFault}
 use Rattle.world_core.specs.declared.world.WorldFault.TheVariants.{Failed, NoMemory}
-use Rattle.world_core.specs.WorldState.{Target, Standard, Named, same_target, Entry, absent, bytes_of, free, Outside, replaced, Source, State, Action, Open, Put, acted, target_of, step, after, puts}
-use Rattle.world_core.specs.Calls.{Does, WritesSome, WritesNone, Writes}
-use Rattle.world_core.specs.Memory.{entry_of, entry_at, outside_of, memory_state, readers_of, writers_of, put_entry, Takes, KeepsOtherNames, KeepsNames}
+use Rattle.world_core.specs.WorldState.{Target, Standard, Named, same_target, Entry, bytes_of, Outside, replaced, Source, Put, acted, step, after, puts}
+use Rattle.world_core.specs.Calls.{Writes}
+use Rattle.world_core.specs.Memory.{entry_of, entry_at, outside_of, memory_state, writers_of, put_entry, Takes, KeepsOtherNames, KeepsNames}
 use Rattle.world_core.specs.declared.file.MemFile.{MemFile}
 use Rattle.world_core.specs.declared.names.NamedFile.{NamedFile}
 use Rattle.world_core.specs.declared.streams.MemStream.{MemStream}

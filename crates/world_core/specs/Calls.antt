@@ -1,9 +1,9 @@
 -- What the calls of a world do: to its streams, to its count of failures, and, where the world tells its state, to that.
-use Rattle.std.specs.Prelude.{◌≡◌, ◌≢◌, ℕ, ◌+◌, ◌%◌, ◌^◌, ◌<◌, ◌≤◌, ◌==◌, List, [], ◌∷◌, length, take, drop, Bool, true, false, cond, Option, Some, None, Result, Ok, Err, IfSome}
+use Rattle.std.specs.Prelude.{◌≡◌, ◌≢◌, ℕ, ◌+◌, ◌%◌, ◌^◌, ◌<◌, ◌≤◌, ◌==◌, List, [], ◌∷◌, length, take, drop, Bool, true, false, cond, Some, None, Result, Ok, Err, IfSome}
 use Rattle.world_core.specs.declared.world.Ending.TheVariants.{End, Fails}
 use Rattle.world_core.specs.declared.world.WorldFault.{WorldFault}
 use Rattle.world_core.specs.declared.world.WorldFault.TheVariants.{Failed, NoMemory}
-use Rattle.world_core.specs.WorldState.{Target, Named, Entry, free, State, Action, Open, after, puts}
+use Rattle.world_core.specs.WorldState.{Named, Entry, free, State, Action, Open, after, puts}
 
 -- what an open stream is for
 pub data Kind : Type 0 where

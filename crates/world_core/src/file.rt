@@ -1,6 +1,6 @@
 //! What a name of a world in memory holds, and its readers.
 ghost use Rattle.std.specs.Prelude.{◌≡◌, ◌<◌, ◌≤◌, ◌++◌, Some, None, true, length, OnErr, OnOk};
-ghost use Rattle.world_core.specs.WorldState.{absent, bytes_of, free};
+ghost use Rattle.world_core.specs.WorldState.{absent, bytes_of, free, opened};
 ghost use Rattle.world_core.specs.Calls.{Fits};
 ghost use Rattle.world_core.specs.Memory.{entry_of, source_of, Gives, Takes};
 
@@ -119,4 +119,14 @@ pub(crate) fn read_source(source: &mut MemSource, buffer: &mut [u8]) -> Result<u
     buffer[..n].copy_from_slice(&bytes[source.at..source.at + n]);
     source.at += n;
     Ok(n)
+}
+
+/// Opens a file for writing, at its end or emptied.
+pub(crate) fn open_file(file: &mut MemFile, alloc: Global, append: bool)
+    ensures { entry_of file.new ≡ opened append (entry_of file.old) }
+{
+    if append && file.bytes.is_some() {
+        return;
+    }
+    file.bytes = Some(Octets::new(alloc));
 }

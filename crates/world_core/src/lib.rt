@@ -5,6 +5,7 @@ mod file;
 mod memory;
 mod names;
 mod octets;
+mod opening;
 mod streams;
 mod world;
 

@@ -6,7 +6,8 @@ ghost use Rattle.world_core.specs.Memory.{entry_of, only_standard, open_for, sou
 
 use crate::file::{MemSource, read_source, write_file};
 use crate::names::{NamedFile, find_name, place_of, write_named};
-use crate::streams::{MemStream, add_stream, read_stream};
+use crate::opening::{open_to_read, open_to_write};
+use crate::streams::{MemStream, read_stream, written_name};
 use crate::{Ending, MemFile, Octets, World, WorldFault};
 use std::alloc::{AllocError, Global};
 
@@ -87,4 +88,56 @@ impl MemWorld {
             None => &[],
         }
     }
+}
+
+impl World for MemWorld {
+    ghost tells = { Unit {0} };
+
+    ghost state = { state_of };
+
+    ghost kinds = { open_for };
+
+    ghost count = { λ w. w.failed };
+
+    fn open_read(&mut self, name: &[u8]) -> Result<u32, WorldFault> {
+        let opened = open_to_read(&self.files, &mut self.streams, self.alloc, name);
+        counted(opened, &mut self.failed)
+    }
+
+    fn open_write(&mut self, name: &[u8], append: bool) -> Result<u32, WorldFault> {
+        let opened = open_to_write(&mut self.files, &mut self.streams, self.alloc, name, append);
+        counted(opened, &mut self.failed)
+    }
+
+    fn read(&mut self, id: u32, buffer: &mut [u8]) -> Result<usize, WorldFault> {
+        if id == 0 {
+            return counted(read_source(&mut self.input, buffer), &mut self.failed);
+        }
+        let stream = &mut self.streams[id as usize - 2];
+        counted(read_stream(stream, buffer), &mut self.failed)
+    }
+
+    fn write(&mut self, id: u32, text: &[u8]) -> Result<usize, WorldFault> {
+        if id == 1 {
+            return counted(
+                write_file(&mut self.output, self.alloc, text),
+                &mut self.failed,
+            );
+        }
+        let name = written_name(&self.streams, id);
+        let written = write_named(&mut self.files, self.alloc, name, text);
+        counted(written, &mut self.failed)
+    }
+
+    fn close(&mut self, id: u32) {
+        self.streams[id as usize - 2] = MemStream::Closed;
+    }
+
+    fn failures(&self) -> u64 {
+        self.failed
+    }
+
+    ghost input = { λ w. refl };
+
+    ghost output = { λ w. refl };
 }

@@ -1,7 +1,8 @@
 //! The streams of a world in memory, beside the standard ones.
-ghost use Rattle.std.specs.Prelude.{◌≡◌, IfOk, IfErr, OnErr};
+ghost use Rattle.std.specs.Prelude.{◌≡◌, ◌≢◌, IfOk, IfErr, OnErr};
 ghost use Rattle.world_core.specs.Calls.{Reading, Writing};
-ghost use Rattle.world_core.specs.Memory.{kind_of, reader_of, writer_of, Gives, AddsStream};
+ghost use Rattle.world_core.specs.Memory.{kind_of, reader_of, writer_of, kinds_of, writers_of, Gives, AddsStream};
+ghost use Rattle.world_core.specs.WorldState.{Named};
 
 use crate::file::{MemSource, read_source};
 use crate::{Octets, WorldFault};
@@ -38,5 +39,17 @@ pub(crate) fn add_stream(streams: &mut Vec<MemStream>, stream: MemStream) -> Res
     match streams.push(stream) {
         Ok(()) => Ok(id),
         Err(_) => Err(WorldFault::NoMemory),
+    }
+}
+
+/// The name that a stream writes to.
+pub(crate) fn written_name(streams: &[MemStream], id: u32) -> &[u8]
+    requires open { kinds_of streams.now id ≡ Writing }
+    requires own { id ≢ 1 }
+    ensures { writers_of streams.now id ≡ Named result.now }
+{
+    match &streams[id as usize - 2] {
+        MemStream::Writer(name) => name.as_slice(),
+        _ => unreachable!(),
     }
 }

@@ -1,5 +1,5 @@
-use Rattle.std.proofs.Common.{◌≡◌, ap, sym, ◌∙◌, length, Some, None, List, [], ◌∷◌, ◌++◌}
-use Rattle.world_core.specs.Memory.{place, KeepsNames}
+use Rattle.std.proofs.Common.{◌≡◌, ap, sym, ◌∙◌, length, None, List, [], ◌∷◌, ◌++◌}
+use Rattle.world_core.specs.Memory.{place}
 use Rattle.world_core.proofs.NameLemmas.{place-push, entry_at-push}
 use Rattle.world_core.specs.declared.names.NamedFile.{NamedFile}
 use Rattle.world_core.proofs.names.place_of.Goals as goal

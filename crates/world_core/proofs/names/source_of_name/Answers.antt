@@ -1,7 +1,5 @@
-use Rattle.std.proofs.Common.{◌≡◌, ap, sym, ◌∙◌, true, false, true≢false, Some, None, List, ℕ}
+use Rattle.std.proofs.Common.{ap, sym, ◌∙◌, true≢false, Some, List, ℕ}
 use Rattle.world_core.specs.WorldState.{Entry}
-use Rattle.world_core.specs.Memory.{entry_of, entry_at, place}
-use Rattle.world_core.specs.declared.names.NamedFile.{NamedFile}
 use Rattle.world_core.proofs.NameLemmas.{entry_at-place, entry_at-none}
 use Rattle.world_core.proofs.names.source_of_name.Goals as goal
 

@@ -1,6 +1,6 @@
 use Rattle.std.proofs.Common.{◌≡◌, ap, sym, ◌∙◌, Some, None, List, ℕ, option_copied}
 use Rattle.world_core.specs.WorldState.{Entry}
-use Rattle.world_core.specs.Memory.{entry_of, entry_at, place}
+use Rattle.world_core.specs.Memory.{place}
 use Rattle.world_core.specs.declared.names.NamedFile.{NamedFile}
 use Rattle.world_core.proofs.NameLemmas.{entry_at-place, entry_at-none}
 use Rattle.world_core.proofs.memory.MemWorld.bytes.Goals as goal
