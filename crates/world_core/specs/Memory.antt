@@ -83,6 +83,9 @@ state_of w = memory_state (source_of w.input) (outside_of w.output w.files.items
 abbrev pub open_for : MemWorld → ℕ → Kind
 open_for w = kinds_of w.streams.items
 
+abbrev pub count_of : MemWorld → ℕ
+count_of w = w.failed
+
 -- a world in which nothing is open but the standard streams, and no name was added
 abbrev pub only_standard : Source → Entry → State
 only_standard input output = memory_state input (replaced Standard output (λ target. absent)) []

@@ -27,9 +27,7 @@ impl MemFile {
     {
         MemFile {
             bytes: Some(Octets::from_vec(bytes)),
-            ending: Ending::End,
-            room: None,
-            opens: true,
+            ..MemFile::absent()
         }
     }
 

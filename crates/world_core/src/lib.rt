@@ -7,6 +7,8 @@ mod names;
 mod octets;
 mod opening;
 mod streams;
+#[cfg(test)]
+mod tests;
 mod world;
 
 pub use file::MemFile;

@@ -1,14 +1,14 @@
 //! A world in memory, which tells its state.
-ghost use Rattle.std.specs.Prelude.{refl, ◌≡◌, OnErr, OnOk, option_copied};
+ghost use Rattle.std.specs.Prelude.{refl, ◌≡◌, [], OnErr, OnOk, option_copied};
 ghost use Rattle.world_core.specs.WorldState.{Standard, Named, bytes_of};
 ghost use Rattle.world_core.specs.Calls.{next_count};
-ghost use Rattle.world_core.specs.Memory.{entry_of, only_standard, open_for, source_at_start, state_of, with_entry};
+ghost use Rattle.world_core.specs.Memory.{count_of, entry_of, kinds_of, only_standard, open_for, source_at_start, state_of, with_entry};
 
 use crate::file::{MemSource, read_source, write_file};
 use crate::names::{NamedFile, find_name, place_of, write_named};
 use crate::opening::{open_to_read, open_to_write};
 use crate::streams::{MemStream, read_stream, written_name};
-use crate::{Ending, MemFile, Octets, World, WorldFault};
+use crate::{MemFile, Octets, World, WorldFault};
 use std::alloc::{AllocError, Global};
 
 /// A world in memory: names with their files, the standard input and the standard output.
@@ -38,7 +38,8 @@ impl MemWorld {
     /// bytes and its room.
     pub fn new(alloc: Global, input: MemFile, output: MemFile) -> MemWorld
         ensures state { state_of result ≡ only_standard (source_at_start input) (entry_of output) }
-        ensures count { result.failed ≡ 0 }
+        ensures kinds { open_for result ≡ kinds_of [] }
+        ensures count { count_of result ≡ 0 }
     {
         MemWorld {
             input: MemSource {
@@ -63,7 +64,7 @@ impl MemWorld {
         ensures added { OnOk result (state_of self.new ≡ with_entry name.now (entry_of file) (state_of self.old)) }
         ensures refused { OnErr result (state_of self.new ≡ state_of self.old) }
         ensures kinds { open_for self.new ≡ open_for self.old }
-        ensures count { self.new.failed ≡ self.old.failed }
+        ensures count { count_of self.new ≡ count_of self.old }
     {
         let at = place_of(&mut self.files, self.alloc, name)?;
         self.files[at].file = file;
@@ -97,7 +98,7 @@ impl World for MemWorld {
 
     ghost kinds = { open_for };
 
-    ghost count = { λ w. w.failed };
+    ghost count = { count_of };
 
     fn open_read(&mut self, name: &[u8]) -> Result<u32, WorldFault> {
         let opened = open_to_read(&self.files, &mut self.streams, self.alloc, name);

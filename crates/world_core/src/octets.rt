@@ -30,7 +30,8 @@ impl Octets {
     pub fn into_vec(self) -> Vec<u8>
         ensures { result.items ≡ self }
     {
-        self.items
+        let Octets { items } = self;
+        items
     }
 
     /// The bytes.
