@@ -1,6 +1,9 @@
 -- Words say what they stand for.
-use Rattle.std.proofs.Common.{◌≡◌, ◌≢◌, ℕ, ◌^◌, ◌<◌, ◌≤◌, ℤ, pos, negsuc, Bool, true, false, T, nat_le, Option, Some, None, unsigned_abs, to_z, of_z, w64, refl, sym, ap, subst, ◌∙◌, arith}
-use Rattle.std.proofs.lemmas.Int.{to_z-of_z}
+use Rattle.std.proofs.Common.{◌≡◌, ◌≢◌, ℕ, ◌^◌, ◌<◌, ◌≤◌, ℤ, pos, negsuc, Bool, true, false, T, nat_le, Option, Some, None, unsigned_abs, w64, refl, sym, ap, subst, ◌∙◌, arith}
+use Rattle.std.proofs.lemmas.Int.{ints, to_z-of_z}
+use Rattle.std.proofs.Math.Dec.{T_prop, leb→le}
+use Rattle.std.specs.Int.{cast_signed}
+use Rattle.std.specs.Prelude.{FitsSigned}
 use Rattle.awk_values.specs.Faults.{fault_number}
 use Rattle.awk_values.specs.declared.fault.Fault.{Fault}
 use Rattle.awk_values.specs.declared.fault.Fault.TheVariants.{Range, Fraction, DivisionByZero, Inexact, FieldNumber, Format, BadEre, EreTooLarge, TextLimit, OpenInput, ReadFailed, OpenOutput, WriteFailed, TooManyStreams, NextOutside, BadAssignment}
@@ -80,3 +83,26 @@ constant_again constant.Fault x = fault_again x
 constant_again constant.Destination x = destination_again x
 constant_again constant.NameKind x = kind_again x
 constant_again constant.Count n = refl
+
+-- a number that is in range is found again
+number_again-by : (z : ℤ) (b : Bool) (e : nat_le (unsigned_abs z) (2 ^ 53) ≡ b) (in_range : T (nat_le (unsigned_abs z) (2 ^ 53))) → number_by z b e ≡ Some (record { number = z; in_range = in_range })
+number_again-by z true e in_range = λ i. Some (record { number = z; in_range = T_prop (nat_le (unsigned_abs z) (2 ^ 53)) (subst T (sym e) tt) in_range i })
+number_again-by z false e in_range = absurd (subst T e in_range)
+
+number_again : (n : Number) → number_of n.number ≡ Some n
+number_again n = number_again-by n.number (nat_le (unsigned_abs n.number) (2 ^ 53)) refl n.in_range
+
+small : (n : Number) → unsigned_abs n.number ≤ 2 ^ 53
+small n = leb→le (unsigned_abs n.number) (2 ^ 53) n.in_range
+
+fits : (z : ℤ) → unsigned_abs z ≤ 2 ^ 53 → FitsSigned w64 z
+fits (pos k) h = search (arith, ints)
+fits (negsuc k) h = search (arith, ints)
+
+pub word_again : (n : Number) → number_of_word (number_word n) ≡ Some n
+word_again n = ap number_of (to_z-of_z w64 n.number (fits n.number (small n))) ∙ number_again n
+
+pub word_no_fault : (n : Number) → number_word n ≡ faulted_word → ⊥
+word_no_fault n e =
+    let least : unsigned_abs n.number ≡ 2 ^ 63 = ap unsigned_abs (sym (to_z-of_z w64 n.number (fits n.number (small n))) ∙ ap (cast_signed w64) e) in
+    absurd (omega (arith, least, small n))

@@ -1,5 +1,5 @@
 -- What constant arguments say, and the words of 32 bits that stand for it.
-use Rattle.std.specs.Prelude.{ℕ, Bool, true, false, ◌==◌, Option, Some, None}
+use Rattle.std.specs.Prelude.{ℕ, zero, suc, Bool, true, false, ◌==◌, List, [], ◌∷◌, Option, Some, None, slice_get}
 use Rattle.awk_values.specs.Faults.{fault_number}
 use Rattle.awk_values.specs.declared.fault.Fault.{Fault}
 use Rattle.awk_values.specs.declared.fault.Fault.TheVariants.{Range, Fraction, DivisionByZero, Inexact, FieldNumber, Format, BadEre, EreTooLarge, TextLimit, OpenInput, ReadFailed, OpenOutput, WriteFailed, TooManyStreams, NextOutside, BadAssignment}
@@ -30,22 +30,12 @@ special_number Rs = 11
 special_number Rstart = 12
 special_number Subsep = 13
 
+-- in the order of their numbers
+abbrev pub specials : List Special
+specials = Argc ∷ Convfmt ∷ Filename ∷ Fnr ∷ Fs ∷ Nf ∷ Nr ∷ Ofmt ∷ Ofs ∷ Ors ∷ Rlength ∷ Rs ∷ Rstart ∷ Subsep ∷ []
+
 abbrev pub special_at : ℕ → Option Special
-special_at 0 = Some Argc
-special_at 1 = Some Convfmt
-special_at 2 = Some Filename
-special_at 3 = Some Fnr
-special_at 4 = Some Fs
-special_at 5 = Some Nf
-special_at 6 = Some Nr
-special_at 7 = Some Ofmt
-special_at 8 = Some Ofs
-special_at 9 = Some Ors
-special_at 10 = Some Rlength
-special_at 11 = Some Rs
-special_at 12 = Some Rstart
-special_at 13 = Some Subsep
-special_at _ = None
+special_at n = slice_get specials n
 
 abbrev pub same_special : Special → Special → Bool
 same_special a b = special_number a == special_number b
@@ -58,62 +48,54 @@ comparison_number NotEqual = 3
 comparison_number Greater = 4
 comparison_number GreaterOrEqual = 5
 
+-- in the order of their numbers
+abbrev pub comparisons : List CompareOp
+comparisons = Less ∷ LessOrEqual ∷ Equal ∷ NotEqual ∷ Greater ∷ GreaterOrEqual ∷ []
+
 abbrev pub comparison_at : ℕ → Option CompareOp
-comparison_at 0 = Some Less
-comparison_at 1 = Some LessOrEqual
-comparison_at 2 = Some Equal
-comparison_at 3 = Some NotEqual
-comparison_at 4 = Some Greater
-comparison_at 5 = Some GreaterOrEqual
-comparison_at _ = None
+comparison_at n = slice_get comparisons n
 
 abbrev pub flag_number : Bool → ℕ
 flag_number false = 0
 flag_number true = 1
 
+-- no and yes
+abbrev pub flags : List Bool
+flags = false ∷ true ∷ []
+
 abbrev pub flag_at : ℕ → Option Bool
-flag_at 0 = Some false
-flag_at 1 = Some true
-flag_at _ = None
+flag_at n = slice_get flags n
 
 abbrev pub destination_number : Destination → ℕ
 destination_number Standard = 0
 destination_number Emptied = 1
 destination_number Appended = 2
 
+-- in the order of their numbers
+abbrev pub destinations : List Destination
+destinations = Standard ∷ Emptied ∷ Appended ∷ []
+
 abbrev pub destination_at : ℕ → Option Destination
-destination_at 0 = Some Standard
-destination_at 1 = Some Emptied
-destination_at 2 = Some Appended
-destination_at _ = None
+destination_at n = slice_get destinations n
 
 abbrev pub kind_number : NameKind → ℕ
 kind_number Scalar = 0
 kind_number ArrayOrFunction = 1
 
+-- in the order of their numbers
+abbrev pub kinds : List NameKind
+kinds = Scalar ∷ ArrayOrFunction ∷ []
+
 abbrev pub kind_at : ℕ → Option NameKind
-kind_at 0 = Some Scalar
-kind_at 1 = Some ArrayOrFunction
-kind_at _ = None
+kind_at n = slice_get kinds n
+
+-- in the order of their numbers, from 1 on
+abbrev pub faults : List Fault
+faults = Range ∷ Fraction ∷ DivisionByZero ∷ Inexact ∷ FieldNumber ∷ Format ∷ BadEre ∷ EreTooLarge ∷ TextLimit ∷ OpenInput ∷ ReadFailed ∷ OpenOutput ∷ WriteFailed ∷ TooManyStreams ∷ NextOutside ∷ BadAssignment ∷ []
 
 abbrev pub fault_at : ℕ → Option Fault
-fault_at 1 = Some Range
-fault_at 2 = Some Fraction
-fault_at 3 = Some DivisionByZero
-fault_at 4 = Some Inexact
-fault_at 5 = Some FieldNumber
-fault_at 6 = Some Format
-fault_at 7 = Some BadEre
-fault_at 8 = Some EreTooLarge
-fault_at 9 = Some TextLimit
-fault_at 10 = Some OpenInput
-fault_at 11 = Some ReadFailed
-fault_at 12 = Some OpenOutput
-fault_at 13 = Some WriteFailed
-fault_at 14 = Some TooManyStreams
-fault_at 15 = Some NextOutside
-fault_at 16 = Some BadAssignment
-fault_at _ = None
+fault_at zero = None
+fault_at (suc n) = slice_get faults n
 
 -- what a constant argument is on plain values
 abbrev pub InConstant : Constant → Type 0

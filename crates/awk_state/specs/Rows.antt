@@ -9,7 +9,7 @@ use Rattle.awk_values.specs.declared.fault.Fault.TheVariants.{DivisionByZero, Fr
 use Rattle.awk_values.specs.declared.value.Value.TheVariants as value
 use Rattle.world_core.specs.declared.world.Ending.TheVariants.{End}
 use Rattle.world_core.specs.WorldState.{Standard, Outside, absent, puts, replaced}
-use Rattle.awk_state.specs.Numbers.{Number, number_by, number_of}
+use Rattle.awk_state.specs.Numbers.{Number}
 use Rattle.awk_state.specs.SharedState.{Shared, Does, shared_after, specials_at_start}
 use Rattle.awk_state.specs.Table.{meaning, listed_meaning}
 use Rattle.awk_state.specs.declared.table.Primitive.TheVariants.{Num, Lit, Uninit, Dup, ToNum, IntOf, Truth, Compare, Concat, Pow, Fail}
@@ -49,7 +49,7 @@ pub dup_row : (meaning Dup (value.StrNum (codes "1"), tt) (at_start None)).answe
 dup_row = refl
 
 pub to_num_row : plain (meaning ToNum (value.Text (codes "3x"), tt) (at_start None)).answer ≡ Ok (pos 3)
-unfolding numeral_at sign_at fraction_at exponent_at numerator denominator number_by number_of
+unfolding numeral_at sign_at fraction_at exponent_at numerator denominator
 to_num_row = refl
 
 pub to_num_fault : plain (meaning ToNum (value.Text (codes "0.5"), tt) (at_start None)).answer ≡ Err Fraction
@@ -57,7 +57,7 @@ unfolding numeral_at sign_at fraction_at exponent_at numerator denominator
 to_num_fault = refl
 
 pub int_of_row : plain (meaning IntOf (value.Text (codes "-7.9"), tt) (at_start None)).answer ≡ Ok (neg_ℤ (pos 7))
-unfolding numeral_at sign_at fraction_at exponent_at numerator denominator number_by number_of
+unfolding numeral_at sign_at fraction_at exponent_at numerator denominator
 int_of_row = refl
 
 pub int_of_fault : plain (meaning IntOf (value.Text (codes "1e16"), tt) (at_start None)).answer ≡ Err Range
@@ -67,14 +67,13 @@ int_of_fault = refl
 pub truth_row : (meaning Truth (value.Text (codes "0"), tt) (at_start None)).answer ≡ true
 truth_row = refl
 
-pub compare_row : (meaning Compare (Less, (value.Text (codes "10"), (value.Num (pos 9), tt))) (at_start None)).answer ≡ Ok true
+pub compare_row : (meaning Compare (Less, (value.Text (codes "10"), (value.Text (codes "9"), tt))) (at_start None)).answer ≡ Ok true
 compare_row = refl
 
-pub concat_row : (meaning Concat (value.Text (codes "a"), (value.Num (neg_ℤ (pos 1)), tt)) (at_start None)).answer ≡ Ok (value.Text (codes "a-1"))
+pub concat_row : (meaning Concat (value.Text (codes "a"), (value.StrNum (codes "-1"), tt)) (at_start None)).answer ≡ Ok (value.Text (codes "a-1"))
 concat_row = refl
 
 pub power_row : plain (meaning Pow (minus_three, (two, tt)) (at_start None)).answer ≡ Ok (pos 9)
-unfolding number_by number_of
 power_row = refl
 
 pub power_fault : plain (meaning Pow (zero, (minus_three, tt)) (at_start None)).answer ≡ Err DivisionByZero
@@ -83,7 +82,7 @@ power_fault = refl
 pub fail_row : (meaning Fail (NextOutside, tt) (at_start None)).answer ≡ Err NextOutside
 fail_row = refl
 
-pub print_row : (shared_after (at_start None) (listed_meaning Print (value.Text (codes "a") ∷ value.Num (pos 1) ∷ []) (at_start None))).output ≡ puts Standard (codes "a 1" ++ 10 ∷ [])
+pub print_row : (shared_after (at_start None) (listed_meaning Print (value.Text (codes "a") ∷ value.StrNum (codes "1") ∷ []) (at_start None))).output ≡ puts Standard (codes "a 1" ++ 10 ∷ [])
 print_row = refl
 
 pub print_fault : (listed_meaning Print (value.Text (codes "abc") ∷ []) (at_start (Some 2))).answer ≡ Err WriteFailed

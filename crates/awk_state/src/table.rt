@@ -47,7 +47,9 @@ impl Primitive {
             Primitive::Num => &[Argument::Of(Sort::Number)],
             Primitive::Lit => &[Argument::Place],
             Primitive::Uninit => &[],
-            Primitive::Dup | Primitive::ToNum | Primitive::IntOf | Primitive::Truth => &[Argument::Of(Sort::Value)],
+            Primitive::Dup | Primitive::ToNum | Primitive::IntOf | Primitive::Truth => &[
+                Argument::Of(Sort::Value),
+            ],
             Primitive::Compare => &[
                 Argument::Constant(Constant::Comparison),
                 Argument::Of(Sort::Value),
@@ -64,7 +66,11 @@ impl Primitive {
         ensures { result ≡ answer_of self }
     {
         match self {
-            Primitive::Num | Primitive::Lit | Primitive::Uninit | Primitive::Dup | Primitive::Concat => Answer::Of(Sort::Value),
+            Primitive::Num
+            | Primitive::Lit
+            | Primitive::Uninit
+            | Primitive::Dup
+            | Primitive::Concat => Answer::Of(Sort::Value),
             Primitive::ToNum | Primitive::IntOf | Primitive::Pow => Answer::Of(Sort::Number),
             Primitive::Truth | Primitive::Compare => Answer::Truth,
             Primitive::Fail => Answer::Nothing,
@@ -76,8 +82,17 @@ impl Primitive {
         ensures { result ≡ can_fault self }
     {
         match self {
-            Primitive::Num | Primitive::Lit | Primitive::Uninit | Primitive::Dup | Primitive::Truth => false,
-            Primitive::ToNum | Primitive::IntOf | Primitive::Compare | Primitive::Concat | Primitive::Pow | Primitive::Fail => true,
+            Primitive::Num
+            | Primitive::Lit
+            | Primitive::Uninit
+            | Primitive::Dup
+            | Primitive::Truth => false,
+            Primitive::ToNum
+            | Primitive::IntOf
+            | Primitive::Compare
+            | Primitive::Concat
+            | Primitive::Pow
+            | Primitive::Fail => true,
         }
     }
 }
