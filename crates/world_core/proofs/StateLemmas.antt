@@ -1,11 +1,11 @@
 -- What becomes of the state of a world in memory when a part of it changes.
-use Rattle.std.proofs.Common.{◌≡◌, ℕ, ◌==◌, List, [], ◌∷◌, take, Some, Result, Ok, Err, cond, Bool, true, false, refl, sym, ap, ◌∙◌}
+use Rattle.std.proofs.Common.{◌≡◌, ℕ, ◌==◌, List, [], ◌∷◌, ◌++◌, ◌||◌, take, Some, Result, Ok, Err, cond, Bool, true, false, refl, sym, ap, true≢false, ◌∙◌}
 use Rattle.std.proofs.lemmas.List.{append_assoc}
 use Rattle.std.specs.Cmp.Lexicographic.{pointwise}
 use Rattle.std.proofs.Math.Path.{fun_ext}
 use Rattle.world_core.specs.declared.world.WorldFault.{WorldFault}
 use Rattle.world_core.specs.declared.world.WorldFault.TheVariants.{Failed, NoMemory}
-use Rattle.world_core.specs.WorldState.{Target, Standard, Named, same_target, Entry, bytes_of, Outside, replaced, Source, Put, acted, step, after, puts}
+use Rattle.world_core.specs.WorldState.{Target, Standard, Named, same_target, Entry, bytes_of, Outside, replaced, Source, Action, Put, acted, target_of, is_about, step, after, puts}
 use Rattle.world_core.specs.Calls.{Writes}
 use Rattle.world_core.specs.Memory.{entry_of, entry_at, outside_of, memory_state, writers_of, put_entry, Takes, KeepsOtherNames, KeepsNames}
 use Rattle.world_core.specs.declared.file.MemFile.{MemFile}
@@ -104,3 +104,15 @@ writes id text (Err Failed) input old new streams e takes is = record {
 }
 writes id text (Err NoMemory) input old new streams e takes is =
     ap (λ (o : Outside). memory_state input o streams) (is ∙ ap (λ (f : Entry). replaced (writers_of streams id) f old) takes ∙ replaced-itself (writers_of streams id) old)
+
+pub after-append : (first second : List Action) (outside : Outside) → after (first ++ second) outside ≡ after second (after first outside)
+after-append [] second outside = refl
+after-append (a ∷ rest) second outside = after-append rest second (step a outside)
+
+pub after-others : (output : List Action) (outside : Outside) (target : Target) → is_about target output ≡ false → after output outside target ≡ outside target
+after-others [] outside target e = refl
+after-others (a ∷ rest) outside target e = by (same_target (target_of a) target) refl (after-others rest (step a outside) target)
+  where
+    by : (b : Bool) → same_target (target_of a) target ≡ b → (is_about target rest ≡ false → after rest (step a outside) target ≡ step a outside target) → after rest (step a outside) target ≡ outside target
+    by true is later = absurd (true≢false (sym (ap (λ c. c || is_about target rest) is) ∙ e))
+    by false is later = later (sym (ap (λ c. c || is_about target rest) is) ∙ e) ∙ ap (λ c. cond c (acted a (outside (target_of a))) (outside target)) is

@@ -2,6 +2,7 @@
 #![tactic(auto)]
 
 mod file;
+pub mod laws;
 mod memory;
 mod names;
 mod octets;
