@@ -1,5 +1,5 @@
 -- Words say what they stand for.
-use Rattle.std.proofs.Common.{◌≡◌, ◌≢◌, ℕ, ◌^◌, ◌<◌, ◌≤◌, ℤ, pos, negsuc, Bool, true, false, T, nat_le, Option, Some, None, unsigned_abs, w64, refl, sym, ap, subst, ◌∙◌, arith}
+use Rattle.std.proofs.Common.{◌≡◌, ◌^◌, ◌≤◌, ℤ, pos, negsuc, Bool, true, false, T, nat_le, Some, unsigned_abs, w64, refl, sym, ap, subst, ◌∙◌, arith}
 use Rattle.std.proofs.lemmas.Int.{ints, to_z-of_z}
 use Rattle.std.proofs.Math.Dec.{T_prop, leb→le}
 use Rattle.std.specs.Int.{cast_signed}

@@ -1,10 +1,10 @@
 -- What printing means.
-use Rattle.std.specs.Prelude.{ℕ, Bool, true, false, cond, nat_le, List, [], ◌∷◌, ◌++◌, length, take, Option, Some, None, Result, Ok, Err}
+use Rattle.std.specs.Prelude.{ℕ, Bool, true, cond, nat_le, List, [], ◌∷◌, ◌++◌, length, take, Option, Some, None, Result, Ok, Err}
 use Rattle.awk_values.specs.Values.{text_of_value}
 use Rattle.awk_values.specs.declared.fault.Fault.{Fault}
 use Rattle.awk_values.specs.declared.fault.Fault.TheVariants.{WriteFailed}
 use Rattle.awk_values.specs.declared.value.Value.{Value}
-use Rattle.world_core.specs.WorldState.{Target, Standard, free, Action, puts}
+use Rattle.world_core.specs.WorldState.{Target, Standard, free, puts}
 use Rattle.awk_state.specs.SharedState.{Inner, Shared, Does}
 use Rattle.awk_state.specs.declared.constants.Special.TheVariants.{Ofs, Ors}
 

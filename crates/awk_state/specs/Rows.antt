@@ -1,5 +1,5 @@
 -- Each primitive on small arguments, computed.
-use Rattle.std.specs.Prelude.{◌≡◌, ◌^◌, ◌++◌, [], ◌∷◌, codes, true, false, Bool, Some, None, Option, Result, Ok, Err, ℕ, pos, neg_ℤ, refl}
+use Rattle.std.specs.Prelude.{◌≡◌, ◌++◌, [], ◌∷◌, codes, true, Some, None, Option, Result, Ok, Err, ℕ, pos, neg_ℤ, refl}
 use Rattle.awk_text.specs.Reading.{numeral_at, sign_at, fraction_at, exponent_at}
 use Rattle.awk_text.specs.Number.{numerator, denominator}
 use Rattle.awk_values.specs.Operators.{Outcome}
@@ -7,10 +7,9 @@ use Rattle.awk_values.specs.declared.comparison.CompareOp.TheVariants.{Less}
 use Rattle.awk_values.specs.declared.fault.Fault.{Fault}
 use Rattle.awk_values.specs.declared.fault.Fault.TheVariants.{DivisionByZero, Fraction, NextOutside, Range, WriteFailed}
 use Rattle.awk_values.specs.declared.value.Value.TheVariants as value
-use Rattle.world_core.specs.declared.world.Ending.TheVariants.{End}
-use Rattle.world_core.specs.WorldState.{Standard, Outside, absent, puts, replaced}
+use Rattle.world_core.specs.WorldState.{Standard, absent, puts, replaced}
 use Rattle.awk_state.specs.Numbers.{Number}
-use Rattle.awk_state.specs.SharedState.{Shared, Does, shared_after, specials_at_start}
+use Rattle.awk_state.specs.SharedState.{Shared, shared_after, specials_at_start}
 use Rattle.awk_state.specs.Table.{meaning, listed_meaning}
 use Rattle.awk_state.specs.declared.table.Primitive.TheVariants.{Num, Lit, Uninit, Dup, ToNum, IntOf, Truth, Compare, Concat, Pow, Fail}
 use Rattle.awk_state.specs.declared.table.Listed.TheVariants.{Print}

@@ -1,9 +1,8 @@
 -- The state that a script and its host share: everything that a primitive may read or change.
-use Rattle.std.specs.Prelude.{ℕ, ◌+◌, Bool, true, false, cond, List, [], ◌++◌, codes, ◌∷◌, ℤ, pos, neg_ℤ}
+use Rattle.std.specs.Prelude.{ℕ, ◌+◌, List, [], ◌++◌, codes, ◌∷◌, pos, neg_ℤ}
 use Rattle.awk_values.specs.declared.value.Value.{Value}
 use Rattle.awk_values.specs.declared.value.Value.TheVariants.{Uninit, Num, Text}
 use Rattle.world_core.specs.WorldState.{Outside, Action, after}
-use Rattle.awk_state.specs.Constants.{same_special}
 use Rattle.awk_state.specs.declared.constants.Special.{Special}
 use Rattle.awk_state.specs.declared.constants.Special.TheVariants.{Argc, Convfmt, Filename, Fnr, Fs, Nf, Nr, Ofmt, Ofs, Ors, Rlength, Rs, Rstart, Subsep}
 
@@ -13,9 +12,6 @@ Pairs = List (List ℕ × Value)
 
 abbrev pub Specials : Type 0
 Specials = Special → Value
-
-abbrev pub with_special : Special → Value → Specials → Specials
-with_special s v specials = λ t. cond (same_special s t) v (specials t)
 
 -- the special variables before a script runs with this many operands
 abbrev pub specials_at_start : ℕ → Specials

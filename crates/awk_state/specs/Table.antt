@@ -1,5 +1,5 @@
 -- The table of primitives: for each the sorts of its arguments, of its answer, whether it may fault, and its meaning.
-use Rattle.std.specs.Prelude.{ℕ, Bool, true, false, List, [], ◌∷◌, Ok, Err, Result}
+use Rattle.std.specs.Prelude.{Bool, true, false, List, [], ◌∷◌, Err, Result}
 use Rattle.awk_values.specs.Values.{truth_of_value}
 use Rattle.awk_values.specs.declared.fault.Fault.{Fault}
 use Rattle.awk_values.specs.declared.value.Value.{Value}

@@ -1,5 +1,5 @@
 -- What the list of named files answers, and what a write of one of them does to it.
-use Rattle.std.proofs.Common.{◌≡◌, ℕ, zero, suc, ◌+◌, ◌<◌, ◌==◌, List, [], ◌∷◌, ◌++◌, length, set, get_or, Option, Some, None, cond, Bool, true, false, refl, sym, ap, ◌∙◌, arith, true≢false}
+use Rattle.std.proofs.Common.{◌≡◌, ℕ, zero, suc, ◌+◌, ◌==◌, List, [], ◌∷◌, ◌++◌, length, set, get_or, Option, Some, None, cond, Bool, true, false, refl, sym, ap, ◌∙◌, arith, true≢false}
 use Rattle.std.specs.List.{position_from}
 use Rattle.std.proofs.lemmas.Iterator.Adapters.{position_from-zero}
 use Rattle.std.specs.Option.{option_map, unwrap_or}
@@ -58,7 +58,6 @@ zero-suc at e = let same : zero ≡ suc at = ap (λ (p : Option ℕ). unwrap_or 
 
 -- the first file of a name
 record First (name : List ℕ) (at : ℕ) (files : List NamedFile) : Type 0 where
-  within : at < length files
   named : (d : NamedFile) → (get_or files at d).name ≡ name
   entry : (d : NamedFile) → entry_at files name ≡ entry_of (get_or files at d).file
 
@@ -67,18 +66,15 @@ first [] name at e = absurd (none-some at e)
 first (f ∷ fs) name at e = by (first fs name) (is_named name f) refl at e
   where
     by : ((k : ℕ) → found fs name ≡ Some k → First name k fs) → (b : Bool) → is_named name f ≡ b → (at : ℕ) → found (f ∷ fs) name ≡ Some at → First name at (f ∷ fs)
-    by later true is zero e = record { within = omega arith; named = λ d. same_name f.name name is; entry = λ d. ap (λ b. cond b (entry_of f.file) (entry_at fs name)) is }
+    by later true is zero e = record { named = λ d. same_name f.name name is; entry = λ d. ap (λ b. cond b (entry_of f.file) (entry_at fs name)) is }
     by later true is (suc at) e = absurd (zero-suc at (sym (ap (λ b. cond b (Some 0) (option_map suc (found fs name))) is) ∙ e))
     by later false is zero e = absurd (not_first (found fs name) (sym (ap (λ b. cond b (Some 0) (option_map suc (found fs name))) is) ∙ e))
     by later false is (suc at) e =
         let rest : First name at fs = later at (before (found fs name) at (sym (ap (λ b. cond b (Some 0) (option_map suc (found fs name))) is) ∙ e)) in
-        record { within = omega (arith, rest.within); named = rest.named; entry = λ d. ap (λ b. cond b (entry_of f.file) (entry_at fs name)) is ∙ rest.entry d }
+        record { named = rest.named; entry = λ d. ap (λ b. cond b (entry_of f.file) (entry_at fs name)) is ∙ rest.entry d }
 
 pub entry_at-place : (files : List NamedFile) (name : List ℕ) (at : ℕ) (d : NamedFile) → place files name ≡ Some at → entry_at files name ≡ entry_of (get_or files at d).file
 entry_at-place files name at d e = (first files name at (sym (found_is files name) ∙ e)).entry d
-
-pub place-within : (files : List NamedFile) (name : List ℕ) (at : ℕ) → place files name ≡ Some at → at < length files
-place-within files name at e = (first files name at (sym (found_is files name) ∙ e)).within
 
 missing : (files : List NamedFile) (name : List ℕ) → found files name ≡ None → entry_at files name ≡ absent
 missing [] name e = refl
