@@ -1,0 +1,8 @@
+//! The values that the host keeps for a module, each under a handle.
+#![tactic(auto)]
+
+mod handles;
+#[cfg(test)]
+mod tests;
+
+pub use handles::Handles;

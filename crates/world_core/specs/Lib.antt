@@ -1,0 +1,4 @@
+pub mod WorldState
+pub mod Calls
+pub mod Memory
+pub mod Examples

@@ -1,0 +1,18 @@
+//! The outside of a script: names, streams, and what each call does to them; a world in memory.
+#![tactic(auto)]
+
+mod file;
+pub mod laws;
+mod memory;
+mod names;
+mod octets;
+mod opening;
+mod streams;
+#[cfg(test)]
+mod tests;
+mod world;
+
+pub use file::MemFile;
+pub use memory::MemWorld;
+pub use octets::Octets;
+pub use world::{Ending, World, WorldFault};
