@@ -154,28 +154,43 @@ abbrev pub start_to : Option ℕ → List ℕ → Written
 start_to None out = Some out
 start_to (Some n) out = section_to section.Start (index_to n []) out
 
--- the sections up to that of memories
-abbrev pub first_sections_to : ModuleForm → List ℕ → Written
-first_sections_to m out =
-    and_then (vec_section_to section.Type func_type_to m.types out) (λ a.
-    and_then (vec_section_to section.Import import_to m.imports a) (λ b.
-    and_then (vec_section_to section.Function type_index_to m.funcs b) (λ c.
-    and_then (one_section_to section.Table table_type_to m.table c) (
-    one_section_to section.Memory (limits_to 256) m.memory))))
+-- the sections from each on
+abbrev pub from_data_to : ModuleForm → List ℕ → Written
+from_data_to m out = vec_section_to section.Data data_to m.data_segments out
 
--- the sections from that of globals on
-abbrev pub last_sections_to : ModuleForm → List ℕ → Written
-last_sections_to m out =
-    and_then (vec_section_to section.Global global_to m.globals out) (λ a.
-    and_then (vec_section_to section.Export export_to m.exports a) (λ b.
-    and_then (start_to m.start b) (λ c.
-    and_then (vec_section_to section.Element elem_to m.elems c) (λ d.
-    and_then (vec_section_to section.Code code_to m.funcs d) (
-    vec_section_to section.Data data_to m.data_segments)))))
+abbrev pub from_codes_to : ModuleForm → List ℕ → Written
+from_codes_to m out = and_then (vec_section_to section.Code code_to m.funcs out) (from_data_to m)
+
+abbrev pub from_elems_to : ModuleForm → List ℕ → Written
+from_elems_to m out = and_then (vec_section_to section.Element elem_to m.elems out) (from_codes_to m)
+
+abbrev pub from_start_to : ModuleForm → List ℕ → Written
+from_start_to m out = and_then (start_to m.start out) (from_elems_to m)
+
+abbrev pub from_exports_to : ModuleForm → List ℕ → Written
+from_exports_to m out = and_then (vec_section_to section.Export export_to m.exports out) (from_start_to m)
+
+abbrev pub from_globals_to : ModuleForm → List ℕ → Written
+from_globals_to m out = and_then (vec_section_to section.Global global_to m.globals out) (from_exports_to m)
+
+abbrev pub from_memory_to : ModuleForm → List ℕ → Written
+from_memory_to m out = and_then (one_section_to section.Memory (limits_to 256) m.memory out) (from_globals_to m)
+
+abbrev pub from_table_to : ModuleForm → List ℕ → Written
+from_table_to m out = and_then (one_section_to section.Table table_type_to m.table out) (from_memory_to m)
+
+abbrev pub from_functions_to : ModuleForm → List ℕ → Written
+from_functions_to m out = and_then (vec_section_to section.Function type_index_to m.funcs out) (from_table_to m)
+
+abbrev pub from_imports_to : ModuleForm → List ℕ → Written
+from_imports_to m out = and_then (vec_section_to section.Import import_to m.imports out) (from_functions_to m)
+
+abbrev pub from_types_to : ModuleForm → List ℕ → Written
+from_types_to m out = and_then (vec_section_to section.Type func_type_to m.types out) (from_imports_to m)
 
 -- bytes that are not too many
 abbrev pub fit : List ℕ → Written
 fit out = if nat_le (length out) (2 ^ 24) then Some out else None
 
 abbrev pub module_to : ModuleForm → Written
-module_to m = and_then (first_sections_to m header) (λ out. and_then (last_sections_to m out) fit)
+module_to m = and_then (from_types_to m header) fit

@@ -6,7 +6,7 @@ ghost use Rattle.wasm_types.specs.View.{signature_of, view_import, view_func, vi
 ghost use Rattle.wasm_types.specs.ModuleGrammar.{number, IsModule};
 ghost use Rattle.module_writer.specs.declared.fault.WriteFault.TheVariants.{TooLarge};
 ghost use Rattle.module_writer.specs.Writers.{Puts, Gives};
-ghost use Rattle.module_writer.specs.Writing.{func_type_to, import_to, type_index_to, table_type_to, limits_to, global_to, export_to, elem_to, code_to, data_to, section_to, vec_section_to, one_section_to, start_to, first_sections_to, last_sections_to, module_to};
+ghost use Rattle.module_writer.specs.Writing.{func_type_to, import_to, type_index_to, table_type_to, limits_to, global_to, export_to, elem_to, code_to, data_to, section_to, vec_section_to, one_section_to, start_to, from_types_to, module_to};
 
 use crate::basics::{MAX_SIZE, byte, counted, index};
 use crate::fault::WriteFault;
@@ -193,21 +193,15 @@ fn data_section(alloc: alloc::Global, out: &mut Vec<u8>, all: &[Data]) -> Result
     }
 }
 
-// The sections up to that of memories.
-fn first_sections(alloc: alloc::Global, out: &mut Vec<u8>, m: &Module) -> Result<(), WriteFault>
-    ensures { Puts result (first_sections_to (view_module m.now) out.old.items) out.new.items }
+// All sections that have something to tell.
+fn sections(alloc: alloc::Global, out: &mut Vec<u8>, m: &Module) -> Result<(), WriteFault>
+    ensures { Puts result (from_types_to (view_module m.now) out.old.items) out.new.items }
 {
     type_section(alloc, out, &m.types)?;
     import_section(alloc, out, &m.imports)?;
     function_section(alloc, out, &m.funcs)?;
     table_section(alloc, out, m.table)?;
-    memory_section(alloc, out, m.memory)
-}
-
-// The sections from that of globals on.
-fn last_sections(alloc: alloc::Global, out: &mut Vec<u8>, m: &Module) -> Result<(), WriteFault>
-    ensures { Puts result (last_sections_to (view_module m.now) out.old.items) out.new.items }
-{
+    memory_section(alloc, out, m.memory)?;
     global_section(alloc, out, &m.globals)?;
     export_section(alloc, out, &m.exports)?;
     start_section(alloc, out, m.start)?;
@@ -229,8 +223,7 @@ fn write_module(alloc: alloc::Global, m: &Module) -> Result<Vec<u8>, WriteFault>
     ensures { Gives result (module_to (view_module m.now)) }
 {
     let mut out = Vec::from_slice(alloc, &HEADER)?;
-    first_sections(alloc, &mut out, m)?;
-    last_sections(alloc, &mut out, m)?;
+    sections(alloc, &mut out, m)?;
     if out.len() > MAX_SIZE {
         return Err(WriteFault::TooLarge);
     }
