@@ -1,10 +1,8 @@
 -- Instructions are written as they are spelled, in the fewest bytes.
-use Rattle.std.proofs.Common.{◌≡◌, ℕ, zero, suc, ◌+◌, ◌-◌, ◌<◌, ◌≤◌, max, List, [], ◌∷◌, ◌++◌, length, Option, Some, None, ◌⊎◌, inl, inr, refl, sym, ap, subst, ◌∙◌, arith, length-append}
+use Rattle.std.proofs.Common.{◌≡◌, ℕ, zero, suc, ◌+◌, ◌-◌, ◌≤◌, List, [], ◌∷◌, ◌++◌, Option, Some, ◌⊎◌, inl, inr, refl, sym, ap, subst, ◌∙◌, arith}
 use Rattle.std.proofs.lemmas.List.{append-nil}
 use Rattle.std.proofs.Math.Dec.{eqb-suc-zero}
 use Rattle.wasm_types.specs.declared.types.ValType.{ValType}
-use Rattle.wasm_types.specs.declared.instr.Simple.{Simple}
-use Rattle.wasm_types.specs.declared.instr.MemArg.{MemArg}
 use Rattle.wasm_types.specs.Syntax.{Instruction, Plain, BrTable, Block, Loop, If, Instructions, Done, Then}
 use Rattle.wasm_types.specs.Opcodes.{opcode, Immediates, Nothing, Index, Memory, Bits32, Bits64, IndexReserved, Reserved, immediates}
 use Rattle.wasm_types.specs.Leb128.{and_then}
@@ -37,7 +35,7 @@ table_meets ns n old = as_form (λ t. (a : List ℕ) × Follow (IsVec IsIndex ns
     (λ t h. (h.1.0, h.1.1, h.1.2, h.1.3, h.2 ∙ ap (λ (u : List ℕ). 0x0e ∷ u) h.1.4))
     (λ t h. (h.0 ++ h.1, (h.0, h.1, h.2, h.3, refl), h.4))
     (behind_byte 0x0e (Follow (IsVec IsIndex ns) (IsIndex n)) (λ o. and_then (vec_to index_to ns o) (index_to n))
-        (λ o. then_meets (IsVec IsIndex ns) (IsIndex n) o (vec_to index_to ns o) (index_to n) (vec_meets IsIndex index_to index_meets ns o) (index_meets n)) old)
+    (λ o. then_meets (IsVec IsIndex ns) (IsIndex n) o (vec_to index_to ns o) (index_to n) (vec_meets IsIndex index_to index_meets ns o) (index_meets n)) old)
 
 -- two bytes, a form, and the end
 opened_meets : (b : ℕ) (k : Option ValType) (P : List ℕ → Type 0) (p : List ℕ → Written) → ((o : List ℕ) → Meets P o (p o)) → (old : List ℕ)
@@ -46,8 +44,8 @@ opened_meets b k P p f old = as_form (λ t. (c : List ℕ) × ((d : List ℕ) ×
     (λ t h. (h.1.1.0, h.1.1.2, h.2 ∙ ap (λ (u : List ℕ). b ∷ u) (h.1.2 ∙ ap (λ (u : List ℕ). block_code k ∷ u) (h.1.1.4 ∙ ap (λ (u : List ℕ). h.1.1.0 ++ u) h.1.1.3))))
     (λ t h. (block_code k ∷ h.0 ++ 0x0b ∷ [], (h.0 ++ 0x0b ∷ [], (h.0, 0x0b ∷ [], h.1, refl, refl), refl), h.2))
     (behind_byte b (λ t. (d : List ℕ) × Follow P (λ e. e ≡ 0x0b ∷ []) d × (t ≡ block_code k ∷ d)) (λ o. and_then (byte_to (block_code k) o) (λ q. and_then (p q) (byte_to 0x0b)))
-        (behind_byte (block_code k) (Follow P (λ e. e ≡ 0x0b ∷ [])) (λ q. and_then (p q) (byte_to 0x0b))
-            (λ q. then_meets P (λ e. e ≡ 0x0b ∷ []) q (p q) (byte_to 0x0b) (f q) (byte_meets 0x0b))) old)
+    (behind_byte (block_code k) (Follow P (λ e. e ≡ 0x0b ∷ [])) (λ q. and_then (p q) (byte_to 0x0b))
+    (λ q. then_meets P (λ e. e ≡ 0x0b ∷ []) q (p q) (byte_to 0x0b) (f q) (byte_meets 0x0b))) old)
 
 -- ---- nesting
 
@@ -77,22 +75,34 @@ block_meets zero b k is f old = λ other h. let deep = h.1 in absurd (omega (ari
 block_meets (suc d) b k is f old =
     let same : suc d - 1 ≡ d = omega arith in
     rw (eqb-suc-zero d, same) (as_form (λ t. (body : List ℕ) × AllIn d is body × (t ≡ b ∷ block_code k ∷ body ++ 0x0b ∷ [])) (λ t. ((body : List ℕ) × SpellAll is body × (t ≡ b ∷ block_code k ∷ body ++ 0x0b ∷ [])) × (depths is + 1 ≤ suc d)) old (opened_to b k (instrs_to d is) old)
-        (λ t h. ((h.0, h.1.0, h.2), (let deep = h.1.1 in omega (arith, deep))))
-        (λ t h. (h.0.0, (h.0.1, (let deep = h.1 in omega (arith, deep))), h.0.2))
-        (opened_meets b k (AllIn d is) (instrs_to d is) (f d) old))
+    (λ t h. ((h.0, h.1.0, h.2), (let deep = h.1.1 in omega (arith, deep))))
+    (λ t h. (h.0.0, (h.0.1, (let deep = h.1 in omega (arith, deep))), h.0.2))
+    (opened_meets b k (AllIn d is) (instrs_to d is) (f d) old))
 
 choice_is : (d : ℕ) (k : Option ValType) (is js : Instructions) (t : List ℕ) → (body : List ℕ) × Follow (AllIn d is) (ElseIn d js) body × (t ≡ 0x04 ∷ block_code k ∷ body ++ 0x0b ∷ []) → OneIn (suc d) (If k is js) t
 choice_is d k is js t h =
     let a = h.1.0 in
     let b = h.1.1 in
     let deep = h.1.2.1 in
-    let deeper = h.1.3.1 in
-    (elim h.1.3.0 [
-      | inl e ↦ (a, [], h.1.2.0, subst (λ (us : Instructions). SpellAll us []) (sym e.0) refl,
-          inr (e.0, h.2 ∙ ap (λ (u : List ℕ). 0x04 ∷ block_code k ∷ u ++ 0x0b ∷ []) (h.1.4 ∙ ap (λ (u : List ℕ). a ++ u) e.1 ∙ append-nil a)))
-      | inr e ↦ (a, e.0, h.1.2.0, e.1,
-          inl (h.2 ∙ ap (λ (u : List ℕ). 0x04 ∷ block_code k ∷ u ++ 0x0b ∷ []) (h.1.4 ∙ ap (λ (u : List ℕ). a ++ u) e.2)))
-    ], omega (arith, deep, deeper))
+    let deeper = h.1.3.1 in (
+      elim h.1.3.0 [
+        | inl e ↦ (
+          a,
+          [],
+          h.1.2.0,
+          subst (λ (us : Instructions). SpellAll us []) (sym e.0) refl,
+          inr (e.0, h.2 ∙ ap (λ (u : List ℕ). 0x04 ∷ block_code k ∷ u ++ 0x0b ∷ []) (h.1.4 ∙ ap (λ (u : List ℕ). a ++ u) e.1 ∙ append-nil a)),
+        )
+        | inr e ↦ (
+          a,
+          e.0,
+          h.1.2.0,
+          e.1,
+          inl (h.2 ∙ ap (λ (u : List ℕ). 0x04 ∷ block_code k ∷ u ++ 0x0b ∷ []) (h.1.4 ∙ ap (λ (u : List ℕ). a ++ u) e.2)),
+        )
+      ],
+      omega (arith, deep, deeper),
+    )
 
 choice_was : (d : ℕ) (k : Option ValType) (is js : Instructions) (t : List ℕ) → OneIn (suc d) (If k is js) t → (body : List ℕ) × Follow (AllIn d is) (ElseIn d js) body × (t ≡ 0x04 ∷ block_code k ∷ body ++ 0x0b ∷ [])
 choice_was d k is js t h =
@@ -112,9 +122,9 @@ choice_meets zero k is js f g old = λ other h. let deep = h.1 in absurd (omega 
 choice_meets (suc d) k is js f g old =
     let same : suc d - 1 ≡ d = omega arith in
     rw (eqb-suc-zero d, same) (as_form (λ t. (body : List ℕ) × Follow (AllIn d is) (ElseIn d js) body × (t ≡ 0x04 ∷ block_code k ∷ body ++ 0x0b ∷ [])) (OneIn (suc d) (If k is js)) old (opened_to 0x04 k (λ o. and_then (instrs_to d is o) (else_to js (instrs_to d js))) old)
-        (choice_is d k is js) (choice_was d k is js)
-        (opened_meets 0x04 k (Follow (AllIn d is) (ElseIn d js)) (λ o. and_then (instrs_to d is o) (else_to js (instrs_to d js)))
-            (λ o. then_meets (AllIn d is) (ElseIn d js) o (instrs_to d is o) (else_to js (instrs_to d js)) (f d o) (else_meets d js (instrs_to d js) (g d))) old))
+    (choice_is d k is js) (choice_was d k is js)
+    (opened_meets 0x04 k (Follow (AllIn d is) (ElseIn d js)) (λ o. and_then (instrs_to d is o) (else_to js (instrs_to d js)))
+    (λ o. then_meets (AllIn d is) (ElseIn d js) o (instrs_to d is o) (else_to js (instrs_to d js)) (f d o) (else_meets d js (instrs_to d js) (g d))) old))
 
 mutual
   instr_meets : (d : ℕ) (i : Instruction) (old : List ℕ) → Meets (OneIn d i) old (instr_to d i old)

@@ -6,3 +6,5 @@ pub mod BodyLaws
 pub mod PartLaws
 pub mod SectionLaws
 pub mod ModuleLaws
+pub mod Shortest
+pub mod Written

@@ -1,5 +1,5 @@
 -- What is written is of a form and in the fewest bytes, and what is not written would go past the limit in any form.
-use Rattle.std.proofs.Common.{◌≡◌, ℕ, zero, suc, ◌+◌, ◌^◌, ◌<◌, ◌≤◌, Bool, true, false, cond, ltb, List, [], ◌∷◌, ◌++◌, length, Option, Some, None, ◌⊎◌, inl, inr, refl, sym, ap, subst, ◌∙◌, append_assoc, arith, length-append}
+use Rattle.std.proofs.Common.{◌≡◌, ℕ, ◌+◌, ◌^◌, ◌<◌, ◌≤◌, Bool, true, false, cond, ltb, List, [], ◌∷◌, ◌++◌, length, Option, Some, None, inl, inr, refl, sym, ap, subst, ◌∙◌, append_assoc, arith, length-append}
 use Rattle.std.proofs.lemmas.Bool.{ltb-true, ltb-false}
 use Rattle.std.proofs.lemmas.List.{append-nil}
 use Rattle.wasm_types.specs.Leb128.{and_then, IsU32, IsS32, IsS64, u32_text, s32_text, s64_text}
@@ -136,6 +136,7 @@ sized_meets P (Some xs) h old = through (IsBytes xs) (Sized P) old (bytes_to xs 
   where
     given : (t : List ℕ) → IsBytes xs t → Sized P t
     given t k = (k.0, xs, k.1, subst P (sym h.behind) h.is, k.2)
+
     found : (t : List ℕ) → Sized P t → (s : List ℕ) × IsBytes xs s × (length s ≤ length t)
     found t k =
         let e = ap length k.4 in

@@ -1,83 +1,45 @@
--- A module is written in the fewest bytes that are its.
-use Rattle.std.proofs.Common.{◌≡◌, ℕ, zero, suc, ◌+◌, ◌^◌, ◌<◌, ◌≤◌, Bool, true, false, cond, leb, List, [], ◌∷◌, ◌++◌, length, map, get_or, Option, Some, None, ◌⊎◌, inl, inr, refl, sym, ap, subst, ◌∙◌, append_assoc, arith, length-append}
-use Rattle.std.proofs.lemmas.Bool.{leb-true, leb-false, cases_lt}
+-- The bytes of all sections are those of a list of sections.
+use Rattle.std.proofs.Common.{◌≡◌, ℕ, ◌<◌, ◌≤◌, List, [], ◌∷◌, ◌++◌, length, Option, None, inl, inr, refl, sym, ap, subst, ◌∙◌, arith}
 use Rattle.std.proofs.lemmas.List.{append-nil}
 use Rattle.wasm_types.specs.declared.types.Limits.{Limits}
 use Rattle.wasm_types.specs.declared.module.SectionId.{SectionId}
 use Rattle.wasm_types.specs.declared.module.SectionId.TheVariants as section
-use Rattle.wasm_types.specs.Syntax.{Signature, ImportForm, FuncForm, GlobalForm, ExportForm, ElemForm, DataForm, ModuleForm}
-use Rattle.wasm_types.specs.Leb128.{and_then}
+use Rattle.wasm_types.specs.Syntax.{Signature, ImportForm, GlobalForm, ExportForm, ElemForm, DataForm}
 use Rattle.wasm_types.specs.Instructions.{IsVec, IsIndex}
-use Rattle.wasm_types.specs.ModuleGrammar.{IsOption, IsFuncType, IsImport, IsTable, IsMemory, IsGlobal, IsExport, IsElem, IsData, CodeForm, IsCode, Parts, no_parts, number, GivesPart, Section, Custom, Known, IsSection, AreSections, Give, joined, module_of, header, IsModule}
-use Rattle.module_writer.specs.Writers.{Written}
-use Rattle.module_writer.specs.Writing.{from_types_to, fit, module_to}
-use Rattle.module_writer.proofs.Meets.{Meets, Follow}
-use Rattle.module_writer.proofs.PartLaws.{code_form}
-use Rattle.module_writer.proofs.SectionLaws.{PartSection, IsStart, FromTypes, FromImports, FromFunctions, FromTable, FromMemory, FromGlobals, FromExports, FromStart, FromElems, FromCodes, DataOf, parts_of, from_types_meets}
+use Rattle.wasm_types.specs.ModuleGrammar.{IsOption, IsFuncType, IsImport, IsTable, IsMemory, IsGlobal, IsExport, IsElem, IsData, CodeForm, IsCode, Parts, no_parts, number, GivesPart, Section, Custom, Known, AreSections, Give}
+use Rattle.module_writer.proofs.Meets.{Follow}
+use Rattle.module_writer.proofs.SectionLaws.{PartSection, IsStart, FromTypes, FromImports, FromFunctions, FromTable, FromMemory, FromGlobals, FromExports, FromStart, FromElems, FromCodes, DataOf}
 
 -- ---- parts with the sections up to one
 
-abbrev with_types : List Signature → Parts
-with_types x1 = record no_parts { types = x1 }
-
-abbrev with_imports : List Signature → List ImportForm → Parts
-with_imports x1 x2 = record (with_types x1) { imports = x2 }
-
-abbrev with_type_indices : List Signature → List ImportForm → List ℕ → Parts
-with_type_indices x1 x2 x3 = record (with_imports x1 x2) { type_indices = x3 }
-
-abbrev with_table : List Signature → List ImportForm → List ℕ → Option Limits → Parts
-with_table x1 x2 x3 x4 = record (with_type_indices x1 x2 x3) { table = x4 }
-
-abbrev with_memory : List Signature → List ImportForm → List ℕ → Option Limits → Option Limits → Parts
-with_memory x1 x2 x3 x4 x5 = record (with_table x1 x2 x3 x4) { memory = x5 }
-
-abbrev with_globals : List Signature → List ImportForm → List ℕ → Option Limits → Option Limits → List GlobalForm → Parts
-with_globals x1 x2 x3 x4 x5 x6 = record (with_memory x1 x2 x3 x4 x5) { globals = x6 }
-
-abbrev with_exports : List Signature → List ImportForm → List ℕ → Option Limits → Option Limits → List GlobalForm → List ExportForm → Parts
-with_exports x1 x2 x3 x4 x5 x6 x7 = record (with_globals x1 x2 x3 x4 x5 x6) { exports = x7 }
-
-abbrev with_start : List Signature → List ImportForm → List ℕ → Option Limits → Option Limits → List GlobalForm → List ExportForm → Option ℕ → Parts
-with_start x1 x2 x3 x4 x5 x6 x7 x8 = record (with_exports x1 x2 x3 x4 x5 x6 x7) { start = x8 }
-
-abbrev with_elems : List Signature → List ImportForm → List ℕ → Option Limits → Option Limits → List GlobalForm → List ExportForm → Option ℕ → List ElemForm → Parts
-with_elems x1 x2 x3 x4 x5 x6 x7 x8 x9 = record (with_start x1 x2 x3 x4 x5 x6 x7 x8) { elems = x9 }
-
-abbrev with_codes : List Signature → List ImportForm → List ℕ → Option Limits → Option Limits → List GlobalForm → List ExportForm → Option ℕ → List ElemForm → List CodeForm → Parts
-with_codes x1 x2 x3 x4 x5 x6 x7 x8 x9 x10 = record (with_elems x1 x2 x3 x4 x5 x6 x7 x8 x9) { codes = x10 }
-
-abbrev with_data_segments : List Signature → List ImportForm → List ℕ → Option Limits → Option Limits → List GlobalForm → List ExportForm → Option ℕ → List ElemForm → List CodeForm → List DataForm → Parts
-with_data_segments x1 x2 x3 x4 x5 x6 x7 x8 x9 x10 x11 = record (with_codes x1 x2 x3 x4 x5 x6 x7 x8 x9 x10) { data_segments = x11 }
-
-abbrev to_types : Parts → Parts
+abbrev pub to_types : Parts → Parts
 to_types q = record no_parts { types = q.types }
 
-abbrev to_imports : Parts → Parts
+abbrev pub to_imports : Parts → Parts
 to_imports q = record (to_types q) { imports = q.imports }
 
-abbrev to_type_indices : Parts → Parts
+abbrev pub to_type_indices : Parts → Parts
 to_type_indices q = record (to_imports q) { type_indices = q.type_indices }
 
-abbrev to_table : Parts → Parts
+abbrev pub to_table : Parts → Parts
 to_table q = record (to_type_indices q) { table = q.table }
 
-abbrev to_memory : Parts → Parts
+abbrev pub to_memory : Parts → Parts
 to_memory q = record (to_table q) { memory = q.memory }
 
-abbrev to_globals : Parts → Parts
+abbrev pub to_globals : Parts → Parts
 to_globals q = record (to_memory q) { globals = q.globals }
 
-abbrev to_exports : Parts → Parts
+abbrev pub to_exports : Parts → Parts
 to_exports q = record (to_globals q) { exports = q.exports }
 
-abbrev to_start : Parts → Parts
+abbrev pub to_start : Parts → Parts
 to_start q = record (to_exports q) { start = q.start }
 
-abbrev to_elems : Parts → Parts
+abbrev pub to_elems : Parts → Parts
 to_elems q = record (to_start q) { elems = q.elems }
 
-abbrev to_codes : Parts → Parts
+abbrev pub to_codes : Parts → Parts
 to_codes q = record (to_elems q) { codes = q.codes }
 
 -- ---- from the bytes of all sections to a list of sections
@@ -98,6 +60,7 @@ put_before N k P R last p q r lt none some rest t h = by h.2
   where
     m : Leads (number k) q r h.1
     m = rest h.1 h.3
+
     by : PartSection N k P h.0 → Leads last p r t
     by (inl n) = (m.0, weaker m.0 (number k) last p r (omega (arith, lt)) (subst (λ (u : Parts). Give m.0 (number k) u r) (none n.0) m.1), subst (AreSections m.0) (sym (h.4 ∙ ap (λ (u : List ℕ). u ++ h.1) n.1)) m.2)
     by (inr n) = (Known k n.0 ∷ m.0, (lt, q, some n.0 n.1, m.1), (h.0, h.1, n.2, m.2, h.4))
@@ -134,4 +97,3 @@ lead_imports q counts t h = put_before (q.imports ≡ []) section.Import (IsVec 
 
 pub lead_types : (q : Parts) → length q.codes ≡ length q.type_indices → (t : List ℕ) → FromTypes q t → Leads 0 no_parts q t
 lead_types q counts t h = put_before (q.types ≡ []) section.Type (IsVec IsFuncType q.types) (FromImports q) 0 no_parts (to_types q) q (omega arith) (λ e. ap (λ (x : List Signature). record no_parts { types = x }) e) (λ c v. (q.types, v, refl)) (lead_imports q counts) t h
-

@@ -1,20 +1,19 @@
 -- The parts of modules are written as they are spelled, in the fewest bytes.
-use Rattle.std.proofs.Common.{◌≡◌, ℕ, ◌<◌, ◌≤◌, Bool, true, false, cond, leb, List, [], ◌∷◌, ◌++◌, length, map, Option, Some, None, refl, sym, ap, subst, ◌∙◌, append_assoc, arith}
-use Rattle.std.specs.Str.{IsUtf8, is_utf8}
+use Rattle.std.proofs.Common.{◌≡◌, ℕ, Bool, true, false, cond, leb, List, [], ◌∷◌, ◌++◌, map, Option, Some, None, refl, sym, ap, subst, ◌∙◌, arith}
+use Rattle.std.specs.Str.{is_utf8}
 use Rattle.std.proofs.lemmas.Str.{is_utf8-from_IsUtf8, IsUtf8-from_is_utf8}
 use Rattle.std.proofs.lemmas.Bool.{leb-true, leb-false}
-use Rattle.std.proofs.lemmas.List.{append-nil, length-map}
-use Rattle.wasm_types.specs.declared.types.ValType.{ValType}
+use Rattle.std.proofs.lemmas.List.{length-map}
 use Rattle.wasm_types.specs.declared.types.Limits.{Limits}
 use Rattle.wasm_types.specs.declared.module.ExportDesc.{ExportDesc}
 use Rattle.wasm_types.specs.declared.module.ExportDesc.TheVariants as export
-use Rattle.wasm_types.specs.Syntax.{Instructions, Signature, ImportForm, FuncForm, GlobalForm, ExportForm, ElemForm, DataForm}
+use Rattle.wasm_types.specs.Syntax.{Signature, ImportForm, FuncForm, GlobalForm, ExportForm, ElemForm, DataForm}
 use Rattle.wasm_types.specs.Leb128.{and_then}
-use Rattle.wasm_types.specs.Instructions.{Both, Each, IsVec, Tagged, IsIndex, val_code, IsValType, IsExpr}
-use Rattle.wasm_types.specs.ModuleGrammar.{IsBytes, IsName, IsOption, IsFuncType, IsImport, limits_text, IsLimits, IsTable, IsMemory, mut_code, IsGlobalType, IsGlobal, IsExportDesc, IsExport, IsElem, IsData, IsLocals, CodeForm, IsCode}
-use Rattle.module_writer.specs.Writers.{Written, byte_to, index_to, vec_to, option_to, tagged_to, bytes_to, sized_to, name_to}
+use Rattle.wasm_types.specs.Instructions.{Each, IsVec, Tagged, IsIndex, val_code, IsValType, IsExpr}
+use Rattle.wasm_types.specs.ModuleGrammar.{IsBytes, IsName, IsOption, IsFuncType, IsImport, limits_text, IsLimits, IsTable, IsMemory, mut_code, IsGlobal, IsExportDesc, IsExport, IsElem, IsData, IsLocals, CodeForm, IsCode}
+use Rattle.module_writer.specs.Writers.{Written, byte_to, index_to, vec_to, option_to, tagged_to, bytes_to, name_to}
 use Rattle.module_writer.specs.Writing.{val_type_to, expr_to, func_type_to, import_to, limits_by, limits_to, table_type_to, global_to, export_desc_to, export_to, elem_to, data_to, locals_to, code_parts_to, code_to, type_index_to}
-use Rattle.module_writer.proofs.Meets.{Meets, Follow, Sized, then_meets, as_form, byte_meets, index_meets, vec_meets, option_meets, tagged_meets, bytes_meets, sized_meets}
+use Rattle.module_writer.proofs.Meets.{Meets, Follow, then_meets, as_form, byte_meets, index_meets, vec_meets, option_meets, tagged_meets, bytes_meets, sized_meets}
 use Rattle.module_writer.proofs.Runs.{val_type_meets, locals_meets}
 use Rattle.module_writer.proofs.BodyLaws.{behind_byte, expr_meets}
 
@@ -58,7 +57,7 @@ global_meets g old = as_form (Follow (IsValType g.ty.value) (Follow (λ t. t ≡
     (λ t h. (val_code g.ty.value ∷ mut_code g.ty.mutable ∷ [], h.3.1, refl, h.3.3, h.4 ∙ ap (λ (u : List ℕ). u ++ h.1) h.2 ∙ ap (λ (u : List ℕ). val_code g.ty.value ∷ u) (h.3.4 ∙ ap (λ (u : List ℕ). u ++ h.3.1) h.3.2)))
     (λ t h. (val_code g.ty.value ∷ [], mut_code g.ty.mutable ∷ h.1, refl, (mut_code g.ty.mutable ∷ [], h.1, refl, h.3, refl), h.4 ∙ ap (λ (u : List ℕ). u ++ h.1) h.2))
     (then_meets (IsValType g.ty.value) (Follow (λ t. t ≡ mut_code g.ty.mutable ∷ []) (IsExpr g.init)) old (val_type_to g.ty.value old) (λ o. and_then (byte_to (mut_code g.ty.mutable) o) (expr_to g.init)) (val_type_meets g.ty.value old)
-        (λ o. then_meets (λ t. t ≡ mut_code g.ty.mutable ∷ []) (IsExpr g.init) o (byte_to (mut_code g.ty.mutable) o) (expr_to g.init) (byte_meets (mut_code g.ty.mutable) o) (expr_meets g.init)))
+    (λ o. then_meets (λ t. t ≡ mut_code g.ty.mutable ∷ []) (IsExpr g.init) o (byte_to (mut_code g.ty.mutable) o) (expr_to g.init) (byte_meets (mut_code g.ty.mutable) o) (expr_meets g.init)))
 
 export_desc_meets : (d : ExportDesc) (old : List ℕ) → Meets (IsExportDesc d) old (export_desc_to d old)
 export_desc_meets (export.Func n) old = tagged_meets 0x00 IsIndex index_to index_meets n old

@@ -1,14 +1,14 @@
 -- Runs as long as can be are the fewest, and take the fewest bytes.
-use Rattle.std.proofs.Common.{◌≡◌, ℕ, zero, suc, ◌+◌, ◌*◌, ◌^◌, ◌<◌, ◌≤◌, Bool, true, false, cond, leb, List, [], ◌∷◌, ◌++◌, length, replicate, Option, Some, None, refl, sym, ap, subst, ◌∙◌, arith, length-append}
+use Rattle.std.proofs.Common.{◌≡◌, ℕ, zero, suc, ◌+◌, ◌*◌, ◌^◌, ◌<◌, ◌≤◌, Bool, true, false, cond, leb, List, [], ◌∷◌, ◌++◌, length, replicate, None, refl, sym, ap, subst, ◌∙◌, arith, length-append}
 use Rattle.std.proofs.lemmas.Bool.{leb-true, leb-false}
 use Rattle.std.proofs.lemmas.List.{length-replicate}
 use Rattle.wasm_types.specs.declared.types.ValType.{ValType}
 use Rattle.wasm_types.specs.declared.types.ValType.TheVariants.{I32, I64}
-use Rattle.wasm_types.specs.Leb128.{IsU32, u32_text}
+use Rattle.wasm_types.specs.Leb128.{u32_text}
 use Rattle.wasm_types.specs.Instructions.{Both, Each, IsVec, IsIndex, val_code, IsValType}
 use Rattle.wasm_types.specs.ModuleGrammar.{expanded, IsLocals}
 use Rattle.wasm_types.proofs.Groups.{u32_written, u32_least}
-use Rattle.module_writer.specs.Writers.{Written, index_to, both_to, vec_to}
+use Rattle.module_writer.specs.Writers.{index_to, both_to, vec_to}
 use Rattle.module_writer.specs.Writing.{val_type_to, is_same, runs_from, runs_of, locals_to}
 use Rattle.module_writer.proofs.Sizes.{size_below, size_sum}
 use Rattle.module_writer.proofs.Meets.{Meets, through, then_meets, index_meets, byte_meets, vec_meets}
@@ -182,10 +182,11 @@ shorter_runs ts t k =
     let is = text_size (runs_of ts) in
     let whole = ap length v.4 in
     let parts = length-append v.0 v.1 in
-    let both = length-append (u32_text (length (runs_of ts))) (runs_text (runs_of ts)) in
-    (u32_text (length (runs_of ts)) ++ runs_text (runs_of ts),
-     (u32_text (length (runs_of ts)), runs_text (runs_of ts), u32_written (length (runs_of ts)) fits, spelled_of ts (omega (arith, few)), refl),
-     omega (arith, lighter, head, body, is, whole, parts, both))
+    let both = length-append (u32_text (length (runs_of ts))) (runs_text (runs_of ts)) in (
+      u32_text (length (runs_of ts)) ++ runs_text (runs_of ts),
+      (u32_text (length (runs_of ts)), runs_text (runs_of ts), u32_written (length (runs_of ts)) fits, spelled_of ts (omega (arith, few)), refl),
+      omega (arith, lighter, head, body, is, whole, parts, both),
+    )
 
 pub locals_meets : (ts : List ValType) (old : List ℕ) → Meets (IsLocals ts) old (locals_to ts old)
 locals_meets ts old = by (leb (length ts) 50000) refl

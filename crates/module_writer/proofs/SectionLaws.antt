@@ -1,11 +1,9 @@
 -- Sections are written as they are spelled, in the fewest bytes.
-use Rattle.std.proofs.Common.{◌≡◌, ℕ, ◌^◌, ◌<◌, ◌≤◌, List, [], ◌∷◌, ◌++◌, length, map, Option, Some, None, ◌⊎◌, inl, inr, refl, sym, ap, ◌∙◌, arith, length-append}
+use Rattle.std.proofs.Common.{◌≡◌, ℕ, List, [], ◌∷◌, ◌++◌, length, map, Option, Some, None, ◌⊎◌, inl, inr, refl, sym, ap, ◌∙◌, arith, length-append}
 use Rattle.std.proofs.lemmas.List.{append-nil}
-use Rattle.wasm_types.specs.declared.types.Limits.{Limits}
 use Rattle.wasm_types.specs.declared.module.SectionId.{SectionId}
 use Rattle.wasm_types.specs.declared.module.SectionId.TheVariants as section
-use Rattle.wasm_types.specs.Syntax.{FuncForm, ModuleForm}
-use Rattle.wasm_types.specs.Leb128.{and_then}
+use Rattle.wasm_types.specs.Syntax.{ModuleForm}
 use Rattle.wasm_types.specs.Instructions.{IsVec, IsIndex}
 use Rattle.wasm_types.specs.ModuleGrammar.{IsOption, IsFuncType, IsImport, IsTable, IsMemory, IsGlobal, IsExport, IsElem, IsData, IsCode, Parts, number, Known, IsSection}
 use Rattle.module_writer.specs.Writers.{Written, byte_to, index_to, vec_to, option_to, bytes_to}

@@ -1,9 +1,8 @@
 -- Writing a module in the fewest bytes.
-use Rattle.std.specs.Prelude.{◌≡◌, ℕ, ◌+◌, ◌-◌, ◌^◌, ◌==◌, List, [], ◌∷◌, ◌++◌, length, map, Option, Some, None, Bool, true, false, nat_le, if◌then◌else◌}
+use Rattle.std.specs.Prelude.{ℕ, ◌+◌, ◌-◌, ◌^◌, ◌==◌, List, [], ◌∷◌, length, Option, Some, None, Bool, true, false, nat_le, if◌then◌else◌}
 use Rattle.wasm_types.specs.declared.types.ValType.{ValType}
 use Rattle.wasm_types.specs.declared.types.ValType.TheVariants.{I32, I64}
 use Rattle.wasm_types.specs.declared.types.Limits.{Limits}
-use Rattle.wasm_types.specs.declared.types.GlobalType.{GlobalType}
 use Rattle.wasm_types.specs.declared.instr.Simple.{Simple}
 use Rattle.wasm_types.specs.declared.instr.MemArg.{MemArg}
 use Rattle.wasm_types.specs.declared.module.ExportDesc.{ExportDesc}
@@ -14,8 +13,8 @@ use Rattle.wasm_types.specs.Syntax.{Instruction, Plain, BrTable, Block, Loop, If
 use Rattle.wasm_types.specs.Opcodes.{opcode, Immediates, Nothing, Index, Memory, Bits32, Bits64, IndexReserved, Reserved, immediates}
 use Rattle.wasm_types.specs.Leb128.{and_then}
 use Rattle.wasm_types.specs.Instructions.{val_code, block_code}
-use Rattle.wasm_types.specs.ModuleGrammar.{CodeForm, mut_code, number, header}
-use Rattle.module_writer.specs.Writers.{Written, byte_to, index_to, bits32_to, bits64_to, both_to, each_to, vec_to, option_to, tagged_to, bytes_to, sized_to, name_to}
+use Rattle.wasm_types.specs.ModuleGrammar.{mut_code, number, header}
+use Rattle.module_writer.specs.Writers.{Written, byte_to, index_to, bits32_to, bits64_to, both_to, vec_to, option_to, tagged_to, bytes_to, sized_to, name_to}
 
 -- ---- types
 

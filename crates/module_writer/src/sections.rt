@@ -15,9 +15,7 @@ use crate::parts::{
     type_indices,
 };
 use std::alloc;
-use wasm_types::{
-    Data, Elem, Export, Func, FuncType, Global, Import, Limits, Module, SectionId,
-};
+use wasm_types::{Data, Elem, Export, Func, FuncType, Global, Import, Limits, Module, SectionId};
 
 /// "\0asm" and version 1.
 const HEADER: [u8; 8] = [0x00, 0x61, 0x73, 0x6d, 0x01, 0x00, 0x00, 0x00];
@@ -87,7 +85,11 @@ fn function_section(alloc: alloc::Global, out: &mut Vec<u8>, all: &[Func]) -> Re
     }
 }
 
-fn table_section(alloc: alloc::Global, out: &mut Vec<u8>, limits: Option<Limits>) -> Result<(), WriteFault>
+fn table_section(
+    alloc: alloc::Global,
+    out: &mut Vec<u8>,
+    limits: Option<Limits>,
+) -> Result<(), WriteFault>
     ensures { Puts result (one_section_to section.Table table_type_to limits out.old.items) out.new.items }
 {
     match limits {
@@ -101,7 +103,11 @@ fn table_section(alloc: alloc::Global, out: &mut Vec<u8>, limits: Option<Limits>
     }
 }
 
-fn memory_section(alloc: alloc::Global, out: &mut Vec<u8>, limits: Option<Limits>) -> Result<(), WriteFault>
+fn memory_section(
+    alloc: alloc::Global,
+    out: &mut Vec<u8>,
+    limits: Option<Limits>,
+) -> Result<(), WriteFault>
     ensures { Puts result (one_section_to section.Memory (limits_to 256) limits out.old.items) out.new.items }
 {
     match limits {
@@ -141,7 +147,11 @@ fn export_section(alloc: alloc::Global, out: &mut Vec<u8>, all: &[Export]) -> Re
     }
 }
 
-fn start_section(alloc: alloc::Global, out: &mut Vec<u8>, start: Option<u32>) -> Result<(), WriteFault>
+fn start_section(
+    alloc: alloc::Global,
+    out: &mut Vec<u8>,
+    start: Option<u32>,
+) -> Result<(), WriteFault>
     ensures { Puts result (start_to start out.old.items) out.new.items }
 {
     match start {
