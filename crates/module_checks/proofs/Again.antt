@@ -8,10 +8,13 @@ use Rattle.module_decoder.specs.declared.fault.DecodeFault.{DecodeFault}
 use Rattle.module_decoder.specs.declared.fault.DecodeFault.TheVariants.{BadHeader, Truncated, BadSection, BadInteger, BadOpcode, Float, TooLarge, NoMemory}
 use Rattle.module_decoder.specs.Readers.{Gives}
 
-ok_is : (m n : ModuleForm) → Ok {E = DecodeFault} m ≡ Ok n → m ≡ n
+abbrev read : ModuleForm → Result ModuleForm DecodeFault
+read m = Ok m
+
+ok_is : (m n : ModuleForm) → read m ≡ read n → m ≡ n
 ok_is m n e = cc
 
-no_fault : (m : ModuleForm) (e : DecodeFault) → Ok m ≡ Err e → ⊥
+no_fault : (m : ModuleForm) (e : DecodeFault) → read m ≡ Err e → ⊥
 no_fault m e h = absurd cc
 
 pub given_again : (m : ModuleForm) (r : Result Module DecodeFault) → Gives view_module r (Ok m) → MatchResult r (λ n. view_module n ≡ m) (λ e. e ≡ NoMemory)

@@ -13,13 +13,10 @@ use wasm_types::Module;
 
 /// Writes a module and decodes its bytes: what comes back is the same module, and the decoder's only fault is want of memory.
 /// A module that is not written is past a limit, so no bytes are its, or there was no memory.
-pub fn decode_written(
-    alloc: Global,
-    module: &Module,
-) -> Result<Result<Module, DecodeFault>, WriteFault>
-    ensures again { IfOk result (λ r. MatchResult r (λ m. view_module m ≡ view_module module.now) (λ e. e ≡ NoMemory)) }
-    ensures refused { IfErr result (λ e. e ≡ TooLarge → (bytes : List ℕ) → IsModule bytes (view_module module.now) → ⊥) }
+pub fn decode_written(alloc: Global, m: &Module) -> Result<Result<Module, DecodeFault>, WriteFault>
+    ensures again { IfOk result (λ r. MatchResult r (λ again. view_module again ≡ view_module m.now) (λ e. e ≡ NoMemory)) }
+    ensures refused { IfErr result (λ e. e ≡ TooLarge → (bytes : List ℕ) → IsModule bytes (view_module m.now) → ⊥) }
 {
-    let bytes = write(alloc, module)?;
+    let bytes = write(alloc, m)?;
     Ok(decode(alloc, &bytes))
 }

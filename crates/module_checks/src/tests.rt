@@ -49,7 +49,7 @@ fn module_of(alloc: Global, simples: &[Simple]) -> Result<Module, Fail> {
             FuncType {
                 params: Vec::new(alloc),
                 result: None,
-            }
+            },
         ]?,
         imports: Vec::new(alloc),
         funcs: vec![in alloc;
@@ -57,7 +57,7 @@ fn module_of(alloc: Global, simples: &[Simple]) -> Result<Module, Fail> {
                 ty: 0,
                 locals: Vec::new(alloc),
                 body: Rc::new(alloc, body)?,
-            }
+            },
         ]?,
         table: None,
         memory: None,
@@ -104,7 +104,7 @@ fn comparisons(alloc: Global, t: ValType) -> Result<Vec<Simple>, Fail> {
         Simple::Compare(t, IRelOp::LeS),
         Simple::Compare(t, IRelOp::LeU),
         Simple::Compare(t, IRelOp::GeS),
-        Simple::Compare(t, IRelOp::GeU)
+        Simple::Compare(t, IRelOp::GeU),
     ]?)
 }
 
@@ -128,7 +128,7 @@ fn operators(alloc: Global, t: ValType) -> Result<Vec<Simple>, Fail> {
         Simple::Binary(t, IBinOp::ShrS),
         Simple::Binary(t, IBinOp::ShrU),
         Simple::Binary(t, IBinOp::Rotl),
-        Simple::Binary(t, IBinOp::Rotr)
+        Simple::Binary(t, IBinOp::Rotr),
     ]?)
 }
 

@@ -1,12 +1,12 @@
 //! Instructions and their bodies.
 
-ghost use Rattle.std.specs.Prelude.{◌≡◌, ◌+◌, ◌-◌, Some, None, Ok, MatchOption, length};
+ghost use Rattle.std.specs.Prelude.{◌≡◌, ◌+◌, ◌-◌, Some, None, MatchOption, length};
 ghost use Rattle.wasm_types.specs.declared.instr.Simple.TheVariants as simple;
 ghost use Rattle.wasm_types.specs.Opcodes.{indexed};
 ghost use Rattle.wasm_types.specs.Syntax.{Plain, Block, Loop, If};
 ghost use Rattle.wasm_types.specs.View.{view, views};
-ghost use Rattle.module_decoder.specs.Readers.{◌>>=◌, Gives, vec_at, index_at, bits32_at, bits64_at};
-ghost use Rattle.module_decoder.specs.Reading.{step_by, step_at, mem_arg_at, reserved_at, made_body, block_at, loop_at, if_at, table_at, instr_by, body_at, expr_at};
+ghost use Rattle.module_decoder.specs.Readers.{Gives, mapped, vec_at, index_at, bits32_at, bits64_at};
+ghost use Rattle.module_decoder.specs.Reading.{step_by, step_at, mem_arg_at, reserved_at, call_indirect_at, made_body, block_at, loop_at, if_at, table_at, instr_by, body_at, expr_at};
 
 use crate::basics::{Span, bits32, bits64, block_type, index, mem_arg, reserved};
 use crate::fault::DecodeFault;
@@ -80,7 +80,11 @@ fn behind(c: Span, bytes: &[u8]) -> usize
 }
 
 /// Indices with their number before them.
-pub(crate) fn indices(alloc: Global, c: Span, bytes: &[u8]) -> Result<(Vec<u32>, &[u8]), DecodeFault>
+pub(crate) fn indices(
+    alloc: Global,
+    c: Span,
+    bytes: &[u8],
+) -> Result<(Vec<u32>, &[u8]), DecodeFault>
     ensures { Gives (λ x. (x.0.items, x.1.now)) result (vec_at c (index_at c) bytes.now) }
 {
     let (count, first) = index(c, bytes)?;
@@ -95,42 +99,42 @@ pub(crate) fn indices(alloc: Global, c: Span, bytes: &[u8]) -> Result<(Vec<u32>,
 }
 
 fn indexed(c: Span, op: IndexOp, bytes: &[u8]) -> Result<(Instr, &[u8]), DecodeFault>
-    ensures { Gives (λ x. (view x.0, x.1.now)) result (index_at c bytes.now >>= λ n. Ok (Plain (indexed op n.0), n.1)) }
+    ensures { Gives (λ x. (view x.0, x.1.now)) result (mapped (λ n. Plain (indexed op n)) (index_at c) bytes.now) }
 {
     let (n, rest) = index(c, bytes)?;
     Ok((Instr::Plain(op.with(n)), rest))
 }
 
 fn load(c: Span, op: LoadOp, bytes: &[u8]) -> Result<(Instr, &[u8]), DecodeFault>
-    ensures { Gives (λ x. (view x.0, x.1.now)) result (mem_arg_at c bytes.now >>= λ m. Ok (Plain (simple.Load op m.0), m.1)) }
+    ensures { Gives (λ x. (view x.0, x.1.now)) result (mapped (λ m. Plain (simple.Load op m)) (mem_arg_at c) bytes.now) }
 {
     let (arg, rest) = mem_arg(c, bytes)?;
     Ok((Instr::Plain(Simple::Load(op, arg)), rest))
 }
 
 fn store(c: Span, op: StoreOp, bytes: &[u8]) -> Result<(Instr, &[u8]), DecodeFault>
-    ensures { Gives (λ x. (view x.0, x.1.now)) result (mem_arg_at c bytes.now >>= λ m. Ok (Plain (simple.Store op m.0), m.1)) }
+    ensures { Gives (λ x. (view x.0, x.1.now)) result (mapped (λ m. Plain (simple.Store op m)) (mem_arg_at c) bytes.now) }
 {
     let (arg, rest) = mem_arg(c, bytes)?;
     Ok((Instr::Plain(Simple::Store(op, arg)), rest))
 }
 
 fn i32_const(c: Span, bytes: &[u8]) -> Result<(Instr, &[u8]), DecodeFault>
-    ensures { Gives (λ x. (view x.0, x.1.now)) result (bits32_at c bytes.now >>= λ n. Ok (Plain (simple.I32Const n.0), n.1)) }
+    ensures { Gives (λ x. (view x.0, x.1.now)) result (mapped (λ n. Plain (simple.I32Const n)) (bits32_at c) bytes.now) }
 {
     let (n, rest) = bits32(c, bytes)?;
     Ok((Instr::Plain(Simple::I32Const(n)), rest))
 }
 
 fn i64_const(c: Span, bytes: &[u8]) -> Result<(Instr, &[u8]), DecodeFault>
-    ensures { Gives (λ x. (view x.0, x.1.now)) result (bits64_at c bytes.now >>= λ n. Ok (Plain (simple.I64Const n.0), n.1)) }
+    ensures { Gives (λ x. (view x.0, x.1.now)) result (mapped (λ n. Plain (simple.I64Const n)) (bits64_at c) bytes.now) }
 {
     let (n, rest) = bits64(c, bytes)?;
     Ok((Instr::Plain(Simple::I64Const(n)), rest))
 }
 
 fn call_indirect(c: Span, bytes: &[u8]) -> Result<(Instr, &[u8]), DecodeFault>
-    ensures { Gives (λ x. (view x.0, x.1.now)) result (index_at c bytes.now >>= λ n. reserved_at c n.1 >>= λ r. Ok (Plain (simple.CallIndirect n.0), r.1)) }
+    ensures { Gives (λ x. (view x.0, x.1.now)) result (call_indirect_at c bytes.now) }
 {
     let (n, rest) = index(c, bytes)?;
     let (_, rest) = reserved(c, rest)?;
@@ -138,7 +142,7 @@ fn call_indirect(c: Span, bytes: &[u8]) -> Result<(Instr, &[u8]), DecodeFault>
 }
 
 fn with_reserved(c: Span, instr: Simple, bytes: &[u8]) -> Result<(Instr, &[u8]), DecodeFault>
-    ensures { Gives (λ x. (view x.0, x.1.now)) result (reserved_at c bytes.now >>= λ r. Ok (Plain instr, r.1)) }
+    ensures { Gives (λ x. (view x.0, x.1.now)) result (mapped (λ r. Plain instr) (reserved_at c) bytes.now) }
 {
     let (_, rest) = reserved(c, bytes)?;
     Ok((Instr::Plain(instr), rest))

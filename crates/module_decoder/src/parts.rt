@@ -27,7 +27,11 @@ pub struct Code {
 }
 
 /// Types of values with their number before them.
-pub(crate) fn params(alloc: Global, c: Span, bytes: &[u8]) -> Result<(Vec<ValType>, &[u8]), DecodeFault>
+pub(crate) fn params(
+    alloc: Global,
+    c: Span,
+    bytes: &[u8],
+) -> Result<(Vec<ValType>, &[u8]), DecodeFault>
     ensures { Gives (λ x. (x.0.items, x.1.now)) result (vec_at c (val_type_at c) bytes.now) }
 {
     let (count, first) = index(c, bytes)?;
@@ -117,7 +121,11 @@ fn import(alloc: Global, c: Span, bytes: &[u8]) -> Result<(Import, &[u8]), Decod
 }
 
 /// The contents of an import section.
-pub(crate) fn imports(alloc: Global, c: Span, bytes: &[u8]) -> Result<(Vec<Import>, &[u8]), DecodeFault>
+pub(crate) fn imports(
+    alloc: Global,
+    c: Span,
+    bytes: &[u8],
+) -> Result<(Vec<Import>, &[u8]), DecodeFault>
     ensures { Gives (λ x. (map view_import x.0.items, x.1.now)) result (vec_at c (import_at c) bytes.now) }
 {
     let (count, first) = index(c, bytes)?;
@@ -280,7 +288,11 @@ fn export(alloc: Global, c: Span, bytes: &[u8]) -> Result<(Export, &[u8]), Decod
 }
 
 /// The contents of an export section.
-pub(crate) fn exports(alloc: Global, c: Span, bytes: &[u8]) -> Result<(Vec<Export>, &[u8]), DecodeFault>
+pub(crate) fn exports(
+    alloc: Global,
+    c: Span,
+    bytes: &[u8],
+) -> Result<(Vec<Export>, &[u8]), DecodeFault>
     ensures { Gives (λ x. (map view_export x.0.items, x.1.now)) result (vec_at c (export_at c) bytes.now) }
 {
     let (count, first) = index(c, bytes)?;
@@ -342,7 +354,11 @@ fn segment(alloc: Global, c: Span, bytes: &[u8]) -> Result<(Data, &[u8]), Decode
 }
 
 /// The contents of a data section.
-pub(crate) fn segments(alloc: Global, c: Span, bytes: &[u8]) -> Result<(Vec<Data>, &[u8]), DecodeFault>
+pub(crate) fn segments(
+    alloc: Global,
+    c: Span,
+    bytes: &[u8],
+) -> Result<(Vec<Data>, &[u8]), DecodeFault>
     ensures { Gives (λ x. (map view_data x.0.items, x.1.now)) result (vec_at c (data_at c) bytes.now) }
 {
     let (count, first) = index(c, bytes)?;

@@ -87,7 +87,7 @@ fn number(id: SectionId) -> u8
 
 // What was read, if nothing is left behind it.
 fn whole<T: Drop>(c: Span, read: (T, &[u8])) -> Result<T, DecodeFault>
-    ensures { Gives (λ x. x) result (ended c (read.0, read.1.now)) }
+    ensures { Gives (λ x. x) result (ended c (read.entry.0, read.entry.1.now)) }
 {
     ended(c, read.1)?;
     Ok(read.0)
