@@ -1,5 +1,5 @@
 -- A reader that gives a module has given it, or there was no memory.
-use Rattle.std.proofs.Common.{◌≡◌, ℕ, Result, Ok, Err, sym}
+use Rattle.std.proofs.Common.{◌≡◌, Result, Ok, Err, refl, sym}
 use Rattle.std.specs.Prelude.{MatchResult}
 use Rattle.wasm_types.specs.declared.module.Module.{Module}
 use Rattle.wasm_types.specs.Syntax.{ModuleForm}
