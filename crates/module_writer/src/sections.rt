@@ -220,7 +220,10 @@ fn sections(alloc: alloc::Global, out: &mut Vec<u8>, m: &Module) -> Result<(), W
     data_section(alloc, out, &m.data)
 }
 
-/// The bytes of a module.
+/// The bytes of a module (Core 1.0, section 5.5): the fewest that are its, without custom sections.
+///
+/// `TooLarge` where no bytes are the module's within the limits: it has more than 16 MiB of them, blocks nested more than 4,000 deep,
+/// more than 50,000 locals in a function, more than 256 pages or more than 65,536 table elements at first. `NoMemory` where there was no memory.
 pub fn write(alloc: alloc::Global, m: &Module) -> Result<Vec<u8>, WriteFault>
     ensures spelled { IfOk result (λ v. IsModule v.items (view_module m.now)) }
     ensures shortest { IfOk result (λ v. (other : List ℕ) → IsModule other (view_module m.now) → length v.items ≤ length other) }
