@@ -1,10 +1,14 @@
 //! Says of each module on standard input what the decoder and the validator answer.
 //!
 //! A line is a description, a colon and the module in hexadecimal. The answer is `valid`, or the fault.
+//! A module that is decoded is written and decoded again before it is validated.
 #![tactic(auto)]
+
+mod round_trip;
 
 use module_decoder::decode;
 use module_validator::validate;
+use round_trip::decode_written;
 use std::alloc::{AllocError, Global};
 use std::io;
 
@@ -36,7 +40,12 @@ fn answer(alloc: Global, bytes: &[u8]) -> Result<String, AllocError> {
         Ok(module) => module,
         Err(fault) => return format!(in alloc; "{fault:?}"),
     };
-    match validate(alloc, module) {
+    let again = match decode_written(alloc, &module) {
+        Ok(Ok(again)) => again,
+        Ok(Err(fault)) => return format!(in alloc; "read again: {fault:?}"),
+        Err(fault) => return format!(in alloc; "written: {fault:?}"),
+    };
+    match validate(alloc, again) {
         Ok(_) => format!(in alloc; "valid"),
         Err((_, fault)) => format!(in alloc; "{fault}"),
     }

@@ -92,6 +92,9 @@ table_at c bytes = vec_at c (index_at c) bytes >>= λ ns. index_at c ns.1 >>= λ
 abbrev pub mem_arg_at : Span → List ℕ → Read MemArg
 mem_arg_at c bytes = index_at c bytes >>= λ a. index_at c a.1 >>= λ o. Ok (record { align = a.0; offset = o.0 }, o.1)
 
+abbrev pub call_indirect_at : Span → List ℕ → Read Instruction
+call_indirect_at c bytes = index_at c bytes >>= λ n. reserved_at c n.1 >>= λ r. Ok (Plain (simple.CallIndirect n.0), r.1)
+
 -- an instruction by what its opcode, the byte before these, begins
 abbrev pub instr_by : Span → (List ℕ → ReadBody) → Lead → List ℕ → Read Instruction
 instr_by c body (lead.Bare p) bytes = Ok (Plain p, bytes)
@@ -100,7 +103,7 @@ instr_by c body (lead.Load op) bytes = mem_arg_at c bytes >>= λ m. Ok (Plain (s
 instr_by c body (lead.Store op) bytes = mem_arg_at c bytes >>= λ m. Ok (Plain (simple.Store op m.0), m.1)
 instr_by c body lead.I32Const bytes = bits32_at c bytes >>= λ n. Ok (Plain (simple.I32Const n.0), n.1)
 instr_by c body lead.I64Const bytes = bits64_at c bytes >>= λ n. Ok (Plain (simple.I64Const n.0), n.1)
-instr_by c body lead.CallIndirect bytes = index_at c bytes >>= λ n. reserved_at c n.1 >>= λ r. Ok (Plain (simple.CallIndirect n.0), r.1)
+instr_by c body lead.CallIndirect bytes = call_indirect_at c bytes
 instr_by c body lead.MemorySize bytes = reserved_at c bytes >>= λ r. Ok (Plain simple.MemorySize, r.1)
 instr_by c body lead.MemoryGrow bytes = reserved_at c bytes >>= λ r. Ok (Plain simple.MemoryGrow, r.1)
 instr_by c body lead.BrTable bytes = table_at c bytes

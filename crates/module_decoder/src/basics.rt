@@ -20,14 +20,14 @@ pub struct Span {
 
 impl Span {
     /// The place of the first of these bytes.
-    pub fn place(self, bytes: &[u8]) -> usize
+    pub(crate) fn place(self, bytes: &[u8]) -> usize
         ensures { result ≡ place self bytes.now }
     {
         self.end.saturating_sub(bytes.len())
     }
 
     /// A part of the section is malformed.
-    pub fn malformed(self) -> DecodeFault
+    pub(crate) fn malformed(self) -> DecodeFault
         ensures { result ≡ BadSection self.section }
     {
         DecodeFault::BadSection(self.section)
@@ -35,7 +35,7 @@ impl Span {
 }
 
 /// Whether all bytes say that more follow, and there are fewer than an integer may have.
-pub fn unfinished(bytes: &[u8], most: u8) -> bool
+pub(crate) fn unfinished(bytes: &[u8], most: u8) -> bool
     ensures { result ≡ unfinished most bytes.now }
 {
     if most == 0 {
@@ -58,7 +58,7 @@ fn no_integer(c: Span, most: u8, bytes: &[u8]) -> DecodeFault
 }
 
 /// The bytes are at their end.
-pub fn ended(c: Span, bytes: &[u8]) -> Result<(), DecodeFault>
+pub(crate) fn ended(c: Span, bytes: &[u8]) -> Result<(), DecodeFault>
     ensures { Gives (λ x. x) result (ended_by c bytes.now) }
 {
     match bytes {
@@ -69,7 +69,7 @@ pub fn ended(c: Span, bytes: &[u8]) -> Result<(), DecodeFault>
 
 /// An unsigned integer.
 #[tactic(auto, unfolding(crate::specs::Readers::index_at))]
-pub fn index(c: Span, bytes: &[u8]) -> Result<(u32, &[u8]), DecodeFault>
+pub(crate) fn index(c: Span, bytes: &[u8]) -> Result<(u32, &[u8]), DecodeFault>
     ensures { Gives (λ x. (x.0, x.1.now)) result (index_at c bytes.now) }
 {
     match take_u32(bytes) {
@@ -80,7 +80,7 @@ pub fn index(c: Span, bytes: &[u8]) -> Result<(u32, &[u8]), DecodeFault>
 
 /// The bits of a signed integer of 32 bits.
 #[tactic(auto, unfolding(crate::specs::Readers::bits32_at))]
-pub fn bits32(c: Span, bytes: &[u8]) -> Result<(u32, &[u8]), DecodeFault>
+pub(crate) fn bits32(c: Span, bytes: &[u8]) -> Result<(u32, &[u8]), DecodeFault>
     ensures { Gives (λ x. (x.0, x.1.now)) result (bits32_at c bytes.now) }
 {
     match take_s32(bytes) {
@@ -91,7 +91,7 @@ pub fn bits32(c: Span, bytes: &[u8]) -> Result<(u32, &[u8]), DecodeFault>
 
 /// The bits of a signed integer of 64 bits.
 #[tactic(auto, unfolding(crate::specs::Readers::bits64_at))]
-pub fn bits64(c: Span, bytes: &[u8]) -> Result<(u64, &[u8]), DecodeFault>
+pub(crate) fn bits64(c: Span, bytes: &[u8]) -> Result<(u64, &[u8]), DecodeFault>
     ensures { Gives (λ x. (x.0, x.1.now)) result (bits64_at c bytes.now) }
 {
     match take_s64(bytes) {
@@ -112,7 +112,7 @@ fn val_type_by(c: Span, b: u8, bytes: &[u8]) -> Result<ValType, DecodeFault>
 }
 
 /// The type of a value.
-pub fn val_type(c: Span, bytes: &[u8]) -> Result<(ValType, &[u8]), DecodeFault>
+pub(crate) fn val_type(c: Span, bytes: &[u8]) -> Result<(ValType, &[u8]), DecodeFault>
     ensures { Gives (λ x. (x.0, x.1.now)) result (val_type_at c bytes.now) }
 {
     match bytes {
@@ -125,7 +125,7 @@ pub fn val_type(c: Span, bytes: &[u8]) -> Result<(ValType, &[u8]), DecodeFault>
 }
 
 /// What a block gives.
-pub fn block_type(c: Span, bytes: &[u8]) -> Result<(BlockType, &[u8]), DecodeFault>
+pub(crate) fn block_type(c: Span, bytes: &[u8]) -> Result<(BlockType, &[u8]), DecodeFault>
     ensures { Gives (λ x. (x.0, x.1.now)) result (block_type_at c bytes.now) }
 {
     match bytes {
@@ -141,7 +141,7 @@ pub fn block_type(c: Span, bytes: &[u8]) -> Result<(BlockType, &[u8]), DecodeFau
 }
 
 /// A byte that has to be 0.
-pub fn reserved(c: Span, bytes: &[u8]) -> Result<((), &[u8]), DecodeFault>
+pub(crate) fn reserved(c: Span, bytes: &[u8]) -> Result<((), &[u8]), DecodeFault>
     ensures { Gives (λ x. (x.0, x.1.now)) result (reserved_at c bytes.now) }
 {
     match bytes {
@@ -157,7 +157,7 @@ pub fn reserved(c: Span, bytes: &[u8]) -> Result<((), &[u8]), DecodeFault>
 }
 
 /// An alignment and an offset.
-pub fn mem_arg(c: Span, bytes: &[u8]) -> Result<(MemArg, &[u8]), DecodeFault>
+pub(crate) fn mem_arg(c: Span, bytes: &[u8]) -> Result<(MemArg, &[u8]), DecodeFault>
     ensures { Gives (λ x. (x.0, x.1.now)) result (mem_arg_at c bytes.now) }
 {
     let (align, rest) = index(c, bytes)?;
@@ -166,7 +166,7 @@ pub fn mem_arg(c: Span, bytes: &[u8]) -> Result<(MemArg, &[u8]), DecodeFault>
 }
 
 /// Whether a global can be written.
-pub fn mutability(c: Span, bytes: &[u8]) -> Result<(bool, &[u8]), DecodeFault>
+pub(crate) fn mutability(c: Span, bytes: &[u8]) -> Result<(bool, &[u8]), DecodeFault>
     ensures { Gives (λ x. (x.0, x.1.now)) result (mut_at c bytes.now) }
 {
     match bytes {
@@ -180,7 +180,7 @@ pub fn mutability(c: Span, bytes: &[u8]) -> Result<(bool, &[u8]), DecodeFault>
 }
 
 /// Bytes with their number before them.
-pub fn counted(c: Span, bytes: &[u8]) -> Result<(&[u8], &[u8]), DecodeFault>
+pub(crate) fn counted(c: Span, bytes: &[u8]) -> Result<(&[u8], &[u8]), DecodeFault>
     ensures { Gives (λ x. (x.0.now, x.1.now)) result (bytes_at c bytes.now) }
 {
     let (n, rest) = index(c, bytes)?;
@@ -193,7 +193,7 @@ pub fn counted(c: Span, bytes: &[u8]) -> Result<(&[u8], &[u8]), DecodeFault>
 }
 
 /// A name.
-pub fn name(alloc: Global, c: Span, bytes: &[u8]) -> Result<(String, &[u8]), DecodeFault>
+pub(crate) fn name(alloc: Global, c: Span, bytes: &[u8]) -> Result<(String, &[u8]), DecodeFault>
     ensures { Gives (λ x. (string_bytes x.0, x.1.now)) result (name_at c bytes.now) }
 {
     let (text, rest) = counted(c, bytes)?;

@@ -1,16 +1,18 @@
 //! Instructions and their bodies.
 
 ghost use Rattle.std.specs.Prelude.{◌≡◌, ◌+◌, ◌-◌, Some, None, MatchOption, length};
-ghost use Rattle.wasm_types.specs.Syntax.{Block, Loop, If};
+ghost use Rattle.wasm_types.specs.declared.instr.Simple.TheVariants as simple;
+ghost use Rattle.wasm_types.specs.Opcodes.{indexed};
+ghost use Rattle.wasm_types.specs.Syntax.{Plain, Block, Loop, If};
 ghost use Rattle.wasm_types.specs.View.{view, views};
-ghost use Rattle.module_decoder.specs.Readers.{Gives, vec_at, index_at};
-ghost use Rattle.module_decoder.specs.Reading.{step_by, step_at, made_body, block_at, loop_at, if_at, table_at, instr_by, body_at, expr_at};
+ghost use Rattle.module_decoder.specs.Readers.{Gives, mapped, vec_at, index_at, bits32_at, bits64_at};
+ghost use Rattle.module_decoder.specs.Reading.{step_by, step_at, mem_arg_at, reserved_at, call_indirect_at, made_body, block_at, loop_at, if_at, table_at, instr_by, body_at, expr_at};
 
 use crate::basics::{Span, bits32, bits64, block_type, index, mem_arg, reserved};
 use crate::fault::DecodeFault;
 use std::alloc::Global;
 use std::rc::Rc;
-use wasm_types::{Instr, Lead, Simple, lead_of};
+use wasm_types::{IndexOp, Instr, Lead, LoadOp, Simple, StoreOp, lead_of};
 
 /// How deep bodies may be nested.
 const MAX_NESTING: u32 = 4000;
@@ -78,7 +80,11 @@ fn behind(c: Span, bytes: &[u8]) -> usize
 }
 
 /// Indices with their number before them.
-pub fn indices(alloc: Global, c: Span, bytes: &[u8]) -> Result<(Vec<u32>, &[u8]), DecodeFault>
+pub(crate) fn indices(
+    alloc: Global,
+    c: Span,
+    bytes: &[u8],
+) -> Result<(Vec<u32>, &[u8]), DecodeFault>
     ensures { Gives (λ x. (x.0.items, x.1.now)) result (vec_at c (index_at c) bytes.now) }
 {
     let (count, first) = index(c, bytes)?;
@@ -90,6 +96,56 @@ pub fn indices(alloc: Global, c: Span, bytes: &[u8]) -> Result<(Vec<u32>, &[u8])
         rest = after;
     }
     Ok((all, rest))
+}
+
+fn indexed(c: Span, op: IndexOp, bytes: &[u8]) -> Result<(Instr, &[u8]), DecodeFault>
+    ensures { Gives (λ x. (view x.0, x.1.now)) result (mapped (λ n. Plain (indexed op n)) (index_at c) bytes.now) }
+{
+    let (n, rest) = index(c, bytes)?;
+    Ok((Instr::Plain(op.with(n)), rest))
+}
+
+fn load(c: Span, op: LoadOp, bytes: &[u8]) -> Result<(Instr, &[u8]), DecodeFault>
+    ensures { Gives (λ x. (view x.0, x.1.now)) result (mapped (λ m. Plain (simple.Load op m)) (mem_arg_at c) bytes.now) }
+{
+    let (arg, rest) = mem_arg(c, bytes)?;
+    Ok((Instr::Plain(Simple::Load(op, arg)), rest))
+}
+
+fn store(c: Span, op: StoreOp, bytes: &[u8]) -> Result<(Instr, &[u8]), DecodeFault>
+    ensures { Gives (λ x. (view x.0, x.1.now)) result (mapped (λ m. Plain (simple.Store op m)) (mem_arg_at c) bytes.now) }
+{
+    let (arg, rest) = mem_arg(c, bytes)?;
+    Ok((Instr::Plain(Simple::Store(op, arg)), rest))
+}
+
+fn i32_const(c: Span, bytes: &[u8]) -> Result<(Instr, &[u8]), DecodeFault>
+    ensures { Gives (λ x. (view x.0, x.1.now)) result (mapped (λ n. Plain (simple.I32Const n)) (bits32_at c) bytes.now) }
+{
+    let (n, rest) = bits32(c, bytes)?;
+    Ok((Instr::Plain(Simple::I32Const(n)), rest))
+}
+
+fn i64_const(c: Span, bytes: &[u8]) -> Result<(Instr, &[u8]), DecodeFault>
+    ensures { Gives (λ x. (view x.0, x.1.now)) result (mapped (λ n. Plain (simple.I64Const n)) (bits64_at c) bytes.now) }
+{
+    let (n, rest) = bits64(c, bytes)?;
+    Ok((Instr::Plain(Simple::I64Const(n)), rest))
+}
+
+fn call_indirect(c: Span, bytes: &[u8]) -> Result<(Instr, &[u8]), DecodeFault>
+    ensures { Gives (λ x. (view x.0, x.1.now)) result (call_indirect_at c bytes.now) }
+{
+    let (n, rest) = index(c, bytes)?;
+    let (_, rest) = reserved(c, rest)?;
+    Ok((Instr::Plain(Simple::CallIndirect(n)), rest))
+}
+
+fn with_reserved(c: Span, instr: Simple, bytes: &[u8]) -> Result<(Instr, &[u8]), DecodeFault>
+    ensures { Gives (λ x. (view x.0, x.1.now)) result (mapped (λ r. Plain instr) (reserved_at c) bytes.now) }
+{
+    let (_, rest) = reserved(c, bytes)?;
+    Ok((Instr::Plain(instr), rest))
 }
 
 fn table(alloc: Global, c: Span, bytes: &[u8]) -> Result<(Instr, &[u8]), DecodeFault>
@@ -164,39 +220,14 @@ fn instr(
 {
     match lead {
         Lead::Bare(p) => Ok((Instr::Plain(p), bytes)),
-        Lead::Index(op) => {
-            let (n, rest) = index(c, bytes)?;
-            Ok((Instr::Plain(op.with(n)), rest))
-        }
-        Lead::Load(op) => {
-            let (arg, rest) = mem_arg(c, bytes)?;
-            Ok((Instr::Plain(Simple::Load(op, arg)), rest))
-        }
-        Lead::Store(op) => {
-            let (arg, rest) = mem_arg(c, bytes)?;
-            Ok((Instr::Plain(Simple::Store(op, arg)), rest))
-        }
-        Lead::I32Const => {
-            let (n, rest) = bits32(c, bytes)?;
-            Ok((Instr::Plain(Simple::I32Const(n)), rest))
-        }
-        Lead::I64Const => {
-            let (n, rest) = bits64(c, bytes)?;
-            Ok((Instr::Plain(Simple::I64Const(n)), rest))
-        }
-        Lead::CallIndirect => {
-            let (n, rest) = index(c, bytes)?;
-            let (_, rest) = reserved(c, rest)?;
-            Ok((Instr::Plain(Simple::CallIndirect(n)), rest))
-        }
-        Lead::MemorySize => {
-            let (_, rest) = reserved(c, bytes)?;
-            Ok((Instr::Plain(Simple::MemorySize), rest))
-        }
-        Lead::MemoryGrow => {
-            let (_, rest) = reserved(c, bytes)?;
-            Ok((Instr::Plain(Simple::MemoryGrow), rest))
-        }
+        Lead::Index(op) => indexed(c, op, bytes),
+        Lead::Load(op) => load(c, op, bytes),
+        Lead::Store(op) => store(c, op, bytes),
+        Lead::I32Const => i32_const(c, bytes),
+        Lead::I64Const => i64_const(c, bytes),
+        Lead::CallIndirect => call_indirect(c, bytes),
+        Lead::MemorySize => with_reserved(c, Simple::MemorySize, bytes),
+        Lead::MemoryGrow => with_reserved(c, Simple::MemoryGrow, bytes),
         Lead::BrTable => table(alloc, c, bytes),
         Lead::Block => block(alloc, c, limit, bytes),
         Lead::Loop => looped(alloc, c, limit, bytes),
@@ -208,7 +239,7 @@ fn instr(
 
 /// Instructions up to what ends them.
 #[cycle(body)]
-pub fn body_of(
+pub(crate) fn body_of(
     alloc: Global,
     c: Span,
     limit: u32,
@@ -243,7 +274,7 @@ pub fn body_of(
 }
 
 /// Instructions and their end.
-pub fn expr(alloc: Global, c: Span, bytes: &[u8]) -> Result<(Vec<Instr>, &[u8]), DecodeFault>
+pub(crate) fn expr(alloc: Global, c: Span, bytes: &[u8]) -> Result<(Vec<Instr>, &[u8]), DecodeFault>
     ensures { Gives (λ x. (views x.0.items, x.1.now)) result (expr_at c bytes.now) }
 {
     let body = body_of(alloc, c, MAX_NESTING + 1, bytes)?;

@@ -27,7 +27,11 @@ pub struct Code {
 }
 
 /// Types of values with their number before them.
-pub fn params(alloc: Global, c: Span, bytes: &[u8]) -> Result<(Vec<ValType>, &[u8]), DecodeFault>
+pub(crate) fn params(
+    alloc: Global,
+    c: Span,
+    bytes: &[u8],
+) -> Result<(Vec<ValType>, &[u8]), DecodeFault>
     ensures { Gives (λ x. (x.0.items, x.1.now)) result (vec_at c (val_type_at c) bytes.now) }
 {
     let (count, first) = index(c, bytes)?;
@@ -42,7 +46,7 @@ pub fn params(alloc: Global, c: Span, bytes: &[u8]) -> Result<(Vec<ValType>, &[u
 }
 
 /// At most one type of a value, with the number before it.
-pub fn result_type(c: Span, bytes: &[u8]) -> Result<(Option<ValType>, &[u8]), DecodeFault>
+pub(crate) fn result_type(c: Span, bytes: &[u8]) -> Result<(Option<ValType>, &[u8]), DecodeFault>
     ensures { Gives (λ x. (x.0, x.1.now)) result (option_at c (val_type_at c) bytes.now) }
 {
     let (count, rest) = index(c, bytes)?;
@@ -73,7 +77,7 @@ fn func_type(alloc: Global, c: Span, bytes: &[u8]) -> Result<(FuncType, &[u8]), 
 }
 
 /// The contents of a type section.
-pub fn func_types(
+pub(crate) fn func_types(
     alloc: Global,
     c: Span,
     bytes: &[u8],
@@ -117,7 +121,11 @@ fn import(alloc: Global, c: Span, bytes: &[u8]) -> Result<(Import, &[u8]), Decod
 }
 
 /// The contents of an import section.
-pub fn imports(alloc: Global, c: Span, bytes: &[u8]) -> Result<(Vec<Import>, &[u8]), DecodeFault>
+pub(crate) fn imports(
+    alloc: Global,
+    c: Span,
+    bytes: &[u8],
+) -> Result<(Vec<Import>, &[u8]), DecodeFault>
     ensures { Gives (λ x. (map view_import x.0.items, x.1.now)) result (vec_at c (import_at c) bytes.now) }
 {
     let (count, first) = index(c, bytes)?;
@@ -186,7 +194,7 @@ fn table_type(c: Span, bytes: &[u8]) -> Result<(Limits, &[u8]), DecodeFault>
 }
 
 /// The contents of a table section.
-pub fn table(c: Span, bytes: &[u8]) -> Result<(Option<Limits>, &[u8]), DecodeFault>
+pub(crate) fn table(c: Span, bytes: &[u8]) -> Result<(Option<Limits>, &[u8]), DecodeFault>
     ensures { Gives (λ x. (x.0, x.1.now)) result (option_at c (table_type_at c) bytes.now) }
 {
     let (count, rest) = index(c, bytes)?;
@@ -201,7 +209,7 @@ pub fn table(c: Span, bytes: &[u8]) -> Result<(Option<Limits>, &[u8]), DecodeFau
 }
 
 /// The contents of a memory section.
-pub fn memory(c: Span, bytes: &[u8]) -> Result<(Option<Limits>, &[u8]), DecodeFault>
+pub(crate) fn memory(c: Span, bytes: &[u8]) -> Result<(Option<Limits>, &[u8]), DecodeFault>
     ensures { Gives (λ x. (x.0, x.1.now)) result (option_at c (limits_at c 256) bytes.now) }
 {
     let (count, rest) = index(c, bytes)?;
@@ -232,7 +240,7 @@ fn global(alloc: Global, c: Span, bytes: &[u8]) -> Result<(wasm_types::Global, &
 }
 
 /// The contents of a global section.
-pub fn globals(
+pub(crate) fn globals(
     alloc: Global,
     c: Span,
     bytes: &[u8],
@@ -280,7 +288,11 @@ fn export(alloc: Global, c: Span, bytes: &[u8]) -> Result<(Export, &[u8]), Decod
 }
 
 /// The contents of an export section.
-pub fn exports(alloc: Global, c: Span, bytes: &[u8]) -> Result<(Vec<Export>, &[u8]), DecodeFault>
+pub(crate) fn exports(
+    alloc: Global,
+    c: Span,
+    bytes: &[u8],
+) -> Result<(Vec<Export>, &[u8]), DecodeFault>
     ensures { Gives (λ x. (map view_export x.0.items, x.1.now)) result (vec_at c (export_at c) bytes.now) }
 {
     let (count, first) = index(c, bytes)?;
@@ -311,7 +323,7 @@ fn elem(alloc: Global, c: Span, bytes: &[u8]) -> Result<(Elem, &[u8]), DecodeFau
 }
 
 /// The contents of an element section.
-pub fn elems(alloc: Global, c: Span, bytes: &[u8]) -> Result<(Vec<Elem>, &[u8]), DecodeFault>
+pub(crate) fn elems(alloc: Global, c: Span, bytes: &[u8]) -> Result<(Vec<Elem>, &[u8]), DecodeFault>
     ensures { Gives (λ x. (map view_elem x.0.items, x.1.now)) result (vec_at c (elem_at c) bytes.now) }
 {
     let (count, first) = index(c, bytes)?;
@@ -342,7 +354,11 @@ fn segment(alloc: Global, c: Span, bytes: &[u8]) -> Result<(Data, &[u8]), Decode
 }
 
 /// The contents of a data section.
-pub fn segments(alloc: Global, c: Span, bytes: &[u8]) -> Result<(Vec<Data>, &[u8]), DecodeFault>
+pub(crate) fn segments(
+    alloc: Global,
+    c: Span,
+    bytes: &[u8],
+) -> Result<(Vec<Data>, &[u8]), DecodeFault>
     ensures { Gives (λ x. (map view_data x.0.items, x.1.now)) result (vec_at c (data_at c) bytes.now) }
 {
     let (count, first) = index(c, bytes)?;
@@ -408,7 +424,7 @@ fn code_entry(alloc: Global, c: Span, bytes: &[u8]) -> Result<(Code, &[u8]), Dec
 }
 
 /// The contents of a code section.
-pub fn codes(alloc: Global, c: Span, bytes: &[u8]) -> Result<(Vec<Code>, &[u8]), DecodeFault>
+pub(crate) fn codes(alloc: Global, c: Span, bytes: &[u8]) -> Result<(Vec<Code>, &[u8]), DecodeFault>
     ensures { Gives (λ x. (map view_code x.0.items, x.1.now)) result (vec_at c (code_at c) bytes.now) }
 {
     let (count, first) = index(c, bytes)?;

@@ -5,7 +5,7 @@ ghost use Rattle.wasm_types.specs.Syntax.{ModuleForm};
 ghost use Rattle.wasm_types.specs.View.{view_func, view_module};
 ghost use Rattle.wasm_types.specs.ModuleGrammar.{number, no_parts, joined, module_of, IsModule};
 ghost use Rattle.module_decoder.specs.View.{view_code, view_parts, view_progress};
-ghost use Rattle.module_decoder.specs.Readers.{Gives, Fails};
+ghost use Rattle.module_decoder.specs.Readers.{Gives, Fails, ended};
 ghost use Rattle.module_decoder.specs.Reading.{made_frame, section_by, part_at, Frame, frame_at, section_at, sections_at, no_progress, custom_at, known_by, finished_by, after_header, module_at};
 
 use crate::basics::{Span, ended, index, name, unfinished};
@@ -85,6 +85,14 @@ fn number(id: SectionId) -> u8
     }
 }
 
+// What was read, if nothing is left behind it.
+fn whole<T: Drop>(c: Span, read: (T, &[u8])) -> Result<T, DecodeFault>
+    ensures { Gives (λ x. x) result (ended c (read.entry.0, read.entry.1.now)) }
+{
+    ended(c, read.1)?;
+    Ok(read.0)
+}
+
 impl Parts {
     fn new(alloc: Global) -> Parts
         ensures { view_parts result ≡ no_parts }
@@ -115,64 +123,23 @@ impl Parts {
         ensures { MatchResult result (λ _. part_at c id (view_parts self.old) bytes.now ≡ Ok (view_parts self.new)) (λ e. Fails e (part_at c id (view_parts self.old) bytes.now)) }
     {
         match id {
-            SectionId::Type => {
-                let (types, rest) = func_types(alloc, c, bytes)?;
-                ended(c, rest)?;
-                self.types = types;
-            }
-            SectionId::Import => {
-                let (imports, rest) = imports(alloc, c, bytes)?;
-                ended(c, rest)?;
-                self.imports = imports;
-            }
-            SectionId::Function => {
-                let (type_indices, rest) = indices(alloc, c, bytes)?;
-                ended(c, rest)?;
-                self.type_indices = type_indices;
-            }
-            SectionId::Table => {
-                let (table, rest) = table(c, bytes)?;
-                ended(c, rest)?;
-                self.table = table;
-            }
-            SectionId::Memory => {
-                let (memory, rest) = memory(c, bytes)?;
-                ended(c, rest)?;
-                self.memory = memory;
-            }
-            SectionId::Global => {
-                let (globals, rest) = globals(alloc, c, bytes)?;
-                ended(c, rest)?;
-                self.globals = globals;
-            }
-            SectionId::Export => {
-                let (exports, rest) = exports(alloc, c, bytes)?;
-                ended(c, rest)?;
-                self.exports = exports;
-            }
-            SectionId::Start => {
-                let (start, rest) = index(c, bytes)?;
-                ended(c, rest)?;
-                self.start = Some(start);
-            }
-            SectionId::Element => {
-                let (elems, rest) = elems(alloc, c, bytes)?;
-                ended(c, rest)?;
-                self.elems = elems;
-            }
+            SectionId::Type => self.types = whole(c, func_types(alloc, c, bytes)?)?,
+            SectionId::Import => self.imports = whole(c, imports(alloc, c, bytes)?)?,
+            SectionId::Function => self.type_indices = whole(c, indices(alloc, c, bytes)?)?,
+            SectionId::Table => self.table = whole(c, table(c, bytes)?)?,
+            SectionId::Memory => self.memory = whole(c, memory(c, bytes)?)?,
+            SectionId::Global => self.globals = whole(c, globals(alloc, c, bytes)?)?,
+            SectionId::Export => self.exports = whole(c, exports(alloc, c, bytes)?)?,
+            SectionId::Start => self.start = Some(whole(c, index(c, bytes)?)?),
+            SectionId::Element => self.elems = whole(c, elems(alloc, c, bytes)?)?,
             SectionId::Code => {
-                let (codes, rest) = codes(alloc, c, bytes)?;
-                ended(c, rest)?;
+                let codes = whole(c, codes(alloc, c, bytes)?)?;
                 if codes.len() != self.type_indices.len() {
                     return Err(c.malformed());
                 }
                 self.codes = codes;
             }
-            SectionId::Data => {
-                let (data, rest) = segments(alloc, c, bytes)?;
-                ended(c, rest)?;
-                self.data = data;
-            }
+            SectionId::Data => self.data = whole(c, segments(alloc, c, bytes)?)?,
         }
         Ok(())
     }

@@ -1,0 +1,10 @@
+pub mod Loops
+pub mod Sizes
+pub mod Meets
+pub mod Runs
+pub mod BodyLaws
+pub mod PartLaws
+pub mod SectionLaws
+pub mod ModuleLaws
+pub mod Shortest
+pub mod Written

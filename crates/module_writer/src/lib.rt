@@ -1,0 +1,14 @@
+//! The bytes of modules (Core 1.0, chapter 5).
+#![tactic(auto)]
+
+mod basics;
+mod body;
+mod fault;
+mod parts;
+mod sections;
+
+pub use fault::WriteFault;
+pub use sections::write;
+
+#[cfg(test)]
+mod tests;
