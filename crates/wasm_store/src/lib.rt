@@ -1,0 +1,10 @@
+//! What an instance of a module holds, and its integer operators (Core 1.0, sections 4.2 and 4.3).
+#![tactic(auto)]
+
+mod numeric;
+mod trap;
+mod word;
+
+pub use numeric::{binary, compare, convert, test, unary};
+pub use trap::TrapKind;
+pub use word::Word;
