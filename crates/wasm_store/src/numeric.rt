@@ -38,9 +38,11 @@ fn rem_s_32(a: u32, b: u32) -> Result<u32, TrapKind>
     if b == 0 {
         return Err(TrapKind::DivideByZero);
     }
-    Ok(a.cast_signed()
-        .wrapping_rem(b.cast_signed())
-        .cast_unsigned())
+    Ok(
+        a.cast_signed()
+            .wrapping_rem(b.cast_signed())
+            .cast_unsigned(),
+    )
 }
 
 fn rem_s_64(a: u64, b: u64) -> Result<u64, TrapKind>
@@ -49,9 +51,11 @@ fn rem_s_64(a: u64, b: u64) -> Result<u64, TrapKind>
     if b == 0 {
         return Err(TrapKind::DivideByZero);
     }
-    Ok(a.cast_signed()
-        .wrapping_rem(b.cast_signed())
-        .cast_unsigned())
+    Ok(
+        a.cast_signed()
+            .wrapping_rem(b.cast_signed())
+            .cast_unsigned(),
+    )
 }
 
 fn div_u_32(a: u32, b: u32) -> Result<u32, TrapKind>
@@ -103,7 +107,9 @@ fn shr_s_32(a: u32, b: u32) -> u32
 fn shr_s_64(a: u64, b: u64) -> u64
     ensures { result ≡ shifted_right_signed w64 a b }
 {
-    a.cast_signed().wrapping_shr((b % 64) as u32).cast_unsigned()
+    a.cast_signed()
+        .wrapping_shr((b % 64) as u32)
+        .cast_unsigned()
 }
 
 fn binary_32(op: IBinOp, a: u32, b: u32) -> Result<u32, TrapKind>

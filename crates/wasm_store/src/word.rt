@@ -1,6 +1,6 @@
 //! Values.
 ghost use Rattle.std.specs.Prelude.{◌≡◌};
-ghost use Rattle.wasm_store.specs.Words.{type_of, zero_of};
+ghost use Rattle.wasm_store.specs.Words.{pattern, type_of, zero_of};
 
 use wasm_types::ValType;
 
@@ -29,6 +29,16 @@ impl Word {
         match self {
             Word::I32(_) => ValType::I32,
             Word::I64(_) => ValType::I64,
+        }
+    }
+
+    /// The bit pattern, as a number.
+    pub(crate) fn pattern(self) -> u64
+        ensures { result ≡ pattern self }
+    {
+        match self {
+            Word::I32(n) => u64::from(n),
+            Word::I64(n) => n,
         }
     }
 }
