@@ -1,0 +1,4 @@
+pub mod Branches
+pub mod Cuts
+pub mod Settling
+pub mod Stepping
