@@ -1,4 +1,7 @@
 pub mod Branches
+pub mod Chains
 pub mod Cuts
+pub mod Refusals
 pub mod Settling
 pub mod Stepping
+pub mod Types

@@ -1,2 +1,5 @@
 pub mod Frames
+pub mod Hosts
+pub mod Machines
+pub mod Runs
 pub mod Stacks

@@ -3,4 +3,10 @@
 
 mod access;
 mod frame;
+mod host;
+mod machine;
 mod stack;
+mod state;
+
+pub use host::{HostAnswer, HostCalls};
+pub use machine::MachineEnd;
