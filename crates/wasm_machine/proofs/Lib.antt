@@ -1,7 +1,9 @@
 pub mod Branches
 pub mod Chains
 pub mod Cuts
+pub mod Operators
 pub mod Refusals
+pub mod Safe
 pub mod Settling
 pub mod Stepping
 pub mod Types

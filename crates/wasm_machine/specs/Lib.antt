@@ -3,3 +3,4 @@ pub mod Hosts
 pub mod Machines
 pub mod Runs
 pub mod Stacks
+pub mod Typed

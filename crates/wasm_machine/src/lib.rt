@@ -4,6 +4,7 @@
 mod access;
 mod frame;
 mod host;
+pub mod laws;
 mod machine;
 mod stack;
 mod state;
