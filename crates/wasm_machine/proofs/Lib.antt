@@ -7,3 +7,4 @@ pub mod Safe
 pub mod Settling
 pub mod Stepping
 pub mod Types
+pub mod Whole

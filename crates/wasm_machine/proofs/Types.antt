@@ -59,3 +59,8 @@ decided b s t h = told b (same_signature s t) (λ i. subst (λ (u : Signature). 
 -- both types are there
 pub agree_is : (s t : Option Signature) (x y : Signature) (b : Bool) → s ≡ Some x → t ≡ Some y → (IsTrue b ↔ x ≡ y) → b ≡ agree s t
 agree_is s t x y b e f h = decided b x y h ∙ (ap (λ (o : Option Signature). agree o (Some y)) (sym e) ∙ ap (agree s) (sym f))
+
+pub agreed : (s t : Option Signature) (x : Signature) → s ≡ Some x → agree s t ≡ true → t ≡ Some x
+agreed None t x e h = cc
+agreed (Some y) None x e h = cc
+agreed (Some y) (Some z) x e h = ap Some (sym (signature_same y z h)) ∙ e
