@@ -1,3 +1,4 @@
+pub mod Codes
 pub mod Frames
 pub mod Hosts
 pub mod Machines

@@ -10,4 +10,4 @@ mod stack;
 mod state;
 
 pub use host::{HostAnswer, HostCalls};
-pub use machine::MachineEnd;
+pub use machine::{Machine, MachineEnd};
