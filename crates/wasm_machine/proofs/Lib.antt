@@ -1,6 +1,7 @@
 pub mod Branches
 pub mod Chains
 pub mod Cuts
+pub mod Linking
 pub mod Operators
 pub mod Refusals
 pub mod Safe

@@ -67,7 +67,7 @@ fn chosen(condition: u32, yes: &Rc<Vec<Instr>>, no: &Rc<Vec<Instr>>) -> Result<R
 }
 
 /// A constant at a place.
-fn constant(code: &[Instr], at: usize) -> Option<Word>
+pub(crate) fn constant(code: &[Instr], at: usize) -> Option<Word>
     ensures { IsConstantAt code.now at result }
 {
     match code.get(at) {

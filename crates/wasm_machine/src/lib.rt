@@ -5,9 +5,11 @@ mod access;
 mod frame;
 mod host;
 pub mod laws;
+mod link;
 mod machine;
 mod stack;
 mod state;
 
 pub use host::{HostAnswer, HostCalls};
+pub use link::LinkFault;
 pub use machine::{Machine, MachineEnd};

@@ -1,10 +1,15 @@
 //! Machines.
-ghost use Rattle.std.specs.Prelude.{◌≡◌, IfSome, None, Some};
+ghost use Rattle.std.specs.Prelude.{◌≡◌, IfErr, IfOk, IfSome, None, Some};
+ghost use Rattle.wasm_machine.specs.Links.{IsNew, Refuses};
 ghost use Rattle.wasm_machine.specs.Runs.{Did, lasting, told_run};
 ghost use Rattle.wasm_machine.specs.Typed.{Linked, SafeRun};
+ghost use Rattle.wasm_types.specs.View.{view_module};
 
 use crate::host::HostCalls;
+use crate::link::{LinkFault, first_state, link};
 use crate::state::{End, Program, RunEnd, State};
+use module_validator::ValidModule;
+use std::alloc::Global;
 use std::marker::Model;
 use wasm_store::{TrapKind, Word};
 
@@ -62,6 +67,35 @@ impl Model for Machine {
 }
 
 impl Machine {
+    /// The machine of a module, at its beginning. The start function runs before `main`.
+    ///
+    /// # Errors
+    ///
+    /// In this order: [`LinkFault::NoMain`], [`LinkFault::BadImport`] of the first import that the host lacks by name and type, and
+    /// [`LinkFault::SegmentBounds`]. [`LinkFault::NoMemory`] where memory is wanting.
+    pub fn new<H: HostCalls>(alloc: Global, valid: ValidModule, host: &H) -> Result<Machine, LinkFault>
+        ensures ok { IfOk result (IsNew H.finds (view_module valid)) }
+        ensures linked { IfOk result (λ m. Linked H.types m.program) }
+        ensures refused { IfErr result (Refuses H.finds (view_module valid)) }
+    {
+        let (main, numbers) = match link(alloc, valid.get(), host) {
+            Ok(linked) => linked,
+            Err(fault) => return Err(fault),
+        };
+        let Ok(state) = first_state(alloc, valid.get(), main) else {
+            return Err(LinkFault::NoMemory);
+        };
+        let program = Program {
+            whole: valid.into_module(),
+            numbers,
+        };
+        Ok(Machine {
+            program,
+            state,
+            ended: None,
+        })
+    }
+
     /// So many steps, or fewer where it ends. After [`MachineEnd::OutOfSteps`] a further run goes on; any other end is answered again by
     /// every later run, and nothing changes.
     ///
