@@ -1,3 +1,4 @@
+pub mod Beginning
 pub mod Branches
 pub mod Chains
 pub mod Cuts

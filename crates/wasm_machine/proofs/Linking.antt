@@ -4,7 +4,7 @@ use Rattle.std.specs.Prelude.{◌↔◌, ◌&&◌, IsTrue}
 use Rattle.std.specs.List.{All}
 use Rattle.std.proofs.lemmas.Bool.{and_parts}
 use Rattle.std.proofs.lemmas.List.{get_or-map, length-map, length-append, length-take-le, length-drop, take_more, map-append}
-use Rattle.std.proofs.lemmas.List.Elements.{All-map, All-get_or}
+use Rattle.std.proofs.lemmas.List.Elements.{All-map}
 use Rattle.std.proofs.Math.Seq.{drop-cons}
 use Rattle.wasm_types.specs.declared.module.Elem.{Elem}
 use Rattle.wasm_types.specs.declared.module.Data.{Data}
@@ -14,7 +14,7 @@ use Rattle.wasm_types.specs.View.{view_elem, view_data}
 use Rattle.wasm_store.specs.Memories.{MemoryForm, written}
 use Rattle.wasm_store.specs.Tables.{with_functions}
 use Rattle.wasm_machine.specs.Hosts.{Finds}
-use Rattle.wasm_machine.specs.Links.{first_some, first_none, number_for, number_if, filled, poured, ElemFits, DataFits, place_of}
+use Rattle.wasm_machine.specs.Links.{first_some, first_none, number_for, number_if, filled, poured, place_of}
 use Rattle.wasm_machine.specs.Machines.{agree}
 
 module _ {A B : Type 0} (f : A → Option B) where

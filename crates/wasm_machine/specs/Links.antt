@@ -1,5 +1,5 @@
 -- A module's run begins: its imports are linked, its segments written, and the start function and `main` are called (Core 1.0, sections 4.5.4 and 4.5.5).
-use Rattle.std.specs.Prelude.{ℕ, zero, suc, ◌≡◌, ◌≢◌, ◌+◌, ◌*◌, ◌≤◌, List, [], ◌∷◌, length, map, replicate, Option, Some, None, Result, Ok, Err, Bool, true, false, ◌&&◌, nat_eq, if◌then◌else◌}
+use Rattle.std.specs.Prelude.{ℕ, ◌≡◌, ◌≢◌, ◌+◌, ◌*◌, ◌≤◌, List, [], ◌∷◌, length, map, replicate, Option, Some, None, Result, Ok, Err, Bool, false, ◌&&◌, nat_eq, if◌then◌else◌}
 use Rattle.std.specs.List.{All}
 use Rattle.std.specs.declared.vec.Vec.{Vec}
 use Rattle.std.specs.declared.alloc.Global.{Global}
@@ -8,7 +8,7 @@ use Rattle.wasm_types.specs.declared.types.Limits.{Limits}
 use Rattle.wasm_types.specs.declared.instr.Simple.TheVariants.{Call}
 use Rattle.wasm_types.specs.declared.module.ExportDesc.{ExportDesc}
 use Rattle.wasm_types.specs.declared.module.ExportDesc.TheVariants as export
-use Rattle.wasm_types.specs.Syntax.{Instructions, Done, Then, Plain, Signature, ImportForm, ExportForm, ElemForm, DataForm, GlobalForm, ModuleForm}
+use Rattle.wasm_types.specs.Syntax.{Instructions, Done, Then, Plain, Signature, ImportForm, ExportForm, ElemForm, DataForm, ModuleForm}
 use Rattle.wasm_types.specs.Typing.{callee_in, typed_in}
 use Rattle.wasm_store.specs.declared.word.Word.{Word}
 use Rattle.wasm_store.specs.declared.word.Word.TheVariants.{I32, I64}
@@ -18,7 +18,7 @@ use Rattle.wasm_machine.specs.declared.link.LinkFault.{LinkFault}
 use Rattle.wasm_machine.specs.declared.link.LinkFault.TheVariants.{NoMain, BadImport, SegmentBounds, NoMemory}
 use Rattle.wasm_machine.specs.Frames.{constant_in}
 use Rattle.wasm_machine.specs.Hosts.{Finds}
-use Rattle.wasm_machine.specs.Machines.{Conf, ProgramForm, agree}
+use Rattle.wasm_machine.specs.Machines.{Conf, agree}
 use Rattle.wasm_machine.specs.Runs.{MachineForm}
 
 -- what a function makes of the first element for which it gives something
@@ -65,11 +65,15 @@ abbrev pub numbers_for : Finds → ModuleForm → List (Option ℕ)
 numbers_for F m = map (number_for F m) m.imports
 
 -- either there are all numbers, or the first missing one is told
+abbrev pub NumberRefused : List (Option ℕ) → LinkFault → Type 0
+NumberRefused wanted NoMain = ⊥
+NumberRefused wanted (BadImport i) = first_none wanted ≡ Some i
+NumberRefused wanted SegmentBounds = ⊥
+NumberRefused wanted NoMemory = Unit {0}
+
 abbrev pub Numbers : Result (Vec ℕ Global) LinkFault → List (Option ℕ) → Type 0
 Numbers (Ok v) wanted = wanted ≡ map Some v.items
-Numbers (Err NoMemory) wanted = Unit {0}
-Numbers (Err (BadImport i)) wanted = first_none wanted ≡ Some i
-Numbers (Err _) wanted = ⊥
+Numbers (Err e) wanted = NumberRefused wanted e
 
 -- Segments lie within the table and the memory as they are at first.
 

@@ -1,7 +1,6 @@
 //! A frame and its steps.
 ghost use Rattle.std.specs.Prelude.{◌≡◌, IfOk, OnOk, if◌then◌else◌, nat_eq, Some, None, slice_get, get_or};
 ghost use Rattle.wasm_machine.specs.Frames.{frame_of, seen, local_step, settled, code_at, body_now, IsConstantAt, pushed, pushed_or, of_one, of_two, of_two_or, local_set, local_tee, dropped, selected, branch, jump, branch_if, entered, called_through, simple, at_end};
-
 ghost use Rattle.wasm_store.specs.Words.{binary_of, compare_of, converted, test_of, unary_of};
 
 use crate::access::Access;
@@ -56,7 +55,11 @@ fn target(table: &[u32], other: u32, index: u32) -> u32
 }
 
 /// The body that a condition chooses.
-fn chosen(condition: u32, yes: &Rc<Vec<Instr>>, no: &Rc<Vec<Instr>>) -> Result<Rc<Vec<Instr>>, AllocError>
+fn chosen(
+    condition: u32,
+    yes: &Rc<Vec<Instr>>,
+    no: &Rc<Vec<Instr>>,
+) -> Result<Rc<Vec<Instr>>, AllocError>
     ensures { IfOk result (λ body. code_at body 0 ≡ (if nat_eq condition 0 then code_at no.now 0 else code_at yes.now 0)) }
 {
     Ok(if condition == 0 {
@@ -237,7 +240,13 @@ impl Frame {
     }
 
     /// Into a block, or a loop that begins again.
-    fn enter(&mut self, alloc: Global, again: bool, gives: BlockType, body: Rc<Vec<Instr>>) -> Result<(), AllocError>
+    fn enter(
+        &mut self,
+        alloc: Global,
+        again: bool,
+        gives: BlockType,
+        body: Rc<Vec<Instr>>,
+    ) -> Result<(), AllocError>
         ensures { OnOk result (frame_of self.new ≡ entered (frame_of self.old) (body_now again body) gives (code_at body 0)) }
     {
         let label = Label {

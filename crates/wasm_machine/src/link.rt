@@ -13,7 +13,10 @@ use crate::state::{State, callee, typed};
 use std::alloc::{AllocError, Global};
 use std::rc::Rc;
 use wasm_store::{Globals, Memory, Table, Word};
-use wasm_types::{Data, Elem, Export, ExportDesc, FuncType, Global as ModuleGlobal, Import, Instr, Limits, Module, Simple, ValType};
+use wasm_types::{
+    Data, Elem, Export, ExportDesc, FuncType, Global as ModuleGlobal, Import, Instr, Limits,
+    Module, Simple, ValType,
+};
 
 /// Why a module cannot run with a host.
 #[derive(Clone, Copy, Debug, PartialEq, Eq)]
@@ -98,11 +101,20 @@ fn number_for<H: HostCalls>(whole: &Module, host: &H, import: &Import) -> Option
     let Some((number, found)) = host.find(import.module.as_bytes(), import.name.as_bytes()) else {
         return None;
     };
-    if is_type(whole, import.ty, found) { Some(number) } else { None }
+    if is_type(whole, import.ty, found) {
+        Some(number)
+    } else {
+        None
+    }
 }
 
 /// The numbers that the host has for the imports.
-fn numbers_among<H: HostCalls>(alloc: Global, whole: &Module, host: &H, imports: &[Import]) -> Result<Vec<u32>, LinkFault>
+fn numbers_among<H: HostCalls>(
+    alloc: Global,
+    whole: &Module,
+    host: &H,
+    imports: &[Import],
+) -> Result<Vec<u32>, LinkFault>
     ensures { Numbers result (map (λ x. number_for H.finds (view_module whole.now) (view_import x)) imports.now) }
 {
     let mut numbers = Vec::new(alloc);
@@ -271,7 +283,11 @@ pub(crate) fn first_state(alloc: Global, whole: &Module, main: u32) -> Result<St
 }
 
 /// The function `main`, and the numbers of the imports.
-pub(crate) fn link<H: HostCalls>(alloc: Global, whole: &Module, host: &H) -> Result<(u32, Vec<u32>), LinkFault>
+pub(crate) fn link<H: HostCalls>(
+    alloc: Global,
+    whole: &Module,
+    host: &H,
+) -> Result<(u32, Vec<u32>), LinkFault>
     ensures ok { IfOk result (λ r. (main_of (view_module whole.now) ≡ Some r.0) × (numbers_for H.finds (view_module whole.now) ≡ map Some r.1.items) × SegmentsFit (view_module whole.now)) }
     ensures refused { IfErr result (Refuses H.finds (view_module whole.now)) }
 {

@@ -73,7 +73,11 @@ impl Machine {
     ///
     /// In this order: [`LinkFault::NoMain`], [`LinkFault::BadImport`] of the first import that the host lacks by name and type, and
     /// [`LinkFault::SegmentBounds`]. [`LinkFault::NoMemory`] where memory is wanting.
-    pub fn new<H: HostCalls>(alloc: Global, valid: ValidModule, host: &H) -> Result<Machine, LinkFault>
+    pub fn new<H: HostCalls>(
+        alloc: Global,
+        valid: ValidModule,
+        host: &H,
+    ) -> Result<Machine, LinkFault>
         ensures ok { IfOk result (IsNew H.finds (view_module valid)) }
         ensures linked { IfOk result (λ m. Linked H.types m.program) }
         ensures refused { IfErr result (Refuses H.finds (view_module valid)) }

@@ -1,4 +1,4 @@
-use Rattle.std.proofs.Common.{◌≡◌, ◌∷◌, [], ◌++◌, ℕ, ◌+◌, ◌-◌, length, List, arith, take, drop, map, reverse, sym, ap, ◌∙◌, refl}
+use Rattle.std.proofs.Common.{◌≡◌, ◌∷◌, ◌+◌, ◌-◌, length, List, arith, take, drop, map, reverse, sym, ap, ◌∙◌}
 use Rattle.std.proofs.lemmas.List.{length-take-le}
 use Rattle.std.specs.declared.vec.Vec.{Vec}
 use Rattle.std.specs.declared.alloc.Global.{Global}
@@ -6,7 +6,7 @@ use Rattle.wasm_types.specs.declared.instr.Instr.{Instr}
 use Rattle.wasm_types.specs.View.{views}
 use Rattle.wasm_machine.proofs.Branches.{branch_stuck, branch_again, branch_past}
 use Rattle.wasm_machine.proofs.Cuts.{drop_is_take, snoc_top, split_last}
-use Rattle.wasm_machine.specs.Frames.{FrameForm, frame_of, seen, branch, label_of, body_if, LabelForm, Goes, at_end}
+use Rattle.wasm_machine.specs.Frames.{frame_of, label_of, body_if, LabelForm, Goes}
 use Rattle.wasm_machine.specs.declared.frame.Label.{Label}
 use Rattle.wasm_machine.proofs.frame.Frame.branch.Goals as goal
 use Rattle.wasm_machine.proofs.frame.Frame.branch.Goals.{After-index-label}
