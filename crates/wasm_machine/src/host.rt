@@ -1,6 +1,6 @@
 //! Hosts: who answers a module's imports.
 ghost use Rattle.std.specs.Prelude.{List, ℕ, ◌≡◌, Option, Some};
-ghost use Rattle.wasm_machine.specs.Hosts.{Answers, Typed, found_as};
+ghost use Rattle.wasm_machine.specs.Hosts.{Answers, GoesOn, Typed, found_as};
 ghost use Rattle.wasm_store.specs.Memories.{MemoryForm};
 ghost use Rattle.wasm_store.specs.declared.word.Word.{Word as AnyWord};
 ghost use Rattle.wasm_types.specs.Syntax.{Signature};
@@ -49,4 +49,7 @@ pub trait HostCalls {
 
     /// An answer is of its import's type.
     ghost typed: { (h : Self) (i : ℕ) (args : List AnyWord) (mem : MemoryForm) (a : HostAnswer) (h' : Self) (mem' : MemoryForm) (out : List Output) → meaning h i args mem a h' mem' out → Typed (types i) a };
+
+    /// Where it wants memory, what it has written by then is how another answer's output begins.
+    ghost refused: { (h : Self) (i : ℕ) (args : List AnyWord) (mem : MemoryForm) (h' : Self) (mem' : MemoryForm) (out : List Output) → meaning h i args mem HostAnswer.NoMemory h' mem' out → GoesOn meaning h i args mem out };
 }
