@@ -13,8 +13,8 @@ use wasm_types::{FuncType, ValType};
 /// wants memory. It sums the numbers that it was told.
 #[derive(Drop)]
 pub(crate) struct SmallHost {
-    takes: FuncType,
-    gives: FuncType,
+    taking: FuncType,
+    giving: FuncType,
     told: u32,
 }
 
@@ -27,22 +27,22 @@ impl Model for SmallHost {
 
     ghost view = { λ h. h.told };
 
-    ghost invariant = { λ h. (signature_of h.takes ≡ takes) × (signature_of h.gives ≡ gives) };
+    ghost invariant = { λ h. (signature_of h.taking ≡ takes) × (signature_of h.giving ≡ gives) };
 }
 
 impl SmallHost {
     pub(crate) fn new(alloc: Global) -> Result<SmallHost, AllocError> {
-        let takes = FuncType {
+        let taking = FuncType {
             params: vec![in alloc; ValType::I32]?,
             result: None,
         };
-        let gives = FuncType {
+        let giving = FuncType {
             params: vec![in alloc; ValType::I32]?,
             result: Some(ValType::I32),
         };
         Ok(SmallHost {
-            takes,
-            gives,
+            taking,
+            giving,
             told: 0,
         })
     }
@@ -67,9 +67,9 @@ impl HostCalls for SmallHost {
 
     fn find(&self, from: &[u8], name: &[u8]) -> Option<(u32, &FuncType)> {
         match name.len() {
-            4 => Some((4, &self.takes)),
-            5 => Some((5, &self.gives)),
-            6 => Some((6, &self.takes)),
+            4 => Some((4, &self.taking)),
+            5 => Some((5, &self.giving)),
+            6 => Some((6, &self.taking)),
             _ => None,
         }
     }

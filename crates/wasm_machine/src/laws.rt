@@ -20,7 +20,12 @@ pub fn turn_safe()
 {}
 
 /// Two runs, one after the other, are one run of all their steps.
-pub fn run_on<H: HostCalls>(machine: &mut Machine, host: &mut H, first: u64, then: u64) -> MachineEnd
+pub fn run_on<H: HostCalls>(
+    machine: &mut Machine,
+    host: &mut H,
+    first: u64,
+    then: u64,
+) -> MachineEnd
     requires linked { Linked H.types machine.old.program }
     requires going { machine.old.ended ≡ None }
     ensures { Did H.meaning machine.old.program (first + then) machine.old.conf host.old result machine.new.conf host.new }
