@@ -1,11 +1,10 @@
 -- Exports, imports and segments one by one, and all of a module's.
-use Rattle.std.proofs.Common.{◌≡◌, ◌<◌, ◌≤◌, ◌+◌, ℕ, zero, suc, List, [], ◌∷◌, ◌++◌, Option, Some, None, Bool, true, false, map, length, take, drop, get_or, refl, sym, ap, subst, ◌∙◌, arith, add-one, if◌then◌else◌}
+use Rattle.std.proofs.Common.{◌≡◌, ◌<◌, ◌≤◌, ◌+◌, ℕ, zero, suc, List, [], ◌∷◌, ◌++◌, Option, Some, None, Bool, true, false, map, length, take, get_or, refl, sym, ap, subst, ◌∙◌, arith, add-one, if◌then◌else◌}
 use Rattle.std.specs.Prelude.{◌↔◌, ◌&&◌, IsTrue}
 use Rattle.std.specs.List.{All}
 use Rattle.std.proofs.lemmas.Bool.{and_parts}
 use Rattle.std.proofs.lemmas.List.{get_or-map, length-map, length-append, length-take-le, length-drop, take_more, map-append}
 use Rattle.std.proofs.lemmas.List.Elements.{All-map}
-use Rattle.std.proofs.Math.Seq.{drop-cons}
 use Rattle.wasm_types.specs.declared.module.Elem.{Elem}
 use Rattle.wasm_types.specs.declared.module.Data.{Data}
 use Rattle.wasm_types.specs.Syntax.{Signature, ImportForm, ModuleForm, ElemForm, DataForm}
@@ -16,20 +15,6 @@ use Rattle.wasm_store.specs.Tables.{with_functions}
 use Rattle.wasm_machine.specs.Hosts.{Finds}
 use Rattle.wasm_machine.specs.Links.{first_some, first_none, number_for, number_if, filled, poured, place_of}
 use Rattle.wasm_machine.specs.Machines.{agree}
-
-module _ {A B : Type 0} (f : A → Option B) where
-  -- the search goes on behind an element that gives nothing
-  pub next_none : (xs : List A) (i : ℕ) (x : A) → i < length xs → x ≡ get_or xs i x → f x ≡ None → first_some f (drop i xs) ≡ first_some f (drop (i + 1) xs)
-  next_none xs i x lt e n = rw add-one (ap (first_some f) (drop-cons xs i x lt ∙ ap (λ (y : A). y ∷ drop (suc i) xs) (sym e)) ∙ ap (λ (o : Option B). elim o [ Some y ↦ Some y | None ↦ first_some f (drop (suc i) xs) ]) n)
-
-  pub next_some : (xs : List A) (i : ℕ) (x : A) (y : B) → i < length xs → x ≡ get_or xs i x → f x ≡ Some y → first_some f (drop i xs) ≡ Some y
-  next_some xs i x y lt e n = ap (first_some f) (drop-cons xs i x lt ∙ ap (λ (z : A). z ∷ drop (suc i) xs) (sym e)) ∙ ap (λ (o : Option B). elim o [ Some z ↦ Some z | None ↦ first_some f (drop (suc i) xs) ]) n
-
-  pub past_end : (xs : List A) (i : ℕ) → length xs ≤ i → first_some f (drop i xs) ≡ None
-  past_end [] zero h = refl
-  past_end [] (suc i) h = refl
-  past_end (x ∷ xs) zero h = absurd (omega (arith, h))
-  past_end (x ∷ xs) (suc i) h = past_end xs i (omega (arith, h))
 
 pub first_some_map : {A B C : Type 0} (f : A → Option B) (g : C → A) (xs : List C) → first_some (λ x. f (g x)) xs ≡ first_some f (map g xs)
 first_some_map f g [] = refl

@@ -1,4 +1,4 @@
-use Rattle.std.proofs.Common.{rules, ◌≡◌, None, ◌∙◌, ap, subst, sym}
+use Rattle.std.proofs.Common.{rules, ◌≡◌, ◌∙◌, ap, subst}
 use Rattle.wasm_machine.specs.Machines.{ProgramForm}
 use Rattle.wasm_machine.specs.Runs.{Did, lasting}
 use Rattle.wasm_machine.specs.declared.machine.MachineEnd.{MachineEnd}
