@@ -41,7 +41,8 @@ pub fn run_on<H: HostCalls>(
 pub fn run_wanting<H: HostCalls>(machine: &mut Machine, host: &mut H, steps: u64) -> MachineEnd
     requires linked { Linked H.types machine.old.program }
     requires going { machine.old.ended ≡ None }
-    ensures { result ≡ MachineEnd.NoMemory → IsPrefix H.meaning machine.old.program steps machine.old.conf host.old machine.new.conf host.new }
+    ensures did { Did H.meaning machine.old.program steps machine.old.conf host.old result machine.new.conf host.new }
+    ensures prefix { result ≡ MachineEnd.NoMemory → IsPrefix H.meaning machine.old.program steps machine.old.conf host.old machine.new.conf host.new }
 {
     machine.run(host, steps)
 }
