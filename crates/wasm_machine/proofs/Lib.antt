@@ -1,0 +1,12 @@
+pub mod Beginning
+pub mod Branches
+pub mod Chains
+pub mod Cuts
+pub mod Linking
+pub mod Operators
+pub mod Refusals
+pub mod Safe
+pub mod Settling
+pub mod Stepping
+pub mod Types
+pub mod Whole

@@ -1,0 +1,48 @@
+//! Laws of the definitions.
+ghost use Rattle.std.specs.Prelude.{◌≡◌, ◌+◌, None};
+ghost use Rattle.wasm_machine.specs.Frames.{FrameForm, local_step};
+ghost use Rattle.wasm_machine.specs.Machines.{Conf, ProgramForm, turn};
+ghost use Rattle.wasm_machine.specs.Runs.{Did, IsPrefix};
+ghost use Rattle.wasm_machine.specs.Typed.{Linked, ConfOk, FrameOk, IsSafe, IsSafeTurn, ProgramOk};
+ghost use Rattle.wasm_types.specs.Typing.{Context};
+
+use crate::host::HostCalls;
+use crate::machine::{Machine, MachineEnd};
+
+/// A well-typed frame takes a step that is safe: never stuck, and what it leads to is well typed.
+pub fn never_stuck()
+    ensures { (C : Context) (f : FrameForm) → FrameOk C f → IsSafe C (local_step f) }
+{}
+
+/// A well-typed configuration takes a turn that is safe: never stuck, and what it leads to is well typed.
+pub fn turn_safe()
+    ensures { (m : ProgramForm) → ProgramOk m → (c : Conf) → ConfOk m.whole c → IsSafeTurn m (turn m c) }
+{}
+
+/// Two runs, one after the other, are one run of all their steps.
+pub fn run_on<H: HostCalls>(
+    machine: &mut Machine,
+    host: &mut H,
+    first: u64,
+    then: u64,
+) -> MachineEnd
+    requires linked { Linked H.types machine.old.program }
+    requires going { machine.old.ended ≡ None }
+    ensures { Did H.meaning machine.old.program (first + then) machine.old.conf host.old result machine.new.conf host.new }
+{
+    let end = machine.run(host, first);
+    if end != MachineEnd::OutOfSteps {
+        return end;
+    }
+    machine.run(host, then)
+}
+
+/// A run that wants memory has written how another run begins that does not.
+pub fn run_wanting<H: HostCalls>(machine: &mut Machine, host: &mut H, steps: u64) -> MachineEnd
+    requires linked { Linked H.types machine.old.program }
+    requires going { machine.old.ended ≡ None }
+    ensures did { Did H.meaning machine.old.program steps machine.old.conf host.old result machine.new.conf host.new }
+    ensures prefix { result ≡ MachineEnd.NoMemory → IsPrefix H.meaning machine.old.program steps machine.old.conf host.old machine.new.conf host.new }
+{
+    machine.run(host, steps)
+}

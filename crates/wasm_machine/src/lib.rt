@@ -1,0 +1,15 @@
+//! The machine that runs modules (Core 1.0, section 4), one reduction a step.
+#![tactic(auto)]
+
+mod access;
+mod frame;
+mod host;
+pub mod laws;
+mod link;
+mod machine;
+mod stack;
+mod state;
+
+pub use host::{HostAnswer, HostCalls};
+pub use link::LinkFault;
+pub use machine::{Machine, MachineEnd};

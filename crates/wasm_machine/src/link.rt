@@ -1,0 +1,306 @@
+//! Linking: from a module and a host to the beginning of a run (Core 1.0, section 4.5.4).
+ghost use Rattle.std.specs.List.{All};
+ghost use Rattle.std.specs.Prelude.{◌≡◌, ◌↔◌, ◌*◌, ◌≤◌, ◌^◌, IfErr, IfOk, IsTrue, None, OnErr, Some, length, map, MatchResult};
+ghost use Rattle.wasm_machine.specs.Links.{first_some, first_none, main_at, main_function, main_of, main_type, is_main_name, number_for, numbers_for, place_of, value_of, least, ElemFits, DataFits, SegmentsFit, filled, poured, limits_or_none, entry_code, beginning, Numbers, Refuses};
+ghost use Rattle.wasm_machine.specs.Machines.{agree, conf_of, same_signature};
+ghost use Rattle.wasm_types.specs.Typing.{callee_in, typed_in};
+ghost use Rattle.wasm_types.specs.View.{signature_of, view_data, view_elem, view_export, view_import, view_module, views};
+
+use crate::frame::{Frame, constant};
+use crate::host::HostCalls;
+use crate::stack::Stack;
+use crate::state::{State, callee, typed};
+use std::alloc::{AllocError, Global};
+use std::rc::Rc;
+use wasm_store::{Globals, Memory, Table, Word};
+use wasm_types::{
+    Data, Elem, Export, ExportDesc, FuncType, Global as ModuleGlobal, Import, Instr, Limits,
+    Module, Simple, ValType,
+};
+
+/// Why a module cannot run with a host.
+#[derive(Clone, Copy, Debug, PartialEq, Eq)]
+pub enum LinkFault {
+    /// It exports no function `main` without parameters and with a 32-bit result.
+    NoMain,
+    /// The host has no import of this name and type; imports are counted from 0.
+    BadImport(usize),
+    /// A segment does not lie within the table or the memory.
+    SegmentBounds,
+    /// Memory was wanting.
+    NoMemory,
+}
+
+fn is_main(name: &[u8]) -> bool
+    ensures { result ≡ is_main_name name.now }
+{
+    matches!(name, [b'm', b'a', b'i', b'n'])
+}
+
+/// Whether this is the type of `main`.
+fn is_main_type(ty: &FuncType) -> bool
+    ensures { result ≡ same_signature main_type (signature_of ty.now) }
+{
+    ty.result == Some(ValType::I32) && ty.params.is_empty()
+}
+
+fn main_function(whole: &Module, desc: ExportDesc) -> Option<u32>
+    ensures { result ≡ main_function (view_module whole.now) desc }
+{
+    let ExportDesc::Func(n) = desc else {
+        return None;
+    };
+    let Some(ty) = callee(whole, n) else {
+        return None;
+    };
+    if is_main_type(ty) { Some(n) } else { None }
+}
+
+fn main_at(whole: &Module, export: &Export) -> Option<u32>
+    ensures { result ≡ main_at (view_module whole.now) (view_export export.now) }
+{
+    if is_main(export.name.as_bytes()) {
+        main_function(whole, export.desc)
+    } else {
+        None
+    }
+}
+
+fn main_among(whole: &Module, exports: &[Export]) -> Option<u32>
+    ensures { result ≡ first_some (λ e. main_at (view_module whole.now) (view_export e)) exports.now }
+{
+    for export in exports {
+        if let Some(n) = main_at(whole, export) {
+            return Some(n);
+        }
+    }
+    None
+}
+
+/// The function `main`.
+fn main_of(whole: &Module) -> Option<u32>
+    ensures { result ≡ main_of (view_module whole.now) }
+{
+    main_among(whole, &whole.exports)
+}
+
+/// Whether a type that the host has is the one of this number.
+fn is_type(whole: &Module, ty: u32, found: &FuncType) -> bool
+    ensures { result ≡ agree (Some (signature_of found.now)) (typed_in (view_module whole.now) ty) }
+{
+    let Some(wanted) = typed(whole, ty) else {
+        return false;
+    };
+    found.same(wanted)
+}
+
+/// The number that the host has for an import.
+fn number_for<H: HostCalls>(whole: &Module, host: &H, import: &Import) -> Option<u32>
+    ensures { number_for H.finds (view_module whole.now) (view_import import.now) ≡ result }
+{
+    let Some((number, found)) = host.find(import.module.as_bytes(), import.name.as_bytes()) else {
+        return None;
+    };
+    if is_type(whole, import.ty, found) {
+        Some(number)
+    } else {
+        None
+    }
+}
+
+/// The numbers that the host has for the imports.
+fn numbers_among<H: HostCalls>(
+    alloc: Global,
+    whole: &Module,
+    host: &H,
+    imports: &[Import],
+) -> Result<Vec<u32>, LinkFault>
+    ensures { Numbers result (map (λ x. number_for H.finds (view_module whole.now) (view_import x)) imports.now) }
+{
+    let mut numbers = Vec::new(alloc);
+    for (index, import) in imports.iter().enumerate() {
+        let Some(number) = number_for(whole, host, import) else {
+            return Err(LinkFault::BadImport(index));
+        };
+        if numbers.push(number).is_err() {
+            return Err(LinkFault::NoMemory);
+        }
+    }
+    Ok(numbers)
+}
+
+/// The place that a segment begins at.
+fn place_of(code: &[Instr]) -> u32
+    ensures { result ≡ place_of (views code.now) }
+{
+    match constant(code, 0) {
+        Some(Word::I32(n)) => n,
+        _ => 0,
+    }
+}
+
+fn least(limits: Option<Limits>) -> u32
+    ensures { result ≡ least limits }
+{
+    match limits {
+        Some(limits) => limits.min,
+        None => 0,
+    }
+}
+
+fn elem_fits(size: usize, elem: &Elem) -> bool
+    ensures { IsTrue result ↔ ElemFits size (view_elem elem.now) }
+{
+    let place = place_of(&elem.offset) as usize;
+    place <= size && elem.init.len() <= size - place
+}
+
+fn data_fits(size: usize, segment: &Data) -> bool
+    ensures { IsTrue result ↔ DataFits size (view_data segment.now) }
+{
+    let place = place_of(&segment.offset) as usize;
+    place <= size && segment.init.len() <= size - place
+}
+
+fn elems_fit(size: usize, elems: &[Elem]) -> bool
+    ensures { IsTrue result ↔ All (λ e. ElemFits size (view_elem e)) elems.now }
+{
+    elems.iter().all(|e| elem_fits(size, e))
+}
+
+fn data_all_fit(size: usize, segments: &[Data]) -> bool
+    ensures { IsTrue result ↔ All (λ d. DataFits size (view_data d)) segments.now }
+{
+    segments.iter().all(|d| data_fits(size, d))
+}
+
+/// Whether the segments lie within the table and the memory.
+fn segments_fit(whole: &Module) -> bool
+    ensures { IsTrue result ↔ SegmentsFit (view_module whole.now) }
+{
+    let elems = elems_fit(least(whole.table) as usize, &whole.elems);
+    let data = data_all_fit(least(whole.memory) as usize * 65536, &whole.data);
+    elems & data
+}
+
+/// Writes the element segments, one after the other.
+fn fill(table: &mut Table, size: usize, elems: &[Elem])
+    requires size { length table.old ≡ size }
+    requires fit { All (λ e. ElemFits size (view_elem e)) elems.now }
+    ensures { table.new ≡ filled table.old (map view_elem elems.now) }
+{
+    for elem in elems {
+        table.fill(place_of(&elem.offset), &elem.init);
+    }
+}
+
+/// Writes the data segments, one after the other.
+fn pour(memory: &mut Memory, size: usize, segments: &[Data])
+    requires size { length memory.old.bytes ≡ size }
+    requires fit { All (λ d. DataFits size (view_data d)) segments.now }
+    ensures { memory.new ≡ poured memory.old (map view_data segments.now) }
+{
+    for segment in segments {
+        memory.write(place_of(&segment.offset), &segment.init);
+    }
+}
+
+/// The value of a constant expression.
+fn value_of(code: &[Instr]) -> Word
+    ensures { result ≡ value_of (views code.now) }
+{
+    match constant(code, 0) {
+        Some(word) => word,
+        None => Word::I32(0),
+    }
+}
+
+/// The first values of the globals.
+fn values_of(alloc: Global, globals: &[ModuleGlobal]) -> Result<Vec<Word>, AllocError>
+    ensures { IfOk result (λ v. v.items ≡ map (λ g. value_of (views g.init.items)) globals.now) }
+{
+    let mut values = Vec::new(alloc);
+    for global in globals {
+        values.push(value_of(&global.init))?;
+    }
+    Ok(values)
+}
+
+/// The calls that make up a run.
+fn entry(alloc: Global, start: Option<u32>, main: u32) -> Result<Vec<Instr>, AllocError>
+    ensures { IfOk result (λ v. views v.items ≡ entry_code start main) }
+{
+    let mut code = Vec::new(alloc);
+    if let Some(start) = start {
+        code.push(Instr::Plain(Simple::Call(start)))?;
+    }
+    code.push(Instr::Plain(Simple::Call(main)))?;
+    Ok(code)
+}
+
+/// The memory of a module, or one of no pages.
+fn limits_of(memory: Option<Limits>) -> Limits
+    ensures { result ≡ limits_or_none memory }
+{
+    match memory {
+        Some(limits) => limits,
+        None => Limits {
+            min: 0,
+            max: Some(0),
+        },
+    }
+}
+
+/// The configuration in which a run begins.
+pub(crate) fn first_state(alloc: Global, whole: &Module, main: u32) -> Result<State, AllocError>
+    requires fit { SegmentsFit (view_module whole.now) }
+    requires pages { (limits_or_none whole.now.memory).min ≤ 65536 }
+    ensures { IfOk result (λ s. conf_of s ≡ beginning (view_module whole.now) main) }
+{
+    let limits = limits_of(whole.memory);
+    let mut memory = Memory::new(alloc, limits)?;
+    pour(&mut memory, limits.min as usize * 65536, &whole.data);
+    let elements = least(whole.table);
+    let mut table = Table::new(alloc, elements)?;
+    fill(&mut table, elements as usize, &whole.elems);
+    let globals = Globals::new(values_of(alloc, &whole.globals)?);
+    let code = Rc::new(alloc, entry(alloc, whole.start, main)?)?;
+    Ok(State {
+        alloc,
+        frame: Frame {
+            values: Stack::new(alloc),
+            labels: Vec::new(alloc),
+            locals: Vec::new(alloc),
+            code,
+            at: 0,
+        },
+        result: Some(ValType::I32),
+        callers: Vec::new(alloc),
+        memory,
+        table,
+        globals,
+    })
+}
+
+/// The function `main`, and the numbers of the imports.
+pub(crate) fn link<H: HostCalls>(
+    alloc: Global,
+    whole: &Module,
+    host: &H,
+) -> Result<(u32, Vec<u32>), LinkFault>
+    ensures ok { IfOk result (λ r. (main_of (view_module whole.now) ≡ Some r.0) × (numbers_for H.finds (view_module whole.now) ≡ map Some r.1.items) × SegmentsFit (view_module whole.now)) }
+    ensures refused { IfErr result (Refuses H.finds (view_module whole.now)) }
+{
+    let Some(main) = main_of(whole) else {
+        return Err(LinkFault::NoMain);
+    };
+    match numbers_among(alloc, whole, host, &whole.imports) {
+        Err(fault) => Err(fault),
+        Ok(numbers) => {
+            if !segments_fit(whole) {
+                return Err(LinkFault::SegmentBounds);
+            }
+            Ok((main, numbers))
+        }
+    }
+}

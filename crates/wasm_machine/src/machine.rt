@@ -1,0 +1,123 @@
+//! Machines.
+ghost use Rattle.std.specs.Prelude.{◌≡◌, IfErr, IfOk, IfSome, None, Some};
+ghost use Rattle.wasm_machine.specs.Links.{IsNew, Refuses};
+ghost use Rattle.wasm_machine.specs.Runs.{Did, lasting, told_run};
+ghost use Rattle.wasm_machine.specs.Typed.{Linked, SafeRun};
+ghost use Rattle.wasm_types.specs.View.{view_module};
+
+use crate::host::HostCalls;
+use crate::link::{LinkFault, first_state, link};
+use crate::state::{End, Program, RunEnd, State};
+use module_validator::ValidModule;
+use std::alloc::Global;
+use std::marker::Model;
+use wasm_store::{TrapKind, Word};
+
+/// How a run ends.
+#[derive(Clone, Copy, Debug, PartialEq, Eq)]
+pub enum MachineEnd {
+    /// `main` gave this.
+    Returned(i32),
+    Trapped(TrapKind),
+    /// The steps that were given are over. A further run goes on.
+    OutOfSteps,
+    /// A call found 10,000 frames open.
+    Exhausted,
+    /// Memory was wanting.
+    NoMemory,
+}
+
+/// What a machine tells of a run's end.
+fn tell(end: RunEnd) -> MachineEnd
+    requires { SafeRun end }
+    ensures { told_run end ≡ Some result }
+{
+    match end {
+        RunEnd::Ended(End::Returned(Some(Word::I32(n)))) => MachineEnd::Returned(n.cast_signed()),
+        RunEnd::Ended(End::Trapped(kind)) => MachineEnd::Trapped(kind),
+        RunEnd::Ended(End::Exhausted) => MachineEnd::Exhausted,
+        RunEnd::Ended(_) => unreachable!(),
+        RunEnd::OutOfSteps => MachineEnd::OutOfSteps,
+        RunEnd::NoMemory => MachineEnd::NoMemory,
+    }
+}
+
+/// A machine that runs one module. A contract sees its module with the numbers of its imports, its configuration, and how it ended.
+#[derive(Drop)]
+pub struct Machine {
+    program: Program,
+    state: State,
+    ended: Option<MachineEnd>,
+}
+
+impl Model for Machine {
+    ghost use Rattle.std.specs.Coded.{codes};
+    ghost use Rattle.wasm_machine.specs.Codes.{instructions_code};
+    ghost use Rattle.wasm_machine.specs.Machines.{conf_of, program_of};
+    ghost use Rattle.wasm_machine.specs.Runs.{MachineForm};
+    ghost use Rattle.wasm_machine.specs.Typed.{MachineOk};
+
+    ghost Value = { MachineForm };
+
+    ghost coded = { Prim.hlevel (codes, instructions_code (Prim.hlevel codes)) };
+
+    ghost view = { λ a. record { program = program_of a.program; conf = conf_of a.state; ended = a.ended } };
+
+    ghost invariant = { λ a. MachineOk (program_of a.program) (conf_of a.state) a.ended };
+}
+
+impl Machine {
+    /// The machine of a module, at its beginning. The start function runs before `main`.
+    ///
+    /// # Errors
+    ///
+    /// In this order: [`LinkFault::NoMain`], [`LinkFault::BadImport`] of the first import that the host lacks by name and type, and
+    /// [`LinkFault::SegmentBounds`]. [`LinkFault::NoMemory`] where memory is wanting.
+    pub fn new<H: HostCalls>(
+        alloc: Global,
+        valid: ValidModule,
+        host: &H,
+    ) -> Result<Machine, LinkFault>
+        ensures ok { IfOk result (IsNew H.finds (view_module valid)) }
+        ensures linked { IfOk result (λ m. Linked H.types m.program) }
+        ensures refused { IfErr result (Refuses H.finds (view_module valid)) }
+    {
+        let (main, numbers) = match link(alloc, valid.get(), host) {
+            Ok(linked) => linked,
+            Err(fault) => return Err(fault),
+        };
+        let Ok(state) = first_state(alloc, valid.get(), main) else {
+            return Err(LinkFault::NoMemory);
+        };
+        let program = Program {
+            whole: valid.into_module(),
+            numbers,
+        };
+        Ok(Machine {
+            program,
+            state,
+            ended: None,
+        })
+    }
+
+    /// So many steps, or fewer where it ends. After [`MachineEnd::OutOfSteps`] a further run goes on; any other end is answered again by
+    /// every later run, and nothing changes.
+    ///
+    /// The host is to have the imports that it had when the machine was made.
+    pub fn run<H: HostCalls>(&mut self, host: &mut H, steps: u64) -> MachineEnd
+        requires linked { Linked H.types self.old.program }
+        ensures program { self.new.program ≡ self.old.program }
+        ensures run { self.old.ended ≡ None → Did H.meaning self.old.program steps self.old.conf host.old result self.new.conf host.new }
+        ensures again { IfSome self.old.ended (λ e. (result ≡ e) × (self.new ≡ self.old) × (host.new ≡ host.old)) }
+        ensures ended { self.old.ended ≡ None → self.new.ended ≡ lasting result }
+    {
+        if let Some(end) = self.ended {
+            return end;
+        }
+        let end = tell(self.state.run(&self.program, host, steps));
+        if end != MachineEnd::OutOfSteps {
+            self.ended = Some(end);
+        }
+        end
+    }
+}

@@ -1,0 +1,4 @@
+pub mod Integers
+pub mod Memories
+pub mod Tables
+pub mod Words
