@@ -1,0 +1,94 @@
+//! Says of each script on standard input whether it has a tree, or why it has none.
+//!
+//! A line is a script, in which a byte 1 stands for a newline. The answer is a line: `tree`, or the fault with the script's line and what it names.
+//! The tree itself is not printed: the tokens of a script have no second one.
+#![tactic(auto)]
+
+use awk_parse::{Feature, ParseFault, parse};
+use awk_tokens::{LeftOut, TokenFault, tokens};
+use std::alloc::{AllocError, Global};
+use std::io;
+
+/// The script that a line of the input writes.
+fn script_of(alloc: Global, line: &[u8]) -> Result<Vec<u8>, AllocError> {
+    let mut script = Vec::new(alloc);
+    for byte in line {
+        script.push(if *byte == 1 { b'\n' } else { *byte })?;
+    }
+    Ok(script)
+}
+
+/// A left-out word as scripts write it.
+fn word(left_out: LeftOut) -> &'static str {
+    match left_out {
+        LeftOut::Atan2 => "atan2",
+        LeftOut::Cos => "cos",
+        LeftOut::Sin => "sin",
+        LeftOut::Exp => "exp",
+        LeftOut::Log => "log",
+        LeftOut::Sqrt => "sqrt",
+        LeftOut::Rand => "rand",
+        LeftOut::Srand => "srand",
+        LeftOut::System => "system",
+        LeftOut::Func => "func",
+        LeftOut::Nextfile => "nextfile",
+        LeftOut::Fflush => "fflush",
+    }
+}
+
+/// The name of a left-out feature.
+fn feature_name(feature: Feature) -> &'static str {
+    match feature {
+        Feature::Word(left_out) => word(left_out),
+        Feature::Pipe => "pipe",
+        Feature::Delete => "delete",
+    }
+}
+
+/// What is said of a script without tokens.
+fn no_tokens(alloc: Global, fault: TokenFault) -> Result<String, AllocError> {
+    match fault {
+        TokenFault::BadByte(line) => format!(in alloc; "BadByte {line}"),
+        TokenFault::OpenString(line) => format!(in alloc; "OpenString {line}"),
+        TokenFault::OpenEre(line) => format!(in alloc; "OpenEre {line}"),
+        TokenFault::NoMemory => format!(in alloc; "NoMemory"),
+    }
+}
+
+/// What is said of tokens without a tree.
+fn no_tree(alloc: Global, fault: ParseFault) -> Result<String, AllocError> {
+    match fault {
+        ParseFault::LeftOut(line, feature) => {
+            let name = feature_name(feature);
+            format!(in alloc; "LeftOut {line} {name}")
+        }
+        ParseFault::NotWhole(line) => format!(in alloc; "NotWhole {line}"),
+        ParseFault::ConstantRange(line) => format!(in alloc; "ConstantRange {line}"),
+        ParseFault::Syntax(line) => format!(in alloc; "Syntax {line}"),
+        ParseFault::TooDeep(line) => format!(in alloc; "TooDeep {line}"),
+        ParseFault::Misplaced(line) => format!(in alloc; "Misplaced {line}"),
+        ParseFault::NoMemory => format!(in alloc; "NoMemory"),
+    }
+}
+
+/// What is said of a script.
+fn answer(alloc: Global, script: &[u8]) -> Result<String, AllocError> {
+    let tokens = match tokens(alloc, script) {
+        Ok(tokens) => tokens,
+        Err(fault) => return no_tokens(alloc, fault),
+    };
+    match parse(alloc, &tokens) {
+        Ok(_) => format!(in alloc; "tree"),
+        Err(fault) => no_tree(alloc, fault),
+    }
+}
+
+fn main(rt: HostRuntime) -> io::Result<()> {
+    for line in rt.lines(rt.alloc()) {
+        let line = line?;
+        let script = script_of(rt.alloc(), line.as_str().as_bytes())?;
+        let answer = answer(rt.alloc(), &script)?;
+        println!(rt; "{answer}")?;
+    }
+    Ok(())
+}
