@@ -55,9 +55,9 @@ view_link links.Question = Chosen
 abbrev pub lexeme_of : Spelled → Lexeme
 lexeme_of t = spoken_as false t.kind t.text
 
-abbrev pub first_line : List Spelled → ℕ
-first_line [] = 1
-first_line (t ∷ ts) = t.line
+abbrev pub first_line : List Spelled → Option ℕ
+first_line [] = None
+first_line (t ∷ ts) = Some t.line
 
 -- whether an expression that may stand directly behind another begins with this token
 abbrev pub begins_operand : Lexeme → Bool

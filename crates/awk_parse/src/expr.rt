@@ -612,7 +612,7 @@ fn pre_step<'a>(
     })
 }
 
-/// The operand that a punctuator begins, with the tokens behind that.
+/// The operand that a punctuator on this line begins, with the tokens behind that.
 #[cycle(expr)]
 fn marked<'a>(
     alloc: Global,
@@ -620,6 +620,7 @@ fn marked<'a>(
     greater: bool,
     mode: Mode,
     mark: Punctuator,
+    line: usize,
     tokens: &'a [Token<'a>],
 ) -> Result<Parsed<'a>, Refusal>
     requires room { limit < 4294967295 }
@@ -635,7 +636,7 @@ fn marked<'a>(
         Punctuator::Minus => unary(alloc, limit, greater, mode, UnaryOp::Minus, tokens),
         Punctuator::Increment => pre_step(alloc, limit, greater, StepOp::Increment, tokens),
         Punctuator::Decrement => pre_step(alloc, limit, greater, StepOp::Decrement, tokens),
-        _ => Err(stopped(tokens)),
+        _ => Err(Refusal::Syntax(Some(line))),
     }
 }
 
@@ -676,7 +677,9 @@ fn operand<'a>(
         TokenKind::FuncName => call(alloc, limit, first.text, rest),
         TokenKind::Builtin(function) => applied(alloc, limit, function, rest),
         TokenKind::Keyword(Keyword::Getline) => getline(alloc, limit, greater, rest),
-        TokenKind::Punctuator(mark) => marked(alloc, limit, greater, mode, mark, rest),
+        TokenKind::Punctuator(mark) => {
+            marked(alloc, limit, greater, mode, mark, first.line, rest)
+        }
         TokenKind::Keyword(_) | TokenKind::LeftOut(_) => Err(stopped(tokens)),
     }
 }

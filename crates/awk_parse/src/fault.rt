@@ -26,9 +26,9 @@ pub enum ParseFault {
     NotWhole(usize),
     /// A number on this line is outside -2^53 to 2^53.
     ConstantRange(usize),
-    /// The tokens are those of no script; the line is that of the token at which reading stopped.
+    /// The tokens are those of no script; the line is that of the token at which reading stopped, or of the last.
     Syntax(usize),
-    /// The tokens are those of no script of depth 1,000 or less; the line is that of the token at which reading stopped.
+    /// The tokens are those of no script of depth 1,000 or less; the line is that of the token at which reading stopped, or of the last.
     TooDeep(usize),
     /// `next`, `break`, `continue` or `return` on this line stands where it has no meaning.
     Misplaced(usize),
@@ -36,11 +36,11 @@ pub enum ParseFault {
     NoMemory,
 }
 
-/// Why reading stopped, with the line of the token at which it did.
+/// Why reading stopped, with the line of the token at which it did; none: behind the last token.
 #[derive(Clone, Copy, Debug, PartialEq, Eq)]
 pub(crate) enum Refusal {
-    Syntax(usize),
-    TooDeep(usize),
+    Syntax(Option<usize>),
+    TooDeep(Option<usize>),
     NoMemory,
 }
 

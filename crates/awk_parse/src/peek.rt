@@ -17,13 +17,13 @@ use awk_tokens::{Keyword, Punctuator, Token, TokenKind};
 use awk_tree::{AssignOp, BinaryOp, Next, StepOp, binary_level, left_floor};
 use std::alloc::Global;
 
-/// The line of the first token, or 1 where there is none.
-pub(crate) fn line_of(tokens: &[Token<'_>]) -> usize
+/// The line of the first token, if there is one.
+pub(crate) fn line_of(tokens: &[Token<'_>]) -> Option<usize>
     ensures { result ≡ first_line (map spelled tokens.now) }
 {
     match tokens {
-        [] => 1,
-        [first, ..] => first.line,
+        [] => None,
+        [first, ..] => Some(first.line),
     }
 }
 

@@ -1,6 +1,6 @@
 //! Scripts from tokens.
 
-ghost use Rattle.std.specs.Prelude.{◌≡◌, IfOk, IfErr, MatchResult, List, map};
+ghost use Rattle.std.specs.Prelude.{◌≡◌, IfOk, IfErr, IfSome, MatchResult, List, map};
 ghost use Rattle.awk_tokens.specs.Views.{spelled};
 ghost use Rattle.awk_tree.specs.Item.{Item};
 ghost use Rattle.awk_tree.specs.ReadItem.{script_at};
@@ -26,13 +26,24 @@ fn tree(alloc: Global, tokens: &[Token<'_>]) -> Result<Script, Refusal>
     })
 }
 
+/// The line of a place among the tokens; behind them it is that of the last, or 1 where there is none.
+fn line_at(place: Option<usize>, tokens: &[Token<'_>]) -> usize
+    ensures { IfSome place (λ line. result ≡ line) }
+{
+    match (place, tokens.last()) {
+        (Some(line), _) => line,
+        (None, Some(last)) => last.line,
+        (None, None) => 1,
+    }
+}
+
 /// The one well-formed script, of depth at most 1,000, that has these tokens (POSIX.1-2017 awk, "Grammar", in the profile of this project).
 ///
 /// # Errors
 ///
 /// In this order: the first token, by its place, that begins something left out ([`ParseFault::LeftOut`]) or is a number that is not whole
 /// (`NotWhole`) or outside -2^53 to 2^53 (`ConstantRange`); `Syntax` where the tokens have no script at all, `TooDeep` where they have none
-/// within the depth, each with the line of the token at which reading stopped; `Misplaced`, with the line of the first `next` in `BEGIN` or
+/// within the depth, each with the line of the token at which reading stopped, or of the last; `Misplaced`, with the line of the first `next` in `BEGIN` or
 /// `END`, `break` or `continue` outside a loop, or `return` outside a function; `NoMemory` at any point, and only where memory was refused.
 #[tactic(auto, using(crate::proofs::Parsing::refused_by_scan, crate::proofs::Parsing::parsed_of, crate::proofs::Parsing::same_script, crate::proofs::Parsing::no_tree, crate::proofs::Parsing::no_small_tree, crate::proofs::Parsing::is_misplaced, crate::proofs::Parsing::not_parsed, crate::proofs::Parsing::not_scanned, crate::proofs::Parsing::not_placed))]
 pub fn parse(alloc: Global, tokens: &[Token<'_>]) -> Result<Script, ParseFault>
@@ -45,8 +56,8 @@ pub fn parse(alloc: Global, tokens: &[Token<'_>]) -> Result<Script, ParseFault>
     }
     let script = match tree(alloc, tokens) {
         Ok(script) => script,
-        Err(Refusal::Syntax(line)) => return Err(ParseFault::Syntax(line)),
-        Err(Refusal::TooDeep(line)) => return Err(ParseFault::TooDeep(line)),
+        Err(Refusal::Syntax(place)) => return Err(ParseFault::Syntax(line_at(place, tokens))),
+        Err(Refusal::TooDeep(place)) => return Err(ParseFault::TooDeep(line_at(place, tokens))),
         Err(Refusal::NoMemory) => return Err(ParseFault::NoMemory),
     };
     match misplaced(alloc, &script, tokens) {

@@ -80,7 +80,7 @@ fn print_args<'a>(
     match enclosed(alloc, limit, tokens) {
         Ok((first, others, rest)) => Ok((PrintArgs::Enclosed(first, others), rest)),
         Err(Refusal::Syntax(_)) => listed(alloc, limit, tokens),
-        Err(Refusal::TooDeep(line)) => Err(Refusal::TooDeep(line)),
+        Err(Refusal::TooDeep(place)) => Err(Refusal::TooDeep(place)),
         Err(Refusal::NoMemory) => Err(Refusal::NoMemory),
     }
 }
