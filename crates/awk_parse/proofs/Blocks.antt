@@ -53,9 +53,6 @@ stmts_more stmt i n front ts lt e =
     by (Ok x) = stmts_step front x.0 (stmts_at stmt (n - (i + 1)) x.1)
     by (Err f) = refl
 
-pub stmts_done : (stmt : StmtReader) (w : ℕ) (ts : List Token) → w ≡ 0 → stmts_at stmt w ts ≡ Err Syntax
-stmts_done stmt w ts e = rw e refl
-
 -- ---- one statement
 
 pub stmt_none : (limit : ℕ) (ts : List Token) → limit ≡ 0 → stmt_at limit ts ≡ Err TooDeep

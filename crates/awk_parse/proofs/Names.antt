@@ -100,6 +100,3 @@ items_start (Err f) = refl
 pub script_is : (ts : List Token) → script_at 1000 ts ≡ items_at 1000 (length ts + 1) ts
 unfolding script_at
 script_is ts = refl
-
-pub items_done : (d : ℕ) (front : List Item) (w : ℕ) (ts : List Token) → w ≡ 0 → with_items front (items_at d w ts) ≡ Err Syntax
-items_done d front w ts e = rw e refl
