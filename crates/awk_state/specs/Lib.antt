@@ -5,4 +5,5 @@ pub mod SharedState
 pub mod ValueRows
 pub mod OutputRows
 pub mod Table
+pub mod Jobs
 pub mod Rows

@@ -1,0 +1,9 @@
+pub mod ScriptState
+pub mod Meaning
+pub mod ScriptRun
+pub mod Mid
+pub mod MidMeaning
+pub mod View
+pub mod Covered
+pub mod Translation
+pub mod Rows

@@ -1,0 +1,1 @@
+-- Scripts, computed from the definition.
