@@ -72,6 +72,11 @@ abbrev pub is_value : Shape → Bool
 is_value (Answered (answer.Of sort.Value)) = true
 is_value _ = false
 
+-- it gives something that can be kept
+abbrev pub gives_answer : Answer → Bool
+gives_answer answer.Nothing = false
+gives_answer _ = true
+
 abbrev pub fit_row : List Argument → Codes → Bool
 fit_row [] End = true
 fit_row (a ∷ rest) (At e es) = fits (shape_of e) a && fit_row rest es
@@ -83,7 +88,7 @@ all_values (At e es) = is_value (shape_of e) && all_values es
 
 abbrev mutual
   pub Sorted : ℕ → Code → Type 0
-  Sorted texts (Do o es) = T (fit_row (arguments o) es) × AllSorted texts es
+  Sorted texts (Do o es) = T (gives_answer (answer_by o) && fit_row (arguments o) es) × AllSorted texts es
   Sorted texts (Over l es) = T (all_values es) × AllSorted texts es
   Sorted texts (Number z) = T (nat_le (unsigned_abs z) (2 ^ 53))
   Sorted texts (Text i) = i < texts
