@@ -6,10 +6,10 @@ use awk_values::Value;
 use std::alloc::Global;
 use std::marker::Model;
 
-/// The greatest number of a handle, plus one: handles are below 2^31.
-const LIMIT: usize = 1 << 31;
+/// How many handles are given at most: the greatest number below 2^31 is never given, so that one is always free.
+const LIMIT: usize = (1 << 31) - 1;
 
-/// Values, each under a handle: a number from 0 to 2^31 - 1. Contracts see a finite map from handles to values.
+/// Values, each under a handle: a number from 0 to 2^31 - 2. Contracts see a finite map from handles to values.
 #[derive(Drop)]
 pub struct Handles {
     slots: Vec<Option<Value>>,
@@ -86,6 +86,7 @@ impl Handles {
     pub fn put(&mut self, value: Value) -> Result<i32, Value>
         ensures free { IfOk result (λ handle. map.get self.old handle ≡ None) }
         ensures from_zero { IfOk result (λ handle. pos 0 ≤ℤ handle) }
+        ensures below { IfOk result (λ handle. handle <ℤ pos 2147483647) }
         ensures stored { IfOk result (λ handle. self.new ≡ map.insert self.old handle value) }
         ensures refused { OnErr result (self.new ≡ self.old) }
         ensures handed_back { IfErr result (λ v. v ≡ value) }

@@ -59,6 +59,10 @@ impl HostCalls for SmallHost {
 
     ghost Output = { ℕ };
 
+    ghost State = { ℕ };
+
+    ghost state = { λ h. h };
+
     ghost meaning = { small_meaning };
 
     ghost types = { small_types };

@@ -26,9 +26,15 @@ pub trait HostCalls {
     /// The pieces of its output.
     ghost Output: { Type 0 };
 
-    /// From this host, this import with these arguments over this memory may answer so, and leave this host, this memory and this
+    /// Its states, as a run is told of them.
+    ghost State: { Type 0 };
+
+    /// The state that a host is in.
+    ghost state: { Self → State };
+
+    /// From this state, this import with these arguments over this memory may answer so, and leave this state, this memory and this
     /// further output.
-    ghost meaning: { Self → ℕ → List AnyWord → MemoryForm → HostAnswer → Self → MemoryForm → List Output → Type 0 };
+    ghost meaning: { State → ℕ → List AnyWord → MemoryForm → HostAnswer → State → MemoryForm → List Output → Type 0 };
 
     /// The types of its imports, by number.
     ghost types: { ℕ → Option Signature };
@@ -42,14 +48,14 @@ pub trait HostCalls {
 
     /// Calls an import by its number. Arguments are in order; `memory` is the module's, or one of no pages.
     fn call(&mut self, import: u32, args: &[Word], memory: &mut Memory) -> HostAnswer
-        ensures means { Answers meaning self.old import args.now memory.old result self.new memory.new };
+        ensures means { Answers meaning (state self.old) import args.now memory.old result (state self.new) memory.new };
 
     /// An import that is found has this type.
     ghost found: { (from name : List ℕ) (r : ℕ × Signature) → finds from name ≡ Some r → types r.0 ≡ Some r.1 };
 
     /// An answer is of its import's type.
-    ghost typed: { (h : Self) (i : ℕ) (args : List AnyWord) (mem : MemoryForm) (a : HostAnswer) (h' : Self) (mem' : MemoryForm) (out : List Output) → meaning h i args mem a h' mem' out → Typed (types i) a };
+    ghost typed: { (h : State) (i : ℕ) (args : List AnyWord) (mem : MemoryForm) (a : HostAnswer) (h' : State) (mem' : MemoryForm) (out : List Output) → meaning h i args mem a h' mem' out → Typed (types i) a };
 
     /// Where it wants memory, what it has written by then is how another answer's output begins.
-    ghost refused: { (h : Self) (i : ℕ) (args : List AnyWord) (mem : MemoryForm) (h' : Self) (mem' : MemoryForm) (out : List Output) → meaning h i args mem HostAnswer.NoMemory h' mem' out → GoesOn meaning h i args mem out };
+    ghost refused: { (h : State) (i : ℕ) (args : List AnyWord) (mem : MemoryForm) (h' : State) (mem' : MemoryForm) (out : List Output) → meaning h i args mem HostAnswer.NoMemory h' mem' out → GoesOn meaning h i args mem out };
 }

@@ -28,7 +28,7 @@ pub fn run_on<H: HostCalls>(
 ) -> MachineEnd
     requires linked { Linked H.types machine.old.program }
     requires going { machine.old.ended ≡ None }
-    ensures { Did H.meaning machine.old.program (first + then) machine.old.conf host.old result machine.new.conf host.new }
+    ensures { Did H.meaning machine.old.program (first + then) machine.old.conf (H.state host.old) result machine.new.conf (H.state host.new) }
 {
     let end = machine.run(host, first);
     if end != MachineEnd::OutOfSteps {
@@ -41,8 +41,8 @@ pub fn run_on<H: HostCalls>(
 pub fn run_wanting<H: HostCalls>(machine: &mut Machine, host: &mut H, steps: u64) -> MachineEnd
     requires linked { Linked H.types machine.old.program }
     requires going { machine.old.ended ≡ None }
-    ensures did { Did H.meaning machine.old.program steps machine.old.conf host.old result machine.new.conf host.new }
-    ensures prefix { result ≡ MachineEnd.NoMemory → IsPrefix H.meaning machine.old.program steps machine.old.conf host.old machine.new.conf host.new }
+    ensures did { Did H.meaning machine.old.program steps machine.old.conf (H.state host.old) result machine.new.conf (H.state host.new) }
+    ensures prefix { result ≡ MachineEnd.NoMemory → IsPrefix H.meaning machine.old.program steps machine.old.conf (H.state host.old) machine.new.conf (H.state host.new) }
 {
     machine.run(host, steps)
 }

@@ -107,7 +107,7 @@ impl Machine {
     pub fn run<H: HostCalls>(&mut self, host: &mut H, steps: u64) -> MachineEnd
         requires linked { Linked H.types self.old.program }
         ensures program { self.new.program ≡ self.old.program }
-        ensures run { self.old.ended ≡ None → Did H.meaning self.old.program steps self.old.conf host.old result self.new.conf host.new }
+        ensures run { self.old.ended ≡ None → Did H.meaning self.old.program steps self.old.conf (H.state host.old) result self.new.conf (H.state host.new) }
         ensures again { IfSome self.old.ended (λ e. (result ≡ e) × (self.new ≡ self.old) × (host.new ≡ host.old)) }
         ensures ended { self.old.ended ≡ None → self.new.ended ≡ lasting result }
     {

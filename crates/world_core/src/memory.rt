@@ -141,4 +141,6 @@ impl World for MemWorld {
     ghost input = { λ w. refl };
 
     ghost output = { λ w. refl };
+
+    ghost standard = { λ w. refl };
 }

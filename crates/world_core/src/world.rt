@@ -1,6 +1,6 @@
 //! A world: files by name, and the standard streams.
 ghost use Rattle.std.specs.Prelude.{◌≡◌, ◌≢◌, ◌<◌, ◌≤◌, ℕ, length, IfOk, OnErr};
-ghost use Rattle.world_core.specs.WorldState.{State};
+ghost use Rattle.world_core.specs.WorldState.{Standard, State};
 ghost use Rattle.world_core.specs.Calls.{Kind, Closed, Reading, Writing, Opens, set_kind, Closes, next_count, Reads, Writes, OpensToRead, OpensToWrite};
 
 use std::alloc::AllocError;
@@ -116,4 +116,7 @@ pub trait World {
 
     /// The standard output is open for writing.
     ghost output: { (world : Self) → kinds world 1 ≡ Writing };
+
+    /// What is written to the standard output goes there.
+    ghost standard: { (world : Self) → (state world).writers 1 ≡ Standard };
 }

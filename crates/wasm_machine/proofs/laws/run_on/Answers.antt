@@ -13,6 +13,6 @@ returns g c =
     let out : c.run-end.result ≡ told.OutOfSteps = search rules in
     let d = c.run-end.ensures.run c.requires.going in
     let e = c.run.ensures.run (c.run-end.ensures.ended c.requires.going ∙ ap lasting out) in
-    did_on M m c.args.first c.args.then c.args.machine.now.conf c.args.host.now c.run-end.new.self.conf c.run-end.new.host c.run.result c.run.new.self.conf c.run.new.host
-    (subst (λ (r : MachineEnd). Did M m c.args.first c.args.machine.now.conf c.args.host.now r c.run-end.new.self.conf c.run-end.new.host) out d)
-    (subst (λ (q : ProgramForm). Did M q c.args.then c.run-end.new.self.conf c.run-end.new.host c.run.result c.run.new.self.conf c.run.new.host) c.run-end.ensures.program e)
+    did_on M m c.args.first c.args.then c.args.machine.now.conf (g.H.HostCalls.state c.args.host.now) c.run-end.new.self.conf (g.H.HostCalls.state c.run-end.new.host) c.run.result c.run.new.self.conf (g.H.HostCalls.state c.run.new.host)
+    (subst (λ (r : MachineEnd). Did M m c.args.first c.args.machine.now.conf (g.H.HostCalls.state c.args.host.now) r c.run-end.new.self.conf (g.H.HostCalls.state c.run-end.new.host)) out d)
+    (subst (λ (q : ProgramForm). Did M q c.args.then c.run-end.new.self.conf (g.H.HostCalls.state c.run-end.new.host) c.run.result c.run.new.self.conf (g.H.HostCalls.state c.run.new.host)) c.run-end.ensures.program e)

@@ -20,3 +20,10 @@ returns-in-Ok-clause-stored c =
     let key = length c.as_slice-key.result.now in
     let fits : key < 2 ^ 31 = omega (arith, c.if-key-ge-LIMIT.false) in
     rw (to_z_pos w32 key fits, ← c.self.view_is, c.in-Ok.ensures.items) (table-push c.self.inside.slots.items key c.args.value (sym (ap length c.as_slice-key.ensures.value)))
+
+pub returns-in-Ok-clause-below : goal.returns-in-Ok-clause-below
+returns-in-Ok-clause-below c =
+    let key = length c.as_slice-key.result.now in
+    let fits : key < 2 ^ 31 = omega (arith, c.if-key-ge-LIMIT.false) in
+    let small : key < 2147483647 = omega (arith, c.if-key-ge-LIMIT.false) in
+    rw (to_z_pos w32 key fits) (grind (arith, small))

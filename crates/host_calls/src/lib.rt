@@ -1,0 +1,7 @@
+//! The host of modules that awkwasm compiles: the imports of the module `awk1`.
+#![tactic(auto)]
+
+mod import;
+pub mod laws;
+
+pub use import::Import;
