@@ -1,0 +1,2 @@
+//! From mid code to a module.
+#![tactic(auto)]
