@@ -1,0 +1,3 @@
+pub mod Pivot
+pub mod Arrive
+pub mod Forward
