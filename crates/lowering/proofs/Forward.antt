@@ -1,7 +1,9 @@
 -- Emitted code does what mid code means, on the machine over values.
 use Rattle.std.proofs.Common.{◌≡◌, ◌≢◌, ℕ, zero, suc, ◌+◌, ◌-◌, ◌^◌, ◌<◌, ◌≤◌, max, Bool, true, false, T, cond, not, ◌&&◌, nat_eq, nat_le, List, [], ◌∷◌, ◌++◌, length, take, drop, reverse, get_or, Option, Some, None, Result, Ok, Err, ℤ, unsigned_abs, w64, refl, sym, ap, ap₂, ◌∙◌, subst, arith, append-nil, append_assoc}
 use Rattle.std.proofs.lemmas.Bool.{eq-eqb, eqb-true}
-use Rattle.std.proofs.lemmas.List.{reverse-reverse, length-reverse}
+use Rattle.std.proofs.lemmas.List.{reverse-reverse, length-reverse, length-append}
+use Rattle.std.proofs.lemmas.Grind.{reverse_onto}
+use Rattle.std.proofs.Math.Seq.{take-append_seam, drop-append_seam}
 use Rattle.std.specs.Int.{cast_unsigned}
 use Rattle.awk_values.specs.declared.fault.Fault.{Fault}
 use Rattle.awk_values.specs.declared.value.Value.{Value as AnyValue}
@@ -17,10 +19,11 @@ use Rattle.awk_state.specs.declared.sorts.Answer.{Answer}
 use Rattle.awk_state.specs.declared.sorts.Answer.TheVariants as answer
 use Rattle.awk_state.specs.declared.table.Primitive.{Primitive}
 use Rattle.awk_state.specs.declared.table.Primitive.TheVariants as prim
+use Rattle.awk_state.specs.declared.table.Listed.TheVariants.{Print}
 use Rattle.awk_state.specs.declared.answers.InputAnswer.TheVariants as input
 use Rattle.awk_state.specs.declared.answers.AssignAnswer.TheVariants as assign
 use Rattle.awk_state.specs.declared.answers.CloseAnswer.TheVariants as close
-use Rattle.awk_state.proofs.Words.{number_again, word_no_fault}
+use Rattle.awk_state.proofs.Words.{constant_again, number_again, word_again, word_no_fault}
 use Rattle.wasm_types.specs.Syntax.{Instruction, Plain, Block, If, Instructions, Done, Then}
 use Rattle.wasm_types.specs.declared.instr.Simple.TheVariants.{Br, BrIf, Call}
 use Rattle.wasm_store.specs.declared.word.Word.{Word}
@@ -28,16 +31,27 @@ use Rattle.wasm_store.specs.declared.word.Word.TheVariants.{I32, I64}
 use Rattle.wasm_store.specs.Words.{flag}
 use Rattle.host_calls.specs.declared.import.Import.{Import}
 use Rattle.host_calls.specs.declared.import.Import.TheVariants.{Of, Over, Arg, Drop}
-use Rattle.awk_state.specs.Constants.{flag_number}
-use Rattle.host_calls.specs.HostState.{input_code, assign_code, close_code}
-use Rattle.host_calls.specs.Imports.{import_at, import_arguments, import_answer, params_of}
+use Rattle.awk_state.specs.Constants.{constant_number, flag_number}
+use Rattle.host_calls.specs.HostState.{input_code, assign_code, close_code, text_at}
+use Rattle.host_calls.specs.Imports.{import_at, import_arguments, import_answer, params_of, words_of}
+use Rattle.host_calls.specs.HostStep.{acts}
 use Rattle.mid_code.specs.ScriptState.{State, Faulted, Outcome, Gives, Stops, Doing, go_on, give, settled, or_fault, perform}
 use Rattle.mid_code.specs.Mid.{Code, Do, Over as OverList, Number, Text, Codes, End, At, Step, Eval, Program, arguments, answer_by, may_fault, Shape, Answered, Literal, shape_of, fits, gives_answer, fit_row, all_values, Sorted, AllSorted}
 use Rattle.mid_code.specs.MidMeaning.{InShape, Values, converted, row_of, or_zero}
-use Rattle.lowering.specs.Emitted.{does, ask, handle_local, number_local, local_for, local_of, is_fault, keep, is_constant, behind, convert_one, convert_all, place_of, memory_of, push_one, push_all}
-use Rattle.lowering.proofs.Pivot.{Cell, Bits, Held, ArrayOf, IteratorOf, Host, Label, Locals, upd, Conf, Run, with_some, in_sort, front, decode, cell_of_sort, cell_or_end, cell, fault_cell, state_of, replied, acted, call, onto, at, br, width, with_answer, go}
+use Rattle.lowering.specs.Emitted.{does, ask, place_of_import, handle_local, number_local, local_for, local_of, is_fault, keep, is_constant, behind, convert_one, convert_all, place_of, memory_of, push_one, push_all}
+use Rattle.lowering.proofs.Pivot.{Cell, Bits, Held, ArrayOf, IteratorOf, Host, Label, Locals, upd, Conf, Run, with_some, and_rest, in_sort, front, decode, cell_of_sort, cell_or_end, cell, fault_cell, state_of, replied, acted, call, onto, at, br, width, with_answer, unless_kept, go}
 use Rattle.lowering.proofs.Pivot
-use Rattle.lowering.proofs.Arrive.{After, Leaving, Arrives, first, then_on, weaker}
+use Rattle.lowering.proofs.Arrive.{After, Leaving, Arrives, first, go_add, then_on, weaker}
+
+-- Tests.
+
+pub both_left : (a b : Bool) → T (a && b) → T a
+both_left true b h = tt
+both_left false b h = absurd h
+
+pub both_right : (a b : Bool) → T (a && b) → T b
+both_right true b h = h
+both_right false b h = absurd h
 
 -- Locals.
 
@@ -187,3 +201,217 @@ module _ (mem : List ℕ) where
   bad answer.Close g d k vs K L h = refl
   bad answer.ValueOrEnd g d k vs K L h = refl
   bad answer.Name g d k vs K L h = absurd g
+
+-- The state of the machine beside a script's.
+
+abbrev pub host_of : Shared → List AnyValue → Host
+host_of shared values = record { shared = shared; arguments = values; fault = None }
+
+abbrev pub host : State → Host
+host σ = host_of σ.shared []
+
+abbrev pub gone : Fault → State → Host
+gone f σ = record { shared = σ.shared; arguments = []; fault = Some f }
+
+-- the function is left, whose exit is d labels further out
+abbrev pub Away : ℕ → List Label → Leaving
+Away d K f σ c = (L1 : Locals) × (c ≡ br d K L1 (gone f σ))
+
+abbrev pub Same : ℕ → Locals → Locals → Type 0
+Same t L L1 = (x : ℕ) → x < t + t → L1 x ≡ L x
+
+-- the answer stands in temporary t, and those before it are as they were
+abbrev pub AnswerDone : (a : Answer) → ℕ → Instructions → List Cell → List Label → Locals → After (InAnswer a)
+AnswerDone a t k vs K L v σ c = (L1 : Locals) × (c ≡ at vs K L1 k (host σ)) × Same t L L1 × (L1 (local_for a t) ≡ kept_cell a v)
+
+stored_same : (a : Answer) (t : ℕ) (L0 L : Locals) (w : Cell) → Same t L0 L → Same t L0 (upd L (local_for a t) w)
+stored_same a t L0 L w same x lt = upd_other L (local_for a t) w x (λ e. let le = local_from a t in absurd (omega (arith, e, le))) ∙ same x lt
+
+module _ (mem : List ℕ) where
+  -- what an import leaves behind
+  abbrev pub answered : (a : Answer) → Shared → Result (InAnswer a) Fault → Option Cell × Host
+  answered a shared (Ok x) = (cell a x, host_of shared [])
+  answered a shared (Err f) = (fault_cell a, record { shared = shared; arguments = []; fault = Some f })
+
+  -- an answer is kept, or the function is left
+  kept_ok : (a : Answer) → T (keeps a) → (r : Result (InAnswer a) Fault) (t d : ℕ) (k : Instructions) (vs : List Cell) (K : List Label) (L0 L : Locals) (σ : State) → Same t L0 L →
+    Arrives mem 3 (at (onto (answered a σ.shared r).0 vs) K L (keep true a t d k) (answered a σ.shared r).1) (AnswerDone a t k vs K L0) (Away d K) (settled r σ)
+  kept_ok a g (Ok x) t d k vs K L0 L σ same =
+      let L1 = upd L (local_for a t) (kept_cell a x) in
+      (3, omega arith, (L1,
+        ap (λ w. go mem 3 (at (onto w vs) K L (keep true a t d k) (host σ))) (cell_kept a x g) ∙ fine mem a x g d k vs K L1 (host σ),
+        stored_same a t L0 L (kept_cell a x) same, upd_same L (local_for a t) (kept_cell a x)))
+  kept_ok a g (Err f) t d k vs K L0 L σ same =
+      let L1 = upd L (local_for a t) (bad_cell a) in
+      (3, omega arith, (L1, ap (λ w. go mem 3 (at (onto w vs) K L (keep true a t d k) (gone f σ))) (fault_kept a g) ∙ bad mem a g d k vs K L1 (gone f σ)))
+
+  -- one that is no fault
+  plain_ok : (a : Answer) → T (keeps a) → (x : InAnswer a) (t d : ℕ) (k : Instructions) (vs : List Cell) (K : List Label) (L0 L : Locals) (σ : State) → Same t L0 L →
+    Arrives mem 3 (at (onto (cell a x) vs) K L (keep false a t d k) (host σ)) (AnswerDone a t k vs K L0) (Away d K) (give x σ)
+  plain_ok a g x t d k vs K L0 L σ same =
+      let L1 = upd L (local_for a t) (kept_cell a x) in
+      (1, omega arith, (L1, ap (λ w. go mem 1 (at (onto w vs) K L (keep false a t d k) (host σ))) (cell_kept a x g),
+        stored_same a t L0 L (kept_cell a x) same, upd_same L (local_for a t) (kept_cell a x)))
+
+-- Imports.
+
+-- operands onto others, the last on top
+abbrev pub stacked : List Cell → List Cell → List Cell
+stacked [] vs = vs
+stacked (w ∷ ws) vs = stacked ws (w ∷ vs)
+
+stacked_reverse : (ws vs : List Cell) → stacked ws vs ≡ reverse ws ++ vs
+stacked_reverse [] vs = refl
+stacked_reverse (w ∷ ws) vs = stacked_reverse ws (w ∷ vs) ∙ (sym (append_assoc (reverse ws) (w ∷ []) vs) ∙ ap (λ l. l ++ vs) (sym (reverse_onto ws w [])))
+
+taken_back : (ws vs : List Cell) → reverse (take (length ws) (stacked ws vs)) ≡ ws
+taken_back ws vs =
+    ap (λ l. reverse (take (length ws) l)) (stacked_reverse ws vs)
+    ∙ (ap (λ n. reverse (take n (reverse ws ++ vs))) (sym (length-reverse ws))
+    ∙ (ap reverse (take-append_seam (reverse ws) vs) ∙ reverse-reverse ws))
+
+dropped_back : (ws vs : List Cell) → drop (length ws) (stacked ws vs) ≡ vs
+dropped_back ws vs = ap (drop (length ws)) (stacked_reverse ws vs) ∙ (ap (λ n. drop n (reverse ws ++ vs)) (sym (length-reverse ws)) ∙ drop-append_seam (reverse ws) vs)
+
+placed : (i : Import) → import_at (place_of_import i) ≡ Some i
+placed (Of prim.Num) = refl
+placed (Of prim.Lit) = refl
+placed (Of prim.Uninit) = refl
+placed (Of prim.Dup) = refl
+placed (Of prim.ToNum) = refl
+placed (Of prim.IntOf) = refl
+placed (Of prim.Truth) = refl
+placed (Of prim.Compare) = refl
+placed (Of prim.Concat) = refl
+placed (Of prim.Pow) = refl
+placed (Of prim.Fail) = refl
+placed (Over Print) = refl
+placed Arg = refl
+placed Drop = refl
+
+module _ (mem : List ℕ) where
+  pub called : (i : Import) (ws vs : List Cell) (row : Row (import_arguments i)) (k : Instructions) (K : List Label) (L : Locals) (h : Host) → h.fault ≡ None → decode mem (import_arguments i) ws ≡ Some row → length ws ≡ width i →
+    go mem 1 (at (stacked ws vs) K L (ask i k) h) ≡ with_answer (acted i h (acts i row (state_of h))) vs K L k
+  called i ws vs row k K L h none e n =
+      ap (λ x. Pivot.ask mem x (stacked ws vs) K L k h) (placed i)
+      ∙ (ap (λ m. with_answer (call mem i (reverse (take m (stacked ws vs))) h) (drop m (stacked ws vs)) K L k) (sym n)
+      ∙ (ap₂ (λ us rest. with_answer (call mem i us h) rest K L k) (taken_back ws vs) (dropped_back ws vs)
+      ∙ (ap (λ f. with_answer (unless_kept f (with_some (decode mem (import_arguments i) ws) (λ r. acted i h (acts i r (state_of h))))) vs K L k) none
+      ∙ ap (λ o. with_answer (with_some o (λ r. acted i h (acts i r (state_of h)))) vs K L k) e)))
+
+-- Rows of arguments, as words on the stack.
+
+abbrev pub ReadyAs : List ℕ → (a : Argument) → InArgument a → List Cell → Type 0
+ReadyAs mem (argument.Of s) x ws = ws ≡ cell_of_sort s x ∷ []
+ReadyAs mem (argument.Constant c) x ws = ws ≡ Bits (I32 (constant_number c x)) ∷ []
+ReadyAs mem argument.Place x ws = (p : ℕ) × (n : ℕ) × (ws ≡ Bits (I32 p) ∷ (Bits (I32 n) ∷ [])) × (text_at mem p n ≡ Some x)
+
+abbrev pub Ready : List ℕ → (wanted : List Argument) → Row wanted → List Cell → Type 0
+Ready mem [] row ws = ws ≡ []
+Ready mem (a ∷ wanted) row ws = (us : List Cell) × (vs : List Cell) × (ws ≡ us ++ vs) × ReadyAs mem a row.0 us × Ready mem wanted row.1 vs
+
+in_sort_again : (s : Sort) (x : In s) → in_sort s (cell_of_sort s x) ≡ Some x
+in_sort_again sort.Value x = refl
+in_sort_again sort.Number x = word_again x
+in_sort_again sort.Array x = refl
+in_sort_again sort.Iterator x = refl
+
+front_again : (mem : List ℕ) (a : Argument) (x : InArgument a) (us vs : List Cell) → ReadyAs mem a x us → front mem a (us ++ vs) ≡ Some (x, vs)
+front_again mem (argument.Of s) x us vs e = ap (λ ws. front mem (argument.Of s) (ws ++ vs)) e ∙ ap (λ o. and_rest o vs) (in_sort_again s x)
+front_again mem (argument.Constant c) x us vs e = ap (λ ws. front mem (argument.Constant c) (ws ++ vs)) e ∙ ap (λ o. and_rest o vs) (constant_again c x)
+front_again mem argument.Place x us vs e = ap (λ ws. front mem argument.Place (ws ++ vs)) e.2 ∙ ap (λ o. and_rest o vs) e.3
+
+pub decoded : (mem : List ℕ) (wanted : List Argument) (row : Row wanted) (ws : List Cell) → Ready mem wanted row ws → decode mem wanted ws ≡ Some row
+decoded mem [] row ws e = ap (decode mem []) e
+decoded mem (a ∷ wanted) row ws r =
+    ap (decode mem (a ∷ wanted)) r.2
+    ∙ (ap (λ o. with_some o (λ x. with_some (decode mem wanted x.1) (λ rest. Some (x.0, rest)))) (front_again mem a row.0 r.0 r.1 r.3)
+    ∙ ap (λ o. with_some o (λ rest. Some (row.0, rest))) (decoded mem wanted row.1 r.1 r.4))
+
+one_width : (mem : List ℕ) (a : Argument) (x : InArgument a) (us : List Cell) → ReadyAs mem a x us → length us ≡ length (words_of a)
+one_width mem (argument.Of sort.Value) x us e = ap length e
+one_width mem (argument.Of sort.Number) x us e = ap length e
+one_width mem (argument.Of sort.Array) x us e = ap length e
+one_width mem (argument.Of sort.Iterator) x us e = ap length e
+one_width mem (argument.Constant c) x us e = ap length e
+one_width mem argument.Place x us e = ap length e.2
+
+pub row_width : (mem : List ℕ) (wanted : List Argument) (row : Row wanted) (ws : List Cell) → Ready mem wanted row ws → length ws ≡ length (params_of wanted)
+row_width mem [] row ws e = ap length e
+row_width mem (a ∷ wanted) row ws r =
+    ap length r.2
+    ∙ (length-append r.0 r.1
+    ∙ (ap₂ (λ m n. m + n) (one_width mem a row.0 r.0 r.3) (row_width mem wanted row.1 r.1 r.4)
+    ∙ sym (length-append (words_of a) (params_of wanted))))
+
+-- Operands, in their temporaries.
+
+module _ (texts : List (List ℕ)) where
+  abbrev pub mem : List ℕ
+  mem = memory_of texts
+
+  -- where code's value is found: in a temporary, or it is a constant
+  abbrev pub HeldOne : (e : Code) → InShape (shape_of e) → Locals → ℕ → Type 0
+  HeldOne (Do o es) x L t = L (local_for (answer_by o) t) ≡ kept_cell (answer_by o) x
+  HeldOne (OverList l es) x L t = L (local_for (listed_answer l) t) ≡ kept_cell (listed_answer l) x
+  HeldOne (Number z) x L t = x ≡ or_zero (number_of z)
+  HeldOne (Text i) x L t = x ≡ get_or texts i []
+
+  abbrev pub HeldAll : (es : Codes) → Values es → Locals → ℕ → Type 0
+  HeldAll End vs L t = Unit {0}
+  HeldAll (At e es) vs L t = HeldOne e vs.0 L t × HeldAll es vs.1 L (behind e t)
+
+  behind_from : (e : Code) (t : ℕ) → t ≤ behind e t
+  behind_from (Do o es) t = omega arith
+  behind_from (OverList l es) t = omega arith
+  behind_from (Number z) t = omega arith
+  behind_from (Text i) t = omega arith
+
+  held_one_same : (e : Code) (x : InShape (shape_of e)) (L L1 : Locals) (t : ℕ) → ((y : ℕ) → y < behind e t + behind e t → t + t ≤ y → L1 y ≡ L y) → HeldOne e x L t → HeldOne e x L1 t
+  held_one_same (Do o es) x L L1 t same h = same (local_for (answer_by o) t) (local_to (answer_by o) t) (local_from (answer_by o) t) ∙ h
+  held_one_same (OverList l es) x L L1 t same h = same (local_for (listed_answer l) t) (local_to (listed_answer l) t) (local_from (listed_answer l) t) ∙ h
+  held_one_same (Number z) x L L1 t same h = h
+  held_one_same (Text i) x L L1 t same h = h
+
+  held_all_same : (es : Codes) (vs : Values es) (L L1 : Locals) (t : ℕ) → ((y : ℕ) → t + t ≤ y → L1 y ≡ L y) → HeldAll es vs L t → HeldAll es vs L1 t
+  held_all_same End vs L L1 t same h = tt
+  held_all_same (At e es) vs L L1 t same h =
+      (held_one_same e vs.0 L L1 t (λ y lt le. same y le) h.0,
+        held_all_same es vs.1 L L1 (behind e t) (λ y le. same y (let b = behind_from e t in omega (arith, b))) h.1)
+
+  -- the words that are pushed for an operand
+  abbrev pub pushed_one : Argument → Code → Locals → ℕ → List Cell
+  pushed_one a (Do o es) L t = L (local_of a t) ∷ []
+  pushed_one a (OverList l es) L t = L (local_of a t) ∷ []
+  pushed_one a (Number z) L t = Bits (I64 (cast_unsigned w64 z)) ∷ []
+  pushed_one a (Text i) L t = Bits (I32 (place_of texts i)) ∷ (Bits (I32 (length (get_or texts i []))) ∷ [])
+
+  abbrev pub pushed_all : List Argument → Codes → Locals → ℕ → List Cell
+  pushed_all (a ∷ wanted) (At e es) L t = pushed_one a e L t ++ pushed_all wanted es L (behind e t)
+  pushed_all _ _ L t = []
+
+  -- one step for each operand in a temporary
+  abbrev pub push_work : Codes → ℕ
+  push_work End = 0
+  push_work (At e es) = cond (is_constant e) 0 1 + push_work es
+
+  stacked_append : (us ws vs : List Cell) → stacked (us ++ ws) vs ≡ stacked ws (stacked us vs)
+  stacked_append [] ws vs = refl
+  stacked_append (u ∷ us) ws vs = stacked_append us ws (u ∷ vs)
+
+  push_one_ok : (a : Argument) (e : Code) (t : ℕ) (k : Instructions) (vs : List Cell) (K : List Label) (L : Locals) (h : Host) → go mem (cond (is_constant e) 0 1) (at vs K L (push_one texts a e t k) h) ≡ at (stacked (pushed_one a e L t) vs) K L k h
+  push_one_ok a (Do o es) t k vs K L h = refl
+  push_one_ok a (OverList l es) t k vs K L h = refl
+  push_one_ok a (Number z) t k vs K L h = refl
+  push_one_ok a (Text i) t k vs K L h = refl
+
+  pub push_ok : (wanted : List Argument) (es : Codes) (t : ℕ) (k : Instructions) (vs : List Cell) (K : List Label) (L : Locals) (h : Host) → T (fit_row wanted es) → go mem (push_work es) (at vs K L (push_all texts wanted es t k) h) ≡ at (stacked (pushed_all wanted es L t) vs) K L k h
+  push_ok [] End t k vs K L h f = refl
+  push_ok [] (At e es) t k vs K L h f = absurd f
+  push_ok (a ∷ wanted) End t k vs K L h f = absurd f
+  push_ok (a ∷ wanted) (At e es) t k vs K L h f =
+      let w = cond (is_constant e) 0 1 in
+      go_add mem w (push_work es) (at vs K L (push_all texts (a ∷ wanted) (At e es) t k) h)
+      ∙ (ap (go mem (push_work es)) (push_one_ok a e t (push_all texts wanted es (behind e t) k) vs K L h)
+      ∙ (push_ok wanted es (behind e t) k (stacked (pushed_one a e L t) vs) K L h (both_right (fits (shape_of e) a) (fit_row wanted es) f)
+      ∙ ap (λ ws. at ws K L k h) (sym (stacked_append (pushed_one a e L t) (pushed_all wanted es L (behind e t)) vs))))
