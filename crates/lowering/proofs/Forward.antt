@@ -10,6 +10,8 @@ use Rattle.awk_values.specs.declared.value.Value.{Value as AnyValue}
 use Rattle.awk_state.specs.Numbers.{Number as AnyNumber, faulted_word, number_of, number_of_word, number_word}
 use Rattle.awk_state.specs.SharedState.{Shared, Does, gives, shared_after}
 use Rattle.awk_state.specs.Sorts.{In, InAnswer, InArgument, Row, OrFault}
+use Rattle.awk_state.specs.ValueRows.{number_of_row}
+use Rattle.world_core.specs.WorldState.{Action}
 use Rattle.awk_state.specs.Table.{arguments_of, answer_of, can_fault, listed_answer, listed_meaning, meaning}
 use Rattle.awk_state.specs.declared.sorts.Sort.{Sort}
 use Rattle.awk_state.specs.declared.sorts.Sort.TheVariants as sort
@@ -34,7 +36,7 @@ use Rattle.host_calls.specs.declared.import.Import.TheVariants.{Of, Over, Arg, D
 use Rattle.awk_state.specs.Constants.{constant_number, flag_number}
 use Rattle.host_calls.specs.HostState.{input_code, assign_code, close_code, text_at}
 use Rattle.host_calls.specs.Imports.{import_at, import_arguments, import_answer, params_of, words_of}
-use Rattle.host_calls.specs.HostStep.{acts}
+use Rattle.host_calls.specs.HostStep.{Acts, acts, or_fault as host_or_fault}
 use Rattle.mid_code.specs.ScriptState.{State, Faulted, Outcome, Gives, Stops, Doing, go_on, give, settled, or_fault, perform}
 use Rattle.mid_code.specs.Mid.{Code, Do, Over as OverList, Number, Text, Codes, End, At, Step, Eval, Program, arguments, answer_by, may_fault, Shape, Answered, Literal, shape_of, fits, gives_answer, fit_row, all_values, Sorted, AllSorted}
 use Rattle.mid_code.specs.MidMeaning.{InShape, Values, converted, row_of, or_zero}
@@ -415,3 +417,75 @@ module _ (texts : List (List ℕ)) where
       ∙ (ap (go mem (push_work es)) (push_one_ok a e t (push_all texts wanted es (behind e t) k) vs K L h)
       ∙ (push_ok wanted es (behind e t) k (stacked (pushed_one a e L t) vs) K L h (both_right (fits (shape_of e) a) (fit_row wanted es) f)
       ∙ ap (λ ws. at ws K L k h) (sym (stacked_append (pushed_one a e L t) (pushed_all wanted es L (behind e t)) vs))))
+
+-- Primitives.
+
+same_or : {A : Type 0} → (b : Bool) (x : OrFault b A) → host_or_fault b x ≡ or_fault b x
+same_or true x = refl
+same_or false x = refl
+
+same_shared : (σ : Shared) → record { inner = σ.inner; outside = σ.outside; output = σ.output ++ [] } ≡ σ
+same_shared σ = ap (λ (o : List Action). record { inner = σ.inner; outside = σ.outside; output = o }) (append-nil σ.output)
+
+module _ (mem : List ℕ) where
+  replied_answered : (a : Answer) (d : Acts (InAnswer a)) (shared : Shared) (r : Result (InAnswer a) Fault) → d.arguments ≡ [] → replied a (host_of shared []) d r ≡ answered mem a (shared_after shared d.does) r
+  replied_answered a d shared (Ok x) e = ap (λ (l : List AnyValue). (cell a x, host_of (shared_after shared d.does) l)) e
+  replied_answered a d shared (Err f) e = ap (λ (l : List AnyValue). (fault_cell a, record { shared = shared_after shared d.does; arguments = l; fault = Some f })) e
+
+  -- an answer that may be a fault, or not
+  answer_ok : (b : Bool) (a : Answer) → T (keeps a) → (x : OrFault b (InAnswer a)) (t d : ℕ) (k : Instructions) (vs : List Cell) (K : List Label) (L0 L : Locals) (σ : State) → Same t L0 L →
+    Arrives mem 3 (at (onto (answered mem a σ.shared (or_fault b x)).0 vs) K L (keep b a t d k) (answered mem a σ.shared (or_fault b x)).1) (AnswerDone a t k vs K L0) (Away d K) (settled (or_fault b x) σ)
+  answer_ok true a g x t d k vs K L0 L σ same = kept_ok mem a g x t d k vs K L0 L σ same
+  answer_ok false a g x t d k vs K L0 L σ same = plain_ok mem a g x t d k vs K L0 L σ same
+
+  pub primitive_called : (p : Primitive) (ws vs : List Cell) (row : Row (arguments_of p)) (k : Instructions) (K : List Label) (L : Locals) (shared : Shared) → Ready mem (arguments_of p) row ws →
+    (let a = answered mem (answer_of p) (shared_after shared (meaning p row shared)) (or_fault (can_fault p) (meaning p row shared).answer) in
+    go mem 1 (at (stacked ws vs) K L (ask (Of p) k) (host_of shared [])) ≡ at (onto a.0 vs) K L k a.1)
+  primitive_called p ws vs row k K L shared r =
+      let d = meaning p row shared in
+      called mem (Of p) ws vs row k K L (host_of shared []) refl (decoded mem (arguments_of p) row ws r) (row_width mem (arguments_of p) row ws r)
+      ∙ (ap (λ x. with_answer (Some (replied (answer_of p) (host_of shared []) (record { does = record { added = d.added; inner = d.inner; answer = x }; arguments = [] }) x)) vs K L k) (same_or (can_fault p) d.answer)
+      ∙ ap (λ x. with_answer (Some x) vs K L k) (replied_answered (answer_of p) (record { does = record { added = d.added; inner = d.inner; answer = or_fault (can_fault p) d.answer }; arguments = [] }) shared (or_fault (can_fault p) d.answer) refl))
+
+  pub host_ok : (p : Primitive) (row : Row (arguments_of p)) (ws : List Cell) (t d : ℕ) (k : Instructions) (vs : List Cell) (K : List Label) (L0 L : Locals) (σ : State) → T (gives_answer (answer_of p)) → Ready mem (arguments_of p) row ws → Same t L0 L →
+    Arrives mem 4 (at (stacked ws vs) K L (ask (Of p) (keep (can_fault p) (answer_of p) t d k)) (host σ)) (AnswerDone (answer_of p) t k vs K L0) (Away d K) (perform (can_fault p) (meaning p row) σ)
+  host_ok p row ws t d k vs K L0 L σ g r same =
+      first mem 1 3 4 _ _ (AnswerDone (answer_of p) t k vs K L0) (Away d K) _ (primitive_called p ws vs row (keep (can_fault p) (answer_of p) t d k) K L σ.shared r) (omega arith)
+        (answer_ok (can_fault p) (answer_of p) (table_keeps p g) (meaning p row σ.shared).answer t d k vs K L0 L (record σ { shared = shared_after σ.shared (meaning p row σ.shared) }) same)
+
+  -- Conversions.
+
+  -- one operand is as it is wanted; only its local for a number has changed
+  abbrev pub OneDone : (a : Argument) → ℕ → Instructions → List Cell → List Label → Locals → After (InArgument a)
+  OneDone a t k vs K L x σ c = (L1 : Locals) × (c ≡ at vs K L1 k (host σ)) × ((y : ℕ) → (y ≡ number_local t → ⊥) → L1 y ≡ L y) × ReadyAs mem a x (L1 (local_of a t) ∷ [])
+
+  stays : (a : Argument) (x : InArgument a) (t d : ℕ) (k : Instructions) (vs : List Cell) (K : List Label) (L : Locals) (σ : State) → ReadyAs mem a x (L (local_of a t) ∷ []) → Arrives mem 5 (at vs K L k (host σ)) (OneDone a t k vs K L) (Away d K) (give x σ)
+  stays a x t d k vs K L σ r = (0, omega arith, (L, refl, (λ y ne. refl), r))
+
+  -- a number that an import gave
+  number_ok : (r : Result AnyNumber Fault) (t d : ℕ) (k : Instructions) (vs : List Cell) (K : List Label) (L : Locals) (σ : State) →
+    Arrives mem 3 (at (onto (answered mem (answer.Of sort.Number) σ.shared r).0 vs) K L (keep true (answer.Of sort.Number) t d k) (answered mem (answer.Of sort.Number) σ.shared r).1) (OneDone (argument.Of sort.Number) t k vs K L) (Away d K) (settled r σ)
+  number_ok (Ok n) t d k vs K L σ =
+      let w = Bits (I64 (number_word n)) in
+      let L1 = upd L (number_local t) w in
+      (3, omega arith, (L1, fine mem (answer.Of sort.Number) n tt d k vs K L1 (host σ), (λ y ne. upd_other L (number_local t) w y ne), ap (λ (v : Cell). v ∷ []) (upd_same L (number_local t) w)))
+  number_ok (Err f) t d k vs K L σ =
+      let L1 = upd L (number_local t) (Bits (I64 faulted_word)) in
+      (3, omega arith, (L1, bad mem (answer.Of sort.Number) tt d k vs K L1 (gone f σ)))
+
+  answer_converted : (b : Answer) (a : Argument) (x : InAnswer b) (t d : ℕ) (k : Instructions) (vs : List Cell) (K : List Label) (L : Locals) (σ : State) → T (fits (Answered b) a) → L (local_for b t) ≡ kept_cell b x →
+    Arrives mem 5 (at vs K L (convert_one (Answered b) a t d k) (host σ)) (OneDone a t k vs K L) (Away d K) (settled (converted (Answered b) a x) σ)
+  answer_converted (answer.Of sort.Value) (argument.Of sort.Value) x t d k vs K L σ f e = stays (argument.Of sort.Value) x t d k vs K L σ (ap (λ (w : Cell). w ∷ []) e)
+  answer_converted (answer.Of sort.Number) (argument.Of sort.Number) x t d k vs K L σ f e = stays (argument.Of sort.Number) x t d k vs K L σ (ap (λ (w : Cell). w ∷ []) e)
+  answer_converted (answer.Of sort.Array) (argument.Of sort.Array) x t d k vs K L σ f e = stays (argument.Of sort.Array) x t d k vs K L σ (ap (λ (w : Cell). w ∷ []) e)
+  answer_converted (answer.Of sort.Iterator) (argument.Of sort.Iterator) x t d k vs K L σ f e = stays (argument.Of sort.Iterator) x t d k vs K L σ (ap (λ (w : Cell). w ∷ []) e)
+  answer_converted (answer.Of sort.Value) (argument.Of sort.Number) x t d k vs K L σ f e =
+      let kk = keep true (answer.Of sort.Number) t d k in
+      let r = number_of_row x in
+      first mem 2 3 5 _ _ (OneDone (argument.Of sort.Number) t k vs K L) (Away d K) (settled r σ)
+        (ap (λ w. go mem 1 (at (w ∷ vs) K L (ask (Of prim.ToNum) kk) (host σ))) e
+          ∙ (primitive_called prim.ToNum (Held x ∷ []) vs (x, tt) kk K L σ.shared (Held x ∷ [], [], refl, refl, refl)
+          ∙ ap (λ s. at (onto (answered mem (answer.Of sort.Number) s r).0 vs) K L kk (answered mem (answer.Of sort.Number) s r).1) (same_shared σ.shared)))
+        (omega arith)
+        (number_ok r t d k vs K L σ)
+  answer_converted b a x t d k vs K L σ f e = absurd f
