@@ -98,7 +98,7 @@ local_to answer.Close t = omega arith
 local_to answer.ValueOrEnd t = omega arith
 local_to answer.Name t = omega arith
 
-argument_to : (a : Argument) (t : ℕ) → local_of a t < suc t + suc t
+pub argument_to : (a : Argument) (t : ℕ) → local_of a t < suc t + suc t
 argument_to (argument.Of sort.Number) t = omega arith
 argument_to (argument.Of sort.Value) t = omega arith
 argument_to (argument.Of sort.Array) t = omega arith
@@ -236,7 +236,7 @@ module _ (mem : List ℕ) where
   answered a shared (Err f) = (fault_cell a, record { shared = shared; arguments = []; fault = Some f })
 
   -- an answer is kept, or the function is left
-  kept_ok : (a : Answer) → T (keeps a) → (r : Result (InAnswer a) Fault) (t d : ℕ) (k : Instructions) (vs : List Cell) (K : List Label) (L0 L : Locals) (σ : State) → Same t L0 L →
+  pub kept_ok : (a : Answer) → T (keeps a) → (r : Result (InAnswer a) Fault) (t d : ℕ) (k : Instructions) (vs : List Cell) (K : List Label) (L0 L : Locals) (σ : State) → Same t L0 L →
     Arrives mem 3 (at (onto (answered a σ.shared r).0 vs) K L (keep true a t d k) (answered a σ.shared r).1) (AnswerDone a t k vs K L0) (Away d K) (settled r σ)
   kept_ok a g (Ok x) t d k vs K L0 L σ same =
       let L1 = upd L (local_for a t) (kept_cell a x) in
@@ -363,19 +363,19 @@ module _ (texts : List (List ℕ)) where
   HeldAll End vs L t = Unit {0}
   HeldAll (At e es) vs L t = HeldOne e vs.0 L t × HeldAll es vs.1 L (behind e t)
 
-  behind_from : (e : Code) (t : ℕ) → t ≤ behind e t
+  pub behind_from : (e : Code) (t : ℕ) → t ≤ behind e t
   behind_from (Do o es) t = omega arith
   behind_from (OverList l es) t = omega arith
   behind_from (Number z) t = omega arith
   behind_from (Text i) t = omega arith
 
-  held_one_same : (e : Code) (x : InShape (shape_of e)) (L L1 : Locals) (t : ℕ) → ((y : ℕ) → y < behind e t + behind e t → t + t ≤ y → L1 y ≡ L y) → HeldOne e x L t → HeldOne e x L1 t
+  pub held_one_same : (e : Code) (x : InShape (shape_of e)) (L L1 : Locals) (t : ℕ) → ((y : ℕ) → y < behind e t + behind e t → t + t ≤ y → L1 y ≡ L y) → HeldOne e x L t → HeldOne e x L1 t
   held_one_same (Do o es) x L L1 t same h = same (local_for (answer_by o) t) (local_to (answer_by o) t) (local_from (answer_by o) t) ∙ h
   held_one_same (OverList l es) x L L1 t same h = same (local_for (listed_answer l) t) (local_to (listed_answer l) t) (local_from (listed_answer l) t) ∙ h
   held_one_same (Number z) x L L1 t same h = h
   held_one_same (Text i) x L L1 t same h = h
 
-  held_all_same : (es : Codes) (vs : Values es) (L L1 : Locals) (t : ℕ) → ((y : ℕ) → t + t ≤ y → L1 y ≡ L y) → HeldAll es vs L t → HeldAll es vs L1 t
+  pub held_all_same : (es : Codes) (vs : Values es) (L L1 : Locals) (t : ℕ) → ((y : ℕ) → t + t ≤ y → L1 y ≡ L y) → HeldAll es vs L t → HeldAll es vs L1 t
   held_all_same End vs L L1 t same h = tt
   held_all_same (At e es) vs L L1 t same h =
       (held_one_same e vs.0 L L1 t (λ y lt le. same y le) h.0,
@@ -424,11 +424,11 @@ same_or : {A : Type 0} → (b : Bool) (x : OrFault b A) → host_or_fault b x �
 same_or true x = refl
 same_or false x = refl
 
-same_shared : (σ : Shared) → record { inner = σ.inner; outside = σ.outside; output = σ.output ++ [] } ≡ σ
+pub same_shared : (σ : Shared) → record { inner = σ.inner; outside = σ.outside; output = σ.output ++ [] } ≡ σ
 same_shared σ = ap (λ (o : List Action). record { inner = σ.inner; outside = σ.outside; output = o }) (append-nil σ.output)
 
 module _ (mem : List ℕ) where
-  replied_answered : (a : Answer) (d : Acts (InAnswer a)) (shared : Shared) (r : Result (InAnswer a) Fault) → d.arguments ≡ [] → replied a (host_of shared []) d r ≡ answered mem a (shared_after shared d.does) r
+  pub replied_answered : (a : Answer) (d : Acts (InAnswer a)) (shared : Shared) (r : Result (InAnswer a) Fault) → d.arguments ≡ [] → replied a (host_of shared []) d r ≡ answered mem a (shared_after shared d.does) r
   replied_answered a d shared (Ok x) e = ap (λ (l : List AnyValue). (cell a x, host_of (shared_after shared d.does) l)) e
   replied_answered a d shared (Err f) e = ap (λ (l : List AnyValue). (fault_cell a, record { shared = shared_after shared d.does; arguments = l; fault = Some f })) e
 
@@ -473,7 +473,7 @@ module _ (mem : List ℕ) where
       let L1 = upd L (number_local t) (Bits (I64 faulted_word)) in
       (3, omega arith, (L1, bad mem (answer.Of sort.Number) tt d k vs K L1 (gone f σ)))
 
-  answer_converted : (b : Answer) (a : Argument) (x : InAnswer b) (t d : ℕ) (k : Instructions) (vs : List Cell) (K : List Label) (L : Locals) (σ : State) → T (fits (Answered b) a) → L (local_for b t) ≡ kept_cell b x →
+  pub answer_converted : (b : Answer) (a : Argument) (x : InAnswer b) (t d : ℕ) (k : Instructions) (vs : List Cell) (K : List Label) (L : Locals) (σ : State) → T (fits (Answered b) a) → L (local_for b t) ≡ kept_cell b x →
     Arrives mem 5 (at vs K L (convert_one (Answered b) a t d k) (host σ)) (OneDone a t k vs K L) (Away d K) (settled (converted (Answered b) a x) σ)
   answer_converted (answer.Of sort.Value) (argument.Of sort.Value) x t d k vs K L σ f e = stays (argument.Of sort.Value) x t d k vs K L σ (ap (λ (w : Cell). w ∷ []) e)
   answer_converted (answer.Of sort.Number) (argument.Of sort.Number) x t d k vs K L σ f e = stays (argument.Of sort.Number) x t d k vs K L σ (ap (λ (w : Cell). w ∷ []) e)

@@ -1,3 +1,4 @@
 pub mod Pivot
 pub mod Arrive
 pub mod Forward
+pub mod Emission
