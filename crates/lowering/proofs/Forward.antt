@@ -67,7 +67,7 @@ not_equal x y ne = by (nat_eq x y) refl
     by false e = refl
     by true e = absurd (ne (eqb-true x y e))
 
-upd_other : (L : Locals) (x : ℕ) (w : Cell) (y : ℕ) → (y ≡ x → ⊥) → upd L x w y ≡ L y
+pub upd_other : (L : Locals) (x : ℕ) (w : Cell) (y : ℕ) → (y ≡ x → ⊥) → upd L x w y ≡ L y
 upd_other L x w y ne = ap (λ b. cond b w (L y)) (not_equal y x ne)
 
 local_from : (a : Answer) (t : ℕ) → t + t ≤ local_for a t
@@ -428,9 +428,9 @@ pub same_shared : (σ : Shared) → record { inner = σ.inner; outside = σ.outs
 same_shared σ = ap (λ (o : List Action). record { inner = σ.inner; outside = σ.outside; output = o }) (append-nil σ.output)
 
 module _ (mem : List ℕ) where
-  pub replied_answered : (a : Answer) (d : Acts (InAnswer a)) (shared : Shared) (r : Result (InAnswer a) Fault) → d.arguments ≡ [] → replied a (host_of shared []) d r ≡ answered mem a (shared_after shared d.does) r
-  replied_answered a d shared (Ok x) e = ap (λ (l : List AnyValue). (cell a x, host_of (shared_after shared d.does) l)) e
-  replied_answered a d shared (Err f) e = ap (λ (l : List AnyValue). (fault_cell a, record { shared = shared_after shared d.does; arguments = l; fault = Some f })) e
+  pub replied_values : (a : Answer) (d : Acts (InAnswer a)) (shared : Shared) (values : List AnyValue) (r : Result (InAnswer a) Fault) → d.arguments ≡ [] → replied a (host_of shared values) d r ≡ answered mem a (shared_after shared d.does) r
+  replied_values a d shared values (Ok x) e = ap (λ (l : List AnyValue). (cell a x, host_of (shared_after shared d.does) l)) e
+  replied_values a d shared values (Err f) e = ap (λ (l : List AnyValue). (fault_cell a, record { shared = shared_after shared d.does; arguments = l; fault = Some f })) e
 
   -- an answer that may be a fault, or not
   answer_ok : (b : Bool) (a : Answer) → T (keeps a) → (x : OrFault b (InAnswer a)) (t d : ℕ) (k : Instructions) (vs : List Cell) (K : List Label) (L0 L : Locals) (σ : State) → Same t L0 L →
@@ -445,7 +445,7 @@ module _ (mem : List ℕ) where
       let d = meaning p row shared in
       called mem (Of p) ws vs row k K L (host_of shared []) refl (decoded mem (arguments_of p) row ws r) (row_width mem (arguments_of p) row ws r)
       ∙ (ap (λ x. with_answer (Some (replied (answer_of p) (host_of shared []) (record { does = record { added = d.added; inner = d.inner; answer = x }; arguments = [] }) x)) vs K L k) (same_or (can_fault p) d.answer)
-      ∙ ap (λ x. with_answer (Some x) vs K L k) (replied_answered (answer_of p) (record { does = record { added = d.added; inner = d.inner; answer = or_fault (can_fault p) d.answer }; arguments = [] }) shared (or_fault (can_fault p) d.answer) refl))
+      ∙ ap (λ x. with_answer (Some x) vs K L k) (replied_values (answer_of p) (record { does = record { added = d.added; inner = d.inner; answer = or_fault (can_fault p) d.answer }; arguments = [] }) shared [] (or_fault (can_fault p) d.answer) refl))
 
   pub host_ok : (p : Primitive) (row : Row (arguments_of p)) (ws : List Cell) (t d : ℕ) (k : Instructions) (vs : List Cell) (K : List Label) (L0 L : Locals) (σ : State) → T (gives_answer (answer_of p)) → Ready mem (arguments_of p) row ws → Same t L0 L →
     Arrives mem 4 (at (stacked ws vs) K L (ask (Of p) (keep (can_fault p) (answer_of p) t d k)) (host σ)) (AnswerDone (answer_of p) t k vs K L0) (Away d K) (perform (can_fault p) (meaning p row) σ)
