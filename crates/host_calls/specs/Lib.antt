@@ -1,3 +1,4 @@
 pub mod Imports
 pub mod HostState
 pub mod HostStep
+pub mod Links

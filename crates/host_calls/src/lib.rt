@@ -3,5 +3,6 @@
 
 mod import;
 pub mod laws;
+mod links;
 
 pub use import::Import;
