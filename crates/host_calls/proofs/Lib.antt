@@ -1,1 +1,3 @@
 mod ImportLemmas
+mod WordLemmas
+mod OutputLemmas
