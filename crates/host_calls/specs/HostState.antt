@@ -89,10 +89,14 @@ abbrev pub and_then : {A B E : Type 0} → Result A E → (A → Result B E) →
 and_then (Ok x) f = f x
 and_then (Err e) f = Err e
 
+-- no word is left
+abbrev pub no_more : List Word → Result (Unit {0}) TrapKind
+no_more [] = Ok tt
+no_more (w ∷ rest) = Err BadArgument
+
 -- the arguments that words say, from left to right: the first unfit one decides
 abbrev pub decode : Names → List ℕ → (wanted : List Argument) → List Word → Result (Row wanted) TrapKind
-decode names memory [] [] = Ok tt
-decode names memory [] (w ∷ rest) = Err BadArgument
+decode names memory [] words = no_more words
 decode names memory (a ∷ wanted) words = and_then (front names memory a words) (λ x. and_then (decode names memory wanted x.1) (λ row. Ok (x.0, row)))
 
 -- Answers as words.

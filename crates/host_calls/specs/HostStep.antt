@@ -18,7 +18,7 @@ use Rattle.wasm_machine.specs.Hosts.{Typed}
 use Rattle.wasm_store.specs.Memories.{MemoryForm}
 use Rattle.wasm_store.specs.declared.word.Word.{Word}
 use Rattle.world_core.specs.WorldState.{Action, after}
-use Rattle.host_calls.specs.Imports.{host_types, import_answer, import_arguments, import_at, listed_arguments}
+use Rattle.host_calls.specs.Imports.{type_if_there, import_answer, import_arguments, import_at, listed_arguments}
 use Rattle.host_calls.specs.HostState.{FreeFor, HostState, Names, and_then, decode, encode, refusal}
 use Rattle.host_calls.specs.declared.import.Import.{Import}
 use Rattle.host_calls.specs.declared.import.Import.TheVariants.{Of, Over, Arg, Drop}
@@ -122,20 +122,23 @@ PremiseOf (Some (Over l)) tells = tells
 PremiseOf _ tells = Unit {0}
 
 -- a call that wants no memory
-pub record Called (tells : Type 0) (n : ℕ) (before : HostState) (words : List Word) (memory : List ℕ) (a : HostAnswer) (after-call : HostState) (output : List Action) : Type 0 where
-  pub typed : Typed (host_types n) a
-  pub step : PremiseOf (import_at n) tells → (so_far : List Action) → HostStep n (with_output so_far before) words memory a (with_output (so_far ++ output) after-call) output
+pub record Called (tells : Type 0) (import : Option Import) (before : HostState) (words : List Word) (memory : List ℕ) (a : HostAnswer) (after-call : HostState) (output : List Action) : Type 0 where
+  pub typed : Typed (type_if_there import) a
+  pub step : PremiseOf import tells → (so_far : List Action) → StepOf import (with_output so_far before) words memory a (with_output (so_far ++ output) after-call) output
 
 -- memory was wanting in a call: what was written by then is how the output of another answer begins
-pub record Wanted (tells : Type 0) (n : ℕ) (before : HostState) (words : List Word) (memory : List ℕ) (after-call : HostState) (output : List Action) : Type 0 where
+pub record Wanted (tells : Type 0) (import : Option Import) (before : HostState) (words : List Word) (memory : List ℕ) (after-call : HostState) (output : List Action) : Type 0 where
   pub outside : tells → after-call.shared.outside ≡ after output before.shared.outside
   pub answer : HostAnswer
   pub answered : answer ≢ told.NoMemory
   pub state : HostState
   pub rest : List Action
-  pub called : Called tells n before words memory answer state (output ++ rest)
+  pub called : Called tells import before words memory answer state (output ++ rest)
 
--- what the calls of a host mean; no import writes to memory
+abbrev pub Means : (tells : Type 0) → Option Import → HostState → List Word → List ℕ → HostAnswer → HostState → List Action → Type 0
+Means tells import before words memory told.NoMemory after-call output = Wanted tells import before words memory after-call output
+Means tells import before words memory a after-call output = Called tells import before words memory a after-call output
+
+-- what the calls of a host mean, by the import's number; no import writes to memory
 abbrev pub host_meaning : (tells : Type 0) → HostState → ℕ → List Word → MemoryForm → HostAnswer → HostState → MemoryForm → List Action → Type 0
-host_meaning tells before n words mem told.NoMemory after-call mem' output = (mem' ≡ mem) × Wanted tells n before words mem.bytes after-call output
-host_meaning tells before n words mem a after-call mem' output = (mem' ≡ mem) × Called tells n before words mem.bytes a after-call output
+host_meaning tells before n words mem a after-call mem' output = (mem' ≡ mem) × Means tells (import_at n) before words mem.bytes a after-call output

@@ -1,7 +1,10 @@
 -- The imports of the module `awk1`: their names, numbers, arguments and answers.
-use Rattle.std.specs.Prelude.{ℕ, suc, ◌==◌, List, [], ◌∷◌, ◌++◌, codes, Bool, Option, Some, None, cond, slice_get}
+use Rattle.std.specs.List.{position}
+use Rattle.std.specs.Prelude.{ℕ, ◌==◌, List, [], ◌∷◌, ◌++◌, codes, Bool, Option, Some, None, cond, slice_get}
 use Rattle.std.specs.Cmp.Lexicographic.{pointwise}
 use Rattle.wasm_types.specs.Syntax.{Signature}
+use Rattle.wasm_types.specs.View.{signature_of}
+use Rattle.wasm_types.specs.declared.types.FuncType.{FuncType}
 use Rattle.wasm_types.specs.declared.types.ValType.{ValType}
 use Rattle.wasm_types.specs.declared.types.ValType.TheVariants.{I32, I64}
 use Rattle.awk_state.specs.Table.{arguments_of, answer_of, listed_answer}
@@ -87,18 +90,12 @@ module_name = codes "awk1"
 abbrev pub same_name : List ℕ → List ℕ → Bool
 same_name a b = pointwise ◌==◌ a b
 
--- the first import of a name, the numbers counted from n on
-abbrev pub found_from : ℕ → List Import → List ℕ → Option (ℕ × Import)
-found_from n [] name = None
-found_from n (i ∷ rest) name = cond (same_name (import_name i) name) (Some (n, i)) (found_from (suc n) rest name)
+abbrev pub has_name : List ℕ → Import → Bool
+has_name name i = same_name (import_name i) name
 
-abbrev pub with_type : Option (ℕ × Import) → Option (ℕ × Signature)
-with_type None = None
-with_type (Some r) = Some (r.0, import_type r.1)
-
--- the number and the type of an import, by the names of its module and of itself
-abbrev pub host_finds : List ℕ → List ℕ → Option (ℕ × Signature)
-host_finds from name = cond (same_name from module_name) (with_type (found_from 0 imports name)) None
+-- the number of the first import of a name
+abbrev pub number_named : List ℕ → Option ℕ
+number_named name = position (has_name name) imports
 
 abbrev pub type_if_there : Option Import → Option Signature
 type_if_there None = None
@@ -106,3 +103,19 @@ type_if_there (Some i) = Some (import_type i)
 
 abbrev pub host_types : ℕ → Option Signature
 host_types n = type_if_there (import_at n)
+
+abbrev pub signature_if : Option FuncType → Option Signature
+signature_if None = None
+signature_if (Some t) = Some (signature_of t)
+
+abbrev pub numbered : ℕ → Option Signature → Option (ℕ × Signature)
+numbered n None = None
+numbered n (Some t) = Some (n, t)
+
+abbrev pub with_type : Option ℕ → Option (ℕ × Signature)
+with_type None = None
+with_type (Some n) = numbered n (host_types n)
+
+-- the number and the type of an import, by the names of its module and of itself
+abbrev pub host_finds : List ℕ → List ℕ → Option (ℕ × Signature)
+host_finds from name = cond (same_name from module_name) (with_type (number_named name)) None

@@ -1,0 +1,3 @@
+mod ImportLemmas
+mod WordLemmas
+mod OutputLemmas

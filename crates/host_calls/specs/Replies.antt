@@ -1,0 +1,116 @@
+-- What a primitive on values answers, over plain data.
+use Rattle.std.specs.Prelude.{Bool, ℕ, ◌≡◌, ℤ, pos, List, [], ◌∷◌, ◌++◌, Option, Some, None, Result, Ok, Err, if◌then◌else◌}
+use Rattle.std.specs.Borrow.{Bor}
+use Rattle.std.specs.Ordering.{int_cmp}
+use Rattle.std.specs.FinMap.{FinMap}
+use Rattle.awk_values.specs.Comparison.{comparison}
+use Rattle.awk_values.specs.Operators.{Outcome, checked, power}
+use Rattle.awk_values.specs.Values.{number_of_value, text_of_value, truth_of_value}
+use Rattle.awk_values.specs.declared.fault.Fault.{Fault}
+use Rattle.awk_values.specs.declared.value.Value.{Value as AnyValue}
+use Rattle.awk_values.specs.declared.value.Value.TheVariants as value
+use Rattle.awk_state.specs.Constants.{InConstant}
+use Rattle.awk_state.specs.Sorts.{In}
+use Rattle.awk_state.specs.ValueRows.{truncated, within_limit}
+use Rattle.awk_state.specs.declared.sorts.Sort.TheVariants as sort
+use Rattle.awk_state.specs.declared.sorts.Constant.{Constant}
+use Rattle.awk_state.specs.declared.sorts.Constant.TheVariants as constant
+use Rattle.awk_state.specs.declared.table.Primitive.{Primitive}
+use Rattle.awk_state.specs.declared.table.Primitive.TheVariants.{Num, Lit, Uninit, Dup, ToNum, IntOf, Truth, Compare, Concat, Pow, Fail}
+use Rattle.wasm_store.specs.declared.trap.TrapKind.{TrapKind}
+use Rattle.wasm_store.specs.declared.trap.TrapKind.TheVariants.{BadArgument}
+use Rattle.wasm_store.specs.declared.word.Word.{Word}
+use Rattle.host_calls.specs.HostState.{constant_front, number_front, place_front, value_front}
+use Rattle.host_calls.specs.declared.reply.Reply.{Reply}
+use Rattle.host_calls.specs.declared.reply.Reply.TheVariants as reply
+use Rattle.host_calls.specs.declared.reply.Refusal.{Refusal}
+use Rattle.host_calls.specs.declared.reply.Refusal.TheVariants as refusal
+
+-- what a trap says, among other refusals
+abbrev pub trapping : {A : Type 0} → Result A TrapKind → Result A Refusal
+trapping (Ok x) = Ok x
+trapping (Err k) = Err (refusal.Trap k)
+
+abbrev pub faulting : {A : Type 0} → Result A Fault → Result A Refusal
+faulting (Ok x) = Ok x
+faulting (Err f) = Err (refusal.Fault f)
+
+abbrev pub plain_number : Result (In sort.Number × List Word) TrapKind → Result (ℤ × List Word) TrapKind
+plain_number (Ok x) = Ok (x.0.number, x.1)
+plain_number (Err k) = Err k
+
+-- what a borrowed front is
+abbrev pub lent : {A : Type 0} → Result (Bor A × Bor (List Word)) Refusal → Result (A × List Word) Refusal
+lent (Ok x) = Ok (x.0.now, x.1.now)
+lent (Err r) = Err r
+
+abbrev pub owned : {A : Type 0} → Result (A × Bor (List Word)) Refusal → Result (A × List Word) Refusal
+owned (Ok x) = Ok (x.0, x.1.now)
+owned (Err r) = Err r
+
+-- the first argument, and then what it and the words behind it give
+abbrev pub front_then : {A : Type 0} → Result (A × List Word) Refusal → (A → List Word → Result Reply Refusal) → Result Reply Refusal
+front_then (Ok x) f = f x.0 x.1
+front_then (Err r) f = Err r
+
+abbrev pub ends : List Word → Result (Unit {0}) Refusal
+ends [] = Ok tt
+ends (w ∷ rest) = Err (refusal.Trap BadArgument)
+
+-- no word is left, and then what the arguments give
+abbrev pub ends_then : Result (Unit {0}) Refusal → Result Reply Refusal → Result Reply Refusal
+ends_then (Ok u) r = r
+ends_then (Err e) r = Err e
+
+abbrev pub outcome_reply : Outcome → Result Reply Refusal
+outcome_reply (Ok n) = Ok (reply.Number n)
+outcome_reply (Err f) = Err (refusal.Fault f)
+
+-- a number, where it is in range
+abbrev pub number_reply : Outcome → Result Reply Refusal
+number_reply (Ok z) = outcome_reply (checked z)
+number_reply (Err f) = Err (refusal.Fault f)
+
+abbrev pub truth_reply : Result Bool Fault → Result Reply Refusal
+truth_reply (Ok b) = Ok (reply.Truth b)
+truth_reply (Err f) = Err (refusal.Fault f)
+
+abbrev pub value_reply : Result AnyValue Fault → Result Reply Refusal
+value_reply (Ok v) = Ok (reply.Value v)
+value_reply (Err f) = Err (refusal.Fault f)
+
+abbrev pub value_then : FinMap int_cmp AnyValue → List Word → (AnyValue → List Word → Result Reply Refusal) → Result Reply Refusal
+value_then values words f = front_then (trapping (value_front values words)) f
+
+abbrev pub number_then : List Word → (ℤ → List Word → Result Reply Refusal) → Result Reply Refusal
+number_then words f = front_then (trapping (plain_number (number_front words))) f
+
+abbrev pub constant_then : (c : Constant) → List Word → (InConstant c → List Word → Result Reply Refusal) → Result Reply Refusal
+constant_then c words f = front_then (trapping (constant_front c words)) f
+
+-- what a primitive answers to words
+abbrev pub evaluation : Primitive → FinMap int_cmp AnyValue → List ℕ → List Word → Result Reply Refusal
+evaluation Num values memory words = number_then words (λ n rest. ends_then (ends rest) (Ok (reply.Value (value.Num n))))
+evaluation Lit values memory words = front_then (trapping (place_front memory words)) (λ text rest. ends_then (ends rest) (Ok (reply.Value (value.Text text))))
+evaluation Uninit values memory words = ends_then (ends words) (Ok (reply.Value value.Uninit))
+evaluation Dup values memory words = value_then values words (λ v rest. ends_then (ends rest) (Ok (reply.Value v)))
+evaluation ToNum values memory words = value_then values words (λ v rest. ends_then (ends rest) (number_reply (number_of_value v)))
+evaluation IntOf values memory words = value_then values words (λ v rest. ends_then (ends rest) (number_reply (truncated v)))
+evaluation Truth values memory words = value_then values words (λ v rest. ends_then (ends rest) (Ok (reply.Truth (truth_of_value v))))
+evaluation Compare values memory words =
+    constant_then constant.Comparison words (λ op behind_op. value_then values behind_op (λ left behind_left. value_then values behind_left (λ right rest. ends_then (ends rest) (truth_reply (comparison left right op)))))
+evaluation Concat values memory words =
+    value_then values words (λ left behind_left. value_then values behind_left (λ right rest. ends_then (ends rest) (value_reply (within_limit (text_of_value left ++ text_of_value right)))))
+evaluation Pow values memory words =
+    number_then words (λ base behind_base. number_then behind_base (λ exponent rest. ends_then (ends rest) (number_reply (power base exponent))))
+evaluation Fail values memory words = constant_then constant.Fault words (λ fault rest. ends_then (ends rest) (Err (refusal.Fault fault)))
+
+-- it answers, or faults
+abbrev pub NoTrap : Result Reply Refusal → Type 0
+NoTrap (Err (refusal.Trap k)) = ⊥
+NoTrap _ = Unit {0}
+
+-- what was answered is what is to be answered; where memory was wanting, that is no trap
+abbrev pub Evaluated : Result Reply Refusal → Result Reply Refusal → Type 0
+Evaluated (Err refusal.NoMemory) wanted = NoTrap wanted
+Evaluated r wanted = r ≡ wanted

@@ -1,0 +1,207 @@
+//! What the words of a call say: each function takes one argument from their front, and gives the words behind it.
+ghost use Rattle.std.specs.Prelude.{◌≡◌, ◌<◌, ◌≤◌, ◌^◌, IfOk, IsOk, IfSome, option_copied, slice_get, unsigned_abs};
+ghost use Rattle.awk_state.specs.Constants.{comparison_at, destination_at, fault_at, faults};
+ghost use Rattle.awk_state.specs.declared.sorts.Constant.{Constant};
+ghost use Rattle.awk_text.specs.NumberText.{InRange};
+ghost use Rattle.host_calls.specs.HostState.{constant_front, number_front, place_front, text_at, value_front};
+ghost use Rattle.host_calls.specs.Replies.{ends, lent, owned, plain_number, trapping};
+
+use crate::reply::Refusal;
+use awk_state::Destination;
+use awk_values::{CompareOp, Fault, Value};
+use host_handles::Handles;
+use wasm_store::{TrapKind, Word};
+
+/// The operators of comparison in the order of their numbers.
+const COMPARISONS: [CompareOp; 6] = [
+    CompareOp::Less,
+    CompareOp::LessOrEqual,
+    CompareOp::Equal,
+    CompareOp::NotEqual,
+    CompareOp::Greater,
+    CompareOp::GreaterOrEqual,
+];
+
+/// The faults in the order of their numbers, which count from 1.
+const FAULTS: [Fault; 16] = [
+    Fault::Range,
+    Fault::Fraction,
+    Fault::DivisionByZero,
+    Fault::Inexact,
+    Fault::FieldNumber,
+    Fault::Format,
+    Fault::BadEre,
+    Fault::EreTooLarge,
+    Fault::TextLimit,
+    Fault::OpenInput,
+    Fault::ReadFailed,
+    Fault::OpenOutput,
+    Fault::WriteFailed,
+    Fault::TooManyStreams,
+    Fault::NextOutside,
+    Fault::BadAssignment,
+];
+
+/// The targets of output in the order of their numbers.
+const DESTINATIONS: [Destination; 3] = [
+    Destination::Standard,
+    Destination::Emptied,
+    Destination::Appended,
+];
+
+/// The greatest magnitude of a number.
+const LIMIT: u64 = 1 << 53;
+
+const UNFIT: Refusal = Refusal::Trap(TrapKind::BadArgument);
+
+fn comparison_at(number: u32) -> Option<CompareOp>
+    ensures { result ≡ comparison_at number }
+{
+    COMPARISONS.get(number as usize).copied()
+}
+
+/// The fault of a number that counts from 0.
+fn fault_from_zero(number: usize) -> Option<Fault>
+    ensures { result ≡ slice_get faults number }
+{
+    FAULTS.get(number).copied()
+}
+
+#[tactic(auto, using(crate::proofs::WordLemmas::fault_from_one))]
+fn fault_at(number: u32) -> Option<Fault>
+    ensures { result ≡ fault_at number }
+{
+    if number == 0 {
+        return None;
+    }
+    fault_from_zero(number as usize - 1)
+}
+
+fn destination_at(number: u32) -> Option<Destination>
+    ensures { result ≡ destination_at number }
+{
+    DESTINATIONS.get(number as usize).copied()
+}
+
+/// That no word is left.
+pub(crate) fn ends(words: &[Word]) -> Result<(), Refusal>
+    ensures { result ≡ ends words.now }
+{
+    if words.is_empty() {
+        Ok(())
+    } else {
+        Err(UNFIT)
+    }
+}
+
+/// The value under a handle.
+pub(crate) fn value_front<'a>(
+    handles: &'a Handles,
+    words: &'a [Word],
+) -> Result<(&'a Value, &'a [Word]), Refusal>
+    ensures { lent result ≡ trapping (value_front handles.now words.now) }
+{
+    let Some((Word::I32(handle), rest)) = words.split_first() else {
+        return Err(UNFIT);
+    };
+    match handles.view(handle.cast_signed()) {
+        Some(value) => Ok((value, rest)),
+        None => Err(Refusal::Trap(TrapKind::BadHandle)),
+    }
+}
+
+/// A number in range.
+pub(crate) fn number_front(words: &[Word]) -> Result<(i64, &[Word]), Refusal>
+    ensures value { owned result ≡ trapping (plain_number (number_front words.now)) }
+    ensures in_range { IfOk result (λ r. InRange r.0) }
+{
+    let Some((Word::I64(bits), rest)) = words.split_first() else {
+        return Err(UNFIT);
+    };
+    let number = bits.cast_signed();
+    if number.unsigned_abs() <= LIMIT {
+        Ok((number, rest))
+    } else {
+        Err(UNFIT)
+    }
+}
+
+/// An operator of comparison.
+pub(crate) fn comparison_front(words: &[Word]) -> Result<(CompareOp, &[Word]), Refusal>
+    ensures { owned result ≡ trapping (constant_front Constant.Comparison words.now) }
+{
+    let Some((Word::I32(number), rest)) = words.split_first() else {
+        return Err(UNFIT);
+    };
+    match comparison_at(*number) {
+        Some(op) => Ok((op, rest)),
+        None => Err(UNFIT),
+    }
+}
+
+/// A fault.
+pub(crate) fn fault_front(words: &[Word]) -> Result<(Fault, &[Word]), Refusal>
+    ensures { owned result ≡ trapping (constant_front Constant.Fault words.now) }
+{
+    let Some((Word::I32(number), rest)) = words.split_first() else {
+        return Err(UNFIT);
+    };
+    match fault_at(*number) {
+        Some(fault) => Ok((fault, rest)),
+        None => Err(UNFIT),
+    }
+}
+
+/// A target of output.
+pub(crate) fn destination_front(words: &[Word]) -> Result<(Destination, &[Word]), Refusal>
+    ensures { owned result ≡ trapping (constant_front Constant.Destination words.now) }
+{
+    let Some((Word::I32(number), rest)) = words.split_first() else {
+        return Err(UNFIT);
+    };
+    match destination_at(*number) {
+        Some(destination) => Ok((destination, rest)),
+        None => Err(UNFIT),
+    }
+}
+
+/// A count of values.
+pub(crate) fn count_front(words: &[Word]) -> Result<(u32, &[Word]), Refusal>
+    ensures { owned result ≡ trapping (constant_front Constant.Count words.now) }
+{
+    let Some((Word::I32(number), rest)) = words.split_first() else {
+        return Err(UNFIT);
+    };
+    Ok((*number, rest))
+}
+
+/// The bytes of a place in memory.
+fn text_at(memory: &[u8], place: u32, size: u32) -> Option<&[u8]>
+    ensures { option_copied result ≡ text_at memory.now place size }
+{
+    let from = place as usize;
+    let end = from + size as usize;
+    if end > memory.len() {
+        return None;
+    }
+    Some(&memory[from..end])
+}
+
+/// A text in memory, by its place and its length.
+pub(crate) fn place_front<'a>(
+    memory: &'a [u8],
+    words: &'a [Word],
+) -> Result<(&'a [u8], &'a [Word]), Refusal>
+    ensures { lent result ≡ trapping (place_front memory.now words.now) }
+{
+    let Some((Word::I32(place), rest)) = words.split_first() else {
+        return Err(UNFIT);
+    };
+    let Some((Word::I32(size), rest)) = rest.split_first() else {
+        return Err(UNFIT);
+    };
+    match text_at(memory, *place, *size) {
+        Some(text) => Ok((text, rest)),
+        None => Err(Refusal::Trap(TrapKind::BadPointer)),
+    }
+}
