@@ -6,3 +6,4 @@ pub mod Sound
 pub mod Longest
 pub mod Meaning
 pub mod LongExponent
+pub mod Octals

@@ -1,7 +1,8 @@
--- Numbers of texts, computed from the definition.
-use Rattle.std.specs.Prelude.{◌≡◌, ◌^◌, true, false, Ok, Err, pos, neg_ℤ, codes, refl}
+-- Numbers of texts, and texts of strings, computed from the definitions.
+use Rattle.std.specs.Prelude.{◌≡◌, ◌^◌, true, false, Ok, Err, pos, neg_ℤ, codes, [], ◌∷◌, refl}
 use Rattle.awk_text.specs.Reading.{numeral_at, sign_at, fraction_at, exponent_at}
 use Rattle.awk_text.specs.Number.{numerator, denominator, number_of_text, truncated_of_text, looks_numeric_text}
+use Rattle.awk_text.specs.Escapes.{escaped, octal, string_text, unescaped}
 use Rattle.awk_text.specs.declared.number.NumberFault.TheVariants.{Range, Fraction}
 
 pub signed_with_exponent : number_of_text (codes " +1.50e1 x") ≡ Ok (pos 15)
@@ -83,3 +84,61 @@ range_of_truncated = refl
 pub truncated_into_range : truncated_of_text (codes "9007199254740992.5") ≡ Ok (pos (2 ^ 53))
 unfolding numeral_at sign_at fraction_at exponent_at numerator denominator
 truncated_into_range = refl
+
+-- Texts of strings.
+
+pub each_letter : unescaped (92 ∷ 34 ∷ 92 ∷ 47 ∷ 92 ∷ 92 ∷ 92 ∷ 97 ∷ 92 ∷ 98 ∷ 92 ∷ 102 ∷ 92 ∷ 110 ∷ 92 ∷ 114 ∷ 92 ∷ 116 ∷ 92 ∷ 118 ∷ []) ≡ 34 ∷ 47 ∷ 92 ∷ 7 ∷ 8 ∷ 12 ∷ 10 ∷ 13 ∷ 9 ∷ 11 ∷ []
+unfolding unescaped escaped octal
+each_letter = refl
+
+pub one_octal_digit : unescaped (92 ∷ 55 ∷ 120 ∷ []) ≡ 7 ∷ 120 ∷ []
+unfolding unescaped escaped octal
+one_octal_digit = refl
+
+pub two_octal_digits : unescaped (92 ∷ 49 ∷ 50 ∷ 120 ∷ []) ≡ 10 ∷ 120 ∷ []
+unfolding unescaped escaped octal
+two_octal_digits = refl
+
+pub three_octal_digits : unescaped (92 ∷ 49 ∷ 48 ∷ 49 ∷ []) ≡ 65 ∷ []
+unfolding unescaped escaped octal
+three_octal_digits = refl
+
+pub no_fourth_octal_digit : unescaped (92 ∷ 49 ∷ 48 ∷ 49 ∷ 49 ∷ []) ≡ 65 ∷ 49 ∷ []
+unfolding unescaped escaped octal
+no_fourth_octal_digit = refl
+
+pub octal_modulo_256 : unescaped (92 ∷ 52 ∷ 48 ∷ 48 ∷ 92 ∷ 55 ∷ 55 ∷ 55 ∷ []) ≡ 0 ∷ 255 ∷ []
+unfolding unescaped escaped octal
+octal_modulo_256 = refl
+
+pub eight_is_no_octal_digit : unescaped (92 ∷ 49 ∷ 56 ∷ []) ≡ 1 ∷ 56 ∷ []
+unfolding unescaped escaped octal
+eight_is_no_octal_digit = refl
+
+pub escape_behind_octal : unescaped (92 ∷ 49 ∷ 92 ∷ 110 ∷ []) ≡ 1 ∷ 10 ∷ []
+unfolding unescaped escaped octal
+escape_behind_octal = refl
+
+pub newline_dropped : unescaped (97 ∷ 92 ∷ 10 ∷ 98 ∷ []) ≡ 97 ∷ 98 ∷ []
+unfolding unescaped escaped octal
+newline_dropped = refl
+
+pub other_byte_keeps_backslash : unescaped (92 ∷ 113 ∷ 92 ∷ 46 ∷ []) ≡ 92 ∷ 113 ∷ 92 ∷ 46 ∷ []
+unfolding unescaped escaped octal
+other_byte_keeps_backslash = refl
+
+pub last_backslash_kept : unescaped (97 ∷ 92 ∷ []) ≡ 97 ∷ 92 ∷ []
+unfolding unescaped escaped octal
+last_backslash_kept = refl
+
+pub quoted_backslash : string_text (34 ∷ 92 ∷ 92 ∷ 34 ∷ []) ≡ 92 ∷ []
+unfolding unescaped escaped octal
+quoted_backslash = refl
+
+pub empty_string : string_text (34 ∷ 34 ∷ []) ≡ []
+unfolding unescaped escaped octal
+empty_string = refl
+
+pub quoted_text : string_text (34 ∷ 98 ∷ 92 ∷ 110 ∷ 34 ∷ []) ≡ 98 ∷ 10 ∷ []
+unfolding unescaped escaped octal
+quoted_text = refl

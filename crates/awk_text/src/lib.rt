@@ -1,9 +1,10 @@
-//! Numbers as texts: what number a text stands for, and the text of a number.
+//! Numbers and strings as texts: what number a text stands for, the text of a number, and the text that a string with escapes stands for.
 //!
-//! A number of this awk is whole and lies from -2^53 to 2^53, both included. A text is any bytes. Nothing here takes memory, and no text
-//! is too long.
+//! A number of this awk is whole and lies from -2^53 to 2^53, both included. A text is any bytes, and none is too long. Only
+//! [`unescape`] and [`string_text`] take memory.
 #![tactic(auto)]
 
+mod escapes;
 pub mod laws;
 mod number;
 mod reading;
@@ -11,5 +12,6 @@ mod reading;
 mod tests;
 mod text;
 
+pub use escapes::{string_text, unescape};
 pub use number::{NumberFault, is_nonzero, looks_numeric, number_of, truncated_of};
 pub use text::{NumText, text_of};

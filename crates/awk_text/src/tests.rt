@@ -89,3 +89,29 @@ fn texts_of_numbers(rt: HostRuntime) -> Result<(), Fail> {
     );
     Ok(())
 }
+
+#[test]
+fn texts_of_strings(rt: HostRuntime) -> Result<(), Fail> {
+    let rows: [(&[u8], &[u8]); 8] = [
+        (b"", b""),
+        (
+            b"\\\"\\/\\\\\\a\\b\\f\\n\\r\\t\\v",
+            b"\"/\\\x07\x08\x0c\n\r\t\x0b",
+        ),
+        (b"\\7x\\12\\101", b"\x07x\nA"),
+        (b"\\1018\\400", b"A8\0"),
+        (b"a\\\nb", b"ab"),
+        (b"\\q\\.", b"\\q\\."),
+        (b"a\\", b"a\\"),
+        (b"\\1\\n\\89", b"\x01\n\\89"),
+    ];
+    for (text, wanted) in rows {
+        assert!(rt;
+            unescape(rt.alloc(), text)?.as_slice() == wanted,
+            "the text of {text:?}"
+        );
+    }
+    assert!(rt; string_text(rt.alloc(), b"\"b\\n\"")?.as_slice() == b"b\n".as_slice());
+    assert!(rt; string_text(rt.alloc(), b"\"\"")?.is_empty());
+    Ok(())
+}

@@ -3,6 +3,8 @@ pub mod Meaning
 pub mod ScriptRun
 pub mod Mid
 pub mod MidMeaning
+pub mod ViewCode
+pub mod Unique
 pub mod View
 pub mod Covered
 pub mod Translation

@@ -1,4 +1,4 @@
--- The mid code of a script, and what is promised of it. The code itself need not be believed: its meaning is the script's.
+-- The mid code of a script. It need not be believed: `to_mid` says that its meaning is the script's.
 use Rattle.std.specs.Prelude.{ℕ, ◌+◌, List, [], ◌∷◌, ◌++◌, length, Result, Ok, Err, pos}
 use Rattle.awk_text.specs.Escapes.{string_text}
 use Rattle.awk_values.specs.declared.fault.Fault.{Fault}
@@ -15,59 +15,63 @@ use Rattle.mid_code.specs.declared.mid.Operation.TheVariants.{Host, Inline}
 use Rattle.mid_code.specs.Meaning.{constant}
 use Rattle.mid_code.specs.Mid.{Code, Do, Over, Number, Text, Codes, End, At, Step, Eval, Program}
 
--- the texts of a script, in order
-unfoldable pub texts_in : Tree → List (List ℕ)
-texts_in (Leaf (Quoted text)) = string_text text ∷ []
-texts_in (Group t) = texts_in t
-texts_in (Bin op a b) = texts_in a ++ texts_in b
-texts_in _ = []
-
-abbrev pub texts_in_all : Trees → List (List ℕ)
-texts_in_all NoTree = []
-texts_in_all (Then t ts) = texts_in t ++ texts_in_all ts
-
-abbrev pub texts_in_stmt : Stmt → List (List ℕ)
-texts_in_stmt (Simple (Put Print (Listed ts) NoTarget)) = texts_in_all ts
-texts_in_stmt _ = []
-
-abbrev pub texts_in_stmts : Stmts → List (List ℕ)
-texts_in_stmts NoStmt = []
-texts_in_stmts (And s ss) = texts_in_stmt s ++ texts_in_stmts ss
-
-abbrev pub number_or_zero : Result AnyNumber Fault → Code
-number_or_zero (Ok n) = Number n.number
-number_or_zero (Err fault) = Number (pos 0)
+abbrev pub number_code : Result AnyNumber Fault → Code
+number_code (Ok n) = Number n.number
+number_code (Err fault) = Number (pos 0)
 
 abbrev pub inline : Arithmetic → Code → Code → Code
 inline a left right = Do (Inline a) (At left (At right End))
 
--- the code of an operand, where i texts stand before it
-unfoldable pub operand : ℕ → Tree → Code
-operand i (Leaf (NumberText text)) = number_or_zero (constant text)
-operand i (Leaf (Quoted text)) = Do (Host Lit) (At (Text i) End)
-operand i (Group t) = operand i t
-operand i (Bin (Add PlusSign) a b) = inline Plus (operand i a) (operand (i + length (texts_in a)) b)
-operand i (Bin (Add MinusSign) a b) = inline Minus (operand i a) (operand (i + length (texts_in a)) b)
-operand i (Bin (Other (Mul TimesSign)) a b) = inline Times (operand i a) (operand (i + length (texts_in a)) b)
-operand i _ = Number (pos 0)
+-- the code of a sum, which gives a number
+unfoldable pub sum_code : Tree → Code
+sum_code (Leaf (NumberText text)) = number_code (constant text)
+sum_code (Group t) = sum_code t
+sum_code (Bin (Add PlusSign) a b) = inline Plus (sum_code a) (sum_code b)
+sum_code (Bin (Add MinusSign) a b) = inline Minus (sum_code a) (sum_code b)
+sum_code (Bin (Other (Mul TimesSign)) a b) = inline Times (sum_code a) (sum_code b)
+sum_code _ = Number (pos 0)
+
+abbrev pub literal : ℕ → Code
+literal i = Do (Host Lit) (At (Text i) End)
 
 -- a value is made of a number
-abbrev pub as_value : Code → Code
-as_value (Do (Host p) es) = Do (Host p) es
-as_value e = Do (Host Num) (At e End)
+abbrev pub boxed : Code → Code
+boxed e = Do (Host Num) (At e End)
 
-abbrev pub value_codes : ℕ → Trees → Codes
-value_codes i NoTree = End
-value_codes i (Then t ts) = At (as_value (operand i t)) (value_codes (i + length (texts_in t)) ts)
+-- the texts of an operand of print
+unfoldable pub item_texts : Tree → List (List ℕ)
+item_texts (Leaf (Quoted text)) = string_text text ∷ []
+item_texts _ = []
 
-abbrev pub print_step : ℕ → Stmt → Step
-print_step i (Simple (Put Print (Listed ts) NoTarget)) = Eval (Over PrintList (value_codes i ts))
-print_step i _ = Eval (Number (pos 0))
+-- its code, which gives a value; i texts stand before its own
+unfoldable pub item_code : ℕ → Tree → Code
+item_code i (Leaf (Quoted text)) = literal i
+item_code i t = boxed (sum_code t)
 
-abbrev pub print_steps : ℕ → Stmts → List Step
-print_steps i NoStmt = []
-print_steps i (And s ss) = print_step i s ∷ print_steps (i + length (texts_in_stmt s)) ss
+abbrev pub texts_of : Trees → List (List ℕ)
+texts_of NoTree = []
+texts_of (Then t ts) = item_texts t ++ texts_of ts
+
+abbrev pub codes_of : ℕ → Trees → Codes
+codes_of i NoTree = End
+codes_of i (Then t ts) = At (item_code i t) (codes_of (i + length (item_texts t)) ts)
+
+unfoldable pub stmt_texts : Stmt → List (List ℕ)
+stmt_texts (Simple (Put Print (Listed ts) NoTarget)) = texts_of ts
+stmt_texts _ = []
+
+unfoldable pub stmt_step : ℕ → Stmt → Step
+stmt_step i (Simple (Put Print (Listed ts) NoTarget)) = Eval (Over PrintList (codes_of i ts))
+stmt_step i _ = Eval (Number (pos 0))
+
+abbrev pub stmts_texts : Stmts → List (List ℕ)
+stmts_texts NoStmt = []
+stmts_texts (And s ss) = stmt_texts s ++ stmts_texts ss
+
+abbrev pub steps_of : ℕ → Stmts → List Step
+steps_of i NoStmt = []
+steps_of i (And s ss) = stmt_step i s ∷ steps_of (i + length (stmt_texts s)) ss
 
 abbrev pub program_of : List Item → Program
-program_of (Begin ss ∷ []) = record { texts = texts_in_stmts ss; main = print_steps 0 ss }
+program_of (Begin ss ∷ []) = record { texts = stmts_texts ss; main = steps_of 0 ss }
 program_of _ = record { texts = []; main = [] }

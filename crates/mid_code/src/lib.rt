@@ -1,6 +1,9 @@
 //! Mid code: a script as structured code over the table of primitives, with the meaning of the script.
 #![tactic(auto)]
 
+mod fault;
 mod mid;
+mod translate;
 
+pub use fault::MidFault;
 pub use mid::{Arithmetic, Expr, Mid, Operation, Stmt};

@@ -1,4 +1,9 @@
 //! The code.
+ghost use Rattle.std.specs.Prelude.{◌≡◌};
+ghost use Rattle.mid_code.specs.Mid.{IsSorted};
+ghost use Rattle.mid_code.specs.Unique.{IsSorted-prop};
+ghost use Rattle.mid_code.specs.ViewCode.{view_program};
+
 use awk_state::{Listed, Primitive};
 
 /// An operator that the module carries out itself, with a check of the range.
@@ -37,9 +42,26 @@ pub enum Stmt {
     Eval(Expr),
 }
 
-/// A script's code, and its texts.
+/// A script's code, and its texts. Each operand has the sort that its operation wants, and each text that the code names is there.
 #[derive(Debug, Drop)]
 pub struct Mid {
     pub(crate) texts: Vec<Vec<u8>>,
     pub(crate) main: Vec<Stmt>,
+    pub ghost sorted: { IsSorted (view_program texts.items main.items) } by { IsSorted-prop (view_program texts.items main.items) },
+}
+
+impl Mid {
+    /// The texts of the script's constants, which the code names by their places.
+    pub fn texts(&self) -> &[Vec<u8>]
+        ensures { result.now ≡ self.now.texts.items }
+    {
+        &self.texts
+    }
+
+    /// The statements of the actions of BEGIN, in order.
+    pub fn main(&self) -> &[Stmt]
+        ensures { result.now ≡ self.now.main.items }
+    {
+        &self.main
+    }
 }

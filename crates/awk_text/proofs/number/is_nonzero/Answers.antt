@@ -1,4 +1,4 @@
-use Rattle.std.proofs.Common.{◌≡◌, ap₂}
+use Rattle.std.proofs.Common.{ap₂}
 use Rattle.std.specs.Prelude.{◌&&◌, Bool}
 use Rattle.awk_text.proofs.Magnitude.{nonzero_read}
 use Rattle.awk_text.proofs.ReadingFacts.{some_digits}
