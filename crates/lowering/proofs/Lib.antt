@@ -2,3 +2,4 @@ pub mod Pivot
 pub mod Arrive
 pub mod Forward
 pub mod Emission
+pub mod Refine
