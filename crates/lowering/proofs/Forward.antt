@@ -60,7 +60,7 @@ both_right false b h = absurd h
 upd_same : (L : Locals) (x : ℕ) (w : Cell) → upd L x w x ≡ w
 upd_same L x w = ap (λ b. cond b w (L x)) (eq-eqb x x refl)
 
-not_equal : (x y : ℕ) → (x ≡ y → ⊥) → nat_eq x y ≡ false
+pub not_equal : (x y : ℕ) → (x ≡ y → ⊥) → nat_eq x y ≡ false
 not_equal x y ne = by (nat_eq x y) refl
   where
     by : (b : Bool) → nat_eq x y ≡ b → b ≡ false

@@ -2,7 +2,8 @@
 use Rattle.std.proofs.Common.{◌≡◌, ◌≢◌, ℕ, zero, suc, ◌+◌, ◌-◌, ◌^◌, ◌<◌, ◌≤◌, Bool, true, false, cond, nat_eq, nat_lt, nat_le, List, [], ◌∷◌, ◌++◌, length, map, take, drop, reverse, Option, Some, None, Result, Ok, Err, ℤ, pos, w32, slice_get, slice_set, refl, sym, ap, ap₂, ◌∙◌, subst, arith, append-nil, append_assoc, true≢false, if◌then◌else◌}
 use Rattle.std.proofs.lemmas.Grind.{reverse_onto}
 use Rattle.std.proofs.Math.Dec.{eqb-zero-suc, eqb-suc-suc}
-use Rattle.std.proofs.lemmas.Bool.{eq-eqb, eqb-true, lt-ltb}
+use Rattle.std.proofs.lemmas.Bool.{eq-eqb, eqb-true, leb-true, lt-ltb}
+use Rattle.lowering.proofs.Forward.{not_equal}
 use Rattle.std.specs.Int.{cast_signed}
 use Rattle.std.specs.Ordering.{int_cmp, int_eq}
 use Rattle.std.specs.FinMap as map
@@ -13,10 +14,14 @@ use Rattle.awk_values.specs.declared.value.Value.{Value as AnyValue}
 use Rattle.world_core.specs.WorldState.{Action}
 use Rattle.wasm_types.specs.Syntax.{Instruction, Plain, BrTable, Block, Loop, If, Instructions, Done, Then}
 use Rattle.wasm_types.specs.declared.types.ValType.{ValType}
+use Rattle.wasm_types.specs.declared.instr.Simple.TheVariants as simple
+use Rattle.wasm_types.specs.declared.instr.IRelOp.{IRelOp}
+use Rattle.wasm_types.specs.declared.instr.IRelOp.TheVariants.{Eq, Ne, LtS, LtU, GtS, GtU, LeS, LeU, GeS, GeU}
+use Rattle.wasm_store.specs.Words.{compare_of, flag}
 use Rattle.wasm_types.specs.declared.types.ValType.TheVariants as ty
 use Rattle.wasm_store.specs.declared.word.Word.{Word}
 use Rattle.wasm_store.specs.declared.word.Word.TheVariants.{I32, I64}
-use Rattle.wasm_machine.specs.Frames.{LabelForm, FrameForm, Local, constant_of, settled, settled_values, settled_code, branch_to, branch_at}
+use Rattle.wasm_machine.specs.Frames.{LabelForm, FrameForm, Local, constant_of, settled, settled_values, settled_code, branch_to, branch_at, pushed, with_values}
 use Rattle.wasm_machine.specs.Frames as form
 use Rattle.wasm_machine.specs.Stacks.{taken}
 use Rattle.wasm_machine.specs.Hosts.{Meaning}
@@ -485,3 +490,140 @@ module _ (mem : List ℕ) (m : ProgramForm) (tells : Type 0) (t : tells)
     jump_as n (l ∷ K) [] L f a locals = absurd a
     jump_as zero (l ∷ K) (r ∷ rs) L f a locals = subst (λ b. Next (br zero (l ∷ K) L h) (if b then form.Leaves f else branch_at f (r ∷ rs))) (sym (eqb-zero-suc (length rs))) (branch_as l r K rs L f a.0 a.1 locals)
     jump_as (suc n) (l ∷ K) (r ∷ rs) L f a locals = subst (λ b. Next (br n K L h) (if b then form.Leaves f else branch_at f (drop n rs))) (sym (eqb-suc-suc n (length rs))) (jump_as n K rs L f a.1 locals)
+
+    stuck : (l : Local) → Next Stuck l
+    stuck l c1 s1 o e = tt
+
+    -- pushing, storing, choosing
+    got_as : (o : Option Word) (v : Cell) (vs : List Cell) (K : List Label) (L : Locals) (k : Instructions) (f : FrameForm) → ((w : Word) → o ≡ Some w → WordAs N v w) → StackAs N vs f.values → f.code ≡ k → LabelsAs N K f.labels → LocalsAs N L f.locals →
+      Next (at (v ∷ vs) K L k h) (pushed f f.values o)
+    got_as None v vs K L k f w a e b locals = λ c1 s1 o r. absurd r
+    got_as (Some x) v vs K L k f w a e b locals = on k (v ∷ vs) K L (with_values f (x ∷ f.values)) (w x refl, a) e b locals
+
+    set_local_as : (x : ℕ) (vs : List Cell) (ws : List Word) (K : List Label) (L : Locals) (k : Instructions) (f : FrameForm) → StackAs N vs ws → f.code ≡ k → LabelsAs N K f.labels → LocalsAs N L f.locals →
+      Next (Pivot.set_local x vs K L k h) (form.local_set f x ws)
+    set_local_as x [] [] K L k f a e b locals = stuck (form.local_set f x [])
+    set_local_as x [] (w ∷ ws) K L k f a e b locals = absurd a
+    set_local_as x (v ∷ vs) [] K L k f a e b locals = absurd a
+    set_local_as x (v ∷ vs) (w ∷ ws) K L k f a e b locals = by (nat_lt x (length f.locals))
+      where
+        by : (q : Bool) → Next (at vs K (upd L x v) k h) (if q then form.Goes (record f { values = ws; locals = slice_set f.locals x w }) else form.Stuck)
+        by true = on k vs K (upd L x v) (record f { values = ws; locals = slice_set f.locals x w }) a.1 e b (set_as N L f.locals x v w locals a.0)
+        by false = λ c1 s1 o r. absurd r
+
+    tee_local_as : (x : ℕ) (vs : List Cell) (K : List Label) (L : Locals) (k : Instructions) (f : FrameForm) (ws : List Word) → f.values ≡ ws → StackAs N vs ws → f.code ≡ k → LabelsAs N K f.labels → LocalsAs N L f.locals →
+      Next (Pivot.tee_local x vs K L k h) (form.local_tee f x ws)
+    tee_local_as x [] K L k f [] q a e b locals = stuck (form.local_tee f x [])
+    tee_local_as x [] K L k f (w ∷ ws) q a e b locals = absurd a
+    tee_local_as x (v ∷ vs) K L k f [] q a e b locals = absurd a
+    tee_local_as x (v ∷ vs) K L k f (w ∷ ws) q a e b locals = by (nat_lt x (length f.locals))
+      where
+        by : (g : Bool) → Next (at (v ∷ vs) K (upd L x v) k h) (if g then form.Goes (record f { locals = slice_set f.locals x w }) else form.Stuck)
+        by true = on k (v ∷ vs) K (upd L x v) (record f { locals = slice_set f.locals x w }) (subst (StackAs N (v ∷ vs)) (sym q) a) e b (set_as N L f.locals x v w locals a.0)
+        by false = λ c1 s1 o r. absurd r
+
+    br_if_as : (n : ℕ) (vs : List Cell) (ws : List Word) (K : List Label) (L : Locals) (k : Instructions) (f : FrameForm) → StackAs N vs ws → f.code ≡ k → LabelsAs N K f.labels → LocalsAs N L f.locals →
+      Next (Pivot.br_if n vs K L k h) (form.branch_if f n ws)
+    br_if_as n [] ws K L k f a e b locals = stuck (form.branch_if f n ws)
+    br_if_as n (Held x ∷ vs) ws K L k f a e b locals = stuck (form.branch_if f n ws)
+    br_if_as n (ArrayOf x ∷ vs) ws K L k f a e b locals = stuck (form.branch_if f n ws)
+    br_if_as n (IteratorOf x ∷ vs) ws K L k f a e b locals = stuck (form.branch_if f n ws)
+    br_if_as n (Bits (I64 x) ∷ vs) ws K L k f a e b locals = stuck (form.branch_if f n ws)
+    br_if_as n (Bits (I32 x) ∷ vs) [] K L k f a e b locals = absurd a
+    br_if_as n (Bits (I32 x) ∷ vs) (w ∷ ws) K L k f a e b locals =
+        subst (λ u. Next (cond (nat_eq x 0) (at vs K L k h) (br n K L h)) (form.branch_if f n (u ∷ ws))) (sym a.0) (by (nat_eq x 0))
+      where
+        by : (q : Bool) → Next (cond q (at vs K L k h) (br n K L h)) (if q then form.Goes (with_values f ws) else form.jump (with_values f ws) n)
+        by true = on k vs K L (with_values f ws) a.1 e b locals
+        by false = jump_as n K f.labels L (with_values f ws) b locals
+
+    choose_as : (p q : Instructions) (vs : List Cell) (ws : List Word) (K : List Label) (L : Locals) (k : Instructions) (f : FrameForm) → StackAs N vs ws → f.code ≡ k → LabelsAs N K f.labels → LocalsAs N L f.locals →
+      Next (Pivot.choose p q vs K L k h) (form.chosen f None p q ws)
+    choose_as p q [] ws K L k f a e b locals = stuck (form.chosen f None p q ws)
+    choose_as p q (Held x ∷ vs) ws K L k f a e b locals = stuck (form.chosen f None p q ws)
+    choose_as p q (ArrayOf x ∷ vs) ws K L k f a e b locals = stuck (form.chosen f None p q ws)
+    choose_as p q (IteratorOf x ∷ vs) ws K L k f a e b locals = stuck (form.chosen f None p q ws)
+    choose_as p q (Bits (I64 x) ∷ vs) ws K L k f a e b locals = stuck (form.chosen f None p q ws)
+    choose_as p q (Bits (I32 x) ∷ vs) [] K L k f a e b locals = absurd a
+    choose_as p q (Bits (I32 x) ∷ vs) (w ∷ ws) K L k f a e b locals =
+        subst (λ u. Next (at [] (Pivot.block_label vs k ∷ K) L (cond (nat_eq x 0) q p) h) (form.chosen f None p q (u ∷ ws))) (sym a.0)
+          (on (cond (nat_eq x 0) q p) [] (Pivot.block_label vs k ∷ K) L (form.entered (with_values f ws) None None (if nat_eq x 0 then q else p)) tt refl (record { under = a.1; again = refl; gives = refl; rest = e }, b) locals)
+
+    -- operators
+    abbrev OperatedAs : Option (List Cell) → FrameForm → List Label → Locals → Instructions → Local → Type 0
+    OperatedAs o f K L k l = Next (Pivot.with_operands o K L k h) l
+
+    word_as : (o : Option Word) (vs : List Cell) (ws : List Word) (K : List Label) (L : Locals) (k : Instructions) (f : FrameForm) → StackAs N vs ws → f.code ≡ k → LabelsAs N K f.labels → LocalsAs N L f.locals →
+      Next (Pivot.with_operands (Pivot.push_word vs o) K L k h) (pushed f ws o)
+    word_as None vs ws K L k f a e b locals = stuck (pushed f ws None)
+    word_as (Some w) vs ws K L k f a e b locals = on k (Bits w ∷ vs) K L (with_values f (w ∷ ws)) (refl, a) e b locals
+
+    result_as : (o : Option (Result Word TrapKind)) (vs : List Cell) (ws : List Word) (K : List Label) (L : Locals) (k : Instructions) (f : FrameForm) → StackAs N vs ws → f.code ≡ k → LabelsAs N K f.labels → LocalsAs N L f.locals →
+      Next (Pivot.with_operands (Pivot.push_result vs o) K L k h) (form.pushed_or f ws o)
+    result_as None vs ws K L k f a e b locals = stuck (form.pushed_or f ws None)
+    result_as (Some (Err x)) vs ws K L k f a e b locals = stuck (form.pushed_or f ws (Some (Err x)))
+    result_as (Some (Ok w)) vs ws K L k f a e b locals = on k (Bits w ∷ vs) K L (with_values f (w ∷ ws)) (refl, a) e b locals
+
+    -- a handle is no word from 2^31 on
+    held_as : (ty-is : ValType) (op : IRelOp) (n : ℕ) (v : Word) (vs : List Cell) (ws : List Word) (K : List Label) (L : Locals) (k : Instructions) (f : FrameForm) → n < 2 ^ 31 → StackAs N vs ws → f.code ≡ k → LabelsAs N K f.labels → LocalsAs N L f.locals →
+      Next (Pivot.with_operands (Pivot.push_word vs (Pivot.held_equal ty-is op v)) K L k h) (pushed f ws (compare_of ty-is op (I32 n) v))
+    held_as ty.I32 Eq n (I32 x) vs ws K L k f lt a e b locals = by (nat_le (2 ^ 31) x) refl
+      where
+        by : (q : Bool) → nat_le (2 ^ 31) x ≡ q → Next (Pivot.with_operands (Pivot.push_word vs (cond q (Some (flag false)) None)) K L k h) (pushed f ws (Some (flag (nat_eq n x))))
+        by false r = stuck (pushed f ws (Some (flag (nat_eq n x))))
+        by true r = subst (λ g. Next (Pivot.with_operands (Pivot.push_word vs (Some (flag false))) K L k h) (pushed f ws (Some (flag g)))) (sym (not_equal n x (λ (same : n ≡ x). let le = leb-true (2 ^ 31) x r in absurd (omega (arith, same, le, lt)))))
+          (word_as (Some (flag false)) vs ws K L k f a e b locals)
+    held_as ty.I32 Eq n (I64 x) vs ws K L k f lt a e b locals = stuck (pushed f ws (compare_of ty.I32 Eq (I32 n) (I64 x)))
+    held_as ty.I64 op n v vs ws K L k f lt a e b locals = stuck (pushed f ws (compare_of ty.I64 op (I32 n) v))
+    held_as ty.I32 Ne n v vs ws K L k f lt a e b locals = stuck (pushed f ws (compare_of ty.I32 Ne (I32 n) v))
+    held_as ty.I32 LtS n v vs ws K L k f lt a e b locals = stuck (pushed f ws (compare_of ty.I32 LtS (I32 n) v))
+    held_as ty.I32 LtU n v vs ws K L k f lt a e b locals = stuck (pushed f ws (compare_of ty.I32 LtU (I32 n) v))
+    held_as ty.I32 GtS n v vs ws K L k f lt a e b locals = stuck (pushed f ws (compare_of ty.I32 GtS (I32 n) v))
+    held_as ty.I32 GtU n v vs ws K L k f lt a e b locals = stuck (pushed f ws (compare_of ty.I32 GtU (I32 n) v))
+    held_as ty.I32 LeS n v vs ws K L k f lt a e b locals = stuck (pushed f ws (compare_of ty.I32 LeS (I32 n) v))
+    held_as ty.I32 LeU n v vs ws K L k f lt a e b locals = stuck (pushed f ws (compare_of ty.I32 LeU (I32 n) v))
+    held_as ty.I32 GeS n v vs ws K L k f lt a e b locals = stuck (pushed f ws (compare_of ty.I32 GeS (I32 n) v))
+    held_as ty.I32 GeU n v vs ws K L k f lt a e b locals = stuck (pushed f ws (compare_of ty.I32 GeU (I32 n) v))
+
+    -- nothing is compared with a handle
+    abbrev NoBits : Cell → Type 0
+    NoBits (Bits v) = ⊥
+    NoBits _ = Unit {0}
+
+    not_compared : (t1 : ValType) (op : IRelOp) (v u : Cell) (vs : List Cell) (K : List Label) (L : Locals) (k : Instructions) (l : Local) → NoBits v → Next (Pivot.with_operands (Pivot.push_word vs (Pivot.compared t1 op u v)) K L k h) l
+    not_compared t1 op (Bits v) u vs K L k l held = absurd held
+    not_compared t1 op (Held v) (Bits u) vs K L k l held = stuck l
+    not_compared t1 op (Held v) (Held u) vs K L k l held = stuck l
+    not_compared t1 op (Held v) (ArrayOf u) vs K L k l held = stuck l
+    not_compared t1 op (Held v) (IteratorOf u) vs K L k l held = stuck l
+    not_compared t1 op (ArrayOf v) (Bits u) vs K L k l held = stuck l
+    not_compared t1 op (ArrayOf v) (Held u) vs K L k l held = stuck l
+    not_compared t1 op (ArrayOf v) (ArrayOf u) vs K L k l held = stuck l
+    not_compared t1 op (ArrayOf v) (IteratorOf u) vs K L k l held = stuck l
+    not_compared t1 op (IteratorOf v) (Bits u) vs K L k l held = stuck l
+    not_compared t1 op (IteratorOf v) (Held u) vs K L k l held = stuck l
+    not_compared t1 op (IteratorOf v) (ArrayOf u) vs K L k l held = stuck l
+    not_compared t1 op (IteratorOf v) (IteratorOf u) vs K L k l held = stuck l
+
+    compared_as : (ty-is : ValType) (op : IRelOp) (vs : List Cell) (ws : List Word) (K : List Label) (L : Locals) (k : Instructions) (f : FrameForm) → StackAs N vs ws → f.code ≡ k → LabelsAs N K f.labels → LocalsAs N L f.locals →
+      Next (Pivot.with_operands (Pivot.operated (simple.Compare ty-is op) vs) K L k h) (form.of_two f (compare_of ty-is op) ws)
+    compared_as t1 op [] ws K L k f a e b locals = stuck (form.of_two f (compare_of t1 op) ws)
+    compared_as t1 op (v ∷ []) ws K L k f a e b locals = stuck (form.of_two f (compare_of t1 op) ws)
+    compared_as t1 op (v ∷ (u ∷ vs)) [] K L k f a e b locals = absurd a
+    compared_as t1 op (v ∷ (u ∷ vs)) (w ∷ []) K L k f a e b locals = absurd a.1
+    compared_as t1 op (Bits v ∷ (Bits u ∷ vs)) (w ∷ (x ∷ ws)) K L k f a e b locals =
+        subst (λ z. Next (Pivot.with_operands (Pivot.push_word vs (compare_of t1 op u v)) K L k h) (pushed f ws (compare_of t1 op x z))) (sym a.0)
+          (subst (λ z. Next (Pivot.with_operands (Pivot.push_word vs (compare_of t1 op u v)) K L k h) (pushed f ws (compare_of t1 op z v))) (sym a.1.0)
+            (word_as (compare_of t1 op u v) vs ws K L k f a.1.1 e b locals))
+    compared_as t1 op (Bits v ∷ (Held u ∷ vs)) (w ∷ (I32 n ∷ ws)) K L k f a e b locals =
+        subst (λ z. Next (Pivot.with_operands (Pivot.push_word vs (Pivot.held_equal t1 op v)) K L k h) (pushed f ws (compare_of t1 op (I32 n) z))) (sym a.0) (held_as t1 op n v vs ws K L k f a.1.0.0 a.1.1 e b locals)
+    compared_as t1 op (Bits v ∷ (ArrayOf u ∷ vs)) (w ∷ (I32 n ∷ ws)) K L k f a e b locals =
+        subst (λ z. Next (Pivot.with_operands (Pivot.push_word vs (Pivot.held_equal t1 op v)) K L k h) (pushed f ws (compare_of t1 op (I32 n) z))) (sym a.0) (held_as t1 op n v vs ws K L k f a.1.0.0 a.1.1 e b locals)
+    compared_as t1 op (Bits v ∷ (IteratorOf u ∷ vs)) (w ∷ (I32 n ∷ ws)) K L k f a e b locals =
+        subst (λ z. Next (Pivot.with_operands (Pivot.push_word vs (Pivot.held_equal t1 op v)) K L k h) (pushed f ws (compare_of t1 op (I32 n) z))) (sym a.0) (held_as t1 op n v vs ws K L k f a.1.0.0 a.1.1 e b locals)
+    compared_as t1 op (Bits v ∷ (Held u ∷ vs)) (w ∷ (I64 n ∷ ws)) K L k f a e b locals = absurd a.1.0
+    compared_as t1 op (Bits v ∷ (ArrayOf u ∷ vs)) (w ∷ (I64 n ∷ ws)) K L k f a e b locals = absurd a.1.0
+    compared_as t1 op (Bits v ∷ (IteratorOf u ∷ vs)) (w ∷ (I64 n ∷ ws)) K L k f a e b locals = absurd a.1.0
+    compared_as t1 op (Held v ∷ (u ∷ vs)) (w ∷ (x ∷ ws)) K L k f a e b locals = not_compared t1 op (Held v) u vs K L k (form.of_two f (compare_of t1 op) (w ∷ (x ∷ ws))) tt
+    compared_as t1 op (ArrayOf v ∷ (u ∷ vs)) (w ∷ (x ∷ ws)) K L k f a e b locals = not_compared t1 op (ArrayOf v) u vs K L k (form.of_two f (compare_of t1 op) (w ∷ (x ∷ ws))) tt
+    compared_as t1 op (IteratorOf v ∷ (u ∷ vs)) (w ∷ (x ∷ ws)) K L k f a e b locals = not_compared t1 op (IteratorOf v) u vs K L k (form.of_two f (compare_of t1 op) (w ∷ (x ∷ ws))) tt
