@@ -17,7 +17,11 @@ use Rattle.wasm_types.specs.declared.types.ValType.{ValType}
 use Rattle.wasm_types.specs.declared.instr.Simple.TheVariants as simple
 use Rattle.wasm_types.specs.declared.instr.IRelOp.{IRelOp}
 use Rattle.wasm_types.specs.declared.instr.IRelOp.TheVariants.{Eq, Ne, LtS, LtU, GtS, GtU, LeS, LeU, GeS, GeU}
-use Rattle.wasm_store.specs.Words.{compare_of, flag}
+use Rattle.wasm_types.specs.declared.instr.ITestOp.{ITestOp}
+use Rattle.wasm_types.specs.declared.instr.IBinOp.{IBinOp}
+use Rattle.wasm_types.specs.declared.instr.CvtOp.{CvtOp}
+use Rattle.wasm_store.specs.Memories.{MemoryForm}
+use Rattle.wasm_store.specs.Words.{binary_of, compare_of, converted, flag, test_of}
 use Rattle.wasm_types.specs.declared.types.ValType.TheVariants as ty
 use Rattle.wasm_store.specs.declared.word.Word.{Word}
 use Rattle.wasm_store.specs.declared.word.Word.TheVariants.{I32, I64}
@@ -48,7 +52,7 @@ use Rattle.host_calls.specs.declared.import.Import.{Import}
 use Rattle.host_calls.specs.declared.import.Import.TheVariants.{Of, Over as ByList, Arg, Drop}
 use Rattle.wasm_machine.specs.declared.host.HostAnswer.{HostAnswer}
 use Rattle.wasm_machine.specs.declared.host.HostAnswer.TheVariants.{Done as DoneWith}
-use Rattle.host_calls.specs.HostStep.{PremiseOf, host_meaning, with_output, Acts, acts, given_by, refuses, refused, acted, Answered}
+use Rattle.host_calls.specs.HostStep.{PremiseOf, StepOf, host_meaning, with_output, Acts, acts, given_by, refuses, refused, acted, Answered}
 use Rattle.lowering.proofs.Pivot
 use Rattle.lowering.proofs.Pivot.{with_some, and_rest, Cell, Bits, Held, ArrayOf, IteratorOf, Host, Label, Locals, Conf, Run, Over, Stuck, upd, at, br, step}
 
@@ -627,3 +631,90 @@ module _ (mem : List ℕ) (m : ProgramForm) (tells : Type 0) (t : tells)
     compared_as t1 op (Held v ∷ (u ∷ vs)) (w ∷ (x ∷ ws)) K L k f a e b locals = not_compared t1 op (Held v) u vs K L k (form.of_two f (compare_of t1 op) (w ∷ (x ∷ ws))) tt
     compared_as t1 op (ArrayOf v ∷ (u ∷ vs)) (w ∷ (x ∷ ws)) K L k f a e b locals = not_compared t1 op (ArrayOf v) u vs K L k (form.of_two f (compare_of t1 op) (w ∷ (x ∷ ws))) tt
     compared_as t1 op (IteratorOf v ∷ (u ∷ vs)) (w ∷ (x ∷ ws)) K L k f a e b locals = not_compared t1 op (IteratorOf v) u vs K L k (form.of_two f (compare_of t1 op) (w ∷ (x ∷ ws))) tt
+
+    tested_as : (t1 : ValType) (op : ITestOp) (vs : List Cell) (ws : List Word) (K : List Label) (L : Locals) (k : Instructions) (f : FrameForm) → StackAs N vs ws → f.code ≡ k → LabelsAs N K f.labels → LocalsAs N L f.locals →
+      Next (Pivot.with_operands (Pivot.operated (simple.Test t1 op) vs) K L k h) (form.of_one f (test_of t1 op) ws)
+    tested_as t1 op [] ws K L k f a e b locals = stuck (form.of_one f (test_of t1 op) ws)
+    tested_as t1 op (Held v ∷ vs) ws K L k f a e b locals = stuck (form.of_one f (test_of t1 op) ws)
+    tested_as t1 op (ArrayOf v ∷ vs) ws K L k f a e b locals = stuck (form.of_one f (test_of t1 op) ws)
+    tested_as t1 op (IteratorOf v ∷ vs) ws K L k f a e b locals = stuck (form.of_one f (test_of t1 op) ws)
+    tested_as t1 op (Bits v ∷ vs) [] K L k f a e b locals = absurd a
+    tested_as t1 op (Bits v ∷ vs) (w ∷ ws) K L k f a e b locals =
+        subst (λ z. Next (Pivot.with_operands (Pivot.push_word vs (test_of t1 op v)) K L k h) (pushed f ws (test_of t1 op z))) (sym a.0) (word_as (test_of t1 op v) vs ws K L k f a.1 e b locals)
+
+    converted_as : (op : CvtOp) (vs : List Cell) (ws : List Word) (K : List Label) (L : Locals) (k : Instructions) (f : FrameForm) → StackAs N vs ws → f.code ≡ k → LabelsAs N K f.labels → LocalsAs N L f.locals →
+      Next (Pivot.with_operands (Pivot.operated (simple.Convert op) vs) K L k h) (form.of_one f (converted op) ws)
+    converted_as op [] ws K L k f a e b locals = stuck (form.of_one f (converted op) ws)
+    converted_as op (Held v ∷ vs) ws K L k f a e b locals = stuck (form.of_one f (converted op) ws)
+    converted_as op (ArrayOf v ∷ vs) ws K L k f a e b locals = stuck (form.of_one f (converted op) ws)
+    converted_as op (IteratorOf v ∷ vs) ws K L k f a e b locals = stuck (form.of_one f (converted op) ws)
+    converted_as op (Bits v ∷ vs) [] K L k f a e b locals = absurd a
+    converted_as op (Bits v ∷ vs) (w ∷ ws) K L k f a e b locals =
+        subst (λ z. Next (Pivot.with_operands (Pivot.push_word vs (converted op v)) K L k h) (pushed f ws (converted op z))) (sym a.0) (word_as (converted op v) vs ws K L k f a.1 e b locals)
+
+    binary_as : (t1 : ValType) (op : IBinOp) (vs : List Cell) (ws : List Word) (K : List Label) (L : Locals) (k : Instructions) (f : FrameForm) → StackAs N vs ws → f.code ≡ k → LabelsAs N K f.labels → LocalsAs N L f.locals →
+      Next (Pivot.with_operands (Pivot.operated (simple.Binary t1 op) vs) K L k h) (form.of_two_or f (binary_of t1 op) ws)
+    binary_as t1 op [] ws K L k f a e b locals = stuck (form.of_two_or f (binary_of t1 op) ws)
+    binary_as t1 op (Held v ∷ vs) ws K L k f a e b locals = stuck (form.of_two_or f (binary_of t1 op) ws)
+    binary_as t1 op (ArrayOf v ∷ vs) ws K L k f a e b locals = stuck (form.of_two_or f (binary_of t1 op) ws)
+    binary_as t1 op (IteratorOf v ∷ vs) ws K L k f a e b locals = stuck (form.of_two_or f (binary_of t1 op) ws)
+    binary_as t1 op (Bits v ∷ []) ws K L k f a e b locals = stuck (form.of_two_or f (binary_of t1 op) ws)
+    binary_as t1 op (Bits v ∷ (Held u ∷ vs)) ws K L k f a e b locals = stuck (form.of_two_or f (binary_of t1 op) ws)
+    binary_as t1 op (Bits v ∷ (ArrayOf u ∷ vs)) ws K L k f a e b locals = stuck (form.of_two_or f (binary_of t1 op) ws)
+    binary_as t1 op (Bits v ∷ (IteratorOf u ∷ vs)) ws K L k f a e b locals = stuck (form.of_two_or f (binary_of t1 op) ws)
+    binary_as t1 op (Bits v ∷ (Bits u ∷ vs)) [] K L k f a e b locals = absurd a
+    binary_as t1 op (Bits v ∷ (Bits u ∷ vs)) (w ∷ []) K L k f a e b locals = absurd a.1
+    binary_as t1 op (Bits v ∷ (Bits u ∷ vs)) (w ∷ (x ∷ ws)) K L k f a e b locals =
+        subst (λ z. Next (Pivot.with_operands (Pivot.push_result vs (binary_of t1 op u v)) K L k h) (form.pushed_or f ws (binary_of t1 op x z))) (sym a.0)
+          (subst (λ z. Next (Pivot.with_operands (Pivot.push_result vs (binary_of t1 op u v)) K L k h) (form.pushed_or f ws (binary_of t1 op z v))) (sym a.1.0)
+            (result_as (binary_of t1 op u v) vs ws K L k f a.1.1 e b locals))
+
+    -- imports
+    onto_as : (v : Option Cell) (w : Option Word) (a : Host) (vs : List Cell) (ws : List Word) (K : List Label) (L : Locals) (k : Instructions) (f : FrameForm) (c2 : RealConf) (s1 : HostState) (out1 : List Action) → Grown N s1.names → OntoAs s1.names v w → HostAs a s1 out1 → c2.frame ≡ with_values f ws → c2.callers ≡ entry ∷ [] → c2.result ≡ Some ty.I32 → c2.memory.bytes ≡ mem →
+      StackAs N vs ws → f.code ≡ k → LabelsAs N K f.labels → LocalsAs N L f.locals → As mem (at (Pivot.onto v vs) K L k a) (answered c2 w) s1 out1
+    onto_as None None a vs ws K L k f c2 s1 out1 g o ha fe ca re me b e labels locals =
+        at_as mem k vs K L a c2 s1 out1 (subst (λ (z : FrameForm). StackAs s1.names vs z.values) (sym fe) (stack_up N s1.names g vs ws b)) (ap (λ (z : FrameForm). z.code) fe ∙ e)
+          (record { labels = subst (λ (z : FrameForm). LabelsAs s1.names K z.labels) (sym fe) (labels_up N s1.names g K f.labels labels); locals = subst (λ (z : FrameForm). LocalsAs s1.names L z.locals) (sym fe) (λ x w1 q. word_up N s1.names g (L x) w1 (locals x w1 q)); host = ha; callers = ca; result = re; memory = me })
+    onto_as (Some v) (Some w) a vs ws K L k f c2 s1 out1 g o ha fe ca re me b e labels locals =
+        at_as mem k (v ∷ vs) K L a (with_operands c2 (w ∷ c2.frame.values)) s1 out1 (o, subst (λ (z : FrameForm). StackAs s1.names vs z.values) (sym fe) (stack_up N s1.names g vs ws b)) (ap (λ (z : FrameForm). z.code) fe ∙ e)
+          (record { labels = subst (λ (z : FrameForm). LabelsAs s1.names K z.labels) (sym fe) (labels_up N s1.names g K f.labels labels); locals = subst (λ (z : FrameForm). LocalsAs s1.names L z.locals) (sym fe) (λ x w1 q. word_up N s1.names g (L x) w1 (locals x w1 q)); host = ha; callers = ca; result = re; memory = me })
+    onto_as None (Some w) a vs ws K L k f c2 s1 out1 g o ha fe ca re me b e labels locals = absurd o
+    onto_as (Some v) None a vs ws K L k f c2 s1 out1 g o ha fe ca re me b e labels locals = absurd o
+
+    import_as : (n : ℕ) (i : Import) (vs : List Cell) (K : List Label) (L : Locals) (k : Instructions) (f : FrameForm) → import_at n ≡ Some i → StackAs N vs f.values → f.code ≡ k → LabelsAs N K f.labels → LocalsAs N L f.locals →
+      NextAs (Pivot.ask mem (Some i) vs K L k h) c s out (asked n (import_type i) (with_frame c f))
+    import_as n i vs K L k f at-n a e labels locals = within (nat_lt (length f.values) (length (import_type i).params))
+      where
+        w : ℕ
+        w = length (import_type i).params
+
+        args : List Word
+        args = reverse (take w f.values)
+
+        after : RealConf
+        after = with_operands (with_frame c f) (drop w f.values)
+
+        cells : List Cell
+        cells = reverse (take w vs)
+
+        args_as : StackAs N cells args
+        args_as = stack_reverse N (take w vs) (take w f.values) (stack_take N w vs f.values a)
+
+        answer_as : (r : Option (Option Cell × Host)) (c1 : RealConf) (s1 : HostState) (o : List Action) (u : Option Word) → AnswerAs N r u (with_output (out ++ o) s1) → c1 ≡ answered (record after { memory = c1.memory }) u → c1.memory ≡ c.memory → As mem (Pivot.with_answer r (drop w vs) K L k) c1 s1 (out ++ o)
+        answer_as None c1 s1 o u x q me = tt
+        answer_as (Some r) c1 s1 o u x q me =
+            subst (λ z. As mem (at (Pivot.onto r.0 (drop w vs)) K L k r.1) z s1 (out ++ o)) (sym q)
+              (onto_as r.0 u r.1 (drop w vs) (drop w f.values) K L k f (record after { memory = c1.memory }) s1 (out ++ o) x.0 x.1 x.2 refl callers result (ap (λ (y : MemoryForm). y.bytes) me ∙ memory) (stack_drop N w vs f.values a) e labels locals)
+
+        within : (b : Bool) → NextAs (Pivot.ask mem (Some i) vs K L k h) c s out (if b then turn_by m c form.Stuck else Asks n args after)
+        within true = λ c1 s1 o r. absurd r
+        within false = λ c1 s1 o r.
+            let u = r.0 in
+            let called-is = r.1.1 in
+            let st = called-is.step (premise tells (import_at n) t) out in
+            let st1 = subst (λ (z : Option Import). StepOf z (with_output out s) args c.memory.bytes (DoneWith u) (with_output (out ++ o) s1) o) at-n st in
+            answer_as (Pivot.call mem i cells h) c1 s1 o u
+              (call_as mem i cells args st1.0 N h u (with_output (out ++ o) s1) o args_as st1.1
+                (subst (λ (b : List ℕ). Answered (HostStep.step st1.0 i args b (state_with N h)) (state_with N h) (DoneWith u) (with_output (out ++ o) s1) o) memory
+                  (subst (λ (z : HostState). Answered (HostStep.step st1.0 i args c.memory.bytes z) z (DoneWith u) (with_output (out ++ o) s1) o) host st1.2)))
+              r.2 r.1.0
