@@ -14,6 +14,7 @@ use Rattle.awk_values.specs.declared.value.Value.{Value as AnyValue}
 use Rattle.world_core.specs.WorldState.{Action}
 use Rattle.wasm_types.specs.Syntax.{Instruction, Plain, BrTable, Block, Loop, If, Instructions, Done, Then}
 use Rattle.wasm_types.specs.declared.types.ValType.{ValType}
+use Rattle.wasm_types.specs.declared.instr.Simple.{Simple}
 use Rattle.wasm_types.specs.declared.instr.Simple.TheVariants as simple
 use Rattle.wasm_types.specs.declared.instr.IRelOp.{IRelOp}
 use Rattle.wasm_types.specs.declared.instr.IRelOp.TheVariants.{Eq, Ne, LtS, LtU, GtS, GtU, LeS, LeU, GeS, GeU}
@@ -30,7 +31,7 @@ use Rattle.wasm_machine.specs.Frames as form
 use Rattle.wasm_machine.specs.Stacks.{taken}
 use Rattle.wasm_machine.specs.Hosts.{Meaning}
 use Rattle.wasm_machine.specs.Runs.{TakenAs}
-use Rattle.wasm_machine.specs.Machines.{Conf as RealConf, CallerForm, ProgramForm, Turn, Goes, Ends, Asks, with_frame, with_operands, turn, turn_by, called, asked, answered}
+use Rattle.wasm_machine.specs.Machines.{Conf as RealConf, CallerForm, ProgramForm, Turn, Goes, Ends, Asks, with_frame, with_operands, turn, turn_by, called, asked, answered, returned_with, to_caller}
 use Rattle.awk_state.specs.Constants.{constant_at}
 use Rattle.awk_state.specs.Numbers.{number_of_word}
 use Rattle.awk_state.specs.SharedState.{shared_after}
@@ -718,3 +719,86 @@ module _ (mem : List ℕ) (m : ProgramForm) (tells : Type 0) (t : tells)
                 (subst (λ (b : List ℕ). Answered (HostStep.step st1.0 i args b (state_with N h)) (state_with N h) (DoneWith u) (with_output (out ++ o) s1) o) memory
                   (subst (λ (z : HostState). Answered (HostStep.step st1.0 i args c.memory.bytes z) z (DoneWith u) (with_output (out ++ o) s1) o) host st1.2)))
               r.2 r.1.0
+
+    act_as : (p : Simple) (vs : List Cell) (K : List Label) (L : Locals) (k : Instructions) (f : FrameForm) → StackAs N vs f.values → f.code ≡ k → LabelsAs N K f.labels → LocalsAs N L f.locals →
+      Next (Pivot.act mem p vs K L k h) (form.simple f p)
+    act_as (simple.LocalGet x) vs K L k f a e b locals = got_as (slice_get f.locals x) (L x) vs K L k f (λ w q. locals x w q) a e b locals
+    act_as (simple.LocalSet x) vs K L k f a e b locals = set_local_as x vs f.values K L k f a e b locals
+    act_as (simple.LocalTee x) vs K L k f a e b locals = tee_local_as x vs K L k f f.values refl a e b locals
+    act_as (simple.Br n) vs K L k f a e b locals = jump_as n K f.labels L f b locals
+    act_as (simple.BrIf n) vs K L k f a e b locals = br_if_as n vs f.values K L k f a e b locals
+    act_as (simple.Call n) vs K L k f a e b locals = by (import_at n) refl
+      where
+        by : (o : Option Import) → import_at n ≡ o → NextAs (Pivot.ask mem o vs K L k h) c s out (called m n (with_frame c f))
+        by None q = λ c1 s1 o r. tt
+        by (Some i) q = subst (λ (z : Turn). NextAs (Pivot.ask mem (Some i) vs K L k h) c s out z) (sym (imported n i (with_frame c f) q)) (import_as n i vs K L k f q a e b locals)
+    act_as (simple.Test t1 op) vs K L k f a e b locals = tested_as t1 op vs f.values K L k f a e b locals
+    act_as (simple.Compare t1 op) vs K L k f a e b locals = compared_as t1 op vs f.values K L k f a e b locals
+    act_as (simple.Binary t1 op) vs K L k f a e b locals = binary_as t1 op vs f.values K L k f a e b locals
+    act_as (simple.Convert op) vs K L k f a e b locals = converted_as op vs f.values K L k f a e b locals
+    act_as simple.Unreachable vs K L k f a e b locals = stuck (form.simple f simple.Unreachable)
+    act_as simple.Nop vs K L k f a e b locals = stuck (form.simple f simple.Nop)
+    act_as simple.Return vs K L k f a e b locals = stuck (form.simple f simple.Return)
+    act_as (simple.CallIndirect n) vs K L k f a e b locals = stuck (form.simple f (simple.CallIndirect n))
+    act_as simple.Drop vs K L k f a e b locals = stuck (form.simple f simple.Drop)
+    act_as simple.Select vs K L k f a e b locals = stuck (form.simple f simple.Select)
+    act_as (simple.GlobalGet x) vs K L k f a e b locals = stuck (form.simple f (simple.GlobalGet x))
+    act_as (simple.GlobalSet x) vs K L k f a e b locals = stuck (form.simple f (simple.GlobalSet x))
+    act_as (simple.Load op x) vs K L k f a e b locals = stuck (form.simple f (simple.Load op x))
+    act_as (simple.Store op x) vs K L k f a e b locals = stuck (form.simple f (simple.Store op x))
+    act_as simple.MemorySize vs K L k f a e b locals = stuck (form.simple f simple.MemorySize)
+    act_as simple.MemoryGrow vs K L k f a e b locals = stuck (form.simple f simple.MemoryGrow)
+    act_as (simple.I32Const x) vs K L k f a e b locals = stuck (form.simple f (simple.I32Const x))
+    act_as (simple.I64Const x) vs K L k f a e b locals = stuck (form.simple f (simple.I64Const x))
+    act_as (simple.Unary t1 op) vs K L k f a e b locals = stuck (form.simple f (simple.Unary t1 op))
+
+    work_as : (i : Instruction) (vs : List Cell) (K : List Label) (L : Locals) (k : Instructions) (f : FrameForm) → StackAs N vs f.values → f.code ≡ k → LabelsAs N K f.labels → LocalsAs N L f.locals →
+      Next (Pivot.work mem i vs K L k h) (form.act f i)
+    work_as (Plain p) vs K L k f a e b locals = act_as p vs K L k f a e b locals
+    work_as (BrTable ns n) vs K L k f a e b locals = stuck (form.act f (BrTable ns n))
+    work_as (Loop g p) vs K L k f a e b locals = stuck (form.act f (Loop g p))
+    work_as (Block (Some g) p) vs K L k f a e b locals = stuck (form.act f (Block (Some g) p))
+    work_as (If (Some g) p q) vs K L k f a e b locals = stuck (form.act f (If (Some g) p q))
+    work_as (Block None p) vs K L k f a e b locals =
+        on p [] (Pivot.block_label vs k ∷ K) L (form.entered f None None p) tt refl (record { under = a; again = refl; gives = refl; rest = e }, b) locals
+    work_as (If None p q) vs K L k f a e b locals = choose_as p q vs f.values K L k f a e b locals
+
+    -- a function is left, to the frame that called it
+    returned_as : (r : Option ValType) (vs : List Cell) (ws : List Word) (c2 : RealConf) → r ≡ Some ty.I32 → c2.callers ≡ entry ∷ [] → StackAs N vs ws → NextAs (Over vs h) c s out (returned_with c2 r ws)
+    returned_as None vs ws c2 e q a = absurd (none-some ty.I32 e)
+    returned_as (Some g) [] [] c2 e q a = λ c1 s1 o x. absurd x
+    returned_as (Some g) [] (w ∷ ws) c2 e q a = absurd a
+    returned_as (Some g) (v ∷ vs) [] c2 e q a = absurd a
+    returned_as (Some g) (v ∷ vs) (w ∷ ws) c2 e q a =
+        subst (λ (z : List CallerForm). NextAs (Over (v ∷ vs) h) c s out (to_caller c2 (w ∷ []) (Some w) z)) (sym q)
+          (goes_as (Over (v ∷ vs) h) c (record c2 { frame = with_values entry.frame (w ∷ []); result = Some ty.I32; callers = [] }) s out
+            (record { word = w; same = a.0; frame = refl; callers = refl; result = refl; host = host }))
+
+    leave_as : (vs : List Cell) (K : List Label) (rs : List LabelForm) (L : Locals) (f : FrameForm) → StackAs N vs f.values → LabelsAs N K rs → LocalsAs N L f.locals → Next (Pivot.leave vs K L h) (form.at_end f rs)
+    leave_as vs [] [] L f a b locals = returned_as c.result vs f.values (with_frame c f) result callers a
+    leave_as vs (l ∷ K) (r ∷ rs) L f a b locals =
+        on l.rest (vs ++ l.under) K L (record f { values = f.values ++ r.under; labels = rs; code = r.rest }) (stack_append N vs l.under f.values r.under a b.0.under) b.0.rest b.1 locals
+    leave_as vs [] (r ∷ rs) L f a b locals = absurd b
+    leave_as vs (l ∷ K) [] L f a b locals = absurd b
+
+    run_as : (code : Instructions) (vs : List Cell) (K : List Label) (L : Locals) (f : FrameForm) → StackAs N vs f.values → LabelsAs N K f.labels → LocalsAs N L f.locals → Next (Pivot.run mem vs K L code h) (form.next_at f code)
+    run_as Done vs K L f a b locals = leave_as vs K f.labels L f a b locals
+    run_as (Then i k) vs K L f a b locals = work_as i vs K L k (record f { code = k }) a refl b locals
+
+  -- the entry frame ends, and with it the run
+  over-ends : (c : RealConf) (s : HostState) (out : List Action) (v : Cell) (h : Host) → LeftAs mem v h c s out → (c1 : RealConf) (s1 : HostState) (o : List Action) → TakenAs M (turn m c) s c.memory o c1 s1 → ⊥
+  over-ends c s out v h a c1 s1 o e =
+      subst (λ (q : List CallerForm). TakenAs M (to_caller c (a.word ∷ []) (Some a.word) q) s c.memory o c1 s1) a.callers
+        (subst (λ (q : Option ValType). TakenAs M (returned_with c q (a.word ∷ [])) s c.memory o c1 s1) a.result
+          (subst (λ (f : FrameForm). TakenAs M (turn_by m c (form.local_step f)) s c.memory o c1 s1) a.frame e))
+
+  -- ONE STEP: whatever the host answers, and whatever numbers it gives, the two are the same afterwards
+  pub step_as : (p : Conf) (c : RealConf) (s : HostState) (out : List Action) → As mem p c s out → NextAs (step mem p) c s out (turn m c)
+  step_as (Run vs K L code h) c s out a =
+      let r = a.1 in
+      let f = settled c.frame in
+      subst (λ (z : Instructions). NextAs (Pivot.run mem vs K L code h) c s out (turn_by m c (form.next_at f z))) (sym a.0.1)
+        (run_as c s out h r.host r.callers r.result r.memory code vs K L f a.0.0 r.labels r.locals)
+  step_as (Over [] h) c s out a = absurd a
+  step_as (Over (v ∷ vs) h) c s out a = λ c1 s1 o e. absurd (over-ends c s out v h a c1 s1 o e)
+  step_as Stuck c s out a = λ c1 s1 o e. tt

@@ -11,6 +11,7 @@ use Rattle.awk_state.specs.declared.table.Primitive.TheVariants as prim
 use Rattle.awk_state.specs.declared.table.Listed.{Listed}
 use Rattle.awk_state.specs.declared.table.Listed.TheVariants.{Print}
 use Rattle.awk_state.specs.Table.{listed_answer}
+pub use Rattle.lower_layout.specs.Layouts.{is_constant, behind, place_of, memory_of, temporaries}
 use Rattle.wasm_types.specs.Syntax.{Instruction, Plain, Block, If, Instructions, Done, Then}
 use Rattle.wasm_types.specs.declared.types.ValType.{ValType}
 use Rattle.wasm_types.specs.declared.types.ValType.TheVariants.{I32, I64}
@@ -85,21 +86,6 @@ abbrev pub keep : Bool → Answer → ℕ → ℕ → Instructions → Instructi
 keep true a t d k = does (LocalTee (local_for a t)) (is_fault a (does (BrIf d) k))
 keep false a t d k = does (LocalSet (local_for a t)) k
 
--- Operands: numbers and texts are constants, which need no temporary.
-
-abbrev pub is_constant : Code → Bool
-is_constant (Do o es) = false
-is_constant (OverList l es) = false
-is_constant (Number z) = true
-is_constant (Text i) = true
-
--- the temporary behind an operand's
-abbrev pub behind : Code → ℕ → ℕ
-behind (Do o es) t = suc t
-behind (OverList l es) t = suc t
-behind (Number z) t = t
-behind (Text i) t = t
-
 -- a number is made of a value, where one is wanted
 abbrev pub convert_one : Shape → Argument → ℕ → ℕ → Instructions → Instructions
 convert_one (Answered (answer.Of sort.Value)) (argument.Of sort.Number) t d k = does (LocalGet (handle_local t)) (ask (Of prim.ToNum) (keep true (answer.Of sort.Number) t d k))
@@ -108,16 +94,6 @@ convert_one _ _ t d k = k
 abbrev pub convert_all : List Argument → Codes → ℕ → ℕ → Instructions → Instructions
 convert_all (a ∷ rest) (At e es) t d k = convert_one (shape_of e) a t d (convert_all rest es (behind e t) d k)
 convert_all _ _ t d k = k
-
--- the texts of a program lie in memory one behind the other
-abbrev pub place_of : List (List ℕ) → ℕ → ℕ
-place_of [] i = 0
-place_of (s ∷ ss) zero = 0
-place_of (s ∷ ss) (suc i) = length s + place_of ss i
-
-abbrev pub memory_of : List (List ℕ) → List ℕ
-memory_of [] = []
-memory_of (s ∷ ss) = s ++ memory_of ss
 
 module _ (texts : List (List ℕ)) where
   abbrev pub push_one : Argument → Code → ℕ → Instructions → Instructions
@@ -197,23 +173,3 @@ module _ (texts : List (List ℕ)) where
 -- the block is the function's exit; a run that is not left by a fault ends with status 0
 abbrev pub main_code : Program → Instructions
 main_code p = Then (Block None (steps_emitted p.texts p.main 0 Done)) (does (I32Const 0) Done)
-
--- How many temporaries code needs.
-
-abbrev mutual
-  pub room_for : Code → ℕ
-  room_for (Do o es) = max 3 (rooms_for es)
-  room_for (OverList l es) = max 3 (rooms_for es)
-  room_for (Number z) = 1
-  room_for (Text i) = 0
-
-  pub rooms_for : Codes → ℕ
-  rooms_for End = 0
-  rooms_for (At e es) = max (cond (is_constant e) 0 (room_for e)) (behind e (rooms_for es))
-
-abbrev pub step_room : Step → ℕ
-step_room (Eval e) = room_for e
-
-abbrev pub temporaries : List Step → ℕ
-temporaries [] = 0
-temporaries (s ∷ ss) = max (step_room s) (temporaries ss)

@@ -9,7 +9,8 @@ use Rattle.wasm_types.specs.declared.module.ExportDesc.TheVariants.{Func}
 use Rattle.host_calls.specs.declared.import.Import.{Import}
 use Rattle.host_calls.specs.Imports.{imports, import_name, import_type, module_name}
 use Rattle.mid_code.specs.Mid.{Program}
-use Rattle.lowering.specs.Emitted.{does, main_code, memory_of, temporaries}
+use Rattle.lower_layout.specs.Layouts.{memory_of, temporaries}
+use Rattle.lowering.specs.Emitted.{does, main_code}
 
 -- the types of the imports, in order, and that of `main`
 abbrev pub types : List Signature

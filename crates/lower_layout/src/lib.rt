@@ -1,0 +1,2 @@
+//! Where texts and values of a program go.
+#![tactic(auto)]
