@@ -1,4 +1,5 @@
 pub mod Pivot
+pub mod Products
 pub mod Arrive
 pub mod Forward
 pub mod Emission
