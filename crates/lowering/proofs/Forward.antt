@@ -57,7 +57,7 @@ both_right false b h = absurd h
 
 -- Locals.
 
-upd_same : (L : Locals) (x : ℕ) (w : Cell) → upd L x w x ≡ w
+pub upd_same : (L : Locals) (x : ℕ) (w : Cell) → upd L x w x ≡ w
 upd_same L x w = ap (λ b. cond b w (L x)) (eq-eqb x x refl)
 
 pub not_equal : (x y : ℕ) → (x ≡ y → ⊥) → nat_eq x y ≡ false

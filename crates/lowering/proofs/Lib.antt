@@ -3,4 +3,5 @@ pub mod Products
 pub mod Arrive
 pub mod Forward
 pub mod Emission
+pub mod Arithmetic
 pub mod Refine

@@ -34,13 +34,13 @@ mod_below n = omega arith
 same_word : (n : ℕ) (z : ℤ) → n < 2 ^ 64 → cast_signed w64 n ≡ z → n ≡ word z
 same_word n z lt e = sym (of_z-to_z w64 n lt) ∙ ap word e
 
-sum_word : (a b : ℤ) → FitsSigned w64 a → FitsSigned w64 b → FitsSigned w64 (a +ℤ b) → (word a + word b) % 2 ^ 64 ≡ word (a +ℤ b)
+pub sum_word : (a b : ℤ) → FitsSigned w64 a → FitsSigned w64 b → FitsSigned w64 (a +ℤ b) → (word a + word b) % 2 ^ 64 ≡ word (a +ℤ b)
 sum_word a b fa fb fs =
     same_word ((word a + word b) % 2 ^ 64) (a +ℤ b) (mod_below (word a + word b))
       (wrapping_add-bits w64 (word a) (word b) (word_below a fa) (word_below b fb)
         ∙ (ap₂ (λ x y. int_wrap w64 (x +ℤ y)) (to_z-of_z w64 a fa) (to_z-of_z w64 b fb) ∙ int_wrap_fits w64 (a +ℤ b) fs))
 
-difference_word : (a b : ℤ) → FitsSigned w64 a → FitsSigned w64 b → FitsSigned w64 (a -ℤ b) → difference w64 (word a) (word b) ≡ word (a -ℤ b)
+pub difference_word : (a b : ℤ) → FitsSigned w64 a → FitsSigned w64 b → FitsSigned w64 (a -ℤ b) → difference w64 (word a) (word b) ≡ word (a -ℤ b)
 difference_word a b fa fb fs =
     same_word ((word a + (2 ^ 64 - word b)) % 2 ^ 64) (a -ℤ b) (mod_below (word a + (2 ^ 64 - word b)))
       (wrapping_sub-bits w64 (word a) (word b) (word_below a fa) (word_below b fb)
@@ -65,7 +65,7 @@ within a b e = leb-true a b e
 beyond : (a b : ℕ) → nat_le a b ≡ false → b < a
 beyond a b e = ⊎_elim (λ (lt : b < a). lt) (λ (le : a ≤ b). absurd (true≢false (sym (le-leb a b le) ∙ e))) (cases_lt b a)
 
-out_word : (z : ℤ) → FitsSigned w64 z → is_out (word z) ≡ not (nat_le (unsigned_abs z) (2 ^ 53))
+pub out_word : (z : ℤ) → FitsSigned w64 z → is_out (word z) ≡ not (nat_le (unsigned_abs z) (2 ^ 53))
 out_word (pos n) f = by (nat_le n (2 ^ 53)) refl
   where
     small-n : n < 2 ^ 63
@@ -94,7 +94,7 @@ out_word (negsuc n) f = by (nat_le (suc n) (2 ^ 53)) refl
 
 -- Products.
 
-triangle : (a b : ℤ) → unsigned_abs (a -ℤ b) ≤ unsigned_abs a + unsigned_abs b
+pub triangle : (a b : ℤ) → unsigned_abs (a -ℤ b) ≤ unsigned_abs a + unsigned_abs b
 triangle a b = grind (arith, ints)
 
 cancel : (a b c : ℤ) → a +ℤ b ≡ c → b ≡ c -ℤ a
