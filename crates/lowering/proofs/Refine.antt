@@ -1,5 +1,5 @@
 -- The machine of a module follows the machine over values, step by step, whatever numbers the host gives out.
-use Rattle.std.proofs.Common.{◌≡◌, ◌≢◌, ℕ, zero, suc, ◌+◌, ◌-◌, ◌^◌, ◌<◌, ◌≤◌, Bool, true, false, cond, nat_eq, nat_lt, nat_le, List, [], ◌∷◌, ◌++◌, length, map, take, drop, reverse, Option, Some, None, Result, Ok, Err, ℤ, pos, w32, slice_get, slice_set, refl, sym, ap, ap₂, ◌∙◌, subst, arith, append-nil, append_assoc, true≢false, if◌then◌else◌}
+use Rattle.std.proofs.Common.{◌≡◌, ◌≢◌, ◌⊎◌, inl, inr, ℕ, zero, suc, ◌+◌, ◌-◌, ◌^◌, ◌<◌, ◌≤◌, Bool, true, false, cond, nat_eq, nat_lt, nat_le, List, [], ◌∷◌, ◌++◌, length, map, take, drop, reverse, Option, Some, None, Result, Ok, Err, ℤ, pos, w32, slice_get, slice_set, refl, sym, ap, ap₂, ◌∙◌, subst, arith, append-nil, append_assoc, true≢false, if◌then◌else◌}
 use Rattle.std.proofs.lemmas.Grind.{reverse_onto}
 use Rattle.std.proofs.Math.Dec.{eqb-zero-suc, eqb-suc-suc}
 use Rattle.std.proofs.lemmas.Bool.{eq-eqb, eqb-true, leb-true, lt-ltb}
@@ -30,7 +30,10 @@ use Rattle.wasm_machine.specs.Frames.{LabelForm, FrameForm, Local, constant_of, 
 use Rattle.wasm_machine.specs.Frames as form
 use Rattle.wasm_machine.specs.Stacks.{taken}
 use Rattle.wasm_machine.specs.Hosts.{Meaning}
-use Rattle.wasm_machine.specs.Runs.{TakenAs}
+use Rattle.wasm_machine.specs.Runs.{TakenAs, OverBy, told_end}
+use Rattle.wasm_machine.specs.declared.state.End.{End}
+use Rattle.wasm_machine.specs.declared.machine.MachineEnd.{MachineEnd}
+use Rattle.wasm_machine.specs.declared.machine.MachineEnd.TheVariants.{Returned}
 use Rattle.wasm_machine.specs.Machines.{Conf as RealConf, CallerForm, ProgramForm, Turn, Goes, Ends, Asks, with_frame, with_operands, turn, turn_by, called, asked, answered, returned_with, to_caller}
 use Rattle.awk_state.specs.Constants.{constant_at}
 use Rattle.awk_state.specs.Numbers.{number_of_word}
@@ -52,7 +55,7 @@ use Rattle.host_calls.specs.Imports.{import_at, import_type, import_arguments, i
 use Rattle.host_calls.specs.declared.import.Import.{Import}
 use Rattle.host_calls.specs.declared.import.Import.TheVariants.{Of, Over as ByList, Arg, Drop}
 use Rattle.wasm_machine.specs.declared.host.HostAnswer.{HostAnswer}
-use Rattle.wasm_machine.specs.declared.host.HostAnswer.TheVariants.{Done as DoneWith}
+use Rattle.wasm_machine.specs.declared.host.HostAnswer.TheVariants.{Done as DoneWith, Trap as TrapWith}
 use Rattle.host_calls.specs.HostStep.{PremiseOf, StepOf, host_meaning, with_output, Acts, acts, given_by, refuses, refused, acted, Answered}
 use Rattle.lowering.proofs.Pivot
 use Rattle.lowering.proofs.Pivot.{with_some, and_rest, Cell, Bits, Held, ArrayOf, IteratorOf, Host, Label, Locals, Conf, Run, Over, Stuck, upd, at, br, step}
@@ -364,6 +367,14 @@ abbrev AnswerAs : Names → Option (Option Cell × Host) → Option Word → Hos
 AnswerAs N None w s = Unit {0}
 AnswerAs N (Some a) w s = Grown N s.names × OntoAs s.names a.0 w × (s ≡ state_with s.names a.1)
 
+-- an answer is not another
+abbrev is_trap : HostAnswer → Bool
+is_trap (TrapWith kind) = true
+is_trap _ = false
+
+trap_not_done : (kind : TrapKind) (w : Option Word) → TrapWith kind ≡ DoneWith w → ⊥
+trap_not_done kind w e = true≢false (ap is_trap e)
+
 abbrev done_word : HostAnswer → Option Word
 done_word (DoneWith w) = w
 done_word _ = None
@@ -405,6 +416,30 @@ module _ (mem : List ℕ) where
       by (Some k) none = tt
       by None none = rows (Pivot.decode mem (import_arguments i) cs) (decode N mem (import_arguments i) ws) (decode_as mem N (import_arguments i) cs ws a) none
         (subst (λ b. Answered (cond b (Ok (refused i (state_with N h))) (acted q i ws mem (state_with N h))) (state_with N h) (DoneWith w) s o) (ap (refuses i) none ∙ not_refused i) e)
+
+  -- a call that traps is one that is not made over values
+  given_traps : (q : ℕ) (i : Import) (N : Names) (h : Host) (r : Result (Acts (InAnswer (import_answer i))) TrapKind) (kind : TrapKind) (s : HostState) (o : List Action) →
+    Answered (and_then r (λ d. Ok (given_by q (import_answer i) (state_with N h) d d.does.answer))) (state_with N h) (TrapWith kind) s o → Pivot.acted i h r ≡ None
+  given_traps q i N h (Err k) kind s o e = refl
+  given_traps q i N h (Ok d) kind s o e = absurd (trap_not_done kind _ e.0)
+
+  call_traps : (i : Import) (cs : List Cell) (ws : List Word) (q : ℕ) (N : Names) (h : Host) (kind : TrapKind) (s : HostState) (o : List Action) → StackAs N cs ws →
+    Answered (HostStep.step q i ws mem (state_with N h)) (state_with N h) (TrapWith kind) s o → Pivot.call mem i cs h ≡ None
+  call_traps i cs ws q N h kind s o a e = by h.fault refl
+    where
+      rows : (p : Option (Row (import_arguments i))) (r : Result (Row (import_arguments i)) TrapKind) → RowAs mem N p r →
+        Answered (and_then r (λ row. and_then (acts i row (state_with N h)) (λ d. Ok (given_by q (import_answer i) (state_with N h) d d.does.answer)))) (state_with N h) (TrapWith kind) s o →
+        with_some p (λ row. Pivot.acted i h (acts i row (Pivot.state_of h))) ≡ None
+      rows None r b x = refl
+      rows (Some row) (Err k) b x = absurd b
+      rows (Some row) (Ok row1) b x =
+          given_traps q i N h (acts i row (Pivot.state_of h)) kind s o
+            (subst (λ z. Answered (and_then z (λ d. Ok (given_by q (import_answer i) (state_with N h) d d.does.answer))) (state_with N h) (TrapWith kind) s o) (ap (λ z. acts i z (state_with N h)) b ∙ acts_same i row N h) x)
+
+      by : (k : Option Fault) → h.fault ≡ k → Pivot.unless_kept k (with_some (Pivot.decode mem (import_arguments i) cs) (λ row. Pivot.acted i h (acts i row (Pivot.state_of h)))) ≡ None
+      by (Some k) none = refl
+      by None none = rows (Pivot.decode mem (import_arguments i) cs) (decode N mem (import_arguments i) ws) (decode_as mem N (import_arguments i) cs ws a)
+        (subst (λ b. Answered (cond b (Ok (refused i (state_with N h))) (acted q i ws mem (state_with N h))) (state_with N h) (TrapWith kind) s o) (ap (refuses i) none ∙ not_refused i) e)
 
 -- Steps.
 
@@ -448,15 +483,28 @@ module _ (mem : List ℕ) (m : ProgramForm) (tells : Type 0) (t : tells)
   abbrev pub M : Meaning HostState Action
   M = host_meaning tells
 
-  -- what the rest of a run is told of the step before
-  abbrev NextAs : Conf → RealConf → HostState → List Action → Turn → Type 0
-  NextAs p c s out turn-is = (c1 : RealConf) (s1 : HostState) (o : List Action) → TakenAs M turn-is s c.memory o c1 s1 → As mem p c1 s1 (out ++ o)
+  -- What a step leads to, where the machine over values comes to p: the two are the same again. A step that ends the run is one that p does not
+  -- make, or that no typed module makes.
+  pub record NextAs (p : Conf) (c : RealConf) (s : HostState) (out : List Action) (turn-is : Turn) : Type 0 where
+    pub taken : (c1 : RealConf) (s1 : HostState) (o : List Action) → TakenAs M turn-is s c.memory o c1 s1 → As mem p c1 s1 (out ++ o)
+    pub over : (e : End) (s1 : HostState) (o : List Action) → OverBy M turn-is s c.memory o e s1 → (p ≡ Stuck) ⊎ (told_end e ≡ None)
 
   goes_as : (p : Conf) (c c2 : RealConf) (s : HostState) (out : List Action) → As mem p c2 s out → NextAs p c s out (Goes c2)
-  goes_as p c c2 s out a c1 s1 o e =
+  goes_as p c c2 s out a = record {
+    taken = λ c1 s1 o e.
       subst (λ z. As mem p z s1 (out ++ o)) (sym e.0)
         (subst (λ z. As mem p c2 z (out ++ o)) (sym e.1)
-          (subst (λ z. As mem p c2 s (out ++ z)) (sym e.2) (subst (λ z. As mem p c2 s z) (sym (append-nil out)) a)))
+          (subst (λ z. As mem p c2 s (out ++ z)) (sym e.2) (subst (λ z. As mem p c2 s z) (sym (append-nil out)) a)));
+    over = λ e s1 o r. absurd r;
+  }
+
+  -- where the machine over values is stuck nothing is promised
+  stuck_as : (c : RealConf) (s : HostState) (out : List Action) (turn-is : Turn) → NextAs Stuck c s out turn-is
+  stuck_as c s out turn-is = record { taken = λ c1 s1 o e. tt; over = λ e s1 o r. inl refl }
+
+  -- a typed module never gets there
+  untyped_as : (p : Conf) (c : RealConf) (s : HostState) (out : List Action) → NextAs p c s out (turn_by m c form.Stuck)
+  untyped_as p c s out = record { taken = λ c1 s1 o r. absurd r; over = λ e s1 o r. inr (ap told_end r.0) }
 
   -- another frame at work
   frame_as : (code : Instructions) (vs : List Cell) (K : List Label) (L : Locals) (h : Host) (c : RealConf) (f : FrameForm) (s : HostState) (out : List Action) → StackAs s.names vs f.values → f.code ≡ code → LabelsAs s.names K f.labels → LocalsAs s.names L f.locals →
@@ -471,6 +519,12 @@ module _ (mem : List ℕ) (m : ProgramForm) (tells : Type 0) (t : tells)
 
     abbrev N : Names
     N = s.names
+
+    stuck : (l : Local) → Next Stuck l
+    stuck l = stuck_as c s out (turn_by m c l)
+
+    untyped : (p : Conf) → Next p form.Stuck
+    untyped p = untyped_as p c s out
 
     on : (code : Instructions) (vs : List Cell) (K : List Label) (L : Locals) (f : FrameForm) → StackAs N vs f.values → f.code ≡ code → LabelsAs N K f.labels → LocalsAs N L f.locals → Next (at vs K L code h) (form.Goes f)
     on code vs K L f a e labels locals = frame_as code vs K L h c f s out a e labels locals host callers result memory
@@ -491,18 +545,16 @@ module _ (mem : List ℕ) (m : ProgramForm) (tells : Type 0) (t : tells)
           (on l.rest l.under K L (record f { values = r.under; labels = rs; code = r.rest }) a.under a.rest b locals)
 
     jump_as : (n : ℕ) (K : List Label) (rs : List LabelForm) (L : Locals) (f : FrameForm) → LabelsAs N K rs → LocalsAs N L f.locals → Next (br n K L h) (jump_on f n rs)
-    jump_as n [] rs L f a locals = λ c1 s1 o e. tt
+    jump_as n [] rs L f a locals = stuck (jump_on f n rs)
     jump_as n (l ∷ K) [] L f a locals = absurd a
     jump_as zero (l ∷ K) (r ∷ rs) L f a locals = subst (λ b. Next (br zero (l ∷ K) L h) (if b then form.Leaves f else branch_at f (r ∷ rs))) (sym (eqb-zero-suc (length rs))) (branch_as l r K rs L f a.0 a.1 locals)
     jump_as (suc n) (l ∷ K) (r ∷ rs) L f a locals = subst (λ b. Next (br n K L h) (if b then form.Leaves f else branch_at f (drop n rs))) (sym (eqb-suc-suc n (length rs))) (jump_as n K rs L f a.1 locals)
 
-    stuck : (l : Local) → Next Stuck l
-    stuck l c1 s1 o e = tt
 
     -- pushing, storing, choosing
     got_as : (o : Option Word) (v : Cell) (vs : List Cell) (K : List Label) (L : Locals) (k : Instructions) (f : FrameForm) → ((w : Word) → o ≡ Some w → WordAs N v w) → StackAs N vs f.values → f.code ≡ k → LabelsAs N K f.labels → LocalsAs N L f.locals →
       Next (at (v ∷ vs) K L k h) (pushed f f.values o)
-    got_as None v vs K L k f w a e b locals = λ c1 s1 o r. absurd r
+    got_as None v vs K L k f w a e b locals = untyped (at (v ∷ vs) K L k h)
     got_as (Some x) v vs K L k f w a e b locals = on k (v ∷ vs) K L (with_values f (x ∷ f.values)) (w x refl, a) e b locals
 
     set_local_as : (x : ℕ) (vs : List Cell) (ws : List Word) (K : List Label) (L : Locals) (k : Instructions) (f : FrameForm) → StackAs N vs ws → f.code ≡ k → LabelsAs N K f.labels → LocalsAs N L f.locals →
@@ -514,7 +566,7 @@ module _ (mem : List ℕ) (m : ProgramForm) (tells : Type 0) (t : tells)
       where
         by : (q : Bool) → Next (at vs K (upd L x v) k h) (if q then form.Goes (record f { values = ws; locals = slice_set f.locals x w }) else form.Stuck)
         by true = on k vs K (upd L x v) (record f { values = ws; locals = slice_set f.locals x w }) a.1 e b (set_as N L f.locals x v w locals a.0)
-        by false = λ c1 s1 o r. absurd r
+        by false = untyped (at vs K (upd L x v) k h)
 
     tee_local_as : (x : ℕ) (vs : List Cell) (K : List Label) (L : Locals) (k : Instructions) (f : FrameForm) (ws : List Word) → f.values ≡ ws → StackAs N vs ws → f.code ≡ k → LabelsAs N K f.labels → LocalsAs N L f.locals →
       Next (Pivot.tee_local x vs K L k h) (form.local_tee f x ws)
@@ -525,7 +577,7 @@ module _ (mem : List ℕ) (m : ProgramForm) (tells : Type 0) (t : tells)
       where
         by : (g : Bool) → Next (at (v ∷ vs) K (upd L x v) k h) (if g then form.Goes (record f { locals = slice_set f.locals x w }) else form.Stuck)
         by true = on k (v ∷ vs) K (upd L x v) (record f { locals = slice_set f.locals x w }) (subst (StackAs N (v ∷ vs)) (sym q) a) e b (set_as N L f.locals x v w locals a.0)
-        by false = λ c1 s1 o r. absurd r
+        by false = untyped (at (v ∷ vs) K (upd L x v) k h)
 
     br_if_as : (n : ℕ) (vs : List Cell) (ws : List Word) (K : List Label) (L : Locals) (k : Instructions) (f : FrameForm) → StackAs N vs ws → f.code ≡ k → LabelsAs N K f.labels → LocalsAs N L f.locals →
       Next (Pivot.br_if n vs K L k h) (form.branch_if f n ws)
@@ -707,18 +759,35 @@ module _ (mem : List ℕ) (m : ProgramForm) (tells : Type 0) (t : tells)
             subst (λ z. As mem (at (Pivot.onto r.0 (drop w vs)) K L k r.1) z s1 (out ++ o)) (sym q)
               (onto_as r.0 u r.1 (drop w vs) (drop w f.values) K L k f (record after { memory = c1.memory }) s1 (out ++ o) x.0 x.1 x.2 refl callers result (ap (λ (y : MemoryForm). y.bytes) me ∙ memory) (stack_drop N w vs f.values a) e labels locals)
 
+        trap_as : (r : Option (Option Cell × Host)) → r ≡ None → Pivot.with_answer r (drop w vs) K L k ≡ Stuck
+        trap_as r e = ap (λ z. Pivot.with_answer z (drop w vs) K L k) e
+
         within : (b : Bool) → NextAs (Pivot.ask mem (Some i) vs K L k h) c s out (if b then turn_by m c form.Stuck else Asks n args after)
-        within true = λ c1 s1 o r. absurd r
-        within false = λ c1 s1 o r.
-            let u = r.0 in
-            let called-is = r.1.1 in
-            let st = called-is.step (premise tells (import_at n) t) out in
-            let st1 = subst (λ (z : Option Import). StepOf z (with_output out s) args c.memory.bytes (DoneWith u) (with_output (out ++ o) s1) o) at-n st in
-            answer_as (Pivot.call mem i cells h) c1 s1 o u
-              (call_as mem i cells args st1.0 N h u (with_output (out ++ o) s1) o args_as st1.1
-                (subst (λ (b : List ℕ). Answered (HostStep.step st1.0 i args b (state_with N h)) (state_with N h) (DoneWith u) (with_output (out ++ o) s1) o) memory
-                  (subst (λ (z : HostState). Answered (HostStep.step st1.0 i args c.memory.bytes z) z (DoneWith u) (with_output (out ++ o) s1) o) host st1.2)))
-              r.2 r.1.0
+        within true = untyped_as (Pivot.ask mem (Some i) vs K L k h) c s out
+        within false = record { taken = taken; over = over }
+          where
+            taken : (c1 : RealConf) (s1 : HostState) (o : List Action) → TakenAs M (Asks n args after) s c.memory o c1 s1 → As mem (Pivot.ask mem (Some i) vs K L k h) c1 s1 (out ++ o)
+            taken c1 s1 o r =
+                let u = r.0 in
+                let called-is = r.1.1 in
+                let st = called-is.step (premise tells (import_at n) t) out in
+                let st1 = subst (λ (z : Option Import). StepOf z (with_output out s) args c.memory.bytes (DoneWith u) (with_output (out ++ o) s1) o) at-n st in
+                answer_as (Pivot.call mem i cells h) c1 s1 o u
+                  (call_as mem i cells args st1.0 N h u (with_output (out ++ o) s1) o args_as st1.1
+                    (subst (λ (b : List ℕ). Answered (HostStep.step st1.0 i args b (state_with N h)) (state_with N h) (DoneWith u) (with_output (out ++ o) s1) o) memory
+                      (subst (λ (z : HostState). Answered (HostStep.step st1.0 i args c.memory.bytes z) z (DoneWith u) (with_output (out ++ o) s1) o) host st1.2)))
+                  r.2 r.1.0
+
+            over : (e : End) (s1 : HostState) (o : List Action) → OverBy M (Asks n args after) s c.memory o e s1 → (Pivot.ask mem (Some i) vs K L k h ≡ Stuck) ⊎ (told_end e ≡ None)
+            over e s1 o r =
+                let kind = r.0 in
+                let called-is = r.3.1 in
+                let st = called-is.step (premise tells (import_at n) t) out in
+                let st1 = subst (λ (z : Option Import). StepOf z (with_output out s) args c.memory.bytes (TrapWith kind) (with_output (out ++ o) s1) o) at-n st in
+                inl (trap_as (Pivot.call mem i cells h)
+                  (call_traps mem i cells args st1.0 N h kind (with_output (out ++ o) s1) o args_as
+                    (subst (λ (b : List ℕ). Answered (HostStep.step st1.0 i args b (state_with N h)) (state_with N h) (TrapWith kind) (with_output (out ++ o) s1) o) memory
+                      (subst (λ (z : HostState). Answered (HostStep.step st1.0 i args c.memory.bytes z) z (TrapWith kind) (with_output (out ++ o) s1) o) host st1.2))))
 
     act_as : (p : Simple) (vs : List Cell) (K : List Label) (L : Locals) (k : Instructions) (f : FrameForm) → StackAs N vs f.values → f.code ≡ k → LabelsAs N K f.labels → LocalsAs N L f.locals →
       Next (Pivot.act mem p vs K L k h) (form.simple f p)
@@ -730,7 +799,7 @@ module _ (mem : List ℕ) (m : ProgramForm) (tells : Type 0) (t : tells)
     act_as (simple.Call n) vs K L k f a e b locals = by (import_at n) refl
       where
         by : (o : Option Import) → import_at n ≡ o → NextAs (Pivot.ask mem o vs K L k h) c s out (called m n (with_frame c f))
-        by None q = λ c1 s1 o r. tt
+        by None q = stuck_as c s out (called m n (with_frame c f))
         by (Some i) q = subst (λ (z : Turn). NextAs (Pivot.ask mem (Some i) vs K L k h) c s out z) (sym (imported n i (with_frame c f) q)) (import_as n i vs K L k f q a e b locals)
     act_as (simple.Test t1 op) vs K L k f a e b locals = tested_as t1 op vs f.values K L k f a e b locals
     act_as (simple.Compare t1 op) vs K L k f a e b locals = compared_as t1 op vs f.values K L k f a e b locals
@@ -766,7 +835,7 @@ module _ (mem : List ℕ) (m : ProgramForm) (tells : Type 0) (t : tells)
     -- a function is left, to the frame that called it
     returned_as : (r : Option ValType) (vs : List Cell) (ws : List Word) (c2 : RealConf) → r ≡ Some ty.I32 → c2.callers ≡ entry ∷ [] → StackAs N vs ws → NextAs (Over vs h) c s out (returned_with c2 r ws)
     returned_as None vs ws c2 e q a = absurd (none-some ty.I32 e)
-    returned_as (Some g) [] [] c2 e q a = λ c1 s1 o x. absurd x
+    returned_as (Some g) [] [] c2 e q a = untyped_as (Over [] h) c s out
     returned_as (Some g) [] (w ∷ ws) c2 e q a = absurd a
     returned_as (Some g) (v ∷ vs) [] c2 e q a = absurd a
     returned_as (Some g) (v ∷ vs) (w ∷ ws) c2 e q a =
@@ -785,20 +854,30 @@ module _ (mem : List ℕ) (m : ProgramForm) (tells : Type 0) (t : tells)
     run_as Done vs K L f a b locals = leave_as vs K f.labels L f a b locals
     run_as (Then i k) vs K L f a b locals = work_as i vs K L k (record f { code = k }) a refl b locals
 
-  -- the entry frame ends, and with it the run
-  over-ends : (c : RealConf) (s : HostState) (out : List Action) (v : Cell) (h : Host) → LeftAs mem v h c s out → (c1 : RealConf) (s1 : HostState) (o : List Action) → TakenAs M (turn m c) s c.memory o c1 s1 → ⊥
-  over-ends c s out v h a c1 s1 o e =
-      subst (λ (q : List CallerForm). TakenAs M (to_caller c (a.word ∷ []) (Some a.word) q) s c.memory o c1 s1) a.callers
-        (subst (λ (q : Option ValType). TakenAs M (returned_with c q (a.word ∷ [])) s c.memory o c1 s1) a.result
-          (subst (λ (f : FrameForm). TakenAs M (turn_by m c (form.local_step f)) s c.memory o c1 s1) a.frame e))
+  -- what is told of a run that returned this word
+  abbrev pub told_word : Word → Option MachineEnd
+  told_word (I32 n) = Some (Returned (cast_signed w32 n))
+  told_word (I64 n) = None
+
+  -- the entry frame ends, and with it the run: with the word that `main` gave
+  left_turn : (c : RealConf) (s : HostState) (out : List Action) (v : Cell) (h : Host) (a : LeftAs mem v h c s out) → turn m c ≡ to_caller c (a.word ∷ []) (Some a.word) []
+  left_turn c s out v h a =
+      ap (λ (f : FrameForm). turn_by m c (form.local_step f)) a.frame
+      ∙ (ap (λ (q : Option ValType). returned_with (with_frame c (record { values = a.word ∷ []; labels = []; locals = []; code = Done })) q (a.word ∷ [])) a.result
+      ∙ ap (λ (q : List CallerForm). to_caller c (a.word ∷ []) (Some a.word) q) a.callers)
+
+  pub not_taken : (c : RealConf) (s : HostState) (out : List Action) (v : Cell) (h : Host) → LeftAs mem v h c s out → (c1 : RealConf) (s1 : HostState) (o : List Action) → TakenAs M (turn m c) s c.memory o c1 s1 → ⊥
+  not_taken c s out v h a c1 s1 o e = subst (λ (z : Turn). TakenAs M z s c.memory o c1 s1) (left_turn c s out v h a) e
+
+  pub over_word : (c : RealConf) (s : HostState) (out : List Action) (v : Cell) (h : Host) (a : LeftAs mem v h c s out) (e : End) (s1 : HostState) (o : List Action) → OverBy M (turn m c) s c.memory o e s1 → (told_end e ≡ told_word a.word) × (s1 ≡ s) × (o ≡ [])
+  over_word c s out v h a e s1 o r =
+      let x = subst (λ (z : Turn). OverBy M z s c.memory o e s1) (left_turn c s out v h a) r in
+      (ap told_end x.0, x.1, x.2)
 
   -- ONE STEP: whatever the host answers, and whatever numbers it gives, the two are the same afterwards
-  pub step_as : (p : Conf) (c : RealConf) (s : HostState) (out : List Action) → As mem p c s out → NextAs (step mem p) c s out (turn m c)
-  step_as (Run vs K L code h) c s out a =
+  pub step_as : (vs : List Cell) (K : List Label) (L : Locals) (code : Instructions) (h : Host) (c : RealConf) (s : HostState) (out : List Action) → As mem (Run vs K L code h) c s out → NextAs (step mem (Run vs K L code h)) c s out (turn m c)
+  step_as vs K L code h c s out a =
       let r = a.1 in
       let f = settled c.frame in
       subst (λ (z : Instructions). NextAs (Pivot.run mem vs K L code h) c s out (turn_by m c (form.next_at f z))) (sym a.0.1)
         (run_as c s out h r.host r.callers r.result r.memory code vs K L f a.0.0 r.labels r.locals)
-  step_as (Over [] h) c s out a = absurd a
-  step_as (Over (v ∷ vs) h) c s out a = λ c1 s1 o e. absurd (over-ends c s out v h a c1 s1 o e)
-  step_as Stuck c s out a = λ c1 s1 o e. tt
