@@ -1,3 +1,6 @@
 mod ImportLemmas
 mod WordLemmas
 mod OutputLemmas
+mod HostLemmas
+mod TypedAnswers
+mod PrimitiveSteps
