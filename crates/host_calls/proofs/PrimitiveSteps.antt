@@ -29,7 +29,7 @@ use Rattle.wasm_store.specs.declared.word.Word.{Word}
 use Rattle.world_core.specs.WorldState.{Action}
 use Rattle.host_calls.specs.HostState.{FreeFor, HostState, IsFree, Names, and_then, constant_front, decode, no_more, number_front, place_front, refusal, value_front}
 use Rattle.host_calls.specs.HostStep.{Acts, Answered, Called, Given, StepOf, Wanted, acted, given_by, refuses, refused, step, with_output}
-use Rattle.host_calls.specs.Replies.{ends, ends_then, evaluation, front_then, number_reply, outcome_reply, plain_number, trapping, truth_reply, value_reply}
+use Rattle.host_calls.specs.Replies.{ends_then, evaluation, front_then, number_reply, outcome_reply, plain_number, truth_reply, value_reply}
 use Rattle.host_calls.specs.Calls.{Gives, MeansSome, encode_reply}
 use Rattle.host_calls.specs.declared.import.Import.TheVariants.{Of}
 use Rattle.host_calls.specs.declared.reply.Reply.{Reply}
@@ -84,18 +84,18 @@ behind (Err k) x f = refl
 -- one argument, and then the others
 more : (q : ℕ) (a : Answer) (s : HostState) {A R : Type 0} (r : Result (A × List Word) TrapKind) (d : List Word → Result R TrapKind) (f : A × R → Result Given TrapKind) (g : A → List Word → Result Reply Refusal) →
     ((x : A) (rest : List Word) → and_then (d rest) (λ row. f (x, row)) ≡ as_given q a s (g x rest)) →
-    and_then (and_then r (λ x. and_then (d x.1) (λ row. Ok (x.0, row)))) f ≡ as_given q a s (front_then (trapping r) g)
+    and_then (and_then r (λ x. and_then (d x.1) (λ row. Ok (x.0, row)))) f ≡ as_given q a s (front_then r g)
 more q a s (Ok x) d f g h = behind (d x.1) x.0 f ∙ h x.0 x.1
 more q a s (Err k) d f g h = refl
 
 more_number : (q : ℕ) (a : Answer) (s : HostState) {R : Type 0} (r : Result (Number × List Word) TrapKind) (d : List Word → Result R TrapKind) (f : Number × R → Result Given TrapKind) (g : ℤ → List Word → Result Reply Refusal) →
     ((x : Number) (rest : List Word) → and_then (d rest) (λ row. f (x, row)) ≡ as_given q a s (g x.number rest)) →
-    and_then (and_then r (λ x. and_then (d x.1) (λ row. Ok (x.0, row)))) f ≡ as_given q a s (front_then (trapping (plain_number r)) g)
+    and_then (and_then r (λ x. and_then (d x.1) (λ row. Ok (x.0, row)))) f ≡ as_given q a s (front_then (plain_number r) g)
 more_number q a s (Ok x) d f g h = behind (d x.1) x.0 f ∙ h x.0 x.1
 more_number q a s (Err k) d f g h = refl
 
 -- no other argument
-stop : (q : ℕ) (a : Answer) (s : HostState) (words : List Word) (f : Unit {0} → Result Given TrapKind) (r : Result Reply Refusal) → f tt ≡ as_given q a s r → and_then (no_more words) f ≡ as_given q a s (ends_then (ends words) r)
+stop : (q : ℕ) (a : Answer) (s : HostState) (words : List Word) (f : Unit {0} → Result Given TrapKind) (r : Result Reply Refusal) → f tt ≡ as_given q a s r → and_then (no_more words) f ≡ as_given q a s (ends_then (no_more words) r)
 stop q a s [] f r h = h
 stop q a s (w ∷ rest) f r h = refl
 

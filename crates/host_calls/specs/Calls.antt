@@ -1,24 +1,25 @@
 -- What the parts of a call do to the state of a host.
 use Rattle.std.specs.Prelude.{ℕ, ◌≡◌, ℤ, List, [], nat_le, Option, Some, None, Result, Ok, Err, if◌then◌else◌}
 use Rattle.std.specs.Int.{w64, cast_unsigned}
+use Rattle.std.specs.Borrow.{Bor}
+use Rattle.std.specs.Ordering.{int_cmp}
+use Rattle.std.specs.FinMap.{FinMap}
+use Rattle.awk_values.specs.declared.value.Value.{Value as AnyValue}
+use Rattle.wasm_store.specs.declared.trap.TrapKind.{TrapKind}
 use Rattle.awk_state.specs.Constants.{flag_number}
 use Rattle.awk_state.specs.declared.constants.Destination.{Destination}
 use Rattle.awk_state.specs.declared.constants.Destination.TheVariants.{Standard, Emptied, Appended}
 use Rattle.awk_state.specs.declared.sorts.Constant.TheVariants as constant
 use Rattle.wasm_machine.specs.declared.host.HostAnswer.{HostAnswer}
 use Rattle.wasm_machine.specs.declared.host.HostAnswer.TheVariants.{Done, Trap, NoMemory}
-use Rattle.wasm_store.specs.declared.trap.TrapKind.TheVariants.{BadArgument}
 use Rattle.wasm_store.specs.declared.word.Word.{Word}
 use Rattle.wasm_store.specs.declared.word.Word.TheVariants.{I32, I64}
 use Rattle.world_core.specs.WorldState.{Action}
-use Rattle.host_calls.specs.HostState.{HostState, IsFree, Names, constant_front, with_value}
+use Rattle.host_calls.specs.HostState.{HostState, IsFree, Names, and_then, constant_front, no_more, value_front, with_value}
 use Rattle.host_calls.specs.HostStep.{Means}
-use Rattle.host_calls.specs.Replies.{ends, trapping}
 use Rattle.host_calls.specs.declared.import.Import.{Import}
 use Rattle.host_calls.specs.declared.reply.Reply.{Reply}
 use Rattle.host_calls.specs.declared.reply.Reply.TheVariants as reply
-use Rattle.host_calls.specs.declared.reply.Refusal.{Refusal}
-use Rattle.host_calls.specs.declared.reply.Refusal.TheVariants as refusal
 
 -- a call of an import, with some output
 abbrev pub MeansSome : (tells : Type 0) → Import → HostState → List Word → List ℕ → HostAnswer → HostState → Type 0
@@ -36,20 +37,31 @@ Gives r before (Done w) after-call = (q : ℕ) × IsFree before.names.values q �
 Gives r before (Trap k) after-call = ⊥
 Gives r before NoMemory after-call = after-call ≡ before
 
--- how many values are printed, of those that are there
-abbrev pub standard_count : ℕ → ℕ → Destination → Result ℕ Refusal
-standard_count available count Standard = if nat_le count available then Ok count else Err (refusal.Trap BadArgument)
-standard_count available count Emptied = Err (refusal.Trap BadArgument)
-standard_count available count Appended = Err (refusal.Trap BadArgument)
+-- how many values are printed, of those that are there; none where the arguments do not fit
+abbrev pub standard_count : ℕ → ℕ → Destination → Option ℕ
+standard_count available count Standard = if nat_le count available then Some count else None
+standard_count available count Emptied = None
+standard_count available count Appended = None
 
-abbrev pub counted : {A : Type 0} → Result (A × List Word) Refusal → (A → List Word → Result ℕ Refusal) → Result ℕ Refusal
+abbrev pub counted : {A : Type 0} → Result (A × List Word) TrapKind → (A → List Word → Option ℕ) → Option ℕ
 counted (Ok x) f = f x.0 x.1
-counted (Err r) f = Err r
+counted (Err k) f = None
 
-abbrev pub count_at_end : Result (Unit {0}) Refusal → Result ℕ Refusal → Result ℕ Refusal
-count_at_end (Ok u) r = r
-count_at_end (Err e) r = Err e
+abbrev pub count_at_end : Result (Unit {0}) TrapKind → Option ℕ → Option ℕ
+count_at_end (Ok u) n = n
+count_at_end (Err k) n = None
 
-abbrev pub print_count : List Word → ℕ → Result ℕ Refusal
-print_count words available =
-    counted (trapping (constant_front constant.Count words)) (λ count behind. counted (trapping (constant_front constant.Destination behind)) (λ destination rest. count_at_end (ends rest) (standard_count available count destination)))
+abbrev pub print_count : List Word → ℕ → Option ℕ
+print_count words available = counted (constant_front constant.Count words) (λ count behind. counted (constant_front constant.Destination behind) (λ destination rest. count_at_end (no_more rest) (standard_count available count destination)))
+
+-- the one value that words name
+abbrev pub value_at_end : Result (AnyValue × List Word) TrapKind → Result AnyValue TrapKind
+value_at_end (Ok x) = and_then (no_more x.1) (λ u. Ok x.0)
+value_at_end (Err k) = Err k
+
+abbrev pub only_value : FinMap int_cmp AnyValue → List Word → Result AnyValue TrapKind
+only_value values words = value_at_end (value_front values words)
+
+abbrev pub lent_value : Result (Bor AnyValue) TrapKind → Result AnyValue TrapKind
+lent_value (Ok v) = Ok v.now
+lent_value (Err k) = Err k

@@ -2,7 +2,8 @@
 ghost use Rattle.std.specs.Prelude.{◌≡◌, [], ◌++◌, ◌-◌, ◌≤◌, None, Some, IfOk, drop, length};
 ghost use Rattle.awk_state.specs.OutputRows.{printed};
 ghost use Rattle.awk_state.specs.declared.table.Listed.{Listed};
-ghost use Rattle.host_calls.specs.Calls.{Gives, MeansSome, print_count};
+ghost use Rattle.host_calls.specs.Calls.{Gives, MeansSome, lent_value, only_value, print_count};
+ghost use Rattle.host_calls.specs.HostStep.{last_of};
 ghost use Rattle.host_calls.specs.HostState.{refusal};
 ghost use Rattle.host_calls.specs.Hosts.{host_state, inner_of, specials_of};
 ghost use Rattle.host_calls.specs.declared.import.Import.{Import};
@@ -13,9 +14,11 @@ use crate::host::Host;
 use crate::import::Import;
 use crate::output::{printed, put_text};
 use crate::reply::{Refusal, Reply};
+use crate::specials::Specials;
 use crate::words::{count_front, destination_front, ends, value_front};
 use awk_state::{Answer, Destination, Listed, Primitive, Sort, Special};
 use awk_values::{Fault, Value};
+use host_handles::Handles;
 use std::alloc::{AllocError, Global};
 use wasm_machine::{HostAnswer, HostCalls};
 use wasm_store::{Memory, TrapKind, Word};
@@ -36,19 +39,47 @@ fn refusal(answer: Answer) -> Option<Word>
     }
 }
 
-/// How many values are printed, of those that are there.
-fn print_count(words: &[Word], available: usize) -> Result<usize, Refusal>
+/// How many values are printed, of those that are there; none where the arguments do not fit.
+fn print_count(words: &[Word], available: usize) -> Option<usize>
     ensures { result ≡ print_count words.now available }
 {
-    let (count, behind) = count_front(words)?;
-    let (destination, rest) = destination_front(behind)?;
-    ends(rest)?;
+    let (count, behind) = count_front(words).ok()?;
+    let (destination, rest) = destination_front(behind).ok()?;
+    ends(rest).ok()?;
     let count = count as usize;
     if destination == Destination::Standard && count <= available {
-        Ok(count)
+        Some(count)
     } else {
-        Err(Refusal::Trap(TrapKind::BadArgument))
+        None
     }
+}
+
+/// The one value that words name.
+fn only_value<'a>(handles: &'a Handles, words: &[Word]) -> Result<&'a Value, TrapKind>
+    ensures { lent_value result ≡ only_value handles.now words.now }
+{
+    let (value, rest) = value_front(handles, words)?;
+    ends(rest)?;
+    Ok(value)
+}
+
+/// What is printed of the last values of the argument list.
+fn printed_text(
+    alloc: Global,
+    specials: &Specials,
+    arguments: &[Value],
+    count: usize,
+) -> Result<Vec<u8>, AllocError>
+    requires { count ≤ length arguments.now }
+    ensures { IfOk result (λ text. text.items ≡ printed (inner_of (specials_of specials.now)) (last_of count arguments.now)) }
+{
+    let values = &arguments[arguments.len() - count..];
+    printed(
+        alloc,
+        specials.get(Special::Ofs),
+        specials.get(Special::Ors),
+        values,
+    )
 }
 
 impl<W: World> Host<W> {
