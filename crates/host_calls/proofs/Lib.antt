@@ -4,3 +4,6 @@ mod OutputLemmas
 mod HostLemmas
 mod TypedAnswers
 mod PrimitiveSteps
+mod ListSteps
+mod PrintSteps
+mod AnswerSteps

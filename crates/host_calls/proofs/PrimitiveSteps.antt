@@ -109,21 +109,21 @@ acted_evaluation IntOf q words memory s = more q (answer_of IntOf) s (value_fron
 acted_evaluation Truth q words memory s = more q (answer_of Truth) s (value_front s.names.values words) no_more _ _ (λ v rest. stop q (answer_of Truth) s rest _ _ (done_leaf _ _ s))
 acted_evaluation Compare q words memory s =
     more q (answer_of Compare) s (constant_front constant.Comparison words) (decode s.names memory (argument.Of sort.Value ∷ argument.Of sort.Value ∷ [])) _ _ (λ op behind_op.
-        more q (answer_of Compare) s (value_front s.names.values behind_op) (decode s.names memory (argument.Of sort.Value ∷ [])) _ _ (λ left behind_left.
-            more q (answer_of Compare) s (value_front s.names.values behind_left) no_more _ _ (λ right rest. stop q (answer_of Compare) s rest _ _ (truth_leaf q s (comparison left right op)))))
+    more q (answer_of Compare) s (value_front s.names.values behind_op) (decode s.names memory (argument.Of sort.Value ∷ [])) _ _ (λ left behind_left.
+    more q (answer_of Compare) s (value_front s.names.values behind_left) no_more _ _ (λ right rest. stop q (answer_of Compare) s rest _ _ (truth_leaf q s (comparison left right op)))))
 acted_evaluation Concat q words memory s =
     more q (answer_of Concat) s (value_front s.names.values words) (decode s.names memory (argument.Of sort.Value ∷ [])) _ _ (λ left behind_left.
-        more q (answer_of Concat) s (value_front s.names.values behind_left) no_more _ _ (λ right rest. stop q (answer_of Concat) s rest _ _ (value_leaf q s (within_limit (text_of_value left ++ text_of_value right)))))
+    more q (answer_of Concat) s (value_front s.names.values behind_left) no_more _ _ (λ right rest. stop q (answer_of Concat) s rest _ _ (value_leaf q s (within_limit (text_of_value left ++ text_of_value right)))))
 acted_evaluation Pow q words memory s =
     more_number q (answer_of Pow) s (number_front words) (decode s.names memory (argument.Of sort.Number ∷ [])) _ _ (λ base behind_base.
-        more_number q (answer_of Pow) s (number_front behind_base) no_more _ _ (λ exponent rest. stop q (answer_of Pow) s rest _ _ (number_leaf q s (power base.number exponent.number))))
+    more_number q (answer_of Pow) s (number_front behind_base) no_more _ _ (λ exponent rest. stop q (answer_of Pow) s rest _ _ (number_leaf q s (power base.number exponent.number))))
 acted_evaluation Fail q words memory s = more q (answer_of Fail) s (constant_front constant.Fault words) no_more _ _ (λ f rest. stop q (answer_of Fail) s rest _ _ (fault_leaf q answer.Nothing s f))
 
 step_evaluation : (p : Primitive) (q : ℕ) (words : List Word) (memory : List ℕ) (s : HostState) → s.fault ≡ None → step q (Of p) words memory s ≡ as_given q (answer_of p) s (evaluation p s.names.values memory words)
 step_evaluation p q words memory s none = ap (λ f. cond (refuses (Of p) f) (Ok (refused (Of p) s)) (acted q (Of p) words memory s)) none ∙ acted_evaluation p q words memory s
 
 -- a number that is free is free for whatever is answered
-free_for : (p : Primitive) (names : Names) (q : ℕ) → IsFree names.values q → FreeFor names (answer_of p) q
+pub free_for : (p : Primitive) (names : Names) (q : ℕ) → IsFree names.values q → FreeFor names (answer_of p) q
 free_for Num names q free = free
 free_for Lit names q free = free
 free_for Uninit names q free = free
@@ -164,6 +164,7 @@ pub primitive_called : (tells : Type 0) (p : Primitive) (s : HostState) (words :
 primitive_called tells p s words memory q free none r e = called_always tells (Of p) s (state_after q s r) words memory (answer_to q (answer_of p) s r) [] steps where
   is : (so_far : List Action) → step q (Of p) words memory (with_output so_far s) ≡ as_given q (answer_of p) (with_output so_far s) r
   is so_far = step_evaluation p q words memory (with_output so_far s) none ∙ ap (as_given q (answer_of p) (with_output so_far s)) (sym e)
+
   steps : (so_far : List Action) → StepOf (Some (Of p)) (with_output so_far s) words memory (answer_to q (answer_of p) s r) (with_output (so_far ++ []) (state_after q s r)) []
   steps so_far = (q, free_for p s.names q free, subst (λ (x : Result Given TrapKind). Answered x (with_output so_far s) (answer_to q (answer_of p) s r) (with_output (so_far ++ []) (state_after q s r)) []) (sym (is so_far)) (answered_as q (answer_of p) s so_far r))
 
@@ -173,7 +174,7 @@ answer_is_given q a s (Err (why.Fault f)) = λ e. cc
 answer_is_given q a s (Err (why.Trap k)) = λ e. cc
 answer_is_given q a s (Err why.NoMemory) = λ e. cc
 
-spare_free : (names : Names) → map.get names.values (pos 2147483647) ≡ None → IsFree names.values 2147483647
+pub spare_free : (names : Names) → map.get names.values (pos 2147483647) ≡ None → IsFree names.values 2147483647
 spare_free names spare = record { below = omega arith; free = spare }
 
 pub memory_means : (tells : Type 0) (p : Primitive) (s s' : HostState) (words : List Word) (memory : List ℕ) → s.fault ≡ None → map.get s.names.values (pos 2147483647) ≡ None → s' ≡ s → MeansSome tells (Of p) s words memory told.NoMemory s'
@@ -192,8 +193,11 @@ memory_means tells p s s' words memory none spare same =
 
 pub given_means : (tells : Type 0) (p : Primitive) (s s' : HostState) (words : List Word) (memory : List ℕ) (r : Reply) (a : HostAnswer) → s.fault ≡ None → map.get s.names.values (pos 2147483647) ≡ None → Ok r ≡ evaluation p s.names.values memory words → Gives r s a s' →
     MeansSome tells (Of p) s words memory a s'
-given_means tells p s s' words memory r (told.Done w) none spare e k = ([], subst (λ (x : Option Word). Called tells (Some (Of p)) s words memory (told.Done x) s' []) (sym k.2)
-    (subst (λ (x : HostState). Called tells (Some (Of p)) s words memory (told.Done (encode_reply k.0 s.names r).0) x []) (sym k.3) (primitive_called tells p s words memory k.0 k.1 none (Ok r) e)))
+given_means tells p s s' words memory r (told.Done w) none spare e k = (
+  [],
+  subst (λ (x : Option Word). Called tells (Some (Of p)) s words memory (told.Done x) s' []) (sym k.2)
+      (subst (λ (x : HostState). Called tells (Some (Of p)) s words memory (told.Done (encode_reply k.0 s.names r).0) x []) (sym k.3) (primitive_called tells p s words memory k.0 k.1 none (Ok r) e)),
+)
 given_means tells p s s' words memory r (told.Trap kind) none spare e k = absurd k
 given_means tells p s s' words memory r told.NoMemory none spare e k = memory_means tells p s s' words memory none spare k
 

@@ -6,7 +6,6 @@ mod evaluate;
 mod host;
 mod import;
 mod job;
-pub mod laws;
 mod links;
 mod output;
 mod reply;

@@ -86,11 +86,7 @@ fn destination_at(number: u32) -> Option<Destination>
 pub(crate) fn ends(words: &[Word]) -> Result<(), TrapKind>
     ensures { result ≡ no_more words.now }
 {
-    if words.is_empty() {
-        Ok(())
-    } else {
-        Err(UNFIT)
-    }
+    if words.is_empty() { Ok(()) } else { Err(UNFIT) }
 }
 
 /// The value under a handle.
