@@ -11,6 +11,8 @@ mod output;
 mod reply;
 mod specials;
 mod start;
+#[cfg(test)]
+mod tests;
 mod words;
 
 pub use host::Host;
