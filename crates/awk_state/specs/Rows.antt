@@ -1,11 +1,14 @@
 -- Each primitive on small arguments, computed.
-use Rattle.std.specs.Prelude.{◌≡◌, ◌++◌, [], ◌∷◌, codes, true, Some, None, Option, Result, Ok, Err, ℕ, pos, neg_ℤ, refl}
+use Rattle.std.specs.Prelude.{◌≡◌, ◌^◌, ◌++◌, length, nat_le, if◌then◌else◌, [], ◌∷◌, codes, true, Some, None, Option, Result, Ok, Err, ℕ, pos, neg_ℤ, refl}
 use Rattle.awk_text.specs.Reading.{numeral_at, sign_at, fraction_at, exponent_at}
 use Rattle.awk_text.specs.Number.{numerator, denominator}
 use Rattle.awk_values.specs.Operators.{Outcome}
 use Rattle.awk_values.specs.declared.comparison.CompareOp.TheVariants.{Less}
 use Rattle.awk_values.specs.declared.fault.Fault.{Fault}
-use Rattle.awk_values.specs.declared.fault.Fault.TheVariants.{DivisionByZero, Fraction, NextOutside, Range, WriteFailed}
+use Rattle.awk_values.specs.declared.fault.Fault.TheVariants.{DivisionByZero, Fraction, NextOutside, Range, TextLimit, WriteFailed}
+use Rattle.std.proofs.Common.{ap}
+use Rattle.awk_values.specs.Values.{text_of_value}
+use Rattle.awk_values.specs.declared.value.Value.{Value}
 use Rattle.awk_values.specs.declared.value.Value.TheVariants as value
 use Rattle.world_core.specs.WorldState.{Standard, absent, puts, replaced}
 use Rattle.awk_state.specs.Numbers.{Number}
@@ -71,6 +74,13 @@ compare_row = refl
 
 pub concat_row : (meaning Concat (value.Text (codes "a"), (value.StrNum (codes "-1"), tt)) (at_start None)).answer ≡ Ok (value.Text (codes "a-1"))
 concat_row = refl
+
+-- a text of 67,108,864 bytes is within the limit, and one byte more is not
+pub concat_at_limit : (left right : Value) → length (text_of_value left ++ text_of_value right) ≡ 67108864 → (meaning Concat (left, (right, tt)) (at_start None)).answer ≡ Ok (value.Text (text_of_value left ++ text_of_value right))
+concat_at_limit left right long = ap (λ n. if nat_le n (2 ^ 26) then Ok (value.Text (text_of_value left ++ text_of_value right)) else Err TextLimit) long
+
+pub concat_past_limit : (left right : Value) → length (text_of_value left ++ text_of_value right) ≡ 67108865 → (meaning Concat (left, (right, tt)) (at_start None)).answer ≡ Err TextLimit
+concat_past_limit left right long = ap (λ n. if nat_le n (2 ^ 26) then Ok (value.Text (text_of_value left ++ text_of_value right)) else Err TextLimit) long
 
 pub power_row : plain (meaning Pow (minus_three, (two, tt)) (at_start None)).answer ≡ Ok (pos 9)
 power_row = refl

@@ -1,3 +1,9 @@
 mod ImportLemmas
 mod WordLemmas
 mod OutputLemmas
+mod HostLemmas
+mod TypedAnswers
+mod PrimitiveSteps
+mod ListSteps
+mod PrintSteps
+mod AnswerSteps

@@ -111,17 +111,17 @@ filled None at h e = cc
 filled (Some r) at h e = ap (λ n. Some n) (let k : r - at ≡ 0 = ap (λ (o : Option ℕ). unwrap_or o 0) e in let q : r ≡ at = omega arith in q)
 
 -- a write that fails
-pub put_fails : (at : ℕ) (text : List ℕ) (s t u : State) (e : WorldFault) → s.writers 1 ≡ Standard → at < length text → PutsPart at text s t → Writes 1 (drop at text) t (Err e) u → PutsText text s (Err e) u
-put_fails at text s t u Failed standard below part w =
-    let target : t.writers 1 ≡ Standard = ap (λ (ws : ℕ → Target). ws 1) part.does.writers ∙ standard in
-    let none : free (t.outside Standard) ≡ Some 0 = ap (λ (x : Target). free (t.outside x)) (sym target) ∙ w.full in
+pub put_fails : (tells : Type 0) (at : ℕ) (text : List ℕ) (s t u : State) (e : WorldFault) → s.writers 1 ≡ Standard → at < length text → (tells → PutsPart at text s t) → (tells → Writes 1 (drop at text) t (Err e) u) → PutsText tells text s (Err e) u
+put_fails tells at text s t u Failed standard below part w = λ (premise : tells).
+    let target : t.writers 1 ≡ Standard = ap (λ (ws : ℕ → Target). ws 1) (part premise).does.writers ∙ standard in
+    let none : free (t.outside Standard) ≡ Some 0 = ap (λ (x : Target). free (t.outside x)) (sym target) ∙ (w premise).full in
     record {
       size = at;
-      full = filled (free (s.outside Standard)) at part.fits (sym (part-free at text s t part) ∙ none);
+      full = filled (free (s.outside Standard)) at (part premise).fits (sym (part-free at text s t (part premise)) ∙ none);
       short = below;
-      part = subst (λ (x : State). PutsPart at text s x) (sym w.unchanged) part;
+      part = subst (λ (x : State). PutsPart at text s x) (sym (w premise).unchanged) (part premise);
     }
-put_fails at text s t u NoMemory standard below part w = (at, subst (λ (x : State). PutsPart at text s x) (sym w) part)
+put_fails tells at text s t u NoMemory standard below part w = (at, λ premise. subst (λ (x : State). PutsPart at text s x) (sym (w premise)) (part premise))
 
 -- the whole text
 pub put_all : (at : ℕ) (text : List ℕ) (s t : State) → length text ≤ at → PutsPart at text s t → PutsPart (length text) text s t

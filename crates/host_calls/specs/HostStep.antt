@@ -90,7 +90,7 @@ refused i s = record { word = refusal (import_answer i); after = s; added = [] }
 abbrev pub acted : ℕ → (i : Import) → List Word → List ℕ → HostState → Result Given TrapKind
 acted q i words memory s =
     and_then (decode s.names memory (import_arguments i) words) (λ row.
-        and_then (acts i row s) (λ d. Ok (given_by q (import_answer i) s d d.does.answer)))
+    and_then (acts i row s) (λ d. Ok (given_by q (import_answer i) s d d.does.answer)))
 
 -- an import as a function, where what is new gets the number q
 abbrev pub step : ℕ → Import → List Word → List ℕ → HostState → Result Given TrapKind

@@ -5,3 +5,6 @@ pub mod HostLaws
 pub mod Links
 pub mod Replies
 pub mod Output
+pub mod Jobs
+pub mod Hosts
+pub mod Calls

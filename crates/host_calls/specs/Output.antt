@@ -25,7 +25,8 @@ pub record FillsUp (text : List ℕ) (old new : State) : Type 0 where
   pub short : size < length text
   pub part : PutsPart size text old new
 
-abbrev pub PutsText : List ℕ → State → Result (Unit {0}) WorldFault → State → Type 0
-PutsText text old (Ok _) new = PutsPart (length text) text old new
-PutsText text old (Err Failed) new = FillsUp text old new
-PutsText text old (Err NoMemory) new = (size : ℕ) × PutsPart size text old new
+-- what is said of the world holds where it tells its state; how much has gone out before memory was wanting is some number in any case
+abbrev pub PutsText : Type 0 → List ℕ → State → Result (Unit {0}) WorldFault → State → Type 0
+PutsText tells text old (Ok _) new = tells → PutsPart (length text) text old new
+PutsText tells text old (Err Failed) new = tells → FillsUp text old new
+PutsText tells text old (Err NoMemory) new = (size : ℕ) × (tells → PutsPart size text old new)

@@ -20,47 +20,34 @@ use Rattle.awk_state.specs.declared.table.Primitive.TheVariants.{Num, Lit, Unini
 use Rattle.wasm_store.specs.declared.trap.TrapKind.{TrapKind}
 use Rattle.wasm_store.specs.declared.trap.TrapKind.TheVariants.{BadArgument}
 use Rattle.wasm_store.specs.declared.word.Word.{Word}
-use Rattle.host_calls.specs.HostState.{constant_front, number_front, place_front, value_front}
+use Rattle.host_calls.specs.HostState.{constant_front, no_more, number_front, place_front, value_front}
 use Rattle.host_calls.specs.declared.reply.Reply.{Reply}
 use Rattle.host_calls.specs.declared.reply.Reply.TheVariants as reply
 use Rattle.host_calls.specs.declared.reply.Refusal.{Refusal}
 use Rattle.host_calls.specs.declared.reply.Refusal.TheVariants as refusal
-
--- what a trap says, among other refusals
-abbrev pub trapping : {A : Type 0} → Result A TrapKind → Result A Refusal
-trapping (Ok x) = Ok x
-trapping (Err k) = Err (refusal.Trap k)
-
-abbrev pub faulting : {A : Type 0} → Result A Fault → Result A Refusal
-faulting (Ok x) = Ok x
-faulting (Err f) = Err (refusal.Fault f)
 
 abbrev pub plain_number : Result (In sort.Number × List Word) TrapKind → Result (ℤ × List Word) TrapKind
 plain_number (Ok x) = Ok (x.0.number, x.1)
 plain_number (Err k) = Err k
 
 -- what a borrowed front is
-abbrev pub lent : {A : Type 0} → Result (Bor A × Bor (List Word)) Refusal → Result (A × List Word) Refusal
+abbrev pub lent : {A : Type 0} → Result (Bor A × Bor (List Word)) TrapKind → Result (A × List Word) TrapKind
 lent (Ok x) = Ok (x.0.now, x.1.now)
 lent (Err r) = Err r
 
-abbrev pub owned : {A : Type 0} → Result (A × Bor (List Word)) Refusal → Result (A × List Word) Refusal
+abbrev pub owned : {A : Type 0} → Result (A × Bor (List Word)) TrapKind → Result (A × List Word) TrapKind
 owned (Ok x) = Ok (x.0, x.1.now)
 owned (Err r) = Err r
 
 -- the first argument, and then what it and the words behind it give
-abbrev pub front_then : {A : Type 0} → Result (A × List Word) Refusal → (A → List Word → Result Reply Refusal) → Result Reply Refusal
+abbrev pub front_then : {A : Type 0} → Result (A × List Word) TrapKind → (A → List Word → Result Reply Refusal) → Result Reply Refusal
 front_then (Ok x) f = f x.0 x.1
-front_then (Err r) f = Err r
-
-abbrev pub ends : List Word → Result (Unit {0}) Refusal
-ends [] = Ok tt
-ends (w ∷ rest) = Err (refusal.Trap BadArgument)
+front_then (Err k) f = Err (refusal.Trap k)
 
 -- no word is left, and then what the arguments give
-abbrev pub ends_then : Result (Unit {0}) Refusal → Result Reply Refusal → Result Reply Refusal
+abbrev pub ends_then : Result (Unit {0}) TrapKind → Result Reply Refusal → Result Reply Refusal
 ends_then (Ok u) r = r
-ends_then (Err e) r = Err e
+ends_then (Err k) r = Err (refusal.Trap k)
 
 abbrev pub outcome_reply : Outcome → Result Reply Refusal
 outcome_reply (Ok n) = Ok (reply.Number n)
@@ -80,30 +67,30 @@ value_reply (Ok v) = Ok (reply.Value v)
 value_reply (Err f) = Err (refusal.Fault f)
 
 abbrev pub value_then : FinMap int_cmp AnyValue → List Word → (AnyValue → List Word → Result Reply Refusal) → Result Reply Refusal
-value_then values words f = front_then (trapping (value_front values words)) f
+value_then values words f = front_then (value_front values words) f
 
 abbrev pub number_then : List Word → (ℤ → List Word → Result Reply Refusal) → Result Reply Refusal
-number_then words f = front_then (trapping (plain_number (number_front words))) f
+number_then words f = front_then (plain_number (number_front words)) f
 
 abbrev pub constant_then : (c : Constant) → List Word → (InConstant c → List Word → Result Reply Refusal) → Result Reply Refusal
-constant_then c words f = front_then (trapping (constant_front c words)) f
+constant_then c words f = front_then (constant_front c words) f
 
 -- what a primitive answers to words
 abbrev pub evaluation : Primitive → FinMap int_cmp AnyValue → List ℕ → List Word → Result Reply Refusal
-evaluation Num values memory words = number_then words (λ n rest. ends_then (ends rest) (Ok (reply.Value (value.Num n))))
-evaluation Lit values memory words = front_then (trapping (place_front memory words)) (λ text rest. ends_then (ends rest) (Ok (reply.Value (value.Text text))))
-evaluation Uninit values memory words = ends_then (ends words) (Ok (reply.Value value.Uninit))
-evaluation Dup values memory words = value_then values words (λ v rest. ends_then (ends rest) (Ok (reply.Value v)))
-evaluation ToNum values memory words = value_then values words (λ v rest. ends_then (ends rest) (number_reply (number_of_value v)))
-evaluation IntOf values memory words = value_then values words (λ v rest. ends_then (ends rest) (number_reply (truncated v)))
-evaluation Truth values memory words = value_then values words (λ v rest. ends_then (ends rest) (Ok (reply.Truth (truth_of_value v))))
+evaluation Num values memory words = number_then words (λ n rest. ends_then (no_more rest) (Ok (reply.Value (value.Num n))))
+evaluation Lit values memory words = front_then (place_front memory words) (λ text rest. ends_then (no_more rest) (Ok (reply.Value (value.Text text))))
+evaluation Uninit values memory words = ends_then (no_more words) (Ok (reply.Value value.Uninit))
+evaluation Dup values memory words = value_then values words (λ v rest. ends_then (no_more rest) (Ok (reply.Value v)))
+evaluation ToNum values memory words = value_then values words (λ v rest. ends_then (no_more rest) (number_reply (number_of_value v)))
+evaluation IntOf values memory words = value_then values words (λ v rest. ends_then (no_more rest) (number_reply (truncated v)))
+evaluation Truth values memory words = value_then values words (λ v rest. ends_then (no_more rest) (Ok (reply.Truth (truth_of_value v))))
 evaluation Compare values memory words =
-    constant_then constant.Comparison words (λ op behind_op. value_then values behind_op (λ left behind_left. value_then values behind_left (λ right rest. ends_then (ends rest) (truth_reply (comparison left right op)))))
+    constant_then constant.Comparison words (λ op behind_op. value_then values behind_op (λ left behind_left. value_then values behind_left (λ right rest. ends_then (no_more rest) (truth_reply (comparison left right op)))))
 evaluation Concat values memory words =
-    value_then values words (λ left behind_left. value_then values behind_left (λ right rest. ends_then (ends rest) (value_reply (within_limit (text_of_value left ++ text_of_value right)))))
+    value_then values words (λ left behind_left. value_then values behind_left (λ right rest. ends_then (no_more rest) (value_reply (within_limit (text_of_value left ++ text_of_value right)))))
 evaluation Pow values memory words =
-    number_then words (λ base behind_base. number_then behind_base (λ exponent rest. ends_then (ends rest) (number_reply (power base exponent))))
-evaluation Fail values memory words = constant_then constant.Fault words (λ fault rest. ends_then (ends rest) (Err (refusal.Fault fault)))
+    number_then words (λ base behind_base. number_then behind_base (λ exponent rest. ends_then (no_more rest) (number_reply (power base exponent))))
+evaluation Fail values memory words = constant_then constant.Fault words (λ fault rest. ends_then (no_more rest) (Err (refusal.Fault fault)))
 
 -- it answers, or faults
 abbrev pub NoTrap : Result Reply Refusal → Type 0

@@ -1,12 +1,20 @@
 //! The host of modules that awkwasm compiles: the imports of the module `awk1`.
 #![tactic(auto)]
 
+mod calls;
 mod evaluate;
+mod host;
 mod import;
-pub mod laws;
+mod job;
 mod links;
 mod output;
 mod reply;
+mod specials;
+mod start;
+#[cfg(test)]
+mod tests;
 mod words;
 
+pub use host::Host;
 pub use import::Import;
+pub use job::{Job, NamedText};

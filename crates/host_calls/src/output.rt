@@ -60,7 +60,7 @@ pub(crate) fn printed(
 pub(crate) fn put_text<W: World>(world: &mut W, text: &[u8]) -> Result<(), WorldFault>
     ensures kinds { W.kinds world.new ≡ W.kinds world.old }
     ensures count { W.count world.new ≡ next_count result (W.count world.old) }
-    ensures told { W.tells → PutsText text.now (W.state world.old) result (W.state world.new) }
+    ensures told { PutsText W.tells text.now (W.state world.old) result (W.state world.new) }
 {
     let mut at = 0;
     while at < text.len() {

@@ -33,6 +33,17 @@ impl From<AllocError> for Refusal {
     }
 }
 
+impl From<TrapKind> for Refusal {
+    ghost use Rattle.std.specs.Prelude.{◌≡◌};
+    ghost use Rattle.host_calls.specs.declared.reply.Refusal.TheVariants as refusal;
+
+    ghost from_gives = { λ k e. e ≡ refusal.Trap k };
+
+    fn from(kind: TrapKind) -> Refusal {
+        Refusal::Trap(kind)
+    }
+}
+
 /// The greatest magnitude of a number.
 const LIMIT: u64 = 1 << 53;
 

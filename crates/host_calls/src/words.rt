@@ -3,10 +3,9 @@ ghost use Rattle.std.specs.Prelude.{◌≡◌, ◌<◌, ◌≤◌, ◌^◌, IfOk
 ghost use Rattle.awk_state.specs.Constants.{comparison_at, destination_at, fault_at, faults};
 ghost use Rattle.awk_state.specs.declared.sorts.Constant.{Constant};
 ghost use Rattle.awk_text.specs.NumberText.{InRange};
-ghost use Rattle.host_calls.specs.HostState.{constant_front, number_front, place_front, text_at, value_front};
-ghost use Rattle.host_calls.specs.Replies.{ends, lent, owned, plain_number, trapping};
+ghost use Rattle.host_calls.specs.HostState.{constant_front, no_more, number_front, place_front, text_at, value_front};
+ghost use Rattle.host_calls.specs.Replies.{lent, owned, plain_number};
 
-use crate::reply::Refusal;
 use awk_state::Destination;
 use awk_values::{CompareOp, Fault, Value};
 use host_handles::Handles;
@@ -52,7 +51,7 @@ const DESTINATIONS: [Destination; 3] = [
 /// The greatest magnitude of a number.
 const LIMIT: u64 = 1 << 53;
 
-const UNFIT: Refusal = Refusal::Trap(TrapKind::BadArgument);
+const UNFIT: TrapKind = TrapKind::BadArgument;
 
 fn comparison_at(number: u32) -> Option<CompareOp>
     ensures { result ≡ comparison_at number }
@@ -84,35 +83,31 @@ fn destination_at(number: u32) -> Option<Destination>
 }
 
 /// That no word is left.
-pub(crate) fn ends(words: &[Word]) -> Result<(), Refusal>
-    ensures { result ≡ ends words.now }
+pub(crate) fn ends(words: &[Word]) -> Result<(), TrapKind>
+    ensures { result ≡ no_more words.now }
 {
-    if words.is_empty() {
-        Ok(())
-    } else {
-        Err(UNFIT)
-    }
+    if words.is_empty() { Ok(()) } else { Err(UNFIT) }
 }
 
 /// The value under a handle.
-pub(crate) fn value_front<'a>(
+pub(crate) fn value_front<'a, 'b>(
     handles: &'a Handles,
-    words: &'a [Word],
-) -> Result<(&'a Value, &'a [Word]), Refusal>
-    ensures { lent result ≡ trapping (value_front handles.now words.now) }
+    words: &'b [Word],
+) -> Result<(&'a Value, &'b [Word]), TrapKind>
+    ensures { lent result ≡ value_front handles.now words.now }
 {
     let Some((Word::I32(handle), rest)) = words.split_first() else {
         return Err(UNFIT);
     };
     match handles.view(handle.cast_signed()) {
         Some(value) => Ok((value, rest)),
-        None => Err(Refusal::Trap(TrapKind::BadHandle)),
+        None => Err(TrapKind::BadHandle),
     }
 }
 
 /// A number in range.
-pub(crate) fn number_front(words: &[Word]) -> Result<(i64, &[Word]), Refusal>
-    ensures value { owned result ≡ trapping (plain_number (number_front words.now)) }
+pub(crate) fn number_front(words: &[Word]) -> Result<(i64, &[Word]), TrapKind>
+    ensures value { owned result ≡ plain_number (number_front words.now) }
     ensures in_range { IfOk result (λ r. InRange r.0) }
 {
     let Some((Word::I64(bits), rest)) = words.split_first() else {
@@ -127,8 +122,8 @@ pub(crate) fn number_front(words: &[Word]) -> Result<(i64, &[Word]), Refusal>
 }
 
 /// An operator of comparison.
-pub(crate) fn comparison_front(words: &[Word]) -> Result<(CompareOp, &[Word]), Refusal>
-    ensures { owned result ≡ trapping (constant_front Constant.Comparison words.now) }
+pub(crate) fn comparison_front(words: &[Word]) -> Result<(CompareOp, &[Word]), TrapKind>
+    ensures { owned result ≡ constant_front Constant.Comparison words.now }
 {
     let Some((Word::I32(number), rest)) = words.split_first() else {
         return Err(UNFIT);
@@ -140,8 +135,8 @@ pub(crate) fn comparison_front(words: &[Word]) -> Result<(CompareOp, &[Word]), R
 }
 
 /// A fault.
-pub(crate) fn fault_front(words: &[Word]) -> Result<(Fault, &[Word]), Refusal>
-    ensures { owned result ≡ trapping (constant_front Constant.Fault words.now) }
+pub(crate) fn fault_front(words: &[Word]) -> Result<(Fault, &[Word]), TrapKind>
+    ensures { owned result ≡ constant_front Constant.Fault words.now }
 {
     let Some((Word::I32(number), rest)) = words.split_first() else {
         return Err(UNFIT);
@@ -153,8 +148,8 @@ pub(crate) fn fault_front(words: &[Word]) -> Result<(Fault, &[Word]), Refusal>
 }
 
 /// A target of output.
-pub(crate) fn destination_front(words: &[Word]) -> Result<(Destination, &[Word]), Refusal>
-    ensures { owned result ≡ trapping (constant_front Constant.Destination words.now) }
+pub(crate) fn destination_front(words: &[Word]) -> Result<(Destination, &[Word]), TrapKind>
+    ensures { owned result ≡ constant_front Constant.Destination words.now }
 {
     let Some((Word::I32(number), rest)) = words.split_first() else {
         return Err(UNFIT);
@@ -166,8 +161,8 @@ pub(crate) fn destination_front(words: &[Word]) -> Result<(Destination, &[Word])
 }
 
 /// A count of values.
-pub(crate) fn count_front(words: &[Word]) -> Result<(u32, &[Word]), Refusal>
-    ensures { owned result ≡ trapping (constant_front Constant.Count words.now) }
+pub(crate) fn count_front(words: &[Word]) -> Result<(u32, &[Word]), TrapKind>
+    ensures { owned result ≡ constant_front Constant.Count words.now }
 {
     let Some((Word::I32(number), rest)) = words.split_first() else {
         return Err(UNFIT);
@@ -191,8 +186,8 @@ fn text_at(memory: &[u8], place: u32, size: u32) -> Option<&[u8]>
 pub(crate) fn place_front<'a>(
     memory: &'a [u8],
     words: &'a [Word],
-) -> Result<(&'a [u8], &'a [Word]), Refusal>
-    ensures { lent result ≡ trapping (place_front memory.now words.now) }
+) -> Result<(&'a [u8], &'a [Word]), TrapKind>
+    ensures { lent result ≡ place_front memory.now words.now }
 {
     let Some((Word::I32(place), rest)) = words.split_first() else {
         return Err(UNFIT);
@@ -202,6 +197,6 @@ pub(crate) fn place_front<'a>(
     };
     match text_at(memory, *place, *size) {
         Some(text) => Ok((text, rest)),
-        None => Err(Refusal::Trap(TrapKind::BadPointer)),
+        None => Err(TrapKind::BadPointer),
     }
 }

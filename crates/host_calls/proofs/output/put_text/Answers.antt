@@ -19,9 +19,9 @@ pub returns-in_err-written-clause-told : goal.returns-in_err-written-clause-told
 returns-in_err-written-clause-told g c =
     let p = err_from_is_err_and c.from_residual.result c.from_residual.ensures.1 in
     let below : c.loop-at.at < length c.args.text.now = c.loop-at-test.true in
-    rw (p.1, p.2) (λ tells.
-        put_fails c.loop-at.at c.args.text.now _ _ _ c.in_err-written.field-0.0 (g.met.W.World.standard c.args.world.now) below (c.loop-at.invariant.part tells)
-        (subst (λ (piece : List ℕ). Writes 1 piece (g.W.World.state c.loop-at.world) (Err c.in_err-written.field-0.0) (g.W.World.state c.write.new.self)) (rest_is c.loop-at.at c.args.text.now) (c.in_err-written.ensures.told tells)))
+    rw (p.1, p.2)
+    (put_fails g.W.World.tells c.loop-at.at c.args.text.now _ _ _ c.in_err-written.field-0.0 (g.met.W.World.standard c.args.world.now) below c.loop-at.invariant.part
+    (λ tells. subst (λ (piece : List ℕ). Writes 1 piece (g.W.World.state c.loop-at.world) (Err c.in_err-written.field-0.0) (g.W.World.state c.write.new.self)) (rest_is c.loop-at.at c.args.text.now) (c.in_err-written.ensures.told tells)))
 
 pub loop-at-preserved : goal.loop-at-preserved
 loop-at-preserved g c =
