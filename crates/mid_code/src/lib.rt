@@ -7,3 +7,4 @@ mod translate;
 
 pub use fault::MidFault;
 pub use mid::{Arithmetic, Expr, Mid, Operation, Stmt};
+pub use translate::to_mid;
