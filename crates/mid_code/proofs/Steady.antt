@@ -44,8 +44,8 @@ keeps_then d (Stops TooDeep state) o' f f' kept s = ap (λ x. go_on x f') kept
 
 pub then_steady : {A B : Type 0} {d : ℕ} {m m' : Doing A} {f f' : A → Doing B} → Steady d m m' → ((a : A) → Steady d (f a) (f' a)) → Steady d (◌>>=◌ m f) (◌>>=◌ m' f')
 then_steady {d} {m} {m'} {f} {f'} first next = record {
-    keeps = λ state. keeps_then d (m state) (m' (more d state)) f f' (first.keeps state) next;
-    grows = λ state. grows_on state.shared.output (output_at (m' state)) (output_at (go_on (m' state) f')) (first.grows state) (grows_then (m' state) f' (λ a. (next a).grows));
+  keeps = λ state. keeps_then d (m state) (m' (more d state)) f f' (first.keeps state) next;
+  grows = λ state. grows_on state.shared.output (output_at (m' state)) (output_at (go_on (m' state) f')) (first.grows state) (grows_then (m' state) f' (λ a. (next a).grows));
 }
 
 pub give_steady : {A : Type 0} {d : ℕ} (a : A) → Steady d (give a) (give a)
@@ -61,14 +61,14 @@ output_settled (Err fault) state = refl
 
 pub settled_steady : {A : Type 0} {d : ℕ} (r : Result A Fault) → Steady d (settled r) (settled r)
 settled_steady {A} {d} r = record {
-    keeps = λ state. keeps_settled d r state;
-    grows = λ state. ([], output_settled r state ∙ sym (append-nil state.shared.output));
+  keeps = λ state. keeps_settled d r state;
+  grows = λ state. ([], output_settled r state ∙ sym (append-nil state.shared.output));
 }
 
 pub perform_steady : {A : Type 0} {d : ℕ} (b : Bool) (f : Shared → Does (OrFault b A)) → Steady d (perform b f) (perform b f)
 perform_steady {A} {d} b f = record {
-    keeps = λ state. keeps_settled d (or_fault b (f state.shared).answer) _;
-    grows = λ state. ((f state.shared).added, output_settled (or_fault b (f state.shared).answer) _);
+  keeps = λ state. keeps_settled d (or_fault b (f state.shared).answer) _;
+  grows = λ state. ((f state.shared).added, output_settled (or_fault b (f state.shared).answer) _);
 }
 
 stop_steady : {A : Type 0} {d : ℕ} (fault : Fault) → Steady {A = A} d (stop (Faulted fault)) (stop (Faulted fault))
@@ -97,5 +97,5 @@ kept_run m s job outside few many h =
     let turns : few + (many - few) ≡ many = omega arith in
     let doing : Doing Flow = unless (fault_of_job job) m in
     subst (λ n. IsKept (ending (doing (start job outside few))) (ending (doing (start job outside n)))) turns
-        (kept_ending (many - few) (doing (start job outside few)) (doing (start job outside (few + (many - few))))
-            ((unless_steady {d = many - few} (fault_of_job job) m (s (many - few))).keeps (start job outside few)))
+    (kept_ending (many - few) (doing (start job outside few)) (doing (start job outside (few + (many - few))))
+    ((unless_steady {d = many - few} (fault_of_job job) m (s (many - few))).keeps (start job outside few)))

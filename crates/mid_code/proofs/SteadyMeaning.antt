@@ -21,7 +21,7 @@ module _ (d : ℕ) where
   arithmetic_steady : (op : ℤ → ℤ → Checked) {left right : Doing Value} → Steady d left left → Steady d right right → Steady d (arithmetic op left right) (arithmetic op left right)
   arithmetic_steady op left right =
       then_steady left (λ x. then_steady right (λ y. then_steady (settled_steady (number_of_row x)) (λ m. then_steady (settled_steady (number_of_row y)) (λ n.
-          then_steady (settled_steady (outcome_of (op m.number n.number))) (λ result. give_steady (numeric result))))))
+      then_steady (settled_steady (outcome_of (op m.number n.number))) (λ result. give_steady (numeric result))))))
 
   value_steady : (t : Tree) → Steady d (value_of t) (value_of t)
   unfolding value_of
@@ -57,6 +57,7 @@ module _ (d : ℕ) where
   module _ (texts : List (List ℕ)) where
     mutual
       unfolding evaluated all_evaluated
+
       evaluated_steady : (e : Code) → Steady d (evaluated texts e) (evaluated texts e)
       evaluated_steady (Do o es) =
           then_steady (all_evaluated_steady es) (λ vs. then_steady (settled_steady (row_of (arguments o) es vs)) (λ row. perform_steady (may_fault o) (operation o row)))

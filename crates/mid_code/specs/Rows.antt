@@ -1,5 +1,5 @@
 -- Scripts, computed from the definition.
-use Rattle.std.specs.Prelude.{◌≡◌, ℕ, List, [], ◌∷◌, ◌++◌, codes, Some, refl}
+use Rattle.std.specs.Prelude.{◌≡◌, ℕ, true, false, List, [], ◌∷◌, ◌++◌, codes, Some, refl}
 use Rattle.std.specs.Fmt.{digits}
 use Rattle.awk_text.specs.Reading.{numeral_at, sign_at, fraction_at, exponent_at}
 use Rattle.awk_text.specs.Number.{numerator, denominator}
@@ -71,7 +71,7 @@ five_of_code = refl
 -- print "a", 2*3-7; print "b\n"
 abbrev texts_and_sums : List Item
 texts_and_sums =
-  script_of (And (print_two (string (codes "a")) (minus (times (number (codes "2")) (number (codes "3"))) (number (codes "7")))) (And (print_one (string (98 ∷ 92 ∷ 110 ∷ []))) NoStmt))
+    script_of (And (print_two (string (codes "a")) (minus (times (number (codes "2")) (number (codes "3"))) (number (codes "7")))) (And (print_one (string (98 ∷ 92 ∷ 110 ∷ []))) NoStmt))
 
 pub operands_are_joined : run_of texts_and_sums idle empty 0 ≡ Ended 0 (out (codes "a -1\nb\n\n"))
 unfolding begun all_done done_by values_of value_of numeral_at sign_at fraction_at exponent_at numerator denominator digits unescaped escaped octal
@@ -95,3 +95,23 @@ no_output_before_a_fault = refl
 pub what_fits_goes_out : run_of (script_of (And (print_one (string (codes "ab"))) (And (print_one (string (codes "cd"))) NoStmt))) idle narrow 0 ≡ FaultedBy WriteFailed (out (codes "ab\nc"))
 unfolding begun all_done done_by values_of value_of unescaped escaped octal
 what_fits_goes_out = refl
+
+-- Which scripts are covered.
+
+pub strings_and_sums_are_covered : is_covered texts_and_sums ≡ true
+unfolding is_sum numeral_at sign_at fraction_at exponent_at numerator denominator
+strings_and_sums_are_covered = refl
+
+pub constants_past_the_range_are_not : is_covered (script_of (And (print_one (number (codes "9007199254740993"))) NoStmt)) ≡ false
+unfolding is_sum numeral_at sign_at fraction_at exponent_at numerator denominator
+constants_past_the_range_are_not = refl
+
+pub sums_of_strings_are_not : is_covered (script_of (And (print_one (plus (string (codes "1")) (number (codes "1")))) NoStmt)) ≡ false
+unfolding is_sum
+sums_of_strings_are_not = refl
+
+pub two_actions_are_not : is_covered (script_of (And (print_one (string [])) NoStmt) ++ script_of (And (print_one (string [])) NoStmt)) ≡ false
+two_actions_are_not = refl
+
+pub empty_actions_are_not : is_covered (script_of NoStmt) ≡ false
+empty_actions_are_not = refl

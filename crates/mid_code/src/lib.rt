@@ -4,6 +4,8 @@
 mod fault;
 pub mod laws;
 mod mid;
+#[cfg(test)]
+mod tests;
 mod translate;
 
 pub use fault::MidFault;
