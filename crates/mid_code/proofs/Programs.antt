@@ -1,6 +1,6 @@
 -- What is made of a script: it is covered, and its code is the script's.
-use Rattle.std.proofs.Common.{◌≡◌, ℕ, true, false, List, [], ◌∷◌, ◌++◌, length, sym, ap, ◌∙◌}
-use Rattle.std.specs.Prelude.{◌==◌, map}
+use Rattle.std.proofs.Common.{◌≡◌, ◌≤◌, arith, ℕ, true, List, [], ◌∷◌, ◌++◌, length, sym, ap, ◌∙◌}
+use Rattle.std.specs.Prelude.{map}
 use Rattle.std.specs.Global.{Vec}
 use Rattle.awk_tree.specs.Item.{Item, Begin}
 use Rattle.awk_tree.specs.ViewStmt.{view_stmts as tree_stmts}
@@ -10,12 +10,12 @@ use Rattle.mid_code.specs.Translation.{program_of, steps_of, stmts_texts}
 use Rattle.mid_code.specs.ViewCode.{view_program, view_stmt, view_texts}
 use Rattle.mid_code.specs.declared.mid.Stmt.{Stmt}
 
-some_prints : (body : List Tree) → (length body == 0) ≡ false → are_prints (tree_stmts body) ≡ true → is_some_prints (tree_stmts body) ≡ true
-some_prints [] some h = cc
+some_prints : (body : List Tree) → 1 ≤ length body → are_prints (tree_stmts body) ≡ true → is_some_prints (tree_stmts body) ≡ true
+some_prints [] some h = absurd (omega arith)
 some_prints (s ∷ body) some h = h
 
 module _ (script : List Item) (body : List Tree) (begins : script ≡ Begin (tree_stmts body) ∷ []) where
-  pub built_covered : (length body == 0) ≡ false → are_prints (tree_stmts body) ≡ true → is_covered script ≡ true
+  pub built_covered : 1 ≤ length body → are_prints (tree_stmts body) ≡ true → is_covered script ≡ true
   built_covered some covered = ap is_covered begins ∙ some_prints body some covered
 
   pub built_program : (before texts : List (Vec ℕ)) (main : List Stmt) → before ≡ [] → map view_stmt main ≡ steps_of (length (view_texts before)) (tree_stmts body) →

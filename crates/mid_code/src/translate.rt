@@ -1,5 +1,5 @@
 //! From a script's tree to its code.
-ghost use Rattle.std.specs.Prelude.{◌≡◌, ◌++◌, ◌∷◌, [], ◌⊎◌, ℕ, true, false, length, map, IfOk, IfErr, IfSome, OnOk, is_some, ◌&&◌, MatchOption, MatchResult};
+ghost use Rattle.std.specs.Prelude.{◌≡◌, ◌++◌, ◌∷◌, [], ◌⊎◌, ℕ, true, false, length, ◌≤◌, map, IfOk, IfErr, IfSome, OnOk, is_some, ◌&&◌, MatchOption, MatchResult};
 ghost use Rattle.awk_state.specs.Jobs.{JobForm};
 ghost use Rattle.awk_tree.specs.Item.{Begin};
 ghost use Rattle.awk_tree.specs.Stmt.{Simple as Plainly, Put as Puts, Print as Unformatted, Listed as ListOf, NoTarget};
@@ -179,12 +179,12 @@ fn statements(
     Ok(code)
 }
 
-/// The statements of a script that is one action of BEGIN.
+/// The statements of a script that is one action of BEGIN, where there are any.
 fn begin(script: &Script) -> Option<&[awk_tree::Stmt]>
-    ensures { MatchOption result (is_covered (view_script script.now) ≡ false) (λ body. view_script script.now ≡ Begin (tree_stmts body.now) ∷ []) }
+    ensures { MatchOption result (is_covered (view_script script.now) ≡ false) (λ body. (view_script script.now ≡ Begin (tree_stmts body.now) ∷ []) × (1 ≤ length body.now)) }
 {
     match script.items.as_slice() {
-        [Item::Begin(body)] => Some(body),
+        [Item::Begin(body)] => { if body.is_empty() { None } else { Some(body) } }
         _ => None,
     }
 }
@@ -204,9 +204,6 @@ pub fn to_mid(alloc: Global, script: &Script) -> Result<Mid, MidFault>
     let Some(body) = begin(script) else {
         return Err(MidFault::NotYet);
     };
-    if body.is_empty() {
-        return Err(MidFault::NotYet);
-    }
     let mut texts = Vec::new(alloc);
     let main = statements(alloc, &mut texts, body)?;
     Ok(Mid { texts, main })
