@@ -18,3 +18,16 @@ view_do o v = ap (Do o) (row_views (hidden-the_row-Expr-0 v) ∙ ap views (items
 
 pub view_over : (l : Listed) (v : Vec Expr Global) → view (OverExpr l v) ≡ Over l (views v.items)
 view_over l v = ap (Over l) (row_views (hidden-the_row-Expr-0 v) ∙ ap views (items_hidden-the_row-Expr-0 v))
+
+-- code before other code
+abbrev pub glue : List Expr → Codes → Codes
+glue [] rest = rest
+glue (e ∷ es) rest = At (view e) (glue es rest)
+
+pub glue_push : (es : List Expr) (e : Expr) (rest : Codes) → glue (es ++ e ∷ []) rest ≡ glue es (At (view e) rest)
+glue_push [] e rest = refl
+glue_push (x ∷ es) e rest = ap (At (view x)) (glue_push es e rest)
+
+pub glue_end : (es : List Expr) → glue es End ≡ views es
+glue_end [] = refl
+glue_end (e ∷ es) = ap (At (view e)) (glue_end es)

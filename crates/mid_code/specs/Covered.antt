@@ -1,5 +1,5 @@
 -- The scripts that are compiled so far: one action of BEGIN, whose statements are prints of strings and of sums and products of numbers.
-use Rattle.std.specs.Prelude.{ℕ, Bool, true, false, ◌&&◌, List, [], ◌∷◌, Ok, Err, Result}
+use Rattle.std.specs.Prelude.{Bool, true, false, ◌&&◌, List, [], ◌∷◌, Ok, Err, Result}
 use Rattle.awk_values.specs.declared.fault.Fault.{Fault}
 use Rattle.awk_state.specs.Numbers.{Number as AnyNumber}
 use Rattle.awk_tree.specs.Token.{Times, Mul, Number, Quoted}

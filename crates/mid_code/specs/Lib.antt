@@ -6,6 +6,7 @@ pub mod MidMeaning
 pub mod ViewCode
 pub mod Unique
 pub mod View
+pub mod Kept
 pub mod Covered
 pub mod Translation
 pub mod Rows

@@ -1,6 +1,6 @@
 -- The meaning of expressions, statements and items, by cases on the script's tree (POSIX.1-2017 awk, "Expressions in awk", "Actions", "Output Statements").
 -- `Covered` names the scripts of which this speaks so far; the last clause of each function is for the others, of which nothing is said.
-use Rattle.std.specs.Prelude.{ℕ, List, [], ◌∷◌, true, Result, Ok, Err, ℤ}
+use Rattle.std.specs.Prelude.{ℕ, List, [], ◌∷◌, true, Result, ℤ}
 use Rattle.awk_text.specs.Number.{number_of_text}
 use Rattle.awk_text.specs.Escapes.{string_text}
 use Rattle.awk_values.specs.Operators.{Outcome as Checked, sum, difference, product}

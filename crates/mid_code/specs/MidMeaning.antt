@@ -1,5 +1,5 @@
 -- The meaning of mid code, by its syntax.
-use Rattle.std.specs.Prelude.{ℕ, ◌^◌, Bool, true, false, List, [], ◌∷◌, Option, Some, None, Result, Ok, Err, ℤ, pos, get_or}
+use Rattle.std.specs.Prelude.{ℕ, true, false, List, [], ◌∷◌, Option, Some, None, Result, Ok, Err, ℤ, pos, get_or}
 use Rattle.awk_values.specs.Operators.{Outcome as Checked, sum, difference, product}
 use Rattle.awk_values.specs.declared.fault.Fault.{Fault}
 use Rattle.awk_values.specs.declared.value.Value.{Value}
@@ -16,7 +16,6 @@ use Rattle.awk_state.specs.declared.sorts.Constant.TheVariants as constant
 use Rattle.awk_state.specs.declared.sorts.Sort.TheVariants as sort
 use Rattle.awk_state.specs.declared.sorts.Argument.{Argument}
 use Rattle.awk_state.specs.declared.sorts.Argument.TheVariants as argument
-use Rattle.awk_state.specs.declared.sorts.Answer.{Answer}
 use Rattle.awk_state.specs.declared.sorts.Answer.TheVariants as answer
 use Rattle.awk_state.specs.declared.constants.Destination.TheVariants.{Standard}
 use Rattle.awk_state.specs.declared.constants.NameKind.TheVariants.{Scalar}

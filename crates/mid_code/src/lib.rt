@@ -2,8 +2,12 @@
 #![tactic(auto)]
 
 mod fault;
+pub mod laws;
 mod mid;
+#[cfg(test)]
+mod tests;
 mod translate;
 
 pub use fault::MidFault;
 pub use mid::{Arithmetic, Expr, Mid, Operation, Stmt};
+pub use translate::to_mid;

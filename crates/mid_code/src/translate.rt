@@ -1,8 +1,8 @@
 //! From a script's tree to its code.
-ghost use Rattle.std.specs.Prelude.{◌≡◌, ◌++◌, ◌∷◌, [], ◌⊎◌, ℕ, true, false, length, map, IfOk, IfErr, IfSome, is_some, ◌&&◌, MatchOption, MatchResult};
+ghost use Rattle.std.specs.Prelude.{◌≡◌, ◌++◌, ◌∷◌, [], ◌⊎◌, ℕ, true, false, length, ◌≤◌, map, IfOk, IfErr, IfSome, OnOk, is_some, ◌&&◌, MatchOption, MatchResult};
 ghost use Rattle.awk_state.specs.Jobs.{JobForm};
 ghost use Rattle.awk_tree.specs.Item.{Begin};
-ghost use Rattle.awk_tree.specs.Stmt.{Simple, Put, Print, Listed, NoTarget};
+ghost use Rattle.awk_tree.specs.Stmt.{Simple as Plainly, Put as Puts, Print as Unformatted, Listed as ListOf, NoTarget};
 ghost use Rattle.awk_tree.specs.View.{view as tree, views as trees, view_binary};
 ghost use Rattle.awk_tree.specs.Tree.{Tree, Bin};
 ghost use Rattle.awk_tree.specs.ViewStmt.{view_script, view_stmt as tree_stmt, view_stmts as tree_stmts};
@@ -34,7 +34,12 @@ fn listed(listed: Listed, values: Vec<Expr>) -> Expr
 }
 
 /// What the module does itself with two numbers.
-fn inline(alloc: Global, arithmetic: Arithmetic, left: Expr, right: Expr) -> Result<Expr, AllocError>
+fn inline(
+    alloc: Global,
+    arithmetic: Arithmetic,
+    left: Expr,
+    right: Expr,
+) -> Result<Expr, AllocError>
     ensures { IfOk result (λ code. view code ≡ inline arithmetic (view left) (view right)) }
 {
     let mut operands = Vec::new(alloc);
@@ -95,4 +100,111 @@ fn sum(alloc: Global, e: &awk_tree::Expr) -> Result<Expr, MidFault>
         }
         _ => Err(MidFault::NotYet),
     }
+}
+
+/// Code that gives a value; the texts of constants are added to `texts`.
+fn item(alloc: Global, texts: &mut Vec<Vec<u8>>, e: &awk_tree::Expr) -> Result<Expr, MidFault>
+    ensures ok { IfOk result (λ code. (is_item (tree e.now) ≡ true) × (view code ≡ item_code (length (view_texts texts.old.items)) (tree e.now))) }
+    ensures texts { OnOk result (view_texts texts.new.items ≡ view_texts texts.old.items ++ item_texts (tree e.now)) }
+    ensures not_yet { IfErr result (λ fault. fault ≡ MidFault.NotYet → is_item (tree e.now) ≡ false) }
+{
+    match e {
+        awk_tree::Expr::Str(quoted) => {
+            let place = texts.len();
+            texts.push(string_text(alloc, quoted)?)?;
+            Ok(host(alloc, Primitive::Lit, Expr::Text(place))?)
+        }
+        _ => {
+            let number = sum(alloc, e)?;
+            Ok(host(alloc, Primitive::Num, number)?)
+        }
+    }
+}
+
+/// Code for values that are evaluated from left to right.
+fn items(
+    alloc: Global,
+    texts: &mut Vec<Vec<u8>>,
+    es: &[awk_tree::Expr],
+) -> Result<Vec<Expr>, MidFault>
+    ensures ok { IfOk result (λ codes. (are_items (trees es.now) ≡ true) × (views codes.items ≡ codes_of (length (view_texts texts.old.items)) (trees es.now))) }
+    ensures texts { OnOk result (view_texts texts.new.items ≡ view_texts texts.old.items ++ texts_of (trees es.now)) }
+    ensures not_yet { IfErr result (λ fault. fault ≡ MidFault.NotYet → are_items (trees es.now) ≡ false) }
+{
+    let mut codes = Vec::new(alloc);
+    for e in es {
+        codes.push(item(alloc, texts, e)?)?;
+    }
+    Ok(codes)
+}
+
+/// The operands of a print to the standard output.
+fn printed(s: &awk_tree::Stmt) -> Option<&[awk_tree::Expr]>
+    ensures { MatchOption result (is_print (tree_stmt s.now) ≡ false) (λ es. tree_stmt s.now ≡ Plainly (Puts Unformatted (ListOf (trees es.now)) NoTarget)) }
+{
+    match s {
+        awk_tree::Stmt::Simple(
+            SimpleStmt::Print(PrintWord::Print, PrintArgs::Listed(es), PrintTarget::Output),
+        ) => Some(es),
+        _ => None,
+    }
+}
+
+fn statement(alloc: Global, texts: &mut Vec<Vec<u8>>, s: &awk_tree::Stmt) -> Result<Stmt, MidFault>
+    ensures ok { IfOk result (λ code. (is_print (tree_stmt s.now) ≡ true) × (view_stmt code ≡ stmt_step (length (view_texts texts.old.items)) (tree_stmt s.now))) }
+    ensures texts { OnOk result (view_texts texts.new.items ≡ view_texts texts.old.items ++ stmt_texts (tree_stmt s.now)) }
+    ensures not_yet { IfErr result (λ fault. fault ≡ MidFault.NotYet → is_print (tree_stmt s.now) ≡ false) }
+{
+    let Some(es) = printed(s) else {
+        return Err(MidFault::NotYet);
+    };
+    let values = items(alloc, texts, es)?;
+    Ok(Stmt::Eval(listed(Listed::Print, values)))
+}
+
+/// Code for statements in order; the texts of constants are added to `texts`.
+fn statements(
+    alloc: Global,
+    texts: &mut Vec<Vec<u8>>,
+    body: &[awk_tree::Stmt],
+) -> Result<Vec<Stmt>, MidFault>
+    ensures ok { IfOk result (λ code. (are_prints (tree_stmts body.now) ≡ true) × (map view_stmt code.items ≡ steps_of (length (view_texts texts.old.items)) (tree_stmts body.now))) }
+    ensures texts { OnOk result (view_texts texts.new.items ≡ view_texts texts.old.items ++ stmts_texts (tree_stmts body.now)) }
+    ensures not_yet { IfErr result (λ fault. fault ≡ MidFault.NotYet → are_prints (tree_stmts body.now) ≡ false) }
+{
+    let mut code = Vec::new(alloc);
+    for s in body {
+        code.push(statement(alloc, texts, s)?)?;
+    }
+    Ok(code)
+}
+
+/// The statements of a script that is one action of BEGIN, where there are any.
+fn begin(script: &Script) -> Option<&[awk_tree::Stmt]>
+    ensures { MatchOption result (is_covered (view_script script.now) ≡ false) (λ body. (view_script script.now ≡ Begin (tree_stmts body.now) ∷ []) × (1 ≤ length body.now)) }
+{
+    match script.items.as_slice() {
+        [Item::Begin(body)] => { if body.is_empty() { None } else { Some(body) } }
+        _ => None,
+    }
+}
+
+/// The mid code of a script: at each job, outside and number of turns it ends as the script does, with the same output.
+///
+/// # Errors
+///
+/// [`MidFault::NotYet`] where the script is not one action of BEGIN whose statements print strings and sums of constants, and
+/// [`MidFault::NoMemory`].
+pub fn to_mid(alloc: Global, script: &Script) -> Result<Mid, MidFault>
+    ensures covered { OnOk result (is_covered (view_script script.now) ≡ true) }
+    ensures code { IfOk result (λ mid. view_mid mid ≡ program_of (view_script script.now)) }
+    ensures same_meaning { IfOk result (λ mid. (job : JobForm) (outside : Outside) (turns : ℕ) → mid_run (view_mid mid) job outside turns ≡ run_of (view_script script.now) job outside turns) }
+    ensures refused { IfErr result (λ fault. (fault ≡ MidFault.NoMemory) ⊎ ((fault ≡ MidFault.NotYet) × (is_covered (view_script script.now) ≡ false))) }
+{
+    let Some(body) = begin(script) else {
+        return Err(MidFault::NotYet);
+    };
+    let mut texts = Vec::new(alloc);
+    let main = statements(alloc, &mut texts, body)?;
+    Ok(Mid { texts, main })
 }

@@ -1,0 +1,20 @@
+use Rattle.std.proofs.Common.{◌++◌, length, sym, ap, ◌∙◌}
+use Rattle.awk_state.specs.declared.table.Listed.TheVariants.{Print as PrintList}
+use Rattle.awk_tree.specs.Stmt.{Stmt}
+use Rattle.mid_code.specs.Covered.{is_print}
+use Rattle.mid_code.specs.Mid.{Eval, Over}
+use Rattle.mid_code.specs.Translation.{stmt_step, stmt_texts}
+use Rattle.mid_code.specs.View.{view_texts}
+use Rattle.mid_code.proofs.translate.statement.Goals as goal
+
+pub returns-clause-ok : goal.returns-clause-ok
+unfolding stmt_step
+returns-clause-ok c = (
+  ap is_print c.in-Some.ensures ∙ c.in_ok-values.ensures.ok.0,
+  ap Eval (c.listed.ensures ∙ ap (Over PrintList) c.in_ok-values.ensures.ok.1) ∙ sym (ap (stmt_step (length (view_texts c.args.texts.now.items))) c.in-Some.ensures),
+)
+
+pub returns-clause-texts : goal.returns-clause-texts
+unfolding stmt_texts
+returns-clause-texts c =
+    c.in_ok-values.ensures.texts ∙ sym (ap (λ (s : Stmt). view_texts c.args.texts.now.items ++ stmt_texts s) c.in-Some.ensures)
