@@ -3,6 +3,7 @@ pub mod Frames
 pub mod Hosts
 pub mod Links
 pub mod Machines
+pub mod Reductions
 pub mod Runs
 pub mod Stacks
 pub mod Typed

@@ -2,6 +2,7 @@
 ghost use Rattle.std.specs.Prelude.{◌≡◌, ◌+◌, None};
 ghost use Rattle.wasm_machine.specs.Frames.{FrameForm, local_step};
 ghost use Rattle.wasm_machine.specs.Machines.{Conf, ProgramForm, turn};
+ghost use Rattle.wasm_machine.specs.Reductions.{EndsIn, IsReduced, left_at};
 ghost use Rattle.wasm_machine.specs.Runs.{Did, IsPrefix};
 ghost use Rattle.wasm_machine.specs.Typed.{Linked, ConfOk, FrameOk, IsSafe, IsSafeTurn, ProgramOk};
 ghost use Rattle.wasm_types.specs.Typing.{Context};
