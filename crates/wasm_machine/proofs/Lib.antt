@@ -5,6 +5,7 @@ pub mod Cuts
 pub mod Linking
 pub mod Nesting
 pub mod Operators
+pub mod Reduced
 pub mod Reducing
 pub mod Refusals
 pub mod Safe
