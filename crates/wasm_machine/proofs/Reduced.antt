@@ -1,7 +1,8 @@
 -- A step of a machine is reductions of the specification's form that count one step.
 use Rattle.std.proofs.Common.{◌≡◌, ℕ, zero, suc, ◌+◌, ◌-◌, ◌^◌, ◌≤◌, ◌<◌, List, [], ◌∷◌, ◌++◌, length, take, drop, map, reverse, Option, Some, None, Result, Ok, Err, Bool, true, false, refl, sym, ap, ◌∙◌, subst, arith, append-nil, append_assoc, nat_lt, slice_set, if◌then◌else◌}
 use Rattle.std.proofs.lemmas.Bool.Decides.{nat_tests}
-use Rattle.std.proofs.lemmas.List.{take-append-drop}
+use Rattle.std.proofs.lemmas.Bool.{ltb-true}
+use Rattle.std.proofs.lemmas.List.{take-append-drop, length-take-le}
 use Rattle.std.specs.Prelude.{slice_get, ⊤}
 use Rattle.wasm_types.specs.declared.types.ValType.{ValType}
 use Rattle.wasm_types.specs.declared.types.ValType.TheVariants as ty
@@ -29,24 +30,22 @@ use Rattle.wasm_machine.specs.Stacks.{taken}
 use Rattle.wasm_machine.specs.Frames.{FrameForm, Local, local_step, with_values}
 use Rattle.wasm_machine.specs.Frames as form
 use Rattle.wasm_machine.specs.Machines.{Conf, CallerForm, ProgramForm, Turn, Goes, Ends, Asks, turn, turn_by, with_frame, with_operands, with_value, with_loaded, with_stored, with_grown, global_set, memory_load, memory_store, memory_grow, worked, asked, asked_if, entered_func, entered_if, call_at, called, called_by, agree, to_caller, returned_with, returned, answered}
-use Rattle.wasm_machine.specs.Typed.{AccessOk, IsSafe, ConfOk}
-use Rattle.wasm_machine.specs.Reductions.{Admin, Const, Does, Invoke, LabelOf, FrameOf, Trapped, Sequence, ε, ◌⨾◌, ◌⧺◌, op, arity, sequence, on, results, StoreForm, after_host, Chain, none, in_labels, in_place, in_frame, in_callers, nested, store_of, left_at, EndsIn, IsReduced}
+use Rattle.wasm_machine.specs.Runs.{TakenAs, OverBy, Steps, Ran, Did}
+use Rattle.wasm_machine.specs.declared.host.HostAnswer.{HostAnswer}
+use Rattle.wasm_machine.specs.declared.machine.MachineEnd.{MachineEnd}
+use Rattle.wasm_machine.specs.declared.state.RunEnd.{RunEnd}
+use Rattle.wasm_machine.specs.declared.state.RunEnd.TheVariants.{Ended, OutOfSteps, NoMemory}
+use Rattle.wasm_machine.specs.Typed.{AccessOk, IsSafe, ConfOk, ProgramOk, Linked}
+use Rattle.wasm_machine.specs.Hosts.{Typed}
+use Rattle.wasm_machine.specs.Reductions.{Admin, Const, Does, Invoke, LabelOf, FrameOf, Trapped, Sequence, ε, ◌⨾◌, ◌⧺◌, op, arity, sequence, on, results, StoreForm, after_host, Chain, none, in_labels, in_place, in_frame, in_callers, nested, store_of, left_at, EndsIn, IsReduced, IsStepReduced, IsRunReduced, Reduced}
 use Rattle.wasm_machine.specs.Reductions as core
 use Rattle.wasm_machine.proofs.Safe.{never_stuck}
 use Rattle.wasm_machine.proofs.Nesting.{on_parts, once, join, here, within_body, in_hole, within_callers, trap_here, trap_out}
 use Rattle.wasm_machine.proofs.Reducing.{Accesses, IsLocal, local_is}
-
-is_less : (m n : ℕ) → nat_lt m n ≡ true → m < n
-is_less m n h = grind (arith, nat_tests)
+use Rattle.wasm_machine.proofs.Whole.{steps_ok}
 
 is_under : (m n : ℕ) → nat_lt m n ≡ false → n ≤ m
 is_under m n h = grind (arith, nat_tests)
-
-length_take : {A : Type 0} (n : ℕ) (xs : List A) → n ≤ length xs → length (take n xs) ≡ n
-length_take zero [] h = refl
-length_take zero (x ∷ xs) h = refl
-length_take (suc n) [] h = absurd (omega (arith, h))
-length_take (suc n) (x ∷ xs) h = ap suc (length_take n xs (omega (arith, h)))
 
 module _ {H O : Type 0} (M : Meaning H O) (m : ProgramForm) where
   abbrev LeftBy : StoreForm H O → Sequence → Option Sequence → Type 0
@@ -109,7 +108,7 @@ module _ {H O : Type 0} (M : Meaning H O) (m : ProgramForm) where
     set_is x [] = tt
     set_is x (w ∷ vs) =
         elim (nat_lt x (length c.globals)) as (λ z. nat_lt x (length c.globals) ≡ z → IsTurnOf (store_of c h out) (Put (w ∷ vs) (op (GlobalSet x) ⨾ ε)) (if z then Goes (record (with_operands c vs) { globals = slice_set c.globals x w }) else Ends ends.Stuck)) [
-          | true ↦ λ e. goes vs (once M m (core.global_set (is_less x (length c.globals) e)))
+          | true ↦ λ e. goes vs (once M m (core.global_set (ltb-true x (length c.globals) e)))
           | false ↦ λ e. tt
         ] refl
 
@@ -172,7 +171,7 @@ module _ {H O : Type 0} (M : Meaning H O) (m : ProgramForm) where
           (on_parts c.frame.values Args Below (Invoke a) (sequence c.frame.code) (sym (take-append-drop (length t.params) c.frame.values)))
 
       many : nat_lt (length c.frame.values) (length t.params) ≡ false → length Args ≡ length t.params
-      many e = length_take (length t.params) c.frame.values (is_under (length c.frame.values) (length t.params) e)
+      many e = length-take-le (length t.params) c.frame.values (is_under (length c.frame.values) (length t.params) e)
 
       answered_is : (w : Option Word) (h' : H) (mem : MemoryForm) (more : List O) → Chain M m 1 (store_of c h out) [] (Put Below (on Args (Invoke a ⨾ ε))) (after_host (store_of c h out) h' mem more) [] (Put Below (on (results w) ε)) →
           Chain M m 1 (store_of c h out) [] (Put c.frame.values (Invoke a ⨾ ε)) (store_of (answered (record (with_operands c Below) { memory = mem }) w) h' (out ++ more)) [] (nested (answered (record (with_operands c Below) { memory = mem }) w))
@@ -268,3 +267,53 @@ module _ {H O : Type 0} (M : Meaning H O) (m : ProgramForm) where
       by_local c h out k.ty k.locals c.frame.locals (in_place c.frame ε) (local_step c.frame)
       (subst (λ (r : Option ValType). IsLocal M m r c.frame.locals (in_place c.frame ε) (local_step c.frame)) k.result_is (local_is M m (context_in m.whole k.ty k.locals) c.frame k.frame_ok))
       (never_stuck (context_in m.whole k.ty k.locals) c.frame k.frame_ok)
+
+  -- Steps with the host's part, and runs.
+
+  taken_is : (S : StoreForm H O) (es : Sequence) (t : Turn) → IsTurnOf S es t → (more : List O) (c' : Conf) (h' : H) → TakenAs M t S.host S.memory more c' h' → Chain M m 1 S [] es (store_of c' h' (S.output ++ more)) [] (nested c')
+  taken_is S es (Goes d) k more c' h' t =
+      subst (λ (x : Conf). Chain M m 1 S [] es (store_of x h' (S.output ++ more)) [] (nested x)) (sym t.0)
+      (subst (λ (x : H). Chain M m 1 S [] es (store_of d x (S.output ++ more)) [] (nested d)) (sym t.1)
+      (subst (λ (o : List O). Chain M m 1 S [] es (store_of d S.host o) [] (nested d)) (sym (ap (λ (o : List O). S.output ++ o) t.2 ∙ append-nil S.output)) k))
+  taken_is S es (Ends e) k more c' h' t = absurd t
+  taken_is S es (Asks i args d) k more c' h' t = subst (λ (x : Conf). Chain M m 1 S [] es (store_of x h' (S.output ++ more)) [] (nested x)) (sym t.2) (k.0 t.0 h' c'.memory more t.1)
+
+  left_is : (S : StoreForm H O) (es : Sequence) (o : Option Sequence) → LeftBy S es o → (c : Conf) (h h' : H) (out out' : List O) → S ≡ store_of c h out → es ≡ nested c → h' ≡ h → out' ≡ out → EndsIn M m 1 c h out o h' out'
+  left_is S es None k c h h' out out' p q i j = tt
+  left_is S es (Some ds) k c h h' out out' p q i j = (S, ap (λ (T : StoreForm H O). T.host) p ∙ sym i, ap (λ (T : StoreForm H O). T.output) p ∙ sym j, subst (λ (T : StoreForm H O). Chain M m 1 T [] (nested c) S [] ds) p (subst (λ (xs : Sequence). Chain M m 1 S [] xs S [] ds) q k))
+
+  over_is : (c : Conf) (h : H) (out : List O) (t : Turn) → IsTurnOf (store_of c h out) (nested c) t → (more : List O) (e : End) (h' : H) → OverBy M t h c.memory more e h' → EndsIn M m 1 c h out (left_at e) h' (out ++ more)
+  over_is c h out (Goes d) k more e h' t = absurd t
+  over_is c h out (Ends x) k more e h' t =
+      subst (λ (y : End). EndsIn M m 1 c h out (left_at y) h' (out ++ more)) (sym t.0) (left_is (store_of c h out) (nested c) (left_at x) k c h h' out (out ++ more) refl refl t.1 (ap (λ (o : List O). out ++ o) t.2 ∙ append-nil out))
+  over_is c h out (Asks i args d) k more e h' t = subst (λ (y : End). EndsIn M m 1 c h out (left_at y) h' (out ++ more)) (sym t.2) (after_host (store_of c h out) h' t.1 more, refl, refl, k.1 t.0 h' t.1 more t.3)
+
+  pub step_is : (c : Conf) (h : H) → ConfOk m.whole c → IsStepReduced M m (turn m c) c h
+  step_is c h k = (λ out more c' h' t. taken_is (store_of c h out) (nested c) (turn m c) (turn_is c k h out) more c' h' t, λ out more e h' t. over_is c h out (turn m c) (turn_is c k h out) more e h' t)
+
+  module _ (T : ℕ → Option Signature) (law : (h : H) (i : ℕ) (args : List Word) (mem : MemoryForm) (a : HostAnswer) (h' : H) (mem' : MemoryForm) (out : List O) → M h i args mem a h' mem' out → Typed (T i) a) (p : ProgramOk m) (k : Linked T m) where
+    steps_are : (n : ℕ) (c : Conf) (h : H) (more : List O) (c' : Conf) (h' : H) → ConfOk m.whole c → Steps M m n c h more c' h' → (out : List O) → IsReduced M m n c h out c' h' (out ++ more)
+    steps_are zero c h more c' h' o s out =
+        subst (λ (d : Conf). IsReduced M m zero c h out d h' (out ++ more)) (sym s.0)
+        (subst (λ (x : H). IsReduced M m zero c h out c x (out ++ more)) (sym s.1)
+        (subst (λ (x : List O). IsReduced M m zero c h out c h x) (sym (ap (λ (x : List O). out ++ x) s.2 ∙ append-nil out)) none))
+    steps_are (suc n) c h more c' h' o s out =
+        let first = (step_is c h o).0 out s.2 s.0 s.1 s.4 in
+        let typed = steps_ok M T m law p k 1 c h s.2 s.0 s.1 o (s.0, s.1, s.2, [], s.4, (refl, refl, refl), sym (append-nil s.2)) in
+        let rest = steps_are n s.0 s.1 s.3 c' h' typed s.5 (out ++ s.2) in
+        join M m 1 n (suc n) (omega arith) first (subst (λ (x : List O). IsReduced M m n s.0 s.1 (out ++ s.2) c' h' x) (append_assoc out s.2 s.3 ∙ ap (λ (x : List O). out ++ x) (sym s.6)) rest)
+
+    behind : (k : ℕ) (c c1 : Conf) (h h1 h' : H) (out out1 out' : List O) (o : Option Sequence) → IsReduced M m k c h out c1 h1 out1 → EndsIn M m 1 c1 h1 out1 o h' out' → EndsIn M m (suc k) c h out o h' out'
+    behind k c c1 h h1 h' out out1 out' None a e = tt
+    behind k c c1 h h1 h' out out1 out' (Some ds) a e = (e.0, e.1, e.2, join M m k 1 (suc k) (omega arith) a e.3)
+
+    pub ran_is : (n : ℕ) (c : Conf) (h : H) (more : List O) (r : RunEnd) (c' : Conf) (h' : H) → ConfOk m.whole c → Ran M m n c h more r c' h' → (out : List O) → IsRunReduced M m n c h out more r c' h'
+    ran_is n c h more OutOfSteps c' h' o r out = steps_are n c h more c' h' o r out
+    ran_is n c h more (Ended e) c' h' o r out =
+        let last = (step_is r.2 r.3 (steps_ok M T m law p k r.0 c h r.4 r.2 r.3 o r.6)).1 (out ++ r.4) r.5 e h' r.7 in
+        (r.0, r.1, behind r.0 c r.2 h r.3 h' out (out ++ r.4) (out ++ more) (left_at e) (steps_are r.0 c h r.4 r.2 r.3 o r.6 out)
+        (subst (λ (x : List O). EndsIn M m 1 r.2 r.3 (out ++ r.4) (left_at e) h' x) (append_assoc out r.4 r.5 ∙ ap (λ (x : List O). out ++ x) (sym r.8)) last))
+    ran_is n c h more NoMemory c' h' o r out = (r.0, r.1, r.2, r.3, r.4, r.5, r.9, steps_are r.0 c h r.4 r.2 r.3 o r.7 out)
+
+    pub did_is : (n : ℕ) (c : Conf) (h : H) (e : MachineEnd) (c' : Conf) (h' : H) → ConfOk m.whole c → Did M m n c h e c' h' → Reduced M m n c h e c' h'
+    did_is n c h e c' h' o d = (d.0, d.1, d.2, d.3, λ out. ran_is n c h d.0 d.1 c' h' o d.3 out)

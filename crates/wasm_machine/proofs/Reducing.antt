@@ -1,7 +1,8 @@
 -- What a step within a frame is in the specification's form.
 use Rattle.std.proofs.Common.{◌≡◌, ◌≢◌, ℕ, zero, suc, ◌+◌, ◌<◌, List, [], ◌∷◌, ◌++◌, length, drop, map, Option, Some, None, Result, Ok, Err, Bool, true, false, refl, sym, ap, ◌∙◌, subst, arith, nat_lt, nat_eq, slice_set, get_or, if◌then◌else◌}
-use Rattle.std.proofs.lemmas.Bool.Decides.{nat_tests}
-use Rattle.std.specs.Prelude.{slice_get}
+use Rattle.std.proofs.lemmas.Bool.{ltb-true}
+use Rattle.std.proofs.lemmas.Option.{get_or_from_slice_get, unwrap_or-slice_get}
+use Rattle.std.specs.Prelude.{slice_get, unwrap_or}
 use Rattle.wasm_types.specs.declared.types.ValType.{ValType}
 use Rattle.wasm_types.specs.declared.instr.MemArg.{MemArg}
 use Rattle.wasm_types.specs.declared.instr.Simple.{Simple}
@@ -22,7 +23,7 @@ use Rattle.wasm_machine.specs.Machines.{ProgramForm}
 use Rattle.wasm_machine.specs.Typed.{BranchOk, past, again, LabelsOk, bottom, label, FrameOk}
 use Rattle.wasm_machine.specs.Reductions.{Admin, Const, Does, Looped, Invoke, LabelOf, FrameOf, Trapped, Sequence, ε, ◌⨾◌, ◌⧺◌, op, arity, in_sequence, sequence, on, Blocks, Here, Within, blocks, steps_of, Rewrites, StoreForm, Reduces, Chain, none, continuation, in_labels, in_place, in_frame}
 use Rattle.wasm_machine.specs.Reductions as core
-use Rattle.wasm_machine.proofs.Safe.{settle_ok}
+use Rattle.wasm_machine.proofs.Safe.{settle_ok, eq_true, eq_false}
 use Rattle.wasm_machine.proofs.Nesting.{on_join, on_behind, on_parts, taken_parts, settled_same, head_acts, deeper, once, join, here, within_body, trap_here, breaks_to}
 
 -- A branch to a loop takes nothing along.
@@ -48,29 +49,8 @@ fit_at (suc n) [] t outer a e = cc
 fit_at zero (l ∷ ls) t outer a e = let x : l ≡ t = cc in subst (λ (y : LabelForm). Fits y.again y.gives) x a.0
 fit_at (suc n) (l ∷ ls) t outer a e = fit_at n ls t outer a.1 e
 
-get_or_there : (ns : List ℕ) (c n l : ℕ) → slice_get ns c ≡ Some l → get_or ns c n ≡ l
-get_or_there [] zero n l e = cc
-get_or_there [] (suc c) n l e = cc
-get_or_there (k ∷ ns) zero n l e = cc
-get_or_there (k ∷ ns) (suc c) n l e = get_or_there ns c n l e
-
 get_or_past : (ns : List ℕ) (c n : ℕ) → slice_get ns c ≡ None → get_or ns c n ≡ n
-get_or_past [] zero n e = refl
-get_or_past [] (suc c) n e = refl
-get_or_past (k ∷ ns) zero n e = cc
-get_or_past (k ∷ ns) (suc c) n e = get_or_past ns c n e
-
-is_zero : (c : ℕ) → nat_eq c 0 ≡ true → c ≡ 0
-is_zero c h = grind (arith, nat_tests)
-
-not_zero : (c : ℕ) → nat_eq c 0 ≡ false → c ≢ 0
-not_zero c h = grind (arith, nat_tests)
-
-is_same : (m n : ℕ) → nat_eq m n ≡ true → m ≡ n
-is_same m n h = grind (arith, nat_tests)
-
-is_less : (m n : ℕ) → nat_lt m n ≡ true → m < n
-is_less m n h = grind (arith, nat_tests)
+get_or_past ns c n e = sym (unwrap_or-slice_get ns c n) ∙ ap (λ (o : Option ℕ). unwrap_or o n) e
 
 -- which instruction an access is
 abbrev pub Accesses : Access → Simple → Type 0
@@ -145,8 +125,8 @@ module _ {H O : Type 0} (M : Meaning H O) (m : ProgramForm) where
     selected_is (I32 c ∷ (b ∷ [])) = tt
     selected_is (I32 c ∷ (b ∷ (a ∷ vs))) =
         elim (nat_eq c 0) as (λ z. nat_eq c 0 ≡ z → IsLocal r f.locals (At f (I32 c ∷ (b ∷ (a ∷ vs))) (op Select ⨾ ε)) (form.Goes (with_values f ((if z then b else a) ∷ vs)))) [
-          | true ↦ λ e. one_rule vs (core.select_second (is_zero c e))
-          | false ↦ λ e. one_rule vs (core.select_first (not_zero c e))
+          | true ↦ λ e. one_rule vs (core.select_second (eq_true c 0 e))
+          | false ↦ λ e. one_rule vs (core.select_first (eq_false c 0 e))
         ] refl
 
     -- Locals.
@@ -159,7 +139,7 @@ module _ {H O : Type 0} (M : Meaning H O) (m : ProgramForm) where
     set_is x [] = tt
     set_is x (w ∷ vs) =
         elim (nat_lt x (length f.locals)) as (λ z. nat_lt x (length f.locals) ≡ z → IsLocal r f.locals (At f (w ∷ vs) (op (LocalSet x) ⨾ ε)) (if z then form.Goes (record f { values = vs; locals = slice_set f.locals x w }) else form.Stuck)) [
-          | true ↦ λ e S. here M m f.labels vs (sequence f.code) (once M m (core.local_set (is_less x (length f.locals) e)))
+          | true ↦ λ e S. here M m f.labels vs (sequence f.code) (once M m (core.local_set (ltb-true x (length f.locals) e)))
           | false ↦ λ e. tt
         ] refl
 
@@ -168,7 +148,7 @@ module _ {H O : Type 0} (M : Meaning H O) (m : ProgramForm) where
     tee_is x (w ∷ vs) q =
         elim (nat_lt x (length f.locals)) as (λ z. nat_lt x (length f.locals) ≡ z → IsLocal r f.locals (At f (w ∷ vs) (op (LocalTee x) ⨾ ε)) (if z then form.Goes (record f { locals = slice_set f.locals x w }) else form.Stuck)) [
           | true ↦ λ e S. subst (λ (us : List Word). Chain M m 1 S f.locals (At f (w ∷ vs) (op (LocalTee x) ⨾ ε)) S (slice_set f.locals x w) (in_labels f.labels (on us (sequence f.code)))) (sym q)
-              (join M m 0 1 1 (omega arith) (no_step vs core.tee S) (here M m f.labels (w ∷ vs) (sequence f.code) (once M m (core.local_set (is_less x (length f.locals) e)))))
+              (join M m 0 1 1 (omega arith) (no_step vs core.tee S) (here M m f.labels (w ∷ vs) (sequence f.code) (once M m (core.local_set (ltb-true x (length f.locals) e)))))
           | false ↦ λ e. tt
         ] refl
 
@@ -210,7 +190,7 @@ module _ {H O : Type 0} (M : Meaning H O) (m : ProgramForm) where
         jump_is : IsLocal r f.locals es (jump f n)
         jump_is =
             elim (nat_eq n (length f.labels)) as (λ z. nat_eq n (length f.labels) ≡ z → IsLocal r f.locals es (if z then form.Leaves f else branch f n)) [
-              | true ↦ λ e. out_is (is_same n (length f.labels) e)
+              | true ↦ λ e. out_is (eq_true n (length f.labels) e)
               | false ↦ λ e. branch_is (drop n f.labels) refl
             ] refl
 
@@ -238,12 +218,12 @@ module _ {H O : Type 0} (M : Meaning H O) (m : ProgramForm) where
     branch_if_is fit n (I64 c ∷ vs) = tt
     branch_if_is fit n (I32 c ∷ vs) =
         elim (nat_eq c 0) as (λ z. nat_eq c 0 ≡ z → IsLocal r f.locals (At f (I32 c ∷ vs) (op (BrIf n) ⨾ ε)) (if z then form.Goes (with_values f vs) else jump (with_values f vs) n)) [
-          | true ↦ λ e. one_rule r f vs (core.br_if_not (is_zero c e))
-          | false ↦ λ e. jump_is r (with_values f vs) fit (At f (I32 c ∷ vs) (op (BrIf n) ⨾ ε)) n (no_step r f vs (core.br_if (not_zero c e)))
+          | true ↦ λ e. one_rule r f vs (core.br_if_not (eq_true c 0 e))
+          | false ↦ λ e. jump_is r (with_values f vs) fit (At f (I32 c ∷ vs) (op (BrIf n) ⨾ ε)) n (no_step r f vs (core.br_if (eq_false c 0 e)))
         ] refl
 
     table_rule : (ns : List ℕ) (n c : ℕ) (o : Option ℕ) → slice_get ns c ≡ o → Rewrites 0 (Const (I32 c) ⨾ Does (BrTable ns n) ⨾ ε) (op (Br (get_or ns c n)) ⨾ ε)
-    table_rule ns n c (Some l) e = subst (λ (k : ℕ). Rewrites 0 (Const (I32 c) ⨾ Does (BrTable ns n) ⨾ ε) (op (Br k) ⨾ ε)) (sym (get_or_there ns c n l e)) (core.br_table e)
+    table_rule ns n c (Some l) e = subst (λ (k : ℕ). Rewrites 0 (Const (I32 c) ⨾ Does (BrTable ns n) ⨾ ε) (op (Br k) ⨾ ε)) (sym (get_or_from_slice_get ns c l n e)) (core.br_table e)
     table_rule ns n c None e = subst (λ (k : ℕ). Rewrites 0 (Const (I32 c) ⨾ Does (BrTable ns n) ⨾ ε) (op (Br k) ⨾ ε)) (sym (get_or_past ns c n e)) (core.br_table_past e)
 
     branch_table_is : AllFit f.labels → (ns : List ℕ) (n : ℕ) (vs : List Word) → IsLocal r f.locals (At f vs (Does (BrTable ns n) ⨾ ε)) (branch_table f ns n vs)
@@ -256,8 +236,8 @@ module _ {H O : Type 0} (M : Meaning H O) (m : ProgramForm) where
     chosen_is gives p q (I64 c ∷ vs) = tt
     chosen_is gives p q (I32 c ∷ vs) =
         elim (nat_eq c 0) as (λ z. nat_eq c 0 ≡ z → IsLocal r f.locals (At f (I32 c ∷ vs) (Does (If gives p q) ⨾ ε)) (form.Goes (entered (with_values f vs) None gives (if z then q else p)))) [
-          | true ↦ λ e. one_rule r f vs (core.if_second (is_zero c e))
-          | false ↦ λ e. one_rule r f vs (core.if_first (not_zero c e))
+          | true ↦ λ e. one_rule r f vs (core.if_second (eq_true c 0 e))
+          | false ↦ λ e. one_rule r f vs (core.if_first (eq_false c 0 e))
         ] refl
 
     through_is : (n : ℕ) (vs : List Word) → IsLocal r f.locals (At f vs (op (CallIndirect n) ⨾ ε)) (called_through f n vs)

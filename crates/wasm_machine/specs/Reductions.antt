@@ -31,7 +31,11 @@ use Rattle.wasm_machine.specs.declared.state.End.{End}
 use Rattle.wasm_machine.specs.declared.state.End.TheVariants as ends
 use Rattle.wasm_machine.specs.Hosts.{Meaning}
 use Rattle.wasm_machine.specs.Frames.{LabelForm, FrameForm}
-use Rattle.wasm_machine.specs.Machines.{Conf, CallerForm, ProgramForm, agree}
+use Rattle.wasm_machine.specs.Machines.{Conf, CallerForm, ProgramForm, Turn, agree}
+use Rattle.wasm_machine.specs.declared.machine.MachineEnd.{MachineEnd}
+use Rattle.wasm_machine.specs.declared.state.RunEnd.{RunEnd}
+use Rattle.wasm_machine.specs.declared.state.RunEnd.TheVariants.{Ended, OutOfSteps, NoMemory}
+use Rattle.wasm_machine.specs.Runs.{TakenAs, OverBy, Ran, told_run}
 
 infixr 5 ◌⨾◌
 infixr 5 ◌⧺◌
@@ -265,3 +269,19 @@ left_at ends.Stuck = None
 abbrev pub EndsIn : {H O : Type 0} → Meaning H O → ProgramForm → ℕ → Conf → H → List O → Option (Sequence) → H → List O → Type 0
 EndsIn M m n c h out None h' out' = Unit {0}
 EndsIn {H} {O} M m n c h out (Some es) h' out' = (S : StoreForm H O) × (S.host ≡ h') × (S.output ≡ out') × Chain M m n (store_of c h out) [] (nested c) S [] es
+
+-- A step is reductions that count one step, whatever was written before; and so is an end.
+abbrev pub IsStepReduced : {H O : Type 0} → Meaning H O → ProgramForm → Turn → Conf → H → Type 0
+IsStepReduced {H} {O} M m t c h =
+    ((out more : List O) (c' : Conf) (h' : H) → TakenAs M t h c.memory more c' h' → IsReduced M m 1 c h out c' h' (out ++ more))
+    × ((out more : List O) (e : End) (h' : H) → OverBy M t h c.memory more e h' → EndsIn M m 1 c h out (left_at e) h' (out ++ more))
+
+-- A run of at most n steps, as it ended: reductions that count n; or fewer, with the one in which it ended; or fewer, before a step for which memory was wanting.
+abbrev pub IsRunReduced : {H O : Type 0} → Meaning H O → ProgramForm → ℕ → Conf → H → List O → List O → RunEnd → Conf → H → Type 0
+IsRunReduced M m n c h out new OutOfSteps c' h' = IsReduced M m n c h out c' h' (out ++ new)
+IsRunReduced M m n c h out new (Ended e) c' h' = (k : ℕ) × (k < n) × EndsIn M m (suc k) c h out (left_at e) h' (out ++ new)
+IsRunReduced {H} {O} M m n c h out new NoMemory c' h' = (k : ℕ) × (k < n) × (c1 : Conf) × (h1 : H) × (before rest : List O) × (new ≡ before ++ rest) × IsReduced M m k c h out c1 h1 (out ++ before)
+
+-- what a machine tells of a run, what the run was, and the reductions that it was, whatever had been written before
+abbrev pub Reduced : {H O : Type 0} → Meaning H O → ProgramForm → ℕ → Conf → H → MachineEnd → Conf → H → Type 0
+Reduced {O = O} M m n c h e c' h' = (new : List O) × (r : RunEnd) × (told_run r ≡ Some e) × Ran M m n c h new r c' h' × ((out : List O) → IsRunReduced M m n c h out new r c' h')

@@ -1,6 +1,7 @@
 //! Machines.
 ghost use Rattle.std.specs.Prelude.{◌≡◌, IfErr, IfOk, IfSome, None, Some};
 ghost use Rattle.wasm_machine.specs.Links.{IsNew, Refuses};
+ghost use Rattle.wasm_machine.specs.Reductions.{Reduced};
 ghost use Rattle.wasm_machine.specs.Runs.{Did, lasting, told_run};
 ghost use Rattle.wasm_machine.specs.Typed.{Linked, SafeRun};
 ghost use Rattle.wasm_types.specs.View.{view_module};
@@ -108,6 +109,7 @@ impl Machine {
         requires linked { Linked H.types self.old.program }
         ensures program { self.new.program ≡ self.old.program }
         ensures run { self.old.ended ≡ None → Did H.meaning self.old.program steps self.old.conf host.old result self.new.conf host.new }
+        ensures reduced { self.old.ended ≡ None → Reduced H.meaning self.old.program steps self.old.conf host.old result self.new.conf host.new }
         ensures again { IfSome self.old.ended (λ e. (result ≡ e) × (self.new ≡ self.old) × (host.new ≡ host.old)) }
         ensures ended { self.old.ended ≡ None → self.new.ended ≡ lasting result }
     {

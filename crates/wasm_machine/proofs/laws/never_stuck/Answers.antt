@@ -1,4 +1,3 @@
-use Rattle.wasm_machine.proofs.Reduced.{turn_is}
 use Rattle.wasm_machine.proofs.Safe.{never_stuck}
 use Rattle.wasm_machine.proofs.laws.never_stuck.Goals as goal
 
