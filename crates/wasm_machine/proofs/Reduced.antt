@@ -185,7 +185,7 @@ module _ {H O : Type 0} (M : Meaning H O) (m : ProgramForm) where
             | false ↦ λ e. (
               (λ w h' mem more u. answered_is w h' mem more (goes Below (once M m (core.invoke_host a i x t w h' mem more Args p q y (many e) u)))),
               (λ k h' mem more u. subst (λ (ds : Sequence). Chain M m 1 (store_of c h out) [] ds (after_host (store_of c h out) h' mem more) [] (Trapped k ⨾ ε)) (sym parts)
-              (stops Below k (once M m (core.invoke_host_traps a i x t k h' mem more Args p q y (many e) u))))
+                  (stops Below k (once M m (core.invoke_host_traps a i x t k h' mem more Args p q y (many e) u)))),
             )
           ] refl
 
@@ -310,9 +310,12 @@ module _ {H O : Type 0} (M : Meaning H O) (m : ProgramForm) where
     pub ran_is : (n : ℕ) (c : Conf) (h : H) (more : List O) (r : RunEnd) (c' : Conf) (h' : H) → ConfOk m.whole c → Ran M m n c h more r c' h' → (out : List O) → IsRunReduced M m n c h out more r c' h'
     ran_is n c h more OutOfSteps c' h' o r out = steps_are n c h more c' h' o r out
     ran_is n c h more (Ended e) c' h' o r out =
-        let last = (step_is r.2 r.3 (steps_ok M T m law p k r.0 c h r.4 r.2 r.3 o r.6)).1 (out ++ r.4) r.5 e h' r.7 in
-        (r.0, r.1, behind r.0 c r.2 h r.3 h' out (out ++ r.4) (out ++ more) (left_at e) (steps_are r.0 c h r.4 r.2 r.3 o r.6 out)
-        (subst (λ (x : List O). EndsIn M m 1 r.2 r.3 (out ++ r.4) (left_at e) h' x) (append_assoc out r.4 r.5 ∙ ap (λ (x : List O). out ++ x) (sym r.8)) last))
+        let last = (step_is r.2 r.3 (steps_ok M T m law p k r.0 c h r.4 r.2 r.3 o r.6)).1 (out ++ r.4) r.5 e h' r.7 in (
+          r.0,
+          r.1,
+          behind r.0 c r.2 h r.3 h' out (out ++ r.4) (out ++ more) (left_at e) (steps_are r.0 c h r.4 r.2 r.3 o r.6 out)
+              (subst (λ (x : List O). EndsIn M m 1 r.2 r.3 (out ++ r.4) (left_at e) h' x) (append_assoc out r.4 r.5 ∙ ap (λ (x : List O). out ++ x) (sym r.8)) last),
+        )
     ran_is n c h more NoMemory c' h' o r out = (r.0, r.1, r.2, r.3, r.4, r.5, r.9, steps_are r.0 c h r.4 r.2 r.3 o r.7 out)
 
     pub did_is : (n : ℕ) (c : Conf) (h : H) (e : MachineEnd) (c' : Conf) (h' : H) → ConfOk m.whole c → Did M m n c h e c' h' → Reduced M m n c h e c' h'

@@ -39,7 +39,6 @@ use Rattle.wasm_machine.specs.Runs.{TakenAs, OverBy, Ran, told_run}
 
 infixr 5 ◌⨾◌
 infixr 5 ◌⧺◌
-
 -- Administrative instructions. `Const` is a value. `Looped` is `loop .. end`, whose result type no rule reads and which is left out here;
 -- `LabelOf` is `label_n{instr*} instr* end`, `FrameOf` is `frame_n{F} instr* end`, where F is the function's locals: the module is one for all.
 mutual
