@@ -1,5 +1,5 @@
 -- A step of a machine is reductions of the specification's form that count one step.
-use Rattle.std.proofs.Common.{◌≡◌, ℕ, zero, suc, ◌+◌, ◌-◌, ◌^◌, ◌≤◌, ◌<◌, List, [], ◌∷◌, ◌++◌, length, take, drop, map, reverse, Option, Some, None, Result, Ok, Err, Bool, true, false, refl, sym, ap, ◌∙◌, subst, arith, append-nil, append_assoc, nat_lt, slice_set, if◌then◌else◌}
+use Rattle.std.proofs.Common.{◌≡◌, ℕ, zero, suc, ◌+◌, ◌-◌, ◌≤◌, List, [], ◌∷◌, ◌++◌, length, take, drop, map, reverse, Option, Some, None, Result, Ok, Err, true, false, refl, sym, ap, ◌∙◌, subst, arith, append-nil, append_assoc, nat_lt, slice_set, if◌then◌else◌}
 use Rattle.std.proofs.lemmas.Bool.Decides.{nat_tests}
 use Rattle.std.proofs.lemmas.Bool.{ltb-true}
 use Rattle.std.proofs.lemmas.List.{take-append-drop, length-take-le}
@@ -10,8 +10,8 @@ use Rattle.wasm_types.specs.declared.instr.MemArg.{MemArg}
 use Rattle.wasm_types.specs.declared.instr.LoadOp.{LoadOp}
 use Rattle.wasm_types.specs.declared.instr.StoreOp.{StoreOp}
 use Rattle.wasm_types.specs.declared.instr.Simple.{Simple}
-use Rattle.wasm_types.specs.declared.instr.Simple.TheVariants.{Call, CallIndirect, GlobalGet, GlobalSet, Load, Store, MemorySize, MemoryGrow}
-use Rattle.wasm_types.specs.Syntax.{Block, Signature, ImportForm, FuncForm}
+use Rattle.wasm_types.specs.declared.instr.Simple.TheVariants.{Call, CallIndirect, GlobalGet, GlobalSet, Load, Store, MemoryGrow}
+use Rattle.wasm_types.specs.Syntax.{Signature, ImportForm, FuncForm}
 use Rattle.wasm_types.specs.Typing.{typed_in, callee_in, context_in, stored}
 use Rattle.wasm_store.specs.declared.trap.TrapKind.{TrapKind}
 use Rattle.wasm_store.specs.declared.trap.TrapKind.TheVariants as trap
@@ -29,7 +29,7 @@ use Rattle.wasm_machine.specs.Hosts.{Meaning}
 use Rattle.wasm_machine.specs.Stacks.{taken}
 use Rattle.wasm_machine.specs.Frames.{FrameForm, Local, local_step, with_values}
 use Rattle.wasm_machine.specs.Frames as form
-use Rattle.wasm_machine.specs.Machines.{Conf, CallerForm, ProgramForm, Turn, Goes, Ends, Asks, turn, turn_by, with_frame, with_operands, with_value, with_loaded, with_stored, with_grown, global_set, memory_load, memory_store, memory_grow, worked, asked, asked_if, entered_func, entered_if, call_at, called, called_by, agree, to_caller, returned_with, returned, answered}
+use Rattle.wasm_machine.specs.Machines.{Conf, CallerForm, ProgramForm, Turn, Goes, Ends, Asks, turn, turn_by, with_frame, with_operands, with_value, with_loaded, with_stored, with_grown, global_set, memory_load, memory_store, memory_grow, worked, asked, asked_if, entered_func, entered_if, call_at, called, called_by, agree, to_caller, returned_with, answered}
 use Rattle.wasm_machine.specs.Runs.{TakenAs, OverBy, Steps, Ran, Did}
 use Rattle.wasm_machine.specs.declared.host.HostAnswer.{HostAnswer}
 use Rattle.wasm_machine.specs.declared.machine.MachineEnd.{MachineEnd}
@@ -40,7 +40,7 @@ use Rattle.wasm_machine.specs.Hosts.{Typed}
 use Rattle.wasm_machine.specs.Reductions.{Admin, Const, Does, Invoke, LabelOf, FrameOf, Trapped, Sequence, ε, ◌⨾◌, ◌⧺◌, op, arity, sequence, on, results, StoreForm, after_host, Chain, none, in_labels, in_place, in_frame, in_callers, nested, store_of, left_at, EndsIn, IsReduced, IsStepReduced, IsRunReduced, Reduced}
 use Rattle.wasm_machine.specs.Reductions as core
 use Rattle.wasm_machine.proofs.Safe.{never_stuck}
-use Rattle.wasm_machine.proofs.Nesting.{on_parts, once, join, here, within_body, in_hole, within_callers, trap_here, trap_out}
+use Rattle.wasm_machine.proofs.Nesting.{on_parts, once, join, within_body, in_hole, within_callers, trap_here, trap_out}
 use Rattle.wasm_machine.proofs.Reducing.{Accesses, IsLocal, local_is}
 use Rattle.wasm_machine.proofs.Whole.{steps_ok}
 

@@ -1,9 +1,9 @@
 -- Worked forms and reductions.
-use Rattle.std.specs.Prelude.{ℕ, ◌≡◌, refl, List, [], ◌∷◌, Some, None}
+use Rattle.std.specs.Prelude.{◌≡◌, refl, List, [], ◌∷◌, Some, None}
 use Rattle.wasm_types.specs.declared.types.ValType.TheVariants as ty
 use Rattle.wasm_types.specs.declared.instr.Simple.TheVariants.{Unreachable, Br, BrIf, Drop, I32Const, Binary}
 use Rattle.wasm_types.specs.declared.instr.IBinOp.TheVariants.{Add}
-use Rattle.wasm_types.specs.Syntax.{Plain, Instructions, Done, Then}
+use Rattle.wasm_types.specs.Syntax.{Plain, Done, Then}
 use Rattle.wasm_store.specs.declared.word.Word.{Word}
 use Rattle.wasm_store.specs.declared.word.Word.TheVariants.{I32}
 use Rattle.wasm_store.specs.declared.trap.TrapKind.TheVariants as trap

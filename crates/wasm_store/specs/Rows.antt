@@ -1,5 +1,5 @@
 -- Worked values of the operators, as an engine gives them (Node.js 20), computed from the definitions. An integer is its bit pattern.
-use Rattle.std.specs.Prelude.{ℕ, ◌≡◌, refl, Bool, true, false, Some, Ok, Err}
+use Rattle.std.specs.Prelude.{◌≡◌, refl, true, false, Some, Ok, Err}
 use Rattle.std.specs.Int.{w32, w64}
 use Rattle.std.specs.Int.Count.{count_leading_zeros, count_trailing_zeros, ones, ones_in, ones-ones}
 use Rattle.wasm_types.specs.declared.instr.IBinOp.TheVariants.{Add, Sub, Mul, DivS, DivU, RemS, RemU, And, Or, Xor, Shl, ShrS, ShrU, Rotl, Rotr}
