@@ -104,6 +104,8 @@ impl Machine {
     /// So many steps, or fewer where it ends. After [`MachineEnd::OutOfSteps`] a further run goes on; any other end is answered again by
     /// every later run, and nothing changes.
     ///
+    /// What it did is a chain of the specification's own reductions (`reduced`), of which as many count as it took steps.
+    ///
     /// The host is to have the imports that it had when the machine was made.
     pub fn run<H: HostCalls>(&mut self, host: &mut H, steps: u64) -> MachineEnd
         requires linked { Linked H.types self.old.program }
