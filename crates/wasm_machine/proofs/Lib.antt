@@ -3,7 +3,10 @@ pub mod Branches
 pub mod Chains
 pub mod Cuts
 pub mod Linking
+pub mod Nesting
 pub mod Operators
+pub mod Reduced
+pub mod Reducing
 pub mod Refusals
 pub mod Safe
 pub mod Settling

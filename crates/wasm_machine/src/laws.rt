@@ -2,6 +2,7 @@
 ghost use Rattle.std.specs.Prelude.{◌≡◌, ◌+◌, None};
 ghost use Rattle.wasm_machine.specs.Frames.{FrameForm, local_step};
 ghost use Rattle.wasm_machine.specs.Machines.{Conf, ProgramForm, turn};
+ghost use Rattle.wasm_machine.specs.Reductions.{IsStepReduced};
 ghost use Rattle.wasm_machine.specs.Runs.{Did, IsPrefix};
 ghost use Rattle.wasm_machine.specs.Typed.{Linked, ConfOk, FrameOk, IsSafe, IsSafeTurn, ProgramOk};
 ghost use Rattle.wasm_types.specs.Typing.{Context};
@@ -17,6 +18,13 @@ pub fn never_stuck()
 /// A well-typed configuration takes a turn that is safe: never stuck, and what it leads to is well typed.
 pub fn turn_safe()
     ensures { (m : ProgramForm) → ProgramOk m → (c : Conf) → ConfOk m.whole c → IsSafeTurn m (turn m c) }
+{}
+
+/// A step of a well-typed configuration is the specification's own reductions (Core 1.0, section 4.4) of its nested form, of which exactly
+/// one counts as a step, with any host. Where the machine is exhausted, which the specification does not know, 10,000 frames are open
+/// besides the first.
+pub fn step_is_reduced<H: HostCalls>()
+    ensures { (m : ProgramForm) → ProgramOk m → (c : Conf) (h : H) → ConfOk m.whole c → IsStepReduced H.meaning m (turn m c) c h }
 {}
 
 /// Two runs, one after the other, are one run of all their steps.

@@ -13,3 +13,4 @@ mod state;
 pub use host::{HostAnswer, HostCalls};
 pub use link::LinkFault;
 pub use machine::{Machine, MachineEnd};
+pub use state::{End, RunEnd};

@@ -1,4 +1,5 @@
 pub mod Integers
 pub mod Memories
+pub mod Rows
 pub mod Tables
 pub mod Words

@@ -1,9 +1,9 @@
-use Rattle.std.proofs.Common.{rules, ◌≡◌, ◌∙◌, ap, subst}
+use Rattle.std.proofs.Common.{rules, ◌≡◌, ◌≢◌, ◌∙◌, ap, subst}
 use Rattle.wasm_machine.specs.Machines.{ProgramForm}
 use Rattle.wasm_machine.specs.Runs.{Did, lasting}
 use Rattle.wasm_machine.specs.declared.machine.MachineEnd.{MachineEnd}
 use Rattle.wasm_machine.specs.declared.machine.MachineEnd.TheVariants as told
-use Rattle.wasm_machine.proofs.Chains.{did_on}
+use Rattle.wasm_machine.proofs.Chains.{did_less, did_on}
 use Rattle.wasm_machine.proofs.laws.run_on.Goals as goal
 
 pub returns : goal.returns
@@ -16,3 +16,8 @@ returns g c =
     did_on M m c.args.first c.args.then c.args.machine.now.conf (g.H.HostCalls.state c.args.host.now) c.run-end.new.self.conf (g.H.HostCalls.state c.run-end.new.host) c.run.result c.run.new.self.conf (g.H.HostCalls.state c.run.new.host)
     (subst (λ (r : MachineEnd). Did M m c.args.first c.args.machine.now.conf (g.H.HostCalls.state c.args.host.now) r c.run-end.new.self.conf (g.H.HostCalls.state c.run-end.new.host)) out d)
     (subst (λ (q : ProgramForm). Did M q c.args.then c.run-end.new.self.conf (g.H.HostCalls.state c.run-end.new.host) c.run.result c.run.new.self.conf (g.H.HostCalls.state c.run.new.host)) c.run-end.ensures.program e)
+
+pub returns-then-ne : goal.returns-then-ne
+returns-then-ne g c =
+    let other : c.run-end.result ≢ told.OutOfSteps = search rules in
+    did_less g.H.HostCalls.meaning c.args.machine.now.program c.args.first c.args.then c.args.machine.now.conf (g.H.HostCalls.state c.args.host.now) c.run-end.result c.run-end.new.self.conf (g.H.HostCalls.state c.run-end.new.host) other (c.run-end.ensures.run c.requires.going)
