@@ -24,7 +24,7 @@ pub fn turn_safe()
 /// one counts as a step, with any host. Where the machine is exhausted, which the specification does not know, 10,000 frames are open
 /// besides the first.
 pub fn step_is_reduced<H: HostCalls>()
-    ensures { (m : ProgramForm) → ProgramOk m → (c : Conf) (h : H) → ConfOk m.whole c → IsStepReduced H.meaning m (turn m c) c h }
+    ensures { (m : ProgramForm) → ProgramOk m → (c : Conf) (h : H.State) → ConfOk m.whole c → IsStepReduced H.meaning m (turn m c) c h }
 {}
 
 /// Two runs, one after the other, are one run of all their steps.
