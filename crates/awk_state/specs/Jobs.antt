@@ -26,10 +26,10 @@ any_long_pair (pair ∷ rest) = (is_long pair.0 || is_long pair.1) || any_long_p
 abbrev pub fault_of_job : JobForm → Option Fault
 fault_of_job job = if any_long job.operands || (any_long_pair job.assigns || any_long_pair job.environment) then Some TextLimit else None
 
--- what script and host share before the script runs
+-- what script and host share before the script runs: ARGV is array 0, ENVIRON array 1 (what they hold comes with the input)
 abbrev pub shared_at_start : JobForm → Outside → Shared
 shared_at_start job outside = record {
-  inner = record { arrays = []; iterators = []; specials = specials_at_start (length job.operands) };
+  inner = record { arrays = [] ∷ ([] ∷ []); iterators = []; specials = specials_at_start (length job.operands) };
   outside = outside;
   output = [];
 }

@@ -1,2 +1,3 @@
 pub mod Emitted
 pub mod Modules
+pub mod Agreement
