@@ -1,7 +1,7 @@
 -- The code of expressions, of statements and of `main` does what mid code means, on the machine over values.
 use Rattle.std.proofs.Common.{◌≡◌, ℕ, zero, suc, ◌+◌, ◌-◌, ◌^◌, ◌<◌, ◌≤◌, Bool, true, false, T, cond, ◌&&◌, nat_le, List, [], ◌∷◌, ◌++◌, length, take, drop, get_or, Option, Some, None, Result, Ok, Err, ℤ, unsigned_abs, w64, refl, sym, ap, ap₂, ◌∙◌, subst, arith, append-nil, append_assoc, le-leb, if◌then◌else◌}
 use Rattle.std.specs.Int.{cast_unsigned}
-use Rattle.std.proofs.lemmas.List.{length-append}
+use Rattle.std.proofs.lemmas.List.{drop-append-le, length-append, length-drop, take-append-le}
 use Rattle.std.proofs.Math.Seq.{take-append_seam, drop-append-add}
 use Rattle.awk_values.specs.declared.fault.Fault.{Fault}
 use Rattle.awk_values.specs.declared.value.Value.{Value as AnyValue}
@@ -51,10 +51,19 @@ text_there [] i = refl
 text_there (s ∷ ts) zero = take-append_seam s (memory_of ts)
 text_there (s ∷ ts) (suc i) = ap (take (length (get_or ts i []))) (drop-append-add s (memory_of ts) (place_of ts i)) ∙ text_there ts i
 
-text_placed : (ts : List (List ℕ)) (i : ℕ) → text_at (memory_of ts) (place_of ts i) (length (get_or ts i [])) ≡ Some (get_or ts i [])
-text_placed ts i =
-    ap (λ (b : Bool). if b then Some (take (length (get_or ts i [])) (drop (place_of ts i) (memory_of ts))) else None) (le-leb (place_of ts i + length (get_or ts i [])) (length (memory_of ts)) (text_within ts i))
-    ∙ ap Some (text_there ts i)
+-- whatever lies behind the texts
+text_placed : (ts : List (List ℕ)) (rest : List ℕ) (i : ℕ) → text_at (memory_of ts ++ rest) (place_of ts i) (length (get_or ts i [])) ≡ Some (get_or ts i [])
+text_placed ts rest i =
+    let m = memory_of ts in
+    let p = place_of ts i in
+    let n = length (get_or ts i []) in
+    let inside = text_within ts i in
+    let all = length-append m rest in
+    let left : length (drop p m) ≡ length m - p = length-drop p m in
+    ap (λ (b : Bool). if b then Some (take n (drop p (m ++ rest))) else None) (le-leb (p + n) (length (m ++ rest)) (omega (arith, inside, all)))
+    ∙ ap Some
+      (ap (take n) (drop-append-le p m rest (omega (arith, inside)))
+      ∙ (take-append-le n (drop p m) rest (omega (arith, inside, left)) ∙ text_there ts i))
 
 constant_word : (z : ℤ) → T (nat_le (unsigned_abs z) (2 ^ 53)) → number_word (or_zero (number_of z)) ≡ cast_unsigned w64 z
 constant_word z h = ap (λ o. number_word (or_zero o)) (number_again (record { number = z; in_range = h }))
@@ -73,9 +82,9 @@ settled_row (Ok x) (Err f) σ = refl
 settled_row (Err f) (Ok xs) σ = refl
 settled_row (Err f) (Err g) σ = refl
 
-module _ (texts : List (List ℕ)) where
+module _ (texts : List (List ℕ)) (behind-texts : List ℕ) where
   abbrev mem : List ℕ
-  mem = memory_of texts
+  mem = memory_of texts ++ behind-texts
 
   abbrev n : ℕ
   n = length texts
@@ -103,7 +112,7 @@ module _ (texts : List (List ℕ)) where
   operand_converted (Number z) (argument.Constant c) x t d k vs K L σ f s h = absurd f
   operand_converted (Number z) argument.Place x t d k vs K L σ f s h = absurd f
   operand_converted (Text i) argument.Place x t d k vs K L σ f s h =
-      (0, omega arith, (L, refl, (λ y lt. refl), (λ y le. refl), (place_of texts i, length (get_or texts i []), refl, text_placed texts i ∙ ap Some (sym h))))
+      (0, omega arith, (L, refl, (λ y lt. refl), (λ y le. refl), (place_of texts i, length (get_or texts i []), refl, text_placed texts behind-texts i ∙ ap Some (sym h))))
   operand_converted (Text i) (argument.Of r) x t d k vs K L σ f s h = absurd f
   operand_converted (Text i) (argument.Constant c) x t d k vs K L σ f s h = absurd f
 
@@ -261,7 +270,7 @@ module _ (texts : List (List ℕ)) where
                   (convert_ok (arguments o) es xs t d kp vs K p.0 σ1 f s.1 p.3)
                   (λ row σ2 c2 q.
                     first mem 0 (push_work texts es + 40) (push_work texts es + 40) c2 (at vs K q.0 kp (host σ2)) Post (Away d K) _ q.1 (omega arith)
-                      (first mem (push_work texts es) 40 (push_work texts es + 40) (at vs K q.0 kp (host σ2)) (at (stacked (pushed_all texts (arguments o) es q.0 t) vs) K q.0 ko (host σ2)) Post (Away d K) _ (push_ok texts (arguments o) es t ko vs K q.0 (host σ2) f) (omega arith)
+                      (first mem (push_work texts es) 40 (push_work texts es + 40) (at vs K q.0 kp (host σ2)) (at (stacked (pushed_all texts (arguments o) es q.0 t) vs) K q.0 ko (host σ2)) Post (Away d K) _ (push_ok texts mem (arguments o) es t ko vs K q.0 (host σ2) f) (omega arith)
                         (operate_ok o row (pushed_all texts (arguments o) es q.0 t) t d k vs K L q.0 σ2 g q.3 (λ z lt. q.2 z lt ∙ p.2 z lt))))))
       emitted_ok (OverList l es) t d k vs K L σ s =
           let kk = keep true (listed_answer l) t d k in

@@ -40,7 +40,7 @@ use Rattle.host_calls.specs.HostStep.{Acts, acts, or_fault as host_or_fault}
 use Rattle.mid_code.specs.ScriptState.{State, Faulted, Outcome, Gives, Stops, Doing, go_on, give, settled, or_fault, perform}
 use Rattle.mid_code.specs.Mid.{Code, Do, Over as OverList, Number, Text, Codes, End, At, Step, Eval, Program, arguments, answer_by, may_fault, Shape, Answered, Literal, shape_of, fits, gives_answer, fit_row, all_values, Sorted, AllSorted}
 use Rattle.mid_code.specs.MidMeaning.{InShape, Values, converted, row_of, or_zero}
-use Rattle.lowering.specs.Emitted.{does, ask, place_of_import, handle_local, number_local, local_for, local_of, is_fault, keep, is_constant, behind, convert_one, convert_all, place_of, memory_of, push_one, push_all}
+use Rattle.lowering.specs.Emitted.{does, ask, place_of_import, handle_local, number_local, local_for, local_of, is_fault, keep, is_constant, behind, convert_one, convert_all, place_of, push_one, push_all}
 use Rattle.lowering.proofs.Pivot.{Cell, Bits, Held, ArrayOf, IteratorOf, Host, Label, Locals, upd, Conf, Run, with_some, and_rest, in_sort, front, decode, cell_of_sort, cell_or_end, cell, fault_cell, state_of, replied, acted, call, onto, at, br, width, with_answer, unless_kept, go}
 use Rattle.lowering.proofs.Pivot
 use Rattle.lowering.proofs.Arrive.{After, Leaving, Arrives, first, go_add, then_on, weaker}
@@ -349,9 +349,6 @@ row_width mem (a ∷ wanted) row ws r =
 -- Operands, in their temporaries.
 
 module _ (texts : List (List ℕ)) where
-  abbrev pub mem : List ℕ
-  mem = memory_of texts
-
   -- where code's value is found: in a temporary, or it is a constant
   abbrev pub HeldOne : (e : Code) → InShape (shape_of e) → Locals → ℕ → Type 0
   HeldOne (Do o es) x L t = L (local_for (answer_by o) t) ≡ kept_cell (answer_by o) x
@@ -401,21 +398,21 @@ module _ (texts : List (List ℕ)) where
   stacked_append [] ws vs = refl
   stacked_append (u ∷ us) ws vs = stacked_append us ws (u ∷ vs)
 
-  push_one_ok : (a : Argument) (e : Code) (t : ℕ) (k : Instructions) (vs : List Cell) (K : List Label) (L : Locals) (h : Host) → go mem (cond (is_constant e) 0 1) (at vs K L (push_one texts a e t k) h) ≡ at (stacked (pushed_one a e L t) vs) K L k h
-  push_one_ok a (Do o es) t k vs K L h = refl
-  push_one_ok a (OverList l es) t k vs K L h = refl
-  push_one_ok a (Number z) t k vs K L h = refl
-  push_one_ok a (Text i) t k vs K L h = refl
+  push_one_ok : (mem : List ℕ) (a : Argument) (e : Code) (t : ℕ) (k : Instructions) (vs : List Cell) (K : List Label) (L : Locals) (h : Host) → go mem (cond (is_constant e) 0 1) (at vs K L (push_one texts a e t k) h) ≡ at (stacked (pushed_one a e L t) vs) K L k h
+  push_one_ok mem a (Do o es) t k vs K L h = refl
+  push_one_ok mem a (OverList l es) t k vs K L h = refl
+  push_one_ok mem a (Number z) t k vs K L h = refl
+  push_one_ok mem a (Text i) t k vs K L h = refl
 
-  pub push_ok : (wanted : List Argument) (es : Codes) (t : ℕ) (k : Instructions) (vs : List Cell) (K : List Label) (L : Locals) (h : Host) → T (fit_row wanted es) → go mem (push_work es) (at vs K L (push_all texts wanted es t k) h) ≡ at (stacked (pushed_all wanted es L t) vs) K L k h
-  push_ok [] End t k vs K L h f = refl
-  push_ok [] (At e es) t k vs K L h f = absurd f
-  push_ok (a ∷ wanted) End t k vs K L h f = absurd f
-  push_ok (a ∷ wanted) (At e es) t k vs K L h f =
+  pub push_ok : (mem : List ℕ) (wanted : List Argument) (es : Codes) (t : ℕ) (k : Instructions) (vs : List Cell) (K : List Label) (L : Locals) (h : Host) → T (fit_row wanted es) → go mem (push_work es) (at vs K L (push_all texts wanted es t k) h) ≡ at (stacked (pushed_all wanted es L t) vs) K L k h
+  push_ok mem [] End t k vs K L h f = refl
+  push_ok mem [] (At e es) t k vs K L h f = absurd f
+  push_ok mem (a ∷ wanted) End t k vs K L h f = absurd f
+  push_ok mem (a ∷ wanted) (At e es) t k vs K L h f =
       let w = cond (is_constant e) 0 1 in
       go_add mem w (push_work es) (at vs K L (push_all texts (a ∷ wanted) (At e es) t k) h)
-      ∙ (ap (go mem (push_work es)) (push_one_ok a e t (push_all texts wanted es (behind e t) k) vs K L h)
-      ∙ (push_ok wanted es (behind e t) k (stacked (pushed_one a e L t) vs) K L h (both_right (fits (shape_of e) a) (fit_row wanted es) f)
+      ∙ (ap (go mem (push_work es)) (push_one_ok mem a e t (push_all texts wanted es (behind e t) k) vs K L h)
+      ∙ (push_ok mem wanted es (behind e t) k (stacked (pushed_one a e L t) vs) K L h (both_right (fits (shape_of e) a) (fit_row wanted es) f)
       ∙ ap (λ ws. at ws K L k h) (sym (stacked_append (pushed_one a e L t) (pushed_all wanted es L (behind e t)) vs))))
 
 -- Primitives.
