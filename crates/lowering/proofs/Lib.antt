@@ -5,3 +5,5 @@ pub mod Forward
 pub mod Emission
 pub mod Arithmetic
 pub mod Refine
+pub mod Linked
+pub mod Whole
