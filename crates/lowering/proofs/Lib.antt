@@ -7,3 +7,4 @@ pub mod Arithmetic
 pub mod Refine
 pub mod Linked
 pub mod Whole
+pub mod Agree

@@ -144,7 +144,7 @@ module _ (mem : List ℕ) where
   is_as Stuck c s out a = absurd a
 
   -- a configuration from its parts
-  at_as : (code : Instructions) (vs : List Cell) (K : List Label) (L : Locals) (h : Host) (c : RealConf) (s : HostState) (out : List Action) → StackAs s.names vs c.frame.values → c.frame.code ≡ code → Rest K L h c s out → As (at vs K L code h) c s out
+  pub at_as : (code : Instructions) (vs : List Cell) (K : List Label) (L : Locals) (h : Host) (c : RealConf) (s : HostState) (out : List Action) → StackAs s.names vs c.frame.values → c.frame.code ≡ code → Rest K L h c s out → As (at vs K L code h) c s out
   at_as code vs K L h c s out a e r =
       subst (λ k. As (at vs K L k h) c s out) e (is_as (at vs K L c.frame.code h) c s out (settle c.frame.code vs c.frame.values K L h c s out a r))
 
@@ -154,7 +154,7 @@ abbrev some_or : {A : Type 0} → A → Option A → A
 some_or d None = d
 some_or d (Some x) = x
 
-some-is : {A : Type 0} → (x y : A) → Some x ≡ Some y → x ≡ y
+pub some-is : {A : Type 0} → (x y : A) → Some x ≡ Some y → x ≡ y
 some-is x y e = ap (some_or x) e
 
 set_at : {A : Type 0} → (xs : List A) (x : ℕ) (v u : A) → slice_get (slice_set xs x v) x ≡ Some u → u ≡ v

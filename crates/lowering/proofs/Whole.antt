@@ -33,7 +33,7 @@ use Rattle.lowering.proofs.Refine.{As, LeftAs, step_as, not_taken, over_word}
 
 -- Output only grows.
 
-prefix_self : (xs : List Action) → IsPrefix xs xs
+pub prefix_self : (xs : List Action) → IsPrefix xs xs
 prefix_self xs = ([], sym (append-nil xs))
 
 prefix_more : (xs ys zs : List Action) → IsPrefix xs ys → IsPrefix xs (ys ++ zs)
@@ -144,14 +144,14 @@ module _ (mem : List ℕ) where
   step_grows o (Over vs h) p = p
   step_grows o Stuck p = tt
 
-  go_grows : (o : List Action) (n : ℕ) (c : Conf) → Grows o c → Grows o (go mem n c)
+  pub go_grows : (o : List Action) (n : ℕ) (c : Conf) → Grows o c → Grows o (go mem n c)
   go_grows o zero c p = p
   go_grows o (suc n) c p = go_grows o n (step mem c) (step_grows o c p)
 
-  over_stays : (n : ℕ) (vs : List Cell) (h : Host) → go mem n (Over vs h) ≡ Over vs h
+  pub over_stays : (n : ℕ) (vs : List Cell) (h : Host) → go mem n (Over vs h) ≡ Over vs h
   over_stays zero vs h = refl
   over_stays (suc n) vs h = over_stays n vs h
 
-  stuck_stays : (n : ℕ) → go mem n Stuck ≡ Stuck
+  pub stuck_stays : (n : ℕ) → go mem n Stuck ≡ Stuck
   stuck_stays zero = refl
   stuck_stays (suc n) = stuck_stays n

@@ -1,0 +1,212 @@
+-- A program and its module agree.
+use Rattle.std.proofs.Common.{◌≡◌, ◌⊎◌, inl, inr, ⊎_elim, ℕ, zero, suc, ◌+◌, ◌-◌, ◌*◌, ◌<◌, ◌≤◌, List, [], ◌∷◌, ◌++◌, length, map, get_or, slice_get, Option, Some, None, ℤ, pos, w32, refl, sym, ap, ap₂, ◌∙◌, subst, arith, append-nil, append_assoc}
+use Rattle.std.proofs.lemmas.Option.{none-some}
+use Rattle.std.proofs.lemmas.Bool.{cases_lt}
+use Rattle.std.specs.Prelude.{⊤}
+use Rattle.awk_values.specs.declared.fault.Fault.{Fault}
+use Rattle.world_core.specs.WorldState.{Action, Outside}
+use Rattle.awk_state.specs.Jobs.{fault_of_job, shared_at_start}
+use Rattle.wasm_types.specs.Syntax.{Instructions, Done}
+use Rattle.wasm_types.specs.declared.instr.Simple.TheVariants.{I32Const}
+use Rattle.wasm_store.specs.declared.word.Word.{Word}
+use Rattle.wasm_store.specs.declared.word.Word.TheVariants.{I32}
+use Rattle.wasm_store.specs.declared.trap.TrapKind.{TrapKind}
+use Rattle.wasm_machine.specs.Machines.{Conf as RealConf, ProgramForm, Turn, turn}
+use Rattle.wasm_machine.specs.Hosts.{Meaning}
+use Rattle.wasm_machine.specs.Links.{IsNew, beginning, main_of, numbers_for}
+use Rattle.wasm_machine.specs.Runs.{TakenAs, OverBy, Steps, Ran, told_end, told_run}
+use Rattle.wasm_machine.specs.declared.state.End.{End}
+use Rattle.wasm_machine.specs.declared.state.RunEnd.{RunEnd}
+use Rattle.wasm_machine.specs.declared.state.RunEnd.TheVariants as run
+use Rattle.wasm_machine.specs.declared.machine.MachineEnd.{MachineEnd}
+use Rattle.wasm_machine.specs.declared.machine.MachineEnd.TheVariants as machine
+use Rattle.host_calls.specs.Hosts.{state_at_start}
+use Rattle.host_calls.specs.HostState.{HostState, Names}
+use Rattle.host_calls.specs.HostStep.{host_meaning, with_output}
+use Rattle.host_calls.specs.Imports.{host_finds}
+use Rattle.host_calls.specs.Jobs.{JobForm}
+use Rattle.mid_code.specs.Meaning.{Flow}
+use Rattle.mid_code.specs.Mid.{Program, IsSorted}
+use Rattle.mid_code.specs.MidMeaning.{all_stepped, mid_run}
+use Rattle.mid_code.specs.ScriptRun.{Ending, Ended, FaultedBy, GoesOn, Exhausted, ending, start, unless}
+use Rattle.mid_code.specs.ScriptState.{State, Faulted, OutOfTurns, TooDeep, Outcome, Gives, Stops}
+use Rattle.lowering.specs.Emitted.{does, main_code, memory_of, steps_emitted}
+use Rattle.lowering.specs.Modules.{module_of}
+use Rattle.lowering.specs.Agreement.{ModuleEnding, Like, Trapped, ended_with, ending_told, MayEnd, plain, IsPlain, output_of, output_in, IsOver, IsPrefix, Agreement}
+use Rattle.lowering.proofs.Pivot.{Cell, Bits, Host, Label, Locals, Conf, Run, Over, Stuck, block_label, at, step, go}
+use Rattle.lowering.proofs.Arrive.{Arrives, go_add}
+use Rattle.lowering.proofs.Forward.{host_of, host, gone, Away}
+use Rattle.lowering.proofs.Emission.{StepsDone, steps_ok, steps_work}
+use Rattle.lowering.proofs.Arithmetic.{inline_ok}
+use Rattle.lowering.proofs.Refine.{As, LeftAs, WordAs, LocalsAs, at_as, step_as, not_taken, over_word, told_word, some-is}
+use Rattle.lowering.proofs.Linked.{numbers, numbers_are, main_is, linked, imported, zeros, begun, first_turn, behind_texts, memory_begins}
+use Rattle.lowering.proofs.Whole.{Grows, go_grows, over_stays, stuck_stays, prefix_self}
+
+got : (xs : List Word) (x : ℕ) (w d : Word) → slice_get xs x ≡ Some w → w ≡ get_or xs x d
+got [] x w d e = absurd (none-some w e)
+got (y ∷ xs) zero w d e = sym (some-is y w e)
+got (y ∷ xs) (suc x) w d e = got xs x w d e
+
+abbrev IsLive : Conf → Type 0
+IsLive Stuck = ⊥
+IsLive _ = Unit {0}
+
+abbrev IsStuck : Conf → Type 0
+IsStuck Stuck = Unit {0}
+IsStuck _ = ⊥
+
+abbrev out_in : Conf → List Action
+out_in (Run vs K L c h) = h.shared.output
+out_in (Over vs h) = h.shared.output
+out_in Stuck = []
+
+over_is_not_stuck : (vs : List Cell) (h : Host) (c : Conf) → c ≡ Over vs h → c ≡ Stuck → ⊥
+over_is_not_stuck vs h c e f = subst IsStuck (sym f ∙ e) tt
+
+abbrev over_host : Host → Conf → Host
+over_host d (Over vs h) = h
+over_host d _ = d
+
+abbrev over_cells : Conf → List Cell
+over_cells (Over vs h) = vs
+over_cells _ = []
+
+map_some : (xs ys : List ℕ) → map Some xs ≡ map Some ys → xs ≡ ys
+map_some xs ys e = sym (back xs) ∙ (ap gained e ∙ back ys)
+  where
+    gained : List (Option ℕ) → List ℕ
+    gained [] = []
+    gained (None ∷ zs) = gained zs
+    gained (Some z ∷ zs) = z ∷ gained zs
+
+    back : (zs : List ℕ) → gained (map Some zs) ≡ zs
+    back [] = refl
+    back (z ∷ zs) = ap (λ (l : List ℕ). z ∷ l) (back zs)
+
+module _ (p : Program) (sorted : IsSorted p) (job : JobForm) (outside : Outside) (is_plain : IsPlain job) where
+  abbrev mem : List ℕ
+  mem = memory_of p.texts ++ behind_texts p
+
+  abbrev m : ProgramForm
+  m = linked p
+
+  abbrev M : Meaning HostState Action
+  M = host_meaning ⊤
+
+  abbrev h0 : Host
+  h0 = host_of (shared_at_start (plain job) outside) []
+
+  abbrev s0 : HostState
+  s0 = state_at_start job outside
+
+  abbrev L0 : Locals
+  L0 = λ x. Bits (get_or (zeros p) x (I32 0))
+
+  abbrev p0 : Conf
+  p0 = at [] [] L0 (main_code p) h0
+
+  abbrev c0 : RealConf
+  c0 = beginning (module_of p) 14
+
+  begins : As mem p0 (begun p) s0 []
+  begins = at_as mem (main_code p) [] [] L0 h0 (begun p) s0 [] tt refl
+    (record {
+      labels = tt;
+      locals = λ x w e. got (zeros p) x w (I32 0) e;
+      host = ap (λ (f : Option Fault). record { names = s0.names; shared = h0.shared; arguments = []; fault = f }) is_plain.no_fault;
+      callers = refl;
+      result = refl;
+      memory = memory_begins p;
+    })
+
+  -- The machine of the module follows.
+
+  follow : (i : ℕ) (q : Conf) (c : RealConf) (s : HostState) (out : List Action) → As mem q c s out → (c1 : RealConf) (s1 : HostState) (o : List Action) → Steps M m i c s o c1 s1 → As mem (go mem i q) c1 s1 (out ++ o)
+  follow zero q c s out a c1 s1 o e =
+      subst (λ z. As mem q z s1 (out ++ o)) (sym e.0)
+        (subst (λ z. As mem q c z (out ++ o)) (sym e.1)
+          (subst (λ z. As mem q c s (out ++ z)) (sym e.2) (subst (λ z. As mem q c s z) (sym (append-nil out)) a)))
+  follow (suc i) (Run vs K L code h) c s out a c1 s1 o e =
+      let n = step_as mem m ⊤ tt (imported p) vs K L code h c s out a in
+      subst (λ z. As mem (go mem i (step mem (Run vs K L code h))) c1 s1 z) (append_assoc out e.2 e.3 ∙ ap (λ z. out ++ z) (sym e.6))
+        (follow i (step mem (Run vs K L code h)) e.0 e.1 (out ++ e.2) (n.taken e.0 e.1 e.2 e.4) c1 s1 e.3 e.5)
+  follow (suc i) (Over [] h) c s out a c1 s1 o e = absurd a
+  follow (suc i) (Over (v ∷ vs) h) c s out a c1 s1 o e = absurd (not_taken mem m ⊤ tt (imported p) c s out v h a e.0 e.1 e.2 e.4)
+  follow (suc i) Stuck c s out a c1 s1 o e = subst (λ z. As mem z c1 s1 (out ++ o)) (sym (stuck_stays mem i)) tt
+
+  -- no step is left to make once it is over
+  no_steps : (j i : ℕ) → j < i → (q : Conf) (c : RealConf) (s : HostState) (out : List Action) → As mem q c s out → (vs : List Cell) (h : Host) → go mem j q ≡ Over vs h → (c1 : RealConf) (s1 : HostState) (o : List Action) → Steps M m i c s o c1 s1 → ⊥
+  no_steps j zero lt q c s out a vs h g c1 s1 o e = absurd (omega (arith, lt))
+  no_steps zero (suc i) lt q c s out a vs h g c1 s1 o e = by vs (subst (λ z. As mem z c s out) g a)
+    where
+      by : (us : List Cell) → As mem (Over us h) c s out → ⊥
+      by [] b = b
+      by (u ∷ us) b = not_taken mem m ⊤ tt (imported p) c s out u h b e.0 e.1 e.2 e.4
+  no_steps (suc j) (suc i) lt (Run us K L code k) c s out a vs h g c1 s1 o e =
+      let n = step_as mem m ⊤ tt (imported p) us K L code k c s out a in
+      no_steps j i (omega (arith, lt)) (step mem (Run us K L code k)) e.0 e.1 (out ++ e.2) (n.taken e.0 e.1 e.2 e.4) vs h g c1 s1 e.3 e.5
+  no_steps (suc j) (suc i) lt (Over [] k) c s out a vs h g c1 s1 o e = a
+  no_steps (suc j) (suc i) lt (Over (u ∷ us) k) c s out a vs h g c1 s1 o e = not_taken mem m ⊤ tt (imported p) c s out u k a e.0 e.1 e.2 e.4
+  no_steps (suc j) (suc i) lt Stuck c s out a vs h g c1 s1 o e = over_is_not_stuck vs h (go mem j Stuck) g (stuck_stays mem j)
+
+  -- the output so far is that over values
+  as_output : (q : Conf) (c : RealConf) (s : HostState) (out : List Action) → IsLive q → As mem q c s out → out ≡ out_in q
+  as_output (Run vs K L code h) c s out l a = ap (λ (z : HostState). z.shared.output) a.1.host
+  as_output (Over [] h) c s out l a = absurd a
+  as_output (Over (v ∷ vs) h) c s out l a = ap (λ (z : HostState). z.shared.output) a.host
+  as_output Stuck c s out l a = absurd l
+
+  later : (i j : ℕ) → i ≤ j → go mem j p0 ≡ go mem (j - i) (go mem i p0)
+  later i j le = let e : j ≡ i + (j - i) = omega (arith, le) in ap (λ n. go mem n p0) e ∙ go_add mem i (j - i) p0
+
+  live : (i j : ℕ) (vs : List Cell) (h : Host) → i ≤ j → go mem j p0 ≡ Over vs h → IsLive (go mem i p0)
+  live i j vs h le g = by (go mem i p0) refl
+    where
+      by : (q : Conf) → go mem i p0 ≡ q → IsLive q
+      by (Run us K L c k) e = tt
+      by (Over us k) e = tt
+      by Stuck e = over_is_not_stuck vs h (go mem j p0) g (later i j le ∙ (ap (go mem (j - i)) e ∙ stuck_stays mem (j - i)))
+
+  -- How it ends over values.
+
+  record Final (turns : ℕ) : Type 0 where
+    steps : ℕ
+    last : Host
+    reached : go mem steps p0 ≡ Over (Bits (I32 0) ∷ []) last
+    bounded : steps ≤ steps_work p.texts (behind_texts p) (inline_ok mem) p.main + 3
+    says : mid_run p (plain job) outside turns ≡ ended_with last.fault (pos 0) last.shared.output
+
+  final : (turns : ℕ) → Final turns
+  final turns = by (all_stepped p.texts p.main (start (plain job) outside turns)) refl
+      (steps_ok p.texts (behind_texts p) (inline_ok mem) p.main 0 Done [] K L0 (start (plain job) outside turns) sorted)
+    where
+      end : Instructions
+      end = does (I32Const 0) Done
+
+      K : List Label
+      K = block_label [] (does (I32Const 0) Done) ∷ []
+
+      b1 : Conf
+      b1 = at [] (block_label [] (does (I32Const 0) Done) ∷ []) L0 (steps_emitted p.texts p.main 0 Done) h0
+
+      told : (r : Outcome Flow) → all_stepped p.texts p.main (start (plain job) outside turns) ≡ r → mid_run p (plain job) outside turns ≡ ending r
+      told r e = ap (λ (f : Option Fault). ending (unless f (all_stepped p.texts p.main) (start (plain job) outside turns))) is_plain.none_kept ∙ ap ending e
+
+      by : (r : Outcome Flow) → all_stepped p.texts p.main (start (plain job) outside turns) ≡ r →
+        Arrives mem (steps_work p.texts (behind_texts p) (inline_ok mem) p.main) b1 (StepsDone p.texts (behind_texts p) (inline_ok mem) Done [] K) (Away 0 K) r → Final turns
+      by (Gives flow σ) e a = record {
+        steps = suc (a.0 + 2);
+        last = host σ;
+        reached = go_add mem a.0 2 b1 ∙ ap (go mem 2) a.2.1;
+        bounded = omega (arith, a.1);
+        says = told (Gives flow σ) e;
+      }
+      by (Stops (Faulted f) σ) e a = record {
+        steps = suc (a.0 + 1);
+        last = gone f σ;
+        reached = go_add mem a.0 1 b1 ∙ ap (go mem 1) a.2.1;
+        bounded = omega (arith, a.1);
+        says = told (Stops (Faulted f) σ) e;
+      }
+      by (Stops OutOfTurns σ) e a = absurd a
+      by (Stops TooDeep σ) e a = absurd a
