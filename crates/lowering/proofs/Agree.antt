@@ -210,3 +210,91 @@ module _ (p : Program) (sorted : IsSorted p) (job : JobForm) (outside : Outside)
       }
       by (Stops OutOfTurns σ) e a = absurd a
       by (Stops TooDeep σ) e a = absurd a
+
+  -- How the module may end.
+
+  abbrev out_at : ℕ → List Action
+  out_at zero = []
+  out_at (suc i) = out_in (go mem i p0)
+
+  abbrev Goes : ℕ → ModuleEnding → Type 0
+  Goes steps e = (e ≡ Like (GoesOn (out_at steps))) × ((i : ℕ) (vs : List Cell) (h : Host) → suc i < steps → go mem i p0 ≡ Over vs h → ⊥)
+
+  abbrev Ends : (turns steps : ℕ) → ModuleEnding → Type 0
+  Ends turns steps e = (e ≡ Like (mid_run p (plain job) outside turns)) × ((i : ℕ) × (vs : List Cell) × (h : Host) × (suc i < steps) × (go mem i p0 ≡ Over vs h))
+
+  abbrev Class : (turns steps : ℕ) → ModuleEnding → Type 0
+  Class turns steps e = Goes steps e ⊎ Ends turns steps e
+
+  -- behind the call of `main`
+  after_first : (i : ℕ) (c : RealConf) (s : HostState) (o : List Action) → Steps M m (suc i) c0 s0 o c s → Steps M m i (begun p) s0 o c s
+  after_first i c s o e =
+      let t = subst (λ z. TakenAs M z s0 c0.memory e.2 e.0 e.1) (first_turn p) e.4 in
+      let rest : o ≡ e.3 = e.6 ∙ ap (λ z. z ++ e.3) t.2 in
+      subst (λ z. Steps M m i (begun p) s0 z c s) (sym rest)
+        (subst (λ z. Steps M m i (begun p) z e.3 c s) t.1 (subst (λ z. Steps M m i z e.1 e.3 c s) t.0 e.5))
+
+  goes_on : (steps : ℕ) (f : Final 0) (c : RealConf) (s : HostState) (o : List Action) → Steps M m steps c0 s0 o c s → Goes steps (Like (GoesOn o))
+  goes_on zero f c s o e = (ap (λ z. Like (GoesOn z)) e.2, λ i vs h lt g. absurd (omega (arith, lt)))
+  goes_on (suc i) f c s o e =
+      let st = after_first i c s o e in
+      let a = follow i p0 (begun p) s0 [] begins c s o st in
+      let le : i ≤ f.steps = ⊎_elim (λ (lt : f.steps < i). absurd (no_steps f.steps i lt p0 (begun p) s0 [] begins (Bits (I32 0) ∷ []) f.last f.reached c s o st)) (λ (h : i ≤ f.steps). h) (cases_lt f.steps i) in
+      (ap (λ z. Like (GoesOn z)) (as_output (go mem i p0) c s o (live i f.steps (Bits (I32 0) ∷ []) f.last le f.reached) a),
+        λ j vs h lt g. no_steps j i (omega (arith, lt)) p0 (begun p) s0 [] begins vs h g c s o st)
+
+  -- it was over at the end that it came to
+  same_end : (i : ℕ) (f : Final 0) (v : Cell) (vs : List Cell) (h : Host) → i ≤ f.steps → go mem i p0 ≡ Over (v ∷ vs) h → (v ≡ Bits (I32 0)) × (h ≡ f.last)
+  same_end i f v vs h le g =
+      let e : Over (v ∷ vs) h ≡ Over (Bits (I32 0) ∷ []) f.last = sym (later i f.steps le ∙ (ap (go mem (f.steps - i)) g ∙ over_stays mem (f.steps - i) (v ∷ vs) h)) ∙ f.reached in
+      (ap (λ (l : List Cell). elim l [ [] ↦ v | x ∷ xs ↦ x ]) (ap over_cells e), ap (over_host h) e)
+
+  ended_word : (s : HostState) (w : Word) (v : Cell) → v ≡ Bits (I32 0) → WordAs s.names v w → w ≡ I32 0
+  ended_word s w v e a = subst (λ z. WordAs s.names z w) e a
+
+  told_by : (en : End) (t : MachineEnd) (w : Word) → told_end en ≡ Some t → told_end en ≡ told_word mem m ⊤ tt (imported p) w → w ≡ I32 0 → t ≡ machine.Returned (pos 0)
+  told_by en t w a b e = sym (some-is (machine.Returned (pos 0)) t (sym (b ∙ ap (told_word mem m ⊤ tt (imported p)) e) ∙ a))
+
+  -- a run that ended after k steps
+  over_at : (steps k : ℕ) (f : Final 0) (e : ModuleEnding) (en : End) (t : MachineEnd) (c1 : RealConf) (s1 s : HostState) (o1 o2 o : List Action) → k < steps → told_end en ≡ Some t → Steps M m k c0 s0 o1 c1 s1 → OverBy M (turn m c1) s1 c1.memory o2 en s → o ≡ o1 ++ o2 →
+    ending_told s.fault t o ≡ Some e → Ends 0 steps e
+  over_at steps zero f e en t c1 s1 s o1 o2 o lt telling st ov whole ending-is =
+      absurd (subst (λ z. OverBy M z s1 c1.memory o2 en s) (ap (turn m) st.0 ∙ first_turn p) ov)
+  over_at steps (suc i) f e en t c1 s1 s o1 o2 o lt telling st ov whole ending-is = by (go mem i p0) refl a
+    where
+      st1 : Steps M m i (begun p) s0 o1 c1 s1
+      st1 = after_first i c1 s1 o1 st
+
+      a : As mem (go mem i p0) c1 s1 o1
+      a = follow i p0 (begun p) s0 [] begins c1 s1 o1 st1
+
+      le : i ≤ f.steps
+      le = ⊎_elim (λ (lt : f.steps < i). absurd (no_steps f.steps i lt p0 (begun p) s0 [] begins (Bits (I32 0) ∷ []) f.last f.reached c1 s1 o1 st1)) (λ (h : i ≤ f.steps). h) (cases_lt f.steps i)
+
+      -- a step that is stuck over values never comes to the end
+      not_stuck : (q : Conf) → go mem i p0 ≡ q → step mem q ≡ Stuck → ⊥
+      not_stuck q g stuck-is =
+          ⊎_elim
+            (λ (less : i < f.steps).
+              over_is_not_stuck (Bits (I32 0) ∷ []) f.last (go mem f.steps p0) f.reached
+                (later i f.steps le ∙ (ap (go mem (f.steps - i)) g ∙ (let e : f.steps - i ≡ suc (f.steps - suc i) = omega (arith, less) in ap (λ n. go mem n q) e ∙ (ap (go mem (f.steps - suc i)) stuck-is ∙ stuck_stays mem (f.steps - suc i))))))
+            (λ (more : f.steps ≤ i).
+              let same : i ≡ f.steps = omega (arith, le, more) in
+              over_is_not_stuck (Bits (I32 0) ∷ []) f.last (step mem q) (ap (step mem) (sym g ∙ (ap (λ n. go mem n p0) same ∙ f.reached))) stuck-is)
+            (cases_lt i f.steps)
+
+      by : (q : Conf) → go mem i p0 ≡ q → As mem q c1 s1 o1 → Ends 0 steps e
+      by (Run vs K L code h) g b =
+          let n = step_as mem m ⊤ tt (imported p) vs K L code h c1 s1 o1 b in
+          ⊎_elim (λ (x : step mem (Run vs K L code h) ≡ Stuck). absurd (not_stuck (Run vs K L code h) g x)) (λ (x : told_end en ≡ None). absurd (none-some t (sym x ∙ telling))) (n.over en s o2 ov)
+      by (Over [] h) g b = absurd b
+      by (Over (v ∷ vs) h) g b =
+          let w = over_word mem m ⊤ tt (imported p) c1 s1 o1 v h b en s o2 ov in
+          let z = same_end i f v vs h le g in
+          let t-is : t ≡ machine.Returned (pos 0) = told_by en t b.word telling w.0 (ended_word s1 b.word v z.0 b.same) in
+          let fault-is : s.fault ≡ f.last.fault = ap (λ (x : HostState). x.fault) w.1 ∙ (ap (λ (x : HostState). x.fault) b.host ∙ ap (λ (x : Host). x.fault) z.1) in
+          let out-is : o ≡ f.last.shared.output = whole ∙ (ap (λ x. o1 ++ x) w.2 ∙ (append-nil o1 ∙ (as_output (Over (v ∷ vs) h) c1 s1 o1 tt b ∙ ap (λ (x : Host). x.shared.output) z.1))) in
+          let told-is : ending_told f.last.fault (machine.Returned (pos 0)) f.last.shared.output ≡ Some e =
+              subst (λ x. ending_told f.last.fault (machine.Returned (pos 0)) x ≡ Some e) out-is (subst (λ x. ending_told x (machine.Returned (pos 0)) o ≡ Some e) fault-is (subst (λ x. ending_told s.fault x o ≡ Some e) t-is ending-is)) in
+          (sym (some-is (Like (ended_with f.last.fault (pos 0) f.last.shared.output)) e told-is) ∙ ap Like (sym f.says), (i, v ∷ vs, h, lt, g))
+      by Stuck g b = absurd (over_is_not_stuck (Bits (I32 0) ∷ []) f.last (go mem f.steps p0) f.reached (later i f.steps le ∙ (ap (go mem (f.steps - i)) g ∙ stuck_stays mem (f.steps - i))))
