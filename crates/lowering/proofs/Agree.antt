@@ -6,7 +6,7 @@ use Rattle.std.specs.Prelude.{⊤}
 use Rattle.awk_values.specs.declared.fault.Fault.{Fault}
 use Rattle.world_core.specs.WorldState.{Action, Outside}
 use Rattle.awk_state.specs.Jobs.{fault_of_job, shared_at_start}
-use Rattle.wasm_types.specs.Syntax.{Instructions, Done}
+use Rattle.wasm_types.specs.Syntax.{Instructions, Done, ModuleForm}
 use Rattle.wasm_types.specs.declared.instr.Simple.TheVariants.{I32Const}
 use Rattle.wasm_store.specs.declared.word.Word.{Word}
 use Rattle.wasm_store.specs.declared.word.Word.TheVariants.{I32}
@@ -66,6 +66,17 @@ over_is_not_stuck vs h c e f = subst IsStuck (sym f ∙ e) tt
 abbrev over_host : Host → Conf → Host
 over_host d (Over vs h) = h
 over_host d _ = d
+
+abbrev like_or : Ending → ModuleEnding → Ending
+like_or d (Like e) = e
+like_or d (Trapped kind output) = d
+
+abbrev IsTrap : ModuleEnding → Type 0
+IsTrap (Like e) = ⊥
+IsTrap (Trapped kind output) = Unit {0}
+
+mul-le_self : (a b : ℕ) → a ≤ a * (b + 1)
+mul-le_self a b = let e : a * (b + 1) ≡ a * b + a = omega arith in omega (arith, e)
 
 abbrev over_cells : Conf → List Cell
 over_cells (Over vs h) = vs
@@ -234,9 +245,9 @@ module _ (p : Program) (sorted : IsSorted p) (job : JobForm) (outside : Outside)
       subst (λ z. Steps M m i (begun p) s0 z c s) (sym rest)
         (subst (λ z. Steps M m i (begun p) z e.3 c s) t.1 (subst (λ z. Steps M m i z e.1 e.3 c s) t.0 e.5))
 
-  goes_on : (steps : ℕ) (f : Final 0) (c : RealConf) (s : HostState) (o : List Action) → Steps M m steps c0 s0 o c s → Goes steps (Like (GoesOn o))
-  goes_on zero f c s o e = (ap (λ z. Like (GoesOn z)) e.2, λ i vs h lt g. absurd (omega (arith, lt)))
-  goes_on (suc i) f c s o e =
+  goes_on : (steps turns : ℕ) (f : Final turns) (c : RealConf) (s : HostState) (o : List Action) → Steps M m steps c0 s0 o c s → Goes steps (Like (GoesOn o))
+  goes_on zero turns f c s o e = (ap (λ z. Like (GoesOn z)) e.2, λ i vs h lt g. absurd (omega (arith, lt)))
+  goes_on (suc i) turns f c s o e =
       let st = after_first i c s o e in
       let a = follow i p0 (begun p) s0 [] begins c s o st in
       let le : i ≤ f.steps = ⊎_elim (λ (lt : f.steps < i). absurd (no_steps f.steps i lt p0 (begun p) s0 [] begins (Bits (I32 0) ∷ []) f.last f.reached c s o st)) (λ (h : i ≤ f.steps). h) (cases_lt f.steps i) in
@@ -244,8 +255,8 @@ module _ (p : Program) (sorted : IsSorted p) (job : JobForm) (outside : Outside)
         λ j vs h lt g. no_steps j i (omega (arith, lt)) p0 (begun p) s0 [] begins vs h g c s o st)
 
   -- it was over at the end that it came to
-  same_end : (i : ℕ) (f : Final 0) (v : Cell) (vs : List Cell) (h : Host) → i ≤ f.steps → go mem i p0 ≡ Over (v ∷ vs) h → (v ≡ Bits (I32 0)) × (h ≡ f.last)
-  same_end i f v vs h le g =
+  same_end : (i turns : ℕ) (f : Final turns) (v : Cell) (vs : List Cell) (h : Host) → i ≤ f.steps → go mem i p0 ≡ Over (v ∷ vs) h → (v ≡ Bits (I32 0)) × (h ≡ f.last)
+  same_end i turns f v vs h le g =
       let e : Over (v ∷ vs) h ≡ Over (Bits (I32 0) ∷ []) f.last = sym (later i f.steps le ∙ (ap (go mem (f.steps - i)) g ∙ over_stays mem (f.steps - i) (v ∷ vs) h)) ∙ f.reached in
       (ap (λ (l : List Cell). elim l [ [] ↦ v | x ∷ xs ↦ x ]) (ap over_cells e), ap (over_host h) e)
 
@@ -256,11 +267,11 @@ module _ (p : Program) (sorted : IsSorted p) (job : JobForm) (outside : Outside)
   told_by en t w a b e = sym (some-is (machine.Returned (pos 0)) t (sym (b ∙ ap (told_word mem m ⊤ tt (imported p)) e) ∙ a))
 
   -- a run that ended after k steps
-  over_at : (steps k : ℕ) (f : Final 0) (e : ModuleEnding) (en : End) (t : MachineEnd) (c1 : RealConf) (s1 s : HostState) (o1 o2 o : List Action) → k < steps → told_end en ≡ Some t → Steps M m k c0 s0 o1 c1 s1 → OverBy M (turn m c1) s1 c1.memory o2 en s → o ≡ o1 ++ o2 →
-    ending_told s.fault t o ≡ Some e → Ends 0 steps e
-  over_at steps zero f e en t c1 s1 s o1 o2 o lt telling st ov whole ending-is =
+  over_at : (steps k turns : ℕ) (f : Final turns) (e : ModuleEnding) (en : End) (t : MachineEnd) (c1 : RealConf) (s1 s : HostState) (o1 o2 o : List Action) → k < steps → told_end en ≡ Some t → Steps M m k c0 s0 o1 c1 s1 → OverBy M (turn m c1) s1 c1.memory o2 en s → o ≡ o1 ++ o2 →
+    ending_told s.fault t o ≡ Some e → Ends turns steps e
+  over_at steps zero turns f e en t c1 s1 s o1 o2 o lt telling st ov whole ending-is =
       absurd (subst (λ z. OverBy M z s1 c1.memory o2 en s) (ap (turn m) st.0 ∙ first_turn p) ov)
-  over_at steps (suc i) f e en t c1 s1 s o1 o2 o lt telling st ov whole ending-is = by (go mem i p0) refl a
+  over_at steps (suc i) turns f e en t c1 s1 s o1 o2 o lt telling st ov whole ending-is = by (go mem i p0) refl a
     where
       st1 : Steps M m i (begun p) s0 o1 c1 s1
       st1 = after_first i c1 s1 o1 st
@@ -283,14 +294,14 @@ module _ (p : Program) (sorted : IsSorted p) (job : JobForm) (outside : Outside)
               over_is_not_stuck (Bits (I32 0) ∷ []) f.last (step mem q) (ap (step mem) (sym g ∙ (ap (λ n. go mem n p0) same ∙ f.reached))) stuck-is)
             (cases_lt i f.steps)
 
-      by : (q : Conf) → go mem i p0 ≡ q → As mem q c1 s1 o1 → Ends 0 steps e
+      by : (q : Conf) → go mem i p0 ≡ q → As mem q c1 s1 o1 → Ends turns steps e
       by (Run vs K L code h) g b =
           let n = step_as mem m ⊤ tt (imported p) vs K L code h c1 s1 o1 b in
           ⊎_elim (λ (x : step mem (Run vs K L code h) ≡ Stuck). absurd (not_stuck (Run vs K L code h) g x)) (λ (x : told_end en ≡ None). absurd (none-some t (sym x ∙ telling))) (n.over en s o2 ov)
       by (Over [] h) g b = absurd b
       by (Over (v ∷ vs) h) g b =
           let w = over_word mem m ⊤ tt (imported p) c1 s1 o1 v h b en s o2 ov in
-          let z = same_end i f v vs h le g in
+          let z = same_end i turns f v vs h le g in
           let t-is : t ≡ machine.Returned (pos 0) = told_by en t b.word telling w.0 (ended_word s1 b.word v z.0 b.same) in
           let fault-is : s.fault ≡ f.last.fault = ap (λ (x : HostState). x.fault) w.1 ∙ (ap (λ (x : HostState). x.fault) b.host ∙ ap (λ (x : Host). x.fault) z.1) in
           let out-is : o ≡ f.last.shared.output = whole ∙ (ap (λ x. o1 ++ x) w.2 ∙ (append-nil o1 ∙ (as_output (Over (v ∷ vs) h) c1 s1 o1 tt b ∙ ap (λ (x : Host). x.shared.output) z.1))) in
@@ -298,3 +309,87 @@ module _ (p : Program) (sorted : IsSorted p) (job : JobForm) (outside : Outside)
               subst (λ x. ending_told f.last.fault (machine.Returned (pos 0)) x ≡ Some e) out-is (subst (λ x. ending_told x (machine.Returned (pos 0)) o ≡ Some e) fault-is (subst (λ x. ending_told s.fault x o ≡ Some e) t-is ending-is)) in
           (sym (some-is (Like (ended_with f.last.fault (pos 0) f.last.shared.output)) e told-is) ∙ ap Like (sym f.says), (i, v ∷ vs, h, lt, g))
       by Stuck g b = absurd (over_is_not_stuck (Bits (I32 0) ∷ []) f.last (go mem f.steps p0) f.reached (later i f.steps le ∙ (ap (go mem (f.steps - i)) g ∙ stuck_stays mem (f.steps - i))))
+
+  class_by : (steps turns : ℕ) (f : Final turns) (e : ModuleEnding) (r : RunEnd) (t : MachineEnd) (c : RealConf) (s : HostState) (o : List Action) → told_run r ≡ Some t → Ran M m steps c0 s0 o r c s → ending_told s.fault t o ≡ Some e → Class turns steps e
+  class_by steps turns f e run.OutOfSteps t c s o telling ran ending-is =
+      let t-is : t ≡ machine.OutOfSteps = sym (some-is machine.OutOfSteps t telling) in
+      let e-is : Like (GoesOn o) ≡ e = some-is (Like (GoesOn o)) e (subst (λ x. ending_told s.fault x o ≡ Some e) t-is ending-is) in
+      inl (subst (Goes steps) e-is (goes_on steps turns f c s o ran))
+  class_by steps turns f e (run.Ended en) t c s o telling ran ending-is =
+      inr (over_at steps ran.0 turns f e en t ran.2 ran.3 s ran.4 ran.5 o ran.1 telling ran.6 ran.7 ran.8 ending-is)
+  class_by steps turns f e run.NoMemory t c s o telling ran ending-is =
+      absurd (none-some e (subst (λ x. ending_told s.fault x o ≡ Some e) (sym (some-is machine.NoMemory t telling)) ending-is))
+
+  classified : (turns steps : ℕ) (e : ModuleEnding) → MayEnd (module_of p) job outside steps e → Class turns steps e
+  classified turns steps e x =
+      let n = x.is_new in
+      let fourteen : n.main ≡ 14 = some-is n.main 14 (sym n.main_is ∙ main_is p) in
+      let numbers-is : x.machine.program.numbers ≡ numbers = map_some x.machine.program.numbers numbers (sym n.linked ∙ numbers_are p) in
+      let program-is : x.machine.program ≡ m = ap₂ (λ (w : ModuleForm) (ns : List ℕ). record { whole = w; numbers = ns }) n.whole numbers-is in
+      let conf-is : x.machine.conf ≡ c0 = n.conf ∙ ap (beginning (module_of p)) fourteen in
+      class_by steps turns (final turns) e x.run-end x.told x.conf x.state x.output x.telling
+        (subst (λ z. Ran M z steps c0 s0 x.output x.run-end x.conf x.state) program-is
+          (subst (λ z. Ran M x.machine.program steps z s0 x.output x.run-end x.conf x.state) conf-is x.ran))
+        x.ending
+
+  -- what is put out while it goes on is how the output ends up beginning
+  begins_so : (turns steps : ℕ) → ((i : ℕ) (vs : List Cell) (h : Host) → suc i < steps → go mem i p0 ≡ Over vs h → ⊥) → IsPrefix (out_at steps) (output_of (mid_run p (plain job) outside turns))
+  begins_so turns zero none = (output_of (mid_run p (plain job) outside turns), refl)
+  begins_so turns (suc i) none =
+      let f = final turns in
+      let le : i ≤ f.steps = ⊎_elim (λ (lt : f.steps < i). absurd (none f.steps (Bits (I32 0) ∷ []) f.last (omega (arith, lt)) f.reached)) (λ (h : i ≤ f.steps). h) (cases_lt f.steps i) in
+      let alive = live i f.steps (Bits (I32 0) ∷ []) f.last le f.reached in
+      let grown : IsPrefix (out_in (go mem i p0)) f.last.shared.output =
+          subst (Grows (out_in (go mem i p0))) (sym (later i f.steps le) ∙ f.reached) (go_grows mem (out_in (go mem i p0)) (f.steps - i) (go mem i p0) (own (go mem i p0) alive)) in
+      subst (IsPrefix (out_in (go mem i p0))) (ended_output f.last.fault f.last.shared.output ∙ ap output_of (sym f.says)) grown
+    where
+      own : (q : Conf) → IsLive q → Grows (out_in q) q
+      own (Run vs K L c h) l = prefix_self h.shared.output
+      own (Over vs h) l = prefix_self h.shared.output
+      own Stuck l = tt
+
+      ended_output : (k : Option Fault) (o : List Action) → o ≡ output_of (ended_with k (pos 0) o)
+      ended_output (Some f) o = refl
+      ended_output None o = refl
+
+  one : (steps : ℕ) (e f : ModuleEnding) → Class 0 steps e → Class 0 steps f → e ≡ f
+  one steps e f (inl a) (inl b) = a.0 ∙ sym b.0
+  one steps e f (inl a) (inr b) = absurd (a.1 b.1.0 b.1.1 b.1.2 b.1.3 b.1.4)
+  one steps e f (inr a) (inl b) = absurd (b.1 a.1.0 a.1.1 a.1.2 a.1.3 a.1.4)
+  one steps e f (inr a) (inr b) = a.0 ∙ sym b.0
+
+  enough : (turns steps : ℕ) (e : ModuleEnding) → (final turns).steps + 2 ≤ steps → Class turns steps e → e ≡ Like (mid_run p (plain job) outside turns)
+  enough turns steps e le (inl a) = let f = final turns in absurd (a.1 f.steps (Bits (I32 0) ∷ []) f.last (omega (arith, le)) f.reached)
+  enough turns steps e le (inr a) = a.0
+
+  back : (steps : ℕ) (e : Ending) → IsOver e → Class 0 steps (Like e) → mid_run p (plain job) outside 0 ≡ e
+  back steps e over (inl a) = absurd (subst IsOver (ap (like_or e) a.0) over)
+  back steps e over (inr a) = sym (ap (like_or e) a.0)
+
+  trapped : (steps : ℕ) (kind : TrapKind) (output : List Action) → Class 0 steps (Trapped kind output) → ⊥
+  trapped steps kind output (inl a) = subst IsTrap a.0 tt
+  trapped steps kind output (inr a) = subst IsTrap a.0 tt
+
+  out : (steps : ℕ) (e : ModuleEnding) → Class 0 steps e → IsPrefix (output_in e) (output_of (mid_run p (plain job) outside 0))
+  out steps e (inl a) = subst (λ z. IsPrefix (output_in z) (output_of (mid_run p (plain job) outside 0))) (sym a.0) (begins_so 0 steps a.1)
+  out steps e (inr a) = subst (λ z. IsPrefix (output_in z) (output_of (mid_run p (plain job) outside 0))) (sym a.0) (prefix_self (output_of (mid_run p (plain job) outside 0)))
+
+-- THE AGREEMENT of a program with its module.
+pub agree : (p : Program) → IsSorted p → Agreement (mid_run p) (module_of p)
+agree p sorted = record {
+  bound = work + 5;
+  one_run = λ job outside is_plain steps e f x y. one p sorted job outside is_plain steps e f (classified p sorted job outside is_plain 0 steps e x) (classified p sorted job outside is_plain 0 steps f y);
+  forward = λ job outside is_plain turns e over says.
+      let f = final p sorted job outside is_plain turns in
+      let b : f.steps ≤ work + 3 = f.bounded in
+      (f.steps + 2, (let c : work + 5 ≤ (work + 5) * (turns + 1) = mul-le_self (work + 5) turns in omega (arith, b, c)), λ steps g le x. enough p sorted job outside is_plain turns steps g le (classified p sorted job outside is_plain turns steps g x) ∙ ap Like says);
+  backward = λ job outside is_plain steps e over x. (0, back p sorted job outside is_plain steps e over (classified p sorted job outside is_plain 0 steps (Like e) x));
+  never_trapped = λ job outside is_plain steps kind output x. trapped p sorted job outside is_plain steps kind output (classified p sorted job outside is_plain 0 steps (Trapped kind output) x);
+  output_module = λ job outside is_plain steps e x. (0, out p sorted job outside is_plain steps e (classified p sorted job outside is_plain 0 steps e x));
+  output_script = λ job outside is_plain turns.
+      (((final p sorted job outside is_plain turns).steps + 2),
+        λ steps e le x. subst (IsPrefix (output_of (mid_run p (plain job) outside turns))) (ap output_in (sym (enough p sorted job outside is_plain turns steps e le (classified p sorted job outside is_plain turns steps e x)))) (prefix_self (output_of (mid_run p (plain job) outside turns))));
+}
+  where
+    work : ℕ
+    work = steps_work p.texts (behind_texts p) (inline_ok (memory_of p.texts ++ behind_texts p)) p.main
