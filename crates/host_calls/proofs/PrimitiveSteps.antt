@@ -46,7 +46,8 @@ as_given q a s (Err why.NoMemory) = Err BadArgument
 abbrev quiet : {A : Type 0} → HostState → Result A Fault → Acts A
 quiet s answer = record { does = gives s.shared answer; arguments = s.arguments }
 
-kept_shared : (sh : Shared) → ◌≡◌ {A = Shared} (record { inner = sh.inner; outside = sh.outside; output = sh.output ++ [] }) sh
+-- no further output
+pub kept_shared : (sh : Shared) → ◌≡◌ {A = Shared} (record { inner = sh.inner; outside = sh.outside; output = sh.output ++ [] }) sh
 kept_shared sh = ap (λ (o : List Action). record { inner = sh.inner; outside = sh.outside; output = o }) (append-nil sh.output)
 
 done_leaf : (word : Option Word) (names : Names) (s : HostState) →
@@ -74,7 +75,8 @@ number_leaf : (q : ℕ) (s : HostState) (o : Outcome) → Ok (given_by q (answer
 number_leaf q s (Ok z) = number_leaf_by q s z (nat_le (unsigned_abs z) (2 ^ 53)) refl
 number_leaf q s (Err f) = fault_leaf q (answer.Of sort.Number) s f
 
-behind : {A R C : Type 0} (r : Result R TrapKind) (x : A) (f : A × R → Result C TrapKind) → and_then (and_then r (λ row. Ok (x, row))) f ≡ and_then r (λ row. f (x, row))
+-- a row behind its first argument
+pub behind : {A R C : Type 0} (r : Result R TrapKind) (x : A) (f : A × R → Result C TrapKind) → and_then (and_then r (λ row. Ok (x, row))) f ≡ and_then r (λ row. f (x, row))
 behind (Ok row) x f = refl
 behind (Err k) x f = refl
 
@@ -146,7 +148,8 @@ state_after q s (Err (why.Fault f)) = record s { fault = Some f }
 state_after q s (Err (why.Trap k)) = s
 state_after q s (Err why.NoMemory) = s
 
-same_output : (s : HostState) (so_far : List Action) → with_output (so_far ++ []) s ≡ with_output so_far s
+-- no further output, in a whole state
+pub same_output : (s : HostState) (so_far : List Action) → with_output (so_far ++ []) s ≡ with_output so_far s
 same_output s so_far = ap (λ (o : List Action). with_output o s) (append-nil so_far)
 
 answered_as : (q : ℕ) (a : Answer) (s : HostState) (so_far : List Action) (r : Result Reply Refusal) → Answered (as_given q a (with_output so_far s) r) (with_output so_far s) (answer_to q a s r) (with_output (so_far ++ []) (state_after q s r)) []
