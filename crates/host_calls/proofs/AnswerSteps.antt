@@ -1,12 +1,10 @@
 -- What is answered after a fault, and to numbers that no import has.
-use Rattle.std.proofs.Common.{◌≡◌, ℕ, pos, List, [], ◌++◌, Bool, true, false, cond, Option, Some, None, Result, Ok, Err, refl, sym, ap, ◌∙◌, subst, arith}
-use Rattle.std.proofs.lemmas.List.{append-nil}
+use Rattle.std.proofs.Common.{◌≡◌, ℕ, pos, List, [], ◌++◌, true, false, cond, Option, Some, None, Result, Ok, refl, sym, ap, subst}
 use Rattle.std.specs.FinMap as map
 use Rattle.awk_values.specs.declared.fault.Fault.{Fault}
 use Rattle.awk_state.specs.declared.table.Listed.{Listed}
 use Rattle.awk_state.specs.declared.table.Listed.TheVariants.{Print}
 use Rattle.awk_state.specs.declared.table.Primitive.{Primitive}
-use Rattle.wasm_machine.specs.declared.host.HostAnswer.{HostAnswer}
 use Rattle.wasm_machine.specs.declared.host.HostAnswer.TheVariants as told
 use Rattle.wasm_store.specs.declared.trap.TrapKind.{TrapKind}
 use Rattle.wasm_store.specs.declared.trap.TrapKind.TheVariants.{BadArgument}
@@ -18,7 +16,7 @@ use Rattle.host_calls.specs.HostStep.{Answered, Given, Means, StepOf, acted, ref
 use Rattle.host_calls.specs.Imports.{import_answer}
 use Rattle.host_calls.specs.declared.import.Import.{Import}
 use Rattle.host_calls.specs.declared.import.Import.TheVariants.{Of, Over, Arg, Drop}
-use Rattle.host_calls.proofs.PrimitiveSteps.{free_for, spare_free}
+use Rattle.host_calls.proofs.PrimitiveSteps.{free_for, same_output, spare_free}
 use Rattle.host_calls.proofs.TypedAnswers.{called_always}
 
 free_for_import : (i : Import) (names : Names) → map.get names.values (pos 2147483647) ≡ None → FreeFor names (import_answer i) 2147483647
@@ -39,9 +37,6 @@ none_over l (Some f) e = cc
 pub none_arg : (f : Option Fault) → refuses Arg f ≡ false → f ≡ None
 none_arg None e = refl
 none_arg (Some f) e = cc
-
-same_output : (s : HostState) (so_far : List Action) → with_output (so_far ++ []) s ≡ with_output so_far s
-same_output s so_far = ap (λ (o : List Action). with_output o s) (append-nil so_far)
 
 -- after a fault an import only refuses
 pub refused_means : (tells : Type 0) (i : Import) (s : HostState) (words : List Word) (memory : List ℕ) (w : Option Word) → map.get s.names.values (pos 2147483647) ≡ None → refuses i s.fault ≡ true → w ≡ refusal (import_answer i) → MeansSome tells i s words memory (told.Done w) s

@@ -1,10 +1,7 @@
 -- The steps of the argument list: a value appended, and a value given up.
-use Rattle.std.proofs.Common.{◌≡◌, ◌≢◌, ℕ, List, [], ◌∷◌, ◌++◌, Bool, true, false, cond, Option, Some, None, Result, Ok, Err, refl, sym, ap, ◌∙◌, subst}
-use Rattle.std.proofs.lemmas.List.{append-nil}
-use Rattle.awk_values.specs.declared.fault.Fault.{Fault}
+use Rattle.std.proofs.Common.{◌≡◌, ℕ, List, [], ◌∷◌, ◌++◌, cond, Some, None, Result, Ok, Err, refl, sym, ap, ◌∙◌, subst}
 use Rattle.awk_values.specs.declared.value.Value.{Value}
 use Rattle.awk_state.specs.SharedState.{Shared}
-use Rattle.wasm_machine.specs.declared.host.HostAnswer.{HostAnswer}
 use Rattle.wasm_machine.specs.declared.host.HostAnswer.TheVariants as told
 use Rattle.wasm_store.specs.declared.trap.TrapKind.{TrapKind}
 use Rattle.wasm_store.specs.declared.word.Word.{Word}
@@ -12,18 +9,14 @@ use Rattle.world_core.specs.WorldState.{Action}
 use Rattle.host_calls.specs.Calls.{MeansSome, only_value, value_at_end}
 use Rattle.host_calls.specs.HostState.{HostState, and_then, no_more, value_front}
 use Rattle.host_calls.specs.HostStep.{Answered, Called, Given, StepOf, acted, refuses, refused, step, with_output}
-use Rattle.host_calls.specs.Imports.{import_answer}
-use Rattle.host_calls.specs.declared.import.Import.{Import}
-use Rattle.host_calls.specs.declared.import.Import.TheVariants.{Of, Over, Arg, Drop}
+use Rattle.host_calls.specs.declared.import.Import.TheVariants.{Arg, Drop}
+use Rattle.host_calls.proofs.PrimitiveSteps.{kept_shared, same_output}
 use Rattle.host_calls.proofs.TypedAnswers.{called_always}
 
 -- what a value gives, as a step that adds no output
 abbrev as_listed : HostState → (Value → HostState) → Result Value TrapKind → Result Given TrapKind
 as_listed s after (Ok v) = Ok (record { word = None; after = after v; added = [] })
 as_listed s after (Err k) = Err k
-
-kept_shared : (sh : Shared) → ◌≡◌ {A = Shared} (record { inner = sh.inner; outside = sh.outside; output = sh.output ++ [] }) sh
-kept_shared sh = ap (λ (o : List Action). record { inner = sh.inner; outside = sh.outside; output = o }) (append-nil sh.output)
 
 leaf : (s : HostState) (arguments : List Value) →
     ◌≡◌ {A = Result Given TrapKind} (Ok (record { word = None; after = record { names = s.names; shared = record { inner = s.shared.inner; outside = s.shared.outside; output = s.shared.output ++ [] }; arguments = arguments; fault = s.fault }; added = [] }))
@@ -52,9 +45,6 @@ step_arg q words memory s none =
 
 step_drop : (q : ℕ) (words : List Word) (memory : List ℕ) (s : HostState) → step q Drop words memory s ≡ as_listed s (λ v. s) (only_value s.names.values words)
 step_drop q words memory s = acted_drop (value_front s.names.values words) s _ (λ v. leaf s s.arguments)
-
-same_output : (s : HostState) (so_far : List Action) → with_output (so_far ++ []) s ≡ with_output so_far s
-same_output s so_far = ap (λ (o : List Action). with_output o s) (append-nil so_far)
 
 -- a value that was appended
 pub arg_called : (tells : Type 0) (s : HostState) (words : List Word) (memory : List ℕ) (v : Value) → s.fault ≡ None → Ok v ≡ only_value s.names.values words → Called tells (Some Arg) s words memory (told.Done None) (appended s v) []

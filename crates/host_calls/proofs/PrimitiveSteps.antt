@@ -1,5 +1,5 @@
 -- The step of a primitive is its evaluation.
-use Rattle.std.proofs.Common.{◌≡◌, ◌≢◌, ℕ, ◌^◌, ◌<◌, pos, ℤ, nat_le, unsigned_abs, List, [], ◌∷◌, ◌++◌, Bool, true, false, cond, Option, Some, None, Result, Ok, Err, refl, sym, ap, ◌∙◌, subst, if◌then◌else◌, arith}
+use Rattle.std.proofs.Common.{◌≡◌, ◌≢◌, ℕ, ◌^◌, pos, ℤ, nat_le, unsigned_abs, List, [], ◌∷◌, ◌++◌, Bool, true, false, cond, Option, Some, None, Result, Ok, Err, refl, sym, ap, ◌∙◌, subst, if◌then◌else◌, arith}
 use Rattle.std.specs.FinMap as map
 use Rattle.std.proofs.lemmas.List.{append-nil}
 use Rattle.awk_values.specs.Comparison.{comparison}
@@ -8,10 +8,8 @@ use Rattle.awk_values.specs.Values.{number_of_value, text_of_value}
 use Rattle.awk_values.specs.declared.fault.Fault.{Fault}
 use Rattle.awk_values.specs.declared.fault.Fault.TheVariants.{Range}
 use Rattle.awk_values.specs.declared.value.Value.{Value as AnyValue}
-use Rattle.awk_values.specs.declared.value.Value.TheVariants as value
 use Rattle.awk_state.specs.Numbers.{Number, number_by, or_range, outcome_of}
 use Rattle.awk_state.specs.SharedState.{Shared, gives}
-use Rattle.awk_state.specs.Sorts.{InAnswer}
 use Rattle.awk_state.specs.Table.{answer_of}
 use Rattle.awk_state.specs.ValueRows.{truncated, within_limit}
 use Rattle.awk_state.specs.declared.sorts.Answer.{Answer}
@@ -28,12 +26,11 @@ use Rattle.wasm_store.specs.declared.trap.TrapKind.TheVariants.{BadArgument}
 use Rattle.wasm_store.specs.declared.word.Word.{Word}
 use Rattle.world_core.specs.WorldState.{Action}
 use Rattle.host_calls.specs.HostState.{FreeFor, HostState, IsFree, Names, and_then, constant_front, decode, no_more, number_front, place_front, refusal, value_front}
-use Rattle.host_calls.specs.HostStep.{Acts, Answered, Called, Given, StepOf, Wanted, acted, given_by, refuses, refused, step, with_output}
+use Rattle.host_calls.specs.HostStep.{Acts, Answered, Called, Given, StepOf, acted, given_by, refuses, refused, step, with_output}
 use Rattle.host_calls.specs.Replies.{ends_then, evaluation, front_then, number_reply, outcome_reply, plain_number, truth_reply, value_reply}
 use Rattle.host_calls.specs.Calls.{Gives, MeansSome, encode_reply}
 use Rattle.host_calls.specs.declared.import.Import.TheVariants.{Of}
 use Rattle.host_calls.specs.declared.reply.Reply.{Reply}
-use Rattle.host_calls.specs.declared.reply.Reply.TheVariants as reply
 use Rattle.host_calls.specs.declared.reply.Refusal.{Refusal}
 use Rattle.host_calls.specs.declared.reply.Refusal.TheVariants as why
 use Rattle.host_calls.proofs.TypedAnswers.{called_always}
@@ -49,7 +46,8 @@ as_given q a s (Err why.NoMemory) = Err BadArgument
 abbrev quiet : {A : Type 0} → HostState → Result A Fault → Acts A
 quiet s answer = record { does = gives s.shared answer; arguments = s.arguments }
 
-kept_shared : (sh : Shared) → ◌≡◌ {A = Shared} (record { inner = sh.inner; outside = sh.outside; output = sh.output ++ [] }) sh
+-- no further output
+pub kept_shared : (sh : Shared) → ◌≡◌ {A = Shared} (record { inner = sh.inner; outside = sh.outside; output = sh.output ++ [] }) sh
 kept_shared sh = ap (λ (o : List Action). record { inner = sh.inner; outside = sh.outside; output = o }) (append-nil sh.output)
 
 done_leaf : (word : Option Word) (names : Names) (s : HostState) →
@@ -77,7 +75,8 @@ number_leaf : (q : ℕ) (s : HostState) (o : Outcome) → Ok (given_by q (answer
 number_leaf q s (Ok z) = number_leaf_by q s z (nat_le (unsigned_abs z) (2 ^ 53)) refl
 number_leaf q s (Err f) = fault_leaf q (answer.Of sort.Number) s f
 
-behind : {A R C : Type 0} (r : Result R TrapKind) (x : A) (f : A × R → Result C TrapKind) → and_then (and_then r (λ row. Ok (x, row))) f ≡ and_then r (λ row. f (x, row))
+-- a row behind its first argument
+pub behind : {A R C : Type 0} (r : Result R TrapKind) (x : A) (f : A × R → Result C TrapKind) → and_then (and_then r (λ row. Ok (x, row))) f ≡ and_then r (λ row. f (x, row))
 behind (Ok row) x f = refl
 behind (Err k) x f = refl
 
@@ -149,7 +148,8 @@ state_after q s (Err (why.Fault f)) = record s { fault = Some f }
 state_after q s (Err (why.Trap k)) = s
 state_after q s (Err why.NoMemory) = s
 
-same_output : (s : HostState) (so_far : List Action) → with_output (so_far ++ []) s ≡ with_output so_far s
+-- no further output, in a whole state
+pub same_output : (s : HostState) (so_far : List Action) → with_output (so_far ++ []) s ≡ with_output so_far s
 same_output s so_far = ap (λ (o : List Action). with_output o s) (append-nil so_far)
 
 answered_as : (q : ℕ) (a : Answer) (s : HostState) (so_far : List Action) (r : Result Reply Refusal) → Answered (as_given q a (with_output so_far s) r) (with_output so_far s) (answer_to q a s r) (with_output (so_far ++ []) (state_after q s r)) []

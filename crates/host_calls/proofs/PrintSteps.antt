@@ -1,6 +1,6 @@
 -- The step of printing.
 use Rattle.std.proofs.Common.{◌≡◌, ◌≢◌, ℕ, ◌-◌, ◌<◌, ◌≤◌, ◌^◌, nat_le, List, [], ◌∷◌, ◌++◌, length, take, drop, Bool, true, false, cond, Option, Some, None, Result, Ok, Err, IfSome, refl, sym, ap, ◌∙◌, subst, arith, rules, if◌then◌else◌}
-use Rattle.std.proofs.lemmas.List.{append-nil, take_all, take-append-drop, take-take}
+use Rattle.std.proofs.lemmas.List.{take_all, take-append-drop, take-take}
 use Rattle.std.specs.Ordering.{int_cmp}
 use Rattle.std.specs.FinMap.{FinMap}
 use Rattle.awk_values.specs.declared.fault.Fault.{Fault}
@@ -8,8 +8,7 @@ use Rattle.awk_values.specs.declared.fault.Fault.TheVariants.{WriteFailed}
 use Rattle.awk_values.specs.declared.value.Value.{Value}
 use Rattle.awk_state.specs.Constants.{InConstant, constant_at}
 use Rattle.awk_state.specs.OutputRows.{all_fits, printed, what_fits}
-use Rattle.awk_state.specs.SharedState.{Inner, Shared, Specials, shared_after}
-use Rattle.awk_state.specs.Sorts.{InAnswer}
+use Rattle.awk_state.specs.SharedState.{Specials}
 use Rattle.awk_state.specs.Table.{listed_meaning}
 use Rattle.awk_state.specs.declared.constants.Destination.{Destination}
 use Rattle.awk_state.specs.declared.constants.Destination.TheVariants.{Standard, Emptied, Appended}
@@ -28,11 +27,12 @@ use Rattle.world_core.specs.WorldState.{Action, Outside, State, after, free, put
 use Rattle.world_core.specs.WorldState as world
 use Rattle.host_calls.specs.Calls.{MeansSome, count_at_end, counted, print_count, standard_count}
 use Rattle.host_calls.specs.HostState.{HostState, and_then, constant_front, decode, no_more, said}
-use Rattle.host_calls.specs.HostStep.{Acts, Answered, Called, Given, StepOf, Wanted, acted, acts, before_last_of, given_by, last_of, refuses, refused, step, with_output}
+use Rattle.host_calls.specs.HostStep.{Acts, Answered, Called, Given, StepOf, acted, acts, before_last_of, given_by, last_of, refuses, refused, step, with_output}
 use Rattle.host_calls.specs.Hosts.{inner_of, state_by}
 use Rattle.host_calls.specs.Output.{FillsUp, PutsPart}
 use Rattle.host_calls.specs.declared.import.Import.TheVariants.{Over}
 use Rattle.host_calls.proofs.OutputLemmas.{part_none, puts-append}
+use Rattle.host_calls.proofs.PrimitiveSteps.{behind, same_output}
 use Rattle.host_calls.proofs.TypedAnswers.{called_always}
 
 -- what printing the last n values gives
@@ -42,10 +42,6 @@ print_acts s n = record { does = listed_meaning Print (last_of n s.arguments) s.
 abbrev as_printed : HostState → Option ℕ → Result Given TrapKind
 as_printed s (Some n) = Ok (given_by 0 answer.Done s (print_acts s n) (print_acts s n).does.answer)
 as_printed s None = Err BadArgument
-
-behind : {A R C : Type 0} (r : Result R TrapKind) (x : A) (f : A × R → Result C TrapKind) → and_then (and_then r (λ row. Ok (x, row))) f ≡ and_then r (λ row. f (x, row))
-behind (Ok row) x f = refl
-behind (Err k) x f = refl
 
 more_by : (c : Constant) (s : HostState) {R : Type 0} (o : Option (InConstant c)) (rest : List Word) (d : List Word → Result R TrapKind) (f : InConstant c × R → Result Given TrapKind) (g : InConstant c → List Word → Option ℕ) →
     ((x : InConstant c) (rest : List Word) → and_then (d rest) (λ row. f (x, row)) ≡ as_printed s (g x rest)) →
@@ -79,9 +75,6 @@ step_print words memory s none =
     ap (λ f. cond (refuses (Over Print) f) (Ok (refused (Over Print) s)) (acted 0 (Over Print) words memory s)) none
     ∙ more constant.Count s words (decode s.names memory (argument.Constant constant.Destination ∷ [])) _ _ (λ n behind_count.
     more constant.Destination s behind_count no_more _ _ (λ target rest. stop s rest _ _ (fits s n target)))
-
-same_output : (s : HostState) (so_far : List Action) → with_output (so_far ++ []) s ≡ with_output so_far s
-same_output s so_far = ap (λ (o : List Action). with_output o s) (append-nil so_far)
 
 -- arguments that do not fit
 pub print_trap : (tells : Type 0) (s : HostState) (words : List Word) (memory : List ℕ) → s.fault ≡ None → None ≡ print_count words (length s.arguments) → MeansSome tells (Over Print) s words memory (told.Trap BadArgument) s
