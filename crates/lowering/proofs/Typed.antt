@@ -2,9 +2,9 @@
 use Rattle.std.proofs.Common.{◌≡◌, ℕ, zero, suc, ◌+◌, ◌*◌, ◌/◌, ◌^◌, ◌<◌, ◌≤◌, max, Bool, true, false, T, cond, ◌&&◌, List, [], ◌∷◌, ◌++◌, length, take, reverse, get_or, Option, Some, None, refl, sym, ap, ◌∙◌, subst, arith, append_assoc, w64, slice_get}
 use Rattle.std.specs.Int.{cast_unsigned}
 use Rattle.std.specs.List.{All}
-use Rattle.std.specs.Prelude.{Contains}
+use Rattle.std.specs.Prelude.{codes}
 use Rattle.std.proofs.lemmas.Grind.{reverse_onto}
-use Rattle.std.proofs.Math.Nat.{lt-div-mul-add, div-mul-le_self}
+use Rattle.std.proofs.lemmas.List.Elements.{All-cons, All-nil}
 use Rattle.awk_state.specs.Table.{listed_answer}
 use Rattle.awk_state.specs.declared.sorts.Sort.TheVariants as sort
 use Rattle.awk_state.specs.declared.sorts.Argument.{Argument}
@@ -14,7 +14,7 @@ use Rattle.awk_state.specs.declared.sorts.Answer.TheVariants as answer
 use Rattle.awk_state.specs.declared.table.Primitive.TheVariants as prim
 use Rattle.awk_state.specs.declared.table.Listed.{Listed}
 use Rattle.awk_state.specs.declared.table.Listed.TheVariants.{Print}
-use Rattle.wasm_types.specs.Syntax.{Plain, Block, If, Instructions, Done, Then, Signature}
+use Rattle.wasm_types.specs.Syntax.{Plain, Block, If, Instructions, Done, Then, Signature, ImportForm}
 use Rattle.wasm_types.specs.Typing.{one, Context, Fixed, Leaves, Effect, over, effect_of, InstrOk, CodeOk, done, more, simple, block, choice, callee_in, context_in, FuncOk, ImportOk, LevelOk, ModuleOk, DescOk, DataOk, AreDistinct}
 use Rattle.wasm_types.specs.declared.types.ValType.{ValType}
 use Rattle.wasm_types.specs.declared.types.ValType.TheVariants.{I32, I64}
@@ -26,7 +26,8 @@ use Rattle.wasm_types.specs.declared.instr.ITestOp.TheVariants.{Eqz}
 use Rattle.wasm_types.specs.declared.instr.CvtOp.TheVariants.{I64ExtendI32U}
 use Rattle.host_calls.specs.declared.import.Import.{Import}
 use Rattle.host_calls.specs.declared.import.Import.TheVariants.{Of, Over, Arg, Drop}
-use Rattle.host_calls.specs.Imports.{import_arguments, import_answer, import_type, words_of, params_of, result_of}
+use Rattle.wasm_machine.specs.Links.{SegmentsFit, ElemFits, DataFits}
+use Rattle.host_calls.specs.Imports.{imports, import_arguments, import_answer, import_type, words_of, params_of, result_of}
 use Rattle.mid_code.specs.declared.mid.Arithmetic.{Arithmetic}
 use Rattle.mid_code.specs.declared.mid.Arithmetic.TheVariants.{Plus, Minus, Times}
 use Rattle.mid_code.specs.declared.mid.Operation.{Operation}
@@ -34,7 +35,7 @@ use Rattle.mid_code.specs.declared.mid.Operation.TheVariants.{Host, Inline}
 use Rattle.mid_code.specs.Mid.{Code, Do, Over as OverList, Number, Text, Codes, End, At, Step, Eval, Program, arguments, answer_by, may_fault, Shape, Answered, Literal, shape_of, fits, is_value, gives_answer, fit_row, all_values, Sorted, AllSorted, SortedStep, SortedSteps, IsSorted}
 use Rattle.lower_layout.specs.Layouts.{room_for, rooms_for, step_room}
 use Rattle.lowering.specs.Emitted.{place_of_import, does, ask, handle_local, number_local, local_for, local_of, minus_one, least, is_fault, keep, is_constant, behind, convert_one, convert_all, place_of, memory_of, temporaries, push_one, push_all, append_all, count, fail_if, out_of_range, ranged, factors_differ, times, inline, operate, emitted, all_emitted, step_emitted, steps_emitted, main_code}
-use Rattle.lowering.specs.Modules.{locals_for, module_of}
+use Rattle.lowering.specs.Modules.{imported_from, locals_for, pages_for, module_of}
 use Rattle.lowering.proofs.Forward.{both_left, both_right}
 
 -- operands are pushed one after the other
@@ -349,3 +350,42 @@ module _ (p : Program) where
   main_ok s =
       let t = temporaries p.main in
       main_typed (context_in (module_of p) main_type (locals_for t)) t (handle_there t) (number_there t) callee_there p s (omega arith)
+
+  -- The rest of the module.
+
+  types_of_imports : (n : ℕ) (is : List Import) (k : ℕ) (d : ImportForm) → k < length (imported_from n is) → (get_or (imported_from n is) k d).ty < n + length is
+  types_of_imports n [] k d lt = absurd (omega (arith, lt))
+  types_of_imports n (i ∷ is) zero d lt = omega arith
+  types_of_imports n (i ∷ is) (suc k) d lt = let h = types_of_imports (suc n) is k d (omega (arith, lt)) in omega (arith, h)
+
+  imports_typed : All (ImportOk (module_of p)) (module_of p).imports
+  imports_typed k d lt = let h = types_of_imports 0 imports k d lt in omega (arith, h)
+
+  pages_enough : (b : ℕ) → 0 + b ≤ pages_for b * 65536
+  pages_enough b = omega arith
+
+  pages_few : (b : ℕ) → b ≤ 2 ^ 24 → pages_for b ≤ 65536
+  pages_few b h = omega (arith, h)
+
+  one_name : AreDistinct (codes "main" ∷ [])
+  one_name zero lt c = omega (arith, c.1)
+  one_name (suc i) lt c = omega (arith, lt)
+
+  pub fit : SegmentsFit (module_of p)
+  fit = (All-nil (ElemFits 0), All-cons (DataFits (pages_for (length (memory_of p.texts)) * 65536)) _ [] (pages_enough (length (memory_of p.texts))) (All-nil _))
+
+  level_typed : length (memory_of p.texts) ≤ 2 ^ 24 → LevelOk (module_of p)
+  level_typed h = record {
+    imports_ok = imports_typed;
+    table_ok = tt;
+    memory_ok = (omega arith, pages_few (length (memory_of p.texts)) h);
+    globals_ok = All-nil _;
+    exports_ok = All-cons (λ e. DescOk (module_of p) e.desc) _ [] (omega arith) (All-nil _);
+    names_ok = one_name;
+    start_ok = tt;
+    elems_ok = All-nil _;
+    data_ok = All-cons (DataOk (module_of p)) _ [] (record { of_memory = (refl, refl); offset = refl }) (All-nil _);
+  }
+
+  pub typed : IsSorted p → length (memory_of p.texts) ≤ 2 ^ 24 → ModuleOk (module_of p)
+  typed s h = record { level = level_typed h; funcs_ok = All-cons (FuncOk (module_of p)) _ [] (main_type, refl, main_ok s) (All-nil _) }
