@@ -1,19 +1,19 @@
 -- A program and its module agree.
-use Rattle.std.proofs.Common.{◌≡◌, ◌⊎◌, inl, inr, ⊎_elim, ℕ, zero, suc, ◌+◌, ◌-◌, ◌*◌, ◌<◌, ◌≤◌, List, [], ◌∷◌, ◌++◌, length, map, get_or, slice_get, Option, Some, None, ℤ, pos, w32, refl, sym, ap, ap₂, ◌∙◌, subst, arith, append-nil, append_assoc}
+use Rattle.std.proofs.Common.{◌≡◌, ◌⊎◌, inl, inr, ⊎_elim, ℕ, zero, suc, ◌+◌, ◌-◌, ◌*◌, ◌<◌, ◌≤◌, List, [], ◌∷◌, ◌++◌, map, get_or, slice_get, Option, Some, None, pos, refl, sym, ap, ap₂, ◌∙◌, subst, arith, append-nil, append_assoc}
 use Rattle.std.proofs.lemmas.Option.{none-some}
 use Rattle.std.proofs.lemmas.Bool.{cases_lt}
 use Rattle.std.specs.Prelude.{⊤}
 use Rattle.awk_values.specs.declared.fault.Fault.{Fault}
 use Rattle.world_core.specs.WorldState.{Action, Outside}
-use Rattle.awk_state.specs.Jobs.{fault_of_job, shared_at_start}
+use Rattle.awk_state.specs.Jobs.{shared_at_start}
 use Rattle.wasm_types.specs.Syntax.{Instructions, Done, ModuleForm}
 use Rattle.wasm_types.specs.declared.instr.Simple.TheVariants.{I32Const}
 use Rattle.wasm_store.specs.declared.word.Word.{Word}
 use Rattle.wasm_store.specs.declared.word.Word.TheVariants.{I32}
 use Rattle.wasm_store.specs.declared.trap.TrapKind.{TrapKind}
-use Rattle.wasm_machine.specs.Machines.{Conf as RealConf, ProgramForm, Turn, turn}
+use Rattle.wasm_machine.specs.Machines.{Conf as RealConf, ProgramForm, turn}
 use Rattle.wasm_machine.specs.Hosts.{Meaning}
-use Rattle.wasm_machine.specs.Links.{IsNew, beginning, main_of, numbers_for}
+use Rattle.wasm_machine.specs.Links.{beginning}
 use Rattle.wasm_machine.specs.Runs.{TakenAs, OverBy, Steps, Ran, told_end, told_run}
 use Rattle.wasm_machine.specs.declared.state.End.{End}
 use Rattle.wasm_machine.specs.declared.state.RunEnd.{RunEnd}
@@ -21,15 +21,14 @@ use Rattle.wasm_machine.specs.declared.state.RunEnd.TheVariants as run
 use Rattle.wasm_machine.specs.declared.machine.MachineEnd.{MachineEnd}
 use Rattle.wasm_machine.specs.declared.machine.MachineEnd.TheVariants as machine
 use Rattle.host_calls.specs.Hosts.{state_at_start}
-use Rattle.host_calls.specs.HostState.{HostState, Names}
-use Rattle.host_calls.specs.HostStep.{host_meaning, with_output}
-use Rattle.host_calls.specs.Imports.{host_finds}
+use Rattle.host_calls.specs.HostState.{HostState}
+use Rattle.host_calls.specs.HostStep.{host_meaning}
 use Rattle.host_calls.specs.Jobs.{JobForm}
 use Rattle.mid_code.specs.Meaning.{Flow}
 use Rattle.mid_code.specs.Mid.{Program, IsSorted}
 use Rattle.mid_code.specs.MidMeaning.{all_stepped, mid_run}
-use Rattle.mid_code.specs.ScriptRun.{Ending, Ended, FaultedBy, GoesOn, Exhausted, ending, start, unless}
-use Rattle.mid_code.specs.ScriptState.{State, Faulted, OutOfTurns, TooDeep, Outcome, Gives, Stops}
+use Rattle.mid_code.specs.ScriptRun.{Ending, GoesOn, ending, start, unless}
+use Rattle.mid_code.specs.ScriptState.{Faulted, OutOfTurns, TooDeep, Outcome, Gives, Stops}
 use Rattle.lowering.specs.Emitted.{does, main_code, memory_of, steps_emitted}
 use Rattle.lowering.specs.Modules.{module_of}
 use Rattle.lowering.specs.Agreement.{ModuleEnding, Like, Trapped, ended_with, ending_told, MayEnd, plain, IsPlain, output_of, output_in, IsOver, IsPrefix, Agreement}
@@ -38,7 +37,7 @@ use Rattle.lowering.proofs.Arrive.{Arrives, go_add}
 use Rattle.lowering.proofs.Forward.{host_of, host, gone, Away}
 use Rattle.lowering.proofs.Emission.{StepsDone, steps_ok, steps_work}
 use Rattle.lowering.proofs.Arithmetic.{inline_ok}
-use Rattle.lowering.proofs.Refine.{As, LeftAs, WordAs, LocalsAs, at_as, step_as, not_taken, over_word, told_word, some-is}
+use Rattle.lowering.proofs.Refine.{As, WordAs, at_as, step_as, not_taken, over_word, told_word, some-is}
 use Rattle.lowering.proofs.Linked.{numbers, numbers_are, main_is, linked, imported, zeros, begun, first_turn, behind_texts, memory_begins}
 use Rattle.lowering.proofs.Whole.{Grows, go_grows, over_stays, stuck_stays, prefix_self}
 
@@ -121,26 +120,26 @@ module _ (p : Program) (sorted : IsSorted p) (job : JobForm) (outside : Outside)
 
   begins : As mem p0 (begun p) s0 []
   begins = at_as mem (main_code p) [] [] L0 h0 (begun p) s0 [] tt refl
-    (record {
-      labels = tt;
-      locals = λ x w e. got (zeros p) x w (I32 0) e;
-      host = ap (λ (f : Option Fault). record { names = s0.names; shared = h0.shared; arguments = []; fault = f }) is_plain.no_fault;
-      callers = refl;
-      result = refl;
-      memory = memory_begins p;
-    })
+      (record {
+        labels = tt;
+        locals = λ x w e. got (zeros p) x w (I32 0) e;
+        host = ap (λ (f : Option Fault). record { names = s0.names; shared = h0.shared; arguments = []; fault = f }) is_plain.no_fault;
+        callers = refl;
+        result = refl;
+        memory = memory_begins p;
+      })
 
   -- The machine of the module follows.
 
   follow : (i : ℕ) (q : Conf) (c : RealConf) (s : HostState) (out : List Action) → As mem q c s out → (c1 : RealConf) (s1 : HostState) (o : List Action) → Steps M m i c s o c1 s1 → As mem (go mem i q) c1 s1 (out ++ o)
   follow zero q c s out a c1 s1 o e =
       subst (λ z. As mem q z s1 (out ++ o)) (sym e.0)
-        (subst (λ z. As mem q c z (out ++ o)) (sym e.1)
-          (subst (λ z. As mem q c s (out ++ z)) (sym e.2) (subst (λ z. As mem q c s z) (sym (append-nil out)) a)))
+      (subst (λ z. As mem q c z (out ++ o)) (sym e.1)
+      (subst (λ z. As mem q c s (out ++ z)) (sym e.2) (subst (λ z. As mem q c s z) (sym (append-nil out)) a)))
   follow (suc i) (Run vs K L code h) c s out a c1 s1 o e =
       let n = step_as mem m ⊤ tt (imported p) vs K L code h c s out a in
       subst (λ z. As mem (go mem i (step mem (Run vs K L code h))) c1 s1 z) (append_assoc out e.2 e.3 ∙ ap (λ z. out ++ z) (sym e.6))
-        (follow i (step mem (Run vs K L code h)) e.0 e.1 (out ++ e.2) (n.taken e.0 e.1 e.2 e.4) c1 s1 e.3 e.5)
+      (follow i (step mem (Run vs K L code h)) e.0 e.1 (out ++ e.2) (n.taken e.0 e.1 e.2 e.4) c1 s1 e.3 e.5)
   follow (suc i) (Over [] h) c s out a c1 s1 o e = absurd a
   follow (suc i) (Over (v ∷ vs) h) c s out a c1 s1 o e = absurd (not_taken mem m ⊤ tt (imported p) c s out v h a e.0 e.1 e.2 e.4)
   follow (suc i) Stuck c s out a c1 s1 o e = subst (λ z. As mem z c1 s1 (out ++ o)) (sym (stuck_stays mem i)) tt
@@ -204,7 +203,7 @@ module _ (p : Program) (sorted : IsSorted p) (job : JobForm) (outside : Outside)
       told r e = ap (λ (f : Option Fault). ending (unless f (all_stepped p.texts p.main) (start (plain job) outside turns))) is_plain.none_kept ∙ ap ending e
 
       by : (r : Outcome Flow) → all_stepped p.texts p.main (start (plain job) outside turns) ≡ r →
-        Arrives mem (steps_work p.texts (behind_texts p) (inline_ok mem) p.main) b1 (StepsDone p.texts (behind_texts p) (inline_ok mem) Done [] K) (Away 0 K) r → Final turns
+          Arrives mem (steps_work p.texts (behind_texts p) (inline_ok mem) p.main) b1 (StepsDone p.texts (behind_texts p) (inline_ok mem) Done [] K) (Away 0 K) r → Final turns
       by (Gives flow σ) e a = record {
         steps = suc (a.0 + 2);
         last = host σ;
@@ -243,16 +242,17 @@ module _ (p : Program) (sorted : IsSorted p) (job : JobForm) (outside : Outside)
       let t = subst (λ z. TakenAs M z s0 c0.memory e.2 e.0 e.1) (first_turn p) e.4 in
       let rest : o ≡ e.3 = e.6 ∙ ap (λ z. z ++ e.3) t.2 in
       subst (λ z. Steps M m i (begun p) s0 z c s) (sym rest)
-        (subst (λ z. Steps M m i (begun p) z e.3 c s) t.1 (subst (λ z. Steps M m i z e.1 e.3 c s) t.0 e.5))
+      (subst (λ z. Steps M m i (begun p) z e.3 c s) t.1 (subst (λ z. Steps M m i z e.1 e.3 c s) t.0 e.5))
 
   goes_on : (steps turns : ℕ) (f : Final turns) (c : RealConf) (s : HostState) (o : List Action) → Steps M m steps c0 s0 o c s → Goes steps (Like (GoesOn o))
   goes_on zero turns f c s o e = (ap (λ z. Like (GoesOn z)) e.2, λ i vs h lt g. absurd (omega (arith, lt)))
   goes_on (suc i) turns f c s o e =
       let st = after_first i c s o e in
       let a = follow i p0 (begun p) s0 [] begins c s o st in
-      let le : i ≤ f.steps = ⊎_elim (λ (lt : f.steps < i). absurd (no_steps f.steps i lt p0 (begun p) s0 [] begins (Bits (I32 0) ∷ []) f.last f.reached c s o st)) (λ (h : i ≤ f.steps). h) (cases_lt f.steps i) in
-      (ap (λ z. Like (GoesOn z)) (as_output (go mem i p0) c s o (live i f.steps (Bits (I32 0) ∷ []) f.last le f.reached) a),
-        λ j vs h lt g. no_steps j i (omega (arith, lt)) p0 (begun p) s0 [] begins vs h g c s o st)
+      let le : i ≤ f.steps = ⊎_elim (λ (lt : f.steps < i). absurd (no_steps f.steps i lt p0 (begun p) s0 [] begins (Bits (I32 0) ∷ []) f.last f.reached c s o st)) (λ (h : i ≤ f.steps). h) (cases_lt f.steps i) in (
+        ap (λ z. Like (GoesOn z)) (as_output (go mem i p0) c s o (live i f.steps (Bits (I32 0) ∷ []) f.last le f.reached) a),
+        λ j vs h lt g. no_steps j i (omega (arith, lt)) p0 (begun p) s0 [] begins vs h g c s o st,
+      )
 
   -- it was over at the end that it came to
   same_end : (i turns : ℕ) (f : Final turns) (v : Cell) (vs : List Cell) (h : Host) → i ≤ f.steps → go mem i p0 ≡ Over (v ∷ vs) h → (v ≡ Bits (I32 0)) × (h ≡ f.last)
@@ -268,7 +268,7 @@ module _ (p : Program) (sorted : IsSorted p) (job : JobForm) (outside : Outside)
 
   -- a run that ended after k steps
   over_at : (steps k turns : ℕ) (f : Final turns) (e : ModuleEnding) (en : End) (t : MachineEnd) (c1 : RealConf) (s1 s : HostState) (o1 o2 o : List Action) → k < steps → told_end en ≡ Some t → Steps M m k c0 s0 o1 c1 s1 → OverBy M (turn m c1) s1 c1.memory o2 en s → o ≡ o1 ++ o2 →
-    ending_told s.fault t o ≡ Some e → Ends turns steps e
+      ending_told s.fault t o ≡ Some e → Ends turns steps e
   over_at steps zero turns f e en t c1 s1 s o1 o2 o lt telling st ov whole ending-is =
       absurd (subst (λ z. OverBy M z s1 c1.memory o2 en s) (ap (turn m) st.0 ∙ first_turn p) ov)
   over_at steps (suc i) turns f e en t c1 s1 s o1 o2 o lt telling st ov whole ending-is = by (go mem i p0) refl a
@@ -286,13 +286,13 @@ module _ (p : Program) (sorted : IsSorted p) (job : JobForm) (outside : Outside)
       not_stuck : (q : Conf) → go mem i p0 ≡ q → step mem q ≡ Stuck → ⊥
       not_stuck q g stuck-is =
           ⊎_elim
-            (λ (less : i < f.steps).
-              over_is_not_stuck (Bits (I32 0) ∷ []) f.last (go mem f.steps p0) f.reached
-                (later i f.steps le ∙ (ap (go mem (f.steps - i)) g ∙ (let e : f.steps - i ≡ suc (f.steps - suc i) = omega (arith, less) in ap (λ n. go mem n q) e ∙ (ap (go mem (f.steps - suc i)) stuck-is ∙ stuck_stays mem (f.steps - suc i))))))
-            (λ (more : f.steps ≤ i).
-              let same : i ≡ f.steps = omega (arith, le, more) in
-              over_is_not_stuck (Bits (I32 0) ∷ []) f.last (step mem q) (ap (step mem) (sym g ∙ (ap (λ n. go mem n p0) same ∙ f.reached))) stuck-is)
-            (cases_lt i f.steps)
+          (λ (less : i < f.steps).
+          over_is_not_stuck (Bits (I32 0) ∷ []) f.last (go mem f.steps p0) f.reached
+          (later i f.steps le ∙ (ap (go mem (f.steps - i)) g ∙ (let e : f.steps - i ≡ suc (f.steps - suc i) = omega (arith, less) in ap (λ n. go mem n q) e ∙ (ap (go mem (f.steps - suc i)) stuck-is ∙ stuck_stays mem (f.steps - suc i))))))
+          (λ (more : f.steps ≤ i).
+          let same : i ≡ f.steps = omega (arith, le, more) in
+          over_is_not_stuck (Bits (I32 0) ∷ []) f.last (step mem q) (ap (step mem) (sym g ∙ (ap (λ n. go mem n p0) same ∙ f.reached))) stuck-is)
+          (cases_lt i f.steps)
 
       by : (q : Conf) → go mem i p0 ≡ q → As mem q c1 s1 o1 → Ends turns steps e
       by (Run vs K L code h) g b =
@@ -306,7 +306,7 @@ module _ (p : Program) (sorted : IsSorted p) (job : JobForm) (outside : Outside)
           let fault-is : s.fault ≡ f.last.fault = ap (λ (x : HostState). x.fault) w.1 ∙ (ap (λ (x : HostState). x.fault) b.host ∙ ap (λ (x : Host). x.fault) z.1) in
           let out-is : o ≡ f.last.shared.output = whole ∙ (ap (λ x. o1 ++ x) w.2 ∙ (append-nil o1 ∙ (as_output (Over (v ∷ vs) h) c1 s1 o1 tt b ∙ ap (λ (x : Host). x.shared.output) z.1))) in
           let told-is : ending_told f.last.fault (machine.Returned (pos 0)) f.last.shared.output ≡ Some e =
-              subst (λ x. ending_told f.last.fault (machine.Returned (pos 0)) x ≡ Some e) out-is (subst (λ x. ending_told x (machine.Returned (pos 0)) o ≡ Some e) fault-is (subst (λ x. ending_told s.fault x o ≡ Some e) t-is ending-is)) in
+          subst (λ x. ending_told f.last.fault (machine.Returned (pos 0)) x ≡ Some e) out-is (subst (λ x. ending_told x (machine.Returned (pos 0)) o ≡ Some e) fault-is (subst (λ x. ending_told s.fault x o ≡ Some e) t-is ending-is)) in
           (sym (some-is (Like (ended_with f.last.fault (pos 0) f.last.shared.output)) e told-is) ∙ ap Like (sym f.says), (i, v ∷ vs, h, lt, g))
       by Stuck g b = absurd (over_is_not_stuck (Bits (I32 0) ∷ []) f.last (go mem f.steps p0) f.reached (later i f.steps le ∙ (ap (go mem (f.steps - i)) g ∙ stuck_stays mem (f.steps - i))))
 
@@ -328,9 +328,9 @@ module _ (p : Program) (sorted : IsSorted p) (job : JobForm) (outside : Outside)
       let program-is : x.machine.program ≡ m = ap₂ (λ (w : ModuleForm) (ns : List ℕ). record { whole = w; numbers = ns }) n.whole numbers-is in
       let conf-is : x.machine.conf ≡ c0 = n.conf ∙ ap (beginning (module_of p)) fourteen in
       class_by steps turns (final turns) e x.run-end x.told x.conf x.state x.output x.telling
-        (subst (λ z. Ran M z steps c0 s0 x.output x.run-end x.conf x.state) program-is
-          (subst (λ z. Ran M x.machine.program steps z s0 x.output x.run-end x.conf x.state) conf-is x.ran))
-        x.ending
+      (subst (λ z. Ran M z steps c0 s0 x.output x.run-end x.conf x.state) program-is
+      (subst (λ z. Ran M x.machine.program steps z s0 x.output x.run-end x.conf x.state) conf-is x.ran))
+      x.ending
 
   -- what is put out while it goes on is how the output ends up beginning
   begins_so : (turns steps : ℕ) → ((i : ℕ) (vs : List Cell) (h : Host) → suc i < steps → go mem i p0 ≡ Over vs h → ⊥) → IsPrefix (out_at steps) (output_of (mid_run p (plain job) outside turns))
@@ -340,7 +340,7 @@ module _ (p : Program) (sorted : IsSorted p) (job : JobForm) (outside : Outside)
       let le : i ≤ f.steps = ⊎_elim (λ (lt : f.steps < i). absurd (none f.steps (Bits (I32 0) ∷ []) f.last (omega (arith, lt)) f.reached)) (λ (h : i ≤ f.steps). h) (cases_lt f.steps i) in
       let alive = live i f.steps (Bits (I32 0) ∷ []) f.last le f.reached in
       let grown : IsPrefix (out_in (go mem i p0)) f.last.shared.output =
-          subst (Grows (out_in (go mem i p0))) (sym (later i f.steps le) ∙ f.reached) (go_grows mem (out_in (go mem i p0)) (f.steps - i) (go mem i p0) (own (go mem i p0) alive)) in
+      subst (Grows (out_in (go mem i p0))) (sym (later i f.steps le) ∙ f.reached) (go_grows mem (out_in (go mem i p0)) (f.steps - i) (go mem i p0) (own (go mem i p0) alive)) in
       subst (IsPrefix (out_in (go mem i p0))) (ended_output f.last.fault f.last.shared.output ∙ ap output_of (sym f.says)) grown
     where
       own : (q : Conf) → IsLive q → Grows (out_in q) q
@@ -386,9 +386,10 @@ agree p sorted = record {
   backward = λ job outside is_plain steps e over x. (0, back p sorted job outside is_plain steps e over (classified p sorted job outside is_plain 0 steps (Like e) x));
   never_trapped = λ job outside is_plain steps kind output x. trapped p sorted job outside is_plain steps kind output (classified p sorted job outside is_plain 0 steps (Trapped kind output) x);
   output_module = λ job outside is_plain steps e x. (0, out p sorted job outside is_plain steps e (classified p sorted job outside is_plain 0 steps e x));
-  output_script = λ job outside is_plain turns.
-      (((final p sorted job outside is_plain turns).steps + 2),
-        λ steps e le x. subst (IsPrefix (output_of (mid_run p (plain job) outside turns))) (ap output_in (sym (enough p sorted job outside is_plain turns steps e le (classified p sorted job outside is_plain turns steps e x)))) (prefix_self (output_of (mid_run p (plain job) outside turns))));
+  output_script = λ job outside is_plain turns. (
+    ((final p sorted job outside is_plain turns).steps + 2),
+    λ steps e le x. subst (IsPrefix (output_of (mid_run p (plain job) outside turns))) (ap output_in (sym (enough p sorted job outside is_plain turns steps e le (classified p sorted job outside is_plain turns steps e x)))) (prefix_self (output_of (mid_run p (plain job) outside turns))),
+  );
 }
   where
     work : ℕ

@@ -6,5 +6,6 @@ pub mod Emission
 pub mod Arithmetic
 pub mod Refine
 pub mod Linked
+pub mod Typed
 pub mod Whole
 pub mod Agree

@@ -1,15 +1,12 @@
 -- The module of a program, linked with the host: its imports, its `main`, and where its run begins.
-use Rattle.std.proofs.Common.{◌≡◌, ℕ, zero, suc, ◌+◌, ◌-◌, ◌*◌, ◌/◌, ◌<◌, ◌≤◌, List, [], ◌∷◌, ◌++◌, length, map, take, drop, replicate, get_or, slice_get, Option, Some, None, refl, sym, ap, ap₂, ◌∙◌, subst, arith}
+use Rattle.std.proofs.Common.{◌≡◌, ℕ, zero, suc, ◌+◌, ◌*◌, ◌/◌, List, [], ◌∷◌, ◌++◌, length, map, drop, replicate, Option, Some, None, refl, ap, subst, arith}
 use Rattle.std.proofs.lemmas.Option.{none-some}
 use Rattle.awk_state.specs.declared.table.Primitive.TheVariants as prim
 use Rattle.awk_state.specs.declared.table.Listed.TheVariants.{Print}
-use Rattle.wasm_types.specs.Syntax.{Instructions, ModuleForm}
-use Rattle.wasm_types.specs.declared.types.ValType.{ValType}
 use Rattle.wasm_types.specs.declared.types.ValType.TheVariants as ty
 use Rattle.wasm_store.specs.declared.word.Word.{Word}
-use Rattle.wasm_store.specs.declared.word.Word.TheVariants.{I32}
 use Rattle.wasm_store.specs.Words.{zero_of}
-use Rattle.wasm_machine.specs.Machines.{Conf, CallerForm, ProgramForm, Turn, Goes, turn, called, asked}
+use Rattle.wasm_machine.specs.Machines.{Conf, ProgramForm, Goes, turn, called, asked}
 use Rattle.wasm_machine.specs.Links.{beginning, main_of, numbers_for}
 use Rattle.host_calls.specs.declared.import.Import.{Import}
 use Rattle.host_calls.specs.declared.import.Import.TheVariants.{Of, Over, Arg, Drop}

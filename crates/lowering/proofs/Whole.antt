@@ -1,35 +1,22 @@
 -- Whole runs: the module of a program does what its mid code does, and nothing else.
-use Rattle.std.proofs.Common.{◌≡◌, ◌⊎◌, inl, inr, ⊎_elim, ℕ, zero, suc, ◌+◌, ◌-◌, ◌*◌, ◌<◌, ◌≤◌, Bool, true, false, cond, nat_eq, List, [], ◌∷◌, ◌++◌, length, map, take, drop, reverse, get_or, slice_get, Option, Some, None, Result, Ok, Err, ℤ, pos, w32, unsigned_abs, refl, sym, ap, ap₂, ◌∙◌, subst, arith, append-nil, append_assoc}
-use Rattle.std.proofs.lemmas.Option.{none-some}
-use Rattle.std.proofs.lemmas.Bool.{cases_lt}
-use Rattle.std.specs.Int.{cast_signed}
-use Rattle.std.specs.Prelude.{⊤}
+use Rattle.std.proofs.Common.{◌≡◌, ℕ, zero, suc, Bool, true, false, cond, nat_eq, List, [], ◌∷◌, ◌++◌, take, drop, reverse, Option, Some, None, Result, Ok, Err, refl, sym, ap, ◌∙◌, append-nil, append_assoc}
 use Rattle.awk_values.specs.declared.fault.Fault.{Fault}
-use Rattle.world_core.specs.WorldState.{Action, Outside}
-use Rattle.awk_state.specs.SharedState.{Shared}
-use Rattle.awk_state.specs.Jobs.{fault_of_job, shared_at_start}
+use Rattle.world_core.specs.WorldState.{Action}
 use Rattle.wasm_types.specs.Syntax.{Instruction, Plain, BrTable, Block, Loop, If, Instructions, Done, Then}
-use Rattle.wasm_types.specs.declared.types.ValType.TheVariants as ty
 use Rattle.wasm_types.specs.declared.instr.Simple.{Simple}
 use Rattle.wasm_types.specs.declared.instr.Simple.TheVariants as simple
 use Rattle.wasm_types.specs.declared.instr.Simple.TheVariants.{I32Const}
 use Rattle.wasm_store.specs.declared.word.Word.{Word}
 use Rattle.wasm_store.specs.declared.word.Word.TheVariants.{I32}
 use Rattle.wasm_machine.specs.Frames.{constant_of}
-use Rattle.wasm_machine.specs.Machines.{Conf as RealConf, ProgramForm, Turn, Goes, turn}
-use Rattle.wasm_machine.specs.Runs.{TakenAs, OverBy, Steps, told_end}
-use Rattle.host_calls.specs.HostState.{HostState}
-use Rattle.host_calls.specs.HostStep.{Acts, acts, host_meaning}
+use Rattle.host_calls.specs.HostStep.{Acts, acts}
 use Rattle.host_calls.specs.Imports.{import_arguments, import_at}
 use Rattle.host_calls.specs.declared.import.Import.{Import}
-use Rattle.host_calls.specs.declared.import.Import.TheVariants.{Of, Over as ByList, Arg, Drop}
 use Rattle.awk_state.specs.Sorts.{InAnswer, Row}
 use Rattle.awk_state.specs.declared.sorts.Answer.{Answer}
 use Rattle.lowering.specs.Agreement.{IsPrefix}
 use Rattle.lowering.proofs.Pivot
 use Rattle.lowering.proofs.Pivot.{Cell, Bits, Host, Label, Locals, Conf, Run, Over, Stuck, at, br, step, go}
-use Rattle.lowering.proofs.Arrive.{go_add}
-use Rattle.lowering.proofs.Refine.{As, LeftAs, step_as, not_taken, over_word}
 
 -- Output only grows.
 

@@ -1,5 +1,5 @@
 -- What a module's run tells the outside, and when it agrees with a script: with what the script (or its mid code) does in a job and a world.
-use Rattle.std.specs.Prelude.{◌≡◌, ℕ, ◌+◌, ◌*◌, ◌≤◌, ℤ, pos, unsigned_abs, List, [], ◌++◌, Option, Some, None, ⊤, length}
+use Rattle.std.specs.Prelude.{◌≡◌, ℕ, ◌+◌, ◌*◌, ◌≤◌, ℤ, pos, unsigned_abs, List, [], ◌++◌, Option, Some, None, ⊤}
 use Rattle.std.specs.Int.{int_rem_euclid}
 use Rattle.awk_values.specs.declared.fault.Fault.{Fault}
 use Rattle.awk_state.specs.Jobs.{JobForm as PlainJob, fault_of_job}
@@ -86,7 +86,7 @@ pub record Agreement (script : PlainJob → Outside → ℕ → Ending) (m : Mod
   pub bound : ℕ
   pub one_run : (job : JobForm) (outside : Outside) → IsPlain job → (steps : ℕ) (e f : ModuleEnding) → MayEnd m job outside steps e → MayEnd m job outside steps f → e ≡ f
   pub forward : (job : JobForm) (outside : Outside) → IsPlain job → (turns : ℕ) (e : Ending) → IsOver e → script (plain job) outside turns ≡ e →
-    (enough : ℕ) × (enough ≤ bound * (turns + 1)) × ((steps : ℕ) (f : ModuleEnding) → enough ≤ steps → MayEnd m job outside steps f → f ≡ Like e)
+      (enough : ℕ) × (enough ≤ bound * (turns + 1)) × ((steps : ℕ) (f : ModuleEnding) → enough ≤ steps → MayEnd m job outside steps f → f ≡ Like e)
   pub backward : (job : JobForm) (outside : Outside) → IsPlain job → (steps : ℕ) (e : Ending) → IsOver e → MayEnd m job outside steps (Like e) → (turns : ℕ) × (script (plain job) outside turns ≡ e)
   pub never_trapped : (job : JobForm) (outside : Outside) → IsPlain job → (steps : ℕ) (kind : TrapKind) (output : List Action) → MayEnd m job outside steps (Trapped kind output) → ⊥
   pub output_module : (job : JobForm) (outside : Outside) → IsPlain job → (steps : ℕ) (e : ModuleEnding) → MayEnd m job outside steps e → (turns : ℕ) × IsPrefix (output_in e) (output_of (script (plain job) outside turns))

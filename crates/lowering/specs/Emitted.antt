@@ -1,6 +1,6 @@
 -- The code of a module's `main`, by the syntax of mid code, each part with the code behind it. Values are evaluated into locals: temporary t
 -- has a local of 32 bits for a handle or a code, and one of 64 bits for a number. Nothing here need be believed: what the code does is proved.
-use Rattle.std.specs.Prelude.{ℕ, zero, suc, ◌+◌, ◌-◌, ◌^◌, max, Bool, true, false, List, [], ◌∷◌, ◌++◌, length, get_or, ℤ, cond, None}
+use Rattle.std.specs.Prelude.{ℕ, suc, ◌+◌, ◌-◌, ◌^◌, Bool, true, false, List, [], ◌∷◌, length, get_or, cond, None}
 use Rattle.std.specs.Int.{w64, cast_unsigned}
 use Rattle.awk_state.specs.declared.sorts.Sort.TheVariants as sort
 use Rattle.awk_state.specs.declared.sorts.Argument.{Argument}
@@ -8,12 +8,10 @@ use Rattle.awk_state.specs.declared.sorts.Argument.TheVariants as argument
 use Rattle.awk_state.specs.declared.sorts.Answer.{Answer}
 use Rattle.awk_state.specs.declared.sorts.Answer.TheVariants as answer
 use Rattle.awk_state.specs.declared.table.Primitive.TheVariants as prim
-use Rattle.awk_state.specs.declared.table.Listed.{Listed}
 use Rattle.awk_state.specs.declared.table.Listed.TheVariants.{Print}
 use Rattle.awk_state.specs.Table.{listed_answer}
 pub use Rattle.lower_layout.specs.Layouts.{is_constant, behind, place_of, memory_of, temporaries}
-use Rattle.wasm_types.specs.Syntax.{Instruction, Plain, Block, If, Instructions, Done, Then}
-use Rattle.wasm_types.specs.declared.types.ValType.{ValType}
+use Rattle.wasm_types.specs.Syntax.{Plain, Block, If, Instructions, Done, Then}
 use Rattle.wasm_types.specs.declared.types.ValType.TheVariants.{I32, I64}
 use Rattle.wasm_types.specs.declared.instr.Simple.{Simple}
 use Rattle.wasm_types.specs.declared.instr.Simple.TheVariants.{Br, BrIf, Call, LocalGet, LocalSet, LocalTee, I32Const, I64Const, Test, Compare, Binary, Convert}
@@ -27,7 +25,7 @@ use Rattle.mid_code.specs.declared.mid.Arithmetic.{Arithmetic}
 use Rattle.mid_code.specs.declared.mid.Arithmetic.TheVariants.{Plus, Minus, Times}
 use Rattle.mid_code.specs.declared.mid.Operation.{Operation}
 use Rattle.mid_code.specs.declared.mid.Operation.TheVariants.{Host, Inline}
-use Rattle.mid_code.specs.Mid.{Code, Do, Over as OverList, Number, Text, Codes, End, At, Step, Eval, Program, arguments, answer_by, may_fault, Shape, Answered, Literal, shape_of}
+use Rattle.mid_code.specs.Mid.{Code, Do, Over as OverList, Number, Text, Codes, End, At, Step, Eval, Program, arguments, answer_by, may_fault, Shape, Answered, shape_of}
 
 -- the place of an import among those of the module, which are all of the host's, in its order
 abbrev pub place_of_import : Import → ℕ
@@ -138,7 +136,7 @@ factors_differ p x y k =
 abbrev pub times : ℕ → ℕ → ℕ → ℕ → Instructions → Instructions
 times x y p d k =
     does (LocalSet y) (does (LocalTee x) (does (LocalGet y) (does (Binary I64 Mul) (does (LocalSet p)
-    (factors_differ p x y (out_of_range p (does (Binary I32 Or) (fail_if d (does (LocalGet p) (does (LocalSet x) k)))))))))) 
+    (factors_differ p x y (out_of_range p (does (Binary I32 Or) (fail_if d (does (LocalGet p) (does (LocalSet x) k))))))))))
 
 abbrev pub inline : Arithmetic → ℕ → ℕ → Instructions → Instructions
 inline Plus t d k = does (Binary I64 Add) (ranged t d k)

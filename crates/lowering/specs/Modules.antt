@@ -1,6 +1,6 @@
 -- The module of a program.
-use Rattle.std.specs.Prelude.{ℕ, zero, suc, ◌+◌, ◌-◌, ◌*◌, ◌/◌, List, [], ◌∷◌, ◌++◌, length, map, codes, Option, Some, None}
-use Rattle.wasm_types.specs.Syntax.{Instructions, Done, Signature, ImportForm, FuncForm, ExportForm, DataForm, ModuleForm}
+use Rattle.std.specs.Prelude.{ℕ, zero, suc, ◌+◌, ◌/◌, List, [], ◌∷◌, ◌++◌, length, map, codes, Some, None}
+use Rattle.wasm_types.specs.Syntax.{Done, Signature, ImportForm, ModuleForm}
 use Rattle.wasm_types.specs.declared.types.ValType.{ValType}
 use Rattle.wasm_types.specs.declared.types.ValType.TheVariants.{I32, I64}
 use Rattle.wasm_types.specs.declared.types.Limits.{Limits}
