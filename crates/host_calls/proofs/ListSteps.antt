@@ -1,10 +1,8 @@
 -- The steps of the argument list: a value appended, and a value given up.
-use Rattle.std.proofs.Common.{◌≡◌, ◌≢◌, ℕ, List, [], ◌∷◌, ◌++◌, Bool, true, false, cond, Option, Some, None, Result, Ok, Err, refl, sym, ap, ◌∙◌, subst}
+use Rattle.std.proofs.Common.{◌≡◌, ℕ, List, [], ◌∷◌, ◌++◌, cond, Some, None, Result, Ok, Err, refl, sym, ap, ◌∙◌, subst}
 use Rattle.std.proofs.lemmas.List.{append-nil}
-use Rattle.awk_values.specs.declared.fault.Fault.{Fault}
 use Rattle.awk_values.specs.declared.value.Value.{Value}
 use Rattle.awk_state.specs.SharedState.{Shared}
-use Rattle.wasm_machine.specs.declared.host.HostAnswer.{HostAnswer}
 use Rattle.wasm_machine.specs.declared.host.HostAnswer.TheVariants as told
 use Rattle.wasm_store.specs.declared.trap.TrapKind.{TrapKind}
 use Rattle.wasm_store.specs.declared.word.Word.{Word}
@@ -12,9 +10,7 @@ use Rattle.world_core.specs.WorldState.{Action}
 use Rattle.host_calls.specs.Calls.{MeansSome, only_value, value_at_end}
 use Rattle.host_calls.specs.HostState.{HostState, and_then, no_more, value_front}
 use Rattle.host_calls.specs.HostStep.{Answered, Called, Given, StepOf, acted, refuses, refused, step, with_output}
-use Rattle.host_calls.specs.Imports.{import_answer}
-use Rattle.host_calls.specs.declared.import.Import.{Import}
-use Rattle.host_calls.specs.declared.import.Import.TheVariants.{Of, Over, Arg, Drop}
+use Rattle.host_calls.specs.declared.import.Import.TheVariants.{Arg, Drop}
 use Rattle.host_calls.proofs.TypedAnswers.{called_always}
 
 -- what a value gives, as a step that adds no output

@@ -1,17 +1,16 @@
 -- Texts joined, and texts that go out in parts.
-use Rattle.std.proofs.Common.{◌≡◌, ℕ, suc, ◌+◌, ◌-◌, ◌<◌, ◌≤◌, List, [], ◌∷◌, ◌++◌, map, length, take, drop, get_or, Bool, true, cond, Option, Some, None, Result, Ok, Err, IfSome, refl, sym, ap, ◌∙◌, subst, arith, append_assoc, length-append, length-drop, length-take, take-add}
+use Rattle.std.proofs.Common.{◌≡◌, ℕ, suc, ◌+◌, ◌-◌, ◌<◌, ◌≤◌, List, [], ◌∷◌, ◌++◌, length, take, drop, get_or, Option, Some, None, Err, IfSome, refl, sym, ap, ◌∙◌, subst, arith, append_assoc, length-append, length-drop, length-take, take-add}
 use Rattle.std.proofs.Math.Seq.{take-suc}
 use Rattle.std.proofs.lemmas.List.{append-nil, take_all}
-use Rattle.std.proofs.lemmas.Cmp.{nat_list_eq_equiv}
 use Rattle.std.specs.Option.{unwrap_or}
 use Rattle.awk_values.specs.declared.value.Value.{Value}
 use Rattle.awk_values.specs.Values.{text_of_value}
 use Rattle.awk_state.specs.OutputRows.{joined}
-use Rattle.world_core.specs.WorldState.{Target, Standard, Named, same_target, Entry, bytes_of, left_of, free, Outside, State, Action, Open, Put, acted, step, after, puts}
-use Rattle.world_core.specs.Calls.{Does, Fits, Writes, WritesSome}
+use Rattle.world_core.specs.WorldState.{Target, Standard, Entry, bytes_of, left_of, free, Outside, State, Action, Put, acted, step, after, puts}
+use Rattle.world_core.specs.Calls.{Does, Writes, WritesSome}
 use Rattle.world_core.specs.declared.world.WorldFault.{WorldFault}
 use Rattle.world_core.specs.declared.world.WorldFault.TheVariants.{Failed, NoMemory}
-use Rattle.host_calls.specs.Output.{FillsUp, PutsPart, PutsText, followed}
+use Rattle.host_calls.specs.Output.{PutsPart, PutsText, followed}
 
 followed-push : (between : List ℕ) (xs : List Value) (y : Value) → followed between (xs ++ y ∷ []) ≡ followed between xs ++ (between ++ text_of_value y)
 followed-push between [] y = append-nil (between ++ text_of_value y)

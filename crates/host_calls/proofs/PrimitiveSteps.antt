@@ -1,5 +1,5 @@
 -- The step of a primitive is its evaluation.
-use Rattle.std.proofs.Common.{◌≡◌, ◌≢◌, ℕ, ◌^◌, ◌<◌, pos, ℤ, nat_le, unsigned_abs, List, [], ◌∷◌, ◌++◌, Bool, true, false, cond, Option, Some, None, Result, Ok, Err, refl, sym, ap, ◌∙◌, subst, if◌then◌else◌, arith}
+use Rattle.std.proofs.Common.{◌≡◌, ◌≢◌, ℕ, ◌^◌, pos, ℤ, nat_le, unsigned_abs, List, [], ◌∷◌, ◌++◌, Bool, true, false, cond, Option, Some, None, Result, Ok, Err, refl, sym, ap, ◌∙◌, subst, if◌then◌else◌, arith}
 use Rattle.std.specs.FinMap as map
 use Rattle.std.proofs.lemmas.List.{append-nil}
 use Rattle.awk_values.specs.Comparison.{comparison}
@@ -8,10 +8,8 @@ use Rattle.awk_values.specs.Values.{number_of_value, text_of_value}
 use Rattle.awk_values.specs.declared.fault.Fault.{Fault}
 use Rattle.awk_values.specs.declared.fault.Fault.TheVariants.{Range}
 use Rattle.awk_values.specs.declared.value.Value.{Value as AnyValue}
-use Rattle.awk_values.specs.declared.value.Value.TheVariants as value
 use Rattle.awk_state.specs.Numbers.{Number, number_by, or_range, outcome_of}
 use Rattle.awk_state.specs.SharedState.{Shared, gives}
-use Rattle.awk_state.specs.Sorts.{InAnswer}
 use Rattle.awk_state.specs.Table.{answer_of}
 use Rattle.awk_state.specs.ValueRows.{truncated, within_limit}
 use Rattle.awk_state.specs.declared.sorts.Answer.{Answer}
@@ -28,12 +26,11 @@ use Rattle.wasm_store.specs.declared.trap.TrapKind.TheVariants.{BadArgument}
 use Rattle.wasm_store.specs.declared.word.Word.{Word}
 use Rattle.world_core.specs.WorldState.{Action}
 use Rattle.host_calls.specs.HostState.{FreeFor, HostState, IsFree, Names, and_then, constant_front, decode, no_more, number_front, place_front, refusal, value_front}
-use Rattle.host_calls.specs.HostStep.{Acts, Answered, Called, Given, StepOf, Wanted, acted, given_by, refuses, refused, step, with_output}
+use Rattle.host_calls.specs.HostStep.{Acts, Answered, Called, Given, StepOf, acted, given_by, refuses, refused, step, with_output}
 use Rattle.host_calls.specs.Replies.{ends_then, evaluation, front_then, number_reply, outcome_reply, plain_number, truth_reply, value_reply}
 use Rattle.host_calls.specs.Calls.{Gives, MeansSome, encode_reply}
 use Rattle.host_calls.specs.declared.import.Import.TheVariants.{Of}
 use Rattle.host_calls.specs.declared.reply.Reply.{Reply}
-use Rattle.host_calls.specs.declared.reply.Reply.TheVariants as reply
 use Rattle.host_calls.specs.declared.reply.Refusal.{Refusal}
 use Rattle.host_calls.specs.declared.reply.Refusal.TheVariants as why
 use Rattle.host_calls.proofs.TypedAnswers.{called_always}

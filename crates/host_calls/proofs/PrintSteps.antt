@@ -8,8 +8,7 @@ use Rattle.awk_values.specs.declared.fault.Fault.TheVariants.{WriteFailed}
 use Rattle.awk_values.specs.declared.value.Value.{Value}
 use Rattle.awk_state.specs.Constants.{InConstant, constant_at}
 use Rattle.awk_state.specs.OutputRows.{all_fits, printed, what_fits}
-use Rattle.awk_state.specs.SharedState.{Inner, Shared, Specials, shared_after}
-use Rattle.awk_state.specs.Sorts.{InAnswer}
+use Rattle.awk_state.specs.SharedState.{Specials}
 use Rattle.awk_state.specs.Table.{listed_meaning}
 use Rattle.awk_state.specs.declared.constants.Destination.{Destination}
 use Rattle.awk_state.specs.declared.constants.Destination.TheVariants.{Standard, Emptied, Appended}
@@ -28,7 +27,7 @@ use Rattle.world_core.specs.WorldState.{Action, Outside, State, after, free, put
 use Rattle.world_core.specs.WorldState as world
 use Rattle.host_calls.specs.Calls.{MeansSome, count_at_end, counted, print_count, standard_count}
 use Rattle.host_calls.specs.HostState.{HostState, and_then, constant_front, decode, no_more, said}
-use Rattle.host_calls.specs.HostStep.{Acts, Answered, Called, Given, StepOf, Wanted, acted, acts, before_last_of, given_by, last_of, refuses, refused, step, with_output}
+use Rattle.host_calls.specs.HostStep.{Acts, Answered, Called, Given, StepOf, acted, acts, before_last_of, given_by, last_of, refuses, refused, step, with_output}
 use Rattle.host_calls.specs.Hosts.{inner_of, state_by}
 use Rattle.host_calls.specs.Output.{FillsUp, PutsPart}
 use Rattle.host_calls.specs.declared.import.Import.TheVariants.{Over}

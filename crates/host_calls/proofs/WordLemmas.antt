@@ -1,5 +1,5 @@
 -- What words say, and what handles are as words.
-use Rattle.std.proofs.Common.{◌≡◌, ◌≢◌, ℕ, zero, suc, ◌-◌, ◌^◌, ◌<◌, ◌≤ℤ◌, ◌<ℤ◌, ℤ, pos, negsuc, w32, refl, ap, sym, ◌∙◌, arith, rules, Option, Some, None, Result, Ok, Err, IfOk, OnErr, Bool, true, false, cond}
+use Rattle.std.proofs.Common.{◌≡◌, ◌≢◌, ℕ, zero, suc, ◌-◌, ◌^◌, ◌<◌, ◌≤ℤ◌, ◌<ℤ◌, ℤ, pos, negsuc, w32, refl, ap, ◌∙◌, arith, Some, None, Result, Ok, Err, IfOk, OnErr, Bool, true, false, cond}
 use Rattle.std.proofs.lemmas.Int.{ints}
 use Rattle.std.specs.Int.{cast_unsigned}
 use Rattle.std.specs.Prelude.{slice_get}

@@ -1,5 +1,5 @@
 -- What the parts of a call do to the state of a host.
-use Rattle.std.specs.Prelude.{ℕ, ◌≡◌, ℤ, List, [], nat_le, Option, Some, None, Result, Ok, Err, if◌then◌else◌}
+use Rattle.std.specs.Prelude.{ℕ, ◌≡◌, List, nat_le, Option, Some, None, Result, Ok, Err, if◌then◌else◌}
 use Rattle.std.specs.Int.{w64, cast_unsigned}
 use Rattle.std.specs.Borrow.{Bor}
 use Rattle.std.specs.Ordering.{int_cmp}

@@ -1,6 +1,6 @@
 -- What machines ask of a host's definitions.
 use Rattle.std.specs.Prelude.{ℕ, ◌≡◌, List, ◌++◌, Option, Some, None, Bool, true, false, cond}
-use Rattle.std.proofs.Common.{refl, ap, ◌∙◌, sym, subst}
+use Rattle.std.proofs.Common.{refl, subst}
 use Rattle.wasm_types.specs.Syntax.{Signature}
 use Rattle.wasm_machine.specs.Hosts.{GoesOn, Typed}
 use Rattle.wasm_machine.specs.declared.host.HostAnswer.{HostAnswer}
@@ -10,7 +10,7 @@ use Rattle.wasm_store.specs.declared.word.Word.{Word}
 use Rattle.world_core.specs.WorldState.{Action}
 use Rattle.host_calls.specs.Imports.{host_finds, host_types, import_at, module_name, number_named, numbered, same_name, with_type}
 use Rattle.host_calls.specs.HostState.{HostState}
-use Rattle.host_calls.specs.HostStep.{Called, Means, Wanted, host_meaning}
+use Rattle.host_calls.specs.HostStep.{Called, host_meaning}
 
 found_numbered : (n : ℕ) (t : Option Signature) (r : ℕ × Signature) → host_types n ≡ t → numbered n t ≡ Some r → host_types r.0 ≡ Some r.1
 found_numbered n None r e h = cc

@@ -5,7 +5,6 @@ use Rattle.awk_values.specs.declared.value.Value.{Value as AnyValue}
 use Rattle.awk_state.specs.SharedState.{Shared, Does, gives, shared_after}
 use Rattle.awk_state.specs.Sorts.{InAnswer, OrFault, Row}
 use Rattle.awk_state.specs.Table.{can_fault, listed_answer, listed_meaning, meaning}
-use Rattle.awk_state.specs.declared.constants.Destination.{Destination}
 use Rattle.awk_state.specs.declared.constants.Destination.TheVariants.{Standard, Emptied, Appended}
 use Rattle.awk_state.specs.declared.sorts.Answer.{Answer}
 use Rattle.awk_state.specs.declared.table.Listed.{Listed}
@@ -19,7 +18,7 @@ use Rattle.wasm_store.specs.Memories.{MemoryForm}
 use Rattle.wasm_store.specs.declared.word.Word.{Word}
 use Rattle.world_core.specs.WorldState.{Action, after}
 use Rattle.host_calls.specs.Imports.{type_if_there, import_answer, import_arguments, import_at, listed_arguments}
-use Rattle.host_calls.specs.HostState.{FreeFor, HostState, Names, and_then, decode, encode, refusal}
+use Rattle.host_calls.specs.HostState.{FreeFor, HostState, and_then, decode, encode, refusal}
 use Rattle.host_calls.specs.declared.import.Import.{Import}
 use Rattle.host_calls.specs.declared.import.Import.TheVariants.{Of, Over, Arg, Drop}
 

@@ -1,5 +1,5 @@
 -- What a run is started with, as plain data.
-use Rattle.std.specs.Prelude.{ℕ, ◌^◌, Bool, ◌||◌, cond, not, nat_le, List, [], length, map, Option, Some, None}
+use Rattle.std.specs.Prelude.{ℕ, ◌^◌, Bool, ◌||◌, cond, not, nat_le, List, [], length, Option, Some, None}
 use Rattle.std.specs.List.{list_any}
 use Rattle.awk_values.specs.declared.fault.Fault.{Fault}
 use Rattle.awk_values.specs.declared.fault.Fault.TheVariants.{TextLimit}

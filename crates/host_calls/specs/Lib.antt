@@ -8,3 +8,4 @@ pub mod Output
 pub mod Jobs
 pub mod Hosts
 pub mod Calls
+pub mod Rows

@@ -1,5 +1,5 @@
 -- What a primitive on values answers, over plain data.
-use Rattle.std.specs.Prelude.{Bool, ℕ, ◌≡◌, ℤ, pos, List, [], ◌∷◌, ◌++◌, Option, Some, None, Result, Ok, Err, if◌then◌else◌}
+use Rattle.std.specs.Prelude.{Bool, ℕ, ◌≡◌, ℤ, List, ◌++◌, Result, Ok, Err}
 use Rattle.std.specs.Borrow.{Bor}
 use Rattle.std.specs.Ordering.{int_cmp}
 use Rattle.std.specs.FinMap.{FinMap}
@@ -18,7 +18,6 @@ use Rattle.awk_state.specs.declared.sorts.Constant.TheVariants as constant
 use Rattle.awk_state.specs.declared.table.Primitive.{Primitive}
 use Rattle.awk_state.specs.declared.table.Primitive.TheVariants.{Num, Lit, Uninit, Dup, ToNum, IntOf, Truth, Compare, Concat, Pow, Fail}
 use Rattle.wasm_store.specs.declared.trap.TrapKind.{TrapKind}
-use Rattle.wasm_store.specs.declared.trap.TrapKind.TheVariants.{BadArgument}
 use Rattle.wasm_store.specs.declared.word.Word.{Word}
 use Rattle.host_calls.specs.HostState.{constant_front, no_more, number_front, place_front, value_front}
 use Rattle.host_calls.specs.declared.reply.Reply.{Reply}

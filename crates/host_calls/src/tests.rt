@@ -78,14 +78,11 @@ impl Bench {
         self.handle(b"num", &[Word::I64(number.cast_unsigned())])
     }
 
-    /// Prints values.
-    fn print(&mut self, values: &[Word]) -> Result<HostAnswer, AllocError> {
-        let mut count: u32 = 0;
-        for value in values {
-            let _ = self.call(b"arg", &[*value])?;
-            count = count.wrapping_add(1);
-        }
-        self.call(b"print", &[Word::I32(count), Word::I32(0)])
+    /// Prints a text.
+    fn print_text(&mut self, bytes: &[u8]) -> Result<HostAnswer, AllocError> {
+        let text = self.text(bytes)?;
+        let _ = self.call(b"arg", &[text])?;
+        self.call(b"print", &[Word::I32(1), Word::I32(0)])
     }
 
     /// What was printed.
@@ -221,12 +218,10 @@ fn arguments_that_do_not_fit(rt: HostRuntime) -> Result<(), Fail> {
 #[test]
 fn output_room(rt: HostRuntime) -> Result<(), Fail> {
     let mut bench = Bench::new(&rt, Some(4))?;
-    let first = bench.text(b"ab")?;
-    let second = bench.text(b"cd")?;
-    assert!(rt; bench.print(&[first])? == ZERO);
-    assert!(rt; bench.print(&[second])? == MINUS_ONE);
+    assert!(rt; bench.print_text(b"ab")? == ZERO);
+    assert!(rt; bench.print_text(b"cd")? == MINUS_ONE);
     assert!(rt; bench.host.kept_fault() == Some(Fault::WriteFailed));
-    assert!(rt; bench.print(&[first])? == MINUS_ONE);
+    assert!(rt; bench.print_text(b"ef")? == MINUS_ONE);
     assert!(rt; bench.has_printed(b"ab\nc"));
     Ok(())
 }

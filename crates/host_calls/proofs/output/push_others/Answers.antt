@@ -1,4 +1,4 @@
-use Rattle.std.proofs.Common.{◌≡◌, ◌++◌, ◌∙◌, List, ℕ, ap, sym, take, append_assoc}
+use Rattle.std.proofs.Common.{◌++◌, ◌∙◌, List, ℕ, ap, sym, take, append_assoc}
 use Rattle.awk_values.specs.Values.{text_of_value}
 use Rattle.host_calls.specs.Output.{followed}
 use Rattle.host_calls.proofs.OutputLemmas.{followed_next}

@@ -1,4 +1,4 @@
-use Rattle.std.proofs.Common.{◌≡◌, rules, ◌+◌, ◌<◌, ◌≤◌, length, arith, Err, Ok, Result, List, ℕ, ◌-◌, take, drop, ap, length-drop, length-take, subst, sym, ◌∙◌}
+use Rattle.std.proofs.Common.{rules, ◌<◌, ◌≤◌, length, arith, Err, List, ℕ, drop, length-drop, subst, ◌∙◌}
 use Rattle.std.proofs.lemmas.Result.{err_from_is_err_and}
 use Rattle.world_core.specs.Calls.{Writes, WritesSome}
 use Rattle.host_calls.proofs.OutputLemmas.{rest_is, part_none, part_next, put_all, put_fails}

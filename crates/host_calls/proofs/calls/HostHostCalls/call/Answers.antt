@@ -1,4 +1,4 @@
-use Rattle.std.proofs.Common.{◌≡◌, List, ℕ, Option, Some, refl, subst}
+use Rattle.std.proofs.Common.{List, ℕ, Option, Some, refl, subst}
 use Rattle.wasm_machine.specs.declared.host.HostAnswer.TheVariants.{Trap}
 use Rattle.wasm_store.specs.declared.trap.TrapKind.TheVariants.{BadArgument}
 use Rattle.world_core.specs.WorldState.{Action}

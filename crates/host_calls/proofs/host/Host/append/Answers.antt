@@ -1,6 +1,5 @@
-use Rattle.std.proofs.Common.{◌≡◌, ap, List, ℕ}
+use Rattle.std.proofs.Common.{ap, List, ℕ}
 use Rattle.awk_values.specs.declared.value.Value.{Value}
-use Rattle.host_calls.specs.HostState.{HostState}
 use Rattle.host_calls.specs.Hosts.{host_state}
 use Rattle.host_calls.proofs.ListSteps.{arg_means, arg_memory, arg_trap}
 use Rattle.host_calls.proofs.host.Host.append.Goals as goal

@@ -1,4 +1,4 @@
-use Rattle.host_calls.proofs.WordLemmas.{handle_word, spare_put}
+use Rattle.host_calls.proofs.WordLemmas.{spare_put}
 use Rattle.host_calls.proofs.host.Host.give.Goals as goal
 
 pub invariant_of-self : goal.invariant_of-self

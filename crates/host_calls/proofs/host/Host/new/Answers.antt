@@ -1,4 +1,4 @@
-use Rattle.std.proofs.Common.{◌≡◌, refl, ap, sym, ◌∙◌, pos, length, rules}
+use Rattle.std.proofs.Common.{◌≡◌, refl, ap, ◌∙◌, pos, length, rules}
 use Rattle.std.specs.Vec.{vec_len}
 use Rattle.std.specs.FinMap as map
 use Rattle.std.specs.Ordering.{int_cmp}

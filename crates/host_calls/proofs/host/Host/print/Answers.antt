@@ -1,10 +1,9 @@
-use Rattle.std.proofs.Common.{◌≡◌, ◌∙◌, ◌-◌, ap, subst, sym, refl, Err, Some, take, List, ℕ}
+use Rattle.std.proofs.Common.{◌∙◌, ◌-◌, ap, subst, refl, Err, Some, take, List, ℕ}
 use Rattle.awk_values.specs.declared.fault.Fault.TheVariants.{WriteFailed}
 use Rattle.awk_values.specs.declared.value.Value.{Value}
 use Rattle.awk_state.specs.OutputRows.{printed}
 use Rattle.world_core.specs.declared.world.WorldFault.{WorldFault}
 use Rattle.host_calls.specs.Calls.{print_count}
-use Rattle.host_calls.specs.HostState.{HostState}
 use Rattle.host_calls.specs.HostStep.{before_last_of, last_of}
 use Rattle.wasm_machine.specs.declared.host.HostAnswer.TheVariants.{Done, NoMemory}
 use Rattle.wasm_store.specs.declared.word.Word.TheVariants.{I32}
