@@ -28,7 +28,8 @@ module _ (t : Tree) (rest all : Trees) (split : all ≡ Then t rest) where
   pub covered_more : is_item t ≡ true → are_items rest ≡ are_items all
   covered_more covered = sym (ap are_items split ∙ ap (λ b. b && are_items rest) covered)
 
-  pub codes_more : (before new : List (List ℕ)) (c : Code) → new ≡ before ++ item_texts t → c ≡ item_code (length before) t → At c (codes_of (length new) rest) ≡ codes_of (length before) all
+  pub codes_more : (before new : List (List ℕ)) (c : Code) → new ≡ before ++ item_texts t → c ≡ item_code (length before) t →
+      At c (codes_of (length new) rest) ≡ codes_of (length before) all
   codes_more before new c texts code =
       ap (λ (e : Code). At e (codes_of (length new) rest)) code
       ∙ ap (λ n. At (item_code (length before) t) (codes_of n rest)) (ap length texts ∙ length-append before (item_texts t))
@@ -36,14 +37,16 @@ module _ (t : Tree) (rest all : Trees) (split : all ≡ Then t rest) where
 
   pub texts_more : (before new : List (List ℕ)) → new ≡ before ++ item_texts t → new ++ texts_of rest ≡ before ++ texts_of all
   texts_more before new texts =
-      ap (λ (xs : List (List ℕ)). xs ++ texts_of rest) texts ∙ append_assoc before (item_texts t) (texts_of rest) ∙ sym (ap (λ (ts : Trees). before ++ texts_of ts) split)
+      ap (λ (xs : List (List ℕ)). xs ++ texts_of rest) texts ∙ append_assoc before (item_texts t) (texts_of rest)
+      ∙ sym (ap (λ (ts : Trees). before ++ texts_of ts) split)
 
 -- the same of statements
 module _ (s : Stmt) (rest all : Stmts) (split : all ≡ And s rest) where
   pub prints_more : is_print s ≡ true → are_prints rest ≡ are_prints all
   prints_more covered = sym (ap are_prints split ∙ ap (λ b. b && are_prints rest) covered)
 
-  pub steps_more : (before new : List (List ℕ)) (c : Step) → new ≡ before ++ stmt_texts s → c ≡ stmt_step (length before) s → c ∷ steps_of (length new) rest ≡ steps_of (length before) all
+  pub steps_more : (before new : List (List ℕ)) (c : Step) → new ≡ before ++ stmt_texts s → c ≡ stmt_step (length before) s →
+      c ∷ steps_of (length new) rest ≡ steps_of (length before) all
   steps_more before new c texts code =
       ap (λ (e : Step). e ∷ steps_of (length new) rest) code
       ∙ ap (λ n. stmt_step (length before) s ∷ steps_of n rest) (ap length texts ∙ length-append before (stmt_texts s))
@@ -51,4 +54,5 @@ module _ (s : Stmt) (rest all : Stmts) (split : all ≡ And s rest) where
 
   pub stmts_texts_more : (before new : List (List ℕ)) → new ≡ before ++ stmt_texts s → new ++ stmts_texts rest ≡ before ++ stmts_texts all
   stmts_texts_more before new texts =
-      ap (λ (xs : List (List ℕ)). xs ++ stmts_texts rest) texts ∙ append_assoc before (stmt_texts s) (stmts_texts rest) ∙ sym (ap (λ (ss : Stmts). before ++ stmts_texts ss) split)
+      ap (λ (xs : List (List ℕ)). xs ++ stmts_texts rest) texts ∙ append_assoc before (stmt_texts s) (stmts_texts rest)
+      ∙ sym (ap (λ (ss : Stmts). before ++ stmts_texts ss) split)

@@ -18,9 +18,11 @@ module _ (script : List Item) (body : List Tree) (begins : script ≡ Begin (tre
   pub built_covered : 1 ≤ length body → are_prints (tree_stmts body) ≡ true → is_covered script ≡ true
   built_covered some covered = ap is_covered begins ∙ some_prints body some covered
 
-  pub built_program : (before texts : List (Vec ℕ)) (main : List Stmt) → before ≡ [] → map view_stmt main ≡ steps_of (length (view_texts before)) (tree_stmts body) →
+  pub built_program : (before texts : List (Vec ℕ)) (main : List Stmt) → before ≡ [] →
+      map view_stmt main ≡ steps_of (length (view_texts before)) (tree_stmts body) →
       view_texts texts ≡ view_texts before ++ stmts_texts (tree_stmts body) → view_program texts main ≡ program_of script
   built_program before texts main none code own =
-      let steps : map view_stmt main ≡ steps_of 0 (tree_stmts body) = code ∙ ap (λ (xs : List (Vec ℕ)). steps_of (length (view_texts xs)) (tree_stmts body)) none in
+      let steps : map view_stmt main ≡ steps_of 0 (tree_stmts body) =
+      code ∙ ap (λ (xs : List (Vec ℕ)). steps_of (length (view_texts xs)) (tree_stmts body)) none in
       let all : view_texts texts ≡ stmts_texts (tree_stmts body) = own ∙ ap (λ (xs : List (Vec ℕ)). view_texts xs ++ stmts_texts (tree_stmts body)) none in
       (λ i. record { texts = all i; main = steps i }) ∙ sym (ap program_of begins)

@@ -38,18 +38,22 @@ use Rattle.mid_code.proofs.CodeKinds.{IsNumeric, plain, done, number_numeric, su
 abbrev computed : (ℤ → ℤ → Checked) → Doing AnyNumber → Doing AnyNumber → Doing AnyNumber
 computed op left right = left >>= λ x. right >>= λ y. settled (outcome_of (op x.number y.number))
 
+-- on what was converted
+abbrev both : (ℤ → ℤ → Checked) → Result AnyNumber Fault → Result AnyNumber Fault → Doing Value
+both op r s = settled r >>= λ m. settled s >>= λ n. settled (outcome_of (op m.number n.number)) >>= λ result. give (numeric result)
+
 abbrev as_values : Doing AnyNumber → Doing Value
 as_values m = m >>= λ n. give (numeric n)
 
 right_computed : (op : ℤ → ℤ → Checked) (x : AnyNumber) (o : Outcome AnyNumber) →
     go_on (go_on o (λ y. settled (outcome_of (op x.number y.number)))) (λ n. give (numeric n))
-    ≡ go_on (go_on o (λ n. give (numeric n))) (λ b. settled (outcome_of (Ok x.number)) >>= λ m. settled (number_of_row b) >>= λ n. settled (outcome_of (op m.number n.number)) >>= λ result. give (numeric result))
+    ≡ go_on (go_on o (λ n. give (numeric n))) (λ b. both op (outcome_of (Ok x.number)) (number_of_row b))
 right_computed op x (Stops why st) = refl
-right_computed op x (Gives y st) = λ i. go_on (settled (or_range (sym (number_again x) i)) st) (λ m. settled (or_range (sym (number_again y) i)) >>= λ n. settled (outcome_of (op m.number n.number)) >>= λ result. give (numeric result))
+right_computed op x (Gives y st) = λ i. both op (or_range (sym (number_again x) i)) (or_range (sym (number_again y) i)) st
 
 left_computed : (op : ℤ → ℤ → Checked) (o : Outcome AnyNumber) (right : Doing AnyNumber) →
     go_on (go_on o (λ x. right >>= λ y. settled (outcome_of (op x.number y.number)))) (λ n. give (numeric n))
-    ≡ go_on (go_on o (λ n. give (numeric n))) (λ a. as_values right >>= λ b. settled (number_of_row a) >>= λ m. settled (number_of_row b) >>= λ n. settled (outcome_of (op m.number n.number)) >>= λ result. give (numeric result))
+    ≡ go_on (go_on o (λ n. give (numeric n))) (λ a. as_values right >>= λ b. both op (number_of_row a) (number_of_row b))
 left_computed op (Stops why st) right = refl
 left_computed op (Gives x st) right = right_computed op x (right st)
 
@@ -75,7 +79,8 @@ abbrev inlined : Arithmetic → Pair → Doing AnyNumber
 inlined a vs = perform true (operation (Inline a) (vs.0, (vs.1.0, tt)))
 
 right_inline : (a : Arithmetic) (x : AnyNumber) (o : Outcome AnyNumber) →
-    go_on (go_on (go_on o (λ v. nothing >>= λ vs. paired v vs)) (λ vs. paired x vs)) (inlined a) ≡ go_on o (λ y. settled (outcome_of (arithmetic_of a x.number y.number)))
+    go_on (go_on (go_on o (λ v. nothing >>= λ vs. paired v vs)) (λ vs. paired x vs)) (inlined a)
+    ≡ go_on o (λ y. settled (outcome_of (arithmetic_of a x.number y.number)))
 right_inline a x (Stops why st) = refl
 right_inline a x (Gives y st) = λ i. perform_gives true (outcome_of (arithmetic_of a x.number y.number)) i st
 
@@ -84,7 +89,8 @@ left_inline : (a : Arithmetic) (o : Outcome AnyNumber) (right : Doing AnyNumber)
 left_inline a (Stops why st) right = refl
 left_inline a (Gives x st) right = right_inline a x (right st)
 
-inline_by : (a : Arithmetic) (left right : Doing AnyNumber) → ((left >>= λ v. one right >>= λ vs. paired v vs) >>= inlined a) ≡ computed (arithmetic_of a) left right
+inline_by : (a : Arithmetic) (left right : Doing AnyNumber) →
+    ((left >>= λ v. one right >>= λ vs. paired v vs) >>= inlined a) ≡ computed (arithmetic_of a) left right
 inline_by a left right = λ i st. left_inline a (left st) right i
 
 abbrev kept : AnyNumber × Unit {0} → Doing Value
@@ -110,7 +116,8 @@ left_listed f (Stops why st) rest = refl
 left_listed f (Gives v st) rest = right_listed f v (rest st)
 
 printed_by : {W : Type 0} (f : W → List Value) (o : Outcome W) →
-    go_on (go_on o (λ vs. perform true (print_row (f vs)))) (λ v. give Normal) ≡ go_on (go_on o (λ vs. give (f vs))) (λ vs. perform true (print_row vs) >>= λ u. give Normal)
+    go_on (go_on o (λ vs. perform true (print_row (f vs)))) (λ v. give Normal)
+    ≡ go_on (go_on o (λ vs. give (f vs))) (λ vs. perform true (print_row vs) >>= λ u. give Normal)
 printed_by f (Stops why st) = refl
 printed_by f (Gives vs st) = refl
 
@@ -130,7 +137,8 @@ module _ (texts : List (List ℕ)) where
   value_from (num e) = evaluated texts (boxed e)
   value_from (lit i) = evaluated texts (literal i)
 
-  inline_does : (a : Arithmetic) (e f : Code) (p : IsNumeric e) (q : IsNumeric f) → evaluated texts (inline a e f) ≡ computed (arithmetic_of a) (number_from p) (number_from q)
+  inline_does : (a : Arithmetic) (e f : Code) (p : IsNumeric e) (q : IsNumeric f) →
+      evaluated texts (inline a e f) ≡ computed (arithmetic_of a) (number_from p) (number_from q)
   unfolding evaluated all_evaluated
   inline_does a _ _ (plain z) (plain w) = inline_by a (evaluated texts (Number z)) (evaluated texts (Number w))
   inline_does a _ _ (plain z) (done b es) = inline_by a (evaluated texts (Number z)) (evaluated texts (Do (Inline b) es))
@@ -179,7 +187,8 @@ module _ (texts : List (List ℕ)) where
   item_same i t rest h at = boxed_same i t h
 
   listed_does : (e : Code) (p : IsValued e) (es : Codes) →
-      (all_evaluated texts (At e es) >>= λ vs. give (listing (At e es) vs)) ≡ (value_from p >>= λ v. (all_evaluated texts es >>= λ vs. give (listing es vs)) >>= λ vs. give (v ∷ vs))
+      (all_evaluated texts (At e es) >>= λ vs. give (listing (At e es) vs))
+      ≡ (value_from p >>= λ v. (all_evaluated texts es >>= λ vs. give (listing es vs)) >>= λ vs. give (v ∷ vs))
   unfolding evaluated all_evaluated
   listed_does _ (num e) es = λ i st. left_listed (listing es) (evaluated texts (boxed e) st) (all_evaluated texts es) i
   listed_does _ (lit j) es = λ i st. left_listed (listing es) (evaluated texts (literal j) st) (all_evaluated texts es) i
@@ -192,7 +201,8 @@ module _ (texts : List (List ℕ)) where
       let here : drop i texts ≡ item_texts t ++ (texts_of ts ++ rest) = at ∙ append_assoc (item_texts t) (texts_of ts) rest in
       listed_does (item_code i t) (item_valued i t) (codes_of (i + length (item_texts t)) ts)
       ∙ bind_same (item_same i t (texts_of ts ++ rest) (first_of _ _ h) here)
-      (λ v. bind_same (items_same (i + length (item_texts t)) ts rest (second_of _ _ h) (rest_at texts i (item_texts t) (texts_of ts ++ rest) here)) (λ vs. refl))
+      (λ v. bind_same (items_same (i + length (item_texts t)) ts rest (second_of _ _ h) (rest_at texts i (item_texts t) (texts_of ts ++ rest) here))
+      (λ vs. refl))
 
   print_same : (i : ℕ) (ts : Trees) (rest : List (List ℕ)) → are_items ts ≡ true → drop i texts ≡ texts_of ts ++ rest →
       stepped texts (Eval (Over PrintList (codes_of i ts))) ≡ (values_of ts >>= λ vs. perform true (print_row vs) >>= λ u. give Normal)
@@ -206,7 +216,8 @@ module _ (texts : List (List ℕ)) where
   stmt_same i (Simple (Put Print (Listed ts) NoTarget)) rest h at = print_same i ts rest h at
   stmt_same i _ rest h at = cc
 
-  stmts_same : (i : ℕ) (ss : Stmts) (rest : List (List ℕ)) → are_prints ss ≡ true → drop i texts ≡ stmts_texts ss ++ rest → all_stepped texts (steps_of i ss) ≡ all_done ss
+  stmts_same : (i : ℕ) (ss : Stmts) (rest : List (List ℕ)) → are_prints ss ≡ true → drop i texts ≡ stmts_texts ss ++ rest →
+      all_stepped texts (steps_of i ss) ≡ all_done ss
   unfolding all_stepped all_done
   stmts_same i NoStmt rest h at = refl
   stmts_same i (And s ss) rest h at =
@@ -222,6 +233,7 @@ pub prints : (ss : Stmts) → is_some_prints ss ≡ true → are_prints ss ≡ t
 prints NoStmt h = cc
 prints (And s ss) h = h
 
-pub same_meaning : (script : List Item) → is_covered script ≡ true → (job : JobForm) (outside : Outside) (turns : ℕ) → mid_run (program_of script) job outside turns ≡ run_of script job outside turns
+pub same_meaning : (script : List Item) → is_covered script ≡ true → (job : JobForm) (outside : Outside) (turns : ℕ) →
+    mid_run (program_of script) job outside turns ≡ run_of script job outside turns
 same_meaning (Begin ss ∷ []) h job outside turns = λ i. ending (unless (fault_of_job job) (begin_same ss (prints ss h) i) (start job outside turns))
 same_meaning _ h job outside turns = cc

@@ -38,7 +38,8 @@ module _ (texts : List (List ℕ)) where
   number_sorted (Ok n) h = n.in_range
   number_sorted (Err fault) h = cc
 
-  inline_sorted : (a : Arithmetic) (s t : Tree) → Sorted (length texts) (sum_code s) → Sorted (length texts) (sum_code t) → Sorted (length texts) (inline a (sum_code s) (sum_code t))
+  inline_sorted : (a : Arithmetic) (s t : Tree) → Sorted (length texts) (sum_code s) → Sorted (length texts) (sum_code t) →
+      Sorted (length texts) (inline a (sum_code s) (sum_code t))
   inline_sorted a s t left right = (inline_fits a (sum_code s) (sum_code t) (sum_numeric s) (sum_numeric t), (left, (right, tt)))
 
   sum_sorted : (t : Tree) → is_sum t ≡ true → Sorted (length texts) (sum_code t)
@@ -66,9 +67,11 @@ module _ (texts : List (List ℕ)) where
 
   are_values : (i : ℕ) (ts : Trees) → T (all_values (codes_of i ts))
   are_values i NoTree = tt
-  are_values i (Then t ts) = value_before (item_code i t) (codes_of (i + length (item_texts t)) ts) (item_valued i t) (are_values (i + length (item_texts t)) ts)
+  are_values i (Then t ts) =
+      value_before (item_code i t) (codes_of (i + length (item_texts t)) ts) (item_valued i t) (are_values (i + length (item_texts t)) ts)
 
-  items_sorted : (i : ℕ) (ts : Trees) (rest : List (List ℕ)) → are_items ts ≡ true → drop i texts ≡ texts_of ts ++ rest → AllSorted (length texts) (codes_of i ts)
+  items_sorted : (i : ℕ) (ts : Trees) (rest : List (List ℕ)) → are_items ts ≡ true → drop i texts ≡ texts_of ts ++ rest →
+      AllSorted (length texts) (codes_of i ts)
   items_sorted i NoTree rest h at = tt
   items_sorted i (Then t ts) rest h at =
       let here : drop i texts ≡ item_texts t ++ (texts_of ts ++ rest) = at ∙ append_assoc (item_texts t) (texts_of ts) rest in (
@@ -81,7 +84,8 @@ module _ (texts : List (List ℕ)) where
   stmt_sorted i (Simple (Put Print (Listed ts) NoTarget)) rest h at = (are_values i ts, items_sorted i ts rest h at)
   stmt_sorted i _ rest h at = cc
 
-  stmts_sorted : (i : ℕ) (ss : Stmts) (rest : List (List ℕ)) → are_prints ss ≡ true → drop i texts ≡ stmts_texts ss ++ rest → SortedSteps (length texts) (steps_of i ss)
+  stmts_sorted : (i : ℕ) (ss : Stmts) (rest : List (List ℕ)) → are_prints ss ≡ true → drop i texts ≡ stmts_texts ss ++ rest →
+      SortedSteps (length texts) (steps_of i ss)
   stmts_sorted i NoStmt rest h at = tt
   stmts_sorted i (And s ss) rest h at =
       let here : drop i texts ≡ stmt_texts s ++ (stmts_texts ss ++ rest) = at ∙ append_assoc (stmt_texts s) (stmts_texts ss) rest in (

@@ -1,5 +1,5 @@
 -- More turns keep what is done, up to the turns that are left; and output is only added.
-use Rattle.std.proofs.Common.{◌≡◌, ℕ, ◌+◌, ◌-◌, ◌≤◌, Bool, List, [], ◌∷◌, ◌++◌, Option, Some, None, Result, Ok, Err, append_assoc, append-nil, refl, sym, ap, subst, ◌∙◌, arith}
+use Rattle.std.proofs.Common.{◌≡◌, ℕ, ◌+◌, ◌-◌, ◌≤◌, Bool, List, [], ◌++◌, Option, Some, None, Result, Ok, Err, append_assoc, append-nil, refl, sym, ap, subst, ◌∙◌, arith}
 use Rattle.awk_values.specs.declared.fault.Fault.{Fault}
 use Rattle.world_core.specs.WorldState.{Action, Outside}
 use Rattle.awk_state.specs.Jobs.{JobForm, fault_of_job}
@@ -8,7 +8,7 @@ use Rattle.awk_state.specs.Sorts.{OrFault}
 use Rattle.mid_code.specs.Kept.{Grows, IsKept, output_at, output_of}
 use Rattle.mid_code.specs.Meaning.{Flow}
 use Rattle.mid_code.specs.ScriptRun.{ending, start, unless}
-use Rattle.mid_code.specs.ScriptState.{State, Stop, Faulted, OutOfTurns, TooDeep, Outcome, Gives, Stops, Doing, go_on, ◌>>=◌, give, stop, settled, or_fault, perform}
+use Rattle.mid_code.specs.ScriptState.{State, Faulted, OutOfTurns, TooDeep, Outcome, Gives, Stops, Doing, go_on, ◌>>=◌, give, stop, settled, or_fault, perform}
 
 same : (output : List Action) → Grows output output
 same output = ([], sym (append-nil output))
@@ -31,21 +31,25 @@ pub record Steady {A : Type 0} (d : ℕ) (m m' : Doing A) : Type 0 where
   pub keeps : (state : State) → Keeps d (m state) (m' (more d state))
   pub grows : (state : State) → Grows state.shared.output (output_at (m' state))
 
-grows_then : {A B : Type 0} (o : Outcome A) (f : A → Doing B) → ((a : A) (state : State) → Grows state.shared.output (output_at (f a state))) → Grows (output_at o) (output_at (go_on o f))
+grows_then : {A B : Type 0} (o : Outcome A) (f : A → Doing B) → ((a : A) (state : State) → Grows state.shared.output (output_at (f a state))) →
+    Grows (output_at o) (output_at (go_on o f))
 grows_then (Gives a state) f g = g a state
 grows_then (Stops why state) f g = same state.shared.output
 
-keeps_then : {A B : Type 0} (d : ℕ) (o o' : Outcome A) (f f' : A → Doing B) → Keeps d o o' → ((a : A) → Steady d (f a) (f' a)) → Keeps d (go_on o f) (go_on o' f')
+keeps_then : {A B : Type 0} (d : ℕ) (o o' : Outcome A) (f f' : A → Doing B) → Keeps d o o' → ((a : A) → Steady d (f a) (f' a)) →
+    Keeps d (go_on o f) (go_on o' f')
 keeps_then d (Gives a state) o' f f' kept s = subst (λ x. Keeps d (f a state) (go_on x f')) (sym kept) ((s a).keeps state)
 keeps_then d (Stops (Faulted fault) state) o' f f' kept s = ap (λ x. go_on x f') kept
 keeps_then d (Stops OutOfTurns state) o' f f' kept s =
     grows_on state.shared.output (output_at o') (output_at (go_on o' f')) kept (grows_then o' f' (λ a. (s a).grows))
 keeps_then d (Stops TooDeep state) o' f f' kept s = ap (λ x. go_on x f') kept
 
-pub then_steady : {A B : Type 0} {d : ℕ} {m m' : Doing A} {f f' : A → Doing B} → Steady d m m' → ((a : A) → Steady d (f a) (f' a)) → Steady d (◌>>=◌ m f) (◌>>=◌ m' f')
+pub then_steady : {A B : Type 0} {d : ℕ} {m m' : Doing A} {f f' : A → Doing B} → Steady d m m' → ((a : A) → Steady d (f a) (f' a)) →
+    Steady d (◌>>=◌ m f) (◌>>=◌ m' f')
 then_steady {d} {m} {m'} {f} {f'} first next = record {
   keeps = λ state. keeps_then d (m state) (m' (more d state)) f f' (first.keeps state) next;
-  grows = λ state. grows_on state.shared.output (output_at (m' state)) (output_at (go_on (m' state) f')) (first.grows state) (grows_then (m' state) f' (λ a. (next a).grows));
+  grows = λ state. grows_on state.shared.output (output_at (m' state)) (output_at (go_on (m' state) f'))
+      (first.grows state) (grows_then (m' state) f' (λ a. (next a).grows));
 }
 
 pub give_steady : {A : Type 0} {d : ℕ} (a : A) → Steady d (give a) (give a)

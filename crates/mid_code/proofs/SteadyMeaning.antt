@@ -1,9 +1,9 @@
 -- The meaning of scripts and that of mid code are steady.
-use Rattle.std.proofs.Common.{◌≡◌, ℕ, true, List, [], ◌∷◌}
+use Rattle.std.proofs.Common.{ℕ, true, List, [], ◌∷◌}
 use Rattle.std.specs.Prelude.{ℤ}
 use Rattle.awk_values.specs.Operators.{Outcome as Checked, sum, difference, product}
 use Rattle.awk_values.specs.declared.value.Value.{Value}
-use Rattle.awk_state.specs.Numbers.{Number as AnyNumber, outcome_of}
+use Rattle.awk_state.specs.Numbers.{outcome_of}
 use Rattle.awk_state.specs.OutputRows.{print_row}
 use Rattle.awk_state.specs.Table.{listed_meaning}
 use Rattle.awk_state.specs.ValueRows.{number_of_row}
@@ -11,14 +11,15 @@ use Rattle.awk_tree.specs.Token.{Plus, Minus, Times, Mul, Number, Quoted}
 use Rattle.awk_tree.specs.Tree.{Tree, Leaf, Group, Bin, Add, Other, Trees, NoTree, Then}
 use Rattle.awk_tree.specs.Stmt.{Print, Listed, NoTarget, Put, Simple, Stmt, Stmts, NoStmt, And}
 use Rattle.awk_tree.specs.Item.{Item, Begin}
-use Rattle.mid_code.specs.Meaning.{Flow, Normal, all_done, arithmetic, begun, constant, done_by, numeric, value_of, values_of}
+use Rattle.mid_code.specs.Meaning.{Normal, all_done, arithmetic, begun, constant, done_by, numeric, value_of, values_of}
 use Rattle.mid_code.specs.Mid.{Code, Do, Over, Number as NumberCode, Text, Codes, End, At, Step, Eval, arguments, may_fault}
 use Rattle.mid_code.specs.MidMeaning.{all_evaluated, all_stepped, evaluated, listing, operation, row_of, stepped}
 use Rattle.mid_code.specs.ScriptState.{Doing}
 use Rattle.mid_code.proofs.Steady.{Steady, give_steady, perform_steady, settled_steady, then_steady}
 
 module _ (d : ℕ) where
-  arithmetic_steady : (op : ℤ → ℤ → Checked) {left right : Doing Value} → Steady d left left → Steady d right right → Steady d (arithmetic op left right) (arithmetic op left right)
+  arithmetic_steady : (op : ℤ → ℤ → Checked) {left right : Doing Value} → Steady d left left → Steady d right right →
+      Steady d (arithmetic op left right) (arithmetic op left right)
   arithmetic_steady op left right =
       then_steady left (λ x. then_steady right (λ y. then_steady (settled_steady (number_of_row x)) (λ m. then_steady (settled_steady (number_of_row y)) (λ n.
       then_steady (settled_steady (outcome_of (op m.number n.number))) (λ result. give_steady (numeric result))))))
@@ -40,7 +41,8 @@ module _ (d : ℕ) where
 
   done_steady : (s : Stmt) → Steady d (done_by s) (done_by s)
   unfolding done_by
-  done_steady (Simple (Put Print (Listed ts) NoTarget)) = then_steady (values_steady ts) (λ vs. then_steady (perform_steady true (print_row vs)) (λ u. give_steady Normal))
+  done_steady (Simple (Put Print (Listed ts) NoTarget)) =
+      then_steady (values_steady ts) (λ vs. then_steady (perform_steady true (print_row vs)) (λ u. give_steady Normal))
   done_steady _ = give_steady Normal
 
   all_done_steady : (ss : Stmts) → Steady d (all_done ss) (all_done ss)
@@ -60,7 +62,8 @@ module _ (d : ℕ) where
 
       evaluated_steady : (e : Code) → Steady d (evaluated texts e) (evaluated texts e)
       evaluated_steady (Do o es) =
-          then_steady (all_evaluated_steady es) (λ vs. then_steady (settled_steady (row_of (arguments o) es vs)) (λ row. perform_steady (may_fault o) (operation o row)))
+          then_steady (all_evaluated_steady es) (λ vs.
+          then_steady (settled_steady (row_of (arguments o) es vs)) (λ row. perform_steady (may_fault o) (operation o row)))
       evaluated_steady (Over l es) = then_steady (all_evaluated_steady es) (λ vs. perform_steady true (listed_meaning l (listing es vs)))
       evaluated_steady (NumberCode z) = give_steady _
       evaluated_steady (Text i) = give_steady _

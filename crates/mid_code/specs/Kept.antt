@@ -1,6 +1,7 @@
 -- What more turns keep, and how output grows.
-use Rattle.std.specs.Prelude.{◌≡◌, List, ◌++◌}
-use Rattle.world_core.specs.WorldState.{Action}
+use Rattle.std.specs.Prelude.{◌≡◌, ℕ, ◌≤◌, List, ◌++◌}
+use Rattle.world_core.specs.WorldState.{Action, Outside}
+use Rattle.awk_state.specs.Jobs.{JobForm}
 use Rattle.mid_code.specs.ScriptState.{Outcome, Gives, Stops}
 use Rattle.mid_code.specs.ScriptRun.{Ending, Ended, FaultedBy, GoesOn, Exhausted}
 
@@ -24,3 +25,7 @@ IsKept (Ended status output) later = later ≡ Ended status output
 IsKept (FaultedBy fault output) later = later ≡ FaultedBy fault output
 IsKept (GoesOn output) later = Grows output (output_of later)
 IsKept (Exhausted output) later = later ≡ Exhausted output
+
+-- of a run by its job, the outside and its turns
+abbrev pub MoreTurnsKeep : (JobForm → Outside → ℕ → Ending) → Type 0
+MoreTurnsKeep run = (job : JobForm) (outside : Outside) (few many : ℕ) → few ≤ many → IsKept (run job outside few) (run job outside many)

@@ -1,5 +1,5 @@
 -- The meaning of mid code, by its syntax.
-use Rattle.std.specs.Prelude.{ℕ, true, false, List, [], ◌∷◌, Option, Some, None, Result, Ok, Err, ℤ, pos, get_or}
+use Rattle.std.specs.Prelude.{◌≡◌, ℕ, true, false, List, [], ◌∷◌, Option, Some, None, Result, Ok, Err, ℤ, pos, get_or}
 use Rattle.awk_values.specs.Operators.{Outcome as Checked, sum, difference, product}
 use Rattle.awk_values.specs.declared.fault.Fault.{Fault}
 use Rattle.awk_values.specs.declared.value.Value.{Value}
@@ -22,6 +22,7 @@ use Rattle.awk_state.specs.declared.constants.NameKind.TheVariants.{Scalar}
 use Rattle.awk_state.specs.declared.constants.Special.TheVariants.{Nf}
 use Rattle.awk_values.specs.declared.comparison.CompareOp.TheVariants.{Equal}
 use Rattle.awk_values.specs.declared.fault.Fault.TheVariants.{Range}
+use Rattle.awk_tree.specs.Item.{Item}
 use Rattle.mid_code.specs.declared.mid.Arithmetic.{Arithmetic}
 use Rattle.mid_code.specs.declared.mid.Arithmetic.TheVariants.{Plus, Minus, Times}
 use Rattle.mid_code.specs.declared.mid.Operation.{Operation}
@@ -29,7 +30,7 @@ use Rattle.mid_code.specs.declared.mid.Operation.TheVariants.{Host, Inline}
 use Rattle.mid_code.specs.Mid.{Code, Do, Over, Number, Text, Codes, End, At, Step, Eval, Program, arguments, answer_by, may_fault, Shape, Answered, Literal, shape_of}
 use Rattle.mid_code.specs.ScriptState.{Doing, ◌>>=◌, give, settled, perform}
 use Rattle.mid_code.specs.Meaning.{Flow, Normal}
-use Rattle.mid_code.specs.ScriptRun.{Ending, ending, start, unless}
+use Rattle.mid_code.specs.ScriptRun.{Ending, ending, run_of, start, unless}
 
 abbrev pub arithmetic_of : Arithmetic → ℤ → ℤ → Checked
 arithmetic_of Plus = sum
@@ -127,3 +128,7 @@ module _ (texts : List (List ℕ)) where
 
 abbrev pub mid_run : Program → JobForm → Outside → ℕ → Ending
 mid_run p job outside turns = ending (unless (fault_of_job job) (all_stepped p.texts p.main) (start job outside turns))
+
+-- mid code ends as a script does, with the same output, at every job, outside and number of turns
+abbrev pub EndsAs : Program → List Item → Type 0
+EndsAs p script = (job : JobForm) (outside : Outside) (turns : ℕ) → mid_run p job outside turns ≡ run_of script job outside turns

@@ -5,16 +5,16 @@ use Rattle.awk_text.specs.Reading.{numeral_at, sign_at, fraction_at, exponent_at
 use Rattle.awk_text.specs.Number.{numerator, denominator}
 use Rattle.awk_text.specs.Escapes.{unescaped, escaped, octal}
 use Rattle.awk_values.specs.declared.fault.Fault.TheVariants.{Range, WriteFailed}
-use Rattle.world_core.specs.WorldState.{Standard, Named, Entry, Outside, absent, replaced, Action, puts}
+use Rattle.world_core.specs.WorldState.{Standard, Outside, absent, replaced, Action, puts}
 use Rattle.awk_state.specs.Jobs.{JobForm}
 use Rattle.awk_tree.specs.Token.{Plus, Minus, Times, Mul, Number, Quoted}
-use Rattle.awk_tree.specs.Tree.{Tree, Leaf, Group, Bin, Add, Other, Trees, NoTree, Then}
+use Rattle.awk_tree.specs.Tree.{Tree, Leaf, Bin, Add, Other, NoTree, Then}
 use Rattle.awk_tree.specs.Stmt.{Print, Listed, NoTarget, Put, Simple, Stmt, Stmts, NoStmt, And}
 use Rattle.awk_tree.specs.Item.{Item, Begin}
 use Rattle.mid_code.specs.Covered.{is_covered, is_sum}
 use Rattle.mid_code.specs.Meaning.{all_done, begun, done_by, value_of, values_of}
 use Rattle.mid_code.specs.MidMeaning.{all_evaluated, all_stepped, evaluated, mid_run, stepped}
-use Rattle.mid_code.specs.ScriptRun.{Ending, Ended, FaultedBy, run_of}
+use Rattle.mid_code.specs.ScriptRun.{Ended, FaultedBy, run_of}
 use Rattle.mid_code.specs.Translation.{item_code, item_texts, program_of, stmt_step, stmt_texts, sum_code}
 
 abbrev number : List ℕ → Tree
@@ -71,7 +71,8 @@ five_of_code = refl
 -- print "a", 2*3-7; print "b\n"
 abbrev texts_and_sums : List Item
 texts_and_sums =
-    script_of (And (print_two (string (codes "a")) (minus (times (number (codes "2")) (number (codes "3"))) (number (codes "7")))) (And (print_one (string (98 ∷ 92 ∷ 110 ∷ []))) NoStmt))
+    script_of (And (print_two (string (codes "a")) (minus (times (number (codes "2")) (number (codes "3"))) (number (codes "7"))))
+    (And (print_one (string (98 ∷ 92 ∷ 110 ∷ []))) NoStmt))
 
 pub operands_are_joined : run_of texts_and_sums idle empty 0 ≡ Ended 0 (out (codes "a -1\nb\n\n"))
 unfolding begun all_done done_by values_of value_of numeral_at sign_at fraction_at exponent_at numerator denominator digits unescaped escaped octal
@@ -81,18 +82,27 @@ pub operands_are_joined_in_code : mid_run (program_of texts_and_sums) idle empty
 unfolding all_stepped stepped evaluated all_evaluated item_code item_texts stmt_step stmt_texts sum_code numeral_at sign_at fraction_at exponent_at numerator denominator digits unescaped escaped octal
 operands_are_joined_in_code = refl
 
+abbrev most : Tree
+most = number (codes "9007199254740991")
+
 -- print 9007199254740991+1; print 9007199254740992+1
-pub first_line_stays : run_of (script_of (And (print_one (plus (number (codes "9007199254740991")) (number (codes "1")))) (And (print_one (plus (number (codes "9007199254740992")) (number (codes "1")))) NoStmt))) idle empty 0 ≡ FaultedBy Range (out (codes "9007199254740992\n"))
+abbrev two_sums : List Item
+two_sums = script_of (And (print_one (plus most (number (codes "1")))) (And (print_one (plus (number (codes "9007199254740992")) (number (codes "1")))) NoStmt))
+
+pub first_line_stays : run_of two_sums idle empty 0 ≡ FaultedBy Range (out (codes "9007199254740992\n"))
 unfolding begun all_done done_by values_of value_of numeral_at sign_at fraction_at exponent_at numerator denominator digits
 first_line_stays = refl
 
 -- print 9007199254740991 * 9007199254740991
-pub no_output_before_a_fault : run_of (script_of (And (print_one (times (number (codes "9007199254740991")) (number (codes "9007199254740991")))) NoStmt)) idle empty 0 ≡ FaultedBy Range []
+pub no_output_before_a_fault : run_of (script_of (And (print_one (times most most)) NoStmt)) idle empty 0 ≡ FaultedBy Range []
 unfolding begun all_done done_by values_of value_of numeral_at sign_at fraction_at exponent_at numerator denominator digits
 no_output_before_a_fault = refl
 
 -- print "ab"; print "cd" where four bytes fit
-pub what_fits_goes_out : run_of (script_of (And (print_one (string (codes "ab"))) (And (print_one (string (codes "cd"))) NoStmt))) idle narrow 0 ≡ FaultedBy WriteFailed (out (codes "ab\nc"))
+abbrev two_texts : List Item
+two_texts = script_of (And (print_one (string (codes "ab"))) (And (print_one (string (codes "cd"))) NoStmt))
+
+pub what_fits_goes_out : run_of two_texts idle narrow 0 ≡ FaultedBy WriteFailed (out (codes "ab\nc"))
 unfolding begun all_done done_by values_of value_of unescaped escaped octal
 what_fits_goes_out = refl
 

@@ -1,9 +1,7 @@
 //! Laws of the meaning, each the contract of a function that does nothing.
-ghost use Rattle.std.specs.Prelude.{ℕ, ◌≤◌, List};
-ghost use Rattle.world_core.specs.WorldState.{Outside};
-ghost use Rattle.awk_state.specs.Jobs.{JobForm};
+ghost use Rattle.std.specs.Prelude.{List};
 ghost use Rattle.awk_tree.specs.Item.{Item};
-ghost use Rattle.mid_code.specs.Kept.{Grows, IsKept, output_at};
+ghost use Rattle.mid_code.specs.Kept.{Grows, MoreTurnsKeep, output_at};
 ghost use Rattle.mid_code.specs.Meaning.{begun};
 ghost use Rattle.mid_code.specs.Mid.{Program};
 ghost use Rattle.mid_code.specs.MidMeaning.{all_stepped, mid_run};
@@ -12,8 +10,8 @@ ghost use Rattle.mid_code.specs.ScriptState.{State};
 
 /// More turns never change how a run ends, and the output of a run that goes on only grows: of a script, and of mid code.
 pub fn more_turns_keep()
-    ensures script { (script : List Item) (job : JobForm) (outside : Outside) (few many : ℕ) → few ≤ many → IsKept (run_of script job outside few) (run_of script job outside many) }
-    ensures code { (program : Program) (job : JobForm) (outside : Outside) (few many : ℕ) → few ≤ many → IsKept (mid_run program job outside few) (mid_run program job outside many) }
+    ensures script { (script : List Item) → MoreTurnsKeep (run_of script) }
+    ensures code { (program : Program) → MoreTurnsKeep (mid_run program) }
 {}
 
 /// Whatever state a script or mid code is run from, the output there is the beginning of the output at its end.

@@ -1,19 +1,16 @@
 //! From a script's tree to its code.
 ghost use Rattle.std.specs.Prelude.{◌≡◌, ◌++◌, ◌∷◌, [], ◌⊎◌, ℕ, true, false, length, ◌≤◌, map, IfOk, IfErr, IfSome, OnOk, is_some, ◌&&◌, MatchOption, MatchResult};
-ghost use Rattle.awk_state.specs.Jobs.{JobForm};
 ghost use Rattle.awk_tree.specs.Item.{Begin};
 ghost use Rattle.awk_tree.specs.Stmt.{Simple as Plainly, Put as Puts, Print as Unformatted, Listed as ListOf, NoTarget};
 ghost use Rattle.awk_tree.specs.View.{view as tree, views as trees, view_binary};
 ghost use Rattle.awk_tree.specs.Tree.{Tree, Bin};
 ghost use Rattle.awk_tree.specs.ViewStmt.{view_script, view_stmt as tree_stmt, view_stmts as tree_stmts};
-ghost use Rattle.mid_code.specs.Covered.{are_items, are_prints, is_covered, is_item, is_number, is_print, is_some_prints, is_sum};
+ghost use Rattle.mid_code.specs.Covered.{are_items, are_prints, is_covered, is_item, is_number, is_print, is_sum};
 ghost use Rattle.mid_code.specs.Meaning.{constant};
 ghost use Rattle.mid_code.specs.Mid.{Do, Over};
-ghost use Rattle.mid_code.specs.MidMeaning.{mid_run};
-ghost use Rattle.mid_code.specs.ScriptRun.{run_of};
+ghost use Rattle.mid_code.specs.MidMeaning.{EndsAs};
 ghost use Rattle.mid_code.specs.Translation.{boxed, codes_of, inline, item_code, item_texts, literal, number_code, program_of, steps_of, stmt_step, stmt_texts, stmts_texts, sum_code, texts_of};
 ghost use Rattle.mid_code.specs.View.{view, view_mid, view_stmt, view_texts, views};
-ghost use Rattle.world_core.specs.WorldState.{Outside};
 
 use crate::{Arithmetic, Expr, Mid, MidFault, Operation, Stmt};
 use awk_state::{Listed, Primitive};
@@ -104,7 +101,8 @@ fn sum(alloc: Global, e: &awk_tree::Expr) -> Result<Expr, MidFault>
 
 /// Code that gives a value; the texts of constants are added to `texts`.
 fn item(alloc: Global, texts: &mut Vec<Vec<u8>>, e: &awk_tree::Expr) -> Result<Expr, MidFault>
-    ensures ok { IfOk result (λ code. (is_item (tree e.now) ≡ true) × (view code ≡ item_code (length (view_texts texts.old.items)) (tree e.now))) }
+    ensures covered { OnOk result (is_item (tree e.now) ≡ true) }
+    ensures code { IfOk result (λ code. view code ≡ item_code (length (view_texts texts.old.items)) (tree e.now)) }
     ensures texts { OnOk result (view_texts texts.new.items ≡ view_texts texts.old.items ++ item_texts (tree e.now)) }
     ensures not_yet { IfErr result (λ fault. fault ≡ MidFault.NotYet → is_item (tree e.now) ≡ false) }
 {
@@ -127,7 +125,8 @@ fn items(
     texts: &mut Vec<Vec<u8>>,
     es: &[awk_tree::Expr],
 ) -> Result<Vec<Expr>, MidFault>
-    ensures ok { IfOk result (λ codes. (are_items (trees es.now) ≡ true) × (views codes.items ≡ codes_of (length (view_texts texts.old.items)) (trees es.now))) }
+    ensures covered { OnOk result (are_items (trees es.now) ≡ true) }
+    ensures code { IfOk result (λ codes. views codes.items ≡ codes_of (length (view_texts texts.old.items)) (trees es.now)) }
     ensures texts { OnOk result (view_texts texts.new.items ≡ view_texts texts.old.items ++ texts_of (trees es.now)) }
     ensures not_yet { IfErr result (λ fault. fault ≡ MidFault.NotYet → are_items (trees es.now) ≡ false) }
 {
@@ -151,7 +150,8 @@ fn printed(s: &awk_tree::Stmt) -> Option<&[awk_tree::Expr]>
 }
 
 fn statement(alloc: Global, texts: &mut Vec<Vec<u8>>, s: &awk_tree::Stmt) -> Result<Stmt, MidFault>
-    ensures ok { IfOk result (λ code. (is_print (tree_stmt s.now) ≡ true) × (view_stmt code ≡ stmt_step (length (view_texts texts.old.items)) (tree_stmt s.now))) }
+    ensures covered { OnOk result (is_print (tree_stmt s.now) ≡ true) }
+    ensures code { IfOk result (λ code. view_stmt code ≡ stmt_step (length (view_texts texts.old.items)) (tree_stmt s.now)) }
     ensures texts { OnOk result (view_texts texts.new.items ≡ view_texts texts.old.items ++ stmt_texts (tree_stmt s.now)) }
     ensures not_yet { IfErr result (λ fault. fault ≡ MidFault.NotYet → is_print (tree_stmt s.now) ≡ false) }
 {
@@ -168,7 +168,8 @@ fn statements(
     texts: &mut Vec<Vec<u8>>,
     body: &[awk_tree::Stmt],
 ) -> Result<Vec<Stmt>, MidFault>
-    ensures ok { IfOk result (λ code. (are_prints (tree_stmts body.now) ≡ true) × (map view_stmt code.items ≡ steps_of (length (view_texts texts.old.items)) (tree_stmts body.now))) }
+    ensures covered { OnOk result (are_prints (tree_stmts body.now) ≡ true) }
+    ensures code { IfOk result (λ code. map view_stmt code.items ≡ steps_of (length (view_texts texts.old.items)) (tree_stmts body.now)) }
     ensures texts { OnOk result (view_texts texts.new.items ≡ view_texts texts.old.items ++ stmts_texts (tree_stmts body.now)) }
     ensures not_yet { IfErr result (λ fault. fault ≡ MidFault.NotYet → are_prints (tree_stmts body.now) ≡ false) }
 {
@@ -181,7 +182,8 @@ fn statements(
 
 /// The statements of a script that is one action of BEGIN, where there are any.
 fn begin(script: &Script) -> Option<&[awk_tree::Stmt]>
-    ensures { MatchOption result (is_covered (view_script script.now) ≡ false) (λ body. (view_script script.now ≡ Begin (tree_stmts body.now) ∷ []) × (1 ≤ length body.now)) }
+    ensures body { MatchOption result (is_covered (view_script script.now) ≡ false) (λ body. view_script script.now ≡ Begin (tree_stmts body.now) ∷ []) }
+    ensures some { IfSome result (λ body. 1 ≤ length body.now) }
 {
     match script.items.as_slice() {
         [Item::Begin(body)] => { if body.is_empty() { None } else { Some(body) } }
@@ -198,7 +200,7 @@ fn begin(script: &Script) -> Option<&[awk_tree::Stmt]>
 pub fn to_mid(alloc: Global, script: &Script) -> Result<Mid, MidFault>
     ensures covered { OnOk result (is_covered (view_script script.now) ≡ true) }
     ensures code { IfOk result (λ mid. view_mid mid ≡ program_of (view_script script.now)) }
-    ensures same_meaning { IfOk result (λ mid. (job : JobForm) (outside : Outside) (turns : ℕ) → mid_run (view_mid mid) job outside turns ≡ run_of (view_script script.now) job outside turns) }
+    ensures same_meaning { IfOk result (λ mid. EndsAs (view_mid mid) (view_script script.now)) }
     ensures refused { IfErr result (λ fault. (fault ≡ MidFault.NoMemory) ⊎ ((fault ≡ MidFault.NotYet) × (is_covered (view_script script.now) ≡ false))) }
 {
     let Some(body) = begin(script) else {

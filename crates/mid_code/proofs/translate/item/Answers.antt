@@ -10,13 +10,14 @@ use Rattle.mid_code.specs.View.{view_texts}
 use Rattle.mid_code.proofs.Items.{sum_is_item, sum_item_code, sum_item_texts}
 use Rattle.mid_code.proofs.translate.item.Goals as goal
 
-pub returns-in_ok-host-in-Str-clause-ok : goal.returns-in_ok-host-in-Str-clause-ok
+pub returns-in_ok-host-in-Str-clause-covered : goal.returns-in_ok-host-in-Str-clause-covered
+returns-in_ok-host-in-Str-clause-covered c = ap (λ (e : Tree). is_item (tree e)) c.in-Str.is
+
+pub returns-in_ok-host-in-Str-clause-code : goal.returns-in_ok-host-in-Str-clause-code
 unfolding item_code
-returns-in_ok-host-in-Str-clause-ok c =
-    let place : c.len-place.result ≡ length (view_texts c.args.texts.now.items) = simp length-map (search rules) in (
-      ap (λ (e : Tree). is_item (tree e)) c.in-Str.is,
-      c.in_ok-host-in-Str.ensures ∙ ap literal place ∙ sym (ap (λ (e : Tree). item_code (length (view_texts c.args.texts.now.items)) (tree e)) c.in-Str.is),
-    )
+returns-in_ok-host-in-Str-clause-code c =
+    let place : c.len-place.result ≡ length (view_texts c.args.texts.now.items) = simp length-map (search rules) in
+    c.in_ok-host-in-Str.ensures ∙ ap literal place ∙ sym (ap (λ (e : Tree). item_code (length (view_texts c.args.texts.now.items)) (tree e)) c.in-Str.is)
 
 pub returns-in_ok-host-in-Str-clause-texts : goal.returns-in_ok-host-in-Str-clause-texts
 unfolding item_texts
@@ -29,11 +30,10 @@ returns-in_ok-host-in-Str-clause-texts c =
 pub returns-in_ok-host-in_default : goal.returns-in_ok-host-in_default
 returns-in_ok-host-in_default c =
     let covered = c.in_ok-number-in_default.ensures.ok.0 in
+    let before : List (List ℕ) = view_texts c.args.texts.now.items in
     record {
-      ok = (
-        sum_is_item (tree c.args.e.now) covered,
-        c.in_ok-host-in_default.ensures ∙ ap boxed c.in_ok-number-in_default.ensures.ok.1 ∙ sym (sum_item_code _ (tree c.args.e.now) covered),
-      );
-      texts = sym (append-nil (view_texts c.args.texts.now.items)) ∙ ap (λ (xs : List (List ℕ)). view_texts c.args.texts.now.items ++ xs) (sym (sum_item_texts (tree c.args.e.now) covered));
+      covered = sum_is_item (tree c.args.e.now) covered;
+      code = c.in_ok-host-in_default.ensures ∙ ap boxed c.in_ok-number-in_default.ensures.ok.1 ∙ sym (sum_item_code _ (tree c.args.e.now) covered);
+      texts = sym (append-nil before) ∙ ap (λ (xs : List (List ℕ)). before ++ xs) (sym (sum_item_texts (tree c.args.e.now) covered));
       not_yet = tt;
     }

@@ -4,7 +4,6 @@ use Rattle.std.proofs.lemmas.List.{at_drop_more}
 use Rattle.awk_tree.specs.declared.tree.Expr.{Expr as Tree}
 use Rattle.awk_tree.specs.Tree.{Then, Trees}
 use Rattle.awk_tree.specs.View.{view as tree, views as trees}
-use Rattle.mid_code.specs.Covered.{are_items}
 use Rattle.mid_code.specs.Translation.{codes_of}
 use Rattle.mid_code.specs.View.{view_texts}
 use Rattle.mid_code.specs.declared.mid.Expr.{Expr}
@@ -21,19 +20,17 @@ loop-e-preserved c =
     let before : List (List ℕ) = view_texts c.loop-e.texts.items in
     let after : List (List ℕ) = view_texts c.item.new.texts.items in
     record {
-      covered = covered_more (tree e) rest _ split c.in_ok-item.ensures.ok.0 ∙ c.loop-e.invariant.covered;
+      covered = covered_more (tree e) rest _ split c.in_ok-item.ensures.covered ∙ c.loop-e.invariant.covered;
       codes = ap (λ (xs : List Expr). glue xs (codes_of (length after) rest)) c.in_ok-push.ensures.items
           ∙ glue_push c.loop-e.codes.items c.in_ok-item.field-0 (codes_of (length after) rest)
-          ∙ ap (glue c.loop-e.codes.items) (codes_more (tree e) rest _ split before after _ c.in_ok-item.ensures.texts c.in_ok-item.ensures.ok.1)
+          ∙ ap (glue c.loop-e.codes.items) (codes_more (tree e) rest _ split before after _ c.in_ok-item.ensures.texts c.in_ok-item.ensures.code)
           ∙ c.loop-e.invariant.codes;
       texts = texts_more (tree e) rest _ split before after c.in_ok-item.ensures.texts ∙ c.loop-e.invariant.texts;
     }
 
-pub returns-clause-ok : goal.returns-clause-ok
-returns-clause-ok c =
-    let none : drop c.loop-e.e-index c.args.es.now ≡ [] = drop_of_length-le c.args.es.now c.loop-e-test.false in (
-      sym c.loop-e.invariant.covered ∙ ap (λ (es : List Tree). are_items (trees es)) none,
-      sym (glue_end c.loop-e.codes.items)
-          ∙ sym (ap (λ (es : List Tree). glue c.loop-e.codes.items (codes_of (length (view_texts c.loop-e.texts.items)) (trees es))) none)
-          ∙ c.loop-e.invariant.codes,
-    )
+pub returns-clause-code : goal.returns-clause-code
+returns-clause-code c =
+    let none : drop c.loop-e.e-index c.args.es.now ≡ [] = drop_of_length-le c.args.es.now c.loop-e-test.false in
+    sym (glue_end c.loop-e.codes.items)
+    ∙ sym (ap (λ (es : List Tree). glue c.loop-e.codes.items (codes_of (length (view_texts c.loop-e.texts.items)) (trees es))) none)
+    ∙ c.loop-e.invariant.codes

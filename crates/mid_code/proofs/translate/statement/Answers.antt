@@ -7,12 +7,14 @@ use Rattle.mid_code.specs.Translation.{stmt_step, stmt_texts}
 use Rattle.mid_code.specs.View.{view_texts}
 use Rattle.mid_code.proofs.translate.statement.Goals as goal
 
-pub returns-clause-ok : goal.returns-clause-ok
+pub returns-clause-covered : goal.returns-clause-covered
+returns-clause-covered c = ap is_print c.in-Some.ensures ∙ c.in_ok-values.ensures.covered
+
+pub returns-clause-code : goal.returns-clause-code
 unfolding stmt_step
-returns-clause-ok c = (
-  ap is_print c.in-Some.ensures ∙ c.in_ok-values.ensures.ok.0,
-  ap Eval (c.listed.ensures ∙ ap (Over PrintList) c.in_ok-values.ensures.ok.1) ∙ sym (ap (stmt_step (length (view_texts c.args.texts.now.items))) c.in-Some.ensures),
-)
+returns-clause-code c =
+    ap Eval (c.listed.ensures ∙ ap (Over PrintList) c.in_ok-values.ensures.code)
+    ∙ sym (ap (stmt_step (length (view_texts c.args.texts.now.items))) c.in-Some.ensures)
 
 pub returns-clause-texts : goal.returns-clause-texts
 unfolding stmt_texts
