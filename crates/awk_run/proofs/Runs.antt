@@ -27,10 +27,10 @@ told tells whole start steps before after kept machine.Exhausted r = r
 told tells whole start steps before after kept machine.NoMemory r = inl r
 
 pub did_answers : (tells : Type 0) (whole : ModuleForm) (start : HostState) (steps : ℕ) (before after : State) (a : MachineForm) → IsNew host_finds whole a → (t : MachineEnd) (c : Conf) (s : HostState) → Did (host_meaning tells) a.program steps a.conf start t c s → after.outside ≡ s.shared.outside →
-  RunAnswers tells whole start steps before (run_end s.fault t) after
+    RunAnswers tells whole start steps before (run_end s.fault t) after
 did_answers tells whole start steps before after a n t c s d e =
     told tells whole start steps before after s.fault t
-      (record { machine = a; is_new = n; run-end = d.1; told = t; telling = d.2; conf = c; state = s; output = d.0; ran = d.3; answered = refl; outside = e })
+    (record { machine = a; is_new = n; run-end = d.1; told = t; telling = d.2; conf = c; state = s; output = d.0; ran = d.3; answered = refl; outside = e })
 
 -- of a typed module that the bytes are
 pub typed_answers : (tells : Type 0) (bytes : List ℕ) (job : JobForm) (steps : ℕ) (before after : State) (whole : ModuleForm) (e : RunEnd) → IsTyped bytes whole → RunAnswers tells whole (state_at_start job before.outside) steps before e after → Answers tells bytes job steps before e after

@@ -5,10 +5,10 @@ ghost use Rattle.host_calls.specs.Hosts.{host_state};
 ghost use Rattle.wasm_types.specs.View.{view_module};
 ghost use Rattle.host_calls.specs.Jobs.{job_of};
 
-use crate::end::{run_end, Refusal, RunEnd};
+use crate::end::{Refusal, RunEnd, run_end};
 use host_calls::{Host, Job};
-use module_decoder::{decode, DecodeFault};
-use module_validator::{validate, InvalidFault, ValidModule};
+use module_decoder::{DecodeFault, decode};
+use module_validator::{InvalidFault, ValidModule, validate};
 use std::alloc::Global;
 use wasm_machine::{LinkFault, Machine};
 use world_core::World;

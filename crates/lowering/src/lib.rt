@@ -1,2 +1,4 @@
 //! From mid code to a module.
 #![tactic(auto)]
+
+pub mod laws;

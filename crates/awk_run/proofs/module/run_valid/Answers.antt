@@ -15,6 +15,6 @@ returns g c =
     let after = g.W.World.state c.into_world-2.result in
     let e : c.run_end.result ≡ run_end c.run-end.new.host.fault c.run-end.result = c.run_end.ensures ∙ ap (λ (k : Option Fault). run_end k c.run-end.result) c.kept_fault.ensures in
     subst (λ (z : RunEnd). RunAnswers tells (view_module c.args.valid) (host_state g.W.World.state c.args.host) c.args.steps (g.W.World.state c.args.host.world) z after) (sym e)
-      (did_answers tells (view_module c.args.valid) (host_state g.W.World.state c.args.host) c.args.steps (g.W.World.state c.args.host.world) after c.in-Ok.machine n c.run-end.result c.run-end.new.self.conf (host_state g.W.World.state c.run-end.new.host)
-        (c.run-end.ensures.run n.ended)
-        (ap (λ w. (g.W.World.state w).outside) c.into_world-2.ensures))
+    (did_answers tells (view_module c.args.valid) (host_state g.W.World.state c.args.host) c.args.steps (g.W.World.state c.args.host.world) after c.in-Ok.machine n c.run-end.result c.run-end.new.self.conf (host_state g.W.World.state c.run-end.new.host)
+    (c.run-end.ensures.run n.ended)
+    (ap (λ w. (g.W.World.state w).outside) c.into_world-2.ensures))

@@ -1,0 +1,28 @@
+//! Laws of the module of a program, each the contract of a function that does nothing.
+ghost use Rattle.std.specs.Prelude.{◌≡◌, ◌≤◌, ◌^◌, ℕ, List, Some, length, map};
+ghost use Rattle.host_calls.specs.Imports.{host_finds};
+ghost use Rattle.lower_layout.specs.Layouts.{memory_of};
+ghost use Rattle.lowering.specs.Agreement.{Agreement};
+ghost use Rattle.lowering.specs.Modules.{module_of};
+ghost use Rattle.mid_code.specs.Mid.{IsSorted, Program};
+ghost use Rattle.mid_code.specs.MidMeaning.{mid_run};
+ghost use Rattle.wasm_machine.specs.Links.{SegmentsFit, main_of, numbers_for};
+ghost use Rattle.wasm_types.specs.Typing.{ModuleOk};
+
+/// A program and its module agree: what one does the other does, faults and output included, in every job and world, whatever free numbers
+/// the host gives to what is new.
+pub fn agreement()
+    ensures { (p : Program) → IsSorted p → Agreement (mid_run p) (module_of p) }
+{}
+
+/// The typing rules allow the module of a program whose texts take at most 16 MiB.
+pub fn typed()
+    ensures { (p : Program) → IsSorted p → length (memory_of p.texts) ≤ 2 ^ 24 → ModuleOk (module_of p) }
+{}
+
+/// The module of a program links with the host: each import is there, with its type, `main` is exported, and the segments lie within their memory.
+pub fn links()
+    ensures imports { (p : Program) → (numbers : List ℕ) × (numbers_for host_finds (module_of p) ≡ map Some numbers) }
+    ensures main { (p : Program) → main_of (module_of p) ≡ Some 14 }
+    ensures segments { (p : Program) → SegmentsFit (module_of p) }
+{}
