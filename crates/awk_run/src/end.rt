@@ -9,7 +9,7 @@ use wasm_machine::{LinkFault, MachineEnd};
 use wasm_store::TrapKind;
 
 /// Why something is not run.
-#[derive(Debug)]
+#[derive(Debug, PartialEq, Eq, Drop)]
 pub enum Refusal {
     /// The bytes are no module.
     Decode(DecodeFault),
@@ -20,7 +20,7 @@ pub enum Refusal {
 }
 
 /// How a run ends.
-#[derive(Debug)]
+#[derive(Debug, PartialEq, Eq, Drop)]
 pub enum RunEnd {
     /// It ended with this status.
     Ended(u8),

@@ -3,6 +3,8 @@
 
 mod end;
 mod module;
+#[cfg(test)]
+mod tests;
 
 pub use end::{Refusal, RunEnd};
 pub use module::run_module;
