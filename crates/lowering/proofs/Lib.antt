@@ -7,3 +7,7 @@ pub mod Arithmetic
 pub mod Refine
 pub mod Linked
 pub mod Whole
+pub mod Appended
+pub mod Room
+pub mod Lists
+pub mod Steps

@@ -1,2 +1,7 @@
 //! From mid code to a module.
 #![tactic(auto)]
+
+mod checked;
+mod emit;
+mod expressions;
+mod operands;
