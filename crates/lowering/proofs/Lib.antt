@@ -11,3 +11,4 @@ pub mod Appended
 pub mod Room
 pub mod Lists
 pub mod Steps
+pub mod Depth

@@ -102,7 +102,6 @@ fn listed(
     keep(out, true, import.answer(), temporary, EXIT)
 }
 
-#[tactic(auto, using(crate::proofs::Lists::do_room, crate::proofs::Lists::do_count, crate::proofs::Lists::do_sorted, crate::proofs::Lists::over_room, crate::proofs::Lists::over_sorted, crate::proofs::Lists::over_few))]
 /// Adds code that puts the value of an expression into a temporary; those from it on are free.
 #[cycle(expressions)]
 fn emitted(
@@ -132,7 +131,7 @@ fn emitted(
     }
 }
 
-#[tactic(auto, using(crate::proofs::Lists::operand_next, crate::proofs::Lists::sorted_next, crate::proofs::Room::room_behind, crate::proofs::Room::room_first))]
+#[tactic(auto, using(crate::proofs::Lists::operand_next, crate::proofs::Lists::sorted_next, crate::proofs::Room::room_behind, crate::proofs::Room::room_first, crate::proofs::Depth::depth_first, crate::proofs::Depth::depth_rest))]
 /// Adds code for operands that are evaluated from left to right, each into the temporary behind those before it.
 #[cycle(expressions)]
 fn all_emitted(
