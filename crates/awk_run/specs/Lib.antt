@@ -1,1 +1,2 @@
 pub mod ModuleRun
+pub mod Compiled

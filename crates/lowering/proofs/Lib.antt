@@ -9,3 +9,8 @@ pub mod Linked
 pub mod Typed
 pub mod Whole
 pub mod Agree
+pub mod Appended
+pub mod Room
+pub mod Lists
+pub mod Steps
+pub mod Depth

@@ -1,3 +1,4 @@
 pub mod Emitted
 pub mod Modules
 pub mod Agreement
+pub mod Behind

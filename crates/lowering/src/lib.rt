@@ -1,4 +1,8 @@
 //! From mid code to a module.
 #![tactic(auto)]
 
+mod checked;
+mod emit;
+mod expressions;
 pub mod laws;
+mod operands;
