@@ -4,4 +4,7 @@
 mod checked;
 mod emit;
 mod expressions;
+mod module;
 mod operands;
+
+pub use module::lower;
