@@ -71,8 +71,8 @@ module _ (mem : List ℕ) where
 
   -- the test of the range, once it is made: so many steps lead to the end where the number is in range
   tested : (z : ℤ) (out : Bool) (w t d : ℕ) (kk k : Instructions) (vs : List Cell) (K : List Label) (L0 L L1 : Locals) (σ : State) → out ≡ not (nat_le (unsigned_abs z) (2 ^ 53)) →
-      go mem w (at vs K L kk (host σ)) ≡ at vs K L1 k (host σ) → Same t L0 L1 → (nat_le (unsigned_abs z) (2 ^ 53) ≡ true → L1 (number_local t) ≡ Bits (I64 (word z))) → w ≤ 2 →
-      Arrives mem 4 (at (Bits (flag out) ∷ vs) K L (fail_if d kk) (host σ)) (NumberDone t k vs K L0) (Away d K) (settled (outcome_of (checked z)) σ)
+    go mem w (at vs K L kk (host σ)) ≡ at vs K L1 k (host σ) → Same t L0 L1 → (nat_le (unsigned_abs z) (2 ^ 53) ≡ true → L1 (number_local t) ≡ Bits (I64 (word z))) → w ≤ 2 →
+    Arrives mem 4 (at (Bits (flag out) ∷ vs) K L (fail_if d kk) (host σ)) (NumberDone t k vs K L0) (Away d K) (settled (outcome_of (checked z)) σ)
   tested z out w t d kk k vs K L0 L L1 σ e moved same held le = by (nat_le (unsigned_abs z) (2 ^ 53)) refl
     where
       c : Bool → Conf
@@ -81,26 +81,26 @@ module _ (mem : List ℕ) where
       by : (q : Bool) → nat_le (unsigned_abs z) (2 ^ 53) ≡ q → Arrives mem 4 (c out) (NumberDone t k vs K L0) (Away d K) (settled (outcome_of (checked z)) σ)
       by true l =
           subst (λ r. Arrives mem 4 (c out) (NumberDone t k vs K L0) (Away d K) (settled r σ)) (sym (in_range z l))
-          (subst (λ b. Arrives mem 4 (c b) (NumberDone t k vs K L0) (Away d K) (settled (Ok (record { number = z; in_range = subst T (sym l) tt })) σ)) (sym (e ∙ ap not l))
-          (2 + w, omega (arith, le), (L1, go_add mem 2 w (c false) ∙ moved, same, held l)))
+            (subst (λ b. Arrives mem 4 (c b) (NumberDone t k vs K L0) (Away d K) (settled (Ok (record { number = z; in_range = subst T (sym l) tt })) σ)) (sym (e ∙ ap not l))
+              (2 + w, omega (arith, le), (L1, go_add mem 2 w (c false) ∙ moved, same, held l)))
       by false l =
           subst (λ r. Arrives mem 4 (c out) (NumberDone t k vs K L0) (Away d K) (settled r σ)) (sym (out_of z l))
-          (subst (λ b. Arrives mem 4 (c b) (NumberDone t k vs K L0) (Away d K) (settled (Err Range) σ)) (sym (e ∙ ap not l))
-          (3, omega arith, (L, failed d kk vs K L σ)))
+            (subst (λ b. Arrives mem 4 (c b) (NumberDone t k vs K L0) (Away d K) (settled (Err Range) σ)) (sym (e ∙ ap not l))
+              (3, omega arith, (L, failed d kk vs K L σ)))
 
   number_same : (t : ℕ) (L0 L : Locals) (x : ℕ) (w : Cell) → t + t ≤ x → Same t L0 L → Same t L0 (upd L x w)
   number_same t L0 L x w le same y lt = upd_other L x w y (λ e. absurd (omega (arith, e, le, lt))) ∙ same y lt
 
   -- a sum or a difference is on the stack
   ranged_ok : (z : ℤ) → FitsSigned w64 z → (t d : ℕ) (k : Instructions) (vs : List Cell) (K : List Label) (L0 L : Locals) (σ : State) → Same t L0 L →
-      Arrives mem 8 (at (Bits (I64 (word z)) ∷ vs) K L (ranged t d k) (host σ)) (NumberDone t k vs K L0) (Away d K) (settled (outcome_of (checked z)) σ)
+    Arrives mem 8 (at (Bits (I64 (word z)) ∷ vs) K L (ranged t d k) (host σ)) (NumberDone t k vs K L0) (Away d K) (settled (outcome_of (checked z)) σ)
   ranged_ok z f t d k vs K L0 L σ same =
       let x = number_local t in
       let w = Bits (I64 (word z)) in
       let L1 = upd L x w in
       first mem 4 4 8 _ _ (NumberDone t k vs K L0) (Away d K) (settled (outcome_of (checked z)) σ)
-      (ap (λ v. go mem 2 (at (v ∷ vs) K L1 (does (I64Const (2 ^ 53)) (does (Binary T64 Add) (does (I64Const (2 ^ 54)) (does (Compare T64 GtU) (fail_if d k))))) (host σ))) (upd_same L x w)) (omega arith)
-      (tested z (is_out (word z)) 0 t d k k vs K L0 L1 L1 σ (out_word z f) refl (number_same t L0 L x w (omega arith) same) (λ l. upd_same L x w) (omega arith))
+        (ap (λ v. go mem 2 (at (v ∷ vs) K L1 (does (I64Const (2 ^ 53)) (does (Binary T64 Add) (does (I64Const (2 ^ 54)) (does (Compare T64 GtU) (fail_if d k))))) (host σ))) (upd_same L x w)) (omega arith)
+        (tested z (is_out (word z)) 0 t d k k vs K L0 L1 L1 σ (out_word z f) refl (number_same t L0 L x w (omega arith) same) (λ l. upd_same L x w) (omega arith))
 
   -- Products.
 
@@ -206,13 +206,13 @@ module _ (mem : List ℕ) where
         let r = settled (outcome_of (checked (a *ℤ b))) σ in
         let Post = NumberDone t k vs K L0 in
         first mem 5 20 25 _ _ Post (Away d K) r kept (omega arith)
-        (first mem 7 13 20 _ _ Post (Away d K) r divided (omega arith)
-        (first mem 5 8 13 _ _ Post (Away d K) r compared (omega arith)
-        (first mem 4 4 8 _ _ Post (Away d K) r judged (omega arith)
-        (tested (a *ℤ b) (differ || is_out q) 2 t d move k vs K L0 L3 (upd L3 x (cell q)) σ facts.tells
-        (ap (λ w. go mem 1 (run_at (w ∷ vs) (does (LocalSet x) k))) p3)
-        (number_same t L0 L3 x (cell q) (omega arith) same3)
-        (λ l. upd_same L3 x (cell q) ∙ ap cell (facts.is_product l)) (omega arith)))))
+          (first mem 7 13 20 _ _ Post (Away d K) r divided (omega arith)
+            (first mem 5 8 13 _ _ Post (Away d K) r compared (omega arith)
+              (first mem 4 4 8 _ _ Post (Away d K) r judged (omega arith)
+                (tested (a *ℤ b) (differ || is_out q) 2 t d move k vs K L0 L3 (upd L3 x (cell q)) σ facts.tells
+                  (ap (λ w. go mem 1 (run_at (w ∷ vs) (does (LocalSet x) k))) p3)
+                  (number_same t L0 L3 x (cell q) (omega arith) same3)
+                  (λ l. upd_same L3 x (cell q) ∙ ap cell (facts.is_product l)) (omega arith)))))
 
   -- sums and differences fit 64 bits
   sum_fits : (m n : AnyNumber) → FitsSigned w64 (m.number +ℤ n.number)
@@ -225,12 +225,12 @@ module _ (mem : List ℕ) where
   inline_ok Plus m n t d k vs K L0 L σ same =
       let z = m.number +ℤ n.number in
       first mem 1 8 40 _ _ (NumberDone t k vs K L0) (Away d K) (settled (outcome_of (checked z)) σ)
-      (ap (λ w. at (Bits (I64 w) ∷ vs) K L (ranged t d k) (host σ)) (sum_word m.number n.number (fits m.number (small m)) (fits n.number (small n)) (sum_fits m n))) (omega arith)
-      (ranged_ok z (sum_fits m n) t d k vs K L0 L σ same)
+        (ap (λ w. at (Bits (I64 w) ∷ vs) K L (ranged t d k) (host σ)) (sum_word m.number n.number (fits m.number (small m)) (fits n.number (small n)) (sum_fits m n))) (omega arith)
+        (ranged_ok z (sum_fits m n) t d k vs K L0 L σ same)
   inline_ok Minus m n t d k vs K L0 L σ same =
       let z = m.number +ℤ neg_ℤ n.number in
       first mem 1 8 40 _ _ (NumberDone t k vs K L0) (Away d K) (settled (outcome_of (checked z)) σ)
-      (ap (λ w. at (Bits (I64 w) ∷ vs) K L (ranged t d k) (host σ)) (difference_word m.number n.number (fits m.number (small m)) (fits n.number (small n)) (difference_fits m n))) (omega arith)
-      (ranged_ok z (difference_fits m n) t d k vs K L0 L σ same)
+        (ap (λ w. at (Bits (I64 w) ∷ vs) K L (ranged t d k) (host σ)) (difference_word m.number n.number (fits m.number (small m)) (fits n.number (small n)) (difference_fits m n))) (omega arith)
+        (ranged_ok z (difference_fits m n) t d k vs K L0 L σ same)
   inline_ok Times m n t d k vs K L0 L σ same =
       weaker mem 25 40 _ (NumberDone t k vs K L0) (NumberDone t k vs K L0) (Away d K) _ (omega arith) (λ v σ1 c1 r. r) (times_ok m n t d k vs K L0 L σ same)

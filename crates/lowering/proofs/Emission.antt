@@ -62,8 +62,8 @@ text_placed ts rest i =
     let left : length (drop p m) ≡ length m - p = length-drop p m in
     ap (λ (b : Bool). if b then Some (take n (drop p (m ++ rest))) else None) (le-leb (p + n) (length (m ++ rest)) (omega (arith, inside, all)))
     ∙ ap Some
-    (ap (take n) (drop-append-le p m rest (omega (arith, inside)))
-    ∙ (take-append-le n (drop p m) rest (omega (arith, inside, left)) ∙ text_there ts i))
+      (ap (take n) (drop-append-le p m rest (omega (arith, inside)))
+      ∙ (take-append-le n (drop p m) rest (omega (arith, inside, left)) ∙ text_there ts i))
 
 constant_word : (z : ℤ) → T (nat_le (unsigned_abs z) (2 ^ 53)) → number_word (or_zero (number_of z)) ≡ cast_unsigned w64 z
 constant_word z h = ap (λ o. number_word (or_zero o)) (number_again (record { number = z; in_range = h }))
@@ -71,7 +71,7 @@ constant_word z h = ap (λ o. number_word (or_zero o)) (number_again (record { n
 -- The code of inline arithmetic; its proof stands in another file.
 abbrev pub InlineOk : List ℕ → Type 0
 InlineOk mem = (a : Arithmetic) (m n : AnyNumber) (t d : ℕ) (k : Instructions) (vs : List Cell) (K : List Label) (L0 L : Locals) (σ : State) → Same t L0 L →
-    Arrives mem 40 (at (Bits (I64 (number_word n)) ∷ (Bits (I64 (number_word m)) ∷ vs)) K L (inline a t d k) (host σ)) (AnswerDone (answer.Of sort.Number) t k vs K L0) (Away d K) (settled (outcome_of (arithmetic_of a m.number n.number)) σ)
+  Arrives mem 40 (at (Bits (I64 (number_word n)) ∷ (Bits (I64 (number_word m)) ∷ vs)) K L (inline a t d k) (host σ)) (AnswerDone (answer.Of sort.Number) t k vs K L0) (Away d K) (settled (outcome_of (arithmetic_of a m.number n.number)) σ)
 
 listed_keeps : (l : Listed) → T (keeps (listed_answer l))
 listed_keeps Print = tt
@@ -95,15 +95,15 @@ module _ (texts : List (List ℕ)) (behind-texts : List ℕ) where
   OperandDone e a t k vs K L y σ c = (L1 : Locals) × (c ≡ at vs K L1 k (host σ)) × ((z : ℕ) → z < t + t → L1 z ≡ L z) × ((z : ℕ) → behind e t + behind e t ≤ z → L1 z ≡ L z) × ReadyAs mem a y (pushed_one texts a e L1 t)
 
   operand_converted : (e : Code) (a : Argument) (x : InShape (shape_of e)) (t d : ℕ) (k : Instructions) (vs : List Cell) (K : List Label) (L : Locals) (σ : State) → T (fits (shape_of e) a) → Sorted n e → HeldOne texts e x L t →
-      Arrives mem 5 (at vs K L (convert_one (shape_of e) a t d k) (host σ)) (OperandDone e a t k vs K L) (Away d K) (settled (converted (shape_of e) a x) σ)
+    Arrives mem 5 (at vs K L (convert_one (shape_of e) a t d k) (host σ)) (OperandDone e a t k vs K L) (Away d K) (settled (converted (shape_of e) a x) σ)
   operand_converted (Do o es) a x t d k vs K L σ f s h =
       weaker mem 5 5 _ (OneDone mem a t k vs K L) (OperandDone (Do o es) a t k vs K L) (Away d K) _ (omega arith)
-      (λ y σ1 c1 p. (p.0, p.1, (λ z lt. p.2 z (λ e. absurd (omega (arith, e)))), (λ z le. p.2 z (λ e. absurd (omega (arith, e)))), p.3))
-      (answer_converted mem (answer_by o) a x t d k vs K L σ f h)
+        (λ y σ1 c1 p. (p.0, p.1, (λ z lt. p.2 z (λ e. absurd (omega (arith, e)))), (λ z le. p.2 z (λ e. absurd (omega (arith, e)))), p.3))
+        (answer_converted mem (answer_by o) a x t d k vs K L σ f h)
   operand_converted (OverList l es) a x t d k vs K L σ f s h =
       weaker mem 5 5 _ (OneDone mem a t k vs K L) (OperandDone (OverList l es) a t k vs K L) (Away d K) _ (omega arith)
-      (λ y σ1 c1 p. (p.0, p.1, (λ z lt. p.2 z (λ e. absurd (omega (arith, e)))), (λ z le. p.2 z (λ e. absurd (omega (arith, e)))), p.3))
-      (answer_converted mem (listed_answer l) a x t d k vs K L σ f h)
+        (λ y σ1 c1 p. (p.0, p.1, (λ z lt. p.2 z (λ e. absurd (omega (arith, e)))), (λ z le. p.2 z (λ e. absurd (omega (arith, e)))), p.3))
+        (answer_converted mem (listed_answer l) a x t d k vs K L σ f h)
   operand_converted (Number z) (argument.Of sort.Number) x t d k vs K L σ f s h =
       (0, omega arith, (L, refl, (λ y lt. refl), (λ y le. refl), ap (λ w. Bits (I64 w) ∷ []) (sym (ap number_word h ∙ constant_word z s))))
   operand_converted (Number z) (argument.Of sort.Value) x t d k vs K L σ f s h = absurd f
@@ -130,7 +130,7 @@ module _ (texts : List (List ℕ)) (behind-texts : List ℕ) where
   conv_work (At e es) = 5 + conv_work es
 
   convert_ok : (wanted : List Argument) (es : Codes) (xs : Values es) (t d : ℕ) (k : Instructions) (vs : List Cell) (K : List Label) (L : Locals) (σ : State) → T (fit_row wanted es) → AllSorted n es → HeldAll texts es xs L t →
-      Arrives mem (conv_work es) (at vs K L (convert_all wanted es t d k) (host σ)) (RowDone wanted es t k vs K L) (Away d K) (settled (row_of wanted es xs) σ)
+    Arrives mem (conv_work es) (at vs K L (convert_all wanted es t d k) (host σ)) (RowDone wanted es t k vs K L) (Away d K) (settled (row_of wanted es xs) σ)
   convert_ok [] End xs t d k vs K L σ f s h = (0, omega arith, (L, refl, (λ z lt. refl), refl))
   convert_ok [] (At e es) xs t d k vs K L σ f s h = absurd f
   convert_ok (a ∷ wanted) End xs t d k vs K L σ f s h = absurd f
@@ -139,22 +139,14 @@ module _ (texts : List (List ℕ)) (behind-texts : List ℕ) where
       let Post = RowDone (a ∷ wanted) (At e es) t k vs K L in
       let c0 = at vs K L (convert_all (a ∷ wanted) (At e es) t d k) (host σ) in
       subst (λ z. Arrives mem (5 + conv_work es) c0 Post (Away d K) z) (settled_row (converted (shape_of e) a xs.0) (row_of wanted es xs.1) σ)
-      (then_on mem 5 (conv_work es) (5 + conv_work es) c0 (OperandDone e a t kr vs K L) Post (Away d K) (settled (converted (shape_of e) a xs.0) σ) (λ x. λ σ1. go_on (settled (row_of wanted es xs.1) σ1) (λ rest. give (x, rest))) (omega arith)
-      (operand_converted e a xs.0 t d kr vs K L σ (both_left (fits (shape_of e) a) (fit_row wanted es) f) s.0 h.0)
-      (λ x σ1 c1 p.
-      first mem 0 (conv_work es) (conv_work es) c1 (at vs K p.0 kr (host σ1)) Post (Away d K) (go_on (settled (row_of wanted es xs.1) σ1) (λ rest. give (x, rest))) p.1 (omega arith)
-      (then_on mem (conv_work es) 0 (conv_work es) (at vs K p.0 kr (host σ1)) (RowDone wanted es (behind e t) k vs K p.0) Post (Away d K) (settled (row_of wanted es xs.1) σ1) (λ rest. give (x, rest)) (omega arith)
-      (convert_ok wanted es xs.1 (behind e t) d k vs K p.0 σ1 (both_right (fits (shape_of e) a) (fit_row wanted es) f) s.1 (held_all_same texts es xs.1 L p.0 (behind e t) p.3 h.1))
-      (λ rest σ2 c2 q. (
-        0,
-        omega arith,
-        (
-          q.0,
-          q.1,
-          (λ z lt. q.2 z (let b = behind_from texts e t in omega (arith, b)) ∙ p.2 z lt),
-          (pushed_one texts a e q.0 t, pushed_all texts wanted es q.0 (behind e t), refl, pushed_one_same a e x p.0 q.0 t q.2 p.4, q.3),
-        ),
-      )))))
+        (then_on mem 5 (conv_work es) (5 + conv_work es) c0 (OperandDone e a t kr vs K L) Post (Away d K) (settled (converted (shape_of e) a xs.0) σ) (λ x. λ σ1. go_on (settled (row_of wanted es xs.1) σ1) (λ rest. give (x, rest))) (omega arith)
+          (operand_converted e a xs.0 t d kr vs K L σ (both_left (fits (shape_of e) a) (fit_row wanted es) f) s.0 h.0)
+          (λ x σ1 c1 p.
+            first mem 0 (conv_work es) (conv_work es) c1 (at vs K p.0 kr (host σ1)) Post (Away d K) (go_on (settled (row_of wanted es xs.1) σ1) (λ rest. give (x, rest))) p.1 (omega arith)
+              (then_on mem (conv_work es) 0 (conv_work es) (at vs K p.0 kr (host σ1)) (RowDone wanted es (behind e t) k vs K p.0) Post (Away d K) (settled (row_of wanted es xs.1) σ1) (λ rest. give (x, rest)) (omega arith)
+                (convert_ok wanted es xs.1 (behind e t) d k vs K p.0 σ1 (both_right (fits (shape_of e) a) (fit_row wanted es) f) s.1 (held_all_same texts es xs.1 L p.0 (behind e t) p.3 h.1))
+                (λ rest σ2 c2 q. (0, omega arith, (q.0, q.1, (λ z lt. q.2 z (let b = behind_from texts e t in omega (arith, b)) ∙ p.2 z lt),
+                  (pushed_one texts a e q.0 t, pushed_all texts wanted es q.0 (behind e t), refl, pushed_one_same a e x p.0 q.0 t q.2 p.4, q.3)))))))
 
   -- The argument list.
 
@@ -178,7 +170,7 @@ module _ (texts : List (List ℕ)) (behind-texts : List ℕ) where
   append_work (At e es) = suc (suc (append_work es))
 
   append_ok : (es : Codes) (xs : Values es) (t : ℕ) (k : Instructions) (vs : List Cell) (K : List Label) (L : Locals) (shared : Shared) (values : List AnyValue) → T (all_values es) → HeldAll texts es xs L t →
-      go mem (append_work es) (at vs K L (append_all es t k) (host_of shared values)) ≡ at vs K L k (host_of shared (values ++ listing es xs))
+    go mem (append_work es) (at vs K L (append_all es t k) (host_of shared values)) ≡ at vs K L k (host_of shared (values ++ listing es xs))
   append_ok End xs t k vs K L shared values v h = ap (λ l. at vs K L k (host_of shared l)) (sym (append-nil values))
   append_ok (At e es) xs t k vs K L shared values v h =
       let x = value_in (shape_of e) xs.0 in
@@ -200,8 +192,8 @@ module _ (texts : List (List ℕ)) (behind-texts : List ℕ) where
 
   -- what takes a list is asked with all of the argument list
   listed_called : (l : Listed) (vs : List Cell) (k : Instructions) (K : List Label) (L : Locals) (shared : Shared) (values : List AnyValue) →
-      (let a = answered mem (listed_answer l) (shared_after shared (listed_meaning l values shared)) (listed_meaning l values shared).answer in
-      go mem 1 (at (Bits (I32 0) ∷ (Bits (I32 (length values)) ∷ vs)) K L (ask (Over l) k) (host_of shared values)) ≡ at (onto a.0 vs) K L k a.1)
+    (let a = answered mem (listed_answer l) (shared_after shared (listed_meaning l values shared)) (listed_meaning l values shared).answer in
+    go mem 1 (at (Bits (I32 0) ∷ (Bits (I32 (length values)) ∷ vs)) K L (ask (Over l) k) (host_of shared values)) ≡ at (onto a.0 vs) K L k a.1)
   listed_called Print vs k K L shared values =
       let m = length values in
       let row : Row (import_arguments (Over Print)) = (m, (Standard, tt)) in
@@ -219,7 +211,7 @@ module _ (texts : List (List ℕ)) (behind-texts : List ℕ) where
 
   module _ (inline_ok : InlineOk mem) where
     operate_ok : (o : Operation) (row : Row (arguments o)) (ws : List Cell) (t d : ℕ) (k : Instructions) (vs : List Cell) (K : List Label) (L0 L : Locals) (σ : State) → T (gives_answer (answer_by o)) → Ready mem (arguments o) row ws → Same t L0 L →
-        Arrives mem 40 (at (stacked ws vs) K L (operate o t d k) (host σ)) (AnswerDone (answer_by o) t k vs K L0) (Away d K) (perform (may_fault o) (operation o row) σ)
+      Arrives mem 40 (at (stacked ws vs) K L (operate o t d k) (host σ)) (AnswerDone (answer_by o) t k vs K L0) (Away d K) (perform (may_fault o) (operation o row) σ)
     operate_ok (ByHost p) row ws t d k vs K L0 L σ g r same =
         let Post = AnswerDone (answer_by (ByHost p)) t k vs K L0 in
         weaker mem 4 40 _ Post Post (Away d K) _ (omega arith) (λ v σ1 c1 q. q) (host_ok mem p row ws t d k vs K L0 L σ g r same)
@@ -227,8 +219,8 @@ module _ (texts : List (List ℕ)) (behind-texts : List ℕ) where
         let answer-is = outcome_of (arithmetic_of a row.0.number row.1.0.number) in
         let Post = AnswerDone (answer.Of sort.Number) t k vs K L0 in
         subst (λ s. Arrives mem 40 (at (stacked ws vs) K L (inline a t d k) (host σ)) Post (Away d K) (settled answer-is (record σ { shared = s }))) (sym (same_shared σ.shared))
-        (subst (λ us. Arrives mem 40 (at (stacked us vs) K L (inline a t d k) (host σ)) Post (Away d K) (settled answer-is σ)) (sym (inline_row row.0 row.1.0 ws r))
-        (inline_ok a row.0 row.1.0 t d k vs K L0 L σ same))
+          (subst (λ us. Arrives mem 40 (at (stacked us vs) K L (inline a t d k) (host σ)) Post (Away d K) (settled answer-is σ)) (sym (inline_row row.0 row.1.0 ws r))
+            (inline_ok a row.0 row.1.0 t d k vs K L0 L σ same))
 
     -- Expressions.
 
@@ -251,8 +243,8 @@ module _ (texts : List (List ℕ)) (behind-texts : List ℕ) where
 
     -- constants are not evaluated
     chosen : (e : Code) (t d : ℕ) (k : Instructions) (vs : List Cell) (K : List Label) (L : Locals) (σ : State) → Sorted n e →
-        Arrives mem (code_work e) (at vs K L (emitted texts e t d k) (host σ)) (CodeDone e t k vs K L) (Away d K) (evaluated texts e σ) →
-        Arrives mem (code_work e) (at vs K L (cond (is_constant e) k (emitted texts e t d k)) (host σ)) (CodeDone e t k vs K L) (Away d K) (evaluated texts e σ)
+      Arrives mem (code_work e) (at vs K L (emitted texts e t d k) (host σ)) (CodeDone e t k vs K L) (Away d K) (evaluated texts e σ) →
+      Arrives mem (code_work e) (at vs K L (cond (is_constant e) k (emitted texts e t d k)) (host σ)) (CodeDone e t k vs K L) (Away d K) (evaluated texts e σ)
     unfolding evaluated all_evaluated
     chosen (Do o es) t d k vs K L σ s r = r
     chosen (OverList l es) t d k vs K L σ s r = r
@@ -261,9 +253,8 @@ module _ (texts : List (List ℕ)) (behind-texts : List ℕ) where
 
     mutual
       unfolding evaluated all_evaluated
-
       emitted_ok : (e : Code) (t d : ℕ) (k : Instructions) (vs : List Cell) (K : List Label) (L : Locals) (σ : State) → Sorted n e →
-          Arrives mem (code_work e) (at vs K L (emitted texts e t d k) (host σ)) (CodeDone e t k vs K L) (Away d K) (evaluated texts e σ)
+        Arrives mem (code_work e) (at vs K L (emitted texts e t d k) (host σ)) (CodeDone e t k vs K L) (Away d K) (evaluated texts e σ)
       emitted_ok (Do o es) t d k vs K L σ s =
           let ko = operate o t d k in
           let kp = push_all texts (arguments o) es t ko in
@@ -272,58 +263,50 @@ module _ (texts : List (List ℕ)) (behind-texts : List ℕ) where
           let g = both_left (gives_answer (answer_by o)) (fit_row (arguments o) es) s.0 in
           let f = both_right (gives_answer (answer_by o)) (fit_row (arguments o) es) s.0 in
           then_on mem (codes_work es) (conv_work es + (push_work texts es + 40)) (code_work (Do o es)) _ (CodesDone es t kc vs K L) Post (Away d K) (all_evaluated texts es σ) _ (omega arith)
-          (codes_ok es t d kc vs K L σ s.1)
-          (λ xs σ1 c1 p.
-          first mem 0 (conv_work es + (push_work texts es + 40)) (conv_work es + (push_work texts es + 40)) c1 (at vs K p.0 kc (host σ1)) Post (Away d K) _ p.1 (omega arith)
-          (then_on mem (conv_work es) (push_work texts es + 40) (conv_work es + (push_work texts es + 40)) (at vs K p.0 kc (host σ1)) (RowDone (arguments o) es t kp vs K p.0) Post (Away d K) (settled (row_of (arguments o) es xs) σ1) _ (omega arith)
-          (convert_ok (arguments o) es xs t d kp vs K p.0 σ1 f s.1 p.3)
-          (λ row σ2 c2 q.
-          first mem 0 (push_work texts es + 40) (push_work texts es + 40) c2 (at vs K q.0 kp (host σ2)) Post (Away d K) _ q.1 (omega arith)
-          (first mem (push_work texts es) 40 (push_work texts es + 40) (at vs K q.0 kp (host σ2)) (at (stacked (pushed_all texts (arguments o) es q.0 t) vs) K q.0 ko (host σ2)) Post (Away d K) _ (push_ok texts mem (arguments o) es t ko vs K q.0 (host σ2) f) (omega arith)
-          (operate_ok o row (pushed_all texts (arguments o) es q.0 t) t d k vs K L q.0 σ2 g q.3 (λ z lt. q.2 z lt ∙ p.2 z lt))))))
+            (codes_ok es t d kc vs K L σ s.1)
+            (λ xs σ1 c1 p.
+              first mem 0 (conv_work es + (push_work texts es + 40)) (conv_work es + (push_work texts es + 40)) c1 (at vs K p.0 kc (host σ1)) Post (Away d K) _ p.1 (omega arith)
+                (then_on mem (conv_work es) (push_work texts es + 40) (conv_work es + (push_work texts es + 40)) (at vs K p.0 kc (host σ1)) (RowDone (arguments o) es t kp vs K p.0) Post (Away d K) (settled (row_of (arguments o) es xs) σ1) _ (omega arith)
+                  (convert_ok (arguments o) es xs t d kp vs K p.0 σ1 f s.1 p.3)
+                  (λ row σ2 c2 q.
+                    first mem 0 (push_work texts es + 40) (push_work texts es + 40) c2 (at vs K q.0 kp (host σ2)) Post (Away d K) _ q.1 (omega arith)
+                      (first mem (push_work texts es) 40 (push_work texts es + 40) (at vs K q.0 kp (host σ2)) (at (stacked (pushed_all texts (arguments o) es q.0 t) vs) K q.0 ko (host σ2)) Post (Away d K) _ (push_ok texts mem (arguments o) es t ko vs K q.0 (host σ2) f) (omega arith)
+                        (operate_ok o row (pushed_all texts (arguments o) es q.0 t) t d k vs K L q.0 σ2 g q.3 (λ z lt. q.2 z lt ∙ p.2 z lt))))))
       emitted_ok (OverList l es) t d k vs K L σ s =
           let kk = keep true (listed_answer l) t d k in
           let kl = does (I32Const (count es)) (does (I32Const 0) (ask (Over l) kk)) in
           let ka = append_all es t kl in
           let Post = CodeDone (OverList l es) t k vs K L in
           then_on mem (codes_work es) (append_work es + 4) (code_work (OverList l es)) _ (CodesDone es t ka vs K L) Post (Away d K) (all_evaluated texts es σ) _ (omega arith)
-          (codes_ok es t d ka vs K L σ s.1)
-          (λ xs σ1 c1 p.
-          let values = listing es xs in
-          let σ2 = record σ1 { shared = shared_after σ1.shared (listed_meaning l values σ1.shared) } in
-          first mem 0 (append_work es + 4) (append_work es + 4) c1 (at vs K p.0 ka (host σ1)) Post (Away d K) _ p.1 (omega arith)
-          (first mem (append_work es) 4 (append_work es + 4) (at vs K p.0 ka (host σ1)) (at vs K p.0 kl (host_of σ1.shared values)) Post (Away d K) _ (append_ok es xs t kl vs K p.0 σ1.shared [] s.0 p.3) (omega arith)
-          (first mem 1 3 4 (at vs K p.0 kl (host_of σ1.shared values)) _ Post (Away d K) _
-          (ap (λ m. go mem 1 (at (Bits (I32 0) ∷ (Bits (I32 m) ∷ vs)) K p.0 (ask (Over l) kk) (host_of σ1.shared values))) (count_is es xs) ∙ listed_called l vs kk K p.0 σ1.shared values)
-          (omega arith)
-          (kept_ok mem (listed_answer l) (listed_keeps l) (listed_meaning l values σ1.shared).answer t d k vs K L p.0 σ2 p.2))))
+            (codes_ok es t d ka vs K L σ s.1)
+            (λ xs σ1 c1 p.
+              let values = listing es xs in
+              let σ2 = record σ1 { shared = shared_after σ1.shared (listed_meaning l values σ1.shared) } in
+              first mem 0 (append_work es + 4) (append_work es + 4) c1 (at vs K p.0 ka (host σ1)) Post (Away d K) _ p.1 (omega arith)
+                (first mem (append_work es) 4 (append_work es + 4) (at vs K p.0 ka (host σ1)) (at vs K p.0 kl (host_of σ1.shared values)) Post (Away d K) _ (append_ok es xs t kl vs K p.0 σ1.shared [] s.0 p.3) (omega arith)
+                  (first mem 1 3 4 (at vs K p.0 kl (host_of σ1.shared values)) _ Post (Away d K) _
+                    (ap (λ m. go mem 1 (at (Bits (I32 0) ∷ (Bits (I32 m) ∷ vs)) K p.0 (ask (Over l) kk) (host_of σ1.shared values))) (count_is es xs) ∙ listed_called l vs kk K p.0 σ1.shared values)
+                    (omega arith)
+                    (kept_ok mem (listed_answer l) (listed_keeps l) (listed_meaning l values σ1.shared).answer t d k vs K L p.0 σ2 p.2))))
       emitted_ok (Number z) t d k vs K L σ s =
           let w = Bits (I64 (cast_unsigned w64 z)) in
           (1, omega arith, (upd L (number_local t) w, refl, (λ y lt. upd_other L (number_local t) w y (λ e. absurd (omega (arith, e, lt)))), refl))
       emitted_ok (Text i) t d k vs K L σ s = (0, omega arith, (L, refl, (λ z lt. refl), refl))
 
       codes_ok : (es : Codes) (t d : ℕ) (k : Instructions) (vs : List Cell) (K : List Label) (L : Locals) (σ : State) → AllSorted n es →
-          Arrives mem (codes_work es) (at vs K L (all_emitted texts es t d k) (host σ)) (CodesDone es t k vs K L) (Away d K) (all_evaluated texts es σ)
+        Arrives mem (codes_work es) (at vs K L (all_emitted texts es t d k) (host σ)) (CodesDone es t k vs K L) (Away d K) (all_evaluated texts es σ)
       codes_ok End t d k vs K L σ s = (0, omega arith, (L, refl, (λ z lt. refl), tt))
       codes_ok (At e es) t d k vs K L σ s =
           let kr = all_emitted texts es (behind e t) d k in
           let Post = CodesDone (At e es) t k vs K L in
           then_on mem (code_work e) (codes_work es) (codes_work (At e es)) _ (CodeDone e t kr vs K L) Post (Away d K) (evaluated texts e σ) _ (omega arith)
-          (chosen e t d kr vs K L σ s.0 (emitted_ok e t d kr vs K L σ s.0))
-          (λ x σ1 c1 p.
-          first mem 0 (codes_work es) (codes_work es) c1 (at vs K p.0 kr (host σ1)) Post (Away d K) _ p.1 (omega arith)
-          (then_on mem (codes_work es) 0 (codes_work es) (at vs K p.0 kr (host σ1)) (CodesDone es (behind e t) k vs K p.0) Post (Away d K) (all_evaluated texts es σ1) _ (omega arith)
-          (codes_ok es (behind e t) d k vs K p.0 σ1 s.1)
-          (λ xs σ2 c2 q. (
-            0,
-            omega arith,
-            (
-              q.0,
-              q.1,
-              (λ z lt. q.2 z (let b = behind_from texts e t in omega (arith, b)) ∙ p.2 z lt),
-              (held_one_same texts e x p.0 q.0 t (λ z lt le. q.2 z lt) p.3, q.3),
-            ),
-          ))))
+            (chosen e t d kr vs K L σ s.0 (emitted_ok e t d kr vs K L σ s.0))
+            (λ x σ1 c1 p.
+              first mem 0 (codes_work es) (codes_work es) c1 (at vs K p.0 kr (host σ1)) Post (Away d K) _ p.1 (omega arith)
+                (then_on mem (codes_work es) 0 (codes_work es) (at vs K p.0 kr (host σ1)) (CodesDone es (behind e t) k vs K p.0) Post (Away d K) (all_evaluated texts es σ1) _ (omega arith)
+                  (codes_ok es (behind e t) d k vs K p.0 σ1 s.1)
+                  (λ xs σ2 c2 q. (0, omega arith, (q.0, q.1, (λ z lt. q.2 z (let b = behind_from texts e t in omega (arith, b)) ∙ p.2 z lt),
+                    (held_one_same texts e x p.0 q.0 t (λ z lt le. q.2 z lt) p.3, q.3))))))
 
     -- Statements and the whole.
 
@@ -338,19 +321,19 @@ module _ (texts : List (List ℕ)) (behind-texts : List ℕ) where
     StepsDone k vs K flow σ c = (L1 : Locals) × (c ≡ at vs K L1 k (host σ))
 
     step_ok : (s : Step) (d : ℕ) (k : Instructions) (vs : List Cell) (K : List Label) (L : Locals) (σ : State) → SortedStep n s →
-        Arrives mem (step_work s) (at vs K L (step_emitted texts s d k) (host σ)) (StepsDone k vs K) (Away d K) (stepped texts s σ)
+      Arrives mem (step_work s) (at vs K L (step_emitted texts s d k) (host σ)) (StepsDone k vs K) (Away d K) (stepped texts s σ)
     unfolding stepped
     step_ok (Eval e) d k vs K L σ s =
         then_on mem (code_work e) 0 (code_work e) _ (CodeDone e 0 k vs K L) (StepsDone k vs K) (Away d K) (evaluated texts e σ) _ (omega arith)
-        (emitted_ok e 0 d k vs K L σ s)
-        (λ x σ1 c1 p. (0, omega arith, (p.0, p.1)))
+          (emitted_ok e 0 d k vs K L σ s)
+          (λ x σ1 c1 p. (0, omega arith, (p.0, p.1)))
 
     pub steps_ok : (ss : List Step) (d : ℕ) (k : Instructions) (vs : List Cell) (K : List Label) (L : Locals) (σ : State) → SortedSteps n ss →
-        Arrives mem (steps_work ss) (at vs K L (steps_emitted texts ss d k) (host σ)) (StepsDone k vs K) (Away d K) (all_stepped texts ss σ)
+      Arrives mem (steps_work ss) (at vs K L (steps_emitted texts ss d k) (host σ)) (StepsDone k vs K) (Away d K) (all_stepped texts ss σ)
     unfolding all_stepped
     steps_ok [] d k vs K L σ s = (0, omega arith, (L, refl))
     steps_ok (x ∷ xs) d k vs K L σ s =
         let kr = steps_emitted texts xs d k in
         then_on mem (step_work x) (steps_work xs) (steps_work (x ∷ xs)) _ (StepsDone kr vs K) (StepsDone k vs K) (Away d K) (stepped texts x σ) _ (omega arith)
-        (step_ok x d kr vs K L σ s.0)
-        (λ flow σ1 c1 p. first mem 0 (steps_work xs) (steps_work xs) c1 (at vs K p.0 kr (host σ1)) (StepsDone k vs K) (Away d K) _ p.1 (omega arith) (steps_ok xs d k vs K p.0 σ1 s.1))
+          (step_ok x d kr vs K L σ s.0)
+          (λ flow σ1 c1 p. first mem 0 (steps_work xs) (steps_work xs) c1 (at vs K p.0 kr (host σ1)) (StepsDone k vs K) (Away d K) _ p.1 (omega arith) (steps_ok xs d k vs K p.0 σ1 s.1))

@@ -237,36 +237,23 @@ module _ (mem : List ℕ) where
 
   -- an answer is kept, or the function is left
   pub kept_ok : (a : Answer) → T (keeps a) → (r : Result (InAnswer a) Fault) (t d : ℕ) (k : Instructions) (vs : List Cell) (K : List Label) (L0 L : Locals) (σ : State) → Same t L0 L →
-      Arrives mem 3 (at (onto (answered a σ.shared r).0 vs) K L (keep true a t d k) (answered a σ.shared r).1) (AnswerDone a t k vs K L0) (Away d K) (settled r σ)
+    Arrives mem 3 (at (onto (answered a σ.shared r).0 vs) K L (keep true a t d k) (answered a σ.shared r).1) (AnswerDone a t k vs K L0) (Away d K) (settled r σ)
   kept_ok a g (Ok x) t d k vs K L0 L σ same =
-      let L1 = upd L (local_for a t) (kept_cell a x) in (
-        3,
-        omega arith,
-        (
-          L1,
-          ap (λ w. go mem 3 (at (onto w vs) K L (keep true a t d k) (host σ))) (cell_kept a x g) ∙ fine mem a x g d k vs K L1 (host σ),
-          stored_same a t L0 L (kept_cell a x) same,
-          upd_same L (local_for a t) (kept_cell a x),
-        ),
-      )
+      let L1 = upd L (local_for a t) (kept_cell a x) in
+      (3, omega arith, (L1,
+        ap (λ w. go mem 3 (at (onto w vs) K L (keep true a t d k) (host σ))) (cell_kept a x g) ∙ fine mem a x g d k vs K L1 (host σ),
+        stored_same a t L0 L (kept_cell a x) same, upd_same L (local_for a t) (kept_cell a x)))
   kept_ok a g (Err f) t d k vs K L0 L σ same =
       let L1 = upd L (local_for a t) (bad_cell a) in
       (3, omega arith, (L1, ap (λ w. go mem 3 (at (onto w vs) K L (keep true a t d k) (gone f σ))) (fault_kept a g) ∙ bad mem a g d k vs K L1 (gone f σ)))
 
   -- one that is no fault
   plain_ok : (a : Answer) → T (keeps a) → (x : InAnswer a) (t d : ℕ) (k : Instructions) (vs : List Cell) (K : List Label) (L0 L : Locals) (σ : State) → Same t L0 L →
-      Arrives mem 3 (at (onto (cell a x) vs) K L (keep false a t d k) (host σ)) (AnswerDone a t k vs K L0) (Away d K) (give x σ)
+    Arrives mem 3 (at (onto (cell a x) vs) K L (keep false a t d k) (host σ)) (AnswerDone a t k vs K L0) (Away d K) (give x σ)
   plain_ok a g x t d k vs K L0 L σ same =
-      let L1 = upd L (local_for a t) (kept_cell a x) in (
-        1,
-        omega arith,
-        (
-          L1,
-          ap (λ w. go mem 1 (at (onto w vs) K L (keep false a t d k) (host σ))) (cell_kept a x g),
-          stored_same a t L0 L (kept_cell a x) same,
-          upd_same L (local_for a t) (kept_cell a x),
-        ),
-      )
+      let L1 = upd L (local_for a t) (kept_cell a x) in
+      (1, omega arith, (L1, ap (λ w. go mem 1 (at (onto w vs) K L (keep false a t d k) (host σ))) (cell_kept a x g),
+        stored_same a t L0 L (kept_cell a x) same, upd_same L (local_for a t) (kept_cell a x)))
 
 -- Imports.
 
@@ -306,7 +293,7 @@ placed Drop = refl
 
 module _ (mem : List ℕ) where
   pub called : (i : Import) (ws vs : List Cell) (row : Row (import_arguments i)) (k : Instructions) (K : List Label) (L : Locals) (h : Host) → h.fault ≡ None → decode mem (import_arguments i) ws ≡ Some row → length ws ≡ width i →
-      go mem 1 (at (stacked ws vs) K L (ask i k) h) ≡ with_answer (acted i h (acts i row (state_of h))) vs K L k
+    go mem 1 (at (stacked ws vs) K L (ask i k) h) ≡ with_answer (acted i h (acts i row (state_of h))) vs K L k
   called i ws vs row k K L h none e n =
       ap (λ x. Pivot.ask mem x (stacked ws vs) K L k h) (placed i)
       ∙ (ap (λ m. with_answer (call mem i (reverse (take m (stacked ws vs))) h) (drop m (stacked ws vs)) K L k) (sym n)
@@ -387,10 +374,9 @@ module _ (texts : List (List ℕ)) where
 
   pub held_all_same : (es : Codes) (vs : Values es) (L L1 : Locals) (t : ℕ) → ((y : ℕ) → t + t ≤ y → L1 y ≡ L y) → HeldAll es vs L t → HeldAll es vs L1 t
   held_all_same End vs L L1 t same h = tt
-  held_all_same (At e es) vs L L1 t same h = (
-    held_one_same e vs.0 L L1 t (λ y lt le. same y le) h.0,
-    held_all_same es vs.1 L L1 (behind e t) (λ y le. same y (let b = behind_from e t in omega (arith, b))) h.1,
-  )
+  held_all_same (At e es) vs L L1 t same h =
+      (held_one_same e vs.0 L L1 t (λ y lt le. same y le) h.0,
+        held_all_same es vs.1 L L1 (behind e t) (λ y le. same y (let b = behind_from e t in omega (arith, b))) h.1)
 
   -- the words that are pushed for an operand
   abbrev pub pushed_one : Argument → Code → Locals → ℕ → List Cell
@@ -445,13 +431,13 @@ module _ (mem : List ℕ) where
 
   -- an answer that may be a fault, or not
   answer_ok : (b : Bool) (a : Answer) → T (keeps a) → (x : OrFault b (InAnswer a)) (t d : ℕ) (k : Instructions) (vs : List Cell) (K : List Label) (L0 L : Locals) (σ : State) → Same t L0 L →
-      Arrives mem 3 (at (onto (answered mem a σ.shared (or_fault b x)).0 vs) K L (keep b a t d k) (answered mem a σ.shared (or_fault b x)).1) (AnswerDone a t k vs K L0) (Away d K) (settled (or_fault b x) σ)
+    Arrives mem 3 (at (onto (answered mem a σ.shared (or_fault b x)).0 vs) K L (keep b a t d k) (answered mem a σ.shared (or_fault b x)).1) (AnswerDone a t k vs K L0) (Away d K) (settled (or_fault b x) σ)
   answer_ok true a g x t d k vs K L0 L σ same = kept_ok mem a g x t d k vs K L0 L σ same
   answer_ok false a g x t d k vs K L0 L σ same = plain_ok mem a g x t d k vs K L0 L σ same
 
   pub primitive_called : (p : Primitive) (ws vs : List Cell) (row : Row (arguments_of p)) (k : Instructions) (K : List Label) (L : Locals) (shared : Shared) → Ready mem (arguments_of p) row ws →
-      (let a = answered mem (answer_of p) (shared_after shared (meaning p row shared)) (or_fault (can_fault p) (meaning p row shared).answer) in
-      go mem 1 (at (stacked ws vs) K L (ask (Of p) k) (host_of shared [])) ≡ at (onto a.0 vs) K L k a.1)
+    (let a = answered mem (answer_of p) (shared_after shared (meaning p row shared)) (or_fault (can_fault p) (meaning p row shared).answer) in
+    go mem 1 (at (stacked ws vs) K L (ask (Of p) k) (host_of shared [])) ≡ at (onto a.0 vs) K L k a.1)
   primitive_called p ws vs row k K L shared r =
       let d = meaning p row shared in
       called mem (Of p) ws vs row k K L (host_of shared []) refl (decoded mem (arguments_of p) row ws r) (row_width mem (arguments_of p) row ws r)
@@ -459,10 +445,10 @@ module _ (mem : List ℕ) where
       ∙ ap (λ x. with_answer (Some x) vs K L k) (replied_values (answer_of p) (record { does = record { added = d.added; inner = d.inner; answer = or_fault (can_fault p) d.answer }; arguments = [] }) shared [] (or_fault (can_fault p) d.answer) refl))
 
   pub host_ok : (p : Primitive) (row : Row (arguments_of p)) (ws : List Cell) (t d : ℕ) (k : Instructions) (vs : List Cell) (K : List Label) (L0 L : Locals) (σ : State) → T (gives_answer (answer_of p)) → Ready mem (arguments_of p) row ws → Same t L0 L →
-      Arrives mem 4 (at (stacked ws vs) K L (ask (Of p) (keep (can_fault p) (answer_of p) t d k)) (host σ)) (AnswerDone (answer_of p) t k vs K L0) (Away d K) (perform (can_fault p) (meaning p row) σ)
+    Arrives mem 4 (at (stacked ws vs) K L (ask (Of p) (keep (can_fault p) (answer_of p) t d k)) (host σ)) (AnswerDone (answer_of p) t k vs K L0) (Away d K) (perform (can_fault p) (meaning p row) σ)
   host_ok p row ws t d k vs K L0 L σ g r same =
       first mem 1 3 4 _ _ (AnswerDone (answer_of p) t k vs K L0) (Away d K) _ (primitive_called p ws vs row (keep (can_fault p) (answer_of p) t d k) K L σ.shared r) (omega arith)
-      (answer_ok (can_fault p) (answer_of p) (table_keeps p g) (meaning p row σ.shared).answer t d k vs K L0 L (record σ { shared = shared_after σ.shared (meaning p row σ.shared) }) same)
+        (answer_ok (can_fault p) (answer_of p) (table_keeps p g) (meaning p row σ.shared).answer t d k vs K L0 L (record σ { shared = shared_after σ.shared (meaning p row σ.shared) }) same)
 
   -- Conversions.
 
@@ -475,7 +461,7 @@ module _ (mem : List ℕ) where
 
   -- a number that an import gave
   number_ok : (r : Result AnyNumber Fault) (t d : ℕ) (k : Instructions) (vs : List Cell) (K : List Label) (L : Locals) (σ : State) →
-      Arrives mem 3 (at (onto (answered mem (answer.Of sort.Number) σ.shared r).0 vs) K L (keep true (answer.Of sort.Number) t d k) (answered mem (answer.Of sort.Number) σ.shared r).1) (OneDone (argument.Of sort.Number) t k vs K L) (Away d K) (settled r σ)
+    Arrives mem 3 (at (onto (answered mem (answer.Of sort.Number) σ.shared r).0 vs) K L (keep true (answer.Of sort.Number) t d k) (answered mem (answer.Of sort.Number) σ.shared r).1) (OneDone (argument.Of sort.Number) t k vs K L) (Away d K) (settled r σ)
   number_ok (Ok n) t d k vs K L σ =
       let w = Bits (I64 (number_word n)) in
       let L1 = upd L (number_local t) w in
@@ -485,7 +471,7 @@ module _ (mem : List ℕ) where
       (3, omega arith, (L1, bad mem (answer.Of sort.Number) tt d k vs K L1 (gone f σ)))
 
   pub answer_converted : (b : Answer) (a : Argument) (x : InAnswer b) (t d : ℕ) (k : Instructions) (vs : List Cell) (K : List Label) (L : Locals) (σ : State) → T (fits (Answered b) a) → L (local_for b t) ≡ kept_cell b x →
-      Arrives mem 5 (at vs K L (convert_one (Answered b) a t d k) (host σ)) (OneDone a t k vs K L) (Away d K) (settled (converted (Answered b) a x) σ)
+    Arrives mem 5 (at vs K L (convert_one (Answered b) a t d k) (host σ)) (OneDone a t k vs K L) (Away d K) (settled (converted (Answered b) a x) σ)
   answer_converted (answer.Of sort.Value) (argument.Of sort.Value) x t d k vs K L σ f e = stays (argument.Of sort.Value) x t d k vs K L σ (ap (λ (w : Cell). w ∷ []) e)
   answer_converted (answer.Of sort.Number) (argument.Of sort.Number) x t d k vs K L σ f e = stays (argument.Of sort.Number) x t d k vs K L σ (ap (λ (w : Cell). w ∷ []) e)
   answer_converted (answer.Of sort.Array) (argument.Of sort.Array) x t d k vs K L σ f e = stays (argument.Of sort.Array) x t d k vs K L σ (ap (λ (w : Cell). w ∷ []) e)
@@ -494,9 +480,9 @@ module _ (mem : List ℕ) where
       let kk = keep true (answer.Of sort.Number) t d k in
       let r = number_of_row x in
       first mem 2 3 5 _ _ (OneDone (argument.Of sort.Number) t k vs K L) (Away d K) (settled r σ)
-      (ap (λ w. go mem 1 (at (w ∷ vs) K L (ask (Of prim.ToNum) kk) (host σ))) e
-      ∙ (primitive_called prim.ToNum (Held x ∷ []) vs (x, tt) kk K L σ.shared (Held x ∷ [], [], refl, refl, refl)
-      ∙ ap (λ s. at (onto (answered mem (answer.Of sort.Number) s r).0 vs) K L kk (answered mem (answer.Of sort.Number) s r).1) (same_shared σ.shared)))
-      (omega arith)
-      (number_ok r t d k vs K L σ)
+        (ap (λ w. go mem 1 (at (w ∷ vs) K L (ask (Of prim.ToNum) kk) (host σ))) e
+          ∙ (primitive_called prim.ToNum (Held x ∷ []) vs (x, tt) kk K L σ.shared (Held x ∷ [], [], refl, refl, refl)
+          ∙ ap (λ s. at (onto (answered mem (answer.Of sort.Number) s r).0 vs) K L kk (answered mem (answer.Of sort.Number) s r).1) (same_shared σ.shared)))
+        (omega arith)
+        (number_ok r t d k vs K L σ)
   answer_converted b a x t d k vs K L σ f e = absurd f

@@ -37,14 +37,14 @@ same_word n z lt e = sym (of_z-to_z w64 n lt) ∙ ap word e
 pub sum_word : (a b : ℤ) → FitsSigned w64 a → FitsSigned w64 b → FitsSigned w64 (a +ℤ b) → (word a + word b) % 2 ^ 64 ≡ word (a +ℤ b)
 sum_word a b fa fb fs =
     same_word ((word a + word b) % 2 ^ 64) (a +ℤ b) (mod_below (word a + word b))
-    (wrapping_add-bits w64 (word a) (word b) (word_below a fa) (word_below b fb)
-    ∙ (ap₂ (λ x y. int_wrap w64 (x +ℤ y)) (to_z-of_z w64 a fa) (to_z-of_z w64 b fb) ∙ int_wrap_fits w64 (a +ℤ b) fs))
+      (wrapping_add-bits w64 (word a) (word b) (word_below a fa) (word_below b fb)
+        ∙ (ap₂ (λ x y. int_wrap w64 (x +ℤ y)) (to_z-of_z w64 a fa) (to_z-of_z w64 b fb) ∙ int_wrap_fits w64 (a +ℤ b) fs))
 
 pub difference_word : (a b : ℤ) → FitsSigned w64 a → FitsSigned w64 b → FitsSigned w64 (a -ℤ b) → difference w64 (word a) (word b) ≡ word (a -ℤ b)
 difference_word a b fa fb fs =
     same_word ((word a + (2 ^ 64 - word b)) % 2 ^ 64) (a -ℤ b) (mod_below (word a + (2 ^ 64 - word b)))
-    (wrapping_sub-bits w64 (word a) (word b) (word_below a fa) (word_below b fb)
-    ∙ (ap₂ (λ x y. int_wrap w64 (x -ℤ y)) (to_z-of_z w64 a fa) (to_z-of_z w64 b fb) ∙ int_wrap_fits w64 (a -ℤ b) fs))
+      (wrapping_sub-bits w64 (word a) (word b) (word_below a fa) (word_below b fb)
+        ∙ (ap₂ (λ x y. int_wrap w64 (x -ℤ y)) (to_z-of_z w64 a fa) (to_z-of_z w64 b fb) ∙ int_wrap_fits w64 (a -ℤ b) fs))
 
 -- Whether a number of 64 bits is out of range is one comparison, once 2^53 is added.
 
@@ -103,6 +103,7 @@ cancel a b c e = grind (arith, ints, e)
 zero_abs : (z : ℤ) → unsigned_abs z ≡ 0 → z ≡ pos 0
 zero_abs z e = grind (arith, ints, e)
 
+
 abs_neg : (n : ℕ) → unsigned_abs (neg_ℤ (pos n)) ≡ n
 abs_neg zero = refl
 abs_neg (suc n) = refl
@@ -157,8 +158,8 @@ module _ (m n : ℤ) (hm : unsigned_abs m ≤ 2 ^ 53) (hn : unsigned_abs n ≤ 2
   product_word : product ≡ word wrapped
   product_word =
       same_word product wrapped (mod_below (word m * word n))
-      (wrapping_mul-bits w64 (word m) (word n) (word_below m (fits m hm)) (word_below n (fits n hn))
-      ∙ ap₂ (λ x y. int_wrap w64 (x *ℤ y)) (to_z-of_z w64 m (fits m hm)) (to_z-of_z w64 n (fits n hn)))
+        (wrapping_mul-bits w64 (word m) (word n) (word_below m (fits m hm)) (word_below n (fits n hn))
+          ∙ ap₂ (λ x y. int_wrap w64 (x *ℤ y)) (to_z-of_z w64 m (fits m hm)) (to_z-of_z w64 n (fits n hn)))
 
   -- where the product is small it did not wrap
   not_wrapped : unsigned_abs (m *ℤ n) ≤ 2 ^ 53 → wrapped ≡ m *ℤ n
@@ -177,10 +178,10 @@ module _ (m n : ℤ) (hm : unsigned_abs m ≤ 2 ^ 53) (hn : unsigned_abs n ≤ 2
       let small-r : unsigned_abs r < 2 ^ 63 = omega (arith, below, hm) in
       let none : m *ℤ n +ℤ neg_ℤ (n *ℤ m) ≡ pos 0 = ap (λ x. m *ℤ n +ℤ neg_ℤ x) (*ℤ_comm n m) ∙ grind (arith, ints) in
       let zero-r : r ≡ pos 0 =
-      sym (int_wrap_fits w64 r (fits_signed_from_abs w64 r small-r))
-      ∙ (ap (int_wrap w64) rest
-      ∙ (int_wrap-add_left w64 (m *ℤ n) (neg_ℤ (n *ℤ m))
-      ∙ (ap (int_wrap w64) none ∙ int_wrap_fits w64 (pos 0) (fits (pos 0) (omega arith))))) in
+          sym (int_wrap_fits w64 r (fits_signed_from_abs w64 r small-r))
+          ∙ (ap (int_wrap w64) rest
+          ∙ (int_wrap-add_left w64 (m *ℤ n) (neg_ℤ (n *ℤ m))
+          ∙ (ap (int_wrap w64) none ∙ int_wrap_fits w64 (pos 0) (fits (pos 0) (omega arith))))) in
       sym whole ∙ (ap (λ x. n *ℤ m +ℤ x) zero-r ∙ (grind (arith, ints) ∙ *ℤ_comm n m))
 
   part_small : 0 < unsigned_abs m → unsigned_abs part < 2 ^ 63

@@ -147,6 +147,7 @@ module _ (mem : List ℕ) where
   at_as : (code : Instructions) (vs : List Cell) (K : List Label) (L : Locals) (h : Host) (c : RealConf) (s : HostState) (out : List Action) → StackAs s.names vs c.frame.values → c.frame.code ≡ code → Rest K L h c s out → As (at vs K L code h) c s out
   at_as code vs K L h c s out a e r =
       subst (λ k. As (at vs K L k h) c s out) e (is_as (at vs K L c.frame.code h) c s out (settle c.frame.code vs c.frame.values K L h c s out a r))
+
   -- Locals.
 
 abbrev some_or : {A : Type 0} → A → Option A → A
@@ -276,7 +277,7 @@ module _ (mem : List ℕ) (N : Names) where
   front_as argument.Place (Bits (I32 p) ∷ (Bits (I32 n) ∷ cs)) (w ∷ []) a = absurd a.1
   front_as argument.Place (Bits (I32 p) ∷ (Bits (I32 n) ∷ cs)) (w ∷ (u ∷ ws)) a =
       subst (λ x. FrontAs N (and_rest (text_at mem p n) cs) (place_front mem (x ∷ (u ∷ ws)))) (sym a.0)
-      (subst (λ x. FrontAs N (and_rest (text_at mem p n) cs) (place_front mem (I32 p ∷ (x ∷ ws)))) (sym a.1.0) (said_as N BadPointer (text_at mem p n) cs ws a.1.1))
+        (subst (λ x. FrontAs N (and_rest (text_at mem p n) cs) (place_front mem (I32 p ∷ (x ∷ ws)))) (sym a.1.0) (said_as N BadPointer (text_at mem p n) cs ws a.1.1))
 
   abbrev RowAs : {A : Type 0} → Option A → Result A TrapKind → Type 0
   RowAs None p = Unit {0}
@@ -295,11 +296,11 @@ module _ (mem : List ℕ) (N : Names) where
   decode_as (a ∷ wanted) cs ws s = by (Pivot.front mem a cs) (front N mem a ws) (front_as a cs ws s) (λ us vs h. decode_as wanted us vs h)
     where
       by : (o : Option (InArgument a × List Cell)) (p : Result (InArgument a × List Word) TrapKind) → FrontAs N o p → ((us : List Cell) (vs : List Word) → StackAs N us vs → RowAs (Pivot.decode mem wanted us) (decode N mem wanted vs)) →
-          RowAs {A = Row (a ∷ wanted)} (with_some o (λ x. with_some (Pivot.decode mem wanted x.1) (λ row. Some (x.0, row)))) (and_then p (λ x. and_then (decode N mem wanted x.1) (λ row. Ok (x.0, row))))
+        RowAs {A = Row (a ∷ wanted)} (with_some o (λ x. with_some (Pivot.decode mem wanted x.1) (λ row. Some (x.0, row)))) (and_then p (λ x. and_then (decode N mem wanted x.1) (λ row. Ok (x.0, row))))
       by None p h r = tt
       by (Some x) (Err k) h r = absurd h
       by (Some x) (Ok y) h r = subst (λ z. RowAs {A = Row (a ∷ wanted)} (with_some (Pivot.decode mem wanted x.1) (λ row. Some (x.0, row))) (and_then (decode N mem wanted y.1) (λ row. Ok (z, row)))) (sym h.0)
-          (row_then (Pivot.decode mem wanted x.1) (decode N mem wanted y.1) (λ row. (x.0, row)) (r x.1 y.1 h.1))
+        (row_then (Pivot.decode mem wanted x.1) (decode N mem wanted y.1) (λ row. (x.0, row)) (r x.1 y.1 h.1))
 
 -- Answers of imports.
 
@@ -380,67 +381,65 @@ done_word _ = None
 
 module _ (mem : List ℕ) where
   given_as : (q : ℕ) (a : Answer) (N : Names) (h : Host) (d : Acts (InAnswer a)) (r : Result (InAnswer a) Fault) (w : Option Word) (s : HostState) (o : List Action) → h.fault ≡ None → FreeFor N a q →
-      Answered (Ok (given_by q a (state_with N h) d r)) (state_with N h) (DoneWith w) s o → AnswerAs N (Some (Pivot.replied a h d r)) w s
+    Answered (Ok (given_by q a (state_with N h) d r)) (state_with N h) (DoneWith w) s o → AnswerAs N (Some (Pivot.replied a h d r)) w s
   given_as q a N h d (Ok x) w s o none f e =
       let g = encode_as q N a x f in
-      let n : s.names ≡ (encode q N a x).1 = ap (λ (z : HostState). z.names) e.1 in (
-        subst (Grown N) (sym n) g.0,
+      let n : s.names ≡ (encode q N a x).1 = ap (λ (z : HostState). z.names) e.1 in
+      (subst (Grown N) (sym n) g.0,
         subst (λ (u : Option Word). OntoAs s.names (Pivot.cell a x) u) (sym (ap done_word e.0)) (subst (λ (M : Names). OntoAs M (Pivot.cell a x) (encode q N a x).0) (sym n) g.1),
-        e.1 ∙ ap (λ (M : Names). record { names = M; shared = shared_after h.shared d.does; arguments = d.arguments; fault = h.fault }) (sym n),
-      )
+        e.1 ∙ ap (λ (M : Names). record { names = M; shared = shared_after h.shared d.does; arguments = d.arguments; fault = h.fault }) (sym n))
   given_as q a N h d (Err f) w s o none free e =
-      let n : s.names ≡ N = ap (λ (z : HostState). z.names) e.1 in (
-        subst (Grown N) (sym n) (grown_self N),
+      let n : s.names ≡ N = ap (λ (z : HostState). z.names) e.1 in
+      (subst (Grown N) (sym n) (grown_self N),
         subst (λ (u : Option Word). OntoAs s.names (Pivot.fault_cell a) u) (sym (ap done_word e.0)) (refusal_as s.names a),
-        e.1 ∙ ap (λ (M : Names). record { names = M; shared = shared_after h.shared d.does; arguments = d.arguments; fault = Some f }) (sym n),
-      )
+        e.1 ∙ ap (λ (M : Names). record { names = M; shared = shared_after h.shared d.does; arguments = d.arguments; fault = Some f }) (sym n))
 
   acted_as : (q : ℕ) (i : Import) (N : Names) (h : Host) (r : Result (Acts (InAnswer (import_answer i))) TrapKind) (w : Option Word) (s : HostState) (o : List Action) → h.fault ≡ None → FreeFor N (import_answer i) q →
-      Answered (and_then r (λ d. Ok (given_by q (import_answer i) (state_with N h) d d.does.answer))) (state_with N h) (DoneWith w) s o → AnswerAs N (Pivot.acted i h r) w s
+    Answered (and_then r (λ d. Ok (given_by q (import_answer i) (state_with N h) d d.does.answer))) (state_with N h) (DoneWith w) s o → AnswerAs N (Pivot.acted i h r) w s
   acted_as q i N h (Err k) w s o none f e = tt
   acted_as q i N h (Ok d) w s o none f e = given_as q (import_answer i) N h d d.does.answer w s o none f e
 
   call_as : (i : Import) (cs : List Cell) (ws : List Word) (q : ℕ) (N : Names) (h : Host) (w : Option Word) (s : HostState) (o : List Action) → StackAs N cs ws → FreeFor N (import_answer i) q →
-      Answered (HostStep.step q i ws mem (state_with N h)) (state_with N h) (DoneWith w) s o → AnswerAs N (Pivot.call mem i cs h) w s
+    Answered (HostStep.step q i ws mem (state_with N h)) (state_with N h) (DoneWith w) s o → AnswerAs N (Pivot.call mem i cs h) w s
   call_as i cs ws q N h w s o a f e = by h.fault refl
     where
       rows : (p : Option (Row (import_arguments i))) (r : Result (Row (import_arguments i)) TrapKind) → RowAs mem N p r → h.fault ≡ None →
-          Answered (and_then r (λ row. and_then (acts i row (state_with N h)) (λ d. Ok (given_by q (import_answer i) (state_with N h) d d.does.answer)))) (state_with N h) (DoneWith w) s o →
-          AnswerAs N (with_some p (λ row. Pivot.acted i h (acts i row (Pivot.state_of h)))) w s
+        Answered (and_then r (λ row. and_then (acts i row (state_with N h)) (λ d. Ok (given_by q (import_answer i) (state_with N h) d d.does.answer)))) (state_with N h) (DoneWith w) s o →
+        AnswerAs N (with_some p (λ row. Pivot.acted i h (acts i row (Pivot.state_of h)))) w s
       rows None r b none x = tt
       rows (Some row) (Err k) b none x = absurd b
       rows (Some row) (Ok row1) b none x =
           acted_as q i N h (acts i row (Pivot.state_of h)) w s o none f
-          (subst (λ z. Answered (and_then z (λ d. Ok (given_by q (import_answer i) (state_with N h) d d.does.answer))) (state_with N h) (DoneWith w) s o) (ap (λ z. acts i z (state_with N h)) b ∙ acts_same i row N h) x)
+            (subst (λ z. Answered (and_then z (λ d. Ok (given_by q (import_answer i) (state_with N h) d d.does.answer))) (state_with N h) (DoneWith w) s o) (ap (λ z. acts i z (state_with N h)) b ∙ acts_same i row N h) x)
 
       by : (k : Option Fault) → h.fault ≡ k → AnswerAs N (Pivot.unless_kept k (with_some (Pivot.decode mem (import_arguments i) cs) (λ row. Pivot.acted i h (acts i row (Pivot.state_of h))))) w s
       by (Some k) none = tt
       by None none = rows (Pivot.decode mem (import_arguments i) cs) (decode N mem (import_arguments i) ws) (decode_as mem N (import_arguments i) cs ws a) none
-          (subst (λ b. Answered (cond b (Ok (refused i (state_with N h))) (acted q i ws mem (state_with N h))) (state_with N h) (DoneWith w) s o) (ap (refuses i) none ∙ not_refused i) e)
+        (subst (λ b. Answered (cond b (Ok (refused i (state_with N h))) (acted q i ws mem (state_with N h))) (state_with N h) (DoneWith w) s o) (ap (refuses i) none ∙ not_refused i) e)
 
   -- a call that traps is one that is not made over values
   given_traps : (q : ℕ) (i : Import) (N : Names) (h : Host) (r : Result (Acts (InAnswer (import_answer i))) TrapKind) (kind : TrapKind) (s : HostState) (o : List Action) →
-      Answered (and_then r (λ d. Ok (given_by q (import_answer i) (state_with N h) d d.does.answer))) (state_with N h) (TrapWith kind) s o → Pivot.acted i h r ≡ None
+    Answered (and_then r (λ d. Ok (given_by q (import_answer i) (state_with N h) d d.does.answer))) (state_with N h) (TrapWith kind) s o → Pivot.acted i h r ≡ None
   given_traps q i N h (Err k) kind s o e = refl
   given_traps q i N h (Ok d) kind s o e = absurd (trap_not_done kind _ e.0)
 
   call_traps : (i : Import) (cs : List Cell) (ws : List Word) (q : ℕ) (N : Names) (h : Host) (kind : TrapKind) (s : HostState) (o : List Action) → StackAs N cs ws →
-      Answered (HostStep.step q i ws mem (state_with N h)) (state_with N h) (TrapWith kind) s o → Pivot.call mem i cs h ≡ None
+    Answered (HostStep.step q i ws mem (state_with N h)) (state_with N h) (TrapWith kind) s o → Pivot.call mem i cs h ≡ None
   call_traps i cs ws q N h kind s o a e = by h.fault refl
     where
       rows : (p : Option (Row (import_arguments i))) (r : Result (Row (import_arguments i)) TrapKind) → RowAs mem N p r →
-          Answered (and_then r (λ row. and_then (acts i row (state_with N h)) (λ d. Ok (given_by q (import_answer i) (state_with N h) d d.does.answer)))) (state_with N h) (TrapWith kind) s o →
-          with_some p (λ row. Pivot.acted i h (acts i row (Pivot.state_of h))) ≡ None
+        Answered (and_then r (λ row. and_then (acts i row (state_with N h)) (λ d. Ok (given_by q (import_answer i) (state_with N h) d d.does.answer)))) (state_with N h) (TrapWith kind) s o →
+        with_some p (λ row. Pivot.acted i h (acts i row (Pivot.state_of h))) ≡ None
       rows None r b x = refl
       rows (Some row) (Err k) b x = absurd b
       rows (Some row) (Ok row1) b x =
           given_traps q i N h (acts i row (Pivot.state_of h)) kind s o
-          (subst (λ z. Answered (and_then z (λ d. Ok (given_by q (import_answer i) (state_with N h) d d.does.answer))) (state_with N h) (TrapWith kind) s o) (ap (λ z. acts i z (state_with N h)) b ∙ acts_same i row N h) x)
+            (subst (λ z. Answered (and_then z (λ d. Ok (given_by q (import_answer i) (state_with N h) d d.does.answer))) (state_with N h) (TrapWith kind) s o) (ap (λ z. acts i z (state_with N h)) b ∙ acts_same i row N h) x)
 
       by : (k : Option Fault) → h.fault ≡ k → Pivot.unless_kept k (with_some (Pivot.decode mem (import_arguments i) cs) (λ row. Pivot.acted i h (acts i row (Pivot.state_of h)))) ≡ None
       by (Some k) none = refl
       by None none = rows (Pivot.decode mem (import_arguments i) cs) (decode N mem (import_arguments i) ws) (decode_as mem N (import_arguments i) cs ws a)
-          (subst (λ b. Answered (cond b (Ok (refused i (state_with N h))) (acted q i ws mem (state_with N h))) (state_with N h) (TrapWith kind) s o) (ap (refuses i) none ∙ not_refused i) e)
+        (subst (λ b. Answered (cond b (Ok (refused i (state_with N h))) (acted q i ws mem (state_with N h))) (state_with N h) (TrapWith kind) s o) (ap (refuses i) none ∙ not_refused i) e)
 
 -- Steps.
 
@@ -468,7 +467,7 @@ stack_reverse : (N : Names) (vs : List Cell) (ws : List Word) → StackAs N vs w
 stack_reverse N [] [] a = tt
 stack_reverse N (v ∷ vs) (w ∷ ws) a =
     subst (λ l. StackAs N l (reverse (w ∷ ws))) (sym (reverse_onto vs v []))
-    (subst (λ l. StackAs N (reverse vs ++ v ∷ []) l) (sym (reverse_onto ws w [])) (stack_append N (reverse vs) (v ∷ []) (reverse ws) (w ∷ []) (stack_reverse N vs ws a.1) (a.0, tt)))
+      (subst (λ l. StackAs N (reverse vs ++ v ∷ []) l) (sym (reverse_onto ws w [])) (stack_append N (reverse vs) (v ∷ []) (reverse ws) (w ∷ []) (stack_reverse N vs ws a.1) (a.0, tt)))
 stack_reverse N [] (w ∷ ws) a = absurd a
 stack_reverse N (v ∷ vs) [] a = absurd a
 
@@ -480,7 +479,7 @@ premise tells (Some Arg) t = tt
 premise tells (Some Drop) t = tt
 
 module _ (mem : List ℕ) (m : ProgramForm) (tells : Type 0) (t : tells)
-    (imported : (n : ℕ) (i : Import) (c : RealConf) → import_at n ≡ Some i → called m n c ≡ asked n (import_type i) c) where
+  (imported : (n : ℕ) (i : Import) (c : RealConf) → import_at n ≡ Some i → called m n c ≡ asked n (import_type i) c) where
   abbrev pub M : Meaning HostState Action
   M = host_meaning tells
 
@@ -493,9 +492,9 @@ module _ (mem : List ℕ) (m : ProgramForm) (tells : Type 0) (t : tells)
   goes_as : (p : Conf) (c c2 : RealConf) (s : HostState) (out : List Action) → As mem p c2 s out → NextAs p c s out (Goes c2)
   goes_as p c c2 s out a = record {
     taken = λ c1 s1 o e.
-        subst (λ z. As mem p z s1 (out ++ o)) (sym e.0)
+      subst (λ z. As mem p z s1 (out ++ o)) (sym e.0)
         (subst (λ z. As mem p c2 z (out ++ o)) (sym e.1)
-        (subst (λ z. As mem p c2 s (out ++ z)) (sym e.2) (subst (λ z. As mem p c2 s z) (sym (append-nil out)) a)));
+          (subst (λ z. As mem p c2 s (out ++ z)) (sym e.2) (subst (λ z. As mem p c2 s z) (sym (append-nil out)) a)));
     over = λ e s1 o r. absurd r;
   }
 
@@ -509,10 +508,10 @@ module _ (mem : List ℕ) (m : ProgramForm) (tells : Type 0) (t : tells)
 
   -- another frame at work
   frame_as : (code : Instructions) (vs : List Cell) (K : List Label) (L : Locals) (h : Host) (c : RealConf) (f : FrameForm) (s : HostState) (out : List Action) → StackAs s.names vs f.values → f.code ≡ code → LabelsAs s.names K f.labels → LocalsAs s.names L f.locals →
-      HostAs h s out → c.callers ≡ entry ∷ [] → c.result ≡ Some ty.I32 → c.memory.bytes ≡ mem → NextAs (at vs K L code h) c s out (Goes (with_frame c f))
+    HostAs h s out → c.callers ≡ entry ∷ [] → c.result ≡ Some ty.I32 → c.memory.bytes ≡ mem → NextAs (at vs K L code h) c s out (Goes (with_frame c f))
   frame_as code vs K L h c f s out a e labels locals host callers result memory =
       goes_as (at vs K L code h) c (with_frame c f) s out
-      (at_as mem code vs K L h (with_frame c f) s out a e (record { labels = labels; locals = locals; host = host; callers = callers; result = result; memory = memory }))
+        (at_as mem code vs K L h (with_frame c f) s out a e (record { labels = labels; locals = locals; host = host; callers = callers; result = result; memory = memory }))
 
   module _ (c : RealConf) (s : HostState) (out : List Action) (h : Host) (host : HostAs h s out) (callers : c.callers ≡ entry ∷ []) (result : c.result ≡ Some ty.I32) (memory : c.memory.bytes ≡ mem) where
     abbrev Next : Conf → Local → Type 0
@@ -537,13 +536,13 @@ module _ (mem : List ℕ) (m : ProgramForm) (tells : Type 0) (t : tells)
     branch_as : (l : Label) (r : LabelForm) (K : List Label) (rs : List LabelForm) (L : Locals) (f : FrameForm) → LabelAs N l r → LabelsAs N K rs → LocalsAs N L f.locals → Next (br zero (l ∷ K) L h) (branch_at f (r ∷ rs))
     branch_as l r K rs L f a b locals =
         subst (λ (g : Option ValType). Next (br zero (l ∷ K) L h) (branch_to f r rs (taken g f.values))) (sym a.gives)
-        (by l.again a.again)
+          (by l.again a.again)
       where
         by : (o : Option Instructions) → r.again ≡ o → Next (elim o [ Some body ↦ at [] (l ∷ K) L body h | None ↦ at l.under K L l.rest h ]) (branch_to f r rs (Some []))
         by (Some body) e = subst (λ (q : Option Instructions). Next (at [] (l ∷ K) L body h) (elim q [ Some b ↦ form.Goes (record f { values = []; labels = r ∷ rs; code = b }) | None ↦ form.Goes (record f { values = [] ++ r.under; labels = rs; code = r.rest }) ])) (sym e)
-            (on body [] (l ∷ K) L (record f { values = []; labels = r ∷ rs; code = body }) tt refl (a, b) locals)
+          (on body [] (l ∷ K) L (record f { values = []; labels = r ∷ rs; code = body }) tt refl (a, b) locals)
         by None e = subst (λ (q : Option Instructions). Next (at l.under K L l.rest h) (elim q [ Some x ↦ form.Goes (record f { values = []; labels = r ∷ rs; code = x }) | None ↦ form.Goes (record f { values = [] ++ r.under; labels = rs; code = r.rest }) ])) (sym e)
-            (on l.rest l.under K L (record f { values = r.under; labels = rs; code = r.rest }) a.under a.rest b locals)
+          (on l.rest l.under K L (record f { values = r.under; labels = rs; code = r.rest }) a.under a.rest b locals)
 
     jump_as : (n : ℕ) (K : List Label) (rs : List LabelForm) (L : Locals) (f : FrameForm) → LabelsAs N K rs → LocalsAs N L f.locals → Next (br n K L h) (jump_on f n rs)
     jump_as n [] rs L f a locals = stuck (jump_on f n rs)
@@ -551,14 +550,15 @@ module _ (mem : List ℕ) (m : ProgramForm) (tells : Type 0) (t : tells)
     jump_as zero (l ∷ K) (r ∷ rs) L f a locals = subst (λ b. Next (br zero (l ∷ K) L h) (if b then form.Leaves f else branch_at f (r ∷ rs))) (sym (eqb-zero-suc (length rs))) (branch_as l r K rs L f a.0 a.1 locals)
     jump_as (suc n) (l ∷ K) (r ∷ rs) L f a locals = subst (λ b. Next (br n K L h) (if b then form.Leaves f else branch_at f (drop n rs))) (sym (eqb-suc-suc n (length rs))) (jump_as n K rs L f a.1 locals)
 
+
     -- pushing, storing, choosing
     got_as : (o : Option Word) (v : Cell) (vs : List Cell) (K : List Label) (L : Locals) (k : Instructions) (f : FrameForm) → ((w : Word) → o ≡ Some w → WordAs N v w) → StackAs N vs f.values → f.code ≡ k → LabelsAs N K f.labels → LocalsAs N L f.locals →
-        Next (at (v ∷ vs) K L k h) (pushed f f.values o)
+      Next (at (v ∷ vs) K L k h) (pushed f f.values o)
     got_as None v vs K L k f w a e b locals = untyped (at (v ∷ vs) K L k h)
     got_as (Some x) v vs K L k f w a e b locals = on k (v ∷ vs) K L (with_values f (x ∷ f.values)) (w x refl, a) e b locals
 
     set_local_as : (x : ℕ) (vs : List Cell) (ws : List Word) (K : List Label) (L : Locals) (k : Instructions) (f : FrameForm) → StackAs N vs ws → f.code ≡ k → LabelsAs N K f.labels → LocalsAs N L f.locals →
-        Next (Pivot.set_local x vs K L k h) (form.local_set f x ws)
+      Next (Pivot.set_local x vs K L k h) (form.local_set f x ws)
     set_local_as x [] [] K L k f a e b locals = stuck (form.local_set f x [])
     set_local_as x [] (w ∷ ws) K L k f a e b locals = absurd a
     set_local_as x (v ∷ vs) [] K L k f a e b locals = absurd a
@@ -569,7 +569,7 @@ module _ (mem : List ℕ) (m : ProgramForm) (tells : Type 0) (t : tells)
         by false = untyped (at vs K (upd L x v) k h)
 
     tee_local_as : (x : ℕ) (vs : List Cell) (K : List Label) (L : Locals) (k : Instructions) (f : FrameForm) (ws : List Word) → f.values ≡ ws → StackAs N vs ws → f.code ≡ k → LabelsAs N K f.labels → LocalsAs N L f.locals →
-        Next (Pivot.tee_local x vs K L k h) (form.local_tee f x ws)
+      Next (Pivot.tee_local x vs K L k h) (form.local_tee f x ws)
     tee_local_as x [] K L k f [] q a e b locals = stuck (form.local_tee f x [])
     tee_local_as x [] K L k f (w ∷ ws) q a e b locals = absurd a
     tee_local_as x (v ∷ vs) K L k f [] q a e b locals = absurd a
@@ -580,7 +580,7 @@ module _ (mem : List ℕ) (m : ProgramForm) (tells : Type 0) (t : tells)
         by false = untyped (at (v ∷ vs) K (upd L x v) k h)
 
     br_if_as : (n : ℕ) (vs : List Cell) (ws : List Word) (K : List Label) (L : Locals) (k : Instructions) (f : FrameForm) → StackAs N vs ws → f.code ≡ k → LabelsAs N K f.labels → LocalsAs N L f.locals →
-        Next (Pivot.br_if n vs K L k h) (form.branch_if f n ws)
+      Next (Pivot.br_if n vs K L k h) (form.branch_if f n ws)
     br_if_as n [] ws K L k f a e b locals = stuck (form.branch_if f n ws)
     br_if_as n (Held x ∷ vs) ws K L k f a e b locals = stuck (form.branch_if f n ws)
     br_if_as n (ArrayOf x ∷ vs) ws K L k f a e b locals = stuck (form.branch_if f n ws)
@@ -595,7 +595,7 @@ module _ (mem : List ℕ) (m : ProgramForm) (tells : Type 0) (t : tells)
         by false = jump_as n K f.labels L (with_values f ws) b locals
 
     choose_as : (p q : Instructions) (vs : List Cell) (ws : List Word) (K : List Label) (L : Locals) (k : Instructions) (f : FrameForm) → StackAs N vs ws → f.code ≡ k → LabelsAs N K f.labels → LocalsAs N L f.locals →
-        Next (Pivot.choose p q vs K L k h) (form.chosen f None p q ws)
+      Next (Pivot.choose p q vs K L k h) (form.chosen f None p q ws)
     choose_as p q [] ws K L k f a e b locals = stuck (form.chosen f None p q ws)
     choose_as p q (Held x ∷ vs) ws K L k f a e b locals = stuck (form.chosen f None p q ws)
     choose_as p q (ArrayOf x ∷ vs) ws K L k f a e b locals = stuck (form.chosen f None p q ws)
@@ -604,32 +604,32 @@ module _ (mem : List ℕ) (m : ProgramForm) (tells : Type 0) (t : tells)
     choose_as p q (Bits (I32 x) ∷ vs) [] K L k f a e b locals = absurd a
     choose_as p q (Bits (I32 x) ∷ vs) (w ∷ ws) K L k f a e b locals =
         subst (λ u. Next (at [] (Pivot.block_label vs k ∷ K) L (cond (nat_eq x 0) q p) h) (form.chosen f None p q (u ∷ ws))) (sym a.0)
-        (on (cond (nat_eq x 0) q p) [] (Pivot.block_label vs k ∷ K) L (form.entered (with_values f ws) None None (if nat_eq x 0 then q else p)) tt refl (record { under = a.1; again = refl; gives = refl; rest = e }, b) locals)
+          (on (cond (nat_eq x 0) q p) [] (Pivot.block_label vs k ∷ K) L (form.entered (with_values f ws) None None (if nat_eq x 0 then q else p)) tt refl (record { under = a.1; again = refl; gives = refl; rest = e }, b) locals)
 
     -- operators
     abbrev OperatedAs : Option (List Cell) → FrameForm → List Label → Locals → Instructions → Local → Type 0
     OperatedAs o f K L k l = Next (Pivot.with_operands o K L k h) l
 
     word_as : (o : Option Word) (vs : List Cell) (ws : List Word) (K : List Label) (L : Locals) (k : Instructions) (f : FrameForm) → StackAs N vs ws → f.code ≡ k → LabelsAs N K f.labels → LocalsAs N L f.locals →
-        Next (Pivot.with_operands (Pivot.push_word vs o) K L k h) (pushed f ws o)
+      Next (Pivot.with_operands (Pivot.push_word vs o) K L k h) (pushed f ws o)
     word_as None vs ws K L k f a e b locals = stuck (pushed f ws None)
     word_as (Some w) vs ws K L k f a e b locals = on k (Bits w ∷ vs) K L (with_values f (w ∷ ws)) (refl, a) e b locals
 
     result_as : (o : Option (Result Word TrapKind)) (vs : List Cell) (ws : List Word) (K : List Label) (L : Locals) (k : Instructions) (f : FrameForm) → StackAs N vs ws → f.code ≡ k → LabelsAs N K f.labels → LocalsAs N L f.locals →
-        Next (Pivot.with_operands (Pivot.push_result vs o) K L k h) (form.pushed_or f ws o)
+      Next (Pivot.with_operands (Pivot.push_result vs o) K L k h) (form.pushed_or f ws o)
     result_as None vs ws K L k f a e b locals = stuck (form.pushed_or f ws None)
     result_as (Some (Err x)) vs ws K L k f a e b locals = stuck (form.pushed_or f ws (Some (Err x)))
     result_as (Some (Ok w)) vs ws K L k f a e b locals = on k (Bits w ∷ vs) K L (with_values f (w ∷ ws)) (refl, a) e b locals
 
     -- a handle is no word from 2^31 on
     held_as : (ty-is : ValType) (op : IRelOp) (n : ℕ) (v : Word) (vs : List Cell) (ws : List Word) (K : List Label) (L : Locals) (k : Instructions) (f : FrameForm) → n < 2 ^ 31 → StackAs N vs ws → f.code ≡ k → LabelsAs N K f.labels → LocalsAs N L f.locals →
-        Next (Pivot.with_operands (Pivot.push_word vs (Pivot.held_equal ty-is op v)) K L k h) (pushed f ws (compare_of ty-is op (I32 n) v))
+      Next (Pivot.with_operands (Pivot.push_word vs (Pivot.held_equal ty-is op v)) K L k h) (pushed f ws (compare_of ty-is op (I32 n) v))
     held_as ty.I32 Eq n (I32 x) vs ws K L k f lt a e b locals = by (nat_le (2 ^ 31) x) refl
       where
         by : (q : Bool) → nat_le (2 ^ 31) x ≡ q → Next (Pivot.with_operands (Pivot.push_word vs (cond q (Some (flag false)) None)) K L k h) (pushed f ws (Some (flag (nat_eq n x))))
         by false r = stuck (pushed f ws (Some (flag (nat_eq n x))))
         by true r = subst (λ g. Next (Pivot.with_operands (Pivot.push_word vs (Some (flag false))) K L k h) (pushed f ws (Some (flag g)))) (sym (not_equal n x (λ (same : n ≡ x). let le = leb-true (2 ^ 31) x r in absurd (omega (arith, same, le, lt)))))
-            (word_as (Some (flag false)) vs ws K L k f a e b locals)
+          (word_as (Some (flag false)) vs ws K L k f a e b locals)
     held_as ty.I32 Eq n (I64 x) vs ws K L k f lt a e b locals = stuck (pushed f ws (compare_of ty.I32 Eq (I32 n) (I64 x)))
     held_as ty.I64 op n v vs ws K L k f lt a e b locals = stuck (pushed f ws (compare_of ty.I64 op (I32 n) v))
     held_as ty.I32 Ne n v vs ws K L k f lt a e b locals = stuck (pushed f ws (compare_of ty.I32 Ne (I32 n) v))
@@ -663,15 +663,15 @@ module _ (mem : List ℕ) (m : ProgramForm) (tells : Type 0) (t : tells)
     not_compared t1 op (IteratorOf v) (IteratorOf u) vs K L k l held = stuck l
 
     compared_as : (ty-is : ValType) (op : IRelOp) (vs : List Cell) (ws : List Word) (K : List Label) (L : Locals) (k : Instructions) (f : FrameForm) → StackAs N vs ws → f.code ≡ k → LabelsAs N K f.labels → LocalsAs N L f.locals →
-        Next (Pivot.with_operands (Pivot.operated (simple.Compare ty-is op) vs) K L k h) (form.of_two f (compare_of ty-is op) ws)
+      Next (Pivot.with_operands (Pivot.operated (simple.Compare ty-is op) vs) K L k h) (form.of_two f (compare_of ty-is op) ws)
     compared_as t1 op [] ws K L k f a e b locals = stuck (form.of_two f (compare_of t1 op) ws)
     compared_as t1 op (v ∷ []) ws K L k f a e b locals = stuck (form.of_two f (compare_of t1 op) ws)
     compared_as t1 op (v ∷ (u ∷ vs)) [] K L k f a e b locals = absurd a
     compared_as t1 op (v ∷ (u ∷ vs)) (w ∷ []) K L k f a e b locals = absurd a.1
     compared_as t1 op (Bits v ∷ (Bits u ∷ vs)) (w ∷ (x ∷ ws)) K L k f a e b locals =
         subst (λ z. Next (Pivot.with_operands (Pivot.push_word vs (compare_of t1 op u v)) K L k h) (pushed f ws (compare_of t1 op x z))) (sym a.0)
-        (subst (λ z. Next (Pivot.with_operands (Pivot.push_word vs (compare_of t1 op u v)) K L k h) (pushed f ws (compare_of t1 op z v))) (sym a.1.0)
-        (word_as (compare_of t1 op u v) vs ws K L k f a.1.1 e b locals))
+          (subst (λ z. Next (Pivot.with_operands (Pivot.push_word vs (compare_of t1 op u v)) K L k h) (pushed f ws (compare_of t1 op z v))) (sym a.1.0)
+            (word_as (compare_of t1 op u v) vs ws K L k f a.1.1 e b locals))
     compared_as t1 op (Bits v ∷ (Held u ∷ vs)) (w ∷ (I32 n ∷ ws)) K L k f a e b locals =
         subst (λ z. Next (Pivot.with_operands (Pivot.push_word vs (Pivot.held_equal t1 op v)) K L k h) (pushed f ws (compare_of t1 op (I32 n) z))) (sym a.0) (held_as t1 op n v vs ws K L k f a.1.0.0 a.1.1 e b locals)
     compared_as t1 op (Bits v ∷ (ArrayOf u ∷ vs)) (w ∷ (I32 n ∷ ws)) K L k f a e b locals =
@@ -686,7 +686,7 @@ module _ (mem : List ℕ) (m : ProgramForm) (tells : Type 0) (t : tells)
     compared_as t1 op (IteratorOf v ∷ (u ∷ vs)) (w ∷ (x ∷ ws)) K L k f a e b locals = not_compared t1 op (IteratorOf v) u vs K L k (form.of_two f (compare_of t1 op) (w ∷ (x ∷ ws))) tt
 
     tested_as : (t1 : ValType) (op : ITestOp) (vs : List Cell) (ws : List Word) (K : List Label) (L : Locals) (k : Instructions) (f : FrameForm) → StackAs N vs ws → f.code ≡ k → LabelsAs N K f.labels → LocalsAs N L f.locals →
-        Next (Pivot.with_operands (Pivot.operated (simple.Test t1 op) vs) K L k h) (form.of_one f (test_of t1 op) ws)
+      Next (Pivot.with_operands (Pivot.operated (simple.Test t1 op) vs) K L k h) (form.of_one f (test_of t1 op) ws)
     tested_as t1 op [] ws K L k f a e b locals = stuck (form.of_one f (test_of t1 op) ws)
     tested_as t1 op (Held v ∷ vs) ws K L k f a e b locals = stuck (form.of_one f (test_of t1 op) ws)
     tested_as t1 op (ArrayOf v ∷ vs) ws K L k f a e b locals = stuck (form.of_one f (test_of t1 op) ws)
@@ -696,7 +696,7 @@ module _ (mem : List ℕ) (m : ProgramForm) (tells : Type 0) (t : tells)
         subst (λ z. Next (Pivot.with_operands (Pivot.push_word vs (test_of t1 op v)) K L k h) (pushed f ws (test_of t1 op z))) (sym a.0) (word_as (test_of t1 op v) vs ws K L k f a.1 e b locals)
 
     converted_as : (op : CvtOp) (vs : List Cell) (ws : List Word) (K : List Label) (L : Locals) (k : Instructions) (f : FrameForm) → StackAs N vs ws → f.code ≡ k → LabelsAs N K f.labels → LocalsAs N L f.locals →
-        Next (Pivot.with_operands (Pivot.operated (simple.Convert op) vs) K L k h) (form.of_one f (converted op) ws)
+      Next (Pivot.with_operands (Pivot.operated (simple.Convert op) vs) K L k h) (form.of_one f (converted op) ws)
     converted_as op [] ws K L k f a e b locals = stuck (form.of_one f (converted op) ws)
     converted_as op (Held v ∷ vs) ws K L k f a e b locals = stuck (form.of_one f (converted op) ws)
     converted_as op (ArrayOf v ∷ vs) ws K L k f a e b locals = stuck (form.of_one f (converted op) ws)
@@ -706,7 +706,7 @@ module _ (mem : List ℕ) (m : ProgramForm) (tells : Type 0) (t : tells)
         subst (λ z. Next (Pivot.with_operands (Pivot.push_word vs (converted op v)) K L k h) (pushed f ws (converted op z))) (sym a.0) (word_as (converted op v) vs ws K L k f a.1 e b locals)
 
     binary_as : (t1 : ValType) (op : IBinOp) (vs : List Cell) (ws : List Word) (K : List Label) (L : Locals) (k : Instructions) (f : FrameForm) → StackAs N vs ws → f.code ≡ k → LabelsAs N K f.labels → LocalsAs N L f.locals →
-        Next (Pivot.with_operands (Pivot.operated (simple.Binary t1 op) vs) K L k h) (form.of_two_or f (binary_of t1 op) ws)
+      Next (Pivot.with_operands (Pivot.operated (simple.Binary t1 op) vs) K L k h) (form.of_two_or f (binary_of t1 op) ws)
     binary_as t1 op [] ws K L k f a e b locals = stuck (form.of_two_or f (binary_of t1 op) ws)
     binary_as t1 op (Held v ∷ vs) ws K L k f a e b locals = stuck (form.of_two_or f (binary_of t1 op) ws)
     binary_as t1 op (ArrayOf v ∷ vs) ws K L k f a e b locals = stuck (form.of_two_or f (binary_of t1 op) ws)
@@ -719,23 +719,23 @@ module _ (mem : List ℕ) (m : ProgramForm) (tells : Type 0) (t : tells)
     binary_as t1 op (Bits v ∷ (Bits u ∷ vs)) (w ∷ []) K L k f a e b locals = absurd a.1
     binary_as t1 op (Bits v ∷ (Bits u ∷ vs)) (w ∷ (x ∷ ws)) K L k f a e b locals =
         subst (λ z. Next (Pivot.with_operands (Pivot.push_result vs (binary_of t1 op u v)) K L k h) (form.pushed_or f ws (binary_of t1 op x z))) (sym a.0)
-        (subst (λ z. Next (Pivot.with_operands (Pivot.push_result vs (binary_of t1 op u v)) K L k h) (form.pushed_or f ws (binary_of t1 op z v))) (sym a.1.0)
-        (result_as (binary_of t1 op u v) vs ws K L k f a.1.1 e b locals))
+          (subst (λ z. Next (Pivot.with_operands (Pivot.push_result vs (binary_of t1 op u v)) K L k h) (form.pushed_or f ws (binary_of t1 op z v))) (sym a.1.0)
+            (result_as (binary_of t1 op u v) vs ws K L k f a.1.1 e b locals))
 
     -- imports
     onto_as : (v : Option Cell) (w : Option Word) (a : Host) (vs : List Cell) (ws : List Word) (K : List Label) (L : Locals) (k : Instructions) (f : FrameForm) (c2 : RealConf) (s1 : HostState) (out1 : List Action) → Grown N s1.names → OntoAs s1.names v w → HostAs a s1 out1 → c2.frame ≡ with_values f ws → c2.callers ≡ entry ∷ [] → c2.result ≡ Some ty.I32 → c2.memory.bytes ≡ mem →
-        StackAs N vs ws → f.code ≡ k → LabelsAs N K f.labels → LocalsAs N L f.locals → As mem (at (Pivot.onto v vs) K L k a) (answered c2 w) s1 out1
+      StackAs N vs ws → f.code ≡ k → LabelsAs N K f.labels → LocalsAs N L f.locals → As mem (at (Pivot.onto v vs) K L k a) (answered c2 w) s1 out1
     onto_as None None a vs ws K L k f c2 s1 out1 g o ha fe ca re me b e labels locals =
         at_as mem k vs K L a c2 s1 out1 (subst (λ (z : FrameForm). StackAs s1.names vs z.values) (sym fe) (stack_up N s1.names g vs ws b)) (ap (λ (z : FrameForm). z.code) fe ∙ e)
-        (record { labels = subst (λ (z : FrameForm). LabelsAs s1.names K z.labels) (sym fe) (labels_up N s1.names g K f.labels labels); locals = subst (λ (z : FrameForm). LocalsAs s1.names L z.locals) (sym fe) (λ x w1 q. word_up N s1.names g (L x) w1 (locals x w1 q)); host = ha; callers = ca; result = re; memory = me })
+          (record { labels = subst (λ (z : FrameForm). LabelsAs s1.names K z.labels) (sym fe) (labels_up N s1.names g K f.labels labels); locals = subst (λ (z : FrameForm). LocalsAs s1.names L z.locals) (sym fe) (λ x w1 q. word_up N s1.names g (L x) w1 (locals x w1 q)); host = ha; callers = ca; result = re; memory = me })
     onto_as (Some v) (Some w) a vs ws K L k f c2 s1 out1 g o ha fe ca re me b e labels locals =
         at_as mem k (v ∷ vs) K L a (with_operands c2 (w ∷ c2.frame.values)) s1 out1 (o, subst (λ (z : FrameForm). StackAs s1.names vs z.values) (sym fe) (stack_up N s1.names g vs ws b)) (ap (λ (z : FrameForm). z.code) fe ∙ e)
-        (record { labels = subst (λ (z : FrameForm). LabelsAs s1.names K z.labels) (sym fe) (labels_up N s1.names g K f.labels labels); locals = subst (λ (z : FrameForm). LocalsAs s1.names L z.locals) (sym fe) (λ x w1 q. word_up N s1.names g (L x) w1 (locals x w1 q)); host = ha; callers = ca; result = re; memory = me })
+          (record { labels = subst (λ (z : FrameForm). LabelsAs s1.names K z.labels) (sym fe) (labels_up N s1.names g K f.labels labels); locals = subst (λ (z : FrameForm). LocalsAs s1.names L z.locals) (sym fe) (λ x w1 q. word_up N s1.names g (L x) w1 (locals x w1 q)); host = ha; callers = ca; result = re; memory = me })
     onto_as None (Some w) a vs ws K L k f c2 s1 out1 g o ha fe ca re me b e labels locals = absurd o
     onto_as (Some v) None a vs ws K L k f c2 s1 out1 g o ha fe ca re me b e labels locals = absurd o
 
     import_as : (n : ℕ) (i : Import) (vs : List Cell) (K : List Label) (L : Locals) (k : Instructions) (f : FrameForm) → import_at n ≡ Some i → StackAs N vs f.values → f.code ≡ k → LabelsAs N K f.labels → LocalsAs N L f.locals →
-        NextAs (Pivot.ask mem (Some i) vs K L k h) c s out (asked n (import_type i) (with_frame c f))
+      NextAs (Pivot.ask mem (Some i) vs K L k h) c s out (asked n (import_type i) (with_frame c f))
     import_as n i vs K L k f at-n a e labels locals = within (nat_lt (length f.values) (length (import_type i).params))
       where
         w : ℕ
@@ -757,7 +757,7 @@ module _ (mem : List ℕ) (m : ProgramForm) (tells : Type 0) (t : tells)
         answer_as None c1 s1 o u x q me = tt
         answer_as (Some r) c1 s1 o u x q me =
             subst (λ z. As mem (at (Pivot.onto r.0 (drop w vs)) K L k r.1) z s1 (out ++ o)) (sym q)
-            (onto_as r.0 u r.1 (drop w vs) (drop w f.values) K L k f (record after { memory = c1.memory }) s1 (out ++ o) x.0 x.1 x.2 refl callers result (ap (λ (y : MemoryForm). y.bytes) me ∙ memory) (stack_drop N w vs f.values a) e labels locals)
+              (onto_as r.0 u r.1 (drop w vs) (drop w f.values) K L k f (record after { memory = c1.memory }) s1 (out ++ o) x.0 x.1 x.2 refl callers result (ap (λ (y : MemoryForm). y.bytes) me ∙ memory) (stack_drop N w vs f.values a) e labels locals)
 
         trap_as : (r : Option (Option Cell × Host)) → r ≡ None → Pivot.with_answer r (drop w vs) K L k ≡ Stuck
         trap_as r e = ap (λ z. Pivot.with_answer z (drop w vs) K L k) e
@@ -773,10 +773,10 @@ module _ (mem : List ℕ) (m : ProgramForm) (tells : Type 0) (t : tells)
                 let st = called-is.step (premise tells (import_at n) t) out in
                 let st1 = subst (λ (z : Option Import). StepOf z (with_output out s) args c.memory.bytes (DoneWith u) (with_output (out ++ o) s1) o) at-n st in
                 answer_as (Pivot.call mem i cells h) c1 s1 o u
-                (call_as mem i cells args st1.0 N h u (with_output (out ++ o) s1) o args_as st1.1
-                (subst (λ (b : List ℕ). Answered (HostStep.step st1.0 i args b (state_with N h)) (state_with N h) (DoneWith u) (with_output (out ++ o) s1) o) memory
-                (subst (λ (z : HostState). Answered (HostStep.step st1.0 i args c.memory.bytes z) z (DoneWith u) (with_output (out ++ o) s1) o) host st1.2)))
-                r.2 r.1.0
+                  (call_as mem i cells args st1.0 N h u (with_output (out ++ o) s1) o args_as st1.1
+                    (subst (λ (b : List ℕ). Answered (HostStep.step st1.0 i args b (state_with N h)) (state_with N h) (DoneWith u) (with_output (out ++ o) s1) o) memory
+                      (subst (λ (z : HostState). Answered (HostStep.step st1.0 i args c.memory.bytes z) z (DoneWith u) (with_output (out ++ o) s1) o) host st1.2)))
+                  r.2 r.1.0
 
             over : (e : End) (s1 : HostState) (o : List Action) → OverBy M (Asks n args after) s c.memory o e s1 → (Pivot.ask mem (Some i) vs K L k h ≡ Stuck) ⊎ (told_end e ≡ None)
             over e s1 o r =
@@ -785,12 +785,12 @@ module _ (mem : List ℕ) (m : ProgramForm) (tells : Type 0) (t : tells)
                 let st = called-is.step (premise tells (import_at n) t) out in
                 let st1 = subst (λ (z : Option Import). StepOf z (with_output out s) args c.memory.bytes (TrapWith kind) (with_output (out ++ o) s1) o) at-n st in
                 inl (trap_as (Pivot.call mem i cells h)
-                (call_traps mem i cells args st1.0 N h kind (with_output (out ++ o) s1) o args_as
-                (subst (λ (b : List ℕ). Answered (HostStep.step st1.0 i args b (state_with N h)) (state_with N h) (TrapWith kind) (with_output (out ++ o) s1) o) memory
-                (subst (λ (z : HostState). Answered (HostStep.step st1.0 i args c.memory.bytes z) z (TrapWith kind) (with_output (out ++ o) s1) o) host st1.2))))
+                  (call_traps mem i cells args st1.0 N h kind (with_output (out ++ o) s1) o args_as
+                    (subst (λ (b : List ℕ). Answered (HostStep.step st1.0 i args b (state_with N h)) (state_with N h) (TrapWith kind) (with_output (out ++ o) s1) o) memory
+                      (subst (λ (z : HostState). Answered (HostStep.step st1.0 i args c.memory.bytes z) z (TrapWith kind) (with_output (out ++ o) s1) o) host st1.2))))
 
     act_as : (p : Simple) (vs : List Cell) (K : List Label) (L : Locals) (k : Instructions) (f : FrameForm) → StackAs N vs f.values → f.code ≡ k → LabelsAs N K f.labels → LocalsAs N L f.locals →
-        Next (Pivot.act mem p vs K L k h) (form.simple f p)
+      Next (Pivot.act mem p vs K L k h) (form.simple f p)
     act_as (simple.LocalGet x) vs K L k f a e b locals = got_as (slice_get f.locals x) (L x) vs K L k f (λ w q. locals x w q) a e b locals
     act_as (simple.LocalSet x) vs K L k f a e b locals = set_local_as x vs f.values K L k f a e b locals
     act_as (simple.LocalTee x) vs K L k f a e b locals = tee_local_as x vs K L k f f.values refl a e b locals
@@ -822,7 +822,7 @@ module _ (mem : List ℕ) (m : ProgramForm) (tells : Type 0) (t : tells)
     act_as (simple.Unary t1 op) vs K L k f a e b locals = stuck (form.simple f (simple.Unary t1 op))
 
     work_as : (i : Instruction) (vs : List Cell) (K : List Label) (L : Locals) (k : Instructions) (f : FrameForm) → StackAs N vs f.values → f.code ≡ k → LabelsAs N K f.labels → LocalsAs N L f.locals →
-        Next (Pivot.work mem i vs K L k h) (form.act f i)
+      Next (Pivot.work mem i vs K L k h) (form.act f i)
     work_as (Plain p) vs K L k f a e b locals = act_as p vs K L k f a e b locals
     work_as (BrTable ns n) vs K L k f a e b locals = stuck (form.act f (BrTable ns n))
     work_as (Loop g p) vs K L k f a e b locals = stuck (form.act f (Loop g p))
@@ -840,8 +840,8 @@ module _ (mem : List ℕ) (m : ProgramForm) (tells : Type 0) (t : tells)
     returned_as (Some g) (v ∷ vs) [] c2 e q a = absurd a
     returned_as (Some g) (v ∷ vs) (w ∷ ws) c2 e q a =
         subst (λ (z : List CallerForm). NextAs (Over (v ∷ vs) h) c s out (to_caller c2 (w ∷ []) (Some w) z)) (sym q)
-        (goes_as (Over (v ∷ vs) h) c (record c2 { frame = with_values entry.frame (w ∷ []); result = Some ty.I32; callers = [] }) s out
-        (record { word = w; same = a.0; frame = refl; callers = refl; result = refl; host = host }))
+          (goes_as (Over (v ∷ vs) h) c (record c2 { frame = with_values entry.frame (w ∷ []); result = Some ty.I32; callers = [] }) s out
+            (record { word = w; same = a.0; frame = refl; callers = refl; result = refl; host = host }))
 
     leave_as : (vs : List Cell) (K : List Label) (rs : List LabelForm) (L : Locals) (f : FrameForm) → StackAs N vs f.values → LabelsAs N K rs → LocalsAs N L f.locals → Next (Pivot.leave vs K L h) (form.at_end f rs)
     leave_as vs [] [] L f a b locals = returned_as c.result vs f.values (with_frame c f) result callers a
@@ -880,4 +880,4 @@ module _ (mem : List ℕ) (m : ProgramForm) (tells : Type 0) (t : tells)
       let r = a.1 in
       let f = settled c.frame in
       subst (λ (z : Instructions). NextAs (Pivot.run mem vs K L code h) c s out (turn_by m c (form.next_at f z))) (sym a.0.1)
-      (run_as c s out h r.host r.callers r.result r.memory code vs K L f a.0.0 r.labels r.locals)
+        (run_as c s out h r.host r.callers r.result r.memory code vs K L f a.0.0 r.labels r.locals)

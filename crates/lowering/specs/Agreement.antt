@@ -86,7 +86,7 @@ pub record Agreement (script : PlainJob → Outside → ℕ → Ending) (m : Mod
   pub bound : ℕ
   pub one_run : (job : JobForm) (outside : Outside) → IsPlain job → (steps : ℕ) (e f : ModuleEnding) → MayEnd m job outside steps e → MayEnd m job outside steps f → e ≡ f
   pub forward : (job : JobForm) (outside : Outside) → IsPlain job → (turns : ℕ) (e : Ending) → IsOver e → script (plain job) outside turns ≡ e →
-      (enough : ℕ) × (enough ≤ bound * (turns + 1)) × ((steps : ℕ) (f : ModuleEnding) → enough ≤ steps → MayEnd m job outside steps f → f ≡ Like e)
+    (enough : ℕ) × (enough ≤ bound * (turns + 1)) × ((steps : ℕ) (f : ModuleEnding) → enough ≤ steps → MayEnd m job outside steps f → f ≡ Like e)
   pub backward : (job : JobForm) (outside : Outside) → IsPlain job → (steps : ℕ) (e : Ending) → IsOver e → MayEnd m job outside steps (Like e) → (turns : ℕ) × (script (plain job) outside turns ≡ e)
   pub never_trapped : (job : JobForm) (outside : Outside) → IsPlain job → (steps : ℕ) (kind : TrapKind) (output : List Action) → MayEnd m job outside steps (Trapped kind output) → ⊥
   pub output_module : (job : JobForm) (outside : Outside) → IsPlain job → (steps : ℕ) (e : ModuleEnding) → MayEnd m job outside steps e → (turns : ℕ) × IsPrefix (output_in e) (output_of (script (plain job) outside turns))

@@ -138,7 +138,7 @@ factors_differ p x y k =
 abbrev pub times : ℕ → ℕ → ℕ → ℕ → Instructions → Instructions
 times x y p d k =
     does (LocalSet y) (does (LocalTee x) (does (LocalGet y) (does (Binary I64 Mul) (does (LocalSet p)
-    (factors_differ p x y (out_of_range p (does (Binary I32 Or) (fail_if d (does (LocalGet p) (does (LocalSet x) k))))))))))
+    (factors_differ p x y (out_of_range p (does (Binary I32 Or) (fail_if d (does (LocalGet p) (does (LocalSet x) k)))))))))) 
 
 abbrev pub inline : Arithmetic → ℕ → ℕ → Instructions → Instructions
 inline Plus t d k = does (Binary I64 Add) (ranged t d k)
