@@ -17,8 +17,8 @@ pub enum Import {
     Drop,
 }
 
-/// The imports that are there, in the order of their numbers.
-pub(crate) const IMPORTS: [Import; 14] = [
+/// The imports that are there, in the order of their numbers, from 0 on.
+pub const IMPORTS: [Import; 14] = [
     Import::Of(Primitive::Num),
     Import::Of(Primitive::Lit),
     Import::Arg,

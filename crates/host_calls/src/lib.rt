@@ -16,5 +16,6 @@ mod tests;
 mod words;
 
 pub use host::Host;
-pub use import::Import;
+pub use import::{IMPORTS, Import};
 pub use job::{Job, NamedText};
+pub use links::type_of;

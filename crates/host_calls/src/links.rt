@@ -61,7 +61,8 @@ fn result_of(answer: Answer) -> Option<ValType>
     }
 }
 
-fn type_of(alloc: Global, import: Import) -> Result<FuncType, AllocError>
+/// The type of an import: the words of its arguments, in order, and that of its answer.
+pub fn type_of(alloc: Global, import: Import) -> Result<FuncType, AllocError>
     ensures { IfOk result (λ ty. signature_of ty ≡ import_type import) }
 {
     Ok(FuncType {

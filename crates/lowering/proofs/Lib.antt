@@ -14,3 +14,4 @@ pub mod Room
 pub mod Lists
 pub mod Steps
 pub mod Depth
+pub mod Parts

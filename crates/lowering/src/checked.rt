@@ -26,12 +26,7 @@ fn out_of_range(out: &mut Vec<Instr>, local: u32) -> Result<(), AllocError>
 }
 
 /// Keeps a number in a temporary, and fails where it is out of range.
-fn ranged(
-    alloc: Global,
-    out: &mut Vec<Instr>,
-    temporary: u32,
-    exit: u32,
-) -> Result<(), AllocError>
+fn ranged(alloc: Global, out: &mut Vec<Instr>, temporary: u32, exit: u32) -> Result<(), AllocError>
     requires room { temporary ≤ most_temporaries }
     requires exit { exit < 4294967295 }
     ensures { OnOk result (Emits out.old.items out.new.items (ranged temporary exit)) }

@@ -45,7 +45,13 @@ fn operate(
     match operation {
         Operation::Host(primitive) => {
             ask(out, Import::Of(primitive))?;
-            keep(out, primitive.can_fault(), primitive.answer(), temporary, EXIT)
+            keep(
+                out,
+                primitive.can_fault(),
+                primitive.answer(),
+                temporary,
+                EXIT,
+            )
         }
         Operation::Inline(arithmetic) => inline(alloc, out, arithmetic, temporary, EXIT),
     }
@@ -176,11 +182,7 @@ fn statements(
 }
 
 /// The code of `main`: its statements in a block that a fault leaves, and the status 0.
-pub(crate) fn main_code(
-    alloc: Global,
-    mid: &Mid,
-    layout: &Layout,
-) -> Result<Vec<Instr>, AllocError>
+pub(crate) fn main_code(alloc: Global, mid: &Mid, layout: &Layout) -> Result<Vec<Instr>, AllocError>
     requires { IsLayout layout.now (view_mid mid.now) }
     ensures { IfOk result (λ code. instructions code.items ≡ main_code (view_mid mid.now)) }
 {

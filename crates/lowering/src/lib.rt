@@ -5,4 +5,7 @@ mod checked;
 mod emit;
 mod expressions;
 pub mod laws;
+mod module;
 mod operands;
+
+pub use module::lower;

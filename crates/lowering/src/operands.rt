@@ -92,7 +92,10 @@ fn push_text(
 {
     let place = layout.place(text);
     let length = mid.texts()[text].len();
-    instrs(out, &[Simple::I32Const(place), Simple::I32Const(length as u32)])
+    instrs(
+        out,
+        &[Simple::I32Const(place), Simple::I32Const(length as u32)],
+    )
 }
 
 /// Pushes an operand: a constant, or what a temporary has.
@@ -142,11 +145,7 @@ pub(crate) fn push_all(
 }
 
 /// Appends values to the argument list.
-pub(crate) fn append_all(
-    out: &mut Vec<Instr>,
-    es: &[Expr],
-    first: u32,
-) -> Result<(), AllocError>
+pub(crate) fn append_all(out: &mut Vec<Instr>, es: &[Expr], first: u32) -> Result<(), AllocError>
     requires { first + rooms_for (views es.now) ≤ most_temporaries }
     ensures { OnOk result (Emits out.old.items out.new.items (append_all (views es.now) first)) }
 {

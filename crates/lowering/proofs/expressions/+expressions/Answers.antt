@@ -13,23 +13,37 @@ pub emitted-operation-requires : goal.emitted-operation-requires
 emitted-operation-requires t c =
     let is = do_code c.args.e.now c.in-Do.done c.in-Do.operands c.deref.result.now c.in-Do.is c.deref.ensures.value in
     let deep = ap depth is in
-    let n = length (view_mid c.args.mid.now).texts in
-    (omega (arith, deep, c.decreases),
-      (do_room c.args.e.now c.in-Do.done c.in-Do.operands c.deref.result.now c.args.temporary most_temporaries c.in-Do.is c.deref.ensures.value c.requires.room,
-      (do_count n c.args.e.now c.in-Do.done c.in-Do.operands c.deref.result.now c.in-Do.is c.deref.ensures.value c.requires.sorted,
-      (do_sorted n c.args.e.now c.in-Do.done c.in-Do.operands c.deref.result.now c.in-Do.is c.deref.ensures.value c.requires.sorted,
-      c.requires.placed))))
+    let n = length (view_mid c.args.mid.now).texts in (
+      omega (arith, deep, c.decreases),
+      (
+        do_room c.args.e.now c.in-Do.done c.in-Do.operands c.deref.result.now c.args.temporary most_temporaries c.in-Do.is c.deref.ensures.value c.requires.room,
+        (
+          do_count n c.args.e.now c.in-Do.done c.in-Do.operands c.deref.result.now c.in-Do.is c.deref.ensures.value c.requires.sorted,
+          (
+            do_sorted n c.args.e.now c.in-Do.done c.in-Do.operands c.deref.result.now c.in-Do.is c.deref.ensures.value c.requires.sorted,
+            c.requires.placed,
+          ),
+        ),
+      ),
+    )
 
 pub emitted-listed-requires : goal.emitted-listed-requires
 emitted-listed-requires t c =
     let is = over_code c.args.e.now c.in-Over.done c.in-Over.values c.deref-in-Over.result.now c.in-Over.is c.deref-in-Over.ensures.value in
     let deep = ap depth is in
-    let n = length (view_mid c.args.mid.now).texts in
-    (omega (arith, deep, c.decreases),
-      (over_room c.args.e.now c.in-Over.done c.in-Over.values c.deref-in-Over.result.now c.args.temporary most_temporaries c.in-Over.is c.deref-in-Over.ensures.value c.requires.room,
-      (over_sorted n c.args.e.now c.in-Over.done c.in-Over.values c.deref-in-Over.result.now c.in-Over.is c.deref-in-Over.ensures.value c.requires.sorted,
-      (over_few n c.args.e.now c.in-Over.done c.in-Over.values c.deref-in-Over.result.now c.args.temporary most_temporaries c.in-Over.is c.deref-in-Over.ensures.value c.requires.sorted c.requires.room,
-      c.requires.placed))))
+    let n = length (view_mid c.args.mid.now).texts in (
+      omega (arith, deep, c.decreases),
+      (
+        over_room c.args.e.now c.in-Over.done c.in-Over.values c.deref-in-Over.result.now c.args.temporary most_temporaries c.in-Over.is c.deref-in-Over.ensures.value c.requires.room,
+        (
+          over_sorted n c.args.e.now c.in-Over.done c.in-Over.values c.deref-in-Over.result.now c.in-Over.is c.deref-in-Over.ensures.value c.requires.sorted,
+          (
+            over_few n c.args.e.now c.in-Over.done c.in-Over.values c.deref-in-Over.result.now c.args.temporary most_temporaries c.in-Over.is c.deref-in-Over.ensures.value c.requires.sorted c.requires.room,
+            c.requires.placed,
+          ),
+        ),
+      ),
+    )
 
 pub emitted-returns-in-Do : goal.emitted-returns-in-Do
 emitted-returns-in-Do t c =
