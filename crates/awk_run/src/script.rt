@@ -5,8 +5,8 @@ ghost use Rattle.awk_tree.specs.Item.{Item as PlainItem};
 ghost use Rattle.awk_tree.specs.ViewStmt.{view_script};
 
 use crate::fault::CompileFault;
-use awk_parse::{parse, ParseFault};
-use awk_tokens::{tokens, TokenFault};
+use awk_parse::{ParseFault, parse};
+use awk_tokens::{TokenFault, tokens};
 use awk_tree::Script;
 use std::alloc::Global;
 
