@@ -1,6 +1,8 @@
 //! awkwasm: compiles AWK scripts to WebAssembly modules, and runs scripts and modules.
 #![tactic(auto)]
 
+mod os_world;
+
 use command_line::{Request, exit_status, request_of};
 use std::io;
 use std::process::ExitCode;
