@@ -1,0 +1,95 @@
+-- What running a module answers: why it is not run, or how its run ended and what became of the world.
+use Rattle.std.specs.Prelude.{◌≡◌, ◌⊎◌, ℕ, ℤ, pos, unsigned_abs, List, Option, Some, None, Result, Ok, Err, length}
+use Rattle.std.specs.Int.{int_rem_euclid}
+use Rattle.awk_values.specs.declared.fault.Fault.{Fault}
+use Rattle.world_core.specs.WorldState.{Action, State}
+use Rattle.wasm_types.specs.Syntax.{ModuleForm}
+use Rattle.wasm_types.specs.ModuleGrammar.{IsModule}
+use Rattle.wasm_types.specs.Typing.{ModuleOk}
+use Rattle.module_decoder.specs.Reading.{module_at}
+use Rattle.module_decoder.specs.declared.fault.DecodeFault.{DecodeFault}
+use Rattle.module_validator.specs.Faults.{Refuses as Untypes}
+use Rattle.module_validator.specs.declared.valid.InvalidFault.{InvalidFault}
+use Rattle.wasm_machine.specs.Links.{IsNew, Refuses as Unlinks}
+use Rattle.wasm_machine.specs.Machines.{Conf}
+use Rattle.wasm_machine.specs.Runs.{MachineForm, Ran, told_run}
+use Rattle.wasm_machine.specs.declared.link.LinkFault.{LinkFault}
+use Rattle.wasm_machine.specs.declared.state.RunEnd.{RunEnd as MachineRunEnd}
+use Rattle.wasm_machine.specs.declared.machine.MachineEnd.{MachineEnd}
+use Rattle.wasm_machine.specs.declared.machine.MachineEnd.TheVariants as machine
+use Rattle.host_calls.specs.Hosts.{state_at_start}
+use Rattle.host_calls.specs.HostState.{HostState}
+use Rattle.host_calls.specs.HostStep.{host_meaning}
+use Rattle.host_calls.specs.Imports.{host_finds}
+use Rattle.host_calls.specs.Jobs.{JobForm}
+use Rattle.awk_run.specs.declared.end.Refusal.{Refusal}
+use Rattle.awk_run.specs.declared.end.Refusal.TheVariants.{Decode, Invalid, Link}
+use Rattle.awk_run.specs.declared.end.RunEnd.{RunEnd}
+use Rattle.awk_run.specs.declared.end.RunEnd.TheVariants as run
+
+-- `main`'s result modulo 256
+abbrev pub status : ℤ → ℕ
+status n = unsigned_abs (int_rem_euclid n (pos 256))
+
+abbrev pub returned : Option Fault → ℤ → RunEnd
+returned (Some fault) n = run.Faulted fault
+returned None n = run.Ended (status n)
+
+-- what is answered for a machine's end, where this fault is kept
+abbrev pub run_end : Option Fault → MachineEnd → RunEnd
+run_end kept (machine.Returned n) = returned kept n
+run_end kept (machine.Trapped kind) = run.Trapped kind
+run_end kept machine.OutOfSteps = run.OutOfSteps
+run_end kept machine.Exhausted = run.Exhausted
+run_end kept machine.NoMemory = run.NoMemory
+
+-- why a module is refused: each cause only where the ones before it do not hold
+abbrev pub IsRefused : List ℕ → Refusal → Type 0
+IsRefused bytes (Decode fault) = module_at bytes ≡ Err fault
+IsRefused bytes (Invalid fault) = (m : ModuleForm) × IsModule bytes m × Untypes m fault × (ModuleOk m → ⊥)
+IsRefused bytes (Link fault) = (m : ModuleForm) × IsModule bytes m × ModuleOk m × Unlinks host_finds m fault
+
+-- A run of a typed module: from its beginning and a host in this state, to a world that holds that.
+pub record IsRunOf (tells : Type 0) (whole : ModuleForm) (start : HostState) (steps : ℕ) (e : RunEnd) (after : State) : Type 0 where
+  pub machine : MachineForm
+  pub is_new : IsNew host_finds whole machine
+  pub run-end : MachineRunEnd
+  pub told : MachineEnd
+  pub telling : told_run run-end ≡ Some told
+  pub conf : Conf
+  pub state : HostState
+  pub output : List Action
+  pub ran : Ran (host_meaning tells) machine.program steps machine.conf start output run-end conf state
+  pub answered : e ≡ run_end state.fault told
+  pub outside : after.outside ≡ state.shared.outside
+
+-- what is answered for a typed module; a run that wanted memory may not have begun
+abbrev pub RunAnswers : (tells : Type 0) → ModuleForm → HostState → ℕ → State → RunEnd → State → Type 0
+RunAnswers tells whole start steps before (run.Refused (Link cause)) after = Unlinks host_finds whole cause × (after ≡ before)
+RunAnswers tells whole start steps before (run.Refused cause) after = ⊥
+RunAnswers tells whole start steps before run.NoMemory after = IsRunOf tells whole start steps run.NoMemory after ⊎ (after ≡ before)
+RunAnswers tells whole start steps before e after = IsRunOf tells whole start steps e after
+
+-- The bytes are a typed module that is run so.
+pub record HasRun (tells : Type 0) (bytes : List ℕ) (job : JobForm) (steps : ℕ) (before : State) (e : RunEnd) (after : State) : Type 0 where
+  pub whole : ModuleForm
+  pub read : IsModule bytes whole
+  pub typed : ModuleOk whole
+  pub run : RunAnswers tells whole (state_at_start job before.outside) steps before e after
+
+-- what an answer says of the bytes and of the world
+abbrev pub Answers : (tells : Type 0) → List ℕ → JobForm → ℕ → State → RunEnd → State → Type 0
+Answers tells bytes job steps before (run.Refused (Decode cause)) after = IsRefused bytes (Decode cause) × (after ≡ before)
+Answers tells bytes job steps before (run.Refused (Invalid cause)) after = IsRefused bytes (Invalid cause) × (after ≡ before)
+Answers tells bytes job steps before run.NoMemory after = HasRun tells bytes job steps before run.NoMemory after ⊎ (after ≡ before)
+Answers tells bytes job steps before e after = HasRun tells bytes job steps before e after
+
+-- of bytes that are not read as a typed module
+abbrev pub Unread : List ℕ → RunEnd → Type 0
+Unread bytes (run.Refused (Decode cause)) = IsRefused bytes (Decode cause)
+Unread bytes (run.Refused (Invalid cause)) = IsRefused bytes (Invalid cause)
+Unread bytes run.NoMemory = Unit {0}
+Unread bytes _ = ⊥
+
+abbrev pub IsTyped : List ℕ → ModuleForm → Type 0
+IsTyped bytes m = IsModule bytes m × ModuleOk m
