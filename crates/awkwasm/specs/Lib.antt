@@ -1,1 +1,3 @@
+pub mod EndTexts
+pub mod Examples
 pub mod OsStreams

@@ -2,6 +2,7 @@
 #![tactic(auto)]
 
 mod os_world;
+mod report;
 
 use command_line::{Request, exit_status, request_of};
 use std::io;
