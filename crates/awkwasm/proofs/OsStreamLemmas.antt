@@ -6,7 +6,7 @@ use Rattle.std.proofs.Math.Path.{fun_ext}
 use Rattle.world_core.specs.Calls.{Kind, Closed as NotOpen, Reading, Writing, Opens, set_kind}
 use Rattle.awkwasm.specs.OsStreams.{os_kind, os_kinds}
 use Rattle.awkwasm.specs.declared.os_world.OsStream.{OsStream}
-use Rattle.awkwasm.specs.declared.os_world.OsStream.TheVariants.{Closed, Reader, Writer}
+use Rattle.awkwasm.specs.declared.os_world.OsStream.TheVariants.{Closed}
 
 -- a stream that is open stands in the list
 below : {F : Type 0} (streams : List (OsStream F)) (i : ℕ) (kind : Kind) → (NotOpen ≡ kind → ⊥) → os_kind (get_or streams i Closed) ≡ kind → i < length streams

@@ -1,5 +1,5 @@
 -- What is told of a run's end and of a file: the exit status, and a line with the innermost name and the number that it carries.
-use Rattle.std.specs.Prelude.{ℕ, List, [], ◌∷◌, ◌++◌, Option, Some, None, option_map, codes, decimal}
+use Rattle.std.specs.Prelude.{ℕ, List, [], ◌∷◌, ◌++◌, Option, Some, None, codes, decimal}
 use Rattle.awk_run.specs.declared.end.Refusal.{Refusal}
 use Rattle.awk_run.specs.declared.end.Refusal.TheVariants.{Decode, Invalid, Link}
 use Rattle.awk_run.specs.declared.end.RunEnd.{RunEnd}
