@@ -1,6 +1,8 @@
 //! Runs a module's file over real files.
 ghost use Rattle.std.specs.Prelude.{◌≡◌, map, IfOk};
+ghost use Rattle.awk_run.specs.ModuleRun.{Answers};
 ghost use Rattle.awkwasm.specs.EndTexts.{exit_code};
+ghost use Rattle.awkwasm.specs.Words.{job_of_words};
 
 use crate::os_world::OsWorld;
 use crate::report::{FileFault, fault_text, file_fault_text, status_of};
@@ -14,6 +16,7 @@ use std::env::VarError;
 use std::io::{Print, Read};
 use std::rt::Files;
 use std::{env, fs, io};
+use world_core::World;
 
 /// How many bytes of a module's file are read at most: one past the greatest length of a module.
 const READ_LIMIT: u64 = (1 << 24) + 1;
@@ -85,20 +88,38 @@ fn environment_of(rt: &HostRuntime) -> Result<Vec<NamedText>, Unbegun> {
     Ok(named_texts(rt.alloc(), &sorted)?)
 }
 
+/// Runs a module on operands, without assignments before them, in this environment, for so many steps at most.
+fn run_words<W: World>(
+    alloc: Global,
+    bytes: &[u8],
+    words: &[&str],
+    environment: Vec<NamedText>,
+    world: W,
+    steps: u64,
+) -> (RunEnd, W)
+    ensures { Answers W.tells bytes.now (job_of_words (map (λ word. word.now) words.now) environment.items) steps (W.state world) result.0 (W.state result.1) }
+{
+    let Ok(operands) = operands_of(alloc, words) else {
+        return (RunEnd::NoMemory, world);
+    };
+    let job = Job {
+        operands,
+        assigns: Vec::new(alloc),
+        environment,
+    };
+    run_module(alloc, bytes, &job, world, steps)
+}
+
 /// Runs the module of a task over real files.
 fn run_task(rt: &HostRuntime, task: &Task) -> Result<RunEnd, Unbegun> {
     let alloc = rt.alloc();
-    let module = module_of(rt, task.subject)?;
+    let bytes = module_of(rt, task.subject)?;
     if !task.assigns.is_empty() || !task.separators.is_empty() {
         return Err(Unbegun::NotYet);
     }
-    let job = Job {
-        operands: operands_of(alloc, &task.words)?,
-        assigns: Vec::new(alloc),
-        environment: environment_of(rt)?,
-    };
+    let environment = environment_of(rt)?;
     let world = OsWorld::new(alloc, rt, rt.stdin(), io::writer(rt));
-    let (end, _) = run_module(alloc, module.as_slice(), &job, world, task.steps);
+    let (end, _) = run_words(alloc, &bytes, &task.words, environment, world, task.steps);
     Ok(end)
 }
 
