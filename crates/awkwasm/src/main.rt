@@ -4,6 +4,8 @@
 mod module_run;
 mod os_world;
 mod report;
+#[cfg(test)]
+mod tests;
 
 use crate::module_run::exec;
 use command_line::{Request, exit_status, request_of};
