@@ -1,6 +1,13 @@
 //! awkwasm: compiles AWK scripts to WebAssembly modules, and runs scripts and modules.
 #![tactic(auto)]
 
+mod module_run;
+mod os_world;
+mod report;
+#[cfg(test)]
+mod tests;
+
+use crate::module_run::exec;
 use command_line::{Request, exit_status, request_of};
 use std::io;
 use std::process::ExitCode;
@@ -26,10 +33,7 @@ fn answer(rt: &HostRuntime, words: &[&str]) -> u8 {
             let _ = eprintln!(rt; "awkwasm: NotYet 1");
             REFUSED
         }
-        Ok(Request::Exec(_)) => {
-            let _ = eprintln!(rt; "awkwasm: NotYet");
-            REFUSED
-        }
+        Ok(Request::Exec(task)) => exec(rt, &task),
     }
 }
 

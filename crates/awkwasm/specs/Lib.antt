@@ -1,0 +1,4 @@
+pub mod EndTexts
+pub mod Examples
+pub mod OsStreams
+pub mod Words
