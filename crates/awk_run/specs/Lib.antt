@@ -1,2 +1,1 @@
 pub mod ModuleRun
-pub mod Compiled

@@ -7,7 +7,7 @@ ghost use Rattle.awkwasm.specs.Words.{job_of_words};
 use crate::os_world::OsWorld;
 use crate::report::{FileFault, fault_text, file_fault_text, status_of};
 use crate::{BAD_LINE, REFUSED};
-use awk_run::{Refusal, RunEnd, run_module};
+use awk_run::{RunEnd, run_module};
 use awk_values::Bytes;
 use command_line::Task;
 use host_calls::{Job, NamedText};
@@ -128,15 +128,6 @@ fn tell(rt: &HostRuntime, line: &[u8]) {
     let _ = rt.stderr().write_all(line);
 }
 
-/// Lets an end go.
-fn let_go(end: RunEnd) {
-    match end {
-        RunEnd::Ended(_) | RunEnd::OutOfSteps | RunEnd::Exhausted | RunEnd::NoMemory => {}
-        RunEnd::Faulted(_) | RunEnd::Trapped(_) => {}
-        RunEnd::Refused(Refusal::Decode(_) | Refusal::Invalid(_) | Refusal::Link(_)) => {}
-    }
-}
-
 /// Tells how a run ended; the answer is its exit status.
 fn tell_end(rt: &HostRuntime, end: RunEnd) -> u8
     ensures { result ≡ exit_code end }
@@ -145,7 +136,6 @@ fn tell_end(rt: &HostRuntime, end: RunEnd) -> u8
         tell(rt, line.as_slice());
     }
     let status = status_of(&end);
-    let_go(end);
     status
 }
 
