@@ -19,14 +19,12 @@ fn printing(alloc: Global, operands: Vec<Expr>) -> Result<Mid, Fail> {
 
 /// `BEGIN { print "ab", "c" }`.
 #[test]
-fn texts_one_behind_the_other(rt: HostRuntime) -> Result<(), Fail> {
+fn texts_take_their_bytes(rt: HostRuntime) -> Result<(), Fail> {
     let alloc = rt.alloc();
     let first = Expr::Str(b"\"ab\"".to_vec(alloc)?);
     let second = Expr::Str(b"\"c\"".to_vec(alloc)?);
     let mid = printing(alloc, vec![in alloc; first, second]?)?;
     let layout = lay_out(alloc, &mid)?;
-    assert_eq!(rt; layout.place(0), 0);
-    assert_eq!(rt; layout.place(1), 2);
     assert_eq!(rt; layout.bytes(), 3);
     assert_eq!(rt; layout.temporaries(), 4);
     Ok(())
