@@ -14,7 +14,7 @@ use Rattle.host_calls.specs.Imports.{host_finds}
 use Rattle.host_calls.specs.Hosts.{state_at_start}
 use Rattle.host_calls.specs.Jobs.{JobForm}
 use Rattle.awk_run.specs.ModuleRun.{run_end, IsRunOf, RunAnswers, Answers, HasRun, IsTyped, Unread}
-use Rattle.awk_run.specs.declared.end.Refusal.TheVariants.{Decode, Invalid, Link}
+use Rattle.awk_run.specs.declared.end.Refusal.TheVariants.{Compile, Decode, Invalid, Link}
 use Rattle.awk_run.specs.declared.end.RunEnd.{RunEnd}
 use Rattle.awk_run.specs.declared.end.RunEnd.TheVariants as run
 
@@ -34,6 +34,7 @@ did_answers tells whole start steps before after a n t c s d e =
 
 -- of a typed module that the bytes are
 pub typed_answers : (tells : Type 0) (bytes : List ℕ) (job : JobForm) (steps : ℕ) (before after : State) (whole : ModuleForm) (e : RunEnd) → IsTyped bytes whole → RunAnswers tells whole (state_at_start job before.outside) steps before e after → Answers tells bytes job steps before e after
+typed_answers tells bytes job steps before after whole (run.Refused (Compile f)) t r = absurd r
 typed_answers tells bytes job steps before after whole (run.Refused (Decode f)) t r = absurd r
 typed_answers tells bytes job steps before after whole (run.Refused (Invalid f)) t r = absurd r
 typed_answers tells bytes job steps before after whole (run.Refused (Link f)) t r = record { whole = whole; read = t.0; typed = t.1; run = r }
@@ -46,6 +47,7 @@ typed_answers tells bytes job steps before after whole run.Exhausted t r = recor
 typed_answers tells bytes job steps before after whole (run.Trapped k) t r = record { whole = whole; read = t.0; typed = t.1; run = r }
 
 pub unread_answers : (tells : Type 0) (bytes : List ℕ) (job : JobForm) (steps : ℕ) (before : State) (e : RunEnd) → Unread bytes e → Answers tells bytes job steps before e before
+unread_answers tells bytes job steps before (run.Refused (Compile f)) r = absurd r
 unread_answers tells bytes job steps before (run.Refused (Decode f)) r = (r, refl)
 unread_answers tells bytes job steps before (run.Refused (Invalid f)) r = (r, refl)
 unread_answers tells bytes job steps before (run.Refused (Link f)) r = absurd r

@@ -1,1 +1,4 @@
 pub mod ModuleRun
+pub mod Beyond
+pub mod Compiled
+pub mod ScriptRuns

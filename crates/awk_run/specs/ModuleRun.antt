@@ -1,5 +1,5 @@
 -- What running a module answers: why it is not run, or how its run ended and what became of the world.
-use Rattle.std.specs.Prelude.{◌≡◌, ◌⊎◌, ℕ, ℤ, pos, unsigned_abs, List, Option, Some, None, Result, Ok, Err, length}
+use Rattle.std.specs.Prelude.{◌≡◌, ◌≢◌, ◌⊎◌, ℕ, ℤ, pos, unsigned_abs, List, Option, Some, None, Result, Ok, Err, length}
 use Rattle.std.specs.Int.{int_rem_euclid}
 use Rattle.awk_values.specs.declared.fault.Fault.{Fault}
 use Rattle.world_core.specs.WorldState.{Action, State}
@@ -14,6 +14,7 @@ use Rattle.wasm_machine.specs.Links.{IsNew, Refuses as Unlinks}
 use Rattle.wasm_machine.specs.Machines.{Conf}
 use Rattle.wasm_machine.specs.Runs.{MachineForm, Ran, told_run}
 use Rattle.wasm_machine.specs.declared.link.LinkFault.{LinkFault}
+use Rattle.wasm_machine.specs.declared.link.LinkFault.TheVariants as link
 use Rattle.wasm_machine.specs.declared.state.RunEnd.{RunEnd as MachineRunEnd}
 use Rattle.wasm_machine.specs.declared.machine.MachineEnd.{MachineEnd}
 use Rattle.wasm_machine.specs.declared.machine.MachineEnd.TheVariants as machine
@@ -43,11 +44,22 @@ run_end kept machine.OutOfSteps = run.OutOfSteps
 run_end kept machine.Exhausted = run.Exhausted
 run_end kept machine.NoMemory = run.NoMemory
 
--- why a module is refused: each cause only where the ones before it do not hold
+-- the module of these bytes, which the typing rules do not allow
+pub record IsInvalid (bytes : List ℕ) (fault : InvalidFault) : Type 0 where
+  pub whole : ModuleForm
+  pub read : IsModule bytes whole
+  pub cause : Untypes whole fault
+  pub untyped : ModuleOk whole → ⊥
+
+-- why bytes are no typed module
 abbrev pub IsRefused : List ℕ → Refusal → Type 0
 IsRefused bytes (Decode fault) = module_at bytes ≡ Err fault
-IsRefused bytes (Invalid fault) = (m : ModuleForm) × IsModule bytes m × Untypes m fault × (ModuleOk m → ⊥)
-IsRefused bytes (Link fault) = (m : ModuleForm) × IsModule bytes m × ModuleOk m × Unlinks host_finds m fault
+IsRefused bytes (Invalid fault) = IsInvalid bytes fault
+IsRefused bytes _ = ⊥
+
+-- why a typed module does not link
+abbrev pub IsUnlinked : ModuleForm → LinkFault → Type 0
+IsUnlinked whole cause = (cause ≢ link.NoMemory) × Unlinks host_finds whole cause
 
 -- A run of a typed module: from its beginning and a host in this state, to a world that holds that.
 pub record IsRunOf (tells : Type 0) (whole : ModuleForm) (start : HostState) (steps : ℕ) (e : RunEnd) (after : State) : Type 0 where
@@ -65,7 +77,7 @@ pub record IsRunOf (tells : Type 0) (whole : ModuleForm) (start : HostState) (st
 
 -- what is answered for a typed module; a run that wanted memory may not have begun
 abbrev pub RunAnswers : (tells : Type 0) → ModuleForm → HostState → ℕ → State → RunEnd → State → Type 0
-RunAnswers tells whole start steps before (run.Refused (Link cause)) after = Unlinks host_finds whole cause × (after ≡ before)
+RunAnswers tells whole start steps before (run.Refused (Link cause)) after = IsUnlinked whole cause × (after ≡ before)
 RunAnswers tells whole start steps before (run.Refused cause) after = ⊥
 RunAnswers tells whole start steps before run.NoMemory after = IsRunOf tells whole start steps run.NoMemory after ⊎ (after ≡ before)
 RunAnswers tells whole start steps before e after = IsRunOf tells whole start steps e after

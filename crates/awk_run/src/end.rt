@@ -2,6 +2,7 @@
 ghost use Rattle.std.specs.Prelude.{◌≡◌};
 ghost use Rattle.awk_run.specs.ModuleRun.{run_end, status};
 
+use crate::fault::CompileFault;
 use awk_values::Fault;
 use module_decoder::DecodeFault;
 use module_validator::InvalidFault;
@@ -11,6 +12,8 @@ use wasm_store::TrapKind;
 /// Why something is not run.
 #[derive(Debug, PartialEq, Eq, Drop)]
 pub enum Refusal {
+    /// The script is not compiled.
+    Compile(CompileFault),
     /// The bytes are no module.
     Decode(DecodeFault),
     /// The typing rules do not allow the module.

@@ -1,10 +1,15 @@
-//! Runs modules in the sandbox's host.
+//! Compiles scripts, and runs scripts and modules in the sandbox's host.
 #![tactic(auto)]
 
+mod compiler;
 mod end;
+mod fault;
 mod module;
+mod script;
 #[cfg(test)]
 mod tests;
 
+pub use compiler::compile;
 pub use end::{Refusal, RunEnd};
-pub use module::run_module;
+pub use fault::CompileFault;
+pub use module::{run_module, run_script};

@@ -1,11 +1,14 @@
-//! Modules in the sandbox.
+//! Modules and scripts in the sandbox.
 ghost use Rattle.std.specs.Prelude.{◌≡◌, IfOk, IfErr};
 ghost use Rattle.awk_run.specs.ModuleRun.{Answers, IsTyped, RunAnswers, Unread};
+ghost use Rattle.awk_run.specs.ScriptRuns.{ScriptAnswers};
 ghost use Rattle.host_calls.specs.Hosts.{host_state};
 ghost use Rattle.wasm_types.specs.View.{view_module};
 ghost use Rattle.host_calls.specs.Jobs.{job_of};
 
+use crate::compiler::compile;
 use crate::end::{Refusal, RunEnd, run_end};
+use crate::fault::CompileFault;
 use host_calls::{Host, Job};
 use module_decoder::{DecodeFault, decode};
 use module_validator::{InvalidFault, ValidModule, validate};
@@ -68,4 +71,26 @@ pub fn run_module<W: World>(
         Err(world) => return (RunEnd::NoMemory, world),
     };
     run_valid(alloc, valid, host, steps)
+}
+
+/// Runs a script in a job over a world, for so many steps of its module at most, and gives the world back.
+///
+/// The answer is [`RunEnd::Refused`] with [`Refusal::Compile`] where the script is not compiled, and never otherwise; nothing is done to the world then.
+/// [`RunEnd::NoMemory`] may come instead of any other answer, where memory was wanting; what went out by then is how the script's output begins.
+/// Any other answer is how the script ends, with its output; [`RunEnd::OutOfSteps`] where it goes on.
+#[tactic(auto, using(crate::proofs::ScriptRuns::script_answers))]
+pub fn run_script<W: World>(
+    alloc: Global,
+    script: &[u8],
+    job: &Job,
+    world: W,
+    steps: u64,
+) -> (RunEnd, W)
+    ensures { ScriptAnswers W.tells script.now (job_of job.now) steps (W.state world) result.0 (W.state result.1) }
+{
+    match compile(alloc, script) {
+        Ok(module) => run_module(alloc, &module, job, world, steps),
+        Err(CompileFault::NoMemory) => (RunEnd::NoMemory, world),
+        Err(fault) => (RunEnd::Refused(Refusal::Compile(fault)), world),
+    }
 }

@@ -1,3 +1,5 @@
+mod scripts;
+
 use super::*;
 use host_calls::Job;
 use module_decoder::DecodeFault;
@@ -47,7 +49,10 @@ fn end_of(rt: &HostRuntime, parts: &[&str]) -> Result<RunEnd, AllocError> {
     }
     let world = MemWorld::new(rt.alloc(), MemFile::absent(), MemFile::absent());
     let (end, _) = run_module(rt.alloc(), &bytes, &Job::empty(rt.alloc()), world, 1000000);
-    Ok(end)
+    match end {
+        RunEnd::NoMemory => Err(AllocError),
+        end => Ok(end),
+    }
 }
 
 #[test]

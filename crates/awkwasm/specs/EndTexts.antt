@@ -1,7 +1,9 @@
 -- What is told of a run's end and of a file: the exit status, and a line with the innermost name and the number that it carries.
 use Rattle.std.specs.Prelude.{ℕ, List, [], ◌∷◌, ◌++◌, Option, Some, None, codes, decimal}
+use Rattle.awk_run.specs.declared.fault.CompileFault.{CompileFault}
+use Rattle.awk_run.specs.declared.fault.CompileFault.TheVariants as compiling
 use Rattle.awk_run.specs.declared.end.Refusal.{Refusal}
-use Rattle.awk_run.specs.declared.end.Refusal.TheVariants.{Decode, Invalid, Link}
+use Rattle.awk_run.specs.declared.end.Refusal.TheVariants.{Compile, Decode, Invalid, Link}
 use Rattle.awk_run.specs.declared.end.RunEnd.{RunEnd}
 use Rattle.awk_run.specs.declared.end.RunEnd.TheVariants.{Ended, Exhausted, Faulted, NoMemory, OutOfSteps, Refused, Trapped}
 use Rattle.awk_values.specs.Faults.{fault_name}
@@ -29,6 +31,11 @@ told_with word (Some number) = Numbered word number
 abbrev pub told : Name → Told
 told name = told_with name.word.now name.number
 
+abbrev pub compile_name : CompileFault → Told
+compile_name compiling.TooLarge = Plain (codes "TooLarge")
+compile_name (compiling.NotYet line) = Numbered (codes "NotYet") line
+compile_name compiling.NoMemory = Plain (codes "NoMemory")
+
 abbrev pub decode_name : DecodeFault → Told
 decode_name decoding.BadHeader = Plain (codes "BadHeader")
 decode_name (decoding.Truncated length) = Numbered (codes "Truncated") length
@@ -53,6 +60,7 @@ link_name linking.SegmentBounds = Plain (codes "SegmentBounds")
 link_name linking.NoMemory = Plain (codes "NoMemory")
 
 abbrev pub refusal_name : Refusal → Told
+refusal_name (Compile fault) = compile_name fault
 refusal_name (Decode fault) = decode_name fault
 refusal_name (Invalid fault) = invalid_name fault
 refusal_name (Link fault) = link_name fault

@@ -1,7 +1,8 @@
 -- Lines and statuses of ends, computed from the definitions.
 use Rattle.std.specs.Prelude.{◌≡◌, [], codes, refl}
 use Rattle.std.specs.Fmt.{digits}
-use Rattle.awk_run.specs.declared.end.Refusal.TheVariants.{Decode, Invalid, Link}
+use Rattle.awk_run.specs.declared.end.Refusal.TheVariants.{Compile, Decode, Invalid, Link}
+use Rattle.awk_run.specs.declared.fault.CompileFault.TheVariants.{NotYet}
 use Rattle.awk_run.specs.declared.end.RunEnd.TheVariants.{Ended, Exhausted, Faulted, NoMemory, OutOfSteps, Refused, Trapped}
 use Rattle.awk_values.specs.declared.fault.Fault.TheVariants.{Range}
 use Rattle.module_decoder.specs.declared.fault.DecodeFault.TheVariants.{BadInteger, Truncated}
@@ -34,6 +35,10 @@ truncated_line = refl
 pub type_line : end_text (Refused (Invalid (BadType 0))) ≡ codes "awkwasm: BadType 0\n"
 unfolding digits
 type_line = refl
+
+pub not_yet_line : end_text (Refused (Compile (NotYet 1))) ≡ codes "awkwasm: NotYet 1\n"
+unfolding digits
+not_yet_line = refl
 
 pub no_main_line : end_text (Refused (Link NoMain)) ≡ codes "awkwasm: NoMain\n"
 no_main_line = refl

@@ -1,14 +1,14 @@
 //! awkwasm: compiles AWK scripts to WebAssembly modules, and runs scripts and modules.
 #![tactic(auto)]
 
-mod module_run;
 mod os_world;
 mod report;
+mod tasks;
 #[cfg(test)]
 mod tests;
 
-use crate::module_run::exec;
-use command_line::{Request, exit_status, request_of};
+use crate::tasks::carry_out;
+use command_line::{exit_status, request_of};
 use std::io;
 use std::process::ExitCode;
 
@@ -21,7 +21,7 @@ const NO_MEMORY: u8 = 5;
 /// The exit status of a command line that is refused.
 const BAD_LINE: u8 = 8;
 
-/// Does what the words ask for, or says what is missing; the answer is the exit status.
+/// Does what the words ask for; the answer is the exit status.
 fn answer(rt: &HostRuntime, words: &[&str]) -> u8 {
     // A failing standard stream changes no status.
     match request_of(rt.alloc(), words) {
@@ -29,11 +29,7 @@ fn answer(rt: &HostRuntime, words: &[&str]) -> u8 {
             let _ = error.print(rt);
             exit_status(&error)
         }
-        Ok(Request::Compile { .. } | Request::Run(_)) => {
-            let _ = eprintln!(rt; "awkwasm: NotYet 1");
-            REFUSED
-        }
-        Ok(Request::Exec(task)) => exec(rt, &task),
+        Ok(request) => carry_out(rt, &request),
     }
 }
 

@@ -1,8 +1,8 @@
 //! What is told of a run's end and of a file: the exit status, and a line for the standard error.
 ghost use Rattle.std.specs.Prelude.{◌≡◌, option_map, IfOk};
-ghost use Rattle.awkwasm.specs.EndTexts.{decode_name, end_name, end_text, exit_code, file_text, invalid_name, line_of, link_name, refusal_name, told, trap_word, Plain, Numbered};
+ghost use Rattle.awkwasm.specs.EndTexts.{compile_name, decode_name, end_name, end_text, exit_code, file_text, invalid_name, line_of, link_name, refusal_name, told, trap_word, Plain, Numbered};
 
-use awk_run::{Refusal, RunEnd};
+use awk_run::{CompileFault, Refusal, RunEnd};
 use itoa::Buffer;
 use module_decoder::DecodeFault;
 use module_validator::InvalidFault;
@@ -40,6 +40,16 @@ impl Name {
             word,
             number: Some(number),
         }
+    }
+}
+
+fn compile_name(fault: &CompileFault) -> Name
+    ensures { told result ≡ compile_name fault.now }
+{
+    match fault {
+        CompileFault::TooLarge => Name::alone("TooLarge"),
+        CompileFault::NotYet(line) => Name::with("NotYet", *line),
+        CompileFault::NoMemory => Name::alone("NoMemory"),
     }
 }
 
@@ -85,6 +95,7 @@ fn refusal_name(refusal: &Refusal) -> Name
     ensures { told result ≡ refusal_name refusal.now }
 {
     match refusal {
+        Refusal::Compile(fault) => compile_name(fault),
         Refusal::Decode(fault) => decode_name(fault),
         Refusal::Invalid(fault) => invalid_name(fault),
         Refusal::Link(fault) => link_name(fault),

@@ -15,3 +15,5 @@ pub mod Lists
 pub mod Steps
 pub mod Depth
 pub mod Parts
+pub mod HostAnswers
+pub mod Existence

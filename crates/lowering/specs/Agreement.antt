@@ -1,5 +1,5 @@
 -- What a module's run tells the outside, and when it agrees with a script: with what the script (or its mid code) does in a job and a world.
-use Rattle.std.specs.Prelude.{◌≡◌, ℕ, ◌+◌, ◌*◌, ◌≤◌, ℤ, pos, unsigned_abs, List, [], ◌++◌, Option, Some, None, ⊤}
+use Rattle.std.specs.Prelude.{◌≡◌, ℕ, ◌+◌, ◌*◌, ◌^◌, ◌<◌, ◌≤◌, ℤ, pos, unsigned_abs, List, [], ◌++◌, Option, Some, None, ⊤}
 use Rattle.std.specs.Int.{int_rem_euclid}
 use Rattle.awk_values.specs.declared.fault.Fault.{Fault}
 use Rattle.awk_state.specs.Jobs.{JobForm as PlainJob, fault_of_job}
@@ -50,6 +50,11 @@ pub record MayEnd (m : ModuleForm) (job : JobForm) (outside : Outside) (steps : 
   pub output : List Action
   pub ran : Ran (host_meaning ⊤) machine.program steps machine.conf (state_at_start job outside) output run-end conf state
   pub ending : ending_told state.fault told output ≡ Some e
+
+-- A module has a run of each number of steps below 2^31, the count of numbers that a host can give; nothing is said of longer ones, where
+-- the host may have no free number left.
+abbrev pub HasRuns : ModuleForm → JobForm → Outside → Type 0
+HasRuns m job outside = (steps : ℕ) → steps < 2 ^ 31 → (e : ModuleEnding) × MayEnd m job outside steps e
 
 -- The job as the script has it.
 abbrev pub plain : JobForm → PlainJob

@@ -1,0 +1,55 @@
+//! From a script to a module's bytes.
+ghost use Rattle.std.specs.Prelude.{◌≡◌, ◌⊎◌, List, IfOk, IfErr};
+ghost use Rattle.awk_run.specs.Compiled.{HasNoBytes, IsCompiled, IsModuleOf, IsNotCompiled};
+ghost use Rattle.mid_code.specs.View.{view_mid};
+
+use crate::fault::CompileFault;
+use crate::script::code_of;
+use lower_layout::{LowerFault, lay_out};
+use lowering::lower;
+use mid_code::Mid;
+use module_writer::{WriteFault, write};
+use std::alloc::Global;
+
+/// The greatest length of a script.
+const MOST_BYTES: usize = 1 << 20;
+
+/// The bytes of a program's module.
+fn bytes_of(alloc: Global, mid: &Mid) -> Result<Vec<u8>, CompileFault>
+    ensures ok { IfOk result (λ v. IsModuleOf v.items (view_mid mid.now)) }
+    ensures err { IfErr result (HasNoBytes (view_mid mid.now)) }
+{
+    let layout = match lay_out(alloc, mid) {
+        Ok(layout) => layout,
+        Err(LowerFault::TooLarge) => return Err(CompileFault::TooLarge),
+        Err(LowerFault::NoMemory) => return Err(CompileFault::NoMemory),
+    };
+    let module = match lower(alloc, mid, &layout) {
+        Ok(module) => module,
+        Err(_) => return Err(CompileFault::NoMemory),
+    };
+    match write(alloc, &module) {
+        Ok(bytes) => Ok(bytes),
+        Err(WriteFault::TooLarge) => Err(CompileFault::TooLarge),
+        Err(WriteFault::NoMemory) => Err(CompileFault::NoMemory),
+    }
+}
+
+/// The bytes of a module that does what a script does, in every job and world (POSIX.1-2017 awk, in the profile of this project).
+///
+/// # Errors
+///
+/// [`CompileFault::TooLarge`] of a script past 1,048,576 bytes, or whose module would pass the limits of modules.
+/// [`CompileFault::NotYet`] of every script that is not one action of BEGIN whose statements print strings and sums of constants.
+/// [`CompileFault::NoMemory`] where memory was wanting.
+#[tactic(auto, using(crate::proofs::Compiling::compiled, crate::proofs::Compiling::no_script, crate::proofs::Compiling::no_bytes))]
+pub fn compile(alloc: Global, script: &[u8]) -> Result<Vec<u8>, CompileFault>
+    ensures compiled { IfOk result (λ v. IsCompiled script.now v.items) }
+    ensures refused { IfErr result (IsNotCompiled script.now) }
+{
+    if script.len() > MOST_BYTES {
+        return Err(CompileFault::TooLarge);
+    }
+    let mid = code_of(alloc, script)?;
+    bytes_of(alloc, &mid)
+}

@@ -1,0 +1,226 @@
+//! What the command line asks for, over real files.
+ghost use Rattle.std.specs.Prelude.{◌≡◌, map, IfOk};
+ghost use Rattle.awk_run.specs.ModuleRun.{Answers};
+ghost use Rattle.awk_run.specs.ScriptRuns.{ScriptAnswers};
+ghost use Rattle.awkwasm.specs.EndTexts.{exit_code};
+ghost use Rattle.awkwasm.specs.Words.{job_of_words};
+ghost use Rattle.host_calls.specs.Jobs.{job_of};
+
+use crate::os_world::OsWorld;
+use crate::report::{FileFault, fault_text, file_fault_text, status_of};
+use crate::{BAD_LINE, REFUSED};
+use awk_run::{CompileFault, Refusal, RunEnd, compile, run_module, run_script};
+use awk_values::Bytes;
+use command_line::{Request, Task};
+use host_calls::{Job, NamedText};
+use std::alloc::{AllocError, Global};
+use std::env::VarError;
+use std::io::{Print, Read};
+use std::rt::Files;
+use std::{env, fs, io};
+use world_core::World;
+
+/// How many bytes of a script's file are read at most: one past the greatest length of a script.
+const SCRIPT_LIMIT: u64 = (1 << 20) + 1;
+
+/// How many bytes of a module's file are read at most: one past the greatest length of a module.
+const MODULE_LIMIT: u64 = (1 << 24) + 1;
+
+/// Why a task is not done.
+enum Undone {
+    /// A file that the line names failed.
+    File(FileFault),
+    /// The script is not compiled.
+    Refused(CompileFault),
+    /// It has options that are not carried out yet.
+    NotYet,
+    /// The environment is not text.
+    Environment,
+    NoMemory,
+}
+
+impl From<AllocError> for Undone {
+    fn from(_error: AllocError) -> Undone {
+        Undone::NoMemory
+    }
+}
+
+/// The first bytes of a file, so many at most.
+fn read_file<R: Files>(alloc: Global, files: &R, path: &str, limit: u64) -> io::Result<Vec<u8>> {
+    let mut bytes = Vec::new(alloc);
+    fs::open(files, path)?.take(limit).read_to_end(&mut bytes)?;
+    Ok(bytes)
+}
+
+/// The first bytes of a file that the line names.
+fn file_of(rt: &HostRuntime, path: &str, limit: u64) -> Result<Vec<u8>, Undone> {
+    match read_file(rt.alloc(), rt, path, limit) {
+        Ok(bytes) => Ok(bytes),
+        Err(error) if error.kind() == io::ErrorKind::OutOfMemory => Err(Undone::NoMemory),
+        Err(_) => Err(Undone::File(FileFault::CannotRead)),
+    }
+}
+
+/// The words, as operands.
+fn operands_of(alloc: Global, words: &[&str]) -> Result<Vec<Bytes>, AllocError>
+    ensures { IfOk result (λ operands. operands.items ≡ map (λ word. word.now) words.now) }
+{
+    let mut operands = Vec::new(alloc);
+    for word in words {
+        operands.push(Bytes::from_slice(alloc, word.as_bytes())?)?;
+    }
+    Ok(operands)
+}
+
+/// The pairs, in order, as bytes.
+fn named_texts(alloc: Global, pairs: &[(String, String)]) -> Result<Vec<NamedText>, AllocError> {
+    let mut texts = Vec::new(alloc);
+    for (name, text) in pairs {
+        texts.push(NamedText {
+            name: Bytes::from_slice(alloc, name.as_bytes())?,
+            text: Bytes::from_slice(alloc, text.as_bytes())?,
+        })?;
+    }
+    Ok(texts)
+}
+
+/// The environment, sorted by name.
+fn environment_of(rt: &HostRuntime) -> Result<Vec<NamedText>, Undone> {
+    let pairs = match env::vars(rt) {
+        Ok(pairs) => pairs,
+        Err(VarError::OutOfMemory) => return Err(Undone::NoMemory),
+        Err(_) => return Err(Undone::Environment),
+    };
+    let mut sorted: Vec<(String, String)> = pairs.collect(rt.alloc())?;
+    sorted.sort_by(|a, b| a.0.cmp(&b.0))?;
+    Ok(named_texts(rt.alloc(), &sorted)?)
+}
+
+/// A job of operands, without assignments before them, in this environment.
+fn job_on(alloc: Global, words: &[&str], environment: Vec<NamedText>) -> Result<Job, AllocError>
+    ensures { IfOk result (λ job. job_of job ≡ job_of_words (map (λ word. word.now) words.now) environment.items) }
+{
+    Ok(Job {
+        operands: operands_of(alloc, words)?,
+        assigns: Vec::new(alloc),
+        environment,
+    })
+}
+
+/// Runs a module on operands in this environment, for so many steps at most.
+fn module_on<W: World>(
+    alloc: Global,
+    bytes: &[u8],
+    words: &[&str],
+    environment: Vec<NamedText>,
+    world: W,
+    steps: u64,
+) -> (RunEnd, W)
+    ensures { Answers W.tells bytes.now (job_of_words (map (λ word. word.now) words.now) environment.items) steps (W.state world) result.0 (W.state result.1) }
+{
+    match job_on(alloc, words, environment) {
+        Ok(job) => run_module(alloc, bytes, &job, world, steps),
+        Err(_) => (RunEnd::NoMemory, world),
+    }
+}
+
+/// Runs a script on operands in this environment, for so many steps at most.
+fn script_on<W: World>(
+    alloc: Global,
+    script: &[u8],
+    words: &[&str],
+    environment: Vec<NamedText>,
+    world: W,
+    steps: u64,
+) -> (RunEnd, W)
+    ensures { ScriptAnswers W.tells script.now (job_of_words (map (λ word. word.now) words.now) environment.items) steps (W.state world) result.0 (W.state result.1) }
+{
+    match job_on(alloc, words, environment) {
+        Ok(job) => run_script(alloc, script, &job, world, steps),
+        Err(_) => (RunEnd::NoMemory, world),
+    }
+}
+
+/// The environment of a task whose options are carried out.
+fn environment_for(rt: &HostRuntime, task: &Task) -> Result<Vec<NamedText>, Undone> {
+    if !task.assigns.is_empty() || !task.separators.is_empty() {
+        return Err(Undone::NotYet);
+    }
+    environment_of(rt)
+}
+
+fn run_task(rt: &HostRuntime, task: &Task) -> Result<RunEnd, Undone> {
+    let environment = environment_for(rt, task)?;
+    let world = OsWorld::new(rt.alloc(), rt, rt.stdin(), io::writer(rt));
+    let script = task.subject.as_bytes();
+    let alloc = rt.alloc();
+    let (end, _) = script_on(alloc, script, &task.words, environment, world, task.steps);
+    Ok(end)
+}
+
+fn exec_task(rt: &HostRuntime, task: &Task) -> Result<RunEnd, Undone> {
+    let bytes = file_of(rt, task.subject, MODULE_LIMIT)?;
+    let environment = environment_for(rt, task)?;
+    let world = OsWorld::new(rt.alloc(), rt, rt.stdin(), io::writer(rt));
+    let alloc = rt.alloc();
+    let (end, _) = module_on(alloc, &bytes, &task.words, environment, world, task.steps);
+    Ok(end)
+}
+
+/// Compiles a script's file to a module's. Nothing is written unless the script is accepted.
+fn compile_file(rt: &HostRuntime, script_file: &str, out: &str) -> Result<RunEnd, Undone> {
+    let script = file_of(rt, script_file, SCRIPT_LIMIT)?;
+    let module = match compile(rt.alloc(), &script) {
+        Ok(module) => module,
+        Err(CompileFault::NoMemory) => return Err(Undone::NoMemory),
+        Err(fault) => return Err(Undone::Refused(fault)),
+    };
+    match fs::write(rt, out, &module) {
+        Ok(()) => Ok(RunEnd::Ended(0)),
+        Err(_) => Err(Undone::File(FileFault::CannotWrite)),
+    }
+}
+
+/// Writes a line to the standard error. That it fails changes nothing.
+fn tell(rt: &HostRuntime, line: &[u8]) {
+    let _ = rt.stderr().write_all(line);
+}
+
+/// Tells how a run ended; the answer is its exit status.
+fn tell_end(rt: &HostRuntime, end: RunEnd) -> u8
+    ensures { result ≡ exit_code end }
+{
+    if let Ok(line) = fault_text(rt.alloc(), &end) {
+        tell(rt, line.as_slice());
+    }
+    let status = status_of(&end);
+    status
+}
+
+/// Tells what became of a task where that is no status of its own; the answer is the exit status.
+fn tell_task(rt: &HostRuntime, done: Result<RunEnd, Undone>) -> u8 {
+    match done {
+        Ok(end) => tell_end(rt, end),
+        Err(Undone::NoMemory) => tell_end(rt, RunEnd::NoMemory),
+        Err(Undone::Refused(fault)) => tell_end(rt, RunEnd::Refused(Refusal::Compile(fault))),
+        Err(Undone::File(fault)) => {
+            tell(rt, file_fault_text(&fault));
+            BAD_LINE
+        }
+        Err(Undone::Environment) => BAD_LINE,
+        Err(Undone::NotYet) => {
+            tell(rt, "awkwasm: NotYet\n".as_bytes());
+            REFUSED
+        }
+    }
+}
+
+/// Does what a command line asks for, over real files; the answer is the exit status.
+pub(crate) fn carry_out(rt: &HostRuntime, request: &Request) -> u8 {
+    let done = match request {
+        Request::Compile { script_file, out } => compile_file(rt, script_file, out),
+        Request::Run(task) => run_task(rt, task),
+        Request::Exec(task) => exec_task(rt, task),
+    };
+    tell_task(rt, done)
+}
