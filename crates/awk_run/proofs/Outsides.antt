@@ -15,11 +15,11 @@ use Rattle.wasm_machine.specs.declared.host.HostAnswer.TheVariants as told
 use Rattle.wasm_machine.specs.declared.state.End.{End}
 use Rattle.wasm_machine.specs.declared.state.RunEnd.{RunEnd}
 use Rattle.wasm_machine.specs.declared.state.RunEnd.TheVariants.{Ended, OutOfSteps, NoMemory}
+use Rattle.lowering.proofs.Refine.{premise}
 use Rattle.host_calls.specs.HostState.{HostState, and_then, decode}
-use Rattle.host_calls.specs.HostStep.{Acts, Answered, Called, Given, PremiseOf, StepOf, Wanted, acted, acts, given_by, host_meaning, refused, refuses, step, with_output}
+use Rattle.host_calls.specs.HostStep.{Acts, Answered, Called, Given, StepOf, Wanted, acted, acts, given_by, host_meaning, refused, refuses, step, with_output}
 use Rattle.host_calls.specs.Imports.{import_answer, import_arguments, import_at}
 use Rattle.host_calls.specs.declared.import.Import.{Import}
-use Rattle.host_calls.specs.declared.import.Import.TheVariants.{Of, Over, Arg, Drop}
 
 abbrev Kept : HostState → List Action → HostState → Type 0
 Kept h out h' = h'.shared.outside ≡ after out h.shared.outside
@@ -60,14 +60,6 @@ answered_kept (Err kind) s a s' out k r = nothing s s' out r.1 r.2
 found_kept : (x : Option Import) (s : HostState) (words : List Word) (memory : List ℕ) (a : HostAnswer) (s' : HostState) (out : List Action) → StepOf x s words memory a s' out → Kept s out s'
 found_kept None s words memory a s' out r = nothing s s' out r.1 r.2
 found_kept (Some i) s words memory a s' out r = answered_kept (step r.0 i words memory s) s a s' out (step_kept r.0 i words memory s) r.2
-
--- a world that tells its state meets every import's premise
-pub premise : (tells : Type 0) (x : Option Import) → tells → PremiseOf x tells
-premise tells None t = tt
-premise tells (Some (Of p)) t = tt
-premise tells (Some (Over l)) t = t
-premise tells (Some Arg) t = tt
-premise tells (Some Drop) t = tt
 
 called_kept : (x : Option Import) (s : HostState) (words : List Word) (memory : List ℕ) (a : HostAnswer) (s' : HostState) (out : List Action) → Called ⊤ x s words memory a s' out → Kept s out s'
 called_kept x s words memory a s' out c = found_kept x (with_output [] s) words memory a (with_output out s') out (c.step (premise ⊤ x tt) [])

@@ -1,6 +1,7 @@
 -- What the module of a script did is what the script does.
 use Rattle.std.proofs.Common.{◌≡◌, ◌≢◌, ◌⊎◌, inl, inr, ℕ, zero, suc, ◌+◌, ◌≤◌, ℤ, List, [], ◌∷◌, ◌++◌, map, Option, Some, None, Result, Ok, Err, Bool, true, false, refl, sym, ap, ◌∙◌, subst, append-nil, append_assoc, arith, true≢false}
 use Rattle.std.specs.Prelude.{⊤}
+use Rattle.std.specs.Result.{is_ok}
 use Rattle.awk_values.specs.declared.fault.Fault.{Fault}
 use Rattle.awk_tree.specs.Item.{Item}
 use Rattle.world_core.specs.WorldState.{Action, State, after as outside_after}
@@ -45,7 +46,8 @@ use Rattle.awk_run.specs.declared.end.Refusal.TheVariants.{Compile, Decode, Inva
 use Rattle.awk_run.specs.declared.end.RunEnd.{RunEnd}
 use Rattle.awk_run.specs.declared.end.RunEnd.TheVariants as run
 use Rattle.awk_run.proofs.MeaningMaps.{ran_by}
-use Rattle.awk_run.proofs.Outsides.{premise, ran_kept}
+use Rattle.lowering.proofs.Refine.{premise}
+use Rattle.awk_run.proofs.Outsides.{ran_kept}
 
 -- In a world that tells its state, calls mean what they mean in every such world.
 
@@ -149,10 +151,6 @@ did tells bytes v c job steps before after e r t p = subst (λ (x : RunEnd). Doe
   }
 
 -- Refusals that a compiled script does not meet.
-
-abbrev is_ok : {A E : Type 0} → Result A E → Bool
-is_ok (Ok x) = true
-is_ok (Err e) = false
 
 all_there : (ns : List ℕ) → first_none (map Some ns) ≡ None
 all_there [] = refl

@@ -1,5 +1,6 @@
 -- The script that bytes are: there is one at most, and why there is none that is compiled.
 use Rattle.std.proofs.Common.{◌≡◌, ◌⊎◌, inl, inr, ℕ, List, Bool, true, false, Result, Ok, Err, sym, ap, ◌∙◌, subst, true≢false}
+use Rattle.std.specs.Result.{is_ok}
 use Rattle.awk_tokens.specs.Cutting.{IsTokens, Spelled}
 use Rattle.awk_tokens.specs.declared.token.TokenFault.{TokenFault}
 use Rattle.awk_tokens.specs.declared.token.TokenFault.TheVariants.{BadByte, OpenString, OpenEre}
@@ -32,10 +33,6 @@ pub unparsed : (tokens : List Spelled) (e : CompileFault) → IsUnparsed tokens 
 unparsed tokens TooLarge r = absurd r
 unparsed tokens (NotYet line) r = λ s p c. r s p
 unparsed tokens NoMemory r = tt
-
-abbrev is_ok : {A E : Type 0} → Result A E → Bool
-is_ok (Ok x) = true
-is_ok (Err e) = false
 
 -- bytes that are not cut into tokens are no script
 no_tokens : (bytes : List ℕ) (e : TokenFault) → IsTokens bytes (Err e) → (s : List Item) → IsScriptOf bytes s → ⊥

@@ -55,14 +55,14 @@ fn run_valid<W: World>(alloc: Global, valid: ValidModule, host: Host<W>, steps: 
 #[tactic(auto, using(crate::proofs::Runs::unread_answers))]
 pub fn run_module<W: World>(
     alloc: Global,
-    module: &[u8],
+    bytes: &[u8],
     job: &Job,
     world: W,
     steps: u64,
 ) -> (RunEnd, W)
-    ensures { Answers W.tells module.now (job_of job.now) steps (W.state world) result.0 (W.state result.1) }
+    ensures { Answers W.tells bytes.now (job_of job.now) steps (W.state world) result.0 (W.state result.1) }
 {
-    let valid = match read(alloc, module) {
+    let valid = match read(alloc, bytes) {
         Ok(valid) => valid,
         Err(end) => return (end, world),
     };

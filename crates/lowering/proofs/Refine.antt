@@ -472,7 +472,8 @@ stack_reverse N (v ∷ vs) (w ∷ ws) a =
 stack_reverse N [] (w ∷ ws) a = absurd a
 stack_reverse N (v ∷ vs) [] a = absurd a
 
-premise : (tells : Type 0) (x : Option Import) → tells → PremiseOf x tells
+-- a world that tells its state meets every import's premise
+pub premise : (tells : Type 0) (x : Option Import) → tells → PremiseOf x tells
 premise tells None t = tt
 premise tells (Some (Of p)) t = tt
 premise tells (Some (ByList l)) t = t

@@ -15,6 +15,6 @@ returns g c =
     let after = g.W.World.state c.run_valid.result.1 in
     let whole = view_module c.in-Ok.valid in
     let h = c.in-Ok-new.host in
-    typed_answers tells c.args.module.now (job_of c.args.job.now) c.args.steps before after whole c.run_valid.result.0 c.in-Ok.ensures.ok
+    typed_answers tells c.args.bytes.now (job_of c.args.job.now) c.args.steps before after whole c.run_valid.result.0 c.in-Ok.ensures.ok
     (subst (λ (z : HostState). RunAnswers tells whole z c.args.steps before c.run_valid.result.0 after) c.in-Ok-new.ensures.started
     (subst (λ z. RunAnswers tells whole (host_state g.W.World.state h) c.args.steps (g.W.World.state z) c.run_valid.result.0 after) c.in-Ok-new.ensures.world c.run_valid.ensures))
