@@ -28,12 +28,16 @@ fn reads<W: World>(world: &mut W, id: u32, wanted: &[u8]) -> bool
     }
 }
 
-/// Writes once, through the trait, and says whether this many bytes went out.
-fn writes<W: World>(world: &mut W, id: u32, text: &[u8], wanted: usize) -> bool
+/// Writes once, through the trait, and says whether this many bytes went out; want of memory is an error.
+fn writes<W: World>(world: &mut W, id: u32, text: &[u8], wanted: usize) -> Result<bool, WorldFault>
     requires { W.kinds world.old id ≡ Writing }
     ensures { W.kinds world.new id ≡ Writing }
 {
-    world.write(id, text) == Ok(wanted)
+    match world.write(id, text) {
+        Ok(written) => Ok(written == wanted),
+        Err(WorldFault::Failed) => Ok(false),
+        Err(WorldFault::NoMemory) => Err(WorldFault::NoMemory),
+    }
 }
 
 /// Puts other bytes under a name while a stream is read.
@@ -103,13 +107,13 @@ fn standard_output_whose_room_is_full(rt: HostRuntime) -> Result<(), Fail> {
     output.room = Some(4);
     let mut world = MemWorld::new(rt.alloc(), MemFile::absent(), output);
     assert!(rt; world.output() == b"".as_slice());
-    assert!(rt; writes(&mut world, 1, b"abc", 3));
-    assert!(rt; writes(&mut world, 1, b"defg", 1));
-    assert!(rt; writes(&mut world, 1, b"", 0));
+    assert!(rt; writes(&mut world, 1, b"abc", 3)?);
+    assert!(rt; writes(&mut world, 1, b"defg", 1)?);
+    assert!(rt; writes(&mut world, 1, b"", 0)?);
     assert!(rt; world.failures() == 0);
     assert!(rt; world.write(1, b"efg") == Err(WorldFault::Failed));
     assert!(rt; world.failures() == 1);
-    assert!(rt; writes(&mut world, 1, b"", 0));
+    assert!(rt; writes(&mut world, 1, b"", 0)?);
     assert!(rt; world.output() == b"abcd".as_slice());
     Ok(())
 }
@@ -136,12 +140,12 @@ fn names_emptied_and_appended(rt: HostRuntime) -> Result<(), Fail> {
     world.add(b"f", file(&rt, b"old")?)?;
     let f = world.open_write(b"f", true)?;
     assert!(rt; world.bytes(b"f") == Some(b"old".as_slice()));
-    assert!(rt; writes(&mut world, f, b"+", 1));
+    assert!(rt; writes(&mut world, f, b"+", 1)?);
     assert!(rt; world.bytes(b"f") == Some(b"old+".as_slice()));
     let again = world.open_write(b"f", false)?;
     assert!(rt; again != f && again > 1);
     assert!(rt; world.bytes(b"f") == Some(b"".as_slice()));
-    assert!(rt; writes(&mut world, again, b"new", 3));
+    assert!(rt; writes(&mut world, again, b"new", 3)?);
     assert!(rt; world.bytes(b"f") == Some(b"new".as_slice()));
     Ok(())
 }
@@ -151,7 +155,7 @@ fn absent_names_are_created(rt: HostRuntime) -> Result<(), Fail> {
     let mut world = world(&rt, b"")?;
     let g = world.open_write(b"g", true)?;
     assert!(rt; world.bytes(b"g") == Some(b"".as_slice()));
-    assert!(rt; writes(&mut world, g, b"gg", 2));
+    assert!(rt; writes(&mut world, g, b"gg", 2)?);
     assert!(rt; world.bytes(b"g") == Some(b"gg".as_slice()));
     assert!(rt; world.bytes(b"f").is_none());
     assert!(rt; world.output() == b"".as_slice());
@@ -167,7 +171,7 @@ fn a_named_file_has_a_room(rt: HostRuntime) -> Result<(), Fail> {
     small.room = Some(3);
     world.add(b"small", small)?;
     let id = world.open_write(b"small", true)?;
-    assert!(rt; writes(&mut world, id, b"cd", 1));
+    assert!(rt; writes(&mut world, id, b"cd", 1)?);
     assert!(rt; world.write(id, b"d") == Err(WorldFault::Failed));
     assert!(rt; world.failures() == 1);
     assert!(rt; world.bytes(b"small") == Some(b"abc".as_slice()));
