@@ -30,7 +30,7 @@ agrees_too f g m same a = record {
   never_trapped = a.never_trapped;
   output_module = λ job outside p steps e r. let b = a.output_module job outside p steps e r in (b.0, subst (λ (x : Ending). IsPrefix (output_in e) (output_of x)) (same (plain job) outside b.0) b.1);
   output_script = λ job outside p turns. let b = a.output_script job outside p turns in
-      (b.0, λ steps e enough r. subst (λ (x : Ending). IsPrefix (output_of x) (output_in e)) (same (plain job) outside turns) (b.1 steps e enough r));
+      (b.0, b.1, λ steps e enough r. subst (λ (x : Ending). IsPrefix (output_of x) (output_in e)) (same (plain job) outside turns) (b.2 steps e enough r));
 }
 
 -- from the code of a script, and the bytes of its module

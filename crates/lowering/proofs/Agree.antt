@@ -381,16 +381,18 @@ agree p sorted = record {
   one_run = λ job outside is_plain steps e f x y. one p sorted job outside is_plain steps e f (classified p sorted job outside is_plain 0 steps e x) (classified p sorted job outside is_plain 0 steps f y);
   forward = λ job outside is_plain turns e over says.
       let f = final p sorted job outside is_plain turns in
-      let b : f.steps ≤ work + 3 = f.bounded in
-      (f.steps + 2, (let c : work + 5 ≤ (work + 5) * (turns + 1) = mul-le_self (work + 5) turns in omega (arith, b, c)), λ steps g le x. enough p sorted job outside is_plain turns steps g le (classified p sorted job outside is_plain turns steps g x) ∙ ap Like says);
+      (f.steps + 2, few turns f.steps f.bounded, λ steps g le x. enough p sorted job outside is_plain turns steps g le (classified p sorted job outside is_plain turns steps g x) ∙ ap Like says);
   backward = λ job outside is_plain steps e over x. (0, back p sorted job outside is_plain steps e over (classified p sorted job outside is_plain 0 steps (Like e) x));
   never_trapped = λ job outside is_plain steps kind output x. trapped p sorted job outside is_plain steps kind output (classified p sorted job outside is_plain 0 steps (Trapped kind output) x);
   output_module = λ job outside is_plain steps e x. (0, out p sorted job outside is_plain steps e (classified p sorted job outside is_plain 0 steps e x));
   output_script = λ job outside is_plain turns. (
     ((final p sorted job outside is_plain turns).steps + 2),
+    few turns (final p sorted job outside is_plain turns).steps (final p sorted job outside is_plain turns).bounded,
     λ steps e le x. subst (IsPrefix (output_of (mid_run p (plain job) outside turns))) (ap output_in (sym (enough p sorted job outside is_plain turns steps e le (classified p sorted job outside is_plain turns steps e x)))) (prefix_self (output_of (mid_run p (plain job) outside turns))),
   );
 }
   where
     work : ℕ
     work = steps_work p.texts (behind_texts p) (inline_ok (memory_of p.texts ++ behind_texts p)) p.main
+    few : (turns n : ℕ) → n ≤ work + 3 → n + 2 ≤ (work + 5) * (turns + 1)
+    few turns n le = let c : work + 5 ≤ (work + 5) * (turns + 1) = mul-le_self (work + 5) turns in omega (arith, le, c)

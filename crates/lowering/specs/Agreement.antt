@@ -56,7 +56,7 @@ pub record MayEnd (m : ModuleForm) (job : JobForm) (outside : Outside) (steps : 
 abbrev pub HasRuns : ModuleForm → JobForm → Outside → Type 0
 HasRuns m job outside = (steps : ℕ) → steps < 2 ^ 31 → (e : ModuleEnding) × MayEnd m job outside steps e
 
--- The job as the script has it.
+-- The script's job: the same operands. Assignments and the environment are left out, since no script of which an agreement is said reads them.
 abbrev pub plain : JobForm → PlainJob
 plain job = record { operands = job.operands; assigns = []; environment = [] }
 
@@ -95,4 +95,5 @@ pub record Agreement (script : PlainJob → Outside → ℕ → Ending) (m : Mod
   pub backward : (job : JobForm) (outside : Outside) → IsPlain job → (steps : ℕ) (e : Ending) → IsOver e → MayEnd m job outside steps (Like e) → (turns : ℕ) × (script (plain job) outside turns ≡ e)
   pub never_trapped : (job : JobForm) (outside : Outside) → IsPlain job → (steps : ℕ) (kind : TrapKind) (output : List Action) → MayEnd m job outside steps (Trapped kind output) → ⊥
   pub output_module : (job : JobForm) (outside : Outside) → IsPlain job → (steps : ℕ) (e : ModuleEnding) → MayEnd m job outside steps e → (turns : ℕ) × IsPrefix (output_in e) (output_of (script (plain job) outside turns))
-  pub output_script : (job : JobForm) (outside : Outside) → IsPlain job → (turns : ℕ) → (enough : ℕ) × ((steps : ℕ) (e : ModuleEnding) → enough ≤ steps → MayEnd m job outside steps e → IsPrefix (output_of (script (plain job) outside turns)) (output_in e))
+  pub output_script : (job : JobForm) (outside : Outside) → IsPlain job → (turns : ℕ) →
+      (enough : ℕ) × (enough ≤ bound * (turns + 1)) × ((steps : ℕ) (e : ModuleEnding) → enough ≤ steps → MayEnd m job outside steps e → IsPrefix (output_of (script (plain job) outside turns)) (output_in e))
