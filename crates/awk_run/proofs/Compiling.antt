@@ -7,7 +7,6 @@ use Rattle.mid_code.specs.MidMeaning.{mid_run}
 use Rattle.mid_code.specs.ScriptRun.{Ending, run_of}
 use Rattle.mid_code.specs.Translation.{program_of}
 use Rattle.wasm_types.specs.Syntax.{ModuleForm}
-use Rattle.lower_layout.specs.Placed.{IsTooLarge}
 use Rattle.lowering.specs.Agreement.{Agreement, IsPrefix, output_in, output_of, plain}
 use Rattle.lowering.specs.Modules.{module_of}
 use Rattle.lowering.proofs.Agree.{agree}
@@ -15,8 +14,7 @@ use Rattle.lowering.proofs.Existence.{has_runs}
 use Rattle.lowering.proofs.Linked.{main_is, numbers, numbers_are}
 use Rattle.lowering.proofs.Typed
 use Rattle.lowering.proofs.Typed.{fit}
-use Rattle.wasm_types.specs.ModuleGrammar.{IsModule}
-use Rattle.awk_run.specs.Compiled.{HasNoBytes, HasNoScriptCode, IsCompiled, IsModuleOf, IsNotCompiled, IsScriptCode, Links}
+use Rattle.awk_run.specs.Compiled.{HasNoBytes, HasNoScriptCode, IsCompiled, IsModuleOf, IsNotCompiled, IsPastLimits, IsScriptCode}
 use Rattle.awk_run.specs.declared.fault.CompileFault.{CompileFault}
 use Rattle.awk_run.specs.declared.fault.CompileFault.TheVariants.{TooLarge, NotYet, NoMemory}
 
@@ -34,8 +32,9 @@ agrees_too f g m same a = record {
 }
 
 -- from the code of a script, and the bytes of its module
-pub compiled : (bytes v : List ℕ) (p : Program) → IsScriptCode bytes p → IsSorted p → IsModuleOf v p → IsCompiled bytes v
-compiled bytes v p c sorted m = record {
+pub compiled : (bytes v : List ℕ) (p : Program) → length bytes ≤ 2 ^ 20 → IsScriptCode bytes p → IsSorted p → IsModuleOf v p → IsCompiled bytes v
+compiled bytes v p short c sorted m = record {
+  short = short;
   script = c.code.script;
   read = record { tokens = c.tokens; cut = c.cut; parsed = c.code.parsed };
   covered = c.code.covered;
@@ -47,26 +46,17 @@ compiled bytes v p c sorted m = record {
   agreement = agrees_too (mid_run p) (run_of c.code.script) (module_of p) c.code.same (agree p sorted);
 }
 
-pub no_script : (bytes : List ℕ) (e : CompileFault) → HasNoScriptCode bytes e → IsNotCompiled bytes e
-no_script bytes TooLarge r = absurd r
-no_script bytes (NotYet line) r = r
-no_script bytes NoMemory r = tt
-
-too_large : (bytes : List ℕ) (p : Program) → IsScriptCode bytes p → IsTooLarge p ⊎ ((w : List ℕ) → IsModule w (module_of p) → ⊥) → IsNotCompiled bytes TooLarge
-too_large bytes p c (inl large) = inr (inl (record {
-  script = c.code.script;
-  read = record { tokens = c.tokens; cut = c.cut; parsed = c.code.parsed };
-  covered = c.code.covered;
-  large = subst IsTooLarge c.code.code large;
-}))
-too_large bytes p c (inr none) = inr (inr (record {
-  script = c.code.script;
-  read = record { tokens = c.tokens; cut = c.cut; parsed = c.code.parsed };
-  covered = c.code.covered;
-  none = λ w q. none w (subst (λ (x : Program). IsModule w (module_of x)) (sym c.code.code) q);
-}))
+pub no_script : (bytes : List ℕ) (e : CompileFault) → length bytes ≤ 2 ^ 20 → HasNoScriptCode bytes e → IsNotCompiled bytes e
+no_script bytes TooLarge short r = absurd r
+no_script bytes (NotYet line) short r = (short, r)
+no_script bytes NoMemory short r = tt
 
 pub no_bytes : (bytes : List ℕ) (p : Program) (e : CompileFault) → IsScriptCode bytes p → HasNoBytes p e → IsNotCompiled bytes e
-no_bytes bytes p TooLarge c r = too_large bytes p c r
+no_bytes bytes p TooLarge c r = inr (record {
+  script = c.code.script;
+  read = record { tokens = c.tokens; cut = c.cut; parsed = c.code.parsed };
+  covered = c.code.covered;
+  large = subst IsPastLimits c.code.code r;
+})
 no_bytes bytes p (NotYet line) c r = absurd r
 no_bytes bytes p NoMemory c r = tt

@@ -1,7 +1,6 @@
 -- What the module of a script did is what the script does.
 use Rattle.std.proofs.Common.{◌≡◌, ◌≢◌, ◌⊎◌, inl, inr, ℕ, zero, suc, ◌+◌, ◌≤◌, ℤ, List, [], ◌∷◌, ◌++◌, map, Option, Some, None, Result, Ok, Err, Bool, true, false, refl, sym, ap, ◌∙◌, subst, append-nil, append_assoc, arith, true≢false}
 use Rattle.std.specs.Prelude.{⊤}
-use Rattle.std.specs.Result.{is_ok}
 use Rattle.awk_values.specs.declared.fault.Fault.{Fault}
 use Rattle.awk_tree.specs.Item.{Item}
 use Rattle.world_core.specs.WorldState.{Action, State, after as outside_after}
@@ -25,11 +24,7 @@ use Rattle.wasm_machine.specs.declared.state.End.{End}
 use Rattle.wasm_machine.specs.declared.state.End.TheVariants as ends
 use Rattle.wasm_machine.specs.declared.state.RunEnd.{RunEnd as MachineRunEnd}
 use Rattle.wasm_machine.specs.declared.state.RunEnd.TheVariants.{Ended, OutOfSteps, NoMemory}
-use Rattle.wasm_machine.proofs.Chains.{no_memory}
-use Rattle.module_decoder.specs.Reading.{module_at}
-use Rattle.module_decoder.specs.declared.fault.DecodeFault.{DecodeFault}
-use Rattle.module_decoder.proofs.CompleteModule.{module_again, one_module}
-use Rattle.host_calls.specs.HostLaws.{host_refused}
+use Rattle.module_decoder.proofs.CompleteModule.{one_module}
 use Rattle.host_calls.specs.HostState.{HostState}
 use Rattle.host_calls.specs.HostStep.{Called, Means, Wanted, host_meaning}
 use Rattle.host_calls.specs.Hosts.{state_at_start}
@@ -45,26 +40,8 @@ use Rattle.awk_run.specs.declared.fault.CompileFault.TheVariants as compile
 use Rattle.awk_run.specs.declared.end.Refusal.TheVariants.{Compile, Decode, Invalid, Link}
 use Rattle.awk_run.specs.declared.end.RunEnd.{RunEnd}
 use Rattle.awk_run.specs.declared.end.RunEnd.TheVariants as run
-use Rattle.awk_run.proofs.MeaningMaps.{ran_by}
-use Rattle.lowering.proofs.Refine.{premise}
-use Rattle.awk_run.proofs.Outsides.{ran_kept}
-
--- In a world that tells its state, calls mean what they mean in every such world.
-
-called_too : (tells : Type 0) → tells → (x : Option Import) (s : HostState) (words : List Word) (memory : List ℕ) (a : HostAnswer) (s' : HostState) (out : List Action) → Called tells x s words memory a s' out → Called ⊤ x s words memory a s' out
-called_too tells t x s words memory a s' out c = record { typed = c.typed; step = λ p so_far. c.step (premise tells x t) so_far }
-
-weaker : (tells : Type 0) → tells → (s : HostState) (i : ℕ) (args : List Word) (mem : MemoryForm) (a : HostAnswer) (s' : HostState) (mem' : MemoryForm) (out : List Action) → host_meaning tells s i args mem a s' mem' out → host_meaning ⊤ s i args mem a s' mem' out
-weaker tells t s i args mem (answer.Done w) s' mem' out r = (r.0, called_too tells t (import_at i) s args mem.bytes (answer.Done w) s' out r.1)
-weaker tells t s i args mem (answer.Trap kind) s' mem' out r = (r.0, called_too tells t (import_at i) s args mem.bytes (answer.Trap kind) s' out r.1)
-weaker tells t s i args mem answer.NoMemory s' mem' out r = (r.0, record {
-  outside = λ p. r.1.outside t;
-  answer = r.1.answer;
-  answered = r.1.answered;
-  state = r.1.state;
-  rest = r.1.rest;
-  called = called_too tells t (import_at i) s args mem.bytes r.1.answer r.1.state (out ++ r.1.rest) r.1.called;
-})
+use Rattle.awk_run.proofs.MeaningMaps.{ran_by, weaker}
+use Rattle.awk_run.proofs.Runs.{more}
 
 -- A run that wanted memory has put out how the script's output begins.
 
@@ -107,20 +84,10 @@ module _ (bytes v : List ℕ) (c : IsCompiled bytes v) (job : JobForm) (p : IsPl
     begins k out (Ended ends.Exhausted) c2 s2 q r = at_end k out ends.Exhausted c2 s2 (λ kind e. cc) r
     begins k out (Ended ends.Stuck) c2 s2 q r = at_end k out ends.Stuck c2 s2 (λ kind e. cc) r
 
-    wanting : (k : ℕ) (out : List Action) (c2 : Conf) (s2 : HostState) → Ran (host_meaning ⊤) a.program k a.conf start out NoMemory c2 s2 → Begins out
-    wanting k out c2 s2 r = by_more (no_memory (host_meaning ⊤) a.program (host_refused ⊤) k a.conf start out c2 s2 r) where
+    wanted : (k : ℕ) (out : List Action) (e : MachineRunEnd) (c2 : Conf) (s2 : HostState) → told_run e ≡ Some machine.NoMemory → Ran (host_meaning ⊤) a.program k a.conf start out e c2 s2 → Begins out
+    wanted k out e c2 s2 t r = by_more (more ⊤ a.program k a.conf start out e c2 s2 t r) where
       by_more : HasMore (host_meaning ⊤) a.program k a.conf start out → Begins out
       by_more h = let b = begins h.0 (out ++ h.2) h.3 h.4 h.5 h.6 h.7 in (b.0, shorter out h.2 (output_of (does b.0)) b.1)
-
-    wanted : (k : ℕ) (out : List Action) (e : MachineRunEnd) (c2 : Conf) (s2 : HostState) → told_run e ≡ Some machine.NoMemory → Ran (host_meaning ⊤) a.program k a.conf start out e c2 s2 → Begins out
-    wanted k out NoMemory c2 s2 t r = wanting k out c2 s2 r
-    wanted k out OutOfSteps c2 s2 t r = cc
-    wanted k out (Ended (ends.Returned (Some (I32 w)))) c2 s2 t r = cc
-    wanted k out (Ended (ends.Returned (Some (I64 w)))) c2 s2 t r = cc
-    wanted k out (Ended (ends.Returned None)) c2 s2 t r = cc
-    wanted k out (Ended (ends.Trapped kind)) c2 s2 t r = cc
-    wanted k out (Ended ends.Exhausted) c2 s2 t r = cc
-    wanted k out (Ended ends.Stuck) c2 s2 t r = cc
 
   -- how a run ended, and what is told of it
   module _ (steps : ℕ) (a : MachineForm) (n : IsNew host_finds c.whole a) (run-end : MachineRunEnd) (c2 : Conf) (s2 : HostState) (out : List Action)
@@ -147,7 +114,7 @@ did tells bytes v c job steps before after e r t p = subst (λ (x : RunEnd). Doe
     turns = s.0;
     output = r.output;
     said = s.1;
-    outside = r.outside ∙ ran_kept r.machine.program steps r.machine.conf (state_at_start job before.outside) r.output r.run-end r.conf r.state ran;
+    outside = r.applied t;
   }
 
 -- Refusals that a compiled script does not meet.
@@ -185,7 +152,7 @@ module _ (tells : Type 0) (bytes v : List ℕ) (job : JobForm) (steps : ℕ) (be
 
   pub script_answers : (e : RunEnd) → Answers tells v job steps before e after → ScriptAnswers tells bytes job steps before e after
   script_answers (run.Refused (Compile f)) r = absurd r.run
-  script_answers (run.Refused (Decode f)) r = true≢false (ap is_ok (sym (module_again v c.whole c.spelled) ∙ r.0))
+  script_answers (run.Refused (Decode f)) r = r.0.1 c.whole c.spelled
   script_answers (run.Refused (Invalid f)) r = r.0.untyped (subst ModuleOk (sym (same r.0.whole r.0.read)) c.typed)
   script_answers (run.Refused (Link f)) r = links_fully c.whole f c.links (subst (λ (w : ModuleForm). IsUnlinked w f) (same r.whole r.read) r.run.0)
   script_answers run.NoMemory (inl h) = inl (wanting_run h h.run)

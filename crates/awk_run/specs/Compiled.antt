@@ -37,8 +37,9 @@ pub record Links (m : ModuleForm) : Type 0 where
   pub segments : SegmentsFit m
 
 -- THE MAIN THEOREM, of a script and the bytes that it is compiled to: they are a module, which the rules type, which links with the host, which
--- has runs, and which agrees with the script in every job and world.
+-- has runs, and which agrees with the script in every job and world of which agreement is said.
 pub record IsCompiled (bytes : List ℕ) (compiled : List ℕ) : Type 0 where
+  pub short : length bytes ≤ 2 ^ 20
   pub script : List Item
   pub read : IsScriptOf bytes script
   pub covered : is_covered script ≡ true
@@ -49,24 +50,21 @@ pub record IsCompiled (bytes : List ℕ) (compiled : List ℕ) : Type 0 where
   pub runs : (job : JobForm) (outside : Outside) → HasRuns whole job outside
   pub agreement : Agreement (run_of script) whole
 
--- the script's module is within no bytes, by the limits of modules
-pub record HasNoModule (bytes : List ℕ) : Type 0 where
-  pub script : List Item
-  pub read : IsScriptOf bytes script
-  pub covered : is_covered script ≡ true
-  pub none : (compiled : List ℕ) → IsModule compiled (module_of (program_of script)) → ⊥
+-- a program has too many texts or temporaries for the limits of modules, or no bytes are its module within them
+abbrev pub IsPastLimits : Program → Type 0
+IsPastLimits p = IsTooLarge p ⊎ ((compiled : List ℕ) → IsModule compiled (module_of p) → ⊥)
 
--- its program has too many texts or temporaries for the limits of modules
+-- the script's program is past the limits
 pub record HasLargeProgram (bytes : List ℕ) : Type 0 where
   pub script : List Item
   pub read : IsScriptOf bytes script
   pub covered : is_covered script ≡ true
-  pub large : IsTooLarge (program_of script)
+  pub large : IsPastLimits (program_of script)
 
 -- why a script is not compiled
 abbrev pub IsNotCompiled : List ℕ → CompileFault → Type 0
-IsNotCompiled bytes TooLarge = (2 ^ 20 < length bytes) ⊎ (HasLargeProgram bytes ⊎ HasNoModule bytes)
-IsNotCompiled bytes (NotYet line) = (script : List Item) → IsScriptOf bytes script → is_covered script ≡ true → ⊥
+IsNotCompiled bytes TooLarge = (2 ^ 20 < length bytes) ⊎ HasLargeProgram bytes
+IsNotCompiled bytes (NotYet line) = (length bytes ≤ 2 ^ 20) × ((script : List Item) → IsScriptOf bytes script → is_covered script ≡ true → ⊥)
 IsNotCompiled bytes NoMemory = Unit {0}
 
 -- The rest serves contracts inside the crate.
@@ -110,6 +108,6 @@ pub record IsModuleOf (compiled : List ℕ) (p : Program) : Type 0 where
 
 -- why a program has no bytes
 abbrev pub HasNoBytes : Program → CompileFault → Type 0
-HasNoBytes p TooLarge = IsTooLarge p ⊎ ((compiled : List ℕ) → IsModule compiled (module_of p) → ⊥)
+HasNoBytes p TooLarge = IsPastLimits p
 HasNoBytes p (NotYet line) = ⊥
 HasNoBytes p NoMemory = Unit {0}

@@ -2,17 +2,19 @@
 use Rattle.std.specs.Prelude.{◌≡◌, ◌≢◌, ◌⊎◌, ℕ, ℤ, pos, unsigned_abs, List, Option, Some, None, Result, Ok, Err, length}
 use Rattle.std.specs.Int.{int_rem_euclid}
 use Rattle.awk_values.specs.declared.fault.Fault.{Fault}
-use Rattle.world_core.specs.WorldState.{Action, State}
+use Rattle.world_core.specs.WorldState.{Action, State, after as outside_after}
 use Rattle.wasm_types.specs.Syntax.{ModuleForm}
 use Rattle.wasm_types.specs.ModuleGrammar.{IsModule}
 use Rattle.wasm_types.specs.Typing.{ModuleOk}
 use Rattle.module_decoder.specs.Reading.{module_at}
 use Rattle.module_decoder.specs.declared.fault.DecodeFault.{DecodeFault}
+use Rattle.module_decoder.specs.declared.fault.DecodeFault.TheVariants as decoding
 use Rattle.module_validator.specs.Faults.{Refuses as Untypes}
 use Rattle.module_validator.specs.declared.valid.InvalidFault.{InvalidFault}
+use Rattle.module_validator.specs.declared.valid.InvalidFault.TheVariants as invalid
 use Rattle.wasm_machine.specs.Links.{IsNew, Refuses as Unlinks}
 use Rattle.wasm_machine.specs.Machines.{Conf}
-use Rattle.wasm_machine.specs.Runs.{MachineForm, Ran, told_run}
+use Rattle.wasm_machine.specs.Runs.{HasMore, MachineForm, Ran, told_run}
 use Rattle.wasm_machine.specs.declared.link.LinkFault.{LinkFault}
 use Rattle.wasm_machine.specs.declared.link.LinkFault.TheVariants as link
 use Rattle.wasm_machine.specs.declared.state.RunEnd.{RunEnd as MachineRunEnd}
@@ -48,12 +50,13 @@ run_end kept machine.NoMemory = run.NoMemory
 pub record IsInvalid (bytes : List ℕ) (fault : InvalidFault) : Type 0 where
   pub whole : ModuleForm
   pub read : IsModule bytes whole
+  pub named : fault ≢ invalid.NoMemory
   pub cause : Untypes whole fault
   pub untyped : ModuleOk whole → ⊥
 
 -- why bytes are no typed module
 abbrev pub IsRefused : List ℕ → Refusal → Type 0
-IsRefused bytes (Decode fault) = module_at bytes ≡ Err fault
+IsRefused bytes (Decode fault) = (module_at bytes ≡ Err fault) × ((m : ModuleForm) → IsModule bytes m → ⊥)
 IsRefused bytes (Invalid fault) = IsInvalid bytes fault
 IsRefused bytes _ = ⊥
 
@@ -61,7 +64,13 @@ IsRefused bytes _ = ⊥
 abbrev pub IsUnlinked : ModuleForm → LinkFault → Type 0
 IsUnlinked whole cause = (cause ≢ link.NoMemory) × Unlinks host_finds whole cause
 
--- A run of a typed module: from its beginning and a host in this state, to a world that holds that.
+-- a run that wanted memory has put out how another begins that does not
+abbrev pub BeginsAnother : (tells : Type 0) → MachineForm → ℕ → HostState → List Action → MachineEnd → Type 0
+BeginsAnother tells a steps start output machine.NoMemory = HasMore (host_meaning tells) a.program steps a.conf start output
+BeginsAnother tells a steps start output _ = Unit {0}
+
+-- A run of a typed module: from its beginning and a host in this state, to a world that holds that. What a world holds that tells its state is
+-- what the output makes of what it held.
 pub record IsRunOf (tells : Type 0) (whole : ModuleForm) (start : HostState) (steps : ℕ) (e : RunEnd) (after : State) : Type 0 where
   pub machine : MachineForm
   pub is_new : IsNew host_finds whole machine
@@ -74,6 +83,8 @@ pub record IsRunOf (tells : Type 0) (whole : ModuleForm) (start : HostState) (st
   pub ran : Ran (host_meaning tells) machine.program steps machine.conf start output run-end conf state
   pub answered : e ≡ run_end state.fault told
   pub outside : after.outside ≡ state.shared.outside
+  pub applied : tells → after.outside ≡ outside_after output start.shared.outside
+  pub wanting : BeginsAnother tells machine steps start output told
 
 -- what is answered for a typed module; a run that wanted memory may not have begun
 abbrev pub RunAnswers : (tells : Type 0) → ModuleForm → HostState → ℕ → State → RunEnd → State → Type 0
@@ -95,6 +106,11 @@ Answers tells bytes job steps before (run.Refused (Decode cause)) after = IsRefu
 Answers tells bytes job steps before (run.Refused (Invalid cause)) after = IsRefused bytes (Invalid cause) × (after ≡ before)
 Answers tells bytes job steps before run.NoMemory after = HasRun tells bytes job steps before run.NoMemory after ⊎ (after ≡ before)
 Answers tells bytes job steps before e after = HasRun tells bytes job steps before e after
+
+-- what is answered for bytes that the decoder refuses so
+abbrev pub undecoded : DecodeFault → RunEnd
+undecoded decoding.NoMemory = run.NoMemory
+undecoded fault = run.Refused (Decode fault)
 
 -- of bytes that are not read as a typed module
 abbrev pub Unread : List ℕ → RunEnd → Type 0

@@ -35,7 +35,8 @@ fn bytes_of(alloc: Global, mid: &Mid) -> Result<Vec<u8>, CompileFault>
     }
 }
 
-/// The bytes of a module that does what a script does, in every job and world (POSIX.1-2017 awk, in the profile of this project).
+/// The bytes of a module that does what a script does (POSIX.1-2017 awk, in the profile of this project), in every job without assignments and
+/// without a text past the limit, and every world that tells what it holds.
 ///
 /// # Errors
 ///

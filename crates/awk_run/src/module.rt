@@ -1,6 +1,6 @@
 //! Modules and scripts in the sandbox.
 ghost use Rattle.std.specs.Prelude.{◌≡◌, IfOk, IfErr};
-ghost use Rattle.awk_run.specs.ModuleRun.{Answers, IsTyped, RunAnswers, Unread};
+ghost use Rattle.awk_run.specs.ModuleRun.{undecoded, Answers, IsTyped, RunAnswers, Unread};
 ghost use Rattle.awk_run.specs.ScriptRuns.{ScriptAnswers};
 ghost use Rattle.host_calls.specs.Hosts.{host_state};
 ghost use Rattle.wasm_types.specs.View.{view_module};
@@ -16,6 +16,16 @@ use std::alloc::Global;
 use wasm_machine::{LinkFault, Machine};
 use world_core::World;
 
+/// What is answered for bytes that the decoder refuses so.
+fn undecoded(fault: DecodeFault) -> RunEnd
+    ensures { result ≡ undecoded fault }
+{
+    match fault {
+        DecodeFault::NoMemory => RunEnd::NoMemory,
+        fault => RunEnd::Refused(Refusal::Decode(fault)),
+    }
+}
+
 /// The module that the bytes are, typed; else what is answered.
 fn read(alloc: Global, bytes: &[u8]) -> Result<ValidModule, RunEnd>
     ensures ok { IfOk result (λ v. IsTyped bytes.now (view_module v)) }
@@ -23,8 +33,7 @@ fn read(alloc: Global, bytes: &[u8]) -> Result<ValidModule, RunEnd>
 {
     let module = match decode(alloc, bytes) {
         Ok(module) => module,
-        Err(DecodeFault::NoMemory) => return Err(RunEnd::NoMemory),
-        Err(fault) => return Err(RunEnd::Refused(Refusal::Decode(fault))),
+        Err(fault) => return Err(undecoded(fault)),
     };
     match validate(alloc, module) {
         Ok(valid) => Ok(valid),
@@ -77,7 +86,8 @@ pub fn run_module<W: World>(
 ///
 /// The answer is [`RunEnd::Refused`] with [`Refusal::Compile`] where the script is not compiled, and never otherwise; nothing is done to the world then.
 /// [`RunEnd::NoMemory`] may come instead of any other answer, where memory was wanting; what went out by then is how the script's output begins.
-/// Any other answer is how the script ends, with its output; [`RunEnd::OutOfSteps`] where it goes on.
+/// [`RunEnd::OutOfSteps`] where the steps did not suffice, after a beginning of its output. Any other answer is how the script ends, with its output.
+/// What the script does is said of worlds that tell what they hold, and of jobs without assignments and without a text past the limit.
 #[tactic(auto, using(crate::proofs::ScriptRuns::script_answers))]
 pub fn run_script<W: World>(
     alloc: Global,

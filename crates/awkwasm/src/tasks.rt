@@ -193,8 +193,7 @@ fn tell_end(rt: &HostRuntime, end: RunEnd) -> u8
     if let Ok(line) = fault_text(rt.alloc(), &end) {
         tell(rt, line.as_slice());
     }
-    let status = status_of(&end);
-    status
+    status_of(&end)
 }
 
 /// Tells what became of a task where that is no status of its own; the answer is the exit status.

@@ -51,7 +51,7 @@ pub record MayEnd (m : ModuleForm) (job : JobForm) (outside : Outside) (steps : 
   pub ran : Ran (host_meaning ⊤) machine.program steps machine.conf (state_at_start job outside) output run-end conf state
   pub ending : ending_told state.fault told output ≡ Some e
 
--- A module has a run of each number of steps below 2^31, the count of numbers that a host can give; nothing is said of longer ones, where
+-- A module has a run of each number of steps below 2^31, of which each gives out one free number at most. Nothing is said of longer runs, where
 -- the host may have no free number left.
 abbrev pub HasRuns : ModuleForm → JobForm → Outside → Type 0
 HasRuns m job outside = (steps : ℕ) → steps < 2 ^ 31 → (e : ModuleEnding) × MayEnd m job outside steps e
@@ -84,7 +84,7 @@ IsOver _ = Unit {0}
 abbrev pub IsPrefix : List Action → List Action → Type 0
 IsPrefix xs ys = (rest : List Action) × (ys ≡ xs ++ rest)
 
--- A script and a module agree, whatever the job and the world are: what one does the other does, faults included, and while it goes on both
+-- A script and a module agree, in every plain job and whatever the outside is: what one does the other does, faults included, and while it goes on both
 -- have put out the same so far. The module never traps, its work is bounded by a number that the module alone fixes, and it does not matter
 -- which free numbers the host picks. `script` is what the script does within so many turns.
 pub record Agreement (script : PlainJob → Outside → ℕ → Ending) (m : ModuleForm) : Type 0 where

@@ -11,8 +11,8 @@ ghost use Rattle.wasm_machine.specs.Links.{SegmentsFit, main_of, numbers_for};
 ghost use Rattle.wasm_types.specs.Typing.{ModuleOk};
 ghost use Rattle.world_core.specs.WorldState.{Outside};
 
-/// A program and its module agree: what one does the other does, faults and output included, in every job and world, whatever free numbers
-/// the host gives to what is new.
+/// A program and its module agree: what one does the other does, faults and output included, in every job without assignments and without a text
+/// past the limit, whatever the outside is and whatever free numbers the host gives to what is new.
 pub fn agreement()
     ensures { (p : Program) → IsSorted p → Agreement (mid_run p) (module_of p) }
 {}

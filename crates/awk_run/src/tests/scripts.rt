@@ -1,29 +1,32 @@
 //! Scripts, from their bytes to what they put out.
 use super::super::*;
-use awk_values::Fault;
-use host_calls::Job;
+use awk_values::{Bytes, Fault};
+use host_calls::{Job, NamedText};
 use std::alloc::AllocError;
 use std::test::Fail;
 use world_core::{MemFile, MemWorld};
 
-/// How a script ends within so many steps, and the world after it, where so many bytes fit into the standard output.
-fn run(rt: &HostRuntime, script: &str, room: Option<usize>, steps: u64) -> (RunEnd, MemWorld) {
-    let alloc = rt.alloc();
+/// How a script ends within so many steps in a job, and the world after it, where so many bytes fit into the standard output.
+fn run_job(
+    rt: &HostRuntime,
+    script: &[u8],
+    job: &Job,
+    room: Option<usize>,
+    steps: u64,
+) -> (RunEnd, MemWorld) {
     let mut output = MemFile::absent();
     output.room = room;
-    let world = MemWorld::new(alloc, MemFile::absent(), output);
-    run_script(alloc, script.as_bytes(), &Job::empty(alloc), world, steps)
+    let world = MemWorld::new(rt.alloc(), MemFile::absent(), output);
+    run_script(rt.alloc(), script, job, world, steps)
 }
 
-/// Whether a script ends so with this output. Want of memory, after a beginning of that output, is an error.
-fn ends_in_room(
-    rt: &HostRuntime,
-    script: &str,
-    room: Option<usize>,
-    end: RunEnd,
-    output: &str,
-) -> Result<bool, AllocError> {
-    let (now, world) = run(rt, script, room, 1000000);
+fn run(rt: &HostRuntime, script: &str, room: Option<usize>, steps: u64) -> (RunEnd, MemWorld) {
+    run_job(rt, script.as_bytes(), &Job::empty(rt.alloc()), room, steps)
+}
+
+/// Whether a run ended so with this output. Want of memory, after a beginning of that output, is an error.
+fn is_end(ran: (RunEnd, MemWorld), end: RunEnd, output: &str) -> Result<bool, AllocError> {
+    let (now, world) = ran;
     if now == RunEnd::NoMemory && output.as_bytes().starts_with(world.output()) {
         return Err(AllocError);
     }
@@ -31,7 +34,7 @@ fn ends_in_room(
 }
 
 fn ends(rt: &HostRuntime, script: &str, end: RunEnd, output: &str) -> Result<bool, AllocError> {
-    ends_in_room(rt, script, None, end, output)
+    is_end(run(rt, script, None, 1000000), end, output)
 }
 
 const LIST: &str = "BEGIN { print \"a\", 2*3-7; print \"b\\n\" }";
@@ -71,7 +74,7 @@ fn product_range(rt: HostRuntime) -> Result<(), Fail> {
 fn output_room(rt: HostRuntime) -> Result<(), Fail> {
     let two = "BEGIN { print \"ab\"; print \"cd\" }";
     let failed = RunEnd::Faulted(Fault::WriteFailed);
-    assert!(rt; ends_in_room(&rt, two, Some(4), failed, "ab\nc")?);
+    assert!(rt; is_end(run(&rt, two, Some(4), 1000000), failed, "ab\nc")?);
     Ok(())
 }
 
@@ -143,6 +146,20 @@ fn refused_scripts_do_nothing(rt: HostRuntime) -> Result<(), Fail> {
     Ok(())
 }
 
+#[test]
+fn operands_and_environment(rt: HostRuntime) -> Result<(), Fail> {
+    let alloc = rt.alloc();
+    let mut job = Job::empty(alloc);
+    job.operands.push(Bytes::from_slice(alloc, b"absent")?)?;
+    job.environment.push(NamedText {
+        name: Bytes::from_slice(alloc, b"HOME")?,
+        text: Bytes::from_slice(alloc, b"/")?,
+    })?;
+    let ran = run_job(&rt, LIST.as_bytes(), &job, None, 1000000);
+    assert!(rt; is_end(ran, RunEnd::Ended(0), "a -1\nb\n\n")?);
+    Ok(())
+}
+
 /// So many blanks.
 fn blanks(rt: &HostRuntime, count: usize) -> Result<Vec<u8>, AllocError> {
     let mut script = Vec::new(rt.alloc());
@@ -158,5 +175,8 @@ fn length_of_scripts(rt: HostRuntime) -> Result<(), Fail> {
     assert!(rt; is_refused(&rt, &longest, CompileFault::NotYet(1))?);
     let longer = blanks(&rt, 1048577)?;
     assert!(rt; is_refused(&rt, &longer, CompileFault::TooLarge)?);
+    let too_large = RunEnd::Refused(Refusal::Compile(CompileFault::TooLarge));
+    let ran = run_job(&rt, &longer, &Job::empty(rt.alloc()), None, 1000000);
+    assert!(rt; is_end(ran, too_large, "")?);
     Ok(())
 }
