@@ -374,10 +374,14 @@ module _ (p : Program) (sorted : IsSorted p) (job : JobForm) (outside : Outside)
   out steps e (inl a) = subst (λ z. IsPrefix (output_in z) (output_of (mid_run p (plain job) outside 0))) (sym a.0) (begins_so 0 steps a.1)
   out steps e (inr a) = subst (λ z. IsPrefix (output_in z) (output_of (mid_run p (plain job) outside 0))) (sym a.0) (prefix_self (output_of (mid_run p (plain job) outside 0)))
 
+-- the number by which the module bounds its steps
+abbrev pub steps_bound : Program → ℕ
+steps_bound p = steps_work p.texts (behind_texts p) (inline_ok (memory_of p.texts ++ behind_texts p)) p.main + 5
+
 -- THE AGREEMENT of a program with its module.
 pub agree : (p : Program) → IsSorted p → Agreement (mid_run p) (module_of p)
 agree p sorted = record {
-  bound = work + 5;
+  bound = steps_bound p;
   one_run = λ job outside is_plain steps e f x y. one p sorted job outside is_plain steps e f (classified p sorted job outside is_plain 0 steps e x) (classified p sorted job outside is_plain 0 steps f y);
   forward = λ job outside is_plain turns e over says.
       let f = final p sorted job outside is_plain turns in
@@ -394,5 +398,10 @@ agree p sorted = record {
   where
     work : ℕ
     work = steps_work p.texts (behind_texts p) (inline_ok (memory_of p.texts ++ behind_texts p)) p.main
+
     few : (turns n : ℕ) → n ≤ work + 3 → n + 2 ≤ (work + 5) * (turns + 1)
     few turns n le = let c : work + 5 ≤ (work + 5) * (turns + 1) = mul-le_self (work + 5) turns in omega (arith, le, c)
+
+pub bound_is : (p : Program) (sorted : IsSorted p) → (agree p sorted).bound ≡ steps_bound p
+unfolding agree
+bound_is p sorted = refl

@@ -124,7 +124,7 @@ module _ (texts : List (List ℕ)) (behind-texts : List ℕ) where
   pushed_one_same a (Number z) x L L1 t same r = r
   pushed_one_same a (Text i) x L L1 t same r = r
 
-  abbrev conv_work : Codes → ℕ
+  abbrev pub conv_work : Codes → ℕ
   conv_work End = 0
   conv_work (At e es) = 5 + conv_work es
 
@@ -172,7 +172,7 @@ module _ (texts : List (List ℕ)) (behind-texts : List ℕ) where
       called mem Arg (Held v ∷ []) vs (v, tt) k K L (host_of shared values) refl refl refl
       ∙ ap (λ s. at vs K L k (host_of s (values ++ v ∷ []))) (same_shared shared)
 
-  abbrev append_work : Codes → ℕ
+  abbrev pub append_work : Codes → ℕ
   append_work End = 0
   append_work (At e es) = suc (suc (append_work es))
 
@@ -232,13 +232,13 @@ module _ (texts : List (List ℕ)) (behind-texts : List ℕ) where
     -- Expressions.
 
     abbrev mutual
-      code_work : Code → ℕ
+      pub code_work : Code → ℕ
       code_work (Do o es) = codes_work es + (conv_work es + (push_work texts es + 40))
       code_work (OverList l es) = codes_work es + (append_work es + 4)
       code_work (Number z) = 1
       code_work (Text i) = 0
 
-      codes_work : Codes → ℕ
+      pub codes_work : Codes → ℕ
       codes_work End = 0
       codes_work (At e es) = code_work e + codes_work es
 

@@ -17,3 +17,4 @@ pub mod Depth
 pub mod Parts
 pub mod HostAnswers
 pub mod Existence
+pub mod Few

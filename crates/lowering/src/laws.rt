@@ -1,5 +1,5 @@
 //! Laws of the module of a program, each the contract of a function that does nothing.
-ghost use Rattle.std.specs.Prelude.{◌≡◌, ◌≤◌, ◌^◌, ℕ, List, Some, length, map};
+ghost use Rattle.std.specs.Prelude.{◌≡◌, ◌<◌, ◌≤◌, ◌^◌, ℕ, List, Some, length, map};
 ghost use Rattle.host_calls.specs.Imports.{host_finds};
 ghost use Rattle.host_calls.specs.Jobs.{JobForm};
 ghost use Rattle.lower_layout.specs.Layouts.{memory_of};
@@ -8,6 +8,7 @@ ghost use Rattle.lowering.specs.Modules.{module_of};
 ghost use Rattle.mid_code.specs.Mid.{IsSorted, Program};
 ghost use Rattle.mid_code.specs.MidMeaning.{mid_run};
 ghost use Rattle.wasm_machine.specs.Links.{SegmentsFit, main_of, numbers_for};
+ghost use Rattle.wasm_types.specs.ModuleGrammar.{IsModule};
 ghost use Rattle.wasm_types.specs.Typing.{ModuleOk};
 ghost use Rattle.world_core.specs.WorldState.{Outside};
 
@@ -33,4 +34,10 @@ pub fn links()
 /// a number for something new.
 pub fn runs()
     ensures { (p : Program) → IsSorted p → length (memory_of p.texts) ≤ 2 ^ 24 → (job : JobForm) (outside : Outside) → HasRuns (module_of p) job outside }
+{}
+
+/// A program whose module has bytes, 16 MiB of them at most, agrees with it by a bound below 2^31: below that there are runs of each number of
+/// steps.
+pub fn few_steps()
+    ensures { (p : Program) → IsSorted p → (bytes : List ℕ) → IsModule bytes (module_of p) → (a : Agreement (mid_run p) (module_of p)) × (a.bound < 2 ^ 31) }
 {}
