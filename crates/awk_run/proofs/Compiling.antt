@@ -11,6 +11,7 @@ use Rattle.lowering.specs.Agreement.{Agreement, IsPrefix, output_in, output_of, 
 use Rattle.lowering.specs.Modules.{module_of}
 use Rattle.lowering.proofs.Agree.{agree}
 use Rattle.lowering.proofs.Existence.{has_runs}
+use Rattle.lowering.proofs.Few.{few_steps}
 use Rattle.lowering.proofs.Linked.{main_is, numbers, numbers_are}
 use Rattle.lowering.proofs.Typed
 use Rattle.lowering.proofs.Typed.{fit}
@@ -19,7 +20,7 @@ use Rattle.awk_run.specs.declared.fault.CompileFault.{CompileFault}
 use Rattle.awk_run.specs.declared.fault.CompileFault.TheVariants.{TooLarge, NotYet, NoMemory}
 
 -- what agrees with a run agrees with the same run by another name
-agrees_too : (f g : PlainJob → Outside → ℕ → Ending) (m : ModuleForm) → ((job : PlainJob) (outside : Outside) (turns : ℕ) → f job outside turns ≡ g job outside turns) → Agreement f m → Agreement g m
+abbrev agrees_too : (f g : PlainJob → Outside → ℕ → Ending) (m : ModuleForm) → ((job : PlainJob) (outside : Outside) (turns : ℕ) → f job outside turns ≡ g job outside turns) → Agreement f m → Agreement g m
 agrees_too f g m same a = record {
   bound = a.bound;
   one_run = a.one_run;
@@ -44,6 +45,7 @@ compiled bytes v p short c sorted m = record {
   links = record { numbers = numbers; imports = numbers_are p; main = 14; main_is = main_is p; segments = fit p };
   runs = has_runs (module_of p) numbers 14 (Typed.typed p sorted m.few_bytes) (numbers_are p) (main_is p) (fit p);
   agreement = agrees_too (mid_run p) (run_of c.code.script) (module_of p) c.code.same (agree p sorted);
+  few = few_steps p sorted v m.spelled;
 }
 
 pub no_script : (bytes : List ℕ) (e : CompileFault) → length bytes ≤ 2 ^ 20 → HasNoScriptCode bytes e → IsNotCompiled bytes e

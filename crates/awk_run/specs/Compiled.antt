@@ -49,6 +49,7 @@ pub record IsCompiled (bytes : List ℕ) (compiled : List ℕ) : Type 0 where
   pub links : Links whole
   pub runs : (job : JobForm) (outside : Outside) → HasRuns whole job outside
   pub agreement : Agreement (run_of script) whole
+  pub few : agreement.bound < 2 ^ 31
 
 -- a program has too many texts or temporaries for the limits of modules, or no bytes are its module within them
 abbrev pub IsPastLimits : Program → Type 0
