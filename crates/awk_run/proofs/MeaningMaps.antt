@@ -13,7 +13,6 @@ use Rattle.wasm_machine.specs.declared.host.HostAnswer.TheVariants as answer
 use Rattle.wasm_machine.specs.declared.state.End.{End}
 use Rattle.wasm_machine.specs.declared.state.RunEnd.{RunEnd}
 use Rattle.wasm_machine.specs.declared.state.RunEnd.TheVariants.{Ended, OutOfSteps, NoMemory}
-
 use Rattle.host_calls.specs.HostState.{HostState}
 use Rattle.host_calls.specs.HostStep.{Called, host_meaning}
 use Rattle.host_calls.specs.Imports.{import_at}
@@ -56,11 +55,14 @@ called_too tells t x s words memory a s' out c = record { typed = c.typed; step 
 pub weaker : (tells : Type 0) → tells → (s : HostState) (i : ℕ) (args : List Word) (mem : MemoryForm) (a : HostAnswer) (s' : HostState) (mem' : MemoryForm) (out : List Action) → host_meaning tells s i args mem a s' mem' out → host_meaning ⊤ s i args mem a s' mem' out
 weaker tells t s i args mem (answer.Done w) s' mem' out r = (r.0, called_too tells t (import_at i) s args mem.bytes (answer.Done w) s' out r.1)
 weaker tells t s i args mem (answer.Trap kind) s' mem' out r = (r.0, called_too tells t (import_at i) s args mem.bytes (answer.Trap kind) s' out r.1)
-weaker tells t s i args mem answer.NoMemory s' mem' out r = (r.0, record {
-  outside = λ p. r.1.outside t;
-  answer = r.1.answer;
-  answered = r.1.answered;
-  state = r.1.state;
-  rest = r.1.rest;
-  called = called_too tells t (import_at i) s args mem.bytes r.1.answer r.1.state (out ++ r.1.rest) r.1.called;
-})
+weaker tells t s i args mem answer.NoMemory s' mem' out r = (
+  r.0,
+  record {
+    outside = λ p. r.1.outside t;
+    answer = r.1.answer;
+    answered = r.1.answered;
+    state = r.1.state;
+    rest = r.1.rest;
+    called = called_too tells t (import_at i) s args mem.bytes r.1.answer r.1.state (out ++ r.1.rest) r.1.called;
+  },
+)

@@ -1,5 +1,5 @@
 -- What every name holds after a run is what its output makes of what it held before.
-use Rattle.std.proofs.Common.{◌≡◌, ℕ, zero, suc, List, [], ◌∷◌, ◌++◌, Option, Some, None, Result, Ok, Err, Bool, true, false, cond, refl, sym, ap, ◌∙◌}
+use Rattle.std.proofs.Common.{◌≡◌, ℕ, zero, suc, List, [], ◌++◌, Option, Some, None, Result, Ok, Err, Bool, true, false, cond, refl, sym, ap, ◌∙◌}
 use Rattle.std.specs.Prelude.{⊤}
 use Rattle.awk_values.specs.declared.fault.Fault.{Fault}
 use Rattle.awk_state.specs.Sorts.{InAnswer, Row}
@@ -17,7 +17,7 @@ use Rattle.wasm_machine.specs.declared.state.RunEnd.{RunEnd}
 use Rattle.wasm_machine.specs.declared.state.RunEnd.TheVariants.{Ended, OutOfSteps, NoMemory}
 use Rattle.lowering.proofs.Refine.{premise}
 use Rattle.host_calls.specs.HostState.{HostState, and_then, decode}
-use Rattle.host_calls.specs.HostStep.{Acts, Answered, Called, Given, StepOf, Wanted, acted, acts, given_by, host_meaning, refused, refuses, step, with_output}
+use Rattle.host_calls.specs.HostStep.{Acts, Answered, Called, Given, StepOf, acted, acts, given_by, host_meaning, refused, refuses, step, with_output}
 use Rattle.host_calls.specs.Imports.{import_answer, import_arguments, import_at}
 use Rattle.host_calls.specs.declared.import.Import.{Import}
 
@@ -43,12 +43,15 @@ step_kept q i words memory s = by_flag (refuses i s.fault) where
   by_answer : (d : Acts (InAnswer (import_answer i))) (x : Result (InAnswer (import_answer i)) Fault) → KeptBy s (Ok (given_by q (import_answer i) s d x))
   by_answer d (Ok x) = refl
   by_answer d (Err f) = refl
+
   by_act : (r : Result (Acts (InAnswer (import_answer i))) TrapKind) → KeptBy s (and_then r (λ d. Ok (given_by q (import_answer i) s d d.does.answer)))
   by_act (Ok d) = by_answer d d.does.answer
   by_act (Err kind) = tt
+
   by_row : (r : Result (Row (import_arguments i)) TrapKind) → KeptBy s (and_then r (λ row. and_then (acts i row s) (λ d. Ok (given_by q (import_answer i) s d d.does.answer))))
   by_row (Ok row) = by_act (acts i row s)
   by_row (Err kind) = tt
+
   by_flag : (b : Bool) → KeptBy s (cond b (Ok (refused i s)) (acted q i words memory s))
   by_flag true = refl
   by_flag false = by_row (decode s.names memory (import_arguments i) words)

@@ -1,21 +1,16 @@
 -- What the module of a script did is what the script does.
-use Rattle.std.proofs.Common.{◌≡◌, ◌≢◌, ◌⊎◌, inl, inr, ℕ, zero, suc, ◌+◌, ◌≤◌, ℤ, List, [], ◌∷◌, ◌++◌, map, Option, Some, None, Result, Ok, Err, Bool, true, false, refl, sym, ap, ◌∙◌, subst, append-nil, append_assoc, arith, true≢false}
+use Rattle.std.proofs.Common.{◌≡◌, ◌≢◌, inl, inr, ℕ, ◌+◌, List, [], ◌∷◌, ◌++◌, map, Option, Some, None, refl, sym, ap, ◌∙◌, subst, append-nil, append_assoc}
 use Rattle.std.specs.Prelude.{⊤}
 use Rattle.awk_values.specs.declared.fault.Fault.{Fault}
-use Rattle.awk_tree.specs.Item.{Item}
-use Rattle.world_core.specs.WorldState.{Action, State, after as outside_after}
-use Rattle.mid_code.specs.ScriptRun.{Ending, Ended as EndedBy, FaultedBy, GoesOn, Exhausted, run_of}
+use Rattle.world_core.specs.WorldState.{Action, State}
+use Rattle.mid_code.specs.ScriptRun.{Ending, FaultedBy, GoesOn, Exhausted, run_of}
 use Rattle.wasm_types.specs.Syntax.{ModuleForm}
 use Rattle.wasm_types.specs.ModuleGrammar.{IsModule}
 use Rattle.wasm_types.specs.Typing.{ModuleOk}
 use Rattle.wasm_store.specs.Memories.{MemoryForm}
-use Rattle.wasm_store.specs.declared.word.Word.{Word}
-use Rattle.wasm_store.specs.declared.word.Word.TheVariants.{I32, I64}
-use Rattle.wasm_machine.specs.Links.{IsNew, Refuses as Unlinks, first_none, main_of, numbers_for}
+use Rattle.wasm_machine.specs.Links.{IsNew, first_none}
 use Rattle.wasm_machine.specs.Machines.{Conf, Turn, Goes, Ends, Asks, turn}
-use Rattle.wasm_machine.specs.Runs.{HasMore, MachineForm, OverBy, Ran, Steps, told_end, told_run}
-use Rattle.wasm_machine.specs.declared.host.HostAnswer.{HostAnswer}
-use Rattle.wasm_machine.specs.declared.host.HostAnswer.TheVariants as answer
+use Rattle.wasm_machine.specs.Runs.{HasMore, MachineForm, OverBy, Ran, Steps, told_run}
 use Rattle.wasm_machine.specs.declared.link.LinkFault.{LinkFault}
 use Rattle.wasm_machine.specs.declared.link.LinkFault.TheVariants as link
 use Rattle.wasm_machine.specs.declared.machine.MachineEnd.{MachineEnd}
@@ -26,17 +21,14 @@ use Rattle.wasm_machine.specs.declared.state.RunEnd.{RunEnd as MachineRunEnd}
 use Rattle.wasm_machine.specs.declared.state.RunEnd.TheVariants.{Ended, OutOfSteps, NoMemory}
 use Rattle.module_decoder.proofs.CompleteModule.{one_module}
 use Rattle.host_calls.specs.HostState.{HostState}
-use Rattle.host_calls.specs.HostStep.{Called, Means, Wanted, host_meaning}
+use Rattle.host_calls.specs.HostStep.{host_meaning}
 use Rattle.host_calls.specs.Hosts.{state_at_start}
-use Rattle.host_calls.specs.Imports.{host_finds, import_at}
+use Rattle.host_calls.specs.Imports.{host_finds}
 use Rattle.host_calls.specs.Jobs.{JobForm}
-use Rattle.host_calls.specs.declared.import.Import.{Import}
-use Rattle.lowering.specs.Agreement.{Agreement, IsPlain, IsPrefix, Like, MayEnd, ModuleEnding, Trapped, ending_told, output_of, plain}
-use Rattle.awk_run.specs.Compiled.{IsCompiled, IsNotCompiled, Links}
-use Rattle.awk_run.specs.ModuleRun.{Answers, HasRun, IsInvalid, IsRunOf, IsUnlinked, RunAnswers, run_end}
+use Rattle.lowering.specs.Agreement.{IsPlain, IsPrefix, Like, MayEnd, ModuleEnding, Trapped, ending_told, output_of, plain}
+use Rattle.awk_run.specs.Compiled.{IsCompiled, Links}
+use Rattle.awk_run.specs.ModuleRun.{Answers, HasRun, IsRunOf, IsUnlinked, RunAnswers, run_end}
 use Rattle.awk_run.specs.ScriptRuns.{DoesSo, IsScriptRun, Says, ScriptAnswers}
-use Rattle.awk_run.specs.declared.fault.CompileFault.{CompileFault}
-use Rattle.awk_run.specs.declared.fault.CompileFault.TheVariants as compile
 use Rattle.awk_run.specs.declared.end.Refusal.TheVariants.{Compile, Decode, Invalid, Link}
 use Rattle.awk_run.specs.declared.end.RunEnd.{RunEnd}
 use Rattle.awk_run.specs.declared.end.RunEnd.TheVariants as run
@@ -109,6 +101,7 @@ did : (tells : Type 0) (bytes v : List ℕ) (c : IsCompiled bytes v) (job : JobF
 did tells bytes v c job steps before after e r t p = subst (λ (x : RunEnd). DoesSo c.script job before x after) (sym r.answered) (by_said (said bytes v c job p before steps r.machine r.is_new r.run-end r.conf r.state r.output ran r.state.fault r.told refl r.telling)) where
   ran : Ran (host_meaning ⊤) r.machine.program steps r.machine.conf (state_at_start job before.outside) r.output r.run-end r.conf r.state
   ran = ran_by (host_meaning tells) (host_meaning ⊤) r.machine.program (weaker tells t) steps r.machine.conf (state_at_start job before.outside) r.output r.run-end r.conf r.state r.ran
+
   by_said : (turns : ℕ) × Says (run_end r.state.fault r.told) r.output (run_of c.script (plain job) before.outside turns) → DoesSo c.script job before (run_end r.state.fault r.told) after
   by_said s = record {
     turns = s.0;

@@ -6,12 +6,12 @@ use Rattle.awk_state.specs.declared.table.Listed.{Listed}
 use Rattle.mid_code.specs.declared.mid.Operation.{Operation}
 use Rattle.mid_code.proofs.Views.{view_do, view_over}
 use Rattle.awk_state.specs.declared.sorts.Argument.{Argument}
-use Rattle.lower_layout.specs.Layouts.{behind, place_of, memory_of, room_for, rooms_for}
+use Rattle.lower_layout.specs.Layouts.{behind, room_for, rooms_for}
 use Rattle.lowering.specs.Emitted.{count}
 use Rattle.lower_layout.specs.Placed.{most_bytes, IsLayout}
 use Rattle.lower_layout.specs.declared.layout.Layout.{Layout}
 use Rattle.lower_layout.proofs.Places.{end_within, text_at, text_count}
-use Rattle.mid_code.specs.Mid.{Code, Do, Over as OverList, Number, Text, Codes, End, At, all_values, answer_by, arguments, fit_row, gives_answer, fits, is_value, shape_of, AllSorted, Sorted}
+use Rattle.mid_code.specs.Mid.{Code, Do, Over as OverList, Number, Text, Codes, At, all_values, answer_by, arguments, fit_row, gives_answer, fits, is_value, shape_of, AllSorted, Sorted}
 use Rattle.mid_code.specs.View.{view, view_mid, view_texts, views}
 use Rattle.mid_code.specs.declared.mid.Expr.{Expr, Do as DoExpr, Over as OverExpr}
 use Rattle.mid_code.specs.declared.mid.Mid.{Mid}

@@ -1,10 +1,8 @@
 -- Operands, one after the other: their room, and that of the statements that they stand in.
-use Rattle.std.proofs.Common.{◌≡◌, ℕ, suc, ◌+◌, ◌≤◌, max, Bool, true, false, T, ◌&&◌, List, [], ◌∷◌, length, refl, ap, ◌∙◌, arith}
+use Rattle.std.proofs.Common.{◌≡◌, ℕ, ◌+◌, ◌≤◌, false, arith}
 use Rattle.lower_layout.specs.Layouts.{is_constant, behind, room_for, rooms_for}
 use Rattle.lower_layout.proofs.Rooms.{behind_sum}
-use Rattle.mid_code.specs.Mid.{Code, Do, Over as OverList, Number, Text, Codes, End, At, Eval, all_values, is_value, shape_of}
-use Rattle.mid_code.specs.View.{view, views}
-use Rattle.mid_code.specs.declared.mid.Expr.{Expr}
+use Rattle.mid_code.specs.Mid.{Code, Do, Over as OverList, Number, Text, Codes, At}
 
 pub room_behind : (e : Code) (es : Codes) (t most : ℕ) → t + rooms_for (At e es) ≤ most → behind e t + rooms_for es ≤ most
 room_behind e es t most l = let s = behind_sum e t (rooms_for es) in omega (arith, l, s)

@@ -1,6 +1,6 @@
 -- Instructions of a list, with others behind them.
 use Rattle.std.specs.Prelude.{◌≡◌, ℕ, suc, List, [], ◌∷◌}
-use Rattle.wasm_types.specs.Syntax.{Instructions, Then, Plain}
+use Rattle.wasm_types.specs.Syntax.{Instructions, Then}
 use Rattle.wasm_types.specs.View.{view}
 use Rattle.wasm_types.specs.declared.instr.Instr.{Instr}
 use Rattle.wasm_types.specs.declared.instr.Simple.{Simple}

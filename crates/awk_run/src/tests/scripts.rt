@@ -38,6 +38,7 @@ fn ends(rt: &HostRuntime, script: &str, end: RunEnd, output: &str) -> Result<boo
 }
 
 const LIST: &str = "BEGIN { print \"a\", 2*3-7; print \"b\\n\" }";
+
 const RANGE: &str = "BEGIN { print 9007199254740991+1; print 9007199254740992+1 }";
 
 #[test]

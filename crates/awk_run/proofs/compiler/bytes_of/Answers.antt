@@ -1,4 +1,4 @@
-use Rattle.std.proofs.Common.{◌≡◌, ◌⊎◌, inr, sym, subst, List, ℕ}
+use Rattle.std.proofs.Common.{inr, sym, subst}
 use Rattle.wasm_types.specs.ModuleGrammar.{IsModule}
 use Rattle.wasm_types.specs.Syntax.{ModuleForm}
 use Rattle.awk_run.proofs.compiler.bytes_of.Goals as goal

@@ -1,4 +1,4 @@
-use Rattle.std.proofs.Common.{◌≡◌, sym, subst}
+use Rattle.std.proofs.Common.{sym, subst}
 use Rattle.awk_run.specs.ModuleRun.{Unread}
 use Rattle.awk_run.specs.declared.end.RunEnd.{RunEnd}
 use Rattle.awk_run.proofs.Runs.{undecoded_answers}

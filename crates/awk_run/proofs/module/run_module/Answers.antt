@@ -1,8 +1,7 @@
-use Rattle.std.proofs.Common.{rules, ◌≡◌, sym, ap, ◌∙◌, subst}
+use Rattle.std.proofs.Common.{subst}
 use Rattle.host_calls.specs.HostState.{HostState}
-use Rattle.host_calls.specs.Hosts.{host_state, state_at_start}
+use Rattle.host_calls.specs.Hosts.{host_state}
 use Rattle.host_calls.specs.Jobs.{job_of}
-use Rattle.world_core.specs.WorldState.{State}
 use Rattle.wasm_types.specs.View.{view_module}
 use Rattle.awk_run.specs.ModuleRun.{RunAnswers}
 use Rattle.awk_run.proofs.Runs.{typed_answers}

@@ -1,6 +1,5 @@
-use Rattle.std.proofs.Common.{rules, ◌≡◌, sym, ap, ◌∙◌, subst, Option}
+use Rattle.std.proofs.Common.{◌≡◌, sym, ap, ◌∙◌, subst, Option}
 use Rattle.awk_values.specs.declared.fault.Fault.{Fault}
-use Rattle.world_core.specs.WorldState.{State}
 use Rattle.host_calls.specs.Hosts.{host_state}
 use Rattle.wasm_types.specs.View.{view_module}
 use Rattle.awk_run.specs.ModuleRun.{RunAnswers, run_end}

@@ -1,4 +1,4 @@
-use Rattle.std.proofs.Common.{◌≡◌, map}
+use Rattle.std.proofs.Common.{map}
 use Rattle.awk_tokens.specs.Views.{spelled}
 use Rattle.awk_tree.specs.ViewStmt.{view_script}
 use Rattle.mid_code.specs.Covered.{is_covered}

@@ -1,7 +1,5 @@
-use Rattle.std.proofs.Common.{◌≡◌, None, ap, ◌∙◌}
+use Rattle.std.proofs.Common.{None, ◌∙◌}
 use Rattle.wasm_types.specs.declared.instr.Instr.{If}
-use Rattle.wasm_types.specs.Syntax.{Instructions}
-use Rattle.lowering.specs.Behind.{followed}
 use Rattle.lowering.proofs.Appended.{emits_one, failing}
 use Rattle.lowering.proofs.emit.fail_if.Goals as goal
 

@@ -1,4 +1,4 @@
-use Rattle.std.proofs.Common.{◌≡◌, List, [], None, sym, ap, ◌∙◌}
+use Rattle.std.proofs.Common.{List, None, sym, ap, ◌∙◌}
 use Rattle.wasm_types.specs.declared.instr.Instr.{Instr, Block}
 use Rattle.wasm_types.specs.declared.instr.Simple.TheVariants.{I32Const}
 use Rattle.wasm_types.specs.Syntax.{Instruction, Instructions, Done, Then}

@@ -1,4 +1,4 @@
-use Rattle.std.proofs.Common.{◌≡◌, ◌+◌, ◌++◌, ℕ, List, map, drop, ap, ◌∙◌}
+use Rattle.std.proofs.Common.{◌+◌, ◌++◌, ℕ, List, map, drop, ap, ◌∙◌}
 use Rattle.wasm_types.specs.declared.module.Import.{Import}
 use Rattle.wasm_types.specs.View.{view_import}
 use Rattle.host_calls.specs.Imports.{imports as the_imports}
