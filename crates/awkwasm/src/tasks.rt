@@ -40,6 +40,11 @@ enum Undone {
 }
 
 impl From<AllocError> for Undone {
+    ghost use Rattle.std.specs.Prelude.{◌≡◌};
+    ghost use Rattle.awkwasm.specs.declared.tasks.Undone.TheVariants.{NoMemory};
+
+    ghost from_gives = { λ _ e. e ≡ NoMemory };
+
     fn from(_error: AllocError) -> Undone {
         Undone::NoMemory
     }
