@@ -85,7 +85,7 @@ abbrev pub IsPrefix : List Action → List Action → Type 0
 IsPrefix xs ys = (rest : List Action) × (ys ≡ xs ++ rest)
 
 -- A script and a module agree, in every plain job and whatever the outside is: what one does the other does, faults included, and while it goes on both
--- have put out the same so far. The module never traps, its work is bounded by a number that the module alone fixes, and it does not matter
+-- have put out the same so far. The module never traps, its work is bounded for each turn by one number for all jobs, outsides and turns, and it does not matter
 -- which free numbers the host picks. `script` is what the script does within so many turns.
 pub record Agreement (script : PlainJob → Outside → ℕ → Ending) (m : ModuleForm) : Type 0 where
   pub bound : ℕ
