@@ -8,15 +8,15 @@ use Rattle.awk_tokens.specs.declared.words.Keyword.TheVariants.{Delete}
 use Rattle.awk_tokens.specs.declared.token.Punctuator.TheVariants.{Pipe}
 use Rattle.awk_tokens.specs.declared.token.TokenKind.{TokenKind}
 use Rattle.awk_tokens.specs.declared.token.TokenKind.TheVariants.{Number, Keyword, LeftOut as LeftOutWord, Punctuator}
-use Rattle.awk_tree.specs.Token.{Token, Fault, Syntax as SyntaxFault, TooDeep as TooDeepFault}
-use Rattle.awk_tree.specs.Item.{Item, IsScript, print_script, script_depth}
-use Rattle.awk_tree.specs.Lexeme.{spoken}
-use Rattle.awk_tree.specs.ReadItem.{script_at}
-use Rattle.awk_tree.specs.TreeOf.{IsTreeOf}
-use Rattle.awk_tree.proofs.Sound.{that_is}
-use Rattle.awk_tree.proofs.ItemSound.{script_sound}
-use Rattle.awk_tree.proofs.ItemComplete.{script_again}
-use Rattle.awk_tree.proofs.StmtDeeper.{script_syntax_only}
+use Rattle.awk_grammar.specs.Token.{Token, Fault, Syntax as SyntaxFault, TooDeep as TooDeepFault}
+use Rattle.awk_grammar.specs.Item.{Item, IsScript, print_script, script_depth}
+use Rattle.awk_grammar.specs.Lexeme.{spoken}
+use Rattle.awk_grammar.specs.ReadItem.{script_at}
+use Rattle.awk_grammar.specs.TreeOf.{IsTreeOf}
+use Rattle.awk_grammar.proofs.Sound.{that_is}
+use Rattle.awk_grammar.proofs.ItemSound.{script_sound}
+use Rattle.awk_grammar.proofs.ItemComplete.{script_again}
+use Rattle.awk_grammar.proofs.StmtDeeper.{script_syntax_only}
 use Rattle.awk_parse.specs.Scan.{deletes_whole, number_fault, kind_fault, or_else, scan}
 use Rattle.awk_parse.specs.Parsing.{IsRead, IsParsed, HasNoTree, HasNoSmallTree, IsMisplaced, IsRefused, misplaced}
 use Rattle.awk_parse.specs.declared.fault.Feature.TheVariants.{Word, Pipe as PipeFeature, Delete as DeleteFeature}

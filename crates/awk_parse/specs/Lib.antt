@@ -1,7 +1,3 @@
-pub mod Seen
-pub mod Operands
-pub mod Names
 pub mod Scan
 pub mod Jumps
 pub mod Parsing
-pub mod Bodies

@@ -1,8 +1,8 @@
 -- What the parser answers.
 use Rattle.std.specs.Prelude.{◌≡◌, ℕ, ◌≤◌, Option, Some, None, List}
 use Rattle.awk_tokens.specs.Cutting.{Spelled}
-use Rattle.awk_tree.specs.Item.{Item, script_depth}
-use Rattle.awk_tree.specs.TreeOf.{IsTreeOf}
+use Rattle.awk_grammar.specs.Item.{Item, script_depth}
+use Rattle.awk_grammar.specs.TreeOf.{IsTreeOf}
 use Rattle.awk_parse.specs.Scan.{scan}
 use Rattle.awk_parse.specs.Jumps.{script_jumps, jump_lines, first_misplaced}
 use Rattle.awk_parse.specs.declared.fault.ParseFault.{ParseFault}

@@ -1,10 +1,6 @@
 //! Why tokens have no script.
 
-ghost use Rattle.std.specs.Prelude.{◌≡◌};
-ghost use Rattle.awk_parse.specs.declared.fault.Refusal.TheVariants.{NoMemory};
-
 use awk_tokens::LeftOut;
-use std::alloc::{AllocError, AllocFailed};
 
 /// What a script uses and this language leaves out.
 #[derive(Clone, Copy, Debug, PartialEq, Eq)]
@@ -34,28 +30,4 @@ pub enum ParseFault {
     Misplaced(usize),
     /// Memory was refused.
     NoMemory,
-}
-
-/// Why reading stopped, with the line of the token at which it did; none: behind the last token.
-#[derive(Clone, Copy, Debug, PartialEq, Eq)]
-pub(crate) enum Refusal {
-    Syntax(Option<usize>),
-    TooDeep(Option<usize>),
-    NoMemory,
-}
-
-impl From<AllocError> for Refusal {
-    ghost from_gives = { λ _ e. e ≡ NoMemory };
-
-    fn from(_e: AllocError) -> Refusal {
-        Refusal::NoMemory
-    }
-}
-
-impl<T: Drop> From<AllocFailed<T>> for Refusal {
-    ghost from_gives = { λ _ e. e ≡ NoMemory };
-
-    fn from(_e: AllocFailed<T>) -> Refusal {
-        Refusal::NoMemory
-    }
 }

@@ -2,11 +2,11 @@
 
 ghost use Rattle.std.specs.Prelude.{◌≡◌, ◌++◌, ◌∷◌, [], OnOk, IfOk, map};
 ghost use Rattle.awk_tokens.specs.Views.{spelled};
-ghost use Rattle.awk_tree.specs.ViewStmt.{view_stmt, view_stmts, view_jump, view_leaving, view_item, view_items, view_script};
+ghost use Rattle.awk_grammar.specs.ViewStmt.{view_stmt, view_stmts, view_jump, view_leaving, view_item, view_items, view_script};
 ghost use Rattle.awk_parse.specs.Jumps.{jump_fits, leave_fits, jumps, all_jumps, item_jumps, script_jumps, is_jump, jump_lines, first_misplaced};
 
+use awk_grammar::{Item, Jump, Leaving, Script, Stmt};
 use awk_tokens::{Keyword, Token, TokenKind};
-use awk_tree::{Item, Jump, Leaving, Script, Stmt};
 use std::alloc::{AllocError, Global};
 
 /// What a statement is part of.

@@ -2,19 +2,20 @@
 
 ghost use Rattle.std.specs.Prelude.{◌≡◌, IfOk, IfErr, IfSome, MatchResult, List, map};
 ghost use Rattle.awk_tokens.specs.Views.{spelled};
-ghost use Rattle.awk_tree.specs.Item.{Item};
-ghost use Rattle.awk_tree.specs.ReadItem.{script_at};
-ghost use Rattle.awk_tree.specs.ViewStmt.{view_script};
-ghost use Rattle.awk_parse.specs.Seen.{seen, Gives};
+ghost use Rattle.awk_grammar.specs.Item.{Item};
+ghost use Rattle.awk_grammar.specs.ReadItem.{script_at};
+ghost use Rattle.awk_grammar.specs.ViewStmt.{view_script};
+ghost use Rattle.awk_expressions.specs.Seen.{seen, Gives};
 ghost use Rattle.awk_parse.specs.Parsing.{IsParsed, IsRefused};
 ghost use Rattle.awk_parse.specs.declared.fault.ParseFault.TheVariants.{NoMemory};
 
-use crate::fault::{ParseFault, Refusal};
-use crate::item::items;
+use crate::fault::ParseFault;
 use crate::placed::misplaced;
 use crate::scan::scan;
+use awk_expressions::Refusal;
+use awk_grammar::Script;
+use awk_statements::items;
 use awk_tokens::Token;
-use awk_tree::Script;
 use std::alloc::Global;
 
 /// The tree of a script, jumps aside.

@@ -1,10 +1,10 @@
 -- From the parts of a compilation to what is said of the whole.
 use Rattle.std.proofs.Common.{◌≡◌, inr, ℕ, ◌≤◌, ◌^◌, List, length, sym, ◌∙◌, subst}
 use Rattle.world_core.specs.WorldState.{Outside}
-use Rattle.awk_state.specs.Jobs.{JobForm as PlainJob}
-use Rattle.mid_code.specs.Mid.{Program, IsSorted}
-use Rattle.mid_code.specs.MidMeaning.{mid_run}
-use Rattle.mid_code.specs.ScriptRun.{Ending, run_of}
+use Rattle.print_state.specs.Jobs.{JobForm as PlainJob}
+use Rattle.print_code.specs.Mid.{Program, IsSorted}
+use Rattle.print_code.specs.MidMeaning.{mid_run}
+use Rattle.print_code.specs.ScriptRun.{Ending, run_of}
 use Rattle.wasm_types.specs.Syntax.{ModuleForm}
 use Rattle.lowering.specs.Agreement.{Agreement, IsPrefix, output_in, output_of, plain}
 use Rattle.lowering.specs.Modules.{module_of}

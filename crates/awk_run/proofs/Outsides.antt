@@ -2,7 +2,7 @@
 use Rattle.std.proofs.Common.{◌≡◌, ℕ, zero, suc, List, [], ◌++◌, Option, Some, None, Result, Ok, Err, Bool, true, false, cond, refl, sym, ap, ◌∙◌}
 use Rattle.std.specs.Prelude.{⊤}
 use Rattle.awk_values.specs.declared.fault.Fault.{Fault}
-use Rattle.awk_state.specs.Sorts.{InAnswer, Row}
+use Rattle.print_state.specs.Sorts.{InAnswer, Row}
 use Rattle.world_core.specs.WorldState.{Action, after}
 use Rattle.world_core.proofs.StateLemmas.{after-append}
 use Rattle.wasm_store.specs.Memories.{MemoryForm}

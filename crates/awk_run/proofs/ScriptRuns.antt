@@ -3,7 +3,7 @@ use Rattle.std.proofs.Common.{◌≡◌, ◌≢◌, inl, inr, ℕ, ◌+◌, List
 use Rattle.std.specs.Prelude.{⊤}
 use Rattle.awk_values.specs.declared.fault.Fault.{Fault}
 use Rattle.world_core.specs.WorldState.{Action, State}
-use Rattle.mid_code.specs.ScriptRun.{Ending, FaultedBy, GoesOn, Exhausted, run_of}
+use Rattle.print_code.specs.ScriptRun.{Ending, FaultedBy, GoesOn, Exhausted, run_of}
 use Rattle.wasm_types.specs.Syntax.{ModuleForm}
 use Rattle.wasm_types.specs.ModuleGrammar.{IsModule}
 use Rattle.wasm_types.specs.Typing.{ModuleOk}

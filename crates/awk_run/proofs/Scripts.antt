@@ -7,11 +7,11 @@ use Rattle.awk_tokens.specs.declared.token.TokenFault.TheVariants.{BadByte, Open
 use Rattle.awk_tokens.specs.declared.token.TokenFault.TheVariants as cutting
 use Rattle.awk_tokens.proofs.Whole.{one_outcome}
 use Rattle.awk_parse.specs.Parsing.{IsParsed}
-use Rattle.awk_tree.specs.Item.{Item}
-use Rattle.awk_tree.proofs.ItemComplete.{one_script}
-use Rattle.mid_code.specs.Covered.{is_covered}
-use Rattle.mid_code.specs.declared.fault.MidFault.{MidFault}
-use Rattle.mid_code.specs.declared.fault.MidFault.TheVariants as translating
+use Rattle.awk_grammar.specs.Item.{Item}
+use Rattle.awk_grammar.proofs.ItemComplete.{one_script}
+use Rattle.print_code.specs.Covered.{is_covered}
+use Rattle.print_code.specs.declared.fault.MidFault.{MidFault}
+use Rattle.print_code.specs.declared.fault.MidFault.TheVariants as translating
 use Rattle.awk_run.specs.Beyond.{refusal_of}
 use Rattle.awk_run.specs.Compiled.{HasNoCode, HasNoScriptCode, IsScriptOf, IsUnparsed}
 use Rattle.awk_run.specs.declared.fault.CompileFault.{CompileFault}

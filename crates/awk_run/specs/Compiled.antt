@@ -2,13 +2,13 @@
 use Rattle.std.specs.Prelude.{◌≡◌, ◌⊎◌, ◌<◌, ◌≤◌, ◌^◌, ℕ, List, Ok, Some, length, map, true}
 use Rattle.awk_tokens.specs.Cutting.{IsTokens, Spelled}
 use Rattle.awk_parse.specs.Parsing.{IsParsed}
-use Rattle.awk_tree.specs.Item.{Item}
+use Rattle.awk_grammar.specs.Item.{Item}
 use Rattle.world_core.specs.WorldState.{Outside}
-use Rattle.mid_code.specs.Covered.{is_covered}
-use Rattle.mid_code.specs.Mid.{Program}
-use Rattle.mid_code.specs.MidMeaning.{EndsAs}
-use Rattle.mid_code.specs.ScriptRun.{run_of}
-use Rattle.mid_code.specs.Translation.{program_of}
+use Rattle.print_code.specs.Covered.{is_covered}
+use Rattle.print_code.specs.Mid.{Program}
+use Rattle.print_code.specs.MidMeaning.{EndsAs}
+use Rattle.print_code.specs.ScriptRun.{run_of}
+use Rattle.print_code.specs.Translation.{program_of}
 use Rattle.wasm_types.specs.Syntax.{ModuleForm}
 use Rattle.wasm_types.specs.ModuleGrammar.{IsModule}
 use Rattle.wasm_types.specs.Typing.{ModuleOk}

@@ -1,8 +1,8 @@
 -- What running a script answers: why it is not run, or what it did.
 use Rattle.std.specs.Prelude.{◌≡◌, ◌≢◌, ◌⊎◌, ℕ, List}
 use Rattle.world_core.specs.WorldState.{Action, State, after as outside_after}
-use Rattle.awk_tree.specs.Item.{Item}
-use Rattle.mid_code.specs.ScriptRun.{Ending, Ended, FaultedBy, Exhausted, run_of}
+use Rattle.awk_grammar.specs.Item.{Item}
+use Rattle.print_code.specs.ScriptRun.{Ending, Ended, FaultedBy, Exhausted, run_of}
 use Rattle.host_calls.specs.Jobs.{JobForm}
 use Rattle.lowering.specs.Agreement.{IsPlain, IsPrefix, output_of, plain}
 use Rattle.awk_run.specs.Compiled.{IsCompiled, IsNotCompiled}

@@ -1,14 +1,14 @@
 //! From a script to a module's bytes.
 ghost use Rattle.std.specs.Prelude.{◌≡◌, ◌⊎◌, List, IfOk, IfErr};
 ghost use Rattle.awk_run.specs.Compiled.{HasNoBytes, IsCompiled, IsModuleOf, IsNotCompiled};
-ghost use Rattle.mid_code.specs.View.{view_mid};
+ghost use Rattle.print_code.specs.View.{view_mid};
 
 use crate::fault::CompileFault;
 use crate::script::code_of;
 use lower_layout::{LowerFault, lay_out};
 use lowering::lower;
-use mid_code::Mid;
 use module_writer::{WriteFault, write};
+use print_code::Mid;
 use std::alloc::Global;
 
 /// The greatest length of a script.

@@ -6,8 +6,6 @@ mod end;
 mod fault;
 mod module;
 mod script;
-#[cfg(test)]
-mod tests;
 
 pub use compiler::compile;
 pub use end::{Refusal, RunEnd};

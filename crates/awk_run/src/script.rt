@@ -4,14 +4,14 @@ ghost use Rattle.awk_parse.specs.Parsing.{IsParsed};
 ghost use Rattle.awk_run.specs.Beyond.{is_known, line_beyond, refusal_of};
 ghost use Rattle.awk_run.specs.Compiled.{HasNoCode, HasNoScriptCode, IsCodeOf, IsScriptCode, IsUnparsed};
 ghost use Rattle.awk_tokens.specs.Views.{spelled};
-ghost use Rattle.awk_tree.specs.ViewStmt.{view_script};
-ghost use Rattle.mid_code.specs.View.{view_mid};
+ghost use Rattle.awk_grammar.specs.ViewStmt.{view_script};
+ghost use Rattle.print_code.specs.View.{view_mid};
 
 use crate::fault::CompileFault;
+use awk_grammar::Script;
 use awk_parse::{ParseFault, parse};
 use awk_tokens::{Keyword, Punctuator, Token, TokenFault, TokenKind, tokens};
-use awk_tree::Script;
-use mid_code::{Mid, MidFault, to_mid};
+use print_code::{Mid, MidFault, to_mid};
 use std::alloc::Global;
 
 /// Whether scripts that are compiled have such tokens.

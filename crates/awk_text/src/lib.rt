@@ -8,8 +8,6 @@ mod escapes;
 pub mod laws;
 mod number;
 mod reading;
-#[cfg(test)]
-mod tests;
 mod text;
 
 pub use escapes::{string_text, unescape};

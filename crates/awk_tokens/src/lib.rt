@@ -7,8 +7,6 @@ mod endings;
 mod front;
 mod laws;
 mod number;
-#[cfg(test)]
-mod tests;
 mod token;
 mod words;
 

@@ -1,16 +1,15 @@
 //! Whether an expression is well formed.
 
 ghost use Rattle.std.specs.Prelude.{◌≡◌, ◌&&◌, true};
-ghost use Rattle.awk_tree.specs.Token.{Assign};
-ghost use Rattle.awk_tree.specs.Tree.{Other, suits};
-ghost use Rattle.awk_tree.specs.WellFormed.{joins, is_some_tree, well_formed, all_well_formed};
-ghost use Rattle.awk_tree.specs.View.{view, views, view_binary, view_assign};
+ghost use Rattle.awk_grammar.specs.Token.{Assign};
+ghost use Rattle.awk_grammar.specs.Tree.{Other, suits};
+ghost use Rattle.awk_grammar.specs.WellFormed.{joins, is_some_tree, well_formed, all_well_formed};
+ghost use Rattle.awk_grammar.specs.View.{view, views, view_binary, view_assign};
 
-use crate::shape::{
-    Next, behind_left, fits_right, has_edge, head, is_allowed, is_field, left_floor, level,
-    may_begin, suits, takes,
+use awk_grammar::{
+    AssignOp, BinaryOp, Builtin, Expr, Next, behind_left, fits_right, has_edge, head, is_allowed,
+    is_field, left_floor, level, may_begin, suits, takes,
 };
-use crate::tree::{AssignOp, BinaryOp, Builtin, Expr};
 
 /// Whether an operator may stand between these operands.
 fn joins(greater: bool, op: BinaryOp, a: &Expr, b: &Expr) -> bool
@@ -31,7 +30,7 @@ fn assigns(greater: bool, op: AssignOp, a: &Expr, b: &Expr) -> bool
     has_edge(13, a) && !takes(true, a, Next::Other)
 }
 
-#[tactic(auto, using(crate::proofs::Views::some_views))]
+#[tactic(auto, using(awk_grammar::proofs::Views::some_views))]
 pub(crate) fn are_some(es: &[Expr]) -> bool
     ensures { result ≡ is_some_tree (views es.now) }
 {

@@ -1,16 +1,15 @@
 //! Whether statements and items are well formed.
 
 ghost use Rattle.std.specs.Prelude.{◌≡◌, ◌↔◌, IsTrue, true, map};
-ghost use Rattle.awk_tree.specs.Item.{IsScript};
-ghost use Rattle.awk_tree.specs.Stmt.{dangles};
-ghost use Rattle.awk_tree.specs.WellFormed.{well_formed, are_args, is_target, is_plain, is_maybe, is_maybe_plain, is_stmt, are_stmts, is_pattern, is_item, is_script};
-ghost use Rattle.awk_tree.specs.View.{view};
-ghost use Rattle.awk_tree.specs.ViewStmt.{view_word, view_args, view_target, view_simple, view_maybe, view_maybe_simple, view_stmt, view_stmts, view_pattern, view_item, view_items, view_script};
+ghost use Rattle.awk_grammar.specs.Item.{IsScript};
+ghost use Rattle.awk_grammar.specs.Stmt.{dangles};
+ghost use Rattle.awk_grammar.specs.WellFormed.{well_formed, are_args, is_target, is_plain, is_maybe, is_maybe_plain, is_stmt, are_stmts, is_pattern, is_item, is_script};
+ghost use Rattle.awk_grammar.specs.View.{view};
+ghost use Rattle.awk_grammar.specs.ViewStmt.{view_word, view_args, view_target, view_simple, view_maybe, view_maybe_simple, view_stmt, view_stmts, view_pattern, view_item, view_items, view_script};
 
 use crate::check::{are_fine, are_some, are_subscripts, is_fine};
-use crate::shape::level;
-use crate::tree::{
-    Expr, Item, Pattern, PrintArgs, PrintTarget, PrintWord, Script, SimpleStmt, Stmt,
+use awk_grammar::{
+    Expr, Item, Pattern, PrintArgs, PrintTarget, PrintWord, Script, SimpleStmt, Stmt, level,
 };
 
 fn are_print_args(word: PrintWord, args: &PrintArgs) -> bool

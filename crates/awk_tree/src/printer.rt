@@ -1,263 +1,97 @@
-//! From an expression to its tokens.
+//! From a script to its tokens.
 
-ghost use Rattle.std.specs.Prelude.{◌≡◌, [], ◌∷◌, ◌++◌, ◌<◌, length, drop, OnOk};
-ghost use Rattle.awk_tree.specs.Token.{Infix, Assign, StepMark, Name, InWord, Open, Close, Comma};
-ghost use Rattle.awk_tree.specs.Tree.{Index, Call, Apply, op_tokens, prefix_token, print, print_list, print_more};
-ghost use Rattle.awk_tree.specs.Lexeme.{lexeme, lexemes, keyword_lexeme, mark_lexeme};
-ghost use Rattle.awk_tree.specs.View.{view, views, view_step, view_unary, view_binary, view_assign};
+ghost use Rattle.std.specs.Prelude.{◌≡◌, ◌++◌, IfOk, OnOk};
+ghost use Rattle.awk_grammar.specs.Item.{print_names, print_params, print_pattern, print_item, print_script};
+ghost use Rattle.awk_grammar.specs.Lexeme.{lexemes};
+ghost use Rattle.awk_grammar.specs.ViewStmt.{view_pattern, view_names, view_item, view_items, view_script};
 
-use crate::printed::Printed;
-use crate::tree::{AssignOp, BinaryOp, Builtin, Expr, StepOp, UnaryOp};
+use awk_grammar::{Item, Pattern, Printed, Script};
+use awk_printer::{mark, push_block, push_expr, put, word};
 use awk_tokens::{Keyword, Punctuator};
-use std::alloc::AllocError;
+use std::alloc::{AllocError, Global};
 
-/// Adds a token.
-pub(crate) fn put<'a>(out: &mut Vec<Printed<'a>>, token: Printed<'a>) -> Result<(), AllocError>
-    ensures { OnOk result (lexemes out.new.items ≡ lexemes out.old.items ++ lexeme token.entry ∷ []) }
+fn push_names<'a>(out: &mut Vec<Printed<'a>>, names: &'a [Vec<u8>]) -> Result<(), AllocError>
+    ensures { OnOk result (lexemes out.new.items ≡ lexemes out.old.items ++ print_names (view_names names.now)) }
 {
-    out.push(token)?;
-    Ok(())
-}
-
-/// Adds a punctuator.
-pub(crate) fn mark(out: &mut Vec<Printed>, punctuator: Punctuator) -> Result<(), AllocError>
-    ensures { OnOk result (lexemes out.new.items ≡ lexemes out.old.items ++ mark_lexeme punctuator ∷ []) }
-{
-    put(out, Printed::Punctuator(punctuator))
-}
-
-/// Adds a word.
-pub(crate) fn word(out: &mut Vec<Printed>, keyword: Keyword) -> Result<(), AllocError>
-    ensures { OnOk result (lexemes out.new.items ≡ lexemes out.old.items ++ keyword_lexeme keyword ∷ []) }
-{
-    put(out, Printed::Keyword(keyword))
-}
-
-fn push_step(out: &mut Vec<Printed>, step: StepOp) -> Result<(), AllocError>
-    ensures { OnOk result (lexemes out.new.items ≡ lexemes out.old.items ++ StepMark (view_step step) ∷ []) }
-{
-    match step {
-        StepOp::Increment => mark(out, Punctuator::Increment),
-        StepOp::Decrement => mark(out, Punctuator::Decrement),
-    }
-}
-
-fn push_prefix(out: &mut Vec<Printed>, op: UnaryOp) -> Result<(), AllocError>
-    ensures { OnOk result (lexemes out.new.items ≡ lexemes out.old.items ++ prefix_token (view_unary op) ∷ []) }
-{
-    match op {
-        UnaryOp::Not => mark(out, Punctuator::Bang),
-        UnaryOp::Plus => mark(out, Punctuator::Plus),
-        UnaryOp::Minus => mark(out, Punctuator::Minus),
-    }
-}
-
-fn push_operator(out: &mut Vec<Printed>, op: BinaryOp) -> Result<(), AllocError>
-    ensures { OnOk result (lexemes out.new.items ≡ lexemes out.old.items ++ op_tokens (view_binary op)) }
-{
-    match op {
-        BinaryOp::Or => mark(out, Punctuator::Or),
-        BinaryOp::And => mark(out, Punctuator::And),
-        BinaryOp::Match => mark(out, Punctuator::Tilde),
-        BinaryOp::NoMatch => mark(out, Punctuator::NotTilde),
-        BinaryOp::Less => mark(out, Punctuator::Less),
-        BinaryOp::LessEqual => mark(out, Punctuator::LessEqual),
-        BinaryOp::Equal => mark(out, Punctuator::Equal),
-        BinaryOp::NotEqual => mark(out, Punctuator::NotEqual),
-        BinaryOp::Greater => mark(out, Punctuator::Greater),
-        BinaryOp::GreaterEqual => mark(out, Punctuator::GreaterEqual),
-        BinaryOp::Concat => Ok(()),
-        BinaryOp::Add => mark(out, Punctuator::Plus),
-        BinaryOp::Subtract => mark(out, Punctuator::Minus),
-        BinaryOp::Multiply => mark(out, Punctuator::Star),
-        BinaryOp::Divide => mark(out, Punctuator::Slash),
-        BinaryOp::Modulo => mark(out, Punctuator::Percent),
-        BinaryOp::Power => mark(out, Punctuator::Caret),
-    }
-}
-
-fn push_assignment(out: &mut Vec<Printed>, op: AssignOp) -> Result<(), AllocError>
-    ensures { OnOk result (lexemes out.new.items ≡ lexemes out.old.items ++ Infix (Assign (view_assign op)) ∷ []) }
-{
-    match op {
-        AssignOp::Set => mark(out, Punctuator::Assign),
-        AssignOp::Add => mark(out, Punctuator::PlusAssign),
-        AssignOp::Subtract => mark(out, Punctuator::MinusAssign),
-        AssignOp::Multiply => mark(out, Punctuator::StarAssign),
-        AssignOp::Divide => mark(out, Punctuator::SlashAssign),
-        AssignOp::Modulo => mark(out, Punctuator::PercentAssign),
-        AssignOp::Power => mark(out, Punctuator::CaretAssign),
-    }
-}
-
-/// Adds the tokens of an expression.
-#[cycle(printer)]
-pub(crate) fn push_expr<'a>(out: &mut Vec<Printed<'a>>, e: &'a Expr) -> Result<(), AllocError>
-    ensures { OnOk result (lexemes out.new.items ≡ lexemes out.old.items ++ print (view e.now)) }
-{
-    match e {
-        Expr::Number(text) => put(out, Printed::Number(text)),
-        Expr::Str(text) => put(out, Printed::Str(text)),
-        Expr::Ere(text) => put(out, Printed::Ere(text)),
-        Expr::Length => put(out, Printed::Builtin(Builtin::Length)),
-        Expr::Var(name) => put(out, Printed::Name(name)),
-        Expr::Element(name, subscripts) => push_element(out, name, subscripts),
-        Expr::Field(inner) => {
-            mark(out, Punctuator::Dollar)?;
-            push_expr(out, inner)
-        }
-        Expr::Group(inner) => {
-            mark(out, Punctuator::OpenParen)?;
-            push_expr(out, inner)?;
-            mark(out, Punctuator::CloseParen)
-        }
-        Expr::Call(name, arguments) => push_call(out, name, arguments),
-        Expr::Apply(function, arguments) => push_apply(out, *function, arguments),
-        Expr::Unary(op, inner) => {
-            push_prefix(out, *op)?;
-            push_expr(out, inner)
-        }
-        Expr::PreStep(step, inner) => {
-            push_step(out, *step)?;
-            push_expr(out, inner)
-        }
-        Expr::PostStep(step, inner) => {
-            push_expr(out, inner)?;
-            push_step(out, *step)
-        }
-        Expr::Binary(op, a, b) => {
-            push_expr(out, a)?;
-            push_operator(out, *op)?;
-            push_expr(out, b)
-        }
-        Expr::Assign(op, a, b) => {
-            push_expr(out, a)?;
-            push_assignment(out, *op)?;
-            push_expr(out, b)
-        }
-        Expr::In(a, name) => {
-            push_expr(out, a)?;
-            word(out, Keyword::In)?;
-            put(out, Printed::Name(name))
-        }
-        Expr::InList(first, others, name) => {
-            push_first(out, first)?;
-            push_others(out, others, name)
-        }
-        Expr::Conditional(a, b, c) => {
-            push_expr(out, a)?;
-            mark(out, Punctuator::Question)?;
-            push_expr(out, b)?;
-            mark(out, Punctuator::Colon)?;
-            push_expr(out, c)
-        }
-        Expr::Getline => word(out, Keyword::Getline),
-        Expr::GetlineInto(place) => {
-            word(out, Keyword::Getline)?;
-            push_expr(out, place)
-        }
-        Expr::GetlineFrom(file) => {
-            word(out, Keyword::Getline)?;
-            mark(out, Punctuator::Less)?;
-            push_expr(out, file)
-        }
-        Expr::GetlineIntoFrom(place, file) => {
-            word(out, Keyword::Getline)?;
-            push_expr(out, place)?;
-            mark(out, Punctuator::Less)?;
-            push_expr(out, file)
-        }
-    }
-}
-
-/// Adds a name and its subscripts in brackets.
-#[cycle(printer)]
-pub(crate) fn push_element<'a>(
-    out: &mut Vec<Printed<'a>>,
-    name: &'a [u8],
-    subscripts: &'a [Expr],
-) -> Result<(), AllocError>
-    ensures { OnOk result (lexemes out.new.items ≡ lexemes out.old.items ++ print (Index name.now (views subscripts.now))) }
-{
-    put(out, Printed::Name(name))?;
-    mark(out, Punctuator::OpenBracket)?;
-    push_list(out, subscripts)?;
-    mark(out, Punctuator::CloseBracket)
-}
-
-#[cycle(printer)]
-fn push_call<'a>(
-    out: &mut Vec<Printed<'a>>,
-    name: &'a [u8],
-    arguments: &'a [Expr],
-) -> Result<(), AllocError>
-    ensures { OnOk result (lexemes out.new.items ≡ lexemes out.old.items ++ print (Call name.now (views arguments.now))) }
-{
-    put(out, Printed::FuncName(name))?;
-    mark(out, Punctuator::OpenParen)?;
-    push_list(out, arguments)?;
-    mark(out, Punctuator::CloseParen)
-}
-
-#[cycle(printer)]
-fn push_apply<'a>(
-    out: &mut Vec<Printed<'a>>,
-    function: Builtin,
-    arguments: &'a [Expr],
-) -> Result<(), AllocError>
-    ensures { OnOk result (lexemes out.new.items ≡ lexemes out.old.items ++ print (Apply function (views arguments.now))) }
-{
-    put(out, Printed::Builtin(function))?;
-    mark(out, Punctuator::OpenParen)?;
-    push_list(out, arguments)?;
-    mark(out, Punctuator::CloseParen)
-}
-
-/// Adds the front of a list in parentheses.
-#[cycle(printer)]
-pub(crate) fn push_first<'a>(out: &mut Vec<Printed<'a>>, first: &'a Expr) -> Result<(), AllocError>
-    ensures { OnOk result (lexemes out.new.items ≡ lexemes out.old.items ++ (Open ∷ (print (view first.now) ++ Comma ∷ []))) }
-{
-    mark(out, Punctuator::OpenParen)?;
-    push_expr(out, first)?;
-    mark(out, Punctuator::Comma)
-}
-
-/// Adds the rest of a list of subscripts in parentheses, and the array.
-#[cycle(printer)]
-fn push_others<'a>(
-    out: &mut Vec<Printed<'a>>,
-    others: &'a [Expr],
-    name: &'a [u8],
-) -> Result<(), AllocError>
-    ensures { OnOk result (lexemes out.new.items ≡ lexemes out.old.items ++ (print_list (views others.now) ++ (Close ∷ (InWord ∷ (Name name.now ∷ []))))) }
-{
-    push_list(out, others)?;
-    mark(out, Punctuator::CloseParen)?;
-    word(out, Keyword::In)?;
-    put(out, Printed::Name(name))
-}
-
-/// Adds expressions with commas between them.
-#[cycle(printer)]
-pub(crate) fn push_list<'a>(out: &mut Vec<Printed<'a>>, es: &'a [Expr]) -> Result<(), AllocError>
-    ensures { OnOk result (lexemes out.new.items ≡ lexemes out.old.items ++ print_list (views es.now)) }
-{
-    if es.is_empty() {
-        return Ok(());
-    }
-    push_expr(out, &es[0])?;
-    push_more(out, es)
-}
-
-#[cycle(printer)]
-fn push_more<'a>(out: &mut Vec<Printed<'a>>, es: &'a [Expr]) -> Result<(), AllocError>
-    requires { 0 < length es.now }
-    ensures { OnOk result (lexemes out.new.items ≡ lexemes out.old.items ++ print_more (views (drop 1 es.now))) }
-{
-    for i in 1..es.len() {
+    for name in names {
         mark(out, Punctuator::Comma)?;
-        push_expr(out, &es[i])?;
+        put(out, Printed::Name(name))?;
     }
     Ok(())
+}
+
+fn push_params<'a>(out: &mut Vec<Printed<'a>>, names: &'a [Vec<u8>]) -> Result<(), AllocError>
+    ensures { OnOk result (lexemes out.new.items ≡ lexemes out.old.items ++ print_params (view_names names.now)) }
+{
+    match names {
+        [] => Ok(()),
+        [first, others @ ..] => {
+            put(out, Printed::Name(first))?;
+            push_names(out, others)
+        }
+    }
+}
+
+fn push_pattern<'a>(out: &mut Vec<Printed<'a>>, pattern: &'a Pattern) -> Result<(), AllocError>
+    ensures { OnOk result (lexemes out.new.items ≡ lexemes out.old.items ++ print_pattern (view_pattern pattern.now)) }
+{
+    match pattern {
+        Pattern::One(e) => push_expr(out, e),
+        Pattern::Range(first, last) => {
+            push_expr(out, first)?;
+            mark(out, Punctuator::Comma)?;
+            push_expr(out, last)
+        }
+    }
+}
+
+fn push_item<'a>(out: &mut Vec<Printed<'a>>, item: &'a Item) -> Result<(), AllocError>
+    ensures { OnOk result (lexemes out.new.items ≡ lexemes out.old.items ++ print_item (view_item item.now)) }
+{
+    match item {
+        Item::Function(name, params, body) => {
+            word(out, Keyword::Function)?;
+            put(out, Printed::Name(name))?;
+            mark(out, Punctuator::OpenParen)?;
+            push_params(out, params)?;
+            mark(out, Punctuator::CloseParen)?;
+            push_block(out, body)
+        }
+        Item::Begin(body) => {
+            word(out, Keyword::Begin)?;
+            push_block(out, body)
+        }
+        Item::End(body) => {
+            word(out, Keyword::End)?;
+            push_block(out, body)
+        }
+        Item::Action(body) => push_block(out, body),
+        Item::Rule(pattern, body) => {
+            push_pattern(out, pattern)?;
+            push_block(out, body)
+        }
+        Item::PatternOnly(pattern) => {
+            push_pattern(out, pattern)?;
+            mark(out, Punctuator::Semicolon)
+        }
+        Item::Empty => mark(out, Punctuator::Semicolon),
+    }
+}
+
+fn push_items<'a>(out: &mut Vec<Printed<'a>>, items: &'a [Item]) -> Result<(), AllocError>
+    ensures { OnOk result (lexemes out.new.items ≡ lexemes out.old.items ++ print_script (view_items items.now)) }
+{
+    for item in items {
+        push_item(out, item)?;
+    }
+    Ok(())
+}
+
+/// The tokens of a script, in order. The name of a function is a `Name`, whether `(` follows it at once or not.
+pub fn print_tokens(alloc: Global, script: &Script) -> Result<Vec<Printed<'_>>, AllocError>
+    ensures { IfOk result (λ tokens. lexemes tokens.items ≡ print_script (view_script script.now)) }
+{
+    let mut out = Vec::new(alloc);
+    push_items(&mut out, &script.items)?;
+    Ok(out)
 }

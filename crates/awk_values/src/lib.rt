@@ -5,8 +5,6 @@ mod bytes;
 mod comparison;
 mod fault;
 mod operators;
-#[cfg(test)]
-mod tests;
 mod value;
 
 pub use bytes::Bytes;

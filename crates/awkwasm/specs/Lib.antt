@@ -1,4 +1,1 @@
-pub mod EndTexts
-pub mod Examples
-pub mod OsStreams
 pub mod Words

@@ -1,11 +1,7 @@
 //! awkwasm: compiles AWK scripts to WebAssembly modules, and runs scripts and modules.
 #![tactic(auto)]
 
-mod os_world;
-mod report;
 mod tasks;
-#[cfg(test)]
-mod tests;
 
 use crate::tasks::carry_out;
 use command_line::{exit_status, request_of};

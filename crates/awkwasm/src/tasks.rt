@@ -2,17 +2,17 @@
 ghost use Rattle.std.specs.Prelude.{◌≡◌, map, IfOk};
 ghost use Rattle.awk_run.specs.ModuleRun.{Answers};
 ghost use Rattle.awk_run.specs.ScriptRuns.{ScriptAnswers};
-ghost use Rattle.awkwasm.specs.EndTexts.{exit_code};
+ghost use Rattle.run_report.specs.EndTexts.{exit_code};
 ghost use Rattle.awkwasm.specs.Words.{job_of_words};
 ghost use Rattle.host_calls.specs.Jobs.{job_of};
 
-use crate::os_world::OsWorld;
-use crate::report::{FileFault, fault_text, file_fault_text, status_of};
 use crate::{BAD_LINE, REFUSED};
 use awk_run::{CompileFault, Refusal, RunEnd, compile, run_module, run_script};
 use awk_values::Bytes;
 use command_line::{Request, Task};
 use host_calls::{Job, NamedText};
+use os_world::OsWorld;
+use run_report::{FileFault, fault_text, file_fault_text, status_of};
 use std::alloc::{AllocError, Global};
 use std::env::VarError;
 use std::io::{Print, Read};

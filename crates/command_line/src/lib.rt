@@ -12,9 +12,6 @@ use clap::error::ErrorKind;
 use clap::{Arg, ArgAction, ArgMatches, Command, Error};
 use std::alloc::{AllocError, Global};
 
-#[cfg(test)]
-mod tests;
-
 /// A run that is asked for: of what, and on what.
 #[derive(Drop)]
 pub struct Task<'a> {

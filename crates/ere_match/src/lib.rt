@@ -5,12 +5,8 @@ mod assemble;
 mod automaton;
 mod matching;
 mod node;
-#[cfg(test)]
-mod plain;
 mod scan;
 mod step;
-#[cfg(test)]
-mod tests;
 mod threads;
 
 pub use automaton::Auto;

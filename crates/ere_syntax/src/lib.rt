@@ -13,8 +13,6 @@ mod read;
 mod sign;
 mod size;
 mod step;
-#[cfg(test)]
-mod tests;
 mod token;
 mod tree;
 

@@ -4,7 +4,7 @@ use Rattle.std.specs.Ordering.{int_cmp}
 use Rattle.std.specs.FinMap.{FinMap}
 use Rattle.awk_values.specs.declared.fault.Fault.{Fault}
 use Rattle.awk_values.specs.declared.value.Value.{Value}
-use Rattle.awk_state.specs.SharedState.{Specials}
+use Rattle.print_state.specs.SharedState.{Specials}
 use Rattle.world_core.specs.WorldState.{Outside}
 use Rattle.host_calls.specs.Hosts.{state_by}
 

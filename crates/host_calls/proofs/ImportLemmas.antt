@@ -5,7 +5,7 @@ use Rattle.std.proofs.lemmas.List.{append-nil}
 use Rattle.std.specs.Prelude.{slice_get}
 use Rattle.wasm_types.specs.View.{signature_of}
 use Rattle.wasm_types.specs.declared.types.FuncType.{FuncType}
-use Rattle.awk_state.specs.declared.sorts.Argument.{Argument}
+use Rattle.print_state.specs.declared.sorts.Argument.{Argument}
 use Rattle.wasm_types.specs.Syntax.{Signature}
 use Rattle.std.proofs.lemmas.Option.{slice_get-map}
 use Rattle.std.specs.Option.{option_map}

@@ -1,7 +1,7 @@
 -- The steps of the argument list: a value appended, and a value given up.
 use Rattle.std.proofs.Common.{◌≡◌, ℕ, List, [], ◌∷◌, ◌++◌, cond, Some, None, Result, Ok, Err, refl, sym, ap, ◌∙◌, subst}
 use Rattle.awk_values.specs.declared.value.Value.{Value}
-use Rattle.awk_state.specs.SharedState.{Shared}
+use Rattle.print_state.specs.SharedState.{Shared}
 use Rattle.wasm_machine.specs.declared.host.HostAnswer.TheVariants as told
 use Rattle.wasm_store.specs.declared.trap.TrapKind.{TrapKind}
 use Rattle.wasm_store.specs.declared.word.Word.{Word}

@@ -5,7 +5,7 @@ use Rattle.std.proofs.lemmas.List.{append-nil, take_all}
 use Rattle.std.specs.Option.{unwrap_or}
 use Rattle.awk_values.specs.declared.value.Value.{Value}
 use Rattle.awk_values.specs.Values.{text_of_value}
-use Rattle.awk_state.specs.OutputRows.{joined}
+use Rattle.print_state.specs.OutputRows.{joined}
 use Rattle.world_core.specs.WorldState.{Target, Standard, Entry, bytes_of, left_of, free, Outside, State, Action, Put, acted, step, after, puts}
 use Rattle.world_core.specs.Calls.{Does, Writes, WritesSome}
 use Rattle.world_core.specs.declared.world.WorldFault.{WorldFault}

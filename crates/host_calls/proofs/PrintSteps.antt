@@ -6,17 +6,17 @@ use Rattle.std.specs.FinMap.{FinMap}
 use Rattle.awk_values.specs.declared.fault.Fault.{Fault}
 use Rattle.awk_values.specs.declared.fault.Fault.TheVariants.{WriteFailed}
 use Rattle.awk_values.specs.declared.value.Value.{Value}
-use Rattle.awk_state.specs.Constants.{InConstant, constant_at}
-use Rattle.awk_state.specs.OutputRows.{all_fits, printed, what_fits}
-use Rattle.awk_state.specs.SharedState.{Specials}
-use Rattle.awk_state.specs.Table.{listed_meaning}
-use Rattle.awk_state.specs.declared.constants.Destination.{Destination}
-use Rattle.awk_state.specs.declared.constants.Destination.TheVariants.{Standard, Emptied, Appended}
-use Rattle.awk_state.specs.declared.sorts.Answer.TheVariants as answer
-use Rattle.awk_state.specs.declared.sorts.Argument.TheVariants as argument
-use Rattle.awk_state.specs.declared.sorts.Constant.{Constant}
-use Rattle.awk_state.specs.declared.sorts.Constant.TheVariants as constant
-use Rattle.awk_state.specs.declared.table.Listed.TheVariants.{Print}
+use Rattle.print_state.specs.Constants.{InConstant, constant_at}
+use Rattle.print_state.specs.OutputRows.{all_fits, printed, what_fits}
+use Rattle.print_state.specs.SharedState.{Specials}
+use Rattle.print_state.specs.Table.{listed_meaning}
+use Rattle.print_state.specs.declared.constants.Destination.{Destination}
+use Rattle.print_state.specs.declared.constants.Destination.TheVariants.{Standard, Emptied, Appended}
+use Rattle.print_state.specs.declared.sorts.Answer.TheVariants as answer
+use Rattle.print_state.specs.declared.sorts.Argument.TheVariants as argument
+use Rattle.print_state.specs.declared.sorts.Constant.{Constant}
+use Rattle.print_state.specs.declared.sorts.Constant.TheVariants as constant
+use Rattle.print_state.specs.declared.table.Listed.TheVariants.{Print}
 use Rattle.wasm_machine.specs.declared.host.HostAnswer.{HostAnswer}
 use Rattle.wasm_machine.specs.declared.host.HostAnswer.TheVariants as told
 use Rattle.wasm_store.specs.declared.trap.TrapKind.{TrapKind}

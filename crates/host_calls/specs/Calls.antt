@@ -6,10 +6,10 @@ use Rattle.std.specs.Ordering.{int_cmp}
 use Rattle.std.specs.FinMap.{FinMap}
 use Rattle.awk_values.specs.declared.value.Value.{Value as AnyValue}
 use Rattle.wasm_store.specs.declared.trap.TrapKind.{TrapKind}
-use Rattle.awk_state.specs.Constants.{flag_number}
-use Rattle.awk_state.specs.declared.constants.Destination.{Destination}
-use Rattle.awk_state.specs.declared.constants.Destination.TheVariants.{Standard, Emptied, Appended}
-use Rattle.awk_state.specs.declared.sorts.Constant.TheVariants as constant
+use Rattle.print_state.specs.Constants.{flag_number}
+use Rattle.print_state.specs.declared.constants.Destination.{Destination}
+use Rattle.print_state.specs.declared.constants.Destination.TheVariants.{Standard, Emptied, Appended}
+use Rattle.print_state.specs.declared.sorts.Constant.TheVariants as constant
 use Rattle.wasm_machine.specs.declared.host.HostAnswer.{HostAnswer}
 use Rattle.wasm_machine.specs.declared.host.HostAnswer.TheVariants.{Done, Trap, NoMemory}
 use Rattle.wasm_store.specs.declared.word.Word.{Word}

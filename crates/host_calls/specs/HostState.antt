@@ -6,23 +6,23 @@ use Rattle.std.specs.FinMap as map
 use Rattle.std.specs.FinMap.{FinMap}
 use Rattle.awk_values.specs.declared.fault.Fault.{Fault}
 use Rattle.awk_values.specs.declared.value.Value.{Value as AnyValue}
-use Rattle.awk_state.specs.Constants.{InConstant, constant_at, flag_number}
-use Rattle.awk_state.specs.Numbers.{faulted_word, number_of_word, number_word}
-use Rattle.awk_state.specs.SharedState.{Shared}
-use Rattle.awk_state.specs.Sorts.{In, InAnswer, InArgument, Row}
-use Rattle.awk_state.specs.declared.answers.InputAnswer.{InputAnswer}
-use Rattle.awk_state.specs.declared.answers.InputAnswer.TheVariants as input
-use Rattle.awk_state.specs.declared.answers.AssignAnswer.{AssignAnswer}
-use Rattle.awk_state.specs.declared.answers.AssignAnswer.TheVariants as assign
-use Rattle.awk_state.specs.declared.answers.CloseAnswer.{CloseAnswer}
-use Rattle.awk_state.specs.declared.answers.CloseAnswer.TheVariants as close
-use Rattle.awk_state.specs.declared.sorts.Sort.{Sort}
-use Rattle.awk_state.specs.declared.sorts.Sort.TheVariants.{Value, Number, Array, Iterator}
-use Rattle.awk_state.specs.declared.sorts.Constant.{Constant}
-use Rattle.awk_state.specs.declared.sorts.Argument.{Argument}
-use Rattle.awk_state.specs.declared.sorts.Argument.TheVariants as argument
-use Rattle.awk_state.specs.declared.sorts.Answer.{Answer}
-use Rattle.awk_state.specs.declared.sorts.Answer.TheVariants as answer
+use Rattle.print_state.specs.Constants.{InConstant, constant_at, flag_number}
+use Rattle.print_state.specs.Numbers.{faulted_word, number_of_word, number_word}
+use Rattle.print_state.specs.SharedState.{Shared}
+use Rattle.print_state.specs.Sorts.{In, InAnswer, InArgument, Row}
+use Rattle.print_state.specs.declared.answers.InputAnswer.{InputAnswer}
+use Rattle.print_state.specs.declared.answers.InputAnswer.TheVariants as input
+use Rattle.print_state.specs.declared.answers.AssignAnswer.{AssignAnswer}
+use Rattle.print_state.specs.declared.answers.AssignAnswer.TheVariants as assign
+use Rattle.print_state.specs.declared.answers.CloseAnswer.{CloseAnswer}
+use Rattle.print_state.specs.declared.answers.CloseAnswer.TheVariants as close
+use Rattle.print_state.specs.declared.sorts.Sort.{Sort}
+use Rattle.print_state.specs.declared.sorts.Sort.TheVariants.{Value, Number, Array, Iterator}
+use Rattle.print_state.specs.declared.sorts.Constant.{Constant}
+use Rattle.print_state.specs.declared.sorts.Argument.{Argument}
+use Rattle.print_state.specs.declared.sorts.Argument.TheVariants as argument
+use Rattle.print_state.specs.declared.sorts.Answer.{Answer}
+use Rattle.print_state.specs.declared.sorts.Answer.TheVariants as answer
 use Rattle.wasm_store.specs.declared.trap.TrapKind.{TrapKind}
 use Rattle.wasm_store.specs.declared.trap.TrapKind.TheVariants.{BadHandle, BadPointer, BadArgument}
 use Rattle.wasm_store.specs.declared.word.Word.{Word}

@@ -2,13 +2,13 @@
 use Rattle.std.specs.Prelude.{ℕ, ◌-◌, ◌≡◌, ◌≢◌, nat_le, Bool, true, false, cond, List, [], ◌∷◌, ◌++◌, length, take, drop, Option, Some, None, Result, Ok, Err, if◌then◌else◌}
 use Rattle.awk_values.specs.declared.fault.Fault.{Fault}
 use Rattle.awk_values.specs.declared.value.Value.{Value as AnyValue}
-use Rattle.awk_state.specs.SharedState.{Shared, Does, gives, shared_after}
-use Rattle.awk_state.specs.Sorts.{InAnswer, OrFault, Row}
-use Rattle.awk_state.specs.Table.{can_fault, listed_answer, listed_meaning, meaning}
-use Rattle.awk_state.specs.declared.constants.Destination.TheVariants.{Standard, Emptied, Appended}
-use Rattle.awk_state.specs.declared.sorts.Answer.{Answer}
-use Rattle.awk_state.specs.declared.table.Listed.{Listed}
-use Rattle.awk_state.specs.declared.table.Listed.TheVariants.{Print}
+use Rattle.print_state.specs.SharedState.{Shared, Does, gives, shared_after}
+use Rattle.print_state.specs.Sorts.{InAnswer, OrFault, Row}
+use Rattle.print_state.specs.Table.{can_fault, listed_answer, listed_meaning, meaning}
+use Rattle.print_state.specs.declared.constants.Destination.TheVariants.{Standard, Emptied, Appended}
+use Rattle.print_state.specs.declared.sorts.Answer.{Answer}
+use Rattle.print_state.specs.declared.table.Listed.{Listed}
+use Rattle.print_state.specs.declared.table.Listed.TheVariants.{Print}
 use Rattle.wasm_machine.specs.declared.host.HostAnswer.{HostAnswer}
 use Rattle.wasm_machine.specs.declared.host.HostAnswer.TheVariants as told
 use Rattle.wasm_store.specs.declared.trap.TrapKind.{TrapKind}

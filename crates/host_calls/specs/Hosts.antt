@@ -5,8 +5,8 @@ use Rattle.std.specs.FinMap as map
 use Rattle.std.specs.FinMap.{FinMap}
 use Rattle.awk_values.specs.declared.fault.Fault.{Fault}
 use Rattle.awk_values.specs.declared.value.Value.{Value}
-use Rattle.awk_state.specs.SharedState.{Specials as AllSpecials, Inner, specials_at_start}
-use Rattle.awk_state.specs.declared.constants.Special.TheVariants.{Argc, Convfmt, Filename, Fnr, Fs, Nf, Nr, Ofmt, Ofs, Ors, Rlength, Rs, Rstart, Subsep}
+use Rattle.print_state.specs.SharedState.{Specials as AllSpecials, Inner, specials_at_start}
+use Rattle.print_state.specs.declared.constants.Special.TheVariants.{Argc, Convfmt, Filename, Fnr, Fs, Nf, Nr, Ofmt, Ofs, Ors, Rlength, Rs, Rstart, Subsep}
 use Rattle.world_core.specs.WorldState.{Outside, State}
 use Rattle.host_calls.specs.HostState.{HostState, Names}
 use Rattle.host_calls.specs.Jobs.{JobForm, first_fault}

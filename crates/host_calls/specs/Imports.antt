@@ -7,17 +7,17 @@ use Rattle.wasm_types.specs.View.{signature_of}
 use Rattle.wasm_types.specs.declared.types.FuncType.{FuncType}
 use Rattle.wasm_types.specs.declared.types.ValType.{ValType}
 use Rattle.wasm_types.specs.declared.types.ValType.TheVariants.{I32, I64}
-use Rattle.awk_state.specs.Table.{arguments_of, answer_of, listed_answer}
-use Rattle.awk_state.specs.declared.sorts.Argument.{Argument}
-use Rattle.awk_state.specs.declared.sorts.Argument.TheVariants as argument
-use Rattle.awk_state.specs.declared.sorts.Answer.{Answer}
-use Rattle.awk_state.specs.declared.sorts.Answer.TheVariants as answer
-use Rattle.awk_state.specs.declared.sorts.Constant.TheVariants as constant
-use Rattle.awk_state.specs.declared.sorts.Sort.TheVariants as sort
-use Rattle.awk_state.specs.declared.table.Primitive.{Primitive}
-use Rattle.awk_state.specs.declared.table.Primitive.TheVariants.{Num, Lit, Uninit, Dup, ToNum, IntOf, Truth, Compare, Concat, Pow, Fail}
-use Rattle.awk_state.specs.declared.table.Listed.{Listed}
-use Rattle.awk_state.specs.declared.table.Listed.TheVariants.{Print}
+use Rattle.print_state.specs.Table.{arguments_of, answer_of, listed_answer}
+use Rattle.print_state.specs.declared.sorts.Argument.{Argument}
+use Rattle.print_state.specs.declared.sorts.Argument.TheVariants as argument
+use Rattle.print_state.specs.declared.sorts.Answer.{Answer}
+use Rattle.print_state.specs.declared.sorts.Answer.TheVariants as answer
+use Rattle.print_state.specs.declared.sorts.Constant.TheVariants as constant
+use Rattle.print_state.specs.declared.sorts.Sort.TheVariants as sort
+use Rattle.print_state.specs.declared.table.Primitive.{Primitive}
+use Rattle.print_state.specs.declared.table.Primitive.TheVariants.{Num, Lit, Uninit, Dup, ToNum, IntOf, Truth, Compare, Concat, Pow, Fail}
+use Rattle.print_state.specs.declared.table.Listed.{Listed}
+use Rattle.print_state.specs.declared.table.Listed.TheVariants.{Print}
 use Rattle.host_calls.specs.declared.import.Import.{Import}
 use Rattle.host_calls.specs.declared.import.Import.TheVariants.{Of, Over, Arg, Drop}
 

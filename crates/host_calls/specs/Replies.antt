@@ -9,14 +9,14 @@ use Rattle.awk_values.specs.Values.{number_of_value, text_of_value, truth_of_val
 use Rattle.awk_values.specs.declared.fault.Fault.{Fault}
 use Rattle.awk_values.specs.declared.value.Value.{Value as AnyValue}
 use Rattle.awk_values.specs.declared.value.Value.TheVariants as value
-use Rattle.awk_state.specs.Constants.{InConstant}
-use Rattle.awk_state.specs.Sorts.{In}
-use Rattle.awk_state.specs.ValueRows.{truncated, within_limit}
-use Rattle.awk_state.specs.declared.sorts.Sort.TheVariants as sort
-use Rattle.awk_state.specs.declared.sorts.Constant.{Constant}
-use Rattle.awk_state.specs.declared.sorts.Constant.TheVariants as constant
-use Rattle.awk_state.specs.declared.table.Primitive.{Primitive}
-use Rattle.awk_state.specs.declared.table.Primitive.TheVariants.{Num, Lit, Uninit, Dup, ToNum, IntOf, Truth, Compare, Concat, Pow, Fail}
+use Rattle.print_state.specs.Constants.{InConstant}
+use Rattle.print_state.specs.Sorts.{In}
+use Rattle.print_state.specs.ValueRows.{truncated, within_limit}
+use Rattle.print_state.specs.declared.sorts.Sort.TheVariants as sort
+use Rattle.print_state.specs.declared.sorts.Constant.{Constant}
+use Rattle.print_state.specs.declared.sorts.Constant.TheVariants as constant
+use Rattle.print_state.specs.declared.table.Primitive.{Primitive}
+use Rattle.print_state.specs.declared.table.Primitive.TheVariants.{Num, Lit, Uninit, Dup, ToNum, IntOf, Truth, Compare, Concat, Pow, Fail}
 use Rattle.wasm_store.specs.declared.trap.TrapKind.{TrapKind}
 use Rattle.wasm_store.specs.declared.word.Word.{Word}
 use Rattle.host_calls.specs.HostState.{constant_front, no_more, number_front, place_front, value_front}

@@ -3,9 +3,9 @@ use Rattle.std.specs.Prelude.{◌≡◌, ◌++◌, ◌^◌, pos, List, [], ◌�
 use Rattle.std.specs.FinMap as map
 use Rattle.awk_values.specs.declared.fault.Fault.TheVariants.{NextOutside, Range, WriteFailed}
 use Rattle.awk_values.specs.declared.value.Value.TheVariants as value
-use Rattle.awk_state.specs.SharedState.{specials_at_start}
-use Rattle.awk_state.specs.declared.table.Listed.TheVariants.{Print}
-use Rattle.awk_state.specs.declared.table.Primitive.TheVariants.{Num, Lit, Uninit, ToNum, Compare, Fail}
+use Rattle.print_state.specs.SharedState.{specials_at_start}
+use Rattle.print_state.specs.declared.table.Listed.TheVariants.{Print}
+use Rattle.print_state.specs.declared.table.Primitive.TheVariants.{Num, Lit, Uninit, ToNum, Compare, Fail}
 use Rattle.wasm_store.specs.declared.trap.TrapKind.{TrapKind}
 use Rattle.wasm_store.specs.declared.trap.TrapKind.TheVariants.{BadPointer, BadArgument}
 use Rattle.wasm_store.specs.declared.word.Word.{Word}

@@ -1,7 +1,7 @@
 //! The calls of a module.
 ghost use Rattle.std.specs.Prelude.{List, ℕ, ◌≡◌, [], ◌∷◌, ◌++◌, ◌≤◌, None, Some, IfOk, OnErr, OnOk, length};
-ghost use Rattle.awk_state.specs.OutputRows.{printed};
-ghost use Rattle.awk_state.specs.declared.table.Listed.{Listed};
+ghost use Rattle.print_state.specs.OutputRows.{printed};
+ghost use Rattle.print_state.specs.declared.table.Listed.{Listed};
 ghost use Rattle.host_calls.specs.Calls.{Gives, MeansSome, lent_value, only_value, print_count};
 ghost use Rattle.host_calls.specs.HostStep.{last_of, refuses};
 ghost use Rattle.host_calls.specs.HostState.{refusal};
@@ -16,9 +16,9 @@ use crate::output::{printed, put_text};
 use crate::reply::{Refusal, Reply};
 use crate::specials::Specials;
 use crate::words::{count_front, destination_front, ends, value_front};
-use awk_state::{Answer, Destination, Listed, Primitive, Sort, Special};
 use awk_values::{Fault, Value};
 use host_handles::Handles;
+use print_state::{Answer, Destination, Listed, Primitive, Sort, Special};
 use smallvec::SmallVec;
 use std::alloc::{AllocError, Global};
 use wasm_machine::{HostAnswer, HostCalls};

@@ -1,18 +1,18 @@
 //! Primitives on values.
 ghost use Rattle.std.specs.Prelude.{◌≡◌, ◌+◌, ◌++◌, ◌^◌, [], IfOk, OnOk, length, nat_le};
 ghost use Rattle.std.specs.FinMap as map;
-ghost use Rattle.awk_state.specs.ValueRows.{truncated};
-ghost use Rattle.awk_state.specs.declared.table.Primitive.{Primitive};
+ghost use Rattle.print_state.specs.ValueRows.{truncated};
+ghost use Rattle.print_state.specs.declared.table.Primitive.{Primitive};
 ghost use Rattle.awk_values.specs.Values.{as_fault, text_of_value};
 ghost use Rattle.awk_text.specs.Number.{truncated_of_text};
 ghost use Rattle.host_calls.specs.Replies.{Evaluated, evaluation};
 
 use crate::reply::{Refusal, Reply, number_reply, truth_reply};
 use crate::words::{comparison_front, ends, fault_front, number_front, place_front, value_front};
-use awk_state::Primitive;
 use awk_text::{NumberFault, text_of, truncated_of};
 use awk_values::{Bytes, Fault, Value, compare, pow, to_number, truth};
 use host_handles::Handles;
+use print_state::Primitive;
 use std::alloc::{AllocError, Global};
 use wasm_store::Word;
 

@@ -2,7 +2,7 @@
 ghost use Rattle.std.specs.Prelude.{◌≡◌};
 ghost use Rattle.host_calls.specs.Imports.{has_name, import_answer, import_arguments, import_at, import_name, number_named};
 
-use awk_state::{Answer, Argument, Constant, Listed, Primitive, Sort};
+use print_state::{Answer, Argument, Constant, Listed, Primitive, Sort};
 
 /// What a module may ask of the host.
 #[derive(Clone, Copy, Debug, PartialEq, Eq, Drop)]

@@ -11,8 +11,6 @@ mod output;
 mod reply;
 mod specials;
 mod start;
-#[cfg(test)]
-mod tests;
 mod words;
 
 pub use host::Host;

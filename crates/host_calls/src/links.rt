@@ -5,7 +5,7 @@ ghost use Rattle.wasm_machine.specs.Hosts.{found_as};
 ghost use Rattle.wasm_types.specs.View.{signature_of};
 
 use crate::import::{IMPORTS, Import, number_named};
-use awk_state::{Answer, Argument, Sort};
+use print_state::{Answer, Argument, Sort};
 use std::alloc::{AllocError, Global};
 use std::marker::Model;
 use wasm_types::{FuncType, ValType};

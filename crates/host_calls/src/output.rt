@@ -1,6 +1,6 @@
 //! Output.
 ghost use Rattle.std.specs.Prelude.{◌≡◌, ◌++◌, IfOk, OnOk};
-ghost use Rattle.awk_state.specs.OutputRows.{joined};
+ghost use Rattle.print_state.specs.OutputRows.{joined};
 ghost use Rattle.awk_values.specs.Values.{text_of_value};
 ghost use Rattle.world_core.specs.Calls.{Writing, next_count};
 ghost use Rattle.host_calls.specs.Output.{PutsText, followed};

@@ -1,10 +1,10 @@
 //! The special variables.
 ghost use Rattle.std.specs.Prelude.{◌≡◌, ◌<◌, ◌^◌, IfOk};
-ghost use Rattle.awk_state.specs.SharedState.{specials_at_start};
+ghost use Rattle.print_state.specs.SharedState.{specials_at_start};
 ghost use Rattle.host_calls.specs.Hosts.{specials_of};
 
-use awk_state::Special;
 use awk_values::{Bytes, Value};
+use print_state::Special;
 use std::alloc::{AllocError, Global};
 
 /// The values of the special variables (POSIX.1-2017 awk, "Variables and Special Variables").

@@ -1,14 +1,14 @@
 //! What the words of a call say: each function takes one argument from their front, and gives the words behind it.
 ghost use Rattle.std.specs.Prelude.{◌≡◌, ◌<◌, ◌≤◌, ◌^◌, IfOk, IsOk, IfSome, option_copied, slice_get, unsigned_abs};
-ghost use Rattle.awk_state.specs.Constants.{comparison_at, destination_at, fault_at, faults};
-ghost use Rattle.awk_state.specs.declared.sorts.Constant.{Constant};
+ghost use Rattle.print_state.specs.Constants.{comparison_at, destination_at, fault_at, faults};
+ghost use Rattle.print_state.specs.declared.sorts.Constant.{Constant};
 ghost use Rattle.awk_text.specs.NumberText.{InRange};
 ghost use Rattle.host_calls.specs.HostState.{constant_front, no_more, number_front, place_front, text_at, value_front};
 ghost use Rattle.host_calls.specs.Replies.{lent, owned, plain_number};
 
-use awk_state::Destination;
 use awk_values::{CompareOp, Fault, Value};
 use host_handles::Handles;
+use print_state::Destination;
 use wasm_store::{TrapKind, Word};
 
 /// The operators of comparison in the order of their numbers.

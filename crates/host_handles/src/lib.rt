@@ -2,7 +2,5 @@
 #![tactic(auto)]
 
 mod handles;
-#[cfg(test)]
-mod tests;
 
 pub use handles::Handles;

@@ -2,7 +2,7 @@
 use Rattle.std.proofs.Common.{◌≡◌, ℕ, zero, suc, ◌+◌, ◌-◌, ◌<◌, ◌≤◌, List, [], ◌∷◌, ◌++◌, length, get_or, refl, sym, ap, ◌∙◌, arith, length-append}
 use Rattle.std.proofs.lemmas.List.{get_or-map, length-map}
 use Rattle.std.specs.Global.{Vec}
-use Rattle.mid_code.specs.View.{view_texts}
+use Rattle.print_code.specs.View.{view_texts}
 use Rattle.lower_layout.specs.Layouts.{place_of, memory_of}
 
 pub place_first : (texts : List (List ℕ)) → place_of texts 0 ≡ 0

@@ -1,14 +1,14 @@
 -- What is left to need behind the operands that were counted.
 use Rattle.std.proofs.Common.{◌≡◌, ℕ, zero, suc, ◌+◌, ◌≤◌, max, Bool, true, false, cond, refl, ap, ◌∙◌, arith}
 use Rattle.lower_layout.specs.Layouts.{is_constant, behind, room_for, rooms_for}
-use Rattle.mid_code.specs.Mid.{Code, Do, Over as OverList, Number, Text, Codes, End, At}
+use Rattle.print_code.specs.Mid.{Code, Do, Over as OverList, Number, Text, Codes, End, At}
 use Rattle.std.specs.declared.vec.Vec.{Vec}
 use Rattle.std.specs.declared.alloc.Global.{Global}
-use Rattle.awk_state.specs.declared.table.Listed.{Listed}
-use Rattle.mid_code.specs.View.{view, views}
-use Rattle.mid_code.specs.declared.mid.Expr.{Expr, Do as DoExpr, Over as OverExpr}
-use Rattle.mid_code.specs.declared.mid.Operation.{Operation}
-use Rattle.mid_code.proofs.Views.{view_do, view_over}
+use Rattle.print_state.specs.declared.table.Listed.{Listed}
+use Rattle.print_code.specs.View.{view, views}
+use Rattle.print_code.specs.declared.mid.Expr.{Expr, Do as DoExpr, Over as OverExpr}
+use Rattle.print_code.specs.declared.mid.Operation.{Operation}
+use Rattle.print_code.proofs.Views.{view_do, view_over}
 
 pub room_do : (o : Operation) (v : Vec Expr Global) → room_for (view (DoExpr o v)) ≡ max 3 (rooms_for (views v.items))
 room_do o v = ap room_for (view_do o v)

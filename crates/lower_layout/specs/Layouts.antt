@@ -1,6 +1,6 @@
 -- Where texts and values of a program go.
 use Rattle.std.specs.Prelude.{ℕ, zero, suc, ◌+◌, max, Bool, true, false, List, [], ◌∷◌, ◌++◌, length, cond}
-use Rattle.mid_code.specs.Mid.{Code, Do, Over as OverList, Number, Text, Codes, End, At, Step, Eval}
+use Rattle.print_code.specs.Mid.{Code, Do, Over as OverList, Number, Text, Codes, End, At, Step, Eval}
 
 -- the texts of a program lie in memory one behind the other
 abbrev pub place_of : List (List ℕ) → ℕ → ℕ

@@ -1,6 +1,6 @@
 -- Which layout a program has, and which programs have none.
 use Rattle.std.specs.Prelude.{◌≡◌, ℕ, ◌≤◌, ◌<◌, List, length, get_or, ◌⊎◌}
-use Rattle.mid_code.specs.Mid.{Program}
+use Rattle.print_code.specs.Mid.{Program}
 use Rattle.lower_layout.specs.Layouts.{place_of, memory_of, temporaries as temporaries_of}
 use Rattle.lower_layout.specs.declared.layout.Layout.{Layout}
 

@@ -1,10 +1,10 @@
 -- Worked rows.
 use Rattle.std.specs.Prelude.{◌≡◌, List, [], ◌∷◌, codes, pos, refl}
-use Rattle.awk_state.specs.declared.table.Listed.TheVariants.{Print}
-use Rattle.awk_state.specs.declared.table.Primitive.TheVariants.{Num, Lit}
-use Rattle.mid_code.specs.declared.mid.Arithmetic.TheVariants.{Plus}
-use Rattle.mid_code.specs.declared.mid.Operation.TheVariants.{Host, Inline}
-use Rattle.mid_code.specs.Mid.{Do, Over, Number, Text, End, At, Eval}
+use Rattle.print_state.specs.declared.table.Listed.TheVariants.{Print}
+use Rattle.print_state.specs.declared.table.Primitive.TheVariants.{Num, Lit}
+use Rattle.print_code.specs.declared.mid.Arithmetic.TheVariants.{Plus}
+use Rattle.print_code.specs.declared.mid.Operation.TheVariants.{Host, Inline}
+use Rattle.print_code.specs.Mid.{Do, Over, Number, Text, End, At, Eval}
 use Rattle.lower_layout.specs.Layouts.{place_of, memory_of, temporaries}
 
 -- `BEGIN { print "ab", "c" }`: two texts, one behind the other

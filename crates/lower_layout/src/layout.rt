@@ -2,11 +2,11 @@
 ghost use Rattle.std.specs.Prelude.{◌≡◌, ◌<◌, ◌≤◌, ℕ, get_or, length, IfErr, IfOk};
 ghost use Rattle.lower_layout.specs.Layouts.{memory_of, place_of};
 ghost use Rattle.lower_layout.specs.Placed.{most_bytes, IsLayout, IsTooLarge};
-ghost use Rattle.mid_code.specs.View.{view_mid, view_texts};
+ghost use Rattle.print_code.specs.View.{view_mid, view_texts};
 
 use crate::LowerFault;
 use crate::room::temporaries;
-use mid_code::Mid;
+use print_code::Mid;
 use std::alloc::Global;
 
 /// The most bytes of a module's texts: 256 pages.

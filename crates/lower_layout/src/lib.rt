@@ -4,8 +4,6 @@
 mod fault;
 mod layout;
 mod room;
-#[cfg(test)]
-mod tests;
 
 pub use fault::LowerFault;
 pub use layout::{Layout, lay_out};

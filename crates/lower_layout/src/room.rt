@@ -2,10 +2,10 @@
 ghost use Rattle.std.specs.Prelude.{◌≡◌, ◌≤◌, ◌<◌, cond, map, max, IfErr, IfOk};
 ghost use Rattle.lower_layout.specs.Layouts.{behind, is_constant, room_for, rooms_for, temporaries};
 ghost use Rattle.lower_layout.specs.Placed.{most_temporaries};
-ghost use Rattle.mid_code.specs.View.{view, view_stmt, views};
+ghost use Rattle.print_code.specs.View.{view, view_stmt, views};
 
 use crate::LowerFault;
-use mid_code::{Expr, Stmt};
+use print_code::{Expr, Stmt};
 
 /// The most temporaries of a module: each has two of at most 50,000 locals.
 const MOST_TEMPORARIES: u32 = 25_000;

@@ -5,7 +5,7 @@ use Rattle.std.proofs.lemmas.Bool.{cases_lt}
 use Rattle.std.specs.Prelude.{⊤}
 use Rattle.awk_values.specs.declared.fault.Fault.{Fault}
 use Rattle.world_core.specs.WorldState.{Action, Outside}
-use Rattle.awk_state.specs.Jobs.{shared_at_start}
+use Rattle.print_state.specs.Jobs.{shared_at_start}
 use Rattle.wasm_types.specs.Syntax.{Instructions, Done, ModuleForm}
 use Rattle.wasm_types.specs.declared.instr.Simple.TheVariants.{I32Const}
 use Rattle.wasm_store.specs.declared.word.Word.{Word}
@@ -24,11 +24,11 @@ use Rattle.host_calls.specs.Hosts.{state_at_start}
 use Rattle.host_calls.specs.HostState.{HostState}
 use Rattle.host_calls.specs.HostStep.{host_meaning}
 use Rattle.host_calls.specs.Jobs.{JobForm}
-use Rattle.mid_code.specs.Meaning.{Flow}
-use Rattle.mid_code.specs.Mid.{Program, IsSorted}
-use Rattle.mid_code.specs.MidMeaning.{all_stepped, mid_run}
-use Rattle.mid_code.specs.ScriptRun.{Ending, GoesOn, ending, start, unless}
-use Rattle.mid_code.specs.ScriptState.{Faulted, OutOfTurns, TooDeep, Outcome, Gives, Stops}
+use Rattle.print_code.specs.Meaning.{Flow}
+use Rattle.print_code.specs.Mid.{Program, IsSorted}
+use Rattle.print_code.specs.MidMeaning.{all_stepped, mid_run}
+use Rattle.print_code.specs.ScriptRun.{Ending, GoesOn, ending, start, unless}
+use Rattle.print_code.specs.ScriptState.{Faulted, OutOfTurns, TooDeep, Outcome, Gives, Stops}
 use Rattle.lowering.specs.Emitted.{does, main_code, memory_of, steps_emitted}
 use Rattle.lowering.specs.Modules.{module_of}
 use Rattle.lowering.specs.Agreement.{ModuleEnding, Like, Trapped, ended_with, ending_told, MayEnd, plain, IsPlain, output_of, output_in, IsOver, IsPrefix, Agreement}

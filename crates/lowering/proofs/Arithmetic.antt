@@ -4,11 +4,11 @@ use Rattle.std.specs.Prelude.{FitsSigned, bit_and, bit_or}
 use Rattle.std.proofs.lemmas.Int.{ints, fits_signed_from_abs}
 use Rattle.awk_values.specs.Operators.{checked}
 use Rattle.awk_values.specs.declared.fault.Fault.TheVariants.{Range}
-use Rattle.awk_state.specs.Numbers.{Number as AnyNumber, or_range, outcome_of}
-use Rattle.awk_state.specs.declared.sorts.Sort.TheVariants as sort
-use Rattle.awk_state.specs.declared.sorts.Answer.TheVariants as answer
-use Rattle.awk_state.specs.declared.table.Primitive.TheVariants as prim
-use Rattle.awk_state.proofs.Words.{fits, number_again, small}
+use Rattle.print_state.specs.Numbers.{Number as AnyNumber, or_range, outcome_of}
+use Rattle.print_state.specs.declared.sorts.Sort.TheVariants as sort
+use Rattle.print_state.specs.declared.sorts.Answer.TheVariants as answer
+use Rattle.print_state.specs.declared.table.Primitive.TheVariants as prim
+use Rattle.print_state.proofs.Words.{fits, number_again, small}
 use Rattle.wasm_types.specs.Syntax.{Instructions, Done}
 use Rattle.wasm_types.specs.declared.types.ValType.TheVariants.{I32 as T32, I64 as T64}
 use Rattle.wasm_types.specs.declared.instr.Simple.TheVariants.{Br, I64Const, LocalGet, LocalSet, Test, Compare, Binary, Convert}
@@ -18,8 +18,8 @@ use Rattle.wasm_types.specs.declared.instr.ITestOp.TheVariants.{Eqz}
 use Rattle.wasm_types.specs.declared.instr.CvtOp.TheVariants.{I64ExtendI32U}
 use Rattle.wasm_store.specs.declared.word.Word.TheVariants.{I32, I64}
 use Rattle.wasm_store.specs.Words.{flag, given_by}
-use Rattle.mid_code.specs.declared.mid.Arithmetic.TheVariants.{Plus, Minus, Times}
-use Rattle.mid_code.specs.ScriptState.{State, settled}
+use Rattle.print_code.specs.declared.mid.Arithmetic.TheVariants.{Plus, Minus, Times}
+use Rattle.print_code.specs.ScriptState.{State, settled}
 use Rattle.lowering.specs.Emitted.{does, number_local, fail_if, out_of_range, ranged, factors_differ, times}
 use Rattle.lowering.proofs.Pivot.{Cell, Bits, Host, Label, Locals, upd, block_label, Conf, push_result, with_operands, at, br, go}
 use Rattle.lowering.proofs.Products.{word, is_out, out_word, sum_word, difference_word, triangle, product, Told, told}

@@ -1,7 +1,7 @@
 -- The machine over values comes to where a script's doing leads, in so many steps at most.
 use Rattle.std.proofs.Common.{◌≡◌, ℕ, zero, suc, ◌+◌, ◌≤◌, List, refl, sym, ap, ◌∙◌, subst, arith}
 use Rattle.awk_values.specs.declared.fault.Fault.{Fault}
-use Rattle.mid_code.specs.ScriptState.{State, Faulted, OutOfTurns, TooDeep, Outcome, Gives, Stops, Doing, go_on}
+use Rattle.print_code.specs.ScriptState.{State, Faulted, OutOfTurns, TooDeep, Outcome, Gives, Stops, Doing, go_on}
 use Rattle.lowering.proofs.Pivot.{Conf, step, go}
 
 abbrev pub After : Type 0 → Type 1

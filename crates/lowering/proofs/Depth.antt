@@ -1,6 +1,6 @@
 -- How deep code is nested, by which its emission ends.
 use Rattle.std.proofs.Common.{◌≡◌, ℕ, suc, ◌≤◌, max, subst, arith}
-use Rattle.mid_code.specs.Mid.{Code, Do, Over as OverList, Number, Text, Codes, End, At}
+use Rattle.print_code.specs.Mid.{Code, Do, Over as OverList, Number, Text, Codes, End, At}
 
 abbrev mutual
   pub depth : Code → ℕ

@@ -5,19 +5,19 @@ use Rattle.std.proofs.lemmas.List.{drop-append-le, length-append, length-drop, t
 use Rattle.std.proofs.Math.Seq.{take-append_seam, drop-append-add}
 use Rattle.awk_values.specs.declared.fault.Fault.{Fault}
 use Rattle.awk_values.specs.declared.value.Value.{Value as AnyValue}
-use Rattle.awk_state.specs.Numbers.{Number as AnyNumber, number_of, number_word, outcome_of}
-use Rattle.awk_state.specs.SharedState.{Shared, shared_after}
-use Rattle.awk_state.specs.Sorts.{InAnswer, InArgument, Row}
-use Rattle.awk_state.specs.Table.{listed_answer, listed_meaning}
-use Rattle.awk_state.specs.declared.sorts.Sort.TheVariants as sort
-use Rattle.awk_state.specs.declared.sorts.Argument.{Argument}
-use Rattle.awk_state.specs.declared.sorts.Argument.TheVariants as argument
-use Rattle.awk_state.specs.declared.sorts.Answer.{Answer}
-use Rattle.awk_state.specs.declared.sorts.Answer.TheVariants as answer
-use Rattle.awk_state.specs.declared.constants.Destination.TheVariants.{Standard}
-use Rattle.awk_state.specs.declared.table.Listed.{Listed}
-use Rattle.awk_state.specs.declared.table.Listed.TheVariants.{Print}
-use Rattle.awk_state.proofs.Words.{number_again}
+use Rattle.print_state.specs.Numbers.{Number as AnyNumber, number_of, number_word, outcome_of}
+use Rattle.print_state.specs.SharedState.{Shared, shared_after}
+use Rattle.print_state.specs.Sorts.{InAnswer, InArgument, Row}
+use Rattle.print_state.specs.Table.{listed_answer, listed_meaning}
+use Rattle.print_state.specs.declared.sorts.Sort.TheVariants as sort
+use Rattle.print_state.specs.declared.sorts.Argument.{Argument}
+use Rattle.print_state.specs.declared.sorts.Argument.TheVariants as argument
+use Rattle.print_state.specs.declared.sorts.Answer.{Answer}
+use Rattle.print_state.specs.declared.sorts.Answer.TheVariants as answer
+use Rattle.print_state.specs.declared.constants.Destination.TheVariants.{Standard}
+use Rattle.print_state.specs.declared.table.Listed.{Listed}
+use Rattle.print_state.specs.declared.table.Listed.TheVariants.{Print}
+use Rattle.print_state.proofs.Words.{number_again}
 use Rattle.wasm_types.specs.Syntax.{Instructions}
 use Rattle.wasm_types.specs.declared.instr.Simple.TheVariants.{I32Const}
 use Rattle.wasm_store.specs.declared.word.Word.TheVariants.{I32, I64}
@@ -26,13 +26,13 @@ use Rattle.host_calls.specs.HostState.{text_at}
 use Rattle.wasm_store.specs.declared.trap.TrapKind.TheVariants.{BadArgument}
 use Rattle.host_calls.specs.Imports.{import_arguments}
 use Rattle.host_calls.specs.HostStep.{last_of, before_last_of}
-use Rattle.mid_code.specs.declared.mid.Arithmetic.{Arithmetic}
-use Rattle.mid_code.specs.declared.mid.Operation.{Operation}
-use Rattle.mid_code.specs.declared.mid.Operation.TheVariants.{Host as ByHost, Inline}
-use Rattle.mid_code.specs.Meaning.{Flow}
-use Rattle.mid_code.specs.Mid.{Code, Do, Over as OverList, Number, Text, Codes, End, At, Step, Eval, arguments, answer_by, may_fault, Answered, shape_of, fits, is_value, gives_answer, fit_row, all_values, Sorted, AllSorted, SortedStep, SortedSteps}
-use Rattle.mid_code.specs.MidMeaning.{arithmetic_of, operation, InShape, Values, converted, then_row, row_of, value_in, listing, or_zero, evaluated, all_evaluated, stepped, all_stepped}
-use Rattle.mid_code.specs.ScriptState.{State, go_on, give, settled, perform}
+use Rattle.print_code.specs.declared.mid.Arithmetic.{Arithmetic}
+use Rattle.print_code.specs.declared.mid.Operation.{Operation}
+use Rattle.print_code.specs.declared.mid.Operation.TheVariants.{Host as ByHost, Inline}
+use Rattle.print_code.specs.Meaning.{Flow}
+use Rattle.print_code.specs.Mid.{Code, Do, Over as OverList, Number, Text, Codes, End, At, Step, Eval, arguments, answer_by, may_fault, Answered, shape_of, fits, is_value, gives_answer, fit_row, all_values, Sorted, AllSorted, SortedStep, SortedSteps}
+use Rattle.print_code.specs.MidMeaning.{arithmetic_of, operation, InShape, Values, converted, then_row, row_of, value_in, listing, or_zero, evaluated, all_evaluated, stepped, all_stepped}
+use Rattle.print_code.specs.ScriptState.{State, go_on, give, settled, perform}
 use Rattle.lowering.specs.Emitted.{does, ask, handle_local, number_local, local_for, local_of, keep, is_constant, behind, convert_one, convert_all, place_of, memory_of, push_all, append_all, count, inline, operate, emitted, all_emitted, step_emitted, steps_emitted}
 use Rattle.lowering.proofs.Pivot.{Cell, Bits, Held, Label, Locals, upd, Conf, acted, replied, onto, at, with_answer, go}
 use Rattle.lowering.proofs.Arrive.{After, Arrives, first, then_on, weaker}

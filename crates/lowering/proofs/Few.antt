@@ -2,12 +2,12 @@
 -- one instruction for each 60 steps.
 use Rattle.std.proofs.Common.{◌≡◌, ◌⊎◌, inl, inr, ⊎_elim, ℕ, suc, ◌+◌, ◌*◌, ◌^◌, ◌<◌, ◌≤◌, Bool, true, false, T, cond, List, [], ◌∷◌, ◌++◌, length, sym, ap, subst, arith}
 use Rattle.std.proofs.lemmas.List.{length-append}
-use Rattle.awk_state.specs.declared.sorts.Sort.TheVariants as sort
-use Rattle.awk_state.specs.declared.sorts.Argument.{Argument}
-use Rattle.awk_state.specs.declared.sorts.Argument.TheVariants as argument
-use Rattle.awk_state.specs.declared.sorts.Answer.{Answer}
-use Rattle.awk_state.specs.declared.sorts.Answer.TheVariants as answer
-use Rattle.awk_state.specs.Table.{listed_answer}
+use Rattle.print_state.specs.declared.sorts.Sort.TheVariants as sort
+use Rattle.print_state.specs.declared.sorts.Argument.{Argument}
+use Rattle.print_state.specs.declared.sorts.Argument.TheVariants as argument
+use Rattle.print_state.specs.declared.sorts.Answer.{Answer}
+use Rattle.print_state.specs.declared.sorts.Answer.TheVariants as answer
+use Rattle.print_state.specs.Table.{listed_answer}
 use Rattle.wasm_types.specs.declared.module.SectionId.{SectionId}
 use Rattle.wasm_types.specs.declared.module.SectionId.TheVariants as section
 use Rattle.wasm_types.specs.Syntax.{Instruction, Plain, BrTable, Block, Loop, If, Instructions, Done, Then, FuncForm, ModuleForm}
@@ -15,10 +15,10 @@ use Rattle.wasm_types.specs.Instructions.{Each, Spells, SpellAll, block_code}
 use Rattle.wasm_types.specs.ModuleGrammar.{CodeForm, IsCode, Parts, number, no_parts, GivesPart, Section, Custom, Known, AreSections, Give, joined, header, IsModule}
 use Rattle.wasm_types.specs.declared.instr.Simple.TheVariants.{BrIf, I32Const}
 use Rattle.host_calls.specs.declared.import.Import.TheVariants.{Over}
-use Rattle.mid_code.specs.declared.mid.Arithmetic.TheVariants.{Plus, Minus, Times}
-use Rattle.mid_code.specs.declared.mid.Operation.{Operation}
-use Rattle.mid_code.specs.declared.mid.Operation.TheVariants.{Host, Inline}
-use Rattle.mid_code.specs.Mid.{Code, Do, Over as OverList, Number, Text, Codes, End, At, Step, Eval, Program, IsSorted, arguments, answer_by, may_fault, Shape, Answered, shape_of, fits, gives_answer, fit_row, Sorted, AllSorted, SortedSteps}
+use Rattle.print_code.specs.declared.mid.Arithmetic.TheVariants.{Plus, Minus, Times}
+use Rattle.print_code.specs.declared.mid.Operation.{Operation}
+use Rattle.print_code.specs.declared.mid.Operation.TheVariants.{Host, Inline}
+use Rattle.print_code.specs.Mid.{Code, Do, Over as OverList, Number, Text, Codes, End, At, Step, Eval, Program, IsSorted, arguments, answer_by, may_fault, Shape, Answered, shape_of, fits, gives_answer, fit_row, Sorted, AllSorted, SortedSteps}
 use Rattle.lowering.specs.Emitted.{does, ask, is_constant, behind, memory_of, is_fault, keep, convert_one, convert_all, push_one, push_all, append_all, count, operate, emitted, all_emitted, steps_emitted}
 use Rattle.lowering.specs.Modules.{module_of}
 use Rattle.lowering.proofs.Forward.{both_right, push_work}

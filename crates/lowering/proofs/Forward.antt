@@ -7,38 +7,38 @@ use Rattle.std.proofs.Math.Seq.{take-append_seam, drop-append_seam}
 use Rattle.std.specs.Int.{cast_unsigned}
 use Rattle.awk_values.specs.declared.fault.Fault.{Fault}
 use Rattle.awk_values.specs.declared.value.Value.{Value as AnyValue}
-use Rattle.awk_state.specs.Numbers.{Number as AnyNumber, faulted_word, number_of, number_word}
-use Rattle.awk_state.specs.SharedState.{Shared, shared_after}
-use Rattle.awk_state.specs.Sorts.{In, InAnswer, InArgument, Row, OrFault}
-use Rattle.awk_state.specs.ValueRows.{number_of_row}
+use Rattle.print_state.specs.Numbers.{Number as AnyNumber, faulted_word, number_of, number_word}
+use Rattle.print_state.specs.SharedState.{Shared, shared_after}
+use Rattle.print_state.specs.Sorts.{In, InAnswer, InArgument, Row, OrFault}
+use Rattle.print_state.specs.ValueRows.{number_of_row}
 use Rattle.world_core.specs.WorldState.{Action}
-use Rattle.awk_state.specs.Table.{arguments_of, answer_of, can_fault, listed_answer, meaning}
-use Rattle.awk_state.specs.declared.sorts.Sort.{Sort}
-use Rattle.awk_state.specs.declared.sorts.Sort.TheVariants as sort
-use Rattle.awk_state.specs.declared.sorts.Argument.{Argument}
-use Rattle.awk_state.specs.declared.sorts.Argument.TheVariants as argument
-use Rattle.awk_state.specs.declared.sorts.Answer.{Answer}
-use Rattle.awk_state.specs.declared.sorts.Answer.TheVariants as answer
-use Rattle.awk_state.specs.declared.table.Primitive.{Primitive}
-use Rattle.awk_state.specs.declared.table.Primitive.TheVariants as prim
-use Rattle.awk_state.specs.declared.table.Listed.TheVariants.{Print}
-use Rattle.awk_state.specs.declared.answers.InputAnswer.TheVariants as input
-use Rattle.awk_state.specs.declared.answers.AssignAnswer.TheVariants as assign
-use Rattle.awk_state.specs.declared.answers.CloseAnswer.TheVariants as close
-use Rattle.awk_state.proofs.Words.{constant_again, word_again, word_no_fault}
+use Rattle.print_state.specs.Table.{arguments_of, answer_of, can_fault, listed_answer, meaning}
+use Rattle.print_state.specs.declared.sorts.Sort.{Sort}
+use Rattle.print_state.specs.declared.sorts.Sort.TheVariants as sort
+use Rattle.print_state.specs.declared.sorts.Argument.{Argument}
+use Rattle.print_state.specs.declared.sorts.Argument.TheVariants as argument
+use Rattle.print_state.specs.declared.sorts.Answer.{Answer}
+use Rattle.print_state.specs.declared.sorts.Answer.TheVariants as answer
+use Rattle.print_state.specs.declared.table.Primitive.{Primitive}
+use Rattle.print_state.specs.declared.table.Primitive.TheVariants as prim
+use Rattle.print_state.specs.declared.table.Listed.TheVariants.{Print}
+use Rattle.print_state.specs.declared.answers.InputAnswer.TheVariants as input
+use Rattle.print_state.specs.declared.answers.AssignAnswer.TheVariants as assign
+use Rattle.print_state.specs.declared.answers.CloseAnswer.TheVariants as close
+use Rattle.print_state.proofs.Words.{constant_again, word_again, word_no_fault}
 use Rattle.wasm_types.specs.Syntax.{Instructions}
 use Rattle.wasm_types.specs.declared.instr.Simple.TheVariants.{BrIf}
 use Rattle.wasm_store.specs.declared.word.Word.TheVariants.{I32, I64}
 use Rattle.wasm_store.specs.Words.{flag}
 use Rattle.host_calls.specs.declared.import.Import.{Import}
 use Rattle.host_calls.specs.declared.import.Import.TheVariants.{Of, Over, Arg, Drop}
-use Rattle.awk_state.specs.Constants.{constant_number, flag_number}
+use Rattle.print_state.specs.Constants.{constant_number, flag_number}
 use Rattle.host_calls.specs.HostState.{input_code, assign_code, close_code, text_at}
 use Rattle.host_calls.specs.Imports.{import_at, import_arguments, params_of, words_of}
 use Rattle.host_calls.specs.HostStep.{Acts, acts, or_fault as host_or_fault}
-use Rattle.mid_code.specs.ScriptState.{State, give, settled, or_fault, perform}
-use Rattle.mid_code.specs.Mid.{Code, Do, Over as OverList, Number, Text, Codes, End, At, answer_by, Answered, shape_of, fits, gives_answer, fit_row}
-use Rattle.mid_code.specs.MidMeaning.{InShape, Values, converted, or_zero}
+use Rattle.print_code.specs.ScriptState.{State, give, settled, or_fault, perform}
+use Rattle.print_code.specs.Mid.{Code, Do, Over as OverList, Number, Text, Codes, End, At, answer_by, Answered, shape_of, fits, gives_answer, fit_row}
+use Rattle.print_code.specs.MidMeaning.{InShape, Values, converted, or_zero}
 use Rattle.lowering.specs.Emitted.{does, ask, place_of_import, number_local, local_for, local_of, is_fault, keep, is_constant, behind, convert_one, place_of, push_one, push_all}
 use Rattle.lowering.proofs.Pivot.{Cell, Bits, Held, ArrayOf, IteratorOf, Host, Label, Locals, upd, Conf, Run, with_some, and_rest, in_sort, front, decode, cell_of_sort, cell_or_end, cell, fault_cell, state_of, replied, acted, call, onto, at, br, width, with_answer, unless_kept, go}
 use Rattle.lowering.proofs.Pivot

@@ -1,8 +1,8 @@
 -- The module of a program, linked with the host: its imports, its `main`, and where its run begins.
 use Rattle.std.proofs.Common.{◌≡◌, ℕ, zero, suc, ◌+◌, ◌*◌, ◌/◌, List, [], ◌∷◌, ◌++◌, length, map, drop, replicate, Option, Some, None, refl, ap, subst, arith}
 use Rattle.std.proofs.lemmas.Option.{none-some}
-use Rattle.awk_state.specs.declared.table.Primitive.TheVariants as prim
-use Rattle.awk_state.specs.declared.table.Listed.TheVariants.{Print}
+use Rattle.print_state.specs.declared.table.Primitive.TheVariants as prim
+use Rattle.print_state.specs.declared.table.Listed.TheVariants.{Print}
 use Rattle.wasm_types.specs.declared.types.ValType.TheVariants as ty
 use Rattle.wasm_store.specs.declared.word.Word.{Word}
 use Rattle.wasm_store.specs.Words.{zero_of}
@@ -11,7 +11,7 @@ use Rattle.wasm_machine.specs.Links.{beginning, main_of, numbers_for}
 use Rattle.host_calls.specs.declared.import.Import.{Import}
 use Rattle.host_calls.specs.declared.import.Import.TheVariants.{Of, Over, Arg, Drop}
 use Rattle.host_calls.specs.Imports.{host_finds, import_at, import_type}
-use Rattle.mid_code.specs.Mid.{Program}
+use Rattle.print_code.specs.Mid.{Program}
 use Rattle.lowering.specs.Emitted.{main_code, memory_of, temporaries}
 use Rattle.lowering.specs.Modules.{module_of, locals_for}
 use Rattle.lowering.proofs.Refine.{entry}

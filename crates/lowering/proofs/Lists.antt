@@ -2,19 +2,19 @@
 use Rattle.std.proofs.Common.{◌≡◌, ℕ, suc, ◌+◌, ◌<◌, ◌≤◌, T, Bool, ◌&&◌, true, false, List, [], ◌∷◌, length, max, drop, get_or, refl, sym, ap, ◌∙◌, subst, arith}
 use Rattle.std.proofs.lemmas.List.{at_drop_more, drop_more}
 use Rattle.std.specs.Global.{Vec}
-use Rattle.awk_state.specs.declared.table.Listed.{Listed}
-use Rattle.mid_code.specs.declared.mid.Operation.{Operation}
-use Rattle.mid_code.proofs.Views.{view_do, view_over}
-use Rattle.awk_state.specs.declared.sorts.Argument.{Argument}
+use Rattle.print_state.specs.declared.table.Listed.{Listed}
+use Rattle.print_code.specs.declared.mid.Operation.{Operation}
+use Rattle.print_code.proofs.Views.{view_do, view_over}
+use Rattle.print_state.specs.declared.sorts.Argument.{Argument}
 use Rattle.lower_layout.specs.Layouts.{behind, room_for, rooms_for}
 use Rattle.lowering.specs.Emitted.{count}
 use Rattle.lower_layout.specs.Placed.{most_bytes, IsLayout}
 use Rattle.lower_layout.specs.declared.layout.Layout.{Layout}
 use Rattle.lower_layout.proofs.Places.{end_within, text_at, text_count}
-use Rattle.mid_code.specs.Mid.{Code, Do, Over as OverList, Number, Text, Codes, At, all_values, answer_by, arguments, fit_row, gives_answer, fits, is_value, shape_of, AllSorted, Sorted}
-use Rattle.mid_code.specs.View.{view, view_mid, view_texts, views}
-use Rattle.mid_code.specs.declared.mid.Expr.{Expr, Do as DoExpr, Over as OverExpr}
-use Rattle.mid_code.specs.declared.mid.Mid.{Mid}
+use Rattle.print_code.specs.Mid.{Code, Do, Over as OverList, Number, Text, Codes, At, all_values, answer_by, arguments, fit_row, gives_answer, fits, is_value, shape_of, AllSorted, Sorted}
+use Rattle.print_code.specs.View.{view, view_mid, view_texts, views}
+use Rattle.print_code.specs.declared.mid.Expr.{Expr, Do as DoExpr, Over as OverExpr}
+use Rattle.print_code.specs.declared.mid.Mid.{Mid}
 
 pub operand_next : (es : List Expr) (i : ℕ) (e : Expr) → i < length es → views (drop i es) ≡ At (view (get_or es i e)) (views (drop (i + 1) es))
 operand_next es i e l = at_drop_more views es i e l

@@ -3,16 +3,16 @@
 use Rattle.std.specs.Prelude.{ℕ, zero, suc, ◌-◌, ◌^◌, false, cond, nat_eq, nat_le, List, [], ◌∷◌, ◌++◌, length, take, drop, reverse, Option, Some, None, Result, Ok, Err}
 use Rattle.awk_values.specs.declared.fault.Fault.{Fault}
 use Rattle.awk_values.specs.declared.value.Value.{Value as AnyValue}
-use Rattle.awk_state.specs.Constants.{InConstant, constant_at, flag_number}
-use Rattle.awk_state.specs.Numbers.{faulted_word, number_of_word, number_word}
-use Rattle.awk_state.specs.SharedState.{Shared, shared_after}
-use Rattle.awk_state.specs.Sorts.{In, InAnswer, InArgument, Row}
-use Rattle.awk_state.specs.declared.sorts.Sort.{Sort}
-use Rattle.awk_state.specs.declared.sorts.Sort.TheVariants as sort
-use Rattle.awk_state.specs.declared.sorts.Argument.{Argument}
-use Rattle.awk_state.specs.declared.sorts.Argument.TheVariants as argument
-use Rattle.awk_state.specs.declared.sorts.Answer.{Answer}
-use Rattle.awk_state.specs.declared.sorts.Answer.TheVariants as answer
+use Rattle.print_state.specs.Constants.{InConstant, constant_at, flag_number}
+use Rattle.print_state.specs.Numbers.{faulted_word, number_of_word, number_word}
+use Rattle.print_state.specs.SharedState.{Shared, shared_after}
+use Rattle.print_state.specs.Sorts.{In, InAnswer, InArgument, Row}
+use Rattle.print_state.specs.declared.sorts.Sort.{Sort}
+use Rattle.print_state.specs.declared.sorts.Sort.TheVariants as sort
+use Rattle.print_state.specs.declared.sorts.Argument.{Argument}
+use Rattle.print_state.specs.declared.sorts.Argument.TheVariants as argument
+use Rattle.print_state.specs.declared.sorts.Answer.{Answer}
+use Rattle.print_state.specs.declared.sorts.Answer.TheVariants as answer
 use Rattle.wasm_types.specs.Syntax.{Instruction, Plain, Block, If, Instructions, Done, Then}
 use Rattle.wasm_types.specs.declared.types.ValType.{ValType}
 use Rattle.wasm_types.specs.declared.types.ValType.TheVariants as ty

@@ -7,7 +7,7 @@ use Rattle.std.proofs.Math.Nat.{mul-div_cancel, div-mul-le_self, mul-le-mul_left
 use Rattle.std.proofs.Math.IntN.{*ℤ_comm}
 use Rattle.std.proofs.lemmas.Bool.{eq-eqb, eqb-true, leb-true, le-leb, lt-ltb, ltb-true, cases_lt}
 use Rattle.lowering.proofs.Forward.{not_equal}
-use Rattle.awk_state.proofs.Words.{fits}
+use Rattle.print_state.proofs.Words.{fits}
 use Rattle.wasm_store.specs.declared.trap.TrapKind.TheVariants.{DivideByZero, IntegerOverflow}
 use Rattle.wasm_store.specs.Integers.{difference, quotient_signed, is_integer}
 

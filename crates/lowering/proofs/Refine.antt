@@ -35,18 +35,18 @@ use Rattle.wasm_machine.specs.declared.state.End.{End}
 use Rattle.wasm_machine.specs.declared.machine.MachineEnd.{MachineEnd}
 use Rattle.wasm_machine.specs.declared.machine.MachineEnd.TheVariants.{Returned}
 use Rattle.wasm_machine.specs.Machines.{Conf as RealConf, CallerForm, ProgramForm, Turn, Goes, Asks, with_frame, with_operands, turn, turn_by, called, asked, answered, returned_with, to_caller}
-use Rattle.awk_state.specs.Constants.{constant_at}
-use Rattle.awk_state.specs.Numbers.{number_of_word}
-use Rattle.awk_state.specs.SharedState.{shared_after}
+use Rattle.print_state.specs.Constants.{constant_at}
+use Rattle.print_state.specs.Numbers.{number_of_word}
+use Rattle.print_state.specs.SharedState.{shared_after}
 use Rattle.awk_values.specs.declared.fault.Fault.{Fault}
-use Rattle.awk_state.specs.Sorts.{InAnswer, InArgument, Row}
-use Rattle.awk_state.specs.declared.sorts.Answer.{Answer}
-use Rattle.awk_state.specs.declared.sorts.Answer.TheVariants as answer
-use Rattle.awk_state.specs.declared.table.Listed.TheVariants.{Print}
-use Rattle.awk_state.specs.declared.constants.Destination.TheVariants.{Standard, Emptied, Appended}
-use Rattle.awk_state.specs.declared.sorts.Sort.TheVariants as sort
-use Rattle.awk_state.specs.declared.sorts.Argument.{Argument}
-use Rattle.awk_state.specs.declared.sorts.Argument.TheVariants as argument
+use Rattle.print_state.specs.Sorts.{InAnswer, InArgument, Row}
+use Rattle.print_state.specs.declared.sorts.Answer.{Answer}
+use Rattle.print_state.specs.declared.sorts.Answer.TheVariants as answer
+use Rattle.print_state.specs.declared.table.Listed.TheVariants.{Print}
+use Rattle.print_state.specs.declared.constants.Destination.TheVariants.{Standard, Emptied, Appended}
+use Rattle.print_state.specs.declared.sorts.Sort.TheVariants as sort
+use Rattle.print_state.specs.declared.sorts.Argument.{Argument}
+use Rattle.print_state.specs.declared.sorts.Argument.TheVariants as argument
 use Rattle.wasm_store.specs.declared.trap.TrapKind.{TrapKind}
 use Rattle.wasm_store.specs.declared.trap.TrapKind.TheVariants.{BadHandle, BadPointer, BadArgument}
 use Rattle.host_calls.specs.HostState.{HostState, Names, text_at, said, number_front, constant_front, place_front, front, and_then, decode, encode, refusal, FreeFor}

@@ -2,7 +2,7 @@
 use Rattle.std.proofs.Common.{◌≡◌, ℕ, ◌+◌, ◌≤◌, false, arith}
 use Rattle.lower_layout.specs.Layouts.{is_constant, behind, room_for, rooms_for}
 use Rattle.lower_layout.proofs.Rooms.{behind_sum}
-use Rattle.mid_code.specs.Mid.{Code, Do, Over as OverList, Number, Text, Codes, At}
+use Rattle.print_code.specs.Mid.{Code, Do, Over as OverList, Number, Text, Codes, At}
 
 pub room_behind : (e : Code) (es : Codes) (t most : ℕ) → t + rooms_for (At e es) ≤ most → behind e t + rooms_for es ≤ most
 room_behind e es t most l = let s = behind_sum e t (rooms_for es) in omega (arith, l, s)

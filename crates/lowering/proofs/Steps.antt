@@ -2,9 +2,9 @@
 use Rattle.std.proofs.Common.{◌≡◌, ℕ, ◌+◌, ◌<◌, ◌≤◌, List, ◌∷◌, length, drop, get_or, map, subst, arith}
 use Rattle.std.proofs.lemmas.List.{at_drop_more}
 use Rattle.lower_layout.specs.Layouts.{step_room as room_of, temporaries}
-use Rattle.mid_code.specs.Mid.{Step, SortedStep, SortedSteps}
-use Rattle.mid_code.specs.View.{view_stmt}
-use Rattle.mid_code.specs.declared.mid.Stmt.{Stmt}
+use Rattle.print_code.specs.Mid.{Step, SortedStep, SortedSteps}
+use Rattle.print_code.specs.View.{view_stmt}
+use Rattle.print_code.specs.declared.mid.Stmt.{Stmt}
 
 pub step_next : (main : List Stmt) (i : ℕ) (s : Stmt) → i < length main → map view_stmt (drop i main) ≡ view_stmt (get_or main i s) ∷ map view_stmt (drop (i + 1) main)
 step_next main i s l = at_drop_more (map view_stmt) main i s l

@@ -5,15 +5,15 @@ use Rattle.std.specs.List.{All}
 use Rattle.std.specs.Prelude.{codes}
 use Rattle.std.proofs.lemmas.Grind.{reverse_onto}
 use Rattle.std.proofs.lemmas.List.Elements.{All-cons, All-nil}
-use Rattle.awk_state.specs.Table.{listed_answer}
-use Rattle.awk_state.specs.declared.sorts.Sort.TheVariants as sort
-use Rattle.awk_state.specs.declared.sorts.Argument.{Argument}
-use Rattle.awk_state.specs.declared.sorts.Argument.TheVariants as argument
-use Rattle.awk_state.specs.declared.sorts.Answer.{Answer}
-use Rattle.awk_state.specs.declared.sorts.Answer.TheVariants as answer
-use Rattle.awk_state.specs.declared.table.Primitive.TheVariants as prim
-use Rattle.awk_state.specs.declared.table.Listed.{Listed}
-use Rattle.awk_state.specs.declared.table.Listed.TheVariants.{Print}
+use Rattle.print_state.specs.Table.{listed_answer}
+use Rattle.print_state.specs.declared.sorts.Sort.TheVariants as sort
+use Rattle.print_state.specs.declared.sorts.Argument.{Argument}
+use Rattle.print_state.specs.declared.sorts.Argument.TheVariants as argument
+use Rattle.print_state.specs.declared.sorts.Answer.{Answer}
+use Rattle.print_state.specs.declared.sorts.Answer.TheVariants as answer
+use Rattle.print_state.specs.declared.table.Primitive.TheVariants as prim
+use Rattle.print_state.specs.declared.table.Listed.{Listed}
+use Rattle.print_state.specs.declared.table.Listed.TheVariants.{Print}
 use Rattle.wasm_types.specs.Syntax.{Instructions, Done, Signature, ImportForm}
 use Rattle.wasm_types.specs.Typing.{one, Context, Fixed, Leaves, over, effect_of, CodeOk, done, more, simple, block, choice, callee_in, context_in, FuncOk, ImportOk, LevelOk, ModuleOk, DescOk, DataOk, AreDistinct}
 use Rattle.wasm_types.specs.declared.types.ValType.{ValType}
@@ -28,10 +28,10 @@ use Rattle.host_calls.specs.declared.import.Import.{Import}
 use Rattle.host_calls.specs.declared.import.Import.TheVariants.{Of, Over, Arg, Drop}
 use Rattle.wasm_machine.specs.Links.{SegmentsFit, ElemFits, DataFits}
 use Rattle.host_calls.specs.Imports.{imports, import_arguments, import_answer, import_type, words_of, params_of, result_of}
-use Rattle.mid_code.specs.declared.mid.Arithmetic.TheVariants.{Plus, Minus, Times}
-use Rattle.mid_code.specs.declared.mid.Operation.{Operation}
-use Rattle.mid_code.specs.declared.mid.Operation.TheVariants.{Host, Inline}
-use Rattle.mid_code.specs.Mid.{Code, Do, Over as OverList, Number, Text, Codes, End, At, Step, Eval, Program, arguments, answer_by, may_fault, Shape, Answered, Literal, shape_of, fits, is_value, gives_answer, fit_row, all_values, Sorted, AllSorted, SortedSteps, IsSorted}
+use Rattle.print_code.specs.declared.mid.Arithmetic.TheVariants.{Plus, Minus, Times}
+use Rattle.print_code.specs.declared.mid.Operation.{Operation}
+use Rattle.print_code.specs.declared.mid.Operation.TheVariants.{Host, Inline}
+use Rattle.print_code.specs.Mid.{Code, Do, Over as OverList, Number, Text, Codes, End, At, Step, Eval, Program, arguments, answer_by, may_fault, Shape, Answered, Literal, shape_of, fits, is_value, gives_answer, fit_row, all_values, Sorted, AllSorted, SortedSteps, IsSorted}
 use Rattle.lower_layout.specs.Layouts.{room_for, rooms_for}
 use Rattle.lowering.specs.Emitted.{place_of_import, does, ask, handle_local, number_local, local_for, local_of, minus_one, least, is_fault, keep, behind, convert_one, convert_all, place_of, memory_of, temporaries, push_one, push_all, append_all, count, fail_if, out_of_range, ranged, factors_differ, times, operate, emitted, all_emitted, steps_emitted, main_code}
 use Rattle.lowering.specs.Modules.{imported_from, locals_for, pages_for, module_of}

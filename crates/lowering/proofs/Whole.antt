@@ -12,8 +12,8 @@ use Rattle.wasm_machine.specs.Frames.{constant_of}
 use Rattle.host_calls.specs.HostStep.{Acts, acts}
 use Rattle.host_calls.specs.Imports.{import_arguments, import_at}
 use Rattle.host_calls.specs.declared.import.Import.{Import}
-use Rattle.awk_state.specs.Sorts.{InAnswer, Row}
-use Rattle.awk_state.specs.declared.sorts.Answer.{Answer}
+use Rattle.print_state.specs.Sorts.{InAnswer, Row}
+use Rattle.print_state.specs.declared.sorts.Answer.{Answer}
 use Rattle.lowering.specs.Agreement.{IsPrefix}
 use Rattle.lowering.proofs.Pivot
 use Rattle.lowering.proofs.Pivot.{Cell, Bits, Host, Label, Locals, Conf, Run, Over, Stuck, at, br, step, go}

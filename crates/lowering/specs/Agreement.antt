@@ -2,7 +2,7 @@
 use Rattle.std.specs.Prelude.{◌≡◌, ℕ, ◌+◌, ◌*◌, ◌^◌, ◌<◌, ◌≤◌, ℤ, pos, unsigned_abs, List, [], ◌++◌, Option, Some, None, ⊤}
 use Rattle.std.specs.Int.{int_rem_euclid}
 use Rattle.awk_values.specs.declared.fault.Fault.{Fault}
-use Rattle.awk_state.specs.Jobs.{JobForm as PlainJob, fault_of_job}
+use Rattle.print_state.specs.Jobs.{JobForm as PlainJob, fault_of_job}
 use Rattle.world_core.specs.WorldState.{Action, Outside}
 use Rattle.wasm_types.specs.Syntax.{ModuleForm}
 use Rattle.wasm_store.specs.declared.trap.TrapKind.{TrapKind}
@@ -17,7 +17,7 @@ use Rattle.host_calls.specs.HostState.{HostState}
 use Rattle.host_calls.specs.HostStep.{host_meaning}
 use Rattle.host_calls.specs.Imports.{host_finds}
 use Rattle.host_calls.specs.Jobs.{JobForm, first_fault}
-use Rattle.mid_code.specs.ScriptRun.{Ending, Ended, FaultedBy, GoesOn, Exhausted}
+use Rattle.print_code.specs.ScriptRun.{Ending, Ended, FaultedBy, GoesOn, Exhausted}
 
 -- a run ends as a script's may, or traps
 pub data ModuleEnding : Type 0 where

@@ -5,7 +5,7 @@ use Rattle.wasm_types.specs.View.{view}
 use Rattle.wasm_types.specs.declared.instr.Instr.{Instr}
 use Rattle.wasm_types.specs.declared.instr.Simple.{Simple}
 use Rattle.wasm_types.specs.declared.instr.Simple.TheVariants.{Br, I32Const}
-use Rattle.awk_state.specs.declared.table.Primitive.TheVariants.{Fail}
+use Rattle.print_state.specs.declared.table.Primitive.TheVariants.{Fail}
 use Rattle.host_calls.specs.declared.import.Import.TheVariants.{Of}
 use Rattle.lowering.specs.Emitted.{ask, does}
 

@@ -2,14 +2,14 @@
 -- has a local of 32 bits for a handle or a code, and one of 64 bits for a number. Nothing here need be believed: what the code does is proved.
 use Rattle.std.specs.Prelude.{ℕ, suc, ◌+◌, ◌-◌, ◌^◌, Bool, true, false, List, [], ◌∷◌, length, get_or, cond, None}
 use Rattle.std.specs.Int.{w64, cast_unsigned}
-use Rattle.awk_state.specs.declared.sorts.Sort.TheVariants as sort
-use Rattle.awk_state.specs.declared.sorts.Argument.{Argument}
-use Rattle.awk_state.specs.declared.sorts.Argument.TheVariants as argument
-use Rattle.awk_state.specs.declared.sorts.Answer.{Answer}
-use Rattle.awk_state.specs.declared.sorts.Answer.TheVariants as answer
-use Rattle.awk_state.specs.declared.table.Primitive.TheVariants as prim
-use Rattle.awk_state.specs.declared.table.Listed.TheVariants.{Print}
-use Rattle.awk_state.specs.Table.{listed_answer}
+use Rattle.print_state.specs.declared.sorts.Sort.TheVariants as sort
+use Rattle.print_state.specs.declared.sorts.Argument.{Argument}
+use Rattle.print_state.specs.declared.sorts.Argument.TheVariants as argument
+use Rattle.print_state.specs.declared.sorts.Answer.{Answer}
+use Rattle.print_state.specs.declared.sorts.Answer.TheVariants as answer
+use Rattle.print_state.specs.declared.table.Primitive.TheVariants as prim
+use Rattle.print_state.specs.declared.table.Listed.TheVariants.{Print}
+use Rattle.print_state.specs.Table.{listed_answer}
 pub use Rattle.lower_layout.specs.Layouts.{is_constant, behind, place_of, memory_of, temporaries}
 use Rattle.wasm_types.specs.Syntax.{Plain, Block, If, Instructions, Done, Then}
 use Rattle.wasm_types.specs.declared.types.ValType.TheVariants.{I32, I64}
@@ -21,11 +21,11 @@ use Rattle.wasm_types.specs.declared.instr.ITestOp.TheVariants.{Eqz}
 use Rattle.wasm_types.specs.declared.instr.CvtOp.TheVariants.{I64ExtendI32U}
 use Rattle.host_calls.specs.declared.import.Import.{Import}
 use Rattle.host_calls.specs.declared.import.Import.TheVariants.{Of, Over, Arg, Drop}
-use Rattle.mid_code.specs.declared.mid.Arithmetic.{Arithmetic}
-use Rattle.mid_code.specs.declared.mid.Arithmetic.TheVariants.{Plus, Minus, Times}
-use Rattle.mid_code.specs.declared.mid.Operation.{Operation}
-use Rattle.mid_code.specs.declared.mid.Operation.TheVariants.{Host, Inline}
-use Rattle.mid_code.specs.Mid.{Code, Do, Over as OverList, Number, Text, Codes, End, At, Step, Eval, Program, arguments, answer_by, may_fault, Shape, Answered, shape_of}
+use Rattle.print_code.specs.declared.mid.Arithmetic.{Arithmetic}
+use Rattle.print_code.specs.declared.mid.Arithmetic.TheVariants.{Plus, Minus, Times}
+use Rattle.print_code.specs.declared.mid.Operation.{Operation}
+use Rattle.print_code.specs.declared.mid.Operation.TheVariants.{Host, Inline}
+use Rattle.print_code.specs.Mid.{Code, Do, Over as OverList, Number, Text, Codes, End, At, Step, Eval, Program, arguments, answer_by, may_fault, Shape, Answered, shape_of}
 
 -- the place of an import among those of the module, which are all of the host's, in its order
 abbrev pub place_of_import : Import → ℕ

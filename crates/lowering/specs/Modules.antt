@@ -8,7 +8,7 @@ use Rattle.wasm_types.specs.declared.instr.Simple.TheVariants.{I32Const}
 use Rattle.wasm_types.specs.declared.module.ExportDesc.TheVariants.{Func}
 use Rattle.host_calls.specs.declared.import.Import.{Import}
 use Rattle.host_calls.specs.Imports.{imports, import_name, import_type, module_name}
-use Rattle.mid_code.specs.Mid.{Program}
+use Rattle.print_code.specs.Mid.{Program}
 use Rattle.lower_layout.specs.Layouts.{memory_of, temporaries}
 use Rattle.lowering.specs.Emitted.{does, main_code}
 

@@ -5,7 +5,7 @@ ghost use Rattle.lowering.specs.Behind.{Emits};
 ghost use Rattle.lowering.specs.Emitted.{factors_differ, inline, out_of_range, ranged, times};
 
 use crate::emit::{fail_if, instrs, number_local};
-use mid_code::Arithmetic;
+use print_code::Arithmetic;
 use std::alloc::{AllocError, Global};
 use wasm_types::{CvtOp, IBinOp, IRelOp, ITestOp, Instr, Simple, ValType};
 

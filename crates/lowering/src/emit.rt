@@ -4,8 +4,8 @@ ghost use Rattle.lower_layout.specs.Placed.{most_temporaries};
 ghost use Rattle.lowering.specs.Behind.{does_all, failure, Emits};
 ghost use Rattle.lowering.specs.Emitted.{ask, fail_if, handle_local, is_fault, keep, local_for, local_of, number_local, place_of_import};
 
-use awk_state::{Answer, Argument, Listed, Primitive, Sort};
 use host_calls::Import;
+use print_state::{Answer, Argument, Listed, Primitive, Sort};
 use std::alloc::{AllocError, Global};
 use std::rc::Rc;
 use wasm_types::{IRelOp, Instr, Simple, ValType};

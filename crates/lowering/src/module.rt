@@ -5,7 +5,7 @@ ghost use Rattle.lower_layout.specs.Layouts.{memory_of, temporaries};
 ghost use Rattle.lower_layout.specs.Placed.{IsLayout, most_bytes, most_temporaries};
 ghost use Rattle.lowering.specs.Emitted.{does, main_code};
 ghost use Rattle.lowering.specs.Modules.{imported_from, locals_for, memory_for, module_of, types};
-ghost use Rattle.mid_code.specs.View.{view_mid, view_texts};
+ghost use Rattle.print_code.specs.View.{view_mid, view_texts};
 ghost use Rattle.wasm_types.specs.Syntax.{Done};
 ghost use Rattle.wasm_types.specs.View.{signature_of, view_data, view_export, view_func, view_import, view_module, views};
 
@@ -13,7 +13,7 @@ use crate::emit::instrs;
 use crate::expressions::main_code;
 use host_calls::{IMPORTS, type_of};
 use lower_layout::{Layout, LowerFault};
-use mid_code::Mid;
+use print_code::Mid;
 use std::alloc::{AllocError, Global};
 use std::rc::Rc;
 use wasm_types::{

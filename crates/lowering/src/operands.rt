@@ -4,14 +4,14 @@ ghost use Rattle.lower_layout.specs.Layouts.{rooms_for};
 ghost use Rattle.lower_layout.specs.Placed.{most_temporaries, IsLayout};
 ghost use Rattle.lowering.specs.Behind.{Emits};
 ghost use Rattle.lowering.specs.Emitted.{append_all, convert_all, convert_one, push_all, push_one};
-ghost use Rattle.mid_code.specs.Mid.{answer_by, is_value, shape_of, AllSorted, Sorted, Text};
-ghost use Rattle.mid_code.specs.View.{view, view_mid, views};
+ghost use Rattle.print_code.specs.Mid.{answer_by, is_value, shape_of, AllSorted, Sorted, Text};
+ghost use Rattle.print_code.specs.View.{view, view_mid, views};
 
 use crate::emit::{ask, handle_local, instrs, keep, local_of};
-use awk_state::{Answer, Argument, Primitive, Sort};
 use host_calls::Import;
 use lower_layout::{Layout, behind};
-use mid_code::{Expr, Mid, Operation};
+use print_code::{Expr, Mid, Operation};
+use print_state::{Answer, Argument, Primitive, Sort};
 use std::alloc::AllocError;
 use wasm_types::{Instr, Simple};
 

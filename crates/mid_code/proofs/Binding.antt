@@ -1,20 +1,39 @@
 -- Laws of doing one thing after another.
-use Rattle.std.proofs.Common.{◌≡◌, append-nil, refl, Bool}
-use Rattle.awk_state.specs.SharedState.{gives}
-use Rattle.awk_state.specs.Sorts.{OrFault}
-use Rattle.mid_code.specs.Meaning.{Flow, Normal}
-use Rattle.mid_code.specs.ScriptState.{Outcome, Gives, Stops, Doing, go_on, ◌>>=◌, give, settled, or_fault, perform}
+use Rattle.std.proofs.Common.{◌≡◌, refl, sym, ◌∙◌}
+use Rattle.mid_code.specs.ScriptState.{Outcome, Gives, Stops, Doing, go_on, ◌>>=◌, ◌>>◌, give, nothing}
 
-pub bind_same : {A B : Type 0} {m m' : Doing A} {f f' : A → Doing B} → m ≡ m' → ((a : A) → f a ≡ f' a) → (◌>>=◌ m f) ≡ (◌>>=◌ m' f')
-bind_same p h = λ i st. go_on (p i st) (λ a. h a i)
+-- the same, followed by what is the same
+pub under : {A B : Type 0} (m : Doing A) (f f' : A → Doing B) → ((a : A) → f a ≡ f' a) → (◌>>=◌ m f) ≡ (◌>>=◌ m f')
+under m f f' h = λ i st. go_on (m st) (λ a. h a i)
 
--- what answers without a change is its answer
-pub perform_gives : {A : Type 0} (b : Bool) (a : OrFault b A) → perform b (λ shared. gives shared a) ≡ settled (or_fault b a)
-perform_gives b a = λ i st. settled (or_fault b a) (record st { shared = record st.shared { output = append-nil st.shared.output i } })
+pub over : {A B : Type 0} (m m' : Doing A) (f : A → Doing B) → m ≡ m' → (◌>>=◌ m f) ≡ (◌>>=◌ m' f)
+over m m' f p = λ i st. go_on (p i st) f
 
-normal_by : (o : Outcome Flow) → go_on o (λ flow. give Normal) ≡ o
-normal_by (Gives Normal st) = refl
-normal_by (Stops why st) = refl
+assoc_by : {A B C : Type 0} (o : Outcome A) (f : A → Doing B) (g : B → Doing C) → go_on (go_on o f) g ≡ go_on o (λ a. f a >>= g)
+assoc_by (Gives a state) f g = refl
+assoc_by (Stops why state) f g = refl
 
-pub normal : (m : Doing Flow) → (m >>= λ flow. give Normal) ≡ m
-normal m = λ i st. normal_by (m st) i
+pub assoc : {A B C : Type 0} (m : Doing A) (f : A → Doing B) (g : B → Doing C) → ((m >>= f) >>= g) ≡ (m >>= λ a. f a >>= g)
+assoc m f g = λ i state. assoc_by (m state) f g i
+
+given_by : {A : Type 0} (o : Outcome A) → go_on o (λ a. give a) ≡ o
+given_by (Gives a state) = refl
+given_by (Stops why state) = refl
+
+pub given : {A : Type 0} (m : Doing A) → (m >>= λ a. give a) ≡ m
+given m = λ i state. given_by (m state) i
+
+-- doing the same, where an answer of the first stands for one of the second
+abbrev pub As : {A B : Type 0} → (A → B) → Doing A → Doing B → Type 0
+As f m m' = (m >>= λ a. give (f a)) ≡ m'
+
+pub bind_as : {A B C : Type 0} (f : A → B) (m : Doing A) (m' : Doing B) (k : A → Doing C) (k' : B → Doing C) → As f m m' → ((a : A) → k a ≡ k' (f a)) → (m >>= k) ≡ (m' >>= k')
+bind_as f m m' k k' p h = under m k (λ a. k' (f a)) h ∙ sym (assoc m (λ a. give (f a)) k') ∙ over (m >>= λ a. give (f a)) m' k' p
+
+-- with nothing after it
+pub silent : (m : Doing (Unit {0})) → (m >> nothing) ≡ m
+silent m = given m
+
+-- one after another, whose answer goes on
+pub flat : {A B C D : Type 0} (m : Doing A) (l : A → Doing B) (r : A → B → Doing C) (g : C → Doing D) → ((m >>= λ x. l x >>= λ y. r x y) >>= g) ≡ (m >>= λ x. l x >>= λ y. r x y >>= g)
+flat m l r g = assoc m (λ x. l x >>= λ y. r x y) g ∙ under m (λ x. (l x >>= λ y. r x y) >>= g) (λ x. l x >>= λ y. r x y >>= g) (λ x. assoc (l x) (r x) g)

@@ -1,17 +1,11 @@
--- What more turns keep, and how output grows.
+-- What more turns keep, how output grows, and where no call is too deep.
 use Rattle.std.specs.Prelude.{◌≡◌, ℕ, ◌≤◌, List, ◌++◌}
-use Rattle.world_core.specs.WorldState.{Action, Outside}
-use Rattle.awk_state.specs.Jobs.{JobForm}
-use Rattle.mid_code.specs.ScriptState.{Outcome, Gives, Stops}
-use Rattle.mid_code.specs.ScriptRun.{Ending, Ended, FaultedBy, GoesOn, Exhausted}
+use Rattle.world_core.specs.WorldState.{Action}
+use Rattle.mid_code.specs.ScriptRun.{Ending, Ended, FaultedBy, GoesOn, Exhausted, Setting}
 
--- more output behind some output
+-- more output after some output
 abbrev pub Grows : List Action → List Action → Type 0
 Grows before after = (added : List Action) × (after ≡ before ++ added)
-
-abbrev pub output_at : {A : Type 0} → Outcome A → List Action
-output_at (Gives a state) = state.shared.output
-output_at (Stops why state) = state.shared.output
 
 abbrev pub output_of : Ending → List Action
 output_of (Ended status output) = output
@@ -26,6 +20,14 @@ IsKept (FaultedBy fault output) later = later ≡ FaultedBy fault output
 IsKept (GoesOn output) later = Grows output (output_of later)
 IsKept (Exhausted output) later = later ≡ Exhausted output
 
--- of a run by its job, the outside and its turns
-abbrev pub MoreTurnsKeep : (JobForm → Outside → ℕ → Ending) → Type 0
-MoreTurnsKeep run = (job : JobForm) (outside : Outside) (few many : ℕ) → few ≤ many → IsKept (run job outside few) (run job outside many)
+-- of a run by its setting and its turns
+abbrev pub MoreTurnsKeep : (Setting → ℕ → Ending) → Type 0
+MoreTurnsKeep run = (setting : Setting) (few many : ℕ) → few ≤ many → IsKept (run setting few) (run setting many)
+
+abbrev pub IsNoExhaustion : Ending → Type 0
+IsNoExhaustion (Exhausted output) = ⊥
+IsNoExhaustion e = Unit {0}
+
+-- each nested call costs a turn, so a run with at most as many turns as calls may be nested never nests too deeply
+abbrev pub NeverTooDeep : (Setting → ℕ → Ending) → Type 0
+NeverTooDeep run = (setting : Setting) (turns : ℕ) → turns ≤ setting.deepest → IsNoExhaustion (run setting turns)

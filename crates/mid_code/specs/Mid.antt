@@ -1,7 +1,11 @@
 -- Mid code: structured code over the table of primitives. Operands are evaluated from left to right, and once all of them are, each is
--- converted to the sort that its operation wants: a conversion belongs to the operation, so no code stands for it.
-use Rattle.std.specs.Prelude.{ℕ, ◌^◌, T, Bool, true, false, ◌&&◌, nat_le, List, [], ◌∷◌, length, ◌<◌, ℤ, unsigned_abs}
-use Rattle.awk_state.specs.Table.{arguments_of, answer_of, can_fault, listed_answer}
+-- converted to the sort that its operation wants. A conversion belongs to the operation, by the form that is there and the sort that is wanted: no code stands for it.
+-- A name's code says whether the name is unboxed, which is where it is kept and not what it means. What is evaluated once and used later is kept (`Let`) and named
+-- by how many others were kept after it (`Bound`); its last use says that it moves what an earlier one copies.
+use Rattle.std.specs.Prelude.{ℕ, zero, suc, Bool, true, false, List, [], ◌∷◌, ℤ}
+use Rattle.awk_values.specs.declared.comparison.CompareOp.{CompareOp}
+use Rattle.awk_state.specs.Table.{arguments_of, answer_of, listed_answer}
+use Rattle.awk_state.specs.declared.sorts.Sort.{Sort}
 use Rattle.awk_state.specs.declared.sorts.Sort.TheVariants as sort
 use Rattle.awk_state.specs.declared.sorts.Argument.{Argument}
 use Rattle.awk_state.specs.declared.sorts.Argument.TheVariants as argument
@@ -9,7 +13,19 @@ use Rattle.awk_state.specs.declared.sorts.Answer.{Answer}
 use Rattle.awk_state.specs.declared.sorts.Answer.TheVariants as answer
 use Rattle.awk_state.specs.declared.table.Listed.{Listed}
 use Rattle.mid_code.specs.declared.mid.Operation.{Operation}
-use Rattle.mid_code.specs.declared.mid.Operation.TheVariants.{Host, Inline}
+use Rattle.mid_code.specs.declared.mid.Operation.TheVariants.{Host, Inline, AsNumber, FieldNumber}
+use Rattle.mid_code.specs.Names.{ArrayName}
+
+-- what a name of the program is: a scalar whose value is boxed, one that is a number unless the command line gave it a text, or an array
+pub data Kind : Type 0 where
+  Boxed : Kind
+  Unboxed : Kind
+  Many : Kind
+
+-- a scalar: a global by its number, or a parameter; and whether it is unboxed
+pub data Slot : Type 0 where
+  Global : (unboxed : Bool) → ℕ → Slot
+  Parameter : (unboxed : Bool) → ℕ → Slot
 
 mutual
   pub data Code : Type 0 where
@@ -17,92 +33,157 @@ mutual
     Do : Operation → Codes → Code
     -- one on a list of values
     Over : Listed → Codes → Code
+    -- a comparison, of numbers where both are
+    Compare : CompareOp → Code → Code → Code
+    -- a call of a function, by its number
+    Call : ℕ → Codes → Code
+    -- getline: a record of the main input, after the assignments of the command line that come first
+    Ask : Code
+    -- the same into a variable: where a text was read, it is kept while the code stores it
+    AskLine : (store : Code) → Code
+    -- from a file
+    FileLine : (file : Code) → (store : Code) → Code
+    -- expression, replacement and target; where anything was replaced, the new text is kept while the code stores it. The answer is how many were
+    Replace : (all : Bool) → Codes → (store : Code) → Code
     Number : ℤ → Code
     -- the text of this place in the list of texts
     Text : ℕ → Code
+    -- what a parameter is without an argument
+    Unset : Code
+    Get : Slot → Code
+    -- a scalar takes what is answered
+    Set : Slot → Code → Code
+    Array : ArrayName → Code
+    -- whether the range of an item is open
+    IsOpen : ℕ → Code
+    -- one of two, as this sort, by the truth of the first
+    Choose : Sort → Code → Code → Code → Code
+    -- the answer of the first is dropped, and then the second is evaluated
+    Seq : Code → Code → Code
+    -- the answer of the first is kept while the second is evaluated; where it is not moved on the way it is dropped at the end
+    Let : Code → Code → Code
+    -- what was kept, with so many others after it: moved, which is its last use, or copied
+    Bound : (moves : Bool) → ℕ → Code
 
   pub data Codes : Type 0 where
     End : Codes
     At : Code → Codes → Codes
+    -- a constant argument
+    Fixed : ℕ → Codes → Codes
+    -- an array made for a call, where an argument is missing
+    Fresh : Codes → Codes
 
-pub data Step : Type 0 where
-  Eval : Code → Step
+mutual
+  pub data Step : Type 0 where
+    Eval : Code → Step
+    Block : Steps → Step
+    If : Code → Step → Step → Step
+    -- a loop, whose first round may go without the test: test, body, and what stands between the body and the next test
+    Loop : Bool → Code → Step → Step → Step
+    -- the keys of an array, each kept while the code stores it
+    Each : ArrayName → Code → Step → Step
+    Break : Step
+    Continue : Step
+    Next : Step
+    Exit : Step
+    ExitWith : Code → Step
+    Return : Code → Step
+    -- the range of an item opens, or closes
+    Mark : ℕ → Bool → Step
+
+  pub data Steps : Type 0 where
+    NoStep : Steps
+    Then : Step → Steps → Steps
+
+pub record Declared : Type 0 where
+  pub name : List ℕ
+  pub kind : Kind
+
+-- a function: its name, what it is given, and its body
+pub record Routine : Type 0 where
+  pub name : List ℕ
+  pub parameters : List Kind
+  pub body : Steps
 
 pub record Program : Type 0 where
   pub texts : List (List ℕ)
-  pub main : List Step
+  -- what is announced to the host, and made before the script runs; then the functions are announced
+  pub globals : List Declared
+  pub routines : List Routine
+  -- how many items there are: each may have a range that is open
+  pub ranges : ℕ
+  pub begin : Steps
+  -- whether records are read
+  pub reads : Bool
+  pub items : Steps
+  pub end : Steps
 
--- Sorts.
+-- Forms: what is there once code is evaluated.
 
-abbrev pub arguments : Operation → List Argument
-arguments (Host p) = arguments_of p
-arguments (Inline a) = argument.Of sort.Number ∷ (argument.Of sort.Number ∷ [])
+pub data Form : Type 0 where
+  -- what a primitive answers
+  Answered : Answer → Form
+  -- what an unboxed name has: a number or nothing, and perhaps a text beside it
+  Bare : Form
+  -- what an unboxed parameter is given: a number or nothing
+  Perhaps : Form
+
+abbrev pub a_value : Form
+a_value = Answered (answer.Of sort.Value)
+
+abbrev pub a_number : Form
+a_number = Answered (answer.Of sort.Number)
 
 abbrev pub answer_by : Operation → Answer
 answer_by (Host p) = answer_of p
 answer_by (Inline a) = answer.Of sort.Number
+answer_by AsNumber = answer.Of sort.Number
+answer_by FieldNumber = answer.Of sort.Number
 
-abbrev pub may_fault : Operation → Bool
-may_fault (Host p) = can_fault p
-may_fault (Inline a) = true
+abbrev pub read_form : Bool → Form
+read_form true = Bare
+read_form false = a_value
 
--- what code gives: an answer, or a text of the program
-pub data Shape : Type 0 where
-  Answered : Answer → Shape
-  Literal : Shape
+abbrev pub slot_form : Slot → Form
+slot_form (Global u i) = read_form u
+slot_form (Parameter u i) = read_form u
 
-abbrev pub shape_of : Code → Shape
-shape_of (Do o es) = Answered (answer_by o)
-shape_of (Over l es) = Answered (listed_answer l)
-shape_of (Number z) = Answered (answer.Of sort.Number)
-shape_of (Text i) = Literal
+-- what is kept under a number
+abbrev pub form_at : List Form → ℕ → Form
+form_at [] i = Answered answer.Nothing
+form_at (f ∷ fs) zero = f
+form_at (f ∷ fs) (suc i) = form_at fs i
 
--- Which code is well sorted: each operand has the sort that is wanted, or is a value where a number is.
+-- the form of code, where things of these forms are kept
+abbrev pub form_of : List Form → Code → Form
+form_of fs (Do o es) = Answered (answer_by o)
+form_of fs (Over l es) = Answered (listed_answer l)
+form_of fs (Compare c a b) = Answered answer.Truth
+form_of fs (Call f es) = a_value
+form_of fs Ask = a_number
+form_of fs (AskLine s) = a_number
+form_of fs (FileLine e s) = a_number
+form_of fs (Replace all es s) = a_number
+form_of fs (Number z) = a_number
+form_of fs (Text i) = a_value
+form_of fs Unset = Perhaps
+form_of fs (Get x) = slot_form x
+form_of fs (Set x e) = form_of fs e
+form_of fs (Array a) = Answered (answer.Of sort.Array)
+form_of fs (IsOpen i) = Answered answer.Truth
+form_of fs (Choose s c a b) = Answered (answer.Of s)
+form_of fs (Seq a b) = form_of fs b
+form_of fs (Let a b) = form_of (form_of fs a ∷ fs) b
+form_of fs (Bound m i) = form_at fs i
 
-abbrev pub fits : Shape → Argument → Bool
-fits (Answered (answer.Of sort.Value)) (argument.Of sort.Value) = true
-fits (Answered (answer.Of sort.Value)) (argument.Of sort.Number) = true
-fits (Answered (answer.Of sort.Number)) (argument.Of sort.Number) = true
-fits (Answered (answer.Of sort.Array)) (argument.Of sort.Array) = true
-fits (Answered (answer.Of sort.Iterator)) (argument.Of sort.Iterator) = true
-fits Literal argument.Place = true
-fits _ _ = false
+abbrev pub arguments : Operation → List Argument
+arguments (Host p) = arguments_of p
+arguments (Inline a) = argument.Of sort.Number ∷ (argument.Of sort.Number ∷ [])
+arguments AsNumber = argument.Of sort.Number ∷ []
+arguments FieldNumber = argument.Of sort.Number ∷ []
 
-abbrev pub is_value : Shape → Bool
-is_value (Answered (answer.Of sort.Value)) = true
-is_value _ = false
-
--- it gives something that can be kept
-abbrev pub gives_answer : Answer → Bool
-gives_answer answer.Nothing = false
-gives_answer _ = true
-
-abbrev pub fit_row : List Argument → Codes → Bool
-fit_row [] End = true
-fit_row (a ∷ rest) (At e es) = fits (shape_of e) a && fit_row rest es
-fit_row _ _ = false
-
-abbrev pub all_values : Codes → Bool
-all_values End = true
-all_values (At e es) = is_value (shape_of e) && all_values es
-
-abbrev mutual
-  pub Sorted : ℕ → Code → Type 0
-  Sorted texts (Do o es) = T (gives_answer (answer_by o) && fit_row (arguments o) es) × AllSorted texts es
-  Sorted texts (Over l es) = T (all_values es) × AllSorted texts es
-  Sorted texts (Number z) = T (nat_le (unsigned_abs z) (2 ^ 53))
-  Sorted texts (Text i) = i < texts
-
-  pub AllSorted : ℕ → Codes → Type 0
-  AllSorted texts End = Unit {0}
-  AllSorted texts (At e es) = Sorted texts e × AllSorted texts es
-
-abbrev pub SortedStep : ℕ → Step → Type 0
-SortedStep texts (Eval e) = Sorted texts e
-
-abbrev pub SortedSteps : ℕ → List Step → Type 0
-SortedSteps texts [] = Unit {0}
-SortedSteps texts (s ∷ ss) = SortedStep texts s × SortedSteps texts ss
-
-abbrev pub IsSorted : Program → Type 0
-IsSorted p = SortedSteps (length p.texts) p.main
+-- of a function that is not there: none
+abbrev pub parameters_at : List (List Kind) → ℕ → List Kind
+parameters_at [] f = []
+parameters_at (ps ∷ rest) zero = ps
+parameters_at (ps ∷ rest) (suc f) = parameters_at rest f

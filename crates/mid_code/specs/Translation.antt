@@ -1,77 +1,344 @@
--- The mid code of a script. It need not be believed: `to_mid` says that its meaning is the script's.
-use Rattle.std.specs.Prelude.{ℕ, ◌+◌, List, [], ◌∷◌, ◌++◌, length, Result, Ok, Err, pos}
+-- The mid code of a script. It need not be believed: `EndsAs` says that its meaning is the script's.
+use Rattle.std.specs.Prelude.{ℕ, suc, Bool, true, false, if◌then◌else◌, List, [], ◌∷◌, map, length, Option, Some, None, pos}
 use Rattle.awk_text.specs.Escapes.{string_text}
-use Rattle.awk_values.specs.declared.fault.Fault.{Fault}
 use Rattle.awk_state.specs.Numbers.{Number as AnyNumber}
-use Rattle.awk_state.specs.declared.table.Primitive.TheVariants.{Num, Lit}
-use Rattle.awk_state.specs.declared.table.Listed.TheVariants.{Print as PrintList}
-use Rattle.awk_tree.specs.Token.{Plus as PlusSign, Minus as MinusSign, Times as TimesSign, Mul, Number as NumberText, Quoted}
-use Rattle.awk_tree.specs.Tree.{Tree, Leaf, Group, Bin, Add, Other, Trees, NoTree, Then}
-use Rattle.awk_tree.specs.Stmt.{Print, Listed, NoTarget, Put, Simple, Stmt, Stmts, NoStmt, And}
-use Rattle.awk_tree.specs.Item.{Item, Begin}
+use Rattle.awk_state.specs.Constants.{special_number, flag_number}
+use Rattle.awk_state.specs.declared.sorts.Sort.TheVariants as sort
+use Rattle.awk_state.specs.declared.constants.Special.{Special}
+use Rattle.awk_state.specs.declared.constants.Special.TheVariants.{Fs}
+use Rattle.awk_state.specs.declared.table.Primitive.{Primitive}
+use Rattle.awk_state.specs.declared.table.Primitive.TheVariants as row
+use Rattle.awk_state.specs.declared.table.Listed.TheVariants as listed
+use Rattle.awk_tokens.specs.declared.words.Builtin.{Builtin}
+use Rattle.awk_tokens.specs.declared.words.Builtin.TheVariants as builtin
+use Rattle.awk_grammar.specs.Token.{Sign, Plus, Minus, Not, Signed, Increment, Decrement, Product, Times, Over as Divided, Modulo, Set as Put, SetSum, SetProduct, SetPower, Assign, Or, And as Both, Match, Matching, Matches, Differs, Compare as Compared, Mul, Pow, Number as Numeral, Quoted, Ere}
+use Rattle.awk_grammar.specs.Token as token
+use Rattle.awk_grammar.specs.Tree as tree
+use Rattle.awk_grammar.specs.Tree.{Tree, Leaf, Length, Var, Index, Field, Group, Apply, Unary, Pre, Post, Bin, Join, Add, Other, Has, HasList, Cond, GetInto, GetFrom, GetIntoFrom, Trees, NoTree}
+use Rattle.awk_grammar.specs.Stmt as stmt
+use Rattle.awk_grammar.specs.Stmt.{Stmt, Stmts, NoStmt, And}
+use Rattle.awk_grammar.specs.Item as item
+use Rattle.awk_grammar.specs.Item.{Item, Pattern}
 use Rattle.mid_code.specs.declared.mid.Arithmetic.{Arithmetic}
-use Rattle.mid_code.specs.declared.mid.Arithmetic.TheVariants.{Plus, Minus, Times}
-use Rattle.mid_code.specs.declared.mid.Operation.TheVariants.{Host, Inline}
-use Rattle.mid_code.specs.Meaning.{constant}
-use Rattle.mid_code.specs.Mid.{Code, Do, Over, Number, Text, Codes, End, At, Step, Eval, Program}
+use Rattle.mid_code.specs.declared.mid.Arithmetic.TheVariants as inline
+use Rattle.mid_code.specs.declared.mid.Operation.{Operation}
+use Rattle.mid_code.specs.declared.mid.Operation.TheVariants.{Host, Inline, AsNumber, FieldNumber}
+use Rattle.mid_code.specs.Names.{Name, Function, Resolved, Scope, Variable, Reserved, ArrayName, same_name, function_number, function_at, variable_of, array_of, is_array}
+use Rattle.mid_code.specs.Names as names
+use Rattle.mid_code.specs.Steps.{constant, or_nought, comparison_of, ere_text, ere_in, is_ere}
+use Rattle.mid_code.specs.Statements.{operands_of, with_target, destination_of, listed_of, scope_in}
+use Rattle.mid_code.specs.Items.{top, print_record, reads_records}
+use Rattle.mid_code.specs.Texts.{text_place, texts_of_script}
+use Rattle.mid_code.specs.Mid.{Kind, Boxed, Many, Global, Parameter, Code, Do, Over, Compare, Call, Ask, AskLine, FileLine, Replace, Number, Text, Unset, Get, Set, Array, IsOpen, Choose, Seq, Let, Bound, Codes, End, At, Fixed, Fresh, Declared, Step, Eval, Block, If, Loop, Each, Break, Continue, Next, Exit, ExitWith, Return, Mark, Steps, NoStep, Then, Routine, Program}
 
-abbrev pub number_code : Result AnyNumber Fault → Code
-number_code (Ok n) = Number n.number
-number_code (Err fault) = Number (pos 0)
+-- Small codes.
 
-abbrev pub inline : Arithmetic → Code → Code → Code
-inline a left right = Do (Inline a) (At left (At right End))
+abbrev pub host : Primitive → Codes → Code
+host p es = Do (Host p) es
 
--- the code of a sum, which gives a number
-unfoldable pub sum_code : Tree → Code
-sum_code (Leaf (NumberText text)) = number_code (constant text)
-sum_code (Group t) = sum_code t
-sum_code (Bin (Add PlusSign) a b) = inline Plus (sum_code a) (sum_code b)
-sum_code (Bin (Add MinusSign) a b) = inline Minus (sum_code a) (sum_code b)
-sum_code (Bin (Other (Mul TimesSign)) a b) = inline Times (sum_code a) (sum_code b)
-sum_code _ = Number (pos 0)
+abbrev pub one : Code → Codes
+one a = At a End
 
-abbrev pub literal : ℕ → Code
-literal i = Do (Host Lit) (At (Text i) End)
+abbrev pub two : Code → Code → Codes
+two a b = At a (At b End)
 
--- a value is made of a number
-abbrev pub boxed : Code → Code
-boxed e = Do (Host Num) (At e End)
+abbrev pub zero_code : Code
+zero_code = Number (pos 0)
 
--- the texts of an operand of print
-unfoldable pub item_texts : Tree → List (List ℕ)
-item_texts (Leaf (Quoted text)) = string_text text ∷ []
-item_texts _ = []
+abbrev pub one_code : Code
+one_code = Number (pos 1)
 
--- its code, which gives a value; i texts stand before its own
-unfoldable pub item_code : ℕ → Tree → Code
-item_code i (Leaf (Quoted text)) = literal i
-item_code i t = boxed (sum_code t)
+abbrev pub number_code : AnyNumber → Code
+number_code n = Number n.number
 
-abbrev pub texts_of : Trees → List (List ℕ)
-texts_of NoTree = []
-texts_of (Then t ts) = item_texts t ++ texts_of ts
+abbrev pub truth_code : Code → Code
+truth_code e = Choose sort.Number e one_code zero_code
 
-abbrev pub codes_of : ℕ → Trees → Codes
-codes_of i NoTree = End
-codes_of i (Then t ts) = At (item_code i t) (codes_of (i + length (item_texts t)) ts)
+abbrev pub untruth_code : Code → Code
+untruth_code e = Choose sort.Number e zero_code one_code
 
-unfoldable pub stmt_texts : Stmt → List (List ℕ)
-stmt_texts (Simple (Put Print (Listed ts) NoTarget)) = texts_of ts
-stmt_texts _ = []
+abbrev pub record_code : Code
+record_code = host row.Field (one zero_code)
 
-unfoldable pub stmt_step : ℕ → Stmt → Step
-stmt_step i (Simple (Put Print (Listed ts) NoTarget)) = Eval (Over PrintList (codes_of i ts))
-stmt_step i _ = Eval (Number (pos 0))
+-- what was kept: once more, and for the last time
+abbrev pub copied : ℕ → Code
+copied i = Bound false i
 
-abbrev pub stmts_texts : Stmts → List (List ℕ)
-stmts_texts NoStmt = []
-stmts_texts (And s ss) = stmt_texts s ++ stmts_texts ss
+abbrev pub moved : ℕ → Code
+moved i = Bound true i
 
-abbrev pub steps_of : ℕ → Stmts → List Step
-steps_of i NoStmt = []
-steps_of i (And s ss) = stmt_step i s ∷ steps_of (i + length (stmt_texts s)) ss
+abbrev pub sign_of : Sign → Operation
+sign_of Plus = Inline inline.Plus
+sign_of Minus = Inline inline.Minus
 
-abbrev pub program_of : List Item → Program
-program_of (Begin ss ∷ []) = record { texts = stmts_texts ss; main = steps_of 0 ss }
-program_of _ = record { texts = []; main = [] }
+abbrev pub product_of : Product → Operation
+product_of Times = Inline inline.Times
+product_of Divided = Inline inline.Over
+product_of Modulo = Inline inline.Modulo
+
+abbrev pub step_arithmetic : token.Step → Arithmetic
+step_arithmetic Increment = inline.Plus
+step_arithmetic Decrement = inline.Minus
+
+abbrev pub step_of : token.Step → Operation
+step_of s = Inline (step_arithmetic s)
+
+abbrev pub special_code : Special → Code
+special_code s = host row.GetSpecial (Fixed (special_number s) End)
+
+-- all names are boxed
+abbrev pub variable_code : Variable → Code
+variable_code (names.Global i) = Get (Global false i)
+variable_code (names.Parameter i) = Get (Parameter false i)
+variable_code (Reserved s) = special_code s
+
+-- a variable takes a value, and nothing is asked of the answer
+abbrev pub store_variable_code : Variable → Code → Code
+store_variable_code (names.Global i) e = Set (Global false i) e
+store_variable_code (names.Parameter i) e = Set (Parameter false i) e
+store_variable_code (Reserved s) e = host row.SetSpecial (Fixed (special_number s) (one e))
+
+-- the same, and what it takes is the answer
+abbrev pub set_variable_code : Variable → Code → Code
+set_variable_code (names.Global i) e = Set (Global false i) e
+set_variable_code (names.Parameter i) e = Set (Parameter false i) e
+set_variable_code (Reserved s) e = Let e (Seq (store_variable_code (Reserved s) (copied 0)) (moved 0))
+
+abbrev pub matching_code : Matching → Code → Code
+matching_code Matches e = e
+matching_code Differs e = untruth_code e
+
+-- An ERE token as an operand is its text.
+abbrev pub ere_code : List (List ℕ) → List (List ℕ) → Code → Code
+ere_code texts [] other = other
+ere_code texts (t ∷ rest) other = Text (text_place texts t)
+
+abbrev pub fresh_codes : List Name → Codes
+fresh_codes [] = End
+fresh_codes (p ∷ ps) = if p.is_array then Fresh (fresh_codes ps) else At Unset (fresh_codes ps)
+
+module _ (texts : List (List ℕ)) (scope : Scope) where
+  abbrev pub literal : List ℕ → Code
+  literal t = Text (text_place texts t)
+
+  abbrev pub array_code : List ℕ → Code
+  array_code x = Array (array_of scope x)
+
+  abbrev pub passed_code : Name → List ℕ → Code
+  passed_code p x = if p.is_array then array_code x else if is_array scope x then Unset else variable_code (variable_of scope x)
+
+  -- A place whose key or field's number was kept, with i others after it: its value, and how it takes another, which is the last use of what was kept.
+
+  abbrev pub read_code : Tree → ℕ → Code
+  read_code (Index x ts) i = host row.Elem (two (array_code x) (copied i))
+  read_code (Var x) i = variable_code (variable_of scope x)
+  read_code _ i = host row.Field (one (copied i))
+
+  abbrev pub store_code : Tree → ℕ → Code → Code
+  store_code (Index x ts) i e = host row.SetElem (At (array_code x) (two (moved i) e))
+  store_code (Var x) i e = store_variable_code (variable_of scope x) e
+  store_code _ i e = host row.SetField (two (moved i) e)
+
+  -- what is stored into the place is the answer; i others were kept after the place
+  abbrev pub stored_code : Tree → ℕ → Code → Code
+  stored_code (Var x) i e = set_variable_code (variable_of scope x) e
+  stored_code place i e = Let e (Seq (store_code place (suc i) (copied 0)) (moved 0))
+
+  abbrev pub stepped_code : token.Step → Tree → Code
+  stepped_code s place = stored_code place 0 (Do (step_of s) (two (read_code place 0) one_code))
+
+  -- the number before the step is the answer
+  abbrev pub step_after_code : token.Step → Tree → Code
+  step_after_code s place = Let (Do AsNumber (one (read_code place 0))) (Let (Do (step_of s) (two (copied 0) one_code)) (Seq (store_code place 2 (moved 0)) (moved 1)))
+
+  -- right side, old value, result
+  abbrev pub updated_code : Operation → Tree → Code → Code
+  updated_code o place right = Let right (stored_code place 1 (Do o (two (read_code place 1) (moved 0))))
+
+  -- how many answers are kept for a place
+  abbrev pub kept_for : Tree → ℕ
+  kept_for (Var x) = 0
+  kept_for t = 1
+
+  -- expression and replacement were kept before the place
+  abbrev pub substituted_code : Bool → Tree → Code
+  substituted_code all place =
+      Replace all (At (moved (suc (kept_for place))) (At (moved (kept_for place)) (At (read_code place 0) End))) (store_code place 1 (moved 0))
+
+  abbrev pub replacing_code : Code → Code → Code → Code
+  replacing_code ere replacement body = Let ere (Let replacement body)
+
+  unfoldable mutual
+    pub code_of : Tree → Code
+    code_of (Leaf (Numeral text)) = number_code (or_nought (constant text))
+    code_of (Leaf (Quoted text)) = literal (string_text text)
+    code_of (Leaf (Ere text)) = host row.Matches (two record_code (literal (ere_text text)))
+    code_of Length = host row.Length (one record_code)
+    code_of (Var x) = variable_code (variable_of scope x)
+    code_of (Index x ts) = host row.Elem (two (array_code x) (key_code ts))
+    code_of (Field t) = host row.Field (one (code_of t))
+    code_of (Group t) = code_of t
+    code_of (tree.Call f ts) = Call (function_number scope.script f) (argument_codes (function_at scope.script.functions (function_number scope.script f)).parameters ts)
+    code_of (Apply builtin.Sprintf ts) = Over listed.Sprintf (codes_of ts)
+    code_of (Apply f ts) = applied_code f ts
+    code_of (Unary Not t) = untruth_code (code_of t)
+    code_of (Unary (Signed Plus) t) = Do AsNumber (one (code_of t))
+    code_of (Unary (Signed Minus) t) = Do (Inline inline.Minus) (two zero_code (code_of t))
+    code_of (Pre s t) = at_place t (stepped_code s t)
+    code_of (Post s t) = at_place t (step_after_code s t)
+    code_of (Bin Join a b) = host row.Concat (two (code_of a) (code_of b))
+    code_of (Bin (Add s) a b) = Do (sign_of s) (two (code_of a) (code_of b))
+    code_of (Bin (Other (Mul p)) a b) = Do (product_of p) (two (code_of a) (code_of b))
+    code_of (Bin (Other Pow) a b) = host row.Pow (two (code_of a) (code_of b))
+    code_of (Bin (Other (Compared c)) a b) = Compare (comparison_of c) (code_of a) (code_of b)
+    code_of (Bin (Other (Match m)) a b) = matching_code m (host row.Matches (two (code_of a) (ere_code texts (ere_in b) (code_of b))))
+    code_of (Bin (Other Both) a b) = Choose sort.Number (code_of a) (truth_code (code_of b)) zero_code
+    code_of (Bin (Other Or) a b) = Choose sort.Number (code_of a) one_code (truth_code (code_of b))
+    code_of (Bin (Other (Assign Put)) a b) = at_place a (stored_code a 0 (code_of b))
+    code_of (Bin (Other (Assign (SetSum s))) a b) = at_place a (updated_code (sign_of s) a (code_of b))
+    code_of (Bin (Other (Assign (SetProduct p))) a b) = at_place a (updated_code (product_of p) a (code_of b))
+    code_of (Bin (Other (Assign SetPower)) a b) = at_place a (updated_code (Host row.Pow) a (code_of b))
+    code_of (Has t x) = host row.Has (two (array_code x) (code_of t))
+    code_of (HasList t ts x) = host row.Has (two (array_code x) (host row.Join (two (code_of t) (key_code ts))))
+    code_of (Cond c a b) = Choose sort.Value (code_of c) (code_of a) (code_of b)
+    code_of tree.Get = Ask
+    code_of (GetInto v) = at_place v (AskLine (store_code v 1 (moved 0)))
+    code_of (GetFrom s) = Do AsNumber (one (host row.GetlineFile (one (code_of s))))
+    code_of (GetIntoFrom v s) = at_place v (FileLine (code_of s) (store_code v 1 (moved 0)))
+
+    pub codes_of : Trees → Codes
+    codes_of NoTree = End
+    codes_of (tree.Then t ts) = At (code_of t) (codes_of ts)
+
+    -- subscripts: all are evaluated before the first is joined
+    pub key_code : Trees → Code
+    key_code NoTree = Unset
+    key_code (tree.Then t NoTree) = code_of t
+    key_code (tree.Then t (tree.Then u ts)) = host row.Join (two (code_of t) (key_code (tree.Then u ts)))
+
+    -- what a place needs is kept before the code
+    pub at_place : Tree → Code → Code
+    at_place (Index x ts) body = Let (key_code ts) body
+    at_place (Field t) body = Let (Do FieldNumber (one (code_of t))) body
+    at_place (Var x) body = body
+    at_place t body = Let zero_code body
+
+    pub argument_codes : List Name → Trees → Codes
+    argument_codes ps NoTree = fresh_codes ps
+    argument_codes [] (tree.Then t ts) = End
+    argument_codes (p ∷ ps) (tree.Then (Var x) ts) = At (passed_code p x) (argument_codes ps ts)
+    argument_codes (p ∷ ps) (tree.Then t ts) = At (code_of t) (argument_codes ps ts)
+
+    -- plain is the operand's code elsewhere
+    pub truncated_code : Tree → Code → Code
+    truncated_code (Group t) plain = truncated_code t plain
+    truncated_code (Bin (Other (Mul Divided)) a b) plain = Do (Inline inline.Truncated) (two (code_of a) (code_of b))
+    truncated_code t plain = host row.IntOf (one plain)
+
+    pub applied_code : Builtin → Trees → Code
+    applied_code builtin.Length (tree.Then t NoTree) = host row.Length (one (code_of t))
+    applied_code builtin.Length ts = host row.Length (one record_code)
+    applied_code builtin.Substr (tree.Then s (tree.Then from NoTree)) = host row.SubstrFrom (two (code_of s) (code_of from))
+    applied_code builtin.Substr (tree.Then s (tree.Then from (tree.Then count ts))) = host row.Substr (At (code_of s) (two (code_of from) (code_of count)))
+    applied_code builtin.Index (tree.Then s (tree.Then t ts)) = host row.Index (two (code_of s) (code_of t))
+    applied_code builtin.Split (tree.Then s (tree.Then (Var a) NoTree)) = host row.Split (At (code_of s) (At (array_code a) (At (special_code Fs) (Fixed 0 End))))
+    applied_code builtin.Split (tree.Then s (tree.Then (Var a) (tree.Then t ts))) = host row.Split (At (code_of s) (At (array_code a) (At (ere_code texts (ere_in t) (code_of t)) (Fixed (flag_number (is_ere (ere_in t))) End))))
+    applied_code builtin.Sub (tree.Then e (tree.Then r NoTree)) = replacing_code (ere_code texts (ere_in e) (code_of e)) (code_of r) (Let zero_code (substituted_code false Length))
+    applied_code builtin.Sub (tree.Then e (tree.Then r (tree.Then t ts))) = replacing_code (ere_code texts (ere_in e) (code_of e)) (code_of r) (at_place t (substituted_code false t))
+    applied_code builtin.Gsub (tree.Then e (tree.Then r NoTree)) = replacing_code (ere_code texts (ere_in e) (code_of e)) (code_of r) (Let zero_code (substituted_code true Length))
+    applied_code builtin.Gsub (tree.Then e (tree.Then r (tree.Then t ts))) = replacing_code (ere_code texts (ere_in e) (code_of e)) (code_of r) (at_place t (substituted_code true t))
+    applied_code builtin.Match (tree.Then s (tree.Then e ts)) = host row.Match (two (code_of s) (ere_code texts (ere_in e) (code_of e)))
+    applied_code builtin.ToLower (tree.Then t ts) = host row.Lower (one (code_of t))
+    applied_code builtin.ToUpper (tree.Then t ts) = host row.Upper (one (code_of t))
+    applied_code builtin.Int (tree.Then t ts) = truncated_code t (code_of t)
+    applied_code builtin.Close (tree.Then t ts) = Do AsNumber (one (host row.Close (one (code_of t))))
+    applied_code f ts = Unset
+
+  -- Statements.
+
+  abbrev pub plain_step : stmt.Plain → Step
+  plain_step (stmt.Eval t) = Eval (code_of t)
+  plain_step (stmt.Put p args target) = Eval (Over (listed_of p (destination_of target)) (codes_of (with_target (operands_of args) target)))
+  plain_step (stmt.Delete a ts) = Eval (host row.Delete (two (array_code a) (key_code ts)))
+
+  abbrev pub maybe_step : Option stmt.Plain → Step
+  maybe_step None = Block NoStep
+  maybe_step (Some p) = plain_step p
+
+  abbrev pub test_code : Option Tree → Code
+  test_code None = one_code
+  test_code (Some t) = code_of t
+
+  unfoldable mutual
+    pub step_code : Stmt → Step
+    step_code (stmt.Block ss) = Block (steps_code ss)
+    step_code stmt.Empty = Block NoStep
+    step_code (stmt.Simple p) = plain_step p
+    step_code (stmt.If c s) = If (code_of c) (step_code s) (Block NoStep)
+    step_code (stmt.IfElse c s t) = If (code_of c) (step_code s) (step_code t)
+    step_code (stmt.While c s) = Loop true (code_of c) (step_code s) (Block NoStep)
+    step_code (stmt.Do s c) = Loop false (code_of c) (step_code s) (Block NoStep)
+    step_code (stmt.For i c p s) = Block (Then (maybe_step i) (Then (Loop true (test_code c) (step_code s) (maybe_step p)) NoStep))
+    step_code (stmt.ForIn k a s) = Each (array_of scope a) (store_variable_code (variable_of scope k) (moved 0)) (step_code s)
+    step_code (stmt.Jumping stmt.Break) = Break
+    step_code (stmt.Jumping stmt.Continue) = Continue
+    step_code (stmt.Jumping stmt.Next) = Next
+    step_code (stmt.Leave stmt.Exit None) = Exit
+    step_code (stmt.Leave stmt.Exit (Some t)) = ExitWith (code_of t)
+    step_code (stmt.Leave stmt.Return None) = Return Unset
+    step_code (stmt.Leave stmt.Return (Some t)) = Return (code_of t)
+
+    pub steps_code : Stmts → Steps
+    steps_code NoStmt = NoStep
+    steps_code (And s ss) = Then (step_code s) (steps_code ss)
+
+  -- Items.
+
+  -- the i-th item's action where its pattern is met
+  abbrev pub where_code : ℕ → Pattern → Step → Step
+  where_code i (item.One t) action = If (code_of t) action (Block NoStep)
+  where_code i (item.Between t u) action =
+      Block (Then (If (IsOpen i) (Block NoStep) (If (code_of t) (Mark i true) (Block NoStep)))
+      (Then (If (IsOpen i) (Block (Then (If (code_of u) (Mark i false) (Block NoStep)) (Then action NoStep))) (Block NoStep)) NoStep))
+
+  abbrev pub items_code : ℕ → List Item → Steps
+  items_code i [] = NoStep
+  items_code i (item.Always ss ∷ items) = Then (Block (steps_code ss)) (items_code (suc i) items)
+  items_code i (item.When p ss ∷ items) = Then (where_code i p (Block (steps_code ss))) (items_code (suc i) items)
+  items_code i (item.Lone p ∷ items) = Then (where_code i p (Block (steps_code print_record))) (items_code (suc i) items)
+  items_code i (_ ∷ items) = items_code (suc i) items
+
+  abbrev pub begin_code : List Item → Steps
+  begin_code [] = NoStep
+  begin_code (item.Begin ss ∷ items) = Then (Block (steps_code ss)) (begin_code items)
+  begin_code (_ ∷ items) = begin_code items
+
+  abbrev pub end_code : List Item → Steps
+  end_code [] = NoStep
+  end_code (item.End ss ∷ items) = Then (Block (steps_code ss)) (end_code items)
+  end_code (_ ∷ items) = end_code items
+
+abbrev pub kind_of : Name → Kind
+kind_of p = if p.is_array then Many else Boxed
+
+abbrev pub declared_code : Name → Declared
+declared_code p = record { name = p.name; kind = kind_of p }
+
+abbrev pub routine_code : List (List ℕ) → Resolved → Function → Routine
+routine_code texts script f = record { name = f.name; parameters = map kind_of f.parameters; body = steps_code texts (scope_in script f) f.body }
+
+abbrev pub program_with : List (List ℕ) → Resolved → Program
+program_with texts script = record {
+  texts = texts;
+  globals = map declared_code script.globals;
+  routines = map (routine_code texts script) script.functions;
+  ranges = length script.items;
+  begin = begin_code texts (top script) script.items;
+  reads = reads_records script.items;
+  items = items_code texts (top script) 0 script.items;
+  end = end_code texts (top script) script.items;
+}
+
+-- the mid code of a script
+abbrev pub program_of : Resolved → Program
+program_of script = program_with (texts_of_script script) script

@@ -1,21 +1,26 @@
-//! Laws of the meaning, each the contract of a function that does nothing.
-ghost use Rattle.std.specs.Prelude.{List};
-ghost use Rattle.awk_tree.specs.Item.{Item};
-ghost use Rattle.mid_code.specs.Kept.{Grows, MoreTurnsKeep, output_at};
-ghost use Rattle.mid_code.specs.Meaning.{begun};
+//! Laws of scripts and of their code, each the contract of a function that does nothing.
+ghost use Rattle.mid_code.specs.Kept.{MoreTurnsKeep, NeverTooDeep};
 ghost use Rattle.mid_code.specs.Mid.{Program};
-ghost use Rattle.mid_code.specs.MidMeaning.{all_stepped, mid_run};
-ghost use Rattle.mid_code.specs.ScriptRun.{run_of};
-ghost use Rattle.mid_code.specs.ScriptState.{State};
+ghost use Rattle.mid_code.specs.MidMeaning.{EndsAs, mid_run_in};
+ghost use Rattle.mid_code.specs.Names.{Resolved};
+ghost use Rattle.mid_code.specs.ScriptRun.{resolved_run};
+ghost use Rattle.mid_code.specs.Translation.{program_of};
 
-/// More turns never change how a run ends, and the output of a run that goes on only grows: of a script, and of mid code.
-pub fn more_turns_keep()
-    ensures script { (script : List Item) → MoreTurnsKeep (run_of script) }
-    ensures code { (program : Program) → MoreTurnsKeep (mid_run program) }
+/// The code of a script ends as the script does: with the same status or fault, or still going on, and with the same output, whatever its job,
+/// its input, the outside, the turns and the calls that may be nested.
+pub fn same_meaning()
+    ensures { (script : Resolved) → EndsAs (program_of script) script }
 {}
 
-/// Whatever state a script or mid code is run from, the output there is the beginning of the output at its end.
-pub fn output_is_added()
-    ensures script { (script : List Item) (state : State) → Grows state.shared.output (output_at (begun script state)) }
-    ensures code { (program : Program) (state : State) → Grows state.shared.output (output_at (all_stepped program.texts program.main state)) }
+/// With more turns a run that ended, faulted or nested a call too deeply does the same; one that went on has at least the output that it had.
+pub fn more_turns_keep()
+    ensures scripts { (script : Resolved) → MoreTurnsKeep (resolved_run script) }
+    ensures code { (p : Program) → MoreTurnsKeep (mid_run_in p) }
+{}
+
+/// A run with at most as many turns as calls may be nested never nests one too deeply, since each call costs a turn: so the depth is a limit
+/// of a run, and none of the language.
+pub fn never_too_deep()
+    ensures scripts { (script : Resolved) → NeverTooDeep (resolved_run script) }
+    ensures code { (p : Program) → NeverTooDeep (mid_run_in p) }
 {}

@@ -1,19 +1,18 @@
 //! Says of each module on standard input what the decoder and the validator answer.
 //!
 //! A line is a description, a colon and the module in hexadecimal. The answer is `valid`, or the fault.
-//! A module that is decoded is written and decoded again before it is validated.
+//! A module that is decoded is written and decoded again before it is validated; where it is written in other bytes, they are said too.
 #![tactic(auto)]
 
 mod round_trip;
 
 use module_decoder::decode;
 use module_validator::validate;
+use module_writer::write;
 use round_trip::decode_written;
 use std::alloc::{AllocError, Global};
 use std::io;
-
-#[cfg(test)]
-mod tests;
+use wasm_types::Module;
 
 /// The number that a hexadecimal digit stands for.
 fn digit(byte: u8) -> u8 {
@@ -34,6 +33,32 @@ fn bytes_of(alloc: Global, text: &[u8]) -> Result<Vec<u8>, AllocError> {
     Ok(bytes)
 }
 
+/// The digit for a number below 16.
+fn digit_of(number: u8) -> char {
+    if number < 10 {
+        char::from(b'0' + number % 10)
+    } else {
+        char::from(b'a' + (number - 10) % 6)
+    }
+}
+
+fn text_of(alloc: Global, bytes: &[u8]) -> Result<String, AllocError> {
+    let mut text = String::new(alloc);
+    for byte in bytes {
+        text.push(digit_of(*byte >> 4))?;
+        text.push(digit_of(*byte & 15))?;
+    }
+    Ok(text)
+}
+
+/// What the validator says of a module.
+fn verdict(alloc: Global, module: Module) -> Result<String, AllocError> {
+    match validate(alloc, module) {
+        Ok(_) => format!(in alloc; "valid"),
+        Err((_, fault)) => format!(in alloc; "{fault}"),
+    }
+}
+
 /// What is said of a module.
 fn answer(alloc: Global, bytes: &[u8]) -> Result<String, AllocError> {
     let module = match decode(alloc, bytes) {
@@ -45,9 +70,11 @@ fn answer(alloc: Global, bytes: &[u8]) -> Result<String, AllocError> {
         Ok(Err(fault)) => return format!(in alloc; "read again: {fault:?}"),
         Err(fault) => return format!(in alloc; "written: {fault:?}"),
     };
-    match validate(alloc, again) {
-        Ok(_) => format!(in alloc; "valid"),
-        Err((_, fault)) => format!(in alloc; "{fault}"),
+    let said = verdict(alloc, again)?;
+    match write(alloc, &module) {
+        Ok(written) if written.as_slice() == bytes => Ok(said),
+        Ok(written) => format!(in alloc; "{said}, written as {}", text_of(alloc, &written)?),
+        Err(fault) => format!(in alloc; "written: {fault:?}"),
     }
 }
 

@@ -28,7 +28,7 @@ use Rattle.module_decoder.specs.declared.body.Ending.{Ending}
 use Rattle.module_decoder.specs.declared.body.Ending.TheVariants as ending
 use Rattle.module_decoder.specs.declared.body.Step.TheVariants.{Ends, Opens}
 use Rattle.module_decoder.specs.Readers.{◌>>=◌, Fails, Read, each_at, both_at, index_at, malformed, bytes_at}
-use Rattle.module_decoder.specs.Reading.{Progress, section_at, sections_at, val_type_at, run_by, runs_at, name_at, ReadBody, made_body, with_first, step_at, block_type_at, block_at, loop_at, if_at, instr_by, body_by, body_at}
+use Rattle.module_decoder.specs.Reading.{Progress, section_at, sections_at, val_type_at, run_by, runs_at, name_at, ReadBody, made_body, with_first, step_at, block_type_at, block_at, loop_at, instr_by, body_by, body_at}
 
 -- a fault that is not want of memory is the reader's
 pub fails_bind : {A B : Type 0} (e : DecodeFault) (r : Result A DecodeFault) (f : A → Result B DecodeFault) → Fails e r → Fails e (r >>= f)
@@ -152,17 +152,10 @@ loop_ok c body bytes r rest k e is v h g q s =
     let a : loop_at c body bytes ≡ Ok (tree.Loop k (views is), rest) = rw (h, g, q) refl in
     a ∙ ap (λ (u : Instruction). Ok (u, rest)) (ap (λ (us : List Instr). tree.Loop k (views us)) (sym s) ∙ sym (view_loop k v))
 
-pub one_ok : (c : Span) (body : List ℕ → ReadBody) (bytes r rest : List ℕ) (k : Option ValType) (e : Ending) (is : List Instr) (v w : Shared) → block_type_at c bytes ≡ Ok (k, r) → body r ≡ Ok (made_body (views is) e rest) → e ≡ ending.End → v.value.items ≡ is → w.value.items ≡ [] → if_at c body bytes ≡ Ok (view (If k v w), rest)
-one_ok c body bytes r rest k e is v w h g q s z =
-    let a : if_at c body bytes ≡ Ok (tree.If k (views is) (views []), rest) = rw (h, g, q) refl in
-    let b : tree.If k (views is) (views []) ≡ tree.If k (views v.value.items) (views w.value.items) = rw (s, z) refl in
-    a ∙ ap (λ (u : Instruction). Ok (u, rest)) (b ∙ sym (view_if k v w))
-
-pub two_ok : (c : Span) (body : List ℕ → ReadBody) (bytes r middle rest : List ℕ) (k : Option ValType) (e f : Ending) (is js : List Instr) (v w : Shared) → block_type_at c bytes ≡ Ok (k, r) → body r ≡ Ok (made_body (views is) e middle) → e ≡ ending.Else → body middle ≡ Ok (made_body (views js) f rest) → f ≡ ending.End → v.value.items ≡ is → w.value.items ≡ js → if_at c body bytes ≡ Ok (view (If k v w), rest)
-two_ok c body bytes r middle rest k e f is js v w h g q g2 q2 s z =
-    let a : if_at c body bytes ≡ Ok (tree.If k (views is) (views js), rest) = rw (h, g, q, g2, q2) refl in
+pub if_is : (k : Option ValType) (is js : List Instr) (v w : Shared) → v.value.items ≡ is → w.value.items ≡ js → tree.If k (views is) (views js) ≡ view (If k v w)
+if_is k is js v w s z =
     let b : tree.If k (views is) (views js) ≡ tree.If k (views v.value.items) (views w.value.items) = rw (s, z) refl in
-    a ∙ ap (λ (u : Instruction). Ok (u, rest)) (b ∙ sym (view_if k v w))
+    b ∙ sym (view_if k v w)
 
 -- ---- names
 

@@ -1,31 +1,32 @@
 //! Instructions and their bodies.
 
-ghost use Rattle.std.specs.Prelude.{◌≡◌, ◌+◌, ◌-◌, Some, None, MatchOption, length};
+ghost use Rattle.std.specs.Prelude.{◌≡◌, ◌+◌, ◌-◌, Some, None, Ok, MatchOption, length};
 ghost use Rattle.wasm_types.specs.declared.instr.Simple.TheVariants as simple;
 ghost use Rattle.wasm_types.specs.Opcodes.{indexed};
-ghost use Rattle.wasm_types.specs.Syntax.{Plain, Block, Loop, If};
+ghost use Rattle.wasm_types.specs.Syntax.{Plain, If, Done};
 ghost use Rattle.wasm_types.specs.View.{view, views};
 ghost use Rattle.module_decoder.specs.Readers.{Gives, mapped, vec_at, index_at, bits32_at, bits64_at};
-ghost use Rattle.module_decoder.specs.Reading.{step_by, step_at, mem_arg_at, reserved_at, call_indirect_at, made_body, block_at, loop_at, if_at, table_at, instr_by, body_at, expr_at};
+ghost use Rattle.module_decoder.specs.Reading.{step_by, step_at, mem_arg_at, reserved_at, call_indirect_at, made_body, by_end, block_at, loop_at, if_at, table_at, instr_by, body_at, expr_at};
 
 use crate::basics::{Span, bits32, bits64, block_type, index, mem_arg, reserved};
+use crate::entries::entries;
 use crate::fault::DecodeFault;
 use std::alloc::Global;
 use std::rc::Rc;
-use wasm_types::{IndexOp, Instr, Lead, LoadOp, Simple, StoreOp, lead_of};
+use wasm_types::{BlockType, IndexOp, Instr, Lead, LoadOp, Simple, StoreOp, lead_of};
 
 /// How deep bodies may be nested.
 const MAX_NESTING: u32 = 4000;
 
 /// What ends instructions.
-#[derive(Clone, Copy, Debug, PartialEq, Eq)]
+#[derive(Clone, Copy)]
 pub enum Ending {
     End,
     Else,
 }
 
 /// What comes next.
-#[derive(Clone, Copy, Debug, PartialEq, Eq)]
+#[derive(Clone, Copy)]
 pub enum Step {
     Ends(Ending),
     Opens(Lead),
@@ -77,25 +78,6 @@ fn behind(c: Span, bytes: &[u8]) -> usize
     ensures { result ≡ c.end - (length bytes.now + 1) }
 {
     c.end.saturating_sub(bytes.len() + 1)
-}
-
-/// Indices with their number before them.
-pub(crate) fn indices(
-    alloc: Global,
-    c: Span,
-    bytes: &[u8],
-) -> Result<(Vec<u32>, &[u8]), DecodeFault>
-    ensures { Gives (λ x. (x.0.items, x.1.now)) result (vec_at c (index_at c) bytes.now) }
-{
-    let (count, first) = index(c, bytes)?;
-    let mut all = Vec::new(alloc);
-    let mut rest = first;
-    for _ in 0..count {
-        let (one, after) = index(c, rest)?;
-        all.push(one)?;
-        rest = after;
-    }
-    Ok((all, rest))
 }
 
 fn indexed(c: Span, op: IndexOp, bytes: &[u8]) -> Result<(Instr, &[u8]), DecodeFault>
@@ -151,7 +133,7 @@ fn with_reserved(c: Span, instr: Simple, bytes: &[u8]) -> Result<(Instr, &[u8]),
 fn table(alloc: Global, c: Span, bytes: &[u8]) -> Result<(Instr, &[u8]), DecodeFault>
     ensures { Gives (λ x. (view x.0, x.1.now)) result (table_at c bytes.now) }
 {
-    let (labels, rest) = indices(alloc, c, bytes)?;
+    let (labels, rest) = entries(alloc, c, bytes)?;
     let (last, rest) = index(c, rest)?;
     Ok((Instr::BrTable(labels, last), rest))
 }
@@ -183,27 +165,45 @@ fn looped(alloc: Global, c: Span, limit: u32, bytes: &[u8]) -> Result<(Instr, &[
     }
 }
 
+/// A choice that has one side.
+fn one_sided(alloc: Global, kind: BlockType, yes: Vec<Instr>) -> Result<Instr, DecodeFault>
+    ensures { Gives view result (Ok (If kind (views yes.items) Done)) }
+{
+    let yes = Rc::new(alloc, yes)?;
+    let no = Rc::new(alloc, Vec::new(alloc))?;
+    Ok(Instr::If(kind, yes, no))
+}
+
+/// A choice that has two sides.
+fn two_sided<'a>(
+    alloc: Global,
+    c: Span,
+    kind: BlockType,
+    yes: Vec<Instr>,
+    no: Sequence<'a>,
+) -> Result<(Instr, &'a [u8]), DecodeFault>
+    ensures { Gives (λ x. (view x.0, x.1.now)) result (by_end c (If kind (views yes.items)) (made_body (views no.entry.instrs.items) no.entry.ending no.entry.rest.now)) }
+{
+    match no.ending {
+        Ending::End => {
+            let yes = Rc::new(alloc, yes)?;
+            Ok((Instr::If(kind, yes, Rc::new(alloc, no.instrs)?), no.rest))
+        }
+        Ending::Else => Err(DecodeFault::BadOpcode(behind(c, no.rest))),
+    }
+}
+
 #[cycle(body)]
 fn choice(alloc: Global, c: Span, limit: u32, bytes: &[u8]) -> Result<(Instr, &[u8]), DecodeFault>
     ensures { Gives (λ x. (view x.0, x.1.now)) result (if_at c (body_at c limit) bytes.now) }
 {
     let (kind, rest) = block_type(c, bytes)?;
     let first = body_of(alloc, c, limit, rest)?;
-    let then = Rc::new(alloc, first.instrs)?;
     match first.ending {
-        Ending::End => {
-            let none = Rc::new(alloc, Vec::new(alloc))?;
-            Ok((Instr::If(kind, then, none), first.rest))
-        }
+        Ending::End => Ok((one_sided(alloc, kind, first.instrs)?, first.rest)),
         Ending::Else => {
             let second = body_of(alloc, c, limit, first.rest)?;
-            match second.ending {
-                Ending::End => Ok((
-                    Instr::If(kind, then, Rc::new(alloc, second.instrs)?),
-                    second.rest,
-                )),
-                Ending::Else => Err(DecodeFault::BadOpcode(behind(c, second.rest))),
-            }
+            two_sided(alloc, c, kind, first.instrs, second)
         }
     }
 }

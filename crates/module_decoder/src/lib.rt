@@ -3,6 +3,7 @@
 
 mod basics;
 mod body;
+mod entries;
 mod fault;
 pub mod laws;
 mod parts;
@@ -10,6 +11,3 @@ mod sections;
 
 pub use fault::DecodeFault;
 pub use sections::decode;
-
-#[cfg(test)]
-mod tests;

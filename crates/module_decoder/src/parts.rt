@@ -9,7 +9,8 @@ ghost use Rattle.module_decoder.specs.declared.fault.DecodeFault.TheVariants.{No
 ghost use Rattle.module_decoder.specs.Reading.{val_type_at, func_type_at, import_at, limits_at, limits_by, table_type_at, global_type_at, global_at, export_desc_at, export_at, elem_at, data_at, runs_at, locals_at, code_parts_at, code_at};
 
 use crate::basics::{Span, counted, ended, index, mutability, name, val_type};
-use crate::body::{expr, indices};
+use crate::body::expr;
+use crate::entries::{Entry, entries};
 use crate::fault::DecodeFault;
 use std::alloc::Global;
 use wasm_types::{
@@ -26,23 +27,19 @@ pub struct Code {
     pub body: Vec<Instr>,
 }
 
-/// Types of values with their number before them.
-pub(crate) fn params(
-    alloc: Global,
-    c: Span,
-    bytes: &[u8],
-) -> Result<(Vec<ValType>, &[u8]), DecodeFault>
-    ensures { Gives (λ x. (x.0.items, x.1.now)) result (vec_at c (val_type_at c) bytes.now) }
-{
-    let (count, first) = index(c, bytes)?;
-    let mut all = Vec::new(alloc);
-    let mut rest = first;
-    for _ in 0..count {
-        let (one, after) = val_type(c, rest)?;
-        all.push(one)?;
-        rest = after;
+impl Entry for ValType {
+    ghost use Rattle.wasm_types.specs.declared.types.ValType.{ValType};
+    ghost use Rattle.module_decoder.specs.Reading.{val_type_at};
+
+    ghost Form = { ValType };
+
+    ghost form = { λ t. t };
+
+    ghost reads = { val_type_at };
+
+    fn read(_alloc: Global, c: Span, bytes: &[u8]) -> Result<(ValType, &[u8]), DecodeFault> {
+        val_type(c, bytes)
     }
-    Ok((all, rest))
 }
 
 /// At most one type of a value, with the number before it.
@@ -60,39 +57,30 @@ pub(crate) fn result_type(c: Span, bytes: &[u8]) -> Result<(Option<ValType>, &[u
     }
 }
 
-fn func_type(alloc: Global, c: Span, bytes: &[u8]) -> Result<(FuncType, &[u8]), DecodeFault>
-    ensures { Gives (λ x. (signature_of x.0, x.1.now)) result (func_type_at c bytes.now) }
-{
-    match bytes {
-        [] => Err(c.malformed()),
-        [b, rest @ ..] => {
-            if *b != 0x60 {
-                return Err(c.malformed());
+impl Entry for FuncType {
+    ghost use Rattle.wasm_types.specs.Syntax.{Signature};
+    ghost use Rattle.module_decoder.specs.Reading.{func_type_at};
+    ghost use Rattle.wasm_types.specs.View.{signature_of};
+
+    ghost Form = { Signature };
+
+    ghost form = { signature_of };
+
+    ghost reads = { func_type_at };
+
+    fn read(alloc: Global, c: Span, bytes: &[u8]) -> Result<(FuncType, &[u8]), DecodeFault> {
+        match bytes {
+            [] => Err(c.malformed()),
+            [b, rest @ ..] => {
+                if *b != 0x60 {
+                    return Err(c.malformed());
+                }
+                let (params, rest) = entries(alloc, c, rest)?;
+                let (result, rest) = result_type(c, rest)?;
+                Ok((FuncType { params, result }, rest))
             }
-            let (params, rest) = params(alloc, c, rest)?;
-            let (result, rest) = result_type(c, rest)?;
-            Ok((FuncType { params, result }, rest))
         }
     }
-}
-
-/// The contents of a type section.
-pub(crate) fn func_types(
-    alloc: Global,
-    c: Span,
-    bytes: &[u8],
-) -> Result<(Vec<FuncType>, &[u8]), DecodeFault>
-    ensures { Gives (λ x. (map signature_of x.0.items, x.1.now)) result (vec_at c (func_type_at c) bytes.now) }
-{
-    let (count, first) = index(c, bytes)?;
-    let mut all = Vec::new(alloc);
-    let mut rest = first;
-    for _ in 0..count {
-        let (one, after) = func_type(alloc, c, rest)?;
-        all.push(one)?;
-        rest = after;
-    }
-    Ok((all, rest))
 }
 
 // The index behind a byte that is 0.
@@ -111,32 +99,23 @@ fn type_use(c: Span, bytes: &[u8]) -> Result<(u32, &[u8]), DecodeFault>
     }
 }
 
-fn import(alloc: Global, c: Span, bytes: &[u8]) -> Result<(Import, &[u8]), DecodeFault>
-    ensures { Gives (λ x. (view_import x.0, x.1.now)) result (import_at c bytes.now) }
-{
-    let (module, rest) = name(alloc, c, bytes)?;
-    let (name, rest) = name(alloc, c, rest)?;
-    let (ty, rest) = type_use(c, rest)?;
-    Ok((Import { module, name, ty }, rest))
-}
+impl Entry for Import {
+    ghost use Rattle.wasm_types.specs.Syntax.{ImportForm};
+    ghost use Rattle.module_decoder.specs.Reading.{import_at};
+    ghost use Rattle.wasm_types.specs.View.{view_import};
 
-/// The contents of an import section.
-pub(crate) fn imports(
-    alloc: Global,
-    c: Span,
-    bytes: &[u8],
-) -> Result<(Vec<Import>, &[u8]), DecodeFault>
-    ensures { Gives (λ x. (map view_import x.0.items, x.1.now)) result (vec_at c (import_at c) bytes.now) }
-{
-    let (count, first) = index(c, bytes)?;
-    let mut all = Vec::new(alloc);
-    let mut rest = first;
-    for _ in 0..count {
-        let (one, after) = import(alloc, c, rest)?;
-        all.push(one)?;
-        rest = after;
+    ghost Form = { ImportForm };
+
+    ghost form = { view_import };
+
+    ghost reads = { import_at };
+
+    fn read(alloc: Global, c: Span, bytes: &[u8]) -> Result<(Import, &[u8]), DecodeFault> {
+        let (module, rest) = name(alloc, c, bytes)?;
+        let (name, rest) = name(alloc, c, rest)?;
+        let (ty, rest) = type_use(c, rest)?;
+        Ok((Import { module, name, ty }, rest))
     }
-    Ok((all, rest))
 }
 
 fn limits_by(c: Span, b: u8, bytes: &[u8]) -> Result<(Limits, &[u8]), DecodeFault>
@@ -231,31 +210,26 @@ fn global_type(c: Span, bytes: &[u8]) -> Result<(GlobalType, &[u8]), DecodeFault
     Ok((GlobalType { value, mutable }, rest))
 }
 
-fn global(alloc: Global, c: Span, bytes: &[u8]) -> Result<(wasm_types::Global, &[u8]), DecodeFault>
-    ensures { Gives (λ x. (view_global x.0, x.1.now)) result (global_at c bytes.now) }
-{
-    let (ty, rest) = global_type(c, bytes)?;
-    let (init, rest) = expr(alloc, c, rest)?;
-    Ok((wasm_types::Global { ty, init }, rest))
-}
+impl Entry for wasm_types::Global {
+    ghost use Rattle.wasm_types.specs.Syntax.{GlobalForm};
+    ghost use Rattle.module_decoder.specs.Reading.{global_at};
+    ghost use Rattle.wasm_types.specs.View.{view_global};
 
-/// The contents of a global section.
-pub(crate) fn globals(
-    alloc: Global,
-    c: Span,
-    bytes: &[u8],
-) -> Result<(Vec<wasm_types::Global>, &[u8]), DecodeFault>
-    ensures { Gives (λ x. (map view_global x.0.items, x.1.now)) result (vec_at c (global_at c) bytes.now) }
-{
-    let (count, first) = index(c, bytes)?;
-    let mut all = Vec::new(alloc);
-    let mut rest = first;
-    for _ in 0..count {
-        let (one, after) = global(alloc, c, rest)?;
-        all.push(one)?;
-        rest = after;
+    ghost Form = { GlobalForm };
+
+    ghost form = { view_global };
+
+    ghost reads = { global_at };
+
+    fn read(
+        alloc: Global,
+        c: Span,
+        bytes: &[u8],
+    ) -> Result<(wasm_types::Global, &[u8]), DecodeFault> {
+        let (ty, rest) = global_type(c, bytes)?;
+        let (init, rest) = expr(alloc, c, rest)?;
+        Ok((wasm_types::Global { ty, init }, rest))
     }
-    Ok((all, rest))
 }
 
 fn export_desc(c: Span, bytes: &[u8]) -> Result<(ExportDesc, &[u8]), DecodeFault>
@@ -279,97 +253,74 @@ fn export_desc(c: Span, bytes: &[u8]) -> Result<(ExportDesc, &[u8]), DecodeFault
     }
 }
 
-fn export(alloc: Global, c: Span, bytes: &[u8]) -> Result<(Export, &[u8]), DecodeFault>
-    ensures { Gives (λ x. (view_export x.0, x.1.now)) result (export_at c bytes.now) }
-{
-    let (name, rest) = name(alloc, c, bytes)?;
-    let (desc, rest) = export_desc(c, rest)?;
-    Ok((Export { name, desc }, rest))
-}
+impl Entry for Export {
+    ghost use Rattle.wasm_types.specs.Syntax.{ExportForm};
+    ghost use Rattle.module_decoder.specs.Reading.{export_at};
+    ghost use Rattle.wasm_types.specs.View.{view_export};
 
-/// The contents of an export section.
-pub(crate) fn exports(
-    alloc: Global,
-    c: Span,
-    bytes: &[u8],
-) -> Result<(Vec<Export>, &[u8]), DecodeFault>
-    ensures { Gives (λ x. (map view_export x.0.items, x.1.now)) result (vec_at c (export_at c) bytes.now) }
-{
-    let (count, first) = index(c, bytes)?;
-    let mut all = Vec::new(alloc);
-    let mut rest = first;
-    for _ in 0..count {
-        let (one, after) = export(alloc, c, rest)?;
-        all.push(one)?;
-        rest = after;
+    ghost Form = { ExportForm };
+
+    ghost form = { view_export };
+
+    ghost reads = { export_at };
+
+    fn read(alloc: Global, c: Span, bytes: &[u8]) -> Result<(Export, &[u8]), DecodeFault> {
+        let (name, rest) = name(alloc, c, bytes)?;
+        let (desc, rest) = export_desc(c, rest)?;
+        Ok((Export { name, desc }, rest))
     }
-    Ok((all, rest))
 }
 
-fn elem(alloc: Global, c: Span, bytes: &[u8]) -> Result<(Elem, &[u8]), DecodeFault>
-    ensures { Gives (λ x. (view_elem x.0, x.1.now)) result (elem_at c bytes.now) }
-{
-    let (table, rest) = index(c, bytes)?;
-    let (offset, rest) = expr(alloc, c, rest)?;
-    let (init, rest) = indices(alloc, c, rest)?;
-    Ok((
-        Elem {
-            table,
-            offset,
-            init,
-        },
-        rest,
-    ))
-}
+impl Entry for Elem {
+    ghost use Rattle.wasm_types.specs.Syntax.{ElemForm};
+    ghost use Rattle.module_decoder.specs.Reading.{elem_at};
+    ghost use Rattle.wasm_types.specs.View.{view_elem};
 
-/// The contents of an element section.
-pub(crate) fn elems(alloc: Global, c: Span, bytes: &[u8]) -> Result<(Vec<Elem>, &[u8]), DecodeFault>
-    ensures { Gives (λ x. (map view_elem x.0.items, x.1.now)) result (vec_at c (elem_at c) bytes.now) }
-{
-    let (count, first) = index(c, bytes)?;
-    let mut all = Vec::new(alloc);
-    let mut rest = first;
-    for _ in 0..count {
-        let (one, after) = elem(alloc, c, rest)?;
-        all.push(one)?;
-        rest = after;
+    ghost Form = { ElemForm };
+
+    ghost form = { view_elem };
+
+    ghost reads = { elem_at };
+
+    fn read(alloc: Global, c: Span, bytes: &[u8]) -> Result<(Elem, &[u8]), DecodeFault> {
+        let (table, rest) = index(c, bytes)?;
+        let (offset, rest) = expr(alloc, c, rest)?;
+        let (init, rest) = entries(alloc, c, rest)?;
+        Ok((
+            Elem {
+                table,
+                offset,
+                init,
+            },
+            rest,
+        ))
     }
-    Ok((all, rest))
 }
 
-fn segment(alloc: Global, c: Span, bytes: &[u8]) -> Result<(Data, &[u8]), DecodeFault>
-    ensures { Gives (λ x. (view_data x.0, x.1.now)) result (data_at c bytes.now) }
-{
-    let (memory, rest) = index(c, bytes)?;
-    let (offset, rest) = expr(alloc, c, rest)?;
-    let (init, rest) = counted(c, rest)?;
-    Ok((
-        Data {
-            memory,
-            offset,
-            init: Vec::from_slice(alloc, init)?,
-        },
-        rest,
-    ))
-}
+impl Entry for Data {
+    ghost use Rattle.wasm_types.specs.Syntax.{DataForm};
+    ghost use Rattle.module_decoder.specs.Reading.{data_at};
+    ghost use Rattle.wasm_types.specs.View.{view_data};
 
-/// The contents of a data section.
-pub(crate) fn segments(
-    alloc: Global,
-    c: Span,
-    bytes: &[u8],
-) -> Result<(Vec<Data>, &[u8]), DecodeFault>
-    ensures { Gives (λ x. (map view_data x.0.items, x.1.now)) result (vec_at c (data_at c) bytes.now) }
-{
-    let (count, first) = index(c, bytes)?;
-    let mut all = Vec::new(alloc);
-    let mut rest = first;
-    for _ in 0..count {
-        let (one, after) = segment(alloc, c, rest)?;
-        all.push(one)?;
-        rest = after;
+    ghost Form = { DataForm };
+
+    ghost form = { view_data };
+
+    ghost reads = { data_at };
+
+    fn read(alloc: Global, c: Span, bytes: &[u8]) -> Result<(Data, &[u8]), DecodeFault> {
+        let (memory, rest) = index(c, bytes)?;
+        let (offset, rest) = expr(alloc, c, rest)?;
+        let (init, rest) = counted(c, rest)?;
+        Ok((
+            Data {
+                memory,
+                offset,
+                init: Vec::from_slice(alloc, init)?,
+            },
+            rest,
+        ))
     }
-    Ok((all, rest))
 }
 
 fn locals(alloc: Global, c: Span, bytes: &[u8]) -> Result<(Vec<ValType>, &[u8]), DecodeFault>
@@ -410,30 +361,25 @@ fn code_parts(alloc: Global, c: Span, bytes: &[u8]) -> Result<(Code, &[u8]), Dec
     Ok((Code { locals, body }, rest))
 }
 
-fn code_entry(alloc: Global, c: Span, bytes: &[u8]) -> Result<(Code, &[u8]), DecodeFault>
-    ensures { Gives (λ x. (view_code x.0, x.1.now)) result (code_at c bytes.now) }
-{
-    let (content, rest) = counted(c, bytes)?;
-    let within = Span {
-        section: c.section,
-        end: c.end.saturating_sub(rest.len()),
-    };
-    let (code, left) = code_parts(alloc, within, content)?;
-    ended(within, left)?;
-    Ok((code, rest))
-}
+impl Entry for Code {
+    ghost use Rattle.wasm_types.specs.ModuleGrammar.{CodeForm};
+    ghost use Rattle.module_decoder.specs.Reading.{code_at};
+    ghost use Rattle.module_decoder.specs.View.{view_code};
 
-/// The contents of a code section.
-pub(crate) fn codes(alloc: Global, c: Span, bytes: &[u8]) -> Result<(Vec<Code>, &[u8]), DecodeFault>
-    ensures { Gives (λ x. (map view_code x.0.items, x.1.now)) result (vec_at c (code_at c) bytes.now) }
-{
-    let (count, first) = index(c, bytes)?;
-    let mut all = Vec::new(alloc);
-    let mut rest = first;
-    for _ in 0..count {
-        let (one, after) = code_entry(alloc, c, rest)?;
-        all.push(one)?;
-        rest = after;
+    ghost Form = { CodeForm };
+
+    ghost form = { view_code };
+
+    ghost reads = { code_at };
+
+    fn read(alloc: Global, c: Span, bytes: &[u8]) -> Result<(Code, &[u8]), DecodeFault> {
+        let (content, rest) = counted(c, bytes)?;
+        let within = Span {
+            section: c.section,
+            end: c.end.saturating_sub(rest.len()),
+        };
+        let (code, left) = code_parts(alloc, within, content)?;
+        ended(within, left)?;
+        Ok((code, rest))
     }
-    Ok((all, rest))
 }

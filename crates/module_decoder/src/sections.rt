@@ -1,6 +1,6 @@
 //! Sections and modules.
 
-ghost use Rattle.std.specs.Prelude.{◌≡◌, ◌-◌, ◌+◌, Some, None, MatchResult, MatchOption, IfOk, Ok, map, length, [], ◌∷◌};
+ghost use Rattle.std.specs.Prelude.{◌≡◌, ◌-◌, ◌+◌, Some, None, MatchResult, MatchOption, IfOk, Ok, Err, map, length, [], ◌∷◌};
 ghost use Rattle.wasm_types.specs.Syntax.{ModuleForm};
 ghost use Rattle.wasm_types.specs.View.{view_func, view_module};
 ghost use Rattle.wasm_types.specs.ModuleGrammar.{number, no_parts, joined, module_of, IsModule};
@@ -9,11 +9,9 @@ ghost use Rattle.module_decoder.specs.Readers.{Gives, Fails, ended};
 ghost use Rattle.module_decoder.specs.Reading.{made_frame, section_by, part_at, Frame, frame_at, section_at, sections_at, no_progress, custom_at, known_by, finished_by, after_header, module_at};
 
 use crate::basics::{Span, ended, index, name, unfinished};
-use crate::body::indices;
+use crate::entries::fill;
 use crate::fault::DecodeFault;
-use crate::parts::{
-    Code, codes, elems, exports, func_types, globals, imports, memory, segments, table,
-};
+use crate::parts::{Code, memory, table};
 use std::alloc::{AllocError, Global};
 use std::rc::Rc;
 use wasm_types::{Data, Elem, Export, Func, FuncType, Import, Limits, Module, SectionId, take_u32};
@@ -86,11 +84,12 @@ fn number(id: SectionId) -> u8
 }
 
 // What was read, if nothing is left behind it.
-fn whole<T: Drop>(c: Span, read: (T, &[u8])) -> Result<T, DecodeFault>
-    ensures { Gives (λ x. x) result (ended c (read.entry.0, read.entry.1.now)) }
+fn whole<T: Drop>(c: Span, read: Result<(T, &[u8]), DecodeFault>) -> Result<T, DecodeFault>
+    ensures { MatchResult read.entry (λ x. Gives (λ y. y) result (ended c (x.0, x.1.now))) (λ e. result ≡ Err e) }
 {
-    ended(c, read.1)?;
-    Ok(read.0)
+    let (value, rest) = read?;
+    ended(c, rest)?;
+    Ok(value)
 }
 
 impl Parts {
@@ -123,25 +122,34 @@ impl Parts {
         ensures { MatchResult result (λ _. part_at c id (view_parts self.old) bytes.now ≡ Ok (view_parts self.new)) (λ e. Fails e (part_at c id (view_parts self.old) bytes.now)) }
     {
         match id {
-            SectionId::Type => self.types = whole(c, func_types(alloc, c, bytes)?)?,
-            SectionId::Import => self.imports = whole(c, imports(alloc, c, bytes)?)?,
-            SectionId::Function => self.type_indices = whole(c, indices(alloc, c, bytes)?)?,
-            SectionId::Table => self.table = whole(c, table(c, bytes)?)?,
-            SectionId::Memory => self.memory = whole(c, memory(c, bytes)?)?,
-            SectionId::Global => self.globals = whole(c, globals(alloc, c, bytes)?)?,
-            SectionId::Export => self.exports = whole(c, exports(alloc, c, bytes)?)?,
-            SectionId::Start => self.start = Some(whole(c, index(c, bytes)?)?),
-            SectionId::Element => self.elems = whole(c, elems(alloc, c, bytes)?)?,
-            SectionId::Code => {
-                let codes = whole(c, codes(alloc, c, bytes)?)?;
-                if codes.len() != self.type_indices.len() {
-                    return Err(c.malformed());
-                }
-                self.codes = codes;
+            SectionId::Type => fill(&mut self.types, alloc, c, bytes),
+            SectionId::Import => fill(&mut self.imports, alloc, c, bytes),
+            SectionId::Function => fill(&mut self.type_indices, alloc, c, bytes),
+            SectionId::Table => {
+                self.table = whole(c, table(c, bytes))?;
+                Ok(())
             }
-            SectionId::Data => self.data = whole(c, segments(alloc, c, bytes)?)?,
+            SectionId::Memory => {
+                self.memory = whole(c, memory(c, bytes))?;
+                Ok(())
+            }
+            SectionId::Global => fill(&mut self.globals, alloc, c, bytes),
+            SectionId::Export => fill(&mut self.exports, alloc, c, bytes),
+            SectionId::Start => {
+                self.start = Some(whole(c, index(c, bytes))?);
+                Ok(())
+            }
+            SectionId::Element => fill(&mut self.elems, alloc, c, bytes),
+            SectionId::Code => {
+                fill(&mut self.codes, alloc, c, bytes)?;
+                if self.codes.len() == self.type_indices.len() {
+                    Ok(())
+                } else {
+                    Err(c.malformed())
+                }
+            }
+            SectionId::Data => fill(&mut self.data, alloc, c, bytes),
         }
-        Ok(())
     }
 }
 

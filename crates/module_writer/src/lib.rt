@@ -9,6 +9,3 @@ mod sections;
 
 pub use fault::WriteFault;
 pub use sections::write;
-
-#[cfg(test)]
-mod tests;

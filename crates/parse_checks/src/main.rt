@@ -1,11 +1,13 @@
 //! Says of each script on standard input whether it has a tree, or why it has none.
 //!
 //! A line is a script, in which a byte 1 stands for a newline. The answer is a line: `tree`, or the fault with the script's line and what it names.
-//! The tree itself is not printed: the tokens of a script have no second one.
+//! The tree itself is not printed: the tokens of a script have no second one. It is looked at: it must be well formed and have as many tokens as the script.
+//! Behind the lines come scripts with very many parentheses.
 #![tactic(auto)]
 
 use awk_parse::{Feature, ParseFault, parse};
-use awk_tokens::{LeftOut, TokenFault, tokens};
+use awk_tokens::{LeftOut, Token, TokenFault, tokens};
+use awk_tree::{Script, is_well_formed, print_tokens};
 use std::alloc::{AllocError, Global};
 use std::io;
 
@@ -71,6 +73,15 @@ fn no_tree(alloc: Global, fault: ParseFault) -> Result<String, AllocError> {
     }
 }
 
+/// What is said of a tree that these tokens have.
+fn tree(alloc: Global, script: &Script, found: &[Token<'_>]) -> Result<String, AllocError> {
+    let printed = print_tokens(alloc, script)?;
+    if is_well_formed(script) && printed.len() == found.len() {
+        return format!(in alloc; "tree");
+    }
+    format!(in alloc; "another tree")
+}
+
 /// What is said of a script.
 fn answer(alloc: Global, script: &[u8]) -> Result<String, AllocError> {
     let tokens = match tokens(alloc, script) {
@@ -78,9 +89,23 @@ fn answer(alloc: Global, script: &[u8]) -> Result<String, AllocError> {
         Err(fault) => return no_tokens(alloc, fault),
     };
     match parse(alloc, &tokens) {
-        Ok(_) => format!(in alloc; "tree"),
+        Ok(script) => tree(alloc, &script, &tokens),
         Err(fault) => no_tree(alloc, fault),
     }
+}
+
+/// `BEGIN { print 1 }` with this many parentheses around the 1.
+fn enclosed(alloc: Global, depth: usize) -> Result<Vec<u8>, AllocError> {
+    let mut script = b"BEGIN { print ".to_vec(alloc)?;
+    for _ in 0..depth {
+        script.push(b'(')?;
+    }
+    script.push(b'1')?;
+    for _ in 0..depth {
+        script.push(b')')?;
+    }
+    script.extend_from_slice(b" }")?;
+    Ok(script)
 }
 
 fn main(rt: HostRuntime) -> io::Result<()> {
@@ -89,6 +114,11 @@ fn main(rt: HostRuntime) -> io::Result<()> {
         let script = script_of(rt.alloc(), line.as_str().as_bytes())?;
         let answer = answer(rt.alloc(), &script)?;
         println!(rt; "{answer}")?;
+    }
+    for depth in [500, 1001, 200_000] {
+        let script = enclosed(rt.alloc(), depth)?;
+        let answer = answer(rt.alloc(), &script)?;
+        println!(rt; "{depth} parentheses: {answer}")?;
     }
     Ok(())
 }

@@ -1,5 +1,6 @@
 pub mod Beginning
 pub mod Branches
+pub mod Calls
 pub mod Chains
 pub mod Cuts
 pub mod Linking

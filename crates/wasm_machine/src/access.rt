@@ -3,7 +3,7 @@
 use wasm_types::{LoadOp, StoreOp};
 
 /// An access to globals or memory. Loads and stores carry their offset.
-#[derive(Clone, Copy, Debug, PartialEq, Eq)]
+#[derive(Clone, Copy)]
 pub(crate) enum Access {
     GlobalGet(u32),
     GlobalSet(u32),

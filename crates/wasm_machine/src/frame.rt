@@ -1,6 +1,6 @@
 //! A frame and its steps.
 ghost use Rattle.std.specs.Prelude.{◌≡◌, IfOk, OnOk, if◌then◌else◌, nat_eq, Some, None, slice_get, get_or};
-ghost use Rattle.wasm_machine.specs.Frames.{frame_of, seen, local_step, settled, code_at, body_now, IsConstantAt, pushed, pushed_or, of_one, of_two, of_two_or, local_set, local_tee, dropped, selected, branch, jump, branch_if, entered, called_through, simple, at_end};
+ghost use Rattle.wasm_machine.specs.Frames.{Goes, frame_of, seen, local_step, settled, code_at, body_now, IsConstantAt, pushed, pushed_or, of_one, of_two, of_two_or, local_set, local_tee, dropped, selected, branch, jump, branch_if, entered, called_through, simple, at_end};
 ghost use Rattle.wasm_store.specs.Words.{binary_of, compare_of, converted, test_of, unary_of};
 
 use crate::access::Access;
@@ -22,7 +22,7 @@ pub(crate) struct Label {
 }
 
 /// How a step within a frame went.
-#[derive(Clone, Copy, Debug, PartialEq, Eq)]
+#[derive(Clone, Copy)]
 pub(crate) enum Event {
     Went,
     Calls(u32),
@@ -246,8 +246,8 @@ impl Frame {
         again: bool,
         gives: BlockType,
         body: Rc<Vec<Instr>>,
-    ) -> Result<(), AllocError>
-        ensures { OnOk result (frame_of self.new ≡ entered (frame_of self.old) (body_now again body) gives (code_at body 0)) }
+    ) -> Result<Event, AllocError>
+        ensures { IfOk result (λ e. Goes (entered (frame_of self.old) (body_now again body) gives (code_at body 0)) ≡ seen e (frame_of self.new)) }
     {
         let label = Label {
             under: self.values.lay_down(alloc),
@@ -258,7 +258,7 @@ impl Frame {
         };
         self.labels.push(label)?;
         self.at = 0;
-        Ok(())
+        Ok(Event::Went)
     }
 
     /// Past the innermost label, or out of the function.
@@ -378,13 +378,11 @@ impl Frame {
             Instr::Block(gives, body) => {
                 let gives = *gives;
                 let body = body.clone()?;
-                self.enter(alloc, false, gives, body)?;
-                Ok(Event::Went)
+                self.enter(alloc, false, gives, body)
             }
             Instr::Loop(_, body) => {
                 let body = body.clone()?;
-                self.enter(alloc, true, None, body)?;
-                Ok(Event::Went)
+                self.enter(alloc, true, None, body)
             }
             Instr::If(gives, yes, no) => {
                 let Some(Word::I32(c)) = self.values.pop() else {
@@ -392,8 +390,7 @@ impl Frame {
                 };
                 let gives = *gives;
                 let body = chosen(c, yes, no)?;
-                self.enter(alloc, false, gives, body)?;
-                Ok(Event::Went)
+                self.enter(alloc, false, gives, body)
             }
         }
     }

@@ -1,8 +1,8 @@
 //! Linking: from a module and a host to the beginning of a run (Core 1.0, section 4.5.4).
 ghost use Rattle.std.specs.List.{All};
 ghost use Rattle.std.specs.Prelude.{◌≡◌, ◌↔◌, ◌*◌, ◌≤◌, ◌^◌, IfErr, IfOk, IsTrue, None, OnErr, Some, length, map, MatchResult};
-ghost use Rattle.wasm_machine.specs.Links.{first_some, first_none, main_at, main_function, main_of, main_type, is_main_name, number_for, numbers_for, place_of, value_of, least, ElemFits, DataFits, SegmentsFit, filled, poured, limits_or_none, entry_code, beginning, Numbers, Refuses};
-ghost use Rattle.wasm_machine.specs.Machines.{agree, conf_of, same_signature};
+ghost use Rattle.wasm_machine.specs.Links.{first_some, first_none, main_at, main_of, number_for, numbers_for, place_of, value_of, least, ElemFits, DataFits, SegmentsFit, filled, poured, limits_or_none, entry_code, beginning, Numbers, Refuses};
+ghost use Rattle.wasm_machine.specs.Machines.{agree, conf_of};
 ghost use Rattle.wasm_types.specs.Typing.{callee_in, typed_in};
 ghost use Rattle.wasm_types.specs.View.{signature_of, view_data, view_elem, view_export, view_import, view_module, views};
 
@@ -31,36 +31,21 @@ pub enum LinkFault {
     NoMemory,
 }
 
-fn is_main(name: &[u8]) -> bool
-    ensures { result ≡ is_main_name name.now }
+/// The function that is exported as `main` here.
+fn main_at(whole: &Module, export: &Export) -> Option<u32>
+    ensures { result ≡ main_at (view_module whole.now) (view_export export.now) }
 {
-    matches!(name, [b'm', b'a', b'i', b'n'])
-}
-
-/// Whether this is the type of `main`.
-fn is_main_type(ty: &FuncType) -> bool
-    ensures { result ≡ same_signature main_type (signature_of ty.now) }
-{
-    ty.result == Some(ValType::I32) && ty.params.is_empty()
-}
-
-fn main_function(whole: &Module, desc: ExportDesc) -> Option<u32>
-    ensures { result ≡ main_function (view_module whole.now) desc }
-{
-    let ExportDesc::Func(n) = desc else {
+    if !matches!(export.name.as_bytes(), [b'm', b'a', b'i', b'n']) {
+        return None;
+    }
+    let ExportDesc::Func(n) = export.desc else {
         return None;
     };
     let Some(ty) = callee(whole, n) else {
         return None;
     };
-    if is_main_type(ty) { Some(n) } else { None }
-}
-
-fn main_at(whole: &Module, export: &Export) -> Option<u32>
-    ensures { result ≡ main_at (view_module whole.now) (view_export export.now) }
-{
-    if is_main(export.name.as_bytes()) {
-        main_function(whole, export.desc)
+    if ty.result == Some(ValType::I32) && ty.params.is_empty() {
+        Some(n)
     } else {
         None
     }
@@ -148,38 +133,53 @@ fn least(limits: Option<Limits>) -> u32
     }
 }
 
-fn elem_fits(size: usize, elem: &Elem) -> bool
-    ensures { IsTrue result ↔ ElemFits size (view_elem elem.now) }
-{
-    let place = place_of(&elem.offset) as usize;
-    place <= size && elem.init.len() <= size - place
+/// A segment, which is to lie within the table or the memory.
+trait Segment {
+    ghost use Rattle.std.specs.Prelude.{ℕ, ◌↔◌, IsTrue};
+
+    ghost Fits: { ℕ → Self → Type 0 };
+
+    /// Whether it lies within so many elements or bytes.
+    fn fits(&self, size: usize) -> bool
+        ensures { IsTrue result ↔ Fits size self.now };
 }
 
-fn data_fits(size: usize, segment: &Data) -> bool
-    ensures { IsTrue result ↔ DataFits size (view_data segment.now) }
-{
-    let place = place_of(&segment.offset) as usize;
-    place <= size && segment.init.len() <= size - place
+impl Segment for Elem {
+    ghost use Rattle.wasm_machine.specs.Links.{ElemFits};
+    ghost use Rattle.wasm_types.specs.View.{view_elem};
+
+    ghost Fits = { λ size e. ElemFits size (view_elem e) };
+
+    fn fits(&self, size: usize) -> bool {
+        let place = place_of(&self.offset) as usize;
+        place <= size && self.init.len() <= size - place
+    }
 }
 
-fn elems_fit(size: usize, elems: &[Elem]) -> bool
-    ensures { IsTrue result ↔ All (λ e. ElemFits size (view_elem e)) elems.now }
-{
-    elems.iter().all(|e| elem_fits(size, e))
+impl Segment for Data {
+    ghost use Rattle.wasm_machine.specs.Links.{DataFits};
+    ghost use Rattle.wasm_types.specs.View.{view_data};
+
+    ghost Fits = { λ size d. DataFits size (view_data d) };
+
+    fn fits(&self, size: usize) -> bool {
+        let place = place_of(&self.offset) as usize;
+        place <= size && self.init.len() <= size - place
+    }
 }
 
-fn data_all_fit(size: usize, segments: &[Data]) -> bool
-    ensures { IsTrue result ↔ All (λ d. DataFits size (view_data d)) segments.now }
+fn all_fit<S: Segment>(size: usize, segments: &[S]) -> bool
+    ensures { IsTrue result ↔ All (S.Fits size) segments.now }
 {
-    segments.iter().all(|d| data_fits(size, d))
+    segments.iter().all(|s| s.fits(size))
 }
 
 /// Whether the segments lie within the table and the memory.
 fn segments_fit(whole: &Module) -> bool
     ensures { IsTrue result ↔ SegmentsFit (view_module whole.now) }
 {
-    let elems = elems_fit(least(whole.table) as usize, &whole.elems);
-    let data = data_all_fit(least(whole.memory) as usize * 65536, &whole.data);
+    let elems = all_fit(least(whole.table) as usize, &whole.elems);
+    let data = all_fit(least(whole.memory) as usize * 65536, &whole.data);
     elems & data
 }
 

@@ -18,6 +18,3 @@ pub use leb128::{
 pub use module::{Data, Elem, Export, ExportDesc, Func, Global, Import, Module, SectionId};
 pub use opcodes::{IndexOp, Lead, lead_of, opcode};
 pub use types::{FuncType, GlobalType, Limits, ValType};
-
-#[cfg(test)]
-mod tests;

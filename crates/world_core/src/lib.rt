@@ -1,6 +1,7 @@
 //! The outside of a script: names, streams, and what each call does to them; a world in memory.
 #![tactic(auto)]
 
+mod faulty;
 mod file;
 pub mod laws;
 mod memory;
@@ -8,10 +9,9 @@ mod names;
 mod octets;
 mod opening;
 mod streams;
-#[cfg(test)]
-mod tests;
 mod world;
 
+pub use faulty::FaultyWorld;
 pub use file::MemFile;
 pub use memory::MemWorld;
 pub use octets::Octets;

@@ -1,6 +1,6 @@
 use Rattle.std.proofs.Common.{◌++◌, ap, ◌∙◌}
 use Rattle.std.proofs.lemmas.Result.{on_ok_weaker}
-use Rattle.awk_tree.proofs.Views.{block_is}
+use Rattle.awk_grammar.proofs.Views.{block_is}
 use Rattle.awk_parse.specs.Jumps.{jumps}
 use Rattle.awk_parse.proofs.placed.+placed.Goals as goal
 

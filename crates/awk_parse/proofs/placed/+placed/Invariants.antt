@@ -1,5 +1,5 @@
 use Rattle.std.proofs.Common.{◌≡◌, ◌++◌, drop}
-use Rattle.awk_tree.specs.ViewStmt.{view_stmts}
+use Rattle.awk_grammar.specs.ViewStmt.{view_stmts}
 use Rattle.awk_parse.specs.Jumps.{all_jumps}
 use Rattle.awk_parse.proofs.placed.+placed.Given as goal
 

@@ -1,5 +1,5 @@
 use Rattle.std.proofs.Common.{◌≡◌, ◌++◌, drop}
-use Rattle.awk_tree.specs.ViewStmt.{view_items}
+use Rattle.awk_grammar.specs.ViewStmt.{view_items}
 use Rattle.awk_parse.specs.Jumps.{script_jumps}
 use Rattle.awk_parse.proofs.placed.push_items.Given as goal
 

@@ -1,7 +1,7 @@
 use Rattle.std.proofs.Common.{map}
 use Rattle.awk_tokens.specs.Views.{spelled}
-use Rattle.awk_tree.specs.ViewStmt.{view_script}
-use Rattle.mid_code.specs.Covered.{is_covered}
+use Rattle.awk_grammar.specs.ViewStmt.{view_script}
+use Rattle.print_code.specs.Covered.{is_covered}
 use Rattle.awk_run.proofs.Scripts.{not_covered, uncovered}
 use Rattle.awk_run.proofs.script.code.Goals as goal
 

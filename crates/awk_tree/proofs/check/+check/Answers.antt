@@ -1,9 +1,9 @@
 use Rattle.std.proofs.Common.{◌≡◌, ◌&&◌, Bool, true, List, ap, sym, ◌∙◌}
-use Rattle.awk_tree.specs.declared.tree.Expr.{Expr}
-use Rattle.awk_tree.specs.Tree.{suits}
-use Rattle.awk_tree.specs.WellFormed.{is_some_tree, well_formed, all_well_formed}
-use Rattle.awk_tree.specs.View.{view, views}
-use Rattle.awk_tree.proofs.Views.{view_element, view_call, view_apply, view_in_list}
+use Rattle.awk_grammar.specs.declared.tree.Expr.{Expr}
+use Rattle.awk_grammar.specs.Tree.{suits}
+use Rattle.awk_grammar.specs.WellFormed.{is_some_tree, well_formed, all_well_formed}
+use Rattle.awk_grammar.specs.View.{view, views}
+use Rattle.awk_grammar.proofs.Views.{view_element, view_call, view_apply, view_in_list}
 use Rattle.awk_tree.proofs.check.+check.Goals as goal
 
 pub is_fine-returns-in-Element : goal.is_fine-returns-in-Element

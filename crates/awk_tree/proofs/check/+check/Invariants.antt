@@ -1,6 +1,6 @@
 use Rattle.std.proofs.Common.{◌≡◌, drop}
-use Rattle.awk_tree.specs.WellFormed.{all_well_formed}
-use Rattle.awk_tree.specs.View.{views}
+use Rattle.awk_grammar.specs.WellFormed.{all_well_formed}
+use Rattle.awk_grammar.specs.View.{views}
 use Rattle.awk_tree.proofs.check.+check.Given as goal
 
 abbrev pub invariant-are_fine-loop-e : goal.invariant-are_fine-loop-e

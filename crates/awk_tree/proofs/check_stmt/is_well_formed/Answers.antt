@@ -1,7 +1,7 @@
 use Rattle.std.proofs.Common.{ap, ◌∙◌}
-use Rattle.awk_tree.specs.WellFormed.{is_script}
-use Rattle.awk_tree.specs.ViewStmt.{view_items, view_script}
-use Rattle.awk_tree.proofs.Fine.{script_is}
+use Rattle.awk_grammar.specs.WellFormed.{is_script}
+use Rattle.awk_grammar.specs.ViewStmt.{view_items, view_script}
+use Rattle.awk_grammar.proofs.Fine.{script_is}
 use Rattle.awk_tree.proofs.check_stmt.is_well_formed.Goals as goal
 
 pub returns : goal.returns

@@ -2,7 +2,7 @@ use Rattle.std.proofs.Common.{◌≡◌, suc, ◌+◌, ◌-◌, ◌≤◌, ◌<�
 use Rattle.std.specs.Vec.{vec_len}
 use Rattle.lower_layout.specs.Layouts.{memory_of, place_of}
 use Rattle.lower_layout.specs.Placed.{most_bytes}
-use Rattle.mid_code.specs.View.{view_texts}
+use Rattle.print_code.specs.View.{view_texts}
 use Rattle.lower_layout.proofs.Places.{place_first, place_next, place_end, end_within, text_at, text_count, listed_more, room_left}
 use Rattle.lower_layout.proofs.layout.places.Goals as goal
 

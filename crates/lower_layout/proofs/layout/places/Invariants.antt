@@ -1,7 +1,7 @@
 use Rattle.std.proofs.Common.{◌≡◌, ◌≤◌, ◌<◌, ℕ, length, get_or}
 use Rattle.lower_layout.specs.Layouts.{place_of}
 use Rattle.lower_layout.specs.Placed.{most_bytes}
-use Rattle.mid_code.specs.View.{view_texts}
+use Rattle.print_code.specs.View.{view_texts}
 use Rattle.lower_layout.proofs.layout.places.Given as goal
 
 abbrev pub invariant-loop-text : goal.invariant-loop-text

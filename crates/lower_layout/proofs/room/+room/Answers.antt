@@ -2,8 +2,8 @@ use Rattle.std.proofs.Common.{◌≡◌, ◌≤◌, ◌<◌, ℕ, List, max, IfE
 use Rattle.lower_layout.specs.Layouts.{room_for, rooms_for}
 use Rattle.lower_layout.specs.Placed.{most_temporaries}
 use Rattle.lower_layout.specs.declared.fault.LowerFault.TheVariants.{TooLarge}
-use Rattle.mid_code.specs.View.{view, views}
-use Rattle.mid_code.specs.declared.mid.Expr.{Expr}
+use Rattle.print_code.specs.View.{view, views}
+use Rattle.print_code.specs.declared.mid.Expr.{Expr}
 use Rattle.lower_layout.proofs.Rooms.{room_do, room_over}
 use Rattle.lower_layout.proofs.room.+room.Goals as goal
 

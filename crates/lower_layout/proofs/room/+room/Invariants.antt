@@ -1,7 +1,7 @@
 use Rattle.std.proofs.Common.{◌≡◌, ◌+◌, ◌≤◌, max, drop}
 use Rattle.lower_layout.specs.Layouts.{rooms_for}
 use Rattle.lower_layout.specs.Placed.{most_temporaries}
-use Rattle.mid_code.specs.View.{views}
+use Rattle.print_code.specs.View.{views}
 use Rattle.lower_layout.proofs.room.+room.Given as goal
 
 abbrev pub invariant-rooms_for-loop-e : goal.invariant-rooms_for-loop-e

@@ -1,7 +1,7 @@
 use Rattle.std.proofs.Common.{◌≡◌, ◌≤◌, max, map, drop}
 use Rattle.lower_layout.specs.Layouts.{temporaries}
 use Rattle.lower_layout.specs.Placed.{most_temporaries}
-use Rattle.mid_code.specs.View.{view_stmt}
+use Rattle.print_code.specs.View.{view_stmt}
 use Rattle.lower_layout.proofs.room.temporaries.Given as goal
 
 abbrev pub invariant-loop-statement : goal.invariant-loop-statement

@@ -1,8 +1,8 @@
 use Rattle.std.proofs.Common.{length, sym, ap, ◌∙◌, arith}
 use Rattle.std.proofs.lemmas.Result.{on_ok_weaker}
 use Rattle.lower_layout.specs.Placed.{most_temporaries}
-use Rattle.mid_code.specs.Mid.{Code}
-use Rattle.mid_code.specs.View.{view_mid}
+use Rattle.print_code.specs.Mid.{Code}
+use Rattle.print_code.specs.View.{view_mid}
 use Rattle.lowering.specs.Behind.{followed}
 use Rattle.lowering.specs.Emitted.{emitted}
 use Rattle.lowering.proofs.Lists.{do_code, do_count, do_room, do_sorted, over_code, over_few, over_room, over_sorted}

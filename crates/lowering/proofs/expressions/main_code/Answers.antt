@@ -3,7 +3,7 @@ use Rattle.wasm_types.specs.declared.instr.Instr.{Instr, Block}
 use Rattle.wasm_types.specs.declared.instr.Simple.TheVariants.{I32Const}
 use Rattle.wasm_types.specs.Syntax.{Instruction, Instructions, Done, Then}
 use Rattle.wasm_types.specs.View.{view}
-use Rattle.mid_code.specs.View.{view_mid}
+use Rattle.print_code.specs.View.{view_mid}
 use Rattle.lowering.specs.Behind.{followed}
 use Rattle.lowering.specs.Emitted.{does, steps_emitted}
 use Rattle.lowering.proofs.Appended.{block_is, emits_one, followed_end}

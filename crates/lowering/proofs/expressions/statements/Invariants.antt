@@ -1,7 +1,7 @@
 use Rattle.std.proofs.Common.{◌≡◌, ◌≤◌, drop, length, map}
 use Rattle.wasm_types.specs.Syntax.{Instructions}
-use Rattle.mid_code.specs.Mid.{SortedSteps}
-use Rattle.mid_code.specs.View.{view_mid, view_stmt}
+use Rattle.print_code.specs.Mid.{SortedSteps}
+use Rattle.print_code.specs.View.{view_mid, view_stmt}
 use Rattle.lower_layout.specs.Layouts.{temporaries}
 use Rattle.lower_layout.specs.Placed.{most_temporaries}
 use Rattle.lowering.specs.Behind.{followed}

@@ -1,5 +1,5 @@
 use Rattle.std.proofs.Common.{◌≡◌, ◌++◌, drop}
-use Rattle.mid_code.specs.View.{view_texts}
+use Rattle.print_code.specs.View.{view_texts}
 use Rattle.lower_layout.specs.Layouts.{memory_of}
 use Rattle.lowering.proofs.module.memory.Given as goal
 

@@ -1,6 +1,6 @@
 use Rattle.std.proofs.Common.{◌≡◌, ◌+◌, ◌≤◌, drop}
 use Rattle.wasm_types.specs.Syntax.{Instructions}
-use Rattle.mid_code.specs.View.{views}
+use Rattle.print_code.specs.View.{views}
 use Rattle.lower_layout.specs.Layouts.{rooms_for}
 use Rattle.lower_layout.specs.Placed.{most_temporaries}
 use Rattle.lowering.specs.Behind.{followed}

@@ -1,7 +1,7 @@
 use Rattle.std.proofs.Common.{◌≡◌, ◌+◌, ◌≤◌, drop, length}
 use Rattle.wasm_types.specs.Syntax.{Instructions}
-use Rattle.mid_code.specs.Mid.{AllSorted}
-use Rattle.mid_code.specs.View.{view_mid, views}
+use Rattle.print_code.specs.Mid.{AllSorted}
+use Rattle.print_code.specs.View.{view_mid, views}
 use Rattle.lower_layout.specs.Layouts.{rooms_for}
 use Rattle.lower_layout.specs.Placed.{most_temporaries}
 use Rattle.lowering.specs.Behind.{followed}

@@ -5,7 +5,7 @@ use Rattle.wasm_types.specs.View.{view, views}
 use Rattle.wasm_types.proofs.Views.{followed_by, views_push}
 use Rattle.module_decoder.specs.declared.body.Step.TheVariants.{Ends, Opens}
 use Rattle.module_decoder.specs.Reading.{body_at, body_by, step_at}
-use Rattle.module_decoder.proofs.Loops.{block_ok, loop_ok, one_ok, two_ok, body_zero, body_some, body_none, body_end, body_next, body_fails, front_nil}
+use Rattle.module_decoder.proofs.Loops.{block_ok, loop_ok, body_zero, body_some, body_none, body_end, body_next, body_fails, front_nil}
 use Rattle.module_decoder.proofs.body.+body.Goals as goal
 
 pub block-returns-in-End : goal.block-returns-in-End
@@ -17,17 +17,6 @@ pub looped-returns-in-End : goal.looped-returns-in-End
 looped-returns-in-End t c =
     loop_ok c.args.c (body_at c.args.c c.args.limit) c.args.bytes.now c.in_ok-kind.rest.now c.in_ok-inner.inner.rest.now c.in_ok-kind.kind c.in_ok-inner.inner.ending c.in_ok-inner.inner.instrs.items c.in_ok-new-in-End.field-0
     c.in_ok-kind.ensures c.in_ok-inner.ensures c.in-End.is (ap (λ v. v.items) c.in_ok-new-in-End.ensures.ok)
-
-pub choice-returns-in-End : goal.choice-returns-in-End
-choice-returns-in-End t c =
-    one_ok c.args.c (body_at c.args.c c.args.limit) c.args.bytes.now c.in_ok-kind.rest.now c.in_ok-first.first.rest.now c.in_ok-kind.kind c.in_ok-first.first.ending c.in_ok-first.first.instrs.items c.in_ok-then.then c.in_ok-none-in-End.none
-    c.in_ok-kind.ensures c.in_ok-first.ensures c.in-End.is (ap (λ v. v.items) c.in_ok-then.ensures.ok) (ap (λ v. v.items) c.in_ok-none-in-End.ensures.ok ∙ c.new-in-End.ensures.items)
-
-pub choice-returns-in-End-ending : goal.choice-returns-in-End-ending
-choice-returns-in-End-ending t c =
-    two_ok c.args.c (body_at c.args.c c.args.limit) c.args.bytes.now c.in_ok-kind.rest.now c.in_ok-first.first.rest.now c.in_ok-second-in-Else.second.rest.now c.in_ok-kind.kind c.in_ok-first.first.ending c.in_ok-second-in-Else.second.ending
-    c.in_ok-first.first.instrs.items c.in_ok-second-in-Else.second.instrs.items c.in_ok-then.then c.in_ok-new-in-End-ending.field-0
-    c.in_ok-kind.ensures c.in_ok-first.ensures c.in-Else.is c.in_ok-second-in-Else.ensures c.in-End-ending.is (ap (λ v. v.items) c.in_ok-then.ensures.ok) (ap (λ v. v.items) c.in_ok-new-in-End-ending.ensures.ok)
 
 pub body_of-returns-then-limit-eq0 : goal.body_of-returns-then-limit-eq0
 body_of-returns-then-limit-eq0 t c = body_zero c.args.c c.args.limit c.args.bytes.now c.if-limit-eq0.true

@@ -11,6 +11,6 @@ use Rattle.wasm_machine.proofs.link.segments_fit.Goals as goal
 pub returns : goal.returns
 returns c =
     let m = c.args.whole.now in
-    both c.elems_fit-elems.result c.data_all_fit-data.result
-    (mapped (ElemFits (least m.table)) view_elem m.elems.items c.elems_fit-elems.result (subst (λ (es : List Elem). IsTrue c.elems_fit-elems.result ↔ All (λ e. ElemFits (least m.table) (view_elem e)) es) c.deref.ensures.value (rw c.least.ensures at c.elems_fit-elems.ensures)))
-    (mapped (DataFits (least m.memory * 65536)) view_data m.data.items c.data_all_fit-data.result (subst (λ (ds : List Data). IsTrue c.data_all_fit-data.result ↔ All (λ d. DataFits (least m.memory * 65536) (view_data d)) ds) c.deref-2.ensures.value (rw c.least-2.ensures at c.data_all_fit-data.ensures)))
+    both c.all_fit-elems.result c.all_fit-data.result
+    (mapped (ElemFits (least m.table)) view_elem m.elems.items c.all_fit-elems.result (subst (λ (es : List Elem). IsTrue c.all_fit-elems.result ↔ All (λ e. ElemFits (least m.table) (view_elem e)) es) c.deref.ensures.value (rw c.least.ensures at c.all_fit-elems.ensures)))
+    (mapped (DataFits (least m.memory * 65536)) view_data m.data.items c.all_fit-data.result (subst (λ (ds : List Data). IsTrue c.all_fit-data.result ↔ All (λ d. DataFits (least m.memory * 65536) (view_data d)) ds) c.deref-2.ensures.value (rw c.least-2.ensures at c.all_fit-data.ensures)))

@@ -2,7 +2,7 @@ use Rattle.std.proofs.Common.{◌≡◌, refl, ap, ◌∙◌, pos, length, rules
 use Rattle.std.specs.Vec.{vec_len}
 use Rattle.std.specs.FinMap as map
 use Rattle.std.specs.Ordering.{int_cmp}
-use Rattle.awk_state.specs.SharedState.{specials_at_start}
+use Rattle.print_state.specs.SharedState.{specials_at_start}
 use Rattle.host_calls.proofs.HostLemmas.{same_state}
 use Rattle.host_calls.proofs.host.Host.new.Goals as goal
 

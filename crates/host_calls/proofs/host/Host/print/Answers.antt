@@ -1,7 +1,7 @@
 use Rattle.std.proofs.Common.{◌∙◌, ◌-◌, ap, subst, refl, Err, Some, take, List, ℕ}
 use Rattle.awk_values.specs.declared.fault.Fault.TheVariants.{WriteFailed}
 use Rattle.awk_values.specs.declared.value.Value.{Value}
-use Rattle.awk_state.specs.OutputRows.{printed}
+use Rattle.print_state.specs.OutputRows.{printed}
 use Rattle.world_core.specs.declared.world.WorldFault.{WorldFault}
 use Rattle.host_calls.specs.Calls.{print_count}
 use Rattle.host_calls.specs.HostStep.{before_last_of, last_of}

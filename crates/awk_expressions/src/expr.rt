@@ -1,0 +1,800 @@
+//! Expressions, by operator precedence: an operand, and the operators behind it that may stand there.
+
+ghost use Rattle.std.specs.Prelude.{◌≡◌, ◌<◌, ◌≤◌, ◌+◌, ◌-◌, ◌∷◌, Ok, IfOk, IfErr, true, None, Some, length, max};
+ghost use Rattle.awk_grammar.specs.Token.{Assign};
+ghost use Rattle.awk_grammar.specs.Lexeme.{mark_lexeme};
+ghost use Rattle.awk_grammar.specs.Reading.{Joined, expr_at, posted, stops, after, climb, list_at, arguments_at, indexed_by, call_by, applied_by, checked, getline_at, from_by, first_at, bare, open_at, index_at, less_at};
+ghost use Rattle.awk_grammar.specs.Tree.{Other, depth, depths, is_start, class_at};
+ghost use Rattle.awk_grammar.specs.View.{view, views, view_step, view_unary, view_binary, view_assign};
+ghost use Rattle.awk_expressions.specs.Operands.{done, fitted_at, extended_at, field_at, unary_at, pre_at, paren_at, in_list_at, conditional_at, otherwise_at};
+ghost use Rattle.awk_expressions.specs.Seen.{seen, seen_tree, seen_part, seen_trees, view_mode, view_link, Gives};
+ghost use Rattle.awk_expressions.specs.declared.fault.Refusal.TheVariants.{NoMemory};
+
+use crate::contains::{contained, in_array};
+use crate::fault::Refusal;
+use crate::mode::{Mode, fits, floor, is_normal, right_of, under};
+use crate::node::{application, call_of, element};
+use crate::peek::{
+    Link, after_bracket, after_close, after_comma, after_less, after_open, close, close_bracket,
+    colon, line_of, link_left, link_level, next_link, next_of, step, stopped,
+};
+use awk_grammar::{
+    AssignOp, BinaryOp, Builtin, Expr, Next, StepOp, UnaryOp, has_edge, suits, takes,
+};
+use awk_tokens::{Keyword, Punctuator, Token, TokenKind};
+use std::alloc::Global;
+
+/// An expression that was read, its depth, and the tokens behind it.
+#[derive(Drop)]
+pub struct Parsed<'a> {
+    pub tree: Expr,
+    pub depth: u32,
+    pub rest: &'a [Token<'a>],
+}
+
+/// An expression in a box, as a part of another, its depth, and the tokens behind it.
+#[derive(Drop)]
+struct Part<'a> {
+    tree: Box<Expr>,
+    depth: u32,
+    rest: &'a [Token<'a>],
+}
+
+/// Expressions that were read, the greatest depth among them, and the tokens behind them.
+#[derive(Drop)]
+pub struct ParsedList<'a> {
+    pub trees: Vec<Expr>,
+    pub depth: u32,
+    pub rest: &'a [Token<'a>],
+}
+
+/// An expression of at most this depth, where `greater` says whether `>` may stand outside parentheses and brackets.
+#[cycle(expr)]
+#[tactic(auto, using(crate::proofs::Binds::expr_none, crate::proofs::Binds::expr_fails))]
+pub fn expression<'a>(
+    alloc: Global,
+    limit: u32,
+    greater: bool,
+    mode: Mode,
+    tokens: &'a [Token<'a>],
+) -> Result<Parsed<'a>, Refusal>
+    requires room { limit < 4294967295 }
+    ensures tree { Gives seen_tree result (expr_at limit greater (view_mode mode) (seen tokens.now)) }
+    ensures depth { IfOk result (λ x. x.depth ≡ depth (view x.tree)) }
+    ensures small { IfOk result (λ x. x.depth ≤ limit) }
+{
+    if limit == 0 {
+        return Err(Refusal::TooDeep(line_of(tokens)));
+    }
+    let bare = operand(alloc, limit - 1, greater, mode, tokens)?;
+    let first = fitted(alloc, limit, mode, bare, tokens)?;
+    chain(alloc, limit, greater, floor(mode), first)
+}
+
+/// An operand and the step behind it, if they may stand there, where these tokens begin with it.
+fn fitted<'a>(
+    alloc: Global,
+    limit: u32,
+    mode: Mode,
+    bare: Parsed<'a>,
+    tokens: &'a [Token<'a>],
+) -> Result<Parsed<'a>, Refusal>
+    requires room { bare.depth < 4294967295 }
+    requires depth { bare.depth ≡ depth (view bare.tree) }
+    ensures tree { Gives seen_tree result (fitted_at limit (view_mode mode) (seen_tree bare.entry)) }
+    ensures depth { IfOk result (λ x. x.depth ≡ depth (view x.tree)) }
+    ensures small { IfOk result (λ x. x.depth ≤ limit) }
+{
+    let first = with_step(alloc, mode, bare)?;
+    if !fits(mode, &first.tree) {
+        return Err(stopped(tokens));
+    }
+    within(limit, first)
+}
+
+/// An expression of at most this depth, as a part of another.
+#[cycle(expr)]
+fn read_part<'a>(
+    alloc: Global,
+    limit: u32,
+    greater: bool,
+    mode: Mode,
+    tokens: &'a [Token<'a>],
+) -> Result<Part<'a>, Refusal>
+    requires room { limit < 4294967295 }
+    ensures tree { Gives seen_part result (expr_at limit greater (view_mode mode) (seen tokens.now)) }
+    ensures depth { IfOk result (λ x. x.depth ≡ depth (view x.tree.value)) }
+    ensures small { IfOk result (λ x. x.depth ≤ limit) }
+{
+    let read = expression(alloc, limit, greater, mode, tokens)?;
+    boxed(alloc, read)
+}
+
+/// What was read, in a box.
+fn boxed<'a>(alloc: Global, read: Parsed<'a>) -> Result<Part<'a>, Refusal>
+    ensures tree { Gives seen_part result (Ok (seen_tree read.entry)) }
+    ensures depth { IfOk result (λ x. (x.tree.value ≡ read.entry.tree) × (x.depth ≡ read.entry.depth)) }
+{
+    let tree = Box::new(alloc, read.tree)?;
+    Ok(Part {
+        tree,
+        depth: read.depth,
+        rest: read.rest,
+    })
+}
+
+/// An expression that must not be deeper than this.
+fn within<'a>(limit: u32, read: Parsed<'a>) -> Result<Parsed<'a>, Refusal>
+    requires depth { read.depth ≡ depth (view read.tree) }
+    ensures tree { Gives seen_tree result (checked limit done (seen_tree read.entry)) }
+    ensures same { IfOk result (λ x. (x ≡ read.entry) × (x.depth ≤ limit)) }
+{
+    if read.depth > limit {
+        return Err(Refusal::TooDeep(line_of(read.rest)));
+    }
+    Ok(read)
+}
+
+/// An LValue with the step behind it, if there is one and it may stand there.
+fn with_step<'a>(alloc: Global, mode: Mode, bare: Parsed<'a>) -> Result<Parsed<'a>, Refusal>
+    requires room { bare.depth < 4294967295 }
+    requires depth { bare.depth ≡ depth (view bare.tree) }
+    ensures tree { IfOk result (λ x. seen_tree x ≡ posted (view_mode mode) (seen_tree bare.entry)) }
+    ensures depth { IfOk result (λ x. x.depth ≡ depth (view x.tree)) }
+    ensures small { IfOk result (λ x. x.depth ≤ bare.entry.depth + 1) }
+    ensures refused { IfErr result (λ e. e ≡ NoMemory) }
+{
+    if !is_normal(mode) || !fits(Mode::LValue, &bare.tree) {
+        return Ok(bare);
+    }
+    let Some((op, rest)) = step(bare.rest) else {
+        return Ok(bare);
+    };
+    let inner = Box::new(alloc, bare.tree)?;
+    Ok(Parsed {
+        tree: Expr::PostStep(op, inner),
+        depth: bare.depth + 1,
+        rest,
+    })
+}
+
+/// Whether a link does not take the expression as its left side where this level is the least.
+fn stops(least: u8, left: &Expr, tokens: &[Token<'_>], link: Link) -> bool
+    ensures { result ≡ stops least (view left.now) (seen tokens.now) (view_link link) }
+{
+    link_level(link) < least
+        || !has_edge(link_left(link), left)
+        || takes(true, left, next_of(tokens))
+}
+
+/// The operators behind an expression that bind at this level or tighter, from the left.
+#[cycle(expr)]
+fn chain<'a>(
+    alloc: Global,
+    limit: u32,
+    greater: bool,
+    least: u8,
+    first: Parsed<'a>,
+) -> Result<Parsed<'a>, Refusal>
+    requires some { 0 < limit }
+    requires room { limit < 4294967295 }
+    requires depth { first.depth ≡ depth (view first.tree) }
+    requires small { first.depth ≤ limit }
+    ensures tree { Gives seen_tree result (climb (expr_at (limit - 1)) greater limit (length (seen first.entry.rest.now)) least (view first.entry.tree) (seen first.entry.rest.now)) }
+    ensures depth { IfOk result (λ x. x.depth ≡ depth (view x.tree)) }
+    ensures small { IfOk result (λ x. x.depth ≤ limit) }
+{
+    let turns = first.rest.len();
+    let mut left = first;
+    for _ in 0..turns {
+        let Some((link, behind)) = next_link(greater, left.rest) else {
+            return Ok(left);
+        };
+        if stops(least, &left.tree, left.rest, link) {
+            return Ok(left);
+        }
+        left = extended(alloc, limit, greater, left, link, behind)?;
+    }
+    Ok(left)
+}
+
+/// An expression and one link more.
+#[cycle(expr)]
+#[tactic(auto, using(crate::proofs::Binds::fails_bind))]
+fn extended<'a>(
+    alloc: Global,
+    limit: u32,
+    greater: bool,
+    left: Parsed<'a>,
+    link: Link,
+    tokens: &'a [Token<'a>],
+) -> Result<Parsed<'a>, Refusal>
+    requires some { 0 < limit }
+    requires room { limit < 4294967295 }
+    requires depth { left.depth ≡ depth (view left.tree) }
+    requires small { left.depth ≤ limit }
+    ensures tree { Gives seen_tree result (extended_at limit greater (view left.entry.tree) (view_link link) (seen tokens.now)) }
+    ensures depth { IfOk result (λ x. x.depth ≡ depth (view x.tree)) }
+    ensures small { IfOk result (λ x. x.depth ≤ limit) }
+{
+    let left = boxed(alloc, left)?;
+    let read = linked(
+        alloc,
+        limit - 1,
+        greater,
+        left.tree,
+        left.depth,
+        link,
+        tokens,
+    )?;
+    within(limit, read)
+}
+
+/// An expression, a link, and what stands behind it.
+#[cycle(expr)]
+fn linked<'a>(
+    alloc: Global,
+    limit: u32,
+    greater: bool,
+    left: Box<Expr>,
+    left_depth: u32,
+    link: Link,
+    tokens: &'a [Token<'a>],
+) -> Result<Parsed<'a>, Refusal>
+    requires room { limit < 4294967294 }
+    requires depth { left_depth ≡ depth (view left.value) }
+    requires small { left_depth ≤ limit + 1 }
+    ensures tree { Gives seen_tree result (after (expr_at limit) greater (view left.value) (view_link link) (seen tokens.now)) }
+    ensures depth { IfOk result (λ x. x.depth ≡ depth (view x.tree)) }
+    ensures small { IfOk result (λ x. x.depth ≤ limit + 2) }
+{
+    match link {
+        Link::Binary(op) => binary(alloc, limit, greater, left, left_depth, op, tokens),
+        Link::Assign(op) => assignment(alloc, limit, greater, left, left_depth, op, tokens),
+        Link::In => contained(alloc, left, left_depth, tokens),
+        Link::Question => conditional(alloc, limit, greater, left, left_depth, tokens),
+    }
+}
+
+/// A left side, its operator, and the right side.
+#[cycle(expr)]
+#[tactic(auto, using(crate::proofs::Binds::fails_bind))]
+fn binary<'a>(
+    alloc: Global,
+    limit: u32,
+    greater: bool,
+    left: Box<Expr>,
+    left_depth: u32,
+    op: BinaryOp,
+    tokens: &'a [Token<'a>],
+) -> Result<Parsed<'a>, Refusal>
+    requires room { limit < 4294967294 }
+    requires depth { left_depth ≡ depth (view left.value) }
+    requires small { left_depth ≤ limit + 1 }
+    ensures tree { Gives seen_tree result (after (expr_at limit) greater (view left.value) (Joined (view_binary op)) (seen tokens.now)) }
+    ensures depth { IfOk result (λ x. x.depth ≡ depth (view x.tree)) }
+    ensures small { IfOk result (λ x. x.depth ≤ limit + 2) }
+{
+    let right = read_part(alloc, limit, greater, right_of(op), tokens)?;
+    Ok(Parsed {
+        tree: Expr::Binary(op, left, right.tree),
+        depth: left_depth.max(right.depth) + 1,
+        rest: right.rest,
+    })
+}
+
+/// A place, its assignment, and the value.
+#[cycle(expr)]
+#[tactic(auto, using(crate::proofs::Binds::fails_bind))]
+fn assignment<'a>(
+    alloc: Global,
+    limit: u32,
+    greater: bool,
+    left: Box<Expr>,
+    left_depth: u32,
+    op: AssignOp,
+    tokens: &'a [Token<'a>],
+) -> Result<Parsed<'a>, Refusal>
+    requires room { limit < 4294967294 }
+    requires depth { left_depth ≡ depth (view left.value) }
+    requires small { left_depth ≤ limit + 1 }
+    ensures tree { Gives seen_tree result (after (expr_at limit) greater (view left.value) (Joined (Other (Assign (view_assign op)))) (seen tokens.now)) }
+    ensures depth { IfOk result (λ x. x.depth ≡ depth (view x.tree)) }
+    ensures small { IfOk result (λ x. x.depth ≤ limit + 2) }
+{
+    let right = read_part(alloc, limit, greater, Mode::Whole, tokens)?;
+    Ok(Parsed {
+        tree: Expr::Assign(op, left, right.tree),
+        depth: left_depth.max(right.depth) + 1,
+        rest: right.rest,
+    })
+}
+
+/// A condition, and the two sides behind its `?`.
+#[cycle(expr)]
+#[tactic(auto, using(crate::proofs::Binds::fails_bind))]
+fn conditional<'a>(
+    alloc: Global,
+    limit: u32,
+    greater: bool,
+    condition: Box<Expr>,
+    condition_depth: u32,
+    tokens: &'a [Token<'a>],
+) -> Result<Parsed<'a>, Refusal>
+    requires room { limit < 4294967294 }
+    requires depth { condition_depth ≡ depth (view condition.value) }
+    requires small { condition_depth ≤ limit + 1 }
+    ensures tree { Gives seen_tree result (conditional_at (expr_at limit) greater (view condition.value) (seen tokens.now)) }
+    ensures depth { IfOk result (λ x. x.depth ≡ depth (view x.tree)) }
+    ensures small { IfOk result (λ x. x.depth ≤ limit + 2) }
+{
+    let then = read_part(alloc, limit, greater, Mode::Whole, tokens)?;
+    let above = condition_depth.max(then.depth);
+    otherwise(
+        alloc, limit, greater, condition, then.tree, above, then.rest,
+    )
+}
+
+/// A condition, its first side, and the `:` and the side behind that.
+#[cycle(expr)]
+#[tactic(auto, using(crate::proofs::Binds::fails_bind))]
+fn otherwise<'a>(
+    alloc: Global,
+    limit: u32,
+    greater: bool,
+    condition: Box<Expr>,
+    then: Box<Expr>,
+    above: u32,
+    tokens: &'a [Token<'a>],
+) -> Result<Parsed<'a>, Refusal>
+    requires room { limit < 4294967294 }
+    requires depth { above ≡ max (depth (view condition.value)) (depth (view then.value)) }
+    requires small { above ≤ limit + 1 }
+    ensures tree { Gives seen_tree result (otherwise_at (expr_at limit) greater (view condition.value) (view then.value) (seen tokens.now)) }
+    ensures depth { IfOk result (λ x. x.depth ≡ depth (view x.tree)) }
+    ensures small { IfOk result (λ x. x.depth ≤ limit + 2) }
+{
+    let rest = colon(tokens)?;
+    let last = read_part(alloc, limit, greater, Mode::Whole, rest)?;
+    Ok(Parsed {
+        tree: Expr::Conditional(condition, then, last.tree),
+        depth: above.max(last.depth) + 1,
+        rest: last.rest,
+    })
+}
+
+/// One expression or more, with commas between them.
+#[cycle(expr)]
+pub fn list<'a>(
+    alloc: Global,
+    limit: u32,
+    greater: bool,
+    tokens: &'a [Token<'a>],
+) -> Result<ParsedList<'a>, Refusal>
+    requires room { limit < 4294967295 }
+    ensures trees { Gives seen_trees result (list_at (expr_at limit) greater (seen tokens.now)) }
+    ensures depth { IfOk result (λ x. x.depth ≡ depths (views x.trees.items)) }
+    ensures small { IfOk result (λ x. x.depth ≤ limit) }
+{
+    let first = expression(alloc, limit, greater, Mode::Whole, tokens)?;
+    let mut trees = Vec::new(alloc);
+    trees.push(first.tree)?;
+    let mut depth = first.depth;
+    let mut rest = first.rest;
+    let turns = rest.len();
+    for _ in 0..turns {
+        let Some(behind) = after_comma(rest) else {
+            return Ok(ParsedList { trees, depth, rest });
+        };
+        let next = expression(alloc, limit, greater, Mode::Whole, behind)?;
+        trees.push(next.tree)?;
+        depth = depth.max(next.depth);
+        rest = next.rest;
+    }
+    Ok(ParsedList { trees, depth, rest })
+}
+
+/// Arguments, none or more, and the parenthesis that closes them.
+#[cycle(expr)]
+#[tactic(auto, using(crate::proofs::Binds::fails_bind))]
+fn arguments<'a>(
+    alloc: Global,
+    limit: u32,
+    tokens: &'a [Token<'a>],
+) -> Result<ParsedList<'a>, Refusal>
+    requires room { limit < 4294967295 }
+    ensures trees { Gives seen_trees result (arguments_at (expr_at limit) (seen tokens.now)) }
+    ensures depth { IfOk result (λ x. x.depth ≡ depths (views x.trees.items)) }
+    ensures small { IfOk result (λ x. x.depth ≤ limit) }
+{
+    if let Some(rest) = after_close(tokens) {
+        return Ok(ParsedList {
+            trees: Vec::new(alloc),
+            depth: 0,
+            rest,
+        });
+    }
+    let inner = list(alloc, limit, true, tokens)?;
+    let rest = close(inner.rest)?;
+    Ok(ParsedList {
+        trees: inner.trees,
+        depth: inner.depth,
+        rest,
+    })
+}
+
+/// A variable, or an element of an array.
+#[cycle(expr)]
+#[tactic(auto, using(crate::proofs::Binds::fails_bind))]
+fn named<'a>(
+    alloc: Global,
+    limit: u32,
+    text: &[u8],
+    tokens: &'a [Token<'a>],
+) -> Result<Parsed<'a>, Refusal>
+    requires room { limit < 4294967295 }
+    ensures tree { Gives seen_tree result (indexed_by (expr_at limit) text.now (seen tokens.now) (index_at (seen tokens.now))) }
+    ensures depth { IfOk result (λ x. x.depth ≡ depth (view x.tree)) }
+    ensures small { IfOk result (λ x. x.depth ≤ limit + 1) }
+{
+    let array = text.to_vec(alloc)?;
+    let Some(behind) = after_bracket(tokens) else {
+        return Ok(Parsed {
+            tree: Expr::Var(array),
+            depth: 1,
+            rest: tokens,
+        });
+    };
+    let inner = list(alloc, limit, true, behind)?;
+    let rest = close_bracket(inner.rest)?;
+    Ok(Parsed {
+        tree: element(array, inner.trees),
+        depth: inner.depth + 1,
+        rest,
+    })
+}
+
+/// A call of a function of the script.
+#[cycle(expr)]
+#[tactic(auto, using(crate::proofs::Binds::fails_bind))]
+fn call<'a>(
+    alloc: Global,
+    limit: u32,
+    text: &[u8],
+    tokens: &'a [Token<'a>],
+) -> Result<Parsed<'a>, Refusal>
+    requires room { limit < 4294967295 }
+    ensures tree { Gives seen_tree result (call_by (expr_at limit) text.now (open_at (seen tokens.now))) }
+    ensures depth { IfOk result (λ x. x.depth ≡ depth (view x.tree)) }
+    ensures small { IfOk result (λ x. x.depth ≤ limit + 1) }
+{
+    let function = text.to_vec(alloc)?;
+    let Some(behind) = after_open(tokens) else {
+        return Err(stopped(tokens));
+    };
+    let inner = arguments(alloc, limit, behind)?;
+    Ok(Parsed {
+        tree: call_of(function, inner.trees),
+        depth: inner.depth + 1,
+        rest: inner.rest,
+    })
+}
+
+/// A call of a built-in function; `length` may stand alone.
+#[cycle(expr)]
+#[tactic(auto, using(crate::proofs::Binds::fails_bind))]
+fn applied<'a>(
+    alloc: Global,
+    limit: u32,
+    function: Builtin,
+    tokens: &'a [Token<'a>],
+) -> Result<Parsed<'a>, Refusal>
+    requires room { limit < 4294967295 }
+    ensures tree { Gives seen_tree result (applied_by (expr_at limit) function (seen tokens.now) (open_at (seen tokens.now))) }
+    ensures depth { IfOk result (λ x. x.depth ≡ depth (view x.tree)) }
+    ensures small { IfOk result (λ x. x.depth ≤ limit + 1) }
+{
+    let Some(behind) = after_open(tokens) else {
+        return bare(function, tokens);
+    };
+    let inner = arguments(alloc, limit, behind)?;
+    if !suits(function, &inner.trees) {
+        return Err(stopped(tokens));
+    }
+    Ok(Parsed {
+        tree: application(function, inner.trees),
+        depth: inner.depth + 1,
+        rest: inner.rest,
+    })
+}
+
+/// A built-in function without parentheses.
+fn bare<'a>(function: Builtin, tokens: &'a [Token<'a>]) -> Result<Parsed<'a>, Refusal>
+    ensures tree { Gives seen_tree result (bare function (seen tokens.now)) }
+    ensures depth { IfOk result (λ x. (x.depth ≡ depth (view x.tree)) × (x.depth ≡ 1)) }
+{
+    match function {
+        Builtin::Length => Ok(Parsed {
+            tree: Expr::Length,
+            depth: 1,
+            rest: tokens,
+        }),
+        _ => Err(stopped(tokens)),
+    }
+}
+
+/// What stands behind `(`: an expression in parentheses, or a list of subscripts and `in`.
+#[cycle(expr)]
+#[tactic(auto, using(crate::proofs::Binds::fails_bind))]
+fn parenthesised<'a>(
+    alloc: Global,
+    limit: u32,
+    tokens: &'a [Token<'a>],
+) -> Result<Parsed<'a>, Refusal>
+    requires room { limit < 4294967295 }
+    ensures tree { Gives seen_tree result (paren_at (expr_at limit) (seen tokens.now)) }
+    ensures depth { IfOk result (λ x. x.depth ≡ depth (view x.tree)) }
+    ensures small { IfOk result (λ x. x.depth ≤ limit + 1) }
+{
+    let first = read_part(alloc, limit, true, Mode::Whole, tokens)?;
+    if let Some(behind) = after_comma(first.rest) {
+        return in_list(alloc, limit, first.tree, first.depth, behind);
+    }
+    let rest = close(first.rest)?;
+    Ok(Parsed {
+        tree: Expr::Group(first.tree),
+        depth: first.depth + 1,
+        rest,
+    })
+}
+
+/// Two subscripts or more in parentheses, and `in` and the array behind them.
+#[cycle(expr)]
+#[tactic(auto, using(crate::proofs::Binds::fails_bind))]
+fn in_list<'a>(
+    alloc: Global,
+    limit: u32,
+    first: Box<Expr>,
+    first_depth: u32,
+    tokens: &'a [Token<'a>],
+) -> Result<Parsed<'a>, Refusal>
+    requires room { limit < 4294967295 }
+    requires depth { first_depth ≡ depth (view first.value) }
+    requires small { first_depth ≤ limit }
+    ensures tree { Gives seen_tree result (in_list_at (expr_at limit) (view first.value) (seen tokens.now)) }
+    ensures depth { IfOk result (λ x. x.depth ≡ depth (view x.tree)) }
+    ensures small { IfOk result (λ x. x.depth ≤ limit + 1) }
+{
+    let others = list(alloc, limit, true, tokens)?;
+    let above = first_depth.max(others.depth);
+    in_array(alloc, first, others.trees, above, others.rest)
+}
+
+/// What stands behind `getline`: a variable or none, and a file or none.
+#[cycle(expr)]
+#[tactic(auto, using(crate::proofs::Binds::fails_bind))]
+fn getline<'a>(
+    alloc: Global,
+    limit: u32,
+    greater: bool,
+    tokens: &'a [Token<'a>],
+) -> Result<Parsed<'a>, Refusal>
+    requires room { limit < 4294967295 }
+    ensures tree { Gives seen_tree result (getline_at (expr_at limit) greater (seen tokens.now)) }
+    ensures depth { IfOk result (λ x. x.depth ≡ depth (view x.tree)) }
+    ensures small { IfOk result (λ x. x.depth ≤ limit + 1) }
+{
+    if !begins_lvalue(tokens) {
+        return getline_line(alloc, limit, greater, tokens);
+    }
+    let variable = read_part(alloc, limit, greater, Mode::LValue, tokens)?;
+    getline_into(alloc, limit, greater, variable)
+}
+
+/// What stands behind `getline` and its variable.
+#[cycle(expr)]
+#[tactic(auto, using(crate::proofs::Binds::fails_bind))]
+fn getline_into<'a>(
+    alloc: Global,
+    limit: u32,
+    greater: bool,
+    variable: Part<'a>,
+) -> Result<Parsed<'a>, Refusal>
+    requires room { limit < 4294967295 }
+    requires depth { variable.depth ≡ depth (view variable.tree.value) }
+    requires small { variable.depth ≤ limit }
+    ensures tree { Gives seen_tree result (from_by (expr_at limit) greater (Some (view variable.entry.tree.value)) (seen variable.entry.rest.now) (less_at (seen variable.entry.rest.now))) }
+    ensures depth { IfOk result (λ x. x.depth ≡ depth (view x.tree)) }
+    ensures small { IfOk result (λ x. x.depth ≤ limit + 1) }
+{
+    let Some(behind) = after_less(variable.rest) else {
+        return Ok(Parsed {
+            tree: Expr::GetlineInto(variable.tree),
+            depth: variable.depth + 1,
+            rest: variable.rest,
+        });
+    };
+    let file = read_part(alloc, limit, greater, Mode::Plain, behind)?;
+    Ok(Parsed {
+        tree: Expr::GetlineIntoFrom(variable.tree, file.tree),
+        depth: variable.depth.max(file.depth) + 1,
+        rest: file.rest,
+    })
+}
+
+/// What stands behind `getline` without a variable.
+#[cycle(expr)]
+#[tactic(auto, using(crate::proofs::Binds::fails_bind))]
+fn getline_line<'a>(
+    alloc: Global,
+    limit: u32,
+    greater: bool,
+    tokens: &'a [Token<'a>],
+) -> Result<Parsed<'a>, Refusal>
+    requires room { limit < 4294967295 }
+    ensures tree { Gives seen_tree result (from_by (expr_at limit) greater None (seen tokens.now) (less_at (seen tokens.now))) }
+    ensures depth { IfOk result (λ x. x.depth ≡ depth (view x.tree)) }
+    ensures small { IfOk result (λ x. x.depth ≤ limit + 1) }
+{
+    let Some(behind) = after_less(tokens) else {
+        return Ok(Parsed {
+            tree: Expr::Getline,
+            depth: 1,
+            rest: tokens,
+        });
+    };
+    let file = read_part(alloc, limit, greater, Mode::Plain, behind)?;
+    Ok(Parsed {
+        tree: Expr::GetlineFrom(file.tree),
+        depth: file.depth + 1,
+        rest: file.rest,
+    })
+}
+
+/// Whether an LValue may begin here.
+fn begins_lvalue(tokens: &[Token<'_>]) -> bool
+    ensures { result ≡ is_start (class_at (seen tokens.now)) }
+{
+    matches!(next_of(tokens), Next::LValue)
+}
+
+/// What stands behind `$`.
+#[cycle(expr)]
+#[tactic(auto, using(crate::proofs::Binds::fails_bind))]
+fn field<'a>(
+    alloc: Global,
+    limit: u32,
+    greater: bool,
+    tokens: &'a [Token<'a>],
+) -> Result<Parsed<'a>, Refusal>
+    requires room { limit < 4294967295 }
+    ensures tree { Gives seen_tree result (field_at (expr_at limit) greater (seen tokens.now)) }
+    ensures depth { IfOk result (λ x. x.depth ≡ depth (view x.tree)) }
+    ensures small { IfOk result (λ x. x.depth ≤ limit + 1) }
+{
+    let inner = read_part(alloc, limit, greater, Mode::InField, tokens)?;
+    Ok(Parsed {
+        tree: Expr::Field(inner.tree),
+        depth: inner.depth + 1,
+        rest: inner.rest,
+    })
+}
+
+/// What stands behind a sign or `!`.
+#[cycle(expr)]
+#[tactic(auto, using(crate::proofs::Binds::fails_bind))]
+fn unary<'a>(
+    alloc: Global,
+    limit: u32,
+    greater: bool,
+    mode: Mode,
+    op: UnaryOp,
+    tokens: &'a [Token<'a>],
+) -> Result<Parsed<'a>, Refusal>
+    requires room { limit < 4294967295 }
+    ensures tree { Gives seen_tree result (unary_at (expr_at limit) greater (view_mode mode) (view_unary op) (seen tokens.now)) }
+    ensures depth { IfOk result (λ x. x.depth ≡ depth (view x.tree)) }
+    ensures small { IfOk result (λ x. x.depth ≤ limit + 1) }
+{
+    let inner = read_part(alloc, limit, greater, under(mode), tokens)?;
+    Ok(Parsed {
+        tree: Expr::Unary(op, inner.tree),
+        depth: inner.depth + 1,
+        rest: inner.rest,
+    })
+}
+
+/// What stands behind a step.
+#[cycle(expr)]
+#[tactic(auto, using(crate::proofs::Binds::fails_bind))]
+fn pre_step<'a>(
+    alloc: Global,
+    limit: u32,
+    greater: bool,
+    op: StepOp,
+    tokens: &'a [Token<'a>],
+) -> Result<Parsed<'a>, Refusal>
+    requires room { limit < 4294967295 }
+    ensures tree { Gives seen_tree result (pre_at (expr_at limit) greater (view_step op) (seen tokens.now)) }
+    ensures depth { IfOk result (λ x. x.depth ≡ depth (view x.tree)) }
+    ensures small { IfOk result (λ x. x.depth ≤ limit + 1) }
+{
+    let inner = read_part(alloc, limit, greater, Mode::LValue, tokens)?;
+    Ok(Parsed {
+        tree: Expr::PreStep(op, inner.tree),
+        depth: inner.depth + 1,
+        rest: inner.rest,
+    })
+}
+
+/// The operand that a punctuator on this line begins, with the tokens behind that.
+#[cycle(expr)]
+fn marked<'a>(
+    alloc: Global,
+    limit: u32,
+    greater: bool,
+    mode: Mode,
+    mark: Punctuator,
+    line: usize,
+    tokens: &'a [Token<'a>],
+) -> Result<Parsed<'a>, Refusal>
+    requires room { limit < 4294967295 }
+    ensures tree { Gives seen_tree result (first_at (expr_at limit) greater (view_mode mode) (mark_lexeme mark ∷ seen tokens.now)) }
+    ensures depth { IfOk result (λ x. x.depth ≡ depth (view x.tree)) }
+    ensures small { IfOk result (λ x. x.depth ≤ limit + 1) }
+{
+    match mark {
+        Punctuator::Dollar => field(alloc, limit, greater, tokens),
+        Punctuator::OpenParen => parenthesised(alloc, limit, tokens),
+        Punctuator::Bang => unary(alloc, limit, greater, mode, UnaryOp::Not, tokens),
+        Punctuator::Plus => unary(alloc, limit, greater, mode, UnaryOp::Plus, tokens),
+        Punctuator::Minus => unary(alloc, limit, greater, mode, UnaryOp::Minus, tokens),
+        Punctuator::Increment => pre_step(alloc, limit, greater, StepOp::Increment, tokens),
+        Punctuator::Decrement => pre_step(alloc, limit, greater, StepOp::Decrement, tokens),
+        _ => Err(Refusal::Syntax(Some(line))),
+    }
+}
+
+/// An operand, without the step behind it.
+#[cycle(expr)]
+fn operand<'a>(
+    alloc: Global,
+    limit: u32,
+    greater: bool,
+    mode: Mode,
+    tokens: &'a [Token<'a>],
+) -> Result<Parsed<'a>, Refusal>
+    requires room { limit < 4294967295 }
+    ensures tree { Gives seen_tree result (first_at (expr_at limit) greater (view_mode mode) (seen tokens.now)) }
+    ensures depth { IfOk result (λ x. x.depth ≡ depth (view x.tree)) }
+    ensures small { IfOk result (λ x. x.depth ≤ limit + 1) }
+{
+    let [first, rest @ ..] = tokens else {
+        return Err(stopped(tokens));
+    };
+    match first.kind {
+        TokenKind::Number => Ok(Parsed {
+            tree: Expr::Number(first.text.to_vec(alloc)?),
+            depth: 1,
+            rest,
+        }),
+        TokenKind::Str => Ok(Parsed {
+            tree: Expr::Str(first.text.to_vec(alloc)?),
+            depth: 1,
+            rest,
+        }),
+        TokenKind::Ere => Ok(Parsed {
+            tree: Expr::Ere(first.text.to_vec(alloc)?),
+            depth: 1,
+            rest,
+        }),
+        TokenKind::Name => named(alloc, limit, first.text, rest),
+        TokenKind::FuncName => call(alloc, limit, first.text, rest),
+        TokenKind::Builtin(function) => applied(alloc, limit, function, rest),
+        TokenKind::Keyword(Keyword::Getline) => getline(alloc, limit, greater, rest),
+        TokenKind::Punctuator(mark) => {
+            marked(alloc, limit, greater, mode, mark, first.line, rest)
+        }
+        TokenKind::Keyword(_) | TokenKind::LeftOut(_) => Err(stopped(tokens)),
+    }
+}

@@ -1,5 +1,0 @@
-use Rattle.awk_tree.proofs.Views.{view_apply}
-use Rattle.awk_parse.proofs.node.application.Goals as goal
-
-pub returns : goal.returns
-returns c = view_apply c.args.function c.args.arguments

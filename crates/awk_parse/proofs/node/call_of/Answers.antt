@@ -1,5 +1,0 @@
-use Rattle.awk_tree.proofs.Views.{view_call}
-use Rattle.awk_parse.proofs.node.call_of.Goals as goal
-
-pub returns : goal.returns
-returns c = view_call c.args.function c.args.arguments

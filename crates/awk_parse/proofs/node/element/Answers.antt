@@ -1,5 +1,0 @@
-use Rattle.awk_tree.proofs.Views.{view_element}
-use Rattle.awk_parse.proofs.node.element.Goals as goal
-
-pub returns : goal.returns
-returns c = view_element c.args.array c.args.subscripts

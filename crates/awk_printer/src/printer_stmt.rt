@@ -1,0 +1,221 @@
+//! From a statement to its tokens.
+
+ghost use Rattle.std.specs.Prelude.{◌≡◌, [], ◌∷◌, ◌++◌, OnOk};
+ghost use Rattle.awk_grammar.specs.Token.{Open, Close, Semicolon};
+ghost use Rattle.awk_grammar.specs.Tree.{print};
+ghost use Rattle.awk_grammar.specs.Stmt.{print_args, print_target, print_plain, print_maybe, print_maybe_plain, printing_token, jump_token, leaving_token, print_stmt, print_stmts};
+ghost use Rattle.awk_grammar.specs.Item.{print_body};
+ghost use Rattle.awk_grammar.specs.Lexeme.{lexemes};
+ghost use Rattle.awk_grammar.specs.View.{view};
+ghost use Rattle.awk_grammar.specs.ViewStmt.{view_word, view_args, view_target, view_simple, view_maybe, view_maybe_simple, view_jump, view_leaving, view_stmt, view_stmts};
+
+use crate::printer::{mark, push_element, push_expr, push_first, push_list, put, word};
+use awk_grammar::{
+    Expr, Jump, Leaving, PrintArgs, PrintTarget, PrintWord, Printed, SimpleStmt, Stmt,
+};
+use awk_tokens::{Keyword, Punctuator};
+use std::alloc::AllocError;
+
+fn push_args<'a>(out: &mut Vec<Printed<'a>>, args: &'a PrintArgs) -> Result<(), AllocError>
+    ensures { OnOk result (lexemes out.new.items ≡ lexemes out.old.items ++ print_args (view_args args.now)) }
+{
+    match args {
+        PrintArgs::Bare => Ok(()),
+        PrintArgs::Listed(es) => push_list(out, es),
+        PrintArgs::Enclosed(first, others) => {
+            push_first(out, first)?;
+            push_list(out, others)?;
+            mark(out, Punctuator::CloseParen)
+        }
+    }
+}
+
+fn push_target<'a>(out: &mut Vec<Printed<'a>>, target: &'a PrintTarget) -> Result<(), AllocError>
+    ensures { OnOk result (lexemes out.new.items ≡ lexemes out.old.items ++ print_target (view_target target.now)) }
+{
+    match target {
+        PrintTarget::Output => Ok(()),
+        PrintTarget::File(e) => {
+            mark(out, Punctuator::Greater)?;
+            push_expr(out, e)
+        }
+        PrintTarget::FileEnd(e) => {
+            mark(out, Punctuator::Append)?;
+            push_expr(out, e)
+        }
+    }
+}
+
+fn push_print_word(out: &mut Vec<Printed>, print: PrintWord) -> Result<(), AllocError>
+    ensures { OnOk result (lexemes out.new.items ≡ lexemes out.old.items ++ printing_token (view_word print) ∷ []) }
+{
+    match print {
+        PrintWord::Print => word(out, Keyword::Print),
+        PrintWord::Printf => word(out, Keyword::Printf),
+    }
+}
+
+fn push_simple<'a>(out: &mut Vec<Printed<'a>>, simple: &'a SimpleStmt) -> Result<(), AllocError>
+    ensures { OnOk result (lexemes out.new.items ≡ lexemes out.old.items ++ print_plain (view_simple simple.now)) }
+{
+    match simple {
+        SimpleStmt::Eval(e) => push_expr(out, e),
+        SimpleStmt::Print(print, args, target) => {
+            push_print_word(out, *print)?;
+            push_args(out, args)?;
+            push_target(out, target)
+        }
+        SimpleStmt::Delete(name, subscripts) => {
+            word(out, Keyword::Delete)?;
+            push_element(out, name, subscripts)
+        }
+    }
+}
+
+fn push_optional<'a>(out: &mut Vec<Printed<'a>>, e: &'a Option<Expr>) -> Result<(), AllocError>
+    ensures { OnOk result (lexemes out.new.items ≡ lexemes out.old.items ++ print_maybe (view_maybe e.now)) }
+{
+    match e {
+        None => Ok(()),
+        Some(e) => push_expr(out, e),
+    }
+}
+
+fn push_optional_simple<'a>(
+    out: &mut Vec<Printed<'a>>,
+    simple: &'a Option<SimpleStmt>,
+) -> Result<(), AllocError>
+    ensures { OnOk result (lexemes out.new.items ≡ lexemes out.old.items ++ print_maybe_plain (view_maybe_simple simple.now)) }
+{
+    match simple {
+        None => Ok(()),
+        Some(simple) => push_simple(out, simple),
+    }
+}
+
+/// Adds a condition in parentheses.
+fn push_condition<'a>(out: &mut Vec<Printed<'a>>, e: &'a Expr) -> Result<(), AllocError>
+    ensures { OnOk result (lexemes out.new.items ≡ lexemes out.old.items ++ (Open ∷ (print (view e.now) ++ Close ∷ []))) }
+{
+    mark(out, Punctuator::OpenParen)?;
+    push_expr(out, e)?;
+    mark(out, Punctuator::CloseParen)
+}
+
+/// Adds the parentheses behind `for` and what stands in them.
+fn push_for_head<'a>(
+    out: &mut Vec<Printed<'a>>,
+    first: &'a Option<SimpleStmt>,
+    condition: &'a Option<Expr>,
+    next: &'a Option<SimpleStmt>,
+) -> Result<(), AllocError>
+    ensures { OnOk result (lexemes out.new.items ≡ lexemes out.old.items ++ (Open ∷ (print_maybe_plain (view_maybe_simple first.now) ++ (Semicolon ∷ (print_maybe (view_maybe condition.now) ++ (Semicolon ∷ (print_maybe_plain (view_maybe_simple next.now) ++ Close ∷ []))))))) }
+{
+    mark(out, Punctuator::OpenParen)?;
+    push_optional_simple(out, first)?;
+    mark(out, Punctuator::Semicolon)?;
+    push_optional(out, condition)?;
+    mark(out, Punctuator::Semicolon)?;
+    push_optional_simple(out, next)?;
+    mark(out, Punctuator::CloseParen)
+}
+
+fn push_jump(out: &mut Vec<Printed>, jump: Jump) -> Result<(), AllocError>
+    ensures { OnOk result (lexemes out.new.items ≡ lexemes out.old.items ++ jump_token (view_jump jump) ∷ []) }
+{
+    match jump {
+        Jump::Break => word(out, Keyword::Break),
+        Jump::Continue => word(out, Keyword::Continue),
+        Jump::Next => word(out, Keyword::Next),
+    }
+}
+
+fn push_leaving(out: &mut Vec<Printed>, leaving: Leaving) -> Result<(), AllocError>
+    ensures { OnOk result (lexemes out.new.items ≡ lexemes out.old.items ++ leaving_token (view_leaving leaving) ∷ []) }
+{
+    match leaving {
+        Leaving::Exit => word(out, Keyword::Exit),
+        Leaving::Return => word(out, Keyword::Return),
+    }
+}
+
+/// Adds the tokens of a statement.
+#[cycle(printer_stmt)]
+fn push_stmt<'a>(out: &mut Vec<Printed<'a>>, s: &'a Stmt) -> Result<(), AllocError>
+    ensures { OnOk result (lexemes out.new.items ≡ lexemes out.old.items ++ print_stmt (view_stmt s.now)) }
+{
+    match s {
+        Stmt::Block(body) => push_block(out, body),
+        Stmt::Empty => mark(out, Punctuator::Semicolon),
+        Stmt::Simple(simple) => {
+            push_simple(out, simple)?;
+            mark(out, Punctuator::Semicolon)
+        }
+        Stmt::If(c, s) => {
+            word(out, Keyword::If)?;
+            push_condition(out, c)?;
+            push_stmt(out, s)
+        }
+        Stmt::IfElse(c, s, t) => {
+            word(out, Keyword::If)?;
+            push_condition(out, c)?;
+            push_stmt(out, s)?;
+            word(out, Keyword::Else)?;
+            push_stmt(out, t)
+        }
+        Stmt::While(c, s) => {
+            word(out, Keyword::While)?;
+            push_condition(out, c)?;
+            push_stmt(out, s)
+        }
+        Stmt::Do(s, c) => {
+            word(out, Keyword::Do)?;
+            push_stmt(out, s)?;
+            word(out, Keyword::While)?;
+            push_condition(out, c)
+        }
+        Stmt::For(first, c, next, s) => {
+            word(out, Keyword::For)?;
+            push_for_head(out, first, c, next)?;
+            push_stmt(out, s)
+        }
+        Stmt::ForIn(key, array, s) => {
+            word(out, Keyword::For)?;
+            mark(out, Punctuator::OpenParen)?;
+            put(out, Printed::Name(key))?;
+            word(out, Keyword::In)?;
+            put(out, Printed::Name(array))?;
+            mark(out, Punctuator::CloseParen)?;
+            push_stmt(out, s)
+        }
+        Stmt::Jump(jump) => {
+            push_jump(out, *jump)?;
+            mark(out, Punctuator::Semicolon)
+        }
+        Stmt::Leave(leaving, e) => {
+            push_leaving(out, *leaving)?;
+            push_optional(out, e)?;
+            mark(out, Punctuator::Semicolon)
+        }
+    }
+}
+
+/// Adds statements in braces.
+#[cycle(printer_stmt)]
+pub fn push_block<'a>(out: &mut Vec<Printed<'a>>, body: &'a [Stmt]) -> Result<(), AllocError>
+    ensures { OnOk result (lexemes out.new.items ≡ lexemes out.old.items ++ print_body (view_stmts body.now)) }
+{
+    mark(out, Punctuator::OpenBrace)?;
+    push_stmts(out, body)?;
+    mark(out, Punctuator::CloseBrace)
+}
+
+#[cycle(printer_stmt)]
+fn push_stmts<'a>(out: &mut Vec<Printed<'a>>, body: &'a [Stmt]) -> Result<(), AllocError>
+    ensures { OnOk result (lexemes out.new.items ≡ lexemes out.old.items ++ print_stmts (view_stmts body.now)) }
+{
+    for s in body {
+        push_stmt(out, s)?;
+    }
+    Ok(())
+}

@@ -1,0 +1,123 @@
+-- Numbers of variables, as variables are added.
+use Rattle.std.proofs.Common.{◌≡◌, ℕ, zero, suc, Bool, true, false, List, [], ◌∷◌, ◌++◌, map, Option, Some, None, refl, ap, sym, subst, ◌∙◌, append_assoc, append-nil, if◌then◌else◌}
+use Rattle.std.specs.List.{slice_get, list_any}
+use Rattle.std.proofs.lemmas.List.{map-append}
+use Rattle.awk_resolve.specs.Marks.{Kind, Mark, Defined, Parameter, Used, Called, Computed, Given}
+use Rattle.awk_resolve.specs.Kinds.{Key, Head, same_key, same_kind, with_key, with_maybe, with_mark, with_marks, used, members, specials_of, Whole, pairs, key_in, parameter_at, pair_of}
+use Rattle.std.specs.Borrow.{Bor}
+use Rattle.awk_resolve.specs.ViewNames.{names}
+use Rattle.awk_resolve.specs.Numbered.{AreNumbers, ArePairs, both_at, both_some, one_if, all_if}
+
+get_append : (ks ls : List Key) (n : ℕ) (k : Key) → slice_get ks n ≡ Some k → slice_get (ks ++ ls) n ≡ Some k
+get_append [] ls n k h = absurd (cc)
+get_append (x ∷ ks) ls zero k h = h
+get_append (x ∷ ks) ls (suc n) k h = get_append ks ls n k h
+
+get_by : (b : Bool) (ks : List Key) (l : Key) (n : ℕ) (k : Key) → slice_get ks n ≡ Some k → slice_get (if b then ks else ks ++ l ∷ []) n ≡ Some k
+get_by true ks l n k h = h
+get_by false ks l n k h = get_append ks (l ∷ []) n k h
+
+get_with_key : (ks : List Key) (l : Key) (n : ℕ) (k : Key) → slice_get ks n ≡ Some k → slice_get (with_key ks l) n ≡ Some k
+get_with_key ks l n k h = get_by (list_any (same_key l) ks) ks l n k h
+
+cons_both : {A : Type 0} (x y : A) (xs ys : List A) → x ≡ y → xs ≡ ys → (x ∷ xs) ≡ (y ∷ ys)
+cons_both x y xs ys e f = cc
+
+-- numbers stay those of their variables as others are added
+pub numbers_stay : (keys : List Key) (l : Key) (ns : List ℕ) (ks : List Key) → AreNumbers keys ns ks → AreNumbers (with_key keys l) ns ks
+numbers_stay keys l [] [] h = refl
+numbers_stay keys l [] (k ∷ ks) h = absurd (cc)
+numbers_stay keys l (n ∷ ns) [] h = absurd (cc)
+numbers_stay keys l (n ∷ ns) (k ∷ ks) h =
+    let head : slice_get keys n ≡ Some k = cc in
+    let tail : map (slice_get keys) ns ≡ map Some ks = cc in
+    cons_both (slice_get (with_key keys l) n) (Some k) (map (slice_get (with_key keys l)) ns) (map Some ks) (get_with_key keys l n k head) (numbers_stay keys l ns ks tail)
+
+pub one_more_number : (keys : List Key) (ns : List ℕ) (n : ℕ) (ks : List Key) (k : Key) → slice_get keys n ≡ Some k → AreNumbers keys ns ks → AreNumbers keys (ns ++ n ∷ []) (ks ++ k ∷ [])
+one_more_number keys ns n ks k at h =
+    map-append (slice_get keys) ns (n ∷ []) ∙ ap (λ (u : List (Option Key)). u ++ slice_get keys n ∷ []) h ∙ ap (λ (u : Option Key). map Some ks ++ u ∷ []) at ∙ sym (map-append Some ks (k ∷ []))
+
+pub pairs_stay : (keys : List Key) (l : Key) (ps : List (ℕ × ℕ)) (qs : List (Key × Key)) → ArePairs keys ps qs → ArePairs (with_key keys l) ps qs
+pairs_stay keys l [] [] h = refl
+pairs_stay keys l [] (q ∷ qs) h = absurd (cc)
+pairs_stay keys l (p ∷ ps) [] h = absurd (cc)
+pairs_stay keys l (p ∷ ps) (q ∷ qs) h =
+    let head : both_at keys p ≡ both_some q = cc in
+    let tail : map (both_at keys) ps ≡ map both_some qs = cc in
+    let first = get_with_key keys l p.0 q.0 (ap (λ (u : Option Key × Option Key). u.0) head) in
+    let second = get_with_key keys l p.1 q.1 (ap (λ (u : Option Key × Option Key). u.1) head) in
+    cons_both (both_at (with_key keys l) p) (both_some q) (map (both_at (with_key keys l)) ps) (map both_some qs) (λ i. (first i, second i)) (pairs_stay keys l ps qs tail)
+
+pub one_more_pair : (keys : List Key) (ps : List (ℕ × ℕ)) (n m : ℕ) (qs : List (Key × Key)) (k l : Key) → slice_get keys n ≡ Some k → slice_get keys m ≡ Some l → ArePairs keys ps qs → ArePairs keys (ps ++ (n, m) ∷ []) (qs ++ (k, l) ∷ [])
+one_more_pair keys ps n m qs k l f g h =
+    map-append (both_at keys) ps ((n, m) ∷ []) ∙ ap (λ (u : List (Option Key × Option Key)). u ++ both_at keys (n, m) ∷ []) h ∙ (λ i. map both_some qs ++ (f i, g i) ∷ []) ∙ sym (map-append both_some qs ((k, l) ∷ []))
+
+-- Marks, one after another.
+
+pub used_append : (kind : Kind) (hs : List Head) (ms ns : List Mark) → used kind hs (ms ++ ns) ≡ used kind hs ms ++ used kind hs ns
+used_append kind hs [] ns = refl
+used_append kind hs (Defined f ∷ ms) ns = used_append kind hs ms ns
+used_append kind hs (Parameter f x ∷ ms) ns = used_append kind hs ms ns
+used_append kind hs (Used k place x ∷ ms) ns = by (same_kind kind k) (used_append kind hs ms ns)
+  where
+    by : (b : Bool) → used kind hs (ms ++ ns) ≡ used kind hs ms ++ used kind hs ns → (if b then key_in hs place x ∷ used kind hs (ms ++ ns) else used kind hs (ms ++ ns)) ≡ (if b then key_in hs place x ∷ used kind hs ms else used kind hs ms) ++ used kind hs ns
+    by true e = ap (λ (u : List Key). key_in hs place x ∷ u) e
+    by false e = e
+used_append kind hs (Called f n ∷ ms) ns = used_append kind hs ms ns
+used_append kind hs (Computed f i ∷ ms) ns = used_append kind hs ms ns
+used_append kind hs (Given f i place x ∷ ms) ns = used_append kind hs ms ns
+
+pub members_append : (kind : Kind) (hs : List Head) (ms ns : List Mark) → members kind hs (ms ++ ns) ≡ members kind hs ms ++ used kind hs ns
+members_append kind hs ms ns = ap (λ (u : List Key). map Whole (specials_of kind) ++ u) (used_append kind hs ms ns) ∙ sym (append_assoc (map Whole (specials_of kind)) (used kind hs ms) (used kind hs ns))
+
+pub pairs_append : (hs : List Head) (ms ns : List Mark) → pairs hs (ms ++ ns) ≡ pairs hs ms ++ pairs hs ns
+pairs_append hs [] ns = refl
+pairs_append hs (Defined f ∷ ms) ns = pairs_append hs ms ns
+pairs_append hs (Parameter f x ∷ ms) ns = pairs_append hs ms ns
+pairs_append hs (Used k place x ∷ ms) ns = pairs_append hs ms ns
+pairs_append hs (Called f n ∷ ms) ns = pairs_append hs ms ns
+pairs_append hs (Computed f i ∷ ms) ns = pairs_append hs ms ns
+pairs_append hs (Given f i place x ∷ ms) ns = let q = pair_of (key_in hs place x) (parameter_at hs f i) in ap (λ (u : List (Key × Key)). q ++ u) (pairs_append hs ms ns) ∙ sym (append_assoc q (pairs hs ms) (pairs hs ns))
+
+pub marks_append : (hs : List Head) (ks : List Key) (ms ns : List Mark) → with_marks hs ks (ms ++ ns) ≡ with_marks hs (with_marks hs ks ms) ns
+marks_append hs ks [] ns = refl
+marks_append hs ks (m ∷ ms) ns = marks_append hs (with_mark hs ks m) ms ns
+
+-- The steps of the code.
+
+pub number_noted : (old new : List Key) (k : Key) (n : ℕ) (ns ms : List ℕ) (ks : List Key) → new ≡ with_key old k → slice_get new n ≡ Some k → ms ≡ ns ++ n ∷ [] → AreNumbers old ns ks → AreNumbers new ms (ks ++ k ∷ [])
+number_noted old new k n ns ms ks e at f h =
+    let h' : AreNumbers new ns ks = subst (λ (u : List Key). AreNumbers u ns ks) (sym e) (numbers_stay old k ns ks h) in
+    subst (λ (u : List ℕ). AreNumbers new u (ks ++ k ∷ [])) (sym f) (one_more_number new ns n ks k at h')
+
+pub numbers_kept : (old new : List Key) (k : Key) (ns ms : List ℕ) (ks : List Key) → new ≡ with_key old k → ms ≡ ns → AreNumbers old ns ks → AreNumbers new ms (ks ++ [])
+numbers_kept old new k ns ms ks e f h =
+    let h' : AreNumbers new ns ks = subst (λ (u : List Key). AreNumbers u ns ks) (sym e) (numbers_stay old k ns ks h) in
+    ap (map (slice_get new)) f ∙ h' ∙ ap (map Some) (sym (append-nil ks))
+
+pub pairs_kept : (old new : List Key) (k : Key) (ps rs : List (ℕ × ℕ)) (qs : List (Key × Key)) → new ≡ with_key old k → rs ≡ ps → ArePairs old ps qs → ArePairs new rs (qs ++ [])
+pairs_kept old new k ps rs qs e f h =
+    let h' : ArePairs new ps qs = subst (λ (u : List Key). ArePairs u ps qs) (sym e) (pairs_stay old k ps qs h) in
+    ap (map (both_at new)) f ∙ h' ∙ ap (map both_some) (sym (append-nil qs))
+
+pub numbers_given : (old new : List Key) (k : Key) (p : Option Key) (ns ms : List ℕ) (ks : List Key) → new ≡ with_maybe (with_key old k) p → ms ≡ ns → AreNumbers old ns ks → AreNumbers new ms (ks ++ [])
+numbers_given old new k None ns ms ks e f h = numbers_kept old new k ns ms ks e f h
+numbers_given old new k (Some p) ns ms ks e f h = numbers_kept (with_key old k) new p ns ms ks e f (numbers_stay old k ns ks h)
+
+pub pair_noted : (old mid new : List Key) (k l : Key) (n m : ℕ) (ps rs : List (ℕ × ℕ)) (qs : List (Key × Key)) → mid ≡ with_key old k → slice_get mid n ≡ Some k → new ≡ with_key mid l → slice_get new m ≡ Some l → rs ≡ ps ++ (n, m) ∷ []
+    → ArePairs old ps qs → ArePairs new rs (qs ++ (k, l) ∷ [])
+pair_noted old mid new k l n m ps rs qs e at f there g h =
+    let h1 : ArePairs mid ps qs = subst (λ (u : List Key). ArePairs u ps qs) (sym e) (pairs_stay old k ps qs h) in
+    let h2 : ArePairs new ps qs = subst (λ (u : List Key). ArePairs u ps qs) (sym f) (pairs_stay mid l ps qs h1) in
+    let at' : slice_get new n ≡ Some k = subst (λ (u : List Key). slice_get u n ≡ Some k) (sym f) (get_with_key mid l n k at) in
+    ap (map (both_at new)) g ∙ one_more_pair new ps n m qs k l at' there h2
+
+all_more : (b : Bool) (xs : List Key) (x : Key) → all_if b (xs ++ x ∷ []) ≡ all_if b xs ++ one_if b x
+all_more true xs x = refl
+all_more false xs x = refl
+
+-- one more name of those that are noted
+pub all_noted : (b : Bool) (ks : List Key) (xs ys : List (Bor (List ℕ))) (x : Bor (List ℕ)) → ys ≡ xs ++ x ∷ [] → (ks ++ all_if b (map Whole (names xs))) ++ one_if b (Whole x.now) ≡ ks ++ all_if b (map Whole (names ys))
+all_noted b ks xs ys x e =
+    append_assoc ks (all_if b (map Whole (names xs))) (one_if b (Whole x.now))
+    ∙ ap (λ (u : List Key). ks ++ u) (sym (all_more b (map Whole (names xs)) (Whole x.now)) ∙ ap (all_if b) (sym (ap (λ (u : List (Bor (List ℕ))). map Whole (names u)) e ∙ ap (map Whole) (map-append (λ (n : Bor (List ℕ)). n.now) xs (x ∷ [])) ∙ map-append Whole (names xs) (x.now ∷ []))))

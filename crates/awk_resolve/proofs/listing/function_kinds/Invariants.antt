@@ -1,0 +1,11 @@
+use Rattle.std.proofs.Common.{◌≡◌, ◌++◌, drop}
+use Rattle.awk_resolve.specs.Kinds.{functions_by}
+use Rattle.awk_resolve.specs.Marked.{is_marked_in}
+use Rattle.awk_resolve.specs.ViewNames.{view_heads, view_variables}
+use Rattle.awk_resolve.specs.ViewResolved.{view_functions}
+use Rattle.awk_resolve.proofs.listing.function_kinds.Given as goal
+
+abbrev pub invariant-loop-head : goal.invariant-loop-head
+invariant-loop-head l =
+    view_functions l.found.items ++ functions_by (is_marked_in (view_variables l.kinds.variables.keys) l.kinds.arrays.items) (view_heads (drop l.head-index l.heads))
+    ≡ functions_by (is_marked_in (view_variables l.kinds.variables.keys) l.kinds.arrays.items) (view_heads l.heads)

@@ -1,0 +1,11 @@
+use Rattle.std.proofs.Common.{◌≡◌, ◌++◌, drop}
+use Rattle.awk_resolve.specs.Kinds.{globals_by}
+use Rattle.awk_resolve.specs.Marked.{is_marked_in}
+use Rattle.awk_resolve.specs.ViewNames.{view_variables}
+use Rattle.awk_resolve.specs.ViewResolved.{view_name_kinds}
+use Rattle.awk_resolve.proofs.listing.global_kinds.Given as goal
+
+abbrev pub invariant-loop-variable : goal.invariant-loop-variable
+invariant-loop-variable l =
+    view_name_kinds l.found.items ++ globals_by (is_marked_in (view_variables l.kinds.variables.keys) l.kinds.arrays.items) (view_variables (drop l.variable-index l.kinds.variables.keys))
+    ≡ globals_by (is_marked_in (view_variables l.kinds.variables.keys) l.kinds.arrays.items) (view_variables l.kinds.variables.keys)

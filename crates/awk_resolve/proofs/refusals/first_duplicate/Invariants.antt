@@ -1,0 +1,12 @@
+use Rattle.std.proofs.Common.{◌≡◌, [], take, drop}
+use Rattle.awk_resolve.specs.Kinds.{defined, declared, first_duplicate}
+use Rattle.awk_resolve.specs.View.{view_marks}
+use Rattle.awk_resolve.specs.ViewNames.{names, view_heads, view_variables}
+use Rattle.awk_resolve.proofs.refusals.first_duplicate.Given as goal
+
+abbrev pub invariant-loop-mark : goal.invariant-loop-mark
+invariant-loop-mark l = record {
+  functions : names l.seen.functions.keys ≡ defined (view_marks (take l.mark-index l.marks));
+  parameters : view_variables l.seen.parameters.keys ≡ declared (view_marks (take l.mark-index l.marks));
+  rest : first_duplicate (view_heads l.scopes.heads.items) (view_marks (take l.mark-index l.marks)) (view_marks (drop l.mark-index l.marks)) ≡ first_duplicate (view_heads l.scopes.heads.items) [] (view_marks l.marks);
+}

@@ -1,0 +1,8 @@
+use Rattle.std.proofs.Common.{◌≡◌, ◌++◌, drop}
+use Rattle.awk_grammar.specs.ViewStmt.{view_stmts}
+use Rattle.awk_resolve.specs.Marks.{stmts_marks}
+use Rattle.awk_resolve.specs.View.{view_marks, view_place}
+use Rattle.awk_resolve.proofs.walk_stmt.+walk_stmt.Given as goal
+
+abbrev pub invariant-push_stmts-loop-s : goal.invariant-push_stmts-loop-s
+invariant-push_stmts-loop-s l = view_marks l.out.items ++ stmts_marks (view_place l.place) (view_stmts (drop l.s-index l.body)) ≡ view_marks l.fn.out.items ++ stmts_marks (view_place l.place) (view_stmts l.body)

@@ -1,0 +1,9 @@
+pub mod Marks
+pub mod Least
+pub mod Kinds
+pub mod Rows
+pub mod View
+pub mod ViewNames
+pub mod Marked
+pub mod Numbered
+pub mod ViewResolved

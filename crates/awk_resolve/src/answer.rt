@@ -1,0 +1,133 @@
+//! From a script to the kinds of its names.
+
+ghost use Rattle.std.specs.Prelude.{◌≡◌, List, None, IfOk, IfErr, OnOk};
+ghost use Rattle.std.specs.Option.{option_map};
+ghost use Rattle.awk_grammar.specs.Item.{Item};
+ghost use Rattle.awk_grammar.specs.ViewStmt.{view_script};
+ghost use Rattle.awk_resolve.specs.Marks.{Kind, Array, script_marks};
+ghost use Rattle.awk_resolve.specs.Least.{IsLeast};
+ghost use Rattle.awk_resolve.specs.Kinds.{KindClash, clash, first, functions_by, globals_by, heads, is_used_as, members, name_refusal, pairs, refusal, refusal_by, resolved, variables};
+ghost use Rattle.awk_resolve.specs.Marked.{is_marked_in};
+ghost use Rattle.awk_resolve.specs.View.{view_marks};
+ghost use Rattle.awk_resolve.specs.ViewNames.{view_heads, view_variables};
+ghost use Rattle.awk_resolve.specs.ViewResolved.{IsCause, view_functions, view_name_kinds, view_resolved};
+
+use crate::fault::{Name, ResolveFault};
+use crate::kinds::{Kinds, kinds_of};
+use crate::listing::{FunctionNames, NameKind, function_kinds, global_kinds};
+use crate::mark::Mark;
+use crate::refusals::{first_duplicate, first_excess, first_unknown, too_many};
+use crate::scopes::Scopes;
+use crate::walk_stmt::marks_of;
+use awk_grammar::Script;
+use std::alloc::{AllocError, Global};
+
+/// A script with the kinds of its names.
+#[derive(Drop)]
+pub struct Resolved<'a> {
+    pub script: &'a Script,
+    /// The functions in the order of the script.
+    pub functions: Vec<FunctionNames<'a>>,
+    /// The variables that are neither special nor parameters, in the order of their first places.
+    pub globals: Vec<NameKind<'a>>,
+}
+
+/// Refuses a script for its names, kinds aside.
+fn check_names<'a>(
+    alloc: Global,
+    scopes: &Scopes<'a>,
+    marks: &[Mark<'a>],
+) -> Result<(), ResolveFault>
+    ensures fine { OnOk result (name_refusal (view_heads scopes.now.heads.items) (view_marks marks.now) ≡ None) }
+    ensures refused { IfErr result (λ fault. IsCause fault (name_refusal (view_heads scopes.now.heads.items) (view_marks marks.now))) }
+{
+    if let Some(name) = too_many(&scopes.heads) {
+        return Err(ResolveFault::TooMany(Name::new(alloc, name)?));
+    }
+    if let Some(name) = first_duplicate(alloc, scopes, marks)? {
+        return Err(ResolveFault::DuplicateName(Name::new(alloc, name)?));
+    }
+    if let Some(name) = first_unknown(scopes, marks) {
+        return Err(ResolveFault::UnknownFunction(Name::new(alloc, name)?));
+    }
+    if let Some(name) = first_excess(scopes, marks) {
+        return Err(ResolveFault::ArgCount(Name::new(alloc, name)?));
+    }
+    Ok(())
+}
+
+/// Refuses a script for a name of both kinds.
+fn check_kinds<'a>(
+    alloc: Global,
+    scopes: &Scopes<'a>,
+    marks: &[Mark<'a>],
+    kinds: &Kinds<'a>,
+) -> Result<(), ResolveFault>
+    ensures fine { OnOk result (option_map KindClash (first (clash (is_marked_in (view_variables kinds.now.variables.keys) kinds.now.arrays.items) (is_marked_in (view_variables kinds.now.variables.keys) kinds.now.scalars.items) (view_heads scopes.now.heads.items)) (view_marks marks.now)) ≡ None) }
+    ensures refused { IfErr result (λ fault. IsCause fault (option_map KindClash (first (clash (is_marked_in (view_variables kinds.now.variables.keys) kinds.now.arrays.items) (is_marked_in (view_variables kinds.now.variables.keys) kinds.now.scalars.items) (view_heads scopes.now.heads.items)) (view_marks marks.now)))) }
+{
+    if let Some(name) = kinds.first_clash(scopes, marks) {
+        return Err(ResolveFault::KindClash(Name::new(alloc, name)?));
+    }
+    Ok(())
+}
+
+/// The kinds of the variables of a script that is not refused.
+fn checked<'a>(
+    alloc: Global,
+    scopes: &Scopes<'a>,
+    marks: &[Mark<'a>],
+) -> Result<Kinds<'a>, ResolveFault>
+    ensures fine { OnOk result (refusal_by (view_heads scopes.now.heads.items) (view_marks marks.now) ≡ None) }
+    ensures variables { IfOk result (λ kinds. view_variables kinds.variables.keys ≡ variables (view_heads scopes.now.heads.items) (view_marks marks.now)) }
+    ensures arrays { IfOk result (λ kinds. is_marked_in (view_variables kinds.variables.keys) kinds.arrays.items ≡ is_used_as Array (view_heads scopes.now.heads.items) (view_marks marks.now)) }
+    ensures refused { IfErr result (λ fault. IsCause fault (refusal_by (view_heads scopes.now.heads.items) (view_marks marks.now))) }
+{
+    check_names(alloc, scopes, marks)?;
+    let kinds = kinds_of(alloc, scopes, marks)?;
+    check_kinds(alloc, scopes, marks, &kinds)?;
+    Ok(kinds)
+}
+
+/// The names with their kinds.
+fn listed<'a>(
+    alloc: Global,
+    script: &'a Script,
+    scopes: &Scopes<'a>,
+    kinds: &Kinds<'a>,
+) -> Result<Resolved<'a>, AllocError>
+    ensures functions { IfOk result (λ names. view_functions names.functions.items ≡ functions_by (is_marked_in (view_variables kinds.now.variables.keys) kinds.now.arrays.items) (view_heads scopes.now.heads.items)) }
+    ensures globals { IfOk result (λ names. view_name_kinds names.globals.items ≡ globals_by (is_marked_in (view_variables kinds.now.variables.keys) kinds.now.arrays.items) (view_variables kinds.now.variables.keys)) }
+    ensures script { IfOk result (λ names. names.script.now ≡ script.now) }
+{
+    Ok(Resolved {
+        script,
+        functions: function_kinds(alloc, kinds, &scopes.heads)?,
+        globals: global_kinds(alloc, kinds)?,
+    })
+}
+
+/// Gives each name of a script its kind (POSIX.1-2017 awk, "User-Defined Functions"): an array if it is used as one or given for a parameter that is
+/// one, a scalar otherwise. It borrows the script.
+///
+/// # Errors
+///
+/// The first of these that there is, each with the name at the first place in the script: [`ResolveFault::TooMany`], [`ResolveFault::DuplicateName`],
+/// [`ResolveFault::UnknownFunction`], [`ResolveFault::ArgCount`], [`ResolveFault::KindClash`]. [`ResolveFault::NoMemory`] where there is no memory.
+pub fn resolve(alloc: Global, script: &Script) -> Result<Resolved<'_>, ResolveFault>
+    ensures fine { OnOk result (refusal (view_script script.now) ≡ None) }
+    ensures kinds { IfOk result (λ names. view_resolved names ≡ resolved (view_script script.now)) }
+    ensures script { IfOk result (λ names. names.script.now ≡ script.now) }
+    ensures refused { IfErr result (λ fault. IsCause fault (refusal (view_script script.now))) }
+{
+    let marks = marks_of(alloc, script)?;
+    let scopes = Scopes::new(alloc, script)?;
+    let kinds = checked(alloc, &scopes, &marks)?;
+    Ok(listed(alloc, script, &scopes, &kinds)?)
+}
+
+/// The names used as arrays, and those used as scalars, are the least sets: they have the names used so where they stand, and a bare name given for a
+/// parameter that they have, and they are within every set that does.
+pub fn kinds_are_least()
+    ensures { (kind : Kind) (script : List Item) → IsLeast (is_used_as kind (heads script) (script_marks script)) (members kind (heads script) (script_marks script)) (pairs (heads script) (script_marks script)) }
+{}

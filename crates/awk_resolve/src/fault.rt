@@ -1,0 +1,66 @@
+//! Names that stand by themselves, and the refusals that carry them.
+
+ghost use Rattle.std.specs.Prelude.{◌≡◌, IfOk};
+
+use std::alloc::{AllocError, Global};
+use std::marker::Model;
+
+/// A name of a script. Contracts see its bytes.
+#[derive(Debug, Drop)]
+pub struct Name {
+    bytes: Vec<u8>,
+}
+
+impl Model for Name {
+    ghost use Rattle.std.specs.Prelude.{ℕ, List};
+
+    ghost Value = { List ℕ };
+
+    ghost view = { λ n. n.bytes.items };
+}
+
+impl Name {
+    /// A name of these bytes.
+    pub fn new(alloc: Global, bytes: &[u8]) -> Result<Self, AllocError>
+        ensures { IfOk result (λ name. name ≡ bytes.now) }
+    {
+        let mut own = Vec::new(alloc);
+        own.extend_from_slice(bytes)?;
+        Ok(Name { bytes: own })
+    }
+
+    /// Its bytes.
+    pub fn as_slice(&self) -> &[u8]
+        ensures { result.now ≡ self.now }
+    {
+        self.bytes.as_slice()
+    }
+}
+
+/// Why a script is refused for its names. Each refusal is for the first place in the script, and comes only where none before it in this list does.
+#[derive(Debug, Drop)]
+pub enum ResolveFault {
+    /// A function after 1,000 others, or one of more than 100 parameters.
+    TooMany(Name),
+    /// A name of two functions or of two parameters of one function; a function or parameter with a special variable's name;
+    /// a parameter or variable with a function's name.
+    DuplicateName(Name),
+    /// A call of a function that the script lacks.
+    UnknownFunction(Name),
+    /// A call with more arguments than the function has parameters.
+    ArgCount(Name),
+    /// A name used as an array and as a scalar, or a parameter that is an array where the argument is no bare name.
+    KindClash(Name),
+    NoMemory,
+}
+
+impl From<AllocError> for ResolveFault {
+    ghost use Rattle.std.specs.Prelude.{◌≡◌};
+    ghost use Rattle.awk_resolve.specs.declared.fault.ResolveFault.TheVariants.{NoMemory};
+
+    ghost from_gives = { λ _ e. e ≡ NoMemory };
+
+    fn from(_error: AllocError) -> Self {
+        ResolveFault::NoMemory
+    }
+}

@@ -1,0 +1,138 @@
+//! The kinds of a script's variables.
+
+ghost use Rattle.std.specs.Prelude.{◌≡◌, ◌≤◌, length, IfOk};
+ghost use Rattle.awk_resolve.specs.Marks.{Array, Scalar};
+ghost use Rattle.awk_resolve.specs.Kinds.{name_of, variables, is_used_as, clashing, needing, clash, first};
+ghost use Rattle.awk_resolve.specs.Marked.{is_marked_in};
+ghost use Rattle.awk_resolve.specs.View.{view_mark, view_marks, view_place};
+ghost use Rattle.awk_resolve.specs.ViewNames.{view_heads, view_variable, view_variables, view_maybe_variable};
+
+use crate::closure::closure;
+use crate::mark::Mark;
+use crate::scopes::{Scopes, Variable};
+use crate::uses::uses_of;
+use indexmap::IndexSet;
+use std::alloc::{AllocError, Global};
+
+/// The variables of a script, and for each whether it is used as an array and as a scalar.
+#[derive(Drop)]
+pub(crate) struct Kinds<'a> {
+    pub variables: IndexSet<Variable<'a>>,
+    pub arrays: Vec<bool>,
+    pub scalars: Vec<bool>,
+    ghost arrays_known: { length arrays.items ≡ length variables.keys },
+    ghost scalars_known: { length scalars.items ≡ length variables.keys },
+}
+
+/// Whether a variable is marked.
+fn is_marked_in<'a>(
+    variables: &IndexSet<Variable<'a>>,
+    marked: &[bool],
+    variable: Variable<'a>,
+) -> bool
+    requires { length marked.now ≡ length variables.now.keys }
+    ensures { result ≡ is_marked_in (view_variables variables.now.keys) marked.now (view_variable variable.entry) }
+{
+    match variables.get_index_of(&variable) {
+        None => false,
+        Some(number) => marked[number],
+    }
+}
+
+/// The kinds of a script's variables.
+pub(crate) fn kinds_of<'a>(
+    alloc: Global,
+    scopes: &Scopes<'a>,
+    marks: &[Mark<'a>],
+) -> Result<Kinds<'a>, AllocError>
+    ensures variables { IfOk result (λ kinds. view_variables kinds.variables.keys ≡ variables (view_heads scopes.now.heads.items) (view_marks marks.now)) }
+    ensures arrays { IfOk result (λ kinds. is_marked_in (view_variables kinds.variables.keys) kinds.arrays.items ≡ is_used_as Array (view_heads scopes.now.heads.items) (view_marks marks.now)) }
+    ensures scalars { IfOk result (λ kinds. is_marked_in (view_variables kinds.variables.keys) kinds.scalars.items ≡ is_used_as Scalar (view_heads scopes.now.heads.items) (view_marks marks.now)) }
+{
+    let uses = uses_of(alloc, scopes, marks)?;
+    let count = uses.variables.len();
+    let arrays = closure(alloc, count, &uses.arrays, &uses.pairs)?;
+    let scalars = closure(alloc, count, &uses.scalars, &uses.pairs)?;
+    Ok(Kinds {
+        variables: uses.variables,
+        arrays,
+        scalars,
+    })
+}
+
+impl<'a> Variable<'a> {
+    /// Its name.
+    pub fn name(self) -> &'a [u8]
+        ensures { result.now ≡ name_of (view_variable self.entry) }
+    {
+        match self {
+            Variable::Whole(name) | Variable::Inside(_, name) => name,
+        }
+    }
+}
+
+impl<'a> Kinds<'a> {
+    /// Whether a variable is used as an array.
+    pub fn is_array(&self, variable: Variable<'a>) -> bool
+        ensures { result ≡ is_marked_in (view_variables self.now.variables.keys) self.now.arrays.items (view_variable variable.entry) }
+    {
+        is_marked_in(&self.variables, &self.arrays, variable)
+    }
+
+    /// Whether a variable is used as a scalar.
+    pub fn is_scalar(&self, variable: Variable<'a>) -> bool
+        ensures { result ≡ is_marked_in (view_variables self.now.variables.keys) self.now.scalars.items (view_variable variable.entry) }
+    {
+        is_marked_in(&self.variables, &self.scalars, variable)
+    }
+
+    /// The name of a variable of both kinds.
+    fn clashing(&self, variable: Variable<'a>) -> Option<&'a [u8]>
+        ensures { view_place result ≡ clashing (is_marked_in (view_variables self.now.variables.keys) self.now.arrays.items) (is_marked_in (view_variables self.now.variables.keys) self.now.scalars.items) (view_variable variable.entry) }
+    {
+        if self.is_array(variable) && self.is_scalar(variable) {
+            Some(variable.name())
+        } else {
+            None
+        }
+    }
+
+    /// The name of a parameter that is an array.
+    fn needing(&self, parameter: Option<Variable<'a>>) -> Option<&'a [u8]>
+        ensures { view_place result ≡ needing (is_marked_in (view_variables self.now.variables.keys) self.now.arrays.items) (view_maybe_variable parameter.entry) }
+    {
+        match parameter {
+            Some(parameter) if self.is_array(parameter) => Some(parameter.name()),
+            _ => None,
+        }
+    }
+
+    /// The name that a mark shows to be of both kinds.
+    fn clash(&self, scopes: &Scopes<'a>, mark: Mark<'a>) -> Option<&'a [u8]>
+        ensures { view_place result ≡ clash (is_marked_in (view_variables self.now.variables.keys) self.now.arrays.items) (is_marked_in (view_variables self.now.variables.keys) self.now.scalars.items) (view_heads scopes.now.heads.items) (view_mark mark.entry) }
+    {
+        match mark {
+            Mark::Parameter(function, name) => self.clashing(Variable::Inside(function, name)),
+            Mark::Used(_, place, name) | Mark::Given(_, _, place, name) => {
+                self.clashing(scopes.variable_in(place, name))
+            }
+            Mark::Computed(function, argument) => {
+                self.needing(scopes.parameter_at(function, argument))
+            }
+            Mark::Defined(_) | Mark::Called(_, _) => None,
+        }
+    }
+
+    /// The first name of both kinds, or the first parameter that is an array where the argument is no bare name.
+    pub fn first_clash(&self, scopes: &Scopes<'a>, marks: &[Mark<'a>]) -> Option<&'a [u8]>
+        ensures { view_place result ≡ first (clash (is_marked_in (view_variables self.now.variables.keys) self.now.arrays.items) (is_marked_in (view_variables self.now.variables.keys) self.now.scalars.items) (view_heads scopes.now.heads.items)) (view_marks marks.now) }
+    {
+        for mark in marks {
+            let found = self.clash(scopes, *mark);
+            if found.is_some() {
+                return found;
+            }
+        }
+        None
+    }
+}

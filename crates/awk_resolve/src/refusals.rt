@@ -1,0 +1,172 @@
+//! Why a script is refused for its names, kinds aside.
+
+ghost use Rattle.std.specs.Prelude.{◌≡◌, ◌++◌, [], ◌∷◌, ◌||◌, false, IfOk};
+ghost use Rattle.std.specs.List.{list_any};
+ghost use Rattle.awk_resolve.specs.Kinds.{Inside, same_key, has_name, is_function, specials, only_if, too_many, defined, declared, duplicate, first_duplicate, unknown, excess, first};
+ghost use Rattle.awk_resolve.specs.View.{view_place, view_mark, view_marks};
+ghost use Rattle.awk_resolve.specs.ViewNames.{names, view_heads, view_variables};
+
+use crate::mark::Mark;
+use crate::scopes::{Head, Scopes, Variable};
+use crate::special::is_special;
+use indexmap::IndexSet;
+use std::alloc::{AllocError, Global};
+
+/// How many functions a script has at most.
+const FUNCTIONS: usize = 1000;
+
+/// How many parameters a function has at most.
+const PARAMETERS: usize = 100;
+
+/// The first function that is past the limit of functions or has too many parameters.
+pub(crate) fn too_many<'a>(heads: &[Head<'a>]) -> Option<&'a [u8]>
+    ensures { view_place result ≡ too_many 0 (view_heads heads.now) }
+{
+    for i in 0..heads.len() {
+        if i >= FUNCTIONS || heads[i].parameters.len() > PARAMETERS {
+            return Some(heads[i].name);
+        }
+    }
+    None
+}
+
+/// The functions and parameters that were named so far.
+#[derive(Drop)]
+struct Seen<'a> {
+    functions: IndexSet<&'a [u8]>,
+    parameters: IndexSet<Variable<'a>>,
+}
+
+/// Notes a function's name, and says whether it is taken.
+fn note_function<'a>(seen: &mut Seen<'a>, name: &'a [u8]) -> Result<bool, AllocError>
+    ensures taken { IfOk result (λ b. b ≡ (has_name specials name.now || has_name (names seen.old.functions.keys) name.now)) }
+    ensures noted { IfOk result (λ b. b ≡ false → names seen.new.functions.keys ≡ names seen.old.functions.keys ++ name.now ∷ []) }
+    ensures parameters { seen.new.parameters.keys ≡ seen.old.parameters.keys }
+{
+    if is_special(name) {
+        return Ok(true);
+    }
+    let added = seen.functions.insert(name)?;
+    Ok(!added)
+}
+
+/// Notes a parameter, and says whether its name is taken.
+fn note_parameter<'a>(
+    seen: &mut Seen<'a>,
+    scopes: &Scopes<'a>,
+    function: &'a [u8],
+    name: &'a [u8],
+) -> Result<bool, AllocError>
+    ensures taken { IfOk result (λ b. b ≡ (has_name specials name.now || (is_function (view_heads scopes.now.heads.items) name.now || list_any (same_key (Inside function.now name.now)) (view_variables seen.old.parameters.keys)))) }
+    ensures noted { IfOk result (λ b. b ≡ false → view_variables seen.new.parameters.keys ≡ view_variables seen.old.parameters.keys ++ Inside function.now name.now ∷ []) }
+    ensures functions { seen.new.functions.keys ≡ seen.old.functions.keys }
+{
+    if is_special(name) || scopes.is_function(name) {
+        return Ok(true);
+    }
+    let added = seen.parameters.insert(Variable::Inside(function, name))?;
+    Ok(!added)
+}
+
+/// A name, if it is refused.
+fn only_if(refused: bool, name: &[u8]) -> Option<&[u8]>
+    ensures { view_place result ≡ only_if refused name.now }
+{
+    if refused { Some(name) } else { None }
+}
+
+/// Notes what a mark names, and gives the name if it is taken.
+fn note<'a>(
+    seen: &mut Seen<'a>,
+    scopes: &Scopes<'a>,
+    mark: Mark<'a>,
+) -> Result<Option<&'a [u8]>, AllocError>
+    ensures taken { IfOk result (λ found. view_place found ≡ duplicate (view_heads scopes.now.heads.items) (names seen.old.functions.keys) (view_variables seen.old.parameters.keys) (view_mark mark.entry)) }
+    ensures functions { IfOk result (λ found. found ≡ None → names seen.new.functions.keys ≡ names seen.old.functions.keys ++ defined (view_mark mark.entry ∷ [])) }
+    ensures parameters { IfOk result (λ found. found ≡ None → view_variables seen.new.parameters.keys ≡ view_variables seen.old.parameters.keys ++ declared (view_mark mark.entry ∷ [])) }
+{
+    match mark {
+        Mark::Defined(name) => {
+            let taken = note_function(seen, name)?;
+            Ok(only_if(taken, name))
+        }
+        Mark::Parameter(function, name) => {
+            let taken = note_parameter(seen, scopes, function, name)?;
+            Ok(only_if(taken, name))
+        }
+        Mark::Used(_, _, name) | Mark::Given(_, _, _, name) => {
+            Ok(only_if(scopes.is_function(name), name))
+        }
+        Mark::Called(_, _) | Mark::Computed(_, _) => Ok(None),
+    }
+}
+
+/// The first name that stands for two things.
+pub(crate) fn first_duplicate<'a>(
+    alloc: Global,
+    scopes: &Scopes<'a>,
+    marks: &[Mark<'a>],
+) -> Result<Option<&'a [u8]>, AllocError>
+    ensures { IfOk result (λ found. view_place found ≡ first_duplicate (view_heads scopes.now.heads.items) [] (view_marks marks.now)) }
+{
+    let mut seen = Seen {
+        functions: IndexSet::new(alloc),
+        parameters: IndexSet::new(alloc),
+    };
+    for mark in marks {
+        let taken = note(&mut seen, scopes, *mark)?;
+        if taken.is_some() {
+            return Ok(taken);
+        }
+    }
+    Ok(None)
+}
+
+/// The function of a call, if the script lacks it.
+fn unknown<'a>(scopes: &Scopes<'a>, mark: Mark<'a>) -> Option<&'a [u8]>
+    ensures { view_place result ≡ unknown (view_heads scopes.now.heads.items) (view_mark mark.entry) }
+{
+    match mark {
+        Mark::Called(function, _) => only_if(!scopes.is_function(function), function),
+        _ => None,
+    }
+}
+
+/// The function of a call, if it has fewer parameters than the call has arguments.
+fn excess<'a>(scopes: &Scopes<'a>, mark: Mark<'a>) -> Option<&'a [u8]>
+    ensures { view_place result ≡ excess (view_heads scopes.now.heads.items) (view_mark mark.entry) }
+{
+    match mark {
+        Mark::Called(function, count) => match scopes.parameters_of(function) {
+            Some(parameters) => only_if(parameters.len() < count, function),
+            None => None,
+        },
+        _ => None,
+    }
+}
+
+/// The first call of a function that the script lacks.
+pub(crate) fn first_unknown<'a>(scopes: &Scopes<'a>, marks: &[Mark<'a>]) -> Option<&'a [u8]>
+    ensures { view_place result ≡ first (unknown (view_heads scopes.now.heads.items)) (view_marks marks.now) }
+{
+    for mark in marks {
+        let found = unknown(scopes, *mark);
+        if found.is_some() {
+            return found;
+        }
+    }
+    None
+}
+
+/// The first call with too many arguments.
+pub(crate) fn first_excess<'a>(scopes: &Scopes<'a>, marks: &[Mark<'a>]) -> Option<&'a [u8]>
+    ensures { view_place result ≡ first (excess (view_heads scopes.now.heads.items)) (view_marks marks.now) }
+{
+    for mark in marks {
+        let found = excess(scopes, *mark);
+        if found.is_some() {
+            return found;
+        }
+    }
+    None
+}

@@ -1,0 +1,212 @@
+//! The marks of an expression.
+
+ghost use Rattle.std.specs.Prelude.{◌≡◌, ◌++◌, ◌∷◌, [], OnOk};
+ghost use Rattle.awk_grammar.specs.Tree.{Index, Call};
+ghost use Rattle.awk_grammar.specs.View.{view, views};
+ghost use Rattle.awk_resolve.specs.Marks.{Array, Used, bare_name, array_name, computed_marks, marks, all_marks, argument_marks, operand_marks};
+ghost use Rattle.awk_resolve.specs.View.{view_mark, view_marks, view_place};
+
+use crate::mark::{Kind, Mark};
+use awk_grammar::{Builtin, Expr};
+use std::alloc::AllocError;
+
+/// Adds a mark.
+pub(crate) fn put<'a>(out: &mut Vec<Mark<'a>>, mark: Mark<'a>) -> Result<(), AllocError>
+    ensures { OnOk result (view_marks out.new.items ≡ view_marks out.old.items ++ view_mark mark.entry ∷ []) }
+{
+    out.push(mark)?;
+    Ok(())
+}
+
+/// The name that an expression is, if it is a bare name.
+fn bare_name(e: &Expr) -> Option<&[u8]>
+    ensures { view_place result ≡ bare_name (view e.now) }
+{
+    match e {
+        Expr::Var(name) => Some(name),
+        Expr::Number(_)
+        | Expr::Str(_)
+        | Expr::Ere(_)
+        | Expr::Length
+        | Expr::Element(_, _)
+        | Expr::Field(_)
+        | Expr::Group(_)
+        | Expr::Call(_, _)
+        | Expr::Apply(_, _)
+        | Expr::Unary(_, _)
+        | Expr::PreStep(_, _)
+        | Expr::PostStep(_, _)
+        | Expr::Binary(_, _, _)
+        | Expr::Assign(_, _, _)
+        | Expr::In(_, _)
+        | Expr::InList(_, _, _)
+        | Expr::Conditional(_, _, _)
+        | Expr::Getline
+        | Expr::GetlineInto(_)
+        | Expr::GetlineFrom(_)
+        | Expr::GetlineIntoFrom(_, _) => None,
+    }
+}
+
+/// The array that a built-in function fills: the second argument of `split`.
+fn array_name(function: Builtin, argument: usize, e: &Expr) -> Option<&[u8]>
+    ensures { view_place result ≡ array_name function argument (view e.now) }
+{
+    match function {
+        Builtin::Split if argument == 1 => bare_name(e),
+        _ => None,
+    }
+}
+
+/// Adds the arguments that are no bare names.
+fn push_computed<'a>(
+    out: &mut Vec<Mark<'a>>,
+    function: &'a [u8],
+    arguments: &'a [Expr],
+) -> Result<(), AllocError>
+    ensures { OnOk result (view_marks out.new.items ≡ view_marks out.old.items ++ computed_marks function.now 0 (views arguments.now)) }
+{
+    for i in 0..arguments.len() {
+        if bare_name(&arguments[i]).is_none() {
+            put(out, Mark::Computed(function, i))?;
+        }
+    }
+    Ok(())
+}
+
+/// Adds the marks of an expression that stands in a place.
+#[cycle(walk)]
+pub(crate) fn push_expr<'a>(
+    out: &mut Vec<Mark<'a>>,
+    place: Option<&'a [u8]>,
+    e: &'a Expr,
+) -> Result<(), AllocError>
+    ensures { OnOk result (view_marks out.new.items ≡ view_marks out.old.items ++ marks (view_place place.entry) (view e.now)) }
+{
+    match e {
+        Expr::Number(_) | Expr::Str(_) | Expr::Ere(_) | Expr::Length | Expr::Getline => Ok(()),
+        Expr::Var(name) => put(out, Mark::Used(Kind::Scalar, place, name)),
+        Expr::Element(name, subscripts) => push_element(out, place, name, subscripts),
+        Expr::Field(inner)
+        | Expr::Group(inner)
+        | Expr::Unary(_, inner)
+        | Expr::PreStep(_, inner)
+        | Expr::PostStep(_, inner)
+        | Expr::GetlineInto(inner)
+        | Expr::GetlineFrom(inner) => push_expr(out, place, inner),
+        Expr::Call(name, arguments) => push_call(out, place, name, arguments),
+        Expr::Apply(function, arguments) => push_operands(out, place, *function, arguments),
+        Expr::Binary(_, a, b) | Expr::Assign(_, a, b) | Expr::GetlineIntoFrom(a, b) => {
+            push_expr(out, place, a)?;
+            push_expr(out, place, b)
+        }
+        Expr::In(a, name) => {
+            push_expr(out, place, a)?;
+            put(out, Mark::Used(Kind::Array, place, name))
+        }
+        Expr::InList(first, others, name) => {
+            push_expr(out, place, first)?;
+            push_others(out, place, others, name)
+        }
+        Expr::Conditional(a, b, c) => {
+            push_expr(out, place, a)?;
+            push_expr(out, place, b)?;
+            push_expr(out, place, c)
+        }
+    }
+}
+
+/// Adds the marks of an array's name and its subscripts.
+#[cycle(walk)]
+pub(crate) fn push_element<'a>(
+    out: &mut Vec<Mark<'a>>,
+    place: Option<&'a [u8]>,
+    name: &'a [u8],
+    subscripts: &'a [Expr],
+) -> Result<(), AllocError>
+    ensures { OnOk result (view_marks out.new.items ≡ view_marks out.old.items ++ marks (view_place place.entry) (Index name.now (views subscripts.now))) }
+{
+    put(out, Mark::Used(Kind::Array, place, name))?;
+    push_all(out, place, subscripts)
+}
+
+#[cycle(walk)]
+fn push_call<'a>(
+    out: &mut Vec<Mark<'a>>,
+    place: Option<&'a [u8]>,
+    name: &'a [u8],
+    arguments: &'a [Expr],
+) -> Result<(), AllocError>
+    ensures { OnOk result (view_marks out.new.items ≡ view_marks out.old.items ++ marks (view_place place.entry) (Call name.now (views arguments.now))) }
+{
+    put(out, Mark::Called(name, arguments.len()))?;
+    push_computed(out, name, arguments)?;
+    push_arguments(out, place, name, arguments)
+}
+
+/// Adds the marks of the further subscripts that are looked for in an array, and of its name.
+#[cycle(walk)]
+fn push_others<'a>(
+    out: &mut Vec<Mark<'a>>,
+    place: Option<&'a [u8]>,
+    others: &'a [Expr],
+    name: &'a [u8],
+) -> Result<(), AllocError>
+    ensures { OnOk result (view_marks out.new.items ≡ view_marks out.old.items ++ (all_marks (view_place place.entry) (views others.now) ++ Used Array (view_place place.entry) name.now ∷ [])) }
+{
+    push_all(out, place, others)?;
+    put(out, Mark::Used(Kind::Array, place, name))
+}
+
+/// Adds the marks of expressions.
+#[cycle(walk)]
+pub(crate) fn push_all<'a>(
+    out: &mut Vec<Mark<'a>>,
+    place: Option<&'a [u8]>,
+    es: &'a [Expr],
+) -> Result<(), AllocError>
+    ensures { OnOk result (view_marks out.new.items ≡ view_marks out.old.items ++ all_marks (view_place place.entry) (views es.now)) }
+{
+    for e in es {
+        push_expr(out, place, e)?;
+    }
+    Ok(())
+}
+
+/// Adds the marks of a call's arguments.
+#[cycle(walk)]
+fn push_arguments<'a>(
+    out: &mut Vec<Mark<'a>>,
+    place: Option<&'a [u8]>,
+    function: &'a [u8],
+    arguments: &'a [Expr],
+) -> Result<(), AllocError>
+    ensures { OnOk result (view_marks out.new.items ≡ view_marks out.old.items ++ argument_marks (view_place place.entry) function.now 0 (views arguments.now)) }
+{
+    for i in 0..arguments.len() {
+        match bare_name(&arguments[i]) {
+            Some(name) => put(out, Mark::Given(function, i, place, name))?,
+            None => push_expr(out, place, &arguments[i])?,
+        }
+    }
+    Ok(())
+}
+
+/// Adds the marks of a built-in function's arguments.
+#[cycle(walk)]
+fn push_operands<'a>(
+    out: &mut Vec<Mark<'a>>,
+    place: Option<&'a [u8]>,
+    function: Builtin,
+    arguments: &'a [Expr],
+) -> Result<(), AllocError>
+    ensures { OnOk result (view_marks out.new.items ≡ view_marks out.old.items ++ operand_marks (view_place place.entry) function 0 (views arguments.now)) }
+{
+    for i in 0..arguments.len() {
+        match array_name(function, i, &arguments[i]) {
+            Some(name) => put(out, Mark::Used(Kind::Array, place, name))?,
+            None => push_expr(out, place, &arguments[i])?,
+        }
+    }
+    Ok(())
+}

@@ -1,0 +1,3 @@
+pub mod Peeks
+pub mod Blocks
+pub mod Names

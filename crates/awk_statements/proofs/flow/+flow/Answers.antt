@@ -1,0 +1,48 @@
+use Rattle.std.proofs.Common.{◌≡◌, ℕ, ◌+◌, ◌-◌, ◌<◌, List, [], ◌∷◌, ◌++◌, length, Some, None, Ok, Err, refl, sym, ap, ◌∙◌, arith}
+use Rattle.std.proofs.lemmas.Result.{err_from_is_err_and}
+use Rattle.awk_grammar.specs.Stmt.{Stmts, NoStmt, And}
+use Rattle.awk_grammar.specs.Reading.{expr_at}
+use Rattle.awk_grammar.specs.ReadStmt.{brace_at, maybe_plain_at, stmts_at, stmt_at}
+use Rattle.awk_grammar.specs.ViewStmt.{view_stmt, view_stmts, view_maybe_simple}
+use Rattle.awk_expressions.specs.Seen.{seen}
+use Rattle.awk_statements.specs.Bodies.{stmts_then, with_one}
+use Rattle.awk_expressions.proofs.Binds.{seen_length, fails_bind, fails_is, gives_is}
+use Rattle.awk_statements.proofs.Blocks.{with_stmts, stmts_start, stmts_push, stmts_none, stmts_end, stmts_more, semicolon_given, counted_is}
+use Rattle.awk_statements.proofs.flow.+flow.Goals as goal
+
+pub with_statement-returns : goal.with_statement-returns
+with_statement-returns t c =
+    let front = view_stmts c.args.front.statements.items in
+    let next : stmt_at c.args.limit (seen c.args.front.rest.now) ≡ Ok (view_stmt c.in_ok-next.next, seen c.in_ok-next.rest.now) = c.in_ok-next.ensures in
+    let items : view_stmts c.push.new.self.items ≡ stmts_then front (And (view_stmt c.in_ok-next.next) NoStmt) = ap view_stmts c.in_ok-push.ensures.items ∙ stmts_push c.args.front.statements.items c.in_ok-next.next in
+    rw next (ap (λ (u : Stmts). Ok (u, seen c.in_ok-next.rest.now)) (sym items))
+
+pub statements-loop-init : goal.statements-loop-init
+statements-loop-init t c =
+    let turns : length c.args.tokens.now - 0 ≡ length (seen c.args.tokens.now) = omega (arith, seen_length c.args.tokens.now) in
+    let none : view_stmts c.new.result.items ≡ NoStmt = ap view_stmts c.new.ensures.items in
+    rw (none, turns) (stmts_start (stmts_at (stmt_at c.args.limit) (length (seen c.args.tokens.now)) (seen c.args.tokens.now)))
+
+pub statements-loop-preserved : goal.statements-loop-preserved
+statements-loop-preserved t c =
+    let front = view_stmts c.loop.read.statements.items in
+    let more : with_one (stmt_at c.args.limit) front (seen c.loop.read.rest.now) ≡ Ok (view_stmts c.in_ok-read.read.statements.items, seen c.in_ok-read.read.rest.now) = c.in_ok-read.ensures in
+    let on = stmts_more (stmt_at c.args.limit) c.loop.counter (length c.args.tokens.now) front (seen c.loop.read.rest.now) c.loop-test.true c.in_default.ensures in
+    sym (on ∙ rw more refl) ∙ c.loop.invariant
+
+pub statements-returns-in-Some : goal.statements-returns-in-Some
+statements-returns-in-Some t c =
+    sym c.loop.invariant ∙ ap (with_stmts (view_stmts c.loop.read.statements.items)) (stmts_end (stmt_at c.args.limit) c.loop.counter (length c.args.tokens.now) (seen c.loop.read.rest.now) (seen c.in-Some.rest.now) c.loop-test.true c.in-Some.ensures)
+    ∙ ap (λ (u : Stmts). Ok (u, seen c.in-Some.rest.now)) (stmts_none (view_stmts c.loop.read.statements.items))
+
+pub counted_loop-returns : goal.counted_loop-returns
+counted_loop-returns t c =
+    let expr = expr_at c.args.limit in
+    let stmt = stmt_at c.args.limit in
+    let both = c.in_ok-first-2.ensures.both in
+    let ts = seen c.args.tokens.now in
+    let us = seen c.in_ok-first.behind.now in
+    let first = view_maybe_simple c.in_ok-first-2.first in
+    let plain : maybe_plain_at expr ts ≡ Ok (first, us) = rw both.0 c.in_ok-first.ensures in
+    let next = semicolon_given c.semicolon.result c.in_ok-first-2.behind us both.1 c.semicolon.ensures in
+    gives_is (λ x. (view_stmt x.0, seen x.1.now)) c.loop_test.result _ _ (counted_is expr stmt ts us (seen c.in_ok-first-2.behind.now) first plain next) c.loop_test.ensures

@@ -1,0 +1,11 @@
+//! Statements and items from tokens (POSIX.1-2017 awk, "Grammar", in the profile of this project).
+#![tactic(auto)]
+
+mod flow;
+mod held;
+mod item;
+mod node;
+mod peek;
+mod stmt;
+
+pub use item::items;

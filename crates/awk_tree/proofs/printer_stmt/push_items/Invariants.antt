@@ -1,8 +1,0 @@
-use Rattle.std.proofs.Common.{◌≡◌, ◌++◌, drop}
-use Rattle.awk_tree.specs.Item.{print_script}
-use Rattle.awk_tree.specs.Lexeme.{lexemes}
-use Rattle.awk_tree.specs.ViewStmt.{view_items}
-use Rattle.awk_tree.proofs.printer_stmt.push_items.Given as goal
-
-abbrev pub invariant-loop-item : goal.invariant-loop-item
-invariant-loop-item l = lexemes l.out.items ++ print_script (view_items (drop l.item-index l.items)) ≡ lexemes l.fn.out.items ++ print_script (view_items l.items)

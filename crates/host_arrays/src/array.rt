@@ -1,0 +1,171 @@
+//! One array: its pairs in the order of insertion.
+ghost use Rattle.std.specs.Prelude.{◌≡◌, ℕ, List, [], Option, Some, None, get_or, is_some, OnOk, OnErr, IfOk, IfErr, IsSome};
+ghost use Rattle.std.specs.Map.{keys_of};
+ghost use Rattle.host_arrays.specs.Pairs.{get_pair, set_pair, delete_pair, created, value_or_uninit};
+ghost use Rattle.host_arrays.specs.Order.{IsOnce, held_in, kept_value, place_in};
+
+use awk_values::{Bytes, Value};
+use indexmap::IndexMap;
+use std::alloc::{AllocError, Global};
+use std::marker::Model;
+
+/// A value, and the place of its key in the order.
+#[derive(Drop)]
+pub(crate) struct Held {
+    pub(crate) value: Value,
+    pub(crate) place: usize,
+}
+
+/// An array. Contracts see the list of its pairs, in the order of insertion.
+///
+/// The map finds a key's value. A key that is deleted leaves a hole in the order, so that the others need not move; where more than half are holes, they are closed.
+#[derive(Drop)]
+pub(crate) struct Array {
+    pairs: IndexMap<Bytes, Held>,
+    order: Vec<Option<Bytes>>,
+}
+
+impl Model for Array {
+    ghost use Rattle.std.specs.Prelude.{ℕ, List};
+    ghost use Rattle.std.specs.Coded.{coded_list, coded×, coded_ℕ};
+    ghost use Rattle.awk_values.specs.contracts.value.Value as stored;
+    ghost use Rattle.awk_values.specs.declared.value.Value.{Value as AnyValue};
+    ghost use Rattle.host_arrays.specs.Order.{IsPlaced, held_in, pairs_in};
+
+    ghost Value = { List (List ℕ × AnyValue) };
+
+    ghost coded = { coded_list (coded× (coded_list coded_ℕ) stored.the_row.coded) };
+
+    ghost view = { λ a. pairs_in (held_in a.pairs.entries) a.order.items };
+
+    ghost invariant = { λ a. IsPlaced (held_in a.pairs.entries) a.order.items };
+}
+
+fn copy_of(value: &Value) -> Result<Value, AllocError>
+    ensures { IfOk result (λ copy. copy ≡ value.now) }
+{
+    value.clone()
+}
+
+/// Gives each key its place in an order without holes.
+fn renumber(pairs: &mut IndexMap<Bytes, Held>, order: &[Option<Bytes>])
+    requires once { IsOnce order.now }
+    requires held { (k : List ℕ) (i : ℕ) → get_or order.now i None ≡ Some k → IsSome (held_in pairs.old.entries k) }
+    ensures values { (k : List ℕ) → kept_value (held_in pairs.new.entries k) ≡ kept_value (held_in pairs.old.entries k) }
+    ensures places { (k : List ℕ) (i : ℕ) → get_or order.now i None ≡ Some k → place_in (held_in pairs.new.entries k) ≡ Some i }
+{
+    for place in 0..order.len() {
+        if let Some(key) = &order[place] {
+            if let Some(held) = pairs.get_mut(key) {
+                held.place = place;
+            }
+        }
+    }
+}
+
+impl Array {
+    /// An array without a pair. It takes no memory.
+    pub(crate) fn new(alloc: Global) -> Self
+        ensures { result ≡ [] }
+    {
+        Array {
+            pairs: IndexMap::new(alloc),
+            order: Vec::new(alloc),
+        }
+    }
+
+    /// Whether the key has a pair.
+    pub(crate) fn has(&self, key: &Bytes) -> bool
+        ensures { result ≡ is_some (get_pair key.now self.now) }
+    {
+        self.pairs.contains_key(key)
+    }
+
+    /// Adds a pair of a key that has none, or hands the value back.
+    fn add(&mut self, key: &Bytes, value: Value) -> Result<(), Value>
+        requires { get_pair key.now self.old ≡ None }
+        ensures added { OnOk result (self.new ≡ set_pair key.now value self.old) }
+        ensures refused { OnErr result (self.new ≡ self.old) }
+        ensures handed_back { IfErr result (λ v. v ≡ value) }
+    {
+        let place = self.order.len();
+        let Ok(own) = key.clone() else {
+            return Err(value);
+        };
+        let Ok(listed) = key.clone() else {
+            return Err(value);
+        };
+        let Ok(()) = self.order.push(Some(listed)) else {
+            return Err(value);
+        };
+        match self.pairs.insert(own, Held { value, place }) {
+            Ok(_) => Ok(()),
+            Err(failed) => {
+                self.order.pop();
+                let (_, held) = failed.value;
+                Err(held.value)
+            }
+        }
+    }
+
+    /// Puts a value at a key, or hands it back.
+    pub(crate) fn set(&mut self, key: &Bytes, value: Value) -> Result<(), Value>
+        ensures set { OnOk result (self.new ≡ set_pair key.now value self.old) }
+        ensures refused { OnErr result (self.new ≡ self.old) }
+        ensures handed_back { IfErr result (λ v. v ≡ value) }
+    {
+        if let Some(held) = self.pairs.get_mut(key) {
+            held.value = value;
+            return Ok(());
+        }
+        self.add(key, value)
+    }
+
+    /// A copy of the value at a key, which is created where it is missing.
+    pub(crate) fn get_or_create(&mut self, key: &Bytes) -> Result<Value, AllocError>
+        ensures value { IfOk result (λ v. v ≡ value_or_uninit (get_pair key.now self.old)) }
+        ensures created { OnOk result (self.new ≡ created key.now self.old) }
+        ensures refused { OnErr result (self.new ≡ self.old) }
+    {
+        if let Some(held) = self.pairs.get(key) {
+            return Ok(copy_of(&held.value)?);
+        }
+        let Ok(()) = self.add(key, Value::Uninit) else {
+            return Err(AllocError);
+        };
+        Ok(Value::Uninit)
+    }
+
+    /// Closes the holes in the order.
+    fn sweep(&mut self)
+        ensures { self.new ≡ self.old }
+    {
+        self.order.retain(|slot| slot.is_some());
+        renumber(&mut self.pairs, &self.order);
+    }
+
+    /// Takes a key out. The others keep their order.
+    pub(crate) fn delete(&mut self, key: &Bytes)
+        ensures { self.new ≡ delete_pair key.now self.old }
+    {
+        if let Some(held) = self.pairs.swap_remove(key) {
+            self.order[held.place] = None;
+            if self.order.len() / 2 > self.pairs.len() {
+                self.sweep();
+            }
+        }
+    }
+
+    /// The keys, in order.
+    pub(crate) fn keys(&self, alloc: Global) -> Result<Vec<Bytes>, AllocError>
+        ensures { IfOk result (λ keys. keys.items ≡ keys_of self.now) }
+    {
+        let mut keys = Vec::with_capacity(alloc, self.pairs.len())?;
+        for slot in &self.order {
+            if let Some(key) = slot {
+                keys.push(key.clone()?)?;
+            }
+        }
+        Ok(keys)
+    }
+}

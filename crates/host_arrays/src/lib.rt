@@ -1,0 +1,7 @@
+//! The arrays that the host keeps for a module, each under a number.
+#![tactic(auto)]
+
+mod array;
+mod table;
+
+pub use table::Arrays;

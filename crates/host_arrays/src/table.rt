@@ -1,0 +1,196 @@
+//! The arrays by number.
+ghost use Rattle.std.specs.Prelude.{◌≡◌, ◌≤ℤ◌, ◌<ℤ◌, pos, [], None, is_some, true, OnOk, OnErr, IfOk, IfErr};
+ghost use Rattle.std.specs.FinMap as map;
+ghost use Rattle.std.specs.Map.{keys_of};
+ghost use Rattle.std.specs.Borrow.{Lends, sem};
+ghost use Rattle.host_arrays.specs.Pairs.{Pairs, get_pair, set_pair, delete_pair, pairs_at, created, first_arrays, value_or_uninit};
+
+use crate::array::Array;
+use awk_values::{Bytes, Value};
+use slab::Slab;
+use std::alloc::{AllocError, Global};
+use std::marker::Model;
+
+/// How many numbers there are.
+const LIMIT: usize = 1 << 31;
+
+/// Arrays, each under a number from 0 to 2^31 - 1 (POSIX.1-2017 awk, "Variables and Special Variables").
+///
+/// Contracts see a finite map from numbers to lists of pairs of key and value, in the order of insertion.
+#[derive(Drop)]
+pub struct Arrays {
+    slab: Slab<Array>,
+    alloc: Global,
+}
+
+impl Model for Arrays {
+    ghost use Rattle.std.specs.Ordering.{int_cmp};
+    ghost use Rattle.std.specs.FinMap as map;
+    ghost use Rattle.std.specs.Coded.{coded_ℤ};
+    ghost use Rattle.host_arrays.specs.Pairs.{Pairs};
+    ghost use Rattle.host_arrays.specs.contracts.array.Array as stored;
+    ghost use Rattle.tables.specs.Tables.{table};
+
+    ghost Value = { map.FinMap int_cmp Pairs };
+
+    ghost coded = { map.code coded_ℤ stored.the_row.coded };
+
+    ghost view = { λ t. table t.slab.slots };
+}
+
+fn slot_of(number: i32) -> usize
+    requires { pos 0 ≤ℤ number }
+    ensures { number ≡ pos result }
+{
+    number as usize
+}
+
+impl Arrays {
+    ghost use Rattle.host_arrays.specs.contracts.array.Array as one;
+    ghost use Rattle.host_arrays.specs.contracts.table.Arrays.{the_row};
+
+    /// The number of ARGV.
+    pub const ARGV: i32 = 0;
+
+    /// The number of ENVIRON.
+    pub const ENVIRON: i32 = 1;
+
+    /// The arrays ARGV and ENVIRON, without a pair.
+    ///
+    /// # Errors
+    ///
+    /// There is no memory.
+    pub fn new(alloc: Global) -> Result<Arrays, AllocError>
+        ensures { IfOk result (λ arrays. arrays ≡ first_arrays) }
+    {
+        let mut arrays = Arrays {
+            slab: Slab::new(alloc),
+            alloc,
+        };
+        let argv = arrays.new_array()?;
+        let environ = arrays.new_array()?;
+        if argv != Arrays::ARGV || environ != Arrays::ENVIRON {
+            return Err(AllocError);
+        }
+        Ok(arrays)
+    }
+
+    /// Adds an array without a pair under a number that has none. The number of an array that was freed may come again.
+    ///
+    /// # Errors
+    ///
+    /// There is no memory or no number is left; nothing changes.
+    pub fn new_array(&mut self) -> Result<i32, AllocError>
+        ensures free { IfOk result (λ number. map.get self.old number ≡ None) }
+        ensures from_zero { IfOk result (λ number. pos 0 ≤ℤ number) }
+        ensures added { IfOk result (λ number. self.new ≡ map.insert self.old number []) }
+        ensures refused { OnErr result (self.new ≡ self.old) }
+    {
+        let slab = &mut self.slab;
+        if slab.vacant_key() >= LIMIT {
+            return Err(AllocError);
+        }
+        let Ok(key) = slab.insert(Array::new(self.alloc)) else {
+            return Err(AllocError);
+        };
+        Ok(key as i32)
+    }
+
+    /// How many arrays there are, ARGV and ENVIRON counted.
+    pub fn live(&self) -> usize
+        ensures { result ≡ map.len self.now }
+    {
+        self.slab.len()
+    }
+
+    /// Whether a number is that of an array.
+    pub fn is_array(&self, number: i32) -> bool
+        ensures { result ≡ map.contains_key self.now number }
+    {
+        let slab = &self.slab;
+        if number < 0 {
+            return false;
+        }
+        slab.get(slot_of(number)).is_some()
+    }
+
+    fn array(&self, number: i32) -> &Array
+        requires { map.contains_key self.now number ≡ true }
+        ensures { result.now ≡ pairs_at self.now number }
+    {
+        let slab = &self.slab;
+        &slab[slot_of(number)]
+    }
+
+    fn array_mut(&mut self, number: i32) -> &mut Array
+        requires { map.contains_key self.old number ≡ true }
+        ensures* writes_back { sem 𝓛 (Lends the_row one.the_row self.entry result (map.insert self.old number)) }
+        ensures value { result.now ≡ pairs_at self.old number }
+    {
+        &mut self.slab[slot_of(number)]
+    }
+
+    /// Whether the array has the key (`key in a`). It creates nothing.
+    pub fn has(&self, number: i32, key: &Bytes) -> bool
+        requires { map.contains_key self.now number ≡ true }
+        ensures { result ≡ is_some (get_pair key.now (pairs_at self.now number)) }
+    {
+        self.array(number).has(key)
+    }
+
+    /// A copy of the value at a key of the array. A key without a pair is created uninitialised, and goes last.
+    ///
+    /// # Errors
+    ///
+    /// There is no memory; nothing changes.
+    pub fn get_or_create(&mut self, number: i32, key: &Bytes) -> Result<Value, AllocError>
+        requires { map.contains_key self.old number ≡ true }
+        ensures value { IfOk result (λ v. v ≡ value_or_uninit (get_pair key.now (pairs_at self.old number))) }
+        ensures created { OnOk result (self.new ≡ map.insert self.old number (created key.now (pairs_at self.old number))) }
+        ensures refused { OnErr result (self.new ≡ self.old) }
+    {
+        self.array_mut(number).get_or_create(key)
+    }
+
+    /// Puts a value at a key of the array. A key that has a pair keeps its place; a new one goes last.
+    ///
+    /// # Errors
+    ///
+    /// The value is handed back where there is no memory; nothing changes.
+    pub fn set(&mut self, number: i32, key: &Bytes, value: Value) -> Result<(), Value>
+        requires { map.contains_key self.old number ≡ true }
+        ensures set { OnOk result (self.new ≡ map.insert self.old number (set_pair key.now value (pairs_at self.old number))) }
+        ensures refused { OnErr result (self.new ≡ self.old) }
+        ensures handed_back { IfErr result (λ v. v ≡ value) }
+    {
+        self.array_mut(number).set(key, value)
+    }
+
+    /// Takes a key out of the array, where it has one. The others keep their order. It takes no memory, and the time of a few calls on average.
+    pub fn delete(&mut self, number: i32, key: &Bytes)
+        requires { map.contains_key self.old number ≡ true }
+        ensures { self.new ≡ map.insert self.old number (delete_pair key.now (pairs_at self.old number)) }
+    {
+        self.array_mut(number).delete(key);
+    }
+
+    /// The keys of the array, in the order of insertion.
+    ///
+    /// # Errors
+    ///
+    /// There is no memory.
+    pub fn keys(&self, number: i32) -> Result<Vec<Bytes>, AllocError>
+        requires { map.contains_key self.now number ≡ true }
+        ensures { IfOk result (λ keys. keys.items ≡ keys_of (pairs_at self.now number)) }
+    {
+        self.array(number).keys(self.alloc)
+    }
+
+    /// Gives an array up. It takes no memory. ARGV and ENVIRON are arrays for the whole of a run: who calls keeps them.
+    pub fn free(&mut self, number: i32)
+        requires { map.contains_key self.old number ≡ true }
+        ensures { self.new ≡ map.remove self.old number }
+    {
+        self.slab.remove(slot_of(number));
+    }
+}

@@ -1,0 +1,10 @@
+pub mod Chosen
+pub mod Finds
+pub mod Refusals
+pub mod Firsts
+pub mod Pieces
+pub mod Opens
+pub mod Fielded
+pub mod Replaced
+pub mod Places
+pub mod Left

@@ -1,0 +1,18 @@
+use Rattle.std.proofs.Common.{◌≡◌, ℕ, ◌-◌, ◌≤◌, length}
+use Rattle.ere_syntax.specs.Tree.{Tree}
+use Rattle.ere_match.specs.Autos.{IsAutoOf}
+use Rattle.host_format.specs.Expressions.{IsAuto}
+use Rattle.host_format.proofs.Firsts.{NoneFrom}
+use Rattle.host_format.proofs.eres.first_not_empty.Given as goal
+
+abbrev pub invariant-loop-start : goal.invariant-loop-start
+invariant-loop-start l = record {
+  low : l.fn.from ≤ l.at;
+  high : l.at ≤ length l.text;
+  auto : IsAuto l.auto';
+  kept : (t : Tree) → IsAutoOf l.fn.auto t → IsAutoOf l.auto' t;
+  none : (t : Tree) → IsAutoOf l.fn.auto t → NoneFrom t l.text l.fn.from l.at;
+}
+
+abbrev pub decreases-loop-start : goal.decreases-loop-start
+decreases-loop-start l = length l.text - l.at

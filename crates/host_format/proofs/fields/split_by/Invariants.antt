@@ -1,0 +1,14 @@
+use Rattle.std.proofs.Common.{ℕ, ◌-◌, ◌≤◌, drop, length}
+use Rattle.awk_state.specs.Fields.{parted}
+use Rattle.host_format.specs.Marks.{is_mark, kept, pieces_by, skips_empty}
+use Rattle.host_format.specs.Spans.{IsSoFar}
+use Rattle.host_format.proofs.fields.split_by.Given as goal
+
+abbrev pub invariant-loop-at : goal.invariant-loop-at
+invariant-loop-at l = record {
+  inside : l.from ≤ length l.text;
+  pieces : IsSoFar l.text l.spans.items (kept (skips_empty l.marks) (parted (is_mark l.marks) (drop l.from l.text))) (pieces_by l.marks l.text);
+}
+
+abbrev pub decreases-loop-at : goal.decreases-loop-at
+decreases-loop-at l = length l.text - l.from

@@ -1,0 +1,18 @@
+use Rattle.std.proofs.Common.{ℕ, ◌-◌, ◌≤◌, length}
+use Rattle.ere_syntax.specs.Tree.{Tree}
+use Rattle.ere_match.specs.Autos.{IsAutoOf}
+use Rattle.awk_state.specs.Fields.{Expression, pieces}
+use Rattle.host_format.specs.Between.{IsOpen, separator_end}
+use Rattle.host_format.specs.Expressions.{IsAuto}
+use Rattle.host_format.proofs.fields.split_by_ere.Given as goal
+
+abbrev pub invariant-loop-spans : goal.invariant-loop-spans
+invariant-loop-spans l = record {
+  inside : l.from ≤ length l.text;
+  auto : IsAuto l.auto';
+  kept : (t : Tree) → IsAutoOf l.fn.auto t → IsAutoOf l.auto' t;
+  opened : (t : Tree) → IsAutoOf l.fn.auto t → IsOpen (separator_end t l.newlines l.text) l.text l.spans.items l.from (pieces (Expression t) l.newlines l.text);
+}
+
+abbrev pub decreases-loop-spans : goal.decreases-loop-spans
+decreases-loop-spans l = length l.text - l.from

@@ -1,0 +1,8 @@
+pub mod Parts
+pub mod Outcomes
+pub mod Spans
+pub mod Marks
+pub mod Expressions
+pub mod Separators
+pub mod Between
+pub mod Substitutions

@@ -1,0 +1,20 @@
+-- What the type of separators stands for.
+use Rattle.std.specs.Prelude.{◌≡◌, ℕ, List, Ok}
+use Rattle.ere_match.specs.Autos.{IsAutoOf}
+use Rattle.awk_state.specs.Fields.{Separator, Blanks, Nothing, Byte, Expression, separator_of}
+use Rattle.host_format.specs.declared.sep.Sep.{Sep}
+use Rattle.host_format.specs.declared.sep.Sep.TheVariants as seps
+
+abbrev pub IsSep : Sep → Separator → Type 0
+IsSep seps.Blanks Blanks = Unit {0}
+IsSep seps.EachByte Nothing = Unit {0}
+IsSep (seps.Byte b) (Byte c) = b ≡ c
+IsSep (seps.Ere auto) (Expression t) = IsAutoOf auto t
+IsSep sep separator = ⊥
+
+-- the separator that a text means
+abbrev pub Separates : List ℕ → Sep → Type 0
+Separates text sep = (s : Separator) × (separator_of text ≡ Ok s) × IsSep sep s
+
+abbrev pub IsAnySep : Sep → Type 0
+IsAnySep sep = (s : Separator) × IsSep sep s

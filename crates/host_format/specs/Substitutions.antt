@@ -1,0 +1,23 @@
+-- Substitution (POSIX.1-2017 awk, "String Functions", sub and gsub).
+use Rattle.std.specs.Prelude.{◌≡◌, ℕ, ◌+◌, ◌^◌, ◌≤◌, Bool, List, [], ◌∷◌, Option, Some, None, Result, Ok, length}
+use Rattle.awk_values.specs.declared.fault.Fault.{Fault}
+use Rattle.ere_syntax.specs.Tree.{Tree}
+use Rattle.awk_state.specs.FirstMatch.{first_match}
+use Rattle.awk_state.specs.SharedState.{◌>>=◌}
+use Rattle.awk_state.specs.Texts.{limited}
+use Rattle.awk_state.specs.TextRows.{behind, places, places_of, replaced}
+
+-- how many matches are replaced, and the new text
+abbrev pub substitution : Tree → List ℕ → List ℕ → Bool → Result (ℕ × List ℕ) Fault
+substitution t by text all = limited (replaced text by 0 (places_of t text all)) >>= λ new. Ok (length (places_of t text all), new)
+
+-- the matches from a place on, as the next of them says
+abbrev pub IsNextPlace : Tree → List ℕ → ℕ → Option ℕ → Option (ℕ × ℕ) → Type 0
+IsNextPlace t text at last None = (n : ℕ) → length text + 1 ≤ n + at → places (first_match t text) n at last ≡ []
+IsNextPlace t text at last (Some p) = (n : ℕ) → length text + 1 ≤ n + at → (m : ℕ) × (length text + 1 ≤ m + behind p) × (places (first_match t text) n at last ≡ p ∷ places (first_match t text) m (behind p) (Some p.1))
+
+-- so many matches were replaced, and this is the new text, which is within the limit
+pub record IsReplaced (t : Tree) (by text : List ℕ) (all : Bool) (count : ℕ) (new : List ℕ) : Type 0 where
+  pub counted : length (places_of t text all) ≡ count
+  pub text_is : replaced text by 0 (places_of t text all) ≡ new
+  pub within : length new ≤ 2 ^ 26

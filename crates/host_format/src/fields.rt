@@ -1,0 +1,149 @@
+//! The fields of a text.
+ghost use Rattle.std.specs.Prelude.{◌≡◌, ℕ, zero, ◌+◌, ◌<◌, ◌≤◌, List, None, Option, IfErr, IfOk, IfSome, OnOk, length, map, slice_range, [], ◌∷◌, if◌then◌else◌};
+ghost use Rattle.ere_syntax.specs.Tree.{Tree};
+ghost use Rattle.ere_match.specs.Autos.{IsAutoOf};
+ghost use Rattle.awk_values.specs.declared.fault.Stop.TheVariants as stops;
+ghost use Rattle.awk_state.specs.Fields.{Expression, Nothing, Separator, newline_end, pieces, pieces_of};
+ghost use Rattle.host_format.specs.Between.{IsOpen, separator_end};
+ghost use Rattle.host_format.specs.Expressions.{IsAuto};
+ghost use Rattle.host_format.specs.Marks.{kept, pieces_by, skips_empty};
+ghost use Rattle.host_format.specs.Separators.{IsAnySep, IsSep};
+ghost use Rattle.host_format.specs.declared.marks.Marks.TheVariants as marks;
+ghost use Rattle.host_format.specs.Spans.{AreSpans, IsSoFar};
+
+use crate::eres::first_not_empty;
+use crate::marks::Marks;
+use crate::sep::Sep;
+use crate::span::{Span, push};
+use awk_values::Stop;
+use ere_match::Auto;
+use memchr::memchr;
+use std::alloc::{AllocError, Global};
+
+/// Adds a piece, unless it is empty and no field.
+fn push_piece(
+    spans: &mut Vec<Span>,
+    marks: Marks,
+    start: usize,
+    end: usize,
+) -> Result<(), AllocError>
+    ensures { (text : List ℕ) (rest total : List (List ℕ)) → start ≤ end → end ≤ length text → IsSoFar text spans.old.items (kept (skips_empty marks) (slice_range text start end ∷ rest)) total → OnOk result (IsSoFar text spans.new.items (kept (skips_empty marks) rest) total) }
+{
+    if start < end || !marks.skips_empty() {
+        push(spans, start, end)?;
+    }
+    Ok(())
+}
+
+/// The pieces between certain bytes.
+fn split_by(alloc: Global, text: &[u8], marks: Marks) -> Result<Vec<Span>, AllocError>
+    ensures { IfOk result (λ spans. AreSpans text.now spans.items (pieces_by marks text.now)) }
+{
+    let mut spans = Vec::new(alloc);
+    let mut from = 0;
+    while let Some(at) = marks.find(&text[from..]) {
+        push_piece(&mut spans, marks, from, from + at)?;
+        from = from + at + 1;
+    }
+    push_piece(&mut spans, marks, from, text.len())?;
+    Ok(spans)
+}
+
+/// Each byte by itself.
+fn split_each(alloc: Global, text: &[u8]) -> Result<Vec<Span>, AllocError>
+    ensures { IfOk result (λ spans. AreSpans text.now spans.items (map (λ c. c ∷ []) text.now)) }
+{
+    let mut spans = Vec::with_capacity(alloc, text.len())?;
+    for at in 0..text.len() {
+        push(&mut spans, at, at + 1)?;
+    }
+    Ok(spans)
+}
+
+/// Adds the lines of a part of the text in which newlines alone separate, if they do, and gives where the last piece begins.
+fn push_lines(
+    spans: &mut Vec<Span>,
+    text: &[u8],
+    from: usize,
+    to: usize,
+    newlines: bool,
+) -> Result<usize, AllocError>
+    requires from { from ≤ to }
+    requires to { to ≤ length text.now }
+    ensures from { IfOk result (λ line. (from ≤ line) × (line ≤ to)) }
+    ensures rest { (end : ℕ → Option ℕ) → ((k : ℕ) → from ≤ k → k < to → end k ≡ newline_end newlines text.now k) → IfOk result (λ line. (k : ℕ) → line ≤ k → k < to → end k ≡ None) }
+    ensures lines { (end : ℕ → Option ℕ) (total : List (List ℕ)) → ((k : ℕ) → from ≤ k → k < to → end k ≡ newline_end newlines text.now k) → IsOpen end text.now spans.old.items from total → IfOk result (λ line. IsOpen end text.now spans.new.items line total) }
+{
+    let mut line = from;
+    if newlines {
+        while let Some(at) = memchr(b'\n', &text[line..to]) {
+            push(spans, line, line + at)?;
+            line = line + at + 1;
+        }
+    }
+    Ok(line)
+}
+
+/// The pieces between the matches of an expression that are not empty, and newlines where these separate too.
+fn split_by_ere(
+    alloc: Global,
+    text: &[u8],
+    auto: &mut Auto,
+    newlines: bool,
+) -> Result<Vec<Span>, AllocError>
+    requires { IsAuto auto.old }
+    ensures ok { (t : Tree) → IsAutoOf auto.old t → IfOk result (λ spans. AreSpans text.now spans.items (pieces (Expression t) newlines text.now)) }
+    ensures kept { (t : Tree) → IsAutoOf auto.old t → IsAutoOf auto.new t }
+{
+    let mut spans = Vec::new(alloc);
+    let mut from = 0;
+    while let Some((start, end)) = first_not_empty(auto, text, from)? {
+        let line = push_lines(&mut spans, text, from, start, newlines)?;
+        push(&mut spans, line, start)?;
+        from = end;
+    }
+    let line = push_lines(&mut spans, text, from, text.len(), newlines)?;
+    push(&mut spans, line, text.len())?;
+    Ok(spans)
+}
+
+fn byte_marks(byte: u8, newlines: bool) -> Marks
+    ensures { result ≡ (if newlines then marks.ByteOrNewline byte else marks.Byte byte) }
+{
+    if newlines {
+        Marks::ByteOrNewline(byte)
+    } else {
+        Marks::Byte(byte)
+    }
+}
+
+/// The fields of a text, as parts of it. An empty text has none. Where `newlines` says so, newlines separate too, unless each byte is
+/// a field; of a newline and a match of an expression the earlier counts, and at one place the longer.
+///
+/// # Errors
+///
+/// [`Stop::NoMemory`] alone.
+pub fn split_text(
+    alloc: Global,
+    text: &[u8],
+    sep: &mut Sep,
+    newlines: bool,
+) -> Result<Vec<Span>, Stop>
+    requires { IsAnySep sep.old }
+    ensures ok { (s : Separator) → IsSep sep.old s → IfOk result (λ spans. AreSpans text.now spans.items (pieces_of s newlines text.now)) }
+    ensures kept { (s : Separator) → IsSep sep.old s → IsSep sep.new s }
+    ensures err { IfErr result (λ stop. stop ≡ stops.NoMemory) }
+{
+    if text.is_empty() {
+        return Ok(Vec::new(alloc));
+    }
+    match sep {
+        Sep::Blanks => Ok(split_by(alloc, text, Marks::Blanks)?),
+        Sep::EachByte => Ok(split_each(alloc, text)?),
+        Sep::Byte(byte) => {
+            let marks = byte_marks(*byte, newlines);
+            Ok(split_by(alloc, text, marks)?)
+        }
+        Sep::Ere(auto) => Ok(split_by_ere(alloc, text, auto, newlines)?),
+    }
+}

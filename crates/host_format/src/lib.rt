@@ -1,0 +1,19 @@
+//! The text functions of awk (POSIX.1-2017 awk, "String Functions", "Formatted output", the use of FS), in whole numbers and bytes.
+#![tactic(auto)]
+
+mod eres;
+mod fields;
+mod marks;
+mod put;
+mod replacement;
+mod sep;
+mod span;
+mod substitution;
+mod text;
+
+pub use eres::expression;
+pub use fields::split_text;
+pub use sep::Sep;
+pub use span::Span;
+pub use substitution::{Substituted, substitute};
+pub use text::{index_of, lower, substr, upper};

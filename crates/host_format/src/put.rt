@@ -1,0 +1,41 @@
+//! Texts that grow up to the limit.
+ghost use Rattle.std.specs.Prelude.{◌≡◌, ◌+◌, ◌^◌, ◌++◌, ◌<◌, ◌≤◌, IfErr, OnOk, length, replicate};
+ghost use Rattle.awk_values.specs.declared.fault.Fault.TheVariants.{TextLimit};
+ghost use Rattle.awk_values.specs.declared.fault.Stop.TheVariants as stops;
+ghost use Rattle.host_format.specs.Outcomes.{IsPast};
+
+use awk_values::{Fault, Stop};
+use std::alloc::AllocError;
+
+/// The most bytes of a text.
+const LIMIT: usize = 1 << 26;
+
+/// Whether so many bytes more are within the limit.
+pub(crate) fn room(before: usize, more: usize) -> Result<(), Stop>
+    ensures ok { OnOk result (before + more ≤ 2 ^ 26) }
+    ensures err { IfErr result (λ stop. (stop ≡ stops.Fault TextLimit) × (2 ^ 26 < before + more)) }
+{
+    if before > LIMIT || more > LIMIT - before {
+        return Err(Stop::Fault(Fault::TextLimit));
+    }
+    Ok(())
+}
+
+/// Adds bytes.
+pub(crate) fn put(out: &mut Vec<u8>, bytes: &[u8]) -> Result<(), Stop>
+    ensures ok { OnOk result (out.new.items ≡ out.old.items ++ bytes.now) }
+    ensures within { OnOk result (length out.new.items ≤ 2 ^ 26) }
+    ensures err { IfErr result (IsPast (out.old.items ++ bytes.now)) }
+{
+    room(out.len(), bytes.len())?;
+    out.extend_from_slice(bytes)?;
+    Ok(())
+}
+
+/// Adds a byte so many times.
+pub(crate) fn fill(out: &mut Vec<u8>, byte: u8, count: usize) -> Result<(), AllocError>
+    requires { length out.old.items + count < 2 ^ 64 }
+    ensures { OnOk result (out.new.items ≡ out.old.items ++ replicate count byte) }
+{
+    out.resize(out.len() + count, byte)
+}

@@ -1,0 +1,178 @@
+//! Substitution.
+ghost use Rattle.std.specs.Prelude.{◌≡◌, ℕ, ◌+◌, ◌^◌, ◌<◌, ◌≤◌, ◌++◌, [], true, false, IfErr, IfOk, IfSome, List, None, Ok, OnOk, Option, Some, length, slice_range};
+ghost use Rattle.ere_syntax.specs.Tree.{Tree};
+ghost use Rattle.ere_match.specs.Autos.{IsAutoOf};
+ghost use Rattle.awk_state.specs.TextRows.{behind, is_empty_at, places_of, replaced, replacement};
+ghost use Rattle.host_format.specs.Expressions.{IsAuto};
+ghost use Rattle.host_format.specs.Outcomes.{IsPast, IsStopOf};
+ghost use Rattle.host_format.specs.Substitutions.{IsNextPlace, IsReplaced, substitution};
+
+use crate::eres::first;
+use crate::put::put;
+use crate::replacement::put_replacement;
+use awk_values::{Bytes, Stop};
+use ere_match::Auto;
+use std::alloc::{AllocError, Global};
+
+/// What a substitution gives.
+#[derive(Debug, Drop)]
+pub struct Substituted {
+    /// How many matches were replaced.
+    pub count: usize,
+    /// The new text.
+    pub text: Bytes,
+}
+
+/// Whether a match is empty and directly after the former one, which ended at `last`.
+fn is_repeated(place: (usize, usize), last: Option<usize>) -> bool
+    ensures { result ≡ is_empty_at last place }
+{
+    match last {
+        Some(end) => place.0 == place.1 && end == place.0,
+        None => false,
+    }
+}
+
+/// The next match to be replaced, from a place on.
+fn next_place(
+    auto: &mut Auto,
+    text: &[u8],
+    at: usize,
+    last: Option<usize>,
+) -> Result<Option<(usize, usize)>, AllocError>
+    requires auto { IsAuto auto.old }
+    ensures found { (t : Tree) → IsAutoOf auto.old t → IfOk result (IsNextPlace t text.now at last) }
+    ensures inside { IfOk result (λ found. IfSome found (λ m. (at ≤ m.0) × (m.0 ≤ m.1) × (m.1 ≤ length text.now))) }
+    ensures kept { (t : Tree) → IsAutoOf auto.old t → IsAutoOf auto.new t }
+    ensures auto { IsAuto auto.new }
+{
+    if at > text.len() {
+        return Ok(None);
+    }
+    let Some(place) = first(auto, text, at)? else {
+        return Ok(None);
+    };
+    if !is_repeated(place, last) {
+        return Ok(Some(place));
+    }
+    if place.0 == text.len() {
+        return Ok(None);
+    }
+    let found = first(auto, text, place.0 + 1)?;
+    Ok(found)
+}
+
+/// Where matching goes on after a match: an empty one leaves its byte alone.
+fn behind(place: (usize, usize)) -> usize
+    requires { place.1 < 2 ^ 63 }
+    ensures { result ≡ behind place }
+{
+    if place.0 == place.1 {
+        place.1 + 1
+    } else {
+        place.1
+    }
+}
+
+/// Adds what stands before a match, and what replaces the match.
+fn put_place(
+    out: &mut Vec<u8>,
+    by: &[u8],
+    text: &[u8],
+    from: usize,
+    place: (usize, usize),
+) -> Result<(), Stop>
+    requires from { from ≤ place.0 }
+    requires start { place.0 ≤ place.1 }
+    requires end { place.1 ≤ length text.now }
+    ensures ok { OnOk result (out.new.items ≡ out.old.items ++ (slice_range text.now from place.0 ++ replacement (slice_range text.now place.0 place.1) by.now)) }
+    ensures err { IfErr result (IsPast (out.old.items ++ (slice_range text.now from place.0 ++ replacement (slice_range text.now place.0 place.1) by.now))) }
+{
+    put(out, &text[from..place.0])?;
+    put_replacement(out, &text[place.0..place.1], by)
+}
+
+/// Adds the text with every match replaced, and tells how many there were.
+fn put_all(out: &mut Vec<u8>, auto: &mut Auto, by: &[u8], text: &[u8]) -> Result<usize, Stop>
+    requires auto { IsAuto auto.old }
+    requires empty { out.old.items ≡ [] }
+    ensures ok { (t : Tree) → IsAutoOf auto.old t → IfOk result (λ count. IsReplaced t by.now text.now true count out.new.items) }
+    ensures kept { (t : Tree) → IsAutoOf auto.old t → IsAutoOf auto.new t }
+    ensures err { (t : Tree) → IsAutoOf auto.old t → IfErr result (IsPast (replaced text.now by.now 0 (places_of t text.now true))) }
+{
+    let mut count = 0;
+    let mut from = 0;
+    let mut at = 0;
+    let mut last = None;
+    while let Some(place) = next_place(auto, text, at, last)? {
+        put_place(out, by, text, from, place)?;
+        count += 1;
+        from = place.1;
+        last = Some(place.1);
+        at = behind(place);
+    }
+    put(out, &text[from..])?;
+    Ok(count)
+}
+
+/// Adds the text with its first match replaced, and tells how many there were.
+fn put_first(out: &mut Vec<u8>, auto: &mut Auto, by: &[u8], text: &[u8]) -> Result<usize, Stop>
+    requires auto { IsAuto auto.old }
+    requires empty { out.old.items ≡ [] }
+    ensures ok { (t : Tree) → IsAutoOf auto.old t → IfOk result (λ count. IsReplaced t by.now text.now false count out.new.items) }
+    ensures kept { (t : Tree) → IsAutoOf auto.old t → IsAutoOf auto.new t }
+    ensures err { (t : Tree) → IsAutoOf auto.old t → IfErr result (IsPast (replaced text.now by.now 0 (places_of t text.now false))) }
+{
+    let Some(place) = next_place(auto, text, 0, None)? else {
+        put(out, text)?;
+        return Ok(0);
+    };
+    put_place(out, by, text, 0, place)?;
+    put(out, &text[place.1..])?;
+    Ok(1)
+}
+
+/// Adds the text with its first match, or with every match, replaced, and tells how many these were.
+fn put_replaced(
+    out: &mut Vec<u8>,
+    auto: &mut Auto,
+    by: &[u8],
+    text: &[u8],
+    all: bool,
+) -> Result<usize, Stop>
+    requires auto { IsAuto auto.old }
+    requires empty { out.old.items ≡ [] }
+    ensures ok { (t : Tree) → IsAutoOf auto.old t → IfOk result (λ count. IsReplaced t by.now text.now all count out.new.items) }
+    ensures kept { (t : Tree) → IsAutoOf auto.old t → IsAutoOf auto.new t }
+    ensures err { (t : Tree) → IsAutoOf auto.old t → IfErr result (IsPast (replaced text.now by.now 0 (places_of t text.now all))) }
+{
+    if all {
+        put_all(out, auto, by, text)
+    } else {
+        put_first(out, auto, by, text)
+    }
+}
+
+/// The text with its first match, or with every match, replaced (POSIX.1-2017 awk, "String Functions", sub and gsub). Matches are taken
+/// from left to right; an empty match directly after the former match is none.
+///
+/// # Errors
+///
+/// `TextLimit` where the new text is past 67,108,864 bytes, and [`Stop::NoMemory`].
+pub fn substitute(
+    alloc: Global,
+    auto: &mut Auto,
+    by: &[u8],
+    text: &[u8],
+    all: bool,
+) -> Result<Substituted, Stop>
+    requires { IsAuto auto.old }
+    ensures ok { (t : Tree) → IsAutoOf auto.old t → IfOk result (λ new. substitution t by.now text.now all ≡ Ok (new.count, new.text)) }
+    ensures kept { (t : Tree) → IsAutoOf auto.old t → IsAutoOf auto.new t }
+    ensures err { (t : Tree) → IsAutoOf auto.old t → IfErr result (IsStopOf (substitution t by.now text.now all)) }
+{
+    let mut out = Vec::new(alloc);
+    let count = put_replaced(&mut out, auto, by, text, all)?;
+    let text = Bytes::from_vec(out)?;
+    Ok(Substituted { count, text })
+}

@@ -1,0 +1,5 @@
+pub mod Cuts
+pub mod Finding
+pub mod Turns
+pub mod Places
+pub mod Held

@@ -1,0 +1,35 @@
+use Rattle.std.proofs.Common.{◌≡◌, refl}
+use Rattle.world_core.specs.Calls.{Kind, Reading}
+use Rattle.host_streams.specs.declared.reader.Phase.{Phase}
+use Rattle.host_streams.specs.declared.streams.NamedReader.{NamedReader}
+use Rattle.host_streams.specs.Readers.{NextCounts}
+use Rattle.host_streams.specs.OpenFiles.{reader_handle, writer_handle, AreOpen}
+use Rattle.host_streams.proofs.Held.{open_next, phase_next, named_next, held_next, told_next, go_same}
+use Rattle.host_streams.proofs.streams.Streams.next_at.Goals as goal
+
+pub next-requires : goal.next-requires
+next-requires g c = record {
+  reading = open_next c.args.name.now c.args.self.now.readers.items c.args.at c.requires.place c.index_mut-named.result.now c.index_mut-named.ensures.value (g.W.World.kinds c.args.world.now) c.requires.held.0;
+}
+
+pub returns-clause-held : goal.returns-clause-held
+returns-clause-held g c = rw c.next.ensures.kinds (
+  held_next c.args.name.now c.args.self.now.readers.items c.args.at c.requires.place c.index_mut-named.result.now c.index_mut-named.ensures.value (record { name = c.index_mut-named.result.now.name; reader = c.next.new.self }) (g.W.World.kinds c.args.world.now) refl c.next.ensures.id c.requires.held.0,
+  c.requires.held.1,
+)
+
+pub returns-clause-count : goal.returns-clause-count
+returns-clause-count g c =
+    rw (phase_next c.args.name.now c.args.self.now.readers.items c.args.at c.requires.place c.index_mut-named.result.now c.index_mut-named.ensures.value) c.next.ensures.count
+
+pub returns-clause-goes : goal.returns-clause-goes
+returns-clause-goes g c = λ tells. go_same c.args.self.now.writers.items _ _ (c.next.ensures.only tells).writers (c.requires.goes tells)
+
+pub returns-clause-told : goal.returns-clause-told
+returns-clause-told g c = λ tells. record {
+  before = _;
+  named = named_next c.args.name.now c.args.self.now.readers.items c.args.at c.requires.place c.index_mut-named.result.now c.index_mut-named.ensures.value (g.W.World.state c.args.world.now);
+  later = _;
+  answers = c.next.ensures.told tells;
+  readers = told_next c.args.name.now c.args.self.now.readers.items c.args.at c.requires.place c.index_mut-named.result.now c.index_mut-named.ensures.value (record { name = c.index_mut-named.result.now.name; reader = c.next.new.self }) (g.W.World.kinds c.args.world.now) (g.W.World.state c.args.world.now) (g.W.World.state c.next.new.world) refl c.next.ensures.id c.requires.held.0 (c.next.ensures.only tells);
+}

@@ -1,0 +1,48 @@
+use Rattle.std.proofs.Common.{◌≡◌, ◌∙◌, ◌++◌, ◌∷◌, [], ◌<◌, ◌+◌, sym, ap, subst, refl, List, ℕ, Some, Ok, length, arith}
+use Rattle.std.proofs.lemmas.Bool.{lt-ltb}
+use Rattle.awk_state.specs.InputRows.{with_reader}
+use Rattle.host_streams.specs.declared.streams.NamedReader.{NamedReader}
+use Rattle.host_streams.specs.OpenFiles.{is_reader, phase_named, reader_place, readers_in}
+use Rattle.host_streams.proofs.Places.{all_fail, last_place}
+use Rattle.host_streams.proofs.Held.{held_open, go_on, opened_last, source_opened, named_last, phase_last}
+use Rattle.host_streams.proofs.streams.Streams.open_reader.Goals as goal
+
+pub returns-in-Ok-clause-held : goal.returns-in-Ok-clause-held
+returns-in-Ok-clause-held g c =
+    let r : NamedReader = record { name = c.in_ok-own.own; reader = c.new-reader.result } in
+    let items = c.push_reserved.ensures.items ∙ ap (λ xs. xs ++ r ∷ []) c.reserve.ensures.items in
+    rw items (held_open (g.W.World.kinds c.args.world.now) (g.W.World.kinds c.open_read.new.self) c.args.name.now r c.args.self.now.readers.items _
+    (g.met.W.World.input c.args.world.now) (g.met.W.World.output c.args.world.now) (rw c.new-reader.ensures.id c.in-Ok.ensures.opened) c.in_ok-own.ensures c.requires.missing c.requires.held)
+
+pub returns-in-Ok-clause-place : goal.returns-in-Ok-clause-place
+returns-in-Ok-clause-place g c =
+    let r : NamedReader = record { name = c.in_ok-own.own; reader = c.new-reader.result } in
+    let items = c.push_reserved.ensures.items ∙ ap (λ xs. xs ++ r ∷ []) c.reserve.ensures.items in
+    ap (reader_place c.args.name.now) items ∙ named_last c.args.name.now c.args.self.now.readers.items r c.requires.missing c.in_ok-own.ensures ∙ ap (λ xs. Some (length xs)) (sym c.as_slice-at.ensures.value)
+
+pub returns-in-Ok-clause-goes : goal.returns-in-Ok-clause-goes
+returns-in-Ok-clause-goes g c = λ tells. go_on _ c.in-Ok.id c.args.self.now.writers.items _ _ c.in-Ok.ensures.opened.was_closed c.requires.held.1 (c.in-Ok.ensures.told tells).others (c.requires.goes tells)
+
+pub returns-in-Ok-clause-told : goal.returns-in-Ok-clause-told
+returns-in-Ok-clause-told g c = λ tells.
+    let r : NamedReader = record { name = c.in_ok-own.own; reader = c.new-reader.result } in
+    let items = c.push_reserved.ensures.items ∙ ap (λ xs. xs ++ r ∷ []) c.reserve.ensures.items in
+    let told = c.in-Ok.ensures.told tells in
+    let id = c.new-reader.ensures.id in
+    let readers : length c.as_slice.result.now ≡ length c.args.self.now.readers.items = ap length c.as_slice.ensures.value in
+    let writers : length c.as_slice-2.result.now ≡ length c.args.self.now.writers.items = ap length c.as_slice-2.ensures.value in
+    let few : length c.args.self.now.readers.items + length c.args.self.now.writers.items < 256 = (let below = c.if-as_slice-ge-STREAMS.false in omega arith) in (
+      lt-ltb (length c.args.self.now.readers.items + length c.args.self.now.writers.items) 256 few,
+      (g.W.World.state c.open_read.new.self).readers c.in-Ok.id,
+      source_opened _ _ told.opens told.bytes told.ending,
+      ap (λ xs. readers_in xs (g.W.World.state c.open_read.new.self)) items
+          ∙ opened_last (g.W.World.kinds c.args.world.now) c.args.name.now r c.args.self.now.readers.items (g.W.World.state c.args.world.now) (g.W.World.state c.open_read.new.self)
+          (rw id c.in-Ok.ensures.opened.was_closed) c.in_ok-own.ensures c.new-reader.ensures.fresh (all_fail (is_reader c.args.name.now) c.args.self.now.readers.items c.requires.missing) c.requires.held.0 (rw id told.others)
+          ∙ ap (λ k. with_reader c.args.name.now ((g.W.World.state c.open_read.new.self).readers k) (readers_in c.args.self.now.readers.items (g.W.World.state c.args.world.now))) id,
+    )
+
+pub returns-in-Ok-clause-phase : goal.returns-in-Ok-clause-phase
+returns-in-Ok-clause-phase g c =
+    let r : NamedReader = record { name = c.in_ok-own.own; reader = c.new-reader.result } in
+    let items = c.push_reserved.ensures.items ∙ ap (λ xs. xs ++ r ∷ []) c.reserve.ensures.items in
+    ap (phase_named c.args.name.now) items ∙ phase_last c.args.name.now c.args.self.now.readers.items r c.requires.missing c.in_ok-own.ensures ∙ c.new-reader.ensures.fresh.0

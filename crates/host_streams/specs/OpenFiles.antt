@@ -1,0 +1,97 @@
+-- The files that a script has open, by their names.
+use Rattle.std.specs.Prelude.{◌≡◌, ◌≢◌, ◌⊎◌, ℕ, ◌+◌, ◌%◌, ◌^◌, ◌<◌, nat_lt, List, [], ◌∷◌, map, length, Bool, true, false, Option, Some, None, Result, Ok, Err, position, if◌then◌else◌}
+use Rattle.awk_values.specs.declared.fault.Fault.TheVariants.{TooManyStreams}
+use Rattle.awk_values.specs.declared.fault.Stop.{Stop}
+use Rattle.awk_values.specs.declared.fault.Stop.TheVariants.{Fault as IsFault, NoMemory}
+use Rattle.world_core.specs.WorldState.{State, Source, Named, Entry}
+use Rattle.world_core.specs.Calls.{Kind, Reading, Writing}
+use Rattle.awk_state.specs.Texts.{same_text}
+use Rattle.awk_state.specs.InputRows.{reader_named, with_reader, source_of}
+use Rattle.host_streams.specs.declared.reader.Phase.{Phase}
+use Rattle.host_streams.specs.declared.reader.Phase.TheVariants.{Open, Broken}
+use Rattle.host_streams.specs.declared.reader.FileNext.{FileNext}
+use Rattle.host_streams.specs.declared.reader.FileNext.TheVariants.{Record, End, Failed}
+use Rattle.host_streams.specs.declared.streams.NamedReader.{NamedReader}
+use Rattle.host_streams.specs.declared.streams.NamedWriter.{NamedWriter}
+use Rattle.host_streams.specs.declared.streams.Streams.{Streams}
+use Rattle.host_streams.specs.Readers.{left, Answers}
+
+-- the name and the number of an open stream
+abbrev pub reader_handle : NamedReader → List ℕ × ℕ
+reader_handle r = (r.name, r.reader.id)
+
+abbrev pub writer_handle : NamedWriter → List ℕ × ℕ
+writer_handle w = (w.name, w.id)
+
+-- no other has the name or the number
+abbrev pub IsApart : List ℕ × ℕ → List (List ℕ × ℕ) → Type 0
+IsApart h [] = Unit {0}
+IsApart h (g ∷ gs) = (h.0 ≢ g.0) × (h.1 ≢ g.1) × IsApart h gs
+
+-- these streams are open, each by itself, and none is a standard stream
+abbrev pub AreOpen : Kind → List (List ℕ × ℕ) → (ℕ → Kind) → Type 0
+AreOpen kind [] kinds = Unit {0}
+AreOpen kind (h ∷ hs) kinds = (1 < h.1) × (kinds h.1 ≡ kind) × IsApart h hs × AreOpen kind hs kinds
+
+-- what it holds open is open in the world
+abbrev pub HoldsOpen : Streams → (ℕ → Kind) → Type 0
+HoldsOpen s kinds = AreOpen Reading (map reader_handle s.readers.items) kinds × AreOpen Writing (map writer_handle s.writers.items) kinds
+
+abbrev pub IsMissing : Streams → Type 0
+IsMissing s = (s.readers.items ≡ []) × (s.writers.items ≡ [])
+
+-- each writer writes to its name
+abbrev pub WritersGo : List NamedWriter → State → Type 0
+WritersGo [] state = Unit {0}
+WritersGo (w ∷ ws) state = (state.writers w.id ≡ Named w.name) × WritersGo ws state
+
+-- by their names, what the readers have left
+abbrev pub readers_in : List NamedReader → State → List (List ℕ × Source)
+readers_in readers state = map (λ r. (r.name, left r.reader (state.readers r.reader.id))) readers
+
+abbrev pub is_reader : List ℕ → NamedReader → Bool
+is_reader name r = same_text name r.name
+
+abbrev pub reader_place : List ℕ → List NamedReader → Option ℕ
+reader_place name readers = position (is_reader name) readers
+
+abbrev pub phase_named : List ℕ → List NamedReader → Phase
+phase_named name [] = Open
+phase_named name (r ∷ rs) = if is_reader name r then r.reader.phase else phase_named name rs
+
+-- one more may be opened
+abbrev pub has_room : Streams → Bool
+has_room s = nat_lt (length s.readers.items + length s.writers.items) 256
+
+-- a file is opened, or there is no room for it, or it does not open
+abbrev pub OpensFile : List ℕ → Bool → State → List (List ℕ × Source) → Result (Option ℕ) Stop → List (List ℕ × Source) → Type 0
+OpensFile name room state old (Ok (Some at)) new = (room ≡ true) × (source : Source) × (source_of (state.outside (Named name)) ≡ Some source) × (new ≡ with_reader name source old)
+OpensFile name room state old (Ok None) new = (room ≡ true) × (source_of (state.outside (Named name)) ≡ None) × (new ≡ old)
+OpensFile name room state old (Err (IsFault fault)) new = (room ≡ false) × (fault ≡ TooManyStreams) × (new ≡ old)
+OpensFile name room state old (Err NoMemory) new = (room ≡ true) × (new ≡ old)
+
+abbrev pub OpenCounts : Result (Option ℕ) Stop → ℕ → ℕ → Type 0
+OpenCounts (Ok None) n m = m ≡ (n + 1) % 2 ^ 64
+OpenCounts r n m = m ≡ n
+
+-- the next record of a file that is open
+pub record ReadsFile (name : List ℕ) (rs : Option ℕ) (old : List (List ℕ × Source)) (answer : Result FileNext Stop) (new : List (List ℕ × Source)) : Type 0 where
+  pub before : Source
+  pub named : reader_named name old ≡ Some before
+  pub later : Source
+  pub answers : Answers rs before answer later
+  pub readers : new ≡ with_reader name later old
+
+-- a file without a reader: there is no room for one more, or it does not open, or it is opened and read
+abbrev pub StartsFile : Bool → Option Source → List ℕ → Option ℕ → List (List ℕ × Source) → Result FileNext Stop → List (List ℕ × Source) → Type 0
+StartsFile false source name rs old answer new = (answer ≡ Err (IsFault TooManyStreams)) × (new ≡ old)
+StartsFile true None name rs old answer new = ((answer ≡ Ok Failed) ⊎ (answer ≡ Err NoMemory)) × (new ≡ old)
+StartsFile true (Some source) name rs old answer new = ReadsFile name rs (with_reader name source old) answer new ⊎ ((answer ≡ Err NoMemory) × (new ≡ old))
+
+abbrev pub FileNextBy : Option Source → List ℕ → Option ℕ → Bool → Entry → List (List ℕ × Source) → Result FileNext Stop → List (List ℕ × Source) → Type 0
+FileNextBy (Some source) name rs room entry old answer new = ReadsFile name rs old answer new
+FileNextBy None name rs room entry old answer new = StartsFile room (source_of entry) name rs old answer new
+
+-- the next record of a file: what the name holds is read when it is opened
+abbrev pub FileNextIs : List ℕ → Option ℕ → Bool → Entry → List (List ℕ × Source) → Result FileNext Stop → List (List ℕ × Source) → Type 0
+FileNextIs name rs room entry old answer new = FileNextBy (reader_named name old) name rs room entry old answer new

@@ -1,0 +1,10 @@
+//! What a script reads and writes: records of the files that are open, texts to the files that are open (POSIX.1-2017 awk, "Input Functions and
+//! Statements", "Output Statements").
+#![tactic(auto)]
+
+mod look;
+mod reader;
+mod streams;
+
+pub use reader::FileNext;
+pub use streams::Streams;

@@ -1,9 +1,0 @@
-use Rattle.std.proofs.Common.{◌≡◌, ◌-◌, map}
-use Rattle.wasm_types.specs.View.{view_elem}
-use Rattle.module_decoder.specs.Readers.{each_at, vec_at}
-use Rattle.module_decoder.specs.Reading.{elem_at}
-use Rattle.module_decoder.proofs.Loops.{with_items}
-use Rattle.module_decoder.proofs.parts.elems.Given as goal
-
-abbrev pub invariant-loop : goal.invariant-loop
-invariant-loop l = with_items (map view_elem l.all.items) (each_at (elem_at l.c) (l.count - l.counter) l.rest) ≡ vec_at l.c (elem_at l.c) l.bytes

@@ -1,0 +1,12 @@
+pub mod ScriptState
+pub mod Meaning
+pub mod ScriptRun
+pub mod Mid
+pub mod MidMeaning
+pub mod ViewCode
+pub mod Unique
+pub mod View
+pub mod Kept
+pub mod Covered
+pub mod Translation
+pub mod Rows

@@ -1,0 +1,2 @@
+pub mod EndTexts
+pub mod Examples

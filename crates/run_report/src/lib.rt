@@ -1,0 +1,6 @@
+//! What is told of a run's end and of a file: the exit status, and a line for the standard error.
+#![tactic(auto)]
+
+mod report;
+
+pub use report::{FileFault, fault_text, file_fault_text, status_of};
