@@ -262,14 +262,15 @@ impl Bench {
         }
     }
 
-    /// Puts a text at the front of memory.
-    fn put(&mut self, text: &str) {
+    /// Puts a text at the front of memory, and gives its length.
+    fn put(&mut self, text: &str) -> u32 {
         let mut at: u32 = 0;
         for byte in text.as_bytes() {
             let word = Word::I32(u32::from(*byte));
             let _ = self.memory.store(StoreOp::I32Store8, at, 0, word);
             at = at.wrapping_add(1);
         }
+        at
     }
 
     /// Whether an import answers with a handle that was not given before; it is kept.
@@ -285,8 +286,8 @@ impl Bench {
     fn row(&mut self, alloc: Global, row: Row) -> Result<bool, AllocError> {
         match row {
             Text(text) => {
-                self.put(text);
-                self.gives(alloc, "lit", &[Code(0), Code(text.len() as u32)])
+                let length = self.put(text);
+                self.gives(alloc, "lit", &[Code(0), Code(length)])
             }
             Gives(name, args) => self.gives(alloc, name, args),
             Answers(name, args, wanted) => Ok(self.call(alloc, name, args)? == wanted),
