@@ -2,7 +2,6 @@
 
 use module_decoder::{DecodeFault, decode};
 use std::test::Fail;
-use wasm_types::{ExportDesc, Instr, Limits, Simple, ValType};
 
 const HEADER: [u8; 8] = [0x00, 0x61, 0x73, 0x6d, 0x01, 0x00, 0x00, 0x00];
 
@@ -47,57 +46,5 @@ fn random_bytes(rt: HostRuntime) -> Result<(), Fail> {
         let wants_memory = matches!(decode(rt.alloc(), &bytes), Err(DecodeFault::NoMemory));
         assert!(rt; !wants_memory);
     }
-    Ok(())
-}
-
-#[test]
-fn every_section(rt: HostRuntime) -> Result<(), Fail> {
-    let mut bytes = HEADER.to_vec(rt.alloc())?;
-    bytes.extend_from_slice(&[
-        0x01, 0x09, 0x02, 0x60, 0x01, 0x7f, 0x00, 0x60, 0x00, 0x01, 0x7e,
-    ])?;
-    bytes.extend_from_slice(&[0x02, 0x07, 0x01, 0x01, 0x61, 0x01, 0x62, 0x00, 0x00])?;
-    bytes.extend_from_slice(&[0x03, 0x02, 0x01, 0x01])?;
-    bytes.extend_from_slice(&[0x04, 0x05, 0x01, 0x70, 0x01, 0x02, 0x03])?;
-    bytes.extend_from_slice(&[0x05, 0x03, 0x01, 0x00, 0x01])?;
-    bytes.extend_from_slice(&[0x06, 0x06, 0x01, 0x7e, 0x01, 0x42, 0x7f, 0x0b])?;
-    bytes.extend_from_slice(&[0x07, 0x05, 0x01, 0x01, 0x6d, 0x02, 0x00])?;
-    bytes.extend_from_slice(&[0x08, 0x01, 0x00])?;
-    bytes.extend_from_slice(&[0x09, 0x07, 0x01, 0x00, 0x41, 0x00, 0x0b, 0x01, 0x01])?;
-    bytes.extend_from_slice(&[0x0a, 0x08, 0x01, 0x06, 0x01, 0x02, 0x7f, 0x42, 0x05, 0x0b])?;
-    bytes.extend_from_slice(&[0x0b, 0x08, 0x01, 0x00, 0x41, 0x01, 0x0b, 0x02, 0x68, 0x69])?;
-    let module = decode(rt.alloc(), bytes.as_slice())?;
-    assert_eq!(rt; module.types.len(), 2);
-    assert_eq!(rt; module.imports.len(), 1);
-    assert_eq!(rt; module.funcs.len(), 1);
-    assert_eq!(rt;
-        module.table,
-        Some(Limits {
-            min: 2,
-            max: Some(3)
-        })
-    );
-    assert_eq!(rt; module.memory, Some(Limits { min: 1, max: None }));
-    assert_eq!(rt; module.start, Some(0));
-    let func = module.funcs.get(0).ok_or("no function")?;
-    assert_eq!(rt; func.ty, 1);
-    assert_eq!(rt;
-        func.locals.as_slice(),
-        [ValType::I32, ValType::I32].as_slice()
-    );
-    let Some(Instr::Plain(first)) = func.body.get(0) else {
-        return Err(Fail::from("no instruction"));
-    };
-    assert_eq!(rt; *first, Simple::I64Const(5));
-    let global = module.globals.get(0).ok_or("no global")?;
-    let Some(Instr::Plain(init)) = global.init.get(0) else {
-        return Err(Fail::from("no value"));
-    };
-    assert_eq!(rt; *init, Simple::I64Const(u64::MAX));
-    let export = module.exports.get(0).ok_or("no export")?;
-    assert_eq!(rt; export.name.as_str(), "m");
-    assert_eq!(rt; export.desc, ExportDesc::Memory(0));
-    let data = module.data.get(0).ok_or("no data")?;
-    assert_eq!(rt; data.init.as_slice(), b"hi".as_slice());
     Ok(())
 }

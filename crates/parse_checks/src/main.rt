@@ -1,13 +1,13 @@
 //! Says of each script on standard input whether it has a tree, or why it has none.
 //!
 //! A line is a script, in which a byte 1 stands for a newline. The answer is a line: `tree`, or the fault with the script's line and what it names.
-//! The tree itself is not printed: the tokens of a script have no second one. It is looked at: it must be well formed and have as many tokens as the script.
+//! The tree itself is not printed: the tokens of a script have no second one. It is looked at: it must be well formed and have the tokens of the script.
 //! Behind the lines come scripts with very many parentheses.
 #![tactic(auto)]
 
 use awk_parse::{Feature, ParseFault, parse};
-use awk_tokens::{LeftOut, Token, TokenFault, tokens};
-use awk_tree::{Script, is_well_formed, print_tokens};
+use awk_tokens::{LeftOut, Token, TokenFault, TokenKind, tokens};
+use awk_tree::{Printed, Script, is_well_formed, print_tokens};
 use std::alloc::{AllocError, Global};
 use std::io;
 
@@ -73,10 +73,29 @@ fn no_tree(alloc: Global, fault: ParseFault) -> Result<String, AllocError> {
     }
 }
 
+fn is_same(printed: &Printed, token: &Token) -> bool {
+    match (printed, token.kind) {
+        (Printed::Name(name), TokenKind::Name) => *name == token.text,
+        (Printed::FuncName(name), TokenKind::FuncName) => *name == token.text,
+        (Printed::Number(digits), TokenKind::Number) => *digits == token.text,
+        (Printed::Str(text), TokenKind::Str) => *text == token.text,
+        (Printed::Ere(text), TokenKind::Ere) => *text == token.text,
+        (Printed::Keyword(word), TokenKind::Keyword(other)) => *word == other,
+        (Printed::Builtin(function), TokenKind::Builtin(other)) => *function == other,
+        (Printed::Punctuator(mark), TokenKind::Punctuator(other)) => *mark == other,
+        _ => false,
+    }
+}
+
+/// Whether these are the tokens of the script, lines and the texts of punctuators and words aside.
+fn are_same(printed: &[Printed], found: &[Token]) -> bool {
+    printed.len() == found.len() && printed.iter().zip(found).all(|(p, t)| is_same(p, t))
+}
+
 /// What is said of a tree that these tokens have.
 fn tree(alloc: Global, script: &Script, found: &[Token<'_>]) -> Result<String, AllocError> {
     let printed = print_tokens(alloc, script)?;
-    if is_well_formed(script) && printed.len() == found.len() {
+    if is_well_formed(script) && are_same(&printed, found) {
         return format!(in alloc; "tree");
     }
     format!(in alloc; "another tree")

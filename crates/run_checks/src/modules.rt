@@ -53,58 +53,82 @@ fn end_of(rt: &HostRuntime, parts: &[&str]) -> Result<RunEnd, AllocError> {
     }
 }
 
-#[test]
-fn foreign_modules(rt: HostRuntime) -> Result<(), Fail> {
-    let no_main = RunEnd::Refused(Refusal::Link(LinkFault::NoMain));
-    assert!(rt; end_of(&rt, &["0061736d01000000"])? == no_main);
-    let truncated = RunEnd::Refused(Refusal::Decode(DecodeFault::Truncated(7)));
-    assert!(rt; end_of(&rt, &["0061736d010000"])? == truncated);
-    let bad_integer = RunEnd::Refused(Refusal::Decode(DecodeFault::BadInteger(9)));
-    assert!(rt; end_of(&rt, &["0061736d01000000", "018080808010"])? == bad_integer);
-    let drops_99 = [
-        "0061736d01000000",
-        "0109 02 60017f00 6000017f",
-        "020d 01 0461776b31 0464726f70 0000",
-        "0302 01 01",
-        "0708 01 046d61696e 0001",
-        "0a0b 01 09 00 41e300 1000 4100 0b",
-    ];
-    assert!(rt; end_of(&rt, &drops_99)? == RunEnd::Trapped(TrapKind::BadHandle));
-    let bad_type = RunEnd::Refused(Refusal::Invalid(InvalidFault::BadType(0)));
-    assert!(rt; end_of(&rt, &[START, MAIN, "0a09 01 07 00 027f 0c00 0b 0b"])? == bad_type);
-    Ok(())
-}
+/// Modules by their parts, and how each run ends.
+static MODULES: [(&[&str], RunEnd); 13] = [
+    (
+        &["0061736d01000000"],
+        RunEnd::Refused(Refusal::Link(LinkFault::NoMain)),
+    ),
+    (
+        &["0061736d010000"],
+        RunEnd::Refused(Refusal::Decode(DecodeFault::Truncated(7))),
+    ),
+    (
+        &["0061736d01000000", "018080808010"],
+        RunEnd::Refused(Refusal::Decode(DecodeFault::BadInteger(9))),
+    ),
+    // drops handle 99
+    (
+        &[
+            "0061736d01000000",
+            "0109 02 60017f00 6000017f",
+            "020d 01 0461776b31 0464726f70 0000",
+            "0302 01 01",
+            "0708 01 046d61696e 0001",
+            "0a0b 01 09 00 41e300 1000 4100 0b",
+        ],
+        RunEnd::Trapped(TrapKind::BadHandle),
+    ),
+    (
+        &[START, MAIN, "0a09 01 07 00 027f 0c00 0b 0b"],
+        RunEnd::Refused(Refusal::Invalid(InvalidFault::BadType(0))),
+    ),
+    // calls itself for ever
+    (&[START, MAIN, "0a06 01 04 00 1000 0b"], RunEnd::Exhausted),
+    // the least integer over -1, and its remainder
+    (
+        &[START, MAIN, "0a0d 01 0b 00 418080808078 417f 6d 0b"],
+        RunEnd::Trapped(TrapKind::IntegerOverflow),
+    ),
+    (
+        &[START, MAIN, "0a0d 01 0b 00 418080808078 417f 6f 0b"],
+        RunEnd::Ended(0),
+    ),
+    // a table of one empty element
+    (
+        &[
+            START,
+            "0404 01 70 00 01",
+            MAIN,
+            "0a09 01 07 00 4100 110000 0b",
+        ],
+        RunEnd::Trapped(TrapKind::EmptyElement),
+    ),
+    (
+        &[
+            START,
+            "0404 01 70 00 01",
+            MAIN,
+            "0a09 01 07 00 4101 110000 0b",
+        ],
+        RunEnd::Trapped(TrapKind::TableBounds),
+    ),
+    (
+        &[START, MAIN, "0a09 01 07 00 4300000000 0b"],
+        RunEnd::Refused(Refusal::Decode(DecodeFault::Float(34))),
+    ),
+    (&[START, MAIN, "0a06 01 04 00 417f 0b"], RunEnd::Ended(255)),
+    // loops for ever
+    (
+        &[START, MAIN, "0a0b 01 09 00 0340 0c00 0b 4100 0b"],
+        RunEnd::OutOfSteps,
+    ),
+];
 
 #[test]
-fn the_integer_core(rt: HostRuntime) -> Result<(), Fail> {
-    assert!(rt; end_of(&rt, &[START, MAIN, "0a06 01 04 00 1000 0b"])? == RunEnd::Exhausted);
-    let overflow = [START, MAIN, "0a0d 01 0b 00 418080808078 417f 6d 0b"];
-    assert!(rt; end_of(&rt, &overflow)? == RunEnd::Trapped(TrapKind::IntegerOverflow));
-    let remainder = [START, MAIN, "0a0d 01 0b 00 418080808078 417f 6f 0b"];
-    assert!(rt; end_of(&rt, &remainder)? == RunEnd::Ended(0));
-    let empty = [
-        START,
-        "0404 01 70 00 01",
-        MAIN,
-        "0a09 01 07 00 4100 110000 0b",
-    ];
-    assert!(rt; end_of(&rt, &empty)? == RunEnd::Trapped(TrapKind::EmptyElement));
-    let past = [
-        START,
-        "0404 01 70 00 01",
-        MAIN,
-        "0a09 01 07 00 4101 110000 0b",
-    ];
-    assert!(rt; end_of(&rt, &past)? == RunEnd::Trapped(TrapKind::TableBounds));
-    let float = RunEnd::Refused(Refusal::Decode(DecodeFault::Float(34)));
-    assert!(rt; end_of(&rt, &[START, MAIN, "0a09 01 07 00 4300000000 0b"])? == float);
-    Ok(())
-}
-
-#[test]
-fn statuses_and_steps(rt: HostRuntime) -> Result<(), Fail> {
-    assert!(rt; end_of(&rt, &[START, MAIN, "0a06 01 04 00 417f 0b"])? == RunEnd::Ended(255));
-    let endless = [START, MAIN, "0a0b 01 09 00 0340 0c00 0b 4100 0b"];
-    assert!(rt; end_of(&rt, &endless)? == RunEnd::OutOfSteps);
+fn ends_of_modules(rt: HostRuntime) -> Result<(), Fail> {
+    for (parts, wanted) in &MODULES {
+        assert!(rt; end_of(&rt, parts)? == *wanted, "{parts:?}");
+    }
     Ok(())
 }
