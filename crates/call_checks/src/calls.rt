@@ -155,7 +155,18 @@ static FULL_OUTPUT: [Row<'static>; 8] = [
     Answers("print", &[Code(1), Code(0)], MINUS_ONE),
 ];
 
-static LONGEST_TEXT: [Row<'static>; 6] = [
+static LONGEST_TEXT: [Row<'static>; 17] = [
+    Gives("lit", &[Code(0), Code(65536)]),
+    Gives("concat", &[Given(0), Given(0)]),
+    Gives("concat", &[Given(1), Given(1)]),
+    Gives("concat", &[Given(2), Given(2)]),
+    Gives("concat", &[Given(3), Given(3)]),
+    Gives("concat", &[Given(4), Given(4)]),
+    Gives("concat", &[Given(5), Given(5)]),
+    Gives("concat", &[Given(6), Given(6)]),
+    Gives("concat", &[Given(7), Given(7)]),
+    Gives("concat", &[Given(8), Given(8)]),
+    Gives("concat", &[Given(9), Given(9)]),
     Gives("uninit", &[]),
     Gives("concat", &[Given(10), Given(11)]),
     Keeps(None),
@@ -361,13 +372,7 @@ fn numbers_out_of_range(rt: HostRuntime) -> Result<(), Fail> {
 
 #[test]
 fn text_limit(rt: HostRuntime) -> Result<(), Fail> {
-    let alloc = rt.alloc();
-    let mut bench = Bench::new(alloc, None)?;
-    let mut held = bench.gives(alloc, "lit", &[Code(0), Code(65536)])?;
-    for last in 0..10 {
-        held = bench.gives(alloc, "concat", &[Given(last), Given(last)])? && held;
-    }
-    assert!(rt; held && rows_hold(alloc, &mut bench, &LONGEST_TEXT)?);
+    assert!(rt; all_hold(rt.alloc(), None, &LONGEST_TEXT, "")?);
     Ok(())
 }
 
