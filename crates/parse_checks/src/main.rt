@@ -73,9 +73,10 @@ fn no_tree(alloc: Global, fault: ParseFault) -> Result<String, AllocError> {
     }
 }
 
+/// Whether a token is the printed one. The name after `function` is printed as a name, also where a parenthesis follows at once.
 fn is_same(printed: &Printed, token: &Token) -> bool {
     match (printed, token.kind) {
-        (Printed::Name(name), TokenKind::Name) => *name == token.text,
+        (Printed::Name(name), TokenKind::Name | TokenKind::FuncName) => *name == token.text,
         (Printed::FuncName(name), TokenKind::FuncName) => *name == token.text,
         (Printed::Number(digits), TokenKind::Number) => *digits == token.text,
         (Printed::Str(text), TokenKind::Str) => *text == token.text,
