@@ -1,9 +1,8 @@
 -- Refusals one after another.
 use Rattle.std.proofs.Common.{◌≡◌, List, Bool, Option, None, ap, sym, ◌∙◌}
 use Rattle.std.specs.Option.{option_map}
-use Rattle.awk_grammar.specs.Item.{Item}
-use Rattle.awk_resolve.specs.Marks.{Mark, Array, Scalar, script_marks}
-use Rattle.awk_resolve.specs.Kinds.{Key, Head, Refusal, KindClash, or_else, first, clash, is_used_as, name_refusal, refusal, refusal_by, heads, resolved, functions_by, globals_by, variables}
+use Rattle.awk_resolve.specs.Marks.{Mark, Array, Scalar}
+use Rattle.awk_resolve.specs.Kinds.{Key, Head, Refusal, KindClash, or_else, first, clash, is_used_as, name_refusal, refusal_by}
 use Rattle.awk_resolve.specs.ViewResolved.{IsCause}
 use Rattle.awk_resolve.specs.declared.fault.ResolveFault.{ResolveFault}
 use Rattle.awk_resolve.specs.declared.fault.ResolveFault.TheVariants.{TooMany, DuplicateName, UnknownFunction, ArgCount, KindClash as KindClashFault, NoMemory}
@@ -23,11 +22,3 @@ clash_of arrays scalars hs ms = option_map KindClash (first (clash arrays scalar
 -- the clash by the sets that the code has is that of the definition
 pub by_sets : (a s : Key → Bool) (hs : List Head) (ms : List Mark) → a ≡ is_used_as Array hs ms → s ≡ is_used_as Scalar hs ms → name_refusal hs ms ≡ None → clash_of a s hs ms ≡ refusal_by hs ms
 by_sets a s hs ms e f none = (λ i. clash_of (e i) (f i) hs ms) ∙ sym (ap (λ (u : Option Refusal). or_else u (clash_of (is_used_as Array hs ms) (is_used_as Scalar hs ms) hs ms)) none)
-
-pub of_script : (hs : List Head) (ms : List Mark) (script : List Item) → hs ≡ heads script → ms ≡ script_marks script → refusal_by hs ms ≡ refusal script
-of_script hs ms script e f = λ i. refusal_by (e i) (f i)
-
--- the kinds by the set that the code has are those of the definition
-pub names_by_set : (a : Key → Bool) (keys : List Key) (hs : List Head) (ms : List Mark) (script : List Item) → a ≡ is_used_as Array hs ms → keys ≡ variables hs ms → hs ≡ heads script → ms ≡ script_marks script
-    → record { functions = functions_by a hs; globals = globals_by a keys } ≡ resolved script
-names_by_set a keys hs ms script e f g h = (λ i. record { functions = functions_by (e i) hs; globals = globals_by (e i) (f i) }) ∙ (λ i. record { functions = functions_by (is_used_as Array (g i) (h i)) (g i); globals = globals_by (is_used_as Array (g i) (h i)) (variables (g i) (h i)) })

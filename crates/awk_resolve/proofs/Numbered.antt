@@ -3,7 +3,7 @@ use Rattle.std.proofs.Common.{◌≡◌, ℕ, zero, suc, Bool, true, false, List
 use Rattle.std.specs.List.{slice_get, list_any}
 use Rattle.std.proofs.lemmas.List.{map-append}
 use Rattle.awk_resolve.specs.Marks.{Kind, Mark, Defined, Parameter, Used, Called, Computed, Given}
-use Rattle.awk_resolve.specs.Kinds.{Key, Head, same_key, same_kind, with_key, with_maybe, with_mark, with_marks, used, members, specials_of, Whole, pairs, key_in, parameter_at, pair_of}
+use Rattle.awk_resolve.specs.Kinds.{Key, Head, same_key, same_kind, with_key, with_maybe, used, members, specials_of, Whole, pairs, key_in, parameter_at, pair_of}
 use Rattle.std.specs.Borrow.{Bor}
 use Rattle.awk_resolve.specs.ViewNames.{names}
 use Rattle.awk_resolve.specs.Numbered.{AreNumbers, ArePairs, both_at, both_some, one_if, all_if}
@@ -78,10 +78,6 @@ pairs_append hs (Used k place x ∷ ms) ns = pairs_append hs ms ns
 pairs_append hs (Called f n ∷ ms) ns = pairs_append hs ms ns
 pairs_append hs (Computed f i ∷ ms) ns = pairs_append hs ms ns
 pairs_append hs (Given f i place x ∷ ms) ns = let q = pair_of (key_in hs place x) (parameter_at hs f i) in ap (λ (u : List (Key × Key)). q ++ u) (pairs_append hs ms ns) ∙ sym (append_assoc q (pairs hs ms) (pairs hs ns))
-
-pub marks_append : (hs : List Head) (ks : List Key) (ms ns : List Mark) → with_marks hs ks (ms ++ ns) ≡ with_marks hs (with_marks hs ks ms) ns
-marks_append hs ks [] ns = refl
-marks_append hs ks (m ∷ ms) ns = marks_append hs (with_mark hs ks m) ms ns
 
 -- The steps of the code.
 

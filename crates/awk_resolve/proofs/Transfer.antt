@@ -8,6 +8,7 @@ use Rattle.awk_resolve.specs.Least.{IsLeast, least}
 use Rattle.awk_resolve.specs.Marked.{is_marked, is_marked_in, place}
 use Rattle.awk_resolve.specs.Numbered.{AreNumbers, ArePairs, both_at, both_some}
 use Rattle.awk_resolve.proofs.Names.{key_sound, key_refl}
+use Rattle.awk_resolve.proofs.Marked.{marked_small}
 use Rattle.awk_resolve.proofs.Least.{least_is}
 
 or_cases : (a b : Bool) → (a || b) ≡ true → (a ≡ true) ⊎ (b ≡ true)
@@ -105,11 +106,6 @@ at_place (x ∷ keys) k lt = by (same_key k x) refl lt (at_place keys k)
     by : (b : Bool) → same_key k x ≡ b → (if b then 0 else suc (place keys k)) < suc (length keys) → (place keys k < length keys → slice_get keys (place keys k) ≡ Some k) → slice_get (x ∷ keys) (if b then 0 else suc (place keys k)) ≡ Some k
     by true e i next = ap Some (sym (key_sound k x e))
     by false e i next = next (omega arith)
-
-marked_small : (ms : List Bool) (n : ℕ) → IsTrue (is_marked ms n) → n < length ms
-marked_small [] n h = absurd (true≢false (sym h))
-marked_small (m ∷ ms) zero h = omega arith
-marked_small (m ∷ ms) (suc n) h = let e = marked_small ms n h in omega (arith, e)
 
 get_small : (keys : List Key) (n : ℕ) (k : Key) → slice_get keys n ≡ Some k → n < length keys
 get_small [] n k h = absurd (cc)

@@ -5,5 +5,10 @@ pub mod Rows
 pub mod View
 pub mod ViewNames
 pub mod Marked
+pub mod Waiting
 pub mod Numbered
+pub mod Places
+pub mod PlaceRows
+pub mod ViewKinds
+pub mod ViewFunctions
 pub mod ViewResolved

@@ -6,31 +6,24 @@ ghost use Rattle.awk_grammar.specs.Item.{Item};
 ghost use Rattle.awk_grammar.specs.ViewStmt.{view_script};
 ghost use Rattle.awk_resolve.specs.Marks.{Kind, Array, script_marks};
 ghost use Rattle.awk_resolve.specs.Least.{IsLeast};
-ghost use Rattle.awk_resolve.specs.Kinds.{KindClash, clash, first, functions_by, globals_by, heads, is_used_as, members, name_refusal, pairs, refusal, refusal_by, resolved, variables};
+ghost use Rattle.awk_resolve.specs.Kinds.{KindClash, clash, first, functions_by, globals_by, heads, is_used_as, members, name_refusal, pairs, refusal, refusal_by, resolved, resolved_by, variables};
 ghost use Rattle.awk_resolve.specs.Marked.{is_marked_in};
 ghost use Rattle.awk_resolve.specs.View.{view_marks};
 ghost use Rattle.awk_resolve.specs.ViewNames.{view_heads, view_variables};
-ghost use Rattle.awk_resolve.specs.ViewResolved.{IsCause, view_functions, view_name_kinds, view_resolved};
+ghost use Rattle.awk_resolve.specs.ViewKinds.{view_name_kinds};
+ghost use Rattle.awk_resolve.specs.ViewFunctions.{view_functions};
+ghost use Rattle.awk_resolve.specs.ViewResolved.{IsCause, view_resolved};
 
 use crate::fault::{Name, ResolveFault};
 use crate::kinds::{Kinds, kinds_of};
-use crate::listing::{FunctionNames, NameKind, function_kinds, global_kinds};
+use crate::listing::{listed_functions, listed_globals};
 use crate::mark::Mark;
 use crate::refusals::{first_duplicate, first_excess, first_unknown, too_many};
+use crate::resolved::Resolved;
 use crate::scopes::Scopes;
 use crate::walk_stmt::marks_of;
 use awk_grammar::Script;
 use std::alloc::{AllocError, Global};
-
-/// A script with the kinds of its names.
-#[derive(Drop)]
-pub struct Resolved<'a> {
-    pub script: &'a Script,
-    /// The functions in the order of the script.
-    pub functions: Vec<FunctionNames<'a>>,
-    /// The variables that are neither special nor parameters, in the order of their first places.
-    pub globals: Vec<NameKind<'a>>,
-}
 
 /// Refuses a script for its names, kinds aside.
 fn check_names<'a>(
@@ -100,11 +93,46 @@ fn listed<'a>(
     ensures globals { IfOk result (λ names. view_name_kinds names.globals.items ≡ globals_by (is_marked_in (view_variables kinds.now.variables.keys) kinds.now.arrays.items) (view_variables kinds.now.variables.keys)) }
     ensures script { IfOk result (λ names. names.script.now ≡ script.now) }
 {
+    let (functions, function_places) = listed_functions(alloc, kinds, &scopes.heads)?;
+    let (globals, global_places) = listed_globals(alloc, kinds)?;
     Ok(Resolved {
         script,
-        functions: function_kinds(alloc, kinds, &scopes.heads)?,
-        globals: global_kinds(alloc, kinds)?,
+        functions,
+        globals,
+        function_places,
+        global_places,
     })
+}
+
+/// The names of a script that says this of names, which has these functions.
+fn resolve_in<'a>(
+    alloc: Global,
+    script: &'a Script,
+    scopes: &Scopes<'a>,
+    marks: &[Mark<'a>],
+) -> Result<Resolved<'a>, ResolveFault>
+    ensures fine { OnOk result (refusal_by (view_heads scopes.now.heads.items) (view_marks marks.now) ≡ None) }
+    ensures kinds { IfOk result (λ names. view_resolved names ≡ resolved_by (view_heads scopes.now.heads.items) (view_marks marks.now)) }
+    ensures script { IfOk result (λ names. names.script.now ≡ script.now) }
+    ensures refused { IfErr result (λ fault. IsCause fault (refusal_by (view_heads scopes.now.heads.items) (view_marks marks.now))) }
+{
+    let kinds = checked(alloc, scopes, marks)?;
+    Ok(listed(alloc, script, scopes, &kinds)?)
+}
+
+/// The names of a script that says this of names.
+fn resolve_marks<'a>(
+    alloc: Global,
+    script: &'a Script,
+    marks: &[Mark<'a>],
+) -> Result<Resolved<'a>, ResolveFault>
+    ensures fine { OnOk result (refusal_by (heads (view_script script.now)) (view_marks marks.now) ≡ None) }
+    ensures kinds { IfOk result (λ names. view_resolved names ≡ resolved_by (heads (view_script script.now)) (view_marks marks.now)) }
+    ensures script { IfOk result (λ names. names.script.now ≡ script.now) }
+    ensures refused { IfErr result (λ fault. IsCause fault (refusal_by (heads (view_script script.now)) (view_marks marks.now))) }
+{
+    let scopes = Scopes::new(alloc, script)?;
+    resolve_in(alloc, script, &scopes, marks)
 }
 
 /// Gives each name of a script its kind (POSIX.1-2017 awk, "User-Defined Functions"): an array if it is used as one or given for a parameter that is
@@ -121,9 +149,7 @@ pub fn resolve(alloc: Global, script: &Script) -> Result<Resolved<'_>, ResolveFa
     ensures refused { IfErr result (λ fault. IsCause fault (refusal (view_script script.now))) }
 {
     let marks = marks_of(alloc, script)?;
-    let scopes = Scopes::new(alloc, script)?;
-    let kinds = checked(alloc, &scopes, &marks)?;
-    Ok(listed(alloc, script, &scopes, &kinds)?)
+    resolve_marks(alloc, script, &marks)
 }
 
 /// The names used as arrays, and those used as scalars, are the least sets: they have the names used so where they stand, and a bare name given for a

@@ -1,56 +1,75 @@
-//! The least set of numbers that has given members and follows given pairs.
+//! The least set of numbers that has given members and follows given pairs, by a work list.
 
-ghost use Rattle.std.specs.Prelude.{◌≡◌, ℕ, ◌+◌, ◌<◌, ◌≤◌, ◌&&◌, Bool, true, false, not, if◌then◌else◌, IsTrue, All, length, set, IfOk};
-ghost use Rattle.awk_resolve.specs.Least.{IsClosed, IsLeast};
-ghost use Rattle.awk_resolve.specs.Marked.{is_marked, unmarked};
+ghost use Rattle.std.specs.Prelude.{◌≡◌, ℕ, ◌++◌, ◌∷◌, ◌<◌, if◌then◌else◌, [], true, All, length, set, IfOk, OnOk};
+ghost use Rattle.awk_resolve.specs.Least.{IsLeast};
+ghost use Rattle.awk_resolve.specs.Marked.{is_marked};
+ghost use Rattle.awk_resolve.specs.Waiting.{Adds, given_for, numbers_at};
 
 use std::alloc::{AllocError, Global};
 
-/// Marks the first of a pair if the second is marked, and says whether that is new.
-fn follow(marked: &mut Vec<bool>, given: usize, parameter: usize) -> bool
-    requires given { given < length marked.old.items }
-    requires parameter { parameter < length marked.old.items }
-    ensures new { result ≡ (is_marked marked.old.items parameter && not (is_marked marked.old.items given)) }
-    ensures marked { marked.new.items ≡ (if result then set marked.old.items given true else marked.old.items) }
+/// So many lists of no numbers.
+fn no_numbers(alloc: Global, count: usize) -> Result<Vec<Vec<usize>>, AllocError>
+    ensures length { IfOk result (λ lists. length lists.items ≡ count) }
+    ensures empty { IfOk result (λ lists. (n : ℕ) → numbers_at lists.items n ≡ []) }
 {
-    if marked[parameter] && !marked[given] {
-        marked[given] = true;
-        return true;
+    let mut lists = Vec::new(alloc);
+    for i in 0..count {
+        lists.push(Vec::new(alloc))?;
     }
-    false
+    Ok(lists)
 }
 
-/// Follows each pair once, and says whether a mark is new.
-fn follow_all(marked: &mut Vec<bool>, pairs: &[(usize, usize)]) -> bool
-    requires { All (λ p. (p.0 < length marked.old.items) × (p.1 < length marked.old.items)) pairs.now }
-    ensures length { length marked.new.items ≡ length marked.old.items }
-    ensures grows { (n : ℕ) → IsTrue (is_marked marked.old.items n) → IsTrue (is_marked marked.new.items n) }
-    ensures within { (other : ℕ → Bool) → All (λ p. IsTrue (other p.1) → IsTrue (other p.0)) pairs.now → ((n : ℕ) → IsTrue (is_marked marked.old.items n) → IsTrue (other n)) → (n : ℕ) → IsTrue (is_marked marked.new.items n) → IsTrue (other n) }
-    ensures closed { result ≡ false → All (λ p. IsTrue (is_marked marked.new.items p.1) → IsTrue (is_marked marked.new.items p.0)) pairs.now }
-    ensures fewer { unmarked marked.new.items + (if result then 1 else 0) ≤ unmarked marked.old.items }
+/// For each number below `count` the firsts of the pairs that have it as their second.
+fn givers_of(
+    alloc: Global,
+    count: usize,
+    pairs: &[(usize, usize)],
+) -> Result<Vec<Vec<usize>>, AllocError>
+    requires { All (λ p. (p.0 < count) × (p.1 < count)) pairs.now }
+    ensures length { IfOk result (λ givers. length givers.items ≡ count) }
+    ensures givers { IfOk result (λ givers. (n : ℕ) → numbers_at givers.items n ≡ given_for pairs.now n) }
 {
-    let mut changed = false;
+    let mut givers = no_numbers(alloc, count)?;
     for (given, parameter) in pairs {
-        if follow(marked, *given, *parameter) {
-            changed = true;
+        givers[*parameter].push(*given)?;
+    }
+    Ok(givers)
+}
+
+/// The numbers that are found, and those of them whose pairs wait to be followed.
+#[derive(Drop)]
+struct Found {
+    marked: Vec<bool>,
+    waiting: Vec<usize>,
+}
+
+impl Found {
+    /// Marks a number, which waits from then on if it is new.
+    fn mark(&mut self, n: usize) -> Result<(), AllocError>
+        requires { n < length self.old.marked.items }
+        ensures marked { OnOk result (self.new.marked.items ≡ (if is_marked self.old.marked.items n then self.old.marked.items else set self.old.marked.items n true)) }
+        ensures waiting { OnOk result (self.new.waiting.items ≡ (if is_marked self.old.marked.items n then self.old.waiting.items else self.old.waiting.items ++ n ∷ [])) }
+    {
+        if !self.marked[n] {
+            self.marked[n] = true;
+            self.waiting.push(n)?;
         }
+        Ok(())
     }
-    changed
+
+    /// Marks each of some numbers.
+    fn mark_all(&mut self, numbers: &[usize]) -> Result<(), AllocError>
+        requires { All (λ n. n < length self.old.marked.items) numbers.now }
+        ensures { OnOk result (Adds numbers.now self.old.marked.items self.old.waiting.items self.new.marked.items self.new.waiting.items) }
+    {
+        for n in numbers {
+            self.mark(*n)?;
+        }
+        Ok(())
+    }
 }
 
-/// Marks each of some numbers.
-fn mark_all(marked: &mut Vec<bool>, members: &[usize])
-    requires { All (λ n. n < length marked.old.items) members.now }
-    ensures length { length marked.new.items ≡ length marked.old.items }
-    ensures members { All (λ n. IsTrue (is_marked marked.new.items n)) members.now }
-    ensures within { (other : ℕ → Bool) → All (λ n. IsTrue (other n)) members.now → ((n : ℕ) → IsTrue (is_marked marked.old.items n) → IsTrue (other n)) → (n : ℕ) → IsTrue (is_marked marked.new.items n) → IsTrue (other n) }
-{
-    for n in members {
-        marked[*n] = true;
-    }
-}
-
-/// The least set of numbers below `count` that has the members and, where it has the second of a pair, the first.
+/// The least set of numbers below `count` that has the members and, where it has the second of a pair, the first. Each pair is followed once at most.
 pub(crate) fn closure(
     alloc: Global,
     count: usize,
@@ -62,11 +81,14 @@ pub(crate) fn closure(
     ensures length { IfOk result (λ marked. length marked.items ≡ count) }
     ensures least { IfOk result (λ marked. IsLeast (is_marked marked.items) members.now pairs.now) }
 {
-    let mut marked = vec![in alloc; false; count]?;
-    mark_all(&mut marked, members);
-    let mut changed = true;
-    while changed {
-        changed = follow_all(&mut marked, pairs);
+    let givers = givers_of(alloc, count, pairs)?;
+    let mut found = Found {
+        marked: vec![in alloc; false; count]?,
+        waiting: Vec::new(alloc),
+    };
+    found.mark_all(members)?;
+    while let Some(n) = found.waiting.pop() {
+        found.mark_all(&givers[n])?;
     }
-    Ok(marked)
+    Ok(found.marked)
 }

@@ -3,7 +3,9 @@
 ghost use Rattle.std.specs.Prelude.{◌≡◌, IfOk};
 
 use std::alloc::{AllocError, Global};
+use std::fmt;
 use std::marker::Model;
+use thiserror::Error;
 
 /// A name of a script. Contracts see its bytes.
 #[derive(Debug, Drop)]
@@ -37,20 +39,36 @@ impl Name {
     }
 }
 
-/// Why a script is refused for its names. Each refusal is for the first place in the script, and comes only where none before it in this list does.
-#[derive(Debug, Drop)]
+impl fmt::Display for Name {
+    fn fmt<W: fmt::Write>(&self, f: &mut fmt::Formatter<W>) -> fmt::Result {
+        for byte in &self.bytes {
+            write!(f, "{}", *byte as char)?;
+        }
+        Ok(())
+    }
+}
+
+/// Why a script is refused for its names. It is shown as its name and the name that it carries, as `KindClash x`. Each refusal is for the first place in the script, and comes only where none before it in this list does.
+#[derive(Debug, Drop, Error)]
 pub enum ResolveFault {
     /// A function after 1,000 others, or one of more than 100 parameters.
+    #[error("TooMany {0}")]
     TooMany(Name),
     /// A name of two functions or of two parameters of one function; a function or parameter with a special variable's name;
     /// a parameter or variable with a function's name.
+    #[error("DuplicateName {0}")]
     DuplicateName(Name),
     /// A call of a function that the script lacks.
+    #[error("UnknownFunction {0}")]
     UnknownFunction(Name),
     /// A call with more arguments than the function has parameters.
+    #[error("ArgCount {0}")]
     ArgCount(Name),
     /// A name used as an array and as a scalar, or a parameter that is an array where the argument is no bare name.
+    #[error("KindClash {0}")]
     KindClash(Name),
+    /// Memory was wanting.
+    #[error("NoMemory")]
     NoMemory,
 }
 

@@ -1,16 +1,17 @@
 //! The kinds of a script's variables.
 
-ghost use Rattle.std.specs.Prelude.{◌≡◌, ◌≤◌, length, IfOk};
+ghost use Rattle.std.specs.Prelude.{◌≡◌, ◌<◌, All, length, IfOk};
 ghost use Rattle.awk_resolve.specs.Marks.{Array, Scalar};
 ghost use Rattle.awk_resolve.specs.Kinds.{name_of, variables, is_used_as, clashing, needing, clash, first};
-ghost use Rattle.awk_resolve.specs.Marked.{is_marked_in};
+ghost use Rattle.awk_resolve.specs.Least.{IsLeast};
+ghost use Rattle.awk_resolve.specs.Marked.{is_marked, is_marked_in};
 ghost use Rattle.awk_resolve.specs.View.{view_mark, view_marks, view_place};
 ghost use Rattle.awk_resolve.specs.ViewNames.{view_heads, view_variable, view_variables, view_maybe_variable};
 
 use crate::closure::closure;
 use crate::mark::Mark;
 use crate::scopes::{Scopes, Variable};
-use crate::uses::uses_of;
+use crate::uses::{Uses, uses_of};
 use indexmap::IndexSet;
 use std::alloc::{AllocError, Global};
 
@@ -39,6 +40,21 @@ fn is_marked_in<'a>(
     }
 }
 
+/// The marks of what is used as an array, and of what is used as a scalar.
+fn marked<'a>(alloc: Global, uses: &Uses<'a>) -> Result<(Vec<bool>, Vec<bool>), AllocError>
+    requires arrays { All (λ n. n < length uses.now.variables.keys) uses.now.arrays.items }
+    requires scalars { All (λ n. n < length uses.now.variables.keys) uses.now.scalars.items }
+    requires pairs { All (λ p. (p.0 < length uses.now.variables.keys) × (p.1 < length uses.now.variables.keys)) uses.now.pairs.items }
+    ensures lengths { IfOk result (λ found. (length found.0.items ≡ length uses.now.variables.keys) × (length found.1.items ≡ length uses.now.variables.keys)) }
+    ensures arrays { IfOk result (λ found. IsLeast (is_marked found.0.items) uses.now.arrays.items uses.now.pairs.items) }
+    ensures scalars { IfOk result (λ found. IsLeast (is_marked found.1.items) uses.now.scalars.items uses.now.pairs.items) }
+{
+    let count = uses.variables.len();
+    let arrays = closure(alloc, count, &uses.arrays, &uses.pairs)?;
+    let scalars = closure(alloc, count, &uses.scalars, &uses.pairs)?;
+    Ok((arrays, scalars))
+}
+
 /// The kinds of a script's variables.
 pub(crate) fn kinds_of<'a>(
     alloc: Global,
@@ -50,13 +66,11 @@ pub(crate) fn kinds_of<'a>(
     ensures scalars { IfOk result (λ kinds. is_marked_in (view_variables kinds.variables.keys) kinds.scalars.items ≡ is_used_as Scalar (view_heads scopes.now.heads.items) (view_marks marks.now)) }
 {
     let uses = uses_of(alloc, scopes, marks)?;
-    let count = uses.variables.len();
-    let arrays = closure(alloc, count, &uses.arrays, &uses.pairs)?;
-    let scalars = closure(alloc, count, &uses.scalars, &uses.pairs)?;
+    let found = marked(alloc, &uses)?;
     Ok(Kinds {
         variables: uses.variables,
-        arrays,
-        scalars,
+        arrays: found.0,
+        scalars: found.1,
     })
 }
 

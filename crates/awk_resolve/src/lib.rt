@@ -4,16 +4,20 @@
 mod answer;
 mod closure;
 mod fault;
+mod function_names;
+mod index;
 mod kinds;
 mod listing;
 mod mark;
 mod refusals;
+mod resolved;
 mod scopes;
 mod special;
 mod uses;
 mod walk;
 mod walk_stmt;
 
-pub use answer::{Resolved, kinds_are_least, resolve};
+pub use answer::{kinds_are_least, resolve};
 pub use fault::{Name, ResolveFault};
-pub use listing::{FunctionNames, NameKind};
+pub use function_names::{FunctionNames, NameKind};
+pub use resolved::Resolved;

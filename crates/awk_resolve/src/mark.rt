@@ -1,14 +1,14 @@
 //! What a script says of names.
 
 /// How a name is used.
-#[derive(Clone, Copy, Debug, PartialEq, Eq)]
+#[derive(Clone, Copy)]
 pub(crate) enum Kind {
     Array,
     Scalar,
 }
 
 /// A mark: something that a script says of a name. A place is the function in whose body it stands, if it stands in one.
-#[derive(Clone, Copy, Debug)]
+#[derive(Clone, Copy)]
 pub(crate) enum Mark<'a> {
     /// A function's name where it is defined.
     Defined(&'a [u8]),

@@ -101,6 +101,25 @@ fn note<'a>(
     }
 }
 
+/// The first name that stands for two things, where nothing is seen yet.
+fn first_taken<'a>(
+    seen: &mut Seen<'a>,
+    scopes: &Scopes<'a>,
+    marks: &[Mark<'a>],
+) -> Result<Option<&'a [u8]>, AllocError>
+    requires functions { seen.old.functions.keys ≡ [] }
+    requires parameters { seen.old.parameters.keys ≡ [] }
+    ensures { IfOk result (λ found. view_place found ≡ first_duplicate (view_heads scopes.now.heads.items) [] (view_marks marks.now)) }
+{
+    for mark in marks {
+        let taken = note(seen, scopes, *mark)?;
+        if taken.is_some() {
+            return Ok(taken);
+        }
+    }
+    Ok(None)
+}
+
 /// The first name that stands for two things.
 pub(crate) fn first_duplicate<'a>(
     alloc: Global,
@@ -113,13 +132,7 @@ pub(crate) fn first_duplicate<'a>(
         functions: IndexSet::new(alloc),
         parameters: IndexSet::new(alloc),
     };
-    for mark in marks {
-        let taken = note(&mut seen, scopes, *mark)?;
-        if taken.is_some() {
-            return Ok(taken);
-        }
-    }
-    Ok(None)
+    first_taken(&mut seen, scopes, marks)
 }
 
 /// The function of a call, if the script lacks it.

@@ -12,7 +12,7 @@ use indexmap::{IndexMap, IndexSet};
 use std::alloc::{AllocError, Global};
 
 /// A variable: one of the whole script, or a parameter of a function.
-#[derive(Clone, Copy, Debug, PartialEq, Eq, Hash)]
+#[derive(Clone, Copy, PartialEq, Eq, Hash)]
 pub(crate) enum Variable<'a> {
     Whole(&'a [u8]),
     /// The function's name and the parameter's.
@@ -20,7 +20,7 @@ pub(crate) enum Variable<'a> {
 }
 
 /// A function's name and parameters.
-#[derive(Clone, Copy, Debug)]
+#[derive(Clone, Copy)]
 pub(crate) struct Head<'a> {
     pub name: &'a [u8],
     pub parameters: &'a [Vec<u8>],

@@ -3,13 +3,13 @@
 ghost use Rattle.std.specs.Prelude.{◌≡◌, ◌++◌, ◌∷◌, [], List, Some, map, IfOk, OnOk};
 ghost use Rattle.std.specs.List.{slice_get};
 ghost use Rattle.awk_resolve.specs.Marks.{Array, Scalar};
-ghost use Rattle.awk_resolve.specs.Kinds.{Key, Whole, same_kind, with_key, with_keys, with_maybe, with_mark, with_marks, variables, used, members, pair_of, pairs};
+ghost use Rattle.awk_resolve.specs.Kinds.{Key, Whole, same_kind, parameter_keys, with_key, with_keys, with_maybe, with_mark, with_marks, variables, used, members, pair_of, pairs};
 ghost use Rattle.awk_resolve.specs.View.{view_kind, view_mark, view_marks};
 ghost use Rattle.awk_resolve.specs.ViewNames.{names, view_heads, view_variable, view_variables, view_maybe_variable};
 ghost use Rattle.awk_resolve.specs.Numbered.{AreNumbers, ArePairs, one_if, all_if};
 
 use crate::mark::{Kind, Mark};
-use crate::scopes::{Scopes, Variable, all_parameters};
+use crate::scopes::{Head, Scopes, Variable, all_parameters};
 use crate::special::{special_arrays, special_scalars};
 use indexmap::IndexSet;
 use std::alloc::{AllocError, Global};
@@ -109,6 +109,44 @@ fn note_specials<'a>(
     Ok(())
 }
 
+/// The parameters of all functions, and no uses.
+fn no_uses<'a>(alloc: Global, heads: &[Head<'a>]) -> Result<Uses<'a>, AllocError>
+    ensures variables { IfOk result (λ uses. view_variables uses.variables.keys ≡ with_keys [] (parameter_keys (view_heads heads.now))) }
+    ensures arrays { IfOk result (λ uses. uses.arrays.items ≡ []) }
+    ensures scalars { IfOk result (λ uses. uses.scalars.items ≡ []) }
+    ensures pairs { IfOk result (λ uses. uses.pairs.items ≡ []) }
+{
+    Ok(Uses {
+        variables: all_parameters(alloc, heads)?,
+        arrays: Vec::new(alloc),
+        scalars: Vec::new(alloc),
+        pairs: Vec::new(alloc),
+    })
+}
+
+/// Notes the special variables and then what the marks say.
+fn note_all<'a>(
+    uses: &mut Uses<'a>,
+    scopes: &Scopes<'a>,
+    marks: &[Mark<'a>],
+) -> Result<(), AllocError>
+    requires variables { view_variables uses.old.variables.keys ≡ with_keys [] (parameter_keys (view_heads scopes.now.heads.items)) }
+    requires arrays { uses.old.arrays.items ≡ [] }
+    requires scalars { uses.old.scalars.items ≡ [] }
+    requires pairs { uses.old.pairs.items ≡ [] }
+    ensures variables { OnOk result (view_variables uses.new.variables.keys ≡ variables (view_heads scopes.now.heads.items) (view_marks marks.now)) }
+    ensures arrays { OnOk result (AreNumbers (view_variables uses.new.variables.keys) uses.new.arrays.items (members Array (view_heads scopes.now.heads.items) (view_marks marks.now))) }
+    ensures scalars { OnOk result (AreNumbers (view_variables uses.new.variables.keys) uses.new.scalars.items (members Scalar (view_heads scopes.now.heads.items) (view_marks marks.now))) }
+    ensures pairs { OnOk result (ArePairs (view_variables uses.new.variables.keys) uses.new.pairs.items (pairs (view_heads scopes.now.heads.items) (view_marks marks.now))) }
+{
+    note_specials(uses, Kind::Array, &special_arrays())?;
+    note_specials(uses, Kind::Scalar, &special_scalars())?;
+    for mark in marks {
+        note(uses, scopes, *mark)?;
+    }
+    Ok(())
+}
+
 /// The variables of a script and their uses.
 pub(crate) fn uses_of<'a>(
     alloc: Global,
@@ -120,16 +158,7 @@ pub(crate) fn uses_of<'a>(
     ensures scalars { IfOk result (λ uses. AreNumbers (view_variables uses.variables.keys) uses.scalars.items (members Scalar (view_heads scopes.now.heads.items) (view_marks marks.now))) }
     ensures pairs { IfOk result (λ uses. ArePairs (view_variables uses.variables.keys) uses.pairs.items (pairs (view_heads scopes.now.heads.items) (view_marks marks.now))) }
 {
-    let mut uses = Uses {
-        variables: all_parameters(alloc, &scopes.heads)?,
-        arrays: Vec::new(alloc),
-        scalars: Vec::new(alloc),
-        pairs: Vec::new(alloc),
-    };
-    note_specials(&mut uses, Kind::Array, &special_arrays())?;
-    note_specials(&mut uses, Kind::Scalar, &special_scalars())?;
-    for mark in marks {
-        note(&mut uses, scopes, *mark)?;
-    }
+    let mut uses = no_uses(alloc, &scopes.heads)?;
+    note_all(&mut uses, scopes, marks)?;
     Ok(uses)
 }

@@ -1,15 +1,18 @@
-use Rattle.std.proofs.Common.{◌≡◌, ℕ, ◌+◌, Bool, false, IsTrue, All, length, if◌then◌else◌}
+use Rattle.std.proofs.Common.{◌≡◌, ℕ, ◌+◌, Bool, IsTrue, All, length}
 use Rattle.awk_resolve.specs.Least.{IsClosed}
 use Rattle.awk_resolve.specs.Marked.{is_marked, unmarked}
+use Rattle.awk_resolve.proofs.Waiting.{IsFollowed}
 use Rattle.awk_resolve.proofs.closure.closure.Given as goal
 
-abbrev pub invariant-loop-changed : goal.invariant-loop-changed
-invariant-loop-changed l = record {
-  length : length l.marked.items ≡ l.count;
-  members : All (λ n. IsTrue (is_marked l.marked.items n)) l.members;
-  within : (other : ℕ → Bool) → IsClosed other l.members l.pairs → (n : ℕ) → IsTrue (is_marked l.marked.items n) → IsTrue (other n);
-  closed : l.changed ≡ false → All (λ p. IsTrue (is_marked l.marked.items p.1) → IsTrue (is_marked l.marked.items p.0)) l.pairs;
+abbrev pub invariant-loop-n : goal.invariant-loop-n
+invariant-loop-n l = record {
+  length : length l.found.marked.items ≡ l.count;
+  members : All (λ n. IsTrue (is_marked l.found.marked.items n)) l.members;
+  within : (other : ℕ → Bool) → IsClosed other l.members l.pairs → (n : ℕ) → IsTrue (is_marked l.found.marked.items n) → IsTrue (other n);
+  waiting : All (λ n. IsTrue (is_marked l.found.marked.items n)) l.found.waiting.items;
+  followed : IsFollowed l.found.marked.items l.found.waiting.items l.pairs;
 }
 
-abbrev pub decreases-loop-changed : goal.decreases-loop-changed
-decreases-loop-changed l = unmarked l.marked.items + (if l.changed then 1 else 0)
+-- each turn takes one that waits, or marks one
+abbrev pub decreases-loop-n : goal.decreases-loop-n
+decreases-loop-n l = unmarked l.found.marked.items + length l.found.waiting.items

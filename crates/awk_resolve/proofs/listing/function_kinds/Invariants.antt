@@ -2,7 +2,7 @@ use Rattle.std.proofs.Common.{◌≡◌, ◌++◌, drop}
 use Rattle.awk_resolve.specs.Kinds.{functions_by}
 use Rattle.awk_resolve.specs.Marked.{is_marked_in}
 use Rattle.awk_resolve.specs.ViewNames.{view_heads, view_variables}
-use Rattle.awk_resolve.specs.ViewResolved.{view_functions}
+use Rattle.awk_resolve.specs.ViewFunctions.{view_functions}
 use Rattle.awk_resolve.proofs.listing.function_kinds.Given as goal
 
 abbrev pub invariant-loop-head : goal.invariant-loop-head

@@ -2,7 +2,7 @@ use Rattle.std.proofs.Common.{◌≡◌, ◌++◌, drop}
 use Rattle.awk_resolve.specs.Kinds.{globals_by}
 use Rattle.awk_resolve.specs.Marked.{is_marked_in}
 use Rattle.awk_resolve.specs.ViewNames.{view_variables}
-use Rattle.awk_resolve.specs.ViewResolved.{view_name_kinds}
+use Rattle.awk_resolve.specs.ViewKinds.{view_name_kinds}
 use Rattle.awk_resolve.proofs.listing.global_kinds.Given as goal
 
 abbrev pub invariant-loop-variable : goal.invariant-loop-variable

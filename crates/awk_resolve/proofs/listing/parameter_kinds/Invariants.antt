@@ -3,7 +3,7 @@ use Rattle.awk_grammar.specs.ViewStmt.{view_names}
 use Rattle.awk_resolve.specs.Kinds.{named, head_keys}
 use Rattle.awk_resolve.specs.Marked.{is_marked_in}
 use Rattle.awk_resolve.specs.ViewNames.{view_variables}
-use Rattle.awk_resolve.specs.ViewResolved.{view_name_kinds}
+use Rattle.awk_resolve.specs.ViewKinds.{view_name_kinds}
 use Rattle.awk_resolve.proofs.listing.parameter_kinds.Given as goal
 
 abbrev pub invariant-loop-name : goal.invariant-loop-name

@@ -4,7 +4,7 @@ use Rattle.awk_resolve.specs.Kinds.{members, pairs, variables, with_marks}
 use Rattle.awk_resolve.specs.View.{view_marks}
 use Rattle.awk_resolve.specs.ViewNames.{view_heads, view_variables}
 use Rattle.awk_resolve.specs.Numbered.{AreNumbers, ArePairs}
-use Rattle.awk_resolve.proofs.uses.uses_of.Given as goal
+use Rattle.awk_resolve.proofs.uses.note_all.Given as goal
 
 abbrev pub invariant-loop-mark : goal.invariant-loop-mark
 invariant-loop-mark l = record {

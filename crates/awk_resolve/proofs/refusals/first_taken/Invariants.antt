@@ -2,7 +2,7 @@ use Rattle.std.proofs.Common.{◌≡◌, [], take, drop}
 use Rattle.awk_resolve.specs.Kinds.{defined, declared, first_duplicate}
 use Rattle.awk_resolve.specs.View.{view_marks}
 use Rattle.awk_resolve.specs.ViewNames.{names, view_heads, view_variables}
-use Rattle.awk_resolve.proofs.refusals.first_duplicate.Given as goal
+use Rattle.awk_resolve.proofs.refusals.first_taken.Given as goal
 
 abbrev pub invariant-loop-mark : goal.invariant-loop-mark
 invariant-loop-mark l = record {

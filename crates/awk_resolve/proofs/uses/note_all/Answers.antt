@@ -6,13 +6,12 @@ use Rattle.awk_resolve.specs.Kinds.{Key, Whole, special_arrays, special_scalars,
 use Rattle.awk_resolve.specs.View.{view_mark, view_marks}
 use Rattle.awk_resolve.specs.ViewNames.{names, view_heads, view_variables}
 use Rattle.awk_resolve.specs.Numbered.{AreNumbers, ArePairs, both_at}
-use Rattle.awk_resolve.specs.declared.scopes.Head.{Head}
 use Rattle.awk_resolve.specs.declared.mark.Mark.{Mark}
 use Rattle.awk_resolve.specs.declared.mark.Mark.TheVariants.{Defined}
 use Rattle.awk_resolve.proofs.Names.{drop_any, with_keys_append}
 use Rattle.awk_resolve.proofs.Marks.{take_at}
 use Rattle.awk_resolve.proofs.Numbered.{members_append, pairs_append}
-use Rattle.awk_resolve.proofs.uses.uses_of.Goals as goal
+use Rattle.awk_resolve.proofs.uses.note_all.Goals as goal
 
 -- the parameters, the arrays and the scalars among the special variables
 all_specials : (ks mid new : List Key) (rs ss : List (List ℕ)) → rs ≡ special_arrays → ss ≡ special_scalars → mid ≡ with_keys ks (map Whole rs) → new ≡ with_keys mid (map Whole ss) → new ≡ with_keys ks (map Whole specials)
@@ -23,21 +22,21 @@ all_specials ks mid new rs ss e f g h =
 pub loop-mark-init : goal.loop-mark-init
 loop-mark-init c =
     let hs = view_heads c.args.scopes.now.heads.items in
-    let ks = view_variables c.in_ok-all_parameters.field-0.keys in
+    let ks = view_variables c.args.uses.now.variables.keys in
     let mid = view_variables c.note_specials.new.uses.variables.keys in
     let new = view_variables c.note_specials-2.new.uses.variables.keys in
     let first = c.in_ok-note_specials.ensures in
     let second = c.in_ok-note_specials-2.ensures in
     let rs = names c.special_arrays.result in
     let ss = names c.special_scalars.result in
-    let no_arrays : AreNumbers ks c.new.result.items [] = ap (map (slice_get ks)) c.new.ensures.items in
-    let no_scalars : AreNumbers ks c.new-2.result.items [] = ap (map (slice_get ks)) c.new-2.ensures.items in
+    let no_arrays : AreNumbers ks c.args.uses.now.arrays.items [] = ap (map (slice_get ks)) c.requires.arrays in
+    let no_scalars : AreNumbers ks c.args.uses.now.scalars.items [] = ap (map (slice_get ks)) c.requires.scalars in
     record {
       variables = ap (λ (u : List Key). with_marks hs u (view_marks c.args.marks.now))
-          (all_specials (with_keys [] (parameter_keys hs)) mid new rs ss c.special_arrays.ensures c.special_scalars.ensures (first.variables ∙ ap (λ (u : List Key). with_keys u (map Whole rs)) (c.in_ok-all_parameters.ensures ∙ ap (λ (u : List Head). with_keys [] (parameter_keys (view_heads u))) c.deref.ensures.value)) second.variables);
+          (all_specials (with_keys [] (parameter_keys hs)) mid new rs ss c.special_arrays.ensures c.special_scalars.ensures (first.variables ∙ ap (λ (u : List Key). with_keys u (map Whole rs)) c.requires.variables) second.variables);
       arrays = subst (λ (u : List (List ℕ)). AreNumbers new c.note_specials-2.new.uses.arrays.items (map Whole u ++ [])) c.special_arrays.ensures (second.arrays (map Whole rs) (first.arrays [] no_arrays));
       scalars = subst (λ (u : List Key). AreNumbers new c.note_specials-2.new.uses.scalars.items u) (ap (map Whole) c.special_scalars.ensures ∙ sym (append-nil (map Whole special_scalars))) (second.scalars [] (first.scalars [] no_scalars));
-      pairs = ap (map (both_at new)) (second.pairs ∙ first.pairs ∙ c.new-3.ensures.items);
+      pairs = ap (map (both_at new)) (second.pairs ∙ first.pairs ∙ c.requires.pairs);
     }
 
 pub loop-mark-preserved : goal.loop-mark-preserved

@@ -4,7 +4,7 @@ use Rattle.awk_resolve.specs.declared.mark.Mark.{Mark}
 use Rattle.awk_resolve.specs.declared.mark.Mark.TheVariants.{Defined}
 use Rattle.awk_resolve.proofs.Names.{absent}
 use Rattle.awk_resolve.proofs.Marks.{no_duplicate, more_defined, more_declared}
-use Rattle.awk_resolve.proofs.refusals.first_duplicate.Goals as goal
+use Rattle.awk_resolve.proofs.refusals.first_taken.Goals as goal
 
 pub loop-mark-preserved : goal.loop-mark-preserved
 loop-mark-preserved c =
