@@ -3,6 +3,7 @@ use awk_text::text_of;
 use awk_values::{Bytes, Value};
 use host_arrays::Arrays;
 use std::alloc::{AllocError, Global};
+use std::hash::RandomState;
 
 /// The array that the loops work on.
 const ARRAY: i32 = Arrays::ARGV;
@@ -40,8 +41,8 @@ pub fn keys_of(alloc: Global, arrays: &Arrays, number: i32) -> Result<Vec<Bytes>
     }
 }
 
-fn filled(alloc: Global, keys: u64) -> Result<Arrays, AllocError> {
-    let mut arrays = Arrays::new(alloc)?;
+fn filled(alloc: Global, state: RandomState, keys: u64) -> Result<Arrays, AllocError> {
+    let mut arrays = Arrays::new(alloc, state)?;
     for number in 0..keys {
         put(&mut arrays, ARRAY, &key_of(alloc, number)?, Value::Num(1))?;
     }
@@ -49,14 +50,14 @@ fn filled(alloc: Global, keys: u64) -> Result<Arrays, AllocError> {
 }
 
 /// `for (i = 0; i < keys; i++) a[i] = 1`.
-pub fn fill(alloc: Global, keys: u64) -> Result<usize, AllocError> {
-    let arrays = filled(alloc, keys)?;
+pub fn fill(alloc: Global, state: RandomState, keys: u64) -> Result<usize, AllocError> {
+    let arrays = filled(alloc, state, keys)?;
     Ok(keys_of(alloc, &arrays, ARRAY)?.len())
 }
 
 /// The same, and then `for (k in a) delete a[k]`.
-pub fn delete_all(alloc: Global, keys: u64) -> Result<usize, AllocError> {
-    let mut arrays = filled(alloc, keys)?;
+pub fn delete_all(alloc: Global, state: RandomState, keys: u64) -> Result<usize, AllocError> {
+    let mut arrays = filled(alloc, state, keys)?;
     for key in keys_of(alloc, &arrays, ARRAY)?.iter() {
         take_out(&mut arrays, ARRAY, key);
     }
@@ -64,8 +65,8 @@ pub fn delete_all(alloc: Global, keys: u64) -> Result<usize, AllocError> {
 }
 
 /// `for (i = 0; i < keys; i++) { delete a[i]; a[i + keys] = 1 }`, after the array is filled.
-pub fn queue(alloc: Global, keys: u64) -> Result<usize, AllocError> {
-    let mut arrays = filled(alloc, keys)?;
+pub fn queue(alloc: Global, state: RandomState, keys: u64) -> Result<usize, AllocError> {
+    let mut arrays = filled(alloc, state, keys)?;
     for number in 0..keys {
         take_out(&mut arrays, ARRAY, &key_of(alloc, number)?);
         let newest = key_of(alloc, number.wrapping_add(keys))?;

@@ -14,6 +14,7 @@ use host_arrays::Arrays;
 use loops::{delete_all, fill, keys_of, put, queue};
 use random::random_calls;
 use std::alloc::{AllocError, Global};
+use std::hash::RandomState;
 use std::io;
 
 /// A word as a number; 0 where it is none.
@@ -25,16 +26,21 @@ fn number(word: Option<&str>) -> u64 {
 }
 
 /// What a line asks for, if it asks for something.
-fn answer(alloc: Global, kept: &mut Arrays, line: &str) -> Result<Option<String>, AllocError> {
+fn answer(
+    alloc: Global,
+    state: RandomState,
+    kept: &mut Arrays,
+    line: &str,
+) -> Result<Option<String>, AllocError> {
     let mut words = line.split(' ');
     let task = words.next().unwrap_or("");
     let word = words.next();
     let first = number(word);
     let left = match task {
-        "random" => return Ok(Some(random_calls(alloc, first, number(words.next()))?)),
-        "fill" => fill(alloc, first)?,
-        "delete_all" => delete_all(alloc, first)?,
-        "queue" => queue(alloc, first)?,
+        "random" => return Ok(Some(random_calls(alloc, state, first, number(words.next()))?)),
+        "fill" => fill(alloc, state, first)?,
+        "delete_all" => delete_all(alloc, state, first)?,
+        "queue" => queue(alloc, state, first)?,
         "put" => {
             let key = Bytes::from_slice(alloc, word.unwrap_or("").as_bytes())?;
             put(kept, Arrays::ENVIRON, &key, Value::Num(1))?;
@@ -47,10 +53,11 @@ fn answer(alloc: Global, kept: &mut Arrays, line: &str) -> Result<Option<String>
 }
 
 fn main(rt: HostRuntime) -> io::Result<()> {
-    let mut kept = Arrays::new(rt.alloc())?;
+    let state = RandomState::new(&rt)?;
+    let mut kept = Arrays::new(rt.alloc(), state)?;
     for line in rt.lines(rt.alloc()) {
         let line = line?;
-        if let Some(answer) = answer(rt.alloc(), &mut kept, line.as_str())? {
+        if let Some(answer) = answer(rt.alloc(), state, &mut kept, line.as_str())? {
             println!(rt; "{answer}")?;
         }
     }

@@ -4,6 +4,7 @@ use crate::plain::PlainArray;
 use awk_values::{Bytes, Value};
 use host_arrays::Arrays;
 use std::alloc::{AllocError, Global};
+use std::hash::RandomState;
 
 /// How many keys the calls draw from.
 const KEYS: u64 = 24;
@@ -47,7 +48,7 @@ struct Call {
 }
 
 impl Both {
-    fn new(alloc: Global) -> Result<Both, AllocError> {
+    fn new(alloc: Global, state: RandomState) -> Result<Both, AllocError> {
         let mut plain = Vec::new(alloc);
         for number in 0..NUMBERS {
             plain.push(if number < 2 {
@@ -58,7 +59,7 @@ impl Both {
         }
         Ok(Both {
             alloc,
-            arrays: Arrays::new(alloc)?,
+            arrays: Arrays::new(alloc, state)?,
             plain,
         })
     }
@@ -146,8 +147,13 @@ fn step(both: &mut Both, random: &mut Random) -> Result<bool, AllocError> {
 }
 
 /// Runs so many random calls.
-pub fn random_calls(alloc: Global, seed: u64, calls: u64) -> Result<String, AllocError> {
-    let mut both = Both::new(alloc)?;
+pub fn random_calls(
+    alloc: Global,
+    state: RandomState,
+    seed: u64,
+    calls: u64,
+) -> Result<String, AllocError> {
+    let mut both = Both::new(alloc, state)?;
     let mut random = Random { state: seed };
     for number in 0..calls {
         if !step(&mut both, &mut random)? {

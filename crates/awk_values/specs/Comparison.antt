@@ -1,5 +1,5 @@
 -- The comparison of two values: by number where each side is one, is uninitialised or looks numeric, and else by the bytes of the texts.
-use Rattle.std.specs.Prelude.{ℕ, Bool, true, false, not, if◌then◌else◌, Option, Some, None, Result, Ok, Err, List, ℤ, pos}
+use Rattle.std.specs.Prelude.{Bool, if◌then◌else◌, Option, Some, None, Result, Ok, Err, pos}
 use Rattle.std.specs.declared.cmp.Ordering.{Ordering}
 use Rattle.std.specs.Ordering.{int_cmp, nat_cmp, is_eq, is_ge, is_gt, is_le, is_lt, is_ne}
 use Rattle.std.specs.Cmp.Lexicographic.{slice_cmp}

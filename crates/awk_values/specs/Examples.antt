@@ -2,12 +2,12 @@
 use Rattle.std.specs.Prelude.{◌≡◌, ◌^◌, ◌-◌, true, false, Ok, Err, pos, neg_ℤ, codes, refl}
 use Rattle.awk_text.specs.Reading.{numeral_at, sign_at, fraction_at, exponent_at}
 use Rattle.awk_text.specs.Number.{numerator, denominator}
-use Rattle.awk_values.specs.Operators.{difference, power, product, quotient, remainder, sum, truncated_quotient}
+use Rattle.awk_values.specs.Operators.{power, product, quotient, remainder, sum, truncated_quotient}
 use Rattle.awk_values.specs.Values.{truth_of_value}
 use Rattle.awk_values.specs.Comparison.{comparison}
 use Rattle.awk_values.specs.declared.comparison.CompareOp.TheVariants.{Less, Equal}
 use Rattle.awk_values.specs.declared.fault.Fault.TheVariants.{DivisionByZero, Fraction, Inexact, Range}
-use Rattle.awk_values.specs.declared.value.Value.TheVariants.{Num, StrNum, Text, Uninit}
+use Rattle.awk_values.specs.declared.value.Value.TheVariants.{StrNum, Text}
 
 pub largest_sum : sum (pos (2 ^ 53 - 1)) (pos 1) ≡ Ok (pos (2 ^ 53))
 largest_sum = refl

@@ -1,11 +1,10 @@
 -- The number, the text and the truth of a value.
-use Rattle.std.specs.Prelude.{ℕ, Bool, true, false, not, ◌==◌, if◌then◌else◌, Result, Ok, Err, List, [], length, ℤ, pos}
+use Rattle.std.specs.Prelude.{ℕ, Bool, false, not, ◌==◌, if◌then◌else◌, Result, Ok, Err, List, [], length, ℤ, pos}
 use Rattle.std.specs.Fmt.{signed_decimal}
 use Rattle.awk_text.specs.Number.{is_nonzero_text, looks_numeric_text, number_of_text}
 use Rattle.awk_text.specs.declared.number.NumberFault.{NumberFault}
 use Rattle.awk_text.specs.declared.number.NumberFault.TheVariants as number
 use Rattle.awk_values.specs.Operators.{Outcome, is_zero}
-use Rattle.awk_values.specs.declared.fault.Fault.{Fault}
 use Rattle.awk_values.specs.declared.fault.Fault.TheVariants.{Fraction, Range}
 use Rattle.awk_values.specs.declared.value.Value.{Value}
 use Rattle.awk_values.specs.declared.value.Value.TheVariants.{Uninit, Num, Text, StrNum}

@@ -5,7 +5,7 @@ ghost use Rattle.awk_values.specs.Values.{as_fault, number_of_value, text_of_val
 
 use crate::{Bytes, Fault, Stop};
 use awk_text::{NumberFault, is_nonzero, looks_numeric, number_of, text_of};
-use std::alloc::Global;
+use std::alloc::{AllocError, Global};
 
 /// A value of a script (POSIX.1-2017 awk, "Expressions in awk"). A number lies from -2^53 to 2^53.
 #[derive(Clone, PartialEq, Debug, Default, Drop)]
@@ -17,6 +17,24 @@ pub enum Value {
     Text(Bytes),
     /// A text of the input: a number where it looks numeric.
     StrNum(Bytes),
+}
+
+impl Value {
+    /// The same value, to be kept for long: its text as [`Bytes::kept`] gives it.
+    ///
+    /// # Errors
+    ///
+    /// There is no memory.
+    pub fn kept(&self, alloc: Global) -> Result<Value, AllocError>
+        ensures { IfOk result (λ kept. kept ≡ self.now) }
+    {
+        match self {
+            Value::Uninit => Ok(Value::Uninit),
+            Value::Num(number) => Ok(Value::Num(*number)),
+            Value::Text(text) => Ok(Value::Text(text.kept(alloc)?)),
+            Value::StrNum(text) => Ok(Value::StrNum(text.kept(alloc)?)),
+        }
+    }
 }
 
 fn as_fault(number: Result<i64, NumberFault>) -> Result<i64, Fault>

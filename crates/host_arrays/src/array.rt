@@ -7,6 +7,7 @@ ghost use Rattle.host_arrays.specs.Order.{IsOnce, held_in, kept_value, place_in}
 use awk_values::{Bytes, Value};
 use indexmap::IndexMap;
 use std::alloc::{AllocError, Global};
+use std::hash::RandomState;
 use std::marker::Model;
 
 /// A value, and the place of its key in the order.
@@ -21,7 +22,7 @@ pub(crate) struct Held {
 /// The map finds a key's value. A key that is deleted leaves a hole in the order, so that the others need not move; where more than half are holes, they are closed.
 #[derive(Drop)]
 pub(crate) struct Array {
-    pairs: IndexMap<Bytes, Held>,
+    pairs: IndexMap<Bytes, Held, RandomState>,
     order: Vec<Option<Bytes>>,
 }
 
@@ -48,7 +49,7 @@ fn copy_of(value: &Value) -> Result<Value, AllocError>
 }
 
 /// Gives each key its place in an order without holes.
-fn renumber(pairs: &mut IndexMap<Bytes, Held>, order: &[Option<Bytes>])
+fn renumber(pairs: &mut IndexMap<Bytes, Held, RandomState>, order: &[Option<Bytes>])
     requires once { IsOnce order.now }
     requires held { (k : List ℕ) (i : ℕ) → get_or order.now i None ≡ Some k → IsSome (held_in pairs.old.entries k) }
     ensures values { (k : List ℕ) → kept_value (held_in pairs.new.entries k) ≡ kept_value (held_in pairs.old.entries k) }
@@ -64,12 +65,12 @@ fn renumber(pairs: &mut IndexMap<Bytes, Held>, order: &[Option<Bytes>])
 }
 
 impl Array {
-    /// An array without a pair. It takes no memory.
-    pub(crate) fn new(alloc: Global) -> Self
+    /// An array without a pair, whose keys are hashed by the state. It takes no memory.
+    pub(crate) fn new(alloc: Global, state: RandomState) -> Self
         ensures { result ≡ [] }
     {
         Array {
-            pairs: IndexMap::new(alloc),
+            pairs: IndexMap::with_hasher(alloc, state),
             order: Vec::new(alloc),
         }
     }
@@ -89,10 +90,10 @@ impl Array {
         ensures handed_back { IfErr result (λ v. v ≡ value) }
     {
         let place = self.order.len();
-        let Ok(own) = key.clone() else {
+        let Ok(own) = key.kept(*self.pairs.allocator()) else {
             return Err(value);
         };
-        let Ok(listed) = key.clone() else {
+        let Ok(listed) = own.clone() else {
             return Err(value);
         };
         let Ok(()) = self.order.push(Some(listed)) else {

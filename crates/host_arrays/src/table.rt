@@ -9,6 +9,7 @@ use crate::array::Array;
 use awk_values::{Bytes, Value};
 use slab::Slab;
 use std::alloc::{AllocError, Global};
+use std::hash::RandomState;
 use std::marker::Model;
 
 /// How many numbers there are.
@@ -21,6 +22,7 @@ const LIMIT: usize = 1 << 31;
 pub struct Arrays {
     slab: Slab<Array>,
     alloc: Global,
+    state: RandomState,
 }
 
 impl Model for Arrays {
@@ -55,17 +57,19 @@ impl Arrays {
     /// The number of ENVIRON.
     pub const ENVIRON: i32 = 1;
 
-    /// The arrays ARGV and ENVIRON, without a pair.
+    /// The arrays ARGV and ENVIRON, without a pair. The keys of all arrays are hashed by the state, so that who chooses keys can not choose them to
+    /// collide unless the state is known. No answer depends on it.
     ///
     /// # Errors
     ///
     /// There is no memory.
-    pub fn new(alloc: Global) -> Result<Arrays, AllocError>
+    pub fn new(alloc: Global, state: RandomState) -> Result<Arrays, AllocError>
         ensures { IfOk result (λ arrays. arrays ≡ first_arrays) }
     {
         let mut arrays = Arrays {
             slab: Slab::new(alloc),
             alloc,
+            state,
         };
         let argv = arrays.new_array()?;
         let environ = arrays.new_array()?;
@@ -90,7 +94,7 @@ impl Arrays {
         if slab.vacant_key() >= LIMIT {
             return Err(AllocError);
         }
-        let Ok(key) = slab.insert(Array::new(self.alloc)) else {
+        let Ok(key) = slab.insert(Array::new(self.alloc, self.state)) else {
             return Err(AllocError);
         };
         Ok(key as i32)
@@ -152,7 +156,8 @@ impl Arrays {
         self.array_mut(number).get_or_create(key)
     }
 
-    /// Puts a value at a key of the array. A key that has a pair keeps its place; a new one goes last.
+    /// Puts a value at a key of the array. A key that has a pair keeps its place; a new one goes last. What is stored keeps no large text in memory for a
+    /// small part of it ([`Bytes::kept`]).
     ///
     /// # Errors
     ///
@@ -163,7 +168,10 @@ impl Arrays {
         ensures refused { OnErr result (self.new ≡ self.old) }
         ensures handed_back { IfErr result (λ v. v ≡ value) }
     {
-        self.array_mut(number).set(key, value)
+        let Ok(kept) = value.kept(self.alloc) else {
+            return Err(value);
+        };
+        self.array_mut(number).set(key, kept)
     }
 
     /// Takes a key out of the array, where it has one. The others keep their order. It takes no memory, and the time of a few calls on average.
