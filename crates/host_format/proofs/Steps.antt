@@ -1,5 +1,5 @@
 -- Formats, a piece at a time.
-use Rattle.std.proofs.Common.{◌≡◌, ℕ, zero, suc, ◌+◌, ◌^◌, ◌<◌, ◌≤◌, Bool, true, false, List, [], ◌∷◌, ◌++◌, length, take, drop, get_or, slice_range, Option, Some, None, Result, Ok, Err, refl, sym, ap, subst, ◌∙◌, append_assoc, append-nil, arith, eqb-true, inl, inr}
+use Rattle.std.proofs.Common.{◌≡◌, ℕ, zero, suc, ◌+◌, ◌^◌, ◌<◌, ◌≤◌, Bool, true, false, List, [], ◌∷◌, ◌++◌, length, take, drop, get_or, Some, None, Result, Ok, Err, refl, sym, ap, subst, ◌∙◌, append_assoc, append-nil, arith, eqb-true, inl, inr}
 use Rattle.std.specs.Prelude.{◌==◌, nat_le, if◌then◌else◌, IfErr, OnOk}
 use Rattle.std.proofs.lemmas.Bool.Decides.{nat_tests}
 use Rattle.std.proofs.lemmas.Bool.{cases_lt}
@@ -11,8 +11,8 @@ use Rattle.awk_values.specs.declared.fault.Stop.{Stop}
 use Rattle.awk_values.specs.declared.fault.Stop.TheVariants as stops
 use Rattle.awk_values.specs.declared.value.Value.{Value}
 use Rattle.awk_state.specs.SharedState.{◌>>=◌}
-use Rattle.awk_state.specs.Formats.{Piece, Ordinary, Converts, Malformed, Conversion, conversion_at, converted, formatted, formatted_from, piece_at, pieces_from, sized, then_text}
-use Rattle.host_format.specs.Outcomes.{Adds, IsPast, IsStopAfter, IsStopOf}
+use Rattle.awk_state.specs.Formats.{Piece, Ordinary, Converts, Malformed, Conversion, conversion_at, converted, formatted, formatted_from, pieces_from, sized, then_text}
+use Rattle.host_format.specs.Outcomes.{IsPast, IsStopAfter, IsStopOf}
 use Rattle.host_format.specs.Steps.{AddsStep, IsLeftOf, behind_text, step, text_of_step}
 
 -- a text that is added

@@ -1,5 +1,5 @@
 //! Values as conversions write them (POSIX.1-2017 awk, "Formatted output"; XBD 5), in whole numbers.
-ghost use Rattle.std.specs.Prelude.{◌≡◌, ◌%◌, ◌++◌, ◌∷◌, [], IfErr, Ok, OnOk, decimal, false, IfOk, None, option_to_list, unsigned_abs};
+ghost use Rattle.std.specs.Prelude.{◌≡◌, ◌%◌, ◌++◌, [], IfErr, Ok, OnOk, decimal, false, IfOk, None, option_to_list, unsigned_abs};
 ghost use Rattle.std.specs.Fmt.{digits};
 ghost use Rattle.awk_text.specs.Number.{truncated_of_text};
 ghost use Rattle.awk_values.specs.Values.{as_fault, text_of_value};

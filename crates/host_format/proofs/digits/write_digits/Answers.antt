@@ -1,4 +1,4 @@
-use Rattle.std.proofs.Common.{◌≡◌, ◌∷◌, ◌-◌, ◌/◌, ◌≤◌, ap, sym, ◌∙◌, arith, drop, length}
+use Rattle.std.proofs.Common.{◌∷◌, ◌-◌, ◌/◌, ap, sym, ◌∙◌, arith, drop}
 use Rattle.std.proofs.Math.ListN.{drop_of_length-le, length-set}
 use Rattle.host_format.proofs.Numerals.{left_all, left_digits, left_last, left_none, left_step, written}
 use Rattle.host_format.proofs.digits.write_digits.Goals as goal

@@ -1,4 +1,3 @@
-use Rattle.std.proofs.Common.{sym}
 use Rattle.std.proofs.lemmas.Result.{err_from_is_err_and}
 use Rattle.host_format.specs.Conversions.{conversion_is}
 use Rattle.host_format.proofs.Steps.{stopped_value}

@@ -1,4 +1,4 @@
-use Rattle.std.proofs.Common.{◌≡◌, ◌++◌, max, ap, ◌∙◌}
+use Rattle.std.proofs.Common.{◌++◌, ap, ◌∙◌}
 use Rattle.awk_state.specs.Formats.{zeros}
 use Rattle.host_format.specs.Conversions.{places_text}
 use Rattle.host_format.proofs.Padded.{filled_more}
