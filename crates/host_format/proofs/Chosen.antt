@@ -1,7 +1,7 @@
 -- The bytes at chosen places are a range.
 use Rattle.std.proofs.Common.{◌≡◌, ℕ, zero, suc, ◌+◌, ◌-◌, ◌<◌, ◌≤◌, Bool, true, false, List, [], ◌∷◌, length, take, drop, refl, ap, ◌∙◌, arith, sym, subst}
 use Rattle.std.proofs.Math.Seq.{take-nil}
-use Rattle.std.specs.Prelude.{◌&&◌, not, negsuc, nat_le, Option, Some, None, ℤ, pos, ◌+ℤ◌, int_le, int_lt, max}
+use Rattle.std.specs.Prelude.{◌&&◌, not, negsuc, nat_le, Option, Some, None, ℤ, pos, int_le, int_lt, max}
 use Rattle.std.proofs.lemmas.Bool.{false≢true}
 use Rattle.std.proofs.lemmas.Bool.Decides.{nat_tests}
 use Rattle.host_format.specs.Parts.{is_before_end, is_in_part, part}

@@ -1,5 +1,5 @@
 -- What the pieces are for each separator.
-use Rattle.std.proofs.Common.{◌≡◌, ℕ, ◌<◌, Bool, true, false, List, [], ◌∷◌, length, map, refl, sym, ap, subst, ◌∙◌, arith, if◌then◌else◌}
+use Rattle.std.proofs.Common.{◌≡◌, ℕ, Bool, true, false, List, [], ◌∷◌, length, map, refl, sym, ap, subst, ◌∙◌, if◌then◌else◌}
 use Rattle.std.specs.Prelude.{◌==◌, ◌||◌, ◌&&◌, not, filter}
 use Rattle.std.proofs.lemmas.Bool.{false≢true}
 use Rattle.ere_match.specs.declared.automaton.Auto.{Auto}
@@ -11,7 +11,6 @@ use Rattle.host_format.specs.Marks.{is_mark, pieces_by}
 use Rattle.host_format.specs.Separators.{IsSep}
 use Rattle.host_format.specs.Spans.{AreSpans}
 use Rattle.host_format.specs.declared.marks.Marks.TheVariants as marks
-use Rattle.host_format.specs.declared.sep.Sep.{Sep}
 use Rattle.host_format.specs.declared.sep.Sep.TheVariants as seps
 use Rattle.host_format.specs.declared.span.Span.{Span}
 use Rattle.host_format.proofs.Pieces.{parted_same, or_false}

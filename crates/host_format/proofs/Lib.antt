@@ -8,3 +8,7 @@ pub mod Fielded
 pub mod Replaced
 pub mod Places
 pub mod Left
+pub mod Conversions
+pub mod Numerals
+pub mod Padded
+pub mod Steps

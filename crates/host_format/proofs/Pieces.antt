@@ -1,14 +1,12 @@
 -- The pieces between marks, from the first mark on.
-use Rattle.std.proofs.Common.{◌≡◌, ◌⊎◌, inl, inr, ℕ, zero, suc, ◌+◌, ◌-◌, ◌<◌, ◌≤◌, Bool, true, false, List, [], ◌∷◌, ◌++◌, map, length, take, drop, get_or, slice_range, Option, Some, None, refl, sym, ap, subst, ◌∙◌, append_assoc, append-nil, arith, add-one}
-use Rattle.std.specs.Prelude.{◌==◌, ◌||◌, ◌&&◌, not, filter, cond, if◌then◌else◌}
-use Rattle.std.specs.List.{All}
+use Rattle.std.proofs.Common.{◌≡◌, ◌⊎◌, inl, inr, ℕ, zero, suc, ◌+◌, ◌-◌, ◌<◌, ◌≤◌, Bool, true, false, List, [], ◌∷◌, map, length, take, drop, get_or, slice_range, Some, None, refl, sym, ap, subst, ◌∙◌, append-nil, arith}
+use Rattle.std.specs.Prelude.{◌||◌}
 use Rattle.std.proofs.lemmas.Bool.{false≢true, cases_Bool}
-use Rattle.std.proofs.lemmas.List.{get_or-drop, length-drop, length-take, drop-drop, drop_more, take_all, map-append}
-use Rattle.std.proofs.lemmas.List.Elements.{All-nil, All-push}
+use Rattle.std.proofs.lemmas.List.{length-drop, length-take, drop-drop, drop_more, take_all}
+use Rattle.std.proofs.lemmas.List.Elements.{All-nil}
 use Rattle.memchr.specs.Find.{IsFirstByte}
-use Rattle.awk_state.specs.Fields.{behind, is_blank, parted}
-use Rattle.awk_state.specs.Texts.{is_empty}
-use Rattle.host_format.specs.Marks.{is_mark, kept, pieces_by, skips_empty}
+use Rattle.awk_state.specs.Fields.{behind, parted}
+use Rattle.host_format.specs.Marks.{kept}
 use Rattle.host_format.specs.Spans.{AreSpans, IsInside, IsSoFar, span_text}
 use Rattle.host_format.specs.declared.span.Span.{Span}
 

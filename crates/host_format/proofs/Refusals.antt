@@ -1,7 +1,6 @@
 -- What a refused expression's text is.
-use Rattle.std.proofs.Common.{◌≡◌, inl, inr, ℕ, ◌<◌, ◌≤◌, [], ◌∷◌, length, get_or, arith, eqb-true, Bool, true, false, List, Option, Some, None, Result, Ok, Err, refl, sym, ap, ◌∙◌, le-leb, leb-true}
+use Rattle.std.proofs.Common.{◌≡◌, inl, inr, ℕ, ◌<◌, ◌≤◌, [], ◌∷◌, length, get_or, arith, eqb-true, Bool, true, false, List, Option, Some, None, Ok, Err, refl, ap, ◌∙◌, le-leb, leb-true}
 use Rattle.std.specs.Prelude.{◌==◌, ◌&&◌, nat_le, if◌then◌else◌}
-use Rattle.awk_values.specs.declared.fault.Fault.{Fault}
 use Rattle.awk_values.specs.declared.fault.Fault.TheVariants as faults
 use Rattle.ere_syntax.specs.Answers.{IsRefused, IsTreeOf}
 use Rattle.ere_syntax.specs.Scan.{IsEreOf, ere_of}
@@ -10,7 +9,7 @@ use Rattle.ere_syntax.specs.declared.fault.EreFault.{EreFault}
 use Rattle.ere_syntax.specs.declared.fault.EreFault.TheVariants.{BadEre, EreTooLarge, NoMemory}
 use Rattle.ere_syntax.proofs.Scans.{text_again, text_sound}
 use Rattle.awk_state.specs.FirstMatch.{expression_of, or_bad, within_limits}
-use Rattle.awk_state.specs.Fields.{Separator, Blanks, Byte, Expression, separator_of}
+use Rattle.awk_state.specs.Fields.{Blanks, Byte, Expression}
 use Rattle.awk_state.specs.SharedState.{◌>>=◌}
 use Rattle.ere_match.specs.declared.automaton.Auto.{Auto}
 use Rattle.std.proofs.lemmas.Bool.{cases_Bool}

@@ -1,5 +1,5 @@
 -- Expressions, their automata and their first matches.
-use Rattle.std.specs.Prelude.{◌≡◌, ℕ, ◌<◌, ◌≤◌, nat_lt, List, if◌then◌else◌, Option, Some, None, Result, Ok}
+use Rattle.std.specs.Prelude.{◌≡◌, ℕ, ◌<◌, ◌≤◌, nat_lt, List, if◌then◌else◌, Option, Some, None, Ok}
 use Rattle.awk_values.specs.declared.fault.Fault.TheVariants as faults
 use Rattle.awk_values.specs.declared.fault.Stop.{Stop}
 use Rattle.awk_values.specs.declared.fault.Stop.TheVariants as stops

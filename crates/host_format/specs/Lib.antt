@@ -6,3 +6,5 @@ pub mod Expressions
 pub mod Separators
 pub mod Between
 pub mod Substitutions
+pub mod Conversions
+pub mod Steps

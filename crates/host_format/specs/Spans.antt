@@ -1,5 +1,5 @@
 -- Parts of a text.
-use Rattle.std.specs.Prelude.{◌≡◌, ℕ, ◌≤◌, List, [], ◌++◌, map, length, slice_range}
+use Rattle.std.specs.Prelude.{◌≡◌, ℕ, ◌≤◌, List, ◌++◌, map, length, slice_range}
 use Rattle.std.specs.List.{All}
 use Rattle.host_format.specs.declared.span.Span.{Span}
 

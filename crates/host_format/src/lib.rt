@@ -1,9 +1,14 @@
 //! The text functions of awk (POSIX.1-2017 awk, "String Functions", "Formatted output", the use of FS), in whole numbers and bytes.
 #![tactic(auto)]
 
+mod conversion;
+mod converted;
+mod digits;
 mod eres;
 mod fields;
+mod formatted;
 mod marks;
+mod padding;
 mod put;
 mod replacement;
 mod sep;
@@ -13,6 +18,7 @@ mod text;
 
 pub use eres::expression;
 pub use fields::split_text;
+pub use formatted::format;
 pub use sep::Sep;
 pub use span::Span;
 pub use substitution::{Substituted, substitute};

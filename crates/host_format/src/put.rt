@@ -2,7 +2,7 @@
 ghost use Rattle.std.specs.Prelude.{◌≡◌, ◌+◌, ◌^◌, ◌++◌, ◌<◌, ◌≤◌, IfErr, OnOk, length, replicate};
 ghost use Rattle.awk_values.specs.declared.fault.Fault.TheVariants.{TextLimit};
 ghost use Rattle.awk_values.specs.declared.fault.Stop.TheVariants as stops;
-ghost use Rattle.host_format.specs.Outcomes.{IsPast};
+ghost use Rattle.host_format.specs.Outcomes.{Adds, IsPast};
 
 use awk_values::{Fault, Stop};
 use std::alloc::AllocError;
@@ -38,4 +38,14 @@ pub(crate) fn fill(out: &mut Vec<u8>, byte: u8, count: usize) -> Result<(), Allo
     ensures { OnOk result (out.new.items ≡ out.old.items ++ replicate count byte) }
 {
     out.resize(out.len() + count, byte)
+}
+
+/// Adds a byte so many times, up to the limit.
+pub(crate) fn put_fill(out: &mut Vec<u8>, byte: u8, count: usize) -> Result<(), Stop>
+    ensures ok { OnOk result (Adds out.old.items out.new.items (replicate count byte)) }
+    ensures err { IfErr result (IsPast (out.old.items ++ replicate count byte)) }
+{
+    room(out.len(), count)?;
+    fill(out, byte, count)?;
+    Ok(())
 }

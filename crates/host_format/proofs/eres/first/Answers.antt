@@ -1,4 +1,4 @@
-use Rattle.std.specs.Prelude.{◌≡◌, ℕ, Option, IfSome, ◌≤◌, length}
+use Rattle.std.specs.Prelude.{◌≡◌, IfSome, ◌≤◌, length}
 use Rattle.std.proofs.lemmas.Result.{IfOk-weaker}
 use Rattle.ere_match.specs.FirstMatch.{IsFirstMatch}
 use Rattle.awk_state.specs.FirstMatch.{first_match}

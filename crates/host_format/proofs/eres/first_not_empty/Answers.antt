@@ -1,6 +1,4 @@
-use Rattle.std.proofs.Common.{◌≡◌, ◌+◌, ◌≤◌, ◌<◌, ℕ, length, Option, Some, None, subst, arith, sym, ◌∙◌, rules}
-use Rattle.ere_syntax.specs.Tree.{Tree}
-use Rattle.ere_match.specs.Autos.{IsAutoOf}
+use Rattle.std.proofs.Common.{◌+◌, ◌≤◌, length, arith, rules}
 use Rattle.host_format.proofs.Firsts.{some_first, none_first, skipped, taken, none_left}
 use Rattle.host_format.proofs.eres.first_not_empty.Goals as goal
 

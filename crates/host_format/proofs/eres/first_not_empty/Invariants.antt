@@ -1,4 +1,4 @@
-use Rattle.std.proofs.Common.{◌≡◌, ℕ, ◌-◌, ◌≤◌, length}
+use Rattle.std.proofs.Common.{◌-◌, ◌≤◌, length}
 use Rattle.ere_syntax.specs.Tree.{Tree}
 use Rattle.ere_match.specs.Autos.{IsAutoOf}
 use Rattle.host_format.specs.Expressions.{IsAuto}

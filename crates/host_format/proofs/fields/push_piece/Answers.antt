@@ -1,4 +1,4 @@
-use Rattle.std.proofs.Common.{◌≡◌, ◌⊎◌, inl, inr, ℕ, ◌<◌, ◌≤◌, List, false, length, slice_range, arith, rules}
+use Rattle.std.proofs.Common.{◌≡◌, ◌⊎◌, inl, inr, ◌<◌, false, length, slice_range, arith, rules}
 use Rattle.host_format.specs.Marks.{kept, skips_empty}
 use Rattle.host_format.proofs.Pieces.{kept_full, length_of_range, with_rest}
 use Rattle.host_format.proofs.fields.push_piece.Goals as goal

@@ -1,4 +1,4 @@
-use Rattle.std.proofs.Common.{◌+◌, ◌<◌, ℕ, List, [], ap, arith, drop, length, le_refl, subst, Some, None}
+use Rattle.std.proofs.Common.{◌+◌, ℕ, List, [], ap, arith, drop, length, le_refl, subst, Some, None}
 use Rattle.memchr.specs.Find.{IsFirstByte}
 use Rattle.awk_state.specs.Fields.{parted}
 use Rattle.host_format.specs.Marks.{is_mark, kept, pieces_by, skips_empty}

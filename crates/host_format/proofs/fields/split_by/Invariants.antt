@@ -1,4 +1,4 @@
-use Rattle.std.proofs.Common.{ℕ, ◌-◌, ◌≤◌, drop, length}
+use Rattle.std.proofs.Common.{◌-◌, ◌≤◌, drop, length}
 use Rattle.awk_state.specs.Fields.{parted}
 use Rattle.host_format.specs.Marks.{is_mark, kept, pieces_by, skips_empty}
 use Rattle.host_format.specs.Spans.{IsSoFar}

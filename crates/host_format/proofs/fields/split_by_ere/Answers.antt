@@ -1,9 +1,7 @@
-use Rattle.std.proofs.Common.{◌+◌, ◌≤◌, ◌<◌, ◌≡◌, ℕ, List, [], Option, None, arith, length, le_refl, subst, sym, rules}
-use Rattle.ere_syntax.specs.Tree.{Tree}
-use Rattle.ere_match.specs.Autos.{IsAutoOf}
+use Rattle.std.proofs.Common.{◌+◌, ◌≤◌, ℕ, List, [], Option, arith, length, le_refl, subst, sym, rules}
 use Rattle.awk_state.specs.Fields.{Expression, between, pieces, separators}
 use Rattle.host_format.specs.Between.{IsOpen, separator_end}
-use Rattle.host_format.specs.Expressions.{IsFirstAt, IsFirstBy, not_empty}
+use Rattle.host_format.specs.Expressions.{IsFirstBy, not_empty}
 use Rattle.host_format.specs.declared.span.Span.{Span}
 use Rattle.host_format.proofs.Opens.{agrees_before, agrees_to_end, closed, first_of_line, opened, ready, whole_open}
 use Rattle.host_format.proofs.Pieces.{all_parts}

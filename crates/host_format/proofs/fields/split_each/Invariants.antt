@@ -1,4 +1,4 @@
-use Rattle.std.proofs.Common.{ℕ, drop}
+use Rattle.std.proofs.Common.{drop}
 use Rattle.host_format.specs.Spans.{IsSoFar}
 use Rattle.host_format.proofs.Pieces.{singles}
 use Rattle.host_format.proofs.fields.split_each.Given as goal

@@ -1,4 +1,4 @@
-use Rattle.std.proofs.Common.{◌≡◌, ap, subst, sym, ◌∙◌}
+use Rattle.std.proofs.Common.{ap, subst, ◌∙◌}
 use Rattle.host_format.specs.Marks.{pieces_by}
 use Rattle.host_format.specs.Separators.{IsSep}
 use Rattle.host_format.specs.declared.marks.Marks.{Marks}

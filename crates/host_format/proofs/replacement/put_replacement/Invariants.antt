@@ -1,4 +1,4 @@
-use Rattle.std.proofs.Common.{◌≡◌, ℕ, ◌++◌, length}
+use Rattle.std.proofs.Common.{◌≡◌, ◌++◌, length}
 use Rattle.awk_state.specs.TextRows.{replacement}
 use Rattle.host_format.proofs.replacement.put_replacement.Given as goal
 

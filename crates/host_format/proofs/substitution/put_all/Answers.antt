@@ -1,6 +1,5 @@
-use Rattle.std.proofs.Common.{◌≡◌, ◌+◌, ◌≤◌, ℕ, Option, None, Some, arith, length, rules, subst, sym, ◌∙◌}
+use Rattle.std.proofs.Common.{◌+◌, ◌≤◌, ℕ, Option, Some, arith, length, rules, subst, sym}
 use Rattle.std.proofs.lemmas.Result.{err_from_is_err_and}
-use Rattle.awk_state.specs.TextRows.{behind}
 use Rattle.host_format.specs.Substitutions.{IsNextPlace}
 use Rattle.host_format.proofs.Left.{IsLeft, left_end, left_err, left_start, left_step, left_text}
 use Rattle.host_format.proofs.Places.{behind_end, behind_high, behind_more}

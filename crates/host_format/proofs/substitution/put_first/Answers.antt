@@ -1,4 +1,4 @@
-use Rattle.std.proofs.Common.{ℕ, Option, None, Some, subst}
+use Rattle.std.proofs.Common.{ℕ, Option, None, subst}
 use Rattle.std.proofs.lemmas.Result.{err_from_is_err_and}
 use Rattle.host_format.specs.Substitutions.{IsNextPlace}
 use Rattle.host_format.proofs.Left.{none_err, none_replaced, one_err, one_err_end, one_replaced}

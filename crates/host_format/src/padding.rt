@@ -1,0 +1,150 @@
+//! Texts of conversions, and how they fill their width.
+ghost use Rattle.std.specs.Prelude.{◌≡◌, ◌-◌, ◌++◌, IfErr, OnOk, length};
+ghost use Rattle.awk_state.specs.Formats.{filled, number_text, padded, with_precision};
+ghost use Rattle.host_format.specs.Conversions.{body_text, conversion_is, parts_text, places_text};
+ghost use Rattle.host_format.specs.Outcomes.{Adds, IsPast};
+
+use crate::conversion::Conversion;
+use crate::put::{put, put_fill};
+use awk_values::Stop;
+
+/// The text of a conversion but for its padding, in parts.
+#[derive(Clone, Copy)]
+pub(crate) struct Parts<'a> {
+    /// A text, or what stands before the digits of a number.
+    pub(crate) front: &'a [u8],
+    /// How many zeros stand before the digits.
+    pub(crate) zeros: usize,
+    pub(crate) digits: &'a [u8],
+    /// How many zeros stand after the point, if there is one.
+    pub(crate) places: Option<usize>,
+}
+
+impl<'a> Parts<'a> {
+    /// A text as it is.
+    pub(crate) fn text(text: &'a [u8]) -> Parts<'a>
+        ensures { parts_text result ≡ text.now }
+    {
+        Parts {
+            front: text,
+            zeros: 0,
+            digits: &[],
+            places: None,
+        }
+    }
+
+    /// A number, with the least count of digits that a precision asks for. A precision of 0 asks for none of the number 0.
+    pub(crate) fn whole(
+        front: &'a [u8],
+        precision: Option<u16>,
+        number: u64,
+        digits: &'a [u8],
+    ) -> Parts<'a>
+        ensures front { result.front.now ≡ front.now }
+        ensures body { body_text result ≡ with_precision precision number digits.now }
+    {
+        let (zeros, digits) = match precision {
+            None => (0, digits),
+            Some(least) => {
+                if least == 0 && number == 0 {
+                    (0, &digits[..0])
+                } else {
+                    (usize::from(least).saturating_sub(digits.len()), digits)
+                }
+            }
+        };
+        Parts {
+            front,
+            zeros,
+            digits,
+            places: None,
+        }
+    }
+
+    /// How far the text is short of a width.
+    fn gap(self, width: u16) -> usize
+        ensures { result ≡ width - length (parts_text self.entry) }
+    {
+        let gap = usize::from(width)
+            .saturating_sub(self.front.len())
+            .saturating_sub(self.zeros)
+            .saturating_sub(self.digits.len());
+        match self.places {
+            None => gap,
+            Some(places) => gap.saturating_sub(1).saturating_sub(places),
+        }
+    }
+
+    /// The same with zeros before the digits up to a width.
+    fn filled(self, width: u16) -> Parts<'a>
+        ensures front { result.front.now ≡ self.entry.front.now }
+        ensures body { body_text result ≡ filled (width - length self.entry.front.now) (body_text self.entry) }
+    {
+        let bare = Parts { zeros: 0, ..self };
+        let zeros = self.zeros.max(bare.gap(width));
+        Parts { zeros, ..self }
+    }
+}
+
+/// Adds a point and zeros.
+fn put_places(out: &mut Vec<u8>, places: Option<usize>) -> Result<(), Stop>
+    ensures ok { OnOk result (Adds out.old.items out.new.items (places_text places)) }
+    ensures err { IfErr result (IsPast (out.old.items ++ places_text places)) }
+{
+    match places {
+        None => put(out, &[]),
+        Some(places) => {
+            put(out, b".")?;
+            put_fill(out, b'0', places)
+        }
+    }
+}
+
+/// Adds a text in parts.
+fn put_parts(out: &mut Vec<u8>, parts: Parts<'_>) -> Result<(), Stop>
+    ensures ok { OnOk result (Adds out.old.items out.new.items (parts_text parts.entry)) }
+    ensures err { IfErr result (IsPast (out.old.items ++ parts_text parts.entry)) }
+{
+    put(out, parts.front)?;
+    put_fill(out, b'0', parts.zeros)?;
+    put(out, parts.digits)?;
+    put_places(out, parts.places)
+}
+
+/// Adds a text in parts at the right end of its width, or with the flag `-` at the left end.
+pub(crate) fn put_padded(
+    out: &mut Vec<u8>,
+    conversion: Conversion<'_>,
+    parts: Parts<'_>,
+) -> Result<(), Stop>
+    ensures ok { OnOk result (Adds out.old.items out.new.items (padded (conversion_is conversion.entry) (parts_text parts.entry))) }
+    ensures err { IfErr result (IsPast (out.old.items ++ padded (conversion_is conversion.entry) (parts_text parts.entry))) }
+{
+    let gap = parts.gap(conversion.width);
+    if conversion.has(b'-') {
+        put_parts(out, parts)?;
+        put_fill(out, b' ', gap)
+    } else {
+        put_fill(out, b' ', gap)?;
+        put_parts(out, parts)
+    }
+}
+
+/// Adds the text of a number, whose front is its sign or its mark: zeros stand before the digits where the flag `0` counts.
+pub(crate) fn put_number(
+    out: &mut Vec<u8>,
+    conversion: Conversion<'_>,
+    precision: Option<u16>,
+    parts: Parts<'_>,
+) -> Result<(), Stop>
+    ensures ok { OnOk result (Adds out.old.items out.new.items (number_text (conversion_is conversion.entry) precision parts.entry.front.now (body_text parts.entry))) }
+    ensures err { IfErr result (IsPast (out.old.items ++ number_text (conversion_is conversion.entry) precision parts.entry.front.now (body_text parts.entry))) }
+{
+    let is_filled = precision.is_none() && conversion.has(b'0') && !conversion.has(b'-');
+    let parts = if is_filled {
+        parts.filled(conversion.width)
+    } else {
+        parts
+    };
+    put_padded(out, conversion, parts)
+}
