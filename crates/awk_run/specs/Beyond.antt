@@ -5,13 +5,8 @@ use Rattle.awk_tokens.specs.declared.token.TokenKind.{TokenKind}
 use Rattle.awk_tokens.specs.declared.token.TokenKind.TheVariants as kind
 use Rattle.awk_tokens.specs.declared.token.Punctuator.{Punctuator}
 use Rattle.awk_tokens.specs.declared.token.Punctuator.TheVariants.{OpenBrace, CloseBrace, OpenParen, CloseParen, Semicolon, Comma, Plus, Minus, Star}
-use Rattle.awk_tokens.specs.declared.token.TokenFault.{TokenFault}
-use Rattle.awk_tokens.specs.declared.token.TokenFault.TheVariants.{BadByte, OpenString, OpenEre}
-use Rattle.awk_tokens.specs.declared.token.TokenFault.TheVariants as cutting
 use Rattle.awk_tokens.specs.declared.words.Keyword.{Keyword}
 use Rattle.awk_tokens.specs.declared.words.Keyword.TheVariants.{Begin, Print}
-use Rattle.awk_run.specs.declared.fault.CompileFault.{CompileFault}
-use Rattle.awk_run.specs.declared.fault.CompileFault.TheVariants.{NotYet, NoMemory}
 
 abbrev pub is_known_mark : Punctuator → Bool
 is_known_mark OpenBrace = true
@@ -42,10 +37,3 @@ is_known _ = false
 abbrev pub line_beyond : ℕ → List Spelled → ℕ
 line_beyond line [] = line
 line_beyond line (t ∷ rest) = cond (is_known t.kind) (line_beyond t.line rest) t.line
-
--- a refusal of bytes, as one of scripts
-abbrev pub refusal_of : TokenFault → CompileFault
-refusal_of (BadByte line) = NotYet line
-refusal_of (OpenString line) = NotYet line
-refusal_of (OpenEre line) = NotYet line
-refusal_of cutting.NoMemory = NoMemory

@@ -1,4 +1,6 @@
 pub mod ModuleRun
 pub mod Beyond
+pub mod Expressions
 pub mod Compiled
+pub mod Refusals
 pub mod ScriptRuns

@@ -5,8 +5,9 @@ use Rattle.awk_grammar.specs.Item.{Item}
 use Rattle.print_code.specs.ScriptRun.{Ending, Ended, FaultedBy, Exhausted, run_of}
 use Rattle.host_calls.specs.Jobs.{JobForm}
 use Rattle.lowering.specs.Agreement.{IsPlain, IsPrefix, output_of, plain}
-use Rattle.awk_run.specs.Compiled.{IsCompiled, IsNotCompiled}
+use Rattle.awk_run.specs.Compiled.{IsCompiled}
 use Rattle.awk_run.specs.ModuleRun.{HasRun}
+use Rattle.awk_run.specs.Refusals.{IsNotCompiled}
 use Rattle.awk_run.specs.declared.fault.CompileFault.TheVariants as compile
 use Rattle.awk_run.specs.declared.end.Refusal.TheVariants.{Compile}
 use Rattle.awk_run.specs.declared.end.RunEnd.{RunEnd}

@@ -10,7 +10,7 @@ use wasm_machine::{LinkFault, MachineEnd};
 use wasm_store::TrapKind;
 
 /// Why something is not run.
-#[derive(Debug, PartialEq, Eq, Drop)]
+#[derive(Debug, Drop)]
 pub enum Refusal {
     /// The script is not compiled.
     Compile(CompileFault),
@@ -23,7 +23,7 @@ pub enum Refusal {
 }
 
 /// How a run ends.
-#[derive(Debug, PartialEq, Eq, Drop)]
+#[derive(Debug, Drop)]
 pub enum RunEnd {
     /// It ended with this status.
     Ended(u8),

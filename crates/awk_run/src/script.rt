@@ -1,16 +1,18 @@
-//! From a script's bytes to its code.
-ghost use Rattle.std.specs.Prelude.{◌≡◌, List, map, IfOk, IfErr, Ok};
-ghost use Rattle.awk_parse.specs.Parsing.{IsParsed};
-ghost use Rattle.awk_run.specs.Beyond.{is_known, line_beyond, refusal_of};
-ghost use Rattle.awk_run.specs.Compiled.{HasNoCode, HasNoScriptCode, IsCodeOf, IsScriptCode, IsUnparsed};
+//! From a script's tokens to its code.
+ghost use Rattle.std.specs.Prelude.{◌≡◌, List, map, IfOk, IfErr};
+ghost use Rattle.awk_run.specs.Beyond.{is_known, line_beyond};
+ghost use Rattle.awk_run.specs.Compiled.{IsCodeOf, IsSound};
+ghost use Rattle.awk_run.specs.Refusals.{HasNoCode};
 ghost use Rattle.awk_tokens.specs.Views.{spelled};
 ghost use Rattle.awk_grammar.specs.ViewStmt.{view_script};
 ghost use Rattle.print_code.specs.View.{view_mid};
 
+use crate::expressions::check_expressions;
 use crate::fault::CompileFault;
 use awk_grammar::Script;
-use awk_parse::{ParseFault, parse};
-use awk_tokens::{Keyword, Punctuator, Token, TokenFault, TokenKind, tokens};
+use awk_parse::parse;
+use awk_resolve::resolve;
+use awk_tokens::{Keyword, Punctuator, Token, TokenKind};
 use print_code::{Mid, MidFault, to_mid};
 use std::alloc::Global;
 
@@ -50,59 +52,27 @@ fn line_beyond(tokens: &[Token<'_>]) -> usize
     line
 }
 
-/// The script that has these tokens.
-fn parsed(alloc: Global, tokens: &[Token<'_>]) -> Result<Script, CompileFault>
-    ensures ok { IfOk result (λ s. IsParsed (map spelled tokens.now) (view_script s)) }
-    ensures err { IfErr result (IsUnparsed (map spelled tokens.now)) }
+/// The script that these tokens are, with which nothing is wrong.
+#[tactic(auto, using(crate::proofs::Scripts::no_script, crate::proofs::Scripts::bad_expression, crate::proofs::Scripts::bad_name))]
+fn script_of(alloc: Global, tokens: &[Token<'_>]) -> Result<Script, CompileFault>
+    ensures ok { IfOk result (λ s. IsSound (map spelled tokens.now) (view_script s)) }
+    ensures err { IfErr result (HasNoCode (map spelled tokens.now)) }
 {
-    match parse(alloc, tokens) {
-        Ok(script) => Ok(script),
-        Err(ParseFault::NoMemory) => Err(CompileFault::NoMemory),
-        Err(
-            ParseFault::LeftOut(line, _)
-            | ParseFault::NotWhole(line)
-            | ParseFault::ConstantRange(line)
-            | ParseFault::Syntax(line)
-            | ParseFault::TooDeep(line)
-            | ParseFault::Misplaced(line),
-        ) => Err(CompileFault::NotYet(line)),
-    }
+    let script = parse(alloc, tokens)?;
+    check_expressions(alloc, tokens)?;
+    resolve(alloc, &script)?;
+    Ok(script)
 }
 
 /// The code of the script that these tokens are.
-#[tactic(auto, using(crate::proofs::Scripts::uncovered, crate::proofs::Scripts::unparsed))]
-fn code(alloc: Global, tokens: &[Token<'_>]) -> Result<Mid, CompileFault>
+pub(crate) fn code_of(alloc: Global, tokens: &[Token<'_>]) -> Result<Mid, CompileFault>
     ensures ok { IfOk result (λ mid. IsCodeOf (map spelled tokens.now) (view_mid mid)) }
     ensures err { IfErr result (HasNoCode (map spelled tokens.now)) }
 {
-    let script = parsed(alloc, tokens)?;
+    let script = script_of(alloc, tokens)?;
     match to_mid(alloc, &script) {
         Ok(mid) => Ok(mid),
         Err(MidFault::NotYet) => Err(CompileFault::NotYet(line_beyond(tokens))),
         Err(MidFault::NoMemory) => Err(CompileFault::NoMemory),
-    }
-}
-
-/// A refusal of bytes, as one of scripts.
-fn refusal_of(fault: TokenFault) -> CompileFault
-    ensures { result ≡ refusal_of fault }
-{
-    match fault {
-        TokenFault::BadByte(line) => CompileFault::NotYet(line),
-        TokenFault::OpenString(line) => CompileFault::NotYet(line),
-        TokenFault::OpenEre(line) => CompileFault::NotYet(line),
-        TokenFault::NoMemory => CompileFault::NoMemory,
-    }
-}
-
-/// The code of the script that these bytes are.
-#[tactic(auto, using(crate::proofs::Scripts::uncut, crate::proofs::Scripts::no_code))]
-pub(crate) fn code_of(alloc: Global, bytes: &[u8]) -> Result<Mid, CompileFault>
-    ensures ok { IfOk result (λ mid. IsScriptCode bytes.now (view_mid mid)) }
-    ensures err { IfErr result (HasNoScriptCode bytes.now) }
-{
-    match tokens(alloc, bytes) {
-        Ok(tokens) => code(alloc, &tokens),
-        Err(fault) => Err(refusal_of(fault)),
     }
 }

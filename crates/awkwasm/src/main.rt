@@ -2,20 +2,32 @@
 #![tactic(auto)]
 
 mod tasks;
+mod undone;
 
-use crate::tasks::carry_out;
+use crate::tasks::{carry_out, tell_task};
+use crate::undone::Undone;
 use command_line::{exit_status, request_of};
+use std::alloc::AllocError;
 use std::io;
 use std::process::ExitCode;
 
-/// The exit status of a script or a module that is refused.
-const REFUSED: u8 = 3;
+/// The arguments, the program's name first.
+fn arguments(rt: &HostRuntime) -> Result<Vec<String>, Undone> {
+    match std::env::args(rt) {
+        Ok(words) => Ok(words.collect(rt.alloc())?),
+        Err(error) if error.kind() == io::ErrorKind::OutOfMemory => Err(Undone::NoMemory),
+        Err(_) => Err(Undone::Arguments),
+    }
+}
 
-/// The exit status for want of memory.
-const NO_MEMORY: u8 = 5;
-
-/// The exit status of a command line that is refused.
-const BAD_LINE: u8 = 8;
+/// The words of the arguments.
+fn words_of<'a>(rt: &HostRuntime, arguments: &'a [String]) -> Result<Vec<&'a str>, AllocError> {
+    let mut words = Vec::new(rt.alloc());
+    for argument in arguments {
+        words.push(argument.as_str())?;
+    }
+    Ok(words)
+}
 
 /// Does what the words ask for; the answer is the exit status.
 fn answer(rt: &HostRuntime, words: &[&str]) -> u8 {
@@ -29,20 +41,16 @@ fn answer(rt: &HostRuntime, words: &[&str]) -> u8 {
     }
 }
 
-fn status(rt: &HostRuntime) -> io::Result<u8> {
-    let words: Vec<String> = std::env::args(rt)?.collect(rt.alloc())?;
-    let mut texts = Vec::new(rt.alloc());
-    for word in &words {
-        texts.push(word.as_str())?;
-    }
-    Ok(answer(rt, texts.as_slice()))
+fn status(rt: &HostRuntime) -> Result<u8, Undone> {
+    let arguments = arguments(rt)?;
+    let words = words_of(rt, &arguments)?;
+    Ok(answer(rt, &words))
 }
 
 fn main(rt: HostRuntime) -> ExitCode {
     let status = match status(&rt) {
         Ok(status) => status,
-        Err(error) if error.kind() == io::ErrorKind::OutOfMemory => NO_MEMORY,
-        Err(_) => BAD_LINE,
+        Err(undone) => tell_task(&rt, Err(undone)),
     };
     ExitCode::from(status)
 }

@@ -1,18 +1,20 @@
 //! What the command line asks for, over real files.
-ghost use Rattle.std.specs.Prelude.{◌≡◌, map, IfOk};
+ghost use Rattle.std.specs.Prelude.{◌≡◌, map, IfErr, IfOk};
+ghost use Rattle.awk_run.specs.Compiled.{IsCompiled};
 ghost use Rattle.awk_run.specs.ModuleRun.{Answers};
 ghost use Rattle.awk_run.specs.ScriptRuns.{ScriptAnswers};
 ghost use Rattle.run_report.specs.EndTexts.{exit_code};
+ghost use Rattle.awkwasm.specs.Tasks.{IsUncompiled, task_code};
 ghost use Rattle.awkwasm.specs.Words.{job_of_words};
 ghost use Rattle.host_calls.specs.Jobs.{job_of};
 
-use crate::{BAD_LINE, REFUSED};
+use crate::undone::{Undone, undone_status, undone_text};
 use awk_run::{CompileFault, Refusal, RunEnd, compile, run_module, run_script};
 use awk_values::Bytes;
 use command_line::{Request, Task};
 use host_calls::{Job, NamedText};
 use os_world::OsWorld;
-use run_report::{FileFault, fault_text, file_fault_text, status_of};
+use run_report::{FileFault, fault_text, status_of};
 use std::alloc::{AllocError, Global};
 use std::env::VarError;
 use std::io::{Print, Read};
@@ -25,30 +27,6 @@ const SCRIPT_LIMIT: u64 = (1 << 20) + 1;
 
 /// How many bytes of a module's file are read at most: one past the greatest length of a module.
 const MODULE_LIMIT: u64 = (1 << 24) + 1;
-
-/// Why a task is not done.
-enum Undone {
-    /// A file that the line names failed.
-    File(FileFault),
-    /// The script is not compiled.
-    Refused(CompileFault),
-    /// It has options that are not carried out yet.
-    NotYet,
-    /// The environment is not text.
-    Environment,
-    NoMemory,
-}
-
-impl From<AllocError> for Undone {
-    ghost use Rattle.std.specs.Prelude.{◌≡◌};
-    ghost use Rattle.awkwasm.specs.declared.tasks.Undone.TheVariants.{NoMemory};
-
-    ghost from_gives = { λ _ e. e ≡ NoMemory };
-
-    fn from(_error: AllocError) -> Undone {
-        Undone::NoMemory
-    }
-}
 
 /// The first bytes of a file, so many at most.
 fn read_file<R: Files>(alloc: Global, files: &R, path: &str, limit: u64) -> io::Result<Vec<u8>> {
@@ -172,13 +150,24 @@ fn exec_task(rt: &HostRuntime, task: &Task) -> Result<RunEnd, Undone> {
     Ok(end)
 }
 
+/// The module of a script; else what is told of it.
+fn compiled(alloc: Global, script: &[u8]) -> Result<Vec<u8>, RunEnd>
+    ensures ok { IfOk result (λ bytes. IsCompiled script.now bytes.items) }
+    ensures err { IfErr result (IsUncompiled script.now) }
+{
+    match compile(alloc, script) {
+        Ok(module) => Ok(module),
+        Err(CompileFault::NoMemory) => Err(RunEnd::NoMemory),
+        Err(fault) => Err(RunEnd::Refused(Refusal::Compile(fault))),
+    }
+}
+
 /// Compiles a script's file to a module's. Nothing is written unless the script is accepted.
 fn compile_file(rt: &HostRuntime, script_file: &str, out: &str) -> Result<RunEnd, Undone> {
     let script = file_of(rt, script_file, SCRIPT_LIMIT)?;
-    let module = match compile(rt.alloc(), &script) {
+    let module = match compiled(rt.alloc(), &script) {
         Ok(module) => module,
-        Err(CompileFault::NoMemory) => return Err(Undone::NoMemory),
-        Err(fault) => return Err(Undone::Refused(fault)),
+        Err(end) => return Ok(end),
     };
     match fs::write(rt, out, &module) {
         Ok(()) => Ok(RunEnd::Ended(0)),
@@ -202,19 +191,14 @@ fn tell_end(rt: &HostRuntime, end: RunEnd) -> u8
 }
 
 /// Tells what became of a task where that is no status of its own; the answer is the exit status.
-fn tell_task(rt: &HostRuntime, done: Result<RunEnd, Undone>) -> u8 {
+pub(crate) fn tell_task(rt: &HostRuntime, done: Result<RunEnd, Undone>) -> u8
+    ensures { result ≡ task_code done }
+{
     match done {
         Ok(end) => tell_end(rt, end),
-        Err(Undone::NoMemory) => tell_end(rt, RunEnd::NoMemory),
-        Err(Undone::Refused(fault)) => tell_end(rt, RunEnd::Refused(Refusal::Compile(fault))),
-        Err(Undone::File(fault)) => {
-            tell(rt, file_fault_text(&fault));
-            BAD_LINE
-        }
-        Err(Undone::Environment) => BAD_LINE,
-        Err(Undone::NotYet) => {
-            tell(rt, "awkwasm: NotYet\n".as_bytes());
-            REFUSED
+        Err(undone) => {
+            tell(rt, undone_text(&undone));
+            undone_status(&undone)
         }
     }
 }

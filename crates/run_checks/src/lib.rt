@@ -13,3 +13,5 @@ mod parts;
 mod scripts;
 #[cfg(test)]
 mod table;
+#[cfg(test)]
+mod told;

@@ -1,12 +1,24 @@
--- What is told of a run's end and of a file: the exit status, and a line with the innermost name and the number that it carries.
+-- What is told of a run's end and of a file: the exit status, and a line with the innermost name and what it carries.
 use Rattle.std.specs.Prelude.{ℕ, List, [], ◌∷◌, ◌++◌, Option, Some, None, codes, decimal}
+use Rattle.awk_parse.specs.declared.fault.Feature.{Feature}
+use Rattle.awk_parse.specs.declared.fault.Feature.TheVariants.{Delete, Pipe, Word}
+use Rattle.awk_parse.specs.declared.fault.ParseFault.{ParseFault}
+use Rattle.awk_parse.specs.declared.fault.ParseFault.TheVariants as parsing
+use Rattle.awk_resolve.specs.declared.fault.ResolveFault.{ResolveFault}
+use Rattle.awk_resolve.specs.declared.fault.ResolveFault.TheVariants as resolving
 use Rattle.awk_run.specs.declared.fault.CompileFault.{CompileFault}
 use Rattle.awk_run.specs.declared.fault.CompileFault.TheVariants as compiling
 use Rattle.awk_run.specs.declared.end.Refusal.{Refusal}
 use Rattle.awk_run.specs.declared.end.Refusal.TheVariants.{Compile, Decode, Invalid, Link}
 use Rattle.awk_run.specs.declared.end.RunEnd.{RunEnd}
 use Rattle.awk_run.specs.declared.end.RunEnd.TheVariants.{Ended, Exhausted, Faulted, NoMemory, OutOfSteps, Refused, Trapped}
+use Rattle.awk_tokens.specs.declared.token.TokenFault.{TokenFault}
+use Rattle.awk_tokens.specs.declared.token.TokenFault.TheVariants as cutting
+use Rattle.awk_tokens.specs.declared.words.LeftOut.{LeftOut}
+use Rattle.awk_tokens.specs.declared.words.LeftOut.TheVariants.{Atan2, Cos, Exp, Fflush, Func, Log, Nextfile, Rand, Sin, Sqrt, Srand, System}
 use Rattle.awk_values.specs.Faults.{fault_name}
+use Rattle.ere_syntax.specs.declared.fault.EreFault.{EreFault}
+use Rattle.ere_syntax.specs.declared.fault.EreFault.TheVariants as expressions
 use Rattle.module_decoder.specs.declared.fault.DecodeFault.{DecodeFault}
 use Rattle.module_decoder.specs.declared.fault.DecodeFault.TheVariants as decoding
 use Rattle.module_validator.specs.declared.valid.InvalidFault.{InvalidFault}
@@ -17,53 +29,107 @@ use Rattle.wasm_store.specs.declared.trap.TrapKind.{TrapKind}
 use Rattle.wasm_store.specs.declared.trap.TrapKind.TheVariants as traps
 use Rattle.run_report.specs.declared.report.FileFault.{FileFault}
 use Rattle.run_report.specs.declared.report.FileFault.TheVariants.{CannotRead, CannotWrite}
-use Rattle.run_report.specs.declared.report.Name.{Name}
 
--- a name, alone or with the place, index or line that it carries
-pub data Told : Type 0 where
-  Plain : (word : List ℕ) → Told
-  Numbered : (word : List ℕ) (number : ℕ) → Told
+-- What is told is a list of words: the name, and what it carries.
 
-abbrev pub told_with : List ℕ → Option ℕ → Told
-told_with word None = Plain word
-told_with word (Some number) = Numbered word number
+-- a name alone
+abbrev pub alone : List ℕ → List (List ℕ)
+alone name = name ∷ []
 
-abbrev pub told : Name → Told
-told name = told_with name.word.now name.number
+-- a name with a line, a place, an index or a length
+abbrev pub numbered : List ℕ → ℕ → List (List ℕ)
+numbered name number = name ∷ decimal number ∷ []
 
-abbrev pub compile_name : CompileFault → Told
-compile_name compiling.TooLarge = Plain (codes "TooLarge")
-compile_name (compiling.NotYet line) = Numbered (codes "NotYet") line
-compile_name compiling.NoMemory = Plain (codes "NoMemory")
+-- a fault's name with a name of the script
+abbrev pub named : List ℕ → List ℕ → List (List ℕ)
+named fault name = fault ∷ name ∷ []
 
-abbrev pub decode_name : DecodeFault → Told
-decode_name decoding.BadHeader = Plain (codes "BadHeader")
-decode_name (decoding.Truncated length) = Numbered (codes "Truncated") length
-decode_name (decoding.BadSection place) = Numbered (codes "BadSection") place
-decode_name (decoding.BadInteger place) = Numbered (codes "BadInteger") place
-decode_name (decoding.BadOpcode place) = Numbered (codes "BadOpcode") place
-decode_name (decoding.Float place) = Numbered (codes "Float") place
-decode_name decoding.TooLarge = Plain (codes "TooLarge")
-decode_name decoding.NoMemory = Plain (codes "NoMemory")
+abbrev pub token_words : TokenFault → List (List ℕ)
+token_words (cutting.BadByte line) = numbered (codes "BadByte") line
+token_words (cutting.OpenString line) = numbered (codes "OpenString") line
+token_words (cutting.OpenEre line) = numbered (codes "OpenEre") line
+token_words cutting.NoMemory = alone (codes "NoMemory")
 
-abbrev pub invalid_name : InvalidFault → Told
-invalid_name (typing.BadIndex function) = Numbered (codes "BadIndex") function
-invalid_name (typing.BadType function) = Numbered (codes "BadType") function
-invalid_name (typing.BadAlign function) = Numbered (codes "BadAlign") function
-invalid_name typing.BadModule = Plain (codes "BadModule")
-invalid_name typing.NoMemory = Plain (codes "NoMemory")
+-- a word that is left out, as scripts have it
+abbrev pub left_out_word : LeftOut → List ℕ
+left_out_word Atan2 = codes "atan2"
+left_out_word Cos = codes "cos"
+left_out_word Sin = codes "sin"
+left_out_word Exp = codes "exp"
+left_out_word Log = codes "log"
+left_out_word Sqrt = codes "sqrt"
+left_out_word Rand = codes "rand"
+left_out_word Srand = codes "srand"
+left_out_word System = codes "system"
+left_out_word Func = codes "func"
+left_out_word Nextfile = codes "nextfile"
+left_out_word Fflush = codes "fflush"
 
-abbrev pub link_name : LinkFault → Told
-link_name linking.NoMain = Plain (codes "NoMain")
-link_name (linking.BadImport index) = Numbered (codes "BadImport") index
-link_name linking.SegmentBounds = Plain (codes "SegmentBounds")
-link_name linking.NoMemory = Plain (codes "NoMemory")
+abbrev pub feature_word : Feature → List ℕ
+feature_word (Word word) = left_out_word word
+feature_word Pipe = codes "pipe"
+feature_word Delete = codes "delete"
 
-abbrev pub refusal_name : Refusal → Told
-refusal_name (Compile fault) = compile_name fault
-refusal_name (Decode fault) = decode_name fault
-refusal_name (Invalid fault) = invalid_name fault
-refusal_name (Link fault) = link_name fault
+abbrev pub parse_words : ParseFault → List (List ℕ)
+parse_words (parsing.LeftOut line feature) = codes "LeftOut" ∷ decimal line ∷ feature_word feature ∷ []
+parse_words (parsing.NotWhole line) = numbered (codes "NotWhole") line
+parse_words (parsing.ConstantRange line) = numbered (codes "ConstantRange") line
+parse_words (parsing.Syntax line) = numbered (codes "Syntax") line
+parse_words (parsing.TooDeep line) = numbered (codes "TooDeep") line
+parse_words (parsing.Misplaced line) = numbered (codes "Misplaced") line
+parse_words parsing.NoMemory = alone (codes "NoMemory")
+
+-- of an expression on this line
+abbrev pub ere_words : ℕ → EreFault → List (List ℕ)
+ere_words line (expressions.BadEre place) = codes "BadEre" ∷ decimal line ∷ decimal place ∷ []
+ere_words line expressions.EreTooLarge = numbered (codes "EreTooLarge") line
+ere_words line expressions.NoMemory = alone (codes "NoMemory")
+
+abbrev pub resolve_words : ResolveFault → List (List ℕ)
+resolve_words (resolving.TooMany function) = named (codes "TooMany") function
+resolve_words (resolving.DuplicateName name) = named (codes "DuplicateName") name
+resolve_words (resolving.UnknownFunction function) = named (codes "UnknownFunction") function
+resolve_words (resolving.ArgCount function) = named (codes "ArgCount") function
+resolve_words (resolving.KindClash name) = named (codes "KindClash") name
+resolve_words resolving.NoMemory = alone (codes "NoMemory")
+
+abbrev pub compile_words : CompileFault → List (List ℕ)
+compile_words compiling.TooLarge = alone (codes "TooLarge")
+compile_words (compiling.Token fault) = token_words fault
+compile_words (compiling.Parse fault) = parse_words fault
+compile_words (compiling.Ere line fault) = ere_words line fault
+compile_words (compiling.Resolve fault) = resolve_words fault
+compile_words (compiling.NotYet line) = numbered (codes "NotYet") line
+compile_words compiling.NoMemory = alone (codes "NoMemory")
+
+abbrev pub decode_words : DecodeFault → List (List ℕ)
+decode_words decoding.BadHeader = alone (codes "BadHeader")
+decode_words (decoding.Truncated length) = numbered (codes "Truncated") length
+decode_words (decoding.BadSection place) = numbered (codes "BadSection") place
+decode_words (decoding.BadInteger place) = numbered (codes "BadInteger") place
+decode_words (decoding.BadOpcode place) = numbered (codes "BadOpcode") place
+decode_words (decoding.Float place) = numbered (codes "Float") place
+decode_words decoding.TooLarge = alone (codes "TooLarge")
+decode_words decoding.NoMemory = alone (codes "NoMemory")
+
+abbrev pub invalid_words : InvalidFault → List (List ℕ)
+invalid_words (typing.BadIndex function) = numbered (codes "BadIndex") function
+invalid_words (typing.BadType function) = numbered (codes "BadType") function
+invalid_words (typing.BadAlign function) = numbered (codes "BadAlign") function
+invalid_words typing.BadModule = alone (codes "BadModule")
+invalid_words typing.NoMemory = alone (codes "NoMemory")
+
+abbrev pub link_words : LinkFault → List (List ℕ)
+link_words linking.NoMain = alone (codes "NoMain")
+link_words (linking.BadImport index) = numbered (codes "BadImport") index
+link_words linking.SegmentBounds = alone (codes "SegmentBounds")
+link_words linking.NoMemory = alone (codes "NoMemory")
+
+abbrev pub refusal_words : Refusal → List (List ℕ)
+refusal_words (Compile fault) = compile_words fault
+refusal_words (Decode fault) = decode_words fault
+refusal_words (Invalid fault) = invalid_words fault
+refusal_words (Link fault) = link_words fault
 
 abbrev pub trap_word : TrapKind → List ℕ
 trap_word traps.Unreachable = codes "Unreachable"
@@ -77,30 +143,31 @@ trap_word traps.BadHandle = codes "BadHandle"
 trap_word traps.BadPointer = codes "BadPointer"
 trap_word traps.BadArgument = codes "BadArgument"
 
--- the innermost name of an end; an end with a status of its own has none
-abbrev pub end_name : RunEnd → Option Told
-end_name (Ended status) = None
-end_name (Faulted fault) = Some (Plain (fault_name fault))
-end_name OutOfSteps = Some (Plain (codes "OutOfSteps"))
-end_name Exhausted = Some (Plain (codes "Exhausted"))
-end_name NoMemory = Some (Plain (codes "NoMemory"))
-end_name (Refused refusal) = Some (refusal_name refusal)
-end_name (Trapped kind) = Some (Plain (trap_word kind))
+-- the innermost name of an end and what it carries; of an end with a status of its own nothing is told
+abbrev pub end_words : RunEnd → Option (List (List ℕ))
+end_words (Ended status) = None
+end_words (Faulted fault) = Some (alone (fault_name fault))
+end_words OutOfSteps = Some (alone (codes "OutOfSteps"))
+end_words Exhausted = Some (alone (codes "Exhausted"))
+end_words NoMemory = Some (alone (codes "NoMemory"))
+end_words (Refused refusal) = Some (refusal_words refusal)
+end_words (Trapped kind) = Some (alone (trap_word kind))
 
-abbrev pub told_text : Told → List ℕ
-told_text (Plain word) = word
-told_text (Numbered word number) = word ++ 32 ∷ decimal number
+-- each word after a space
+abbrev pub spaced : List (List ℕ) → List ℕ
+spaced [] = []
+spaced (word ∷ words) = 32 ∷ (word ++ spaced words)
 
 -- one line for the standard error
-abbrev pub line_of : Told → List ℕ
-line_of name = codes "awkwasm: " ++ told_text name ++ codes "\n"
+unfoldable pub line_of : List (List ℕ) → List ℕ
+line_of words = codes "awkwasm:" ++ (spaced words ++ codes "\n")
 
-abbrev pub line_or_nothing : Option Told → List ℕ
+abbrev pub line_or_nothing : Option (List (List ℕ)) → List ℕ
 line_or_nothing None = []
-line_or_nothing (Some name) = line_of name
+line_or_nothing (Some words) = line_of words
 
 abbrev pub end_text : RunEnd → List ℕ
-end_text end = line_or_nothing (end_name end)
+end_text end = line_or_nothing (end_words end)
 
 abbrev pub exit_code : RunEnd → ℕ
 exit_code (Ended status) = status
@@ -112,5 +179,5 @@ exit_code Exhausted = 6
 exit_code (Trapped kind) = 7
 
 abbrev pub file_text : FileFault → List ℕ
-file_text CannotRead = line_of (Plain (codes "CannotRead"))
-file_text CannotWrite = line_of (Plain (codes "CannotWrite"))
+file_text CannotRead = line_of (alone (codes "CannotRead"))
+file_text CannotWrite = line_of (alone (codes "CannotWrite"))

@@ -1,2 +1,3 @@
 pub mod EndTexts
+pub mod Parts
 pub mod Examples

@@ -1,14 +1,12 @@
 //! What is told of a run's end and of a file: the exit status, and a line for the standard error.
 ghost use Rattle.std.specs.Prelude.{◌≡◌, option_map, IfOk};
-ghost use Rattle.run_report.specs.EndTexts.{compile_name, decode_name, end_name, end_text, exit_code, file_text, invalid_name, line_of, link_name, refusal_name, told, trap_word, Plain, Numbered};
+ghost use Rattle.run_report.specs.EndTexts.{end_text, end_words, exit_code, file_text};
+ghost use Rattle.run_report.specs.Parts.{words_of};
 
-use awk_run::{CompileFault, Refusal, RunEnd};
-use itoa::Buffer;
-use module_decoder::DecodeFault;
-use module_validator::InvalidFault;
+use crate::faults::{refusal_words, trap_word};
+use crate::line::{Told, line_of};
+use awk_run::RunEnd;
 use std::alloc::{AllocError, Global};
-use wasm_machine::LinkFault;
-use wasm_store::TrapKind;
 
 /// What failed of a file that the command line names.
 #[derive(Clone, Copy, Debug, PartialEq, Eq, Drop)]
@@ -17,137 +15,6 @@ pub enum FileFault {
     CannotRead,
     /// It could not be written.
     CannotWrite,
-}
-
-/// A name, and the place, index or line that it carries.
-#[derive(Clone, Copy, Drop)]
-pub(crate) struct Name {
-    pub(crate) word: &'static str,
-    pub(crate) number: Option<usize>,
-}
-
-impl Name {
-    fn alone(word: &'static str) -> Name
-        ensures { told result ≡ Plain word.now }
-    {
-        Name { word, number: None }
-    }
-
-    fn with(word: &'static str, number: usize) -> Name
-        ensures { told result ≡ Numbered word.now number }
-    {
-        Name {
-            word,
-            number: Some(number),
-        }
-    }
-}
-
-fn compile_name(fault: &CompileFault) -> Name
-    ensures { told result ≡ compile_name fault.now }
-{
-    match fault {
-        CompileFault::TooLarge => Name::alone("TooLarge"),
-        CompileFault::NotYet(line) => Name::with("NotYet", *line),
-        CompileFault::NoMemory => Name::alone("NoMemory"),
-    }
-}
-
-fn decode_name(fault: &DecodeFault) -> Name
-    ensures { told result ≡ decode_name fault.now }
-{
-    match fault {
-        DecodeFault::BadHeader => Name::alone("BadHeader"),
-        DecodeFault::Truncated(length) => Name::with("Truncated", *length),
-        DecodeFault::BadSection(place) => Name::with("BadSection", *place),
-        DecodeFault::BadInteger(place) => Name::with("BadInteger", *place),
-        DecodeFault::BadOpcode(place) => Name::with("BadOpcode", *place),
-        DecodeFault::Float(place) => Name::with("Float", *place),
-        DecodeFault::TooLarge => Name::alone("TooLarge"),
-        DecodeFault::NoMemory => Name::alone("NoMemory"),
-    }
-}
-
-fn invalid_name(fault: &InvalidFault) -> Name
-    ensures { told result ≡ invalid_name fault.now }
-{
-    match fault {
-        InvalidFault::BadIndex(function) => Name::with("BadIndex", *function),
-        InvalidFault::BadType(function) => Name::with("BadType", *function),
-        InvalidFault::BadAlign(function) => Name::with("BadAlign", *function),
-        InvalidFault::BadModule => Name::alone("BadModule"),
-        InvalidFault::NoMemory => Name::alone("NoMemory"),
-    }
-}
-
-fn link_name(fault: &LinkFault) -> Name
-    ensures { told result ≡ link_name fault.now }
-{
-    match fault {
-        LinkFault::NoMain => Name::alone("NoMain"),
-        LinkFault::BadImport(import) => Name::with("BadImport", *import),
-        LinkFault::SegmentBounds => Name::alone("SegmentBounds"),
-        LinkFault::NoMemory => Name::alone("NoMemory"),
-    }
-}
-
-fn refusal_name(refusal: &Refusal) -> Name
-    ensures { told result ≡ refusal_name refusal.now }
-{
-    match refusal {
-        Refusal::Compile(fault) => compile_name(fault),
-        Refusal::Decode(fault) => decode_name(fault),
-        Refusal::Invalid(fault) => invalid_name(fault),
-        Refusal::Link(fault) => link_name(fault),
-    }
-}
-
-fn trap_word(kind: &TrapKind) -> &'static str
-    ensures { result.now ≡ trap_word kind.now }
-{
-    match kind {
-        TrapKind::Unreachable => "Unreachable",
-        TrapKind::DivideByZero => "DivideByZero",
-        TrapKind::IntegerOverflow => "IntegerOverflow",
-        TrapKind::MemoryBounds => "MemoryBounds",
-        TrapKind::TableBounds => "TableBounds",
-        TrapKind::EmptyElement => "EmptyElement",
-        TrapKind::WrongType => "WrongType",
-        TrapKind::BadHandle => "BadHandle",
-        TrapKind::BadPointer => "BadPointer",
-        TrapKind::BadArgument => "BadArgument",
-    }
-}
-
-/// The innermost name of an end; none of an end with a status of its own.
-fn name_of(end: &RunEnd) -> Option<Name>
-    ensures { option_map told result ≡ end_name end.now }
-{
-    let name = match end {
-        RunEnd::Ended(_) => return None,
-        RunEnd::Faulted(fault) => Name::alone(fault.name()),
-        RunEnd::OutOfSteps => Name::alone("OutOfSteps"),
-        RunEnd::Exhausted => Name::alone("Exhausted"),
-        RunEnd::NoMemory => Name::alone("NoMemory"),
-        RunEnd::Refused(refusal) => refusal_name(refusal),
-        RunEnd::Trapped(kind) => Name::alone(trap_word(kind)),
-    };
-    Some(name)
-}
-
-/// The line of a name.
-fn line_of(alloc: Global, name: Name) -> Result<Vec<u8>, AllocError>
-    ensures { IfOk result (λ line. line.items ≡ line_of (told name)) }
-{
-    let mut line = Vec::from_slice(alloc, "awkwasm: ".as_bytes())?;
-    line.extend_from_slice(name.word.as_bytes())?;
-    if let Some(number) = name.number {
-        let mut digits = Buffer::new();
-        line.push(b' ')?;
-        line.extend_from_slice(digits.format(number).as_bytes())?;
-    }
-    line.push(b'\n')?;
-    Ok(line)
 }
 
 /// The exit status of a run's end: its own status, 2 for a fault, 3 for what is refused, 4 where all steps were taken, 5 for want of memory,
@@ -166,8 +33,24 @@ pub fn status_of(end: &RunEnd) -> u8
     }
 }
 
-/// The line for the standard error that tells a run's end: `awkwasm: `, the innermost name, the number that it carries behind a space, and a
-/// newline. It is empty for an end with a status of its own.
+/// What is told of an end; nothing of one with a status of its own.
+fn told_of(end: &RunEnd) -> Option<Told<'_>>
+    ensures { option_map words_of result ≡ end_words end.now }
+{
+    let told = match end {
+        RunEnd::Ended(_) => return None,
+        RunEnd::Faulted(fault) => Told::alone(fault.name()),
+        RunEnd::OutOfSteps => Told::alone("OutOfSteps"),
+        RunEnd::Exhausted => Told::alone("Exhausted"),
+        RunEnd::NoMemory => Told::alone("NoMemory"),
+        RunEnd::Refused(refusal) => refusal_words(refusal),
+        RunEnd::Trapped(kind) => Told::alone(trap_word(kind)),
+    };
+    Some(told)
+}
+
+/// The line for the standard error that tells a run's end: `awkwasm: `, the innermost name and what it carries, with single spaces between, and a
+/// newline. A line of the script comes before a place within it. The text is empty for an end with a status of its own.
 ///
 /// # Errors
 ///
@@ -175,13 +58,14 @@ pub fn status_of(end: &RunEnd) -> u8
 pub fn fault_text(alloc: Global, end: &RunEnd) -> Result<Vec<u8>, AllocError>
     ensures { IfOk result (λ text. text.items ≡ end_text end.now) }
 {
-    match name_of(end) {
-        Some(name) => line_of(alloc, name),
+    match told_of(end) {
+        Some(told) => line_of(alloc, told),
         None => Ok(Vec::new(alloc)),
     }
 }
 
 /// The line for the standard error that tells what failed of a file.
+#[tactic(auto, unfolding(crate::specs::EndTexts::line_of))]
 pub fn file_fault_text(fault: &FileFault) -> &'static [u8]
     ensures { result.now ≡ file_text fault.now }
 {
