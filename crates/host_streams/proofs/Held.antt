@@ -21,7 +21,7 @@ same_name a b e = (bytes_eq-Decides a b).0 e
 pub name_itself : (a : List ℕ) → same_text a a ≡ true
 name_itself a = nat_list_eq_equiv.refl a
 
-other_name : (a b : List ℕ) → same_text a b ≡ false → b ≢ a
+pub other_name : (a b : List ℕ) → same_text a b ≡ false → b ≢ a
 other_name a b e = λ is. cc (sym (name_itself a) ∙ ap (same_text a) (sym is) ∙ e)
 
 -- one of them

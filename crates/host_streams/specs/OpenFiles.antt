@@ -49,6 +49,10 @@ WritersGo (w ∷ ws) state = (state.writers w.id ≡ Named w.name) × WritersGo 
 abbrev pub readers_in : List NamedReader → State → List (List ℕ × Source)
 readers_in readers state = map (λ r. (r.name, left r.reader (state.readers r.reader.id))) readers
 
+-- the names that are open for reading
+abbrev pub reader_names : List NamedReader → List (List ℕ)
+reader_names readers = map (λ r. r.name) readers
+
 abbrev pub is_reader : List ℕ → NamedReader → Bool
 is_reader name r = same_text name r.name
 
@@ -58,6 +62,16 @@ reader_place name readers = position (is_reader name) readers
 abbrev pub phase_named : List ℕ → List NamedReader → Phase
 phase_named name [] = Open
 phase_named name (r ∷ rs) = if is_reader name r then r.reader.phase else phase_named name rs
+
+abbrev pub is_writer : List ℕ → NamedWriter → Bool
+is_writer name w = same_text name w.name
+
+abbrev pub writer_place : List ℕ → List NamedWriter → Option ℕ
+writer_place name writers = position (is_writer name) writers
+
+-- the names that are open for writing
+abbrev pub names_of : List NamedWriter → List (List ℕ)
+names_of writers = map (λ w. w.name) writers
 
 -- one more may be opened
 abbrev pub has_room : Streams → Bool

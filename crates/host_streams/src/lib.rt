@@ -2,9 +2,13 @@
 //! Statements", "Output Statements").
 #![tactic(auto)]
 
+mod closing;
 mod look;
+mod output;
+mod put;
 mod reader;
 mod streams;
 
+pub use output::Target;
 pub use reader::FileNext;
 pub use streams::Streams;

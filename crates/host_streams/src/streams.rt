@@ -15,30 +15,30 @@ use std::alloc::Global;
 use world_core::{World, WorldFault};
 
 /// How many streams may be open.
-const STREAMS: usize = 256;
+pub(crate) const STREAMS: usize = 256;
 
 #[derive(Drop)]
 pub(crate) struct NamedReader {
-    name: Bytes,
-    reader: Reader,
+    pub(crate) name: Bytes,
+    pub(crate) reader: Reader,
 }
 
 #[derive(Drop)]
 pub(crate) struct NamedWriter {
-    name: Bytes,
-    id: u32,
+    pub(crate) name: Bytes,
+    pub(crate) id: u32,
 }
 
 /// The files that a script has open, by their names: those that `getline` reads, and those that output goes to.
 #[derive(Drop)]
 pub struct Streams {
-    readers: Vec<NamedReader>,
-    writers: Vec<NamedWriter>,
-    alloc: Global,
+    pub(crate) readers: Vec<NamedReader>,
+    pub(crate) writers: Vec<NamedWriter>,
+    pub(crate) alloc: Global,
 }
 
 /// The place of the reader of a name.
-fn find_reader(readers: &[NamedReader], name: &[u8]) -> Option<usize>
+pub(crate) fn find_reader(readers: &[NamedReader], name: &[u8]) -> Option<usize>
     ensures { result ≡ reader_place name.now readers.now }
 {
     readers.iter().position(|r| r.name.as_slice() == name)
