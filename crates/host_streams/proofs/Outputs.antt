@@ -82,32 +82,8 @@ put_to name text append target shared r s t is to h =
 
 -- Streams that stay where they are.
 
-pub spares_same : (kinds : ℕ → Kind) (s t : State) → t.readers ≡ s.readers → t.writers ≡ s.writers → Spares kinds s t
-spares_same kinds s t e f = record { readers = λ k was. ap (λ (r : ℕ → Source). r k) e; writers = λ k was. ap (λ (w : ℕ → Target). w k) f }
-
 other_number : (kinds : ℕ → Kind) (k id : ℕ) → kinds id ≡ Closed → kinds k ≢ Closed → k ≢ id
 other_number kinds k id closed was = λ e. was (ap kinds e ∙ closed)
-
--- one more is opened and written to
-pub spares_opened : (kinds : ℕ → Kind) (name : List ℕ) (append : Bool) (id : ℕ) (s t u : State) → kinds id ≡ Closed → OpensWriter name append id s t → u.readers ≡ t.readers → u.writers ≡ t.writers → Spares kinds s u
-spares_opened kinds name append id s t u closed o e f = record {
-  readers = λ k was. ap (λ (r : ℕ → Source). r k) e ∙ o.others.readers k (other_number kinds k id closed was);
-  writers = λ k was. ap (λ (w : ℕ → Target). w k) f ∙ o.others.writers k (other_number kinds k id closed was);
-}
-
-pub spares_shut : (kinds : ℕ → Kind) (id : ℕ) (s t u : State) → kinds id ≡ Closed → Spares kinds s t → Closes id t u → Spares kinds s u
-spares_shut kinds id s t u closed h c = record {
-  readers = λ k was. c.others.readers k (other_number kinds k id closed was) ∙ h.readers k was;
-  writers = λ k was. c.others.writers k (other_number kinds k id closed was) ∙ h.writers k was;
-}
-
-shut_at : (kinds : ℕ → Kind) (id k : ℕ) → kinds id ≡ Closed → (b : Bool) → (k == id) ≡ b → cond b Closed (cond b Writing (kinds k)) ≡ kinds k
-shut_at kinds id k closed true is = sym (ap kinds (eqb-true k id is) ∙ closed)
-shut_at kinds id k closed false is = refl
-
--- what is opened and closed again
-pub shut_again : (kinds after : ℕ → Kind) (id : ℕ) → Opens Writing id kinds after → set_kind id Closed after ≡ kinds
-shut_again kinds after id o = ap (set_kind id Closed) o.opened ∙ fun_ext (λ k. shut_at kinds id k o.was_closed (k == id) refl)
 
 pub go_spared : (kinds : ℕ → Kind) (ws : List NamedWriter) (s t : State) → AreOpen Writing (map writer_handle ws) kinds → Spares kinds s t → WritersGo ws s → WritersGo ws t
 go_spared kinds [] s t h spares go = tt
@@ -153,17 +129,6 @@ held_written kinds after w ws hs input output opens missing h = (
 
 -- What the definition says of a file that is opened.
 
-counted : (s : Streams) (state : State) (shared : Shared) → IsOf s state shared → streams shared.inner ≡ length s.readers.items + length s.writers.items
-counted s state shared is =
-    ap (λ n. n + length shared.inner.writers) (ap length is.readers ∙ length-map s.readers.items _)
-    ∙ ap (λ n. length s.readers.items + n) (ap length is.writers ∙ length-map s.writers.items _)
-
-pub is_full : (s : Streams) (state : State) (shared : Shared) → IsOf s state shared → 256 ≤ length s.readers.items + length s.writers.items → has_room shared.inner ≡ false
-is_full s state shared is h = lt-leb (streams shared.inner + 1) 256 (let e : streams shared.inner ≡ length s.readers.items + length s.writers.items = counted s state shared is in omega arith)
-
-pub is_roomy : (s : Streams) (state : State) (shared : Shared) → IsOf s state shared → length s.readers.items + length s.writers.items < 256 → has_room shared.inner ≡ true
-is_roomy s state shared is h = le-leb (streams shared.inner + 1) 256 (let e : streams shared.inner ≡ length s.readers.items + length s.writers.items = counted s state shared is in omega arith)
-
 -- a fault is answered as another kind of answer, and what was opened is closed again
 pub put_shut : (d : Does (Result (Unit {0}) Fault)) (stop : Stop) (s t u : State) → u.outside ≡ t.outside → PutsBy {A = Unit {0}} d (Err stop) s t → PutsBy {A = ℕ} d (Err stop) s u
 put_shut d (IsFault fault) s t u e h = record { answer_is = h.answer_is; outside = e ∙ h.outside }
@@ -188,15 +153,6 @@ put_opened name text append id shared r s t u e o h =
     subst (λ (b : Bool). PutsBy (opened_if true b name append text shared) r s u) (sym (ap (λ (f : Outside). (f (Named name)).opens) e ∙ o.opens))
     (after_opening name append shared (written (Named name) text (opened_in name append shared)) r s t u o.outside
     (subst (λ (x : Target). PutsBy (written x text (opened_in name append shared)) r t u) o.writer h))
-
--- there is room for one more, or there is none
-pub put_roomy : {A : Type 0} (name text : List ℕ) (append : Bool) (shared : Shared) (r : Result A Stop) (s t : State) → has_room shared.inner ≡ true → PutsBy (opened_if true (shared.outside (Named name)).opens name append text shared) r s t →
-    PutsBy (written_by false name append text shared) r s t
-put_roomy name text append shared r s t room h = subst (λ (b : Bool). PutsBy (opened_if b (shared.outside (Named name)).opens name append text shared) r s t) (sym room) h
-
-pub put_full : (name text : List ℕ) (append : Bool) (shared : Shared) (s : State) → has_room shared.inner ≡ false → PutsBy {A = Unit {0}} (written_by false name append text shared) (Err (IsFault TooManyStreams)) s s
-put_full name text append shared s room =
-    subst (λ (b : Bool). PutsBy {A = Unit {0}} (opened_if b (shared.outside (Named name)).opens name append text shared) (Err (IsFault TooManyStreams)) s s) (sym room) (record { answer_is = refl; outside = refl })
 
 pub put_missing : {A : Type 0} (name text : List ℕ) (append : Bool) (shared : Shared) (r : Result A Stop) (s t : State) → is_writing name shared.inner.writers ≡ false → PutsBy (written_by false name append text shared) r s t →
     PutsBy (written_by (is_writing name shared.inner.writers) name append text shared) r s t
