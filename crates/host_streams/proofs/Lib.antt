@@ -6,3 +6,4 @@ pub mod Held
 pub mod Writing
 pub mod Outputs
 pub mod Closed
+pub mod MainSteps

@@ -4,3 +4,4 @@ pub mod OpenFiles
 pub mod Puts
 pub mod Outputs
 pub mod Closing
+pub mod Mains

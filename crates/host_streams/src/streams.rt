@@ -44,7 +44,7 @@ pub(crate) fn find_reader(readers: &[NamedReader], name: &[u8]) -> Option<usize>
     readers.iter().position(|r| r.name.as_slice() == name)
 }
 
-fn first_byte(text: &[u8]) -> Option<u8>
+pub(crate) fn first_byte(text: &[u8]) -> Option<u8>
     ensures { result ≡ record_separator text.now }
 {
     match text {
