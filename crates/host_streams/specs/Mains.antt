@@ -7,7 +7,7 @@ use Rattle.awk_values.specs.declared.fault.Stop.TheVariants.{Fault as IsFault, N
 use Rattle.awk_values.specs.declared.value.Value.{Value}
 use Rattle.awk_values.specs.declared.value.Value.TheVariants.{Num, StrNum}
 use Rattle.world_core.specs.WorldState.{Outside, Source, State}
-use Rattle.world_core.specs.Calls.{Kind, Reading as IsReading}
+use Rattle.world_core.specs.Calls.{Kind, Closed, Reading as IsReading}
 use Rattle.awk_state.specs.Assignments.{assigned, assignment_of, begins_name}
 use Rattle.awk_state.specs.FieldRows.{special_text}
 use Rattle.awk_state.specs.InputRows.{Main, Taken, Over, NotOpened, Failed as ReadingFailed, main_input, is_below, made, operand_text, reach}
@@ -150,3 +150,17 @@ AnswerIs given (Err stop) outside old new = GivenIs given (Err stop) outside old
 -- before anything is read
 abbrev pub main_at_start : Source → MainInput
 main_at_start input = record { standard = input; next = 1; operands = NoFile; reading = None; ended = false }
+
+-- a stream is not the file that is read
+abbrev pub IsApartFrom : ℕ → Reading → Type 0
+IsApartFrom k reading.Nothing = Unit {0}
+IsApartFrom k reading.Standard = Unit {0}
+IsApartFrom k (reading.File r) = k ≢ r.id
+
+-- every other stream that is open stays so
+abbrev pub SparesKinds : Reading → Reading → (ℕ → Kind) → (ℕ → Kind) → Type 0
+SparesKinds was is old new = (k : ℕ) → IsApartFrom k was → old k ≢ Closed → (new k ≡ old k) × IsApartFrom k is
+
+-- and where it is
+abbrev pub SparesPlaces : Reading → (ℕ → Kind) → State → State → Type 0
+SparesPlaces was kinds old new = (k : ℕ) → k ≢ 0 → IsApartFrom k was → kinds k ≢ Closed → (new.readers k ≡ old.readers k) × (new.writers k ≡ old.writers k)

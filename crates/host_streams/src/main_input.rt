@@ -8,7 +8,7 @@ ghost use Rattle.awk_state.specs.Assignments.{assignment_of, continues_name};
 ghost use Rattle.awk_state.specs.InputRows.{follows, main_input, reader_of, taken};
 ghost use Rattle.awk_state.specs.Records.{record_separator};
 ghost use Rattle.awk_state.specs.SharedState.{Inner};
-ghost use Rattle.host_streams.specs.Mains.{AnswerIs, FileIsOpen, GivenIs, GoesOn, HoldsMain, IsAsked, IsOffered, NameLen, ReadsMain, begins, has_operand, idle, is_equals, main_at_start, main_of, passed, reading_of, rest_of, with_main};
+ghost use Rattle.host_streams.specs.Mains.{AnswerIs, FileIsOpen, GivenIs, GoesOn, HoldsMain, IsApartFrom, IsAsked, IsOffered, NameLen, ReadsMain, SparesKinds, SparesPlaces, begins, has_operand, idle, is_equals, main_at_start, main_of, passed, reading_of, rest_of, with_main};
 
 use crate::reader::{FileNext, Reader};
 use crate::streams::first_byte;
@@ -132,6 +132,9 @@ fn open_operand<W: World>(world: &mut W, alloc: Global, name: &[u8]) -> Result<R
     ensures refused { W.tells → OnErr result (W.state world.new ≡ W.state world.old) }
     ensures memory { IfErr result (λ stop. stop ≡ Stop.NoMemory) }
     ensures standard { W.tells → (W.state world.new).readers 0 ≡ (W.state world.old).readers 0 }
+    ensures opened { IfOk result (λ r. SparesKinds Reading.Nothing r (W.kinds world.old) (W.kinds world.new)) }
+    ensures not_opened { OnErr result (W.kinds world.new ≡ W.kinds world.old) }
+    ensures places { W.tells → SparesPlaces Reading.Nothing (W.kinds world.old) (W.state world.old) (W.state world.new) }
     ensures outside { W.tells → (W.state world.new).outside ≡ (W.state world.old).outside }
 {
     if name == b"-".as_slice() {
@@ -180,6 +183,8 @@ impl MainInput {
         ensures next { self.new.next ≡ self.old.next }
         ensures busy { self.new.reading ≢ Reading.Nothing }
         ensures told { W.tells → ReadsMain rs (main_of self.old (W.state world.old)) result (main_of self.new (W.state world.new)) }
+        ensures spares { SparesKinds self.old.reading self.new.reading (W.kinds world.old) (W.kinds world.new) }
+        ensures places { W.tells → SparesPlaces self.old.reading (W.kinds world.old) (W.state world.old) (W.state world.new) }
         ensures outside { W.tells → (W.state world.new).outside ≡ (W.state world.old).outside }
     {
         match &mut self.reading {
@@ -198,6 +203,8 @@ impl MainInput {
         ensures next { self.new.next ≡ self.old.next }
         ensures count { W.count world.new ≡ W.count world.old }
         ensures told { W.tells → main_of self.new (W.state world.new) ≡ idle (main_of self.old (W.state world.old)) }
+        ensures spares { SparesKinds self.old.reading self.new.reading (W.kinds world.old) (W.kinds world.new) }
+        ensures places { W.tells → SparesPlaces self.old.reading (W.kinds world.old) (W.state world.old) (W.state world.new) }
         ensures outside { W.tells → (W.state world.new).outside ≡ (W.state world.old).outside }
     {
         if let Reading::File(reader) = &self.reading {
@@ -214,6 +221,8 @@ impl MainInput {
         ensures held { HoldsMain self.new (W.kinds world.new) }
         ensures told { W.tells → (inner : Inner) → IsAsked rs inner → GivenIs (main_input (W.state world.old).outside (with_main (main_of self.old (W.state world.old)) inner)) result (W.state world.old).outside (with_main (main_of self.old (W.state world.old)) inner) (with_main (main_of self.new (W.state world.new)) inner) }
         ensures goes_on { GoesOn result self.old self.new }
+        ensures spares { SparesKinds self.old.reading self.new.reading (W.kinds world.old) (W.kinds world.new) }
+        ensures places { W.tells → SparesPlaces self.old.reading (W.kinds world.old) (W.state world.old) (W.state world.new) }
         ensures outside { W.tells → (W.state world.new).outside ≡ (W.state world.old).outside }
     {
         match self.read(world, rs) {
@@ -233,6 +242,7 @@ impl MainInput {
         requires live { self.old.ended ≡ false }
         ensures standard { self.new.standard ≡ self.old.standard }
         ensures held { (kinds : ℕ → Kind) → FileIsOpen self.new.reading kinds }
+        ensures apart { (k : ℕ) → IsApartFrom k self.new.reading }
         ensures told { (state : State) (inner : Inner) → GivenIs (follows (main_of self.old state).operands (with_main (main_of self.old state) inner)) result state.outside (with_main (main_of self.old state) inner) (with_main (main_of self.new state) inner) }
         ensures goes_on { GoesOn result self.old self.new }
     {
@@ -256,6 +266,8 @@ impl MainInput {
         requires file { assignment_of name ≡ None }
         ensures held { HoldsMain self.new (W.kinds world.new) }
         ensures told { W.tells → (inner : Inner) → GivenIs (taken (rest_of (passed (main_of self.old (W.state world.old))) (W.state world.old).outside) (W.state world.old).outside name (with_main (passed (main_of self.old (W.state world.old))) inner)) result (W.state world.old).outside (with_main (main_of self.old (W.state world.old)) inner) (with_main (main_of self.new (W.state world.new)) inner) }
+        ensures spares { SparesKinds self.old.reading self.new.reading (W.kinds world.old) (W.kinds world.new) }
+        ensures places { W.tells → SparesPlaces self.old.reading (W.kinds world.old) (W.state world.old) (W.state world.new) }
         ensures outside { W.tells → (W.state world.new).outside ≡ (W.state world.old).outside }
         ensures goes_on { GoesOn result self.old self.new }
     {
@@ -298,6 +310,8 @@ impl MainInput {
         ensures held { HoldsMain self.new (W.kinds world.new) }
         ensures told { W.tells → (inner : Inner) → GivenIs (taken (rest_of (passed (main_of self.old (W.state world.old))) (W.state world.old).outside) (W.state world.old).outside (O.text operands.now self.old.next) (with_main (passed (main_of self.old (W.state world.old))) inner)) result (W.state world.old).outside (with_main (main_of self.old (W.state world.old)) inner) (with_main (main_of self.new (W.state world.new)) inner) }
         ensures goes_on { GoesOn result self.old self.new }
+        ensures spares { SparesKinds self.old.reading self.new.reading (W.kinds world.old) (W.kinds world.new) }
+        ensures places { W.tells → SparesPlaces self.old.reading (W.kinds world.old) (W.state world.old) (W.state world.new) }
         ensures outside { W.tells → (W.state world.new).outside ≡ (W.state world.old).outside }
     {
         let text = operands.operand(self.next)?;
@@ -324,6 +338,8 @@ impl MainInput {
         ensures held { HoldsMain self.new (W.kinds world.new) }
         ensures told { W.tells → (inner : Inner) → IsOffered argc.now (O.text operands.now) inner → GivenIs (main_input (W.state world.old).outside (with_main (main_of self.old (W.state world.old)) inner)) result (W.state world.old).outside (with_main (main_of self.old (W.state world.old)) inner) (with_main (main_of self.new (W.state world.new)) inner) }
         ensures goes_on { GoesOn result self.old self.new }
+        ensures spares { SparesKinds self.old.reading self.new.reading (W.kinds world.old) (W.kinds world.new) }
+        ensures places { W.tells → SparesPlaces self.old.reading (W.kinds world.old) (W.state world.old) (W.state world.new) }
         ensures outside { W.tells → (W.state world.new).outside ≡ (W.state world.old).outside }
     {
         if let Found::NoneLeft = self.found {
@@ -348,6 +364,8 @@ impl MainInput {
         ensures held { HoldsMain self.new (W.kinds world.new) }
         ensures told { W.tells → (inner : Inner) → IsAsked rs inner → IsOffered argc.now (O.text operands.now) inner → GivenIs (main_input (W.state world.old).outside (with_main (main_of self.old (W.state world.old)) inner)) result (W.state world.old).outside (with_main (main_of self.old (W.state world.old)) inner) (with_main (main_of self.new (W.state world.new)) inner) }
         ensures goes_on { GoesOn result self.old self.new }
+        ensures spares { SparesKinds self.old.reading self.new.reading (W.kinds world.old) (W.kinds world.new) }
+        ensures places { W.tells → SparesPlaces self.old.reading (W.kinds world.old) (W.state world.old) (W.state world.new) }
         ensures outside { W.tells → (W.state world.new).outside ≡ (W.state world.old).outside }
     {
         if self.ended {
@@ -377,6 +395,8 @@ impl MainInput {
         requires held { HoldsMain self.old (W.kinds world.old) }
         ensures held { HoldsMain self.new (W.kinds world.new) }
         ensures told { W.tells → (inner : Inner) → IsAsked (record_separator rs.now) inner → IsOffered argc.now (O.text operands.now) inner → AnswerIs (main_input (W.state world.old).outside (with_main (main_of self.old (W.state world.old)) inner)) result (W.state world.old).outside (with_main (main_of self.old (W.state world.old)) inner) (with_main (main_of self.new (W.state world.new)) inner) }
+        ensures spares { SparesKinds self.old.reading self.new.reading (W.kinds world.old) (W.kinds world.new) }
+        ensures places { W.tells → SparesPlaces self.old.reading (W.kinds world.old) (W.state world.old) (W.state world.new) }
         ensures outside { W.tells → (W.state world.new).outside ≡ (W.state world.old).outside }
     {
         let separator = first_byte(rs);

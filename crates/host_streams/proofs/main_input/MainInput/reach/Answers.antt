@@ -16,6 +16,8 @@ returns-in-Ok-true g c = record {
       (ap number_of_value offered.count) (sym c.in-Ok-true.ensures ∙ ap (λ b. Ok b) c.in-Ok-true.field-0-test) (offered.operands c.args.self.now.next))
       (c.take.ensures.told tells inner);
   goes_on = c.take.ensures.goes_on;
+  spares = c.take.ensures.spares;
+  places = c.take.ensures.places;
   outside = c.take.ensures.outside;
 }
 
@@ -27,6 +29,8 @@ returns-in-Ok-false g c = record {
       (ap number_of_value offered.count) (sym c.in-Ok-false.ensures ∙ ap (λ b. Ok b) c.in-Ok-false.field-0-test))
       (c.follow-in-Ok-false.ensures.told (g.W.World.state c.args.world.now) inner);
   goes_on = c.follow-in-Ok-false.ensures.goes_on;
+  spares = λ k apart was. (refl, c.follow-in-Ok-false.ensures.apart k);
+  places = λ tells k own apart was. (refl, refl);
   outside = λ tells. refl;
 }
 
@@ -37,5 +41,10 @@ returns-in-Err g c = record {
       let e = has_fault (g.W.World.state c.args.world.now).outside inner c.args.self.now (g.W.World.state c.args.world.now) c.requires.idle c.requires.live c.in_default.not-NoneLeft (number_of_value c.args.argc.now) c.in-Err.fault (ap number_of_value offered.count) (sym c.in-Err.ensures) in
       inl (e, e);
   goes_on = tt;
+  spares = λ k apart was. (refl, apart);
+  places = λ tells k own apart was. (refl, refl);
   outside = λ tells. refl;
 }
+
+pub returns-in-NoneLeft-clause-spares : goal.returns-in-NoneLeft-clause-spares
+returns-in-NoneLeft-clause-spares g c = λ k apart was. (refl, c.follow.ensures.apart k)
