@@ -15,7 +15,7 @@ use Rattle.host_streams.specs.declared.streams.NamedReader.{NamedReader}
 use Rattle.host_streams.specs.declared.streams.NamedWriter.{NamedWriter}
 use Rattle.host_streams.specs.declared.streams.Streams.{Streams}
 use Rattle.host_streams.specs.Readers.{left}
-use Rattle.host_streams.specs.OpenFiles.{reader_handle, writer_handle, IsApart, AreOpen, WritersGo, names_of, reader_names, readers_in, is_reader, is_writer, reader_place, writer_place}
+use Rattle.host_streams.specs.OpenFiles.{reader_handle, writer_handle, IsApart, IsNone, AreOpen, WritersGo, names_of, reader_names, readers_in, is_reader, is_writer, reader_place, writer_place}
 use Rattle.host_streams.specs.Outputs.{IsOf}
 use Rattle.host_streams.specs.Closing.{ClosesBy}
 use Rattle.host_streams.proofs.Places.{AllFail, First, first, all_fail, first_item}
@@ -54,6 +54,17 @@ module _ (kind : Kind) (kinds : ℕ → Kind) where
   pub others_open : (id : ℕ) (hs : List Handle) → kinds id ≢ kind → AreOpen kind hs kinds → AreOpen kind hs (set_kind id Closed kinds)
   others_open id [] other o = tt
   others_open id (x ∷ xs) other o = (o.0, kept id x.1 (λ e. other (sym (ap kinds e) ∙ o.1)) o.1, o.2, others_open id xs other o.3)
+
+none_at : (k : ℕ) (front : List Handle) (h : Handle) (back : List Handle) → IsNone k (front ++ h ∷ back) → k ≢ h.1
+none_at k [] h back a = a.0
+none_at k (x ∷ xs) h back a = none_at k xs h back a.1
+
+none_rest : (k : ℕ) (front : List Handle) (h : Handle) (back : List Handle) → IsNone k (front ++ h ∷ back) → IsNone k (front ++ back)
+none_rest k [] h back a = a.1
+none_rest k (x ∷ xs) h back a = (a.0, none_rest k xs h back a.1)
+
+pub shut_stays : (k id : ℕ) (kinds : ℕ → Kind) → k ≢ id → set_kind id Closed kinds k ≡ kinds k
+shut_stays k id kinds apart = ap (λ b. cond b Closed (kinds k)) (ne_eqb k id apart)
 
 fails_by : (name a b : List ℕ) → name ≡ a → a ≢ b → (c : Bool) → same_text name b ≡ c → same_text name b ≡ false
 fails_by name a b e apart true is = absurd (apart (sym e ∙ same_name name b is))
@@ -128,6 +139,15 @@ module _ {A : Type 0} (handle : A → Handle) (name : List ℕ) where
     pub name_there : is_writing name (names xs) ≡ true
     name_there = ap (λ ys. is_writing name (names ys)) s.is ∙ names_pass s.front s.item s.back s.none s.passes
 
+    none_in : (k : ℕ) → IsNone k (map handle xs) → IsNone k (map handle s.front ++ handle s.item ∷ map handle s.back)
+    none_in k h = subst (IsNone k) (ap (map handle) s.is ∙ map-append handle s.front (s.item ∷ s.back)) h
+
+    pub apart_item : (k : ℕ) → IsNone k (map handle xs) → k ≢ (handle s.item).1
+    apart_item k h = none_at k (map handle s.front) (handle s.item) (map handle s.back) (none_in k h)
+
+    pub none_removed : (k : ℕ) → IsNone k (map handle xs) → IsNone k (map handle (remove xs at))
+    none_removed k h = subst (IsNone k) (sym (ap (map handle) is_removed ∙ map-append handle s.front s.back)) (none_rest k (map handle s.front) (handle s.item) (map handle s.back) (none_in k h))
+
 -- What the readers have left then.
 
 module _ (name : List ℕ) (s t : State) where
@@ -195,6 +215,12 @@ module _ (name : List ℕ) (rs : List NamedReader) (ws : List NamedWriter) (at :
     others_open Writing kinds d.reader.id (map writer_handle ws) (λ e. cc (sym reader_open ∙ e)) held.1,
   )
 
+  pub reader_apart : (k : ℕ) → IsNone k (map reader_handle rs) → k ≢ d.reader.id
+  reader_apart k h = λ e. apart_item reader_handle name Reading kinds rs at r_spot held.0 k h (e ∙ ap (λ (r : NamedReader). r.reader.id) r_item)
+
+  pub reader_none : (k : ℕ) → IsNone k (map reader_handle rs) → IsNone k (map reader_handle (remove rs at))
+  reader_none k h = none_removed reader_handle name Reading kinds rs at r_spot held.0 k h
+
   pub reader_go : (s t : State) → Closes d.reader.id s t → WritersGo ws s → WritersGo ws t
   reader_go s t closes go = go_apart name s t kinds d.reader.id ws reader_held.1 closes go
 
@@ -227,6 +253,12 @@ module _ (name : List ℕ) (rs : List NamedReader) (ws : List NamedWriter) (at :
     others_open Reading kinds d.id (map reader_handle rs) (λ e. cc (sym writer_opened ∙ e)) held.0,
     subst (λ (w : NamedWriter). AreOpen Writing (map writer_handle (remove ws at)) (set_kind w.id Closed kinds)) (sym w_item) (open_removed writer_handle name Writing kinds ws at w_spot held.1),
   )
+
+  pub writer_apart : (k : ℕ) → IsNone k (map writer_handle ws) → k ≢ d.id
+  writer_apart k h = λ e. apart_item writer_handle name Writing kinds ws at w_spot held.1 k h (e ∙ ap (λ (w : NamedWriter). w.id) w_item)
+
+  pub writer_none : (k : ℕ) → IsNone k (map writer_handle ws) → IsNone k (map writer_handle (remove ws at))
+  writer_none k h = none_removed writer_handle name Writing kinds ws at w_spot held.1 k h
 
   pub writer_go : (s t : State) → Closes d.id s t → WritersGo ws s → WritersGo (remove ws at) t
   writer_go s t closes go = go_removed name s t kinds ws at w_spot held.1 (subst (λ (w : NamedWriter). Closes w.id s t) w_item closes) go

@@ -15,7 +15,7 @@ use Rattle.host_streams.specs.declared.streams.NamedReader.{NamedReader}
 use Rattle.host_streams.specs.declared.streams.NamedWriter.{NamedWriter}
 use Rattle.host_streams.specs.declared.streams.Streams.{Streams}
 use Rattle.host_streams.specs.Readers.{left}
-use Rattle.host_streams.specs.OpenFiles.{reader_handle, writer_handle, IsApart, AreOpen, WritersGo, names_of, readers_in, is_writer, writer_place}
+use Rattle.host_streams.specs.OpenFiles.{reader_handle, writer_handle, IsApart, IsNone, AreOpen, WritersGo, names_of, readers_in, is_writer, writer_place}
 use Rattle.host_streams.specs.Puts.{PutsBy, Spares}
 use Rattle.host_streams.specs.Outputs.{IsOf, PutsIs, with_writer}
 use Rattle.host_streams.proofs.Places.{AllFail, First, first, all_fail, first_item}
@@ -82,7 +82,7 @@ put_to name text append target shared r s t is to h =
 
 -- Streams that stay where they are.
 
-other_number : (kinds : ℕ → Kind) (k id : ℕ) → kinds id ≡ Closed → kinds k ≢ Closed → k ≢ id
+pub other_number : (kinds : ℕ → Kind) (k id : ℕ) → kinds id ≡ Closed → kinds k ≢ Closed → k ≢ id
 other_number kinds k id closed was = λ e. was (ap kinds e ∙ closed)
 
 pub go_spared : (kinds : ℕ → Kind) (ws : List NamedWriter) (s t : State) → AreOpen Writing (map writer_handle ws) kinds → Spares kinds s t → WritersGo ws s → WritersGo ws t
@@ -126,6 +126,13 @@ held_written kinds after w ws hs input output opens missing h = (
       (subst (λ (gs : List (List ℕ × ℕ)). AreOpen Writing gs (set_kind w.id Writing kinds)) (sym (handles_last ws w))
       (one_more kinds w ws (not_standard kinds w.id input output opens.was_closed) opens.was_closed (all_fail (is_writer w.name) ws missing) h.1)),
 )
+
+pub none_more : (k : ℕ) (w : NamedWriter) (ws : List NamedWriter) → k ≢ w.id → IsNone k (map writer_handle ws) → IsNone k (map writer_handle (ws ++ w ∷ []))
+none_more k w [] apart h = (apart, tt)
+none_more k w (x ∷ xs) apart h = (h.0, none_more k w xs apart h.1)
+
+pub kind_stays : (kind : Kind) (id k : ℕ) (kinds after : ℕ → Kind) → Opens kind id kinds after → kinds k ≢ Closed → after k ≡ kinds k
+kind_stays kind id k kinds after o was = ap (λ (f : ℕ → Kind). f k) o.opened ∙ ap (λ b. cond b kind (kinds k)) (ne_eqb k id (other_number kinds k id o.was_closed was))
 
 -- What the definition says of a file that is opened.
 

@@ -4,7 +4,7 @@ use Rattle.awk_values.specs.declared.fault.Fault.TheVariants.{TooManyStreams}
 use Rattle.awk_values.specs.declared.fault.Stop.{Stop}
 use Rattle.awk_values.specs.declared.fault.Stop.TheVariants.{Fault as IsFault, NoMemory}
 use Rattle.world_core.specs.WorldState.{State, Source, Named, Entry}
-use Rattle.world_core.specs.Calls.{Kind, Reading, Writing}
+use Rattle.world_core.specs.Calls.{Kind, Closed, Reading, Writing}
 use Rattle.awk_state.specs.Texts.{same_text}
 use Rattle.awk_state.specs.InputRows.{reader_named, with_reader, source_of}
 use Rattle.host_streams.specs.declared.reader.Phase.{Phase}
@@ -109,3 +109,19 @@ FileNextBy None name rs room entry old answer new = StartsFile room (source_of e
 -- the next record of a file: what the name holds is read when it is opened
 abbrev pub FileNextIs : List ℕ → Option ℕ → Bool → Entry → List (List ℕ × Source) → Result FileNext Stop → List (List ℕ × Source) → Type 0
 FileNextIs name rs room entry old answer new = FileNextBy (reader_named name old) name rs room entry old answer new
+
+-- no stream of these has the number
+abbrev pub IsNone : ℕ → List (List ℕ × ℕ) → Type 0
+IsNone k [] = Unit {0}
+IsNone k (h ∷ hs) = (k ≢ h.1) × IsNone k hs
+
+abbrev pub IsNoneOf : ℕ → Streams → Type 0
+IsNoneOf k s = IsNone k (map reader_handle s.readers.items) × IsNone k (map writer_handle s.writers.items)
+
+-- every other stream that is open stays so
+abbrev pub OthersStay : Streams → Streams → (ℕ → Kind) → (ℕ → Kind) → Type 0
+OthersStay s t old new = (k : ℕ) → IsNoneOf k s → old k ≢ Closed → (new k ≡ old k) × IsNoneOf k t
+
+-- and where it is
+abbrev pub OthersKeep : Streams → (ℕ → Kind) → State → State → Type 0
+OthersKeep s kinds old new = (k : ℕ) → IsNoneOf k s → kinds k ≢ Closed → (new.readers k ≡ old.readers k) × (new.writers k ≡ old.writers k)

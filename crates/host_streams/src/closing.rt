@@ -5,7 +5,7 @@ ghost use Rattle.awk_state.specs.OutputRows.{is_writing};
 ghost use Rattle.awk_state.specs.SharedState.{Shared};
 ghost use Rattle.awk_values.specs.declared.value.Value.TheVariants.{Text};
 ghost use Rattle.host_streams.specs.Closing.{ClosesBy};
-ghost use Rattle.host_streams.specs.OpenFiles.{HoldsOpen, WritersGo, names_of, reader_names, readers_in};
+ghost use Rattle.host_streams.specs.OpenFiles.{HoldsOpen, OthersKeep, OthersStay, WritersGo, names_of, reader_names, readers_in};
 ghost use Rattle.host_streams.specs.Outputs.{IsOf};
 
 use crate::output::find_writer;
@@ -25,6 +25,8 @@ impl Streams {
         ensures names { reader_names self.new.readers.items ≡ without_writer name.now (reader_names self.old.readers.items) }
         ensures told { W.tells → readers_in self.new.readers.items (W.state world.new) ≡ without_reader name.now (readers_in self.old.readers.items (W.state world.old)) }
         ensures outside { W.tells → (W.state world.new).outside ≡ (W.state world.old).outside }
+        ensures others { OthersStay self.old self.new (W.kinds world.old) (W.kinds world.new) }
+        ensures places { W.tells → OthersKeep self.old (W.kinds world.old) (W.state world.old) (W.state world.new) }
     {
         match find_reader(self.readers.as_slice(), name) {
             Some(at) => {
@@ -48,6 +50,8 @@ impl Streams {
         ensures names { names_of self.new.writers.items ≡ without_writer name.now (names_of self.old.writers.items) }
         ensures told { W.tells → readers_in self.new.readers.items (W.state world.new) ≡ readers_in self.old.readers.items (W.state world.old) }
         ensures outside { W.tells → (W.state world.new).outside ≡ (W.state world.old).outside }
+        ensures others { OthersStay self.old self.new (W.kinds world.old) (W.kinds world.new) }
+        ensures places { W.tells → OthersKeep self.old (W.kinds world.old) (W.state world.old) (W.state world.new) }
     {
         match find_writer(self.writers.as_slice(), name) {
             Some(at) => {
@@ -72,6 +76,8 @@ impl Streams {
         ensures count { W.count world.new ≡ W.count world.old }
         ensures told { W.tells → (shared : Shared) → IsOf self.old (W.state world.old) shared → ClosesBy (close_row (Text name.now) shared.inner) result self.new (W.state world.new) }
         ensures outside { W.tells → (W.state world.new).outside ≡ (W.state world.old).outside }
+        ensures others { OthersStay self.old self.new (W.kinds world.old) (W.kinds world.new) }
+        ensures places { W.tells → OthersKeep self.old (W.kinds world.old) (W.state world.old) (W.state world.new) }
     {
         let reading = self.close_reader(world, name);
         let writing = self.close_writer(world, name);

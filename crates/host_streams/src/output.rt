@@ -4,7 +4,7 @@ ghost use Rattle.world_core.specs.WorldState.{Named};
 ghost use Rattle.world_core.specs.Calls.{Opens, Writing};
 ghost use Rattle.awk_state.specs.SharedState.{Shared};
 ghost use Rattle.awk_state.specs.OutputRows.{is_writing, opened_if, put_text, written_by};
-ghost use Rattle.host_streams.specs.OpenFiles.{HoldsOpen, WritersGo, names_of, writer_place};
+ghost use Rattle.host_streams.specs.OpenFiles.{HoldsOpen, OthersStay, WritersGo, names_of, writer_place};
 ghost use Rattle.host_streams.specs.Outputs.{IsOf, PutsIs, destination_of, name_of, writers_to, with_writer};
 ghost use Rattle.host_streams.specs.Puts.{OpensOr, PutCounts, PutsBy, Spares};
 
@@ -82,6 +82,7 @@ impl Streams {
         ensures opened { OnOk result (names_of self.new.writers.items ≡ with_writer name.now (names_of self.old.writers.items)) }
         ensures refused { OnErr result (self.new.writers.items ≡ self.old.writers.items) }
         ensures count { PutCounts result (W.count world.old) (W.count world.new) }
+        ensures others { OthersStay self.old self.new (W.kinds world.old) (W.kinds world.new) }
         ensures spares { W.tells → Spares (W.kinds world.old) (W.state world.old) (W.state world.new) }
         ensures told { W.tells → (shared : Shared) → IsOf self.old (W.state world.old) shared → PutsBy (written_by false name.now append text.now shared) result (W.state world.old) (W.state world.new) }
     {
@@ -111,6 +112,7 @@ impl Streams {
         ensures opened { OnOk result (names_of self.new.writers.items ≡ with_writer name.now (names_of self.old.writers.items)) }
         ensures refused { OnErr result (self.new.writers.items ≡ self.old.writers.items) }
         ensures count { PutCounts result (W.count world.old) (W.count world.new) }
+        ensures others { OthersStay self.old self.new (W.kinds world.old) (W.kinds world.new) }
         ensures spares { W.tells → Spares (W.kinds world.old) (W.state world.old) (W.state world.new) }
         ensures told { W.tells → (shared : Shared) → IsOf self.old (W.state world.old) shared → PutsBy (written_by (is_writing name.now shared.inner.writers) name.now append text.now shared) result (W.state world.old) (W.state world.new) }
     {
@@ -142,6 +144,7 @@ impl Streams {
         ensures opened { OnOk result (names_of self.new.writers.items ≡ writers_to target.entry (names_of self.old.writers.items)) }
         ensures refused { OnErr result (self.new.writers.items ≡ self.old.writers.items) }
         ensures count { PutCounts result (W.count world.old) (W.count world.new) }
+        ensures others { OthersStay self.old self.new (W.kinds world.old) (W.kinds world.new) }
         ensures spares { W.tells → Spares (W.kinds world.old) (W.state world.old) (W.state world.new) }
         ensures told { W.tells → (shared : Shared) → IsOf self.old (W.state world.old) shared → PutsIs (put_text (destination_of target.entry) (name_of target.entry) text.now shared) result (W.state world.old) (W.state world.new) (names_of self.old.writers.items) (names_of self.new.writers.items) }
     {

@@ -5,7 +5,7 @@ ghost use Rattle.world_core.specs.Calls.{Kind};
 ghost use Rattle.awk_state.specs.InputRows.{source_of};
 ghost use Rattle.awk_state.specs.Records.{record_separator};
 ghost use Rattle.host_streams.specs.declared.reader.Phase.TheVariants.{Open};
-ghost use Rattle.host_streams.specs.OpenFiles.{FileNextIs, HoldsOpen, IsMissing, OpensFile, OpenCounts, ReadsFile, StartsFile, WritersGo, has_room, phase_named, reader_place, readers_in};
+ghost use Rattle.host_streams.specs.OpenFiles.{FileNextIs, HoldsOpen, IsMissing, OpensFile, OpenCounts, OthersKeep, OthersStay, ReadsFile, StartsFile, WritersGo, has_room, phase_named, reader_place, readers_in};
 ghost use Rattle.host_streams.specs.Readers.{NextCounts, NextPhase};
 
 use crate::FileNext;
@@ -80,6 +80,8 @@ impl Streams {
         ensures goes { W.tells → WritersGo self.new.writers.items (W.state world.new) }
         ensures told { W.tells → OpensFile name.now (has_room self.old) (W.state world.old) (readers_in self.old.readers.items (W.state world.old)) result (readers_in self.new.readers.items (W.state world.new)) }
         ensures outside { W.tells → (W.state world.new).outside ≡ (W.state world.old).outside }
+        ensures others { OthersStay self.old self.new (W.kinds world.old) (W.kinds world.new) }
+        ensures places { W.tells → OthersKeep self.old (W.kinds world.old) (W.state world.old) (W.state world.new) }
     {
         if self.readers.as_slice().len() + self.writers.as_slice().len() >= STREAMS {
             return Err(Stop::Fault(Fault::TooManyStreams));
@@ -116,6 +118,8 @@ impl Streams {
         ensures goes { W.tells → WritersGo self.new.writers.items (W.state world.new) }
         ensures told { W.tells → ReadsFile name.now rs (readers_in self.old.readers.items (W.state world.old)) result (readers_in self.new.readers.items (W.state world.new)) }
         ensures outside { W.tells → (W.state world.new).outside ≡ (W.state world.old).outside }
+        ensures others { OthersStay self.old self.new (W.kinds world.old) (W.kinds world.new) }
+        ensures places { W.tells → OthersKeep self.old (W.kinds world.old) (W.state world.old) (W.state world.new) }
     {
         let _ = name;
         let named = &mut self.readers[at];
@@ -138,6 +142,8 @@ impl Streams {
         ensures goes { W.tells → WritersGo self.new.writers.items (W.state world.new) }
         ensures told { W.tells → StartsFile (has_room self.old) (source_of ((W.state world.old).outside (Named name.now))) name.now rs (readers_in self.old.readers.items (W.state world.old)) result (readers_in self.new.readers.items (W.state world.new)) }
         ensures outside { W.tells → (W.state world.new).outside ≡ (W.state world.old).outside }
+        ensures others { OthersStay self.old self.new (W.kinds world.old) (W.kinds world.new) }
+        ensures places { W.tells → OthersKeep self.old (W.kinds world.old) (W.state world.old) (W.state world.new) }
     {
         match self.open_reader(world, name) {
             Ok(Some(at)) => self.next_at(world, name, at, rs),
@@ -170,6 +176,8 @@ impl Streams {
         ensures count { NextCounts (phase_named name.now self.old.readers.items) result (W.count world.old) (W.count world.new) }
         ensures told { W.tells → FileNextIs name.now (record_separator rs.now) (has_room self.old) ((W.state world.old).outside (Named name.now)) (readers_in self.old.readers.items (W.state world.old)) result (readers_in self.new.readers.items (W.state world.new)) }
         ensures outside { W.tells → (W.state world.new).outside ≡ (W.state world.old).outside }
+        ensures others { OthersStay self.old self.new (W.kinds world.old) (W.kinds world.new) }
+        ensures places { W.tells → OthersKeep self.old (W.kinds world.old) (W.state world.old) (W.state world.new) }
     {
         let separator = first_byte(rs);
         match find_reader(self.readers.as_slice(), name) {

@@ -2,7 +2,7 @@ use Rattle.std.proofs.Common.{◌≡◌, ◌∙◌, ◌++◌, ◌∷◌, [], sym
 use Rattle.world_core.specs.WorldState.{Named}
 use Rattle.host_streams.specs.declared.streams.NamedWriter.{NamedWriter}
 use Rattle.host_streams.specs.OpenFiles.{names_of, reader_handle, writer_place}
-use Rattle.host_streams.proofs.Outputs.{go_last, go_spared, held_written, names_last, with_missing, writer_missing}
+use Rattle.host_streams.proofs.Outputs.{go_last, go_spared, held_written, kind_stays, names_last, none_more, other_number, with_missing, writer_missing}
 use Rattle.host_streams.proofs.streams.Streams.put_first.Goals as goal
 
 pub returns-in_err-id-clause-goes : goal.returns-in_err-id-clause-goes
@@ -30,3 +30,11 @@ returns-clause-opened g c =
     let items = c.push_reserved.ensures.items ∙ ap (λ xs. xs ++ w ∷ []) c.reserve.ensures.items in
     ap names_of items ∙ names_last c.args.self.now.writers.items w ∙ ap (λ n. names_of c.args.self.now.writers.items ++ (n ∷ [])) c.in_ok-own.ensures
     ∙ with_missing c.args.name.now (names_of c.args.self.now.writers.items) (writer_missing c.args.name.now c.args.self.now.writers.items c.requires.missing)
+
+pub returns-clause-others : goal.returns-clause-others
+returns-clause-others g c = λ k none was.
+    let w : NamedWriter = record { name = c.in_ok-own.own; id = c.in_ok-id.id } in
+    let items = c.push_reserved.ensures.items ∙ ap (λ xs. xs ++ w ∷ []) c.reserve.ensures.items in (
+      kind_stays _ c.in_ok-id.id k (g.W.World.kinds c.args.world.now) _ c.in_ok-id.ensures.opened was,
+      (none.0, rw items (none_more k w c.args.self.now.writers.items (other_number (g.W.World.kinds c.args.world.now) k c.in_ok-id.id c.in_ok-id.ensures.opened.was_closed was) none.1)),
+    )
