@@ -12,7 +12,7 @@ use Rattle.host_streams.specs.declared.reader.Reader.{Reader}
 use Rattle.host_streams.specs.declared.streams.NamedReader.{NamedReader}
 use Rattle.host_streams.specs.declared.streams.NamedWriter.{NamedWriter}
 use Rattle.host_streams.specs.Readers.{left, left_in, unread, fresh, OnlyReads}
-use Rattle.host_streams.specs.OpenFiles.{reader_handle, writer_handle, IsApart, AreOpen, WritersGo, readers_in, is_reader, phase_named, reader_place}
+use Rattle.host_streams.specs.OpenFiles.{reader_handle, writer_handle, IsApart, IsNone, AreOpen, WritersGo, readers_in, is_reader, phase_named, reader_place}
 use Rattle.host_streams.proofs.Places.{AllFail, First, first, all_fail, last_place, first_item, first_set}
 
 pub same_name : (a b : List ℕ) → same_text a b ≡ true → a ≡ b
@@ -21,7 +21,7 @@ same_name a b e = (bytes_eq-Decides a b).0 e
 pub name_itself : (a : List ℕ) → same_text a a ≡ true
 name_itself a = nat_list_eq_equiv.refl a
 
-other_name : (a b : List ℕ) → same_text a b ≡ false → b ≢ a
+pub other_name : (a b : List ℕ) → same_text a b ≡ false → b ≢ a
 other_name a b e = λ is. cc (sym (name_itself a) ∙ ap (same_text a) (sym is) ∙ e)
 
 -- one of them
@@ -75,6 +75,10 @@ pub go_same : (ws : List NamedWriter) (old new : State) → new.writers ≡ old.
 go_same [] old new e h = tt
 go_same (w ∷ ws) old new e h = (ap (λ f. f w.id) e ∙ h.0, go_same ws old new e h.1)
 
+none_at : (k : ℕ) (front : List NamedReader) (item : NamedReader) (back : List NamedReader) → IsNone k (map reader_handle (front ++ item ∷ back)) → k ≢ item.reader.id
+none_at k [] item back h = h.0
+none_at k (x ∷ xs) item back h = none_at k xs item back h.1
+
 -- The reader at the place of a name: d stands there.
 module _ (name : List ℕ) (xs : List NamedReader) (at : ℕ) (found : reader_place name xs ≡ Some at) (d : NamedReader) (here : d ≡ get_or xs at d) where
   spot : First (is_reader name) at xs
@@ -96,11 +100,19 @@ module _ (name : List ℕ) (xs : List NamedReader) (at : ℕ) (found : reader_pl
       ap (λ ys. reader_named name (readers_in ys state)) spot.is ∙ named_at name state spot.front spot.item spot.back spot.none spot.passes
       ∙ ap (λ (r : NamedReader). Some (left r.reader (state.readers r.reader.id))) (sym item_is)
 
-  pub held_next : (other : NamedReader) (kinds : ℕ → Kind) → other.name ≡ d.name → other.reader.id ≡ d.reader.id → AreOpen Reading (map reader_handle xs) kinds → AreOpen Reading (map reader_handle (set xs at other)) kinds
-  held_next other kinds e f h =
+  handles_next : (other : NamedReader) → other.name ≡ d.name → other.reader.id ≡ d.reader.id → map reader_handle (set xs at other) ≡ map reader_handle xs
+  handles_next other e f =
       let handle : reader_handle other ≡ reader_handle spot.item = ap (λ n. (n, other.reader.id)) e ∙ ap (λ k. (d.name, k)) f ∙ ap reader_handle item_is in
-      subst (λ (hs : List (List ℕ × ℕ)). AreOpen Reading hs kinds)
-      (sym (ap (map reader_handle) (first_set (is_reader name) xs at spot other) ∙ same_handles spot.front spot.item other spot.back handle ∙ sym (ap (map reader_handle) spot.is))) h
+      ap (map reader_handle) (first_set (is_reader name) xs at spot other) ∙ same_handles spot.front spot.item other spot.back handle ∙ sym (ap (map reader_handle) spot.is)
+
+  pub held_next : (other : NamedReader) (kinds : ℕ → Kind) → other.name ≡ d.name → other.reader.id ≡ d.reader.id → AreOpen Reading (map reader_handle xs) kinds → AreOpen Reading (map reader_handle (set xs at other)) kinds
+  held_next other kinds e f h = subst (λ (hs : List (List ℕ × ℕ)). AreOpen Reading hs kinds) (sym (handles_next other e f)) h
+
+  pub apart_next : (k : ℕ) → IsNone k (map reader_handle xs) → k ≢ d.reader.id
+  apart_next k h = λ e. none_at k spot.front spot.item spot.back (subst (λ (ys : List NamedReader). IsNone k (map reader_handle ys)) spot.is h) (e ∙ ap (λ (r : NamedReader). r.reader.id) item_is)
+
+  pub none_next : (other : NamedReader) → other.name ≡ d.name → other.reader.id ≡ d.reader.id → (k : ℕ) → IsNone k (map reader_handle xs) → IsNone k (map reader_handle (set xs at other))
+  none_next other e f k h = subst (IsNone k) (sym (handles_next other e f)) h
 
   pub told_next : (other : NamedReader) (kinds : ℕ → Kind) (old new : State) → other.name ≡ d.name → other.reader.id ≡ d.reader.id → AreOpen Reading (map reader_handle xs) kinds → OnlyReads d.reader.id old new →
       readers_in (set xs at other) new ≡ with_reader name (left other.reader (new.readers d.reader.id)) (readers_in xs old)
@@ -151,6 +163,10 @@ one_more kinds name r (x ∷ xs) own c e none h = (
     map_last : (ys : List NamedReader) (z : NamedReader) → map reader_handle (ys ++ z ∷ []) ≡ map reader_handle ys ++ reader_handle z ∷ []
     map_last [] z = refl
     map_last (y ∷ ys) z = ap (λ hs. reader_handle y ∷ hs) (map_last ys z)
+
+pub none_last : (k : ℕ) (r : NamedReader) (xs : List NamedReader) → k ≢ r.reader.id → IsNone k (map reader_handle xs) → IsNone k (map reader_handle (xs ++ r ∷ []))
+none_last k r [] apart h = (apart, tt)
+none_last k r (x ∷ xs) apart h = (h.0, none_last k r xs apart h.1)
 
 pub go_on : (kinds : ℕ → Kind) (id : ℕ) (ws : List NamedWriter) (old new : State) → kinds id ≡ Closed → AreOpen Writing (map writer_handle ws) kinds → KeepsOthers id old new → WritersGo ws old → WritersGo ws new
 go_on kinds id [] old new c h keeps go = tt

@@ -3,3 +3,7 @@ pub mod Finding
 pub mod Turns
 pub mod Places
 pub mod Held
+pub mod Writing
+pub mod Outputs
+pub mod Closed
+pub mod MainSteps

@@ -1,3 +1,7 @@
 pub mod Looks
 pub mod Readers
 pub mod OpenFiles
+pub mod Puts
+pub mod Outputs
+pub mod Closing
+pub mod Mains

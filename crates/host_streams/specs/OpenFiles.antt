@@ -4,7 +4,7 @@ use Rattle.awk_values.specs.declared.fault.Fault.TheVariants.{TooManyStreams}
 use Rattle.awk_values.specs.declared.fault.Stop.{Stop}
 use Rattle.awk_values.specs.declared.fault.Stop.TheVariants.{Fault as IsFault, NoMemory}
 use Rattle.world_core.specs.WorldState.{State, Source, Named, Entry}
-use Rattle.world_core.specs.Calls.{Kind, Reading, Writing}
+use Rattle.world_core.specs.Calls.{Kind, Closed, Reading, Writing}
 use Rattle.awk_state.specs.Texts.{same_text}
 use Rattle.awk_state.specs.InputRows.{reader_named, with_reader, source_of}
 use Rattle.host_streams.specs.declared.reader.Phase.{Phase}
@@ -49,6 +49,10 @@ WritersGo (w ∷ ws) state = (state.writers w.id ≡ Named w.name) × WritersGo 
 abbrev pub readers_in : List NamedReader → State → List (List ℕ × Source)
 readers_in readers state = map (λ r. (r.name, left r.reader (state.readers r.reader.id))) readers
 
+-- the names that are open for reading
+abbrev pub reader_names : List NamedReader → List (List ℕ)
+reader_names readers = map (λ r. r.name) readers
+
 abbrev pub is_reader : List ℕ → NamedReader → Bool
 is_reader name r = same_text name r.name
 
@@ -58,6 +62,16 @@ reader_place name readers = position (is_reader name) readers
 abbrev pub phase_named : List ℕ → List NamedReader → Phase
 phase_named name [] = Open
 phase_named name (r ∷ rs) = if is_reader name r then r.reader.phase else phase_named name rs
+
+abbrev pub is_writer : List ℕ → NamedWriter → Bool
+is_writer name w = same_text name w.name
+
+abbrev pub writer_place : List ℕ → List NamedWriter → Option ℕ
+writer_place name writers = position (is_writer name) writers
+
+-- the names that are open for writing
+abbrev pub names_of : List NamedWriter → List (List ℕ)
+names_of writers = map (λ w. w.name) writers
 
 -- one more may be opened
 abbrev pub has_room : Streams → Bool
@@ -95,3 +109,19 @@ FileNextBy None name rs room entry old answer new = StartsFile room (source_of e
 -- the next record of a file: what the name holds is read when it is opened
 abbrev pub FileNextIs : List ℕ → Option ℕ → Bool → Entry → List (List ℕ × Source) → Result FileNext Stop → List (List ℕ × Source) → Type 0
 FileNextIs name rs room entry old answer new = FileNextBy (reader_named name old) name rs room entry old answer new
+
+-- no stream of these has the number
+abbrev pub IsNone : ℕ → List (List ℕ × ℕ) → Type 0
+IsNone k [] = Unit {0}
+IsNone k (h ∷ hs) = (k ≢ h.1) × IsNone k hs
+
+abbrev pub IsNoneOf : ℕ → Streams → Type 0
+IsNoneOf k s = IsNone k (map reader_handle s.readers.items) × IsNone k (map writer_handle s.writers.items)
+
+-- every other stream that is open stays so
+abbrev pub OthersStay : Streams → Streams → (ℕ → Kind) → (ℕ → Kind) → Type 0
+OthersStay s t old new = (k : ℕ) → IsNoneOf k s → old k ≢ Closed → (new k ≡ old k) × IsNoneOf k t
+
+-- and where it is
+abbrev pub OthersKeep : Streams → (ℕ → Kind) → State → State → Type 0
+OthersKeep s kinds old new = (k : ℕ) → IsNoneOf k s → kinds k ≢ Closed → (new.readers k ≡ old.readers k) × (new.writers k ≡ old.writers k)

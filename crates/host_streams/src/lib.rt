@@ -2,9 +2,15 @@
 //! Statements", "Output Statements").
 #![tactic(auto)]
 
+mod closing;
 mod look;
+mod main_input;
+mod output;
+mod put;
 mod reader;
 mod streams;
 
+pub use main_input::{MainInput, MainNext, Operands};
+pub use output::Target;
 pub use reader::FileNext;
 pub use streams::Streams;

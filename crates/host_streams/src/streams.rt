@@ -5,7 +5,7 @@ ghost use Rattle.world_core.specs.Calls.{Kind};
 ghost use Rattle.awk_state.specs.InputRows.{source_of};
 ghost use Rattle.awk_state.specs.Records.{record_separator};
 ghost use Rattle.host_streams.specs.declared.reader.Phase.TheVariants.{Open};
-ghost use Rattle.host_streams.specs.OpenFiles.{FileNextIs, HoldsOpen, IsMissing, OpensFile, OpenCounts, ReadsFile, StartsFile, WritersGo, has_room, phase_named, reader_place, readers_in};
+ghost use Rattle.host_streams.specs.OpenFiles.{FileNextIs, HoldsOpen, IsMissing, OpensFile, OpenCounts, OthersKeep, OthersStay, ReadsFile, StartsFile, WritersGo, has_room, phase_named, reader_place, readers_in};
 ghost use Rattle.host_streams.specs.Readers.{NextCounts, NextPhase};
 
 use crate::FileNext;
@@ -15,36 +15,36 @@ use std::alloc::Global;
 use world_core::{World, WorldFault};
 
 /// How many streams may be open.
-const STREAMS: usize = 256;
+pub(crate) const STREAMS: usize = 256;
 
 #[derive(Drop)]
 pub(crate) struct NamedReader {
-    name: Bytes,
-    reader: Reader,
+    pub(crate) name: Bytes,
+    pub(crate) reader: Reader,
 }
 
 #[derive(Drop)]
 pub(crate) struct NamedWriter {
-    name: Bytes,
-    id: u32,
+    pub(crate) name: Bytes,
+    pub(crate) id: u32,
 }
 
 /// The files that a script has open, by their names: those that `getline` reads, and those that output goes to.
 #[derive(Drop)]
 pub struct Streams {
-    readers: Vec<NamedReader>,
-    writers: Vec<NamedWriter>,
-    alloc: Global,
+    pub(crate) readers: Vec<NamedReader>,
+    pub(crate) writers: Vec<NamedWriter>,
+    pub(crate) alloc: Global,
 }
 
 /// The place of the reader of a name.
-fn find_reader(readers: &[NamedReader], name: &[u8]) -> Option<usize>
+pub(crate) fn find_reader(readers: &[NamedReader], name: &[u8]) -> Option<usize>
     ensures { result ≡ reader_place name.now readers.now }
 {
     readers.iter().position(|r| r.name.as_slice() == name)
 }
 
-fn first_byte(text: &[u8]) -> Option<u8>
+pub(crate) fn first_byte(text: &[u8]) -> Option<u8>
     ensures { result ≡ record_separator text.now }
 {
     match text {
@@ -80,6 +80,8 @@ impl Streams {
         ensures goes { W.tells → WritersGo self.new.writers.items (W.state world.new) }
         ensures told { W.tells → OpensFile name.now (has_room self.old) (W.state world.old) (readers_in self.old.readers.items (W.state world.old)) result (readers_in self.new.readers.items (W.state world.new)) }
         ensures outside { W.tells → (W.state world.new).outside ≡ (W.state world.old).outside }
+        ensures others { OthersStay self.old self.new (W.kinds world.old) (W.kinds world.new) }
+        ensures places { W.tells → OthersKeep self.old (W.kinds world.old) (W.state world.old) (W.state world.new) }
     {
         if self.readers.as_slice().len() + self.writers.as_slice().len() >= STREAMS {
             return Err(Stop::Fault(Fault::TooManyStreams));
@@ -116,6 +118,8 @@ impl Streams {
         ensures goes { W.tells → WritersGo self.new.writers.items (W.state world.new) }
         ensures told { W.tells → ReadsFile name.now rs (readers_in self.old.readers.items (W.state world.old)) result (readers_in self.new.readers.items (W.state world.new)) }
         ensures outside { W.tells → (W.state world.new).outside ≡ (W.state world.old).outside }
+        ensures others { OthersStay self.old self.new (W.kinds world.old) (W.kinds world.new) }
+        ensures places { W.tells → OthersKeep self.old (W.kinds world.old) (W.state world.old) (W.state world.new) }
     {
         let _ = name;
         let named = &mut self.readers[at];
@@ -138,6 +142,8 @@ impl Streams {
         ensures goes { W.tells → WritersGo self.new.writers.items (W.state world.new) }
         ensures told { W.tells → StartsFile (has_room self.old) (source_of ((W.state world.old).outside (Named name.now))) name.now rs (readers_in self.old.readers.items (W.state world.old)) result (readers_in self.new.readers.items (W.state world.new)) }
         ensures outside { W.tells → (W.state world.new).outside ≡ (W.state world.old).outside }
+        ensures others { OthersStay self.old self.new (W.kinds world.old) (W.kinds world.new) }
+        ensures places { W.tells → OthersKeep self.old (W.kinds world.old) (W.state world.old) (W.state world.new) }
     {
         match self.open_reader(world, name) {
             Ok(Some(at)) => self.next_at(world, name, at, rs),
@@ -170,6 +176,8 @@ impl Streams {
         ensures count { NextCounts (phase_named name.now self.old.readers.items) result (W.count world.old) (W.count world.new) }
         ensures told { W.tells → FileNextIs name.now (record_separator rs.now) (has_room self.old) ((W.state world.old).outside (Named name.now)) (readers_in self.old.readers.items (W.state world.old)) result (readers_in self.new.readers.items (W.state world.new)) }
         ensures outside { W.tells → (W.state world.new).outside ≡ (W.state world.old).outside }
+        ensures others { OthersStay self.old self.new (W.kinds world.old) (W.kinds world.new) }
+        ensures places { W.tells → OthersKeep self.old (W.kinds world.old) (W.state world.old) (W.state world.new) }
     {
         let separator = first_byte(rs);
         match find_reader(self.readers.as_slice(), name) {

@@ -1,10 +1,10 @@
-use Rattle.std.proofs.Common.{◌≡◌, refl}
+use Rattle.std.proofs.Common.{◌≡◌, ap, refl}
 use Rattle.world_core.specs.Calls.{Kind, Reading}
 use Rattle.host_streams.specs.declared.reader.Phase.{Phase}
 use Rattle.host_streams.specs.declared.streams.NamedReader.{NamedReader}
 use Rattle.host_streams.specs.Readers.{NextCounts}
 use Rattle.host_streams.specs.OpenFiles.{reader_handle, writer_handle, AreOpen}
-use Rattle.host_streams.proofs.Held.{open_next, phase_next, named_next, held_next, told_next, go_same}
+use Rattle.host_streams.proofs.Held.{open_next, phase_next, named_next, held_next, told_next, go_same, apart_next, none_next}
 use Rattle.host_streams.proofs.streams.Streams.next_at.Goals as goal
 
 pub next-requires : goal.next-requires
@@ -33,3 +33,15 @@ returns-clause-told g c = λ tells. record {
   answers = c.next.ensures.told tells;
   readers = told_next c.args.name.now c.args.self.now.readers.items c.args.at c.requires.place c.index_mut-named.result.now c.index_mut-named.ensures.value (record { name = c.index_mut-named.result.now.name; reader = c.next.new.self }) (g.W.World.kinds c.args.world.now) (g.W.World.state c.args.world.now) (g.W.World.state c.next.new.world) refl c.next.ensures.id c.requires.held.0 (c.next.ensures.only tells);
 }
+
+pub returns-clause-others : goal.returns-clause-others
+returns-clause-others g c = λ k none was. (
+  ap (λ f. f k) c.next.ensures.kinds,
+  (none_next c.args.name.now c.args.self.now.readers.items c.args.at c.requires.place c.index_mut-named.result.now c.index_mut-named.ensures.value (record { name = c.index_mut-named.result.now.name; reader = c.next.new.self }) refl c.next.ensures.id k none.0, none.1),
+)
+
+pub returns-clause-places : goal.returns-clause-places
+returns-clause-places g c = λ tells k none was. (
+  (c.next.ensures.only tells).others k (apart_next c.args.name.now c.args.self.now.readers.items c.args.at c.requires.place c.index_mut-named.result.now c.index_mut-named.ensures.value k none.0),
+  ap (λ f. f k) (c.next.ensures.only tells).writers,
+)

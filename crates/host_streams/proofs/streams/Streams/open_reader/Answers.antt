@@ -4,7 +4,8 @@ use Rattle.awk_state.specs.InputRows.{with_reader}
 use Rattle.host_streams.specs.declared.streams.NamedReader.{NamedReader}
 use Rattle.host_streams.specs.OpenFiles.{is_reader, phase_named, reader_place, readers_in}
 use Rattle.host_streams.proofs.Places.{all_fail, last_place}
-use Rattle.host_streams.proofs.Held.{held_open, go_on, opened_last, source_opened, named_last, phase_last}
+use Rattle.host_streams.proofs.Held.{held_open, go_on, opened_last, source_opened, named_last, none_last, phase_last}
+use Rattle.host_streams.proofs.Outputs.{kind_stays, other_number}
 use Rattle.host_streams.proofs.streams.Streams.open_reader.Goals as goal
 
 pub returns-in-Ok-clause-held : goal.returns-in-Ok-clause-held
@@ -46,3 +47,12 @@ returns-in-Ok-clause-phase g c =
     let r : NamedReader = record { name = c.in_ok-own.own; reader = c.new-reader.result } in
     let items = c.push_reserved.ensures.items ∙ ap (λ xs. xs ++ r ∷ []) c.reserve.ensures.items in
     ap (phase_named c.args.name.now) items ∙ phase_last c.args.name.now c.args.self.now.readers.items r c.requires.missing c.in_ok-own.ensures ∙ c.new-reader.ensures.fresh.0
+
+pub returns-in-Ok-clause-others : goal.returns-in-Ok-clause-others
+returns-in-Ok-clause-others g c = λ k none was.
+    let r : NamedReader = record { name = c.in_ok-own.own; reader = c.new-reader.result } in
+    let items = c.push_reserved.ensures.items ∙ ap (λ xs. xs ++ r ∷ []) c.reserve.ensures.items in
+    let apart = other_number (g.W.World.kinds c.args.world.now) k c.in-Ok.id c.in-Ok.ensures.opened.was_closed was in (
+      kind_stays _ c.in-Ok.id k (g.W.World.kinds c.args.world.now) _ c.in-Ok.ensures.opened was,
+      (rw items (none_last k r c.args.self.now.readers.items (rw c.new-reader.ensures.id apart) none.0), none.1),
+    )

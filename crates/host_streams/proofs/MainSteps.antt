@@ -1,0 +1,341 @@
+-- What the definition gives of the main input, step by step.
+use Rattle.std.specs.List.{prefix_len, take_while}
+use Rattle.std.proofs.lemmas.Bool.{leb-true, leb-false}
+use Rattle.std.proofs.lemmas.List.{drop-drop, take_all}
+use Rattle.awk_values.specs.Values.{number_of_value}
+use Rattle.std.proofs.Common.{◌≡◌, ◌≢◌, ℤ, ℕ, zero, suc, ◌+◌, ◌-◌, ◌^◌, ◌<◌, ◌≤◌, ◌==◌, ◌&&◌, nat_le, List, [], ◌∷◌, ◌++◌, length, length-take, take, drop, Option, Some, None, Result, Ok, Err, cond, if◌then◌else◌, Bool, true, false, refl, sym, ap, ◌∙◌, arith, subst, inl, inr, ◌⊎◌}
+use Rattle.awk_values.specs.declared.fault.Fault.{Fault}
+use Rattle.awk_values.specs.declared.fault.Fault.TheVariants.{OpenInput, ReadFailed}
+use Rattle.awk_values.specs.declared.fault.Stop.{Stop}
+use Rattle.awk_values.specs.declared.fault.Stop.TheVariants.{Fault as IsFault, NoMemory}
+use Rattle.world_core.specs.WorldState.{Outside, Source, State}
+use Rattle.awk_state.specs.Assignments.{assigned, assignment_of, behind_name, begins_name, continues_name, is_name}
+use Rattle.awk_state.specs.FieldRows.{special_text}
+use Rattle.awk_state.specs.InputRows.{Main, Taken, main_input, go_on, got_main, leaves, next_operand, over, reach, stops_reading, follows, is_below, made, operand_text, reached, taken, file_or_assignment, opened, reader_of, with_operands}
+use Rattle.awk_state.specs.InputRows.{Failed as ReadingFailed, Over, NotOpened}
+use Rattle.awk_state.specs.Records.{Got, Record, AtEnd, Broken, record_separator, first_record}
+use Rattle.awk_state.specs.SharedState.{Inner, MainInput, MainReader, Standard, File, Operands, NoFile, SomeFile, NoneLeft, ◌>>=◌}
+use Rattle.awk_state.specs.Texts.{is_empty}
+use Rattle.awk_state.specs.declared.constants.Special.TheVariants.{Argc, Rs}
+use Rattle.host_streams.specs.declared.main_input.Found.{Found}
+use Rattle.host_streams.specs.declared.main_input.Found.TheVariants as found
+use Rattle.host_streams.specs.declared.main_input.MainInput.{MainInput as Mains}
+use Rattle.host_streams.specs.declared.main_input.MainNext.{MainNext}
+use Rattle.host_streams.specs.declared.main_input.Reading.TheVariants as reading
+use Rattle.host_streams.specs.declared.main_input.MainNext.TheVariants as main
+use Rattle.host_streams.specs.declared.reader.FileNext.{FileNext}
+use Rattle.host_streams.specs.declared.reader.FileNext.TheVariants as file
+use Rattle.host_streams.specs.Readers.{Answers, left}
+use Rattle.host_streams.specs.Mains.{FaultIs, GivenIs, NameLen, ReadsMain, begins, begun, has_operand, idle, is_equals, left_main, main_of, main_source, operands_of, passed, reading_of, rest_of, with_file, with_main}
+
+-- The reader at hand.
+
+source_is : (outside : Outside) (m : MainInput) (inner : Inner) (rs : Option ℕ) (reader : MainReader) → record_separator (special_text Rs inner) ≡ rs →
+    go_on false (Some reader) (next_operand outside) (with_main m inner) ≡ (first_record rs (main_source reader m) >>= λ got. got_main (next_operand outside) reader (with_main m inner) got)
+source_is outside m inner rs Standard asked = ap (λ q. first_record q m.standard >>= λ got. got_main (next_operand outside) Standard (with_main m inner) got) asked
+source_is outside m inner rs (File source) asked = ap (λ q. first_record q source >>= λ got. got_main (next_operand outside) (File source) (with_main m inner) got) asked
+
+given_read : (outside : Outside) (m : MainInput) (inner : Inner) (rs : Option ℕ) (reader : MainReader) → m.ended ≡ false → m.reading ≡ Some reader → record_separator (special_text Rs inner) ≡ rs →
+    main_input outside (with_main m inner) ≡ (first_record rs (main_source reader m) >>= λ got. got_main (next_operand outside) reader (with_main m inner) got)
+given_read outside m inner rs reader live busy asked =
+    ap (λ b. go_on b m.reading (next_operand outside) (with_main m inner)) live ∙ ap (λ r. go_on false r (next_operand outside) (with_main m inner)) busy ∙ source_is outside m inner rs reader asked
+
+leaves_is : (reader : MainReader) (later : Source) (m : MainInput) (inner : Inner) → leaves reader later (with_main m inner) ≡ with_main (left_main reader later m) inner
+leaves_is Standard later m inner = refl
+leaves_is (File source) later m inner = refl
+
+left_ended : (reader : MainReader) (later : Source) (m : MainInput) → (left_main reader later m).ended ≡ m.ended
+left_ended Standard later m = refl
+left_ended (File source) later m = refl
+
+-- a record, the end of the reader, a failure, and what is refused
+module _ (outside : Outside) (m : MainInput) (inner : Inner) (rs : Option ℕ) (live : m.ended ≡ false) (asked : record_separator (special_text Rs inner) ≡ rs) where
+  pub reads_record : (text : List ℕ) (n : MainInput) → ReadsMain rs m (Ok (file.Record text)) n → GivenIs (main_input outside (with_main m inner)) (Ok (Some (main.Record text))) outside (with_main m inner) (with_main n inner)
+  reads_record text n h =
+      given_read outside m inner rs h.reader live h.reading asked ∙ ap (λ r. r >>= λ got. got_main (next_operand outside) h.reader (with_main m inner) got) h.answers
+      ∙ ap (λ i. Ok (i, Taken text)) (leaves_is h.reader h.later m inner) ∙ ap (λ x. Ok (with_main x inner, Taken text)) (sym h.leaves)
+
+  pub reads_end : (n p : MainInput) → ReadsMain rs m (Ok file.End) n → p ≡ idle n → GivenIs (main_input outside (with_main m inner)) (Ok None) outside (with_main m inner) (with_main p inner)
+  reads_end n p h e =
+      given_read outside m inner rs h.reader live h.reading asked ∙ ap (λ r. r >>= λ got. got_main (next_operand outside) h.reader (with_main m inner) got) h.answers
+      ∙ ap (λ i. next_operand outside (stops_reading i)) (leaves_is h.reader h.later m inner) ∙ ap (λ x. next_operand outside (with_main (idle x) inner)) (sym h.leaves)
+      ∙ sym (ap (λ b. go_on b None (next_operand outside) (with_main (idle n) inner)) (ap (λ (x : MainInput). x.ended) h.leaves ∙ left_ended h.reader h.later m ∙ live))
+      ∙ ap (λ x. main_input outside (with_main x inner)) (sym e)
+
+  pub reads_failure : (n : MainInput) → ReadsMain rs m (Ok file.Failed) n → GivenIs (main_input outside (with_main m inner)) (Err (IsFault ReadFailed)) outside (with_main m inner) (with_main n inner)
+  reads_failure n h = inr (inr (
+    refl,
+    given_read outside m inner rs h.reader live h.reading asked ∙ ap (λ r. r >>= λ got. got_main (next_operand outside) h.reader (with_main m inner) got) h.answers
+        ∙ ap (λ i. Ok (i, ReadingFailed)) (leaves_is h.reader h.later m inner) ∙ ap (λ x. Ok (with_main x inner, ReadingFailed)) (sym h.leaves),
+  ))
+
+  same_main : (reader : MainReader) (n : MainInput) (later : Source) → m.reading ≡ Some reader → later ≡ main_source reader m → n ≡ left_main reader later m → n ≡ m
+  same_main Standard n later busy e l = l ∙ ap (λ s. record m { standard = s; reading = Some Standard }) e ∙ ap (λ r. record m { reading = r }) (sym busy)
+  same_main (File source) n later busy e l = l ∙ ap (λ s. record m { reading = Some (File s) }) e ∙ ap (λ r. record m { reading = r }) (sym busy)
+
+  pub reads_refused : (stop : Stop) (n : MainInput) → ReadsMain rs m (Err stop) n → GivenIs (main_input outside (with_main m inner)) (Err stop) outside (with_main m inner) (with_main n inner)
+  reads_refused (IsFault fault) n h =
+      let given : main_input outside (with_main m inner) ≡ Err fault = given_read outside m inner rs h.reader live h.reading asked ∙ ap (λ r. r >>= λ got. got_main (next_operand outside) h.reader (with_main m inner) got) h.answers.0 in
+      inl (given, ap (λ x. main_input outside (with_main x inner)) (same_main h.reader n h.later h.reading h.answers.1 h.leaves) ∙ given)
+  reads_refused NoMemory n h = ap (λ x. main_input outside (with_main x inner)) (sym (same_main h.reader n h.later h.reading h.answers h.leaves))
+
+-- An operand, or what follows the operands: no file is read.
+
+same_on : (outside : Outside) (inner : Inner) (reader : MainReader) (s : Source) (n : ℕ) (r : Result (Got × Source) Fault) →
+    (r >>= λ got. got_main (rest_of (record { standard = s; next = n; operands = SomeFile; reading = None; ended = false }) outside) reader (with_main (record { standard = s; next = n; operands = SomeFile; reading = Some reader; ended = false }) inner) got)
+    ≡ (r >>= λ got. got_main (next_operand outside) reader (with_main (record { standard = s; next = n; operands = SomeFile; reading = Some reader; ended = false }) inner) got)
+same_on outside inner reader s n (Err fault) = refl
+same_on outside inner reader s n (Ok (Record text, later)) = refl
+same_on outside inner Standard s n (Ok (AtEnd, later)) = refl
+same_on outside inner (File source) s n (Ok (AtEnd, later)) = refl
+same_on outside inner reader s n (Ok (Broken, later)) = refl
+
+same_over : (outside : Outside) (inner : Inner) (s : Source) (n : ℕ) (r : Result (Got × Source) Fault) →
+    (r >>= λ got. got_main over Standard (with_main (record { standard = s; next = n; operands = NoneLeft; reading = Some Standard; ended = false }) inner) got)
+    ≡ (r >>= λ got. got_main (next_operand outside) Standard (with_main (record { standard = s; next = n; operands = NoneLeft; reading = Some Standard; ended = false }) inner) got)
+same_over outside inner s n (Err fault) = refl
+same_over outside inner s n (Ok (Record text, later)) = refl
+same_over outside inner s n (Ok (AtEnd, later)) = refl
+same_over outside inner s n (Ok (Broken, later)) = refl
+
+pub follow_at : (outside : Outside) (inner : Inner) (s : Source) (n : ℕ) (r : Option MainReader) →
+    follows NoFile (with_main (record { standard = s; next = n; operands = NoFile; reading = r; ended = false }) inner)
+    ≡ main_input outside (begun [] (with_main (record { standard = s; next = n; operands = NoneLeft; reading = Some Standard; ended = false }) inner))
+follow_at outside inner s n r = same_over outside (begun [] inner) s n (first_record (record_separator (special_text Rs (begun [] inner))) s)
+
+pub follow_over : (f : Found) → f ≢ found.NoFile → (inner : Inner) (m : MainInput) → follows (operands_of f) (with_main m inner) ≡ Ok (with_main (record m { ended = true }) inner, Over)
+follow_over found.NoFile other inner m = absurd (other refl)
+follow_over found.SomeFile other inner m = refl
+follow_over found.NoneLeft other inner m = refl
+
+taken_opens : (on : Inner → Result (Inner × Main) Fault) (outside : Outside) (text : List ℕ) (inner : Inner) → text ≢ [] → assignment_of text ≡ None →
+    taken on outside text inner ≡ opened on text (reader_of outside text) (with_operands SomeFile inner)
+taken_opens on outside [] inner plain none = absurd (plain refl)
+taken_opens on outside (c ∷ cs) inner plain none = ap (λ a. file_or_assignment on outside (c ∷ cs) a inner) none
+
+open_at : (outside : Outside) (inner : Inner) (s : Source) (n : ℕ) (o : Operands) (r : Option MainReader) (text : List ℕ) (reader : MainReader) →
+    opened (rest_of (record { standard = s; next = n; operands = o; reading = r; ended = false }) outside) text (Some reader) (with_operands SomeFile (with_main (record { standard = s; next = n; operands = o; reading = r; ended = false }) inner))
+    ≡ main_input outside (begun text (with_main (record { standard = s; next = n; operands = SomeFile; reading = Some reader; ended = false }) inner))
+open_at outside inner s n o r text Standard = same_on outside (begun text inner) Standard s n (first_record (record_separator (special_text Rs (begun text inner))) s)
+open_at outside inner s n o r text (File source) = same_on outside (begun text inner) (File source) s n (first_record (record_separator (special_text Rs (begun text inner))) source)
+
+-- a file is opened, or does not open
+pub opens_at : (outside : Outside) (inner : Inner) (s : Source) (n : ℕ) (o : Operands) (r : Option MainReader) (text : List ℕ) (reader : MainReader) → text ≢ [] → assignment_of text ≡ None → reader_of outside text ≡ Some reader →
+    taken (rest_of (record { standard = s; next = n; operands = o; reading = r; ended = false }) outside) outside text (with_main (record { standard = s; next = n; operands = o; reading = r; ended = false }) inner)
+    ≡ main_input outside (begun text (with_main (record { standard = s; next = n; operands = SomeFile; reading = Some reader; ended = false }) inner))
+opens_at outside inner s n o r text reader plain none is =
+    let m : MainInput = record { standard = s; next = n; operands = o; reading = r; ended = false } in
+    taken_opens (rest_of m outside) outside text (with_main m inner) plain none
+    ∙ ap (λ x. opened (rest_of m outside) text x (with_operands SomeFile (with_main m inner))) is ∙ open_at outside inner s n o r text reader
+
+pub opens_not : (outside : Outside) (inner : Inner) (m : MainInput) (text : List ℕ) → text ≢ [] → assignment_of text ≡ None → reader_of outside text ≡ None →
+    taken (rest_of m outside) outside text (with_main m inner) ≡ Ok (with_main (with_file m) inner, NotOpened)
+opens_not outside inner m text plain none is =
+    taken_opens (rest_of m outside) outside text (with_main m inner) plain none ∙ ap (λ x. opened (rest_of m outside) text x (with_operands SomeFile (with_main m inner))) is
+
+-- An assignment.
+
+again : (p : ℕ → Bool) (xs : List ℕ) → prefix_len p (take_while p xs) ≡ prefix_len p xs
+again p [] = refl
+again p (x ∷ xs) = by (p x) refl (again p xs)
+  where
+    by : (b : Bool) → p x ≡ b → prefix_len p (take_while p xs) ≡ prefix_len p xs → prefix_len p (take (cond b (1 + prefix_len p xs) 0) (x ∷ xs)) ≡ cond b (1 + prefix_len p xs) 0
+    by true is e =
+        ap (λ n. prefix_len p (take n (x ∷ xs))) (let h : 1 + prefix_len p xs ≡ suc (prefix_len p xs) = omega arith in h)
+        ∙ ap (λ c. cond c (1 + prefix_len p (take_while p xs)) 0) is ∙ ap (λ n. 1 + n) e
+    by false is e = refl
+
+taken_again : (p : ℕ → Bool) (xs : List ℕ) → take_while p (take_while p xs) ≡ take_while p xs
+taken_again p xs = ap (λ n. take n (take_while p xs)) (again p xs) ∙ take_all (prefix_len p xs) (take_while p xs) (omega (arith, length-take (prefix_len p xs) xs))
+
+drop_all : (xs : List ℕ) → drop (length xs) xs ≡ []
+drop_all [] = refl
+drop_all (x ∷ xs) = drop_all xs
+
+and_true : (b : Bool) → b && true ≡ b
+and_true true = refl
+and_true false = refl
+
+name_by : (c : ℕ) (ys : List ℕ) → take_while continues_name ys ≡ ys → is_name (c ∷ ys) ≡ begins_name c
+name_by c ys e = ap (λ zs. begins_name c && is_empty (drop (length zs) ys)) e ∙ ap (λ zs. begins_name c && is_empty zs) (drop_all ys) ∙ and_true (begins_name c)
+
+name_begins : (text : List ℕ) → is_name (take_while continues_name text) ≡ begins (take_while continues_name text)
+name_begins [] = refl
+name_begins (c ∷ cs) = by (continues_name c)
+  where
+    by : (b : Bool) → is_name (take (cond b (1 + prefix_len continues_name cs) 0) (c ∷ cs)) ≡ begins (take (cond b (1 + prefix_len continues_name cs) 0) (c ∷ cs))
+    by true =
+        let h : 1 + prefix_len continues_name cs ≡ suc (prefix_len continues_name cs) = omega arith in
+        ap (λ n. is_name (take n (c ∷ cs))) h ∙ name_by c (take_while continues_name cs) (taken_again continues_name cs) ∙ ap (λ n. begins (take n (c ∷ cs))) (sym h)
+    by false = refl
+
+behind_is : (name rest : List ℕ) (c : Bool) → is_name name ≡ c → (b : Bool) → (is_equals rest && c) ≡ b → behind_name name rest ≡ cond b (Some (name, drop 1 rest)) None
+behind_is name [] c e b f = ap (λ x. cond x (Some (name, [])) None) f
+behind_is name (d ∷ ds) c e b f = ap (λ x. if (d == 61) && x then Some (name, ds) else None) e ∙ ap (λ x. if x then Some (name, ds) else None) f
+
+-- what the first bytes and the byte after them tell
+assignment_is : (text : List ℕ) (n : ℕ) (b : Bool) → n ≡ prefix_len continues_name text → n ≤ length text → b ≡ (is_equals (drop n text) && begins (take n text)) → assignment_of text ≡ cond b (Some (take n text, drop (n + 1) text)) None
+assignment_is text n b e within f =
+    let w : take n text ≡ take_while continues_name text = ap (λ k. take k text) e in
+    let l : length (take_while continues_name text) ≡ n = ap length (sym w) ∙ (let h : length (take n text) ≡ n = omega (arith, length-take n text) in h) in
+    ap (λ k. behind_name (take_while continues_name text) (drop k text)) l ∙ ap (λ name. behind_name name (drop n text)) (sym w)
+    ∙ behind_is (take n text) (drop n text) (begins (take n text)) (ap is_name w ∙ name_begins text ∙ ap begins (sym w)) b (sym f)
+    ∙ ap (λ rest. cond b (Some (take n text, rest)) None) (drop-drop 1 n text)
+
+equals_within : (n : ℕ) (text : List ℕ) → is_equals (drop n text) ≡ true → n + 1 ≤ length text
+equals_within zero [] e = cc
+equals_within zero (x ∷ xs) e = omega arith
+equals_within (suc n) [] e = cc
+equals_within (suc n) (x ∷ xs) e = let h : n + 1 ≤ length xs = equals_within n xs e in omega arith
+
+pub name_there : (text : List ℕ) (n : ℕ) → n ≡ prefix_len continues_name text → n ≤ length text → is_equals (drop n text) ≡ true → begins (take n text) ≡ true → NameLen text (Some n)
+name_there text n e within f g = (equals_within n text f, assignment_is text n true e within (sym (ap (λ b. b && begins (take n text)) f ∙ g)))
+
+pub name_unequal : (text : List ℕ) (n : ℕ) → n ≡ prefix_len continues_name text → n ≤ length text → is_equals (drop n text) ≡ false → NameLen text None
+name_unequal text n e within f = assignment_is text n false e within (sym (ap (λ b. b && begins (take n text)) f))
+
+pub name_unbegun : (text : List ℕ) (n : ℕ) → n ≡ prefix_len continues_name text → n ≤ length text → is_equals (drop n text) ≡ true → begins (take n text) ≡ false → NameLen text None
+name_unbegun text n e within f g = assignment_is text n false e within (sym (ap (λ b. b && begins (take n text)) f ∙ g))
+
+-- an operand that is skipped, and one that is an assignment
+pub skips_at : (outside : Outside) (inner : Inner) (s : Source) (n : ℕ) (f : Found) → f ≢ found.NoneLeft → (text : List ℕ) → text ≡ [] →
+    taken (rest_of (record { standard = s; next = n; operands = operands_of f; reading = None; ended = false }) outside) outside text (with_main (record { standard = s; next = n; operands = operands_of f; reading = None; ended = false }) inner)
+    ≡ main_input outside (with_main (record { standard = s; next = n; operands = operands_of f; reading = None; ended = false }) inner)
+skips_at outside inner s n f some text e =
+    ap (λ t. taken (rest_of (record { standard = s; next = n; operands = operands_of f; reading = None; ended = false }) outside) outside t (with_main (record { standard = s; next = n; operands = operands_of f; reading = None; ended = false }) inner)) e ∙ by f some
+  where
+    by : (g : Found) → g ≢ found.NoneLeft → reach (2 ^ 20 + 1 - n) outside (with_main (record { standard = s; next = n; operands = operands_of g; reading = None; ended = false }) inner)
+        ≡ main_input outside (with_main (record { standard = s; next = n; operands = operands_of g; reading = None; ended = false }) inner)
+    by found.NoFile h = refl
+    by found.SomeFile h = refl
+    by found.NoneLeft h = absurd (h refl)
+
+pub assigns_at : (on : Inner → Result (Inner × Main) Fault) (outside : Outside) (text name value : List ℕ) (inner : Inner) → assignment_of text ≡ Some (name, value) →
+    taken on outside text inner ≡ (assigned name value inner >>= λ x. made on x)
+assigns_at on outside [] name value inner e = cc
+assigns_at on outside (c ∷ cs) name value inner e = ap (λ a. file_or_assignment on outside (c ∷ cs) a inner) e
+
+and_left : (a b : Bool) → (a && b) ≡ true → a ≡ true
+and_left true b e = refl
+and_left false b e = cc
+
+and_right : (a b : Bool) → (a && b) ≡ true → b ≡ true
+and_right true b e = e
+and_right false b e = cc
+
+-- Whether one is to be reached.
+
+module _ (outside : Outside) (inner : Inner) (s : Source) (n : ℕ) (f : Found) (some : f ≢ found.NoneLeft) where
+  abbrev pub at : MainInput
+  at = record { standard = s; next = n; operands = operands_of f; reading = None; ended = false }
+
+  reached_by : main_input outside (with_main at inner) ≡ reach (2 ^ 20 + 1 - n) outside (with_main at inner)
+  reached_by = by f some
+    where
+      by : (g : Found) → g ≢ found.NoneLeft → main_input outside (with_main (record { standard = s; next = n; operands = operands_of g; reading = None; ended = false }) inner)
+          ≡ reach (2 ^ 20 + 1 - n) outside (with_main (record { standard = s; next = n; operands = operands_of g; reading = None; ended = false }) inner)
+      by found.NoFile h = refl
+      by found.SomeFile h = refl
+      by found.NoneLeft h = absurd (h refl)
+
+  pub reach_fault : (fault : Fault) → number_of_value (inner.specials Argc) ≡ Err fault → main_input outside (with_main at inner) ≡ Err fault
+  reach_fault fault e = reached_by ∙ by (2 ^ 20 + 1 - n)
+    where
+      by : (k : ℕ) → reach k outside (with_main at inner) ≡ Err fault
+      by zero = ap (λ z. z >>= λ argc. follows (operands_of f) (with_main at inner)) e
+      by (suc k) = ap (λ z. z >>= reached (reach k outside) outside (with_main at inner)) e
+
+  pub reach_end : (count : ℤ) → number_of_value (inner.specials Argc) ≡ Ok count → is_below n count ≡ false → main_input outside (with_main at inner) ≡ follows (operands_of f) (with_main at inner)
+  reach_end count e below = reached_by ∙ by (2 ^ 20 + 1 - n)
+    where
+      by : (k : ℕ) → reach k outside (with_main at inner) ≡ follows (operands_of f) (with_main at inner)
+      by zero = ap (λ z. z >>= λ argc. follows (operands_of f) (with_main at inner)) e
+      by (suc k) = ap (λ z. z >>= reached (reach k outside) outside (with_main at inner)) e ∙ ap (λ b. elim b [ true ↦ taken (reach k outside) outside (operand_text n (with_main at inner)) (with_main (passed at) inner) | false ↦ follows (operands_of f) (with_main at inner) ]) below
+
+  pub reach_past : (count : ℤ) → number_of_value (inner.specials Argc) ≡ Ok count → 2 ^ 20 < n → main_input outside (with_main at inner) ≡ follows (operands_of f) (with_main at inner)
+  reach_past count e past =
+      reached_by ∙ ap (λ k. reach k outside (with_main at inner)) (let h : 2 ^ 20 + 1 - n ≡ 0 = omega arith in h) ∙ ap (λ z. z >>= λ argc. follows (operands_of f) (with_main at inner)) e
+
+  pub reach_one : (count : ℤ) (text : List ℕ) → number_of_value (inner.specials Argc) ≡ Ok count → is_below n count ≡ true → n ≤ 2 ^ 20 → operand_text n inner ≡ text →
+      main_input outside (with_main at inner) ≡ taken (rest_of (passed at) outside) outside text (with_main (passed at) inner)
+  reach_one count text e below most is =
+      reached_by ∙ ap (λ k. reach k outside (with_main at inner)) (let h : 2 ^ 20 + 1 - n ≡ suc (2 ^ 20 + 1 - (n + 1)) = omega arith in h)
+      ∙ ap (λ z. z >>= reached (rest_of (passed at) outside) outside (with_main at inner)) e
+      ∙ ap (λ b. elim b [ true ↦ taken (rest_of (passed at) outside) outside (operand_text n (with_main at inner)) (with_main (passed at) inner) | false ↦ follows (operands_of f) (with_main at inner) ]) below
+      ∙ ap (λ t. taken (rest_of (passed at) outside) outside t (with_main (passed at) inner)) is
+
+-- The same of the main input at hand, where nothing is read.
+
+abbrev pub resting : Source → ℕ → Found → MainInput
+resting s n f = record { standard = s; next = n; operands = operands_of f; reading = None; ended = false }
+
+module _ (outside : Outside) (inner : Inner) (m : Mains) (state : State) (nothing : m.reading ≡ reading.Nothing) (live : m.ended ≡ false) where
+  source : Source
+  source = left m.standard (state.readers m.standard.id)
+
+  rests : main_of m state ≡ resting (left m.standard (state.readers m.standard.id)) m.next m.found
+  rests =
+      ap (λ r. record { standard = left m.standard (state.readers m.standard.id); next = m.next; operands = operands_of m.found; reading = reading_of r state; ended = m.ended }) nothing
+      ∙ ap (λ b. record { standard = left m.standard (state.readers m.standard.id); next = m.next; operands = operands_of m.found; reading = None; ended = b }) live
+
+  pub none_left : m.found ≡ found.NoneLeft → main_input outside (with_main (main_of m state) inner) ≡ follows (main_of m state).operands (with_main (main_of m state) inner)
+  none_left e =
+      let is : main_of m state ≡ resting (left m.standard (state.readers m.standard.id)) m.next found.NoneLeft = rests ∙ ap (resting (left m.standard (state.readers m.standard.id)) m.next) e in
+      ap (λ (x : MainInput). main_input outside (with_main x inner)) is ∙ sym (ap (λ (x : MainInput). follows x.operands (with_main x inner)) is)
+
+  no_number : m.found ≢ found.NoneLeft → (fault : Fault) → number_of_value (inner.specials Argc) ≡ Err fault → main_input outside (with_main (main_of m state) inner) ≡ Err fault
+  no_number some fault e =
+      ap (λ (x : MainInput). main_input outside (with_main x inner)) rests ∙ reach_fault outside inner (left m.standard (state.readers m.standard.id)) m.next m.found some fault e
+
+  past_by : m.found ≢ found.NoneLeft → (count : ℤ) → number_of_value (inner.specials Argc) ≡ Ok count → (b : Bool) → nat_le m.next (2 ^ 20) ≡ b → (b && is_below m.next count) ≡ false →
+      main_input outside (with_main (resting (left m.standard (state.readers m.standard.id)) m.next m.found) inner) ≡ follows (operands_of m.found) (with_main (resting (left m.standard (state.readers m.standard.id)) m.next m.found) inner)
+  past_by some count e true few below = reach_end outside inner (left m.standard (state.readers m.standard.id)) m.next m.found some count e below
+  past_by some count e false many below = reach_past outside inner (left m.standard (state.readers m.standard.id)) m.next m.found some count e (leb-false m.next (2 ^ 20) many)
+
+  none_more : m.found ≢ found.NoneLeft → (count : ℤ) → number_of_value (inner.specials Argc) ≡ Ok count → (nat_le m.next (2 ^ 20) && is_below m.next count) ≡ false →
+      main_input outside (with_main (main_of m state) inner) ≡ follows (main_of m state).operands (with_main (main_of m state) inner)
+  none_more some count e below =
+      ap (λ (x : MainInput). main_input outside (with_main x inner)) rests ∙ past_by some count e (nat_le m.next (2 ^ 20)) refl below ∙ sym (ap (λ (x : MainInput). follows x.operands (with_main x inner)) rests)
+
+  one_more : m.found ≢ found.NoneLeft → (count : ℤ) (text : List ℕ) → number_of_value (inner.specials Argc) ≡ Ok count → (nat_le m.next (2 ^ 20) && is_below m.next count) ≡ true → operand_text m.next inner ≡ text →
+      main_input outside (with_main (main_of m state) inner) ≡ taken (rest_of (passed (main_of m state)) outside) outside text (with_main (passed (main_of m state)) inner)
+  one_more some count text e has is =
+      ap (λ (x : MainInput). main_input outside (with_main x inner)) rests
+      ∙ reach_one outside inner (left m.standard (state.readers m.standard.id)) m.next m.found some count text e (and_right (nat_le m.next (2 ^ 20)) (is_below m.next count) has) (leb-true m.next (2 ^ 20) (and_left (nat_le m.next (2 ^ 20)) (is_below m.next count) has)) is
+      ∙ sym (ap (λ (x : MainInput). taken (rest_of (passed x) outside) outside text (with_main (passed x) inner)) rests)
+
+-- as the number of ARGC tells
+abbrev pub bool_of : Result Bool Fault → Bool
+bool_of (Ok b) = b
+bool_of (Err fault) = false
+
+abbrev pub fault_or : Fault → Result Bool Fault → Fault
+fault_or other (Ok b) = other
+fault_or other (Err fault) = fault
+
+module _ (outside : Outside) (inner : Inner) (m : Mains) (state : State) (nothing : m.reading ≡ reading.Nothing) (live : m.ended ≡ false) (some : m.found ≢ found.NoneLeft) where
+  pub has_one : (z : Result ℤ Fault) (text : List ℕ) → number_of_value (inner.specials Argc) ≡ z → has_operand m.next z ≡ Ok true → operand_text m.next inner ≡ text →
+      main_input outside (with_main (main_of m state) inner) ≡ taken (rest_of (passed (main_of m state)) outside) outside text (with_main (passed (main_of m state)) inner)
+  has_one (Ok count) text e has is = one_more outside inner m state nothing live some count text e (ap bool_of has) is
+  has_one (Err fault) text e has is = cc
+
+  pub has_none : (z : Result ℤ Fault) → number_of_value (inner.specials Argc) ≡ z → has_operand m.next z ≡ Ok false → main_input outside (with_main (main_of m state) inner) ≡ follows (main_of m state).operands (with_main (main_of m state) inner)
+  has_none (Ok count) e has = none_more outside inner m state nothing live some count e (ap bool_of has)
+  has_none (Err fault) e has = cc
+
+  pub has_fault : (z : Result ℤ Fault) (fault : Fault) → number_of_value (inner.specials Argc) ≡ z → has_operand m.next z ≡ Err fault → main_input outside (with_main (main_of m state) inner) ≡ Err fault
+  has_fault (Ok count) fault e has = cc
+  has_fault (Err other) fault e has = no_number outside inner m state nothing live some fault (e ∙ ap (λ f. Err f) (ap (fault_or other) has))
+
+-- what is to be given may be given later
+pub given_later : (given later : Result (Inner × Main) Fault) (r : Result (Option MainNext) Stop) (outside : Outside) (old new : Inner) → given ≡ later → GivenIs later r outside old new → GivenIs given r outside old new
+given_later given later r outside old new e h = subst (λ (x : Result (Inner × Main) Fault). GivenIs x r outside old new) (sym e) h
+
+pub given_after : (r : Result (Option MainNext) Stop) (outside : Outside) (first old new : Inner) → main_input outside first ≡ main_input outside old → GivenIs (main_input outside old) r outside old new → GivenIs (main_input outside first) r outside first new
+given_after (Ok None) outside first old new e h = e ∙ h
+given_after (Ok (Some (main.Record text))) outside first old new e h = e ∙ h
+given_after (Ok (Some (main.Assign name text))) outside first old new e h = e ∙ h
+given_after (Ok (Some (main.Opened name))) outside first old new e h = e ∙ h
+given_after (Ok (Some main.End)) outside first old new e h = e ∙ h
+given_after (Err (IsFault fault)) outside first old new e h = subst (λ (x : Result (Inner × Main) Fault). FaultIs x fault outside new) (sym e) h
+given_after (Err NoMemory) outside first old new e h = e ∙ h

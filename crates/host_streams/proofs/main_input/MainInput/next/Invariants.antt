@@ -1,0 +1,20 @@
+use Rattle.std.proofs.Common.{◌≡◌}
+use Rattle.awk_state.specs.InputRows.{main_input}
+use Rattle.awk_state.specs.SharedState.{Inner}
+use Rattle.host_streams.specs.Mains.{HoldsMain, IsAsked, IsOffered, SparesKinds, SparesPlaces, main_of, with_main, work}
+use Rattle.host_streams.proofs.main_input.MainInput.next.Given as goal
+
+abbrev pub invariant-steps : goal.invariant-steps
+invariant-steps g l =
+    let w = g.W.World in
+    record {
+      held : HoldsMain l.self (w.kinds l.world);
+      spares : SparesKinds l.fn.self.reading l.self.reading (w.kinds l.fn.world) (w.kinds l.world);
+      places : w.tells → SparesPlaces l.fn.self.reading (w.kinds l.fn.world) (w.state l.fn.world) (w.state l.world);
+      outside : w.tells → (w.state l.world).outside ≡ (w.state l.fn.world).outside;
+      told : w.tells → (inner : Inner) → IsAsked l.separator inner → IsOffered l.argc (g.O.Operands.text l.operands) inner →
+          main_input (w.state l.fn.world).outside (with_main (main_of l.fn.self (w.state l.fn.world)) inner) ≡ main_input (w.state l.fn.world).outside (with_main (main_of l.self (w.state l.world)) inner);
+    }
+
+abbrev pub decreases-steps : goal.decreases-steps
+decreases-steps g l = work l.self

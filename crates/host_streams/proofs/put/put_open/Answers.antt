@@ -1,0 +1,10 @@
+use Rattle.std.proofs.Common.{◌≡◌, ◌∙◌, ap}
+use Rattle.world_core.specs.WorldState.{after}
+use Rattle.host_streams.specs.Puts.{PutsSome}
+use Rattle.host_streams.proofs.Writing.{part_put}
+use Rattle.host_streams.proofs.put.put_open.Goals as goal
+
+pub returns-in-Err-NoMemory-clause-told : goal.returns-in-Err-NoMemory-clause-told
+returns-in-Err-NoMemory-clause-told g c = λ tells shared e.
+    let p : PutsSome c.args.id c.args.text.now (g.W.World.state c.args.world.now) (g.W.World.state c.write_all.new.world) = rw c.in-Err-NoMemory.field-0-is at (c.in-Err-NoMemory.ensures.told tells) in
+    (p.size, p.does.outside ∙ ap (λ acts. after acts (g.W.World.state c.args.world.now).outside) (part_put ((g.W.World.state c.args.world.now).writers c.args.id) p.size c.args.text.now shared.outside (g.W.World.state c.args.world.now).outside e))

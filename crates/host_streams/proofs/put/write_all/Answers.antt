@@ -1,0 +1,20 @@
+use Rattle.std.proofs.Common.{◌≡◌, rules, ◌+◌, ◌<◌, ◌≤◌, length, arith, Err, Ok, Result, List, ℕ, ◌-◌, take, drop, ap, length-drop, length-take, subst, sym, ◌∙◌}
+use Rattle.std.proofs.lemmas.Result.{err_from_is_err_and}
+use Rattle.world_core.specs.Calls.{Writes, WritesSome}
+use Rattle.host_streams.proofs.Writing.{rest_is, fits_next, part_next, put_fails}
+use Rattle.host_streams.proofs.put.write_all.Goals as goal
+
+pub returns-in_err-n-clause-told : goal.returns-in_err-n-clause-told
+returns-in_err-n-clause-told g c =
+    let p = err_from_is_err_and c.from_residual.result c.from_residual.ensures.1 in
+    let at_test : c.loop-at.at < length c.args.text.now = c.loop-at-test.true in rw (p.1, p.2) (λ tells.
+    put_fails c.loop-at.at c.args.id c.args.text.now _ _ _ c.in_err-n.field-0.0 at_test (c.loop-at.invariant.fits tells) (c.loop-at.invariant.does tells) (subst (λ (piece : List ℕ). Writes c.args.id piece (g.W.World.state c.loop-at.world) (Err c.in_err-n.field-0.0) (g.W.World.state c.write.new.self)) (rest_is c.loop-at.at c.args.text.now) (c.in_err-n.ensures.told tells)))
+
+pub loop-at-preserved : goal.loop-at-preserved
+loop-at-preserved g c = record {
+  within = let e : length (take (length c.args.text.now - c.loop-at.at) (drop c.loop-at.at c.args.text.now)) ≡ length c.args.text.now - c.loop-at.at = ap length (rest_is c.loop-at.at c.args.text.now) ∙ length-drop c.loop-at.at c.args.text.now in omega (arith, c.in_ok-n.ensures.within);
+  kinds = c.in_ok-n.ensures.kinds ∙ c.loop-at.invariant.kinds;
+  count = c.in_ok-n.ensures.count ∙ c.loop-at.invariant.count;
+  fits = λ tells. fits_next c.loop-at.at c.in_ok-n.n c.args.id c.args.text.now _ _ _ c.loop-at.invariant.within (c.loop-at.invariant.fits tells) (c.loop-at.invariant.does tells) (subst (λ (piece : List ℕ). WritesSome c.args.id c.in_ok-n.n piece (g.W.World.state c.loop-at.world) (g.W.World.state c.write.new.self)) (rest_is c.loop-at.at c.args.text.now) (c.in_ok-n.ensures.told tells));
+  does = λ tells. part_next c.loop-at.at c.in_ok-n.n c.args.id c.args.text.now _ _ _ (c.loop-at.invariant.does tells) (subst (λ (piece : List ℕ). WritesSome c.args.id c.in_ok-n.n piece (g.W.World.state c.loop-at.world) (g.W.World.state c.write.new.self)) (rest_is c.loop-at.at c.args.text.now) (c.in_ok-n.ensures.told tells));
+}

@@ -1,0 +1,18 @@
+use Rattle.std.proofs.Common.{◌≡◌, ◌≤◌, ◌-◌, length}
+use Rattle.world_core.specs.Calls.{Fits}
+use Rattle.host_streams.specs.Puts.{PutsPart}
+use Rattle.host_streams.proofs.put.write_all.Given as goal
+
+abbrev pub invariant-loop-at : goal.invariant-loop-at
+invariant-loop-at g l =
+    let w = g.W.World in
+    record {
+      within : l.at ≤ length l.text;
+      kinds : w.kinds l.world ≡ w.kinds l.fn.world;
+      count : w.count l.world ≡ w.count l.fn.world;
+      fits : w.tells → Fits l.at ((w.state l.fn.world).outside ((w.state l.fn.world).writers l.id));
+      does : w.tells → PutsPart l.at l.id l.text (w.state l.fn.world) (w.state l.world);
+    }
+
+abbrev pub decreases-loop-at : goal.decreases-loop-at
+decreases-loop-at g l = length l.text - l.at

@@ -1,0 +1,34 @@
+use Rattle.std.proofs.Common.{◌≡◌, ◌∙◌, sym, ap}
+use Rattle.awk_state.specs.OutputRows.{is_writing}
+use Rattle.host_streams.specs.OpenFiles.{writer_place}
+use Rattle.host_streams.proofs.Held.{go_same}
+use Rattle.host_streams.proofs.Outputs.{on_ok, put_missing, put_to, with_named, writer_goes, writer_missing, writer_named, writer_open}
+use Rattle.host_streams.proofs.streams.Streams.put_file.Goals as goal
+
+pub put_open-requires : goal.put_open-requires
+put_open-requires g c =
+    let found = ap (writer_place c.args.name.now) (sym c.as_slice.ensures.value) ∙ sym c.in-Some.ensures in
+    writer_open c.args.name.now c.args.self.now.writers.items c.in-Some.at found c.index.result.now c.index.ensures (g.W.World.kinds c.args.world.now) c.requires.held.1
+
+pub returns-in-Some-clause-goes : goal.returns-in-Some-clause-goes
+returns-in-Some-clause-goes g c = λ tells. go_same c.args.self.now.writers.items _ _ (c.put_open.ensures.writers tells) (c.requires.goes tells)
+
+pub returns-in-Some-clause-opened : goal.returns-in-Some-clause-opened
+returns-in-Some-clause-opened g c =
+    let found = ap (writer_place c.args.name.now) (sym c.as_slice.ensures.value) ∙ sym c.in-Some.ensures in
+    on_ok c.put_open.result _ (with_named c.args.name.now _ (writer_named c.args.name.now c.args.self.now.writers.items c.in-Some.at found))
+
+pub returns-in-Some-clause-told : goal.returns-in-Some-clause-told
+returns-in-Some-clause-told g c = λ tells shared is.
+    let found = ap (writer_place c.args.name.now) (sym c.as_slice.ensures.value) ∙ sym c.in-Some.ensures in
+    put_to c.args.name.now c.args.text.now c.args.append _ shared c.put_open.result _ _
+    (ap (λ names. is_writing c.args.name.now names) is.writers ∙ writer_named c.args.name.now c.args.self.now.writers.items c.in-Some.at found)
+    (writer_goes c.args.name.now c.args.self.now.writers.items c.in-Some.at found c.index.result.now c.index.ensures (g.W.World.state c.args.world.now) (c.requires.goes tells))
+    (c.put_open.ensures.told tells shared is.outside)
+
+pub returns-in-None-clause-told : goal.returns-in-None-clause-told
+returns-in-None-clause-told g c = λ tells shared is.
+    let missing = ap (writer_place c.args.name.now) (sym c.as_slice.ensures.value) ∙ sym c.in-None.ensures in
+    put_missing c.args.name.now c.args.text.now c.args.append shared c.put_first.result _ _
+    (ap (λ names. is_writing c.args.name.now names) is.writers ∙ writer_missing c.args.name.now c.args.self.now.writers.items missing)
+    (c.put_first.ensures.told tells shared is)

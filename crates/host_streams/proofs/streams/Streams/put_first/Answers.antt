@@ -1,0 +1,40 @@
+use Rattle.std.proofs.Common.{◌≡◌, ◌∙◌, ◌++◌, ◌∷◌, [], sym, ap}
+use Rattle.world_core.specs.WorldState.{Named}
+use Rattle.host_streams.specs.declared.streams.NamedWriter.{NamedWriter}
+use Rattle.host_streams.specs.OpenFiles.{names_of, reader_handle, writer_place}
+use Rattle.host_streams.proofs.Outputs.{go_last, go_spared, held_written, kind_stays, names_last, none_more, other_number, with_missing, writer_missing}
+use Rattle.host_streams.proofs.streams.Streams.put_first.Goals as goal
+
+pub returns-in_err-id-clause-goes : goal.returns-in_err-id-clause-goes
+returns-in_err-id-clause-goes g c = λ tells.
+    rw c.reserve.ensures.items (go_spared (g.W.World.kinds c.args.world.now) c.args.self.now.writers.items _ _ c.requires.held.1 (c.put_new.ensures.spares tells) (c.requires.goes tells))
+
+pub returns-clause-held : goal.returns-clause-held
+returns-clause-held g c =
+    let w : NamedWriter = record { name = c.in_ok-own.own; id = c.in_ok-id.id } in
+    let items = c.push_reserved.ensures.items ∙ ap (λ xs. xs ++ w ∷ []) c.reserve.ensures.items in
+    rw items (held_written (g.W.World.kinds c.args.world.now) (g.W.World.kinds c.put_new.new.world) w c.args.self.now.writers.items _
+    (g.met.W.World.input c.args.world.now) (g.met.W.World.output c.args.world.now) c.in_ok-id.ensures.opened (ap (λ n. writer_place n c.args.self.now.writers.items) c.in_ok-own.ensures ∙ c.requires.missing) c.requires.held)
+
+pub returns-clause-goes : goal.returns-clause-goes
+returns-clause-goes g c = λ tells.
+    let w : NamedWriter = record { name = c.in_ok-own.own; id = c.in_ok-id.id } in
+    let items = c.push_reserved.ensures.items ∙ ap (λ xs. xs ++ w ∷ []) c.reserve.ensures.items in
+    rw items (go_last w c.args.self.now.writers.items (g.W.World.state c.put_new.new.world)
+    (go_spared (g.W.World.kinds c.args.world.now) c.args.self.now.writers.items _ _ c.requires.held.1 (c.put_new.ensures.spares tells) (c.requires.goes tells))
+    (c.in_ok-id.ensures.goes tells ∙ ap Named (sym c.in_ok-own.ensures)))
+
+pub returns-clause-opened : goal.returns-clause-opened
+returns-clause-opened g c =
+    let w : NamedWriter = record { name = c.in_ok-own.own; id = c.in_ok-id.id } in
+    let items = c.push_reserved.ensures.items ∙ ap (λ xs. xs ++ w ∷ []) c.reserve.ensures.items in
+    ap names_of items ∙ names_last c.args.self.now.writers.items w ∙ ap (λ n. names_of c.args.self.now.writers.items ++ (n ∷ [])) c.in_ok-own.ensures
+    ∙ with_missing c.args.name.now (names_of c.args.self.now.writers.items) (writer_missing c.args.name.now c.args.self.now.writers.items c.requires.missing)
+
+pub returns-clause-others : goal.returns-clause-others
+returns-clause-others g c = λ k none was.
+    let w : NamedWriter = record { name = c.in_ok-own.own; id = c.in_ok-id.id } in
+    let items = c.push_reserved.ensures.items ∙ ap (λ xs. xs ++ w ∷ []) c.reserve.ensures.items in (
+      kind_stays _ c.in_ok-id.id k (g.W.World.kinds c.args.world.now) _ c.in_ok-id.ensures.opened was,
+      (none.0, rw items (none_more k w c.args.self.now.writers.items (other_number (g.W.World.kinds c.args.world.now) k c.in_ok-id.id c.in_ok-id.ensures.opened.was_closed was) none.1)),
+    )

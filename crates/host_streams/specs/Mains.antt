@@ -1,0 +1,166 @@
+-- The main input, as the definition has it.
+use Rattle.std.specs.Prelude.{◌≡◌, ◌≢◌, ℕ, ◌⊎◌, ◌+◌, ◌*◌, ◌-◌, ◌^◌, ◌<◌, ◌≤◌, ◌==◌, ◌&&◌, nat_le, ℤ, List, [], ◌∷◌, length, take, drop, Bool, false, Option, Some, None, Result, Ok, Err, pos}
+use Rattle.awk_values.specs.declared.fault.Fault.{Fault}
+use Rattle.awk_values.specs.declared.fault.Fault.TheVariants.{OpenInput, ReadFailed}
+use Rattle.awk_values.specs.declared.fault.Stop.{Stop}
+use Rattle.awk_values.specs.declared.fault.Stop.TheVariants.{Fault as IsFault, NoMemory}
+use Rattle.awk_values.specs.declared.value.Value.{Value}
+use Rattle.awk_values.specs.declared.value.Value.TheVariants.{Num, StrNum}
+use Rattle.world_core.specs.WorldState.{Outside, Source, State}
+use Rattle.world_core.specs.Calls.{Kind, Closed, Reading as IsReading}
+use Rattle.awk_state.specs.Assignments.{assigned, assignment_of, begins_name}
+use Rattle.awk_state.specs.FieldRows.{special_text}
+use Rattle.awk_state.specs.InputRows.{Main, Taken, Over, NotOpened, Failed as ReadingFailed, main_input, is_below, made, operand_text, reach}
+use Rattle.awk_state.specs.Records.{record_separator}
+use Rattle.awk_state.specs.SharedState.{Inner, MainInput, MainReader, Standard, File, Operands, NoFile, SomeFile, NoneLeft, ◌>>=◌, with_special}
+use Rattle.awk_state.specs.declared.constants.Special.TheVariants.{Argc, Filename, Fnr, Rs}
+use Rattle.host_streams.specs.declared.main_input.Found.{Found}
+use Rattle.host_streams.specs.declared.main_input.Found.TheVariants as found
+use Rattle.host_streams.specs.declared.main_input.MainNext.{MainNext}
+use Rattle.host_streams.specs.declared.main_input.MainNext.TheVariants.{Record, Assign, Opened, End}
+use Rattle.host_streams.specs.declared.main_input.MainInput.{MainInput as Mains}
+use Rattle.host_streams.specs.declared.main_input.Reading.{Reading}
+use Rattle.host_streams.specs.declared.main_input.Reading.TheVariants as reading
+use Rattle.host_streams.specs.declared.reader.FileNext.{FileNext}
+use Rattle.host_streams.specs.Readers.{left, Answers}
+
+abbrev pub operands_of : Found → Operands
+operands_of found.NoFile = NoFile
+operands_of found.SomeFile = SomeFile
+operands_of found.NoneLeft = NoneLeft
+
+abbrev pub reading_of : Reading → State → Option MainReader
+reading_of reading.Nothing state = None
+reading_of reading.Standard state = Some Standard
+reading_of (reading.File r) state = Some (File (left r (state.readers r.id)))
+
+-- the main input that the definition speaks of
+abbrev pub main_of : Mains → State → MainInput
+main_of m state = record { standard = left m.standard (state.readers m.standard.id); next = m.next; operands = operands_of m.found; reading = reading_of m.reading state; ended = m.ended }
+
+-- a file that is read is open, and no standard stream
+abbrev pub FileIsOpen : Reading → (ℕ → Kind) → Type 0
+FileIsOpen reading.Nothing kinds = Unit {0}
+FileIsOpen reading.Standard kinds = Unit {0}
+FileIsOpen (reading.File r) kinds = (1 < r.id) × (kinds r.id ≡ IsReading)
+
+abbrev pub HoldsMain : Mains → (ℕ → Kind) → Type 0
+HoldsMain m kinds = (m.standard.id ≡ 0) × FileIsOpen m.reading kinds
+
+-- what is left in the reader at hand
+abbrev pub main_source : MainReader → MainInput → Source
+main_source Standard m = m.standard
+main_source (File source) m = source
+
+abbrev pub left_main : MainReader → Source → MainInput → MainInput
+left_main Standard source m = record m { standard = source; reading = Some Standard }
+left_main (File s) source m = record m { reading = Some (File source) }
+
+-- the reader at hand gives its next record
+pub record ReadsMain (rs : Option ℕ) (old : MainInput) (answer : Result FileNext Stop) (new : MainInput) : Type 0 where
+  pub reader : MainReader
+  pub reading : old.reading ≡ Some reader
+  pub later : Source
+  pub answers : Answers rs (main_source reader old) answer later
+  pub leaves : new ≡ left_main reader later old
+
+-- a state of the definition with this main input
+abbrev pub with_main : MainInput → Inner → Inner
+with_main m inner = record inner { main = m }
+
+-- RS, ARGC and the operands are these
+pub record IsAsked (rs : Option ℕ) (inner : Inner) : Type 0 where
+  pub separator : record_separator (special_text Rs inner) ≡ rs
+
+pub record IsOffered (argc : Value) (texts : ℕ → List ℕ) (inner : Inner) : Type 0 where
+  pub count : inner.specials Argc ≡ argc
+  pub operands : (n : ℕ) → operand_text n inner ≡ texts n
+
+-- whether there may be an operand of this number, where this is ARGC's number
+abbrev pub has_operand : ℕ → Result ℤ Fault → Result Bool Fault
+has_operand n (Ok count) = Ok (nat_le n (2 ^ 20) && is_below n count)
+has_operand n (Err fault) = Err fault
+
+-- whether bytes that may stand in a name are one
+abbrev pub begins : List ℕ → Bool
+begins [] = false
+begins (c ∷ cs) = begins_name c
+
+abbrev pub is_equals : List ℕ → Bool
+is_equals [] = false
+is_equals (c ∷ cs) = c == 61
+
+-- how long the name is, where a text is an assignment
+abbrev pub NameLen : List ℕ → Option ℕ → Type 0
+NameLen text None = assignment_of text ≡ None
+NameLen text (Some n) = (n + 1 ≤ length text) × (assignment_of text ≡ Some (take n text, drop (n + 1) text))
+
+-- FILENAME and FNR are set by who is told that an operand is opened
+abbrev pub begun : List ℕ → Inner → Inner
+begun name inner = with_special Fnr (Num (pos 0)) (with_special Filename (StrNum name) inner)
+
+-- what is given after the operand at hand
+abbrev pub rest_of : MainInput → Outside → Inner → Result (Inner × Main) Fault
+rest_of m outside inner = reach (2 ^ 20 + 1 - m.next) outside inner
+
+-- an operand is passed, or nothing is read any more
+abbrev pub passed : MainInput → MainInput
+passed m = record m { next = m.next + 1 }
+
+abbrev pub with_file : MainInput → MainInput
+with_file m = record m { operands = SomeFile }
+
+abbrev pub idle : MainInput → MainInput
+idle m = record m { reading = None }
+
+-- A fault of the definition, which comes again; or a file that does not open, or does not read.
+abbrev pub FaultIs : Result (Inner × Main) Fault → Fault → Outside → Inner → Type 0
+FaultIs given fault outside new =
+    ((given ≡ Err fault) × (main_input outside new ≡ Err fault)) ⊎ (((fault ≡ OpenInput) × (given ≡ Ok (new, NotOpened))) ⊎ ((fault ≡ ReadFailed) × (given ≡ Ok (new, ReadingFailed))))
+
+-- How what is to be given follows from what the definition gives after the call; short of memory the same is to be given. Who is told of an assignment makes it, and who is told of a file
+-- that was opened sets FILENAME and FNR.
+abbrev pub GivenIs : Result (Inner × Main) Fault → Result (Option MainNext) Stop → Outside → Inner → Inner → Type 0
+GivenIs given (Ok None) outside old new = given ≡ main_input outside new
+GivenIs given (Ok (Some (Record text))) outside old new = given ≡ Ok (new, Taken text)
+GivenIs given (Ok (Some (Assign name text))) outside old new = given ≡ (assigned name text new >>= λ x. made (rest_of new.main outside) x)
+GivenIs given (Ok (Some (Opened name))) outside old new = given ≡ main_input outside (begun name new)
+GivenIs given (Ok (Some End)) outside old new = given ≡ Ok (new, Over)
+GivenIs given (Err (IsFault fault)) outside old new = FaultIs given fault outside new
+GivenIs given (Err NoMemory) outside old new = main_input outside old ≡ main_input outside new
+
+-- how much there is left to do: operands to be skipped, and a reader to be given up
+abbrev pub busy : Reading → ℕ
+busy reading.Nothing = 0
+busy reading.Standard = 1
+busy (reading.File r) = 1
+
+abbrev pub work : Mains → ℕ
+work m = 2 * (2 ^ 20 + 1 - m.next) + busy m.reading
+
+abbrev pub GoesOn : Result (Option MainNext) Stop → Mains → Mains → Type 0
+GoesOn (Ok None) old new = work new < work old
+GoesOn r old new = Unit {0}
+
+-- what is given in the end
+abbrev pub AnswerIs : Result (Inner × Main) Fault → Result MainNext Stop → Outside → Inner → Inner → Type 0
+AnswerIs given (Ok answer) outside old new = GivenIs given (Ok (Some answer)) outside old new
+AnswerIs given (Err stop) outside old new = GivenIs given (Err stop) outside old new
+
+-- before anything is read
+abbrev pub main_at_start : Source → MainInput
+main_at_start input = record { standard = input; next = 1; operands = NoFile; reading = None; ended = false }
+
+-- a stream is not the file that is read
+abbrev pub IsApartFrom : ℕ → Reading → Type 0
+IsApartFrom k reading.Nothing = Unit {0}
+IsApartFrom k reading.Standard = Unit {0}
+IsApartFrom k (reading.File r) = k ≢ r.id
+
+-- every other stream that is open stays so
+abbrev pub SparesKinds : Reading → Reading → (ℕ → Kind) → (ℕ → Kind) → Type 0
+SparesKinds was is old new = (k : ℕ) → IsApartFrom k was → old k ≢ Closed → (new k ≡ old k) × IsApartFrom k is
+
+-- and where it is
+abbrev pub SparesPlaces : Reading → (ℕ → Kind) → State → State → Type 0
+SparesPlaces was kinds old new = (k : ℕ) → k ≢ 0 → IsApartFrom k was → kinds k ≢ Closed → (new.readers k ≡ old.readers k) × (new.writers k ≡ old.writers k)

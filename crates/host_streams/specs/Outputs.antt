@@ -1,0 +1,46 @@
+-- Texts that go to files by their names, as the definition of printing has it.
+use Rattle.std.specs.Prelude.{◌≡◌, ℕ, List, [], ◌∷◌, ◌++◌, if◌then◌else◌, Result, Ok, Err}
+use Rattle.awk_values.specs.declared.fault.Fault.{Fault}
+use Rattle.awk_values.specs.declared.fault.Stop.{Stop}
+use Rattle.awk_values.specs.declared.fault.Stop.TheVariants.{Fault as IsFault, NoMemory}
+use Rattle.world_core.specs.WorldState.{State}
+use Rattle.awk_state.specs.SharedState.{Shared, Does}
+use Rattle.awk_state.specs.OutputRows.{is_writing}
+use Rattle.awk_state.specs.declared.constants.Destination.{Destination}
+use Rattle.awk_state.specs.declared.constants.Destination.TheVariants as destination
+use Rattle.host_streams.specs.declared.output.Target.{Target}
+use Rattle.host_streams.specs.declared.output.Target.TheVariants.{Standard, Emptied, Appended}
+use Rattle.host_streams.specs.declared.streams.Streams.{Streams}
+use Rattle.host_streams.specs.OpenFiles.{names_of, readers_in}
+use Rattle.host_streams.specs.Puts.{HasBegun, HasDone}
+
+-- this is what the definition speaks of: the files that are open, and the outside
+pub record IsOf (s : Streams) (state : State) (shared : Shared) : Type 0 where
+  pub readers : shared.inner.readers ≡ readers_in s.readers.items state
+  pub writers : shared.inner.writers ≡ names_of s.writers.items
+  pub outside : shared.outside ≡ state.outside
+
+abbrev pub destination_of : Target → Destination
+destination_of Standard = destination.Standard
+destination_of (Emptied name) = destination.Emptied
+destination_of (Appended name) = destination.Appended
+
+abbrev pub name_of : Target → List ℕ
+name_of Standard = []
+name_of (Emptied name) = name.now
+name_of (Appended name) = name.now
+
+-- a file that is open for writing stays so, and one that is not is opened last
+abbrev pub with_writer : List ℕ → List (List ℕ) → List (List ℕ)
+with_writer name names = if is_writing name names then names else names ++ (name ∷ [])
+
+abbrev pub writers_to : Target → List (List ℕ) → List (List ℕ)
+writers_to Standard names = names
+writers_to (Emptied name) names = with_writer name.now names
+writers_to (Appended name) names = with_writer name.now names
+
+-- what is to be done was done, and these are the names that are open for writing now; short of memory no name more
+abbrev pub PutsIs : Does (Result (Unit {0}) Fault) → Result (Unit {0}) Stop → State → State → List (List ℕ) → List (List ℕ) → Type 0
+PutsIs does (Ok x) old new before now = HasDone does (Ok x) old new × (now ≡ does.inner.writers)
+PutsIs does (Err (IsFault fault)) old new before now = HasDone does (Err fault) old new × (now ≡ does.inner.writers)
+PutsIs does (Err NoMemory) old new before now = HasBegun does.added old new × (now ≡ before)

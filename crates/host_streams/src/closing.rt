@@ -1,0 +1,86 @@
+//! Files that are closed.
+ghost use Rattle.std.specs.Prelude.{◌≡◌, ◌||◌};
+ghost use Rattle.awk_state.specs.InputRows.{close_row, without_reader, without_writer};
+ghost use Rattle.awk_state.specs.OutputRows.{is_writing};
+ghost use Rattle.awk_state.specs.SharedState.{Shared};
+ghost use Rattle.awk_values.specs.declared.value.Value.TheVariants.{Text};
+ghost use Rattle.host_streams.specs.Closing.{ClosesBy};
+ghost use Rattle.host_streams.specs.OpenFiles.{HoldsOpen, OthersKeep, OthersStay, WritersGo, names_of, reader_names, readers_in};
+ghost use Rattle.host_streams.specs.Outputs.{IsOf};
+
+use crate::output::find_writer;
+use crate::streams::{Streams, find_reader};
+use world_core::World;
+
+impl Streams {
+    /// Closes the stream that reads a file, and says whether there was one.
+    fn close_reader<W: World>(&mut self, world: &mut W, name: &[u8]) -> bool
+        requires held { HoldsOpen self.old (W.kinds world.old) }
+        requires goes { W.tells → WritersGo self.old.writers.items (W.state world.old) }
+        ensures held { HoldsOpen self.new (W.kinds world.new) }
+        ensures goes { W.tells → WritersGo self.new.writers.items (W.state world.new) }
+        ensures writers { self.new.writers ≡ self.old.writers }
+        ensures count { W.count world.new ≡ W.count world.old }
+        ensures answer { result ≡ is_writing name.now (reader_names self.old.readers.items) }
+        ensures names { reader_names self.new.readers.items ≡ without_writer name.now (reader_names self.old.readers.items) }
+        ensures told { W.tells → readers_in self.new.readers.items (W.state world.new) ≡ without_reader name.now (readers_in self.old.readers.items (W.state world.old)) }
+        ensures outside { W.tells → (W.state world.new).outside ≡ (W.state world.old).outside }
+        ensures others { OthersStay self.old self.new (W.kinds world.old) (W.kinds world.new) }
+        ensures places { W.tells → OthersKeep self.old (W.kinds world.old) (W.state world.old) (W.state world.new) }
+    {
+        match find_reader(self.readers.as_slice(), name) {
+            Some(at) => {
+                let closed = self.readers.remove(at);
+                world.close(closed.reader.id);
+                true
+            }
+            None => false,
+        }
+    }
+
+    /// Closes the stream that writes to a file, and says whether there was one.
+    fn close_writer<W: World>(&mut self, world: &mut W, name: &[u8]) -> bool
+        requires held { HoldsOpen self.old (W.kinds world.old) }
+        requires goes { W.tells → WritersGo self.old.writers.items (W.state world.old) }
+        ensures held { HoldsOpen self.new (W.kinds world.new) }
+        ensures goes { W.tells → WritersGo self.new.writers.items (W.state world.new) }
+        ensures readers { self.new.readers ≡ self.old.readers }
+        ensures count { W.count world.new ≡ W.count world.old }
+        ensures answer { result ≡ is_writing name.now (names_of self.old.writers.items) }
+        ensures names { names_of self.new.writers.items ≡ without_writer name.now (names_of self.old.writers.items) }
+        ensures told { W.tells → readers_in self.new.readers.items (W.state world.new) ≡ readers_in self.old.readers.items (W.state world.old) }
+        ensures outside { W.tells → (W.state world.new).outside ≡ (W.state world.old).outside }
+        ensures others { OthersStay self.old self.new (W.kinds world.old) (W.kinds world.new) }
+        ensures places { W.tells → OthersKeep self.old (W.kinds world.old) (W.state world.old) (W.state world.new) }
+    {
+        match find_writer(self.writers.as_slice(), name) {
+            Some(at) => {
+                let closed = self.writers.remove(at);
+                world.close(closed.id);
+                true
+            }
+            None => false,
+        }
+    }
+
+    /// Closes a file, for reading and for writing, and says whether it was open (`close`). It takes no memory. What was read of it and no record
+    /// used is given up; the next call that names the file opens it anew.
+    pub fn close<W: World>(&mut self, world: &mut W, name: &[u8]) -> bool
+        requires held { HoldsOpen self.old (W.kinds world.old) }
+        requires goes { W.tells → WritersGo self.old.writers.items (W.state world.old) }
+        ensures held { HoldsOpen self.new (W.kinds world.new) }
+        ensures goes { W.tells → WritersGo self.new.writers.items (W.state world.new) }
+        ensures answer { result ≡ (is_writing name.now (reader_names self.old.readers.items) || is_writing name.now (names_of self.old.writers.items)) }
+        ensures reader_names { reader_names self.new.readers.items ≡ without_writer name.now (reader_names self.old.readers.items) }
+        ensures writer_names { names_of self.new.writers.items ≡ without_writer name.now (names_of self.old.writers.items) }
+        ensures count { W.count world.new ≡ W.count world.old }
+        ensures told { W.tells → (shared : Shared) → IsOf self.old (W.state world.old) shared → ClosesBy (close_row (Text name.now) shared.inner) result self.new (W.state world.new) }
+        ensures outside { W.tells → (W.state world.new).outside ≡ (W.state world.old).outside }
+        ensures others { OthersStay self.old self.new (W.kinds world.old) (W.kinds world.new) }
+        ensures places { W.tells → OthersKeep self.old (W.kinds world.old) (W.state world.old) (W.state world.new) }
+    {
+        let reading = self.close_reader(world, name);
+        let writing = self.close_writer(world, name);
+        reading || writing
+    }
+}

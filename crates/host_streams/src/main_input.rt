@@ -1,0 +1,411 @@
+//! The main input: the files that the operands name, or else the standard input (POSIX.1-2017 awk, "OPERANDS", "INPUT FILES").
+ghost use Rattle.std.specs.Prelude.{◌≡◌, ◌≢◌, ◌≤◌, ◌^◌, ℕ, List, [], None, Some, false, length, IfErr, IfOk, OnErr};
+ghost use Rattle.std.specs.List.{prefix_len};
+ghost use Rattle.world_core.specs.WorldState.{State};
+ghost use Rattle.world_core.specs.Calls.{Kind};
+ghost use Rattle.awk_values.specs.Values.{number_of_value};
+ghost use Rattle.awk_state.specs.Assignments.{assignment_of, continues_name};
+ghost use Rattle.awk_state.specs.InputRows.{follows, main_input, reader_of, taken};
+ghost use Rattle.awk_state.specs.Records.{record_separator};
+ghost use Rattle.awk_state.specs.SharedState.{Inner};
+ghost use Rattle.host_streams.specs.Mains.{AnswerIs, FileIsOpen, GivenIs, GoesOn, HoldsMain, IsApartFrom, IsAsked, IsOffered, NameLen, ReadsMain, SparesKinds, SparesPlaces, begins, has_operand, idle, is_equals, main_at_start, main_of, passed, reading_of, rest_of, with_main};
+
+use crate::reader::{FileNext, Reader};
+use crate::streams::first_byte;
+use awk_values::{Bytes, Fault, Stop, Value, to_number};
+use std::alloc::{AllocError, Global};
+use world_core::{World, WorldFault};
+
+/// The greatest number of an operand.
+const LAST: u32 = 1_048_576;
+
+/// The operands as they are now: the elements of ARGV, by their numbers.
+pub trait Operands {
+    /// The text of each element; an empty one where there is none.
+    ghost text: { Self → ℕ → List ℕ };
+
+    /// A copy of the text of an element, empty where there is none.
+    ///
+    /// # Errors
+    ///
+    /// There is no memory.
+    fn operand(&self, number: u32) -> Result<Bytes, AllocError>
+        ensures { IfOk result (λ copy. copy ≡ text self.now number) };
+}
+
+/// Whether an operand named a file so far, or the standard input follows the operands, of which none did.
+#[derive(Clone, Copy, Drop)]
+pub(crate) enum Found {
+    NoFile,
+    SomeFile,
+    NoneLeft,
+}
+
+/// What is read now.
+#[derive(Drop)]
+pub(crate) enum Reading {
+    Nothing,
+    Standard,
+    File(Reader),
+}
+
+/// What the main input gives.
+#[derive(Drop)]
+pub enum MainNext {
+    /// The text of the next record.
+    Record(Bytes),
+    /// An operand is an assignment: its name, and its text as it stands, escapes included. Who asked makes it, and asks again.
+    Assign(Bytes, Bytes),
+    /// An operand names a file, or the standard input, and it is open now; nothing of it is read yet. The name is empty where the standard input
+    /// follows the operands. Who asked sets FILENAME and FNR, and asks again.
+    Opened(Bytes),
+    /// There is none left, now or earlier.
+    End,
+}
+
+/// The main input.
+#[derive(Drop)]
+pub struct MainInput {
+    standard: Reader,
+    /// The number of the next operand.
+    next: u32,
+    found: Found,
+    reading: Reading,
+    ended: bool,
+    alloc: Global,
+}
+
+/// Whether a byte may stand in a name.
+fn continues_name(byte: u8) -> bool
+    ensures { result ≡ continues_name byte }
+{
+    byte.is_ascii_alphanumeric() || byte == b'_'
+}
+
+/// Whether bytes that may stand in a name are one.
+fn is_name(text: &[u8]) -> bool
+    ensures { result ≡ begins text.now }
+{
+    match text {
+        [first, ..] => first.is_ascii_alphabetic() || *first == b'_',
+        [] => false,
+    }
+}
+
+/// How many bytes at the front may stand in a name.
+fn name_bytes(text: &[u8]) -> usize
+    ensures value { result ≡ prefix_len continues_name text.now }
+    ensures within { result ≤ length text.now }
+{
+    text.iter().take_while(|b| continues_name(**b)).count()
+}
+
+/// Whether an equals sign stands at the front.
+fn is_equals(text: &[u8]) -> bool
+    ensures { result ≡ is_equals text.now }
+{
+    match text {
+        [first, ..] => *first == b'=',
+        [] => false,
+    }
+}
+
+/// How long the name is, where an operand is an assignment.
+fn name_len(text: &[u8]) -> Option<usize>
+    ensures { NameLen text.now result }
+{
+    let len = name_bytes(text);
+    if !is_equals(&text[len..]) {
+        return None;
+    }
+    if is_name(&text[..len]) {
+        Some(len)
+    } else {
+        None
+    }
+}
+
+/// Opens what an operand names, `-` being the standard input; nothing where it does not open.
+fn open_operand<W: World>(world: &mut W, alloc: Global, name: &[u8]) -> Result<Reading, Stop>
+    ensures held { IfOk result (λ r. FileIsOpen r (W.kinds world.new)) }
+    ensures told { W.tells → IfOk result (λ r. reader_of (W.state world.old).outside name.now ≡ reading_of r (W.state world.new)) }
+    ensures refused { W.tells → OnErr result (W.state world.new ≡ W.state world.old) }
+    ensures memory { IfErr result (λ stop. stop ≡ Stop.NoMemory) }
+    ensures standard { W.tells → (W.state world.new).readers 0 ≡ (W.state world.old).readers 0 }
+    ensures opened { IfOk result (λ r. SparesKinds Reading.Nothing r (W.kinds world.old) (W.kinds world.new)) }
+    ensures not_opened { OnErr result (W.kinds world.new ≡ W.kinds world.old) }
+    ensures places { W.tells → SparesPlaces Reading.Nothing (W.kinds world.old) (W.state world.old) (W.state world.new) }
+    ensures outside { W.tells → (W.state world.new).outside ≡ (W.state world.old).outside }
+{
+    if name == b"-".as_slice() {
+        return Ok(Reading::Standard);
+    }
+    match world.open_read(name) {
+        Ok(id) => Ok(Reading::File(Reader::new(alloc, id))),
+        Err(WorldFault::Failed) => Ok(Reading::Nothing),
+        Err(WorldFault::NoMemory) => Err(Stop::NoMemory),
+    }
+}
+
+/// Whether there may be an operand of this number.
+fn has_operand(number: u32, argc: &Value) -> Result<bool, Fault>
+    ensures { result ≡ has_operand number (number_of_value argc.now) }
+{
+    match to_number(argc) {
+        Ok(count) => Ok(number <= LAST && i64::from(number) < count),
+        Err(fault) => Err(fault),
+    }
+}
+
+impl MainInput {
+    /// The main input before anything is read. It takes no memory.
+    pub fn new(alloc: Global) -> MainInput
+        ensures held { (kinds : ℕ → Kind) → HoldsMain result kinds }
+        ensures begins { (state : State) → main_of result state ≡ main_at_start (state.readers 0) }
+    {
+        MainInput {
+            standard: Reader::new(alloc, 0),
+            next: 1,
+            found: Found::NoFile,
+            reading: Reading::Nothing,
+            ended: false,
+            alloc,
+        }
+    }
+
+    /// The next record of the reader at hand.
+    fn read<W: World>(&mut self, world: &mut W, rs: Option<u8>) -> Result<FileNext, Stop>
+        requires held { HoldsMain self.old (W.kinds world.old) }
+        requires busy { self.old.reading ≢ Reading.Nothing }
+        ensures held { HoldsMain self.new (W.kinds world.new) }
+        ensures kinds { W.kinds world.new ≡ W.kinds world.old }
+        ensures ended { self.new.ended ≡ self.old.ended }
+        ensures next { self.new.next ≡ self.old.next }
+        ensures busy { self.new.reading ≢ Reading.Nothing }
+        ensures told { W.tells → ReadsMain rs (main_of self.old (W.state world.old)) result (main_of self.new (W.state world.new)) }
+        ensures spares { SparesKinds self.old.reading self.new.reading (W.kinds world.old) (W.kinds world.new) }
+        ensures places { W.tells → SparesPlaces self.old.reading (W.kinds world.old) (W.state world.old) (W.state world.new) }
+        ensures outside { W.tells → (W.state world.new).outside ≡ (W.state world.old).outside }
+    {
+        match &mut self.reading {
+            Reading::Nothing => Ok(FileNext::End),
+            Reading::Standard => self.standard.next(self.alloc, world, rs),
+            Reading::File(reader) => reader.next(self.alloc, world, rs),
+        }
+    }
+
+    /// Closes the file that is read, if one is.
+    fn stop_reading<W: World>(&mut self, world: &mut W)
+        requires held { HoldsMain self.old (W.kinds world.old) }
+        ensures held { HoldsMain self.new (W.kinds world.new) }
+        ensures nothing { self.new.reading ≡ Reading.Nothing }
+        ensures ended { self.new.ended ≡ self.old.ended }
+        ensures next { self.new.next ≡ self.old.next }
+        ensures count { W.count world.new ≡ W.count world.old }
+        ensures told { W.tells → main_of self.new (W.state world.new) ≡ idle (main_of self.old (W.state world.old)) }
+        ensures spares { SparesKinds self.old.reading self.new.reading (W.kinds world.old) (W.kinds world.new) }
+        ensures places { W.tells → SparesPlaces self.old.reading (W.kinds world.old) (W.state world.old) (W.state world.new) }
+        ensures outside { W.tells → (W.state world.new).outside ≡ (W.state world.old).outside }
+    {
+        if let Reading::File(reader) = &self.reading {
+            world.close(reader.id);
+        }
+        self.reading = Reading::Nothing;
+    }
+
+    /// What the reader at hand gives; none at its end, where it is given up.
+    fn read_on<W: World>(&mut self, world: &mut W, rs: Option<u8>) -> Result<Option<MainNext>, Stop>
+        requires held { HoldsMain self.old (W.kinds world.old) }
+        requires busy { self.old.reading ≢ Reading.Nothing }
+        requires live { self.old.ended ≡ false }
+        ensures held { HoldsMain self.new (W.kinds world.new) }
+        ensures told { W.tells → (inner : Inner) → IsAsked rs inner → GivenIs (main_input (W.state world.old).outside (with_main (main_of self.old (W.state world.old)) inner)) result (W.state world.old).outside (with_main (main_of self.old (W.state world.old)) inner) (with_main (main_of self.new (W.state world.new)) inner) }
+        ensures goes_on { GoesOn result self.old self.new }
+        ensures spares { SparesKinds self.old.reading self.new.reading (W.kinds world.old) (W.kinds world.new) }
+        ensures places { W.tells → SparesPlaces self.old.reading (W.kinds world.old) (W.state world.old) (W.state world.new) }
+        ensures outside { W.tells → (W.state world.new).outside ≡ (W.state world.old).outside }
+    {
+        match self.read(world, rs) {
+            Ok(FileNext::Record(text)) => Ok(Some(MainNext::Record(text))),
+            Ok(FileNext::End) => {
+                self.stop_reading(world);
+                Ok(None)
+            }
+            Ok(FileNext::Failed) => Err(Stop::Fault(Fault::ReadFailed)),
+            Err(stop) => Err(stop),
+        }
+    }
+
+    /// After the operands the standard input follows, if none of them named a file.
+    fn follow(&mut self) -> Result<Option<MainNext>, Stop>
+        requires idle { self.old.reading ≡ Reading.Nothing }
+        requires live { self.old.ended ≡ false }
+        ensures standard { self.new.standard ≡ self.old.standard }
+        ensures held { (kinds : ℕ → Kind) → FileIsOpen self.new.reading kinds }
+        ensures apart { (k : ℕ) → IsApartFrom k self.new.reading }
+        ensures told { (state : State) (inner : Inner) → GivenIs (follows (main_of self.old state).operands (with_main (main_of self.old state) inner)) result state.outside (with_main (main_of self.old state) inner) (with_main (main_of self.new state) inner) }
+        ensures goes_on { GoesOn result self.old self.new }
+    {
+        if let Found::NoFile = self.found {
+            let name = Bytes::from_slice(self.alloc, &[])?;
+            self.found = Found::NoneLeft;
+            self.reading = Reading::Standard;
+            return Ok(Some(MainNext::Opened(name)));
+        }
+        self.ended = true;
+        Ok(Some(MainNext::End))
+    }
+
+    /// Opens what an operand names, and passes the operand.
+    fn open<W: World>(&mut self, world: &mut W, name: Bytes) -> Result<Option<MainNext>, Stop>
+        requires idle { self.old.reading ≡ Reading.Nothing }
+        requires live { self.old.ended ≡ false }
+        requires next { self.old.next ≤ 2 ^ 20 }
+        requires held { HoldsMain self.old (W.kinds world.old) }
+        requires plain { name ≢ [] }
+        requires file { assignment_of name ≡ None }
+        ensures held { HoldsMain self.new (W.kinds world.new) }
+        ensures told { W.tells → (inner : Inner) → GivenIs (taken (rest_of (passed (main_of self.old (W.state world.old))) (W.state world.old).outside) (W.state world.old).outside name (with_main (passed (main_of self.old (W.state world.old))) inner)) result (W.state world.old).outside (with_main (main_of self.old (W.state world.old)) inner) (with_main (main_of self.new (W.state world.new)) inner) }
+        ensures spares { SparesKinds self.old.reading self.new.reading (W.kinds world.old) (W.kinds world.new) }
+        ensures places { W.tells → SparesPlaces self.old.reading (W.kinds world.old) (W.state world.old) (W.state world.new) }
+        ensures outside { W.tells → (W.state world.new).outside ≡ (W.state world.old).outside }
+        ensures goes_on { GoesOn result self.old self.new }
+    {
+        let opened = open_operand(world, self.alloc, name.as_slice())?;
+        self.next += 1;
+        self.found = Found::SomeFile;
+        self.reading = opened;
+        if let Reading::Nothing = &self.reading {
+            return Err(Stop::Fault(Fault::OpenInput));
+        }
+        Ok(Some(MainNext::Opened(name)))
+    }
+
+    /// An operand that is an assignment is passed.
+    fn assign(&mut self, text: &[u8], len: usize) -> Result<Option<MainNext>, Stop>
+        requires name { NameLen text.now (Some len) }
+        requires next { self.old.next ≤ 2 ^ 20 }
+        ensures standard { self.new.standard ≡ self.old.standard }
+        ensures reading { self.new.reading ≡ self.old.reading }
+        ensures told { (state : State) (inner : Inner) → GivenIs (taken (rest_of (passed (main_of self.old state)) state.outside) state.outside text.now (with_main (passed (main_of self.old state)) inner)) result state.outside (with_main (main_of self.old state) inner) (with_main (main_of self.new state) inner) }
+        ensures goes_on { GoesOn result self.old self.new }
+    {
+        let name = Bytes::from_slice(self.alloc, &text[..len])?;
+        let value = Bytes::from_slice(self.alloc, &text[len + 1..])?;
+        self.next += 1;
+        Ok(Some(MainNext::Assign(name, value)))
+    }
+
+    /// Takes the operand at hand: an empty one is skipped.
+    fn take<W: World, O: Operands>(
+        &mut self,
+        world: &mut W,
+        operands: &O,
+    ) -> Result<Option<MainNext>, Stop>
+        requires idle { self.old.reading ≡ Reading.Nothing }
+        requires live { self.old.ended ≡ false }
+        requires next { self.old.next ≤ 2 ^ 20 }
+        requires left { self.old.found ≢ Found.NoneLeft }
+        requires held { HoldsMain self.old (W.kinds world.old) }
+        ensures held { HoldsMain self.new (W.kinds world.new) }
+        ensures told { W.tells → (inner : Inner) → GivenIs (taken (rest_of (passed (main_of self.old (W.state world.old))) (W.state world.old).outside) (W.state world.old).outside (O.text operands.now self.old.next) (with_main (passed (main_of self.old (W.state world.old))) inner)) result (W.state world.old).outside (with_main (main_of self.old (W.state world.old)) inner) (with_main (main_of self.new (W.state world.new)) inner) }
+        ensures goes_on { GoesOn result self.old self.new }
+        ensures spares { SparesKinds self.old.reading self.new.reading (W.kinds world.old) (W.kinds world.new) }
+        ensures places { W.tells → SparesPlaces self.old.reading (W.kinds world.old) (W.state world.old) (W.state world.new) }
+        ensures outside { W.tells → (W.state world.new).outside ≡ (W.state world.old).outside }
+    {
+        let text = operands.operand(self.next)?;
+        if text.as_slice().is_empty() {
+            self.next += 1;
+            return Ok(None);
+        }
+        match name_len(text.as_slice()) {
+            Some(len) => self.assign(text.as_slice(), len),
+            None => self.open(world, text),
+        }
+    }
+
+    /// Reaches the next operand, or what follows the operands.
+    fn reach<W: World, O: Operands>(
+        &mut self,
+        world: &mut W,
+        operands: &O,
+        argc: &Value,
+    ) -> Result<Option<MainNext>, Stop>
+        requires idle { self.old.reading ≡ Reading.Nothing }
+        requires live { self.old.ended ≡ false }
+        requires held { HoldsMain self.old (W.kinds world.old) }
+        ensures held { HoldsMain self.new (W.kinds world.new) }
+        ensures told { W.tells → (inner : Inner) → IsOffered argc.now (O.text operands.now) inner → GivenIs (main_input (W.state world.old).outside (with_main (main_of self.old (W.state world.old)) inner)) result (W.state world.old).outside (with_main (main_of self.old (W.state world.old)) inner) (with_main (main_of self.new (W.state world.new)) inner) }
+        ensures goes_on { GoesOn result self.old self.new }
+        ensures spares { SparesKinds self.old.reading self.new.reading (W.kinds world.old) (W.kinds world.new) }
+        ensures places { W.tells → SparesPlaces self.old.reading (W.kinds world.old) (W.state world.old) (W.state world.new) }
+        ensures outside { W.tells → (W.state world.new).outside ≡ (W.state world.old).outside }
+    {
+        if let Found::NoneLeft = self.found {
+            return self.follow();
+        }
+        match has_operand(self.next, argc) {
+            Ok(true) => self.take(world, operands),
+            Ok(false) => self.follow(),
+            Err(fault) => Err(Stop::Fault(fault)),
+        }
+    }
+
+    /// One step: the reader at hand, the next operand, or the end.
+    fn step<W: World, O: Operands>(
+        &mut self,
+        world: &mut W,
+        operands: &O,
+        argc: &Value,
+        rs: Option<u8>,
+    ) -> Result<Option<MainNext>, Stop>
+        requires held { HoldsMain self.old (W.kinds world.old) }
+        ensures held { HoldsMain self.new (W.kinds world.new) }
+        ensures told { W.tells → (inner : Inner) → IsAsked rs inner → IsOffered argc.now (O.text operands.now) inner → GivenIs (main_input (W.state world.old).outside (with_main (main_of self.old (W.state world.old)) inner)) result (W.state world.old).outside (with_main (main_of self.old (W.state world.old)) inner) (with_main (main_of self.new (W.state world.new)) inner) }
+        ensures goes_on { GoesOn result self.old self.new }
+        ensures spares { SparesKinds self.old.reading self.new.reading (W.kinds world.old) (W.kinds world.new) }
+        ensures places { W.tells → SparesPlaces self.old.reading (W.kinds world.old) (W.state world.old) (W.state world.new) }
+        ensures outside { W.tells → (W.state world.new).outside ≡ (W.state world.old).outside }
+    {
+        if self.ended {
+            return Ok(Some(MainNext::End));
+        }
+        if let Reading::Nothing = &self.reading {
+            return self.reach(world, operands, argc);
+        }
+        self.read_on(world, rs)
+    }
+
+    /// What the main input gives next. The first byte of `rs` ends a record; where `rs` is empty, empty lines do. Operands are taken when they are
+    /// reached, up to the number before `argc`'s and 1,048,576; empty ones are skipped. Once [`MainNext::End`] was told, it is told again.
+    ///
+    /// # Errors
+    ///
+    /// [`Fault::OpenInput`] where a file does not open; it is passed over. [`Fault::ReadFailed`] where a read fails, now or earlier; bytes after the
+    /// last separator are no record then. [`Fault::TextLimit`] where the newlines that are skipped and the record have more than 67,108,864 bytes.
+    /// The faults of the number of `argc`. [`Stop::NoMemory`]; no byte and no operand is lost.
+    pub fn next<W: World, O: Operands>(
+        &mut self,
+        world: &mut W,
+        operands: &O,
+        argc: &Value,
+        rs: &[u8],
+    ) -> Result<MainNext, Stop>
+        requires held { HoldsMain self.old (W.kinds world.old) }
+        ensures held { HoldsMain self.new (W.kinds world.new) }
+        ensures told { W.tells → (inner : Inner) → IsAsked (record_separator rs.now) inner → IsOffered argc.now (O.text operands.now) inner → AnswerIs (main_input (W.state world.old).outside (with_main (main_of self.old (W.state world.old)) inner)) result (W.state world.old).outside (with_main (main_of self.old (W.state world.old)) inner) (with_main (main_of self.new (W.state world.new)) inner) }
+        ensures spares { SparesKinds self.old.reading self.new.reading (W.kinds world.old) (W.kinds world.new) }
+        ensures places { W.tells → SparesPlaces self.old.reading (W.kinds world.old) (W.state world.old) (W.state world.new) }
+        ensures outside { W.tells → (W.state world.new).outside ≡ (W.state world.old).outside }
+    {
+        let separator = first_byte(rs);
+        'steps: loop {
+            match self.step(world, operands, argc, separator) {
+                Ok(Some(answer)) => return Ok(answer),
+                Ok(None) => {}
+                Err(stop) => return Err(stop),
+            }
+        }
+    }
+}

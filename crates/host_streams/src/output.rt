@@ -1,0 +1,157 @@
+//! Texts that go to the standard output and to files.
+ghost use Rattle.std.specs.Prelude.{◌≡◌, None, true, false, IfOk, OnErr, OnOk};
+ghost use Rattle.world_core.specs.WorldState.{Named};
+ghost use Rattle.world_core.specs.Calls.{Opens, Writing};
+ghost use Rattle.awk_state.specs.SharedState.{Shared};
+ghost use Rattle.awk_state.specs.OutputRows.{is_writing, opened_if, put_text, written_by};
+ghost use Rattle.host_streams.specs.OpenFiles.{HoldsOpen, OthersStay, WritersGo, names_of, writer_place};
+ghost use Rattle.host_streams.specs.Outputs.{IsOf, PutsIs, destination_of, name_of, writers_to, with_writer};
+ghost use Rattle.host_streams.specs.Puts.{OpensOr, PutCounts, PutsBy, Spares};
+
+use crate::put::put_open;
+use crate::streams::{NamedWriter, STREAMS, Streams};
+use awk_values::{Bytes, Fault, Stop};
+use world_core::{World, WorldFault};
+
+/// Where a text goes.
+#[derive(Clone, Copy, Drop)]
+pub enum Target<'a> {
+    /// The standard output.
+    Standard,
+    /// The file of this name, emptied where it is not open yet (`>`).
+    Emptied(&'a [u8]),
+    /// The file of this name, at its end where it is not open yet (`>>`).
+    Appended(&'a [u8]),
+}
+
+/// The place of the stream that writes to a name.
+pub(crate) fn find_writer(writers: &[NamedWriter], name: &[u8]) -> Option<usize>
+    ensures { result ≡ writer_place name.now writers.now }
+{
+    writers.iter().position(|w| w.name.as_slice() == name)
+}
+
+/// Opens a file for writing, and gives its stream.
+fn open_file<W: World>(world: &mut W, name: &[u8], append: bool) -> Result<u32, Stop>
+    ensures opened { IfOk result (λ id. Opens Writing id (W.kinds world.old) (W.kinds world.new)) }
+    ensures not_opened { OnErr result (W.kinds world.new ≡ W.kinds world.old) }
+    ensures count { PutCounts result (W.count world.old) (W.count world.new) }
+    ensures told { W.tells → OpensOr name.now append (W.state world.old) result (W.state world.new) }
+{
+    match world.open_write(name, append) {
+        Ok(id) => Ok(id),
+        Err(WorldFault::Failed) => Err(Stop::Fault(Fault::OpenOutput)),
+        Err(WorldFault::NoMemory) => Err(Stop::NoMemory),
+    }
+}
+
+/// Opens a file for writing and puts a text. The stream stays open if all of the text went out.
+fn put_new<W: World>(world: &mut W, name: &[u8], append: bool, text: &[u8]) -> Result<u32, Stop>
+    ensures opened { IfOk result (λ id. Opens Writing id (W.kinds world.old) (W.kinds world.new)) }
+    ensures closed { OnErr result (W.kinds world.new ≡ W.kinds world.old) }
+    ensures count { PutCounts result (W.count world.old) (W.count world.new) }
+    ensures goes { W.tells → IfOk result (λ id. (W.state world.new).writers id ≡ Named name.now) }
+    ensures spares { W.tells → Spares (W.kinds world.old) (W.state world.old) (W.state world.new) }
+    ensures told { W.tells → (shared : Shared) → shared.outside ≡ (W.state world.old).outside → PutsBy (opened_if true (shared.outside (Named name.now)).opens name.now append text.now shared) result (W.state world.old) (W.state world.new) }
+{
+    let id = open_file(world, name, append)?;
+    match put_open(world, id, text) {
+        Ok(()) => Ok(id),
+        Err(stop) => {
+            world.close(id);
+            Err(stop)
+        }
+    }
+}
+
+impl Streams {
+    /// Puts a text to a file that is not open for writing.
+    fn put_first<W: World>(
+        &mut self,
+        world: &mut W,
+        name: &[u8],
+        append: bool,
+        text: &[u8],
+    ) -> Result<(), Stop>
+        requires held { HoldsOpen self.old (W.kinds world.old) }
+        requires missing { writer_place name.now self.old.writers.items ≡ None }
+        requires goes { W.tells → WritersGo self.old.writers.items (W.state world.old) }
+        ensures held { HoldsOpen self.new (W.kinds world.new) }
+        ensures goes { W.tells → WritersGo self.new.writers.items (W.state world.new) }
+        ensures readers { self.new.readers ≡ self.old.readers }
+        ensures opened { OnOk result (names_of self.new.writers.items ≡ with_writer name.now (names_of self.old.writers.items)) }
+        ensures refused { OnErr result (self.new.writers.items ≡ self.old.writers.items) }
+        ensures count { PutCounts result (W.count world.old) (W.count world.new) }
+        ensures others { OthersStay self.old self.new (W.kinds world.old) (W.kinds world.new) }
+        ensures spares { W.tells → Spares (W.kinds world.old) (W.state world.old) (W.state world.new) }
+        ensures told { W.tells → (shared : Shared) → IsOf self.old (W.state world.old) shared → PutsBy (written_by false name.now append text.now shared) result (W.state world.old) (W.state world.new) }
+    {
+        if self.readers.as_slice().len() + self.writers.as_slice().len() >= STREAMS {
+            return Err(Stop::Fault(Fault::TooManyStreams));
+        }
+        let own = Bytes::from_slice(self.alloc, name)?;
+        self.writers.reserve(1)?;
+        let id = put_new(world, name, append, text)?;
+        self.writers.push_reserved(NamedWriter { name: own, id });
+        Ok(())
+    }
+
+    /// Puts a text to a file, which is opened for writing unless it is open.
+    fn put_file<W: World>(
+        &mut self,
+        world: &mut W,
+        name: &[u8],
+        append: bool,
+        text: &[u8],
+    ) -> Result<(), Stop>
+        requires held { HoldsOpen self.old (W.kinds world.old) }
+        requires goes { W.tells → WritersGo self.old.writers.items (W.state world.old) }
+        ensures held { HoldsOpen self.new (W.kinds world.new) }
+        ensures goes { W.tells → WritersGo self.new.writers.items (W.state world.new) }
+        ensures readers { self.new.readers ≡ self.old.readers }
+        ensures opened { OnOk result (names_of self.new.writers.items ≡ with_writer name.now (names_of self.old.writers.items)) }
+        ensures refused { OnErr result (self.new.writers.items ≡ self.old.writers.items) }
+        ensures count { PutCounts result (W.count world.old) (W.count world.new) }
+        ensures others { OthersStay self.old self.new (W.kinds world.old) (W.kinds world.new) }
+        ensures spares { W.tells → Spares (W.kinds world.old) (W.state world.old) (W.state world.new) }
+        ensures told { W.tells → (shared : Shared) → IsOf self.old (W.state world.old) shared → PutsBy (written_by (is_writing name.now shared.inner.writers) name.now append text.now shared) result (W.state world.old) (W.state world.new) }
+    {
+        match find_writer(self.writers.as_slice(), name) {
+            Some(at) => put_open(world, self.writers[at].id, text),
+            None => self.put_first(world, name, append, text),
+        }
+    }
+
+    /// Puts a text to the standard output or to a file, which is opened unless it is open for writing (`print`, `print > file`, `print >> file`).
+    /// It goes out at once. A file that was opened stays open, whatever it was opened for, if all of the text went out.
+    ///
+    /// # Errors
+    ///
+    /// [`Fault::TooManyStreams`] where the file is not open for writing and 256 streams are open; nothing is opened then.
+    /// [`Fault::OpenOutput`] where it does not open. [`Fault::WriteFailed`] where not all of the text fits; what fits has gone out.
+    /// [`Stop::NoMemory`]; the first bytes of what fits may have gone out.
+    pub fn put_text<W: World>(
+        &mut self,
+        world: &mut W,
+        target: Target<'_>,
+        text: &[u8],
+    ) -> Result<(), Stop>
+        requires held { HoldsOpen self.old (W.kinds world.old) }
+        requires goes { W.tells → WritersGo self.old.writers.items (W.state world.old) }
+        ensures held { HoldsOpen self.new (W.kinds world.new) }
+        ensures goes { W.tells → WritersGo self.new.writers.items (W.state world.new) }
+        ensures readers { self.new.readers ≡ self.old.readers }
+        ensures opened { OnOk result (names_of self.new.writers.items ≡ writers_to target.entry (names_of self.old.writers.items)) }
+        ensures refused { OnErr result (self.new.writers.items ≡ self.old.writers.items) }
+        ensures count { PutCounts result (W.count world.old) (W.count world.new) }
+        ensures others { OthersStay self.old self.new (W.kinds world.old) (W.kinds world.new) }
+        ensures spares { W.tells → Spares (W.kinds world.old) (W.state world.old) (W.state world.new) }
+        ensures told { W.tells → (shared : Shared) → IsOf self.old (W.state world.old) shared → PutsIs (put_text (destination_of target.entry) (name_of target.entry) text.now shared) result (W.state world.old) (W.state world.new) (names_of self.old.writers.items) (names_of self.new.writers.items) }
+    {
+        match target {
+            Target::Standard => put_open(world, 1, text),
+            Target::Emptied(name) => self.put_file(world, name, false, text),
+            Target::Appended(name) => self.put_file(world, name, true, text),
+        }
+    }
+}

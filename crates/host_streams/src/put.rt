@@ -1,0 +1,41 @@
+//! Texts that go to an open stream.
+ghost use Rattle.std.specs.Prelude.{◌≡◌};
+ghost use Rattle.world_core.specs.WorldState.{Target};
+ghost use Rattle.world_core.specs.Calls.{Writing, next_count};
+ghost use Rattle.awk_state.specs.SharedState.{Shared};
+ghost use Rattle.awk_state.specs.OutputRows.{written};
+ghost use Rattle.host_streams.specs.Puts.{PutCounts, PutsBy, PutsText};
+
+use awk_values::{Fault, Stop};
+use world_core::{World, WorldFault};
+
+/// Writes a whole text to a stream that is open for writing.
+fn write_all<W: World>(world: &mut W, id: u32, text: &[u8]) -> Result<(), WorldFault>
+    requires { W.kinds world.old id ≡ Writing }
+    ensures kinds { W.kinds world.new ≡ W.kinds world.old }
+    ensures count { W.count world.new ≡ next_count result (W.count world.old) }
+    ensures told { W.tells → PutsText id text.now (W.state world.old) result (W.state world.new) }
+{
+    let mut at = 0;
+    while at < text.len() {
+        let n = world.write(id, &text[at..])?;
+        at += n;
+    }
+    Ok(())
+}
+
+/// Puts a text to a stream that is open for writing: what fits goes out, and it is a fault that not all does.
+pub(crate) fn put_open<W: World>(world: &mut W, id: u32, text: &[u8]) -> Result<(), Stop>
+    requires { W.kinds world.old id ≡ Writing }
+    ensures kinds { W.kinds world.new ≡ W.kinds world.old }
+    ensures count { PutCounts result (W.count world.old) (W.count world.new) }
+    ensures told { W.tells → (shared : Shared) → shared.outside ≡ (W.state world.old).outside → PutsBy (written ((W.state world.old).writers id) text.now shared) result (W.state world.old) (W.state world.new) }
+    ensures readers { W.tells → (W.state world.new).readers ≡ (W.state world.old).readers }
+    ensures writers { W.tells → (W.state world.new).writers ≡ (W.state world.old).writers }
+{
+    match write_all(world, id, text) {
+        Ok(()) => Ok(()),
+        Err(WorldFault::Failed) => Err(Stop::Fault(Fault::WriteFailed)),
+        Err(WorldFault::NoMemory) => Err(Stop::NoMemory),
+    }
+}
