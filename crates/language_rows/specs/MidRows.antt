@@ -12,14 +12,15 @@ use Rattle.world_core.specs.declared.world.Ending.{Ending}
 use Rattle.world_core.specs.declared.world.Ending.TheVariants.{End, Fails}
 use Rattle.awk_state.specs.Jobs.{JobForm}
 use Rattle.mid_code.specs.ScriptState.{spend_all}
-use Rattle.mid_code.specs.Kinds.{resolved, uses, all_uses, given, stmt_uses, stmts_uses}
+use Rattle.awk_resolve.specs.Kinds.{special_arrays, special_scalars}
+use Rattle.mid_code.specs.Kinds.{resolved}
 use Rattle.mid_code.specs.Meaning.{asked}
 use Rattle.mid_code.specs.Statements.{loop, over_keys}
 use Rattle.mid_code.specs.ScriptRun.{first_assigned, records_done, Ended, FaultedBy, GoesOn, setting_of}
 use Rattle.mid_code.specs.Sorted.{sorted, all_sorted, step_sorted, steps_sorted, is_sorted}
 use Rattle.mid_code.specs.MidMeaning.{evaluated, all_evaluated, stepped, all_stepped, mid_called, mid_run_in}
 use Rattle.mid_code.specs.Texts.{texts_in, all_texts, stmt_texts, stmts_texts}
-use Rattle.mid_code.specs.Translation.{code_of, codes_of, key_code, at_place, argument_codes, truncated_code, applied_code, step_code, steps_code, program_of}
+use Rattle.mid_code.specs.Translation.{code_of, codes_of, key_code, kept_code, argument_codes, truncated_code, applied_code, step_code, steps_code, program_of}
 use Rattle.language_rows.specs.Scripts as scripts
 
 abbrev no_job : JobForm
@@ -47,812 +48,812 @@ without_opening name outside = replaced (Named name) (record { bytes = Some []; 
 
 -- function f() { x = 5; return 1 } BEGIN { x = 1; print x + f(), x; x = 1; print x f() x; x = 1; x += f(); print x }
 pub name_read_when_met : mid_run_in (program_of (resolved scripts.name_read_when_met)) (setting_of no_job no_input empty) 40 ≡ Ended 0 (puts Standard (codes "2 5\n115\n6\n"))
-unfolding uses all_uses given stmt_uses stmts_uses spend_all asked loop over_keys first_assigned records_done evaluated all_evaluated stepped all_stepped mid_called texts_in all_texts stmt_texts stmts_texts code_of codes_of key_code at_place argument_codes truncated_code applied_code step_code steps_code numeral_at sign_at fraction_at exponent_at numerator denominator digits unescaped escaped octal keywords builtins left_out_words table sign_of
+unfolding special_arrays special_scalars spend_all asked loop over_keys first_assigned records_done evaluated all_evaluated stepped all_stepped mid_called texts_in all_texts stmt_texts stmts_texts code_of codes_of key_code kept_code argument_codes truncated_code applied_code step_code steps_code numeral_at sign_at fraction_at exponent_at numerator denominator digits unescaped escaped octal keywords builtins left_out_words table sign_of
 name_read_when_met = refl
 
 -- { print $1, (getline), $1, NF, NR }
 pub getline_among_operands : mid_run_in (program_of (resolved scripts.getline_among_operands)) (setting_of no_job (record { rest = (codes "a b\nc\n"); ending = End }) empty) 40 ≡ Ended 0 (puts Standard (codes "a 1 c 1 2\n"))
-unfolding uses all_uses given stmt_uses stmts_uses spend_all asked loop over_keys first_assigned records_done evaluated all_evaluated stepped all_stepped mid_called texts_in all_texts stmt_texts stmts_texts code_of codes_of key_code at_place argument_codes truncated_code applied_code step_code steps_code numeral_at sign_at fraction_at exponent_at numerator denominator digits unescaped escaped octal keywords builtins left_out_words table sign_of
+unfolding special_arrays special_scalars spend_all asked loop over_keys first_assigned records_done evaluated all_evaluated stepped all_stepped mid_called texts_in all_texts stmt_texts stmts_texts code_of codes_of key_code kept_code argument_codes truncated_code applied_code step_code steps_code numeral_at sign_at fraction_at exponent_at numerator denominator digits unescaped escaped octal keywords builtins left_out_words table sign_of
 getline_among_operands = refl
 
 -- BEGIN { print (NF = "02"), NF, ($0 = 5) + 1, $1, NF }
 pub value_of_special_assignment : mid_run_in (program_of (resolved scripts.value_of_special_assignment)) (setting_of no_job no_input empty) 40 ≡ Ended 0 (puts Standard (codes "02 2 6 5 1\n"))
-unfolding uses all_uses given stmt_uses stmts_uses spend_all asked loop over_keys first_assigned records_done evaluated all_evaluated stepped all_stepped mid_called texts_in all_texts stmt_texts stmts_texts code_of codes_of key_code at_place argument_codes truncated_code applied_code step_code steps_code numeral_at sign_at fraction_at exponent_at numerator denominator digits unescaped escaped octal keywords builtins left_out_words table sign_of
+unfolding special_arrays special_scalars spend_all asked loop over_keys first_assigned records_done evaluated all_evaluated stepped all_stepped mid_called texts_in all_texts stmt_texts stmts_texts code_of codes_of key_code kept_code argument_codes truncated_code applied_code step_code steps_code numeral_at sign_at fraction_at exponent_at numerator denominator digits unescaped escaped octal keywords builtins left_out_words table sign_of
 value_of_special_assignment = refl
 
 -- BEGIN { a[3]; a["x"]; $0 = "p q"; for (NF in a) print NF, $0 "." }
 pub count_as_key : mid_run_in (program_of (resolved scripts.count_as_key)) (setting_of no_job no_input empty) 40 ≡ Ended 0 (puts Standard (codes "3 p q .\n0 .\n"))
-unfolding uses all_uses given stmt_uses stmts_uses spend_all asked loop over_keys first_assigned records_done evaluated all_evaluated stepped all_stepped mid_called texts_in all_texts stmt_texts stmts_texts code_of codes_of key_code at_place argument_codes truncated_code applied_code step_code steps_code numeral_at sign_at fraction_at exponent_at numerator denominator digits unescaped escaped octal keywords builtins left_out_words table sign_of
+unfolding special_arrays special_scalars spend_all asked loop over_keys first_assigned records_done evaluated all_evaluated stepped all_stepped mid_called texts_in all_texts stmt_texts stmts_texts code_of codes_of key_code kept_code argument_codes truncated_code applied_code step_code steps_code numeral_at sign_at fraction_at exponent_at numerator denominator digits unescaped escaped octal keywords builtins left_out_words table sign_of
 count_as_key = refl
 
 -- BEGIN { a["-1"]; for (NF in a) print "no" }
 pub key_below_zero_as_count : mid_run_in (program_of (resolved scripts.key_below_zero_as_count)) (setting_of no_job no_input empty) 40 ≡ FaultedBy FieldNumber []
-unfolding uses all_uses given stmt_uses stmts_uses spend_all asked loop over_keys first_assigned records_done evaluated all_evaluated stepped all_stepped mid_called texts_in all_texts stmt_texts stmts_texts code_of codes_of key_code at_place argument_codes truncated_code applied_code step_code steps_code numeral_at sign_at fraction_at exponent_at numerator denominator digits unescaped escaped octal keywords builtins left_out_words table sign_of
+unfolding special_arrays special_scalars spend_all asked loop over_keys first_assigned records_done evaluated all_evaluated stepped all_stepped mid_called texts_in all_texts stmt_texts stmts_texts code_of codes_of key_code kept_code argument_codes truncated_code applied_code step_code steps_code numeral_at sign_at fraction_at exponent_at numerator denominator digits unescaped escaped octal keywords builtins left_out_words table sign_of
 key_below_zero_as_count = refl
 
 -- BEGIN { x = 2; x ^= x += 1; print x; a["i"] -= a["j"]--; for (k in a) print k a[k]; $2 *= 4; $3 %= NF; print NF $0 }
 pub operators_with_assignment : mid_run_in (program_of (resolved scripts.operators_with_assignment)) (setting_of no_job no_input empty) 40 ≡ Ended 0 (puts Standard (codes "27\nj-1\ni0\n3 0 0\n"))
-unfolding uses all_uses given stmt_uses stmts_uses spend_all asked loop over_keys first_assigned records_done evaluated all_evaluated stepped all_stepped mid_called texts_in all_texts stmt_texts stmts_texts code_of codes_of key_code at_place argument_codes truncated_code applied_code step_code steps_code numeral_at sign_at fraction_at exponent_at numerator denominator digits unescaped escaped octal keywords builtins left_out_words table sign_of
+unfolding special_arrays special_scalars spend_all asked loop over_keys first_assigned records_done evaluated all_evaluated stepped all_stepped mid_called texts_in all_texts stmt_texts stmts_texts code_of codes_of key_code kept_code argument_codes truncated_code applied_code step_code steps_code numeral_at sign_at fraction_at exponent_at numerator denominator digits unescaped escaped octal keywords builtins left_out_words table sign_of
 operators_with_assignment = refl
 
 -- BEGIN { i = 2; $0 = "1 5 c"; print $i++, $2, i, ++$i, $0, $(i++) = i, $0, i }
 pub steps_in_fields : mid_run_in (program_of (resolved scripts.steps_in_fields)) (setting_of no_job no_input empty) 40 ≡ Ended 0 (puts Standard (codes "5 6 2 7 1 7 c 3 1 3 c 3\n"))
-unfolding uses all_uses given stmt_uses stmts_uses spend_all asked loop over_keys first_assigned records_done evaluated all_evaluated stepped all_stepped mid_called texts_in all_texts stmt_texts stmts_texts code_of codes_of key_code at_place argument_codes truncated_code applied_code step_code steps_code numeral_at sign_at fraction_at exponent_at numerator denominator digits unescaped escaped octal keywords builtins left_out_words table sign_of
+unfolding special_arrays special_scalars spend_all asked loop over_keys first_assigned records_done evaluated all_evaluated stepped all_stepped mid_called texts_in all_texts stmt_texts stmts_texts code_of codes_of key_code kept_code argument_codes truncated_code applied_code step_code steps_code numeral_at sign_at fraction_at exponent_at numerator denominator digits unescaped escaped octal keywords builtins left_out_words table sign_of
 steps_in_fields = refl
 
 -- BEGIN { print (NR = "4") (NR += 1) NR++ NR }
 pub special_steps : mid_run_in (program_of (resolved scripts.special_steps)) (setting_of no_job no_input empty) 40 ≡ Ended 0 (puts Standard (codes "4556\n"))
-unfolding uses all_uses given stmt_uses stmts_uses spend_all asked loop over_keys first_assigned records_done evaluated all_evaluated stepped all_stepped mid_called texts_in all_texts stmt_texts stmts_texts code_of codes_of key_code at_place argument_codes truncated_code applied_code step_code steps_code numeral_at sign_at fraction_at exponent_at numerator denominator digits unescaped escaped octal keywords builtins left_out_words table sign_of
+unfolding special_arrays special_scalars spend_all asked loop over_keys first_assigned records_done evaluated all_evaluated stepped all_stepped mid_called texts_in all_texts stmt_texts stmts_texts code_of codes_of key_code kept_code argument_codes truncated_code applied_code step_code steps_code numeral_at sign_at fraction_at exponent_at numerator denominator digits unescaped escaped octal keywords builtins left_out_words table sign_of
 special_steps = refl
 
 -- BEGIN { while ((getline a[n++]) > 0) ; print n, a[0], (1 in a), (2 in a) }
 pub read_into_elements : mid_run_in (program_of (resolved scripts.read_into_elements)) (setting_of no_job (record { rest = (codes "l\nm\n"); ending = End }) empty) 40 ≡ Ended 0 (puts Standard (codes "3 l 1 0\n"))
-unfolding uses all_uses given stmt_uses stmts_uses spend_all asked loop over_keys first_assigned records_done evaluated all_evaluated stepped all_stepped mid_called texts_in all_texts stmt_texts stmts_texts code_of codes_of key_code at_place argument_codes truncated_code applied_code step_code steps_code numeral_at sign_at fraction_at exponent_at numerator denominator digits unescaped escaped octal keywords builtins left_out_words table sign_of
+unfolding special_arrays special_scalars spend_all asked loop over_keys first_assigned records_done evaluated all_evaluated stepped all_stepped mid_called texts_in all_texts stmt_texts stmts_texts code_of codes_of key_code kept_code argument_codes truncated_code applied_code step_code steps_code numeral_at sign_at fraction_at exponent_at numerator denominator digits unescaped escaped octal keywords builtins left_out_words table sign_of
 read_into_elements = refl
 
 -- BEGIN { while ((getline $2 < "f") > 0) print NF, $0 }
 pub read_into_field : mid_run_in (program_of (resolved scripts.read_into_field)) (setting_of no_job no_input (with_file (codes "f") (codes "p q\nr\n") End empty)) 40 ≡ Ended 0 (puts Standard (codes "2  p q\n2  r\n"))
-unfolding uses all_uses given stmt_uses stmts_uses spend_all asked loop over_keys first_assigned records_done evaluated all_evaluated stepped all_stepped mid_called texts_in all_texts stmt_texts stmts_texts code_of codes_of key_code at_place argument_codes truncated_code applied_code step_code steps_code numeral_at sign_at fraction_at exponent_at numerator denominator digits unescaped escaped octal keywords builtins left_out_words table sign_of
+unfolding special_arrays special_scalars spend_all asked loop over_keys first_assigned records_done evaluated all_evaluated stepped all_stepped mid_called texts_in all_texts stmt_texts stmts_texts code_of codes_of key_code kept_code argument_codes truncated_code applied_code step_code steps_code numeral_at sign_at fraction_at exponent_at numerator denominator digits unescaped escaped octal keywords builtins left_out_words table sign_of
 read_into_field = refl
 
 -- BEGIN { while ((getline x) > 0) print x, v, NR; print v }
 pub assignments_among_reads : mid_run_in (program_of (resolved scripts.assignments_among_reads)) (setting_of (record { operands = ((codes "v=1") ∷ (codes "f") ∷ (codes "v=2") ∷ (codes "g") ∷ (codes "v=3") ∷ []); assigns = []; environment = [] }) no_input (with_file (codes "g") (codes "s\n") End (with_file (codes "f") (codes "p q\nr\n") End empty))) 40 ≡ Ended 0 (puts Standard (codes "p q 1 1\nr 1 2\ns 2 3\n3\n"))
-unfolding uses all_uses given stmt_uses stmts_uses spend_all asked loop over_keys first_assigned records_done evaluated all_evaluated stepped all_stepped mid_called texts_in all_texts stmt_texts stmts_texts code_of codes_of key_code at_place argument_codes truncated_code applied_code step_code steps_code numeral_at sign_at fraction_at exponent_at numerator denominator digits unescaped escaped octal keywords builtins left_out_words table sign_of
+unfolding special_arrays special_scalars spend_all asked loop over_keys first_assigned records_done evaluated all_evaluated stepped all_stepped mid_called texts_in all_texts stmt_texts stmts_texts code_of codes_of key_code kept_code argument_codes truncated_code applied_code step_code steps_code numeral_at sign_at fraction_at exponent_at numerator denominator digits unescaped escaped octal keywords builtins left_out_words table sign_of
 assignments_among_reads = refl
 
 -- function f(v) { getline; return v } BEGIN { print f(4), v, $0 }
 pub assignment_in_a_call : mid_run_in (program_of (resolved scripts.assignment_in_a_call)) (setting_of (record { operands = ((codes "v=1") ∷ (codes "f") ∷ []); assigns = []; environment = [] }) no_input (with_file (codes "f") (codes "p q\nr\n") End empty)) 40 ≡ Ended 0 (puts Standard (codes "4 1 p q\n"))
-unfolding uses all_uses given stmt_uses stmts_uses spend_all asked loop over_keys first_assigned records_done evaluated all_evaluated stepped all_stepped mid_called texts_in all_texts stmt_texts stmts_texts code_of codes_of key_code at_place argument_codes truncated_code applied_code step_code steps_code numeral_at sign_at fraction_at exponent_at numerator denominator digits unescaped escaped octal keywords builtins left_out_words table sign_of
+unfolding special_arrays special_scalars spend_all asked loop over_keys first_assigned records_done evaluated all_evaluated stepped all_stepped mid_called texts_in all_texts stmt_texts stmts_texts code_of codes_of key_code kept_code argument_codes truncated_code applied_code step_code steps_code numeral_at sign_at fraction_at exponent_at numerator denominator digits unescaped escaped octal keywords builtins left_out_words table sign_of
 assignment_in_a_call = refl
 
 -- BEGIN { $0 = "aa b"; n = gsub(/a/, "&x"); print n, $0, $1, NF; print gsub("q", ""), $0 }
 pub all_replaced_in_record : mid_run_in (program_of (resolved scripts.all_replaced_in_record)) (setting_of no_job no_input empty) 40 ≡ Ended 0 (puts Standard (codes "2 axax b axax 2\n0 axax b\n"))
-unfolding uses all_uses given stmt_uses stmts_uses spend_all asked loop over_keys first_assigned records_done evaluated all_evaluated stepped all_stepped mid_called texts_in all_texts stmt_texts stmts_texts code_of codes_of key_code at_place argument_codes truncated_code applied_code step_code steps_code numeral_at sign_at fraction_at exponent_at numerator denominator digits unescaped escaped octal keywords builtins left_out_words table sign_of
+unfolding special_arrays special_scalars spend_all asked loop over_keys first_assigned records_done evaluated all_evaluated stepped all_stepped mid_called texts_in all_texts stmt_texts stmts_texts code_of codes_of key_code kept_code argument_codes truncated_code applied_code step_code steps_code numeral_at sign_at fraction_at exponent_at numerator denominator digits unescaped escaped octal keywords builtins left_out_words table sign_of
 all_replaced_in_record = refl
 
 -- function g(q) { q[1] = 7 } function f(p) { g(p) } function h(u) { return 3 } BEGIN { f(t); print t[1], h(t), h(), h(w) }
 pub arrays_through_calls : mid_run_in (program_of (resolved scripts.arrays_through_calls)) (setting_of no_job no_input empty) 40 ≡ Ended 0 (puts Standard (codes "7 3 3 3\n"))
-unfolding uses all_uses given stmt_uses stmts_uses spend_all asked loop over_keys first_assigned records_done evaluated all_evaluated stepped all_stepped mid_called texts_in all_texts stmt_texts stmts_texts code_of codes_of key_code at_place argument_codes truncated_code applied_code step_code steps_code numeral_at sign_at fraction_at exponent_at numerator denominator digits unescaped escaped octal keywords builtins left_out_words table sign_of
+unfolding special_arrays special_scalars spend_all asked loop over_keys first_assigned records_done evaluated all_evaluated stepped all_stepped mid_called texts_in all_texts stmt_texts stmts_texts code_of codes_of key_code kept_code argument_codes truncated_code applied_code step_code steps_code numeral_at sign_at fraction_at exponent_at numerator denominator digits unescaped escaped octal keywords builtins left_out_words table sign_of
 arrays_through_calls = refl
 
 -- function r(n, a) { a[n]; if (n) r(n - 1); for (k in a) c = c k } BEGIN { r(2); print c }
 pub fresh_array_handed_on : mid_run_in (program_of (resolved scripts.fresh_array_handed_on)) (setting_of no_job no_input empty) 40 ≡ Ended 0 (puts Standard (codes "012\n"))
-unfolding uses all_uses given stmt_uses stmts_uses spend_all asked loop over_keys first_assigned records_done evaluated all_evaluated stepped all_stepped mid_called texts_in all_texts stmt_texts stmts_texts code_of codes_of key_code at_place argument_codes truncated_code applied_code step_code steps_code numeral_at sign_at fraction_at exponent_at numerator denominator digits unescaped escaped octal keywords builtins left_out_words table sign_of
+unfolding special_arrays special_scalars spend_all asked loop over_keys first_assigned records_done evaluated all_evaluated stepped all_stepped mid_called texts_in all_texts stmt_texts stmts_texts code_of codes_of key_code kept_code argument_codes truncated_code applied_code step_code steps_code numeral_at sign_at fraction_at exponent_at numerator denominator digits unescaped escaped octal keywords builtins left_out_words table sign_of
 fresh_array_handed_on = refl
 
 -- function n() { next } /a/, n() { print } /b/ { print "B" }
 pub next_in_a_pattern : mid_run_in (program_of (resolved scripts.next_in_a_pattern)) (setting_of no_job (record { rest = (codes "a\nb\n"); ending = End }) empty) 40 ≡ Ended 0 []
-unfolding uses all_uses given stmt_uses stmts_uses spend_all asked loop over_keys first_assigned records_done evaluated all_evaluated stepped all_stepped mid_called texts_in all_texts stmt_texts stmts_texts code_of codes_of key_code at_place argument_codes truncated_code applied_code step_code steps_code numeral_at sign_at fraction_at exponent_at numerator denominator digits unescaped escaped octal keywords builtins left_out_words table sign_of
+unfolding special_arrays special_scalars spend_all asked loop over_keys first_assigned records_done evaluated all_evaluated stepped all_stepped mid_called texts_in all_texts stmt_texts stmts_texts code_of codes_of key_code kept_code argument_codes truncated_code applied_code step_code steps_code numeral_at sign_at fraction_at exponent_at numerator denominator digits unescaped escaped octal keywords builtins left_out_words table sign_of
 next_in_a_pattern = refl
 
 -- function f() { next } { print } END { f() }
 pub next_in_end : mid_run_in (program_of (resolved scripts.next_in_end)) (setting_of no_job (record { rest = (codes "a\n"); ending = End }) empty) 40 ≡ FaultedBy NextOutside (puts Standard (codes "a\n"))
-unfolding uses all_uses given stmt_uses stmts_uses spend_all asked loop over_keys first_assigned records_done evaluated all_evaluated stepped all_stepped mid_called texts_in all_texts stmt_texts stmts_texts code_of codes_of key_code at_place argument_codes truncated_code applied_code step_code steps_code numeral_at sign_at fraction_at exponent_at numerator denominator digits unescaped escaped octal keywords builtins left_out_words table sign_of
+unfolding special_arrays special_scalars spend_all asked loop over_keys first_assigned records_done evaluated all_evaluated stepped all_stepped mid_called texts_in all_texts stmt_texts stmts_texts code_of codes_of key_code kept_code argument_codes truncated_code applied_code step_code steps_code numeral_at sign_at fraction_at exponent_at numerator denominator digits unescaped escaped octal keywords builtins left_out_words table sign_of
 next_in_end = refl
 
 -- function f() { exit -257 } { print "x" f() } END { print "e"; exit; print "no" }
 pub status_below_zero : mid_run_in (program_of (resolved scripts.status_below_zero)) (setting_of no_job (record { rest = (codes "a\n"); ending = End }) empty) 40 ≡ Ended 255 (puts Standard (codes "e\n"))
-unfolding uses all_uses given stmt_uses stmts_uses spend_all asked loop over_keys first_assigned records_done evaluated all_evaluated stepped all_stepped mid_called texts_in all_texts stmt_texts stmts_texts code_of codes_of key_code at_place argument_codes truncated_code applied_code step_code steps_code numeral_at sign_at fraction_at exponent_at numerator denominator digits unescaped escaped octal keywords builtins left_out_words table sign_of
+unfolding special_arrays special_scalars spend_all asked loop over_keys first_assigned records_done evaluated all_evaluated stepped all_stepped mid_called texts_in all_texts stmt_texts stmts_texts code_of codes_of key_code kept_code argument_codes truncated_code applied_code step_code steps_code numeral_at sign_at fraction_at exponent_at numerator denominator digits unescaped escaped octal keywords builtins left_out_words table sign_of
 status_below_zero = refl
 
 -- BEGIN { exit 5 } { print "no" } END { print NR; exit "3x" + 300 }
 pub exit_before_records : mid_run_in (program_of (resolved scripts.exit_before_records)) (setting_of no_job (record { rest = (codes "a\n"); ending = End }) empty) 40 ≡ Ended 47 (puts Standard (codes "0\n"))
-unfolding uses all_uses given stmt_uses stmts_uses spend_all asked loop over_keys first_assigned records_done evaluated all_evaluated stepped all_stepped mid_called texts_in all_texts stmt_texts stmts_texts code_of codes_of key_code at_place argument_codes truncated_code applied_code step_code steps_code numeral_at sign_at fraction_at exponent_at numerator denominator digits unescaped escaped octal keywords builtins left_out_words table sign_of
+unfolding special_arrays special_scalars spend_all asked loop over_keys first_assigned records_done evaluated all_evaluated stepped all_stepped mid_called texts_in all_texts stmt_texts stmts_texts code_of codes_of key_code kept_code argument_codes truncated_code applied_code step_code steps_code numeral_at sign_at fraction_at exponent_at numerator denominator digits unescaped escaped octal keywords builtins left_out_words table sign_of
 exit_before_records = refl
 
 -- BEGIN { exit "0.5" } END { print "no" }
 pub exit_with_fraction : mid_run_in (program_of (resolved scripts.exit_with_fraction)) (setting_of no_job no_input empty) 40 ≡ FaultedBy Fraction []
-unfolding uses all_uses given stmt_uses stmts_uses spend_all asked loop over_keys first_assigned records_done evaluated all_evaluated stepped all_stepped mid_called texts_in all_texts stmt_texts stmts_texts code_of codes_of key_code at_place argument_codes truncated_code applied_code step_code steps_code numeral_at sign_at fraction_at exponent_at numerator denominator digits unescaped escaped octal keywords builtins left_out_words table sign_of
+unfolding special_arrays special_scalars spend_all asked loop over_keys first_assigned records_done evaluated all_evaluated stepped all_stepped mid_called texts_in all_texts stmt_texts stmts_texts code_of codes_of key_code kept_code argument_codes truncated_code applied_code step_code steps_code numeral_at sign_at fraction_at exponent_at numerator denominator digits unescaped escaped octal keywords builtins left_out_words table sign_of
 exit_with_fraction = refl
 
 -- function f() { printf "f"; return 1 } BEGIN { print substr("x", "0.5", f()) }
 pub arguments_before_conversion : mid_run_in (program_of (resolved scripts.arguments_before_conversion)) (setting_of no_job no_input empty) 40 ≡ FaultedBy Fraction (puts Standard (codes "f"))
-unfolding uses all_uses given stmt_uses stmts_uses spend_all asked loop over_keys first_assigned records_done evaluated all_evaluated stepped all_stepped mid_called texts_in all_texts stmt_texts stmts_texts code_of codes_of key_code at_place argument_codes truncated_code applied_code step_code steps_code numeral_at sign_at fraction_at exponent_at numerator denominator digits unescaped escaped octal keywords builtins left_out_words table sign_of
+unfolding special_arrays special_scalars spend_all asked loop over_keys first_assigned records_done evaluated all_evaluated stepped all_stepped mid_called texts_in all_texts stmt_texts stmts_texts code_of codes_of key_code kept_code argument_codes truncated_code applied_code step_code steps_code numeral_at sign_at fraction_at exponent_at numerator denominator digits unescaped escaped octal keywords builtins left_out_words table sign_of
 arguments_before_conversion = refl
 
 -- function f() { printf "f"; return 1 } BEGIN { print -"0.5" + f() }
 pub sign_converts_at_once : mid_run_in (program_of (resolved scripts.sign_converts_at_once)) (setting_of no_job no_input empty) 40 ≡ FaultedBy Fraction []
-unfolding uses all_uses given stmt_uses stmts_uses spend_all asked loop over_keys first_assigned records_done evaluated all_evaluated stepped all_stepped mid_called texts_in all_texts stmt_texts stmts_texts code_of codes_of key_code at_place argument_codes truncated_code applied_code step_code steps_code numeral_at sign_at fraction_at exponent_at numerator denominator digits unescaped escaped octal keywords builtins left_out_words table sign_of
+unfolding special_arrays special_scalars spend_all asked loop over_keys first_assigned records_done evaluated all_evaluated stepped all_stepped mid_called texts_in all_texts stmt_texts stmts_texts code_of codes_of key_code kept_code argument_codes truncated_code applied_code step_code steps_code numeral_at sign_at fraction_at exponent_at numerator denominator digits unescaped escaped octal keywords builtins left_out_words table sign_of
 sign_converts_at_once = refl
 
 -- BEGIN { printf "%q", 1 > "f" }
 pub format_before_file : mid_run_in (program_of (resolved scripts.format_before_file)) (setting_of no_job no_input empty) 40 ≡ FaultedBy Format []
-unfolding uses all_uses given stmt_uses stmts_uses spend_all asked loop over_keys first_assigned records_done evaluated all_evaluated stepped all_stepped mid_called texts_in all_texts stmt_texts stmts_texts code_of codes_of key_code at_place argument_codes truncated_code applied_code step_code steps_code numeral_at sign_at fraction_at exponent_at numerator denominator digits unescaped escaped octal keywords builtins left_out_words table sign_of
+unfolding special_arrays special_scalars spend_all asked loop over_keys first_assigned records_done evaluated all_evaluated stepped all_stepped mid_called texts_in all_texts stmt_texts stmts_texts code_of codes_of key_code kept_code argument_codes truncated_code applied_code step_code steps_code numeral_at sign_at fraction_at exponent_at numerator denominator digits unescaped escaped octal keywords builtins left_out_words table sign_of
 format_before_file = refl
 
 -- BEGIN { print int((7/2)), -"3x", !"0" }
 pub truncated_quotient : mid_run_in (program_of (resolved scripts.truncated_quotient)) (setting_of no_job no_input empty) 40 ≡ Ended 0 (puts Standard (codes "3 -3 0\n"))
-unfolding uses all_uses given stmt_uses stmts_uses spend_all asked loop over_keys first_assigned records_done evaluated all_evaluated stepped all_stepped mid_called texts_in all_texts stmt_texts stmts_texts code_of codes_of key_code at_place argument_codes truncated_code applied_code step_code steps_code numeral_at sign_at fraction_at exponent_at numerator denominator digits unescaped escaped octal keywords builtins left_out_words table sign_of
+unfolding special_arrays special_scalars spend_all asked loop over_keys first_assigned records_done evaluated all_evaluated stepped all_stepped mid_called texts_in all_texts stmt_texts stmts_texts code_of codes_of key_code kept_code argument_codes truncated_code applied_code step_code steps_code numeral_at sign_at fraction_at exponent_at numerator denominator digits unescaped escaped octal keywords builtins left_out_words table sign_of
 truncated_quotient = refl
 
 -- BEGIN { print int(-(7/2)) }
 pub quotient_under_a_sign : mid_run_in (program_of (resolved scripts.quotient_under_a_sign)) (setting_of no_job no_input empty) 40 ≡ FaultedBy Inexact []
-unfolding uses all_uses given stmt_uses stmts_uses spend_all asked loop over_keys first_assigned records_done evaluated all_evaluated stepped all_stepped mid_called texts_in all_texts stmt_texts stmts_texts code_of codes_of key_code at_place argument_codes truncated_code applied_code step_code steps_code numeral_at sign_at fraction_at exponent_at numerator denominator digits unescaped escaped octal keywords builtins left_out_words table sign_of
+unfolding special_arrays special_scalars spend_all asked loop over_keys first_assigned records_done evaluated all_evaluated stepped all_stepped mid_called texts_in all_texts stmt_texts stmts_texts code_of codes_of key_code kept_code argument_codes truncated_code applied_code step_code steps_code numeral_at sign_at fraction_at exponent_at numerator denominator digits unescaped escaped octal keywords builtins left_out_words table sign_of
 quotient_under_a_sign = refl
 
 -- BEGIN { if (!(getline x < "no")) print "zero"; else print "true" }
 pub read_as_a_test : mid_run_in (program_of (resolved scripts.read_as_a_test)) (setting_of no_job no_input empty) 40 ≡ Ended 0 (puts Standard (codes "true\n"))
-unfolding uses all_uses given stmt_uses stmts_uses spend_all asked loop over_keys first_assigned records_done evaluated all_evaluated stepped all_stepped mid_called texts_in all_texts stmt_texts stmts_texts code_of codes_of key_code at_place argument_codes truncated_code applied_code step_code steps_code numeral_at sign_at fraction_at exponent_at numerator denominator digits unescaped escaped octal keywords builtins left_out_words table sign_of
+unfolding special_arrays special_scalars spend_all asked loop over_keys first_assigned records_done evaluated all_evaluated stepped all_stepped mid_called texts_in all_texts stmt_texts stmts_texts code_of codes_of key_code kept_code argument_codes truncated_code applied_code step_code steps_code numeral_at sign_at fraction_at exponent_at numerator denominator digits unescaped escaped octal keywords builtins left_out_words table sign_of
 read_as_a_test = refl
 
 -- BEGIN { do print "x"; while (0) }
 pub do_without_turns : mid_run_in (program_of (resolved scripts.do_without_turns)) (setting_of no_job no_input empty) 0 ≡ GoesOn (puts Standard (codes "x\n"))
-unfolding uses all_uses given stmt_uses stmts_uses spend_all asked loop over_keys first_assigned records_done evaluated all_evaluated stepped all_stepped mid_called texts_in all_texts stmt_texts stmts_texts code_of codes_of key_code at_place argument_codes truncated_code applied_code step_code steps_code numeral_at sign_at fraction_at exponent_at numerator denominator digits unescaped escaped octal keywords builtins left_out_words table sign_of
+unfolding special_arrays special_scalars spend_all asked loop over_keys first_assigned records_done evaluated all_evaluated stepped all_stepped mid_called texts_in all_texts stmt_texts stmts_texts code_of codes_of key_code kept_code argument_codes truncated_code applied_code step_code steps_code numeral_at sign_at fraction_at exponent_at numerator denominator digits unescaped escaped octal keywords builtins left_out_words table sign_of
 do_without_turns = refl
 
 -- function f() { } BEGIN { f(); print "x" }
 pub call_without_turns : mid_run_in (program_of (resolved scripts.call_without_turns)) (setting_of no_job no_input empty) 0 ≡ GoesOn []
-unfolding uses all_uses given stmt_uses stmts_uses spend_all asked loop over_keys first_assigned records_done evaluated all_evaluated stepped all_stepped mid_called texts_in all_texts stmt_texts stmts_texts code_of codes_of key_code at_place argument_codes truncated_code applied_code step_code steps_code numeral_at sign_at fraction_at exponent_at numerator denominator digits unescaped escaped octal keywords builtins left_out_words table sign_of
+unfolding special_arrays special_scalars spend_all asked loop over_keys first_assigned records_done evaluated all_evaluated stepped all_stepped mid_called texts_in all_texts stmt_texts stmts_texts code_of codes_of key_code kept_code argument_codes truncated_code applied_code step_code steps_code numeral_at sign_at fraction_at exponent_at numerator denominator digits unescaped escaped octal keywords builtins left_out_words table sign_of
 call_without_turns = refl
 
 -- BEGIN { a["p"]; a["q"]; for (k in a) print k }
 pub keys_and_turns : mid_run_in (program_of (resolved scripts.keys_and_turns)) (setting_of no_job no_input empty) 1 ≡ GoesOn (puts Standard (codes "p\n"))
-unfolding uses all_uses given stmt_uses stmts_uses spend_all asked loop over_keys first_assigned records_done evaluated all_evaluated stepped all_stepped mid_called texts_in all_texts stmt_texts stmts_texts code_of codes_of key_code at_place argument_codes truncated_code applied_code step_code steps_code numeral_at sign_at fraction_at exponent_at numerator denominator digits unescaped escaped octal keywords builtins left_out_words table sign_of
+unfolding special_arrays special_scalars spend_all asked loop over_keys first_assigned records_done evaluated all_evaluated stepped all_stepped mid_called texts_in all_texts stmt_texts stmts_texts code_of codes_of key_code kept_code argument_codes truncated_code applied_code step_code steps_code numeral_at sign_at fraction_at exponent_at numerator denominator digits unescaped escaped octal keywords builtins left_out_words table sign_of
 keys_and_turns = refl
 
 -- { print } END { print "e" }
 pub records_and_turns : mid_run_in (program_of (resolved scripts.records_and_turns)) (setting_of no_job (record { rest = (codes "a\nb\n"); ending = End }) empty) 1 ≡ GoesOn (puts Standard (codes "a\n"))
-unfolding uses all_uses given stmt_uses stmts_uses spend_all asked loop over_keys first_assigned records_done evaluated all_evaluated stepped all_stepped mid_called texts_in all_texts stmt_texts stmts_texts code_of codes_of key_code at_place argument_codes truncated_code applied_code step_code steps_code numeral_at sign_at fraction_at exponent_at numerator denominator digits unescaped escaped octal keywords builtins left_out_words table sign_of
+unfolding special_arrays special_scalars spend_all asked loop over_keys first_assigned records_done evaluated all_evaluated stepped all_stepped mid_called texts_in all_texts stmt_texts stmts_texts code_of codes_of key_code kept_code argument_codes truncated_code applied_code step_code steps_code numeral_at sign_at fraction_at exponent_at numerator denominator digits unescaped escaped octal keywords builtins left_out_words table sign_of
 records_and_turns = refl
 
 -- { print } END { print "e" }
 pub turn_for_each_record : mid_run_in (program_of (resolved scripts.turn_for_each_record)) (setting_of no_job (record { rest = (codes "a\nb\n"); ending = End }) empty) 2 ≡ Ended 0 (puts Standard (codes "a\nb\ne\n"))
-unfolding uses all_uses given stmt_uses stmts_uses spend_all asked loop over_keys first_assigned records_done evaluated all_evaluated stepped all_stepped mid_called texts_in all_texts stmt_texts stmts_texts code_of codes_of key_code at_place argument_codes truncated_code applied_code step_code steps_code numeral_at sign_at fraction_at exponent_at numerator denominator digits unescaped escaped octal keywords builtins left_out_words table sign_of
+unfolding special_arrays special_scalars spend_all asked loop over_keys first_assigned records_done evaluated all_evaluated stepped all_stepped mid_called texts_in all_texts stmt_texts stmts_texts code_of codes_of key_code kept_code argument_codes truncated_code applied_code step_code steps_code numeral_at sign_at fraction_at exponent_at numerator denominator digits unescaped escaped octal keywords builtins left_out_words table sign_of
 turn_for_each_record = refl
 
 -- BEGIN { print v }
 pub assignment_without_turns : mid_run_in (program_of (resolved scripts.assignment_without_turns)) (setting_of (record { operands = []; assigns = (((codes "v"), (codes "1")) ∷ []); environment = [] }) no_input empty) 0 ≡ GoesOn []
-unfolding uses all_uses given stmt_uses stmts_uses spend_all asked loop over_keys first_assigned records_done evaluated all_evaluated stepped all_stepped mid_called texts_in all_texts stmt_texts stmts_texts code_of codes_of key_code at_place argument_codes truncated_code applied_code step_code steps_code numeral_at sign_at fraction_at exponent_at numerator denominator digits unescaped escaped octal keywords builtins left_out_words table sign_of
+unfolding special_arrays special_scalars spend_all asked loop over_keys first_assigned records_done evaluated all_evaluated stepped all_stepped mid_called texts_in all_texts stmt_texts stmts_texts code_of codes_of key_code kept_code argument_codes truncated_code applied_code step_code steps_code numeral_at sign_at fraction_at exponent_at numerator denominator digits unescaped escaped octal keywords builtins left_out_words table sign_of
 assignment_without_turns = refl
 
 -- BEGIN { print "x" }
 pub special_assigned_without_turns : mid_run_in (program_of (resolved scripts.special_assigned_without_turns)) (setting_of (record { operands = []; assigns = (((codes "FS"), (codes ":")) ∷ []); environment = [] }) no_input empty) 0 ≡ GoesOn []
-unfolding uses all_uses given stmt_uses stmts_uses spend_all asked loop over_keys first_assigned records_done evaluated all_evaluated stepped all_stepped mid_called texts_in all_texts stmt_texts stmts_texts code_of codes_of key_code at_place argument_codes truncated_code applied_code step_code steps_code numeral_at sign_at fraction_at exponent_at numerator denominator digits unescaped escaped octal keywords builtins left_out_words table sign_of
+unfolding special_arrays special_scalars spend_all asked loop over_keys first_assigned records_done evaluated all_evaluated stepped all_stepped mid_called texts_in all_texts stmt_texts stmts_texts code_of codes_of key_code kept_code argument_codes truncated_code applied_code step_code steps_code numeral_at sign_at fraction_at exponent_at numerator denominator digits unescaped escaped octal keywords builtins left_out_words table sign_of
 special_assigned_without_turns = refl
 
 -- BEGIN { print "x" }
 pub unused_name_without_turns : mid_run_in (program_of (resolved scripts.unused_name_without_turns)) (setting_of (record { operands = []; assigns = (((codes "w"), (codes "1")) ∷ []); environment = [] }) no_input empty) 0 ≡ GoesOn []
-unfolding uses all_uses given stmt_uses stmts_uses spend_all asked loop over_keys first_assigned records_done evaluated all_evaluated stepped all_stepped mid_called texts_in all_texts stmt_texts stmts_texts code_of codes_of key_code at_place argument_codes truncated_code applied_code step_code steps_code numeral_at sign_at fraction_at exponent_at numerator denominator digits unescaped escaped octal keywords builtins left_out_words table sign_of
+unfolding special_arrays special_scalars spend_all asked loop over_keys first_assigned records_done evaluated all_evaluated stepped all_stepped mid_called texts_in all_texts stmt_texts stmts_texts code_of codes_of key_code kept_code argument_codes truncated_code applied_code step_code steps_code numeral_at sign_at fraction_at exponent_at numerator denominator digits unescaped escaped octal keywords builtins left_out_words table sign_of
 unused_name_without_turns = refl
 
 -- BEGIN { print v FS OFS "x" }
 pub turn_for_each_assignment : mid_run_in (program_of (resolved scripts.turn_for_each_assignment)) (setting_of (record { operands = []; assigns = (((codes "FS"), (codes ":")) ∷ ((codes "w"), (codes "1")) ∷ ((codes "v"), (codes "1")) ∷ ((codes "OFS"), (codes ":")) ∷ []); environment = [] }) no_input empty) 4 ≡ Ended 0 (puts Standard (codes "1::x\n"))
-unfolding uses all_uses given stmt_uses stmts_uses spend_all asked loop over_keys first_assigned records_done evaluated all_evaluated stepped all_stepped mid_called texts_in all_texts stmt_texts stmts_texts code_of codes_of key_code at_place argument_codes truncated_code applied_code step_code steps_code numeral_at sign_at fraction_at exponent_at numerator denominator digits unescaped escaped octal keywords builtins left_out_words table sign_of
+unfolding special_arrays special_scalars spend_all asked loop over_keys first_assigned records_done evaluated all_evaluated stepped all_stepped mid_called texts_in all_texts stmt_texts stmts_texts code_of codes_of key_code kept_code argument_codes truncated_code applied_code step_code steps_code numeral_at sign_at fraction_at exponent_at numerator denominator digits unescaped escaped octal keywords builtins left_out_words table sign_of
 turn_for_each_assignment = refl
 
 -- BEGIN { print v FS OFS "x" }
 pub too_few_turns_for_assignments : mid_run_in (program_of (resolved scripts.too_few_turns_for_assignments)) (setting_of (record { operands = []; assigns = (((codes "FS"), (codes ":")) ∷ ((codes "w"), (codes "1")) ∷ ((codes "v"), (codes "1")) ∷ ((codes "OFS"), (codes ":")) ∷ []); environment = [] }) no_input empty) 3 ≡ GoesOn []
-unfolding uses all_uses given stmt_uses stmts_uses spend_all asked loop over_keys first_assigned records_done evaluated all_evaluated stepped all_stepped mid_called texts_in all_texts stmt_texts stmts_texts code_of codes_of key_code at_place argument_codes truncated_code applied_code step_code steps_code numeral_at sign_at fraction_at exponent_at numerator denominator digits unescaped escaped octal keywords builtins left_out_words table sign_of
+unfolding special_arrays special_scalars spend_all asked loop over_keys first_assigned records_done evaluated all_evaluated stepped all_stepped mid_called texts_in all_texts stmt_texts stmts_texts code_of codes_of key_code kept_code argument_codes truncated_code applied_code step_code steps_code numeral_at sign_at fraction_at exponent_at numerator denominator digits unescaped escaped octal keywords builtins left_out_words table sign_of
 too_few_turns_for_assignments = refl
 
 -- BEGIN { print "x" }
 pub bad_assignment_not_reached : mid_run_in (program_of (resolved scripts.bad_assignment_not_reached)) (setting_of (record { operands = []; assigns = (((codes "w"), (codes "1")) ∷ ((codes "sin"), (codes "1")) ∷ []); environment = [] }) no_input empty) 1 ≡ GoesOn []
-unfolding uses all_uses given stmt_uses stmts_uses spend_all asked loop over_keys first_assigned records_done evaluated all_evaluated stepped all_stepped mid_called texts_in all_texts stmt_texts stmts_texts code_of codes_of key_code at_place argument_codes truncated_code applied_code step_code steps_code numeral_at sign_at fraction_at exponent_at numerator denominator digits unescaped escaped octal keywords builtins left_out_words table sign_of
+unfolding special_arrays special_scalars spend_all asked loop over_keys first_assigned records_done evaluated all_evaluated stepped all_stepped mid_called texts_in all_texts stmt_texts stmts_texts code_of codes_of key_code kept_code argument_codes truncated_code applied_code step_code steps_code numeral_at sign_at fraction_at exponent_at numerator denominator digits unescaped escaped octal keywords builtins left_out_words table sign_of
 bad_assignment_not_reached = refl
 
 -- BEGIN { print "x" }
 pub bad_assignment_reached : mid_run_in (program_of (resolved scripts.bad_assignment_reached)) (setting_of (record { operands = []; assigns = (((codes "w"), (codes "1")) ∷ ((codes "sin"), (codes "1")) ∷ []); environment = [] }) no_input empty) 2 ≡ FaultedBy BadAssignment []
-unfolding uses all_uses given stmt_uses stmts_uses spend_all asked loop over_keys first_assigned records_done evaluated all_evaluated stepped all_stepped mid_called texts_in all_texts stmt_texts stmts_texts code_of codes_of key_code at_place argument_codes truncated_code applied_code step_code steps_code numeral_at sign_at fraction_at exponent_at numerator denominator digits unescaped escaped octal keywords builtins left_out_words table sign_of
+unfolding special_arrays special_scalars spend_all asked loop over_keys first_assigned records_done evaluated all_evaluated stepped all_stepped mid_called texts_in all_texts stmt_texts stmts_texts code_of codes_of key_code kept_code argument_codes truncated_code applied_code step_code steps_code numeral_at sign_at fraction_at exponent_at numerator denominator digits unescaped escaped octal keywords builtins left_out_words table sign_of
 bad_assignment_reached = refl
 
 -- BEGIN { print "b" } { print "x" }
 pub operand_without_turns : mid_run_in (program_of (resolved scripts.operand_without_turns)) (setting_of (record { operands = ((codes "FS=q") ∷ (codes "f") ∷ []); assigns = []; environment = [] }) no_input (with_file (codes "f") (codes "p q\nr\n") End empty)) 0 ≡ GoesOn (puts Standard (codes "b\n"))
-unfolding uses all_uses given stmt_uses stmts_uses spend_all asked loop over_keys first_assigned records_done evaluated all_evaluated stepped all_stepped mid_called texts_in all_texts stmt_texts stmts_texts code_of codes_of key_code at_place argument_codes truncated_code applied_code step_code steps_code numeral_at sign_at fraction_at exponent_at numerator denominator digits unescaped escaped octal keywords builtins left_out_words table sign_of
+unfolding special_arrays special_scalars spend_all asked loop over_keys first_assigned records_done evaluated all_evaluated stepped all_stepped mid_called texts_in all_texts stmt_texts stmts_texts code_of codes_of key_code kept_code argument_codes truncated_code applied_code step_code steps_code numeral_at sign_at fraction_at exponent_at numerator denominator digits unescaped escaped octal keywords builtins left_out_words table sign_of
 operand_without_turns = refl
 
 -- { print $1 }
 pub turns_of_operands : mid_run_in (program_of (resolved scripts.turns_of_operands)) (setting_of (record { operands = ((codes "FS=:") ∷ (codes "w=1") ∷ (codes "f") ∷ []); assigns = []; environment = [] }) no_input (with_file (codes "f") (codes "p q\nr\n") End empty)) 3 ≡ GoesOn (puts Standard (codes "p q\n"))
-unfolding uses all_uses given stmt_uses stmts_uses spend_all asked loop over_keys first_assigned records_done evaluated all_evaluated stepped all_stepped mid_called texts_in all_texts stmt_texts stmts_texts code_of codes_of key_code at_place argument_codes truncated_code applied_code step_code steps_code numeral_at sign_at fraction_at exponent_at numerator denominator digits unescaped escaped octal keywords builtins left_out_words table sign_of
+unfolding special_arrays special_scalars spend_all asked loop over_keys first_assigned records_done evaluated all_evaluated stepped all_stepped mid_called texts_in all_texts stmt_texts stmts_texts code_of codes_of key_code kept_code argument_codes truncated_code applied_code step_code steps_code numeral_at sign_at fraction_at exponent_at numerator denominator digits unescaped escaped octal keywords builtins left_out_words table sign_of
 turns_of_operands = refl
 
 -- BEGIN { getline; print $1; getline; print $1 }
 pub turns_of_getline : mid_run_in (program_of (resolved scripts.turns_of_getline)) (setting_of (record { operands = ((codes "FS=:") ∷ (codes "w=1") ∷ (codes "f") ∷ (codes "RS=:") ∷ (codes "g") ∷ []); assigns = []; environment = [] }) no_input (with_file (codes "g") (codes "r\n") End (with_file (codes "f") (codes "p q\n") End empty))) 2 ≡ GoesOn (puts Standard (codes "p q\n"))
-unfolding uses all_uses given stmt_uses stmts_uses spend_all asked loop over_keys first_assigned records_done evaluated all_evaluated stepped all_stepped mid_called texts_in all_texts stmt_texts stmts_texts code_of codes_of key_code at_place argument_codes truncated_code applied_code step_code steps_code numeral_at sign_at fraction_at exponent_at numerator denominator digits unescaped escaped octal keywords builtins left_out_words table sign_of
+unfolding special_arrays special_scalars spend_all asked loop over_keys first_assigned records_done evaluated all_evaluated stepped all_stepped mid_called texts_in all_texts stmt_texts stmts_texts code_of codes_of key_code kept_code argument_codes truncated_code applied_code step_code steps_code numeral_at sign_at fraction_at exponent_at numerator denominator digits unescaped escaped octal keywords builtins left_out_words table sign_of
 turns_of_getline = refl
 
 -- NR==1{ARGC="1.5"}{print}
 pub argc_read_at_the_end : mid_run_in (program_of (resolved scripts.argc_read_at_the_end)) (setting_of no_job (record { rest = (codes "a\nb\n"); ending = End }) empty) 40 ≡ Ended 0 (puts Standard (codes "a\nb\n"))
-unfolding uses all_uses given stmt_uses stmts_uses spend_all asked loop over_keys first_assigned records_done evaluated all_evaluated stepped all_stepped mid_called texts_in all_texts stmt_texts stmts_texts code_of codes_of key_code at_place argument_codes truncated_code applied_code step_code steps_code numeral_at sign_at fraction_at exponent_at numerator denominator digits unescaped escaped octal keywords builtins left_out_words table sign_of
+unfolding special_arrays special_scalars spend_all asked loop over_keys first_assigned records_done evaluated all_evaluated stepped all_stepped mid_called texts_in all_texts stmt_texts stmts_texts code_of codes_of key_code kept_code argument_codes truncated_code applied_code step_code steps_code numeral_at sign_at fraction_at exponent_at numerator denominator digits unescaped escaped octal keywords builtins left_out_words table sign_of
 argc_read_at_the_end = refl
 
 -- NR==1{ARGC="1.5"}{print}
 pub argc_read_after_a_file : mid_run_in (program_of (resolved scripts.argc_read_after_a_file)) (setting_of (record { operands = ((codes "f") ∷ []); assigns = []; environment = [] }) no_input (with_file (codes "f") (codes "a\nb\n") End empty)) 40 ≡ FaultedBy Fraction (puts Standard (codes "a\nb\n"))
-unfolding uses all_uses given stmt_uses stmts_uses spend_all asked loop over_keys first_assigned records_done evaluated all_evaluated stepped all_stepped mid_called texts_in all_texts stmt_texts stmts_texts code_of codes_of key_code at_place argument_codes truncated_code applied_code step_code steps_code numeral_at sign_at fraction_at exponent_at numerator denominator digits unescaped escaped octal keywords builtins left_out_words table sign_of
+unfolding special_arrays special_scalars spend_all asked loop over_keys first_assigned records_done evaluated all_evaluated stepped all_stepped mid_called texts_in all_texts stmt_texts stmts_texts code_of codes_of key_code kept_code argument_codes truncated_code applied_code step_code steps_code numeral_at sign_at fraction_at exponent_at numerator denominator digits unescaped escaped octal keywords builtins left_out_words table sign_of
 argc_read_after_a_file = refl
 
 -- {print}
 pub argc_hides_an_operand : mid_run_in (program_of (resolved scripts.argc_hides_an_operand)) (setting_of (record { operands = ((codes "ARGC=2") ∷ (codes "f") ∷ []); assigns = []; environment = [] }) (record { rest = (codes "s"); ending = End }) (with_file (codes "f") (codes "a\n") End empty)) 40 ≡ Ended 0 (puts Standard (codes "s\n"))
-unfolding uses all_uses given stmt_uses stmts_uses spend_all asked loop over_keys first_assigned records_done evaluated all_evaluated stepped all_stepped mid_called texts_in all_texts stmt_texts stmts_texts code_of codes_of key_code at_place argument_codes truncated_code applied_code step_code steps_code numeral_at sign_at fraction_at exponent_at numerator denominator digits unescaped escaped octal keywords builtins left_out_words table sign_of
+unfolding special_arrays special_scalars spend_all asked loop over_keys first_assigned records_done evaluated all_evaluated stepped all_stepped mid_called texts_in all_texts stmt_texts stmts_texts code_of codes_of key_code kept_code argument_codes truncated_code applied_code step_code steps_code numeral_at sign_at fraction_at exponent_at numerator denominator digits unescaped escaped octal keywords builtins left_out_words table sign_of
 argc_hides_an_operand = refl
 
 -- {print FILENAME,$0}
 pub argc_from_an_operand : mid_run_in (program_of (resolved scripts.argc_from_an_operand)) (setting_of (record { operands = ((codes "f") ∷ (codes "ARGC=3") ∷ (codes "g") ∷ []); assigns = []; environment = [] }) no_input (with_file (codes "g") (codes "b\n") End (with_file (codes "f") (codes "a\n") End empty))) 40 ≡ Ended 0 (puts Standard (codes "f a\n"))
-unfolding uses all_uses given stmt_uses stmts_uses spend_all asked loop over_keys first_assigned records_done evaluated all_evaluated stepped all_stepped mid_called texts_in all_texts stmt_texts stmts_texts code_of codes_of key_code at_place argument_codes truncated_code applied_code step_code steps_code numeral_at sign_at fraction_at exponent_at numerator denominator digits unescaped escaped octal keywords builtins left_out_words table sign_of
+unfolding special_arrays special_scalars spend_all asked loop over_keys first_assigned records_done evaluated all_evaluated stepped all_stepped mid_called texts_in all_texts stmt_texts stmts_texts code_of codes_of key_code kept_code argument_codes truncated_code applied_code step_code steps_code numeral_at sign_at fraction_at exponent_at numerator denominator digits unescaped escaped octal keywords builtins left_out_words table sign_of
 argc_from_an_operand = refl
 
 -- {print FILENAME "," FNR "," NR} END{print FILENAME,FNR,NR}
 pub names_and_counts : mid_run_in (program_of (resolved scripts.names_and_counts)) (setting_of (record { operands = ((codes "e") ∷ (codes "f") ∷ (codes "-") ∷ []); assigns = []; environment = [] }) (record { rest = (codes "s\n"); ending = End }) (with_file (codes "f") (codes "p\nq\n") End (with_file (codes "e") [] End empty))) 40 ≡ Ended 0 (puts Standard (codes "f,1,1\nf,2,2\n-,1,3\n- 1 3\n"))
-unfolding uses all_uses given stmt_uses stmts_uses spend_all asked loop over_keys first_assigned records_done evaluated all_evaluated stepped all_stepped mid_called texts_in all_texts stmt_texts stmts_texts code_of codes_of key_code at_place argument_codes truncated_code applied_code step_code steps_code numeral_at sign_at fraction_at exponent_at numerator denominator digits unescaped escaped octal keywords builtins left_out_words table sign_of
+unfolding special_arrays special_scalars spend_all asked loop over_keys first_assigned records_done evaluated all_evaluated stepped all_stepped mid_called texts_in all_texts stmt_texts stmts_texts code_of codes_of key_code kept_code argument_codes truncated_code applied_code step_code steps_code numeral_at sign_at fraction_at exponent_at numerator denominator digits unescaped escaped octal keywords builtins left_out_words table sign_of
 names_and_counts = refl
 
 -- BEGIN{print (getline),(getline x),x,(getline),NR}
 pub absent_file_passed_over : mid_run_in (program_of (resolved scripts.absent_file_passed_over)) (setting_of (record { operands = ((codes "h") ∷ (codes "f") ∷ []); assigns = []; environment = [] }) no_input (with_file (codes "f") (codes "c\n") End empty)) 40 ≡ Ended 0 (puts Standard (codes "-1 1 c 0 1\n"))
-unfolding uses all_uses given stmt_uses stmts_uses spend_all asked loop over_keys first_assigned records_done evaluated all_evaluated stepped all_stepped mid_called texts_in all_texts stmt_texts stmts_texts code_of codes_of key_code at_place argument_codes truncated_code applied_code step_code steps_code numeral_at sign_at fraction_at exponent_at numerator denominator digits unescaped escaped octal keywords builtins left_out_words table sign_of
+unfolding special_arrays special_scalars spend_all asked loop over_keys first_assigned records_done evaluated all_evaluated stepped all_stepped mid_called texts_in all_texts stmt_texts stmts_texts code_of codes_of key_code kept_code argument_codes truncated_code applied_code step_code steps_code numeral_at sign_at fraction_at exponent_at numerator denominator digits unescaped escaped octal keywords builtins left_out_words table sign_of
 absent_file_passed_over = refl
 
 -- BEGIN{print (getline),(getline),(getline) $0}{print "no"}
 pub failing_main_input : mid_run_in (program_of (resolved scripts.failing_main_input)) (setting_of (record { operands = ((codes "g") ∷ (codes "f") ∷ []); assigns = []; environment = [] }) no_input (with_file (codes "f") (codes "c\n") End (with_file (codes "g") (codes "a\nb") Fails empty))) 40 ≡ FaultedBy ReadFailed (puts Standard (codes "1 -1 -1a\n"))
-unfolding uses all_uses given stmt_uses stmts_uses spend_all asked loop over_keys first_assigned records_done evaluated all_evaluated stepped all_stepped mid_called texts_in all_texts stmt_texts stmts_texts code_of codes_of key_code at_place argument_codes truncated_code applied_code step_code steps_code numeral_at sign_at fraction_at exponent_at numerator denominator digits unescaped escaped octal keywords builtins left_out_words table sign_of
+unfolding special_arrays special_scalars spend_all asked loop over_keys first_assigned records_done evaluated all_evaluated stepped all_stepped mid_called texts_in all_texts stmt_texts stmts_texts code_of codes_of key_code kept_code argument_codes truncated_code applied_code step_code steps_code numeral_at sign_at fraction_at exponent_at numerator denominator digits unescaped escaped octal keywords builtins left_out_words table sign_of
 failing_main_input = refl
 
 -- {print $1,NF}
 pub specials_among_operands : mid_run_in (program_of (resolved scripts.specials_among_operands)) (setting_of (record { operands = ((codes "FS=,") ∷ (codes "f") ∷ (codes "NF=2") ∷ (codes "RS=") ∷ (codes "g") ∷ []); assigns = []; environment = [] }) no_input (with_file (codes "g") (codes "c\nd,e\n\nf") End (with_file (codes "f") (codes "a,b\n") End empty))) 40 ≡ Ended 0 (puts Standard (codes "a 2\nc 3\nf 1\n"))
-unfolding uses all_uses given stmt_uses stmts_uses spend_all asked loop over_keys first_assigned records_done evaluated all_evaluated stepped all_stepped mid_called texts_in all_texts stmt_texts stmts_texts code_of codes_of key_code at_place argument_codes truncated_code applied_code step_code steps_code numeral_at sign_at fraction_at exponent_at numerator denominator digits unescaped escaped octal keywords builtins left_out_words table sign_of
+unfolding special_arrays special_scalars spend_all asked loop over_keys first_assigned records_done evaluated all_evaluated stepped all_stepped mid_called texts_in all_texts stmt_texts stmts_texts code_of codes_of key_code kept_code argument_codes truncated_code applied_code step_code steps_code numeral_at sign_at fraction_at exponent_at numerator denominator digits unescaped escaped octal keywords builtins left_out_words table sign_of
 specials_among_operands = refl
 
 -- BEGIN{NR="7x";FNR=100}{print NR,FNR}
 pub counts_assigned : mid_run_in (program_of (resolved scripts.counts_assigned)) (setting_of no_job (record { rest = (codes "a\nb\n"); ending = End }) empty) 40 ≡ Ended 0 (puts Standard (codes "8 1\n9 2\n"))
-unfolding uses all_uses given stmt_uses stmts_uses spend_all asked loop over_keys first_assigned records_done evaluated all_evaluated stepped all_stepped mid_called texts_in all_texts stmt_texts stmts_texts code_of codes_of key_code at_place argument_codes truncated_code applied_code step_code steps_code numeral_at sign_at fraction_at exponent_at numerator denominator digits unescaped escaped octal keywords builtins left_out_words table sign_of
+unfolding special_arrays special_scalars spend_all asked loop over_keys first_assigned records_done evaluated all_evaluated stepped all_stepped mid_called texts_in all_texts stmt_texts stmts_texts code_of codes_of key_code kept_code argument_codes truncated_code applied_code step_code steps_code numeral_at sign_at fraction_at exponent_at numerator denominator digits unescaped escaped octal keywords builtins left_out_words table sign_of
 counts_assigned = refl
 
 -- BEGIN{while((getline x)>0)print x;ARGV[2]="f";ARGC=3;print getline}{print "no"}
 pub input_stays_ended : mid_run_in (program_of (resolved scripts.input_stays_ended)) (setting_of (record { operands = ((codes "-") ∷ []); assigns = []; environment = [] }) (record { rest = (codes "s"); ending = End }) (with_file (codes "f") (codes "a\n") End empty)) 40 ≡ Ended 0 (puts Standard (codes "s\n0\n"))
-unfolding uses all_uses given stmt_uses stmts_uses spend_all asked loop over_keys first_assigned records_done evaluated all_evaluated stepped all_stepped mid_called texts_in all_texts stmt_texts stmts_texts code_of codes_of key_code at_place argument_codes truncated_code applied_code step_code steps_code numeral_at sign_at fraction_at exponent_at numerator denominator digits unescaped escaped octal keywords builtins left_out_words table sign_of
+unfolding special_arrays special_scalars spend_all asked loop over_keys first_assigned records_done evaluated all_evaluated stepped all_stepped mid_called texts_in all_texts stmt_texts stmts_texts code_of codes_of key_code kept_code argument_codes truncated_code applied_code step_code steps_code numeral_at sign_at fraction_at exponent_at numerator denominator digits unescaped escaped octal keywords builtins left_out_words table sign_of
 input_stays_ended = refl
 
 -- BEGIN{ARGV[1]=5}{print FILENAME,FILENAME==5}
 pub operand_from_a_number : mid_run_in (program_of (resolved scripts.operand_from_a_number)) (setting_of (record { operands = ((codes "x") ∷ []); assigns = []; environment = [] }) no_input (with_file (codes "5") (codes "a\n") End empty)) 40 ≡ Ended 0 (puts Standard (codes "5 1\n"))
-unfolding uses all_uses given stmt_uses stmts_uses spend_all asked loop over_keys first_assigned records_done evaluated all_evaluated stepped all_stepped mid_called texts_in all_texts stmt_texts stmts_texts code_of codes_of key_code at_place argument_codes truncated_code applied_code step_code steps_code numeral_at sign_at fraction_at exponent_at numerator denominator digits unescaped escaped octal keywords builtins left_out_words table sign_of
+unfolding special_arrays special_scalars spend_all asked loop over_keys first_assigned records_done evaluated all_evaluated stepped all_stepped mid_called texts_in all_texts stmt_texts stmts_texts code_of codes_of key_code kept_code argument_codes truncated_code applied_code step_code steps_code numeral_at sign_at fraction_at exponent_at numerator denominator digits unescaped escaped octal keywords builtins left_out_words table sign_of
 operand_from_a_number = refl
 
 -- END{$0="x y z";print NF,$2;NF=2;print;print getline,$0;print (getline<"f"),$0,NF,NR}
 pub record_kept_in_end : mid_run_in (program_of (resolved scripts.record_kept_in_end)) (setting_of no_job (record { rest = (codes "a b"); ending = End }) (with_file (codes "f") (codes "1 2 3\n") End empty)) 40 ≡ Ended 0 (puts Standard (codes "3 y\nx y\n0 x y\n1 1 2 3 3 1\n"))
-unfolding uses all_uses given stmt_uses stmts_uses spend_all asked loop over_keys first_assigned records_done evaluated all_evaluated stepped all_stepped mid_called texts_in all_texts stmt_texts stmts_texts code_of codes_of key_code at_place argument_codes truncated_code applied_code step_code steps_code numeral_at sign_at fraction_at exponent_at numerator denominator digits unescaped escaped octal keywords builtins left_out_words table sign_of
+unfolding special_arrays special_scalars spend_all asked loop over_keys first_assigned records_done evaluated all_evaluated stepped all_stepped mid_called texts_in all_texts stmt_texts stmts_texts code_of codes_of key_code kept_code argument_codes truncated_code applied_code step_code steps_code numeral_at sign_at fraction_at exponent_at numerator denominator digits unescaped escaped octal keywords builtins left_out_words table sign_of
 record_kept_in_end = refl
 
 -- BEGIN{RS="";print (getline<"f") $0;RS="\n";print (getline<"f") $0;print (getline<"f")}
 pub failing_after_paragraph : mid_run_in (program_of (resolved scripts.failing_after_paragraph)) (setting_of no_job no_input (with_file (codes "f") (codes "\n\na\nb\n\nc\n") Fails empty)) 40 ≡ Ended 0 (puts Standard (codes "1a\nb\n1c\n-1\n"))
-unfolding uses all_uses given stmt_uses stmts_uses spend_all asked loop over_keys first_assigned records_done evaluated all_evaluated stepped all_stepped mid_called texts_in all_texts stmt_texts stmts_texts code_of codes_of key_code at_place argument_codes truncated_code applied_code step_code steps_code numeral_at sign_at fraction_at exponent_at numerator denominator digits unescaped escaped octal keywords builtins left_out_words table sign_of
+unfolding special_arrays special_scalars spend_all asked loop over_keys first_assigned records_done evaluated all_evaluated stepped all_stepped mid_called texts_in all_texts stmt_texts stmts_texts code_of codes_of key_code kept_code argument_codes truncated_code applied_code step_code steps_code numeral_at sign_at fraction_at exponent_at numerator denominator digits unescaped escaped octal keywords builtins left_out_words table sign_of
 failing_after_paragraph = refl
 
 -- BEGIN{print (getline y<"-")}
 pub hyphen_is_a_file_for_getline : mid_run_in (program_of (resolved scripts.hyphen_is_a_file_for_getline)) (setting_of no_job (record { rest = (codes "s"); ending = End }) empty) 40 ≡ Ended 0 (puts Standard (codes "-1\n"))
-unfolding uses all_uses given stmt_uses stmts_uses spend_all asked loop over_keys first_assigned records_done evaluated all_evaluated stepped all_stepped mid_called texts_in all_texts stmt_texts stmts_texts code_of codes_of key_code at_place argument_codes truncated_code applied_code step_code steps_code numeral_at sign_at fraction_at exponent_at numerator denominator digits unescaped escaped octal keywords builtins left_out_words table sign_of
+unfolding special_arrays special_scalars spend_all asked loop over_keys first_assigned records_done evaluated all_evaluated stepped all_stepped mid_called texts_in all_texts stmt_texts stmts_texts code_of codes_of key_code kept_code argument_codes truncated_code applied_code step_code steps_code numeral_at sign_at fraction_at exponent_at numerator denominator digits unescaped escaped octal keywords builtins left_out_words table sign_of
 hyphen_is_a_file_for_getline = refl
 
 -- BEGIN{RS="ab"}{print}
 pub number_as_separator : mid_run_in (program_of (resolved scripts.number_as_separator)) (setting_of no_job (record { rest = (codes "1b2a3"); ending = End }) empty) 40 ≡ Ended 0 (puts Standard (codes "1b2\n3\n"))
-unfolding uses all_uses given stmt_uses stmts_uses spend_all asked loop over_keys first_assigned records_done evaluated all_evaluated stepped all_stepped mid_called texts_in all_texts stmt_texts stmts_texts code_of codes_of key_code at_place argument_codes truncated_code applied_code step_code steps_code numeral_at sign_at fraction_at exponent_at numerator denominator digits unescaped escaped octal keywords builtins left_out_words table sign_of
+unfolding special_arrays special_scalars spend_all asked loop over_keys first_assigned records_done evaluated all_evaluated stepped all_stepped mid_called texts_in all_texts stmt_texts stmts_texts code_of codes_of key_code kept_code argument_codes truncated_code applied_code step_code steps_code numeral_at sign_at fraction_at exponent_at numerator denominator digits unescaped escaped octal keywords builtins left_out_words table sign_of
 number_as_separator = refl
 
 -- BEGIN{print (getline x<"f"),close("f"),(getline x<"f"),close("f")}
 pub failing_empty_file : mid_run_in (program_of (resolved scripts.failing_empty_file)) (setting_of no_job no_input (with_file (codes "f") [] Fails empty)) 40 ≡ Ended 0 (puts Standard (codes "-1 0 -1 0\n"))
-unfolding uses all_uses given stmt_uses stmts_uses spend_all asked loop over_keys first_assigned records_done evaluated all_evaluated stepped all_stepped mid_called texts_in all_texts stmt_texts stmts_texts code_of codes_of key_code at_place argument_codes truncated_code applied_code step_code steps_code numeral_at sign_at fraction_at exponent_at numerator denominator digits unescaped escaped octal keywords builtins left_out_words table sign_of
+unfolding special_arrays special_scalars spend_all asked loop over_keys first_assigned records_done evaluated all_evaluated stepped all_stepped mid_called texts_in all_texts stmt_texts stmts_texts code_of codes_of key_code kept_code argument_codes truncated_code applied_code step_code steps_code numeral_at sign_at fraction_at exponent_at numerator denominator digits unescaped escaped octal keywords builtins left_out_words table sign_of
 failing_empty_file = refl
 
 -- BEGIN{print "x">"f";getline y<"f";print y,close("f"),close("f")}
 pub written_then_read : mid_run_in (program_of (resolved scripts.written_then_read)) (setting_of no_job no_input empty) 40 ≡ Ended 0 ((Open (codes "f") false ∷ []) ++ (puts (Named (codes "f")) (codes "x\n") ++ (puts Standard (codes "x 0 -1\n"))))
-unfolding uses all_uses given stmt_uses stmts_uses spend_all asked loop over_keys first_assigned records_done evaluated all_evaluated stepped all_stepped mid_called texts_in all_texts stmt_texts stmts_texts code_of codes_of key_code at_place argument_codes truncated_code applied_code step_code steps_code numeral_at sign_at fraction_at exponent_at numerator denominator digits unescaped escaped octal keywords builtins left_out_words table sign_of
+unfolding special_arrays special_scalars spend_all asked loop over_keys first_assigned records_done evaluated all_evaluated stepped all_stepped mid_called texts_in all_texts stmt_texts stmts_texts code_of codes_of key_code kept_code argument_codes truncated_code applied_code step_code steps_code numeral_at sign_at fraction_at exponent_at numerator denominator digits unescaped escaped octal keywords builtins left_out_words table sign_of
 written_then_read = refl
 
 -- BEGIN{print "abc">>"f"}
 pub appended_past_room : mid_run_in (program_of (resolved scripts.appended_past_room)) (setting_of no_job no_input (with_room (codes "f") (codes "xy") 4 empty)) 40 ≡ FaultedBy WriteFailed ((Open (codes "f") true ∷ []) ++ (puts (Named (codes "f")) (codes "ab")))
-unfolding uses all_uses given stmt_uses stmts_uses spend_all asked loop over_keys first_assigned records_done evaluated all_evaluated stepped all_stepped mid_called texts_in all_texts stmt_texts stmts_texts code_of codes_of key_code at_place argument_codes truncated_code applied_code step_code steps_code numeral_at sign_at fraction_at exponent_at numerator denominator digits unescaped escaped octal keywords builtins left_out_words table sign_of
+unfolding special_arrays special_scalars spend_all asked loop over_keys first_assigned records_done evaluated all_evaluated stepped all_stepped mid_called texts_in all_texts stmt_texts stmts_texts code_of codes_of key_code kept_code argument_codes truncated_code applied_code step_code steps_code numeral_at sign_at fraction_at exponent_at numerator denominator digits unescaped escaped octal keywords builtins left_out_words table sign_of
 appended_past_room = refl
 
 -- BEGIN{print "abc">"f"}
 pub emptied_then_past_room : mid_run_in (program_of (resolved scripts.emptied_then_past_room)) (setting_of no_job no_input (with_room (codes "f") (codes "xyzxyz") 3 empty)) 40 ≡ FaultedBy WriteFailed ((Open (codes "f") false ∷ []) ++ (puts (Named (codes "f")) (codes "abc")))
-unfolding uses all_uses given stmt_uses stmts_uses spend_all asked loop over_keys first_assigned records_done evaluated all_evaluated stepped all_stepped mid_called texts_in all_texts stmt_texts stmts_texts code_of codes_of key_code at_place argument_codes truncated_code applied_code step_code steps_code numeral_at sign_at fraction_at exponent_at numerator denominator digits unescaped escaped octal keywords builtins left_out_words table sign_of
+unfolding special_arrays special_scalars spend_all asked loop over_keys first_assigned records_done evaluated all_evaluated stepped all_stepped mid_called texts_in all_texts stmt_texts stmts_texts code_of codes_of key_code kept_code argument_codes truncated_code applied_code step_code steps_code numeral_at sign_at fraction_at exponent_at numerator denominator digits unescaped escaped octal keywords builtins left_out_words table sign_of
 emptied_then_past_room = refl
 
 -- BEGIN{$0="a b c";$2=u;print NF,$0;print ($2==0),($2=="");$0=$0;print NF,($2==0)}
 pub uninitialised_field : mid_run_in (program_of (resolved scripts.uninitialised_field)) (setting_of no_job no_input empty) 40 ≡ Ended 0 (puts Standard (codes "3 a  c\n1 1\n2 0\n"))
-unfolding uses all_uses given stmt_uses stmts_uses spend_all asked loop over_keys first_assigned records_done evaluated all_evaluated stepped all_stepped mid_called texts_in all_texts stmt_texts stmts_texts code_of codes_of key_code at_place argument_codes truncated_code applied_code step_code steps_code numeral_at sign_at fraction_at exponent_at numerator denominator digits unescaped escaped octal keywords builtins left_out_words table sign_of
+unfolding special_arrays special_scalars spend_all asked loop over_keys first_assigned records_done evaluated all_evaluated stepped all_stepped mid_called texts_in all_texts stmt_texts stmts_texts code_of codes_of key_code kept_code argument_codes truncated_code applied_code step_code steps_code numeral_at sign_at fraction_at exponent_at numerator denominator digits unescaped escaped octal keywords builtins left_out_words table sign_of
 uninitialised_field = refl
 
 -- BEGIN{$0="a b c";NF=1;NF=3;print ($2==0),($2==""),$0 "."}
 pub count_lowered_and_raised : mid_run_in (program_of (resolved scripts.count_lowered_and_raised)) (setting_of no_job no_input empty) 40 ≡ Ended 0 (puts Standard (codes "1 1 a  .\n"))
-unfolding uses all_uses given stmt_uses stmts_uses spend_all asked loop over_keys first_assigned records_done evaluated all_evaluated stepped all_stepped mid_called texts_in all_texts stmt_texts stmts_texts code_of codes_of key_code at_place argument_codes truncated_code applied_code step_code steps_code numeral_at sign_at fraction_at exponent_at numerator denominator digits unescaped escaped octal keywords builtins left_out_words table sign_of
+unfolding special_arrays special_scalars spend_all asked loop over_keys first_assigned records_done evaluated all_evaluated stepped all_stepped mid_called texts_in all_texts stmt_texts stmts_texts code_of codes_of key_code kept_code argument_codes truncated_code applied_code step_code steps_code numeral_at sign_at fraction_at exponent_at numerator denominator digits unescaped escaped octal keywords builtins left_out_words table sign_of
 count_lowered_and_raised = refl
 
 -- BEGIN{print $0}
 pub count_on_command_line : mid_run_in (program_of (resolved scripts.count_on_command_line)) (setting_of (record { operands = []; assigns = (((codes "OFS"), (codes "-")) ∷ ((codes "NF"), (codes "3")) ∷ []); environment = [] }) no_input empty) 40 ≡ Ended 0 (puts Standard (codes "--\n"))
-unfolding uses all_uses given stmt_uses stmts_uses spend_all asked loop over_keys first_assigned records_done evaluated all_evaluated stepped all_stepped mid_called texts_in all_texts stmt_texts stmts_texts code_of codes_of key_code at_place argument_codes truncated_code applied_code step_code steps_code numeral_at sign_at fraction_at exponent_at numerator denominator digits unescaped escaped octal keywords builtins left_out_words table sign_of
+unfolding special_arrays special_scalars spend_all asked loop over_keys first_assigned records_done evaluated all_evaluated stepped all_stepped mid_called texts_in all_texts stmt_texts stmts_texts code_of codes_of key_code kept_code argument_codes truncated_code applied_code step_code steps_code numeral_at sign_at fraction_at exponent_at numerator denominator digits unescaped escaped octal keywords builtins left_out_words table sign_of
 count_on_command_line = refl
 
 -- BEGIN{print $0}
 pub count_below_zero_on_command_line : mid_run_in (program_of (resolved scripts.count_below_zero_on_command_line)) (setting_of (record { operands = []; assigns = (((codes "NF"), (codes "-1")) ∷ []); environment = [] }) no_input empty) 40 ≡ FaultedBy FieldNumber []
-unfolding uses all_uses given stmt_uses stmts_uses spend_all asked loop over_keys first_assigned records_done evaluated all_evaluated stepped all_stepped mid_called texts_in all_texts stmt_texts stmts_texts code_of codes_of key_code at_place argument_codes truncated_code applied_code step_code steps_code numeral_at sign_at fraction_at exponent_at numerator denominator digits unescaped escaped octal keywords builtins left_out_words table sign_of
+unfolding special_arrays special_scalars spend_all asked loop over_keys first_assigned records_done evaluated all_evaluated stepped all_stepped mid_called texts_in all_texts stmt_texts stmts_texts code_of codes_of key_code kept_code argument_codes truncated_code applied_code step_code steps_code numeral_at sign_at fraction_at exponent_at numerator denominator digits unescaped escaped octal keywords builtins left_out_words table sign_of
 count_below_zero_on_command_line = refl
 
 -- BEGIN{OFS="-";$0="a b";NF=NF;OFS="+";print;$3="c";print}
 pub rebuilt_with_separator : mid_run_in (program_of (resolved scripts.rebuilt_with_separator)) (setting_of no_job no_input empty) 40 ≡ Ended 0 (puts Standard (codes "a-b\na+b+c\n"))
-unfolding uses all_uses given stmt_uses stmts_uses spend_all asked loop over_keys first_assigned records_done evaluated all_evaluated stepped all_stepped mid_called texts_in all_texts stmt_texts stmts_texts code_of codes_of key_code at_place argument_codes truncated_code applied_code step_code steps_code numeral_at sign_at fraction_at exponent_at numerator denominator digits unescaped escaped octal keywords builtins left_out_words table sign_of
+unfolding special_arrays special_scalars spend_all asked loop over_keys first_assigned records_done evaluated all_evaluated stepped all_stepped mid_called texts_in all_texts stmt_texts stmts_texts code_of codes_of key_code kept_code argument_codes truncated_code applied_code step_code steps_code numeral_at sign_at fraction_at exponent_at numerator denominator digits unescaped escaped octal keywords builtins left_out_words table sign_of
 rebuilt_with_separator = refl
 
 -- BEGIN{FS=u;$0="a b";print NF;FS=1;$0="a1b";print NF}
 pub separator_without_value : mid_run_in (program_of (resolved scripts.separator_without_value)) (setting_of no_job no_input empty) 40 ≡ Ended 0 (puts Standard (codes "3\n2\n"))
-unfolding uses all_uses given stmt_uses stmts_uses spend_all asked loop over_keys first_assigned records_done evaluated all_evaluated stepped all_stepped mid_called texts_in all_texts stmt_texts stmts_texts code_of codes_of key_code at_place argument_codes truncated_code applied_code step_code steps_code numeral_at sign_at fraction_at exponent_at numerator denominator digits unescaped escaped octal keywords builtins left_out_words table sign_of
+unfolding special_arrays special_scalars spend_all asked loop over_keys first_assigned records_done evaluated all_evaluated stepped all_stepped mid_called texts_in all_texts stmt_texts stmts_texts code_of codes_of key_code kept_code argument_codes truncated_code applied_code step_code steps_code numeral_at sign_at fraction_at exponent_at numerator denominator digits unescaped escaped octal keywords builtins left_out_words table sign_of
 separator_without_value = refl
 
 -- BEGIN{RS="";FS="\t"}{print NF}
 pub tab_and_newline : mid_run_in (program_of (resolved scripts.tab_and_newline)) (setting_of no_job (record { rest = (97 ∷ 9 ∷ 98 ∷ 10 ∷ 99 ∷ []); ending = End }) empty) 40 ≡ Ended 0 (puts Standard (codes "3\n"))
-unfolding uses all_uses given stmt_uses stmts_uses spend_all asked loop over_keys first_assigned records_done evaluated all_evaluated stepped all_stepped mid_called texts_in all_texts stmt_texts stmts_texts code_of codes_of key_code at_place argument_codes truncated_code applied_code step_code steps_code numeral_at sign_at fraction_at exponent_at numerator denominator digits unescaped escaped octal keywords builtins left_out_words table sign_of
+unfolding special_arrays special_scalars spend_all asked loop over_keys first_assigned records_done evaluated all_evaluated stepped all_stepped mid_called texts_in all_texts stmt_texts stmts_texts code_of codes_of key_code kept_code argument_codes truncated_code applied_code step_code steps_code numeral_at sign_at fraction_at exponent_at numerator denominator digits unescaped escaped octal keywords builtins left_out_words table sign_of
 tab_and_newline = refl
 
 -- BEGIN{RS="";FS="b*"}{print NF,"[" $2 "]"}
 pub expression_and_newline : mid_run_in (program_of (resolved scripts.expression_and_newline)) (setting_of no_job (record { rest = (codes "abb\nc"); ending = End }) empty) 40 ≡ Ended 0 (puts Standard (codes "3 []\n"))
-unfolding uses all_uses given stmt_uses stmts_uses spend_all asked loop over_keys first_assigned records_done evaluated all_evaluated stepped all_stepped mid_called texts_in all_texts stmt_texts stmts_texts code_of codes_of key_code at_place argument_codes truncated_code applied_code step_code steps_code numeral_at sign_at fraction_at exponent_at numerator denominator digits unescaped escaped octal keywords builtins left_out_words table sign_of
+unfolding special_arrays special_scalars spend_all asked loop over_keys first_assigned records_done evaluated all_evaluated stepped all_stepped mid_called texts_in all_texts stmt_texts stmts_texts code_of codes_of key_code kept_code argument_codes truncated_code applied_code step_code steps_code numeral_at sign_at fraction_at exponent_at numerator denominator digits unescaped escaped octal keywords builtins left_out_words table sign_of
 expression_and_newline = refl
 
 -- BEGIN{RS="";print split("a\nb,c",p,","),split("abc",p,/./),split("abc",p,//),split("a.b",p,".")}
 pub split_ignores_newline : mid_run_in (program_of (resolved scripts.split_ignores_newline)) (setting_of no_job no_input empty) 40 ≡ Ended 0 (puts Standard (codes "2 4 1 2\n"))
-unfolding uses all_uses given stmt_uses stmts_uses spend_all asked loop over_keys first_assigned records_done evaluated all_evaluated stepped all_stepped mid_called texts_in all_texts stmt_texts stmts_texts code_of codes_of key_code at_place argument_codes truncated_code applied_code step_code steps_code numeral_at sign_at fraction_at exponent_at numerator denominator digits unescaped escaped octal keywords builtins left_out_words table sign_of
+unfolding special_arrays special_scalars spend_all asked loop over_keys first_assigned records_done evaluated all_evaluated stepped all_stepped mid_called texts_in all_texts stmt_texts stmts_texts code_of codes_of key_code kept_code argument_codes truncated_code applied_code step_code steps_code numeral_at sign_at fraction_at exponent_at numerator denominator digits unescaped escaped octal keywords builtins left_out_words table sign_of
 split_ignores_newline = refl
 
 -- BEGIN{a["x"]="p q";print split(a["x"],a),("x" in a),a[2]}
 pub split_of_its_own_element : mid_run_in (program_of (resolved scripts.split_of_its_own_element)) (setting_of no_job no_input empty) 40 ≡ Ended 0 (puts Standard (codes "2 0 q\n"))
-unfolding uses all_uses given stmt_uses stmts_uses spend_all asked loop over_keys first_assigned records_done evaluated all_evaluated stepped all_stepped mid_called texts_in all_texts stmt_texts stmts_texts code_of codes_of key_code at_place argument_codes truncated_code applied_code step_code steps_code numeral_at sign_at fraction_at exponent_at numerator denominator digits unescaped escaped octal keywords builtins left_out_words table sign_of
+unfolding special_arrays special_scalars spend_all asked loop over_keys first_assigned records_done evaluated all_evaluated stepped all_stepped mid_called texts_in all_texts stmt_texts stmts_texts code_of codes_of key_code kept_code argument_codes truncated_code applied_code step_code steps_code numeral_at sign_at fraction_at exponent_at numerator denominator digits unescaped escaped octal keywords builtins left_out_words table sign_of
 split_of_its_own_element = refl
 
 -- BEGIN{FS="((";print (getline x<"f");print (getline<"f")}
 pub bad_separator_unused : mid_run_in (program_of (resolved scripts.bad_separator_unused)) (setting_of no_job no_input (with_file (codes "f") (codes "p q\nr\n") End empty)) 40 ≡ FaultedBy BadEre (puts Standard (codes "1\n"))
-unfolding uses all_uses given stmt_uses stmts_uses spend_all asked loop over_keys first_assigned records_done evaluated all_evaluated stepped all_stepped mid_called texts_in all_texts stmt_texts stmts_texts code_of codes_of key_code at_place argument_codes truncated_code applied_code step_code steps_code numeral_at sign_at fraction_at exponent_at numerator denominator digits unescaped escaped octal keywords builtins left_out_words table sign_of
+unfolding special_arrays special_scalars spend_all asked loop over_keys first_assigned records_done evaluated all_evaluated stepped all_stepped mid_called texts_in all_texts stmt_texts stmts_texts code_of codes_of key_code kept_code argument_codes truncated_code applied_code step_code steps_code numeral_at sign_at fraction_at exponent_at numerator denominator digits unescaped escaped octal keywords builtins left_out_words table sign_of
 bad_separator_unused = refl
 
 -- BEGIN{s="aaa";print gsub(/x*$/,"-",s),s;s="";print gsub(/x*/,"-",s),s;s="abcX";print gsub(/^/,">",s),s}
 pub empty_match_at_the_end : mid_run_in (program_of (resolved scripts.empty_match_at_the_end)) (setting_of no_job no_input empty) 40 ≡ Ended 0 (puts Standard (codes "1 aaa-\n1 -\n1 >abcX\n"))
-unfolding uses all_uses given stmt_uses stmts_uses spend_all asked loop over_keys first_assigned records_done evaluated all_evaluated stepped all_stepped mid_called texts_in all_texts stmt_texts stmts_texts code_of codes_of key_code at_place argument_codes truncated_code applied_code step_code steps_code numeral_at sign_at fraction_at exponent_at numerator denominator digits unescaped escaped octal keywords builtins left_out_words table sign_of
+unfolding special_arrays special_scalars spend_all asked loop over_keys first_assigned records_done evaluated all_evaluated stepped all_stepped mid_called texts_in all_texts stmt_texts stmts_texts code_of codes_of key_code kept_code argument_codes truncated_code applied_code step_code steps_code numeral_at sign_at fraction_at exponent_at numerator denominator digits unescaped escaped octal keywords builtins left_out_words table sign_of
 empty_match_at_the_end = refl
 
 -- BEGIN{print match("aXb","X*$"),RLENGTH,match("",/^$/),RLENGTH}
 pub matches_that_are_empty : mid_run_in (program_of (resolved scripts.matches_that_are_empty)) (setting_of no_job no_input empty) 40 ≡ Ended 0 (puts Standard (codes "4 0 1 0\n"))
-unfolding uses all_uses given stmt_uses stmts_uses spend_all asked loop over_keys first_assigned records_done evaluated all_evaluated stepped all_stepped mid_called texts_in all_texts stmt_texts stmts_texts code_of codes_of key_code at_place argument_codes truncated_code applied_code step_code steps_code numeral_at sign_at fraction_at exponent_at numerator denominator digits unescaped escaped octal keywords builtins left_out_words table sign_of
+unfolding special_arrays special_scalars spend_all asked loop over_keys first_assigned records_done evaluated all_evaluated stepped all_stepped mid_called texts_in all_texts stmt_texts stmts_texts code_of codes_of key_code kept_code argument_codes truncated_code applied_code step_code steps_code numeral_at sign_at fraction_at exponent_at numerator denominator digits unescaped escaped octal keywords builtins left_out_words table sign_of
 matches_that_are_empty = refl
 
 -- BEGIN{print "[" substr("hello",-2^53,2^53) "]",substr("hello",2,2^53)}
 pub parts_far_out : mid_run_in (program_of (resolved scripts.parts_far_out)) (setting_of no_job no_input empty) 40 ≡ Ended 0 (puts Standard (codes "[] ello\n"))
-unfolding uses all_uses given stmt_uses stmts_uses spend_all asked loop over_keys first_assigned records_done evaluated all_evaluated stepped all_stepped mid_called texts_in all_texts stmt_texts stmts_texts code_of codes_of key_code at_place argument_codes truncated_code applied_code step_code steps_code numeral_at sign_at fraction_at exponent_at numerator denominator digits unescaped escaped octal keywords builtins left_out_words table sign_of
+unfolding special_arrays special_scalars spend_all asked loop over_keys first_assigned records_done evaluated all_evaluated stepped all_stepped mid_called texts_in all_texts stmt_texts stmts_texts code_of codes_of key_code kept_code argument_codes truncated_code applied_code step_code steps_code numeral_at sign_at fraction_at exponent_at numerator denominator digits unescaped escaped octal keywords builtins left_out_words table sign_of
 parts_far_out = refl
 
 -- BEGIN{printf "[%-05d][%+.0d][%05.1f][%#.0x][%#05o][% 05d][%.s]\n",-3,0,-2,0,8,42,"ab"}
 pub formats_of_numbers : mid_run_in (program_of (resolved scripts.formats_of_numbers)) (setting_of no_job no_input empty) 40 ≡ Ended 0 (puts Standard (codes "[-3   ][+][-02.0][][00010][ 0042][]\n"))
-unfolding uses all_uses given stmt_uses stmts_uses spend_all asked loop over_keys first_assigned records_done evaluated all_evaluated stepped all_stepped mid_called texts_in all_texts stmt_texts stmts_texts code_of codes_of key_code at_place argument_codes truncated_code applied_code step_code steps_code numeral_at sign_at fraction_at exponent_at numerator denominator digits unescaped escaped octal keywords builtins left_out_words table sign_of
+unfolding special_arrays special_scalars spend_all asked loop over_keys first_assigned records_done evaluated all_evaluated stepped all_stepped mid_called texts_in all_texts stmt_texts stmts_texts code_of codes_of key_code kept_code argument_codes truncated_code applied_code step_code steps_code numeral_at sign_at fraction_at exponent_at numerator denominator digits unescaped escaped octal keywords builtins left_out_words table sign_of
 formats_of_numbers = refl
 
 -- BEGIN{printf "%d%q","1e99"}
 pub range_before_format : mid_run_in (program_of (resolved scripts.range_before_format)) (setting_of no_job no_input empty) 40 ≡ FaultedBy Range []
-unfolding uses all_uses given stmt_uses stmts_uses spend_all asked loop over_keys first_assigned records_done evaluated all_evaluated stepped all_stepped mid_called texts_in all_texts stmt_texts stmts_texts code_of codes_of key_code at_place argument_codes truncated_code applied_code step_code steps_code numeral_at sign_at fraction_at exponent_at numerator denominator digits unescaped escaped octal keywords builtins left_out_words table sign_of
+unfolding special_arrays special_scalars spend_all asked loop over_keys first_assigned records_done evaluated all_evaluated stepped all_stepped mid_called texts_in all_texts stmt_texts stmts_texts code_of codes_of key_code kept_code argument_codes truncated_code applied_code step_code steps_code numeral_at sign_at fraction_at exponent_at numerator denominator digits unescaped escaped octal keywords builtins left_out_words table sign_of
 range_before_format = refl
 
 -- BEGIN{printf "%.5-d",1}
 pub misplaced_flag : mid_run_in (program_of (resolved scripts.misplaced_flag)) (setting_of no_job no_input empty) 40 ≡ FaultedBy Format []
-unfolding uses all_uses given stmt_uses stmts_uses spend_all asked loop over_keys first_assigned records_done evaluated all_evaluated stepped all_stepped mid_called texts_in all_texts stmt_texts stmts_texts code_of codes_of key_code at_place argument_codes truncated_code applied_code step_code steps_code numeral_at sign_at fraction_at exponent_at numerator denominator digits unescaped escaped octal keywords builtins left_out_words table sign_of
+unfolding special_arrays special_scalars spend_all asked loop over_keys first_assigned records_done evaluated all_evaluated stepped all_stepped mid_called texts_in all_texts stmt_texts stmts_texts code_of codes_of key_code kept_code argument_codes truncated_code applied_code step_code steps_code numeral_at sign_at fraction_at exponent_at numerator denominator digits unescaped escaped octal keywords builtins left_out_words table sign_of
 misplaced_flag = refl
 
 -- BEGIN{printf "[%c][%.0c]",65,"q"}
 pub bytes_formatted : mid_run_in (program_of (resolved scripts.bytes_formatted)) (setting_of no_job no_input empty) 40 ≡ Ended 0 (puts Standard (codes "[A][q]"))
-unfolding uses all_uses given stmt_uses stmts_uses spend_all asked loop over_keys first_assigned records_done evaluated all_evaluated stepped all_stepped mid_called texts_in all_texts stmt_texts stmts_texts code_of codes_of key_code at_place argument_codes truncated_code applied_code step_code steps_code numeral_at sign_at fraction_at exponent_at numerator denominator digits unescaped escaped octal keywords builtins left_out_words table sign_of
+unfolding special_arrays special_scalars spend_all asked loop over_keys first_assigned records_done evaluated all_evaluated stepped all_stepped mid_called texts_in all_texts stmt_texts stmts_texts code_of codes_of key_code kept_code argument_codes truncated_code applied_code step_code steps_code numeral_at sign_at fraction_at exponent_at numerator denominator digits unescaped escaped octal keywords builtins left_out_words table sign_of
 bytes_formatted = refl
 
 -- BEGIN { getline a["k"] < "no"; x = 1; print x, ("k" in a); sub(/q/, "z", b["y"]); print ("y" in b) }
 pub unused_first : mid_run_in (program_of (resolved scripts.unused_first)) (setting_of no_job no_input empty) 40 ≡ Ended 0 (puts Standard (codes "1 0\n1\n"))
-unfolding uses all_uses given stmt_uses stmts_uses spend_all asked loop over_keys first_assigned records_done evaluated all_evaluated stepped all_stepped mid_called texts_in all_texts stmt_texts stmts_texts code_of codes_of key_code at_place argument_codes truncated_code applied_code step_code steps_code numeral_at sign_at fraction_at exponent_at numerator denominator digits unescaped escaped octal keywords builtins left_out_words table sign_of
+unfolding special_arrays special_scalars spend_all asked loop over_keys first_assigned records_done evaluated all_evaluated stepped all_stepped mid_called texts_in all_texts stmt_texts stmts_texts code_of codes_of key_code kept_code argument_codes truncated_code applied_code step_code steps_code numeral_at sign_at fraction_at exponent_at numerator denominator digits unescaped escaped octal keywords builtins left_out_words table sign_of
 unused_first = refl
 
 -- BEGIN { a["x"]; a["y"]; for (k in a) { print k; delete a["y"] }; print ("y" in a) }
 pub keys_deleted_on_the_way : mid_run_in (program_of (resolved scripts.keys_deleted_on_the_way)) (setting_of no_job no_input empty) 40 ≡ Ended 0 (puts Standard (codes "x\ny\n0\n"))
-unfolding uses all_uses given stmt_uses stmts_uses spend_all asked loop over_keys first_assigned records_done evaluated all_evaluated stepped all_stepped mid_called texts_in all_texts stmt_texts stmts_texts code_of codes_of key_code at_place argument_codes truncated_code applied_code step_code steps_code numeral_at sign_at fraction_at exponent_at numerator denominator digits unescaped escaped octal keywords builtins left_out_words table sign_of
+unfolding special_arrays special_scalars spend_all asked loop over_keys first_assigned records_done evaluated all_evaluated stepped all_stepped mid_called texts_in all_texts stmt_texts stmts_texts code_of codes_of key_code kept_code argument_codes truncated_code applied_code step_code steps_code numeral_at sign_at fraction_at exponent_at numerator denominator digits unescaped escaped octal keywords builtins left_out_words table sign_of
 keys_deleted_on_the_way = refl
 
 -- BEGIN { do {  n++ }  while (n < 3)  print n }
 pub do_while_counts : mid_run_in (program_of (resolved scripts.do_while_counts)) (setting_of no_job no_input empty) 40 ≡ Ended 0 (puts Standard (codes "3\n"))
-unfolding uses all_uses given stmt_uses stmts_uses spend_all asked loop over_keys first_assigned records_done evaluated all_evaluated stepped all_stepped mid_called texts_in all_texts stmt_texts stmts_texts code_of codes_of key_code at_place argument_codes truncated_code applied_code step_code steps_code numeral_at sign_at fraction_at exponent_at numerator denominator digits unescaped escaped octal keywords builtins left_out_words table sign_of
+unfolding special_arrays special_scalars spend_all asked loop over_keys first_assigned records_done evaluated all_evaluated stepped all_stepped mid_called texts_in all_texts stmt_texts stmts_texts code_of codes_of key_code kept_code argument_codes truncated_code applied_code step_code steps_code numeral_at sign_at fraction_at exponent_at numerator denominator digits unescaped escaped octal keywords builtins left_out_words table sign_of
 do_while_counts = refl
 
 -- BEGIN { print n; print n + 1 }
 pub fraction_from_command_line : mid_run_in (program_of (resolved scripts.fraction_from_command_line)) (setting_of (record { operands = []; assigns = (((codes "n"), (codes "0.5")) ∷ []); environment = [] }) no_input empty) 40 ≡ FaultedBy Fraction (puts Standard (codes "0.5\n"))
-unfolding uses all_uses given stmt_uses stmts_uses spend_all asked loop over_keys first_assigned records_done evaluated all_evaluated stepped all_stepped mid_called texts_in all_texts stmt_texts stmts_texts code_of codes_of key_code at_place argument_codes truncated_code applied_code step_code steps_code numeral_at sign_at fraction_at exponent_at numerator denominator digits unescaped escaped octal keywords builtins left_out_words table sign_of
+unfolding special_arrays special_scalars spend_all asked loop over_keys first_assigned records_done evaluated all_evaluated stepped all_stepped mid_called texts_in all_texts stmt_texts stmts_texts code_of codes_of key_code kept_code argument_codes truncated_code applied_code step_code steps_code numeral_at sign_at fraction_at exponent_at numerator denominator digits unescaped escaped octal keywords builtins left_out_words table sign_of
 fraction_from_command_line = refl
 
 -- { n++; print n }
 pub count_across_an_assignment : mid_run_in (program_of (resolved scripts.count_across_an_assignment)) (setting_of (record { operands = ((codes "f") ∷ (codes "n=07") ∷ (codes "g") ∷ []); assigns = []; environment = [] }) no_input (with_file (codes "g") (codes "b\n") End (with_file (codes "f") (codes "a\n") End empty))) 40 ≡ Ended 0 (puts Standard (codes "1\n8\n"))
-unfolding uses all_uses given stmt_uses stmts_uses spend_all asked loop over_keys first_assigned records_done evaluated all_evaluated stepped all_stepped mid_called texts_in all_texts stmt_texts stmts_texts code_of codes_of key_code at_place argument_codes truncated_code applied_code step_code steps_code numeral_at sign_at fraction_at exponent_at numerator denominator digits unescaped escaped octal keywords builtins left_out_words table sign_of
+unfolding special_arrays special_scalars spend_all asked loop over_keys first_assigned records_done evaluated all_evaluated stepped all_stepped mid_called texts_in all_texts stmt_texts stmts_texts code_of codes_of key_code kept_code argument_codes truncated_code applied_code step_code steps_code numeral_at sign_at fraction_at exponent_at numerator denominator digits unescaped escaped octal keywords builtins left_out_words table sign_of
 count_across_an_assignment = refl
 
 -- BEGIN { if (0) print 1/0; print 2^3*4 }
 pub fault_not_reached : mid_run_in (program_of (resolved scripts.fault_not_reached)) (setting_of no_job no_input empty) 40 ≡ Ended 0 (puts Standard (codes "32\n"))
-unfolding uses all_uses given stmt_uses stmts_uses spend_all asked loop over_keys first_assigned records_done evaluated all_evaluated stepped all_stepped mid_called texts_in all_texts stmt_texts stmts_texts code_of codes_of key_code at_place argument_codes truncated_code applied_code step_code steps_code numeral_at sign_at fraction_at exponent_at numerator denominator digits unescaped escaped octal keywords builtins left_out_words table sign_of
+unfolding special_arrays special_scalars spend_all asked loop over_keys first_assigned records_done evaluated all_evaluated stepped all_stepped mid_called texts_in all_texts stmt_texts stmts_texts code_of codes_of key_code kept_code argument_codes truncated_code applied_code step_code steps_code numeral_at sign_at fraction_at exponent_at numerator denominator digits unescaped escaped octal keywords builtins left_out_words table sign_of
 fault_not_reached = refl
 
 -- BEGIN { n = 2^53; n++; print "no" }
 pub step_past_range : mid_run_in (program_of (resolved scripts.step_past_range)) (setting_of no_job no_input empty) 40 ≡ FaultedBy Range []
-unfolding uses all_uses given stmt_uses stmts_uses spend_all asked loop over_keys first_assigned records_done evaluated all_evaluated stepped all_stepped mid_called texts_in all_texts stmt_texts stmts_texts code_of codes_of key_code at_place argument_codes truncated_code applied_code step_code steps_code numeral_at sign_at fraction_at exponent_at numerator denominator digits unescaped escaped octal keywords builtins left_out_words table sign_of
+unfolding special_arrays special_scalars spend_all asked loop over_keys first_assigned records_done evaluated all_evaluated stepped all_stepped mid_called texts_in all_texts stmt_texts stmts_texts code_of codes_of key_code kept_code argument_codes truncated_code applied_code step_code steps_code numeral_at sign_at fraction_at exponent_at numerator denominator digits unescaped escaped octal keywords builtins left_out_words table sign_of
 step_past_range = refl
 
 -- BEGIN { while (n < 10) n = n + 1; print n }
 pub loop_on_numbers : mid_run_in (program_of (resolved scripts.loop_on_numbers)) (setting_of no_job no_input empty) 40 ≡ Ended 0 (puts Standard (codes "10\n"))
-unfolding uses all_uses given stmt_uses stmts_uses spend_all asked loop over_keys first_assigned records_done evaluated all_evaluated stepped all_stepped mid_called texts_in all_texts stmt_texts stmts_texts code_of codes_of key_code at_place argument_codes truncated_code applied_code step_code steps_code numeral_at sign_at fraction_at exponent_at numerator denominator digits unescaped escaped octal keywords builtins left_out_words table sign_of
+unfolding special_arrays special_scalars spend_all asked loop over_keys first_assigned records_done evaluated all_evaluated stepped all_stepped mid_called texts_in all_texts stmt_texts stmts_texts code_of codes_of key_code kept_code argument_codes truncated_code applied_code step_code steps_code numeral_at sign_at fraction_at exponent_at numerator denominator digits unescaped escaped octal keywords builtins left_out_words table sign_of
 loop_on_numbers = refl
 
 -- BEGIN { while (n < 3) n = n + 1; print n }
 pub turns_just_enough : mid_run_in (program_of (resolved scripts.turns_just_enough)) (setting_of no_job no_input empty) 4 ≡ Ended 0 (puts Standard (codes "3\n"))
-unfolding uses all_uses given stmt_uses stmts_uses spend_all asked loop over_keys first_assigned records_done evaluated all_evaluated stepped all_stepped mid_called texts_in all_texts stmt_texts stmts_texts code_of codes_of key_code at_place argument_codes truncated_code applied_code step_code steps_code numeral_at sign_at fraction_at exponent_at numerator denominator digits unescaped escaped octal keywords builtins left_out_words table sign_of
+unfolding special_arrays special_scalars spend_all asked loop over_keys first_assigned records_done evaluated all_evaluated stepped all_stepped mid_called texts_in all_texts stmt_texts stmts_texts code_of codes_of key_code kept_code argument_codes truncated_code applied_code step_code steps_code numeral_at sign_at fraction_at exponent_at numerator denominator digits unescaped escaped octal keywords builtins left_out_words table sign_of
 turns_just_enough = refl
 
 -- BEGIN { while (n < 3) n = n + 1; print n }
 pub one_turn_too_few : mid_run_in (program_of (resolved scripts.one_turn_too_few)) (setting_of no_job no_input empty) 3 ≡ GoesOn []
-unfolding uses all_uses given stmt_uses stmts_uses spend_all asked loop over_keys first_assigned records_done evaluated all_evaluated stepped all_stepped mid_called texts_in all_texts stmt_texts stmts_texts code_of codes_of key_code at_place argument_codes truncated_code applied_code step_code steps_code numeral_at sign_at fraction_at exponent_at numerator denominator digits unescaped escaped octal keywords builtins left_out_words table sign_of
+unfolding special_arrays special_scalars spend_all asked loop over_keys first_assigned records_done evaluated all_evaluated stepped all_stepped mid_called texts_in all_texts stmt_texts stmts_texts code_of codes_of key_code kept_code argument_codes truncated_code applied_code step_code steps_code numeral_at sign_at fraction_at exponent_at numerator denominator digits unescaped escaped octal keywords builtins left_out_words table sign_of
 one_turn_too_few = refl
 
 -- function f(x, y) { if (x < y) return x; y = x = x * 2; return y } BEGIN { print f(3, 5), f(7), f("10", 9), f() "." ; n = -n; n += !m; print n, n++ + ++n, n-- }
 pub numbers_in_names : mid_run_in (program_of (resolved scripts.numbers_in_names)) (setting_of no_job no_input empty) 40 ≡ Ended 0 (puts Standard (codes "3 14 10 0.\n1 4 3\n"))
-unfolding uses all_uses given stmt_uses stmts_uses spend_all asked loop over_keys first_assigned records_done evaluated all_evaluated stepped all_stepped mid_called texts_in all_texts stmt_texts stmts_texts code_of codes_of key_code at_place argument_codes truncated_code applied_code step_code steps_code numeral_at sign_at fraction_at exponent_at numerator denominator digits unescaped escaped octal keywords builtins left_out_words table sign_of
+unfolding special_arrays special_scalars spend_all asked loop over_keys first_assigned records_done evaluated all_evaluated stepped all_stepped mid_called texts_in all_texts stmt_texts stmts_texts code_of codes_of key_code kept_code argument_codes truncated_code applied_code step_code steps_code numeral_at sign_at fraction_at exponent_at numerator denominator digits unescaped escaped octal keywords builtins left_out_words table sign_of
 numbers_in_names = refl
 
 -- BEGIN { print n < 10, n < "10", n == 9; n = n + 1; print n < 10 }
 pub text_in_a_number : mid_run_in (program_of (resolved scripts.text_in_a_number)) (setting_of (record { operands = []; assigns = (((codes "n"), (codes "9")) ∷ []); environment = [] }) no_input empty) 40 ≡ Ended 0 (puts Standard (codes "1 0 1\n0\n"))
-unfolding uses all_uses given stmt_uses stmts_uses spend_all asked loop over_keys first_assigned records_done evaluated all_evaluated stepped all_stepped mid_called texts_in all_texts stmt_texts stmts_texts code_of codes_of key_code at_place argument_codes truncated_code applied_code step_code steps_code numeral_at sign_at fraction_at exponent_at numerator denominator digits unescaped escaped octal keywords builtins left_out_words table sign_of
+unfolding special_arrays special_scalars spend_all asked loop over_keys first_assigned records_done evaluated all_evaluated stepped all_stepped mid_called texts_in all_texts stmt_texts stmts_texts code_of codes_of key_code kept_code argument_codes truncated_code applied_code step_code steps_code numeral_at sign_at fraction_at exponent_at numerator denominator digits unescaped escaped octal keywords builtins left_out_words table sign_of
 text_in_a_number = refl
 
 -- Well sorted.
 
 pub name_read_when_met_sorted : is_sorted (program_of (resolved scripts.name_read_when_met)) ≡ true
-unfolding uses all_uses given stmt_uses stmts_uses spend_all asked loop over_keys first_assigned records_done evaluated all_evaluated stepped all_stepped mid_called texts_in all_texts stmt_texts stmts_texts code_of codes_of key_code at_place argument_codes truncated_code applied_code step_code steps_code numeral_at sign_at fraction_at exponent_at numerator denominator digits unescaped escaped octal keywords builtins left_out_words table sign_of sorted all_sorted step_sorted steps_sorted
+unfolding special_arrays special_scalars spend_all asked loop over_keys first_assigned records_done evaluated all_evaluated stepped all_stepped mid_called texts_in all_texts stmt_texts stmts_texts code_of codes_of key_code kept_code argument_codes truncated_code applied_code step_code steps_code numeral_at sign_at fraction_at exponent_at numerator denominator digits unescaped escaped octal keywords builtins left_out_words table sign_of sorted all_sorted step_sorted steps_sorted
 name_read_when_met_sorted = refl
 
 pub getline_among_operands_sorted : is_sorted (program_of (resolved scripts.getline_among_operands)) ≡ true
-unfolding uses all_uses given stmt_uses stmts_uses spend_all asked loop over_keys first_assigned records_done evaluated all_evaluated stepped all_stepped mid_called texts_in all_texts stmt_texts stmts_texts code_of codes_of key_code at_place argument_codes truncated_code applied_code step_code steps_code numeral_at sign_at fraction_at exponent_at numerator denominator digits unescaped escaped octal keywords builtins left_out_words table sign_of sorted all_sorted step_sorted steps_sorted
+unfolding special_arrays special_scalars spend_all asked loop over_keys first_assigned records_done evaluated all_evaluated stepped all_stepped mid_called texts_in all_texts stmt_texts stmts_texts code_of codes_of key_code kept_code argument_codes truncated_code applied_code step_code steps_code numeral_at sign_at fraction_at exponent_at numerator denominator digits unescaped escaped octal keywords builtins left_out_words table sign_of sorted all_sorted step_sorted steps_sorted
 getline_among_operands_sorted = refl
 
 pub value_of_special_assignment_sorted : is_sorted (program_of (resolved scripts.value_of_special_assignment)) ≡ true
-unfolding uses all_uses given stmt_uses stmts_uses spend_all asked loop over_keys first_assigned records_done evaluated all_evaluated stepped all_stepped mid_called texts_in all_texts stmt_texts stmts_texts code_of codes_of key_code at_place argument_codes truncated_code applied_code step_code steps_code numeral_at sign_at fraction_at exponent_at numerator denominator digits unescaped escaped octal keywords builtins left_out_words table sign_of sorted all_sorted step_sorted steps_sorted
+unfolding special_arrays special_scalars spend_all asked loop over_keys first_assigned records_done evaluated all_evaluated stepped all_stepped mid_called texts_in all_texts stmt_texts stmts_texts code_of codes_of key_code kept_code argument_codes truncated_code applied_code step_code steps_code numeral_at sign_at fraction_at exponent_at numerator denominator digits unescaped escaped octal keywords builtins left_out_words table sign_of sorted all_sorted step_sorted steps_sorted
 value_of_special_assignment_sorted = refl
 
 pub count_as_key_sorted : is_sorted (program_of (resolved scripts.count_as_key)) ≡ true
-unfolding uses all_uses given stmt_uses stmts_uses spend_all asked loop over_keys first_assigned records_done evaluated all_evaluated stepped all_stepped mid_called texts_in all_texts stmt_texts stmts_texts code_of codes_of key_code at_place argument_codes truncated_code applied_code step_code steps_code numeral_at sign_at fraction_at exponent_at numerator denominator digits unescaped escaped octal keywords builtins left_out_words table sign_of sorted all_sorted step_sorted steps_sorted
+unfolding special_arrays special_scalars spend_all asked loop over_keys first_assigned records_done evaluated all_evaluated stepped all_stepped mid_called texts_in all_texts stmt_texts stmts_texts code_of codes_of key_code kept_code argument_codes truncated_code applied_code step_code steps_code numeral_at sign_at fraction_at exponent_at numerator denominator digits unescaped escaped octal keywords builtins left_out_words table sign_of sorted all_sorted step_sorted steps_sorted
 count_as_key_sorted = refl
 
 pub key_below_zero_as_count_sorted : is_sorted (program_of (resolved scripts.key_below_zero_as_count)) ≡ true
-unfolding uses all_uses given stmt_uses stmts_uses spend_all asked loop over_keys first_assigned records_done evaluated all_evaluated stepped all_stepped mid_called texts_in all_texts stmt_texts stmts_texts code_of codes_of key_code at_place argument_codes truncated_code applied_code step_code steps_code numeral_at sign_at fraction_at exponent_at numerator denominator digits unescaped escaped octal keywords builtins left_out_words table sign_of sorted all_sorted step_sorted steps_sorted
+unfolding special_arrays special_scalars spend_all asked loop over_keys first_assigned records_done evaluated all_evaluated stepped all_stepped mid_called texts_in all_texts stmt_texts stmts_texts code_of codes_of key_code kept_code argument_codes truncated_code applied_code step_code steps_code numeral_at sign_at fraction_at exponent_at numerator denominator digits unescaped escaped octal keywords builtins left_out_words table sign_of sorted all_sorted step_sorted steps_sorted
 key_below_zero_as_count_sorted = refl
 
 pub operators_with_assignment_sorted : is_sorted (program_of (resolved scripts.operators_with_assignment)) ≡ true
-unfolding uses all_uses given stmt_uses stmts_uses spend_all asked loop over_keys first_assigned records_done evaluated all_evaluated stepped all_stepped mid_called texts_in all_texts stmt_texts stmts_texts code_of codes_of key_code at_place argument_codes truncated_code applied_code step_code steps_code numeral_at sign_at fraction_at exponent_at numerator denominator digits unescaped escaped octal keywords builtins left_out_words table sign_of sorted all_sorted step_sorted steps_sorted
+unfolding special_arrays special_scalars spend_all asked loop over_keys first_assigned records_done evaluated all_evaluated stepped all_stepped mid_called texts_in all_texts stmt_texts stmts_texts code_of codes_of key_code kept_code argument_codes truncated_code applied_code step_code steps_code numeral_at sign_at fraction_at exponent_at numerator denominator digits unescaped escaped octal keywords builtins left_out_words table sign_of sorted all_sorted step_sorted steps_sorted
 operators_with_assignment_sorted = refl
 
 pub steps_in_fields_sorted : is_sorted (program_of (resolved scripts.steps_in_fields)) ≡ true
-unfolding uses all_uses given stmt_uses stmts_uses spend_all asked loop over_keys first_assigned records_done evaluated all_evaluated stepped all_stepped mid_called texts_in all_texts stmt_texts stmts_texts code_of codes_of key_code at_place argument_codes truncated_code applied_code step_code steps_code numeral_at sign_at fraction_at exponent_at numerator denominator digits unescaped escaped octal keywords builtins left_out_words table sign_of sorted all_sorted step_sorted steps_sorted
+unfolding special_arrays special_scalars spend_all asked loop over_keys first_assigned records_done evaluated all_evaluated stepped all_stepped mid_called texts_in all_texts stmt_texts stmts_texts code_of codes_of key_code kept_code argument_codes truncated_code applied_code step_code steps_code numeral_at sign_at fraction_at exponent_at numerator denominator digits unescaped escaped octal keywords builtins left_out_words table sign_of sorted all_sorted step_sorted steps_sorted
 steps_in_fields_sorted = refl
 
 pub special_steps_sorted : is_sorted (program_of (resolved scripts.special_steps)) ≡ true
-unfolding uses all_uses given stmt_uses stmts_uses spend_all asked loop over_keys first_assigned records_done evaluated all_evaluated stepped all_stepped mid_called texts_in all_texts stmt_texts stmts_texts code_of codes_of key_code at_place argument_codes truncated_code applied_code step_code steps_code numeral_at sign_at fraction_at exponent_at numerator denominator digits unescaped escaped octal keywords builtins left_out_words table sign_of sorted all_sorted step_sorted steps_sorted
+unfolding special_arrays special_scalars spend_all asked loop over_keys first_assigned records_done evaluated all_evaluated stepped all_stepped mid_called texts_in all_texts stmt_texts stmts_texts code_of codes_of key_code kept_code argument_codes truncated_code applied_code step_code steps_code numeral_at sign_at fraction_at exponent_at numerator denominator digits unescaped escaped octal keywords builtins left_out_words table sign_of sorted all_sorted step_sorted steps_sorted
 special_steps_sorted = refl
 
 pub read_into_elements_sorted : is_sorted (program_of (resolved scripts.read_into_elements)) ≡ true
-unfolding uses all_uses given stmt_uses stmts_uses spend_all asked loop over_keys first_assigned records_done evaluated all_evaluated stepped all_stepped mid_called texts_in all_texts stmt_texts stmts_texts code_of codes_of key_code at_place argument_codes truncated_code applied_code step_code steps_code numeral_at sign_at fraction_at exponent_at numerator denominator digits unescaped escaped octal keywords builtins left_out_words table sign_of sorted all_sorted step_sorted steps_sorted
+unfolding special_arrays special_scalars spend_all asked loop over_keys first_assigned records_done evaluated all_evaluated stepped all_stepped mid_called texts_in all_texts stmt_texts stmts_texts code_of codes_of key_code kept_code argument_codes truncated_code applied_code step_code steps_code numeral_at sign_at fraction_at exponent_at numerator denominator digits unescaped escaped octal keywords builtins left_out_words table sign_of sorted all_sorted step_sorted steps_sorted
 read_into_elements_sorted = refl
 
 pub read_into_field_sorted : is_sorted (program_of (resolved scripts.read_into_field)) ≡ true
-unfolding uses all_uses given stmt_uses stmts_uses spend_all asked loop over_keys first_assigned records_done evaluated all_evaluated stepped all_stepped mid_called texts_in all_texts stmt_texts stmts_texts code_of codes_of key_code at_place argument_codes truncated_code applied_code step_code steps_code numeral_at sign_at fraction_at exponent_at numerator denominator digits unescaped escaped octal keywords builtins left_out_words table sign_of sorted all_sorted step_sorted steps_sorted
+unfolding special_arrays special_scalars spend_all asked loop over_keys first_assigned records_done evaluated all_evaluated stepped all_stepped mid_called texts_in all_texts stmt_texts stmts_texts code_of codes_of key_code kept_code argument_codes truncated_code applied_code step_code steps_code numeral_at sign_at fraction_at exponent_at numerator denominator digits unescaped escaped octal keywords builtins left_out_words table sign_of sorted all_sorted step_sorted steps_sorted
 read_into_field_sorted = refl
 
 pub assignments_among_reads_sorted : is_sorted (program_of (resolved scripts.assignments_among_reads)) ≡ true
-unfolding uses all_uses given stmt_uses stmts_uses spend_all asked loop over_keys first_assigned records_done evaluated all_evaluated stepped all_stepped mid_called texts_in all_texts stmt_texts stmts_texts code_of codes_of key_code at_place argument_codes truncated_code applied_code step_code steps_code numeral_at sign_at fraction_at exponent_at numerator denominator digits unescaped escaped octal keywords builtins left_out_words table sign_of sorted all_sorted step_sorted steps_sorted
+unfolding special_arrays special_scalars spend_all asked loop over_keys first_assigned records_done evaluated all_evaluated stepped all_stepped mid_called texts_in all_texts stmt_texts stmts_texts code_of codes_of key_code kept_code argument_codes truncated_code applied_code step_code steps_code numeral_at sign_at fraction_at exponent_at numerator denominator digits unescaped escaped octal keywords builtins left_out_words table sign_of sorted all_sorted step_sorted steps_sorted
 assignments_among_reads_sorted = refl
 
 pub assignment_in_a_call_sorted : is_sorted (program_of (resolved scripts.assignment_in_a_call)) ≡ true
-unfolding uses all_uses given stmt_uses stmts_uses spend_all asked loop over_keys first_assigned records_done evaluated all_evaluated stepped all_stepped mid_called texts_in all_texts stmt_texts stmts_texts code_of codes_of key_code at_place argument_codes truncated_code applied_code step_code steps_code numeral_at sign_at fraction_at exponent_at numerator denominator digits unescaped escaped octal keywords builtins left_out_words table sign_of sorted all_sorted step_sorted steps_sorted
+unfolding special_arrays special_scalars spend_all asked loop over_keys first_assigned records_done evaluated all_evaluated stepped all_stepped mid_called texts_in all_texts stmt_texts stmts_texts code_of codes_of key_code kept_code argument_codes truncated_code applied_code step_code steps_code numeral_at sign_at fraction_at exponent_at numerator denominator digits unescaped escaped octal keywords builtins left_out_words table sign_of sorted all_sorted step_sorted steps_sorted
 assignment_in_a_call_sorted = refl
 
 pub all_replaced_in_record_sorted : is_sorted (program_of (resolved scripts.all_replaced_in_record)) ≡ true
-unfolding uses all_uses given stmt_uses stmts_uses spend_all asked loop over_keys first_assigned records_done evaluated all_evaluated stepped all_stepped mid_called texts_in all_texts stmt_texts stmts_texts code_of codes_of key_code at_place argument_codes truncated_code applied_code step_code steps_code numeral_at sign_at fraction_at exponent_at numerator denominator digits unescaped escaped octal keywords builtins left_out_words table sign_of sorted all_sorted step_sorted steps_sorted
+unfolding special_arrays special_scalars spend_all asked loop over_keys first_assigned records_done evaluated all_evaluated stepped all_stepped mid_called texts_in all_texts stmt_texts stmts_texts code_of codes_of key_code kept_code argument_codes truncated_code applied_code step_code steps_code numeral_at sign_at fraction_at exponent_at numerator denominator digits unescaped escaped octal keywords builtins left_out_words table sign_of sorted all_sorted step_sorted steps_sorted
 all_replaced_in_record_sorted = refl
 
 pub arrays_through_calls_sorted : is_sorted (program_of (resolved scripts.arrays_through_calls)) ≡ true
-unfolding uses all_uses given stmt_uses stmts_uses spend_all asked loop over_keys first_assigned records_done evaluated all_evaluated stepped all_stepped mid_called texts_in all_texts stmt_texts stmts_texts code_of codes_of key_code at_place argument_codes truncated_code applied_code step_code steps_code numeral_at sign_at fraction_at exponent_at numerator denominator digits unescaped escaped octal keywords builtins left_out_words table sign_of sorted all_sorted step_sorted steps_sorted
+unfolding special_arrays special_scalars spend_all asked loop over_keys first_assigned records_done evaluated all_evaluated stepped all_stepped mid_called texts_in all_texts stmt_texts stmts_texts code_of codes_of key_code kept_code argument_codes truncated_code applied_code step_code steps_code numeral_at sign_at fraction_at exponent_at numerator denominator digits unescaped escaped octal keywords builtins left_out_words table sign_of sorted all_sorted step_sorted steps_sorted
 arrays_through_calls_sorted = refl
 
 pub fresh_array_handed_on_sorted : is_sorted (program_of (resolved scripts.fresh_array_handed_on)) ≡ true
-unfolding uses all_uses given stmt_uses stmts_uses spend_all asked loop over_keys first_assigned records_done evaluated all_evaluated stepped all_stepped mid_called texts_in all_texts stmt_texts stmts_texts code_of codes_of key_code at_place argument_codes truncated_code applied_code step_code steps_code numeral_at sign_at fraction_at exponent_at numerator denominator digits unescaped escaped octal keywords builtins left_out_words table sign_of sorted all_sorted step_sorted steps_sorted
+unfolding special_arrays special_scalars spend_all asked loop over_keys first_assigned records_done evaluated all_evaluated stepped all_stepped mid_called texts_in all_texts stmt_texts stmts_texts code_of codes_of key_code kept_code argument_codes truncated_code applied_code step_code steps_code numeral_at sign_at fraction_at exponent_at numerator denominator digits unescaped escaped octal keywords builtins left_out_words table sign_of sorted all_sorted step_sorted steps_sorted
 fresh_array_handed_on_sorted = refl
 
 pub next_in_a_pattern_sorted : is_sorted (program_of (resolved scripts.next_in_a_pattern)) ≡ true
-unfolding uses all_uses given stmt_uses stmts_uses spend_all asked loop over_keys first_assigned records_done evaluated all_evaluated stepped all_stepped mid_called texts_in all_texts stmt_texts stmts_texts code_of codes_of key_code at_place argument_codes truncated_code applied_code step_code steps_code numeral_at sign_at fraction_at exponent_at numerator denominator digits unescaped escaped octal keywords builtins left_out_words table sign_of sorted all_sorted step_sorted steps_sorted
+unfolding special_arrays special_scalars spend_all asked loop over_keys first_assigned records_done evaluated all_evaluated stepped all_stepped mid_called texts_in all_texts stmt_texts stmts_texts code_of codes_of key_code kept_code argument_codes truncated_code applied_code step_code steps_code numeral_at sign_at fraction_at exponent_at numerator denominator digits unescaped escaped octal keywords builtins left_out_words table sign_of sorted all_sorted step_sorted steps_sorted
 next_in_a_pattern_sorted = refl
 
 pub next_in_end_sorted : is_sorted (program_of (resolved scripts.next_in_end)) ≡ true
-unfolding uses all_uses given stmt_uses stmts_uses spend_all asked loop over_keys first_assigned records_done evaluated all_evaluated stepped all_stepped mid_called texts_in all_texts stmt_texts stmts_texts code_of codes_of key_code at_place argument_codes truncated_code applied_code step_code steps_code numeral_at sign_at fraction_at exponent_at numerator denominator digits unescaped escaped octal keywords builtins left_out_words table sign_of sorted all_sorted step_sorted steps_sorted
+unfolding special_arrays special_scalars spend_all asked loop over_keys first_assigned records_done evaluated all_evaluated stepped all_stepped mid_called texts_in all_texts stmt_texts stmts_texts code_of codes_of key_code kept_code argument_codes truncated_code applied_code step_code steps_code numeral_at sign_at fraction_at exponent_at numerator denominator digits unescaped escaped octal keywords builtins left_out_words table sign_of sorted all_sorted step_sorted steps_sorted
 next_in_end_sorted = refl
 
 pub status_below_zero_sorted : is_sorted (program_of (resolved scripts.status_below_zero)) ≡ true
-unfolding uses all_uses given stmt_uses stmts_uses spend_all asked loop over_keys first_assigned records_done evaluated all_evaluated stepped all_stepped mid_called texts_in all_texts stmt_texts stmts_texts code_of codes_of key_code at_place argument_codes truncated_code applied_code step_code steps_code numeral_at sign_at fraction_at exponent_at numerator denominator digits unescaped escaped octal keywords builtins left_out_words table sign_of sorted all_sorted step_sorted steps_sorted
+unfolding special_arrays special_scalars spend_all asked loop over_keys first_assigned records_done evaluated all_evaluated stepped all_stepped mid_called texts_in all_texts stmt_texts stmts_texts code_of codes_of key_code kept_code argument_codes truncated_code applied_code step_code steps_code numeral_at sign_at fraction_at exponent_at numerator denominator digits unescaped escaped octal keywords builtins left_out_words table sign_of sorted all_sorted step_sorted steps_sorted
 status_below_zero_sorted = refl
 
 pub exit_before_records_sorted : is_sorted (program_of (resolved scripts.exit_before_records)) ≡ true
-unfolding uses all_uses given stmt_uses stmts_uses spend_all asked loop over_keys first_assigned records_done evaluated all_evaluated stepped all_stepped mid_called texts_in all_texts stmt_texts stmts_texts code_of codes_of key_code at_place argument_codes truncated_code applied_code step_code steps_code numeral_at sign_at fraction_at exponent_at numerator denominator digits unescaped escaped octal keywords builtins left_out_words table sign_of sorted all_sorted step_sorted steps_sorted
+unfolding special_arrays special_scalars spend_all asked loop over_keys first_assigned records_done evaluated all_evaluated stepped all_stepped mid_called texts_in all_texts stmt_texts stmts_texts code_of codes_of key_code kept_code argument_codes truncated_code applied_code step_code steps_code numeral_at sign_at fraction_at exponent_at numerator denominator digits unescaped escaped octal keywords builtins left_out_words table sign_of sorted all_sorted step_sorted steps_sorted
 exit_before_records_sorted = refl
 
 pub exit_with_fraction_sorted : is_sorted (program_of (resolved scripts.exit_with_fraction)) ≡ true
-unfolding uses all_uses given stmt_uses stmts_uses spend_all asked loop over_keys first_assigned records_done evaluated all_evaluated stepped all_stepped mid_called texts_in all_texts stmt_texts stmts_texts code_of codes_of key_code at_place argument_codes truncated_code applied_code step_code steps_code numeral_at sign_at fraction_at exponent_at numerator denominator digits unescaped escaped octal keywords builtins left_out_words table sign_of sorted all_sorted step_sorted steps_sorted
+unfolding special_arrays special_scalars spend_all asked loop over_keys first_assigned records_done evaluated all_evaluated stepped all_stepped mid_called texts_in all_texts stmt_texts stmts_texts code_of codes_of key_code kept_code argument_codes truncated_code applied_code step_code steps_code numeral_at sign_at fraction_at exponent_at numerator denominator digits unescaped escaped octal keywords builtins left_out_words table sign_of sorted all_sorted step_sorted steps_sorted
 exit_with_fraction_sorted = refl
 
 pub arguments_before_conversion_sorted : is_sorted (program_of (resolved scripts.arguments_before_conversion)) ≡ true
-unfolding uses all_uses given stmt_uses stmts_uses spend_all asked loop over_keys first_assigned records_done evaluated all_evaluated stepped all_stepped mid_called texts_in all_texts stmt_texts stmts_texts code_of codes_of key_code at_place argument_codes truncated_code applied_code step_code steps_code numeral_at sign_at fraction_at exponent_at numerator denominator digits unescaped escaped octal keywords builtins left_out_words table sign_of sorted all_sorted step_sorted steps_sorted
+unfolding special_arrays special_scalars spend_all asked loop over_keys first_assigned records_done evaluated all_evaluated stepped all_stepped mid_called texts_in all_texts stmt_texts stmts_texts code_of codes_of key_code kept_code argument_codes truncated_code applied_code step_code steps_code numeral_at sign_at fraction_at exponent_at numerator denominator digits unescaped escaped octal keywords builtins left_out_words table sign_of sorted all_sorted step_sorted steps_sorted
 arguments_before_conversion_sorted = refl
 
 pub sign_converts_at_once_sorted : is_sorted (program_of (resolved scripts.sign_converts_at_once)) ≡ true
-unfolding uses all_uses given stmt_uses stmts_uses spend_all asked loop over_keys first_assigned records_done evaluated all_evaluated stepped all_stepped mid_called texts_in all_texts stmt_texts stmts_texts code_of codes_of key_code at_place argument_codes truncated_code applied_code step_code steps_code numeral_at sign_at fraction_at exponent_at numerator denominator digits unescaped escaped octal keywords builtins left_out_words table sign_of sorted all_sorted step_sorted steps_sorted
+unfolding special_arrays special_scalars spend_all asked loop over_keys first_assigned records_done evaluated all_evaluated stepped all_stepped mid_called texts_in all_texts stmt_texts stmts_texts code_of codes_of key_code kept_code argument_codes truncated_code applied_code step_code steps_code numeral_at sign_at fraction_at exponent_at numerator denominator digits unescaped escaped octal keywords builtins left_out_words table sign_of sorted all_sorted step_sorted steps_sorted
 sign_converts_at_once_sorted = refl
 
 pub format_before_file_sorted : is_sorted (program_of (resolved scripts.format_before_file)) ≡ true
-unfolding uses all_uses given stmt_uses stmts_uses spend_all asked loop over_keys first_assigned records_done evaluated all_evaluated stepped all_stepped mid_called texts_in all_texts stmt_texts stmts_texts code_of codes_of key_code at_place argument_codes truncated_code applied_code step_code steps_code numeral_at sign_at fraction_at exponent_at numerator denominator digits unescaped escaped octal keywords builtins left_out_words table sign_of sorted all_sorted step_sorted steps_sorted
+unfolding special_arrays special_scalars spend_all asked loop over_keys first_assigned records_done evaluated all_evaluated stepped all_stepped mid_called texts_in all_texts stmt_texts stmts_texts code_of codes_of key_code kept_code argument_codes truncated_code applied_code step_code steps_code numeral_at sign_at fraction_at exponent_at numerator denominator digits unescaped escaped octal keywords builtins left_out_words table sign_of sorted all_sorted step_sorted steps_sorted
 format_before_file_sorted = refl
 
 pub truncated_quotient_sorted : is_sorted (program_of (resolved scripts.truncated_quotient)) ≡ true
-unfolding uses all_uses given stmt_uses stmts_uses spend_all asked loop over_keys first_assigned records_done evaluated all_evaluated stepped all_stepped mid_called texts_in all_texts stmt_texts stmts_texts code_of codes_of key_code at_place argument_codes truncated_code applied_code step_code steps_code numeral_at sign_at fraction_at exponent_at numerator denominator digits unescaped escaped octal keywords builtins left_out_words table sign_of sorted all_sorted step_sorted steps_sorted
+unfolding special_arrays special_scalars spend_all asked loop over_keys first_assigned records_done evaluated all_evaluated stepped all_stepped mid_called texts_in all_texts stmt_texts stmts_texts code_of codes_of key_code kept_code argument_codes truncated_code applied_code step_code steps_code numeral_at sign_at fraction_at exponent_at numerator denominator digits unescaped escaped octal keywords builtins left_out_words table sign_of sorted all_sorted step_sorted steps_sorted
 truncated_quotient_sorted = refl
 
 pub quotient_under_a_sign_sorted : is_sorted (program_of (resolved scripts.quotient_under_a_sign)) ≡ true
-unfolding uses all_uses given stmt_uses stmts_uses spend_all asked loop over_keys first_assigned records_done evaluated all_evaluated stepped all_stepped mid_called texts_in all_texts stmt_texts stmts_texts code_of codes_of key_code at_place argument_codes truncated_code applied_code step_code steps_code numeral_at sign_at fraction_at exponent_at numerator denominator digits unescaped escaped octal keywords builtins left_out_words table sign_of sorted all_sorted step_sorted steps_sorted
+unfolding special_arrays special_scalars spend_all asked loop over_keys first_assigned records_done evaluated all_evaluated stepped all_stepped mid_called texts_in all_texts stmt_texts stmts_texts code_of codes_of key_code kept_code argument_codes truncated_code applied_code step_code steps_code numeral_at sign_at fraction_at exponent_at numerator denominator digits unescaped escaped octal keywords builtins left_out_words table sign_of sorted all_sorted step_sorted steps_sorted
 quotient_under_a_sign_sorted = refl
 
 pub read_as_a_test_sorted : is_sorted (program_of (resolved scripts.read_as_a_test)) ≡ true
-unfolding uses all_uses given stmt_uses stmts_uses spend_all asked loop over_keys first_assigned records_done evaluated all_evaluated stepped all_stepped mid_called texts_in all_texts stmt_texts stmts_texts code_of codes_of key_code at_place argument_codes truncated_code applied_code step_code steps_code numeral_at sign_at fraction_at exponent_at numerator denominator digits unescaped escaped octal keywords builtins left_out_words table sign_of sorted all_sorted step_sorted steps_sorted
+unfolding special_arrays special_scalars spend_all asked loop over_keys first_assigned records_done evaluated all_evaluated stepped all_stepped mid_called texts_in all_texts stmt_texts stmts_texts code_of codes_of key_code kept_code argument_codes truncated_code applied_code step_code steps_code numeral_at sign_at fraction_at exponent_at numerator denominator digits unescaped escaped octal keywords builtins left_out_words table sign_of sorted all_sorted step_sorted steps_sorted
 read_as_a_test_sorted = refl
 
 pub do_without_turns_sorted : is_sorted (program_of (resolved scripts.do_without_turns)) ≡ true
-unfolding uses all_uses given stmt_uses stmts_uses spend_all asked loop over_keys first_assigned records_done evaluated all_evaluated stepped all_stepped mid_called texts_in all_texts stmt_texts stmts_texts code_of codes_of key_code at_place argument_codes truncated_code applied_code step_code steps_code numeral_at sign_at fraction_at exponent_at numerator denominator digits unescaped escaped octal keywords builtins left_out_words table sign_of sorted all_sorted step_sorted steps_sorted
+unfolding special_arrays special_scalars spend_all asked loop over_keys first_assigned records_done evaluated all_evaluated stepped all_stepped mid_called texts_in all_texts stmt_texts stmts_texts code_of codes_of key_code kept_code argument_codes truncated_code applied_code step_code steps_code numeral_at sign_at fraction_at exponent_at numerator denominator digits unescaped escaped octal keywords builtins left_out_words table sign_of sorted all_sorted step_sorted steps_sorted
 do_without_turns_sorted = refl
 
 pub call_without_turns_sorted : is_sorted (program_of (resolved scripts.call_without_turns)) ≡ true
-unfolding uses all_uses given stmt_uses stmts_uses spend_all asked loop over_keys first_assigned records_done evaluated all_evaluated stepped all_stepped mid_called texts_in all_texts stmt_texts stmts_texts code_of codes_of key_code at_place argument_codes truncated_code applied_code step_code steps_code numeral_at sign_at fraction_at exponent_at numerator denominator digits unescaped escaped octal keywords builtins left_out_words table sign_of sorted all_sorted step_sorted steps_sorted
+unfolding special_arrays special_scalars spend_all asked loop over_keys first_assigned records_done evaluated all_evaluated stepped all_stepped mid_called texts_in all_texts stmt_texts stmts_texts code_of codes_of key_code kept_code argument_codes truncated_code applied_code step_code steps_code numeral_at sign_at fraction_at exponent_at numerator denominator digits unescaped escaped octal keywords builtins left_out_words table sign_of sorted all_sorted step_sorted steps_sorted
 call_without_turns_sorted = refl
 
 pub keys_and_turns_sorted : is_sorted (program_of (resolved scripts.keys_and_turns)) ≡ true
-unfolding uses all_uses given stmt_uses stmts_uses spend_all asked loop over_keys first_assigned records_done evaluated all_evaluated stepped all_stepped mid_called texts_in all_texts stmt_texts stmts_texts code_of codes_of key_code at_place argument_codes truncated_code applied_code step_code steps_code numeral_at sign_at fraction_at exponent_at numerator denominator digits unescaped escaped octal keywords builtins left_out_words table sign_of sorted all_sorted step_sorted steps_sorted
+unfolding special_arrays special_scalars spend_all asked loop over_keys first_assigned records_done evaluated all_evaluated stepped all_stepped mid_called texts_in all_texts stmt_texts stmts_texts code_of codes_of key_code kept_code argument_codes truncated_code applied_code step_code steps_code numeral_at sign_at fraction_at exponent_at numerator denominator digits unescaped escaped octal keywords builtins left_out_words table sign_of sorted all_sorted step_sorted steps_sorted
 keys_and_turns_sorted = refl
 
 pub records_and_turns_sorted : is_sorted (program_of (resolved scripts.records_and_turns)) ≡ true
-unfolding uses all_uses given stmt_uses stmts_uses spend_all asked loop over_keys first_assigned records_done evaluated all_evaluated stepped all_stepped mid_called texts_in all_texts stmt_texts stmts_texts code_of codes_of key_code at_place argument_codes truncated_code applied_code step_code steps_code numeral_at sign_at fraction_at exponent_at numerator denominator digits unescaped escaped octal keywords builtins left_out_words table sign_of sorted all_sorted step_sorted steps_sorted
+unfolding special_arrays special_scalars spend_all asked loop over_keys first_assigned records_done evaluated all_evaluated stepped all_stepped mid_called texts_in all_texts stmt_texts stmts_texts code_of codes_of key_code kept_code argument_codes truncated_code applied_code step_code steps_code numeral_at sign_at fraction_at exponent_at numerator denominator digits unescaped escaped octal keywords builtins left_out_words table sign_of sorted all_sorted step_sorted steps_sorted
 records_and_turns_sorted = refl
 
 pub turn_for_each_record_sorted : is_sorted (program_of (resolved scripts.turn_for_each_record)) ≡ true
-unfolding uses all_uses given stmt_uses stmts_uses spend_all asked loop over_keys first_assigned records_done evaluated all_evaluated stepped all_stepped mid_called texts_in all_texts stmt_texts stmts_texts code_of codes_of key_code at_place argument_codes truncated_code applied_code step_code steps_code numeral_at sign_at fraction_at exponent_at numerator denominator digits unescaped escaped octal keywords builtins left_out_words table sign_of sorted all_sorted step_sorted steps_sorted
+unfolding special_arrays special_scalars spend_all asked loop over_keys first_assigned records_done evaluated all_evaluated stepped all_stepped mid_called texts_in all_texts stmt_texts stmts_texts code_of codes_of key_code kept_code argument_codes truncated_code applied_code step_code steps_code numeral_at sign_at fraction_at exponent_at numerator denominator digits unescaped escaped octal keywords builtins left_out_words table sign_of sorted all_sorted step_sorted steps_sorted
 turn_for_each_record_sorted = refl
 
 pub assignment_without_turns_sorted : is_sorted (program_of (resolved scripts.assignment_without_turns)) ≡ true
-unfolding uses all_uses given stmt_uses stmts_uses spend_all asked loop over_keys first_assigned records_done evaluated all_evaluated stepped all_stepped mid_called texts_in all_texts stmt_texts stmts_texts code_of codes_of key_code at_place argument_codes truncated_code applied_code step_code steps_code numeral_at sign_at fraction_at exponent_at numerator denominator digits unescaped escaped octal keywords builtins left_out_words table sign_of sorted all_sorted step_sorted steps_sorted
+unfolding special_arrays special_scalars spend_all asked loop over_keys first_assigned records_done evaluated all_evaluated stepped all_stepped mid_called texts_in all_texts stmt_texts stmts_texts code_of codes_of key_code kept_code argument_codes truncated_code applied_code step_code steps_code numeral_at sign_at fraction_at exponent_at numerator denominator digits unescaped escaped octal keywords builtins left_out_words table sign_of sorted all_sorted step_sorted steps_sorted
 assignment_without_turns_sorted = refl
 
 pub special_assigned_without_turns_sorted : is_sorted (program_of (resolved scripts.special_assigned_without_turns)) ≡ true
-unfolding uses all_uses given stmt_uses stmts_uses spend_all asked loop over_keys first_assigned records_done evaluated all_evaluated stepped all_stepped mid_called texts_in all_texts stmt_texts stmts_texts code_of codes_of key_code at_place argument_codes truncated_code applied_code step_code steps_code numeral_at sign_at fraction_at exponent_at numerator denominator digits unescaped escaped octal keywords builtins left_out_words table sign_of sorted all_sorted step_sorted steps_sorted
+unfolding special_arrays special_scalars spend_all asked loop over_keys first_assigned records_done evaluated all_evaluated stepped all_stepped mid_called texts_in all_texts stmt_texts stmts_texts code_of codes_of key_code kept_code argument_codes truncated_code applied_code step_code steps_code numeral_at sign_at fraction_at exponent_at numerator denominator digits unescaped escaped octal keywords builtins left_out_words table sign_of sorted all_sorted step_sorted steps_sorted
 special_assigned_without_turns_sorted = refl
 
 pub unused_name_without_turns_sorted : is_sorted (program_of (resolved scripts.unused_name_without_turns)) ≡ true
-unfolding uses all_uses given stmt_uses stmts_uses spend_all asked loop over_keys first_assigned records_done evaluated all_evaluated stepped all_stepped mid_called texts_in all_texts stmt_texts stmts_texts code_of codes_of key_code at_place argument_codes truncated_code applied_code step_code steps_code numeral_at sign_at fraction_at exponent_at numerator denominator digits unescaped escaped octal keywords builtins left_out_words table sign_of sorted all_sorted step_sorted steps_sorted
+unfolding special_arrays special_scalars spend_all asked loop over_keys first_assigned records_done evaluated all_evaluated stepped all_stepped mid_called texts_in all_texts stmt_texts stmts_texts code_of codes_of key_code kept_code argument_codes truncated_code applied_code step_code steps_code numeral_at sign_at fraction_at exponent_at numerator denominator digits unescaped escaped octal keywords builtins left_out_words table sign_of sorted all_sorted step_sorted steps_sorted
 unused_name_without_turns_sorted = refl
 
 pub turn_for_each_assignment_sorted : is_sorted (program_of (resolved scripts.turn_for_each_assignment)) ≡ true
-unfolding uses all_uses given stmt_uses stmts_uses spend_all asked loop over_keys first_assigned records_done evaluated all_evaluated stepped all_stepped mid_called texts_in all_texts stmt_texts stmts_texts code_of codes_of key_code at_place argument_codes truncated_code applied_code step_code steps_code numeral_at sign_at fraction_at exponent_at numerator denominator digits unescaped escaped octal keywords builtins left_out_words table sign_of sorted all_sorted step_sorted steps_sorted
+unfolding special_arrays special_scalars spend_all asked loop over_keys first_assigned records_done evaluated all_evaluated stepped all_stepped mid_called texts_in all_texts stmt_texts stmts_texts code_of codes_of key_code kept_code argument_codes truncated_code applied_code step_code steps_code numeral_at sign_at fraction_at exponent_at numerator denominator digits unescaped escaped octal keywords builtins left_out_words table sign_of sorted all_sorted step_sorted steps_sorted
 turn_for_each_assignment_sorted = refl
 
 pub too_few_turns_for_assignments_sorted : is_sorted (program_of (resolved scripts.too_few_turns_for_assignments)) ≡ true
-unfolding uses all_uses given stmt_uses stmts_uses spend_all asked loop over_keys first_assigned records_done evaluated all_evaluated stepped all_stepped mid_called texts_in all_texts stmt_texts stmts_texts code_of codes_of key_code at_place argument_codes truncated_code applied_code step_code steps_code numeral_at sign_at fraction_at exponent_at numerator denominator digits unescaped escaped octal keywords builtins left_out_words table sign_of sorted all_sorted step_sorted steps_sorted
+unfolding special_arrays special_scalars spend_all asked loop over_keys first_assigned records_done evaluated all_evaluated stepped all_stepped mid_called texts_in all_texts stmt_texts stmts_texts code_of codes_of key_code kept_code argument_codes truncated_code applied_code step_code steps_code numeral_at sign_at fraction_at exponent_at numerator denominator digits unescaped escaped octal keywords builtins left_out_words table sign_of sorted all_sorted step_sorted steps_sorted
 too_few_turns_for_assignments_sorted = refl
 
 pub bad_assignment_not_reached_sorted : is_sorted (program_of (resolved scripts.bad_assignment_not_reached)) ≡ true
-unfolding uses all_uses given stmt_uses stmts_uses spend_all asked loop over_keys first_assigned records_done evaluated all_evaluated stepped all_stepped mid_called texts_in all_texts stmt_texts stmts_texts code_of codes_of key_code at_place argument_codes truncated_code applied_code step_code steps_code numeral_at sign_at fraction_at exponent_at numerator denominator digits unescaped escaped octal keywords builtins left_out_words table sign_of sorted all_sorted step_sorted steps_sorted
+unfolding special_arrays special_scalars spend_all asked loop over_keys first_assigned records_done evaluated all_evaluated stepped all_stepped mid_called texts_in all_texts stmt_texts stmts_texts code_of codes_of key_code kept_code argument_codes truncated_code applied_code step_code steps_code numeral_at sign_at fraction_at exponent_at numerator denominator digits unescaped escaped octal keywords builtins left_out_words table sign_of sorted all_sorted step_sorted steps_sorted
 bad_assignment_not_reached_sorted = refl
 
 pub bad_assignment_reached_sorted : is_sorted (program_of (resolved scripts.bad_assignment_reached)) ≡ true
-unfolding uses all_uses given stmt_uses stmts_uses spend_all asked loop over_keys first_assigned records_done evaluated all_evaluated stepped all_stepped mid_called texts_in all_texts stmt_texts stmts_texts code_of codes_of key_code at_place argument_codes truncated_code applied_code step_code steps_code numeral_at sign_at fraction_at exponent_at numerator denominator digits unescaped escaped octal keywords builtins left_out_words table sign_of sorted all_sorted step_sorted steps_sorted
+unfolding special_arrays special_scalars spend_all asked loop over_keys first_assigned records_done evaluated all_evaluated stepped all_stepped mid_called texts_in all_texts stmt_texts stmts_texts code_of codes_of key_code kept_code argument_codes truncated_code applied_code step_code steps_code numeral_at sign_at fraction_at exponent_at numerator denominator digits unescaped escaped octal keywords builtins left_out_words table sign_of sorted all_sorted step_sorted steps_sorted
 bad_assignment_reached_sorted = refl
 
 pub operand_without_turns_sorted : is_sorted (program_of (resolved scripts.operand_without_turns)) ≡ true
-unfolding uses all_uses given stmt_uses stmts_uses spend_all asked loop over_keys first_assigned records_done evaluated all_evaluated stepped all_stepped mid_called texts_in all_texts stmt_texts stmts_texts code_of codes_of key_code at_place argument_codes truncated_code applied_code step_code steps_code numeral_at sign_at fraction_at exponent_at numerator denominator digits unescaped escaped octal keywords builtins left_out_words table sign_of sorted all_sorted step_sorted steps_sorted
+unfolding special_arrays special_scalars spend_all asked loop over_keys first_assigned records_done evaluated all_evaluated stepped all_stepped mid_called texts_in all_texts stmt_texts stmts_texts code_of codes_of key_code kept_code argument_codes truncated_code applied_code step_code steps_code numeral_at sign_at fraction_at exponent_at numerator denominator digits unescaped escaped octal keywords builtins left_out_words table sign_of sorted all_sorted step_sorted steps_sorted
 operand_without_turns_sorted = refl
 
 pub turns_of_operands_sorted : is_sorted (program_of (resolved scripts.turns_of_operands)) ≡ true
-unfolding uses all_uses given stmt_uses stmts_uses spend_all asked loop over_keys first_assigned records_done evaluated all_evaluated stepped all_stepped mid_called texts_in all_texts stmt_texts stmts_texts code_of codes_of key_code at_place argument_codes truncated_code applied_code step_code steps_code numeral_at sign_at fraction_at exponent_at numerator denominator digits unescaped escaped octal keywords builtins left_out_words table sign_of sorted all_sorted step_sorted steps_sorted
+unfolding special_arrays special_scalars spend_all asked loop over_keys first_assigned records_done evaluated all_evaluated stepped all_stepped mid_called texts_in all_texts stmt_texts stmts_texts code_of codes_of key_code kept_code argument_codes truncated_code applied_code step_code steps_code numeral_at sign_at fraction_at exponent_at numerator denominator digits unescaped escaped octal keywords builtins left_out_words table sign_of sorted all_sorted step_sorted steps_sorted
 turns_of_operands_sorted = refl
 
 pub turns_of_getline_sorted : is_sorted (program_of (resolved scripts.turns_of_getline)) ≡ true
-unfolding uses all_uses given stmt_uses stmts_uses spend_all asked loop over_keys first_assigned records_done evaluated all_evaluated stepped all_stepped mid_called texts_in all_texts stmt_texts stmts_texts code_of codes_of key_code at_place argument_codes truncated_code applied_code step_code steps_code numeral_at sign_at fraction_at exponent_at numerator denominator digits unescaped escaped octal keywords builtins left_out_words table sign_of sorted all_sorted step_sorted steps_sorted
+unfolding special_arrays special_scalars spend_all asked loop over_keys first_assigned records_done evaluated all_evaluated stepped all_stepped mid_called texts_in all_texts stmt_texts stmts_texts code_of codes_of key_code kept_code argument_codes truncated_code applied_code step_code steps_code numeral_at sign_at fraction_at exponent_at numerator denominator digits unescaped escaped octal keywords builtins left_out_words table sign_of sorted all_sorted step_sorted steps_sorted
 turns_of_getline_sorted = refl
 
 pub argc_read_at_the_end_sorted : is_sorted (program_of (resolved scripts.argc_read_at_the_end)) ≡ true
-unfolding uses all_uses given stmt_uses stmts_uses spend_all asked loop over_keys first_assigned records_done evaluated all_evaluated stepped all_stepped mid_called texts_in all_texts stmt_texts stmts_texts code_of codes_of key_code at_place argument_codes truncated_code applied_code step_code steps_code numeral_at sign_at fraction_at exponent_at numerator denominator digits unescaped escaped octal keywords builtins left_out_words table sign_of sorted all_sorted step_sorted steps_sorted
+unfolding special_arrays special_scalars spend_all asked loop over_keys first_assigned records_done evaluated all_evaluated stepped all_stepped mid_called texts_in all_texts stmt_texts stmts_texts code_of codes_of key_code kept_code argument_codes truncated_code applied_code step_code steps_code numeral_at sign_at fraction_at exponent_at numerator denominator digits unescaped escaped octal keywords builtins left_out_words table sign_of sorted all_sorted step_sorted steps_sorted
 argc_read_at_the_end_sorted = refl
 
 pub argc_read_after_a_file_sorted : is_sorted (program_of (resolved scripts.argc_read_after_a_file)) ≡ true
-unfolding uses all_uses given stmt_uses stmts_uses spend_all asked loop over_keys first_assigned records_done evaluated all_evaluated stepped all_stepped mid_called texts_in all_texts stmt_texts stmts_texts code_of codes_of key_code at_place argument_codes truncated_code applied_code step_code steps_code numeral_at sign_at fraction_at exponent_at numerator denominator digits unescaped escaped octal keywords builtins left_out_words table sign_of sorted all_sorted step_sorted steps_sorted
+unfolding special_arrays special_scalars spend_all asked loop over_keys first_assigned records_done evaluated all_evaluated stepped all_stepped mid_called texts_in all_texts stmt_texts stmts_texts code_of codes_of key_code kept_code argument_codes truncated_code applied_code step_code steps_code numeral_at sign_at fraction_at exponent_at numerator denominator digits unescaped escaped octal keywords builtins left_out_words table sign_of sorted all_sorted step_sorted steps_sorted
 argc_read_after_a_file_sorted = refl
 
 pub argc_hides_an_operand_sorted : is_sorted (program_of (resolved scripts.argc_hides_an_operand)) ≡ true
-unfolding uses all_uses given stmt_uses stmts_uses spend_all asked loop over_keys first_assigned records_done evaluated all_evaluated stepped all_stepped mid_called texts_in all_texts stmt_texts stmts_texts code_of codes_of key_code at_place argument_codes truncated_code applied_code step_code steps_code numeral_at sign_at fraction_at exponent_at numerator denominator digits unescaped escaped octal keywords builtins left_out_words table sign_of sorted all_sorted step_sorted steps_sorted
+unfolding special_arrays special_scalars spend_all asked loop over_keys first_assigned records_done evaluated all_evaluated stepped all_stepped mid_called texts_in all_texts stmt_texts stmts_texts code_of codes_of key_code kept_code argument_codes truncated_code applied_code step_code steps_code numeral_at sign_at fraction_at exponent_at numerator denominator digits unescaped escaped octal keywords builtins left_out_words table sign_of sorted all_sorted step_sorted steps_sorted
 argc_hides_an_operand_sorted = refl
 
 pub argc_from_an_operand_sorted : is_sorted (program_of (resolved scripts.argc_from_an_operand)) ≡ true
-unfolding uses all_uses given stmt_uses stmts_uses spend_all asked loop over_keys first_assigned records_done evaluated all_evaluated stepped all_stepped mid_called texts_in all_texts stmt_texts stmts_texts code_of codes_of key_code at_place argument_codes truncated_code applied_code step_code steps_code numeral_at sign_at fraction_at exponent_at numerator denominator digits unescaped escaped octal keywords builtins left_out_words table sign_of sorted all_sorted step_sorted steps_sorted
+unfolding special_arrays special_scalars spend_all asked loop over_keys first_assigned records_done evaluated all_evaluated stepped all_stepped mid_called texts_in all_texts stmt_texts stmts_texts code_of codes_of key_code kept_code argument_codes truncated_code applied_code step_code steps_code numeral_at sign_at fraction_at exponent_at numerator denominator digits unescaped escaped octal keywords builtins left_out_words table sign_of sorted all_sorted step_sorted steps_sorted
 argc_from_an_operand_sorted = refl
 
 pub names_and_counts_sorted : is_sorted (program_of (resolved scripts.names_and_counts)) ≡ true
-unfolding uses all_uses given stmt_uses stmts_uses spend_all asked loop over_keys first_assigned records_done evaluated all_evaluated stepped all_stepped mid_called texts_in all_texts stmt_texts stmts_texts code_of codes_of key_code at_place argument_codes truncated_code applied_code step_code steps_code numeral_at sign_at fraction_at exponent_at numerator denominator digits unescaped escaped octal keywords builtins left_out_words table sign_of sorted all_sorted step_sorted steps_sorted
+unfolding special_arrays special_scalars spend_all asked loop over_keys first_assigned records_done evaluated all_evaluated stepped all_stepped mid_called texts_in all_texts stmt_texts stmts_texts code_of codes_of key_code kept_code argument_codes truncated_code applied_code step_code steps_code numeral_at sign_at fraction_at exponent_at numerator denominator digits unescaped escaped octal keywords builtins left_out_words table sign_of sorted all_sorted step_sorted steps_sorted
 names_and_counts_sorted = refl
 
 pub absent_file_passed_over_sorted : is_sorted (program_of (resolved scripts.absent_file_passed_over)) ≡ true
-unfolding uses all_uses given stmt_uses stmts_uses spend_all asked loop over_keys first_assigned records_done evaluated all_evaluated stepped all_stepped mid_called texts_in all_texts stmt_texts stmts_texts code_of codes_of key_code at_place argument_codes truncated_code applied_code step_code steps_code numeral_at sign_at fraction_at exponent_at numerator denominator digits unescaped escaped octal keywords builtins left_out_words table sign_of sorted all_sorted step_sorted steps_sorted
+unfolding special_arrays special_scalars spend_all asked loop over_keys first_assigned records_done evaluated all_evaluated stepped all_stepped mid_called texts_in all_texts stmt_texts stmts_texts code_of codes_of key_code kept_code argument_codes truncated_code applied_code step_code steps_code numeral_at sign_at fraction_at exponent_at numerator denominator digits unescaped escaped octal keywords builtins left_out_words table sign_of sorted all_sorted step_sorted steps_sorted
 absent_file_passed_over_sorted = refl
 
 pub failing_main_input_sorted : is_sorted (program_of (resolved scripts.failing_main_input)) ≡ true
-unfolding uses all_uses given stmt_uses stmts_uses spend_all asked loop over_keys first_assigned records_done evaluated all_evaluated stepped all_stepped mid_called texts_in all_texts stmt_texts stmts_texts code_of codes_of key_code at_place argument_codes truncated_code applied_code step_code steps_code numeral_at sign_at fraction_at exponent_at numerator denominator digits unescaped escaped octal keywords builtins left_out_words table sign_of sorted all_sorted step_sorted steps_sorted
+unfolding special_arrays special_scalars spend_all asked loop over_keys first_assigned records_done evaluated all_evaluated stepped all_stepped mid_called texts_in all_texts stmt_texts stmts_texts code_of codes_of key_code kept_code argument_codes truncated_code applied_code step_code steps_code numeral_at sign_at fraction_at exponent_at numerator denominator digits unescaped escaped octal keywords builtins left_out_words table sign_of sorted all_sorted step_sorted steps_sorted
 failing_main_input_sorted = refl
 
 pub specials_among_operands_sorted : is_sorted (program_of (resolved scripts.specials_among_operands)) ≡ true
-unfolding uses all_uses given stmt_uses stmts_uses spend_all asked loop over_keys first_assigned records_done evaluated all_evaluated stepped all_stepped mid_called texts_in all_texts stmt_texts stmts_texts code_of codes_of key_code at_place argument_codes truncated_code applied_code step_code steps_code numeral_at sign_at fraction_at exponent_at numerator denominator digits unescaped escaped octal keywords builtins left_out_words table sign_of sorted all_sorted step_sorted steps_sorted
+unfolding special_arrays special_scalars spend_all asked loop over_keys first_assigned records_done evaluated all_evaluated stepped all_stepped mid_called texts_in all_texts stmt_texts stmts_texts code_of codes_of key_code kept_code argument_codes truncated_code applied_code step_code steps_code numeral_at sign_at fraction_at exponent_at numerator denominator digits unescaped escaped octal keywords builtins left_out_words table sign_of sorted all_sorted step_sorted steps_sorted
 specials_among_operands_sorted = refl
 
 pub counts_assigned_sorted : is_sorted (program_of (resolved scripts.counts_assigned)) ≡ true
-unfolding uses all_uses given stmt_uses stmts_uses spend_all asked loop over_keys first_assigned records_done evaluated all_evaluated stepped all_stepped mid_called texts_in all_texts stmt_texts stmts_texts code_of codes_of key_code at_place argument_codes truncated_code applied_code step_code steps_code numeral_at sign_at fraction_at exponent_at numerator denominator digits unescaped escaped octal keywords builtins left_out_words table sign_of sorted all_sorted step_sorted steps_sorted
+unfolding special_arrays special_scalars spend_all asked loop over_keys first_assigned records_done evaluated all_evaluated stepped all_stepped mid_called texts_in all_texts stmt_texts stmts_texts code_of codes_of key_code kept_code argument_codes truncated_code applied_code step_code steps_code numeral_at sign_at fraction_at exponent_at numerator denominator digits unescaped escaped octal keywords builtins left_out_words table sign_of sorted all_sorted step_sorted steps_sorted
 counts_assigned_sorted = refl
 
 pub input_stays_ended_sorted : is_sorted (program_of (resolved scripts.input_stays_ended)) ≡ true
-unfolding uses all_uses given stmt_uses stmts_uses spend_all asked loop over_keys first_assigned records_done evaluated all_evaluated stepped all_stepped mid_called texts_in all_texts stmt_texts stmts_texts code_of codes_of key_code at_place argument_codes truncated_code applied_code step_code steps_code numeral_at sign_at fraction_at exponent_at numerator denominator digits unescaped escaped octal keywords builtins left_out_words table sign_of sorted all_sorted step_sorted steps_sorted
+unfolding special_arrays special_scalars spend_all asked loop over_keys first_assigned records_done evaluated all_evaluated stepped all_stepped mid_called texts_in all_texts stmt_texts stmts_texts code_of codes_of key_code kept_code argument_codes truncated_code applied_code step_code steps_code numeral_at sign_at fraction_at exponent_at numerator denominator digits unescaped escaped octal keywords builtins left_out_words table sign_of sorted all_sorted step_sorted steps_sorted
 input_stays_ended_sorted = refl
 
 pub operand_from_a_number_sorted : is_sorted (program_of (resolved scripts.operand_from_a_number)) ≡ true
-unfolding uses all_uses given stmt_uses stmts_uses spend_all asked loop over_keys first_assigned records_done evaluated all_evaluated stepped all_stepped mid_called texts_in all_texts stmt_texts stmts_texts code_of codes_of key_code at_place argument_codes truncated_code applied_code step_code steps_code numeral_at sign_at fraction_at exponent_at numerator denominator digits unescaped escaped octal keywords builtins left_out_words table sign_of sorted all_sorted step_sorted steps_sorted
+unfolding special_arrays special_scalars spend_all asked loop over_keys first_assigned records_done evaluated all_evaluated stepped all_stepped mid_called texts_in all_texts stmt_texts stmts_texts code_of codes_of key_code kept_code argument_codes truncated_code applied_code step_code steps_code numeral_at sign_at fraction_at exponent_at numerator denominator digits unescaped escaped octal keywords builtins left_out_words table sign_of sorted all_sorted step_sorted steps_sorted
 operand_from_a_number_sorted = refl
 
 pub record_kept_in_end_sorted : is_sorted (program_of (resolved scripts.record_kept_in_end)) ≡ true
-unfolding uses all_uses given stmt_uses stmts_uses spend_all asked loop over_keys first_assigned records_done evaluated all_evaluated stepped all_stepped mid_called texts_in all_texts stmt_texts stmts_texts code_of codes_of key_code at_place argument_codes truncated_code applied_code step_code steps_code numeral_at sign_at fraction_at exponent_at numerator denominator digits unescaped escaped octal keywords builtins left_out_words table sign_of sorted all_sorted step_sorted steps_sorted
+unfolding special_arrays special_scalars spend_all asked loop over_keys first_assigned records_done evaluated all_evaluated stepped all_stepped mid_called texts_in all_texts stmt_texts stmts_texts code_of codes_of key_code kept_code argument_codes truncated_code applied_code step_code steps_code numeral_at sign_at fraction_at exponent_at numerator denominator digits unescaped escaped octal keywords builtins left_out_words table sign_of sorted all_sorted step_sorted steps_sorted
 record_kept_in_end_sorted = refl
 
 pub failing_after_paragraph_sorted : is_sorted (program_of (resolved scripts.failing_after_paragraph)) ≡ true
-unfolding uses all_uses given stmt_uses stmts_uses spend_all asked loop over_keys first_assigned records_done evaluated all_evaluated stepped all_stepped mid_called texts_in all_texts stmt_texts stmts_texts code_of codes_of key_code at_place argument_codes truncated_code applied_code step_code steps_code numeral_at sign_at fraction_at exponent_at numerator denominator digits unescaped escaped octal keywords builtins left_out_words table sign_of sorted all_sorted step_sorted steps_sorted
+unfolding special_arrays special_scalars spend_all asked loop over_keys first_assigned records_done evaluated all_evaluated stepped all_stepped mid_called texts_in all_texts stmt_texts stmts_texts code_of codes_of key_code kept_code argument_codes truncated_code applied_code step_code steps_code numeral_at sign_at fraction_at exponent_at numerator denominator digits unescaped escaped octal keywords builtins left_out_words table sign_of sorted all_sorted step_sorted steps_sorted
 failing_after_paragraph_sorted = refl
 
 pub hyphen_is_a_file_for_getline_sorted : is_sorted (program_of (resolved scripts.hyphen_is_a_file_for_getline)) ≡ true
-unfolding uses all_uses given stmt_uses stmts_uses spend_all asked loop over_keys first_assigned records_done evaluated all_evaluated stepped all_stepped mid_called texts_in all_texts stmt_texts stmts_texts code_of codes_of key_code at_place argument_codes truncated_code applied_code step_code steps_code numeral_at sign_at fraction_at exponent_at numerator denominator digits unescaped escaped octal keywords builtins left_out_words table sign_of sorted all_sorted step_sorted steps_sorted
+unfolding special_arrays special_scalars spend_all asked loop over_keys first_assigned records_done evaluated all_evaluated stepped all_stepped mid_called texts_in all_texts stmt_texts stmts_texts code_of codes_of key_code kept_code argument_codes truncated_code applied_code step_code steps_code numeral_at sign_at fraction_at exponent_at numerator denominator digits unescaped escaped octal keywords builtins left_out_words table sign_of sorted all_sorted step_sorted steps_sorted
 hyphen_is_a_file_for_getline_sorted = refl
 
 pub number_as_separator_sorted : is_sorted (program_of (resolved scripts.number_as_separator)) ≡ true
-unfolding uses all_uses given stmt_uses stmts_uses spend_all asked loop over_keys first_assigned records_done evaluated all_evaluated stepped all_stepped mid_called texts_in all_texts stmt_texts stmts_texts code_of codes_of key_code at_place argument_codes truncated_code applied_code step_code steps_code numeral_at sign_at fraction_at exponent_at numerator denominator digits unescaped escaped octal keywords builtins left_out_words table sign_of sorted all_sorted step_sorted steps_sorted
+unfolding special_arrays special_scalars spend_all asked loop over_keys first_assigned records_done evaluated all_evaluated stepped all_stepped mid_called texts_in all_texts stmt_texts stmts_texts code_of codes_of key_code kept_code argument_codes truncated_code applied_code step_code steps_code numeral_at sign_at fraction_at exponent_at numerator denominator digits unescaped escaped octal keywords builtins left_out_words table sign_of sorted all_sorted step_sorted steps_sorted
 number_as_separator_sorted = refl
 
 pub failing_empty_file_sorted : is_sorted (program_of (resolved scripts.failing_empty_file)) ≡ true
-unfolding uses all_uses given stmt_uses stmts_uses spend_all asked loop over_keys first_assigned records_done evaluated all_evaluated stepped all_stepped mid_called texts_in all_texts stmt_texts stmts_texts code_of codes_of key_code at_place argument_codes truncated_code applied_code step_code steps_code numeral_at sign_at fraction_at exponent_at numerator denominator digits unescaped escaped octal keywords builtins left_out_words table sign_of sorted all_sorted step_sorted steps_sorted
+unfolding special_arrays special_scalars spend_all asked loop over_keys first_assigned records_done evaluated all_evaluated stepped all_stepped mid_called texts_in all_texts stmt_texts stmts_texts code_of codes_of key_code kept_code argument_codes truncated_code applied_code step_code steps_code numeral_at sign_at fraction_at exponent_at numerator denominator digits unescaped escaped octal keywords builtins left_out_words table sign_of sorted all_sorted step_sorted steps_sorted
 failing_empty_file_sorted = refl
 
 pub written_then_read_sorted : is_sorted (program_of (resolved scripts.written_then_read)) ≡ true
-unfolding uses all_uses given stmt_uses stmts_uses spend_all asked loop over_keys first_assigned records_done evaluated all_evaluated stepped all_stepped mid_called texts_in all_texts stmt_texts stmts_texts code_of codes_of key_code at_place argument_codes truncated_code applied_code step_code steps_code numeral_at sign_at fraction_at exponent_at numerator denominator digits unescaped escaped octal keywords builtins left_out_words table sign_of sorted all_sorted step_sorted steps_sorted
+unfolding special_arrays special_scalars spend_all asked loop over_keys first_assigned records_done evaluated all_evaluated stepped all_stepped mid_called texts_in all_texts stmt_texts stmts_texts code_of codes_of key_code kept_code argument_codes truncated_code applied_code step_code steps_code numeral_at sign_at fraction_at exponent_at numerator denominator digits unescaped escaped octal keywords builtins left_out_words table sign_of sorted all_sorted step_sorted steps_sorted
 written_then_read_sorted = refl
 
 pub appended_past_room_sorted : is_sorted (program_of (resolved scripts.appended_past_room)) ≡ true
-unfolding uses all_uses given stmt_uses stmts_uses spend_all asked loop over_keys first_assigned records_done evaluated all_evaluated stepped all_stepped mid_called texts_in all_texts stmt_texts stmts_texts code_of codes_of key_code at_place argument_codes truncated_code applied_code step_code steps_code numeral_at sign_at fraction_at exponent_at numerator denominator digits unescaped escaped octal keywords builtins left_out_words table sign_of sorted all_sorted step_sorted steps_sorted
+unfolding special_arrays special_scalars spend_all asked loop over_keys first_assigned records_done evaluated all_evaluated stepped all_stepped mid_called texts_in all_texts stmt_texts stmts_texts code_of codes_of key_code kept_code argument_codes truncated_code applied_code step_code steps_code numeral_at sign_at fraction_at exponent_at numerator denominator digits unescaped escaped octal keywords builtins left_out_words table sign_of sorted all_sorted step_sorted steps_sorted
 appended_past_room_sorted = refl
 
 pub emptied_then_past_room_sorted : is_sorted (program_of (resolved scripts.emptied_then_past_room)) ≡ true
-unfolding uses all_uses given stmt_uses stmts_uses spend_all asked loop over_keys first_assigned records_done evaluated all_evaluated stepped all_stepped mid_called texts_in all_texts stmt_texts stmts_texts code_of codes_of key_code at_place argument_codes truncated_code applied_code step_code steps_code numeral_at sign_at fraction_at exponent_at numerator denominator digits unescaped escaped octal keywords builtins left_out_words table sign_of sorted all_sorted step_sorted steps_sorted
+unfolding special_arrays special_scalars spend_all asked loop over_keys first_assigned records_done evaluated all_evaluated stepped all_stepped mid_called texts_in all_texts stmt_texts stmts_texts code_of codes_of key_code kept_code argument_codes truncated_code applied_code step_code steps_code numeral_at sign_at fraction_at exponent_at numerator denominator digits unescaped escaped octal keywords builtins left_out_words table sign_of sorted all_sorted step_sorted steps_sorted
 emptied_then_past_room_sorted = refl
 
 pub uninitialised_field_sorted : is_sorted (program_of (resolved scripts.uninitialised_field)) ≡ true
-unfolding uses all_uses given stmt_uses stmts_uses spend_all asked loop over_keys first_assigned records_done evaluated all_evaluated stepped all_stepped mid_called texts_in all_texts stmt_texts stmts_texts code_of codes_of key_code at_place argument_codes truncated_code applied_code step_code steps_code numeral_at sign_at fraction_at exponent_at numerator denominator digits unescaped escaped octal keywords builtins left_out_words table sign_of sorted all_sorted step_sorted steps_sorted
+unfolding special_arrays special_scalars spend_all asked loop over_keys first_assigned records_done evaluated all_evaluated stepped all_stepped mid_called texts_in all_texts stmt_texts stmts_texts code_of codes_of key_code kept_code argument_codes truncated_code applied_code step_code steps_code numeral_at sign_at fraction_at exponent_at numerator denominator digits unescaped escaped octal keywords builtins left_out_words table sign_of sorted all_sorted step_sorted steps_sorted
 uninitialised_field_sorted = refl
 
 pub count_lowered_and_raised_sorted : is_sorted (program_of (resolved scripts.count_lowered_and_raised)) ≡ true
-unfolding uses all_uses given stmt_uses stmts_uses spend_all asked loop over_keys first_assigned records_done evaluated all_evaluated stepped all_stepped mid_called texts_in all_texts stmt_texts stmts_texts code_of codes_of key_code at_place argument_codes truncated_code applied_code step_code steps_code numeral_at sign_at fraction_at exponent_at numerator denominator digits unescaped escaped octal keywords builtins left_out_words table sign_of sorted all_sorted step_sorted steps_sorted
+unfolding special_arrays special_scalars spend_all asked loop over_keys first_assigned records_done evaluated all_evaluated stepped all_stepped mid_called texts_in all_texts stmt_texts stmts_texts code_of codes_of key_code kept_code argument_codes truncated_code applied_code step_code steps_code numeral_at sign_at fraction_at exponent_at numerator denominator digits unescaped escaped octal keywords builtins left_out_words table sign_of sorted all_sorted step_sorted steps_sorted
 count_lowered_and_raised_sorted = refl
 
 pub count_on_command_line_sorted : is_sorted (program_of (resolved scripts.count_on_command_line)) ≡ true
-unfolding uses all_uses given stmt_uses stmts_uses spend_all asked loop over_keys first_assigned records_done evaluated all_evaluated stepped all_stepped mid_called texts_in all_texts stmt_texts stmts_texts code_of codes_of key_code at_place argument_codes truncated_code applied_code step_code steps_code numeral_at sign_at fraction_at exponent_at numerator denominator digits unescaped escaped octal keywords builtins left_out_words table sign_of sorted all_sorted step_sorted steps_sorted
+unfolding special_arrays special_scalars spend_all asked loop over_keys first_assigned records_done evaluated all_evaluated stepped all_stepped mid_called texts_in all_texts stmt_texts stmts_texts code_of codes_of key_code kept_code argument_codes truncated_code applied_code step_code steps_code numeral_at sign_at fraction_at exponent_at numerator denominator digits unescaped escaped octal keywords builtins left_out_words table sign_of sorted all_sorted step_sorted steps_sorted
 count_on_command_line_sorted = refl
 
 pub count_below_zero_on_command_line_sorted : is_sorted (program_of (resolved scripts.count_below_zero_on_command_line)) ≡ true
-unfolding uses all_uses given stmt_uses stmts_uses spend_all asked loop over_keys first_assigned records_done evaluated all_evaluated stepped all_stepped mid_called texts_in all_texts stmt_texts stmts_texts code_of codes_of key_code at_place argument_codes truncated_code applied_code step_code steps_code numeral_at sign_at fraction_at exponent_at numerator denominator digits unescaped escaped octal keywords builtins left_out_words table sign_of sorted all_sorted step_sorted steps_sorted
+unfolding special_arrays special_scalars spend_all asked loop over_keys first_assigned records_done evaluated all_evaluated stepped all_stepped mid_called texts_in all_texts stmt_texts stmts_texts code_of codes_of key_code kept_code argument_codes truncated_code applied_code step_code steps_code numeral_at sign_at fraction_at exponent_at numerator denominator digits unescaped escaped octal keywords builtins left_out_words table sign_of sorted all_sorted step_sorted steps_sorted
 count_below_zero_on_command_line_sorted = refl
 
 pub rebuilt_with_separator_sorted : is_sorted (program_of (resolved scripts.rebuilt_with_separator)) ≡ true
-unfolding uses all_uses given stmt_uses stmts_uses spend_all asked loop over_keys first_assigned records_done evaluated all_evaluated stepped all_stepped mid_called texts_in all_texts stmt_texts stmts_texts code_of codes_of key_code at_place argument_codes truncated_code applied_code step_code steps_code numeral_at sign_at fraction_at exponent_at numerator denominator digits unescaped escaped octal keywords builtins left_out_words table sign_of sorted all_sorted step_sorted steps_sorted
+unfolding special_arrays special_scalars spend_all asked loop over_keys first_assigned records_done evaluated all_evaluated stepped all_stepped mid_called texts_in all_texts stmt_texts stmts_texts code_of codes_of key_code kept_code argument_codes truncated_code applied_code step_code steps_code numeral_at sign_at fraction_at exponent_at numerator denominator digits unescaped escaped octal keywords builtins left_out_words table sign_of sorted all_sorted step_sorted steps_sorted
 rebuilt_with_separator_sorted = refl
 
 pub separator_without_value_sorted : is_sorted (program_of (resolved scripts.separator_without_value)) ≡ true
-unfolding uses all_uses given stmt_uses stmts_uses spend_all asked loop over_keys first_assigned records_done evaluated all_evaluated stepped all_stepped mid_called texts_in all_texts stmt_texts stmts_texts code_of codes_of key_code at_place argument_codes truncated_code applied_code step_code steps_code numeral_at sign_at fraction_at exponent_at numerator denominator digits unescaped escaped octal keywords builtins left_out_words table sign_of sorted all_sorted step_sorted steps_sorted
+unfolding special_arrays special_scalars spend_all asked loop over_keys first_assigned records_done evaluated all_evaluated stepped all_stepped mid_called texts_in all_texts stmt_texts stmts_texts code_of codes_of key_code kept_code argument_codes truncated_code applied_code step_code steps_code numeral_at sign_at fraction_at exponent_at numerator denominator digits unescaped escaped octal keywords builtins left_out_words table sign_of sorted all_sorted step_sorted steps_sorted
 separator_without_value_sorted = refl
 
 pub tab_and_newline_sorted : is_sorted (program_of (resolved scripts.tab_and_newline)) ≡ true
-unfolding uses all_uses given stmt_uses stmts_uses spend_all asked loop over_keys first_assigned records_done evaluated all_evaluated stepped all_stepped mid_called texts_in all_texts stmt_texts stmts_texts code_of codes_of key_code at_place argument_codes truncated_code applied_code step_code steps_code numeral_at sign_at fraction_at exponent_at numerator denominator digits unescaped escaped octal keywords builtins left_out_words table sign_of sorted all_sorted step_sorted steps_sorted
+unfolding special_arrays special_scalars spend_all asked loop over_keys first_assigned records_done evaluated all_evaluated stepped all_stepped mid_called texts_in all_texts stmt_texts stmts_texts code_of codes_of key_code kept_code argument_codes truncated_code applied_code step_code steps_code numeral_at sign_at fraction_at exponent_at numerator denominator digits unescaped escaped octal keywords builtins left_out_words table sign_of sorted all_sorted step_sorted steps_sorted
 tab_and_newline_sorted = refl
 
 pub expression_and_newline_sorted : is_sorted (program_of (resolved scripts.expression_and_newline)) ≡ true
-unfolding uses all_uses given stmt_uses stmts_uses spend_all asked loop over_keys first_assigned records_done evaluated all_evaluated stepped all_stepped mid_called texts_in all_texts stmt_texts stmts_texts code_of codes_of key_code at_place argument_codes truncated_code applied_code step_code steps_code numeral_at sign_at fraction_at exponent_at numerator denominator digits unescaped escaped octal keywords builtins left_out_words table sign_of sorted all_sorted step_sorted steps_sorted
+unfolding special_arrays special_scalars spend_all asked loop over_keys first_assigned records_done evaluated all_evaluated stepped all_stepped mid_called texts_in all_texts stmt_texts stmts_texts code_of codes_of key_code kept_code argument_codes truncated_code applied_code step_code steps_code numeral_at sign_at fraction_at exponent_at numerator denominator digits unescaped escaped octal keywords builtins left_out_words table sign_of sorted all_sorted step_sorted steps_sorted
 expression_and_newline_sorted = refl
 
 pub split_ignores_newline_sorted : is_sorted (program_of (resolved scripts.split_ignores_newline)) ≡ true
-unfolding uses all_uses given stmt_uses stmts_uses spend_all asked loop over_keys first_assigned records_done evaluated all_evaluated stepped all_stepped mid_called texts_in all_texts stmt_texts stmts_texts code_of codes_of key_code at_place argument_codes truncated_code applied_code step_code steps_code numeral_at sign_at fraction_at exponent_at numerator denominator digits unescaped escaped octal keywords builtins left_out_words table sign_of sorted all_sorted step_sorted steps_sorted
+unfolding special_arrays special_scalars spend_all asked loop over_keys first_assigned records_done evaluated all_evaluated stepped all_stepped mid_called texts_in all_texts stmt_texts stmts_texts code_of codes_of key_code kept_code argument_codes truncated_code applied_code step_code steps_code numeral_at sign_at fraction_at exponent_at numerator denominator digits unescaped escaped octal keywords builtins left_out_words table sign_of sorted all_sorted step_sorted steps_sorted
 split_ignores_newline_sorted = refl
 
 pub split_of_its_own_element_sorted : is_sorted (program_of (resolved scripts.split_of_its_own_element)) ≡ true
-unfolding uses all_uses given stmt_uses stmts_uses spend_all asked loop over_keys first_assigned records_done evaluated all_evaluated stepped all_stepped mid_called texts_in all_texts stmt_texts stmts_texts code_of codes_of key_code at_place argument_codes truncated_code applied_code step_code steps_code numeral_at sign_at fraction_at exponent_at numerator denominator digits unescaped escaped octal keywords builtins left_out_words table sign_of sorted all_sorted step_sorted steps_sorted
+unfolding special_arrays special_scalars spend_all asked loop over_keys first_assigned records_done evaluated all_evaluated stepped all_stepped mid_called texts_in all_texts stmt_texts stmts_texts code_of codes_of key_code kept_code argument_codes truncated_code applied_code step_code steps_code numeral_at sign_at fraction_at exponent_at numerator denominator digits unescaped escaped octal keywords builtins left_out_words table sign_of sorted all_sorted step_sorted steps_sorted
 split_of_its_own_element_sorted = refl
 
 pub bad_separator_unused_sorted : is_sorted (program_of (resolved scripts.bad_separator_unused)) ≡ true
-unfolding uses all_uses given stmt_uses stmts_uses spend_all asked loop over_keys first_assigned records_done evaluated all_evaluated stepped all_stepped mid_called texts_in all_texts stmt_texts stmts_texts code_of codes_of key_code at_place argument_codes truncated_code applied_code step_code steps_code numeral_at sign_at fraction_at exponent_at numerator denominator digits unescaped escaped octal keywords builtins left_out_words table sign_of sorted all_sorted step_sorted steps_sorted
+unfolding special_arrays special_scalars spend_all asked loop over_keys first_assigned records_done evaluated all_evaluated stepped all_stepped mid_called texts_in all_texts stmt_texts stmts_texts code_of codes_of key_code kept_code argument_codes truncated_code applied_code step_code steps_code numeral_at sign_at fraction_at exponent_at numerator denominator digits unescaped escaped octal keywords builtins left_out_words table sign_of sorted all_sorted step_sorted steps_sorted
 bad_separator_unused_sorted = refl
 
 pub empty_match_at_the_end_sorted : is_sorted (program_of (resolved scripts.empty_match_at_the_end)) ≡ true
-unfolding uses all_uses given stmt_uses stmts_uses spend_all asked loop over_keys first_assigned records_done evaluated all_evaluated stepped all_stepped mid_called texts_in all_texts stmt_texts stmts_texts code_of codes_of key_code at_place argument_codes truncated_code applied_code step_code steps_code numeral_at sign_at fraction_at exponent_at numerator denominator digits unescaped escaped octal keywords builtins left_out_words table sign_of sorted all_sorted step_sorted steps_sorted
+unfolding special_arrays special_scalars spend_all asked loop over_keys first_assigned records_done evaluated all_evaluated stepped all_stepped mid_called texts_in all_texts stmt_texts stmts_texts code_of codes_of key_code kept_code argument_codes truncated_code applied_code step_code steps_code numeral_at sign_at fraction_at exponent_at numerator denominator digits unescaped escaped octal keywords builtins left_out_words table sign_of sorted all_sorted step_sorted steps_sorted
 empty_match_at_the_end_sorted = refl
 
 pub matches_that_are_empty_sorted : is_sorted (program_of (resolved scripts.matches_that_are_empty)) ≡ true
-unfolding uses all_uses given stmt_uses stmts_uses spend_all asked loop over_keys first_assigned records_done evaluated all_evaluated stepped all_stepped mid_called texts_in all_texts stmt_texts stmts_texts code_of codes_of key_code at_place argument_codes truncated_code applied_code step_code steps_code numeral_at sign_at fraction_at exponent_at numerator denominator digits unescaped escaped octal keywords builtins left_out_words table sign_of sorted all_sorted step_sorted steps_sorted
+unfolding special_arrays special_scalars spend_all asked loop over_keys first_assigned records_done evaluated all_evaluated stepped all_stepped mid_called texts_in all_texts stmt_texts stmts_texts code_of codes_of key_code kept_code argument_codes truncated_code applied_code step_code steps_code numeral_at sign_at fraction_at exponent_at numerator denominator digits unescaped escaped octal keywords builtins left_out_words table sign_of sorted all_sorted step_sorted steps_sorted
 matches_that_are_empty_sorted = refl
 
 pub parts_far_out_sorted : is_sorted (program_of (resolved scripts.parts_far_out)) ≡ true
-unfolding uses all_uses given stmt_uses stmts_uses spend_all asked loop over_keys first_assigned records_done evaluated all_evaluated stepped all_stepped mid_called texts_in all_texts stmt_texts stmts_texts code_of codes_of key_code at_place argument_codes truncated_code applied_code step_code steps_code numeral_at sign_at fraction_at exponent_at numerator denominator digits unescaped escaped octal keywords builtins left_out_words table sign_of sorted all_sorted step_sorted steps_sorted
+unfolding special_arrays special_scalars spend_all asked loop over_keys first_assigned records_done evaluated all_evaluated stepped all_stepped mid_called texts_in all_texts stmt_texts stmts_texts code_of codes_of key_code kept_code argument_codes truncated_code applied_code step_code steps_code numeral_at sign_at fraction_at exponent_at numerator denominator digits unescaped escaped octal keywords builtins left_out_words table sign_of sorted all_sorted step_sorted steps_sorted
 parts_far_out_sorted = refl
 
 pub formats_of_numbers_sorted : is_sorted (program_of (resolved scripts.formats_of_numbers)) ≡ true
-unfolding uses all_uses given stmt_uses stmts_uses spend_all asked loop over_keys first_assigned records_done evaluated all_evaluated stepped all_stepped mid_called texts_in all_texts stmt_texts stmts_texts code_of codes_of key_code at_place argument_codes truncated_code applied_code step_code steps_code numeral_at sign_at fraction_at exponent_at numerator denominator digits unescaped escaped octal keywords builtins left_out_words table sign_of sorted all_sorted step_sorted steps_sorted
+unfolding special_arrays special_scalars spend_all asked loop over_keys first_assigned records_done evaluated all_evaluated stepped all_stepped mid_called texts_in all_texts stmt_texts stmts_texts code_of codes_of key_code kept_code argument_codes truncated_code applied_code step_code steps_code numeral_at sign_at fraction_at exponent_at numerator denominator digits unescaped escaped octal keywords builtins left_out_words table sign_of sorted all_sorted step_sorted steps_sorted
 formats_of_numbers_sorted = refl
 
 pub range_before_format_sorted : is_sorted (program_of (resolved scripts.range_before_format)) ≡ true
-unfolding uses all_uses given stmt_uses stmts_uses spend_all asked loop over_keys first_assigned records_done evaluated all_evaluated stepped all_stepped mid_called texts_in all_texts stmt_texts stmts_texts code_of codes_of key_code at_place argument_codes truncated_code applied_code step_code steps_code numeral_at sign_at fraction_at exponent_at numerator denominator digits unescaped escaped octal keywords builtins left_out_words table sign_of sorted all_sorted step_sorted steps_sorted
+unfolding special_arrays special_scalars spend_all asked loop over_keys first_assigned records_done evaluated all_evaluated stepped all_stepped mid_called texts_in all_texts stmt_texts stmts_texts code_of codes_of key_code kept_code argument_codes truncated_code applied_code step_code steps_code numeral_at sign_at fraction_at exponent_at numerator denominator digits unescaped escaped octal keywords builtins left_out_words table sign_of sorted all_sorted step_sorted steps_sorted
 range_before_format_sorted = refl
 
 pub misplaced_flag_sorted : is_sorted (program_of (resolved scripts.misplaced_flag)) ≡ true
-unfolding uses all_uses given stmt_uses stmts_uses spend_all asked loop over_keys first_assigned records_done evaluated all_evaluated stepped all_stepped mid_called texts_in all_texts stmt_texts stmts_texts code_of codes_of key_code at_place argument_codes truncated_code applied_code step_code steps_code numeral_at sign_at fraction_at exponent_at numerator denominator digits unescaped escaped octal keywords builtins left_out_words table sign_of sorted all_sorted step_sorted steps_sorted
+unfolding special_arrays special_scalars spend_all asked loop over_keys first_assigned records_done evaluated all_evaluated stepped all_stepped mid_called texts_in all_texts stmt_texts stmts_texts code_of codes_of key_code kept_code argument_codes truncated_code applied_code step_code steps_code numeral_at sign_at fraction_at exponent_at numerator denominator digits unescaped escaped octal keywords builtins left_out_words table sign_of sorted all_sorted step_sorted steps_sorted
 misplaced_flag_sorted = refl
 
 pub bytes_formatted_sorted : is_sorted (program_of (resolved scripts.bytes_formatted)) ≡ true
-unfolding uses all_uses given stmt_uses stmts_uses spend_all asked loop over_keys first_assigned records_done evaluated all_evaluated stepped all_stepped mid_called texts_in all_texts stmt_texts stmts_texts code_of codes_of key_code at_place argument_codes truncated_code applied_code step_code steps_code numeral_at sign_at fraction_at exponent_at numerator denominator digits unescaped escaped octal keywords builtins left_out_words table sign_of sorted all_sorted step_sorted steps_sorted
+unfolding special_arrays special_scalars spend_all asked loop over_keys first_assigned records_done evaluated all_evaluated stepped all_stepped mid_called texts_in all_texts stmt_texts stmts_texts code_of codes_of key_code kept_code argument_codes truncated_code applied_code step_code steps_code numeral_at sign_at fraction_at exponent_at numerator denominator digits unescaped escaped octal keywords builtins left_out_words table sign_of sorted all_sorted step_sorted steps_sorted
 bytes_formatted_sorted = refl
 
 pub unused_first_sorted : is_sorted (program_of (resolved scripts.unused_first)) ≡ true
-unfolding uses all_uses given stmt_uses stmts_uses spend_all asked loop over_keys first_assigned records_done evaluated all_evaluated stepped all_stepped mid_called texts_in all_texts stmt_texts stmts_texts code_of codes_of key_code at_place argument_codes truncated_code applied_code step_code steps_code numeral_at sign_at fraction_at exponent_at numerator denominator digits unescaped escaped octal keywords builtins left_out_words table sign_of sorted all_sorted step_sorted steps_sorted
+unfolding special_arrays special_scalars spend_all asked loop over_keys first_assigned records_done evaluated all_evaluated stepped all_stepped mid_called texts_in all_texts stmt_texts stmts_texts code_of codes_of key_code kept_code argument_codes truncated_code applied_code step_code steps_code numeral_at sign_at fraction_at exponent_at numerator denominator digits unescaped escaped octal keywords builtins left_out_words table sign_of sorted all_sorted step_sorted steps_sorted
 unused_first_sorted = refl
 
 pub keys_deleted_on_the_way_sorted : is_sorted (program_of (resolved scripts.keys_deleted_on_the_way)) ≡ true
-unfolding uses all_uses given stmt_uses stmts_uses spend_all asked loop over_keys first_assigned records_done evaluated all_evaluated stepped all_stepped mid_called texts_in all_texts stmt_texts stmts_texts code_of codes_of key_code at_place argument_codes truncated_code applied_code step_code steps_code numeral_at sign_at fraction_at exponent_at numerator denominator digits unescaped escaped octal keywords builtins left_out_words table sign_of sorted all_sorted step_sorted steps_sorted
+unfolding special_arrays special_scalars spend_all asked loop over_keys first_assigned records_done evaluated all_evaluated stepped all_stepped mid_called texts_in all_texts stmt_texts stmts_texts code_of codes_of key_code kept_code argument_codes truncated_code applied_code step_code steps_code numeral_at sign_at fraction_at exponent_at numerator denominator digits unescaped escaped octal keywords builtins left_out_words table sign_of sorted all_sorted step_sorted steps_sorted
 keys_deleted_on_the_way_sorted = refl
 
 pub do_while_counts_sorted : is_sorted (program_of (resolved scripts.do_while_counts)) ≡ true
-unfolding uses all_uses given stmt_uses stmts_uses spend_all asked loop over_keys first_assigned records_done evaluated all_evaluated stepped all_stepped mid_called texts_in all_texts stmt_texts stmts_texts code_of codes_of key_code at_place argument_codes truncated_code applied_code step_code steps_code numeral_at sign_at fraction_at exponent_at numerator denominator digits unescaped escaped octal keywords builtins left_out_words table sign_of sorted all_sorted step_sorted steps_sorted
+unfolding special_arrays special_scalars spend_all asked loop over_keys first_assigned records_done evaluated all_evaluated stepped all_stepped mid_called texts_in all_texts stmt_texts stmts_texts code_of codes_of key_code kept_code argument_codes truncated_code applied_code step_code steps_code numeral_at sign_at fraction_at exponent_at numerator denominator digits unescaped escaped octal keywords builtins left_out_words table sign_of sorted all_sorted step_sorted steps_sorted
 do_while_counts_sorted = refl
 
 pub fraction_from_command_line_sorted : is_sorted (program_of (resolved scripts.fraction_from_command_line)) ≡ true
-unfolding uses all_uses given stmt_uses stmts_uses spend_all asked loop over_keys first_assigned records_done evaluated all_evaluated stepped all_stepped mid_called texts_in all_texts stmt_texts stmts_texts code_of codes_of key_code at_place argument_codes truncated_code applied_code step_code steps_code numeral_at sign_at fraction_at exponent_at numerator denominator digits unescaped escaped octal keywords builtins left_out_words table sign_of sorted all_sorted step_sorted steps_sorted
+unfolding special_arrays special_scalars spend_all asked loop over_keys first_assigned records_done evaluated all_evaluated stepped all_stepped mid_called texts_in all_texts stmt_texts stmts_texts code_of codes_of key_code kept_code argument_codes truncated_code applied_code step_code steps_code numeral_at sign_at fraction_at exponent_at numerator denominator digits unescaped escaped octal keywords builtins left_out_words table sign_of sorted all_sorted step_sorted steps_sorted
 fraction_from_command_line_sorted = refl
 
 pub count_across_an_assignment_sorted : is_sorted (program_of (resolved scripts.count_across_an_assignment)) ≡ true
-unfolding uses all_uses given stmt_uses stmts_uses spend_all asked loop over_keys first_assigned records_done evaluated all_evaluated stepped all_stepped mid_called texts_in all_texts stmt_texts stmts_texts code_of codes_of key_code at_place argument_codes truncated_code applied_code step_code steps_code numeral_at sign_at fraction_at exponent_at numerator denominator digits unescaped escaped octal keywords builtins left_out_words table sign_of sorted all_sorted step_sorted steps_sorted
+unfolding special_arrays special_scalars spend_all asked loop over_keys first_assigned records_done evaluated all_evaluated stepped all_stepped mid_called texts_in all_texts stmt_texts stmts_texts code_of codes_of key_code kept_code argument_codes truncated_code applied_code step_code steps_code numeral_at sign_at fraction_at exponent_at numerator denominator digits unescaped escaped octal keywords builtins left_out_words table sign_of sorted all_sorted step_sorted steps_sorted
 count_across_an_assignment_sorted = refl
 
 pub fault_not_reached_sorted : is_sorted (program_of (resolved scripts.fault_not_reached)) ≡ true
-unfolding uses all_uses given stmt_uses stmts_uses spend_all asked loop over_keys first_assigned records_done evaluated all_evaluated stepped all_stepped mid_called texts_in all_texts stmt_texts stmts_texts code_of codes_of key_code at_place argument_codes truncated_code applied_code step_code steps_code numeral_at sign_at fraction_at exponent_at numerator denominator digits unescaped escaped octal keywords builtins left_out_words table sign_of sorted all_sorted step_sorted steps_sorted
+unfolding special_arrays special_scalars spend_all asked loop over_keys first_assigned records_done evaluated all_evaluated stepped all_stepped mid_called texts_in all_texts stmt_texts stmts_texts code_of codes_of key_code kept_code argument_codes truncated_code applied_code step_code steps_code numeral_at sign_at fraction_at exponent_at numerator denominator digits unescaped escaped octal keywords builtins left_out_words table sign_of sorted all_sorted step_sorted steps_sorted
 fault_not_reached_sorted = refl
 
 pub step_past_range_sorted : is_sorted (program_of (resolved scripts.step_past_range)) ≡ true
-unfolding uses all_uses given stmt_uses stmts_uses spend_all asked loop over_keys first_assigned records_done evaluated all_evaluated stepped all_stepped mid_called texts_in all_texts stmt_texts stmts_texts code_of codes_of key_code at_place argument_codes truncated_code applied_code step_code steps_code numeral_at sign_at fraction_at exponent_at numerator denominator digits unescaped escaped octal keywords builtins left_out_words table sign_of sorted all_sorted step_sorted steps_sorted
+unfolding special_arrays special_scalars spend_all asked loop over_keys first_assigned records_done evaluated all_evaluated stepped all_stepped mid_called texts_in all_texts stmt_texts stmts_texts code_of codes_of key_code kept_code argument_codes truncated_code applied_code step_code steps_code numeral_at sign_at fraction_at exponent_at numerator denominator digits unescaped escaped octal keywords builtins left_out_words table sign_of sorted all_sorted step_sorted steps_sorted
 step_past_range_sorted = refl
 
 pub loop_on_numbers_sorted : is_sorted (program_of (resolved scripts.loop_on_numbers)) ≡ true
-unfolding uses all_uses given stmt_uses stmts_uses spend_all asked loop over_keys first_assigned records_done evaluated all_evaluated stepped all_stepped mid_called texts_in all_texts stmt_texts stmts_texts code_of codes_of key_code at_place argument_codes truncated_code applied_code step_code steps_code numeral_at sign_at fraction_at exponent_at numerator denominator digits unescaped escaped octal keywords builtins left_out_words table sign_of sorted all_sorted step_sorted steps_sorted
+unfolding special_arrays special_scalars spend_all asked loop over_keys first_assigned records_done evaluated all_evaluated stepped all_stepped mid_called texts_in all_texts stmt_texts stmts_texts code_of codes_of key_code kept_code argument_codes truncated_code applied_code step_code steps_code numeral_at sign_at fraction_at exponent_at numerator denominator digits unescaped escaped octal keywords builtins left_out_words table sign_of sorted all_sorted step_sorted steps_sorted
 loop_on_numbers_sorted = refl
 
 pub turns_just_enough_sorted : is_sorted (program_of (resolved scripts.turns_just_enough)) ≡ true
-unfolding uses all_uses given stmt_uses stmts_uses spend_all asked loop over_keys first_assigned records_done evaluated all_evaluated stepped all_stepped mid_called texts_in all_texts stmt_texts stmts_texts code_of codes_of key_code at_place argument_codes truncated_code applied_code step_code steps_code numeral_at sign_at fraction_at exponent_at numerator denominator digits unescaped escaped octal keywords builtins left_out_words table sign_of sorted all_sorted step_sorted steps_sorted
+unfolding special_arrays special_scalars spend_all asked loop over_keys first_assigned records_done evaluated all_evaluated stepped all_stepped mid_called texts_in all_texts stmt_texts stmts_texts code_of codes_of key_code kept_code argument_codes truncated_code applied_code step_code steps_code numeral_at sign_at fraction_at exponent_at numerator denominator digits unescaped escaped octal keywords builtins left_out_words table sign_of sorted all_sorted step_sorted steps_sorted
 turns_just_enough_sorted = refl
 
 pub one_turn_too_few_sorted : is_sorted (program_of (resolved scripts.one_turn_too_few)) ≡ true
-unfolding uses all_uses given stmt_uses stmts_uses spend_all asked loop over_keys first_assigned records_done evaluated all_evaluated stepped all_stepped mid_called texts_in all_texts stmt_texts stmts_texts code_of codes_of key_code at_place argument_codes truncated_code applied_code step_code steps_code numeral_at sign_at fraction_at exponent_at numerator denominator digits unescaped escaped octal keywords builtins left_out_words table sign_of sorted all_sorted step_sorted steps_sorted
+unfolding special_arrays special_scalars spend_all asked loop over_keys first_assigned records_done evaluated all_evaluated stepped all_stepped mid_called texts_in all_texts stmt_texts stmts_texts code_of codes_of key_code kept_code argument_codes truncated_code applied_code step_code steps_code numeral_at sign_at fraction_at exponent_at numerator denominator digits unescaped escaped octal keywords builtins left_out_words table sign_of sorted all_sorted step_sorted steps_sorted
 one_turn_too_few_sorted = refl
 
 pub numbers_in_names_sorted : is_sorted (program_of (resolved scripts.numbers_in_names)) ≡ true
-unfolding uses all_uses given stmt_uses stmts_uses spend_all asked loop over_keys first_assigned records_done evaluated all_evaluated stepped all_stepped mid_called texts_in all_texts stmt_texts stmts_texts code_of codes_of key_code at_place argument_codes truncated_code applied_code step_code steps_code numeral_at sign_at fraction_at exponent_at numerator denominator digits unescaped escaped octal keywords builtins left_out_words table sign_of sorted all_sorted step_sorted steps_sorted
+unfolding special_arrays special_scalars spend_all asked loop over_keys first_assigned records_done evaluated all_evaluated stepped all_stepped mid_called texts_in all_texts stmt_texts stmts_texts code_of codes_of key_code kept_code argument_codes truncated_code applied_code step_code steps_code numeral_at sign_at fraction_at exponent_at numerator denominator digits unescaped escaped octal keywords builtins left_out_words table sign_of sorted all_sorted step_sorted steps_sorted
 numbers_in_names_sorted = refl
 
 pub text_in_a_number_sorted : is_sorted (program_of (resolved scripts.text_in_a_number)) ≡ true
-unfolding uses all_uses given stmt_uses stmts_uses spend_all asked loop over_keys first_assigned records_done evaluated all_evaluated stepped all_stepped mid_called texts_in all_texts stmt_texts stmts_texts code_of codes_of key_code at_place argument_codes truncated_code applied_code step_code steps_code numeral_at sign_at fraction_at exponent_at numerator denominator digits unescaped escaped octal keywords builtins left_out_words table sign_of sorted all_sorted step_sorted steps_sorted
+unfolding special_arrays special_scalars spend_all asked loop over_keys first_assigned records_done evaluated all_evaluated stepped all_stepped mid_called texts_in all_texts stmt_texts stmts_texts code_of codes_of key_code kept_code argument_codes truncated_code applied_code step_code steps_code numeral_at sign_at fraction_at exponent_at numerator denominator digits unescaped escaped octal keywords builtins left_out_words table sign_of sorted all_sorted step_sorted steps_sorted
 text_in_a_number_sorted = refl

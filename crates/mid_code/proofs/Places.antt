@@ -24,7 +24,7 @@ use Rattle.mid_code.specs.Steps.{Operator, numeric, zero_number, one_number, num
 use Rattle.mid_code.specs.Meaning.{Calls, asked}
 use Rattle.mid_code.specs.Mid.{Kind, Global, Parameter, Code, Do, AskLine, FileLine, Array, Seq, Let, Bound, End, At, Form, Answered, Bare, Perhaps, a_value, a_number, form_at, form_of}
 use Rattle.mid_code.specs.MidMeaning.{Env, Holds, all_evaluated, boxed, evaluated, held, numbered, or_constant, row_of, store_slot, then_row, three_values, replacing, when_read, when_replaced}
-use Rattle.mid_code.specs.Translation.{host, one, two, one_code, copied, moved, step_of, store_variable_code, set_variable_code, read_code, store_code, stored_code, stepped_code, step_after_code, updated_code, kept_for, substituted_code}
+use Rattle.mid_code.specs.Translation.{host, one, two, one_code, copied, moved, step_of, store_variable_code, set_variable_code, read_at, store_at, stored_at, stepped_at, step_after_at, updated_at, kept_at, substituted_at, target_in}
 use Rattle.mid_code.proofs.Binding.{As, assoc, bind_as, flat, given, over, silent, under}
 use Rattle.mid_code.proofs.Expressions.{special_again, inline_is, element_is, number_is, variable_is}
 use Rattle.mid_code.proofs.Operands.{Is, Valued, number_row, one_operand, three_operands}
@@ -136,11 +136,11 @@ module _ (texts : List (List ℕ)) (parameters : List (List Kind)) (n : ℕ) (ca
   abbrev Ev : (fs : List Form) → Env fs → (e : Code) → Doing (Holds (form_of fs e))
   Ev fs env e = evaluated texts parameters n calls fs env e
 
-  pub read_is : (t : Tree) (fs : List Form) (env : Env fs) (i : ℕ) (place : Place) → Placed scope t fs env i place → In fs env (read_code texts scope t i) (read_place place)
+  pub read_is : (t : Tree) (fs : List Form) (env : Env fs) (i : ℕ) (place : Place) → Placed scope t fs env i place → In fs env (read_at (target_in texts scope t) i) (read_place place)
   unfolding evaluated all_evaluated
-  read_is (Var x) fs env i place p = retold texts parameters n calls fs env (read_code texts scope (Var x) i) (read_variable (variable_of scope x)) (read_place place) (variable_is texts parameters n calls fs env (variable_of scope x)) (ap read_place (sym p))
+  read_is (Var x) fs env i place p = retold texts parameters n calls fs env (read_at (target_in texts scope (Var x)) i) (read_variable (variable_of scope x)) (read_place place) (variable_is texts parameters n calls fs env (variable_of scope x)) (ap read_place (sym p))
   read_is (Index x ts) fs env i place p =
-      retold texts parameters n calls fs env (read_code texts scope (Index x ts) i) (read_place (Element (array_of scope x) (boxed (form_at fs i) (held fs env i)))) (read_place place)
+      retold texts parameters n calls fs env (read_at (target_in texts scope (Index x ts)) i) (read_place (Element (array_of scope x) (boxed (form_at fs i) (held fs env i)))) (read_place place)
       (element_is texts parameters n calls fs env (array_of scope x) (copied i) (give (boxed (form_at fs i) (held fs env i))) (bound_is texts parameters n calls fs env false i p.0)) (ap read_place (sym p.1))
   read_is t fs env i place p = record {
     valued = tt;
@@ -148,7 +148,7 @@ module _ (texts : List (List ℕ)) (parameters : List (List Kind)) (n : ℕ) (ca
   }
 
   pub store_is : {C : Type 0} (t : Tree) (fs : List Form) (env : Env fs) (i : ℕ) (b : Bool) (j : ℕ) (place : Place) (K : Doing C) → Placed scope t fs env i place →
-      (Ev fs env (store_code texts scope t i (Bound b j)) >> K) ≡ (store_place place (boxed (form_at fs j) (held fs env j)) >> K)
+      (Ev fs env (store_at (target_in texts scope t) i (Bound b j)) >> K) ≡ (store_place place (boxed (form_at fs j) (held fs env j)) >> K)
   unfolding evaluated all_evaluated
   store_is (Var x) fs env i b j place K p =
       store_variable_is texts parameters n calls fs env (variable_of scope x) b j K ∙ (λ k. store_place (sym p k) (boxed (form_at fs j) (held fs env j)) >> K)
@@ -157,27 +157,27 @@ module _ (texts : List (List ℕ)) (parameters : List (List Kind)) (n : ℕ) (ca
   store_is t fs env i b j place K p =
       (λ k. (settled (then_row (p.1 k) (λ m. Ok (m, (boxed (form_at fs j) (held fs env j), tt)))) >>= λ g. does row.SetField g) >> K) ∙ (λ k. store_place (sym p.2 k) (boxed (form_at fs j) (held fs env j)) >> K)
 
-  pub stored_is : (t : Tree) (fs : List Form) (env : Env fs) (i : ℕ) (e : Code) (m : Doing Value) (place : Place) → Placed scope t fs env i place → In fs env e m → In fs env (stored_code texts scope t i e) (m >>= λ v. stored place v)
+  pub stored_is : (t : Tree) (fs : List Form) (env : Env fs) (i : ℕ) (e : Code) (m : Doing Value) (place : Place) → Placed scope t fs env i place → In fs env e m → In fs env (stored_at (target_in texts scope t) i e) (m >>= λ v. stored place v)
   unfolding evaluated all_evaluated
   stored_is (Var x) fs env i e m place p q =
       retold texts parameters n calls fs env (set_variable_code (variable_of scope x) e) (m >>= λ v. stored (Named (variable_of scope x)) v) (m >>= λ v. stored place v) (set_variable_is texts parameters n calls fs env (variable_of scope x) e m q) (λ k. m >>= λ v. stored (sym p k) v)
   stored_is t fs env i e m place p q =
-      let_stored texts parameters n calls fs env (store_code texts scope t (suc i) (copied 0)) e m place q
+      let_stored texts parameters n calls fs env (store_at (target_in texts scope t) (suc i) (copied 0)) e m place q
       (λ x K. store_is t (form_of fs e ∷ fs) (x, env) (suc i) false 0 place K (next_placed scope t (form_of fs e) x fs env i place p))
 
   -- An assignment with an operator: right side, old value, result.
   pub updated_is : (o : Operation) (operator : Operator) (t : Tree) (fs : List Form) (env : Env fs) (right : Code) (m : Doing Value) (place : Place) → Placed scope t fs env 0 place → In fs env right m →
       ((gs : List Form) (env1 : Env gs) (a b : Code) (l r : Doing Value) → In gs env1 a l → In gs env1 b r → In gs env1 (Do o (two a b)) (l >>= λ x. r >>= λ y. computed operator x y)) →
-      In fs env (updated_code texts scope o t right) (m >>= λ x. read_place place >>= λ old. computed operator old x >>= λ result. stored place result)
+      In fs env (updated_at o (target_in texts scope t) right) (m >>= λ x. read_place place >>= λ old. computed operator old x >>= λ result. stored place result)
   unfolding evaluated all_evaluated
   updated_is o operator t fs env right m place p q op =
       let F = form_of fs right in
-      let e = Do o (two (read_code texts scope t 1) (moved 0)) in
-      let_in texts parameters n calls fs env right (stored_code texts scope t 1 e) m (λ x. read_place place >>= λ old. computed operator old x >>= λ result. stored place result) q
+      let e = Do o (two (read_at (target_in texts scope t) 1) (moved 0)) in
+      let_in texts parameters n calls fs env right (stored_at (target_in texts scope t) 1 e) m (λ x. read_place place >>= λ old. computed operator old x >>= λ result. stored place result) q
       (λ x. let p1 = next_placed scope t F x fs env 0 place p in
-      retold texts parameters n calls (F ∷ fs) (x, env) (stored_code texts scope t 1 e) ((read_place place >>= λ old. computed operator old (boxed F x)) >>= λ v. stored place v) (read_place place >>= λ old. computed operator old (boxed F x) >>= λ result. stored place result)
+      retold texts parameters n calls (F ∷ fs) (x, env) (stored_at (target_in texts scope t) 1 e) ((read_place place >>= λ old. computed operator old (boxed F x)) >>= λ v. stored place v) (read_place place >>= λ old. computed operator old (boxed F x) >>= λ result. stored place result)
       (stored_is t (F ∷ fs) (x, env) 1 e (read_place place >>= λ old. computed operator old (boxed F x)) place p1
-      (op (F ∷ fs) (x, env) (read_code texts scope t 1) (moved 0) (read_place place) (give (boxed F x)) (read_is t (F ∷ fs) (x, env) 1 place p1) (bound_is texts parameters n calls (F ∷ fs) (x, env) true 0 q.valued)))
+      (op (F ∷ fs) (x, env) (read_at (target_in texts scope t) 1) (moved 0) (read_place place) (give (boxed F x)) (read_is t (F ∷ fs) (x, env) 1 place p1) (bound_is texts parameters n calls (F ∷ fs) (x, env) true 0 q.valued)))
       (assoc (read_place place) (λ old. computed operator old (boxed F x)) (λ v. stored place v)))
 
   -- A step: the old value, as a number, and one more or less.
@@ -187,13 +187,13 @@ module _ (texts : List (List ℕ)) (parameters : List (List Kind)) (n : ℕ) (ca
   step_is token.Decrement fs env a l p = inline_is texts parameters n calls fs env inline.Minus a one_code l (give (numeric one_number)) p (number_is texts parameters n calls fs env one_number)
 
   pub stepped_is : (s : token.Step) (t : Tree) (fs : List Form) (env : Env fs) (place : Place) → Placed scope t fs env 0 place →
-      In fs env (stepped_code texts scope s t) (read_place place >>= λ old. number_in old >>= λ m. step_operator s m one_number >>= λ result. stored place (numeric result))
+      In fs env (stepped_at s (target_in texts scope t)) (read_place place >>= λ old. number_in old >>= λ m. step_operator s m one_number >>= λ result. stored place (numeric result))
   stepped_is s t fs env place p =
-      retold texts parameters n calls fs env (stepped_code texts scope s t)
+      retold texts parameters n calls fs env (stepped_at s (target_in texts scope t))
       ((read_place place >>= λ old. number_in old >>= λ m. step_operator s m one_number >>= λ r. give (numeric r)) >>= λ v. stored place v)
       (read_place place >>= λ old. number_in old >>= λ m. step_operator s m one_number >>= λ result. stored place (numeric result))
-      (stored_is t fs env 0 (Do (step_of s) (two (read_code texts scope t 0) one_code)) (read_place place >>= λ old. number_in old >>= λ m. step_operator s m one_number >>= λ r. give (numeric r)) place p
-      (step_is s fs env (read_code texts scope t 0) (read_place place) (read_is t fs env 0 place p)))
+      (stored_is t fs env 0 (Do (step_of s) (two (read_at (target_in texts scope t) 0) one_code)) (read_place place >>= λ old. number_in old >>= λ m. step_operator s m one_number >>= λ r. give (numeric r)) place p
+      (step_is s fs env (read_at (target_in texts scope t) 0) (read_place place) (read_is t fs env 0 place p)))
       (flat (read_place place) (λ old. number_in old) (λ old m. step_operator s m one_number >>= λ r. give (numeric r)) (λ v. stored place v)
       ∙ under (read_place place) (λ old. number_in old >>= λ m. (step_operator s m one_number >>= λ r. give (numeric r)) >>= λ v. stored place v) (λ old. number_in old >>= λ m. step_operator s m one_number >>= λ result. stored place (numeric result))
       (λ old. under (number_in old) (λ m. (step_operator s m one_number >>= λ r. give (numeric r)) >>= λ v. stored place v) (λ m. step_operator s m one_number >>= λ result. stored place (numeric result))
@@ -213,36 +213,36 @@ module _ (texts : List (List ℕ)) (parameters : List (List Kind)) (n : ℕ) (ca
 
   -- the step, and what is done with it
   after_step : (s : token.Step) (t : Tree) (fs : List Form) (env : Env fs) (place : Place) → Placed scope t fs env 0 place → (m : AnyNumber) →
-      (Ev (a_number ∷ fs) (m, env) (Let (Do (step_of s) (two (copied 0) one_code)) (Seq (store_code texts scope t 2 (moved 0)) (moved 1))) >>= λ z. give (numeric z)) ≡ (step_operator s m one_number >>= λ result. store_place place (numeric result) >> give (numeric m))
+      (Ev (a_number ∷ fs) (m, env) (Let (Do (step_of s) (two (copied 0) one_code)) (Seq (store_at (target_in texts scope t) 2 (moved 0)) (moved 1))) >>= λ z. give (numeric z)) ≡ (step_operator s m one_number >>= λ result. store_place place (numeric result) >> give (numeric m))
   unfolding evaluated all_evaluated
   after_step s t fs env place p m =
-      assoc (Ev (a_number ∷ fs) (m, env) (Do (step_of s) (two (copied 0) one_code))) (λ r. Ev (a_number ∷ a_number ∷ fs) (r, (m, env)) (store_code texts scope t 2 (moved 0)) >> give m) (λ z. give (numeric z))
-      ∙ over (Ev (a_number ∷ fs) (m, env) (Do (step_of s) (two (copied 0) one_code))) (step_operator s m one_number) (λ r. (Ev (a_number ∷ a_number ∷ fs) (r, (m, env)) (store_code texts scope t 2 (moved 0)) >> give m) >>= λ z. give (numeric z)) (step_of_number s fs env m)
-      ∙ under (step_operator s m one_number) (λ r. (Ev (a_number ∷ a_number ∷ fs) (r, (m, env)) (store_code texts scope t 2 (moved 0)) >> give m) >>= λ z. give (numeric z)) (λ result. store_place place (numeric result) >> give (numeric m))
-      (λ r. assoc (Ev (a_number ∷ a_number ∷ fs) (r, (m, env)) (store_code texts scope t 2 (moved 0))) (λ u. give m) (λ z. give (numeric z))
+      assoc (Ev (a_number ∷ fs) (m, env) (Do (step_of s) (two (copied 0) one_code))) (λ r. Ev (a_number ∷ a_number ∷ fs) (r, (m, env)) (store_at (target_in texts scope t) 2 (moved 0)) >> give m) (λ z. give (numeric z))
+      ∙ over (Ev (a_number ∷ fs) (m, env) (Do (step_of s) (two (copied 0) one_code))) (step_operator s m one_number) (λ r. (Ev (a_number ∷ a_number ∷ fs) (r, (m, env)) (store_at (target_in texts scope t) 2 (moved 0)) >> give m) >>= λ z. give (numeric z)) (step_of_number s fs env m)
+      ∙ under (step_operator s m one_number) (λ r. (Ev (a_number ∷ a_number ∷ fs) (r, (m, env)) (store_at (target_in texts scope t) 2 (moved 0)) >> give m) >>= λ z. give (numeric z)) (λ result. store_place place (numeric result) >> give (numeric m))
+      (λ r. assoc (Ev (a_number ∷ a_number ∷ fs) (r, (m, env)) (store_at (target_in texts scope t) 2 (moved 0))) (λ u. give m) (λ z. give (numeric z))
       ∙ store_is t (a_number ∷ a_number ∷ fs) (r, (m, env)) 2 true 0 place (give (numeric m))
       (next_placed scope t a_number r (a_number ∷ fs) (m, env) 1 place (next_placed scope t a_number m fs env 0 place p)))
 
   pub step_after_is : (s : token.Step) (t : Tree) (fs : List Form) (env : Env fs) (place : Place) → Placed scope t fs env 0 place →
-      In fs env (step_after_code texts scope s t) (read_place place >>= λ old. number_in old >>= λ m. step_operator s m one_number >>= λ result. store_place place (numeric result) >> give (numeric m))
+      In fs env (step_after_at s (target_in texts scope t)) (read_place place >>= λ old. number_in old >>= λ m. step_operator s m one_number >>= λ result. store_place place (numeric result) >> give (numeric m))
   unfolding evaluated all_evaluated
   step_after_is s t fs env place p = record {
     valued = tt;
     means =
-        assoc (Ev fs env (Do AsNumber (one (read_code texts scope t 0)))) (λ m. Ev (a_number ∷ fs) (m, env) (Let (Do (step_of s) (two (copied 0) one_code)) (Seq (store_code texts scope t 2 (moved 0)) (moved 1)))) (λ z. give (numeric z))
-        ∙ over (Ev fs env (Do AsNumber (one (read_code texts scope t 0)))) (read_place place >>= λ old. number_in old) (λ m. Ev (a_number ∷ fs) (m, env) (Let (Do (step_of s) (two (copied 0) one_code)) (Seq (store_code texts scope t 2 (moved 0)) (moved 1))) >>= λ z. give (numeric z))
-        (old_number fs env (read_code texts scope t 0) (read_place place) (read_is t fs env 0 place p))
-        ∙ assoc (read_place place) (λ old. number_in old) (λ m. Ev (a_number ∷ fs) (m, env) (Let (Do (step_of s) (two (copied 0) one_code)) (Seq (store_code texts scope t 2 (moved 0)) (moved 1))) >>= λ z. give (numeric z))
-        ∙ under (read_place place) (λ old. number_in old >>= λ m. Ev (a_number ∷ fs) (m, env) (Let (Do (step_of s) (two (copied 0) one_code)) (Seq (store_code texts scope t 2 (moved 0)) (moved 1))) >>= λ z. give (numeric z))
+        assoc (Ev fs env (Do AsNumber (one (read_at (target_in texts scope t) 0)))) (λ m. Ev (a_number ∷ fs) (m, env) (Let (Do (step_of s) (two (copied 0) one_code)) (Seq (store_at (target_in texts scope t) 2 (moved 0)) (moved 1)))) (λ z. give (numeric z))
+        ∙ over (Ev fs env (Do AsNumber (one (read_at (target_in texts scope t) 0)))) (read_place place >>= λ old. number_in old) (λ m. Ev (a_number ∷ fs) (m, env) (Let (Do (step_of s) (two (copied 0) one_code)) (Seq (store_at (target_in texts scope t) 2 (moved 0)) (moved 1))) >>= λ z. give (numeric z))
+        (old_number fs env (read_at (target_in texts scope t) 0) (read_place place) (read_is t fs env 0 place p))
+        ∙ assoc (read_place place) (λ old. number_in old) (λ m. Ev (a_number ∷ fs) (m, env) (Let (Do (step_of s) (two (copied 0) one_code)) (Seq (store_at (target_in texts scope t) 2 (moved 0)) (moved 1))) >>= λ z. give (numeric z))
+        ∙ under (read_place place) (λ old. number_in old >>= λ m. Ev (a_number ∷ fs) (m, env) (Let (Do (step_of s) (two (copied 0) one_code)) (Seq (store_at (target_in texts scope t) 2 (moved 0)) (moved 1))) >>= λ z. give (numeric z))
         (λ old. number_in old >>= λ m. step_operator s m one_number >>= λ result. store_place place (numeric result) >> give (numeric m))
-        (λ old. under (number_in old) (λ m. Ev (a_number ∷ fs) (m, env) (Let (Do (step_of s) (two (copied 0) one_code)) (Seq (store_code texts scope t 2 (moved 0)) (moved 1))) >>= λ z. give (numeric z))
+        (λ old. under (number_in old) (λ m. Ev (a_number ∷ fs) (m, env) (Let (Do (step_of s) (two (copied 0) one_code)) (Seq (store_at (target_in texts scope t) 2 (moved 0)) (moved 1))) >>= λ z. give (numeric z))
         (λ m. step_operator s m one_number >>= λ result. store_place place (numeric result) >> give (numeric m))
         (λ m. after_step s t fs env place p m));
   }
 
   -- What is kept by reads and substitutions is stored.
 
-  store_text : (t : Tree) (fs : List Form) (env : Env fs) (place : Place) → Placed scope t fs env 0 place → (text : Value) → (Ev (a_value ∷ fs) (text, env) (store_code texts scope t 1 (moved 0)) >> nothing) ≡ store_place place text
+  store_text : (t : Tree) (fs : List Form) (env : Env fs) (place : Place) → Placed scope t fs env 0 place → (text : Value) → (Ev (a_value ∷ fs) (text, env) (store_at (target_in texts scope t) 1 (moved 0)) >> nothing) ≡ store_place place text
   store_text t fs env place p text = store_is t (a_value ∷ fs) (text, env) 1 true 0 place nothing (next_placed scope t a_value text fs env 0 place p) ∙ silent (store_place place text)
 
   read_same : (place : Place) (S : Value → Doing (Unit {0})) → ((text : Value) → S text ≡ store_place place text) → (a : InputAnswer) → (when_read S a >>= λ z. give (numeric z)) ≡ received place a
@@ -251,27 +251,27 @@ module _ (texts : List (List ℕ)) (parameters : List (List Kind)) (n : ℕ) (ca
   read_same place S h input.Pending = refl
   read_same place S h input.Failed = refl
 
-  pub line_is : (t : Tree) (fs : List Form) (env : Env fs) (place : Place) → Placed scope t fs env 0 place → In fs env (AskLine (store_code texts scope t 1 (moved 0))) (asked n (asks row.GetlineVar tt) >>= λ answer. received place answer)
+  pub line_is : (t : Tree) (fs : List Form) (env : Env fs) (place : Place) → Placed scope t fs env 0 place → In fs env (AskLine (store_at (target_in texts scope t) 1 (moved 0))) (asked n (asks row.GetlineVar tt) >>= λ answer. received place answer)
   unfolding evaluated all_evaluated
   line_is t fs env place p = record {
     valued = tt;
     means =
-        assoc (asked n (asks row.GetlineVar tt)) (when_read (λ text. Ev (a_value ∷ fs) (text, env) (store_code texts scope t 1 (moved 0)) >> nothing)) (λ z. give (numeric z))
-        ∙ under (asked n (asks row.GetlineVar tt)) (λ a. when_read (λ text. Ev (a_value ∷ fs) (text, env) (store_code texts scope t 1 (moved 0)) >> nothing) a >>= λ z. give (numeric z)) (λ answer. received place answer)
-        (read_same place (λ text. Ev (a_value ∷ fs) (text, env) (store_code texts scope t 1 (moved 0)) >> nothing) (store_text t fs env place p));
+        assoc (asked n (asks row.GetlineVar tt)) (when_read (λ text. Ev (a_value ∷ fs) (text, env) (store_at (target_in texts scope t) 1 (moved 0)) >> nothing)) (λ z. give (numeric z))
+        ∙ under (asked n (asks row.GetlineVar tt)) (λ a. when_read (λ text. Ev (a_value ∷ fs) (text, env) (store_at (target_in texts scope t) 1 (moved 0)) >> nothing) a >>= λ z. give (numeric z)) (λ answer. received place answer)
+        (read_same place (λ text. Ev (a_value ∷ fs) (text, env) (store_at (target_in texts scope t) 1 (moved 0)) >> nothing) (store_text t fs env place p));
   }
 
   pub file_line_is : (t : Tree) (fs : List Form) (env : Env fs) (e : Code) (m : Doing Value) (place : Place) → Placed scope t fs env 0 place → In fs env e m →
-      In fs env (FileLine e (store_code texts scope t 1 (moved 0))) (m >>= λ file. does row.GetlineVarFile (file, tt) >>= λ answer. received place answer)
+      In fs env (FileLine e (store_at (target_in texts scope t) 1 (moved 0))) (m >>= λ file. does row.GetlineVarFile (file, tt) >>= λ answer. received place answer)
   unfolding evaluated all_evaluated
   file_line_is t fs env e m place p q = record {
     valued = tt;
     means =
-        flat (Ev fs env e) (λ file. does row.GetlineVarFile (boxed (form_of fs e) file, tt)) (λ file. when_read (λ text. Ev (a_value ∷ fs) (text, env) (store_code texts scope t 1 (moved 0)) >> nothing)) (λ z. give (numeric z))
-        ∙ bind_as (boxed (form_of fs e)) (Ev fs env e) m (λ file. does row.GetlineVarFile (boxed (form_of fs e) file, tt) >>= λ a. when_read (λ text. Ev (a_value ∷ fs) (text, env) (store_code texts scope t 1 (moved 0)) >> nothing) a >>= λ z. give (numeric z))
+        flat (Ev fs env e) (λ file. does row.GetlineVarFile (boxed (form_of fs e) file, tt)) (λ file. when_read (λ text. Ev (a_value ∷ fs) (text, env) (store_at (target_in texts scope t) 1 (moved 0)) >> nothing)) (λ z. give (numeric z))
+        ∙ bind_as (boxed (form_of fs e)) (Ev fs env e) m (λ file. does row.GetlineVarFile (boxed (form_of fs e) file, tt) >>= λ a. when_read (λ text. Ev (a_value ∷ fs) (text, env) (store_at (target_in texts scope t) 1 (moved 0)) >> nothing) a >>= λ z. give (numeric z))
         (λ file. does row.GetlineVarFile (file, tt) >>= λ answer. received place answer) q.means
-        (λ file. under (does row.GetlineVarFile (boxed (form_of fs e) file, tt)) (λ a. when_read (λ text. Ev (a_value ∷ fs) (text, env) (store_code texts scope t 1 (moved 0)) >> nothing) a >>= λ z. give (numeric z)) (λ answer. received place answer)
-        (read_same place (λ text. Ev (a_value ∷ fs) (text, env) (store_code texts scope t 1 (moved 0)) >> nothing) (store_text t fs env place p)));
+        (λ file. under (does row.GetlineVarFile (boxed (form_of fs e) file, tt)) (λ a. when_read (λ text. Ev (a_value ∷ fs) (text, env) (store_at (target_in texts scope t) 1 (moved 0)) >> nothing) a >>= λ z. give (numeric z)) (λ answer. received place answer)
+        (read_same place (λ text. Ev (a_value ∷ fs) (text, env) (store_at (target_in texts scope t) 1 (moved 0)) >> nothing) (store_text t fs env place p)));
   }
 
   replaced_same : (place : Place) (S : Value → Doing (Unit {0})) → ((text : Value) → S text ≡ store_place place text) → (count : AnyNumber) → (when_replaced S count >>= λ z. give (numeric z)) ≡ replaced_in place count
@@ -280,23 +280,23 @@ module _ (texts : List (List ℕ)) (parameters : List (List Kind)) (n : ℕ) (ca
       ∙ (λ k. (if is_zero count.number then nothing else (does row.SubResult tt >>= λ text. h text k)) >> give (numeric count))
 
   -- expression and replacement were kept before the place
-  pub substituted_is : (all : Bool) (t : Tree) (fs : List Form) (env : Env fs) (place : Place) → Placed scope t fs env 0 place → Valued (form_at fs (suc (kept_for texts scope t))) → Valued (form_at fs (kept_for texts scope t)) →
-      In fs env (substituted_code texts scope all t)
-      (read_place place >>= λ old. does row.Sub (boxed (form_at fs (suc (kept_for texts scope t))) (held fs env (suc (kept_for texts scope t))), (boxed (form_at fs (kept_for texts scope t)) (held fs env (kept_for texts scope t)), (old, (all, tt)))) >>= λ count. replaced_in place count)
+  pub substituted_is : (all : Bool) (t : Tree) (fs : List Form) (env : Env fs) (place : Place) → Placed scope t fs env 0 place → Valued (form_at fs (suc (kept_at (target_in texts scope t)))) → Valued (form_at fs (kept_at (target_in texts scope t))) →
+      In fs env (substituted_at all (target_in texts scope t))
+      (read_place place >>= λ old. does row.Sub (boxed (form_at fs (suc (kept_at (target_in texts scope t)))) (held fs env (suc (kept_at (target_in texts scope t)))), (boxed (form_at fs (kept_at (target_in texts scope t))) (held fs env (kept_at (target_in texts scope t))), (old, (all, tt)))) >>= λ count. replaced_in place count)
   unfolding evaluated all_evaluated
   substituted_is all t fs env place p v w =
-      let i = suc (kept_for texts scope t) in
-      let j = kept_for texts scope t in
-      let S = λ (text : Value). Ev (a_value ∷ fs) (text, env) (store_code texts scope t 1 (moved 0)) >> nothing in
+      let i = suc (kept_at (target_in texts scope t)) in
+      let j = kept_at (target_in texts scope t) in
+      let S = λ (text : Value). Ev (a_value ∷ fs) (text, env) (store_at (target_in texts scope t) 1 (moved 0)) >> nothing in
       record {
         valued = tt;
         means =
-            assoc (all_evaluated texts parameters n calls fs env (At (moved i) (At (moved j) (At (read_code texts scope t 0) End)))) (λ vs. settled (row_of fs three_values (At (moved i) (At (moved j) (At (read_code texts scope t 0) End))) vs) >>= λ given. replacing all given >>= when_replaced S) (λ z. give (numeric z))
-            ∙ three_operands texts parameters n calls fs env (moved i) (moved j) (read_code texts scope t 0) (give (boxed (form_at fs i) (held fs env i))) (give (boxed (form_at fs j) (held fs env j))) (read_place place)
+            assoc (all_evaluated texts parameters n calls fs env (At (moved i) (At (moved j) (At (read_at (target_in texts scope t) 0) End)))) (λ vs. settled (row_of fs three_values (At (moved i) (At (moved j) (At (read_at (target_in texts scope t) 0) End))) vs) >>= λ given. replacing all given >>= when_replaced S) (λ z. give (numeric z))
+            ∙ three_operands texts parameters n calls fs env (moved i) (moved j) (read_at (target_in texts scope t) 0) (give (boxed (form_at fs i) (held fs env i))) (give (boxed (form_at fs j) (held fs env j))) (read_place place)
             (bound_is texts parameters n calls fs env true i v) (bound_is texts parameters n calls fs env true j w) (read_is t fs env 0 place p)
-            (λ vs. (settled (row_of fs three_values (At (moved i) (At (moved j) (At (read_code texts scope t 0) End))) vs) >>= λ given. replacing all given >>= when_replaced S) >>= λ z. give (numeric z))
+            (λ vs. (settled (row_of fs three_values (At (moved i) (At (moved j) (At (read_at (target_in texts scope t) 0) End))) vs) >>= λ given. replacing all given >>= when_replaced S) >>= λ z. give (numeric z))
             (λ x y z. does row.Sub (x, (y, (z, (all, tt)))) >>= λ count. replaced_in place count)
-            (λ x y z. assoc (does row.Sub (boxed (form_at fs i) x, (boxed (form_at fs j) y, (boxed (form_of fs (read_code texts scope t 0)) z, (all, tt))))) (when_replaced S) (λ u. give (numeric u))
-            ∙ under (does row.Sub (boxed (form_at fs i) x, (boxed (form_at fs j) y, (boxed (form_of fs (read_code texts scope t 0)) z, (all, tt))))) (λ count. when_replaced S count >>= λ u. give (numeric u)) (λ count. replaced_in place count)
+            (λ x y z. assoc (does row.Sub (boxed (form_at fs i) x, (boxed (form_at fs j) y, (boxed (form_of fs (read_at (target_in texts scope t) 0)) z, (all, tt))))) (when_replaced S) (λ u. give (numeric u))
+            ∙ under (does row.Sub (boxed (form_at fs i) x, (boxed (form_at fs j) y, (boxed (form_of fs (read_at (target_in texts scope t) 0)) z, (all, tt))))) (λ count. when_replaced S count >>= λ u. give (numeric u)) (λ count. replaced_in place count)
             (replaced_same place S (store_text t fs env place p)));
       }

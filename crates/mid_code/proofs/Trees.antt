@@ -25,7 +25,7 @@ use Rattle.mid_code.specs.Meaning.{Calls, asked, matched, value_of, values_of, k
 use Rattle.mid_code.specs.Mid.{Kind, Code, Do, AskLine, FileLine, Text, Array, Let, At, Form, a_number, form_of, parameters_at}
 use Rattle.mid_code.specs.MidMeaning.{Env, Holds, all_evaluated, boxed, evaluated, listing, row_of}
 use Rattle.mid_code.specs.Texts.{texts_in, all_texts, text_place}
-use Rattle.mid_code.specs.Translation.{host, one, two, zero_code, untruth_code, record_code, special_code, matching_code, ere_code, sign_of, product_of, moved, store_code, stored_code, stepped_code, step_after_code, updated_code, substituted_code, replacing_code, code_of, codes_of, key_code, at_place, argument_codes, passed_code, kind_of, truncated_code, applied_code}
+use Rattle.mid_code.specs.Translation.{host, one, two, zero_code, untruth_code, record_code, special_code, matching_code, ere_code, sign_of, product_of, moved, store_at, stored_at, stepped_at, step_after_at, updated_at, substituted_at, target_in, keeping, replacing_code, code_of, codes_of, key_code, kept_code, argument_codes, passed_code, kind_of, truncated_code, applied_code}
 use Rattle.mid_code.proofs.Binding.{As, assoc, bind_as, flat, given, over, under}
 use Rattle.mid_code.proofs.Expressions.{number_is, text_is, variable_is, concat_is, join_is, matches_is, compare_is, length_is, inline_is, power_is, as_number_is, field_is, and_is, or_is, not_is, cond_is, element_is, has_is, unset_is, whole_is, index_is, match_is, lower_is, upper_is, int_is, close_is, get_is, get_from_is, substr_from_is, substr_is, split_is}
 use Rattle.mid_code.proofs.Operands.{Is, Valued, first_operand, number_row, one_operand, truth_of_truth}
@@ -52,31 +52,31 @@ module _ (texts : List (List ℕ)) (parameters : List (List Kind)) (n : ℕ) (ca
   at_each (Index x ts) fs env body B h = λ k w. h (form_of fs (key_code texts scope ts) ∷ fs) (k, env) (Element (array_of scope x) (boxed (form_of fs (key_code texts scope ts)) k)) (w, refl)
   at_each t fs env body B h = λ k. h (a_number ∷ fs) (k, env) (FieldAt k) (k, refl, refl)
 
-  pub substituted_at : (all : Bool) (t : Tree) (f g : Form) (fs : List Form) (x : Holds f) (y : Holds g) (env : Env fs) → Valued f → Valued g →
-      AtPlace t (g ∷ f ∷ fs) (y, (x, env)) (substituted_code texts scope all t) (λ place. read_place place >>= λ old. does row.Sub (boxed f x, (boxed g y, (old, (all, tt)))) >>= λ count. replaced_in place count)
-  substituted_at all (Var z) f g fs x y env v w = substituted_is texts parameters n calls scope all (Var z) (g ∷ f ∷ fs) (y, (x, env)) (Named (variable_of scope z)) refl v w
-  substituted_at all (Index z ts) f g fs x y env v w =
+  pub substituted_there : (all : Bool) (t : Tree) (f g : Form) (fs : List Form) (x : Holds f) (y : Holds g) (env : Env fs) → Valued f → Valued g →
+      AtPlace t (g ∷ f ∷ fs) (y, (x, env)) (substituted_at all (target_in texts scope t)) (λ place. read_place place >>= λ old. does row.Sub (boxed f x, (boxed g y, (old, (all, tt)))) >>= λ count. replaced_in place count)
+  substituted_there all (Var z) f g fs x y env v w = substituted_is texts parameters n calls scope all (Var z) (g ∷ f ∷ fs) (y, (x, env)) (Named (variable_of scope z)) refl v w
+  substituted_there all (Index z ts) f g fs x y env v w =
       λ k u. substituted_is texts parameters n calls scope all (Index z ts) (form_of (g ∷ f ∷ fs) (key_code texts scope ts) ∷ g ∷ f ∷ fs) (k, (y, (x, env))) (Element (array_of scope z) (boxed (form_of (g ∷ f ∷ fs) (key_code texts scope ts)) k)) (u, refl) v w
-  substituted_at all t f g fs x y env v w = λ k. substituted_is texts parameters n calls scope all t (a_number ∷ g ∷ f ∷ fs) (k, (y, (x, env))) (FieldAt k) (k, refl, refl) v w
+  substituted_there all t f g fs x y env v w = λ k. substituted_is texts parameters n calls scope all t (a_number ∷ g ∷ f ∷ fs) (k, (y, (x, env))) (FieldAt k) (k, refl, refl) v w
 
   -- the place without a target is the record
-  pub at_record : (fs : List Form) (env : Env fs) (body : Code) (B : Place → Doing Value) → AtPlace Length fs env body B → Is texts parameters n calls fs env (at_place texts scope Length body) (place_of scope n calls Length >>= B)
-  unfolding at_place place_of evaluated
+  pub at_record : (fs : List Form) (env : Env fs) (body : Code) (B : Place → Doing Value) → AtPlace Length fs env body B → Is texts parameters n calls fs env (keeping (kept_code texts scope Length) body) (place_of scope n calls Length >>= B)
+  unfolding kept_code place_of evaluated
   at_record fs env body B h = record { valued = (h zero_number).valued; means = (h zero_number).means }
 
   -- expression, replacement, place
   pub replacing_is : (all : Bool) (e r : Code) (t : Tree) (m l : Doing Value) (fs : List Form) (env : Env fs) → Is texts parameters n calls fs env e m → ((gs : List Form) (env1 : Env gs) → Is texts parameters n calls gs env1 r l) →
-      ((gs : List Form) (env1 : Env gs) (body : Code) (B : Place → Doing Value) → AtPlace t gs env1 body B → Is texts parameters n calls gs env1 (at_place texts scope t body) (place_of scope n calls t >>= B)) →
-      Is texts parameters n calls fs env (replacing_code texts scope e r (at_place texts scope t (substituted_code texts scope all t))) (substituted all m l (place_of scope n calls t))
+      ((gs : List Form) (env1 : Env gs) (body : Code) (B : Place → Doing Value) → AtPlace t gs env1 body B → Is texts parameters n calls gs env1 (keeping (kept_code texts scope t) body) (place_of scope n calls t >>= B)) →
+      Is texts parameters n calls fs env (replacing_code texts scope e r (keeping (kept_code texts scope t) (substituted_at all (target_in texts scope t)))) (substituted all m l (place_of scope n calls t))
   replacing_is all e r t m l fs env p q h =
       let F = form_of fs e in
-      let_in texts parameters n calls fs env e (Let r (at_place texts scope t (substituted_code texts scope all t))) m
+      let_in texts parameters n calls fs env e (Let r (keeping (kept_code texts scope t) (substituted_at all (target_in texts scope t)))) m
       (λ x. l >>= λ y. place_of scope n calls t >>= λ place. read_place place >>= λ old. does row.Sub (x, (y, (old, (all, tt)))) >>= λ count. replaced_in place count) p
-      (λ x. let_in texts parameters n calls (F ∷ fs) (x, env) r (at_place texts scope t (substituted_code texts scope all t)) l
+      (λ x. let_in texts parameters n calls (F ∷ fs) (x, env) r (keeping (kept_code texts scope t) (substituted_at all (target_in texts scope t))) l
       (λ y. place_of scope n calls t >>= λ place. read_place place >>= λ old. does row.Sub (boxed F x, (y, (old, (all, tt)))) >>= λ count. replaced_in place count) (q (F ∷ fs) (x, env))
-      (λ y. h (form_of (F ∷ fs) r ∷ F ∷ fs) (y, (x, env)) (substituted_code texts scope all t)
+      (λ y. h (form_of (F ∷ fs) r ∷ F ∷ fs) (y, (x, env)) (substituted_at all (target_in texts scope t))
       (λ place. read_place place >>= λ old. does row.Sub (boxed F x, (boxed (form_of (F ∷ fs) r) y, (old, (all, tt)))) >>= λ count. replaced_in place count)
-      (substituted_at all t F (form_of (F ∷ fs) r) fs x y env p.valued (q (F ∷ fs) (x, env)).valued)))
+      (substituted_there all t F (form_of (F ∷ fs) r) fs x y env p.valued (q (F ∷ fs) (x, env)).valued)))
 
 module _ (texts : List (List ℕ)) (parameters : List (List Kind)) (n : ℕ) (calls : Calls) (fs : List Form) (env : Env fs) where
   abbrev Means : Code → Doing Value → Type 0
@@ -125,7 +125,7 @@ module _ (texts : List (List ℕ)) (parameters : List (List Kind)) (n : ℕ) (ca
   meaning t = value_of scope n calls t
 
   mutual
-    unfolding code_of key_code at_place argument_codes codes_of truncated_code applied_code value_of values_of key_of place_of passed truncated_of applied evaluated all_evaluated texts_in all_texts
+    unfolding code_of key_code kept_code argument_codes codes_of truncated_code applied_code value_of values_of key_of place_of passed truncated_of applied evaluated all_evaluated texts_in all_texts
 
     pub same : (t : Tree) → AllStand texts (texts_in t) → (fs : List Form) (env : Env fs) → Is texts parameters n calls fs env (code_of texts scope t) (value_of scope n calls t)
     same (Leaf (Numeral t)) f fs env = number_is texts parameters n calls fs env (or_nought (number_of_constant t))
@@ -150,15 +150,15 @@ module _ (texts : List (List ℕ)) (parameters : List (List Kind)) (n : ℕ) (ca
     same (Bin (Other (Match m)) a b) f fs env = match_same texts parameters n calls fs env m (code a) (ere_code texts (ere_in b) (code b)) (meaning a) (ere_or (ere_in b) (meaning b)) (same a (first_part texts (texts_in a) (texts_in b) f) fs env) (ere_same texts parameters n calls fs env (ere_in b) (code b) (meaning b) (ere_stands texts b (second_part texts (texts_in a) (texts_in b) f)) (same b (second_part texts (texts_in a) (texts_in b) f) fs env))
     same (Bin (Other Both) a b) f fs env = and_is texts parameters n calls fs env (code a) (code b) (meaning a) (meaning b) (same a (first_part texts (texts_in a) (texts_in b) f) fs env) (same b (second_part texts (texts_in a) (texts_in b) f) fs env)
     same (Bin (Other Or) a b) f fs env = or_is texts parameters n calls fs env (code a) (code b) (meaning a) (meaning b) (same a (first_part texts (texts_in a) (texts_in b) f) fs env) (same b (second_part texts (texts_in a) (texts_in b) f) fs env)
-    same (Bin (Other (Assign Put)) a b) f fs env = at_same a (first_part texts (texts_in a) (texts_in b) f) fs env (stored_code texts scope a 0 (code b)) (λ place. meaning b >>= λ x. stored place x) (at_each texts parameters n calls scope a fs env (stored_code texts scope a 0 (code b)) (λ place. meaning b >>= λ x. stored place x) (λ gs env1 place p. stored_is texts parameters n calls scope a gs env1 0 (code b) (meaning b) place p (same b (second_part texts (texts_in a) (texts_in b) f) gs env1)))
-    same (Bin (Other (Assign (SetSum Plus))) a b) f fs env = at_same a (first_part texts (texts_in a) (texts_in b) f) fs env (updated_code texts scope (sign_of Plus) a (code b)) (λ place. meaning b >>= λ x. read_place place >>= λ old. computed (sign_operator Plus) old x >>= λ result. stored place result) (at_each texts parameters n calls scope a fs env (updated_code texts scope (sign_of Plus) a (code b)) (λ place. meaning b >>= λ x. read_place place >>= λ old. computed (sign_operator Plus) old x >>= λ result. stored place result) (λ gs env1 place p. updated_is texts parameters n calls scope (sign_of Plus) (sign_operator Plus) a gs env1 (code b) (meaning b) place p (same b (second_part texts (texts_in a) (texts_in b) f) gs env1) (λ hs env2 u v l r q s. inline_is texts parameters n calls hs env2 inline.Plus u v l r q s)))
-    same (Bin (Other (Assign (SetSum Minus))) a b) f fs env = at_same a (first_part texts (texts_in a) (texts_in b) f) fs env (updated_code texts scope (sign_of Minus) a (code b)) (λ place. meaning b >>= λ x. read_place place >>= λ old. computed (sign_operator Minus) old x >>= λ result. stored place result) (at_each texts parameters n calls scope a fs env (updated_code texts scope (sign_of Minus) a (code b)) (λ place. meaning b >>= λ x. read_place place >>= λ old. computed (sign_operator Minus) old x >>= λ result. stored place result) (λ gs env1 place p. updated_is texts parameters n calls scope (sign_of Minus) (sign_operator Minus) a gs env1 (code b) (meaning b) place p (same b (second_part texts (texts_in a) (texts_in b) f) gs env1) (λ hs env2 u v l r q s. inline_is texts parameters n calls hs env2 inline.Minus u v l r q s)))
-    same (Bin (Other (Assign (SetProduct Times))) a b) f fs env = at_same a (first_part texts (texts_in a) (texts_in b) f) fs env (updated_code texts scope (product_of Times) a (code b)) (λ place. meaning b >>= λ x. read_place place >>= λ old. computed (product_operator Times) old x >>= λ result. stored place result) (at_each texts parameters n calls scope a fs env (updated_code texts scope (product_of Times) a (code b)) (λ place. meaning b >>= λ x. read_place place >>= λ old. computed (product_operator Times) old x >>= λ result. stored place result) (λ gs env1 place p. updated_is texts parameters n calls scope (product_of Times) (product_operator Times) a gs env1 (code b) (meaning b) place p (same b (second_part texts (texts_in a) (texts_in b) f) gs env1) (λ hs env2 u v l r q s. inline_is texts parameters n calls hs env2 inline.Times u v l r q s)))
-    same (Bin (Other (Assign (SetProduct Divided))) a b) f fs env = at_same a (first_part texts (texts_in a) (texts_in b) f) fs env (updated_code texts scope (product_of Divided) a (code b)) (λ place. meaning b >>= λ x. read_place place >>= λ old. computed (product_operator Divided) old x >>= λ result. stored place result) (at_each texts parameters n calls scope a fs env (updated_code texts scope (product_of Divided) a (code b)) (λ place. meaning b >>= λ x. read_place place >>= λ old. computed (product_operator Divided) old x >>= λ result. stored place result) (λ gs env1 place p. updated_is texts parameters n calls scope (product_of Divided) (product_operator Divided) a gs env1 (code b) (meaning b) place p (same b (second_part texts (texts_in a) (texts_in b) f) gs env1) (λ hs env2 u v l r q s. inline_is texts parameters n calls hs env2 inline.Over u v l r q s)))
-    same (Bin (Other (Assign (SetProduct Modulo))) a b) f fs env = at_same a (first_part texts (texts_in a) (texts_in b) f) fs env (updated_code texts scope (product_of Modulo) a (code b)) (λ place. meaning b >>= λ x. read_place place >>= λ old. computed (product_operator Modulo) old x >>= λ result. stored place result) (at_each texts parameters n calls scope a fs env (updated_code texts scope (product_of Modulo) a (code b)) (λ place. meaning b >>= λ x. read_place place >>= λ old. computed (product_operator Modulo) old x >>= λ result. stored place result) (λ gs env1 place p. updated_is texts parameters n calls scope (product_of Modulo) (product_operator Modulo) a gs env1 (code b) (meaning b) place p (same b (second_part texts (texts_in a) (texts_in b) f) gs env1) (λ hs env2 u v l r q s. inline_is texts parameters n calls hs env2 inline.Modulo u v l r q s)))
-    same (Bin (Other (Assign SetPower)) a b) f fs env = at_same a (first_part texts (texts_in a) (texts_in b) f) fs env (updated_code texts scope (Host row.Pow) a (code b)) (λ place. meaning b >>= λ x. read_place place >>= λ old. computed power_operator old x >>= λ result. stored place result) (at_each texts parameters n calls scope a fs env (updated_code texts scope (Host row.Pow) a (code b)) (λ place. meaning b >>= λ x. read_place place >>= λ old. computed power_operator old x >>= λ result. stored place result) (λ gs env1 place p. updated_is texts parameters n calls scope (Host row.Pow) power_operator a gs env1 (code b) (meaning b) place p (same b (second_part texts (texts_in a) (texts_in b) f) gs env1) (λ hs env2 u v l r q s. power_is texts parameters n calls hs env2 u v l r q s)))
-    same (Pre s t) f fs env = at_same t (f) fs env (stepped_code texts scope s t) (λ place. read_place place >>= λ old. number_in old >>= λ m. step_operator s m one_number >>= λ result. stored place (numeric result)) (at_each texts parameters n calls scope t fs env (stepped_code texts scope s t) (λ place. read_place place >>= λ old. number_in old >>= λ m. step_operator s m one_number >>= λ result. stored place (numeric result)) (λ gs env1 place p. stepped_is texts parameters n calls scope s t gs env1 place p))
-    same (Post s t) f fs env = at_same t (f) fs env (step_after_code texts scope s t) (λ place. read_place place >>= λ old. number_in old >>= λ m. step_operator s m one_number >>= λ result. store_place place (numeric result) >> give (numeric m)) (at_each texts parameters n calls scope t fs env (step_after_code texts scope s t) (λ place. read_place place >>= λ old. number_in old >>= λ m. step_operator s m one_number >>= λ result. store_place place (numeric result) >> give (numeric m)) (λ gs env1 place p. step_after_is texts parameters n calls scope s t gs env1 place p))
+    same (Bin (Other (Assign Put)) a b) f fs env = at_same a (first_part texts (texts_in a) (texts_in b) f) fs env (stored_at (target_in texts scope a) 0 (code b)) (λ place. meaning b >>= λ x. stored place x) (at_each texts parameters n calls scope a fs env (stored_at (target_in texts scope a) 0 (code b)) (λ place. meaning b >>= λ x. stored place x) (λ gs env1 place p. stored_is texts parameters n calls scope a gs env1 0 (code b) (meaning b) place p (same b (second_part texts (texts_in a) (texts_in b) f) gs env1)))
+    same (Bin (Other (Assign (SetSum Plus))) a b) f fs env = at_same a (first_part texts (texts_in a) (texts_in b) f) fs env (updated_at (sign_of Plus) (target_in texts scope a) (code b)) (λ place. meaning b >>= λ x. read_place place >>= λ old. computed (sign_operator Plus) old x >>= λ result. stored place result) (at_each texts parameters n calls scope a fs env (updated_at (sign_of Plus) (target_in texts scope a) (code b)) (λ place. meaning b >>= λ x. read_place place >>= λ old. computed (sign_operator Plus) old x >>= λ result. stored place result) (λ gs env1 place p. updated_is texts parameters n calls scope (sign_of Plus) (sign_operator Plus) a gs env1 (code b) (meaning b) place p (same b (second_part texts (texts_in a) (texts_in b) f) gs env1) (λ hs env2 u v l r q s. inline_is texts parameters n calls hs env2 inline.Plus u v l r q s)))
+    same (Bin (Other (Assign (SetSum Minus))) a b) f fs env = at_same a (first_part texts (texts_in a) (texts_in b) f) fs env (updated_at (sign_of Minus) (target_in texts scope a) (code b)) (λ place. meaning b >>= λ x. read_place place >>= λ old. computed (sign_operator Minus) old x >>= λ result. stored place result) (at_each texts parameters n calls scope a fs env (updated_at (sign_of Minus) (target_in texts scope a) (code b)) (λ place. meaning b >>= λ x. read_place place >>= λ old. computed (sign_operator Minus) old x >>= λ result. stored place result) (λ gs env1 place p. updated_is texts parameters n calls scope (sign_of Minus) (sign_operator Minus) a gs env1 (code b) (meaning b) place p (same b (second_part texts (texts_in a) (texts_in b) f) gs env1) (λ hs env2 u v l r q s. inline_is texts parameters n calls hs env2 inline.Minus u v l r q s)))
+    same (Bin (Other (Assign (SetProduct Times))) a b) f fs env = at_same a (first_part texts (texts_in a) (texts_in b) f) fs env (updated_at (product_of Times) (target_in texts scope a) (code b)) (λ place. meaning b >>= λ x. read_place place >>= λ old. computed (product_operator Times) old x >>= λ result. stored place result) (at_each texts parameters n calls scope a fs env (updated_at (product_of Times) (target_in texts scope a) (code b)) (λ place. meaning b >>= λ x. read_place place >>= λ old. computed (product_operator Times) old x >>= λ result. stored place result) (λ gs env1 place p. updated_is texts parameters n calls scope (product_of Times) (product_operator Times) a gs env1 (code b) (meaning b) place p (same b (second_part texts (texts_in a) (texts_in b) f) gs env1) (λ hs env2 u v l r q s. inline_is texts parameters n calls hs env2 inline.Times u v l r q s)))
+    same (Bin (Other (Assign (SetProduct Divided))) a b) f fs env = at_same a (first_part texts (texts_in a) (texts_in b) f) fs env (updated_at (product_of Divided) (target_in texts scope a) (code b)) (λ place. meaning b >>= λ x. read_place place >>= λ old. computed (product_operator Divided) old x >>= λ result. stored place result) (at_each texts parameters n calls scope a fs env (updated_at (product_of Divided) (target_in texts scope a) (code b)) (λ place. meaning b >>= λ x. read_place place >>= λ old. computed (product_operator Divided) old x >>= λ result. stored place result) (λ gs env1 place p. updated_is texts parameters n calls scope (product_of Divided) (product_operator Divided) a gs env1 (code b) (meaning b) place p (same b (second_part texts (texts_in a) (texts_in b) f) gs env1) (λ hs env2 u v l r q s. inline_is texts parameters n calls hs env2 inline.Over u v l r q s)))
+    same (Bin (Other (Assign (SetProduct Modulo))) a b) f fs env = at_same a (first_part texts (texts_in a) (texts_in b) f) fs env (updated_at (product_of Modulo) (target_in texts scope a) (code b)) (λ place. meaning b >>= λ x. read_place place >>= λ old. computed (product_operator Modulo) old x >>= λ result. stored place result) (at_each texts parameters n calls scope a fs env (updated_at (product_of Modulo) (target_in texts scope a) (code b)) (λ place. meaning b >>= λ x. read_place place >>= λ old. computed (product_operator Modulo) old x >>= λ result. stored place result) (λ gs env1 place p. updated_is texts parameters n calls scope (product_of Modulo) (product_operator Modulo) a gs env1 (code b) (meaning b) place p (same b (second_part texts (texts_in a) (texts_in b) f) gs env1) (λ hs env2 u v l r q s. inline_is texts parameters n calls hs env2 inline.Modulo u v l r q s)))
+    same (Bin (Other (Assign SetPower)) a b) f fs env = at_same a (first_part texts (texts_in a) (texts_in b) f) fs env (updated_at (Host row.Pow) (target_in texts scope a) (code b)) (λ place. meaning b >>= λ x. read_place place >>= λ old. computed power_operator old x >>= λ result. stored place result) (at_each texts parameters n calls scope a fs env (updated_at (Host row.Pow) (target_in texts scope a) (code b)) (λ place. meaning b >>= λ x. read_place place >>= λ old. computed power_operator old x >>= λ result. stored place result) (λ gs env1 place p. updated_is texts parameters n calls scope (Host row.Pow) power_operator a gs env1 (code b) (meaning b) place p (same b (second_part texts (texts_in a) (texts_in b) f) gs env1) (λ hs env2 u v l r q s. power_is texts parameters n calls hs env2 u v l r q s)))
+    same (Pre s t) f fs env = at_same t (f) fs env (stepped_at s (target_in texts scope t)) (λ place. read_place place >>= λ old. number_in old >>= λ m. step_operator s m one_number >>= λ result. stored place (numeric result)) (at_each texts parameters n calls scope t fs env (stepped_at s (target_in texts scope t)) (λ place. read_place place >>= λ old. number_in old >>= λ m. step_operator s m one_number >>= λ result. stored place (numeric result)) (λ gs env1 place p. stepped_is texts parameters n calls scope s t gs env1 place p))
+    same (Post s t) f fs env = at_same t (f) fs env (step_after_at s (target_in texts scope t)) (λ place. read_place place >>= λ old. number_in old >>= λ m. step_operator s m one_number >>= λ result. store_place place (numeric result) >> give (numeric m)) (at_each texts parameters n calls scope t fs env (step_after_at s (target_in texts scope t)) (λ place. read_place place >>= λ old. number_in old >>= λ m. step_operator s m one_number >>= λ result. store_place place (numeric result) >> give (numeric m)) (λ gs env1 place p. step_after_is texts parameters n calls scope s t gs env1 place p))
     same (Has t x) f fs env = has_is texts parameters n calls fs env (array_of scope x) (code t) (meaning t) (same t f fs env)
     same (HasList t ts x) f fs env = has_same texts parameters n calls fs env (array_of scope x) (code t) (key_code texts scope ts) (meaning t) (key_of scope n calls ts) (same t (first_part texts (texts_in t) (all_texts ts) f) fs env) (same_key ts (second_part texts (texts_in t) (all_texts ts) f) fs env)
     same (Cond c a b) f fs env = cond_is texts parameters n calls fs env (code c) (code a) (code b) (meaning c) (meaning a) (meaning b) (same c (first_part texts (texts_in c) (texts_in a ++ texts_in b) f) fs env) (same a (first_part texts (texts_in a) (texts_in b) (second_part texts (texts_in c) (texts_in a ++ texts_in b) f)) fs env) (same b (second_part texts (texts_in a) (texts_in b) (second_part texts (texts_in c) (texts_in a ++ texts_in b) f)) fs env)
@@ -177,16 +177,16 @@ module _ (texts : List (List ℕ)) (parameters : List (List Kind)) (n : ℕ) (ca
     }
     same (tree.Apply g ts) f fs env = applied_same g ts f fs env
     same tree.Get f fs env = get_is texts parameters n calls fs env
-    same (tree.GetInto v) f fs env = at_same v (f) fs env (AskLine (store_code texts scope v 1 (moved 0))) (λ place. asked n (asks row.GetlineVar tt) >>= λ answer. received place answer) (at_each texts parameters n calls scope v fs env (AskLine (store_code texts scope v 1 (moved 0))) (λ place. asked n (asks row.GetlineVar tt) >>= λ answer. received place answer) (λ gs env1 place p. line_is texts parameters n calls scope v gs env1 place p))
+    same (tree.GetInto v) f fs env = at_same v (f) fs env (AskLine (store_at (target_in texts scope v) 1 (moved 0))) (λ place. asked n (asks row.GetlineVar tt) >>= λ answer. received place answer) (at_each texts parameters n calls scope v fs env (AskLine (store_at (target_in texts scope v) 1 (moved 0))) (λ place. asked n (asks row.GetlineVar tt) >>= λ answer. received place answer) (λ gs env1 place p. line_is texts parameters n calls scope v gs env1 place p))
     same (tree.GetFrom s) f fs env = get_from_is texts parameters n calls fs env (code s) (meaning s) (same s f fs env)
-    same (tree.GetIntoFrom v s) f fs env = at_same v (first_part texts (texts_in v) (texts_in s) f) fs env (FileLine (code s) (store_code texts scope v 1 (moved 0))) (λ place. meaning s >>= λ file. does row.GetlineVarFile (file, tt) >>= λ answer. received place answer) (at_each texts parameters n calls scope v fs env (FileLine (code s) (store_code texts scope v 1 (moved 0))) (λ place. meaning s >>= λ file. does row.GetlineVarFile (file, tt) >>= λ answer. received place answer) (λ gs env1 place p. file_line_is texts parameters n calls scope v gs env1 (code s) (meaning s) place p (same s (second_part texts (texts_in v) (texts_in s) f) gs env1)))
+    same (tree.GetIntoFrom v s) f fs env = at_same v (first_part texts (texts_in v) (texts_in s) f) fs env (FileLine (code s) (store_at (target_in texts scope v) 1 (moved 0))) (λ place. meaning s >>= λ file. does row.GetlineVarFile (file, tt) >>= λ answer. received place answer) (at_each texts parameters n calls scope v fs env (FileLine (code s) (store_at (target_in texts scope v) 1 (moved 0))) (λ place. meaning s >>= λ file. does row.GetlineVarFile (file, tt) >>= λ answer. received place answer) (λ gs env1 place p. file_line_is texts parameters n calls scope v gs env1 (code s) (meaning s) place p (same s (second_part texts (texts_in v) (texts_in s) f) gs env1)))
 
     -- where a place is kept
-    pub at_same : (t : Tree) → AllStand texts (texts_in t) → (fs : List Form) (env : Env fs) (body : Code) (B : Place → Doing Value) → AtPlace texts parameters n calls scope t fs env body B → Is texts parameters n calls fs env (at_place texts scope t body) (place_of scope n calls t >>= B)
+    pub at_same : (t : Tree) → AllStand texts (texts_in t) → (fs : List Form) (env : Env fs) (body : Code) (B : Place → Doing Value) → AtPlace texts parameters n calls scope t fs env body B → Is texts parameters n calls fs env (keeping (kept_code texts scope t) body) (place_of scope n calls t >>= B)
     at_same (Var x) f fs env body B h = h
     at_same (Index x ts) f fs env body B h =
         let p = same_key ts f fs env in
-        retold texts parameters n calls fs env (at_place texts scope (Index x ts) body) (key_of scope n calls ts >>= λ key. B (Element (array_of scope x) key)) (place_of scope n calls (Index x ts) >>= B)
+        retold texts parameters n calls fs env (keeping (kept_code texts scope (Index x ts)) body) (key_of scope n calls ts >>= λ key. B (Element (array_of scope x) key)) (place_of scope n calls (Index x ts) >>= B)
         (let_in texts parameters n calls fs env (key_code texts scope ts) body (key_of scope n calls ts) (λ key. B (Element (array_of scope x) key)) p (λ k. h k p.valued))
         (sym (assoc (key_of scope n calls ts) (λ key. give (Element (array_of scope x) key)) B))
     at_same (Field t) f fs env body B h = record {

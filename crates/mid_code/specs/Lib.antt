@@ -15,3 +15,8 @@ pub mod Translation
 pub mod Scripts
 pub mod Rows
 pub mod MidRows
+pub mod ViewCode
+pub mod View
+pub mod ViewNames
+pub mod ViewScope
+pub mod ViewTarget

@@ -1,15 +1,10 @@
 -- A script with the kinds of its names, and what a name stands for where it is used.
-use Rattle.std.specs.Prelude.{ℕ, zero, suc, ◌+◌, ◌==◌, Bool, true, false, ◌||◌, if◌then◌else◌, List, [], ◌∷◌, codes, Option, Some, None}
-use Rattle.std.specs.Cmp.Lexicographic.{pointwise}
+use Rattle.std.specs.Prelude.{ℕ, zero, suc, ◌+◌, Bool, true, false, ◌||◌, if◌then◌else◌, List, [], ◌∷◌, codes, Option, Some, None}
 use Rattle.awk_state.specs.declared.constants.Special.{Special}
 use Rattle.awk_state.specs.declared.constants.Special.TheVariants.{Argc, Convfmt, Filename, Fnr, Fs, Nf, Nr, Ofmt, Ofs, Ors, Rlength, Rs, Rstart, Subsep}
 use Rattle.awk_grammar.specs.Stmt.{Stmts, NoStmt}
 use Rattle.awk_grammar.specs.Item.{Item}
-
--- a name, and whether it is an array's
-pub record Name : Type 0 where
-  pub name : List ℕ
-  pub is_array : Bool
+pub use Rattle.awk_resolve.specs.Kinds.{Name, same_name}
 
 pub record Function : Type 0 where
   pub name : List ℕ
@@ -26,9 +21,6 @@ pub record Resolved : Type 0 where
 pub record Scope : Type 0 where
   pub script : Resolved
   pub parameters : List Name
-
-abbrev pub same_name : List ℕ → List ℕ → Bool
-same_name a b = pointwise ◌==◌ a b
 
 abbrev pub next_place : Option ℕ → Option ℕ
 next_place (Some i) = Some (suc i)

@@ -11,10 +11,10 @@ use Rattle.awk_state.specs.declared.table.Primitive.TheVariants as row
 use Rattle.awk_state.specs.declared.table.Listed.TheVariants as listed
 use Rattle.awk_tokens.specs.declared.words.Builtin.{Builtin}
 use Rattle.awk_tokens.specs.declared.words.Builtin.TheVariants as builtin
-use Rattle.awk_grammar.specs.Token.{Sign, Plus, Minus, Not, Signed, Increment, Decrement, Product, Times, Over as Divided, Modulo, Set as Put, SetSum, SetProduct, SetPower, Assign, Or, And as Both, Match, Matching, Matches, Differs, Compare as Compared, Mul, Pow, Number as Numeral, Quoted, Ere}
+use Rattle.awk_grammar.specs.Token.{Sign, Plus, Minus, Prefix, Not, Signed, Increment, Decrement, Product, Times, Over as Divided, Modulo, Assigning, Set as Put, SetSum, SetProduct, SetPower, Assign, Or, And as Both, Match, Matching, Matches, Differs, Compare as Compared, Mul, Pow, Number as Numeral, Quoted, Ere}
 use Rattle.awk_grammar.specs.Token as token
 use Rattle.awk_grammar.specs.Tree as tree
-use Rattle.awk_grammar.specs.Tree.{Tree, Leaf, Length, Var, Index, Field, Group, Apply, Unary, Pre, Post, Bin, Join, Add, Other, Has, HasList, Cond, GetInto, GetFrom, GetIntoFrom, Trees, NoTree}
+use Rattle.awk_grammar.specs.Tree.{Tree, Leaf, Length, Var, Index, Field, Group, Apply, Unary, Pre, Post, Bin, Op, Join, Add, Other, Has, HasList, Cond, GetInto, GetFrom, GetIntoFrom, Trees, NoTree}
 use Rattle.awk_grammar.specs.Stmt as stmt
 use Rattle.awk_grammar.specs.Stmt.{Stmt, Stmts, NoStmt, And}
 use Rattle.awk_grammar.specs.Item as item
@@ -108,6 +108,90 @@ abbrev pub matching_code : Matching → Code → Code
 matching_code Matches e = e
 matching_code Differs e = untruth_code e
 
+-- What takes a value, once its key or its field's number is kept.
+pub data Target : Type 0 where
+  ElementTarget : ArrayName → Target
+  NameTarget : Variable → Target
+  FieldTarget : Target
+
+-- its value, where i others were kept after its key or its number
+abbrev pub read_at : Target → ℕ → Code
+read_at (ElementTarget a) i = host row.Elem (two (Array a) (copied i))
+read_at (NameTarget x) i = variable_code x
+read_at FieldTarget i = host row.Field (one (copied i))
+
+-- it takes a value, which is the last use of what was kept
+abbrev pub store_at : Target → ℕ → Code → Code
+store_at (ElementTarget a) i e = host row.SetElem (At (Array a) (two (moved i) e))
+store_at (NameTarget x) i e = store_variable_code x e
+store_at FieldTarget i e = host row.SetField (two (moved i) e)
+
+-- the same, and what it takes is the answer
+abbrev pub stored_at : Target → ℕ → Code → Code
+stored_at (ElementTarget a) i e = Let e (Seq (store_at (ElementTarget a) (suc i) (copied 0)) (moved 0))
+stored_at (NameTarget x) i e = set_variable_code x e
+stored_at FieldTarget i e = Let e (Seq (store_at FieldTarget (suc i) (copied 0)) (moved 0))
+
+abbrev pub stepped_at : token.Step → Target → Code
+stepped_at s t = stored_at t 0 (Do (step_of s) (two (read_at t 0) one_code))
+
+-- the number before the step is the answer
+abbrev pub step_after_at : token.Step → Target → Code
+step_after_at s t = Let (Do AsNumber (one (read_at t 0))) (Let (Do (step_of s) (two (copied 0) one_code)) (Seq (store_at t 2 (moved 0)) (moved 1)))
+
+-- right side, old value, result
+abbrev pub updated_at : Operation → Target → Code → Code
+updated_at o t right = Let right (stored_at t 1 (Do o (two (read_at t 1) (moved 0))))
+
+abbrev pub assigned_at : Assigning → Target → Code → Code
+assigned_at Put t right = stored_at t 0 right
+assigned_at (SetSum s) t right = updated_at (sign_of s) t right
+assigned_at (SetProduct p) t right = updated_at (product_of p) t right
+assigned_at SetPower t right = updated_at (Host row.Pow) t right
+
+-- a text that was read is stored
+abbrev pub received_at : Target → Code
+received_at t = store_at t 1 (moved 0)
+
+-- how many answers are kept for a target
+abbrev pub kept_at : Target → ℕ
+kept_at (ElementTarget a) = 1
+kept_at (NameTarget x) = 0
+kept_at FieldTarget = 1
+
+-- expression and replacement were kept before the target
+abbrev pub substituted_at : Bool → Target → Code
+substituted_at all t = Replace all (At (moved (suc (kept_at t))) (At (moved (kept_at t)) (At (read_at t 0) End))) (store_at t 1 (moved 0))
+
+-- what is kept, if anything is, before what is done with it
+abbrev pub keeping : Option Code → Code → Code
+keeping (Some e) body = Let e body
+keeping None body = body
+
+-- Operators on operands.
+
+abbrev pub prefixed : Prefix → Code → Code
+prefixed Not e = untruth_code e
+prefixed (Signed Plus) e = Do AsNumber (one e)
+prefixed (Signed Minus) e = Do (Inline inline.Minus) (two zero_code e)
+
+-- all but assignments
+abbrev pub combined : Op → Code → Code → Code
+combined Join a b = host row.Concat (two a b)
+combined (Add s) a b = Do (sign_of s) (two a b)
+combined (Other (Mul p)) a b = Do (product_of p) (two a b)
+combined (Other Pow) a b = host row.Pow (two a b)
+combined (Other (Compared c)) a b = Compare (comparison_of c) a b
+combined (Other (Match m)) a b = matching_code m (host row.Matches (two a b))
+combined (Other Both) a b = Choose sort.Number a (truth_code b) zero_code
+combined (Other Or) a b = Choose sort.Number a one_code (truth_code b)
+combined (Other (Assign g)) a b = b
+
+-- the ERE that the right operand is for an operator, if it is one
+abbrev pub ere_for : Op → Tree → List (List ℕ)
+ere_for (Other (Match m)) t = ere_in t
+ere_for _ t = []
+
 -- An ERE token as an operand is its text.
 abbrev pub ere_code : List (List ℕ) → List (List ℕ) → Code → Code
 ere_code texts [] other = other
@@ -127,43 +211,15 @@ module _ (texts : List (List ℕ)) (scope : Scope) where
   abbrev pub passed_code : Name → List ℕ → Code
   passed_code p x = if p.is_array then array_code x else if is_array scope x then Unset else variable_code (variable_of scope x)
 
-  -- A place whose key or field's number was kept, with i others after it: its value, and how it takes another, which is the last use of what was kept.
+  -- an argument for a parameter: a bare name, or what has this code
+  abbrev pub given_code : Name → Tree → Code → Code
+  given_code p (Var x) other = passed_code p x
+  given_code p t other = other
 
-  abbrev pub read_code : Tree → ℕ → Code
-  read_code (Index x ts) i = host row.Elem (two (array_code x) (copied i))
-  read_code (Var x) i = variable_code (variable_of scope x)
-  read_code _ i = host row.Field (one (copied i))
-
-  abbrev pub store_code : Tree → ℕ → Code → Code
-  store_code (Index x ts) i e = host row.SetElem (At (array_code x) (two (moved i) e))
-  store_code (Var x) i e = store_variable_code (variable_of scope x) e
-  store_code _ i e = host row.SetField (two (moved i) e)
-
-  -- what is stored into the place is the answer; i others were kept after the place
-  abbrev pub stored_code : Tree → ℕ → Code → Code
-  stored_code (Var x) i e = set_variable_code (variable_of scope x) e
-  stored_code place i e = Let e (Seq (store_code place (suc i) (copied 0)) (moved 0))
-
-  abbrev pub stepped_code : token.Step → Tree → Code
-  stepped_code s place = stored_code place 0 (Do (step_of s) (two (read_code place 0) one_code))
-
-  -- the number before the step is the answer
-  abbrev pub step_after_code : token.Step → Tree → Code
-  step_after_code s place = Let (Do AsNumber (one (read_code place 0))) (Let (Do (step_of s) (two (copied 0) one_code)) (Seq (store_code place 2 (moved 0)) (moved 1)))
-
-  -- right side, old value, result
-  abbrev pub updated_code : Operation → Tree → Code → Code
-  updated_code o place right = Let right (stored_code place 1 (Do o (two (read_code place 1) (moved 0))))
-
-  -- how many answers are kept for a place
-  abbrev pub kept_for : Tree → ℕ
-  kept_for (Var x) = 0
-  kept_for t = 1
-
-  -- expression and replacement were kept before the place
-  abbrev pub substituted_code : Bool → Tree → Code
-  substituted_code all place =
-      Replace all (At (moved (suc (kept_for place))) (At (moved (kept_for place)) (At (read_code place 0) End))) (store_code place 1 (moved 0))
+  abbrev pub target_in : Tree → Target
+  target_in (Index x ts) = ElementTarget (array_of scope x)
+  target_in (Var x) = NameTarget (variable_of scope x)
+  target_in _ = FieldTarget
 
   abbrev pub replacing_code : Code → Code → Code → Code
   replacing_code ere replacement body = Let ere (Let replacement body)
@@ -181,30 +237,18 @@ module _ (texts : List (List ℕ)) (scope : Scope) where
     code_of (tree.Call f ts) = Call (function_number scope.script f) (argument_codes (function_at scope.script.functions (function_number scope.script f)).parameters ts)
     code_of (Apply builtin.Sprintf ts) = Over listed.Sprintf (codes_of ts)
     code_of (Apply f ts) = applied_code f ts
-    code_of (Unary Not t) = untruth_code (code_of t)
-    code_of (Unary (Signed Plus) t) = Do AsNumber (one (code_of t))
-    code_of (Unary (Signed Minus) t) = Do (Inline inline.Minus) (two zero_code (code_of t))
-    code_of (Pre s t) = at_place t (stepped_code s t)
-    code_of (Post s t) = at_place t (step_after_code s t)
-    code_of (Bin Join a b) = host row.Concat (two (code_of a) (code_of b))
-    code_of (Bin (Add s) a b) = Do (sign_of s) (two (code_of a) (code_of b))
-    code_of (Bin (Other (Mul p)) a b) = Do (product_of p) (two (code_of a) (code_of b))
-    code_of (Bin (Other Pow) a b) = host row.Pow (two (code_of a) (code_of b))
-    code_of (Bin (Other (Compared c)) a b) = Compare (comparison_of c) (code_of a) (code_of b)
-    code_of (Bin (Other (Match m)) a b) = matching_code m (host row.Matches (two (code_of a) (ere_code texts (ere_in b) (code_of b))))
-    code_of (Bin (Other Both) a b) = Choose sort.Number (code_of a) (truth_code (code_of b)) zero_code
-    code_of (Bin (Other Or) a b) = Choose sort.Number (code_of a) one_code (truth_code (code_of b))
-    code_of (Bin (Other (Assign Put)) a b) = at_place a (stored_code a 0 (code_of b))
-    code_of (Bin (Other (Assign (SetSum s))) a b) = at_place a (updated_code (sign_of s) a (code_of b))
-    code_of (Bin (Other (Assign (SetProduct p))) a b) = at_place a (updated_code (product_of p) a (code_of b))
-    code_of (Bin (Other (Assign SetPower)) a b) = at_place a (updated_code (Host row.Pow) a (code_of b))
+    code_of (Unary p t) = prefixed p (code_of t)
+    code_of (Pre s t) = keeping (kept_code t) (stepped_at s (target_in t))
+    code_of (Post s t) = keeping (kept_code t) (step_after_at s (target_in t))
+    code_of (Bin (Other (Assign g)) a b) = keeping (kept_code a) (assigned_at g (target_in a) (code_of b))
+    code_of (Bin op a b) = combined op (code_of a) (ere_code texts (ere_for op b) (code_of b))
     code_of (Has t x) = host row.Has (two (array_code x) (code_of t))
     code_of (HasList t ts x) = host row.Has (two (array_code x) (host row.Join (two (code_of t) (key_code ts))))
     code_of (Cond c a b) = Choose sort.Value (code_of c) (code_of a) (code_of b)
     code_of tree.Get = Ask
-    code_of (GetInto v) = at_place v (AskLine (store_code v 1 (moved 0)))
+    code_of (GetInto v) = keeping (kept_code v) (AskLine (received_at (target_in v)))
     code_of (GetFrom s) = Do AsNumber (one (host row.GetlineFile (one (code_of s))))
-    code_of (GetIntoFrom v s) = at_place v (FileLine (code_of s) (store_code v 1 (moved 0)))
+    code_of (GetIntoFrom v s) = keeping (kept_code v) (FileLine (code_of s) (received_at (target_in v)))
 
     pub codes_of : Trees → Codes
     codes_of NoTree = End
@@ -216,18 +260,17 @@ module _ (texts : List (List ℕ)) (scope : Scope) where
     key_code (tree.Then t NoTree) = code_of t
     key_code (tree.Then t (tree.Then u ts)) = host row.Join (two (code_of t) (key_code (tree.Then u ts)))
 
-    -- what a place needs is kept before the code
-    pub at_place : Tree → Code → Code
-    at_place (Index x ts) body = Let (key_code ts) body
-    at_place (Field t) body = Let (Do FieldNumber (one (code_of t))) body
-    at_place (Var x) body = body
-    at_place t body = Let zero_code body
+    -- what is kept for a place
+    pub kept_code : Tree → Option Code
+    kept_code (Index x ts) = Some (key_code ts)
+    kept_code (Field t) = Some (Do FieldNumber (one (code_of t)))
+    kept_code (Var x) = None
+    kept_code t = Some zero_code
 
     pub argument_codes : List Name → Trees → Codes
     argument_codes ps NoTree = fresh_codes ps
     argument_codes [] (tree.Then t ts) = End
-    argument_codes (p ∷ ps) (tree.Then (Var x) ts) = At (passed_code p x) (argument_codes ps ts)
-    argument_codes (p ∷ ps) (tree.Then t ts) = At (code_of t) (argument_codes ps ts)
+    argument_codes (p ∷ ps) (tree.Then t ts) = At (given_code p t (code_of t)) (argument_codes ps ts)
 
     -- plain is the operand's code elsewhere
     pub truncated_code : Tree → Code → Code
@@ -243,10 +286,10 @@ module _ (texts : List (List ℕ)) (scope : Scope) where
     applied_code builtin.Index (tree.Then s (tree.Then t ts)) = host row.Index (two (code_of s) (code_of t))
     applied_code builtin.Split (tree.Then s (tree.Then (Var a) NoTree)) = host row.Split (At (code_of s) (At (array_code a) (At (special_code Fs) (Fixed 0 End))))
     applied_code builtin.Split (tree.Then s (tree.Then (Var a) (tree.Then t ts))) = host row.Split (At (code_of s) (At (array_code a) (At (ere_code texts (ere_in t) (code_of t)) (Fixed (flag_number (is_ere (ere_in t))) End))))
-    applied_code builtin.Sub (tree.Then e (tree.Then r NoTree)) = replacing_code (ere_code texts (ere_in e) (code_of e)) (code_of r) (Let zero_code (substituted_code false Length))
-    applied_code builtin.Sub (tree.Then e (tree.Then r (tree.Then t ts))) = replacing_code (ere_code texts (ere_in e) (code_of e)) (code_of r) (at_place t (substituted_code false t))
-    applied_code builtin.Gsub (tree.Then e (tree.Then r NoTree)) = replacing_code (ere_code texts (ere_in e) (code_of e)) (code_of r) (Let zero_code (substituted_code true Length))
-    applied_code builtin.Gsub (tree.Then e (tree.Then r (tree.Then t ts))) = replacing_code (ere_code texts (ere_in e) (code_of e)) (code_of r) (at_place t (substituted_code true t))
+    applied_code builtin.Sub (tree.Then e (tree.Then r NoTree)) = replacing_code (ere_code texts (ere_in e) (code_of e)) (code_of r) (Let zero_code (substituted_at false FieldTarget))
+    applied_code builtin.Sub (tree.Then e (tree.Then r (tree.Then t ts))) = replacing_code (ere_code texts (ere_in e) (code_of e)) (code_of r) (keeping (kept_code t) (substituted_at false (target_in t)))
+    applied_code builtin.Gsub (tree.Then e (tree.Then r NoTree)) = replacing_code (ere_code texts (ere_in e) (code_of e)) (code_of r) (Let zero_code (substituted_at true FieldTarget))
+    applied_code builtin.Gsub (tree.Then e (tree.Then r (tree.Then t ts))) = replacing_code (ere_code texts (ere_in e) (code_of e)) (code_of r) (keeping (kept_code t) (substituted_at true (target_in t)))
     applied_code builtin.Match (tree.Then s (tree.Then e ts)) = host row.Match (two (code_of s) (ere_code texts (ere_in e) (code_of e)))
     applied_code builtin.ToLower (tree.Then t ts) = host row.Lower (one (code_of t))
     applied_code builtin.ToUpper (tree.Then t ts) = host row.Upper (one (code_of t))

@@ -1,0 +1,17 @@
+use Rattle.std.proofs.Common.{◌≡◌, ◌+◌, ◌-◌, ◌<◌, ℕ, List, drop, length, refl, subst, arith}
+use Rattle.awk_resolve.specs.ViewResolved.{view_name_kinds}
+use Rattle.mid_code.specs.ViewNames.{place_found, place_from}
+use Rattle.mid_code.proofs.NameTables.{put_global}
+use Rattle.mid_code.proofs.names.places_of_globals.Goals as goal
+
+pub loop-place-preserved : goal.loop-place-preserved
+loop-place-preserved c =
+    let xs = c.args.names.now in
+    let p = c.loop-place.place - 1 in
+    let e : c.loop-place.place ≡ p + 1 = omega arith in
+    let lt : p < length xs = omega arith in
+    record {
+      within = omega arith;
+      found = put_global c.loop-place.found c.insert.new.self _ p c.in_ok-insert.ensures.updates xs _ lt refl
+          (subst (λ (q : ℕ). (x : List ℕ) → place_found c.loop-place.found.entries x ≡ place_from q (view_name_kinds (drop q xs)) x) e c.loop-place.invariant.found);
+    }

@@ -1,0 +1,115 @@
+//! Constants and operators.
+
+ghost use Rattle.std.specs.Prelude.{◌≡◌, IfOk};
+ghost use Rattle.awk_grammar.specs.View.{view_binary, view_unary};
+ghost use Rattle.awk_state.specs.declared.sorts.Sort.TheVariants as sort;
+ghost use Rattle.mid_code.specs.Mid as plain;
+ghost use Rattle.mid_code.specs.Steps.{constant, or_nought};
+ghost use Rattle.mid_code.specs.Translation.{combined, one_code, prefixed, truth_code, two, zero_code};
+ghost use Rattle.mid_code.specs.ViewCode.{view};
+
+use crate::build::{binary, chosen, compared, truth, unary, untruth};
+use crate::code::Code;
+use crate::mid::{Arithmetic, Operation};
+use awk_grammar::{BinaryOp, UnaryOp};
+use awk_state::{Primitive, Sort};
+use awk_text::number_of;
+use awk_values::CompareOp;
+use std::alloc::{AllocError, Global};
+
+/// The number of a constant; constants of a script are in range, and for others it is 0.
+pub(crate) fn constant(text: &[u8]) -> i64
+    ensures { result ≡ (or_nought (constant text.now)).number }
+{
+    match number_of(text) {
+        Ok(number) => number,
+        Err(_) => 0,
+    }
+}
+
+/// An operator before its operand.
+pub(crate) fn prefixed(alloc: Global, op: UnaryOp, operand: Code) -> Result<Code, AllocError>
+    ensures { IfOk result (λ code. view code ≡ prefixed (view_unary op) (view operand)) }
+{
+    match op {
+        UnaryOp::Not => untruth(alloc, operand),
+        UnaryOp::Plus => unary(alloc, Operation::AsNumber, operand),
+        UnaryOp::Minus => {
+            let operation = Operation::Inline(Arithmetic::Minus);
+            binary(alloc, operation, Code::Number(0), operand)
+        }
+    }
+}
+
+/// What the module does with two numbers.
+fn inline(
+    alloc: Global,
+    arithmetic: Arithmetic,
+    left: Code,
+    right: Code,
+) -> Result<Code, AllocError>
+    ensures { IfOk result (λ code. view code ≡ plain.Do (Operation.Inline arithmetic) (two (view left) (view right))) }
+{
+    binary(alloc, Operation::Inline(arithmetic), left, right)
+}
+
+/// What the host does with two operands.
+pub(crate) fn host(
+    alloc: Global,
+    primitive: Primitive,
+    left: Code,
+    right: Code,
+) -> Result<Code, AllocError>
+    ensures { IfOk result (λ code. view code ≡ plain.Do (Operation.Host primitive) (two (view left) (view right))) }
+{
+    binary(alloc, Operation::Host(primitive), left, right)
+}
+
+/// Whether both are true.
+fn both(alloc: Global, left: Code, right: Code) -> Result<Code, AllocError>
+    ensures { IfOk result (λ code. view code ≡ plain.Choose sort.Number (view left) (truth_code (view right)) zero_code) }
+{
+    let right = truth(alloc, right)?;
+    chosen(alloc, Sort::Number, left, right, Code::Number(0))
+}
+
+/// Whether one is true.
+fn either(alloc: Global, left: Code, right: Code) -> Result<Code, AllocError>
+    ensures { IfOk result (λ code. view code ≡ plain.Choose sort.Number (view left) one_code (truth_code (view right))) }
+{
+    let right = truth(alloc, right)?;
+    chosen(alloc, Sort::Number, left, Code::Number(1), right)
+}
+
+/// An operator between its operands.
+pub(crate) fn combined(
+    alloc: Global,
+    op: BinaryOp,
+    left: Code,
+    right: Code,
+) -> Result<Code, AllocError>
+    ensures { IfOk result (λ code. view code ≡ combined (view_binary op) (view left) (view right)) }
+{
+    match op {
+        BinaryOp::Or => either(alloc, left, right),
+        BinaryOp::And => both(alloc, left, right),
+        BinaryOp::Match => host(alloc, Primitive::Matches, left, right),
+        BinaryOp::NoMatch => {
+            let matched = host(alloc, Primitive::Matches, left, right)?;
+            untruth(alloc, matched)
+        }
+        BinaryOp::Less => compared(alloc, CompareOp::Less, left, right),
+        BinaryOp::LessEqual => compared(alloc, CompareOp::LessOrEqual, left, right),
+        BinaryOp::Equal => compared(alloc, CompareOp::Equal, left, right),
+        BinaryOp::NotEqual => compared(alloc, CompareOp::NotEqual, left, right),
+        BinaryOp::Greater => compared(alloc, CompareOp::Greater, left, right),
+        BinaryOp::GreaterEqual => compared(alloc, CompareOp::GreaterOrEqual, left, right),
+        BinaryOp::Concat => host(alloc, Primitive::Concat, left, right),
+        BinaryOp::Add => inline(alloc, Arithmetic::Plus, left, right),
+        BinaryOp::Subtract => inline(alloc, Arithmetic::Minus, left, right),
+        BinaryOp::Multiply => inline(alloc, Arithmetic::Times, left, right),
+        BinaryOp::Divide => inline(alloc, Arithmetic::Over, left, right),
+        BinaryOp::Modulo => inline(alloc, Arithmetic::Modulo, left, right),
+        BinaryOp::Power => host(alloc, Primitive::Pow, left, right),
+    }
+}

@@ -1,0 +1,215 @@
+//! What takes values.
+
+ghost use Rattle.std.specs.Prelude.{◌≡◌, IfOk};
+ghost use Rattle.awk_grammar.specs.View.{view as tree, view_assign, view_step};
+ghost use Rattle.mid_code.specs.Translation.{assigned_at, kept_at, keeping, read_at, received_at, step_after_at, step_of, stepped_at, store_at, stored_at, substituted_at, target_in, updated_at};
+ghost use Rattle.mid_code.specs.ViewCode.{view, view_maybe};
+ghost use Rattle.mid_code.specs.ViewScope.{scope_of, texts_of};
+ghost use Rattle.mid_code.specs.ViewTarget.{view_target};
+
+use crate::build::{
+    binary, in_turn, kept_while, set_variable, store_variable, substitution, ternary, unary,
+    variable,
+};
+use crate::code::{ArrayName, Code};
+use crate::mid::{Arithmetic, Operation};
+use crate::names::Variable;
+use crate::scope::Scope;
+use awk_grammar::{AssignOp, Expr, StepOp};
+use awk_state::Primitive;
+use std::alloc::{AllocError, Global};
+
+/// What takes a value, once its key or its field's number is kept.
+#[derive(Clone, Copy, Debug, PartialEq, Eq)]
+pub(crate) enum Target {
+    Element(ArrayName),
+    Name(Variable),
+    Field,
+}
+
+/// What takes a value that is stored into a place; what is no place counts as a field.
+pub(crate) fn target_in(scope: &Scope<'_>, place: &Expr) -> Target
+    ensures { view_target result ≡ target_in (texts_of scope.now) (scope_of scope.now) (tree place.now) }
+{
+    match place {
+        Expr::Element(name, _) => Target::Element(scope.array(name)),
+        Expr::Var(name) => Target::Name(scope.variable(name)),
+        Expr::Number(_)
+        | Expr::Str(_)
+        | Expr::Ere(_)
+        | Expr::Length
+        | Expr::Field(_)
+        | Expr::Group(_)
+        | Expr::Call(_, _)
+        | Expr::Apply(_, _)
+        | Expr::Unary(_, _)
+        | Expr::PreStep(_, _)
+        | Expr::PostStep(_, _)
+        | Expr::Binary(_, _, _)
+        | Expr::Assign(_, _, _)
+        | Expr::In(_, _)
+        | Expr::InList(_, _, _)
+        | Expr::Conditional(_, _, _)
+        | Expr::Getline
+        | Expr::GetlineInto(_)
+        | Expr::GetlineFrom(_)
+        | Expr::GetlineIntoFrom(_, _) => Target::Field,
+    }
+}
+
+/// What a target has, where so many answers were kept after its key or its number.
+fn read(alloc: Global, target: Target, after: usize) -> Result<Code, AllocError>
+    ensures { IfOk result (λ code. view code ≡ read_at (view_target target) after) }
+{
+    let kept = Code::Bound(false, after);
+    match target {
+        Target::Element(array) => {
+            let operation = Operation::Host(Primitive::Elem);
+            binary(alloc, operation, Code::Array(array), kept)
+        }
+        Target::Name(name) => variable(alloc, name),
+        Target::Field => unary(alloc, Operation::Host(Primitive::Field), kept),
+    }
+}
+
+/// A target takes a value, which is the last use of what was kept for it.
+fn store(alloc: Global, target: Target, after: usize, code: Code) -> Result<Code, AllocError>
+    ensures { IfOk result (λ store. view store ≡ store_at (view_target target) after (view code)) }
+{
+    let kept = Code::Bound(true, after);
+    match target {
+        Target::Element(array) => {
+            let array = Code::Array(array);
+            ternary(alloc, Primitive::SetElem, array, kept, code)
+        }
+        Target::Name(name) => store_variable(alloc, name, code),
+        Target::Field => binary(alloc, Operation::Host(Primitive::SetField), kept, code),
+    }
+}
+
+/// The same, and what it takes is the answer.
+fn stored(alloc: Global, target: Target, after: u8, code: Code) -> Result<Code, AllocError>
+    ensures { IfOk result (λ stored. view stored ≡ stored_at (view_target target) after (view code)) }
+{
+    match target {
+        Target::Name(name) => set_variable(alloc, name, code),
+        Target::Element(_) | Target::Field => {
+            let after = usize::from(after) + 1;
+            let store = store(alloc, target, after, Code::Bound(false, 0))?;
+            let both = in_turn(alloc, store, Code::Bound(true, 0))?;
+            kept_while(alloc, code, both)
+        }
+    }
+}
+
+/// What a step adds or takes away with.
+fn step_operation(op: StepOp) -> Operation
+    ensures { result ≡ step_of (view_step op) }
+{
+    match op {
+        StepOp::Increment => Operation::Inline(Arithmetic::Plus),
+        StepOp::Decrement => Operation::Inline(Arithmetic::Minus),
+    }
+}
+
+/// A step; the number after it is the answer.
+pub(crate) fn stepped(alloc: Global, op: StepOp, target: Target) -> Result<Code, AllocError>
+    ensures { IfOk result (λ code. view code ≡ stepped_at (view_step op) (view_target target)) }
+{
+    let old = read(alloc, target, 0)?;
+    let new = binary(alloc, step_operation(op), old, Code::Number(1))?;
+    stored(alloc, target, 0, new)
+}
+
+/// A step; the number before it is the answer.
+pub(crate) fn step_after(alloc: Global, op: StepOp, target: Target) -> Result<Code, AllocError>
+    ensures { IfOk result (λ code. view code ≡ step_after_at (view_step op) (view_target target)) }
+{
+    let store = store(alloc, target, 2, Code::Bound(true, 0))?;
+    let both = in_turn(alloc, store, Code::Bound(true, 1))?;
+    let new = binary(
+        alloc,
+        step_operation(op),
+        Code::Bound(false, 0),
+        Code::Number(1),
+    )?;
+    let body = kept_while(alloc, new, both)?;
+    let old = read(alloc, target, 0)?;
+    let number = unary(alloc, Operation::AsNumber, old)?;
+    kept_while(alloc, number, body)
+}
+
+/// An assignment with an operator.
+fn updated(
+    alloc: Global,
+    operation: Operation,
+    target: Target,
+    right: Code,
+) -> Result<Code, AllocError>
+    ensures { IfOk result (λ code. view code ≡ updated_at operation (view_target target) (view right)) }
+{
+    let old = read(alloc, target, 1)?;
+    let new = binary(alloc, operation, old, Code::Bound(true, 0))?;
+    let body = stored(alloc, target, 1, new)?;
+    kept_while(alloc, right, body)
+}
+
+/// An assignment.
+pub(crate) fn assigned(
+    alloc: Global,
+    op: AssignOp,
+    target: Target,
+    right: Code,
+) -> Result<Code, AllocError>
+    ensures { IfOk result (λ code. view code ≡ assigned_at (view_assign op) (view_target target) (view right)) }
+{
+    let operation = match op {
+        AssignOp::Set => return stored(alloc, target, 0, right),
+        AssignOp::Add => Operation::Inline(Arithmetic::Plus),
+        AssignOp::Subtract => Operation::Inline(Arithmetic::Minus),
+        AssignOp::Multiply => Operation::Inline(Arithmetic::Times),
+        AssignOp::Divide => Operation::Inline(Arithmetic::Over),
+        AssignOp::Modulo => Operation::Inline(Arithmetic::Modulo),
+        AssignOp::Power => Operation::Host(Primitive::Pow),
+    };
+    updated(alloc, operation, target, right)
+}
+
+/// A text that was read is stored.
+pub(crate) fn received(alloc: Global, target: Target) -> Result<Code, AllocError>
+    ensures { IfOk result (λ code. view code ≡ received_at (view_target target)) }
+{
+    store(alloc, target, 1, Code::Bound(true, 0))
+}
+
+/// How many answers are kept for a target.
+fn kept_count(target: Target) -> u8
+    ensures { result ≡ kept_at (view_target target) }
+{
+    match target {
+        Target::Name(_) => 0,
+        Target::Element(_) | Target::Field => 1,
+    }
+}
+
+/// What is replaced in a target, after an expression and a replacement were kept.
+pub(crate) fn substituted(alloc: Global, all: bool, target: Target) -> Result<Code, AllocError>
+    ensures { IfOk result (λ code. view code ≡ substituted_at all (view_target target)) }
+{
+    let after = usize::from(kept_count(target));
+    let ere = Code::Bound(true, after + 1);
+    let replacement = Code::Bound(true, after);
+    let old = read(alloc, target, 0)?;
+    let store = store(alloc, target, 1, Code::Bound(true, 0))?;
+    substitution(alloc, all, ere, replacement, old, store)
+}
+
+/// What is kept, if anything is, before what is done with it.
+pub(crate) fn keeping(alloc: Global, kept: Option<Code>, body: Code) -> Result<Code, AllocError>
+    ensures { IfOk result (λ code. view code ≡ keeping (view_maybe kept) (view body)) }
+{
+    match kept {
+        Some(kept) => kept_while(alloc, kept, body),
+        None => Ok(body),
+    }
+}
