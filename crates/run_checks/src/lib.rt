@@ -15,3 +15,5 @@ mod parts;
 mod scripts;
 #[cfg(test)]
 mod table;
+#[cfg(test)]
+mod told;

@@ -1,11 +1,8 @@
-use awk_run::{Refusal, RunEnd, run_module};
+use crate::told::is_told;
+use awk_run::{RunEnd, run_module};
 use host_calls::Job;
-use module_decoder::DecodeFault;
-use module_validator::InvalidFault;
-use std::alloc::AllocError;
+use std::alloc::{AllocError, Global};
 use std::test::Fail;
-use wasm_machine::LinkFault;
-use wasm_store::TrapKind;
 use world_core::{MemFile, MemWorld};
 
 /// The header, one type without parameters and with a 32-bit result, and one function of it.
@@ -40,71 +37,96 @@ fn push_hex(bytes: &mut Vec<u8>, text: &str) -> Result<(), AllocError> {
 }
 
 /// How the module of these parts ends within a million steps.
-fn end_of(rt: &HostRuntime, parts: &[&str]) -> Result<RunEnd, AllocError> {
-    let mut bytes = Vec::new(rt.alloc());
+fn end_of(alloc: Global, parts: &[&str]) -> Result<RunEnd, AllocError> {
+    let mut bytes = Vec::new(alloc);
     for part in parts {
         push_hex(&mut bytes, part)?;
     }
-    let world = MemWorld::new(rt.alloc(), MemFile::absent(), MemFile::absent());
-    let (end, _) = run_module(rt.alloc(), &bytes, &Job::empty(rt.alloc()), world, 1000000);
-    match end {
-        RunEnd::NoMemory => Err(AllocError),
-        end => Ok(end),
+    let world = MemWorld::new(alloc, MemFile::absent(), MemFile::absent());
+    let (end, _) = run_module(alloc, &bytes, &Job::empty(alloc), world, 1000000);
+    Ok(end)
+}
+
+/// Modules with the exit status and the line of their ends.
+static MODULES: [(&[&str], u8, &str); 13] = [
+    (&["0061736d01000000"], 3, "awkwasm: NoMain\n"),
+    (&["0061736d010000"], 3, "awkwasm: Truncated 7\n"),
+    (
+        &["0061736d01000000", "018080808010"],
+        3,
+        "awkwasm: BadInteger 9\n",
+    ),
+    (
+        &[
+            "0061736d01000000",
+            "0109 02 60017f00 6000017f",
+            "020d 01 0461776b31 0464726f70 0000",
+            "0302 01 01",
+            "0708 01 046d61696e 0001",
+            "0a0b 01 09 00 41e300 1000 4100 0b",
+        ],
+        7,
+        "awkwasm: BadHandle\n",
+    ),
+    (
+        &[START, MAIN, "0a09 01 07 00 027f 0c00 0b 0b"],
+        3,
+        "awkwasm: BadType 0\n",
+    ),
+    (
+        &[START, MAIN, "0a06 01 04 00 1000 0b"],
+        6,
+        "awkwasm: Exhausted\n",
+    ),
+    (
+        &[START, MAIN, "0a0d 01 0b 00 418080808078 417f 6d 0b"],
+        7,
+        "awkwasm: IntegerOverflow\n",
+    ),
+    (
+        &[START, MAIN, "0a0d 01 0b 00 418080808078 417f 6f 0b"],
+        0,
+        "",
+    ),
+    (
+        &[
+            START,
+            "0404 01 70 00 01",
+            MAIN,
+            "0a09 01 07 00 4100 110000 0b",
+        ],
+        7,
+        "awkwasm: EmptyElement\n",
+    ),
+    (
+        &[
+            START,
+            "0404 01 70 00 01",
+            MAIN,
+            "0a09 01 07 00 4101 110000 0b",
+        ],
+        7,
+        "awkwasm: TableBounds\n",
+    ),
+    (
+        &[START, MAIN, "0a09 01 07 00 4300000000 0b"],
+        3,
+        "awkwasm: Float 34\n",
+    ),
+    (&[START, MAIN, "0a06 01 04 00 417f 0b"], 255, ""),
+    (
+        &[START, MAIN, "0a0b 01 09 00 0340 0c00 0b 4100 0b"],
+        4,
+        "awkwasm: OutOfSteps\n",
+    ),
+];
+
+#[test]
+fn modules_and_how_they_end(rt: HostRuntime) -> Result<(), Fail> {
+    let alloc = rt.alloc();
+    for (parts, status, line) in MODULES {
+        let end = end_of(alloc, parts)?;
+        assert!(rt; is_told(alloc, &end, status, line)?, "{line}");
     }
-}
-
-#[test]
-fn foreign_modules(rt: HostRuntime) -> Result<(), Fail> {
-    let no_main = RunEnd::Refused(Refusal::Link(LinkFault::NoMain));
-    assert!(rt; end_of(&rt, &["0061736d01000000"])? == no_main);
-    let truncated = RunEnd::Refused(Refusal::Decode(DecodeFault::Truncated(7)));
-    assert!(rt; end_of(&rt, &["0061736d010000"])? == truncated);
-    let bad_integer = RunEnd::Refused(Refusal::Decode(DecodeFault::BadInteger(9)));
-    assert!(rt; end_of(&rt, &["0061736d01000000", "018080808010"])? == bad_integer);
-    let drops_99 = [
-        "0061736d01000000",
-        "0109 02 60017f00 6000017f",
-        "020d 01 0461776b31 0464726f70 0000",
-        "0302 01 01",
-        "0708 01 046d61696e 0001",
-        "0a0b 01 09 00 41e300 1000 4100 0b",
-    ];
-    assert!(rt; end_of(&rt, &drops_99)? == RunEnd::Trapped(TrapKind::BadHandle));
-    let bad_type = RunEnd::Refused(Refusal::Invalid(InvalidFault::BadType(0)));
-    assert!(rt; end_of(&rt, &[START, MAIN, "0a09 01 07 00 027f 0c00 0b 0b"])? == bad_type);
-    Ok(())
-}
-
-#[test]
-fn the_integer_core(rt: HostRuntime) -> Result<(), Fail> {
-    assert!(rt; end_of(&rt, &[START, MAIN, "0a06 01 04 00 1000 0b"])? == RunEnd::Exhausted);
-    let overflow = [START, MAIN, "0a0d 01 0b 00 418080808078 417f 6d 0b"];
-    assert!(rt; end_of(&rt, &overflow)? == RunEnd::Trapped(TrapKind::IntegerOverflow));
-    let remainder = [START, MAIN, "0a0d 01 0b 00 418080808078 417f 6f 0b"];
-    assert!(rt; end_of(&rt, &remainder)? == RunEnd::Ended(0));
-    let empty = [
-        START,
-        "0404 01 70 00 01",
-        MAIN,
-        "0a09 01 07 00 4100 110000 0b",
-    ];
-    assert!(rt; end_of(&rt, &empty)? == RunEnd::Trapped(TrapKind::EmptyElement));
-    let past = [
-        START,
-        "0404 01 70 00 01",
-        MAIN,
-        "0a09 01 07 00 4101 110000 0b",
-    ];
-    assert!(rt; end_of(&rt, &past)? == RunEnd::Trapped(TrapKind::TableBounds));
-    let float = RunEnd::Refused(Refusal::Decode(DecodeFault::Float(34)));
-    assert!(rt; end_of(&rt, &[START, MAIN, "0a09 01 07 00 4300000000 0b"])? == float);
-    Ok(())
-}
-
-#[test]
-fn statuses_and_steps(rt: HostRuntime) -> Result<(), Fail> {
-    assert!(rt; end_of(&rt, &[START, MAIN, "0a06 01 04 00 417f 0b"])? == RunEnd::Ended(255));
-    let endless = [START, MAIN, "0a0b 01 09 00 0340 0c00 0b 4100 0b"];
-    assert!(rt; end_of(&rt, &endless)? == RunEnd::OutOfSteps);
     Ok(())
 }

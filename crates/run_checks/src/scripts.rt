@@ -1,14 +1,23 @@
-//! Scripts, from their bytes to what they put out.
-use awk_run::{CompileFault, Refusal, RunEnd, compile, run_module, run_script};
-use awk_values::{Bytes, Fault};
+//! Scripts, from their bytes to what they put out, or to the line that refuses them.
+use crate::told::is_told;
+use awk_run::{CompileFault, Refusal, RunEnd, compile, run_script};
+use awk_values::Bytes;
 use host_calls::{Job, NamedText};
-use std::alloc::AllocError;
+use std::alloc::{AllocError, Global};
 use std::test::Fail;
 use world_core::{MemFile, MemWorld};
 
+/// How a run ends, as the program tells it: the exit status, the line for the standard error, and what it put out.
+#[derive(Clone, Copy, Drop)]
+struct Told {
+    status: u8,
+    line: &'static str,
+    output: &'static str,
+}
+
 /// How a script ends within so many steps in a job, and the world after it, where so many bytes fit into the standard output.
 fn run_job(
-    rt: &HostRuntime,
+    alloc: Global,
     script: &[u8],
     job: &Job,
     room: Option<usize>,
@@ -16,87 +25,167 @@ fn run_job(
 ) -> (RunEnd, MemWorld) {
     let mut output = MemFile::absent();
     output.room = room;
-    let world = MemWorld::new(rt.alloc(), MemFile::absent(), output);
-    run_script(rt.alloc(), script, job, world, steps)
+    let world = MemWorld::new(alloc, MemFile::absent(), output);
+    run_script(alloc, script, job, world, steps)
 }
 
-fn run(rt: &HostRuntime, script: &str, room: Option<usize>, steps: u64) -> (RunEnd, MemWorld) {
-    run_job(rt, script.as_bytes(), &Job::empty(rt.alloc()), room, steps)
-}
-
-/// Whether a run ended so with this output. Want of memory, after a beginning of that output, is an error.
-fn is_end(ran: (RunEnd, MemWorld), end: RunEnd, output: &str) -> Result<bool, AllocError> {
-    let (now, world) = ran;
-    if now == RunEnd::NoMemory && output.as_bytes().starts_with(world.output()) {
-        return Err(AllocError);
-    }
-    Ok(now == end && world.output() == output.as_bytes())
-}
-
-fn ends(rt: &HostRuntime, script: &str, end: RunEnd, output: &str) -> Result<bool, AllocError> {
-    is_end(run(rt, script, None, 1000000), end, output)
+/// Whether a script ends so, where so many bytes fit into the standard output.
+fn ends(alloc: Global, script: &str, room: Option<usize>, told: &Told) -> Result<bool, AllocError> {
+    let job = Job::empty(alloc);
+    let (end, world) = run_job(alloc, script.as_bytes(), &job, room, 1000000);
+    let is_so = is_told(alloc, &end, told.status, told.line)?;
+    Ok(is_so && world.output() == told.output.as_bytes())
 }
 
 const LIST: &str = "BEGIN { print \"a\", 2*3-7; print \"b\\n\" }";
 
+const LIST_OUTPUT: &str = "a -1\nb\n\n";
+
 const RANGE: &str = "BEGIN { print 9007199254740991+1; print 9007199254740992+1 }";
 
-#[test]
-fn sum(rt: HostRuntime) -> Result<(), Fail> {
-    assert!(rt; ends(&rt, "BEGIN { print 2+3 }", RunEnd::Ended(0), "5\n")?);
-    let lines = "# a comment\nBEGIN {\n  print 2 * (3 + 4), 1 - (2 - 3)\n}\n";
-    assert!(rt; ends(&rt, lines, RunEnd::Ended(0), "14 2\n")?);
-    Ok(())
-}
+const RANGE_OUTPUT: &str = "9007199254740992\n";
+
+/// Scripts with their status, line and output.
+static SCRIPTS: [(&str, u8, &str, &str); 6] = [
+    ("BEGIN { print 2+3 }", 0, "", "5\n"),
+    (
+        "# a comment\nBEGIN {\n  print 2 * (3 + 4), 1 - (2 - 3)\n}\n",
+        0,
+        "",
+        "14 2\n",
+    ),
+    (LIST, 0, "", LIST_OUTPUT),
+    (RANGE, 2, "awkwasm: Range\n", RANGE_OUTPUT),
+    (
+        "BEGIN { print 9007199254740991 * 9007199254740991 }",
+        2,
+        "awkwasm: Range\n",
+        "",
+    ),
+    (
+        "BEGIN { print \"x\", 0 - 9007199254740992 - 1; print 1 }",
+        2,
+        "awkwasm: Range\n",
+        "",
+    ),
+];
 
 #[test]
-fn printed_list(rt: HostRuntime) -> Result<(), Fail> {
-    assert!(rt; ends(&rt, LIST, RunEnd::Ended(0), "a -1\nb\n\n")?);
-    Ok(())
-}
-
-#[test]
-fn range_edge(rt: HostRuntime) -> Result<(), Fail> {
-    let range = RunEnd::Faulted(Fault::Range);
-    assert!(rt; ends(&rt, RANGE, range, "9007199254740992\n")?);
-    Ok(())
-}
-
-#[test]
-fn product_range(rt: HostRuntime) -> Result<(), Fail> {
-    let product = "BEGIN { print 9007199254740991 * 9007199254740991 }";
-    assert!(rt; ends(&rt, product, RunEnd::Faulted(Fault::Range), "")?);
-    let difference = "BEGIN { print \"x\", 0 - 9007199254740992 - 1; print 1 }";
-    assert!(rt; ends(&rt, difference, RunEnd::Faulted(Fault::Range), "")?);
+fn scripts_and_what_they_put_out(rt: HostRuntime) -> Result<(), Fail> {
+    for (script, status, line, output) in SCRIPTS {
+        let told = Told {
+            status,
+            line,
+            output,
+        };
+        assert!(rt; ends(rt.alloc(), script, None, &told)?, "{script}");
+    }
     Ok(())
 }
 
 #[test]
 fn output_room(rt: HostRuntime) -> Result<(), Fail> {
-    let two = "BEGIN { print \"ab\"; print \"cd\" }";
-    let failed = RunEnd::Faulted(Fault::WriteFailed);
-    assert!(rt; is_end(run(&rt, two, Some(4), 1000000), failed, "ab\nc")?);
+    let told = Told {
+        status: 2,
+        line: "awkwasm: WriteFailed\n",
+        output: "ab\nc",
+    };
+    assert!(rt;
+        ends(
+            rt.alloc(),
+            "BEGIN { print \"ab\"; print \"cd\" }",
+            Some(4),
+            &told
+        )?
+    );
     Ok(())
 }
 
-/// Whether a script that ends so with this output is the same cut at each number of steps: until it ends it has put out a beginning of the output, and ever more.
-fn same_when_cut(
-    rt: &HostRuntime,
-    script: &str,
-    end: RunEnd,
-    output: &str,
-) -> Result<bool, AllocError> {
+/// Scripts that are refused, with their lines. They do nothing.
+static REFUSED: [(&str, &str); 36] = [
+    ("BEGIN { print \"x", "OpenString 1"),
+    ("BEGIN {\n\n print \"a }", "OpenString 3"),
+    ("BEGIN { @ }", "BadByte 1"),
+    ("BEGIN { print 1 ~ /a }", "OpenEre 1"),
+    ("BEGIN { system(\"ls\") }", "LeftOut 1 system"),
+    ("{ print }\nEND { nextfile }", "LeftOut 2 nextfile"),
+    ("BEGIN {\n print 1 | \"cat\" }", "LeftOut 2 pipe"),
+    ("BEGIN { delete a }", "LeftOut 1 delete"),
+    ("BEGIN { x = 0.5 }", "NotWhole 1"),
+    ("BEGIN { x = 9007199254740993 }", "ConstantRange 1"),
+    ("{ print $ }", "Syntax 1"),
+    ("BEGIN { print 2 + }", "Syntax 1"),
+    ("BEGIN { print 1", "Syntax 1"),
+    ("BEGIN { next }", "Misplaced 1"),
+    ("BEGIN {\n break }", "Misplaced 2"),
+    ("/(a/", "BadEre 1 2"),
+    ("/a/\n/b/ { print $1 ~ /*/ }\n/(/", "BadEre 2 0"),
+    (
+        "{ print 1 }\n/a{255}b{255}/\n/((a{255}){255})/",
+        "EreTooLarge 3",
+    ),
+    ("function f(a, a) { }", "DuplicateName a"),
+    ("BEGIN { f(1) }", "UnknownFunction f"),
+    ("function f(a) { } BEGIN { f(1, 2) }", "ArgCount f"),
+    ("BEGIN { a = 1; a[1] = 2 }", "KindClash a"),
+    ("{ print }", "NotYet 1"),
+    ("", "NotYet 1"),
+    ("BEGIN {\nprint 1\n}\nEND { }", "NotYet 4"),
+    ("BEGIN { print 1 > \"f\" }", "NotYet 1"),
+    ("BEGIN {\n print -1\n}\n", "NotYet 3"),
+    ("BEGIN { print 1; print x }", "NotYet 1"),
+    ("BEGIN { print \"x\n@", "OpenString 1"),
+    ("BEGIN { @ print 0.5 }", "BadByte 1"),
+    ("BEGIN { print 0.5 + }", "NotWhole 1"),
+    ("{ print $ }\nBEGIN { next }", "Syntax 1"),
+    ("BEGIN { next } /(a/", "Misplaced 1"),
+    ("BEGIN { f(1) } /(a/", "BadEre 1 2"),
+    ("BEGIN { a = 1; a[1] = 2; f(1) }", "UnknownFunction f"),
+    ("{ a = 1; a[1] = 2 }", "KindClash a"),
+];
+
+/// Whether `compile` refuses a script with this line; want of memory is an error.
+fn is_refused(alloc: Global, script: &[u8], line: &str) -> Result<bool, AllocError> {
+    match compile(alloc, script) {
+        Err(CompileFault::NoMemory) => Err(AllocError),
+        Err(fault) => is_told(alloc, &RunEnd::Refused(Refusal::Compile(fault)), 3, line),
+        Ok(_) => Ok(false),
+    }
+}
+
+#[test]
+fn refused_scripts(rt: HostRuntime) -> Result<(), Fail> {
+    let alloc = rt.alloc();
+    for (script, words) in REFUSED {
+        let line = format!(in alloc; "awkwasm: {words}\n")?;
+        assert!(rt; is_refused(alloc, script.as_bytes(), &line)?, "{script}");
+    }
+    Ok(())
+}
+
+#[test]
+fn refused_scripts_do_nothing(rt: HostRuntime) -> Result<(), Fail> {
+    let told = Told {
+        status: 3,
+        line: "awkwasm: NotYet 1\n",
+        output: "",
+    };
+    assert!(rt; ends(rt.alloc(), "BEGIN { print 1; print x }", None, &told)?);
+    Ok(())
+}
+
+/// Whether a script that ends so is the same cut at each number of steps: until it ends it has put out a beginning of the output, and ever more.
+fn same_when_cut(alloc: Global, script: &str, told: &Told) -> Result<bool, AllocError> {
+    let job = Job::empty(alloc);
     let mut before = 0;
     for steps in 0..10000 {
-        let (now, world) = run(rt, script, None, steps);
+        let (end, world) = run_job(alloc, script.as_bytes(), &job, None, steps);
         let put = world.output();
-        if now == RunEnd::NoMemory && output.as_bytes().starts_with(put) {
-            return Err(AllocError);
+        if is_told(alloc, &end, told.status, told.line)? {
+            return Ok(put == told.output.as_bytes() && before > 0);
         }
-        if now == end {
-            return Ok(put == output.as_bytes() && before > 0);
-        }
-        if now != RunEnd::OutOfSteps || put.len() < before || !output.as_bytes().starts_with(put) {
+        let cut = matches!(end, RunEnd::OutOfSteps);
+        if !cut || put.len() < before || !told.output.as_bytes().starts_with(put) {
             return Ok(false);
         }
         before = put.len();
@@ -106,44 +195,18 @@ fn same_when_cut(
 
 #[test]
 fn cut_at_every_step(rt: HostRuntime) -> Result<(), Fail> {
-    assert!(rt; same_when_cut(&rt, LIST, RunEnd::Ended(0), "a -1\nb\n\n")?);
-    let range = RunEnd::Faulted(Fault::Range);
-    assert!(rt; same_when_cut(&rt, RANGE, range, "9007199254740992\n")?);
-    Ok(())
-}
-
-/// Whether a script is refused so; want of memory is an error.
-fn is_refused(rt: &HostRuntime, script: &[u8], fault: CompileFault) -> Result<bool, AllocError> {
-    match compile(rt.alloc(), script) {
-        Err(CompileFault::NoMemory) => Err(AllocError),
-        Err(refused) => Ok(refused == fault),
-        Ok(_) => Ok(false),
-    }
-}
-
-#[test]
-fn other_scripts(rt: HostRuntime) -> Result<(), Fail> {
-    let refused: [(&[u8], usize); 9] = [
-        (b"{ print }", 1),
-        (b"", 1),
-        (b"BEGIN {\nprint 1\n}\nEND { }", 4),
-        (b"BEGIN { print 1", 1),
-        (b"BEGIN {\n print 1.5 }", 2),
-        (b"BEGIN {\n\n print \"a }", 3),
-        (b"BEGIN { print 1 > \"f\" }", 1),
-        (b"BEGIN { print 9007199254740993 }", 1),
-        (b"BEGIN {\n print -1\n}\n", 3),
+    let cut = [
+        (LIST, 0, "", LIST_OUTPUT),
+        (RANGE, 2, "awkwasm: Range\n", RANGE_OUTPUT),
     ];
-    for (script, line) in refused {
-        assert!(rt; is_refused(&rt, script, CompileFault::NotYet(line))?);
+    for (script, status, line, output) in cut {
+        let told = Told {
+            status,
+            line,
+            output,
+        };
+        assert!(rt; same_when_cut(rt.alloc(), script, &told)?, "{script}");
     }
-    Ok(())
-}
-
-#[test]
-fn refused_scripts_do_nothing(rt: HostRuntime) -> Result<(), Fail> {
-    let refused = RunEnd::Refused(Refusal::Compile(CompileFault::NotYet(1)));
-    assert!(rt; ends(&rt, "BEGIN { print 1; print x }", refused, "")?);
     Ok(())
 }
 
@@ -156,14 +219,14 @@ fn operands_and_environment(rt: HostRuntime) -> Result<(), Fail> {
         name: Bytes::from_slice(alloc, b"HOME")?,
         text: Bytes::from_slice(alloc, b"/")?,
     })?;
-    let ran = run_job(&rt, LIST.as_bytes(), &job, None, 1000000);
-    assert!(rt; is_end(ran, RunEnd::Ended(0), "a -1\nb\n\n")?);
+    let (end, world) = run_job(alloc, LIST.as_bytes(), &job, None, 1000000);
+    assert!(rt; is_told(alloc, &end, 0, "")? && world.output() == LIST_OUTPUT.as_bytes());
     Ok(())
 }
 
 /// So many blanks.
-fn blanks(rt: &HostRuntime, count: usize) -> Result<Vec<u8>, AllocError> {
-    let mut script = Vec::new(rt.alloc());
+fn blanks(alloc: Global, count: usize) -> Result<Vec<u8>, AllocError> {
+    let mut script = Vec::new(alloc);
     for _ in 0..count {
         script.push(b' ')?;
     }
@@ -172,12 +235,15 @@ fn blanks(rt: &HostRuntime, count: usize) -> Result<Vec<u8>, AllocError> {
 
 #[test]
 fn length_of_scripts(rt: HostRuntime) -> Result<(), Fail> {
-    let longest = blanks(&rt, 1048576)?;
-    assert!(rt; is_refused(&rt, &longest, CompileFault::NotYet(1))?);
-    let longer = blanks(&rt, 1048577)?;
-    assert!(rt; is_refused(&rt, &longer, CompileFault::TooLarge)?);
-    let too_large = RunEnd::Refused(Refusal::Compile(CompileFault::TooLarge));
-    let ran = run_job(&rt, &longer, &Job::empty(rt.alloc()), None, 1000000);
-    assert!(rt; is_end(ran, too_large, "")?);
+    let alloc = rt.alloc();
+    for (length, line) in [
+        (1048576, "awkwasm: NotYet 1\n"),
+        (1048577, "awkwasm: TooLarge\n"),
+    ] {
+        let script = blanks(alloc, length)?;
+        assert!(rt; is_refused(alloc, &script, line)?);
+        let (end, world) = run_job(alloc, &script, &Job::empty(alloc), None, 1000000);
+        assert!(rt; is_told(alloc, &end, 3, line)? && world.output().is_empty());
+    }
     Ok(())
 }
