@@ -8,9 +8,10 @@ use Rattle.std.proofs.lemmas.Map.Text.{hash_map_updates_str}
 use Rattle.indexmap.specs.IndexMap.{IndexMap, Updates}
 use Rattle.awk_grammar.specs.Stmt.{Stmts}
 use Rattle.awk_resolve.specs.Kinds.{Function as Typed}
-use Rattle.awk_resolve.specs.ViewResolved.{view_name_kinds, view_functions}
-use Rattle.awk_resolve.specs.declared.listing.NameKind.{NameKind}
-use Rattle.awk_resolve.specs.declared.listing.FunctionNames.{FunctionNames}
+use Rattle.awk_resolve.specs.ViewFunctions.{view_functions}
+use Rattle.awk_resolve.specs.ViewKinds.{view_name_kinds}
+use Rattle.awk_resolve.specs.declared.function_names.NameKind.{NameKind}
+use Rattle.awk_resolve.specs.declared.function_names.FunctionNames.{FunctionNames}
 use Rattle.mid_code.specs.Kinds.{with_bodies}
 use Rattle.mid_code.specs.Names.{Name, same_name, next_place, or_past, names_length, functions_length, function_in, function_at, place_in, arrays_before, kind_at}
 use Rattle.mid_code.specs.Texts.{text_place}

@@ -1,6 +1,6 @@
 -- Where an expression stands, as the code has it.
 use Rattle.std.specs.Prelude.{ℕ, List}
-use Rattle.awk_resolve.specs.ViewResolved.{view_name_kinds}
+use Rattle.awk_resolve.specs.ViewKinds.{view_name_kinds}
 use Rattle.mid_code.specs.Names as names
 use Rattle.mid_code.specs.View.{view_texts}
 use Rattle.mid_code.specs.ViewNames.{script_of}

@@ -6,7 +6,7 @@ ghost use Rattle.mid_code.specs.Texts.{text_place};
 ghost use Rattle.mid_code.specs.ViewCode.{view_array};
 ghost use Rattle.mid_code.specs.ViewNames.{view_variable};
 ghost use Rattle.mid_code.specs.ViewScope.{scope_of, texts_of};
-ghost use Rattle.awk_resolve.specs.ViewResolved.{view_name_kinds};
+ghost use Rattle.awk_resolve.specs.ViewKinds.{view_name_kinds};
 
 use crate::code::ArrayName;
 use crate::names::{Names, Variable, kind_at, place_in, special_array, special_named};

@@ -1,5 +1,5 @@
 use Rattle.std.proofs.Common.{ap, ◌∙◌}
-use Rattle.awk_resolve.specs.declared.listing.NameKind.{NameKind}
+use Rattle.awk_resolve.specs.declared.function_names.NameKind.{NameKind}
 use Rattle.mid_code.proofs.NameTables.{kind_is, kind_past}
 use Rattle.mid_code.proofs.names.kind_at.Goals as goal
 

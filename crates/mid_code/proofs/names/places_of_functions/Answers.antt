@@ -1,5 +1,5 @@
 use Rattle.std.proofs.Common.{◌≡◌, ◌+◌, ◌-◌, ◌<◌, ℕ, List, drop, length, refl, subst, arith}
-use Rattle.awk_resolve.specs.ViewResolved.{view_functions}
+use Rattle.awk_resolve.specs.ViewFunctions.{view_functions}
 use Rattle.mid_code.specs.ViewNames.{place_found, function_from}
 use Rattle.mid_code.proofs.NameTables.{put_function}
 use Rattle.mid_code.proofs.names.places_of_functions.Goals as goal

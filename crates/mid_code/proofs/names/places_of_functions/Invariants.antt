@@ -1,5 +1,5 @@
 use Rattle.std.proofs.Common.{◌≡◌, ℕ, ◌≤◌, List, drop, length}
-use Rattle.awk_resolve.specs.ViewResolved.{view_functions}
+use Rattle.awk_resolve.specs.ViewFunctions.{view_functions}
 use Rattle.mid_code.specs.ViewNames.{place_found, function_from}
 use Rattle.mid_code.proofs.names.places_of_functions.Given as goal
 

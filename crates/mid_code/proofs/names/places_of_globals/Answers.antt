@@ -1,5 +1,5 @@
 use Rattle.std.proofs.Common.{◌≡◌, ◌+◌, ◌-◌, ◌<◌, ℕ, List, drop, length, refl, subst, arith}
-use Rattle.awk_resolve.specs.ViewResolved.{view_name_kinds}
+use Rattle.awk_resolve.specs.ViewKinds.{view_name_kinds}
 use Rattle.mid_code.specs.ViewNames.{place_found, place_from}
 use Rattle.mid_code.proofs.NameTables.{put_global}
 use Rattle.mid_code.proofs.names.places_of_globals.Goals as goal

@@ -1,5 +1,5 @@
 use Rattle.std.proofs.Common.{ℕ, List, get_or, length, ap, ◌∙◌, arith}
-use Rattle.awk_resolve.specs.ViewResolved.{view_name_kinds}
+use Rattle.awk_resolve.specs.ViewKinds.{view_name_kinds}
 use Rattle.mid_code.specs.ViewNames.{array_numbers}
 use Rattle.mid_code.proofs.NameTables.{number_of_array, numbers_length, place_within}
 use Rattle.mid_code.proofs.names.Names.array.Goals as goal
