@@ -1,0 +1,17 @@
+mod Good
+mod Ways
+mod Variables
+mod Operands
+mod Sound
+mod Places
+mod Trees
+mod Steps
+mod Names
+mod Contexts
+mod Texts
+mod Scripts
+mod Marked
+mod Keys
+mod Lookups
+mod Apart
+mod Resolves

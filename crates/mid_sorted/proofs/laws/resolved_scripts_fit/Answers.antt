@@ -1,0 +1,10 @@
+use Rattle.mid_code.specs.Kinds.{resolved}
+use Rattle.mid_sorted.proofs.Resolves.{script_fits}
+use Rattle.mid_sorted.proofs.Scripts.{script_sorted}
+use Rattle.mid_sorted.proofs.laws.resolved_scripts_fit.Goals as goal
+
+pub returns-clause-fits : goal.returns-clause-fits
+returns-clause-fits c = script_fits
+
+pub returns-clause-code : goal.returns-clause-code
+returns-clause-code c = λ items w p e. script_sorted (resolved items) (script_fits items w p e)
