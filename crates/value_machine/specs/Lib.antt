@@ -7,4 +7,7 @@ pub mod Small
 pub mod Arithmetic
 pub mod Emission
 pub mod Statements
+pub mod Functions
+pub mod Runs
+pub mod Follows
 pub mod Modules

@@ -81,7 +81,7 @@ copied get set y k = does get (does (LocalTee y) (ask_row row.Dup (does set k)))
 abbrev pub copied_if_any : Simple → Simple → ℕ → Instructions → Instructions
 copied_if_any get set y k =
     does get (does (LocalTee y) (does (I32Const minus_one) (does (Compare I32 Ne)
-    (when (copied (LocalGet y) (LocalSet y) y Done) k))))
+    (when (copied (LocalGet y) set y Done) k))))
 
 -- Faults.
 

@@ -18,7 +18,7 @@ use Rattle.mid_code.specs.Translation.{code_of, codes_of, key_code, at_place, ar
 use Rattle.mid_code.specs.Scripts as scripts
 use Rattle.value_machine.specs.Emission.{emitted, all_emitted}
 use Rattle.value_machine.specs.Statements.{step_emitted, steps_emitted}
-use Rattle.value_machine.specs.Modules.{value_run}
+use Rattle.value_machine.specs.Runs.{value_run}
 
 abbrev no_job : JobForm
 no_job = record { operands = []; assigns = []; environment = [] }
