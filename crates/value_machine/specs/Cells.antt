@@ -1,6 +1,6 @@
 -- What stands on the stack, in locals and in globals of the machine over values: a word, or what the number of a handle, of an array or of an iterator stands for.
 -- A cell that is owned has one place: who reads it moves it, and nothing may be put over it.
-use Rattle.std.specs.Prelude.{ℕ, Bool, true, false, not, ◌&&◌, ◌||◌, nat_eq, nat_lt, List, [], ◌∷◌, take, drop, get_or, length}
+use Rattle.std.specs.Prelude.{ℕ, Bool, true, false, not, ◌&&◌, ◌||◌, nat_eq, nat_lt, List, [], ◌∷◌, take, drop, get_or, length, suc, cond}
 use Rattle.awk_values.specs.declared.value.Value.{Value as AnyValue}
 use Rattle.wasm_store.specs.declared.word.Word.{Word}
 use Rattle.mid_code.specs.Mid.{Kind, Boxed, Unboxed, Many}
@@ -83,6 +83,10 @@ is_iterator _ = false
 abbrev pub no_temporary : List Cell → Bool
 no_temporary [] = true
 no_temporary (c ∷ cs) = (not (is_held c) && not (is_array c)) && no_temporary cs
+
+abbrev pub iterators_in : List Cell → ℕ
+iterators_in [] = 0
+iterators_in (c ∷ cs) = cond (is_iterator c) (suc (iterators_in cs)) (iterators_in cs)
 
 -- the first locals are parameters of these kinds; the others hold nothing, iterators aside
 abbrev pub tidy_locals : List Kind → List Cell → Bool

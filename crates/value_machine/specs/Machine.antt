@@ -16,10 +16,12 @@ use Rattle.wasm_store.specs.Words.{binary_of, test_of, compare_of, converted, fl
 use Rattle.wasm_machine.specs.Frames.{constant_of}
 use Rattle.mid_code.specs.Mid.{Kind}
 use Rattle.mid_code.specs.ScriptRun.{Ending, Ended, FaultedBy, GoesOn, Exhausted}
-use Rattle.value_machine.specs.Cells.{Cell, Bits, Held, IteratorOf, OwnedArray, LentArray, Gone, is_owned, left_by, read_global, left_in_global, cell_at, has_room, none_owned, has_owner, tidy_locals, tidy_name, ended_name, globals_by}
-use Rattle.value_machine.specs.Imports.{import_at, import_arguments, import_count, params_of}
+use Rattle.value_machine.specs.Cells.{Cell, Bits, Held, IteratorOf, OwnedArray, LentArray, Gone, is_owned, left_by, read_global, left_in_global, cell_at, has_room, none_owned, has_owner, iterators_in, tidy_locals, tidy_name, ended_name, globals_by}
+use Rattle.value_machine.specs.Imports.{import_at, import_arguments, import_count, import_number, params_of}
 use Rattle.value_machine.specs.ImportCalls.{Host, call, look, carried_by}
 use Rattle.value_machine.specs.declared.import.Import.{Import}
+use Rattle.value_machine.specs.declared.import.Import.TheVariants.{Of}
+use Rattle.awk_state.specs.declared.table.Primitive.TheVariants as row
 
 pub record Label : Type 0 where
   pub under : List Cell
@@ -98,10 +100,16 @@ looked_compared op (Bits w) n = compare_of ty.I32 op w (I32 n)
 looked_compared op Gone n = None
 looked_compared op c n = handle_compared op n
 
+-- the number of an array that is lent is below 2^31 too
+abbrev pub compared : ValType → IRelOp → Cell → Cell → Option Word
+compared k op (Bits a) (Bits b) = compare_of k op a b
+compared ty.I32 op (LentArray a) (Bits (I32 n)) = handle_compared op n
+compared k op _ _ = None
+
 abbrev pub operated : Simple → List Cell → Option (List Cell)
 operated (Test k op) (Bits a ∷ vs) = push_word vs (test_of k op a)
 operated (Convert op) (Bits a ∷ vs) = push_word vs (converted op a)
-operated (Compare k op) (Bits b ∷ (Bits a ∷ vs)) = push_word vs (compare_of k op a b)
+operated (Compare k op) (b ∷ (a ∷ vs)) = push_word vs (compared k op a b)
 operated (Binary k op) (Bits b ∷ (Bits a ∷ vs)) = push_result vs (binary_of k op a b)
 operated Drop (Bits a ∷ vs) = Some vs
 operated _ _ = None
@@ -217,8 +225,17 @@ abbrev pub is_empty : {A : Type 0} → List A → Bool
 is_empty [] = true
 is_empty (x ∷ xs) = false
 
-abbrev pub tidy : Code → List Kind → List Cell → List Cell → Store → Bool
-tidy u ks vs L G = (is_empty vs && is_empty G.host.arguments) && (tidy_locals ks L && globals_by tidy_name u.before u.names G.globals)
+-- an iterator for each loop over keys that is walked, and no other: such a loop begins with the call for its next key
+abbrev pub is_walk : Option Instructions → Bool
+is_walk (Some (Then (Plain (LocalGet x)) (Then (Plain (LocalTee y)) (Then (Plain (Call n)) c)))) = nat_eq n (import_number (Of row.IterNext))
+is_walk _ = false
+
+abbrev pub loops_walked : List Label → ℕ
+loops_walked [] = 0
+loops_walked (l ∷ K) = cond (is_walk l.again) (suc (loops_walked K)) (loops_walked K)
+
+abbrev pub tidy : Code → List Kind → List Cell → List Label → List Cell → Store → Bool
+tidy u ks vs K L G = (is_empty vs && is_empty G.host.arguments) && ((tidy_locals ks L && nat_eq (iterators_in L) (loops_walked K)) && globals_by tidy_name u.before u.names G.globals)
 
 abbrev pub with_operands : Option (List Cell) → List Kind → List Label → List Cell → List Frame → Instructions → Store → Conf
 with_operands None ks K L F c G = Stuck
@@ -228,7 +245,7 @@ abbrev pub call_number : Code → ℕ → List Kind → List Cell → List Label
 call_number u n ks vs K L F c G = cond (nat_lt n import_count) (ask u.memory (import_at n) ks vs K L F c G) (enter u.deepest (slice_get u.callees (n - import_count)) ks vs K L F c G)
 
 abbrev pub act : Code → Simple → List Kind → List Cell → List Label → List Cell → List Frame → Instructions → Store → Conf
-act u Nop ks vs K L F c G = guarded (tidy u ks vs L G) (at ks vs K L F c G)
+act u Nop ks vs K L F c G = guarded (tidy u ks vs K L G) (at ks vs K L F c G)
 act u (LocalGet x) ks vs K L F c G = guarded (nat_lt x (length L)) (at ks (cell_at L x ∷ vs) K (set L x (left_by (cell_at L x))) F c G)
 act u (LocalSet x) ks vs K L F c G = set_local x ks vs K L F c G
 act u (LocalTee x) ks vs K L F c G = tee_local x ks vs K L F c G

@@ -1,5 +1,5 @@
 -- Whether the machine over values shows what a program does with so many turns, computed.
-use Rattle.std.specs.Prelude.{◌≡◌, ℕ, zero, suc, ◌+◌, ◌-◌, nat_le, Bool, true, false, ◌&&◌, if◌then◌else◌, List, [], length, Option, Some, None}
+use Rattle.std.specs.Prelude.{◌≡◌, ℕ, zero, suc, ◌-◌, nat_le, ◌&&◌, if◌then◌else◌, List, [], length, Option, Some, None}
 use Rattle.world_core.specs.WorldState.{Action}
 use Rattle.mid_code.specs.Mid.{Program}
 use Rattle.mid_code.specs.MidMeaning.{mid_run_in}

@@ -1,5 +1,5 @@
 -- Runs of modules on the machine over values: of scripts, by their mid code.
-use Rattle.std.specs.Prelude.{◌≡◌, ℕ, true, false, List, [], ◌∷◌, ◌++◌, codes, Option, Some, None, refl}
+use Rattle.std.specs.Prelude.{◌≡◌, ℕ, true, false, List, [], ◌∷◌, ◌++◌, codes, Some, None, refl}
 use Rattle.std.specs.Fmt.{digits}
 use Rattle.awk_text.specs.Reading.{numeral_at, sign_at, fraction_at, exponent_at}
 use Rattle.awk_text.specs.Number.{numerator, denominator}
@@ -12,7 +12,7 @@ use Rattle.world_core.specs.declared.world.Ending.{Ending}
 use Rattle.world_core.specs.declared.world.Ending.TheVariants.{End, Fails}
 use Rattle.awk_state.specs.Jobs.{JobForm}
 use Rattle.mid_code.specs.Kinds.{resolved, uses, all_uses, given, stmt_uses, stmts_uses}
-use Rattle.mid_code.specs.ScriptRun.{Ended, FaultedBy, GoesOn, Exhausted, setting_of}
+use Rattle.mid_code.specs.ScriptRun.{Ended, FaultedBy, Exhausted, setting_of}
 use Rattle.mid_code.specs.Texts.{texts_in, all_texts, stmt_texts, stmts_texts}
 use Rattle.mid_code.specs.Translation.{code_of, codes_of, key_code, at_place, argument_codes, truncated_code, applied_code, step_code, steps_code, program_of}
 use Rattle.mid_code.specs.Scripts as scripts

@@ -1,18 +1,18 @@
 -- Runs of modules on the machine over values: of more scripts with unboxed names.
-use Rattle.std.specs.Prelude.{◌≡◌, ℕ, true, false, List, [], ◌∷◌, ◌++◌, codes, Option, Some, None, refl}
+use Rattle.std.specs.Prelude.{◌≡◌, ℕ, true, false, List, [], ◌∷◌, codes, Some, None, refl}
 use Rattle.std.specs.Fmt.{digits}
 use Rattle.awk_text.specs.Reading.{numeral_at, sign_at, fraction_at, exponent_at}
 use Rattle.awk_text.specs.Number.{numerator, denominator}
 use Rattle.awk_text.specs.Escapes.{unescaped, escaped, octal}
 use Rattle.awk_tokens.specs.Words.{keywords, builtins, left_out_words}
 use Rattle.ere_syntax.specs.Scan.{table, sign_of}
-use Rattle.awk_values.specs.declared.fault.Fault.TheVariants.{Range, Fraction, DivisionByZero, Inexact, FieldNumber, Format, BadEre, OpenInput, ReadFailed, OpenOutput, WriteFailed, NextOutside, BadAssignment}
-use Rattle.world_core.specs.WorldState.{Standard, Named, Outside, Source, absent, replaced, Open, puts}
+use Rattle.awk_values.specs.declared.fault.Fault.TheVariants.{Range, Fraction}
+use Rattle.world_core.specs.WorldState.{Standard, Named, Outside, Source, absent, replaced, puts}
 use Rattle.world_core.specs.declared.world.Ending.{Ending}
-use Rattle.world_core.specs.declared.world.Ending.TheVariants.{End, Fails}
+use Rattle.world_core.specs.declared.world.Ending.TheVariants.{End}
 use Rattle.awk_state.specs.Jobs.{JobForm}
 use Rattle.mid_code.specs.Kinds.{resolved, uses, all_uses, given, stmt_uses, stmts_uses}
-use Rattle.mid_code.specs.ScriptRun.{Ended, FaultedBy, GoesOn, Exhausted, setting_of}
+use Rattle.mid_code.specs.ScriptRun.{Ended, FaultedBy, setting_of}
 use Rattle.mid_code.specs.Texts.{texts_in, all_texts, stmt_texts, stmts_texts}
 use Rattle.mid_code.specs.Translation.{code_of, codes_of, key_code, at_place, argument_codes, truncated_code, applied_code, step_code, steps_code, program_of}
 use Rattle.language_rows.specs.Scripts as scripts
@@ -22,7 +22,7 @@ use Rattle.mid_code.specs.Statements.{loop, over_keys}
 use Rattle.mid_code.specs.ScriptRun.{first_assigned, records_done}
 use Rattle.mid_code.specs.MidMeaning.{evaluated, all_evaluated, stepped, all_stepped, mid_called}
 use Rattle.mid_code.specs.Sorted.{sorted, all_sorted, step_sorted, steps_sorted, is_sorted}
-use Rattle.value_rows.specs.Agreeing.{AgreesWith, AgreesEarly}
+use Rattle.value_rows.specs.Agreeing.{AgreesWith}
 use Rattle.value_rows.specs.Lanes.{unboxed}
 use Rattle.value_machine.specs.Emission.{emitted, all_emitted}
 use Rattle.value_machine.specs.Statements.{step_emitted, steps_emitted}
