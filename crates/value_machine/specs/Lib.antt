@@ -7,6 +7,7 @@ pub mod Small
 pub mod Arithmetic
 pub mod Emission
 pub mod Statements
+pub mod Boundaries
 pub mod Functions
 pub mod Runs
 pub mod Follows

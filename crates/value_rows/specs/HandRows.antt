@@ -17,6 +17,8 @@ use Rattle.mid_code.specs.Mid.{Kind, Boxed, Many, Global, Code, Do, Over, Call, 
 use Rattle.value_machine.specs.Emission.{emitted, all_emitted}
 use Rattle.value_machine.specs.Statements.{step_emitted, steps_emitted}
 use Rattle.value_machine.specs.Runs.{value_run}
+use Rattle.value_machine.specs.Functions.{main_callee}
+use Rattle.value_machine.specs.Boundaries.{steps_places, nops_in}
 use Rattle.value_rows.specs.CountRows.{plain_setting}
 
 abbrev name : Kind → List ℕ → Declared
@@ -73,3 +75,8 @@ faulted =
 pub fault_while_held : is_sorted faulted ≡ true × value_run faulted plain_setting 2000 ≡ Some (FaultedBy Fraction [])
 unfolding sorted all_sorted step_sorted steps_sorted emitted all_emitted step_emitted steps_emitted digits numeral_at sign_at fraction_at exponent_at numerator denominator
 fault_while_held = (refl, refl)
+
+-- each step has its place
+pub places_of_loops : nops_in (main_callee loops).body ≡ steps_places loops.begin
+unfolding emitted all_emitted step_emitted steps_emitted
+places_of_loops = refl
