@@ -74,3 +74,12 @@ faulted_at_start p =
 pub kept_from_the_start : ending_at (go (code_of (counting false 3) 9999) 1000 (faulted_at_start (counting false 3))) ≡ Some (FaultedBy TextLimit [])
 unfolding emitted all_emitted step_emitted steps_emitted digits
 kept_from_the_start = refl
+
+-- 64 steps a round and no import; boxed, 52 steps and 7 imports
+pub unboxed_rounds : (steps_of (counting true 10) ≡ 743) × ((steps_of (counting true 20) ≡ 1383) × (imports_of (counting true 10) ≡ 7))
+unfolding emitted all_emitted step_emitted steps_emitted digits
+unboxed_rounds = (refl, (refl, refl))
+
+pub boxed_rounds : (steps_of (counting false 10) ≡ 605) × ((steps_of (counting false 20) ≡ 1125) × ((imports_of (counting false 10) ≡ 81) × (imports_of (counting false 20) ≡ 151)))
+unfolding emitted all_emitted step_emitted steps_emitted digits
+boxed_rounds = (refl, (refl, (refl, refl)))
