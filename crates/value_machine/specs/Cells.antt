@@ -1,0 +1,119 @@
+-- What stands on the stack, in locals and in globals of the machine over values: a word, or what the number of a handle, of an array or of an iterator stands for.
+-- A cell that is owned has one place: who reads it moves it, and nothing may be put over it.
+use Rattle.std.specs.Prelude.{ℕ, Bool, true, false, not, ◌&&◌, ◌||◌, nat_eq, nat_lt, List, [], ◌∷◌, take, drop, get_or, length, suc, cond}
+use Rattle.awk_values.specs.declared.value.Value.{Value as AnyValue}
+use Rattle.wasm_store.specs.declared.word.Word.{Word}
+use Rattle.mid_code.specs.Mid.{Kind, Boxed, Unboxed, Many}
+
+pub data Cell : Type 0 where
+  Bits : Word → Cell
+  -- a value
+  Held : AnyValue → Cell
+  -- the keys of an array that are still to be visited
+  IteratorOf : ℕ → Cell
+  -- an array, with the right to free it, and one that is lent
+  OwnedArray : ℕ → Cell
+  LentArray : ℕ → Cell
+  -- what was moved away
+  Gone : Cell
+
+abbrev pub is_owned : Cell → Bool
+is_owned (Bits w) = false
+is_owned (Held v) = true
+is_owned (IteratorOf t) = true
+is_owned (OwnedArray a) = true
+is_owned (LentArray a) = false
+is_owned Gone = false
+
+-- what stays in a local where it was read
+abbrev pub left_by : Cell → Cell
+left_by (Bits w) = Bits w
+left_by (Held v) = Gone
+left_by (IteratorOf t) = Gone
+left_by (OwnedArray a) = Gone
+left_by (LentArray a) = LentArray a
+left_by Gone = Gone
+
+-- what is read from a global, and what stays there: a global array is only lent
+abbrev pub read_global : Cell → Cell
+read_global (OwnedArray a) = LentArray a
+read_global c = c
+
+abbrev pub left_in_global : Cell → Cell
+left_in_global (OwnedArray a) = OwnedArray a
+left_in_global c = left_by c
+
+-- nothing is past the last place
+abbrev pub cell_at : List Cell → ℕ → Cell
+cell_at cells x = get_or cells x Gone
+
+-- there is such a place, and nothing in it would be lost
+abbrev pub has_room : List Cell → ℕ → Bool
+has_room cells x = nat_lt x (length cells) && not (is_owned (cell_at cells x))
+
+abbrev pub none_owned : List Cell → Bool
+none_owned [] = true
+none_owned (c ∷ cs) = not (is_owned c) && none_owned cs
+
+-- Arrays that are lent are there: somebody owns them. ARGV and ENVIRON are always there.
+
+abbrev pub owns : ℕ → Cell → Bool
+owns a (OwnedArray b) = nat_eq a b
+owns a _ = false
+
+abbrev pub has_owner : ℕ → List Cell → Bool
+has_owner a [] = false
+has_owner a (c ∷ cs) = owns a c || has_owner a cs
+
+-- Boundaries: where a statement begins.
+
+abbrev pub is_held : Cell → Bool
+is_held (Held v) = true
+is_held _ = false
+
+abbrev pub is_array : Cell → Bool
+is_array (OwnedArray a) = true
+is_array _ = false
+
+abbrev pub is_iterator : Cell → Bool
+is_iterator (IteratorOf t) = true
+is_iterator _ = false
+
+-- no value, and no array that is to be freed
+abbrev pub no_temporary : List Cell → Bool
+no_temporary [] = true
+no_temporary (c ∷ cs) = (not (is_held c) && not (is_array c)) && no_temporary cs
+
+abbrev pub iterators_in : List Cell → ℕ
+iterators_in [] = 0
+iterators_in (c ∷ cs) = cond (is_iterator c) (suc (iterators_in cs)) (iterators_in cs)
+
+-- the first locals are parameters of these kinds; the others hold nothing, iterators aside
+abbrev pub tidy_locals : List Kind → List Cell → Bool
+tidy_locals [] cs = no_temporary cs
+tidy_locals (Boxed ∷ ks) (c ∷ cs) = is_held c && tidy_locals ks cs
+tidy_locals (Unboxed ∷ ks) (c ∷ cs) = not (is_owned c) && tidy_locals ks cs
+tidy_locals (Many ∷ ks) (c ∷ cs) = not (is_owned c) && tidy_locals ks cs
+tidy_locals (k ∷ ks) [] = false
+
+-- A name has two globals, for a handle and for a number. A boxed name's handle is there; beside a number there may be one of a text.
+
+abbrev pub tidy_name : Kind → Cell → Bool
+tidy_name Boxed c = is_held c
+tidy_name Unboxed c = not (is_array c) && not (is_iterator c)
+tidy_name Many c = is_array c
+
+-- once a fault is kept this is a bound from above: a name may have nothing
+abbrev pub ended_name : Kind → Cell → Bool
+ended_name Boxed c = not (is_array c) && not (is_iterator c)
+ended_name Unboxed c = not (is_array c) && not (is_iterator c)
+ended_name Many c = not (is_held c) && not (is_iterator c)
+
+abbrev pub each_name : (Kind → Cell → Bool) → List Kind → List Cell → Bool
+each_name ok [] [] = true
+each_name ok (k ∷ ks) (c ∷ (n ∷ cs)) = (ok k c && not (is_owned n)) && each_name ok ks cs
+each_name ok _ _ = false
+
+-- before the names stand so many that hold no handle
+abbrev pub globals_by : (Kind → Cell → Bool) → ℕ → List Kind → List Cell → Bool
+globals_by ok before ks cs = none_owned (take before cs) && each_name ok ks (drop before cs)

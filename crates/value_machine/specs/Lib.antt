@@ -1,0 +1,14 @@
+pub mod Cells
+pub mod Imports
+pub mod ImportCalls
+pub mod Machine
+pub mod Places
+pub mod Small
+pub mod Arithmetic
+pub mod Emission
+pub mod Statements
+pub mod Boundaries
+pub mod Functions
+pub mod Runs
+pub mod Follows
+pub mod Modules

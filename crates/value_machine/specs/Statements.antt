@@ -1,0 +1,206 @@
+-- The code of steps, of functions and of `main`. A statement's place is the `nop` that begins its code: there the function holds nothing, iterators aside.
+use Rattle.std.specs.Prelude.{ℕ, zero, suc, ◌+◌, true, false, if◌then◌else◌, List, [], ◌∷◌, length, None}
+use Rattle.awk_values.specs.Faults.{fault_number}
+use Rattle.awk_values.specs.declared.fault.Fault.TheVariants.{NextOutside}
+use Rattle.awk_state.specs.Constants.{flag_number, kind_number}
+use Rattle.awk_state.specs.declared.constants.NameKind.{NameKind}
+use Rattle.awk_state.specs.declared.constants.NameKind.TheVariants.{Scalar, ArrayOrFunction}
+use Rattle.awk_state.specs.declared.table.Primitive.TheVariants as row
+use Rattle.wasm_types.specs.Syntax.{Block, Loop as Again, Instructions, Done, Then}
+use Rattle.wasm_types.specs.declared.types.ValType.TheVariants.{I32}
+use Rattle.wasm_types.specs.declared.instr.Simple.TheVariants.{Nop, Br, BrIf, LocalGet, LocalSet, LocalTee, GlobalGet, GlobalSet, I32Const, I64Const, Test, Compare as Comparing, Convert}
+use Rattle.wasm_types.specs.declared.instr.IRelOp.TheVariants.{Eq, Ne}
+use Rattle.wasm_types.specs.declared.instr.ITestOp.TheVariants.{Eqz}
+use Rattle.wasm_types.specs.declared.instr.CvtOp.TheVariants.{I32WrapI64}
+use Rattle.mid_code.specs.Mid.{Kind, Boxed, Unboxed, Many, Code, Step, Eval, Block as Steps_, If as Either, Loop, Each, Break, Continue, Next, Exit, ExitWith, Return, Mark, Steps, NoStep, Then as AndThen, Program, a_value, form_of}
+use Rattle.value_machine.specs.Places.{Bases, way_global, status_global, range_global, handle_global, answer_local, iterator_local, array_local}
+use Rattle.value_machine.specs.Small.{does, ask, ask_row, when, either, end_code, moved_out, emptied, let_go, number_is, h, n, kept_code, kept_number, to_value, to_number}
+use Rattle.value_machine.specs.Emission.{Layout, array_pushed, text_pushed, pending_assigned, asked, emitted, dropped, tested}
+use Rattle.value_machine.specs.declared.import.Import.TheVariants.{Drop, IterFree, FreeArray}
+
+abbrev pub block : Instructions → Instructions → Instructions
+block a k = Then (Block None a) k
+
+abbrev pub again : Instructions → Instructions → Instructions
+again a k = Then (Again None a) k
+
+-- how a function is being left: by a fault, or `return`; by `next`; by `exit`
+abbrev pub way_none : ℕ
+way_none = 0
+
+abbrev pub way_next : ℕ
+way_next = 1
+
+abbrev pub way_exit : ℕ
+way_exit = 2
+
+abbrev pub left_by : ℕ → ℕ → Instructions → Instructions
+left_by way d k = does (I32Const way) (does (GlobalSet way_global) (does (Br d) k))
+
+module _ (y : Layout) where
+  abbrev pub b : Bases
+  b = y.bases
+
+  -- the next key goes to temporary 0, and is stored from there; past the last one the loop is left
+  abbrev pub key_stored : ℕ → Code → ℕ → Instructions → Instructions
+  key_stored u e d k =
+      does (LocalGet (iterator_local b u)) (does (LocalTee (iterator_local b u)) (ask_row row.IterNext
+      (does (LocalTee (h b zero)) (does (I32Const end_code) (does (Comparing I32 Eq) (does (BrIf 1)
+      (dropped y (a_value ∷ []) (zero ∷ []) e 1 zero d (let_go Drop (h b zero) k))))))))
+
+  abbrev pub iterator_left : ℕ → Instructions → Instructions
+  iterator_left u k = emptied (h b zero) (moved_out (iterator_local b u) (ask IterFree k))
+
+  -- Steps: u iterators are in use; so many labels are between the code and the function's exit, the place where `break` goes, and the one where `continue` goes.
+  unfoldable mutual
+    pub step_emitted : Step → (u d bk ct : ℕ) → Instructions → Instructions
+    step_emitted (Eval e) u d bk ct k = does Nop (dropped y [] [] e zero zero d k)
+    step_emitted (Steps_ ss) u d bk ct k = does Nop (steps_emitted ss u d bk ct k)
+    step_emitted (Either e a c) u d bk ct k =
+        does Nop (tested y [] [] e zero zero d (either (step_emitted a u (suc d) (suc bk) (suc ct) Done) (step_emitted c u (suc d) (suc bk) (suc ct) Done) k))
+    step_emitted (Loop true e a c) u d bk ct k =
+        does Nop (block (again (tested y [] [] e zero zero (suc (suc d)) (does (Test I32 Eqz) (does (BrIf 1)
+        (block (step_emitted a u (suc (suc (suc d))) 2 zero Done) (step_emitted c u (suc (suc d)) 1 zero (does (Br zero) Done)))))) Done) k)
+    step_emitted (Loop false e a c) u d bk ct k =
+        does Nop (block (again (block (step_emitted a u (suc (suc (suc d))) 2 zero Done)
+        (step_emitted c u (suc (suc d)) 1 zero (does Nop (tested y [] [] e zero zero (suc (suc d)) (does (BrIf zero) Done))))) Done) k)
+    step_emitted (Each a e s) u d bk ct k =
+        does Nop (array_pushed y a (ask_row row.Iter (does (LocalSet (iterator_local b u))
+        (block (again (key_stored u e (suc (suc d)) (block (step_emitted s (suc u) (suc (suc (suc d))) 2 zero Done) (does (Br zero) Done))) Done)
+        (iterator_left u k)))))
+    step_emitted Break u d bk ct k = does Nop (does (Br bk) k)
+    step_emitted Continue u d bk ct k = does Nop (does (Br ct) k)
+    step_emitted Next u d bk ct k = does Nop (left_by way_next d k)
+    step_emitted Exit u d bk ct k = does Nop (left_by way_exit d k)
+    step_emitted (ExitWith e) u d bk ct k =
+        does Nop (emitted y false [] [] e zero zero d (to_number b (form_of [] e) zero d
+        (does (LocalGet (n b zero)) (does (GlobalSet status_global) (left_by way_exit d k)))))
+    step_emitted (Return e) u d bk ct k =
+        does Nop (emitted y false [] [] e zero zero d (to_value b (form_of [] e) zero
+        (moved_out (h b zero) (does (LocalSet (answer_local b)) (does (Br d) k)))))
+    step_emitted (Mark i c) u d bk ct k = does Nop (does (I32Const (flag_number c)) (does (GlobalSet (range_global i)) k))
+
+    pub steps_emitted : Steps → (u d bk ct : ℕ) → Instructions → Instructions
+    steps_emitted NoStep u d bk ct k = k
+    steps_emitted (AndThen s ss) u d bk ct k = step_emitted s u d bk ct (steps_emitted ss u d bk ct k)
+
+  -- At a function's beginning its locals for handles, iterators and arrays are empty, and on every way out what they have is let go.
+
+  abbrev pub temporaries_emptied : ℕ → ℕ → Instructions → Instructions
+  temporaries_emptied t zero k = k
+  temporaries_emptied t (suc m) k = emptied (h b t) (temporaries_emptied (suc t) m k)
+
+  abbrev pub iterators_emptied : ℕ → ℕ → Instructions → Instructions
+  iterators_emptied u zero k = k
+  iterators_emptied u (suc m) k = emptied (iterator_local b u) (iterators_emptied (suc u) m k)
+
+  abbrev pub arrays_emptied : ℕ → ℕ → Instructions → Instructions
+  arrays_emptied w zero k = k
+  arrays_emptied w (suc m) k = emptied (array_local b w) (arrays_emptied (suc w) m k)
+
+  abbrev pub all_emptied : Instructions → Instructions
+  all_emptied k = emptied (answer_local b) (temporaries_emptied zero b.temporaries (iterators_emptied zero b.iterators (arrays_emptied zero b.arrays k)))
+
+  abbrev pub temporaries_swept : ℕ → ℕ → Instructions → Instructions
+  temporaries_swept t zero k = k
+  temporaries_swept t (suc m) k = let_go Drop (h b t) (temporaries_swept (suc t) m k)
+
+  abbrev pub iterators_swept : ℕ → ℕ → Instructions → Instructions
+  iterators_swept u zero k = k
+  iterators_swept u (suc m) k = let_go IterFree (iterator_local b u) (iterators_swept (suc u) m k)
+
+  abbrev pub arrays_swept : ℕ → ℕ → Instructions → Instructions
+  arrays_swept w zero k = k
+  arrays_swept w (suc m) k = let_go FreeArray (array_local b w) (arrays_swept (suc w) m k)
+
+  abbrev pub swept : Instructions → Instructions
+  swept k = temporaries_swept zero b.temporaries (iterators_swept zero b.iterators (arrays_swept zero b.arrays k))
+
+  -- the values of parameters; numbers and arrays of the caller's are not the function's to drop
+  abbrev pub parameters_dropped : ℕ → List Kind → Instructions → Instructions
+  parameters_dropped x [] k = k
+  parameters_dropped x (Boxed ∷ ks) k = does (LocalGet x) (ask Drop (parameters_dropped (suc x) ks k))
+  parameters_dropped x (Unboxed ∷ ks) k = parameters_dropped (suc x) ks k
+  parameters_dropped x (Many ∷ ks) k = parameters_dropped (suc x) ks k
+
+  -- A function that ends without `return` gives the uninitialised value. The block is its exit.
+  abbrev pub routine_body : List Kind → Steps → Instructions
+  routine_body ks body =
+      all_emptied (block (steps_emitted body zero zero zero zero (ask_row row.Uninit (does (LocalSet (answer_local b)) Done)))
+      (swept (parameters_dropped zero ks (does (LocalGet (answer_local b)) Done))))
+
+  -- `main`.
+
+  -- A job with a text past the limit keeps a fault from the start: this is the first import that may fault, and does nothing else.
+  abbrev pub started : Instructions → Instructions
+  started k = does (I64Const 1) (does (I64Const 1) (ask_row row.Pow (kept_number b true zero zero k)))
+
+  -- names stand in memory after the script's texts
+  abbrev pub declared : NameKind → ℕ → Instructions → Instructions
+  declared kind i k = text_pushed y i (does (I32Const (kind_number kind)) (ask_row row.Declare k))
+
+  abbrev pub declared_kind : Kind → NameKind
+  declared_kind Many = ArrayOrFunction
+  declared_kind Boxed = Scalar
+  declared_kind Unboxed = Scalar
+
+  abbrev pub names_declared : ℕ → List Kind → Instructions → Instructions
+  names_declared i [] k = k
+  names_declared i (kind ∷ ks) k = declared (declared_kind kind) i (names_declared (suc i) ks k)
+
+  abbrev pub routines_declared : ℕ → ℕ → Instructions → Instructions
+  routines_declared i zero k = k
+  routines_declared i (suc m) k = declared ArrayOrFunction i (routines_declared (suc i) m k)
+
+  -- what a name has before the script runs; an unboxed one has nothing
+  abbrev pub names_made : ℕ → List Kind → Instructions → Instructions
+  names_made i [] k = k
+  names_made i (Boxed ∷ ks) k = ask_row row.Uninit (does (GlobalSet (handle_global y.ranges i)) (names_made (suc i) ks k))
+  names_made i (Unboxed ∷ ks) k = names_made (suc i) ks k
+  names_made i (Many ∷ ks) k = ask_row row.NewArray (does (GlobalSet (handle_global y.ranges i)) (names_made (suc i) ks k))
+
+  -- what was left by `next` or by `exit` goes on once what it held is let go
+  abbrev pub goes_on : Instructions → Instructions
+  goes_on k = does (I32Const way_none) (does (GlobalSet way_global) (swept k))
+
+  -- the items for a record; d labels out is where all but `next` goes on to
+  abbrev pub record_done : Steps → ℕ → Instructions → Instructions
+  record_done items d k =
+      block
+      (block (steps_emitted items zero zero zero zero (does (Br 1) Done))
+      (does (GlobalGet way_global) (does (I32Const way_next) (does (Comparing I32 Ne) (does (BrIf (suc d)) (goes_on Done))))))
+      k
+
+  abbrev pub records_read : Steps → ℕ → Instructions → Instructions
+  records_read items d k =
+      again (ask_row row.NextMain (kept_code b true zero (suc d)
+      (number_is (n b zero) 1 (when (record_done items (suc (suc d)) (does (Br 1) Done))
+      (number_is (n b zero) 2 (when (pending_assigned y zero (does (Br 1) Done)) Done)))))) k
+
+  -- a part, left by `exit` or at its end; d labels out is the exit of `main`
+  abbrev pub part_done : Instructions → ℕ → Instructions → Instructions
+  part_done actions d k =
+      block
+      (block actions
+      (does (GlobalGet way_global) (does (Test I32 Eqz) (does (BrIf (suc d))
+      (does (GlobalGet way_global) (does (I32Const way_next) (does (Comparing I32 Eq)
+      (when (does (I32Const (fault_number NextOutside)) (ask_row row.Fail (does (Br (suc (suc d))) Done)))
+      (goes_on Done)))))))))
+      k
+
+  abbrev pub first_part : Program → Instructions
+  first_part p = steps_emitted p.begin zero zero zero zero (if p.reads then records_read p.items zero (does (Br 1) Done) else does (Br 1) Done)
+
+  abbrev pub last_part : Program → Instructions
+  last_part p = steps_emitted p.end zero zero zero zero (does (Br 1) Done)
+
+  abbrev pub before_parts : Program → Instructions → Instructions
+  before_parts p k =
+      started (names_declared (length p.texts) y.names (routines_declared (length p.texts + length p.globals) (length p.routines)
+      (names_made zero y.names (asked y row.StartAssign zero zero k))))
+
+  -- the outer block is the exit of `main`, whose answer is the status
+  abbrev pub main_body : Program → Instructions
+  main_body p =
+      all_emptied (block (before_parts p (part_done (first_part p) zero (ask_row row.BeginEnd (part_done (last_part p) zero Done))))
+      (swept (does (GlobalGet status_global) (does (Convert I32WrapI64) Done))))

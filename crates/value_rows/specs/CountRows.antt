@@ -1,0 +1,85 @@
+-- What runs take: `n` is unboxed, and no import is called where it counts.
+use Rattle.std.specs.Prelude.{◌≡◌, ℕ, Bool, true, false, [], ◌∷◌, codes, Some, pos, refl}
+use Rattle.std.specs.Fmt.{digits}
+use Rattle.awk_values.specs.declared.comparison.CompareOp.TheVariants.{Less}
+use Rattle.awk_values.specs.declared.fault.Fault.TheVariants.{TextLimit}
+use Rattle.world_core.specs.WorldState.{Standard, absent, puts}
+use Rattle.world_core.specs.declared.world.Ending.TheVariants as outside
+use Rattle.awk_state.specs.declared.constants.Destination.TheVariants as to
+use Rattle.awk_state.specs.declared.table.Listed.TheVariants.{Print}
+use Rattle.mid_code.specs.ScriptRun.{Setting, Ended, FaultedBy, setting_of}
+use Rattle.mid_code.specs.declared.mid.Arithmetic.TheVariants.{Plus}
+use Rattle.mid_code.specs.declared.mid.Operation.TheVariants.{Inline}
+use Rattle.mid_code.specs.Mid.{Kind, Boxed, Unboxed, Global, Code, Do, Over, Compare, Number, Get, Set, End, At, Step, Eval, Block, Loop, Steps, NoStep, Then, Program}
+use Rattle.value_machine.specs.Emission.{emitted, all_emitted}
+use Rattle.value_machine.specs.Statements.{step_emitted, steps_emitted}
+use Rattle.value_machine.specs.Machine.{Conf, go, ending_at, at, zeros}
+use Rattle.value_machine.specs.Runs.{code_of, begun, host_at_start, first_globals, value_run}
+use Rattle.value_machine.specs.Functions.{main_callee}
+use Rattle.value_rows.specs.Counting.{imports_within, steps_within, next_boundary, imports_at}
+
+abbrev pub plain_setting : Setting
+plain_setting = setting_of (record { operands = []; assigns = []; environment = [] }) (record { rest = []; ending = outside.End }) (λ target. absent)
+
+abbrev n_of : Bool → Code
+n_of u = Get (Global u 0)
+
+abbrev n_plus_one : Bool → Step
+n_plus_one u = Eval (Set (Global u 0) (Do (Inline Plus) (At (n_of u) (At (Number (pos 1)) End))))
+
+abbrev printed : Bool → Step
+printed u = Eval (Over (Print to.Standard) (At (n_of u) End))
+
+abbrev kind_for : Bool → Kind
+kind_for true = Unboxed
+kind_for false = Boxed
+
+abbrev with_begin : Bool → Steps → Program
+with_begin u ss = record { texts = []; globals = (record { name = codes "n"; kind = kind_for u }) ∷ []; routines = []; ranges = 1; begin = ss; reads = false; items = NoStep; end = NoStep }
+
+-- BEGIN { while (n < k) n = n + 1; print n }
+abbrev counting : Bool → ℕ → Program
+counting u k = with_begin u (Then (Loop true (Compare Less (n_of u) (Number (pos k))) (n_plus_one u) (Block NoStep)) (Then (printed u) NoStep))
+
+-- BEGIN { n = n + 1; print n }
+abbrev one_count : Program
+one_count = with_begin true (Then (n_plus_one true) (Then (printed true) NoStep))
+
+abbrev imports_of : Program → ℕ
+imports_of p = imports_within (code_of p 9999) 4000 (begun p plain_setting)
+
+abbrev steps_of : Program → ℕ
+steps_of p = steps_within (code_of p 9999) 4000 (begun p plain_setting)
+
+pub counted_to_ten : value_run (counting true 10) plain_setting 2000 ≡ Some (Ended 0 (puts Standard (codes "10\n")))
+unfolding emitted all_emitted step_emitted steps_emitted digits
+counted_to_ten = refl
+
+-- as many imports for 10 rounds as for 20
+pub imports_of_counting : imports_of (counting true 20) ≡ imports_of (counting true 10)
+unfolding emitted all_emitted step_emitted steps_emitted digits
+imports_of_counting = refl
+
+-- from the boundary of `n = n + 1` to that of the next statement no import is called
+pub no_import_between : imports_at (code_of one_count 9999) 200 (next_boundary (code_of one_count 9999) 200 (begun one_count plain_setting)) ≡ 0
+unfolding emitted all_emitted step_emitted steps_emitted digits
+no_import_between = refl
+
+-- where a fault is kept from the start the module ends with it, and has put nothing out
+abbrev faulted_at_start : Program → Conf
+faulted_at_start p =
+    let f = main_callee p in
+    at [] [] [] (zeros f.locals) [] f.body (record { globals = first_globals p; host = record (host_at_start plain_setting) { fault = Some TextLimit } })
+
+pub kept_from_the_start : ending_at (go (code_of (counting false 3) 9999) 1000 (faulted_at_start (counting false 3))) ≡ Some (FaultedBy TextLimit [])
+unfolding emitted all_emitted step_emitted steps_emitted digits
+kept_from_the_start = refl
+
+-- 64 steps a round and no import; boxed, 52 steps and 7 imports
+pub unboxed_rounds : (steps_of (counting true 10) ≡ 743) × ((steps_of (counting true 20) ≡ 1383) × (imports_of (counting true 10) ≡ 7))
+unfolding emitted all_emitted step_emitted steps_emitted digits
+unboxed_rounds = (refl, (refl, refl))
+
+pub boxed_rounds : (steps_of (counting false 10) ≡ 605) × ((steps_of (counting false 20) ≡ 1125) × ((imports_of (counting false 10) ≡ 81) × (imports_of (counting false 20) ≡ 151)))
+unfolding emitted all_emitted step_emitted steps_emitted digits
+boxed_rounds = (refl, (refl, (refl, refl)))
