@@ -10,10 +10,11 @@ use Rattle.world_core.specs.WorldState.{Standard, Named, Outside, Source, absent
 use Rattle.world_core.specs.declared.world.Ending.{Ending}
 use Rattle.world_core.specs.declared.world.Ending.TheVariants.{End}
 use Rattle.awk_state.specs.Jobs.{JobForm}
-use Rattle.mid_code.specs.Kinds.{resolved, uses, all_uses, given, stmt_uses, stmts_uses}
+use Rattle.awk_resolve.specs.Kinds.{special_arrays, special_scalars}
+use Rattle.mid_code.specs.Kinds.{resolved}
 use Rattle.mid_code.specs.ScriptRun.{setting_of}
 use Rattle.mid_code.specs.Texts.{texts_in, all_texts, stmt_texts, stmts_texts}
-use Rattle.mid_code.specs.Translation.{code_of, codes_of, key_code, at_place, argument_codes, truncated_code, applied_code, step_code, steps_code, program_of}
+use Rattle.mid_code.specs.Translation.{code_of, codes_of, key_code, kept_code, argument_codes, truncated_code, applied_code, step_code, steps_code, program_of}
 use Rattle.mid_code.specs.Scripts as scripts
 use Rattle.mid_code.specs.ScriptState.{spend_all}
 use Rattle.mid_code.specs.Meaning.{asked}
@@ -45,35 +46,35 @@ without_opening name outside = replaced (Named name) (record { bytes = Some []; 
 
 -- BEGIN { print n; n++; print n }
 pub assigned_before : AgreesEarly (program_of (resolved scripts.assigned_before)) (setting_of (record { operands = []; assigns = (((codes "n"), (codes "007")) ∷ []); environment = [] }) no_input empty)
-unfolding uses all_uses given stmt_uses stmts_uses emitted all_emitted step_emitted steps_emitted texts_in all_texts stmt_texts stmts_texts code_of codes_of key_code at_place argument_codes truncated_code applied_code step_code steps_code numeral_at sign_at fraction_at exponent_at numerator denominator digits unescaped escaped octal keywords builtins left_out_words table sign_of spend_all asked loop over_keys first_assigned records_done evaluated all_evaluated stepped all_stepped mid_called
+unfolding special_arrays special_scalars emitted all_emitted step_emitted steps_emitted texts_in all_texts stmt_texts stmts_texts code_of codes_of key_code kept_code argument_codes truncated_code applied_code step_code steps_code numeral_at sign_at fraction_at exponent_at numerator denominator digits unescaped escaped octal keywords builtins left_out_words table sign_of spend_all asked loop over_keys first_assigned records_done evaluated all_evaluated stepped all_stepped mid_called
 assigned_before = (refl, (refl, refl))
 
 -- function f(x) { if (x == "b") next; return x } { print "<" f($1) ">" }
 pub next_in_function : AgreesEarly (program_of (resolved scripts.next_in_function)) (setting_of no_job (record { rest = (codes "a\nb\nc\n"); ending = End }) empty)
-unfolding uses all_uses given stmt_uses stmts_uses emitted all_emitted step_emitted steps_emitted texts_in all_texts stmt_texts stmts_texts code_of codes_of key_code at_place argument_codes truncated_code applied_code step_code steps_code numeral_at sign_at fraction_at exponent_at numerator denominator digits unescaped escaped octal keywords builtins left_out_words table sign_of spend_all asked loop over_keys first_assigned records_done evaluated all_evaluated stepped all_stepped mid_called
+unfolding special_arrays special_scalars emitted all_emitted step_emitted steps_emitted texts_in all_texts stmt_texts stmts_texts code_of codes_of key_code kept_code argument_codes truncated_code applied_code step_code steps_code numeral_at sign_at fraction_at exponent_at numerator denominator digits unescaped escaped octal keywords builtins left_out_words table sign_of spend_all asked loop over_keys first_assigned records_done evaluated all_evaluated stepped all_stepped mid_called
 next_in_function = (refl, (refl, refl))
 
 -- function r(n) { return n ? r(n-1) : 7 } BEGIN { print r(3) }
 pub calls_nested : AgreesEarly (program_of (resolved scripts.calls_nested)) (record { job = no_job; input = no_input; outside = empty; deepest = 4 })
-unfolding uses all_uses given stmt_uses stmts_uses emitted all_emitted step_emitted steps_emitted texts_in all_texts stmt_texts stmts_texts code_of codes_of key_code at_place argument_codes truncated_code applied_code step_code steps_code numeral_at sign_at fraction_at exponent_at numerator denominator digits unescaped escaped octal keywords builtins left_out_words table sign_of spend_all asked loop over_keys first_assigned records_done evaluated all_evaluated stepped all_stepped mid_called
+unfolding special_arrays special_scalars emitted all_emitted step_emitted steps_emitted texts_in all_texts stmt_texts stmts_texts code_of codes_of key_code kept_code argument_codes truncated_code applied_code step_code steps_code numeral_at sign_at fraction_at exponent_at numerator denominator digits unescaped escaped octal keywords builtins left_out_words table sign_of spend_all asked loop over_keys first_assigned records_done evaluated all_evaluated stepped all_stepped mid_called
 calls_nested = (refl, (refl, refl))
 
 -- BEGIN { a["x"]; a["y"]; a["z"]; delete a["x"]; a["x"] = 1; for (k in a) { printf "%s ", k; delete a["x"] }; print ("x" in a) }
 pub keys_visited : AgreesEarly (program_of (resolved scripts.keys_visited)) (setting_of no_job no_input empty)
-unfolding uses all_uses given stmt_uses stmts_uses emitted all_emitted step_emitted steps_emitted texts_in all_texts stmt_texts stmts_texts code_of codes_of key_code at_place argument_codes truncated_code applied_code step_code steps_code numeral_at sign_at fraction_at exponent_at numerator denominator digits unescaped escaped octal keywords builtins left_out_words table sign_of spend_all asked loop over_keys first_assigned records_done evaluated all_evaluated stepped all_stepped mid_called
+unfolding special_arrays special_scalars emitted all_emitted step_emitted steps_emitted texts_in all_texts stmt_texts stmts_texts code_of codes_of key_code kept_code argument_codes truncated_code applied_code step_code steps_code numeral_at sign_at fraction_at exponent_at numerator denominator digits unescaped escaped octal keywords builtins left_out_words table sign_of spend_all asked loop over_keys first_assigned records_done evaluated all_evaluated stepped all_stepped mid_called
 keys_visited = (refl, (refl, refl))
 
 -- { print v, FILENAME, FNR, NR }
 pub assignments_between_files : AgreesEarly (program_of (resolved scripts.assignments_between_files)) (setting_of (record { operands = ((codes "v=1") ∷ (codes "f") ∷ (codes "v=a b") ∷ (codes "g") ∷ (codes "h") ∷ []); assigns = []; environment = [] }) no_input (with_file (codes "g") (codes "q") End (with_file (codes "f") (codes "p\n") End empty)))
-unfolding uses all_uses given stmt_uses stmts_uses emitted all_emitted step_emitted steps_emitted texts_in all_texts stmt_texts stmts_texts code_of codes_of key_code at_place argument_codes truncated_code applied_code step_code steps_code numeral_at sign_at fraction_at exponent_at numerator denominator digits unescaped escaped octal keywords builtins left_out_words table sign_of spend_all asked loop over_keys first_assigned records_done evaluated all_evaluated stepped all_stepped mid_called
+unfolding special_arrays special_scalars emitted all_emitted step_emitted steps_emitted texts_in all_texts stmt_texts stmts_texts code_of codes_of key_code kept_code argument_codes truncated_code applied_code step_code steps_code numeral_at sign_at fraction_at exponent_at numerator denominator digits unescaped escaped octal keywords builtins left_out_words table sign_of spend_all asked loop over_keys first_assigned records_done evaluated all_evaluated stepped all_stepped mid_called
 assignments_between_files = (refl, (refl, refl))
 
 -- /b/, /c/; /b/, /b/ { print NR }
 pub ranges : AgreesEarly (program_of (resolved scripts.ranges)) (setting_of no_job (record { rest = (codes "a\nb\nc\nb\n"); ending = End }) empty)
-unfolding uses all_uses given stmt_uses stmts_uses emitted all_emitted step_emitted steps_emitted texts_in all_texts stmt_texts stmts_texts code_of codes_of key_code at_place argument_codes truncated_code applied_code step_code steps_code numeral_at sign_at fraction_at exponent_at numerator denominator digits unescaped escaped octal keywords builtins left_out_words table sign_of spend_all asked loop over_keys first_assigned records_done evaluated all_evaluated stepped all_stepped mid_called
+unfolding special_arrays special_scalars emitted all_emitted step_emitted steps_emitted texts_in all_texts stmt_texts stmts_texts code_of codes_of key_code kept_code argument_codes truncated_code applied_code step_code steps_code numeral_at sign_at fraction_at exponent_at numerator denominator digits unescaped escaped octal keywords builtins left_out_words table sign_of spend_all asked loop over_keys first_assigned records_done evaluated all_evaluated stepped all_stepped mid_called
 ranges = (refl, (refl, refl))
 
 -- BEGIN { do { i++; if (i == 2) continue; if (i == 4) break; print i } while (i < 9); for (j = 0; j < 3; j++) { if (j == 1) continue; print j } }
 pub do_and_continue : AgreesEarly (program_of (resolved scripts.do_and_continue)) (setting_of no_job no_input empty)
-unfolding uses all_uses given stmt_uses stmts_uses emitted all_emitted step_emitted steps_emitted texts_in all_texts stmt_texts stmts_texts code_of codes_of key_code at_place argument_codes truncated_code applied_code step_code steps_code numeral_at sign_at fraction_at exponent_at numerator denominator digits unescaped escaped octal keywords builtins left_out_words table sign_of spend_all asked loop over_keys first_assigned records_done evaluated all_evaluated stepped all_stepped mid_called
+unfolding special_arrays special_scalars emitted all_emitted step_emitted steps_emitted texts_in all_texts stmt_texts stmts_texts code_of codes_of key_code kept_code argument_codes truncated_code applied_code step_code steps_code numeral_at sign_at fraction_at exponent_at numerator denominator digits unescaped escaped octal keywords builtins left_out_words table sign_of spend_all asked loop over_keys first_assigned records_done evaluated all_evaluated stepped all_stepped mid_called
 do_and_continue = (refl, (refl, refl))

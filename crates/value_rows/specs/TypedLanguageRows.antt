@@ -10,9 +10,10 @@ use Rattle.world_core.specs.WorldState.{Standard, Named, Outside, Source, absent
 use Rattle.world_core.specs.declared.world.Ending.{Ending}
 use Rattle.world_core.specs.declared.world.Ending.TheVariants.{End}
 use Rattle.awk_state.specs.Jobs.{JobForm}
-use Rattle.mid_code.specs.Kinds.{resolved, uses, all_uses, given, stmt_uses, stmts_uses}
+use Rattle.awk_resolve.specs.Kinds.{special_arrays, special_scalars}
+use Rattle.mid_code.specs.Kinds.{resolved}
 use Rattle.mid_code.specs.Texts.{texts_in, all_texts, stmt_texts, stmts_texts}
-use Rattle.mid_code.specs.Translation.{code_of, codes_of, key_code, at_place, argument_codes, truncated_code, applied_code, step_code, steps_code, program_of}
+use Rattle.mid_code.specs.Translation.{code_of, codes_of, key_code, kept_code, argument_codes, truncated_code, applied_code, step_code, steps_code, program_of}
 use Rattle.language_rows.specs.Scripts as scripts
 use Rattle.value_rows.specs.Lanes.{unboxed}
 use Rattle.value_machine.specs.Modules.{module_of}
@@ -45,69 +46,69 @@ with_room name bytes room outside = replaced (Named name) (record { bytes = Some
 
 -- BEGIN { print (NR = "4") (NR += 1) NR++ NR }
 pub special_steps : is_typed (module_of (program_of (resolved scripts.special_steps))) ≡ true
-unfolding uses all_uses given stmt_uses stmts_uses emitted all_emitted step_emitted steps_emitted texts_in all_texts stmt_texts stmts_texts code_of codes_of key_code at_place argument_codes truncated_code applied_code step_code steps_code numeral_at sign_at fraction_at exponent_at numerator denominator digits unescaped escaped octal keywords builtins left_out_words table sign_of
+unfolding special_arrays special_scalars emitted all_emitted step_emitted steps_emitted texts_in all_texts stmt_texts stmts_texts code_of codes_of key_code kept_code argument_codes truncated_code applied_code step_code steps_code numeral_at sign_at fraction_at exponent_at numerator denominator digits unescaped escaped octal keywords builtins left_out_words table sign_of
 special_steps = refl
 
 -- BEGIN { while ((getline a[n++]) > 0) ; print n, a[0], (1 in a), (2 in a) }
 pub read_into_elements : is_typed (module_of (program_of (resolved scripts.read_into_elements))) ≡ true
-unfolding uses all_uses given stmt_uses stmts_uses emitted all_emitted step_emitted steps_emitted texts_in all_texts stmt_texts stmts_texts code_of codes_of key_code at_place argument_codes truncated_code applied_code step_code steps_code numeral_at sign_at fraction_at exponent_at numerator denominator digits unescaped escaped octal keywords builtins left_out_words table sign_of
+unfolding special_arrays special_scalars emitted all_emitted step_emitted steps_emitted texts_in all_texts stmt_texts stmts_texts code_of codes_of key_code kept_code argument_codes truncated_code applied_code step_code steps_code numeral_at sign_at fraction_at exponent_at numerator denominator digits unescaped escaped octal keywords builtins left_out_words table sign_of
 read_into_elements = refl
 
 pub read_into_elements_unboxed : is_typed (module_of (unboxed (false ∷ true ∷ []) ([]) (program_of (resolved scripts.read_into_elements)))) ≡ true
-unfolding uses all_uses given stmt_uses stmts_uses emitted all_emitted step_emitted steps_emitted texts_in all_texts stmt_texts stmts_texts code_of codes_of key_code at_place argument_codes truncated_code applied_code step_code steps_code numeral_at sign_at fraction_at exponent_at numerator denominator digits unescaped escaped octal keywords builtins left_out_words table sign_of
+unfolding special_arrays special_scalars emitted all_emitted step_emitted steps_emitted texts_in all_texts stmt_texts stmts_texts code_of codes_of key_code kept_code argument_codes truncated_code applied_code step_code steps_code numeral_at sign_at fraction_at exponent_at numerator denominator digits unescaped escaped octal keywords builtins left_out_words table sign_of
 read_into_elements_unboxed = refl
 
 -- BEGIN { while ((getline x) > 0) print x, v, NR; print v }
 pub assignments_among_reads : is_typed (module_of (program_of (resolved scripts.assignments_among_reads))) ≡ true
-unfolding uses all_uses given stmt_uses stmts_uses emitted all_emitted step_emitted steps_emitted texts_in all_texts stmt_texts stmts_texts code_of codes_of key_code at_place argument_codes truncated_code applied_code step_code steps_code numeral_at sign_at fraction_at exponent_at numerator denominator digits unescaped escaped octal keywords builtins left_out_words table sign_of
+unfolding special_arrays special_scalars emitted all_emitted step_emitted steps_emitted texts_in all_texts stmt_texts stmts_texts code_of codes_of key_code kept_code argument_codes truncated_code applied_code step_code steps_code numeral_at sign_at fraction_at exponent_at numerator denominator digits unescaped escaped octal keywords builtins left_out_words table sign_of
 assignments_among_reads = refl
 
 pub assignments_among_reads_unboxed : is_typed (module_of (unboxed (false ∷ true ∷ []) ([]) (program_of (resolved scripts.assignments_among_reads)))) ≡ true
-unfolding uses all_uses given stmt_uses stmts_uses emitted all_emitted step_emitted steps_emitted texts_in all_texts stmt_texts stmts_texts code_of codes_of key_code at_place argument_codes truncated_code applied_code step_code steps_code numeral_at sign_at fraction_at exponent_at numerator denominator digits unescaped escaped octal keywords builtins left_out_words table sign_of
+unfolding special_arrays special_scalars emitted all_emitted step_emitted steps_emitted texts_in all_texts stmt_texts stmts_texts code_of codes_of key_code kept_code argument_codes truncated_code applied_code step_code steps_code numeral_at sign_at fraction_at exponent_at numerator denominator digits unescaped escaped octal keywords builtins left_out_words table sign_of
 assignments_among_reads_unboxed = refl
 
 -- function f(v) { getline; return v } BEGIN { print f(4), v, $0 }
 pub assignment_in_a_call : is_typed (module_of (program_of (resolved scripts.assignment_in_a_call))) ≡ true
-unfolding uses all_uses given stmt_uses stmts_uses emitted all_emitted step_emitted steps_emitted texts_in all_texts stmt_texts stmts_texts code_of codes_of key_code at_place argument_codes truncated_code applied_code step_code steps_code numeral_at sign_at fraction_at exponent_at numerator denominator digits unescaped escaped octal keywords builtins left_out_words table sign_of
+unfolding special_arrays special_scalars emitted all_emitted step_emitted steps_emitted texts_in all_texts stmt_texts stmts_texts code_of codes_of key_code kept_code argument_codes truncated_code applied_code step_code steps_code numeral_at sign_at fraction_at exponent_at numerator denominator digits unescaped escaped octal keywords builtins left_out_words table sign_of
 assignment_in_a_call = refl
 
 pub assignment_in_a_call_unboxed : is_typed (module_of (unboxed (true ∷ []) ((true ∷ []) ∷ []) (program_of (resolved scripts.assignment_in_a_call)))) ≡ true
-unfolding uses all_uses given stmt_uses stmts_uses emitted all_emitted step_emitted steps_emitted texts_in all_texts stmt_texts stmts_texts code_of codes_of key_code at_place argument_codes truncated_code applied_code step_code steps_code numeral_at sign_at fraction_at exponent_at numerator denominator digits unescaped escaped octal keywords builtins left_out_words table sign_of
+unfolding special_arrays special_scalars emitted all_emitted step_emitted steps_emitted texts_in all_texts stmt_texts stmts_texts code_of codes_of key_code kept_code argument_codes truncated_code applied_code step_code steps_code numeral_at sign_at fraction_at exponent_at numerator denominator digits unescaped escaped octal keywords builtins left_out_words table sign_of
 assignment_in_a_call_unboxed = refl
 
 -- function g(q) { q[1] = 7 } function f(p) { g(p) } function h(u) { return 3 } BEGIN { f(t); print t[1], h(t), h(), h(w) }
 pub arrays_through_calls : is_typed (module_of (program_of (resolved scripts.arrays_through_calls))) ≡ true
-unfolding uses all_uses given stmt_uses stmts_uses emitted all_emitted step_emitted steps_emitted texts_in all_texts stmt_texts stmts_texts code_of codes_of key_code at_place argument_codes truncated_code applied_code step_code steps_code numeral_at sign_at fraction_at exponent_at numerator denominator digits unescaped escaped octal keywords builtins left_out_words table sign_of
+unfolding special_arrays special_scalars emitted all_emitted step_emitted steps_emitted texts_in all_texts stmt_texts stmts_texts code_of codes_of key_code kept_code argument_codes truncated_code applied_code step_code steps_code numeral_at sign_at fraction_at exponent_at numerator denominator digits unescaped escaped octal keywords builtins left_out_words table sign_of
 arrays_through_calls = refl
 
 -- function r(n, a) { a[n]; if (n) r(n - 1); for (k in a) c = c k } BEGIN { r(2); print c }
 pub fresh_array_handed_on : is_typed (module_of (program_of (resolved scripts.fresh_array_handed_on))) ≡ true
-unfolding uses all_uses given stmt_uses stmts_uses emitted all_emitted step_emitted steps_emitted texts_in all_texts stmt_texts stmts_texts code_of codes_of key_code at_place argument_codes truncated_code applied_code step_code steps_code numeral_at sign_at fraction_at exponent_at numerator denominator digits unescaped escaped octal keywords builtins left_out_words table sign_of
+unfolding special_arrays special_scalars emitted all_emitted step_emitted steps_emitted texts_in all_texts stmt_texts stmts_texts code_of codes_of key_code kept_code argument_codes truncated_code applied_code step_code steps_code numeral_at sign_at fraction_at exponent_at numerator denominator digits unescaped escaped octal keywords builtins left_out_words table sign_of
 fresh_array_handed_on = refl
 
 pub fresh_array_handed_on_unboxed : is_typed (module_of (unboxed ([]) ((true ∷ []) ∷ []) (program_of (resolved scripts.fresh_array_handed_on)))) ≡ true
-unfolding uses all_uses given stmt_uses stmts_uses emitted all_emitted step_emitted steps_emitted texts_in all_texts stmt_texts stmts_texts code_of codes_of key_code at_place argument_codes truncated_code applied_code step_code steps_code numeral_at sign_at fraction_at exponent_at numerator denominator digits unescaped escaped octal keywords builtins left_out_words table sign_of
+unfolding special_arrays special_scalars emitted all_emitted step_emitted steps_emitted texts_in all_texts stmt_texts stmts_texts code_of codes_of key_code kept_code argument_codes truncated_code applied_code step_code steps_code numeral_at sign_at fraction_at exponent_at numerator denominator digits unescaped escaped octal keywords builtins left_out_words table sign_of
 fresh_array_handed_on_unboxed = refl
 
 -- BEGIN { exit 5 } { print "no" } END { print NR; exit "3x" + 300 }
 pub exit_before_records : is_typed (module_of (program_of (resolved scripts.exit_before_records))) ≡ true
-unfolding uses all_uses given stmt_uses stmts_uses emitted all_emitted step_emitted steps_emitted texts_in all_texts stmt_texts stmts_texts code_of codes_of key_code at_place argument_codes truncated_code applied_code step_code steps_code numeral_at sign_at fraction_at exponent_at numerator denominator digits unescaped escaped octal keywords builtins left_out_words table sign_of
+unfolding special_arrays special_scalars emitted all_emitted step_emitted steps_emitted texts_in all_texts stmt_texts stmts_texts code_of codes_of key_code kept_code argument_codes truncated_code applied_code step_code steps_code numeral_at sign_at fraction_at exponent_at numerator denominator digits unescaped escaped octal keywords builtins left_out_words table sign_of
 exit_before_records = refl
 
 -- function f(x, y) { if (x < y) return x; y = x = x * 2; return y } BEGIN { print f(3, 5), f(7), f("10", 9), f() "." ; n = -n; n += !m; print n, n++ + ++n, n-- }
 pub numbers_in_names : is_typed (module_of (program_of (resolved scripts.numbers_in_names))) ≡ true
-unfolding uses all_uses given stmt_uses stmts_uses emitted all_emitted step_emitted steps_emitted texts_in all_texts stmt_texts stmts_texts code_of codes_of key_code at_place argument_codes truncated_code applied_code step_code steps_code numeral_at sign_at fraction_at exponent_at numerator denominator digits unescaped escaped octal keywords builtins left_out_words table sign_of
+unfolding special_arrays special_scalars emitted all_emitted step_emitted steps_emitted texts_in all_texts stmt_texts stmts_texts code_of codes_of key_code kept_code argument_codes truncated_code applied_code step_code steps_code numeral_at sign_at fraction_at exponent_at numerator denominator digits unescaped escaped octal keywords builtins left_out_words table sign_of
 numbers_in_names = refl
 
 pub numbers_in_names_unboxed : is_typed (module_of (unboxed (true ∷ true ∷ []) ((false ∷ true ∷ []) ∷ []) (program_of (resolved scripts.numbers_in_names)))) ≡ true
-unfolding uses all_uses given stmt_uses stmts_uses emitted all_emitted step_emitted steps_emitted texts_in all_texts stmt_texts stmts_texts code_of codes_of key_code at_place argument_codes truncated_code applied_code step_code steps_code numeral_at sign_at fraction_at exponent_at numerator denominator digits unescaped escaped octal keywords builtins left_out_words table sign_of
+unfolding special_arrays special_scalars emitted all_emitted step_emitted steps_emitted texts_in all_texts stmt_texts stmts_texts code_of codes_of key_code kept_code argument_codes truncated_code applied_code step_code steps_code numeral_at sign_at fraction_at exponent_at numerator denominator digits unescaped escaped octal keywords builtins left_out_words table sign_of
 numbers_in_names_unboxed = refl
 
 -- BEGIN { print n < 10, n < "10", n == 9; n = n + 1; print n < 10 }
 pub text_in_a_number : is_typed (module_of (program_of (resolved scripts.text_in_a_number))) ≡ true
-unfolding uses all_uses given stmt_uses stmts_uses emitted all_emitted step_emitted steps_emitted texts_in all_texts stmt_texts stmts_texts code_of codes_of key_code at_place argument_codes truncated_code applied_code step_code steps_code numeral_at sign_at fraction_at exponent_at numerator denominator digits unescaped escaped octal keywords builtins left_out_words table sign_of
+unfolding special_arrays special_scalars emitted all_emitted step_emitted steps_emitted texts_in all_texts stmt_texts stmts_texts code_of codes_of key_code kept_code argument_codes truncated_code applied_code step_code steps_code numeral_at sign_at fraction_at exponent_at numerator denominator digits unescaped escaped octal keywords builtins left_out_words table sign_of
 text_in_a_number = refl
 
 pub text_in_a_number_unboxed : is_typed (module_of (unboxed (true ∷ []) ([]) (program_of (resolved scripts.text_in_a_number)))) ≡ true
-unfolding uses all_uses given stmt_uses stmts_uses emitted all_emitted step_emitted steps_emitted texts_in all_texts stmt_texts stmts_texts code_of codes_of key_code at_place argument_codes truncated_code applied_code step_code steps_code numeral_at sign_at fraction_at exponent_at numerator denominator digits unescaped escaped octal keywords builtins left_out_words table sign_of
+unfolding special_arrays special_scalars emitted all_emitted step_emitted steps_emitted texts_in all_texts stmt_texts stmts_texts code_of codes_of key_code kept_code argument_codes truncated_code applied_code step_code steps_code numeral_at sign_at fraction_at exponent_at numerator denominator digits unescaped escaped octal keywords builtins left_out_words table sign_of
 text_in_a_number_unboxed = refl
