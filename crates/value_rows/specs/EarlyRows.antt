@@ -44,11 +44,6 @@ with_file name bytes ending outside = replaced (Named name) (record { bytes = So
 abbrev without_opening : List ℕ → Outside → Outside
 without_opening name outside = replaced (Named name) (record { bytes = Some []; ending = End; room = None; opens = false }) outside
 
--- BEGIN { print n; n++; print n }
-pub assigned_before : AgreesEarly (program_of (resolved scripts.assigned_before)) (setting_of (record { operands = []; assigns = (((codes "n"), (codes "007")) ∷ []); environment = [] }) no_input empty)
-unfolding special_arrays special_scalars emitted all_emitted step_emitted steps_emitted texts_in all_texts stmt_texts stmts_texts code_of codes_of key_code kept_code argument_codes truncated_code applied_code step_code steps_code numeral_at sign_at fraction_at exponent_at numerator denominator digits unescaped escaped octal keywords builtins left_out_words table sign_of spend_all asked loop over_keys first_assigned records_done evaluated all_evaluated stepped all_stepped mid_called
-assigned_before = (refl, (refl, refl))
-
 -- function f(x) { if (x == "b") next; return x } { print "<" f($1) ">" }
 pub next_in_function : AgreesEarly (program_of (resolved scripts.next_in_function)) (setting_of no_job (record { rest = (codes "a\nb\nc\n"); ending = End }) empty)
 unfolding special_arrays special_scalars emitted all_emitted step_emitted steps_emitted texts_in all_texts stmt_texts stmts_texts code_of codes_of key_code kept_code argument_codes truncated_code applied_code step_code steps_code numeral_at sign_at fraction_at exponent_at numerator denominator digits unescaped escaped octal keywords builtins left_out_words table sign_of spend_all asked loop over_keys first_assigned records_done evaluated all_evaluated stepped all_stepped mid_called
@@ -63,11 +58,6 @@ calls_nested = (refl, (refl, refl))
 pub keys_visited : AgreesEarly (program_of (resolved scripts.keys_visited)) (setting_of no_job no_input empty)
 unfolding special_arrays special_scalars emitted all_emitted step_emitted steps_emitted texts_in all_texts stmt_texts stmts_texts code_of codes_of key_code kept_code argument_codes truncated_code applied_code step_code steps_code numeral_at sign_at fraction_at exponent_at numerator denominator digits unescaped escaped octal keywords builtins left_out_words table sign_of spend_all asked loop over_keys first_assigned records_done evaluated all_evaluated stepped all_stepped mid_called
 keys_visited = (refl, (refl, refl))
-
--- { print v, FILENAME, FNR, NR }
-pub assignments_between_files : AgreesEarly (program_of (resolved scripts.assignments_between_files)) (setting_of (record { operands = ((codes "v=1") ∷ (codes "f") ∷ (codes "v=a b") ∷ (codes "g") ∷ (codes "h") ∷ []); assigns = []; environment = [] }) no_input (with_file (codes "g") (codes "q") End (with_file (codes "f") (codes "p\n") End empty)))
-unfolding special_arrays special_scalars emitted all_emitted step_emitted steps_emitted texts_in all_texts stmt_texts stmts_texts code_of codes_of key_code kept_code argument_codes truncated_code applied_code step_code steps_code numeral_at sign_at fraction_at exponent_at numerator denominator digits unescaped escaped octal keywords builtins left_out_words table sign_of spend_all asked loop over_keys first_assigned records_done evaluated all_evaluated stepped all_stepped mid_called
-assignments_between_files = (refl, (refl, refl))
 
 -- /b/, /c/; /b/, /b/ { print NR }
 pub ranges : AgreesEarly (program_of (resolved scripts.ranges)) (setting_of no_job (record { rest = (codes "a\nb\nc\nb\n"); ending = End }) empty)
