@@ -1,47 +1,50 @@
 //! Files over a world in memory.
-ghost use Rattle.host_streams.specs.OpenFiles.{HoldsOpen, WritersGo};
-ghost use Rattle.world_core.specs.Memory.{open_for, state_of};
-
 use awk_values::Stop;
 use host_streams::{FileNext, Streams, Target};
 use std::alloc::{AllocError, Global};
-use world_core::{Ending, MemFile, MemWorld};
+use std::marker::Model;
+use world_core::{Ending, MemFile, MemWorld, World};
 
-/// Files that are open in a world in memory.
+/// A world, and the files that are open in it.
 #[derive(Drop)]
-pub(crate) struct Files {
-    world: MemWorld,
+pub(crate) struct Files<W: World> {
+    world: W,
     streams: Streams,
-    ghost held: { HoldsOpen streams (open_for world) },
-    ghost goes: { WritersGo streams.writers.items (state_of world) },
+}
+
+impl<W: World> Model for Files<W> {
+    ghost use Rattle.std.specs.Prelude.{⊤};
+    ghost use Rattle.stream_checks.specs.Open.{FilesAreOpen};
+
+    ghost Value = { ⊤ };
+
+    ghost view = { λ f. tt };
+
+    ghost invariant = { λ f. FilesAreOpen W.tells W.state W.kinds f.world f.streams };
 }
 
 /// A file as a word says: `file`, `failing`, `room` or `shut`.
-pub(crate) fn file_of(
-    alloc: Global,
-    kind: &str,
-    bytes: &[u8],
-) -> Result<MemFile, AllocError> {
+pub(crate) fn file_of(alloc: Global, kind: &str, bytes: &[u8]) -> Result<MemFile, AllocError> {
     let mut file = MemFile::holding(Vec::from_slice(alloc, bytes)?);
     match kind {
         "failing" => file.ending = Ending::Fails,
-        "room" => file = MemFile { room: Some(bytes.len()), ..MemFile::absent() },
+        "room" => file = MemFile {
+            room: Some(bytes.len()),
+            ..MemFile::absent()
+        },
         "shut" => file.opens = false,
         _ => {}
     }
     Ok(file)
 }
 
-impl Files {
-    pub(crate) fn new(alloc: Global) -> Files {
+impl<W: World> Files<W> {
+    /// No file is open.
+    pub(crate) fn new(alloc: Global, world: W) -> Files<W> {
         Files {
-            world: MemWorld::new(alloc, MemFile::absent(), MemFile::absent()),
+            world,
             streams: Streams::new(alloc),
         }
-    }
-
-    pub(crate) fn add(&mut self, alloc: Global, kind: &str, name: &[u8], bytes: &[u8]) -> Result<(), AllocError> {
-        self.world.add(name, file_of(alloc, kind, bytes)?)
     }
 
     pub(crate) fn next(&mut self, name: &[u8], rs: &[u8]) -> Result<FileNext, Stop> {
@@ -56,11 +59,30 @@ impl Files {
         self.streams.close(&mut self.world, name)
     }
 
-    pub(crate) fn bytes(&self, name: &[u8]) -> &[u8] {
-        self.world.bytes(name).unwrap_or(&[])
+    /// How many calls of the world have failed.
+    pub(crate) fn failures(&self) -> u64 {
+        self.world.failures()
     }
 
-    pub(crate) fn output(&self) -> &[u8] {
-        self.world.output()
+    pub(crate) fn into_world(self) -> W {
+        self.world
     }
+}
+
+/// Puts a file under a name. What is read of the name keeps what it held when it was opened.
+pub(crate) fn add(
+    files: &mut Files<MemWorld>,
+    name: &[u8],
+    file: MemFile,
+) -> Result<(), AllocError> {
+    files.world.add(name, file)?;
+    Ok(())
+}
+
+pub(crate) fn bytes<'a>(files: &'a Files<MemWorld>, name: &[u8]) -> &'a [u8] {
+    files.world.bytes(name).unwrap_or(&[])
+}
+
+pub(crate) fn output(files: &Files<MemWorld>) -> &[u8] {
+    files.world.output()
 }

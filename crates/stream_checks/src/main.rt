@@ -1,21 +1,29 @@
 //! Runs calls on files that a script reads and writes, over worlds in memory. A line of standard input is a call and its words, parted by spaces; in a
-//! word a byte 1 stands for a newline, and `_` alone is an empty word:
+//! word a byte 1 stands for a newline, and `_` alone is an empty word. Files and the main input have a world each:
 //!
-//! - `file NAME BYTES`, `failing NAME BYTES`: a name holds bytes, and then the end or a failing read follows; `room NAME N`: it is empty, and has room for
-//!   N bytes; `shut NAME`: it does not open;
+//! - `fresh INPUT ROOM`: new worlds, with nothing open; the standard input of the main input holds INPUT, and the standard output has room for as many
+//!   bytes as ROOM has, and no limit if ROOM is empty; `broken INPUT`: the same, but a failing read follows INPUT;
+//! - `file NAME BYTES`, `failing NAME BYTES`: a name holds bytes, and then the end or a failing read follows; `room NAME TEXT`: it is empty, and has room
+//!   for as many bytes as TEXT has; `shut NAME`: it does not open;
 //! - `next NAME RS`, `put NAME TEXT`, `append NAME TEXT`, `print TEXT`, `close NAME`, `show NAME`, `output`: calls on files;
-//! - `operand TEXT`: one operand more; `main RS`: what the main input gives; `many N`: puts a byte to so many new files.
+//! - `operand TEXT`: one operand more; `main RS`: what the main input gives;
+//! - `fault K`: five calls in a world of which call K fails; `long N`: a record of N bytes, and how many calls of the world it takes.
 #![tactic(auto)]
 
+mod faults;
 mod files;
 mod mains;
+mod told;
 
-use awk_values::{Bytes, Stop};
-use files::Files;
-use host_streams::{FileNext, MainNext, Target};
+use awk_values::Bytes;
+use faults::{long, steps};
+use files::{Files, add, bytes, file_of, output};
+use host_streams::Target;
 use mains::Mains;
 use std::alloc::{AllocError, Global};
 use std::io;
+use told::{said, told_main, told_next, told_put};
+use world_core::{MemFile, MemWorld};
 
 /// The bytes that a word stands for.
 fn bytes_of(alloc: Global, word: Option<&str>) -> Result<Vec<u8>, AllocError> {
@@ -30,97 +38,112 @@ fn bytes_of(alloc: Global, word: Option<&str>) -> Result<Vec<u8>, AllocError> {
     Ok(bytes)
 }
 
-/// What is said of a call that is refused.
-fn refusal(stop: &Stop) -> &'static str {
-    match stop {
-        Stop::Fault(fault) => fault.name(),
-        Stop::NoMemory => "NoMemory",
+/// The worlds that calls are on.
+#[derive(Drop)]
+struct Worlds {
+    files: Files<MemWorld>,
+    mains: Mains,
+}
+
+/// A standard output that has room for as many bytes as a word has; no limit if it is empty.
+fn output_of(word: &[u8]) -> MemFile {
+    let room = if word.is_empty() {
+        None
+    } else {
+        Some(word.len())
+    };
+    MemFile {
+        room,
+        ..MemFile::absent()
     }
 }
 
-fn said(alloc: Global, word: &str, text: &[u8]) -> Result<Vec<u8>, AllocError> {
-    let mut out = Vec::new(alloc);
-    out.extend_from_slice(word.as_bytes())?;
-    out.push(b' ')?;
-    out.extend_from_slice(text)?;
-    Ok(out)
+/// New worlds, in which nothing is open.
+fn fresh(alloc: Global, kind: &str, input: &[u8], room: &[u8]) -> Result<Worlds, AllocError> {
+    let world = MemWorld::new(alloc, MemFile::absent(), output_of(room));
+    Ok(Worlds {
+        files: Files::new(alloc, world),
+        mains: Mains::new(alloc, file_of(alloc, kind, input)?),
+    })
 }
 
-/// What is said of a record of a file.
-fn said_next(alloc: Global, answer: Result<FileNext, Stop>) -> Result<Vec<u8>, AllocError> {
-    match answer {
-        Ok(FileNext::Record(text)) => said(alloc, "record", text.as_slice()),
-        Ok(FileNext::End) => said(alloc, "end", b""),
-        Ok(FileNext::Failed) => said(alloc, "failed", b""),
-        Err(stop) => said(alloc, refusal(&stop), b""),
-    }
-}
-
-/// What is said of the main input.
-fn said_main(alloc: Global, answer: Result<MainNext, Stop>) -> Result<Vec<u8>, AllocError> {
-    match answer {
-        Ok(MainNext::Record(text)) => said(alloc, "record", text.as_slice()),
-        Ok(MainNext::Assign(name, text)) => {
-            let mut out = said(alloc, "assign", name.as_slice())?;
-            out.push(b'=')?;
-            out.extend_from_slice(text.as_slice())?;
-            Ok(out)
-        }
-        Ok(MainNext::Opened(name)) => said(alloc, "opened", name.as_slice()),
-        Ok(MainNext::End) => said(alloc, "end", b""),
-        Err(stop) => said(alloc, refusal(&stop), b""),
-    }
-}
-
-fn said_put(alloc: Global, answer: Result<(), Stop>) -> Result<Vec<u8>, AllocError> {
-    match answer {
-        Ok(()) => said(alloc, "put", b""),
-        Err(stop) => said(alloc, refusal(&stop), b""),
-    }
-}
-
-/// What a line's call answers; nothing where there is nothing to be said.
-fn answer(
+/// Puts a file under a name, in both worlds.
+fn put_file(
     alloc: Global,
-    files: &mut Files,
-    mains: &mut Mains,
-    line: &str,
+    worlds: &mut Worlds,
+    kind: &str,
+    name: &[u8],
+    bytes: &[u8],
+) -> Result<(), AllocError> {
+    add(&mut worlds.files, name, file_of(alloc, kind, bytes)?)?;
+    worlds.mains.add(name, file_of(alloc, kind, bytes)?)
+}
+
+/// What a call on files answers.
+fn on_files(
+    alloc: Global,
+    files: &mut Files<MemWorld>,
+    task: &str,
+    first: &[u8],
+    second: &[u8],
 ) -> Result<Vec<u8>, AllocError> {
+    match task {
+        "next" => told_next(alloc, files.next(first, second)),
+        "put" => told_put(alloc, files.put(Target::Emptied(first), second)),
+        "append" => told_put(alloc, files.put(Target::Appended(first), second)),
+        "print" => told_put(alloc, files.put(Target::Standard, first)),
+        "close" if files.close(first) => said(alloc, "closed", b""),
+        "close" => said(alloc, "none", b""),
+        "show" => said(alloc, "holds", bytes(files, first)),
+        "output" => said(alloc, "output", output(files)),
+        _ => said(alloc, "no such call", b""),
+    }
+}
+
+/// What a line's call answers, if it answers something.
+fn answer(alloc: Global, worlds: &mut Worlds, line: &str) -> Result<Option<Vec<u8>>, AllocError> {
     let mut words = line.split(' ');
     let task = words.next().unwrap_or("");
-    let first = bytes_of(alloc, words.next())?;
-    let second = bytes_of(alloc, words.next())?;
-    match task {
-        "next" => said_next(alloc, files.next(first.as_slice(), second.as_slice())),
-        "put" => said_put(alloc, files.put(Target::Emptied(first.as_slice()), second.as_slice())),
-        "append" => said_put(alloc, files.put(Target::Appended(first.as_slice()), second.as_slice())),
-        "print" => said_put(alloc, files.put(Target::Standard, first.as_slice())),
-        "close" => said(alloc, if files.close(first.as_slice()) { "closed" } else { "none" }, b""),
-        "show" => said(alloc, "holds", files.bytes(first.as_slice())),
-        "output" => said(alloc, "output", files.output()),
-        "main" => said_main(alloc, mains.next(first.as_slice())),
+    let word = words.next();
+    let held = bytes_of(alloc, word)?;
+    let rest = bytes_of(alloc, words.next())?;
+    let first = held.as_slice();
+    let second = rest.as_slice();
+    let told = match task {
+        "fresh" => {
+            *worlds = fresh(alloc, "file", first, second)?;
+            return Ok(None);
+        }
+        "broken" => {
+            *worlds = fresh(alloc, "failing", first, second)?;
+            return Ok(None);
+        }
+        "file" | "failing" | "room" | "shut" => {
+            put_file(alloc, worlds, task, first, second)?;
+            return Ok(None);
+        }
         "operand" => {
-            mains.operand(Bytes::from_slice(alloc, first.as_slice())?)?;
-            said(alloc, "", b"")
+            worlds.mains.operand(Bytes::from_slice(alloc, first)?)?;
+            return Ok(None);
         }
-        _ => {
-            files.add(alloc, task, first.as_slice(), second.as_slice())?;
-            mains.add(alloc, task, first.as_slice(), second.as_slice())?;
-            said(alloc, "", b"")
-        }
-    }
+        "main" => told_main(alloc, worlds.mains.next(first))?,
+        "fault" => steps(alloc, word.unwrap_or("").parse::<u64>().unwrap_or(0))?,
+        "long" => long(alloc, word.unwrap_or("").parse::<usize>().unwrap_or(0))?,
+        _ => on_files(alloc, &mut worlds.files, task, first, second)?,
+    };
+    Ok(Some(told))
 }
 
 fn main(rt: HostRuntime) -> io::Result<()> {
-    let mut files = Files::new(rt.alloc());
-    let mut mains = Mains::new(rt.alloc());
+    let mut worlds = fresh(rt.alloc(), "file", b"", b"")?;
     for line in rt.lines(rt.alloc()) {
         let line = line?;
-        let answer = answer(rt.alloc(), &mut files, &mut mains, line.as_str())?;
-        for byte in &answer {
-            print!(rt; "{}", *byte as char)?;
+        if let Some(told) = answer(rt.alloc(), &mut worlds, line.as_str())? {
+            for byte in &told {
+                print!(rt; "{}", *byte as char)?;
+            }
+            println!(rt; "")?;
         }
-        println!(rt; "")?;
     }
     Ok(())
 }

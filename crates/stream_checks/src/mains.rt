@@ -1,15 +1,11 @@
 //! A main input over a world in memory.
-ghost use Rattle.host_streams.specs.Mains.{HoldsMain};
-ghost use Rattle.world_core.specs.Memory.{open_for};
-ghost use Rattle.std.specs.Prelude.{◌≡◌, IfOk, ℕ, List, [], get_or};
-
-use crate::files::file_of;
 use awk_values::{Bytes, Stop, Value};
 use host_streams::{MainInput, MainNext, Operands};
 use std::alloc::{AllocError, Global};
+use std::marker::Model;
 use world_core::{MemFile, MemWorld};
 
-/// The operands, behind the name of awk.
+/// The operands, after the name of awk.
 #[derive(Drop)]
 struct Words {
     words: Vec<Bytes>,
@@ -35,28 +31,47 @@ pub(crate) struct Mains {
     world: MemWorld,
     main: MainInput,
     operands: Words,
-    ghost held: { HoldsMain main (open_for world) },
+}
+
+impl Model for Mains {
+    ghost use Rattle.std.specs.Prelude.{⊤};
+    ghost use Rattle.host_streams.specs.Mains.{HoldsMain};
+    ghost use Rattle.world_core.specs.Memory.{open_for};
+
+    ghost Value = { ⊤ };
+
+    ghost view = { λ m. tt };
+
+    ghost invariant = { λ m. HoldsMain m.main (open_for m.world) };
 }
 
 impl Mains {
-    pub(crate) fn new(alloc: Global) -> Mains {
+    /// The main input of a run without operands.
+    pub(crate) fn new(alloc: Global, input: MemFile) -> Mains {
         Mains {
-            world: MemWorld::new(alloc, MemFile::absent(), MemFile::absent()),
+            world: MemWorld::new(alloc, input, MemFile::absent()),
             main: MainInput::new(alloc),
-            operands: Words { words: Vec::new(alloc), alloc },
+            operands: Words {
+                words: Vec::new(alloc),
+                alloc,
+            },
         }
     }
 
-    pub(crate) fn add(&mut self, alloc: Global, kind: &str, name: &[u8], bytes: &[u8]) -> Result<(), AllocError> {
-        self.world.add(name, file_of(alloc, kind, bytes)?)
+    /// Puts a file under a name.
+    pub(crate) fn add(&mut self, name: &[u8], file: MemFile) -> Result<(), AllocError> {
+        self.world.add(name, file)
     }
 
+    /// One operand more.
     pub(crate) fn operand(&mut self, word: Bytes) -> Result<(), AllocError> {
         Ok(self.operands.words.push(word)?)
     }
 
+    /// What the main input gives next.
     pub(crate) fn next(&mut self, rs: &[u8]) -> Result<MainNext, Stop> {
         let count = self.operands.words.as_slice().len() as i64;
-        self.main.next(&mut self.world, &self.operands, &Value::Num(count), rs)
+        self.main
+            .next(&mut self.world, &self.operands, &Value::Num(count), rs)
     }
 }
