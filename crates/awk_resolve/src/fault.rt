@@ -40,6 +40,10 @@ impl Name {
 }
 
 impl fmt::Display for Name {
+    ghost use Rattle.std.specs.Prelude.{Some, encode_utf8_all};
+
+    ghost output = { λ n. Some (encode_utf8_all n) };
+
     fn fmt<W: fmt::Write>(&self, f: &mut fmt::Formatter<W>) -> fmt::Result {
         for byte in &self.bytes {
             write!(f, "{}", *byte as char)?;
