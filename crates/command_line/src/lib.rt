@@ -1,10 +1,11 @@
 //! The command line of awkwasm: what it asks for, and what is said of a line that asks for nothing.
 #![tactic(auto)]
 
-ghost use Rattle.std.specs.Prelude.{◌≡◌, IfOk, false};
+ghost use Rattle.std.specs.Prelude.{◌≡◌, IfOk, IfSome, false};
 ghost use Rattle.std.specs.Prelude.{map, true, IfErr, codes};
-ghost use Rattle.clap.specs.Words.{app_of, rule_of, takes, kind_of, rows_of, found_of, matches_of, subcommand_rows_of, subcommand_of};
+ghost use Rattle.clap.specs.Words.{app_of, rule_of, takes, kind_of, rows_of, found_of, matches_of, one_of, subcommand_rows_of, subcommand_of};
 ghost use Rattle.clap.specs.declared.builder.command.Command.TheViews.{out-Command as fields_of};
+ghost use Rattle.command_line.specs.Request.{Asks, IsSteps, IsTask, texts, word_at, words_at};
 ghost use Rattle.command_line.specs.Line.{single, separator_rule, assign_rule, steps_rule, words_rule, options_app, compile_app, task_app, line_app, status_of_kind};
 
 use clap::builder::ValueParser;
@@ -170,39 +171,61 @@ pub fn exit_status(error: &Error) -> u8
     }
 }
 
-fn texts<'a>(
-    alloc: Global,
-    matches: &ArgMatches<'a>,
-    id: &str,
-) -> Result<Vec<&'a str>, AllocError> {
-    let mut texts = Vec::new(alloc);
-    if let Some(values) = matches.get_strs(id) {
-        for value in values {
-            texts.push(*value)?;
-        }
+/// The words of an argument that may be given often.
+fn texts<'a>(alloc: Global, matches: &ArgMatches<'a>, id: &str) -> Result<Vec<&'a str>, AllocError>
+    ensures { IfOk result (λ found. texts found.items ≡ words_at id.now (rows_of (found_of matches.now))) }
+{
+    match matches.get_strs(id) {
+        Some(values) => values.to_vec(alloc),
+        None => Ok(Vec::new(alloc)),
     }
-    Ok(texts)
 }
 
+/// The word of an argument that must be there.
+fn text<'a>(matches: &ArgMatches<'a>, id: &str) -> &'a str
+    ensures { result.now ≡ word_at id.now (rows_of (found_of matches.now)) }
+{
+    match matches.get_str(id) {
+        Some(word) => word,
+        None => "",
+    }
+}
+
+/// The number of `--steps`.
+fn steps(matches: &ArgMatches<'_>) -> u64
+    ensures { IsSteps (one_of (codes "steps") (rows_of (found_of matches.now))) result }
+{
+    match matches.get_one::<u64>("steps") {
+        Some(number) => number,
+        None => u64::MAX,
+    }
+}
+
+/// What is asked of `run` and `exec`.
 fn task_of<'a>(
     alloc: Global,
     matches: &ArgMatches<'a>,
     subject: &str,
-) -> Result<Task<'a>, AllocError> {
+) -> Result<Task<'a>, AllocError>
+    ensures { IfOk result (λ task. IsTask subject.now (rows_of (found_of matches.now)) task) }
+{
     Ok(Task {
         separators: texts(alloc, matches, "separator")?,
         assigns: texts(alloc, matches, "assign")?,
-        steps: matches.get_one::<u64>("steps").unwrap_or(u64::MAX),
-        subject: matches.get_str(subject).unwrap_or(""),
+        steps: steps(matches),
+        subject: text(matches, subject),
         words: texts(alloc, matches, "words")?,
     })
 }
 
-fn request_in<'a>(alloc: Global, matches: &ArgMatches<'a>) -> Result<Request<'a>, AllocError> {
+/// What a line asks for, by its subcommand.
+fn request_in<'a>(alloc: Global, matches: &ArgMatches<'a>) -> Result<Request<'a>, AllocError>
+    ensures { IfOk result (λ request. IfSome (subcommand_rows_of matches.now) (λ found. Asks found.0 found.1 request)) }
+{
     match matches.subcommand() {
         Some(("compile", inner)) => Ok(Request::Compile {
-            script_file: inner.get_str("scriptfile").unwrap_or(""),
-            out: inner.get_str("out").unwrap_or(""),
+            script_file: text(inner, "scriptfile"),
+            out: text(inner, "out"),
         }),
         Some(("run", inner)) => Ok(Request::Run(task_of(alloc, inner, "script")?)),
         Some((_, inner)) => Ok(Request::Exec(task_of(alloc, inner, "module")?)),
@@ -217,7 +240,8 @@ fn request_in<'a>(alloc: Global, matches: &ArgMatches<'a>) -> Result<Request<'a>
 /// Where the words are not taken, with the text to print (help and the version are such answers), or for want of memory. [`exit_status`]
 /// gives the program's status.
 pub fn request_of<'a>(alloc: Global, words: &'a [&'a str]) -> Result<Request<'a>, Error>
-    ensures { IfErr result (λ e. takes line_app (map (λ s. s.now) words.now) ≡ true → kind_of e ≡ ErrorKind.OutOfMemory) }
+    ensures asks { IfOk result (λ request. IfSome (subcommand_of line_app (map (λ s. s.now) words.now)) (λ found. Asks found.0 found.1 request)) }
+    ensures err { IfErr result (λ e. takes line_app (map (λ s. s.now) words.now) ≡ true → kind_of e ≡ ErrorKind.OutOfMemory) }
 {
     let matches = matches_of_line(alloc, words)?;
     let request = request_in(alloc, &matches)?;

@@ -1,7 +1,8 @@
 //! A world over real files, which tells nothing of what they hold.
 ghost use Rattle.std.specs.Prelude.{◌≡◌, ◌<◌, ◌≤◌, [], length, Err, IfErr, IfOk, MatchOption, OnErr};
 ghost use Rattle.os_world.specs.OsStreams.{os_kind, os_kinds, IsPath};
-ghost use Rattle.world_core.specs.Calls.{next_count, Opens};
+ghost use Rattle.std.specs.Io.KnownBytes.{ReadConsumes, WriteAppends};
+ghost use Rattle.world_core.specs.Calls.{next_count, Opens, Reading, Writing};
 
 use std::alloc::Global;
 use std::fs;
@@ -36,6 +37,7 @@ fn counted_read<I: Read>(
     failures: &mut u64,
 ) -> Result<usize, WorldFault>
     ensures within { IfOk result (λ n. n ≤ length buffer.old) }
+    ensures bytes { ReadConsumes (I.remaining from.old) (I.remaining from.new) result buffer.new }
     ensures count { failures.new ≡ next_count result failures.old }
 {
     match from.read(buffer) {
@@ -48,6 +50,7 @@ fn counted_read<I: Read>(
 fn counted_write<O: Write>(to: &mut O, text: &[u8], failures: &mut u64) -> Result<usize, WorldFault>
     ensures within { IfOk result (λ n. n ≤ length text.now) }
     ensures some { IfOk result (λ n. 0 < length text.now → 0 < n) }
+    ensures bytes { WriteAppends (O.contents to.old) (O.contents to.new) result text.now }
     ensures count { failures.new ≡ next_count result failures.old }
 {
     match to.write(text) {
@@ -152,7 +155,13 @@ impl<'a, R: Files, I: Read + Drop, O: Write + Drop> World for OsWorld<'a, R, I, 
         }
     }
 
-    fn read(&mut self, id: u32, buffer: &mut [u8]) -> Result<usize, WorldFault> {
+    fn read(&mut self, id: u32, buffer: &mut [u8]) -> Result<usize, WorldFault>
+        requires { os_kinds self.old.streams.items id ≡ Reading }
+        ensures within { IfOk result (λ n. n ≤ length buffer.old) }
+        ensures kinds { os_kinds self.new.streams.items ≡ os_kinds self.old.streams.items }
+        ensures count { self.new.failures ≡ next_count result self.old.failures }
+        ensures standard { id ≡ 0 → ReadConsumes (I.remaining self.old.input) (I.remaining self.new.input) result buffer.new }
+    {
         if id == 0 {
             return counted_read(&mut self.input, buffer, &mut self.failures);
         }
@@ -162,7 +171,14 @@ impl<'a, R: Files, I: Read + Drop, O: Write + Drop> World for OsWorld<'a, R, I, 
         }
     }
 
-    fn write(&mut self, id: u32, text: &[u8]) -> Result<usize, WorldFault> {
+    fn write(&mut self, id: u32, text: &[u8]) -> Result<usize, WorldFault>
+        requires { os_kinds self.old.streams.items id ≡ Writing }
+        ensures within { IfOk result (λ n. n ≤ length text.now) }
+        ensures some { IfOk result (λ n. 0 < length text.now → 0 < n) }
+        ensures kinds { os_kinds self.new.streams.items ≡ os_kinds self.old.streams.items }
+        ensures count { self.new.failures ≡ next_count result self.old.failures }
+        ensures standard { id ≡ 1 → WriteAppends (O.contents self.old.output) (O.contents self.new.output) result text.now }
+    {
         if id == 1 {
             return counted_write(&mut self.output, text, &mut self.failures);
         }

@@ -1,6 +1,6 @@
 use Rattle.std.proofs.Common.{◌∙◌, ◌≡◌, ap, ap₂, rules}
 use Rattle.std.proofs.lemmas.Result.{IfOk-weaker}
-use Rattle.clap.specs.Words.{App, app_of, with_subcommand, new_app}
+use Rattle.clap.specs.Words.{App, app_of, with_subcommand}
 use Rattle.command_line.specs.Line.{top_app}
 use Rattle.command_line.proofs.command.Goals as goal
 
