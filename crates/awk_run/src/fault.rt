@@ -23,7 +23,7 @@ pub enum CompileFault {
     #[error("line {0}: {1}")]
     Ere(usize, EreFault),
     /// A name is refused.
-    #[error("{0:?}")]
+    #[error("{0}")]
     Resolve(ResolveFault),
     /// It is none of the scripts that are compiled so far, by something on this line; lines count from 1.
     #[error("NotYet {0}")]
