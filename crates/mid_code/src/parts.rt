@@ -5,6 +5,7 @@ ghost use Rattle.awk_grammar.specs.Token.{Ere};
 ghost use Rattle.awk_grammar.specs.Tree.{Leaf, NoTree};
 ghost use Rattle.awk_grammar.specs.View.{view as tree, view_assign, view_step};
 ghost use Rattle.awk_resolve.specs.ViewKinds.{view_name};
+ghost use Rattle.awk_state.specs.Constants.{flag_number};
 ghost use Rattle.awk_state.specs.declared.table.Primitive.TheVariants as row;
 ghost use Rattle.awk_text.specs.Escapes.{string_text};
 ghost use Rattle.mid_code.specs.Mid as plain;
@@ -15,7 +16,7 @@ ghost use Rattle.mid_code.specs.Translation.{FieldTarget, applied_code, assigned
 ghost use Rattle.mid_code.specs.ViewCode.{before, view, view_maybe};
 ghost use Rattle.mid_code.specs.ViewScope.{scope_of, texts_of};
 
-use crate::build::{ask_line, file_line, kept_while, record, unary, variable};
+use crate::build::{applied, ask_line, file_line, kept_while, record, three, unary, variable};
 use crate::code::{Code, Operand};
 use crate::mid::Operation;
 use crate::operators::host;
@@ -219,6 +220,21 @@ pub(crate) fn apply_none(alloc: Global, function: Builtin) -> Result<Code, Alloc
         | Builtin::Int
         | Builtin::Close => Ok(Code::Unset),
     }
+}
+
+/// A text is split into an array's elements; the last operand says whether the separator is an ERE.
+pub(crate) fn split_into(
+    alloc: Global,
+    text: Code,
+    array: Code,
+    separator: Code,
+    is_ere: bool,
+) -> Result<Code, AllocError>
+    ensures { IfOk result (λ code. view code ≡ plain.Do (Operation.Host row.Split) (plain.At (view text) (plain.At (view array) (plain.At (view separator) (plain.Fixed (flag_number is_ere) plain.End))))) }
+{
+    let mut operands = three(alloc, text, array, separator)?;
+    operands.push(Operand::Constant(u32::from(is_ere)))?;
+    Ok(applied(Operation::Host(Primitive::Split), operands))
 }
 
 /// What is replaced in the record.
