@@ -5,13 +5,12 @@ ghost use Rattle.awk_grammar.specs.Tree.{Apply, Call, NoTree, Then};
 ghost use Rattle.awk_grammar.specs.View.{view as tree, views as trees, view_binary};
 ghost use Rattle.awk_state.specs.declared.table.Primitive.TheVariants as row;
 ghost use Rattle.mid_code.specs.Mid as plain;
-ghost use Rattle.mid_code.specs.Names.{array_of};
-ghost use Rattle.mid_code.specs.Translation.{applied_code, code_of, codes_of, ere_code, ere_for, key_code, kept_code, truncated_code, two};
+ghost use Rattle.mid_code.specs.Translation.{applied_code, code_of, codes_of, ere_code, ere_for, key_code, kept_code, one, truncated_code};
 ghost use Rattle.mid_code.specs.ViewCode.{followed, view, view_maybe, views};
 ghost use Rattle.mid_code.specs.ViewScope.{scope_of, texts_of};
 ghost use Rattle.mid_code.specs.ViewTarget.{sub_or_gsub};
 
-use crate::build::{binary, called, chosen, kept_while, over, reserved, ternary, unary, variable};
+use crate::build::{binary, called, chosen, over, reserved, ternary, unary, variable};
 use crate::code::{Code, Operand};
 use crate::mid::{Arithmetic, Operation};
 use crate::operators::{combined, constant, host, prefixed};
@@ -20,7 +19,7 @@ use crate::parts::{
     line_into, missing, passed, record_length, record_matches, split_into, step_place,
     step_place_after, string, substitute_place, substitute_record,
 };
-use crate::peek::{bare_name, ere_in, is_match, is_quotient};
+use crate::peek::{bare_name, ere_in, is_ere, is_match, is_quotient};
 use crate::scope::Scope;
 use awk_grammar::{BinaryOp, Builtin, Expr};
 use awk_state::{Listed, Primitive, Sort, Special};
@@ -57,8 +56,9 @@ pub(crate) fn code(scope: &Scope<'_>, e: &Expr) -> Result<Code, AllocError>
         }
         Expr::In(key, name) => host_array(scope, Primitive::Has, name, code(scope, key)?),
         Expr::InList(first, others, name) => {
+            let others = key(scope, others)?;
             let first = code(scope, first)?;
-            has_others(scope, name, first, others)
+            has_list(scope, name, first, others)
         }
         Expr::Conditional(test, yes, no) => {
             let test = code(scope, test)?;
@@ -75,26 +75,12 @@ pub(crate) fn code(scope: &Scope<'_>, e: &Expr) -> Result<Code, AllocError>
     }
 }
 
-/// Whether an array has the element of a list of subscripts, the first of which has its code.
-#[cycle(expressions)]
-fn has_others(
-    scope: &Scope<'_>,
-    name: &[u8],
-    first: Code,
-    others: &[Expr],
-) -> Result<Code, AllocError>
-    ensures { IfOk result (λ code. view code ≡ plain.Do (Operation.Host row.Has) (two (plain.Array (array_of (scope_of scope.now) name.now)) (plain.Do (Operation.Host row.Join) (two (view first) (key_code (texts_of scope.now) (scope_of scope.now) (trees others.now)))))) }
-{
-    let others = key(scope, others)?;
-    has_list(scope, name, first, others)
-}
-
 /// Adds the code of operands.
 #[cycle(expressions)]
 pub(crate) fn push_operands(
     scope: &Scope<'_>,
-    codes: &mut Vec<Operand>,
     es: &[Expr],
+    codes: &mut Vec<Operand>,
 ) -> Result<(), AllocError>
     ensures { OnOk result (views codes.new.items ≡ followed (views codes.old.items) (codes_of (texts_of scope.now) (scope_of scope.now) (trees es.now))) }
 {
@@ -196,11 +182,21 @@ fn call(scope: &Scope<'_>, name: &[u8], es: &[Expr]) -> Result<Code, AllocError>
 fn apply(scope: &Scope<'_>, function: Builtin, es: &[Expr]) -> Result<Code, AllocError>
     ensures { IfOk result (λ code. view code ≡ code_of (texts_of scope.now) (scope_of scope.now) (Apply function (trees es.now))) }
 {
-    if matches!(function, Builtin::Sprintf) {
-        let mut operands = Vec::new(scope.alloc);
-        push_operands(scope, &mut operands, es)?;
-        return Ok(over(Listed::Sprintf, operands));
+    match function {
+        Builtin::Sprintf => {
+            let mut operands = Vec::new(scope.alloc);
+            push_operands(scope, es, &mut operands)?;
+            Ok(over(Listed::Sprintf, operands))
+        }
+        _ => applied(scope, function, es),
     }
+}
+
+/// The code of a built-in function that takes no list of values.
+#[cycle(expressions)]
+fn applied(scope: &Scope<'_>, function: Builtin, es: &[Expr]) -> Result<Code, AllocError>
+    ensures { IfOk result (λ code. view code ≡ applied_code (texts_of scope.now) (scope_of scope.now) function (trees es.now)) }
+{
     if es.is_empty() {
         return apply_none(scope.alloc, function);
     }
@@ -272,7 +268,10 @@ fn truncated(scope: &Scope<'_>, e: &Expr) -> Result<Code, AllocError>
 {
     match e {
         Expr::Group(inner) => truncated(scope, inner),
-        Expr::Binary(op, left, right) if is_quotient(*op) => {
+        Expr::Binary(op, left, right) => {
+            if !is_quotient(*op) {
+                return whole_part(scope, e);
+            }
             let left = code(scope, left)?;
             let right = code(scope, right)?;
             let operation = Operation::Inline(Arithmetic::Truncated);
@@ -290,7 +289,6 @@ fn truncated(scope: &Scope<'_>, e: &Expr) -> Result<Code, AllocError>
         | Expr::Unary(_, _)
         | Expr::PreStep(_, _)
         | Expr::PostStep(_, _)
-        | Expr::Binary(_, _, _)
         | Expr::Assign(_, _, _)
         | Expr::In(_, _)
         | Expr::InList(_, _, _)
@@ -298,11 +296,17 @@ fn truncated(scope: &Scope<'_>, e: &Expr) -> Result<Code, AllocError>
         | Expr::Getline
         | Expr::GetlineInto(_)
         | Expr::GetlineFrom(_)
-        | Expr::GetlineIntoFrom(_, _) => {
-            let number = code(scope, e)?;
-            host_one(scope.alloc, Primitive::IntOf, number)
-        }
+        | Expr::GetlineIntoFrom(_, _) => whole_part(scope, e),
     }
+}
+
+/// The code of the whole part of what an expression gives.
+#[cycle(expressions)]
+fn whole_part(scope: &Scope<'_>, e: &Expr) -> Result<Code, AllocError>
+    ensures { IfOk result (λ code. view code ≡ plain.Do (Operation.Host row.IntOf) (one (code_of (texts_of scope.now) (scope_of scope.now) (tree e.now)))) }
+{
+    let number = code(scope, e)?;
+    host_one(scope.alloc, Primitive::IntOf, number)
 }
 
 /// The code of `substr`.
@@ -336,8 +340,7 @@ fn split(scope: &Scope<'_>, es: &[Expr]) -> Result<Code, AllocError>
         return split_into(scope.alloc, text, array, separator, false);
     }
     let separator = operand(scope, BinaryOp::Match, &es[2])?;
-    let is_ere = ere_in(&es[2]).is_some();
-    split_into(scope.alloc, text, array, separator, is_ere)
+    split_into(scope.alloc, text, array, separator, is_ere(&es[2]))
 }
 
 /// The code of `sub` and `gsub`: expression and replacement are kept, then what the place needs.
@@ -348,12 +351,9 @@ fn substitute(scope: &Scope<'_>, all: bool, es: &[Expr]) -> Result<Code, AllocEr
 {
     let ere = operand(scope, BinaryOp::Match, &es[0])?;
     let replacement = code(scope, &es[1])?;
-    let body = if es.len() == 2 {
-        substitute_record(scope.alloc, all)?
-    } else {
-        let kept = kept(scope, &es[2])?;
-        substitute_place(scope, all, &es[2], kept)?
-    };
-    let body = kept_while(scope.alloc, replacement, body)?;
-    kept_while(scope.alloc, ere, body)
+    if es.len() == 2 {
+        return substitute_record(scope.alloc, all, ere, replacement);
+    }
+    let kept = kept(scope, &es[2])?;
+    substitute_place(scope, all, &es[2], kept, ere, replacement)
 }

@@ -237,23 +237,40 @@ pub(crate) fn split_into(
     Ok(applied(Operation::Host(Primitive::Split), operands))
 }
 
-/// What is replaced in the record.
-pub(crate) fn substitute_record(alloc: Global, all: bool) -> Result<Code, AllocError>
-    ensures { IfOk result (λ code. view code ≡ plain.Let zero_code (substituted_at all FieldTarget)) }
+/// Replacement and expression are kept for what replaces.
+fn replacing(alloc: Global, ere: Code, replacement: Code, body: Code) -> Result<Code, AllocError>
+    ensures { IfOk result (λ code. view code ≡ plain.Let (view ere) (plain.Let (view replacement) (view body))) }
 {
-    let body = substituted(alloc, all, Target::Field)?;
-    kept_while(alloc, Code::Number(0), body)
+    let body = kept_while(alloc, replacement, body)?;
+    kept_while(alloc, ere, body)
 }
 
-/// What is replaced in a place.
+/// What is replaced in the record.
+pub(crate) fn substitute_record(
+    alloc: Global,
+    all: bool,
+    ere: Code,
+    replacement: Code,
+) -> Result<Code, AllocError>
+    ensures { IfOk result (λ code. view code ≡ plain.Let (view ere) (plain.Let (view replacement) (plain.Let zero_code (substituted_at all FieldTarget)))) }
+{
+    let body = substituted(alloc, all, Target::Field)?;
+    let body = kept_while(alloc, Code::Number(0), body)?;
+    replacing(alloc, ere, replacement, body)
+}
+
+/// What is replaced in a place, for which something may be kept.
 pub(crate) fn substitute_place(
     scope: &Scope<'_>,
     all: bool,
     place: &Expr,
     kept: Option<Code>,
+    ere: Code,
+    replacement: Code,
 ) -> Result<Code, AllocError>
-    ensures { IfOk result (λ code. view code ≡ keeping (view_maybe kept) (substituted_at all (target_in (texts_of scope.now) (scope_of scope.now) (tree place.now)))) }
+    ensures { IfOk result (λ code. view code ≡ plain.Let (view ere) (plain.Let (view replacement) (keeping (view_maybe kept) (substituted_at all (target_in (texts_of scope.now) (scope_of scope.now) (tree place.now)))))) }
 {
     let body = substituted(scope.alloc, all, target_in(scope, place))?;
-    keeping(scope.alloc, kept, body)
+    let body = keeping(scope.alloc, kept, body)?;
+    replacing(scope.alloc, ere, replacement, body)
 }

@@ -49,10 +49,10 @@ fn values(scope: &Scope<'_>, args: &PrintArgs) -> Result<Vec<Operand>, AllocErro
     let mut codes = Vec::new(scope.alloc);
     match args {
         PrintArgs::Bare => codes.push(Operand::Code(record(scope.alloc)?))?,
-        PrintArgs::Listed(es) => push_operands(scope, &mut codes, es)?,
+        PrintArgs::Listed(es) => push_operands(scope, es, &mut codes)?,
         PrintArgs::Enclosed(first, others) => {
             codes.push(Operand::Code(code(scope, first)?))?;
-            push_operands(scope, &mut codes, others)?;
+            push_operands(scope, others, &mut codes)?;
         }
     }
     Ok(codes)
