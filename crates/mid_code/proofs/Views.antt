@@ -1,5 +1,5 @@
 -- Lists within code, as the definitions see them.
-use Rattle.std.proofs.Common.{◌≡◌, ℕ, Bool, List, [], ◌∷◌, ◌++◌, refl, ap, ◌∙◌}
+use Rattle.std.proofs.Common.{◌≡◌, ℕ, Bool, List, [], ◌∷◌, ◌++◌, refl, ap, sym, ◌∙◌}
 use Rattle.std.specs.declared.vec.Vec.{Vec}
 use Rattle.std.specs.declared.boxed.Box.{Box}
 use Rattle.std.specs.declared.alloc.Global.{Global}
@@ -59,6 +59,10 @@ followed_end plain.End = refl
 followed_end (plain.At e es) = ap (plain.At e) (followed_end es)
 followed_end (plain.Fixed n es) = ap (plain.Fixed n) (followed_end es)
 followed_end (plain.Fresh es) = ap plain.Fresh (followed_end es)
+
+pub views_push : (es : List Operand) (e : Operand) (all : plain.Codes) → views es ≡ all → views (es ++ e ∷ []) ≡ followed all (before e plain.End)
+views_push es e all is =
+    sym (followed_end (views (es ++ e ∷ []))) ∙ followed_push es e plain.End ∙ ap (λ (c : plain.Codes). followed c (before e plain.End)) is
 
 step_rows : {n : _} (k : Row_of-Step n) → view_step_row k ≡ view_steps (items-the_row-Step n k)
 step_rows end_of-Step = refl

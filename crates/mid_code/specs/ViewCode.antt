@@ -90,3 +90,8 @@ abbrev mutual
 abbrev pub view_steps : List Step → plain.Steps
 view_steps [] = plain.NoStep
 view_steps (s ∷ ss) = plain.Then (view_step s) (view_steps ss)
+
+-- a step, if there is one, before others
+abbrev pub maybe_then : Option Step → plain.Steps → plain.Steps
+maybe_then None rest = rest
+maybe_then (Some s) rest = plain.Then (view_step s) rest

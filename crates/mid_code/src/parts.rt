@@ -5,6 +5,7 @@ ghost use Rattle.awk_grammar.specs.Token.{Ere};
 ghost use Rattle.awk_grammar.specs.Tree.{Leaf, NoTree};
 ghost use Rattle.awk_grammar.specs.View.{view as tree, view_assign, view_step};
 ghost use Rattle.awk_resolve.specs.ViewKinds.{view_name};
+ghost use Rattle.awk_state.specs.Constants.{flag_number};
 ghost use Rattle.awk_state.specs.declared.table.Primitive.TheVariants as row;
 ghost use Rattle.awk_text.specs.Escapes.{string_text};
 ghost use Rattle.mid_code.specs.Mid as plain;
@@ -15,7 +16,7 @@ ghost use Rattle.mid_code.specs.Translation.{FieldTarget, applied_code, assigned
 ghost use Rattle.mid_code.specs.ViewCode.{before, view, view_maybe};
 ghost use Rattle.mid_code.specs.ViewScope.{scope_of, texts_of};
 
-use crate::build::{ask_line, file_line, kept_while, record, unary, variable};
+use crate::build::{applied, ask_line, file_line, kept_while, record, three, unary, variable};
 use crate::code::{Code, Operand};
 use crate::mid::Operation;
 use crate::operators::host;
@@ -221,23 +222,55 @@ pub(crate) fn apply_none(alloc: Global, function: Builtin) -> Result<Code, Alloc
     }
 }
 
-/// What is replaced in the record.
-pub(crate) fn substitute_record(alloc: Global, all: bool) -> Result<Code, AllocError>
-    ensures { IfOk result (λ code. view code ≡ plain.Let zero_code (substituted_at all FieldTarget)) }
+/// A text is split into an array's elements; the last operand says whether the separator is an ERE.
+pub(crate) fn split_into(
+    alloc: Global,
+    text: Code,
+    array: Code,
+    separator: Code,
+    is_ere: bool,
+) -> Result<Code, AllocError>
+    ensures { IfOk result (λ code. view code ≡ plain.Do (Operation.Host row.Split) (plain.At (view text) (plain.At (view array) (plain.At (view separator) (plain.Fixed (flag_number is_ere) plain.End))))) }
 {
-    let body = substituted(alloc, all, Target::Field)?;
-    kept_while(alloc, Code::Number(0), body)
+    let mut operands = three(alloc, text, array, separator)?;
+    operands.push(Operand::Constant(u32::from(is_ere)))?;
+    Ok(applied(Operation::Host(Primitive::Split), operands))
 }
 
-/// What is replaced in a place.
+/// Replacement and expression are kept for what replaces.
+fn replacing(alloc: Global, ere: Code, replacement: Code, body: Code) -> Result<Code, AllocError>
+    ensures { IfOk result (λ code. view code ≡ plain.Let (view ere) (plain.Let (view replacement) (view body))) }
+{
+    let body = kept_while(alloc, replacement, body)?;
+    kept_while(alloc, ere, body)
+}
+
+/// What is replaced in the record.
+pub(crate) fn substitute_record(
+    alloc: Global,
+    all: bool,
+    ere: Code,
+    replacement: Code,
+) -> Result<Code, AllocError>
+    ensures { IfOk result (λ code. view code ≡ plain.Let (view ere) (plain.Let (view replacement) (plain.Let zero_code (substituted_at all FieldTarget)))) }
+{
+    let body = substituted(alloc, all, Target::Field)?;
+    let body = kept_while(alloc, Code::Number(0), body)?;
+    replacing(alloc, ere, replacement, body)
+}
+
+/// What is replaced in a place, for which something may be kept.
 pub(crate) fn substitute_place(
     scope: &Scope<'_>,
     all: bool,
     place: &Expr,
     kept: Option<Code>,
+    ere: Code,
+    replacement: Code,
 ) -> Result<Code, AllocError>
-    ensures { IfOk result (λ code. view code ≡ keeping (view_maybe kept) (substituted_at all (target_in (texts_of scope.now) (scope_of scope.now) (tree place.now)))) }
+    ensures { IfOk result (λ code. view code ≡ plain.Let (view ere) (plain.Let (view replacement) (keeping (view_maybe kept) (substituted_at all (target_in (texts_of scope.now) (scope_of scope.now) (tree place.now)))))) }
 {
     let body = substituted(scope.alloc, all, target_in(scope, place))?;
-    keeping(scope.alloc, kept, body)
+    let body = keeping(scope.alloc, kept, body)?;
+    replacing(scope.alloc, ere, replacement, body)
 }

@@ -8,7 +8,7 @@ ghost use Rattle.awk_text.specs.Escapes.{between};
 ghost use Rattle.awk_state.specs.declared.table.Primitive.TheVariants as row;
 ghost use Rattle.mid_code.specs.Mid.{Code, Do};
 ghost use Rattle.mid_code.specs.Names.{Scope};
-ghost use Rattle.mid_code.specs.Steps.{ere_in};
+ghost use Rattle.mid_code.specs.Steps.{ere_in, is_ere};
 ghost use Rattle.mid_code.specs.Translation.{code_of, ere_for, one, truncated_code, two};
 ghost use Rattle.mid_code.specs.declared.mid.Arithmetic.{Arithmetic};
 ghost use Rattle.mid_code.specs.declared.mid.Operation.{Operation};
@@ -83,6 +83,13 @@ pub(crate) fn ere_in(e: &Expr) -> Option<&[u8]>
         | Expr::GetlineFrom(_)
         | Expr::GetlineIntoFrom(_, _) => None,
     }
+}
+
+/// Whether an expression is an ERE token, parentheses aside.
+pub(crate) fn is_ere(e: &Expr) -> bool
+    ensures { result ≡ is_ere (ere_in (tree e.now)) }
+{
+    ere_in(e).is_some()
 }
 
 /// Whether the right operand of an operator is matched.

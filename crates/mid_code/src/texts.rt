@@ -1,13 +1,17 @@
 //! The texts of a script's constants.
 
-ghost use Rattle.std.specs.Prelude.{◌≡◌, [], ◌∷◌, OnOk};
+ghost use Rattle.std.specs.Prelude.{◌≡◌, [], ◌∷◌, IfOk, OnOk};
 ghost use Rattle.awk_grammar.specs.View.{view as tree, views as trees};
-ghost use Rattle.awk_grammar.specs.ViewStmt.{view_args, view_item, view_items, view_maybe, view_maybe_simple, view_pattern, view_simple, view_stmt, view_stmts, view_target};
-ghost use Rattle.mid_code.specs.Texts.{all_texts, args_texts, item_texts, items_texts, maybe_plain_texts, maybe_texts, once, pattern_texts, plain_texts, stmt_texts, stmts_texts, target_texts, texts_in};
+ghost use Rattle.awk_grammar.specs.ViewStmt.{view_args, view_item, view_items, view_maybe, view_maybe_simple, view_pattern, view_script, view_simple, view_stmt, view_stmts, view_target};
+ghost use Rattle.awk_resolve.specs.ViewFunctions.{view_functions};
+ghost use Rattle.mid_code.specs.Kinds.{bodies as bodies_of, with_bodies};
+ghost use Rattle.mid_code.specs.Texts.{all_texts, args_texts, functions_texts, item_texts, items_texts, maybe_plain_texts, maybe_texts, once, pattern_texts, plain_texts, stmt_texts, stmts_texts, target_texts, texts_in, texts_of_script};
 ghost use Rattle.mid_code.specs.View.{view_texts};
+ghost use Rattle.mid_code.specs.ViewNames.{script_of, view_bodies};
 
 use crate::peek::ere_text;
 use awk_grammar::{Expr, Item, Pattern, PrintArgs, PrintTarget, SimpleStmt, Stmt};
+use awk_resolve::{FunctionNames, Resolved};
 use awk_text::string_text;
 use indexmap::IndexSet;
 use std::alloc::{AllocError, Global};
@@ -209,11 +213,45 @@ fn put_item(alloc: Global, texts: &mut Texts, item: &Item) -> Result<(), AllocEr
 
 /// Adds the texts of items.
 #[tactic(auto, using(crate::proofs::TextTables::once_append))]
-pub(crate) fn put_items(alloc: Global, texts: &mut Texts, items: &[Item]) -> Result<(), AllocError>
+fn put_items(alloc: Global, texts: &mut Texts, items: &[Item]) -> Result<(), AllocError>
     ensures { OnOk result (view_texts texts.new.keys ≡ once (view_texts texts.old.keys) (items_texts (view_items items.now))) }
 {
     for item in items {
         put_item(alloc, texts, item)?;
     }
     Ok(())
+}
+
+/// Adds the texts of the functions' bodies.
+#[tactic(auto, using(crate::proofs::TextTables::once_append))]
+fn put_bodies(
+    alloc: Global,
+    texts: &mut Texts,
+    functions: &[FunctionNames<'_>],
+    bodies: &[&[Stmt]],
+) -> Result<(), AllocError>
+    ensures { OnOk result (view_texts texts.new.keys ≡ once (view_texts texts.old.keys) (functions_texts (with_bodies (view_functions functions.now) (view_bodies bodies.now)))) }
+{
+    for i in 0..functions.len() {
+        if let Some(body) = bodies.get(i) {
+            put_stmts(alloc, texts, body)?;
+        }
+    }
+    Ok(())
+}
+
+/// The texts of a script's constants, each once, in the order of their first places: those of the items, then those of the functions.
+#[tactic(auto, using(crate::proofs::TextTables::once_append))]
+pub(crate) fn texts_of(
+    alloc: Global,
+    resolved: &Resolved<'_>,
+    bodies: &[&[Stmt]],
+) -> Result<IndexSet<Vec<u8>>, AllocError>
+    requires { view_bodies bodies.now ≡ bodies_of (view_script resolved.now.script.now) }
+    ensures { IfOk result (λ texts. view_texts texts.keys ≡ texts_of_script (script_of resolved.now)) }
+{
+    let mut texts = IndexSet::new(alloc);
+    put_items(alloc, &mut texts, &resolved.script.items)?;
+    put_bodies(alloc, &mut texts, &resolved.functions, bodies)?;
+    Ok(texts)
 }

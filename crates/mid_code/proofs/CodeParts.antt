@@ -1,0 +1,391 @@
+-- The code of lists of expressions, a step at a time.
+use Rattle.std.proofs.Common.{◌≡◌, ◌≢◌, ℕ, zero, suc, ◌+◌, ◌<◌, ◌≤◌, ◌==◌, length, drop, get_or, List, [], ◌∷◌, ◌++◌, Option, None, Some, Bool, true, false, if◌then◌else◌, MatchOption, refl, ap, sym, ◌∙◌, arith, length-drop}
+use Rattle.std.specs.Prelude.{is_some}
+use Rattle.std.proofs.lemmas.Bool.{eqb-true}
+use Rattle.std.specs.Int.{from_bool}
+use Rattle.std.specs.Borrow.{Bor}
+use Rattle.std.proofs.Math.ListN.{drop_of_length-le}
+use Rattle.awk_grammar.specs.Tree.{Tree, Leaf, Length, Var, Index, Field, Group, Call, Apply, Unary, Pre, Post, Bin, Op, Has, HasList, Cond, Get, GetInto, GetFrom, GetIntoFrom, Trees, NoTree, Then}
+use Rattle.awk_grammar.specs.View.{view as tree, views as trees, view_binary}
+use Rattle.awk_grammar.specs.declared.tree.Expr.{Expr, Binary}
+use Rattle.awk_grammar.specs.declared.tree.BinaryOp.{BinaryOp}
+use Rattle.std.specs.declared.boxed.Box.{Box}
+use Rattle.std.specs.declared.alloc.Global.{Global}
+use Rattle.awk_resolve.specs.Marks.{bare_name}
+use Rattle.awk_resolve.specs.ViewKinds.{view_name, view_name_kinds}
+use Rattle.awk_resolve.specs.declared.function_names.NameKind.{NameKind}
+use Rattle.awk_state.specs.Constants.{flag_number}
+use Rattle.awk_state.specs.declared.constants.Special.TheVariants.{Fs}
+use Rattle.awk_state.specs.declared.table.Listed.TheVariants as listed
+use Rattle.awk_state.specs.declared.table.Primitive.TheVariants as row
+use Rattle.awk_tokens.specs.declared.words.Builtin.{Builtin}
+use Rattle.awk_tokens.specs.declared.words.Builtin.TheVariants as builtin
+use Rattle.mid_code.specs.Mid.{Code, Codes, End, At, Fixed, Do, Over, Let, Array, Unset, Call as Called}
+use Rattle.mid_code.specs.Names.{Name, Scope, array_of, function_at, function_number}
+use Rattle.mid_code.specs.Steps.{ere_in, is_ere}
+use Rattle.mid_code.specs.Translation.{FieldTarget, applied_code, argument_codes, code_of, codes_of, ere_code, fresh_codes, given_code, host, keeping, kept_code, key_code, one, passed_code, record_code, special_code, substituted_at, target_in, truncated_code, two, zero_code}
+use Rattle.mid_code.specs.ViewCode.{before, followed, view, views}
+use Rattle.mid_code.specs.ViewTarget.{sub_or_gsub}
+use Rattle.mid_code.specs.declared.code.Code.{Code as Owned}
+use Rattle.mid_code.specs.declared.code.Operand.{Operand}
+use Rattle.mid_code.specs.declared.code.Operand.TheVariants as operand
+use Rattle.mid_code.specs.declared.mid.Arithmetic.TheVariants as inline
+use Rattle.mid_code.specs.declared.mid.Operation.TheVariants.{Inline}
+use Rattle.mid_code.proofs.NameTables.{drop_any}
+use Rattle.mid_code.proofs.Views.{followed_end, followed_push}
+
+-- lists by their first parts
+
+pub no_trees : (es : List Expr) → (length es == 0) ≡ true → trees es ≡ NoTree
+no_trees es none = none_of es (eqb-true (length es) 0 none)
+  where
+    none_of : (xs : List Expr) → length xs ≡ 0 → trees xs ≡ NoTree
+    none_of [] n = refl
+    none_of (x ∷ xs) n = absurd (omega arith)
+
+pub some_left : (n : ℕ) → (n == 0) ≡ false → 0 < n
+some_left zero some = absurd (cc)
+some_left (suc n) some = omega arith
+
+pub part_of : (es : List Expr) (i : ℕ) (e : Expr) → i < length es → e ≡ get_or es i e → trees (drop i es) ≡ Then (tree e) (trees (drop (i + 1) es))
+part_of es i e lt read = ap trees (drop_any es i e lt) ∙ ap (λ (x : Expr). Then (tree x) (trees (drop (i + 1) es))) (sym read)
+
+no_more : (es : List Expr) (i : ℕ) → length es ≤ i → trees (drop i es) ≡ NoTree
+no_more es i le = ap trees (drop_of_length-le es le)
+
+pub one_tree : (es : List Expr) (a : Expr) → length es ≡ 1 → a ≡ get_or es 0 a → trees es ≡ Then (tree a) NoTree
+one_tree es a n first = part_of es 0 a (omega arith) first ∙ ap (Then (tree a)) (no_more es 1 (omega arith))
+
+two_trees : (es : List Expr) (a b : Expr) → 2 ≤ length es → a ≡ get_or es 0 a → b ≡ get_or es 1 b → trees es ≡ Then (tree a) (Then (tree b) (trees (drop 2 es)))
+two_trees es a b le first second = part_of es 0 a (omega arith) first ∙ ap (Then (tree a)) (part_of es 1 b (omega arith) second)
+
+just_two : (es : List Expr) (a b : Expr) → length es ≡ 2 → a ≡ get_or es 0 a → b ≡ get_or es 1 b → trees es ≡ Then (tree a) (Then (tree b) NoTree)
+just_two es a b n first second = two_trees es a b (omega arith) first second ∙ ap (λ (ts : Trees). Then (tree a) (Then (tree b) ts)) (no_more es 2 (omega arith))
+
+three_trees : (es : List Expr) (a b c : Expr) → 3 ≤ length es → a ≡ get_or es 0 a → b ≡ get_or es 1 b → c ≡ get_or es 2 c →
+    trees es ≡ Then (tree a) (Then (tree b) (Then (tree c) (trees (drop 3 es))))
+three_trees es a b c le first second third =
+    two_trees es a b (omega arith) first second ∙ ap (λ (ts : Trees). Then (tree a) (Then (tree b) ts)) (part_of es 2 c (omega arith) third)
+
+pub binary_is : (e : Expr) (o : BinaryOp) (l r : Box Expr Global) (a b : Expr) → e ≡ Binary o l r → a ≡ l.value → b ≡ r.value → tree e ≡ Bin (view_binary o) (tree a) (tree b)
+binary_is e o l r a b is left right =
+    ap tree is ∙ ap (λ (x : Expr). Bin (view_binary o) (tree x) (tree r.value)) (sym left) ∙ ap (λ (x : Expr). Bin (view_binary o) (tree a) (tree x)) (sym right)
+
+-- what a test of an ERE says
+pub some_ere : (o : Option (Bor (List ℕ))) (ts : List (List ℕ)) → MatchOption o (ts ≡ []) (λ t. ts ≡ t.now ∷ []) → is_some o ≡ is_ere ts
+some_ere None ts h = sym (ap is_ere h)
+some_ere (Some t) ts h = sym (ap is_ere h)
+
+pub flag_is : (b : Bool) → from_bool b ≡ flag_number b
+flag_is true = refl
+flag_is false = refl
+
+some_kind : (ps : List NameKind) → 0 < length ps → NameKind
+some_kind [] lt = absurd (omega arith)
+some_kind (p ∷ ps) lt = p
+
+module _ (texts : List (List ℕ)) (scope : Scope) where
+  -- places
+
+  pub element_code : (e : Tree) (x : List ℕ) (ts : Trees) (key : Code) → Index x ts ≡ e → key ≡ key_code texts scope ts →
+      host row.Elem (two (Array (array_of scope x)) key) ≡ code_of texts scope e
+  unfolding code_of
+  element_code e x ts key is k = ap (λ (u : Code). host row.Elem (two (Array (array_of scope x)) u)) k ∙ ap (code_of texts scope) is
+
+  pub in_list_code : (e : Tree) (x : List ℕ) (t : Tree) (ts : Trees) (first rest : Code) → HasList t ts x ≡ e → first ≡ code_of texts scope t →
+      rest ≡ key_code texts scope ts → host row.Has (two (Array (array_of scope x)) (host row.Join (two first rest))) ≡ code_of texts scope e
+  unfolding code_of
+  in_list_code e x t ts first rest is f r = rw (f, r) (ap (code_of texts scope) is)
+
+  pub element_kept : (e : Tree) (x : List ℕ) (ts : Trees) (key : Code) → Index x ts ≡ e → key ≡ key_code texts scope ts → Some key ≡ kept_code texts scope e
+  unfolding kept_code
+  element_kept e x ts key is k = ap Some k ∙ ap (kept_code texts scope) is
+
+  -- operands
+
+  pub operands_step : (old new : List Operand) (code : Owned) (es : List Expr) (i : ℕ) (e : Expr) (total : Codes) → i < length es → e ≡ get_or es i e →
+      new ≡ old ++ operand.Code code ∷ [] → view code ≡ code_of texts scope (tree e) →
+      followed (views old) (codes_of texts scope (trees (drop i es))) ≡ total →
+      followed (views new) (codes_of texts scope (trees (drop (i + 1) es))) ≡ total
+  unfolding codes_of
+  operands_step old new code es i e total lt read more is so =
+      let rest = codes_of texts scope (trees (drop (i + 1) es)) in
+      ap (λ (os : List Operand). followed (views os) rest) more
+      ∙ followed_push old (operand.Code code) rest
+      ∙ ap (λ (c : Code). followed (views old) (At c rest)) is
+      ∙ sym (ap (λ (ts : Trees). followed (views old) (codes_of texts scope ts)) (part_of es i e lt read))
+      ∙ so
+
+  pub operands_end : (all : List Operand) (es : List Expr) (i : ℕ) (total : Codes) → length es ≤ i →
+      followed (views all) (codes_of texts scope (trees (drop i es))) ≡ total → views all ≡ total
+  unfolding codes_of
+  operands_end all es i total le so =
+      sym (followed_end (views all)) ∙ sym (ap (λ (ts : Trees). followed (views all) (codes_of texts scope ts)) (no_more es i le)) ∙ so
+
+  -- keys
+
+  pub key_none : (es : List Expr) → (length es == 0) ≡ true → Unset ≡ key_code texts scope (trees es)
+  unfolding key_code
+  key_none es none = ap (key_code texts scope) (sym (no_trees es none))
+
+  pub key_end : (es : List Expr) (i : ℕ) (e : Expr) → i + 1 ≡ length es → e ≡ get_or es i e → code_of texts scope (tree e) ≡ key_code texts scope (trees (drop i es))
+  unfolding key_code
+  key_end es i e n read =
+      sym (ap (key_code texts scope) (part_of es i e (omega arith) read ∙ ap (Then (tree e)) (no_more es (i + 1) (omega arith))))
+
+  key_before : (t : Tree) (es : List Expr) → 0 < length es → host row.Join (two (code_of texts scope t) (key_code texts scope (trees es))) ≡ key_code texts scope (Then t (trees es))
+  unfolding key_code
+  key_before t [] lt = absurd (omega arith)
+  key_before t (e ∷ es) lt = refl
+
+  -- j is the place after i
+  pub key_step : (es : List Expr) (i j : ℕ) (e : Expr) (first rest : Code) → j ≡ i + 1 → j < length es → e ≡ get_or es i e → first ≡ code_of texts scope (tree e) →
+      rest ≡ key_code texts scope (trees (drop j es)) → host row.Join (two first rest) ≡ key_code texts scope (trees (drop i es))
+  key_step es i j e first rest next lt read f r =
+      rw (f, r, next) (key_before (tree e) (drop (i + 1) es) (omega (arith, length-drop (i + 1) es))
+      ∙ sym (ap (key_code texts scope) (part_of es i e (omega arith) read)))
+
+  -- arguments
+
+  pub given_other : (p : Name) (t : Tree) (other : Code) → bare_name t ≡ None → given_code texts scope p t other ≡ other
+  given_other p (Var x) other h = absurd (cc)
+  given_other p (Leaf c) other h = refl
+  given_other p Length other h = refl
+  given_other p (Index x ts) other h = refl
+  given_other p (Field t) other h = refl
+  given_other p (Group t) other h = refl
+  given_other p (Call f ts) other h = refl
+  given_other p (Apply f ts) other h = refl
+  given_other p (Unary o t) other h = refl
+  given_other p (Pre s t) other h = refl
+  given_other p (Post s t) other h = refl
+  given_other p (Bin o a b) other h = refl
+  given_other p (Has t x) other h = refl
+  given_other p (HasList t ts x) other h = refl
+  given_other p (Cond a b c) other h = refl
+  given_other p Get other h = refl
+  given_other p (GetInto v) other h = refl
+  given_other p (GetFrom s) other h = refl
+  given_other p (GetIntoFrom v s) other h = refl
+
+  pub arguments_given : (ps : List NameKind) (es : List Expr) (i : ℕ) (p : NameKind) (d : Expr) → i < length ps → i < length es →
+      argument_codes texts scope (view_name_kinds (drop i ps)) (trees (drop i es))
+      ≡ At (given_code texts scope (view_name (get_or ps i p)) (tree (get_or es i d)) (code_of texts scope (tree (get_or es i d)))) (argument_codes texts scope (view_name_kinds (drop (i + 1) ps)) (trees (drop (i + 1) es)))
+  unfolding argument_codes
+  arguments_given ps es i p d lt here =
+      ap (λ (xs : List NameKind). argument_codes texts scope (view_name_kinds xs) (trees (drop i es))) (drop_any ps i p lt)
+      ∙ ap (λ (xs : List Expr). argument_codes texts scope (view_name (get_or ps i p) ∷ view_name_kinds (drop (i + 1) ps)) (trees xs)) (drop_any es i d here)
+
+  none_given : (ps : List Name) → argument_codes texts scope ps NoTree ≡ fresh_codes ps
+  unfolding argument_codes
+  none_given ps = refl
+
+  arguments_past : (ps : List NameKind) (es : List Expr) (i : ℕ) → length es ≤ i → argument_codes texts scope (view_name_kinds ps) (trees (drop i es)) ≡ fresh_codes (view_name_kinds ps)
+  arguments_past ps es i le = ap (λ (xs : List Expr). argument_codes texts scope (view_name_kinds ps) (trees xs)) (drop_of_length-le es le) ∙ none_given (view_name_kinds ps)
+
+  -- where arguments are missing
+  pub arguments_missing : (ps : List NameKind) (es : List Expr) (i : ℕ) (p : NameKind) (e : Codes → Codes) → i < length ps → length es ≤ i →
+      ((rest : List Name) → e (fresh_codes rest) ≡ fresh_codes (view_name (get_or ps i p) ∷ rest)) →
+      argument_codes texts scope (view_name_kinds (drop i ps)) (trees (drop i es)) ≡ e (argument_codes texts scope (view_name_kinds (drop (i + 1) ps)) (trees (drop (i + 1) es)))
+  arguments_missing ps es i p e lt le h =
+      arguments_past (drop i ps) es i le
+      ∙ ap (λ (xs : List NameKind). fresh_codes (view_name_kinds xs)) (drop_any ps i p lt)
+      ∙ sym (h (view_name_kinds (drop (i + 1) ps)))
+      ∙ ap e (sym (arguments_past (drop (i + 1) ps) es (i + 1) (omega arith)))
+
+  pub arguments_end : (ts : Trees) → argument_codes texts scope [] ts ≡ End
+  unfolding argument_codes
+  arguments_end NoTree = refl
+  arguments_end (Then t ts) = refl
+
+  -- a missing argument
+  pub call_missing : (old new : List Operand) (o : Operand) (ps : List NameKind) (es : List Expr) (i : ℕ) (p : NameKind) (total : Codes) → i < length ps → length es ≤ i →
+      new ≡ old ++ o ∷ [] → ((rest : List Name) → before o (fresh_codes rest) ≡ fresh_codes (view_name (get_or ps i p) ∷ rest)) →
+      followed (views old) (argument_codes texts scope (view_name_kinds (drop i ps)) (trees (drop i es))) ≡ total →
+      followed (views new) (argument_codes texts scope (view_name_kinds (drop (i + 1) ps)) (trees (drop (i + 1) es))) ≡ total
+  call_missing old new o ps es i p total lt le more is so =
+      let rest = argument_codes texts scope (view_name_kinds (drop (i + 1) ps)) (trees (drop (i + 1) es)) in
+      ap (λ (os : List Operand). followed (views os) rest) more
+      ∙ followed_push old o rest
+      ∙ sym (ap (followed (views old)) (arguments_missing ps es i p (before o) lt le is))
+      ∙ so
+
+  -- an argument
+  pub call_given : (old new : List Operand) (code : Owned) (ps : List NameKind) (es : List Expr) (i : ℕ) (p : NameKind) (e : Expr) (total : Codes) →
+      i < length ps → i < length es → e ≡ get_or es i e → new ≡ old ++ operand.Code code ∷ [] →
+      view code ≡ given_code texts scope (view_name (get_or ps i p)) (tree e) (code_of texts scope (tree e)) →
+      followed (views old) (argument_codes texts scope (view_name_kinds (drop i ps)) (trees (drop i es))) ≡ total →
+      followed (views new) (argument_codes texts scope (view_name_kinds (drop (i + 1) ps)) (trees (drop (i + 1) es))) ≡ total
+  call_given old new code ps es i p e total lt here read more is so =
+      let rest = argument_codes texts scope (view_name_kinds (drop (i + 1) ps)) (trees (drop (i + 1) es)) in
+      ap (λ (os : List Operand). followed (views os) rest) more
+      ∙ followed_push old (operand.Code code) rest
+      ∙ ap (λ (c : Code). followed (views old) (At c rest)) is
+      ∙ ap (λ (a : Expr). followed (views old) (At (given_code texts scope (view_name (get_or ps i p)) (tree a) (code_of texts scope (tree a))) rest)) read
+      ∙ sym (ap (followed (views old)) (arguments_given ps es i p e lt here))
+      ∙ so
+
+  -- a bare name for a parameter
+  pub call_named : (old new : List Operand) (code : Owned) (ps : List NameKind) (es : List Expr) (i : ℕ) (p : NameKind) (e : Expr) (x : List ℕ) (total : Codes) →
+      i < length ps → i < length es → e ≡ get_or es i e → new ≡ old ++ operand.Code code ∷ [] → tree e ≡ Var x →
+      view code ≡ passed_code texts scope (view_name (get_or ps i p)) x →
+      followed (views old) (argument_codes texts scope (view_name_kinds (drop i ps)) (trees (drop i es))) ≡ total →
+      followed (views new) (argument_codes texts scope (view_name_kinds (drop (i + 1) ps)) (trees (drop (i + 1) es))) ≡ total
+  call_named old new code ps es i p e x total lt here read more name is so =
+      let given = view_name (get_or ps i p) in
+      call_given old new code ps es i p e total lt here read more
+      (is ∙ sym (ap (λ (t : Tree). given_code texts scope given t (code_of texts scope (tree e))) name)) so
+
+  -- what is no bare name
+  pub call_computed : (old new : List Operand) (code : Owned) (ps : List NameKind) (es : List Expr) (i : ℕ) (e : Expr) (total : Codes) →
+      i < length ps → i < length es → e ≡ get_or es i e → new ≡ old ++ operand.Code code ∷ [] → bare_name (tree e) ≡ None →
+      view code ≡ code_of texts scope (tree e) →
+      followed (views old) (argument_codes texts scope (view_name_kinds (drop i ps)) (trees (drop i es))) ≡ total →
+      followed (views new) (argument_codes texts scope (view_name_kinds (drop (i + 1) ps)) (trees (drop (i + 1) es))) ≡ total
+  call_computed old new code ps es i e total lt here read more none is so =
+      let p = some_kind ps (omega arith) in
+      call_given old new code ps es i p e total lt here read more
+      (is ∙ sym (given_other (view_name (get_or ps i p)) (tree e) (code_of texts scope (tree e)) none)) so
+
+  pub call_end : (all : List Operand) (ps : List NameKind) (es : List Expr) (i : ℕ) (f : ℕ) (x : List ℕ) → length ps ≤ i → f ≡ function_number scope.script x →
+      view_name_kinds ps ≡ (function_at scope.script.functions f).parameters →
+      followed (views all) (argument_codes texts scope (view_name_kinds (drop i ps)) (trees (drop i es))) ≡ argument_codes texts scope (view_name_kinds ps) (trees es) →
+      Called f (views all) ≡ code_of texts scope (Call x (trees es))
+  unfolding code_of
+  call_end all ps es i f x le number parameters so =
+      ap (Called f) (sym (followed_end (views all))
+      ∙ sym (ap (followed (views all)) (ap (λ (ms : List NameKind). argument_codes texts scope (view_name_kinds ms) (trees (drop i es))) (drop_of_length-le ps le) ∙ arguments_end (trees (drop i es))))
+      ∙ so ∙ ap (λ (ms : List Name). argument_codes texts scope ms (trees es)) parameters)
+      ∙ ap (λ (g : ℕ). Called g (argument_codes texts scope (function_at scope.script.functions g).parameters (trees es))) number
+
+  -- built-in functions
+
+  pub list_code : (f : Builtin) (ts : Trees) (old : List Operand) (all : Codes) → f ≡ builtin.Sprintf → old ≡ [] →
+      all ≡ followed (views old) (codes_of texts scope ts) → Over listed.Sprintf all ≡ code_of texts scope (Apply f ts)
+  unfolding code_of
+  list_code f ts old all is none so =
+      ap (Over listed.Sprintf) (so ∙ ap (λ (os : List Operand). followed (views os) (codes_of texts scope ts)) none)
+      ∙ sym (ap (λ (g : Builtin). code_of texts scope (Apply g ts)) is)
+
+  pub other_code : (f : Builtin) (ts : Trees) → f ≢ builtin.Sprintf → applied_code texts scope f ts ≡ code_of texts scope (Apply f ts)
+  unfolding code_of
+  other_code builtin.Sprintf ts other = absurd (other refl)
+  other_code builtin.Length ts other = refl
+  other_code builtin.Substr ts other = refl
+  other_code builtin.Index ts other = refl
+  other_code builtin.Split ts other = refl
+  other_code builtin.Sub ts other = refl
+  other_code builtin.Gsub ts other = refl
+  other_code builtin.Match ts other = refl
+  other_code builtin.ToLower ts other = refl
+  other_code builtin.ToUpper ts other = refl
+  other_code builtin.Int ts other = refl
+  other_code builtin.Close ts other = refl
+
+  pub length_more : (f : Builtin) (es : List Expr) → 2 ≤ length es → f ≡ builtin.Length → host row.Length (one record_code) ≡ applied_code texts scope f (trees es)
+  unfolding applied_code
+  length_more f [] le is = absurd (omega arith)
+  length_more f (a ∷ []) le is = absurd (omega arith)
+  length_more f (a ∷ b ∷ es) le is = sym (ap (λ (g : Builtin). applied_code texts scope g (trees (a ∷ b ∷ es))) is)
+
+  pub index_code : (f : Builtin) (es : List Expr) (a b : Expr) (l r : Code) → 2 ≤ length es → a ≡ get_or es 0 a → b ≡ get_or es 1 b → f ≡ builtin.Index →
+      l ≡ code_of texts scope (tree a) → r ≡ code_of texts scope (tree b) → host row.Index (two l r) ≡ applied_code texts scope f (trees es)
+  unfolding applied_code
+  index_code f es a b l r le first second is hl hr = rw (hl, hr, is) (sym (ap (applied_code texts scope builtin.Index) (two_trees es a b le first second)))
+
+  pub match_code : (f : Builtin) (es : List Expr) (a b : Expr) (l r : Code) → 2 ≤ length es → a ≡ get_or es 0 a → b ≡ get_or es 1 b → f ≡ builtin.Match →
+      l ≡ code_of texts scope (tree a) → r ≡ ere_code texts (ere_in (tree b)) (code_of texts scope (tree b)) → host row.Match (two l r) ≡ applied_code texts scope f (trees es)
+  unfolding applied_code
+  match_code f es a b l r le first second is hl hr = rw (hl, hr, is) (sym (ap (applied_code texts scope builtin.Match) (two_trees es a b le first second)))
+
+  pub substr_from : (es : List Expr) (a b : Expr) (l r : Code) → length es ≡ 2 → a ≡ get_or es 0 a → b ≡ get_or es 1 b →
+      l ≡ code_of texts scope (tree a) → r ≡ code_of texts scope (tree b) → host row.SubstrFrom (two l r) ≡ applied_code texts scope builtin.Substr (trees es)
+  unfolding applied_code
+  substr_from es a b l r n first second hl hr = rw (hl, hr) (sym (ap (applied_code texts scope builtin.Substr) (just_two es a b n first second)))
+
+  pub substr_code : (es : List Expr) (a b c : Expr) (l r n : Code) → 3 ≤ length es → a ≡ get_or es 0 a → b ≡ get_or es 1 b → c ≡ get_or es 2 c →
+      l ≡ code_of texts scope (tree a) → r ≡ code_of texts scope (tree b) → n ≡ code_of texts scope (tree c) →
+      host row.Substr (At l (two r n)) ≡ applied_code texts scope builtin.Substr (trees es)
+  unfolding applied_code
+  substr_code es a b c l r n le first second third hl hr hn = rw (hl, hr, hn) (sym (ap (applied_code texts scope builtin.Substr) (three_trees es a b c le first second third)))
+
+  -- the second operand of `split` is a name
+  split_other : (s t : Tree) (ts : Trees) → bare_name t ≡ None → Unset ≡ applied_code texts scope builtin.Split (Then s (Then t ts))
+  unfolding applied_code
+  split_other s (Var x) ts h = absurd (cc)
+  split_other s (Leaf c) ts h = refl
+  split_other s Length ts h = refl
+  split_other s (Index x us) ts h = refl
+  split_other s (Field t) ts h = refl
+  split_other s (Group t) ts h = refl
+  split_other s (Call f us) ts h = refl
+  split_other s (Apply f us) ts h = refl
+  split_other s (Unary o t) ts h = refl
+  split_other s (Pre o t) ts h = refl
+  split_other s (Post o t) ts h = refl
+  split_other s (Bin o a b) ts h = refl
+  split_other s (Has t x) ts h = refl
+  split_other s (HasList t us x) ts h = refl
+  split_other s (Cond a b c) ts h = refl
+  split_other s Get ts h = refl
+  split_other s (GetInto v) ts h = refl
+  split_other s (GetFrom v) ts h = refl
+  split_other s (GetIntoFrom v w) ts h = refl
+
+  pub split_none : (es : List Expr) (b : Expr) → 2 ≤ length es → b ≡ get_or es 1 b → bare_name (tree b) ≡ None → Unset ≡ applied_code texts scope builtin.Split (trees es)
+  split_none [] b le second none = absurd (omega arith)
+  split_none (x ∷ []) b le second none = absurd (omega arith)
+  split_none (x ∷ y ∷ es) b le second none = split_other (tree x) (tree y) (trees es) (ap (λ (e : Expr). bare_name (tree e)) (sym second) ∙ none)
+
+  pub split_code : (es : List Expr) (a b : Expr) (x : List ℕ) (l array r : Code) → length es ≡ 2 → a ≡ get_or es 0 a → b ≡ get_or es 1 b → tree b ≡ Var x →
+      l ≡ code_of texts scope (tree a) → array ≡ Array (array_of scope x) → r ≡ special_code Fs →
+      host row.Split (At l (At array (At r (Fixed (flag_number false) End)))) ≡ applied_code texts scope builtin.Split (trees es)
+  unfolding applied_code
+  split_code es a b x l array r n first second name hl ha hr =
+      rw (hl, ha, hr) (sym (ap (applied_code texts scope builtin.Split) (just_two es a b n first second ∙ ap (λ (t : Tree). Then (tree a) (Then t NoTree)) name)))
+
+  pub split_by_code : (es : List Expr) (a b c : Expr) (x : List ℕ) (l array r : Code) (flag : Bool) → 3 ≤ length es → a ≡ get_or es 0 a → b ≡ get_or es 1 b → c ≡ get_or es 2 c →
+      tree b ≡ Var x → l ≡ code_of texts scope (tree a) → array ≡ Array (array_of scope x) →
+      r ≡ ere_code texts (ere_in (tree c)) (code_of texts scope (tree c)) → flag ≡ is_ere (ere_in (tree c)) →
+      host row.Split (At l (At array (At r (Fixed (flag_number flag) End)))) ≡ applied_code texts scope builtin.Split (trees es)
+  unfolding applied_code
+  split_by_code es a b c x l array r flag le first second third name hl ha hr hf =
+      rw (hl, ha, hr, hf) (sym (ap (applied_code texts scope builtin.Split)
+      (three_trees es a b c le first second third ∙ ap (λ (t : Tree). Then (tree a) (Then t (Then (tree c) (trees (drop 3 es))))) name)))
+
+  pub record_replaced : (all : Bool) (es : List Expr) (a b : Expr) (ere replacement : Code) → length es ≡ 2 → a ≡ get_or es 0 a → b ≡ get_or es 1 b →
+      ere ≡ ere_code texts (ere_in (tree a)) (code_of texts scope (tree a)) → replacement ≡ code_of texts scope (tree b) →
+      Let ere (Let replacement (Let zero_code (substituted_at all FieldTarget))) ≡ applied_code texts scope (sub_or_gsub all) (trees es)
+  unfolding applied_code
+  record_replaced false es a b ere replacement n first second he hr =
+      rw (he, hr) (sym (ap (applied_code texts scope builtin.Sub) (just_two es a b n first second)))
+  record_replaced true es a b ere replacement n first second he hr =
+      rw (he, hr) (sym (ap (applied_code texts scope builtin.Gsub) (just_two es a b n first second)))
+
+  pub place_replaced : (all : Bool) (es : List Expr) (a b c : Expr) (ere replacement : Code) (kept : Option Code) → 3 ≤ length es →
+      a ≡ get_or es 0 a → b ≡ get_or es 1 b → c ≡ get_or es 2 c →
+      ere ≡ ere_code texts (ere_in (tree a)) (code_of texts scope (tree a)) → replacement ≡ code_of texts scope (tree b) → kept ≡ kept_code texts scope (tree c) →
+      Let ere (Let replacement (keeping kept (substituted_at all (target_in texts scope (tree c))))) ≡ applied_code texts scope (sub_or_gsub all) (trees es)
+  unfolding applied_code
+  place_replaced false es a b c ere replacement kept le first second third he hr hk =
+      rw (he, hr, hk) (sym (ap (applied_code texts scope builtin.Sub) (three_trees es a b c le first second third)))
+  place_replaced true es a b c ere replacement kept le first second third he hr hk =
+      rw (he, hr, hk) (sym (ap (applied_code texts scope builtin.Gsub) (three_trees es a b c le first second third)))
+
+  -- q says whether the operator divides
+  pub quotient_code : (e a b : Tree) (o : Op) (q : Bool) (l r : Code) → e ≡ Bin o a b →
+      ((whole : Code) → truncated_code texts scope (Bin o a b) whole ≡ (if q then Do (Inline inline.Truncated) (two (code_of texts scope a) (code_of texts scope b)) else host row.IntOf (one whole))) →
+      q ≡ true → l ≡ code_of texts scope a → r ≡ code_of texts scope b →
+      Do (Inline inline.Truncated) (two l r) ≡ truncated_code texts scope e (code_of texts scope e)
+  quotient_code e a b o q l r is so divides hl hr =
+      let whole = code_of texts scope e in
+      rw (hl, hr) (sym (ap (λ (t : Tree). truncated_code texts scope t whole) is ∙ so whole
+      ∙ ap (λ (d : Bool). if d then Do (Inline inline.Truncated) (two (code_of texts scope a) (code_of texts scope b)) else host row.IntOf (one whole)) divides))
+
+  pub other_operator : (e a b : Tree) (o : Op) (q : Bool) → e ≡ Bin o a b →
+      ((whole : Code) → truncated_code texts scope (Bin o a b) whole ≡ (if q then Do (Inline inline.Truncated) (two (code_of texts scope a) (code_of texts scope b)) else host row.IntOf (one whole))) →
+      q ≡ false → host row.IntOf (one (code_of texts scope e)) ≡ truncated_code texts scope e (code_of texts scope e)
+  other_operator e a b o q is so none =
+      let whole = code_of texts scope e in
+      sym (ap (λ (t : Tree). truncated_code texts scope t whole) is ∙ so whole
+      ∙ ap (λ (d : Bool). if d then Do (Inline inline.Truncated) (two (code_of texts scope a) (code_of texts scope b)) else host row.IntOf (one whole)) none)

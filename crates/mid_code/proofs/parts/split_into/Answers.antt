@@ -1,0 +1,14 @@
+use Rattle.std.proofs.Common.{ℕ, ap, ◌∙◌}
+use Rattle.mid_code.specs.Mid as plain
+use Rattle.mid_code.specs.ViewCode.{view, views}
+use Rattle.mid_code.specs.declared.mid.Operation.TheVariants.{Host}
+use Rattle.awk_state.specs.declared.table.Primitive.TheVariants as row
+use Rattle.mid_code.proofs.CodeParts.{flag_is}
+use Rattle.mid_code.proofs.Views.{views_push}
+use Rattle.mid_code.proofs.parts.split_into.Goals as goal
+
+pub returns : goal.returns
+returns c =
+    c.applied.ensures ∙ ap (plain.Do (Host row.Split))
+    (ap views c.in_ok-push.ensures.items ∙ views_push c.in_ok-operands.operands.items _ _ c.in_ok-operands.ensures
+    ∙ ap (λ (n : ℕ). plain.At (view c.args.text) (plain.At (view c.args.array) (plain.At (view c.args.separator) (plain.Fixed n plain.End)))) (c.from.ensures ∙ flag_is c.args.is_ere))

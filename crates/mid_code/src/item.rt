@@ -1,0 +1,156 @@
+//! The code of items.
+
+ghost use Rattle.std.specs.Prelude.{◌≡◌, suc, List, ◌∷◌, true, false, IfOk};
+ghost use Rattle.awk_grammar.specs.Item.{Item as PlainItem};
+ghost use Rattle.awk_grammar.specs.View.{view as tree};
+ghost use Rattle.awk_grammar.specs.ViewStmt.{view_item, view_items, view_pattern, view_stmts as tree_stmts};
+ghost use Rattle.mid_code.specs.Items.{print_record, reads_records};
+ghost use Rattle.mid_code.specs.Mid as plain;
+ghost use Rattle.mid_code.specs.Translation.{begin_code, code_of, end_code, items_code, steps_code, where_code};
+ghost use Rattle.mid_code.specs.ViewCode.{maybe_then, view_step, view_steps};
+ghost use Rattle.mid_code.specs.ViewScope.{scope_of, texts_of};
+
+use crate::build::{over, record};
+use crate::code::{Code, Operand};
+use crate::expression::code;
+use crate::scope::Scope;
+use crate::statement::{block, chosen, nothing, steps, two_steps};
+use crate::step::Step;
+use awk_grammar::{Expr, Item, Pattern, Stmt};
+use awk_state::{Destination, Listed};
+use std::alloc::{AllocError, Global};
+
+/// The code of an action.
+fn action(scope: &Scope<'_>, body: &[Stmt]) -> Result<Step, AllocError>
+    ensures { IfOk result (λ step. view_step step ≡ plain.Block (steps_code (texts_of scope.now) (scope_of scope.now) (tree_stmts body.now))) }
+{
+    Ok(block(steps(scope, body)?))
+}
+
+/// The code of an action that is left out.
+fn print_record(scope: &Scope<'_>) -> Result<Step, AllocError>
+    ensures { IfOk result (λ step. view_step step ≡ plain.Block (steps_code (texts_of scope.now) (scope_of scope.now) print_record)) }
+{
+    let mut values = Vec::new(scope.alloc);
+    values.push(Operand::Code(record(scope.alloc)?))?;
+    let print = Step::Eval(over(Listed::Print(Destination::Standard), values));
+    let mut steps = Vec::new(scope.alloc);
+    steps.push(print)?;
+    Ok(block(steps))
+}
+
+/// The code that opens the range of an item where its first pattern is true.
+fn opening(scope: &Scope<'_>, number: usize, first: &Expr) -> Result<Step, AllocError>
+    ensures { IfOk result (λ step. view_step step ≡ plain.If (plain.IsOpen number) (plain.Block plain.NoStep) (plain.If (code_of (texts_of scope.now) (scope_of scope.now) (tree first.now)) (plain.Mark number true) (plain.Block plain.NoStep))) }
+{
+    let alloc = scope.alloc;
+    let test = code(scope, first)?;
+    let opened = chosen(alloc, test, Step::Mark(number, true), nothing(alloc))?;
+    chosen(alloc, Code::IsOpen(number), nothing(alloc), opened)
+}
+
+/// The code that closes the range of an item where its last pattern is true, before its action.
+fn closing(
+    scope: &Scope<'_>,
+    number: usize,
+    last: &Expr,
+    action: Step,
+) -> Result<Step, AllocError>
+    ensures { IfOk result (λ step. view_step step ≡ plain.If (plain.IsOpen number) (plain.Block (plain.Then (plain.If (code_of (texts_of scope.now) (scope_of scope.now) (tree last.now)) (plain.Mark number false) (plain.Block plain.NoStep)) (plain.Then (view_step action) plain.NoStep))) (plain.Block plain.NoStep)) }
+{
+    let alloc = scope.alloc;
+    let test = code(scope, last)?;
+    let closed = chosen(alloc, test, Step::Mark(number, false), nothing(alloc))?;
+    let both = two_steps(alloc, closed, action)?;
+    chosen(alloc, Code::IsOpen(number), both, nothing(alloc))
+}
+
+/// The code of an item's action where its pattern is met.
+fn where_met(
+    scope: &Scope<'_>,
+    number: usize,
+    pattern: &Pattern,
+    action: Step,
+) -> Result<Step, AllocError>
+    ensures { IfOk result (λ step. view_step step ≡ where_code (texts_of scope.now) (scope_of scope.now) number (view_pattern pattern.now) (view_step action)) }
+{
+    match pattern {
+        Pattern::One(e) => {
+            let test = code(scope, e)?;
+            chosen(scope.alloc, test, action, nothing(scope.alloc))
+        }
+        Pattern::Range(first, last) => {
+            let closing = closing(scope, number, last, action)?;
+            let opening = opening(scope, number, first)?;
+            two_steps(scope.alloc, opening, closing)
+        }
+    }
+}
+
+/// The code of an item that is done for each record, by its number.
+fn record_item(scope: &Scope<'_>, number: usize, item: &Item) -> Result<Option<Step>, AllocError> {
+    match item {
+        Item::Action(body) => Ok(Some(action(scope, body)?)),
+        Item::Rule(pattern, body) => {
+            let action = action(scope, body)?;
+            Ok(Some(where_met(scope, number, pattern, action)?))
+        }
+        Item::PatternOnly(pattern) => {
+            let action = print_record(scope)?;
+            Ok(Some(where_met(scope, number, pattern, action)?))
+        }
+        Item::Function(_, _, _) | Item::Begin(_) | Item::End(_) | Item::Empty => Ok(None),
+    }
+}
+
+/// The code of the items that are done for each record.
+pub(crate) fn record_items(scope: &Scope<'_>, items: &[Item]) -> Result<Vec<Step>, AllocError>
+    ensures { IfOk result (λ steps. view_steps steps.items ≡ items_code (texts_of scope.now) (scope_of scope.now) 0 (view_items items.now)) }
+{
+    let mut found = Vec::new(scope.alloc);
+    for i in 0..items.len() {
+        if let Some(step) = record_item(scope, i, &items[i])? {
+            found.push(step)?;
+        }
+    }
+    Ok(found)
+}
+
+/// The code of the actions of BEGIN.
+pub(crate) fn begin(scope: &Scope<'_>, items: &[Item]) -> Result<Vec<Step>, AllocError>
+    ensures { IfOk result (λ steps. view_steps steps.items ≡ begin_code (texts_of scope.now) (scope_of scope.now) (view_items items.now)) }
+{
+    let mut found = Vec::new(scope.alloc);
+    for item in items {
+        if let Item::Begin(body) = item {
+            found.push(action(scope, body)?)?;
+        }
+    }
+    Ok(found)
+}
+
+/// The code of the actions of END.
+pub(crate) fn end(scope: &Scope<'_>, items: &[Item]) -> Result<Vec<Step>, AllocError>
+    ensures { IfOk result (λ steps. view_steps steps.items ≡ end_code (texts_of scope.now) (scope_of scope.now) (view_items items.now)) }
+{
+    let mut found = Vec::new(scope.alloc);
+    for item in items {
+        if let Item::End(body) = item {
+            found.push(action(scope, body)?)?;
+        }
+    }
+    Ok(found)
+}
+
+/// Whether there are items that are done for each record.
+pub(crate) fn reads_records(items: &[Item]) -> bool
+    ensures { result ≡ reads_records (view_items items.now) }
+{
+    for item in items {
+        match item {
+            Item::Action(_) | Item::Rule(_, _) | Item::PatternOnly(_) => return true,
+            Item::Function(_, _, _) | Item::Begin(_) | Item::End(_) | Item::Empty => {}
+        }
+    }
+    false
+}

@@ -1,0 +1,263 @@
+//! The code of statements.
+
+ghost use Rattle.std.specs.Prelude.{◌≡◌, ℕ, List, true, false, IfOk};
+ghost use Rattle.awk_grammar.specs.ViewStmt.{view_args, view_jump, view_leaving, view_maybe, view_maybe_simple, view_simple, view_stmt as tree_stmt, view_stmts as tree_stmts, view_target as tree_target, view_word};
+ghost use Rattle.awk_grammar.specs.Stmt.{Jumping, Leave};
+ghost use Rattle.mid_code.specs.Mid as plain;
+ghost use Rattle.mid_code.specs.Names as names;
+ghost use Rattle.mid_code.specs.Names.{array_of, variable_of};
+ghost use Rattle.mid_code.specs.Statements.{destination_of, listed_of, operands_of, with_target};
+ghost use Rattle.mid_code.specs.Translation.{codes_of, maybe_step, moved, plain_step, step_code, steps_code, store_variable_code, test_code};
+ghost use Rattle.mid_code.specs.ViewCode.{view, view_array, view_step, view_steps, views};
+ghost use Rattle.mid_code.specs.ViewScope.{scope_of, texts_of};
+
+use crate::build::{over, record, store_variable};
+use crate::code::{ArrayName, Code, Operand};
+use crate::expression::{code, key, push_operands};
+use crate::parts::host_array;
+use crate::scope::Scope;
+use crate::step::Step;
+use awk_grammar::{Expr, Jump, Leaving, PrintArgs, PrintTarget, PrintWord, SimpleStmt, Stmt};
+use awk_state::{Destination, Listed, Primitive};
+use std::alloc::{AllocError, Global};
+
+/// Where a print statement writes to.
+fn destination_of(target: &PrintTarget) -> Destination
+    ensures { result ≡ destination_of (tree_target target.now) }
+{
+    match target {
+        PrintTarget::Output => Destination::Standard,
+        PrintTarget::File(_) => Destination::Emptied,
+        PrintTarget::FileEnd(_) => Destination::Appended,
+    }
+}
+
+/// What the host does with the values of a print statement.
+fn listed_of(word: PrintWord, destination: Destination) -> Listed
+    ensures { result ≡ listed_of (view_word word) destination }
+{
+    match word {
+        PrintWord::Print => Listed::Print(destination),
+        PrintWord::Printf => Listed::Printf(destination),
+    }
+}
+
+/// The values of a print statement; without any it is the record.
+fn values(scope: &Scope<'_>, args: &PrintArgs) -> Result<Vec<Operand>, AllocError>
+    ensures { IfOk result (λ codes. views codes.items ≡ codes_of (texts_of scope.now) (scope_of scope.now) (operands_of (view_args args.now))) }
+{
+    let mut codes = Vec::new(scope.alloc);
+    match args {
+        PrintArgs::Bare => codes.push(Operand::Code(record(scope.alloc)?))?,
+        PrintArgs::Listed(es) => push_operands(scope, es, &mut codes)?,
+        PrintArgs::Enclosed(first, others) => {
+            codes.push(Operand::Code(code(scope, first)?))?;
+            push_operands(scope, others, &mut codes)?;
+        }
+    }
+    Ok(codes)
+}
+
+/// The same, with the target as the last one.
+fn printed(
+    scope: &Scope<'_>,
+    args: &PrintArgs,
+    target: &PrintTarget,
+) -> Result<Vec<Operand>, AllocError>
+    ensures { IfOk result (λ codes. views codes.items ≡ codes_of (texts_of scope.now) (scope_of scope.now) (with_target (operands_of (view_args args.now)) (tree_target target.now))) }
+{
+    let mut codes = values(scope, args)?;
+    match target {
+        PrintTarget::Output => {}
+        PrintTarget::File(file) | PrintTarget::FileEnd(file) => {
+            codes.push(Operand::Code(code(scope, file)?))?;
+        }
+    }
+    Ok(codes)
+}
+
+/// The code of a simple statement.
+fn simple(scope: &Scope<'_>, s: &SimpleStmt) -> Result<Step, AllocError>
+    ensures { IfOk result (λ step. view_step step ≡ plain_step (texts_of scope.now) (scope_of scope.now) (view_simple s.now)) }
+{
+    match s {
+        SimpleStmt::Eval(e) => Ok(Step::Eval(code(scope, e)?)),
+        SimpleStmt::Print(word, args, target) => {
+            let listed = listed_of(*word, destination_of(target));
+            Ok(Step::Eval(over(listed, printed(scope, args, target)?)))
+        }
+        SimpleStmt::Delete(name, subscripts) => {
+            let key = key(scope, subscripts)?;
+            Ok(Step::Eval(host_array(scope, Primitive::Delete, name, key)?))
+        }
+    }
+}
+
+pub(crate) fn block(steps: Vec<Step>) -> Step
+    ensures { view_step result ≡ plain.Block (view_steps steps.items) }
+{
+    Step::Block(steps)
+}
+
+/// What does nothing.
+pub(crate) fn nothing(alloc: Global) -> Step
+    ensures { view_step result ≡ plain.Block plain.NoStep }
+{
+    block(Vec::new(alloc))
+}
+
+/// The code of a simple statement, if there is one.
+fn optional_simple(scope: &Scope<'_>, s: &Option<SimpleStmt>) -> Result<Step, AllocError>
+    ensures { IfOk result (λ step. view_step step ≡ maybe_step (texts_of scope.now) (scope_of scope.now) (view_maybe_simple s.now)) }
+{
+    match s {
+        None => Ok(nothing(scope.alloc)),
+        Some(s) => simple(scope, s),
+    }
+}
+
+/// The code of a test, which holds where it is left out.
+fn test(scope: &Scope<'_>, e: &Option<Expr>) -> Result<Code, AllocError>
+    ensures { IfOk result (λ code. view code ≡ test_code (texts_of scope.now) (scope_of scope.now) (view_maybe e.now)) }
+{
+    match e {
+        None => Ok(Code::Number(1)),
+        Some(e) => code(scope, e),
+    }
+}
+
+pub(crate) fn chosen(alloc: Global, test: Code, yes: Step, no: Step) -> Result<Step, AllocError>
+    ensures { IfOk result (λ step. view_step step ≡ plain.If (view test) (view_step yes) (view_step no)) }
+{
+    Ok(Step::If(test, Box::new(alloc, yes)?, Box::new(alloc, no)?))
+}
+
+fn repeated(
+    alloc: Global,
+    first: bool,
+    test: Code,
+    body: Step,
+    next: Step,
+) -> Result<Step, AllocError>
+    ensures { IfOk result (λ step. view_step step ≡ plain.Loop first (view test) (view_step body) (view_step next)) }
+{
+    Ok(Step::Loop(first, test, Box::new(alloc, body)?, Box::new(alloc, next)?))
+}
+
+fn for_each(alloc: Global, array: ArrayName, store: Code, body: Step) -> Result<Step, AllocError>
+    ensures { IfOk result (λ step. view_step step ≡ plain.Each (view_array array) (view store) (view_step body)) }
+{
+    Ok(Step::Each(array, store, Box::new(alloc, body)?))
+}
+
+/// Two steps in order.
+pub(crate) fn two_steps(alloc: Global, first: Step, second: Step) -> Result<Step, AllocError>
+    ensures { IfOk result (λ step. view_step step ≡ plain.Block (plain.Then (view_step first) (plain.Then (view_step second) plain.NoStep))) }
+{
+    let mut steps = Vec::new(alloc);
+    steps.push(first)?;
+    steps.push(second)?;
+    Ok(block(steps))
+}
+
+fn jump(jump: Jump) -> Step
+    ensures { (texts : List (List ℕ)) (scope : names.Scope) → view_step result ≡ step_code texts scope (Jumping (view_jump jump)) }
+{
+    match jump {
+        Jump::Break => Step::Break,
+        Jump::Continue => Step::Continue,
+        Jump::Next => Step::Next,
+    }
+}
+
+/// The code of `exit` and `return`.
+fn leave(scope: &Scope<'_>, leaving: Leaving, e: &Option<Expr>) -> Result<Step, AllocError>
+    ensures { IfOk result (λ step. view_step step ≡ step_code (texts_of scope.now) (scope_of scope.now) (Leave (view_leaving leaving) (view_maybe e.now))) }
+{
+    match (leaving, e) {
+        (Leaving::Exit, None) => Ok(Step::Exit),
+        (Leaving::Exit, Some(e)) => Ok(Step::ExitWith(code(scope, e)?)),
+        (Leaving::Return, None) => Ok(Step::Return(Code::Unset)),
+        (Leaving::Return, Some(e)) => Ok(Step::Return(code(scope, e)?)),
+    }
+}
+
+/// The code of `for`, where its body has its code.
+fn counted(
+    scope: &Scope<'_>,
+    first: &Option<SimpleStmt>,
+    condition: &Option<Expr>,
+    next: &Option<SimpleStmt>,
+    body: Step,
+) -> Result<Step, AllocError>
+    ensures { IfOk result (λ step. view_step step ≡ plain.Block (plain.Then (maybe_step (texts_of scope.now) (scope_of scope.now) (view_maybe_simple first.now)) (plain.Then (plain.Loop true (test_code (texts_of scope.now) (scope_of scope.now) (view_maybe condition.now)) (view_step body) (maybe_step (texts_of scope.now) (scope_of scope.now) (view_maybe_simple next.now))) plain.NoStep))) }
+{
+    let next = optional_simple(scope, next)?;
+    let condition = test(scope, condition)?;
+    let rounds = repeated(scope.alloc, true, condition, body, next)?;
+    let first = optional_simple(scope, first)?;
+    two_steps(scope.alloc, first, rounds)
+}
+
+/// The code of `for (key in array)`, where its body has its code.
+fn walked(scope: &Scope<'_>, name: &[u8], array: &[u8], body: Step) -> Result<Step, AllocError>
+    ensures { IfOk result (λ step. view_step step ≡ plain.Each (array_of (scope_of scope.now) array.now) (store_variable_code (variable_of (scope_of scope.now) name.now) (moved 0)) (view_step body)) }
+{
+    let key = Code::Bound(true, 0);
+    let store = store_variable(scope.alloc, scope.variable(name), key)?;
+    for_each(scope.alloc, scope.array(array), store, body)
+}
+
+/// The code of a statement.
+#[cycle(statements)]
+#[tactic(auto, unfolding(crate::specs::Translation::step_code))]
+pub(crate) fn step(scope: &Scope<'_>, s: &Stmt) -> Result<Step, AllocError>
+    ensures { IfOk result (λ step. view_step step ≡ step_code (texts_of scope.now) (scope_of scope.now) (tree_stmt s.now)) }
+{
+    let alloc = scope.alloc;
+    match s {
+        Stmt::Block(body) => Ok(block(steps(scope, body)?)),
+        Stmt::Empty => Ok(nothing(alloc)),
+        Stmt::Simple(s) => simple(scope, s),
+        Stmt::If(test, yes) => {
+            let test = code(scope, test)?;
+            chosen(alloc, test, step(scope, yes)?, nothing(alloc))
+        }
+        Stmt::IfElse(test, yes, no) => {
+            let test = code(scope, test)?;
+            let yes = step(scope, yes)?;
+            chosen(alloc, test, yes, step(scope, no)?)
+        }
+        Stmt::While(test, body) => {
+            let test = code(scope, test)?;
+            repeated(alloc, true, test, step(scope, body)?, nothing(alloc))
+        }
+        Stmt::Do(body, test) => {
+            let test = code(scope, test)?;
+            repeated(alloc, false, test, step(scope, body)?, nothing(alloc))
+        }
+        Stmt::For(first, condition, next, body) => {
+            let body = step(scope, body)?;
+            counted(scope, first, condition, next, body)
+        }
+        Stmt::ForIn(key, array, body) => {
+            let body = step(scope, body)?;
+            walked(scope, key, array, body)
+        }
+        Stmt::Jump(jumping) => Ok(jump(*jumping)),
+        Stmt::Leave(leaving, e) => leave(scope, *leaving, e),
+    }
+}
+
+/// The code of statements.
+#[cycle(statements)]
+#[tactic(auto, unfolding(crate::specs::Translation::steps_code))]
+pub(crate) fn steps(scope: &Scope<'_>, body: &[Stmt]) -> Result<Vec<Step>, AllocError>
+    ensures { IfOk result (λ steps. view_steps steps.items ≡ steps_code (texts_of scope.now) (scope_of scope.now) (tree_stmts body.now)) }
+{
+    let mut found = Vec::new(scope.alloc);
+    for s in body {
+        found.push(step(scope, s)?)?;
+    }
+    Ok(found)
+}

@@ -1,0 +1,136 @@
+//! From a script with the kinds of its names to its code.
+
+ghost use Rattle.std.specs.Prelude.{◌≡◌, List, map, IfOk};
+ghost use Rattle.awk_resolve.specs.ViewKinds.{view_name, view_name_kinds};
+ghost use Rattle.awk_grammar.specs.ViewStmt.{view_script};
+ghost use Rattle.mid_code.specs.Kinds.{bodies as bodies_of};
+ghost use Rattle.mid_code.specs.MidMeaning.{EndsAs};
+ghost use Rattle.mid_code.specs.Translation.{declared_code, kind_of, program_of, routine_code};
+ghost use Rattle.mid_code.specs.View.{view_declared, view_kind, view_mid, view_routine, view_texts};
+ghost use Rattle.mid_code.specs.ViewNames.{script_of, view_bodies};
+
+use crate::item::{begin, end, reads_records, record_items};
+use crate::names::Names;
+use crate::program::{Declared, Kind, Mid, Routine};
+use crate::scope::Scope;
+use crate::statement::steps;
+use crate::texts::texts_of;
+use awk_grammar::{Item, Script, Stmt};
+use awk_resolve::{NameKind, Resolved};
+use indexmap::IndexSet;
+use std::alloc::{AllocError, Global};
+
+/// What a name of the program is; all scalars are boxed.
+fn kind_of(name: &NameKind<'_>) -> Kind
+    ensures { view_kind result ≡ kind_of (view_name name.now) }
+{
+    if name.is_array {
+        Kind::Many
+    } else {
+        Kind::Boxed
+    }
+}
+
+fn kinds_of(alloc: Global, names: &[NameKind<'_>]) -> Result<Vec<Kind>, AllocError>
+    ensures { IfOk result (λ kinds. map view_kind kinds.items ≡ map kind_of (view_name_kinds names.now)) }
+{
+    let mut kinds = Vec::new(alloc);
+    for name in names {
+        kinds.push(kind_of(name))?;
+    }
+    Ok(kinds)
+}
+
+/// What is announced of the global names.
+fn declared(alloc: Global, names: &[NameKind<'_>]) -> Result<Vec<Declared>, AllocError>
+    ensures { IfOk result (λ found. map view_declared found.items ≡ map declared_code (view_name_kinds names.now)) }
+{
+    let mut found = Vec::new(alloc);
+    for name in names {
+        let kind = kind_of(name);
+        let name = name.name.to_vec(alloc)?;
+        found.push(Declared { name, kind })?;
+    }
+    Ok(found)
+}
+
+/// The bodies of the functions, in the order of the script.
+pub(crate) fn bodies<'a>(alloc: Global, script: &'a Script) -> Result<Vec<&'a [Stmt]>, AllocError>
+    ensures { IfOk result (λ found. view_bodies found.items ≡ bodies_of (view_script script.now)) }
+{
+    let mut found = Vec::new(alloc);
+    for item in &script.items {
+        if let Item::Function(_, _, body) = item {
+            found.push(body.as_slice())?;
+        }
+    }
+    Ok(found)
+}
+
+/// The code of the functions.
+fn routines(
+    alloc: Global,
+    names: &Names<'_>,
+    texts: &IndexSet<Vec<u8>>,
+    bodies: &[&[Stmt]],
+) -> Result<Vec<Routine>, AllocError>
+    requires bodies { view_bodies bodies.now ≡ bodies_of (view_script names.now.resolved.now.script.now) }
+    ensures { IfOk result (λ found. map view_routine found.items ≡ map (routine_code (view_texts texts.now.keys) (script_of names.now.resolved.now)) (script_of names.now.resolved.now).functions) }
+{
+    let mut found = Vec::new(alloc);
+    let functions = &names.resolved.functions;
+    for i in 0..functions.len() {
+        let parameters = &functions[i].parameters;
+        let scope = Scope {
+            alloc,
+            names,
+            texts,
+            parameters,
+        };
+        let body = match bodies.get(i) {
+            Some(body) => steps(&scope, body)?,
+            None => Vec::new(alloc),
+        };
+        found.push(Routine {
+            name: functions[i].name.to_vec(alloc)?,
+            parameters: kinds_of(alloc, parameters)?,
+            body,
+        })?;
+    }
+    Ok(found)
+}
+
+/// The mid code of a script: at each job, input, outside and number of turns it ends as the script does, with the same output.
+///
+/// # Errors
+///
+/// [`AllocError`] where there is no memory for the code.
+pub fn to_mid(alloc: Global, resolved: &Resolved<'_>) -> Result<Mid, AllocError>
+    ensures code { IfOk result (λ mid. view_mid mid ≡ program_of (script_of resolved.now)) }
+    ensures same_meaning { IfOk result (λ mid. EndsAs (view_mid mid) (script_of resolved.now)) }
+{
+    let bodies = bodies(alloc, resolved.script)?;
+    let texts = texts_of(alloc, resolved, &bodies)?;
+    let names = Names::new(alloc, resolved)?;
+    let routines = routines(alloc, &names, &texts, &bodies)?;
+    let scope = Scope {
+        alloc,
+        names: &names,
+        texts: &texts,
+        parameters: &[],
+    };
+    let items = resolved.script.items.as_slice();
+    let begin = begin(&scope, items)?;
+    let end = end(&scope, items)?;
+    let record = record_items(&scope, items)?;
+    Ok(Mid {
+        globals: declared(alloc, &resolved.globals)?,
+        routines,
+        ranges: items.len(),
+        begin,
+        reads: reads_records(items),
+        items: record,
+        end,
+        texts,
+    })
+}
