@@ -1,12 +1,10 @@
 -- What contracts see of the record, and the state that it is a part of.
-use Rattle.std.specs.Prelude.{ℕ, List, Result, Ok, ℤ, refl}
+use Rattle.std.specs.Prelude.{ℕ, List, refl}
 use Rattle.std.specs.Coded.{Coded, code_by, coded×, coded_list}
 use Rattle.awk_values.specs.contracts.value.Value as stored
-use Rattle.awk_values.specs.declared.fault.Fault.{Fault}
 use Rattle.awk_values.specs.declared.value.Value.{Value}
 use Rattle.awk_values.specs.declared.value.Value.TheVariants.{StrNum}
-use Rattle.awk_state.specs.SharedState.{Inner, ◌>>=◌}
-use Rattle.awk_state.specs.FieldRows.{field_number, field_of, with_count, with_field}
+use Rattle.awk_state.specs.SharedState.{Inner}
 use Rattle.host_format.specs.Spans.{span_text}
 use Rattle.host_format.specs.declared.span.Span.{Span}
 
@@ -26,13 +24,3 @@ with_held r inner = record inner { whole = r.whole; fields = r.fields }
 -- the field that a part of a text is
 abbrev pub field_at : List ℕ → Span → Value
 field_at text span = StrNum (span_text text span)
-
--- a field is set by a number that a script gives, or NF is, or a field is read
-abbrev pub field_set : ℤ → Value → Inner → Result Inner Fault
-field_set n v inner = field_number n >>= λ k. with_field k v inner
-
-abbrev pub count_set : ℤ → Inner → Result Inner Fault
-count_set n inner = field_number n >>= λ k. with_count k inner
-
-abbrev pub field_read : ℤ → Inner → Result Value Fault
-field_read n inner = field_number n >>= λ k. Ok (field_of k inner)

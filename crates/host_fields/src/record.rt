@@ -1,12 +1,9 @@
 //! The record.
-ghost use Rattle.std.specs.Prelude.{◌≡◌, ◌≢◌, ◌&&◌, not, [], Ok, Err, IfErr, IfOk, OnErr, OnOk, length, pos};
+ghost use Rattle.std.specs.Prelude.{◌≡◌, ◌≢◌, ◌&&◌, not, [], Err, IfErr, IfOk, OnErr, OnOk, length, pos};
 ghost use Rattle.awk_values.specs.declared.value.Value.TheVariants.{Uninit};
 ghost use Rattle.awk_state.specs.Texts.{is_empty};
-ghost use Rattle.awk_state.specs.SharedState.{Inner};
-ghost use Rattle.awk_state.specs.FieldRows.{at_least, field_number, special_text, with_record};
-ghost use Rattle.awk_state.specs.declared.constants.Special.TheVariants.{Fs, Ofs, Rs};
-ghost use Rattle.host_format.specs.Outcomes.{IsStopOf};
-ghost use Rattle.host_fields.specs.Held.{count_set, field_read, field_set, with_held};
+ghost use Rattle.awk_state.specs.FieldRows.{at_least, field_number};
+ghost use Rattle.host_fields.specs.Calls.{IsRecordOf, IsStopOfChange, IsStopOfRecord, Makes, Reads, count_set, field_set};
 
 use crate::joined::joined;
 use crate::number::{MOST, field_number};
@@ -81,8 +78,8 @@ impl Record {
     /// `BadEre` and `EreTooLarge` of FS, also where the text is empty; `FieldNumber` where there are more than 1,048,576 fields;
     /// [`Stop::NoMemory`].
     pub fn set_whole(&mut self, text: Bytes, fs: &[u8], rs: &[u8]) -> Result<(), Stop>
-        ensures ok { (inner : Inner) → special_text Fs inner ≡ fs.now → special_text Rs inner ≡ rs.now → OnOk result (with_record text inner ≡ Ok (with_held self.new inner)) }
-        ensures err { (inner : Inner) → special_text Fs inner ≡ fs.now → special_text Rs inner ≡ rs.now → IfErr result (IsStopOf (with_record text inner)) }
+        ensures ok { OnOk result (IsRecordOf fs.now rs.now text self.new) }
+        ensures err { IfErr result (IsStopOfRecord fs.now rs.now text) }
         ensures refused { OnErr result (self.new ≡ self.old) }
     {
         let alloc = *self.fields.allocator();
@@ -103,8 +100,8 @@ impl Record {
     /// `FieldNumber` where the number is below 0 or above 1,048,576; `TextLimit` where `$0` would be past 67,108,864 bytes; [`Stop::NoMemory`].
     pub fn set_field(&mut self, n: i64, value: Value, ofs: &[u8]) -> Result<(), Stop>
         requires { n ≢ pos 0 }
-        ensures ok { (inner : Inner) → special_text Ofs inner ≡ ofs.now → OnOk result (field_set n value (with_held self.old inner) ≡ Ok (with_held self.new inner)) }
-        ensures err { (inner : Inner) → special_text Ofs inner ≡ ofs.now → IfErr result (IsStopOf (field_set n value (with_held self.old inner))) }
+        ensures ok { OnOk result (Makes ofs.now (field_set n value) self.old self.new) }
+        ensures err { IfErr result (IsStopOfChange ofs.now (field_set n value) self.old) }
         ensures refused { OnErr result (self.new ≡ self.old) }
     {
         let alloc = *self.fields.allocator();
@@ -131,8 +128,8 @@ impl Record {
     ///
     /// `FieldNumber` where the number is below 0 or above 1,048,576; `TextLimit` where `$0` would be past 67,108,864 bytes; [`Stop::NoMemory`].
     pub fn set_count(&mut self, n: i64, ofs: &[u8]) -> Result<(), Stop>
-        ensures ok { (inner : Inner) → special_text Ofs inner ≡ ofs.now → OnOk result (count_set n (with_held self.old inner) ≡ Ok (with_held self.new inner)) }
-        ensures err { (inner : Inner) → special_text Ofs inner ≡ ofs.now → IfErr result (IsStopOf (count_set n (with_held self.old inner))) }
+        ensures ok { OnOk result (Makes ofs.now (count_set n) self.old self.new) }
+        ensures err { IfErr result (IsStopOfChange ofs.now (count_set n) self.old) }
         ensures refused { OnErr result (self.new ≡ self.old) }
     {
         let alloc = *self.fields.allocator();
@@ -158,7 +155,7 @@ impl Record {
     ///
     /// `FieldNumber` where the number is below 0 or above 1,048,576.
     pub fn field(&self, n: i64) -> Result<&Value, Fault>
-        ensures ok { (inner : Inner) → IfOk result (λ value. field_read n (with_held self.now inner) ≡ Ok value.now) }
+        ensures ok { IfOk result (λ value. Reads n self.now value.now) }
         ensures err { IfErr result (λ fault. field_number n ≡ Err fault) }
     {
         let number = field_number(n)?;
