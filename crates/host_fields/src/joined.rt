@@ -1,0 +1,61 @@
+//! The text of a record that is made of its fields.
+ghost use Rattle.std.specs.Prelude.{◌≡◌, ◌++◌, ◌^◌, ◌≤◌, IfErr, IfOk, OnOk, length};
+ghost use Rattle.awk_values.specs.Values.{text_of_value};
+ghost use Rattle.awk_state.specs.FieldRows.{joined};
+ghost use Rattle.host_format.specs.Outcomes.{IsPast};
+
+use awk_text::text_of;
+use awk_values::{Bytes, Fault, Stop, Value};
+use std::alloc::Global;
+
+/// The most bytes of a text.
+const LIMIT: usize = 1 << 26;
+
+/// Adds bytes to a text that is not whole yet.
+fn put(out: &mut Vec<u8>, bytes: &[u8]) -> Result<(), Stop>
+    requires { length out.old.items ≤ 2 ^ 26 }
+    ensures ok { OnOk result (out.new.items ≡ out.old.items ++ bytes.now) }
+    ensures within { OnOk result (length out.new.items ≤ 2 ^ 26) }
+    ensures err { IfErr result (IsPast (out.old.items ++ bytes.now)) }
+{
+    if bytes.len() > LIMIT - out.len() {
+        return Err(Stop::Fault(Fault::TextLimit));
+    }
+    out.extend_from_slice(bytes)?;
+    Ok(())
+}
+
+/// Adds the text of a value.
+fn put_value(out: &mut Vec<u8>, value: &Value) -> Result<(), Stop>
+    requires { length out.old.items ≤ 2 ^ 26 }
+    ensures ok { OnOk result (out.new.items ≡ out.old.items ++ text_of_value value.now) }
+    ensures within { OnOk result (length out.new.items ≤ 2 ^ 26) }
+    ensures err { IfErr result (IsPast (out.old.items ++ text_of_value value.now)) }
+{
+    match value {
+        Value::Uninit => Ok(()),
+        Value::Num(number) => put(out, text_of(*number).as_bytes()),
+        Value::Text(text) | Value::StrNum(text) => put(out, text.as_slice()),
+    }
+}
+
+/// The texts of values with another text between them.
+///
+/// # Errors
+///
+/// `TextLimit` where the text is past 67,108,864 bytes, and [`Stop::NoMemory`].
+pub(crate) fn joined(alloc: Global, values: &[Value], between: &[u8]) -> Result<Bytes, Stop>
+    ensures ok { IfOk result (λ text. text ≡ joined between.now values.now) }
+    ensures within { IfOk result (λ text. length text ≤ 2 ^ 26) }
+    ensures err { IfErr result (IsPast (joined between.now values.now)) }
+{
+    let mut out = Vec::new(alloc);
+    if let [first, rest @ ..] = values {
+        put_value(&mut out, first)?;
+        for value in rest {
+            put(&mut out, between)?;
+            put_value(&mut out, value)?;
+        }
+    }
+    Ok(Bytes::from_vec(out)?)
+}

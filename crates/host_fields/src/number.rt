@@ -1,0 +1,23 @@
+//! Numbers of fields.
+ghost use Rattle.std.specs.Prelude.{◌≡◌};
+ghost use Rattle.awk_state.specs.FieldRows.{field_number};
+
+use awk_values::Fault;
+
+/// The most fields of a record.
+pub(crate) const MOST: usize = 1 << 20;
+
+/// The number of a field, or a count of fields.
+pub(crate) fn field_number(n: i64) -> Result<usize, Fault>
+    ensures { result ≡ field_number n }
+{
+    match usize::try_from(n) {
+        Ok(number) => {
+            if number > MOST {
+                return Err(Fault::FieldNumber);
+            }
+            Ok(number)
+        }
+        Err(_) => Err(Fault::FieldNumber),
+    }
+}

@@ -1,0 +1,51 @@
+//! What separates fields, kept from one record to the next.
+ghost use Rattle.std.specs.Prelude.{◌≡◌, IfErr, IfOk};
+ghost use Rattle.awk_state.specs.Fields.{separator_of};
+ghost use Rattle.host_format.specs.Outcomes.{IsStopOf};
+ghost use Rattle.host_format.specs.Separators.{Separates};
+ghost use Rattle.host_fields.specs.Splits.{AreFields, IsKept};
+
+use awk_values::Stop;
+use host_format::{Sep, Span, split_text};
+use std::alloc::Global;
+
+/// What separated the last fields, and the FS that meant it.
+#[derive(Drop)]
+pub(crate) struct LastSep {
+    fs: Vec<u8>,
+    sep: Sep,
+}
+
+/// The separator of an FS.
+fn sep_of(alloc: Global, fs: &[u8]) -> Result<LastSep, Stop>
+    ensures ok { IfOk result (λ last. (last.fs.items ≡ fs.now) × Separates fs.now last.sep) }
+    ensures err { IfErr result (IsStopOf (separator_of fs.now)) }
+{
+    let sep = Sep::of(alloc, fs)?;
+    let fs = Vec::from_slice(alloc, fs)?;
+    Ok(LastSep { fs, sep })
+}
+
+/// The fields of a text, as parts of it. An expression is read and built only where FS is another than at the last record.
+pub(crate) fn split(
+    alloc: Global,
+    last: &mut Option<LastSep>,
+    text: &[u8],
+    fs: &[u8],
+    newlines: bool,
+) -> Result<Vec<Span>, Stop>
+    requires { IsKept last.old }
+    ensures ok { IfOk result (λ spans. AreFields fs.now newlines text.now spans.items) }
+    ensures err { IfErr result (IsStopOf (separator_of fs.now)) }
+    ensures kept { IsKept last.new }
+{
+    if let Some(last) = last {
+        if last.fs.as_slice() == fs {
+            return split_text(alloc, text, &mut last.sep, newlines);
+        }
+    }
+    let mut fresh = sep_of(alloc, fs)?;
+    let spans = split_text(alloc, text, &mut fresh.sep, newlines)?;
+    *last = Some(fresh);
+    Ok(spans)
+}
