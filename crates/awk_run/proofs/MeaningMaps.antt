@@ -35,7 +35,7 @@ module _ {H O : Type 0} (M N : Meaning H O) (m : ProgramForm)
   refused_by false t h mem out h' r = r
   refused_by true (Goes c) h mem out h' r = absurd r
   refused_by true (Ends x) h mem out h' r = absurd r
-  refused_by true (Asks i args c) h mem out h' r = (r.0, r.1, weaker h i args mem r.0 h' r.1 out r.2)
+  refused_by true (Asks i args c) h mem out h' r = (r.0, r.1, weaker h i args mem r.0 h' r.1 out r.2, r.3)
 
   steps_by : (n : ℕ) (c : Conf) (h : H) (out : List O) (c' : Conf) (h' : H) → Steps M m n c h out c' h' → Steps N m n c h out c' h'
   steps_by zero c h out c' h' r = r

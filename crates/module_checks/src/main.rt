@@ -4,6 +4,11 @@
 //! A module that is decoded is written and decoded again before it is validated; where it is written in other bytes, they are said too.
 #![tactic(auto)]
 
+ghost use Rattle.std.specs.Prelude.{◌≤◌};
+ghost use Rattle.std.specs.List.{All};
+ghost use Rattle.wasm_types.specs.Instructions.{depths};
+ghost use Rattle.wasm_types.specs.View.{view_module};
+
 mod round_trip;
 
 use module_decoder::decode;
@@ -52,8 +57,10 @@ fn text_of(alloc: Global, bytes: &[u8]) -> Result<String, AllocError> {
 }
 
 /// What the validator says of a module.
-fn verdict(alloc: Global, module: Module) -> Result<String, AllocError> {
-    match validate(alloc, module) {
+fn verdict(alloc: Global, whole: Module) -> Result<String, AllocError>
+    requires { All (λ f. depths f.body ≤ 4000) (view_module whole).funcs }
+{
+    match validate(alloc, whole) {
         Ok(_) => format!(in alloc; "valid"),
         Err((_, fault)) => format!(in alloc; "{fault}"),
     }

@@ -1,6 +1,8 @@
 //! Writing a module and reading it again.
 
-ghost use Rattle.std.specs.Prelude.{◌≡◌, ℕ, List, IfOk, IfErr, MatchResult};
+ghost use Rattle.std.specs.Prelude.{◌≡◌, ◌≤◌, ℕ, List, IfOk, IfErr, MatchResult};
+ghost use Rattle.std.specs.List.{All};
+ghost use Rattle.wasm_types.specs.Instructions.{depths};
 ghost use Rattle.wasm_types.specs.View.{view_module};
 ghost use Rattle.wasm_types.specs.ModuleGrammar.{IsModule};
 ghost use Rattle.module_decoder.specs.declared.fault.DecodeFault.TheVariants.{NoMemory};
@@ -15,6 +17,7 @@ use wasm_types::Module;
 /// A module that is not written is past a limit, so no bytes are its, or there was no memory.
 pub fn decode_written(alloc: Global, m: &Module) -> Result<Result<Module, DecodeFault>, WriteFault>
     ensures again { IfOk result (λ r. MatchResult r (λ again. view_module again ≡ view_module m.now) (λ e. e ≡ NoMemory)) }
+    ensures nested { IfOk result (λ r. IfOk r (λ again. All (λ f. depths f.body ≤ 4000) (view_module again).funcs)) }
     ensures refused { IfErr result (λ e. e ≡ TooLarge → (bytes : List ℕ) → IsModule bytes (view_module m.now) → ⊥) }
 {
     let bytes = write(alloc, m)?;

@@ -7,4 +7,5 @@ pub mod Complete
 pub mod CompleteBody
 pub mod CompleteParts
 pub mod CompleteModule
+mod Nested
 pub mod Rows

@@ -1,6 +1,8 @@
 //! Sections and modules.
 
-ghost use Rattle.std.specs.Prelude.{◌≡◌, ◌-◌, ◌+◌, Some, None, MatchResult, MatchOption, IfOk, Ok, Err, map, length, [], ◌∷◌};
+ghost use Rattle.std.specs.Prelude.{◌≡◌, ◌-◌, ◌+◌, Some, None, MatchResult, MatchOption, IfOk, Ok, Err, map, length, [], ◌∷◌, ◌≤◌};
+ghost use Rattle.std.specs.List.{All};
+ghost use Rattle.wasm_types.specs.Instructions.{depths};
 ghost use Rattle.wasm_types.specs.Syntax.{ModuleForm};
 ghost use Rattle.wasm_types.specs.View.{view_func, view_module};
 ghost use Rattle.wasm_types.specs.ModuleGrammar.{number, no_parts, joined, module_of, IsModule};
@@ -361,6 +363,7 @@ fn after_header<'a>(total: usize, header: &[u8], bytes: &'a [u8]) -> Result<&'a 
 pub fn decode(alloc: Global, bytes: &[u8]) -> Result<Module, DecodeFault>
     ensures read { Gives view_module result (module_at bytes.now) }
     ensures found { IfOk result (λ m. IsModule bytes.now (view_module m)) }
+    ensures nested { IfOk result (λ m. All (λ f. depths f.body ≤ 4000) (view_module m).funcs) }
     ensures only { (m : ModuleForm) → IsModule bytes.now m → Gives view_module result (Ok m) }
 {
     read_module(alloc, bytes)

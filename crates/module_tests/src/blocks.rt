@@ -1,5 +1,10 @@
 //! Bodies nested to the limit, read, written again and validated.
 
+ghost use Rattle.std.specs.Prelude.{◌≤◌};
+ghost use Rattle.std.specs.List.{All};
+ghost use Rattle.wasm_types.specs.Instructions.{depths};
+ghost use Rattle.wasm_types.specs.View.{view_module};
+
 use module_decoder::{DecodeFault, decode};
 use module_validator::validate;
 use module_writer::write;
@@ -34,9 +39,11 @@ fn nested(alloc: Global, opener: u8, depth: u32) -> Result<Vec<u8>, AllocError> 
 }
 
 /// Whether a module is written as these bytes, and valid.
-fn is_again(alloc: Global, module: Module, bytes: &[u8]) -> bool {
-    match write(alloc, &module) {
-        Ok(again) => again.as_slice() == bytes && validate(alloc, module).is_ok(),
+fn is_again(alloc: Global, whole: Module, bytes: &[u8]) -> bool
+    requires { All (λ f. depths f.body ≤ 4000) (view_module whole).funcs }
+{
+    match write(alloc, &whole) {
+        Ok(again) => again.as_slice() == bytes && validate(alloc, whole).is_ok(),
         Err(_) => false,
     }
 }

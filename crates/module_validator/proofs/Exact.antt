@@ -1,10 +1,10 @@
 -- What the algorithm does to a stack of types is exactly what the typing allows.
-use Rattle.std.proofs.Common.{◌≡◌, ℕ, List, [], ◌∷◌, ◌++◌, map, Option, Some, None, Bool, true, false, refl, sym, ap, ◌∙◌, subst, append_assoc, append-nil}
-use Rattle.std.specs.Prelude.{◌↔◌, IsSomeAnd}
+use Rattle.std.proofs.Common.{◌≡◌, List, [], ◌∷◌, ◌++◌, Option, Some, None, Bool, true, false, refl, sym, ap, ◌∙◌, subst, append_assoc, append-nil}
+use Rattle.std.specs.Prelude.{IsSomeAnd}
 use Rattle.wasm_types.specs.declared.types.ValType.{ValType}
 use Rattle.wasm_types.specs.declared.types.ValType.TheVariants.{I32, I64}
-use Rattle.wasm_types.specs.Typing.{one, Effect, Fixed, Leaves, Drops, Selects, Types}
-use Rattle.module_validator.specs.Forms.{Form, Matches, Below, FitsBoth, Fits, next, given, same_kind, if_same, pop_both, pop, any_both, pop_any, push, push_one, pops, select_by, selects, after, Moves, AfterIsExact}
+use Rattle.wasm_types.specs.Typing.{one, Effect, Fixed, Leaves, Drops, Selects}
+use Rattle.module_validator.specs.Forms.{Form, Matches, FitsBoth, Fits, next, given, pop_both, pop, any_both, pop_any, push, push_one, pops, select_by, selects, after, Moves, AfterIsExact}
 
 -- a step of the algorithm that gives what is known below what it took
 abbrev pub Gives : Option Form → List ValType → Type 0

@@ -1,11 +1,6 @@
 -- What is read in the code's lists is what the plain data has.
-use Rattle.std.proofs.Common.{◌≡◌, ℕ, List, ◌++◌, map, Option, ap, ap₂, sym, ◌∙◌}
-use Rattle.std.specs.Prelude.{slice_get}
+use Rattle.std.proofs.Common.{◌≡◌, ℕ, List, ◌++◌, map, ap₂, sym}
 use Rattle.std.proofs.lemmas.Simd.{map-map}
-use Rattle.wasm_types.specs.declared.types.GlobalType.{GlobalType}
-use Rattle.wasm_types.specs.declared.module.Import.{Import}
-use Rattle.wasm_types.specs.declared.module.Func.{Func}
-use Rattle.wasm_types.specs.declared.module.Global.{Global}
 use Rattle.wasm_types.specs.declared.module.Module.{Module}
 use Rattle.wasm_types.specs.View.{view_import, view_func, view_global, view_module}
 use Rattle.wasm_types.specs.Typing.{function_types}

@@ -1,5 +1,5 @@
 -- The module level holds where each of its parts is found to hold.
-use Rattle.std.proofs.Common.{◌≡◌, ◌<◌, ◌^◌, ℕ, Bool, true, false, List, map, length, get_or, refl, sym, subst, ap, ◌∙◌, arith}
+use Rattle.std.proofs.Common.{◌≡◌, ◌<◌, ◌^◌, ℕ, Bool, true, false, List, map, length, sym, subst, arith}
 use Rattle.std.specs.Prelude.{◌↔◌, ◌&&◌, IsTrue, string_bytes}
 use Rattle.std.specs.List.{All}
 use Rattle.std.proofs.lemmas.Bool.{and_parts}
@@ -7,7 +7,6 @@ use Rattle.std.proofs.lemmas.List.{get_or-map, length-map}
 use Rattle.std.proofs.lemmas.List.Elements.{All-map}
 use Rattle.std.proofs.lemmas.Simd.{map-map}
 use Rattle.wasm_types.specs.declared.module.Module.{Module}
-use Rattle.wasm_types.specs.declared.module.Import.{Import}
 use Rattle.wasm_types.specs.Typing.{AreDistinct, DataOk, DescOk, ElemOk, ImportOk, IsConstant, LevelOk, LimitsOk, StartOk}
 use Rattle.wasm_types.specs.View.{signature_of, view_data, view_elem, view_export, view_global, view_import, view_module, views}
 

@@ -1,19 +1,19 @@
 -- The checker's steps are exactly what the typing allows.
-use Rattle.std.proofs.Common.{◌≡◌, ℕ, List, [], ◌∷◌, ◌++◌, Option, Some, None, Bool, true, false, refl, sym, ap, ◌∙◌, subst, drop, length, get_or, ◌+◌, ◌<◌, ◌≤◌, suc, arith, drop-cons}
+use Rattle.std.proofs.Common.{◌≡◌, ℕ, List, [], ◌∷◌, ◌++◌, Option, Some, None, true, false, refl, sym, ap, ◌∙◌, subst, drop, length, get_or, ◌+◌, ◌<◌, ◌≤◌, suc, arith, drop-cons}
 use Rattle.std.proofs.lemmas.List.{drop_all}
-use Rattle.std.specs.Prelude.{◌↔◌, IsSomeAnd, slice_get, Result, ⊤, MatchResult, Ok, Err, IsErr, IsErrAnd}
+use Rattle.std.specs.Prelude.{◌↔◌, IsSomeAnd, slice_get, Result, ⊤, Ok, Err, IsErr, IsErrAnd}
 use Rattle.std.specs.List.{All}
 use Rattle.wasm_types.specs.declared.types.ValType.{ValType}
-use Rattle.wasm_types.specs.declared.types.ValType.TheVariants.{I32, I64}
+use Rattle.wasm_types.specs.declared.types.ValType.TheVariants.{I32}
 use Rattle.wasm_types.specs.declared.instr.Simple.{Simple}
 use Rattle.wasm_types.specs.declared.instr.Instr.{Instr}
 use Rattle.wasm_types.specs.Syntax.{Instruction, Instructions, Plain, BrTable, Block, Loop, If, Done, Then}
 use Rattle.wasm_types.specs.View.{view, views}
 use Rattle.module_validator.specs.declared.stack.Refusal.{Refusal}
-use Rattle.module_validator.specs.declared.stack.Refusal.TheVariants.{BadIndex, BadType, BadAlign, NoMemory}
-use Rattle.wasm_types.specs.Typing.{one, Context, Effect, Fixed, Leaves, Drops, Selects, Types, effect_of, InstrOk, CodeOk, done, more, simple, table, block, loop, choice}
-use Rattle.module_validator.specs.Forms.{Form, Fits, next, given, pop, pops, push_one, after, Moves, Refutes, Sees, IsNone, Judges}
-use Rattle.module_validator.specs.Checks.{behind, Steps, StepsFrom, RunsFrom, IsExact, CanStep, Follows}
+use Rattle.module_validator.specs.declared.stack.Refusal.TheVariants.{Untyped, NoMemory}
+use Rattle.wasm_types.specs.Typing.{one, Context, Effect, Fixed, Leaves, Types, effect_of, InstrOk, CodeOk, done, more, simple, table, block, loop, choice}
+use Rattle.module_validator.specs.Forms.{Form, Fits, next, given, pop, pops, push_one, after, Refutes, Sees, IsNone, Judges}
+use Rattle.module_validator.specs.Checks.{behind, Steps, RunsFrom, IsExact, CanStep, Follows}
 use Rattle.module_validator.proofs.Exact.{exact_there, exact_back}
 
 module _ (C : Context) (L : List (Option ValType)) where
@@ -53,9 +53,7 @@ module _ (C : Context) (L : List (Option ValType)) where
 
   pub simple_follows : (r : Result ⊤ Refusal) (p : Simple) (s t : Form) → Sees r t (behind C L p s) → Follows r C L (Plain p) s t
   simple_follows (Ok _) p s t h = simple_exact p s t (effect_of C L p) refl h
-  simple_follows (Err BadIndex) p s t h = simple_none p s (effect_of C L p) refl h
-  simple_follows (Err BadType) p s t h = simple_none p s (effect_of C L p) refl h
-  simple_follows (Err BadAlign) p s t h = simple_none p s (effect_of C L p) refl h
+  simple_follows (Err Untyped) p s t h = simple_none p s (effect_of C L p) refl h
   simple_follows (Err NoMemory) p s t h = tt
 
   -- blocks
@@ -66,9 +64,7 @@ module _ (C : Context) (L : List (Option ValType)) where
   block_exact r b s t o e = by_effect (Block r b) (Fixed [] r) s t (λ ps rs. (λ h. (block_types r b ps rs h).1, λ h. block o h)) (ap (λ (x : Form). Some x) (sym e))
 
   pub block_not : (r : Option ValType) (b : Instructions) (s : Form) (e : Refusal) → Refutes e (CodeOk C (r ∷ L) b [] (one r)) → Refutes e (CanStep C L (Block r b) s)
-  block_not r b s BadIndex h = λ v. h (block_types r b v.1.2.0 v.1.2.1 v.1.2.3).0
-  block_not r b s BadType h = λ v. h (block_types r b v.1.2.0 v.1.2.1 v.1.2.3).0
-  block_not r b s BadAlign h = λ v. h (block_types r b v.1.2.0 v.1.2.1 v.1.2.3).0
+  block_not r b s Untyped h = λ v. h (block_types r b v.1.2.0 v.1.2.1 v.1.2.3).0
   block_not r b s NoMemory h = tt
 
   loop_types : (r : Option ValType) (b : Instructions) (ps rs : List ValType) → InstrOk C L (Loop r b) ps rs → CodeOk C (None ∷ L) b [] (one r) × Types (Fixed [] r) ps rs
@@ -78,9 +74,7 @@ module _ (C : Context) (L : List (Option ValType)) where
   loop_exact r b s t o e = by_effect (Loop r b) (Fixed [] r) s t (λ ps rs. (λ h. (loop_types r b ps rs h).1, λ h. loop o h)) (ap (λ (x : Form). Some x) (sym e))
 
   pub loop_not : (r : Option ValType) (b : Instructions) (s : Form) (e : Refusal) → Refutes e (CodeOk C (None ∷ L) b [] (one r)) → Refutes e (CanStep C L (Loop r b) s)
-  loop_not r b s BadIndex h = λ v. h (loop_types r b v.1.2.0 v.1.2.1 v.1.2.3).0
-  loop_not r b s BadType h = λ v. h (loop_types r b v.1.2.0 v.1.2.1 v.1.2.3).0
-  loop_not r b s BadAlign h = λ v. h (loop_types r b v.1.2.0 v.1.2.1 v.1.2.3).0
+  loop_not r b s Untyped h = λ v. h (loop_types r b v.1.2.0 v.1.2.1 v.1.2.3).0
   loop_not r b s NoMemory h = tt
 
   -- choices
@@ -93,15 +87,11 @@ module _ (C : Context) (L : List (Option ValType)) where
       (ap (λ (x : Option Form). given (next x (λ y. Some y)) (push_one r)) q ∙ ap (λ (x : Form). Some x) (sym e))
 
   pub choice_first : (r : Option ValType) (b c : Instructions) (s : Form) (e : Refusal) → Refutes e (CodeOk C (r ∷ L) b [] (one r)) → Refutes e (CanStep C L (If r b c) s)
-  choice_first r b c s BadIndex h = λ v. h (choice_types r b c v.1.2.0 v.1.2.1 v.1.2.3).0
-  choice_first r b c s BadType h = λ v. h (choice_types r b c v.1.2.0 v.1.2.1 v.1.2.3).0
-  choice_first r b c s BadAlign h = λ v. h (choice_types r b c v.1.2.0 v.1.2.1 v.1.2.3).0
+  choice_first r b c s Untyped h = λ v. h (choice_types r b c v.1.2.0 v.1.2.1 v.1.2.3).0
   choice_first r b c s NoMemory h = tt
 
   pub choice_second : (r : Option ValType) (b c : Instructions) (s : Form) (e : Refusal) → Refutes e (CodeOk C (r ∷ L) c [] (one r)) → Refutes e (CanStep C L (If r b c) s)
-  choice_second r b c s BadIndex h = λ v. h (choice_types r b c v.1.2.0 v.1.2.1 v.1.2.3).1
-  choice_second r b c s BadType h = λ v. h (choice_types r b c v.1.2.0 v.1.2.1 v.1.2.3).1
-  choice_second r b c s BadAlign h = λ v. h (choice_types r b c v.1.2.0 v.1.2.1 v.1.2.3).1
+  choice_second r b c s Untyped h = λ v. h (choice_types r b c v.1.2.0 v.1.2.1 v.1.2.3).1
   choice_second r b c s NoMemory h = tt
 
   -- what takes an operand first, and there is none
@@ -114,9 +104,7 @@ module _ (C : Context) (L : List (Option ValType)) where
   choice_none r b c s h = none_by (If r b c) (Fixed (I32 ∷ []) r) s (λ ps rs i. (choice_types r b c ps rs i).2) (ap (λ (x : Option Form). given (next x (λ y. Some y)) (push_one r)) h)
 
   pub choice_not : (r : Option ValType) (b c : Instructions) (s : Form) (e : Refusal) → IsNone e (pop I32 s) → Refutes e (CanStep C L (If r b c) s)
-  choice_not r b c s BadIndex h = choice_none r b c s h
-  choice_not r b c s BadType h = choice_none r b c s h
-  choice_not r b c s BadAlign h = choice_none r b c s h
+  choice_not r b c s Untyped h = choice_none r b c s h
   choice_not r b c s NoMemory h = tt
 
   -- tables
@@ -135,18 +123,14 @@ module _ (C : Context) (L : List (Option ValType)) where
       (ap (λ (x : Option Form). given (next x (λ y. pops (one r) y)) (λ y. ([], true))) q ∙ (ap (λ (x : Option Form). given x (λ y. ([], true))) w ∙ ap (λ (x : Form). Some x) (sym e)))
 
   pub table_first : (ns : List ℕ) (n : ℕ) (r : Option ValType) (s : Form) (e : Refusal) → slice_get L n ≡ Some r → IsNone e (pop I32 s) → Refutes e (CanStep C L (BrTable ns n) s)
-  table_first ns n r s BadIndex g h = none_by (BrTable ns n) (Leaves (I32 ∷ one r)) s (λ ps rs i. (table_same ns n r ps rs g i).1) (ap (λ (x : Option Form). given (next x (λ y. pops (one r) y)) (λ y. ([], true))) h)
-  table_first ns n r s BadType g h = none_by (BrTable ns n) (Leaves (I32 ∷ one r)) s (λ ps rs i. (table_same ns n r ps rs g i).1) (ap (λ (x : Option Form). given (next x (λ y. pops (one r) y)) (λ y. ([], true))) h)
-  table_first ns n r s BadAlign g h = none_by (BrTable ns n) (Leaves (I32 ∷ one r)) s (λ ps rs i. (table_same ns n r ps rs g i).1) (ap (λ (x : Option Form). given (next x (λ y. pops (one r) y)) (λ y. ([], true))) h)
+  table_first ns n r s Untyped g h = none_by (BrTable ns n) (Leaves (I32 ∷ one r)) s (λ ps rs i. (table_same ns n r ps rs g i).1) (ap (λ (x : Option Form). given (next x (λ y. pops (one r) y)) (λ y. ([], true))) h)
   table_first ns n r s NoMemory g h = tt
 
   table_second_no : (ns : List ℕ) (n : ℕ) (r : Option ValType) (s u : Form) → slice_get L n ≡ Some r → pop I32 s ≡ Some u → pops (one r) u ≡ None → CanStep C L (BrTable ns n) s → ⊥
   table_second_no ns n r s u g q h = none_by (BrTable ns n) (Leaves (I32 ∷ one r)) s (λ ps rs i. (table_same ns n r ps rs g i).1) (ap (λ (x : Option Form). given (next x (λ y. pops (one r) y)) (λ y. ([], true))) q ∙ ap (λ (x : Option Form). given x (λ y. ([], true))) h)
 
   pub table_second : (ns : List ℕ) (n : ℕ) (r : Option ValType) (s u : Form) (e : Refusal) → slice_get L n ≡ Some r → pop I32 s ≡ Some u → IsNone e (pops (one r) u) → Refutes e (CanStep C L (BrTable ns n) s)
-  table_second ns n r s u BadIndex g q h = table_second_no ns n r s u g q h
-  table_second ns n r s u BadType g q h = table_second_no ns n r s u g q h
-  table_second ns n r s u BadAlign g q h = table_second_no ns n r s u g q h
+  table_second ns n r s u Untyped g q h = table_second_no ns n r s u g q h
   table_second ns n r s u NoMemory g q h = tt
 
   pub table_unknown : (ns : List ℕ) (n : ℕ) (s : Form) → slice_get L n ≡ None → CanStep C L (BrTable ns n) s → ⊥
@@ -188,9 +172,7 @@ judges_err P (Ok _) e h f = cc
 judges_err P (Err d) e h f = subst (λ (y : Refusal). Refutes y P) (sym h.1) f
 
 pub refutes_by : (P Q : Type 0) (e : Refusal) → (Q → P) → Refutes e P → Refutes e Q
-refutes_by P Q BadIndex f h = λ q. h (f q)
-refutes_by P Q BadType f h = λ q. h (f q)
-refutes_by P Q BadAlign f h = λ q. h (f q)
+refutes_by P Q Untyped f h = λ q. h (f q)
 refutes_by P Q NoMemory f h = tt
 
 pub judges_by : (P Q : Type 0) (r : Result ⊤ Refusal) → P ↔ Q → Judges r P → Judges r Q

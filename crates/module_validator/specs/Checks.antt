@@ -1,12 +1,12 @@
 -- What the checker says of an instruction and of code.
-use Rattle.std.specs.Prelude.{ℕ, ◌≡◌, ◌↔◌, List, [], map, ◌∷◌, ◌++◌, Option, Some, None, Bool, true, false, Result, ⊤, MatchResult}
+use Rattle.std.specs.Prelude.{◌≡◌, ◌↔◌, List, map, ◌++◌, Option, Result, ⊤, MatchResult}
 use Rattle.wasm_types.specs.declared.types.ValType.{ValType}
 use Rattle.wasm_types.specs.declared.instr.Simple.{Simple}
 use Rattle.wasm_types.specs.Syntax.{Instruction, Instructions}
 use Rattle.wasm_types.specs.View.{view_module}
 use Rattle.module_validator.specs.declared.checker.Scope.{Scope}
 use Rattle.module_validator.specs.declared.stack.Refusal.{Refusal}
-use Rattle.wasm_types.specs.Typing.{Context, Effect, effect_of, InstrOk, CodeOk, callee_in, typed_in, is_there}
+use Rattle.wasm_types.specs.Typing.{Context, effect_of, InstrOk, CodeOk, callee_in, typed_in, is_there}
 use Rattle.module_validator.specs.Forms.{Form, Fits, next, after, Refutes}
 
 abbrev pub context_of : Scope → Context

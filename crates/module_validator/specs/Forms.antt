@@ -1,10 +1,10 @@
 -- What the algorithm knows of a stack of types: its topmost entries, each a type or any, and whether anything may lie below them.
-use Rattle.std.specs.Prelude.{ℕ, ◌≡◌, ◌↔◌, List, [], ◌∷◌, ◌++◌, map, Option, Some, None, Bool, true, false, IsSomeAnd, Result, ⊤, MatchResult}
+use Rattle.std.specs.Prelude.{◌≡◌, ◌↔◌, List, [], ◌∷◌, ◌++◌, Option, Some, None, Bool, true, false, IsSomeAnd, Result, ⊤, MatchResult}
 use Rattle.wasm_types.specs.declared.types.ValType.{ValType}
 use Rattle.wasm_types.specs.declared.types.ValType.TheVariants.{I32, I64}
 use Rattle.module_validator.specs.declared.stack.Refusal.{Refusal}
-use Rattle.module_validator.specs.declared.stack.Refusal.TheVariants.{BadIndex, BadType, BadAlign, NoMemory}
-use Rattle.wasm_types.specs.Typing.{one, Effect, Fixed, Leaves, Drops, Selects, Types}
+use Rattle.module_validator.specs.declared.stack.Refusal.TheVariants.{Untyped, NoMemory}
+use Rattle.wasm_types.specs.Typing.{Effect, Fixed, Leaves, Drops, Selects, Types}
 
 -- topmost entry first (None: any type); true: code that is not reached, anything may lie below
 abbrev pub Form : Type 0
@@ -99,9 +99,7 @@ AfterIsExact = (e : Effect) (s : Form) (ms : List ValType) → ((ks : List ValTy
 
 -- a call that changes the stack as said, or refuses because that cannot be
 abbrev pub IsNone : {A : Type 0} → Refusal → Option A → Type 0
-IsNone BadIndex r = r ≡ None
-IsNone BadType r = r ≡ None
-IsNone BadAlign r = r ≡ None
+IsNone Untyped r = r ≡ None
 IsNone NoMemory r = Unit {0}
 
 abbrev pub Sees : Result ⊤ Refusal → Form → Option Form → Type 0
@@ -111,9 +109,7 @@ abbrev pub SeesAny : Result (Option ValType) Refusal → Form → Option (Option
 SeesAny r s wanted = MatchResult r (λ k. wanted ≡ Some (k, s)) (λ e. IsNone e wanted)
 
 abbrev pub Refutes : Refusal → Type 0 → Type 0
-Refutes BadIndex P = P → ⊥
-Refutes BadType P = P → ⊥
-Refutes BadAlign P = P → ⊥
+Refutes Untyped P = P → ⊥
 Refutes NoMemory P = Unit {0}
 
 -- a call that decides, or has no memory

@@ -1,6 +1,7 @@
 //! The validator: which modules the typing rules of WebAssembly 1.0 allow (Core 1.0, section 3).
 #![tactic(auto)]
 
+mod causes;
 mod checker;
 pub mod laws;
 mod level;

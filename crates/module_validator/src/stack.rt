@@ -8,12 +8,11 @@ use std::alloc::{AllocError, Global};
 use std::marker::Model;
 use wasm_types::ValType;
 
-/// Why a module is refused.
+/// Why code is refused.
 #[derive(Clone, Copy, PartialEq, Eq, Debug)]
 pub enum Refusal {
-    BadIndex,
-    BadType,
-    BadAlign,
+    /// The rules do not allow it.
+    Untyped,
     NoMemory,
 }
 
@@ -83,7 +82,7 @@ impl Stack {
                 if self.unreached {
                     Ok(None)
                 } else {
-                    Err(Refusal::BadType)
+                    Err(Refusal::Untyped)
                 }
             }
         }
@@ -98,7 +97,7 @@ impl Stack {
                 if k == kind {
                     Ok(())
                 } else {
-                    Err(Refusal::BadType)
+                    Err(Refusal::Untyped)
                 }
             }
             None => Ok(()),
@@ -193,7 +192,7 @@ impl Stack {
         if self.is_done() {
             Ok(())
         } else {
-            Err(Refusal::BadType)
+            Err(Refusal::Untyped)
         }
     }
 }

@@ -1,8 +1,8 @@
 //! Validation of modules.
-ghost use Rattle.std.specs.Prelude.{◌≡◌, ◌++◌, ◌⊎◌, ◌-◌, ◌<◌, OnOk, IfOk, IfErr, Some, MatchResult, slice_get, get_or, length};
+ghost use Rattle.std.specs.Prelude.{◌≡◌, ◌++◌, ◌⊎◌, ◌-◌, ◌<◌, ◌≤◌, OnOk, IfOk, IfErr, Some, MatchResult, slice_get, get_or, length};
 ghost use Rattle.std.specs.List.{All};
-ghost use Rattle.module_validator.specs.Forms.{Judges};
-ghost use Rattle.module_validator.specs.Faults.{Refuses, fault_of};
+ghost use Rattle.module_validator.specs.Faults.{Refuses, Untypes};
+ghost use Rattle.wasm_types.specs.Instructions.{depths};
 ghost use Rattle.wasm_types.specs.Typing.{FuncOk, ModuleOk};
 ghost use Rattle.wasm_types.specs.View.{view_func, view_module};
 
@@ -17,13 +17,14 @@ use wasm_types::{Func, FuncType, Module, ValType};
 /// Why a module is refused. A function is named by its index, imported functions counted first.
 #[derive(Clone, Copy, Debug, PartialEq, Eq, Drop, Error)]
 pub enum InvalidFault {
-    /// The function names a type, function, local, global, label, table or memory that is not there.
+    /// The function is not typed, and names a type, function, local, global, label, table or memory that is not there.
     #[error("BadIndex {0}")]
     BadIndex(usize),
-    /// The function's operands are not of the types that are wanted, or it sets a global that cannot be set.
+    /// The function is not typed, though all that it names is there and its alignments are small enough: its operands are not of the types
+    /// that are wanted, the labels of a table are unlike, or it sets a global that cannot be set.
     #[error("BadType {0}")]
     BadType(usize),
-    /// The function has a load or a store whose alignment is larger than what it moves.
+    /// The function is not typed, all that it names is there, and it has a load or a store whose alignment is larger than what it moves.
     #[error("BadAlign {0}")]
     BadAlign(usize),
     /// Something outside the functions' bodies is wrong: an index, a limit, a constant expression, the start function, or two exports
@@ -83,48 +84,43 @@ fn locals_of(alloc: Global, t: &FuncType, f: &Func) -> Result<Vec<ValType>, Allo
     Ok(locals)
 }
 
-fn check_func(alloc: Global, m: &Module, f: &Func) -> Result<(), Refusal>
-    ensures { Judges result (FuncOk (view_module m.now) (view_func f.now)) }
+fn check_func(alloc: Global, m: &Module, f: &Func, function: usize) -> Result<(), InvalidFault>
+    requires { depths (view_func f.now).body ≤ 4000 }
+    ensures { MatchResult result (λ _. FuncOk (view_module m.now) (view_func f.now)) (Untypes (view_module m.now) (view_func f.now) function) }
 {
     let Some(t) = typed(m, f.ty) else {
-        return Err(Refusal::BadIndex);
+        return Err(InvalidFault::BadIndex(function));
     };
-    let locals = locals_of(alloc, t, f)?;
+    let Ok(locals) = locals_of(alloc, t, f) else {
+        return Err(InvalidFault::NoMemory);
+    };
     let scope = Scope {
         whole: m,
         locals: &locals,
         gives: t.result,
     };
     let mut labels = Labels::new(alloc);
-    scope.body(alloc, &mut labels, &f.body, t.result, t.result)
-}
-
-/// What is said of a function that is refused.
-fn fault_of(function: usize, refusal: Refusal) -> InvalidFault
-    ensures { result ≡ fault_of function refusal }
-{
-    match refusal {
-        Refusal::BadIndex => InvalidFault::BadIndex(function),
-        Refusal::BadType => InvalidFault::BadType(function),
-        Refusal::BadAlign => InvalidFault::BadAlign(function),
-        Refusal::NoMemory => InvalidFault::NoMemory,
+    match scope.body(alloc, &mut labels, &f.body, t.result, t.result) {
+        Ok(()) => Ok(()),
+        Err(Refusal::NoMemory) => Err(InvalidFault::NoMemory),
+        Err(Refusal::Untyped) => Err(scope.name(function, &f.body)),
     }
 }
 
 /// Checks the functions of a module, one after the other.
 fn check_funcs(alloc: Global, m: &Module, imports: usize) -> Result<(), InvalidFault>
-    requires { imports ≡ length (view_module m.now).imports }
+    requires imports { imports ≡ length (view_module m.now).imports }
+    requires nested { All (λ f. depths f.body ≤ 4000) (view_module m.now).funcs }
     ensures { MatchResult result (λ _. All (FuncOk (view_module m.now)) (view_module m.now).funcs) (Refuses (view_module m.now)) }
 {
     for (index, f) in m.funcs.iter().enumerate() {
-        if let Err(refusal) = check_func(alloc, m, f) {
-            return Err(fault_of(imports + index, refusal));
-        }
+        check_func(alloc, m, f, imports + index)?;
     }
     Ok(())
 }
 
 fn check(alloc: Global, m: &Module) -> Result<(), InvalidFault>
+    requires { All (λ f. depths f.body ≤ 4000) (view_module m.now).funcs }
     ensures { MatchResult result (λ _. ModuleOk (view_module m.now)) (Refuses (view_module m.now)) }
 {
     match level_ok(alloc, m) {
@@ -138,9 +134,12 @@ fn check(alloc: Global, m: &Module) -> Result<(), InvalidFault>
 ///
 /// # Errors
 ///
-/// The module is handed back: with [`InvalidFault::BadModule`] where the module level is not typed, with `BadIndex`, `BadType` or
-/// `BadAlign` of the first function that is not typed, or with `NoMemory`.
+/// The module is handed back: with [`InvalidFault::BadModule`] where the module level is not typed, with `BadIndex`, `BadAlign` or
+/// `BadType` of the first function that is not typed, or with `NoMemory`.
+///
+/// Bodies are to be nested at most 4,000 deep, as those of a decoded module are, so that the native stack suffices.
 pub fn validate(alloc: Global, m: Module) -> Result<ValidModule, (Module, InvalidFault)>
+    requires nested { All (λ f. depths f.body ≤ 4000) (view_module m).funcs }
     ensures ok { IfOk result (λ v. v ≡ m) }
     ensures valid { OnOk result (ModuleOk (view_module m)) }
     ensures handed_back { IfErr result (λ e. e.0 ≡ m) }

@@ -6,7 +6,7 @@ use Rattle.wasm_types.specs.declared.types.ValType.TheVariants.{I32, I64}
 use Rattle.wasm_types.specs.declared.instr.Simple.{Simple}
 use Rattle.wasm_types.specs.declared.instr.Simple.TheVariants.{Nop, Br, BrIf, Call, Drop, LocalGet, LocalSet, LocalTee, GlobalGet, GlobalSet, I32Const, I64Const, Test, Compare, Binary, Convert}
 use Rattle.wasm_types.specs.declared.instr.CvtOp.{CvtOp}
-use Rattle.wasm_types.specs.declared.instr.CvtOp.TheVariants.{I32WrapI64, I64ExtendI32S, I64ExtendI32U}
+use Rattle.wasm_types.specs.declared.instr.CvtOp.TheVariants.{I32WrapI64, I64ExtendI32S, I64ExtendI32U, I32Extend8S, I32Extend16S, I64Extend8S, I64Extend16S, I64Extend32S}
 
 abbrev Stack : Type 0
 Stack = List ValType
@@ -49,11 +49,21 @@ abbrev from_type : CvtOp → ValType
 from_type I32WrapI64 = I64
 from_type I64ExtendI32S = I32
 from_type I64ExtendI32U = I32
+from_type I32Extend8S = I32
+from_type I32Extend16S = I32
+from_type I64Extend8S = I64
+from_type I64Extend16S = I64
+from_type I64Extend32S = I64
 
 abbrev to_type : CvtOp → ValType
 to_type I32WrapI64 = I32
 to_type I64ExtendI32S = I64
 to_type I64ExtendI32U = I64
+to_type I32Extend8S = I32
+to_type I32Extend16S = I32
+to_type I64Extend8S = I64
+to_type I64Extend16S = I64
+to_type I64Extend32S = I64
 
 abbrev any_less : Stack → Option Stack
 any_less [] = None

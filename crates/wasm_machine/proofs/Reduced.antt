@@ -37,7 +37,7 @@ use Rattle.wasm_machine.specs.declared.state.RunEnd.{RunEnd}
 use Rattle.wasm_machine.specs.declared.state.RunEnd.TheVariants.{Ended, OutOfSteps, NoMemory}
 use Rattle.wasm_machine.specs.Typed.{AccessOk, IsSafe, IsSafeTurn, SafeEnd, ConfOk, ProgramOk, Linked}
 use Rattle.wasm_machine.specs.Hosts.{Typed}
-use Rattle.wasm_machine.specs.Reductions.{Admin, Const, Does, Invoke, LabelOf, FrameOf, Trapped, Sequence, ε, ◌⨾◌, ◌⧺◌, op, arity, sequence, on, results, StoreForm, after_host, Chain, none, in_labels, in_place, in_frame, in_callers, nested, store_of, EndsIn, IsReduced, IsStepReduced, IsRunReduced, Reduced}
+use Rattle.wasm_machine.specs.Reductions.{Admin, Const, Does, Invoke, LabelOf, FrameOf, Trapped, Sequence, ε, ◌⨾◌, ◌⧺◌, op, arity, sequence, on, results, StoreForm, after_host, Chain, none, in_labels, in_place, in_frame, in_callers, nested, store_of, CallsDeep, EndsIn, IsReduced, IsStepReduced, IsRunReduced, Reduced}
 use Rattle.wasm_machine.specs.Reductions as core
 use Rattle.wasm_machine.proofs.Safe.{never_stuck}
 use Rattle.wasm_machine.proofs.Nesting.{on_parts, once, join, within_body, in_hole, within_callers, trap_here, trap_out}
@@ -48,32 +48,31 @@ is_under : (m n : ℕ) → nat_lt m n ≡ false → n ≤ m
 is_under m n h = grind (arith, nat_tests)
 
 module _ {H O : Type 0} (M : Meaning H O) (m : ProgramForm) where
-  -- with so many frames open besides the first
-  abbrev LeftBy : ℕ → StoreForm H O → Sequence → End → Type 0
-  LeftBy n S es (ends.Returned w) = Chain M m 1 S [] es S [] (on (results w) ε)
-  LeftBy n S es (ends.Trapped k) = Chain M m 1 S [] es S [] (Trapped k ⨾ ε)
-  LeftBy n S es ends.Exhausted = 10000 ≤ n
-  LeftBy n S es ends.Stuck = Unit {0}
+  abbrev LeftBy : StoreForm H O → Sequence → End → Type 0
+  LeftBy S es (ends.Returned w) = Chain M m 1 S [] es S [] (on (results w) ε)
+  LeftBy S es (ends.Trapped k) = Chain M m 1 S [] es S [] (Trapped k ⨾ ε)
+  LeftBy S es ends.Exhausted = (ds : Sequence) × CallsDeep m ds × Chain M m 0 S [] es S [] ds
+  LeftBy S es ends.Stuck = Unit {0}
 
   -- from this store and sequence to where a turn leads: reductions that count one step
-  abbrev IsTurnOf : ℕ → StoreForm H O → Sequence → Turn → Type 0
-  IsTurnOf n S es (Goes d) = Chain M m 1 S [] es (store_of d S.host S.output) [] (nested d)
-  IsTurnOf n S es (Ends e) = LeftBy n S es e
-  IsTurnOf n S es (Asks i args d) =
+  abbrev IsTurnOf : StoreForm H O → Sequence → Turn → Type 0
+  IsTurnOf S es (Goes d) = Chain M m 1 S [] es (store_of d S.host S.output) [] (nested d)
+  IsTurnOf S es (Ends e) = LeftBy S es e
+  IsTurnOf S es (Asks i args d) =
       ((w : Option Word) (h : H) (mem : MemoryForm) (more : List O) → M S.host i args S.memory (answer.Done w) h mem more →
       Chain M m 1 S [] es (store_of (answered (record d { memory = mem }) w) h (S.output ++ more)) [] (nested (answered (record d { memory = mem }) w)))
       × ((k : TrapKind) (h : H) (mem : MemoryForm) (more : List O) → M S.host i args S.memory (answer.Trap k) h mem more → Chain M m 1 S [] es (after_host S h mem more) [] (Trapped k ⨾ ε))
 
-  before_left : (n : ℕ) (S : StoreForm H O) (es ds : Sequence) (e : End) → Chain M m 0 S [] es S [] ds → LeftBy n S ds e → LeftBy n S es e
-  before_left n S es ds (ends.Returned w) c k = join M m 0 1 1 (omega arith) c k
-  before_left n S es ds (ends.Trapped t) c k = join M m 0 1 1 (omega arith) c k
-  before_left n S es ds ends.Exhausted c k = k
-  before_left n S es ds ends.Stuck c k = tt
+  before_left : (S : StoreForm H O) (es ds : Sequence) (e : End) → Chain M m 0 S [] es S [] ds → LeftBy S ds e → LeftBy S es e
+  before_left S es ds (ends.Returned w) c k = join M m 0 1 1 (omega arith) c k
+  before_left S es ds (ends.Trapped t) c k = join M m 0 1 1 (omega arith) c k
+  before_left S es ds ends.Exhausted c k = (k.0, k.1, join M m 0 0 0 (omega arith) c k.2)
+  before_left S es ds ends.Stuck c k = tt
 
-  before_turn : (n : ℕ) (S : StoreForm H O) (es ds : Sequence) (t : Turn) → Chain M m 0 S [] es S [] ds → IsTurnOf n S ds t → IsTurnOf n S es t
-  before_turn n S es ds (Goes d) c k = join M m 0 1 1 (omega arith) c k
-  before_turn n S es ds (Ends e) c k = before_left n S es ds e c k
-  before_turn n S es ds (Asks i args d) c k = ((λ w h mem more x. join M m 0 1 1 (omega arith) c (k.0 w h mem more x)), (λ t h mem more x. join M m 0 1 1 (omega arith) c (k.1 t h mem more x)))
+  before_turn : (S : StoreForm H O) (es ds : Sequence) (t : Turn) → Chain M m 0 S [] es S [] ds → IsTurnOf S ds t → IsTurnOf S es t
+  before_turn S es ds (Goes d) c k = join M m 0 1 1 (omega arith) c k
+  before_turn S es ds (Ends e) c k = before_left S es ds e c k
+  before_turn S es ds (Asks i args d) c k = ((λ w h mem more x. join M m 0 1 1 (omega arith) c (k.0 w h mem more x)), (λ t h mem more x. join M m 0 1 1 (omega arith) c (k.1 t h mem more x)))
 
   trapped_is : {S T : StoreForm H O} {es : Sequence} (ws : List CallerForm) (r : Option ValType) (f : FrameForm) (k : TrapKind) → Chain M m 1 S f.locals es T f.locals (Trapped k ⨾ ε) → Chain M m 1 S [] (in_callers ws (in_frame r f es)) T [] (Trapped k ⨾ ε)
   trapped_is ws r f k c =
@@ -82,13 +81,13 @@ module _ {H O : Type 0} (M : Meaning H O) (m : ProgramForm) where
 
   -- Returns.
 
-  to_caller_is : (S : StoreForm H O) (c : Conf) → S ≡ store_of c S.host S.output → (es : Sequence) (w : Option Word) (ws : List CallerForm) → ((G : List Word) → Chain M m 1 S G es S G (on (results w) ε)) → IsTurnOf (length c.callers) S (in_callers ws es) (to_caller c (results w) w ws)
+  to_caller_is : (S : StoreForm H O) (c : Conf) → S ≡ store_of c S.host S.output → (es : Sequence) (w : Option Word) (ws : List CallerForm) → ((G : List Word) → Chain M m 1 S G es S G (on (results w) ε)) → IsTurnOf S (in_callers ws es) (to_caller c (results w) w ws)
   to_caller_is S c e es w [] k = k []
   to_caller_is S c e es None (f ∷ fs) k = subst (λ (T : StoreForm H O). Chain M m 1 S [] (in_callers (f ∷ fs) es) T [] (in_callers fs (in_frame f.result f.frame ε))) e (within_callers M m fs (λ G. in_hole M m f.result f.frame G (k f.frame.locals)) [])
   to_caller_is S c e es (Some v) (f ∷ fs) k = subst (λ (T : StoreForm H O). Chain M m 1 S [] (in_callers (f ∷ fs) es) T [] (in_callers fs (in_frame f.result f.frame (Const v ⨾ ε)))) e (within_callers M m fs (λ G. in_hole M m f.result f.frame G (k f.frame.locals)) [])
 
   returned_is : (c : Conf) (h : H) (out : List O) (es : Sequence) (r : Option ValType) (vs : List Word) → ((us : List Word) → taken r vs ≡ Some us → (G : List Word) → Chain M m 1 (store_of c h out) G es (store_of c h out) G (on us ε)) →
-      IsTurnOf (length c.callers) (store_of c h out) (in_callers c.callers es) (returned_with c r vs)
+      IsTurnOf (store_of c h out) (in_callers c.callers es) (returned_with c r vs)
   returned_is c h out es None vs k = to_caller_is (store_of c h out) c refl es None c.callers (k [] refl)
   returned_is c h out es (Some t) [] k = tt
   returned_is c h out es (Some t) (v ∷ vs) k = to_caller_is (store_of c h out) c refl es (Some v) c.callers (k (v ∷ []) refl)
@@ -105,42 +104,42 @@ module _ {H O : Type 0} (M : Meaning H O) (m : ProgramForm) where
     stops : {es : Sequence} {T : StoreForm H O} (vs : List Word) (k : TrapKind) → Chain M m 1 (store_of c h out) c.frame.locals es T c.frame.locals (Trapped k ⨾ ε) → Chain M m 1 (store_of c h out) [] (Put vs es) T [] (Trapped k ⨾ ε)
     stops vs k x = trapped_is c.callers c.result (with_values c.frame vs) k x
 
-    get_is : (x : ℕ) (vs : List Word) (o : Option Word) → slice_get c.globals x ≡ o → IsTurnOf (length c.callers) (store_of c h out) (Put vs (op (GlobalGet x) ⨾ ε)) (with_value c vs o)
+    get_is : (x : ℕ) (vs : List Word) (o : Option Word) → slice_get c.globals x ≡ o → IsTurnOf (store_of c h out) (Put vs (op (GlobalGet x) ⨾ ε)) (with_value c vs o)
     get_is x vs None e = tt
     get_is x vs (Some w) e = goes vs (once M m (core.global_get e))
 
-    set_is : (x : ℕ) (vs : List Word) → IsTurnOf (length c.callers) (store_of c h out) (Put vs (op (GlobalSet x) ⨾ ε)) (global_set c x vs)
+    set_is : (x : ℕ) (vs : List Word) → IsTurnOf (store_of c h out) (Put vs (op (GlobalSet x) ⨾ ε)) (global_set c x vs)
     set_is x [] = tt
     set_is x (w ∷ vs) =
-        elim (nat_lt x (length c.globals)) as (λ z. nat_lt x (length c.globals) ≡ z → IsTurnOf (length c.callers) (store_of c h out) (Put (w ∷ vs) (op (GlobalSet x) ⨾ ε)) (if z then Goes (record (with_operands c vs) { globals = slice_set c.globals x w }) else Ends ends.Stuck)) [
+        elim (nat_lt x (length c.globals)) as (λ z. nat_lt x (length c.globals) ≡ z → IsTurnOf (store_of c h out) (Put (w ∷ vs) (op (GlobalSet x) ⨾ ε)) (if z then Goes (record (with_operands c vs) { globals = slice_set c.globals x w }) else Ends ends.Stuck)) [
           | true ↦ λ e. goes vs (once M m (core.global_set (ltb-true x (length c.globals) e)))
           | false ↦ λ e. tt
         ] refl
 
-    loaded_is : (g : LoadOp) (at : MemArg) (i : ℕ) (vs : List Word) (o : Result Word TrapKind) → load g c.memory.bytes (i + at.offset) ≡ o → IsTurnOf (length c.callers) (store_of c h out) (Put (I32 i ∷ vs) (op (Load g at) ⨾ ε)) (with_loaded c vs o)
+    loaded_is : (g : LoadOp) (at : MemArg) (i : ℕ) (vs : List Word) (o : Result Word TrapKind) → load g c.memory.bytes (i + at.offset) ≡ o → IsTurnOf (store_of c h out) (Put (I32 i ∷ vs) (op (Load g at) ⨾ ε)) (with_loaded c vs o)
     loaded_is g at i vs (Ok w) e = goes vs (once M m (core.load_value e))
     loaded_is g at i vs (Err k) e = stops vs k (once M m (core.load_traps e))
 
-    load_is : (g : LoadOp) (at : MemArg) (vs : List Word) → IsTurnOf (length c.callers) (store_of c h out) (Put vs (op (Load g at) ⨾ ε)) (memory_load c g at.offset vs)
+    load_is : (g : LoadOp) (at : MemArg) (vs : List Word) → IsTurnOf (store_of c h out) (Put vs (op (Load g at) ⨾ ε)) (memory_load c g at.offset vs)
     load_is g at [] = tt
     load_is g at (I64 i ∷ vs) = tt
     load_is g at (I32 i ∷ vs) = loaded_is g at i vs (load g c.memory.bytes (i + at.offset)) refl
 
-    stored_is : (g : StoreOp) (at : MemArg) (i : ℕ) (w : Word) → type_of w ≡ (stored g).0 → (vs : List Word) (o : Result ⊤ TrapKind × MemoryForm) → store g c.memory (i + at.offset) w ≡ o → IsTurnOf (length c.callers) (store_of c h out) (Put (w ∷ (I32 i ∷ vs)) (op (Store g at) ⨾ ε)) (with_stored c vs o)
+    stored_is : (g : StoreOp) (at : MemArg) (i : ℕ) (w : Word) → type_of w ≡ (stored g).0 → (vs : List Word) (o : Result ⊤ TrapKind × MemoryForm) → store g c.memory (i + at.offset) w ≡ o → IsTurnOf (store_of c h out) (Put (w ∷ (I32 i ∷ vs)) (op (Store g at) ⨾ ε)) (with_stored c vs o)
     stored_is g at i w t vs (Ok u, mem) e = goes vs (once M m (core.store_value t e))
     stored_is g at i w t vs (Err k, mem) e = stops vs k (once M m (core.store_traps t e))
 
-    store_is : (g : StoreOp) (at : MemArg) (ks : List ValType) (vs : List Word) → map type_of vs ≡ (stored g).0 ∷ ks → IsTurnOf (length c.callers) (store_of c h out) (Put vs (op (Store g at) ⨾ ε)) (memory_store c g at.offset vs)
+    store_is : (g : StoreOp) (at : MemArg) (ks : List ValType) (vs : List Word) → map type_of vs ≡ (stored g).0 ∷ ks → IsTurnOf (store_of c h out) (Put vs (op (Store g at) ⨾ ε)) (memory_store c g at.offset vs)
     store_is g at ks [] t = tt
     store_is g at ks (w ∷ []) t = tt
     store_is g at ks (w ∷ (I64 i ∷ vs)) t = tt
     store_is g at ks (w ∷ (I32 i ∷ vs)) t = stored_is g at i w (cc) vs (store g c.memory (i + at.offset) w) refl
 
-    grown_is : (n : ℕ) (vs : List Word) (o : Option ℕ × MemoryForm) → grown c.memory n ≡ o → IsTurnOf (length c.callers) (store_of c h out) (Put (I32 n ∷ vs) (op MemoryGrow ⨾ ε)) (with_grown c vs o)
+    grown_is : (n : ℕ) (vs : List Word) (o : Option ℕ × MemoryForm) → grown c.memory n ≡ o → IsTurnOf (store_of c h out) (Put (I32 n ∷ vs) (op MemoryGrow ⨾ ε)) (with_grown c vs o)
     grown_is n vs (Some pages, mem) e = goes vs (once M m (core.memory_grow e))
     grown_is n vs (None, mem) e = goes vs (once M m (core.memory_grow_fails e))
 
-    grow_is : (vs : List Word) → IsTurnOf (length c.callers) (store_of c h out) (Put vs (op MemoryGrow ⨾ ε)) (memory_grow c vs)
+    grow_is : (vs : List Word) → IsTurnOf (store_of c h out) (Put vs (op MemoryGrow ⨾ ε)) (memory_grow c vs)
     grow_is [] = tt
     grow_is (I64 n ∷ vs) = tt
     grow_is (I32 n ∷ vs) = grown_is n vs (grown c.memory n) refl
@@ -150,17 +149,17 @@ module _ {H O : Type 0} (M : Meaning H O) (m : ProgramForm) where
     Stores (access.Store g offset) vs = (ks : List ValType) × (map type_of vs ≡ (stored g).0 ∷ ks)
     Stores _ vs = Unit {0}
 
-    worked_is : (a : Access) (p : Simple) → Accesses a p → Stores a c.frame.values → IsTurnOf (length c.callers) (store_of c h out) (Put c.frame.values (op p ⨾ ε)) (worked a c)
-    worked_is (access.GlobalGet x) p e t = subst (λ (q : Simple). IsTurnOf (length c.callers) (store_of c h out) (Put c.frame.values (op q ⨾ ε)) (worked (access.GlobalGet x) c)) (sym e) (get_is x c.frame.values (slice_get c.globals x) refl)
-    worked_is (access.GlobalSet x) p e t = subst (λ (q : Simple). IsTurnOf (length c.callers) (store_of c h out) (Put c.frame.values (op q ⨾ ε)) (worked (access.GlobalSet x) c)) (sym e) (set_is x c.frame.values)
+    worked_is : (a : Access) (p : Simple) → Accesses a p → Stores a c.frame.values → IsTurnOf (store_of c h out) (Put c.frame.values (op p ⨾ ε)) (worked a c)
+    worked_is (access.GlobalGet x) p e t = subst (λ (q : Simple). IsTurnOf (store_of c h out) (Put c.frame.values (op q ⨾ ε)) (worked (access.GlobalGet x) c)) (sym e) (get_is x c.frame.values (slice_get c.globals x) refl)
+    worked_is (access.GlobalSet x) p e t = subst (λ (q : Simple). IsTurnOf (store_of c h out) (Put c.frame.values (op q ⨾ ε)) (worked (access.GlobalSet x) c)) (sym e) (set_is x c.frame.values)
     worked_is (access.Load g offset) p e t =
-        subst (λ (q : Simple). IsTurnOf (length c.callers) (store_of c h out) (Put c.frame.values (op q ⨾ ε)) (worked (access.Load g offset) c)) (sym e.2)
-        (subst (λ (i : ℕ). IsTurnOf (length c.callers) (store_of c h out) (Put c.frame.values (op (Load g e.0) ⨾ ε)) (memory_load c g i c.frame.values)) (sym e.1) (load_is g e.0 c.frame.values))
+        subst (λ (q : Simple). IsTurnOf (store_of c h out) (Put c.frame.values (op q ⨾ ε)) (worked (access.Load g offset) c)) (sym e.2)
+        (subst (λ (i : ℕ). IsTurnOf (store_of c h out) (Put c.frame.values (op (Load g e.0) ⨾ ε)) (memory_load c g i c.frame.values)) (sym e.1) (load_is g e.0 c.frame.values))
     worked_is (access.Store g offset) p e t =
-        subst (λ (q : Simple). IsTurnOf (length c.callers) (store_of c h out) (Put c.frame.values (op q ⨾ ε)) (worked (access.Store g offset) c)) (sym e.2)
-        (subst (λ (i : ℕ). IsTurnOf (length c.callers) (store_of c h out) (Put c.frame.values (op (Store g e.0) ⨾ ε)) (memory_store c g i c.frame.values)) (sym e.1) (store_is g e.0 t.0 c.frame.values t.1))
-    worked_is access.MemorySize p e t = subst (λ (q : Simple). IsTurnOf (length c.callers) (store_of c h out) (Put c.frame.values (op q ⨾ ε)) (worked access.MemorySize c)) (sym e) (goes c.frame.values (once M m core.memory_size))
-    worked_is access.MemoryGrow p e t = subst (λ (q : Simple). IsTurnOf (length c.callers) (store_of c h out) (Put c.frame.values (op q ⨾ ε)) (worked access.MemoryGrow c)) (sym e) (grow_is c.frame.values)
+        subst (λ (q : Simple). IsTurnOf (store_of c h out) (Put c.frame.values (op q ⨾ ε)) (worked (access.Store g offset) c)) (sym e.2)
+        (subst (λ (i : ℕ). IsTurnOf (store_of c h out) (Put c.frame.values (op (Store g e.0) ⨾ ε)) (memory_store c g i c.frame.values)) (sym e.1) (store_is g e.0 t.0 c.frame.values t.1))
+    worked_is access.MemorySize p e t = subst (λ (q : Simple). IsTurnOf (store_of c h out) (Put c.frame.values (op q ⨾ ε)) (worked access.MemorySize c)) (sym e) (goes c.frame.values (once M m core.memory_size))
+    worked_is access.MemoryGrow p e t = subst (λ (q : Simple). IsTurnOf (store_of c h out) (Put c.frame.values (op q ⨾ ε)) (worked access.MemoryGrow c)) (sym e) (grow_is c.frame.values)
 
     -- Calls, from the invocation of a function on.
     module _ (a : ℕ) (t : Signature) where
@@ -183,9 +182,9 @@ module _ {H O : Type 0} (M : Meaning H O) (m : ProgramForm) where
       answered_is None h' mem more k = subst (λ (ds : Sequence). Chain M m 1 (store_of c h out) [] ds (after_host (store_of c h out) h' mem more) [] (Put Below ε)) (sym parts) k
       answered_is (Some w) h' mem more k = subst (λ (ds : Sequence). Chain M m 1 (store_of c h out) [] ds (after_host (store_of c h out) h' mem more) [] (Put Below (Const w ⨾ ε))) (sym parts) k
 
-      asked_is : (i : ℕ) (x : ImportForm) → slice_get m.whole.imports a ≡ Some x → slice_get m.numbers a ≡ Some i → typed_in m.whole x.ty ≡ Some t → IsTurnOf (length c.callers) (store_of c h out) (Put c.frame.values (Invoke a ⨾ ε)) (asked i t c)
+      asked_is : (i : ℕ) (x : ImportForm) → slice_get m.whole.imports a ≡ Some x → slice_get m.numbers a ≡ Some i → typed_in m.whole x.ty ≡ Some t → IsTurnOf (store_of c h out) (Put c.frame.values (Invoke a ⨾ ε)) (asked i t c)
       asked_is i x p q y =
-          elim (nat_lt (length c.frame.values) (length t.params)) as (λ z. nat_lt (length c.frame.values) (length t.params) ≡ z → IsTurnOf (length c.callers) (store_of c h out) (Put c.frame.values (Invoke a ⨾ ε)) (if z then Ends ends.Stuck else Asks i (reverse Args) (with_operands c Below))) [
+          elim (nat_lt (length c.frame.values) (length t.params)) as (λ z. nat_lt (length c.frame.values) (length t.params) ≡ z → IsTurnOf (store_of c h out) (Put c.frame.values (Invoke a ⨾ ε)) (if z then Ends ends.Stuck else Asks i (reverse Args) (with_operands c Below))) [
             | true ↦ λ e. tt
             | false ↦ λ e. (
               (λ w h' mem more u. answered_is w h' mem more (goes Below (once M m (core.invoke_host a i x t w h' mem more Args p q y (many e) u)))),
@@ -202,42 +201,42 @@ module _ {H O : Type 0} (M : Meaning H O) (m : ProgramForm) where
         callers = (record { frame = with_values c.frame Below; result = c.result }) ∷ c.callers;
       }
 
-      entered_is : (f : FuncForm) → slice_get m.whole.imports a ≡ None → slice_get m.whole.funcs (a - length m.whole.imports) ≡ Some f → typed_in m.whole f.ty ≡ Some t → IsTurnOf (length c.callers) (store_of c h out) (Put c.frame.values (Invoke a ⨾ ε)) (entered_func t f c)
+      entered_is : (f : FuncForm) → slice_get m.whole.imports a ≡ None → slice_get m.whole.funcs (a - length m.whole.imports) ≡ Some f → typed_in m.whole f.ty ≡ Some t → IsTurnOf (store_of c h out) (Put c.frame.values (Invoke a ⨾ ε)) (entered_func t f c)
       entered_is f p q y =
-          elim (nat_lt (length c.callers) 10000) as (λ z. nat_lt (length c.callers) 10000 ≡ z → IsTurnOf (length c.callers) (store_of c h out) (Put c.frame.values (Invoke a ⨾ ε)) (if z then (if nat_lt (length c.frame.values) (length t.params) then Ends ends.Stuck else Goes (Entry f)) else Ends ends.Exhausted)) [
-            | true ↦ λ o. elim (nat_lt (length c.frame.values) (length t.params)) as (λ z. nat_lt (length c.frame.values) (length t.params) ≡ z → IsTurnOf (length c.callers) (store_of c h out) (Put c.frame.values (Invoke a ⨾ ε)) (if z then Ends ends.Stuck else Goes (Entry f))) [
+          elim (nat_lt (length c.callers) 10000) as (λ z. nat_lt (length c.callers) 10000 ≡ z → IsTurnOf (store_of c h out) (Put c.frame.values (Invoke a ⨾ ε)) (if z then (if nat_lt (length c.frame.values) (length t.params) then Ends ends.Stuck else Goes (Entry f)) else Ends ends.Exhausted)) [
+            | true ↦ λ o. elim (nat_lt (length c.frame.values) (length t.params)) as (λ z. nat_lt (length c.frame.values) (length t.params) ≡ z → IsTurnOf (store_of c h out) (Put c.frame.values (Invoke a ⨾ ε)) (if z then Ends ends.Stuck else Goes (Entry f))) [
               | true ↦ λ e. tt
               | false ↦ λ e. subst (λ (ds : Sequence). Chain M m 1 (store_of c h out) [] ds (store_of c h out) [] (nested (Entry f))) (sym parts)
                   (goes Below (join M m 0 1 1 (omega arith) (once M m (core.invoke a f t Args p q y (many e))) (once M m (core.frame (core.rule core.block)))))
             ] refl
-            | false ↦ λ o. is_under (length c.callers) 10000 o
+            | false ↦ λ o. (Put c.frame.values (Invoke a ⨾ ε), (c.callers, c.result, c.frame, a, f, is_under (length c.callers) 10000 o, p, q, refl), none)
           ] refl
 
-    asked_if_is : (a : ℕ) (x : ImportForm) → slice_get m.whole.imports a ≡ Some x → (i : Option ℕ) → slice_get m.numbers a ≡ i → (t : Option Signature) → typed_in m.whole x.ty ≡ t → IsTurnOf (length c.callers) (store_of c h out) (Put c.frame.values (Invoke a ⨾ ε)) (asked_if i t c)
+    asked_if_is : (a : ℕ) (x : ImportForm) → slice_get m.whole.imports a ≡ Some x → (i : Option ℕ) → slice_get m.numbers a ≡ i → (t : Option Signature) → typed_in m.whole x.ty ≡ t → IsTurnOf (store_of c h out) (Put c.frame.values (Invoke a ⨾ ε)) (asked_if i t c)
     asked_if_is a x p (Some i) q (Some t) y = asked_is a t i x p q y
     asked_if_is a x p None q t y = tt
     asked_if_is a x p (Some i) q None y = tt
 
-    entered_if_is : (a : ℕ) (f : FuncForm) → slice_get m.whole.imports a ≡ None → slice_get m.whole.funcs (a - length m.whole.imports) ≡ Some f → (t : Option Signature) → typed_in m.whole f.ty ≡ t → IsTurnOf (length c.callers) (store_of c h out) (Put c.frame.values (Invoke a ⨾ ε)) (entered_if t f c)
+    entered_if_is : (a : ℕ) (f : FuncForm) → slice_get m.whole.imports a ≡ None → slice_get m.whole.funcs (a - length m.whole.imports) ≡ Some f → (t : Option Signature) → typed_in m.whole f.ty ≡ t → IsTurnOf (store_of c h out) (Put c.frame.values (Invoke a ⨾ ε)) (entered_if t f c)
     entered_if_is a f p q (Some t) y = entered_is a t f p q y
     entered_if_is a f p q None y = tt
 
-    call_at_is : (a : ℕ) (x : Option ImportForm) → slice_get m.whole.imports a ≡ x → (f : Option FuncForm) → slice_get m.whole.funcs (a - length m.whole.imports) ≡ f → IsTurnOf (length c.callers) (store_of c h out) (Put c.frame.values (Invoke a ⨾ ε)) (call_at m a x f c)
+    call_at_is : (a : ℕ) (x : Option ImportForm) → slice_get m.whole.imports a ≡ x → (f : Option FuncForm) → slice_get m.whole.funcs (a - length m.whole.imports) ≡ f → IsTurnOf (store_of c h out) (Put c.frame.values (Invoke a ⨾ ε)) (call_at m a x f c)
     call_at_is a (Some x) p f q = asked_if_is a x p (slice_get m.numbers a) refl (typed_in m.whole x.ty) refl
     call_at_is a None p (Some f) q = entered_if_is a f p q (typed_in m.whole f.ty) refl
     call_at_is a None p None q = tt
 
-    called_is : (a : ℕ) → IsTurnOf (length c.callers) (store_of c h out) (Put c.frame.values (Invoke a ⨾ ε)) (called m a c)
+    called_is : (a : ℕ) → IsTurnOf (store_of c h out) (Put c.frame.values (Invoke a ⨾ ε)) (called m a c)
     called_is a = call_at_is a (slice_get m.whole.imports a) refl (slice_get m.whole.funcs (a - length m.whole.imports)) refl
 
-    call_is : (n : ℕ) → IsTurnOf (length c.callers) (store_of c h out) (Put c.frame.values (op (Call n) ⨾ ε)) (called m n c)
-    call_is n = before_turn (length c.callers) (store_of c h out) _ _ (called m n c) (within_callers M m c.callers (λ G. in_hole M m c.result c.frame G (once M m core.call)) []) (called_is n)
+    call_is : (n : ℕ) → IsTurnOf (store_of c h out) (Put c.frame.values (op (Call n) ⨾ ε)) (called m n c)
+    call_is n = before_turn (store_of c h out) _ _ (called m n c) (within_callers M m c.callers (λ G. in_hole M m c.result c.frame G (once M m core.call)) []) (called_is n)
 
-    through_is : (n at : ℕ) (r : Result ℕ TrapKind) → element (slice_get c.table at) ≡ r → IsTurnOf (length c.callers) (store_of c h out) (Put c.frame.values (Const (I32 at) ⨾ op (CallIndirect n) ⨾ ε)) (called_by m n r c)
+    through_is : (n at : ℕ) (r : Result ℕ TrapKind) → element (slice_get c.table at) ≡ r → IsTurnOf (store_of c h out) (Put c.frame.values (Const (I32 at) ⨾ op (CallIndirect n) ⨾ ε)) (called_by m n r c)
     through_is n at (Err k) e = stops c.frame.values k (once M m (core.no_element e))
     through_is n at (Ok a) e =
-        elim (agree (typed_in m.whole n) (callee_in m.whole a)) as (λ z. agree (typed_in m.whole n) (callee_in m.whole a) ≡ z → IsTurnOf (length c.callers) (store_of c h out) (Put c.frame.values (Const (I32 at) ⨾ op (CallIndirect n) ⨾ ε)) (if z then called m a c else Ends (ends.Trapped trap.WrongType))) [
-          | true ↦ λ q. before_turn (length c.callers) (store_of c h out) _ _ (called m a c) (within_callers M m c.callers (λ G. in_hole M m c.result c.frame G (once M m (core.call_indirect e q))) []) (called_is a)
+        elim (agree (typed_in m.whole n) (callee_in m.whole a)) as (λ z. agree (typed_in m.whole n) (callee_in m.whole a) ≡ z → IsTurnOf (store_of c h out) (Put c.frame.values (Const (I32 at) ⨾ op (CallIndirect n) ⨾ ε)) (if z then called m a c else Ends (ends.Trapped trap.WrongType))) [
+          | true ↦ λ q. before_turn (store_of c h out) _ _ (called m a c) (within_callers M m c.callers (λ G. in_hole M m c.result c.frame G (once M m (core.call_indirect e q))) []) (called_is a)
           | false ↦ λ q. stops c.frame.values trap.WrongType (once M m (core.other_type e q))
         ] refl
 
@@ -256,18 +255,18 @@ module _ {H O : Type 0} (M : Meaning H O) (m : ProgramForm) where
   placed : (c : Conf) (F : List Word) (es : Sequence) (f : FrameForm) (ds : Sequence) → f.locals ≡ F → es ≡ in_place f ds → Body c F es ≡ in_callers c.callers (in_frame c.result f ds)
   placed c F es f ds p q = ap (λ (x : Sequence). Body c F x) q ∙ ap (λ (G : List Word). Body c G (in_place f ds)) (sym p)
 
-  by_local : (c : Conf) (h : H) (out : List O) (t : Signature) (locals : List ValType) (F : List Word) (es : Sequence) (l : Local) → IsLocal M m c.result F es l → IsSafe (context_in m.whole t locals) l → IsTurnOf (length c.callers) (store_of c h out) (Body c F es) (turn_by m c l)
+  by_local : (c : Conf) (h : H) (out : List O) (t : Signature) (locals : List ValType) (F : List Word) (es : Sequence) (l : Local) → IsLocal M m c.result F es l → IsSafe (context_in m.whole t locals) l → IsTurnOf (store_of c h out) (Body c F es) (turn_by m c l)
   by_local c h out t locals F es (form.Goes f) k s = within_callers M m c.callers (λ G. within_body M m c.result G (k (store_of c h out))) []
-  by_local c h out t locals F es (form.Calls n f) k s = subst (λ (ds : Sequence). IsTurnOf (length c.callers) (store_of c h out) ds (called m n (with_frame c f))) (sym (placed c F es f (op (Call n) ⨾ ε) k.0 k.1)) (call_is (with_frame c f) h out n)
+  by_local c h out t locals F es (form.Calls n f) k s = subst (λ (ds : Sequence). IsTurnOf (store_of c h out) ds (called m n (with_frame c f))) (sym (placed c F es f (op (Call n) ⨾ ε) k.0 k.1)) (call_is (with_frame c f) h out n)
   by_local c h out t locals F es (form.CallsThrough n at f) k s =
-      subst (λ (ds : Sequence). IsTurnOf (length c.callers) (store_of c h out) ds (called_by m n (element (slice_get c.table at)) (with_frame c f))) (sym (placed c F es f (Const (I32 at) ⨾ op (CallIndirect n) ⨾ ε) k.0 k.1)) (through_is (with_frame c f) h out n at (element (slice_get c.table at)) refl)
+      subst (λ (ds : Sequence). IsTurnOf (store_of c h out) ds (called_by m n (element (slice_get c.table at)) (with_frame c f))) (sym (placed c F es f (Const (I32 at) ⨾ op (CallIndirect n) ⨾ ε) k.0 k.1)) (through_is (with_frame c f) h out n at (element (slice_get c.table at)) refl)
   by_local c h out t locals F es (form.Works a f) k s =
-      subst (λ (ds : Sequence). IsTurnOf (length c.callers) (store_of c h out) ds (worked a (with_frame c f))) (sym (placed c F es f (op k.1 ⨾ ε) k.0 k.3)) (worked_is (with_frame c f) h out a k.1 k.2 (stores_of (with_frame c f) h out t locals a s.0 s.1 s.2 s.3 s.4))
+      subst (λ (ds : Sequence). IsTurnOf (store_of c h out) ds (worked a (with_frame c f))) (sym (placed c F es f (op k.1 ⨾ ε) k.0 k.3)) (worked_is (with_frame c f) h out a k.1 k.2 (stores_of (with_frame c f) h out t locals a s.0 s.1 s.2 s.3 s.4))
   by_local c h out t locals F es (form.Leaves f) k s = returned_is (with_frame c f) h out (FrameOf (arity c.result) F (LabelOf (arity c.result) ε es ⨾ ε) ⨾ ε) c.result f.values (λ us e G. k us e (store_of c h out) G)
   by_local c h out t locals F es (form.Traps x) k s = join M m 1 0 1 (omega arith) (within_callers M m c.callers (λ G. within_body M m c.result G (k (store_of c h out))) []) (trap_out M m c.callers F c.result x)
   by_local c h out t locals F es form.Stuck k s = absurd s
 
-  pub turn_is : (c : Conf) → ConfOk m.whole c → (h : H) (out : List O) → IsTurnOf (length c.callers) (store_of c h out) (nested c) (turn m c)
+  pub turn_is : (c : Conf) → ConfOk m.whole c → (h : H) (out : List O) → IsTurnOf (store_of c h out) (nested c) (turn m c)
   turn_is c k h out =
       by_local c h out k.ty k.locals c.frame.locals (in_place c.frame ε) (local_step c.frame)
       (subst (λ (r : Option ValType). IsLocal M m r c.frame.locals (in_place c.frame ε) (local_step c.frame)) k.result_is (local_is M m (context_in m.whole k.ty k.locals) c.frame k.frame_ok))
@@ -275,21 +274,21 @@ module _ {H O : Type 0} (M : Meaning H O) (m : ProgramForm) where
 
   -- Steps with the host's part, and runs.
 
-  taken_is : (n : ℕ) (S : StoreForm H O) (es : Sequence) (t : Turn) → IsTurnOf n S es t → (more : List O) (c' : Conf) (h' : H) → TakenAs M t S.host S.memory more c' h' → Chain M m 1 S [] es (store_of c' h' (S.output ++ more)) [] (nested c')
-  taken_is n S es (Goes d) k more c' h' t =
+  taken_is : (S : StoreForm H O) (es : Sequence) (t : Turn) → IsTurnOf S es t → (more : List O) (c' : Conf) (h' : H) → TakenAs M t S.host S.memory more c' h' → Chain M m 1 S [] es (store_of c' h' (S.output ++ more)) [] (nested c')
+  taken_is S es (Goes d) k more c' h' t =
       subst (λ (x : Conf). Chain M m 1 S [] es (store_of x h' (S.output ++ more)) [] (nested x)) (sym t.0)
       (subst (λ (x : H). Chain M m 1 S [] es (store_of d x (S.output ++ more)) [] (nested d)) (sym t.1)
       (subst (λ (o : List O). Chain M m 1 S [] es (store_of d S.host o) [] (nested d)) (sym (ap (λ (o : List O). S.output ++ o) t.2 ∙ append-nil S.output)) k))
-  taken_is n S es (Ends e) k more c' h' t = absurd t
-  taken_is n S es (Asks i args d) k more c' h' t = subst (λ (x : Conf). Chain M m 1 S [] es (store_of x h' (S.output ++ more)) [] (nested x)) (sym t.2) (k.0 t.0 h' c'.memory more t.1)
+  taken_is S es (Ends e) k more c' h' t = absurd t
+  taken_is S es (Asks i args d) k more c' h' t = subst (λ (x : Conf). Chain M m 1 S [] es (store_of x h' (S.output ++ more)) [] (nested x)) (sym t.2) (k.0 t.0 h' c'.memory more t.1)
 
-  left_is : (c : Conf) (h : H) (out : List O) (e : End) → SafeEnd e → LeftBy (length c.callers) (store_of c h out) (nested c) e → (h' : H) (out' : List O) → h' ≡ h → out' ≡ out → EndsIn M m 0 c h out e h' out'
+  left_is : (c : Conf) (h : H) (out : List O) (e : End) → SafeEnd e → LeftBy (store_of c h out) (nested c) e → (h' : H) (out' : List O) → h' ≡ h → out' ≡ out → EndsIn M m 0 c h out e h' out'
   left_is c h out (ends.Returned w) f k h' out' i j = (store_of c h out, sym i, sym j, k)
   left_is c h out (ends.Trapped t) f k h' out' i j = (store_of c h out, sym i, sym j, k)
-  left_is c h out ends.Exhausted f k h' out' i j = (c, k, subst (λ (x : H). IsReduced M m 0 c h out c x out') (sym i) (subst (λ (x : List O). IsReduced M m 0 c h out c h x) (sym j) none))
+  left_is c h out ends.Exhausted f k h' out' i j = (store_of c h out, sym i, sym j, k.0, k.1, k.2)
   left_is c h out ends.Stuck f k h' out' i j = f
 
-  over_is : (c : Conf) (h : H) (out : List O) (t : Turn) → IsSafeTurn m t → IsTurnOf (length c.callers) (store_of c h out) (nested c) t → (more : List O) (e : End) (h' : H) → OverBy M t h c.memory more e h' → EndsIn M m 0 c h out e h' (out ++ more)
+  over_is : (c : Conf) (h : H) (out : List O) (t : Turn) → IsSafeTurn m t → IsTurnOf (store_of c h out) (nested c) t → (more : List O) (e : End) (h' : H) → OverBy M t h c.memory more e h' → EndsIn M m 0 c h out e h' (out ++ more)
   over_is c h out (Goes d) f k more e h' t = absurd t
   over_is c h out (Ends x) f k more e h' t =
       subst (λ (y : End). EndsIn M m 0 c h out y h' (out ++ more)) (sym t.0) (left_is c h out x f k h' (out ++ more) t.1 (ap (λ (o : List O). out ++ o) t.2 ∙ append-nil out))
@@ -297,7 +296,7 @@ module _ {H O : Type 0} (M : Meaning H O) (m : ProgramForm) where
 
   pub step_is : ProgramOk m → (c : Conf) (h : H) → ConfOk m.whole c → IsStepReduced M m (turn m c) c h
   step_is p c h k = (
-    λ out more c' h' t. taken_is (length c.callers) (store_of c h out) (nested c) (turn m c) (turn_is c k h out) more c' h' t,
+    λ out more c' h' t. taken_is (store_of c h out) (nested c) (turn m c) (turn_is c k h out) more c' h' t,
     λ out more e h' t. over_is c h out (turn m c) (turn_safe m p c k) (turn_is c k h out) more e h' t,
   )
 
@@ -316,7 +315,7 @@ module _ {H O : Type 0} (M : Meaning H O) (m : ProgramForm) where
     behind : (k : ℕ) (c c1 : Conf) (h h1 h' : H) (out out1 out' : List O) (e : End) → IsReduced M m k c h out c1 h1 out1 → EndsIn M m 0 c1 h1 out1 e h' out' → EndsIn M m k c h out e h' out'
     behind k c c1 h h1 h' out out1 out' (ends.Returned w) a x = (x.0, x.1, x.2, join M m k 1 (suc k) (omega arith) a x.3)
     behind k c c1 h h1 h' out out1 out' (ends.Trapped t) a x = (x.0, x.1, x.2, join M m k 1 (suc k) (omega arith) a x.3)
-    behind k c c1 h h1 h' out out1 out' ends.Exhausted a x = (x.0, x.1, join M m k 0 k (omega arith) a x.2)
+    behind k c c1 h h1 h' out out1 out' ends.Exhausted a x = (x.0, x.1, x.2, x.3, x.4, join M m k 0 k (omega arith) a x.5)
     behind k c c1 h h1 h' out out1 out' ends.Stuck a x = x
 
     pub ran_is : (n : ℕ) (c : Conf) (h : H) (more : List O) (r : RunEnd) (c' : Conf) (h' : H) → ConfOk m.whole c → Ran M m n c h more r c' h' → (out : List O) → IsRunReduced M m n c h out more r c' h'

@@ -292,12 +292,18 @@ store_of c h out = record { memory = c.memory; table = c.table; globals = c.glob
 abbrev pub IsReduced : {H O : Type 0} → Meaning H O → ProgramForm → ℕ → Conf → H → List O → Conf → H → List O → Type 0
 IsReduced M m n c h out c' h' out' = Chain M m n (store_of c h out) [] (nested c) (store_of c' h' out') [] (nested c')
 
+-- in the innermost frame the call of a function of the module stands next, with 10,000 frames open besides the first
+abbrev pub CallsDeep : ProgramForm → Sequence → Type 0
+CallsDeep m es = (callers : List CallerForm) × (r : Option ValType) × (f : FrameForm) × (a : ℕ) × (g : FuncForm) × (10000 ≤ length callers)
+    × (slice_get m.whole.imports a ≡ None) × (slice_get m.whole.funcs (a - length m.whole.imports) ≡ Some g) × (es ≡ in_callers callers (in_frame r f (Invoke a ⨾ ε)))
+
 -- A run that ends in the step after so many: reductions that count that step too lead to the result, or to a trap. Where the machine is
--- exhausted they lead to a call with 10,000 frames open besides the first, a limit that the specification does not have. No run is stuck.
+-- exhausted they lead to where a call stands next with 10,000 frames open besides the first, a limit that the specification does not have.
+-- No run is stuck.
 abbrev pub EndsIn : {H O : Type 0} → Meaning H O → ProgramForm → ℕ → Conf → H → List O → End → H → List O → Type 0
 EndsIn {H} {O} M m n c h out (ends.Returned w) h' out' = (S : StoreForm H O) × (S.host ≡ h') × (S.output ≡ out') × Chain M m (suc n) (store_of c h out) [] (nested c) S [] (on (results w) ε)
 EndsIn {H} {O} M m n c h out (ends.Trapped k) h' out' = (S : StoreForm H O) × (S.host ≡ h') × (S.output ≡ out') × Chain M m (suc n) (store_of c h out) [] (nested c) S [] (Trapped k ⨾ ε)
-EndsIn M m n c h out ends.Exhausted h' out' = (d : Conf) × (10000 ≤ length d.callers) × IsReduced M m n c h out d h' out'
+EndsIn {H} {O} M m n c h out ends.Exhausted h' out' = (S : StoreForm H O) × (S.host ≡ h') × (S.output ≡ out') × (es : Sequence) × CallsDeep m es × Chain M m n (store_of c h out) [] (nested c) S [] es
 EndsIn M m n c h out ends.Stuck h' out' = ⊥
 
 -- A step is reductions that count one step, whatever was written before; and so is an end.

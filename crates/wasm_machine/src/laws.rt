@@ -21,8 +21,8 @@ pub fn turn_safe()
 {}
 
 /// A step of a well-typed configuration is the specification's own reductions (Core 1.0, section 4.4) of its nested form, of which exactly
-/// one counts as a step, with any host. Where the machine is exhausted, which the specification does not know, 10,000 frames are open
-/// besides the first.
+/// one counts as a step, with any host. Where the machine is exhausted, which the specification does not know, a call stands next with
+/// 10,000 frames open besides the first.
 pub fn step_is_reduced<H: HostCalls>()
     ensures { (m : ProgramForm) → ProgramOk m → (c : Conf) (h : H.State) → ConfOk m.whole c → IsStepReduced H.meaning m (turn m c) c h }
 {}

@@ -6,7 +6,7 @@ use Rattle.wasm_types.specs.declared.instr.IBinOp.TheVariants.{Add, Sub, Mul, Di
 use Rattle.wasm_types.specs.declared.instr.IUnOp.TheVariants.{Clz, Ctz, Popcnt}
 use Rattle.wasm_types.specs.declared.instr.IRelOp.TheVariants.{Eq, Ne, LtS, LtU, GtS, GtU, LeS, LeU, GeS, GeU}
 use Rattle.wasm_types.specs.declared.instr.ITestOp.TheVariants.{Eqz}
-use Rattle.wasm_types.specs.declared.instr.CvtOp.TheVariants.{I32WrapI64, I64ExtendI32S, I64ExtendI32U}
+use Rattle.wasm_types.specs.declared.instr.CvtOp.TheVariants.{I32WrapI64, I64ExtendI32S, I64ExtendI32U, I32Extend8S, I32Extend16S, I64Extend8S, I64Extend16S, I64Extend32S}
 use Rattle.wasm_store.specs.declared.trap.TrapKind.TheVariants.{DivideByZero, IntegerOverflow}
 use Rattle.wasm_store.specs.declared.word.Word.TheVariants.{I32, I64}
 use Rattle.wasm_store.specs.Integers.{binary_at, unary_at, test_at, compare_at}
@@ -267,3 +267,39 @@ conversions :
     × (converted I64ExtendI32S (I32 7) ≡ Some (I64 7))
     × (converted I64ExtendI32U (I32 0xfffffffe) ≡ Some (I64 0xfffffffe))
 conversions = (refl, refl, refl, refl, refl)
+
+-- as Node.js answers
+sign_extensions :
+    (converted I32Extend8S (I32 0x0) ≡ Some (I32 0x0))
+    × (converted I32Extend8S (I32 0x7f) ≡ Some (I32 0x7f))
+    × (converted I32Extend8S (I32 0x80) ≡ Some (I32 0xffffff80))
+    × (converted I32Extend8S (I32 0xff) ≡ Some (I32 0xffffffff))
+    × (converted I32Extend8S (I32 0x1234500) ≡ Some (I32 0x0))
+    × (converted I32Extend8S (I32 0xfedcba80) ≡ Some (I32 0xffffff80))
+    × (converted I32Extend8S (I32 0xffffffff) ≡ Some (I32 0xffffffff))
+    × (converted I32Extend16S (I32 0x0) ≡ Some (I32 0x0))
+    × (converted I32Extend16S (I32 0x7fff) ≡ Some (I32 0x7fff))
+    × (converted I32Extend16S (I32 0x8000) ≡ Some (I32 0xffff8000))
+    × (converted I32Extend16S (I32 0xffff) ≡ Some (I32 0xffffffff))
+    × (converted I32Extend16S (I32 0x1230000) ≡ Some (I32 0x0))
+    × (converted I32Extend16S (I32 0xfedc8000) ≡ Some (I32 0xffff8000))
+    × (converted I32Extend16S (I32 0xffffffff) ≡ Some (I32 0xffffffff))
+    × (converted I64Extend8S (I64 0x0) ≡ Some (I64 0x0))
+    × (converted I64Extend8S (I64 0x7f) ≡ Some (I64 0x7f))
+    × (converted I64Extend8S (I64 0x80) ≡ Some (I64 0xffffffffffffff80))
+    × (converted I64Extend8S (I64 0xff) ≡ Some (I64 0xffffffffffffffff))
+    × (converted I64Extend8S (I64 0x123456789abcd00) ≡ Some (I64 0x0))
+    × (converted I64Extend8S (I64 0xfedcba9876543280) ≡ Some (I64 0xffffffffffffff80))
+    × (converted I64Extend16S (I64 0x0) ≡ Some (I64 0x0))
+    × (converted I64Extend16S (I64 0x7fff) ≡ Some (I64 0x7fff))
+    × (converted I64Extend16S (I64 0x8000) ≡ Some (I64 0xffffffffffff8000))
+    × (converted I64Extend16S (I64 0xffff) ≡ Some (I64 0xffffffffffffffff))
+    × (converted I64Extend16S (I64 0x123456789ab0000) ≡ Some (I64 0x0))
+    × (converted I64Extend16S (I64 0xfedcba9876548000) ≡ Some (I64 0xffffffffffff8000))
+    × (converted I64Extend32S (I64 0x0) ≡ Some (I64 0x0))
+    × (converted I64Extend32S (I64 0x7fffffff) ≡ Some (I64 0x7fffffff))
+    × (converted I64Extend32S (I64 0x80000000) ≡ Some (I64 0xffffffff80000000))
+    × (converted I64Extend32S (I64 0xffffffff) ≡ Some (I64 0xffffffffffffffff))
+    × (converted I64Extend32S (I64 0x123456700000000) ≡ Some (I64 0x0))
+    × (converted I64Extend32S (I64 0xfedcba9880000000) ≡ Some (I64 0xffffffff80000000))
+sign_extensions = (refl, refl, refl, refl, refl, refl, refl, refl, refl, refl, refl, refl, refl, refl, refl, refl, refl, refl, refl, refl, refl, refl, refl, refl, refl, refl, refl, refl, refl, refl, refl, refl)

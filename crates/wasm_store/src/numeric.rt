@@ -271,6 +271,21 @@ pub fn convert(op: CvtOp, a: Word) -> Option<Word>
             Some(Word::I64(i64::from(a.cast_signed()).cast_unsigned()))
         }
         (CvtOp::I64ExtendI32U, Word::I32(a)) => Some(Word::I64(u64::from(a))),
+        (CvtOp::I32Extend8S, Word::I32(a)) => {
+            Some(Word::I32(i32::from(((a % (1 << 8)) as u8).cast_signed()).cast_unsigned()))
+        }
+        (CvtOp::I32Extend16S, Word::I32(a)) => {
+            Some(Word::I32(i32::from(((a % (1 << 16)) as u16).cast_signed()).cast_unsigned()))
+        }
+        (CvtOp::I64Extend8S, Word::I64(a)) => {
+            Some(Word::I64(i64::from(((a % (1 << 8)) as u8).cast_signed()).cast_unsigned()))
+        }
+        (CvtOp::I64Extend16S, Word::I64(a)) => {
+            Some(Word::I64(i64::from(((a % (1 << 16)) as u16).cast_signed()).cast_unsigned()))
+        }
+        (CvtOp::I64Extend32S, Word::I64(a)) => {
+            Some(Word::I64(i64::from(((a % (1 << 32)) as u32).cast_signed()).cast_unsigned()))
+        }
         _ => None,
     }
 }

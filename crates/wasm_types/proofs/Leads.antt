@@ -6,7 +6,7 @@ use Rattle.wasm_types.specs.declared.instr.ITestOp.TheVariants.{Eqz}
 use Rattle.wasm_types.specs.declared.instr.IRelOp.TheVariants.{Eq, Ne, LtS, LtU, GtS, GtU, LeS, LeU, GeS, GeU}
 use Rattle.wasm_types.specs.declared.instr.IUnOp.TheVariants.{Clz, Ctz, Popcnt}
 use Rattle.wasm_types.specs.declared.instr.IBinOp.TheVariants.{Add, Sub, Mul, DivS, DivU, RemS, RemU, And, Or, Xor, Shl, ShrS, ShrU, Rotl, Rotr}
-use Rattle.wasm_types.specs.declared.instr.CvtOp.TheVariants.{I32WrapI64, I64ExtendI32S, I64ExtendI32U}
+use Rattle.wasm_types.specs.declared.instr.CvtOp.TheVariants.{I32WrapI64, I64ExtendI32S, I64ExtendI32U, I32Extend8S, I32Extend16S, I64Extend8S, I64Extend16S, I64Extend32S}
 use Rattle.wasm_types.specs.declared.instr.LoadOp.TheVariants.{I32Load, I64Load, I32Load8S, I32Load8U, I32Load16S, I32Load16U, I64Load8S, I64Load8U, I64Load16S, I64Load16U, I64Load32S, I64Load32U}
 use Rattle.wasm_types.specs.declared.instr.StoreOp.TheVariants.{I32Store, I64Store, I32Store8, I32Store16, I64Store8, I64Store16, I64Store32}
 use Rattle.wasm_types.specs.declared.instr.Simple.{Simple}
@@ -84,6 +84,11 @@ bare_again (simple.Binary I64 Rotr) h = refl
 bare_again (simple.Convert I32WrapI64) h = refl
 bare_again (simple.Convert I64ExtendI32S) h = refl
 bare_again (simple.Convert I64ExtendI32U) h = refl
+bare_again (simple.Convert I32Extend8S) h = refl
+bare_again (simple.Convert I32Extend16S) h = refl
+bare_again (simple.Convert I64Extend8S) h = refl
+bare_again (simple.Convert I64Extend16S) h = refl
+bare_again (simple.Convert I64Extend32S) h = refl
 bare_again p h = absurd h
 
 -- each lead is found at its code

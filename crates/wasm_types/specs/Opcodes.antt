@@ -1,4 +1,4 @@
--- The first byte of each instruction (Core 1.0, section 5.4), and what stands behind it.
+-- The first byte of each instruction (Core 1.0, section 5.4; sign extension: Core 2.0), and what stands behind it.
 use Rattle.std.specs.Prelude.{ℕ, List, [], ◌∷◌, ◌==◌, ◌&&◌, ◌||◌, nat_le, Bool, if◌then◌else◌}
 use Rattle.wasm_types.specs.declared.types.ValType.{ValType}
 use Rattle.wasm_types.specs.declared.types.ValType.TheVariants.{I32, I64}
@@ -11,7 +11,7 @@ use Rattle.wasm_types.specs.declared.instr.IUnOp.TheVariants.{Clz, Ctz, Popcnt}
 use Rattle.wasm_types.specs.declared.instr.IBinOp.{IBinOp}
 use Rattle.wasm_types.specs.declared.instr.IBinOp.TheVariants.{Add, Sub, Mul, DivS, DivU, RemS, RemU, And, Or, Xor, Shl, ShrS, ShrU, Rotl, Rotr}
 use Rattle.wasm_types.specs.declared.instr.CvtOp.{CvtOp}
-use Rattle.wasm_types.specs.declared.instr.CvtOp.TheVariants.{I32WrapI64, I64ExtendI32S, I64ExtendI32U}
+use Rattle.wasm_types.specs.declared.instr.CvtOp.TheVariants.{I32WrapI64, I64ExtendI32S, I64ExtendI32U, I32Extend8S, I32Extend16S, I64Extend8S, I64Extend16S, I64Extend32S}
 use Rattle.wasm_types.specs.declared.instr.LoadOp.{LoadOp}
 use Rattle.wasm_types.specs.declared.instr.LoadOp.TheVariants.{I32Load, I64Load, I32Load8S, I32Load8U, I32Load16S, I32Load16U, I64Load8S, I64Load8U, I64Load16S, I64Load16U, I64Load32S, I64Load32U}
 use Rattle.wasm_types.specs.declared.instr.StoreOp.{StoreOp}
@@ -94,6 +94,11 @@ abbrev pub convert_opcode : CvtOp → ℕ
 convert_opcode I32WrapI64 = 0xa7
 convert_opcode I64ExtendI32S = 0xac
 convert_opcode I64ExtendI32U = 0xad
+convert_opcode I32Extend8S = 0xc0
+convert_opcode I32Extend16S = 0xc1
+convert_opcode I64Extend8S = 0xc2
+convert_opcode I64Extend16S = 0xc3
+convert_opcode I64Extend32S = 0xc4
 
 abbrev pub load_opcode : LoadOp → ℕ
 load_opcode I32Load = 0x28
@@ -275,7 +280,8 @@ i64_leads =
 abbrev pub convert_leads : List Lead
 convert_leads =
     lead.Bare (simple.Convert I32WrapI64) ∷ lead.Bare (simple.Convert I64ExtendI32S) ∷ lead.Bare (simple.Convert I64ExtendI32U) ∷
-    []
+    lead.Bare (simple.Convert I32Extend8S) ∷ lead.Bare (simple.Convert I32Extend16S) ∷ lead.Bare (simple.Convert I64Extend8S) ∷
+    lead.Bare (simple.Convert I64Extend16S) ∷ lead.Bare (simple.Convert I64Extend32S) ∷ []
 
 -- opcodes of floating-point instructions
 abbrev pub is_float : ℕ → Bool

@@ -5,8 +5,10 @@ use Rattle.std.specs.Prelude.{negsuc}
 use Rattle.wasm_types.specs.Leb128.{unsigned_at, signed_at, unsigned_text, signed_text}
 use Rattle.wasm_types.specs.declared.instr.Simple.TheVariants as simple
 use Rattle.wasm_types.specs.declared.instr.IBinOp.TheVariants.{Add}
+use Rattle.wasm_types.specs.declared.instr.CvtOp.TheVariants.{I64Extend32S}
+use Rattle.wasm_types.specs.declared.opcodes.Lead.TheVariants as lead
 use Rattle.wasm_types.specs.declared.types.ValType.TheVariants.{I32}
-use Rattle.wasm_types.specs.Opcodes.{opcode}
+use Rattle.wasm_types.specs.Opcodes.{opcode, lead_at}
 
 three_bytes : unsigned_text 5 624485 ≡ 0xe5 ∷ 0x8e ∷ 0x26 ∷ []
 three_bytes = refl
@@ -31,3 +33,7 @@ sign_bits = refl
 
 add : opcode (simple.Binary I32 Add) ≡ 0x6a
 add = refl
+
+last_of_sign_extension : (lead_at 0xc4 ≡ lead.Bare (simple.Convert I64Extend32S)) × (lead_at 0xc5 ≡ lead.Unknown)
+unfolding lead_at
+last_of_sign_extension = (refl, refl)

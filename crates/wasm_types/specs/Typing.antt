@@ -6,7 +6,7 @@ use Rattle.wasm_types.specs.declared.types.ValType.TheVariants.{I32, I64}
 use Rattle.wasm_types.specs.declared.types.GlobalType.{GlobalType}
 use Rattle.wasm_types.specs.declared.types.Limits.{Limits}
 use Rattle.wasm_types.specs.declared.instr.CvtOp.{CvtOp}
-use Rattle.wasm_types.specs.declared.instr.CvtOp.TheVariants.{I32WrapI64, I64ExtendI32S, I64ExtendI32U}
+use Rattle.wasm_types.specs.declared.instr.CvtOp.TheVariants.{I32WrapI64, I64ExtendI32S, I64ExtendI32U, I32Extend8S, I32Extend16S, I64Extend8S, I64Extend16S, I64Extend32S}
 use Rattle.wasm_types.specs.declared.instr.LoadOp.{LoadOp}
 use Rattle.wasm_types.specs.declared.instr.LoadOp.TheVariants.{I32Load, I64Load, I32Load8S, I32Load8U, I32Load16S, I32Load16U, I64Load8S, I64Load8U, I64Load16S, I64Load16U, I64Load32S, I64Load32U}
 use Rattle.wasm_types.specs.declared.instr.StoreOp.{StoreOp}
@@ -73,6 +73,11 @@ abbrev pub converted : CvtOp → ValType × ValType
 converted I32WrapI64 = (I64, I32)
 converted I64ExtendI32S = (I32, I64)
 converted I64ExtendI32U = (I32, I64)
+converted I32Extend8S = (I32, I32)
+converted I32Extend16S = (I32, I32)
+converted I64Extend8S = (I64, I64)
+converted I64Extend16S = (I64, I64)
+converted I64Extend32S = (I64, I64)
 
 abbrev pub set_effect : Bool → ValType → Option Effect
 set_effect true k = Some (Fixed (k ∷ []) None)

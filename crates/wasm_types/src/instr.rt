@@ -55,12 +55,17 @@ pub enum IRelOp {
     GeU,
 }
 
-/// A conversion of one integer.
+/// A conversion of one integer; `Extend8S` and the like take its low bits as two's complement (Core 2.0, section 2.4.1).
 #[derive(Clone, Copy, Debug, PartialEq, Eq)]
 pub enum CvtOp {
     I32WrapI64,
     I64ExtendI32S,
     I64ExtendI32U,
+    I32Extend8S,
+    I32Extend16S,
+    I64Extend8S,
+    I64Extend16S,
+    I64Extend32S,
 }
 
 /// A load from memory.

@@ -1,6 +1,6 @@
 //! Integers in groups of seven bits, LEB128 (Core 1.0, section 5.2.2).
 
-ghost use Rattle.std.specs.Prelude.{◌≡◌, ℕ, ◌+◌, ◌*◌, ◌%◌, ◌^◌, ◌<◌, ◌≤◌, ◌++◌, List, length, take, Some, None, MatchOption, IfSome, IfOk, OnOk};
+ghost use Rattle.std.specs.Prelude.{◌≡◌, ℕ, ◌+◌, ◌*◌, ◌%◌, ◌^◌, ◌<◌, ◌≤◌, ◌++◌, List, length, take, Some, None, MatchOption, IfSome, IfOk, OnOk, OnErr};
 ghost use Rattle.std.specs.Int.{cast_unsigned, w32, w64};
 ghost use Rattle.wasm_types.specs.Leb128.{IsU32, IsS32, IsS64, u32_at, s32_at, s64_at, u32_text, s32_text, s64_text, IsRead, IsReadAs, raw_at, unsigned_at, signed_at, unsigned_text, signed_text};
 
@@ -119,7 +119,8 @@ pub fn read_s64(bytes: &[u8]) -> Option<(i64, usize)>
 }
 
 fn push_unsigned(out: &mut Vec<u8>, most: u8, n: u128) -> Result<(), AllocError>
-    ensures { OnOk result (out.new.items ≡ out.old.items ++ unsigned_text most n) }
+    ensures done { OnOk result (out.new.items ≡ out.old.items ++ unsigned_text most n) }
+    ensures undone { OnErr result (out.new.items ≡ out.old.items) }
 {
     if most == 0 {
         return Ok(());
@@ -129,14 +130,21 @@ fn push_unsigned(out: &mut Vec<u8>, most: u8, n: u128) -> Result<(), AllocError>
         return Ok(());
     }
     out.push((n % 128) as u8 + 128)?;
-    push_unsigned(out, most - 1, n / 128)
+    match push_unsigned(out, most - 1, n / 128) {
+        Ok(()) => Ok(()),
+        Err(fault) => {
+            out.pop();
+            Err(fault)
+        }
+    }
 }
 
 fn push_signed(out: &mut Vec<u8>, most: u8, half: u128, n: u128) -> Result<(), AllocError>
     requires half { half ≤ 2 ^ 63 }
     requires small { n < 2 * half }
     requires whole { half % 64 ≡ 0 }
-    ensures { OnOk result (out.new.items ≡ out.old.items ++ signed_text most half n) }
+    ensures done { OnOk result (out.new.items ≡ out.old.items ++ signed_text most half n) }
+    ensures undone { OnErr result (out.new.items ≡ out.old.items) }
 {
     if most == 0 {
         return Ok(());
@@ -151,29 +159,38 @@ fn push_signed(out: &mut Vec<u8>, most: u8, half: u128, n: u128) -> Result<(), A
     } else {
         n / 128 + (2 * half - 2 * half / 128)
     };
-    push_signed(out, most - 1, half, next)
+    match push_signed(out, most - 1, half, next) {
+        Ok(()) => Ok(()),
+        Err(fault) => {
+            out.pop();
+            Err(fault)
+        }
+    }
 }
 
-/// Appends the shortest form of an unsigned integer.
+/// Appends the shortest form of an unsigned integer, or leaves the vector as it was.
 #[tactic(auto, unfolding(crate::specs::Leb128::u32_text))]
 pub fn push_u32(out: &mut Vec<u8>, n: u32) -> Result<(), AllocError>
-    ensures { OnOk result (out.new.items ≡ out.old.items ++ u32_text n) }
+    ensures done { OnOk result (out.new.items ≡ out.old.items ++ u32_text n) }
+    ensures undone { OnErr result (out.new.items ≡ out.old.items) }
 {
     push_unsigned(out, 5, n as u128)
 }
 
-/// Appends the shortest form of the signed integer of 32 bits with this bit pattern.
+/// Appends the shortest form of the signed integer of 32 bits with this bit pattern, or leaves the vector as it was.
 #[tactic(auto, unfolding(crate::specs::Leb128::s32_text))]
 pub fn push_s32(out: &mut Vec<u8>, n: u32) -> Result<(), AllocError>
-    ensures { OnOk result (out.new.items ≡ out.old.items ++ s32_text n) }
+    ensures done { OnOk result (out.new.items ≡ out.old.items ++ s32_text n) }
+    ensures undone { OnErr result (out.new.items ≡ out.old.items) }
 {
     push_signed(out, 5, 2147483648, n as u128)
 }
 
-/// Appends the shortest form of the signed integer of 64 bits with this bit pattern.
+/// Appends the shortest form of the signed integer of 64 bits with this bit pattern, or leaves the vector as it was.
 #[tactic(auto, unfolding(crate::specs::Leb128::s64_text))]
 pub fn push_s64(out: &mut Vec<u8>, n: u64) -> Result<(), AllocError>
-    ensures { OnOk result (out.new.items ≡ out.old.items ++ s64_text n) }
+    ensures done { OnOk result (out.new.items ≡ out.old.items ++ s64_text n) }
+    ensures undone { OnErr result (out.new.items ≡ out.old.items) }
 {
     push_signed(out, 10, 9223372036854775808, n as u128)
 }

@@ -143,6 +143,11 @@ fn convert_opcode(op: CvtOp) -> u8
         CvtOp::I32WrapI64 => 0xa7,
         CvtOp::I64ExtendI32S => 0xac,
         CvtOp::I64ExtendI32U => 0xad,
+        CvtOp::I32Extend8S => 0xc0,
+        CvtOp::I32Extend16S => 0xc1,
+        CvtOp::I64Extend8S => 0xc2,
+        CvtOp::I64Extend16S => 0xc3,
+        CvtOp::I64Extend32S => 0xc4,
     }
 }
 
@@ -367,6 +372,11 @@ fn convert_of(byte: u8) -> Lead
         0xa7 => Lead::Bare(Simple::Convert(CvtOp::I32WrapI64)),
         0xac => Lead::Bare(Simple::Convert(CvtOp::I64ExtendI32S)),
         0xad => Lead::Bare(Simple::Convert(CvtOp::I64ExtendI32U)),
+        0xc0 => Lead::Bare(Simple::Convert(CvtOp::I32Extend8S)),
+        0xc1 => Lead::Bare(Simple::Convert(CvtOp::I32Extend16S)),
+        0xc2 => Lead::Bare(Simple::Convert(CvtOp::I64Extend8S)),
+        0xc3 => Lead::Bare(Simple::Convert(CvtOp::I64Extend16S)),
+        0xc4 => Lead::Bare(Simple::Convert(CvtOp::I64Extend32S)),
         _ => Lead::Unknown,
     }
 }

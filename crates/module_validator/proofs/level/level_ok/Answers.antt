@@ -1,11 +1,10 @@
-use Rattle.std.proofs.Common.{◌≡◌, ◌<◌, ℕ, List, map, length, ap, ap₂, subst}
+use Rattle.std.proofs.Common.{List, map, subst}
 use Rattle.std.specs.Prelude.{◌↔◌, IsTrue, string_bytes}
 use Rattle.std.specs.List.{All}
 use Rattle.wasm_types.specs.declared.module.Data.{Data}
 use Rattle.wasm_types.specs.declared.module.Elem.{Elem}
 use Rattle.wasm_types.specs.declared.module.Export.{Export}
 use Rattle.wasm_types.specs.declared.module.Global.{Global}
-use Rattle.wasm_types.specs.declared.module.Import.{Import}
 use Rattle.wasm_types.specs.Typing.{AreDistinct, DataOk, DescOk, ElemOk, IsConstant}
 use Rattle.wasm_types.specs.View.{view_data, view_elem, view_module, views}
 use Rattle.module_validator.proofs.LevelParts.{level_decided}

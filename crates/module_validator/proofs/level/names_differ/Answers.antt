@@ -1,8 +1,7 @@
-use Rattle.std.proofs.Common.{◌≡◌, ◌+◌, ◌<◌, ◌≤◌, ℕ, List, [], map, length, get_or, take, refl, sym, ◌∙◌, ap, arith, true, false, below_more}
+use Rattle.std.proofs.Common.{◌≡◌, ◌<◌, ℕ, List, [], map, length, get_or, take, refl, sym, ◌∙◌, ap, arith, true, false, below_more}
 use Rattle.std.specs.Prelude.{Contains, string_bytes}
 use Rattle.std.proofs.lemmas.List.{get_or-map, length-map}
 use Rattle.wasm_types.specs.declared.module.Export.{Export}
-use Rattle.wasm_types.specs.Typing.{AreDistinct}
 use Rattle.module_validator.proofs.Names.{known_more, new_name, old_name}
 use Rattle.module_validator.proofs.level.names_differ.Goals as goal
 

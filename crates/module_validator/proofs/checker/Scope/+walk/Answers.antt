@@ -1,11 +1,9 @@
-use Rattle.std.proofs.Common.{rules, ◌≡◌, ◌∷◌, [], Some, None, List, ℕ, ap, sym, ◌∙◌, subst, Bool, true, false, ◌+◌, ◌≤◌, length, arith}
+use Rattle.std.proofs.Common.{◌≡◌, ◌∷◌, [], ap, sym, ◌∙◌, true, false, arith}
 use Rattle.std.specs.declared.vec.Vec.{Vec}
 use Rattle.std.specs.declared.alloc.Global.{Global}
-use Rattle.wasm_types.specs.declared.types.ValType.{ValType}
 use Rattle.wasm_types.specs.declared.instr.Instr.{Instr}
 use Rattle.wasm_types.specs.View.{view, views}
-use Rattle.module_validator.specs.Checks.{context_of, behind, Follows, CanStep, IsExact}
-use Rattle.module_validator.specs.Forms.{Sees, Judges, after}
+use Rattle.module_validator.specs.Checks.{context_of}
 use Rattle.wasm_types.specs.Typing.{one, CodeOk}
 use Rattle.wasm_types.proofs.Views.{view_block, view_loop, view_if}
 use Rattle.module_validator.proofs.Steps.{simple_follows, block_exact, block_not, loop_exact, loop_not, choice_exact, choice_first, choice_second, table_unknown, table_other, table_exact, table_second, follows_err, judges_err, so_far_step, so_far_stuck, so_far_end}

@@ -1,4 +1,4 @@
-use Rattle.std.proofs.Common.{◌≡◌, ◌∷◌, [], List, drop, Bool, false}
+use Rattle.std.proofs.Common.{◌≡◌, ◌∷◌, [], List, drop, false}
 use Rattle.std.specs.Prelude.{◌↔◌}
 use Rattle.wasm_types.specs.declared.types.ValType.{ValType}
 use Rattle.wasm_types.specs.View.{views}
