@@ -1,5 +1,7 @@
+ghost use Rattle.std.specs.Prelude.{◌<◌};
+
 use crate::plain;
-use ere_match::{Auto, build, first_match, is_match};
+use ere_match::{Auto, build, first_match, first_match_by_threads, is_match};
 use ere_syntax::{Ere, Times, read_ere};
 use std::alloc::Global;
 use std::test::Fail;
@@ -183,5 +185,50 @@ fn millions_of_parts(rt: HostRuntime) -> Result<(), Fail> {
     parts.extend_from_slice(b"){0}b")?;
     let found = first(rt.alloc(), parts.as_slice(), b"ab", 0)?;
     assert_eq!(rt; found, Some((1, 2)));
+    Ok(())
+}
+
+/// The next number of a row that looks random.
+fn next(seed: u64) -> u64 {
+    seed.wrapping_mul(6364136223846793005)
+        .wrapping_add(1442695040888963407)
+}
+
+/// Fewer than so many of the symbols.
+fn random(alloc: Global, seed: &mut u64, symbols: &[u8; 12], most: u64) -> Result<Vec<u8>, Fail>
+    requires { 0 < most }
+{
+    *seed = next(*seed);
+    let length = (*seed >> 33) % most;
+    let mut out = Vec::new(alloc);
+    for _turn in 0..length {
+        *seed = next(*seed);
+        out.push(symbols[((*seed >> 33) % 12) as usize])?;
+    }
+    Ok(out)
+}
+
+#[test]
+fn as_by_threads(rt: HostRuntime) -> Result<(), Fail> {
+    let mut seed = 1;
+    let mut pairs = 0u32;
+    for _turn in 0..1_000u32 {
+        let expression = random(rt.alloc(), &mut seed, b"ab|*()+?^$.b", 9)?;
+        let text = random(rt.alloc(), &mut seed, b"aaabbabaabab", 12)?;
+        let Ok(ere) = read_ere(rt.alloc(), &expression) else {
+            continue;
+        };
+        let mut auto = build(rt.alloc(), &ere)?;
+        for from in 0..text.len() {
+            let found = first_match(&mut auto, &text, from)?;
+            let wanted = first_match_by_threads(&mut auto, &text, from);
+            assert_eq!(rt; found, wanted, "{expression:?} on {text:?}");
+        }
+        pairs = pairs.saturating_add(1);
+        if pairs == 100 {
+            break;
+        }
+    }
+    assert_eq!(rt; pairs, 100);
     Ok(())
 }

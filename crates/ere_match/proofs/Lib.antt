@@ -1,7 +1,14 @@
 pub mod Paths
+pub mod Ranks
 pub mod Builds
 pub mod Parts
 pub mod Marks
 pub mod Steps
 pub mod Scans
+pub mod Apart
+pub mod Spreads
+pub mod Tables
+pub mod Searches
+pub mod Places
+pub mod Tested
 pub mod Firsts

@@ -6,7 +6,7 @@ use Rattle.std.proofs.lemmas.Bool.{cases_lt, cases_eq, or_cases}
 use Rattle.ere_match.specs.declared.node.Node.{Node}
 use Rattle.ere_match.specs.declared.node.Node.TheVariants as nodes
 use Rattle.ere_match.specs.Runs.{Runs}
-use Rattle.ere_match.specs.Threads.{Holds, HoldsBy, LeadsTo, cost, IsLess, IsCovered, IsWithin, IsMarked, IsFollowed, IsFrom, AreStarts, IsLed, IsVisited, IsPassed}
+use Rattle.ere_match.specs.Threads.{IsNear, Holds, HoldsBy, LeadsTo, cost, IsLess, IsCovered, IsWithin, IsMarked, IsSeeded, IsFollowed, IsFrom, AreStarts, IsLed, IsVisited, IsPassed}
 use Rattle.ere_match.proofs.Paths.{go}
 
 abbrev Set : Type 0
@@ -87,6 +87,9 @@ marked_old bound i s xs covered = record {
     by h None e c = absurd c
     by h (Some b) e c = record { first = b; early = c; holds = holds_read xs i b h e }
 
+pub seeded : (bound i s : ℕ) (old new : Set) (x : Bool) → IsMarked bound i s old new x → IsSeeded i s old new
+seeded bound i s old new x m = record { len = m.len; within = m.within; here = m.here; only = m.only }
+
 within_on : (a b c : Set) → IsWithin a b → IsWithin b c → IsWithin a c
 within_on a b c g h = record { at = λ k s holds. (let x = g.at k s holds in by_later c k x.first s x.early (h.at k x.first x.holds)) }
 
@@ -99,13 +102,13 @@ or_false false y h = (refl, h)
 
 -- ---- following
 
-pub followed_split : (text : List ℕ) (i bound s a b : ℕ) (old one two : Set) (x y : Bool) → IsMarked bound a s old one x → IsMarked bound b s one two y → IsFollowed text i bound s (nodes.Split a b) old two (x || y)
-followed_split text i bound s a b old one two x y g h = record {
+pub followed_split : (first last : Bool) (bound s a b : ℕ) (old one two : Set) (x y : Bool) → IsMarked bound a s old one x → IsMarked bound b s one two y → IsFollowed first last bound s (nodes.Split a b) old two (x || y)
+followed_split first last bound s a b old one two x y g h = record {
   len = h.len ∙ g.len;
   within = within_on old one two g.within h.within;
   all_in = λ to leads inside. elim leads [
-    | inl first ↦ subst (λ k. HoldsBy two k s) (sym first) (within_by one two a s h.within (g.here (omega arith)))
-    | inr second ↦ subst (λ k. HoldsBy two k s) (sym second) (h.here (omega (arith, g.len)))
+    | inl one' ↦ subst (λ k. HoldsBy two k s) (sym one') (within_by one two a s h.within (g.here (omega arith)))
+    | inr two' ↦ subst (λ k. HoldsBy two k s) (sym two') (h.here (omega (arith, g.len)))
   ];
   only = λ k t holds. elim (h.only k t holds) [
     | inl before ↦ elim (g.only k t before) [ inl older ↦ inl older | inr is ↦ inr (inl is.0, is.1) ]
@@ -116,8 +119,8 @@ followed_split text i bound s a b old one two x y g h = record {
   less = λ e. elim (or_cases x y e) [ inl first ↦ omega (arith, g.less first, h.fewer) | inr second ↦ omega (arith, g.fewer, h.less second) ];
 }
 
-pub followed_start : (text : List ℕ) (i bound s a : ℕ) (old new : Set) (x : Bool) → i ≡ 0 → IsMarked bound a s old new x → IsFollowed text i bound s (nodes.Start a) old new x
-followed_start text i bound s a old new x e g = record {
+pub followed_start : (first last : Bool) (bound s a : ℕ) (old new : Set) (x : Bool) → first ≡ true → IsMarked bound a s old new x → IsFollowed first last bound s (nodes.Start a) old new x
+followed_start first last bound s a old new x e g = record {
   len = g.len;
   within = g.within;
   all_in = λ to leads inside. subst (λ k. HoldsBy new k s) (sym leads.1) (g.here (omega (arith, leads.1)));
@@ -127,8 +130,8 @@ followed_start text i bound s a old new x e g = record {
   less = g.less;
 }
 
-pub followed_end : (text : List ℕ) (i bound s a : ℕ) (old new : Set) (x : Bool) → i ≡ length text → IsMarked bound a s old new x → IsFollowed text i bound s (nodes.End a) old new x
-followed_end text i bound s a old new x e g = record {
+pub followed_end : (first last : Bool) (bound s a : ℕ) (old new : Set) (x : Bool) → last ≡ true → IsMarked bound a s old new x → IsFollowed first last bound s (nodes.End a) old new x
+followed_end first last bound s a old new x e g = record {
   len = g.len;
   within = g.within;
   all_in = λ to leads inside. subst (λ k. HoldsBy new k s) (sym leads.1) (g.here (omega (arith, leads.1)));
@@ -138,8 +141,8 @@ followed_end text i bound s a old new x e g = record {
   less = g.less;
 }
 
-pub followed_none : (text : List ℕ) (i bound s : ℕ) (node : Node) (old : Set) → ((to : ℕ) → LeadsTo text i (Some node) to → ⊥) → IsFollowed text i bound s node old old false
-followed_none text i bound s node old none = record {
+pub followed_none : (first last : Bool) (bound s : ℕ) (node : Node) (old : Set) → ((to : ℕ) → LeadsTo first last (Some node) to → ⊥) → IsFollowed first last bound s node old old false
+followed_none first last bound s node old none = record {
   len = refl;
   within = record { at = λ k t holds. holds_by old k t holds };
   all_in = λ to leads inside. absurd (none to leads);
@@ -151,25 +154,25 @@ followed_none text i bound s node old none = record {
 
 -- ---- visiting
 
-leads_run : (all : List Node) (text : List ℕ) (i j n id to : ℕ) (node : Node) → slice_get all id ≡ Some node → LeadsTo text i (Some node) to → Runs all text j n to i → Runs all text j (suc n) id i
-leads_run all text i j n id to (nodes.Split a b) h leads r = go all text j n id i _ h (elim leads [
-  | inl first ↦ inl (subst (λ k. Runs all text j n k i) first r)
-  | inr second ↦ inr (subst (λ k. Runs all text j n k i) second r)
+leads_run : (all : List Node) (first last : Bool) (text : List ℕ) (i j n id to : ℕ) (node : Node) → IsNear text i first last → slice_get all id ≡ Some node → LeadsTo first last (Some node) to → Runs all text j n to i → Runs all text j (suc n) id i
+leads_run all first last text i j n id to (nodes.Split a b) is h leads r = go all text j n id i _ h (elim leads [
+  | inl one ↦ inl (subst (λ k. Runs all text j n k i) one r)
+  | inr two ↦ inr (subst (λ k. Runs all text j n k i) two r)
 ])
-leads_run all text i j n id to (nodes.Start a) h leads r = go all text j n id i _ h (leads.0, subst (λ k. Runs all text j n k i) leads.1 r)
-leads_run all text i j n id to (nodes.End a) h leads r = go all text j n id i _ h (leads.0, subst (λ k. Runs all text j n k i) leads.1 r)
-leads_run all text i j n id to (nodes.Take f a) h leads r = absurd leads
-leads_run all text i j n id to nodes.Never h leads r = absurd leads
-leads_run all text i j n id to nodes.Accept h leads r = absurd leads
+leads_run all first last text i j n id to (nodes.Start a) is h leads r = go all text j n id i _ h (is.is_first leads.0, subst (λ k. Runs all text j n k i) leads.1 r)
+leads_run all first last text i j n id to (nodes.End a) is h leads r = go all text j n id i _ h (is.is_last leads.0, subst (λ k. Runs all text j n k i) leads.1 r)
+leads_run all first last text i j n id to (nodes.Take f a) is h leads r = absurd leads
+leads_run all first last text i j n id to nodes.Never is h leads r = absurd leads
+leads_run all first last text i j n id to nodes.Accept is h leads r = absurd leads
 
-pub visited : (all : List Node) (text : List ℕ) (i bound id s : ℕ) (node : Node) (old new : Set) (x : Bool) → slice_get all id ≡ Some node → Holds old id s → IsFollowed text i bound s node old new x → IsVisited all text i bound id old new x
-visited all text i bound id s node old new x h holds f = record {
+pub visited : (all : List Node) (first last : Bool) (bound id s : ℕ) (node : Node) (old new : Set) (x : Bool) → slice_get all id ≡ Some node → Holds old id s → IsFollowed first last bound s node old new x → IsVisited all first last bound id old new x
+visited all first last bound id s node old new x h holds f = record {
   len = f.len;
   within = f.within;
   from = record {
-    at = λ j n k t there r. elim (f.only k t there) [
+    at = λ text i is j n k t there r. elim (f.only k t there) [
       | inl older ↦ (n, k, older, r)
-      | inr leads ↦ (suc n, id, subst (λ t. Holds old id t) (sym leads.1) holds, leads_run all text i j n id k node h leads.0 r)
+      | inr leads ↦ (suc n, id, subst (λ t. Holds old id t) (sym leads.1) holds, leads_run all first last text i j n id k node is h leads.0 r)
     ];
   };
   starts = record { at = λ k t there. elim (f.only k t there) [ inl older ↦ (k, older) | inr leads ↦ (id, subst (λ t. Holds old id t) (sym leads.1) holds) ] };
@@ -177,16 +180,16 @@ visited all text i bound id s node old new x h holds f = record {
   closed = λ e to t there leads inside.
       (let same = f.quiet e in
       let is : t ≡ s = some_is t s (sym there.is ∙ ap (λ (u : Set). slice_get u id) same ∙ holds.is) in
-      subst (λ t. HoldsBy new to t) (sym is) (f.all_in to (subst (λ o. LeadsTo text i o to) h leads) (omega (arith, f.len))));
+      subst (λ t. HoldsBy new to t) (sym is) (f.all_in to (subst (λ o. LeadsTo first last o to) h leads) (omega (arith, f.len))));
   fewer = f.fewer;
   less = f.less;
 }
 
-pub not_visited : (all : List Node) (text : List ℕ) (i bound id : ℕ) (old : Set) → get_or old id None ≡ None → IsVisited all text i bound id old old false
-not_visited all text i bound id old out = record {
+pub not_visited : (all : List Node) (first last : Bool) (bound id : ℕ) (old : Set) → get_or old id None ≡ None → IsVisited all first last bound id old old false
+not_visited all first last bound id old out = record {
   len = refl;
   within = record { at = λ k t holds. holds_by old k t holds };
-  from = record { at = λ j n k t there r. (n, k, there, r) };
+  from = record { at = λ text i is j n k t there r. (n, k, there, r) };
   starts = record { at = λ k t there. (k, there) };
   quiet = λ _. refl;
   closed = λ e to t there leads within. (let is : None ≡ Some t = sym out ∙ read_holds old id t there in cc);
@@ -196,27 +199,27 @@ not_visited all text i bound id old out = record {
 
 -- ---- one pass
 
-pub passed_none : (all : List Node) (text : List ℕ) (i bound n : ℕ) (old : Set) → length old ≡ length all → n ≡ length all → IsPassed all text i bound n old old false
-passed_none all text i bound n old len e = record {
+pub passed_none : (all : List Node) (first last : Bool) (bound n : ℕ) (old : Set) → length old ≡ length all → n ≡ length all → IsPassed all first last bound n old old false
+passed_none all first last bound n old len e = record {
   len = refl;
   within = record { at = λ k t holds. holds_by old k t holds };
-  from = record { at = λ j m k t there r. (m, k, there, r) };
+  from = record { at = λ text i is j m k t there r. (m, k, there, r) };
   starts = record { at = λ k t there. (k, there) };
   closed = λ _. record { at = λ id above below. absurd (omega (arith, len, e)) };
   fewer = omega arith;
   less = λ bad. cc;
 }
 
-pub passed_on : (all : List Node) (text : List ℕ) (i bound id n : ℕ) (old mid new : Set) (x y z : Bool) → n ≡ id + 1 → IsPassed all text i bound n old mid x → IsVisited all text i bound id mid new y → ((z ≡ true → (x ≡ true) ⊎ (y ≡ true)) × (z ≡ false → (x ≡ false) × (y ≡ false))) → IsPassed all text i bound id old new z
-passed_on all text i bound id n old mid new x y z is p v or = record {
+pub passed_on : (all : List Node) (first last : Bool) (bound id n : ℕ) (old mid new : Set) (x y z : Bool) → n ≡ id + 1 → IsPassed all first last bound n old mid x → IsVisited all first last bound id mid new y → ((z ≡ true → (x ≡ true) ⊎ (y ≡ true)) × (z ≡ false → (x ≡ false) × (y ≡ false))) → IsPassed all first last bound id old new z
+passed_on all first last bound id n old mid new x y z is p v or = record {
   len = v.len ∙ p.len;
   within = within_on old mid new p.within v.within;
-  from = record { at = λ j m k t there r. (let back = v.from.at j m k t there r in p.from.at j back.0 back.1 t back.2 back.3) };
+  from = record { at = λ text i is j m k t there r. (let back = v.from.at text i is j m k t there r in p.from.at text i is j back.0 back.1 t back.2 back.3) };
   starts = record { at = λ k t there. (let back = v.starts.at k t there in p.starts.at back.0 t back.1) };
   closed = λ e. (let both = or.1 e in let same = v.quiet both.1 in record {
     at = λ k above below. elim (cases_lt id k) [
-      | inl later ↦ subst (λ (u : Set). IsLed all text i u k) (sym same) ((p.closed both.0).at k (omega (arith, is)) (omega (arith, v.len)))
-      | inr here ↦ (let same_id : id ≡ k = omega arith in subst (λ m. IsLed all text i new m) same_id (v.closed both.1))
+      | inl later ↦ subst (λ (u : Set). IsLed all first last u k) (sym same) ((p.closed both.0).at k (omega (arith, is)) (omega (arith, v.len)))
+      | inr here ↦ (let same_id : id ≡ k = omega arith in subst (λ m. IsLed all first last new m) same_id (v.closed both.1))
     ];
   });
   fewer = omega (arith, p.fewer, v.fewer);
@@ -226,11 +229,11 @@ passed_on all text i bound id n old mid new x y z is p v or = record {
 pub starts_bound : (old new : Set) (bound : ℕ) → AreStarts old new → ((k s : ℕ) → Holds old k s → s < bound) → (k s : ℕ) → Holds new k s → s < bound
 starts_bound old new bound h small k s there = let o = h.at k s there in small o.0 s o.1
 
-pub closure_start : (all : List Node) (text : List ℕ) (i : ℕ) (old : Set) → IsFrom all text i old old × AreStarts old old × IsWithin old old
-closure_start all text i old = (record { at = λ j m k t there r. (m, k, there, r) }, record { at = λ k t there. (k, there) }, record { at = λ k t holds. holds_by old k t holds })
+pub closure_start : (all : List Node) (first last : Bool) (old : Set) → IsFrom all first last old old × AreStarts old old × IsWithin old old
+closure_start all first last old = (record { at = λ text i is j m k t there r. (m, k, there, r) }, record { at = λ k t there. (k, there) }, record { at = λ k t holds. holds_by old k t holds })
 
-pub from_on : (all : List Node) (text : List ℕ) (i : ℕ) (a b c : Set) → IsFrom all text i a b → IsFrom all text i b c → IsFrom all text i a c
-from_on all text i a b c g h = record { at = λ j m k t there r. (let back = h.at j m k t there r in g.at j back.0 back.1 t back.2 back.3) }
+pub from_on : (all : List Node) (first last : Bool) (a b c : Set) → IsFrom all first last a b → IsFrom all first last b c → IsFrom all first last a c
+from_on all first last a b c g h = record { at = λ text i is j m k t there r. (let back = h.at text i is j m k t there r in g.at text i is j back.0 back.1 t back.2 back.3) }
 
 pub starts_on : (a b c : Set) → AreStarts a b → AreStarts b c → AreStarts a c
 starts_on a b c g h = record { at = λ k t there. (let back = h.at k t there in g.at back.0 t back.1) }

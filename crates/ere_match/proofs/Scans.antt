@@ -1,17 +1,25 @@
 -- A scan of the text, place by place.
-use Rattle.std.proofs.Common.{◌≡◌, ℕ, zero, ◌+◌, ◌<◌, ◌≤◌, ◌⊎◌, inl, inr, Bool, true, false, cond, List, length, Option, Some, None, refl, sym, ◌∙◌, subst, arith, nat_le}
+use Rattle.std.proofs.Common.{◌≡◌, nat_eq, ℕ, zero, ◌+◌, ◌<◌, ◌≤◌, ◌⊎◌, inl, inr, Bool, true, false, cond, List, length, Option, Some, None, refl, sym, ◌∙◌, subst, arith, nat_le}
 use Rattle.std.specs.Prelude.{slice_get}
-use Rattle.std.proofs.lemmas.Bool.{cases_lt, leb-true, leb-false}
+use Rattle.std.proofs.lemmas.Bool.{cases_lt, eq-eqb, eqb-true, leb-true, leb-false}
 use Rattle.std.proofs.lemmas.Option.{slice_get_past}
 use Rattle.ere_match.specs.declared.node.Node.{Node}
 use Rattle.ere_match.specs.declared.node.Node.TheVariants as nodes
 use Rattle.ere_match.specs.Runs.{Runs}
-use Rattle.ere_match.specs.Threads.{Holds, IsMarked, IsClosure, IsClosedFrom, IsStepped, IsAccepted, IsBest, IsOpen, AreThreads, IsSettled, better_of}
+use Rattle.ere_match.specs.Threads.{IsAt, IsNear, Holds, IsSeeded, IsClosure, IsClosedFrom, IsStepped, IsAccepted, IsBest, IsOpen, AreThreads, IsSettled, better_of}
 use Rattle.ere_match.proofs.Paths.{go}
 use Rattle.ere_match.proofs.Steps.{runs_le, runs_within, AcceptsBy, step_on, step_back, ends_in}
 
 abbrev Set : Type 0
 Set = List (Option ℕ)
+
+-- what the tests of a place say
+pub place_is : (text : List ℕ) (i : ℕ) → IsAt text i (nat_eq i 0) (nat_eq i (length text))
+place_is text i = record {
+  near = record { is_first = eqb-true i 0; is_last = eqb-true i (length text) };
+  first_is = eq-eqb i 0;
+  last_is = eq-eqb i (length text);
+}
 
 module _ (all : List Node) (text : List ℕ) (entry from i : ℕ) where
   pub threads_start : (set : Set) → length set ≡ length all → ((id s : ℕ) → Holds set id s → ⊥) → from ≡ i → AreThreads all text entry from i i set None
@@ -26,8 +34,8 @@ module _ (all : List Node) (text : List ℕ) (entry from i : ℕ) where
   best_start e = λ s j m above below run. (let le = runs_le all text j m entry s run in omega (arith, le, e))
 
   -- a thread begins
-  pub threads_seed : (set new : Set) (x : Bool) → from ≤ i → AreThreads all text entry from i i set None → IsMarked (i + 1) entry i set new x → AreThreads all text entry from i (i + 1) new None
-  threads_seed set new x le th m = record {
+  pub threads_seed : (set new : Set) → from ≤ i → AreThreads all text entry from i i set None → IsSeeded entry i set new → AreThreads all text entry from i (i + 1) new None
+  threads_seed set new le th m = record {
     len = m.len ∙ th.len;
     starts = λ id s holds. elim (m.only id s holds) [
       | inl older ↦ th.starts id s older
@@ -65,23 +73,41 @@ module _ (all : List Node) (text : List ℕ) (entry from i : ℕ) where
   }
 
   -- the threads are led on
-  pub threads_closed : (set new : Set) (best : Option (ℕ × ℕ)) → AreThreads all text entry from i (i + 1) set best → IsClosure all text i set new → AreThreads all text entry from i (i + 1) new best
-  threads_closed set new best th c = record {
+  pub threads_closed : (first last : Bool) → IsNear text i first last → (set new : Set) (best : Option (ℕ × ℕ)) → AreThreads all text entry from i (i + 1) set best → IsClosure all first last set new → AreThreads all text entry from i (i + 1) new best
+  threads_closed first last is set new best th c = record {
     len = c.len ∙ th.len;
     starts = λ id s holds. (let o = c.starts.at id s holds in th.starts o.0 s o.1);
-    back = λ j s r. (let o = c.from.at j r.steps r.id s r.holds r.run in th.back j s (record { steps = o.0; id = o.1; holds = o.2; run = o.3 }));
+    back = λ j s r. (let o = c.from.at text i is j r.steps r.id s r.holds r.run in th.back j s (record { steps = o.0; id = o.1; holds = o.2; run = o.3 }));
     on = λ s j m above below r open' run.
         (let o = th.on s j m above below r open' run in
         let w = c.within.at o.2.id o.0 o.2.holds in
         (w.first, omega (arith, o.1, w.early), record { steps = o.2.steps; id = o.2.id; holds = w.holds; run = o.2.run }));
   }
 
+  -- no thread is left
+  pub best_done : (new : Set) (p : ℕ × ℕ) (at : ℕ) → at ≤ i + 1 → AreThreads all text entry from at (i + 1) new (Some p) → ((id s : ℕ) → Holds new id s → ⊥) → IsBest all text entry from (i + 1) (Some p) → i < length text → IsBest all text entry from (length text + 1) (Some p)
+  best_done new p at near th empty b inside = (
+    b.0,
+    b.1,
+    omega (arith, b.2),
+    b.3,
+    b.4,
+    λ s j m above below run. elim (cases_lt j (i + 1)) [
+      | inl before ↦ b.5 s j m above before run
+      | inr later ↦ elim (cases_lt p.0 s) [
+        | inl past ↦ (omega arith, λ e. absurd (omega arith))
+        | inr open' ↦ (let o = th.on s j m above (omega (arith, b.2, b.3)) (omega (arith, later, near)) open' run in absurd (empty o.2.id o.0 o.2.holds))
+      ]
+    ],
+  )
+
+module _ (all : List Node) (text : List ℕ) (entry from i : ℕ) (first last : Bool) (is : IsAt text i first last) where
   -- a run that ends here from an open start is accepted here
-  accepts_here : (set : Set) (best : Option (ℕ × ℕ)) (s m : ℕ) → AreThreads all text entry from i (i + 1) set best → IsClosedFrom all text i 0 set → from ≤ s → IsOpen best s → Runs all text i m entry s → AcceptsBy all set s
+  accepts_here : (set : Set) (best : Option (ℕ × ℕ)) (s m : ℕ) → AreThreads all text entry from i (i + 1) set best → IsClosedFrom all first last 0 set → from ≤ s → IsOpen best s → Runs all text i m entry s → AcceptsBy all set s
   accepts_here set best s m th cl above open' run =
       let le = runs_le all text i m entry s run in
       let o = th.on s i m above (omega (arith, le)) (omega arith) open' run in
-      let a = ends_in all text i set th.len cl o.2.steps o.2.id o.0 o.2.holds o.2.run in
+      let a = ends_in all text i first last set is th.len cl o.2.steps o.2.id o.0 o.2.holds o.2.run in
       record { first = a.first; early = omega (arith, a.early, o.1); id = a.id; holds = a.holds; accepts = a.accepts }
 
   within_all : (set : Set) (k s : ℕ) → length set ≡ length all → slice_get all k ≡ Some nodes.Accept → k < length all
@@ -98,7 +124,7 @@ module _ (all : List Node) (text : List ℕ) (entry from i : ℕ) where
   at_end : (j m s : ℕ) → j ≡ i → Runs all text j m entry s → Runs all text i m entry s
   at_end j m s e run = let P : ℕ → Type 0 = λ x. Runs all text x m entry s in subst P e run
 
-  pub best_none : (set : Set) (best : Option (ℕ × ℕ)) → AreThreads all text entry from i (i + 1) set best → IsClosedFrom all text i 0 set → IsAccepted all set (length all) None → IsBest all text entry from i best → IsBest all text entry from (i + 1) best
+  pub best_none : (set : Set) (best : Option (ℕ × ℕ)) → AreThreads all text entry from i (i + 1) set best → IsClosedFrom all first last 0 set → IsAccepted all set (length all) None → IsBest all text entry from i best → IsBest all text entry from (i + 1) best
   best_none set None th cl acc b = λ s j m above below run. elim (here_or_before j below) [
     | inl before ↦ b s j m above before run
     | inr here ↦ (let a = accepts_here set None s m th cl above tt (at_end j m s here run) in acc a.id a.first (within_all set a.id a.first th.len a.accepts) a.holds a.accepts)
@@ -118,7 +144,7 @@ module _ (all : List Node) (text : List ℕ) (entry from i : ℕ) where
     ],
   )
 
-  pub best_first : (set : Set) (f : ℕ) → i ≤ length text → AreThreads all text entry from i (i + 1) set None → IsClosedFrom all text i 0 set → IsAccepted all set (length all) (Some f) → IsBest all text entry from i None → IsBest all text entry from (i + 1) (Some (f, i))
+  pub best_first : (set : Set) (f : ℕ) → i ≤ length text → AreThreads all text entry from i (i + 1) set None → IsClosedFrom all first last 0 set → IsAccepted all set (length all) (Some f) → IsBest all text entry from i None → IsBest all text entry from (i + 1) (Some (f, i))
   best_first set f inside th cl acc b =
       let st = th.starts acc.0.0 f acc.0.1 in (
         st.0,
@@ -132,7 +158,7 @@ module _ (all : List Node) (text : List ℕ) (entry from i : ℕ) where
         ],
       )
 
-  pub best_same : (set : Set) (p : ℕ × ℕ) (f : ℕ) → i ≤ length text → f ≤ p.0 → AreThreads all text entry from i (i + 1) set (Some p) → IsClosedFrom all text i 0 set → IsAccepted all set (length all) (Some f) → IsBest all text entry from i (Some p) → IsBest all text entry from (i + 1) (Some (f, i))
+  pub best_same : (set : Set) (p : ℕ × ℕ) (f : ℕ) → i ≤ length text → f ≤ p.0 → AreThreads all text entry from i (i + 1) set (Some p) → IsClosedFrom all first last 0 set → IsAccepted all set (length all) (Some f) → IsBest all text entry from i (Some p) → IsBest all text entry from (i + 1) (Some (f, i))
   best_same set p f inside le th cl acc b =
       let st = th.starts acc.0.0 f acc.0.1 in (
         st.0,
@@ -149,7 +175,7 @@ module _ (all : List Node) (text : List ℕ) (entry from i : ℕ) where
         ],
       )
 
-  pub best_later : (set : Set) (p : ℕ × ℕ) (f : ℕ) → p.0 < f → AreThreads all text entry from i (i + 1) set (Some p) → IsClosedFrom all text i 0 set → IsAccepted all set (length all) (Some f) → IsBest all text entry from i (Some p) → IsBest all text entry from (i + 1) (Some p)
+  pub best_later : (set : Set) (p : ℕ × ℕ) (f : ℕ) → p.0 < f → AreThreads all text entry from i (i + 1) set (Some p) → IsClosedFrom all first last 0 set → IsAccepted all set (length all) (Some f) → IsBest all text entry from i (Some p) → IsBest all text entry from (i + 1) (Some p)
   best_later set p f more th cl acc b = (
     b.0,
     b.1,
@@ -165,7 +191,7 @@ module _ (all : List Node) (text : List ℕ) (entry from i : ℕ) where
     ],
   )
 
-  pub best_next : (set : Set) (best : Option (ℕ × ℕ)) (a : Option ℕ) → i ≤ length text → AreThreads all text entry from i (i + 1) set best → IsClosedFrom all text i 0 set → IsAccepted all set (length all) a → IsBest all text entry from i best → IsBest all text entry from (i + 1) (better_of a i best)
+  pub best_next : (set : Set) (best : Option (ℕ × ℕ)) (a : Option ℕ) → i ≤ length text → AreThreads all text entry from i (i + 1) set best → IsClosedFrom all first last 0 set → IsAccepted all set (length all) a → IsBest all text entry from i best → IsBest all text entry from (i + 1) (better_of a i best)
   best_next set best None inside th cl acc b = best_none set best th cl acc b
   best_next set None (Some f) inside th cl acc b = best_first set f inside th cl acc b
   best_next set (Some p) (Some f) inside th cl acc b = by (nat_le f p.0) refl
@@ -184,7 +210,7 @@ module _ (all : List Node) (text : List ℕ) (entry from i : ℕ) where
       by true e h = (let l = leb-true f p.0 e in omega (arith, l, h))
       by false e h = h
 
-  pub settled : (set : Set) (best : Option (ℕ × ℕ)) (a : Option ℕ) → i ≤ length text → AreThreads all text entry from i (i + 1) set best → IsClosedFrom all text i 0 set → IsAccepted all set (length all) a → IsBest all text entry from i best → IsSettled all text entry from i set (better_of a i best)
+  pub settled : (set : Set) (best : Option (ℕ × ℕ)) (a : Option ℕ) → i ≤ length text → AreThreads all text entry from i (i + 1) set best → IsClosedFrom all first last 0 set → IsAccepted all set (length all) a → IsBest all text entry from i best → IsSettled all text entry from i first last set (better_of a i best)
   settled set best a inside th cl acc b = record {
     threads = record {
       len = th.len;
@@ -197,30 +223,13 @@ module _ (all : List Node) (text : List ℕ) (entry from i : ℕ) where
   }
 
   -- on to the next place
-  pub threads_step : (set new : Set) (best : Option (ℕ × ℕ)) → IsSettled all text entry from i set best → IsStepped all text i (length all) set new → AreThreads all text entry from (i + 1) (i + 1) new best
-  threads_step set new best h st = record {
+  pub threads_step : (set new : Set) (best : Option (ℕ × ℕ)) (byte : ℕ) → slice_get text i ≡ Some byte → IsSettled all text entry from i first last set best → IsStepped all byte (length all) set new → AreThreads all text entry from (i + 1) (i + 1) new best
+  threads_step set new best byte here h st = record {
     len = st.len;
     starts = λ id s holds. (let o = st.only id s holds in let b = h.threads.starts o.0 s o.1 in (b.0, omega (arith, b.1)));
-    back = λ j s r. h.threads.back j s (step_back all text j set new i s st r);
+    back = λ j s r. h.threads.back j s (step_back all text j i byte set new s here st r);
     on = λ s j m above below r open' run.
         (let o = h.threads.on s j m above below (omega arith) open' run in
-        let n = step_on all text j set new i o.0 (omega arith) h.threads.len h.closed st o.2 in
+        let n = step_on all text j i byte first last set new is here (omega arith) h.threads.len h.closed st o.0 o.2 in
         (n.first, omega (arith, o.1, n.early), n.runs));
   }
-
-  -- no thread is left
-  pub best_done : (new : Set) (p : ℕ × ℕ) → AreThreads all text entry from (i + 1) (i + 1) new (Some p) → ((id s : ℕ) → Holds new id s → ⊥) → IsBest all text entry from (i + 1) (Some p) → i < length text → IsBest all text entry from (length text + 1) (Some p)
-  best_done new p th empty b inside = (
-    b.0,
-    b.1,
-    omega (arith, b.2),
-    b.3,
-    b.4,
-    λ s j m above below run. elim (cases_lt j (i + 1)) [
-      | inl before ↦ b.5 s j m above before run
-      | inr later ↦ elim (cases_lt p.0 s) [
-        | inl past ↦ (omega arith, λ e. absurd (omega arith))
-        | inr open' ↦ (let o = th.on s j m above (omega (arith, b.2, b.3)) later open' run in absurd (empty o.2.id o.0 o.2.holds))
-      ]
-    ],
-  )

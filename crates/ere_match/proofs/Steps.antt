@@ -3,10 +3,11 @@ use Rattle.std.proofs.Common.{◌≡◌, ℕ, zero, suc, ◌+◌, ◌<◌, ◌�
 use Rattle.std.specs.Prelude.{slice_get}
 use Rattle.std.proofs.lemmas.Option.{slice_get-get_or, slice_get_past, slice_get_within}
 use Rattle.std.proofs.lemmas.Bool.{cases_lt, leb-true, leb-false}
+use Rattle.ere_match.specs.declared.node.Filter.{Filter}
 use Rattle.ere_match.specs.declared.node.Node.{Node}
 use Rattle.ere_match.specs.declared.node.Node.TheVariants as nodes
-use Rattle.ere_match.specs.Runs.{Runs, Step, filter_set}
-use Rattle.ere_match.specs.Threads.{Holds, HoldsBy, LeadsTo, Takes, IsTarget, IsMarked, IsClosedFrom, IsAdvanced, IsStepped, IsAccepted, least_of, SetRuns, cost}
+use Rattle.ere_match.specs.Runs.{Runs, Step, IsTaken, filter_set}
+use Rattle.ere_match.specs.Threads.{IsAt, Holds, HoldsBy, LeadsTo, Takes, IsTarget, IsMarked, IsClosedFrom, IsAdvanced, IsStepped, IsAccepted, least_of, SetRuns, cost}
 use Rattle.ere_match.proofs.Paths.{go, gone}
 use Rattle.ere_match.proofs.Marks.{read_holds, holds_read, holds_by, within_by}
 
@@ -52,33 +53,40 @@ pub record RunsBy (all : List Node) (text : List ℕ) (j i : ℕ) (set : Set) (s
 by_earlier : (all : List Node) (text : List ℕ) (j i : ℕ) (set : Set) (s t : ℕ) → s ≤ t → RunsBy all text j i set s → RunsBy all text j i set t
 by_earlier all text j i set s t le r = record { first = r.first; early = omega (arith, r.early); runs = r.runs }
 
-led : (all : List Node) (text : List ℕ) (i : ℕ) (set : Set) (id to s : ℕ) (o : Option Node) → length set ≡ length all → IsClosedFrom all text i 0 set → Holds set id s → slice_get all id ≡ o → LeadsTo text i o to → to < length all → HoldsBy set to s
-led all text i set id to s o len closed holds h leads small =
-    closed.at id (omega arith) (slice_get_within set id (Some s) holds.is) to s holds (let P : Option Node → Type 0 = λ o. LeadsTo text i o to in subst P (sym h) leads) (omega (arith, len))
+led : (all : List Node) (first last : Bool) (set : Set) (id to s : ℕ) (o : Option Node) → length set ≡ length all → IsClosedFrom all first last 0 set → Holds set id s → slice_get all id ≡ o → LeadsTo first last o to → to < length all → HoldsBy set to s
+led all first last set id to s o len closed holds h leads small =
+    closed.at id (omega arith) (slice_get_within set id (Some s) holds.is) to s holds (let P : Option Node → Type 0 = λ o. LeadsTo first last o to in subst P (sym h) leads) (omega (arith, len))
 
-on_at : (all : List Node) (text : List ℕ) (j : ℕ) (set new : Set) (i : ℕ) → i < j → length set ≡ length all → IsClosedFrom all text i 0 set → IsStepped all text i (length all) set new → (n id s : ℕ) → Holds set id s → id < length all → (o : Option Node) → slice_get all id ≡ o → Step (λ to k. Runs all text j n to k) text i j o → ((to t : ℕ) → Holds set to t → Runs all text j n to i → RunsBy all text j (i + 1) new t) → RunsBy all text j (i + 1) new s
-on_at all text j set new i before len closed st n id s holds small None h r rest = absurd r
-on_at all text j set new i before len closed st n id s holds small (Some nodes.Accept) h r rest = absurd (omega (arith, r))
-on_at all text j set new i before len closed st n id s holds small (Some nodes.Never) h r rest = absurd r
-on_at all text j set new i before len closed st n id s holds small (Some (nodes.Take f to)) h r rest =
-    let k = st.into id to s small holds (let P : Option Node → Type 0 = λ o. Takes text i o to in subst P (sym h) (r.0, refl)) (runs_within all text j n to (i + 1) r.1) in
-    record { first = k.first; early = k.early; runs = record { steps = n; id = to; holds = k.holds; run = r.1 } }
-on_at all text j set new i before len closed st n id s holds small (Some (nodes.Split a b)) h r rest = elim r [
-  | inl l ↦ (let k = led all text i set id a s (Some (nodes.Split a b)) len closed holds h (inl refl) (runs_within all text j n a i l) in by_earlier all text j (i + 1) new k.first s k.early (rest a k.first k.holds l))
-  | inr l ↦ (let k = led all text i set id b s (Some (nodes.Split a b)) len closed holds h (inr refl) (runs_within all text j n b i l) in by_earlier all text j (i + 1) new k.first s k.early (rest b k.first k.holds l))
-]
-on_at all text j set new i before len closed st n id s holds small (Some (nodes.Start to)) h r rest =
-    let k = led all text i set id to s (Some (nodes.Start to)) len closed holds h (r.0, refl) (runs_within all text j n to i r.1) in by_earlier all text j (i + 1) new k.first s k.early (rest to k.first k.holds r.1)
-on_at all text j set new i before len closed st n id s holds small (Some (nodes.End to)) h r rest =
-    let k = led all text i set id to s (Some (nodes.End to)) len closed holds h (r.0, refl) (runs_within all text j n to i r.1) in by_earlier all text j (i + 1) new k.first s k.early (rest to k.first k.holds r.1)
+some_nat : (a b : ℕ) → Some a ≡ Some b → a ≡ b
+some_nat a b e = cc
 
-on_from : (all : List Node) (text : List ℕ) (j : ℕ) (set new : Set) (i : ℕ) → i < j → length set ≡ length all → IsClosedFrom all text i 0 set → IsStepped all text i (length all) set new → (n id s : ℕ) → Holds set id s → Runs all text j n id i → RunsBy all text j (i + 1) new s
-on_from all text j set new i before len closed st zero id s holds r = absurd r
-on_from all text j set new i before len closed st (suc n) id s holds r =
-    on_at all text j set new i before len closed st n id s holds (runs_within all text j (suc n) id i r) (slice_get all id) refl r (on_from all text j set new i before len closed st n)
+-- by the byte at a place
+taken : (f : Filter) (text : List ℕ) (i byte : ℕ) → slice_get text i ≡ Some byte → IsTaken (filter_set f) text i → slice_get (filter_set f) byte ≡ Some true
+taken f text i byte here t = subst (λ c. slice_get (filter_set f) c ≡ Some true) (some_nat t.0 byte (sym t.1 ∙ here)) t.2
 
-pub step_on : (all : List Node) (text : List ℕ) (j : ℕ) (set new : Set) (i s : ℕ) → i < j → length set ≡ length all → IsClosedFrom all text i 0 set → IsStepped all text i (length all) set new → SetRuns all text j i set s → RunsBy all text j (i + 1) new s
-step_on all text j set new i s before len closed st r = on_from all text j set new i before len closed st r.steps r.id s r.holds r.run
+module _ (all : List Node) (text : List ℕ) (j i byte : ℕ) (first last : Bool) (set new : Set) (is : IsAt text i first last) (here : slice_get text i ≡ Some byte) (before : i < j) (len : length set ≡ length all) (closed : IsClosedFrom all first last 0 set) (st : IsStepped all byte (length all) set new) where
+  on_at : (n id s : ℕ) → Holds set id s → id < length all → (o : Option Node) → slice_get all id ≡ o → Step (λ to k. Runs all text j n to k) text i j o → ((to t : ℕ) → Holds set to t → Runs all text j n to i → RunsBy all text j (i + 1) new t) → RunsBy all text j (i + 1) new s
+  on_at n id s holds small None h r rest = absurd r
+  on_at n id s holds small (Some nodes.Accept) h r rest = absurd (omega (arith, r))
+  on_at n id s holds small (Some nodes.Never) h r rest = absurd r
+  on_at n id s holds small (Some (nodes.Take f to)) h r rest =
+      let k = st.into id to s small holds (let P : Option Node → Type 0 = λ o. Takes byte o to in subst P (sym h) (taken f text i byte here r.0, refl)) (runs_within all text j n to (i + 1) r.1) in
+      record { first = k.first; early = k.early; runs = record { steps = n; id = to; holds = k.holds; run = r.1 } }
+  on_at n id s holds small (Some (nodes.Split a b)) h r rest = elim r [
+    | inl l ↦ (let k = led all first last set id a s (Some (nodes.Split a b)) len closed holds h (inl refl) (runs_within all text j n a i l) in by_earlier all text j (i + 1) new k.first s k.early (rest a k.first k.holds l))
+    | inr l ↦ (let k = led all first last set id b s (Some (nodes.Split a b)) len closed holds h (inr refl) (runs_within all text j n b i l) in by_earlier all text j (i + 1) new k.first s k.early (rest b k.first k.holds l))
+  ]
+  on_at n id s holds small (Some (nodes.Start to)) h r rest =
+      let k = led all first last set id to s (Some (nodes.Start to)) len closed holds h (is.first_is r.0, refl) (runs_within all text j n to i r.1) in by_earlier all text j (i + 1) new k.first s k.early (rest to k.first k.holds r.1)
+  on_at n id s holds small (Some (nodes.End to)) h r rest =
+      let k = led all first last set id to s (Some (nodes.End to)) len closed holds h (is.last_is r.0, refl) (runs_within all text j n to i r.1) in by_earlier all text j (i + 1) new k.first s k.early (rest to k.first k.holds r.1)
+
+  on_from : (n id s : ℕ) → Holds set id s → Runs all text j n id i → RunsBy all text j (i + 1) new s
+  on_from zero id s holds r = absurd r
+  on_from (suc n) id s holds r = on_at n id s holds (runs_within all text j (suc n) id i r) (slice_get all id) refl r (on_from n)
+
+  pub step_on : (s : ℕ) → SetRuns all text j i set s → RunsBy all text j (i + 1) new s
+  step_on s r = on_from r.steps r.id s r.holds r.run
 
 -- a closed set that has a run which ends here holds an accepting node
 pub record AcceptsBy (all : List Node) (set : Set) (s : ℕ) : Type 0 where
@@ -91,114 +99,111 @@ pub record AcceptsBy (all : List Node) (set : Set) (s : ℕ) : Type 0 where
 accepts_earlier : (all : List Node) (set : Set) (s t : ℕ) → s ≤ t → AcceptsBy all set s → AcceptsBy all set t
 accepts_earlier all set s t le a = record { first = a.first; early = omega (arith, a.early); id = a.id; holds = a.holds; accepts = a.accepts }
 
-ends_at : (all : List Node) (text : List ℕ) (j : ℕ) (set : Set) → length set ≡ length all → IsClosedFrom all text j 0 set → (n id s : ℕ) → Holds set id s → (o : Option Node) → slice_get all id ≡ o → Step (λ to k. Runs all text j n to k) text j j o → ((to t : ℕ) → Holds set to t → Runs all text j n to j → AcceptsBy all set t) → AcceptsBy all set s
-ends_at all text j set len closed n id s holds None h r rest = absurd r
-ends_at all text j set len closed n id s holds (Some nodes.Accept) h r rest = record { first = s; early = omega arith; id = id; holds = holds; accepts = h }
-ends_at all text j set len closed n id s holds (Some nodes.Never) h r rest = absurd r
-ends_at all text j set len closed n id s holds (Some (nodes.Take f to)) h r rest = absurd (omega (arith, runs_le all text j n to (j + 1) r.1))
-ends_at all text j set len closed n id s holds (Some (nodes.Split a b)) h r rest = elim r [
-  | inl l ↦ (let k = led all text j set id a s (Some (nodes.Split a b)) len closed holds h (inl refl) (runs_within all text j n a j l) in accepts_earlier all set k.first s k.early (rest a k.first k.holds l))
-  | inr l ↦ (let k = led all text j set id b s (Some (nodes.Split a b)) len closed holds h (inr refl) (runs_within all text j n b j l) in accepts_earlier all set k.first s k.early (rest b k.first k.holds l))
-]
-ends_at all text j set len closed n id s holds (Some (nodes.Start to)) h r rest =
-    let k = led all text j set id to s (Some (nodes.Start to)) len closed holds h (r.0, refl) (runs_within all text j n to j r.1) in accepts_earlier all set k.first s k.early (rest to k.first k.holds r.1)
-ends_at all text j set len closed n id s holds (Some (nodes.End to)) h r rest =
-    let k = led all text j set id to s (Some (nodes.End to)) len closed holds h (r.0, refl) (runs_within all text j n to j r.1) in accepts_earlier all set k.first s k.early (rest to k.first k.holds r.1)
+module _ (all : List Node) (text : List ℕ) (j : ℕ) (first last : Bool) (set : Set) (is : IsAt text j first last) (len : length set ≡ length all) (closed : IsClosedFrom all first last 0 set) where
+  ends_at : (n id s : ℕ) → Holds set id s → (o : Option Node) → slice_get all id ≡ o → Step (λ to k. Runs all text j n to k) text j j o → ((to t : ℕ) → Holds set to t → Runs all text j n to j → AcceptsBy all set t) → AcceptsBy all set s
+  ends_at n id s holds None h r rest = absurd r
+  ends_at n id s holds (Some nodes.Accept) h r rest = record { first = s; early = omega arith; id = id; holds = holds; accepts = h }
+  ends_at n id s holds (Some nodes.Never) h r rest = absurd r
+  ends_at n id s holds (Some (nodes.Take f to)) h r rest = absurd (omega (arith, runs_le all text j n to (j + 1) r.1))
+  ends_at n id s holds (Some (nodes.Split a b)) h r rest = elim r [
+    | inl l ↦ (let k = led all first last set id a s (Some (nodes.Split a b)) len closed holds h (inl refl) (runs_within all text j n a j l) in accepts_earlier all set k.first s k.early (rest a k.first k.holds l))
+    | inr l ↦ (let k = led all first last set id b s (Some (nodes.Split a b)) len closed holds h (inr refl) (runs_within all text j n b j l) in accepts_earlier all set k.first s k.early (rest b k.first k.holds l))
+  ]
+  ends_at n id s holds (Some (nodes.Start to)) h r rest =
+      let k = led all first last set id to s (Some (nodes.Start to)) len closed holds h (is.first_is r.0, refl) (runs_within all text j n to j r.1) in accepts_earlier all set k.first s k.early (rest to k.first k.holds r.1)
+  ends_at n id s holds (Some (nodes.End to)) h r rest =
+      let k = led all first last set id to s (Some (nodes.End to)) len closed holds h (is.last_is r.0, refl) (runs_within all text j n to j r.1) in accepts_earlier all set k.first s k.early (rest to k.first k.holds r.1)
 
-pub ends_in : (all : List Node) (text : List ℕ) (j : ℕ) (set : Set) → length set ≡ length all → IsClosedFrom all text j 0 set → (n id s : ℕ) → Holds set id s → Runs all text j n id j → AcceptsBy all set s
-ends_in all text j set len closed zero id s holds r = absurd r
-ends_in all text j set len closed (suc n) id s holds r = ends_at all text j set len closed n id s holds (slice_get all id) refl r (ends_in all text j set len closed n)
+  pub ends_in : (n id s : ℕ) → Holds set id s → Runs all text j n id j → AcceptsBy all set s
+  ends_in zero id s holds r = absurd r
+  ends_in (suc n) id s holds r = ends_at n id s holds (slice_get all id) refl r (ends_in n)
 
-taken_run : (all : List Node) (text : List ℕ) (j n i id to : ℕ) (o : Option Node) → slice_get all id ≡ o → Takes text i o to → Runs all text j n to (i + 1) → Runs all text j (suc n) id i
-taken_run all text j n i id to None h t r = absurd t
-taken_run all text j n i id to (Some (nodes.Take f a)) h t r = go all text j n id i _ h (t.0, subst (λ k. Runs all text j n k (i + 1)) t.1 r)
-taken_run all text j n i id to (Some (nodes.Split a b)) h t r = absurd t
-taken_run all text j n i id to (Some (nodes.Start a)) h t r = absurd t
-taken_run all text j n i id to (Some (nodes.End a)) h t r = absurd t
-taken_run all text j n i id to (Some nodes.Never) h t r = absurd t
-taken_run all text j n i id to (Some nodes.Accept) h t r = absurd t
+taken_run : (all : List Node) (text : List ℕ) (j n i id to byte : ℕ) (o : Option Node) → slice_get text i ≡ Some byte → slice_get all id ≡ o → Takes byte o to → Runs all text j n to (i + 1) → Runs all text j (suc n) id i
+taken_run all text j n i id to byte None here h t r = absurd t
+taken_run all text j n i id to byte (Some (nodes.Take f a)) here h t r = go all text j n id i _ h ((byte, here, t.0), subst (λ k. Runs all text j n k (i + 1)) t.1 r)
+taken_run all text j n i id to byte (Some (nodes.Split a b)) here h t r = absurd t
+taken_run all text j n i id to byte (Some (nodes.Start a)) here h t r = absurd t
+taken_run all text j n i id to byte (Some (nodes.End a)) here h t r = absurd t
+taken_run all text j n i id to byte (Some nodes.Never) here h t r = absurd t
+taken_run all text j n i id to byte (Some nodes.Accept) here h t r = absurd t
 
-pub step_back : (all : List Node) (text : List ℕ) (j : ℕ) (set new : Set) (i s : ℕ) → IsStepped all text i (length all) set new → SetRuns all text j (i + 1) new s → SetRuns all text j i set s
-step_back all text j set new i s st r =
+pub step_back : (all : List Node) (text : List ℕ) (j i byte : ℕ) (set new : Set) (s : ℕ) → slice_get text i ≡ Some byte → IsStepped all byte (length all) set new → SetRuns all text j (i + 1) new s → SetRuns all text j i set s
+step_back all text j i byte set new s here st r =
     let o = st.only r.id s r.holds in
-    record { steps = suc r.steps; id = o.0; holds = o.1; run = taken_run all text j r.steps i o.0 r.id (slice_get all o.0) refl o.2 r.run }
+    record { steps = suc r.steps; id = o.0; holds = o.1; run = taken_run all text j r.steps i o.0 r.id byte (slice_get all o.0) here refl o.2 r.run }
 
 -- ---- how the nodes are gone through
 
-pub stepped_none : (all : List Node) (text : List ℕ) (i : ℕ) (set new : Set) → length new ≡ length all → ((id s : ℕ) → Holds new id s → ⊥) → IsStepped all text i 0 set new
-stepped_none all text i set new len empty = record { len = len; into = λ id to s below. absurd (omega arith); only = λ to s holds. absurd (empty to s holds) }
+pub stepped_none : (all : List Node) (byte : ℕ) (set new : Set) → length new ≡ length all → ((id s : ℕ) → Holds new id s → ⊥) → IsStepped all byte 0 set new
+stepped_none all byte set new len empty = record { len = len; into = λ id to s below. absurd (omega arith); only = λ to s holds. absurd (empty to s holds) }
 
-pub stepped_on : (all : List Node) (text : List ℕ) (i id : ℕ) (set old new : Set) → IsStepped all text i id set old → IsAdvanced all text i id set old new → IsStepped all text i (id + 1) set new
-stepped_on all text i id set old new st ad = record {
+pub stepped_on : (all : List Node) (byte id : ℕ) (set old new : Set) → IsStepped all byte id set old → IsAdvanced all byte id set old new → IsStepped all byte (id + 1) set new
+stepped_on all byte id set old new st ad = record {
   len = ad.len ∙ st.len;
   into = λ k to s below holds takes small. elim (cases_lt k id) [
     | inl before ↦ within_by old new to s ad.within (st.into k to s before holds takes small)
-    | inr here ↦ (let is : k ≡ id = omega arith in ad.into to s (subst (λ m. Holds set m s) is holds) (subst (λ m. Takes text i (slice_get all m) to) is takes) small)
+    | inr here ↦ (let is : k ≡ id = omega arith in ad.into to s (subst (λ m. Holds set m s) is holds) (subst (λ m. Takes byte (slice_get all m) to) is takes) small)
   ];
   only = λ to s holds. elim (ad.only to s holds) [ inl older ↦ st.only to s older | inr now ↦ (id, now.0, now.1) ];
 }
 
-some_nat : (a b : ℕ) → Some a ≡ Some b → a ≡ b
-some_nat a b e = cc
-
-pub advanced_out : (all : List Node) (text : List ℕ) (i id : ℕ) (set old : Set) → get_or set id None ≡ None → IsAdvanced all text i id set old old
-advanced_out all text i id set old out = record {
+pub advanced_out : (all : List Node) (byte id : ℕ) (set old : Set) → get_or set id None ≡ None → IsAdvanced all byte id set old old
+advanced_out all byte id set old out = record {
   len = refl;
   within = record { at = λ k t holds. holds_by old k t holds };
   into = λ to s holds. absurd (let is : None ≡ Some s = sym out ∙ read_holds set id s holds in cc);
   only = λ to s holds. inl holds;
 }
 
-takes_found : (text : List ℕ) (i byte to : ℕ) (node : Node) (found : Option ℕ) → slice_get text i ≡ Some byte → IsTarget node byte found → Takes text i (Some node) to → found ≡ Some to
-takes_found text i byte to (nodes.Take f a) found h t k = elim t [
+takes_found : (byte to : ℕ) (node : Node) (found : Option ℕ) → IsTarget node byte found → Takes byte (Some node) to → found ≡ Some to
+takes_found byte to (nodes.Take f a) found t k = elim t [
   | inl same ↦ same.1 ∙ ap Some (sym k.1)
   | inr other ↦ absurd (
-      let b : k.0.0 ≡ byte = some_nat k.0.0 byte (sym k.0.1 ∙ h) in
-      let w = slice_get_within (filter_set f) k.0.0 true k.0.2 in
-      let is : Some true ≡ Some false = sym k.0.2 ∙ slice_get-get_or (filter_set f) k.0.0 false w ∙ ap (λ (c : ℕ). Some (get_or (filter_set f) c false)) b ∙ ap Some other.0 in cc)
+      let w = slice_get_within (filter_set f) byte true k.0 in
+      let is : Some true ≡ Some false = sym k.0 ∙ slice_get-get_or (filter_set f) byte false w ∙ ap Some other.0 in cc)
 ]
-takes_found text i byte to (nodes.Split a b) found h t k = absurd k
-takes_found text i byte to (nodes.Start a) found h t k = absurd k
-takes_found text i byte to (nodes.End a) found h t k = absurd k
-takes_found text i byte to nodes.Never found h t k = absurd k
-takes_found text i byte to nodes.Accept found h t k = absurd k
+takes_found byte to (nodes.Split a b) found t k = absurd k
+takes_found byte to (nodes.Start a) found t k = absurd k
+takes_found byte to (nodes.End a) found t k = absurd k
+takes_found byte to nodes.Never found t k = absurd k
+takes_found byte to nodes.Accept found t k = absurd k
 
 -- a byte that is in the set stands within its table
-true_within : (xs : List Bool) (c : ℕ) → get_or xs c false ≡ true → slice_get xs c ≡ Some true
+pub true_within : (xs : List Bool) (c : ℕ) → get_or xs c false ≡ true → slice_get xs c ≡ Some true
 true_within [] c e = absurd cc
 true_within (x ∷ xs) zero e = ap Some e
 true_within (x ∷ xs) (suc c) e = true_within xs c e
 
-found_takes : (text : List ℕ) (i byte to : ℕ) (node : Node) → slice_get text i ≡ Some byte → IsTarget node byte (Some to) → Takes text i (Some node) to
-found_takes text i byte to (nodes.Take f a) h t = elim t [
-  | inl same ↦ ((byte, h, true_within (filter_set f) byte same.0), some_nat to a same.1)
+found_takes : (byte to : ℕ) (node : Node) → IsTarget node byte (Some to) → Takes byte (Some node) to
+found_takes byte to (nodes.Take f a) t = elim t [
+  | inl same ↦ (true_within (filter_set f) byte same.0, some_nat to a same.1)
   | inr other ↦ (let e : Some to ≡ None = other.1 in cc)
 ]
-found_takes text i byte to (nodes.Split a b) h t = (let e : Some to ≡ None = t in cc)
-found_takes text i byte to (nodes.Start a) h t = (let e : Some to ≡ None = t in cc)
-found_takes text i byte to (nodes.End a) h t = (let e : Some to ≡ None = t in cc)
-found_takes text i byte to nodes.Never h t = (let e : Some to ≡ None = t in cc)
-found_takes text i byte to nodes.Accept h t = (let e : Some to ≡ None = t in cc)
+found_takes byte to (nodes.Split a b) t = (let e : Some to ≡ None = t in cc)
+found_takes byte to (nodes.Start a) t = (let e : Some to ≡ None = t in cc)
+found_takes byte to (nodes.End a) t = (let e : Some to ≡ None = t in cc)
+found_takes byte to nodes.Never t = (let e : Some to ≡ None = t in cc)
+found_takes byte to nodes.Accept t = (let e : Some to ≡ None = t in cc)
 
-pub advanced_none : (all : List Node) (text : List ℕ) (i id byte : ℕ) (node : Node) (set old : Set) → slice_get all id ≡ Some node → slice_get text i ≡ Some byte → IsTarget node byte None → IsAdvanced all text i id set old old
-advanced_none all text i id byte node set old h b t = record {
+pub advanced_none : (all : List Node) (id byte : ℕ) (node : Node) (set old : Set) → slice_get all id ≡ Some node → IsTarget node byte None → IsAdvanced all byte id set old old
+advanced_none all id byte node set old h t = record {
   len = refl;
   within = record { at = λ k t holds. holds_by old k t holds };
-  into = λ to s holds takes small. (let e : None ≡ Some to = takes_found text i byte to node None b t (let P : Option Node → Type 0 = λ o. Takes text i o to in subst P h takes) in cc);
+  into = λ to s holds takes small. (let e : None ≡ Some to = takes_found byte to node None t (let P : Option Node → Type 0 = λ o. Takes byte o to in subst P h takes) in cc);
   only = λ to s holds. inl holds;
 }
 
-pub advanced_some : (all : List Node) (text : List ℕ) (i id byte a s bound : ℕ) (node : Node) (set old new : Set) (x : Bool) → length old ≡ length all → slice_get all id ≡ Some node → slice_get text i ≡ Some byte → get_or set id None ≡ Some s → id < length set → IsTarget node byte (Some a) → IsMarked bound a s old new x → IsAdvanced all text i id set old new
-advanced_some all text i id byte a s bound node set old new x len h b at inside t m = record {
+pub advanced_some : (all : List Node) (id byte a s bound : ℕ) (node : Node) (set old new : Set) (x : Bool) → length old ≡ length all → slice_get all id ≡ Some node → get_or set id None ≡ Some s → id < length set → IsTarget node byte (Some a) → IsMarked bound a s old new x → IsAdvanced all byte id set old new
+advanced_some all id byte a s bound node set old new x len h at inside t m = record {
   len = m.len;
   within = m.within;
   into = λ to r holds takes small.
-      (let same : a ≡ to = some_nat a to (takes_found text i byte to node (Some a) b t (let P : Option Node → Type 0 = λ o. Takes text i o to in subst P h takes)) in
+      (let same : a ≡ to = some_nat a to (takes_found byte to node (Some a) t (let P : Option Node → Type 0 = λ o. Takes byte o to in subst P h takes)) in
       let start : s ≡ r = some_nat s r (sym at ∙ read_holds set id r holds) in
       subst (λ k. HoldsBy new k r) same (subst (λ u. HoldsBy new a u) start (m.here (omega (arith, len)))));
   only = λ to r holds. elim (m.only to r holds) [
     | inl older ↦ inl older
-    | inr is ↦ inr (subst (λ u. Holds set id u) (sym is.1) (holds_read set id s inside at), (let P : Option Node → Type 0 = λ o. Takes text i o to in subst P (sym h) (subst (λ k. Takes text i (Some node) k) (sym is.0) (found_takes text i byte a node b t))))
+    | inr is ↦ inr (subst (λ u. Holds set id u) (sym is.1) (holds_read set id s inside at), (let P : Option Node → Type 0 = λ o. Takes byte o to in subst P (sym h) (subst (λ k. Takes byte (Some node) k) (sym is.0) (found_takes byte a node t))))
   ];
 }
 

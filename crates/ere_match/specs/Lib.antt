@@ -3,3 +3,4 @@ pub mod Means
 pub mod Threads
 pub mod FirstMatch
 pub mod Autos
+pub mod Rows

@@ -2,7 +2,7 @@
 use Rattle.std.specs.Prelude.{◌≡◌, ℕ, ◌+◌, ◌<◌, ◌≤◌, ◌⊎◌, Bool, true, false, List, [], ◌∷◌, length, slice_get, slice_index_or, nat_le, if◌then◌else◌, Option, Some, None}
 use Rattle.ere_match.specs.declared.node.Node.{Node}
 use Rattle.ere_match.specs.declared.node.Node.TheVariants as nodes
-use Rattle.ere_match.specs.Runs.{filter_set, IsTaken, Runs}
+use Rattle.ere_match.specs.Runs.{filter_set, Runs}
 
 -- a thread from this start has come to this node
 pub record Holds (set : List (Option ℕ)) (id start : ℕ) : Type 0 where
@@ -14,17 +14,28 @@ pub record HoldsBy (set : List (Option ℕ)) (id start : ℕ) : Type 0 where
   pub early : first ≤ start
   pub holds : Holds set id first
 
--- where a node leads without a byte
-abbrev pub LeadsTo : List ℕ → ℕ → Option Node → ℕ → Type 0
-LeadsTo text i (Some (nodes.Split a b)) to = (to ≡ a) ⊎ (to ≡ b)
-LeadsTo text i (Some (nodes.Start a)) to = (i ≡ 0) × (to ≡ a)
-LeadsTo text i (Some (nodes.End a)) to = (i ≡ length text) × (to ≡ a)
-LeadsTo text i other to = ⊥
+-- the place is the first of the text where this is said of it, and the last where that is
+pub record IsNear (text : List ℕ) (i : ℕ) (first last : Bool) : Type 0 where
+  pub is_first : first ≡ true → i ≡ 0
+  pub is_last : last ≡ true → i ≡ length text
 
--- where a node leads by the byte at place i
-abbrev pub Takes : List ℕ → ℕ → Option Node → ℕ → Type 0
-Takes text i (Some (nodes.Take f a)) to = IsTaken (filter_set f) text i × (to ≡ a)
-Takes text i other to = ⊥
+-- it is said of it where it is so
+pub record IsAt (text : List ℕ) (i : ℕ) (first last : Bool) : Type 0 where
+  pub near : IsNear text i first last
+  pub first_is : i ≡ 0 → first ≡ true
+  pub last_is : i ≡ length text → last ≡ true
+
+-- where a node leads without a byte
+abbrev pub LeadsTo : Bool → Bool → Option Node → ℕ → Type 0
+LeadsTo first last (Some (nodes.Split a b)) to = (to ≡ a) ⊎ (to ≡ b)
+LeadsTo first last (Some (nodes.Start a)) to = (first ≡ true) × (to ≡ a)
+LeadsTo first last (Some (nodes.End a)) to = (last ≡ true) × (to ≡ a)
+LeadsTo first last other to = ⊥
+
+-- where a node leads by a byte
+abbrev pub Takes : ℕ → Option Node → ℕ → Type 0
+Takes byte (Some (nodes.Take f a)) to = (slice_get (filter_set f) byte ≡ Some true) × (to ≡ a)
+Takes byte other to = ⊥
 
 -- starts below the bound cost themselves, no start costs the bound
 abbrev pub cost : ℕ → List (Option ℕ) → ℕ
@@ -55,71 +66,78 @@ pub record IsMarked (bound id start : ℕ) (old new : List (Option ℕ)) (added 
   pub fewer : cost bound new ≤ cost bound old
   pub less : added ≡ true → cost bound new < cost bound old
 
--- the threads of a node were led on
-pub record IsFollowed (text : List ℕ) (i bound start : ℕ) (node : Node) (old new : List (Option ℕ)) (added : Bool) : Type 0 where
+-- one thread more, if there was no earlier one
+pub record IsSeeded (id start : ℕ) (old new : List (Option ℕ)) : Type 0 where
   pub len : length new ≡ length old
   pub within : IsWithin old new
-  pub all_in : (to : ℕ) → LeadsTo text i (Some node) to → to < length old → HoldsBy new to start
-  pub only : (k s : ℕ) → Holds new k s → Holds old k s ⊎ (LeadsTo text i (Some node) k × (s ≡ start))
+  pub here : id < length old → HoldsBy new id start
+  pub only : (k s : ℕ) → Holds new k s → Holds old k s ⊎ ((k ≡ id) × (s ≡ start))
+
+-- the threads of a node were led on
+pub record IsFollowed (first last : Bool) (bound start : ℕ) (node : Node) (old new : List (Option ℕ)) (added : Bool) : Type 0 where
+  pub len : length new ≡ length old
+  pub within : IsWithin old new
+  pub all_in : (to : ℕ) → LeadsTo first last (Some node) to → to < length old → HoldsBy new to start
+  pub only : (k s : ℕ) → Holds new k s → Holds old k s ⊎ (LeadsTo first last (Some node) k × (s ≡ start))
   pub quiet : added ≡ false → new ≡ old
   pub fewer : cost bound new ≤ cost bound old
   pub less : added ≡ true → cost bound new < cost bound old
 
--- what runs from the new set runs from the old, with the same start
-pub record IsFrom (all : List Node) (text : List ℕ) (i : ℕ) (old new : List (Option ℕ)) : Type 0 where
-  pub at : (j n id s : ℕ) → Holds new id s → Runs all text j n id i → (m : ℕ) × (from : ℕ) × Holds old from s × Runs all text j m from i
+-- what runs from the new set at such a place runs from the old, with the same start
+pub record IsFrom (all : List Node) (first last : Bool) (old new : List (Option ℕ)) : Type 0 where
+  pub at : (text : List ℕ) (i : ℕ) → IsNear text i first last → (j n id s : ℕ) → Holds new id s → Runs all text j n id i → (m : ℕ) × (from : ℕ) × Holds old from s × Runs all text j m from i
 
 -- each start of the new set is one of the old
 pub record AreStarts (old new : List (Option ℕ)) : Type 0 where
   pub at : (id s : ℕ) → Holds new id s → (k : ℕ) × Holds old k s
 
 -- a node's threads have been led on
-abbrev pub IsLed : List Node → List ℕ → ℕ → List (Option ℕ) → ℕ → Type 0
-IsLed all text i set id = (to s : ℕ) → Holds set id s → LeadsTo text i (slice_get all id) to → to < length set → HoldsBy set to s
+abbrev pub IsLed : List Node → Bool → Bool → List (Option ℕ) → ℕ → Type 0
+IsLed all first last set id = (to s : ℕ) → Holds set id s → LeadsTo first last (slice_get all id) to → to < length set → HoldsBy set to s
 
 -- those of all nodes not below n
-pub record IsClosedFrom (all : List Node) (text : List ℕ) (i n : ℕ) (set : List (Option ℕ)) : Type 0 where
-  pub at : (id : ℕ) → n ≤ id → id < length set → IsLed all text i set id
+pub record IsClosedFrom (all : List Node) (first last : Bool) (n : ℕ) (set : List (Option ℕ)) : Type 0 where
+  pub at : (id : ℕ) → n ≤ id → id < length set → IsLed all first last set id
 
-pub record IsVisited (all : List Node) (text : List ℕ) (i bound id : ℕ) (old new : List (Option ℕ)) (added : Bool) : Type 0 where
+pub record IsVisited (all : List Node) (first last : Bool) (bound id : ℕ) (old new : List (Option ℕ)) (added : Bool) : Type 0 where
   pub len : length new ≡ length old
   pub within : IsWithin old new
-  pub from : IsFrom all text i old new
+  pub from : IsFrom all first last old new
   pub starts : AreStarts old new
   pub quiet : added ≡ false → new ≡ old
-  pub closed : added ≡ false → IsLed all text i new id
+  pub closed : added ≡ false → IsLed all first last new id
   pub fewer : cost bound new ≤ cost bound old
   pub less : added ≡ true → cost bound new < cost bound old
 
-pub record IsPassed (all : List Node) (text : List ℕ) (i bound n : ℕ) (old new : List (Option ℕ)) (added : Bool) : Type 0 where
+pub record IsPassed (all : List Node) (first last : Bool) (bound n : ℕ) (old new : List (Option ℕ)) (added : Bool) : Type 0 where
   pub len : length new ≡ length old
   pub within : IsWithin old new
-  pub from : IsFrom all text i old new
+  pub from : IsFrom all first last old new
   pub starts : AreStarts old new
-  pub closed : added ≡ false → IsClosedFrom all text i n new
+  pub closed : added ≡ false → IsClosedFrom all first last n new
   pub fewer : cost bound new ≤ cost bound old
   pub less : added ≡ true → cost bound new < cost bound old
 
 -- the set with all that it leads to without a byte
-pub record IsClosure (all : List Node) (text : List ℕ) (i : ℕ) (old new : List (Option ℕ)) : Type 0 where
+pub record IsClosure (all : List Node) (first last : Bool) (old new : List (Option ℕ)) : Type 0 where
   pub len : length new ≡ length old
   pub within : IsWithin old new
-  pub from : IsFrom all text i old new
+  pub from : IsFrom all first last old new
   pub starts : AreStarts old new
-  pub closed : IsClosedFrom all text i 0 new
+  pub closed : IsClosedFrom all first last 0 new
 
--- new is old with what one node leads to by the byte at i
-pub record IsAdvanced (all : List Node) (text : List ℕ) (i id : ℕ) (set old new : List (Option ℕ)) : Type 0 where
+-- new is old with what one node leads to by the byte
+pub record IsAdvanced (all : List Node) (byte id : ℕ) (set old new : List (Option ℕ)) : Type 0 where
   pub len : length new ≡ length old
   pub within : IsWithin old new
-  pub into : (to s : ℕ) → Holds set id s → Takes text i (slice_get all id) to → to < length all → HoldsBy new to s
-  pub only : (to s : ℕ) → Holds new to s → Holds old to s ⊎ (Holds set id s × Takes text i (slice_get all id) to)
+  pub into : (to s : ℕ) → Holds set id s → Takes byte (slice_get all id) to → to < length all → HoldsBy new to s
+  pub only : (to s : ℕ) → Holds new to s → Holds old to s ⊎ (Holds set id s × Takes byte (slice_get all id) to)
 
--- new has what the threads at nodes below n lead to by the byte at i
-pub record IsStepped (all : List Node) (text : List ℕ) (i n : ℕ) (set new : List (Option ℕ)) : Type 0 where
+-- new has what the threads at nodes below n lead to by the byte
+pub record IsStepped (all : List Node) (byte n : ℕ) (set new : List (Option ℕ)) : Type 0 where
   pub len : length new ≡ length all
-  pub into : (id to s : ℕ) → id < n → Holds set id s → Takes text i (slice_get all id) to → to < length all → HoldsBy new to s
-  pub only : (to s : ℕ) → Holds new to s → (id : ℕ) × Holds set id s × Takes text i (slice_get all id) to
+  pub into : (id to s : ℕ) → id < n → Holds set id s → Takes byte (slice_get all id) to → to < length all → HoldsBy new to s
+  pub only : (to s : ℕ) → Holds new to s → (id : ℕ) × Holds set id s × Takes byte (slice_get all id) to
 
 -- where a node leads by a byte
 abbrev pub IsTarget : Node → ℕ → Option ℕ → Type 0
@@ -175,7 +193,7 @@ better_of (Some s) at None = Some (s, at)
 better_of (Some s) at (Some p) = if nat_le s p.0 then Some (s, at) else Some p
 
 -- the threads of a place, led on as far as they go, and the best of the runs that end there or before
-pub record IsSettled (all : List Node) (text : List ℕ) (entry from i : ℕ) (set : List (Option ℕ)) (found : Option (ℕ × ℕ)) : Type 0 where
+pub record IsSettled (all : List Node) (text : List ℕ) (entry from i : ℕ) (first last : Bool) (set : List (Option ℕ)) (found : Option (ℕ × ℕ)) : Type 0 where
   pub threads : AreThreads all text entry from i (i + 1) set found
   pub best : IsBest all text entry from (i + 1) found
-  pub closed : IsClosedFrom all text i 0 set
+  pub closed : IsClosedFrom all first last 0 set

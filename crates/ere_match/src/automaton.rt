@@ -1,15 +1,16 @@
 //! The automaton of an expression.
-ghost use Rattle.std.specs.Prelude.{◌≡◌, length};
+ghost use Rattle.ere_match.specs.Rows.{AreClasses, IsTable};
 
 use crate::node::Node;
+use crate::row::Table;
 
-/// The automaton of an expression, with room for the sets of threads that matching keeps.
+/// The automaton of an expression, with the rows that matching needed so far.
 #[derive(Debug, Drop)]
 pub struct Auto {
     pub(crate) nodes: Vec<Node>,
     pub(crate) entry: usize,
-    pub(crate) set: Vec<Option<usize>>,
-    pub(crate) next: Vec<Option<usize>>,
-    ghost set_len: { length set.items ≡ length nodes.items },
-    ghost next_len: { length next.items ≡ length nodes.items },
+    pub(crate) classes: [u8; 256],
+    pub(crate) table: Table,
+    ghost are_classes: { AreClasses nodes.items classes },
+    ghost is_table: { ∥ IsTable nodes.items entry classes table ∥₁ },
 }

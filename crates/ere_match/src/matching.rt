@@ -8,8 +8,11 @@ ghost use Rattle.ere_match.specs.FirstMatch.{IsFirstMatch, IsMatch};
 
 use crate::assemble::{add, build as build_nodes};
 use crate::automaton::Auto;
+use crate::classes::classes_of;
 use crate::node::Node;
+use crate::row::Table;
 use crate::scan::scan;
+use crate::search::search;
 use ere_syntax::{Ere, EreFault};
 use std::alloc::{AllocError, Global};
 
@@ -21,13 +24,13 @@ pub fn build(alloc: Global, ere: &Ere) -> Result<Auto, EreFault>
     let mut nodes = Vec::new(alloc);
     let accept = add(&mut nodes, Node::Accept)?;
     let entry = build_nodes(alloc, &mut nodes, ere, accept)?;
-    let set = vec![in alloc; None; nodes.len()]?;
-    let next = vec![in alloc; None; nodes.len()]?;
+    let classes = classes_of(&nodes);
+    let table = Table::new(alloc, nodes.len())?;
     Ok(Auto {
         nodes,
         entry,
-        set,
-        next,
+        classes,
+        table,
     })
 }
 
@@ -51,12 +54,30 @@ pub fn first_match(
     ensures found { (t : Tree) → IsAutoOf auto.old t → IfOk result (λ found. IsFirstMatch t text.now from found) }
     ensures kept { (t : Tree) → IsAutoOf auto.old t → IsAutoOf auto.new t }
 {
-    Ok(scan(
+    let found = search(
+        &auto.nodes,
+        auto.entry,
+        &auto.classes,
+        &mut auto.table,
+        text,
+        from,
+    )?;
+    Ok(found)
+}
+
+/// The same match by leading sets of threads from place to place, without a table: the plain program beside which tests run
+/// `first_match`.
+pub fn first_match_by_threads(auto: &mut Auto, text: &[u8], from: usize) -> Option<(usize, usize)>
+    requires { from ≤ length text.now }
+    ensures found { (t : Tree) → IsAutoOf auto.old t → IsFirstMatch t text.now from result }
+    ensures kept { (t : Tree) → IsAutoOf auto.old t → IsAutoOf auto.new t }
+{
+    scan(
         &auto.nodes,
         auto.entry,
         text,
         from,
-        &mut auto.set,
-        &mut auto.next,
-    ))
+        &mut auto.table.set,
+        &mut auto.table.next,
+    )
 }

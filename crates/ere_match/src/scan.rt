@@ -1,5 +1,5 @@
 //! A scan of a text: threads from all starts at once, of which the earliest at each node is kept.
-ghost use Rattle.std.specs.Prelude.{◌≡◌, ◌+◌, ◌<◌, ◌≤◌, ℕ, false, length, true, List};
+ghost use Rattle.std.specs.Prelude.{◌≡◌, ◌+◌, ◌<◌, ◌≤◌, ℕ, false, length, nat_eq, true, List};
 ghost use Rattle.ere_match.specs.Threads.{AreThreads, Holds, IsBest, IsSettled, SpecNode, better_of};
 
 use crate::node::Node;
@@ -7,7 +7,7 @@ use crate::step::{accepted, step};
 use crate::threads::{clear, close, mark};
 
 /// The best match so far, with the least start that is accepted at this place.
-fn better(
+pub(crate) fn better(
     accepted: Option<usize>,
     at: usize,
     best: Option<(usize, usize)>,
@@ -66,10 +66,10 @@ fn settle(
 ) -> Option<(usize, usize)>
     requires same_len { length set.old ≡ length nodes.now }
     requires starts { (k s : ℕ) → Holds set.old k s → s ≤ at }
-    ensures { (from : ℕ) → from ≤ at → at ≤ length text.now → AreThreads nodes.now text.now entry from at at set.old best → IsBest nodes.now text.now entry from at best → IsSettled nodes.now text.now entry from at set.new result }
+    ensures { (from : ℕ) → from ≤ at → at ≤ length text.now → AreThreads nodes.now text.now entry from at at set.old best → IsBest nodes.now text.now entry from at best → IsSettled nodes.now text.now entry from at (nat_eq at 0) (nat_eq at (length text.now)) set.new result }
 {
     seed(set, entry, at, best);
-    close(nodes, set, text, at);
+    close(nodes, set, at, at == 0, at == text.len());
     better(accepted(nodes, set), at, best)
 }
 
@@ -91,7 +91,7 @@ pub(crate) fn scan(
     let mut best = None;
     for at in from..text.len() {
         best = settle(nodes, entry, text, at, set, best);
-        step(nodes, set, text, at, next);
+        step(nodes, set, text[at], next);
         match best {
             Some(_) if is_empty(next) => return best,
             _ => {}

@@ -50,24 +50,16 @@ fn target(node: &Node, byte: u8) -> Option<usize>
     }
 }
 
-/// Leads the thread of a node on by the byte at a place, if there is one that takes it.
-fn advance(
-    nodes: &[Node],
-    id: usize,
-    set: &[Option<usize>],
-    text: &[u8],
-    at: usize,
-    next: &mut [Option<usize>],
-)
+/// Leads the thread of a node on by the byte, if there is one that takes it.
+fn advance(nodes: &[Node], id: usize, set: &[Option<usize>], byte: u8, next: &mut [Option<usize>])
     requires node { id < length nodes.now }
-    requires inside { at < length text.now }
     requires same_len { length set.now ≡ length nodes.now }
     requires next_len { length next.old ≡ length nodes.now }
-    ensures { IsAdvanced nodes.now text.now at id set.now next.old next.new }
+    ensures { IsAdvanced nodes.now byte id set.now next.old next.new }
 {
     match set[id] {
         None => {}
-        Some(start) => match target(&nodes[id], text[at]) {
+        Some(start) => match target(&nodes[id], byte) {
             None => {}
             Some(to) => {
                 mark(next, to, start);
@@ -76,21 +68,14 @@ fn advance(
     }
 }
 
-/// Leads all threads on by the byte at a place.
-pub(crate) fn step(
-    nodes: &[Node],
-    set: &[Option<usize>],
-    text: &[u8],
-    at: usize,
-    next: &mut [Option<usize>],
-)
-    requires inside { at < length text.now }
+/// Leads all threads on by the byte.
+pub(crate) fn step(nodes: &[Node], set: &[Option<usize>], byte: u8, next: &mut [Option<usize>])
     requires same_len { length set.now ≡ length nodes.now }
     requires next_len { length next.old ≡ length nodes.now }
-    ensures { IsStepped nodes.now text.now at (length nodes.now) set.now next.new }
+    ensures { IsStepped nodes.now byte (length nodes.now) set.now next.new }
 {
     clear(next);
     for id in 0..nodes.len() {
-        advance(nodes, id, set, text, at, next);
+        advance(nodes, id, set, byte, next);
     }
 }

@@ -39,55 +39,62 @@ pub(crate) fn mark(set: &mut [Option<usize>], id: usize, start: usize) -> bool
 }
 
 /// Leads the thread of a node on without a byte.
-fn follow(node: &Node, set: &mut [Option<usize>], start: usize, text: &[u8], at: usize) -> bool
-    ensures { (bound : ℕ) → start < bound → IsFollowed text.now at bound start node.now set.old set.new result }
+fn follow(node: &Node, set: &mut [Option<usize>], start: usize, first: bool, last: bool) -> bool
+    ensures { (bound : ℕ) → start < bound → IsFollowed first last bound start node.now set.old set.new result }
 {
     match node {
-        Node::Split(first, second) => {
-            let one = mark(set, *first, start);
-            let two = mark(set, *second, start);
+        Node::Split(to, other) => {
+            let one = mark(set, *to, start);
+            let two = mark(set, *other, start);
             one || two
         }
-        Node::Start(to) => at == 0 && mark(set, *to, start),
-        Node::End(to) => at == text.len() && mark(set, *to, start),
+        Node::Start(to) => first && mark(set, *to, start),
+        Node::End(to) => last && mark(set, *to, start),
         _ => false,
     }
 }
 
 /// Leads the thread of a node on, if there is one.
-fn visit(nodes: &[Node], id: usize, set: &mut [Option<usize>], text: &[u8], at: usize) -> bool
+fn visit(nodes: &[Node], id: usize, set: &mut [Option<usize>], first: bool, last: bool) -> bool
     requires within { id < length nodes.now }
     requires same_len { length set.old ≡ length nodes.now }
-    ensures { (bound : ℕ) → ((k s : ℕ) → Holds set.old k s → s < bound) → IsVisited nodes.now text.now at bound id set.old set.new result }
+    ensures { (bound : ℕ) → ((k s : ℕ) → Holds set.old k s → s < bound) → IsVisited nodes.now first last bound id set.old set.new result }
 {
     match set[id] {
-        Some(start) => follow(&nodes[id], set, start, text, at),
+        Some(start) => follow(&nodes[id], set, start, first, last),
         None => false,
     }
 }
 
 /// Leads each thread on once, from the last node to the first, and tells whether the set has changed.
-fn pass(nodes: &[Node], set: &mut [Option<usize>], text: &[u8], at: usize) -> bool
+fn pass(nodes: &[Node], set: &mut [Option<usize>], first: bool, last: bool) -> bool
     requires { length set.old ≡ length nodes.now }
-    ensures { (bound : ℕ) → ((k s : ℕ) → Holds set.old k s → s < bound) → IsPassed nodes.now text.now at bound 0 set.old set.new result }
+    ensures { (bound : ℕ) → ((k s : ℕ) → Holds set.old k s → s < bound) → IsPassed nodes.now first last bound 0 set.old set.new result }
 {
     let mut added = false;
     for done in 0..nodes.len() {
-        if visit(nodes, nodes.len() - 1 - done, set, text, at) {
+        if visit(nodes, nodes.len() - 1 - done, set, first, last) {
             added = true;
         }
     }
     added
 }
 
-/// Leads all threads on without a byte, as far as they go.
-pub(crate) fn close(nodes: &[Node], set: &mut [Option<usize>], text: &[u8], at: usize)
+/// Leads all threads on without a byte, as far as they go, at a place that is the first of its text or the last or neither;
+/// no start lies behind `latest`.
+pub(crate) fn close(
+    nodes: &[Node],
+    set: &mut [Option<usize>],
+    latest: usize,
+    first: bool,
+    last: bool,
+)
     requires same_len { length set.old ≡ length nodes.now }
-    requires starts { (k s : ℕ) → Holds set.old k s → s ≤ at }
-    ensures { IsClosure nodes.now text.now at set.old set.new }
+    requires starts { (k s : ℕ) → Holds set.old k s → s ≤ latest }
+    ensures { IsClosure nodes.now first last set.old set.new }
 {
     let mut added = true;
     while added {
-        added = pass(nodes, set, text, at);
+        added = pass(nodes, set, first, last);
     }
 }

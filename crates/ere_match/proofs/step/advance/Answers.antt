@@ -1,10 +1,9 @@
-use Rattle.std.proofs.Common.{arith, ◌+◌, ◌<◌, length, get_or}
-use Rattle.std.proofs.lemmas.Option.{slice_get-get_or}
+use Rattle.std.proofs.Common.{arith, ◌+◌, ◌<◌, length}
 use Rattle.ere_match.proofs.Steps.{node_is, advanced_some}
 use Rattle.ere_match.proofs.step.advance.Goals as goal
 
 pub returns-in-Some-target : goal.returns-in-Some-target
 returns-in-Some-target c =
     let inside : c.args.id < length c.args.set.now = omega (arith, c.requires.node, c.requires.same_len) in
-    advanced_some c.args.nodes.now c.args.text.now c.args.at c.args.id (get_or c.args.text.now c.args.at 0) c.in-Some-target.to c.in-Some.start (c.in-Some.start + 1) c.index-nodes-id.result c.args.set.now c.args.next.now c.mark.new.set c.mark.result c.requires.next_len
-    (node_is c.args.nodes.now c.args.id c.index-nodes-id.result c.requires.node c.index-nodes-id.is) (slice_get-get_or c.args.text.now c.args.at 0 c.requires.inside) c.in-Some.is inside c.in-Some-target.ensures (c.mark.ensures (c.in-Some.start + 1) (omega arith))
+    advanced_some c.args.nodes.now c.args.id c.args.byte c.in-Some-target.to c.in-Some.start (c.in-Some.start + 1) c.index-nodes-id.result c.args.set.now c.args.next.now c.mark.new.set c.mark.result c.requires.next_len
+    (node_is c.args.nodes.now c.args.id c.index-nodes-id.result c.requires.node c.index-nodes-id.is) c.in-Some.is inside c.in-Some-target.ensures (c.mark.ensures (c.in-Some.start + 1) (omega arith))

@@ -1,0 +1,53 @@
+-- The places of a search.
+use Rattle.std.proofs.Common.{◌≡◌, ℕ, ◌+◌, ◌<◌, ◌≤◌, Bool, true, List, length, Option, Some, None, sym, ap, ◌∙◌, subst, arith, get_or}
+use Rattle.std.specs.Prelude.{slice_get}
+use Rattle.std.specs.Option.{is_some}
+use Rattle.std.proofs.lemmas.Option.{slice_get-get_or, slice_get_within}
+use Rattle.ere_match.specs.declared.node.Node.{Node}
+use Rattle.ere_match.specs.declared.row.Row.{Row}
+use Rattle.ere_match.specs.declared.row.Table.{Table}
+use Rattle.ere_match.specs.Threads.{IsAccepted, IsBest, better_of}
+use Rattle.ere_match.specs.Rows.{HasMoved, IsRow, IsSearching, IsTable, started, threads_of}
+use Rattle.ere_match.proofs.Searches.{search_at, search_ends, search_over, search_step}
+
+accepted_small : (all : List Node) (row : Row) (set : List (Option ℕ)) (n k : ℕ) (o : Option ℕ) → o ≡ Some k → ((id s : ℕ) → Rattle.ere_match.specs.Threads.Holds set id s → s < row.count) → IsAccepted all set n o → k < row.count
+accepted_small all row set n k None e few a = absurd cc
+accepted_small all row set n k (Some j) e few a = (let same : j ≡ k = inner j k e in let x = few a.0.0 j a.0.1 in omega (arith, x, same))
+  where
+    inner : (a b : ℕ) → Some a ≡ Some b → a ≡ b
+    inner a b e = cc
+
+pub inside_small : (all : List Node) (row : Row) (k : ℕ) → IsRow all row → row.inside ≡ Some k → k < row.count
+inside_small all row k r e = accepted_small all row (threads_of row) (length all) k row.inside e r.few r.inside
+
+pub ending_small : (all : List Node) (row : Row) (k : ℕ) → IsRow all row → row.at_end ≡ Some k → k < row.count
+ending_small all row k r e = accepted_small all row r.ending (length all) k row.at_end e (λ id s h. (let o = r.is_ending.starts.at id s h in r.few o.0 s o.1)) r.at_end
+
+module _ (all : List Node) (text : List ℕ) (entry from i state : ℕ) (best : Option (ℕ × ℕ)) (t : Table) (row : Row) (read : row ≡ get_or t.rows.items state row) (s : IsSearching all text entry from i state best t) where
+  pub row_read : slice_get t.rows.items state ≡ Some row
+  row_read = slice_get-get_or t.rows.items state row (slice_get_within t.rows.items state s.row s.is) ∙ ap Some (sym read)
+
+  pub row_room : row.count < length t.starts.items
+  row_room = subst (λ (r : Row). r.count < length t.starts.items) (inner s.row row (sym s.is ∙ row_read)) s.room
+    where
+      inner : (a b : Row) → Some a ≡ Some b → a ≡ b
+      inner a b e = cc
+
+  pub inside_room : (k : ℕ) → row.inside ≡ Some k → k < length t.starts.items
+  inside_room k e = (let x = inside_small all row k (search_at all text entry from i state best t row row_read s).known e in let y = row_room in omega (arith, x, y))
+
+  pub ending_room : (k : ℕ) → row.at_end ≡ Some k → k < length t.starts.items
+  ending_room k e = (let x = ending_small all row k (search_at all text entry from i state best t row row_read s).known e in let y = row_room in omega (arith, x, y))
+
+  pub over_at : (b : Option (ℕ × ℕ)) → is_some b ≡ true → b ≡ better_of (started t.starts.items row.inside) i best → row.count ≡ 0 → i < length text → IsBest all text entry from (length text + 1) b
+  over_at None found is none inside = absurd cc
+  over_at (Some p) found is none inside = search_over all text entry from i best t.starts.items row (search_at all text entry from i state best t row row_read s) p none inside (sym is)
+
+  pub end_at : (b : Option (ℕ × ℕ)) → b ≡ better_of (started t.starts.items row.at_end) (length text) best → i ≡ length text → IsBest all text entry from (length text + 1) b
+  end_at b is e =
+      let h = search_ends all text entry from i best t.starts.items row (search_at all text entry from i state best t row row_read s) e in
+      subst (IsBest all text entry from (length text + 1)) (sym is) (subst (λ n. IsBest all text entry from (n + 1) (better_of (started t.starts.items row.at_end) n best)) e h)
+
+  pub step_at : (to : ℕ) (found : Bool) (next : Option (ℕ × ℕ)) (classes : List ℕ) (new : Table) → from ≤ i → i < length text → next ≡ better_of (started t.starts.items row.inside) i best → found ≡ is_some next → IsTable all entry classes new → HasMoved all entry (get_or text i 0) found (i + 1) t state new to → IsSearching all text entry from (i + 1) to next new
+  step_at to found next classes new above inside is has h m =
+      search_step all text entry from i (get_or text i 0) state to found best next classes t new row above inside (slice_get-get_or text i 0 inside) row_read is (sym has) h m s

@@ -1,0 +1,7 @@
+use Rattle.std.proofs.Common.{arith, length}
+use Rattle.ere_match.proofs.Ranks.{numbered_all}
+use Rattle.ere_match.proofs.numbers.rank_threads.Goals as goal
+
+pub returns-clause-numbered : goal.returns-clause-numbered
+returns-clause-numbered c =
+    numbered_all (length c.args.sources.now.items) (length c.args.used.now) c.mark_numbers.new.used c.rank_numbers.new.used c.rank_numbers.new.sources.items c.in_ok-count.count c.args.set.now c.in_ok-ranks.ranks.items (omega (arith, c.mark_numbers.ensures.len)) c.mark_numbers.ensures.marked c.requires.numbers c.in_ok-count.ensures.ranked c.in_ok-ranks.ensures

@@ -1,0 +1,8 @@
+use Rattle.ere_match.specs.Rows.{IsSearching, IsTable}
+use Rattle.ere_match.proofs.search.search.Given as goal
+
+abbrev pub invariant-loop-at : goal.invariant-loop-at
+invariant-loop-at l = record {
+  table : ∥ IsTable l.nodes l.entry l.classes l.table ∥₁;
+  search : ∥ IsSearching l.nodes l.text l.entry l.from l.at l.state l.best l.table ∥₁;
+}
