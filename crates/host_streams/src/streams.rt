@@ -1,10 +1,11 @@
 //! The files that a script has open, by their names.
-ghost use Rattle.std.specs.Prelude.{◌≡◌, ℕ, None, Some, IfOk, IfSome};
+ghost use Rattle.std.specs.Prelude.{◌≡◌, ℕ, None, Some, Ok, IfOk, IfSome};
 ghost use Rattle.world_core.specs.WorldState.{Named, State};
 ghost use Rattle.world_core.specs.Calls.{Kind};
 ghost use Rattle.awk_state.specs.InputRows.{source_of};
 ghost use Rattle.awk_state.specs.Records.{record_separator};
-ghost use Rattle.host_streams.specs.declared.reader.Phase.TheVariants.{Open};
+ghost use Rattle.host_streams.specs.declared.reader.Phase.TheVariants.{Broken, Open};
+ghost use Rattle.host_streams.specs.declared.reader.FileNext.TheVariants.{Failed};
 ghost use Rattle.host_streams.specs.OpenFiles.{FileNextIs, HoldsOpen, IsMissing, OpensFile, OpenCounts, OthersKeep, OthersStay, ReadsFile, StartsFile, WritersGo, has_room, phase_named, reader_place, readers_in};
 ghost use Rattle.host_streams.specs.Readers.{NextCounts, NextPhase};
 
@@ -115,6 +116,7 @@ impl Streams {
         ensures held { HoldsOpen self.new (W.kinds world.new) }
         ensures writers { self.new.writers ≡ self.old.writers }
         ensures count { NextCounts (phase_named name.now self.old.readers.items) result (W.count world.old) (W.count world.new) }
+        ensures phase { NextPhase (phase_named name.now self.old.readers.items) result (phase_named name.now self.new.readers.items) }
         ensures goes { W.tells → WritersGo self.new.writers.items (W.state world.new) }
         ensures told { W.tells → ReadsFile name.now rs (readers_in self.old.readers.items (W.state world.old)) result (readers_in self.new.readers.items (W.state world.new)) }
         ensures outside { W.tells → (W.state world.new).outside ≡ (W.state world.old).outside }
@@ -174,6 +176,7 @@ impl Streams {
         ensures goes { W.tells → WritersGo self.new.writers.items (W.state world.new) }
         ensures writers { self.new.writers ≡ self.old.writers }
         ensures count { NextCounts (phase_named name.now self.old.readers.items) result (W.count world.old) (W.count world.new) }
+        ensures failing { phase_named name.now self.old.readers.items ≡ Broken → (result ≡ Ok Failed) × (phase_named name.now self.new.readers.items ≡ Broken) }
         ensures told { W.tells → FileNextIs name.now (record_separator rs.now) (has_room self.old) ((W.state world.old).outside (Named name.now)) (readers_in self.old.readers.items (W.state world.old)) result (readers_in self.new.readers.items (W.state world.new)) }
         ensures outside { W.tells → (W.state world.new).outside ≡ (W.state world.old).outside }
         ensures others { OthersStay self.old self.new (W.kinds world.old) (W.kinds world.new) }

@@ -1,6 +1,6 @@
 use Rattle.std.proofs.Common.{◌≡◌, ◌∙◌, sym, ap}
 use Rattle.host_streams.specs.OpenFiles.{reader_place}
-use Rattle.host_streams.proofs.Held.{missing_named, phase_missing}
+use Rattle.host_streams.proofs.Held.{missing_named, none_failed, phase_missing}
 use Rattle.host_streams.proofs.streams.Streams.file_next.Goals as goal
 
 pub returns-in-None-clause-count : goal.returns-in-None-clause-count
@@ -12,3 +12,8 @@ pub returns-in-None-clause-told : goal.returns-in-None-clause-told
 returns-in-None-clause-told g c = λ tells.
     let missing = ap (reader_place c.args.name.now) (sym c.as_slice.ensures.value) ∙ sym c.in-None.ensures in
     rw (missing_named c.args.name.now (g.W.World.state c.args.world.now) c.args.self.now.readers.items missing, ← c.first_byte-separator.ensures) (c.open_and_read.ensures.told tells)
+
+pub returns-in-None-clause-failing : goal.returns-in-None-clause-failing
+returns-in-None-clause-failing g c = λ failed.
+    let missing = ap (reader_place c.args.name.now) (sym c.as_slice.ensures.value) ∙ sym c.in-None.ensures in
+    absurd (none_failed c.args.name.now c.args.self.now.readers.items missing failed)

@@ -4,7 +4,7 @@ use Rattle.host_streams.specs.declared.reader.Phase.{Phase}
 use Rattle.host_streams.specs.declared.streams.NamedReader.{NamedReader}
 use Rattle.host_streams.specs.Readers.{NextCounts}
 use Rattle.host_streams.specs.OpenFiles.{reader_handle, writer_handle, AreOpen}
-use Rattle.host_streams.proofs.Held.{open_next, phase_next, named_next, held_next, told_next, go_same, apart_next, none_next}
+use Rattle.host_streams.proofs.Held.{open_next, phase_after, phase_next, named_next, held_next, told_next, go_same, apart_next, none_next}
 use Rattle.host_streams.proofs.streams.Streams.next_at.Goals as goal
 
 pub next-requires : goal.next-requires
@@ -21,6 +21,12 @@ returns-clause-held g c = rw c.next.ensures.kinds (
 pub returns-clause-count : goal.returns-clause-count
 returns-clause-count g c =
     rw (phase_next c.args.name.now c.args.self.now.readers.items c.args.at c.requires.place c.index_mut-named.result.now c.index_mut-named.ensures.value) c.next.ensures.count
+
+pub returns-clause-phase : goal.returns-clause-phase
+returns-clause-phase g c =
+    let named = c.index_mut-named.result.now in
+    let other : NamedReader = record { name = named.name; reader = c.next.new.self } in
+    rw (phase_next c.args.name.now c.args.self.now.readers.items c.args.at c.requires.place named c.index_mut-named.ensures.value, phase_after c.args.name.now c.args.self.now.readers.items c.args.at c.requires.place named c.index_mut-named.ensures.value other refl) c.next.ensures.phase
 
 pub returns-clause-goes : goal.returns-clause-goes
 returns-clause-goes g c = λ tells. go_same c.args.self.now.writers.items _ _ (c.next.ensures.only tells).writers (c.requires.goes tells)
