@@ -56,20 +56,24 @@ no_more es i le = ap trees (drop_of_length-le es le)
 pub one_tree : (es : List Expr) (a : Expr) → length es ≡ 1 → a ≡ get_or es 0 a → trees es ≡ Then (tree a) NoTree
 one_tree es a n first = part_of es 0 a (omega arith) first ∙ ap (Then (tree a)) (no_more es 1 (omega arith))
 
-two_trees : (es : List Expr) (a b : Expr) → 2 ≤ length es → a ≡ get_or es 0 a → b ≡ get_or es 1 b → trees es ≡ Then (tree a) (Then (tree b) (trees (drop 2 es)))
+two_trees : (es : List Expr) (a b : Expr) → 2 ≤ length es → a ≡ get_or es 0 a → b ≡ get_or es 1 b →
+    trees es ≡ Then (tree a) (Then (tree b) (trees (drop 2 es)))
 two_trees es a b le first second = part_of es 0 a (omega arith) first ∙ ap (Then (tree a)) (part_of es 1 b (omega arith) second)
 
 just_two : (es : List Expr) (a b : Expr) → length es ≡ 2 → a ≡ get_or es 0 a → b ≡ get_or es 1 b → trees es ≡ Then (tree a) (Then (tree b) NoTree)
-just_two es a b n first second = two_trees es a b (omega arith) first second ∙ ap (λ (ts : Trees). Then (tree a) (Then (tree b) ts)) (no_more es 2 (omega arith))
+just_two es a b n first second = two_trees es a b (omega arith) first second ∙ ap (λ (ts : Trees). Then (tree a) (Then (tree b) ts))
+    (no_more es 2 (omega arith))
 
 three_trees : (es : List Expr) (a b c : Expr) → 3 ≤ length es → a ≡ get_or es 0 a → b ≡ get_or es 1 b → c ≡ get_or es 2 c →
     trees es ≡ Then (tree a) (Then (tree b) (Then (tree c) (trees (drop 3 es))))
 three_trees es a b c le first second third =
     two_trees es a b (omega arith) first second ∙ ap (λ (ts : Trees). Then (tree a) (Then (tree b) ts)) (part_of es 2 c (omega arith) third)
 
-pub binary_is : (e : Expr) (o : BinaryOp) (l r : Box Expr Global) (a b : Expr) → e ≡ Binary o l r → a ≡ l.value → b ≡ r.value → tree e ≡ Bin (view_binary o) (tree a) (tree b)
+pub binary_is : (e : Expr) (o : BinaryOp) (l r : Box Expr Global) (a b : Expr) → e ≡ Binary o l r → a ≡ l.value → b ≡ r.value →
+    tree e ≡ Bin (view_binary o) (tree a) (tree b)
 binary_is e o l r a b is left right =
-    ap tree is ∙ ap (λ (x : Expr). Bin (view_binary o) (tree x) (tree r.value)) (sym left) ∙ ap (λ (x : Expr). Bin (view_binary o) (tree a) (tree x)) (sym right)
+    ap tree is ∙ ap (λ (x : Expr). Bin (view_binary o) (tree x) (tree r.value)) (sym left) ∙ ap (λ (x : Expr). Bin (view_binary o) (tree a) (tree x))
+    (sym right)
 
 -- what a test of an ERE says
 pub some_ere : (o : Option (Bor (List ℕ))) (ts : List (List ℕ)) → MatchOption o (ts ≡ []) (λ t. ts ≡ t.now ∷ []) → is_some o ≡ is_ere ts
@@ -87,23 +91,20 @@ some_kind (p ∷ ps) lt = p
 module _ (texts : List (List ℕ)) (scope : Scope) where
   -- places
 
-  pub element_code : (e : Tree) (x : List ℕ) (ts : Trees) (key : Code) → Index x ts ≡ e → key ≡ key_code texts scope ts →
-      host row.Elem (two (Array (array_of scope x)) key) ≡ code_of texts scope e
-  unfolding code_of
-  element_code e x ts key is k = ap (λ (u : Code). host row.Elem (two (Array (array_of scope x)) u)) k ∙ ap (code_of texts scope) is
-
   pub in_list_code : (e : Tree) (x : List ℕ) (t : Tree) (ts : Trees) (first rest : Code) → HasList t ts x ≡ e → first ≡ code_of texts scope t →
       rest ≡ key_code texts scope ts → host row.Has (two (Array (array_of scope x)) (host row.Join (two first rest))) ≡ code_of texts scope e
   unfolding code_of
   in_list_code e x t ts first rest is f r = rw (f, r) (ap (code_of texts scope) is)
 
-  pub element_kept : (e : Tree) (x : List ℕ) (ts : Trees) (key : Code) → Index x ts ≡ e → key ≡ key_code texts scope ts → Some key ≡ kept_code texts scope e
+  pub element_kept : (e : Tree) (x : List ℕ) (ts : Trees) (key : Code) → Index x ts ≡ e → key ≡ key_code texts scope ts →
+      Some key ≡ kept_code texts scope e
   unfolding kept_code
   element_kept e x ts key is k = ap Some k ∙ ap (kept_code texts scope) is
 
   -- operands
 
-  pub operands_step : (old new : List Operand) (code : Owned) (es : List Expr) (i : ℕ) (e : Expr) (total : Codes) → i < length es → e ≡ get_or es i e →
+  pub operands_step : (old new : List Operand) (code : Owned) (es : List Expr) (i : ℕ) (e : Expr) (total : Codes) → i < length es →
+      e ≡ get_or es i e →
       new ≡ old ++ operand.Code code ∷ [] → view code ≡ code_of texts scope (tree e) →
       followed (views old) (codes_of texts scope (trees (drop i es))) ≡ total →
       followed (views new) (codes_of texts scope (trees (drop (i + 1) es))) ≡ total
@@ -128,18 +129,21 @@ module _ (texts : List (List ℕ)) (scope : Scope) where
   unfolding key_code
   key_none es none = ap (key_code texts scope) (sym (no_trees es none))
 
-  pub key_end : (es : List Expr) (i : ℕ) (e : Expr) → i + 1 ≡ length es → e ≡ get_or es i e → code_of texts scope (tree e) ≡ key_code texts scope (trees (drop i es))
+  pub key_end : (es : List Expr) (i : ℕ) (e : Expr) → i + 1 ≡ length es → e ≡ get_or es i e →
+      code_of texts scope (tree e) ≡ key_code texts scope (trees (drop i es))
   unfolding key_code
   key_end es i e n read =
       sym (ap (key_code texts scope) (part_of es i e (omega arith) read ∙ ap (Then (tree e)) (no_more es (i + 1) (omega arith))))
 
-  key_before : (t : Tree) (es : List Expr) → 0 < length es → host row.Join (two (code_of texts scope t) (key_code texts scope (trees es))) ≡ key_code texts scope (Then t (trees es))
+  key_before : (t : Tree) (es : List Expr) → 0 < length es → host row.Join
+      (two (code_of texts scope t) (key_code texts scope (trees es))) ≡ key_code texts scope (Then t (trees es))
   unfolding key_code
   key_before t [] lt = absurd (omega arith)
   key_before t (e ∷ es) lt = refl
 
   -- j is the place after i
-  pub key_step : (es : List Expr) (i j : ℕ) (e : Expr) (first rest : Code) → j ≡ i + 1 → j < length es → e ≡ get_or es i e → first ≡ code_of texts scope (tree e) →
+  pub key_step : (es : List Expr) (i j : ℕ) (e : Expr) (first rest : Code) → j ≡ i + 1 → j < length es → e ≡ get_or es i e →
+      first ≡ code_of texts scope (tree e) →
       rest ≡ key_code texts scope (trees (drop j es)) → host row.Join (two first rest) ≡ key_code texts scope (trees (drop i es))
   key_step es i j e first rest next lt read f r =
       rw (f, r, next) (key_before (tree e) (drop (i + 1) es) (omega (arith, length-drop (i + 1) es))
@@ -170,23 +174,28 @@ module _ (texts : List (List ℕ)) (scope : Scope) where
 
   pub arguments_given : (ps : List NameKind) (es : List Expr) (i : ℕ) (p : NameKind) (d : Expr) → i < length ps → i < length es →
       argument_codes texts scope (view_name_kinds (drop i ps)) (trees (drop i es))
-      ≡ At (given_code texts scope (view_name (get_or ps i p)) (tree (get_or es i d)) (code_of texts scope (tree (get_or es i d)))) (argument_codes texts scope (view_name_kinds (drop (i + 1) ps)) (trees (drop (i + 1) es)))
+      ≡ At (given_code texts scope (view_name (get_or ps i p)) (tree (get_or es i d)) (code_of texts scope (tree (get_or es i d))))
+      (argument_codes texts scope (view_name_kinds (drop (i + 1) ps)) (trees (drop (i + 1) es)))
   unfolding argument_codes
   arguments_given ps es i p d lt here =
       ap (λ (xs : List NameKind). argument_codes texts scope (view_name_kinds xs) (trees (drop i es))) (drop_any ps i p lt)
-      ∙ ap (λ (xs : List Expr). argument_codes texts scope (view_name (get_or ps i p) ∷ view_name_kinds (drop (i + 1) ps)) (trees xs)) (drop_any es i d here)
+      ∙ ap (λ (xs : List Expr). argument_codes texts scope (view_name (get_or ps i p) ∷ view_name_kinds (drop (i + 1) ps)) (trees xs))
+      (drop_any es i d here)
 
   none_given : (ps : List Name) → argument_codes texts scope ps NoTree ≡ fresh_codes ps
   unfolding argument_codes
   none_given ps = refl
 
-  arguments_past : (ps : List NameKind) (es : List Expr) (i : ℕ) → length es ≤ i → argument_codes texts scope (view_name_kinds ps) (trees (drop i es)) ≡ fresh_codes (view_name_kinds ps)
-  arguments_past ps es i le = ap (λ (xs : List Expr). argument_codes texts scope (view_name_kinds ps) (trees xs)) (drop_of_length-le es le) ∙ none_given (view_name_kinds ps)
+  arguments_past : (ps : List NameKind) (es : List Expr) (i : ℕ) → length es ≤ i →
+      argument_codes texts scope (view_name_kinds ps) (trees (drop i es)) ≡ fresh_codes (view_name_kinds ps)
+  arguments_past ps es i le = ap (λ (xs : List Expr). argument_codes texts scope (view_name_kinds ps) (trees xs)) (drop_of_length-le es le)
+      ∙ none_given (view_name_kinds ps)
 
   -- where arguments are missing
   pub arguments_missing : (ps : List NameKind) (es : List Expr) (i : ℕ) (p : NameKind) (e : Codes → Codes) → i < length ps → length es ≤ i →
       ((rest : List Name) → e (fresh_codes rest) ≡ fresh_codes (view_name (get_or ps i p) ∷ rest)) →
-      argument_codes texts scope (view_name_kinds (drop i ps)) (trees (drop i es)) ≡ e (argument_codes texts scope (view_name_kinds (drop (i + 1) ps)) (trees (drop (i + 1) es)))
+      argument_codes texts scope (view_name_kinds (drop i ps)) (trees (drop i es)) ≡ e
+      (argument_codes texts scope (view_name_kinds (drop (i + 1) ps)) (trees (drop (i + 1) es)))
   arguments_missing ps es i p e lt le h =
       arguments_past (drop i ps) es i le
       ∙ ap (λ (xs : List NameKind). fresh_codes (view_name_kinds xs)) (drop_any ps i p lt)
@@ -199,7 +208,8 @@ module _ (texts : List (List ℕ)) (scope : Scope) where
   arguments_end (Then t ts) = refl
 
   -- a missing argument
-  pub call_missing : (old new : List Operand) (o : Operand) (ps : List NameKind) (es : List Expr) (i : ℕ) (p : NameKind) (total : Codes) → i < length ps → length es ≤ i →
+  pub call_missing : (old new : List Operand) (o : Operand) (ps : List NameKind) (es : List Expr) (i : ℕ) (p : NameKind) (total : Codes) →
+      i < length ps → length es ≤ i →
       new ≡ old ++ o ∷ [] → ((rest : List Name) → before o (fresh_codes rest) ≡ fresh_codes (view_name (get_or ps i p) ∷ rest)) →
       followed (views old) (argument_codes texts scope (view_name_kinds (drop i ps)) (trees (drop i es))) ≡ total →
       followed (views new) (argument_codes texts scope (view_name_kinds (drop (i + 1) ps)) (trees (drop (i + 1) es))) ≡ total
@@ -221,12 +231,14 @@ module _ (texts : List (List ℕ)) (scope : Scope) where
       ap (λ (os : List Operand). followed (views os) rest) more
       ∙ followed_push old (operand.Code code) rest
       ∙ ap (λ (c : Code). followed (views old) (At c rest)) is
-      ∙ ap (λ (a : Expr). followed (views old) (At (given_code texts scope (view_name (get_or ps i p)) (tree a) (code_of texts scope (tree a))) rest)) read
+      ∙ ap (λ (a : Expr). followed (views old) (At (given_code texts scope (view_name (get_or ps i p)) (tree a) (code_of texts scope (tree a)))
+      rest)) read
       ∙ sym (ap (followed (views old)) (arguments_given ps es i p e lt here))
       ∙ so
 
   -- a bare name for a parameter
-  pub call_named : (old new : List Operand) (code : Owned) (ps : List NameKind) (es : List Expr) (i : ℕ) (p : NameKind) (e : Expr) (x : List ℕ) (total : Codes) →
+  pub call_named : (old new : List Operand) (code : Owned) (ps : List NameKind) (es : List Expr) (i : ℕ) (p : NameKind) (e : Expr) (x : List ℕ)
+      (total : Codes) →
       i < length ps → i < length es → e ≡ get_or es i e → new ≡ old ++ operand.Code code ∷ [] → tree e ≡ Var x →
       view code ≡ passed_code texts scope (view_name (get_or ps i p)) x →
       followed (views old) (argument_codes texts scope (view_name_kinds (drop i ps)) (trees (drop i es))) ≡ total →
@@ -247,14 +259,17 @@ module _ (texts : List (List ℕ)) (scope : Scope) where
       call_given old new code ps es i p e total lt here read more
       (is ∙ sym (given_other (view_name (get_or ps i p)) (tree e) (code_of texts scope (tree e)) none)) so
 
-  pub call_end : (all : List Operand) (ps : List NameKind) (es : List Expr) (i : ℕ) (f : ℕ) (x : List ℕ) → length ps ≤ i → f ≡ function_number scope.script x →
+  pub call_end : (all : List Operand) (ps : List NameKind) (es : List Expr) (i : ℕ) (f : ℕ) (x : List ℕ) → length ps ≤ i →
+      f ≡ function_number scope.script x →
       view_name_kinds ps ≡ (function_at scope.script.functions f).parameters →
-      followed (views all) (argument_codes texts scope (view_name_kinds (drop i ps)) (trees (drop i es))) ≡ argument_codes texts scope (view_name_kinds ps) (trees es) →
+      followed (views all) (argument_codes texts scope (view_name_kinds (drop i ps)) (trees (drop i es))) ≡ argument_codes texts scope
+      (view_name_kinds ps) (trees es) →
       Called f (views all) ≡ code_of texts scope (Call x (trees es))
   unfolding code_of
   call_end all ps es i f x le number parameters so =
       ap (Called f) (sym (followed_end (views all))
-      ∙ sym (ap (followed (views all)) (ap (λ (ms : List NameKind). argument_codes texts scope (view_name_kinds ms) (trees (drop i es))) (drop_of_length-le ps le) ∙ arguments_end (trees (drop i es))))
+      ∙ sym (ap (followed (views all)) (ap (λ (ms : List NameKind). argument_codes texts scope (view_name_kinds ms) (trees (drop i es)))
+      (drop_of_length-le ps le) ∙ arguments_end (trees (drop i es))))
       ∙ so ∙ ap (λ (ms : List Name). argument_codes texts scope ms (trees es)) parameters)
       ∙ ap (λ (g : ℕ). Called g (argument_codes texts scope (function_at scope.script.functions g).parameters (trees es))) number
 
@@ -282,24 +297,31 @@ module _ (texts : List (List ℕ)) (scope : Scope) where
   other_code builtin.Int ts other = refl
   other_code builtin.Close ts other = refl
 
-  pub length_more : (f : Builtin) (es : List Expr) → 2 ≤ length es → f ≡ builtin.Length → host row.Length (one record_code) ≡ applied_code texts scope f (trees es)
+  pub length_more : (f : Builtin) (es : List Expr) → 2 ≤ length es → f ≡ builtin.Length →
+      host row.Length (one record_code) ≡ applied_code texts scope f (trees es)
   unfolding applied_code
   length_more f [] le is = absurd (omega arith)
   length_more f (a ∷ []) le is = absurd (omega arith)
   length_more f (a ∷ b ∷ es) le is = sym (ap (λ (g : Builtin). applied_code texts scope g (trees (a ∷ b ∷ es))) is)
 
-  pub index_code : (f : Builtin) (es : List Expr) (a b : Expr) (l r : Code) → 2 ≤ length es → a ≡ get_or es 0 a → b ≡ get_or es 1 b → f ≡ builtin.Index →
+  pub index_code : (f : Builtin) (es : List Expr) (a b : Expr) (l r : Code) → 2 ≤ length es → a ≡ get_or es 0 a → b ≡ get_or es 1 b →
+      f ≡ builtin.Index →
       l ≡ code_of texts scope (tree a) → r ≡ code_of texts scope (tree b) → host row.Index (two l r) ≡ applied_code texts scope f (trees es)
   unfolding applied_code
-  index_code f es a b l r le first second is hl hr = rw (hl, hr, is) (sym (ap (applied_code texts scope builtin.Index) (two_trees es a b le first second)))
+  index_code f es a b l r le first second is hl hr = rw (hl, hr, is)
+      (sym (ap (applied_code texts scope builtin.Index) (two_trees es a b le first second)))
 
-  pub match_code : (f : Builtin) (es : List Expr) (a b : Expr) (l r : Code) → 2 ≤ length es → a ≡ get_or es 0 a → b ≡ get_or es 1 b → f ≡ builtin.Match →
-      l ≡ code_of texts scope (tree a) → r ≡ ere_code texts (ere_in (tree b)) (code_of texts scope (tree b)) → host row.Match (two l r) ≡ applied_code texts scope f (trees es)
+  pub match_code : (f : Builtin) (es : List Expr) (a b : Expr) (l r : Code) → 2 ≤ length es → a ≡ get_or es 0 a → b ≡ get_or es 1 b →
+      f ≡ builtin.Match →
+      l ≡ code_of texts scope (tree a) → r ≡ ere_code texts (ere_in (tree b)) (code_of texts scope (tree b)) →
+      host row.Match (two l r) ≡ applied_code texts scope f (trees es)
   unfolding applied_code
-  match_code f es a b l r le first second is hl hr = rw (hl, hr, is) (sym (ap (applied_code texts scope builtin.Match) (two_trees es a b le first second)))
+  match_code f es a b l r le first second is hl hr = rw (hl, hr, is)
+      (sym (ap (applied_code texts scope builtin.Match) (two_trees es a b le first second)))
 
   pub substr_from : (es : List Expr) (a b : Expr) (l r : Code) → length es ≡ 2 → a ≡ get_or es 0 a → b ≡ get_or es 1 b →
-      l ≡ code_of texts scope (tree a) → r ≡ code_of texts scope (tree b) → host row.SubstrFrom (two l r) ≡ applied_code texts scope builtin.Substr (trees es)
+      l ≡ code_of texts scope (tree a) → r ≡ code_of texts scope (tree b) →
+      host row.SubstrFrom (two l r) ≡ applied_code texts scope builtin.Substr (trees es)
   unfolding applied_code
   substr_from es a b l r n first second hl hr = rw (hl, hr) (sym (ap (applied_code texts scope builtin.Substr) (just_two es a b n first second)))
 
@@ -307,7 +329,8 @@ module _ (texts : List (List ℕ)) (scope : Scope) where
       l ≡ code_of texts scope (tree a) → r ≡ code_of texts scope (tree b) → n ≡ code_of texts scope (tree c) →
       host row.Substr (At l (two r n)) ≡ applied_code texts scope builtin.Substr (trees es)
   unfolding applied_code
-  substr_code es a b c l r n le first second third hl hr hn = rw (hl, hr, hn) (sym (ap (applied_code texts scope builtin.Substr) (three_trees es a b c le first second third)))
+  substr_code es a b c l r n le first second third hl hr hn = rw (hl, hr, hn)
+      (sym (ap (applied_code texts scope builtin.Substr) (three_trees es a b c le first second third)))
 
   -- the second operand of `split` is a name
   split_other : (s t : Tree) (ts : Trees) → bare_name t ≡ None → Unset ≡ applied_code texts scope builtin.Split (Then s (Then t ts))
@@ -332,19 +355,23 @@ module _ (texts : List (List ℕ)) (scope : Scope) where
   split_other s (GetFrom v) ts h = refl
   split_other s (GetIntoFrom v w) ts h = refl
 
-  pub split_none : (es : List Expr) (b : Expr) → 2 ≤ length es → b ≡ get_or es 1 b → bare_name (tree b) ≡ None → Unset ≡ applied_code texts scope builtin.Split (trees es)
+  pub split_none : (es : List Expr) (b : Expr) → 2 ≤ length es → b ≡ get_or es 1 b → bare_name (tree b) ≡ None →
+      Unset ≡ applied_code texts scope builtin.Split (trees es)
   split_none [] b le second none = absurd (omega arith)
   split_none (x ∷ []) b le second none = absurd (omega arith)
   split_none (x ∷ y ∷ es) b le second none = split_other (tree x) (tree y) (trees es) (ap (λ (e : Expr). bare_name (tree e)) (sym second) ∙ none)
 
-  pub split_code : (es : List Expr) (a b : Expr) (x : List ℕ) (l array r : Code) → length es ≡ 2 → a ≡ get_or es 0 a → b ≡ get_or es 1 b → tree b ≡ Var x →
+  pub split_code : (es : List Expr) (a b : Expr) (x : List ℕ) (l array r : Code) → length es ≡ 2 → a ≡ get_or es 0 a → b ≡ get_or es 1 b →
+      tree b ≡ Var x →
       l ≡ code_of texts scope (tree a) → array ≡ Array (array_of scope x) → r ≡ special_code Fs →
       host row.Split (At l (At array (At r (Fixed (flag_number false) End)))) ≡ applied_code texts scope builtin.Split (trees es)
   unfolding applied_code
   split_code es a b x l array r n first second name hl ha hr =
-      rw (hl, ha, hr) (sym (ap (applied_code texts scope builtin.Split) (just_two es a b n first second ∙ ap (λ (t : Tree). Then (tree a) (Then t NoTree)) name)))
+      rw (hl, ha, hr) (sym (ap (applied_code texts scope builtin.Split)
+      (just_two es a b n first second ∙ ap (λ (t : Tree). Then (tree a) (Then t NoTree)) name)))
 
-  pub split_by_code : (es : List Expr) (a b c : Expr) (x : List ℕ) (l array r : Code) (flag : Bool) → 3 ≤ length es → a ≡ get_or es 0 a → b ≡ get_or es 1 b → c ≡ get_or es 2 c →
+  pub split_by_code : (es : List Expr) (a b c : Expr) (x : List ℕ) (l array r : Code) (flag : Bool) → 3 ≤ length es → a ≡ get_or es 0 a →
+      b ≡ get_or es 1 b → c ≡ get_or es 2 c →
       tree b ≡ Var x → l ≡ code_of texts scope (tree a) → array ≡ Array (array_of scope x) →
       r ≡ ere_code texts (ere_in (tree c)) (code_of texts scope (tree c)) → flag ≡ is_ere (ere_in (tree c)) →
       host row.Split (At l (At array (At r (Fixed (flag_number flag) End)))) ≡ applied_code texts scope builtin.Split (trees es)
@@ -364,8 +391,10 @@ module _ (texts : List (List ℕ)) (scope : Scope) where
 
   pub place_replaced : (all : Bool) (es : List Expr) (a b c : Expr) (ere replacement : Code) (kept : Option Code) → 3 ≤ length es →
       a ≡ get_or es 0 a → b ≡ get_or es 1 b → c ≡ get_or es 2 c →
-      ere ≡ ere_code texts (ere_in (tree a)) (code_of texts scope (tree a)) → replacement ≡ code_of texts scope (tree b) → kept ≡ kept_code texts scope (tree c) →
-      Let ere (Let replacement (keeping kept (substituted_at all (target_in texts scope (tree c))))) ≡ applied_code texts scope (sub_or_gsub all) (trees es)
+      ere ≡ ere_code texts (ere_in (tree a)) (code_of texts scope (tree a)) → replacement ≡ code_of texts scope (tree b) →
+      kept ≡ kept_code texts scope (tree c) →
+      Let ere (Let replacement (keeping kept (substituted_at all (target_in texts scope (tree c))))) ≡ applied_code texts scope (sub_or_gsub all)
+      (trees es)
   unfolding applied_code
   place_replaced false es a b c ere replacement kept le first second third he hr hk =
       rw (he, hr, hk) (sym (ap (applied_code texts scope builtin.Sub) (three_trees es a b c le first second third)))
@@ -374,18 +403,22 @@ module _ (texts : List (List ℕ)) (scope : Scope) where
 
   -- q says whether the operator divides
   pub quotient_code : (e a b : Tree) (o : Op) (q : Bool) (l r : Code) → e ≡ Bin o a b →
-      ((whole : Code) → truncated_code texts scope (Bin o a b) whole ≡ (if q then Do (Inline inline.Truncated) (two (code_of texts scope a) (code_of texts scope b)) else host row.IntOf (one whole))) →
+      ((whole : Code) → truncated_code texts scope (Bin o a b) whole ≡
+      (if q then Do (Inline inline.Truncated) (two (code_of texts scope a) (code_of texts scope b)) else host row.IntOf (one whole))) →
       q ≡ true → l ≡ code_of texts scope a → r ≡ code_of texts scope b →
       Do (Inline inline.Truncated) (two l r) ≡ truncated_code texts scope e (code_of texts scope e)
   quotient_code e a b o q l r is so divides hl hr =
       let whole = code_of texts scope e in
       rw (hl, hr) (sym (ap (λ (t : Tree). truncated_code texts scope t whole) is ∙ so whole
-      ∙ ap (λ (d : Bool). if d then Do (Inline inline.Truncated) (two (code_of texts scope a) (code_of texts scope b)) else host row.IntOf (one whole)) divides))
+      ∙ ap (λ (d : Bool). if d then Do (Inline inline.Truncated) (two (code_of texts scope a) (code_of texts scope b)) else host row.IntOf
+      (one whole)) divides))
 
   pub other_operator : (e a b : Tree) (o : Op) (q : Bool) → e ≡ Bin o a b →
-      ((whole : Code) → truncated_code texts scope (Bin o a b) whole ≡ (if q then Do (Inline inline.Truncated) (two (code_of texts scope a) (code_of texts scope b)) else host row.IntOf (one whole))) →
+      ((whole : Code) → truncated_code texts scope (Bin o a b) whole ≡
+      (if q then Do (Inline inline.Truncated) (two (code_of texts scope a) (code_of texts scope b)) else host row.IntOf (one whole))) →
       q ≡ false → host row.IntOf (one (code_of texts scope e)) ≡ truncated_code texts scope e (code_of texts scope e)
   other_operator e a b o q is so none =
       let whole = code_of texts scope e in
       sym (ap (λ (t : Tree). truncated_code texts scope t whole) is ∙ so whole
-      ∙ ap (λ (d : Bool). if d then Do (Inline inline.Truncated) (two (code_of texts scope a) (code_of texts scope b)) else host row.IntOf (one whole)) none)
+      ∙ ap (λ (d : Bool). if d then Do (Inline inline.Truncated) (two (code_of texts scope a) (code_of texts scope b)) else host row.IntOf
+      (one whole)) none)

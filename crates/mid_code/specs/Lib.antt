@@ -18,5 +18,6 @@ pub mod MidRows
 pub mod ViewCode
 pub mod View
 pub mod ViewNames
+pub mod ViewBodies
 pub mod ViewScope
 pub mod ViewTarget

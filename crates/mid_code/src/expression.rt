@@ -1,8 +1,8 @@
 //! The code of expressions.
 
 ghost use Rattle.std.specs.Prelude.{◌≡◌, ◌≤◌, length, IfOk, OnOk};
-ghost use Rattle.awk_grammar.specs.Tree.{Apply, Call, NoTree, Then};
-ghost use Rattle.awk_grammar.specs.View.{view as tree, views as trees, view_binary};
+ghost use Rattle.awk_grammar.specs.Tree.{Apply, Call, GetInto, Has, Index, NoTree, Post, Pre, Then};
+ghost use Rattle.awk_grammar.specs.View.{view as tree, views as trees, view_binary, view_step};
 ghost use Rattle.awk_state.specs.declared.table.Primitive.TheVariants as row;
 ghost use Rattle.mid_code.specs.Mid as plain;
 ghost use Rattle.mid_code.specs.Translation.{applied_code, code_of, codes_of, ere_code, ere_for, key_code, kept_code, one, truncated_code};
@@ -21,7 +21,7 @@ use crate::parts::{
 };
 use crate::peek::{bare_name, ere_in, is_ere, is_match, is_quotient};
 use crate::scope::Scope;
-use awk_grammar::{BinaryOp, Builtin, Expr};
+use awk_grammar::{BinaryOp, Builtin, Expr, StepOp};
 use awk_state::{Listed, Primitive, Sort, Special};
 use std::alloc::AllocError;
 
@@ -38,14 +38,14 @@ pub(crate) fn code(scope: &Scope<'_>, e: &Expr) -> Result<Code, AllocError>
         Expr::Ere(token) => record_matches(scope, token),
         Expr::Length => record_length(alloc),
         Expr::Var(name) => variable(alloc, scope.variable(name)),
-        Expr::Element(name, keys) => host_array(scope, Primitive::Elem, name, key(scope, keys)?),
-        Expr::Field(number) => host_one(alloc, Primitive::Field, code(scope, number)?),
+        Expr::Element(name, keys) => element(scope, name, keys),
+        Expr::Field(number) => host_of(scope, Primitive::Field, number),
         Expr::Group(inner) => code(scope, inner),
         Expr::Call(name, arguments) => call(scope, name, arguments),
         Expr::Apply(function, arguments) => apply(scope, *function, arguments),
         Expr::Unary(op, inner) => prefixed(alloc, *op, code(scope, inner)?),
-        Expr::PreStep(op, place) => step_place(scope, *op, place, kept(scope, place)?),
-        Expr::PostStep(op, place) => step_place_after(scope, *op, place, kept(scope, place)?),
+        Expr::PreStep(op, place) => pre_step(scope, *op, place),
+        Expr::PostStep(op, place) => post_step(scope, *op, place),
         Expr::Binary(op, left, right) => {
             let left = code(scope, left)?;
             combined(alloc, *op, left, operand(scope, *op, right)?)
@@ -54,7 +54,7 @@ pub(crate) fn code(scope: &Scope<'_>, e: &Expr) -> Result<Code, AllocError>
             let kept = kept(scope, place)?;
             assign_place(scope, *op, place, kept, code(scope, value)?)
         }
-        Expr::In(key, name) => host_array(scope, Primitive::Has, name, code(scope, key)?),
+        Expr::In(key, name) => has_key(scope, key, name),
         Expr::InList(first, others, name) => {
             let others = key(scope, others)?;
             let first = code(scope, first)?;
@@ -66,13 +66,81 @@ pub(crate) fn code(scope: &Scope<'_>, e: &Expr) -> Result<Code, AllocError>
             chosen(alloc, Sort::Value, test, yes, code(scope, no)?)
         }
         Expr::Getline => Ok(Code::Ask),
-        Expr::GetlineInto(place) => line_into(scope, place, kept(scope, place)?),
-        Expr::GetlineFrom(file) => host_number(alloc, Primitive::GetlineFile, code(scope, file)?),
+        Expr::GetlineInto(place) => line_to(scope, place),
+        Expr::GetlineFrom(file) => host_number_of(scope, Primitive::GetlineFile, file),
         Expr::GetlineIntoFrom(place, file) => {
             let kept = kept(scope, place)?;
             file_line_into(scope, place, kept, code(scope, file)?)
         }
     }
+}
+
+/// What the host does with an expression's answer.
+#[cycle(expressions)]
+fn host_of(scope: &Scope<'_>, primitive: Primitive, e: &Expr) -> Result<Code, AllocError>
+    ensures { IfOk result (λ code. view code ≡ plain.Do (Operation.Host primitive) (one (code_of (texts_of scope.now) (scope_of scope.now) (tree e.now)))) }
+{
+    let operand = code(scope, e)?;
+    host_one(scope.alloc, primitive, operand)
+}
+
+/// The number of what the host does with an expression's answer.
+#[cycle(expressions)]
+fn host_number_of(scope: &Scope<'_>, primitive: Primitive, e: &Expr) -> Result<Code, AllocError>
+    ensures { IfOk result (λ code. view code ≡ plain.Do Operation.AsNumber (one (plain.Do (Operation.Host primitive) (one (code_of (texts_of scope.now) (scope_of scope.now) (tree e.now)))))) }
+{
+    let operand = code(scope, e)?;
+    host_number(scope.alloc, primitive, operand)
+}
+
+/// The code of an element.
+#[cycle(expressions)]
+#[tactic(auto, unfolding(crate::specs::Translation::code_of))]
+fn element(scope: &Scope<'_>, name: &[u8], subscripts: &[Expr]) -> Result<Code, AllocError>
+    ensures { IfOk result (λ code. view code ≡ code_of (texts_of scope.now) (scope_of scope.now) (Index name.now (trees subscripts.now))) }
+{
+    let key = key(scope, subscripts)?;
+    host_array(scope, Primitive::Elem, name, key)
+}
+
+/// Whether an array has an element.
+#[cycle(expressions)]
+#[tactic(auto, unfolding(crate::specs::Translation::code_of))]
+fn has_key(scope: &Scope<'_>, key: &Expr, name: &[u8]) -> Result<Code, AllocError>
+    ensures { IfOk result (λ code. view code ≡ code_of (texts_of scope.now) (scope_of scope.now) (Has (tree key.now) name.now)) }
+{
+    let key = code(scope, key)?;
+    host_array(scope, Primitive::Has, name, key)
+}
+
+/// The code of a step whose answer is the number after it.
+#[cycle(expressions)]
+#[tactic(auto, unfolding(crate::specs::Translation::code_of))]
+fn pre_step(scope: &Scope<'_>, op: StepOp, place: &Expr) -> Result<Code, AllocError>
+    ensures { IfOk result (λ code. view code ≡ code_of (texts_of scope.now) (scope_of scope.now) (Pre (view_step op) (tree place.now))) }
+{
+    let kept = kept(scope, place)?;
+    step_place(scope, op, place, kept)
+}
+
+/// The code of a step whose answer is the number before it.
+#[cycle(expressions)]
+#[tactic(auto, unfolding(crate::specs::Translation::code_of))]
+fn post_step(scope: &Scope<'_>, op: StepOp, place: &Expr) -> Result<Code, AllocError>
+    ensures { IfOk result (λ code. view code ≡ code_of (texts_of scope.now) (scope_of scope.now) (Post (view_step op) (tree place.now))) }
+{
+    let kept = kept(scope, place)?;
+    step_place_after(scope, op, place, kept)
+}
+
+/// The code of `getline` into a place.
+#[cycle(expressions)]
+#[tactic(auto, unfolding(crate::specs::Translation::code_of))]
+fn line_to(scope: &Scope<'_>, place: &Expr) -> Result<Code, AllocError>
+    ensures { IfOk result (λ code. view code ≡ code_of (texts_of scope.now) (scope_of scope.now) (GetInto (tree place.now))) }
+{
+    let kept = kept(scope, place)?;
+    line_into(scope, place, kept)
 }
 
 /// Adds the code of operands.
@@ -212,12 +280,11 @@ fn applied(scope: &Scope<'_>, function: Builtin, es: &[Expr]) -> Result<Code, Al
 fn apply_one(scope: &Scope<'_>, function: Builtin, e: &Expr) -> Result<Code, AllocError>
     ensures { IfOk result (λ code. view code ≡ applied_code (texts_of scope.now) (scope_of scope.now) function (Then (tree e.now) NoTree)) }
 {
-    let alloc = scope.alloc;
     match function {
-        Builtin::Length => host_one(alloc, Primitive::Length, code(scope, e)?),
-        Builtin::ToLower => host_one(alloc, Primitive::Lower, code(scope, e)?),
-        Builtin::ToUpper => host_one(alloc, Primitive::Upper, code(scope, e)?),
-        Builtin::Close => host_number(alloc, Primitive::Close, code(scope, e)?),
+        Builtin::Length => host_of(scope, Primitive::Length, e),
+        Builtin::ToLower => host_of(scope, Primitive::Lower, e),
+        Builtin::ToUpper => host_of(scope, Primitive::Upper, e),
+        Builtin::Close => host_number_of(scope, Primitive::Close, e),
         Builtin::Int => truncated(scope, e),
         Builtin::Substr
         | Builtin::Index
@@ -236,21 +303,20 @@ fn apply_more(scope: &Scope<'_>, function: Builtin, es: &[Expr]) -> Result<Code,
     requires { 2 ≤ length es.now }
     ensures { IfOk result (λ code. view code ≡ applied_code (texts_of scope.now) (scope_of scope.now) function (trees es.now)) }
 {
-    let alloc = scope.alloc;
     match function {
-        Builtin::Length => record_length(alloc),
-        Builtin::ToLower => host_one(alloc, Primitive::Lower, code(scope, &es[0])?),
-        Builtin::ToUpper => host_one(alloc, Primitive::Upper, code(scope, &es[0])?),
-        Builtin::Close => host_number(alloc, Primitive::Close, code(scope, &es[0])?),
+        Builtin::Length => record_length(scope.alloc),
+        Builtin::ToLower => host_of(scope, Primitive::Lower, &es[0]),
+        Builtin::ToUpper => host_of(scope, Primitive::Upper, &es[0]),
+        Builtin::Close => host_number_of(scope, Primitive::Close, &es[0]),
         Builtin::Int => truncated(scope, &es[0]),
         Builtin::Index => {
             let text = code(scope, &es[0])?;
-            host(alloc, Primitive::Index, text, code(scope, &es[1])?)
+            host(scope.alloc, Primitive::Index, text, code(scope, &es[1])?)
         }
         Builtin::Match => {
             let text = code(scope, &es[0])?;
             let ere = operand(scope, BinaryOp::Match, &es[1])?;
-            host(alloc, Primitive::Match, text, ere)
+            host(scope.alloc, Primitive::Match, text, ere)
         }
         Builtin::Substr => substr(scope, es),
         Builtin::Split => split(scope, es),
@@ -270,7 +336,7 @@ fn truncated(scope: &Scope<'_>, e: &Expr) -> Result<Code, AllocError>
         Expr::Group(inner) => truncated(scope, inner),
         Expr::Binary(op, left, right) => {
             if !is_quotient(*op) {
-                return whole_part(scope, e);
+                return host_of(scope, Primitive::IntOf, e);
             }
             let left = code(scope, left)?;
             let right = code(scope, right)?;
@@ -296,17 +362,8 @@ fn truncated(scope: &Scope<'_>, e: &Expr) -> Result<Code, AllocError>
         | Expr::Getline
         | Expr::GetlineInto(_)
         | Expr::GetlineFrom(_)
-        | Expr::GetlineIntoFrom(_, _) => whole_part(scope, e),
+        | Expr::GetlineIntoFrom(_, _) => host_of(scope, Primitive::IntOf, e),
     }
-}
-
-/// The code of the whole part of what an expression gives.
-#[cycle(expressions)]
-fn whole_part(scope: &Scope<'_>, e: &Expr) -> Result<Code, AllocError>
-    ensures { IfOk result (λ code. view code ≡ plain.Do (Operation.Host row.IntOf) (one (code_of (texts_of scope.now) (scope_of scope.now) (tree e.now)))) }
-{
-    let number = code(scope, e)?;
-    host_one(scope.alloc, Primitive::IntOf, number)
 }
 
 /// The code of `substr`.
@@ -339,8 +396,9 @@ fn split(scope: &Scope<'_>, es: &[Expr]) -> Result<Code, AllocError>
         let separator = reserved(scope.alloc, Special::Fs)?;
         return split_into(scope.alloc, text, array, separator, false);
     }
-    let separator = operand(scope, BinaryOp::Match, &es[2])?;
-    split_into(scope.alloc, text, array, separator, is_ere(&es[2]))
+    let ere = &es[2];
+    let separator = operand(scope, BinaryOp::Match, ere)?;
+    split_into(scope.alloc, text, array, separator, is_ere(ere))
 }
 
 /// The code of `sub` and `gsub`: expression and replacement are kept, then what the place needs.
@@ -354,6 +412,7 @@ fn substitute(scope: &Scope<'_>, all: bool, es: &[Expr]) -> Result<Code, AllocEr
     if es.len() == 2 {
         return substitute_record(scope.alloc, all, ere, replacement);
     }
-    let kept = kept(scope, &es[2])?;
-    substitute_place(scope, all, &es[2], kept, ere, replacement)
+    let place = &es[2];
+    let kept = kept(scope, place)?;
+    substitute_place(scope, all, place, kept, ere, replacement)
 }

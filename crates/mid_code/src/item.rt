@@ -1,6 +1,7 @@
 //! The code of items.
 
-ghost use Rattle.std.specs.Prelude.{◌≡◌, suc, List, ◌∷◌, true, false, IfOk};
+ghost use Rattle.std.specs.Option.{option_to_list};
+ghost use Rattle.std.specs.Prelude.{◌≡◌, suc, ◌||◌, List, ◌∷◌, ◌++◌, true, false, IfOk, OnOk};
 ghost use Rattle.awk_grammar.specs.Item.{Item as PlainItem};
 ghost use Rattle.awk_grammar.specs.View.{view as tree};
 ghost use Rattle.awk_grammar.specs.ViewStmt.{view_item, view_items, view_pattern, view_stmts as tree_stmts};
@@ -28,6 +29,7 @@ fn action(scope: &Scope<'_>, body: &[Stmt]) -> Result<Step, AllocError>
 }
 
 /// The code of an action that is left out.
+#[tactic(auto, using(crate::proofs::StepParts::print_record_is))]
 fn print_record(scope: &Scope<'_>) -> Result<Step, AllocError>
     ensures { IfOk result (λ step. view_step step ≡ plain.Block (steps_code (texts_of scope.now) (scope_of scope.now) print_record)) }
 {
@@ -50,12 +52,7 @@ fn opening(scope: &Scope<'_>, number: usize, first: &Expr) -> Result<Step, Alloc
 }
 
 /// The code that closes the range of an item where its last pattern is true, before its action.
-fn closing(
-    scope: &Scope<'_>,
-    number: usize,
-    last: &Expr,
-    action: Step,
-) -> Result<Step, AllocError>
+fn closing(scope: &Scope<'_>, number: usize, last: &Expr, action: Step) -> Result<Step, AllocError>
     ensures { IfOk result (λ step. view_step step ≡ plain.If (plain.IsOpen number) (plain.Block (plain.Then (plain.If (code_of (texts_of scope.now) (scope_of scope.now) (tree last.now)) (plain.Mark number false) (plain.Block plain.NoStep)) (plain.Then (view_step action) plain.NoStep))) (plain.Block plain.NoStep)) }
 {
     let alloc = scope.alloc;
@@ -88,7 +85,9 @@ fn where_met(
 }
 
 /// The code of an item that is done for each record, by its number.
-fn record_item(scope: &Scope<'_>, number: usize, item: &Item) -> Result<Option<Step>, AllocError> {
+fn record_item(scope: &Scope<'_>, number: usize, item: &Item) -> Result<Option<Step>, AllocError>
+    ensures { IfOk result (λ step. (items : List PlainItem) → items_code (texts_of scope.now) (scope_of scope.now) number (view_item item.now ∷ items) ≡ maybe_then step (items_code (texts_of scope.now) (scope_of scope.now) (suc number) items)) }
+{
     match item {
         Item::Action(body) => Ok(Some(action(scope, body)?)),
         Item::Rule(pattern, body) => {
@@ -103,15 +102,56 @@ fn record_item(scope: &Scope<'_>, number: usize, item: &Item) -> Result<Option<S
     }
 }
 
+/// The code of an item that is an action of BEGIN.
+fn begin_item(scope: &Scope<'_>, item: &Item) -> Result<Option<Step>, AllocError>
+    ensures { IfOk result (λ step. (items : List PlainItem) → begin_code (texts_of scope.now) (scope_of scope.now) (view_item item.now ∷ items) ≡ maybe_then step (begin_code (texts_of scope.now) (scope_of scope.now) items)) }
+{
+    match item {
+        Item::Begin(body) => Ok(Some(action(scope, body)?)),
+        Item::Function(_, _, _)
+        | Item::End(_)
+        | Item::Action(_)
+        | Item::Rule(_, _)
+        | Item::PatternOnly(_)
+        | Item::Empty => Ok(None),
+    }
+}
+
+/// The code of an item that is an action of END.
+fn end_item(scope: &Scope<'_>, item: &Item) -> Result<Option<Step>, AllocError>
+    ensures { IfOk result (λ step. (items : List PlainItem) → end_code (texts_of scope.now) (scope_of scope.now) (view_item item.now ∷ items) ≡ maybe_then step (end_code (texts_of scope.now) (scope_of scope.now) items)) }
+{
+    match item {
+        Item::End(body) => Ok(Some(action(scope, body)?)),
+        Item::Function(_, _, _)
+        | Item::Begin(_)
+        | Item::Action(_)
+        | Item::Rule(_, _)
+        | Item::PatternOnly(_)
+        | Item::Empty => Ok(None),
+    }
+}
+
+/// Adds a step, if there is one.
+fn push_step(steps: &mut Vec<Step>, step: Option<Step>) -> Result<(), AllocError>
+    ensures { OnOk result (steps.new.items ≡ steps.old.items ++ option_to_list step) }
+{
+    match step {
+        None => Ok(()),
+        Some(step) => {
+            steps.push(step)?;
+            Ok(())
+        }
+    }
+}
+
 /// The code of the items that are done for each record.
 pub(crate) fn record_items(scope: &Scope<'_>, items: &[Item]) -> Result<Vec<Step>, AllocError>
     ensures { IfOk result (λ steps. view_steps steps.items ≡ items_code (texts_of scope.now) (scope_of scope.now) 0 (view_items items.now)) }
 {
     let mut found = Vec::new(scope.alloc);
     for i in 0..items.len() {
-        if let Some(step) = record_item(scope, i, &items[i])? {
-            found.push(step)?;
-        }
+        push_step(&mut found, record_item(scope, i, &items[i])?)?;
     }
     Ok(found)
 }
@@ -122,9 +162,7 @@ pub(crate) fn begin(scope: &Scope<'_>, items: &[Item]) -> Result<Vec<Step>, Allo
 {
     let mut found = Vec::new(scope.alloc);
     for item in items {
-        if let Item::Begin(body) = item {
-            found.push(action(scope, body)?)?;
-        }
+        push_step(&mut found, begin_item(scope, item)?)?;
     }
     Ok(found)
 }
@@ -135,21 +173,28 @@ pub(crate) fn end(scope: &Scope<'_>, items: &[Item]) -> Result<Vec<Step>, AllocE
 {
     let mut found = Vec::new(scope.alloc);
     for item in items {
-        if let Item::End(body) = item {
-            found.push(action(scope, body)?)?;
-        }
+        push_step(&mut found, end_item(scope, item)?)?;
     }
     Ok(found)
 }
 
-/// Whether there are items that are done for each record.
+/// Whether records are read for an item; before the actions of END all are.
+fn reads_record(item: &Item) -> bool
+    ensures { (items : List PlainItem) → reads_records (view_item item.now ∷ items) ≡ (result || reads_records items) }
+{
+    match item {
+        Item::End(_) | Item::Action(_) | Item::Rule(_, _) | Item::PatternOnly(_) => true,
+        Item::Function(_, _, _) | Item::Begin(_) | Item::Empty => false,
+    }
+}
+
+/// Whether there are items for which records are read.
 pub(crate) fn reads_records(items: &[Item]) -> bool
     ensures { result ≡ reads_records (view_items items.now) }
 {
     for item in items {
-        match item {
-            Item::Action(_) | Item::Rule(_, _) | Item::PatternOnly(_) => return true,
-            Item::Function(_, _, _) | Item::Begin(_) | Item::End(_) | Item::Empty => {}
+        if reads_record(item) {
+            return true;
         }
     }
     false

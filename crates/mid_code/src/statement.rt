@@ -43,22 +43,30 @@ fn listed_of(word: PrintWord, destination: Destination) -> Listed
 }
 
 /// The values of a print statement; without any it is the record.
+#[tactic(auto, unfolding(crate::specs::Translation::codes_of, crate::specs::Translation::code_of))]
 fn values(scope: &Scope<'_>, args: &PrintArgs) -> Result<Vec<Operand>, AllocError>
     ensures { IfOk result (λ codes. views codes.items ≡ codes_of (texts_of scope.now) (scope_of scope.now) (operands_of (view_args args.now))) }
 {
     let mut codes = Vec::new(scope.alloc);
     match args {
-        PrintArgs::Bare => codes.push(Operand::Code(record(scope.alloc)?))?,
-        PrintArgs::Listed(es) => push_operands(scope, es, &mut codes)?,
+        PrintArgs::Bare => {
+            codes.push(Operand::Code(record(scope.alloc)?))?;
+            Ok(codes)
+        }
+        PrintArgs::Listed(es) => {
+            push_operands(scope, es, &mut codes)?;
+            Ok(codes)
+        }
         PrintArgs::Enclosed(first, others) => {
             codes.push(Operand::Code(code(scope, first)?))?;
             push_operands(scope, others, &mut codes)?;
+            Ok(codes)
         }
     }
-    Ok(codes)
 }
 
 /// The same, with the target as the last one.
+#[tactic(auto, using(crate::proofs::StepParts::last_operand))]
 fn printed(
     scope: &Scope<'_>,
     args: &PrintArgs,
@@ -68,12 +76,12 @@ fn printed(
 {
     let mut codes = values(scope, args)?;
     match target {
-        PrintTarget::Output => {}
+        PrintTarget::Output => Ok(codes),
         PrintTarget::File(file) | PrintTarget::FileEnd(file) => {
             codes.push(Operand::Code(code(scope, file)?))?;
+            Ok(codes)
         }
     }
-    Ok(codes)
 }
 
 /// The code of a simple statement.
@@ -160,6 +168,7 @@ pub(crate) fn two_steps(alloc: Global, first: Step, second: Step) -> Result<Step
     Ok(block(steps))
 }
 
+#[tactic(auto, unfolding(crate::specs::Translation::step_code))]
 fn jump(jump: Jump) -> Step
     ensures { (texts : List (List ℕ)) (scope : names.Scope) → view_step result ≡ step_code texts scope (Jumping (view_jump jump)) }
 {
@@ -171,6 +180,7 @@ fn jump(jump: Jump) -> Step
 }
 
 /// The code of `exit` and `return`.
+#[tactic(auto, unfolding(crate::specs::Translation::step_code))]
 fn leave(scope: &Scope<'_>, leaving: Leaving, e: &Option<Expr>) -> Result<Step, AllocError>
     ensures { IfOk result (λ step. view_step step ≡ step_code (texts_of scope.now) (scope_of scope.now) (Leave (view_leaving leaving) (view_maybe e.now))) }
 {

@@ -9,6 +9,7 @@ ghost use Rattle.mid_code.specs.Texts.{all_texts, args_texts, functions_texts, i
 ghost use Rattle.mid_code.specs.View.{view_texts};
 ghost use Rattle.mid_code.specs.ViewNames.{script_of, view_bodies};
 
+use crate::bodies::body_at;
 use crate::peek::ere_text;
 use awk_grammar::{Expr, Item, Pattern, PrintArgs, PrintTarget, SimpleStmt, Stmt};
 use awk_resolve::{FunctionNames, Resolved};
@@ -233,9 +234,7 @@ fn put_bodies(
     ensures { OnOk result (view_texts texts.new.keys ≡ once (view_texts texts.old.keys) (functions_texts (with_bodies (view_functions functions.now) (view_bodies bodies.now)))) }
 {
     for i in 0..functions.len() {
-        if let Some(body) = bodies.get(i) {
-            put_stmts(alloc, texts, body)?;
-        }
+        put_stmts(alloc, texts, body_at(bodies, i))?;
     }
     Ok(())
 }

@@ -2,20 +2,22 @@
 
 ghost use Rattle.std.specs.Prelude.{◌≡◌, List, map, IfOk};
 ghost use Rattle.awk_resolve.specs.ViewKinds.{view_name, view_name_kinds};
-ghost use Rattle.awk_grammar.specs.ViewStmt.{view_script};
+ghost use Rattle.awk_grammar.specs.ViewStmt.{view_script, view_stmts};
 ghost use Rattle.mid_code.specs.Kinds.{bodies as bodies_of};
 ghost use Rattle.mid_code.specs.MidMeaning.{EndsAs};
 ghost use Rattle.mid_code.specs.Translation.{declared_code, kind_of, program_of, routine_code};
 ghost use Rattle.mid_code.specs.View.{view_declared, view_kind, view_mid, view_routine, view_texts};
 ghost use Rattle.mid_code.specs.ViewNames.{script_of, view_bodies};
+ghost use Rattle.mid_code.specs.ViewScope.{scope_of, texts_of as texts_in};
 
+use crate::bodies::{bodies, body_at};
 use crate::item::{begin, end, reads_records, record_items};
 use crate::names::Names;
 use crate::program::{Declared, Kind, Mid, Routine};
 use crate::scope::Scope;
 use crate::statement::steps;
 use crate::texts::texts_of;
-use awk_grammar::{Item, Script, Stmt};
+use awk_grammar::Stmt;
 use awk_resolve::{NameKind, Resolved};
 use indexmap::IndexSet;
 use std::alloc::{AllocError, Global};
@@ -54,17 +56,16 @@ fn declared(alloc: Global, names: &[NameKind<'_>]) -> Result<Vec<Declared>, Allo
     Ok(found)
 }
 
-/// The bodies of the functions, in the order of the script.
-pub(crate) fn bodies<'a>(alloc: Global, script: &'a Script) -> Result<Vec<&'a [Stmt]>, AllocError>
-    ensures { IfOk result (λ found. view_bodies found.items ≡ bodies_of (view_script script.now)) }
+/// The code of a function.
+#[tactic(auto, unfolding(crate::specs::ViewScope::scope_of))]
+fn routine(scope: &Scope<'_>, name: &[u8], body: &[Stmt]) -> Result<Routine, AllocError>
+    ensures { IfOk result (λ found. view_routine found ≡ routine_code (texts_in scope.now) (scope_of scope.now).script (record { name = name.now; parameters = (scope_of scope.now).parameters; body = view_stmts body.now })) }
 {
-    let mut found = Vec::new(alloc);
-    for item in &script.items {
-        if let Item::Function(_, _, body) = item {
-            found.push(body.as_slice())?;
-        }
-    }
-    Ok(found)
+    Ok(Routine {
+        name: name.to_vec(scope.alloc)?,
+        parameters: kinds_of(scope.alloc, scope.parameters)?,
+        body: steps(scope, body)?,
+    })
 }
 
 /// The code of the functions.
@@ -74,28 +75,20 @@ fn routines(
     texts: &IndexSet<Vec<u8>>,
     bodies: &[&[Stmt]],
 ) -> Result<Vec<Routine>, AllocError>
-    requires bodies { view_bodies bodies.now ≡ bodies_of (view_script names.now.resolved.now.script.now) }
+    requires { view_bodies bodies.now ≡ bodies_of (view_script names.now.resolved.now.script.now) }
     ensures { IfOk result (λ found. map view_routine found.items ≡ map (routine_code (view_texts texts.now.keys) (script_of names.now.resolved.now)) (script_of names.now.resolved.now).functions) }
 {
     let mut found = Vec::new(alloc);
     let functions = &names.resolved.functions;
     for i in 0..functions.len() {
-        let parameters = &functions[i].parameters;
+        let function = &functions[i];
         let scope = Scope {
             alloc,
             names,
             texts,
-            parameters,
+            parameters: &function.parameters,
         };
-        let body = match bodies.get(i) {
-            Some(body) => steps(&scope, body)?,
-            None => Vec::new(alloc),
-        };
-        found.push(Routine {
-            name: functions[i].name.to_vec(alloc)?,
-            parameters: kinds_of(alloc, parameters)?,
-            body,
-        })?;
+        found.push(routine(&scope, function.name, body_at(bodies, i))?)?;
     }
     Ok(found)
 }

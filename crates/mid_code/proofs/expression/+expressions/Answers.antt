@@ -1,47 +1,58 @@
-use Rattle.std.proofs.Common.{◌≡◌, ◌-◌, length, ap, sym, ◌∙◌, refl, arith}
+use Rattle.std.proofs.Common.{◌-◌, length, ap, sym, ◌∙◌, refl, arith}
 use Rattle.std.proofs.lemmas.List.{get_or_default}
 use Rattle.std.proofs.lemmas.Result.{IfOk-weaker}
 use Rattle.awk_grammar.specs.View.{view as tree, views as trees, view_binary}
 use Rattle.awk_grammar.specs.declared.tree.Expr.{Expr}
 use Rattle.awk_grammar.proofs.Views.{element_is, call_is, apply_is, in_list_is}
 use Rattle.mid_code.specs.Mid as plain
-use Rattle.mid_code.specs.Steps.{ere_in, is_ere}
-use Rattle.mid_code.specs.Translation.{applied_code, code_of, kept_code}
+use Rattle.mid_code.specs.Translation.{applied_code, code_of}
 use Rattle.mid_code.specs.ViewScope.{scope_of, texts_of}
-use Rattle.mid_code.proofs.CodeParts.{binary_is, call_computed, call_end, call_missing, call_named, element_code, element_kept, in_list_code, index_code, key_end, key_none, key_step, length_more, list_code, match_code, no_trees, one_tree, operands_end, operands_step, other_code, other_operator, place_replaced, quotient_code, record_replaced, some_left, split_by_code, split_code, split_none, substr_code, substr_from}
+use Rattle.mid_code.proofs.CodeParts.{binary_is, call_computed, call_end, call_missing, call_named, element_kept, in_list_code, index_code, key_end, key_none, key_step, length_more, list_code, match_code, no_trees, one_tree, operands_end, operands_step, other_code, other_operator, place_replaced, quotient_code, record_replaced, some_left, split_by_code, split_code, split_none, substr_code, substr_from}
 use Rattle.mid_code.proofs.expression.+expressions.Goals.{call-then-i-es+in_ok-push, call-else-i-es+in-Some+in_ok-passed+in_ok-push-2, call-else-i-es+in_default+in_ok-code+in_ok-push-3}
 use Rattle.mid_code.proofs.expression.+expressions.Goals as goal
 
 -- code
 
-pub code-returns-in_ok-key-in-Element : goal.code-returns-in_ok-key-in-Element
-code-returns-in_ok-key-in-Element t c =
-    IfOk-weaker c.host_array.result _ _ (λ r h. h ∙ element_code (texts_of c.args.scope.now) (scope_of c.args.scope.now) (tree c.args.e.now) _ _ _ (element_is c.args.e.now c.in-Element.name c.in-Element.keys _ _ c.in-Element.is c.deref-in-Element.ensures.value c.deref-in-Element-2.ensures.value) c.in_ok-key-in-Element.ensures) c.host_array.ensures
+pub code-returns-in-Element : goal.code-returns-in-Element
+code-returns-in-Element t c =
+    IfOk-weaker c.element.result _ _ (λ r h. h ∙ ap (code_of (texts_of c.args.scope.now) (scope_of c.args.scope.now))
+    (element_is c.args.e.now c.in-Element.name c.in-Element.keys _ _ c.in-Element.is c.deref-in-Element.ensures.value
+    c.deref-in-Element-2.ensures.value)) c.element.ensures
 
 pub code-returns-in-Call : goal.code-returns-in-Call
 code-returns-in-Call t c =
-    IfOk-weaker c.call.result _ _ (λ r h. h ∙ ap (code_of (texts_of c.args.scope.now) (scope_of c.args.scope.now)) (call_is c.args.e.now c.in-Call.name c.in-Call.arguments _ _ c.in-Call.is c.deref-in-Call.ensures.value c.deref-in-Call-2.ensures.value)) c.call.ensures
+    IfOk-weaker c.call.result _ _ (λ r h. h ∙ ap (code_of (texts_of c.args.scope.now) (scope_of c.args.scope.now))
+    (call_is c.args.e.now c.in-Call.name c.in-Call.arguments _ _ c.in-Call.is c.deref-in-Call.ensures.value c.deref-in-Call-2.ensures.value))
+    c.call.ensures
 
 pub code-returns-in-Apply : goal.code-returns-in-Apply
 code-returns-in-Apply t c =
-    IfOk-weaker c.apply.result _ _ (λ r h. h ∙ ap (code_of (texts_of c.args.scope.now) (scope_of c.args.scope.now)) (apply_is c.args.e.now c.in-Apply.function c.in-Apply.arguments _ c.in-Apply.is c.deref-in-Apply.ensures.value)) c.apply.ensures
+    IfOk-weaker c.apply.result _ _ (λ r h. h ∙ ap (code_of (texts_of c.args.scope.now) (scope_of c.args.scope.now))
+    (apply_is c.args.e.now c.in-Apply.function c.in-Apply.arguments _ c.in-Apply.is c.deref-in-Apply.ensures.value)) c.apply.ensures
 
 pub code-returns-in_ok-first-in-InList : goal.code-returns-in_ok-first-in-InList
 code-returns-in_ok-first-in-InList t c =
-    IfOk-weaker c.has_list.result _ _ (λ r h. h ∙ in_list_code (texts_of c.args.scope.now) (scope_of c.args.scope.now) (tree c.args.e.now) _ _ _ _ _ (in_list_is c.args.e.now c.in-InList.first c.in-InList.others c.in-InList.name _ _ _ c.in-InList.is c.deref-in-InList-2.ensures c.deref-in-InList.ensures.value c.deref-in-InList-3.ensures.value) c.in_ok-first-in-InList.ensures c.in_ok-others-in-InList.ensures) c.has_list.ensures
+    IfOk-weaker c.has_list.result _ _ (λ r h. h ∙ in_list_code (texts_of c.args.scope.now) (scope_of c.args.scope.now) (tree c.args.e.now) _ _ _ _ _
+    (in_list_is c.args.e.now c.in-InList.first c.in-InList.others c.in-InList.name _ _ _ c.in-InList.is c.deref-in-InList-2.ensures
+    c.deref-in-InList.ensures.value c.deref-in-InList-3.ensures.value) c.in_ok-first-in-InList.ensures c.in_ok-others-in-InList.ensures)
+    c.has_list.ensures
 
 pub kept-returns-in_ok-key-in-Element : goal.kept-returns-in_ok-key-in-Element
 kept-returns-in_ok-key-in-Element t c =
-    element_kept (texts_of c.args.scope.now) (scope_of c.args.scope.now) (tree c.args.place.now) _ _ _ (element_is c.args.place.now c.in-Element.field-0 c.in-Element.subscripts _ _ c.in-Element.is refl c.deref.ensures.value) c.in_ok-key-in-Element.ensures
+    element_kept (texts_of c.args.scope.now) (scope_of c.args.scope.now) (tree c.args.place.now) _ _ _
+    (element_is c.args.place.now c.in-Element.field-0 c.in-Element.subscripts _ _ c.in-Element.is refl c.deref.ensures.value)
+    c.in_ok-key-in-Element.ensures
 
 -- lists
 
 pub push_operands-loop-e-preserved : goal.push_operands-loop-e-preserved
 push_operands-loop-e-preserved t c =
-    operands_step (texts_of c.args.scope.now) (scope_of c.args.scope.now) _ _ _ c.args.es.now c.loop-e.e-index c.e-item.result _ (omega arith) c.e-item.is c.in_ok-push.ensures.items c.in_ok-code.ensures c.loop-e.invariant
+    operands_step (texts_of c.args.scope.now) (scope_of c.args.scope.now) _ _ _ c.args.es.now c.loop-e.e-index c.e-item.result _
+    (omega arith) c.e-item.is c.in_ok-push.ensures.items c.in_ok-code.ensures c.loop-e.invariant
 
 pub push_operands-returns : goal.push_operands-returns
-push_operands-returns t c = operands_end (texts_of c.args.scope.now) (scope_of c.args.scope.now) _ c.args.es.now c.loop-e.e-index _ (omega arith) c.loop-e.invariant
+push_operands-returns t c = operands_end (texts_of c.args.scope.now) (scope_of c.args.scope.now) _ c.args.es.now c.loop-e.e-index _
+    (omega arith) c.loop-e.invariant
 
 pub key-returns-then-is_empty : goal.key-returns-then-is_empty
 key-returns-then-is_empty t c = key_none (texts_of c.args.scope.now) (scope_of c.args.scope.now) c.args.subscripts.now (cc)
@@ -51,13 +62,16 @@ key-loop-place-init t c =
     let some = some_left (length c.args.subscripts.now) (cc) in
     record {
       within = omega arith;
-      key = c.in_ok-key.ensures ∙ key_end (texts_of c.args.scope.now) (scope_of c.args.scope.now) c.args.subscripts.now _ c.index-subscripts-place.result (omega arith) c.index-subscripts-place.is;
+      key = c.in_ok-key.ensures ∙ key_end (texts_of c.args.scope.now)
+          (scope_of c.args.scope.now) c.args.subscripts.now _ c.index-subscripts-place.result (omega arith) c.index-subscripts-place.is;
     }
 
 pub key-loop-place-preserved : goal.key-loop-place-preserved
 key-loop-place-preserved t c = record {
   within = omega arith;
-  key = c.in_ok-key-2.ensures ∙ key_step (texts_of c.args.scope.now) (scope_of c.args.scope.now) c.args.subscripts.now (c.loop-place.place - 1) c.loop-place.place _ _ _ (omega arith) c.loop-place.invariant.within c.index-subscripts-place-in-loop-place.is c.in_ok-subscript.ensures c.loop-place.invariant.key;
+  key = c.in_ok-key-2.ensures ∙ key_step (texts_of c.args.scope.now) (scope_of c.args.scope.now) c.args.subscripts.now
+      (c.loop-place.place - 1) c.loop-place.place _ _ _ (omega arith) c.loop-place.invariant.within c.index-subscripts-place-in-loop-place.is
+      c.in_ok-subscript.ensures c.loop-place.invariant.key;
 }
 
 pub call-loop-i-preserved : goal.call-loop-i-preserved
@@ -65,81 +79,119 @@ call-loop-i-preserved t c =
     let ps = c.parameters_of-parameters.result.now in
     let es = c.args.es.now in
     elim c.if-i-es.branch [
-      | call-then-i-es+in_ok-push w ↦ rw w.operands-is (call_missing (texts_of c.args.scope.now) (scope_of c.args.scope.now) _ _ w.missing.result ps es c.loop-i.i _ _ (omega arith) (omega arith) w.in_ok-push.ensures.items w.missing.ensures c.loop-i.invariant)
-      | call-else-i-es+in-Some+in_ok-passed+in_ok-push-2 w ↦ rw w.operands-is (call_named (texts_of c.args.scope.now) (scope_of c.args.scope.now) _ _ _ ps es c.loop-i.i _ w.index-es-i.result _ _ (omega arith) (omega arith) w.index-es-i.is w.in_ok-push-2.ensures.items w.in-Some.ensures w.in_ok-passed.ensures c.loop-i.invariant)
-      | call-else-i-es+in_default+in_ok-code+in_ok-push-3 w ↦ rw w.operands-is (call_computed (texts_of c.args.scope.now) (scope_of c.args.scope.now) _ _ _ ps es c.loop-i.i w.index-es-i.result _ (omega arith) (omega arith) w.index-es-i.is w.in_ok-push-3.ensures.items w.in_default.ensures (w.in_ok-code.ensures ∙ ap (λ (e : Expr). code_of (texts_of c.args.scope.now) (scope_of c.args.scope.now) (tree e)) (w.index-es-i-in_default.is ∙ get_or_default es c.loop-i.i _ _ (omega arith) ∙ sym w.index-es-i.is)) c.loop-i.invariant)
+      | call-then-i-es+in_ok-push w ↦ rw w.operands-is (call_missing (texts_of c.args.scope.now)
+          (scope_of c.args.scope.now) _ _ w.missing.result ps es c.loop-i.i _ _ (omega arith)
+          (omega arith) w.in_ok-push.ensures.items w.missing.ensures c.loop-i.invariant)
+      | call-else-i-es+in-Some+in_ok-passed+in_ok-push-2 w ↦ rw w.operands-is
+          (call_named (texts_of c.args.scope.now) (scope_of c.args.scope.now) _ _ _ ps es c.loop-i.i _ w.index-es-i.result _ _ (omega arith)
+          (omega arith) w.index-es-i.is w.in_ok-push-2.ensures.items w.in-Some.ensures w.in_ok-passed.ensures c.loop-i.invariant)
+      | call-else-i-es+in_default+in_ok-code+in_ok-push-3 w ↦ rw w.operands-is
+          (call_computed (texts_of c.args.scope.now) (scope_of c.args.scope.now) _ _ _ ps es c.loop-i.i w.index-es-i.result _ (omega arith)
+          (omega arith) w.index-es-i.is w.in_ok-push-3.ensures.items w.in_default.ensures
+          (w.in_ok-code.ensures ∙ ap (λ (e : Expr). code_of (texts_of c.args.scope.now) (scope_of c.args.scope.now) (tree e))
+          (w.index-es-i-in_default.is ∙ get_or_default es c.loop-i.i _ _ (omega arith) ∙ sym w.index-es-i.is)) c.loop-i.invariant)
     ]
 
 pub call-returns : goal.call-returns
 call-returns t c =
-    c.called.ensures ∙ call_end (texts_of c.args.scope.now) (scope_of c.args.scope.now) _ c.parameters_of-parameters.result.now c.args.es.now c.loop-i.i _ c.args.name.now (omega arith) c.function-function.ensures c.parameters_of-parameters.ensures c.loop-i.invariant
+    c.called.ensures ∙ call_end (texts_of c.args.scope.now) (scope_of c.args.scope.now) _ c.parameters_of-parameters.result.now c.args.es.now
+    c.loop-i.i _ c.args.name.now (omega arith) c.function-function.ensures c.parameters_of-parameters.ensures c.loop-i.invariant
 
 -- built-in functions
 
 pub apply-returns-in_ok-push_operands-in-Sprintf : goal.apply-returns-in_ok-push_operands-in-Sprintf
 apply-returns-in_ok-push_operands-in-Sprintf t c =
-    c.over.ensures ∙ list_code (texts_of c.args.scope.now) (scope_of c.args.scope.now) c.args.function (trees c.args.es.now) _ _ c.in-Sprintf.is c.new-operands.ensures.items c.in_ok-push_operands-in-Sprintf.ensures
+    c.over.ensures ∙ list_code (texts_of c.args.scope.now) (scope_of c.args.scope.now) c.args.function
+    (trees c.args.es.now) _ _ c.in-Sprintf.is c.new-operands.ensures.items c.in_ok-push_operands-in-Sprintf.ensures
 
 pub apply-returns-in_default : goal.apply-returns-in_default
 apply-returns-in_default t c =
-    IfOk-weaker c.applied.result _ _ (λ r h. h ∙ other_code (texts_of c.args.scope.now) (scope_of c.args.scope.now) c.args.function (trees c.args.es.now) c.in_default.not-Sprintf) c.applied.ensures
+    IfOk-weaker c.applied.result _ _ (λ r h. h ∙ other_code (texts_of c.args.scope.now) (scope_of c.args.scope.now) c.args.function
+    (trees c.args.es.now) c.in_default.not-Sprintf) c.applied.ensures
 
 pub applied-returns-then-is_empty : goal.applied-returns-then-is_empty
 applied-returns-then-is_empty t c =
-    IfOk-weaker c.apply_none.result _ _ (λ r h. h ∙ ap (applied_code (texts_of c.args.scope.now) (scope_of c.args.scope.now) c.args.function) (sym (no_trees c.args.es.now (cc)))) (c.apply_none.ensures (texts_of c.args.scope.now) (scope_of c.args.scope.now))
+    IfOk-weaker c.apply_none.result _ _ (λ r h. h ∙ ap (applied_code (texts_of c.args.scope.now) (scope_of c.args.scope.now) c.args.function)
+    (sym (no_trees c.args.es.now (cc)))) (c.apply_none.ensures (texts_of c.args.scope.now) (scope_of c.args.scope.now))
 
 pub applied-returns-then-es-eq1 : goal.applied-returns-then-es-eq1
 applied-returns-then-es-eq1 t c =
-    IfOk-weaker c.apply_one.result _ _ (λ r h. h ∙ ap (applied_code (texts_of c.args.scope.now) (scope_of c.args.scope.now) c.args.function) (sym (one_tree c.args.es.now c.index-es-0.result (omega arith) c.index-es-0.is))) c.apply_one.ensures
+    IfOk-weaker c.apply_one.result _ _ (λ r h. h ∙ ap (applied_code (texts_of c.args.scope.now) (scope_of c.args.scope.now) c.args.function)
+    (sym (one_tree c.args.es.now c.index-es-0.result (omega arith) c.index-es-0.is))) c.apply_one.ensures
 
 pub apply_more-returns-in-Length : goal.apply_more-returns-in-Length
 apply_more-returns-in-Length t c =
-    IfOk-weaker c.record_length.result _ _ (λ r h. h ∙ length_more (texts_of c.args.scope.now) (scope_of c.args.scope.now) c.args.function c.args.es.now (omega arith) c.in-Length.is) c.record_length.ensures
+    IfOk-weaker c.record_length.result _ _ (λ r h. h ∙ length_more (texts_of c.args.scope.now)
+    (scope_of c.args.scope.now) c.args.function c.args.es.now (omega arith) c.in-Length.is) c.record_length.ensures
 
 pub apply_more-returns-in_ok-code-in-Index : goal.apply_more-returns-in_ok-code-in-Index
 apply_more-returns-in_ok-code-in-Index t c =
-    IfOk-weaker c.host.result _ _ (λ r h. h ∙ index_code (texts_of c.args.scope.now) (scope_of c.args.scope.now) c.args.function c.args.es.now _ _ _ _ (omega arith) c.index-es-0-in-Index.is c.index-es-1.is c.in-Index.is c.in_ok-text-in-Index.ensures c.in_ok-code-in-Index.ensures) c.host.ensures
+    IfOk-weaker c.host.result _ _ (λ r h. h ∙ index_code (texts_of c.args.scope.now)
+    (scope_of c.args.scope.now) c.args.function c.args.es.now _ _ _ _
+    (omega arith) c.index-es-0-in-Index.is c.index-es-1.is c.in-Index.is c.in_ok-text-in-Index.ensures c.in_ok-code-in-Index.ensures)
+    c.host.ensures
 
 pub apply_more-returns-in_ok-ere-in-Match : goal.apply_more-returns-in_ok-ere-in-Match
 apply_more-returns-in_ok-ere-in-Match t c =
-    IfOk-weaker c.host-in-Match.result _ _ (λ r h. h ∙ match_code (texts_of c.args.scope.now) (scope_of c.args.scope.now) c.args.function c.args.es.now _ _ _ _ (omega arith) c.index-es-0-in-Match.is c.index-es-1-in-Match.is c.in-Match.is c.in_ok-text-in-Match.ensures c.in_ok-ere-in-Match.ensures) c.host-in-Match.ensures
+    IfOk-weaker c.host-in-Match.result _ _ (λ r h. h ∙ match_code (texts_of c.args.scope.now)
+    (scope_of c.args.scope.now) c.args.function c.args.es.now _ _ _ _
+    (omega arith) c.index-es-0-in-Match.is c.index-es-1-in-Match.is c.in-Match.is c.in_ok-text-in-Match.ensures c.in_ok-ere-in-Match.ensures)
+    c.host-in-Match.ensures
 
 pub substr-returns-then-es-eq2 : goal.substr-returns-then-es-eq2
 substr-returns-then-es-eq2 t c =
-    IfOk-weaker c.host.result _ _ (λ r h. h ∙ substr_from (texts_of c.args.scope.now) (scope_of c.args.scope.now) c.args.es.now _ _ _ _ (omega arith) c.index-es-0.is c.index-es-1.is c.in_ok-text.ensures c.in_ok-from.ensures) c.host.ensures
+    IfOk-weaker c.host.result _ _ (λ r h. h ∙ substr_from (texts_of c.args.scope.now) (scope_of c.args.scope.now) c.args.es.now _ _ _ _
+    (omega arith) c.index-es-0.is c.index-es-1.is c.in_ok-text.ensures c.in_ok-from.ensures) c.host.ensures
 
 pub substr-returns : goal.substr-returns
 substr-returns t c =
-    IfOk-weaker c.ternary.result _ _ (λ r h. h ∙ substr_code (texts_of c.args.scope.now) (scope_of c.args.scope.now) c.args.es.now _ _ _ _ _ _ (omega arith) c.index-es-0.is c.index-es-1.is c.index-es-2.is c.in_ok-text.ensures c.in_ok-from.ensures c.in_ok-count.ensures) c.ternary.ensures
+    IfOk-weaker c.ternary.result _ _ (λ r h. h ∙ substr_code (texts_of c.args.scope.now) (scope_of c.args.scope.now) c.args.es.now _ _ _ _ _ _
+    (omega arith) c.index-es-0.is c.index-es-1.is c.index-es-2.is c.in_ok-text.ensures c.in_ok-from.ensures c.in_ok-count.ensures)
+    c.ternary.ensures
 
 pub split-returns-in_default : goal.split-returns-in_default
-split-returns-in_default t c = split_none (texts_of c.args.scope.now) (scope_of c.args.scope.now) c.args.es.now c.index-es-1.result (omega arith) c.index-es-1.is c.in_default.ensures
+split-returns-in_default t c = split_none (texts_of c.args.scope.now) (scope_of c.args.scope.now) c.args.es.now c.index-es-1.result
+    (omega arith) c.index-es-1.is c.in_default.ensures
 
 pub split-returns-then-es-eq2 : goal.split-returns-then-es-eq2
 split-returns-then-es-eq2 t c =
-    IfOk-weaker c.split_into.result _ _ (λ r h. h ∙ split_code (texts_of c.args.scope.now) (scope_of c.args.scope.now) c.args.es.now _ _ c.in-Some.name.now _ _ _ (omega arith) c.index-es-0.is c.index-es-1.is c.in-Some.ensures c.in_ok-text.ensures (ap plain.Array c.array.ensures) c.in_ok-separator.ensures) c.split_into.ensures
+    IfOk-weaker c.split_into.result _ _ (λ r h. h ∙ split_code (texts_of c.args.scope.now)
+    (scope_of c.args.scope.now) c.args.es.now _ _ c.in-Some.name.now _ _ _
+    (omega arith) c.index-es-0.is c.index-es-1.is c.in-Some.ensures c.in_ok-text.ensures
+    (ap plain.Array c.array.ensures) c.in_ok-separator.ensures) c.split_into.ensures
 
 pub split-returns : goal.split-returns
 split-returns t c =
-    let same = ap (λ (e : Expr). is_ere (ere_in (tree e))) (c.index-es-2-2.is ∙ get_or_default c.args.es.now 2 _ _ (omega arith) ∙ sym c.index-es-2.is) in
-    IfOk-weaker c.split_into-2.result _ _ (λ r h. h ∙ split_by_code (texts_of c.args.scope.now) (scope_of c.args.scope.now) c.args.es.now _ _ _ c.in-Some.name.now _ _ _ _ (omega arith) c.index-es-0.is c.index-es-1.is c.index-es-2.is c.in-Some.ensures c.in_ok-text.ensures (ap plain.Array c.array.ensures) c.in_ok-separator-2.ensures (c.is_ere.ensures ∙ same)) c.split_into-2.ensures
+    IfOk-weaker c.split_into-2.result _ _ (λ r h. h ∙ split_by_code (texts_of c.args.scope.now)
+    (scope_of c.args.scope.now) c.args.es.now _ _ _ c.in-Some.name.now _ _ _ _
+    (omega arith) c.index-es-0.is c.index-es-1.is c.index-es-2.is c.in-Some.ensures c.in_ok-text.ensures
+    (ap plain.Array c.array.ensures) c.in_ok-separator-2.ensures c.is_ere.ensures) c.split_into-2.ensures
 
 pub substitute-returns-then-es-eq2 : goal.substitute-returns-then-es-eq2
 substitute-returns-then-es-eq2 t c =
-    IfOk-weaker c.substitute_record.result _ _ (λ r h. h ∙ record_replaced (texts_of c.args.scope.now) (scope_of c.args.scope.now) c.args.all c.args.es.now _ _ _ _ (omega arith) c.index-es-0.is c.index-es-1.is c.in_ok-ere.ensures c.in_ok-replacement.ensures) c.substitute_record.ensures
+    IfOk-weaker c.substitute_record.result _ _ (λ r h. h ∙ record_replaced (texts_of c.args.scope.now)
+    (scope_of c.args.scope.now) c.args.all c.args.es.now _ _ _ _
+    (omega arith) c.index-es-0.is c.index-es-1.is c.in_ok-ere.ensures c.in_ok-replacement.ensures) c.substitute_record.ensures
 
 pub substitute-returns : goal.substitute-returns
 substitute-returns t c =
-    let es = c.args.es.now in
-    let same : c.index-es-2-2.result ≡ c.index-es-2.result = c.index-es-2-2.is ∙ get_or_default es 2 _ _ (omega arith) ∙ sym c.index-es-2.is in
-    IfOk-weaker c.substitute_place.result _ _ (λ r h. h ∙ place_replaced (texts_of c.args.scope.now) (scope_of c.args.scope.now) c.args.all es _ _ c.index-es-2-2.result _ _ _ (omega arith) c.index-es-0.is c.index-es-1.is c.index-es-2-2.is c.in_ok-ere.ensures c.in_ok-replacement.ensures (c.in_ok-kept.ensures ∙ ap (λ (e : Expr). kept_code (texts_of c.args.scope.now) (scope_of c.args.scope.now) (tree e)) (sym same))) c.substitute_place.ensures
+    IfOk-weaker c.substitute_place.result _ _ (λ r h. h ∙ place_replaced (texts_of c.args.scope.now)
+    (scope_of c.args.scope.now) c.args.all c.args.es.now _ _ _ _ _ _
+    (omega arith) c.index-es-0.is c.index-es-1.is c.index-es-2.is c.in_ok-ere.ensures c.in_ok-replacement.ensures c.in_ok-kept.ensures)
+    c.substitute_place.ensures
 
 pub truncated-returns-in_ok-right-in-Binary : goal.truncated-returns-in_ok-right-in-Binary
 truncated-returns-in_ok-right-in-Binary t c =
-    let is = binary_is c.args.e.now c.in-Binary.op c.in-Binary.left c.in-Binary.right _ _ c.in-Binary.is c.deref-in-Binary.ensures c.deref-in-Binary-2.ensures in
-    IfOk-weaker c.binary.result _ _ (λ r h. h ∙ quotient_code (texts_of c.args.scope.now) (scope_of c.args.scope.now) (tree c.args.e.now) _ _ (view_binary c.in-Binary.op) c.is_quotient.result _ _ is (c.is_quotient.ensures (texts_of c.args.scope.now) (scope_of c.args.scope.now) _ _) (cc) c.in_ok-left-in-Binary.ensures c.in_ok-right-in-Binary.ensures) c.binary.ensures
+    let is = binary_is c.args.e.now c.in-Binary.op c.in-Binary.left c.in-Binary.right _ _ c.in-Binary.is c.deref-in-Binary.ensures
+    c.deref-in-Binary-2.ensures in
+    IfOk-weaker c.binary.result _ _ (λ r h. h ∙ quotient_code (texts_of c.args.scope.now) (scope_of c.args.scope.now) (tree c.args.e.now) _ _
+    (view_binary c.in-Binary.op) c.is_quotient.result _ _ is (c.is_quotient.ensures (texts_of c.args.scope.now) (scope_of c.args.scope.now) _ _)
+    (cc) c.in_ok-left-in-Binary.ensures c.in_ok-right-in-Binary.ensures) c.binary.ensures
 
 pub truncated-returns-then-not-is_quotient : goal.truncated-returns-then-not-is_quotient
 truncated-returns-then-not-is_quotient t c =
-    let is = binary_is c.args.e.now c.in-Binary.op c.in-Binary.left c.in-Binary.right c.in-Binary.left.value c.in-Binary.right.value c.in-Binary.is refl refl in
-    IfOk-weaker c.whole_part.result _ _ (λ r h. h ∙ other_operator (texts_of c.args.scope.now) (scope_of c.args.scope.now) (tree c.args.e.now) _ _ (view_binary c.in-Binary.op) c.is_quotient.result is (c.is_quotient.ensures (texts_of c.args.scope.now) (scope_of c.args.scope.now) _ _) (cc)) c.whole_part.ensures
+    let is = binary_is c.args.e.now c.in-Binary.op c.in-Binary.left c.in-Binary.right c.in-Binary.left.value c.in-Binary.right.value c.in-Binary.is
+    refl refl in
+    IfOk-weaker c.host_of.result _ _ (λ r h. h ∙ other_operator (texts_of c.args.scope.now) (scope_of c.args.scope.now) (tree c.args.e.now) _ _
+    (view_binary c.in-Binary.op) c.is_quotient.result is (c.is_quotient.ensures (texts_of c.args.scope.now) (scope_of c.args.scope.now) _ _)
+    (cc)) c.host_of.ensures

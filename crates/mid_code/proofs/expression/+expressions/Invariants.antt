@@ -22,5 +22,6 @@ decreases-key-loop-place l = l.place
 
 abbrev pub invariant-call-loop-i : goal.invariant-call-loop-i
 invariant-call-loop-i l =
-    followed (views l.operands.items) (argument_codes (texts_of l.scope) (scope_of l.scope) (view_name_kinds (drop l.i l.parameters)) (trees (drop l.i l.es)))
+    followed (views l.operands.items) (argument_codes (texts_of l.scope) (scope_of l.scope) (view_name_kinds (drop l.i l.parameters))
+    (trees (drop l.i l.es)))
     ≡ argument_codes (texts_of l.scope) (scope_of l.scope) (view_name_kinds l.parameters) (trees l.es)

@@ -11,4 +11,5 @@ pub returns : goal.returns
 returns c =
     c.applied.ensures ∙ ap (plain.Do (Host row.Split))
     (ap views c.in_ok-push.ensures.items ∙ views_push c.in_ok-operands.operands.items _ _ c.in_ok-operands.ensures
-    ∙ ap (λ (n : ℕ). plain.At (view c.args.text) (plain.At (view c.args.array) (plain.At (view c.args.separator) (plain.Fixed n plain.End)))) (c.from.ensures ∙ flag_is c.args.is_ere))
+    ∙ ap (λ (n : ℕ). plain.At (view c.args.text) (plain.At (view c.args.array) (plain.At (view c.args.separator) (plain.Fixed n plain.End))))
+    (c.from.ensures ∙ flag_is c.args.is_ere))

@@ -1,4 +1,4 @@
-use Rattle.std.proofs.Common.{◌≡◌, ◌+◌, ℕ, List, drop, ap, sym, ◌∙◌}
+use Rattle.std.proofs.Common.{◌+◌, ℕ, List, drop, ap, sym, ◌∙◌}
 use Rattle.std.proofs.lemmas.Result.{on_ok_weaker}
 use Rattle.awk_grammar.specs.ViewStmt.{view_stmt, view_stmts}
 use Rattle.awk_grammar.specs.declared.tree.Stmt.{Stmt}
