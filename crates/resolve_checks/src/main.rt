@@ -1,12 +1,14 @@
 //! Says of each script on standard input which kinds its names have, or why it is refused for them.
 //!
 //! A line is a script, in which a byte 1 stands for a newline. The answer is a line: `names`, the functions with their parameters and the globals in
-//! the order of their first places, `[]` behind an array; or the refusal and the name that it carries; or `NoTree`.
+//! the order of their first places, `[]` behind an array; or the refusal and the name that it carries; or `NoTree`. The script's mid code must name
+//! the same functions and globals with the same kinds, else `OtherCode` is added.
 #![tactic(auto)]
 
 use awk_parse::parse;
 use awk_resolve::{NameKind, ResolveFault, Resolved, resolve};
 use awk_tokens::tokens;
+use mid_code::{Declared, Kind, Routine, to_mid};
 use std::alloc::{AllocError, Global};
 use std::io;
 
@@ -48,7 +50,44 @@ fn names_of(alloc: Global, resolved: &Resolved) -> Result<Vec<u8>, AllocError> {
         out.push(b' ')?;
         push_name(&mut out, global)?;
     }
+    if !is_named_in_code(alloc, resolved)? {
+        out.extend_from_slice(b" OtherCode")?;
+    }
     Ok(out)
+}
+
+/// Whether a kind is that of a name.
+fn is_kind_of(kind: &Kind, name: &NameKind) -> bool {
+    match kind {
+        Kind::Many => name.is_array,
+        Kind::Boxed => !name.is_array,
+        Kind::Unboxed => false,
+    }
+}
+
+/// Whether these are the code's globals.
+fn are_globals(declared: &[Declared], names: &[NameKind]) -> bool {
+    let mut pairs = declared.iter().zip(names);
+    declared.len() == names.len()
+        && pairs.all(|(it, name)| it.name.as_slice() == name.name && is_kind_of(&it.kind, name))
+}
+
+/// Whether these are the kinds of a function's parameters in its code.
+fn are_parameters(routine: &Routine, names: &[NameKind]) -> bool {
+    let mut pairs = routine.parameters.iter().zip(names);
+    routine.parameters.len() == names.len() && pairs.all(|(kind, name)| is_kind_of(kind, name))
+}
+
+/// Whether the script's code has its functions and globals.
+fn is_named_in_code(alloc: Global, resolved: &Resolved) -> Result<bool, AllocError> {
+    let mid = to_mid(alloc, resolved)?;
+    let functions = &resolved.functions;
+    let mut pairs = mid.routines.iter().zip(functions);
+    Ok(are_globals(&mid.globals, &resolved.globals)
+        && mid.routines.len() == functions.len()
+        && pairs.all(|(it, function)| {
+            it.name.as_slice() == function.name && are_parameters(it, &function.parameters)
+        }))
 }
 
 /// A refusal and the name that it carries.
