@@ -1,0 +1,5 @@
+pub mod Runs
+pub mod Regions
+pub mod Locals
+pub mod Globals
+pub mod Steps
