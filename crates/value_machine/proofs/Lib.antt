@@ -5,3 +5,5 @@ pub mod Globals
 pub mod Steps
 pub mod GlobalSteps
 pub mod Calls
+pub mod State
+pub mod Relation
