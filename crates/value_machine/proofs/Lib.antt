@@ -7,3 +7,4 @@ pub mod GlobalSteps
 pub mod Calls
 pub mod State
 pub mod Relation
+pub mod Pieces

@@ -29,6 +29,10 @@ pub record Goes (u : Code) (j : ℕ) (a b : Conf) : Type 0 where
 pub stays : {u : Code} {a : Conf} → Goes u 0 a a
 stays = record { it = refl }
 
+-- by computing
+pub by_steps : {u : Code} {a b : Conf} → (j : ℕ) → go u j a ≡ b → Goes u j a b
+by_steps j e = record { it = e }
+
 pub same_goes : {u : Code} {a b : Conf} → a ≡ b → Goes u 0 a b
 same_goes e = record { it = e }
 
