@@ -8,3 +8,4 @@ pub mod Calls
 pub mod State
 pub mod Relation
 pub mod Pieces
+pub mod Answers
