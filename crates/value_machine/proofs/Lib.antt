@@ -9,3 +9,4 @@ pub mod State
 pub mod Relation
 pub mod Pieces
 pub mod Answers
+pub mod HostLaws
