@@ -10,3 +10,4 @@ pub mod Relation
 pub mod Pieces
 pub mod Answers
 pub mod HostLaws
+pub mod Conversions

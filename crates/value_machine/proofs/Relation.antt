@@ -337,3 +337,7 @@ module _ (p : Program) (deepest : ℕ) (ks : List Kind) (F : List Frame) where
       pub loose : Loose next
       pub answer : next.answer ≡ answer_of why
       pub after : StopSound why σ
+
+    -- out of a block
+    pub away_out : (d : ℕ) (x : Label) (K : List Label) (why : Stop) (σ : State) (c : Conf) → Away (suc d) (x ∷ K) why σ c → Away d K why σ c
+    away_out d x K why σ c a = record { next = a.next; comes = a.comes; loose = a.loose; answer = a.answer; after = a.after }

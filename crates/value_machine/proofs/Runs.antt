@@ -149,6 +149,28 @@ module _ (u : Code) (M : ℕ) where
   weaker w l c P P1 Q Q1 (Gives a σ) f g r = reaches_weaker w l σ.turns c (P a σ) (P1 a σ) (f a σ) r
   weaker w l c P P1 Q Q1 (Stops why σ) f g r = halts_weaker w l c Q Q1 why σ g r
 
+  -- steps after
+  pub record Onward (j : ℕ) (P : Conf → Type 0) (c : Conf) : Type 0 where
+    pub conf : Conf
+    pub goes : Goes u j c conf
+    pub holds : P conf
+
+  reaches_on : (j w w' l l2 : ℕ) (c : Conf) (P P1 : Conf → Type 0) → w + j ≤ w' → ((c1 : Conf) → P c1 → Onward j P1 c1) → Reaches w l c l2 P → Reaches w' l c l2 P1
+  reaches_on j w w' l l2 c P P1 h f r =
+      let o = f r.conf r.holds in
+      let t = turns_add u r.steps j c in
+      record {
+        conf = o.conf;
+        steps = r.steps + j;
+        goes = go_add u r.steps j c ∙ (ap (go u j) r.goes ∙ o.goes.it);
+        cost = record { down = r.cost.down; paid = omega (arith, r.cost.paid, t); few = omega (arith, r.cost.few, h) };
+        holds = o.holds;
+      }
+
+  pub then_step : {A : Type 0} → (j w w' l : ℕ) (c : Conf) (P P1 : A → State → Conf → Type 0) (Q : Stop → State → Conf → Type 0) (r : Outcome A) → w + j ≤ w' → ((a : A) (σ : State) (c1 : Conf) → P a σ c1 → Onward j (P1 a σ) c1) → Arrives w l c P Q r → Arrives w' l c P1 Q r
+  then_step j w w' l c P P1 Q (Gives a σ) h f r = reaches_on j w w' l σ.turns c (P a σ) (P1 a σ) h (f a σ) r
+  then_step j w w' l c P P1 Q (Stops why σ) h f r = halts_after 0 w w' l l c c Q why σ refl (record { down = omega arith; paid = omega arith; few = omega (arith, h) }) r
+
   -- some steps, and there
   pub there : {A : Type 0} → (w j : ℕ) (c c1 : Conf) (a : A) (σ : State) (P : A → State → Conf → Type 0) (Q : Stop → State → Conf → Type 0) → Goes u j c c1 → j ≤ w → P a σ c1 → Arrives w σ.turns c P Q (Gives a σ)
   there w j c c1 a σ P Q g h p = record { conf = c1; steps = j; goes = g.it; cost = record { down = omega arith; paid = omega arith; few = omega (arith, h) }; holds = p }
