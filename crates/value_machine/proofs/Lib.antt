@@ -11,3 +11,4 @@ pub mod Pieces
 pub mod Answers
 pub mod HostLaws
 pub mod Conversions
+pub mod Converting
