@@ -1,13 +1,13 @@
 -- A temporary is converted in place, or the function is left; and the truth of a temporary.
 use Rattle.std.proofs.Common.{◌≡◌, ◌≢◌, ◌⊎◌, inl, inr, ℕ, zero, suc, ◌+◌, ◌<◌, ◌≤◌, Bool, true, false, List, [], ◌∷◌, Some, None, Option, Result, Ok, Err, refl, sym, ap, ap₂, ◌∙◌, subst, arith}
-use Rattle.std.specs.Prelude.{nat_eq, cond, ℤ, not}
+use Rattle.std.specs.Prelude.{nat_eq, cond, ℤ, not, ◌^◌, ◌-◌}
 use Rattle.awk_values.specs.declared.fault.Fault.{Fault}
 use Rattle.awk_values.specs.declared.value.Value.{Value}
 use Rattle.awk_values.specs.declared.value.Value.TheVariants as value
 use Rattle.awk_values.specs.Operators.{is_zero}
 use Rattle.awk_values.specs.Values.{truth_of_value}
 use Rattle.awk_state.specs.Constants.{flag_number}
-use Rattle.awk_state.specs.Numbers.{Number, number_word}
+use Rattle.awk_state.specs.Numbers.{Number, number_word, or_range}
 use Rattle.awk_state.specs.Sorts.{In, InAnswer}
 use Rattle.awk_state.specs.ValueRows.{number_of_row}
 use Rattle.awk_state.specs.declared.sorts.Sort.{Sort}
@@ -24,8 +24,8 @@ use Rattle.wasm_store.specs.Words.{flag}
 use Rattle.mid_code.specs.Mid.{Kind, Program, Form, Answered, Bare, Perhaps}
 use Rattle.mid_code.specs.MidMeaning.{Holds, converted, numbered, boxed}
 use Rattle.mid_code.specs.Sorted.{fits}
-use Rattle.mid_code.specs.Steps.{zero_number, numeric, truth_number}
-use Rattle.mid_code.specs.ScriptState.{State, Stop, Faulted, settled}
+use Rattle.mid_code.specs.Steps.{zero_number, one_number, minus_one, numeric, truth_number}
+use Rattle.mid_code.specs.ScriptState.{State, Stop, Faulted, Outcome, Gives, settled}
 use Rattle.value_machine.specs.Cells.{Cell, Bits, Held, is_owned}
 use Rattle.value_machine.specs.Machine.{Code, Conf, Label, Frame, at, br, label}
 use Rattle.value_machine.specs.Places.{Bases}
@@ -150,3 +150,80 @@ module _ (p : Program) (deepest : ℕ) (ks : List Kind) (F : List Frame) (b : Ba
             answer = f1.answer;
             after = tt;
           }
+
+  -- what a block's code does, and the end of the block
+  pub blocked : {A : Type 0} → (j l0 d : ℕ) (k : Instructions) (K : List Label) (c : Conf) (P P1 : A → State → Conf → Type 0) (r : Outcome A) → ((a : A) (σ : State) (c1 : Conf) → P a σ c1 → Onward u M 1 (P1 a σ) c1) →
+      Reached p deepest ks F b M j l0 c P (Away p deepest ks F b (suc d) (label [] None k ∷ K)) r → Reached p deepest ks F b M (j + 1) l0 c P1 (Away p deepest ks F b d K) r
+  blocked j l0 d k K c P P1 r f a =
+      then_step u M 1 j (j + 1) l0 c P P1 (Away p deepest ks F b d K) r (omega arith) f
+      (weaker u M j l0 c P P (Away p deepest ks F b (suc d) (label [] None k ∷ K)) (Away p deepest ks F b d K) r (λ a σ c1 q. q) (λ why σ c1 q. away_out p deepest ks F b d (label [] None k) K why σ c1 q) a)
+
+  -- at the end of a block what was converted is there still
+  conv_closes : (q i w t : ℕ) (f : Form) (k : Instructions) (K : List Label) (l : Locals) (x : Holds f) (σ : State) (c : Conf) → Converted q i w t f Done (label [] None k ∷ K) l x σ c → Onward u M 1 (Converted q i w t f k K l x σ) c
+  conv_closes q i w t f k K l x σ c a = record {
+    conf = at ks [] K (laid b a.next) F k (beside_state p deepest ks F σ);
+    goes = goes_from a.comes closes;
+    holds = record { next = a.next; comes = refl; fit = a.fit; keeps = a.keeps; holds = a.holds };
+  }
+
+  none_number : (v : Value) → v ≡ value.Uninit → number_of_row v ≡ Ok zero_number
+  none_number v e = ap number_of_row e ∙ ap or_range (number_again zero_number)
+
+  own_number : (v : Value) (m : Number) → v ≡ value.Num m.number → number_of_row v ≡ Ok m
+  own_number v m e = ap number_of_row e ∙ ap or_range (number_again m)
+
+  -- what an unboxed name has, as a number
+  bare_numbered : (q i w t d : ℕ) (k : Instructions) (K : List Label) (l : Locals) (v : Value) (σ : State) → t < q → t < b.temporaries → Fit p deepest ks F q i w l σ → HoldsAt Bare t l v → BareIs v →
+      Reached p deepest ks F b M 10 σ.turns (at ks [] K (laid b l) F (Small.to_number b Bare t d k) (beside_state p deepest ks F σ)) (Converted q i w t (Answered (answer.Of sort.Number)) k K l) (Away p deepest ks F b d K) (settled (number_of_row v) σ)
+  bare_numbered q i w t d k K l v σ lq lt ft hd (IsBeside e e1) =
+      first u M 3 7 10 σ.turns _ _ (Converted q i w t (Answered (answer.Of sort.Number)) k K l) (Away p deepest ks F b d K) (settled (number_of_row v) σ)
+      (then_goes (number_is_ok b l t text_beside text_beside lt (hd.1 ∙ ap (λ m. Bits (I64 m)) e)) (chooses (number_of_value b t (suc d) Done) (zeroed b t Done) 1)) (omega arith)
+      (blocked 6 σ.turns d k K _ (Converted q i w t (Answered (answer.Of sort.Number)) Done (label [] None k ∷ K) l) (Converted q i w t (Answered (answer.Of sort.Number)) k K l) (settled (number_of_row v) σ)
+      (λ x τ c1 a. conv_closes q i w t (Answered (answer.Of sort.Number)) k K l x τ c1 a)
+      (value_numbered q i w t (suc d) Done (label [] None k ∷ K) l v σ lq lt ft (hd.0 ∙ e1)))
+  bare_numbered q i w t d k K l v σ lq lt ft hd (IsNone e e1 e2) =
+      let x = zeroed_ok p deepest ks F b Done (label [] None k ∷ K) l t (bare v) σ zero_number lt hd.1 (Nought e1 refl) in
+      subst (λ r. Reached p deepest ks F b M 10 σ.turns (at ks [] K (laid b l) F (Small.to_number b Bare t d k) (beside_state p deepest ks F σ)) (Converted q i w t (Answered (answer.Of sort.Number)) k K l) (Away p deepest ks F b d K) (settled r σ)) (sym (none_number v e))
+      (there u M 10 (3 + (x.steps + 1)) _ _ zero_number σ (Converted q i w t (Answered (answer.Of sort.Number)) k K l) (Away p deepest ks F b d K)
+      (then_goes (then_goes (number_is_ok b l t least text_beside lt (hd.1 ∙ ap (λ m. Bits (I64 m)) e1)) (chooses (number_of_value b t (suc d) Done) (zeroed b t Done) 0)) (then_goes x.goes closes)) (omega (arith, x.few))
+      (conv_number q i w t k K l zero_number σ ft (hd.0 ∙ e2)))
+  bare_numbered q i w t d k K l v σ lq lt ft hd (IsNumber m e e1 e2) =
+      let x = zeroed_ok p deepest ks F b Done (label [] None k ∷ K) l t (bare v) σ m lt hd.1 (Itself e1) in
+      subst (λ r. Reached p deepest ks F b M 10 σ.turns (at ks [] K (laid b l) F (Small.to_number b Bare t d k) (beside_state p deepest ks F σ)) (Converted q i w t (Answered (answer.Of sort.Number)) k K l) (Away p deepest ks F b d K) (settled r σ)) (sym (own_number v m e))
+      (there u M 10 (3 + (x.steps + 1)) _ _ m σ (Converted q i w t (Answered (answer.Of sort.Number)) k K l) (Away p deepest ks F b d K)
+      (then_goes (then_goes (goes_to (number_is_ok b l t (number_word m) text_beside lt (hd.1 ∙ ap (λ z. Bits (I64 z)) e1)) (ap (λ f. at ks (Bits (flag f) ∷ []) K (laid b l) F (either (number_of_value b t (suc d) Done) (zeroed b t Done) k) (beside_state p deepest ks F σ)) (word_not_beside m)))
+      (chooses (number_of_value b t (suc d) Done) (zeroed b t Done) 0)) (then_goes x.goes closes)) (omega (arith, x.few))
+      (conv_number q i w t k K l m σ ft (hd.0 ∙ e2)))
+
+  coded : (q i w t d : ℕ) (k : Instructions) (K : List Label) (l : Locals) (x : Number) (σ : State) → Fit p deepest ks F q i w l σ → l.hand t ≡ empty →
+      {c : Conf} → Goes u 7 c (at ks [] K (laid b (with_at l (NumberAt t) (Bits (I64 (number_word x))))) F k (beside_state p deepest ks F σ)) →
+      Reached p deepest ks F b M 16 σ.turns c (Converted q i w t (Answered (answer.Of sort.Number)) k K l) (Away p deepest ks F b d K) (Gives x σ)
+  coded q i w t d k K l x σ ft e g = there u M 16 7 _ _ x σ (Converted q i w t (Answered (answer.Of sort.Number)) k K l) (Away p deepest ks F b d K) g (omega arith) (conv_number q i w t k K l x σ ft e)
+
+  -- A temporary is converted to what is wanted, or the function is left.
+  pub converted_ok : (f : Form) (s : Sort) (x : Holds f) (q i w t d : ℕ) (k : Instructions) (K : List Label) (l : Locals) (σ : State) → fits f s ≡ true → t < q → t < b.temporaries → Fit p deepest ks F q i w l σ → HoldsAt f t l x →
+      Reached p deepest ks F b M 16 σ.turns (at ks [] K (laid b l) F (Small.converted b f s t d k) (beside_state p deepest ks F σ)) (Converted q i w t (Answered (answer.Of s)) k K l) (Away p deepest ks F b d K) (settled (converted f s x) σ)
+  converted_ok (Answered (answer.Of sort.Value)) sort.Value x q i w t d k K l σ e lq lt ft hd = there u M 16 0 _ _ x σ (Converted q i w t (Answered (answer.Of sort.Value)) k K l) (Away p deepest ks F b d K) stays (omega arith) (conv_self q i w t (Answered (answer.Of sort.Value)) k K l x σ ft hd)
+  converted_ok (Answered (answer.Of sort.Number)) sort.Value x q i w t d k K l σ e lq lt ft hd =
+      there u M 16 3 _ _ (numeric x) σ (Converted q i w t (Answered (answer.Of sort.Value)) k K l) (Away p deepest ks F b d K) (boxed_number_ok p deepest ks F b l t σ x lt hd.1 (ap is_owned hd.0)) (omega arith) (conv_hand q i w t k K l (numeric x) σ lq ft)
+  converted_ok (Answered answer.Truth) sort.Value x q i w t d k K l σ e lq lt ft hd =
+      there u M 16 3 _ _ (numeric (truth_number x)) σ (Converted q i w t (Answered (answer.Of sort.Value)) k K l) (Away p deepest ks F b d K) (boxed_number_ok p deepest ks F b l t σ (truth_number x) lt (hd.1 ∙ ap (λ m. Bits (I64 m)) (flag_word x)) (ap is_owned hd.0)) (omega arith)
+      (conv_hand q i w t k K l (numeric (truth_number x)) σ lq ft)
+  converted_ok Bare sort.Value x q i w t d k K l σ e lq lt ft hd = bare_boxed q i w t d k K l x σ lq lt ft hd (bare_is x)
+  converted_ok Perhaps sort.Value x q i w t d k K l σ e lq lt ft hd =
+      let y = boxed_perhaps_ok p deepest ks F b k K l t (perhaps x) σ (boxed Perhaps x) lt hd.1 (ap is_owned hd.0) (perhaps_is x) in
+      there u M 16 y.steps _ _ (boxed Perhaps x) σ (Converted q i w t (Answered (answer.Of sort.Value)) k K l) (Away p deepest ks F b d K) y.goes (omega (arith, y.few)) (conv_hand q i w t k K l (boxed Perhaps x) σ lq ft)
+  converted_ok (Answered (answer.Of sort.Value)) sort.Number x q i w t d k K l σ e lq lt ft hd = within u M 6 16 σ.turns _ (Converted q i w t (Answered (answer.Of sort.Number)) k K l) (Away p deepest ks F b d K) (settled (number_of_row x) σ) (omega arith) (value_numbered q i w t d k K l x σ lq lt ft hd.0)
+  converted_ok (Answered (answer.Of sort.Number)) sort.Number x q i w t d k K l σ e lq lt ft hd = there u M 16 0 _ _ x σ (Converted q i w t (Answered (answer.Of sort.Number)) k K l) (Away p deepest ks F b d K) stays (omega arith) (conv_self q i w t (Answered (answer.Of sort.Number)) k K l x σ ft hd)
+  converted_ok (Answered answer.Truth) sort.Number x q i w t d k K l σ e lq lt ft hd =
+      there u M 16 0 _ _ (truth_number x) σ (Converted q i w t (Answered (answer.Of sort.Number)) k K l) (Away p deepest ks F b d K) stays (omega arith)
+      (conv_self q i w t (Answered (answer.Of sort.Number)) k K l (truth_number x) σ ft (hd.0, hd.1 ∙ ap (λ m. Bits (I64 m)) (flag_word x)))
+  converted_ok (Answered answer.Input) sort.Number input.End q i w t d k K l σ e lq lt ft hd = coded q i w t d k K l zero_number σ ft hd.0 (code_number_ok p deepest ks F b k K l t 0 0 σ lt hd.1 (λ vs. refl))
+  converted_ok (Answered answer.Input) sort.Number input.Read q i w t d k K l σ e lq lt ft hd = coded q i w t d k K l one_number σ ft hd.0 (code_number_ok p deepest ks F b k K l t 1 1 σ lt hd.1 (λ vs. refl))
+  converted_ok (Answered answer.Input) sort.Number input.Pending q i w t d k K l σ e lq lt ft hd = coded q i w t d k K l zero_number σ ft hd.0 (code_number_ok p deepest ks F b k K l t 2 0 σ lt hd.1 (λ vs. refl))
+  converted_ok (Answered answer.Input) sort.Number input.Failed q i w t d k K l σ e lq lt ft hd = coded q i w t d k K l minus_one σ ft hd.0 (code_number_ok p deepest ks F b k K l t 3 (2 ^ 64 - 1) σ lt hd.1 (λ vs. refl))
+  converted_ok (Answered answer.Close) sort.Number close.Closed q i w t d k K l σ e lq lt ft hd = coded q i w t d k K l zero_number σ ft hd.0 (code_number_ok p deepest ks F b k K l t 0 0 σ lt hd.1 (λ vs. refl))
+  converted_ok (Answered answer.Close) sort.Number close.NothingOpen q i w t d k K l σ e lq lt ft hd = coded q i w t d k K l minus_one σ ft hd.0 (code_number_ok p deepest ks F b k K l t 3 (2 ^ 64 - 1) σ lt hd.1 (λ vs. refl))
+  converted_ok Bare sort.Number x q i w t d k K l σ e lq lt ft hd = within u M 10 16 σ.turns _ (Converted q i w t (Answered (answer.Of sort.Number)) k K l) (Away p deepest ks F b d K) (settled (number_of_row x) σ) (omega arith) (bare_numbered q i w t d k K l x σ lq lt ft hd (bare_is x))
+  converted_ok (Answered (answer.Of sort.Array)) sort.Array x q i w t d k K l σ e lq lt ft hd = there u M 16 0 _ _ x σ (Converted q i w t (Answered (answer.Of sort.Array)) k K l) (Away p deepest ks F b d K) stays (omega arith) (conv_self q i w t (Answered (answer.Of sort.Array)) k K l x σ ft hd)
+  converted_ok f s x q i w t d k K l σ e lq lt ft hd = cc
