@@ -12,3 +12,4 @@ pub mod Answers
 pub mod HostLaws
 pub mod Conversions
 pub mod Converting
+pub mod Arrays
