@@ -13,3 +13,4 @@ pub mod HostLaws
 pub mod Conversions
 pub mod Converting
 pub mod Arrays
+pub mod Simulation
