@@ -14,3 +14,4 @@ pub mod Conversions
 pub mod Converting
 pub mod Arrays
 pub mod Simulation
+pub mod Operands

@@ -20,7 +20,7 @@ use Rattle.mid_code.specs.Mid.{Kind, Boxed, Unboxed, Many, Program, Declared, Ro
 use Rattle.mid_code.specs.MidMeaning.{Holds, Env}
 use Rattle.mid_code.specs.Names.{ArrayName, Numbered, Given}
 use Rattle.mid_code.specs.ScriptState.{State, Stop, Faulted, OutOfTurns, TooDeep, Nexted, Exited, Returned, Local, Scalar, value_in_local, array_in_local, local_value, local_array}
-use Rattle.mid_code.specs.Sorted.{Held as Standing, There, Moved, Misused, has_kind, kinds_of, arrays_among}
+use Rattle.mid_code.specs.Sorted.{Held as Standing, There, Moved, Misused, has_kind, kinds_of, arrays_among, context_of, is_array_place}
 use Rattle.value_machine.specs.Cells.{Cell, Bits, Held, IteratorOf, OwnedArray, LentArray, is_owned}
 use Rattle.value_machine.specs.ImportCalls.{input_code, close_code}
 use Rattle.value_machine.specs.Machine.{Conf, Deep, Label, Frame, Store, at, br, owner_waits}
@@ -65,17 +65,23 @@ abbrev pub array_at : ArrayName → State → ℕ
 array_at (Numbered i) σ = i
 array_at (Given i) σ = local_array i σ
 
--- an array has no temporary: its name says where it is
-abbrev pub Meant : (f : Form) → Holds f → ArrayName → State → Type 0
-Meant (Answered (answer.Of sort.Array)) x a σ = array_at a σ ≡ x
-Meant f x a σ = Unit {0}
-
 -- What is kept: in temporaries, the last one first. What was moved away need not be there.
+
+-- a handle may have been moved away, or not; where there is none, none comes
+abbrev pub LeftBy : Form → Cell → Type 0
+LeftBy (Answered (answer.Of sort.Value)) c = Unit {0}
+LeftBy Bare c = Unit {0}
+LeftBy f c = c ≡ empty
+
+pub hand_left : (f : Form) (x : Holds f) (c : Cell) → c ≡ hand_of f x → LeftBy f c
+hand_left (Answered (answer.Of sort.Value)) x c e = tt
+hand_left Bare x c e = tt
+hand_left _ x c e = e
 
 abbrev pub KeptAs : Standing → (f : Form) → ℕ → Locals → Holds f → Type 0
 KeptAs There f t l x = HoldsAt f t l x
-KeptAs Moved f t l x = Unit {0}
-KeptAs Misused f t l x = Unit {0}
+KeptAs Moved f t l x = LeftBy f (l.hand t)
+KeptAs Misused f t l x = LeftBy f (l.hand t)
 
 abbrev pub Kept : (fs : List Form) → List ℕ → (ℕ → Standing) → Locals → Env fs → Type 0
 Kept [] [] st l env = Unit {0}
@@ -134,8 +140,8 @@ kept_same (f ∷ fs) (s ∷ ts) st l l1 env t bl h n k =
   where
     one : (m : Standing) → KeptAs m f s l env.0 → KeptAs m f s l1 env.0
     one There q = (h s bl.0 ∙ q.0, subst (λ c. WordIs f env.0 c) (sym (n s bl.0)) q.1)
-    one Moved q = tt
-    one Misused q = tt
+    one Moved q = subst (LeftBy f) (sym (h s bl.0)) q
+    one Misused q = subst (LeftBy f) (sym (h s bl.0)) q
 
 -- of a name that is announced: its kind for the command line
 abbrev pub kind_told : Kind → NameKind
@@ -172,6 +178,11 @@ module _ (p : Program) (deepest : ℕ) (ks : List Kind) (F : List Frame) where
 
   abbrev pub IsArray : ℕ → Cell → Type 0
   IsArray a c = ((a < 2) × (c ≡ Bits (I32 a))) ⊎ ((c ≡ LentArray a) × Lives a)
+
+  -- an array has no temporary: its name says where it is
+  abbrev pub Meant : (f : Form) → Holds f → ArrayName → State → Type 0
+  Meant (Answered (answer.Of sort.Array)) x a σ = (array_at a σ ≡ x) × (is_array_place (context_of p ks) a ≡ true)
+  Meant f x a σ = Unit {0}
 
   abbrev pub ParamIs : Kind → Local → Cell → Type 0
   ParamIs Boxed o c = c ≡ Held (value_in_local o)

@@ -71,6 +71,12 @@ past_from t (At e es) = let r = past_from (suc t) es in omega (arith, r)
 past_from t (Fixed m es) = past_from t es
 past_from t (Fresh es) = past_from t es
 
+pub made_from : (w : ℕ) (es : Codes) → w ≤ made_past w es
+made_from w End = omega arith
+made_from w (At e es) = made_from w es
+made_from w (Fixed m es) = made_from w es
+made_from w (Fresh es) = let r = made_from (suc w) es in omega (arith, r)
+
 pub past_room : (t : ℕ) (es : Codes) → past t es ≤ t + rooms es
 past_room t End = omega arith
 past_room t (At e es) = let r = past_room (suc t) es in omega (arith, r)
@@ -145,7 +151,7 @@ module _ (p : Program) (deepest : ℕ) (ks : List Kind) (F : List Frame) (b : Ba
     pub own : SameOwn p deepest ks F σ σ1
     pub kept : Kept fs ts (λ i. held_after i e (st i)) next env
     pub stands : StandsAt (gives_away v e) (form_of fs e) t next x
-    pub meant : Meant (form_of fs e) x (array_meant e) σ1
+    pub meant : Meant p deepest ks F (form_of fs e) x (array_meant e) σ1
 
   -- code does what it means
   abbrev pub ExprOk : Code → Type 0
@@ -156,7 +162,7 @@ module _ (p : Program) (deepest : ℕ) (ks : List Kind) (F : List Frame) (b : Ba
   -- Operands: each in the next temporary; an array that is made for a call is in its local.
   abbrev pub AllHeld : (fs : List Form) → (es : Codes) → (t w : ℕ) → Locals → State → Values fs es → Type 0
   AllHeld fs End t w l σ vs = Unit {0}
-  AllHeld fs (At e es) t w l σ vs = HoldsAt (form_of fs e) t l vs.0 × Meant (form_of fs e) vs.0 (array_meant e) σ × AllHeld fs es (suc t) w l σ vs.1
+  AllHeld fs (At e es) t w l σ vs = HoldsAt (form_of fs e) t l vs.0 × Meant p deepest ks F (form_of fs e) vs.0 (array_meant e) σ × AllHeld fs es (suc t) w l σ vs.1
   AllHeld fs (Fixed m es) t w l σ vs = AllHeld fs es t w l σ vs
   AllHeld fs (Fresh es) t w l σ vs = (l.array w ≡ OwnedArray vs.0) × AllHeld fs es t (suc w) l σ vs.1
 
@@ -177,6 +183,6 @@ module _ (p : Program) (deepest : ℕ) (ks : List Kind) (F : List Frame) (b : Ba
   -- they stand there as a row of arguments
   abbrev pub RowAt : (wanted : List Argument) → Codes → ℕ → Locals → State → Row wanted → Type 0
   RowAt [] End t l σ r = Unit {0}
-  RowAt (argument.Of s ∷ rest) (At e es) t l σ r = HoldsAt (Answered (answer.Of s)) t l r.0 × Meant (Answered (answer.Of s)) r.0 (array_meant e) σ × RowAt rest es (suc t) l σ r.1
+  RowAt (argument.Of s ∷ rest) (At e es) t l σ r = HoldsAt (Answered (answer.Of s)) t l r.0 × Meant p deepest ks F (Answered (answer.Of s)) r.0 (array_meant e) σ × RowAt rest es (suc t) l σ r.1
   RowAt (argument.Constant c ∷ rest) (Fixed m es) t l σ r = (constant_at c m ≡ Some r.0) × RowAt rest es t l σ r.1
   RowAt wanted es t l σ r = ⊥
