@@ -15,3 +15,4 @@ pub mod Converting
 pub mod Arrays
 pub mod Simulation
 pub mod Operands
+pub mod Arguments

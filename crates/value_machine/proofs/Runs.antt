@@ -1,9 +1,11 @@
 -- Runs of the machine: some steps, and then some more; what they stand for in turns; and what it is to arrive where a script's doing leads.
-use Rattle.std.proofs.Common.{◌≡◌, ℕ, zero, suc, ◌+◌, ◌-◌, ◌*◌, ◌≤◌, Some, refl, sym, ap, ◌∙◌, arith}
+use Rattle.std.proofs.Common.{◌≡◌, ℕ, zero, suc, ◌+◌, ◌-◌, ◌*◌, ◌≤◌, Some, Result, Ok, Err, refl, sym, ap, ◌∙◌, arith}
 use Rattle.world_core.specs.WorldState.{Action}
 use Rattle.std.specs.Prelude.{List}
+use Rattle.awk_values.specs.declared.fault.Fault.{Fault}
+use Rattle.mid_code.specs.MidMeaning.{then_row}
 use Rattle.mid_code.specs.ScriptRun.{GoesOn}
-use Rattle.mid_code.specs.ScriptState.{State, Stop, Faulted, OutOfTurns, TooDeep, Nexted, Exited, Returned, Outcome, Gives, Stops, Doing, go_on, spent}
+use Rattle.mid_code.specs.ScriptState.{State, Stop, Faulted, OutOfTurns, TooDeep, Nexted, Exited, Returned, Outcome, Gives, Stops, Doing, go_on, settled, spent}
 use Rattle.value_machine.specs.Machine.{Code, Conf, step, go, carried_at, turns_within, ending_at}
 
 pub go_add : (u : Code) (i j : ℕ) (c : Conf) → go u (i + j) c ≡ go u j (go u i c)
@@ -132,6 +134,15 @@ module _ (u : Code) (M : ℕ) where
   pub then_on : {A B : Type 0} → (w w1 w' l : ℕ) (c : Conf) (P : A → State → Conf → Type 0) (P1 : B → State → Conf → Type 0) (Q : Stop → State → Conf → Type 0) (r : Outcome A) (f : A → Doing B) → w + w1 ≤ w' → Arrives w l c P Q r → ((a : A) (σ : State) (c1 : Conf) → σ.turns ≤ l → P a σ c1 → Arrives w1 σ.turns c1 P1 Q (f a σ)) → Arrives w' l c P1 Q (go_on r f)
   then_on w w1 w' l c P P1 Q (Gives a σ) f h r next = arrives_after r.steps w1 w' l σ.turns c r.conf P1 Q (f a σ) r.goes (record { down = r.cost.down; paid = r.cost.paid; few = omega (arith, r.cost.few, h) }) (next a σ r.conf r.cost.down r.holds)
   then_on w w1 w' l c P P1 Q (Stops why σ) f h r next = halts_after 0 w w' l l c c Q why σ refl (record { down = omega arith; paid = omega arith; few = omega (arith, h) }) r
+
+  -- the same for what only settles something, and leaves the state alone
+  pub then_settled : {A B : Type 0} → (w w1 w' : ℕ) (c : Conf) (σ : State) (P : A → State → Conf → Type 0) (P1 : B → State → Conf → Type 0) (Q : Stop → State → Conf → Type 0) (r : Result A Fault) (f : A → Doing B) → w + w1 ≤ w' → Arrives w σ.turns c P Q (settled r σ) → ((a : A) (c1 : Conf) → r ≡ Ok a → P a σ c1 → Arrives w1 σ.turns c1 P1 Q (f a σ)) → Arrives w' σ.turns c P1 Q (go_on (settled r σ) f)
+  then_settled w w1 w' c σ P P1 Q (Ok a) f h r next = arrives_after r.steps w1 w' σ.turns σ.turns c r.conf P1 Q (f a σ) r.goes (record { down = omega arith; paid = omega arith; few = omega (arith, r.cost.few, h) }) (next a r.conf refl r.holds)
+  then_settled w w1 w' c σ P P1 Q (Err x) f h r next = halts_after 0 w w' σ.turns σ.turns c c Q (Faulted x) σ refl (record { down = omega arith; paid = omega arith; few = omega (arith, h) }) r
+
+  pub then_both : {A B : Type 0} → (w w1 w' : ℕ) (c : Conf) (σ : State) (P : A → State → Conf → Type 0) (P1 : B → State → Conf → Type 0) (Q : Stop → State → Conf → Type 0) (r : Result A Fault) (f : A → Result B Fault) → w + w1 ≤ w' → Arrives w σ.turns c P Q (settled r σ) → ((a : A) (c1 : Conf) → r ≡ Ok a → P a σ c1 → Arrives w1 σ.turns c1 P1 Q (settled (f a) σ)) → Arrives w' σ.turns c P1 Q (settled (then_row r f) σ)
+  then_both w w1 w' c σ P P1 Q (Ok a) f h r next = arrives_after r.steps w1 w' σ.turns σ.turns c r.conf P1 Q (settled (f a) σ) r.goes (record { down = omega arith; paid = omega arith; few = omega (arith, r.cost.few, h) }) (next a r.conf refl r.holds)
+  then_both w w1 w' c σ P P1 Q (Err x) f h r next = halts_after 0 w w' σ.turns σ.turns c c Q (Faulted x) σ refl (record { down = omega arith; paid = omega arith; few = omega (arith, h) }) r
 
   reaches_weaker : (w l l2 : ℕ) (c : Conf) (P P1 : Conf → Type 0) → ((c1 : Conf) → P c1 → P1 c1) → Reaches w l c l2 P → Reaches w l c l2 P1
   reaches_weaker w l l2 c P P1 f r = record { conf = r.conf; steps = r.steps; goes = r.goes; cost = r.cost; holds = f r.conf r.holds }

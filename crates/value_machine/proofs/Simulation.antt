@@ -23,17 +23,24 @@ use Rattle.value_machine.proofs.Steps.{empty}
 use Rattle.value_machine.proofs.Relation.{HoldsAt, Meant, Kept, Below, Same, Fit, SameOwn, Away}
 use Rattle.value_machine.proofs.Answers.{machine, beside_state, Reached}
 
+-- What becomes of operands once they are there.
+abbrev pub extra_of : Codes → ℕ
+extra_of End = 0
+extra_of (At e es) = 30 + extra_of es
+extra_of (Fixed m es) = extra_of es
+extra_of (Fresh es) = 30 + extra_of es
+
 -- How many steps code takes at most, beside those that turns pay.
 abbrev mutual
   pub work_of : Code → ℕ
-  work_of (Do o es) = 60 + works_of es
-  work_of (Over l es) = 60 + works_of es
+  work_of (Do o es) = 60 + (works_of es + extra_of es)
+  work_of (Over l es) = 60 + (works_of es + extra_of es)
   work_of (Compare c a b) = 80 + (work_of a + work_of b)
-  work_of (Call f es) = 60 + works_of es
+  work_of (Call f es) = 60 + (works_of es + extra_of es)
   work_of Ask = 60
   work_of (AskLine s) = 80 + work_of s
   work_of (FileLine e s) = 80 + (work_of e + work_of s)
-  work_of (Replace all es s) = 80 + (works_of es + work_of s)
+  work_of (Replace all es s) = 80 + (works_of es + (extra_of es + work_of s))
   work_of (Number z) = 1
   work_of (Text i) = 2
   work_of Unset = 1
@@ -48,9 +55,9 @@ abbrev mutual
 
   pub works_of : Codes → ℕ
   works_of End = 0
-  works_of (At e es) = 30 + (work_of e + works_of es)
+  works_of (At e es) = work_of e + works_of es
   works_of (Fixed m es) = works_of es
-  works_of (Fresh es) = 20 + works_of es
+  works_of (Fresh es) = 2 + works_of es
 
 -- the temporary behind operands, and the array behind those that are made
 abbrev pub past : ℕ → Codes → ℕ
