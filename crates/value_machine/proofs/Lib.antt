@@ -16,3 +16,4 @@ pub mod Arrays
 pub mod Simulation
 pub mod Operands
 pub mod Arguments
+pub mod HostCalls

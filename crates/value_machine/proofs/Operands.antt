@@ -20,7 +20,7 @@ use Rattle.value_machine.proofs.Runs.{Goes, stays, goes_to, there, first, then_o
 use Rattle.value_machine.proofs.Locals.{Locals, laid}
 use Rattle.value_machine.proofs.Relation.{HoldsAt, Meant, WordIs, hand_of, Kept, Below, Outside, outside_below, below_more, Same, same_self, same_then, Fit, SameOwn, Away, array_at}
 use Rattle.value_machine.proofs.Answers.{machine, beside_state, Reached}
-use Rattle.value_machine.proofs.Simulation.{work_of, works_of, past, made_past, past_from, made_from, past_room, room_one, StandsAt, layout, context, meant, all_meant, Ready, WellUsed, Done, ExprOk, AllHeld, AllDone, CodesOk}
+use Rattle.value_machine.proofs.Simulation.{work_of, works_of, past, made_past, past_from, made_from, past_room, room_one, StandsAt, still_stands, layout, context, meant, all_meant, Ready, WellUsed, Done, ExprOk, AllHeld, AllDone, CodesOk}
 
 pub holds_same : (f : Form) (t : ℕ) (l l1 : Locals) (x : Holds f) → l1.hand t ≡ l.hand t → l1.number t ≡ l.number t → HoldsAt f t l x → HoldsAt f t l1 x
 holds_same f t l l1 x e e1 q = (e ∙ q.0, subst (λ c. WordIs f x c) (sym e1) q.1)
@@ -138,7 +138,7 @@ module _ (p : Program) (deepest : ℕ) (ks : List Kind) (F : List Frame) (b : Ba
         own = λ i h. a2.own i h ∙ a.own i h;
         kept = a2.kept;
         held = (
-          holds_same (form_of fs e) t a.next a2.next v (a2.same.hands t (omega arith) (outside_below t t ts r.below (omega arith))) (a2.same.numbers t (omega arith)) a.stands,
+          holds_same (form_of fs e) t a.next a2.next v (a2.same.hands t (omega arith) (outside_below t t ts r.below (omega arith))) (a2.same.numbers t (omega arith)) (still_stands e (form_of fs e) t a.next v a.stands),
           meant_same (form_of fs e) v (array_meant e) τ τ1 a2.own a.meant,
           a2.held,
         );

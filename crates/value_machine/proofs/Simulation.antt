@@ -116,13 +116,17 @@ room_one (Let a b) = let r = room_one a in omega (arith, r)
 room_one (Bound m i) = omega arith
 
 -- whether the answer was given away: an assignment that is evaluated for what it does alone moves its value
-abbrev pub gives_away : Bool → Code → Bool
-gives_away true (Set x e) = true
-gives_away _ e = false
+abbrev pub gives_away : Code → Bool → Bool
+gives_away (Set x e) v = v
+gives_away e v = false
 
 abbrev pub StandsAt : Bool → (f : Form) → ℕ → Locals → Holds f → Type 0
 StandsAt true f t l x = l.hand t ≡ empty
 StandsAt false f t l x = HoldsAt f t l x
+
+pub still_stands : (e : Code) (f : Form) (t : ℕ) (l : Locals) (x : Holds f) → StandsAt (gives_away e false) f t l x → HoldsAt f t l x
+still_stands (Set y e) f t l x q = q
+still_stands _ f t l x q = q
 
 module _ (p : Program) (deepest : ℕ) (ks : List Kind) (F : List Frame) (b : Bases) (M n : ℕ) where
   abbrev pub context : Context
@@ -157,7 +161,7 @@ module _ (p : Program) (deepest : ℕ) (ks : List Kind) (F : List Frame) (b : Ba
     pub same : Same ts t w l next
     pub own : SameOwn p deepest ks F σ σ1
     pub kept : Kept fs ts (λ i. held_after i e (st i)) next env
-    pub stands : StandsAt (gives_away v e) (form_of fs e) t next x
+    pub stands : StandsAt (gives_away e v) (form_of fs e) t next x
     pub meant : Meant p deepest ks F (form_of fs e) x (array_meant e) σ1
 
   -- code does what it means
