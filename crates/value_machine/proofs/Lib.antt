@@ -17,3 +17,5 @@ pub mod Simulation
 pub mod Operands
 pub mod Arguments
 pub mod HostCalls
+pub mod Expressions
+pub mod Leaves

@@ -182,6 +182,11 @@ module _ (u : Code) (M : ℕ) where
   then_step j w w' l c P P1 Q (Gives a σ) h f r = reaches_on j w w' l σ.turns c (P a σ) (P1 a σ) h (f a σ) r
   then_step j w w' l c P P1 Q (Stops why σ) h f r = halts_after 0 w w' l l c c Q why σ refl (record { down = omega arith; paid = omega arith; few = omega (arith, h) }) r
 
+  -- the same where only something is settled
+  pub weaker_settled : {A : Type 0} → (w : ℕ) (c : Conf) (σ : State) (P P1 : A → State → Conf → Type 0) (Q : Stop → State → Conf → Type 0) (r : Result A Fault) → ((a : A) (c1 : Conf) → P a σ c1 → P1 a σ c1) → Arrives w σ.turns c P Q (settled r σ) → Arrives w σ.turns c P1 Q (settled r σ)
+  weaker_settled w c σ P P1 Q (Ok a) f r = reaches_weaker w σ.turns σ.turns c (P a σ) (P1 a σ) (f a) r
+  weaker_settled w c σ P P1 Q (Err x) f r = r
+
   -- some steps, and there
   pub there : {A : Type 0} → (w j : ℕ) (c c1 : Conf) (a : A) (σ : State) (P : A → State → Conf → Type 0) (Q : Stop → State → Conf → Type 0) → Goes u j c c1 → j ≤ w → P a σ c1 → Arrives w σ.turns c P Q (Gives a σ)
   there w j c c1 a σ P Q g h p = record { conf = c1; steps = j; goes = g.it; cost = record { down = omega arith; paid = omega arith; few = omega (arith, h) }; holds = p }
