@@ -162,6 +162,8 @@ module _ (p : Program) (deepest : ℕ) (ks : List Kind) (F : List Frame) (b : Ba
   conv_closes : (q i w t : ℕ) (f : Form) (k : Instructions) (K : List Label) (l : Locals) (x : Holds f) (σ : State) (c : Conf) → Converted q i w t f Done (label [] None k ∷ K) l x σ c → Onward u M 1 (Converted q i w t f k K l x σ) c
   conv_closes q i w t f k K l x σ c a = record {
     conf = at ks [] K (laid b a.next) F k (beside_state p deepest ks F σ);
+    steps = 1;
+    few = omega arith;
     goes = goes_from a.comes closes;
     holds = record { next = a.next; comes = refl; fit = a.fit; keeps = a.keeps; holds = a.holds };
   }

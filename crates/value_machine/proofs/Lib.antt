@@ -19,3 +19,4 @@ pub mod Arguments
 pub mod HostCalls
 pub mod Expressions
 pub mod Leaves
+pub mod Keeping

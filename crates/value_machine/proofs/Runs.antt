@@ -160,21 +160,23 @@ module _ (u : Code) (M : ℕ) where
   weaker w l c P P1 Q Q1 (Gives a σ) f g r = reaches_weaker w l σ.turns c (P a σ) (P1 a σ) (f a σ) r
   weaker w l c P P1 Q Q1 (Stops why σ) f g r = halts_weaker w l c Q Q1 why σ g r
 
-  -- steps after
+  -- at most j steps after
   pub record Onward (j : ℕ) (P : Conf → Type 0) (c : Conf) : Type 0 where
     pub conf : Conf
-    pub goes : Goes u j c conf
+    pub steps : ℕ
+    pub few : steps ≤ j
+    pub goes : Goes u steps c conf
     pub holds : P conf
 
   reaches_on : (j w w' l l2 : ℕ) (c : Conf) (P P1 : Conf → Type 0) → w + j ≤ w' → ((c1 : Conf) → P c1 → Onward j P1 c1) → Reaches w l c l2 P → Reaches w' l c l2 P1
   reaches_on j w w' l l2 c P P1 h f r =
       let o = f r.conf r.holds in
-      let t = turns_add u r.steps j c in
+      let t = turns_add u r.steps o.steps c in
       record {
         conf = o.conf;
-        steps = r.steps + j;
-        goes = go_add u r.steps j c ∙ (ap (go u j) r.goes ∙ o.goes.it);
-        cost = record { down = r.cost.down; paid = omega (arith, r.cost.paid, t); few = omega (arith, r.cost.few, h) };
+        steps = r.steps + o.steps;
+        goes = go_add u r.steps o.steps c ∙ (ap (go u o.steps) r.goes ∙ o.goes.it);
+        cost = record { down = r.cost.down; paid = omega (arith, r.cost.paid, t); few = omega (arith, r.cost.few, h, o.few) };
         holds = o.holds;
       }
 
