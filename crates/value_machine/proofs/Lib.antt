@@ -20,3 +20,4 @@ pub mod HostCalls
 pub mod Expressions
 pub mod Leaves
 pub mod Keeping
+pub mod Copies
