@@ -6,7 +6,7 @@ use Rattle.awk_state.specs.declared.sorts.Answer.{Answer}
 use Rattle.awk_state.specs.declared.sorts.Answer.TheVariants as answer
 use Rattle.awk_state.specs.declared.sorts.Sort.TheVariants as sort
 use Rattle.wasm_types.specs.Syntax.{Instructions}
-use Rattle.mid_code.specs.Mid.{Kind, Program, Form, Answered, Bare, Perhaps, Code, Set, Seq, Let, form_of}
+use Rattle.mid_code.specs.Mid.{Kind, Program, Form, Answered, Bare, Perhaps, Code, Set, Seq, Let, form_of, form_at}
 use Rattle.mid_code.specs.MidMeaning.{Holds, Env, evaluated, all_evaluated}
 use Rattle.mid_code.specs.ScriptState.{State, Outcome, Doing, go_on}
 use Rattle.mid_code.specs.Sorted.{Held as Standing, There, Moved, Misused, context_of, sorted, all_sorted, held_after, held_after_all, is_well_used, is_dropped, is_kept, keeps_well}
@@ -24,7 +24,7 @@ use Rattle.value_machine.proofs.Steps.{empty, set_ok, get_copied, moved_out_ok}
 use Rattle.value_machine.proofs.Relation.{IsHand, HoldsAt, hand_of, WordIs, Meant, LeftBy, hand_left, KeptAs, Kept, kept_same, Below, below_more, Outside, outside_below, Same, same_then, same_self, Fit, fit_less, fit_hand, fit_number, SameOwn, Away}
 use Rattle.value_machine.proofs.Pieces.{drop_ok, let_go_hand}
 use Rattle.value_machine.proofs.Answers.{machine, beside_state, Reached}
-use Rattle.value_machine.proofs.Simulation.{work_of, gives_away, StandsAt, still_stands, layout, context, meant, Ready, WellUsed, Done, ExprOk, room_one}
+use Rattle.value_machine.proofs.Simulation.{work_of, gives_away, StandsAt, still_stands, layout, context, meant, Ready, WellUsed, Done, ExprOk, room_one, NoArray}
 use Rattle.value_machine.proofs.Operands.{holds_same, well_before}
 use Rattle.value_machine.proofs.Arguments.{Under, under_self, under_then, under_keeps, under_same}
 use Rattle.value_machine.proofs.Converting.{Keeps, keeps_self, keeps_then, keeps_hand, keeps_number}
@@ -42,6 +42,10 @@ abbrev pub LeftHand : Form → Cell → Cell
 LeftHand (Answered (answer.Of sort.Value)) c = empty
 LeftHand Bare c = empty
 LeftHand f c = c
+
+kept_plain : (g : Form) → is_kept g ≡ true → NoArray g
+kept_plain (Answered (answer.Of sort.Array)) e = absurd cc
+kept_plain g e = tt
 
 -- one more is kept
 abbrev pub consed : Standing → (ℕ → Standing) → ℕ → Standing
@@ -124,7 +128,7 @@ module _ (p : Program) (deepest : ℕ) (ks : List Kind) (F : List Frame) (b : Ba
       })
       (λ why τ1 c2 q. q)
       (okc false fs env ts st1 t u w d k K g.next τ s2.1 us (omega (arith, rm)) (omega (arith, ar))
-      (record { below = rd.below; kept = kept_same fs ts st1 h.next g.next env t rd.below (λ y lt. g.keeps.hands y (λ z. omega (arith, z, lt))) (λ y lt. g.keeps.numbers y (λ z. omega (arith, z, lt))) h.kept; fit = g.fit; turns = omega (arith, le, rd.turns); parameters = rd.parameters }))))
+      (record { below = rd.below; kept = kept_same fs ts st1 h.next g.next env t rd.below (λ y lt. g.keeps.hands y (λ z. omega (arith, z, lt))) (λ y lt. g.keeps.numbers y (λ z. omega (arith, z, lt))) h.kept; fit = g.fit; turns = omega (arith, le, rd.turns); parameters = rd.parameters; plain = rd.plain }))))
 
   -- Moves from one temporary to another.
 
@@ -142,7 +146,7 @@ module _ (p : Program) (deepest : ℕ) (ks : List Kind) (F : List Frame) (b : Ba
     pub fit : (q u w : ℕ) → s < q → t < q → Fit p deepest ks F q u w l σ → Fit p deepest ks F q u w next σ
 
   -- a number is copied
-  copied_ok : {k : Instructions} {K : List Label} → (s t : ℕ) (l : Locals) (σ : State) → s < b.temporaries → t < b.temporaries → is_owned (l.number s) ≡ false → is_owned (l.number t) ≡ false →
+  pub copied_ok : {k : Instructions} {K : List Label} → (s t : ℕ) (l : Locals) (σ : State) → s < b.temporaries → t < b.temporaries → is_owned (l.number s) ≡ false → is_owned (l.number t) ≡ false →
       Goes (machine p deepest ks F) 2 (at ks [] K (laid b l) F (number_copied b s t k) (beside_state p deepest ks F σ)) (at ks [] K (laid b (with_at l (NumberAt t) (l.number s))) F k (beside_state p deepest ks F σ))
   copied_ok s t l σ ls lt os ot = then_goes (get_copied b l (NumberAt s) (l.number s) ls refl (unowned_left (l.number s) os)) (set_ok b l (NumberAt t) (l.number s) lt ot)
 
@@ -222,7 +226,7 @@ module _ (p : Program) (deepest : ℕ) (ks : List Kind) (F : List Frame) (b : Ba
   released_ok f t k K l σ lt hd q = record { next = l; steps = 0; few = omega arith; goes = stays; hand = q; keeps = keeps_self t l; fit = λ q u w lq g. g }
 
   -- where a temporary is empty a move leaves nothing behind
-  left_empty : (f : Form) (x : Holds f) (c d : Cell) → c ≡ hand_of f x → d ≡ LeftHand f c → d ≡ empty
+  pub left_empty : (f : Form) (x : Holds f) (c d : Cell) → c ≡ hand_of f x → d ≡ LeftHand f c → d ≡ empty
   left_empty (Answered (answer.Of sort.Value)) x c d e q = q
   left_empty Bare x c d e q = q
   left_empty f x c d e q = q ∙ e
@@ -304,8 +308,12 @@ module _ (p : Program) (deepest : ℕ) (ks : List Kind) (F : List Frame) (b : Ba
         };
       })
       (okc false gs env2 (t ∷ ts) st2 (suc t) u w d k3 K h1.next τ s3.1 used (omega (arith, rm)) (omega (arith, ar))
-      (record { below = (omega arith, rd.below); kept = (still_stands a g t h1.next x h1.stands, h1.kept); fit = h1.fit; turns = omega (arith, le, rd.turns); parameters = rd.parameters }))))
+      (record { below = (omega arith, rd.below); kept = (still_stands a g t h1.next x h1.stands, h1.kept); fit = h1.fit; turns = omega (arith, le, rd.turns); parameters = rd.parameters; plain = all_plain fs g s1.0 rd.plain }))))
     where
+      all_plain : (fs : List Form) (g : Form) → is_kept g ≡ true → ((i : ℕ) → NoArray (form_at fs i)) → (i : ℕ) → NoArray (form_at (g ∷ fs) i)
+      all_plain fs g e q zero = kept_plain g e
+      all_plain fs g e q (suc i) = q i
+
       inner_same : (ts : List ℕ) (t w : ℕ) (l1 l2 l3 : Locals) → Same (t ∷ ts) (suc t) w l1 l2 → Under t l2 l3 → Same ts t w l1 l3
       inner_same ts t w l1 l2 l3 s r = record {
         hands = λ y lt o. r.hands y lt ∙ s.hands y (omega (arith, lt)) ((λ e. omega (arith, e, lt)), o);

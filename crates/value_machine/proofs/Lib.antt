@@ -21,3 +21,4 @@ pub mod Expressions
 pub mod Leaves
 pub mod Keeping
 pub mod Copies
+pub mod Reading

@@ -4,13 +4,15 @@ use Rattle.std.proofs.Common.{◌≡◌, ◌⊎◌, ℕ, zero, suc, ◌+◌, ◌
 use Rattle.awk_state.specs.declared.sorts.Argument.{Argument}
 use Rattle.awk_state.specs.declared.sorts.Argument.TheVariants as argument
 use Rattle.awk_state.specs.declared.sorts.Answer.TheVariants as answer
+use Rattle.awk_state.specs.declared.sorts.Sort.TheVariants as sort
 use Rattle.awk_state.specs.Constants.{constant_at}
 use Rattle.awk_state.specs.Sorts.{Row}
 use Rattle.std.specs.Prelude.{Some, max}
 use Rattle.wasm_types.specs.Syntax.{Instructions}
 use Rattle.mid_code.specs.declared.mid.Operation.TheVariants.{Host, Inline, AsNumber, FieldNumber}
-use Rattle.mid_code.specs.Mid.{Kind, Many, Program, Form, Answered, Code, Do, Over, Compare, Call, Ask, AskLine, FileLine, Replace, Number, Text, Unset, Get, Set, Array, IsOpen, Choose, Seq, Let, Bound, Codes, End, At, Fixed, Fresh, form_of}
+use Rattle.mid_code.specs.Mid.{Kind, Many, Program, Form, Answered, Code, Do, Over, Compare, Call, Ask, AskLine, FileLine, Replace, Number, Text, Unset, Get, Set, Array, IsOpen, Choose, Seq, Let, Bound, Codes, End, At, Fixed, Fresh, form_of, form_at}
 use Rattle.mid_code.specs.MidMeaning.{Holds, Env, Values, evaluated, all_evaluated, mid_called}
+use Rattle.mid_code.specs.Names.{ArrayName}
 use Rattle.mid_code.specs.ScriptState.{State, Outcome, Doing}
 use Rattle.mid_code.specs.Sorted.{Held as Standing, Context, context_of, calls_of, has_kind, sorted, all_sorted, held_after, held_after_all, is_well_used}
 use Rattle.value_machine.specs.Cells.{Cell, OwnedArray}
@@ -120,6 +122,11 @@ abbrev pub gives_away : Code → Bool → Bool
 gives_away (Set x e) v = v
 gives_away e v = false
 
+-- what is kept is no array
+abbrev pub NoArray : Form → Type 0
+NoArray (Answered (answer.Of sort.Array)) = ⊥
+NoArray f = Unit {0}
+
 abbrev pub StandsAt : Bool → (f : Form) → ℕ → Locals → Holds f → Type 0
 StandsAt true f t l x = l.hand t ≡ empty
 StandsAt false f t l x = HoldsAt f t l x
@@ -135,6 +142,10 @@ module _ (p : Program) (deepest : ℕ) (ks : List Kind) (F : List Frame) (b : Ba
   abbrev pub layout : Layout
   layout = layout_of p b
 
+  pub plain_stands : (f : Form) (x : Holds f) (a : ArrayName) (σ : State) → NoArray f → Meant p deepest ks F f x a σ
+  plain_stands (Answered (answer.Of sort.Array)) x a σ h = absurd h
+  plain_stands f x a σ h = tt
+
   -- what code means, with n more calls inside one another
   abbrev pub meant : (fs : List Form) → Env fs → (e : Code) → Doing (Holds (form_of fs e))
   meant fs env e = evaluated p.texts (calls_of p) n (mid_called p n) fs env e
@@ -149,6 +160,7 @@ module _ (p : Program) (deepest : ℕ) (ks : List Kind) (F : List Frame) (b : Ba
     pub fit : Fit p deepest ks F t u w l σ
     pub turns : σ.turns ≤ n
     pub parameters : length ks ≡ b.parameters
+    pub plain : (i : ℕ) → NoArray (form_at fs i)
 
   abbrev pub WellUsed : List Form → (ℕ → Standing) → Type 0
   WellUsed fs st = (i : ℕ) → i < length fs → is_well_used (st i) ≡ true
