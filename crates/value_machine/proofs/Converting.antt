@@ -159,7 +159,7 @@ module _ (p : Program) (deepest : ℕ) (ks : List Kind) (F : List Frame) (b : Ba
       (weaker u M j l0 c P P (Away p deepest ks F b (suc d) (label [] None k ∷ K)) (Away p deepest ks F b d K) r (λ a σ c1 q. q) (λ why σ c1 q. away_out p deepest ks F b d (label [] None k) K why σ c1 q) a)
 
   -- at the end of a block what was converted is there still
-  conv_closes : (q i w t : ℕ) (f : Form) (k : Instructions) (K : List Label) (l : Locals) (x : Holds f) (σ : State) (c : Conf) → Converted q i w t f Done (label [] None k ∷ K) l x σ c → Onward u M 1 (Converted q i w t f k K l x σ) c
+  pub conv_closes : (q i w t : ℕ) (f : Form) (k : Instructions) (K : List Label) (l : Locals) (x : Holds f) (σ : State) (c : Conf) → Converted q i w t f Done (label [] None k ∷ K) l x σ c → Onward u M 1 (Converted q i w t f k K l x σ) c
   conv_closes q i w t f k K l x σ c a = record {
     conf = at ks [] K (laid b a.next) F k (beside_state p deepest ks F σ);
     steps = 1;

@@ -22,3 +22,4 @@ pub mod Leaves
 pub mod Keeping
 pub mod Copies
 pub mod Reading
+pub mod Choosing

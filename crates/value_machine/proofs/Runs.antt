@@ -189,6 +189,10 @@ module _ (u : Code) (M : ℕ) where
   weaker_settled w c σ P P1 Q (Ok a) f r = reaches_weaker w σ.turns σ.turns c (P a σ) (P1 a σ) (f a) r
   weaker_settled w c σ P P1 Q (Err x) f r = r
 
+  pub step_settled : {A : Type 0} → (j w w' : ℕ) (c : Conf) (σ : State) (P P1 : A → State → Conf → Type 0) (Q : Stop → State → Conf → Type 0) (r : Result A Fault) → w + j ≤ w' → ((a : A) (c1 : Conf) → P a σ c1 → Onward j (P1 a σ) c1) → Arrives w σ.turns c P Q (settled r σ) → Arrives w' σ.turns c P1 Q (settled r σ)
+  step_settled j w w' c σ P P1 Q (Ok a) h f r = reaches_on j w w' σ.turns σ.turns c (P a σ) (P1 a σ) h (f a) r
+  step_settled j w w' c σ P P1 Q (Err x) h f r = halts_after 0 w w' σ.turns σ.turns c c Q (Faulted x) σ refl (record { down = omega arith; paid = omega arith; few = omega (arith, h) }) r
+
   -- some steps, and there
   pub there : {A : Type 0} → (w j : ℕ) (c c1 : Conf) (a : A) (σ : State) (P : A → State → Conf → Type 0) (Q : Stop → State → Conf → Type 0) → Goes u j c c1 → j ≤ w → P a σ c1 → Arrives w σ.turns c P Q (Gives a σ)
   there w j c c1 a σ P Q g h p = record { conf = c1; steps = j; goes = g.it; cost = record { down = omega arith; paid = omega arith; few = omega (arith, h) }; holds = p }
