@@ -242,3 +242,54 @@ module _ (p : Program) (deepest : ℕ) (ks : List Kind) (F : List Frame) (b : Ba
       })
       (weaker mach M 16 τ.turns _ C C Q1 Q (settled (converted g s x) τ) (λ y τ1 c2 q. q) out
       (converted_ok p deepest ks F b M g s x (suc t) u w t (suc d) NoMore (label [] None k ∷ K) h1.next τ fit (omega arith) (omega (arith, rm, r1)) h1.fit (still_stands a g t h1.next x h1.stands)))))
+
+  two_ways : {X : Type 0} (y : Bool) (w l : ℕ) (K : List Label) (L : List Cell) (A B : Instructions) (σ : State) (P : X → State → Conf → Type 0) (Q : Stop → State → Conf → Type 0) (m1 m2 : Doing X) →
+      Reached p deepest ks F b M w l (at ks [] K L F A (beside_state p deepest ks F σ)) P Q (m1 σ) → Reached p deepest ks F b M w l (at ks [] K L F B (beside_state p deepest ks F σ)) P Q (m2 σ) →
+      Reached p deepest ks F b M w l (at ks [] K L F (cond (nat_eq (flag_number y) 0) B A) (beside_state p deepest ks F σ)) P Q ((if y then m1 else m2) σ)
+  two_ways true w l K L A B σ P Q m1 m2 r1 r2 = r1
+  two_ways false w l K L A B σ P Q m1 m2 r1 r2 = r2
+
+  pub choose_expr : (s : Sort) (c a1 a2 : Code) → ExprOk p deepest ks F b M n c → ExprOk p deepest ks F b M n a1 → ExprOk p deepest ks F b M n a2 → ExprOk p deepest ks F b M n (Choose s c a1 a2)
+  unfolding emitted all_emitted evaluated all_evaluated sorted all_sorted
+  choose_expr s c a1 a2 okc ok1 ok2 v fs env ts st t u w d k K l σ so us rm ar rd =
+      let mach = machine p deepest ks F in
+      let ctx = context p deepest ks F b M n in
+      let lay = layout p deepest ks F b M n in
+      let Q = Away p deepest ks F b d K in
+      let P = Done p deepest ks F b M n v (Choose s c a1 a2) fs env ts st t u w k K l σ in
+      let g = form_of fs c in
+      let st1 : ℕ → Standing = λ i. held_after i c (st i) in
+      let s1 = and_parts (is_chosen s) (is_tested g && (fits (form_of fs a1) s && (fits (form_of fs a2) s && (sorted ctx fs c && (sorted ctx fs a1 && sorted ctx fs a2))))) so in
+      let s2 = and_parts (is_tested g) (fits (form_of fs a1) s && (fits (form_of fs a2) s && (sorted ctx fs c && (sorted ctx fs a1 && sorted ctx fs a2)))) s1.1 in
+      let s3 = and_parts (fits (form_of fs a1) s) (fits (form_of fs a2) s && (sorted ctx fs c && (sorted ctx fs a1 && sorted ctx fs a2))) s2.1 in
+      let s4 = and_parts (fits (form_of fs a2) s) (sorted ctx fs c && (sorted ctx fs a1 && sorted ctx fs a2)) s3.1 in
+      let s5 = and_parts (sorted ctx fs c) (sorted ctx fs a1 && sorted ctx fs a2) s4.1 in
+      let s6 = and_parts (sorted ctx fs a1) (sorted ctx fs a2) s5.1 in
+      let A = emitted lay false fs ts a1 t w (suc d) (Small.converted b (form_of fs a1) s t (suc d) NoMore) in
+      let B = emitted lay false fs ts a2 t w (suc d) (Small.converted b (form_of fs a2) s t (suc d) NoMore) in
+      let k1 = truth b g t (either A B k) in
+      let r1 = room_one c in
+      let us1 : (i : ℕ) → i < length fs → is_well_used (held_after i a1 (st1 i)) ≡ true = λ i lt. well_left (held_after i a1 (st1 i)) (held_after i a2 (st1 i)) (us i lt) in
+      let us2 : (i : ℕ) → i < length fs → is_well_used (held_after i a2 (st1 i)) ≡ true = λ i lt. well_right (held_after i a1 (st1 i)) (held_after i a2 (st1 i)) (us i lt) in
+      then_on mach M (work_of c) (40 + (work_of a1 + work_of a2)) (work_of (Choose s c a1 a2)) σ.turns _ (Done p deepest ks F b M n false c fs env ts st t u w k1 K l σ) P Q (meant p deepest ks F b M n fs env c σ) _ (omega arith)
+      (okc false fs env ts st t u w d k1 K l σ s5.0 (λ i lt. well_before i a1 (st1 i) (us1 i lt)) (omega (arith, rm)) (omega (arith, ar)) rd)
+      (λ x τ c1 le h1.
+      let z = truth_ok g x t u w (either A B k) K h1.next τ s2.0 (omega (arith, rm, r1)) h1.fit (still_stands c g t h1.next x h1.stands) in
+      let same : Same ts t w l z.next = same_then ts t t w w l h1.next z.next (omega arith) (omega arith) h1.same (under_same ts t w h1.next z.next (under_keeps t t h1.next z.next (omega arith) z.keeps)) in
+      let rd1 : Ready p deepest ks F b M n fs env ts st1 t u w z.next τ = record {
+        below = rd.below;
+        kept = kept_same fs ts st1 h1.next z.next env t rd.below (λ y ly. z.keeps.hands y (λ e. omega (arith, e, ly))) (λ y ly. z.keeps.numbers y (λ e. omega (arith, e, ly))) h1.kept;
+        fit = z.fit;
+        turns = omega (arith, le, rd.turns);
+        parameters = rd.parameters;
+        plain = rd.plain;
+      } in
+      let m1 : Doing (In s) = λ τ1. go_on (meant p deepest ks F b M n fs env a1 τ1) (λ x1. settled (converted (form_of fs a1) s x1)) in
+      let m2 : Doing (In s) = λ τ1. go_on (meant p deepest ks F b M n fs env a2 τ1) (λ x1. settled (converted (form_of fs a2) s x1)) in
+      let w2 = work_of a1 + work_of a2 + 17 in
+      first mach M (z.steps + 1) (work_of a1 + work_of a2 + 17) (40 + (work_of a1 + work_of a2)) τ.turns c1 _ P Q _ (goes_from h1.comes (then_goes z.goes (chooses A B (flag_number (truth_in g x))))) (omega (arith, z.few))
+      (two_ways (truth_in g x) w2 τ.turns (label [] None k ∷ K) (laid b z.next) A B τ P Q m1 m2
+      (within mach M (work_of a1 + 17) w2 τ.turns _ P Q (m1 τ) (omega arith)
+      (chosen_ok s c a1 a2 a1 fs env ts v st1 st t u w d k K l z.next σ τ ok1 s1.0 s3.0 s6.0 us1 (omega (arith, rm)) (omega (arith, ar)) rd1 same h1.own (λ l1 q. kept_left_way fs ts (λ i. held_after i a1 (st1 i)) (λ i. held_after i a2 (st1 i)) l1 env q)))
+      (within mach M (work_of a2 + 17) w2 τ.turns _ P Q (m2 τ) (omega arith)
+      (chosen_ok s c a1 a2 a2 fs env ts v st1 st t u w d k K l z.next σ τ ok2 s1.0 s4.0 s6.1 us2 (omega (arith, rm)) (omega (arith, ar)) rd1 same h1.own (λ l1 q. kept_right_way fs ts (λ i. held_after i a1 (st1 i)) (λ i. held_after i a2 (st1 i)) l1 env q)))))

@@ -23,3 +23,4 @@ pub mod Keeping
 pub mod Copies
 pub mod Reading
 pub mod Choosing
+pub mod Making
