@@ -24,3 +24,4 @@ pub mod Copies
 pub mod Reading
 pub mod Choosing
 pub mod Making
+pub mod Numbers
