@@ -25,3 +25,4 @@ pub mod Reading
 pub mod Choosing
 pub mod Making
 pub mod Numbers
+pub mod Texts
