@@ -1,12 +1,12 @@
 -- Calls of rows of the table from code, and what becomes of their answers: they come into a temporary, or the function is left.
-use Rattle.std.proofs.Common.{◌≡◌, ◌⊎◌, inl, inr, ℕ, zero, suc, ◌+◌, ◌-◌, ◌^◌, ◌<◌, ◌≤◌, Bool, true, false, List, [], ◌∷◌, ◌++◌, length, Some, None, Option, Result, Ok, Err, refl, sym, ap, ap₂, ◌∙◌, subst, arith}
-use Rattle.std.specs.Prelude.{nat_eq, reverse}
+use Rattle.std.proofs.Common.{◌≡◌, inl, inr, ℕ, suc, ◌-◌, ◌^◌, ◌<◌, Bool, true, false, List, [], ◌∷◌, ◌++◌, length, Some, None, Result, Ok, Err, refl, sym, ap, ap₂, ◌∙◌, arith}
+use Rattle.std.specs.Prelude.{reverse}
 use Rattle.awk_values.specs.declared.fault.Fault.{Fault}
 use Rattle.awk_values.specs.declared.value.Value.{Value}
 use Rattle.awk_state.specs.Constants.{flag_number}
 use Rattle.awk_state.specs.InTurn.{in_turn}
-use Rattle.awk_state.specs.Numbers.{Number, number_word}
-use Rattle.awk_state.specs.SharedState.{Shared, Does, shared_after}
+use Rattle.awk_state.specs.Numbers.{number_word}
+use Rattle.awk_state.specs.SharedState.{shared_after}
 use Rattle.awk_state.specs.Sorts.{Row, InAnswer, OrFault}
 use Rattle.awk_state.specs.Table.{arguments_of, answer_of, can_fault, meaning}
 use Rattle.awk_state.specs.declared.sorts.Answer.{Answer}
@@ -22,7 +22,7 @@ use Rattle.wasm_types.specs.Syntax.{Instructions}
 use Rattle.wasm_store.specs.declared.word.Word.TheVariants.{I32, I64}
 use Rattle.mid_code.specs.Mid.{Kind, Program, Form, Answered}
 use Rattle.mid_code.specs.MidMeaning.{Holds}
-use Rattle.mid_code.specs.ScriptState.{State, Stop, Faulted, Outcome, Doing, settled, or_fault}
+use Rattle.mid_code.specs.ScriptState.{State, Stop, Faulted, Outcome, settled, or_fault}
 use Rattle.mid_code.specs.Sorted.{kinds_of}
 use Rattle.value_machine.specs.Cells.{Cell, Bits, Held, is_owned}
 use Rattle.value_machine.specs.ImportCalls.{Host, Acts, with_some, where_so, row_in, taken, acts, acted, replied, call, primitive_acts, cell_of, fault_cell, input_code, close_code}
@@ -33,12 +33,12 @@ use Rattle.value_machine.specs.Runs.{code_of}
 use Rattle.value_machine.specs.Small.{ask_row, kept, least}
 use Rattle.value_machine.specs.declared.import.Import.TheVariants.{Of}
 use Rattle.value_machine.proofs.Runs.{Goes, goes_to, Arrives, there, faulted}
-use Rattle.value_machine.proofs.Locals.{Locals, Hand, Number as NumberAt, with_at, has_with, laid}
+use Rattle.value_machine.proofs.Locals.{Locals, Hand, Number as NumberAt, with_at, laid}
 use Rattle.value_machine.proofs.Regions.{upd_same}
 use Rattle.value_machine.proofs.Steps.{empty, set_ok}
 use Rattle.value_machine.proofs.Calls.{called}
 use Rattle.value_machine.proofs.State.{store, gone, word_not_least}
-use Rattle.value_machine.proofs.Relation.{IsHand, hand_of, WordIs, HoldsAt, Same, same_hand, same_number, same_self, Fit, fit_loose, fit_hand, fit_number, fit_more, Away}
+use Rattle.value_machine.proofs.Relation.{hand_of, WordIs, HoldsAt, Same, same_hand, same_number, same_self, Fit, fit_loose, fit_hand, fit_number, fit_more, Away}
 use Rattle.value_machine.proofs.Pieces.{code_kept, code_failed, code_stored, value_kept, value_failed, number_kept, number_failed, done_kept, done_failed, done_dropped}
 
 -- rows that take their arguments; the others only look at them

@@ -1,12 +1,12 @@
 -- Operands as the row of a call: they are converted from left to right, and then pushed.
-use Rattle.std.proofs.Common.{◌≡◌, ◌≢◌, ◌⊎◌, inl, inr, ℕ, zero, suc, ◌+◌, ◌<◌, ◌≤◌, Bool, true, false, List, [], ◌∷◌, ◌++◌, length, Some, None, Option, Result, Ok, Err, refl, sym, ap, ap₂, ◌∙◌, subst, arith, append_assoc}
+use Rattle.std.proofs.Common.{◌≡◌, inl, ℕ, suc, ◌+◌, ◌<◌, ◌≤◌, true, List, [], ◌∷◌, ◌++◌, length, Some, None, Option, Result, Ok, Err, refl, sym, ap, ap₂, ◌∙◌, arith, append_assoc}
 use Rattle.std.specs.Prelude.{reverse, ◌&&◌, is_some}
 use Rattle.std.proofs.lemmas.Bool.{and_parts}
 use Rattle.std.proofs.lemmas.List.{reverse-append}
 use Rattle.awk_values.specs.declared.fault.Fault.{Fault}
 use Rattle.awk_state.specs.Constants.{InConstant, constant_at}
 use Rattle.awk_state.specs.Numbers.{number_word}
-use Rattle.awk_state.specs.Sorts.{In, InArgument, Row}
+use Rattle.awk_state.specs.Sorts.{In, Row}
 use Rattle.awk_state.specs.declared.sorts.Argument.{Argument}
 use Rattle.awk_state.specs.declared.sorts.Argument.TheVariants as argument
 use Rattle.awk_state.specs.declared.sorts.Constant.{Constant}
@@ -16,27 +16,27 @@ use Rattle.awk_state.specs.declared.sorts.Sort.TheVariants as sort
 use Rattle.awk_state.proofs.Words.{word_again}
 use Rattle.wasm_types.specs.Syntax.{Instructions}
 use Rattle.wasm_store.specs.declared.word.Word.TheVariants.{I32, I64}
-use Rattle.mid_code.specs.Mid.{Kind, Program, Form, Answered, Bare, Perhaps, Code, Codes, End, At, Fixed, Fresh, form_of}
+use Rattle.mid_code.specs.Mid.{Kind, Program, Form, Answered, Bare, Code, Codes, End, At, Fixed, Fresh, form_of}
 use Rattle.mid_code.specs.MidMeaning.{Holds, Values, converted, then_row, or_constant, row_of}
 use Rattle.mid_code.specs.Names.{ArrayName}
-use Rattle.mid_code.specs.ScriptState.{State, Outcome, Gives, settled}
-use Rattle.mid_code.specs.Sorted.{fits, fit_row, is_constant, context_of}
+use Rattle.mid_code.specs.ScriptState.{State, settled}
+use Rattle.mid_code.specs.Sorted.{fits, fit_row, is_constant}
 use Rattle.value_machine.specs.Cells.{Cell, Bits, Held}
 use Rattle.value_machine.specs.Emission.{array_meant, all_converted, all_pushed, one_pushed}
-use Rattle.value_machine.specs.ImportCalls.{with_some, and_rest, in_sort, in_constant, first_argument, row_in, number_in_word}
-use Rattle.value_machine.specs.Imports.{params_of, words_of}
+use Rattle.value_machine.specs.ImportCalls.{with_some, and_rest, in_sort, row_in}
+use Rattle.value_machine.specs.Imports.{params_of}
 use Rattle.value_machine.specs.Machine.{Conf, Label, Frame, at, all_live, live_if_lent}
 use Rattle.value_machine.specs.Places.{Bases}
-use Rattle.value_machine.proofs.Runs.{Goes, then_goes, stays, goes_to, there, first, then_both, within}
-use Rattle.value_machine.proofs.Regions.{upd_same, upd_other}
+use Rattle.value_machine.proofs.Runs.{Goes, then_goes, stays, goes_to, there, first, then_both}
+use Rattle.value_machine.proofs.Regions.{upd_same}
 use Rattle.value_machine.proofs.Locals.{Locals, Hand, Number as NumberAt, with_at, laid}
 use Rattle.value_machine.proofs.Steps.{empty, moved_out_ok, get_copied}
-use Rattle.value_machine.proofs.Relation.{HoldsAt, Meant, array_at, Same, Fit, SameOwn, Away, fit_hand, fit_less}
+use Rattle.value_machine.proofs.Relation.{HoldsAt, Meant, array_at, Same, Fit, Away, fit_hand, fit_less}
 use Rattle.value_machine.proofs.Answers.{machine, beside_state, Reached}
 use Rattle.value_machine.proofs.Arrays.{array_pushed_ok, array_live, array_in_sort}
 use Rattle.value_machine.proofs.Converting.{Keeps, Converted, converted_ok, keeps_hand, keeps_self}
 use Rattle.value_machine.proofs.Simulation.{past, past_from, layout, AllHeld, RowAt}
-use Rattle.value_machine.proofs.Operands.{holds_same, all_held_same, meant_same}
+use Rattle.value_machine.proofs.Operands.{holds_same, all_held_same}
 
 -- what lies below t, and all but temporaries, is as it was
 pub record Under (t : ℕ) (l l1 : Locals) : Type 0 where

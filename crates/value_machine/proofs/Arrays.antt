@@ -1,27 +1,27 @@
 -- Arrays of a program: where they stand, that they are there, and how their numbers come onto the stack.
-use Rattle.std.proofs.Common.{◌≡◌, ◌⊎◌, inl, inr, ⊎_elim, ℕ, zero, suc, ◌+◌, ◌-◌, ◌<◌, ◌≤◌, Bool, true, false, List, [], ◌∷◌, length, Some, None, Option, refl, sym, ap, ap₂, ◌∙◌, subst, arith}
-use Rattle.std.specs.Prelude.{nat_eq, nat_lt, get_or, map, ◌||◌, ◌&&◌, if◌then◌else◌}
+use Rattle.std.proofs.Common.{◌≡◌, inl, inr, ⊎_elim, ℕ, zero, suc, ◌-◌, ◌<◌, ◌≤◌, true, List, [], ◌∷◌, length, Some, None, refl, sym, ap, ap₂, ◌∙◌, arith}
+use Rattle.std.specs.Prelude.{nat_lt, ◌||◌, if◌then◌else◌}
 use Rattle.std.proofs.lemmas.Bool.{lt-ltb, ltb-true, eq-eqb, or_left, or_right, cases_lt}
 use Rattle.awk_state.specs.declared.sorts.Sort.TheVariants as sort
 use Rattle.wasm_types.specs.Syntax.{Instructions}
-use Rattle.wasm_store.specs.declared.word.Word.TheVariants.{I32, I64}
+use Rattle.wasm_store.specs.declared.word.Word.TheVariants.{I32}
 use Rattle.mid_code.specs.Mid.{Kind, Boxed, Unboxed, Many, Program, Declared}
 use Rattle.mid_code.specs.Names.{ArrayName, Numbered, Given}
-use Rattle.mid_code.specs.ScriptState.{State, Local, Scalar, local_array, global_value}
-use Rattle.mid_code.specs.Sorted.{Context, context_of, is_array_place, has_kind, kinds_of, arrays_among, is_many}
-use Rattle.value_machine.specs.Cells.{Cell, Bits, OwnedArray, LentArray, Gone, left_by, cell_at, has_owner, owns}
-use Rattle.value_machine.specs.Emission.{Layout, array_pushed}
+use Rattle.mid_code.specs.ScriptState.{State, local_array, global_value}
+use Rattle.mid_code.specs.Sorted.{context_of, is_array_place, has_kind, kinds_of, arrays_among, is_many}
+use Rattle.value_machine.specs.Cells.{Cell, Bits, OwnedArray, LentArray, left_by, cell_at, has_owner, owns}
+use Rattle.value_machine.specs.Emission.{array_pushed}
 use Rattle.value_machine.specs.Functions.{layout_of}
 use Rattle.value_machine.specs.ImportCalls.{in_sort}
-use Rattle.value_machine.specs.Machine.{Code, Label, Frame, at, is_live, live_if_lent, owner_waits}
+use Rattle.value_machine.specs.Machine.{Label, Frame, at, is_live, live_if_lent, owner_waits}
 use Rattle.value_machine.specs.Places.{Bases, array_name}
-use Rattle.value_machine.proofs.Runs.{Goes, stays, goes_to}
-use Rattle.value_machine.proofs.Globals.{Hand, placed, placed_at, IsGlobal}
-use Rattle.value_machine.proofs.Locals.{Locals, Param, laid, has}
+use Rattle.value_machine.proofs.Runs.{Goes, stays}
+use Rattle.value_machine.proofs.Globals.{Hand, placed_at}
+use Rattle.value_machine.proofs.Locals.{Locals, Param, laid}
 use Rattle.value_machine.proofs.Steps.{get_copied}
 use Rattle.value_machine.proofs.GlobalSteps.{global_copied}
 use Rattle.value_machine.proofs.State.{cells_of, kind_here, arrays_before, name_hand}
-use Rattle.value_machine.proofs.Relation.{Lives, IsArray, ParamIs, Fit, array_at}
+use Rattle.value_machine.proofs.Relation.{Lives, IsArray, Fit, array_at}
 use Rattle.value_machine.proofs.Answers.{machine, beside_state}
 
 -- the name of each array of the script is one of an array, and as many arrays stand before it

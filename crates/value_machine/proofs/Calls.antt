@@ -1,23 +1,16 @@
 -- Calls of imports: one scheme for all rows of the table.
-use Rattle.std.proofs.Common.{◌≡◌, ℕ, zero, suc, ◌+◌, Bool, true, false, List, [], ◌∷◌, ◌++◌, length, Some, None, Option, Result, Ok, Err, refl, sym, ap, ap₂, ◌∙◌, arith}
+use Rattle.std.proofs.Common.{◌≡◌, true, List, ◌++◌, length, Some, Option, refl, ap, ap₂, ◌∙◌}
 use Rattle.std.specs.Prelude.{reverse, take, drop, nat_lt, cond, slice_get, ◌-◌}
 use Rattle.std.proofs.lemmas.List.{take_at, drop_at, reverse-reverse, length-reverse}
-use Rattle.awk_values.specs.declared.fault.Fault.{Fault}
-use Rattle.awk_values.specs.declared.value.Value.{Value}
-use Rattle.awk_state.specs.InTurn.{in_turn}
-use Rattle.awk_state.specs.SharedState.{Shared, Does, shared_after}
-use Rattle.awk_state.specs.Sorts.{Row, InAnswer}
-use Rattle.awk_state.specs.Table.{arguments_of, answer_of, can_fault, meaning}
-use Rattle.awk_state.specs.declared.sorts.Answer.{Answer}
 use Rattle.awk_state.specs.declared.table.Primitive.{Primitive}
 use Rattle.awk_state.specs.declared.table.Primitive.TheVariants as row
 use Rattle.wasm_types.specs.Syntax.{Instructions}
 use Rattle.mid_code.specs.Mid.{Kind}
 use Rattle.value_machine.specs.Cells.{Cell}
-use Rattle.value_machine.specs.Imports.{import_at, import_number, import_count, import_arguments, import_answer}
-use Rattle.value_machine.specs.ImportCalls.{Host, Acts, with_some, where_so, row_in, taken, acts, acted, replied, call, looked_at, look, primitive_acts, or_fault, cell_of, fault_cell}
-use Rattle.value_machine.specs.Machine.{Code, Conf, Run, Label, Frame, Store, at, guarded, all_live, with_answer, onto, width, ask as asked, enter, call_number}
-use Rattle.value_machine.specs.Small.{ask, ask_row}
+use Rattle.value_machine.specs.Imports.{import_at, import_number, import_count}
+use Rattle.value_machine.specs.ImportCalls.{Host, call}
+use Rattle.value_machine.specs.Machine.{Code, Label, Frame, Store, at, guarded, all_live, with_answer, onto, width, ask as asked, enter}
+use Rattle.value_machine.specs.Small.{ask}
 use Rattle.value_machine.specs.declared.import.Import.{Import}
 use Rattle.value_machine.specs.declared.import.Import.TheVariants.{Of, Over, Arg, Drop, IterFree, FreeArray}
 use Rattle.value_machine.specs.declared.import.Listing.TheVariants.{Sprintf, Print, Printf}
@@ -62,9 +55,11 @@ called {u = u} {ks = ks} {K = K} {L = L} {F = F} {c = c} i words vs G a h n live
     let m : length (reverse words) ≡ width i = length-reverse words ∙ n in
     let front : reverse (take (width i) s) ≡ words = ap reverse (take_at (reverse words) vs (width i) m) ∙ reverse-reverse words in
     let rest : drop (width i) s ≡ vs = drop_at (reverse words) vs (width i) m in
-    record { it =
-        ap (λ t. cond t (asked u.memory (import_at (import_number i)) ks s K L F c G) (enter u.deepest (slice_get u.callees (import_number i - import_count)) ks s K L F c G)) (import_low i)
-        ∙ (ap (λ o. asked u.memory o ks s K L F c G) (import_found i)
-        ∙ (ap₂ (λ given under. guarded (all_live L F G.globals given) (with_answer (call u.memory i given G.host) ks under K L F c G)) front rest
-        ∙ (ap (λ t. guarded t (with_answer (call u.memory i words G.host) ks vs K L F c G)) live
-        ∙ ap (λ o. with_answer o ks vs K L F c G) e))) }
+    record {
+      it =
+          ap (λ t. cond t (asked u.memory (import_at (import_number i)) ks s K L F c G) (enter u.deepest (slice_get u.callees (import_number i - import_count)) ks s K L F c G)) (import_low i)
+          ∙ (ap (λ o. asked u.memory o ks s K L F c G) (import_found i)
+          ∙ (ap₂ (λ given under. guarded (all_live L F G.globals given) (with_answer (call u.memory i given G.host) ks under K L F c G)) front rest
+          ∙ (ap (λ t. guarded t (with_answer (call u.memory i words G.host) ks vs K L F c G)) live
+          ∙ ap (λ o. with_answer o ks vs K L F c G) e)));
+    }

@@ -1,12 +1,9 @@
 -- The truth of what was evaluated, and one of two.
-use Rattle.std.proofs.Common.{◌≡◌, ◌≢◌, ◌⊎◌, inl, inr, ℕ, zero, suc, ◌+◌, ◌-◌, ◌^◌, ◌<◌, ◌≤◌, Bool, true, false, List, [], ◌∷◌, length, Some, None, Option, Result, Ok, Err, ℤ, pos, negsuc, w64, unsigned_abs, refl, sym, ap, ap₂, ◌∙◌, subst, arith}
-use Rattle.std.specs.Prelude.{nat_eq, cond, not, max, ◌&&◌, if◌then◌else◌}
-use Rattle.std.specs.Int.{cast_unsigned, cast_signed}
-use Rattle.std.proofs.lemmas.Bool.{and_parts, ne_eqb, eq-eqb}
-use Rattle.std.proofs.lemmas.Int.{to_z-of_z}
-use Rattle.awk_values.specs.declared.fault.Fault.{Fault}
+use Rattle.std.proofs.Common.{◌≡◌, inl, ℕ, zero, suc, ◌+◌, ◌-◌, ◌^◌, ◌<◌, ◌≤◌, Bool, true, false, List, [], ◌∷◌, length, None, ℤ, pos, negsuc, w64, unsigned_abs, refl, sym, ap, ◌∙◌, arith}
+use Rattle.std.specs.Prelude.{nat_eq, cond, not, ◌&&◌, if◌then◌else◌}
+use Rattle.std.specs.Int.{cast_unsigned}
+use Rattle.std.proofs.lemmas.Bool.{and_parts, ne_eqb}
 use Rattle.awk_values.specs.declared.value.Value.{Value}
-use Rattle.awk_values.specs.declared.value.Value.TheVariants as value
 use Rattle.awk_values.specs.Operators.{is_zero}
 use Rattle.awk_values.specs.Values.{truth_of_value}
 use Rattle.awk_state.specs.Constants.{flag_number}
@@ -16,38 +13,36 @@ use Rattle.awk_state.specs.declared.sorts.Answer.TheVariants as answer
 use Rattle.awk_state.specs.declared.sorts.Sort.{Sort}
 use Rattle.awk_state.specs.declared.sorts.Sort.TheVariants as sort
 use Rattle.awk_state.specs.declared.table.Primitive.TheVariants as row
-use Rattle.awk_state.proofs.Words.{small, fits as fits_word}
+use Rattle.awk_state.proofs.Words.{small}
 use Rattle.wasm_types.specs.Syntax.{Instructions, Done as NoMore}
-use Rattle.wasm_types.specs.declared.types.ValType.TheVariants as ty
-use Rattle.wasm_types.specs.declared.instr.Simple.TheVariants.{LocalGet, LocalSet, Test, Convert}
-use Rattle.wasm_types.specs.declared.instr.ITestOp.TheVariants.{Eqz}
+use Rattle.wasm_types.specs.declared.instr.Simple.TheVariants.{LocalSet, Convert}
 use Rattle.wasm_types.specs.declared.instr.CvtOp.TheVariants.{I64ExtendI32U}
 use Rattle.wasm_store.specs.declared.word.Word.TheVariants.{I32, I64}
 use Rattle.wasm_store.specs.Words.{flag}
-use Rattle.mid_code.specs.Mid.{Kind, Program, Form, Answered, Bare, Perhaps, Code, Choose, form_of}
+use Rattle.mid_code.specs.Mid.{Kind, Program, Form, Answered, Bare, Code, Choose, form_of}
 use Rattle.mid_code.specs.MidMeaning.{Holds, Env, evaluated, all_evaluated, truth_in, converted}
 use Rattle.mid_code.specs.Steps.{zero_number}
-use Rattle.mid_code.specs.ScriptState.{State, Stop, Outcome, Doing, go_on, settled}
-use Rattle.mid_code.specs.Sorted.{Held as Standing, There, Moved, Misused, either_way, context_of, sorted, all_sorted, held_after, is_well_used, is_tested, is_chosen, fits}
-use Rattle.value_machine.specs.Cells.{Cell, Bits, Held, is_owned}
+use Rattle.mid_code.specs.ScriptState.{State, Stop, Doing, go_on, settled}
+use Rattle.mid_code.specs.Sorted.{Held as Standing, There, Moved, Misused, either_way, sorted, all_sorted, held_after, is_well_used, is_tested, is_chosen, fits}
+use Rattle.value_machine.specs.Cells.{Cell, Bits, Held}
 use Rattle.value_machine.specs.Emission.{emitted, all_emitted}
 use Rattle.value_machine.specs.Machine.{Conf, Label, Frame, at, label}
 use Rattle.value_machine.specs.Places.{Bases, room, arrays_in}
 use Rattle.value_machine.specs.Small.{does, ask_row, either, moved_out, number_is, not_zero, zeroed, truth, text_beside, least, h}
 use Rattle.value_machine.specs.Small
-use Rattle.value_machine.proofs.Runs.{Goes, then_goes, goes_to, goes_from, by_steps, there, first, then_on, step_settled, Onward, within, weaker}
-use Rattle.value_machine.proofs.Regions.{upd_same, upd_other}
+use Rattle.value_machine.proofs.Runs.{Goes, then_goes, goes_to, goes_from, by_steps, first, then_on, step_settled, within, weaker}
+use Rattle.value_machine.proofs.Regions.{upd_same}
 use Rattle.value_machine.proofs.Locals.{Locals, Hand, Number as NumberAt, with_at, laid}
 use Rattle.value_machine.proofs.Steps.{empty, get_copied, set_ok, moved_out_ok}
-use Rattle.value_machine.proofs.State.{bare, beside, word_not_least, word_not_beside}
-use Rattle.value_machine.proofs.Relation.{IsHand, HoldsAt, LeftBy, KeptAs, Kept, kept_same, Below, Same, same_self, same_then, Fit, fit_hand, fit_number, fit_less, SameOwn, Away, away_out}
+use Rattle.value_machine.proofs.State.{bare, beside, word_not_beside}
+use Rattle.value_machine.proofs.Relation.{HoldsAt, KeptAs, Kept, kept_same, Same, same_then, Fit, fit_hand, fit_number, fit_less, SameOwn, Away, away_out}
 use Rattle.value_machine.proofs.Pieces.{chooses, closes, number_is_ok}
 use Rattle.value_machine.proofs.Answers.{machine, beside_state, Reached}
 use Rattle.value_machine.proofs.Conversions.{BareIs, IsBeside, IsNone, IsNumber, bare_is, ask_truth, zeroed_ok, ZeroedIs, Nought, Itself}
 use Rattle.value_machine.proofs.Converting.{Keeps, keeps_self, keeps_then, keeps_hand, keeps_number, Converted, converted_ok, conv_closes}
-use Rattle.value_machine.proofs.Simulation.{work_of, gives_away, StandsAt, still_stands, NoArray, plain_stands, layout, context, meant, Ready, WellUsed, Done, ExprOk, room_one}
+use Rattle.value_machine.proofs.Simulation.{work_of, still_stands, NoArray, plain_stands, layout, context, meant, Ready, WellUsed, Done, ExprOk, room_one}
 use Rattle.value_machine.proofs.Operands.{well_before}
-use Rattle.value_machine.proofs.Arguments.{Under, under_keeps, under_same}
+use Rattle.value_machine.proofs.Arguments.{under_keeps, under_same}
 use Rattle.value_machine.proofs.Keeping.{kept_left}
 
 -- a number is 0 where its word is

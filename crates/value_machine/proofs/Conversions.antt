@@ -1,44 +1,39 @@
 -- Conversions: a temporary gets what an operation wants, from what it has.
-use Rattle.std.proofs.Common.{◌≡◌, ◌≢◌, ◌⊎◌, inl, inr, ℕ, zero, suc, ◌+◌, ◌-◌, ◌^◌, ◌<◌, ◌≤◌, Bool, true, false, List, [], ◌∷◌, ◌++◌, length, Some, None, Option, Result, Ok, Err, refl, sym, ap, ap₂, ◌∙◌, subst, arith, append-nil}
-use Rattle.std.specs.Prelude.{nat_eq, cond, ℤ, not}
+use Rattle.std.proofs.Common.{◌≡◌, ℕ, ◌<◌, ◌≤◌, Bool, true, false, List, [], ◌∷◌, Some, None, Option, Result, Ok, Err, refl, sym, ap, ◌∙◌, arith, append-nil}
+use Rattle.std.specs.Prelude.{nat_eq, ℤ}
 use Rattle.awk_values.specs.declared.fault.Fault.{Fault}
 use Rattle.awk_values.specs.declared.value.Value.{Value}
 use Rattle.awk_values.specs.declared.value.Value.TheVariants as value
-use Rattle.awk_values.specs.Operators.{is_zero}
 use Rattle.awk_values.specs.Values.{truth_of_value}
 use Rattle.awk_state.specs.Constants.{flag_number}
 use Rattle.awk_state.specs.Numbers.{Number, number_of, number_by, number_word}
-use Rattle.awk_state.specs.SharedState.{Shared, shared_after, gives}
-use Rattle.awk_state.specs.Sorts.{In, InAnswer}
+use Rattle.awk_state.specs.SharedState.{shared_after, gives}
 use Rattle.awk_state.specs.ValueRows.{number_of_row}
-use Rattle.awk_state.specs.declared.sorts.Sort.{Sort}
 use Rattle.awk_state.specs.declared.sorts.Sort.TheVariants as sort
 use Rattle.awk_state.specs.declared.sorts.Answer.TheVariants as answer
 use Rattle.awk_state.specs.declared.table.Primitive.TheVariants as row
 use Rattle.awk_state.proofs.Words.{word_again}
 use Rattle.wasm_types.specs.Syntax.{Instructions, Done}
-use Rattle.wasm_types.specs.declared.instr.Simple.TheVariants.{LocalGet, LocalSet, I64Const, Binary, Convert}
+use Rattle.wasm_types.specs.declared.instr.Simple.TheVariants.{LocalSet, I64Const, Binary, Convert}
 use Rattle.wasm_types.specs.declared.instr.IBinOp.TheVariants.{Sub}
 use Rattle.wasm_types.specs.declared.instr.CvtOp.TheVariants.{I64ExtendI32S}
 use Rattle.wasm_types.specs.declared.types.ValType.TheVariants as ty
 use Rattle.wasm_store.specs.declared.word.Word.TheVariants.{I32, I64}
 use Rattle.wasm_store.specs.Words.{flag}
-use Rattle.mid_code.specs.Mid.{Kind, Program, Form, Answered, Bare, Perhaps}
-use Rattle.mid_code.specs.MidMeaning.{Holds}
+use Rattle.mid_code.specs.Mid.{Kind, Program}
 use Rattle.mid_code.specs.Steps.{zero_number}
-use Rattle.mid_code.specs.ScriptState.{State, Stop, Faulted, settled}
+use Rattle.mid_code.specs.ScriptState.{State, Faulted}
 use Rattle.value_machine.specs.Cells.{Cell, Bits, Held, is_owned}
 use Rattle.value_machine.specs.ImportCalls.{with_some, and_rest, row_in}
-use Rattle.value_machine.specs.Machine.{Conf, Label, Frame, at, go}
+use Rattle.value_machine.specs.Machine.{Label, Frame, at, go}
 use Rattle.value_machine.specs.Places.{Bases}
-use Rattle.value_machine.specs.Small.{does, ask_row, either, when, least, text_beside, moved_out, number_is, boxed_number, boxed_perhaps, zeroed, number_of_value, code_number, h, n}
-use Rattle.value_machine.proofs.Runs.{Goes, then_goes, goes_to, goes_from, by_steps}
+use Rattle.value_machine.specs.Small.{does, ask_row, either, when, least, text_beside, boxed_number, boxed_perhaps, zeroed, code_number, h, n}
+use Rattle.value_machine.proofs.Runs.{Goes, then_goes, goes_to, by_steps}
 use Rattle.value_machine.proofs.Locals.{Locals, Hand, Number as NumberAt, with_at, laid, laid_again}
-use Rattle.value_machine.proofs.Steps.{empty, set_ok, get_copied, moved_out_ok}
-use Rattle.value_machine.proofs.State.{bare, beside, perhaps, word_or_beside, unless_number, word_not_least, word_not_beside}
-use Rattle.value_machine.proofs.Relation.{Fit}
+use Rattle.value_machine.proofs.Steps.{empty, set_ok, get_copied}
+use Rattle.value_machine.proofs.State.{bare, beside, word_or_beside, unless_number, word_not_least}
 use Rattle.value_machine.proofs.Pieces.{chooses, closes, number_is_ok}
-use Rattle.value_machine.proofs.Answers.{machine, beside_state, left_beside, reply, after_reply, row_called, answered_by, done_by}
+use Rattle.value_machine.proofs.Answers.{machine, beside_state, left_beside, reply, after_reply, row_called, done_by}
 
 -- What a word of an unboxed name may be: of a text beside it, of nothing yet, or of a number.
 

@@ -1,45 +1,41 @@
 -- A temporary is converted in place, or the function is left; and the truth of a temporary.
-use Rattle.std.proofs.Common.{◌≡◌, ◌≢◌, ◌⊎◌, inl, inr, ℕ, zero, suc, ◌+◌, ◌<◌, ◌≤◌, Bool, true, false, List, [], ◌∷◌, Some, None, Option, Result, Ok, Err, refl, sym, ap, ap₂, ◌∙◌, subst, arith}
-use Rattle.std.specs.Prelude.{nat_eq, cond, ℤ, not, ◌^◌, ◌-◌}
+use Rattle.std.proofs.Common.{◌≡◌, ◌≢◌, inl, inr, ℕ, suc, ◌+◌, ◌<◌, Bool, true, false, List, [], ◌∷◌, Some, None, Option, Result, Ok, Err, refl, sym, ap, ◌∙◌, subst, arith}
+use Rattle.std.specs.Prelude.{◌^◌, ◌-◌}
 use Rattle.awk_values.specs.declared.fault.Fault.{Fault}
 use Rattle.awk_values.specs.declared.value.Value.{Value}
 use Rattle.awk_values.specs.declared.value.Value.TheVariants as value
-use Rattle.awk_values.specs.Operators.{is_zero}
-use Rattle.awk_values.specs.Values.{truth_of_value}
 use Rattle.awk_state.specs.Constants.{flag_number}
 use Rattle.awk_state.specs.Numbers.{Number, number_word, or_range}
-use Rattle.awk_state.specs.Sorts.{In, InAnswer}
 use Rattle.awk_state.specs.ValueRows.{number_of_row}
 use Rattle.awk_state.specs.declared.sorts.Sort.{Sort}
 use Rattle.awk_state.specs.declared.sorts.Sort.TheVariants as sort
 use Rattle.awk_state.specs.declared.sorts.Answer.TheVariants as answer
 use Rattle.awk_state.specs.declared.answers.InputAnswer.TheVariants as input
 use Rattle.awk_state.specs.declared.answers.CloseAnswer.TheVariants as close
-use Rattle.awk_state.specs.declared.table.Primitive.TheVariants as row
 use Rattle.awk_state.proofs.Words.{number_again}
 use Rattle.wasm_types.specs.Syntax.{Instructions, Done}
-use Rattle.wasm_types.specs.declared.instr.Simple.TheVariants.{LocalGet, LocalSet, I64Const}
-use Rattle.wasm_store.specs.declared.word.Word.TheVariants.{I32, I64}
+use Rattle.wasm_types.specs.declared.instr.Simple.TheVariants.{LocalSet}
+use Rattle.wasm_store.specs.declared.word.Word.TheVariants.{I64}
 use Rattle.wasm_store.specs.Words.{flag}
 use Rattle.mid_code.specs.Mid.{Kind, Program, Form, Answered, Bare, Perhaps}
-use Rattle.mid_code.specs.MidMeaning.{Holds, converted, numbered, boxed}
+use Rattle.mid_code.specs.MidMeaning.{Holds, converted, boxed}
 use Rattle.mid_code.specs.Sorted.{fits}
 use Rattle.mid_code.specs.Steps.{zero_number, one_number, minus_one, numeric, truth_number}
-use Rattle.mid_code.specs.ScriptState.{State, Stop, Faulted, Outcome, Gives, settled}
+use Rattle.mid_code.specs.ScriptState.{State, Faulted, Outcome, Gives, settled}
 use Rattle.value_machine.specs.Cells.{Cell, Bits, Held, is_owned}
 use Rattle.value_machine.specs.Machine.{Code, Conf, Label, Frame, at, br, label}
 use Rattle.value_machine.specs.Places.{Bases}
 use Rattle.value_machine.specs.Small.{does, ask_row, either, least, text_beside, moved_out, number_is, boxed_perhaps, zeroed, number_of_value, kept_number, h, n}
 use Rattle.value_machine.specs.Small
-use Rattle.value_machine.proofs.Runs.{Goes, then_goes, goes_to, goes_from, by_steps, stays, there, faulted, first, within, weaker, then_step, Onward}
+use Rattle.value_machine.proofs.Runs.{Goes, then_goes, goes_to, goes_from, stays, there, faulted, first, within, weaker, then_step, Onward}
 use Rattle.value_machine.proofs.Regions.{upd_same, upd_other}
 use Rattle.value_machine.proofs.Locals.{Locals, Hand, Number as NumberAt, with_at, laid}
-use Rattle.value_machine.proofs.Steps.{empty, set_ok, get_copied, moved_out_ok}
-use Rattle.value_machine.proofs.State.{bare, beside, perhaps, word_not_least, word_not_beside}
-use Rattle.value_machine.proofs.Relation.{IsHand, hand_of, WordIs, HoldsAt, Fit, fit_loose, fit_hand, fit_number, Away, away_out}
+use Rattle.value_machine.proofs.Steps.{empty, moved_out_ok}
+use Rattle.value_machine.proofs.State.{bare, perhaps, word_not_least, word_not_beside}
+use Rattle.value_machine.proofs.Relation.{HoldsAt, Fit, fit_loose, fit_hand, fit_number, Away, away_out}
 use Rattle.value_machine.proofs.Pieces.{chooses, closes, number_is_ok, number_kept, number_failed}
-use Rattle.value_machine.proofs.Answers.{machine, beside_state, left_beside, reply, after_reply, Reached, away_with}
-use Rattle.value_machine.proofs.Conversions.{BareIs, IsBeside, IsNone, IsNumber, bare_is, ask_num, ask_truth, ask_to_num, PerhapsIs, NotYet, There, boxed_number_ok, boxed_perhaps_ok, ZeroedIs, Nought, Itself, zeroed_ok, code_number_ok}
+use Rattle.value_machine.proofs.Answers.{machine, beside_state, left_beside, reply, after_reply, Reached}
+use Rattle.value_machine.proofs.Conversions.{BareIs, IsBeside, IsNone, IsNumber, bare_is, ask_to_num, PerhapsIs, NotYet, There, boxed_number_ok, boxed_perhaps_ok, Nought, Itself, zeroed_ok, code_number_ok}
 
 -- the same but for one temporary
 pub record Keeps (t : ℕ) (l l1 : Locals) : Type 0 where

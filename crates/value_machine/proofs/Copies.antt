@@ -1,27 +1,25 @@
 -- A value is copied: a second handle comes to a temporary, and the first goes back to its place.
-use Rattle.std.proofs.Common.{◌≡◌, ◌≢◌, ◌⊎◌, inl, inr, ℕ, zero, suc, ◌+◌, ◌<◌, ◌≤◌, Bool, true, false, List, [], ◌∷◌, length, Some, None, Option, Result, Ok, Err, refl, sym, ap, ap₂, ◌∙◌, subst, arith}
+use Rattle.std.proofs.Common.{◌≡◌, ◌≢◌, ℕ, ◌<◌, true, false, List, [], ◌∷◌, length, Some, None, refl, sym, ap, ◌∙◌}
 use Rattle.std.specs.Prelude.{set}
 use Rattle.std.proofs.lemmas.List.{get_or-set_other, set_comm, set-set, set-get_or}
 use Rattle.awk_values.specs.declared.value.Value.{Value}
-use Rattle.awk_state.specs.SharedState.{shared_after, gives}
 use Rattle.awk_state.specs.declared.table.Primitive.TheVariants as row
 use Rattle.wasm_types.specs.Syntax.{Instructions, Done}
 use Rattle.wasm_types.specs.declared.types.ValType.TheVariants as ty
 use Rattle.wasm_types.specs.declared.instr.IRelOp.TheVariants.{Ne}
-use Rattle.wasm_types.specs.declared.instr.Simple.TheVariants.{LocalGet, LocalSet, LocalTee, GlobalGet, GlobalSet, I32Const, Compare}
+use Rattle.wasm_types.specs.declared.instr.Simple.TheVariants.{LocalGet, LocalSet, GlobalGet, GlobalSet, I32Const, Compare}
 use Rattle.wasm_store.specs.Words.{flag}
 use Rattle.mid_code.specs.Mid.{Kind, Program}
 use Rattle.mid_code.specs.Sorted.{kinds_of}
 use Rattle.mid_code.specs.ScriptState.{State}
 use Rattle.value_machine.specs.Cells.{Cell, Bits, Held, Gone, is_owned, cell_at}
 use Rattle.value_machine.specs.ImportCalls.{Host}
-use Rattle.value_machine.specs.Machine.{Code, Conf, Look, Label, Frame, Store, at, label, ask_looking, with_operands, push_word, looked_compared}
+use Rattle.value_machine.specs.Machine.{Look, Label, Frame, at, label, ask_looking, with_operands, push_word, looked_compared}
 use Rattle.value_machine.specs.Places.{Bases}
 use Rattle.value_machine.specs.Small.{does, ask_row, copied, copied_if_any, when, minus_one, h}
 use Rattle.value_machine.specs.declared.import.Import.TheVariants.{Of}
 use Rattle.value_machine.proofs.Runs.{Goes, then_goes, goes_to, by_steps}
-use Rattle.value_machine.proofs.Globals
-use Rattle.value_machine.proofs.Globals.{Globals, Global, global_of, IsGlobal, has_global, with_global_at, has_global_with, placed, placed_twice, placed_again}
+use Rattle.value_machine.proofs.Globals.{Global, global_of, IsGlobal, has_global, with_global_at, has_global_with, placed, placed_twice, placed_again}
 use Rattle.value_machine.proofs.Locals.{Locals, Place, Hand, local_of, IsPlace, has, with_at, has_with, laid, laid_at, laid_set, laid_twice, laid_again}
 use Rattle.value_machine.proofs.Steps.{empty, get_moved, get_copied, set_ok, tee_ok}
 use Rattle.value_machine.proofs.GlobalSteps.{storing, global_moved, global_copied, global_set_ok}

@@ -1,47 +1,29 @@
 -- Expressions, construct by construct: each does what it means if its parts do.
-use Rattle.std.proofs.Common.{◌≡◌, ◌≢◌, ◌⊎◌, inl, inr, ℕ, zero, suc, ◌+◌, ◌-◌, ◌^◌, ◌<◌, ◌≤◌, Bool, true, false, List, [], ◌∷◌, ◌++◌, length, Some, None, Option, Result, Ok, Err, refl, sym, ap, ap₂, ◌∙◌, subst, arith, append-nil, w64, T, unsigned_abs, nat_le}
-use Rattle.std.specs.Prelude.{get_or, max, ◌&&◌, ℤ, nat_lt, reverse}
+use Rattle.std.proofs.Common.{◌≡◌, ℕ, ◌+◌, ◌^◌, Bool, true, false, List, refl, sym, ap, subst, arith, w64, T, unsigned_abs, nat_le}
+use Rattle.std.specs.Prelude.{◌&&◌, ℤ}
 use Rattle.std.specs.Int.{cast_unsigned}
-use Rattle.std.proofs.lemmas.Bool.{and_parts, ltb-true}
-use Rattle.std.proofs.lemmas.List.{get_or_append_left}
-use Rattle.awk_values.specs.declared.value.Value.{Value}
-use Rattle.awk_values.specs.declared.value.Value.TheVariants as value
-use Rattle.awk_state.specs.Constants.{flag_number}
-use Rattle.awk_state.specs.Numbers.{Number as AnyNumber, number_of, number_word}
-use Rattle.awk_state.specs.Sorts.{In, Row, InAnswer}
+use Rattle.std.proofs.lemmas.Bool.{and_parts}
+use Rattle.awk_state.specs.Numbers.{number_of, number_word}
 use Rattle.awk_state.specs.Table.{arguments_of, answer_of, can_fault, meaning}
-use Rattle.awk_state.specs.declared.sorts.Answer.TheVariants as answer
-use Rattle.awk_state.specs.declared.sorts.Sort.TheVariants as sort
 use Rattle.awk_state.specs.declared.table.Primitive.{Primitive}
-use Rattle.awk_state.specs.declared.table.Primitive.TheVariants as row
 use Rattle.awk_state.proofs.Words.{number_again}
 use Rattle.wasm_types.specs.Syntax.{Instructions}
-use Rattle.wasm_types.specs.declared.instr.Simple.TheVariants.{LocalGet, LocalSet, GlobalGet, I64Const, I32Const, Convert}
-use Rattle.wasm_types.specs.declared.instr.CvtOp.TheVariants.{I64ExtendI32U}
-use Rattle.wasm_store.specs.declared.word.Word.TheVariants.{I32, I64}
-use Rattle.mid_code.specs.declared.mid.Operation.TheVariants.{Host, AsNumber}
-use Rattle.mid_code.specs.Mid.{Kind, Many, Program, Form, Answered, Bare, Perhaps, Code, Do, Number, Text, Unset, Get, Set, Array, IsOpen, Choose, Seq, Let, Bound, Codes, form_of, form_at, arguments, a_number, a_value}
-use Rattle.mid_code.specs.MidMeaning.{Holds, Env, Values, evaluated, all_evaluated, row_of, operated, or_zero, held}
-use Rattle.mid_code.specs.Names.{ArrayName, Numbered, Given}
-use Rattle.mid_code.specs.Items.{range_open}
-use Rattle.mid_code.specs.ScriptState.{State, Stop, Outcome, Gives, Doing, go_on, settled, does, or_fault}
-use Rattle.mid_code.specs.Sorted.{Held as Standing, There, Moved, Misused, context_of, sorted, all_sorted, held_after, held_after_all, is_well_used, is_operation, fit_row, kinds_of}
-use Rattle.value_machine.specs.Cells.{Cell, Bits, Held}
-use Rattle.value_machine.specs.Emission.{array_meant, emitted, all_emitted, text_pushed, left_over}
-use Rattle.value_machine.specs.Machine.{Conf, Label, Frame, at}
-use Rattle.value_machine.specs.Places.{Bases, room, rooms, arrays_in, arrays_among, range_global}
-use Rattle.value_machine.specs.Small.{does as doing, ask_row, kept, h, n, least}
-use Rattle.value_machine.proofs.Runs.{Goes, then_goes, stays, goes_to, goes_from, by_steps, there, first, then_on, then_settled, within, weaker, weaker_settled}
-use Rattle.value_machine.proofs.Locals.{Locals, Hand, Number as NumberAt, with_at, laid}
-use Rattle.value_machine.proofs.Globals.{Range}
-use Rattle.value_machine.proofs.Steps.{empty, set_ok, get_copied}
-use Rattle.value_machine.proofs.GlobalSteps.{global_copied}
-use Rattle.value_machine.proofs.State.{cells_of, bare, beside, perhaps}
-use Rattle.value_machine.proofs.Relation.{HoldsAt, hand_of, WordIs, Meant, Kept, kept_same, Below, Same, same_then, same_self, same_hand, same_number, Fit, fit_more, fit_number, SameOwn, Away}
-use Rattle.value_machine.proofs.Answers.{machine, beside_state, done_by, Put, put_value, put_word, Reached}
-use Rattle.value_machine.proofs.Simulation.{work_of, works_of, extra_of, past, past_from, past_room, gives_away, StandsAt, layout, context, meant, all_meant, Ready, WellUsed, Done, ExprOk, CodesOk, RowAt}
-use Rattle.value_machine.proofs.Arguments.{conv_work, push_work}
-use Rattle.value_machine.proofs.HostCalls.{operation_takes, operation_in_turn, operation_quiet, operation_plain, extra_enough, plain_meant, RowReady, row_then, host_asked}
+use Rattle.mid_code.specs.declared.mid.Operation.TheVariants.{Host}
+use Rattle.mid_code.specs.Mid.{Kind, Program, Form, Answered, Code, Do, Codes, form_of}
+use Rattle.mid_code.specs.MidMeaning.{Holds, Env, evaluated, all_evaluated, or_zero}
+use Rattle.mid_code.specs.ScriptState.{State, does, or_fault}
+use Rattle.mid_code.specs.Sorted.{Held as Standing, sorted, all_sorted, held_after, is_operation, fit_row}
+use Rattle.value_machine.specs.Emission.{array_meant, emitted, all_emitted}
+use Rattle.value_machine.specs.Machine.{Conf, Label, Frame}
+use Rattle.value_machine.specs.Places.{Bases}
+use Rattle.value_machine.specs.Small.{kept}
+use Rattle.value_machine.proofs.Runs.{first, weaker_settled}
+use Rattle.value_machine.proofs.Locals.{Locals}
+use Rattle.value_machine.proofs.Relation.{Meant, Kept, kept_same, Below, Same, same_then, SameOwn, Away}
+use Rattle.value_machine.proofs.Answers.{machine, done_by, Put}
+use Rattle.value_machine.proofs.Simulation.{work_of, past_room, gives_away, StandsAt, context, Done, ExprOk, CodesOk}
+use Rattle.value_machine.proofs.Arguments.{push_work}
+use Rattle.value_machine.proofs.HostCalls.{operation_takes, operation_in_turn, operation_quiet, operation_plain, extra_enough, plain_meant, row_then, host_asked}
 
 -- a constant's word
 pub constant_word : (z : ℤ) → nat_le (unsigned_abs z) (2 ^ 53) ≡ true → number_word (or_zero (number_of z)) ≡ cast_unsigned w64 z

@@ -1,10 +1,10 @@
 -- Single instructions on globals.
-use Rattle.std.proofs.Common.{◌≡◌, ℕ, zero, suc, Bool, true, false, List, [], ◌∷◌, length, refl, sym, ap, ap₂, ◌∙◌}
+use Rattle.std.proofs.Common.{◌≡◌, ℕ, true, false, List, ◌∷◌, ap, ap₂, ◌∙◌}
 use Rattle.std.specs.Prelude.{set, not, ◌&&◌}
 use Rattle.wasm_types.specs.Syntax.{Instructions}
 use Rattle.wasm_types.specs.declared.instr.Simple.TheVariants.{GlobalGet, GlobalSet}
 use Rattle.mid_code.specs.Mid.{Kind}
-use Rattle.value_machine.specs.Cells.{Cell, is_owned, read_global, left_in_global, cell_at, has_room}
+use Rattle.value_machine.specs.Cells.{Cell, is_owned, read_global, left_in_global, has_room}
 use Rattle.value_machine.specs.ImportCalls.{Host}
 use Rattle.value_machine.specs.Machine.{Code, Label, Frame, Store, at, guarded}
 use Rattle.value_machine.specs.Small.{does}
@@ -24,9 +24,11 @@ module _ {u : Code} {ks : List Kind} {F : List Frame} (ranges names : ℕ) where
   global_moved {vs = vs} {K = K} {L = L} {c = c} {o = o} g p v h e =
       let gs = placed ranges names g in
       let x = global_of ranges names p in
-      record { it =
-          ap (λ w. at ks (read_global w ∷ vs) K L F c (storing (set gs x (left_in_global w)) o)) (placed_at ranges names g p h ∙ e)
-          ∙ ap (λ m. at ks (read_global v ∷ vs) K L F c (storing m o)) (placed_set ranges names g p (left_in_global v) h) }
+      record {
+        it =
+            ap (λ w. at ks (read_global w ∷ vs) K L F c (storing (set gs x (left_in_global w)) o)) (placed_at ranges names g p h ∙ e)
+            ∙ ap (λ m. at ks (read_global v ∷ vs) K L F c (storing m o)) (placed_set ranges names g p (left_in_global v) h);
+      }
 
   -- what is not owned, and an array, stays where it is
   pub global_copied : {vs : List Cell} {K : List Label} {L : List Cell} {c : Instructions} {o : Host} → (g : Globals) (p : Global) (v : Cell) → IsGlobal ranges names p → has_global ranges names g p ≡ v → left_in_global v ≡ v →
@@ -39,6 +41,8 @@ module _ {u : Code} {ks : List Kind} {F : List Frame} (ranges names : ℕ) where
   pub global_set_ok : {vs : List Cell} {K : List Label} {L : List Cell} {c : Instructions} {o : Host} → (g : Globals) (p : Global) (v : Cell) → IsGlobal ranges names p → is_owned (has_global ranges names g p) ≡ false →
       Goes u 1 (at ks (v ∷ vs) K L F (does (GlobalSet (global_of ranges names p)) c) (storing (placed ranges names g) o)) (at ks vs K L F c (storing (placed ranges names (with_global_at ranges names g p v)) o))
   global_set_ok {vs = vs} {K = K} {L = L} {c = c} {o = o} g p v h e =
-      record { it =
-          ap (λ t. guarded t (at ks vs K L F c (storing (set (placed ranges names g) (global_of ranges names p) v) o))) (global_roomy ranges names g p h e)
-          ∙ ap (λ m. at ks vs K L F c (storing m o)) (placed_set ranges names g p v h) }
+      record {
+        it =
+            ap (λ t. guarded t (at ks vs K L F c (storing (set (placed ranges names g) (global_of ranges names p) v) o))) (global_roomy ranges names g p h e)
+            ∙ ap (λ m. at ks vs K L F c (storing m o)) (placed_set ranges names g p v h);
+      }

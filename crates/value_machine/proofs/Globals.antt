@@ -1,11 +1,11 @@
 -- The globals of a module: how a function is being left, the status, ranges, and for each name a cell for a handle and one for a number.
-use Rattle.std.proofs.Common.{◌≡◌, ◌≢◌, ℕ, zero, suc, ◌+◌, ◌<◌, ◌≤◌, Bool, true, false, List, [], ◌∷◌, ◌++◌, length, refl, sym, ap, ap₂, ◌∙◌, arith}
+use Rattle.std.proofs.Common.{◌≡◌, ℕ, suc, ◌+◌, ◌<◌, true, List, [], ◌∷◌, ◌++◌, length, refl, sym, ap, ◌∙◌, arith}
 use Rattle.std.specs.Prelude.{get_or, set, nat_lt}
 use Rattle.std.proofs.lemmas.List.{length-append, set-set, set-get_or}
 use Rattle.std.proofs.lemmas.Bool.{lt-ltb}
 use Rattle.value_machine.specs.Cells.{Cell, Gone, cell_at}
 use Rattle.value_machine.specs.Places.{way_global, status_global, range_global, handle_global, number_global}
-use Rattle.value_machine.proofs.Regions.{upd, upd_same, cells, pairs, cells_length, pairs_length, cells_same, pairs_same, cells_at, cells_set, left_at, right_at, left_set, right_set, behind_at, behind_set}
+use Rattle.value_machine.proofs.Regions.{upd, upd_same, cells, pairs, cells_length, pairs_length, cells_at, cells_set, left_at, right_at, left_set, right_set, behind_at, behind_set}
 
 pub record Globals : Type 0 where
   pub way : Cell

@@ -1,11 +1,9 @@
 -- Operations that the host carries out.
-use Rattle.std.proofs.Common.{◌≡◌, ◌≢◌, ◌⊎◌, inl, inr, ℕ, zero, suc, ◌+◌, ◌<◌, ◌≤◌, Bool, true, false, List, [], ◌∷◌, ◌++◌, length, Some, None, Option, Result, Ok, Err, refl, sym, ap, ap₂, ◌∙◌, subst, arith, append-nil}
-use Rattle.std.specs.Prelude.{reverse, max, ◌&&◌}
+use Rattle.std.proofs.Common.{◌≡◌, ℕ, ◌+◌, ◌<◌, ◌≤◌, true, List, [], ◌∷◌, length, refl, ◌∙◌, subst, arith}
 use Rattle.std.proofs.lemmas.Bool.{and_parts}
-use Rattle.awk_values.specs.declared.fault.Fault.{Fault}
 use Rattle.awk_state.specs.InTurn.{in_turn}
 use Rattle.awk_state.specs.SharedState.{Shared, shared_after}
-use Rattle.awk_state.specs.Sorts.{In, Row, InAnswer}
+use Rattle.awk_state.specs.Sorts.{Row, InAnswer}
 use Rattle.awk_state.specs.Table.{arguments_of, answer_of, can_fault, meaning}
 use Rattle.awk_state.specs.declared.sorts.Argument.{Argument}
 use Rattle.awk_state.specs.declared.sorts.Argument.TheVariants as argument
@@ -15,24 +13,22 @@ use Rattle.awk_state.specs.declared.sorts.Sort.TheVariants as sort
 use Rattle.awk_state.specs.declared.table.Primitive.{Primitive}
 use Rattle.awk_state.specs.declared.table.Primitive.TheVariants as row
 use Rattle.wasm_types.specs.Syntax.{Instructions}
-use Rattle.mid_code.specs.declared.mid.Operation.TheVariants.{Host}
-use Rattle.mid_code.specs.Mid.{Kind, Many, Program, Form, Answered, Code, Do, Codes, End, At, Fixed, Fresh, form_of, arguments}
-use Rattle.mid_code.specs.MidMeaning.{Holds, Env, Values, evaluated, all_evaluated, row_of, operated}
-use Rattle.mid_code.specs.Names.{ArrayName, Numbered, Given}
-use Rattle.mid_code.specs.ScriptState.{State, Stop, Outcome, Doing, go_on, settled, does, or_fault}
-use Rattle.mid_code.specs.Sorted.{Held as Standing, context_of, sorted, all_sorted, held_after, held_after_all, is_well_used, is_operation, fit_row}
-use Rattle.value_machine.specs.Cells.{Cell}
-use Rattle.value_machine.specs.Emission.{array_meant, emitted, all_emitted, all_converted, all_pushed, performed}
+use Rattle.mid_code.specs.Mid.{Kind, Program, Form, Answered, Codes, End, At, Fixed, Fresh}
+use Rattle.mid_code.specs.MidMeaning.{Env, row_of}
+use Rattle.mid_code.specs.Names.{ArrayName}
+use Rattle.mid_code.specs.ScriptState.{State, Doing, go_on, settled, does}
+use Rattle.mid_code.specs.Sorted.{Held as Standing, all_sorted, held_after_all, is_operation, fit_row}
+use Rattle.value_machine.specs.Emission.{all_emitted, all_converted, all_pushed}
 use Rattle.value_machine.specs.Machine.{Conf, Label, Frame, at}
-use Rattle.value_machine.specs.Places.{Bases, room, rooms, arrays_in, arrays_among}
+use Rattle.value_machine.specs.Places.{Bases, rooms, arrays_among}
 use Rattle.value_machine.specs.Small.{ask_row, kept}
-use Rattle.value_machine.proofs.Runs.{Goes, then_goes, stays, goes_to, goes_from, there, first, then_on, then_settled, within, weaker}
+use Rattle.value_machine.proofs.Runs.{then_goes, first, then_on, then_settled, weaker}
 use Rattle.value_machine.proofs.Locals.{Locals, laid}
-use Rattle.value_machine.proofs.HostLaws.{Keeps, row_keeps, is_quiet}
-use Rattle.value_machine.proofs.Relation.{HoldsAt, Meant, Kept, kept_same, Below, Same, same_then, Fit, fit_shared, Calm, SameOwn, Away}
-use Rattle.value_machine.proofs.Answers.{machine, beside_state, after_reply, reply, answered_by, done_by, row_called, takes_row, IsPlain, Put, kept_ok, Reached}
-use Rattle.value_machine.proofs.Simulation.{work_of, works_of, extra_of, past, made_past, past_from, past_room, StandsAt, layout, context, meant, all_meant, Ready, WellUsed, Done, ExprOk, AllHeld, AllDone, CodesOk, RowAt}
-use Rattle.value_machine.proofs.Arguments.{Under, under_same, under_then, RowDone, row_ok, Pushed, push_ok, conv_work, push_work}
+use Rattle.value_machine.proofs.HostLaws.{row_keeps, is_quiet}
+use Rattle.value_machine.proofs.Relation.{Meant, Kept, kept_same, Same, same_then, Fit, fit_shared, Calm, SameOwn, Away}
+use Rattle.value_machine.proofs.Answers.{machine, beside_state, done_by, row_called, takes_row, IsPlain, Put, kept_ok, Reached}
+use Rattle.value_machine.proofs.Simulation.{works_of, extra_of, past, made_past, past_room, layout, context, all_meant, Ready, WellUsed, AllDone, CodesOk, RowAt}
+use Rattle.value_machine.proofs.Arguments.{under_same, RowDone, row_ok, push_ok, conv_work, push_work}
 
 -- what all operations have in common
 

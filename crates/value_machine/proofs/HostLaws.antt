@@ -1,27 +1,26 @@
 -- What rows of the table leave as it is: the assignment that is pending, and the names that are announced.
-use Rattle.std.proofs.Common.{◌≡◌, ℕ, zero, suc, Bool, true, false, List, [], ◌∷◌, Some, None, Option, Result, Ok, Err, refl, sym, ap, ◌∙◌}
-use Rattle.std.specs.Prelude.{length, ◌++◌, map, pos, slice_set}
+use Rattle.std.proofs.Common.{◌≡◌, ℕ, zero, suc, Bool, true, false, List, [], ◌∷◌, Some, None, Option, Result, Ok, Err, refl, ◌∙◌}
+use Rattle.std.specs.Prelude.{length, map, pos, slice_set}
 use Rattle.awk_values.specs.Values.{number_of_value, text_of_value}
 use Rattle.awk_values.specs.declared.fault.Fault.{Fault}
 use Rattle.awk_values.specs.declared.fault.Fault.TheVariants.{TooManyStreams}
 use Rattle.awk_values.specs.declared.value.Value.{Value}
 use Rattle.awk_values.specs.declared.value.Value.TheVariants.{StrNum, Text}
-use Rattle.world_core.specs.WorldState.{Outside, Source, Target, Named, Action, Open, after}
-use Rattle.world_core.specs.WorldState
-use Rattle.awk_state.specs.SharedState.{Inner, Shared, Does, ◌>>=◌, shared_after, settles, with_special}
+use Rattle.world_core.specs.WorldState.{Outside, Source, Named}
+use Rattle.awk_state.specs.SharedState.{Inner, Shared, ◌>>=◌, settles}
 use Rattle.ere_syntax.specs.Tree.{Tree}
 use Rattle.awk_state.specs.Numbers.{Number}
-use Rattle.awk_state.specs.Sorts.{Row, InAnswer}
+use Rattle.awk_state.specs.Sorts.{Row}
 use Rattle.awk_state.specs.Texts.{limited, counted}
 use Rattle.awk_state.specs.Fields.{fields_of, Separator, pieces_of}
 use Rattle.awk_state.specs.Records.{Got, Record, AtEnd, Broken}
-use Rattle.awk_state.specs.FieldRows.{with_record, with_fields, with_field, with_count, field_number, set_special, set_special_row, set_field_row, done, special_text, joined, at_least, resized}
-use Rattle.awk_state.specs.ArrayRows.{found, visited, element_row, next_key_row, with_array, numbered}
+use Rattle.awk_state.specs.FieldRows.{with_record, with_fields, with_field, field_number, set_special, set_special_row, set_field_row, done, special_text, joined, at_least, resized}
+use Rattle.awk_state.specs.ArrayRows.{found, visited, with_array, numbered}
 use Rattle.awk_state.specs.TextRows.{match_row, match_start, with_match, substitute_row, substituted_by, replaced, places_of, split_row, splits_at}
 use Rattle.awk_state.specs.FirstMatch.{expression_of, first_match}
-use Rattle.awk_state.specs.InputRows.{next_record, as_record, as_line, got_file, read_file, opened_file, open_or_read, getline_file_by, source_of, reader_named, with_reader}
-use Rattle.awk_state.specs.OutputRows.{written, kept_open, opened, opened_if, written_by, put_text, print_row, printf_by, printf_row, has_room, is_writing, formatted_values, operands_of, file_name, printed}
-use Rattle.awk_state.specs.Table.{arguments_of, answer_of, meaning, listed_meaning}
+use Rattle.awk_state.specs.InputRows.{next_record, as_record, as_line, got_file, read_file, opened_file, open_or_read, getline_file_by, source_of, reader_named}
+use Rattle.awk_state.specs.OutputRows.{kept_open, opened_if, written_by, put_text, printf_by, has_room, is_writing, formatted_values, operands_of, file_name, printed}
+use Rattle.awk_state.specs.Table.{arguments_of, meaning, listed_meaning}
 use Rattle.awk_state.specs.declared.answers.InputAnswer.{InputAnswer}
 use Rattle.awk_state.specs.declared.constants.Destination.{Destination}
 use Rattle.awk_state.specs.declared.constants.Destination.TheVariants as destination

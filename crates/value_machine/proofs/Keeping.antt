@@ -1,33 +1,31 @@
 -- What is evaluated first is dropped, or kept while something else is evaluated.
-use Rattle.std.proofs.Common.{◌≡◌, ◌≢◌, ◌⊎◌, inl, inr, ℕ, zero, suc, ◌+◌, ◌<◌, ◌≤◌, Bool, true, false, List, [], ◌∷◌, length, refl, sym, ap, ap₂, ◌∙◌, subst, arith}
-use Rattle.std.specs.Prelude.{max, ◌&&◌}
+use Rattle.std.proofs.Common.{◌≡◌, ◌≢◌, inl, ℕ, zero, suc, ◌+◌, ◌<◌, ◌≤◌, true, false, List, [], ◌∷◌, length, refl, sym, ap, ◌∙◌, subst, arith}
+use Rattle.std.specs.Prelude.{◌&&◌}
 use Rattle.std.proofs.lemmas.Bool.{and_parts}
-use Rattle.awk_state.specs.declared.sorts.Answer.{Answer}
 use Rattle.awk_state.specs.declared.sorts.Answer.TheVariants as answer
 use Rattle.awk_state.specs.declared.sorts.Sort.TheVariants as sort
 use Rattle.wasm_types.specs.Syntax.{Instructions}
-use Rattle.mid_code.specs.Mid.{Kind, Program, Form, Answered, Bare, Perhaps, Code, Set, Seq, Let, form_of, form_at}
+use Rattle.mid_code.specs.Mid.{Kind, Program, Form, Answered, Bare, Code, Set, Seq, Let, form_of, form_at}
 use Rattle.mid_code.specs.MidMeaning.{Holds, Env, evaluated, all_evaluated}
-use Rattle.mid_code.specs.ScriptState.{State, Outcome, Doing, go_on}
-use Rattle.mid_code.specs.Sorted.{Held as Standing, There, Moved, Misused, context_of, sorted, all_sorted, held_after, held_after_all, is_well_used, is_dropped, is_kept, keeps_well}
+use Rattle.mid_code.specs.ScriptState.{State}
+use Rattle.mid_code.specs.Sorted.{Held as Standing, There, Moved, Misused, sorted, all_sorted, held_after, is_well_used, is_dropped, is_kept, keeps_well}
 use Rattle.value_machine.specs.Cells.{Cell, Bits, Held, IteratorOf, OwnedArray, LentArray, Gone, is_owned, left_by}
-use Rattle.value_machine.specs.Emission.{array_meant, emitted, all_emitted, left_over}
+use Rattle.value_machine.specs.Emission.{emitted, all_emitted, left_over}
 use Rattle.value_machine.specs.Machine.{Conf, Label, Frame, at}
-use Rattle.value_machine.specs.Places.{Bases, room, arrays_in}
+use Rattle.value_machine.specs.Places.{Bases}
 use Rattle.value_machine.specs.Small.{unused, released, moved_from, number_copied, let_go, h, moved}
-use Rattle.value_machine.specs.Small
 use Rattle.value_machine.specs.declared.import.Import.TheVariants.{Drop}
-use Rattle.value_machine.proofs.Runs.{Goes, then_goes, stays, goes_to, goes_from, there, first, then_on, then_step, Onward, within, weaker}
+use Rattle.value_machine.proofs.Runs.{Goes, then_goes, stays, goes_from, first, then_on, then_step, weaker}
 use Rattle.value_machine.proofs.Regions.{upd_same, upd_other}
 use Rattle.value_machine.proofs.Locals.{Locals, Hand, Number as NumberAt, with_at, laid}
 use Rattle.value_machine.proofs.Steps.{empty, set_ok, get_copied, moved_out_ok}
-use Rattle.value_machine.proofs.Relation.{IsHand, HoldsAt, hand_of, WordIs, Meant, LeftBy, hand_left, KeptAs, Kept, kept_same, Below, below_more, Outside, outside_below, Same, same_then, same_self, Fit, fit_less, fit_hand, fit_number, SameOwn, Away}
+use Rattle.value_machine.proofs.Relation.{IsHand, HoldsAt, hand_of, WordIs, LeftBy, hand_left, KeptAs, kept_same, Same, same_then, Fit, fit_less, fit_hand, fit_number, Away}
 use Rattle.value_machine.proofs.Pieces.{drop_ok, let_go_hand}
-use Rattle.value_machine.proofs.Answers.{machine, beside_state, Reached}
-use Rattle.value_machine.proofs.Simulation.{work_of, gives_away, StandsAt, still_stands, layout, context, meant, Ready, WellUsed, Done, ExprOk, room_one, NoArray}
+use Rattle.value_machine.proofs.Answers.{machine, beside_state}
+use Rattle.value_machine.proofs.Simulation.{work_of, gives_away, StandsAt, still_stands, layout, context, meant, Done, ExprOk, room_one, NoArray}
 use Rattle.value_machine.proofs.Operands.{holds_same, well_before}
-use Rattle.value_machine.proofs.Arguments.{Under, under_self, under_then, under_keeps, under_same}
-use Rattle.value_machine.proofs.Converting.{Keeps, keeps_self, keeps_then, keeps_hand, keeps_number}
+use Rattle.value_machine.proofs.Arguments.{Under, under_keeps, under_same}
+use Rattle.value_machine.proofs.Converting.{Keeps, keeps_self, keeps_hand}
 
 pub unowned_left : (c : Cell) → is_owned c ≡ false → left_by c ≡ c
 unowned_left (Bits w) e = refl

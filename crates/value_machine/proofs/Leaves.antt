@@ -1,35 +1,31 @@
 -- Expressions without parts.
-use Rattle.std.proofs.Common.{◌≡◌, ◌≢◌, ◌⊎◌, inl, inr, ℕ, zero, suc, ◌+◌, ◌-◌, ◌^◌, ◌<◌, ◌≤◌, Bool, true, false, List, [], ◌∷◌, ◌++◌, length, Some, None, Option, Result, Ok, Err, refl, sym, ap, ap₂, ◌∙◌, subst, arith, append-nil, w64, unsigned_abs, nat_le}
-use Rattle.std.specs.Prelude.{get_or, ℤ, nat_lt}
+use Rattle.std.proofs.Common.{ℕ, List, length, None, refl, sym, ap, ◌∙◌, arith, w64}
+use Rattle.std.specs.Prelude.{ℤ}
 use Rattle.std.specs.Int.{cast_unsigned}
-use Rattle.std.proofs.lemmas.Bool.{and_parts, ltb-true}
-use Rattle.awk_values.specs.declared.value.Value.{Value}
+use Rattle.std.proofs.lemmas.Bool.{ltb-true}
 use Rattle.awk_state.specs.Constants.{flag_number}
-use Rattle.awk_state.specs.Numbers.{number_of, number_word}
+use Rattle.awk_state.specs.Numbers.{number_of}
 use Rattle.awk_state.specs.declared.sorts.Answer.TheVariants as answer
 use Rattle.awk_state.specs.declared.sorts.Sort.TheVariants as sort
-use Rattle.wasm_types.specs.Syntax.{Instructions}
-use Rattle.wasm_types.specs.declared.instr.Simple.TheVariants.{LocalSet, GlobalGet, I64Const, Convert}
-use Rattle.wasm_types.specs.declared.instr.CvtOp.TheVariants.{I64ExtendI32U}
 use Rattle.wasm_store.specs.declared.word.Word.TheVariants.{I32, I64}
-use Rattle.mid_code.specs.Mid.{Kind, Program, Form, Answered, Perhaps, Code, Number, Unset, Array, IsOpen, form_of}
-use Rattle.mid_code.specs.MidMeaning.{Holds, Env, evaluated, all_evaluated, or_zero}
+use Rattle.mid_code.specs.Mid.{Kind, Program, Answered, Perhaps, Number, Unset, Array, IsOpen}
+use Rattle.mid_code.specs.MidMeaning.{evaluated, all_evaluated, or_zero}
 use Rattle.mid_code.specs.Names.{ArrayName, Numbered, Given}
-use Rattle.mid_code.specs.ScriptState.{State, local_array}
-use Rattle.mid_code.specs.Sorted.{context_of, sorted, all_sorted, held_after, kinds_of}
-use Rattle.value_machine.specs.Cells.{Cell, Bits}
+use Rattle.mid_code.specs.ScriptState.{local_array}
+use Rattle.mid_code.specs.Sorted.{sorted, all_sorted, kinds_of}
+use Rattle.value_machine.specs.Cells.{Bits}
 use Rattle.value_machine.specs.Emission.{emitted, all_emitted}
-use Rattle.value_machine.specs.Machine.{Conf, Label, Frame, at}
+use Rattle.value_machine.specs.Machine.{Frame}
 use Rattle.value_machine.specs.Places.{Bases}
 use Rattle.value_machine.specs.Small.{least}
-use Rattle.value_machine.proofs.Runs.{Goes, then_goes, stays, by_steps, there}
-use Rattle.value_machine.proofs.Locals.{Locals, Number as NumberAt, with_at, laid}
+use Rattle.value_machine.proofs.Runs.{then_goes, stays, by_steps, there}
+use Rattle.value_machine.proofs.Locals.{Number as NumberAt}
 use Rattle.value_machine.proofs.Globals.{Range}
-use Rattle.value_machine.proofs.Steps.{empty, set_ok}
+use Rattle.value_machine.proofs.Steps.{set_ok}
 use Rattle.value_machine.proofs.GlobalSteps.{global_copied}
 use Rattle.value_machine.proofs.State.{cells_of}
-use Rattle.value_machine.proofs.Relation.{Same, same_self, Fit, fit_more, SameOwn, Away}
-use Rattle.value_machine.proofs.Answers.{machine, beside_state, Put, put_word}
+use Rattle.value_machine.proofs.Relation.{same_self, fit_more, Away}
+use Rattle.value_machine.proofs.Answers.{machine, put_word}
 use Rattle.value_machine.proofs.Simulation.{Done, ExprOk}
 use Rattle.value_machine.proofs.Expressions.{constant_word, put_done}
 

@@ -1,32 +1,22 @@
 -- Arrays that are made for calls; texts of the script; operands made numbers.
-use Rattle.std.proofs.Common.{◌≡◌, ◌≢◌, ◌⊎◌, inl, inr, ℕ, zero, suc, ◌+◌, ◌<◌, ◌≤◌, Bool, true, false, List, [], ◌∷◌, ◌++◌, length, Some, None, Option, Result, Ok, Err, refl, sym, ap, ap₂, ◌∙◌, subst, arith}
-use Rattle.std.specs.Prelude.{reverse, max, ◌&&◌}
-use Rattle.std.proofs.lemmas.Bool.{and_parts}
-use Rattle.awk_state.specs.SharedState.{shared_after}
-use Rattle.awk_state.specs.Table.{arguments_of, answer_of, can_fault, meaning}
-use Rattle.awk_state.specs.declared.sorts.Argument.TheVariants as argument
-use Rattle.awk_state.specs.declared.sorts.Answer.TheVariants as answer
-use Rattle.awk_state.specs.declared.sorts.Sort.TheVariants as sort
+use Rattle.std.proofs.Common.{inr, ℕ, suc, List, [], length, refl, ap, ◌∙◌, arith}
 use Rattle.awk_state.specs.declared.table.Primitive.TheVariants as row
-use Rattle.wasm_types.specs.Syntax.{Instructions}
-use Rattle.mid_code.specs.declared.mid.Operation.TheVariants.{AsNumber}
-use Rattle.mid_code.specs.Mid.{Kind, Program, Form, Answered, Code, Do, Codes, End, At, Fixed, Fresh, form_of}
-use Rattle.mid_code.specs.MidMeaning.{Holds, Env, Values, evaluated, all_evaluated}
-use Rattle.mid_code.specs.ScriptState.{State, Outcome, Doing, go_on, give}
-use Rattle.mid_code.specs.Sorted.{Held as Standing, context_of, sorted, all_sorted, held_after, held_after_all, is_well_used, fit_row}
-use Rattle.value_machine.specs.Cells.{Cell, OwnedArray, is_owned}
+use Rattle.mid_code.specs.Mid.{Kind, Program, Codes, Fresh}
+use Rattle.mid_code.specs.MidMeaning.{evaluated, all_evaluated}
+use Rattle.mid_code.specs.ScriptState.{State}
+use Rattle.mid_code.specs.Sorted.{sorted, all_sorted}
+use Rattle.value_machine.specs.Cells.{OwnedArray, is_owned}
 use Rattle.value_machine.specs.Emission.{emitted, all_emitted}
-use Rattle.value_machine.specs.Machine.{Conf, Label, Frame, at}
-use Rattle.value_machine.specs.Places.{Bases, rooms, arrays_among}
-use Rattle.value_machine.proofs.Runs.{Goes, then_goes, stays, there, first, then_on, within}
+use Rattle.value_machine.specs.Machine.{Frame}
+use Rattle.value_machine.specs.Places.{Bases}
+use Rattle.value_machine.proofs.Runs.{then_goes, stays, there, first, then_on}
 use Rattle.value_machine.proofs.Regions.{upd_same, upd_other}
-use Rattle.value_machine.proofs.Locals.{Locals, Array, with_at, laid}
-use Rattle.value_machine.proofs.Steps.{empty, set_ok}
-use Rattle.value_machine.proofs.Relation.{HoldsAt, Kept, kept_same, Same, same_self, same_then, Fit, fit_array, fit_shared, SameOwn, Away}
-use Rattle.value_machine.proofs.Answers.{machine, beside_state, done_by, row_called, Reached}
-use Rattle.value_machine.proofs.HostCalls.{calm_after, RowReady, row_then, extra_enough}
-use Rattle.value_machine.proofs.Simulation.{works_of, work_of, past, made_past, made_from, past_from, past_room, layout, context, meant, all_meant, plain_stands, Ready, Done, ExprOk, AllDone, CodesOk}
-use Rattle.value_machine.proofs.Arguments.{conv_work}
+use Rattle.value_machine.proofs.Locals.{Locals, Array, with_at}
+use Rattle.value_machine.proofs.Steps.{set_ok}
+use Rattle.value_machine.proofs.Relation.{kept_same, Fit, fit_array, fit_shared, Away}
+use Rattle.value_machine.proofs.Answers.{machine, done_by, row_called}
+use Rattle.value_machine.proofs.HostCalls.{calm_after}
+use Rattle.value_machine.proofs.Simulation.{works_of, all_meant, AllDone, CodesOk}
 
 module _ (p : Program) (deepest : ℕ) (ks : List Kind) (F : List Frame) (b : Bases) (M n : ℕ) where
   -- one more array is in use
@@ -59,4 +49,3 @@ module _ (p : Program) (deepest : ℕ) (ks : List Kind) (F : List Frame) (b : Ba
         kept = a.kept;
         held = (a.same.arrays w (omega arith) ∙ upd_same l.array w (OwnedArray i), a.held);
       })))
-

@@ -1,6 +1,6 @@
 -- Operations that give back their operand's number, or refuse it.
-use Rattle.std.proofs.Common.{◌≡◌, ◌≢◌, ◌⊎◌, inl, inr, ⊎_elim, ℕ, zero, suc, ◌+◌, ◌-◌, ◌^◌, ◌<◌, ◌≤◌, Bool, true, false, List, [], ◌∷◌, length, Some, None, Option, Result, Ok, Err, ℤ, pos, negsuc, w64, unsigned_abs, refl, sym, ap, ap₂, ◌∙◌, subst, arith}
-use Rattle.std.specs.Prelude.{nat_eq, nat_lt, nat_le, not, max, ◌&&◌, if◌then◌else◌, cond}
+use Rattle.std.proofs.Common.{◌≡◌, ⊎_elim, ℕ, suc, ◌-◌, ◌^◌, ◌≤◌, Bool, true, false, List, [], ◌∷◌, Some, None, Result, Ok, Err, ℤ, pos, negsuc, w64, unsigned_abs, refl, sym, ap, ◌∙◌, subst, arith}
+use Rattle.std.specs.Prelude.{nat_lt, not, if◌then◌else◌}
 use Rattle.std.specs.Int.{cast_unsigned}
 use Rattle.std.proofs.lemmas.Bool.{and_parts, lt-ltb, le-ltb, lt-leb, le-leb, ne_eqb, cases_lt}
 use Rattle.awk_values.specs.Faults.{fault_number}
@@ -15,34 +15,31 @@ use Rattle.awk_state.specs.declared.sorts.Sort.TheVariants as sort
 use Rattle.awk_state.specs.declared.table.Primitive.TheVariants as row
 use Rattle.awk_state.proofs.Words.{small, constant_again}
 use Rattle.wasm_types.specs.Syntax.{Instructions, Done as NoMore}
-use Rattle.wasm_types.specs.declared.types.ValType.TheVariants as ty
-use Rattle.wasm_types.specs.declared.instr.IRelOp.TheVariants.{GtU}
-use Rattle.wasm_types.specs.declared.instr.Simple.TheVariants.{LocalGet, I32Const, I64Const, Compare, Br}
+use Rattle.wasm_types.specs.declared.instr.Simple.TheVariants.{I32Const, Br}
 use Rattle.wasm_store.specs.declared.word.Word.TheVariants.{I32, I64}
 use Rattle.wasm_store.specs.Words.{flag}
 use Rattle.mid_code.specs.declared.mid.Operation.TheVariants.{AsNumber, FieldNumber}
-use Rattle.mid_code.specs.Mid.{Kind, Program, Form, Answered, Code, Do, Codes, End, At, Fixed, Fresh, form_of}
-use Rattle.mid_code.specs.MidMeaning.{Holds, Env, evaluated, all_evaluated}
+use Rattle.mid_code.specs.Mid.{Kind, Program, Answered, Do, Codes, End, At, Fixed, Fresh}
+use Rattle.mid_code.specs.MidMeaning.{evaluated, all_evaluated}
 use Rattle.mid_code.specs.Steps.{field_checked, is_field_number}
-use Rattle.mid_code.specs.ScriptState.{State, Stop, Faulted, Outcome, Doing, settled, give}
-use Rattle.mid_code.specs.Sorted.{Held as Standing, sorted, all_sorted, held_after, held_after_all, fit_row}
+use Rattle.mid_code.specs.ScriptState.{State, Faulted, settled, give}
+use Rattle.mid_code.specs.Sorted.{sorted, all_sorted, fit_row}
 use Rattle.value_machine.specs.Arithmetic
 use Rattle.value_machine.specs.Cells.{Cell, Bits}
 use Rattle.value_machine.specs.Emission.{emitted, all_emitted}
 use Rattle.value_machine.specs.ImportCalls.{with_some, and_rest, row_in}
 use Rattle.value_machine.specs.Machine.{Conf, Label, Frame, at, br, label}
-use Rattle.value_machine.specs.Places.{Bases, rooms, arrays_among}
+use Rattle.value_machine.specs.Places.{Bases}
 use Rattle.value_machine.specs.Small.{does, ask_row, fail_if}
-use Rattle.value_machine.proofs.Runs.{Goes, then_goes, goes_to, goes_from, by_steps, stays, there, faulted, first, within, weaker_settled}
+use Rattle.value_machine.proofs.Runs.{Goes, then_goes, goes_to, goes_from, by_steps, stays, there, faulted, first}
 use Rattle.value_machine.proofs.Locals.{Locals, Number as NumberAt, laid}
 use Rattle.value_machine.proofs.Steps.{get_copied}
-use Rattle.value_machine.proofs.Relation.{HoldsAt, Kept, Same, Fit, fit_loose, SameOwn, Away}
-use Rattle.value_machine.proofs.Pieces.{chooses, closes}
+use Rattle.value_machine.proofs.Relation.{HoldsAt, Fit, fit_loose, Away}
+use Rattle.value_machine.proofs.Pieces.{chooses}
 use Rattle.value_machine.proofs.Answers.{machine, beside_state, left_beside, row_called, Reached}
 use Rattle.value_machine.proofs.Conversions.{same_state}
-use Rattle.value_machine.proofs.Arguments.{conv_work, push_work}
-use Rattle.value_machine.proofs.HostCalls.{RowReady, row_then, extra_enough}
-use Rattle.value_machine.proofs.Simulation.{work_of, works_of, extra_of, past, past_room, layout, context, Ready, Done, ExprOk, CodesOk, RowAt}
+use Rattle.value_machine.proofs.HostCalls.{row_then, extra_enough}
+use Rattle.value_machine.proofs.Simulation.{work_of, past, context, Done, ExprOk, CodesOk, RowAt}
 
 -- a field's number is one whose word is not above the greatest
 pub field_word : (x : Number) → nat_lt (2 ^ 20) (number_word x) ≡ not (is_field_number x.number)

@@ -1,26 +1,22 @@
 -- Operands: one after another, then converted, then pushed as the words of a call.
-use Rattle.std.proofs.Common.{◌≡◌, ◌≢◌, ◌⊎◌, inl, inr, ℕ, zero, suc, ◌+◌, ◌<◌, ◌≤◌, Bool, true, false, List, [], ◌∷◌, ◌++◌, length, Some, None, Option, Result, Ok, Err, refl, sym, ap, ap₂, ◌∙◌, subst, arith, append_assoc}
-use Rattle.std.specs.Prelude.{reverse, max, ◌&&◌, if◌then◌else◌}
+use Rattle.std.proofs.Common.{◌≡◌, ℕ, suc, ◌<◌, ◌≤◌, Bool, true, false, List, refl, sym, ap, ◌∙◌, subst, arith}
+use Rattle.std.specs.Prelude.{if◌then◌else◌}
 use Rattle.std.proofs.lemmas.Bool.{and_parts}
-use Rattle.std.proofs.lemmas.List.{append-nil}
-use Rattle.awk_values.specs.declared.fault.Fault.{Fault}
 use Rattle.awk_state.specs.declared.sorts.Answer.TheVariants as answer
 use Rattle.awk_state.specs.declared.sorts.Sort.TheVariants as sort
-use Rattle.wasm_types.specs.Syntax.{Instructions}
-use Rattle.mid_code.specs.Mid.{Kind, Many, Program, Form, Answered, Code, Do, Over, Compare, Call, Ask, AskLine, FileLine, Replace, Number, Text, Unset, Get, Set, Array, IsOpen, Choose, Seq, Let, Bound, Codes, End, At, Fixed, Fresh, form_of}
-use Rattle.mid_code.specs.MidMeaning.{Holds, Env, Values, evaluated, all_evaluated, mid_called}
+use Rattle.mid_code.specs.Mid.{Kind, Program, Form, Answered, Code, Do, Over, Compare, Call, Ask, AskLine, FileLine, Replace, Number, Text, Unset, Get, Set, Array, IsOpen, Choose, Seq, Let, Bound, Codes, End, At, Fixed, Fresh, form_of}
+use Rattle.mid_code.specs.MidMeaning.{Holds, Values, evaluated, all_evaluated}
 use Rattle.mid_code.specs.Names.{ArrayName, Numbered, Given}
-use Rattle.mid_code.specs.ScriptState.{State, Outcome, Gives, Stops, Doing, go_on, local_array}
-use Rattle.mid_code.specs.Sorted.{Held as Standing, There, Moved, Misused, context_of, calls_of, has_kind, used, either_way, same_number, sorted, all_sorted, held_after, held_after_all, is_well_used, is_array_place}
-use Rattle.value_machine.specs.Cells.{Cell, OwnedArray}
+use Rattle.mid_code.specs.ScriptState.{State}
+use Rattle.mid_code.specs.Sorted.{Held as Standing, There, Moved, Misused, used, either_way, same_number, sorted, all_sorted, held_after, held_after_all, is_well_used}
 use Rattle.value_machine.specs.Emission.{array_meant, emitted, all_emitted}
-use Rattle.value_machine.specs.Machine.{Conf, Label, Frame, at}
-use Rattle.value_machine.specs.Places.{Bases, room, rooms, arrays_in, arrays_among}
-use Rattle.value_machine.proofs.Runs.{Goes, stays, goes_to, there, first, then_on, within, weaker}
-use Rattle.value_machine.proofs.Locals.{Locals, laid}
-use Rattle.value_machine.proofs.Relation.{HoldsAt, Meant, WordIs, hand_of, Kept, Below, Outside, outside_below, below_more, Same, same_self, same_then, Fit, SameOwn, Away, array_at}
-use Rattle.value_machine.proofs.Answers.{machine, beside_state, Reached}
-use Rattle.value_machine.proofs.Simulation.{work_of, works_of, past, made_past, past_from, made_from, past_room, room_one, StandsAt, still_stands, layout, context, meant, all_meant, Ready, WellUsed, Done, ExprOk, AllHeld, AllDone, CodesOk}
+use Rattle.value_machine.specs.Machine.{Frame}
+use Rattle.value_machine.specs.Places.{Bases}
+use Rattle.value_machine.proofs.Runs.{stays, there, first, then_on, weaker}
+use Rattle.value_machine.proofs.Locals.{Locals}
+use Rattle.value_machine.proofs.Relation.{HoldsAt, Meant, WordIs, outside_below, below_more, same_self, same_then, SameOwn, Away}
+use Rattle.value_machine.proofs.Answers.{machine}
+use Rattle.value_machine.proofs.Simulation.{work_of, works_of, past, made_past, past_from, made_from, room_one, still_stands, layout, context, meant, all_meant, Done, ExprOk, AllHeld, AllDone, CodesOk}
 
 pub holds_same : (f : Form) (t : ℕ) (l l1 : Locals) (x : Holds f) → l1.hand t ≡ l.hand t → l1.number t ≡ l.number t → HoldsAt f t l x → HoldsAt f t l1 x
 holds_same f t l l1 x e e1 q = (e ∙ q.0, subst (λ c. WordIs f x c) (sym e1) q.1)

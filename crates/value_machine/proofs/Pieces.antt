@@ -1,28 +1,27 @@
 -- Small pieces of emitted code: branches, tests, answers that are kept or that stand for a fault, and what is let go.
-use Rattle.std.proofs.Common.{◌≡◌, ◌⊎◌, inl, inr, ℕ, zero, suc, ◌+◌, ◌-◌, ◌^◌, ◌<◌, ◌≤◌, Bool, true, false, List, [], ◌∷◌, ◌++◌, length, Some, None, Option, Result, Ok, Err, refl, sym, ap, ap₂, ◌∙◌, append-nil, arith}
+use Rattle.std.proofs.Common.{◌≡◌, inl, inr, ℕ, ◌-◌, ◌^◌, ◌<◌, ◌≤◌, Bool, true, false, List, [], ◌∷◌, Some, None, Option, Result, Ok, refl, sym, ap, ◌∙◌, append-nil, arith}
 use Rattle.std.specs.Prelude.{nat_eq, cond}
 use Rattle.std.specs.Int.{w32, w64, cast_signed, cast_unsigned}
 use Rattle.awk_values.specs.declared.fault.Fault.{Fault}
 use Rattle.awk_values.specs.declared.value.Value.{Value}
 use Rattle.awk_state.specs.SharedState.{Shared, shared_after, gives}
-use Rattle.wasm_types.specs.Syntax.{Instructions, Done, Then, If}
+use Rattle.wasm_types.specs.Syntax.{Instructions, Done}
 use Rattle.wasm_types.specs.declared.types.ValType.TheVariants as ty
-use Rattle.wasm_types.specs.declared.instr.Simple.TheVariants.{LocalGet, LocalSet, LocalTee, I32Const, I64Const, Compare, Convert, BrIf, Call}
+use Rattle.wasm_types.specs.declared.instr.Simple.TheVariants.{LocalTee, I32Const, I64Const, Compare, BrIf}
 use Rattle.wasm_types.specs.declared.instr.IRelOp.TheVariants.{Eq, Ne}
-use Rattle.wasm_types.specs.declared.instr.CvtOp.TheVariants.{I64ExtendI32S, I64ExtendI32U}
 use Rattle.wasm_store.specs.declared.word.Word.TheVariants.{I32, I64}
 use Rattle.wasm_store.specs.Words.{flag}
 use Rattle.mid_code.specs.Mid.{Kind}
-use Rattle.value_machine.specs.Cells.{Cell, Bits, Held, IteratorOf, OwnedArray, LentArray, is_owned, left_by, Gone, cell_at}
-use Rattle.value_machine.specs.ImportCalls.{Host, call, acted, taken, after_fault}
-use Rattle.value_machine.specs.Machine.{Code, Conf, Run, Look, Label, Frame, Store, at, br, guarded, label, with_operands, push_word, looked_compared, onto, go}
+use Rattle.value_machine.specs.Cells.{Cell, Bits, Held, IteratorOf, OwnedArray, LentArray, is_owned, left_by, Gone}
+use Rattle.value_machine.specs.ImportCalls.{Host, call}
+use Rattle.value_machine.specs.Machine.{Code, Look, Label, Frame, Store, at, br, label, with_operands, push_word, looked_compared, go}
 use Rattle.value_machine.specs.Places.{Bases}
-use Rattle.value_machine.specs.Small.{does, ask, minus_one, least, moved_out, has_handle, when, either, let_go, number_is, h, n, kept_code, kept_value, kept_number, kept_done}
+use Rattle.value_machine.specs.Small.{does, ask, minus_one, least, moved_out, has_handle, either, let_go, number_is, h, n, kept_code, kept_value, kept_number, kept_done}
 use Rattle.value_machine.specs.declared.import.Import.{Import}
 use Rattle.value_machine.specs.declared.import.Import.TheVariants.{Drop, IterFree, FreeArray}
-use Rattle.value_machine.proofs.Runs.{Goes, then_goes, goes_to, goes_from, by_steps}
+use Rattle.value_machine.proofs.Runs.{Goes, then_goes, goes_to, by_steps}
 use Rattle.value_machine.proofs.Locals.{Locals, Place, Hand, Number, local_of, IsPlace, has, with_at, has_with, laid, laid_at, laid_again, laid_twice}
-use Rattle.value_machine.proofs.Steps.{empty, get_moved, get_copied, set_ok, tee_ok, moved_out_ok, left_unowned}
+use Rattle.value_machine.proofs.Steps.{empty, get_moved, get_copied, set_ok, tee_ok, moved_out_ok}
 use Rattle.value_machine.proofs.Calls.{called}
 use Rattle.value_machine.proofs.Relation.{IsHand, IsWalk, IsYard}
 
@@ -99,9 +98,11 @@ module _ {u : Code} {ks : List Kind} {F : List Frame} (b : Bases) where
   -- a look at what was just stored, which is compared
   looks : {K : List Label} {c : Instructions} {G : Store} → (l : Locals) (p : Place) (v : Cell) → IsPlace b p → has l p ≡ v → (f : Bool) → ((vs : List Cell) → push_word vs (looked_compared Ne v minus_one) ≡ Some (Bits (flag f) ∷ vs)) →
       Goes u 1 (Look (local_of b p) ks [] K (laid b l) F (does (I32Const minus_one) (does (Compare ty.I32 Ne) c)) G) (at ks (Bits (flag f) ∷ []) K (laid b l) F c G)
-  looks {K = K} {c = c} {G = G} l p v h e f q = record { it =
-      ap (λ w. with_operands (push_word [] (looked_compared Ne w minus_one)) ks K (laid b l) F c G) (laid_at b l p h ∙ e)
-      ∙ ap (λ o. with_operands o ks K (laid b l) F c G) (q []) }
+  looks {K = K} {c = c} {G = G} l p v h e f q = record {
+    it =
+        ap (λ w. with_operands (push_word [] (looked_compared Ne w minus_one)) ks K (laid b l) F c G) (laid_at b l p h ∙ e)
+        ∙ ap (λ o. with_operands o ks K (laid b l) F c G) (q []);
+  }
 
   pub has_value : {K : List Label} {c : Instructions} {G : Store} → (l : Locals) (p : Place) (v : Value) → IsPlace b p → has l p ≡ Held v →
       Goes u 3 (at ks [] K (laid b l) F (has_handle (local_of b p) c) G) (at ks (Bits (flag true) ∷ []) K (laid b l) F c G)
@@ -132,25 +133,34 @@ module _ {u : Code} {ks : List Kind} {F : List Frame} (b : Bases) where
   }
 
   pub let_go_hand : (p : Place) (K : List Label) (l : Locals) (c : Instructions) (G : Store) → IsPlace b p → IsHand (has l p) → LetGo u ks F b Drop p K l c G
-  let_go_hand p K l c G h w = elim w [ inl e ↦ let_go_none Drop p K l c G h e | inr q ↦ record {
-    steps = 8;
-    few = omega arith;
-    goes = then_goes (has_value l p q.0 h q.1) (then_goes (chooses (moved_out (local_of b p) (ask Drop Done)) Done 1) (then_goes (moved_out_ok b l p (Held q.0) h q.1) (then_goes (drop_ok q.0 []) closes)));
-  } ]
+  let_go_hand p K l c G h w = elim w [
+    | inl e ↦ let_go_none Drop p K l c G h e
+    | inr q ↦ record {
+      steps = 8;
+      few = omega arith;
+      goes = then_goes (has_value l p q.0 h q.1) (then_goes (chooses (moved_out (local_of b p) (ask Drop Done)) Done 1) (then_goes (moved_out_ok b l p (Held q.0) h q.1) (then_goes (drop_ok q.0 []) closes)));
+    }
+  ]
 
   pub let_go_walk : (p : Place) (K : List Label) (l : Locals) (c : Instructions) (G : Store) → IsPlace b p → IsWalk (has l p) → LetGo u ks F b IterFree p K l c G
-  let_go_walk p K l c G h w = elim w [ inl e ↦ let_go_none IterFree p K l c G h e | inr q ↦ record {
-    steps = 8;
-    few = omega arith;
-    goes = then_goes (has_iterator l p q.0 h q.1) (then_goes (chooses (moved_out (local_of b p) (ask IterFree Done)) Done 1) (then_goes (moved_out_ok b l p (IteratorOf q.0) h q.1) (then_goes (free_iterator_ok q.0 []) closes)));
-  } ]
+  let_go_walk p K l c G h w = elim w [
+    | inl e ↦ let_go_none IterFree p K l c G h e
+    | inr q ↦ record {
+      steps = 8;
+      few = omega arith;
+      goes = then_goes (has_iterator l p q.0 h q.1) (then_goes (chooses (moved_out (local_of b p) (ask IterFree Done)) Done 1) (then_goes (moved_out_ok b l p (IteratorOf q.0) h q.1) (then_goes (free_iterator_ok q.0 []) closes)));
+    }
+  ]
 
   pub let_go_yard : (p : Place) (K : List Label) (l : Locals) (c : Instructions) (G : Store) → IsPlace b p → IsYard (has l p) → LetGo u ks F b FreeArray p K l c G
-  let_go_yard p K l c G h w = elim w [ inl e ↦ let_go_none FreeArray p K l c G h e | inr q ↦ record {
-    steps = 8;
-    few = omega arith;
-    goes = then_goes (has_array l p q.0 h q.1) (then_goes (chooses (moved_out (local_of b p) (ask FreeArray Done)) Done 1) (then_goes (moved_out_ok b l p (OwnedArray q.0) h q.1) (then_goes (free_array_ok q.0 []) closes)));
-  } ]
+  let_go_yard p K l c G h w = elim w [
+    | inl e ↦ let_go_none FreeArray p K l c G h e
+    | inr q ↦ record {
+      steps = 8;
+      few = omega arith;
+      goes = then_goes (has_array l p q.0 h q.1) (then_goes (chooses (moved_out (local_of b p) (ask FreeArray Done)) Done 1) (then_goes (moved_out_ok b l p (OwnedArray q.0) h q.1) (then_goes (free_array_ok q.0 []) closes)));
+    }
+  ]
 
   -- Numbers.
 

@@ -1,37 +1,35 @@
 -- Names are read, and what was kept is named.
-use Rattle.std.proofs.Common.{◌≡◌, ◌≢◌, ◌⊎◌, inl, inr, ℕ, zero, suc, ◌+◌, ◌<◌, ◌≤◌, Bool, true, false, List, [], ◌∷◌, length, Some, None, Option, refl, sym, ap, ap₂, ◌∙◌, subst, arith}
-use Rattle.std.specs.Prelude.{get_or, nat_lt, if◌then◌else◌}
+use Rattle.std.proofs.Common.{◌≡◌, ◌≢◌, inr, ℕ, zero, suc, ◌<◌, ◌≤◌, Bool, true, false, List, [], ◌∷◌, length, refl, sym, ap, ◌∙◌, subst, arith}
+use Rattle.std.specs.Prelude.{get_or, if◌then◌else◌}
 use Rattle.std.proofs.lemmas.Bool.{ltb-true}
 use Rattle.awk_values.specs.declared.value.Value.{Value}
 use Rattle.awk_state.specs.declared.sorts.Answer.TheVariants as answer
 use Rattle.awk_state.specs.declared.sorts.Sort.TheVariants as sort
 use Rattle.wasm_types.specs.Syntax.{Instructions}
-use Rattle.wasm_store.specs.declared.word.Word.TheVariants.{I32, I64}
-use Rattle.mid_code.specs.Mid.{Kind, Boxed, Unboxed, Many, Program, Slot, Global, Parameter, Form, Answered, Bare, Perhaps, Code, Get, Bound, form_of, form_at}
+use Rattle.mid_code.specs.Mid.{Kind, Boxed, Unboxed, Many, Program, Global, Parameter, Form, Answered, Bare, Get, Bound, form_at}
 use Rattle.mid_code.specs.MidMeaning.{Holds, Env, evaluated, all_evaluated, held}
 use Rattle.mid_code.specs.Names.{Numbered}
 use Rattle.mid_code.specs.ScriptState.{State, global_value, local_value}
-use Rattle.mid_code.specs.Sorted.{Held as Standing, There, Moved, Misused, used, same_number, context_of, sorted, all_sorted, held_after, is_well_used, has_kind, same_kind, kinds_of}
-use Rattle.value_machine.specs.Cells.{Cell, Bits, Held, is_owned}
+use Rattle.mid_code.specs.Sorted.{Held as Standing, There, Moved, Misused, used, same_number, sorted, all_sorted, held_after, is_well_used, has_kind, same_kind, kinds_of}
+use Rattle.value_machine.specs.Cells.{Cell, Held, is_owned}
 use Rattle.value_machine.specs.Emission.{emitted, all_emitted}
 use Rattle.value_machine.specs.Machine.{Conf, Label, Frame, at}
 use Rattle.value_machine.specs.Places.{Bases}
 use Rattle.value_machine.specs.Small.{copied_from}
-use Rattle.value_machine.proofs.Runs.{Goes, then_goes, goes_to, there}
+use Rattle.value_machine.proofs.Runs.{Goes, then_goes, there}
 use Rattle.value_machine.proofs.Regions.{upd_same, upd_other}
-use Rattle.value_machine.proofs.Locals.{Locals, Place, Param, Hand, Number as NumberAt, local_of, with_at, laid}
-use Rattle.value_machine.proofs.Globals.{Hand as NameHand, Number as NameNumber}
-use Rattle.value_machine.proofs.Steps.{empty, get_copied, set_ok}
-use Rattle.value_machine.proofs.GlobalSteps.{global_copied}
-use Rattle.value_machine.proofs.State.{bare, beside, kind_here, name_hand, name_word, cells_of, arrays_before}
-use Rattle.value_machine.proofs.Relation.{IsHand, HoldsAt, hand_of, WordIs, LeftBy, KeptAs, Kept, kept_same, Below, Outside, Same, same_self, same_then, Fit, fit_hand, fit_number, fit_more, SameOwn, Away}
-use Rattle.value_machine.proofs.Answers.{machine, beside_state, Put, put_value}
+use Rattle.value_machine.proofs.Locals.{Locals, Param, Hand, Number as NumberAt, local_of, with_at, laid}
+use Rattle.value_machine.proofs.Globals.{Hand as NameHand}
+use Rattle.value_machine.proofs.Steps.{empty}
+use Rattle.value_machine.proofs.State.{beside, kind_here, name_hand, arrays_before}
+use Rattle.value_machine.proofs.Relation.{HoldsAt, hand_of, WordIs, LeftBy, KeptAs, Kept, kept_same, Below, Outside, same_self, Fit, fit_hand, fit_number, fit_more, Away}
+use Rattle.value_machine.proofs.Answers.{machine, beside_state, put_value}
 use Rattle.value_machine.proofs.Conversions.{BareIs, IsBeside, IsNone, IsNumber, bare_is}
-use Rattle.value_machine.proofs.Copies.{copied_local, copied_global, if_any_global, if_none_global, if_any_local, if_none_local}
+use Rattle.value_machine.proofs.Copies.{copied_local, copied_global, if_any_local, if_none_local}
 use Rattle.value_machine.proofs.Simulation.{Done, ExprOk, plain_stands}
 use Rattle.value_machine.proofs.Expressions.{put_done}
 use Rattle.value_machine.proofs.Operands.{holds_same}
-use Rattle.value_machine.proofs.Keeping.{MovedTo, moved_from_ok, LeftHand, left_empty, kept_left, copied_ok}
+use Rattle.value_machine.proofs.Keeping.{moved_from_ok, LeftHand, copied_ok}
 
 pub kind_below : (kinds : List Kind) (i : ℕ) (k : Kind) → has_kind kinds i k ≡ true → i < length kinds
 kind_below [] i k e = cc

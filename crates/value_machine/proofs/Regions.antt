@@ -1,7 +1,7 @@
 -- Lists of cells as regions, each a function of the places in it.
-use Rattle.std.proofs.Common.{◌≡◌, ◌≢◌, ℕ, zero, suc, ◌+◌, ◌<◌, ◌≤◌, Bool, true, false, List, [], ◌∷◌, ◌++◌, length, refl, sym, ap, ap₂, ◌∙◌, arith}
+use Rattle.std.proofs.Common.{◌≡◌, ◌≢◌, ℕ, zero, suc, ◌+◌, ◌<◌, List, [], ◌∷◌, ◌++◌, length, refl, sym, ap, ap₂, ◌∙◌, arith}
 use Rattle.std.specs.Prelude.{get_or, set}
-use Rattle.std.proofs.lemmas.List.{get_or-append-add, length-append}
+use Rattle.std.proofs.lemmas.List.{get_or-append-add}
 
 -- a function that has another value at one number
 abbrev pub upd : {A : Type 0} → (ℕ → A) → ℕ → A → ℕ → A

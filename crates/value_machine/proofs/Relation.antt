@@ -1,32 +1,29 @@
 -- What a function's locals hold beside a script's state: parameters, temporaries in use and free ones, iterators, arrays of calls; what stands in a temporary, by its form;
 -- what is kept; how a function is left.
-use Rattle.std.proofs.Common.{◌≡◌, ◌≢◌, ◌⊎◌, inl, inr, ℕ, zero, suc, ◌+◌, ◌<◌, ◌≤◌, Bool, true, false, List, [], ◌∷◌, length, Some, None, Option, refl, sym, ap, ap₂, ◌∙◌, arith, subst}
+use Rattle.std.proofs.Common.{◌≡◌, ◌≢◌, ◌⊎◌, inl, inr, ℕ, zero, suc, ◌+◌, ◌<◌, ◌≤◌, true, false, List, [], ◌∷◌, length, None, refl, sym, ap, ◌∙◌, arith, subst}
 use Rattle.std.specs.Prelude.{get_or}
 use Rattle.std.proofs.lemmas.Bool.{cases_eq}
 use Rattle.awk_values.specs.declared.value.Value.{Value as AnyValue}
 use Rattle.awk_values.specs.declared.value.Value.TheVariants.{Uninit}
 use Rattle.awk_state.specs.Constants.{flag_number}
-use Rattle.awk_state.specs.Numbers.{Number, number_word}
+use Rattle.awk_state.specs.Numbers.{number_word}
 use Rattle.awk_state.specs.SharedState.{Shared}
 use Rattle.awk_state.specs.declared.constants.NameKind.{NameKind}
 use Rattle.awk_state.specs.declared.constants.NameKind.TheVariants as name_kind
-use Rattle.awk_state.specs.declared.answers.InputAnswer.{InputAnswer}
-use Rattle.awk_state.specs.declared.answers.CloseAnswer.{CloseAnswer}
 use Rattle.awk_state.specs.declared.sorts.Answer.TheVariants as answer
 use Rattle.awk_state.specs.declared.sorts.Sort.TheVariants as sort
 use Rattle.wasm_store.specs.declared.word.Word.TheVariants.{I32, I64}
-use Rattle.wasm_types.specs.Syntax.{Instructions}
-use Rattle.mid_code.specs.Mid.{Kind, Boxed, Unboxed, Many, Program, Declared, Routine, Form, Answered, Bare, Perhaps, Code}
+use Rattle.mid_code.specs.Mid.{Kind, Boxed, Unboxed, Many, Program, Declared, Routine, Form, Answered, Bare, Perhaps}
 use Rattle.mid_code.specs.MidMeaning.{Holds, Env}
 use Rattle.mid_code.specs.Names.{ArrayName, Numbered, Given}
-use Rattle.mid_code.specs.ScriptState.{State, Stop, Faulted, OutOfTurns, TooDeep, Nexted, Exited, Returned, Local, Scalar, value_in_local, array_in_local, local_value, local_array}
+use Rattle.mid_code.specs.ScriptState.{State, Stop, TooDeep, Nexted, Exited, Returned, Local, Scalar, value_in_local, array_in_local, local_array}
 use Rattle.mid_code.specs.Sorted.{Held as Standing, There, Moved, Misused, has_kind, kinds_of, arrays_among, context_of, is_array_place}
 use Rattle.value_machine.specs.Cells.{Cell, Bits, Held, IteratorOf, OwnedArray, LentArray, is_owned}
 use Rattle.value_machine.specs.ImportCalls.{input_code, close_code}
-use Rattle.value_machine.specs.Machine.{Conf, Deep, Label, Frame, Store, at, br, owner_waits}
+use Rattle.value_machine.specs.Machine.{Conf, Deep, Label, Frame, br, owner_waits}
 use Rattle.value_machine.specs.Places.{Bases}
-use Rattle.value_machine.proofs.Regions.{upd, upd_same, upd_other, upd_all}
-use Rattle.value_machine.proofs.Locals.{Locals, Place, Param, Answer, Hand, Number as NumberAt, Iterator, Array, has, with_at, laid}
+use Rattle.value_machine.proofs.Regions.{upd_other, upd_all}
+use Rattle.value_machine.proofs.Locals.{Locals, Hand, Number as NumberAt, Array, with_at, laid}
 use Rattle.value_machine.proofs.Steps.{empty}
 use Rattle.value_machine.proofs.State.{bare, beside, perhaps, store, gone}
 

@@ -1,12 +1,12 @@
 -- Runs of the machine: some steps, and then some more; what they stand for in turns; and what it is to arrive where a script's doing leads.
-use Rattle.std.proofs.Common.{◌≡◌, ℕ, zero, suc, ◌+◌, ◌-◌, ◌*◌, ◌≤◌, Some, Result, Ok, Err, refl, sym, ap, ◌∙◌, arith}
+use Rattle.std.proofs.Common.{◌≡◌, ℕ, zero, suc, ◌+◌, ◌*◌, ◌≤◌, Some, Result, Ok, Err, refl, ap, ◌∙◌, arith}
 use Rattle.world_core.specs.WorldState.{Action}
 use Rattle.std.specs.Prelude.{List}
 use Rattle.awk_values.specs.declared.fault.Fault.{Fault}
 use Rattle.mid_code.specs.MidMeaning.{then_row}
 use Rattle.mid_code.specs.ScriptRun.{GoesOn}
 use Rattle.mid_code.specs.ScriptState.{State, Stop, Faulted, OutOfTurns, TooDeep, Nexted, Exited, Returned, Outcome, Gives, Stops, Doing, go_on, settled, spent}
-use Rattle.value_machine.specs.Machine.{Code, Conf, step, go, carried_at, turns_within, ending_at}
+use Rattle.value_machine.specs.Machine.{Code, Conf, step, go, turns_within, ending_at}
 
 pub go_add : (u : Code) (i j : ℕ) (c : Conf) → go u (i + j) c ≡ go u j (go u i c)
 go_add u zero j c = let e : zero + j ≡ j = omega arith in ap (λ n. go u n c) e

@@ -1,21 +1,21 @@
 -- The simulation of expressions: what emitted code does beside what mid code means. An expression's code comes to the code after it with the answer in its temporary, where the script gives one;
 -- where the script stops, the function is left; where turns run out, the machine is at work.
-use Rattle.std.proofs.Common.{◌≡◌, ◌⊎◌, ℕ, zero, suc, ◌+◌, ◌*◌, ◌<◌, ◌≤◌, Bool, true, false, List, [], ◌∷◌, length, refl, sym, ap, ◌∙◌, arith}
+use Rattle.std.proofs.Common.{◌≡◌, ℕ, suc, ◌+◌, ◌<◌, ◌≤◌, Bool, true, false, List, [], ◌∷◌, length, arith}
 use Rattle.awk_state.specs.declared.sorts.Argument.{Argument}
 use Rattle.awk_state.specs.declared.sorts.Argument.TheVariants as argument
 use Rattle.awk_state.specs.declared.sorts.Answer.TheVariants as answer
 use Rattle.awk_state.specs.declared.sorts.Sort.TheVariants as sort
 use Rattle.awk_state.specs.Constants.{constant_at}
 use Rattle.awk_state.specs.Sorts.{Row}
-use Rattle.std.specs.Prelude.{Some, max}
+use Rattle.std.specs.Prelude.{Some}
 use Rattle.wasm_types.specs.Syntax.{Instructions}
 use Rattle.mid_code.specs.declared.mid.Operation.TheVariants.{Host, Inline, AsNumber, FieldNumber}
-use Rattle.mid_code.specs.Mid.{Kind, Many, Program, Form, Answered, Code, Do, Over, Compare, Call, Ask, AskLine, FileLine, Replace, Number, Text, Unset, Get, Set, Array, IsOpen, Choose, Seq, Let, Bound, Codes, End, At, Fixed, Fresh, form_of, form_at}
+use Rattle.mid_code.specs.Mid.{Kind, Program, Form, Answered, Code, Do, Over, Compare, Call, Ask, AskLine, FileLine, Replace, Number, Text, Unset, Get, Set, Array, IsOpen, Choose, Seq, Let, Bound, Codes, End, At, Fixed, Fresh, form_of, form_at}
 use Rattle.mid_code.specs.MidMeaning.{Holds, Env, Values, evaluated, all_evaluated, mid_called}
 use Rattle.mid_code.specs.Names.{ArrayName}
-use Rattle.mid_code.specs.ScriptState.{State, Outcome, Doing}
-use Rattle.mid_code.specs.Sorted.{Held as Standing, Context, context_of, calls_of, has_kind, sorted, all_sorted, held_after, held_after_all, is_well_used}
-use Rattle.value_machine.specs.Cells.{Cell, OwnedArray}
+use Rattle.mid_code.specs.ScriptState.{State, Doing}
+use Rattle.mid_code.specs.Sorted.{Held as Standing, Context, context_of, calls_of, sorted, all_sorted, held_after, held_after_all, is_well_used}
+use Rattle.value_machine.specs.Cells.{OwnedArray}
 use Rattle.value_machine.specs.Emission.{Layout, array_meant, emitted, all_emitted}
 use Rattle.value_machine.specs.Functions.{layout_of}
 use Rattle.value_machine.specs.Machine.{Conf, Label, Frame, at}
@@ -23,7 +23,7 @@ use Rattle.value_machine.specs.Places.{Bases, room, rooms, arrays_in, arrays_amo
 use Rattle.value_machine.proofs.Locals.{Locals, laid}
 use Rattle.value_machine.proofs.Steps.{empty}
 use Rattle.value_machine.proofs.Relation.{HoldsAt, Meant, Kept, Below, Same, Fit, SameOwn, Away}
-use Rattle.value_machine.proofs.Answers.{machine, beside_state, Reached}
+use Rattle.value_machine.proofs.Answers.{beside_state, Reached}
 
 -- What becomes of operands once they are there.
 abbrev pub extra_of : Codes → ℕ

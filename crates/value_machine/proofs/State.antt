@@ -1,6 +1,6 @@
 -- The machine's store beside a script's state.
-use Rattle.std.proofs.Common.{◌≡◌, ◌≢◌, ◌⊎◌, ℕ, zero, suc, ◌+◌, ◌<◌, ◌≤◌, ◌^◌, Bool, true, false, List, [], ◌∷◌, length, Some, None, Option, refl, sym, ap, ap₂, ◌∙◌, arith, subst, w64, unsigned_abs}
-use Rattle.std.specs.Prelude.{ℤ, get_or, nat_eq, ◌-◌}
+use Rattle.std.proofs.Common.{◌≡◌, ℕ, zero, suc, ◌^◌, false, List, [], ◌∷◌, length, Some, None, Option, sym, ap, ◌∙◌, arith, w64, unsigned_abs}
+use Rattle.std.specs.Prelude.{get_or, nat_eq, ◌-◌}
 use Rattle.std.specs.Int.{cast_signed}
 use Rattle.std.proofs.lemmas.Bool.{ne_eqb}
 use Rattle.std.proofs.lemmas.Int.{to_z-of_z}
@@ -8,18 +8,15 @@ use Rattle.awk_values.specs.declared.fault.Fault.{Fault}
 use Rattle.awk_values.specs.declared.value.Value.{Value}
 use Rattle.awk_values.specs.declared.value.Value.TheVariants as value
 use Rattle.awk_state.specs.Constants.{flag_number}
-use Rattle.awk_state.specs.Numbers.{Number, number_of, number_word, faulted_word}
-use Rattle.awk_state.specs.SharedState.{Shared}
+use Rattle.awk_state.specs.Numbers.{Number, number_of, number_word}
 use Rattle.awk_state.proofs.Words.{word_no_fault, small, fits, number_again}
 use Rattle.wasm_store.specs.declared.word.Word.TheVariants.{I32, I64}
-use Rattle.mid_code.specs.Mid.{Kind, Boxed, Unboxed, Many, Program}
+use Rattle.mid_code.specs.Mid.{Kind, Boxed, Unboxed, Many}
 use Rattle.mid_code.specs.ScriptState.{State, Stop, Faulted, OutOfTurns, TooDeep, Nexted, Exited, Returned, global_value}
-use Rattle.mid_code.specs.Sorted.{kinds_of}
 use Rattle.value_machine.specs.Cells.{Cell, Bits, Held, OwnedArray}
 use Rattle.value_machine.specs.ImportCalls.{Host}
 use Rattle.value_machine.specs.Machine.{Store}
-use Rattle.value_machine.specs.Places.{memory_of}
-use Rattle.value_machine.specs.Small.{minus_one, least, text_beside}
+use Rattle.value_machine.specs.Small.{least, text_beside}
 use Rattle.value_machine.specs.Statements.{way_none, way_next, way_exit}
 use Rattle.value_machine.proofs.Globals.{Globals, placed}
 use Rattle.value_machine.proofs.Steps.{empty}

@@ -1,20 +1,15 @@
 -- Single instructions on locals and globals: what a step leads to.
-use Rattle.std.proofs.Common.{◌≡◌, ◌≢◌, ℕ, zero, suc, ◌+◌, ◌<◌, ◌≤◌, Bool, true, false, List, [], ◌∷◌, ◌++◌, length, Some, None, refl, sym, ap, ap₂, ◌∙◌, arith}
-use Rattle.std.specs.Prelude.{get_or, set, nat_lt, not, ◌&&◌}
-use Rattle.wasm_types.specs.Syntax.{Instructions, Done, Then, Plain}
-use Rattle.wasm_types.specs.declared.instr.Simple.TheVariants.{LocalGet, LocalSet, LocalTee, GlobalGet, GlobalSet, I32Const, Compare, Call}
-use Rattle.wasm_types.specs.declared.instr.IRelOp.TheVariants.{Eq, Ne}
-use Rattle.wasm_types.specs.declared.types.ValType.TheVariants as ty
-use Rattle.wasm_store.specs.declared.word.Word.{Word}
-use Rattle.wasm_store.specs.declared.word.Word.TheVariants.{I32, I64}
-use Rattle.wasm_store.specs.Words.{flag}
-use Rattle.awk_values.specs.declared.value.Value.{Value}
+use Rattle.std.proofs.Common.{◌≡◌, true, false, List, ◌∷◌, refl, ap, ap₂, ◌∙◌}
+use Rattle.std.specs.Prelude.{set, not, ◌&&◌}
+use Rattle.wasm_types.specs.Syntax.{Instructions}
+use Rattle.wasm_types.specs.declared.instr.Simple.TheVariants.{LocalGet, LocalSet, LocalTee}
+use Rattle.wasm_store.specs.declared.word.Word.TheVariants.{I32}
 use Rattle.mid_code.specs.Mid.{Kind}
-use Rattle.value_machine.specs.Cells.{Cell, Bits, Held, IteratorOf, OwnedArray, LentArray, Gone, is_owned, left_by, read_global, left_in_global, cell_at, has_room, none_owned}
+use Rattle.value_machine.specs.Cells.{Cell, Bits, Held, IteratorOf, OwnedArray, LentArray, Gone, is_owned, left_by, cell_at, has_room}
 use Rattle.value_machine.specs.Places.{Bases}
-use Rattle.value_machine.specs.Machine.{Code, Conf, Run, Look, Label, Frame, Store, at, guarded, teed, takes_look, step}
-use Rattle.value_machine.specs.Small.{does, minus_one, moved_out, emptied, has_handle, when, let_go, either}
-use Rattle.value_machine.proofs.Runs.{Goes, then_goes, goes_to, goes_from, stays}
+use Rattle.value_machine.specs.Machine.{Code, Label, Frame, Store, at, guarded, teed}
+use Rattle.value_machine.specs.Small.{does, minus_one, moved_out, emptied}
+use Rattle.value_machine.proofs.Runs.{Goes, then_goes, goes_to}
 use Rattle.value_machine.proofs.Locals.{Locals, Place, local_of, IsPlace, has, with_at, has_with, laid, laid_at, laid_set, laid_twice, laid_again, place_there}
 
 -- no handle
@@ -38,10 +33,12 @@ module _ {u : Code} {ks : List Kind} {F : List Frame} (b : Bases) where
   get_moved {vs = vs} {K = K} {c = c} {G = G} l p v h e =
       let L = laid b l in
       let x = local_of b p in
-      record { it =
-          ap (λ t. guarded t (at ks (cell_at L x ∷ vs) K (set L x (left_by (cell_at L x))) F c G)) (place_there b l p h)
-          ∙ (ap (λ w. at ks (w ∷ vs) K (set L x (left_by w)) F c G) (laid_at b l p h ∙ e)
-          ∙ ap (λ M. at ks (v ∷ vs) K M F c G) (laid_set b l p (left_by v) h)) }
+      record {
+        it =
+            ap (λ t. guarded t (at ks (cell_at L x ∷ vs) K (set L x (left_by (cell_at L x))) F c G)) (place_there b l p h)
+            ∙ (ap (λ w. at ks (w ∷ vs) K (set L x (left_by w)) F c G) (laid_at b l p h ∙ e)
+            ∙ ap (λ M. at ks (v ∷ vs) K M F c G) (laid_set b l p (left_by v) h));
+      }
 
   -- what is not owned stays where it is
   pub get_copied : {vs : List Cell} {K : List Label} {c : Instructions} {G : Store} → (l : Locals) (p : Place) (v : Cell) → IsPlace b p → has l p ≡ v → left_by v ≡ v →
@@ -52,16 +49,20 @@ module _ {u : Code} {ks : List Kind} {F : List Frame} (b : Bases) where
   pub set_ok : {vs : List Cell} {K : List Label} {c : Instructions} {G : Store} → (l : Locals) (p : Place) (v : Cell) → IsPlace b p → is_owned (has l p) ≡ false →
       Goes u 1 (at ks (v ∷ vs) K (laid b l) F (does (LocalSet (local_of b p)) c) G) (at ks vs K (laid b (with_at l p v)) F c G)
   set_ok {vs = vs} {K = K} {c = c} {G = G} l p v h e =
-      record { it =
-          ap (λ t. guarded t (at ks vs K (set (laid b l) (local_of b p) v) F c G)) (place_roomy b l p h e)
-          ∙ ap (λ M. at ks vs K M F c G) (laid_set b l p v h) }
+      record {
+        it =
+            ap (λ t. guarded t (at ks vs K (set (laid b l) (local_of b p) v) F c G)) (place_roomy b l p h e)
+            ∙ ap (λ M. at ks vs K M F c G) (laid_set b l p v h);
+      }
 
   pub tee_ok : {vs : List Cell} {K : List Label} {c : Instructions} {G : Store} → (l : Locals) (p : Place) (v : Cell) → IsPlace b p → is_owned (has l p) ≡ false →
       Goes u 1 (at ks (v ∷ vs) K (laid b l) F (does (LocalTee (local_of b p)) c) G) (teed v (local_of b p) ks vs K (laid b (with_at l p v)) F c G)
   tee_ok {vs = vs} {K = K} {c = c} {G = G} l p v h e =
-      record { it =
-          ap (λ t. guarded t (teed v (local_of b p) ks vs K (set (laid b l) (local_of b p) v) F c G)) (place_roomy b l p h e)
-          ∙ ap (λ M. teed v (local_of b p) ks vs K M F c G) (laid_set b l p v h) }
+      record {
+        it =
+            ap (λ t. guarded t (teed v (local_of b p) ks vs K (set (laid b l) (local_of b p) v) F c G)) (place_roomy b l p h e)
+            ∙ ap (λ M. teed v (local_of b p) ks vs K M F c G) (laid_set b l p v h);
+      }
 
   -- -1 to a place
   pub emptied_ok : {vs : List Cell} {K : List Label} {c : Instructions} {G : Store} → (l : Locals) (p : Place) → IsPlace b p → is_owned (has l p) ≡ false →

@@ -1,6 +1,6 @@
 -- Texts of the script, where they lie in memory; and names that are unboxed.
-use Rattle.std.proofs.Common.{◌≡◌, ◌≢◌, ◌⊎◌, inl, inr, ℕ, zero, suc, ◌+◌, ◌<◌, ◌≤◌, Bool, true, false, List, [], ◌∷◌, ◌++◌, length, Some, None, Option, refl, sym, ap, ap₂, ◌∙◌, subst, arith}
-use Rattle.std.specs.Prelude.{get_or, take, drop, nat_le, nat_lt, if◌then◌else◌}
+use Rattle.std.proofs.Common.{◌≡◌, inr, ℕ, zero, suc, ◌+◌, ◌<◌, ◌≤◌, true, List, [], ◌∷◌, ◌++◌, length, Some, None, refl, sym, ap, ◌∙◌, arith}
+use Rattle.std.specs.Prelude.{get_or, take, drop, if◌then◌else◌}
 use Rattle.std.proofs.lemmas.Bool.{ltb-true, le-leb}
 use Rattle.std.proofs.lemmas.List.{take_at, drop_at, drop-drop, length-append, get_or_append_left}
 use Rattle.awk_values.specs.declared.value.Value.{Value}
@@ -9,11 +9,11 @@ use Rattle.awk_state.specs.declared.table.Primitive.TheVariants as row
 use Rattle.wasm_types.specs.Syntax.{Instructions}
 use Rattle.wasm_types.specs.declared.instr.Simple.TheVariants.{LocalSet}
 use Rattle.wasm_store.specs.declared.word.Word.TheVariants.{I32, I64}
-use Rattle.mid_code.specs.Mid.{Kind, Unboxed, Program, Slot, Global, Parameter, Form, Bare, Code, Text, Get, form_of}
-use Rattle.mid_code.specs.MidMeaning.{Holds, Env, evaluated, all_evaluated}
+use Rattle.mid_code.specs.Mid.{Kind, Unboxed, Program, Global, Parameter, Bare, Text, Get}
+use Rattle.mid_code.specs.MidMeaning.{evaluated, all_evaluated}
 use Rattle.mid_code.specs.ScriptState.{State, global_value, local_value}
-use Rattle.mid_code.specs.Sorted.{sorted, all_sorted, held_after, kinds_of, announced_names}
-use Rattle.value_machine.specs.Cells.{Cell, Bits, Held, is_owned}
+use Rattle.mid_code.specs.Sorted.{sorted, all_sorted, kinds_of, announced_names}
+use Rattle.value_machine.specs.Cells.{Bits, Held, is_owned}
 use Rattle.value_machine.specs.Emission.{emitted, all_emitted, slot_read}
 use Rattle.value_machine.specs.Functions.{texts_of}
 use Rattle.value_machine.specs.ImportCalls.{with_some, and_rest, row_in, text_at}
@@ -21,13 +21,13 @@ use Rattle.value_machine.specs.Machine.{Conf, Label, Frame, at}
 use Rattle.value_machine.specs.Places.{Bases, place_of, memory_of}
 use Rattle.value_machine.specs.Small.{does, h}
 use Rattle.value_machine.proofs.Runs.{Goes, then_goes, goes_to, there}
-use Rattle.value_machine.proofs.Regions.{upd_same, upd_other}
+use Rattle.value_machine.proofs.Regions.{upd_same}
 use Rattle.value_machine.proofs.Locals.{Locals, Param, Hand, Number as NumberAt, with_at, laid}
 use Rattle.value_machine.proofs.Globals.{Hand as NameHand, Number as NameNumber}
 use Rattle.value_machine.proofs.Steps.{empty, get_copied, set_ok}
 use Rattle.value_machine.proofs.GlobalSteps.{global_copied}
 use Rattle.value_machine.proofs.State.{bare, beside, kind_here, name_hand, name_word, cells_of, arrays_before}
-use Rattle.value_machine.proofs.Relation.{Same, same_self, same_then, same_hand, same_number, Fit, fit_hand, fit_number, fit_more, SameOwn, Away}
+use Rattle.value_machine.proofs.Relation.{same_self, same_then, same_hand, same_number, Fit, fit_hand, fit_number, fit_more, Away}
 use Rattle.value_machine.proofs.Answers.{machine, beside_state, row_called, Put, put_value, put_word}
 use Rattle.value_machine.proofs.Conversions.{BareIs, IsBeside, IsNone, IsNumber, bare_is, same_state}
 use Rattle.value_machine.proofs.Copies.{if_any_global, if_none_global}
@@ -114,7 +114,7 @@ module _ (p : Program) (deepest : ℕ) (ks : List Kind) (F : List Frame) (b : Ba
             put = record { next = l1; comes = refl; fit = f1; same = same_number [] t w t l (Bits (I64 (bare x))) (omega arith); holds = (e0 ∙ sym eh, upd_same l.number t (Bits (I64 (bare x)))) };
           } in
           elim z [
-            IsBeside eb eh ↦ record {
+            | IsBeside eb eh ↦ record {
               conf = at ks [] K (laid b (with_at l1 (Hand t) (Held x))) F k (beside_state p deepest ks F σ);
               steps = 11;
               few = omega arith;
@@ -127,8 +127,8 @@ module _ (p : Program) (deepest : ℕ) (ks : List Kind) (F : List Frame) (b : Ba
                 holds = (upd_same l.hand t (Held x) ∙ sym eh, upd_same l.number t (Bits (I64 (bare x))));
               };
             }
-          | IsNone q eb eh ↦ none eh
-          | IsNumber m q eb eh ↦ none eh
+            | IsNone q eb eh ↦ none eh
+            | IsNumber m q eb eh ↦ none eh
           ]
 
   pub get_bare_global : (i : ℕ) → ExprOk p deepest ks F b M n (Get (Global true i))
