@@ -26,3 +26,4 @@ pub mod Choosing
 pub mod Making
 pub mod Numbers
 pub mod Texts
+pub mod Lists

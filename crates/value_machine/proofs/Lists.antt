@@ -1,0 +1,173 @@
+-- Operations on a list of values: the values go onto the argument list, and all of them are taken from it.
+use Rattle.std.proofs.Common.{◌≡◌, ◌≢◌, ◌⊎◌, inl, inr, ℕ, zero, suc, ◌+◌, ◌-◌, ◌<◌, ◌≤◌, Bool, true, false, List, [], ◌∷◌, ◌++◌, length, Some, None, Option, Result, Ok, Err, refl, sym, ap, ap₂, ◌∙◌, subst, arith, append-nil, append_assoc}
+use Rattle.std.specs.Prelude.{take, drop, nat_le, max, ◌&&◌, reverse}
+use Rattle.std.proofs.lemmas.Bool.{and_parts, le-leb, leb-true}
+use Rattle.awk_values.specs.declared.fault.Fault.{Fault}
+use Rattle.awk_values.specs.declared.value.Value.{Value}
+use Rattle.awk_state.specs.Constants.{destination_number}
+use Rattle.awk_state.specs.InTurn.{values_wanted, values_taken, listed_in_turn}
+use Rattle.awk_state.specs.SharedState.{Shared, shared_after}
+use Rattle.awk_state.specs.Table.{listed_answer, listed_meaning}
+use Rattle.awk_state.specs.declared.constants.Destination.{Destination}
+use Rattle.awk_state.specs.declared.constants.Destination.TheVariants.{Standard, Emptied, Appended}
+use Rattle.awk_state.specs.declared.sorts.Answer.TheVariants as answer
+use Rattle.awk_state.specs.declared.sorts.Constant.TheVariants as constant
+use Rattle.awk_state.specs.declared.sorts.Sort.TheVariants as sort
+use Rattle.awk_state.specs.declared.table.Listed.{Listed}
+use Rattle.awk_state.specs.declared.table.Listed.TheVariants as listed
+use Rattle.awk_state.proofs.Words.{constant_again}
+use Rattle.wasm_types.specs.Syntax.{Instructions}
+use Rattle.wasm_store.specs.declared.word.Word.TheVariants.{I32, I64}
+use Rattle.mid_code.specs.Mid.{Kind, Program, Form, Answered, Code, Over, Codes, End, At, Fixed, Fresh, form_of}
+use Rattle.mid_code.specs.MidMeaning.{Holds, Env, Values, evaluated, all_evaluated, boxed, listing}
+use Rattle.mid_code.specs.ScriptState.{State, Stop, Faulted, Outcome, Doing, go_on, does_listed}
+use Rattle.mid_code.specs.Sorted.{Held as Standing, sorted, all_sorted, held_after, held_after_all, fits, all_values, are_enough, count_of, kinds_of}
+use Rattle.value_machine.specs.Cells.{Cell, Bits, Held, is_owned}
+use Rattle.value_machine.specs.Emission.{emitted, all_emitted, all_boxed, all_appended, listed_asked, values_counted}
+use Rattle.value_machine.specs.ImportCalls.{Host, Acts, with_some, and_rest, row_in, call, acted, acts, replied, listed_acts, last_of, before_last_of, where_so}
+use Rattle.value_machine.specs.Machine.{Conf, Label, Frame, at, onto}
+use Rattle.value_machine.specs.Places.{Bases, rooms, arrays_among}
+use Rattle.value_machine.specs.Small.{ask, kept, to_value, h}
+use Rattle.value_machine.specs.declared.import.Import.TheVariants.{Over as OverLast, Arg}
+use Rattle.value_machine.specs.declared.import.Listing.TheVariants as last
+use Rattle.value_machine.proofs.Runs.{Goes, then_goes, goes_to, goes_from, stays, there, first, then_on, weaker_settled}
+use Rattle.value_machine.proofs.Regions.{upd_same, upd_other}
+use Rattle.value_machine.proofs.Locals.{Locals, Hand, with_at, laid}
+use Rattle.value_machine.proofs.Steps.{empty, moved_out_ok}
+use Rattle.value_machine.proofs.GlobalSteps.{storing}
+use Rattle.value_machine.proofs.Calls.{called}
+use Rattle.value_machine.proofs.HostLaws.{listed_keeps}
+use Rattle.value_machine.proofs.Relation.{HoldsAt, Kept, kept_same, Calm, Same, same_then, Fit, fit_hand, fit_less, fit_shared, SameOwn, Away}
+use Rattle.value_machine.proofs.Answers.{machine, beside_state, left_beside, after_reply, reply, IsPlain, Put, kept_ok, Reached}
+use Rattle.value_machine.proofs.Conversions.{same_state}
+use Rattle.value_machine.proofs.Converting.{Converted, converted_ok, Keeps}
+use Rattle.value_machine.proofs.Simulation.{work_of, works_of, extra_of, past, made_past, past_from, past_room, layout, context, meant, all_meant, plain_stands, Ready, Done, ExprOk, AllHeld, AllDone, CodesOk}
+use Rattle.value_machine.proofs.Operands.{all_held_same}
+use Rattle.value_machine.proofs.Arguments.{Under, under_self, under_then, under_keeps, under_same}
+use Rattle.value_machine.proofs.Expressions.{put_done}
+
+-- values make no array, and are counted
+values_make_none : (fs : List Form) (es : Codes) (w : ℕ) → all_values fs es ≡ true → made_past w es ≡ w
+values_make_none fs End w e = refl
+values_make_none fs (At c es) w e = values_make_none fs es w (and_parts (fits (form_of fs c) sort.Value) (all_values fs es) e).1
+values_make_none fs (Fixed m es) w e = cc
+values_make_none fs (Fresh es) w e = cc
+
+values_counted_so : (fs : List Form) (es : Codes) (vs : Values fs es) → all_values fs es ≡ true → count_of es ≡ length (listing fs es vs)
+values_counted_so fs End vs e = refl
+values_counted_so fs (At c es) vs e = ap suc (values_counted_so fs es vs.1 (and_parts (fits (form_of fs c) sort.Value) (all_values fs es) e).1)
+values_counted_so fs (Fixed m es) vs e = cc
+values_counted_so fs (Fresh es) vs e = cc
+
+listed_plain : (l : Listed) → IsPlain (listed_answer l)
+listed_plain listed.Sprintf = tt
+listed_plain (listed.Print to) = tt
+listed_plain (listed.Printf to) = tt
+
+abbrev list_work : ℕ → Codes → ℕ
+list_work m End = 0
+list_work m (At e es) = m + list_work m es
+list_work m (Fixed c es) = list_work m es
+list_work m (Fresh es) = list_work m es
+
+extra_lists : (es : Codes) → list_work 16 es + list_work 3 es ≤ extra_of es
+extra_lists End = omega arith
+extra_lists (At e es) = let r = extra_lists es in omega (arith, r)
+extra_lists (Fixed m es) = extra_lists es
+extra_lists (Fresh es) = let r = extra_lists es in omega (arith, r)
+
+all_taken : (n : ℕ) (vs : List Value) → n ≡ length vs → last_of n vs ≡ vs
+all_taken n vs e = let z : length vs - n ≡ zero = omega (arith, e) in ap (λ m. drop m vs) z
+
+none_left : (n : ℕ) (vs : List Value) → n ≡ length vs → before_last_of n vs ≡ []
+none_left n vs e = let z : length vs - n ≡ zero = omega (arith, e) in ap (λ m. take m vs) z
+
+module _ (p : Program) (deepest : ℕ) (ks : List Kind) (F : List Frame) (b : Bases) (M n : ℕ) where
+  -- the state with an argument list
+  abbrev with_list : State → List Value → Host
+  with_list σ vs = record { shared = σ.shared; arguments = vs; fault = None }
+
+  abbrev names_of : State → List Cell
+  names_of σ = (beside_state p deepest ks F σ).globals
+
+  abbrev ValuesAt : (fs : List Form) (es : Codes) → ℕ → Locals → Values fs es → Type 0
+  ValuesAt fs End t l vs = Unit {0}
+  ValuesAt fs (At e es) t l vs = (l.hand t ≡ Held (boxed (form_of fs e) vs.0)) × ValuesAt fs es (suc t) l vs.1
+  ValuesAt fs (Fixed m es) t l vs = ⊥
+  ValuesAt fs (Fresh es) t l vs = ⊥
+
+  -- all are made values
+  record AllBoxed (fs : List Form) (es : Codes) (t q u w : ℕ) (k : Instructions) (K : List Label) (l : Locals) (σ : State) (vs : Values fs es) : Type 0 where
+    next : Locals
+    steps : ℕ
+    few : steps ≤ list_work 16 es
+    goes : Goes (machine p deepest ks F) steps (at ks [] K (laid b l) F (all_boxed (layout p deepest ks F b M n) fs es t k) (beside_state p deepest ks F σ)) (at ks [] K (laid b next) F k (beside_state p deepest ks F σ))
+    fit : Fit p deepest ks F q u w next σ
+    under : Under t l next
+    values : ValuesAt fs es t next vs
+
+  one_boxed : (fs : List Form) (e : Code) (es : Codes) (t q u w : ℕ) (k : Instructions) (K : List Label) (l : Locals) (σ : State) (vs : Values fs (At e es)) (c : Conf) (steps : ℕ) → steps ≤ 16 →
+      Goes (machine p deepest ks F) steps (at ks [] K (laid b l) F (to_value b (form_of fs e) t (all_boxed (layout p deepest ks F b M n) fs es (suc t) k)) (beside_state p deepest ks F σ)) c →
+      (x : Converted p deepest ks F b M q u w t (Answered (answer.Of sort.Value)) (all_boxed (layout p deepest ks F b M n) fs es (suc t) k) K l (boxed (form_of fs e) vs.0) σ c) → AllBoxed fs es (suc t) q u w k K x.next σ vs.1 → AllBoxed fs (At e es) t q u w k K l σ vs
+  one_boxed fs e es t q u w k K l σ vs c steps few goes x y = record {
+    next = y.next;
+    steps = steps + y.steps;
+    few = omega (arith, few, y.few);
+    goes = then_goes (goes_to goes x.comes) y.goes;
+    fit = y.fit;
+    under = under_then t (suc t) l x.next y.next (omega arith) (under_keeps t t l x.next (omega arith) x.keeps) y.under;
+    values = (y.under.hands t (omega arith) ∙ x.holds.0, y.values);
+  }
+
+  all_boxed_ok : (fs : List Form) (es : Codes) (t q u w : ℕ) (k : Instructions) (K : List Label) (l : Locals) (σ : State) (vs : Values fs es) → all_values fs es ≡ true → past t es ≤ q → past t es ≤ b.temporaries → Fit p deepest ks F q u w l σ → AllHeld p deepest ks F b M n fs es t w l σ vs → AllBoxed fs es t q u w k K l σ vs
+  all_boxed_ok fs End t q u w k K l σ vs e lq lt ft hd = record { next = l; steps = 0; few = omega arith; goes = stays; fit = ft; under = under_self t l; values = tt }
+  all_boxed_ok fs (At c es) t q u w k K l σ vs e lq lt ft hd =
+      let ee = and_parts (fits (form_of fs c) sort.Value) (all_values fs es) e in
+      let pf = past_from (suc t) es in
+      let r = converted_ok p deepest ks F b M (form_of fs c) sort.Value vs.0 q u w t zero (all_boxed (layout p deepest ks F b M n) fs es (suc t) k) K l σ ee.0 (omega (arith, pf, lq)) (omega (arith, pf, lt)) ft hd.0 in
+      one_boxed fs c es t q u w k K l σ vs r.conf r.steps (omega (arith, r.cost.few)) (record { it = r.goes }) r.holds
+      (all_boxed_ok fs es (suc t) q u w k K r.holds.next σ vs.1 ee.1 lq lt r.holds.fit
+      (all_held_same p deepest ks F b M n fs es (suc t) w l r.holds.next σ σ vs.1 (λ j z. refl) (λ y le ly. r.holds.keeps.hands y (λ z. omega (arith, z, le))) (λ y le ly. r.holds.keeps.numbers y (λ z. omega (arith, z, le))) (λ y le ly. r.holds.keeps.arrays y) hd.2))
+  all_boxed_ok fs (Fixed m es) t q u w k K l σ vs e lq lt ft hd = absurd cc
+  all_boxed_ok fs (Fresh es) t q u w k K l σ vs e lq lt ft hd = absurd cc
+
+  -- onto the argument list
+  arg_ok : {K : List Label} {L : List Cell} {c : Instructions} → (v : Value) (gs : List Cell) (σ : State) (acc : List Value) →
+      Goes (machine p deepest ks F) 1 (at ks (Held v ∷ []) K L F (ask Arg c) (storing gs (with_list σ acc))) (at ks [] K L F c (storing gs (with_list σ (acc ++ v ∷ []))))
+  arg_ok {K = K} {L = L} {c = c} v gs σ acc =
+      goes_to (called Arg (Held v ∷ []) [] (storing gs (with_list σ acc)) None _ refl refl refl)
+      (ap (λ τ. at ks [] K L F c (storing gs (with_list τ (acc ++ v ∷ [])))) (same_state {A = Result (Unit {0}) Fault} σ (Ok tt)))
+
+  record AllAppended (fs : List Form) (es : Codes) (t u w : ℕ) (k : Instructions) (K : List Label) (l : Locals) (σ : State) (acc : List Value) (vs : Values fs es) : Type 0 where
+    next : Locals
+    goes : Goes (machine p deepest ks F) (list_work 3 es) (at ks [] K (laid b l) F (all_appended (layout p deepest ks F b M n) es t k) (storing (names_of σ) (with_list σ acc))) (at ks [] K (laid b next) F k (storing (names_of σ) (with_list σ (acc ++ listing fs es vs))))
+    fit : Fit p deepest ks F t u w next σ
+    under : Under t l next
+
+  values_same : (fs : List Form) (es : Codes) (t : ℕ) (l l1 : Locals) (vs : Values fs es) → ((x : ℕ) → t ≤ x → l1.hand x ≡ l.hand x) → ValuesAt fs es t l vs → ValuesAt fs es t l1 vs
+  values_same fs End t l l1 vs s q = tt
+  values_same fs (At e es) t l l1 vs s q = (s t (omega arith) ∙ q.0, values_same fs es (suc t) l l1 vs.1 (λ x le. s x (omega (arith, le))) q.1)
+  values_same fs (Fixed m es) t l l1 vs s q = q
+  values_same fs (Fresh es) t l l1 vs s q = q
+
+  one_appended : (fs : List Form) (e : Code) (es : Codes) (t u w : ℕ) (k : Instructions) (K : List Label) (l : Locals) (σ : State) (acc : List Value) (vs : Values fs (At e es)) → t < b.temporaries → l.hand t ≡ Held (boxed (form_of fs e) vs.0) →
+      AllAppended fs es (suc t) u w k K (with_at l (Hand t) empty) σ (acc ++ boxed (form_of fs e) vs.0 ∷ []) vs.1 → AllAppended fs (At e es) t u w k K l σ acc vs
+  one_appended fs e es t u w k K l σ acc vs lt q y =
+      let v = boxed (form_of fs e) vs.0 in
+      record {
+        next = y.next;
+        goes = goes_to (then_goes (then_goes (moved_out_ok b l (Hand t) (Held v) lt q) (arg_ok v (names_of σ) σ acc)) y.goes) (ap (λ z. at ks [] K (laid b y.next) F k (storing (names_of σ) (with_list σ z))) (append_assoc acc (v ∷ []) (listing fs es vs.1)));
+        fit = fit_less p deepest ks F t u w y.next σ (y.under.hands t (omega arith) ∙ upd_same l.hand t empty) y.fit;
+        under = under_then t (suc t) l (with_at l (Hand t) empty) y.next (omega arith) (record { hands = λ x lx. upd_other l.hand t x empty (λ z. omega (arith, z, lx)); numbers = λ x lx. refl; iterators = λ x. refl; arrays = λ x. refl }) y.under;
+      }
+
+  all_appended_ok : (fs : List Form) (es : Codes) (t u w : ℕ) (k : Instructions) (K : List Label) (l : Locals) (σ : State) (acc : List Value) (vs : Values fs es) → past t es ≤ b.temporaries → Fit p deepest ks F (past t es) u w l σ → ValuesAt fs es t l vs → AllAppended fs es t u w k K l σ acc vs
+  all_appended_ok fs End t u w k K l σ acc vs lt ft q = record { next = l; goes = record { it = ap (λ z. at ks [] K (laid b l) F k (storing (names_of σ) (with_list σ z))) (sym (append-nil acc)) }; fit = ft; under = under_self t l }
+  all_appended_ok fs (At e es) t u w k K l σ acc vs lt ft q =
+      let pf = past_from (suc t) es in
+      let l1 = with_at l (Hand t) empty in
+      one_appended fs e es t u w k K l σ acc vs (omega (arith, pf, lt)) q.0
+      (all_appended_ok fs es (suc t) u w k K l1 σ (acc ++ boxed (form_of fs e) vs.0 ∷ []) vs.1 lt (fit_hand p deepest ks F t (past (suc t) es) u w l σ empty (inl refl) (omega (arith, pf)) ft)
+      (values_same fs es (suc t) l l1 vs.1 (λ x le. upd_other l.hand t x empty (λ z. omega (arith, z, le))) q.1))
+  all_appended_ok fs (Fixed m es) t u w k K l σ acc vs lt ft q = absurd q
+  all_appended_ok fs (Fresh es) t u w k K l σ acc vs lt ft q = absurd q
