@@ -5,7 +5,9 @@ use Rattle.std.proofs.lemmas.Bool.{and_parts, le-leb, leb-true}
 use Rattle.awk_values.specs.declared.fault.Fault.{Fault}
 use Rattle.awk_values.specs.declared.value.Value.{Value}
 use Rattle.awk_state.specs.Constants.{destination_number}
-use Rattle.awk_state.specs.InTurn.{values_wanted, values_taken, listed_in_turn}
+use Rattle.awk_state.specs.InTurn.{values_wanted, values_taken, with_name, listed_in_turn}
+use Rattle.awk_state.specs.Sorts.{InAnswer}
+use Rattle.awk_state.specs.declared.sorts.Argument.TheVariants as argument
 use Rattle.awk_state.specs.SharedState.{Shared, shared_after}
 use Rattle.awk_state.specs.Table.{listed_answer, listed_meaning}
 use Rattle.awk_state.specs.declared.constants.Destination.{Destination}
@@ -20,6 +22,7 @@ use Rattle.wasm_types.specs.Syntax.{Instructions}
 use Rattle.wasm_store.specs.declared.word.Word.TheVariants.{I32, I64}
 use Rattle.mid_code.specs.Mid.{Kind, Program, Form, Answered, Code, Over, Codes, End, At, Fixed, Fresh, form_of}
 use Rattle.mid_code.specs.MidMeaning.{Holds, Env, Values, evaluated, all_evaluated, boxed, listing}
+use Rattle.mid_code.specs.Names.{ArrayName}
 use Rattle.mid_code.specs.ScriptState.{State, Stop, Faulted, Outcome, Doing, go_on, does_listed}
 use Rattle.mid_code.specs.Sorted.{Held as Standing, sorted, all_sorted, held_after, held_after_all, fits, all_values, are_enough, count_of, kinds_of}
 use Rattle.value_machine.specs.Cells.{Cell, Bits, Held, is_owned}
@@ -37,7 +40,7 @@ use Rattle.value_machine.proofs.Steps.{empty, moved_out_ok}
 use Rattle.value_machine.proofs.GlobalSteps.{storing}
 use Rattle.value_machine.proofs.Calls.{called}
 use Rattle.value_machine.proofs.HostLaws.{listed_keeps}
-use Rattle.value_machine.proofs.Relation.{HoldsAt, Kept, kept_same, Calm, Same, same_then, Fit, fit_hand, fit_less, fit_shared, SameOwn, Away}
+use Rattle.value_machine.proofs.Relation.{HoldsAt, Meant, Kept, kept_same, Calm, Same, same_then, Fit, fit_hand, fit_less, fit_shared, SameOwn, Away}
 use Rattle.value_machine.proofs.Answers.{machine, beside_state, left_beside, after_reply, reply, IsPlain, Put, kept_ok, Reached}
 use Rattle.value_machine.proofs.Conversions.{same_state}
 use Rattle.value_machine.proofs.Converting.{Converted, converted_ok, Keeps}
@@ -171,3 +174,93 @@ module _ (p : Program) (deepest : ℕ) (ks : List Kind) (F : List Frame) (b : Ba
       (values_same fs es (suc t) l l1 vs.1 (λ x le. upd_other l.hand t x empty (λ z. omega (arith, z, le))) q.1))
   all_appended_ok fs (Fixed m es) t u w k K l σ acc vs lt ft q = absurd q
   all_appended_ok fs (Fresh es) t u w k K l σ acc vs lt ft q = absurd q
+
+  -- The call that takes the whole list.
+
+  abbrev whole : (l : Listed) → List Value → State → Acts (InAnswer (listed_answer l))
+  whole l vs σ = record { does = listed_meaning l vs σ.shared; arguments = [] }
+
+  listed_acts_ok : (l : Listed) (m : ℕ) (vs : List Value) (σ : State) → m ≡ length vs → nat_le (values_wanted l) (length vs) ≡ true → listed_acts l m (with_list σ vs) ≡ Some (whole l vs σ)
+  listed_acts_ok l m vs σ e en =
+      ap₂ (λ x y. where_so (nat_le m (length vs) && listed_in_turn l x) (Some (record { does = listed_meaning l x σ.shared; arguments = y }))) (all_taken m vs e) (none_left m vs e)
+      ∙ ap₂ (λ x y. where_so (x && y) (Some (whole l vs σ))) (le-leb m (length vs) (omega (arith, e))) en
+
+  listed_reply : (L : List Cell) (K : List Label) (c : Instructions) (l : Listed) (vs : List Value) (σ : State) (r : Result (InAnswer (listed_answer l)) Fault) →
+      at ks (onto (replied (listed_answer l) (with_list σ vs) (whole l vs σ) r).0 []) K L F c (storing (names_of σ) (replied (listed_answer l) (with_list σ vs) (whole l vs σ) r).1) ≡ at ks (reply (listed_answer l) r []) K L F c (after_reply p deepest ks F r (record σ { shared = shared_after σ.shared (listed_meaning l vs σ.shared) }))
+  listed_reply L K c l vs σ (Ok x) = refl
+  listed_reply L K c l vs σ (Err f) = refl
+
+  counted_taken : (to : Destination) (m count : ℕ) → nat_le (with_name to m) count ≡ true → with_name to (values_counted to count) ≡ count
+  counted_taken Standard m count e = refl
+  counted_taken Emptied m count e = let g = leb-true (suc m) count e in omega (arith, g)
+  counted_taken Appended m count e = let g = leb-true (suc m) count e in omega (arith, g)
+
+  two_constants : (m : ℕ) (to : Destination) → row_in (machine p deepest ks F).memory (argument.Constant constant.Count ∷ argument.Constant constant.Destination ∷ []) (Bits (I32 m) ∷ Bits (I32 (destination_number to)) ∷ []) ≡ Some (m, (to, tt))
+  two_constants m to = ap (λ o. with_some (with_some (and_rest o []) (λ x. with_some (row_in (machine p deepest ks F).memory [] x.1) (λ r. Some (x.0, r)))) (λ r. Some (m, r))) (constant_again constant.Destination to)
+
+  listed_called : (l : Listed) (count t d : ℕ) (k : Instructions) (K : List Label) (L : List Cell) (vs : List Value) (σ : State) → count ≡ length vs → nat_le (values_wanted l) count ≡ true →
+      Goes (machine p deepest ks F) 1 (at ks [] K L F (listed_asked (layout p deepest ks F b M n) l count t d k) (storing (names_of σ) (with_list σ vs)))
+      (at ks (reply (listed_answer l) (listed_meaning l vs σ.shared).answer []) K L F (kept b true (listed_answer l) t d k) (after_reply p deepest ks F (listed_meaning l vs σ.shared).answer (record σ { shared = shared_after σ.shared (listed_meaning l vs σ.shared) })))
+  listed_called listed.Sprintf count t d k K L vs σ e en =
+      let l = listed.Sprintf in
+      let x = replied (listed_answer l) (with_list σ vs) (whole l vs σ) (listed_meaning l vs σ.shared).answer in
+      goes_to
+      (called (OverLast last.Sprintf) (Bits (I32 count) ∷ []) [] (storing (names_of σ) (with_list σ vs)) x.0 x.1 refl refl
+      (ap (λ o. with_some o (λ a. Some (replied (listed_answer l) (with_list σ vs) a a.does.answer))) (listed_acts_ok l count vs σ e (ap (nat_le (values_wanted l)) (sym e) ∙ en))))
+      (listed_reply L K (kept b true (listed_answer l) t d k) l vs σ (listed_meaning l vs σ.shared).answer)
+  listed_called (listed.Print to) count t d k K L vs σ e en =
+      let l = listed.Print to in
+      let m = values_counted to count in
+      let x = replied (listed_answer l) (with_list σ vs) (whole l vs σ) (listed_meaning l vs σ.shared).answer in
+      goes_to
+      (called (OverLast last.Print) (Bits (I32 m) ∷ Bits (I32 (destination_number to)) ∷ []) [] (storing (names_of σ) (with_list σ vs)) x.0 x.1 refl refl
+      (ap (acted (OverLast last.Print) (with_list σ vs)) (two_constants m to)
+      ∙ ap (λ o. with_some o (λ a. Some (replied (listed_answer l) (with_list σ vs) a a.does.answer))) (listed_acts_ok l (values_taken l m) vs σ (counted_taken to 0 count en ∙ e) (ap (nat_le (values_wanted l)) (sym e) ∙ en))))
+      (listed_reply L K (kept b true (listed_answer l) t d k) l vs σ (listed_meaning l vs σ.shared).answer)
+  listed_called (listed.Printf to) count t d k K L vs σ e en =
+      let l = listed.Printf to in
+      let m = values_counted to count in
+      let x = replied (listed_answer l) (with_list σ vs) (whole l vs σ) (listed_meaning l vs σ.shared).answer in
+      goes_to
+      (called (OverLast last.Printf) (Bits (I32 m) ∷ Bits (I32 (destination_number to)) ∷ []) [] (storing (names_of σ) (with_list σ vs)) x.0 x.1 refl refl
+      (ap (acted (OverLast last.Printf) (with_list σ vs)) (two_constants m to)
+      ∙ ap (λ o. with_some o (λ a. Some (replied (listed_answer l) (with_list σ vs) a a.does.answer))) (listed_acts_ok l (values_taken l m) vs σ (counted_taken to 1 count en ∙ e) (ap (nat_le (values_wanted l)) (sym e) ∙ en))))
+      (listed_reply L K (kept b true (listed_answer l) t d k) l vs σ (listed_meaning l vs σ.shared).answer)
+
+  listed_stands : (l : Listed) (x : InAnswer (listed_answer l)) (y : ArrayName) (σ : State) → Meant p deepest ks F (Answered (listed_answer l)) x y σ
+  listed_stands listed.Sprintf x y σ = tt
+  listed_stands (listed.Print to) x y σ = tt
+  listed_stands (listed.Printf to) x y σ = tt
+
+  pub over_expr : (l : Listed) (es : Codes) → CodesOk p deepest ks F b M n es → ExprOk p deepest ks F b M n (Over l es)
+  unfolding emitted all_emitted evaluated all_evaluated sorted all_sorted
+  over_expr lo es ok v fs env ts st t u w d k K l σ so us rm ar rd =
+      let mach = machine p deepest ks F in
+      let lay = layout p deepest ks F b M n in
+      let ctx = context p deepest ks F b M n in
+      let Q = Away p deepest ks F b d K in
+      let P = Done p deepest ks F b M n v (Over lo es) fs env ts st t u w k K l σ in
+      let s1 = and_parts (are_enough lo es) (all_values fs es && all_sorted ctx fs es) so in
+      let s2 = and_parts (all_values fs es) (all_sorted ctx fs es) s1.1 in
+      let k3 = listed_asked lay lo (count_of es) t d k in
+      let k2 = all_appended lay es t k3 in
+      let k1 = all_boxed lay fs es t k2 in
+      let pr = past_room t es in
+      let ex = extra_lists es in
+      then_on mach M (works_of es) (extra_of es + 10) (work_of (Over lo es)) σ.turns _ (AllDone p deepest ks F b M n es fs env ts st t u w k1 K l σ) P Q (all_meant p deepest ks F b M n fs env es σ) _ (omega arith)
+      (ok fs env ts st t u w d k1 K l σ s2.1 us (omega (arith, rm)) ar rd)
+      (λ vs τ c1 le a.
+      let lt : past t es ≤ b.temporaries = omega (arith, pr, rm) in
+      let bx = all_boxed_ok fs es t (past t es) u w k2 K a.next τ vs s2.0 (omega arith) lt (subst (λ z. Fit p deepest ks F (past t es) u z a.next τ) (values_make_none fs es w s2.0) a.fit) a.held in
+      let y = all_appended_ok fs es t u w k3 K bx.next τ [] vs lt bx.fit bx.values in
+      let args = listing fs es vs in
+      let d1 = listed_meaning lo args τ.shared in
+      let τ1 : State = record τ { shared = shared_after τ.shared d1 } in
+      let kp = listed_keeps lo args τ.shared in
+      let f1 = fit_shared p deepest ks F t u w y.next τ (shared_after τ.shared d1) (record { pending = kp.pending ∙ a.fit.sound.calm.pending; names = kp.names ∙ a.fit.sound.calm.names }) y.fit in
+      let un : Under t a.next y.next = under_then t t a.next bx.next y.next (omega arith) bx.under y.under in
+      first mach M (bx.steps + (list_work 3 es + 1)) 4 (extra_of es + 10) τ.turns c1 _ P Q _
+      (goes_from a.comes (then_goes bx.goes (then_goes y.goes (listed_called lo (count_of es) t d k K (laid b y.next) args τ (values_counted_so fs es vs s2.0) s1.0)))) (omega (arith, bx.few, ex))
+      (weaker_settled mach M 4 _ τ1 (Put p deepest ks F b t u w (Answered (listed_answer lo)) k K y.next) P Q d1.answer
+      (λ x c2 put. put_done p deepest ks F b M n (Over lo es) v fs env ts st t u w k K l y.next σ τ1 x c2 rd.below (same_then ts t t w w l a.next y.next (omega arith) (omega arith) a.same (under_same ts t w a.next y.next un)) a.own (kept_same fs ts (λ i. held_after_all i es (st i)) a.next y.next env t rd.below un.hands un.numbers a.kept) refl (listed_stands lo x _ τ1) put)
+      (kept_ok p deepest ks F b M true (listed_answer lo) d1.answer t u w d k K y.next τ1 (listed_plain lo) (omega (arith, rm)) f1)))
