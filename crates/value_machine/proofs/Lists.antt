@@ -1,6 +1,6 @@
 -- Operations on a list of values: the values go onto the argument list, and all of them are taken from it.
-use Rattle.std.proofs.Common.{◌≡◌, ◌≢◌, ◌⊎◌, inl, inr, ℕ, zero, suc, ◌+◌, ◌-◌, ◌<◌, ◌≤◌, Bool, true, false, List, [], ◌∷◌, ◌++◌, length, Some, None, Option, Result, Ok, Err, refl, sym, ap, ap₂, ◌∙◌, subst, arith, append-nil, append_assoc}
-use Rattle.std.specs.Prelude.{take, drop, nat_le, max, ◌&&◌, reverse}
+use Rattle.std.proofs.Common.{◌≡◌, inl, ℕ, zero, suc, ◌+◌, ◌-◌, ◌<◌, ◌≤◌, true, List, [], ◌∷◌, ◌++◌, length, Some, None, Result, Ok, Err, refl, sym, ap, ap₂, ◌∙◌, subst, arith, append-nil, append_assoc}
+use Rattle.std.specs.Prelude.{take, drop, nat_le, ◌&&◌}
 use Rattle.std.proofs.lemmas.Bool.{and_parts, le-leb, leb-true}
 use Rattle.awk_values.specs.declared.fault.Fault.{Fault}
 use Rattle.awk_values.specs.declared.value.Value.{Value}
@@ -8,7 +8,7 @@ use Rattle.awk_state.specs.Constants.{destination_number}
 use Rattle.awk_state.specs.InTurn.{values_wanted, values_taken, with_name, listed_in_turn}
 use Rattle.awk_state.specs.Sorts.{InAnswer}
 use Rattle.awk_state.specs.declared.sorts.Argument.TheVariants as argument
-use Rattle.awk_state.specs.SharedState.{Shared, shared_after}
+use Rattle.awk_state.specs.SharedState.{shared_after}
 use Rattle.awk_state.specs.Table.{listed_answer, listed_meaning}
 use Rattle.awk_state.specs.declared.constants.Destination.{Destination}
 use Rattle.awk_state.specs.declared.constants.Destination.TheVariants.{Standard, Emptied, Appended}
@@ -19,32 +19,32 @@ use Rattle.awk_state.specs.declared.table.Listed.{Listed}
 use Rattle.awk_state.specs.declared.table.Listed.TheVariants as listed
 use Rattle.awk_state.proofs.Words.{constant_again}
 use Rattle.wasm_types.specs.Syntax.{Instructions}
-use Rattle.wasm_store.specs.declared.word.Word.TheVariants.{I32, I64}
+use Rattle.wasm_store.specs.declared.word.Word.TheVariants.{I32}
 use Rattle.mid_code.specs.Mid.{Kind, Program, Form, Answered, Code, Over, Codes, End, At, Fixed, Fresh, form_of}
-use Rattle.mid_code.specs.MidMeaning.{Holds, Env, Values, evaluated, all_evaluated, boxed, listing}
+use Rattle.mid_code.specs.MidMeaning.{Values, evaluated, all_evaluated, boxed, listing}
 use Rattle.mid_code.specs.Names.{ArrayName}
-use Rattle.mid_code.specs.ScriptState.{State, Stop, Faulted, Outcome, Doing, go_on, does_listed}
-use Rattle.mid_code.specs.Sorted.{Held as Standing, sorted, all_sorted, held_after, held_after_all, fits, all_values, are_enough, count_of, kinds_of}
-use Rattle.value_machine.specs.Cells.{Cell, Bits, Held, is_owned}
+use Rattle.mid_code.specs.ScriptState.{State}
+use Rattle.mid_code.specs.Sorted.{sorted, all_sorted, held_after_all, fits, all_values, are_enough, count_of}
+use Rattle.value_machine.specs.Cells.{Cell, Bits, Held}
 use Rattle.value_machine.specs.Emission.{emitted, all_emitted, all_boxed, all_appended, listed_asked, values_counted}
-use Rattle.value_machine.specs.ImportCalls.{Host, Acts, with_some, and_rest, row_in, call, acted, acts, replied, listed_acts, last_of, before_last_of, where_so}
+use Rattle.value_machine.specs.ImportCalls.{Host, Acts, with_some, and_rest, row_in, acted, replied, listed_acts, last_of, before_last_of, where_so}
 use Rattle.value_machine.specs.Machine.{Conf, Label, Frame, at, onto}
-use Rattle.value_machine.specs.Places.{Bases, rooms, arrays_among}
-use Rattle.value_machine.specs.Small.{ask, kept, to_value, h}
+use Rattle.value_machine.specs.Places.{Bases}
+use Rattle.value_machine.specs.Small.{ask, kept, to_value}
 use Rattle.value_machine.specs.declared.import.Import.TheVariants.{Over as OverLast, Arg}
 use Rattle.value_machine.specs.declared.import.Listing.TheVariants as last
-use Rattle.value_machine.proofs.Runs.{Goes, then_goes, goes_to, goes_from, stays, there, first, then_on, weaker_settled}
+use Rattle.value_machine.proofs.Runs.{Goes, then_goes, goes_to, goes_from, stays, first, then_on, weaker_settled}
 use Rattle.value_machine.proofs.Regions.{upd_same, upd_other}
 use Rattle.value_machine.proofs.Locals.{Locals, Hand, with_at, laid}
 use Rattle.value_machine.proofs.Steps.{empty, moved_out_ok}
 use Rattle.value_machine.proofs.GlobalSteps.{storing}
 use Rattle.value_machine.proofs.Calls.{called}
 use Rattle.value_machine.proofs.HostLaws.{listed_keeps}
-use Rattle.value_machine.proofs.Relation.{HoldsAt, Meant, Kept, kept_same, Calm, Same, same_then, Fit, fit_hand, fit_less, fit_shared, SameOwn, Away}
-use Rattle.value_machine.proofs.Answers.{machine, beside_state, left_beside, after_reply, reply, IsPlain, Put, kept_ok, Reached}
+use Rattle.value_machine.proofs.Relation.{Meant, kept_same, same_then, Fit, fit_hand, fit_less, fit_shared, Away}
+use Rattle.value_machine.proofs.Answers.{machine, beside_state, after_reply, reply, IsPlain, Put, kept_ok}
 use Rattle.value_machine.proofs.Conversions.{same_state}
-use Rattle.value_machine.proofs.Converting.{Converted, converted_ok, Keeps}
-use Rattle.value_machine.proofs.Simulation.{work_of, works_of, extra_of, past, made_past, past_from, past_room, layout, context, meant, all_meant, plain_stands, Ready, Done, ExprOk, AllHeld, AllDone, CodesOk}
+use Rattle.value_machine.proofs.Converting.{Converted, converted_ok}
+use Rattle.value_machine.proofs.Simulation.{work_of, works_of, extra_of, past, made_past, past_from, past_room, layout, context, all_meant, Done, ExprOk, AllHeld, AllDone, CodesOk}
 use Rattle.value_machine.proofs.Operands.{all_held_same}
 use Rattle.value_machine.proofs.Arguments.{Under, under_self, under_then, under_keeps, under_same}
 use Rattle.value_machine.proofs.Expressions.{put_done}
