@@ -35,11 +35,11 @@ pub record Keeps (i j : Inner) : Type 0 where
   pub pending : j.pending ≡ i.pending
   pub names : j.names ≡ i.names
 
-keeps_same : (i : Inner) → Keeps i i
+pub keeps_same : (i : Inner) → Keeps i i
 keeps_same i = record { pending = refl; names = refl }
 
 -- where there is an answer, its state keeps them
-abbrev Good : {B : Type 0} → (B → Inner) → Inner → Result B Fault → Type 0
+abbrev pub Good : {B : Type 0} → (B → Inner) → Inner → Result B Fault → Type 0
 Good g i (Ok x) = Keeps i (g x)
 Good g i (Err f) = Unit {0}
 
@@ -56,7 +56,7 @@ settled_keeps : {A : Type 0} → (s : Shared) (r : Result (Inner × A) Fault) �
 settled_keeps s (Ok x) h = h
 settled_keeps s (Err f) h = keeps_same s.inner
 
-record_good : (text : List ℕ) (i : Inner) → Good (λ j. j) i (with_record text i)
+pub record_good : (text : List ℕ) (i : Inner) → Good (λ j. j) i (with_record text i)
 record_good text i =
     bound (λ j. j) i (fields_of (special_text Fs i) (special_text Rs i) text) (λ texts. field_number (pos (length texts)) >>= λ n. Ok (record i { whole = StrNum text; fields = map StrNum texts }))
     (λ texts. bound (λ j. j) i (field_number (pos (length texts))) (λ n. Ok (record i { whole = StrNum text; fields = map StrNum texts })) (λ n. record { pending = refl; names = refl }))
@@ -72,7 +72,7 @@ done_good : (i : Inner) (r : Result Inner Fault) → Good (λ j. j) i r → Good
 done_good i (Ok j) h = h
 done_good i (Err f) h = tt
 
-special_good : (s : Special) (v : Value) (i : Inner) → Good (λ j. j) i (set_special s v i)
+pub special_good : (s : Special) (v : Value) (i : Inner) → Good (λ j. j) i (set_special s v i)
 special_good Nf v i = bound (λ j. j) i (number_of_value v) _ (λ z. bound (λ j. j) i (field_number z) _ (λ n. fields_good (resized n i.fields) i))
 special_good _ v i = record { pending = refl; names = refl }
 

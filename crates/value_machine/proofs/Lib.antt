@@ -27,3 +27,4 @@ pub mod Making
 pub mod Numbers
 pub mod Texts
 pub mod Lists
+pub mod InputLaws
