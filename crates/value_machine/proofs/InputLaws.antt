@@ -1,19 +1,26 @@
 -- What rows of the main input, and assignments of the command line, leave: the names as they are; what is pending is of a scalar name, and a text of the input; they put nothing out.
-use Rattle.std.proofs.Common.{◌≡◌, ℕ, zero, suc, Bool, true, false, List, [], ◌∷◌, Some, None, Option, Result, Ok, Err, refl, sym, ap, ◌∙◌, subst}
-use Rattle.std.specs.Prelude.{ℤ, ◌-◌, ◌+◌, ◌^◌, pos}
+use Rattle.std.proofs.Common.{◌≡◌, ℕ, zero, suc, Bool, true, false, List, [], ◌∷◌, Some, None, Option, Result, Ok, Err, refl, ◌∙◌}
+use Rattle.std.specs.Prelude.{ℤ, ◌-◌, ◌+◌, ◌^◌, pos, is_some, length}
 use Rattle.awk_text.specs.Escapes.{unescaped}
 use Rattle.awk_values.specs.Operators.{sum}
-use Rattle.awk_values.specs.Values.{number_of_value}
+use Rattle.awk_values.specs.Values.{number_of_value, text_of_value}
 use Rattle.awk_values.specs.declared.fault.Fault.{Fault}
-use Rattle.awk_values.specs.declared.fault.Fault.TheVariants.{BadAssignment}
-use Rattle.awk_values.specs.declared.value.Value.TheVariants.{StrNum, Num}
-use Rattle.world_core.specs.WorldState.{Outside, Source}
+use Rattle.awk_values.specs.declared.fault.Fault.TheVariants.{BadAssignment, TooManyStreams}
+use Rattle.awk_values.specs.declared.value.Value.{Value}
+use Rattle.awk_values.specs.declared.value.Value.TheVariants.{StrNum, Num, Text}
+use Rattle.world_core.specs.WorldState.{Outside, Source, Named}
 use Rattle.awk_state.specs.Constants.{specials}
 use Rattle.awk_state.specs.SharedState.{Inner, Shared, MainReader, Standard, File, Operands, NoFile, SomeFile, NoneLeft, ◌>>=◌, settles, special_of, with_special}
 use Rattle.awk_state.specs.Assignments.{assignment_of, assigned, assigned_by, assigned_global, made_here, declared, named, takes_none}
 use Rattle.awk_state.specs.FieldRows.{set_special, with_record}
+use Rattle.ere_syntax.specs.Tree.{Tree}
+use Rattle.awk_state.specs.Numbers.{Number}
+use Rattle.awk_state.specs.Texts.{limited, counted}
+use Rattle.awk_state.specs.FirstMatch.{expression_of}
+use Rattle.awk_state.specs.TextRows.{substitute_row, substituted_by, replaced, places_of}
+use Rattle.awk_state.specs.OutputRows.{has_room}
 use Rattle.awk_state.specs.Records.{Got, Record, AtEnd, Broken}
-use Rattle.awk_state.specs.InputRows.{Main, Taken, Over, Pending, NotOpened, Failed, reader_source, leaves, stops_reading, begins_reading, with_operands, got_main, read_main, reader_of, opened, made, file_or_assignment, taken, operand_text, passes_operand, over, follows, is_below, with_argc, reached, reach, reach_by, next_operand, go_on, main_input, next_record, counted_by, counted_record, as_record, as_line, next_of, next_main_row, getline_of, getline_by, getline_row, getline_line_row, start_by, start_from}
+use Rattle.awk_state.specs.InputRows.{Main, Taken, Over, Pending, NotOpened, Failed, reader_source, leaves, stops_reading, begins_reading, with_operands, got_main, read_main, reader_of, opened, made, file_or_assignment, taken, operand_text, passes_operand, over, follows, is_below, reached, reach, reach_by, next_operand, go_on, main_input, next_record, got_file, read_file, opened_file, open_or_read, getline_line_file_row, source_of, reader_named, with_reader, counted_by, counted_record, as_record, as_line, next_of, next_main_row, getline_of, getline_by, getline_row, getline_line_row, start_by, start_from}
 use Rattle.awk_state.specs.declared.answers.InputAnswer.{InputAnswer}
 use Rattle.awk_state.specs.declared.answers.InputAnswer.TheVariants as input
 use Rattle.awk_state.specs.declared.answers.AssignAnswer.{AssignAnswer}
@@ -260,6 +267,83 @@ next_main_row_good o i = by (main_input o i) (main_good o i)
     by : (r : Result (Inner × Main) Fault) → GoodMain i r → GoodInput i (r >>= λ x. next_of x)
     by (Ok x) h = next_good_of i x.0 x.1 h
     by (Err f) h = tt
+
+-- What was read for a variable is there, and so is the text of a substitution.
+
+abbrev pub LineAt : Inner → InputAnswer → Type 0
+LineAt j input.Read = is_some j.line ≡ true
+LineAt j _ = Unit {0}
+
+abbrev pub LineThere : Result (Inner × InputAnswer) Fault → Type 0
+LineThere (Ok x) = LineAt x.0 x.1
+LineThere (Err f) = Unit {0}
+
+line_got : (i : Inner) (g : Got) → LineThere (got_file as_line i g)
+line_got i (Record text) = refl
+line_got i AtEnd = tt
+line_got i Broken = tt
+
+line_read : (name : List ℕ) (source : Source) (i : Inner) → LineThere (read_file as_line name source i)
+line_read name source i = by (next_record i source)
+  where
+    by : (r : Result (Got × Source) Fault) → LineThere (r >>= λ got. got_file as_line (record i { readers = with_reader name got.1 i.readers }) got.0)
+    by (Ok x) = line_got (record i { readers = with_reader name x.1 i.readers }) x.0
+    by (Err f) = tt
+
+line_opened : (name : List ℕ) (s : Option Source) (i : Inner) → LineThere (opened_file as_line name s i)
+line_opened name None i = tt
+line_opened name (Some s) i = line_read name s i
+
+line_named : (name : List ℕ) (o : Outside) (s : Option Source) (i : Inner) → LineThere (open_or_read as_line name o s i)
+line_named name o (Some s) i = line_read name s i
+line_named name o None i = by (has_room i)
+  where
+    by : (t : Bool) → LineThere (elim t [ true ↦ opened_file as_line name (source_of (o (Named name))) i | false ↦ Err TooManyStreams ])
+    by true = line_opened name (source_of (o (Named name))) i
+    by false = tt
+
+pub file_line_there : (name : Value) (o : Outside) (i : Inner) → LineThere (getline_line_file_row name o i)
+file_line_there name o i = line_named (text_of_value name) o (reader_named (text_of_value name) i.readers) i
+
+line_counted : (text : List ℕ) (r : Result Inner Fault) → LineThere (r >>= λ k. as_line text k)
+line_counted text (Ok k) = refl
+line_counted text (Err f) = tt
+
+line_of : (i : Inner) (m : Main) → LineThere (getline_of as_line (i, m))
+line_of i (Taken text) = line_counted text (counted_record i)
+line_of i Over = tt
+line_of i Pending = tt
+line_of i NotOpened = tt
+line_of i Failed = tt
+
+line_main : (r : Result (Inner × Main) Fault) → LineThere (r >>= λ x. getline_of as_line x)
+line_main (Ok x) = line_of x.0 x.1
+line_main (Err f) = tt
+
+line_unless : (t : Bool) (o : Outside) (i : Inner) → LineThere (getline_by t as_line o i)
+line_unless true o i = tt
+line_unless false o i = line_main (main_input o i)
+
+pub line_there : (o : Outside) (i : Inner) → LineThere (getline_line_row o i)
+line_there o i = line_unless i.in_end o i
+
+abbrev pub TextThere : Result (Inner × Number) Fault → Type 0
+TextThere (Ok x) = is_some x.0.substituted ≡ true
+TextThere (Err f) = Unit {0}
+
+text_by : (ps : List (ℕ × ℕ)) (by text : List ℕ) (i : Inner) → TextThere (substituted_by ps by text i)
+text_by ps by text i = on (limited (replaced text by 0 ps))
+  where
+    on : (r : Result (List ℕ) Fault) → TextThere (r >>= λ new. Ok (record i { substituted = Some (Text new) }, counted (length ps)))
+    on (Ok new) = refl
+    on (Err f) = tt
+
+pub text_there : (ere by target : Value) (all : Bool) (i : Inner) → TextThere (substitute_row ere by target all i)
+text_there ere by target all i = on (expression_of (text_of_value ere))
+  where
+    on : (r : Result Tree Fault) → TextThere (r >>= λ t. substituted_by (places_of t (text_of_value target) all) (text_of_value by) (text_of_value target) i)
+    on (Ok t) = text_by (places_of t (text_of_value target) all) (text_of_value by) (text_of_value target) i
+    on (Err f) = tt
 
 -- these rows put nothing out
 pub settles_quietly : {A : Type 0} → (s : Shared) (r : Result (Inner × A) Fault) → (settles s r).added ≡ []
