@@ -28,3 +28,4 @@ pub mod Numbers
 pub mod Texts
 pub mod Lists
 pub mod InputLaws
+pub mod Induction

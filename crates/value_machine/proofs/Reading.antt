@@ -260,7 +260,7 @@ module _ (p : Program) (deepest : ℕ) (ks : List Kind) (F : List Frame) (b : Ba
 
   -- Names.
 
-  get_global : (i : ℕ) → ExprOk p deepest ks F b M n (Get (Global false i))
+  pub get_global : (i : ℕ) → ExprOk p deepest ks F b M n (Get (Global false i))
   unfolding emitted all_emitted evaluated all_evaluated sorted all_sorted
   get_global i v fs env ts st t u w d k K l σ so us rm ar rd =
       let kinds = kinds_of p.globals in
@@ -269,7 +269,7 @@ module _ (p : Program) (deepest : ℕ) (ks : List Kind) (F : List Frame) (b : Ba
       (copied_global p deepest ks F b l (NameHand i) t x σ (kind_below kinds i Boxed so) (omega (arith, rm)) (ap (λ c. name_hand c (suc (suc (arrays_before kinds i))) x) (kind_found kinds i Boxed so)) (ap is_owned (rd.fit.free t (omega arith)))) (omega arith)
       (put_done p deepest ks F b M n (Get (Global false i)) v fs env ts st t u w k K l l σ σ x _ rd.below (same_self ts t w l) (λ j q. refl) rd.kept refl tt (put_value p deepest ks F b M t u w k K l x σ rd.fit))
 
-  get_parameter : (i : ℕ) → ExprOk p deepest ks F b M n (Get (Parameter false i))
+  pub get_parameter : (i : ℕ) → ExprOk p deepest ks F b M n (Get (Parameter false i))
   unfolding emitted all_emitted evaluated all_evaluated sorted all_sorted
   get_parameter i v fs env ts st t u w d k K l σ so us rm ar rd =
       let x = local_value i σ in
