@@ -29,3 +29,4 @@ pub mod Texts
 pub mod Lists
 pub mod InputLaws
 pub mod Induction
+pub mod Setting
