@@ -56,7 +56,7 @@ module _ (b : Bases) (l : Locals) (P Q : Place) (c d : Cell) (pp : IsPlace b P) 
       ∙ laid_set b l Q d qq))))
 
 module _ (p : Program) (deepest : ℕ) (ks : List Kind) (F : List Frame) (b : Bases) where
-  dup_ok : {vs : List Cell} {K : List Label} {c : Instructions} → (x : ℕ) (L gs : List Cell) (v : Value) (σ : State) → cell_at L x ≡ Held v →
+  pub dup_ok : {vs : List Cell} {K : List Label} {c : Instructions} → (x : ℕ) (L gs : List Cell) (v : Value) (σ : State) → cell_at L x ≡ Held v →
       Goes (machine p deepest ks F) 1 (Look x ks vs K L F (ask_row row.Dup c) (storing gs (host_of σ None))) (at ks (Held v ∷ vs) K L F c (storing gs (host_of σ None)))
   dup_ok {vs = vs} {K = K} {c = c} x L gs v σ e = by_steps 1
       (ap (λ w. ask_looking (Some (Of row.Dup)) w ks vs K L F c (storing gs (host_of σ None))) e

@@ -30,3 +30,4 @@ pub mod Lists
 pub mod InputLaws
 pub mod Induction
 pub mod Setting
+pub mod Written
