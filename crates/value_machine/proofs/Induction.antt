@@ -1,0 +1,73 @@
+-- All expressions do what they mean, if those constructs do that are still to be proved (`Rest`).
+use Rattle.std.specs.Prelude.{ℕ, Bool, true, false, List}
+use Rattle.awk_values.specs.declared.comparison.CompareOp.{CompareOp}
+use Rattle.mid_code.specs.declared.mid.Arithmetic.{Arithmetic}
+use Rattle.mid_code.specs.declared.mid.Operation.TheVariants.{Host, Inline, AsNumber, FieldNumber}
+use Rattle.mid_code.specs.Mid.{Kind, Program, Slot, Global, Parameter, Code, Do, Over, Compare, Call, Ask, AskLine, FileLine, Replace, Number, Text, Unset, Get, Set, Array, IsOpen, Choose, Seq, Let, Bound, Codes, End, At, Fixed, Fresh}
+use Rattle.value_machine.specs.Machine.{Frame}
+use Rattle.value_machine.specs.Places.{Bases}
+use Rattle.value_machine.proofs.Simulation.{ExprOk, CodesOk}
+use Rattle.value_machine.proofs.Operands.{codes_end, codes_at, codes_fixed}
+use Rattle.value_machine.proofs.Making.{codes_fresh}
+use Rattle.value_machine.proofs.Expressions.{do_host}
+use Rattle.value_machine.proofs.Numbers.{do_as_number, do_field_number}
+use Rattle.value_machine.proofs.Leaves.{number_expr, unset_expr, open_expr, array_expr}
+use Rattle.value_machine.proofs.Texts.{text_expr, get_bare_global, get_bare_parameter}
+use Rattle.value_machine.proofs.Reading.{get_global, get_parameter, moves_expr, copies_expr}
+use Rattle.value_machine.proofs.Keeping.{seq_expr, let_expr}
+use Rattle.value_machine.proofs.Choosing.{choose_expr}
+use Rattle.value_machine.proofs.Lists.{over_expr}
+
+module _ (p : Program) (deepest : ℕ) (ks : List Kind) (F : List Frame) (b : Bases) (M n : ℕ) where
+  abbrev pub Expr : Code → Type 0
+  Expr e = ExprOk p deepest ks F b M n e
+
+  abbrev pub Operands : Codes → Type 0
+  Operands es = CodesOk p deepest ks F b M n es
+
+  -- what is still to be proved of each construct
+  pub record Rest : Type 0 where
+    pub inline : (a : Arithmetic) (es : Codes) → Operands es → Expr (Do (Inline a) es)
+    pub compare : (c : CompareOp) (x y : Code) → Expr x → Expr y → Expr (Compare c x y)
+    pub call : (f : ℕ) (es : Codes) → Operands es → Expr (Call f es)
+    pub ask : Expr Ask
+    pub ask_line : (s : Code) → Expr s → Expr (AskLine s)
+    pub file_line : (e s : Code) → Expr e → Expr s → Expr (FileLine e s)
+    pub replace : (all : Bool) (es : Codes) (s : Code) → Operands es → Expr s → Expr (Replace all es s)
+    pub assign : (x : Slot) (e : Code) → Expr e → Expr (Set x e)
+
+  module _ (rest : Rest) where
+    mutual
+      pub expr_ok : (e : Code) → Expr e
+      expr_ok (Do (Host q) es) = do_host p deepest ks F b M n q es (codes_ok es)
+      expr_ok (Do (Inline a) es) = rest.inline a es (codes_ok es)
+      expr_ok (Do AsNumber es) = do_as_number p deepest ks F b M n es (codes_ok es)
+      expr_ok (Do FieldNumber es) = do_field_number p deepest ks F b M n es (codes_ok es)
+      expr_ok (Over l es) = over_expr p deepest ks F b M n l es (codes_ok es)
+      expr_ok (Compare c x y) = rest.compare c x y (expr_ok x) (expr_ok y)
+      expr_ok (Call f es) = rest.call f es (codes_ok es)
+      expr_ok Ask = rest.ask
+      expr_ok (AskLine s) = rest.ask_line s (expr_ok s)
+      expr_ok (FileLine e s) = rest.file_line e s (expr_ok e) (expr_ok s)
+      expr_ok (Replace all es s) = rest.replace all es s (codes_ok es) (expr_ok s)
+      expr_ok (Number z) = number_expr p deepest ks F b M n z
+      expr_ok (Text i) = text_expr p deepest ks F b M n i
+      expr_ok Unset = unset_expr p deepest ks F b M n
+      expr_ok (Get (Global false i)) = get_global p deepest ks F b M n i
+      expr_ok (Get (Global true i)) = get_bare_global p deepest ks F b M n i
+      expr_ok (Get (Parameter false i)) = get_parameter p deepest ks F b M n i
+      expr_ok (Get (Parameter true i)) = get_bare_parameter p deepest ks F b M n i
+      expr_ok (Set x e) = rest.assign x e (expr_ok e)
+      expr_ok (Array a) = array_expr p deepest ks F b M n a
+      expr_ok (IsOpen i) = open_expr p deepest ks F b M n i
+      expr_ok (Choose s c x y) = choose_expr p deepest ks F b M n s c x y (expr_ok c) (expr_ok x) (expr_ok y)
+      expr_ok (Seq x y) = seq_expr p deepest ks F b M n x y (expr_ok x) (expr_ok y)
+      expr_ok (Let x y) = let_expr p deepest ks F b M n x y (expr_ok x) (expr_ok y)
+      expr_ok (Bound true i) = moves_expr p deepest ks F b M n i
+      expr_ok (Bound false i) = copies_expr p deepest ks F b M n i
+
+      pub codes_ok : (es : Codes) → Operands es
+      codes_ok End = codes_end p deepest ks F b M n
+      codes_ok (At e es) = codes_at p deepest ks F b M n e es (expr_ok e) (codes_ok es)
+      codes_ok (Fixed m es) = codes_fixed p deepest ks F b M n m es (codes_ok es)
+      codes_ok (Fresh es) = codes_fresh p deepest ks F b M n es (codes_ok es)
