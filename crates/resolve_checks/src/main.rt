@@ -83,11 +83,13 @@ fn is_named_in_code(alloc: Global, resolved: &Resolved) -> Result<bool, AllocErr
     let mid = to_mid(alloc, resolved)?;
     let functions = &resolved.functions;
     let mut pairs = mid.routines.iter().zip(functions);
-    Ok(are_globals(&mid.globals, &resolved.globals)
-        && mid.routines.len() == functions.len()
-        && pairs.all(|(it, function)| {
-            it.name.as_slice() == function.name && are_parameters(it, &function.parameters)
-        }))
+    Ok(
+        are_globals(&mid.globals, &resolved.globals)
+            && mid.routines.len() == functions.len()
+            && pairs.all(|(it, function)| {
+                it.name.as_slice() == function.name && are_parameters(it, &function.parameters)
+            }),
+    )
 }
 
 /// A refusal and the name that it carries.

@@ -14,4 +14,4 @@ encoded_next cs i below =
 pub loop-byte-preserved : goal.loop-byte-preserved
 loop-byte-preserved g c p =
     has_written_of_eq _ _ _ _ _ (encoded_next c.deref-byte-items.result.now c.loop-byte.byte-index (search rules))
-        (has_written_append _ _ _ _ (encode_utf8 (get_or c.deref-byte-items.result.now c.loop-byte.byte-index 0)) _ (c.loop-byte.invariant p) (search rules))
+    (has_written_append _ _ _ _ (encode_utf8 (get_or c.deref-byte-items.result.now c.loop-byte.byte-index 0)) _ (c.loop-byte.invariant p) (search rules))
