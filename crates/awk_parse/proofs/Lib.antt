@@ -1,2 +1,4 @@
+pub mod JumpWords
+pub mod NumberTexts
 pub mod Parsing
 pub mod Places

@@ -1,3 +1,4 @@
 pub mod Scan
 pub mod Jumps
+pub mod Numbers
 pub mod Parsing

@@ -6,4 +6,5 @@ pub mod Sound
 pub mod Longest
 pub mod Meaning
 pub mod LongExponent
-pub mod Octals
+mod Nonzero
+mod Octals

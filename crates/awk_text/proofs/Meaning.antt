@@ -102,8 +102,14 @@ whole_one n (Err Fraction) none =
 
 -- The number of a text.
 
-front_kept : (text front rest : List ℕ) (read : Option (Numeral × List ℕ)) → text ≡ front ++ rest → numeral_at text ≡ read → numeral_at (front ++ rest) ≡ read
+pub front_kept : (text front rest : List ℕ) (read : Option (Numeral × List ℕ)) → text ≡ front ++ rest → numeral_at text ≡ read → numeral_at (front ++ rest) ≡ read
 front_kept text front rest read parted e = ap numeral_at (sym parted) ∙ e
+
+pub read_longest : (text : List ℕ) (n : Numeral) (rest : List ℕ) → numeral_at text ≡ Some (n, rest) → IsLongestFront text n rest
+read_longest text n rest e = record {
+  front = numeral_sound text n rest e;
+  longest = λ m behind f. numeral_longest f.front m behind f.is (n, rest) (front_kept text f.front behind (Some (n, rest)) f.parted e);
+}
 
 read_meant : (value : Numeral → Result ℤ NumberFault) (IsValue : Numeral → Result ℤ NumberFault → Type 0) → ((n : Numeral) → IsValue n (value n)) →
     (text : List ℕ) (read : Option (Numeral × List ℕ)) → numeral_at text ≡ read → IsNumberOf IsValue text (of_front value read)
@@ -111,15 +117,7 @@ read_meant value IsValue meant text None e = inr record {
   none = λ n rest f. numeral_some f.front n rest f.is (front_kept text f.front rest None f.parted e);
   zero = refl;
 }
-read_meant value IsValue meant text (Some (n, rest)) e = inl record {
-  numeral = n;
-  rest = rest;
-  longest = record {
-    front = numeral_sound text n rest e;
-    longest = λ m behind f. numeral_longest f.front m behind f.is (n, rest) (front_kept text f.front behind (Some (n, rest)) f.parted e);
-  };
-  value = meant n;
-}
+read_meant value IsValue meant text (Some (n, rest)) e = inl record { numeral = n; rest = rest; longest = read_longest text n rest e; value = meant n }
 
 -- two prefixes that leave equally much are one
 one_front : (text a b x y : List ℕ) → text ≡ a ++ x → text ≡ b ++ y → length x ≡ length y → a ≡ b
@@ -138,7 +136,7 @@ one_numeral text m n p q =
     let second : at text ≡ Some (n, []) = ap at (sym (append-nil text)) ∙ numeral_exact text n [] q end_stops in
     ap (numeral_or m) (sym first ∙ second)
 
-longest_read : (text : List ℕ) (n m : Numeral) (rest behind : List ℕ) → IsLongestFront text n rest → numeral_at text ≡ Some (m, behind) → n ≡ m
+pub longest_read : (text : List ℕ) (n m : Numeral) (rest behind : List ℕ) → IsLongestFront text n rest → numeral_at text ≡ Some (m, behind) → n ≡ m
 longest_read text n m rest behind l e =
     let f = numeral_sound text m behind e in
     let g = l.front in

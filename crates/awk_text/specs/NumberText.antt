@@ -1,5 +1,5 @@
 -- What number text is, and which number a text stands for.
-use Rattle.std.specs.Prelude.{◌≡◌, ◌⊎◌, ℕ, ◌+◌, ◌*◌, ◌^◌, ◌<◌, ◌≤◌, Bool, true, false, Result, Ok, Err, List, [], ◌∷◌, ◌++◌, length, ℤ, pos, neg_ℤ, ◌≤ℤ◌}
+use Rattle.std.specs.Prelude.{◌≡◌, ◌⊎◌, ℕ, ◌+◌, ◌*◌, ◌^◌, ◌<◌, ◌≤◌, Bool, true, false, ◌==◌, Result, Ok, Err, List, [], ◌∷◌, ◌++◌, length, ℤ, pos, neg_ℤ, ◌≤ℤ◌}
 use Rattle.awk_text.specs.Reading.{AllPass, AreDigits, Numeral, is_space}
 use Rattle.awk_text.specs.Number.{numerator, denominator, signed}
 use Rattle.awk_text.specs.declared.number.NumberFault.{NumberFault}
@@ -92,3 +92,13 @@ pub record IsNumericLooking (text : List ℕ) : Type 0 where
   pub rest : List ℕ
   pub front : IsFront text numeral rest
   pub blank : AllPass is_space rest
+
+abbrev pub is_zero : ℕ → Bool
+is_zero c = c == 48
+
+-- a mantissa digit other than 0 in the longest prefix that is number text
+pub record IsNonzero (text : List ℕ) : Type 0 where
+  pub numeral : Numeral
+  pub rest : List ℕ
+  pub longest : IsLongestFront text numeral rest
+  pub other : AllPass is_zero (numeral.whole ++ numeral.fraction) → ⊥

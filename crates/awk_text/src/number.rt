@@ -1,6 +1,6 @@
 ghost use Rattle.std.specs.Prelude.{◌≡◌, ℕ, ◌+◌, ◌-◌, ◌*◌, ◌/◌, ◌%◌, ◌^◌, ◌<◌, ◌≤◌, ◌==◌, ◌↔◌, IsTrue, min};
 ghost use Rattle.awk_text.specs.Number.{capped, ranged, denominator, is_nonzero_text, looks_numeric_text, number_of_text, numerator, truncated_of_text, value_after};
-ghost use Rattle.awk_text.specs.NumberText.{IsNumberOf, IsNumericLooking, IsTruncatedValue, IsWholeValue};
+ghost use Rattle.awk_text.specs.NumberText.{IsNonzero, IsNumberOf, IsNumericLooking, IsTruncatedValue, IsWholeValue};
 ghost use Rattle.awk_text.specs.Parts.{parts};
 ghost use Rattle.awk_text.specs.Reading.{AreDigits};
 
@@ -153,7 +153,8 @@ pub fn looks_numeric(text: &[u8]) -> bool
 ///
 /// This is the truth of a numeric string: it never faults, however long the exponent or the fraction.
 pub fn is_nonzero(text: &[u8]) -> bool
-    ensures { result ≡ is_nonzero_text text.now }
+    ensures value { result ≡ is_nonzero_text text.now }
+    ensures meaning { IsTrue result ↔ IsNonzero text.now }
 {
     match read_numeral(text) {
         None => false,

@@ -2,6 +2,7 @@ mod Good
 mod Ways
 mod Variables
 mod Operands
+mod Parsed
 mod Sound
 mod Places
 mod Trees

@@ -1,6 +1,8 @@
 //! Laws of the code of scripts, each the contract of a function that does nothing.
 ghost use Rattle.std.specs.Prelude.{◌≡◌, List, None};
+ghost use Rattle.awk_tokens.specs.Cutting.{Spelled};
 ghost use Rattle.awk_grammar.specs.Item.{Item, IsScript};
+ghost use Rattle.awk_parse.specs.Parsing.{IsParsed};
 ghost use Rattle.awk_resolve.specs.Kinds.{refusal};
 ghost use Rattle.mid_code.specs.Kinds.{resolved};
 ghost use Rattle.mid_code.specs.Names.{Resolved};
@@ -20,4 +22,10 @@ pub fn code_is_sorted()
 pub fn resolved_scripts_fit()
     ensures fits { (items : List Item) → IsScript items → ArePlaced items → refusal items ≡ None → Fits (resolved items) }
     ensures code { (items : List Item) → IsScript items → ArePlaced items → refusal items ≡ None → IsSorted (program_of (resolved items)) }
+{}
+
+/// A script that the parser gives has its jumps in their places; so its code is well sorted, where its names are not refused.
+pub fn parsed_scripts_are_placed()
+    ensures placed { (tokens : List Spelled) (items : List Item) → IsParsed tokens items → ArePlaced items }
+    ensures code { (tokens : List Spelled) (items : List Item) → IsParsed tokens items → refusal items ≡ None → IsSorted (program_of (resolved items)) }
 {}

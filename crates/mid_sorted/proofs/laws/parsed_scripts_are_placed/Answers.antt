@@ -1,0 +1,11 @@
+use Rattle.mid_code.specs.Kinds.{resolved}
+use Rattle.mid_sorted.proofs.Parsed.{parsed_placed}
+use Rattle.mid_sorted.proofs.Resolves.{script_fits}
+use Rattle.mid_sorted.proofs.Scripts.{script_sorted}
+use Rattle.mid_sorted.proofs.laws.parsed_scripts_are_placed.Goals as goal
+
+pub returns-clause-placed : goal.returns-clause-placed
+returns-clause-placed c = parsed_placed
+
+pub returns-clause-code : goal.returns-clause-code
+returns-clause-code c = λ tokens items q e. script_sorted (resolved items) (script_fits items q.read.tree.fine (parsed_placed tokens items q) e)
