@@ -1,8 +1,10 @@
 -- The words of jumps among a script's tokens are as many as the jumps of its tree.
-use Rattle.std.proofs.Common.{◌≡◌, ℕ, zero, suc, ◌+◌, Bool, true, false, None, Some, Option, List, [], ◌∷◌, ◌++◌, length, length-append, refl, sym, ap, ◌∙◌}
+use Rattle.std.proofs.Common.{◌≡◌, ℕ, zero, suc, ◌+◌, Bool, true, false, None, Some, Option, List, [], ◌∷◌, ◌++◌, length, length-append, arith, refl, sym, ap, ◌∙◌}
 use Rattle.awk_tokens.specs.Cutting.{Spelled}
 use Rattle.awk_tokens.specs.declared.words.Keyword.{Keyword}
+use Rattle.awk_tokens.specs.declared.words.Keyword.TheVariants as words_of
 use Rattle.awk_tokens.specs.declared.token.Punctuator.{Punctuator}
+use Rattle.awk_tokens.specs.declared.token.Punctuator.TheVariants as marks
 use Rattle.awk_tokens.specs.declared.token.TokenKind.{TokenKind}
 use Rattle.awk_tokens.specs.declared.token.TokenKind.TheVariants as kinds
 use Rattle.awk_grammar.specs.Token.{Prefix, Not, Signed, Token, Name, Comma, Semicolon, Open, Close, CloseBrace, CloseBracket, Question, Colon, StepMark, Infix, Compare, Less, InWord, Key, ElseWord, WhileWord, BreakWord, ContinueWord, NextWord, ReturnWord}
@@ -33,26 +35,26 @@ words [] = 0
 words (t ∷ ts) = suc_if (jumps_by t) (words ts)
 
 suc_if_plus : (b : Bool) (m n : ℕ) → suc_if b (m + n) ≡ suc_if b m + n
-suc_if_plus true m n = refl
+suc_if_plus true m n = omega arith
 suc_if_plus false m n = refl
 
 words_append : (xs ys : List Token) → words (xs ++ ys) ≡ words xs + words ys
-words_append [] ys = refl
+words_append [] ys = omega arith
 words_append (x ∷ xs) ys = ap (suc_if (jumps_by x)) (words_append xs ys) ∙ suc_if_plus (jumps_by x) (words xs) (words ys)
 
 -- tokens without such words in front change nothing
 after : (xs ys : List Token) → words xs ≡ 0 → words (xs ++ ys) ≡ words ys
-after xs ys e = words_append xs ys ∙ ap (λ (n : ℕ). n + words ys) e
+after xs ys e = omega (arith, words_append xs ys)
 
 -- nor do such tokens at the end
 before : (xs ys : List Token) → words ys ≡ 0 → words (xs ++ ys) ≡ words xs
-before xs ys e = omega (words_append xs ys, e)
+before xs ys e = omega (arith, words_append xs ys)
 
 both : (xs ys : List Token) → words xs ≡ 0 → words ys ≡ 0 → words (xs ++ ys) ≡ 0
 both xs ys e f = after xs ys e ∙ f
 
 joined : (xs ys : List Token) (bs cs : List Bool) → words xs ≡ length bs → words ys ≡ length cs → words (xs ++ ys) ≡ length (bs ++ cs)
-joined xs ys bs cs e f = omega (words_append xs ys, e, f, length-append bs cs)
+joined xs ys bs cs e f = omega (arith, words_append xs ys, length-append bs cs)
 
 no_word_in_op : (op : Op) → words (op_tokens op) ≡ 0
 no_word_in_op Join = refl
@@ -133,7 +135,7 @@ module _ (p : Place) where
     stmt_words l Empty = refl
     stmt_words l (Simple s) = both (print_plain s) (Semicolon ∷ []) (no_words_plain s) refl
     stmt_words l (If c s) = after (print c) (Close ∷ print_stmt s) (no_words c) ∙ stmt_words l s
-    stmt_words l (IfElse c s t) = after (print c) (Close ∷ (print_stmt s ++ (Key ElseWord ∷ print_stmt t))) (no_words c) ∙ joined (print_stmt s) (print_stmt t) (jumps p l s) (jumps p l t) (stmt_words l s) (stmt_words l t)
+    stmt_words l (IfElse c s t) = after (print c) (Close ∷ (print_stmt s ++ (Key ElseWord ∷ print_stmt t))) (no_words c) ∙ joined (print_stmt s) (Key ElseWord ∷ print_stmt t) (jumps p l s) (jumps p l t) (stmt_words l s) (stmt_words l t)
     stmt_words l (While c s) = after (print c) (Close ∷ print_stmt s) (no_words c) ∙ stmt_words true s
     stmt_words l (Do s c) = before (print_stmt s) (Key WhileWord ∷ (Open ∷ (print c ++ (Close ∷ [])))) (both (print c) (Close ∷ []) (no_words c) refl) ∙ stmt_words true s
     stmt_words l (For i c n s) = after (print_maybe_plain i) (Semicolon ∷ (print_maybe c ++ (Semicolon ∷ (print_maybe_plain n ++ (Close ∷ print_stmt s))))) (no_words_maybe_plain i) ∙ (after (print_maybe c) (Semicolon ∷ (print_maybe_plain n ++ (Close ∷ print_stmt s))) (no_words_maybe c) ∙ (after (print_maybe_plain n) (Close ∷ print_stmt s) (no_words_maybe_plain n) ∙ stmt_words true s))
@@ -176,10 +178,65 @@ script_words (i ∷ is) = joined (print_item i) (print_script is) (item_jumps i)
 -- ---- the tokens of a script
 
 no_mark : (p : Punctuator) → false ≡ jumps_by (mark_lexeme p)
-no_mark _ = refl
+no_mark marks.OpenBrace = refl
+no_mark marks.CloseBrace = refl
+no_mark marks.OpenParen = refl
+no_mark marks.CloseParen = refl
+no_mark marks.OpenBracket = refl
+no_mark marks.CloseBracket = refl
+no_mark marks.Semicolon = refl
+no_mark marks.Comma = refl
+no_mark marks.Plus = refl
+no_mark marks.Minus = refl
+no_mark marks.Star = refl
+no_mark marks.Slash = refl
+no_mark marks.Percent = refl
+no_mark marks.Caret = refl
+no_mark marks.Bang = refl
+no_mark marks.Greater = refl
+no_mark marks.Less = refl
+no_mark marks.Pipe = refl
+no_mark marks.Question = refl
+no_mark marks.Colon = refl
+no_mark marks.Tilde = refl
+no_mark marks.Dollar = refl
+no_mark marks.Assign = refl
+no_mark marks.PlusAssign = refl
+no_mark marks.MinusAssign = refl
+no_mark marks.StarAssign = refl
+no_mark marks.SlashAssign = refl
+no_mark marks.PercentAssign = refl
+no_mark marks.CaretAssign = refl
+no_mark marks.Equal = refl
+no_mark marks.LessEqual = refl
+no_mark marks.GreaterEqual = refl
+no_mark marks.NotEqual = refl
+no_mark marks.NotTilde = refl
+no_mark marks.Increment = refl
+no_mark marks.Decrement = refl
+no_mark marks.And = refl
+no_mark marks.Or = refl
+no_mark marks.Append = refl
 
 same_word : (w : Keyword) → is_jump (kinds.Keyword w) ≡ jumps_by (keyword_lexeme w)
-same_word _ = refl
+same_word words_of.Begin = refl
+same_word words_of.End = refl
+same_word words_of.Function = refl
+same_word words_of.If = refl
+same_word words_of.Else = refl
+same_word words_of.While = refl
+same_word words_of.For = refl
+same_word words_of.Do = refl
+same_word words_of.Break = refl
+same_word words_of.Continue = refl
+same_word words_of.Next = refl
+same_word words_of.Exit = refl
+same_word words_of.Return = refl
+same_word words_of.Delete = refl
+same_word words_of.In = refl
+same_word words_of.Getline = refl
+same_word words_of.Print = refl
+same_word words_of.Printf = refl
 
 same_name : (b : Bool) (text : List ℕ) → false ≡ jumps_by (spoken_as b kinds.FuncName text)
 same_name true text = refl
@@ -189,7 +246,12 @@ same_jump : (b : Bool) (k : TokenKind) (text : List ℕ) → is_jump k ≡ jumps
 same_jump b (kinds.Keyword w) text = same_word w
 same_jump b (kinds.Punctuator p) text = no_mark p
 same_jump b kinds.FuncName text = same_name b text
-same_jump b _ text = refl
+same_jump b kinds.Name text = refl
+same_jump b kinds.Number text = refl
+same_jump b kinds.Str text = refl
+same_jump b kinds.Ere text = refl
+same_jump b (kinds.Builtin f) text = refl
+same_jump b (kinds.LeftOut w) text = refl
 
 lines_if : (b : Bool) (line : ℕ) (lines : List ℕ) → length (line_if b line lines) ≡ suc_if b (length lines)
 lines_if true line lines = refl

@@ -1,5 +1,5 @@
 -- The texts of number tokens are number text without space bytes and without a sign.
-use Rattle.std.proofs.Common.{◌≡◌, ℕ, zero, suc, ◌+◌, ◌≤◌, Bool, true, false, List, [], ◌∷◌, ◌++◌, length, length-append, append-nil, refl, sym, ap, arith, subst, ◌∙◌, inl, inr, true≢false}
+use Rattle.std.proofs.Common.{◌≡◌, ◌⊎◌, ℕ, zero, suc, ◌+◌, ◌≤◌, Bool, true, false, List, [], ◌∷◌, ◌++◌, length, length-append, append-nil, refl, sym, ap, arith, subst, ◌∙◌, inl, inr, true≢false}
 use Rattle.std.specs.Prelude.{◌==◌, ◌&&◌, ◌||◌, cond}
 use Rattle.std.proofs.lemmas.Bool.{cond-true, cond-false, eqb-true, eq-eqb, ne_eqb, and_parts}
 use Rattle.awk_text.specs.Reading.{AreDigits, Numeral}
@@ -16,11 +16,11 @@ record Digits (text rest : List ℕ) : Type 0 where
 
 all_digits : (cs : List ℕ) → every is_digit cs ≡ true → AreDigits cs
 all_digits [] h = tt
-all_digits (c ∷ cs) h = by (is_digit c) refl h
+all_digits (c ∷ cs) h = by (is_digit c) refl (λ k. all_digits cs k) h
   where
-    by : (b : Bool) → is_digit c ≡ b → cond b (every is_digit cs) false ≡ true → AreDigits (c ∷ cs)
-    by true e k = (e, all_digits cs k)
-    by false e k = absurd (true≢false (sym k))
+    by : (b : Bool) → is_digit c ≡ b → (every is_digit cs ≡ true → AreDigits cs) → cond b (every is_digit cs) false ≡ true → AreDigits (c ∷ cs)
+    by true e rest k = (e, rest k)
+    by false e rest k = absurd (true≢false (sym k))
 
 digits_by : (c : ℕ) (cs : List ℕ) (b : Bool) → is_digit c ≡ b → Digits cs (after_digits cs) → Digits (c ∷ cs) (cond b (after_digits cs) (c ∷ cs))
 digits_by c cs true e d = record { digits = c ∷ d.digits; parted = ap (λ (t : List ℕ). c ∷ t) d.parted; all = (e, d.all) }
@@ -96,13 +96,22 @@ number whole text w b some = record {
   no_sign = refl;
 }
 
+some_more : (c : ℕ) (cs : List ℕ) → 1 ≤ length (c ∷ cs)
+some_more c cs = omega arith
+
 first_by : (c : ℕ) (cs : List ℕ) (b : Bool) (e : is_digit c ≡ b) (d : Digits cs (after_digits cs)) → b ≡ true → 1 ≤ length (digits_by c cs b e d).digits
-first_by c cs true e d h = omega arith
+unfolding digits_by
+first_by c cs true e d h = some_more c d.digits
 first_by c cs false e d h = absurd (true≢false (sym h))
 
 first_digit : (cs : List ℕ) → begins_digit cs ≡ true → 1 ≤ length (digits_of cs).digits
+unfolding digits_of
 first_digit [] h = absurd (true≢false (sym h))
 first_digit (c ∷ cs) h = first_by c cs (is_digit c) refl (digits_of cs) h
+
+pointed_some : (cs : List ℕ) (h : is_exponent (after_digits cs) ≡ true) → begins_digit cs ≡ true → 1 ≤ length (pointed cs h).fraction
+unfolding pointed
+pointed_some cs h b = first_digit cs b
 
 pub token_number : (text : List ℕ) → is_number text ≡ true → IsUnsigned text
 token_number [] h = absurd (true≢false (sym h))
@@ -114,7 +123,7 @@ token_number (c ∷ cs) h = by (is_digit c) refl (c == 46) refl h
         subst IsUnsigned (ap (λ (t : List ℕ). c ∷ t) (sym d.parted)) (number (c ∷ d.digits) (after_digits cs) (e, d.all) (behind (after_digits cs) k) (omega arith))
     by false e true f k =
         let both = and_parts (begins_digit cs) (is_exponent (after_digits cs)) k in
-        subst (λ (p : ℕ). IsUnsigned (p ∷ cs)) (sym (eqb-true c 46 f)) (number [] (46 ∷ cs) tt (pointed cs both.1) (first_digit cs both.0))
+        subst (λ (p : ℕ). IsUnsigned (p ∷ cs)) (sym (eqb-true c 46 f)) (number [] (46 ∷ cs) tt (pointed cs both.1) (pointed_some cs both.1 both.0))
     by false e false f k = absurd (true≢false (sym k))
 
 -- ---- number text is the text of a number token
