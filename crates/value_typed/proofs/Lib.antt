@@ -1,0 +1,13 @@
+pub mod Singles
+pub mod Standing
+pub mod Pieces
+pub mod Slots
+pub mod Rows
+pub mod Emitting
+pub mod Stepping
+pub mod Bodies
+pub mod Places
+pub mod Renumbering
+pub mod Numbers
+pub mod Whole
+pub mod Links

@@ -1,0 +1,24 @@
+//! Laws of the module of a program, each the contract of a function that does nothing.
+ghost use Rattle.std.specs.Prelude.{◌≡◌, ◌+◌, ◌≤◌, ◌^◌, ◌↔◌, Some, length, map};
+ghost use Rattle.mid_code.specs.Mid.{Program};
+ghost use Rattle.mid_code.specs.Sorted.{IsSorted};
+ghost use Rattle.value_machine.specs.Functions.{texts_of};
+ghost use Rattle.value_machine.specs.Imports.{import_number};
+ghost use Rattle.value_machine.specs.Modules.{imports_of, module_of};
+ghost use Rattle.value_machine.specs.Places.{memory_of};
+ghost use Rattle.value_typed.specs.Finds.{table_finds};
+ghost use Rattle.wasm_machine.specs.Links.{SegmentsFit, main_of, numbers_for};
+ghost use Rattle.wasm_types.specs.Typing.{ModuleOk};
+
+/// The typing rules allow the module of a program exactly if its texts, and the names that it announces, take at most 4 GiB.
+pub fn typed()
+    ensures { (p : Program) → IsSorted p → (length (memory_of (texts_of p)) ≤ 2 ^ 32) ↔ ModuleOk (module_of p) }
+{}
+
+/// The module of a program links with a host that has all imports: each that it has is there with its type, under its number in the table;
+/// `main` is exported, the last function; and the texts lie within the memory.
+pub fn links()
+    ensures imports { (p : Program) → numbers_for table_finds (module_of p) ≡ map (λ i. Some (import_number i)) (imports_of p) }
+    ensures main { (p : Program) → main_of (module_of p) ≡ Some (length (imports_of p) + length p.routines) }
+    ensures segments { (p : Program) → SegmentsFit (module_of p) }
+{}
