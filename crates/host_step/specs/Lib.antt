@@ -1,0 +1,11 @@
+pub mod Imports
+pub mod Tables
+pub mod HostState
+pub mod Arguments
+pub mod Answers
+pub mod HostStep
+pub mod Starts
+pub mod Examples
+pub mod Rows
+pub mod FamilyRows
+pub mod InputRows
