@@ -5,7 +5,8 @@ use Rattle.awk_values.specs.declared.value.Value.{Value}
 use Rattle.awk_state.specs.SharedState.{Shared}
 use Rattle.host_step.specs.Tables.{Table, size}
 
--- What the numbers that the host gave out stand for: handles for values; an array's and an iterator's number for its number in the shared state, where
+-- What the numbers that the host gave out stand for: handles for values; an array's and an iterator's number for its number in the shared state,
+-- where
 -- numbers only grow. ARGV is 0 and ENVIRON is 1 here and there.
 pub record Names : Type 0 where
   pub values : Table Value

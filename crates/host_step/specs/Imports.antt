@@ -87,7 +87,13 @@ module_name = codes "awk1"
 
 -- in the order of their numbers
 abbrev pub imports : List Import
-imports = Of row.Num ∷ Of row.Lit ∷ Of row.Uninit ∷ Of row.Dup ∷ Of row.ToNum ∷ Of row.IntOf ∷ Of row.Truth ∷ Of row.Compare ∷ Of row.Concat ∷ Of row.Pow ∷ Of row.Fail ∷ Of row.GetSpecial ∷ Of row.SetSpecial ∷ Of row.Field ∷ Of row.SetField ∷ Of row.NewArray ∷ Of row.Elem ∷ Of row.SetElem ∷ Of row.Has ∷ Of row.Delete ∷ Of row.Join ∷ Of row.Iter ∷ Of row.IterNext ∷ Of row.Length ∷ Of row.Matches ∷ Of row.Match ∷ Of row.Sub ∷ Of row.SubResult ∷ Of row.Split ∷ Of row.Substr ∷ Of row.SubstrFrom ∷ Of row.Index ∷ Of row.Lower ∷ Of row.Upper ∷ Of row.NextMain ∷ Of row.Getline ∷ Of row.GetlineVar ∷ Of row.GetlineFile ∷ Of row.GetlineVarFile ∷ Of row.Line ∷ Of row.Declare ∷ Of row.StartAssign ∷ Of row.PendingName ∷ Of row.PendingValue ∷ Of row.BeginEnd ∷ Of row.Close ∷ Arg ∷ Over Sprintf ∷ Over Print ∷ Over Printf ∷ Drop ∷ IterFree ∷ FreeArray ∷ []
+imports = Of row.Num ∷ Of row.Lit ∷ Of row.Uninit ∷ Of row.Dup ∷ Of row.ToNum ∷ Of row.IntOf ∷ Of row.Truth ∷ Of row.Compare ∷ Of row.Concat
+    ∷ Of row.Pow ∷ Of row.Fail ∷ Of row.GetSpecial ∷ Of row.SetSpecial ∷ Of row.Field ∷ Of row.SetField ∷ Of row.NewArray ∷ Of row.Elem
+    ∷ Of row.SetElem ∷ Of row.Has ∷ Of row.Delete ∷ Of row.Join ∷ Of row.Iter ∷ Of row.IterNext ∷ Of row.Length ∷ Of row.Matches ∷ Of row.Match
+    ∷ Of row.Sub ∷ Of row.SubResult ∷ Of row.Split ∷ Of row.Substr ∷ Of row.SubstrFrom ∷ Of row.Index ∷ Of row.Lower ∷ Of row.Upper
+    ∷ Of row.NextMain ∷ Of row.Getline ∷ Of row.GetlineVar ∷ Of row.GetlineFile ∷ Of row.GetlineVarFile ∷ Of row.Line ∷ Of row.Declare
+    ∷ Of row.StartAssign ∷ Of row.PendingName ∷ Of row.PendingValue ∷ Of row.BeginEnd ∷ Of row.Close ∷ Arg ∷ Over Sprintf ∷ Over Print
+    ∷ Over Printf ∷ Drop ∷ IterFree ∷ FreeArray ∷ []
 
 abbrev pub import_at : ℕ → Option Import
 import_at n = slice_get imports n

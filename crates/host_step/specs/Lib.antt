@@ -5,6 +5,8 @@ pub mod Arguments
 pub mod Answers
 pub mod HostStep
 pub mod Starts
+pub mod Worlds
+pub mod HostLaws
 pub mod Examples
 pub mod Rows
 pub mod FamilyRows

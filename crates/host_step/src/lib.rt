@@ -3,5 +3,6 @@
 #![tactic(auto)]
 
 mod import;
+pub mod laws;
 
 pub use import::{IMPORTS, Import, Listing};
