@@ -31,3 +31,9 @@ pub mod InputLaws
 pub mod Induction
 pub mod Setting
 pub mod Written
+pub mod Storing
+pub mod SettingNames
+pub mod Orders
+pub mod Comparing
+pub mod Products
+pub mod Inlining
