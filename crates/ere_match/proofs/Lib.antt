@@ -10,5 +10,7 @@ pub mod Spreads
 pub mod Tables
 pub mod Searches
 pub mod Places
+pub mod Begins
+pub mod Hastes
 pub mod Tested
 pub mod Firsts

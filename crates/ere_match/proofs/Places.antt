@@ -2,15 +2,16 @@
 use Rattle.std.proofs.Common.{◌≡◌, ℕ, ◌+◌, ◌<◌, ◌≤◌, Bool, true, List, length, Option, Some, None, sym, ap, ◌∙◌, subst, arith, get_or}
 use Rattle.std.specs.Prelude.{slice_get}
 use Rattle.std.specs.Option.{is_some}
+use Rattle.std.proofs.Math.Logic.{∥∥₁_elim, ∥∥₁_map₂, ∥∥₁_prop}
 use Rattle.std.proofs.lemmas.Option.{slice_get-get_or, slice_get_within}
 use Rattle.ere_match.specs.declared.node.Node.{Node}
 use Rattle.ere_match.specs.declared.row.Row.{Row}
 use Rattle.ere_match.specs.declared.row.Table.{Table}
-use Rattle.ere_match.specs.Threads.{IsAccepted, IsBest, better_of}
-use Rattle.ere_match.specs.Rows.{HasMoved, IsRow, IsSearching, IsTable, started, threads_of}
+use Rattle.ere_match.specs.Threads.{AreThreads, Holds, IsAccepted, IsBest, better_of}
+use Rattle.ere_match.specs.Rows.{HasMoved, IsRow, IsSearching, IsTable, spread, started, threads_of}
 use Rattle.ere_match.proofs.Searches.{search_at, search_ends, search_over, search_step}
 
-accepted_small : (all : List Node) (row : Row) (set : List (Option ℕ)) (n k : ℕ) (o : Option ℕ) → o ≡ Some k → ((id s : ℕ) → Rattle.ere_match.specs.Threads.Holds set id s → s < row.count) → IsAccepted all set n o → k < row.count
+accepted_small : (all : List Node) (row : Row) (set : List (Option ℕ)) (n k : ℕ) (o : Option ℕ) → o ≡ Some k → ((id s : ℕ) → Holds set id s → s < row.count) → IsAccepted all set n o → k < row.count
 accepted_small all row set n k None e few a = absurd cc
 accepted_small all row set n k (Some j) e few a = (let same : j ≡ k = inner j k e in let x = few a.0.0 j a.0.1 in omega (arith, x, same))
   where
@@ -51,3 +52,29 @@ module _ (all : List Node) (text : List ℕ) (entry from i state : ℕ) (best : 
   pub step_at : (to : ℕ) (found : Bool) (next : Option (ℕ × ℕ)) (classes : List ℕ) (new : Table) → from ≤ i → i < length text → next ≡ better_of (started t.starts.items row.inside) i best → found ≡ is_some next → IsTable all entry classes new → HasMoved all entry (get_or text i 0) found (i + 1) t state new to → IsSearching all text entry from (i + 1) to next new
   step_at to found next classes new above inside is has h m =
       search_step all text entry from i (get_or text i 0) state to found best next classes t new row above inside (slice_get-get_or text i 0 inside) row_read is (sym has) h m s
+
+  -- what threads without the table begin with
+
+  pub read_len : length row.ranks.items ≡ length all
+  read_len = (search_at all text entry from i state best t row row_read s).known.len
+
+  pub read_few : (id n : ℕ) → Holds (threads_of row) id n → n < length t.starts.items
+  read_few id n h = (let x = (search_at all text entry from i state best t row row_read s).known.few id n h in let y = row_room in omega (arith, x, y))
+
+  pub read_near : (id n : ℕ) → Holds (spread (λ k. get_or t.starts.items k 0) (threads_of row)) id n → n ≤ i
+  read_near id n h = ((search_at all text entry from i state best t row row_read s).threads.starts id n h).1
+
+  pub read_threads : AreThreads all text entry from i i (spread (λ k. get_or t.starts.items k 0) (threads_of row)) best
+  read_threads = (let th = (search_at all text entry from i state best t row row_read s).threads in record {
+    len = th.len;
+    starts = th.starts;
+    back = th.back;
+    on = λ n j m above below r open' run. th.on n j m above (omega (arith, below)) r open' run;
+  })
+
+  pub read_best : IsBest all text entry from i best
+  read_best = (search_at all text entry from i state best t row row_read s).is_best
+
+-- the same of mere facts
+pub search_moves : (all : List Node) (text : List ℕ) (entry from i state : ℕ) (best : Option (ℕ × ℕ)) (t : Table) (row : Row) → row ≡ get_or t.rows.items state row → (to : ℕ) (found : Bool) (next : Option (ℕ × ℕ)) (classes : List ℕ) (new : Table) → from ≤ i → i < length text → next ≡ better_of (started t.starts.items row.inside) i best → found ≡ is_some next → ∥ IsTable all entry classes new ∥₁ → ∥ HasMoved all entry (get_or text i 0) found (i + 1) t state new to ∥₁ → ∥ IsSearching all text entry from i state best t ∥₁ → ∥ IsSearching all text entry from (i + 1) to next new ∥₁
+search_moves all text entry from i state best t row read to found next classes new above inside is has h m s = ∥∥₁_elim s ∥∥₁_prop (λ x. ∥∥₁_map₂ h m (λ y z. step_at all text entry from i state best t row read x to found next classes new above inside is has y z))

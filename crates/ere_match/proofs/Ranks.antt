@@ -4,7 +4,7 @@ use Rattle.std.specs.Prelude.{slice_get}
 use Rattle.std.proofs.lemmas.Bool.{cases_lt, leb-false}
 use Rattle.std.proofs.lemmas.List.{ext_get_or, get_or_append_left}
 use Rattle.ere_match.specs.Threads.{Holds}
-use Rattle.ere_match.specs.Rows.{AreRanked, HasRank, IsNumbered, IsRanked, IsRankedTo, cut, numbered, numbers, rank_of, spread}
+use Rattle.ere_match.specs.Rows.{AreRanked, HasRank, IsNumbered, IsRanked, IsRankedTo, cut, numbered, numbers, rank_of, spread, start_of_rank}
 use Rattle.ere_match.proofs.Marks.{holds_read}
 
 abbrev Set : Type 0
@@ -32,6 +32,35 @@ get_cut limit (suc n ∷ xs) (suc k) = get_cut limit xs k
 
 pub loaded : (limit : ℕ) (ranks : List ℕ) (set : Set) → length set ≡ length ranks → ((k : ℕ) → k < length ranks → get_or set k None ≡ numbered limit (get_or ranks k 0)) → set ≡ cut limit (numbers ranks)
 loaded limit ranks set len h = ext_get_or None set (cut limit (numbers ranks)) (len ∙ sym (length_cut limit (numbers ranks) ∙ length_numbers ranks)) (λ k w. h k (omega (arith, len)) ∙ sym (get_cut limit ranks k))
+
+pub length_spread : (f : ℕ → ℕ) (xs : Set) → length (spread f xs) ≡ length xs
+length_spread f [] = refl
+length_spread f (None ∷ xs) = ap suc (length_spread f xs)
+length_spread f (Some n ∷ xs) = ap suc (length_spread f xs)
+
+get_unload : (starts xs : List ℕ) (k : ℕ) → get_or (spread (λ n. get_or starts n 0) (numbers xs)) k None ≡ start_of_rank starts (get_or xs k 0)
+get_unload starts [] k = refl
+get_unload starts (zero ∷ xs) zero = refl
+get_unload starts (suc n ∷ xs) zero = refl
+get_unload starts (zero ∷ xs) (suc k) = get_unload starts xs k
+get_unload starts (suc n ∷ xs) (suc k) = get_unload starts xs k
+
+pub unloaded : (starts ranks : List ℕ) (set : Set) → length set ≡ length ranks → ((k : ℕ) → k < length ranks → get_or set k None ≡ start_of_rank starts (get_or ranks k 0)) → set ≡ spread (λ n. get_or starts n 0) (numbers ranks)
+unloaded starts ranks set len h = ext_get_or None set (spread (λ n. get_or starts n 0) (numbers ranks)) (len ∙ sym (length_spread (λ n. get_or starts n 0) (numbers ranks) ∙ length_numbers ranks)) (λ k w. h k (omega (arith, len)) ∙ sym (get_unload starts ranks k))
+
+rank_holds : (xs : List ℕ) (k n : ℕ) → get_or xs k 0 ≡ suc n → slice_get (numbers xs) k ≡ Some (Some n)
+rank_holds [] k n e = absurd cc
+rank_holds (zero ∷ xs) zero n e = absurd cc
+rank_holds (suc m ∷ xs) zero n e = ap (λ i. Some (Some i)) (let x : m ≡ n = omega (arith, e) in x)
+rank_holds (zero ∷ xs) (suc k) n e = rank_holds xs k n e
+rank_holds (suc m ∷ xs) (suc k) n e = rank_holds xs k n e
+
+pub rank_small : (xs : List ℕ) (k bound : ℕ) → ((id s : ℕ) → Holds (numbers xs) id s → s < bound) → get_or xs k 0 ≤ bound
+rank_small xs k bound few = by (get_or xs k 0) refl
+  where
+    by : (r : ℕ) → get_or xs k 0 ≡ r → r ≤ bound
+    by zero e = omega arith
+    by (suc n) e = (let x = few k n (record { is = rank_holds xs k n e }) in omega (arith, x))
 
 -- ---- the numbers in use
 
@@ -127,11 +156,6 @@ get_none f (zero ∷ xs) zero e = refl
 get_none f (suc n ∷ xs) zero e = absurd (omega (arith, e))
 get_none f (zero ∷ xs) (suc k) e = get_none f xs k e
 get_none f (suc n ∷ xs) (suc k) e = get_none f xs k e
-
-pub length_spread : (f : ℕ → ℕ) (xs : Set) → length (spread f xs) ≡ length xs
-length_spread f [] = refl
-length_spread f (None ∷ xs) = ap suc (length_spread f xs)
-length_spread f (Some n ∷ xs) = ap suc (length_spread f xs)
 
 module _ (start : ℕ) (used ranked sources : List ℕ) (count : ℕ) (set : Set) (ranks : List ℕ) (r : IsRanked start used ranked sources count) (marked : (id s : ℕ) → Holds set id s → get_or used s 0 ≡ 1) (small : (id s : ℕ) → Holds set id s → s < length used) (a : AreRanked ranked set ranks) where
   rank_here : (id s : ℕ) → Holds set id s → HasRank start s ranked sources count

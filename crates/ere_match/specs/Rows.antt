@@ -1,5 +1,5 @@
 -- Rows: the threads of a place, with their starts numbered by age; and where a byte leads from a row.
-use Rattle.std.specs.Prelude.{◌≡◌, ℕ, zero, suc, ◌+◌, ◌*◌, ◌<◌, ◌≤◌, ◌⊎◌, Bool, true, false, List, [], ◌∷◌, length, slice_get, nat_eq, nat_le, if◌then◌else◌, Option, Some, None}
+use Rattle.std.specs.Prelude.{◌≡◌, ℕ, zero, suc, ◌+◌, ◌-◌, ◌*◌, ◌<◌, ◌≤◌, ◌⊎◌, Bool, true, false, List, [], ◌∷◌, length, slice_get, nat_eq, nat_le, nat_lt, if◌then◌else◌, Option, Some, None}
 use Rattle.std.proofs.Common.{get_or}
 use Rattle.ere_match.specs.declared.node.Filter.{Filter}
 use Rattle.ere_match.specs.declared.node.Node.{Node}
@@ -175,6 +175,11 @@ abbrev pub numbered : ℕ → ℕ → Option ℕ
 numbered limit zero = None
 numbered limit (suc n) = if nat_le n limit then Some n else None
 
+-- the start of a thread of a rank
+abbrev pub start_of_rank : List ℕ → ℕ → Option ℕ
+start_of_rank starts zero = None
+start_of_rank starts (suc n) = Some (get_or starts n 0)
+
 -- what was there is there still
 pub record IsSame (old new : List ℕ) : Type 0 where
   pub longer : length old ≤ length new
@@ -347,3 +352,23 @@ pub record IsSearching (all : List Node) (text : List ℕ) (entry from i state :
   pub is : slice_get t.rows.items state ≡ Some row
   pub room : row.count < length t.starts.items
   pub at : IsSearchingAt all text entry from i best t.starts.items row
+
+-- all threads of the row begin at this place
+pub record IsIdle (t : Table) (state at : ℕ) : Type 0 where
+  pub row : Row
+  pub is : slice_get t.rows.items state ≡ Some row
+  pub one : row.count ≡ 1
+  pub here : get_or t.starts.items 0 0 ≡ at
+
+-- while no match has been found, the byte leads from the row, which accepts nothing inside a text, to itself
+pub record IsLoop (t : Table) (classes : List ℕ) (state byte : ℕ) (m : Move) : Type 0 where
+  pub row : Row
+  pub is : slice_get t.rows.items state ≡ Some row
+  pub none : row.inside ≡ None
+  pub goes : m.to ≡ state
+  pub filled : column_at false (slice_get t.moves.items state) (get_or classes byte 0) ≡ Some m
+
+-- so many rows were made for fewer than ten bytes each
+abbrev pub is_soon : Option ℕ → ℕ → ℕ → Bool
+is_soon None at rows = false
+is_soon (Some before) at rows = nat_lt (at - before) (rows * 10)

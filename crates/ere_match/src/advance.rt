@@ -142,10 +142,11 @@ fn shift(starts: &mut [usize], sources: &[u32], count: usize, fewer: usize, to: 
 }
 
 /// Takes a move from a row of so many numbers.
-fn enter(table: &mut Table, count: usize, to: Move, at: usize) -> usize
+pub(crate) fn enter(table: &mut Table, count: usize, to: Move, at: usize) -> usize
     requires { ∥ CanEnter table.old count to ∥₁ }
     ensures entered { HasEntered table.old count to at table.new result }
     ensures starts { length table.new.starts.items ≡ length table.old.starts.items }
+    ensures moves { table.new.moves ≡ table.old.moves }
     ensures table { (all : List SpecNode) (entry : ℕ) (classes : List ℕ) → IsTable all entry classes table.old → IsTable all entry classes table.new }
 {
     let fewer = table.rows[to.to as usize].count;

@@ -5,6 +5,8 @@ mod advance;
 mod assemble;
 mod automaton;
 mod classes;
+mod haste;
+mod lead;
 mod matching;
 mod node;
 mod numbers;

@@ -9,6 +9,7 @@ ghost use Rattle.ere_match.specs.FirstMatch.{IsFirstMatch, IsMatch};
 use crate::assemble::{add, build as build_nodes};
 use crate::automaton::Auto;
 use crate::classes::classes_of;
+use crate::lead::lead_of;
 use crate::node::Node;
 use crate::row::Table;
 use crate::scan::scan;
@@ -25,11 +26,13 @@ pub fn build(alloc: Global, ere: &Ere) -> Result<Auto, EreFault>
     let accept = add(&mut nodes, Node::Accept)?;
     let entry = build_nodes(alloc, &mut nodes, ere, accept)?;
     let classes = classes_of(&nodes);
-    let table = Table::new(alloc, nodes.len())?;
+    let mut table = Table::new(alloc, nodes.len())?;
+    let lead = lead_of(&nodes, entry, &mut table.set);
     Ok(Auto {
         nodes,
         entry,
         classes,
+        lead,
         table,
     })
 }
@@ -58,6 +61,7 @@ pub fn first_match(
         &auto.nodes,
         auto.entry,
         &auto.classes,
+        auto.lead,
         &mut auto.table,
         text,
         from,

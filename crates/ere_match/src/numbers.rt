@@ -1,7 +1,7 @@
 //! Threads whose starts are numbered by age: how a row is read, and how the numbers in use are ranked anew.
 ghost use Rattle.std.specs.Prelude.{◌≡◌, ◌+◌, ◌<◌, ◌≤◌, ◌^◌, ℕ, IfOk, Some, length};
 ghost use Rattle.std.proofs.Common.{get_or};
-ghost use Rattle.ere_match.specs.Rows.{AreRanked, IsNumbered, IsRanked, IsSame, cut, numbered, numbers, rank_of};
+ghost use Rattle.ere_match.specs.Rows.{AreRanked, IsNumbered, IsRanked, IsSame, cut, numbered, numbers, rank_of, spread, start_of_rank};
 ghost use Rattle.ere_match.specs.Threads.{Holds};
 
 use std::alloc::{AllocError, Global};
@@ -24,6 +24,29 @@ pub(crate) fn load(ranks: &[u32], limit: usize, set: &mut [Option<usize>])
 {
     for id in 0..ranks.len() {
         set[id] = number(ranks[id], limit);
+    }
+}
+
+/// The start of a thread that has this rank.
+fn start_at(rank: u32, starts: &[usize]) -> Option<usize>
+    requires { rank ≤ length starts.now }
+    ensures { result ≡ start_of_rank starts.now rank }
+{
+    if rank == 0 {
+        None
+    } else {
+        Some(starts[rank as usize - 1])
+    }
+}
+
+/// The threads of a row, with their starts.
+pub(crate) fn unload(ranks: &[u32], starts: &[usize], set: &mut [Option<usize>])
+    requires len { length set.old ≡ length ranks.now }
+    requires few { (id s : ℕ) → Holds (numbers ranks.now) id s → s < length starts.now }
+    ensures { set.new ≡ spread (λ k. get_or starts.now k 0) (numbers ranks.now) }
+{
+    for id in 0..ranks.len() {
+        set[id] = start_at(ranks[id], starts);
     }
 }
 

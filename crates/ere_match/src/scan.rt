@@ -66,11 +66,42 @@ fn settle(
 ) -> Option<(usize, usize)>
     requires same_len { length set.old ≡ length nodes.now }
     requires starts { (k s : ℕ) → Holds set.old k s → s ≤ at }
-    ensures { (from : ℕ) → from ≤ at → at ≤ length text.now → AreThreads nodes.now text.now entry from at at set.old best → IsBest nodes.now text.now entry from at best → IsSettled nodes.now text.now entry from at (nat_eq at 0) (nat_eq at (length text.now)) set.new result }
+    ensures starts { (k s : ℕ) → Holds set.new k s → s ≤ at }
+    ensures settled { (from : ℕ) → from ≤ at → at ≤ length text.now → AreThreads nodes.now text.now entry from at at set.old best → IsBest nodes.now text.now entry from at best → IsSettled nodes.now text.now entry from at (nat_eq at 0) (nat_eq at (length text.now)) set.new result }
 {
     seed(set, entry, at, best);
     close(nodes, set, at, at == 0, at == text.len());
     better(accepted(nodes, set), at, best)
+}
+
+/// Goes on from a place: the least start, and its greatest end, of the runs from the entry, where `best` is that of the runs
+/// that end before.
+pub(crate) fn scan_on(
+    nodes: &[Node],
+    entry: usize,
+    text: &[u8],
+    at: usize,
+    set: &mut [Option<usize>],
+    next: &mut [Option<usize>],
+    best: Option<(usize, usize)>,
+) -> Option<(usize, usize)>
+    requires inside { at ≤ length text.now }
+    requires next_len { length next.old ≡ length nodes.now }
+    requires set_len { length set.old ≡ length nodes.now }
+    requires starts { (k s : ℕ) → Holds set.old k s → s ≤ at }
+    ensures { (from : ℕ) → from ≤ at → AreThreads nodes.now text.now entry from at at set.old best → IsBest nodes.now text.now entry from at best → IsBest nodes.now text.now entry from (length text.now + 1) result }
+{
+    let mut best = best;
+    for place in at..text.len() {
+        best = settle(nodes, entry, text, place, set, best);
+        step(nodes, set, text[place], next);
+        match best {
+            Some(_) if is_empty(next) => return best,
+            _ => {}
+        }
+        set.copy_from_slice(next);
+    }
+    settle(nodes, entry, text, text.len(), set, best)
 }
 
 /// The least start not before a place, and its greatest end, of the runs from the entry.
@@ -88,15 +119,5 @@ pub(crate) fn scan(
     ensures { IsBest nodes.now text.now entry from (length text.now + 1) result }
 {
     clear(set);
-    let mut best = None;
-    for at in from..text.len() {
-        best = settle(nodes, entry, text, at, set, best);
-        step(nodes, set, text[at], next);
-        match best {
-            Some(_) if is_empty(next) => return best,
-            _ => {}
-        }
-        set.copy_from_slice(next);
-    }
-    settle(nodes, entry, text, text.len(), set, best)
+    scan_on(nodes, entry, text, from, set, next, None)
 }

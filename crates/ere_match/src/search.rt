@@ -1,14 +1,21 @@
 //! A search by rows: the threads of all starts at once, as `scan` leads them, with a table of where each byte leads.
-ghost use Rattle.std.specs.Prelude.{◌≡◌, ◌+◌, ◌<◌, ◌≤◌, ℕ, List, IfOk, length, true};
+ghost use Rattle.std.specs.Prelude.{◌≡◌, ◌+◌, ◌<◌, ◌≤◌, ◌^◌, ℕ, List, IfOk, length, true};
 ghost use Rattle.std.proofs.Common.{get_or};
-ghost use Rattle.ere_match.specs.Rows.{AreClasses, IsTable, started};
+ghost use Rattle.ere_match.specs.Leads.{IsLead};
+ghost use Rattle.ere_match.specs.Rows.{AreClasses, IsSearching, IsTable, is_soon, started};
 ghost use Rattle.ere_match.specs.Threads.{IsBest};
 
 use crate::advance::{advance, begin};
+use crate::haste::hasten;
+use crate::lead::Lead;
 use crate::node::Node;
+use crate::numbers::unload;
 use crate::row::Table;
-use crate::scan::better;
+use crate::scan::{better, scan_on};
 use std::alloc::AllocError;
+
+/// A table is of use where so many bytes are read for each row that is made.
+const BYTES_A_ROW: usize = 10;
 
 /// The start with this number.
 fn start_of(number: Option<usize>, starts: &[usize]) -> Option<usize>
@@ -21,24 +28,71 @@ fn start_of(number: Option<usize>, starts: &[usize]) -> Option<usize>
     }
 }
 
-/// The least start not before a place, and its greatest end, of the runs from the entry.
-pub(crate) fn search(
+/// Whether the table was emptied too soon after it had been emptied: then so many rows were made for the bytes since.
+fn is_soon(before: Option<usize>, at: usize, rows: usize) -> bool
+    ensures { rows < 2 ^ 32 → result ≡ is_soon before at rows }
+{
+    match before {
+        None => false,
+        Some(before) => at.saturating_sub(before) < rows.saturating_mul(BYTES_A_ROW),
+    }
+}
+
+/// Goes on from a row without the table.
+fn go_on(
     nodes: &[Node],
     entry: usize,
     classes: &[u8; 256],
     table: &mut Table,
     text: &[u8],
     from: usize,
+    at: usize,
+    state: usize,
+    best: Option<(usize, usize)>,
+) -> Option<(usize, usize)>
+    requires begun { from ≤ at }
+    requires inside { at ≤ length text.now }
+    requires table { ∥ IsTable nodes.now entry classes.now table.old ∥₁ }
+    requires search { ∥ IsSearching nodes.now text.now entry from at state best table.old ∥₁ }
+    ensures best { ∥ IsBest nodes.now text.now entry from (length text.now + 1) result ∥₁ }
+    ensures table { ∥ IsTable nodes.now entry classes.now table.new ∥₁ }
+{
+    let row = &table.rows[state];
+    unload(&row.ranks, &table.starts, &mut table.set);
+    scan_on(
+        nodes,
+        entry,
+        text,
+        at,
+        &mut table.set,
+        &mut table.next,
+        best,
+    )
+}
+
+/// The least start not before a place, and its greatest end, of the runs from the entry. Where the table is emptied again and
+/// again, each time after few bytes, threads go on without it.
+pub(crate) fn search(
+    nodes: &[Node],
+    entry: usize,
+    classes: &[u8; 256],
+    lead: Lead,
+    table: &mut Table,
+    text: &[u8],
+    from: usize,
 ) -> Result<Option<(usize, usize)>, AllocError>
     requires inside { from ≤ length text.now }
+    requires lead { IsLead nodes.now entry lead }
     requires classes { AreClasses nodes.now classes.now }
     requires table { ∥ IsTable nodes.now entry classes.now table.old ∥₁ }
     ensures best { IfOk result (λ found. ∥ IsBest nodes.now text.now entry from (length text.now + 1) found ∥₁) }
     ensures table { ∥ IsTable nodes.now entry classes.now table.new ∥₁ }
 {
+    let mut at = from;
     let mut state = begin(nodes, entry, classes, table, from)?;
     let mut best = None;
-    for at in from..text.len() {
+    let mut emptied = None;
+    while at < text.len() {
         let row = &table.rows[state];
         let none = row.count == 0;
         best = better(start_of(row.inside, &table.starts), at, best);
@@ -46,7 +100,20 @@ pub(crate) fn search(
         if found && none {
             return Ok(best);
         }
+        let rows = table.rows.len();
         state = advance(nodes, entry, classes, table, state, text[at], found, at + 1)?;
+        at += 1;
+        if table.rows.len() < rows {
+            if is_soon(emptied, at, rows) {
+                return Ok(go_on(nodes, entry, classes, table, text, from, at, state, best));
+            }
+            emptied = Some(at);
+        }
+        if !found && at < text.len() {
+            let next = hasten(nodes, entry, classes, lead, table, text, at, state)?;
+            at = next.0;
+            state = next.1;
+        }
     }
     let accepted = table.rows[state].at_end;
     Ok(better(start_of(accepted, &table.starts), text.len(), best))

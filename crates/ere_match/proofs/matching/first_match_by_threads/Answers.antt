@@ -9,6 +9,7 @@ use Rattle.ere_match.proofs.matching.first_match_by_threads.Goals as goal
 pub invariant_of-auto : goal.invariant_of-auto
 invariant_of-auto c = record {
   are_classes = c.args.auto.now.are_classes;
+  is_lead = c.args.auto.now.is_lead;
   is_table = ∥∥₁_map c.args.auto.now.is_table (λ t.
       (known_table c.args.auto.now.nodes.items c.args.auto.now.entry c.args.auto.now.classes c.args.auto.now.table (record c.args.auto.now.table { set = with_items c.args.auto.now.table.set c.scan.new.set; next = with_items c.args.auto.now.table.next c.scan.new.next })
       (written_len c.args.auto.now.table.set c.scan.new.set c.args.auto.now.nodes.items t.set_len (omega (arith, c.scan.auto.set, c.deref_mut.ensures.len, t.set_len)))

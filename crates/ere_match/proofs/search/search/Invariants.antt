@@ -1,8 +1,14 @@
+use Rattle.std.proofs.Common.{◌-◌, ◌≤◌, length}
 use Rattle.ere_match.specs.Rows.{IsSearching, IsTable}
 use Rattle.ere_match.proofs.search.search.Given as goal
 
 abbrev pub invariant-loop-at : goal.invariant-loop-at
 invariant-loop-at l = record {
+  above : l.from ≤ l.at;
+  inside : l.at ≤ length l.text;
   table : ∥ IsTable l.nodes l.entry l.classes l.table ∥₁;
   search : ∥ IsSearching l.nodes l.text l.entry l.from l.at l.state l.best l.table ∥₁;
 }
+
+abbrev pub decreases-loop-at : goal.decreases-loop-at
+decreases-loop-at l = length l.text - l.at
