@@ -42,3 +42,5 @@ pub mod Jumps
 pub mod Stepping
 pub mod Exits
 pub mod Functions
+pub mod Returning
+pub mod Parts
