@@ -44,3 +44,4 @@ pub mod Exits
 pub mod Functions
 pub mod Returning
 pub mod Parts
+pub mod Endings
