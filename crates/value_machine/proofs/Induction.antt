@@ -1,5 +1,5 @@
 -- All expressions do what they mean, if those constructs do that are still to be proved (`Rest`).
-use Rattle.std.specs.Prelude.{ℕ, Bool, true, false, List}
+use Rattle.std.specs.Prelude.{ℕ, true, false, List}
 use Rattle.mid_code.specs.declared.mid.Operation.TheVariants.{Host, Inline, AsNumber, FieldNumber}
 use Rattle.mid_code.specs.Mid.{Kind, Program, Global, Parameter, Code, Do, Over, Compare, Call, Ask, AskLine, FileLine, Replace, Number, Text, Unset, Get, Set, Array, IsOpen, Choose, Seq, Let, Bound, Codes, End, At, Fixed, Fresh}
 use Rattle.value_machine.specs.Machine.{Frame}
@@ -18,6 +18,8 @@ use Rattle.value_machine.proofs.Lists.{over_expr}
 use Rattle.value_machine.proofs.SettingNames.{set_expr}
 use Rattle.value_machine.proofs.Comparing.{compare_expr}
 use Rattle.value_machine.proofs.Inlining.{inline_expr}
+use Rattle.value_machine.proofs.FileLines.{file_line_expr}
+use Rattle.value_machine.proofs.Replacing.{replace_expr}
 
 module _ (p : Program) (deepest : ℕ) (ks : List Kind) (F : List Frame) (b : Bases) (M n : ℕ) where
   abbrev pub Expr : Code → Type 0
@@ -31,8 +33,6 @@ module _ (p : Program) (deepest : ℕ) (ks : List Kind) (F : List Frame) (b : Ba
     pub call : (f : ℕ) (es : Codes) → Operands es → Expr (Call f es)
     pub ask : Expr Ask
     pub ask_line : (s : Code) → Expr s → Expr (AskLine s)
-    pub file_line : (e s : Code) → Expr e → Expr s → Expr (FileLine e s)
-    pub replace : (all : Bool) (es : Codes) (s : Code) → Operands es → Expr s → Expr (Replace all es s)
 
   module _ (rest : Rest) where
     mutual
@@ -46,8 +46,8 @@ module _ (p : Program) (deepest : ℕ) (ks : List Kind) (F : List Frame) (b : Ba
       expr_ok (Call f es) = rest.call f es (codes_ok es)
       expr_ok Ask = rest.ask
       expr_ok (AskLine s) = rest.ask_line s (expr_ok s)
-      expr_ok (FileLine e s) = rest.file_line e s (expr_ok e) (expr_ok s)
-      expr_ok (Replace all es s) = rest.replace all es s (codes_ok es) (expr_ok s)
+      expr_ok (FileLine e s) = file_line_expr p deepest ks F b M n e s (expr_ok e) (expr_ok s)
+      expr_ok (Replace all es s) = replace_expr p deepest ks F b M n all es s (codes_ok es) (expr_ok s)
       expr_ok (Number z) = number_expr p deepest ks F b M n z
       expr_ok (Text i) = text_expr p deepest ks F b M n i
       expr_ok Unset = unset_expr p deepest ks F b M n

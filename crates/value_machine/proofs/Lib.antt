@@ -37,3 +37,6 @@ pub mod Orders
 pub mod Comparing
 pub mod Products
 pub mod Inlining
+pub mod Receiving
+pub mod FileLines
+pub mod Replacing
