@@ -40,3 +40,6 @@ pub mod Inlining
 pub mod Receiving
 pub mod FileLines
 pub mod Replacing
+pub mod Pending
+pub mod Asking
+pub mod AskingLines
