@@ -45,3 +45,4 @@ pub mod Functions
 pub mod Returning
 pub mod Parts
 pub mod Endings
+pub mod Announcing
