@@ -57,3 +57,4 @@ pub mod Replacing
 pub mod Pending
 pub mod Asking
 pub mod AskingLines
+pub mod Announcing
