@@ -28,7 +28,6 @@ pub mod Numbers
 pub mod Texts
 pub mod Lists
 pub mod InputLaws
-pub mod Induction
 pub mod Setting
 pub mod Written
 pub mod Storing
@@ -43,3 +42,5 @@ pub mod Replacing
 pub mod Pending
 pub mod Asking
 pub mod AskingLines
+pub mod Calling
+pub mod Induction
