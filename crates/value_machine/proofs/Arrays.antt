@@ -40,7 +40,7 @@ pub array_named : (ds : List Declared) (i : ℕ) → i < arrays_among ds → Arr
 array_named [] i h = absurd (omega (arith, h))
 array_named (d ∷ ds) i h = named_at d.kind ds (array_named ds) i h
 
-owner_at : (cs : List Cell) (x a : ℕ) → cell_at cs x ≡ OwnedArray a → has_owner a cs ≡ true
+pub owner_at : (cs : List Cell) (x a : ℕ) → cell_at cs x ≡ OwnedArray a → has_owner a cs ≡ true
 owner_at [] x a e = cc
 owner_at (c ∷ cs) zero a e = or_left (owns a c) (has_owner a cs) (ap (owns a) e ∙ eq-eqb a a refl)
 owner_at (c ∷ cs) (suc x) a e = or_right (owns a c) (has_owner a cs) (owner_at cs x a e)

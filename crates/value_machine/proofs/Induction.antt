@@ -20,6 +20,7 @@ use Rattle.value_machine.proofs.SettingNames.{set_expr}
 use Rattle.value_machine.proofs.Comparing.{compare_expr}
 use Rattle.value_machine.proofs.Inlining.{inline_expr}
 use Rattle.value_machine.proofs.FileLines.{file_line_expr}
+use Rattle.value_machine.proofs.Calling.{CallsDo, call_expr}
 use Rattle.value_machine.proofs.Asking.{assign_work}
 use Rattle.value_machine.proofs.AskingLines.{ask_expr, ask_line_expr}
 use Rattle.value_machine.proofs.Replacing.{replace_expr}
@@ -31,10 +32,10 @@ module _ (p : Program) (deepest : ℕ) (ks : List Kind) (F : List Frame) (b : Ba
   abbrev pub Operands : Codes → Type 0
   Operands es = CodesOk p deepest ks F b M n es
 
-  -- what expressions rest on: a turn pays for an assignment of the command line; and what is still to be proved of calls
+  -- what expressions rest on: a turn pays for an assignment of the command line, and each call of a function does what it means
   pub record Rest : Type 0 where
     pub paid : assign_work p deepest ks F b M n ≤ M
-    pub call : (f : ℕ) (es : Codes) → Operands es → Expr (Call f es)
+    pub calls : CallsDo p deepest ks F b M n
 
   module _ (rest : Rest) where
     mutual
@@ -45,7 +46,7 @@ module _ (p : Program) (deepest : ℕ) (ks : List Kind) (F : List Frame) (b : Ba
       expr_ok (Do FieldNumber es) = do_field_number p deepest ks F b M n es (codes_ok es)
       expr_ok (Over l es) = over_expr p deepest ks F b M n l es (codes_ok es)
       expr_ok (Compare c x y) = compare_expr p deepest ks F b M n c x y (expr_ok x) (expr_ok y)
-      expr_ok (Call f es) = rest.call f es (codes_ok es)
+      expr_ok (Call f es) = call_expr p deepest ks F b M n rest.calls f es (codes_ok es)
       expr_ok Ask = ask_expr p deepest ks F b M n rest.paid
       expr_ok (AskLine s) = ask_line_expr p deepest ks F b M n rest.paid s (expr_ok s)
       expr_ok (FileLine e s) = file_line_expr p deepest ks F b M n e s (expr_ok e) (expr_ok s)

@@ -28,7 +28,6 @@ pub mod Numbers
 pub mod Texts
 pub mod Lists
 pub mod InputLaws
-pub mod Induction
 pub mod Setting
 pub mod Written
 pub mod StatementForms
@@ -58,3 +57,5 @@ pub mod Pending
 pub mod Asking
 pub mod AskingLines
 pub mod Announcing
+pub mod Calling
+pub mod Induction

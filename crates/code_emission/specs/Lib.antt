@@ -1,0 +1,3 @@
+pub mod Emits
+pub mod Bounds
+pub mod Forms

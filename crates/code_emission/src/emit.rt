@@ -1,0 +1,66 @@
+//! Single instructions, and choices.
+ghost use Rattle.std.specs.Prelude.{◌≡◌, [], ◌∷◌, IfOk, OnOk};
+ghost use Rattle.wasm_types.specs.Syntax.{Instructions, Done};
+ghost use Rattle.value_machine.specs.Small.{ask, ask_row, does, either, when};
+ghost use Rattle.code_emission.specs.Emits.{does_all, Emits};
+
+use crate::imports::import_number;
+use awk_state::Primitive;
+use std::alloc::{AllocError, Global};
+use std::rc::Rc;
+use value_machine::Import;
+use wasm_types::{Instr, Simple};
+
+/// Adds an instruction.
+pub(crate) fn does(out: &mut Vec<Instr>, simple: Simple) -> Result<(), AllocError>
+    ensures { OnOk result (Emits out.old.items out.new.items (does simple)) }
+{
+    out.push(Instr::Plain(simple))?;
+    Ok(())
+}
+
+/// Adds instructions.
+pub(crate) fn does_all(out: &mut Vec<Instr>, all: &[Simple]) -> Result<(), AllocError>
+    ensures { OnOk result (Emits out.old.items out.new.items (does_all all.now)) }
+{
+    for simple in all {
+        does(out, *simple)?;
+    }
+    Ok(())
+}
+
+/// Adds a call of an import.
+pub(crate) fn ask(out: &mut Vec<Instr>, import: Import) -> Result<(), AllocError>
+    ensures { OnOk result (Emits out.old.items out.new.items (ask import)) }
+{
+    does(out, Simple::Call(import_number(import)))
+}
+
+/// Adds a call of a primitive.
+pub(crate) fn ask_row(out: &mut Vec<Instr>, primitive: Primitive) -> Result<(), AllocError>
+    ensures { OnOk result (Emits out.old.items out.new.items (ask_row primitive)) }
+{
+    ask(out, Import::Of(primitive))
+}
+
+/// Adds what is done where the topmost operand is not 0, and what is done where it is.
+pub(crate) fn either(
+    alloc: Global,
+    out: &mut Vec<Instr>,
+    yes: Vec<Instr>,
+    no: Vec<Instr>,
+) -> Result<(), AllocError>
+    ensures { (a b : Instructions → Instructions) → Emits [] yes.items a → Emits [] no.items b → OnOk result (Emits out.old.items out.new.items (either (a Done) (b Done))) }
+{
+    let yes = Rc::new(alloc, yes)?;
+    let no = Rc::new(alloc, no)?;
+    out.push(Instr::If(None, yes, no))?;
+    Ok(())
+}
+
+/// Adds what is done where the topmost operand is not 0.
+pub(crate) fn when(alloc: Global, out: &mut Vec<Instr>, yes: Vec<Instr>) -> Result<(), AllocError>
+    ensures { (a : Instructions → Instructions) → Emits [] yes.items a → OnOk result (Emits out.old.items out.new.items (when (a Done))) }
+{
+    either(alloc, out, yes, Vec::new(alloc))
+}
