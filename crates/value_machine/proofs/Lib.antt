@@ -59,3 +59,4 @@ pub mod AskingLines
 pub mod Announcing
 pub mod Calling
 pub mod Induction
+pub mod Recursion
