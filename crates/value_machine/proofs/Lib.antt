@@ -46,3 +46,4 @@ pub mod Returning
 pub mod Parts
 pub mod Endings
 pub mod Announcing
+pub mod Beginnings
