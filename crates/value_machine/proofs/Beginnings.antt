@@ -1,5 +1,5 @@
 -- The beginning of `main`: a fault that the job brings ends it; else its names are announced and made, and it is where a script begins.
-use Rattle.std.proofs.Common.{◌≡◌, inl, ℕ, zero, suc, ◌+◌, ◌*◌, ◌^◌, ◌<◌, ◌≤◌, Bool, true, false, List, [], ◌∷◌, ◌++◌, length, Some, None, Option, refl, sym, ap, ap₂, ◌∙◌, append_assoc, append-nil, arith}
+use Rattle.std.proofs.Common.{◌≡◌, inl, ℕ, zero, suc, ◌+◌, ◌*◌, ◌^◌, ◌<◌, ◌≤◌, Bool, true, false, List, [], ◌∷◌, ◌++◌, length, Some, None, Option, refl, sym, ap, ap₂, ◌∙◌, append-nil, subst, arith}
 use Rattle.std.specs.Prelude.{get_or, replicate, map}
 use Rattle.std.proofs.lemmas.List.{length-append, length-map}
 use Rattle.awk_values.specs.declared.fault.Fault.{Fault}
@@ -15,7 +15,7 @@ use Rattle.mid_code.specs.Mid.{Kind, Boxed, Unboxed, Many, Program, Declared, Ro
 use Rattle.mid_code.specs.MidMeaning.{global_name, routine_name}
 use Rattle.mid_code.specs.Names.{names_length}
 use Rattle.mid_code.specs.ScriptRun.{Setting, start, announced, arrays_made}
-use Rattle.mid_code.specs.ScriptState.{State, Outcome, Gives, Doing, ◌>>◌, go_on}
+use Rattle.mid_code.specs.ScriptState.{State, Outcome, Gives, Stops, Doing, ◌>>=◌, ◌>>◌, go_on}
 use Rattle.mid_code.specs.Sorted.{kinds_of, all_differ, announced_names}
 use Rattle.value_machine.specs.Cells.{Cell, Bits, is_owned}
 use Rattle.value_machine.specs.Functions.{layout_of, texts_of}
@@ -23,16 +23,16 @@ use Rattle.value_machine.specs.Machine.{Label, at}
 use Rattle.value_machine.specs.Places.{Bases}
 use Rattle.value_machine.specs.Runs.{first_globals, zero_ranges, empty_names}
 use Rattle.value_machine.specs.Small.{least}
-use Rattle.value_machine.specs.Statements.{names_declared, routines_declared, names_made}
+use Rattle.value_machine.specs.Statements.{declared, names_declared, routines_declared, names_made}
 use Rattle.value_machine.proofs.Runs.{Goes, goes_to, goes_from, then_goes}
 use Rattle.value_machine.proofs.Regions.{cells, pairs, pairs_same}
 use Rattle.value_machine.proofs.Globals.{Globals, placed}
 use Rattle.value_machine.proofs.GlobalSteps.{storing}
 use Rattle.value_machine.proofs.Steps.{empty}
-use Rattle.value_machine.proofs.State.{kind_here, name_hand, name_word, cells_of, host_of}
+use Rattle.value_machine.proofs.State.{kind_here, arrays_before, name_hand, name_word, cells_of, host_of}
 use Rattle.value_machine.proofs.Relation.{Calm, globals_told, routines_told}
 use Rattle.value_machine.proofs.Answers.{machine, beside_state}
-use Rattle.value_machine.proofs.Announcing.{Telling, names_in, tell_work, make_work, telling, globals_emitted, routines_emitted, globals_meant, routines_meant, making_meant, they_differ, none_told, Untold, Differ, Told, tells_ok, Made, Halfway, names_ok}
+use Rattle.value_machine.proofs.Announcing.{Telling, names_in, tell_work, make_work, tells, telling, first_hand, globals_emitted, routines_emitted, globals_meant, routines_meant, making_meant, they_differ, none_told, Untold, Differ, Told, tells_ok, Made, Halfway, names_ok}
 
 -- globals as a module starts
 abbrev pub first_cells : Globals
@@ -80,3 +80,104 @@ unset_there : (m x : ℕ) → get_or (replicate m Uninit) x Uninit ≡ Uninit
 unset_there zero x = refl
 unset_there (suc m) zero = refl
 unset_there (suc m) (suc x) = unset_there m x
+
+told_length : (ds : List Declared) → length (globals_told ds []) ≡ length ds
+told_length [] = refl
+told_length (d ∷ ds) = ap suc (told_length ds)
+
+unset_length : (m : ℕ) → length (replicate m Uninit) ≡ m
+unset_length zero = refl
+unset_length (suc m) = ap suc (unset_length m)
+
+named_length : (ds : List Declared) → names_length (map global_name ds) ≡ length ds
+named_length [] = refl
+named_length (d ∷ ds) = ap suc (named_length ds)
+
+on_both : {A B C : Type 0} → (r : Outcome A) (m : Doing B) (f : B → Doing C) → go_on r (λ a. m >>= f) ≡ go_on (go_on r (λ a. m)) f
+on_both (Gives a σ) m f = refl
+on_both (Stops why σ) m f = refl
+
+module _ (p : Program) (s : Setting) (b : Bases) (turns : ℕ) (differ : all_differ (announced_names p) ≡ true) where
+  -- a script's state as it begins
+  abbrev pub begins : State
+  begins = start s (names_length (map global_name p.globals)) turns
+
+  abbrev globals_then : List Telling
+  globals_then = globals_told p.globals [] ++ routines_told p.routines
+
+  told_again : (ts us : List Telling) (i j : ℕ) (k : Instructions) → i + length ts ≡ j → tells (layout_of p b) i ts (tells (layout_of p b) j us k) ≡ tells (layout_of p b) i (ts ++ us) k
+  told_again [] us i j k e = let q : j ≡ i = omega (arith, e) in ap (λ x. tells (layout_of p b) x us k) q
+  told_again (t ∷ ts) us i j k e = ap (declared (layout_of p b) t.1 i) (told_again ts us (suc i) j k (omega (arith, e)))
+
+  names_alike : announced_names p ≡ names_in globals_then
+  names_alike = sym (names_of_both (globals_told p.globals []) (routines_told p.routines) ∙ ap₂ (λ x y. x ++ y) (names_of_globals p.globals) (names_of_routines p.routines))
+
+  -- the code that announces and makes names, and what is after it
+  abbrev pub naming : Instructions → Instructions
+  naming k = names_declared (layout_of p b) (length p.texts) (kinds_of p.globals) (routines_declared (layout_of p b) (length p.texts + length p.globals) (length p.routines) (names_made (layout_of p b) zero (kinds_of p.globals) k))
+
+  abbrev pub named_meant : Doing (Unit {0}) → Doing (Unit {0})
+  named_meant rest = announced (map global_name p.globals) >>= λ u. announced (map routine_name p.routines) >>= λ v. arrays_made (map global_name p.globals) >>= λ w. rest
+
+  naming_told : (k : Instructions) → naming k ≡ tells (layout_of p b) (length p.texts) globals_then (names_made (layout_of p b) zero (kinds_of p.globals) k)
+  naming_told k =
+      let y = layout_of p b in
+      let n = told_length p.globals in
+      globals_emitted y p.globals (length p.texts) _
+      ∙ (ap (tells y (length p.texts) (globals_told p.globals [])) (routines_emitted y p.routines (length p.texts + length p.globals) (names_made y zero (kinds_of p.globals) k))
+      ∙ told_again (globals_told p.globals []) (routines_told p.routines) (length p.texts) (length p.texts + length p.globals) (names_made y zero (kinds_of p.globals) k) (omega (arith, n)))
+
+  -- every name is announced and has what it is to have
+  pub record Named (K : List Label) (L : List Cell) (k : Instructions) : Type 0 where
+    pub last : Shared
+    pub steps : ℕ
+    pub few : steps ≤ tell_work globals_then + make_work (kinds_of p.globals)
+    pub goes : Goes (machine p s.deepest [] []) steps (at [] [] K L [] (naming k) (storing (placed p.ranges (length (kinds_of p.globals)) first_cells) (host_of begins None))) (at [] [] K L [] k (beside_state p s.deepest [] [] (record begins { shared = last })))
+    pub means : (rest : Doing (Unit {0})) → named_meant rest begins ≡ rest (record begins { shared = last })
+    pub calm : Calm p last
+
+  made_store : (hands : ℕ → Cell) (last : Shared) → ((x : ℕ) → x < length (kinds_of p.globals) → hands x ≡ first_hand p s.deepest b [] [] x) →
+      placed p.ranges (length (kinds_of p.globals)) (record first_cells { hand = hands }) ≡ placed p.ranges (length (kinds_of p.globals)) (cells_of (kinds_of p.globals) 0 (record begins { shared = last }))
+  made_store hands last each =
+      let ks = kinds_of p.globals in
+      let m = names_length (map global_name p.globals) in
+      let g = cells_of ks 0 (record begins { shared = last }) in
+      ap (λ r. g.way ∷ (g.status ∷ (cells g.range p.ranges ++ (r ++ []))))
+      (pairs_same hands first_cells.number g.hand g.number (length ks)
+      (λ x lt. each x lt ∙ ap (name_hand (kind_here ks x) (suc (suc (arrays_before ks x)))) (sym (unset_there m x)))
+      (λ x lt. ap (λ z. Bits (I64 z)) (sym (ap (name_word (kind_here ks x)) (unset_there m x) ∙ word_unset (kind_here ks x)))))
+
+  pub named_ok : (K : List Label) (L : List Cell) (k : Instructions) → Named K L k
+  named_ok K L k =
+      let y = layout_of p b in
+      let ks = kinds_of p.globals in
+      let gs = placed p.ranges (length ks) first_cells in
+      let after = names_made y zero ks k in
+      let told = tells_ok p s.deepest b K L gs globals_then (length p.texts) p.texts [] after begins (ap (λ r. p.texts ++ r) (names_alike ∙ sym (append-nil (names_in globals_then)))) refl
+          (subst Differ names_alike (they_differ (announced_names p) differ)) (none_told (names_in globals_then)) in
+      let σ1 : State = record begins { shared = told.last } in
+      let made = names_ok p s.deepest b K L ks zero zero k first_cells σ1 (record {
+        alike = λ x. let z : zero + x ≡ x = omega arith in ap (kind_here ks) z;
+        counted = λ x. let z : zero + x ≡ x = omega arith in ap (arrays_before ks) z ∙ omega arith;
+        size = omega arith;
+        arrays = ap length told.arrays;
+        made = λ x lt. absurd (omega (arith, lt));
+        todo = λ x le. refl;
+      }) in
+      record {
+        last = made.last;
+        steps = tell_work globals_then + made.steps;
+        few = let q = made.few in omega (arith, q);
+        goes = goes_from (ap (λ c. at [] [] K L [] c (storing gs (host_of begins None))) (naming_told k))
+            (then_goes told.goes (goes_to made.goes (ap (λ g. at [] [] K L [] k (storing g (host_of (record begins { shared = made.last }) None))) (made_store made.hands made.last made.each))));
+        means = λ rest.
+            on_both (announced (map global_name p.globals) begins) (announced (map routine_name p.routines)) (λ v. arrays_made (map global_name p.globals) >>= λ w. rest)
+            ∙ (ap (λ r. go_on r (λ v. arrays_made (map global_name p.globals) >>= λ w. rest))
+            (ap₂ (λ (m n : Doing (Unit {0})). (m >> n) begins) (globals_meant p.globals) (routines_meant p.routines) ∙ (sym (telling_both (globals_told p.globals []) (routines_told p.routines) begins) ∙ told.means))
+            ∙ ap (λ r. go_on r (λ w. rest)) (ap (λ (m : Doing (Unit {0})). m σ1) (making_meant p.globals) ∙ made.means));
+        calm = record { pending = made.pending ∙ told.pending; names = made.names ∙ (told.names ∙ told_both p.globals (routines_told p.routines)) };
+      }
+
+  -- as many values as names
+  pub values_many : length begins.globals ≡ length p.globals
+  values_many = unset_length (names_length (map global_name p.globals)) ∙ named_length p.globals
