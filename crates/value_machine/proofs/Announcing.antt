@@ -157,8 +157,8 @@ module _ (p : Program) (deepest : ℕ) (b : Bases) (K : List Label) (L gs : List
       let kind = Bits (I32 (kind_number t.1)) in
       let d = primitive_acts {A = InAnswer (answer_of row.Declare)} [] false (meaning row.Declare (t.0, (t.1, tt)) sh) in
       let read : row_in memory (arguments_of row.Declare) (place ∷ (size ∷ (kind ∷ []))) ≡ Some (t.0, (t.1, tt)) =
-          ap (λ o. with_some (and_rest o (kind ∷ [])) (λ x. with_some (row_in memory (argument.Constant constant.NameKind ∷ []) x.1) (λ rest. Some (x.0, rest)))) (text_placed ts i ∙ ap Some e)
-          ∙ ap (λ o. with_some o (λ rest. Some (t.0, rest))) (kind_read memory t.1) in
+      ap (λ o. with_some (and_rest o (kind ∷ [])) (λ x. with_some (row_in memory (argument.Constant constant.NameKind ∷ []) x.1) (λ rest. Some (x.0, rest)))) (text_placed ts i ∙ ap Some e)
+      ∙ ap (λ o. with_some o (λ rest. Some (t.0, rest))) (kind_read memory t.1) in
       called (Of row.Declare) (place ∷ (size ∷ (kind ∷ []))) [] (storing gs (host_with sh)) None (host_with (shared_after sh (meaning row.Declare (t.0, (t.1, tt)) sh))) refl refl
       (ap (acted (Of row.Declare) (host_with sh)) read
       ∙ ap (λ q. with_some (where_so q (Some d)) (λ a. Some (replied (answer_of row.Declare) (host_with sh) a a.does.answer))) (ap (λ o. not (is_some o)) u))
@@ -300,7 +300,7 @@ module _ (p : Program) (deepest : ℕ) (b : Bases) (K : List Label) (L : List Ce
       let more = length-append σ.shared.inner.arrays ([] ∷ []) in
       let counted = h.arrays in
       let r = names_ok ks (suc i) (suc a) k (record g { hand = upd g.hand i (OwnedArray m) }) (record σ { shared = sh1 })
-          (onward Many ks i a (suc a) g (OwnedArray m) σ.shared sh1 h (λ x. omega arith) (omega (arith, more, counted)) (kind_first Many ks i a g σ.shared h ∙ ap OwnedArray (sym counted))) in
+      (onward Many ks i a (suc a) g (OwnedArray m) σ.shared sh1 h (λ x. omega arith) (omega (arith, more, counted)) (kind_first Many ks i a g σ.shared h ∙ ap OwnedArray (sym counted))) in
       record {
         hands = r.hands;
         last = r.last;

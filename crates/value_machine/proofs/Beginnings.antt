@@ -154,7 +154,7 @@ module _ (p : Program) (s : Setting) (b : Bases) (turns : ℕ) (differ : all_dif
       let gs = placed p.ranges (length ks) first_cells in
       let after = names_made y zero ks k in
       let told = tells_ok p s.deepest b K L gs globals_then (length p.texts) p.texts [] after begins (ap (λ r. p.texts ++ r) (names_alike ∙ sym (append-nil (names_in globals_then)))) refl
-          (subst Differ names_alike (they_differ (announced_names p) differ)) (none_told (names_in globals_then)) in
+      (subst Differ names_alike (they_differ (announced_names p) differ)) (none_told (names_in globals_then)) in
       let σ1 : State = record begins { shared = told.last } in
       let made = names_ok p s.deepest b K L ks zero zero k first_cells σ1 (record {
         alike = λ x. let z : zero + x ≡ x = omega arith in ap (kind_here ks) z;

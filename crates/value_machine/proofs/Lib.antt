@@ -47,3 +47,4 @@ pub mod Parts
 pub mod Endings
 pub mod Announcing
 pub mod Beginnings
+pub mod Records
