@@ -48,3 +48,4 @@ pub mod Endings
 pub mod Announcing
 pub mod Beginnings
 pub mod Records
+pub mod Mains
