@@ -102,7 +102,7 @@ module _ (p : Program) (s : Setting) (b : Bases) (turns : ℕ) (differ : all_dif
   abbrev pub begins : State
   begins = start s (names_length (map global_name p.globals)) turns
 
-  abbrev globals_then : List Telling
+  abbrev pub globals_then : List Telling
   globals_then = globals_told p.globals [] ++ routines_told p.routines
 
   told_again : (ts us : List Telling) (i j : ℕ) (k : Instructions) → i + length ts ≡ j → tells (layout_of p b) i ts (tells (layout_of p b) j us k) ≡ tells (layout_of p b) i (ts ++ us) k

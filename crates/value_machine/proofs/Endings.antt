@@ -101,7 +101,7 @@ abbrev pub EndsWell : Outcome (Unit {0}) → Conf → Type 0
 EndsWell r c = ending_at c ≡ Some (ending r)
 
 module _ (p : Program) (s : Setting) (M w turns : ℕ) (few : w ≤ M) where
-  shown : (r : Outcome (Unit {0})) → Arrives (code_of p s.deepest) M w turns (begun p s) (λ u σ. EndsWell (Gives u σ)) (λ why σ. EndsWell (Stops why σ)) r → Shown p s turns (M * (turns + 1)) (ending r)
+  pub shown : (r : Outcome (Unit {0})) → Arrives (code_of p s.deepest) M w turns (begun p s) (λ u σ. EndsWell (Gives u σ)) (λ why σ. EndsWell (Stops why σ)) r → Shown p s turns (M * (turns + 1)) (ending r)
   shown (Gives u σ) h = (h.steps, (let q = h.cost.few in omega (arith, q, few)), ap ending_at h.goes ∙ h.holds)
   shown (Stops OutOfTurns σ) h = (h.steps, (let q = h.few in omega (arith, q, few)), h.enough, h.shows)
   shown (Stops (Faulted f) σ) h = (h.steps, (let q = h.cost.few in omega (arith, q, few)), ap ending_at h.goes ∙ h.holds)

@@ -49,3 +49,4 @@ pub mod Announcing
 pub mod Beginnings
 pub mod Records
 pub mod Mains
+pub mod Wholes
