@@ -48,24 +48,24 @@ use Rattle.value_machine.proofs.Answers.{machine}
 use Rattle.value_machine.proofs.Texts.{text_placed}
 
 -- a name and its kind for the command line
-abbrev Telling : Type 0
+abbrev pub Telling : Type 0
 Telling = List ℕ × NameKind
 
-abbrev names_in : List Telling → List (List ℕ)
+abbrev pub names_in : List Telling → List (List ℕ)
 names_in [] = []
 names_in (t ∷ ts) = t.0 ∷ names_in ts
 
-abbrev tell_work : List Telling → ℕ
+abbrev pub tell_work : List Telling → ℕ
 tell_work [] = 0
 tell_work (t ∷ ts) = 1 + tell_work ts
 
 -- The code that tells names, and what a script does.
 
-abbrev tells : Layout → ℕ → List Telling → Instructions → Instructions
+abbrev pub tells : Layout → ℕ → List Telling → Instructions → Instructions
 tells y i [] k = k
 tells y i (t ∷ ts) k = declared y t.1 i (tells y (suc i) ts k)
 
-abbrev telling : List Telling → Doing (Unit {0})
+abbrev pub telling : List Telling → Doing (Unit {0})
 telling [] = nothing
 telling (t ∷ ts) = does row.Declare (t.0, (t.1, tt)) >> telling ts
 
@@ -79,29 +79,29 @@ kind_meant Boxed = refl
 kind_meant Unboxed = refl
 kind_meant Many = refl
 
-globals_emitted : (y : Layout) (ds : List Declared) (i : ℕ) (rest : Instructions) → names_declared y i (kinds_of ds) rest ≡ tells y i (globals_told ds []) rest
+pub globals_emitted : (y : Layout) (ds : List Declared) (i : ℕ) (rest : Instructions) → names_declared y i (kinds_of ds) rest ≡ tells y i (globals_told ds []) rest
 globals_emitted y [] i rest = refl
 globals_emitted y (d ∷ ds) i rest = ap₂ (λ k r. declared y k i r) (kind_emitted y d.kind) (globals_emitted y ds (suc i) rest)
 
-routines_emitted : (y : Layout) (rs : List Routine) (i : ℕ) (rest : Instructions) → routines_declared y i (length rs) rest ≡ tells y i (routines_told rs) rest
+pub routines_emitted : (y : Layout) (rs : List Routine) (i : ℕ) (rest : Instructions) → routines_declared y i (length rs) rest ≡ tells y i (routines_told rs) rest
 routines_emitted y [] i rest = refl
 routines_emitted y (r ∷ rs) i rest = ap (declared y ArrayOrFunction i) (routines_emitted y rs (suc i) rest)
 
-globals_meant : (ds : List Declared) → announced (map global_name ds) ≡ telling (globals_told ds [])
+pub globals_meant : (ds : List Declared) → announced (map global_name ds) ≡ telling (globals_told ds [])
 globals_meant [] = refl
 globals_meant (d ∷ ds) = ap₂ (λ k (r : Doing (Unit {0})). does row.Declare (d.name, (k, tt)) >> r) (kind_meant d.kind) (globals_meant ds)
 
-routines_meant : (rs : List Routine) → announced (map routine_name rs) ≡ telling (routines_told rs)
+pub routines_meant : (rs : List Routine) → announced (map routine_name rs) ≡ telling (routines_told rs)
 routines_meant [] = refl
 routines_meant (r ∷ rs) = ap (λ (m : Doing (Unit {0})). does row.Declare (r.name, (ArrayOrFunction, tt)) >> m) (routines_meant rs)
 
 -- Names that differ.
 
-abbrev NoneIs : List (List ℕ) → List ℕ → Type 0
+abbrev pub NoneIs : List (List ℕ) → List ℕ → Type 0
 NoneIs [] x = Unit {0}
 NoneIs (n ∷ ns) x = (same_name n x ≡ false) × NoneIs ns x
 
-abbrev Differ : List (List ℕ) → Type 0
+abbrev pub Differ : List (List ℕ) → Type 0
 Differ [] = Unit {0}
 Differ (n ∷ ns) = NoneIs ns n × Differ ns
 
@@ -118,7 +118,7 @@ they_differ [] e = tt
 they_differ (n ∷ ns) e = let q = and_parts (not (is_named ns n)) (all_differ ns) e in (none_is ns n q.0, they_differ ns q.1)
 
 -- none of these was told yet
-abbrev Untold : List (List ℕ) → List Telling → Type 0
+abbrev pub Untold : List (List ℕ) → List Telling → Type 0
 Untold [] told = Unit {0}
 Untold (x ∷ xs) told = (told_at 0 x told ≡ None) × Untold xs told
 
@@ -142,7 +142,7 @@ kind_read : (memory : List ℕ) (k : NameKind) → row_in memory (argument.Const
 kind_read memory Scalar = refl
 kind_read memory ArrayOrFunction = refl
 
-abbrev host_with : Shared → Host
+abbrev pub host_with : Shared → Host
 host_with sh = record { shared = sh; arguments = []; fault = None }
 
 module _ (p : Program) (deepest : ℕ) (b : Bases) (K : List Label) (L gs : List Cell) where
@@ -172,7 +172,7 @@ module _ (p : Program) (deepest : ℕ) (b : Bases) (K : List Label) (L gs : List
     pub pending : last.inner.pending ≡ σ.shared.inner.pending
     pub arrays : last.inner.arrays ≡ σ.shared.inner.arrays
 
-  tells_ok : (ts : List Telling) (i : ℕ) (front rest : List (List ℕ)) (k : Instructions) (σ : State) → texts_of p ≡ front ++ (names_in ts ++ rest) → length front ≡ i → Differ (names_in ts) → Untold (names_in ts) σ.shared.inner.names → Told ts i k σ
+  pub tells_ok : (ts : List Telling) (i : ℕ) (front rest : List (List ℕ)) (k : Instructions) (σ : State) → texts_of p ≡ front ++ (names_in ts ++ rest) → length front ≡ i → Differ (names_in ts) → Untold (names_in ts) σ.shared.inner.names → Told ts i k σ
   tells_ok [] i front rest k σ e n d u = record { last = σ.shared; goes = stays; means = refl; names = sym (append-nil σ.shared.inner.names); pending = refl; arrays = refl }
   tells_ok (t ∷ ts) i front rest k σ e n d u =
       let sh = shared_after σ.shared (meaning row.Declare (t.0, (t.1, tt)) σ.shared) in
@@ -191,27 +191,27 @@ module _ (p : Program) (deepest : ℕ) (b : Bases) (K : List Label) (L gs : List
 
 -- What names have.
 
-abbrev making : List Kind → Doing (Unit {0})
+abbrev pub making : List Kind → Doing (Unit {0})
 making [] = nothing
 making (k ∷ ks) = (if is_many k then (does row.NewArray tt >> nothing) else nothing) >> making ks
 
-making_meant : (ds : List Declared) → arrays_made (map global_name ds) ≡ making (kinds_of ds)
+pub making_meant : (ds : List Declared) → arrays_made (map global_name ds) ≡ making (kinds_of ds)
 making_meant [] = refl
 making_meant (d ∷ ds) = ap (λ (m : Doing (Unit {0})). (if is_many d.kind then (does row.NewArray tt >> nothing) else nothing) >> m) (making_meant ds)
 
-abbrev make_work : List Kind → ℕ
+abbrev pub make_work : List Kind → ℕ
 make_work [] = 0
 make_work (k ∷ ks) = 2 + make_work ks
 
 module _ (p : Program) (deepest : ℕ) (b : Bases) (K : List Label) (L : List Cell) where
-  abbrev kinds : List Kind
+  abbrev pub kinds : List Kind
   kinds = kinds_of p.globals
 
   -- what a name has at first
-  abbrev first_hand : ℕ → Cell
+  abbrev pub first_hand : ℕ → Cell
   first_hand x = name_hand (kind_here kinds x) (suc (suc (arrays_before kinds x))) Uninit
 
-  abbrev store_of : Globals → Shared → Store
+  abbrev pub store_of : Globals → Shared → Store
   store_of g sh = storing (placed p.ranges (length kinds) g) (host_with sh)
 
   pub record Made (ks : List Kind) (i : ℕ) (k : Instructions) (g : Globals) (σ : State) : Type 0 where
@@ -226,13 +226,13 @@ module _ (p : Program) (deepest : ℕ) (b : Bases) (K : List Label) (L : List Ce
     pub pending : last.inner.pending ≡ σ.shared.inner.pending
 
   -- names from i on are still to be made, and a arrays were
-  record Halfway (ks : List Kind) (i a : ℕ) (g : Globals) (sh : Shared) : Type 0 where
-    alike : (x : ℕ) → kind_here kinds (i + x) ≡ kind_here ks x
-    counted : (x : ℕ) → arrays_before kinds (i + x) ≡ a + arrays_before ks x
-    size : i + length ks ≡ length kinds
-    arrays : length sh.inner.arrays ≡ suc (suc a)
-    made : (x : ℕ) → x < i → g.hand x ≡ first_hand x
-    todo : (x : ℕ) → i ≤ x → g.hand x ≡ empty
+  pub record Halfway (ks : List Kind) (i a : ℕ) (g : Globals) (sh : Shared) : Type 0 where
+    pub alike : (x : ℕ) → kind_here kinds (i + x) ≡ kind_here ks x
+    pub counted : (x : ℕ) → arrays_before kinds (i + x) ≡ a + arrays_before ks x
+    pub size : i + length ks ≡ length kinds
+    pub arrays : length sh.inner.arrays ≡ suc (suc a)
+    pub made : (x : ℕ) → x < i → g.hand x ≡ first_hand x
+    pub todo : (x : ℕ) → i ≤ x → g.hand x ≡ empty
 
   kind_first : (k : Kind) (ks : List Kind) (i a : ℕ) (g : Globals) (sh : Shared) → Halfway (k ∷ ks) i a g sh → first_hand i ≡ name_hand k (suc (suc a)) Uninit
   kind_first k ks i a g sh h =
@@ -257,7 +257,7 @@ module _ (p : Program) (deepest : ℕ) (b : Bases) (K : List Label) (L : List Ce
   within_names : (k : Kind) (ks : List Kind) (i a : ℕ) (g : Globals) (sh : Shared) → Halfway (k ∷ ks) i a g sh → i < length kinds
   within_names k ks i a g sh h = let q = h.size in omega (arith, q)
 
-  names_ok : (ks : List Kind) (i a : ℕ) (k : Instructions) (g : Globals) (σ : State) → Halfway ks i a g σ.shared → Made ks i k g σ
+  pub names_ok : (ks : List Kind) (i a : ℕ) (k : Instructions) (g : Globals) (σ : State) → Halfway ks i a g σ.shared → Made ks i k g σ
   names_ok [] i a k g σ h = record { hands = g.hand; last = σ.shared; steps = 0; few = omega arith; goes = stays; means = refl; each = λ x lt. h.made x (let q = h.size in omega (arith, q, lt)); names = refl; pending = refl }
   names_ok (Unboxed ∷ ks) i a k g σ h =
       let r = names_ok ks (suc i) a k g σ (unboxed_on g h) in

@@ -18,17 +18,18 @@ use Rattle.mid_code.specs.Sorted.{kinds_of}
 use Rattle.value_machine.specs.Cells.{Cell, Bits, is_owned, left_by, none_owned, ended_name, globals_by}
 use Rattle.value_machine.specs.Follows.{Shown, Follows}
 use Rattle.value_machine.specs.Functions.{layout_of}
-use Rattle.value_machine.specs.Machine.{Conf, Over, at, ending_at, guarded}
+use Rattle.value_machine.specs.Machine.{Conf, Over, Store, at, ending_at, guarded}
+use Rattle.value_machine.specs.ImportCalls.{Host}
 use Rattle.value_machine.specs.Places.{Bases, status_global}
 use Rattle.value_machine.specs.Runs.{code_of, begun, value_run}
 use Rattle.value_machine.specs.Small.{does}
 use Rattle.value_machine.specs.Statements.{swept}
 use Rattle.value_machine.proofs.Runs.{Goes, then_goes, goes_to, by_steps, Arrives}
-use Rattle.value_machine.proofs.Globals.{Status}
-use Rattle.value_machine.proofs.GlobalSteps.{global_copied}
+use Rattle.value_machine.proofs.Globals.{Globals, Status, placed}
+use Rattle.value_machine.proofs.GlobalSteps.{global_copied, storing}
 use Rattle.value_machine.proofs.Locals.{Locals, laid}
 use Rattle.value_machine.proofs.Steps.{empty}
-use Rattle.value_machine.proofs.State.{beside, name_hand, cells_of, store_with}
+use Rattle.value_machine.proofs.State.{beside, name_hand, cells_of, host_of, store_with}
 use Rattle.value_machine.proofs.Relation.{Loose}
 use Rattle.value_machine.proofs.Conversions.{BareIs, IsBeside, IsNone, IsNumber, bare_is}
 use Rattle.value_machine.proofs.Answers.{machine}
@@ -61,16 +62,17 @@ module _ (p : Program) (deepest : ℕ) (b : Bases) where
   main_exit = swept (layout_of p b) (does (GlobalGet status_global) (does (Convert I32WrapI64) Done))
 
   -- `main` ends with the status, and holds nothing
-  pub record MainEnds (way : ℕ) (fault : Option Fault) (l : Locals) (σ : State) : Type 0 where
+  pub record MainEnds (w : ℕ) (G : Store) (l : Locals) : Type 0 where
     pub steps : ℕ
     pub few : steps ≤ main_exit_work b
-    pub goes : Goes (machine p deepest [] []) steps (at [] [] [] (laid b l) [] main_exit (store_with p.ranges (kinds_of p.globals) way fault σ)) (Over (Bits (I32 (number_word σ.status % 2 ^ 32))) (store_with p.ranges (kinds_of p.globals) way fault σ))
+    pub goes : Goes (machine p deepest [] []) steps (at [] [] [] (laid b l) [] main_exit G) (Over (Bits (I32 (w % 2 ^ 32))) G)
 
-  pub main_ends : (way : ℕ) (fault : Option Fault) (l : Locals) (σ : State) → zero ≡ b.parameters → Loose p deepest [] [] l → l.answer ≡ empty → MainEnds way fault l σ
-  main_ends way fault l σ none lo an =
-      let G = store_with p.ranges (kinds_of p.globals) way fault σ in
+  pub main_ends_by : (g : Globals) (o : Host) (w : ℕ) (l : Locals) → zero ≡ b.parameters → Loose p deepest [] [] l → l.answer ≡ empty → g.status ≡ Bits (I64 w) →
+      globals_by ended_name (suc (suc p.ranges)) (kinds_of p.globals) (placed p.ranges (length (kinds_of p.globals)) g) ≡ true → MainEnds w (storing (placed p.ranges (length (kinds_of p.globals)) g) o) l
+  main_ends_by g o w l none lo an es fine =
+      let G = storing (placed p.ranges (length (kinds_of p.globals)) g) o in
       let mach = machine p deepest [] [] in
-      let v = Bits (I32 (number_word σ.status % 2 ^ 32)) in
+      let v = Bits (I32 (w % 2 ^ 32)) in
       let a = sweep_ok p deepest [] [] b [] G l (does (GlobalGet status_global) (does (Convert I32WrapI64) Done)) lo in
       let clean : none_owned (laid b a.next) ≡ true =
       unowned_laid p deepest [] [] b a.next (λ i lt. absurd (omega (arith, lt, none))) (ap is_owned (a.answer ∙ an)) (λ x lt. ap is_owned (a.hands x lt)) (λ x. ap is_owned (a.numbers x) ∙ lo.numbers x)
@@ -79,12 +81,15 @@ module _ (p : Program) (deepest : ℕ) (b : Bases) where
         steps = a.steps + 3;
         few = let q = a.few in omega (arith, q);
         goes = then_goes a.goes
-            (then_goes (global_copied p.ranges (length (kinds_of p.globals)) (cells_of (kinds_of p.globals) way σ) Status (Bits (I64 (number_word σ.status))) tt refl refl)
+            (then_goes (global_copied p.ranges (length (kinds_of p.globals)) g Status (Bits (I64 w)) tt es refl)
             (then_goes (by_steps 1 refl)
             (by_steps 1
             (ap (λ t. guarded (true && t) (guarded (true && globals_by ended_name mach.before mach.names G.globals) (Over v G))) clean
-            ∙ ap (λ t. guarded (true && t) (Over v G)) (globals_fine p ended_name way σ name_ended)))));
+            ∙ ap (λ t. guarded (true && t) (Over v G)) fine))));
       }
+
+  pub main_ends : (way : ℕ) (fault : Option Fault) (l : Locals) (σ : State) → zero ≡ b.parameters → Loose p deepest [] [] l → l.answer ≡ empty → MainEnds (number_word σ.status) (store_with p.ranges (kinds_of p.globals) way fault σ) l
+  main_ends way fault l σ none lo an = main_ends_by (cells_of (kinds_of p.globals) way σ) (host_of σ fault) (number_word σ.status) l none lo an refl (globals_fine p ended_name way σ name_ended)
 
   -- how it shows then
   pub shows_ended : (way : ℕ) (σ : State) → ending_at (Over (Bits (I32 (number_word σ.status % 2 ^ 32))) (store_with p.ranges (kinds_of p.globals) way None σ)) ≡ Some (Ended (unsigned_abs (int_rem_euclid σ.status.number (pos 256))) σ.shared.output)
@@ -96,7 +101,7 @@ abbrev pub EndsWell : Outcome (Unit {0}) → Conf → Type 0
 EndsWell r c = ending_at c ≡ Some (ending r)
 
 module _ (p : Program) (s : Setting) (M w turns : ℕ) (few : w ≤ M) where
-  shown : (r : Outcome (Unit {0})) → Arrives (code_of p s.deepest) M w turns (begun p s) (λ u σ. EndsWell (Gives u σ)) (λ why σ. EndsWell (Stops why σ)) r → Shown p s turns (M * (turns + 1)) (ending r)
+  pub shown : (r : Outcome (Unit {0})) → Arrives (code_of p s.deepest) M w turns (begun p s) (λ u σ. EndsWell (Gives u σ)) (λ why σ. EndsWell (Stops why σ)) r → Shown p s turns (M * (turns + 1)) (ending r)
   shown (Gives u σ) h = (h.steps, (let q = h.cost.few in omega (arith, q, few)), ap ending_at h.goes ∙ h.holds)
   shown (Stops OutOfTurns σ) h = (h.steps, (let q = h.few in omega (arith, q, few)), h.enough, h.shows)
   shown (Stops (Faulted f) σ) h = (h.steps, (let q = h.cost.few in omega (arith, q, few)), ap ending_at h.goes ∙ h.holds)

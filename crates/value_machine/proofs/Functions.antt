@@ -43,7 +43,7 @@ routine_work r = begin_work (routine_bases r) + (1 + (steps_work r.body + (exit_
 
 -- Locals as a function is entered: what it is given, and zeros.
 
-abbrev entry : List Cell → Locals
+abbrev pub entry : List Cell → Locals
 entry words = record { param = λ i. get_or words i Gone; answer = Bits (I32 0); hand = λ x. Bits (I32 0); number = λ x. Bits (I64 0); iterator = λ x. Bits (I32 0); array = λ x. Bits (I32 0) }
 
 cells_listed : (ws : List Cell) → cells (λ i. get_or ws i Gone) (length ws) ≡ ws
@@ -62,7 +62,7 @@ zeros_last : (m : ℕ) → zeros (handle_types m) ≡ cells (λ x. Bits (I32 0))
 zeros_last zero = refl
 zeros_last (suc m) = ap (λ r. Bits (I32 0) ∷ r) (zeros_last m)
 
-laid_entry : (b : Bases) (words : List Cell) → length words ≡ b.parameters → words ++ zeros (local_types b) ≡ laid b (entry words)
+pub laid_entry : (b : Bases) (words : List Cell) → length words ≡ b.parameters → words ++ zeros (local_types b) ≡ laid b (entry words)
 laid_entry b words e =
     ap₂ (λ a r. a ++ r) (sym (ap (cells (λ i. get_or words i Gone)) (sym e) ∙ cells_listed words))
     (ap (λ r. Bits (I32 0) ∷ r)
@@ -71,10 +71,10 @@ laid_entry b words e =
     (zeros_of_handles b.iterators (handle_types b.arrays) ∙ ap (λ r. cells (λ x. Bits (I32 0)) b.iterators ++ r) (zeros_last b.arrays))))
 
 -- Locals where the body begins.
-abbrev begun : List Cell → Locals
+abbrev pub begun : List Cell → Locals
 begun words = record { param = λ i. get_or words i Gone; answer = empty; hand = λ x. empty; number = λ x. Bits (I64 0); iterator = λ x. empty; array = λ x. empty }
 
-laid_begun : (b : Bases) (words : List Cell) (l : Locals) → ((i : ℕ) → l.param i ≡ get_or words i Gone) → l.answer ≡ empty → ((x : ℕ) → x < b.temporaries → l.hand x ≡ empty) → ((x : ℕ) → l.number x ≡ Bits (I64 0)) →
+pub laid_begun : (b : Bases) (words : List Cell) (l : Locals) → ((i : ℕ) → l.param i ≡ get_or words i Gone) → l.answer ≡ empty → ((x : ℕ) → x < b.temporaries → l.hand x ≡ empty) → ((x : ℕ) → l.number x ≡ Bits (I64 0)) →
     ((x : ℕ) → x < b.iterators → l.iterator x ≡ empty) → ((x : ℕ) → x < b.arrays → l.array x ≡ empty) → laid b l ≡ laid b (begun words)
 laid_begun b words l ep ea eh en ei ey =
     ap₂ (λ a r. a ++ r) (cells_same l.param (begun words).param b.parameters (λ i lt. ep i))

@@ -60,3 +60,7 @@ pub mod Announcing
 pub mod Calling
 pub mod Induction
 pub mod Recursion
+pub mod Beginnings
+pub mod Records
+pub mod Mains
+pub mod Wholes

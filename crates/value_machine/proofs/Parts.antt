@@ -53,6 +53,12 @@ abbrev pub fault_kept : Stop → Option Fault
 fault_kept (Faulted f) = Some f
 fault_kept _ = None
 
+-- a part is left for good by a fault, or a call that is too deep
+abbrev pub ForGood : Stop → Type 0
+ForGood (Faulted f) = Unit {0}
+ForGood TooDeep = Unit {0}
+ForGood why = ⊥
+
 -- how many steps it takes at most to go on after `next` or `exit`
 abbrev pub going_work : Bases → ℕ
 going_work b = 1 + 8 * (b.temporaries + (b.iterators + b.arrays))
@@ -68,13 +74,14 @@ module _ (p : Program) (deepest : ℕ) (b : Bases) (M n : ℕ) where
     pub comes : c ≡ at [] [] K (laid b next) [] k (beside_state p deepest [] [] σ)
     pub starts : Starts p deepest [] [] b M n 0 K next σ
 
-  -- a part of `main` is left, whatever the way was
+  -- `main` is left, whatever the way was
   pub record Left (d : ℕ) (K : List Label) (why : Stop) (σ : State) (c : Conf) : Type 0 where
     pub next : Locals
     pub way : ℕ
     pub comes : c ≡ left_to why (br d [] K (laid b next) [] (store_with p.ranges (kinds_of p.globals) way (fault_kept why) σ)) (Deep (beside_state p deepest [] [] σ))
     pub loose : Loose p deepest [] [] next
     pub answer : next.answer ≡ empty
+    pub good : ForGood why
 
   -- what was left by `next` or by `exit` goes on once what it held is let go
   pub record Going (way : ℕ) (K : List Label) (k : Instructions) (l : Locals) (σ : State) : Type 0 where
@@ -231,7 +238,7 @@ module _ (p : Program) (deepest : ℕ) (b : Bases) (M n : ℕ) where
   parted w m d c k K (Stops OutOfTurns τ) none walks le nr size h = within (machine p deepest [] []) M {A = Unit {0}} w (w + part_work) m c (λ u. On k K) (Left d K) (Stops OutOfTurns τ) (omega arith) h
   parted w m d c k K (Stops TooDeep τ) none walks le nr size h =
       reaches_on (machine p deepest [] []) M 0 w (w + part_work) m τ.turns c _ (Left d K TooDeep τ) (omega arith)
-      (λ c1 q. record { conf = c1; steps = 0; few = omega arith; goes = stays; holds = record { next = q.next; way = 0; comes = q.comes; loose = q.loose; answer = q.answer } }) h
+      (λ c1 q. record { conf = c1; steps = 0; few = omega arith; goes = stays; holds = record { next = q.next; way = 0; comes = q.comes; loose = q.loose; answer = q.answer; good = tt } }) h
   parted w m d c k K (Stops (Faulted f) τ) none walks le nr size h =
       reaches_on (machine p deepest [] []) M 3 w (w + part_work) m τ.turns c _ (Left d K (Faulted f) τ) (omega arith)
       (λ c1 q. record {
@@ -239,7 +246,7 @@ module _ (p : Program) (deepest : ℕ) (b : Bases) (M n : ℕ) where
         steps = 3;
         few = omega arith;
         goes = goes_from q.comes (then_goes (way_told 0 (Some f) τ) (by_steps 2 refl));
-        holds = record { next = q.next; way = 0; comes = refl; loose = q.loose; answer = q.answer };
+        holds = record { next = q.next; way = 0; comes = refl; loose = q.loose; answer = q.answer; good = tt };
       }) h
   parted w m d c k K (Stops Nexted τ) none walks le nr size h =
       reaches_on (machine p deepest [] []) M 9 w (w + part_work) m τ.turns c _ (Left d K (Faulted NextOutside) τ) (omega arith)
@@ -248,7 +255,7 @@ module _ (p : Program) (deepest : ℕ) (b : Bases) (M n : ℕ) where
         steps = 8;
         few = omega arith;
         goes = goes_from q.comes (then_goes (way_told 1 None τ) (then_goes (by_steps 2 refl) (then_goes (way_told 1 None τ) (then_goes (by_steps 2 refl) (then_goes (outside_kept τ) (by_steps 1 refl))))));
-        holds = record { next = q.next; way = 1; comes = refl; loose = q.loose; answer = q.answer };
+        holds = record { next = q.next; way = 1; comes = refl; loose = q.loose; answer = q.answer; good = tt };
       }) h
   parted w m d c k K (Stops Exited τ) none walks le nr size h =
       let down = h.cost.down in

@@ -27,6 +27,7 @@ use Rattle.mid_code.specs.Sorted.{Context, calls_of, step_sorted, steps_sorted, 
 use Rattle.mid_code.specs.Statements.{Flow, Normal, Broke, Continued, after, after_round, loop, at_key, over_keys, with_status, returned, entered_with}
 use Rattle.mid_code.specs.Steps.{array_number, one_number, input_number, field_checked}
 use Rattle.mid_code.specs.Items.{range_open}
+use Rattle.mid_code.specs.ScriptRun.{next_over, for_record, on_input, records_done}
 use Rattle.mid_code.specs.Meaning.{Calls, unless_pending, asked, assign_pending}
 
 abbrev pub NoReturn : {A : Type 0} → Outcome A → Type 0
@@ -304,3 +305,39 @@ called_plainly p (suc n) f os = record {
   at = λ σ. entered_plainly σ.own.room os (all_stepped p.texts (calls_of p) n (mid_called p n) (routine_at p.routines f).body) σ;
   sized = λ σ. ap (λ (o : Own). length o.locals) (entered_own σ.own.room os (all_stepped p.texts (calls_of p) n (mid_called p n) (routine_at p.routines f).body) σ);
 }
+
+-- The records of the main input.
+
+next_plainly : (r : Outcome (Unit {0})) → NoReturn r → NoReturn (next_over r)
+next_plainly (Gives u σ) h = tt
+next_plainly (Stops (Returned v) σ) h = h
+next_plainly (Stops (Faulted f) σ) h = tt
+next_plainly (Stops OutOfTurns σ) h = tt
+next_plainly (Stops TooDeep σ) h = tt
+next_plainly (Stops Nexted σ) h = tt
+next_plainly (Stops Exited σ) h = tt
+
+next_own : (r : Outcome (Unit {0})) → own_at (next_over r) ≡ own_at r
+next_own (Gives u σ) = refl
+next_own (Stops (Returned v) σ) = refl
+next_own (Stops (Faulted f) σ) = refl
+next_own (Stops OutOfTurns σ) = refl
+next_own (Stops TooDeep σ) = refl
+next_own (Stops Nexted σ) = refl
+next_own (Stops Exited σ) = refl
+
+record_plainly : (m : Doing (Unit {0})) → Plainly m → Plainly (for_record m)
+record_plainly m h = record { at = λ σ. next_plainly (m σ) (h.at σ); sized = λ σ. ap (λ (o : Own). length o.locals) (next_own (m σ)) ∙ h.sized σ }
+
+on_input_plainly : (read pending : Doing (Unit {0})) → Plainly read → Plainly pending → (a : InputAnswer) → Plainly (on_input read pending a)
+on_input_plainly read pending h k input.Read = then_plainly spend_plainly (λ u. h)
+on_input_plainly read pending h k input.Pending = then_plainly spend_plainly (λ u. k)
+on_input_plainly read pending h k input.End = nothing_plainly
+on_input_plainly read pending h k input.Failed = nothing_plainly
+
+pub records_plainly : (m : ℕ) (items : Doing (Unit {0})) → Plainly items → Plainly (records_done m items)
+unfolding records_done
+records_plainly zero items h = then_plainly (asks_plainly row.NextMain tt) (λ a. on_input_plainly (stop OutOfTurns) (stop OutOfTurns) (stops_plainly OutOfTurns (λ σ. tt)) (stops_plainly OutOfTurns (λ σ. tt)) a)
+records_plainly (suc m) items h =
+    then_plainly (asks_plainly row.NextMain tt) (λ a. on_input_plainly (for_record items >> records_done m items) (assign_pending >> records_done m items)
+    (then_plainly (record_plainly items h) (λ u. records_plainly m items h)) (then_plainly pending_plainly (λ u. records_plainly m items h)) a)

@@ -15,7 +15,7 @@ use Rattle.value_machine.specs.Places.{Bases}
 use Rattle.value_machine.specs.Small.{does}
 use Rattle.value_machine.proofs.Runs.{Goes}
 use Rattle.value_machine.proofs.Regions.{cells, pairs, cells_length}
-use Rattle.value_machine.proofs.Globals.{names_on, placed}
+use Rattle.value_machine.proofs.Globals.{Globals, names_on, placed}
 use Rattle.value_machine.proofs.Locals.{Locals, temporaries_on, laid}
 use Rattle.value_machine.proofs.Steps.{empty}
 use Rattle.value_machine.proofs.State.{beside, kind_here, arrays_before, name_hand, cells_of}
@@ -109,19 +109,24 @@ name_tidy Boxed a v = refl
 name_tidy Unboxed a v = beside_tidy v (bare_is v)
 name_tidy Many a v = refl
 
--- the names have what they are to have, whichever way a function is being left
-pub globals_fine : (p : Program) (ok : Kind → Cell → Bool) (way : ℕ) (σ : State) → ((k : Kind) (a : ℕ) (v : Value) → ok k (name_hand k a v) ≡ true) → globals_by ok (suc (suc p.ranges)) (kinds_of p.globals) (placed p.ranges (length (kinds_of p.globals)) (cells_of (kinds_of p.globals) way σ)) ≡ true
-globals_fine p ok way σ fine =
+-- globals that hold nothing before the names, and names that have what they are to have
+pub placed_fine : (p : Program) (ok : Kind → Cell → Bool) (g : Globals) → is_owned g.way ≡ false → is_owned g.status ≡ false → ((i : ℕ) → is_owned (g.range i) ≡ false) → ((i : ℕ) → ok (kind_here (kinds_of p.globals) i) (g.hand i) ≡ true) → ((i : ℕ) → is_owned (g.number i) ≡ false) →
+    globals_by ok (suc (suc p.ranges)) (kinds_of p.globals) (placed p.ranges (length (kinds_of p.globals)) g) ≡ true
+placed_fine p ok g ew es er eh en =
     let kinds = kinds_of p.globals in
-    let g = cells_of kinds way σ in
     let front : List Cell = g.way ∷ (g.status ∷ (cells g.range p.ranges ++ [])) in
     let shape : g.way ∷ (g.status ∷ cells g.range p.ranges) ≡ front = ap (λ r. g.way ∷ (g.status ∷ r)) (sym (append-nil (cells g.range p.ranges))) in
     let size : length (g.way ∷ (g.status ∷ cells g.range p.ranges)) ≡ suc (suc p.ranges) = ap (λ m. suc (suc m)) (cells_length g.range p.ranges) in
     ap₂ (λ x y. none_owned x && each_name ok kinds y)
     (take_at (g.way ∷ (g.status ∷ cells g.range p.ranges)) (names_on p.ranges (length kinds) g) (suc (suc p.ranges)) size ∙ shape)
     (drop_at (g.way ∷ (g.status ∷ cells g.range p.ranges)) (names_on p.ranges (length kinds) g) (suc (suc p.ranges)) size)
-    ∙ ap₂ (λ x y. x && y) (unowned_cells g.range p.ranges [] (λ i lt. refl) refl)
-    (names_fine ok kinds g.hand g.number (λ i. fine (kind_here kinds i) (suc (suc (arrays_before kinds i))) (global_value i σ)) (λ i. refl))
+    ∙ ap₂ (λ x y. x && y) (ap₂ (λ x y. not x && y) ew (ap₂ (λ x y. not x && y) es (unowned_cells g.range p.ranges [] (λ i lt. er i) refl))) (names_fine ok kinds g.hand g.number eh en)
+
+-- the same beside a state, whichever way a function is being left
+pub globals_fine : (p : Program) (ok : Kind → Cell → Bool) (way : ℕ) (σ : State) → ((k : Kind) (a : ℕ) (v : Value) → ok k (name_hand k a v) ≡ true) → globals_by ok (suc (suc p.ranges)) (kinds_of p.globals) (placed p.ranges (length (kinds_of p.globals)) (cells_of (kinds_of p.globals) way σ)) ≡ true
+globals_fine p ok way σ fine =
+    let kinds = kinds_of p.globals in
+    placed_fine p ok (cells_of kinds way σ) refl refl (λ i. refl) (λ i. fine (kind_here kinds i) (suc (suc (arrays_before kinds i))) (global_value i σ)) (λ i. refl)
 
 same_self : (k : Kind) → same_kind k k ≡ true
 same_self Boxed = refl
