@@ -40,7 +40,9 @@ pub mod Receiving
 pub mod FileLines
 pub mod Replacing
 pub mod Pending
+pub mod Spending
 pub mod Asking
 pub mod AskingLines
+pub mod Starting
 pub mod Calling
 pub mod Induction
