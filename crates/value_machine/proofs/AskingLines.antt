@@ -36,7 +36,7 @@ module _ (p : Program) (deepest : ℕ) (ks : List Kind) (F : List Frame) (b : Ba
       let k1 = code_number b t k in
       let a = asks_record p deepest ks F b M n in
       first mach M 1 26 60 σ.turns _ _ P Q _ (by_steps 1 refl) (omega arith)
-      (then_on mach M 10 16 26 σ.turns _ (Asked p deepest ks F b M n a t u w k1 K l σ) P Q (asked n (asks row.Getline tt) σ) (λ x. give (input_number x)) (omega arith)
+      (then_on mach M 10 16 26 σ.turns _ (Asked p deepest ks F b M n a.reads t u w k1 K l σ) P Q (asked n (asks row.Getline tt) σ) (λ x. give (input_number x)) (omega arith)
       (asked_ok p deepest ks F b M n a enough n t u w d k1 K l σ (omega (arith, rm)) rd.fit rd.turns)
       (λ x τ c1 le g.
       first mach M 0 16 16 τ.turns c1 _ P Q (give (input_number x) τ) (record { it = g.comes }) (omega arith)
@@ -69,7 +69,7 @@ module _ (p : Program) (deepest : ℕ) (ks : List Kind) (F : List Frame) (b : Ba
       let a = asks_line p deepest ks F b M n in
       let stored = when_read (storing_meant p deepest ks F b M n s fs env) in
       first mach M 1 (work_of s + 50) (work_of (AskLine s)) σ.turns _ _ P Q _ (by_steps 1 refl) (omega arith)
-      (then_on mach M 10 (work_of s + 40) (work_of s + 50) σ.turns _ (Asked p deepest ks F b M n a t u w k1 K l σ) P Q (asked n (asks row.GetlineVar tt) σ) stored (omega arith)
+      (then_on mach M 10 (work_of s + 40) (work_of s + 50) σ.turns _ (Asked p deepest ks F b M n a.reads t u w k1 K l σ) P Q (asked n (asks row.GetlineVar tt) σ) stored (omega arith)
       (asked_ok p deepest ks F b M n a enough n t u w d k1 K l σ (omega (arith, rm)) rd.fit rd.turns)
       (λ x τ c1 le g.
       first mach M 0 (work_of s + 40) (work_of s + 40) τ.turns c1 _ P Q (stored x τ) (record { it = g.comes }) (omega arith)

@@ -54,9 +54,11 @@ pub mod Receiving
 pub mod FileLines
 pub mod Replacing
 pub mod Pending
+pub mod Spending
 pub mod Asking
 pub mod AskingLines
 pub mod Announcing
+pub mod Starting
 pub mod Calling
 pub mod Induction
 pub mod Recursion
