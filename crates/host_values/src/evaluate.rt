@@ -1,0 +1,240 @@
+//! Primitives on values.
+ghost use Rattle.std.specs.Prelude.{◌≡◌, ◌+◌, ◌++◌, ◌^◌, [], IfOk, OnOk, length, nat_le};
+ghost use Rattle.awk_state.specs.ValueRows.{truncated, within_limit};
+ghost use Rattle.host_values.specs.declared.primitive.ValuePrimitive.{ValuePrimitive};
+ghost use Rattle.awk_values.specs.Values.{as_fault, text_of_value};
+ghost use Rattle.awk_text.specs.Number.{truncated_of_text};
+ghost use Rattle.host_values.specs.declared.spent.Spent.{Spent};
+ghost use Rattle.host_values.specs.Evaluations.{Evaluates, Values, evaluation, value_reply};
+
+use crate::primitive::ValuePrimitive;
+use crate::reply::{Evaluated, Refusal, Reply, number_reply, truth_reply};
+use crate::spent::Spent;
+use crate::words::{
+    comparison_front, ends, fault_front, number_front, place_front, value_after, value_front,
+};
+use awk_text::{NumberFault, text_of, truncated_of};
+use awk_values::{Bytes, Fault, Value, compare, pow, to_number, truth};
+use host_handles::Handles;
+use std::alloc::{AllocError, Global};
+use wasm_store::Word;
+
+/// The greatest length of a text.
+const TEXT_LIMIT: usize = 1 << 26;
+
+/// An outcome of a call that spends nothing.
+fn unspent(outcome: Result<Reply, Fault>) -> Evaluated
+    ensures { result ≡ record { spent = Spent.Nothing; outcome = outcome } }
+{
+    Evaluated {
+        spent: Spent::Nothing,
+        outcome,
+    }
+}
+
+fn num(words: &[Word]) -> Result<Evaluated, Refusal>
+    ensures { (values : Values) → Evaluates values result (evaluation ValuePrimitive.Num values [] words.now) }
+{
+    let (number, rest) = number_front(words)?;
+    ends(rest)?;
+    Ok(unspent(Ok(Reply::Value(Value::Num(number)))))
+}
+
+fn lit(alloc: Global, words: &[Word], memory: &[u8]) -> Result<Evaluated, Refusal>
+    ensures { (values : Values) → Evaluates values result (evaluation ValuePrimitive.Lit values memory.now words.now) }
+{
+    let (text, rest) = place_front(memory, words)?;
+    ends(rest)?;
+    let text = Bytes::from_slice(alloc, text)?;
+    Ok(unspent(Ok(Reply::Value(Value::Text(text)))))
+}
+
+fn uninit(words: &[Word]) -> Result<Evaluated, Refusal>
+    ensures { (values : Values) → Evaluates values result (evaluation ValuePrimitive.Uninit values [] words.now) }
+{
+    ends(words)?;
+    Ok(unspent(Ok(Reply::Value(Value::Uninit))))
+}
+
+fn dup(handles: &Handles, words: &[Word]) -> Result<Evaluated, Refusal>
+    ensures { Evaluates handles.now result (evaluation ValuePrimitive.Dup handles.now [] words.now) }
+{
+    let (_, value, rest) = value_front(handles, words)?;
+    ends(rest)?;
+    Ok(unspent(Ok(Reply::Value(value.clone()?))))
+}
+
+fn to_num(handles: &Handles, words: &[Word]) -> Result<Evaluated, Refusal>
+    ensures { Evaluates handles.now result (evaluation ValuePrimitive.ToNum handles.now [] words.now) }
+{
+    let (handle, value, rest) = value_front(handles, words)?;
+    ends(rest)?;
+    Ok(Evaluated {
+        spent: Spent::One(handle),
+        outcome: number_reply(to_number(value)),
+    })
+}
+
+/// The truncated number of a text.
+fn truncated_text(text: &[u8]) -> Result<i64, Fault>
+    ensures { result ≡ as_fault (truncated_of_text text.now) }
+{
+    match truncated_of(text) {
+        Ok(number) => Ok(number),
+        Err(NumberFault::Range) => Err(Fault::Range),
+        Err(NumberFault::Fraction) => Err(Fault::Fraction),
+    }
+}
+
+/// The number of a value, truncated towards 0.
+fn truncated(value: &Value) -> Result<i64, Fault>
+    ensures { result ≡ truncated value.now }
+{
+    match value {
+        Value::Uninit => Ok(0),
+        Value::Num(number) => Ok(*number),
+        Value::Text(text) | Value::StrNum(text) => truncated_text(text.as_slice()),
+    }
+}
+
+fn int_of(handles: &Handles, words: &[Word]) -> Result<Evaluated, Refusal>
+    ensures { Evaluates handles.now result (evaluation ValuePrimitive.IntOf handles.now [] words.now) }
+{
+    let (handle, value, rest) = value_front(handles, words)?;
+    ends(rest)?;
+    Ok(Evaluated {
+        spent: Spent::One(handle),
+        outcome: number_reply(truncated(value)),
+    })
+}
+
+fn truth_of(handles: &Handles, words: &[Word]) -> Result<Evaluated, Refusal>
+    ensures { Evaluates handles.now result (evaluation ValuePrimitive.Truth handles.now [] words.now) }
+{
+    let (handle, value, rest) = value_front(handles, words)?;
+    ends(rest)?;
+    Ok(Evaluated {
+        spent: Spent::One(handle),
+        outcome: Ok(Reply::Truth(truth(value))),
+    })
+}
+
+fn comparison(handles: &Handles, words: &[Word]) -> Result<Evaluated, Refusal>
+    ensures { Evaluates handles.now result (evaluation ValuePrimitive.Compare handles.now [] words.now) }
+{
+    let (op, behind_op) = comparison_front(words)?;
+    let (first, left, behind_left) = value_front(handles, behind_op)?;
+    let (second, right, rest) = value_after(handles, first, behind_left)?;
+    ends(rest)?;
+    Ok(Evaluated {
+        spent: Spent::Two(first, second),
+        outcome: truth_reply(compare(left, right, op)),
+    })
+}
+
+/// The length of a value's text.
+fn text_len(value: &Value) -> usize
+    ensures { result ≡ length (text_of_value value.now) }
+{
+    match value {
+        Value::Uninit => 0,
+        Value::Num(number) => text_of(*number).as_bytes().len(),
+        Value::Text(text) | Value::StrNum(text) => text.len(),
+    }
+}
+
+/// Appends the text of a value.
+pub(crate) fn push_text(out: &mut Vec<u8>, value: &Value) -> Result<(), AllocError>
+    ensures { OnOk result (out.new.items ≡ out.old.items ++ text_of_value value.now) }
+{
+    match value {
+        Value::Uninit => Ok(()),
+        Value::Num(number) => out.extend_from_slice(text_of(*number).as_bytes()),
+        Value::Text(text) | Value::StrNum(text) => out.extend_from_slice(text.as_slice()),
+    }
+}
+
+/// The texts of two values, one behind the other.
+fn joined(alloc: Global, left: &Value, right: &Value) -> Result<Bytes, AllocError>
+    ensures { IfOk result (λ text. text ≡ text_of_value left.now ++ text_of_value right.now) }
+{
+    let mut text = Vec::new(alloc);
+    push_text(&mut text, left)?;
+    push_text(&mut text, right)?;
+    Bytes::from_vec(text)
+}
+
+/// Whether two texts are within the limit together.
+fn fits(left: usize, right: usize) -> bool
+    ensures { result ≡ nat_le (left + right) (2 ^ 26) }
+{
+    left <= TEXT_LIMIT && right <= TEXT_LIMIT && left + right <= TEXT_LIMIT
+}
+
+/// The texts of two values as one, where that is within the limit.
+fn concatenation(
+    alloc: Global,
+    left: &Value,
+    right: &Value,
+) -> Result<Result<Reply, Fault>, AllocError>
+    ensures { IfOk result (λ outcome. outcome ≡ value_reply (within_limit (text_of_value left.now ++ text_of_value right.now))) }
+{
+    if !fits(text_len(left), text_len(right)) {
+        return Ok(Err(Fault::TextLimit));
+    }
+    Ok(Ok(Reply::Value(Value::Text(joined(alloc, left, right)?))))
+}
+
+fn concat(alloc: Global, handles: &Handles, words: &[Word]) -> Result<Evaluated, Refusal>
+    ensures { Evaluates handles.now result (evaluation ValuePrimitive.Concat handles.now [] words.now) }
+{
+    let (first, left, behind_left) = value_front(handles, words)?;
+    let (second, right, rest) = value_after(handles, first, behind_left)?;
+    ends(rest)?;
+    Ok(Evaluated {
+        spent: Spent::Two(first, second),
+        outcome: concatenation(alloc, left, right)?,
+    })
+}
+
+fn power(words: &[Word]) -> Result<Evaluated, Refusal>
+    ensures { (values : Values) → Evaluates values result (evaluation ValuePrimitive.Pow values [] words.now) }
+{
+    let (base, behind_base) = number_front(words)?;
+    let (exponent, rest) = number_front(behind_base)?;
+    ends(rest)?;
+    Ok(unspent(number_reply(pow(base, exponent))))
+}
+
+fn fail(words: &[Word]) -> Result<Evaluated, Refusal>
+    ensures { (values : Values) → Evaluates values result (evaluation ValuePrimitive.Fail values [] words.now) }
+{
+    let (fault, rest) = fault_front(words)?;
+    ends(rest)?;
+    Ok(unspent(Err(fault)))
+}
+
+/// What a primitive answers to words, over this memory.
+pub(crate) fn evaluate(
+    alloc: Global,
+    primitive: ValuePrimitive,
+    handles: &Handles,
+    words: &[Word],
+    memory: &[u8],
+) -> Result<Evaluated, Refusal>
+    ensures { Evaluates handles.now result (evaluation primitive handles.now memory.now words.now) }
+{
+    match primitive {
+        ValuePrimitive::Num => num(words),
+        ValuePrimitive::Lit => lit(alloc, words, memory),
+        ValuePrimitive::Uninit => uninit(words),
+        ValuePrimitive::Dup => dup(handles, words),
+        ValuePrimitive::ToNum => to_num(handles, words),
+        ValuePrimitive::IntOf => int_of(handles, words),
+        ValuePrimitive::Truth => truth_of(handles, words),
+        ValuePrimitive::Compare => comparison(handles, words),
+        ValuePrimitive::Concat => concat(alloc, handles, words),
+        ValuePrimitive::Pow => power(words),
+        ValuePrimitive::Fail => fail(words),
+    }
+}

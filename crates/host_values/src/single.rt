@@ -1,0 +1,92 @@
+//! Calls with one handle: a value is let go, or goes onto the argument list.
+ghost use Rattle.std.specs.Prelude.{◌≡◌, List, ℕ, None};
+ghost use Rattle.std.specs.FinMap as map;
+ghost use Rattle.host_step.specs.HostState.{HostState};
+ghost use Rattle.host_values.specs.Calls.{spare};
+ghost use Rattle.host_values.specs.Singles.{IsAppended, IsPushed, IsReleased, left_one, lent_only, only_handle, only_number, only_value};
+
+use crate::reply::Refusal;
+use crate::words::{ends, value_front};
+use awk_values::Value;
+use host_handles::Handles;
+use smallvec::SmallVec;
+use wasm_store::{TrapKind, Word};
+
+/// The one handle that words name, with its value.
+fn only_handle<'a>(handles: &'a Handles, words: &[Word]) -> Result<(i32, &'a Value), TrapKind>
+    ensures { lent_only result ≡ only_handle handles.now words.now }
+{
+    let (handle, value, rest) = value_front(handles, words)?;
+    ends(rest)?;
+    Ok((handle, value))
+}
+
+/// The one handle that words name.
+fn only_number(handles: &Handles, words: &[Word]) -> Result<i32, TrapKind>
+    ensures { result ≡ only_number (only_handle handles.now words.now) }
+{
+    let (handle, _) = only_handle(handles, words)?;
+    Ok(handle)
+}
+
+/// Takes the one value that words name.
+fn take_one(handles: &mut Handles, words: &[Word]) -> Result<Value, TrapKind>
+    ensures value { result ≡ only_value (only_handle handles.old words.now) }
+    ensures rest { handles.new ≡ left_one handles.old (only_handle handles.old words.now) }
+{
+    let handle = match only_number(handles, words) {
+        Ok(handle) => handle,
+        Err(kind) => return Err(kind),
+    };
+    match handles.take(handle) {
+        Some(value) => Ok(value),
+        None => unreachable!(),
+    }
+}
+
+/// Appends a value.
+fn push_value(arguments: &mut SmallVec<Value, 8>, value: Value) -> Result<(), Refusal>
+    ensures { IsPushed arguments.old.items value result arguments.new.items }
+{
+    match arguments.push(value) {
+        Ok(()) => Ok(()),
+        Err(_) => Err(Refusal::NoMemory),
+    }
+}
+
+/// Lets a value go, also where a fault is kept.
+///
+/// # Errors
+///
+/// A trap, which changes nothing.
+pub fn release(handles: &mut Handles, words: &[Word]) -> Result<(), TrapKind>
+    ensures step { (s : HostState) (memory : List ℕ) → IsReleased s words.now memory handles.old result handles.new }
+    ensures spare { map.get handles.old spare ≡ None → map.get handles.new spare ≡ None }
+{
+    match take_one(handles, words) {
+        Ok(value) => {
+            drop(value);
+            Ok(())
+        }
+        Err(kind) => Err(kind),
+    }
+}
+
+/// Moves a value onto the argument list, where no fault is kept.
+///
+/// # Errors
+///
+/// A trap, which changes nothing, or want of memory.
+pub fn append(
+    handles: &mut Handles,
+    arguments: &mut SmallVec<Value, 8>,
+    words: &[Word],
+) -> Result<(), Refusal>
+    ensures step { (s : HostState) (memory : List ℕ) → s.fault ≡ None → IsAppended s words.now memory handles.old arguments.old.items result handles.new arguments.new.items }
+    ensures spare { map.get handles.old spare ≡ None → map.get handles.new spare ≡ None }
+{
+    match take_one(handles, words) {
+        Ok(value) => push_value(arguments, value),
+        Err(kind) => Err(Refusal::Trap(kind)),
+    }
+}
