@@ -1,0 +1,5 @@
+mod Constants
+mod Reduced
+mod Folds
+mod Left
+mod Views

@@ -1,0 +1,23 @@
+use Rattle.std.proofs.Common.{◌+◌, ◌*◌}
+use Rattle.mid_code.specs.declared.code.Code.{size-Code}
+use Rattle.mid_code.specs.declared.code.Operand.{size-Operand}
+use Rattle.folding.proofs.Views.{Done, OperandDone}
+use Rattle.folding.proofs.code.+folding.Given as goal
+
+abbrev pub decreases-folded : goal.decreases-folded
+decreases-folded l = 2 * size-Code l.code
+
+abbrev pub decreases-fold_code : goal.decreases-fold_code
+decreases-fold_code l = 2 * size-Code l.code.now + 1
+
+abbrev pub decreases-fold_operand : goal.decreases-fold_operand
+decreases-fold_operand l = 2 * size-Operand l.operand.now
+
+abbrev pub decreases-fold_operands : goal.decreases-fold_operands
+decreases-fold_operands l = 2 * goal.size-fold_operands l + 1
+
+abbrev pub invariant-fold_operands-loop-operand : goal.invariant-fold_operands-loop-operand
+invariant-fold_operands-loop-operand l = record {
+  rest : goal.unvisited-fold_operands-loop-operand l;
+  done : Done OperandDone l.operand-index l.operand-items l.fn.operands.items;
+}

@@ -1,0 +1,4 @@
+pub mod Folding
+pub mod Left
+pub mod View
+pub mod Rows

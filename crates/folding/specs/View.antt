@@ -1,0 +1,7 @@
+-- How the code tells numbers.
+use Rattle.std.specs.Prelude.{Option, Some, None, ℤ}
+use Rattle.awk_state.specs.Numbers.{Number}
+
+abbrev pub numeral : Option Number → Option ℤ
+numeral (Some n) = Some n.number
+numeral None = None

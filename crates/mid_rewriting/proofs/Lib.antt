@@ -1,0 +1,4 @@
+pub mod Outcomes
+pub mod Seen
+pub mod Congruence
+pub mod Runs

@@ -1,0 +1,37 @@
+-- Answers that are the same but for lanes: what an unboxed name has is a value.
+use Rattle.std.specs.Prelude.{◌≡◌, List, [], ◌∷◌}
+use Rattle.mid_code.specs.ScriptState.{Outcome, Gives, Stops}
+use Rattle.mid_code.specs.Mid.{Kind, Form, Answered, Bare, Perhaps, a_value}
+use Rattle.mid_code.specs.MidMeaning.{Holds}
+use Rattle.mid_code.specs.Sorted.{is_many}
+
+abbrev pub erased : Form → Form
+erased (Answered a) = Answered a
+erased Bare = a_value
+erased Perhaps = Perhaps
+
+abbrev pub as_boxed : (f : Form) → Holds f → Holds (erased f)
+as_boxed (Answered a) x = x
+as_boxed Bare x = x
+as_boxed Perhaps x = x
+
+abbrev pub Seen : Type 0
+Seen = (f : Form) × Holds f
+
+abbrev pub seen : (f : Form) → Holds f → Seen
+seen f x = (erased f, as_boxed f x)
+
+abbrev pub Alike : (f g : Form) → Holds f → Holds g → Type 0
+Alike f g x y = seen f x ≡ seen g y
+
+-- outcomes that are alike: the same state, and answers that are; or the same stop
+abbrev pub LikeR : {A B : Type 0} → (A → B → Type 0) → Outcome A → Outcome B → Type 0
+LikeR R (Gives a s) (Gives b t) = R a b × (s ≡ t)
+LikeR R (Stops y s) (Stops z t) = (y ≡ z) × (s ≡ t)
+LikeR R _ _ = ⊥
+
+-- lists of kinds that say the same of arrays
+abbrev pub AlikeKinds : List Kind → List Kind → Type 0
+AlikeKinds [] [] = Unit {0}
+AlikeKinds (k ∷ ks) (j ∷ js) = (is_many k ≡ is_many j) × AlikeKinds ks js
+AlikeKinds _ _ = ⊥

@@ -1,0 +1,4 @@
+pub mod Rewriting
+pub mod SameRuns
+pub mod Alike
+pub mod Rewritten

@@ -1,0 +1,4 @@
+//! Code whose names and operations are written anew does the same.
+#![tactic(auto)]
+
+pub mod laws;
