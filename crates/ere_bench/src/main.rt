@@ -1,9 +1,11 @@
-//! Matches expressions against long texts, a line for each: `bench/eres` prints how long each takes. A line is a letter that
-//! says what the text is, a digit that says of how many million bytes, a space and the expression.
+//! Matches expressions against texts, a line for each. For `bench/eres` a line is a letter that says what the text is, a digit
+//! that says of how many million bytes, a space and the expression. For `bench/eres_random` it is `=`, the text, a space and
+//! the expression: matches found with the table are compared with those that threads find.
 #![tactic(auto)]
 
-use ere_match::{Auto, build, first_match};
+use ere_match::{Auto, build, first_match, first_match_by_threads};
 use ere_syntax::{EreFault, read_ere};
+use memchr::memchr;
 use std::alloc::{AllocError, Global};
 use std::io;
 
@@ -57,6 +59,33 @@ fn found(auto: &mut Auto, text: &[u8], all: bool) -> Result<(usize, usize, usize
     Ok((count, first.0, first.1))
 }
 
+/// The first place from which threads find another match than the table, if there is one. Where memory runs out the table is
+/// asked once more.
+fn difference(auto: &mut Auto, text: &[u8]) -> Result<Option<usize>, EreFault> {
+    for from in 0..text.len() + 1 {
+        let found = match first_match(auto, text, from) {
+            Ok(found) => found,
+            Err(_) => first_match(auto, text, from)?,
+        };
+        if found != first_match_by_threads(auto, text, from) {
+            return Ok(Some(from));
+        }
+    }
+    Ok(None)
+}
+
+/// The same for the text and the expression of a line.
+fn compared(alloc: Global, line: &[u8]) -> Result<Option<usize>, EreFault> {
+    match memchr(b' ', line) {
+        Some(end) => {
+            let ere = read_ere(alloc, &line[end + 1..])?;
+            let mut auto = build(alloc, &ere)?;
+            difference(&mut auto, &line[..end])
+        }
+        None => Ok(None),
+    }
+}
+
 /// What a line asks for.
 fn answer(alloc: Global, line: &[u8]) -> Result<(usize, usize, usize), EreFault> {
     match line {
@@ -74,9 +103,16 @@ fn answer(alloc: Global, line: &[u8]) -> Result<(usize, usize, usize), EreFault>
 fn main(rt: HostRuntime) -> io::Result<()> {
     for line in rt.lines(rt.alloc()) {
         let line = line?;
-        match answer(rt.alloc(), line.as_str().as_bytes()) {
-            Ok((count, start, end)) => println!(rt; "{count} from {start} to {end}")?,
-            Err(fault) => println!(rt; "{fault:?}")?,
+        match line.as_str().as_bytes() {
+            [b'=', line @ ..] => match compared(rt.alloc(), line) {
+                Ok(None) => println!(rt; "same")?,
+                Ok(Some(from)) => println!(rt; "different from {from} on")?,
+                Err(fault) => println!(rt; "{fault:?}")?,
+            },
+            line => match answer(rt.alloc(), line) {
+                Ok((count, start, end)) => println!(rt; "{count} from {start} to {end}")?,
+                Err(fault) => println!(rt; "{fault:?}")?,
+            },
         }
     }
     Ok(())
