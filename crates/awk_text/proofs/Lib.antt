@@ -7,4 +7,4 @@ pub mod Longest
 pub mod Meaning
 pub mod LongExponent
 mod Nonzero
-mod Octals
+pub mod Octals
