@@ -42,7 +42,7 @@ module _ {H O : Type 0} (M N : Meaning H O) (m : ProgramForm)
   steps_by (suc n) c h out c' h' r = (r.0, r.1, r.2, r.3, taken_by (turn m c) h c.memory r.2 r.0 r.1 r.4, steps_by n r.0 r.1 r.3 c' h' r.5, r.6)
 
   pub ran_by : (n : ℕ) (c : Conf) (h : H) (out : List O) (e : RunEnd) (c' : Conf) (h' : H) → Ran M m n c h out e c' h' → Ran N m n c h out e c' h'
-  ran_by n c h out OutOfSteps c' h' r = steps_by n c h out c' h' r
+  ran_by n c h out OutOfSteps c' h' r = (steps_by n c h out c' h' r.0, r.1)
   ran_by n c h out (Ended e) c' h' r = (r.0, r.1, r.2, r.3, r.4, r.5, steps_by r.0 c h r.4 r.2 r.3 r.6, over_by (turn m r.2) r.3 r.2.memory r.5 e h' r.7, r.8)
   ran_by n c h out NoMemory c' h' r =
       (r.0, r.1, r.2, r.3, r.4, r.5, r.6, steps_by r.0 c h r.4 r.2 r.3 r.7, refused_by r.6 (turn m r.2) r.3 r.2.memory r.5 h' r.8, r.9)

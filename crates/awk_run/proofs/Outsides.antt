@@ -95,7 +95,7 @@ module _ (m : ProgramForm) where
       as_whole out r.2 r.3 h h' r.6 (joined r.2 r.3 h r.1 h' (taken_kept (turn m c) h c.memory r.2 r.0 r.1 r.4) (steps_kept n r.0 r.1 r.3 c' h' r.5))
 
   pub ran_kept : (n : ℕ) (c : Conf) (h : HostState) (out : List Action) (e : RunEnd) (c' : Conf) (h' : HostState) → Ran (host_meaning ⊤) m n c h out e c' h' → h'.shared.outside ≡ after out h.shared.outside
-  ran_kept n c h out OutOfSteps c' h' r = steps_kept n c h out c' h' r
+  ran_kept n c h out OutOfSteps c' h' r = steps_kept n c h out c' h' r.0
   ran_kept n c h out (Ended e) c' h' r =
       as_whole out r.4 r.5 h h' r.8 (joined r.4 r.5 h r.3 h' (steps_kept r.0 c h r.4 r.2 r.3 r.6) (over_kept (turn m r.2) r.3 r.2.memory r.5 e h' r.7))
   ran_kept n c h out NoMemory c' h' r =

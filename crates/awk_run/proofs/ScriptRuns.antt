@@ -1,31 +1,35 @@
 -- What the module of a script did is what the script does.
-use Rattle.std.proofs.Common.{◌≡◌, ◌≢◌, inl, inr, ℕ, ◌+◌, List, [], ◌∷◌, ◌++◌, map, Option, Some, None, refl, sym, ap, ◌∙◌, subst, append-nil, append_assoc}
+use Rattle.std.proofs.Common.{◌≡◌, ◌≢◌, inl, inr, ℕ, ℤ, ◌+◌, List, [], ◌∷◌, ◌++◌, map, Option, Some, None, refl, sym, ap, ◌∙◌, subst, append_assoc}
 use Rattle.std.specs.Prelude.{⊤}
+use Rattle.std.specs.Int.{w32, cast_signed}
 use Rattle.awk_values.specs.declared.fault.Fault.{Fault}
 use Rattle.world_core.specs.WorldState.{Action, State}
 use Rattle.print_code.specs.ScriptRun.{Ending, FaultedBy, GoesOn, Exhausted, run_of}
 use Rattle.wasm_types.specs.Syntax.{ModuleForm}
 use Rattle.wasm_types.specs.ModuleGrammar.{IsModule}
 use Rattle.wasm_types.specs.Typing.{ModuleOk}
-use Rattle.wasm_store.specs.Memories.{MemoryForm}
-use Rattle.wasm_machine.specs.Links.{IsNew, first_none}
-use Rattle.wasm_machine.specs.Machines.{Conf, Turn, Goes, Ends, Asks, turn}
-use Rattle.wasm_machine.specs.Runs.{HasMore, MachineForm, OverBy, Ran, Steps, told_run}
+use Rattle.wasm_store.specs.declared.word.Word.TheVariants.{I32, I64}
+use Rattle.wasm_machine.specs.Links.{IsNew, beginning, first_none}
+use Rattle.wasm_machine.specs.Machines.{Conf, ProgramForm}
+use Rattle.wasm_machine.specs.Runs.{HasMore, MachineForm, Ran, told_run}
+use Rattle.wasm_machine.specs.Typed.{SafeRun}
 use Rattle.wasm_machine.specs.declared.link.LinkFault.{LinkFault}
 use Rattle.wasm_machine.specs.declared.link.LinkFault.TheVariants as link
 use Rattle.wasm_machine.specs.declared.machine.MachineEnd.{MachineEnd}
 use Rattle.wasm_machine.specs.declared.machine.MachineEnd.TheVariants as machine
-use Rattle.wasm_machine.specs.declared.state.End.{End}
 use Rattle.wasm_machine.specs.declared.state.End.TheVariants as ends
 use Rattle.wasm_machine.specs.declared.state.RunEnd.{RunEnd as MachineRunEnd}
 use Rattle.wasm_machine.specs.declared.state.RunEnd.TheVariants.{Ended, OutOfSteps, NoMemory}
+use Rattle.wasm_machine.proofs.Beginning.{begun_ok, linked_is, numbered}
+use Rattle.wasm_machine.proofs.Whole.{ran_safe}
 use Rattle.module_decoder.proofs.CompleteModule.{one_module}
 use Rattle.host_calls.specs.HostState.{HostState}
 use Rattle.host_calls.specs.HostStep.{host_meaning}
 use Rattle.host_calls.specs.Hosts.{state_at_start}
-use Rattle.host_calls.specs.Imports.{host_finds}
+use Rattle.host_calls.specs.HostLaws.{host_found, host_typed}
+use Rattle.host_calls.specs.Imports.{host_finds, host_types}
 use Rattle.host_calls.specs.Jobs.{JobForm}
-use Rattle.lowering.specs.Agreement.{IsPlain, IsPrefix, Like, MayEnd, ModuleEnding, Trapped, ending_told, output_of, plain}
+use Rattle.lowering.specs.Agreement.{IsPlain, IsPrefix, Like, MayEnd, ModuleEnding, Trapped, ended_with, ending_told, output_in, output_of, plain}
 use Rattle.awk_run.specs.Compiled.{IsCompiled, Links}
 use Rattle.awk_run.specs.ModuleRun.{Answers, HasRun, IsRunOf, IsUnlinked, RunAnswers, run_end}
 use Rattle.awk_run.specs.ScriptRuns.{DoesSo, IsScriptRun, Says, ScriptAnswers}
@@ -37,11 +41,9 @@ use Rattle.awk_run.proofs.Runs.{more}
 
 -- A run that wanted memory has put out how the script's output begins.
 
--- but for a trap of the host, an end adds no output
-no_output : (t : Turn) (s : HostState) (mem : MemoryForm) (out : List Action) (e : End) (s' : HostState) → ((kind : _) → e ≢ ends.Trapped kind) → OverBy (host_meaning ⊤) t s mem out e s' → out ≡ []
-no_output (Goes c) s mem out e s' q r = absurd r
-no_output (Ends x) s mem out e s' q r = r.2
-no_output (Asks i args c) s mem out e s' q r = absurd (q r.0 r.2)
+ended_output : (kept : Option Fault) (n : ℤ) (out : List Action) → output_of (ended_with kept n out) ≡ out
+ended_output (Some fault) n out = refl
+ended_output None n out = refl
 
 shorter : (a b xs : List Action) → IsPrefix (a ++ b) xs → IsPrefix a xs
 shorter a b xs p = (b ++ p.0, p.1 ∙ append_assoc a b p.0)
@@ -58,23 +60,36 @@ module _ (bytes v : List ℕ) (c : IsCompiled bytes v) (job : JobForm) (p : IsPl
   Begins output = (turns : ℕ) × IsPrefix output (output_of (does turns))
 
   module _ (a : MachineForm) (n : IsNew host_finds c.whole a) where
-    after_steps : (k : ℕ) (out : List Action) (c2 : Conf) (s2 : HostState) → Steps (host_meaning ⊤) a.program k a.conf start out c2 s2 → Begins out
-    after_steps k out c2 s2 r = c.agreement.output_module job before.outside p k (Like (GoesOn out))
-        (record { machine = a; is_new = n; run-end = OutOfSteps; told = machine.OutOfSteps; telling = refl; conf = c2; state = s2; output = out; ran = r; ending = refl })
+    -- the module that runs is typed and linked with the host, so its run ends as a typed module's does
+    abbrev program : ProgramForm
+    program = record { whole = c.whole; numbers = a.program.numbers }
 
-    at_end : (k : ℕ) (out : List Action) (e : End) (c2 : Conf) (s2 : HostState) → ((kind : _) → e ≢ ends.Trapped kind) → Ran (host_meaning ⊤) a.program k a.conf start out (Ended e) c2 s2 → Begins out
-    at_end k out e c2 s2 q r =
-        subst Begins (sym (r.8 ∙ (ap (λ (o : List Action). r.4 ++ o) (no_output (turn a.program r.2) r.3 r.2.memory r.5 e s2 q r.7) ∙ append-nil r.4)))
-        (after_steps r.0 r.4 r.2 r.3 r.6)
+    safe : (k : ℕ) (out : List Action) (e : MachineRunEnd) (c2 : Conf) (s2 : HostState) → Ran (host_meaning ⊤) a.program k a.conf start out e c2 s2 → SafeRun e
+    safe k out e c2 s2 r =
+        ran_safe (host_meaning ⊤) host_types program (host_typed ⊤) (record { typed = c.typed; numbered = numbered host_finds program n.linked }) (linked_is host_finds host_types host_found program n.linked) k (beginning c.whole n.main) start out e c2 s2
+        (begun_ok c.whole c.typed n.main n.main_is)
+        (subst (λ (x : Conf). Ran (host_meaning ⊤) program k x start out e c2 s2) n.conf
+        (subst (λ (x : ProgramForm). Ran (host_meaning ⊤) x k a.conf start out e c2 s2) (ap (λ (w : ModuleForm). record { whole = w; numbers = a.program.numbers }) n.whole) r))
+
+    module _ (k : ℕ) (out : List Action) (c2 : Conf) (s2 : HostState) where
+      -- what is told of a run's end has the run's output
+      begins_as : (e : MachineRunEnd) (t : MachineEnd) (m : ModuleEnding) → told_run e ≡ Some t → ending_told s2.fault t out ≡ Some m → output_in m ≡ out → Ran (host_meaning ⊤) a.program k a.conf start out e c2 s2 → Begins out
+      begins_as e t m told ending same r =
+          subst Begins same
+          (c.agreement.output_module job before.outside p k m (record { machine = a; is_new = n; run-end = e; told = t; telling = told; conf = c2; state = s2; output = out; ran = r; ending = ending }))
+
+      begins_by : (e : MachineRunEnd) → e ≢ NoMemory → SafeRun e → Ran (host_meaning ⊤) a.program k a.conf start out e c2 s2 → Begins out
+      begins_by OutOfSteps q s r = begins_as OutOfSteps machine.OutOfSteps (Like (GoesOn out)) refl refl refl r
+      begins_by NoMemory q s r = absurd (q refl)
+      begins_by (Ended (ends.Returned (Some (I32 w)))) q s r = begins_as (Ended (ends.Returned (Some (I32 w)))) _ _ refl refl (ended_output s2.fault (cast_signed w32 w) out) r
+      begins_by (Ended (ends.Returned (Some (I64 w)))) q s r = absurd s
+      begins_by (Ended (ends.Returned None)) q s r = absurd s
+      begins_by (Ended (ends.Trapped kind)) q s r = begins_as (Ended (ends.Trapped kind)) (machine.Trapped kind) (Trapped kind out) refl refl refl r
+      begins_by (Ended ends.Exhausted) q s r = begins_as (Ended ends.Exhausted) machine.Exhausted (Like (Exhausted out)) refl refl refl r
+      begins_by (Ended ends.Stuck) q s r = absurd s
 
     begins : (k : ℕ) (out : List Action) (e : MachineRunEnd) (c2 : Conf) (s2 : HostState) → e ≢ NoMemory → Ran (host_meaning ⊤) a.program k a.conf start out e c2 s2 → Begins out
-    begins k out OutOfSteps c2 s2 q r = after_steps k out c2 s2 r
-    begins k out NoMemory c2 s2 q r = absurd (q refl)
-    begins k out (Ended (ends.Trapped kind)) c2 s2 q r = c.agreement.output_module job before.outside p k (Trapped kind out)
-        (record { machine = a; is_new = n; run-end = Ended (ends.Trapped kind); told = machine.Trapped kind; telling = refl; conf = c2; state = s2; output = out; ran = r; ending = refl })
-    begins k out (Ended (ends.Returned w)) c2 s2 q r = at_end k out (ends.Returned w) c2 s2 (λ kind e. cc) r
-    begins k out (Ended ends.Exhausted) c2 s2 q r = at_end k out ends.Exhausted c2 s2 (λ kind e. cc) r
-    begins k out (Ended ends.Stuck) c2 s2 q r = at_end k out ends.Stuck c2 s2 (λ kind e. cc) r
+    begins k out e c2 s2 q r = begins_by k out c2 s2 e q (safe k out e c2 s2 r) r
 
     wanted : (k : ℕ) (out : List Action) (e : MachineRunEnd) (c2 : Conf) (s2 : HostState) → told_run e ≡ Some machine.NoMemory → Ran (host_meaning ⊤) a.program k a.conf start out e c2 s2 → Begins out
     wanted k out e c2 s2 t r = by_more (more ⊤ a.program k a.conf start out e c2 s2 t r) where

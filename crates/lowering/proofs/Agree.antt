@@ -14,8 +14,9 @@ use Rattle.wasm_store.specs.declared.trap.TrapKind.{TrapKind}
 use Rattle.wasm_machine.specs.Machines.{Conf as RealConf, ProgramForm, turn}
 use Rattle.wasm_machine.specs.Hosts.{Meaning}
 use Rattle.wasm_machine.specs.Links.{beginning}
-use Rattle.wasm_machine.specs.Runs.{TakenAs, OverBy, Steps, Ran, told_end, told_run}
+use Rattle.wasm_machine.specs.Runs.{TakenAs, OverBy, IsStep, IsWithin, Steps, Ran, told_end, told_run}
 use Rattle.wasm_machine.specs.declared.state.End.{End}
+use Rattle.wasm_machine.specs.declared.state.End.TheVariants as ends
 use Rattle.wasm_machine.specs.declared.state.RunEnd.{RunEnd}
 use Rattle.wasm_machine.specs.declared.state.RunEnd.TheVariants as run
 use Rattle.wasm_machine.specs.declared.machine.MachineEnd.{MachineEnd}
@@ -37,7 +38,8 @@ use Rattle.lowering.proofs.Arrive.{Arrives, go_add}
 use Rattle.lowering.proofs.Forward.{host_of, host, gone, Away}
 use Rattle.lowering.proofs.Emission.{StepsDone, steps_ok, steps_work}
 use Rattle.lowering.proofs.Arithmetic.{inline_ok}
-use Rattle.lowering.proofs.Refine.{As, WordAs, at_as, step_as, not_taken, over_word, told_word, some-is}
+use Rattle.lowering.proofs.Related.{As, WordAs, at_as, some-is}
+use Rattle.lowering.proofs.Refine.{step_as, not_step, not_taken, over_word, told_word}
 use Rattle.lowering.proofs.Linked.{numbers, numbers_are, main_is, linked, imported, zeros, begun, first_turn, behind_texts, memory_begins}
 use Rattle.lowering.proofs.Whole.{Grows, go_grows, over_stays, stuck_stays, prefix_self}
 
@@ -80,6 +82,12 @@ mul-le_self a b = let e : a * (b + 1) ≡ a * b + a = omega arith in omega (arit
 abbrev over_cells : Conf → List Cell
 over_cells (Over vs h) = vs
 over_cells _ = []
+
+at_most : (k n : ℕ) (e : End) → IsWithin k n e → k ≤ n
+at_most k n (ends.Returned w) h = h
+at_most k n (ends.Trapped kind) h = omega (arith, h)
+at_most k n ends.Exhausted h = omega (arith, h)
+at_most k n ends.Stuck h = omega (arith, h)
 
 map_some : (xs ys : List ℕ) → map Some xs ≡ map Some ys → xs ≡ ys
 map_some xs ys e = sym (back xs) ∙ (ap gained e ∙ back ys)
@@ -228,10 +236,10 @@ module _ (p : Program) (sorted : IsSorted p) (job : JobForm) (outside : Outside)
   out_at (suc i) = out_in (go mem i p0)
 
   abbrev Goes : ℕ → ModuleEnding → Type 0
-  Goes steps e = (e ≡ Like (GoesOn (out_at steps))) × ((i : ℕ) (vs : List Cell) (h : Host) → suc i < steps → go mem i p0 ≡ Over vs h → ⊥)
+  Goes steps e = (e ≡ Like (GoesOn (out_at steps))) × ((i : ℕ) (vs : List Cell) (h : Host) → suc i ≤ steps → go mem i p0 ≡ Over vs h → ⊥)
 
   abbrev Ends : (turns steps : ℕ) → ModuleEnding → Type 0
-  Ends turns steps e = (e ≡ Like (mid_run p (plain job) outside turns)) × ((i : ℕ) × (vs : List Cell) × (h : Host) × (suc i < steps) × (go mem i p0 ≡ Over vs h))
+  Ends turns steps e = (e ≡ Like (mid_run p (plain job) outside turns)) × ((i : ℕ) × (vs : List Cell) × (h : Host) × (suc i ≤ steps) × (go mem i p0 ≡ Over vs h))
 
   abbrev Class : (turns steps : ℕ) → ModuleEnding → Type 0
   Class turns steps e = Goes steps e ⊎ Ends turns steps e
@@ -244,14 +252,25 @@ module _ (p : Program) (sorted : IsSorted p) (job : JobForm) (outside : Outside)
       subst (λ z. Steps M m i (begun p) s0 z c s) (sym rest)
       (subst (λ z. Steps M m i (begun p) z e.3 c s) t.1 (subst (λ z. Steps M m i z e.1 e.3 c s) t.0 e.5))
 
-  goes_on : (steps turns : ℕ) (f : Final turns) (c : RealConf) (s : HostState) (o : List Action) → Steps M m steps c0 s0 o c s → Goes steps (Like (GoesOn o))
-  goes_on zero turns f c s o e = (ap (λ z. Like (GoesOn z)) e.2, λ i vs h lt g. absurd (omega (arith, lt)))
-  goes_on (suc i) turns f c s o e =
+  -- where a step comes next it is not over
+  not_over : (i : ℕ) (c : RealConf) (s : HostState) (o : List Action) → As mem (go mem i p0) c s o → IsStep (turn m c) → (vs : List Cell) (h : Host) → go mem i p0 ≡ Over vs h → ⊥
+  not_over i c s o a next vs h g = by vs (subst (λ z. As mem z c s o) g a)
+    where
+      by : (us : List Cell) → As mem (Over us h) c s o → ⊥
+      by [] b = b
+      by (u ∷ us) b = not_step mem m ⊤ tt (imported p) c s o u h b next
+
+  goes_on : (steps turns : ℕ) (f : Final turns) (c : RealConf) (s : HostState) (o : List Action) → Steps M m steps c0 s0 o c s → IsStep (turn m c) → Goes steps (Like (GoesOn o))
+  goes_on zero turns f c s o e next = (ap (λ z. Like (GoesOn z)) e.2, λ i vs h lt g. absurd (omega (arith, lt)))
+  goes_on (suc i) turns f c s o e next =
       let st = after_first i c s o e in
       let a = follow i p0 (begun p) s0 [] begins c s o st in
       let le : i ≤ f.steps = ⊎_elim (λ (lt : f.steps < i). absurd (no_steps f.steps i lt p0 (begun p) s0 [] begins (Bits (I32 0) ∷ []) f.last f.reached c s o st)) (λ (h : i ≤ f.steps). h) (cases_lt f.steps i) in (
         ap (λ z. Like (GoesOn z)) (as_output (go mem i p0) c s o (live i f.steps (Bits (I32 0) ∷ []) f.last le f.reached) a),
-        λ j vs h lt g. no_steps j i (omega (arith, lt)) p0 (begun p) s0 [] begins vs h g c s o st,
+        λ j vs h lt g. ⊎_elim
+            (λ (less : j < i). no_steps j i less p0 (begun p) s0 [] begins vs h g c s o st)
+            (λ (no_less : i ≤ j). let same : j ≡ i = omega (arith, lt, no_less) in not_over i c s o a next vs h (ap (λ n. go mem n p0) (sym same) ∙ g))
+            (cases_lt j i),
       )
 
   -- it was over at the end that it came to
@@ -267,7 +286,7 @@ module _ (p : Program) (sorted : IsSorted p) (job : JobForm) (outside : Outside)
   told_by en t w a b e = sym (some-is (machine.Returned (pos 0)) t (sym (b ∙ ap (told_word mem m ⊤ tt (imported p)) e) ∙ a))
 
   -- a run that ended after k steps
-  over_at : (steps k turns : ℕ) (f : Final turns) (e : ModuleEnding) (en : End) (t : MachineEnd) (c1 : RealConf) (s1 s : HostState) (o1 o2 o : List Action) → k < steps → told_end en ≡ Some t → Steps M m k c0 s0 o1 c1 s1 → OverBy M (turn m c1) s1 c1.memory o2 en s → o ≡ o1 ++ o2 →
+  over_at : (steps k turns : ℕ) (f : Final turns) (e : ModuleEnding) (en : End) (t : MachineEnd) (c1 : RealConf) (s1 s : HostState) (o1 o2 o : List Action) → IsWithin k steps en → told_end en ≡ Some t → Steps M m k c0 s0 o1 c1 s1 → OverBy M (turn m c1) s1 c1.memory o2 en s → o ≡ o1 ++ o2 →
       ending_told s.fault t o ≡ Some e → Ends turns steps e
   over_at steps zero turns f e en t c1 s1 s o1 o2 o lt telling st ov whole ending-is =
       absurd (subst (λ z. OverBy M z s1 c1.memory o2 en s) (ap (turn m) st.0 ∙ first_turn p) ov)
@@ -307,14 +326,14 @@ module _ (p : Program) (sorted : IsSorted p) (job : JobForm) (outside : Outside)
           let out-is : o ≡ f.last.shared.output = whole ∙ (ap (λ x. o1 ++ x) w.2 ∙ (append-nil o1 ∙ (as_output (Over (v ∷ vs) h) c1 s1 o1 tt b ∙ ap (λ (x : Host). x.shared.output) z.1))) in
           let told-is : ending_told f.last.fault (machine.Returned (pos 0)) f.last.shared.output ≡ Some e =
           subst (λ x. ending_told f.last.fault (machine.Returned (pos 0)) x ≡ Some e) out-is (subst (λ x. ending_told x (machine.Returned (pos 0)) o ≡ Some e) fault-is (subst (λ x. ending_told s.fault x o ≡ Some e) t-is ending-is)) in
-          (sym (some-is (Like (ended_with f.last.fault (pos 0) f.last.shared.output)) e told-is) ∙ ap Like (sym f.says), (i, v ∷ vs, h, lt, g))
+          (sym (some-is (Like (ended_with f.last.fault (pos 0) f.last.shared.output)) e told-is) ∙ ap Like (sym f.says), (i, v ∷ vs, h, at_most (suc i) steps en lt, g))
       by Stuck g b = absurd (over_is_not_stuck (Bits (I32 0) ∷ []) f.last (go mem f.steps p0) f.reached (later i f.steps le ∙ (ap (go mem (f.steps - i)) g ∙ stuck_stays mem (f.steps - i))))
 
   class_by : (steps turns : ℕ) (f : Final turns) (e : ModuleEnding) (r : RunEnd) (t : MachineEnd) (c : RealConf) (s : HostState) (o : List Action) → told_run r ≡ Some t → Ran M m steps c0 s0 o r c s → ending_told s.fault t o ≡ Some e → Class turns steps e
   class_by steps turns f e run.OutOfSteps t c s o telling ran ending-is =
       let t-is : t ≡ machine.OutOfSteps = sym (some-is machine.OutOfSteps t telling) in
       let e-is : Like (GoesOn o) ≡ e = some-is (Like (GoesOn o)) e (subst (λ x. ending_told s.fault x o ≡ Some e) t-is ending-is) in
-      inl (subst (Goes steps) e-is (goes_on steps turns f c s o ran))
+      inl (subst (Goes steps) e-is (goes_on steps turns f c s o ran.0 ran.1))
   class_by steps turns f e (run.Ended en) t c s o telling ran ending-is =
       inr (over_at steps ran.0 turns f e en t ran.2 ran.3 s ran.4 ran.5 o ran.1 telling ran.6 ran.7 ran.8 ending-is)
   class_by steps turns f e run.NoMemory t c s o telling ran ending-is =
@@ -333,7 +352,7 @@ module _ (p : Program) (sorted : IsSorted p) (job : JobForm) (outside : Outside)
       x.ending
 
   -- what is put out while it goes on is how the output ends up beginning
-  begins_so : (turns steps : ℕ) → ((i : ℕ) (vs : List Cell) (h : Host) → suc i < steps → go mem i p0 ≡ Over vs h → ⊥) → IsPrefix (out_at steps) (output_of (mid_run p (plain job) outside turns))
+  begins_so : (turns steps : ℕ) → ((i : ℕ) (vs : List Cell) (h : Host) → suc i ≤ steps → go mem i p0 ≡ Over vs h → ⊥) → IsPrefix (out_at steps) (output_of (mid_run p (plain job) outside turns))
   begins_so turns zero none = (output_of (mid_run p (plain job) outside turns), refl)
   begins_so turns (suc i) none =
       let f = final turns in
@@ -358,7 +377,7 @@ module _ (p : Program) (sorted : IsSorted p) (job : JobForm) (outside : Outside)
   one steps e f (inr a) (inl b) = absurd (b.1 a.1.0 a.1.1 a.1.2 a.1.3 a.1.4)
   one steps e f (inr a) (inr b) = a.0 ∙ sym b.0
 
-  enough : (turns steps : ℕ) (e : ModuleEnding) → (final turns).steps + 2 ≤ steps → Class turns steps e → e ≡ Like (mid_run p (plain job) outside turns)
+  enough : (turns steps : ℕ) (e : ModuleEnding) → (final turns).steps + 1 ≤ steps → Class turns steps e → e ≡ Like (mid_run p (plain job) outside turns)
   enough turns steps e le (inl a) = let f = final turns in absurd (a.1 f.steps (Bits (I32 0) ∷ []) f.last (omega (arith, le)) f.reached)
   enough turns steps e le (inr a) = a.0
 
@@ -385,12 +404,12 @@ agree p sorted = record {
   one_run = λ job outside is_plain steps e f x y. one p sorted job outside is_plain steps e f (classified p sorted job outside is_plain 0 steps e x) (classified p sorted job outside is_plain 0 steps f y);
   forward = λ job outside is_plain turns e over says.
       let f = final p sorted job outside is_plain turns in
-      (f.steps + 2, few turns f.steps f.bounded, λ steps g le x. enough p sorted job outside is_plain turns steps g le (classified p sorted job outside is_plain turns steps g x) ∙ ap Like says);
+      (f.steps + 1, few turns f.steps f.bounded, λ steps g le x. enough p sorted job outside is_plain turns steps g le (classified p sorted job outside is_plain turns steps g x) ∙ ap Like says);
   backward = λ job outside is_plain steps e over x. (0, back p sorted job outside is_plain steps e over (classified p sorted job outside is_plain 0 steps (Like e) x));
   never_trapped = λ job outside is_plain steps kind output x. trapped p sorted job outside is_plain steps kind output (classified p sorted job outside is_plain 0 steps (Trapped kind output) x);
   output_module = λ job outside is_plain steps e x. (0, out p sorted job outside is_plain steps e (classified p sorted job outside is_plain 0 steps e x));
   output_script = λ job outside is_plain turns. (
-    ((final p sorted job outside is_plain turns).steps + 2),
+    ((final p sorted job outside is_plain turns).steps + 1),
     few turns (final p sorted job outside is_plain turns).steps (final p sorted job outside is_plain turns).bounded,
     λ steps e le x. subst (IsPrefix (output_of (mid_run p (plain job) outside turns))) (ap output_in (sym (enough p sorted job outside is_plain turns steps e le (classified p sorted job outside is_plain turns steps e x)))) (prefix_self (output_of (mid_run p (plain job) outside turns))),
   );
@@ -399,7 +418,7 @@ agree p sorted = record {
     work : ℕ
     work = steps_work p.texts (behind_texts p) (inline_ok (memory_of p.texts ++ behind_texts p)) p.main
 
-    few : (turns n : ℕ) → n ≤ work + 3 → n + 2 ≤ (work + 5) * (turns + 1)
+    few : (turns n : ℕ) → n ≤ work + 3 → n + 1 ≤ (work + 5) * (turns + 1)
     few turns n le = let c : work + 5 ≤ (work + 5) * (turns + 1) = mul-le_self (work + 5) turns in omega (arith, le, c)
 
 pub bound_is : (p : Program) (sorted : IsSorted p) → (agree p sorted).bound ≡ steps_bound p

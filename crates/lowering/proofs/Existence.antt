@@ -20,10 +20,10 @@ use Rattle.wasm_machine.specs.declared.machine.MachineEnd.TheVariants as machine
 use Rattle.wasm_machine.specs.Hosts.{Meaning}
 use Rattle.wasm_machine.specs.Links.{SegmentsFit, beginning, main_of, numbers_for}
 use Rattle.wasm_machine.specs.Machines.{Conf, ProgramForm, Turn, Goes, Ends, Asks, turn, answered}
-use Rattle.wasm_machine.specs.Runs.{TakenAs, OverBy, Steps, Ran, told_end, told_run}
+use Rattle.wasm_machine.specs.Runs.{TakenAs, OverBy, IsStep, Steps, Ran, told_end, told_run}
 use Rattle.wasm_machine.specs.Typed.{ConfOk, IsSafeTurn, Linked, ProgramOk, SafeEnd}
 use Rattle.wasm_machine.proofs.Beginning.{begun_ok, linked_is, numbered}
-use Rattle.wasm_machine.proofs.Chains.{ran_on}
+use Rattle.wasm_machine.proofs.Chains.{ran_on, within_less}
 use Rattle.wasm_machine.proofs.Whole.{turn_safe, steps_ok}
 use Rattle.host_calls.specs.Hosts.{state_at_start}
 use Rattle.host_calls.specs.HostLaws.{host_found, host_typed}
@@ -60,8 +60,9 @@ safe_told ends.Exhausted safe = (_, refl, λ e. cc)
 safe_told ends.Stuck safe = absurd safe
 
 module _ (m : ProgramForm) (ok : ProgramOk m) (linked : Linked host_types m) where
-  no_steps : (c : Conf) (s : HostState) → HasRun m zero c s
-  no_steps c s = record {
+  -- no step is given, and one comes next
+  waits : (c : Conf) (s : HostState) → IsStep (turn m c) → HasRun m zero c s
+  waits c s next = record {
     run-end = run.OutOfSteps;
     told = machine.OutOfSteps;
     telling = refl;
@@ -69,8 +70,28 @@ module _ (m : ProgramForm) (ok : ProgramOk m) (linked : Linked host_types m) whe
     conf = c;
     state = s;
     output = [];
-    ran = (refl, refl, refl);
+    ran = ((refl, refl, refl), next);
   }
+
+  no_steps : (c : Conf) (s : HostState) (t : Turn) → turn m c ≡ t → IsSafeTurn m t → HasRun m zero c s
+  no_steps c s (Goes d) is safe = waits c s (subst IsStep (sym is) tt)
+  no_steps c s (Asks i args d) is safe = waits c s (subst IsStep (sym is) tt)
+  no_steps c s (Ends (ends.Trapped kind)) is safe = waits c s (subst IsStep (sym is) tt)
+  no_steps c s (Ends ends.Exhausted) is safe = waits c s (subst IsStep (sym is) tt)
+  no_steps c s (Ends ends.Stuck) is safe = absurd safe
+  no_steps c s (Ends (ends.Returned w)) is safe =
+      let told = safe_told (ends.Returned w) safe in
+      let last = subst (λ (t : Turn). OverBy M t s c.memory [] (ends.Returned w) s) (sym is) (refl, refl, refl) in
+      record {
+        run-end = run.Ended (ends.Returned w);
+        told = told.0;
+        telling = told.1;
+        enough = told.2;
+        conf = c;
+        state = s;
+        output = [];
+        ran = (zero, omega arith, c, s, [], [], (refl, refl, refl), last, refl);
+      }
 
   taken_with : (i : ℕ) (args : List Word) (c : Conf) (s : HostState) (mem : MemoryForm) (w : Option Word) (s' : HostState) (out : List Action) →
       M s i args mem (answer.Done w) s' mem out → TakenAs M (Asks i args c) s mem out (answered (record c { memory = mem }) w) s'
@@ -92,7 +113,7 @@ module _ (m : ProgramForm) (ok : ProgramOk m) (linked : Linked host_types m) whe
           conf = c;
           state = s';
           output = out;
-          ran = (zero, omega arith, c, s, [], out, (refl, refl, refl), last, refl);
+          ran = (zero, within_less zero (suc n) e (omega arith), c, s, [], out, (refl, refl, refl), last, refl);
         }
 
     goes_on : (t : Turn) → turn m c ≡ t → (out : List Action) (d : Conf) (s' : HostState) (j : ℕ) → j + n ≤ 2 ^ 31 → FreeFrom j s'.names →
@@ -126,7 +147,7 @@ module _ (m : ProgramForm) (ok : ProgramOk m) (linked : Linked host_types m) whe
     by_turn (Asks i args d) is safe = after_reply i args d is (replies ⊤ k s args c.memory.bytes (import_at i) (omega (arith, small)) free)
 
   runs : (n k : ℕ) → k + n ≤ 2 ^ 31 → (c : Conf) → ConfOk m.whole c → (s : HostState) → FreeFrom k s.names → HasRun m n c s
-  runs zero k small c typed s free = no_steps c s
+  runs zero k small c typed s free = no_steps c s (turn m c) refl (turn_safe m ok c typed)
   runs (suc n) k small c typed s free = by_turn n k small c typed s free (runs n) (turn m c) refl (turn_safe m ok c typed)
 
 -- it ends as a module may

@@ -4,6 +4,7 @@ pub mod Arrive
 pub mod Forward
 pub mod Emission
 pub mod Arithmetic
+pub mod Related
 pub mod Refine
 pub mod Linked
 pub mod Typed

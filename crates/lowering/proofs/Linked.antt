@@ -14,7 +14,7 @@ use Rattle.host_calls.specs.Imports.{host_finds, import_at, import_type}
 use Rattle.print_code.specs.Mid.{Program}
 use Rattle.lowering.specs.Emitted.{main_code, memory_of, temporaries}
 use Rattle.lowering.specs.Modules.{module_of, locals_for}
-use Rattle.lowering.proofs.Refine.{entry}
+use Rattle.lowering.proofs.Related.{entry}
 
 -- the host's numbers of the imports
 abbrev pub numbers : List ℕ

@@ -130,7 +130,8 @@ pub(crate) fn keep(
     exit: u32,
 ) -> Result<(), AllocError>
     requires { temporary ≤ most_temporaries }
-    ensures { OnOk result (Emits out.old.items out.new.items (keep may_fault answer temporary exit)) }
+    ensures { OnOk result
+        (Emits out.old.items out.new.items (keep may_fault answer temporary exit)) }
 {
     let local = local_for(answer, temporary);
     if !may_fault {

@@ -72,7 +72,9 @@ fn operation(
     requires count { length (arguments operation) ≡ length operands.now }
     requires sorted { AllSorted (length (view_mid mid.now).texts) (views operands.now) }
     requires placed { IsLayout layout.now (view_mid mid.now) }
-    ensures { OnOk result (Emits out.old.items out.new.items (emitted (view_mid mid.now).texts (Do operation (views operands.now)) temporary 0)) }
+    ensures { OnOk result
+        (Emits out.old.items out.new.items
+        (emitted (view_mid mid.now).texts (Do operation (views operands.now)) temporary 0)) }
 {
     let arguments = arguments(operation);
     all_emitted(operands, alloc, out, mid, layout, temporary)?;
@@ -97,7 +99,9 @@ fn listed(
     requires sorted { AllSorted (length (view_mid mid.now).texts) (views values.now) }
     requires few { length values.now ≤ most_temporaries }
     requires placed { IsLayout layout.now (view_mid mid.now) }
-    ensures { OnOk result (Emits out.old.items out.new.items (emitted (view_mid mid.now).texts (Over listed (views values.now)) temporary 0)) }
+    ensures { OnOk result
+        (Emits out.old.items out.new.items
+        (emitted (view_mid mid.now).texts (Over listed (views values.now)) temporary 0)) }
 {
     let count = values.len() as u32;
     let import = Import::Over(listed);
@@ -121,7 +125,9 @@ fn emitted(
     requires room { temporary + room_for (view e.now) ≤ most_temporaries }
     requires sorted { Sorted (length (view_mid mid.now).texts) (view e.now) }
     requires placed { IsLayout layout.now (view_mid mid.now) }
-    ensures { OnOk result (Emits out.old.items out.new.items (emitted (view_mid mid.now).texts (view e.now) temporary 0)) }
+    ensures { OnOk result
+        (Emits out.old.items out.new.items
+        (emitted (view_mid mid.now).texts (view e.now) temporary 0)) }
 {
     match e {
         Expr::Do(done, operands) => {
@@ -151,7 +157,9 @@ fn all_emitted(
     requires room { first + rooms_for (views es.now) ≤ most_temporaries }
     requires sorted { AllSorted (length (view_mid mid.now).texts) (views es.now) }
     requires placed { IsLayout layout.now (view_mid mid.now) }
-    ensures { OnOk result (Emits out.old.items out.new.items (all_emitted (view_mid mid.now).texts (views es.now) first 0)) }
+    ensures { OnOk result
+        (Emits out.old.items out.new.items
+        (all_emitted (view_mid mid.now).texts (views es.now) first 0)) }
 {
     let mut temporary = first;
     for e in es {
@@ -172,7 +180,9 @@ fn statements(
     layout: &Layout,
 ) -> Result<(), AllocError>
     requires { IsLayout layout.now (view_mid mid.now) }
-    ensures { OnOk result (Emits out.old.items out.new.items (steps_emitted (view_mid mid.now).texts (view_mid mid.now).main 0)) }
+    ensures { OnOk result
+        (Emits out.old.items out.new.items
+        (steps_emitted (view_mid mid.now).texts (view_mid mid.now).main 0)) }
 {
     for statement in mid.main() {
         let Stmt::Eval(e) = statement;

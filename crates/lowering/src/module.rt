@@ -39,7 +39,8 @@ fn types(alloc: Global) -> Result<Vec<FuncType>, AllocError>
 }
 
 fn import_of(alloc: Global, import: host_calls::Import, ty: u32) -> Result<Import, AllocError>
-    ensures { IfOk result (λ i. view_import i ≡ record { from = module_name; name = import_name import; ty = ty }) }
+    ensures { IfOk result
+        (λ i. view_import i ≡ record { from = module_name; name = import_name import; ty = ty }) }
 {
     Ok(Import {
         module: String::from_str(alloc, "awk1")?,
@@ -87,7 +88,12 @@ fn memory(alloc: Global, texts: &[Vec<u8>]) -> Result<Vec<u8>, AllocError>
 
 fn main_function(alloc: Global, mid: &Mid, layout: &Layout) -> Result<Func, AllocError>
     requires { IsLayout layout.now (view_mid mid.now) }
-    ensures { IfOk result (λ f. view_func f ≡ record { ty = length imports; locals = locals_for (temporaries (view_mid mid.now).main); body = main_code (view_mid mid.now) }) }
+    ensures { IfOk result
+        (λ f. view_func f ≡ record {
+          ty = length imports;
+          locals = locals_for (temporaries (view_mid mid.now).main);
+          body = main_code (view_mid mid.now);
+        }) }
 {
     Ok(Func {
         ty: MAIN,
@@ -97,7 +103,11 @@ fn main_function(alloc: Global, mid: &Mid, layout: &Layout) -> Result<Func, Allo
 }
 
 fn main_export(alloc: Global) -> Result<Export, AllocError>
-    ensures { IfOk result (λ e. view_export e ≡ record { name = codes "main"; desc = ExportDesc.Func (length imports) }) }
+    ensures { IfOk result
+        (λ e. view_export e ≡ record {
+          name = codes "main";
+          desc = ExportDesc.Func (length imports);
+        }) }
 {
     Ok(Export {
         name: String::from_str(alloc, "main")?,
@@ -115,7 +125,12 @@ fn start(alloc: Global) -> Result<Vec<Instr>, AllocError>
 }
 
 fn text_segment(alloc: Global, texts: &[Vec<u8>]) -> Result<Data, AllocError>
-    ensures { IfOk result (λ d. view_data d ≡ record { memory = 0; offset = does (Simple.I32Const 0) Done; init = memory_of (view_texts texts.now) }) }
+    ensures { IfOk result
+        (λ d. view_data d ≡ record {
+          memory = 0;
+          offset = does (Simple.I32Const 0) Done;
+          init = memory_of (view_texts texts.now);
+        }) }
 {
     Ok(Data {
         memory: 0,

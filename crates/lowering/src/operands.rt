@@ -44,7 +44,9 @@ fn convert_one(
     exit: u32,
 ) -> Result<(), AllocError>
     requires { temporary ≤ most_temporaries }
-    ensures { OnOk result (Emits out.old.items out.new.items (convert_one (shape_of (view e.now)) argument temporary exit)) }
+    ensures { OnOk result
+        (Emits out.old.items out.new.items
+        (convert_one (shape_of (view e.now)) argument temporary exit)) }
 {
     match argument {
         Argument::Of(Sort::Number) => {}
@@ -69,7 +71,8 @@ pub(crate) fn convert_all(
 ) -> Result<(), AllocError>
     requires room { first + rooms_for (views es.now) ≤ most_temporaries }
     requires count { length arguments.now ≡ length es.now }
-    ensures { OnOk result (Emits out.old.items out.new.items (convert_all arguments.now (views es.now) first exit)) }
+    ensures { OnOk result
+        (Emits out.old.items out.new.items (convert_all arguments.now (views es.now) first exit)) }
 {
     let mut temporary = first;
     for i in 0..es.len() {
@@ -88,7 +91,9 @@ fn push_text(
 ) -> Result<(), AllocError>
     requires there { text < length (view_mid mid.now).texts }
     requires placed { IsLayout layout.now (view_mid mid.now) }
-    ensures { OnOk result (Emits out.old.items out.new.items (push_one (view_mid mid.now).texts Argument.Place (Text text) 0)) }
+    ensures { OnOk result
+        (Emits out.old.items out.new.items
+        (push_one (view_mid mid.now).texts Argument.Place (Text text) 0)) }
 {
     let place = layout.place(text);
     let length = mid.texts()[text].len();
@@ -110,7 +115,9 @@ fn push_one(
     requires room { temporary ≤ most_temporaries }
     requires sorted { Sorted (length (view_mid mid.now).texts) (view e.now) }
     requires placed { IsLayout layout.now (view_mid mid.now) }
-    ensures { OnOk result (Emits out.old.items out.new.items (push_one (view_mid mid.now).texts argument (view e.now) temporary)) }
+    ensures { OnOk result
+        (Emits out.old.items out.new.items
+        (push_one (view_mid mid.now).texts argument (view e.now) temporary)) }
 {
     match e {
         Expr::Do(_, _) => instrs(out, &[Simple::LocalGet(local_of(argument, temporary))]),
@@ -134,7 +141,9 @@ pub(crate) fn push_all(
     requires count { length arguments.now ≡ length es.now }
     requires sorted { AllSorted (length (view_mid mid.now).texts) (views es.now) }
     requires placed { IsLayout layout.now (view_mid mid.now) }
-    ensures { OnOk result (Emits out.old.items out.new.items (push_all (view_mid mid.now).texts arguments.now (views es.now) first)) }
+    ensures { OnOk result
+        (Emits out.old.items out.new.items
+        (push_all (view_mid mid.now).texts arguments.now (views es.now) first)) }
 {
     let mut temporary = first;
     for i in 0..es.len() {

@@ -22,7 +22,7 @@ use Rattle.wasm_machine.specs.Frames.{LabelForm}
 use Rattle.wasm_machine.specs.Hosts.{Finds}
 use Rattle.wasm_machine.specs.Links.{NumberRefused, first_some, first_none, main_type, main_function, main_at, main_of, is_main_name, number_if, number_for, numbers_for, value_of, least, limits_or_none, Refuses, filled, poured, entry_code, beginning}
 use Rattle.wasm_machine.specs.Machines.{CallerForm, ProgramForm, agree}
-use Rattle.wasm_machine.specs.Typed.{bottom, ConfOk, Linked}
+use Rattle.wasm_machine.specs.Typed.{bottom, ConfOk, IsCalls, Linked}
 use Rattle.wasm_machine.proofs.Types.{agreed}
 
 pub least_is : (l : Option Limits) → (limits_or_none l).min ≡ least l
@@ -83,6 +83,10 @@ entry_typed : (m : ModuleForm) (s : Option ℕ) (n : ℕ) → callee_in m n ≡ 
 entry_typed m None n e h = more [] (one (Some ty.I32)) [] (calls m n main_type e refl) refl done
 entry_typed m (Some k) n e h = more [] [] [] (calls m k (record { params = []; result = None }) h refl) refl (more [] (one (Some ty.I32)) [] (calls m n main_type e refl) refl done)
 
+entry_calls : (s : Option ℕ) (n : ℕ) → IsCalls (entry_code s n)
+entry_calls None n = tt
+entry_calls (Some k) n = tt
+
 pub begun_ok : (m : ModuleForm) → ModuleOk m → (n : ℕ) → main_of m ≡ Some n → ConfOk m (beginning m n)
 begun_ok m p n e = record {
   ty = main_type;
@@ -90,6 +94,7 @@ begun_ok m p n e = record {
   frame_ok = record { labels = Some ty.I32 ∷ []; own = []; end = one (Some ty.I32); labels_ok = bottom {C = context_in m main_type []} refl; code_ok = entry_typed m m.start n (main_callee m n e) p.level.start_ok; values_ok = refl; locals_ok = refl };
   result_is = refl;
   callers_ok = refl;
+  first_ok = (refl, refl, entry_calls m.start n);
   globals_ok = globals_typed m.globals p.level.globals_ok;
 }
 

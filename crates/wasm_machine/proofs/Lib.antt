@@ -3,6 +3,7 @@ pub mod Branches
 pub mod Calls
 pub mod Chains
 pub mod Cuts
+pub mod First
 pub mod Linking
 pub mod Nesting
 pub mod Operators

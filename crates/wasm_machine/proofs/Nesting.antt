@@ -10,7 +10,7 @@ use Rattle.wasm_machine.specs.Hosts.{Meaning}
 use Rattle.wasm_machine.specs.Stacks.{taken}
 use Rattle.wasm_machine.specs.Frames.{LabelForm, FrameForm, constant_of, settled_values, settled_code}
 use Rattle.wasm_machine.specs.Machines.{CallerForm, ProgramForm}
-use Rattle.wasm_machine.specs.Reductions.{Admin, Const, LabelOf, FrameOf, Trapped, Sequence, ε, ◌⨾◌, ◌⧺◌, op, arity, in_sequence, sequence, on, Evaluation, Hole, Among, Inside, filled, Blocks, Here, Within, blocks, steps_of, Rewrites, StoreForm, Reduces, Chain, none, more, continuation, in_labels, in_place, in_frame, in_callers}
+use Rattle.wasm_machine.specs.Reductions.{Admin, Const, LabelOf, FrameOf, Trapped, Sequence, ε, ◌⨾◌, ◌⧺◌, op, arity, in_sequence, sequence, on, Evaluation, Hole, Among, Inside, filled, Blocks, Here, Within, blocks, steps_of, Rewrites, StoreForm, Reduces, Chain, none, more, continuation, in_labels, in_place, in_body, in_frames}
 use Rattle.wasm_machine.specs.Reductions as core
 
 -- Values before a sequence.
@@ -93,17 +93,27 @@ module _ {H O : Type 0} (M : Meaning H O) (m : ProgramForm) where
   here ls vs is c = within_labels ls (in_context (Among vs Hole is) c)
 
   -- in the body of a function's frame
-  pub within_body : {n : ℕ} {S S' : StoreForm H O} {F F' : List Word} {es es' : Sequence} (r : Option ValType) (G : List Word) → Chain M m n S F es S' F' es' →
-      Chain M m n S G (FrameOf (arity r) F (LabelOf (arity r) ε es ⨾ ε) ⨾ ε) S' G (FrameOf (arity r) F' (LabelOf (arity r) ε es' ⨾ ε) ⨾ ε)
+  pub within_body : {n : ℕ} {S S' : StoreForm H O} {F F' : List Word} {es es' : Sequence} (r : Option ValType) (G : List Word) → Chain M m n S F es S' F' es' → Chain M m n S G (in_body r F es) S' G (in_body r F' es')
   within_body r G c = within_frame G (in_context (Inside (arity r) ε Hole) c)
 
-  -- in a frame's place
-  pub in_hole : {n : ℕ} {S S' : StoreForm H O} {es es' : Sequence} (r : Option ValType) (f : FrameForm) (G : List Word) → Chain M m n S f.locals es S' f.locals es' → Chain M m n S G (in_frame r f es) S' G (in_frame r f es')
-  in_hole r f G c = within_body r G (here f.labels f.values (sequence f.code) c)
+  -- in the place where a frame waits
+  waiting : {n : ℕ} {S S' : StoreForm H O} {es es' : Sequence} (f : FrameForm) → ((G : List Word) → Chain M m n S G es S' G es') → (G : List Word) → Chain M m n S G (in_place f es) S' G (in_place f es')
+  waiting f c G = here f.labels f.values (sequence f.code) (c G)
 
-  pub within_callers : {n : ℕ} {S S' : StoreForm H O} {es es' : Sequence} (ws : List CallerForm) → ((G : List Word) → Chain M m n S G es S' G es') → (G : List Word) → Chain M m n S G (in_callers ws es) S' G (in_callers ws es')
-  within_callers [] c G = c G
-  within_callers (w ∷ ws) c G = within_callers ws (λ F. in_hole w.result w.frame F (c w.frame.locals)) G
+  -- in the innermost frame, whatever its locals are
+  pub within_frames : {n : ℕ} {S S' : StoreForm H O} {es es' : Sequence} (r : Option ValType) (F : List Word) (ws : List CallerForm) → ((G : List Word) → Chain M m n S G es S' G es') → Chain M m n S [] (in_frames r F ws es) S' [] (in_frames r F ws es')
+  within_frames r F [] c = c []
+  within_frames r F (w ∷ ws) c = within_frames w.result w.frame.locals ws (waiting w.frame (λ G. within_body r G (c F)))
+
+  -- in a function's frame
+  pub within_function : {n : ℕ} {S S' : StoreForm H O} {F F' : List Word} {es es' : Sequence} (r : Option ValType) (w : CallerForm) (ws : List CallerForm) → Chain M m n S F es S' F' es' →
+      Chain M m n S [] (in_frames r F (w ∷ ws) es) S' [] (in_frames r F' (w ∷ ws) es')
+  within_function r w ws c = within_frames w.result w.frame.locals ws (waiting w.frame (λ G. within_body r G c))
+
+  -- a function's frame is left
+  pub out_of_function : {n : ℕ} {S S' : StoreForm H O} {F : List Word} {es es' : Sequence} (r : Option ValType) (w : CallerForm) (ws : List CallerForm) → ((G : List Word) → Chain M m n S G (in_body r F es) S' G es') →
+      Chain M m n S [] (in_frames r F (w ∷ ws) es) S' [] (in_frames w.result w.frame.locals ws (in_place w.frame es'))
+  out_of_function r w ws c = within_frames w.result w.frame.locals ws (waiting w.frame c)
 
   -- Traps climb out.
 
@@ -125,19 +135,16 @@ module _ {H O : Type 0} (M : Meaning H O) (m : ProgramForm) where
   pub trap_here : {S : StoreForm H O} {F : List Word} (ls : List LabelForm) (vs : List Word) (is : Sequence) (k : TrapKind) → Chain M m 0 S F (in_labels ls (on vs ((Trapped k ⨾ ε) ⧺ is))) S F (Trapped k ⨾ ε)
   trap_here ls vs is k = join 0 0 0 (omega arith) (within_labels ls (trap_among vs is k)) (trap_in_labels ls k)
 
-  trap_in_body : {S : StoreForm H O} {F : List Word} (r : Option ValType) (G : List Word) (k : TrapKind) → Chain M m 0 S G (FrameOf (arity r) F (LabelOf (arity r) ε (Trapped k ⨾ ε) ⨾ ε) ⨾ ε) S G (Trapped k ⨾ ε)
+  trap_in_body : {S : StoreForm H O} {F : List Word} (r : Option ValType) (G : List Word) (k : TrapKind) → Chain M m 0 S G (in_body r F (Trapped k ⨾ ε)) S G (Trapped k ⨾ ε)
   trap_in_body r G k = join 0 0 0 (omega arith) (within_frame G (trap_in_label (arity r) ε k)) (once (core.rule core.trap_leaves))
 
-  trap_in_callers : {S : StoreForm H O} (ws : List CallerForm) (G : List Word) (k : TrapKind) → Chain M m 0 S G (in_callers ws (Trapped k ⨾ ε)) S G (Trapped k ⨾ ε)
-  trap_in_callers [] G k = none
-  trap_in_callers (w ∷ ws) G k =
+  -- a trap in the innermost frame
+  pub trap_out : {S : StoreForm H O} (r : Option ValType) (F : List Word) (ws : List CallerForm) (k : TrapKind) → Chain M m 0 S [] (in_frames r F ws (Trapped k ⨾ ε)) S [] (Trapped k ⨾ ε)
+  trap_out r F [] k = none
+  trap_out r F (w ∷ ws) k =
       join 0 0 0 (omega arith)
-      (within_callers ws (λ F. join 0 0 0 (omega arith) (within_body w.result F (trap_here w.frame.labels w.frame.values (sequence w.frame.code) k)) (trap_in_body w.result F k)) G)
-      (trap_in_callers ws G k)
-
-  -- a trap in the body of the innermost frame
-  pub trap_out : {S : StoreForm H O} (ws : List CallerForm) (F : List Word) (r : Option ValType) (k : TrapKind) → Chain M m 0 S [] (in_callers ws (FrameOf (arity r) F (LabelOf (arity r) ε (Trapped k ⨾ ε) ⨾ ε) ⨾ ε)) S [] (Trapped k ⨾ ε)
-  trap_out ws F r k = join 0 0 0 (omega arith) (within_callers ws (λ G. trap_in_body r G k) []) (trap_in_callers ws [] k)
+      (out_of_function r w ws (λ G. trap_in_body r G k))
+      (join 0 0 0 (omega arith) (within_frames w.result w.frame.locals ws (λ G. trap_here w.frame.labels w.frame.values (sequence w.frame.code) k)) (trap_out w.result w.frame.locals ws k))
 
   -- a branch to a label behind so many others
   breaks : {S : StoreForm H O} {F : List Word} (n : ℕ) (ls : List LabelForm) (k l : ℕ) (B : Blocks k) → l ≡ k + n → (us : List Word) (t : LabelForm) (outer : List LabelForm) → drop n ls ≡ t ∷ outer → length us ≡ arity t.gives →

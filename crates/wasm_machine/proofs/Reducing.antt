@@ -21,8 +21,9 @@ use Rattle.wasm_machine.specs.Frames.{LabelForm, FrameForm, Local, local_step, s
 use Rattle.wasm_machine.specs.Frames as form
 use Rattle.wasm_machine.specs.Machines.{ProgramForm}
 use Rattle.wasm_machine.specs.Typed.{BranchOk, past, again, LabelsOk, bottom, label, FrameOk}
-use Rattle.wasm_machine.specs.Reductions.{Admin, Const, Does, Looped, Invoke, LabelOf, FrameOf, Trapped, Sequence, ε, ◌⨾◌, ◌⧺◌, op, arity, in_sequence, sequence, on, Blocks, Here, Within, blocks, steps_of, Rewrites, StoreForm, Reduces, Chain, none, continuation, in_labels, in_place, in_frame}
+use Rattle.wasm_machine.specs.Reductions.{Admin, Const, Does, Looped, Invoke, LabelOf, FrameOf, Trapped, Sequence, ε, ◌⨾◌, ◌⧺◌, op, arity, in_sequence, sequence, on, Blocks, Here, Within, blocks, steps_of, Rewrites, StoreForm, Reduces, Chain, none, continuation, in_labels, in_place, in_body}
 use Rattle.wasm_machine.specs.Reductions as core
+use Rattle.wasm_machine.proofs.First.{bottom_is}
 use Rattle.wasm_machine.proofs.Safe.{settle_ok, eq_true, eq_false}
 use Rattle.wasm_machine.proofs.Nesting.{on_join, on_behind, on_parts, taken_parts, settled_same, head_acts, deeper, once, join, here, within_body, trap_here, breaks_to}
 
@@ -73,7 +74,7 @@ module _ {H O : Type 0} (M : Meaning H O) (m : ProgramForm) where
   IsLocal r F es (form.Calls n f) = (f.locals ≡ F) × (es ≡ in_place f (op (Call n) ⨾ ε))
   IsLocal r F es (form.CallsThrough n at f) = (f.locals ≡ F) × (es ≡ in_place f (Const (I32 at) ⨾ op (CallIndirect n) ⨾ ε))
   IsLocal r F es (form.Works a f) = (f.locals ≡ F) × (p : Simple) × Accesses a p × (es ≡ in_place f (op p ⨾ ε))
-  IsLocal r F es (form.Leaves f) = (us : List Word) → taken r f.values ≡ Some us → (S : StoreForm H O) (G : List Word) → Chain M m 1 S G (FrameOf (arity r) F (LabelOf (arity r) ε es ⨾ ε) ⨾ ε) S G (on us ε)
+  IsLocal r F es (form.Leaves f) = (us : List Word) → taken r f.values ≡ Some us → (S : StoreForm H O) (G : List Word) → Chain M m 1 S G (in_body r F es) S G (on us ε)
   IsLocal r F es (form.Traps k) = (S : StoreForm H O) → Chain M m 1 S F es S F (Trapped k ⨾ ε)
   IsLocal r F es form.Stuck = Unit {0}
 
@@ -286,11 +287,7 @@ module _ {H O : Type 0} (M : Meaning H O) (m : ProgramForm) where
   next_is : (C : Context) (f : FrameForm) (L : List (Option ValType)) (own end : List ValType) → LabelsOk C f.labels L end → map type_of f.values ≡ own → (code : Instructions) → CodeOk C L code own end → ((i : Instruction) (is : Instructions) → code ≡ Then i is → constant_of i ≡ None) →
       IsLocal C.result f.locals (in_labels f.labels (on f.values (sequence code))) (next_at f code)
   next_is C f L own end o v (Then i is) h a = act_is C.result (record f { code = is }) (all_fit C f.labels L end o) i (a i is refl)
-  next_is C f L own _ o v Done done a = end_is C.result f f.labels refl (λ e us t. exact us t (map type_of f.values) refl (v ∙ bottom_is f.labels L own o e)) where
-    bottom_is : (ls : List LabelForm) (L : List (Option ValType)) (end : List ValType) → LabelsOk C ls L end → ls ≡ [] → end ≡ one C.result
-    bottom_is _ L end (bottom e) q = e
-    bottom_is (l ∷ ls) _ end (label r under end' o h u b i) q = cc
-
+  next_is C f L own _ o v Done done a = end_is C.result f f.labels refl (λ e us t. exact us t (map type_of f.values) refl (v ∙ bottom_is C f.labels L own o e)) where
     exact : (us : List Word) → taken C.result f.values ≡ Some us → (ts : List ValType) → map type_of f.values ≡ ts → ts ≡ one C.result → f.values ≡ us
     exact us t ts p q = all_of C.result f.values us t (p ∙ q) where
       all_of : (r : Option ValType) (vs us : List Word) → taken r vs ≡ Some us → map type_of vs ≡ one r → vs ≡ us

@@ -128,7 +128,7 @@ abbrev pub limits_or_none : Option Limits → Limits
 limits_or_none None = record { min = 0; max = Some 0 }
 limits_or_none (Some l) = l
 
--- the calls that make up a run, in a frame of their own
+-- the calls that make up a run, in the first frame, which is no function's
 abbrev pub entry_code : Option ℕ → ℕ → Instructions
 entry_code None n = Then (Plain (Call n)) Done
 entry_code (Some s) n = Then (Plain (Call s)) (Then (Plain (Call n)) Done)

@@ -35,7 +35,7 @@ use Rattle.wasm_machine.specs.Machines.{Conf, CallerForm, ProgramForm, Turn, agr
 use Rattle.wasm_machine.specs.declared.machine.MachineEnd.{MachineEnd}
 use Rattle.wasm_machine.specs.declared.state.RunEnd.{RunEnd}
 use Rattle.wasm_machine.specs.declared.state.RunEnd.TheVariants.{Ended, OutOfSteps, NoMemory}
-use Rattle.wasm_machine.specs.Runs.{TakenAs, OverBy, Ran, told_run}
+use Rattle.wasm_machine.specs.Runs.{TakenAs, OverBy, IsWithin, Ran, told_run}
 
 infixr 5 ◌⨾◌
 infixr 5 ◌⧺◌
@@ -273,17 +273,18 @@ in_labels (l ∷ ls) es = in_labels ls (on l.under (LabelOf (arity l.gives) (con
 abbrev pub in_place : FrameForm → Sequence → Sequence
 in_place f es = in_labels f.labels (on f.values (es ⧺ sequence f.code))
 
--- a function's body is a block in its frame
-abbrev pub in_frame : Option ValType → FrameForm → Sequence → Sequence
-in_frame r f es = FrameOf (arity r) f.locals (LabelOf (arity r) ε (in_place f es) ⨾ ε) ⨾ ε
+-- a function's body is a block in a frame with these locals
+abbrev pub in_body : Option ValType → List Word → Sequence → Sequence
+in_body r F es = FrameOf (arity r) F (LabelOf (arity r) ε es ⨾ ε) ⨾ ε
 
--- a sequence inside the frames of those that wait, the innermost first
-abbrev pub in_callers : List CallerForm → Sequence → Sequence
-in_callers [] es = es
-in_callers (w ∷ ws) es = in_callers ws (in_frame w.result w.frame es)
+-- What is in the innermost of all frames, with these locals, inside those that wait. The first frame is no function's: in it stands the run's own
+-- sequence, in which the start function and `main` are called.
+abbrev pub in_frames : Option ValType → List Word → List CallerForm → Sequence → Sequence
+in_frames r F [] es = es
+in_frames r F (w ∷ ws) es = in_frames w.result w.frame.locals ws (in_place w.frame (in_body r F es))
 
 abbrev pub nested : Conf → Sequence
-nested c = in_callers c.callers (in_frame c.result c.frame ε)
+nested c = in_frames c.result c.frame.locals c.callers (in_place c.frame ε)
 
 abbrev pub store_of : {H O : Type 0} → Conf → H → List O → StoreForm H O
 store_of c h out = record { memory = c.memory; table = c.table; globals = c.globals; host = h; output = out }
@@ -295,27 +296,27 @@ IsReduced M m n c h out c' h' out' = Chain M m n (store_of c h out) [] (nested c
 -- in the innermost frame the call of a function of the module stands next, with 10,000 frames open besides the first
 abbrev pub CallsDeep : ProgramForm → Sequence → Type 0
 CallsDeep m es = (callers : List CallerForm) × (r : Option ValType) × (f : FrameForm) × (a : ℕ) × (g : FuncForm) × (10000 ≤ length callers)
-    × (slice_get m.whole.imports a ≡ None) × (slice_get m.whole.funcs (a - length m.whole.imports) ≡ Some g) × (es ≡ in_callers callers (in_frame r f (Invoke a ⨾ ε)))
+    × (slice_get m.whole.imports a ≡ None) × (slice_get m.whole.funcs (a - length m.whole.imports) ≡ Some g) × (es ≡ in_frames r f.locals callers (in_place f (Invoke a ⨾ ε)))
 
--- A run that ends in the step after so many: reductions that count that step too lead to the result, or to a trap. Where the machine is
--- exhausted they lead to where a call stands next with 10,000 frames open besides the first, a limit that the specification does not have.
--- No run is stuck.
+-- A run that ends after so many steps. Where it returns, reductions that count these lead to the result. Where it traps, reductions that count
+-- one more lead to the trap. Where the machine is exhausted they lead to where a call stands next with 10,000 frames open besides the first, a
+-- limit that the specification does not have. No run is stuck.
 abbrev pub EndsIn : {H O : Type 0} → Meaning H O → ProgramForm → ℕ → Conf → H → List O → End → H → List O → Type 0
-EndsIn {H} {O} M m n c h out (ends.Returned w) h' out' = (S : StoreForm H O) × (S.host ≡ h') × (S.output ≡ out') × Chain M m (suc n) (store_of c h out) [] (nested c) S [] (on (results w) ε)
+EndsIn {H} {O} M m n c h out (ends.Returned w) h' out' = (S : StoreForm H O) × (S.host ≡ h') × (S.output ≡ out') × Chain M m n (store_of c h out) [] (nested c) S [] (on (results w) ε)
 EndsIn {H} {O} M m n c h out (ends.Trapped k) h' out' = (S : StoreForm H O) × (S.host ≡ h') × (S.output ≡ out') × Chain M m (suc n) (store_of c h out) [] (nested c) S [] (Trapped k ⨾ ε)
 EndsIn {H} {O} M m n c h out ends.Exhausted h' out' = (S : StoreForm H O) × (S.host ≡ h') × (S.output ≡ out') × (es : Sequence) × CallsDeep m es × Chain M m n (store_of c h out) [] (nested c) S [] es
 EndsIn M m n c h out ends.Stuck h' out' = ⊥
 
--- A step is reductions that count one step, whatever was written before; and so is an end.
+-- A step is reductions that count one step, whatever was written before. An end is reductions too.
 abbrev pub IsStepReduced : {H O : Type 0} → Meaning H O → ProgramForm → Turn → Conf → H → Type 0
 IsStepReduced {H} {O} M m t c h =
     ((out more : List O) (c' : Conf) (h' : H) → TakenAs M t h c.memory more c' h' → IsReduced M m 1 c h out c' h' (out ++ more))
     × ((out more : List O) (e : End) (h' : H) → OverBy M t h c.memory more e h' → EndsIn M m 0 c h out e h' (out ++ more))
 
--- A run of at most n steps, as it ended: reductions that count n; or fewer, with the one in which it ended; or fewer, before a step for which memory was wanting.
+-- A run of at most n steps, as it ended: reductions that count n; or no more than these, to its end; or fewer, before a step for which memory was wanting.
 abbrev pub IsRunReduced : {H O : Type 0} → Meaning H O → ProgramForm → ℕ → Conf → H → List O → List O → RunEnd → Conf → H → Type 0
 IsRunReduced M m n c h out new OutOfSteps c' h' = IsReduced M m n c h out c' h' (out ++ new)
-IsRunReduced M m n c h out new (Ended e) c' h' = (k : ℕ) × (k < n) × EndsIn M m k c h out e h' (out ++ new)
+IsRunReduced M m n c h out new (Ended e) c' h' = (k : ℕ) × IsWithin k n e × EndsIn M m k c h out e h' (out ++ new)
 IsRunReduced {H} {O} M m n c h out new NoMemory c' h' = (k : ℕ) × (k < n) × (c1 : Conf) × (h1 : H) × (before rest : List O) × (new ≡ before ++ rest) × IsReduced M m k c h out c1 h1 (out ++ before)
 
 -- what a machine tells of a run, what the run was, and the reductions that it was, whatever had been written before

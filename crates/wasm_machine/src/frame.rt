@@ -60,7 +60,9 @@ fn chosen(
     yes: &Rc<Vec<Instr>>,
     no: &Rc<Vec<Instr>>,
 ) -> Result<Rc<Vec<Instr>>, AllocError>
-    ensures { IfOk result (λ body. code_at body 0 ≡ (if nat_eq condition 0 then code_at no.now 0 else code_at yes.now 0)) }
+    ensures { IfOk result
+        (λ body. code_at body 0
+        ≡ (if nat_eq condition 0 then code_at no.now 0 else code_at yes.now 0)) }
 {
     Ok(if condition == 0 {
         no.clone()?
@@ -94,14 +96,18 @@ impl Frame {
     }
 
     fn push(&mut self, word: Word) -> Result<Event, AllocError>
-        ensures { IfOk result (λ e. pushed (frame_of self.old) self.old.values (Some word) ≡ seen e (frame_of self.new)) }
+        ensures { IfOk result
+            (λ e. pushed (frame_of self.old) self.old.values (Some word)
+            ≡ seen e (frame_of self.new)) }
     {
         self.values.push(word)?;
         Ok(Event::Went)
     }
 
     fn test(&mut self, ty: ValType, op: ITestOp) -> Result<Event, AllocError>
-        ensures { IfOk result (λ e. of_one (frame_of self.old) (test_of ty op) self.old.values ≡ seen e (frame_of self.new)) }
+        ensures { IfOk result
+            (λ e. of_one (frame_of self.old) (test_of ty op) self.old.values
+            ≡ seen e (frame_of self.new)) }
     {
         let Some(a) = self.values.pop() else {
             return Ok(Event::Stuck);
@@ -113,7 +119,9 @@ impl Frame {
     }
 
     fn compare(&mut self, ty: ValType, op: IRelOp) -> Result<Event, AllocError>
-        ensures { IfOk result (λ e. of_two (frame_of self.old) (compare_of ty op) self.old.values ≡ seen e (frame_of self.new)) }
+        ensures { IfOk result
+            (λ e. of_two (frame_of self.old) (compare_of ty op) self.old.values
+            ≡ seen e (frame_of self.new)) }
     {
         let Some(b) = self.values.pop() else {
             return Ok(Event::Stuck);
@@ -128,7 +136,9 @@ impl Frame {
     }
 
     fn unary(&mut self, ty: ValType, op: IUnOp) -> Result<Event, AllocError>
-        ensures { IfOk result (λ e. of_one (frame_of self.old) (unary_of ty op) self.old.values ≡ seen e (frame_of self.new)) }
+        ensures { IfOk result
+            (λ e. of_one (frame_of self.old) (unary_of ty op) self.old.values
+            ≡ seen e (frame_of self.new)) }
     {
         let Some(a) = self.values.pop() else {
             return Ok(Event::Stuck);
@@ -140,7 +150,9 @@ impl Frame {
     }
 
     fn binary(&mut self, ty: ValType, op: IBinOp) -> Result<Event, AllocError>
-        ensures { IfOk result (λ e. of_two_or (frame_of self.old) (binary_of ty op) self.old.values ≡ seen e (frame_of self.new)) }
+        ensures { IfOk result
+            (λ e. of_two_or (frame_of self.old) (binary_of ty op) self.old.values
+            ≡ seen e (frame_of self.new)) }
     {
         let Some(b) = self.values.pop() else {
             return Ok(Event::Stuck);
@@ -156,7 +168,9 @@ impl Frame {
     }
 
     fn convert(&mut self, op: CvtOp) -> Result<Event, AllocError>
-        ensures { IfOk result (λ e. of_one (frame_of self.old) (converted op) self.old.values ≡ seen e (frame_of self.new)) }
+        ensures { IfOk result
+            (λ e. of_one (frame_of self.old) (converted op) self.old.values
+            ≡ seen e (frame_of self.new)) }
     {
         let Some(a) = self.values.pop() else {
             return Ok(Event::Stuck);
@@ -168,7 +182,9 @@ impl Frame {
     }
 
     fn local_get(&mut self, x: u32) -> Result<Event, AllocError>
-        ensures { IfOk result (λ e. pushed (frame_of self.old) self.old.values (slice_get self.old.locals.items x) ≡ seen e (frame_of self.new)) }
+        ensures { IfOk result
+            (λ e. pushed (frame_of self.old) self.old.values (slice_get self.old.locals.items x)
+            ≡ seen e (frame_of self.new)) }
     {
         let Some(word) = self.locals.get(x as usize) else {
             return Ok(Event::Stuck);
@@ -178,7 +194,8 @@ impl Frame {
     }
 
     fn local_set(&mut self, x: u32) -> Event
-        ensures { local_set (frame_of self.old) x self.old.values ≡ seen result (frame_of self.new) }
+        ensures { local_set (frame_of self.old) x self.old.values
+            ≡ seen result (frame_of self.new) }
     {
         let x = x as usize;
         let Some(word) = self.values.pop() else {
@@ -192,7 +209,8 @@ impl Frame {
     }
 
     fn local_tee(&mut self, x: u32) -> Result<Event, AllocError>
-        ensures { IfOk result (λ e. local_tee (frame_of self.old) x self.old.values ≡ seen e (frame_of self.new)) }
+        ensures { IfOk result
+            (λ e. local_tee (frame_of self.old) x self.old.values ≡ seen e (frame_of self.new)) }
     {
         let x = x as usize;
         let Some(word) = self.values.pop() else {
@@ -216,7 +234,8 @@ impl Frame {
     }
 
     fn select(&mut self) -> Result<Event, AllocError>
-        ensures { IfOk result (λ e. selected (frame_of self.old) self.old.values ≡ seen e (frame_of self.new)) }
+        ensures { IfOk result
+            (λ e. selected (frame_of self.old) self.old.values ≡ seen e (frame_of self.new)) }
     {
         let Some(Word::I32(c)) = self.values.pop() else {
             return Ok(Event::Stuck);
@@ -231,7 +250,8 @@ impl Frame {
     }
 
     fn call_through(&mut self, ty: u32) -> Event
-        ensures { called_through (frame_of self.old) ty self.old.values ≡ seen result (frame_of self.new) }
+        ensures { called_through (frame_of self.old) ty self.old.values
+            ≡ seen result (frame_of self.new) }
     {
         match self.values.pop() {
             Some(Word::I32(at)) => Event::CallsThrough(ty, at),
@@ -247,7 +267,9 @@ impl Frame {
         gives: BlockType,
         body: Rc<Vec<Instr>>,
     ) -> Result<Event, AllocError>
-        ensures { IfOk result (λ e. Goes (entered (frame_of self.old) (body_now again body) gives (code_at body 0)) ≡ seen e (frame_of self.new)) }
+        ensures { IfOk result
+            (λ e. Goes (entered (frame_of self.old) (body_now again body) gives (code_at body 0))
+            ≡ seen e (frame_of self.new)) }
     {
         let label = Label {
             under: self.values.lay_down(alloc),
@@ -263,7 +285,9 @@ impl Frame {
 
     /// Past the innermost label, or out of the function.
     fn leave(&mut self) -> Result<Event, AllocError>
-        ensures { IfOk result (λ e. at_end (frame_of self.old) (frame_of self.old).labels ≡ seen e (frame_of self.new)) }
+        ensures { IfOk result
+            (λ e. at_end (frame_of self.old) (frame_of self.old).labels
+            ≡ seen e (frame_of self.new)) }
     {
         let Some(label) = self.labels.pop() else {
             return Ok(Event::Leaves);
@@ -309,7 +333,8 @@ impl Frame {
     }
 
     fn branch_if(&mut self, n: u32) -> Result<Event, AllocError>
-        ensures { IfOk result (λ e. branch_if (frame_of self.old) n self.old.values ≡ seen e (frame_of self.new)) }
+        ensures { IfOk result
+            (λ e. branch_if (frame_of self.old) n self.old.values ≡ seen e (frame_of self.new)) }
     {
         let Some(Word::I32(c)) = self.values.pop() else {
             return Ok(Event::Stuck);

@@ -48,7 +48,8 @@ pub trait HostCalls {
 
     /// Calls an import by its number. Arguments are in order; `memory` is the module's, or one of no pages.
     fn call(&mut self, import: u32, args: &[Word], memory: &mut Memory) -> HostAnswer
-        ensures means { Answers meaning (state self.old) import args.now memory.old result (state self.new) memory.new };
+        ensures means { Answers meaning (state self.old) import args.now memory.old result
+            (state self.new) memory.new };
 
     /// An import that is found has this type.
     ghost found: { (from name : List ℕ) (r : ℕ × Signature) → finds from name ≡ Some r → types r.0 ≡ Some r.1 };

@@ -17,14 +17,16 @@ pub fn never_stuck()
 
 /// A well-typed configuration takes a turn that is safe: never stuck, and what it leads to is well typed.
 pub fn turn_safe()
-    ensures { (m : ProgramForm) → ProgramOk m → (c : Conf) → ConfOk m.whole c → IsSafeTurn m (turn m c) }
+    ensures { (m : ProgramForm) → ProgramOk m → (c : Conf) → ConfOk m.whole c
+        → IsSafeTurn m (turn m c) }
 {}
 
 /// A step of a well-typed configuration is the specification's own reductions (Core 1.0, section 4.4) of its nested form, of which exactly
-/// one counts as a step, with any host. Where the machine is exhausted, which the specification does not know, a call stands next with
-/// 10,000 frames open besides the first.
+/// one counts as a step, with any host; none does where the run is over. Where the machine is exhausted, which the specification does not
+/// know, a call stands next with 10,000 frames open besides the first.
 pub fn step_is_reduced<H: HostCalls>()
-    ensures { (m : ProgramForm) → ProgramOk m → (c : Conf) (h : H.State) → ConfOk m.whole c → IsStepReduced H.meaning m (turn m c) c h }
+    ensures { (m : ProgramForm) → ProgramOk m → (c : Conf) (h : H.State) → ConfOk m.whole c
+        → IsStepReduced H.meaning m (turn m c) c h }
 {}
 
 /// Two runs, one after the other, are one run of all their steps.
@@ -36,7 +38,8 @@ pub fn run_on<H: HostCalls>(
 ) -> MachineEnd
     requires linked { Linked H.types machine.old.program }
     requires going { machine.old.ended ≡ None }
-    ensures { Did H.meaning machine.old.program (first + then) machine.old.conf (H.state host.old) result machine.new.conf (H.state host.new) }
+    ensures { Did H.meaning machine.old.program (first + then) machine.old.conf (H.state host.old)
+        result machine.new.conf (H.state host.new) }
 {
     let end = machine.run(host, first);
     if end != MachineEnd::OutOfSteps {
@@ -49,8 +52,11 @@ pub fn run_on<H: HostCalls>(
 pub fn run_wanting<H: HostCalls>(machine: &mut Machine, host: &mut H, steps: u64) -> MachineEnd
     requires linked { Linked H.types machine.old.program }
     requires going { machine.old.ended ≡ None }
-    ensures did { Did H.meaning machine.old.program steps machine.old.conf (H.state host.old) result machine.new.conf (H.state host.new) }
-    ensures prefix { result ≡ MachineEnd.NoMemory → IsPrefix H.meaning machine.old.program steps machine.old.conf (H.state host.old) machine.new.conf (H.state host.new) }
+    ensures did { Did H.meaning machine.old.program steps machine.old.conf (H.state host.old) result
+        machine.new.conf (H.state host.new) }
+    ensures prefix { result ≡ MachineEnd.NoMemory
+        → IsPrefix H.meaning machine.old.program steps machine.old.conf (H.state host.old)
+        machine.new.conf (H.state host.new) }
 {
     machine.run(host, steps)
 }

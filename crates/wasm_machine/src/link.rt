@@ -52,7 +52,8 @@ fn main_at(whole: &Module, export: &Export) -> Option<u32>
 }
 
 fn main_among(whole: &Module, exports: &[Export]) -> Option<u32>
-    ensures { result ≡ first_some (λ e. main_at (view_module whole.now) (view_export e)) exports.now }
+    ensures { result ≡ first_some (λ e. main_at (view_module whole.now) (view_export e))
+        exports.now }
 {
     for export in exports {
         if let Some(n) = main_at(whole, export) {
@@ -100,7 +101,8 @@ fn numbers_among<H: HostCalls>(
     host: &H,
     imports: &[Import],
 ) -> Result<Vec<u32>, LinkFault>
-    ensures { Numbers result (map (λ x. number_for H.finds (view_module whole.now) (view_import x)) imports.now) }
+    ensures { Numbers result
+        (map (λ x. number_for H.finds (view_module whole.now) (view_import x)) imports.now) }
 {
     let mut numbers = Vec::new(alloc);
     for (index, import) in imports.iter().enumerate() {
@@ -288,7 +290,10 @@ pub(crate) fn link<H: HostCalls>(
     whole: &Module,
     host: &H,
 ) -> Result<(u32, Vec<u32>), LinkFault>
-    ensures ok { IfOk result (λ r. (main_of (view_module whole.now) ≡ Some r.0) × (numbers_for H.finds (view_module whole.now) ≡ map Some r.1.items) × SegmentsFit (view_module whole.now)) }
+    ensures ok { IfOk result
+        (λ r. (main_of (view_module whole.now) ≡ Some r.0)
+        × (numbers_for H.finds (view_module whole.now) ≡ map Some r.1.items)
+        × SegmentsFit (view_module whole.now)) }
     ensures refused { IfErr result (Refuses H.finds (view_module whole.now)) }
 {
     let Some(main) = main_of(whole) else {

@@ -104,15 +104,21 @@ impl Machine {
     /// So many steps, or fewer where it ends. After [`MachineEnd::OutOfSteps`] a further run goes on; any other end is answered again by
     /// every later run, and nothing changes.
     ///
-    /// What it did is a chain of the specification's own reductions (`reduced`), of which as many count as it took steps.
+    /// The calls of the start function and of `main` are steps; `main` has returned once its own body ends, and no step follows. What the machine
+    /// did is a chain of the specification's own reductions (`reduced`), of which as many count as it took steps.
     ///
     /// The host is to have the imports that it had when the machine was made.
     pub fn run<H: HostCalls>(&mut self, host: &mut H, steps: u64) -> MachineEnd
         requires linked { Linked H.types self.old.program }
         ensures program { self.new.program ≡ self.old.program }
-        ensures run { self.old.ended ≡ None → Did H.meaning self.old.program steps self.old.conf (H.state host.old) result self.new.conf (H.state host.new) }
-        ensures reduced { self.old.ended ≡ None → Reduced H.meaning self.old.program steps self.old.conf (H.state host.old) result self.new.conf (H.state host.new) }
-        ensures again { IfSome self.old.ended (λ e. (result ≡ e) × (self.new ≡ self.old) × (host.new ≡ host.old)) }
+        ensures run { self.old.ended ≡ None
+            → Did H.meaning self.old.program steps self.old.conf (H.state host.old) result
+            self.new.conf (H.state host.new) }
+        ensures reduced { self.old.ended ≡ None
+            → Reduced H.meaning self.old.program steps self.old.conf (H.state host.old) result
+            self.new.conf (H.state host.new) }
+        ensures again { IfSome self.old.ended
+            (λ e. (result ≡ e) × (self.new ≡ self.old) × (host.new ≡ host.old)) }
         ensures ended { self.old.ended ≡ None → self.new.ended ≡ lasting result }
     {
         if let Some(end) = self.ended {
