@@ -1,11 +1,10 @@
 -- Before a script runs: its names are announced to the host, each once, and what each name has is made.
-use Rattle.std.proofs.Common.{◌≡◌, inl, inr, ℕ, zero, suc, ◌+◌, ◌<◌, ◌≤◌, Bool, true, false, List, [], ◌∷◌, ◌++◌, length, Some, None, Option, refl, sym, ap, ap₂, ◌∙◌, append_assoc, append-nil, arith}
-use Rattle.std.specs.Prelude.{get_or, map, not, is_some, if◌then◌else◌, ◌&&◌, ◌||◌}
+use Rattle.std.proofs.Common.{◌≡◌, inl, inr, ℕ, suc, ◌+◌, ◌<◌, ◌≤◌, Bool, true, false, List, [], ◌∷◌, ◌++◌, length, Some, None, Option, refl, sym, ap, ap₂, ◌∙◌, append_assoc, append-nil, arith}
+use Rattle.std.specs.Prelude.{get_or, map, not, is_some, if◌then◌else◌, ◌||◌}
 use Rattle.std.proofs.lemmas.Bool.{and_parts, cases_eq}
 use Rattle.std.proofs.lemmas.List.{length-append}
 use Rattle.awk_state.specs.Assignments.{declared as told_at}
 use Rattle.awk_state.specs.Constants.{kind_number}
-use Rattle.awk_state.specs.InTurn.{in_turn}
 use Rattle.awk_state.specs.SharedState.{Shared, shared_after}
 use Rattle.awk_state.specs.Sorts.{InAnswer}
 use Rattle.awk_state.specs.Table.{arguments_of, answer_of, meaning}
@@ -24,7 +23,7 @@ use Rattle.mid_code.specs.Mid.{Kind, Boxed, Unboxed, Many, Program, Declared, Ro
 use Rattle.mid_code.specs.MidMeaning.{global_name, routine_name}
 use Rattle.mid_code.specs.Names.{same_name}
 use Rattle.mid_code.specs.ScriptRun.{kind_of, announced, arrays_made}
-use Rattle.mid_code.specs.ScriptState.{State, Outcome, Gives, Doing, ◌>>◌, nothing, does, go_on}
+use Rattle.mid_code.specs.ScriptState.{State, Gives, Doing, ◌>>◌, nothing, does}
 use Rattle.mid_code.specs.Sorted.{kinds_of, is_many, is_named, all_differ}
 use Rattle.value_machine.specs.Cells.{Cell, Bits, Held, OwnedArray, is_owned}
 use Rattle.value_machine.specs.Emission.{Layout}

@@ -1,12 +1,8 @@
 -- The beginning of `main`: a fault that the job brings ends it; else its names are announced and made, and it is where a script begins.
-use Rattle.std.proofs.Common.{◌≡◌, inl, ℕ, zero, suc, ◌+◌, ◌*◌, ◌^◌, ◌<◌, ◌≤◌, Bool, true, false, List, [], ◌∷◌, ◌++◌, length, Some, None, Option, refl, sym, ap, ap₂, ◌∙◌, append-nil, subst, arith}
+use Rattle.std.proofs.Common.{◌≡◌, ℕ, zero, suc, ◌+◌, ◌<◌, ◌≤◌, true, List, [], ◌∷◌, ◌++◌, length, None, refl, sym, ap, ap₂, ◌∙◌, append-nil, subst, arith}
 use Rattle.std.specs.Prelude.{get_or, replicate, map}
-use Rattle.std.proofs.lemmas.List.{length-append, length-map}
-use Rattle.awk_values.specs.declared.fault.Fault.{Fault}
-use Rattle.awk_values.specs.declared.value.Value.{Value}
 use Rattle.awk_values.specs.declared.value.Value.TheVariants.{Uninit}
-use Rattle.awk_state.specs.SharedState.{Shared, shared_after}
-use Rattle.awk_state.specs.Table.{meaning}
+use Rattle.awk_state.specs.SharedState.{Shared}
 use Rattle.awk_state.specs.declared.constants.NameKind.{NameKind}
 use Rattle.awk_state.specs.declared.table.Primitive.TheVariants as row
 use Rattle.wasm_types.specs.Syntax.{Instructions}
@@ -17,8 +13,8 @@ use Rattle.mid_code.specs.Names.{names_length}
 use Rattle.mid_code.specs.ScriptRun.{Setting, start, announced, arrays_made}
 use Rattle.mid_code.specs.ScriptState.{State, Outcome, Gives, Stops, Doing, ◌>>=◌, ◌>>◌, go_on}
 use Rattle.mid_code.specs.Sorted.{kinds_of, all_differ, announced_names}
-use Rattle.value_machine.specs.Cells.{Cell, Bits, is_owned}
-use Rattle.value_machine.specs.Functions.{layout_of, texts_of}
+use Rattle.value_machine.specs.Cells.{Cell, Bits}
+use Rattle.value_machine.specs.Functions.{layout_of}
 use Rattle.value_machine.specs.Machine.{Label, at}
 use Rattle.value_machine.specs.Places.{Bases}
 use Rattle.value_machine.specs.Runs.{first_globals, zero_ranges, empty_names}
@@ -32,7 +28,7 @@ use Rattle.value_machine.proofs.Steps.{empty}
 use Rattle.value_machine.proofs.State.{kind_here, arrays_before, name_hand, name_word, cells_of, host_of}
 use Rattle.value_machine.proofs.Relation.{Calm, globals_told, routines_told}
 use Rattle.value_machine.proofs.Answers.{machine, beside_state}
-use Rattle.value_machine.proofs.Announcing.{Telling, names_in, tell_work, make_work, tells, telling, first_hand, globals_emitted, routines_emitted, globals_meant, routines_meant, making_meant, they_differ, none_told, Untold, Differ, Told, tells_ok, Made, Halfway, names_ok}
+use Rattle.value_machine.proofs.Announcing.{Telling, names_in, tell_work, make_work, tells, telling, first_hand, globals_emitted, routines_emitted, globals_meant, routines_meant, making_meant, they_differ, none_told, Differ, tells_ok, names_ok}
 
 -- globals as a module starts
 abbrev pub first_cells : Globals

@@ -1,5 +1,5 @@
 -- The end of `main`, with the status that the script has, and how whole runs show: what the machine comes to is what the script's run is.
-use Rattle.std.proofs.Common.{◌≡◌, ℕ, zero, suc, ◌+◌, ◌-◌, ◌*◌, ◌^◌, ◌<◌, ◌≤◌, true, List, [], ◌∷◌, length, Some, None, Option, ℤ, pos, negsuc, unsigned_abs, w64, refl, ap, ◌∙◌, arith}
+use Rattle.std.proofs.Common.{◌≡◌, ℕ, zero, suc, ◌+◌, ◌-◌, ◌*◌, ◌^◌, ◌≤◌, true, [], length, Some, None, Option, ℤ, pos, negsuc, unsigned_abs, w64, refl, ap, ◌∙◌, arith}
 use Rattle.std.specs.Prelude.{◌%◌, ◌&&◌}
 use Rattle.std.specs.Int.{cast_unsigned, int_rem_euclid}
 use Rattle.awk_values.specs.declared.fault.Fault.{Fault}
@@ -11,20 +11,19 @@ use Rattle.wasm_types.specs.declared.instr.Simple.TheVariants.{GlobalGet, Conver
 use Rattle.wasm_types.specs.declared.instr.CvtOp.TheVariants.{I32WrapI64}
 use Rattle.wasm_store.specs.declared.word.Word.TheVariants.{I32, I64}
 use Rattle.mid_code.specs.Mid.{Kind, Boxed, Unboxed, Many, Program}
-use Rattle.mid_code.specs.MidMeaning.{mid_run_in}
-use Rattle.mid_code.specs.ScriptRun.{Setting, Ending, Ended, FaultedBy, GoesOn, Exhausted, ending}
-use Rattle.mid_code.specs.ScriptState.{State, Stop, Faulted, OutOfTurns, TooDeep, Nexted, Exited, Returned, Outcome, Gives, Stops}
+use Rattle.mid_code.specs.ScriptRun.{Setting, Ended, ending}
+use Rattle.mid_code.specs.ScriptState.{State, Faulted, OutOfTurns, TooDeep, Nexted, Exited, Returned, Outcome, Gives, Stops}
 use Rattle.mid_code.specs.Sorted.{kinds_of}
-use Rattle.value_machine.specs.Cells.{Cell, Bits, is_owned, left_by, none_owned, ended_name, globals_by}
-use Rattle.value_machine.specs.Follows.{Shown, Follows}
+use Rattle.value_machine.specs.Cells.{Bits, is_owned, none_owned, ended_name, globals_by}
+use Rattle.value_machine.specs.Follows.{Shown}
 use Rattle.value_machine.specs.Functions.{layout_of}
 use Rattle.value_machine.specs.Machine.{Conf, Over, Store, at, ending_at, guarded}
 use Rattle.value_machine.specs.ImportCalls.{Host}
 use Rattle.value_machine.specs.Places.{Bases, status_global}
-use Rattle.value_machine.specs.Runs.{code_of, begun, value_run}
+use Rattle.value_machine.specs.Runs.{code_of, begun}
 use Rattle.value_machine.specs.Small.{does}
 use Rattle.value_machine.specs.Statements.{swept}
-use Rattle.value_machine.proofs.Runs.{Goes, then_goes, goes_to, by_steps, Arrives}
+use Rattle.value_machine.proofs.Runs.{Goes, then_goes, by_steps, Arrives}
 use Rattle.value_machine.proofs.Globals.{Globals, Status, placed}
 use Rattle.value_machine.proofs.GlobalSteps.{global_copied, storing}
 use Rattle.value_machine.proofs.Locals.{Locals, laid}

@@ -94,9 +94,10 @@ module _ (p : Program) (deepest : ℕ) where
     pub each : (i : ℕ) (k : Kind) → has_kind js i k ≡ true → ParamIs p deepest js F k (get_or os i (Scalar Uninit)) (get_or words i Gone)
 
   -- after a call: the answer is on the stack, and the caller's own is as it was
-  pub record Back (f : Frame) (F : List Frame) (v : Value) (σ : State) (c : Conf) : Type 0 where
+  pub record Back (f : Frame) (F : List Frame) (o : Own) (v : Value) (σ : State) (c : Conf) : Type 0 where
     pub comes : c ≡ at f.kinds (Held v ∷ f.under) f.labels f.locals F f.rest (beside_state p deepest f.kinds F σ)
     pub sound : Sound p deepest f.kinds F σ
+    pub own : σ.own ≡ o
 
   -- a call that stops the script answers -1, and the caller is to leave too
   pub record Lost (f : Frame) (F : List Frame) (why : Stop) (σ : State) (c : Conf) : Type 0 where
@@ -131,12 +132,12 @@ module _ (p : Program) (deepest : ℕ) where
 
     -- a body that ends without `return`
     ends : (l0 : Locals) (σ : State) (c : Conf) → StepDone p deepest js (f ∷ F) b M n false zero zero zero end_code body_labels l0 Normal σ c →
-        Onward (machine p deepest js (f ∷ F)) M (exit_work b + 3) (Back f F Uninit (record σ { own = own })) c
+        Onward (machine p deepest js (f ∷ F)) M (exit_work b + 3) (Back f F own Uninit (record σ { own = own })) c
     ends l0 σ c h =
         let l1 = with_at h.next Answer (Held Uninit) in
         let lo = fit_loose p deepest js (f ∷ F) zero zero zero h.next σ h.starts.fit in
-        let x = exits (beside_state p deepest js (f ∷ F) σ) l1 (Held Uninit) _ (Back f F Uninit (record σ { own = own })) (record { params = lo.params; hands = lo.hands; numbers = lo.numbers; walks = lo.walks; yards = lo.yards }) refl refl
-        (record { comes = refl; sound = sound_back σ h.starts.fit.sound }) in
+        let x = exits (beside_state p deepest js (f ∷ F) σ) l1 (Held Uninit) _ (Back f F own Uninit (record σ { own = own })) (record { params = lo.params; hands = lo.hands; numbers = lo.numbers; walks = lo.walks; yards = lo.yards }) refl refl
+        (record { comes = refl; sound = sound_back σ h.starts.fit.sound; own = refl }) in
         record {
           conf = x.conf;
           steps = 3 + x.steps;
@@ -147,13 +148,13 @@ module _ (p : Program) (deepest : ℕ) where
 
     -- a function's exit: what its body came to is what the call comes to
     came : (w m : ℕ) (c : Conf) (l0 : Locals) (r : Outcome Flow) → Arrives (machine p deepest js (f ∷ F)) M w m c (StepDone p deepest js (f ∷ F) b M n false zero zero zero end_code body_labels l0) (Away p deepest js (f ∷ F) b zero body_labels) r →
-        Arrives (machine p deepest js (f ∷ F)) M (w + (exit_work b + 3)) m c (Back f F) (Lost f F) (returned own r)
-    came w m c l0 (Gives Normal σ) h = reaches_on (machine p deepest js (f ∷ F)) M (exit_work b + 3) w (w + (exit_work b + 3)) m σ.turns c _ (Back f F Uninit (record σ { own = own })) (omega arith) (λ c1 q. ends l0 σ c1 q) h
+        Arrives (machine p deepest js (f ∷ F)) M (w + (exit_work b + 3)) m c (Back f F own) (Lost f F) (returned own r)
+    came w m c l0 (Gives Normal σ) h = reaches_on (machine p deepest js (f ∷ F)) M (exit_work b + 3) w (w + (exit_work b + 3)) m σ.turns c _ (Back f F own Uninit (record σ { own = own })) (omega arith) (λ c1 q. ends l0 σ c1 q) h
     came w m c l0 (Gives Broke σ) h = absurd h.holds.flows
     came w m c l0 (Gives Continued σ) h = absurd h.holds.flows
     came w m c l0 (Stops (Returned v) σ) h =
-        reaches_on (machine p deepest js (f ∷ F)) M (exit_work b) w (w + (exit_work b + 3)) m σ.turns c _ (Back f F v (record σ { own = own })) (omega arith)
-        (λ c1 q. exits (left_beside p deepest js (f ∷ F) (Returned v) σ) q.next (Held v) c1 (Back f F v (record σ { own = own })) q.loose q.answer q.comes (record { comes = refl; sound = sound_back σ q.after })) h
+        reaches_on (machine p deepest js (f ∷ F)) M (exit_work b) w (w + (exit_work b + 3)) m σ.turns c _ (Back f F own v (record σ { own = own })) (omega arith)
+        (λ c1 q. exits (left_beside p deepest js (f ∷ F) (Returned v) σ) q.next (Held v) c1 (Back f F own v (record σ { own = own })) q.loose q.answer q.comes (record { comes = refl; sound = sound_back σ q.after; own = refl })) h
     came w m c l0 (Stops (Faulted x) σ) h =
         reaches_on (machine p deepest js (f ∷ F)) M (exit_work b) w (w + (exit_work b + 3)) m σ.turns c _ (Lost f F (Faulted x) (record σ { own = own })) (omega arith)
         (λ c1 q. exits (left_beside p deepest js (f ∷ F) (Faulted x) σ) q.next empty c1 (Lost f F (Faulted x) (record σ { own = own })) q.loose q.answer q.comes (record { comes = refl; after = tt })) h
@@ -166,12 +167,12 @@ module _ (p : Program) (deepest : ℕ) where
     came w m c l0 (Stops TooDeep σ) h =
         reaches_on (machine p deepest js (f ∷ F)) M 0 w (w + (exit_work b + 3)) m σ.turns c _ (Lost f F TooDeep (record σ { own = own })) (omega arith)
         (λ c1 q. record { conf = c1; steps = 0; few = omega arith; goes = stays; holds = record { comes = q.comes; after = tt } }) h
-    came w m c l0 (Stops OutOfTurns σ) h = within (machine p deepest js (f ∷ F)) M w (w + (exit_work b + 3)) m c (Back f F) (Lost f F) (Stops OutOfTurns (record σ { own = own })) (omega arith) h
+    came w m c l0 (Stops OutOfTurns σ) h = within (machine p deepest js (f ∷ F)) M w (w + (exit_work b + 3)) m c (Back f F own) (Lost f F) (Stops OutOfTurns (record σ { own = own })) (omega arith) h
 
     -- a function runs, from its beginning to its exit
     run_ok : (body : Steps) → StepsOk p deepest js (f ∷ F) b M n body → steps_sorted (context_of p js) true false body ≡ true → steps_room body ≤ b.temporaries → steps_iterators body ≤ b.iterators → steps_arrays body ≤ b.arrays → steps_work body ≤ M →
         (words : List Cell) (os : List Local) (σ : State) (m : ℕ) → GivenTo js (f ∷ F) words os → length (f ∷ F) + m ≡ deepest → Sound p deepest f.kinds F σ → σ.turns ≤ n →
-        Arrives (machine p deepest js (f ∷ F)) M (begin_work b + (1 + (steps_work body + (exit_work b + 3)))) σ.turns (at js [] [] (words ++ zeros (local_types b)) (f ∷ F) (routine_body (layout_of p b) js body) (beside_state p deepest js (f ∷ F) σ)) (Back f F) (Lost f F)
+        Arrives (machine p deepest js (f ∷ F)) M (begin_work b + (1 + (steps_work body + (exit_work b + 3)))) σ.turns (at js [] [] (words ++ zeros (local_types b)) (f ∷ F) (routine_body (layout_of p b) js body) (beside_state p deepest js (f ∷ F) σ)) (Back f F own) (Lost f F)
         (returned own (steps_meant p deepest js (f ∷ F) b M n body (record σ { own = record { locals = os; room = m } })))
     run_ok body oks so rm it ar wk words os σ m given deep s le =
         let mach = machine p deepest js (f ∷ F) in
@@ -180,7 +181,7 @@ module _ (p : Program) (deepest : ℕ) where
         let code = steps_emitted (layout_of p b) body zero zero zero zero end_code in
         let a = begin_ok p deepest js (f ∷ F) b [] G (entry words) (block code exit_code) refl (λ x. refl) (λ x. refl) (λ x. refl) in
         let e = laid_begun b words a.next a.params a.answer a.hands a.numbers a.iterators a.arrays in
-        first mach M (1 + (a.steps + 1)) (steps_work body + (exit_work b + 3)) (begin_work b + (1 + (steps_work body + (exit_work b + 3)))) σ.turns _ (at js [] body_labels (laid b (begun words)) (f ∷ F) code G) (Back f F) (Lost f F) _
+        first mach M (1 + (a.steps + 1)) (steps_work body + (exit_work b + 3)) (begin_work b + (1 + (steps_work body + (exit_work b + 3)))) σ.turns _ (at js [] body_labels (laid b (begun words)) (f ∷ F) code G) (Back f F own) (Lost f F) _
         (goes_from (ap (λ L. at js [] [] L (f ∷ F) (routine_body (layout_of p b) js body) G) (laid_entry b words (given.wide ∙ size)))
         (then_goes (emptied_ok b (entry words) Answer tt refl)
         (then_goes a.goes (goes_to (by_steps 1 refl) (ap (λ L. at js [] body_labels L (f ∷ F) code G) e))))) (let q = a.few in omega (arith, q))
@@ -213,7 +214,7 @@ module _ (p : Program) (deepest : ℕ) where
   abbrev pub CallOk : (M n f : ℕ) → Type 0
   CallOk M n f = (ks : List Kind) (F : List Frame) (K : List Label) (L : List Cell) (k : Instructions) (words : List Cell) (os : List Local) (σ : State) →
       GivenTo (routine_at p.routines f).parameters (waiting ks K L k ∷ F) words os → Sound p deepest ks F σ → σ.turns ≤ n →
-      Arrives (machine p deepest ks F) M 0 σ.turns (at ks (reverse words ++ []) K L F (does (Call (function_number f)) k) (beside_state p deepest ks F σ)) (Back (waiting ks K L k) F) (Lost (waiting ks K L k) F) ((spend >> mid_called p n f os) σ)
+      Arrives (machine p deepest ks F) M 0 σ.turns (at ks (reverse words ++ []) K L F (does (Call (function_number f)) k) (beside_state p deepest ks F σ)) (Back (waiting ks K L k) F σ.own) (Lost (waiting ks K L k) F) ((spend >> mid_called p n f os) σ)
 
   abbrev pub CallsOk : (M n : ℕ) → Type 0
   CallsOk M n = (f : ℕ) → f < length p.routines → CallOk M n f
@@ -270,7 +271,7 @@ module _ (p : Program) (deepest : ℕ) where
         GivenTo (routine_at p.routines f).parameters (waiting ks K L k ∷ F) words os → Sound p deepest ks F σ → σ.turns ≤ n → σ.own.room ≡ room →
         Arrives (machine p deepest ks F) M (routine_work (routine_at p.routines f)) σ.turns
         (cond (nat_lt (length F) deepest) (begins f ks F K L k words (beside_state p deepest ks F σ)) (Deep (beside_state p deepest ks F σ)))
-        (Back (waiting ks K L k) F) (Lost (waiting ks K L k) F)
+        (Back (waiting ks K L k) F σ.own) (Lost (waiting ks K L k) F)
         (entered_with room os (all_stepped p.texts (calls_of p) n (mid_called p n) (routine_at p.routines f).body) σ)
     pushed n f zero calls lt ks F K L k words os σ given s le e =
         let full = s.room in
@@ -289,15 +290,15 @@ module _ (p : Program) (deepest : ℕ) where
         let full = s.room in
         let fw = few f lt in
         let low : nat_lt (length F) deepest ≡ true = lt-ltb (length F) deepest (omega (arith, full, e)) in
-        first (machine p deepest ks F) M 0 (routine_work r) (routine_work r) σ.turns _ (begins f ks F K L k words (beside_state p deepest ks F σ)) (Back fr F) (Lost fr F) _
+        first (machine p deepest ks F) M 0 (routine_work r) (routine_work r) σ.turns _ (begins f ks F K L k words (beside_state p deepest ks F σ)) (Back fr F σ.own) (Lost fr F) _
         (record { it = ap (λ t. cond t (begins f ks F K L k words (beside_state p deepest ks F σ)) (Deep (beside_state p deepest ks F σ))) low }) (omega arith)
         (run_ok M n r.parameters fr F b refl σ.own s.room r.body (steps_ok p deepest r.parameters (fr ∷ F) b M n (λ x. exprs n calls r.parameters (fr ∷ F) b x) r.body) (routine_sorted p.routines f sorted lt) (omega arith) (omega arith) (omega arith) (omega (arith, fw)) words os σ room given (omega (arith, full, e)) s le)
 
     pub calls_ok : (n : ℕ) → CallsOk M n
     unfolding mid_called
     calls_ok zero f lt ks F K L k words os σ given s le =
-        turned (machine p deepest ks F) M σ.turns 0 0 0 σ _ _ (Back (waiting ks K L k) F) (Lost (waiting ks K L k) F) (mid_called p zero f os) refl (entered f ks F K L k words (beside_state p deepest ks F σ) lt given.wide) refl (let q = few f lt in omega (arith, q))
+        turned (machine p deepest ks F) M σ.turns 0 0 0 σ _ _ (Back (waiting ks K L k) F σ.own) (Lost (waiting ks K L k) F) (mid_called p zero f os) refl (entered f ks F K L k words (beside_state p deepest ks F σ) lt given.wide) refl (let q = few f lt in omega (arith, q))
         (λ m e. absurd (omega (arith, e, le)))
     calls_ok (suc n) f lt ks F K L k words os σ given s le =
-        turned (machine p deepest ks F) M σ.turns 0 (routine_work (routine_at p.routines f)) 0 σ _ _ (Back (waiting ks K L k) F) (Lost (waiting ks K L k) F) (mid_called p (suc n) f os) refl (entered f ks F K L k words (beside_state p deepest ks F σ) lt given.wide) refl (let q = few f lt in omega (arith, q))
+        turned (machine p deepest ks F) M σ.turns 0 (routine_work (routine_at p.routines f)) 0 σ _ _ (Back (waiting ks K L k) F σ.own) (Lost (waiting ks K L k) F) (mid_called p (suc n) f os) refl (entered f ks F K L k words (beside_state p deepest ks F σ) lt given.wide) refl (let q = few f lt in omega (arith, q))
         (λ m e. pushed n f σ.own.room (calls_ok n) lt ks F K L k words os (record σ { turns = m }) given (record { room = s.room; names = s.names; calm = s.calm }) (omega (arith, e, le)) refl)

@@ -66,3 +66,4 @@ pub mod Beginnings
 pub mod Records
 pub mod Mains
 pub mod Wholes
+pub mod Following

@@ -1,5 +1,5 @@
 -- `main` from where its names are made to its end, if reading and assignments do what they mean.
-use Rattle.std.proofs.Common.{◌≡◌, ℕ, zero, suc, ◌+◌, ◌*◌, ◌≤◌, Bool, true, false, List, [], ◌∷◌, length, Some, None, Option, refl, ap, ◌∙◌, arith}
+use Rattle.std.proofs.Common.{◌≡◌, ℕ, zero, suc, ◌+◌, ◌≤◌, Bool, true, false, List, [], ◌∷◌, Some, None, refl, ap, arith}
 use Rattle.std.specs.Prelude.{if◌then◌else◌}
 use Rattle.awk_state.specs.declared.table.Primitive.TheVariants as row
 use Rattle.wasm_types.specs.Syntax.{Instructions, Done}
@@ -7,15 +7,15 @@ use Rattle.wasm_types.specs.declared.instr.Simple.TheVariants.{Br}
 use Rattle.mid_code.specs.Mid.{Program, Code, Steps}
 use Rattle.mid_code.specs.MidMeaning.{mid_done, mid_called}
 use Rattle.mid_code.specs.ScriptRun.{first_assigned, records_done, part}
-use Rattle.mid_code.specs.ScriptState.{State, Stop, Faulted, OutOfTurns, TooDeep, Nexted, Exited, Returned, Outcome, Gives, Stops, Doing, ◌>>=◌, ◌>>◌, does, nothing, go_on}
+use Rattle.mid_code.specs.ScriptState.{State, Stop, Faulted, OutOfTurns, TooDeep, Nexted, Exited, Returned, Outcome, Gives, Stops, Doing, ◌>>=◌, ◌>>◌, does, nothing}
 use Rattle.mid_code.specs.Sorted.{calls_of, context_of, steps_sorted}
 use Rattle.value_machine.specs.Emission.{asked}
 use Rattle.value_machine.specs.Functions.{layout_of}
-use Rattle.value_machine.specs.Machine.{Conf, Over, Label, at, label, ending_at}
+use Rattle.value_machine.specs.Machine.{Conf, Label, at, label, ending_at}
 use Rattle.value_machine.specs.Places.{Bases, steps_room, steps_iterators, steps_arrays}
 use Rattle.value_machine.specs.Small.{does as instruction, ask_row}
-use Rattle.value_machine.specs.Statements.{part_done, first_part, last_part, records_read, steps_emitted}
-use Rattle.value_machine.proofs.Runs.{goes_from, then_goes, stays, first, then_on, there, within, weaker, Arrives, reaches_on, Onward}
+use Rattle.value_machine.specs.Statements.{part_done, first_part, last_part, records_read}
+use Rattle.value_machine.proofs.Runs.{goes_from, then_goes, stays, first, then_on, there, within, Arrives, reaches_on, Onward}
 use Rattle.value_machine.proofs.Locals.{Locals, laid}
 use Rattle.value_machine.proofs.Relation.{Away, fit_loose, fit_shared}
 use Rattle.value_machine.proofs.Pieces.{closes}

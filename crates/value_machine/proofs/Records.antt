@@ -1,5 +1,5 @@
 -- The records of the main input: each costs a turn, as does each assignment between them. What is assumed of reading and of assignments is said by `Reading`.
-use Rattle.std.proofs.Common.{◌≡◌, ℕ, zero, suc, ◌+◌, ◌*◌, ◌≤◌, Bool, true, false, List, [], ◌∷◌, length, Some, None, refl, sym, ap, ◌∙◌, arith}
+use Rattle.std.proofs.Common.{◌≡◌, ℕ, zero, suc, ◌+◌, ◌≤◌, true, false, List, [], ◌∷◌, Some, None, refl, ap, arith}
 use Rattle.std.specs.Prelude.{nat_eq}
 use Rattle.wasm_store.specs.Words.{flag}
 use Rattle.awk_state.specs.declared.answers.InputAnswer.{InputAnswer}
@@ -12,7 +12,7 @@ use Rattle.mid_code.specs.Mid.{Program, Steps}
 use Rattle.mid_code.specs.MidMeaning.{mid_done}
 use Rattle.mid_code.specs.Meaning.{assign_pending}
 use Rattle.mid_code.specs.ScriptRun.{for_record, on_input, records_done}
-use Rattle.mid_code.specs.ScriptState.{State, Stop, OutOfTurns, Outcome, Gives, Doing, ◌>>=◌, ◌>>◌, asks, nothing, stop, go_on}
+use Rattle.mid_code.specs.ScriptState.{State, OutOfTurns, Outcome, Doing, ◌>>◌, asks, nothing, stop}
 use Rattle.mid_code.specs.Sorted.{context_of, steps_sorted}
 use Rattle.value_machine.specs.Cells.{Bits}
 use Rattle.value_machine.specs.Emission.{pending_assigned}
@@ -21,8 +21,8 @@ use Rattle.value_machine.specs.ImportCalls.{input_code}
 use Rattle.value_machine.specs.Machine.{Conf, Label, at, label, ending_at, loops_walked}
 use Rattle.value_machine.specs.Places.{Bases, steps_room, steps_iterators, steps_arrays}
 use Rattle.value_machine.specs.Small.{does, ask_row, when, number_is, kept_code, n as number_at}
-use Rattle.value_machine.specs.Statements.{again, record_done, records_read}
-use Rattle.value_machine.proofs.Runs.{Goes, goes_from, goes_to, then_goes, by_steps, stays, first, then_on, then_step, there, turned, weaker, Arrives, Onward}
+use Rattle.value_machine.specs.Statements.{record_done, records_read}
+use Rattle.value_machine.proofs.Runs.{Goes, goes_from, goes_to, then_goes, by_steps, first, then_on, then_step, there, turned, weaker, Arrives}
 use Rattle.value_machine.proofs.Locals.{Locals, laid}
 use Rattle.value_machine.proofs.Relation.{Away, away_out, fit_turns}
 use Rattle.value_machine.proofs.Pieces.{number_is_ok}

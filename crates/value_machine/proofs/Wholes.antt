@@ -1,21 +1,18 @@
 -- Whole runs, from where the machine begins: the beginning of `main`, a job's fault, the names, and all that comes after them.
-use Rattle.std.proofs.Common.{◌≡◌, inl, ℕ, zero, suc, ◌+◌, ◌*◌, ◌≤◌, true, false, List, [], ◌∷◌, ◌++◌, length, Some, None, Option, pos, refl, sym, ap, ◌∙◌, subst, arith}
-use Rattle.std.specs.Prelude.{map}
+use Rattle.std.proofs.Common.{◌≡◌, inl, ℕ, zero, suc, ◌+◌, ◌≤◌, true, false, List, [], ◌∷◌, length, Some, None, Option, pos, refl, sym, ap, ◌∙◌, subst, arith}
 use Rattle.awk_values.specs.declared.fault.Fault.{Fault}
 use Rattle.awk_state.specs.Jobs.{fault_of_job}
-use Rattle.awk_state.specs.SharedState.{shared_after}
 use Rattle.awk_state.specs.Numbers.{Number}
 use Rattle.awk_state.specs.declared.table.Primitive.TheVariants as row
 use Rattle.wasm_types.specs.Syntax.{Instructions, Done}
-use Rattle.wasm_store.specs.declared.word.Word.TheVariants.{I32, I64}
+use Rattle.wasm_store.specs.declared.word.Word.TheVariants.{I64}
 use Rattle.mid_code.specs.Mid.{Kind, Boxed, Unboxed, Many, Program}
-use Rattle.mid_code.specs.MidMeaning.{mid_parts}
-use Rattle.mid_code.specs.ScriptRun.{Setting, unless, all_parts}
+use Rattle.mid_code.specs.ScriptRun.{Setting, unless}
 use Rattle.mid_code.specs.ScriptState.{State, Faulted, Doing, Stops, Gives}
 use Rattle.mid_code.specs.Sorted.{kinds_of, all_differ, announced_names}
 use Rattle.value_machine.specs.Cells.{Cell, Bits, is_owned, ended_name}
 use Rattle.value_machine.specs.Functions.{layout_of, main_bases, main_callee}
-use Rattle.value_machine.specs.Machine.{Conf, Label, at, label}
+use Rattle.value_machine.specs.Machine.{Label, at, label}
 use Rattle.value_machine.specs.Places.{Bases}
 use Rattle.value_machine.specs.Runs.{begun, first_globals, host_at_start}
 use Rattle.value_machine.specs.Small.{ask_row, kept_number, least}
