@@ -3,7 +3,6 @@ use Rattle.std.proofs.Common.{◌≡◌, inl, ℕ, suc, ◌+◌, true, false, Li
 use Rattle.std.specs.Prelude.{◌&&◌}
 use Rattle.std.proofs.lemmas.Bool.{and_parts}
 use Rattle.awk_values.specs.declared.fault.Fault.{Fault}
-use Rattle.awk_values.specs.declared.value.Value.{Value}
 use Rattle.awk_state.specs.InputRows.{getline_line_file_row}
 use Rattle.awk_state.specs.SharedState.{Inner, Shared, settles}
 use Rattle.awk_state.specs.Table.{meaning}

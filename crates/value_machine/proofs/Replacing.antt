@@ -3,7 +3,6 @@ use Rattle.std.proofs.Common.{◌≡◌, ℕ, suc, ◌+◌, Bool, true, false, L
 use Rattle.std.specs.Prelude.{is_some, ◌&&◌}
 use Rattle.std.proofs.lemmas.Bool.{and_parts}
 use Rattle.awk_values.specs.declared.fault.Fault.{Fault}
-use Rattle.awk_values.specs.declared.value.Value.{Value}
 use Rattle.awk_state.specs.Constants.{flag_number}
 use Rattle.awk_state.specs.Numbers.{Number}
 use Rattle.awk_state.specs.SharedState.{Inner, Shared, settles}
@@ -35,7 +34,7 @@ use Rattle.value_machine.proofs.HostCalls.{row_then, host_asked}
 use Rattle.value_machine.proofs.InputLaws.{TextThere, text_there}
 use Rattle.value_machine.proofs.Choosing.{well_left, well_right}
 use Rattle.value_machine.proofs.Receiving.{same_any, Received, storing_meant, replaced_ok}
-use Rattle.value_machine.proofs.Simulation.{work_of, layout, context, meant, Done, ExprOk, CodesOk}
+use Rattle.value_machine.proofs.Simulation.{work_of, layout, context, Done, ExprOk, CodesOk}
 
 -- once a row answered how many were replaced, the text is there
 text_after : (s : Shared) (r : Result (Inner × Number) Fault) (x : Number) → TextThere r → (settles s r).answer ≡ Ok x → is_some (settles s r).inner.substituted ≡ true
