@@ -41,6 +41,15 @@ use Rattle.value_machine.proofs.Exits.{exit_work, begin_work, begin_ok, exit_ok}
 abbrev pub routine_work : Routine → ℕ
 routine_work r = begin_work (routine_bases r) + (1 + (steps_work r.body + (exit_work (routine_bases r) + 3)))
 
+abbrev pub routines_work : List Routine → ℕ
+routines_work [] = 0
+routines_work (r ∷ rs) = suc (routine_work r) + routines_work rs
+
+pub routine_within : (rs : List Routine) (f : ℕ) → f < length rs → suc (routine_work (routine_at rs f)) ≤ routines_work rs
+routine_within [] f lt = absurd (omega (arith, lt))
+routine_within (r ∷ rs) zero lt = omega arith
+routine_within (r ∷ rs) (suc f) lt = let q = routine_within rs f (omega (arith, lt)) in omega (arith, q)
+
 -- Locals as a function is entered: what it is given, and zeros.
 
 abbrev pub entry : List Cell → Locals

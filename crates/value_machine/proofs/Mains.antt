@@ -61,8 +61,7 @@ module _ (p : Program) (deepest : ℕ) (b : Bases) (M n : ℕ) where
   ends_well w m c (Stops (Returned v) σ) none h = absurd h.holds.good
 
   -- what is assumed beside `Reading`: the assignments before BEGIN are made
-  pub record Starting : Type 0 where
-    pub work : ℕ
+  pub record Starting (work : ℕ) : Type 0 where
     pub made : (k : Instructions) (K : List Label) (l : Locals) (σ : State) → Starts p deepest [] [] b M n 0 K l σ →
         Arrives (machine p deepest [] []) M work σ.turns (at [] [] K (laid b l) [] (asked (layout_of p b) row.StartAssign zero zero k) (beside_state p deepest [] [] σ)) (λ u. On p deepest b M n k K) (Left p deepest b M n zero K) (first_assigned n σ)
 
@@ -70,7 +69,7 @@ module _ (p : Program) (deepest : ℕ) (b : Bases) (M n : ℕ) where
       (begin_room : steps_room p.begin ≤ b.temporaries) (begin_iterators : steps_iterators p.begin ≤ b.iterators) (begin_arrays : steps_arrays p.begin ≤ b.arrays)
       (items_room : steps_room p.items ≤ b.temporaries) (items_iterators : steps_iterators p.items ≤ b.iterators) (items_arrays : steps_arrays p.items ≤ b.arrays)
       (end_room : steps_room p.end ≤ b.temporaries) (end_iterators : steps_iterators p.end ≤ b.iterators) (end_arrays : steps_arrays p.end ≤ b.arrays) (one : suc zero ≤ b.temporaries)
-      (begin_few : steps_work p.begin ≤ M) (end_few : steps_work p.end ≤ M) (start : Starting) (r : Reading p deepest b M n) (items_few : (steps_work p.items + (record_work p deepest b M n + 3)) + (r.work + 30) ≤ M) where
+      (begin_few : steps_work p.begin ≤ M) (end_few : steps_work p.end ≤ M) (first_work read_work : ℕ) (start : Starting first_work) (r : Reading p deepest b M n read_work) (items_few : (steps_work p.items + (record_work p deepest b M n + 3)) + (read_work + 30) ≤ M) where
     done_plainly : (ss : Steps) → steps_sorted (context_of p []) false false ss ≡ true → Plainly (mid_done p n ss)
     done_plainly ss so = then_plainly (steps_plainly p.texts (calls_of p) n (mid_called p n) (called_plainly p n) (context_of p []) false ss so) (λ f. nothing_plainly)
 
@@ -88,7 +87,7 @@ module _ (p : Program) (deepest : ℕ) (b : Bases) (M n : ℕ) where
     records_or_not : (t : Bool) (K : List Label) (l : Locals) (σ : State) → Starts p deepest [] [] b M n 0 K l σ →
         Arrives (machine p deepest [] []) M 17 σ.turns (at [] [] K (laid b l) [] (if t then records_read (layout_of p b) p.items zero (instruction (Br 1) Done) else instruction (Br 1) Done) (beside_state p deepest [] [] σ)) (λ u. On p deepest b M n (instruction (Br 1) Done) K) (Away p deepest [] [] b zero K)
         ((if t then records_done n (mid_done p n p.items) else nothing) σ)
-    records_or_not true K l σ s = reading_ok p deepest b M n r p.items (done_ok p.items) (done_plainly p.items items_sorted) items_sorted items_room items_iterators items_arrays one items_few zero (instruction (Br 1) Done) K l σ s
+    records_or_not true K l σ s = reading_ok p deepest b M n read_work r p.items (done_ok p.items) (done_plainly p.items items_sorted) items_sorted items_room items_iterators items_arrays one items_few zero (instruction (Br 1) Done) K l σ s
     records_or_not false K l σ s = there (machine p deepest [] []) M 17 0 _ _ (tt {0}) σ (λ u. On p deepest b M n (instruction (Br 1) Done) K) (Away p deepest [] [] b zero K) stays (omega arith) (record { next = l; comes = refl; starts = s })
 
     -- BEGIN, and the records
@@ -115,7 +114,7 @@ module _ (p : Program) (deepest : ℕ) (b : Bases) (M n : ℕ) where
     main_meant = first_assigned n >>= λ d. part (mid_done p n p.begin >> records_meant) >>= λ e. does row.BeginEnd tt >>= λ f. part (mid_done p n p.end)
 
     abbrev pub main_work : ℕ
-    main_work = start.work + (((steps_work p.begin + 17) + (part_work p deepest b M n + 3)) + (1 + (steps_work p.end + (part_work p deepest b M n + 3))))
+    main_work = first_work + (((steps_work p.begin + 17) + (part_work p deepest b M n + 3)) + (1 + (steps_work p.end + (part_work p deepest b M n + 3))))
 
     abbrev pub main_code : Instructions
     main_code = asked (layout_of p b) row.StartAssign zero zero (part_done (layout_of p b) (first_part (layout_of p b) p) zero (ask_row row.BeginEnd (part_done (layout_of p b) (last_part (layout_of p b) p) zero Done)))
@@ -129,7 +128,7 @@ module _ (p : Program) (deepest : ℕ) (b : Bases) (M n : ℕ) where
         let Q = Left p deepest b M n zero K in
         let last = part_done (layout_of p b) (last_part (layout_of p b) p) zero Done in
         let k1 = part_done (layout_of p b) (first_part (layout_of p b) p) zero (ask_row row.BeginEnd last) in
-        then_on mach M start.work (w1 + (1 + w2)) main_work σ.turns _ (λ u. On p deepest b M n k1 K) (λ u. On p deepest b M n Done K) Q (first_assigned n σ) _ (omega arith) (start.made k1 K l σ s)
+        then_on mach M first_work (w1 + (1 + w2)) main_work σ.turns _ (λ u. On p deepest b M n k1 K) (λ u. On p deepest b M n Done K) Q (first_assigned n σ) _ (omega arith) (start.made k1 K l σ s)
         (λ u τ c le h.
         then_on mach M w1 (1 + w2) (w1 + (1 + w2)) τ.turns c (λ u. On p deepest b M n (ask_row row.BeginEnd last) K) (λ u. On p deepest b M n Done K) Q (part (mid_done p n p.begin >> records_meant) τ) _ (omega arith)
         (first mach M 0 w1 w1 τ.turns c _ (λ u. On p deepest b M n (ask_row row.BeginEnd last) K) Q (part (mid_done p n p.begin >> records_meant) τ) (record { it = h.comes }) (omega arith) (first_ok (ask_row row.BeginEnd last) K h.next τ h.starts))

@@ -47,17 +47,16 @@ module _ (p : Program) (deepest : ℕ) (b : Bases) (M n : ℕ) where
     pub after : After Pends a K next σ
 
   -- what is assumed: the main input is asked in at most 6 steps, beside the turns of assignments that the host carries out; and what is pending is assigned
-  pub record Reading : Type 1 where
+  pub record Reading (work : ℕ) : Type 1 where
     pub Pends : Locals → State → Type 0
-    pub work : ℕ
     pub spent : (l : Locals) (σ : State) (m : ℕ) → Pends l σ → Pends l (record σ { turns = m })
     pub asked : (d : ℕ) (k : Instructions) (K : List Label) (l : Locals) (σ : State) → Starts p deepest [] [] b M n 0 K l σ →
         Arrives (machine p deepest [] []) M 6 σ.turns (at [] [] K (laid b l) [] (ask_row row.NextMain (kept_code b true zero d k)) (beside_state p deepest [] [] σ)) (Answered Pends k K) (Away p deepest [] [] b d K) (asks row.NextMain tt σ)
     pub assigned : (d : ℕ) (k : Instructions) (K : List Label) (l : Locals) (σ : State) → loops_walked K ≡ 0 → σ.turns ≤ n → Pends l σ →
         Arrives (machine p deepest [] []) M work σ.turns (at [] [] K (laid b l) [] (pending_assigned (layout_of p b) zero k) (beside_state p deepest [] [] σ)) (λ u. On p deepest b M n k K) (Away p deepest [] [] b d K) (assign_pending σ)
 
-  module _ (r : Reading) (items : Steps) (ok : StepsOk p deepest [] [] b M n items) (plain : Plainly (mid_done p n items)) (so : steps_sorted (context_of p []) false false items ≡ true) (room : steps_room items ≤ b.temporaries) (iterators : steps_iterators items ≤ b.iterators)
-      (arrays : steps_arrays items ≤ b.arrays) (one : suc zero ≤ b.temporaries) (few : (steps_work items + (record_work p deepest b M n + 3)) + (r.work + 30) ≤ M) (d : ℕ) (k : Instructions) (K : List Label) where
+  module _ (work : ℕ) (r : Reading work) (items : Steps) (ok : StepsOk p deepest [] [] b M n items) (plain : Plainly (mid_done p n items)) (so : steps_sorted (context_of p []) false false items ≡ true) (room : steps_room items ≤ b.temporaries) (iterators : steps_iterators items ≤ b.iterators)
+      (arrays : steps_arrays items ≤ b.arrays) (one : suc zero ≤ b.temporaries) (few : (steps_work items + (record_work p deepest b M n + 3)) + (work + 30) ≤ M) (d : ℕ) (k : Instructions) (K : List Label) where
     abbrev pending_code : Instructions
     pending_code = pending_assigned (layout_of p b) zero (does (Br 1) Done)
 
@@ -134,7 +133,7 @@ module _ (p : Program) (deepest : ℕ) (b : Bases) (M n : ℕ) where
         (λ m e. pends h.next m e (r.spent h.next σ m h.after))
 
     abbrev round_work : ℕ
-    round_work = (steps_work items + (record_work p deepest b M n + 3)) + (r.work + 17)
+    round_work = (steps_work items + (record_work p deepest b M n + 3)) + (work + 17)
 
     -- at most m rounds
     records_ok : loops_walked K ≡ 0 → (m : ℕ) (σ : State) (c : Conf) → σ.turns ≤ m → σ.turns ≤ n → Round σ c → Arrives (machine p deepest [] []) M 16 σ.turns c (λ u. On p deepest b M n k K) (Away p deepest [] [] b d K) (rounds m σ)
@@ -157,8 +156,8 @@ module _ (p : Program) (deepest : ℕ) (b : Bases) (M n : ℕ) where
         (record_ok p deepest b M n items ok (suc (suc d)) (does (Br 1) Done) (label [] None else_code ∷ inside) l (record τ { turns = j }) plain so room iterators arrays (omega (arith, few)) (record { fit = s.fit; walked = s.walked; walks = s.walks; loops = s.loops; turns = s.turns; parameters = s.parameters })) walks)
         (λ u τ1 c2 le2 h2. records_ok walks m τ1 c2 (omega (arith, le, le1, e, le2)) (omega (arith, len, le1, e, le2)) h2))
         (λ l j e s.
-        then_on (machine p deepest [] []) M (r.work + 1) 16 round_work j _ (λ u. Round) (λ u. On p deepest b M n k K) (Away p deepest [] [] b d K) (assign_pending (record τ { turns = j })) (λ u. rounds m) (omega arith)
-        (again_from (label [] None Done) m r.work (record τ { turns = j }) (at [] [] (label [] None Done ∷ inside) (laid b l) [] pending_code (beside_state p deepest [] [] τ)) j (assign_pending (record τ { turns = j })) (r.assigned (suc (suc d)) (does (Br 1) Done) (label [] None Done ∷ inside) l (record τ { turns = j }) walks (omega (arith, len, le1, e)) s) walks)
+        then_on (machine p deepest [] []) M (work + 1) 16 round_work j _ (λ u. Round) (λ u. On p deepest b M n k K) (Away p deepest [] [] b d K) (assign_pending (record τ { turns = j })) (λ u. rounds m) (omega arith)
+        (again_from (label [] None Done) m work (record τ { turns = j }) (at [] [] (label [] None Done ∷ inside) (laid b l) [] pending_code (beside_state p deepest [] [] τ)) j (assign_pending (record τ { turns = j })) (r.assigned (suc (suc d)) (does (Br 1) Done) (label [] None Done ∷ inside) l (record τ { turns = j }) walks (omega (arith, len, le1, e)) s) walks)
         (λ u τ1 c2 le2 h2. records_ok walks m τ1 c2 (omega (arith, le, le1, e, le2)) (omega (arith, len, le1, e, le2)) h2))))
 
     -- the records of the main input
