@@ -46,7 +46,7 @@ use Rattle.value_machine.proofs.Written.{fit_global}
 use Rattle.value_machine.proofs.Simulation.{layout}
 
 -- a code of the input fits 64 bits, and is none of a fault
-codes_fit : (x : InputAnswer) → (cast_unsigned w64 (cast_signed w32 (input_code x)) ≡ input_code x) × (nat_eq (input_code x) (2 ^ 64 - 1) ≡ false)
+pub codes_fit : (x : InputAnswer) → (cast_unsigned w64 (cast_signed w32 (input_code x)) ≡ input_code x) × (nat_eq (input_code x) (2 ^ 64 - 1) ≡ false)
 codes_fit input.End = (refl, refl)
 codes_fit input.Read = (refl, refl)
 codes_fit input.Pending = (refl, refl)

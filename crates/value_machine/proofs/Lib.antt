@@ -62,6 +62,8 @@ pub mod Starting
 pub mod Calling
 pub mod Induction
 pub mod Recursion
+pub mod MainInput
+pub mod Whole
 pub mod Beginnings
 pub mod Records
 pub mod Mains

@@ -1,13 +1,13 @@
--- Calls of functions do what they mean, whatever is nested in them; so all expressions and all steps do.
+-- All expressions do what they mean, if calls of functions do, and a turn pays for an assignment of the command line.
 use Rattle.std.proofs.Common.{◌≡◌, ℕ, zero, suc, ◌+◌, ◌*◌, ◌<◌, ◌≤◌, true, false, List, [], ◌∷◌, length, refl, sym, ap, ◌∙◌, arith, subst}
 use Rattle.std.specs.Prelude.{get_or, map}
 use Rattle.awk_values.specs.declared.value.Value.{Value}
 use Rattle.awk_values.specs.declared.value.Value.TheVariants.{Uninit}
 use Rattle.wasm_types.specs.Syntax.{Instructions}
-use Rattle.mid_code.specs.Mid.{Kind, Boxed, Unboxed, Many, Program, Routine, Code, Steps, parameters_at}
+use Rattle.mid_code.specs.Mid.{Kind, Boxed, Unboxed, Many, Program, Routine, Code, parameters_at}
 use Rattle.mid_code.specs.MidMeaning.{mid_called, routine_at, all_stepped}
 use Rattle.mid_code.specs.ScriptState.{State, Own, Local, Scalar, Stop, Faulted, OutOfTurns, TooDeep, Nexted, Exited, Returned, Outcome, Gives, Stops, Doing, go_on, spent}
-use Rattle.mid_code.specs.Sorted.{has_kind, same_kind, calls_of, kinds_of, routines_sorted}
+use Rattle.mid_code.specs.Sorted.{has_kind, same_kind, calls_of, kinds_of}
 use Rattle.mid_code.specs.Statements.{Flow, returned, entered_with}
 use Rattle.value_machine.specs.Cells.{Cell, Gone}
 use Rattle.value_machine.specs.Machine.{Conf, Label, Frame}
@@ -18,39 +18,37 @@ use Rattle.value_machine.proofs.Answers.{machine}
 use Rattle.value_machine.proofs.Simulation.{ExprOk}
 use Rattle.value_machine.proofs.Calling.{GivenTo, CameBack, LeftCall, NoReturn, CallsDo}
 use Rattle.value_machine.proofs.Functions as function
-use Rattle.value_machine.proofs.Functions.{CallsOk, Back, Lost, routine_work, calls_ok}
-use Rattle.value_machine.proofs.StatementForms.{StepsOk}
-use Rattle.value_machine.proofs.Stepping.{steps_ok}
+use Rattle.value_machine.proofs.Functions.{CallsOk, Back, Lost}
 use Rattle.value_machine.proofs.Induction.{expr_ok}
 
--- ---- what a call leaves: the caller's own as it was, and no `return` that goes on
+-- ---- no `return` comes out of a call
 
-abbrev Keeps : Own → Outcome Value → Type 0
-Keeps own (Gives v σ) = σ.own ≡ own
-Keeps own (Stops (Returned v) σ) = ⊥
-Keeps own (Stops why σ) = Unit {0}
+abbrev Ends : Outcome Value → Type 0
+Ends (Gives v σ) = Unit {0}
+Ends (Stops (Returned v) σ) = ⊥
+Ends (Stops why σ) = Unit {0}
 
-returned_keeps : (own : Own) (r : Outcome Flow) → Keeps own (returned own r)
-returned_keeps own (Gives flow σ) = refl
-returned_keeps own (Stops (Returned x) σ) = refl
-returned_keeps own (Stops (Faulted x) σ) = tt
-returned_keeps own (Stops OutOfTurns σ) = tt
-returned_keeps own (Stops TooDeep σ) = tt
-returned_keeps own (Stops Nexted σ) = tt
-returned_keeps own (Stops Exited σ) = tt
+returned_ends : (own : Own) (r : Outcome Flow) → Ends (returned own r)
+returned_ends own (Gives flow σ) = tt
+returned_ends own (Stops (Returned x) σ) = tt
+returned_ends own (Stops (Faulted x) σ) = tt
+returned_ends own (Stops OutOfTurns σ) = tt
+returned_ends own (Stops TooDeep σ) = tt
+returned_ends own (Stops Nexted σ) = tt
+returned_ends own (Stops Exited σ) = tt
 
-entered_keeps : (room : ℕ) (os : List Local) (body : Doing Flow) (σ : State) → Keeps σ.own (entered_with room os body σ)
-entered_keeps zero os body σ = tt
-entered_keeps (suc room) os body σ = returned_keeps σ.own (body (record σ { own = record { locals = os; room = room } }))
+entered_ends : (room : ℕ) (os : List Local) (body : Doing Flow) (σ : State) → Ends (entered_with room os body σ)
+entered_ends zero os body σ = tt
+entered_ends (suc room) os body σ = returned_ends σ.own (body (record σ { own = record { locals = os; room = room } }))
 
-called_keeps : (p : Program) (n f : ℕ) (os : List Local) (σ : State) → Keeps σ.own (mid_called p n f os σ)
+called_ends : (p : Program) (n f : ℕ) (os : List Local) (σ : State) → Ends (mid_called p n f os σ)
 unfolding mid_called
-called_keeps p zero f os σ = tt
-called_keeps p (suc n) f os σ = entered_keeps σ.own.room os (all_stepped p.texts (calls_of p) n (mid_called p n) (routine_at p.routines f).body) σ
+called_ends p zero f os σ = tt
+called_ends p (suc n) f os σ = entered_ends σ.own.room os (all_stepped p.texts (calls_of p) n (mid_called p n) (routine_at p.routines f).body) σ
 
-spent_keeps : (p : Program) (n f : ℕ) (os : List Local) (m : ℕ) (σ : State) → Keeps σ.own (go_on (spent m σ) (λ x. mid_called p n f os))
-spent_keeps p n f os zero σ = tt
-spent_keeps p n f os (suc m) σ = called_keeps p n f os (record σ { turns = m })
+spent_ends : (p : Program) (n f : ℕ) (os : List Local) (m : ℕ) (σ : State) → Ends (go_on (spent m σ) (λ x. mid_called p n f os))
+spent_ends p n f os zero σ = tt
+spent_ends p n f os (suc m) σ = called_ends p n f os (record σ { turns = m })
 
 -- ---- kinds and parameters
 
@@ -106,11 +104,11 @@ module _ (p : Program) (deepest : ℕ) where
         Reaches (machine p deepest ks F) M w l c τ.turns (Lost p deepest (function.waiting ks K L k) F why τ) → Reaches (machine p deepest ks F) M w l c τ.turns (LeftCall p deepest ks F b M n K L k why τ)
     lost K L k why none τ w l c r = record { conf = r.conf; steps = r.steps; goes = r.goes; cost = r.cost; holds = let q = r.holds in record { comes = q.comes; none = none; after = q.after } }
 
-    came_back : (K : List Label) (L : List Cell) (k : Instructions) (σ : State) (w l : ℕ) (c : Conf) (r : Outcome Value) → Keeps σ.own r →
-        Arrives (machine p deepest ks F) M w l c (Back p deepest (function.waiting ks K L k) F) (Lost p deepest (function.waiting ks K L k) F) r →
+    came_back : (K : List Label) (L : List Cell) (k : Instructions) (σ : State) (w l : ℕ) (c : Conf) (r : Outcome Value) → Ends r →
+        Arrives (machine p deepest ks F) M w l c (Back p deepest (function.waiting ks K L k) F σ.own) (Lost p deepest (function.waiting ks K L k) F) r →
         Arrives (machine p deepest ks F) M w l c (CameBack p deepest ks F b M n K L k σ) (LeftCall p deepest ks F b M n K L k) r
     came_back K L k σ w l c (Gives v τ) e a =
-        record { conf = a.conf; steps = a.steps; goes = a.goes; cost = a.cost; holds = let q = a.holds in record { comes = q.comes; sound = q.sound; own = e } }
+        record { conf = a.conf; steps = a.steps; goes = a.goes; cost = a.cost; holds = let q = a.holds in record { comes = q.comes; sound = q.sound; own = q.own } }
     came_back K L k σ w l c (Stops (Returned v) τ) e a = absurd e
     came_back K L k σ w l c (Stops OutOfTurns τ) e a = a
     came_back K L k σ w l c (Stops (Faulted x) τ) e a = lost K L k (Faulted x) tt τ w l c a
@@ -121,21 +119,8 @@ module _ (p : Program) (deepest : ℕ) where
     calls_do : CallsOk p deepest M n → CallsDo p deepest ks F b M n
     calls_do calls f own words K L rest σ lt g s le =
         within (machine p deepest ks F) M 0 20 σ.turns _ (CameBack p deepest ks F b M n K L rest σ) (LeftCall p deepest ks F b M n K L rest) (go_on (spent σ.turns σ) (λ x. mid_called p n f own)) (omega arith)
-        (came_back K L rest σ 0 σ.turns _ (go_on (spent σ.turns σ) (λ x. mid_called p n f own)) (spent_keeps p n f own σ.turns σ)
+        (came_back K L rest σ 0 σ.turns _ (go_on (spent σ.turns σ) (λ x. mid_called p n f own)) (spent_ends p n f own σ.turns σ)
         (calls f lt ks F K L rest words own σ (given (routine_at p.routines f).parameters (parameters_at (calls_of p) f) (function.waiting ks K L rest ∷ F) own words (parameters_of p.routines f) g) s le))
 
--- ---- all of them, where a turn pays for a function, and for an assignment of the command line
-
-module _ (p : Program) (deepest M : ℕ) (sorted : routines_sorted p p.routines ≡ true) (few : (f : ℕ) → f < length p.routines → suc (routine_work (routine_at p.routines f)) ≤ M)
-    (paid : 40 + 4 * length (kinds_of p.globals) ≤ M) where
-  exprs : (n : ℕ) → CallsOk p deepest M n → (ks : List Kind) (F : List Frame) (b : Bases) (e : Code) → ExprOk p deepest ks F b M n e
-  exprs n calls ks F b e = expr_ok p deepest ks F b M n (record { paid = paid; calls = calls_do p deepest ks F b M n calls }) e
-
-  pub every_call : (n : ℕ) → CallsOk p deepest M n
-  every_call n = calls_ok p deepest M sorted few exprs n
-
-  pub every_expr : (n : ℕ) (ks : List Kind) (F : List Frame) (b : Bases) (e : Code) → ExprOk p deepest ks F b M n e
-  every_expr n ks F b e = exprs n (every_call n) ks F b e
-
-  pub every_steps : (n : ℕ) (ks : List Kind) (F : List Frame) (b : Bases) (ss : Steps) → StepsOk p deepest ks F b M n ss
-  every_steps n ks F b ss = steps_ok p deepest ks F b M n (λ e. every_expr n ks F b e) ss
+pub exprs_do : (p : Program) (M deepest n : ℕ) → 40 + 4 * length (kinds_of p.globals) ≤ M → CallsOk p deepest M n → (ks : List Kind) (F : List Frame) (b : Bases) (e : Code) → ExprOk p deepest ks F b M n e
+exprs_do p M deepest n paid calls ks F b e = expr_ok p deepest ks F b M n (record { paid = paid; calls = calls_do p deepest ks F b M n calls }) e

@@ -1,4 +1,4 @@
--- What is to be proved of emitted code: the machine over values shows what a program does, for every setting and number of turns, and with bounded work for each turn.
+-- What emitted code gives: the machine over values shows what a program does, for every setting and number of turns, and with bounded work for each turn.
 use Rattle.std.specs.Prelude.{◌≡◌, ℕ, ◌+◌, ◌*◌, ◌≤◌, Some}
 use Rattle.mid_code.specs.Mid.{Program}
 use Rattle.mid_code.specs.MidMeaning.{mid_run_in}

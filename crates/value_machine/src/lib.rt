@@ -1,7 +1,8 @@
-//! The code that a module is to have for mid code, and a machine that runs it on values in place of handles. Definitions alone, apart from the
-//! imports' names.
+//! The code that a module is to have for mid code, and a machine that runs it on values in place of handles: definitions, and the law that the machine shows
+//! what programs do.
 #![tactic(auto)]
 
 mod import;
+pub mod laws;
 
 pub use import::{Import, Listing};

@@ -1,0 +1,5 @@
+use Rattle.value_machine.proofs.Whole.{code_follows}
+use Rattle.value_machine.proofs.laws.code_follows.Goals as goal
+
+pub returns : goal.returns
+returns c = code_follows
