@@ -106,7 +106,7 @@ module _ (name : List ℕ) (xs : List NamedReader) (at : ℕ) (found : reader_pl
       ap (phase_named name) (first_set (is_reader name) xs at spot other)
       ∙ phase_at name spot.front other spot.back spot.none (ap (same_text name) (e ∙ ap (λ (r : NamedReader). r.name) item_is) ∙ spot.passes)
 
-  handles_next : (other : NamedReader) → other.name ≡ d.name → other.reader.id ≡ d.reader.id → map reader_handle (set xs at other) ≡ map reader_handle xs
+  pub handles_next : (other : NamedReader) → other.name ≡ d.name → other.reader.id ≡ d.reader.id → map reader_handle (set xs at other) ≡ map reader_handle xs
   handles_next other e f =
       let handle : reader_handle other ≡ reader_handle spot.item = ap (λ n. (n, other.reader.id)) e ∙ ap (λ k. (d.name, k)) f ∙ ap reader_handle item_is in
       ap (map reader_handle) (first_set (is_reader name) xs at spot other) ∙ same_handles spot.front spot.item other spot.back handle ∙ sym (ap (map reader_handle) spot.is)

@@ -131,8 +131,15 @@ pub none_more : (k : ℕ) (w : NamedWriter) (ws : List NamedWriter) → k ≢ w.
 none_more k w [] apart h = (apart, tt)
 none_more k w (x ∷ xs) apart h = (h.0, none_more k w xs apart h.1)
 
+pub none_but_last : (k : ℕ) (w : NamedWriter) (ws : List NamedWriter) → IsNone k (map writer_handle (ws ++ w ∷ [])) → (k ≢ w.id) × IsNone k (map writer_handle ws)
+none_but_last k w [] h = (h.0, tt)
+none_but_last k w (x ∷ xs) h = let rest = none_but_last k w xs h.1 in (rest.0, (h.0, rest.1))
+
 pub kind_stays : (kind : Kind) (id k : ℕ) (kinds after : ℕ → Kind) → Opens kind id kinds after → kinds k ≢ Closed → after k ≡ kinds k
 kind_stays kind id k kinds after o was = ap (λ (f : ℕ → Kind). f k) o.opened ∙ ap (λ b. cond b kind (kinds k)) (ne_eqb k id (other_number kinds k id o.was_closed was))
+
+pub was_kind : (kind : Kind) (id k : ℕ) (kinds after : ℕ → Kind) → Opens kind id kinds after → k ≢ id → kinds k ≡ after k
+was_kind kind id k kinds after o apart = sym (ap (λ (f : ℕ → Kind). f k) o.opened ∙ ap (λ b. cond b kind (kinds k)) (ne_eqb k id apart))
 
 -- What the definition says of a file that is opened.
 
