@@ -1,10 +1,10 @@
 -- A file is closed: what stays open.
-use Rattle.std.proofs.Common.{◌≡◌, ◌≢◌, ℕ, suc, ◌+◌, ◌<◌, ◌==◌, List, [], ◌∷◌, ◌++◌, map, filter, not, get_or, length, take, drop, Option, Some, None, cond, if◌then◌else◌, Bool, true, false, ◌||◌, refl, sym, ap, ◌∙◌, arith, subst}
+use Rattle.std.proofs.Common.{◌≡◌, ◌≢◌, ℕ, ◌<◌, List, [], ◌∷◌, ◌++◌, map, filter, not, get_or, length, Option, Some, cond, if◌then◌else◌, Bool, true, false, ◌||◌, refl, sym, ap, ◌∙◌, subst}
 use Rattle.std.proofs.lemmas.Bool.{eq-eqb, ne_eqb}
 use Rattle.std.proofs.lemmas.List.{map-append}
 use Rattle.std.specs.List.{remove}
 use Rattle.awk_values.specs.declared.value.Value.TheVariants.{Text}
-use Rattle.world_core.specs.WorldState.{State, Source, Target}
+use Rattle.world_core.specs.WorldState.{State, Source}
 use Rattle.world_core.specs.Calls.{Kind, Closed, Closes, Reading, Writing, set_kind}
 use Rattle.awk_state.specs.Texts.{same_text}
 use Rattle.awk_state.specs.InputRows.{close_row, is_reading, reader_named, without_reader, without_writer}
@@ -18,7 +18,7 @@ use Rattle.host_streams.specs.Readers.{left}
 use Rattle.host_streams.specs.OpenFiles.{reader_handle, writer_handle, IsApart, IsNone, AreOpen, WritersGo, names_of, reader_names, readers_beside, readers_in, is_reader, is_writer, reader_place, writer_place, writers_beside}
 use Rattle.host_streams.specs.Outputs.{IsOf}
 use Rattle.host_streams.specs.Closing.{ClosesBy}
-use Rattle.host_streams.proofs.Places.{AllFail, First, first, all_fail, first_item}
+use Rattle.host_streams.proofs.Places.{AllFail, First, first, first_item}
 use Rattle.host_streams.proofs.Held.{same_name}
 
 abbrev pub Handle : Type 0

@@ -1,17 +1,13 @@
 -- Which files are open for reading after a call that reads one.
-use Rattle.std.proofs.Common.{◌≡◌, ◌≢◌, ℕ, ◌+◌, List, [], ◌∷◌, ◌++◌, map, filter, not, set, get_or, length, Option, Some, None, Result, Ok, Err, cond, if◌then◌else◌, Bool, true, false, refl, sym, ap, ◌∙◌, subst, inl, inr, ◌⊎◌}
+use Rattle.std.proofs.Common.{◌≡◌, ◌≢◌, ℕ, List, [], ◌∷◌, ◌++◌, map, not, set, get_or, Some, None, Ok, Err, cond, Bool, true, false, refl, sym, ap, ◌∙◌}
 use Rattle.std.proofs.lemmas.Bool.{false≢true}
 use Rattle.std.proofs.lemmas.List.{map-append}
 use Rattle.awk_values.specs.declared.fault.Stop.{Stop}
 use Rattle.awk_values.specs.declared.fault.Stop.TheVariants.{Fault as IsFault, NoMemory}
 use Rattle.awk_state.specs.Texts.{same_text}
 use Rattle.awk_state.specs.OutputRows.{is_writing}
-use Rattle.host_streams.specs.declared.reader.FileNext.{FileNext}
-use Rattle.host_streams.specs.declared.reader.FileNext.TheVariants.{Record, End, Failed}
-use Rattle.host_streams.specs.declared.reader.Phase.{Phase}
 use Rattle.host_streams.specs.declared.streams.NamedReader.{NamedReader}
-use Rattle.host_streams.specs.Readers.{NextPhase, OnlyLimit}
-use Rattle.host_streams.specs.OpenFiles.{IsAdded, IsNone, OpensReader, StartsReader, is_reader, phase_named, reader_handle, reader_names, reader_place, readers_beside}
+use Rattle.host_streams.specs.OpenFiles.{IsAdded, IsNone, OpensReader, is_reader, reader_handle, reader_names, reader_place, readers_beside}
 use Rattle.host_streams.proofs.Places.{AllFail, First, all_fail, first, first_item, first_set}
 use Rattle.host_streams.proofs.Held.{name_itself}
 

@@ -1,23 +1,17 @@
 -- Files that are written to, and the definition of printing.
-use Rattle.std.proofs.Common.{◌≡◌, ◌≢◌, ℕ, zero, suc, ◌+◌, ◌<◌, ◌≤◌, ◌==◌, List, [], ◌∷◌, ◌++◌, map, get_or, length, take, Option, Some, None, Result, Ok, Err, OnErr, OnOk, cond, if◌then◌else◌, Bool, true, false, refl, sym, ap, ◌∙◌, arith, subst}
-use Rattle.std.proofs.Math.Path.{fun_ext}
-use Rattle.std.proofs.lemmas.List.{length-map}
-use Rattle.std.proofs.lemmas.Bool.{eq-eqb, ne_eqb, eqb-true, le-leb, lt-leb}
+use Rattle.std.proofs.Common.{◌≡◌, ◌≢◌, ℕ, suc, ◌<◌, List, [], ◌∷◌, ◌++◌, map, get_or, take, Some, None, Result, Ok, Err, OnErr, OnOk, cond, if◌then◌else◌, Bool, true, false, refl, sym, ap, ◌∙◌, subst}
+use Rattle.std.proofs.lemmas.Bool.{eq-eqb, ne_eqb}
 use Rattle.awk_values.specs.declared.fault.Fault.{Fault}
-use Rattle.awk_values.specs.declared.fault.Fault.TheVariants.{OpenOutput, TooManyStreams}
 use Rattle.awk_values.specs.declared.fault.Stop.{Stop}
 use Rattle.awk_values.specs.declared.fault.Stop.TheVariants.{Fault as IsFault, NoMemory}
-use Rattle.world_core.specs.WorldState.{State, Source, Named, Standard, Open, Outside, Target, after}
-use Rattle.world_core.specs.Calls.{Kind, Closed, Closes, Reading, Writing, Opens, OpensWriter, set_kind}
+use Rattle.world_core.specs.WorldState.{State, Named, Standard, Open, Outside, Target, after}
+use Rattle.world_core.specs.Calls.{Kind, Closed, Reading, Writing, Opens, OpensWriter, set_kind}
 use Rattle.awk_state.specs.SharedState.{Shared, Does, Inner}
-use Rattle.awk_state.specs.OutputRows.{has_room, is_writing, kept_open, opened_if, streams, then_written, written, written_by}
-use Rattle.host_streams.specs.declared.streams.NamedReader.{NamedReader}
+use Rattle.awk_state.specs.OutputRows.{has_room, is_writing, kept_open, opened_if, then_written, written, written_by}
 use Rattle.host_streams.specs.declared.streams.NamedWriter.{NamedWriter}
-use Rattle.host_streams.specs.declared.streams.Streams.{Streams}
-use Rattle.host_streams.specs.Readers.{left}
-use Rattle.host_streams.specs.OpenFiles.{reader_handle, writer_handle, IsApart, IsNone, AreOpen, WritersGo, names_of, readers_in, is_writer, writer_place}
+use Rattle.host_streams.specs.OpenFiles.{writer_handle, IsApart, IsNone, AreOpen, WritersGo, names_of, is_writer, writer_place}
 use Rattle.host_streams.specs.Puts.{PutsBy, Spares}
-use Rattle.host_streams.specs.Outputs.{IsOf, PutsIs, with_writer}
+use Rattle.host_streams.specs.Outputs.{PutsIs, with_writer}
 use Rattle.host_streams.proofs.Places.{AllFail, First, first, all_fail, first_item}
 use Rattle.host_streams.proofs.Held.{other_name, same_name, not_standard, still_open}
 

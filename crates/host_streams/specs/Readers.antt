@@ -3,7 +3,6 @@ use Rattle.std.specs.Prelude.{◌≡◌, ◌≢◌, ℕ, ◌+◌, ◌-◌, ◌%�
 use Rattle.awk_values.specs.declared.fault.Fault.TheVariants.{TextLimit}
 use Rattle.awk_values.specs.declared.fault.Stop.{Stop}
 use Rattle.awk_values.specs.declared.fault.Stop.TheVariants.{Fault as IsFault, NoMemory as OutOfMemory}
-use Rattle.world_core.specs.declared.world.Ending.{Ending}
 use Rattle.world_core.specs.declared.world.Ending.TheVariants.{End as IsEnd, Fails as IsFailure}
 use Rattle.world_core.specs.declared.world.WorldFault.{WorldFault}
 use Rattle.world_core.specs.declared.world.WorldFault.TheVariants.{Failed as DeviceFailed, NoMemory}
@@ -11,7 +10,6 @@ use Rattle.world_core.specs.WorldState.{State, Source}
 use Rattle.awk_state.specs.Records.{first_record}
 use Rattle.awk_state.specs.Records.{Record as GotRecord, AtEnd as GotEnd, Broken as GotFailure}
 use Rattle.host_streams.specs.Looks.{IsScanned}
-use Rattle.host_streams.specs.declared.look.Known.{Known}
 use Rattle.host_streams.specs.declared.reader.Phase.{Phase}
 use Rattle.host_streams.specs.declared.reader.Phase.TheVariants.{Open, Ended, Broken}
 use Rattle.host_streams.specs.declared.reader.Reader.{Reader}

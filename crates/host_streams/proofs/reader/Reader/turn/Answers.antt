@@ -1,4 +1,4 @@
-use Rattle.std.proofs.Common.{◌≡◌, ◌∙◌, ◌++◌, refl, ap, sym, subst, slice_range, List, ℕ, Bool, true, Ok}
+use Rattle.std.proofs.Common.{◌≡◌, ◌∙◌, refl, ap, sym, subst, slice_range, List, ℕ, Bool, true, Ok}
 use Rattle.std.proofs.lemmas.List.{drop-drop}
 use Rattle.world_core.specs.WorldState.{Source}
 use Rattle.host_streams.specs.Looks.{IsThere, IsLong, IsOpen}

@@ -1,4 +1,4 @@
-use Rattle.std.proofs.Common.{◌≡◌, ◌∙◌, sym, ap}
+use Rattle.std.proofs.Common.{◌∙◌, sym, ap}
 use Rattle.host_streams.specs.OpenFiles.{reader_handle, reader_place, is_reader}
 use Rattle.host_streams.proofs.Places.{all_fail}
 use Rattle.host_streams.proofs.Closed.{beside_same, reader_kept, reader_was, shut_apart, shut_stays, in_same, names_fail, names_same, reader_apart, reader_go, reader_held, reader_names_left, reader_none, reader_open, reader_own, reader_there, reader_told}

@@ -1,4 +1,4 @@
-use Rattle.std.proofs.Common.{◌≡◌, ◌∙◌, sym, ap}
+use Rattle.std.proofs.Common.{◌∙◌, sym, ap}
 use Rattle.host_streams.specs.OpenFiles.{writer_handle, writer_place, is_writer}
 use Rattle.host_streams.proofs.Places.{all_fail}
 use Rattle.host_streams.proofs.Closed.{beside_same, writer_kept, writer_was, shut_apart, shut_stays, names_fail, names_same, readers_stay, writer_apart, writer_go, writer_held, writer_names_left, writer_none, writer_opened, writer_own, writer_there}

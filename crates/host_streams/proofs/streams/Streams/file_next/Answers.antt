@@ -1,4 +1,4 @@
-use Rattle.std.proofs.Common.{◌≡◌, ◌∙◌, sym, ap}
+use Rattle.std.proofs.Common.{◌∙◌, sym, ap}
 use Rattle.host_streams.specs.OpenFiles.{reader_place}
 use Rattle.host_streams.proofs.Opened.{is_missing, name_there}
 use Rattle.host_streams.proofs.Held.{missing_named, none_failed, phase_missing}

@@ -1,9 +1,6 @@
-use Rattle.std.proofs.Common.{◌≡◌, ap, refl, subst, sym}
-use Rattle.world_core.specs.Calls.{Kind, Reading}
-use Rattle.host_streams.specs.declared.reader.Phase.{Phase}
+use Rattle.std.proofs.Common.{ap, refl, subst, sym}
 use Rattle.host_streams.specs.declared.streams.NamedReader.{NamedReader}
-use Rattle.host_streams.specs.Readers.{NextCounts}
-use Rattle.host_streams.specs.OpenFiles.{reader_handle, writer_handle, AreOpen, IsNone}
+use Rattle.host_streams.specs.OpenFiles.{IsNone}
 use Rattle.host_streams.proofs.Held.{handles_next, open_next, phase_after, phase_next, named_next, held_next, told_next, go_same, apart_next, none_next}
 use Rattle.host_streams.proofs.Opened.{beside_next}
 use Rattle.host_streams.proofs.streams.Streams.next_at.Goals as goal

@@ -1,4 +1,4 @@
-use Rattle.std.proofs.Common.{◌≡◌, ◌∙◌, sym, ap}
+use Rattle.std.proofs.Common.{◌∙◌, sym, ap}
 use Rattle.awk_state.specs.OutputRows.{is_writing}
 use Rattle.host_streams.specs.OpenFiles.{reader_names}
 use Rattle.host_streams.proofs.Opened.{none_there, not_added, not_opened}

@@ -1,9 +1,9 @@
-use Rattle.std.proofs.Common.{◌≡◌, ◌∙◌, ◌++◌, ◌∷◌, [], ◌<◌, ◌+◌, sym, ap, subst, refl, List, ℕ, Some, Ok, length, arith}
+use Rattle.std.proofs.Common.{◌≡◌, ◌∙◌, ◌++◌, ◌∷◌, [], ◌<◌, ◌+◌, sym, ap, subst, List, Some, length, arith}
 use Rattle.std.proofs.lemmas.Bool.{lt-ltb}
 use Rattle.awk_state.specs.InputRows.{with_reader}
 use Rattle.host_streams.specs.declared.streams.NamedReader.{NamedReader}
 use Rattle.host_streams.specs.OpenFiles.{IsAdded, is_reader, phase_named, reader_place, readers_beside, readers_in}
-use Rattle.host_streams.proofs.Places.{all_fail, last_place}
+use Rattle.host_streams.proofs.Places.{all_fail}
 use Rattle.host_streams.proofs.Held.{held_open, go_on, opened_last, source_opened, named_last, none_last, phase_last}
 use Rattle.host_streams.proofs.Opened.{added_last, beside_last, none_but_last}
 use Rattle.host_streams.proofs.Outputs.{kind_stays, other_number, was_kind}

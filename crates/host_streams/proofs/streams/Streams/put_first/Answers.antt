@@ -1,7 +1,7 @@
-use Rattle.std.proofs.Common.{◌≡◌, ◌∙◌, ◌++◌, ◌∷◌, [], sym, ap}
+use Rattle.std.proofs.Common.{◌∙◌, ◌++◌, ◌∷◌, [], sym, ap}
 use Rattle.world_core.specs.WorldState.{Named}
 use Rattle.host_streams.specs.declared.streams.NamedWriter.{NamedWriter}
-use Rattle.host_streams.specs.OpenFiles.{names_of, reader_handle, writer_place}
+use Rattle.host_streams.specs.OpenFiles.{names_of, writer_place}
 use Rattle.host_streams.proofs.Outputs.{go_last, go_spared, none_but_last, was_kind, held_written, kind_stays, names_last, none_more, other_number, with_missing, writer_missing}
 use Rattle.host_streams.proofs.streams.Streams.put_first.Goals as goal
 
