@@ -1,6 +1,8 @@
+//! Numbers of texts, and texts of strings.
 use awk_text::{
     NumberFault, looks_numeric, number_of, string_text, text_of, truncated_of, unescape,
 };
+use std::alloc::{AllocError, Global};
 use std::test::Fail;
 
 static NUMBERS_OF_TEXTS: [(
@@ -65,33 +67,12 @@ static NUMBERS_OF_TEXTS: [(
     (b"12 34", Ok(12), Ok(12), false),
 ];
 
-#[test]
-fn numbers_of_texts(rt: HostRuntime) -> Result<(), Fail> {
-    for (text, number, truncated, looks) in NUMBERS_OF_TEXTS {
-        assert!(rt; number_of(text) == number, "the number of {text:?}");
-        assert!(rt;
-            truncated_of(text) == truncated,
-            "the truncated number of {text:?}"
-        );
-        assert_eq!(rt; looks_numeric(text), looks, "the look of {text:?}");
-    }
-    Ok(())
-}
-
-#[test]
-fn texts_of_numbers(rt: HostRuntime) -> Result<(), Fail> {
-    assert_eq!(rt; text_of(-12).as_bytes(), b"-12".as_slice());
-    assert_eq!(rt; text_of(0).as_bytes(), b"0".as_slice());
-    assert_eq!(rt;
-        text_of(9007199254740992).as_bytes(),
-        b"9007199254740992".as_slice()
-    );
-    assert_eq!(rt;
-        text_of(i64::MIN).as_bytes(),
-        b"-9223372036854775808".as_slice()
-    );
-    Ok(())
-}
+static TEXTS_OF_NUMBERS: [(i64, &[u8]); 4] = [
+    (-12, b"-12"),
+    (0, b"0"),
+    (9007199254740992, b"9007199254740992"),
+    (i64::MIN, b"-9223372036854775808"),
+];
 
 static TEXTS_OF_STRINGS: [(&[u8], &[u8]); 8] = [
     (b"", b""),
@@ -107,15 +88,34 @@ static TEXTS_OF_STRINGS: [(&[u8], &[u8]); 8] = [
     (b"\\1\\n\\89", b"\x01\n\\89"),
 ];
 
+static TEXTS_OF_QUOTED_STRINGS: [(&[u8], &[u8]); 2] = [(b"\"b\\n\"", b"b\n"), (b"\"\"", b"")];
+
+/// Whether the text of a string with these escapes, or of a quoted one, is so.
+fn is_text(alloc: Global, text: &[u8], quoted: bool, wanted: &[u8]) -> Result<bool, AllocError> {
+    let read = if quoted {
+        string_text(alloc, text)?
+    } else {
+        unescape(alloc, text)?
+    };
+    Ok(read.as_slice() == wanted)
+}
+
 #[test]
-fn texts_of_strings(rt: HostRuntime) -> Result<(), Fail> {
-    for (text, wanted) in TEXTS_OF_STRINGS {
-        assert!(rt;
-            unescape(rt.alloc(), text)?.as_slice() == wanted,
-            "the text of {text:?}"
-        );
+fn numbers_and_texts(rt: HostRuntime) -> Result<(), Fail> {
+    for (text, number, truncated, looks) in NUMBERS_OF_TEXTS {
+        let held = number_of(text) == number
+            && truncated_of(text) == truncated
+            && looks_numeric(text) == looks;
+        assert!(rt; held, "the number of {text:?}");
     }
-    assert!(rt; string_text(rt.alloc(), b"\"b\\n\"")?.as_slice() == b"b\n".as_slice());
-    assert!(rt; string_text(rt.alloc(), b"\"\"")?.is_empty());
+    for (number, text) in TEXTS_OF_NUMBERS {
+        assert!(rt; text_of(number).as_bytes() == text, "the text of {number}");
+    }
+    for (text, wanted) in TEXTS_OF_STRINGS {
+        assert!(rt; is_text(rt.alloc(), text, false, wanted)?, "{text:?}");
+    }
+    for (text, wanted) in TEXTS_OF_QUOTED_STRINGS {
+        assert!(rt; is_text(rt.alloc(), text, true, wanted)?, "{text:?}");
+    }
     Ok(())
 }

@@ -1,3 +1,4 @@
+//! Real files.
 use os_world::OsWorld;
 use std::test::Fail;
 use std::{fs, io};
@@ -28,29 +29,29 @@ fn written<W: World>(
     Ok(taken)
 }
 
+/// Whether a name is told not to open, for reading or writing.
+fn is_refused<W: World>(world: &mut W, name: &[u8]) -> bool {
+    let reading = world.open_read(name) == Err(WorldFault::Failed);
+    world.open_write(name, true) == Err(WorldFault::Failed) && reading
+}
+
+static NO_FILES: [&[u8]; 3] = [b"", b"\xff", b"absent/file"];
+
 #[test]
 fn real_files(rt: HostRuntime) -> Result<(), Fail> {
     let name = NAME.as_bytes();
     let mut world = OsWorld::new(rt.alloc(), &rt, rt.stdin(), io::writer(&rt));
-    assert_eq!(rt; written(&mut world, name, false, b"old text")?, 8);
-    assert_eq!(rt; written(&mut world, name, false, b"ab")?, 2);
-    assert_eq!(rt; written(&mut world, name, true, b"\xff\n")?, 2);
-    assert_eq!(rt; two_reads(&mut world, name)?, (4, 0, *b"ab\xff\n\0\0\0\0"));
-    assert_eq!(rt; world.failures(), 0);
+    let old = written(&mut world, name, false, b"old text")? == 8;
+    let emptied = written(&mut world, name, false, b"ab")? == 2;
+    let appended = written(&mut world, name, true, b"\xff\n")? == 2;
+    let read = two_reads(&mut world, name)? == (4, 0, *b"ab\xff\n\0\0\0\0");
+    assert!(rt; old && emptied && appended && read && world.failures() == 0);
     fs::remove_file(&rt, NAME)?;
-    assert_eq!(rt; two_reads(&mut world, name).is_err(), true);
-    assert_eq!(rt; world.failures(), 1);
-    Ok(())
-}
-
-#[test]
-fn names_that_do_not_open(rt: HostRuntime) -> Result<(), Fail> {
-    let mut world = OsWorld::new(rt.alloc(), &rt, rt.stdin(), io::writer(&rt));
-    let names: [&[u8]; 3] = [b"", b"\xff", b"absent/file"];
-    for name in names {
-        assert_eq!(rt; world.open_read(name), Err(WorldFault::Failed));
-        assert_eq!(rt; world.open_write(name, true), Err(WorldFault::Failed));
+    let absent = two_reads(&mut world, name).is_err();
+    assert!(rt; absent && world.failures() == 1);
+    for other in NO_FILES {
+        assert!(rt; is_refused(&mut world, other), "{other:?}");
     }
-    assert_eq!(rt; world.failures(), 6);
+    assert!(rt; world.failures() == 7);
     Ok(())
 }

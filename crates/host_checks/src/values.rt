@@ -1,53 +1,78 @@
+//! Values: their operators, their kinds and their comparison.
 use awk_values::{
-    Bytes, CompareOp, Fault, Value, add, compare, div, int_div, mul, pow, rem, sub, to_number,
-    to_text, truth,
+    Bytes, CompareOp, Fault, Stop, Value, add, compare, div, int_div, mul, pow, rem, sub,
+    to_number, to_text, truth,
 };
+use std::alloc::{AllocError, Global};
 use std::test::Fail;
 
 const MOST: i64 = 9007199254740992;
 
-#[test]
-fn arithmetic(rt: HostRuntime) -> Result<(), Fail> {
-    assert!(rt; add(MOST - 1, 1) == Ok(MOST));
-    assert!(rt; add(MOST, 1) == Err(Fault::Range));
-    assert!(rt; sub(-MOST, 1) == Err(Fault::Range));
-    assert!(rt; mul(MOST, MOST) == Err(Fault::Range));
-    assert!(rt; mul(-4503599627370496, 2) == Ok(-MOST));
-    assert!(rt; div(7, 2) == Err(Fault::Inexact));
-    assert!(rt; div(-8, 2) == Ok(-4));
-    assert!(rt; div(1, 0) == Err(Fault::DivisionByZero));
-    assert!(rt; int_div(7, 2) == Ok(3));
-    assert!(rt; int_div(-7, 2) == Ok(-3));
-    assert!(rt; int_div(0, 0) == Err(Fault::DivisionByZero));
-    assert!(rt; rem(-7, 3) == Ok(-1));
-    assert!(rt; rem(7, -3) == Ok(1));
-    assert!(rt; rem(7, 0) == Err(Fault::DivisionByZero));
-    Ok(())
+#[derive(Clone, Copy)]
+enum Operator {
+    Add,
+    Sub,
+    Mul,
+    Div,
+    IntDiv,
+    Rem,
+    Pow,
 }
 
-#[test]
-fn powers(rt: HostRuntime) -> Result<(), Fail> {
-    assert!(rt; pow(2, 53) == Ok(MOST));
-    assert!(rt; pow(-2, 53) == Ok(-MOST));
-    assert!(rt; pow(2, 54) == Err(Fault::Range));
-    assert!(rt; pow(3, MOST) == Err(Fault::Range));
-    assert!(rt; pow(0, 0) == Ok(1));
-    assert!(rt; pow(0, MOST) == Ok(0));
-    assert!(rt; pow(-1, MOST) == Ok(1));
-    assert!(rt; pow(-1, -3) == Ok(-1));
-    assert!(rt; pow(1, -MOST) == Ok(1));
-    assert!(rt; pow(0, -1) == Err(Fault::DivisionByZero));
-    assert!(rt; pow(2, -1) == Err(Fault::Inexact));
-    Ok(())
+use Operator::{Add, Div, IntDiv, Mul, Pow, Rem, Sub};
+
+static RESULTS: [(Operator, i64, i64, Result<i64, Fault>); 25] = [
+    (Add, MOST - 1, 1, Ok(MOST)),
+    (Add, MOST, 1, Err(Fault::Range)),
+    (Sub, -MOST, 1, Err(Fault::Range)),
+    (Mul, MOST, MOST, Err(Fault::Range)),
+    (Mul, -4503599627370496, 2, Ok(-MOST)),
+    (Div, 7, 2, Err(Fault::Inexact)),
+    (Div, -8, 2, Ok(-4)),
+    (Div, 1, 0, Err(Fault::DivisionByZero)),
+    (IntDiv, 7, 2, Ok(3)),
+    (IntDiv, -7, 2, Ok(-3)),
+    (IntDiv, 0, 0, Err(Fault::DivisionByZero)),
+    (Rem, -7, 3, Ok(-1)),
+    (Rem, 7, -3, Ok(1)),
+    (Rem, 7, 0, Err(Fault::DivisionByZero)),
+    (Pow, 2, 53, Ok(MOST)),
+    (Pow, -2, 53, Ok(-MOST)),
+    (Pow, 2, 54, Err(Fault::Range)),
+    (Pow, 3, MOST, Err(Fault::Range)),
+    (Pow, 0, 0, Ok(1)),
+    (Pow, 0, MOST, Ok(0)),
+    (Pow, -1, MOST, Ok(1)),
+    (Pow, -1, -3, Ok(-1)),
+    (Pow, 1, -MOST, Ok(1)),
+    (Pow, 0, -1, Err(Fault::DivisionByZero)),
+    (Pow, 2, -1, Err(Fault::Inexact)),
+];
+
+/// What an operator gives; none where an operand is past the greatest number.
+fn result_of(operator: Operator, left: i64, right: i64) -> Option<Result<i64, Fault>> {
+    if left.unsigned_abs() <= 9007199254740992 && right.unsigned_abs() <= 9007199254740992 {
+        Some(match operator {
+            Add => add(left, right),
+            Sub => sub(left, right),
+            Mul => mul(left, right),
+            Div => div(left, right),
+            IntDiv => int_div(left, right),
+            Rem => rem(left, right),
+            Pow => pow(left, right),
+        })
+    } else {
+        None
+    }
 }
 
 /// A value of each kind by a letter, for tables.
-fn value(rt: &HostRuntime, kind: char, text: &str, number: i64) -> Result<Value, Fail> {
+fn value(alloc: Global, kind: char, text: &str, number: i64) -> Result<Value, AllocError> {
     Ok(match kind {
         'u' => Value::Uninit,
         'n' => Value::Num(number),
-        't' => Value::Text(Bytes::from_slice(rt.alloc(), text.as_bytes())?),
-        _ => Value::StrNum(Bytes::from_slice(rt.alloc(), text.as_bytes())?),
+        't' => Value::Text(Bytes::from_slice(alloc, text.as_bytes())?),
+        _ => Value::StrNum(Bytes::from_slice(alloc, text.as_bytes())?),
     })
 }
 
@@ -67,21 +92,6 @@ static VALUES_BY_KIND: [(char, &str, i64, Result<i64, Fault>, &str, bool); 14] =
     ('s', " ", 0, Ok(0), " ", true),
     ('s', "", 0, Ok(0), "", false),
 ];
-
-#[test]
-fn values_by_kind(rt: HostRuntime) -> Result<(), Fail> {
-    for (kind, text, number, as_number, as_text, true_of) in VALUES_BY_KIND {
-        let value = value(&rt, kind, text, number)?;
-        assert!(rt; to_number(&value) == as_number, "the number of {value:?}");
-        assert_eq!(rt;
-            to_text(rt.alloc(), &value)?.as_slice(),
-            as_text.as_bytes(),
-            "the text of {value:?}"
-        );
-        assert_eq!(rt; truth(&value), true_of, "the truth of {value:?}");
-    }
-    Ok(())
-}
 
 static COMPARISONS_BY_KIND: [(
     char,
@@ -162,19 +172,88 @@ static COMPARISONS_BY_KIND: [(
     ),
 ];
 
-#[test]
-fn comparisons_by_kind(rt: HostRuntime) -> Result<(), Fail> {
-    for (left_kind, left, m, right_kind, right, n, op, wanted) in COMPARISONS_BY_KIND {
-        let a = value(&rt, left_kind, left, m)?;
-        let b = value(&rt, right_kind, right, n)?;
-        assert!(rt; compare(&a, &b, op) == wanted, "{a:?} {op:?} {b:?}");
+/// Whether a value has this number, text and truth.
+fn is_read(
+    alloc: Global,
+    value: &Value,
+    number: Result<i64, Fault>,
+    text: &str,
+    true_of: bool,
+) -> Result<bool, Stop> {
+    let held = to_number(value) == number && truth(value) == true_of;
+    Ok(to_text(alloc, value)?.as_slice() == text.as_bytes() && held)
+}
+
+/// Whether faults have their numbers and names.
+fn faults_are_named() -> bool {
+    Fault::Range.number() == 1
+        && Fault::BadAssignment.number() == 16
+        && Fault::TooManyStreams.name() == "TooManyStreams"
+}
+
+/// The number of the first row of operators that does not hold.
+fn wrong_result() -> Option<usize> {
+    RESULTS.iter().position(|(operator, left, right, wanted)| {
+        result_of(*operator, *left, *right) != Some(*wanted)
+    })
+}
+
+type ValueRow = (
+    char,
+    &'static str,
+    i64,
+    Result<i64, Fault>,
+    &'static str,
+    bool,
+);
+
+/// Whether the value of a row is read so.
+fn value_holds(alloc: Global, row: ValueRow) -> Result<bool, Stop> {
+    let value = value(alloc, row.0, row.1, row.2)?;
+    is_read(alloc, &value, row.3, row.4, row.5)
+}
+
+/// Whether all values are read as their rows say.
+fn values_hold(alloc: Global) -> Result<bool, Stop> {
+    let mut held = true;
+    for row in VALUES_BY_KIND {
+        held = value_holds(alloc, row)? && held;
     }
-    Ok(())
+    Ok(held)
+}
+
+type ComparisonRow = (
+    char,
+    &'static str,
+    i64,
+    char,
+    &'static str,
+    i64,
+    CompareOp,
+    Result<bool, Fault>,
+);
+
+/// Whether the values of a row compare so.
+fn comparison_holds(alloc: Global, row: ComparisonRow) -> Result<bool, AllocError> {
+    let left = value(alloc, row.0, row.1, row.2)?;
+    let right = value(alloc, row.3, row.4, row.5)?;
+    Ok(compare(&left, &right, row.6) == row.7)
+}
+
+/// Whether all comparisons hold.
+fn comparisons_hold(alloc: Global) -> Result<bool, AllocError> {
+    let mut held = true;
+    for row in COMPARISONS_BY_KIND {
+        held = comparison_holds(alloc, row)? && held;
+    }
+    Ok(held)
 }
 
 #[test]
-fn faults_have_numbers_and_names(rt: HostRuntime) {
-    assert_eq!(rt; Fault::Range.number(), 1);
-    assert_eq!(rt; Fault::BadAssignment.number(), 16);
-    assert_eq!(rt; Fault::TooManyStreams.name(), "TooManyStreams");
+fn values_and_operators(rt: HostRuntime) -> Result<(), Fail> {
+    assert_eq!(rt; wrong_result(), None);
+    assert!(rt; values_hold(rt.alloc())?, "values by kind");
+    assert!(rt; comparisons_hold(rt.alloc())?, "comparisons by kind");
+    assert!(rt; faults_are_named(), "faults");
+    Ok(())
 }

@@ -1,19 +1,21 @@
+//! Worlds in memory.
 ghost use Rattle.std.specs.Prelude.{◌≡◌, ◌<◌};
 ghost use Rattle.world_core.specs.Calls.{Reading, Writing};
 ghost use Rattle.world_core.specs.Memory.{open_for};
 
+use std::alloc::{AllocError, Global};
 use std::test::Fail;
 use world_core::{Ending, MemFile, MemWorld, Octets, World, WorldFault};
 
-fn file(rt: &HostRuntime, bytes: &[u8]) -> Result<MemFile, Fail> {
-    let mut items = Vec::new(rt.alloc());
+fn file(alloc: Global, bytes: &[u8]) -> Result<MemFile, AllocError> {
+    let mut items = Vec::new(alloc);
     items.extend_from_slice(bytes)?;
     Ok(MemFile::holding(items))
 }
 
-fn world(rt: &HostRuntime, input: &[u8]) -> Result<MemWorld, Fail> {
-    let input = file(rt, input)?;
-    Ok(MemWorld::new(rt.alloc(), input, MemFile::absent()))
+fn world(alloc: Global, input: &[u8]) -> Result<MemWorld, AllocError> {
+    let input = file(alloc, input)?;
+    Ok(MemWorld::new(alloc, input, MemFile::absent()))
 }
 
 /// Reads once, through the trait, and says whether these bytes came.
@@ -42,16 +44,16 @@ fn writes<W: World>(world: &mut W, id: u32, text: &[u8], wanted: usize) -> Resul
 
 /// Puts other bytes under a name while a stream is read.
 fn replaces(
-    rt: &HostRuntime,
+    alloc: Global,
     world: &mut MemWorld,
     id: u32,
     name: &[u8],
     bytes: &[u8],
-) -> Result<(), Fail>
+) -> Result<(), AllocError>
     requires { open_for world.old id ≡ Reading }
     ensures { open_for world.new id ≡ Reading }
 {
-    let other = file(rt, bytes)?;
+    let other = file(alloc, bytes)?;
     world.add(name, other)?;
     Ok(())
 }
@@ -64,131 +66,146 @@ fn ends<W: World>(world: &mut W, id: u32)
     world.close(id);
 }
 
-#[test]
-fn bytes_of_a_vector(rt: HostRuntime) -> Result<(), Fail> {
-    let mut items = Vec::new(rt.alloc());
+/// Bytes of a vector and back.
+fn bytes_of_a_vector(alloc: Global) -> Result<bool, AllocError> {
+    let mut items = Vec::new(alloc);
     items.extend_from_slice(b"abc")?;
     let octets = Octets::from_vec(items);
-    assert!(rt; octets.as_slice() == b"abc".as_slice());
-    assert!(rt; octets.into_vec().as_slice() == b"abc".as_slice());
-    Ok(())
+    let held = octets.as_slice() == b"abc".as_slice();
+    Ok(octets.into_vec().as_slice() == b"abc".as_slice() && held)
 }
 
-#[test]
-fn standard_input_to_its_end(rt: HostRuntime) -> Result<(), Fail> {
-    let mut world = world(&rt, b"hello\n")?;
-    assert!(rt; reads(&mut world, 0, b"hell"));
-    assert!(rt; world.read(0, &mut []) == Ok(0));
-    assert!(rt; reads(&mut world, 0, b"o\n"));
-    assert!(rt; reads(&mut world, 0, b""));
-    assert!(rt; reads(&mut world, 0, b""));
-    assert!(rt; world.failures() == 0);
-    Ok(())
+/// The standard input is read to its end, which is told again.
+fn standard_input_to_its_end(alloc: Global) -> Result<bool, WorldFault> {
+    let mut world = world(alloc, b"hello\n")?;
+    let front = reads(&mut world, 0, b"hell");
+    let none = world.read(0, &mut []) == Ok(0);
+    let rest = reads(&mut world, 0, b"o\n");
+    let end = reads(&mut world, 0, b"");
+    let again = reads(&mut world, 0, b"");
+    Ok(front && none && rest && end && again && world.failures() == 0)
 }
 
-#[test]
-fn standard_input_that_fails(rt: HostRuntime) -> Result<(), Fail> {
-    let mut input = file(&rt, b"ab")?;
+/// The standard input fails after its bytes, and goes on failing; an empty read does not.
+fn standard_input_that_fails(alloc: Global) -> Result<bool, WorldFault> {
+    let mut input = file(alloc, b"ab")?;
     input.ending = Ending::Fails;
-    let mut world = MemWorld::new(rt.alloc(), input, MemFile::absent());
+    let mut world = MemWorld::new(alloc, input, MemFile::absent());
     let mut buffer = [0; 4];
-    assert!(rt; reads(&mut world, 0, b"ab"));
-    assert!(rt; world.read(0, &mut []) == Ok(0));
-    assert!(rt; world.failures() == 0);
-    assert!(rt; world.read(0, &mut buffer) == Err(WorldFault::Failed));
-    assert!(rt; world.read(0, &mut buffer) == Err(WorldFault::Failed));
-    assert!(rt; world.failures() == 2);
-    Ok(())
+    let bytes = reads(&mut world, 0, b"ab");
+    let none = world.read(0, &mut []) == Ok(0) && world.failures() == 0;
+    let fails = world.read(0, &mut buffer) == Err(WorldFault::Failed);
+    let again = world.read(0, &mut buffer) == Err(WorldFault::Failed);
+    Ok(bytes && none && fails && again && world.failures() == 2)
 }
 
-#[test]
-fn standard_output_whose_room_is_full(rt: HostRuntime) -> Result<(), Fail> {
+/// What fits goes out; then writing fails, but for an empty text.
+fn standard_output_whose_room_is_full(alloc: Global) -> Result<bool, WorldFault> {
     let mut output = MemFile::absent();
     output.room = Some(4);
-    let mut world = MemWorld::new(rt.alloc(), MemFile::absent(), output);
-    assert!(rt; world.output() == b"".as_slice());
-    assert!(rt; writes(&mut world, 1, b"abc", 3)?);
-    assert!(rt; writes(&mut world, 1, b"defg", 1)?);
-    assert!(rt; writes(&mut world, 1, b"", 0)?);
-    assert!(rt; world.failures() == 0);
-    assert!(rt; world.write(1, b"efg") == Err(WorldFault::Failed));
-    assert!(rt; world.failures() == 1);
-    assert!(rt; writes(&mut world, 1, b"", 0)?);
-    assert!(rt; world.output() == b"abcd".as_slice());
-    Ok(())
+    let mut world = MemWorld::new(alloc, MemFile::absent(), output);
+    let empty = world.output() == b"".as_slice();
+    let whole = writes(&mut world, 1, b"abc", 3)?;
+    let part = writes(&mut world, 1, b"defg", 1)?;
+    let none = writes(&mut world, 1, b"", 0)? && world.failures() == 0;
+    let fails = world.write(1, b"efg") == Err(WorldFault::Failed) && world.failures() == 1;
+    let still = writes(&mut world, 1, b"", 0)?;
+    let held = empty && whole && part && none && fails && still;
+    Ok(held && world.output() == b"abcd".as_slice())
 }
 
-#[test]
-fn names_that_do_not_open(rt: HostRuntime) -> Result<(), Fail> {
-    let mut world = world(&rt, b"")?;
-    let mut shut = file(&rt, b"kept")?;
+/// A name that is absent, and one that does not open.
+fn names_that_do_not_open(alloc: Global) -> Result<bool, WorldFault> {
+    let mut world = world(alloc, b"")?;
+    let mut shut = file(alloc, b"kept")?;
     shut.opens = false;
     world.add(b"shut", shut)?;
-    assert!(rt; world.open_read(b"absent") == Err(WorldFault::Failed));
-    assert!(rt; world.open_read(b"shut") == Err(WorldFault::Failed));
-    assert!(rt; world.open_write(b"shut", false) == Err(WorldFault::Failed));
-    assert!(rt; world.open_write(b"shut", true) == Err(WorldFault::Failed));
-    assert!(rt; world.failures() == 4);
-    assert!(rt; world.bytes(b"shut") == Some(b"kept".as_slice()));
-    assert!(rt; world.bytes(b"absent").is_none());
-    Ok(())
+    let absent = world.open_read(b"absent") == Err(WorldFault::Failed);
+    let to_read = world.open_read(b"shut") == Err(WorldFault::Failed);
+    let to_write = world.open_write(b"shut", false) == Err(WorldFault::Failed);
+    let to_append = world.open_write(b"shut", true) == Err(WorldFault::Failed);
+    let held = absent && to_read && to_write && to_append && world.failures() == 4;
+    let kept = world.bytes(b"shut") == Some(b"kept".as_slice());
+    Ok(held && kept && world.bytes(b"absent").is_none())
 }
 
-#[test]
-fn names_emptied_and_appended(rt: HostRuntime) -> Result<(), Fail> {
-    let mut world = world(&rt, b"")?;
-    world.add(b"f", file(&rt, b"old")?)?;
+/// A file is appended to, and then emptied.
+fn names_emptied_and_appended(alloc: Global) -> Result<bool, WorldFault> {
+    let mut world = world(alloc, b"")?;
+    world.add(b"f", file(alloc, b"old")?)?;
     let f = world.open_write(b"f", true)?;
-    assert!(rt; world.bytes(b"f") == Some(b"old".as_slice()));
-    assert!(rt; writes(&mut world, f, b"+", 1)?);
-    assert!(rt; world.bytes(b"f") == Some(b"old+".as_slice()));
+    let kept = world.bytes(b"f") == Some(b"old".as_slice());
+    let more = writes(&mut world, f, b"+", 1)?;
+    let appended = world.bytes(b"f") == Some(b"old+".as_slice());
     let again = world.open_write(b"f", false)?;
-    assert!(rt; again != f && again > 1);
-    assert!(rt; world.bytes(b"f") == Some(b"".as_slice()));
-    assert!(rt; writes(&mut world, again, b"new", 3)?);
-    assert!(rt; world.bytes(b"f") == Some(b"new".as_slice()));
-    Ok(())
+    let other = again != f && again > 1;
+    let emptied = world.bytes(b"f") == Some(b"".as_slice());
+    let new = writes(&mut world, again, b"new", 3)?;
+    let held = kept && more && appended && other && emptied && new;
+    Ok(held && world.bytes(b"f") == Some(b"new".as_slice()))
 }
 
-#[test]
-fn absent_names_are_created(rt: HostRuntime) -> Result<(), Fail> {
-    let mut world = world(&rt, b"")?;
+/// A name that was not added is created, and holds its bytes after it is closed.
+fn absent_names_are_created(alloc: Global) -> Result<bool, WorldFault> {
+    let mut world = world(alloc, b"")?;
     let g = world.open_write(b"g", true)?;
-    assert!(rt; world.bytes(b"g") == Some(b"".as_slice()));
-    assert!(rt; writes(&mut world, g, b"gg", 2)?);
-    assert!(rt; world.bytes(b"g") == Some(b"gg".as_slice()));
-    assert!(rt; world.bytes(b"f").is_none());
-    assert!(rt; world.output() == b"".as_slice());
+    let created = world.bytes(b"g") == Some(b"".as_slice());
+    let written = writes(&mut world, g, b"gg", 2)?;
+    let there = world.bytes(b"g") == Some(b"gg".as_slice());
+    let others = world.bytes(b"f").is_none() && world.output() == b"".as_slice();
     world.close(g);
-    assert!(rt; world.bytes(b"g") == Some(b"gg".as_slice()));
-    Ok(())
+    let held = created && written && there && others;
+    Ok(held && world.bytes(b"g") == Some(b"gg".as_slice()))
 }
 
-#[test]
-fn a_named_file_has_a_room(rt: HostRuntime) -> Result<(), Fail> {
-    let mut world = world(&rt, b"")?;
-    let mut small = file(&rt, b"ab")?;
+/// A named file has a room.
+fn a_named_file_has_a_room(alloc: Global) -> Result<bool, WorldFault> {
+    let mut world = world(alloc, b"")?;
+    let mut small = file(alloc, b"ab")?;
     small.room = Some(3);
     world.add(b"small", small)?;
     let id = world.open_write(b"small", true)?;
-    assert!(rt; writes(&mut world, id, b"cd", 1)?);
-    assert!(rt; world.write(id, b"d") == Err(WorldFault::Failed));
-    assert!(rt; world.failures() == 1);
-    assert!(rt; world.bytes(b"small") == Some(b"abc".as_slice()));
-    Ok(())
+    let part = writes(&mut world, id, b"cd", 1)?;
+    let fails = world.write(id, b"d") == Err(WorldFault::Failed) && world.failures() == 1;
+    Ok(part && fails && world.bytes(b"small") == Some(b"abc".as_slice()))
+}
+
+/// A reader has the bytes of its opening, whatever the name holds later.
+fn a_reader_has_the_bytes_of_its_opening(alloc: Global) -> Result<bool, WorldFault> {
+    let mut world = world(alloc, b"")?;
+    world.add(b"f", file(alloc, b"first")?)?;
+    world.add(b"f", file(alloc, b"second")?)?;
+    let reader = world.open_read(b"f")?;
+    replaces(alloc, &mut world, reader, b"f", b"third")?;
+    let front = reads(&mut world, reader, b"seco");
+    let rest = reads(&mut world, reader, b"nd");
+    let end = reads(&mut world, reader, b"");
+    world.close(reader);
+    Ok(front && rest && end && world.bytes(b"f") == Some(b"third".as_slice()))
+}
+
+/// The standard streams.
+fn standard_streams(alloc: Global) -> Result<bool, WorldFault> {
+    let input = standard_input_to_its_end(alloc)?;
+    let broken = standard_input_that_fails(alloc)?;
+    let output = standard_output_whose_room_is_full(alloc)?;
+    Ok(input && broken && output)
+}
+
+/// Files by their names.
+fn named_files(alloc: Global) -> Result<bool, WorldFault> {
+    let shut = names_that_do_not_open(alloc)?;
+    let changed = names_emptied_and_appended(alloc)?;
+    let created = absent_names_are_created(alloc)?;
+    let room = a_named_file_has_a_room(alloc)?;
+    let read = a_reader_has_the_bytes_of_its_opening(alloc)?;
+    Ok(shut && changed && created && room && read)
 }
 
 #[test]
-fn a_reader_has_the_bytes_of_its_opening(rt: HostRuntime) -> Result<(), Fail> {
-    let mut world = world(&rt, b"")?;
-    world.add(b"f", file(&rt, b"first")?)?;
-    world.add(b"f", file(&rt, b"second")?)?;
-    let reader = world.open_read(b"f")?;
-    replaces(&rt, &mut world, reader, b"f", b"third")?;
-    assert!(rt; reads(&mut world, reader, b"seco"));
-    assert!(rt; reads(&mut world, reader, b"nd"));
-    assert!(rt; reads(&mut world, reader, b""));
-    world.close(reader);
-    assert!(rt; world.bytes(b"f") == Some(b"third".as_slice()));
+fn worlds_in_memory(rt: HostRuntime) -> Result<(), Fail> {
+    assert!(rt; bytes_of_a_vector(rt.alloc())?);
+    assert!(rt; standard_streams(rt.alloc())?);
+    assert!(rt; named_files(rt.alloc())?);
     Ok(())
 }

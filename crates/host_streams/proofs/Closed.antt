@@ -1,10 +1,10 @@
 -- A file is closed: what stays open.
-use Rattle.std.proofs.Common.{◌≡◌, ◌≢◌, ℕ, suc, ◌+◌, ◌<◌, ◌==◌, List, [], ◌∷◌, ◌++◌, map, filter, not, get_or, length, take, drop, Option, Some, None, cond, if◌then◌else◌, Bool, true, false, ◌||◌, refl, sym, ap, ◌∙◌, arith, subst}
+use Rattle.std.proofs.Common.{◌≡◌, ◌≢◌, ℕ, ◌<◌, List, [], ◌∷◌, ◌++◌, map, filter, not, get_or, length, Option, Some, cond, if◌then◌else◌, Bool, true, false, ◌||◌, refl, sym, ap, ◌∙◌, subst}
 use Rattle.std.proofs.lemmas.Bool.{eq-eqb, ne_eqb}
 use Rattle.std.proofs.lemmas.List.{map-append}
 use Rattle.std.specs.List.{remove}
 use Rattle.awk_values.specs.declared.value.Value.TheVariants.{Text}
-use Rattle.world_core.specs.WorldState.{State, Source, Target}
+use Rattle.world_core.specs.WorldState.{State, Source}
 use Rattle.world_core.specs.Calls.{Kind, Closed, Closes, Reading, Writing, set_kind}
 use Rattle.awk_state.specs.Texts.{same_text}
 use Rattle.awk_state.specs.InputRows.{close_row, is_reading, reader_named, without_reader, without_writer}
@@ -15,10 +15,10 @@ use Rattle.host_streams.specs.declared.streams.NamedReader.{NamedReader}
 use Rattle.host_streams.specs.declared.streams.NamedWriter.{NamedWriter}
 use Rattle.host_streams.specs.declared.streams.Streams.{Streams}
 use Rattle.host_streams.specs.Readers.{left}
-use Rattle.host_streams.specs.OpenFiles.{reader_handle, writer_handle, IsApart, IsNone, AreOpen, WritersGo, names_of, reader_names, readers_in, is_reader, is_writer, reader_place, writer_place}
+use Rattle.host_streams.specs.OpenFiles.{reader_handle, writer_handle, IsApart, IsNone, AreOpen, WritersGo, names_of, reader_names, readers_beside, readers_in, is_reader, is_writer, reader_place, writer_place, writers_beside}
 use Rattle.host_streams.specs.Outputs.{IsOf}
 use Rattle.host_streams.specs.Closing.{ClosesBy}
-use Rattle.host_streams.proofs.Places.{AllFail, First, first, all_fail, first_item}
+use Rattle.host_streams.proofs.Places.{AllFail, First, first, first_item}
 use Rattle.host_streams.proofs.Held.{same_name}
 
 abbrev pub Handle : Type 0
@@ -63,6 +63,13 @@ none_rest : (k : ℕ) (front : List Handle) (h : Handle) (back : List Handle) �
 none_rest k [] h back a = a.1
 none_rest k (x ∷ xs) h back a = (a.0, none_rest k xs h back a.1)
 
+none_back : (k : ℕ) (front : List Handle) (h : Handle) (back : List Handle) → k ≢ h.1 → IsNone k (front ++ back) → IsNone k (front ++ h ∷ back)
+none_back k [] h back apart a = (apart, a)
+none_back k (x ∷ xs) h back apart a = (a.0, none_back k xs h back apart a.1)
+
+pub shut_apart : (k id : ℕ) (kinds : ℕ → Kind) → set_kind id Closed kinds k ≢ Closed → k ≢ id
+shut_apart k id kinds was = λ e. was (ap (λ b. cond b Closed (kinds k)) (eq-eqb k id e))
+
 pub shut_stays : (k id : ℕ) (kinds : ℕ → Kind) → k ≢ id → set_kind id Closed kinds k ≡ kinds k
 shut_stays k id kinds apart = ap (λ b. cond b Closed (kinds k)) (ne_eqb k id apart)
 
@@ -86,17 +93,29 @@ module _ {A : Type 0} (handle : A → Handle) (name : List ℕ) where
   apart_back kind kinds [] item back o = o.2
   apart_back kind kinds (x ∷ xs) item back o = apart_back kind kinds xs item back o.3
 
-  pub names_same : (xs : List A) → AllFail is_it xs → names xs ≡ without_writer name (names xs)
-  names_same [] none = refl
-  names_same (x ∷ xs) none =
-      ap (λ ys. (handle x).0 ∷ ys) (names_same xs none.1) ∙ sym (ap (λ b. cond (not b) ((handle x).0 ∷ without_writer name (names xs)) (without_writer name (names xs))) none.0)
+  -- the others
+  abbrev pub beside : List A → List A
+  beside xs = filter (λ x. not (is_it x)) xs
 
-  names_rest : (front : List A) (item : A) (back : List A) → AllFail is_it front → is_it item ≡ true → AllFail is_it back → names (front ++ back) ≡ without_writer name (names (front ++ item ∷ back))
-  names_rest [] item back none is rest =
-      names_same back rest ∙ sym (ap (λ b. cond (not b) ((handle item).0 ∷ without_writer name (names back)) (without_writer name (names back))) is)
-  names_rest (x ∷ xs) item back none is rest =
-      ap (λ ys. (handle x).0 ∷ ys) (names_rest xs item back none.1 is rest)
-      ∙ sym (ap (λ b. cond (not b) ((handle x).0 ∷ without_writer name (names (xs ++ item ∷ back))) (without_writer name (names (xs ++ item ∷ back)))) none.0)
+  pub beside_same : (xs : List A) → AllFail is_it xs → xs ≡ beside xs
+  beside_same [] none = refl
+  beside_same (x ∷ xs) none = ap (λ ys. x ∷ ys) (beside_same xs none.1) ∙ sym (ap (λ b. cond (not b) (x ∷ beside xs) (beside xs)) none.0)
+
+  beside_rest : (front : List A) (item : A) (back : List A) → AllFail is_it front → is_it item ≡ true → AllFail is_it back → front ++ back ≡ beside (front ++ item ∷ back)
+  beside_rest [] item back none is rest = beside_same back rest ∙ sym (ap (λ b. cond (not b) (item ∷ beside back) (beside back)) is)
+  beside_rest (x ∷ xs) item back none is rest =
+      ap (λ ys. x ∷ ys) (beside_rest xs item back none.1 is rest) ∙ sym (ap (λ b. cond (not b) (x ∷ beside (xs ++ item ∷ back)) (beside (xs ++ item ∷ back))) none.0)
+
+  names_by : (b : Bool) (x : A) (xs : List A) (ns : List (List ℕ)) → names xs ≡ ns → names (cond (not b) (x ∷ xs) xs) ≡ cond (not b) ((handle x).0 ∷ ns) ns
+  names_by true x xs ns e = e
+  names_by false x xs ns e = ap (λ ys. (handle x).0 ∷ ys) e
+
+  names_beside : (xs : List A) → names (beside xs) ≡ without_writer name (names xs)
+  names_beside [] = refl
+  names_beside (x ∷ xs) = names_by (is_it x) x (beside xs) (without_writer name (names xs)) (names_beside xs)
+
+  pub names_same : (xs : List A) → AllFail is_it xs → names xs ≡ without_writer name (names xs)
+  names_same xs none = ap names (beside_same xs none) ∙ names_beside xs
 
   names_pass : (front : List A) (item : A) (back : List A) → AllFail is_it front → is_it item ≡ true → is_writing name (names (front ++ item ∷ back)) ≡ true
   names_pass [] item back none is = ap (λ b. cond b true (is_writing name (names back))) is
@@ -133,8 +152,11 @@ module _ {A : Type 0} (handle : A → Handle) (name : List ℕ) where
         (subst (λ (hs : List Handle). AreOpen kind hs (set_kind (handle s.item).1 Closed kinds)) (sym (map-append handle s.front s.back))
         (dropped kind kinds (map handle s.front) (handle s.item) (map handle s.back) in_handles))
 
+    pub beside_removed : remove xs at ≡ beside xs
+    beside_removed = is_removed ∙ beside_rest s.front s.item s.back s.none s.passes rest_fails ∙ ap beside (sym s.is)
+
     pub names_removed : names (remove xs at) ≡ without_writer name (names xs)
-    names_removed = ap names is_removed ∙ names_rest s.front s.item s.back s.none s.passes rest_fails ∙ ap (λ ys. without_writer name (names ys)) (sym s.is)
+    names_removed = ap names beside_removed ∙ names_beside xs
 
     pub name_there : is_writing name (names xs) ≡ true
     name_there = ap (λ ys. is_writing name (names ys)) s.is ∙ names_pass s.front s.item s.back s.none s.passes
@@ -147,6 +169,11 @@ module _ {A : Type 0} (handle : A → Handle) (name : List ℕ) where
 
     pub none_removed : (k : ℕ) → IsNone k (map handle xs) → IsNone k (map handle (remove xs at))
     none_removed k h = subst (IsNone k) (sym (ap (map handle) is_removed ∙ map-append handle s.front s.back)) (none_rest k (map handle s.front) (handle s.item) (map handle s.back) (none_in k h))
+
+    pub none_was : (k : ℕ) → k ≢ (handle s.item).1 → IsNone k (map handle (remove xs at)) → IsNone k (map handle xs)
+    none_was k apart h =
+        subst (IsNone k) (sym (ap (map handle) s.is ∙ map-append handle s.front (s.item ∷ s.back)))
+        (none_back k (map handle s.front) (handle s.item) (map handle s.back) apart (subst (IsNone k) (ap (map handle) is_removed ∙ map-append handle s.front s.back) h))
 
 -- What the readers have left then.
 
@@ -221,6 +248,12 @@ module _ (name : List ℕ) (rs : List NamedReader) (ws : List NamedWriter) (at :
   pub reader_none : (k : ℕ) → IsNone k (map reader_handle rs) → IsNone k (map reader_handle (remove rs at))
   reader_none k h = none_removed reader_handle name Reading kinds rs at r_spot held.0 k h
 
+  pub reader_was : (k : ℕ) → k ≢ d.reader.id → IsNone k (map reader_handle (remove rs at)) → IsNone k (map reader_handle rs)
+  reader_was k apart h = none_was reader_handle name Reading kinds rs at r_spot held.0 k (λ e. apart (e ∙ sym (ap (λ (r : NamedReader). r.reader.id) r_item))) h
+
+  pub reader_kept : remove rs at ≡ readers_beside name rs
+  reader_kept = beside_removed reader_handle name Reading kinds rs at r_spot held.0
+
   pub reader_go : (s t : State) → Closes d.reader.id s t → WritersGo ws s → WritersGo ws t
   reader_go s t closes go = go_apart name s t kinds d.reader.id ws reader_held.1 closes go
 
@@ -259,6 +292,12 @@ module _ (name : List ℕ) (rs : List NamedReader) (ws : List NamedWriter) (at :
 
   pub writer_none : (k : ℕ) → IsNone k (map writer_handle ws) → IsNone k (map writer_handle (remove ws at))
   writer_none k h = none_removed writer_handle name Writing kinds ws at w_spot held.1 k h
+
+  pub writer_was : (k : ℕ) → k ≢ d.id → IsNone k (map writer_handle (remove ws at)) → IsNone k (map writer_handle ws)
+  writer_was k apart h = none_was writer_handle name Writing kinds ws at w_spot held.1 k (λ e. apart (e ∙ sym (ap (λ (w : NamedWriter). w.id) w_item))) h
+
+  pub writer_kept : remove ws at ≡ writers_beside name ws
+  writer_kept = beside_removed writer_handle name Writing kinds ws at w_spot held.1
 
   pub writer_go : (s t : State) → Closes d.id s t → WritersGo ws s → WritersGo (remove ws at) t
   writer_go s t closes go = go_removed name s t kinds ws at w_spot held.1 (subst (λ (w : NamedWriter). Closes w.id s t) w_item closes) go

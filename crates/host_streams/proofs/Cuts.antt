@@ -1,5 +1,5 @@
 -- Cutting at separators.
-use Rattle.std.proofs.Common.{◌≡◌, ◌≢◌, ◌⊎◌, inl, inr, ℕ, zero, suc, ◌+◌, ◌-◌, ◌^◌, ◌<◌, ◌≤◌, ◌==◌, List, [], ◌∷◌, ◌++◌, length, take, drop, get_or, Bool, true, false, cond, ◌&&◌, refl, sym, ◌∙◌, ap, subst, arith, Option, Some, None, Result, Ok, Err, length-append, length-drop, length-take, append_assoc, append-nil, eq-eqb, slice_range, nat_le}
+use Rattle.std.proofs.Common.{◌≡◌, ◌≢◌, inl, inr, ℕ, zero, suc, ◌+◌, ◌-◌, ◌^◌, ◌<◌, ◌≤◌, ◌==◌, List, [], ◌∷◌, ◌++◌, length, take, drop, get_or, Bool, true, false, cond, ◌&&◌, refl, sym, ◌∙◌, ap, subst, arith, Option, Some, None, Result, Ok, Err, length-append, length-drop, length-take, append_assoc, append-nil, eq-eqb, slice_range, nat_le}
 use Rattle.std.specs.List.{prefix_len}
 use Rattle.std.proofs.Math.Seq.{drop-cons, take-suc}
 use Rattle.std.proofs.lemmas.List.{drop-append-le, drop-drop, take_all, take-append-le, take-append-drop}
@@ -10,7 +10,7 @@ use Rattle.world_core.specs.declared.world.Ending.{Ending}
 use Rattle.world_core.specs.WorldState.{Source}
 use Rattle.awk_state.specs.Records.{is_newline, begins, width, onto, cut, skipped, without_last, trimmed, Got, Record, of_rest, of_cut, first_record}
 use Rattle.host_streams.specs.declared.look.Known.{Known}
-use Rattle.host_streams.specs.Looks.{before, HasNoneBefore, all_but_one, searched, IsScanned, IsThere, IsLong, IsOpen, FindsCut}
+use Rattle.host_streams.specs.Looks.{before, HasNoneBefore, all_but_one, searched, IsScanned, IsThere, IsLong, IsOpen}
 
 before-none : (o : Option (List ℕ × List ℕ)) → before [] o ≡ o
 before-none None = refl

@@ -1,9 +1,9 @@
 -- Files that are open, when one of them is read and when one more is opened.
-use Rattle.std.proofs.Common.{◌≡◌, ◌≢◌, ℕ, zero, suc, ◌+◌, ◌<◌, ◌==◌, List, [], ◌∷◌, ◌++◌, map, get_or, set, length, Option, Some, None, cond, Bool, true, false, refl, sym, ap, ◌∙◌, arith, subst}
+use Rattle.std.proofs.Common.{◌≡◌, ◌≢◌, ℕ, zero, suc, ◌<◌, ◌==◌, List, [], ◌∷◌, ◌++◌, map, get_or, set, length, Some, None, cond, Bool, true, false, refl, sym, ap, ◌∙◌, arith, subst}
 use Rattle.std.proofs.lemmas.Bool.{eq-eqb, false≢true, ne_eqb}
 use Rattle.std.proofs.lemmas.Slice.Eq.{bytes_eq-Decides}
 use Rattle.std.proofs.lemmas.Cmp.{nat_list_eq_equiv}
-use Rattle.world_core.specs.WorldState.{State, Source, Named, Entry}
+use Rattle.world_core.specs.WorldState.{State, Source, Entry}
 use Rattle.world_core.specs.Calls.{Kind, Closed, Reading, Writing, Opens, set_kind, KeepsOthers}
 use Rattle.awk_state.specs.Texts.{same_text}
 use Rattle.awk_state.specs.InputRows.{reader_named, with_reader, source_of, source_if}
@@ -106,7 +106,7 @@ module _ (name : List ℕ) (xs : List NamedReader) (at : ℕ) (found : reader_pl
       ap (phase_named name) (first_set (is_reader name) xs at spot other)
       ∙ phase_at name spot.front other spot.back spot.none (ap (same_text name) (e ∙ ap (λ (r : NamedReader). r.name) item_is) ∙ spot.passes)
 
-  handles_next : (other : NamedReader) → other.name ≡ d.name → other.reader.id ≡ d.reader.id → map reader_handle (set xs at other) ≡ map reader_handle xs
+  pub handles_next : (other : NamedReader) → other.name ≡ d.name → other.reader.id ≡ d.reader.id → map reader_handle (set xs at other) ≡ map reader_handle xs
   handles_next other e f =
       let handle : reader_handle other ≡ reader_handle spot.item = ap (λ n. (n, other.reader.id)) e ∙ ap (λ k. (d.name, k)) f ∙ ap reader_handle item_is in
       ap (map reader_handle) (first_set (is_reader name) xs at spot other) ∙ same_handles spot.front spot.item other spot.back handle ∙ sym (ap (map reader_handle) spot.is)
@@ -219,12 +219,11 @@ phase_missing name xs missing = by xs (all_fail (is_reader name) xs missing)
 pub missing_named : (name : List ℕ) (state : State) (xs : List NamedReader) → reader_place name xs ≡ None → reader_named name (readers_in xs state) ≡ None
 missing_named name state xs missing = not_named name state xs (all_fail (is_reader name) xs missing)
 
-is_broken : Phase → Bool
+abbrev pub is_broken : Phase → Bool
 is_broken Open = false
 is_broken Ended = false
 is_broken Broken = true
 
 -- a name without a reader has none that failed
 pub none_failed : (name : List ℕ) (xs : List NamedReader) → reader_place name xs ≡ None → phase_named name xs ≡ Broken → ⊥
-unfolding is_broken
 none_failed name xs missing e = false≢true (ap is_broken (sym (phase_missing name xs missing) ∙ e))

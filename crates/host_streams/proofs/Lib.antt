@@ -3,6 +3,7 @@ pub mod Finding
 pub mod Turns
 pub mod Places
 pub mod Held
+pub mod Opened
 pub mod Writing
 pub mod Outputs
 pub mod Closed

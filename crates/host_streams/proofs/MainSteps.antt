@@ -1,11 +1,11 @@
 -- What the definition gives of the main input, step by step.
 use Rattle.std.specs.List.{prefix_len, take_while}
-use Rattle.std.proofs.lemmas.Bool.{leb-true, leb-false}
+use Rattle.std.proofs.lemmas.Bool.{false≢true, leb-true, leb-false}
 use Rattle.std.proofs.lemmas.List.{drop-drop, take_all}
 use Rattle.awk_values.specs.Values.{number_of_value}
-use Rattle.std.proofs.Common.{◌≡◌, ◌≢◌, ℤ, ℕ, zero, suc, ◌+◌, ◌-◌, ◌^◌, ◌<◌, ◌≤◌, ◌==◌, ◌&&◌, nat_le, List, [], ◌∷◌, ◌++◌, length, length-take, take, drop, Option, Some, None, Result, Ok, Err, cond, if◌then◌else◌, Bool, true, false, refl, sym, ap, ◌∙◌, arith, subst, inl, inr, ◌⊎◌}
+use Rattle.std.proofs.Common.{◌≡◌, ◌≢◌, ℤ, ℕ, zero, suc, ◌+◌, ◌-◌, ◌^◌, ◌<◌, ◌≤◌, ◌==◌, ◌&&◌, nat_le, List, [], ◌∷◌, length, length-take, take, drop, Option, Some, None, Result, Ok, Err, cond, if◌then◌else◌, Bool, true, false, refl, sym, ap, ◌∙◌, arith, subst, inl, inr}
 use Rattle.awk_values.specs.declared.fault.Fault.{Fault}
-use Rattle.awk_values.specs.declared.fault.Fault.TheVariants.{OpenInput, ReadFailed}
+use Rattle.awk_values.specs.declared.fault.Fault.TheVariants.{ReadFailed}
 use Rattle.awk_values.specs.declared.fault.Stop.{Stop}
 use Rattle.awk_values.specs.declared.fault.Stop.TheVariants.{Fault as IsFault, NoMemory}
 use Rattle.world_core.specs.WorldState.{Outside, Source, State}
@@ -23,10 +23,12 @@ use Rattle.host_streams.specs.declared.main_input.MainInput.{MainInput as Mains}
 use Rattle.host_streams.specs.declared.main_input.MainNext.{MainNext}
 use Rattle.host_streams.specs.declared.main_input.Reading.TheVariants as reading
 use Rattle.host_streams.specs.declared.main_input.MainNext.TheVariants as main
-use Rattle.host_streams.specs.declared.reader.FileNext.{FileNext}
 use Rattle.host_streams.specs.declared.reader.FileNext.TheVariants as file
-use Rattle.host_streams.specs.Readers.{Answers, left}
-use Rattle.host_streams.specs.Mains.{FaultIs, GivenIs, NameLen, ReadsMain, begins, begun, has_operand, idle, is_equals, left_main, main_of, main_source, operands_of, passed, reading_of, rest_of, with_file, with_main}
+use Rattle.host_streams.specs.declared.reader.Phase.{Phase}
+use Rattle.host_streams.specs.declared.reader.Phase.TheVariants.{Broken as IsBroken, Ended, Open}
+use Rattle.host_streams.specs.Readers.{left}
+use Rattle.host_streams.proofs.Held.{is_broken}
+use Rattle.host_streams.specs.Mains.{FaultIs, GivenIs, IsOfNumber, MainCounts, MainPhase, NameLen, PhaseBy, ReadsMain, StepEnds, begins, begun, has_operand, idle, is_equals, left_main, main_of, main_source, operands_of, passed, reading_of, rest_of, with_file, with_main}
 
 -- The reader at hand.
 
@@ -339,3 +341,35 @@ given_after (Ok (Some (main.Opened name))) outside first old new e h = e ∙ h
 given_after (Ok (Some main.End)) outside first old new e h = e ∙ h
 given_after (Err (IsFault fault)) outside first old new e h = subst (λ (x : Result (Inner × Main) Fault). FaultIs x fault outside new) (sym e) h
 given_after (Err NoMemory) outside first old new e h = e ∙ h
+
+-- What is counted, and what is told of a failed read.
+
+pub number_counts : (A : Type 0) (fault : Fault) (n : ℕ) → IsOfNumber fault → MainCounts {A = A} Open (Err (IsFault fault)) n n
+number_counts A fault n (inl e) = subst (λ f. MainCounts {A = A} Open (Err (IsFault f)) n n) (sym e) (inr (inl refl), refl)
+number_counts A fault n (inr e) = subst (λ f. MainCounts {A = A} Open (Err (IsFault f)) n n) (sym e) (inr (inr refl), refl)
+
+pub number_phase : (A : Type 0) (fault : Fault) (q : Phase) → IsOfNumber fault → q ≢ IsBroken → MainPhase {A = A} Open (Err (IsFault fault)) q
+number_phase A fault q (inl e) live = subst (λ f. MainPhase {A = A} Open (Err (IsFault f)) q) (sym e) ((λ is. cc is), live)
+number_phase A fault q (inr e) live = subst (λ f. MainPhase {A = A} Open (Err (IsFault f)) q) (sym e) ((λ is. cc is), live)
+
+is_whole : (p : Phase) → p ≢ IsBroken → is_broken p ≡ false
+is_whole Open live = refl
+is_whole Ended live = refl
+is_whole IsBroken live = absurd (live refl)
+
+pub same_break : (p q : Phase) → PhaseBy false p q → is_broken q ≡ is_broken p
+same_break p q h = is_whole q h.1 ∙ sym (is_whole p h.0)
+
+pub phase_since : (b : Bool) (p q r : Phase) → is_broken q ≡ is_broken p → PhaseBy b q r → PhaseBy b p r
+phase_since true p q r same h = h
+phase_since false p q r same h = ((λ e. false≢true (sym (is_whole q h.0) ∙ same ∙ ap is_broken e)), h.1)
+
+-- A step that gave nothing.
+
+pub none_since : {o : Option MainNext} {was is : Bool} → o ≡ None → StepEnds was (Ok o) is → (was ≡ false) × (is ≡ false)
+none_since {o} {was} {is} e h = subst (λ x. StepEnds was (Ok x) is) e h
+
+pub told_since : {o : Option MainNext} {outside later : Outside} {first : Result (Inner × Main) Fault} (old new : Inner) → o ≡ None → later ≡ outside → first ≡ main_input outside old → GivenIs (main_input later old) (Ok o) later old new →
+    first ≡ main_input outside new
+told_since {o} {outside} {later} {first} old new e same before h =
+    before ∙ ap (λ out. main_input out old) (sym same) ∙ subst (λ x. GivenIs (main_input later old) (Ok x) later old new) e h ∙ ap (λ out. main_input out new) same

@@ -1,23 +1,17 @@
 -- Files that are written to, and the definition of printing.
-use Rattle.std.proofs.Common.{◌≡◌, ◌≢◌, ℕ, zero, suc, ◌+◌, ◌<◌, ◌≤◌, ◌==◌, List, [], ◌∷◌, ◌++◌, map, get_or, length, take, Option, Some, None, Result, Ok, Err, OnErr, OnOk, cond, if◌then◌else◌, Bool, true, false, refl, sym, ap, ◌∙◌, arith, subst}
-use Rattle.std.proofs.Math.Path.{fun_ext}
-use Rattle.std.proofs.lemmas.List.{length-map}
-use Rattle.std.proofs.lemmas.Bool.{eq-eqb, ne_eqb, eqb-true, le-leb, lt-leb}
+use Rattle.std.proofs.Common.{◌≡◌, ◌≢◌, ℕ, suc, ◌<◌, List, [], ◌∷◌, ◌++◌, map, get_or, take, Some, None, Result, Ok, Err, OnErr, OnOk, cond, if◌then◌else◌, Bool, true, false, refl, sym, ap, ◌∙◌, subst}
+use Rattle.std.proofs.lemmas.Bool.{eq-eqb, ne_eqb}
 use Rattle.awk_values.specs.declared.fault.Fault.{Fault}
-use Rattle.awk_values.specs.declared.fault.Fault.TheVariants.{OpenOutput, TooManyStreams}
 use Rattle.awk_values.specs.declared.fault.Stop.{Stop}
 use Rattle.awk_values.specs.declared.fault.Stop.TheVariants.{Fault as IsFault, NoMemory}
-use Rattle.world_core.specs.WorldState.{State, Source, Named, Standard, Open, Outside, Target, after}
-use Rattle.world_core.specs.Calls.{Kind, Closed, Closes, Reading, Writing, Opens, OpensWriter, set_kind}
+use Rattle.world_core.specs.WorldState.{State, Named, Standard, Open, Outside, Target, after}
+use Rattle.world_core.specs.Calls.{Kind, Closed, Reading, Writing, Opens, OpensWriter, set_kind}
 use Rattle.awk_state.specs.SharedState.{Shared, Does, Inner}
-use Rattle.awk_state.specs.OutputRows.{has_room, is_writing, kept_open, opened_if, streams, then_written, written, written_by}
-use Rattle.host_streams.specs.declared.streams.NamedReader.{NamedReader}
+use Rattle.awk_state.specs.OutputRows.{has_room, is_writing, kept_open, opened_if, then_written, written, written_by}
 use Rattle.host_streams.specs.declared.streams.NamedWriter.{NamedWriter}
-use Rattle.host_streams.specs.declared.streams.Streams.{Streams}
-use Rattle.host_streams.specs.Readers.{left}
-use Rattle.host_streams.specs.OpenFiles.{reader_handle, writer_handle, IsApart, IsNone, AreOpen, WritersGo, names_of, readers_in, is_writer, writer_place}
+use Rattle.host_streams.specs.OpenFiles.{writer_handle, IsApart, IsNone, AreOpen, WritersGo, names_of, is_writer, writer_place}
 use Rattle.host_streams.specs.Puts.{PutsBy, Spares}
-use Rattle.host_streams.specs.Outputs.{IsOf, PutsIs, with_writer}
+use Rattle.host_streams.specs.Outputs.{PutsIs, with_writer}
 use Rattle.host_streams.proofs.Places.{AllFail, First, first, all_fail, first_item}
 use Rattle.host_streams.proofs.Held.{other_name, same_name, not_standard, still_open}
 
@@ -131,8 +125,15 @@ pub none_more : (k : ℕ) (w : NamedWriter) (ws : List NamedWriter) → k ≢ w.
 none_more k w [] apart h = (apart, tt)
 none_more k w (x ∷ xs) apart h = (h.0, none_more k w xs apart h.1)
 
+pub none_but_last : (k : ℕ) (w : NamedWriter) (ws : List NamedWriter) → IsNone k (map writer_handle (ws ++ w ∷ [])) → (k ≢ w.id) × IsNone k (map writer_handle ws)
+none_but_last k w [] h = (h.0, tt)
+none_but_last k w (x ∷ xs) h = let rest = none_but_last k w xs h.1 in (rest.0, (h.0, rest.1))
+
 pub kind_stays : (kind : Kind) (id k : ℕ) (kinds after : ℕ → Kind) → Opens kind id kinds after → kinds k ≢ Closed → after k ≡ kinds k
 kind_stays kind id k kinds after o was = ap (λ (f : ℕ → Kind). f k) o.opened ∙ ap (λ b. cond b kind (kinds k)) (ne_eqb k id (other_number kinds k id o.was_closed was))
+
+pub was_kind : (kind : Kind) (id k : ℕ) (kinds after : ℕ → Kind) → Opens kind id kinds after → k ≢ id → kinds k ≡ after k
+was_kind kind id k kinds after o apart = sym (ap (λ (f : ℕ → Kind). f k) o.opened ∙ ap (λ b. cond b kind (kinds k)) (ne_eqb k id apart))
 
 -- What the definition says of a file that is opened.
 

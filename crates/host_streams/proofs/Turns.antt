@@ -1,5 +1,5 @@
 -- What a turn of a reader answers, told of all that it has left.
-use Rattle.std.proofs.Common.{◌≡◌, ◌≢◌, ℕ, ◌+◌, ◌-◌, ◌%◌, ◌^◌, ◌<◌, ◌≤◌, List, [], ◌∷◌, ◌++◌, length, take, drop, Bool, true, false, Option, Some, None, Result, Ok, Err, refl, sym, ◌∙◌, ap, subst, arith, append-nil, slice_range, drop-drop}
+use Rattle.std.proofs.Common.{◌≡◌, ℕ, List, [], ◌++◌, drop, Option, Ok, Err, refl, sym, ◌∙◌, ap, append-nil, slice_range}
 use Rattle.awk_values.specs.declared.fault.Fault.TheVariants.{TextLimit}
 use Rattle.world_core.specs.declared.world.Ending.TheVariants.{End as IsEnd}
 use Rattle.world_core.specs.WorldState.{Source}

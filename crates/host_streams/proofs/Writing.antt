@@ -1,10 +1,10 @@
 -- Actions one after another.
-use Rattle.std.proofs.Common.{◌≡◌, ℕ, ◌+◌, ◌-◌, ◌<◌, ◌≤◌, ◌==◌, List, [], ◌∷◌, ◌++◌, map, length, take, drop, Bool, true, false, cond, refl, sym, ◌∙◌, ap, subst, arith, Option, Some, None, IfSome, length-append, Result, Ok, Err}
+use Rattle.std.proofs.Common.{◌≡◌, ℕ, ◌+◌, ◌-◌, ◌<◌, ◌≤◌, List, [], ◌∷◌, ◌++◌, length, take, drop, true, cond, refl, sym, ◌∙◌, ap, subst, arith, Option, Some, None, IfSome, length-append, Ok, Err}
 use Rattle.std.proofs.lemmas.Cmp.{nat_list_eq_equiv}
 use Rattle.std.proofs.Common.{zero, suc, length-take}
 use Rattle.std.proofs.lemmas.List.{take_all}
 use Rattle.std.proofs.Common.{take-add, length-drop}
-use Rattle.host_streams.specs.Puts.{PutsSome, PutsText}
+use Rattle.host_streams.specs.Puts.{PutsText}
 use Rattle.awk_state.specs.OutputRows.{all_fits, what_fits}
 use Rattle.std.proofs.lemmas.Bool.{le-leb, lt-leb}
 use Rattle.std.proofs.lemmas.List.{take-take}

@@ -1,9 +1,8 @@
 -- What the bytes that were read so far tell of the first record, whatever follows them.
-use Rattle.std.specs.Prelude.{◌≡◌, ℕ, suc, ◌+◌, ◌^◌, ◌==◌, ◌≤◌, List, [], ◌∷◌, ◌++◌, length, take, drop, cond, Option, Some, None, Result, Ok, Err, slice_range}
-use Rattle.awk_values.specs.declared.fault.Fault.{Fault}
+use Rattle.std.specs.Prelude.{◌≡◌, ℕ, suc, ◌+◌, ◌^◌, ◌==◌, ◌≤◌, List, [], ◌∷◌, ◌++◌, length, take, drop, cond, Option, Some, None, Ok, Err, slice_range}
 use Rattle.awk_values.specs.declared.fault.Fault.TheVariants.{TextLimit}
 use Rattle.world_core.specs.declared.world.Ending.{Ending}
-use Rattle.awk_state.specs.Records.{Got, first_record, of_rest, cut, width, skipped}
+use Rattle.awk_state.specs.Records.{first_record, of_rest, cut, width, skipped}
 use Rattle.awk_state.specs.Records.{Record as IsRecord}
 use Rattle.host_streams.specs.declared.look.Known.{Known}
 use Rattle.host_streams.specs.declared.look.Look.{Look}

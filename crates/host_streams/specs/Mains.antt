@@ -1,7 +1,7 @@
 -- The main input, as the definition has it.
-use Rattle.std.specs.Prelude.{◌≡◌, ◌≢◌, ℕ, ◌⊎◌, ◌+◌, ◌*◌, ◌-◌, ◌^◌, ◌<◌, ◌≤◌, ◌==◌, ◌&&◌, nat_le, ℤ, List, [], ◌∷◌, length, take, drop, Bool, false, Option, Some, None, Result, Ok, Err, pos}
+use Rattle.std.specs.Prelude.{◌≡◌, ◌≢◌, ℕ, ◌⊎◌, ◌+◌, ◌*◌, ◌-◌, ◌^◌, ◌<◌, ◌≤◌, ◌==◌, ◌&&◌, ◌%◌, nat_le, ℤ, List, [], ◌∷◌, length, take, drop, Bool, true, false, Option, Some, None, Result, Ok, Err, pos}
 use Rattle.awk_values.specs.declared.fault.Fault.{Fault}
-use Rattle.awk_values.specs.declared.fault.Fault.TheVariants.{OpenInput, ReadFailed}
+use Rattle.awk_values.specs.declared.fault.Fault.TheVariants.{Fraction, OpenInput, Range, ReadFailed, TextLimit}
 use Rattle.awk_values.specs.declared.fault.Stop.{Stop}
 use Rattle.awk_values.specs.declared.fault.Stop.TheVariants.{Fault as IsFault, NoMemory}
 use Rattle.awk_values.specs.declared.value.Value.{Value}
@@ -22,7 +22,11 @@ use Rattle.host_streams.specs.declared.main_input.MainInput.{MainInput as Mains}
 use Rattle.host_streams.specs.declared.main_input.Reading.{Reading}
 use Rattle.host_streams.specs.declared.main_input.Reading.TheVariants as reading
 use Rattle.host_streams.specs.declared.reader.FileNext.{FileNext}
-use Rattle.host_streams.specs.Readers.{left, Answers}
+use Rattle.host_streams.specs.declared.reader.FileNext.TheVariants.{Failed as ReadFails}
+use Rattle.host_streams.specs.declared.reader.Phase.{Phase}
+use Rattle.host_streams.specs.declared.reader.Phase.TheVariants.{Open, Broken}
+use Rattle.host_streams.specs.declared.reader.Reader.{Reader}
+use Rattle.host_streams.specs.Readers.{left, Answers, NextCounts}
 
 abbrev pub operands_of : Found → Operands
 operands_of found.NoFile = NoFile
@@ -44,8 +48,72 @@ FileIsOpen reading.Nothing kinds = Unit {0}
 FileIsOpen reading.Standard kinds = Unit {0}
 FileIsOpen (reading.File r) kinds = (1 < r.id) × (kinds r.id ≡ IsReading)
 
+-- the standard input has failed only where it is read, since nothing else is read after that
+abbrev pub StandardIs : Reading → Phase → Type 0
+StandardIs reading.Nothing p = p ≢ Broken
+StandardIs reading.Standard p = Unit {0}
+StandardIs (reading.File r) p = p ≢ Broken
+
 abbrev pub HoldsMain : Mains → (ℕ → Kind) → Type 0
-HoldsMain m kinds = (m.standard.id ≡ 0) × FileIsOpen m.reading kinds
+HoldsMain m kinds = (m.standard.id ≡ 0) × FileIsOpen m.reading kinds × StandardIs m.reading m.standard.phase
+
+-- how far the reader at hand is; none is at hand once the end was told
+abbrev pub phase_at : Reading → Reader → Phase
+phase_at reading.Nothing standard = Open
+phase_at reading.Standard standard = standard.phase
+phase_at (reading.File r) standard = r.phase
+
+abbrev pub phase_by : Bool → Reading → Reader → Phase
+phase_by true reading standard = Open
+phase_by false reading standard = phase_at reading standard
+
+abbrev pub main_phase : Mains → Phase
+main_phase m = phase_by m.ended m.reading m.standard
+
+-- a failed read is told once the reader at hand is broken, and then for ever
+abbrev pub tells_failure : {A : Type 0} → Result A Stop → Bool
+tells_failure (Err (IsFault ReadFailed)) = true
+tells_failure r = false
+
+abbrev pub PhaseBy : Bool → Phase → Phase → Type 0
+PhaseBy true p q = q ≡ Broken
+PhaseBy false p q = (p ≢ Broken) × (q ≢ Broken)
+
+abbrev pub MainPhase : {A : Type 0} → Phase → Result A Stop → Phase → Type 0
+MainPhase p r q = PhaseBy (tells_failure r) p q
+
+-- a fault that tells of no device
+abbrev pub IsOfNumber : Fault → Type 0
+IsOfNumber fault = (fault ≡ Range) ⊎ (fault ≡ Fraction)
+
+abbrev pub IsOwn : Fault → Type 0
+IsOwn fault = (fault ≡ TextLimit) ⊎ IsOfNumber fault
+
+-- the failures go up by one where a file does not open, and where a reader breaks, and nowhere else; there is no other fault than these and its own
+abbrev pub MainCounts : {A : Type 0} → Phase → Result A Stop → ℕ → ℕ → Type 0
+MainCounts p (Err (IsFault OpenInput)) n m = m ≡ (n + 1) % 2 ^ 64
+MainCounts p (Err (IsFault ReadFailed)) n m = NextCounts p (Ok ReadFails) n m
+MainCounts p (Err (IsFault fault)) n m = IsOwn fault × (m ≡ n)
+MainCounts p r n m = m ≡ n
+
+-- the end is told once nothing is left, and then for ever
+abbrev pub StepEnds : Bool → Result (Option MainNext) Stop → Bool → Type 0
+StepEnds was (Ok (Some End)) is = is ≡ true
+StepEnds was r is = (was ≡ false) × (is ≡ false)
+
+abbrev pub MainEnds : Bool → Result MainNext Stop → Bool → Type 0
+MainEnds was (Ok answer) is = StepEnds was (Ok (Some answer)) is
+MainEnds was (Err stop) is = (was ≡ false) × (is ≡ false)
+
+-- a file is opened, or it does not open
+abbrev pub OperandCounts : Result Reading Stop → ℕ → ℕ → Type 0
+OperandCounts (Ok reading.Nothing) n m = m ≡ (n + 1) % 2 ^ 64
+OperandCounts r n m = m ≡ n
+
+abbrev pub IsFresh : Reading → Type 0
+IsFresh reading.Nothing = Unit {0}
+IsFresh reading.Standard = Unit {0}
+IsFresh (reading.File r) = r.phase ≡ Open
 
 -- what is left in the reader at hand
 abbrev pub main_source : MainReader → MainInput → Source

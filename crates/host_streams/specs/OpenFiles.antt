@@ -1,6 +1,6 @@
 -- The files that a script has open, by their names.
-use Rattle.std.specs.Prelude.{◌≡◌, ◌≢◌, ◌⊎◌, ℕ, ◌+◌, ◌%◌, ◌^◌, ◌<◌, nat_lt, List, [], ◌∷◌, map, length, Bool, true, false, Option, Some, None, Result, Ok, Err, position, if◌then◌else◌}
-use Rattle.awk_values.specs.declared.fault.Fault.TheVariants.{TooManyStreams}
+use Rattle.std.specs.Prelude.{◌≡◌, ◌≢◌, ◌⊎◌, ℕ, ◌+◌, ◌%◌, ◌^◌, ◌<◌, nat_lt, List, [], ◌∷◌, ◌++◌, map, filter, not, length, Bool, true, false, Option, Some, None, Result, Ok, Err, position, if◌then◌else◌}
+use Rattle.awk_values.specs.declared.fault.Fault.TheVariants.{TextLimit, TooManyStreams}
 use Rattle.awk_values.specs.declared.fault.Stop.{Stop}
 use Rattle.awk_values.specs.declared.fault.Stop.TheVariants.{Fault as IsFault, NoMemory}
 use Rattle.world_core.specs.WorldState.{State, Source, Named, Entry}
@@ -14,7 +14,7 @@ use Rattle.host_streams.specs.declared.reader.FileNext.TheVariants.{Record, End,
 use Rattle.host_streams.specs.declared.streams.NamedReader.{NamedReader}
 use Rattle.host_streams.specs.declared.streams.NamedWriter.{NamedWriter}
 use Rattle.host_streams.specs.declared.streams.Streams.{Streams}
-use Rattle.host_streams.specs.Readers.{left, Answers}
+use Rattle.host_streams.specs.Readers.{left, Answers, OnlyLimit}
 
 -- the name and the number of an open stream
 abbrev pub reader_handle : NamedReader → List ℕ × ℕ
@@ -73,6 +73,13 @@ writer_place name writers = position (is_writer name) writers
 abbrev pub names_of : List NamedWriter → List (List ℕ)
 names_of writers = map (λ w. w.name) writers
 
+-- the streams of other names, with what they keep
+abbrev pub readers_beside : List ℕ → List NamedReader → List NamedReader
+readers_beside name readers = filter (λ r. not (is_reader name r)) readers
+
+abbrev pub writers_beside : List ℕ → List NamedWriter → List NamedWriter
+writers_beside name writers = filter (λ w. not (is_writer name w)) writers
+
 -- one more may be opened
 abbrev pub has_room : Streams → Bool
 has_room s = nat_lt (length s.readers.items + length s.writers.items) 256
@@ -87,6 +94,31 @@ OpensFile name room state old (Err NoMemory) new = (room ≡ true) × (new ≡ o
 abbrev pub OpenCounts : Result (Option ℕ) Stop → ℕ → ℕ → Type 0
 OpenCounts (Ok None) n m = m ≡ (n + 1) % 2 ^ 64
 OpenCounts r n m = m ≡ n
+
+-- one more is open for reading, last
+abbrev pub IsAdded : List ℕ → List NamedReader → List NamedReader → Type 0
+IsAdded name old new = (id : ℕ) × (map reader_handle new ≡ map reader_handle old ++ ((name, id) ∷ []))
+
+-- a file is opened last, or nothing is opened
+abbrev pub OpensReader : Bool → List ℕ → List NamedReader → Result (Option ℕ) Stop → List NamedReader → Type 0
+OpensReader room name old (Ok (Some at)) new = (room ≡ true) × IsAdded name old new
+OpensReader room name old (Ok None) new = (room ≡ true) × (new ≡ old)
+OpensReader room name old (Err (IsFault fault)) new = (room ≡ false) × (fault ≡ TooManyStreams) × (new ≡ old)
+OpensReader room name old (Err NoMemory) new = (room ≡ true) × (new ≡ old)
+
+-- A file without a reader is opened, if memory suffices, and read. One that does not open has no reader; one of which a read failed has one, and the answer is the same.
+abbrev pub StartsReader : List ℕ → List NamedReader → Result FileNext Stop → List NamedReader → Type 0
+StartsReader name old (Ok (Record text)) new = IsAdded name old new
+StartsReader name old (Ok End) new = IsAdded name old new
+StartsReader name old (Ok Failed) new = (new ≡ old) ⊎ (IsAdded name old new × (phase_named name new ≡ Broken))
+StartsReader name old (Err (IsFault fault)) new = (fault ≡ TextLimit) × IsAdded name old new
+StartsReader name old (Err NoMemory) new = (new ≡ old) ⊎ IsAdded name old new
+
+-- which files are open for reading then, by whether this one was and whether one more may be opened
+abbrev pub ReadersAfter : Bool → Bool → List ℕ → List NamedReader → Result FileNext Stop → List NamedReader → Type 0
+ReadersAfter true room name old answer new = OnlyLimit answer × (map reader_handle new ≡ map reader_handle old)
+ReadersAfter false false name old answer new = (answer ≡ Err (IsFault TooManyStreams)) × (new ≡ old)
+ReadersAfter false true name old answer new = StartsReader name old answer new
 
 -- the next record of a file that is open
 pub record ReadsFile (name : List ℕ) (rs : Option ℕ) (old : List (List ℕ × Source)) (answer : Result FileNext Stop) (new : List (List ℕ × Source)) : Type 0 where

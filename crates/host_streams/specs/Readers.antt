@@ -1,8 +1,8 @@
 -- What a reader has left, and what asking it for a record does.
 use Rattle.std.specs.Prelude.{◌≡◌, ◌≢◌, ℕ, ◌+◌, ◌-◌, ◌%◌, ◌^◌, ◌<◌, List, [], ◌++◌, length, take, drop, Bool, true, false, Option, Result, Ok, Err}
+use Rattle.awk_values.specs.declared.fault.Fault.TheVariants.{TextLimit}
 use Rattle.awk_values.specs.declared.fault.Stop.{Stop}
 use Rattle.awk_values.specs.declared.fault.Stop.TheVariants.{Fault as IsFault, NoMemory as OutOfMemory}
-use Rattle.world_core.specs.declared.world.Ending.{Ending}
 use Rattle.world_core.specs.declared.world.Ending.TheVariants.{End as IsEnd, Fails as IsFailure}
 use Rattle.world_core.specs.declared.world.WorldFault.{WorldFault}
 use Rattle.world_core.specs.declared.world.WorldFault.TheVariants.{Failed as DeviceFailed, NoMemory}
@@ -10,7 +10,6 @@ use Rattle.world_core.specs.WorldState.{State, Source}
 use Rattle.awk_state.specs.Records.{first_record}
 use Rattle.awk_state.specs.Records.{Record as GotRecord, AtEnd as GotEnd, Broken as GotFailure}
 use Rattle.host_streams.specs.Looks.{IsScanned}
-use Rattle.host_streams.specs.declared.look.Known.{Known}
 use Rattle.host_streams.specs.declared.reader.Phase.{Phase}
 use Rattle.host_streams.specs.declared.reader.Phase.TheVariants.{Open, Ended, Broken}
 use Rattle.host_streams.specs.declared.reader.Reader.{Reader}
@@ -119,6 +118,11 @@ abbrev pub NextCounts : Phase → Result FileNext Stop → ℕ → ℕ → Type 
 NextCounts Broken (Ok Failed) n m = m ≡ n
 NextCounts p (Ok Failed) n m = m ≡ (n + 1) % 2 ^ 64
 NextCounts p r n m = m ≡ n
+
+-- no other fault than this
+abbrev pub OnlyLimit : {A : Type 0} → Result A Stop → Type 0
+OnlyLimit (Err (IsFault fault)) = fault ≡ TextLimit
+OnlyLimit r = Unit {0}
 
 -- no answer: something was read
 abbrev pub GoesOn : Result Turn Stop → ℕ → ℕ → Type 0

@@ -5,7 +5,7 @@ ghost use Rattle.awk_state.specs.OutputRows.{is_writing};
 ghost use Rattle.awk_state.specs.SharedState.{Shared};
 ghost use Rattle.awk_values.specs.declared.value.Value.TheVariants.{Text};
 ghost use Rattle.host_streams.specs.Closing.{ClosesBy};
-ghost use Rattle.host_streams.specs.OpenFiles.{HoldsOpen, OthersKeep, OthersStay, WritersGo, names_of, reader_names, readers_in};
+ghost use Rattle.host_streams.specs.OpenFiles.{HoldsOpen, OthersKeep, OthersStay, WritersGo, names_of, reader_names, readers_beside, readers_in, writers_beside};
 ghost use Rattle.host_streams.specs.Outputs.{IsOf};
 
 use crate::output::find_writer;
@@ -22,10 +22,12 @@ impl Streams {
         ensures writers { self.new.writers ≡ self.old.writers }
         ensures count { W.count world.new ≡ W.count world.old }
         ensures answer { result ≡ is_writing name.now (reader_names self.old.readers.items) }
+        ensures kept { self.new.readers.items ≡ readers_beside name.now self.old.readers.items }
         ensures names { reader_names self.new.readers.items ≡ without_writer name.now (reader_names self.old.readers.items) }
         ensures told { W.tells → readers_in self.new.readers.items (W.state world.new) ≡ without_reader name.now (readers_in self.old.readers.items (W.state world.old)) }
         ensures outside { W.tells → (W.state world.new).outside ≡ (W.state world.old).outside }
         ensures others { OthersStay self.old self.new (W.kinds world.old) (W.kinds world.new) }
+        ensures no_others { OthersStay self.new self.old (W.kinds world.new) (W.kinds world.old) }
         ensures places { W.tells → OthersKeep self.old (W.kinds world.old) (W.state world.old) (W.state world.new) }
     {
         match find_reader(self.readers.as_slice(), name) {
@@ -47,10 +49,12 @@ impl Streams {
         ensures readers { self.new.readers ≡ self.old.readers }
         ensures count { W.count world.new ≡ W.count world.old }
         ensures answer { result ≡ is_writing name.now (names_of self.old.writers.items) }
+        ensures kept { self.new.writers.items ≡ writers_beside name.now self.old.writers.items }
         ensures names { names_of self.new.writers.items ≡ without_writer name.now (names_of self.old.writers.items) }
         ensures told { W.tells → readers_in self.new.readers.items (W.state world.new) ≡ readers_in self.old.readers.items (W.state world.old) }
         ensures outside { W.tells → (W.state world.new).outside ≡ (W.state world.old).outside }
         ensures others { OthersStay self.old self.new (W.kinds world.old) (W.kinds world.new) }
+        ensures no_others { OthersStay self.new self.old (W.kinds world.new) (W.kinds world.old) }
         ensures places { W.tells → OthersKeep self.old (W.kinds world.old) (W.state world.old) (W.state world.new) }
     {
         match find_writer(self.writers.as_slice(), name) {
@@ -71,12 +75,15 @@ impl Streams {
         ensures held { HoldsOpen self.new (W.kinds world.new) }
         ensures goes { W.tells → WritersGo self.new.writers.items (W.state world.new) }
         ensures answer { result ≡ (is_writing name.now (reader_names self.old.readers.items) || is_writing name.now (names_of self.old.writers.items)) }
+        ensures readers { self.new.readers.items ≡ readers_beside name.now self.old.readers.items }
+        ensures writers { self.new.writers.items ≡ writers_beside name.now self.old.writers.items }
         ensures reader_names { reader_names self.new.readers.items ≡ without_writer name.now (reader_names self.old.readers.items) }
         ensures writer_names { names_of self.new.writers.items ≡ without_writer name.now (names_of self.old.writers.items) }
         ensures count { W.count world.new ≡ W.count world.old }
         ensures told { W.tells → (shared : Shared) → IsOf self.old (W.state world.old) shared → ClosesBy (close_row (Text name.now) shared.inner) result self.new (W.state world.new) }
         ensures outside { W.tells → (W.state world.new).outside ≡ (W.state world.old).outside }
         ensures others { OthersStay self.old self.new (W.kinds world.old) (W.kinds world.new) }
+        ensures no_others { OthersStay self.new self.old (W.kinds world.new) (W.kinds world.old) }
         ensures places { W.tells → OthersKeep self.old (W.kinds world.old) (W.state world.old) (W.state world.new) }
     {
         let reading = self.close_reader(world, name);

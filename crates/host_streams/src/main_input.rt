@@ -8,7 +8,9 @@ ghost use Rattle.awk_state.specs.Assignments.{assignment_of, continues_name};
 ghost use Rattle.awk_state.specs.InputRows.{follows, main_input, reader_of, taken};
 ghost use Rattle.awk_state.specs.Records.{record_separator};
 ghost use Rattle.awk_state.specs.SharedState.{Inner};
-ghost use Rattle.host_streams.specs.Mains.{AnswerIs, FileIsOpen, GivenIs, GoesOn, HoldsMain, IsApartFrom, IsAsked, IsOffered, NameLen, ReadsMain, SparesKinds, SparesPlaces, begins, has_operand, idle, is_equals, main_at_start, main_of, passed, reading_of, rest_of, with_main};
+ghost use Rattle.host_streams.specs.declared.reader.Phase.TheVariants.{Broken, Open};
+ghost use Rattle.host_streams.specs.Readers.{NextCounts, NextPhase, OnlyLimit};
+ghost use Rattle.host_streams.specs.Mains.{AnswerIs, FileIsOpen, GivenIs, GoesOn, HoldsMain, IsApartFrom, IsAsked, IsFresh, IsOfNumber, IsOffered, MainCounts, MainEnds, MainPhase, NameLen, OperandCounts, ReadsMain, SparesKinds, SparesPlaces, StandardIs, StepEnds, begins, has_operand, idle, is_equals, main_at_start, main_of, main_phase, passed, phase_at, reading_of, rest_of, with_main};
 
 use crate::reader::{FileNext, Reader};
 use crate::streams::first_byte;
@@ -131,6 +133,9 @@ fn open_operand<W: World>(world: &mut W, alloc: Global, name: &[u8]) -> Result<R
     ensures told { W.tells → IfOk result (λ r. reader_of (W.state world.old).outside name.now ≡ reading_of r (W.state world.new)) }
     ensures refused { W.tells → OnErr result (W.state world.new ≡ W.state world.old) }
     ensures memory { IfErr result (λ stop. stop ≡ Stop.NoMemory) }
+    ensures count { OperandCounts result (W.count world.old) (W.count world.new) }
+    ensures fresh { IfOk result (λ r. IsFresh r) }
+    ensures no_others { IfOk result (λ r. SparesKinds r Reading.Nothing (W.kinds world.new) (W.kinds world.old)) }
     ensures standard { W.tells → (W.state world.new).readers 0 ≡ (W.state world.old).readers 0 }
     ensures opened { IfOk result (λ r. SparesKinds Reading.Nothing r (W.kinds world.old) (W.kinds world.new)) }
     ensures not_opened { OnErr result (W.kinds world.new ≡ W.kinds world.old) }
@@ -149,7 +154,8 @@ fn open_operand<W: World>(world: &mut W, alloc: Global, name: &[u8]) -> Result<R
 
 /// Whether there may be an operand of this number.
 fn has_operand(number: u32, argc: &Value) -> Result<bool, Fault>
-    ensures { result ≡ has_operand number (number_of_value argc.now) }
+    ensures value { result ≡ has_operand number (number_of_value argc.now) }
+    ensures own { IfErr result (λ fault. IsOfNumber fault) }
 {
     match to_number(argc) {
         Ok(count) => Ok(number <= LAST && i64::from(number) < count),
@@ -180,10 +186,14 @@ impl MainInput {
         ensures held { HoldsMain self.new (W.kinds world.new) }
         ensures kinds { W.kinds world.new ≡ W.kinds world.old }
         ensures ended { self.new.ended ≡ self.old.ended }
+        ensures count { NextCounts (phase_at self.old.reading self.old.standard) result (W.count world.old) (W.count world.new) }
+        ensures phase { NextPhase (phase_at self.old.reading self.old.standard) result (phase_at self.new.reading self.new.standard) }
+        ensures limit { OnlyLimit result }
         ensures next { self.new.next ≡ self.old.next }
         ensures busy { self.new.reading ≢ Reading.Nothing }
         ensures told { W.tells → ReadsMain rs (main_of self.old (W.state world.old)) result (main_of self.new (W.state world.new)) }
         ensures spares { SparesKinds self.old.reading self.new.reading (W.kinds world.old) (W.kinds world.new) }
+        ensures no_others { SparesKinds self.new.reading self.old.reading (W.kinds world.new) (W.kinds world.old) }
         ensures places { W.tells → SparesPlaces self.old.reading (W.kinds world.old) (W.state world.old) (W.state world.new) }
         ensures outside { W.tells → (W.state world.new).outside ≡ (W.state world.old).outside }
     {
@@ -197,6 +207,7 @@ impl MainInput {
     /// Closes the file that is read, if one is.
     fn stop_reading<W: World>(&mut self, world: &mut W)
         requires held { HoldsMain self.old (W.kinds world.old) }
+        requires whole { self.old.standard.phase ≢ Broken }
         ensures held { HoldsMain self.new (W.kinds world.new) }
         ensures nothing { self.new.reading ≡ Reading.Nothing }
         ensures ended { self.new.ended ≡ self.old.ended }
@@ -204,6 +215,7 @@ impl MainInput {
         ensures count { W.count world.new ≡ W.count world.old }
         ensures told { W.tells → main_of self.new (W.state world.new) ≡ idle (main_of self.old (W.state world.old)) }
         ensures spares { SparesKinds self.old.reading self.new.reading (W.kinds world.old) (W.kinds world.new) }
+        ensures no_others { SparesKinds self.new.reading self.old.reading (W.kinds world.new) (W.kinds world.old) }
         ensures places { W.tells → SparesPlaces self.old.reading (W.kinds world.old) (W.state world.old) (W.state world.new) }
         ensures outside { W.tells → (W.state world.new).outside ≡ (W.state world.old).outside }
     {
@@ -221,7 +233,11 @@ impl MainInput {
         ensures held { HoldsMain self.new (W.kinds world.new) }
         ensures told { W.tells → (inner : Inner) → IsAsked rs inner → GivenIs (main_input (W.state world.old).outside (with_main (main_of self.old (W.state world.old)) inner)) result (W.state world.old).outside (with_main (main_of self.old (W.state world.old)) inner) (with_main (main_of self.new (W.state world.new)) inner) }
         ensures goes_on { GoesOn result self.old self.new }
+        ensures count { MainCounts (main_phase self.old) result (W.count world.old) (W.count world.new) }
+        ensures phase { MainPhase (main_phase self.old) result (main_phase self.new) }
+        ensures ends { StepEnds self.old.ended result self.new.ended }
         ensures spares { SparesKinds self.old.reading self.new.reading (W.kinds world.old) (W.kinds world.new) }
+        ensures no_others { SparesKinds self.new.reading self.old.reading (W.kinds world.new) (W.kinds world.old) }
         ensures places { W.tells → SparesPlaces self.old.reading (W.kinds world.old) (W.state world.old) (W.state world.new) }
         ensures outside { W.tells → (W.state world.new).outside ≡ (W.state world.old).outside }
     {
@@ -240,11 +256,16 @@ impl MainInput {
     fn follow(&mut self) -> Result<Option<MainNext>, Stop>
         requires idle { self.old.reading ≡ Reading.Nothing }
         requires live { self.old.ended ≡ false }
+        requires whole { self.old.standard.phase ≢ Broken }
         ensures standard { self.new.standard ≡ self.old.standard }
         ensures held { (kinds : ℕ → Kind) → FileIsOpen self.new.reading kinds }
+        ensures whole { StandardIs self.new.reading self.new.standard.phase }
         ensures apart { (k : ℕ) → IsApartFrom k self.new.reading }
         ensures told { (state : State) (inner : Inner) → GivenIs (follows (main_of self.old state).operands (with_main (main_of self.old state) inner)) result state.outside (with_main (main_of self.old state) inner) (with_main (main_of self.new state) inner) }
         ensures goes_on { GoesOn result self.old self.new }
+        ensures count { (n : ℕ) → MainCounts Open result n n }
+        ensures phase { MainPhase Open result (main_phase self.new) }
+        ensures ends { StepEnds self.old.ended result self.new.ended }
     {
         if let Found::NoFile = self.found {
             let name = Bytes::from_slice(self.alloc, &[])?;
@@ -267,9 +288,13 @@ impl MainInput {
         ensures held { HoldsMain self.new (W.kinds world.new) }
         ensures told { W.tells → (inner : Inner) → GivenIs (taken (rest_of (passed (main_of self.old (W.state world.old))) (W.state world.old).outside) (W.state world.old).outside name (with_main (passed (main_of self.old (W.state world.old))) inner)) result (W.state world.old).outside (with_main (main_of self.old (W.state world.old)) inner) (with_main (main_of self.new (W.state world.new)) inner) }
         ensures spares { SparesKinds self.old.reading self.new.reading (W.kinds world.old) (W.kinds world.new) }
+        ensures no_others { SparesKinds self.new.reading self.old.reading (W.kinds world.new) (W.kinds world.old) }
         ensures places { W.tells → SparesPlaces self.old.reading (W.kinds world.old) (W.state world.old) (W.state world.new) }
         ensures outside { W.tells → (W.state world.new).outside ≡ (W.state world.old).outside }
         ensures goes_on { GoesOn result self.old self.new }
+        ensures count { MainCounts Open result (W.count world.old) (W.count world.new) }
+        ensures phase { MainPhase Open result (main_phase self.new) }
+        ensures ends { StepEnds self.old.ended result self.new.ended }
     {
         let opened = open_operand(world, self.alloc, name.as_slice())?;
         self.next += 1;
@@ -283,12 +308,17 @@ impl MainInput {
 
     /// An operand that is an assignment is passed.
     fn assign(&mut self, text: &[u8], len: usize) -> Result<Option<MainNext>, Stop>
+        requires idle { self.old.reading ≡ Reading.Nothing }
+        requires live { self.old.ended ≡ false }
         requires name { NameLen text.now (Some len) }
         requires next { self.old.next ≤ 2 ^ 20 }
         ensures standard { self.new.standard ≡ self.old.standard }
         ensures reading { self.new.reading ≡ self.old.reading }
         ensures told { (state : State) (inner : Inner) → GivenIs (taken (rest_of (passed (main_of self.old state)) state.outside) state.outside text.now (with_main (passed (main_of self.old state)) inner)) result state.outside (with_main (main_of self.old state) inner) (with_main (main_of self.new state) inner) }
         ensures goes_on { GoesOn result self.old self.new }
+        ensures count { (n : ℕ) → MainCounts Open result n n }
+        ensures phase { MainPhase Open result (main_phase self.new) }
+        ensures ends { StepEnds self.old.ended result self.new.ended }
     {
         let name = Bytes::from_slice(self.alloc, &text[..len])?;
         let value = Bytes::from_slice(self.alloc, &text[len + 1..])?;
@@ -310,7 +340,11 @@ impl MainInput {
         ensures held { HoldsMain self.new (W.kinds world.new) }
         ensures told { W.tells → (inner : Inner) → GivenIs (taken (rest_of (passed (main_of self.old (W.state world.old))) (W.state world.old).outside) (W.state world.old).outside (O.text operands.now self.old.next) (with_main (passed (main_of self.old (W.state world.old))) inner)) result (W.state world.old).outside (with_main (main_of self.old (W.state world.old)) inner) (with_main (main_of self.new (W.state world.new)) inner) }
         ensures goes_on { GoesOn result self.old self.new }
+        ensures count { MainCounts Open result (W.count world.old) (W.count world.new) }
+        ensures phase { MainPhase Open result (main_phase self.new) }
+        ensures ends { StepEnds self.old.ended result self.new.ended }
         ensures spares { SparesKinds self.old.reading self.new.reading (W.kinds world.old) (W.kinds world.new) }
+        ensures no_others { SparesKinds self.new.reading self.old.reading (W.kinds world.new) (W.kinds world.old) }
         ensures places { W.tells → SparesPlaces self.old.reading (W.kinds world.old) (W.state world.old) (W.state world.new) }
         ensures outside { W.tells → (W.state world.new).outside ≡ (W.state world.old).outside }
     {
@@ -338,7 +372,11 @@ impl MainInput {
         ensures held { HoldsMain self.new (W.kinds world.new) }
         ensures told { W.tells → (inner : Inner) → IsOffered argc.now (O.text operands.now) inner → GivenIs (main_input (W.state world.old).outside (with_main (main_of self.old (W.state world.old)) inner)) result (W.state world.old).outside (with_main (main_of self.old (W.state world.old)) inner) (with_main (main_of self.new (W.state world.new)) inner) }
         ensures goes_on { GoesOn result self.old self.new }
+        ensures count { MainCounts Open result (W.count world.old) (W.count world.new) }
+        ensures phase { MainPhase Open result (main_phase self.new) }
+        ensures ends { StepEnds self.old.ended result self.new.ended }
         ensures spares { SparesKinds self.old.reading self.new.reading (W.kinds world.old) (W.kinds world.new) }
+        ensures no_others { SparesKinds self.new.reading self.old.reading (W.kinds world.new) (W.kinds world.old) }
         ensures places { W.tells → SparesPlaces self.old.reading (W.kinds world.old) (W.state world.old) (W.state world.new) }
         ensures outside { W.tells → (W.state world.new).outside ≡ (W.state world.old).outside }
     {
@@ -364,7 +402,11 @@ impl MainInput {
         ensures held { HoldsMain self.new (W.kinds world.new) }
         ensures told { W.tells → (inner : Inner) → IsAsked rs inner → IsOffered argc.now (O.text operands.now) inner → GivenIs (main_input (W.state world.old).outside (with_main (main_of self.old (W.state world.old)) inner)) result (W.state world.old).outside (with_main (main_of self.old (W.state world.old)) inner) (with_main (main_of self.new (W.state world.new)) inner) }
         ensures goes_on { GoesOn result self.old self.new }
+        ensures count { MainCounts (main_phase self.old) result (W.count world.old) (W.count world.new) }
+        ensures phase { MainPhase (main_phase self.old) result (main_phase self.new) }
+        ensures ends { StepEnds self.old.ended result self.new.ended }
         ensures spares { SparesKinds self.old.reading self.new.reading (W.kinds world.old) (W.kinds world.new) }
+        ensures no_others { SparesKinds self.new.reading self.old.reading (W.kinds world.new) (W.kinds world.old) }
         ensures places { W.tells → SparesPlaces self.old.reading (W.kinds world.old) (W.state world.old) (W.state world.new) }
         ensures outside { W.tells → (W.state world.new).outside ≡ (W.state world.old).outside }
     {
@@ -395,7 +437,11 @@ impl MainInput {
         requires held { HoldsMain self.old (W.kinds world.old) }
         ensures held { HoldsMain self.new (W.kinds world.new) }
         ensures told { W.tells → (inner : Inner) → IsAsked (record_separator rs.now) inner → IsOffered argc.now (O.text operands.now) inner → AnswerIs (main_input (W.state world.old).outside (with_main (main_of self.old (W.state world.old)) inner)) result (W.state world.old).outside (with_main (main_of self.old (W.state world.old)) inner) (with_main (main_of self.new (W.state world.new)) inner) }
+        ensures count { MainCounts (main_phase self.old) result (W.count world.old) (W.count world.new) }
+        ensures phase { MainPhase (main_phase self.old) result (main_phase self.new) }
+        ensures ends { MainEnds self.old.ended result self.new.ended }
         ensures spares { SparesKinds self.old.reading self.new.reading (W.kinds world.old) (W.kinds world.new) }
+        ensures no_others { SparesKinds self.new.reading self.old.reading (W.kinds world.new) (W.kinds world.old) }
         ensures places { W.tells → SparesPlaces self.old.reading (W.kinds world.old) (W.state world.old) (W.state world.new) }
         ensures outside { W.tells → (W.state world.new).outside ≡ (W.state world.old).outside }
     {

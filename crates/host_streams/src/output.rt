@@ -1,5 +1,5 @@
 //! Texts that go to the standard output and to files.
-ghost use Rattle.std.specs.Prelude.{◌≡◌, None, true, false, IfOk, OnErr, OnOk};
+ghost use Rattle.std.specs.Prelude.{◌≡◌, None, true, false, take, vec_len, IfOk, OnErr, OnOk};
 ghost use Rattle.world_core.specs.WorldState.{Named};
 ghost use Rattle.world_core.specs.Calls.{Opens, Writing};
 ghost use Rattle.awk_state.specs.SharedState.{Shared};
@@ -79,10 +79,12 @@ impl Streams {
         ensures held { HoldsOpen self.new (W.kinds world.new) }
         ensures goes { W.tells → WritersGo self.new.writers.items (W.state world.new) }
         ensures readers { self.new.readers ≡ self.old.readers }
+        ensures stay { take (vec_len self.old.writers) self.new.writers.items ≡ self.old.writers.items }
         ensures opened { OnOk result (names_of self.new.writers.items ≡ with_writer name.now (names_of self.old.writers.items)) }
         ensures refused { OnErr result (self.new.writers.items ≡ self.old.writers.items) }
         ensures count { PutCounts result (W.count world.old) (W.count world.new) }
         ensures others { OthersStay self.old self.new (W.kinds world.old) (W.kinds world.new) }
+        ensures no_others { OthersStay self.new self.old (W.kinds world.new) (W.kinds world.old) }
         ensures spares { W.tells → Spares (W.kinds world.old) (W.state world.old) (W.state world.new) }
         ensures told { W.tells → (shared : Shared) → IsOf self.old (W.state world.old) shared → PutsBy (written_by false name.now append text.now shared) result (W.state world.old) (W.state world.new) }
     {
@@ -109,10 +111,12 @@ impl Streams {
         ensures held { HoldsOpen self.new (W.kinds world.new) }
         ensures goes { W.tells → WritersGo self.new.writers.items (W.state world.new) }
         ensures readers { self.new.readers ≡ self.old.readers }
+        ensures stay { take (vec_len self.old.writers) self.new.writers.items ≡ self.old.writers.items }
         ensures opened { OnOk result (names_of self.new.writers.items ≡ with_writer name.now (names_of self.old.writers.items)) }
         ensures refused { OnErr result (self.new.writers.items ≡ self.old.writers.items) }
         ensures count { PutCounts result (W.count world.old) (W.count world.new) }
         ensures others { OthersStay self.old self.new (W.kinds world.old) (W.kinds world.new) }
+        ensures no_others { OthersStay self.new self.old (W.kinds world.new) (W.kinds world.old) }
         ensures spares { W.tells → Spares (W.kinds world.old) (W.state world.old) (W.state world.new) }
         ensures told { W.tells → (shared : Shared) → IsOf self.old (W.state world.old) shared → PutsBy (written_by (is_writing name.now shared.inner.writers) name.now append text.now shared) result (W.state world.old) (W.state world.new) }
     {
@@ -141,10 +145,12 @@ impl Streams {
         ensures held { HoldsOpen self.new (W.kinds world.new) }
         ensures goes { W.tells → WritersGo self.new.writers.items (W.state world.new) }
         ensures readers { self.new.readers ≡ self.old.readers }
+        ensures stay { take (vec_len self.old.writers) self.new.writers.items ≡ self.old.writers.items }
         ensures opened { OnOk result (names_of self.new.writers.items ≡ writers_to target.entry (names_of self.old.writers.items)) }
         ensures refused { OnErr result (self.new.writers.items ≡ self.old.writers.items) }
         ensures count { PutCounts result (W.count world.old) (W.count world.new) }
         ensures others { OthersStay self.old self.new (W.kinds world.old) (W.kinds world.new) }
+        ensures no_others { OthersStay self.new self.old (W.kinds world.new) (W.kinds world.old) }
         ensures spares { W.tells → Spares (W.kinds world.old) (W.state world.old) (W.state world.new) }
         ensures told { W.tells → (shared : Shared) → IsOf self.old (W.state world.old) shared → PutsIs (put_text (destination_of target.entry) (name_of target.entry) text.now shared) result (W.state world.old) (W.state world.new) (names_of self.old.writers.items) (names_of self.new.writers.items) }
     {

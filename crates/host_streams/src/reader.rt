@@ -4,7 +4,7 @@ ghost use Rattle.awk_values.specs.declared.fault.Stop.TheVariants.{NoMemory};
 ghost use Rattle.awk_state.specs.Records.{record_separator};
 ghost use Rattle.world_core.specs.Calls.{Reading, next_count};
 ghost use Rattle.host_streams.specs.Looks.{IsOpen, IsScanned};
-ghost use Rattle.host_streams.specs.Readers.{Answers, Fills, GoesOn, IsLast, MoreCounts, MoreIs, MoreKeeps, NextCounts, NextPhase, OnlyReads, ScannedAgain, TurnCounts, TurnPhase, Turns, fresh, left, unread, work};
+ghost use Rattle.host_streams.specs.Readers.{Answers, Fills, GoesOn, IsLast, MoreCounts, MoreIs, MoreKeeps, NextCounts, NextPhase, OnlyLimit, OnlyReads, ScannedAgain, TurnCounts, TurnPhase, Turns, fresh, left, unread, work};
 
 use crate::look::{Known, Look, seen};
 use awk_values::{Bytes, Fault, Stop};
@@ -183,6 +183,7 @@ impl Reader {
         ensures kinds { W.kinds world.new ≡ W.kinds world.old }
         ensures count { TurnCounts result (W.count world.old) (W.count world.new) }
         ensures phase { TurnPhase result self.new.phase }
+        ensures limit { OnlyLimit result }
         ensures again { ScannedAgain rs result self.new }
         ensures goes_on { GoesOn result (work self.old) (work self.new) }
         ensures told { W.tells → Turns rs (left self.old ((W.state world.old).readers self.old.id)) result (left self.new ((W.state world.new).readers self.old.id)) }
@@ -240,6 +241,7 @@ impl Reader {
         ensures kinds { W.kinds world.new ≡ W.kinds world.old }
         ensures count { NextCounts self.old.phase result (W.count world.old) (W.count world.new) }
         ensures phase { NextPhase self.old.phase result self.new.phase }
+        ensures limit { OnlyLimit result }
         ensures told { W.tells → Answers rs (left self.old ((W.state world.old).readers self.old.id)) result (left self.new ((W.state world.new).readers self.old.id)) }
         ensures only { W.tells → OnlyReads self.old.id (W.state world.old) (W.state world.new) }
     {

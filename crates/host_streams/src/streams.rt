@@ -1,13 +1,14 @@
 //! The files that a script has open, by their names.
-ghost use Rattle.std.specs.Prelude.{◌≡◌, ℕ, None, Some, Ok, IfOk, IfSome};
+ghost use Rattle.std.specs.Prelude.{◌≡◌, ℕ, None, Some, Ok, IfOk, IfSome, false, map, true};
 ghost use Rattle.world_core.specs.WorldState.{Named, State};
 ghost use Rattle.world_core.specs.Calls.{Kind};
 ghost use Rattle.awk_state.specs.InputRows.{source_of};
+ghost use Rattle.awk_state.specs.OutputRows.{is_writing};
 ghost use Rattle.awk_state.specs.Records.{record_separator};
 ghost use Rattle.host_streams.specs.declared.reader.Phase.TheVariants.{Broken, Open};
 ghost use Rattle.host_streams.specs.declared.reader.FileNext.TheVariants.{Failed};
-ghost use Rattle.host_streams.specs.OpenFiles.{FileNextIs, HoldsOpen, IsMissing, OpensFile, OpenCounts, OthersKeep, OthersStay, ReadsFile, StartsFile, WritersGo, has_room, phase_named, reader_place, readers_in};
-ghost use Rattle.host_streams.specs.Readers.{NextCounts, NextPhase};
+ghost use Rattle.host_streams.specs.OpenFiles.{FileNextIs, HoldsOpen, IsMissing, OpensFile, OpensReader, OpenCounts, OthersKeep, OthersStay, ReadersAfter, ReadsFile, StartsFile, WritersGo, has_room, phase_named, reader_handle, reader_names, reader_place, readers_beside, readers_in};
+ghost use Rattle.host_streams.specs.Readers.{NextCounts, NextPhase, OnlyLimit};
 
 use crate::FileNext;
 use crate::reader::Reader;
@@ -76,12 +77,15 @@ impl Streams {
         ensures held { HoldsOpen self.new (W.kinds world.new) }
         ensures writers { self.new.writers ≡ self.old.writers }
         ensures count { OpenCounts result (W.count world.old) (W.count world.new) }
+        ensures readers { OpensReader (has_room self.old) name.now self.old.readers.items result self.new.readers.items }
+        ensures kept { readers_beside name.now self.new.readers.items ≡ readers_beside name.now self.old.readers.items }
         ensures place { IfOk result (λ found. IfSome found (λ at. reader_place name.now self.new.readers.items ≡ Some at)) }
         ensures phase { IfOk result (λ found. IfSome found (λ at. phase_named name.now self.new.readers.items ≡ Open)) }
         ensures goes { W.tells → WritersGo self.new.writers.items (W.state world.new) }
         ensures told { W.tells → OpensFile name.now (has_room self.old) (W.state world.old) (readers_in self.old.readers.items (W.state world.old)) result (readers_in self.new.readers.items (W.state world.new)) }
         ensures outside { W.tells → (W.state world.new).outside ≡ (W.state world.old).outside }
         ensures others { OthersStay self.old self.new (W.kinds world.old) (W.kinds world.new) }
+        ensures no_others { OthersStay self.new self.old (W.kinds world.new) (W.kinds world.old) }
         ensures places { W.tells → OthersKeep self.old (W.kinds world.old) (W.state world.old) (W.state world.new) }
     {
         if self.readers.as_slice().len() + self.writers.as_slice().len() >= STREAMS {
@@ -117,10 +121,14 @@ impl Streams {
         ensures writers { self.new.writers ≡ self.old.writers }
         ensures count { NextCounts (phase_named name.now self.old.readers.items) result (W.count world.old) (W.count world.new) }
         ensures phase { NextPhase (phase_named name.now self.old.readers.items) result (phase_named name.now self.new.readers.items) }
+        ensures limit { OnlyLimit result }
+        ensures handles { map reader_handle self.new.readers.items ≡ map reader_handle self.old.readers.items }
+        ensures kept { readers_beside name.now self.new.readers.items ≡ readers_beside name.now self.old.readers.items }
         ensures goes { W.tells → WritersGo self.new.writers.items (W.state world.new) }
         ensures told { W.tells → ReadsFile name.now rs (readers_in self.old.readers.items (W.state world.old)) result (readers_in self.new.readers.items (W.state world.new)) }
         ensures outside { W.tells → (W.state world.new).outside ≡ (W.state world.old).outside }
         ensures others { OthersStay self.old self.new (W.kinds world.old) (W.kinds world.new) }
+        ensures no_others { OthersStay self.new self.old (W.kinds world.new) (W.kinds world.old) }
         ensures places { W.tells → OthersKeep self.old (W.kinds world.old) (W.state world.old) (W.state world.new) }
     {
         let _ = name;
@@ -141,10 +149,14 @@ impl Streams {
         ensures held { HoldsOpen self.new (W.kinds world.new) }
         ensures writers { self.new.writers ≡ self.old.writers }
         ensures count { NextCounts Open result (W.count world.old) (W.count world.new) }
+        ensures readers { ReadersAfter false (has_room self.old) name.now self.old.readers.items result self.new.readers.items }
+        ensures kept { readers_beside name.now self.new.readers.items ≡ readers_beside name.now self.old.readers.items }
+        ensures breaks { is_writing name.now (reader_names self.new.readers.items) ≡ true → NextPhase Open result (phase_named name.now self.new.readers.items) }
         ensures goes { W.tells → WritersGo self.new.writers.items (W.state world.new) }
         ensures told { W.tells → StartsFile (has_room self.old) (source_of ((W.state world.old).outside (Named name.now))) name.now rs (readers_in self.old.readers.items (W.state world.old)) result (readers_in self.new.readers.items (W.state world.new)) }
         ensures outside { W.tells → (W.state world.new).outside ≡ (W.state world.old).outside }
         ensures others { OthersStay self.old self.new (W.kinds world.old) (W.kinds world.new) }
+        ensures no_others { OthersStay self.new self.old (W.kinds world.new) (W.kinds world.old) }
         ensures places { W.tells → OthersKeep self.old (W.kinds world.old) (W.state world.old) (W.state world.new) }
     {
         match self.open_reader(world, name) {
@@ -176,10 +188,14 @@ impl Streams {
         ensures goes { W.tells → WritersGo self.new.writers.items (W.state world.new) }
         ensures writers { self.new.writers ≡ self.old.writers }
         ensures count { NextCounts (phase_named name.now self.old.readers.items) result (W.count world.old) (W.count world.new) }
+        ensures readers { ReadersAfter (is_writing name.now (reader_names self.old.readers.items)) (has_room self.old) name.now self.old.readers.items result self.new.readers.items }
+        ensures kept { readers_beside name.now self.new.readers.items ≡ readers_beside name.now self.old.readers.items }
+        ensures breaks { is_writing name.now (reader_names self.new.readers.items) ≡ true → NextPhase (phase_named name.now self.old.readers.items) result (phase_named name.now self.new.readers.items) }
         ensures failing { phase_named name.now self.old.readers.items ≡ Broken → (result ≡ Ok Failed) × (phase_named name.now self.new.readers.items ≡ Broken) }
         ensures told { W.tells → FileNextIs name.now (record_separator rs.now) (has_room self.old) ((W.state world.old).outside (Named name.now)) (readers_in self.old.readers.items (W.state world.old)) result (readers_in self.new.readers.items (W.state world.new)) }
         ensures outside { W.tells → (W.state world.new).outside ≡ (W.state world.old).outside }
         ensures others { OthersStay self.old self.new (W.kinds world.old) (W.kinds world.new) }
+        ensures no_others { OthersStay self.new self.old (W.kinds world.new) (W.kinds world.old) }
         ensures places { W.tells → OthersKeep self.old (W.kinds world.old) (W.state world.old) (W.state world.new) }
     {
         let separator = first_byte(rs);

@@ -1,4 +1,3 @@
-use Rattle.std.proofs.Common.{Some, None}
 use Rattle.host_streams.proofs.Finding.{rest_is, found_byte, no_byte}
 use Rattle.host_streams.proofs.look.find_byte.Goals as goal
 

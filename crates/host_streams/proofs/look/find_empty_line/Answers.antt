@@ -1,5 +1,4 @@
-use Rattle.std.proofs.Common.{◌≡◌, ◌∙◌, ◌+◌, ap, sym, arith, None}
-use Rattle.awk_state.specs.Records.{begins}
+use Rattle.std.proofs.Common.{◌∙◌, ◌+◌, sym, arith, None}
 use Rattle.host_streams.proofs.Cuts.{cut_here, cut_next}
 use Rattle.host_streams.proofs.Finding.{rest_is, next_line, no_line}
 use Rattle.host_streams.proofs.look.find_empty_line.Goals as goal

@@ -1,4 +1,4 @@
-use Rattle.std.proofs.Common.{◌≡◌, ◌≤◌, ◌-◌, length, None}
+use Rattle.std.proofs.Common.{◌≤◌, ◌-◌, length, None}
 use Rattle.host_streams.specs.Looks.{HasNoneBefore}
 use Rattle.host_streams.proofs.look.find_empty_line.Given as goal
 

@@ -1,5 +1,4 @@
-use Rattle.std.proofs.Common.{◌≡◌, ℕ, ◌+◌, ◌<◌, ◌≤◌, ◌^◌, List, sym, ap, subst, length, drop, take, arith, ◌∙◌}
-use Rattle.awk_state.specs.Records.{width, trimmed}
+use Rattle.std.proofs.Common.{ℕ, ◌+◌, ◌<◌, ◌^◌, sym, subst, arith}
 use Rattle.host_streams.specs.Looks.{IsThere}
 use Rattle.host_streams.proofs.Finding.{rest_is}
 use Rattle.host_streams.proofs.Cuts.{there, there_long, open_long, open_more}

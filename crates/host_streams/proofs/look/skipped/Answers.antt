@@ -1,5 +1,4 @@
-use Rattle.std.proofs.Common.{◌≡◌, ◌∙◌, ◌+◌, ap, sym, ℕ, subst}
-use Rattle.awk_state.specs.Records.{skipped}
+use Rattle.std.proofs.Common.{◌∙◌, ◌+◌, ap}
 use Rattle.host_streams.proofs.Finding.{rest_is, known_none, known_skips, known_skips_more}
 use Rattle.host_streams.proofs.look.skipped.Goals as goal
 

@@ -1,4 +1,4 @@
-use Rattle.std.proofs.Common.{◌≡◌, ◌∙◌, sym, ap}
+use Rattle.std.proofs.Common.{◌∙◌, sym, ap}
 use Rattle.host_streams.specs.Mains.{is_equals}
 use Rattle.host_streams.proofs.MainSteps.{name_there}
 use Rattle.host_streams.proofs.Writing.{rest_is}

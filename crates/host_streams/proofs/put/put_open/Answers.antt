@@ -1,4 +1,4 @@
-use Rattle.std.proofs.Common.{◌≡◌, ◌∙◌, ap}
+use Rattle.std.proofs.Common.{◌∙◌, ap}
 use Rattle.world_core.specs.WorldState.{after}
 use Rattle.host_streams.specs.Puts.{PutsSome}
 use Rattle.host_streams.proofs.Writing.{part_put}

@@ -1,4 +1,4 @@
-use Rattle.std.proofs.Common.{◌≡◌, rules, ◌+◌, ◌<◌, ◌≤◌, length, arith, Err, Ok, Result, List, ℕ, ◌-◌, take, drop, ap, length-drop, length-take, subst, sym, ◌∙◌}
+use Rattle.std.proofs.Common.{◌≡◌, ◌<◌, length, arith, Err, List, ℕ, ◌-◌, take, drop, ap, length-drop, subst, ◌∙◌}
 use Rattle.std.proofs.lemmas.Result.{err_from_is_err_and}
 use Rattle.world_core.specs.Calls.{Writes, WritesSome}
 use Rattle.host_streams.proofs.Writing.{rest_is, fits_next, part_next, put_fails}

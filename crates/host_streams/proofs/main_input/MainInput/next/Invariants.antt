@@ -1,7 +1,8 @@
 use Rattle.std.proofs.Common.{◌≡◌}
 use Rattle.awk_state.specs.InputRows.{main_input}
 use Rattle.awk_state.specs.SharedState.{Inner}
-use Rattle.host_streams.specs.Mains.{HoldsMain, IsAsked, IsOffered, SparesKinds, SparesPlaces, main_of, with_main, work}
+use Rattle.host_streams.specs.Mains.{HoldsMain, IsAsked, IsOffered, SparesKinds, SparesPlaces, main_of, main_phase, with_main, work}
+use Rattle.host_streams.proofs.Held.{is_broken}
 use Rattle.host_streams.proofs.main_input.MainInput.next.Given as goal
 
 abbrev pub invariant-steps : goal.invariant-steps
@@ -10,6 +11,10 @@ invariant-steps g l =
     record {
       held : HoldsMain l.self (w.kinds l.world);
       spares : SparesKinds l.fn.self.reading l.self.reading (w.kinds l.fn.world) (w.kinds l.world);
+      no_others : SparesKinds l.self.reading l.fn.self.reading (w.kinds l.world) (w.kinds l.fn.world);
+      count : w.count l.world ≡ w.count l.fn.world;
+      phase : is_broken (main_phase l.self) ≡ is_broken (main_phase l.fn.self);
+      ended : l.self.ended ≡ l.fn.self.ended;
       places : w.tells → SparesPlaces l.fn.self.reading (w.kinds l.fn.world) (w.state l.fn.world) (w.state l.world);
       outside : w.tells → (w.state l.world).outside ≡ (w.state l.fn.world).outside;
       told : w.tells → (inner : Inner) → IsAsked l.separator inner → IsOffered l.argc (g.O.Operands.text l.operands) inner →

@@ -1,4 +1,4 @@
-use Rattle.std.proofs.Common.{◌≡◌, ◌∙◌, ◌++◌, refl, ap, sym, subst, slice_range, List, ℕ, Bool, true, Ok}
+use Rattle.std.proofs.Common.{◌≡◌, ◌∙◌, refl, ap, sym, subst, slice_range, List, ℕ, Bool, true, Ok}
 use Rattle.std.proofs.lemmas.List.{drop-drop}
 use Rattle.world_core.specs.WorldState.{Source}
 use Rattle.host_streams.specs.Looks.{IsThere, IsLong, IsOpen}
@@ -34,6 +34,7 @@ returns-in-Ok-true g c =
       kinds = c.in-Ok-true.ensures.kinds;
       count = counts_true c.in-Ok-true.field-0-test c.in-Ok-true.ensures.count;
       phase = keeps.1;
+      limit = tt;
       again = scanned_kept c.args.rs (unread c.args.self.now) (unread c.more.new.self) _ keeps.0 open_now.known;
       goes_on = keeps.2;
       told = λ tells. goes_on_told (unread c.args.self.now) c.in-Ok-true.field-0-test (c.in-Ok-true.ensures.told tells);

@@ -1,4 +1,4 @@
-use Rattle.std.proofs.Common.{◌≡◌, ◌∙◌, ◌||◌, sym, ap, subst}
+use Rattle.std.proofs.Common.{◌∙◌, ◌||◌, sym, ap, subst}
 use Rattle.awk_values.specs.declared.value.Value.TheVariants.{Text}
 use Rattle.awk_state.specs.InputRows.{close_row, without_writer}
 use Rattle.awk_state.specs.OutputRows.{is_writing}

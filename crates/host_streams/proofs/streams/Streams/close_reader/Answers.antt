@@ -1,7 +1,7 @@
-use Rattle.std.proofs.Common.{◌≡◌, ◌∙◌, sym, ap}
+use Rattle.std.proofs.Common.{◌∙◌, sym, ap}
 use Rattle.host_streams.specs.OpenFiles.{reader_handle, reader_place, is_reader}
 use Rattle.host_streams.proofs.Places.{all_fail}
-use Rattle.host_streams.proofs.Closed.{shut_stays, in_same, names_fail, names_same, reader_apart, reader_go, reader_held, reader_names_left, reader_none, reader_open, reader_own, reader_there, reader_told}
+use Rattle.host_streams.proofs.Closed.{beside_same, reader_kept, reader_was, shut_apart, shut_stays, in_same, names_fail, names_same, reader_apart, reader_go, reader_held, reader_names_left, reader_none, reader_open, reader_own, reader_there, reader_told}
 use Rattle.host_streams.proofs.streams.Streams.close_reader.Goals as goal
 
 pub close-requires-clause-open : goal.close-requires-clause-open
@@ -67,4 +67,22 @@ returns-in-Some-clause-places g c = λ tells k none was.
     let apart = reader_apart c.args.name.now c.args.self.now.readers.items c.args.self.now.writers.items c.in-Some.at found c.remove-closed.result c.remove-closed.ensures.value (g.W.World.kinds c.args.world.now) c.requires.held k none.0 in (
       (c.close.ensures.told tells).others.readers k apart,
       (c.close.ensures.told tells).others.writers k apart,
+    )
+
+pub returns-in-Some-clause-kept : goal.returns-in-Some-clause-kept
+returns-in-Some-clause-kept g c =
+    let found = ap (reader_place c.args.name.now) (sym c.as_slice.ensures.value) ∙ sym c.in-Some.ensures in
+    c.remove-closed.ensures.items ∙ reader_kept c.args.name.now c.args.self.now.readers.items c.args.self.now.writers.items c.in-Some.at found c.remove-closed.result c.remove-closed.ensures.value (g.W.World.kinds c.args.world.now) c.requires.held
+
+pub returns-in-None-clause-kept : goal.returns-in-None-clause-kept
+returns-in-None-clause-kept g c =
+    let missing = ap (reader_place c.args.name.now) (sym c.as_slice.ensures.value) ∙ sym c.in-None.ensures in
+    beside_same reader_handle c.args.name.now c.args.self.now.readers.items (all_fail (is_reader c.args.name.now) c.args.self.now.readers.items missing)
+
+pub returns-in-Some-clause-no_others : goal.returns-in-Some-clause-no_others
+returns-in-Some-clause-no_others g c = λ k none was.
+    let found = ap (reader_place c.args.name.now) (sym c.as_slice.ensures.value) ∙ sym c.in-Some.ensures in
+    let apart = shut_apart k c.remove-closed.result.reader.id (g.W.World.kinds c.args.world.now) (rw c.close.ensures.kinds at was) in (
+      sym (rw c.close.ensures.kinds (shut_stays k c.remove-closed.result.reader.id (g.W.World.kinds c.args.world.now) apart)),
+      (reader_was c.args.name.now c.args.self.now.readers.items c.args.self.now.writers.items c.in-Some.at found c.remove-closed.result c.remove-closed.ensures.value (g.W.World.kinds c.args.world.now) c.requires.held k apart (rw c.remove-closed.ensures.items at none.0), none.1),
     )

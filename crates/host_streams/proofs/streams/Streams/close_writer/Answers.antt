@@ -1,7 +1,7 @@
-use Rattle.std.proofs.Common.{◌≡◌, ◌∙◌, sym, ap}
+use Rattle.std.proofs.Common.{◌∙◌, sym, ap}
 use Rattle.host_streams.specs.OpenFiles.{writer_handle, writer_place, is_writer}
 use Rattle.host_streams.proofs.Places.{all_fail}
-use Rattle.host_streams.proofs.Closed.{shut_stays, names_fail, names_same, readers_stay, writer_apart, writer_go, writer_held, writer_names_left, writer_none, writer_opened, writer_own, writer_there}
+use Rattle.host_streams.proofs.Closed.{beside_same, writer_kept, writer_was, shut_apart, shut_stays, names_fail, names_same, readers_stay, writer_apart, writer_go, writer_held, writer_names_left, writer_none, writer_opened, writer_own, writer_there}
 use Rattle.host_streams.proofs.streams.Streams.close_writer.Goals as goal
 
 pub close-requires-clause-open : goal.close-requires-clause-open
@@ -62,4 +62,22 @@ returns-in-Some-clause-places g c = λ tells k none was.
     let apart = writer_apart c.args.name.now c.args.self.now.readers.items c.args.self.now.writers.items c.in-Some.at found c.remove-closed.result c.remove-closed.ensures.value (g.W.World.kinds c.args.world.now) c.requires.held k none.1 in (
       (c.close.ensures.told tells).others.readers k apart,
       (c.close.ensures.told tells).others.writers k apart,
+    )
+
+pub returns-in-Some-clause-kept : goal.returns-in-Some-clause-kept
+returns-in-Some-clause-kept g c =
+    let found = ap (writer_place c.args.name.now) (sym c.as_slice.ensures.value) ∙ sym c.in-Some.ensures in
+    c.remove-closed.ensures.items ∙ writer_kept c.args.name.now c.args.self.now.readers.items c.args.self.now.writers.items c.in-Some.at found c.remove-closed.result c.remove-closed.ensures.value (g.W.World.kinds c.args.world.now) c.requires.held
+
+pub returns-in-None-clause-kept : goal.returns-in-None-clause-kept
+returns-in-None-clause-kept g c =
+    let missing = ap (writer_place c.args.name.now) (sym c.as_slice.ensures.value) ∙ sym c.in-None.ensures in
+    beside_same writer_handle c.args.name.now c.args.self.now.writers.items (all_fail (is_writer c.args.name.now) c.args.self.now.writers.items missing)
+
+pub returns-in-Some-clause-no_others : goal.returns-in-Some-clause-no_others
+returns-in-Some-clause-no_others g c = λ k none was.
+    let found = ap (writer_place c.args.name.now) (sym c.as_slice.ensures.value) ∙ sym c.in-Some.ensures in
+    let apart = shut_apart k c.remove-closed.result.id (g.W.World.kinds c.args.world.now) (rw c.close.ensures.kinds at was) in (
+      sym (rw c.close.ensures.kinds (shut_stays k c.remove-closed.result.id (g.W.World.kinds c.args.world.now) apart)),
+      (none.0, writer_was c.args.name.now c.args.self.now.readers.items c.args.self.now.writers.items c.in-Some.at found c.remove-closed.result c.remove-closed.ensures.value (g.W.World.kinds c.args.world.now) c.requires.held k apart (rw c.remove-closed.ensures.items at none.1)),
     )

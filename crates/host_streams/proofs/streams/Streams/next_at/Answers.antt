@@ -1,10 +1,8 @@
-use Rattle.std.proofs.Common.{◌≡◌, ap, refl}
-use Rattle.world_core.specs.Calls.{Kind, Reading}
-use Rattle.host_streams.specs.declared.reader.Phase.{Phase}
+use Rattle.std.proofs.Common.{ap, refl, subst, sym}
 use Rattle.host_streams.specs.declared.streams.NamedReader.{NamedReader}
-use Rattle.host_streams.specs.Readers.{NextCounts}
-use Rattle.host_streams.specs.OpenFiles.{reader_handle, writer_handle, AreOpen}
-use Rattle.host_streams.proofs.Held.{open_next, phase_after, phase_next, named_next, held_next, told_next, go_same, apart_next, none_next}
+use Rattle.host_streams.specs.OpenFiles.{IsNone}
+use Rattle.host_streams.proofs.Held.{handles_next, open_next, phase_after, phase_next, named_next, held_next, told_next, go_same, apart_next, none_next}
+use Rattle.host_streams.proofs.Opened.{beside_next}
 use Rattle.host_streams.proofs.streams.Streams.next_at.Goals as goal
 
 pub next-requires : goal.next-requires
@@ -50,4 +48,18 @@ pub returns-clause-places : goal.returns-clause-places
 returns-clause-places g c = λ tells k none was. (
   (c.next.ensures.only tells).others k (apart_next c.args.name.now c.args.self.now.readers.items c.args.at c.requires.place c.index_mut-named.result.now c.index_mut-named.ensures.value k none.0),
   ap (λ f. f k) (c.next.ensures.only tells).writers,
+)
+
+pub returns-clause-handles : goal.returns-clause-handles
+returns-clause-handles g c =
+    handles_next c.args.name.now c.args.self.now.readers.items c.args.at c.requires.place c.index_mut-named.result.now c.index_mut-named.ensures.value (record { name = c.index_mut-named.result.now.name; reader = c.next.new.self }) refl c.next.ensures.id
+
+pub returns-clause-kept : goal.returns-clause-kept
+returns-clause-kept g c =
+    beside_next c.args.name.now c.args.self.now.readers.items c.args.at c.requires.place c.index_mut-named.result.now (record { name = c.index_mut-named.result.now.name; reader = c.next.new.self }) c.index_mut-named.ensures.value refl
+
+pub returns-clause-no_others : goal.returns-clause-no_others
+returns-clause-no_others g c = λ k none was. (
+  ap (λ f. f k) (sym c.next.ensures.kinds),
+  (subst (IsNone k) (handles_next c.args.name.now c.args.self.now.readers.items c.args.at c.requires.place c.index_mut-named.result.now c.index_mut-named.ensures.value (record { name = c.index_mut-named.result.now.name; reader = c.next.new.self }) refl c.next.ensures.id) none.0, none.1),
 )

@@ -1,11 +1,12 @@
-use Rattle.std.proofs.Common.{◌≡◌, ◌∙◌, ◌++◌, ◌∷◌, [], ◌<◌, ◌+◌, sym, ap, subst, refl, List, ℕ, Some, Ok, length, arith}
+use Rattle.std.proofs.Common.{◌≡◌, ◌∙◌, ◌++◌, ◌∷◌, [], ◌<◌, ◌+◌, sym, ap, subst, List, Some, length, arith}
 use Rattle.std.proofs.lemmas.Bool.{lt-ltb}
 use Rattle.awk_state.specs.InputRows.{with_reader}
 use Rattle.host_streams.specs.declared.streams.NamedReader.{NamedReader}
-use Rattle.host_streams.specs.OpenFiles.{is_reader, phase_named, reader_place, readers_in}
-use Rattle.host_streams.proofs.Places.{all_fail, last_place}
+use Rattle.host_streams.specs.OpenFiles.{IsAdded, is_reader, phase_named, reader_place, readers_beside, readers_in}
+use Rattle.host_streams.proofs.Places.{all_fail}
 use Rattle.host_streams.proofs.Held.{held_open, go_on, opened_last, source_opened, named_last, none_last, phase_last}
-use Rattle.host_streams.proofs.Outputs.{kind_stays, other_number}
+use Rattle.host_streams.proofs.Opened.{added_last, beside_last, none_but_last}
+use Rattle.host_streams.proofs.Outputs.{kind_stays, other_number, was_kind}
 use Rattle.host_streams.proofs.streams.Streams.open_reader.Goals as goal
 
 pub returns-in-Ok-clause-held : goal.returns-in-Ok-clause-held
@@ -55,4 +56,30 @@ returns-in-Ok-clause-others g c = λ k none was.
     let apart = other_number (g.W.World.kinds c.args.world.now) k c.in-Ok.id c.in-Ok.ensures.opened.was_closed was in (
       kind_stays _ c.in-Ok.id k (g.W.World.kinds c.args.world.now) _ c.in-Ok.ensures.opened was,
       (rw items (none_last k r c.args.self.now.readers.items (rw c.new-reader.ensures.id apart) none.0), none.1),
+    )
+
+pub returns-in-Ok-clause-readers : goal.returns-in-Ok-clause-readers
+returns-in-Ok-clause-readers g c =
+    let r : NamedReader = record { name = c.in_ok-own.own; reader = c.new-reader.result } in
+    let items = c.push_reserved.ensures.items ∙ ap (λ xs. xs ++ r ∷ []) c.reserve.ensures.items in
+    let readers : length c.as_slice.result.now ≡ length c.args.self.now.readers.items = ap length c.as_slice.ensures.value in
+    let writers : length c.as_slice-2.result.now ≡ length c.args.self.now.writers.items = ap length c.as_slice-2.ensures.value in
+    let few : length c.args.self.now.readers.items + length c.args.self.now.writers.items < 256 = (let below = c.if-as_slice-ge-STREAMS.false in omega arith) in (
+      lt-ltb (length c.args.self.now.readers.items + length c.args.self.now.writers.items) 256 few,
+      subst (λ (xs : List NamedReader). IsAdded c.args.name.now c.args.self.now.readers.items xs) (sym items) (added_last c.args.name.now c.args.self.now.readers.items r c.in_ok-own.ensures),
+    )
+
+pub returns-in-Ok-clause-kept : goal.returns-in-Ok-clause-kept
+returns-in-Ok-clause-kept g c =
+    let r : NamedReader = record { name = c.in_ok-own.own; reader = c.new-reader.result } in
+    let items = c.push_reserved.ensures.items ∙ ap (λ xs. xs ++ r ∷ []) c.reserve.ensures.items in
+    ap (readers_beside c.args.name.now) items ∙ beside_last c.args.name.now c.args.self.now.readers.items r c.in_ok-own.ensures
+
+pub returns-in-Ok-clause-no_others : goal.returns-in-Ok-clause-no_others
+returns-in-Ok-clause-no_others g c = λ k none was.
+    let r : NamedReader = record { name = c.in_ok-own.own; reader = c.new-reader.result } in
+    let items = c.push_reserved.ensures.items ∙ ap (λ xs. xs ++ r ∷ []) c.reserve.ensures.items in
+    let rest = none_but_last k r c.args.self.now.readers.items (rw items at none.0) in (
+      was_kind _ c.in-Ok.id k (g.W.World.kinds c.args.world.now) _ c.in-Ok.ensures.opened (rw c.new-reader.ensures.id at rest.0),
+      (rest.1, none.1),
     )

@@ -1,4 +1,4 @@
-use Rattle.std.proofs.Common.{◌≡◌, ◌∙◌, sym, ap}
+use Rattle.std.proofs.Common.{◌∙◌, sym, ap}
 use Rattle.awk_state.specs.OutputRows.{is_writing}
 use Rattle.host_streams.specs.OpenFiles.{writer_place}
 use Rattle.host_streams.proofs.Held.{go_same}

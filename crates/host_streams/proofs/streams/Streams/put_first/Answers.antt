@@ -1,8 +1,8 @@
-use Rattle.std.proofs.Common.{◌≡◌, ◌∙◌, ◌++◌, ◌∷◌, [], sym, ap}
+use Rattle.std.proofs.Common.{◌∙◌, ◌++◌, ◌∷◌, [], sym, ap}
 use Rattle.world_core.specs.WorldState.{Named}
 use Rattle.host_streams.specs.declared.streams.NamedWriter.{NamedWriter}
-use Rattle.host_streams.specs.OpenFiles.{names_of, reader_handle, writer_place}
-use Rattle.host_streams.proofs.Outputs.{go_last, go_spared, held_written, kind_stays, names_last, none_more, other_number, with_missing, writer_missing}
+use Rattle.host_streams.specs.OpenFiles.{names_of, writer_place}
+use Rattle.host_streams.proofs.Outputs.{go_last, go_spared, none_but_last, was_kind, held_written, kind_stays, names_last, none_more, other_number, with_missing, writer_missing}
 use Rattle.host_streams.proofs.streams.Streams.put_first.Goals as goal
 
 pub returns-in_err-id-clause-goes : goal.returns-in_err-id-clause-goes
@@ -37,4 +37,13 @@ returns-clause-others g c = λ k none was.
     let items = c.push_reserved.ensures.items ∙ ap (λ xs. xs ++ w ∷ []) c.reserve.ensures.items in (
       kind_stays _ c.in_ok-id.id k (g.W.World.kinds c.args.world.now) _ c.in_ok-id.ensures.opened was,
       (none.0, rw items (none_more k w c.args.self.now.writers.items (other_number (g.W.World.kinds c.args.world.now) k c.in_ok-id.id c.in_ok-id.ensures.opened.was_closed was) none.1)),
+    )
+
+pub returns-clause-no_others : goal.returns-clause-no_others
+returns-clause-no_others g c = λ k none was.
+    let w : NamedWriter = record { name = c.in_ok-own.own; id = c.in_ok-id.id } in
+    let items = c.push_reserved.ensures.items ∙ ap (λ xs. xs ++ w ∷ []) c.reserve.ensures.items in
+    let rest = none_but_last k w c.args.self.now.writers.items (rw items at none.1) in (
+      was_kind _ c.in_ok-id.id k (g.W.World.kinds c.args.world.now) _ c.in_ok-id.ensures.opened rest.0,
+      (none.0, rest.1),
     )

@@ -1,4 +1,4 @@
-use Rattle.std.proofs.Common.{◌≡◌, false, true}
+use Rattle.std.proofs.Common.{false, true}
 use Rattle.host_streams.proofs.Held.{go_same}
 use Rattle.host_streams.proofs.Outputs.{puts_file, puts_standard}
 use Rattle.host_streams.proofs.streams.Streams.put_text.Goals as goal
