@@ -1,0 +1,3 @@
+mod Applies
+mod Views
+mod Finds

@@ -1,0 +1,41 @@
+use Rattle.std.proofs.Common.{rules, length, drop, ap, sym, ◌∙◌, arith}
+use Rattle.mid_code.specs.Mid as plain
+use Rattle.mid_code.specs.ViewCode.{view, views}
+use Rattle.mid_code.specs.declared.code.Code.{Code}
+use Rattle.mid_rewriting.specs.Rewriting.{code_in}
+use Rattle.value_kinds.specs.View.{slots}
+use Rattle.value_kinds.proofs.Views.{OperandDone, done_next, operands_of, operands_done, view_call, view_do, view_over, view_replace, written_back}
+use Rattle.value_kinds.proofs.code.+lanes.Goals as goal
+
+pub lane_operands-loop-operand-preserved : goal.lane_operands-loop-operand-preserved
+lane_operands-loop-operand-preserved t c = record {
+  rest = search rules;
+  done = done_next (OperandDone (slots c.args.names)) c.loop-operand.operand-index c.loop-operand.operand-items c.args.operands.now.items c.operand-item.result c.lane_operand.new.operand (omega arith) c.loop-operand.invariant.done c.lane_operand.ensures;
+}
+
+pub lane_operands-returns : goal.lane_operands-returns
+lane_operands-returns t c =
+    ap views (written_back c.args.operands.now.len c.loop-operand.operand-items (drop (length c.loop-operand.operand-items) c.args.operands.now.items) (omega arith))
+    ∙ operands_done (slots c.args.names) c.loop-operand.operand-index c.loop-operand.operand-items c.args.operands.now.items (omega arith) c.loop-operand.invariant.done
+
+pub laned-returns-in-Do : goal.laned-returns-in-Do
+laned-returns-in-Do t c =
+    view_do c.in-Do.operation c.lane_operands.new.operands ∙ ap (plain.Do c.in-Do.operation) c.lane_operands.ensures
+    ∙ ap (code_in (slots c.args.names) plain.Do) (sym (ap view c.in-Do.is ∙ view_do c.in-Do.operation c.in-Do.operands))
+
+pub laned-returns-in-Over : goal.laned-returns-in-Over
+laned-returns-in-Over t c =
+    view_over c.in-Over.listed c.lane_operands-in-Over.new.operands ∙ ap (plain.Over c.in-Over.listed) c.lane_operands-in-Over.ensures
+    ∙ ap (code_in (slots c.args.names) plain.Do) (sym (ap view c.in-Over.is ∙ view_over c.in-Over.listed c.in-Over.operands))
+
+pub laned-returns-in-Call : goal.laned-returns-in-Call
+laned-returns-in-Call t c =
+    view_call c.in-Call.function c.lane_operands-in-Call.new.operands ∙ ap (plain.Call c.in-Call.function) c.lane_operands-in-Call.ensures
+    ∙ ap (code_in (slots c.args.names) plain.Do) (sym (ap view c.in-Call.is ∙ view_call c.in-Call.function c.in-Call.operands))
+
+pub laned-returns-in-Replace : goal.laned-returns-in-Replace
+laned-returns-in-Replace t c =
+    let operands = operands_of c.lane_operands-in-Replace.new.operands ∙ c.lane_operands-in-Replace.ensures in
+    let store = c.lane_code-in-Replace.ensures ∙ ap (λ (e : Code). code_in (slots c.args.names) plain.Do (view e)) c.deref_mut-in-Replace.ensures.value in
+    (λ i. plain.Replace c.in-Replace.all (operands i) (store i))
+    ∙ ap (code_in (slots c.args.names) plain.Do) (sym (ap view c.in-Replace.is ∙ view_replace c.in-Replace.all c.in-Replace.operands c.in-Replace.store))

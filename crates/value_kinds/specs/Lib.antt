@@ -1,0 +1,6 @@
+pub mod Stores
+pub mod Lanes
+pub mod Applied
+pub mod View
+pub mod Found
+pub mod Rows

@@ -1,0 +1,18 @@
+//! Laws of lanes, each the contract of a function that does nothing.
+ghost use Rattle.mid_code.specs.Mid.{Program};
+ghost use Rattle.mid_rewriting.specs.SameRuns.{SameRuns};
+ghost use Rattle.value_kinds.specs.Applied.{apply};
+ghost use Rattle.value_kinds.specs.Found.{FindsNumbers};
+ghost use Rattle.value_kinds.specs.Lanes.{Lanes};
+
+/// Whatever lanes the names of a program have, it runs as before: with the same status or fault, or still going on, and with the same output,
+/// in every setting and for every number of turns.
+pub fn lanes_keep_the_meaning()
+    ensures { (l : Lanes) (p : Program) → SameRuns (apply l p) p }
+{}
+
+/// The lanes that are found unbox each scalar into which numbers alone are stored, and for which numbers alone, or nothing, are given as arguments. Results of
+/// operators, of steps and of comparisons are numbers, and so are number constants.
+pub fn numbers_are_unboxed()
+    ensures { (p : Program) → FindsNumbers p }
+{}
