@@ -16,8 +16,11 @@ takes = record { params = ty.I32 ∷ []; result = None }
 abbrev pub gives : Signature
 gives = record { params = ty.I32 ∷ []; result = Some ty.I32 }
 
+abbrev pub answers : Signature
+answers = record { params = []; result = Some ty.I32 }
+
 abbrev pub small_types : ℕ → Option Signature
-small_types i = if nat_eq i 4 then Some takes else if nat_eq i 5 then Some gives else if nat_eq i 6 then Some takes else None
+small_types i = if nat_eq i 4 then Some takes else if nat_eq i 5 then Some gives else if nat_eq i 6 then Some takes else if nat_eq i 7 then Some answers else None
 
 -- an import's number is the length of its name
 abbrev pub with_number : ℕ → Option Signature → Option (ℕ × Signature)

@@ -1,6 +1,6 @@
 //! A small host, for modules that are run to see how they end.
 ghost use Rattle.std.specs.Prelude.{◌≡◌};
-ghost use Rattle.machine_runs.specs.Small.{gives, takes};
+ghost use Rattle.machine_runs.specs.Small.{answers, gives, takes};
 ghost use Rattle.wasm_types.specs.View.{signature_of};
 
 use std::alloc::{AllocError, Global};
@@ -9,25 +9,27 @@ use wasm_machine::{HostAnswer, HostCalls};
 use wasm_store::{Memory, TrapKind, Word};
 use wasm_types::{FuncType, ValType};
 
-/// A host with three imports, known by the length of their names: `drop` takes a number and traps at 99, `twice` doubles one, and `filled`
-/// wants memory. It sums the numbers that it was told.
+/// A host with four imports, known by the length of their names: `drop` takes a number and traps at 99, `twice` doubles one, `filled` wants
+/// memory, and `answers` takes nothing and gives 7. It sums the numbers that it was told.
 #[derive(Drop)]
 pub(crate) struct SmallHost {
     taking: FuncType,
     giving: FuncType,
+    answering: FuncType,
     told: u32,
 }
 
 impl Model for SmallHost {
     ghost use Rattle.std.specs.Prelude.{ℕ, ◌≡◌};
-    ghost use Rattle.machine_runs.specs.Small.{gives, takes};
+    ghost use Rattle.machine_runs.specs.Small.{answers, gives, takes};
     ghost use Rattle.wasm_types.specs.View.{signature_of};
 
     ghost Value = { ℕ };
 
     ghost view = { λ h. h.told };
 
-    ghost invariant = { λ h. (signature_of h.taking ≡ takes) × (signature_of h.giving ≡ gives) };
+    ghost invariant = { λ h. (signature_of h.taking ≡ takes) × (signature_of h.giving ≡ gives)
+        × (signature_of h.answering ≡ answers) };
 }
 
 impl SmallHost {
@@ -40,9 +42,14 @@ impl SmallHost {
             params: vec![in alloc; ValType::I32]?,
             result: Some(ValType::I32),
         };
+        let answering = FuncType {
+            params: Vec::new(alloc),
+            result: Some(ValType::I32),
+        };
         Ok(SmallHost {
             taking,
             giving,
+            answering,
             told: 0,
         })
     }
@@ -74,11 +81,15 @@ impl HostCalls for SmallHost {
             4 => Some((4, &self.taking)),
             5 => Some((5, &self.giving)),
             6 => Some((6, &self.taking)),
+            7 => Some((7, &self.answering)),
             _ => None,
         }
     }
 
     fn call(&mut self, import: u32, args: &[Word], memory: &mut Memory) -> HostAnswer {
+        if import == 7 {
+            return HostAnswer::Done(Some(Word::I32(7)));
+        }
         let Some(Word::I32(n)) = args.first() else {
             return HostAnswer::Trap(TrapKind::BadArgument);
         };
