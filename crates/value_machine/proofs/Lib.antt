@@ -63,7 +63,7 @@ pub mod Calling
 pub mod Induction
 pub mod Recursion
 pub mod MainInput
-pub mod Whole
+pub mod CodeFollows
 pub mod Beginnings
 pub mod Records
 pub mod Mains

@@ -1,4 +1,4 @@
-use Rattle.value_machine.proofs.Whole.{code_follows}
+use Rattle.value_machine.proofs.CodeFollows.{code_follows}
 use Rattle.value_machine.proofs.laws.code_follows.Goals as goal
 
 pub returns : goal.returns
