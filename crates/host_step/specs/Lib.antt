@@ -1,0 +1,13 @@
+pub mod Imports
+pub mod Tables
+pub mod HostState
+pub mod Arguments
+pub mod Answers
+pub mod HostStep
+pub mod Starts
+pub mod Worlds
+pub mod HostLaws
+pub mod Examples
+pub mod Rows
+pub mod FamilyRows
+pub mod InputRows

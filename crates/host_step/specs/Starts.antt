@@ -1,0 +1,24 @@
+-- The state at the start of a job.
+use Rattle.std.specs.Prelude.{ℕ, pos, [], ◌∷◌}
+use Rattle.world_core.specs.WorldState.{Outside, Source}
+use Rattle.awk_state.specs.Jobs.{JobForm, fault_of_job, shared_at_start}
+use Rattle.host_step.specs.HostState.{HostState, Names}
+use Rattle.host_step.specs.Tables.{Table}
+
+-- ARGV is 0 and ENVIRON is 1
+abbrev pub first_arrays : Table ℕ
+first_arrays = (pos 0, 0) ∷ (pos 1, 1) ∷ []
+
+abbrev pub first_names : Names
+first_names = record { values = []; arrays = first_arrays; iterators = [] }
+
+-- No value has a handle, and no iterator is there; operands and environment are ARGV and ENVIRON; no fault is kept but `TextLimit`, where a text of
+-- the job is
+-- past the limit. The standard input and what names hold are the world's.
+abbrev pub state_at_start : JobForm → Source → Outside → HostState
+state_at_start job input outside = record {
+  names = first_names;
+  shared = shared_at_start job input outside;
+  arguments = [];
+  fault = fault_of_job job;
+}
