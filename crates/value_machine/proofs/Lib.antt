@@ -31,3 +31,14 @@ pub mod InputLaws
 pub mod Induction
 pub mod Setting
 pub mod Written
+pub mod StatementForms
+pub mod Tidy
+pub mod Sequences
+pub mod Branches
+pub mod Walks
+pub mod Loops
+pub mod Keys
+pub mod Jumps
+pub mod Stepping
+pub mod Exits
+pub mod Functions

@@ -67,7 +67,7 @@ pub drop_ok : {u : Code} {ks : List Kind} {K : List Label} {L : List Cell} {F : 
     Goes u 1 (at ks (Held v ∷ vs) K L F (ask Drop c) G) (at ks vs K L F c G)
 drop_ok {u = u} {G = G} v vs = called Drop (Held v ∷ []) vs G None G.host refl refl (drops v u.memory G.host)
 
-free_iterator_ok : {u : Code} {ks : List Kind} {K : List Label} {L : List Cell} {F : List Frame} {c : Instructions} {G : Store} → (t : ℕ) (vs : List Cell) →
+pub free_iterator_ok : {u : Code} {ks : List Kind} {K : List Label} {L : List Cell} {F : List Frame} {c : Instructions} {G : Store} → (t : ℕ) (vs : List Cell) →
     Goes u 1 (at ks (IteratorOf t ∷ vs) K L F (ask IterFree c) G) (at ks vs K L F c G)
 free_iterator_ok {u = u} {G = G} t vs = called IterFree (IteratorOf t ∷ []) vs G None G.host refl refl (frees_iterator t u.memory G.host)
 

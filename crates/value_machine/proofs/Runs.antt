@@ -168,7 +168,7 @@ module _ (u : Code) (M : ℕ) where
     pub goes : Goes u steps c conf
     pub holds : P conf
 
-  reaches_on : (j w w' l l2 : ℕ) (c : Conf) (P P1 : Conf → Type 0) → w + j ≤ w' → ((c1 : Conf) → P c1 → Onward j P1 c1) → Reaches w l c l2 P → Reaches w' l c l2 P1
+  pub reaches_on : (j w w' l l2 : ℕ) (c : Conf) (P P1 : Conf → Type 0) → w + j ≤ w' → ((c1 : Conf) → P c1 → Onward j P1 c1) → Reaches w l c l2 P → Reaches w' l c l2 P1
   reaches_on j w w' l l2 c P P1 h f r =
       let o = f r.conf r.holds in
       let t = turns_add u r.steps o.steps c in

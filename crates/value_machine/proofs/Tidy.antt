@@ -1,0 +1,185 @@
+-- Where a step begins the machine is tidy, so that it goes on past the `nop` there.
+use Rattle.std.proofs.Common.{◌≡◌, inl, inr, ℕ, zero, suc, ◌+◌, ◌<◌, ◌≤◌, Bool, true, false, List, [], ◌∷◌, ◌++◌, length, refl, sym, ap, ap₂, ◌∙◌, append-nil, arith}
+use Rattle.std.specs.Prelude.{not, ◌&&◌, cond, nat_eq}
+use Rattle.std.proofs.lemmas.Bool.{eq-eqb}
+use Rattle.std.proofs.lemmas.List.{take_at, drop_at}
+use Rattle.awk_values.specs.declared.value.Value.{Value}
+use Rattle.wasm_types.specs.Syntax.{Instructions}
+use Rattle.wasm_types.specs.declared.instr.Simple.TheVariants.{Nop}
+use Rattle.mid_code.specs.Mid.{Kind, Boxed, Unboxed, Many, Program}
+use Rattle.mid_code.specs.ScriptState.{State, global_value}
+use Rattle.mid_code.specs.Sorted.{has_kind, same_kind, kinds_of}
+use Rattle.value_machine.specs.Cells.{Cell, Bits, Held, IteratorOf, OwnedArray, LentArray, Gone, is_owned, none_owned, is_held, is_array, is_iterator, no_temporary, iterators_in, tidy_locals, tidy_name, each_name, globals_by}
+use Rattle.value_machine.specs.Machine.{Label, Frame, at, guarded, tidy, loops_walked}
+use Rattle.value_machine.specs.Places.{Bases}
+use Rattle.value_machine.specs.Small.{does}
+use Rattle.value_machine.proofs.Runs.{Goes}
+use Rattle.value_machine.proofs.Regions.{cells, pairs, cells_length}
+use Rattle.value_machine.proofs.Globals.{names_on}
+use Rattle.value_machine.proofs.Locals.{Locals, temporaries_on, laid}
+use Rattle.value_machine.proofs.Steps.{empty}
+use Rattle.value_machine.proofs.State.{beside, kind_here, arrays_before, name_hand, cells_of}
+use Rattle.value_machine.proofs.Relation.{IsWalk, ParamLoose, fit_loose}
+use Rattle.value_machine.proofs.Conversions.{BareIs, IsBeside, IsNone, IsNumber, bare_is}
+use Rattle.value_machine.proofs.Answers.{machine, beside_state}
+use Rattle.value_machine.proofs.StatementForms.{Starts}
+
+-- What holds no value and no array that is to be freed.
+
+abbrev is_fine : Cell → Bool
+is_fine c = not (is_held c) && not (is_array c)
+
+unowned_fine : (c : Cell) → is_owned c ≡ false → is_fine c ≡ true
+unowned_fine (Bits w) e = refl
+unowned_fine (Held v) e = cc
+unowned_fine (IteratorOf t) e = refl
+unowned_fine (OwnedArray a) e = cc
+unowned_fine (LentArray a) e = refl
+unowned_fine Gone e = refl
+
+unowned_still : (c : Cell) → is_owned c ≡ false → is_iterator c ≡ false
+unowned_still (Bits w) e = refl
+unowned_still (Held v) e = refl
+unowned_still (IteratorOf t) e = cc
+unowned_still (OwnedArray a) e = refl
+unowned_still (LentArray a) e = refl
+unowned_still Gone e = refl
+
+walk_fine : (c : Cell) → IsWalk c → is_fine c ≡ true
+walk_fine c (inl e) = ap is_fine e
+walk_fine c (inr q) = ap is_fine q.1
+
+fine_cells : (f : ℕ → Cell) (n : ℕ) (rest : List Cell) → ((i : ℕ) → is_fine (f i) ≡ true) → no_temporary rest ≡ true → no_temporary (cells f n ++ rest) ≡ true
+fine_cells f zero rest h r = r
+fine_cells f (suc n) rest h r = ap₂ (λ x y. x && y) (h zero) (fine_cells (λ i. f (suc i)) n rest (λ i. h (suc i)) r)
+
+fine_pairs : (f g : ℕ → Cell) (n : ℕ) (rest : List Cell) → ((i : ℕ) → is_fine (f i) ≡ true) → ((i : ℕ) → is_fine (g i) ≡ true) → no_temporary rest ≡ true → no_temporary (pairs f g n ++ rest) ≡ true
+fine_pairs f g zero rest h k r = r
+fine_pairs f g (suc n) rest h k r =
+    ap₂ (λ x y. x && y) (h zero) (ap₂ (λ x y. x && y) (k zero) (fine_pairs (λ i. f (suc i)) (λ i. g (suc i)) n rest (λ i. h (suc i)) (λ i. k (suc i)) r))
+
+-- Iterators are counted.
+
+passed : (c : Cell) (m : ℕ) → is_iterator c ≡ false → cond (is_iterator c) (suc m) m ≡ m
+passed c m e = ap (λ t. cond t (suc m) m) e
+
+still_cells : (f : ℕ → Cell) (n : ℕ) (rest : List Cell) → ((i : ℕ) → is_iterator (f i) ≡ false) → iterators_in (cells f n ++ rest) ≡ iterators_in rest
+still_cells f zero rest h = refl
+still_cells f (suc n) rest h = passed (f zero) (iterators_in (cells (λ i. f (suc i)) n ++ rest)) (h zero) ∙ still_cells (λ i. f (suc i)) n rest (λ i. h (suc i))
+
+still_pairs : (f g : ℕ → Cell) (n : ℕ) (rest : List Cell) → ((i : ℕ) → is_iterator (f i) ≡ false) → ((i : ℕ) → is_iterator (g i) ≡ false) → iterators_in (pairs f g n ++ rest) ≡ iterators_in rest
+still_pairs f g zero rest h k = refl
+still_pairs f g (suc n) rest h k =
+    passed (f zero) (iterators_in (g zero ∷ (pairs (λ i. f (suc i)) (λ i. g (suc i)) n ++ rest))) (h zero)
+    ∙ (passed (g zero) (iterators_in (pairs (λ i. f (suc i)) (λ i. g (suc i)) n ++ rest)) (k zero)
+    ∙ still_pairs (λ i. f (suc i)) (λ i. g (suc i)) n rest (λ i. h (suc i)) (λ i. k (suc i)))
+
+walked_cells : (f : ℕ → Cell) (n u : ℕ) (rest : List Cell) → u ≤ n → ((x : ℕ) → x < u → (t : ℕ) × (f x ≡ IteratorOf t)) → ((x : ℕ) → u ≤ x → f x ≡ empty) → iterators_in (cells f n ++ rest) ≡ u + iterators_in rest
+walked_cells f n zero rest le h k = still_cells f n rest (λ i. ap is_iterator (k i (omega arith))) ∙ omega arith
+walked_cells f zero (suc u) rest le h k = absurd (omega (arith, le))
+walked_cells f (suc n) (suc u) rest le h k =
+    let q = h zero (omega arith) in
+    let m = iterators_in (cells (λ i. f (suc i)) n ++ rest) in
+    let r = walked_cells (λ i. f (suc i)) n u rest (omega (arith, le)) (λ x lt. h (suc x) (omega (arith, lt))) (λ x lx. k (suc x) (omega (arith, lx))) in
+    ap (λ c. cond (is_iterator c) (suc m) m) q.1 ∙ omega (arith, r)
+
+-- Globals.
+
+names_tidy : (kinds : List Kind) (h g : ℕ → Cell) → ((i : ℕ) → tidy_name (kind_here kinds i) (h i) ≡ true) → ((i : ℕ) → is_owned (g i) ≡ false) → each_name tidy_name kinds (pairs h g (length kinds) ++ []) ≡ true
+names_tidy [] h g e o = refl
+names_tidy (k ∷ kinds) h g e o = ap₂ (λ x y. x && y) (ap₂ (λ x y. x && not y) (e zero) (o zero)) (names_tidy kinds (λ i. h (suc i)) (λ i. g (suc i)) (λ i. e (suc i)) (λ i. o (suc i)))
+
+pub unowned_cells : (f : ℕ → Cell) (n : ℕ) (rest : List Cell) → ((i : ℕ) → i < n → is_owned (f i) ≡ false) → none_owned rest ≡ true → none_owned (cells f n ++ rest) ≡ true
+unowned_cells f zero rest h r = r
+unowned_cells f (suc n) rest h r = ap₂ (λ x y. not x && y) (h zero (omega arith)) (unowned_cells (λ i. f (suc i)) n rest (λ i lt. h (suc i) (omega (arith, lt))) r)
+
+pub unowned_pairs : (f g : ℕ → Cell) (n : ℕ) (rest : List Cell) → ((i : ℕ) → i < n → is_owned (f i) ≡ false) → ((i : ℕ) → i < n → is_owned (g i) ≡ false) → none_owned rest ≡ true → none_owned (pairs f g n ++ rest) ≡ true
+unowned_pairs f g zero rest h k r = r
+unowned_pairs f g (suc n) rest h k r =
+    ap₂ (λ x y. not x && y) (h zero (omega arith)) (ap₂ (λ x y. not x && y) (k zero (omega arith))
+    (unowned_pairs (λ i. f (suc i)) (λ i. g (suc i)) n rest (λ i lt. h (suc i) (omega (arith, lt))) (λ i lt. k (suc i) (omega (arith, lt))) r))
+
+beside_tidy : (v : Value) → BareIs v → tidy_name Unboxed (beside v) ≡ true
+beside_tidy v (IsBeside e e1) = ap (tidy_name Unboxed) e1
+beside_tidy v (IsNone e e1 e2) = ap (tidy_name Unboxed) e2
+beside_tidy v (IsNumber m e e1 e2) = ap (tidy_name Unboxed) e2
+
+name_tidy : (k : Kind) (a : ℕ) (v : Value) → tidy_name k (name_hand k a v) ≡ true
+name_tidy Boxed a v = refl
+name_tidy Unboxed a v = beside_tidy v (bare_is v)
+name_tidy Many a v = refl
+
+same_self : (k : Kind) → same_kind k k ≡ true
+same_self Boxed = refl
+same_self Unboxed = refl
+same_self Many = refl
+
+module _ (p : Program) (deepest : ℕ) (ks : List Kind) (F : List Frame) (b : Bases) (M n : ℕ) where
+  loose_still : (k : Kind) (c : Cell) → ParamLoose p deepest ks F k c → is_iterator c ≡ false
+  loose_still Boxed c h = ap is_iterator h.1
+  loose_still Unboxed c h = unowned_still c h
+  loose_still Many c h = unowned_still c h
+
+  still_parameters : (js : List Kind) (f : ℕ → Cell) (rest : List Cell) → ((i : ℕ) (k : Kind) → has_kind js i k ≡ true → ParamLoose p deepest ks F k (f i)) → iterators_in (cells f (length js) ++ rest) ≡ iterators_in rest
+  still_parameters [] f rest h = refl
+  still_parameters (k ∷ js) f rest h =
+      passed (f zero) (iterators_in (cells (λ i. f (suc i)) (length js) ++ rest)) (loose_still k (f zero) (h zero k (same_self k)))
+      ∙ still_parameters js (λ i. f (suc i)) rest (λ i j e. h (suc i) j e)
+
+  tidy_parameters : (js : List Kind) (f : ℕ → Cell) (rest : List Cell) → ((i : ℕ) (k : Kind) → has_kind js i k ≡ true → ParamLoose p deepest ks F k (f i)) → no_temporary rest ≡ true → tidy_locals js (cells f (length js) ++ rest) ≡ true
+  tidy_parameters [] f rest h r = r
+  tidy_parameters (Boxed ∷ js) f rest h r = ap₂ (λ x y. x && y) (ap is_held (h zero Boxed refl).1) (tidy_parameters js (λ i. f (suc i)) rest (λ i j e. h (suc i) j e) r)
+  tidy_parameters (Unboxed ∷ js) f rest h r = ap₂ (λ x y. not x && y) (h zero Unboxed refl) (tidy_parameters js (λ i. f (suc i)) rest (λ i j e. h (suc i) j e) r)
+  tidy_parameters (Many ∷ js) f rest h r = ap₂ (λ x y. not x && y) (h zero Many refl) (tidy_parameters js (λ i. f (suc i)) rest (λ i j e. h (suc i) j e) r)
+
+  -- the locals behind the parameters
+  abbrev behind : Locals → List Cell
+  behind l = l.answer ∷ temporaries_on b l
+
+  behind_fine : (u : ℕ) (K : List Label) (l : Locals) (σ : State) → Starts p deepest ks F b M n u K l σ → no_temporary (behind l) ≡ true
+  behind_fine u K l σ s =
+      ap₂ (λ x y. x && y) (ap is_fine s.fit.answer)
+      (fine_pairs l.hand l.number b.temporaries (cells l.iterator b.iterators ++ (cells l.array b.arrays ++ [])) (λ i. ap is_fine (s.fit.free i (omega arith))) (λ i. unowned_fine (l.number i) (s.fit.numbers i))
+      (fine_cells l.iterator b.iterators (cells l.array b.arrays ++ []) (λ i. walk_fine (l.iterator i) (s.fit.walks i))
+      (fine_cells l.array b.arrays [] (λ i. ap is_fine (s.fit.spare i (omega arith))) refl)))
+
+  behind_walked : (u : ℕ) (K : List Label) (l : Locals) (σ : State) → Starts p deepest ks F b M n u K l σ → iterators_in (behind l) ≡ u
+  behind_walked u K l σ s =
+      let e = walked_cells l.iterator b.iterators u (cells l.array b.arrays ++ []) s.walks s.walked (λ x le. s.fit.still x le) in
+      let a = still_cells l.array b.arrays [] (λ i. ap is_iterator (s.fit.spare i (omega arith))) in
+      passed l.answer (iterators_in (temporaries_on b l)) (ap is_iterator s.fit.answer)
+      ∙ (still_pairs l.hand l.number b.temporaries (cells l.iterator b.iterators ++ (cells l.array b.arrays ++ [])) (λ i. ap is_iterator (s.fit.free i (omega arith))) (λ i. unowned_still (l.number i) (s.fit.numbers i))
+      ∙ (e ∙ omega (arith, a)))
+
+  locals_tidy : (u : ℕ) (K : List Label) (l : Locals) (σ : State) → Starts p deepest ks F b M n u K l σ → tidy_locals ks (laid b l) ≡ true
+  locals_tidy u K l σ s =
+      let lo = fit_loose p deepest ks F 0 u 0 l σ s.fit in
+      ap (λ m. tidy_locals ks (cells l.param m ++ behind l)) (sym s.parameters) ∙ tidy_parameters ks l.param (behind l) lo.params (behind_fine u K l σ s)
+
+  locals_walked : (u : ℕ) (K : List Label) (l : Locals) (σ : State) → Starts p deepest ks F b M n u K l σ → nat_eq (iterators_in (laid b l)) (loops_walked K) ≡ true
+  locals_walked u K l σ s =
+      let lo = fit_loose p deepest ks F 0 u 0 l σ s.fit in
+      eq-eqb (iterators_in (laid b l)) (loops_walked K)
+      (ap (λ m. iterators_in (cells l.param m ++ behind l)) (sym s.parameters) ∙ (still_parameters ks l.param (behind l) lo.params ∙ (behind_walked u K l σ s ∙ sym s.loops)))
+
+  globals_tidy : (σ : State) → globals_by tidy_name (suc (suc p.ranges)) (kinds_of p.globals) (beside_state p deepest ks F σ).globals ≡ true
+  globals_tidy σ =
+      let kinds = kinds_of p.globals in
+      let g = cells_of kinds 0 σ in
+      let front : List Cell = g.way ∷ (g.status ∷ (cells g.range p.ranges ++ [])) in
+      let shape : g.way ∷ (g.status ∷ cells g.range p.ranges) ≡ front = ap (λ r. g.way ∷ (g.status ∷ r)) (sym (append-nil (cells g.range p.ranges))) in
+      let size : length (g.way ∷ (g.status ∷ cells g.range p.ranges)) ≡ suc (suc p.ranges) = ap (λ m. suc (suc m)) (cells_length g.range p.ranges) in
+      ap₂ (λ x y. none_owned x && each_name tidy_name kinds y)
+      (take_at (g.way ∷ (g.status ∷ cells g.range p.ranges)) (names_on p.ranges (length kinds) g) (suc (suc p.ranges)) size ∙ shape)
+      (drop_at (g.way ∷ (g.status ∷ cells g.range p.ranges)) (names_on p.ranges (length kinds) g) (suc (suc p.ranges)) size)
+      ∙ ap₂ (λ x y. x && y) (unowned_cells g.range p.ranges [] (λ i lt. refl) refl)
+      (names_tidy kinds g.hand g.number (λ i. name_tidy (kind_here kinds i) (suc (suc (arrays_before kinds i))) (global_value i σ)) (λ i. refl))
+
+  -- a `nop` where a step begins
+  pub nop_ok : {k : Instructions} → (u : ℕ) (K : List Label) (l : Locals) (σ : State) → Starts p deepest ks F b M n u K l σ →
+      Goes (machine p deepest ks F) 1 (at ks [] K (laid b l) F (does Nop k) (beside_state p deepest ks F σ)) (at ks [] K (laid b l) F k (beside_state p deepest ks F σ))
+  nop_ok {k = k} u K l σ s = record {
+    it = ap (λ t. guarded t (at ks [] K (laid b l) F k (beside_state p deepest ks F σ))) (
+        ap₂ (λ x y. (true && true) && (x && y)) (ap₂ (λ x y. x && y) (locals_tidy u K l σ s) (locals_walked u K l σ s)) (globals_tidy σ)
+        );
+  }
