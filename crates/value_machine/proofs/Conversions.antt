@@ -61,7 +61,7 @@ pub same_state : {A : Type 0} (σ : State) (a : A) → record σ { shared = shar
 same_state σ a = ap (λ o. record σ { shared = record { inner = σ.shared.inner; outside = σ.shared.outside; output = o } }) (append-nil σ.shared.output)
 
 module _ (p : Program) (deepest : ℕ) (ks : List Kind) (F : List Frame) where
-  after_same : {A : Type 0} (L : List Cell) (K : List Label) (c : Instructions) (r : Result A Fault) (τ σ : State) → τ ≡ σ → (cs : List Cell) → at ks cs K L F c (after_reply p deepest ks F r τ) ≡ at ks cs K L F c (after_reply p deepest ks F r σ)
+  pub after_same : {A : Type 0} (L : List Cell) (K : List Label) (c : Instructions) (r : Result A Fault) (τ σ : State) → τ ≡ σ → (cs : List Cell) → at ks cs K L F c (after_reply p deepest ks F r τ) ≡ at ks cs K L F c (after_reply p deepest ks F r σ)
   after_same L K c (Ok x) τ σ e cs = ap (λ s. at ks cs K L F c (beside_state p deepest ks F s)) e
   after_same L K c (Err f) τ σ e cs = ap (λ s. at ks cs K L F c (left_beside p deepest ks F (Faulted f) s)) e
 

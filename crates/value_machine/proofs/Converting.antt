@@ -115,7 +115,7 @@ module _ (p : Program) (deepest : ℕ) (ks : List Kind) (F : List Frame) (b : Ba
       (chooses Done (boxed_perhaps b t (LocalSet (h b t)) Done) 0)) (then_goes x.goes closes)) (omega (arith, x.few))
       (conv_hand q i w t k K l v σ lq ft)
 
-  perhaps_is : (o : Option Number) → PerhapsIs p deepest ks F b (perhaps o) (boxed Perhaps o)
+  pub perhaps_is : (o : Option Number) → PerhapsIs p deepest ks F b (perhaps o) (boxed Perhaps o)
   perhaps_is None = NotYet refl refl
   perhaps_is (Some x) = There x refl refl
 

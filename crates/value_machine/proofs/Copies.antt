@@ -62,7 +62,7 @@ module _ (p : Program) (deepest : ℕ) (ks : List Kind) (F : List Frame) (b : Ba
       (ap (λ w. ask_looking (Some (Of row.Dup)) w ks vs K L F c (storing gs (host_of σ None))) e
       ∙ ap (λ τ. at ks (Held v ∷ vs) K L F c (storing gs (host_of τ None))) (same_state σ v))
 
-  looked : {vs : List Cell} {K : List Label} {c : Instructions} → (x : ℕ) (L gs : List Cell) (v : Value) (o : Host) → cell_at L x ≡ Held v →
+  pub looked : {vs : List Cell} {K : List Label} {c : Instructions} → (x : ℕ) (L gs : List Cell) (v : Value) (o : Host) → cell_at L x ≡ Held v →
       Goes (machine p deepest ks F) 1 (Look x ks vs K L F (does (I32Const minus_one) (does (Compare ty.I32 Ne) c)) (storing gs o)) (at ks (Bits (flag true) ∷ vs) K L F c (storing gs o))
   looked {vs = vs} {K = K} {c = c} x L gs v o e = by_steps 1 (ap (λ w. with_operands (push_word vs (looked_compared Ne w minus_one)) ks K L F c (storing gs o)) e)
 

@@ -1,9 +1,7 @@
 -- All expressions do what they mean, if those constructs do that are still to be proved (`Rest`).
 use Rattle.std.specs.Prelude.{ℕ, Bool, true, false, List}
-use Rattle.awk_values.specs.declared.comparison.CompareOp.{CompareOp}
-use Rattle.mid_code.specs.declared.mid.Arithmetic.{Arithmetic}
 use Rattle.mid_code.specs.declared.mid.Operation.TheVariants.{Host, Inline, AsNumber, FieldNumber}
-use Rattle.mid_code.specs.Mid.{Kind, Program, Slot, Global, Parameter, Code, Do, Over, Compare, Call, Ask, AskLine, FileLine, Replace, Number, Text, Unset, Get, Set, Array, IsOpen, Choose, Seq, Let, Bound, Codes, End, At, Fixed, Fresh}
+use Rattle.mid_code.specs.Mid.{Kind, Program, Global, Parameter, Code, Do, Over, Compare, Call, Ask, AskLine, FileLine, Replace, Number, Text, Unset, Get, Set, Array, IsOpen, Choose, Seq, Let, Bound, Codes, End, At, Fixed, Fresh}
 use Rattle.value_machine.specs.Machine.{Frame}
 use Rattle.value_machine.specs.Places.{Bases}
 use Rattle.value_machine.proofs.Simulation.{ExprOk, CodesOk}
@@ -17,6 +15,9 @@ use Rattle.value_machine.proofs.Reading.{get_global, get_parameter, moves_expr, 
 use Rattle.value_machine.proofs.Keeping.{seq_expr, let_expr}
 use Rattle.value_machine.proofs.Choosing.{choose_expr}
 use Rattle.value_machine.proofs.Lists.{over_expr}
+use Rattle.value_machine.proofs.SettingNames.{set_expr}
+use Rattle.value_machine.proofs.Comparing.{compare_expr}
+use Rattle.value_machine.proofs.Inlining.{inline_expr}
 
 module _ (p : Program) (deepest : ℕ) (ks : List Kind) (F : List Frame) (b : Bases) (M n : ℕ) where
   abbrev pub Expr : Code → Type 0
@@ -27,24 +28,21 @@ module _ (p : Program) (deepest : ℕ) (ks : List Kind) (F : List Frame) (b : Ba
 
   -- what is still to be proved of each construct
   pub record Rest : Type 0 where
-    pub inline : (a : Arithmetic) (es : Codes) → Operands es → Expr (Do (Inline a) es)
-    pub compare : (c : CompareOp) (x y : Code) → Expr x → Expr y → Expr (Compare c x y)
     pub call : (f : ℕ) (es : Codes) → Operands es → Expr (Call f es)
     pub ask : Expr Ask
     pub ask_line : (s : Code) → Expr s → Expr (AskLine s)
     pub file_line : (e s : Code) → Expr e → Expr s → Expr (FileLine e s)
     pub replace : (all : Bool) (es : Codes) (s : Code) → Operands es → Expr s → Expr (Replace all es s)
-    pub assign : (x : Slot) (e : Code) → Expr e → Expr (Set x e)
 
   module _ (rest : Rest) where
     mutual
       pub expr_ok : (e : Code) → Expr e
       expr_ok (Do (Host q) es) = do_host p deepest ks F b M n q es (codes_ok es)
-      expr_ok (Do (Inline a) es) = rest.inline a es (codes_ok es)
+      expr_ok (Do (Inline a) es) = inline_expr p deepest ks F b M n a es (codes_ok es)
       expr_ok (Do AsNumber es) = do_as_number p deepest ks F b M n es (codes_ok es)
       expr_ok (Do FieldNumber es) = do_field_number p deepest ks F b M n es (codes_ok es)
       expr_ok (Over l es) = over_expr p deepest ks F b M n l es (codes_ok es)
-      expr_ok (Compare c x y) = rest.compare c x y (expr_ok x) (expr_ok y)
+      expr_ok (Compare c x y) = compare_expr p deepest ks F b M n c x y (expr_ok x) (expr_ok y)
       expr_ok (Call f es) = rest.call f es (codes_ok es)
       expr_ok Ask = rest.ask
       expr_ok (AskLine s) = rest.ask_line s (expr_ok s)
@@ -57,7 +55,7 @@ module _ (p : Program) (deepest : ℕ) (ks : List Kind) (F : List Frame) (b : Ba
       expr_ok (Get (Global true i)) = get_bare_global p deepest ks F b M n i
       expr_ok (Get (Parameter false i)) = get_parameter p deepest ks F b M n i
       expr_ok (Get (Parameter true i)) = get_bare_parameter p deepest ks F b M n i
-      expr_ok (Set x e) = rest.assign x e (expr_ok e)
+      expr_ok (Set x e) = set_expr p deepest ks F b M n x e (expr_ok e)
       expr_ok (Array a) = array_expr p deepest ks F b M n a
       expr_ok (IsOpen i) = open_expr p deepest ks F b M n i
       expr_ok (Choose s c x y) = choose_expr p deepest ks F b M n s c x y (expr_ok c) (expr_ok x) (expr_ok y)

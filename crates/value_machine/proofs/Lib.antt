@@ -42,3 +42,9 @@ pub mod Jumps
 pub mod Stepping
 pub mod Exits
 pub mod Functions
+pub mod Storing
+pub mod SettingNames
+pub mod Orders
+pub mod Comparing
+pub mod Products
+pub mod Inlining
