@@ -48,17 +48,20 @@ module _ {p : Program} {ks : List Kind} {b : Bases} {C : Context} (at : Stands p
 
     temporaries_swept_ok : (t m : ℕ) → t + m ≤ b.temporaries → CodeOk C L k [] rs → CodeOk C L (temporaries_swept (layout_of p b) t m k) [] rs
     temporaries_swept_ok t zero h r = r
-    temporaries_swept_ok t (suc m) h r = let_go_ok at Drop (at.imported Drop) (at.handle t (omega (arith, h)))
+    temporaries_swept_ok t (suc m) h r =
+        let_go_ok at Drop (at.imported Drop) (at.handle t (omega (arith, h)))
         (temporaries_swept_ok (suc t) m (omega (arith, h)) r)
 
     iterators_swept_ok : (u m : ℕ) → u + m ≤ b.iterators → CodeOk C L k [] rs → CodeOk C L (iterators_swept (layout_of p b) u m k) [] rs
     iterators_swept_ok u zero h r = r
-    iterators_swept_ok u (suc m) h r = let_go_ok at IterFree (at.imported IterFree) (at.iterator u (omega (arith, h)))
+    iterators_swept_ok u (suc m) h r =
+        let_go_ok at IterFree (at.imported IterFree) (at.iterator u (omega (arith, h)))
         (iterators_swept_ok (suc u) m (omega (arith, h)) r)
 
     arrays_swept_ok : (w m : ℕ) → w + m ≤ b.arrays → CodeOk C L k [] rs → CodeOk C L (arrays_swept (layout_of p b) w m k) [] rs
     arrays_swept_ok w zero h r = r
-    arrays_swept_ok w (suc m) h r = let_go_ok at FreeArray (at.imported FreeArray) (at.array w (omega (arith, h)))
+    arrays_swept_ok w (suc m) h r =
+        let_go_ok at FreeArray (at.imported FreeArray) (at.array w (omega (arith, h)))
         (arrays_swept_ok (suc w) m (omega (arith, h)) r)
 
     -- the parameters from the x-th on are of these kinds
@@ -74,11 +77,13 @@ module _ {p : Program} {ks : List Kind} {b : Bases} {C : Context} (at : Stands p
 
   module _ {L : Labels} {k : Instructions} {rs : Stack} where
     all_emptied_ok : CodeOk C L k [] rs → CodeOk C L (all_emptied (layout_of p b) k) [] rs
-    all_emptied_ok r = emptied_ok at at.answer (temporaries_emptied_ok 0 b.temporaries (omega arith)
+    all_emptied_ok r =
+        emptied_ok at at.answer (temporaries_emptied_ok 0 b.temporaries (omega arith)
         (iterators_emptied_ok 0 b.iterators (omega arith) (arrays_emptied_ok 0 b.arrays (omega arith) r)))
 
     swept_ok : CodeOk C L k [] rs → CodeOk C L (swept (layout_of p b) k) [] rs
-    swept_ok r = temporaries_swept_ok 0 b.temporaries (omega arith)
+    swept_ok r =
+        temporaries_swept_ok 0 b.temporaries (omega arith)
         (iterators_swept_ok 0 b.iterators (omega arith) (arrays_swept_ok 0 b.arrays (omega arith) r))
 
   -- a function's answer is a handle
@@ -119,10 +124,12 @@ module _ {p : Program} {ks : List Kind} {b : Bases} {C : Context} (at : Stands p
       names_made_ok : (i : ℕ) (kinds : List Kind) → i + length kinds ≤ length (kinds_of p.globals) → CodeOk C L k [] rs →
           CodeOk C L (names_made (layout_of p b) i kinds k) [] rs
       names_made_ok i [] h r = r
-      names_made_ok i (Boxed ∷ kinds) h r = called [] (at.imported (Of row.Uninit))
+      names_made_ok i (Boxed ∷ kinds) h r =
+          called [] (at.imported (Of row.Uninit))
           (write (at.name_handle i (omega (arith, h))) (names_made_ok (suc i) kinds (omega (arith, h)) r))
       names_made_ok i (Unboxed ∷ kinds) h r = names_made_ok (suc i) kinds (omega (arith, h)) r
-      names_made_ok i (Many ∷ kinds) h r = called [] (at.imported (Of row.NewArray))
+      names_made_ok i (Many ∷ kinds) h r =
+          called [] (at.imported (Of row.NewArray))
           (write (at.name_handle i (omega (arith, h))) (names_made_ok (suc i) kinds (omega (arith, h)) r))
 
     module _ {L : Labels} {k : Instructions} {rs : Stack} where

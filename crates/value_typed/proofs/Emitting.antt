@@ -57,7 +57,8 @@ module _ {p : Program} {ks : List Kind} {b : Bases} {C : Context} (at : Stands p
   module _ {L : Labels} {k : Instructions} {ps rs : Stack} where
     text_let_go_ok : (fs : List Form) (s : Code) {t : ℕ} → suc (suc t) < b.temporaries → CodeOk C L k ps rs →
         CodeOk C L (text_let_go (layout_of p b) fs s t k) ps rs
-    text_let_go_ok fs s {t = t} lt r = left_over_ok s (form_of (a_value ∷ fs) s) lt
+    text_let_go_ok fs s {t = t} lt r =
+        left_over_ok s (form_of (a_value ∷ fs) s) lt
         (let_go_ok at Drop (at.imported Drop) (at.handle (suc t) (omega (arith, lt))) r)
 
   mutual
@@ -99,7 +100,8 @@ module _ {p : Program} {ks : List Kind} {b : Bases} {C : Context} (at : Stands p
         (all_given_pushed_ok at fs js es t w ps s2.0 s2.1 hs gs
         (called ps (at.routine f (ltb-true f (length (calls_of p)) s1.0))
         (kept_value_ok at true (omega (arith, h)) x (all_freed_ok at w (made_in es) gs r)))))
-    code_ok v fs ts Ask t w d q s h g x r = asked_ok at row.Getline (at.imported (Of row.Getline)) (omega (arith, h)) x
+    code_ok v fs ts Ask t w d q s h g x r =
+        asked_ok at row.Getline (at.imported (Of row.Getline)) (omega (arith, h)) x
         (code_number_ok at (omega (arith, h)) r)
     code_ok v fs ts (AskLine e) t w d q s h g x r =
         let s1 = and_parts (stores_well fs e) (sorted (context_of p ks) (a_value ∷ fs) e) s in
@@ -193,7 +195,7 @@ module _ {p : Program} {ks : List Kind} {b : Bases} {C : Context} (at : Stands p
         (released_ok at o (omega (arith, h, he)) (moved_from_ok at (form_of (o ∷ fs) f) (omega (arith, h, hf)) (omega (arith, h, he)) r)))
     code_ok v fs ts (Bound m i) t w d q s h g x r = bound_from_ok at m (form_at fs i) (q i) (omega (arith, h)) r
 
-    pub codes_ok : {L : Labels} {k : Instructions} {ps rs : Stack} (fs : List Form) (ts : List ℕ) (es : Codes) (t w d : ℕ) →
+    codes_ok : {L : Labels} {k : Instructions} {ps rs : Stack} (fs : List Form) (ts : List ℕ) (es : Codes) (t w d : ℕ) →
         AreBelow ts b.temporaries →
         all_sorted (context_of p ks) fs es ≡ true → t + rooms es ≤ b.temporaries → w + arrays_among es ≤ b.arrays → Exit L d → CodeOk C L k ps rs →
         CodeOk C L (all_emitted (layout_of p b) fs ts es t w d k) ps rs

@@ -8,6 +8,7 @@ pub mod Stepping
 pub mod Bodies
 pub mod Places
 pub mod Renumbering
+pub mod Chosen
 pub mod Numbers
 pub mod Whole
 pub mod Links

@@ -40,29 +40,32 @@ module _ (p : Program) where
   numbers_there n (i ∷ is) rest t = ap₂ (λ x xs. x ∷ xs) here (numbers_there (suc n) is rest (λ k j e. t (suc k) j (omega (arith, e))))
     where
       here : number_if (module_of p) n (table_finds module_name (import_name i)) ≡ Some (import_number i)
-      here = ap (number_if (module_of p) n) (found i) ∙
-          (ap (λ s. if agree (Some (import_type i)) s then Some (import_number i) else None) (t 0 n (omega arith)) ∙ ap
-          (λ b. if b then Some (import_number i) else None) (same_self (import_type i)))
+      here =
+          ap (number_if (module_of p) n) (found i)
+          ∙ (ap (λ s. if agree (Some (import_type i)) s then Some (import_number i) else None) (t 0 n (omega arith))
+          ∙ ap (λ b. if b then Some (import_number i) else None) (same_self (import_type i)))
 
   pub imports_there : numbers_for table_finds (module_of p) ≡ map (λ i. Some (import_number i)) (imports_of p)
-  imports_there = numbers_there 0 (imports_of p) (map callee_type (all_callees p))
+  imports_there =
+      numbers_there 0 (imports_of p) (map callee_type (all_callees p))
       (λ i j e. let e1 : j ≡ i = omega (arith, e) in ap (slice_get (module_of p).types) e1)
 
   last_there : (rs : List Routine) → slice_get (map callee_type (map (routine_callee p) rs ++ main_callee p ∷ [])) (length rs) ≡ Some main_type
   last_there [] = refl
   last_there (r ∷ rs) = last_there rs
 
-  main_typed : callee_in (module_of p) (length (imports_of p) + length p.routines) ≡ Some main_type
+  abbrev main_number : ℕ
+  main_number = length (imports_of p) + length p.routines
+
+  main_typed : callee_in (module_of p) main_number ≡ Some main_type
   main_typed =
       let l = length-map (imports_of p) import_type in
-      callee_typed p (length (imports_of p) + length p.routines)
-      ∙ (there_behind (map import_type (imports_of p)) (map callee_type (all_callees p)) (length p.routines)
-      (length (imports_of p) + length p.routines) (omega (arith, l))
+      callee_typed p main_number
+      ∙ (there_behind (map import_type (imports_of p)) (map callee_type (all_callees p)) (length p.routines) main_number (omega (arith, l))
       ∙ last_there p.routines)
 
-  pub main_exported : main_of (module_of p) ≡ Some (length (imports_of p) + length p.routines)
-  main_exported = ap (λ s. elim (if agree (Some main_type) s then Some
-      (length (imports_of p) + length p.routines) else None) [ Some y ↦ Some y | None ↦ None ]) main_typed
+  pub main_exported : main_of (module_of p) ≡ Some main_number
+  main_exported = ap (λ s. elim (if agree (Some main_type) s then Some main_number else None) [ Some y ↦ Some y | None ↦ None ]) main_typed
 
   enough : (n : ℕ) → 0 + n ≤ pages_for n * 65536
   enough n = omega arith

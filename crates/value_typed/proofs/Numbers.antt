@@ -1,6 +1,6 @@
 -- Functions of a module are numbered in the order of their types, imports first.
 use Rattle.std.proofs.Common.{◌≡◌, ⊎_elim, ℕ, zero, suc, ◌+◌, ◌<◌, Bool, true, List, [], ◌∷◌, ◌++◌, length, Option, Some, None, refl, sym, ap, ◌∙◌, subst, arith}
-use Rattle.std.specs.Prelude.{slice_get, get_or, map}
+use Rattle.std.specs.Prelude.{slice_get, map}
 use Rattle.std.proofs.lemmas.Bool.{cases_lt}
 use Rattle.std.proofs.lemmas.List.{length-map, length-append}
 use Rattle.std.proofs.lemmas.Option.{slice_get_past}
@@ -9,9 +9,10 @@ use Rattle.wasm_types.specs.Typing.{function_types, callee_in}
 use Rattle.mid_code.specs.Mid.{Program}
 use Rattle.value_machine.specs.Imports.{imports, import_type}
 use Rattle.value_machine.specs.Machine.{Callee}
-use Rattle.value_machine.specs.Modules.{all_callees, any_calls, called_from, called_imports, imports_of, new_number, callee_type, imported_from, functions_from, module_of}
+use Rattle.value_machine.specs.Modules.{all_callees, any_calls, called_imports, imports_of, new_number, callee_type, imported_from, functions_from, module_of}
 use Rattle.value_machine.specs.declared.import.Import.{Import}
-use Rattle.value_typed.proofs.Places.{chosen_there, all_types}
+use Rattle.value_typed.proofs.Places.{all_types}
+use Rattle.value_typed.proofs.Chosen.{chosen_map, renumbered_there}
 
 -- numbers one after the other, from a on
 abbrev InOrder : ℕ → List ℕ → Type 0
@@ -41,23 +42,13 @@ functions_in_order : (bs : List Bool) (a : ℕ) (fs : List Callee) → InOrder a
 functions_in_order bs a [] = tt
 functions_in_order bs a (f ∷ fs) = (refl, functions_in_order bs (suc a) fs)
 
-pub imported_length : (a : ℕ) (is : List Import) → length (imported_from a is) ≡ length is
+imported_length : (a : ℕ) (is : List Import) → length (imported_from a is) ≡ length is
 imported_length a [] = refl
 imported_length a (i ∷ is) = ap suc (imported_length (suc a) is)
 
-pub functions_length : (bs : List Bool) (a : ℕ) (fs : List Callee) → length (functions_from bs a fs) ≡ length fs
+functions_length : (bs : List Bool) (a : ℕ) (fs : List Callee) → length (functions_from bs a fs) ≡ length fs
 functions_length bs a [] = refl
 functions_length bs a (f ∷ fs) = ap suc (functions_length bs (suc a) fs)
-
-called_length : (a : ℕ) (is : List Import) (fs : List Callee) → length (called_from a is fs) ≡ length is
-called_length a [] fs = refl
-called_length a (i ∷ is) fs = ap suc (called_length (suc a) is fs)
-
--- an import that is called is not left out
-called_at : (a : ℕ) (is : List Import) (fs : List Callee) (n j : ℕ) → a + n ≡ j → any_calls j fs ≡ true → get_or (called_from a is fs) n true ≡ true
-called_at a [] fs n j e h = refl
-called_at a (i ∷ is) fs zero j e h = let e1 : a ≡ j = omega (arith, e) in ap (λ x. any_calls x fs) e1 ∙ h
-called_at a (i ∷ is) fs (suc n) j e h = called_at (suc a) is fs n j (omega (arith, e)) h
 
 module _ (p : Program) where
   abbrev numbers : List ℕ
@@ -94,7 +85,8 @@ module _ (p : Program) where
 
   -- the n-th function has the n-th type
   pub callee_typed : (n : ℕ) → callee_in (module_of p) n ≡ slice_get (module_of p).types n
-  callee_typed n = ⊎_elim
+  callee_typed n =
+      ⊎_elim
       (λ lt. ap type_at (order_at 0 numbers n n (omega arith) lt in_order))
       (λ le. ap type_at (slice_get_past numbers n le) ∙ sym
       (slice_get_past (module_of p).types n (let a = numbers_length in let c = types_length in omega (arith, le, a, c))))
@@ -105,5 +97,6 @@ module _ (p : Program) where
       callee_in (module_of p) (new_number (called_imports p) n) ≡ slice_get (all_types p) n
   called_there n h =
       callee_typed (new_number (called_imports p) n)
-      ∙ chosen_there import_type (called_imports p) imports (map callee_type (all_callees p)) n (called_length 0 imports (all_callees p))
-      (called_at 0 imports (all_callees p) n n (omega arith) h)
+      ∙ (ap (λ l. slice_get (l ++ map callee_type (all_callees p)) (new_number (called_imports p) n))
+      (chosen_map import_type (called_imports p) imports)
+      ∙ renumbered_there p (map import_type imports) (map callee_type (all_callees p)) n refl h)

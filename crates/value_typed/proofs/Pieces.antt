@@ -18,7 +18,7 @@ use Rattle.wasm_types.specs.declared.instr.Simple.{Simple}
 use Rattle.mid_code.specs.declared.mid.Arithmetic.{Arithmetic}
 use Rattle.mid_code.specs.declared.mid.Arithmetic.TheVariants as inline
 use Rattle.mid_code.specs.Mid.{Kind, Program, Form, Answered, Bare, Perhaps}
-use Rattle.value_machine.specs.Arithmetic.{out_of_range, two_numbers, ranged, factors_differ, times, unless_zero, divided, unless_broken, is_value, may_be_text, calculated, field_checked, values_compared, zeroed_if, numbers_compared, texts_beside, bare_compared, compared}
+use Rattle.value_machine.specs.Arithmetic.{out_of_range, ranged, factors_differ, times, unless_zero, divided, unless_broken, is_value, may_be_text, calculated, field_checked, values_compared, zeroed_if, numbers_compared, texts_beside, bare_compared, compared}
 use Rattle.value_machine.specs.Imports.{import_type, import_number, result_of}
 use Rattle.value_machine.specs.Places.{Bases}
 use Rattle.value_machine.specs.Small.{moved_out, moved, emptied, let_go, copied, copied_if_any, fail_if, number_is, n, kept_code, kept_value, kept_number, kept_done, kept, boxed_number, boxed_perhaps, to_value, zeroed, code_number, number_of_value, to_number, converted, not_zero, truth, unused, released, number_copied, moved_from, copied_from, bound_from}
@@ -40,7 +40,7 @@ module _ {p : Program} {ks : List Kind} {b : Bases} {C : Context} (at : Stands p
       pub moved_out_ok : {x : ℕ} → slice_get C.locals x ≡ Some I32 → CodeOk C L k (I32 ∷ ps) rs → CodeOk C L (moved_out x k) ps rs
       moved_out_ok e r = get e (word (put e r))
 
-      pub moved_ok : {x y : ℕ} → slice_get C.locals x ≡ Some I32 → slice_get C.locals y ≡ Some I32 → CodeOk C L k ps rs →
+      moved_ok : {x y : ℕ} → slice_get C.locals x ≡ Some I32 → slice_get C.locals y ≡ Some I32 → CodeOk C L k ps rs →
           CodeOk C L (moved x y k) ps rs
       moved_ok e f r = get e (word (put e (put f r)))
 
@@ -55,7 +55,7 @@ module _ {p : Program} {ks : List Kind} {b : Bases} {C : Context} (at : Stands p
           CodeOk C L (copied get_it set_it y k) ps rs
       copied_ok g s e r = gives g (tee e (called ps (at.imported (Of row.Dup)) (takes s r)))
 
-      pub fail_if_ok : {d : ℕ} → (f : Fault) → Exit L d → CodeOk C L k ps rs → CodeOk C L (fail_if f d k) (I32 ∷ ps) rs
+      fail_if_ok : {d : ℕ} → (f : Fault) → Exit L d → CodeOk C L k ps rs → CodeOk C L (fail_if f d k) (I32 ∷ ps) rs
       fail_if_ok f e r = branched (word (called [] (at.imported (Of row.Fail)) (leave (inner e) done))) done r
 
       pub number_is_ok : {x m : ℕ} → slice_get C.locals x ≡ Some I64 → CodeOk C L k (I32 ∷ ps) rs → CodeOk C L (number_is x m k) ps rs
@@ -105,14 +105,15 @@ module _ {p : Program} {ks : List Kind} {b : Bases} {C : Context} (at : Stands p
     boxed_perhaps_ok {t = t} lt s r =
         number_is_ok (at.number t lt) (branched (called [] (at.imported (Of row.Uninit)) (takes s done)) (boxed_number_ok lt (takes s done)) r)
 
-    pub zeroed_ok : {t : ℕ} → t < b.temporaries → CodeOk C L k ps rs → CodeOk C L (zeroed b t k) ps rs
+    zeroed_ok : {t : ℕ} → t < b.temporaries → CodeOk C L k ps rs → CodeOk C L (zeroed b t k) ps rs
     zeroed_ok {t = t} lt r = number_is_ok (at.number t lt) (branched (long (put (at.number t lt) done)) done r)
 
     pub code_number_ok : {t : ℕ} → t < b.temporaries → CodeOk C L k ps rs → CodeOk C L (code_number b t k) ps rs
-    code_number_ok {t = t} lt r = number_is_ok (at.number t lt)
+    code_number_ok {t = t} lt r =
+        number_is_ok (at.number t lt)
         (number_is_ok (at.number t lt) (binary (convert {op = I64ExtendI32S} (put (at.number t lt) r))))
 
-    pub number_of_value_ok : {t d : ℕ} → t < b.temporaries → Exit L d → CodeOk C L k ps rs → CodeOk C L (number_of_value b t d k) ps rs
+    number_of_value_ok : {t d : ℕ} → t < b.temporaries → Exit L d → CodeOk C L k ps rs → CodeOk C L (number_of_value b t d k) ps rs
     number_of_value_ok {t = t} lt e r = moved_out_ok (at.handle t lt) (called ps (at.imported (Of row.ToNum)) (kept_number_ok true lt e r))
 
   module _ {L : Labels} {k : Instructions} {ps rs : Stack} where
@@ -195,10 +196,6 @@ module _ {p : Program} {ks : List Kind} {b : Bases} {C : Context} (at : Stands p
   module _ {L : Labels} {k : Instructions} {ps rs : Stack} where
     out_of_range_ok : {x : ℕ} → slice_get C.locals x ≡ Some I64 → CodeOk C L k (I32 ∷ ps) rs → CodeOk C L (out_of_range x k) ps rs
     out_of_range_ok e r = get e (long (binary (long (compare r))))
-
-    two_numbers_ok : {x y : ℕ} {op : IBinOp} → slice_get C.locals x ≡ Some I64 → slice_get C.locals y ≡ Some I64 → CodeOk C L k (I64 ∷ ps) rs →
-        CodeOk C L (two_numbers x y op k) ps rs
-    two_numbers_ok e f r = get e (get f (binary r))
 
     factors_differ_ok : {q x y : ℕ} → slice_get C.locals q ≡ Some I64 → slice_get C.locals x ≡ Some I64 → slice_get C.locals y ≡ Some I64 →
         CodeOk C L k (I32 ∷ ps) rs →

@@ -1,6 +1,6 @@
 -- Where the module has what code stands in: places in the lists of locals, globals, imports and functions.
-use Rattle.std.proofs.Common.{◌≡◌, ℕ, zero, suc, ◌+◌, ◌<◌, Bool, true, false, List, [], ◌∷◌, ◌++◌, length, Some, None, refl, sym, ap, ◌∙◌, arith}
-use Rattle.std.specs.Prelude.{slice_get, get_or, map, replicate, option_map}
+use Rattle.std.proofs.Common.{◌≡◌, ℕ, zero, suc, ◌+◌, ◌<◌, true, false, List, [], ◌∷◌, ◌++◌, length, Some, None, refl, sym, ap, ◌∙◌, arith}
+use Rattle.std.specs.Prelude.{slice_get, map, replicate, option_map}
 use Rattle.std.proofs.lemmas.List.{length-map, length-replicate, get_or-replicate}
 use Rattle.std.proofs.lemmas.Option.{slice_get-get_or}
 use Rattle.awk_state.specs.declared.table.Primitive.TheVariants as row
@@ -15,13 +15,13 @@ use Rattle.value_machine.specs.Emission.{function_number}
 use Rattle.value_machine.specs.Functions.{routine_callee, main_callee}
 use Rattle.value_machine.specs.Imports.{imports, import_number, import_type}
 use Rattle.value_machine.specs.Machine.{Callee}
-use Rattle.value_machine.specs.Modules.{all_callees, callee_type, new_number, chosen, globals_of, word_global, long_global, name_globals}
+use Rattle.value_machine.specs.Modules.{all_callees, callee_type, globals_of, word_global, long_global, name_globals}
 use Rattle.value_machine.specs.Places.{Bases, kind_type, local_types, temporary_types, handle_types, range_global, handle_global, number_global, answer_local, handle_local, number_local, iterator_local, array_local}
 use Rattle.value_machine.specs.Small.{minus_one, least}
 use Rattle.value_machine.specs.declared.import.Import.{Import}
 use Rattle.value_machine.specs.declared.import.Import.TheVariants.{Of, Over}
 use Rattle.value_machine.specs.declared.import.Listing.TheVariants.{Sprintf}
-use Rattle.value_typed.proofs.Standing.{Stands}
+use Rattle.value_typed.proofs.Standing.{Stands, routine_type}
 
 -- Lists that are put together.
 
@@ -30,22 +30,10 @@ there_behind [] ys n m e = let e1 : m ≡ n = omega (arith, e) in ap (slice_get 
 there_behind (x ∷ xs) ys n zero e = absurd (omega (arith, e))
 there_behind (x ∷ xs) ys n (suc m) e = there_behind xs ys n m (omega (arith, e))
 
-pub there_before : {A : Type 0} → (xs ys : List A) (i : ℕ) (a : A) → slice_get xs i ≡ Some a → slice_get (xs ++ ys) i ≡ Some a
+there_before : {A : Type 0} → (xs ys : List A) (i : ℕ) (a : A) → slice_get xs i ≡ Some a → slice_get (xs ++ ys) i ≡ Some a
 there_before [] ys i a e = cc
 there_before (x ∷ xs) ys zero a e = e
 there_before (x ∷ xs) ys (suc i) a e = there_before xs ys i a e
-
--- What is chosen has its new number.
-pub chosen_there : {A B : Type 0} → (f : A → B) (bs : List Bool) (xs : List A) (ys : List B) (n : ℕ) → length bs ≡ length xs →
-    get_or bs n true ≡ true →
-    slice_get (map f (chosen bs xs) ++ ys) (new_number bs n) ≡ slice_get (map f xs ++ ys) n
-chosen_there f [] [] ys n e h = refl
-chosen_there f [] (x ∷ xs) ys n e h = absurd (omega (arith, e))
-chosen_there f (b ∷ bs) [] ys n e h = absurd (omega (arith, e))
-chosen_there f (true ∷ bs) (x ∷ xs) ys zero e h = refl
-chosen_there f (true ∷ bs) (x ∷ xs) ys (suc n) e h = chosen_there f bs xs ys n (omega (arith, e)) h
-chosen_there f (false ∷ bs) (x ∷ xs) ys zero e h = cc
-chosen_there f (false ∷ bs) (x ∷ xs) ys (suc n) e h = chosen_there f bs xs ys n (omega (arith, e)) h
 
 -- Locals.
 
@@ -92,7 +80,8 @@ module _ (ks : List Kind) (b : Bases) (n : b.parameters ≡ length ks) where
 
   temporary_there : (i m : ℕ) (w : ValType) → suc b.parameters + i ≡ m → slice_get (temporary_types b.temporaries) i ≡ Some w →
       slice_get locals m ≡ Some w
-  temporary_there i m w e h = own_there (suc i) m w (omega (arith, e))
+  temporary_there i m w e h =
+      own_there (suc i) m w (omega (arith, e))
       (there_before (temporary_types b.temporaries) (handle_types b.iterators ++ handle_types b.arrays) i w h)
 
   later_there : (i m : ℕ) (w : ValType) → suc b.parameters + (b.temporaries + b.temporaries) + i ≡ m →
@@ -120,7 +109,8 @@ type_there (x ∷ xs) zero g e = ap (option_map type_of) e
 type_there (x ∷ xs) (suc i) g e = type_there xs i g e
 
 replicated_there : (n i : ℕ) (g : GlobalForm) → i < n → slice_get (replicate n g) i ≡ Some g
-replicated_there n i g lt = let l = length-replicate n g in
+replicated_there n i g lt =
+    let l = length-replicate n g in
     slice_get-get_or (replicate n g) i g (omega (arith, l, lt)) ∙ ap Some (get_or-replicate n i g g lt)
 
 name_handle_there : (ks : List Kind) (i : ℕ) → i < length ks → slice_get (name_globals ks) (i + i) ≡ Some (word_global minus_one)
@@ -160,8 +150,7 @@ module _ (p : Program) where
   imported_there i = refl
 
   routine_there : (rs : List Routine) (fs : List Callee) (f : ℕ) → f < length rs →
-      slice_get (map callee_type (map (routine_callee p) rs ++ fs)) f ≡ Some
-      (record { params = map kind_type (parameters_at (map (λ (r : Routine). r.parameters) rs) f); result = Some I32 })
+      slice_get (map callee_type (map (routine_callee p) rs ++ fs)) f ≡ Some (routine_type (parameters_at (map (λ (r : Routine). r.parameters) rs) f))
   routine_there [] fs f lt = absurd (omega (arith, lt))
   routine_there (r ∷ rs) fs zero lt = refl
   routine_there (r ∷ rs) fs (suc f) lt = routine_there rs fs f (omega (arith, lt))
@@ -182,22 +171,26 @@ module _ (p : Program) where
   stands ks b n = record {
     handle = λ t lt. temporary_there ks b n (t + t) (handle_local b t) I32 refl (handle_there b.temporaries t lt);
     number = λ t lt. temporary_there ks b n (suc (t + t)) (number_local b t) I64 (omega arith) (number_there b.temporaries t lt);
-    iterator = λ u lt. later_there ks b n u (iterator_local b u) I32 refl
+    iterator = λ u lt.
+        later_there ks b n u (iterator_local b u) I32 refl
         (there_before (handle_types b.iterators) (handle_types b.arrays) u I32 (handles_there b.iterators u lt));
     array = λ w lt. array_there ks b n w (array_local b w) refl lt;
     answer = own_there ks b n 0 (answer_local b) I32 (omega arith) refl;
     parameter = λ i k h. there_before (map kind_type ks) (local_types b) i (kind_type k) (parameter_there ks i k h);
     way = refl;
     status = refl;
-    range = λ i lt. later_global i (range_global i) (word_global 0) refl
+    range = λ i lt.
+        later_global i (range_global i) (word_global 0) refl
         (there_before (replicate p.ranges (word_global 0)) (name_globals (kinds_of p.globals)) i (word_global 0)
         (replicated_there p.ranges i (word_global 0) lt));
     name_handle = λ i lt. name_global (i + i) (handle_global p.ranges i) (word_global minus_one) refl (name_handle_there (kinds_of p.globals) i lt);
-    name_number = λ i lt. name_global (suc (i + i)) (number_global p.ranges i) (long_global least) (omega arith)
+    name_number = λ i lt.
+        name_global (suc (i + i)) (number_global p.ranges i) (long_global least) (omega arith)
         (name_number_there (kinds_of p.globals) i lt);
     imported = imported_there;
-    routine = λ f lt. there_behind (map import_type imports) (map callee_type (all_callees p)) f (function_number f) refl ∙ routine_there p.routines
-        (main_callee p ∷ []) f (calls_below f lt);
+    routine = λ f lt.
+        there_behind (map import_type imports) (map callee_type (all_callees p)) f (function_number f) refl
+        ∙ routine_there p.routines (main_callee p ∷ []) f (calls_below f lt);
   }
     where
       calls_below : (f : ℕ) → f < length (calls_of p) → f < length p.routines

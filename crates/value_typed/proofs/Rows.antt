@@ -144,7 +144,8 @@ module _ {p : Program} {ks : List Kind} {b : Bases} {C : Context} (at : Stands p
 
     pub all_boxed_ok : {ps : Stack} (fs : List Form) (es : Codes) (t : ℕ) → t + rooms es ≤ b.temporaries → CodeOk C L k ps rs →
         CodeOk C L (all_boxed (layout_of p b) fs es t k) ps rs
-    all_boxed_ok fs (At e es) t h r = to_value_ok at (form_of fs e) (first_room e es t b.temporaries h)
+    all_boxed_ok fs (At e es) t h r =
+        to_value_ok at (form_of fs e) (first_room e es t b.temporaries h)
         (all_boxed_ok fs es (suc t) (rest_room e es t b.temporaries h) r)
     all_boxed_ok fs es t h r = r
 
@@ -193,5 +194,6 @@ module _ {p : Program} {ks : List Kind} {b : Bases} {C : Context} (at : Stands p
 
     pub all_freed_ok : {ps : Stack} (w m : ℕ) → w + m ≤ b.arrays → CodeOk C L k ps rs → CodeOk C L (all_freed (layout_of p b) w m k) ps rs
     all_freed_ok w zero h r = r
-    all_freed_ok {ps = ps} w (suc i) h r = moved_out_ok at (at.array (w + i) (omega (arith, h)))
+    all_freed_ok {ps = ps} w (suc i) h r =
+        moved_out_ok at (at.array (w + i) (omega (arith, h)))
         (called ps (at.imported FreeArray) (all_freed_ok w i (omega (arith, h)) r))

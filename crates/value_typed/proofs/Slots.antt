@@ -47,7 +47,8 @@ module _ {p : Program} {ks : List Kind} {b : Bases} {C : Context} (at : Stands p
         let l = kind_below (kinds_of p.globals) i Unboxed h in
         let g = at.name_handle i l in
         read (at.name_number i l) (put (at.number t lt) (copied_if_any_ok at (reads_global g) (writes_global g) (at.handle t lt) r))
-    slot_read_ok (Parameter false i) {t = t} h lt r = let g = at.parameter i Boxed h in
+    slot_read_ok (Parameter false i) {t = t} h lt r =
+        let g = at.parameter i Boxed h in
         copied_ok at (reads_local g) (writes_local g) (at.handle t lt) r
     slot_read_ok (Parameter true i) {t = t} h lt r = get (at.parameter i Unboxed h) (put (at.number t lt) r)
 
@@ -68,7 +69,8 @@ module _ {p : Program} {ks : List Kind} {b : Bases} {C : Context} (at : Stands p
     value_stored_ok o (Answered (answer.Of sort.Value)) lt s r = handle_stored_ok o lt s r
     value_stored_ok o (Answered (answer.Of sort.Number)) lt s r = boxed_number_ok at lt (takes s r)
     value_stored_ok o (Answered answer.Truth) lt s r = boxed_number_ok at lt (takes s r)
-    value_stored_ok o Bare {t = t} lt s r = number_is_ok at (at.number t lt)
+    value_stored_ok o Bare {t = t} lt s r =
+        number_is_ok at (at.number t lt)
         (branched (handle_stored_ok o lt s done) (boxed_perhaps_ok at lt s done) r)
     value_stored_ok o Perhaps lt s r = boxed_perhaps_ok at lt s r
     value_stored_ok o f lt s r = called ps (at.imported (Of row.Uninit)) (takes s r)
@@ -82,7 +84,8 @@ module _ {p : Program} {ks : List Kind} {b : Bases} {C : Context} (at : Stands p
     slot_set_ok o (Global true i) f {t = t} h lt r =
         let l = kind_below (kinds_of p.globals) i Unboxed h in
         text_dropped_ok l lt (word (write (at.name_handle i l) (get (at.number t lt) (write (at.name_number i l) r))))
-    slot_set_ok o (Parameter false i) f h lt r = let g = at.parameter i Boxed h in
+    slot_set_ok o (Parameter false i) f h lt r =
+        let g = at.parameter i Boxed h in
         get g (called ps (at.imported Drop) (value_stored_ok o f lt (writes_local g) r))
     slot_set_ok o (Parameter true i) f {t = t} h lt r = get (at.number t lt) (put (at.parameter i Unboxed h) r)
 

@@ -1,6 +1,7 @@
 -- What the code of a function stands in: its locals, the globals, the imports and the functions have their types.
 use Rattle.std.proofs.Common.{◌≡◌, ℕ, zero, suc, ◌<◌, true, List, [], ◌∷◌, length, Some, arith}
 use Rattle.std.specs.Prelude.{slice_get, map}
+use Rattle.wasm_types.specs.Syntax.{Signature}
 use Rattle.wasm_types.specs.Typing.{Context}
 use Rattle.wasm_types.specs.declared.types.ValType.TheVariants.{I32, I64}
 use Rattle.mid_code.specs.Mid.{Kind, Program, parameters_at}
@@ -10,6 +11,10 @@ use Rattle.value_machine.specs.Imports.{import_number, import_type}
 use Rattle.value_machine.specs.Places.{Bases, way_global, status_global, range_global, handle_global, number_global, answer_local, handle_local, number_local, iterator_local, array_local, kind_type}
 use Rattle.value_machine.specs.declared.import.Import.{Import}
 use Rattle.value_typed.proofs.Singles.{variable}
+
+-- a function is given its parameters, and answers a handle
+abbrev pub routine_type : List Kind → Signature
+routine_type ks = record { params = map kind_type ks; result = Some I32 }
 
 -- code of program p, in a function with parameters of kinds ks, whose own things stand at b
 pub record Stands (p : Program) (ks : List Kind) (b : Bases) (C : Context) : Type 0 where
@@ -25,8 +30,7 @@ pub record Stands (p : Program) (ks : List Kind) (b : Bases) (C : Context) : Typ
   pub name_handle : (i : ℕ) → i < length (kinds_of p.globals) → slice_get C.globals (handle_global p.ranges i) ≡ Some (variable I32)
   pub name_number : (i : ℕ) → i < length (kinds_of p.globals) → slice_get C.globals (number_global p.ranges i) ≡ Some (variable I64)
   pub imported : (i : Import) → C.callee (import_number i) ≡ Some (import_type i)
-  pub routine : (f : ℕ) → f < length (calls_of p) → C.callee (function_number f) ≡ Some
-      (record { params = map kind_type (parameters_at (calls_of p) f); result = Some I32 })
+  pub routine : (f : ℕ) → f < length (calls_of p) → C.callee (function_number f) ≡ Some (routine_type (parameters_at (calls_of p) f))
 
 pub kind_below : (ks : List Kind) (i : ℕ) (k : Kind) → has_kind ks i k ≡ true → i < length ks
 kind_below [] i k e = cc

@@ -27,10 +27,11 @@ module _ {p : Program} {ks : List Kind} {b : Bases} {C : Context} (at : Stands p
         sorted (context_of p ks) fs e ≡ true →
         t + room e ≤ b.temporaries → w + arrays_in e ≤ b.arrays → Exit L d → CodeOk C L k ps rs →
         CodeOk C L (dropped (layout_of p b) fs ts e t w d k) ps rs
-    dropped_ok fs ts e t w d q s h g x r = let he = room_there e in
+    dropped_ok fs ts e t w d q s h g x r =
+        let he = room_there e in
         code_ok at true fs ts e t w d q s h g x (left_over_ok at e (form_of fs e) (omega (arith, h, he)) r)
 
-    pub tested_ok : {ps : Stack} {d : ℕ} (e : Code) → test_sorted (context_of p ks) e ≡ true → room e ≤ b.temporaries → arrays_in e ≤ b.arrays →
+    tested_ok : {ps : Stack} {d : ℕ} (e : Code) → test_sorted (context_of p ks) e ≡ true → room e ≤ b.temporaries → arrays_in e ≤ b.arrays →
         Exit L d → CodeOk C L k (I32 ∷ ps) rs →
         CodeOk C L (tested (layout_of p b) [] [] e zero zero d k) ps rs
     tested_ok {d = d} e s h g x r =
@@ -61,7 +62,7 @@ module _ {p : Program} {ks : List Kind} {b : Bases} {C : Context} (at : Stands p
   mutual
     unfolding step_emitted steps_emitted step_sorted steps_sorted
 
-    pub step_ok : {L : Labels} {k : Instructions} {rs : Stack} (o l : Bool) (s : Step) (u d bk ct : ℕ) → step_sorted (context_of p ks) o l s ≡ true →
+    step_ok : {L : Labels} {k : Instructions} {rs : Stack} (o l : Bool) (s : Step) (u d bk ct : ℕ) → step_sorted (context_of p ks) o l s ≡ true →
         step_room s ≤ b.temporaries → u + step_iterators s ≤ b.iterators → step_arrays s ≤ b.arrays → Exit L d → Exit L bk → Exit L ct →
         CodeOk C L k [] rs →
         CodeOk C L (step_emitted (layout_of p b) s u d bk ct k) [] rs

@@ -102,7 +102,8 @@ module _ (p : Program) where
 
   names_set : (ks : List Kind) → All IsSet (name_globals ks)
   names_set [] = All-nil IsSet
-  names_set (k ∷ ks) = All-cons IsSet (word_global minus_one) (long_global least ∷ name_globals ks) refl
+  names_set (k ∷ ks) =
+      All-cons IsSet (word_global minus_one) (long_global least ∷ name_globals ks) refl
       (All-cons IsSet (long_global least) (name_globals ks) refl (names_set ks))
 
   globals_set : All IsSet (globals_of p)
