@@ -271,7 +271,7 @@ module _ (p : Program) (deepest : ℕ) (ks : List Kind) (F : List Frame) (b : Ba
       still i j z e q = subst (ParamLoose p deepest ks F j) (sym (upd_other l.param x z Gone (λ r. omega (arith, q, r)))) (lo (suc i) j z e (omega (arith, q)))
 
   -- locals that own nothing
-  unowned_laid : (l : Locals) → ((i : ℕ) → i < b.parameters → is_owned (l.param i) ≡ false) → is_owned l.answer ≡ false → ((x : ℕ) → x < b.temporaries → is_owned (l.hand x) ≡ false) → ((x : ℕ) → is_owned (l.number x) ≡ false) →
+  pub unowned_laid : (l : Locals) → ((i : ℕ) → i < b.parameters → is_owned (l.param i) ≡ false) → is_owned l.answer ≡ false → ((x : ℕ) → x < b.temporaries → is_owned (l.hand x) ≡ false) → ((x : ℕ) → is_owned (l.number x) ≡ false) →
       ((x : ℕ) → x < b.iterators → is_owned (l.iterator x) ≡ false) → ((x : ℕ) → x < b.arrays → is_owned (l.array x) ≡ false) → none_owned (laid b l) ≡ true
   unowned_laid l op oa oh on ow oy =
       unowned_cells l.param b.parameters (l.answer ∷ temporaries_on b l) op

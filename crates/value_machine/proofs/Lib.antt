@@ -48,3 +48,6 @@ pub mod Orders
 pub mod Comparing
 pub mod Products
 pub mod Inlining
+pub mod Returning
+pub mod Parts
+pub mod Endings

@@ -15,7 +15,7 @@ use Rattle.value_machine.specs.Places.{Bases}
 use Rattle.value_machine.specs.Small.{does}
 use Rattle.value_machine.proofs.Runs.{Goes}
 use Rattle.value_machine.proofs.Regions.{cells, pairs, cells_length}
-use Rattle.value_machine.proofs.Globals.{names_on}
+use Rattle.value_machine.proofs.Globals.{names_on, placed}
 use Rattle.value_machine.proofs.Locals.{Locals, temporaries_on, laid}
 use Rattle.value_machine.proofs.Steps.{empty}
 use Rattle.value_machine.proofs.State.{beside, kind_here, arrays_before, name_hand, cells_of}
@@ -85,9 +85,9 @@ walked_cells f (suc n) (suc u) rest le h k =
 
 -- Globals.
 
-names_tidy : (kinds : List Kind) (h g : ℕ → Cell) → ((i : ℕ) → tidy_name (kind_here kinds i) (h i) ≡ true) → ((i : ℕ) → is_owned (g i) ≡ false) → each_name tidy_name kinds (pairs h g (length kinds) ++ []) ≡ true
-names_tidy [] h g e o = refl
-names_tidy (k ∷ kinds) h g e o = ap₂ (λ x y. x && y) (ap₂ (λ x y. x && not y) (e zero) (o zero)) (names_tidy kinds (λ i. h (suc i)) (λ i. g (suc i)) (λ i. e (suc i)) (λ i. o (suc i)))
+names_fine : (ok : Kind → Cell → Bool) (kinds : List Kind) (h g : ℕ → Cell) → ((i : ℕ) → ok (kind_here kinds i) (h i) ≡ true) → ((i : ℕ) → is_owned (g i) ≡ false) → each_name ok kinds (pairs h g (length kinds) ++ []) ≡ true
+names_fine ok [] h g e o = refl
+names_fine ok (k ∷ kinds) h g e o = ap₂ (λ x y. x && y) (ap₂ (λ x y. x && not y) (e zero) (o zero)) (names_fine ok kinds (λ i. h (suc i)) (λ i. g (suc i)) (λ i. e (suc i)) (λ i. o (suc i)))
 
 pub unowned_cells : (f : ℕ → Cell) (n : ℕ) (rest : List Cell) → ((i : ℕ) → i < n → is_owned (f i) ≡ false) → none_owned rest ≡ true → none_owned (cells f n ++ rest) ≡ true
 unowned_cells f zero rest h r = r
@@ -108,6 +108,20 @@ name_tidy : (k : Kind) (a : ℕ) (v : Value) → tidy_name k (name_hand k a v) �
 name_tidy Boxed a v = refl
 name_tidy Unboxed a v = beside_tidy v (bare_is v)
 name_tidy Many a v = refl
+
+-- the names have what they are to have, whichever way a function is being left
+pub globals_fine : (p : Program) (ok : Kind → Cell → Bool) (way : ℕ) (σ : State) → ((k : Kind) (a : ℕ) (v : Value) → ok k (name_hand k a v) ≡ true) → globals_by ok (suc (suc p.ranges)) (kinds_of p.globals) (placed p.ranges (length (kinds_of p.globals)) (cells_of (kinds_of p.globals) way σ)) ≡ true
+globals_fine p ok way σ fine =
+    let kinds = kinds_of p.globals in
+    let g = cells_of kinds way σ in
+    let front : List Cell = g.way ∷ (g.status ∷ (cells g.range p.ranges ++ [])) in
+    let shape : g.way ∷ (g.status ∷ cells g.range p.ranges) ≡ front = ap (λ r. g.way ∷ (g.status ∷ r)) (sym (append-nil (cells g.range p.ranges))) in
+    let size : length (g.way ∷ (g.status ∷ cells g.range p.ranges)) ≡ suc (suc p.ranges) = ap (λ m. suc (suc m)) (cells_length g.range p.ranges) in
+    ap₂ (λ x y. none_owned x && each_name ok kinds y)
+    (take_at (g.way ∷ (g.status ∷ cells g.range p.ranges)) (names_on p.ranges (length kinds) g) (suc (suc p.ranges)) size ∙ shape)
+    (drop_at (g.way ∷ (g.status ∷ cells g.range p.ranges)) (names_on p.ranges (length kinds) g) (suc (suc p.ranges)) size)
+    ∙ ap₂ (λ x y. x && y) (unowned_cells g.range p.ranges [] (λ i lt. refl) refl)
+    (names_fine ok kinds g.hand g.number (λ i. fine (kind_here kinds i) (suc (suc (arrays_before kinds i))) (global_value i σ)) (λ i. refl))
 
 same_self : (k : Kind) → same_kind k k ≡ true
 same_self Boxed = refl
@@ -162,24 +176,11 @@ module _ (p : Program) (deepest : ℕ) (ks : List Kind) (F : List Frame) (b : Ba
       eq-eqb (iterators_in (laid b l)) (loops_walked K)
       (ap (λ m. iterators_in (cells l.param m ++ behind l)) (sym s.parameters) ∙ (still_parameters ks l.param (behind l) lo.params ∙ (behind_walked u K l σ s ∙ sym s.loops)))
 
-  globals_tidy : (σ : State) → globals_by tidy_name (suc (suc p.ranges)) (kinds_of p.globals) (beside_state p deepest ks F σ).globals ≡ true
-  globals_tidy σ =
-      let kinds = kinds_of p.globals in
-      let g = cells_of kinds 0 σ in
-      let front : List Cell = g.way ∷ (g.status ∷ (cells g.range p.ranges ++ [])) in
-      let shape : g.way ∷ (g.status ∷ cells g.range p.ranges) ≡ front = ap (λ r. g.way ∷ (g.status ∷ r)) (sym (append-nil (cells g.range p.ranges))) in
-      let size : length (g.way ∷ (g.status ∷ cells g.range p.ranges)) ≡ suc (suc p.ranges) = ap (λ m. suc (suc m)) (cells_length g.range p.ranges) in
-      ap₂ (λ x y. none_owned x && each_name tidy_name kinds y)
-      (take_at (g.way ∷ (g.status ∷ cells g.range p.ranges)) (names_on p.ranges (length kinds) g) (suc (suc p.ranges)) size ∙ shape)
-      (drop_at (g.way ∷ (g.status ∷ cells g.range p.ranges)) (names_on p.ranges (length kinds) g) (suc (suc p.ranges)) size)
-      ∙ ap₂ (λ x y. x && y) (unowned_cells g.range p.ranges [] (λ i lt. refl) refl)
-      (names_tidy kinds g.hand g.number (λ i. name_tidy (kind_here kinds i) (suc (suc (arrays_before kinds i))) (global_value i σ)) (λ i. refl))
-
   -- a `nop` where a step begins
   pub nop_ok : {k : Instructions} → (u : ℕ) (K : List Label) (l : Locals) (σ : State) → Starts p deepest ks F b M n u K l σ →
       Goes (machine p deepest ks F) 1 (at ks [] K (laid b l) F (does Nop k) (beside_state p deepest ks F σ)) (at ks [] K (laid b l) F k (beside_state p deepest ks F σ))
   nop_ok {k = k} u K l σ s = record {
     it = ap (λ t. guarded t (at ks [] K (laid b l) F k (beside_state p deepest ks F σ))) (
-        ap₂ (λ x y. (true && true) && (x && y)) (ap₂ (λ x y. x && y) (locals_tidy u K l σ s) (locals_walked u K l σ s)) (globals_tidy σ)
+        ap₂ (λ x y. (true && true) && (x && y)) (ap₂ (λ x y. x && y) (locals_tidy u K l σ s) (locals_walked u K l σ s)) (globals_fine p tidy_name 0 σ name_tidy)
         );
   }

@@ -1,0 +1,106 @@
+-- The end of `main`, with the status that the script has, and how whole runs show: what the machine comes to is what the script's run is.
+use Rattle.std.proofs.Common.{◌≡◌, ℕ, zero, suc, ◌+◌, ◌-◌, ◌*◌, ◌^◌, ◌<◌, ◌≤◌, true, List, [], ◌∷◌, length, Some, None, Option, ℤ, pos, negsuc, unsigned_abs, w64, refl, ap, ◌∙◌, arith}
+use Rattle.std.specs.Prelude.{◌%◌, ◌&&◌}
+use Rattle.std.specs.Int.{cast_unsigned, int_rem_euclid}
+use Rattle.awk_values.specs.declared.fault.Fault.{Fault}
+use Rattle.awk_values.specs.declared.value.Value.{Value}
+use Rattle.awk_state.specs.Numbers.{Number, number_word}
+use Rattle.awk_state.proofs.Words.{small}
+use Rattle.wasm_types.specs.Syntax.{Instructions, Done}
+use Rattle.wasm_types.specs.declared.instr.Simple.TheVariants.{GlobalGet, Convert}
+use Rattle.wasm_types.specs.declared.instr.CvtOp.TheVariants.{I32WrapI64}
+use Rattle.wasm_store.specs.declared.word.Word.TheVariants.{I32, I64}
+use Rattle.mid_code.specs.Mid.{Kind, Boxed, Unboxed, Many, Program}
+use Rattle.mid_code.specs.MidMeaning.{mid_run_in}
+use Rattle.mid_code.specs.ScriptRun.{Setting, Ending, Ended, FaultedBy, GoesOn, Exhausted, ending}
+use Rattle.mid_code.specs.ScriptState.{State, Stop, Faulted, OutOfTurns, TooDeep, Nexted, Exited, Returned, Outcome, Gives, Stops}
+use Rattle.mid_code.specs.Sorted.{kinds_of}
+use Rattle.value_machine.specs.Cells.{Cell, Bits, is_owned, left_by, none_owned, ended_name, globals_by}
+use Rattle.value_machine.specs.Follows.{Shown, Follows}
+use Rattle.value_machine.specs.Functions.{layout_of}
+use Rattle.value_machine.specs.Machine.{Conf, Over, at, ending_at, guarded}
+use Rattle.value_machine.specs.Places.{Bases, status_global}
+use Rattle.value_machine.specs.Runs.{code_of, begun, value_run}
+use Rattle.value_machine.specs.Small.{does}
+use Rattle.value_machine.specs.Statements.{swept}
+use Rattle.value_machine.proofs.Runs.{Goes, then_goes, goes_to, by_steps, Arrives}
+use Rattle.value_machine.proofs.Globals.{Status}
+use Rattle.value_machine.proofs.GlobalSteps.{global_copied}
+use Rattle.value_machine.proofs.Locals.{Locals, laid}
+use Rattle.value_machine.proofs.Steps.{empty}
+use Rattle.value_machine.proofs.State.{beside, name_hand, cells_of, store_with}
+use Rattle.value_machine.proofs.Relation.{Loose}
+use Rattle.value_machine.proofs.Conversions.{BareIs, IsBeside, IsNone, IsNumber, bare_is}
+use Rattle.value_machine.proofs.Answers.{machine}
+use Rattle.value_machine.proofs.Tidy.{globals_fine}
+use Rattle.value_machine.proofs.Exits.{sweep_ok, unowned_laid}
+
+-- the low eight bits of a status are its remainder
+status_low : (m : Number) → (number_word m % 2 ^ 32) % 256 ≡ unsigned_abs (int_rem_euclid m.number (pos 256))
+status_low m = by m.number (small m)
+  where
+    by : (z : ℤ) → unsigned_abs z ≤ 2 ^ 53 → (cast_unsigned w64 z % 2 ^ 32) % 256 ≡ unsigned_abs (int_rem_euclid z (pos 256))
+    by (pos k) e = omega arith
+    by (negsuc k) e = omega (arith, e)
+
+beside_ended : (v : Value) → BareIs v → ended_name Unboxed (beside v) ≡ true
+beside_ended v (IsBeside e e1) = ap (ended_name Unboxed) e1
+beside_ended v (IsNone e e1 e2) = ap (ended_name Unboxed) e2
+beside_ended v (IsNumber m e e1 e2) = ap (ended_name Unboxed) e2
+
+name_ended : (k : Kind) (a : ℕ) (v : Value) → ended_name k (name_hand k a v) ≡ true
+name_ended Boxed a v = refl
+name_ended Unboxed a v = beside_ended v (bare_is v)
+name_ended Many a v = refl
+
+abbrev pub main_exit_work : Bases → ℕ
+main_exit_work b = 8 * (b.temporaries + (b.iterators + b.arrays)) + 3
+
+module _ (p : Program) (deepest : ℕ) (b : Bases) where
+  abbrev pub main_exit : Instructions
+  main_exit = swept (layout_of p b) (does (GlobalGet status_global) (does (Convert I32WrapI64) Done))
+
+  -- `main` ends with the status, and holds nothing
+  pub record MainEnds (way : ℕ) (fault : Option Fault) (l : Locals) (σ : State) : Type 0 where
+    pub steps : ℕ
+    pub few : steps ≤ main_exit_work b
+    pub goes : Goes (machine p deepest [] []) steps (at [] [] [] (laid b l) [] main_exit (store_with p.ranges (kinds_of p.globals) way fault σ)) (Over (Bits (I32 (number_word σ.status % 2 ^ 32))) (store_with p.ranges (kinds_of p.globals) way fault σ))
+
+  pub main_ends : (way : ℕ) (fault : Option Fault) (l : Locals) (σ : State) → zero ≡ b.parameters → Loose p deepest [] [] l → l.answer ≡ empty → MainEnds way fault l σ
+  main_ends way fault l σ none lo an =
+      let G = store_with p.ranges (kinds_of p.globals) way fault σ in
+      let mach = machine p deepest [] [] in
+      let v = Bits (I32 (number_word σ.status % 2 ^ 32)) in
+      let a = sweep_ok p deepest [] [] b [] G l (does (GlobalGet status_global) (does (Convert I32WrapI64) Done)) lo in
+      let clean : none_owned (laid b a.next) ≡ true =
+          unowned_laid p deepest [] [] b a.next (λ i lt. absurd (omega (arith, lt, none))) (ap is_owned (a.answer ∙ an)) (λ x lt. ap is_owned (a.hands x lt)) (λ x. ap is_owned (a.numbers x) ∙ lo.numbers x)
+          (λ x lt. ap is_owned (a.iterators x lt)) (λ x lt. ap is_owned (a.arrays x lt)) in
+      record {
+        steps = a.steps + 3;
+        few = let q = a.few in omega (arith, q);
+        goes = then_goes a.goes
+            (then_goes (global_copied p.ranges (length (kinds_of p.globals)) (cells_of (kinds_of p.globals) way σ) Status (Bits (I64 (number_word σ.status))) tt refl refl)
+            (then_goes (by_steps 1 refl)
+            (by_steps 1
+            (ap (λ t. guarded (true && t) (guarded (true && globals_by ended_name mach.before mach.names G.globals) (Over v G))) clean
+            ∙ ap (λ t. guarded (true && t) (Over v G)) (globals_fine p ended_name way σ name_ended)))));
+      }
+
+  -- how it shows then
+  pub shows_ended : (way : ℕ) (σ : State) → ending_at (Over (Bits (I32 (number_word σ.status % 2 ^ 32))) (store_with p.ranges (kinds_of p.globals) way None σ)) ≡ Some (Ended (unsigned_abs (int_rem_euclid σ.status.number (pos 256))) σ.shared.output)
+  shows_ended way σ = ap (λ s. Some (Ended s σ.shared.output)) (status_low σ.status)
+
+-- Whole runs: where the machine comes to what shows as the script's ending, with bounded work, the emitted code follows the program.
+
+abbrev pub EndsWell : Outcome (Unit {0}) → Conf → Type 0
+EndsWell r c = ending_at c ≡ Some (ending r)
+
+module _ (p : Program) (s : Setting) (M w turns : ℕ) (few : w ≤ M) where
+  shown : (r : Outcome (Unit {0})) → Arrives (code_of p s.deepest) M w turns (begun p s) (λ u σ. EndsWell (Gives u σ)) (λ why σ. EndsWell (Stops why σ)) r → Shown p s turns (M * (turns + 1)) (ending r)
+  shown (Gives u σ) h = (h.steps, (let q = h.cost.few in omega (arith, q, few)), ap ending_at h.goes ∙ h.holds)
+  shown (Stops OutOfTurns σ) h = (h.steps, (let q = h.few in omega (arith, q, few)), h.enough, h.shows)
+  shown (Stops (Faulted f) σ) h = (h.steps, (let q = h.cost.few in omega (arith, q, few)), ap ending_at h.goes ∙ h.holds)
+  shown (Stops TooDeep σ) h = (h.steps, (let q = h.cost.few in omega (arith, q, few)), ap ending_at h.goes ∙ h.holds)
+  shown (Stops Nexted σ) h = (h.steps, (let q = h.cost.few in omega (arith, q, few)), ap ending_at h.goes ∙ h.holds)
+  shown (Stops Exited σ) h = (h.steps, (let q = h.cost.few in omega (arith, q, few)), ap ending_at h.goes ∙ h.holds)
+  shown (Stops (Returned v) σ) h = (h.steps, (let q = h.cost.few in omega (arith, q, few)), ap ending_at h.goes ∙ h.holds)
