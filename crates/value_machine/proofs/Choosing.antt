@@ -63,12 +63,12 @@ flag_is false = refl
 
 -- after one of two ways
 
-well_left : (g m : Standing) → is_well_used (either_way g m) ≡ true → is_well_used g ≡ true
+pub well_left : (g m : Standing) → is_well_used (either_way g m) ≡ true → is_well_used g ≡ true
 well_left There m e = refl
 well_left Moved m e = refl
 well_left Misused m e = e
 
-well_right : (g m : Standing) → is_well_used (either_way g m) ≡ true → is_well_used m ≡ true
+pub well_right : (g m : Standing) → is_well_used (either_way g m) ≡ true → is_well_used m ≡ true
 well_right g There e = refl
 well_right g Moved e = refl
 well_right There Misused e = e

@@ -1,5 +1,6 @@
--- All expressions do what they mean, if those constructs do that are still to be proved (`Rest`).
-use Rattle.std.specs.Prelude.{ℕ, Bool, true, false, List}
+-- All expressions do what they mean, if calls do, and if a turn pays for an assignment of the command line (`Rest`).
+use Rattle.std.proofs.Common.{◌≤◌}
+use Rattle.std.specs.Prelude.{ℕ, true, false, List}
 use Rattle.mid_code.specs.declared.mid.Operation.TheVariants.{Host, Inline, AsNumber, FieldNumber}
 use Rattle.mid_code.specs.Mid.{Kind, Program, Global, Parameter, Code, Do, Over, Compare, Call, Ask, AskLine, FileLine, Replace, Number, Text, Unset, Get, Set, Array, IsOpen, Choose, Seq, Let, Bound, Codes, End, At, Fixed, Fresh}
 use Rattle.value_machine.specs.Machine.{Frame}
@@ -18,6 +19,10 @@ use Rattle.value_machine.proofs.Lists.{over_expr}
 use Rattle.value_machine.proofs.SettingNames.{set_expr}
 use Rattle.value_machine.proofs.Comparing.{compare_expr}
 use Rattle.value_machine.proofs.Inlining.{inline_expr}
+use Rattle.value_machine.proofs.FileLines.{file_line_expr}
+use Rattle.value_machine.proofs.Asking.{assign_work}
+use Rattle.value_machine.proofs.AskingLines.{ask_expr, ask_line_expr}
+use Rattle.value_machine.proofs.Replacing.{replace_expr}
 
 module _ (p : Program) (deepest : ℕ) (ks : List Kind) (F : List Frame) (b : Bases) (M n : ℕ) where
   abbrev pub Expr : Code → Type 0
@@ -26,13 +31,10 @@ module _ (p : Program) (deepest : ℕ) (ks : List Kind) (F : List Frame) (b : Ba
   abbrev pub Operands : Codes → Type 0
   Operands es = CodesOk p deepest ks F b M n es
 
-  -- what is still to be proved of each construct
+  -- what expressions rest on: a turn pays for an assignment of the command line; and what is still to be proved of calls
   pub record Rest : Type 0 where
+    pub paid : assign_work p deepest ks F b M n ≤ M
     pub call : (f : ℕ) (es : Codes) → Operands es → Expr (Call f es)
-    pub ask : Expr Ask
-    pub ask_line : (s : Code) → Expr s → Expr (AskLine s)
-    pub file_line : (e s : Code) → Expr e → Expr s → Expr (FileLine e s)
-    pub replace : (all : Bool) (es : Codes) (s : Code) → Operands es → Expr s → Expr (Replace all es s)
 
   module _ (rest : Rest) where
     mutual
@@ -44,10 +46,10 @@ module _ (p : Program) (deepest : ℕ) (ks : List Kind) (F : List Frame) (b : Ba
       expr_ok (Over l es) = over_expr p deepest ks F b M n l es (codes_ok es)
       expr_ok (Compare c x y) = compare_expr p deepest ks F b M n c x y (expr_ok x) (expr_ok y)
       expr_ok (Call f es) = rest.call f es (codes_ok es)
-      expr_ok Ask = rest.ask
-      expr_ok (AskLine s) = rest.ask_line s (expr_ok s)
-      expr_ok (FileLine e s) = rest.file_line e s (expr_ok e) (expr_ok s)
-      expr_ok (Replace all es s) = rest.replace all es s (codes_ok es) (expr_ok s)
+      expr_ok Ask = ask_expr p deepest ks F b M n rest.paid
+      expr_ok (AskLine s) = ask_line_expr p deepest ks F b M n rest.paid s (expr_ok s)
+      expr_ok (FileLine e s) = file_line_expr p deepest ks F b M n e s (expr_ok e) (expr_ok s)
+      expr_ok (Replace all es s) = replace_expr p deepest ks F b M n all es s (codes_ok es) (expr_ok s)
       expr_ok (Number z) = number_expr p deepest ks F b M n z
       expr_ok (Text i) = text_expr p deepest ks F b M n i
       expr_ok Unset = unset_expr p deepest ks F b M n

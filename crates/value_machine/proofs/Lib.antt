@@ -51,3 +51,9 @@ pub mod Inlining
 pub mod Returning
 pub mod Parts
 pub mod Endings
+pub mod Receiving
+pub mod FileLines
+pub mod Replacing
+pub mod Pending
+pub mod Asking
+pub mod AskingLines

@@ -79,7 +79,7 @@ module _ (p : Program) (deepest : ℕ) (ks : List Kind) (F : List Frame) (b : Ba
   abbrev globals_at : State → Globals
   globals_at σ = cells_of kinds 0 σ
 
-  boxed_written : (i : ℕ) (y : Value) (σ : State) → length σ.globals ≡ length p.globals → has_kind kinds i Boxed ≡ true →
+  pub boxed_written : (i : ℕ) (y : Value) (σ : State) → length σ.globals ≡ length p.globals → has_kind kinds i Boxed ≡ true →
       placed p.ranges (length kinds) (with_global_at p.ranges (length kinds) (globals_at σ) (NameHand i) (Held y)) ≡ placed p.ranges (length kinds) (globals_at (with_global i y σ))
   boxed_written i y σ sz hk =
       let nn = length kinds in
