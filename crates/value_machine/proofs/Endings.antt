@@ -73,8 +73,8 @@ module _ (p : Program) (deepest : ℕ) (b : Bases) where
       let v = Bits (I32 (number_word σ.status % 2 ^ 32)) in
       let a = sweep_ok p deepest [] [] b [] G l (does (GlobalGet status_global) (does (Convert I32WrapI64) Done)) lo in
       let clean : none_owned (laid b a.next) ≡ true =
-          unowned_laid p deepest [] [] b a.next (λ i lt. absurd (omega (arith, lt, none))) (ap is_owned (a.answer ∙ an)) (λ x lt. ap is_owned (a.hands x lt)) (λ x. ap is_owned (a.numbers x) ∙ lo.numbers x)
-          (λ x lt. ap is_owned (a.iterators x lt)) (λ x lt. ap is_owned (a.arrays x lt)) in
+      unowned_laid p deepest [] [] b a.next (λ i lt. absurd (omega (arith, lt, none))) (ap is_owned (a.answer ∙ an)) (λ x lt. ap is_owned (a.hands x lt)) (λ x. ap is_owned (a.numbers x) ∙ lo.numbers x)
+      (λ x lt. ap is_owned (a.iterators x lt)) (λ x lt. ap is_owned (a.arrays x lt)) in
       record {
         steps = a.steps + 3;
         few = let q = a.few in omega (arith, q);
