@@ -1,3 +1,5 @@
 pub mod Tables
 pub mod Carrying
 pub mod Decoding
+pub mod Answering
+pub mod Calling
