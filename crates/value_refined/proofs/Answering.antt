@@ -31,7 +31,7 @@ use Rattle.value_refined.proofs.Carrying.{Carried, carried_same, carried_then, u
 use Rattle.value_refined.proofs.Decoding.{AllLive, AllSpentRight, Left, RowAs, decode_as}
 use Rattle.value_refined.proofs.Tables.{entered_there, entered_other}
 
-some_of : {A : Type 0} → (x y : A) → Some x ≡ Some y → x ≡ y
+pub some_of : {A : Type 0} → (x y : A) → Some x ≡ Some y → x ≡ y
 some_of x y e = cc
 
 -- A number that stood for nothing is given out.

@@ -65,7 +65,7 @@ to_host Drop = hosted.Drop
 to_host IterFree = hosted.IterFree
 to_host FreeArray = hosted.FreeArray
 
-answers_same : (i : Import) → table.import_answer (to_host i) ≡ import_answer i
+pub answers_same : (i : Import) → table.import_answer (to_host i) ≡ import_answer i
 answers_same (Of p) = refl
 answers_same (Over Sprintf) = refl
 answers_same (Over Print) = refl
@@ -142,11 +142,11 @@ ActsAs None r = Unit {0}
 ActsAs (Some d) (Ok e) = e ≡ host_acts d
 ActsAs (Some d) (Err k) = ⊥
 
-primitive_same : {A : Type 0} → (arguments : List AnyValue) (faults : Bool) (d : Does (OrFault faults A)) → host.primitive_acts arguments faults d ≡ host_acts (primitive_acts arguments faults d)
+pub primitive_same : {A : Type 0} → (arguments : List AnyValue) (faults : Bool) (d : Does (OrFault faults A)) → host.primitive_acts arguments faults d ≡ host_acts (primitive_acts arguments faults d)
 primitive_same arguments true d = refl
 primitive_same arguments false d = refl
 
-fit_same : {A : Type 0} → (b : Bool) (d : Acts A) (e : host.Acts A) → e ≡ host_acts d → ActsAs (where_so b (Some d)) (host.where_fit b e)
+pub fit_same : {A : Type 0} → (b : Bool) (d : Acts A) (e : host.Acts A) → e ≡ host_acts d → ActsAs (where_so b (Some d)) (host.where_fit b e)
 fit_same true d e h = h
 fit_same false d e h = tt
 
@@ -171,13 +171,13 @@ pub record Spent (made : ℕ) (N left : Names) (others : Sort → ℕ → ℕ) :
   pub once : (s : Sort) (q : ℕ) → others s q ≡ wanted left s q
   pub arrays : ArraysFit made left.arrays
 
-abbrev RowOk : {A : Type 0} → ℕ → Names → (Sort → ℕ → ℕ) → Option A → Result (A × Names) TrapKind → Type 0
+abbrev pub RowOk : {A : Type 0} → ℕ → Names → (Sort → ℕ → ℕ) → Option A → Result (A × Names) TrapKind → Type 0
 RowOk made N others None r = Unit {0}
 RowOk made N others (Some x) (Ok y) = (y.0 ≡ x) × Spent made N y.1 others
 RowOk made N others (Some x) (Err k) = ⊥
 
 module _ (N : Names) (h : Host) (others : Sort → ℕ → ℕ) where
-  given_as : (r : Option Cell × Host) (g : Given) (a : HostAnswer) (s1 : HostState) (out : List Action) → IsGiven g a s1 out → AnsweredAs N h others r g.word g.after → Outcome N h others (Some r) a s1
+  pub given_as : (r : Option Cell × Host) (g : Given) (a : HostAnswer) (s1 : HostState) (out : List Action) → IsGiven g a s1 out → AnsweredAs N h others r g.word g.after → Outcome N h others (Some r) a s1
   given_as r g a s1 out is x = subst (λ z. Outcome N h others (Some r) z s1) (sym is.word) (subst (λ z. AnsweredAs N h others r g.word z) (sym is.state) x)
 
   told_after : (made1 : ℕ) (left N1 : Names) (c : Option Cell) (w : Option Word) → Carried (arrays_made h) (arrays_made h) N left others → Told (arrays_made h) made1 left N1 others c w → Told (arrays_made h) made1 N N1 others c w
@@ -197,7 +197,7 @@ module _ (N : Names) (h : Host) (others : Sort → ℕ → ℕ) where
       (record { host = refl; told = told_after made1 left left _ _ k.carried t })
 
   -- arguments are taken, and the import acts
-  acted_as : (wanted-row : List Argument) (a : Answer) (o : Option (Row wanted-row)) (r : Result (Row wanted-row × Names) TrapKind) (f : Row wanted-row → Option (Acts (InAnswer a))) (g : Row wanted-row → Result (host.Acts (InAnswer a)) TrapKind) → RowOk (arrays_made h) N others o r →
+  pub acted_as : (wanted-row : List Argument) (a : Answer) (o : Option (Row wanted-row)) (r : Result (Row wanted-row × Names) TrapKind) (f : Row wanted-row → Option (Acts (InAnswer a))) (g : Row wanted-row → Result (host.Acts (InAnswer a)) TrapKind) → RowOk (arrays_made h) N others o r →
       ((x : Row wanted-row) → o ≡ Some x → ActsAs (f x) (g x)) → ((x : Row wanted-row) (d : Acts (InAnswer a)) → f x ≡ Some d → GrowsBy (arrays_made h) a d.does) → (v : HostAnswer) (s1 : HostState) (out : List Action) →
       StepBy a (state_with N h) (come (and_then r (λ x. and_then (g x.0) (λ d. Ok (x.1, d))))) v s1 out → Outcome N h others (with_some o (λ x. with_some (f x) (λ d. Some (replied a h d d.does.answer)))) v s1
   acted_as w a None r f g ok same grows v s1 out s = tt
