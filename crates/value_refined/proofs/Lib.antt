@@ -6,3 +6,4 @@ pub mod Calling
 pub mod Freeing
 pub mod Looking
 pub mod Numbering
+pub mod Moving
