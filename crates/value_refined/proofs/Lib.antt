@@ -7,3 +7,4 @@ pub mod Freeing
 pub mod Looking
 pub mod Numbering
 pub mod Moving
+pub mod Settling

@@ -1,5 +1,5 @@
 -- When the real machine, with its host, is where the machine over values is, and what a step is to keep of that.
-use Rattle.std.specs.Prelude.{ℕ, ◌≡◌, ◌<◌, ◌+◌, Bool, true, false, List, [], ◌∷◌, ◌++◌, length, Option, Some, None, slice_get}
+use Rattle.std.specs.Prelude.{ℕ, ◌≡◌, ◌⊎◌, ◌<◌, ◌+◌, Bool, true, false, List, [], ◌∷◌, ◌++◌, length, Option, Some, None, slice_get}
 use Rattle.world_core.specs.WorldState.{Action}
 use Rattle.wasm_types.specs.Syntax.{Instructions, Done, FuncForm}
 use Rattle.wasm_types.specs.declared.types.ValType.TheVariants as ty
@@ -121,11 +121,10 @@ module _ (used : ℕ → Bool) (bs : List Bool) where
     As (Deep G) c s = ⊥
     As Stuck c s = Unit {0}
 
-    -- how the real machine may end in one step by which the machine over values comes to p; nothing is told of `Stuck`, which no typed module comes to
+    -- How the real machine may end in one step by which the machine over values comes to p: so that nothing is told, as no typed module does; anyhow, where p is stuck; or because a
+    -- call is too deep.
     abbrev pub EndAs : Conf → End → HostState → HostState → List Action → Type 0
-    EndAs (Deep G) e before after output = (e ≡ ends.Exhausted) × (after ≡ before) × (output ≡ [])
-    EndAs Stuck e before after output = Unit {0}
-    EndAs p e before after output = told_end e ≡ None
+    EndAs p e before after output = (told_end e ≡ None) ⊎ ((p ≡ Stuck) ⊎ ((G : Store) × (p ≡ Deep G) × (e ≡ ends.Exhausted) × (after ≡ before) × (output ≡ [])))
 
     -- What a step leads to, where the machine over values comes to p by its own.
     pub record NextAs (p : Conf) (c : real.Conf) (s : HostState) (t : Turn) : Type 0 where
