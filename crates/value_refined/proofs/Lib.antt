@@ -8,3 +8,4 @@ pub mod Looking
 pub mod Numbering
 pub mod Moving
 pub mod Settling
+pub mod Asking
