@@ -89,7 +89,7 @@ module _ (used : ℕ → Bool) (bs : List Bool) (u : Code) (K : List Label) (L :
 
   -- after an answer: everything that was there stands for the same
   module _ (others : Sort → ℕ → ℕ) (inside : (t : Sort) (q : ℕ) → owners t q L c.frame.locals + (owners t q G.globals c.globals + waiting t q F c.callers) ≤ others t q) where
-    rest_after : (r : Option Cell × Host) (w : Option Word) (s1 : HostState) (vals : List Word) (m1 : MemoryForm) → m1 ≡ c.memory → AnsweredAs s.names G.host others r w s1 →
+    pub rest_after : (r : Option Cell × Host) (w : Option Word) (s1 : HostState) (vals : List Word) (m1 : MemoryForm) → m1 ≡ c.memory → AnsweredAs s.names G.host others r w s1 →
         RestAs used bs u K L F (record G { host = r.1 }) (record c { frame = with_values c.frame vals; memory = m1 }) s1
     rest_after r w s1 vals m1 me x =
         let made = arrays_made G.host in

@@ -9,3 +9,4 @@ pub mod Numbering
 pub mod Moving
 pub mod Settling
 pub mod Asking
+pub mod Asked
