@@ -1,34 +1,23 @@
 -- What an import answers stands for the cell that the machine over values gets, whichever free number is given out.
-use Rattle.std.proofs.Common.{◌≡◌, ℕ, zero, suc, ◌+◌, ◌<◌, ◌≤◌, ◌^◌, Bool, true, false, cond, ◌&&◌, nat_eq, nat_lt, pos, List, [], ◌∷◌, ◌++◌, length, Option, Some, None, Result, Ok, Err, refl, sym, ap, ◌∙◌, subst, arith, true≢false}
+use Rattle.std.proofs.Common.{◌≡◌, ℕ, zero, suc, ◌+◌, ◌<◌, ◌≤◌, Bool, true, false, cond, nat_eq, nat_lt, pos, Option, Some, None, Ok, refl, sym, ap, ◌∙◌, subst, arith, true≢false}
 use Rattle.std.proofs.lemmas.Bool.{eq-eqb, eqb-true, ltb-true}
 use Rattle.std.proofs.lemmas.Option.{none-some}
-use Rattle.awk_values.specs.declared.fault.Fault.{Fault}
-use Rattle.awk_state.specs.SharedState.{Does, shared_after}
-use Rattle.awk_state.specs.Sorts.{InAnswer, Row}
+use Rattle.awk_state.specs.Sorts.{InAnswer}
 use Rattle.awk_state.specs.declared.sorts.Sort.{Sort}
 use Rattle.awk_state.specs.declared.sorts.Sort.TheVariants as sort
 use Rattle.awk_state.specs.declared.sorts.Answer.{Answer}
 use Rattle.awk_state.specs.declared.sorts.Answer.TheVariants as answer
-use Rattle.awk_state.specs.declared.sorts.Argument.{Argument}
-use Rattle.wasm_store.specs.declared.trap.TrapKind.{TrapKind}
 use Rattle.wasm_store.specs.declared.word.Word.{Word}
-use Rattle.wasm_store.specs.declared.word.Word.TheVariants.{I32, I64}
-use Rattle.wasm_machine.specs.declared.host.HostAnswer.{HostAnswer}
-use Rattle.wasm_machine.specs.declared.host.HostAnswer.TheVariants as told
-use Rattle.world_core.specs.WorldState.{Action}
-use Rattle.host_step.specs.HostState.{HostState, Names}
+use Rattle.wasm_store.specs.declared.word.Word.TheVariants.{I32}
+use Rattle.host_step.specs.HostState.{Names}
 use Rattle.host_step.specs.Tables.{Table, look, entered}
-use Rattle.host_step.specs.Arguments.{and_then, decode}
 use Rattle.host_step.specs.Answers.{FreeFor, encode, refusal}
-use Rattle.host_step.specs.HostStep.{Comes, Goes, Given, IsGiven, Settles, StepBy, answered, come, faulted}
-use Rattle.host_step.specs.HostStep as host
-use Rattle.value_machine.specs.Cells.{Cell, Bits, Held, IteratorOf, OwnedArray, LentArray, Gone}
-use Rattle.value_machine.specs.ImportCalls.{Acts, Host, cell_of, fault_cell, replied, row_in, with_some}
-use Rattle.value_refined.specs.Growing.{GrowsBy, NewIn}
-use Rattle.value_refined.specs.Words.{ArraysFit, WordAs, WordsAs, arrays_made, state_with}
-use Rattle.value_refined.specs.Owners.{owner, owners, there, wanted}
-use Rattle.value_refined.proofs.Carrying.{Carried, carried_same, carried_then, unowned_one}
-use Rattle.value_refined.proofs.Decoding.{AllLive, AllSpentRight, Left, RowAs, decode_as}
+use Rattle.value_machine.specs.Cells.{Cell, Bits, Held, IteratorOf, OwnedArray}
+use Rattle.value_machine.specs.ImportCalls.{cell_of, fault_cell}
+use Rattle.value_refined.specs.Growing.{NewIn}
+use Rattle.value_refined.specs.Words.{ArraysFit, WordAs}
+use Rattle.value_refined.specs.Owners.{owner, there, wanted}
+use Rattle.value_refined.proofs.Carrying.{Carried, unowned_one}
 use Rattle.value_refined.proofs.Tables.{entered_there, entered_other}
 
 pub some_of : {A : Type 0} → (x y : A) → Some x ≡ Some y → x ≡ y

@@ -1,5 +1,5 @@
 -- The step that asks the host, whichever import it is.
-use Rattle.std.proofs.Common.{◌≡◌, ◌⊎◌, inl, inr, ℕ, ◌+◌, ◌≤◌, Bool, true, false, nat_lt, List, [], ◌∷◌, ◌++◌, length, take, drop, reverse, Option, Some, None, refl, sym, ap, ◌∙◌, subst, arith, if◌then◌else◌}
+use Rattle.std.proofs.Common.{◌≡◌, inl, inr, ℕ, ◌+◌, Bool, true, false, nat_lt, List, ◌∷◌, length, take, drop, reverse, Option, Some, None, refl, sym, ap, subst, arith, if◌then◌else◌}
 use Rattle.awk_state.specs.declared.sorts.Sort.{Sort}
 use Rattle.world_core.specs.WorldState.{Action}
 use Rattle.wasm_types.specs.Syntax.{Instructions}
@@ -8,10 +8,9 @@ use Rattle.wasm_store.specs.declared.word.Word.{Word}
 use Rattle.wasm_store.specs.declared.trap.TrapKind.{TrapKind}
 use Rattle.wasm_machine.specs.Machines.{Asks, Ends, Turn, answered, asked, with_operands}
 use Rattle.wasm_machine.specs.Machines as real
-use Rattle.wasm_machine.specs.Runs.{TakenAs, OverBy, told_end}
+use Rattle.wasm_machine.specs.Runs.{told_end}
 use Rattle.wasm_machine.specs.declared.host.HostAnswer.{HostAnswer}
 use Rattle.wasm_machine.specs.declared.host.HostAnswer.TheVariants as told
-use Rattle.wasm_machine.specs.declared.state.End.{End}
 use Rattle.wasm_machine.specs.declared.state.End.TheVariants as ends
 use Rattle.mid_code.specs.Mid.{Kind}
 use Rattle.host_step.specs.HostState.{HostState}
@@ -19,14 +18,14 @@ use Rattle.host_step.specs.HostStep.{HostStep}
 use Rattle.value_machine.specs.Cells.{Cell}
 use Rattle.value_machine.specs.ImportCalls.{Host, call}
 use Rattle.value_machine.specs.Imports.{import_at, import_type}
-use Rattle.value_machine.specs.Machine.{Code, Conf, Frame, Label, Store, Stuck, all_live, ask, guarded, onto, width, with_answer}
+use Rattle.value_machine.specs.Machine.{Code, Frame, Label, Store, Stuck, all_live, ask, guarded, width, with_answer}
 use Rattle.value_machine.specs.declared.import.Import.{Import}
 use Rattle.value_refined.specs.Growing.{ArraysGrow}
 use Rattle.value_refined.specs.Owners.{owners, waiting, wanted}
-use Rattle.value_refined.specs.Refined.{As, EndAs, NextAs, RunAs, table_meaning}
-use Rattle.value_refined.specs.Words.{WordsAs, arrays_made, state_with}
+use Rattle.value_refined.specs.Refined.{As, NextAs, RunAs}
+use Rattle.value_refined.specs.Words.{arrays_made, state_with}
 use Rattle.value_refined.proofs.Asking.{all_live_as, rest_after}
-use Rattle.value_refined.proofs.Calling.{AnsweredAs, Outcome}
+use Rattle.value_refined.proofs.Calling.{Outcome}
 use Rattle.value_refined.proofs.Carrying.{words_carried}
 use Rattle.value_refined.proofs.Moving.{owners_reverse, owners_split, words_drop, words_reverse, words_take}
 use Rattle.value_refined.proofs.Numbering.{called_as}

@@ -1,40 +1,24 @@
 -- A step that asks the host: the two machines are at the same place afterwards, whatever the host answers.
-use Rattle.std.proofs.Common.{◌≡◌, ◌⊎◌, inl, inr, ℕ, zero, suc, ◌+◌, ◌<◌, ◌≤◌, Bool, true, false, ◌&&◌, ◌||◌, nat_lt, pos, List, [], ◌∷◌, ◌++◌, length, take, drop, reverse, Option, Some, None, refl, sym, ap, ◌∙◌, subst, arith, true≢false, if◌then◌else◌}
+use Rattle.std.proofs.Common.{◌≡◌, ℕ, zero, suc, ◌+◌, ◌<◌, ◌≤◌, Bool, true, false, ◌&&◌, ◌||◌, nat_lt, pos, List, [], ◌∷◌, Option, Some, refl, sym, ap, ◌∙◌, arith, true≢false}
 use Rattle.std.proofs.lemmas.Bool.{ltb-true}
 use Rattle.awk_state.specs.declared.sorts.Sort.{Sort}
-use Rattle.world_core.specs.WorldState.{Action}
-use Rattle.wasm_types.specs.Syntax.{Instructions}
 use Rattle.wasm_store.specs.Memories.{MemoryForm}
 use Rattle.wasm_store.specs.declared.word.Word.{Word}
 use Rattle.wasm_machine.specs.Frames.{with_values}
 use Rattle.wasm_machine.specs.Machines.{Asks, CallerForm, Ends, Turn, answered, asked, with_operands}
 use Rattle.wasm_machine.specs.Machines as real
-use Rattle.wasm_machine.specs.Runs.{TakenAs, OverBy}
-use Rattle.wasm_machine.specs.declared.host.HostAnswer.{HostAnswer}
-use Rattle.wasm_machine.specs.declared.host.HostAnswer.TheVariants as told
-use Rattle.wasm_machine.specs.declared.state.End.{End}
-use Rattle.wasm_machine.specs.declared.state.End.TheVariants as ends
-use Rattle.wasm_machine.specs.Runs.{told_end}
-use Rattle.mid_code.specs.Mid.{Kind}
 use Rattle.host_step.specs.HostState.{HostState, Names}
-use Rattle.host_step.specs.HostStep.{HostStep}
 use Rattle.host_step.specs.Tables.{look}
 use Rattle.value_machine.specs.Cells.{Cell, Bits, Held, IteratorOf, OwnedArray, LentArray, Gone, has_owner}
-use Rattle.value_machine.specs.ImportCalls.{Host, call}
-use Rattle.value_machine.specs.Imports.{import_at, import_type}
-use Rattle.value_machine.specs.Machine.{Code, Conf, Frame, Label, Store, Stuck, all_live, ask, guarded, is_live, live_if_lent, onto, owner_waits, width, with_answer}
-use Rattle.value_machine.specs.declared.import.Import.{Import}
-use Rattle.value_refined.specs.Growing.{ArraysGrow}
-use Rattle.value_refined.specs.Owners.{OwnedOnce, owner, owners, waiting, wanted}
-use Rattle.value_refined.specs.Refined.{As, CodeAs, EndAs, FramesAs, NextAs, RestAs, RunAs, table_meaning}
-use Rattle.value_refined.specs.Words.{WordAs, WordsAs, arrays_made, state_with}
-use Rattle.value_refined.proofs.Answering.{OntoAs, Told, owner_onto}
-use Rattle.value_refined.proofs.Calling.{AnsweredAs, Outcome}
-use Rattle.value_refined.proofs.Carrying.{Carried, frames_carried, labels_carried, words_carried}
+use Rattle.value_machine.specs.ImportCalls.{Host}
+use Rattle.value_machine.specs.Machine.{Code, Frame, Label, Store, all_live, is_live, live_if_lent, owner_waits}
+use Rattle.value_refined.specs.Owners.{owners, waiting}
+use Rattle.value_refined.specs.Refined.{FramesAs, RestAs}
+use Rattle.value_refined.specs.Words.{arrays_made}
+use Rattle.value_refined.proofs.Calling.{AnsweredAs}
+use Rattle.value_refined.proofs.Carrying.{frames_carried, labels_carried, words_carried}
 use Rattle.value_refined.proofs.Decoding.{AllLive, LiveIn}
-use Rattle.value_refined.proofs.Moving.{owner_found, owners_reverse, owners_split, words_drop, words_reverse, words_take}
-use Rattle.value_refined.proofs.Numbering.{called_as}
-use Rattle.value_refined.proofs.Settling.{at_as}
+use Rattle.value_refined.proofs.Moving.{owner_found}
 
 both : (a b : Bool) → a && b ≡ true → (a ≡ true) × (b ≡ true)
 both true b e = (refl, e)

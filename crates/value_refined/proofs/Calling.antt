@@ -1,7 +1,5 @@
 -- One call of an import, whichever it is: over words it comes to what it comes to over cells.
-use Rattle.std.proofs.Common.{◌≡◌, ◌⊎◌, inl, inr, ℕ, ◌+◌, ◌<◌, ◌≤◌, ◌^◌, Bool, true, false, not, cond, ◌&&◌, nat_eq, nat_le, nat_lt, pos, w32, List, [], ◌∷◌, ◌++◌, length, Option, Some, None, Result, Ok, Err, refl, sym, ap, ◌∙◌, subst, arith, true≢false, if◌then◌else◌}
-use Rattle.std.specs.Int.{cast_signed}
-use Rattle.std.proofs.lemmas.Bool.{le-leb}
+use Rattle.std.proofs.Common.{◌≡◌, ◌⊎◌, inl, inr, ℕ, ◌+◌, ◌≤◌, Bool, true, false, not, cond, ◌&&◌, nat_le, List, ◌++◌, length, Option, Some, None, Result, Ok, Err, refl, sym, subst, arith, if◌then◌else◌}
 use Rattle.awk_values.specs.declared.fault.Fault.{Fault}
 use Rattle.awk_values.specs.declared.value.Value.{Value as AnyValue}
 use Rattle.awk_state.specs.InTurn.{in_turn, values_taken, listed_in_turn}
@@ -9,24 +7,20 @@ use Rattle.awk_state.specs.SharedState.{Does}
 use Rattle.awk_state.specs.Sorts.{InAnswer, OrFault, Row}
 use Rattle.awk_state.specs.Table.{arguments_of, answer_of, can_fault, meaning}
 use Rattle.awk_state.specs.declared.sorts.Sort.{Sort}
-use Rattle.awk_state.specs.declared.sorts.Sort.TheVariants as sort
 use Rattle.awk_state.specs.declared.sorts.Answer.{Answer}
 use Rattle.awk_state.specs.declared.sorts.Answer.TheVariants as answer
 use Rattle.awk_state.specs.declared.sorts.Argument.{Argument}
-use Rattle.awk_state.specs.declared.sorts.Argument.TheVariants as argument
 use Rattle.awk_state.specs.declared.table.Listed.{Listed}
 use Rattle.awk_state.specs.declared.table.Listed.TheVariants as listed
 use Rattle.awk_state.specs.declared.table.Primitive.{Primitive}
 use Rattle.awk_state.specs.declared.table.Primitive.TheVariants as row
 use Rattle.wasm_store.specs.declared.trap.TrapKind.{TrapKind}
 use Rattle.wasm_store.specs.declared.word.Word.{Word}
-use Rattle.wasm_store.specs.declared.word.Word.TheVariants.{I32, I64}
 use Rattle.wasm_machine.specs.declared.host.HostAnswer.{HostAnswer}
 use Rattle.wasm_machine.specs.declared.host.HostAnswer.TheVariants as told
 use Rattle.world_core.specs.WorldState.{Action}
 use Rattle.host_step.specs.HostState.{HostState, Names}
-use Rattle.host_step.specs.Tables.{look, without}
-use Rattle.host_step.specs.Arguments.{and_then, decode, said}
+use Rattle.host_step.specs.Arguments.{and_then, decode}
 use Rattle.host_step.specs.Answers.{encode, refusal}
 use Rattle.host_step.specs.HostStep.{Comes, Goes, Refuses, Given, IsGiven, Settles, StepBy, StepOf, answered, come, carried, faulted, refused, refuses}
 use Rattle.host_step.specs.HostStep as host
@@ -36,19 +30,19 @@ use Rattle.host_step.specs.declared.import.Listing.{Listing as HostListing}
 use Rattle.host_step.specs.declared.import.Listing.TheVariants as listing
 use Rattle.host_step.specs.declared.import.Import.{Import as HostImport}
 use Rattle.host_step.specs.declared.import.Import.TheVariants as hosted
-use Rattle.value_machine.specs.Cells.{Cell, Bits, Held, IteratorOf, OwnedArray, LentArray, Gone, none_owned}
-use Rattle.value_machine.specs.ImportCalls.{Acts, Host, acted, looked_at, acts, after_fault, call, fault_cell, lets_go, listed_acts, look as look_at, primitive_acts, replied, row_in, taken, where_so, with_some}
+use Rattle.value_machine.specs.Cells.{Cell, none_owned}
+use Rattle.value_machine.specs.ImportCalls.{Acts, Host, acted, acts, after_fault, call, fault_cell, lets_go, listed_acts, primitive_acts, replied, row_in, taken, where_so, with_some}
 use Rattle.value_machine.specs.Imports.{import_answer, import_arguments}
 use Rattle.value_machine.specs.declared.import.Listing.{Listing}
 use Rattle.value_machine.specs.declared.import.Listing.TheVariants.{Sprintf, Print, Printf}
 use Rattle.value_machine.specs.declared.import.Import.{Import}
 use Rattle.value_machine.specs.declared.import.Import.TheVariants.{Of, Over, Arg, Drop, IterFree, FreeArray}
 use Rattle.value_refined.specs.Growing.{ArraysGrow, GrowsBy, NewIn}
-use Rattle.value_refined.specs.Words.{ArraysFit, WordAs, WordsAs, arrays_made, state_with}
-use Rattle.value_refined.specs.Owners.{owner, owners, there, wanted}
-use Rattle.value_refined.proofs.Carrying.{Carried, carried_same, carried_then, unowned_all}
-use Rattle.value_refined.proofs.Decoding.{AllLive, AllSpentRight, Left, RowAs, decode_as, small_signed, spent_once, spent_same}
-use Rattle.value_refined.proofs.Answering.{Told, arrays_longer, encode_as, refusal_as}
+use Rattle.value_refined.specs.Words.{ArraysFit, WordsAs, arrays_made, state_with}
+use Rattle.value_refined.specs.Owners.{owners, wanted}
+use Rattle.value_refined.proofs.Carrying.{Carried, carried_then, unowned_all}
+use Rattle.value_refined.proofs.Decoding.{AllLive, AllSpentRight, RowAs, decode_as}
+use Rattle.value_refined.proofs.Answering.{Told, encode_as, refusal_as}
 
 -- The two tables of imports are one.
 

@@ -1,5 +1,5 @@
 -- Words that stand for cells still do so once other numbers were spent or given out.
-use Rattle.std.proofs.Common.{◌≡◌, ◌≢◌, ℕ, zero, suc, ◌+◌, ◌<◌, ◌≤◌, ◌^◌, Bool, true, false, cond, not, ◌&&◌, nat_eq, pos, List, [], ◌∷◌, length, Option, Some, None, refl, sym, ap, ◌∙◌, subst, arith, true≢false}
+use Rattle.std.proofs.Common.{◌≡◌, ℕ, ◌+◌, ◌<◌, ◌≤◌, Bool, true, false, cond, not, ◌&&◌, nat_eq, pos, List, [], ◌∷◌, Some, refl, sym, ap, ◌∙◌, subst, arith, true≢false}
 use Rattle.std.proofs.lemmas.Bool.{eq-eqb}
 use Rattle.awk_state.specs.declared.sorts.Sort.{Sort}
 use Rattle.awk_state.specs.declared.sorts.Sort.TheVariants as sort
@@ -13,7 +13,7 @@ use Rattle.value_machine.specs.Cells.{Cell, Bits, Held, IteratorOf, OwnedArray, 
 use Rattle.value_machine.specs.Machine.{Frame, Label}
 use Rattle.value_refined.specs.Words.{WordAs, WordsAs}
 use Rattle.value_refined.specs.Owners.{owner, owners, owns_sort, waiting}
-use Rattle.value_refined.specs.Refined.{LabelAs, LabelsAs, FrameAs, FramesAs}
+use Rattle.value_refined.specs.Refined.{LabelsAs, FramesAs}
 
 -- What has an owner among those that are counted stands for the same, and no older array has a new number.
 pub record Carried (made made1 : ℕ) (N N1 : Names) (counted : Sort → ℕ → ℕ) : Type 0 where

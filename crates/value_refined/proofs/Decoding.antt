@@ -1,5 +1,5 @@
 -- The words of a call stand for the arguments that the machine over values takes: they are decoded to the same row, and what is taken is spent.
-use Rattle.std.proofs.Common.{◌≡◌, ℕ, zero, suc, ◌+◌, ◌<◌, ◌≤◌, ◌^◌, Bool, true, false, cond, ◌&&◌, nat_eq, nat_lt, nat_le, pos, w32, List, [], ◌∷◌, ◌++◌, length, take, drop, Option, Some, None, Result, Ok, Err, refl, sym, ap, ◌∙◌, subst, arith, length-append, true≢false, if◌then◌else◌}
+use Rattle.std.proofs.Common.{◌≡◌, ℕ, zero, suc, ◌+◌, ◌<◌, ◌≤◌, ◌^◌, Bool, true, false, cond, nat_eq, nat_lt, nat_le, pos, w32, List, [], ◌∷◌, ◌++◌, length, take, drop, Option, Some, None, Result, Ok, Err, refl, sym, ap, ◌∙◌, subst, arith, length-append, true≢false, if◌then◌else◌}
 use Rattle.std.specs.Int.{cast_signed}
 use Rattle.std.proofs.lemmas.Bool.{eq-eqb, eqb-true, le-leb, leb-true, lt-ltb, ltb-true}
 use Rattle.std.proofs.lemmas.List.{take-append-le}
@@ -20,7 +20,7 @@ use Rattle.host_step.specs.Arguments.{and_then, constant_front, decode, front, n
 use Rattle.value_machine.specs.Cells.{Cell, Bits, Held, IteratorOf, OwnedArray, LentArray, Gone}
 use Rattle.value_machine.specs.ImportCalls.{and_rest, array_of_word, first_argument, row_in, with_some}
 use Rattle.value_machine.specs.ImportCalls as value
-use Rattle.value_refined.specs.Words.{ArraysFit, WordAs, WordsAs}
+use Rattle.value_refined.specs.Words.{ArraysFit, WordsAs}
 use Rattle.value_refined.specs.Owners.{owner, owners, there, wanted}
 use Rattle.value_refined.proofs.Carrying.{Carried, carried_same, carried_then, unowned_one, words_carried}
 use Rattle.value_refined.proofs.Tables.{without_there, without_other}

@@ -1,19 +1,13 @@
 -- An array is freed by its owner: its number stands for nothing afterwards, and no other array's number changes.
-use Rattle.std.proofs.Common.{◌≡◌, ◌⊎◌, inl, inr, ℕ, zero, suc, ◌+◌, ◌<◌, ◌≤◌, ◌^◌, Bool, true, false, not, cond, ◌&&◌, nat_eq, nat_le, nat_lt, pos, w32, List, [], ◌∷◌, ◌++◌, length, Option, Some, None, Result, Ok, Err, refl, sym, ap, ◌∙◌, subst, arith, true≢false}
-use Rattle.std.specs.Int.{cast_signed}
+use Rattle.std.proofs.Common.{◌≡◌, ℕ, zero, suc, ◌+◌, ◌<◌, ◌≤◌, ◌^◌, Bool, true, false, cond, nat_eq, nat_lt, pos, List, [], ◌∷◌, Option, Some, Result, Ok, refl, sym, ap, ◌∙◌, subst, arith, true≢false}
 use Rattle.std.proofs.lemmas.Bool.{eq-eqb, eqb-true}
 use Rattle.std.proofs.lemmas.Bool.{le-leb, ltb-true}
 use Rattle.std.proofs.lemmas.Option.{none-some}
-use Rattle.awk_values.specs.declared.fault.Fault.{Fault}
 use Rattle.awk_state.specs.Sorts.{Row}
-use Rattle.awk_state.specs.Table.{arguments_of, answer_of, can_fault, meaning}
-use Rattle.awk_state.specs.InTurn.{in_turn}
 use Rattle.awk_state.specs.declared.sorts.Sort.{Sort}
 use Rattle.awk_state.specs.declared.sorts.Sort.TheVariants as sort
 use Rattle.awk_state.specs.declared.sorts.Answer.TheVariants as answer
 use Rattle.awk_state.specs.declared.sorts.Argument.TheVariants as argument
-use Rattle.awk_state.specs.declared.table.Primitive.{Primitive}
-use Rattle.awk_state.specs.declared.table.Primitive.TheVariants as row
 use Rattle.wasm_store.specs.declared.trap.TrapKind.{TrapKind}
 use Rattle.wasm_store.specs.declared.trap.TrapKind.TheVariants.{BadHandle}
 use Rattle.wasm_store.specs.declared.word.Word.{Word}
@@ -26,20 +20,16 @@ use Rattle.host_step.specs.Arguments.{and_then, decode, said}
 use Rattle.host_step.specs.HostStep.{Comes, StepBy, StepOf, Refuses, come, carried, refuses}
 use Rattle.host_step.specs.HostStep as host
 use Rattle.host_step.specs.Imports.{spends}
-use Rattle.host_step.specs.Imports as table
 use Rattle.host_step.specs.declared.import.Import.TheVariants as hosted
 use Rattle.value_machine.specs.Cells.{Cell, Bits, Held, IteratorOf, OwnedArray, LentArray, Gone}
-use Rattle.value_machine.specs.ImportCalls.{Host, acted, acts, looked_at, taken}
-use Rattle.value_machine.specs.ImportCalls as value
-use Rattle.value_machine.specs.declared.import.Import.{Import}
-use Rattle.value_machine.specs.declared.import.Import.TheVariants.{Of, Over, Arg, Drop, IterFree, FreeArray}
+use Rattle.value_machine.specs.ImportCalls.{Host, acted, acts, taken}
+use Rattle.value_machine.specs.declared.import.Import.TheVariants.{FreeArray}
 use Rattle.value_refined.specs.Growing.{ArraysGrow}
-use Rattle.value_refined.specs.Words.{ArraysFit, WordAs, WordsAs, arrays_made, state_with}
+use Rattle.value_refined.specs.Words.{ArraysFit, WordsAs, arrays_made, state_with}
 use Rattle.value_refined.specs.Owners.{owners, there, wanted}
-use Rattle.value_refined.proofs.Carrying.{carried_same}
 use Rattle.value_refined.proofs.Decoding.{small_signed, spent_once, spent_same}
 use Rattle.value_refined.proofs.Answering.{some_of}
-use Rattle.value_refined.proofs.Calling.{ActsAs, Outcome, RowOk, Spent, acted_as, fit_same, primitive_same, to_host}
+use Rattle.value_refined.proofs.Calling.{ActsAs, Outcome, RowOk, Spent, acted_as}
 use Rattle.value_refined.proofs.Tables.{without_there, without_other}
 
 module _ (N : Names) (h : Host) (others : Sort → ℕ → ℕ) (fit : ArraysFit (arrays_made h) N.arrays) (a n : ℕ) (own : 2 ≤ a) (is : look N.arrays (pos n) ≡ Some a)

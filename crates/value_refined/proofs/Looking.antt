@@ -1,17 +1,9 @@
 -- An import that only looks at its argument: `dup`, and `iter_next`. What is looked at stays.
-use Rattle.std.proofs.Common.{◌≡◌, ◌⊎◌, inl, inr, ℕ, zero, suc, ◌+◌, ◌<◌, ◌≤◌, ◌^◌, Bool, true, false, not, cond, ◌&&◌, nat_eq, nat_le, nat_lt, pos, w32, List, [], ◌∷◌, ◌++◌, length, Option, Some, None, Result, Ok, Err, refl, sym, ap, ◌∙◌, subst, arith, true≢false}
-use Rattle.std.specs.Int.{cast_signed}
-use Rattle.std.proofs.lemmas.Bool.{eqb-true}
-use Rattle.std.proofs.lemmas.Bool.{le-leb, ltb-true}
-use Rattle.std.proofs.lemmas.Option.{none-some}
+use Rattle.std.proofs.Common.{◌≡◌, ◌⊎◌, inl, inr, ℕ, cond, List, [], ◌∷◌, Option, Some, None, Result, Ok, refl, sym, subst}
 use Rattle.awk_values.specs.declared.fault.Fault.{Fault}
-use Rattle.awk_state.specs.Sorts.{Row}
 use Rattle.awk_state.specs.Table.{arguments_of, answer_of, can_fault, meaning}
 use Rattle.awk_state.specs.InTurn.{in_turn}
 use Rattle.awk_state.specs.declared.sorts.Sort.{Sort}
-use Rattle.awk_state.specs.declared.sorts.Sort.TheVariants as sort
-use Rattle.awk_state.specs.declared.sorts.Answer.TheVariants as answer
-use Rattle.awk_state.specs.declared.sorts.Argument.TheVariants as argument
 use Rattle.awk_state.specs.declared.table.Primitive.{Primitive}
 use Rattle.awk_state.specs.declared.table.Primitive.TheVariants as row
 use Rattle.wasm_store.specs.declared.trap.TrapKind.{TrapKind}
@@ -21,7 +13,7 @@ use Rattle.wasm_store.specs.declared.word.Word.TheVariants.{I32, I64}
 use Rattle.wasm_machine.specs.declared.host.HostAnswer.{HostAnswer}
 use Rattle.world_core.specs.WorldState.{Action}
 use Rattle.host_step.specs.HostState.{HostState, Names}
-use Rattle.host_step.specs.Tables.{look, without}
+use Rattle.host_step.specs.Tables.{look}
 use Rattle.host_step.specs.Arguments.{and_then, decode, said}
 use Rattle.host_step.specs.HostStep.{Comes, StepBy, StepOf, Refuses, come, carried, refuses}
 use Rattle.host_step.specs.HostStep as host
@@ -34,13 +26,11 @@ use Rattle.value_machine.specs.ImportCalls as value
 use Rattle.value_machine.specs.declared.import.Import.{Import}
 use Rattle.value_machine.specs.declared.import.Import.TheVariants.{Of, Over, Arg, Drop, IterFree, FreeArray}
 use Rattle.value_refined.specs.Growing.{ArraysGrow}
-use Rattle.value_refined.specs.Words.{ArraysFit, WordAs, WordsAs, arrays_made, state_with}
-use Rattle.value_refined.specs.Owners.{owners, there, wanted}
+use Rattle.value_refined.specs.Words.{ArraysFit, WordAs, arrays_made, state_with}
+use Rattle.value_refined.specs.Owners.{wanted}
 use Rattle.value_refined.proofs.Carrying.{carried_same}
-use Rattle.value_refined.proofs.Decoding.{small_signed, spent_once, spent_same}
-use Rattle.value_refined.proofs.Answering.{some_of}
-use Rattle.value_refined.proofs.Calling.{ActsAs, Outcome, RowOk, Spent, acted_as, fit_same, primitive_same, to_host}
-use Rattle.value_refined.proofs.Tables.{without_there, without_other}
+use Rattle.value_refined.proofs.Decoding.{small_signed}
+use Rattle.value_refined.proofs.Calling.{Outcome, RowOk, Spent, acted_as, fit_same, primitive_same, to_host}
 
 looking : (p : Primitive) → ((p ≡ row.Dup) ⊎ (p ≡ row.IterNext)) ⊎ ((c : Cell) → looked_at (Of p) c ≡ None)
 looking row.Num = inr (λ c. refl)

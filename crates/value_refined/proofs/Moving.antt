@@ -1,18 +1,14 @@
 -- Operands and locals are taken, put and moved: words stand for cells as before, and what is owned has as many owners.
-use Rattle.std.proofs.Common.{◌≡◌, ◌⊎◌, inl, inr, ℕ, zero, suc, ◌+◌, ◌<◌, ◌≤◌, Bool, true, false, not, ◌&&◌, ◌||◌, nat_eq, nat_lt, pos, List, [], ◌∷◌, ◌++◌, length, take, drop, reverse, set, slice_get, slice_set, Option, Some, None, refl, sym, ap, ◌∙◌, subst, arith, true≢false}
+use Rattle.std.proofs.Common.{◌≡◌, ℕ, zero, suc, ◌+◌, Bool, true, false, ◌||◌, nat_eq, pos, List, [], ◌∷◌, ◌++◌, take, drop, reverse, Some, refl, sym, ap, ◌∙◌, subst, arith, true≢false}
 use Rattle.std.proofs.lemmas.Grind.{reverse_onto}
-use Rattle.std.proofs.lemmas.Bool.{eqb-true, ltb-true}
-use Rattle.std.proofs.lemmas.Option.{none-some}
+use Rattle.std.proofs.lemmas.Bool.{eqb-true}
 use Rattle.awk_state.specs.declared.sorts.Sort.{Sort}
 use Rattle.wasm_store.specs.declared.word.Word.{Word}
 use Rattle.wasm_store.specs.declared.word.Word.TheVariants.{I32, I64}
-use Rattle.wasm_machine.specs.Machines.{CallerForm}
 use Rattle.host_step.specs.HostState.{Names}
 use Rattle.host_step.specs.Tables.{look}
-use Rattle.value_machine.specs.Cells.{Cell, Bits, Held, IteratorOf, OwnedArray, LentArray, Gone, has_owner, is_owned, owns}
-use Rattle.value_machine.specs.Machine.{Frame, owner_waits}
-use Rattle.value_refined.specs.Owners.{owner, owners}
-use Rattle.value_refined.specs.Refined.{FramesAs}
+use Rattle.value_machine.specs.Cells.{Cell, Bits, Held, IteratorOf, OwnedArray, LentArray, Gone, has_owner, owns}
+use Rattle.value_refined.specs.Owners.{owners}
 use Rattle.value_refined.specs.Words.{WordAs, WordsAs}
 
 -- operands that are taken from the top, and those that stay

@@ -1,5 +1,5 @@
 -- A call by its number in the table, which is one for both crates.
-use Rattle.std.proofs.Common.{◌≡◌, ℕ, zero, suc, ◌+◌, List, [], ◌∷◌, ◌++◌, map, Option, Some, None, slice_get, refl, sym, ap, ◌∙◌, subst}
+use Rattle.std.proofs.Common.{◌≡◌, ℕ, zero, suc, ◌+◌, List, [], ◌∷◌, ◌++◌, map, Some, slice_get, refl, ap, subst}
 use Rattle.std.proofs.lemmas.Option.{none-some}
 use Rattle.awk_state.specs.declared.sorts.Sort.{Sort}
 use Rattle.wasm_store.specs.declared.word.Word.{Word}

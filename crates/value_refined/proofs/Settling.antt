@@ -1,7 +1,6 @@
 -- Constants take no step in either machine: a configuration from its parts.
-use Rattle.std.proofs.Common.{◌≡◌, ℕ, ◌+◌, Bool, true, false, ◌||◌, List, [], ◌∷◌, Option, Some, None, refl, sym, ap, ◌∙◌, subst, arith}
-use Rattle.std.proofs.lemmas.Bool.{or_left, or_right}
-use Rattle.awk_state.specs.declared.sorts.Sort.{Sort}
+use Rattle.std.proofs.Common.{◌≡◌, ℕ, Bool, true, List, ◌∷◌, Option, Some, None, refl, sym, subst, arith}
+use Rattle.std.proofs.lemmas.Bool.{or_right}
 use Rattle.wasm_types.specs.Syntax.{Instruction, Plain, BrTable, Block, Loop, If, Instructions, Done, Then}
 use Rattle.wasm_types.specs.declared.instr.Simple.{Simple}
 use Rattle.wasm_types.specs.declared.instr.Simple.TheVariants.{Call}
@@ -13,7 +12,7 @@ use Rattle.host_step.specs.HostState.{HostState}
 use Rattle.value_machine.specs.Cells.{Cell, Bits}
 use Rattle.value_machine.specs.Machine.{Code, Conf, Deep, Frame, Label, Look, Over, Run, Store, Stuck, at}
 use Rattle.value_machine.specs.Modules.{calls_by, calls_in, renumbered, renumbered_one, renumbered_simple}
-use Rattle.value_refined.specs.Owners.{OwnedOnce, owner, owners, waiting, wanted}
+use Rattle.value_refined.specs.Owners.{OwnedOnce}
 use Rattle.value_refined.specs.Refined.{As, CodeAs, RestAs, RunAs}
 use Rattle.value_refined.specs.Words.{WordsAs, arrays_made}
 use Rattle.value_refined.proofs.Carrying.{unowned_one}

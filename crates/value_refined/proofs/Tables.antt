@@ -1,8 +1,7 @@
 -- What numbers stand for, once one was entered or taken away.
-use Rattle.std.proofs.Common.{◌≡◌, ℕ, ℤ, pos, Bool, true, false, cond, not, Option, Some, None, refl, sym, ap, ◌∙◌}
+use Rattle.std.proofs.Common.{◌≡◌, ℕ, ℤ, pos, Bool, true, false, cond, not, Some, None, refl, sym, ap, ◌∙◌}
 use Rattle.std.specs.Cmp.{int_cmp_total, signed_Decides}
 use Rattle.std.specs.Ordering.{int_cmp, int_eq, eq_by_cmp, is_eq}
-use Rattle.std.specs.declared.cmp.Ordering.TheVariants.{Equal}
 use Rattle.std.specs.FinMap.Entries.{find-put, find-where_key}
 use Rattle.host_step.specs.Tables.{Table, look, entered, without}
 

@@ -1,9 +1,8 @@
 -- What a call does to the numbers of arrays in the shared state: none is given up, and a new array has a number that none had.
-use Rattle.std.specs.Prelude.{ℕ, ◌≡◌, ◌<◌, ◌≤◌, length, Option, Some, Result, Ok, Err}
+use Rattle.std.specs.Prelude.{ℕ, ◌≡◌, ◌<◌, ◌≤◌, length, Some, Result, Ok}
 use Rattle.awk_values.specs.declared.fault.Fault.{Fault}
 use Rattle.awk_state.specs.SharedState.{Does}
 use Rattle.awk_state.specs.Sorts.{InAnswer, Row}
-use Rattle.awk_state.specs.declared.answers.InputAnswer.{InputAnswer}
 use Rattle.awk_state.specs.declared.sorts.Answer.{Answer}
 use Rattle.awk_state.specs.declared.sorts.Answer.TheVariants as answer
 use Rattle.awk_state.specs.declared.sorts.Sort.TheVariants as sort

@@ -1,5 +1,5 @@
 -- How many places own a number: each number that stands for something has one owner, and each other number none.
-use Rattle.std.specs.Prelude.{ℕ, ◌+◌, ◌≡◌, pos, nat_eq, nat_lt, Bool, true, false, ◌&&◌, cond, List, [], ◌∷◌, Option, Some, None}
+use Rattle.std.specs.Prelude.{ℕ, ◌+◌, ◌≡◌, pos, nat_eq, nat_lt, Bool, true, false, ◌&&◌, cond, List, ◌∷◌, Option, Some, None}
 use Rattle.awk_state.specs.declared.sorts.Sort.{Sort}
 use Rattle.awk_state.specs.declared.sorts.Sort.TheVariants as sort
 use Rattle.wasm_store.specs.declared.word.Word.{Word}

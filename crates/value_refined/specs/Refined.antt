@@ -3,14 +3,12 @@ use Rattle.std.specs.Prelude.{ℕ, ◌≡◌, ◌⊎◌, ◌<◌, ◌+◌, Bool,
 use Rattle.world_core.specs.WorldState.{Action}
 use Rattle.wasm_types.specs.Syntax.{Instructions, Done, FuncForm}
 use Rattle.wasm_types.specs.declared.types.ValType.TheVariants as ty
-use Rattle.wasm_store.specs.Memories.{MemoryForm}
 use Rattle.wasm_store.specs.declared.word.Word.{Word}
-use Rattle.wasm_machine.specs.Frames.{FrameForm, LabelForm, settled_values, settled_code}
+use Rattle.wasm_machine.specs.Frames.{LabelForm, settled_values, settled_code}
 use Rattle.wasm_machine.specs.Hosts.{Meaning}
 use Rattle.wasm_machine.specs.Machines.{CallerForm, ProgramForm, Turn, called, asked, entered_func}
 use Rattle.wasm_machine.specs.Machines as real
 use Rattle.wasm_machine.specs.Runs.{TakenAs, OverBy, told_end}
-use Rattle.wasm_machine.specs.declared.host.HostAnswer.{HostAnswer}
 use Rattle.wasm_machine.specs.declared.state.End.{End}
 use Rattle.wasm_machine.specs.declared.state.End.TheVariants as ends
 use Rattle.host_step.specs.HostState.{HostState, Names}
