@@ -1,0 +1,12 @@
+pub mod Tables
+pub mod Carrying
+pub mod Decoding
+pub mod Answering
+pub mod Calling
+pub mod Freeing
+pub mod Looking
+pub mod Numbering
+pub mod Moving
+pub mod Settling
+pub mod Asking
+pub mod Asked

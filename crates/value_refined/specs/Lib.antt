@@ -1,0 +1,4 @@
+pub mod Words
+pub mod Owners
+pub mod Refined
+pub mod Growing
