@@ -1,5 +1,5 @@
 -- What stands in a temporary, as the definitions see it.
-use Rattle.mid_code.specs.Mid as plain
+use Rattle.mid_program.specs.Mid as plain
 use Rattle.code_emission.specs.declared.form.Form.{Form}
 use Rattle.code_emission.specs.declared.form.Form.TheVariants.{Answered, Bare, Perhaps}
 

@@ -1,6 +1,6 @@
 //! What stands in a temporary, converted there.
 ghost use Rattle.std.specs.Prelude.{[], ◌≤◌, IfOk, OnOk};
-ghost use Rattle.mid_code.specs.Mid.{Bare};
+ghost use Rattle.mid_program.specs.Mid.{Bare};
 ghost use Rattle.wasm_types.specs.declared.instr.Simple.TheVariants.{LocalSet};
 ghost use Rattle.value_machine.specs.Small.{boxed_perhaps, h, n, text_beside, to_value};
 ghost use Rattle.code_emission.specs.Bounds.{most_places};

@@ -3,7 +3,7 @@ use Rattle.std.proofs.Common.{◌≡◌, Bool, true, false, Option, Some, None, 
 use Rattle.std.specs.Prelude.{◌^◌, nat_le, unsigned_abs}
 use Rattle.awk_values.specs.declared.fault.Fault.{Fault}
 use Rattle.awk_state.specs.Numbers.{Number as AnyNumber, number_by, number_of}
-use Rattle.mid_code.specs.Mid.{Code, Number}
+use Rattle.mid_program.specs.Mid.{Code, Number}
 use Rattle.folding.specs.Folding.{constant, unless_fault}
 
 number_by_is : (z : ℤ) (b : Bool) (e : nat_le (unsigned_abs z) (2 ^ 53) ≡ b) (n : AnyNumber) → number_by z b e ≡ Some n → n.number ≡ z

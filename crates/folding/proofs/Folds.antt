@@ -1,9 +1,9 @@
 -- A folded program runs as before.
 use Rattle.std.proofs.Common.{◌≡◌, ℕ, zero, suc, List, [], ◌∷◌, map, refl, ap, sym, subst}
-use Rattle.mid_code.specs.Mid.{Kind, Routine, Program, parameters_at}
-use Rattle.mid_code.specs.MidMeaning.{routine_at, routine_name}
-use Rattle.mid_code.specs.Names.{Name}
-use Rattle.mid_code.specs.Sorted.{calls_of}
+use Rattle.mid_program.specs.Mid.{Kind, Routine, Program, parameters_at}
+use Rattle.mid_program.specs.MidMeaning.{routine_at, routine_name}
+use Rattle.mid_program.specs.Names.{Name}
+use Rattle.mid_program.specs.Sorted.{calls_of}
 use Rattle.mid_rewriting.specs.Alike.{AlikeKinds}
 use Rattle.mid_rewriting.specs.Rewritten.{SameSlots, Rewritten}
 use Rattle.mid_rewriting.specs.SameRuns.{SameRuns}

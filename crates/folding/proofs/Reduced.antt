@@ -4,14 +4,14 @@ use Rattle.awk_state.specs.Numbers.{Number as AnyNumber, outcome_of}
 use Rattle.awk_state.specs.ValueRows.{power_row}
 use Rattle.awk_state.specs.declared.table.Primitive.TheVariants.{Pow}
 use Rattle.awk_state.proofs.Words.{number_again}
-use Rattle.mid_code.specs.declared.mid.Arithmetic.{Arithmetic}
-use Rattle.mid_code.specs.declared.mid.Operation.{Operation}
-use Rattle.mid_code.specs.declared.mid.Operation.TheVariants.{Host, Inline, AsNumber, FieldNumber}
-use Rattle.mid_code.specs.Meaning.{Calls}
-use Rattle.mid_code.specs.ScriptState.{State, Outcome, Gives, settled}
-use Rattle.mid_code.specs.Steps.{field_checked}
-use Rattle.mid_code.specs.Mid.{Kind, Code, Do, Number, Codes, End, At, Form, Answered, a_number, answer_by, form_of}
-use Rattle.mid_code.specs.MidMeaning.{Env, Holds, arithmetic_of, or_zero, evaluated, all_evaluated}
+use Rattle.mid_program.specs.declared.mid.Arithmetic.{Arithmetic}
+use Rattle.mid_program.specs.declared.mid.Operation.{Operation}
+use Rattle.mid_program.specs.declared.mid.Operation.TheVariants.{Host, Inline, AsNumber, FieldNumber}
+use Rattle.mid_program.specs.Meaning.{Calls}
+use Rattle.mid_program.specs.ScriptState.{State, Outcome, Gives, settled}
+use Rattle.mid_program.specs.Steps.{field_checked}
+use Rattle.mid_program.specs.Mid.{Kind, Code, Do, Number, Codes, End, At, Form, Answered, a_number, answer_by, form_of}
+use Rattle.mid_program.specs.MidMeaning.{Env, Holds, arithmetic_of, or_zero, evaluated, all_evaluated}
 use Rattle.mid_rewriting.specs.Alike.{Alike, LikeR}
 use Rattle.mid_rewriting.specs.Rewritten.{SameOperations}
 use Rattle.mid_rewriting.proofs.Outcomes.{like_self}

@@ -5,19 +5,19 @@ use Rattle.std.specs.declared.vec.Vec.{Vec}
 use Rattle.std.specs.declared.boxed.Box.{Box}
 use Rattle.std.specs.declared.alloc.Global.{Global}
 use Rattle.awk_state.specs.declared.table.Listed.{Listed}
-use Rattle.mid_code.specs.Mid as plain
-use Rattle.mid_code.specs.ViewCode.{before, view, view_row, view_step, view_step_row, view_steps, views}
-use Rattle.mid_code.specs.declared.mid.Operation.{Operation}
-use Rattle.mid_code.specs.declared.code.Operand.{Operand}
-use Rattle.mid_code.specs.declared.code.Operand.TheVariants as operand
-use Rattle.mid_code.specs.declared.code.Code.{Code, Do, Over, Call, Replace, Row_of-Operand, end_of-Operand, more_of-Operand, items-the_row-Operand, items_hidden-the_row-Operand-0}
-use Rattle.mid_code.specs.declared.code.Code.TheBlock.{hidden-the_row-Operand-0}
-use Rattle.mid_code.specs.declared.step.Step.{Step, Block, Row_of-Step, end_of-Step, more_of-Step, items-the_row-Step, items_hidden-the_row-Step-0}
-use Rattle.mid_code.specs.declared.step.Step.TheBlock.{hidden-the_row-Step-0}
+use Rattle.mid_program.specs.Mid as plain
+use Rattle.mid_program.specs.ViewCode.{before, view, view_row, view_step, view_step_row, view_steps, views}
+use Rattle.mid_program.specs.declared.mid.Operation.{Operation}
+use Rattle.mid_program.specs.declared.code.Operand.{Operand}
+use Rattle.mid_program.specs.declared.code.Operand.TheVariants as operand
+use Rattle.mid_program.specs.declared.code.Code.{Code, Do, Over, Call, Replace, Row_of-Operand, end_of-Operand, more_of-Operand, items-the_row-Operand, items_hidden-the_row-Operand-0}
+use Rattle.mid_program.specs.declared.code.Code.TheBlock.{hidden-the_row-Operand-0}
+use Rattle.mid_program.specs.declared.step.Step.{Step, Block, Row_of-Step, end_of-Step, more_of-Step, items-the_row-Step, items_hidden-the_row-Step-0}
+use Rattle.mid_program.specs.declared.step.Step.TheBlock.{hidden-the_row-Step-0}
 use Rattle.awk_state.specs.Numbers.{Number}
 use Rattle.awk_state.proofs.Words.{fits, small}
-use Rattle.mid_code.specs.View.{view_routine}
-use Rattle.mid_code.specs.declared.program.Routine.{Routine}
+use Rattle.mid_program.specs.View.{view_routine}
+use Rattle.mid_program.specs.declared.program.Routine.{Routine}
 use Rattle.folding.specs.Folding.{folded_routine, folded_steps, reduced, reduced_to, same, value_of}
 use Rattle.folding.specs.View.{numeral}
 use Rattle.mid_rewriting.specs.Rewriting.{codes_in, step_in}

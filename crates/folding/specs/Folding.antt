@@ -4,11 +4,11 @@ use Rattle.awk_values.specs.declared.fault.Fault.{Fault}
 use Rattle.awk_state.specs.Numbers.{Number as AnyNumber, number_of, outcome_of}
 use Rattle.awk_state.specs.ValueRows.{power_row}
 use Rattle.awk_state.specs.declared.table.Primitive.TheVariants.{Pow}
-use Rattle.mid_code.specs.declared.mid.Operation.{Operation}
-use Rattle.mid_code.specs.declared.mid.Operation.TheVariants.{Host, Inline, AsNumber, FieldNumber}
-use Rattle.mid_code.specs.Mid.{Slot, Code, Do, Number, Codes, End, At, Steps, Routine, Program}
-use Rattle.mid_code.specs.MidMeaning.{arithmetic_of}
-use Rattle.mid_code.specs.Steps.{field_checked}
+use Rattle.mid_program.specs.declared.mid.Operation.{Operation}
+use Rattle.mid_program.specs.declared.mid.Operation.TheVariants.{Host, Inline, AsNumber, FieldNumber}
+use Rattle.mid_program.specs.Mid.{Slot, Code, Do, Number, Codes, End, At, Steps, Routine, Program}
+use Rattle.mid_program.specs.MidMeaning.{arithmetic_of}
+use Rattle.mid_program.specs.Steps.{field_checked}
 use Rattle.mid_rewriting.specs.Rewriting.{code_in, steps_in}
 
 -- the number that a constant stands for

@@ -17,18 +17,18 @@ use Rattle.awk_grammar.specs.Tree as tree
 use Rattle.awk_grammar.specs.Stmt as stmt
 use Rattle.awk_grammar.specs.Item as item
 use Rattle.awk_grammar.specs.Item.{Item}
-use Rattle.mid_code.specs.ScriptState.{spend_all}
-use Rattle.mid_code.specs.Kinds.{resolved}
-use Rattle.mid_code.specs.Meaning.{asked}
-use Rattle.mid_code.specs.Statements.{loop, over_keys}
-use Rattle.mid_code.specs.ScriptRun.{first_assigned, records_done, Ended, FaultedBy, setting_of}
-use Rattle.mid_code.specs.Mid.{Code, Do, Number, Choose, Let, Bound}
-use Rattle.mid_code.specs.MidMeaning.{evaluated, all_evaluated, stepped, all_stepped, mid_called, mid_run_in}
-use Rattle.mid_code.specs.Sorted.{sorted, all_sorted, step_sorted, steps_sorted, is_sorted}
-use Rattle.mid_code.specs.Texts.{texts_in, all_texts, stmt_texts, stmts_texts}
-use Rattle.mid_code.specs.Translation.{one, two, code_of, codes_of, key_code, kept_code, argument_codes, truncated_code, applied_code, step_code, steps_code, program_of}
-use Rattle.mid_code.specs.declared.mid.Arithmetic.TheVariants.{Plus, Minus, Times, Over, Modulo, Truncated}
-use Rattle.mid_code.specs.declared.mid.Operation.TheVariants.{Host, Inline, AsNumber, FieldNumber}
+use Rattle.mid_program.specs.ScriptState.{spend_all}
+use Rattle.mid_program.specs.Kinds.{resolved}
+use Rattle.mid_program.specs.Meaning.{asked}
+use Rattle.mid_program.specs.Statements.{loop, over_keys}
+use Rattle.mid_program.specs.ScriptRun.{first_assigned, records_done, Ended, FaultedBy, setting_of}
+use Rattle.mid_program.specs.Mid.{Code, Do, Number, Choose, Let, Bound}
+use Rattle.mid_program.specs.MidMeaning.{evaluated, all_evaluated, stepped, all_stepped, mid_called, mid_run_in}
+use Rattle.mid_program.specs.Sorted.{sorted, all_sorted, step_sorted, steps_sorted, is_sorted}
+use Rattle.mid_program.specs.Texts.{texts_in, all_texts, stmt_texts, stmts_texts}
+use Rattle.mid_program.specs.Translation.{one, two, code_of, codes_of, key_code, kept_code, argument_codes, truncated_code, applied_code, step_code, steps_code, program_of}
+use Rattle.mid_program.specs.declared.mid.Arithmetic.TheVariants.{Plus, Minus, Times, Over, Modulo, Truncated}
+use Rattle.mid_program.specs.declared.mid.Operation.TheVariants.{Host, Inline, AsNumber, FieldNumber}
 use Rattle.folding.specs.Folding.{folded, fold}
 
 abbrev number : ℕ → Code

@@ -2,12 +2,12 @@
 
 ghost use Rattle.std.specs.Prelude.{◌≡◌};
 ghost use Rattle.folding.specs.Folding.{folded, reduced, same};
-ghost use Rattle.mid_code.specs.Mid.{End};
-ghost use Rattle.mid_code.specs.ViewCode.{before, view, views};
+ghost use Rattle.mid_program.specs.Mid.{End};
+ghost use Rattle.mid_program.specs.ViewCode.{before, view, views};
 ghost use Rattle.mid_rewriting.specs.Rewriting.{codes_in};
 
 use crate::value::value_of;
-use mid_code::{Code, Operand, Operation};
+use mid_program::{Code, Operand, Operation};
 use std::mem;
 
 /// An operation on operands that are folded.

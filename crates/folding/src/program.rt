@@ -3,12 +3,12 @@
 ghost use Rattle.std.specs.Prelude.{◌≡◌, map, IfOk, IsOk};
 ghost use Rattle.folding.specs.Folding.{fold, folded_routine};
 ghost use Rattle.folding.specs.Left.{NoneLeft};
-ghost use Rattle.mid_code.specs.Sorted.{IsSorted};
-ghost use Rattle.mid_code.specs.View.{view_mid, view_routine};
+ghost use Rattle.mid_program.specs.Sorted.{IsSorted};
+ghost use Rattle.mid_program.specs.View.{view_mid, view_routine};
 ghost use Rattle.mid_rewriting.specs.SameRuns.{SameRuns};
 
 use crate::step::fold_steps;
-use mid_code::{Mid, Routine};
+use mid_program::{Mid, Routine};
 use std::alloc::AllocError;
 
 fn fold_routine(routine: &mut Routine)

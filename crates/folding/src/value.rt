@@ -5,12 +5,12 @@ ghost use Rattle.awk_text.specs.NumberText.{InRange};
 ghost use Rattle.awk_state.specs.Numbers.{Number, number_of};
 ghost use Rattle.folding.specs.Folding.{constant, of_one, of_two, value_of};
 ghost use Rattle.folding.specs.View.{numeral};
-ghost use Rattle.mid_code.specs.MidMeaning.{arithmetic_of};
-ghost use Rattle.mid_code.specs.ViewCode.{view, views};
+ghost use Rattle.mid_program.specs.MidMeaning.{arithmetic_of};
+ghost use Rattle.mid_program.specs.ViewCode.{view, views};
 
 use awk_state::Primitive;
 use awk_values::{Fault, add, div, int_div, mul, pow, rem, sub};
-use mid_code::{Arithmetic, Code, Operand, Operation};
+use mid_program::{Arithmetic, Code, Operand, Operation};
 
 /// The greatest magnitude of a number.
 const LIMIT: u64 = 1 << 53;

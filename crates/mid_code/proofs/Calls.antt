@@ -6,13 +6,13 @@ use Rattle.awk_values.specs.declared.value.Value.TheVariants as value
 use Rattle.awk_state.specs.declared.sorts.Sort.TheVariants as sort
 use Rattle.awk_state.specs.declared.sorts.Answer.TheVariants as answer
 use Rattle.awk_state.specs.declared.table.Primitive.TheVariants as row
-use Rattle.mid_code.specs.Names.{Name, ArrayName, Variable}
-use Rattle.mid_code.specs.ScriptState.{Local, Scalar, Array as ArrayOf, Doing, ◌>>=◌, give, does}
-use Rattle.mid_code.specs.Steps.{array_number, read_variable, fresh_all}
-use Rattle.mid_code.specs.Meaning.{Calls}
-use Rattle.mid_code.specs.Mid.{Kind, Boxed, Many, Code, Unset, Array, Codes, At, Fresh, Form, Answered, Bare, Perhaps, form_of}
-use Rattle.mid_code.specs.MidMeaning.{Env, Holds, Values, all_evaluated, array_in, boxed, evaluated, locals_of}
-use Rattle.mid_code.specs.Translation.{variable_code, fresh_codes, kind_of}
+use Rattle.mid_program.specs.Names.{Name, ArrayName, Variable}
+use Rattle.mid_program.specs.ScriptState.{Local, Scalar, Array as ArrayOf, Doing, ◌>>=◌, give, does}
+use Rattle.mid_program.specs.Steps.{array_number, read_variable, fresh_all}
+use Rattle.mid_program.specs.Meaning.{Calls}
+use Rattle.mid_program.specs.Mid.{Kind, Boxed, Many, Code, Unset, Array, Codes, At, Fresh, Form, Answered, Bare, Perhaps, form_of}
+use Rattle.mid_program.specs.MidMeaning.{Env, Holds, Values, all_evaluated, array_in, boxed, evaluated, locals_of}
+use Rattle.mid_program.specs.Translation.{variable_code, fresh_codes, kind_of}
 use Rattle.mid_code.proofs.Binding.{As, assoc, bind_as, flat, under}
 use Rattle.mid_code.proofs.Expressions.{variable_is}
 use Rattle.mid_code.proofs.Operands.{Is, Valued, first_operand}

@@ -20,17 +20,17 @@ use Rattle.awk_state.specs.declared.table.Listed.TheVariants as listed
 use Rattle.awk_state.specs.declared.table.Primitive.TheVariants as row
 use Rattle.awk_tokens.specs.declared.words.Builtin.{Builtin}
 use Rattle.awk_tokens.specs.declared.words.Builtin.TheVariants as builtin
-use Rattle.mid_code.specs.Mid.{Code, Codes, End, At, Fixed, Do, Over, Let, Array, Unset, Call as Called}
-use Rattle.mid_code.specs.Names.{Name, Scope, array_of, function_at, function_number}
-use Rattle.mid_code.specs.Steps.{ere_in, is_ere}
-use Rattle.mid_code.specs.Translation.{FieldTarget, applied_code, argument_codes, code_of, codes_of, ere_code, fresh_codes, given_code, host, keeping, kept_code, key_code, one, passed_code, record_code, special_code, substituted_at, target_in, truncated_code, two, zero_code}
-use Rattle.mid_code.specs.ViewCode.{before, followed, view, views}
+use Rattle.mid_program.specs.Mid.{Code, Codes, End, At, Fixed, Do, Over, Let, Array, Unset, Call as Called}
+use Rattle.mid_program.specs.Names.{Name, Scope, array_of, function_at, function_number}
+use Rattle.mid_program.specs.Steps.{ere_in, is_ere}
+use Rattle.mid_program.specs.Translation.{FieldTarget, applied_code, argument_codes, code_of, codes_of, ere_code, fresh_codes, given_code, host, keeping, kept_code, key_code, one, passed_code, record_code, special_code, substituted_at, target_in, truncated_code, two, zero_code}
+use Rattle.mid_program.specs.ViewCode.{before, followed, view, views}
 use Rattle.mid_code.specs.ViewTarget.{sub_or_gsub}
-use Rattle.mid_code.specs.declared.code.Code.{Code as Owned}
-use Rattle.mid_code.specs.declared.code.Operand.{Operand}
-use Rattle.mid_code.specs.declared.code.Operand.TheVariants as operand
-use Rattle.mid_code.specs.declared.mid.Arithmetic.TheVariants as inline
-use Rattle.mid_code.specs.declared.mid.Operation.TheVariants.{Inline}
+use Rattle.mid_program.specs.declared.code.Code.{Code as Owned}
+use Rattle.mid_program.specs.declared.code.Operand.{Operand}
+use Rattle.mid_program.specs.declared.code.Operand.TheVariants as operand
+use Rattle.mid_program.specs.declared.mid.Arithmetic.TheVariants as inline
+use Rattle.mid_program.specs.declared.mid.Operation.TheVariants.{Inline}
 use Rattle.mid_code.proofs.NameTables.{drop_any}
 use Rattle.mid_code.proofs.Views.{followed_end, followed_push}
 

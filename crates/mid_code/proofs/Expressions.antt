@@ -15,16 +15,16 @@ use Rattle.awk_state.specs.declared.sorts.Argument.TheVariants as argument
 use Rattle.awk_state.specs.declared.table.Primitive.TheVariants as row
 use Rattle.awk_values.specs.declared.comparison.CompareOp.{CompareOp}
 use Rattle.awk_state.proofs.Words.{number_again}
-use Rattle.mid_code.specs.declared.mid.Operation.TheVariants.{Inline, AsNumber}
-use Rattle.mid_code.specs.declared.mid.Arithmetic.{Arithmetic}
-use Rattle.mid_code.specs.Names.{ArrayName, Scope, Variable, Reserved, variable_of, array_of}
-use Rattle.mid_code.specs.Names as names
-use Rattle.mid_code.specs.ScriptState.{Doing, ◌>>=◌, give, settled, does, asks}
-use Rattle.mid_code.specs.Steps.{compared, close_number, input_number, numeric, zero_number, one_number, truth_value, number_in, computed, power_operator, array_number, read_variable}
-use Rattle.mid_code.specs.Meaning.{Calls, asked}
-use Rattle.mid_code.specs.Mid.{Kind, Code, Do, Compare, Ask, Number, Text, Unset, Array, Choose, Codes, End, At, Fixed, Form, form_of}
-use Rattle.mid_code.specs.MidMeaning.{Env, Holds, Values, all_evaluated, boxed, evaluated, numbered, or_constant, or_zero, row_of, then_row, truth_in, operated}
-use Rattle.mid_code.specs.Translation.{host, one, two, zero_code, one_code, truth_code, untruth_code, record_code, variable_code}
+use Rattle.mid_program.specs.declared.mid.Operation.TheVariants.{Inline, AsNumber}
+use Rattle.mid_program.specs.declared.mid.Arithmetic.{Arithmetic}
+use Rattle.mid_program.specs.Names.{ArrayName, Scope, Variable, Reserved, variable_of, array_of}
+use Rattle.mid_program.specs.Names as names
+use Rattle.mid_program.specs.ScriptState.{Doing, ◌>>=◌, give, settled, does, asks}
+use Rattle.mid_program.specs.Steps.{compared, close_number, input_number, numeric, zero_number, one_number, truth_value, number_in, computed, power_operator, array_number, read_variable}
+use Rattle.mid_program.specs.Meaning.{Calls, asked}
+use Rattle.mid_program.specs.Mid.{Kind, Code, Do, Compare, Ask, Number, Text, Unset, Array, Choose, Codes, End, At, Fixed, Form, form_of}
+use Rattle.mid_program.specs.MidMeaning.{Env, Holds, Values, all_evaluated, boxed, evaluated, numbered, or_constant, or_zero, row_of, then_row, truth_in, operated}
+use Rattle.mid_program.specs.Translation.{host, one, two, zero_code, one_code, truth_code, untruth_code, record_code, variable_code}
 use Rattle.mid_code.proofs.Binding.{assoc, bind_as, flat, given, over, under}
 use Rattle.mid_code.proofs.Operands.{Is, behind_value, first_operand, number_row, number_rows, on_one, on_two, on_three, one_operand, truth_boxed}
 

@@ -8,11 +8,11 @@ use Rattle.awk_state.specs.ValueRows.{number_of_row}
 use Rattle.awk_state.specs.declared.sorts.Sort.TheVariants as sort
 use Rattle.awk_state.specs.declared.sorts.Answer.TheVariants as answer
 use Rattle.awk_state.proofs.Words.{number_again}
-use Rattle.mid_code.specs.ScriptState.{Doing, ◌>>=◌, give, settled}
-use Rattle.mid_code.specs.Steps.{truth_number, truth_value, number_in, zero_number}
-use Rattle.mid_code.specs.Meaning.{Calls}
-use Rattle.mid_code.specs.Mid.{Kind, Code, Codes, End, At, Form, Answered, Bare, Perhaps, form_of}
-use Rattle.mid_code.specs.MidMeaning.{Env, Holds, Values, all_evaluated, boxed, evaluated, numbered, then_row, truth_in}
+use Rattle.mid_program.specs.ScriptState.{Doing, ◌>>=◌, give, settled}
+use Rattle.mid_program.specs.Steps.{truth_number, truth_value, number_in, zero_number}
+use Rattle.mid_program.specs.Meaning.{Calls}
+use Rattle.mid_program.specs.Mid.{Kind, Code, Codes, End, At, Form, Answered, Bare, Perhaps, form_of}
+use Rattle.mid_program.specs.MidMeaning.{Env, Holds, Values, all_evaluated, boxed, evaluated, numbered, then_row, truth_in}
 use Rattle.mid_code.proofs.Binding.{As, assoc, bind_as, over, under}
 
 -- a form that a value is, or is made of

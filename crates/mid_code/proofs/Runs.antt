@@ -2,15 +2,15 @@
 use Rattle.std.proofs.Common.{Option, Some, None, subst}
 use Rattle.awk_values.specs.declared.fault.Fault.{Fault}
 use Rattle.awk_state.specs.Jobs.{fault_of_job}
-use Rattle.mid_code.specs.Names.{Resolved}
-use Rattle.mid_code.specs.ScriptState.{State, Faulted, OutOfTurns, TooDeep, Nexted, Exited, Returned, Outcome, Gives, Stops, Doing}
-use Rattle.mid_code.specs.ScriptRun.{Ending, all_parts, ending, resolved_run, start, unless}
-use Rattle.mid_code.specs.Names.{names_length}
+use Rattle.mid_program.specs.Names.{Resolved}
+use Rattle.mid_program.specs.ScriptState.{State, Faulted, OutOfTurns, TooDeep, Nexted, Exited, Returned, Outcome, Gives, Stops, Doing}
+use Rattle.mid_program.specs.ScriptRun.{Ending, all_parts, ending, resolved_run, start, unless}
+use Rattle.mid_program.specs.Names.{names_length}
 use Rattle.std.specs.Prelude.{map}
-use Rattle.mid_code.specs.Kept.{IsKept, IsNoExhaustion, MoreTurnsKeep, NeverTooDeep}
-use Rattle.mid_code.specs.Mid.{Program}
-use Rattle.mid_code.specs.MidMeaning.{global_name, mid_parts, mid_run_in}
-use Rattle.mid_code.specs.Translation.{program_of}
+use Rattle.mid_program.specs.Kept.{IsKept, IsNoExhaustion, MoreTurnsKeep, NeverTooDeep}
+use Rattle.mid_program.specs.Mid.{Program}
+use Rattle.mid_program.specs.MidMeaning.{global_name, mid_parts, mid_run_in}
+use Rattle.mid_program.specs.Translation.{program_of}
 use Rattle.mid_code.proofs.Scripts.{code_ends_as}
 use Rattle.mid_code.proofs.Tame.{Fits, program_shallow}
 use Rattle.mid_code.proofs.Steady.{more_turns_keep}

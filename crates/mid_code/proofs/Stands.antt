@@ -4,9 +4,9 @@ use Rattle.std.specs.Prelude.{if◌then◌else◌}
 use Rattle.std.proofs.lemmas.Slice.Eq.{bytes_eq-Decides}
 use Rattle.awk_grammar.specs.Token.{Number, Quoted, Ere}
 use Rattle.awk_grammar.specs.Tree.{Tree, Leaf, Group}
-use Rattle.mid_code.specs.Names.{Resolved, same_name}
-use Rattle.mid_code.specs.Steps.{ere_in}
-use Rattle.mid_code.specs.Texts.{texts_in, has_text, once, text_place, texts_of_script, items_texts, functions_texts}
+use Rattle.mid_program.specs.Names.{Resolved, same_name}
+use Rattle.mid_program.specs.Steps.{ere_in}
+use Rattle.mid_program.specs.Texts.{texts_in, has_text, once, text_place, texts_of_script, items_texts, functions_texts}
 
 -- the text stands among the texts
 abbrev pub Stands : List (List ℕ) → List ℕ → Type 0

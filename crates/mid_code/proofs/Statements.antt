@@ -13,16 +13,16 @@ use Rattle.awk_grammar.specs.Tree as tree
 use Rattle.awk_grammar.specs.Tree.{Tree, Trees, NoTree}
 use Rattle.awk_grammar.specs.Stmt as stmt
 use Rattle.awk_grammar.specs.Stmt.{Stmt, Stmts, NoStmt, And, Args, Target, Printing}
-use Rattle.mid_code.specs.Names.{Scope, Variable, Reserved, array_of, variable_of}
-use Rattle.mid_code.specs.Names as names
-use Rattle.mid_code.specs.ScriptState.{Outcome, Gives, Stops, Doing, go_on, ◌>>=◌, ◌>>◌, give, nothing, settled, stop, change, does, does_listed, Exited, Returned}
-use Rattle.mid_code.specs.Steps.{number_in, array_number, store_variable}
-use Rattle.mid_code.specs.Meaning.{Calls, value_of, values_of, key_of}
-use Rattle.mid_code.specs.Statements.{Flow, Normal, Broke, Continued, after, after_round, loop, over_keys, operands_of, with_last, with_target, destination_of, listed_of, put, with_status, test_of, maybe_test, plain_done, maybe_done, done_by, all_done}
-use Rattle.mid_code.specs.Mid.{Kind, Code, Over, Codes, form_of, Step, Eval as EvalStep}
-use Rattle.mid_code.specs.MidMeaning.{Holds, Values, all_evaluated, boxed, evaluated, holds, keyed, listing, numbered, or_constant, row_of, stepped, all_stepped, truth_in}
-use Rattle.mid_code.specs.Texts.{texts_in, all_texts, target_texts, args_texts, plain_texts, maybe_texts, maybe_plain_texts, stmt_texts, stmts_texts}
-use Rattle.mid_code.specs.Translation.{two, moved, store_variable_code, array_code, code_of, codes_of, key_code, plain_step, maybe_step, test_code, step_code, steps_code}
+use Rattle.mid_program.specs.Names.{Scope, Variable, Reserved, array_of, variable_of}
+use Rattle.mid_program.specs.Names as names
+use Rattle.mid_program.specs.ScriptState.{Outcome, Gives, Stops, Doing, go_on, ◌>>=◌, ◌>>◌, give, nothing, settled, stop, change, does, does_listed, Exited, Returned}
+use Rattle.mid_program.specs.Steps.{number_in, array_number, store_variable}
+use Rattle.mid_program.specs.Meaning.{Calls, value_of, values_of, key_of}
+use Rattle.mid_program.specs.Statements.{Flow, Normal, Broke, Continued, after, after_round, loop, over_keys, operands_of, with_last, with_target, destination_of, listed_of, put, with_status, test_of, maybe_test, plain_done, maybe_done, done_by, all_done}
+use Rattle.mid_program.specs.Mid.{Kind, Code, Over, Codes, form_of, Step, Eval as EvalStep}
+use Rattle.mid_program.specs.MidMeaning.{Holds, Values, all_evaluated, boxed, evaluated, holds, keyed, listing, numbered, or_constant, row_of, stepped, all_stepped, truth_in}
+use Rattle.mid_program.specs.Texts.{texts_in, all_texts, target_texts, args_texts, plain_texts, maybe_texts, maybe_plain_texts, stmt_texts, stmts_texts}
+use Rattle.mid_program.specs.Translation.{two, moved, store_variable_code, array_code, code_of, codes_of, key_code, plain_step, maybe_step, test_code, step_code, steps_code}
 use Rattle.mid_code.proofs.Binding.{assoc, bind_as, flat, given, over}
 use Rattle.mid_code.proofs.Expressions.{special_again, on_array}
 use Rattle.mid_code.proofs.Operands.{numbered_boxed, truth_boxed}

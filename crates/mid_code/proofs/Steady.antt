@@ -8,16 +8,16 @@ use Rattle.awk_state.specs.declared.answers.AssignAnswer.{AssignAnswer}
 use Rattle.awk_state.specs.declared.answers.AssignAnswer.TheVariants as assign
 use Rattle.awk_state.specs.declared.answers.InputAnswer.{InputAnswer}
 use Rattle.awk_state.specs.declared.answers.InputAnswer.TheVariants as input
-use Rattle.mid_code.specs.Names.{names_length}
+use Rattle.mid_program.specs.Names.{names_length}
 use Rattle.awk_state.specs.declared.table.Primitive.TheVariants as row
-use Rattle.mid_code.specs.ScriptState.{Local, Own, State, Stop, Faulted, OutOfTurns, TooDeep, Nexted, Exited, Returned, Outcome, Gives, Stops, Doing, go_on, ◌>>=◌, ◌>>◌, give, nothing, stop, change, settled, or_fault, does, asks, spent, spend}
-use Rattle.mid_code.specs.Meaning.{Calls, unless_pending, asked, assign_pending}
-use Rattle.mid_code.specs.Statements.{Flow, Normal, after_round, loop, at_key, over_keys, returned, entered_with, entered}
-use Rattle.mid_code.specs.ScriptRun.{on_assignment, first_assigned, next_over, for_record, on_input, records_done, part_over, part, all_parts, ending, unless, start, Setting}
-use Rattle.mid_code.specs.Kept.{Grows, IsKept, output_of}
-use Rattle.mid_code.specs.Mid.{Steps, Program}
-use Rattle.mid_code.specs.Sorted.{calls_of}
-use Rattle.mid_code.specs.MidMeaning.{all_stepped, global_name, routine_name, routine_at, mid_called, mid_done, mid_parts, mid_run_in}
+use Rattle.mid_program.specs.ScriptState.{Local, Own, State, Stop, Faulted, OutOfTurns, TooDeep, Nexted, Exited, Returned, Outcome, Gives, Stops, Doing, go_on, ◌>>=◌, ◌>>◌, give, nothing, stop, change, settled, or_fault, does, asks, spent, spend}
+use Rattle.mid_program.specs.Meaning.{Calls, unless_pending, asked, assign_pending}
+use Rattle.mid_program.specs.Statements.{Flow, Normal, after_round, loop, at_key, over_keys, returned, entered_with, entered}
+use Rattle.mid_program.specs.ScriptRun.{on_assignment, first_assigned, next_over, for_record, on_input, records_done, part_over, part, all_parts, ending, unless, start, Setting}
+use Rattle.mid_program.specs.Kept.{Grows, IsKept, output_of}
+use Rattle.mid_program.specs.Mid.{Steps, Program}
+use Rattle.mid_program.specs.Sorted.{calls_of}
+use Rattle.mid_program.specs.MidMeaning.{all_stepped, global_name, routine_name, routine_at, mid_called, mid_done, mid_parts, mid_run_in}
 use Rattle.mid_code.proofs.Related.{Relation, Closed, ClosedRun, Fuelled, IsPlainStop, Still, at_turns, does_related, asks_related, chosen_related, round_related, pending_related, pending_or, asked_same, loop_same, keys_same, first_same, records_same, steps_related, parts_related}
 use Rattle.mid_code.proofs.Tame.{Tame, IsTame, state_at, output_at, same, grows_on, then_tame, settled_tame, perform_tame, give_tame, stop_tame, spent_grows, spend_tame, tame_closed, record_tame, part_tame, returned_state, next_state, part_state, entered_tame, called_tame}
 

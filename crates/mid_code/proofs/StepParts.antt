@@ -12,16 +12,16 @@ use Rattle.awk_text.specs.Number.{denominator, numerator}
 use Rattle.awk_text.specs.Reading.{exponent_at, fraction_at, numeral_at, sign_at}
 use Rattle.awk_state.specs.declared.constants.Destination.TheVariants as destination
 use Rattle.awk_state.specs.declared.table.Listed.TheVariants as listed
-use Rattle.mid_code.specs.Items.{print_record}
-use Rattle.mid_code.specs.Mid.{Code as PlainCode, Codes, End, At, Over, Eval, Steps, NoStep, Then}
-use Rattle.mid_code.specs.Names.{Scope}
-use Rattle.mid_code.specs.Statements.{operands_of, with_last}
-use Rattle.mid_code.specs.Translation.{code_of, codes_of, record_code, step_code, steps_code}
-use Rattle.mid_code.specs.ViewCode.{followed, maybe_then, view, views}
-use Rattle.mid_code.specs.declared.code.Code.{Code}
-use Rattle.mid_code.specs.declared.code.Operand.{Operand}
-use Rattle.mid_code.specs.declared.code.Operand.TheVariants as operand
-use Rattle.mid_code.specs.declared.step.Step.{Step}
+use Rattle.mid_program.specs.Items.{print_record}
+use Rattle.mid_program.specs.Mid.{Code as PlainCode, Codes, End, At, Over, Eval, Steps, NoStep, Then}
+use Rattle.mid_program.specs.Names.{Scope}
+use Rattle.mid_program.specs.Statements.{operands_of, with_last}
+use Rattle.mid_program.specs.Translation.{code_of, codes_of, record_code, step_code, steps_code}
+use Rattle.mid_program.specs.ViewCode.{followed, maybe_then, view, views}
+use Rattle.mid_program.specs.declared.code.Code.{Code}
+use Rattle.mid_program.specs.declared.code.Operand.{Operand}
+use Rattle.mid_program.specs.declared.code.Operand.TheVariants as operand
+use Rattle.mid_program.specs.declared.step.Step.{Step}
 use Rattle.mid_code.proofs.Views.{chain, chain_push, followed_end, followed_push}
 
 -- one step more, if there is one

@@ -4,12 +4,12 @@ use Rattle.awk_values.specs.declared.fault.Fault.{Fault}
 use Rattle.world_core.specs.WorldState.{Action}
 use Rattle.awk_state.specs.SharedState.{Shared, Does, shared_after}
 use Rattle.awk_state.specs.Sorts.{OrFault}
-use Rattle.mid_code.specs.ScriptState.{Local, Own, State, Stop, Faulted, OutOfTurns, TooDeep, Nexted, Exited, Returned, Outcome, Gives, Stops, Doing, go_on, ◌>>=◌, give, stop, change, settled, or_fault, perform, spent, spend}
-use Rattle.mid_code.specs.Statements.{Flow, returned, entered_with, entered}
-use Rattle.mid_code.specs.ScriptRun.{next_over, for_record, part_over, part, all_parts}
-use Rattle.mid_code.specs.Kept.{Grows}
-use Rattle.mid_code.specs.Mid.{Program}
-use Rattle.mid_code.specs.MidMeaning.{mid_parts, mid_called}
+use Rattle.mid_program.specs.ScriptState.{Local, Own, State, Stop, Faulted, OutOfTurns, TooDeep, Nexted, Exited, Returned, Outcome, Gives, Stops, Doing, go_on, ◌>>=◌, give, stop, change, settled, or_fault, perform, spent, spend}
+use Rattle.mid_program.specs.Statements.{Flow, returned, entered_with, entered}
+use Rattle.mid_program.specs.ScriptRun.{next_over, for_record, part_over, part, all_parts}
+use Rattle.mid_program.specs.Kept.{Grows}
+use Rattle.mid_program.specs.Mid.{Program}
+use Rattle.mid_program.specs.MidMeaning.{mid_parts, mid_called}
 use Rattle.mid_code.proofs.Related.{Relation, Closed, ClosedRun, ClosedCalls, IsPlainStop, Still, run_same_fuel, called_same_fuel}
 use Rattle.awk_values.specs.declared.value.Value.{Value}
 

@@ -16,16 +16,16 @@ use Rattle.awk_tokens.specs.declared.words.Builtin.TheVariants as builtin
 use Rattle.awk_grammar.specs.Token.{Plus, Minus, Not, Signed, Times, Over as Divided, Modulo, Set as Put, SetSum, SetProduct, SetPower, Assign, Or, And as Both, Match, Matching, Matches, Differs, Compare, Mul, Pow, Number as Numeral, Quoted, Ere}
 use Rattle.awk_grammar.specs.Tree as tree
 use Rattle.awk_grammar.specs.Tree.{Tree, Leaf, Length, Var, Index, Field, Group, Unary, Pre, Post, Bin, Join, Add, Other, Has, HasList, Cond, Trees, NoTree}
-use Rattle.mid_code.specs.declared.mid.Arithmetic.TheVariants as inline
-use Rattle.mid_code.specs.declared.mid.Operation.TheVariants.{Host, FieldNumber}
-use Rattle.mid_code.specs.Names.{Name, ArrayName, Scope, Reserved, variable_of, array_of, function_number, function_at, is_array}
-use Rattle.mid_code.specs.ScriptState.{Local, Doing, ◌>>=◌, ◌>>◌, give, settled, does, does_listed, asks, spend}
-use Rattle.mid_code.specs.Steps.{Place, Named, Element, FieldAt, constant as number_of_constant, or_nought, numeric, zero_number, truth_value, comparison_of, number_in, computed, sign_operator, product_operator, power_operator, field_checked, array_number, stored, one_number, step_operator, read_place, store_place, received, replaced_in, substituted, ere_text, ere_in, ere_or, is_ere, given_value}
-use Rattle.mid_code.specs.Meaning.{Calls, asked, matched, value_of, values_of, key_of, place_of, name_passed, passed, truncated_of, applied}
-use Rattle.mid_code.specs.Mid.{Kind, Code, Do, AskLine, FileLine, Text, Array, Let, At, Form, a_number, form_of, parameters_at}
-use Rattle.mid_code.specs.MidMeaning.{Env, Holds, all_evaluated, boxed, evaluated, listing, row_of}
-use Rattle.mid_code.specs.Texts.{texts_in, all_texts, text_place}
-use Rattle.mid_code.specs.Translation.{host, one, two, zero_code, untruth_code, record_code, special_code, matching_code, ere_code, sign_of, product_of, moved, store_at, stored_at, stepped_at, step_after_at, updated_at, substituted_at, target_in, keeping, replacing_code, code_of, codes_of, key_code, kept_code, argument_codes, passed_code, kind_of, truncated_code, applied_code}
+use Rattle.mid_program.specs.declared.mid.Arithmetic.TheVariants as inline
+use Rattle.mid_program.specs.declared.mid.Operation.TheVariants.{Host, FieldNumber}
+use Rattle.mid_program.specs.Names.{Name, ArrayName, Scope, Reserved, variable_of, array_of, function_number, function_at, is_array}
+use Rattle.mid_program.specs.ScriptState.{Local, Doing, ◌>>=◌, ◌>>◌, give, settled, does, does_listed, asks, spend}
+use Rattle.mid_program.specs.Steps.{Place, Named, Element, FieldAt, constant as number_of_constant, or_nought, numeric, zero_number, truth_value, comparison_of, number_in, computed, sign_operator, product_operator, power_operator, field_checked, array_number, stored, one_number, step_operator, read_place, store_place, received, replaced_in, substituted, ere_text, ere_in, ere_or, is_ere, given_value}
+use Rattle.mid_program.specs.Meaning.{Calls, asked, matched, value_of, values_of, key_of, place_of, name_passed, passed, truncated_of, applied}
+use Rattle.mid_program.specs.Mid.{Kind, Code, Do, AskLine, FileLine, Text, Array, Let, At, Form, a_number, form_of, parameters_at}
+use Rattle.mid_program.specs.MidMeaning.{Env, Holds, all_evaluated, boxed, evaluated, listing, row_of}
+use Rattle.mid_program.specs.Texts.{texts_in, all_texts, text_place}
+use Rattle.mid_program.specs.Translation.{host, one, two, zero_code, untruth_code, record_code, special_code, matching_code, ere_code, sign_of, product_of, moved, store_at, stored_at, stepped_at, step_after_at, updated_at, substituted_at, target_in, keeping, replacing_code, code_of, codes_of, key_code, kept_code, argument_codes, passed_code, kind_of, truncated_code, applied_code}
 use Rattle.mid_code.proofs.Binding.{As, assoc, bind_as, flat, given, over, under}
 use Rattle.mid_code.proofs.Expressions.{number_is, text_is, variable_is, concat_is, join_is, matches_is, compare_is, length_is, inline_is, power_is, as_number_is, field_is, and_is, or_is, not_is, cond_is, element_is, has_is, unset_is, whole_is, index_is, match_is, lower_is, upper_is, int_is, close_is, get_is, get_from_is, substr_from_is, substr_is, split_is}
 use Rattle.mid_code.proofs.Operands.{Is, Valued, first_operand, number_row, one_operand, truth_of_truth}

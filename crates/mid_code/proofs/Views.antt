@@ -4,15 +4,15 @@ use Rattle.std.specs.declared.vec.Vec.{Vec}
 use Rattle.std.specs.declared.boxed.Box.{Box}
 use Rattle.std.specs.declared.alloc.Global.{Global}
 use Rattle.awk_state.specs.declared.table.Listed.{Listed}
-use Rattle.mid_code.specs.Mid as plain
-use Rattle.mid_code.specs.ViewCode.{before, followed, view, view_row, view_step, view_step_row, view_steps, views}
-use Rattle.mid_code.specs.declared.mid.Operation.{Operation}
-use Rattle.mid_code.specs.declared.code.Operand.{Operand}
-use Rattle.mid_code.specs.declared.code.Operand.TheVariants as operand
-use Rattle.mid_code.specs.declared.code.Code.{Code, Do, Over, Call, Replace, Row_of-Operand, end_of-Operand, more_of-Operand, items-the_row-Operand, items_hidden-the_row-Operand-0}
-use Rattle.mid_code.specs.declared.code.Code.TheBlock.{hidden-the_row-Operand-0}
-use Rattle.mid_code.specs.declared.step.Step.{Step, Block, Row_of-Step, end_of-Step, more_of-Step, items-the_row-Step, items_hidden-the_row-Step-0}
-use Rattle.mid_code.specs.declared.step.Step.TheBlock.{hidden-the_row-Step-0}
+use Rattle.mid_program.specs.Mid as plain
+use Rattle.mid_program.specs.ViewCode.{before, followed, view, view_row, view_step, view_step_row, view_steps, views}
+use Rattle.mid_program.specs.declared.mid.Operation.{Operation}
+use Rattle.mid_program.specs.declared.code.Operand.{Operand}
+use Rattle.mid_program.specs.declared.code.Operand.TheVariants as operand
+use Rattle.mid_program.specs.declared.code.Code.{Code, Do, Over, Call, Replace, Row_of-Operand, end_of-Operand, more_of-Operand, items-the_row-Operand, items_hidden-the_row-Operand-0}
+use Rattle.mid_program.specs.declared.code.Code.TheBlock.{hidden-the_row-Operand-0}
+use Rattle.mid_program.specs.declared.step.Step.{Step, Block, Row_of-Step, end_of-Step, more_of-Step, items-the_row-Step, items_hidden-the_row-Step-0}
+use Rattle.mid_program.specs.declared.step.Step.TheBlock.{hidden-the_row-Step-0}
 
 row_views : {n : _} (k : Row_of-Operand n) → view_row k ≡ views (items-the_row-Operand n k)
 row_views end_of-Operand = refl

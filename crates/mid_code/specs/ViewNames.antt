@@ -9,9 +9,9 @@ use Rattle.awk_grammar.specs.declared.tree.Stmt.{Stmt}
 use Rattle.awk_resolve.specs.Kinds.{Function}
 use Rattle.awk_resolve.specs.ViewResolved.{view_resolved}
 use Rattle.awk_resolve.specs.declared.resolved.Resolved.{Resolved as Answer}
-use Rattle.mid_code.specs.Kinds.{scripted}
-use Rattle.mid_code.specs.Names.{Name, Resolved, same_name, next_place, or_past, names_length, place_in}
-use Rattle.mid_code.specs.Names as names
+use Rattle.mid_program.specs.Kinds.{scripted}
+use Rattle.mid_program.specs.Names.{Name, Resolved, same_name, next_place, or_past, names_length, place_in}
+use Rattle.mid_program.specs.Names as names
 use Rattle.mid_code.specs.declared.names.Variable.{Variable}
 use Rattle.mid_code.specs.declared.names.Variable.TheVariants.{Global, Parameter, Reserved}
 

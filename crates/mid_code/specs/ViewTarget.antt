@@ -2,8 +2,8 @@
 use Rattle.std.specs.Prelude.{Bool, true, false}
 use Rattle.awk_tokens.specs.declared.words.Builtin.{Builtin}
 use Rattle.awk_tokens.specs.declared.words.Builtin.TheVariants.{Sub, Gsub}
-use Rattle.mid_code.specs.Translation as plain
-use Rattle.mid_code.specs.ViewCode.{view_array}
+use Rattle.mid_program.specs.Translation as plain
+use Rattle.mid_program.specs.ViewCode.{view_array}
 use Rattle.mid_code.specs.ViewNames.{view_variable}
 use Rattle.mid_code.specs.declared.target.Target.{Target}
 use Rattle.mid_code.specs.declared.target.Target.TheVariants.{Element, Name, Field}

@@ -4,15 +4,13 @@ ghost use Rattle.std.specs.Prelude.{◌≡◌, ◌≤◌, length, IfOk, OnOk};
 ghost use Rattle.awk_grammar.specs.Tree.{Apply, Call, GetInto, Has, Index, NoTree, Post, Pre, Then};
 ghost use Rattle.awk_grammar.specs.View.{view as tree, views as trees, view_binary, view_step};
 ghost use Rattle.awk_state.specs.declared.table.Primitive.TheVariants as row;
-ghost use Rattle.mid_code.specs.Mid as plain;
-ghost use Rattle.mid_code.specs.Translation.{applied_code, code_of, codes_of, ere_code, ere_for, key_code, kept_code, one, truncated_code};
-ghost use Rattle.mid_code.specs.ViewCode.{followed, view, view_maybe, views};
+ghost use Rattle.mid_program.specs.Mid as plain;
+ghost use Rattle.mid_program.specs.Translation.{applied_code, code_of, codes_of, ere_code, ere_for, key_code, kept_code, one, truncated_code};
+ghost use Rattle.mid_program.specs.ViewCode.{followed, view, view_maybe, views};
 ghost use Rattle.mid_code.specs.ViewScope.{scope_of, texts_of};
 ghost use Rattle.mid_code.specs.ViewTarget.{sub_or_gsub};
 
 use crate::build::{binary, called, chosen, over, reserved, ternary, unary, variable};
-use crate::code::{Code, Operand};
-use crate::mid::{Arithmetic, Operation};
 use crate::operators::{combined, constant, host, prefixed};
 use crate::parts::{
     apply_none, assign_place, file_line_into, has_list, host_array, host_number, host_one,
@@ -23,6 +21,7 @@ use crate::peek::{bare_name, ere_in, is_ere, is_match, is_quotient};
 use crate::scope::Scope;
 use awk_grammar::{BinaryOp, Builtin, Expr, StepOp};
 use awk_state::{Listed, Primitive, Sort, Special};
+use mid_program::{Arithmetic, Code, Operand, Operation};
 use std::alloc::AllocError;
 
 /// The code of an expression.

@@ -5,20 +5,19 @@ ghost use Rattle.std.specs.Prelude.{◌≡◌, suc, ◌||◌, List, ◌∷◌, �
 ghost use Rattle.awk_grammar.specs.Item.{Item as PlainItem};
 ghost use Rattle.awk_grammar.specs.View.{view as tree};
 ghost use Rattle.awk_grammar.specs.ViewStmt.{view_item, view_items, view_pattern, view_stmts as tree_stmts};
-ghost use Rattle.mid_code.specs.Items.{print_record, reads_records};
-ghost use Rattle.mid_code.specs.Mid as plain;
-ghost use Rattle.mid_code.specs.Translation.{begin_code, code_of, end_code, items_code, steps_code, where_code};
-ghost use Rattle.mid_code.specs.ViewCode.{maybe_then, view_step, view_steps};
+ghost use Rattle.mid_program.specs.Items.{print_record, reads_records};
+ghost use Rattle.mid_program.specs.Mid as plain;
+ghost use Rattle.mid_program.specs.Translation.{begin_code, code_of, end_code, items_code, steps_code, where_code};
+ghost use Rattle.mid_program.specs.ViewCode.{maybe_then, view_step, view_steps};
 ghost use Rattle.mid_code.specs.ViewScope.{scope_of, texts_of};
 
 use crate::build::{over, record};
-use crate::code::{Code, Operand};
 use crate::expression::code;
 use crate::scope::Scope;
 use crate::statement::{block, chosen, nothing, steps, two_steps};
-use crate::step::Step;
 use awk_grammar::{Expr, Item, Pattern, Stmt};
 use awk_state::{Destination, Listed};
+use mid_program::{Code, Operand, Step};
 use std::alloc::{AllocError, Global};
 
 /// The code of an action.

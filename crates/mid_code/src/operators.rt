@@ -3,18 +3,17 @@
 ghost use Rattle.std.specs.Prelude.{◌≡◌, IfOk};
 ghost use Rattle.awk_grammar.specs.View.{view_binary, view_unary};
 ghost use Rattle.awk_state.specs.declared.sorts.Sort.TheVariants as sort;
-ghost use Rattle.mid_code.specs.Mid as plain;
-ghost use Rattle.mid_code.specs.Steps.{constant, or_nought};
-ghost use Rattle.mid_code.specs.Translation.{combined, one_code, prefixed, truth_code, two, zero_code};
-ghost use Rattle.mid_code.specs.ViewCode.{view};
+ghost use Rattle.mid_program.specs.Mid as plain;
+ghost use Rattle.mid_program.specs.Steps.{constant, or_nought};
+ghost use Rattle.mid_program.specs.Translation.{combined, one_code, prefixed, truth_code, two, zero_code};
+ghost use Rattle.mid_program.specs.ViewCode.{view};
 
 use crate::build::{binary, chosen, compared, truth, unary, untruth};
-use crate::code::Code;
-use crate::mid::{Arithmetic, Operation};
 use awk_grammar::{BinaryOp, UnaryOp};
 use awk_state::{Primitive, Sort};
 use awk_text::number_of;
 use awk_values::CompareOp;
+use mid_program::{Arithmetic, Code, Operation};
 use std::alloc::{AllocError, Global};
 
 /// The number of a constant; constants of a script are in range, and for others it is 0.

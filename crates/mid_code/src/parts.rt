@@ -8,17 +8,15 @@ ghost use Rattle.awk_resolve.specs.ViewKinds.{view_name};
 ghost use Rattle.awk_state.specs.Constants.{flag_number};
 ghost use Rattle.awk_state.specs.declared.table.Primitive.TheVariants as row;
 ghost use Rattle.awk_text.specs.Escapes.{string_text};
-ghost use Rattle.mid_code.specs.Mid as plain;
-ghost use Rattle.mid_code.specs.Names as plain_names;
-ghost use Rattle.mid_code.specs.Names.{Name, array_of};
-ghost use Rattle.mid_code.specs.Texts.{text_place};
-ghost use Rattle.mid_code.specs.Translation.{FieldTarget, applied_code, assigned_at, code_of, fresh_codes, keeping, one, passed_code, received_at, record_code, step_after_at, stepped_at, substituted_at, target_in, two, zero_code};
-ghost use Rattle.mid_code.specs.ViewCode.{before, view, view_maybe};
+ghost use Rattle.mid_program.specs.Mid as plain;
+ghost use Rattle.mid_program.specs.Names as plain_names;
+ghost use Rattle.mid_program.specs.Names.{Name, array_of};
+ghost use Rattle.mid_program.specs.Texts.{text_place};
+ghost use Rattle.mid_program.specs.Translation.{FieldTarget, applied_code, assigned_at, code_of, fresh_codes, keeping, one, passed_code, received_at, record_code, step_after_at, stepped_at, substituted_at, target_in, two, zero_code};
+ghost use Rattle.mid_program.specs.ViewCode.{before, view, view_maybe};
 ghost use Rattle.mid_code.specs.ViewScope.{scope_of, texts_of};
 
 use crate::build::{applied, ask_line, file_line, kept_while, record, three, unary, variable};
-use crate::code::{Code, Operand};
-use crate::mid::Operation;
 use crate::operators::host;
 use crate::peek::ere_text;
 use crate::scope::Scope;
@@ -29,6 +27,7 @@ use awk_grammar::{AssignOp, Builtin, Expr, StepOp};
 use awk_resolve::NameKind;
 use awk_state::Primitive;
 use awk_text::string_text;
+use mid_program::{Code, Operand, Operation};
 use std::alloc::{AllocError, Global};
 
 /// A string.

@@ -6,12 +6,12 @@ ghost use Rattle.awk_grammar.specs.View.{view as tree, view_binary};
 ghost use Rattle.awk_resolve.specs.Marks.{bare_name};
 ghost use Rattle.awk_text.specs.Escapes.{between};
 ghost use Rattle.awk_state.specs.declared.table.Primitive.TheVariants as row;
-ghost use Rattle.mid_code.specs.Mid.{Code, Do};
-ghost use Rattle.mid_code.specs.Names.{Scope};
-ghost use Rattle.mid_code.specs.Steps.{ere_in, is_ere};
-ghost use Rattle.mid_code.specs.Translation.{code_of, ere_for, one, truncated_code, two};
-ghost use Rattle.mid_code.specs.declared.mid.Arithmetic.{Arithmetic};
-ghost use Rattle.mid_code.specs.declared.mid.Operation.{Operation};
+ghost use Rattle.mid_program.specs.Mid.{Code, Do};
+ghost use Rattle.mid_program.specs.Names.{Scope};
+ghost use Rattle.mid_program.specs.Steps.{ere_in, is_ere};
+ghost use Rattle.mid_program.specs.Translation.{code_of, ere_for, one, truncated_code, two};
+ghost use Rattle.mid_program.specs.declared.mid.Arithmetic.{Arithmetic};
+ghost use Rattle.mid_program.specs.declared.mid.Operation.{Operation};
 
 use awk_grammar::{BinaryOp, Expr};
 

@@ -1,17 +1,17 @@
 //! Where an expression stands.
 
 ghost use Rattle.std.specs.Prelude.{◌≡◌};
-ghost use Rattle.mid_code.specs.Names.{array_of, function_at, function_number, is_array, variable_of};
-ghost use Rattle.mid_code.specs.Texts.{text_place};
-ghost use Rattle.mid_code.specs.ViewCode.{view_array};
+ghost use Rattle.mid_program.specs.Names.{array_of, function_at, function_number, is_array, variable_of};
+ghost use Rattle.mid_program.specs.Texts.{text_place};
+ghost use Rattle.mid_program.specs.ViewCode.{view_array};
 ghost use Rattle.mid_code.specs.ViewNames.{view_variable};
 ghost use Rattle.mid_code.specs.ViewScope.{scope_of, texts_of};
 ghost use Rattle.awk_resolve.specs.ViewKinds.{view_name_kinds};
 
-use crate::code::ArrayName;
 use crate::names::{Names, Variable, kind_at, place_in, special_array, special_named};
 use awk_resolve::NameKind;
 use indexmap::IndexSet;
+use mid_program::ArrayName;
 use std::alloc::Global;
 
 /// The names and texts of a script, and the parameters of the function in which an expression stands, if it stands in one.

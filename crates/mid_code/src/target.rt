@@ -2,8 +2,8 @@
 
 ghost use Rattle.std.specs.Prelude.{◌≡◌, IfOk};
 ghost use Rattle.awk_grammar.specs.View.{view as tree, view_assign, view_step};
-ghost use Rattle.mid_code.specs.Translation.{assigned_at, kept_at, keeping, read_at, received_at, step_after_at, step_of, stepped_at, store_at, stored_at, substituted_at, target_in, updated_at};
-ghost use Rattle.mid_code.specs.ViewCode.{view, view_maybe};
+ghost use Rattle.mid_program.specs.Translation.{assigned_at, kept_at, keeping, read_at, received_at, step_after_at, step_of, stepped_at, store_at, stored_at, substituted_at, target_in, updated_at};
+ghost use Rattle.mid_program.specs.ViewCode.{view, view_maybe};
 ghost use Rattle.mid_code.specs.ViewScope.{scope_of, texts_of};
 ghost use Rattle.mid_code.specs.ViewTarget.{view_target};
 
@@ -11,12 +11,11 @@ use crate::build::{
     binary, in_turn, kept_while, set_variable, store_variable, substitution, ternary, unary,
     variable,
 };
-use crate::code::{ArrayName, Code};
-use crate::mid::{Arithmetic, Operation};
 use crate::names::Variable;
 use crate::scope::Scope;
 use awk_grammar::{AssignOp, Expr, StepOp};
 use awk_state::Primitive;
+use mid_program::{Arithmetic, ArrayName, Code, Operation};
 use std::alloc::{AllocError, Global};
 
 /// What takes a value, once its key or its field's number is kept.

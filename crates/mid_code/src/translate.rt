@@ -3,23 +3,23 @@
 ghost use Rattle.std.specs.Prelude.{◌≡◌, List, map, IfOk};
 ghost use Rattle.awk_resolve.specs.ViewKinds.{view_name, view_name_kinds};
 ghost use Rattle.awk_grammar.specs.ViewStmt.{view_script, view_stmts};
-ghost use Rattle.mid_code.specs.Kinds.{bodies as bodies_of};
-ghost use Rattle.mid_code.specs.MidMeaning.{EndsAs};
-ghost use Rattle.mid_code.specs.Translation.{declared_code, kind_of, program_of, routine_code};
-ghost use Rattle.mid_code.specs.View.{view_declared, view_kind, view_mid, view_routine, view_texts};
+ghost use Rattle.mid_program.specs.Kinds.{bodies as bodies_of};
+ghost use Rattle.mid_program.specs.MidMeaning.{EndsAs};
+ghost use Rattle.mid_program.specs.Translation.{declared_code, kind_of, program_of, routine_code};
+ghost use Rattle.mid_program.specs.View.{view_declared, view_kind, view_mid, view_routine, view_texts};
 ghost use Rattle.mid_code.specs.ViewNames.{script_of, view_bodies};
 ghost use Rattle.mid_code.specs.ViewScope.{scope_of, texts_of as texts_in};
 
 use crate::bodies::{bodies, body_at};
 use crate::item::{begin, end, reads_records, record_items};
 use crate::names::Names;
-use crate::program::{Declared, Kind, Mid, Routine};
 use crate::scope::Scope;
 use crate::statement::steps;
 use crate::texts::texts_of;
 use awk_grammar::Stmt;
 use awk_resolve::{NameKind, Resolved};
 use indexmap::IndexSet;
+use mid_program::{Declared, Kind, Mid, Routine};
 use std::alloc::{AllocError, Global};
 
 /// What a name of the program is; all scalars are boxed.

@@ -3,10 +3,10 @@ use Rattle.std.proofs.Common.{◌≡◌, ℕ, zero, suc, List, [], ◌∷◌, re
 use Rattle.awk_state.specs.declared.sorts.Answer.TheVariants as answer
 use Rattle.awk_state.specs.declared.sorts.Sort.{Sort}
 use Rattle.awk_state.specs.declared.sorts.Sort.TheVariants as sort
-use Rattle.mid_code.specs.ScriptState.{Scalar, Array as ArrayOf}
-use Rattle.mid_code.specs.Mid.{Kind, Boxed, Unboxed, Many, Form, Answered, Bare, Perhaps, form_at}
-use Rattle.mid_code.specs.MidMeaning.{Holds, boxed, numbered, array_in, converted, truth_in, Env, held, local_of, fresh_of}
-use Rattle.mid_code.specs.Sorted.{is_many}
+use Rattle.mid_program.specs.ScriptState.{Scalar, Array as ArrayOf}
+use Rattle.mid_program.specs.Mid.{Kind, Boxed, Unboxed, Many, Form, Answered, Bare, Perhaps, form_at}
+use Rattle.mid_program.specs.MidMeaning.{Holds, boxed, numbered, array_in, converted, truth_in, Env, held, local_of, fresh_of}
+use Rattle.mid_program.specs.Sorted.{is_many}
 use Rattle.mid_rewriting.specs.Alike.{erased, as_boxed, Seen, seen, Alike, AlikeKinds}
 
 -- Conversions see no lanes.

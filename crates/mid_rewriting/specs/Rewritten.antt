@@ -1,12 +1,12 @@
 -- Programs of which one is the other rewritten, with names that stand for the same places and operations that do the same.
 use Rattle.std.specs.Prelude.{◌≡◌, ℕ, List, map}
 use Rattle.awk_values.specs.declared.value.Value.{Value}
-use Rattle.mid_code.specs.declared.mid.Operation.{Operation}
-use Rattle.mid_code.specs.Meaning.{Calls}
-use Rattle.mid_code.specs.ScriptState.{State}
-use Rattle.mid_code.specs.Mid.{Kind, Slot, Code, Do, Codes, Program, Form, Answered, answer_by, slot_form, form_of, parameters_at}
-use Rattle.mid_code.specs.MidMeaning.{Env, read_slot, store_slot, evaluated, routine_at, global_name, routine_name}
-use Rattle.mid_code.specs.Sorted.{calls_of}
+use Rattle.mid_program.specs.declared.mid.Operation.{Operation}
+use Rattle.mid_program.specs.Meaning.{Calls}
+use Rattle.mid_program.specs.ScriptState.{State}
+use Rattle.mid_program.specs.Mid.{Kind, Slot, Code, Do, Codes, Program, Form, Answered, answer_by, slot_form, form_of, parameters_at}
+use Rattle.mid_program.specs.MidMeaning.{Env, read_slot, store_slot, evaluated, routine_at, global_name, routine_name}
+use Rattle.mid_program.specs.Sorted.{calls_of}
 use Rattle.mid_rewriting.specs.Alike.{Alike, LikeR, AlikeKinds}
 use Rattle.mid_rewriting.specs.Rewriting.{steps_in}
 

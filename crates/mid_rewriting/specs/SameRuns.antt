@@ -1,8 +1,8 @@
 -- Programs that do the same.
 use Rattle.std.specs.Prelude.{◌≡◌, ℕ}
-use Rattle.mid_code.specs.Mid.{Program}
-use Rattle.mid_code.specs.MidMeaning.{mid_run_in}
-use Rattle.mid_code.specs.ScriptRun.{Setting}
+use Rattle.mid_program.specs.Mid.{Program}
+use Rattle.mid_program.specs.MidMeaning.{mid_run_in}
+use Rattle.mid_program.specs.ScriptRun.{Setting}
 
 -- the same ends, faults and outputs, at each job, input, outside and number of turns, however deeply calls may be nested
 abbrev pub SameRuns : Program → Program → Type 0

@@ -1,5 +1,5 @@
 //! A law of code that is rewritten, the contract of a function that does nothing.
-ghost use Rattle.mid_code.specs.Mid.{Program};
+ghost use Rattle.mid_program.specs.Mid.{Program};
 ghost use Rattle.mid_rewriting.specs.Rewritten.{Rewritten};
 ghost use Rattle.mid_rewriting.specs.SameRuns.{SameRuns};
 

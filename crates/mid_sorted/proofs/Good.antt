@@ -16,14 +16,14 @@ use Rattle.awk_state.specs.declared.table.Primitive.{Primitive}
 use Rattle.awk_state.specs.declared.table.Primitive.TheVariants as row
 use Rattle.awk_grammar.specs.Token.{Matching, Matches, Differs}
 use Rattle.awk_values.specs.declared.comparison.CompareOp.{CompareOp}
-use Rattle.mid_code.specs.declared.mid.Operation.{Operation}
-use Rattle.mid_code.specs.declared.mid.Operation.TheVariants.{Host, AsNumber}
-use Rattle.mid_code.specs.Names as names
-use Rattle.mid_code.specs.Names.{ArrayName, Variable, Reserved}
-use Rattle.mid_code.specs.Mid.{Code, Do, Compare, Ask, Number, Text, Array, Choose, At, End, Fixed, Boxed, Form, Answered, Bare, form_of, arguments, answer_by}
-use Rattle.mid_code.specs.Sorted.{Context, Held, There, Moved, Misused, either_way, fits, is_tested, is_dropped, is_chosen, is_operation, is_done_here, is_constant, is_array_place, is_bound, has_kind, held_after, sorted, all_sorted}
-use Rattle.mid_code.specs.Translation.{host, one, two, zero_code, one_code, truth_code, untruth_code, record_code, special_code, variable_code, matching_code, ere_code}
-use Rattle.mid_code.specs.Texts.{text_place}
+use Rattle.mid_program.specs.declared.mid.Operation.{Operation}
+use Rattle.mid_program.specs.declared.mid.Operation.TheVariants.{Host, AsNumber}
+use Rattle.mid_program.specs.Names as names
+use Rattle.mid_program.specs.Names.{ArrayName, Variable, Reserved}
+use Rattle.mid_program.specs.Mid.{Code, Do, Compare, Ask, Number, Text, Array, Choose, At, End, Fixed, Boxed, Form, Answered, Bare, form_of, arguments, answer_by}
+use Rattle.mid_program.specs.Sorted.{Context, Held, There, Moved, Misused, either_way, fits, is_tested, is_dropped, is_chosen, is_operation, is_done_here, is_constant, is_array_place, is_bound, has_kind, held_after, sorted, all_sorted}
+use Rattle.mid_program.specs.Translation.{host, one, two, zero_code, one_code, truth_code, untruth_code, record_code, special_code, variable_code, matching_code, ere_code}
+use Rattle.mid_program.specs.Texts.{text_place}
 
 -- Forms: what may be tested is a value, or what one is made of.
 

@@ -3,10 +3,10 @@ use Rattle.std.proofs.Common.{◌≡◌, ℕ, ◌+◌, Bool, true, false, not, �
 use Rattle.std.specs.Prelude.{if◌then◌else◌, nat_lt, nat_le, map}
 use Rattle.awk_state.specs.InTurn.{values_wanted}
 use Rattle.awk_state.specs.declared.table.Listed.{Listed}
-use Rattle.mid_code.specs.Names.{Name, ArrayName, Variable}
-use Rattle.mid_code.specs.Mid.{Kind, Boxed, Many, Code, Over, Call, Unset, Array, Codes, End, At, Fresh, Form, parameters_at}
-use Rattle.mid_code.specs.Sorted.{Context, Held, is_array_place, fit_call, all_values, count_of, held_after_all, sorted, all_sorted}
-use Rattle.mid_code.specs.Translation.{variable_code, fresh_codes, kind_of}
+use Rattle.mid_program.specs.Names.{Name, ArrayName, Variable}
+use Rattle.mid_program.specs.Mid.{Kind, Boxed, Many, Code, Over, Call, Unset, Array, Codes, End, At, Fresh, Form, parameters_at}
+use Rattle.mid_program.specs.Sorted.{Context, Held, is_array_place, fit_call, all_values, count_of, held_after_all, sorted, all_sorted}
+use Rattle.mid_program.specs.Translation.{variable_code, fresh_codes, kind_of}
 use Rattle.mid_sorted.proofs.Good.{Good, is_known, as_value, variable_good}
 
 module _ (c : Context) (fs : List Form) where

@@ -6,14 +6,14 @@ use Rattle.awk_state.specs.declared.table.Primitive.TheVariants as row
 use Rattle.awk_grammar.specs.Token as token
 use Rattle.awk_grammar.specs.Token.{Sign, Plus, Minus, Product, Times, Over as Divided, Modulo}
 use Rattle.awk_grammar.specs.Tree.{Tree, Var, Index}
-use Rattle.mid_code.specs.declared.mid.Arithmetic.{Arithmetic}
-use Rattle.mid_code.specs.declared.mid.Arithmetic.TheVariants as inline
-use Rattle.mid_code.specs.declared.mid.Operation.{Operation}
-use Rattle.mid_code.specs.declared.mid.Operation.TheVariants.{Host, Inline}
-use Rattle.mid_code.specs.Names.{Scope, variable_of, array_of, function_number, function_at, is_array}
-use Rattle.mid_code.specs.Mid.{Code, Do, AskLine, FileLine, Form, parameters_at}
-use Rattle.mid_code.specs.Sorted.{Context, is_tested, is_array_place}
-use Rattle.mid_code.specs.Translation.{two, one_code, variable_code, sign_of, product_of, step_arithmetic, step_of, target_in, received_at, stored_at, stepped_at, step_after_at, updated_at, kind_of}
+use Rattle.mid_program.specs.declared.mid.Arithmetic.{Arithmetic}
+use Rattle.mid_program.specs.declared.mid.Arithmetic.TheVariants as inline
+use Rattle.mid_program.specs.declared.mid.Operation.{Operation}
+use Rattle.mid_program.specs.declared.mid.Operation.TheVariants.{Host, Inline}
+use Rattle.mid_program.specs.Names.{Scope, variable_of, array_of, function_number, function_at, is_array}
+use Rattle.mid_program.specs.Mid.{Code, Do, AskLine, FileLine, Form, parameters_at}
+use Rattle.mid_program.specs.Sorted.{Context, is_tested, is_array_place}
+use Rattle.mid_program.specs.Translation.{two, one_code, variable_code, sign_of, product_of, step_arithmetic, step_of, target_in, received_at, stored_at, stepped_at, step_after_at, updated_at, kind_of}
 use Rattle.mid_sorted.specs.Fits.{is_scalar, is_function}
 use Rattle.mid_sorted.proofs.Good.{Good, is_known, tested_number, two_operands, variable_good, one_good}
 use Rattle.mid_sorted.proofs.Ways.{OnNumbers, Inner, good_copies, element_way, field_way, stored_inner, stepped_copies, step_after_inner, updated_inner, line_inner, file_line_inner}

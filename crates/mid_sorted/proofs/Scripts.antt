@@ -5,12 +5,12 @@ use Rattle.awk_grammar.specs.Stmt.{Stmts}
 use Rattle.awk_grammar.specs.Item as item
 use Rattle.awk_grammar.specs.Item.{Item, Pattern}
 use Rattle.awk_resolve.specs.Marks.{marks}
-use Rattle.mid_code.specs.Names.{Name, Function, Resolved, Scope}
-use Rattle.mid_code.specs.Items.{top, print_record}
-use Rattle.mid_code.specs.Texts.{texts_in, all_texts, stmt_texts, stmts_texts, pattern_texts, item_texts, items_texts, functions_texts, texts_of_script}
-use Rattle.mid_code.specs.Mid.{Step, Block, Declared, Routine}
-use Rattle.mid_code.specs.Sorted.{Context, announced_names, context_of, routines_sorted, sorted, step_sorted, steps_sorted, is_sorted, IsSorted}
-use Rattle.mid_code.specs.Translation.{steps_code, where_code, items_code, begin_code, end_code, kind_of, declared_code, routine_code, program_with, program_of}
+use Rattle.mid_program.specs.Names.{Name, Function, Resolved, Scope}
+use Rattle.mid_program.specs.Items.{top, print_record}
+use Rattle.mid_program.specs.Texts.{texts_in, all_texts, stmt_texts, stmts_texts, pattern_texts, item_texts, items_texts, functions_texts, texts_of_script}
+use Rattle.mid_program.specs.Mid.{Step, Block, Declared, Routine}
+use Rattle.mid_program.specs.Sorted.{Context, announced_names, context_of, routines_sorted, sorted, step_sorted, steps_sorted, is_sorted, IsSorted}
+use Rattle.mid_program.specs.Translation.{steps_code, where_code, items_code, begin_code, end_code, kind_of, declared_code, routine_code, program_with, program_of}
 use Rattle.mid_sorted.specs.Fits.{parameters_named, scope_at, is_met, StmtsFit, PatternFits, ItemsFit, FunctionsFit, function_names, all_names, Fits}
 use Rattle.mid_sorted.proofs.Sound.{AllWithin, parts}
 use Rattle.mid_sorted.proofs.Good.{is_within}

@@ -11,13 +11,13 @@ use Rattle.awk_grammar.specs.Tree.{Tree, Trees, NoTree, Then, IsWellFormed, coun
 use Rattle.awk_grammar.specs.Stmt as stmt
 use Rattle.awk_grammar.specs.Stmt.{Printing, Print, Printf, Args, NoArgs, Listed, Enclosed, Target, NoTarget, Written, Appended, Plain, Stmt, Stmts, NoStmt, And, IsArgs, IsTarget, IsPlain, IsMaybe, IsMaybePlain, IsStmt, AreStmts}
 use Rattle.awk_resolve.specs.Marks.{Array, Scalar, Mark, Used, marks, all_marks, args_marks, target_marks, plain_marks, maybe_marks, maybe_plain_marks, stmt_marks, stmts_marks}
-use Rattle.mid_code.specs.declared.mid.Operation.TheVariants.{Host}
-use Rattle.mid_code.specs.Names.{Resolved, Scope, variable_of, array_of}
-use Rattle.mid_code.specs.Statements.{operands_of, with_last, with_target, destination_of, listed_of}
-use Rattle.mid_code.specs.Texts.{texts_in, all_texts, args_texts, target_texts, plain_texts, maybe_texts, maybe_plain_texts, stmt_texts, stmts_texts}
-use Rattle.mid_code.specs.Mid.{Form, Answered, form_of}
-use Rattle.mid_code.specs.Sorted.{Context, is_dropped, sorted, test_sorted, step_sorted, steps_sorted}
-use Rattle.mid_code.specs.Translation.{code_of, codes_of, key_code, test_code, plain_step, maybe_step, step_code, steps_code}
+use Rattle.mid_program.specs.declared.mid.Operation.TheVariants.{Host}
+use Rattle.mid_program.specs.Names.{Resolved, Scope, variable_of, array_of}
+use Rattle.mid_program.specs.Statements.{operands_of, with_last, with_target, destination_of, listed_of}
+use Rattle.mid_program.specs.Texts.{texts_in, all_texts, args_texts, target_texts, plain_texts, maybe_texts, maybe_plain_texts, stmt_texts, stmts_texts}
+use Rattle.mid_program.specs.Mid.{Form, Answered, form_of}
+use Rattle.mid_program.specs.Sorted.{Context, is_dropped, sorted, test_sorted, step_sorted, steps_sorted}
+use Rattle.mid_program.specs.Translation.{code_of, codes_of, key_code, test_code, plain_step, maybe_step, step_code, steps_code}
 use Rattle.mid_sorted.specs.Fits.{scope_at, is_met, is_placed, are_placed, AreMet}
 use Rattle.mid_sorted.proofs.Good.{Good, is_within, as_value, as_number, tested_dropped, array_operand, one_good}
 use Rattle.mid_sorted.proofs.Variables.{stores_into, moved_into}

@@ -2,8 +2,8 @@
 use Rattle.std.proofs.Common.{◌≡◌, ℕ, suc, ◌<◌, Bool, true, false, List, [], ◌∷◌, ◌++◌, length, refl, sym, true≢false, lt-ltb, arith}
 use Rattle.std.proofs.lemmas.Slice.Eq.{bytes_eq-Decides}
 use Rattle.std.specs.Prelude.{if◌then◌else◌}
-use Rattle.mid_code.specs.Names.{Resolved, same_name}
-use Rattle.mid_code.specs.Texts.{has_text, once, text_place, texts_of_script, items_texts, functions_texts}
+use Rattle.mid_program.specs.Names.{Resolved, same_name}
+use Rattle.mid_program.specs.Texts.{has_text, once, text_place, texts_of_script, items_texts, functions_texts}
 use Rattle.mid_sorted.proofs.Sound.{AllWithin}
 
 abbrev IsPlaced : List (List ℕ) → List ℕ → Type 0

@@ -13,15 +13,15 @@ use Rattle.awk_tokens.specs.declared.words.Builtin.TheVariants as builtin
 use Rattle.awk_grammar.specs.Token.{Plus, Minus, Not, Signed, Over as Divided, Set as Put, SetSum, SetProduct, SetPower, Assign, Or, And as Both, Match, Compare as Compared, Mul, Pow, Number as Numeral, Quoted, Ere}
 use Rattle.awk_grammar.specs.Tree as tree
 use Rattle.awk_grammar.specs.Tree.{Tree, Leaf, Length, Var, Index, Field, Group, Apply, Unary, Pre, Post, Bin, Join, Add, Other, Has, HasList, Cond, GetInto, GetFrom, GetIntoFrom, Trees, NoTree, IsSome, count}
-use Rattle.mid_code.specs.declared.mid.Arithmetic.TheVariants as inline
-use Rattle.mid_code.specs.declared.mid.Operation.{Operation}
-use Rattle.mid_code.specs.declared.mid.Operation.TheVariants.{Host, Inline, AsNumber, FieldNumber}
-use Rattle.mid_code.specs.Names.{Name, Scope, variable_of, array_of, function_number, function_at, is_array}
-use Rattle.mid_code.specs.Steps.{constant as number_of_constant, or_nought, comparison_of, ere_text, ere_in, is_ere}
-use Rattle.mid_code.specs.Texts.{text_place}
-use Rattle.mid_code.specs.Mid.{Code, Do, Over, AskLine, FileLine, Text, Let, Codes, Form, a_number, form_of}
-use Rattle.mid_code.specs.Sorted.{Context}
-use Rattle.mid_code.specs.Translation.{host, one, two, zero_code, one_code, record_code, truth_code, special_code, sign_of, product_of, ere_code, FieldTarget, target_in, received_at, stored_at, stepped_at, step_after_at, updated_at, substituted_at, keeping, replacing_code, kind_of, code_of, codes_of, key_code, kept_code, argument_codes, truncated_code, applied_code}
+use Rattle.mid_program.specs.declared.mid.Arithmetic.TheVariants as inline
+use Rattle.mid_program.specs.declared.mid.Operation.{Operation}
+use Rattle.mid_program.specs.declared.mid.Operation.TheVariants.{Host, Inline, AsNumber, FieldNumber}
+use Rattle.mid_program.specs.Names.{Name, Scope, variable_of, array_of, function_number, function_at, is_array}
+use Rattle.mid_program.specs.Steps.{constant as number_of_constant, or_nought, comparison_of, ere_text, ere_in, is_ere}
+use Rattle.mid_program.specs.Texts.{text_place}
+use Rattle.mid_program.specs.Mid.{Code, Do, Over, AskLine, FileLine, Text, Let, Codes, Form, a_number, form_of}
+use Rattle.mid_program.specs.Sorted.{Context}
+use Rattle.mid_program.specs.Translation.{host, one, two, zero_code, one_code, record_code, truth_code, special_code, sign_of, product_of, ere_code, FieldTarget, target_in, received_at, stored_at, stepped_at, step_after_at, updated_at, substituted_at, keeping, replacing_code, kind_of, code_of, codes_of, key_code, kept_code, argument_codes, truncated_code, applied_code}
 use Rattle.mid_sorted.specs.Fits.{is_scalar}
 use Rattle.mid_sorted.proofs.Good.{Good, is_within, tested_value, tested_number, one_operand, two_operands, three_operands, answer_number_good, element_good, has_good, split_good, compare_good, number_good, text_good, ask_good, special_good, variable_good, zero_good, one_good, record_good, choose_good, truth_good, untruth_good, matching_good, ere_good}
 use Rattle.mid_sorted.proofs.Ways.{OnNumbers, let_good, element_way, field_way, replacing_good}

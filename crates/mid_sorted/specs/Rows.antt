@@ -7,9 +7,9 @@ use Rattle.awk_grammar.specs.Stmt.{Eval, Simple, While, Jumping, Break, Leave, R
 use Rattle.awk_grammar.specs.Item.{Item, Function, Begin}
 use Rattle.awk_resolve.specs.Marks.{script_marks}
 use Rattle.awk_resolve.specs.Kinds.{special_arrays, special_scalars}
-use Rattle.mid_code.specs.Sorted.{all_differ}
+use Rattle.mid_program.specs.Sorted.{all_differ}
 use Rattle.mid_sorted.specs.Fits.{is_met, all_names}
-use Rattle.mid_code.specs.Kinds.{resolved}
+use Rattle.mid_program.specs.Kinds.{resolved}
 use Rattle.mid_sorted.specs.Placed.{item_placed}
 
 -- whether all that a script says of names is so

@@ -4,10 +4,10 @@ ghost use Rattle.awk_tokens.specs.Cutting.{Spelled};
 ghost use Rattle.awk_grammar.specs.Item.{Item, IsScript};
 ghost use Rattle.awk_parse.specs.Parsing.{IsParsed};
 ghost use Rattle.awk_resolve.specs.Kinds.{refusal};
-ghost use Rattle.mid_code.specs.Kinds.{resolved};
-ghost use Rattle.mid_code.specs.Names.{Resolved};
-ghost use Rattle.mid_code.specs.Sorted.{IsSorted};
-ghost use Rattle.mid_code.specs.Translation.{program_of};
+ghost use Rattle.mid_program.specs.Kinds.{resolved};
+ghost use Rattle.mid_program.specs.Names.{Resolved};
+ghost use Rattle.mid_program.specs.Sorted.{IsSorted};
+ghost use Rattle.mid_program.specs.Translation.{program_of};
 ghost use Rattle.mid_sorted.specs.Fits.{Fits};
 ghost use Rattle.mid_sorted.specs.Placed.{ArePlaced};
 

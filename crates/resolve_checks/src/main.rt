@@ -8,7 +8,8 @@
 use awk_parse::parse;
 use awk_resolve::{NameKind, ResolveFault, Resolved, resolve};
 use awk_tokens::tokens;
-use mid_code::{Declared, Kind, Routine, to_mid};
+use mid_code::to_mid;
+use mid_program::{Declared, Kind, Routine};
 use std::alloc::{AllocError, Global};
 use std::io;
 

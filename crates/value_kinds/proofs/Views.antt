@@ -5,22 +5,22 @@ use Rattle.std.specs.declared.vec.Vec.{Vec}
 use Rattle.std.specs.declared.boxed.Box.{Box}
 use Rattle.std.specs.declared.alloc.Global.{Global}
 use Rattle.awk_state.specs.declared.table.Listed.{Listed}
-use Rattle.mid_code.specs.Mid as plain
-use Rattle.mid_code.specs.ViewCode.{before, view, view_row, view_step, view_step_row, view_steps, views}
-use Rattle.mid_code.specs.declared.mid.Operation.{Operation}
-use Rattle.mid_code.specs.declared.code.Operand.{Operand}
-use Rattle.mid_code.specs.declared.code.Operand.TheVariants as operand
-use Rattle.mid_code.specs.declared.code.Code.{Code, Do, Over, Call, Replace, Row_of-Operand, end_of-Operand, more_of-Operand, items-the_row-Operand, items_hidden-the_row-Operand-0}
-use Rattle.mid_code.specs.declared.code.Code.TheBlock.{hidden-the_row-Operand-0}
-use Rattle.mid_code.specs.declared.step.Step.{Step, Block, Row_of-Step, end_of-Step, more_of-Step, items-the_row-Step, items_hidden-the_row-Step-0}
-use Rattle.mid_code.specs.declared.step.Step.TheBlock.{hidden-the_row-Step-0}
-use Rattle.mid_code.specs.View.{view_routine}
-use Rattle.mid_code.specs.declared.program.Routine.{Routine}
+use Rattle.mid_program.specs.Mid as plain
+use Rattle.mid_program.specs.ViewCode.{before, view, view_row, view_step, view_step_row, view_steps, views}
+use Rattle.mid_program.specs.declared.mid.Operation.{Operation}
+use Rattle.mid_program.specs.declared.code.Operand.{Operand}
+use Rattle.mid_program.specs.declared.code.Operand.TheVariants as operand
+use Rattle.mid_program.specs.declared.code.Code.{Code, Do, Over, Call, Replace, Row_of-Operand, end_of-Operand, more_of-Operand, items-the_row-Operand, items_hidden-the_row-Operand-0}
+use Rattle.mid_program.specs.declared.code.Code.TheBlock.{hidden-the_row-Operand-0}
+use Rattle.mid_program.specs.declared.step.Step.{Step, Block, Row_of-Step, end_of-Step, more_of-Step, items-the_row-Step, items_hidden-the_row-Step-0}
+use Rattle.mid_program.specs.declared.step.Step.TheBlock.{hidden-the_row-Step-0}
+use Rattle.mid_program.specs.View.{view_routine}
+use Rattle.mid_program.specs.declared.program.Routine.{Routine}
 use Rattle.mid_rewriting.specs.Rewriting.{codes_in, step_in, steps_in}
-use Rattle.mid_code.specs.declared.program.Declared.{Declared}
-use Rattle.mid_code.specs.declared.program.Kind.{Kind}
-use Rattle.mid_code.specs.View.{view_declared, view_kind, view_routine}
-use Rattle.mid_code.specs.Sorted.{same_kind}
+use Rattle.mid_program.specs.declared.program.Declared.{Declared}
+use Rattle.mid_program.specs.declared.program.Kind.{Kind}
+use Rattle.mid_program.specs.View.{view_declared, view_kind, view_routine}
+use Rattle.mid_program.specs.Sorted.{same_kind}
 use Rattle.value_kinds.specs.Applied.{globals_with, is_unboxed, kind_with, kinds_with, routine_with, routines_with}
 
 row_views : {n : _} (k : Row_of-Operand n) → view_row k ≡ views (items-the_row-Operand n k)

@@ -1,7 +1,7 @@
 -- Scalars into which numbers alone are stored, as arguments too, are unboxed.
 use Rattle.std.specs.Prelude.{◌≡◌, ℕ, zero, suc, Bool, true, false, List, [], ◌∷◌}
-use Rattle.mid_code.specs.Mid.{Kind, Boxed, Unboxed, Many, Global, Parameter, Routine, Program, parameters_at}
-use Rattle.mid_code.specs.Sorted.{is_number, kinds_of, calls_of}
+use Rattle.mid_program.specs.Mid.{Kind, Boxed, Unboxed, Many, Global, Parameter, Routine, Program, parameters_at}
+use Rattle.mid_program.specs.Sorted.{is_number, kinds_of, calls_of}
 use Rattle.value_kinds.specs.Applied.{is_unboxed}
 use Rattle.value_kinds.specs.Lanes.{is_plain, function_count, infer}
 use Rattle.value_kinds.specs.Stores.{Store, Into, Given, steps_stores}

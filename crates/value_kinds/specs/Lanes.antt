@@ -1,7 +1,7 @@
 -- Which names are unboxed: a scalar into which the script stores numbers alone, as arguments too. What the command line assigns to a global stays a text until then.
 use Rattle.std.specs.Prelude.{ℕ, zero, suc, Bool, true, false, List, [], ◌∷◌, map}
-use Rattle.mid_code.specs.Mid.{Kind, Boxed, Unboxed, Many, Global, Parameter, Routine, Program, Form, Perhaps}
-use Rattle.mid_code.specs.Sorted.{is_number, kinds_of, calls_of}
+use Rattle.mid_program.specs.Mid.{Kind, Boxed, Unboxed, Many, Global, Parameter, Routine, Program, Form, Perhaps}
+use Rattle.mid_program.specs.Sorted.{is_number, kinds_of, calls_of}
 use Rattle.value_kinds.specs.Stores.{Store, Into, Given, steps_stores}
 
 -- by the numbers of the globals, and for each function by those of its parameters. An unboxed global has a boxed twin, since the command line may give it a text; an

@@ -1,9 +1,9 @@
 -- What the lanes of the code stand for.
 use Rattle.std.specs.Prelude.{map}
 use Rattle.std.specs.Global.{Vec}
-use Rattle.mid_code.specs.Mid as plain
-use Rattle.mid_code.specs.View.{view_kind}
-use Rattle.mid_code.specs.declared.program.Kind.{Kind}
+use Rattle.mid_program.specs.Mid as plain
+use Rattle.mid_program.specs.View.{view_kind}
+use Rattle.mid_program.specs.declared.program.Kind.{Kind}
 use Rattle.value_kinds.specs.Applied.{slot_in}
 use Rattle.value_kinds.specs.Lanes as lanes
 use Rattle.value_kinds.specs.declared.names.Lanes.{Lanes}

@@ -1,13 +1,13 @@
 //! Expressions.
 
 ghost use Rattle.std.specs.Prelude.{◌≡◌};
-ghost use Rattle.mid_code.specs.Mid.{Do, End};
-ghost use Rattle.mid_code.specs.ViewCode.{before, view, views};
+ghost use Rattle.mid_program.specs.Mid.{Do, End};
+ghost use Rattle.mid_program.specs.ViewCode.{before, view, views};
 ghost use Rattle.mid_rewriting.specs.Rewriting.{code_in, codes_in};
 ghost use Rattle.value_kinds.specs.View.{slots};
 
 use crate::names::Names;
-use mid_code::{Code, Operand};
+use mid_program::{Code, Operand};
 use std::mem;
 
 /// The code with lanes at its names.

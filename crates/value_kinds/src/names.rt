@@ -1,14 +1,14 @@
 //! The lanes of names.
 
 ghost use Rattle.std.specs.Prelude.{◌≡◌, map};
-ghost use Rattle.mid_code.specs.Mid.{Unboxed};
-ghost use Rattle.mid_code.specs.Sorted.{same_kind};
-ghost use Rattle.mid_code.specs.View.{view_kind};
-ghost use Rattle.mid_code.specs.ViewCode.{view_slot};
+ghost use Rattle.mid_program.specs.Mid.{Unboxed};
+ghost use Rattle.mid_program.specs.Sorted.{same_kind};
+ghost use Rattle.mid_program.specs.View.{view_kind};
+ghost use Rattle.mid_program.specs.ViewCode.{view_slot};
 ghost use Rattle.value_kinds.specs.Applied.{is_unboxed, kind_with};
 ghost use Rattle.value_kinds.specs.View.{slots};
 
-use mid_code::{Kind, Slot};
+use mid_program::{Kind, Slot};
 
 /// Which of a script's names are unboxed: the others are boxed, or arrays.
 #[derive(Debug, Drop)]

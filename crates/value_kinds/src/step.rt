@@ -1,14 +1,14 @@
 //! Statements.
 
 ghost use Rattle.std.specs.Prelude.{◌≡◌};
-ghost use Rattle.mid_code.specs.Mid.{Do};
-ghost use Rattle.mid_code.specs.ViewCode.{view_step, view_steps};
+ghost use Rattle.mid_program.specs.Mid.{Do};
+ghost use Rattle.mid_program.specs.ViewCode.{view_step, view_steps};
 ghost use Rattle.mid_rewriting.specs.Rewriting.{step_in, steps_in};
 ghost use Rattle.value_kinds.specs.View.{slots};
 
 use crate::code::lane_code;
 use crate::names::Names;
-use mid_code::Step;
+use mid_program::Step;
 use std::mem;
 
 /// The step with lanes at its names.

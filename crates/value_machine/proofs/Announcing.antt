@@ -19,12 +19,12 @@ use Rattle.awk_values.specs.declared.value.Value.TheVariants.{Uninit}
 use Rattle.wasm_types.specs.Syntax.{Instructions}
 use Rattle.wasm_types.specs.declared.instr.Simple.TheVariants.{GlobalSet}
 use Rattle.wasm_store.specs.declared.word.Word.TheVariants.{I32}
-use Rattle.mid_code.specs.Mid.{Kind, Boxed, Unboxed, Many, Program, Declared, Routine}
-use Rattle.mid_code.specs.MidMeaning.{global_name, routine_name}
-use Rattle.mid_code.specs.Names.{same_name}
-use Rattle.mid_code.specs.ScriptRun.{kind_of, announced, arrays_made}
-use Rattle.mid_code.specs.ScriptState.{State, Gives, Doing, ◌>>◌, nothing, does}
-use Rattle.mid_code.specs.Sorted.{kinds_of, is_many, is_named, all_differ}
+use Rattle.mid_program.specs.Mid.{Kind, Boxed, Unboxed, Many, Program, Declared, Routine}
+use Rattle.mid_program.specs.MidMeaning.{global_name, routine_name}
+use Rattle.mid_program.specs.Names.{same_name}
+use Rattle.mid_program.specs.ScriptRun.{kind_of, announced, arrays_made}
+use Rattle.mid_program.specs.ScriptState.{State, Gives, Doing, ◌>>◌, nothing, does}
+use Rattle.mid_program.specs.Sorted.{kinds_of, is_many, is_named, all_differ}
 use Rattle.value_machine.specs.Cells.{Cell, Bits, Held, OwnedArray, is_owned}
 use Rattle.value_machine.specs.Emission.{Layout}
 use Rattle.value_machine.specs.Functions.{layout_of, texts_of}

@@ -20,10 +20,10 @@ use Rattle.awk_state.specs.declared.table.Primitive.{Primitive}
 use Rattle.awk_state.specs.declared.table.Primitive.TheVariants as row
 use Rattle.wasm_types.specs.Syntax.{Instructions}
 use Rattle.wasm_store.specs.declared.word.Word.TheVariants.{I32, I64}
-use Rattle.mid_code.specs.Mid.{Kind, Program, Form, Answered}
-use Rattle.mid_code.specs.MidMeaning.{Holds}
-use Rattle.mid_code.specs.ScriptState.{State, Stop, Faulted, Outcome, settled, or_fault}
-use Rattle.mid_code.specs.Sorted.{kinds_of}
+use Rattle.mid_program.specs.Mid.{Kind, Program, Form, Answered}
+use Rattle.mid_program.specs.MidMeaning.{Holds}
+use Rattle.mid_program.specs.ScriptState.{State, Stop, Faulted, Outcome, settled, or_fault}
+use Rattle.mid_program.specs.Sorted.{kinds_of}
 use Rattle.value_machine.specs.Cells.{Cell, Bits, Held, is_owned}
 use Rattle.value_machine.specs.ImportCalls.{Host, Acts, with_some, where_so, row_in, taken, acts, acted, replied, call, primitive_acts, cell_of, fault_cell, input_code, close_code}
 use Rattle.value_machine.specs.ImportCalls

@@ -16,11 +16,11 @@ use Rattle.awk_state.specs.declared.sorts.Sort.TheVariants as sort
 use Rattle.awk_state.proofs.Words.{word_again}
 use Rattle.wasm_types.specs.Syntax.{Instructions}
 use Rattle.wasm_store.specs.declared.word.Word.TheVariants.{I32, I64}
-use Rattle.mid_code.specs.Mid.{Kind, Program, Form, Answered, Bare, Code, Codes, End, At, Fixed, Fresh, form_of}
-use Rattle.mid_code.specs.MidMeaning.{Holds, Values, converted, then_row, or_constant, row_of}
-use Rattle.mid_code.specs.Names.{ArrayName}
-use Rattle.mid_code.specs.ScriptState.{State, settled}
-use Rattle.mid_code.specs.Sorted.{fits, fit_row, is_constant}
+use Rattle.mid_program.specs.Mid.{Kind, Program, Form, Answered, Bare, Code, Codes, End, At, Fixed, Fresh, form_of}
+use Rattle.mid_program.specs.MidMeaning.{Holds, Values, converted, then_row, or_constant, row_of}
+use Rattle.mid_program.specs.Names.{ArrayName}
+use Rattle.mid_program.specs.ScriptState.{State, settled}
+use Rattle.mid_program.specs.Sorted.{fits, fit_row, is_constant}
 use Rattle.value_machine.specs.Cells.{Cell, Bits, Held}
 use Rattle.value_machine.specs.Emission.{array_meant, all_converted, all_pushed, one_pushed}
 use Rattle.value_machine.specs.ImportCalls.{with_some, and_rest, in_sort, row_in}

@@ -5,10 +5,10 @@ use Rattle.std.proofs.lemmas.Bool.{lt-ltb, ltb-true, eq-eqb, or_left, or_right, 
 use Rattle.awk_state.specs.declared.sorts.Sort.TheVariants as sort
 use Rattle.wasm_types.specs.Syntax.{Instructions}
 use Rattle.wasm_store.specs.declared.word.Word.TheVariants.{I32}
-use Rattle.mid_code.specs.Mid.{Kind, Boxed, Unboxed, Many, Program, Declared}
-use Rattle.mid_code.specs.Names.{ArrayName, Numbered, Given}
-use Rattle.mid_code.specs.ScriptState.{State, local_array, global_value}
-use Rattle.mid_code.specs.Sorted.{context_of, is_array_place, has_kind, kinds_of, arrays_among, is_many}
+use Rattle.mid_program.specs.Mid.{Kind, Boxed, Unboxed, Many, Program, Declared}
+use Rattle.mid_program.specs.Names.{ArrayName, Numbered, Given}
+use Rattle.mid_program.specs.ScriptState.{State, local_array, global_value}
+use Rattle.mid_program.specs.Sorted.{context_of, is_array_place, has_kind, kinds_of, arrays_among, is_many}
 use Rattle.value_machine.specs.Cells.{Cell, Bits, OwnedArray, LentArray, left_by, cell_at, has_owner, owns}
 use Rattle.value_machine.specs.Emission.{array_pushed}
 use Rattle.value_machine.specs.Functions.{layout_of}

@@ -17,10 +17,10 @@ use Rattle.wasm_types.specs.Syntax.{Instructions, Done as NoMore}
 use Rattle.wasm_types.specs.declared.instr.Simple.TheVariants.{Br}
 use Rattle.wasm_store.specs.Words.{flag}
 use Rattle.wasm_store.specs.declared.word.Word.TheVariants.{I32, I64}
-use Rattle.mid_code.specs.Meaning.{asked, unless_pending, assign_pending}
-use Rattle.mid_code.specs.Mid.{Kind, Program, Answered}
-use Rattle.mid_code.specs.ScriptState.{State, Stop, OutOfTurns, Gives, Doing, ◌>>◌, go_on, give, stop, spend, settled}
-use Rattle.mid_code.specs.Sorted.{kinds_of}
+use Rattle.mid_program.specs.Meaning.{asked, unless_pending, assign_pending}
+use Rattle.mid_program.specs.Mid.{Kind, Program, Answered}
+use Rattle.mid_program.specs.ScriptState.{State, Stop, OutOfTurns, Gives, Doing, ◌>>◌, go_on, give, stop, spend, settled}
+use Rattle.mid_program.specs.Sorted.{kinds_of}
 use Rattle.value_machine.specs.Cells.{Bits, Held, is_owned}
 use Rattle.value_machine.specs.Emission.{pending_assigned}
 use Rattle.value_machine.specs.ImportCalls.{input_code}

@@ -5,12 +5,12 @@ use Rattle.awk_state.specs.declared.sorts.Answer.TheVariants as answer
 use Rattle.awk_state.specs.declared.sorts.Sort.TheVariants as sort
 use Rattle.awk_state.specs.declared.table.Primitive.TheVariants as row
 use Rattle.wasm_types.specs.Syntax.{Done as NoMore}
-use Rattle.mid_code.specs.Meaning.{asked}
-use Rattle.mid_code.specs.Mid.{Kind, Program, Answered, a_value, a_number, Code, Ask, AskLine, form_of}
-use Rattle.mid_code.specs.MidMeaning.{evaluated, all_evaluated, when_read}
-use Rattle.mid_code.specs.ScriptState.{give, asks}
-use Rattle.mid_code.specs.Sorted.{sorted, all_sorted, held_after, keeps_well, is_dropped, stores_well}
-use Rattle.mid_code.specs.Steps.{input_number}
+use Rattle.mid_program.specs.Meaning.{asked}
+use Rattle.mid_program.specs.Mid.{Kind, Program, Answered, a_value, a_number, Code, Ask, AskLine, form_of}
+use Rattle.mid_program.specs.MidMeaning.{evaluated, all_evaluated, when_read}
+use Rattle.mid_program.specs.ScriptState.{give, asks}
+use Rattle.mid_program.specs.Sorted.{sorted, all_sorted, held_after, keeps_well, is_dropped, stores_well}
+use Rattle.mid_program.specs.Steps.{input_number}
 use Rattle.value_machine.specs.Emission.{emitted, all_emitted, text_kept, text_let_go}
 use Rattle.value_machine.specs.Machine.{Frame}
 use Rattle.value_machine.specs.Places.{Bases}

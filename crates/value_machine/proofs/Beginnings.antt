@@ -7,12 +7,12 @@ use Rattle.awk_state.specs.declared.constants.NameKind.{NameKind}
 use Rattle.awk_state.specs.declared.table.Primitive.TheVariants as row
 use Rattle.wasm_types.specs.Syntax.{Instructions}
 use Rattle.wasm_store.specs.declared.word.Word.TheVariants.{I32, I64}
-use Rattle.mid_code.specs.Mid.{Kind, Boxed, Unboxed, Many, Program, Declared, Routine}
-use Rattle.mid_code.specs.MidMeaning.{global_name, routine_name}
-use Rattle.mid_code.specs.Names.{names_length}
-use Rattle.mid_code.specs.ScriptRun.{Setting, start, announced, arrays_made}
-use Rattle.mid_code.specs.ScriptState.{State, Outcome, Gives, Stops, Doing, ◌>>=◌, ◌>>◌, go_on}
-use Rattle.mid_code.specs.Sorted.{kinds_of, all_differ, announced_names}
+use Rattle.mid_program.specs.Mid.{Kind, Boxed, Unboxed, Many, Program, Declared, Routine}
+use Rattle.mid_program.specs.MidMeaning.{global_name, routine_name}
+use Rattle.mid_program.specs.Names.{names_length}
+use Rattle.mid_program.specs.ScriptRun.{Setting, start, announced, arrays_made}
+use Rattle.mid_program.specs.ScriptState.{State, Outcome, Gives, Stops, Doing, ◌>>=◌, ◌>>◌, go_on}
+use Rattle.mid_program.specs.Sorted.{kinds_of, all_differ, announced_names}
 use Rattle.value_machine.specs.Cells.{Cell, Bits}
 use Rattle.value_machine.specs.Functions.{layout_of}
 use Rattle.value_machine.specs.Machine.{Label, at}

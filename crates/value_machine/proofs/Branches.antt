@@ -5,11 +5,11 @@ use Rattle.std.proofs.lemmas.Bool.{and_parts}
 use Rattle.awk_state.specs.Constants.{flag_number}
 use Rattle.wasm_types.specs.Syntax.{Instructions, Done as NoMore}
 use Rattle.wasm_store.specs.declared.word.Word.TheVariants.{I32}
-use Rattle.mid_code.specs.Mid.{Kind, Program, Code, Step, If, form_of}
-use Rattle.mid_code.specs.MidMeaning.{stepped, all_stepped, holds, mid_called, truth_in}
-use Rattle.mid_code.specs.ScriptState.{State, Stop, Doing}
-use Rattle.mid_code.specs.Sorted.{There, calls_of, sorted, is_tested, test_sorted, step_sorted, steps_sorted}
-use Rattle.mid_code.specs.Statements.{Flow, Normal, Broke, Continued}
+use Rattle.mid_program.specs.Mid.{Kind, Program, Code, Step, If, form_of}
+use Rattle.mid_program.specs.MidMeaning.{stepped, all_stepped, holds, mid_called, truth_in}
+use Rattle.mid_program.specs.ScriptState.{State, Stop, Doing}
+use Rattle.mid_program.specs.Sorted.{There, calls_of, sorted, is_tested, test_sorted, step_sorted, steps_sorted}
+use Rattle.mid_program.specs.Statements.{Flow, Normal, Broke, Continued}
 use Rattle.value_machine.specs.Cells.{Cell, Bits}
 use Rattle.value_machine.specs.Emission.{tested}
 use Rattle.value_machine.specs.Machine.{Conf, Label, Frame, at, label}

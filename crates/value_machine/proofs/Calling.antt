@@ -11,11 +11,11 @@ use Rattle.awk_state.specs.declared.sorts.Sort.TheVariants as sort
 use Rattle.wasm_types.specs.Syntax.{Instructions}
 use Rattle.wasm_types.specs.declared.instr.Simple.TheVariants.{Call as CallOf}
 use Rattle.wasm_store.specs.declared.word.Word.TheVariants.{I64}
-use Rattle.mid_code.specs.Mid.{Kind, Boxed, Unboxed, Many, Program, Routine, Form, Answered, Bare, Perhaps, a_value, Code, Call, Codes, End, At, Fixed, Fresh, form_of, parameters_at}
-use Rattle.mid_code.specs.MidMeaning.{Holds, Values, evaluated, all_evaluated, boxed, array_in, locals_of, mid_called}
-use Rattle.mid_code.specs.Names.{ArrayName}
-use Rattle.mid_code.specs.ScriptState.{State, Stop, Faulted, OutOfTurns, TooDeep, Nexted, Exited, Returned, Outcome, Gives, Stops, Own, Local, Scalar, value_in_local, array_in_local, go_on, spent}
-use Rattle.mid_code.specs.Sorted.{sorted, all_sorted, held_after_all, fits, is_given, fit_call, is_array_place, context_of, calls_of}
+use Rattle.mid_program.specs.Mid.{Kind, Boxed, Unboxed, Many, Program, Routine, Form, Answered, Bare, Perhaps, a_value, Code, Call, Codes, End, At, Fixed, Fresh, form_of, parameters_at}
+use Rattle.mid_program.specs.MidMeaning.{Holds, Values, evaluated, all_evaluated, boxed, array_in, locals_of, mid_called}
+use Rattle.mid_program.specs.Names.{ArrayName}
+use Rattle.mid_program.specs.ScriptState.{State, Stop, Faulted, OutOfTurns, TooDeep, Nexted, Exited, Returned, Outcome, Gives, Stops, Own, Local, Scalar, value_in_local, array_in_local, go_on, spent}
+use Rattle.mid_program.specs.Sorted.{sorted, all_sorted, held_after_all, fits, is_given, fit_call, is_array_place, context_of, calls_of}
 use Rattle.value_machine.specs.Cells.{Cell, Bits, Held, OwnedArray, LentArray, Gone, is_owned, has_owner}
 use Rattle.value_machine.specs.Emission.{array_meant, emitted, all_emitted, all_given, all_given_pushed, all_freed, function_number}
 use Rattle.value_machine.specs.Machine.{Conf, Deep, Label, Frame, at, br, owner_waits}

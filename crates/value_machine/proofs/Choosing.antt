@@ -19,11 +19,11 @@ use Rattle.wasm_types.specs.declared.instr.Simple.TheVariants.{LocalSet, Convert
 use Rattle.wasm_types.specs.declared.instr.CvtOp.TheVariants.{I64ExtendI32U}
 use Rattle.wasm_store.specs.declared.word.Word.TheVariants.{I32, I64}
 use Rattle.wasm_store.specs.Words.{flag}
-use Rattle.mid_code.specs.Mid.{Kind, Program, Form, Answered, Bare, Code, Choose, form_of}
-use Rattle.mid_code.specs.MidMeaning.{Holds, Env, evaluated, all_evaluated, truth_in, converted}
-use Rattle.mid_code.specs.Steps.{zero_number}
-use Rattle.mid_code.specs.ScriptState.{State, Stop, Doing, go_on, settled}
-use Rattle.mid_code.specs.Sorted.{Held as Standing, There, Moved, Misused, either_way, sorted, all_sorted, held_after, is_well_used, is_tested, is_chosen, fits}
+use Rattle.mid_program.specs.Mid.{Kind, Program, Form, Answered, Bare, Code, Choose, form_of}
+use Rattle.mid_program.specs.MidMeaning.{Holds, Env, evaluated, all_evaluated, truth_in, converted}
+use Rattle.mid_program.specs.Steps.{zero_number}
+use Rattle.mid_program.specs.ScriptState.{State, Stop, Doing, go_on, settled}
+use Rattle.mid_program.specs.Sorted.{Held as Standing, There, Moved, Misused, either_way, sorted, all_sorted, held_after, is_well_used, is_tested, is_chosen, fits}
 use Rattle.value_machine.specs.Cells.{Cell, Bits, Held}
 use Rattle.value_machine.specs.Emission.{emitted, all_emitted}
 use Rattle.value_machine.specs.Machine.{Conf, Label, Frame, at, label}

@@ -1,7 +1,7 @@
 -- The machine shows what a program does, for every well-sorted program.
 use Rattle.std.proofs.Common.{ℕ, ◌+◌, ◌*◌, length, refl, arith}
-use Rattle.mid_code.specs.Mid.{Program}
-use Rattle.mid_code.specs.Sorted.{IsSorted, kinds_of}
+use Rattle.mid_program.specs.Mid.{Program}
+use Rattle.mid_program.specs.Sorted.{IsSorted, kinds_of}
 use Rattle.value_machine.specs.Follows.{EmissionFollows}
 use Rattle.value_machine.specs.Functions.{main_bases}
 use Rattle.value_machine.proofs.Recursion.{exprs_do}

@@ -20,11 +20,11 @@ use Rattle.wasm_types.specs.declared.instr.CvtOp.TheVariants.{I64ExtendI32U}
 use Rattle.wasm_types.specs.declared.instr.Simple.TheVariants.{LocalGet, LocalSet, I32Const, Convert, Compare as Comparing}
 use Rattle.wasm_store.specs.Words.{flag}
 use Rattle.wasm_store.specs.declared.word.Word.TheVariants.{I32, I64}
-use Rattle.mid_code.specs.Mid.{Kind, Program, Form, Answered, Bare, Perhaps, a_value, Code, Compare, Codes, At, End, form_of}
-use Rattle.mid_code.specs.MidMeaning.{Holds, evaluated, all_evaluated, boxed}
-use Rattle.mid_code.specs.Steps.{zero_number, truth_number}
-use Rattle.mid_code.specs.ScriptState.{State, Outcome, Gives, Stops, Doing, go_on, give, settled}
-use Rattle.mid_code.specs.Sorted.{sorted, all_sorted, fits}
+use Rattle.mid_program.specs.Mid.{Kind, Program, Form, Answered, Bare, Perhaps, a_value, Code, Compare, Codes, At, End, form_of}
+use Rattle.mid_program.specs.MidMeaning.{Holds, evaluated, all_evaluated, boxed}
+use Rattle.mid_program.specs.Steps.{zero_number, truth_number}
+use Rattle.mid_program.specs.ScriptState.{State, Outcome, Gives, Stops, Doing, go_on, give, settled}
+use Rattle.mid_program.specs.Sorted.{sorted, all_sorted, fits}
 use Rattle.value_machine.specs.Arithmetic.{relation, is_value, may_be_text, values_compared, numbers_compared, texts_beside, zeroed_if, bare_compared, compared}
 use Rattle.value_machine.specs.Cells.{Bits, Held}
 use Rattle.value_machine.specs.Emission.{emitted, all_emitted}

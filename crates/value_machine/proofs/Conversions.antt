@@ -20,9 +20,9 @@ use Rattle.wasm_types.specs.declared.instr.CvtOp.TheVariants.{I64ExtendI32S}
 use Rattle.wasm_types.specs.declared.types.ValType.TheVariants as ty
 use Rattle.wasm_store.specs.declared.word.Word.TheVariants.{I32, I64}
 use Rattle.wasm_store.specs.Words.{flag}
-use Rattle.mid_code.specs.Mid.{Kind, Program}
-use Rattle.mid_code.specs.Steps.{zero_number}
-use Rattle.mid_code.specs.ScriptState.{State, Faulted}
+use Rattle.mid_program.specs.Mid.{Kind, Program}
+use Rattle.mid_program.specs.Steps.{zero_number}
+use Rattle.mid_program.specs.ScriptState.{State, Faulted}
 use Rattle.value_machine.specs.Cells.{Cell, Bits, Held, is_owned}
 use Rattle.value_machine.specs.ImportCalls.{with_some, and_rest, row_in}
 use Rattle.value_machine.specs.Machine.{Label, Frame, at, go}

@@ -17,11 +17,11 @@ use Rattle.wasm_types.specs.Syntax.{Instructions, Done}
 use Rattle.wasm_types.specs.declared.instr.Simple.TheVariants.{LocalSet}
 use Rattle.wasm_store.specs.declared.word.Word.TheVariants.{I64}
 use Rattle.wasm_store.specs.Words.{flag}
-use Rattle.mid_code.specs.Mid.{Kind, Program, Form, Answered, Bare, Perhaps}
-use Rattle.mid_code.specs.MidMeaning.{Holds, converted, boxed}
-use Rattle.mid_code.specs.Sorted.{fits}
-use Rattle.mid_code.specs.Steps.{zero_number, one_number, minus_one, numeric, truth_number}
-use Rattle.mid_code.specs.ScriptState.{State, Faulted, Outcome, Gives, settled}
+use Rattle.mid_program.specs.Mid.{Kind, Program, Form, Answered, Bare, Perhaps}
+use Rattle.mid_program.specs.MidMeaning.{Holds, converted, boxed}
+use Rattle.mid_program.specs.Sorted.{fits}
+use Rattle.mid_program.specs.Steps.{zero_number, one_number, minus_one, numeric, truth_number}
+use Rattle.mid_program.specs.ScriptState.{State, Faulted, Outcome, Gives, settled}
 use Rattle.value_machine.specs.Cells.{Cell, Bits, Held, is_owned}
 use Rattle.value_machine.specs.Machine.{Code, Conf, Label, Frame, at, br, label}
 use Rattle.value_machine.specs.Places.{Bases}

@@ -9,9 +9,9 @@ use Rattle.wasm_types.specs.declared.types.ValType.TheVariants as ty
 use Rattle.wasm_types.specs.declared.instr.IRelOp.TheVariants.{Ne}
 use Rattle.wasm_types.specs.declared.instr.Simple.TheVariants.{LocalGet, LocalSet, GlobalGet, GlobalSet, I32Const, Compare}
 use Rattle.wasm_store.specs.Words.{flag}
-use Rattle.mid_code.specs.Mid.{Kind, Program}
-use Rattle.mid_code.specs.Sorted.{kinds_of}
-use Rattle.mid_code.specs.ScriptState.{State}
+use Rattle.mid_program.specs.Mid.{Kind, Program}
+use Rattle.mid_program.specs.Sorted.{kinds_of}
+use Rattle.mid_program.specs.ScriptState.{State}
 use Rattle.value_machine.specs.Cells.{Cell, Bits, Held, Gone, is_owned, cell_at}
 use Rattle.value_machine.specs.ImportCalls.{Host}
 use Rattle.value_machine.specs.Machine.{Look, Label, Frame, at, label, ask_looking, with_operands, push_word, looked_compared}

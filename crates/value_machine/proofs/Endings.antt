@@ -10,10 +10,10 @@ use Rattle.wasm_types.specs.Syntax.{Instructions, Done}
 use Rattle.wasm_types.specs.declared.instr.Simple.TheVariants.{GlobalGet, Convert}
 use Rattle.wasm_types.specs.declared.instr.CvtOp.TheVariants.{I32WrapI64}
 use Rattle.wasm_store.specs.declared.word.Word.TheVariants.{I32, I64}
-use Rattle.mid_code.specs.Mid.{Kind, Boxed, Unboxed, Many, Program}
-use Rattle.mid_code.specs.ScriptRun.{Setting, Ended, ending}
-use Rattle.mid_code.specs.ScriptState.{State, Faulted, OutOfTurns, TooDeep, Nexted, Exited, Returned, Outcome, Gives, Stops}
-use Rattle.mid_code.specs.Sorted.{kinds_of}
+use Rattle.mid_program.specs.Mid.{Kind, Boxed, Unboxed, Many, Program}
+use Rattle.mid_program.specs.ScriptRun.{Setting, Ended, ending}
+use Rattle.mid_program.specs.ScriptState.{State, Faulted, OutOfTurns, TooDeep, Nexted, Exited, Returned, Outcome, Gives, Stops}
+use Rattle.mid_program.specs.Sorted.{kinds_of}
 use Rattle.value_machine.specs.Cells.{Bits, is_owned, none_owned, ended_name, globals_by}
 use Rattle.value_machine.specs.Follows.{Shown}
 use Rattle.value_machine.specs.Functions.{layout_of}

@@ -4,8 +4,8 @@ use Rattle.std.specs.Prelude.{◌&&◌, not}
 use Rattle.std.proofs.lemmas.Bool.{cases_eq}
 use Rattle.wasm_types.specs.Syntax.{Instructions, Done}
 use Rattle.wasm_types.specs.declared.instr.Simple.TheVariants.{LocalGet}
-use Rattle.mid_code.specs.Mid.{Kind, Boxed, Unboxed, Many, Program}
-use Rattle.mid_code.specs.Sorted.{has_kind}
+use Rattle.mid_program.specs.Mid.{Kind, Boxed, Unboxed, Many, Program}
+use Rattle.mid_program.specs.Sorted.{has_kind}
 use Rattle.value_machine.specs.Cells.{Cell, Held, Gone, is_owned, left_by, none_owned}
 use Rattle.value_machine.specs.Emission.{Layout}
 use Rattle.value_machine.specs.Functions.{layout_of}

@@ -8,11 +8,11 @@ use Rattle.awk_state.specs.Table.{arguments_of, answer_of, can_fault, meaning}
 use Rattle.awk_state.specs.declared.table.Primitive.{Primitive}
 use Rattle.awk_state.proofs.Words.{number_again}
 use Rattle.wasm_types.specs.Syntax.{Instructions}
-use Rattle.mid_code.specs.declared.mid.Operation.TheVariants.{Host}
-use Rattle.mid_code.specs.Mid.{Kind, Program, Form, Answered, Code, Do, Codes, form_of}
-use Rattle.mid_code.specs.MidMeaning.{Holds, Env, evaluated, all_evaluated, or_zero}
-use Rattle.mid_code.specs.ScriptState.{State, does, or_fault}
-use Rattle.mid_code.specs.Sorted.{Held as Standing, sorted, all_sorted, held_after, is_operation, fit_row}
+use Rattle.mid_program.specs.declared.mid.Operation.TheVariants.{Host}
+use Rattle.mid_program.specs.Mid.{Kind, Program, Form, Answered, Code, Do, Codes, form_of}
+use Rattle.mid_program.specs.MidMeaning.{Holds, Env, evaluated, all_evaluated, or_zero}
+use Rattle.mid_program.specs.ScriptState.{State, does, or_fault}
+use Rattle.mid_program.specs.Sorted.{Held as Standing, sorted, all_sorted, held_after, is_operation, fit_row}
 use Rattle.value_machine.specs.Emission.{array_meant, emitted, all_emitted}
 use Rattle.value_machine.specs.Machine.{Conf, Label, Frame}
 use Rattle.value_machine.specs.Places.{Bases}

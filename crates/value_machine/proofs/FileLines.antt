@@ -11,10 +11,10 @@ use Rattle.awk_state.specs.declared.sorts.Answer.TheVariants as answer
 use Rattle.awk_state.specs.declared.sorts.Sort.TheVariants as sort
 use Rattle.awk_state.specs.declared.table.Primitive.TheVariants as row
 use Rattle.wasm_types.specs.Syntax.{Done as NoMore}
-use Rattle.mid_code.specs.Mid.{Kind, Program, Answered, a_value, Code, FileLine, form_of}
-use Rattle.mid_code.specs.MidMeaning.{evaluated, all_evaluated, boxed, when_read}
-use Rattle.mid_code.specs.ScriptState.{go_on, does}
-use Rattle.mid_code.specs.Sorted.{Held as Standing, sorted, all_sorted, held_after, fits, keeps_well, is_dropped, stores_well}
+use Rattle.mid_program.specs.Mid.{Kind, Program, Answered, a_value, Code, FileLine, form_of}
+use Rattle.mid_program.specs.MidMeaning.{evaluated, all_evaluated, boxed, when_read}
+use Rattle.mid_program.specs.ScriptState.{go_on, does}
+use Rattle.mid_program.specs.Sorted.{Held as Standing, sorted, all_sorted, held_after, fits, keeps_well, is_dropped, stores_well}
 use Rattle.value_machine.specs.Cells.{Held}
 use Rattle.value_machine.specs.Emission.{emitted, all_emitted, text_kept, text_let_go}
 use Rattle.value_machine.specs.Machine.{Frame}

@@ -3,10 +3,10 @@ use Rattle.std.proofs.Common.{◌≡◌, ℕ, suc, ◌+◌, ◌<◌, ◌≤◌, 
 use Rattle.std.specs.Prelude.{T, ◌&&◌}
 use Rattle.std.proofs.lemmas.Bool.{and_parts}
 use Rattle.awk_state.specs.Jobs.{fault_of_job}
-use Rattle.mid_code.specs.Mid.{Kind, Program, Code}
-use Rattle.mid_code.specs.MidMeaning.{routine_at}
-use Rattle.mid_code.specs.ScriptRun.{unless}
-use Rattle.mid_code.specs.Sorted.{IsSorted, is_sorted, all_differ, announced_names, routines_sorted, parts_sorted, steps_sorted, context_of, kinds_of}
+use Rattle.mid_program.specs.Mid.{Kind, Program, Code}
+use Rattle.mid_program.specs.MidMeaning.{routine_at}
+use Rattle.mid_program.specs.ScriptRun.{unless}
+use Rattle.mid_program.specs.Sorted.{IsSorted, is_sorted, all_differ, announced_names, routines_sorted, parts_sorted, steps_sorted, context_of, kinds_of}
 use Rattle.value_machine.specs.Follows.{Follows, EmissionFollows}
 use Rattle.value_machine.specs.Functions.{main_bases}
 use Rattle.value_machine.specs.Machine.{Frame}

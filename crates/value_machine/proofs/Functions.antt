@@ -11,11 +11,11 @@ use Rattle.wasm_types.specs.Syntax.{Instructions, Done}
 use Rattle.wasm_types.specs.declared.types.ValType.{ValType}
 use Rattle.wasm_types.specs.declared.instr.Simple.TheVariants.{Call, LocalGet, LocalSet}
 use Rattle.wasm_store.specs.declared.word.Word.TheVariants.{I32, I64}
-use Rattle.mid_code.specs.Mid.{Kind, Program, Routine, Code, Steps}
-use Rattle.mid_code.specs.MidMeaning.{mid_called, no_routine, routine_at, all_stepped}
-use Rattle.mid_code.specs.ScriptState.{State, Own, Local, Scalar, Stop, Faulted, OutOfTurns, TooDeep, Nexted, Exited, Returned, Outcome, Gives, Stops, ◌>>◌, spend}
-use Rattle.mid_code.specs.Sorted.{has_kind, calls_of, routines_sorted, steps_sorted, context_of}
-use Rattle.mid_code.specs.Statements.{Flow, Normal, Broke, Continued, returned, entered_with}
+use Rattle.mid_program.specs.Mid.{Kind, Program, Routine, Code, Steps}
+use Rattle.mid_program.specs.MidMeaning.{mid_called, no_routine, routine_at, all_stepped}
+use Rattle.mid_program.specs.ScriptState.{State, Own, Local, Scalar, Stop, Faulted, OutOfTurns, TooDeep, Nexted, Exited, Returned, Outcome, Gives, Stops, ◌>>◌, spend}
+use Rattle.mid_program.specs.Sorted.{has_kind, calls_of, routines_sorted, steps_sorted, context_of}
+use Rattle.mid_program.specs.Statements.{Flow, Normal, Broke, Continued, returned, entered_with}
 use Rattle.value_machine.specs.Cells.{Cell, Bits, Held, Gone, is_owned, none_owned}
 use Rattle.value_machine.specs.Emission.{function_number}
 use Rattle.value_machine.specs.Functions.{layout_of, routine_bases, routine_callee}

@@ -3,7 +3,7 @@ use Rattle.std.proofs.Common.{◌≡◌, ℕ, true, false, List, ◌∷◌, ap, 
 use Rattle.std.specs.Prelude.{set, not, ◌&&◌}
 use Rattle.wasm_types.specs.Syntax.{Instructions}
 use Rattle.wasm_types.specs.declared.instr.Simple.TheVariants.{GlobalGet, GlobalSet}
-use Rattle.mid_code.specs.Mid.{Kind}
+use Rattle.mid_program.specs.Mid.{Kind}
 use Rattle.value_machine.specs.Cells.{Cell, is_owned, read_global, left_in_global, has_room}
 use Rattle.value_machine.specs.ImportCalls.{Host}
 use Rattle.value_machine.specs.Machine.{Code, Label, Frame, Store, at, guarded}

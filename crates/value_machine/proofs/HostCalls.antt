@@ -13,11 +13,11 @@ use Rattle.awk_state.specs.declared.sorts.Sort.TheVariants as sort
 use Rattle.awk_state.specs.declared.table.Primitive.{Primitive}
 use Rattle.awk_state.specs.declared.table.Primitive.TheVariants as row
 use Rattle.wasm_types.specs.Syntax.{Instructions}
-use Rattle.mid_code.specs.Mid.{Kind, Program, Form, Answered, Codes, End, At, Fixed, Fresh}
-use Rattle.mid_code.specs.MidMeaning.{Env, row_of}
-use Rattle.mid_code.specs.Names.{ArrayName}
-use Rattle.mid_code.specs.ScriptState.{State, Doing, go_on, settled, does}
-use Rattle.mid_code.specs.Sorted.{Held as Standing, all_sorted, held_after_all, is_operation, fit_row}
+use Rattle.mid_program.specs.Mid.{Kind, Program, Form, Answered, Codes, End, At, Fixed, Fresh}
+use Rattle.mid_program.specs.MidMeaning.{Env, row_of}
+use Rattle.mid_program.specs.Names.{ArrayName}
+use Rattle.mid_program.specs.ScriptState.{State, Doing, go_on, settled, does}
+use Rattle.mid_program.specs.Sorted.{Held as Standing, all_sorted, held_after_all, is_operation, fit_row}
 use Rattle.value_machine.specs.Emission.{all_emitted, all_converted, all_pushed}
 use Rattle.value_machine.specs.Machine.{Conf, Label, Frame, at}
 use Rattle.value_machine.specs.Places.{Bases, rooms, arrays_among}

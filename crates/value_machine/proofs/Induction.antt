@@ -1,8 +1,8 @@
 -- All expressions do what they mean, if calls do, and if a turn pays for an assignment of the command line (`Rest`).
 use Rattle.std.proofs.Common.{◌≤◌}
 use Rattle.std.specs.Prelude.{ℕ, true, false, List}
-use Rattle.mid_code.specs.declared.mid.Operation.TheVariants.{Host, Inline, AsNumber, FieldNumber}
-use Rattle.mid_code.specs.Mid.{Kind, Program, Global, Parameter, Code, Do, Over, Compare, Call, Ask, AskLine, FileLine, Replace, Number, Text, Unset, Get, Set, Array, IsOpen, Choose, Seq, Let, Bound, Codes, End, At, Fixed, Fresh}
+use Rattle.mid_program.specs.declared.mid.Operation.TheVariants.{Host, Inline, AsNumber, FieldNumber}
+use Rattle.mid_program.specs.Mid.{Kind, Program, Global, Parameter, Code, Do, Over, Compare, Call, Ask, AskLine, FileLine, Replace, Number, Text, Unset, Get, Set, Array, IsOpen, Choose, Seq, Let, Bound, Codes, End, At, Fixed, Fresh}
 use Rattle.value_machine.specs.Machine.{Frame}
 use Rattle.value_machine.specs.Places.{Bases}
 use Rattle.value_machine.proofs.Simulation.{ExprOk, CodesOk}

@@ -23,13 +23,13 @@ use Rattle.wasm_store.specs.Integers.{binary_at, quotient_signed, remainder_sign
 use Rattle.wasm_store.specs.Words.{flag, given_by}
 use Rattle.wasm_store.specs.declared.trap.TrapKind.TheVariants.{DivideByZero, IntegerOverflow}
 use Rattle.wasm_store.specs.declared.word.Word.TheVariants.{I32, I64}
-use Rattle.mid_code.specs.declared.mid.Arithmetic.{Arithmetic}
-use Rattle.mid_code.specs.declared.mid.Arithmetic.TheVariants as inline
-use Rattle.mid_code.specs.declared.mid.Operation.TheVariants.{Inline}
-use Rattle.mid_code.specs.Mid.{Kind, Program, a_number, Do, Codes, End, At, Fixed, Fresh}
-use Rattle.mid_code.specs.MidMeaning.{evaluated, all_evaluated, arithmetic_of}
-use Rattle.mid_code.specs.ScriptState.{State, Faulted, settled}
-use Rattle.mid_code.specs.Sorted.{sorted, all_sorted, fit_row}
+use Rattle.mid_program.specs.declared.mid.Arithmetic.{Arithmetic}
+use Rattle.mid_program.specs.declared.mid.Arithmetic.TheVariants as inline
+use Rattle.mid_program.specs.declared.mid.Operation.TheVariants.{Inline}
+use Rattle.mid_program.specs.Mid.{Kind, Program, a_number, Do, Codes, End, At, Fixed, Fresh}
+use Rattle.mid_program.specs.MidMeaning.{evaluated, all_evaluated, arithmetic_of}
+use Rattle.mid_program.specs.ScriptState.{State, Faulted, settled}
+use Rattle.mid_program.specs.Sorted.{sorted, all_sorted, fit_row}
 use Rattle.value_machine.specs.Arithmetic.{out_of_range, two_numbers, ranged, times, unless_zero, unless_broken, divided, calculated}
 use Rattle.value_machine.specs.Cells.{Cell, Bits}
 use Rattle.value_machine.specs.Emission.{emitted, all_emitted}

@@ -9,11 +9,11 @@ use Rattle.awk_state.specs.declared.sorts.Sort.TheVariants as sort
 use Rattle.wasm_types.specs.Syntax.{Instructions}
 use Rattle.wasm_types.specs.declared.instr.Simple.TheVariants.{Br, LocalGet, LocalSet, GlobalSet}
 use Rattle.wasm_store.specs.declared.word.Word.TheVariants.{I32, I64}
-use Rattle.mid_code.specs.Mid.{Kind, Program, Answered, Code, Break, Continue, Next, Exit, ExitWith, Return, Mark, form_of}
-use Rattle.mid_code.specs.MidMeaning.{stepped, all_stepped, numbered, converted}
-use Rattle.mid_code.specs.ScriptState.{State, Nexted, Exited, Returned, go_on, settled, stop, changed, with_range}
-use Rattle.mid_code.specs.Sorted.{There, sorted, fits, kinds_of, step_sorted, steps_sorted}
-use Rattle.mid_code.specs.Statements.{Flow, Normal, Broke, Continued, with_status}
+use Rattle.mid_program.specs.Mid.{Kind, Program, Answered, Code, Break, Continue, Next, Exit, ExitWith, Return, Mark, form_of}
+use Rattle.mid_program.specs.MidMeaning.{stepped, all_stepped, numbered, converted}
+use Rattle.mid_program.specs.ScriptState.{State, Nexted, Exited, Returned, go_on, settled, stop, changed, with_range}
+use Rattle.mid_program.specs.Sorted.{There, sorted, fits, kinds_of, step_sorted, steps_sorted}
+use Rattle.mid_program.specs.Statements.{Flow, Normal, Broke, Continued, with_status}
 use Rattle.value_machine.specs.Cells.{Cell, Bits, Held, is_owned}
 use Rattle.value_machine.specs.Machine.{Conf, Label, Frame, at, br}
 use Rattle.value_machine.specs.Places.{Bases, answer_local, status_global}

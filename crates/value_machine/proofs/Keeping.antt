@@ -5,10 +5,10 @@ use Rattle.std.proofs.lemmas.Bool.{and_parts}
 use Rattle.awk_state.specs.declared.sorts.Answer.TheVariants as answer
 use Rattle.awk_state.specs.declared.sorts.Sort.TheVariants as sort
 use Rattle.wasm_types.specs.Syntax.{Instructions}
-use Rattle.mid_code.specs.Mid.{Kind, Program, Form, Answered, Bare, Code, Set, Seq, Let, form_of, form_at}
-use Rattle.mid_code.specs.MidMeaning.{Holds, Env, evaluated, all_evaluated}
-use Rattle.mid_code.specs.ScriptState.{State}
-use Rattle.mid_code.specs.Sorted.{Held as Standing, There, Moved, Misused, sorted, all_sorted, held_after, is_well_used, is_dropped, is_kept, keeps_well}
+use Rattle.mid_program.specs.Mid.{Kind, Program, Form, Answered, Bare, Code, Set, Seq, Let, form_of, form_at}
+use Rattle.mid_program.specs.MidMeaning.{Holds, Env, evaluated, all_evaluated}
+use Rattle.mid_program.specs.ScriptState.{State}
+use Rattle.mid_program.specs.Sorted.{Held as Standing, There, Moved, Misused, sorted, all_sorted, held_after, is_well_used, is_dropped, is_kept, keeps_well}
 use Rattle.value_machine.specs.Cells.{Cell, Bits, Held, IteratorOf, OwnedArray, LentArray, Gone, is_owned, left_by}
 use Rattle.value_machine.specs.Emission.{emitted, all_emitted, left_over}
 use Rattle.value_machine.specs.Machine.{Conf, Label, Frame, at}

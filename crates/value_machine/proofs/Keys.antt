@@ -9,13 +9,13 @@ use Rattle.wasm_types.specs.Syntax.{Instructions, Done as NoMore}
 use Rattle.wasm_types.specs.declared.types.ValType.TheVariants.{I32}
 use Rattle.wasm_types.specs.declared.instr.Simple.TheVariants.{Br, BrIf, LocalGet, LocalSet, LocalTee, I32Const, Compare}
 use Rattle.wasm_types.specs.declared.instr.IRelOp.TheVariants.{Eq}
-use Rattle.mid_code.specs.Mid.{Kind, Program, Code, Step, Each, a_value, form_of, form_at}
-use Rattle.mid_code.specs.MidMeaning.{stepped, all_stepped, keyed, mid_called}
-use Rattle.mid_code.specs.Names.{ArrayName, Numbered, Given}
-use Rattle.mid_code.specs.ScriptState.{State, Stop, Gives, Doing, ◌>>=◌, does, go_on}
-use Rattle.mid_code.specs.Sorted.{There, calls_of, sorted, stores_well, keeps_well, is_dropped, is_well_used, held_after, is_array_place, step_sorted, steps_sorted}
-use Rattle.mid_code.specs.Statements.{Flow, Normal, Broke, Continued, at_key, after_round, over_keys}
-use Rattle.mid_code.specs.Steps.{array_number}
+use Rattle.mid_program.specs.Mid.{Kind, Program, Code, Step, Each, a_value, form_of, form_at}
+use Rattle.mid_program.specs.MidMeaning.{stepped, all_stepped, keyed, mid_called}
+use Rattle.mid_program.specs.Names.{ArrayName, Numbered, Given}
+use Rattle.mid_program.specs.ScriptState.{State, Stop, Gives, Doing, ◌>>=◌, does, go_on}
+use Rattle.mid_program.specs.Sorted.{There, calls_of, sorted, stores_well, keeps_well, is_dropped, is_well_used, held_after, is_array_place, step_sorted, steps_sorted}
+use Rattle.mid_program.specs.Statements.{Flow, Normal, Broke, Continued, at_key, after_round, over_keys}
+use Rattle.mid_program.specs.Steps.{array_number}
 use Rattle.value_machine.specs.Cells.{Cell, Bits, Held, IteratorOf, Gone, is_owned}
 use Rattle.value_machine.specs.Emission.{dropped, left_over}
 use Rattle.value_machine.specs.ImportCalls.{key_or_end, end_word, with_some, and_rest, row_in}

@@ -8,11 +8,11 @@ use Rattle.awk_state.specs.Numbers.{number_of}
 use Rattle.awk_state.specs.declared.sorts.Answer.TheVariants as answer
 use Rattle.awk_state.specs.declared.sorts.Sort.TheVariants as sort
 use Rattle.wasm_store.specs.declared.word.Word.TheVariants.{I32, I64}
-use Rattle.mid_code.specs.Mid.{Kind, Program, Answered, Perhaps, Number, Unset, Array, IsOpen}
-use Rattle.mid_code.specs.MidMeaning.{evaluated, all_evaluated, or_zero}
-use Rattle.mid_code.specs.Names.{ArrayName, Numbered, Given}
-use Rattle.mid_code.specs.ScriptState.{local_array}
-use Rattle.mid_code.specs.Sorted.{sorted, all_sorted, kinds_of}
+use Rattle.mid_program.specs.Mid.{Kind, Program, Answered, Perhaps, Number, Unset, Array, IsOpen}
+use Rattle.mid_program.specs.MidMeaning.{evaluated, all_evaluated, or_zero}
+use Rattle.mid_program.specs.Names.{ArrayName, Numbered, Given}
+use Rattle.mid_program.specs.ScriptState.{local_array}
+use Rattle.mid_program.specs.Sorted.{sorted, all_sorted, kinds_of}
 use Rattle.value_machine.specs.Cells.{Bits}
 use Rattle.value_machine.specs.Emission.{emitted, all_emitted}
 use Rattle.value_machine.specs.Machine.{Frame}

@@ -20,11 +20,11 @@ use Rattle.awk_state.specs.declared.table.Listed.TheVariants as listed
 use Rattle.awk_state.proofs.Words.{constant_again}
 use Rattle.wasm_types.specs.Syntax.{Instructions}
 use Rattle.wasm_store.specs.declared.word.Word.TheVariants.{I32}
-use Rattle.mid_code.specs.Mid.{Kind, Program, Form, Answered, Code, Over, Codes, End, At, Fixed, Fresh, form_of}
-use Rattle.mid_code.specs.MidMeaning.{Values, evaluated, all_evaluated, boxed, listing}
-use Rattle.mid_code.specs.Names.{ArrayName}
-use Rattle.mid_code.specs.ScriptState.{State}
-use Rattle.mid_code.specs.Sorted.{sorted, all_sorted, held_after_all, fits, all_values, are_enough, count_of}
+use Rattle.mid_program.specs.Mid.{Kind, Program, Form, Answered, Code, Over, Codes, End, At, Fixed, Fresh, form_of}
+use Rattle.mid_program.specs.MidMeaning.{Values, evaluated, all_evaluated, boxed, listing}
+use Rattle.mid_program.specs.Names.{ArrayName}
+use Rattle.mid_program.specs.ScriptState.{State}
+use Rattle.mid_program.specs.Sorted.{sorted, all_sorted, held_after_all, fits, all_values, are_enough, count_of}
 use Rattle.value_machine.specs.Cells.{Cell, Bits, Held}
 use Rattle.value_machine.specs.Emission.{emitted, all_emitted, all_boxed, all_appended, listed_asked, values_counted}
 use Rattle.value_machine.specs.ImportCalls.{Host, Acts, with_some, and_rest, row_in, acted, replied, listed_acts, last_of, before_last_of, where_so}

@@ -6,12 +6,12 @@ use Rattle.wasm_types.specs.Syntax.{Instructions, Done as NoMore}
 use Rattle.wasm_types.specs.declared.types.ValType.TheVariants.{I32}
 use Rattle.wasm_types.specs.declared.instr.Simple.TheVariants.{Nop, Br, BrIf, Test}
 use Rattle.wasm_types.specs.declared.instr.ITestOp.TheVariants.{Eqz}
-use Rattle.mid_code.specs.Mid.{Kind, Program, Code, Step, Loop}
-use Rattle.mid_code.specs.MidMeaning.{stepped, all_stepped}
-use Rattle.mid_code.specs.ScriptRun.{GoesOn}
-use Rattle.mid_code.specs.ScriptState.{State, Stop, Outcome, Doing, ◌>>◌, nothing, give, go_on}
-use Rattle.mid_code.specs.Sorted.{test_sorted, step_sorted, steps_sorted}
-use Rattle.mid_code.specs.Statements.{Flow, Normal, Broke, Continued, after_round, loop}
+use Rattle.mid_program.specs.Mid.{Kind, Program, Code, Step, Loop}
+use Rattle.mid_program.specs.MidMeaning.{stepped, all_stepped}
+use Rattle.mid_program.specs.ScriptRun.{GoesOn}
+use Rattle.mid_program.specs.ScriptState.{State, Stop, Outcome, Doing, ◌>>◌, nothing, give, go_on}
+use Rattle.mid_program.specs.Sorted.{test_sorted, step_sorted, steps_sorted}
+use Rattle.mid_program.specs.Statements.{Flow, Normal, Broke, Continued, after_round, loop}
 use Rattle.value_machine.specs.Emission.{tested}
 use Rattle.value_machine.specs.Machine.{Conf, Label, Frame, at, label, ending_at, is_walk, loops_walked}
 use Rattle.value_machine.specs.Places.{Bases, step_room, step_iterators, step_arrays}

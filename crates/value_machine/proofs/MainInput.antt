@@ -14,11 +14,11 @@ use Rattle.awk_state.specs.declared.sorts.Answer.TheVariants as answer
 use Rattle.awk_state.specs.declared.table.Primitive.TheVariants as row
 use Rattle.wasm_types.specs.Syntax.{Instructions}
 use Rattle.wasm_store.specs.declared.word.Word.TheVariants.{I64}
-use Rattle.mid_code.specs.Meaning.{assign_pending}
-use Rattle.mid_code.specs.Mid.{Program}
-use Rattle.mid_code.specs.ScriptRun.{first_assigned, on_assignment}
-use Rattle.mid_code.specs.ScriptState.{State, Stop, Faulted, OutOfTurns, TooDeep, Nexted, Exited, Returned, Outcome, Gives, Stops, Doing, ◌>>◌, go_on, give, nothing, stop, spend, spend_all, spent, settled, asks, does}
-use Rattle.mid_code.specs.Sorted.{kinds_of}
+use Rattle.mid_program.specs.Meaning.{assign_pending}
+use Rattle.mid_program.specs.Mid.{Program}
+use Rattle.mid_program.specs.ScriptRun.{first_assigned, on_assignment}
+use Rattle.mid_program.specs.ScriptState.{State, Stop, Faulted, OutOfTurns, TooDeep, Nexted, Exited, Returned, Outcome, Gives, Stops, Doing, ◌>>◌, go_on, give, nothing, stop, spend, spend_all, spent, settled, asks, does}
+use Rattle.mid_program.specs.Sorted.{kinds_of}
 use Rattle.value_machine.specs.Cells.{Bits, Held}
 use Rattle.value_machine.specs.Emission.{asked, pending_assigned}
 use Rattle.value_machine.specs.Functions.{layout_of}

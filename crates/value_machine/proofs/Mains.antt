@@ -4,11 +4,11 @@ use Rattle.std.specs.Prelude.{if◌then◌else◌}
 use Rattle.awk_state.specs.declared.table.Primitive.TheVariants as row
 use Rattle.wasm_types.specs.Syntax.{Instructions, Done}
 use Rattle.wasm_types.specs.declared.instr.Simple.TheVariants.{Br}
-use Rattle.mid_code.specs.Mid.{Program, Code, Steps}
-use Rattle.mid_code.specs.MidMeaning.{mid_done, mid_called}
-use Rattle.mid_code.specs.ScriptRun.{first_assigned, records_done, part}
-use Rattle.mid_code.specs.ScriptState.{State, Stop, Faulted, OutOfTurns, TooDeep, Nexted, Exited, Returned, Outcome, Gives, Stops, Doing, ◌>>=◌, ◌>>◌, does, nothing}
-use Rattle.mid_code.specs.Sorted.{calls_of, context_of, steps_sorted}
+use Rattle.mid_program.specs.Mid.{Program, Code, Steps}
+use Rattle.mid_program.specs.MidMeaning.{mid_done, mid_called}
+use Rattle.mid_program.specs.ScriptRun.{first_assigned, records_done, part}
+use Rattle.mid_program.specs.ScriptState.{State, Stop, Faulted, OutOfTurns, TooDeep, Nexted, Exited, Returned, Outcome, Gives, Stops, Doing, ◌>>=◌, ◌>>◌, does, nothing}
+use Rattle.mid_program.specs.Sorted.{calls_of, context_of, steps_sorted}
 use Rattle.value_machine.specs.Emission.{asked}
 use Rattle.value_machine.specs.Functions.{layout_of}
 use Rattle.value_machine.specs.Machine.{Conf, Label, at, label, ending_at}

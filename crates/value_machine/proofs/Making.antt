@@ -1,10 +1,10 @@
 -- Arrays that are made for calls; texts of the script; operands made numbers.
 use Rattle.std.proofs.Common.{inr, ℕ, suc, List, [], length, refl, ap, ◌∙◌, arith}
 use Rattle.awk_state.specs.declared.table.Primitive.TheVariants as row
-use Rattle.mid_code.specs.Mid.{Kind, Program, Codes, Fresh}
-use Rattle.mid_code.specs.MidMeaning.{evaluated, all_evaluated}
-use Rattle.mid_code.specs.ScriptState.{State}
-use Rattle.mid_code.specs.Sorted.{sorted, all_sorted}
+use Rattle.mid_program.specs.Mid.{Kind, Program, Codes, Fresh}
+use Rattle.mid_program.specs.MidMeaning.{evaluated, all_evaluated}
+use Rattle.mid_program.specs.ScriptState.{State}
+use Rattle.mid_program.specs.Sorted.{sorted, all_sorted}
 use Rattle.value_machine.specs.Cells.{OwnedArray, is_owned}
 use Rattle.value_machine.specs.Emission.{emitted, all_emitted}
 use Rattle.value_machine.specs.Machine.{Frame}

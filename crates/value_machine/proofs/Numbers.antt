@@ -18,12 +18,12 @@ use Rattle.wasm_types.specs.Syntax.{Instructions, Done as NoMore}
 use Rattle.wasm_types.specs.declared.instr.Simple.TheVariants.{I32Const, Br}
 use Rattle.wasm_store.specs.declared.word.Word.TheVariants.{I32, I64}
 use Rattle.wasm_store.specs.Words.{flag}
-use Rattle.mid_code.specs.declared.mid.Operation.TheVariants.{AsNumber, FieldNumber}
-use Rattle.mid_code.specs.Mid.{Kind, Program, Answered, Do, Codes, End, At, Fixed, Fresh}
-use Rattle.mid_code.specs.MidMeaning.{evaluated, all_evaluated}
-use Rattle.mid_code.specs.Steps.{field_checked, is_field_number}
-use Rattle.mid_code.specs.ScriptState.{State, Faulted, settled, give}
-use Rattle.mid_code.specs.Sorted.{sorted, all_sorted, fit_row}
+use Rattle.mid_program.specs.declared.mid.Operation.TheVariants.{AsNumber, FieldNumber}
+use Rattle.mid_program.specs.Mid.{Kind, Program, Answered, Do, Codes, End, At, Fixed, Fresh}
+use Rattle.mid_program.specs.MidMeaning.{evaluated, all_evaluated}
+use Rattle.mid_program.specs.Steps.{field_checked, is_field_number}
+use Rattle.mid_program.specs.ScriptState.{State, Faulted, settled, give}
+use Rattle.mid_program.specs.Sorted.{sorted, all_sorted, fit_row}
 use Rattle.value_machine.specs.Arithmetic
 use Rattle.value_machine.specs.Cells.{Cell, Bits}
 use Rattle.value_machine.specs.Emission.{emitted, all_emitted}

@@ -4,11 +4,11 @@ use Rattle.std.specs.Prelude.{if◌then◌else◌}
 use Rattle.std.proofs.lemmas.Bool.{and_parts}
 use Rattle.awk_state.specs.declared.sorts.Answer.TheVariants as answer
 use Rattle.awk_state.specs.declared.sorts.Sort.TheVariants as sort
-use Rattle.mid_code.specs.Mid.{Kind, Program, Form, Answered, Code, Do, Over, Compare, Call, Ask, AskLine, FileLine, Replace, Number, Text, Unset, Get, Set, Array, IsOpen, Choose, Seq, Let, Bound, Codes, End, At, Fixed, Fresh, form_of}
-use Rattle.mid_code.specs.MidMeaning.{Holds, Values, evaluated, all_evaluated}
-use Rattle.mid_code.specs.Names.{ArrayName, Numbered, Given}
-use Rattle.mid_code.specs.ScriptState.{State}
-use Rattle.mid_code.specs.Sorted.{Held as Standing, There, Moved, Misused, used, either_way, same_number, sorted, all_sorted, held_after, held_after_all, is_well_used}
+use Rattle.mid_program.specs.Mid.{Kind, Program, Form, Answered, Code, Do, Over, Compare, Call, Ask, AskLine, FileLine, Replace, Number, Text, Unset, Get, Set, Array, IsOpen, Choose, Seq, Let, Bound, Codes, End, At, Fixed, Fresh, form_of}
+use Rattle.mid_program.specs.MidMeaning.{Holds, Values, evaluated, all_evaluated}
+use Rattle.mid_program.specs.Names.{ArrayName, Numbered, Given}
+use Rattle.mid_program.specs.ScriptState.{State}
+use Rattle.mid_program.specs.Sorted.{Held as Standing, There, Moved, Misused, used, either_way, same_number, sorted, all_sorted, held_after, held_after_all, is_well_used}
 use Rattle.value_machine.specs.Emission.{array_meant, emitted, all_emitted}
 use Rattle.value_machine.specs.Machine.{Frame}
 use Rattle.value_machine.specs.Places.{Bases}

@@ -10,12 +10,12 @@ use Rattle.wasm_types.specs.declared.instr.Simple.TheVariants.{Br, BrIf, GlobalG
 use Rattle.wasm_types.specs.declared.instr.IRelOp.TheVariants.{Eq, Ne}
 use Rattle.wasm_types.specs.declared.instr.ITestOp.TheVariants.{Eqz}
 use Rattle.wasm_store.specs.declared.word.Word.TheVariants as word
-use Rattle.mid_code.specs.Mid.{Program, Steps}
-use Rattle.mid_code.specs.MidMeaning.{mid_done}
-use Rattle.mid_code.specs.ScriptRun.{next_over, for_record, part_over, part}
-use Rattle.mid_code.specs.ScriptState.{State, Stop, Faulted, OutOfTurns, TooDeep, Nexted, Exited, Returned, Outcome, Gives, Stops, Doing}
-use Rattle.mid_code.specs.Sorted.{context_of, kinds_of, steps_sorted}
-use Rattle.mid_code.specs.Statements.{Flow, Normal, Broke, Continued}
+use Rattle.mid_program.specs.Mid.{Program, Steps}
+use Rattle.mid_program.specs.MidMeaning.{mid_done}
+use Rattle.mid_program.specs.ScriptRun.{next_over, for_record, part_over, part}
+use Rattle.mid_program.specs.ScriptState.{State, Stop, Faulted, OutOfTurns, TooDeep, Nexted, Exited, Returned, Outcome, Gives, Stops, Doing}
+use Rattle.mid_program.specs.Sorted.{context_of, kinds_of, steps_sorted}
+use Rattle.mid_program.specs.Statements.{Flow, Normal, Broke, Continued}
 use Rattle.value_machine.specs.Cells.{Cell, Bits, is_owned}
 use Rattle.value_machine.specs.Functions.{layout_of}
 use Rattle.value_machine.specs.Machine.{Conf, Deep, Label, at, br, label, loops_walked}

@@ -15,10 +15,10 @@ use Rattle.wasm_types.specs.declared.instr.CvtOp.TheVariants.{I64ExtendI32U}
 use Rattle.wasm_types.specs.declared.instr.Simple.TheVariants.{LocalSet, GlobalSet, I64Const, Convert}
 use Rattle.wasm_store.specs.Words.{flag}
 use Rattle.wasm_store.specs.declared.word.Word.TheVariants.{I32, I64}
-use Rattle.mid_code.specs.Meaning.{assign_pending}
-use Rattle.mid_code.specs.Mid.{Kind, Boxed, Unboxed, Many, Program, Declared, Routine}
-use Rattle.mid_code.specs.ScriptState.{State, Gives, go_on, change, does as does_row, with_global, global_value}
-use Rattle.mid_code.specs.Sorted.{has_kind, same_kind, scalar_kind, kinds_of}
+use Rattle.mid_program.specs.Meaning.{assign_pending}
+use Rattle.mid_program.specs.Mid.{Kind, Boxed, Unboxed, Many, Program, Declared, Routine}
+use Rattle.mid_program.specs.ScriptState.{State, Gives, go_on, change, does as does_row, with_global, global_value}
+use Rattle.mid_program.specs.Sorted.{has_kind, same_kind, scalar_kind, kinds_of}
 use Rattle.value_machine.specs.Cells.{Bits, Held, Gone, is_owned}
 use Rattle.value_machine.specs.Emission.{assigned, assigned_by_number, pending_assigned}
 use Rattle.value_machine.specs.Machine.{Label, Frame, at, label}

@@ -11,7 +11,7 @@ use Rattle.wasm_types.specs.declared.instr.Simple.TheVariants.{LocalTee, I32Cons
 use Rattle.wasm_types.specs.declared.instr.IRelOp.TheVariants.{Eq, Ne}
 use Rattle.wasm_store.specs.declared.word.Word.TheVariants.{I32, I64}
 use Rattle.wasm_store.specs.Words.{flag}
-use Rattle.mid_code.specs.Mid.{Kind}
+use Rattle.mid_program.specs.Mid.{Kind}
 use Rattle.value_machine.specs.Cells.{Cell, Bits, Held, IteratorOf, OwnedArray, LentArray, is_owned, left_by, Gone}
 use Rattle.value_machine.specs.ImportCalls.{Host, call}
 use Rattle.value_machine.specs.Machine.{Code, Look, Label, Frame, Store, at, br, label, with_operands, push_word, looked_compared, go}

@@ -6,11 +6,11 @@ use Rattle.awk_values.specs.declared.value.Value.{Value}
 use Rattle.awk_state.specs.declared.sorts.Answer.TheVariants as answer
 use Rattle.awk_state.specs.declared.sorts.Sort.TheVariants as sort
 use Rattle.wasm_types.specs.Syntax.{Instructions}
-use Rattle.mid_code.specs.Mid.{Kind, Boxed, Unboxed, Many, Program, Global, Parameter, Form, Answered, Bare, Get, Bound, form_at}
-use Rattle.mid_code.specs.MidMeaning.{Holds, Env, evaluated, all_evaluated, held}
-use Rattle.mid_code.specs.Names.{Numbered}
-use Rattle.mid_code.specs.ScriptState.{State, global_value, local_value}
-use Rattle.mid_code.specs.Sorted.{Held as Standing, There, Moved, Misused, used, same_number, sorted, all_sorted, held_after, is_well_used, has_kind, same_kind, kinds_of}
+use Rattle.mid_program.specs.Mid.{Kind, Boxed, Unboxed, Many, Program, Global, Parameter, Form, Answered, Bare, Get, Bound, form_at}
+use Rattle.mid_program.specs.MidMeaning.{Holds, Env, evaluated, all_evaluated, held}
+use Rattle.mid_program.specs.Names.{Numbered}
+use Rattle.mid_program.specs.ScriptState.{State, global_value, local_value}
+use Rattle.mid_program.specs.Sorted.{Held as Standing, There, Moved, Misused, used, same_number, sorted, all_sorted, held_after, is_well_used, has_kind, same_kind, kinds_of}
 use Rattle.value_machine.specs.Cells.{Cell, Held, is_owned}
 use Rattle.value_machine.specs.Emission.{emitted, all_emitted}
 use Rattle.value_machine.specs.Machine.{Conf, Label, Frame, at}

@@ -17,11 +17,11 @@ use Rattle.wasm_types.specs.declared.instr.ITestOp.TheVariants.{Eqz}
 use Rattle.wasm_types.specs.declared.instr.Simple.TheVariants.{LocalGet, Test}
 use Rattle.wasm_store.specs.Words.{flag}
 use Rattle.wasm_store.specs.declared.word.Word.TheVariants.{I64}
-use Rattle.mid_code.specs.Mid.{Kind, Program, Form, Answered, a_value, a_number, Code, form_of, form_at}
-use Rattle.mid_code.specs.MidMeaning.{Env, when_read, when_replaced}
-use Rattle.mid_code.specs.ScriptState.{State, Stop, Doing, go_on, nothing, give, does as does_row}
-use Rattle.mid_code.specs.Sorted.{Held as Standing, There, either_way, sorted, held_after, is_well_used, keeps_well}
-use Rattle.mid_code.specs.Steps.{input_number}
+use Rattle.mid_program.specs.Mid.{Kind, Program, Form, Answered, a_value, a_number, Code, form_of, form_at}
+use Rattle.mid_program.specs.MidMeaning.{Env, when_read, when_replaced}
+use Rattle.mid_program.specs.ScriptState.{State, Stop, Doing, go_on, nothing, give, does as does_row}
+use Rattle.mid_program.specs.Sorted.{Held as Standing, There, either_way, sorted, held_after, is_well_used, keeps_well}
+use Rattle.mid_program.specs.Steps.{input_number}
 use Rattle.value_machine.specs.Cells.{Bits, Held, is_owned}
 use Rattle.value_machine.specs.Emission.{emitted, text_kept, text_let_go}
 use Rattle.value_machine.specs.ImportCalls.{input_code}

@@ -8,12 +8,12 @@ use Rattle.awk_state.specs.declared.table.Primitive.TheVariants as row
 use Rattle.wasm_types.specs.Syntax.{Instructions, Done}
 use Rattle.wasm_types.specs.declared.instr.Simple.TheVariants.{Br}
 use Rattle.wasm_store.specs.declared.word.Word.TheVariants.{I64}
-use Rattle.mid_code.specs.Mid.{Program, Steps}
-use Rattle.mid_code.specs.MidMeaning.{mid_done}
-use Rattle.mid_code.specs.Meaning.{assign_pending}
-use Rattle.mid_code.specs.ScriptRun.{for_record, on_input, records_done}
-use Rattle.mid_code.specs.ScriptState.{State, OutOfTurns, Outcome, Doing, ◌>>◌, asks, nothing, stop}
-use Rattle.mid_code.specs.Sorted.{context_of, steps_sorted}
+use Rattle.mid_program.specs.Mid.{Program, Steps}
+use Rattle.mid_program.specs.MidMeaning.{mid_done}
+use Rattle.mid_program.specs.Meaning.{assign_pending}
+use Rattle.mid_program.specs.ScriptRun.{for_record, on_input, records_done}
+use Rattle.mid_program.specs.ScriptState.{State, OutOfTurns, Outcome, Doing, ◌>>◌, asks, nothing, stop}
+use Rattle.mid_program.specs.Sorted.{context_of, steps_sorted}
 use Rattle.value_machine.specs.Cells.{Bits}
 use Rattle.value_machine.specs.Emission.{pending_assigned}
 use Rattle.value_machine.specs.Functions.{layout_of}

@@ -4,11 +4,11 @@ use Rattle.std.specs.Prelude.{get_or, map}
 use Rattle.awk_values.specs.declared.value.Value.{Value}
 use Rattle.awk_values.specs.declared.value.Value.TheVariants.{Uninit}
 use Rattle.wasm_types.specs.Syntax.{Instructions}
-use Rattle.mid_code.specs.Mid.{Kind, Boxed, Unboxed, Many, Program, Routine, Code, parameters_at}
-use Rattle.mid_code.specs.MidMeaning.{mid_called, routine_at, all_stepped}
-use Rattle.mid_code.specs.ScriptState.{State, Own, Local, Scalar, Stop, Faulted, OutOfTurns, TooDeep, Nexted, Exited, Returned, Outcome, Gives, Stops, Doing, go_on, spent}
-use Rattle.mid_code.specs.Sorted.{has_kind, same_kind, calls_of, kinds_of}
-use Rattle.mid_code.specs.Statements.{Flow, returned, entered_with}
+use Rattle.mid_program.specs.Mid.{Kind, Boxed, Unboxed, Many, Program, Routine, Code, parameters_at}
+use Rattle.mid_program.specs.MidMeaning.{mid_called, routine_at, all_stepped}
+use Rattle.mid_program.specs.ScriptState.{State, Own, Local, Scalar, Stop, Faulted, OutOfTurns, TooDeep, Nexted, Exited, Returned, Outcome, Gives, Stops, Doing, go_on, spent}
+use Rattle.mid_program.specs.Sorted.{has_kind, same_kind, calls_of, kinds_of}
+use Rattle.mid_program.specs.Statements.{Flow, returned, entered_with}
 use Rattle.value_machine.specs.Cells.{Cell, Gone}
 use Rattle.value_machine.specs.Machine.{Conf, Label, Frame}
 use Rattle.value_machine.specs.Places.{Bases}

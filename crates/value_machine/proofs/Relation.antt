@@ -13,11 +13,11 @@ use Rattle.awk_state.specs.declared.constants.NameKind.TheVariants as name_kind
 use Rattle.awk_state.specs.declared.sorts.Answer.TheVariants as answer
 use Rattle.awk_state.specs.declared.sorts.Sort.TheVariants as sort
 use Rattle.wasm_store.specs.declared.word.Word.TheVariants.{I32, I64}
-use Rattle.mid_code.specs.Mid.{Kind, Boxed, Unboxed, Many, Program, Declared, Routine, Form, Answered, Bare, Perhaps}
-use Rattle.mid_code.specs.MidMeaning.{Holds, Env}
-use Rattle.mid_code.specs.Names.{ArrayName, Numbered, Given}
-use Rattle.mid_code.specs.ScriptState.{State, Stop, TooDeep, Nexted, Exited, Returned, Local, Scalar, value_in_local, array_in_local, local_array}
-use Rattle.mid_code.specs.Sorted.{Held as Standing, There, Moved, Misused, has_kind, kinds_of, arrays_among, context_of, is_array_place}
+use Rattle.mid_program.specs.Mid.{Kind, Boxed, Unboxed, Many, Program, Declared, Routine, Form, Answered, Bare, Perhaps}
+use Rattle.mid_program.specs.MidMeaning.{Holds, Env}
+use Rattle.mid_program.specs.Names.{ArrayName, Numbered, Given}
+use Rattle.mid_program.specs.ScriptState.{State, Stop, TooDeep, Nexted, Exited, Returned, Local, Scalar, value_in_local, array_in_local, local_array}
+use Rattle.mid_program.specs.Sorted.{Held as Standing, There, Moved, Misused, has_kind, kinds_of, arrays_among, context_of, is_array_place}
 use Rattle.value_machine.specs.Cells.{Cell, Bits, Held, IteratorOf, OwnedArray, LentArray, is_owned}
 use Rattle.value_machine.specs.ImportCalls.{input_code, close_code}
 use Rattle.value_machine.specs.Machine.{Conf, Deep, Label, Frame, br, owner_waits}

@@ -18,10 +18,10 @@ use Rattle.wasm_types.specs.Syntax.{Done as NoMore}
 use Rattle.wasm_types.specs.declared.types.ValType.TheVariants as ty
 use Rattle.wasm_types.specs.declared.instr.ITestOp.TheVariants.{Eqz}
 use Rattle.wasm_types.specs.declared.instr.Simple.TheVariants.{LocalGet, Test}
-use Rattle.mid_code.specs.Mid.{Kind, Program, Form, a_value, a_number, Code, Replace, Codes, End, At, Fixed, Fresh, form_of}
-use Rattle.mid_code.specs.MidMeaning.{evaluated, all_evaluated, three_values, when_replaced}
-use Rattle.mid_code.specs.ScriptState.{go_on, does}
-use Rattle.mid_code.specs.Sorted.{Held as Standing, sorted, all_sorted, held_after, held_after_all, fits, fit_row, is_constant, keeps_well, is_dropped, stores_well}
+use Rattle.mid_program.specs.Mid.{Kind, Program, Form, a_value, a_number, Code, Replace, Codes, End, At, Fixed, Fresh, form_of}
+use Rattle.mid_program.specs.MidMeaning.{evaluated, all_evaluated, three_values, when_replaced}
+use Rattle.mid_program.specs.ScriptState.{go_on, does}
+use Rattle.mid_program.specs.Sorted.{Held as Standing, sorted, all_sorted, held_after, held_after_all, fits, fit_row, is_constant, keeps_well, is_dropped, stores_well}
 use Rattle.value_machine.specs.Emission.{emitted, all_emitted, text_kept, text_let_go}
 use Rattle.value_machine.specs.Machine.{Frame}
 use Rattle.value_machine.specs.Places.{Bases}

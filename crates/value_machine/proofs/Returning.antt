@@ -17,18 +17,18 @@ use Rattle.awk_state.specs.declared.answers.InputAnswer.{InputAnswer}
 use Rattle.awk_state.specs.declared.answers.InputAnswer.TheVariants as input
 use Rattle.awk_state.specs.declared.table.Primitive.{Primitive}
 use Rattle.awk_state.specs.declared.table.Primitive.TheVariants as row
-use Rattle.mid_code.specs.declared.mid.Operation.{Operation}
-use Rattle.mid_code.specs.declared.mid.Operation.TheVariants.{Host, Inline, AsNumber, FieldNumber}
-use Rattle.mid_code.specs.Mid.{Kind, Program, Slot, Global, Parameter, Code, Do, Over, Compare, Call, Ask, AskLine, FileLine, Replace, Number, Text, Unset, Get, Set, Array, IsOpen, Choose, Seq, Let, Bound, Codes, End, At, Fixed, Fresh, Step, Eval, Block, If, Loop, Each, Break, Continue, Next, Exit, ExitWith, Return, Mark, Steps, NoStep, Then, Form, a_value, form_of, arguments, parameters_at}
-use Rattle.mid_code.specs.MidMeaning.{Env, evaluated, all_evaluated, stepped, all_stepped, mid_called, routine_at, holds, keyed, operated, locals_of, or_zero, held, read_as, read_slot, store_slot, listing, row_of, numbered, converted, truth_in, boxed, arithmetic_of, three_values, when_read, when_replaced}
-use Rattle.mid_code.specs.Names.{ArrayName, Numbered, Given}
-use Rattle.mid_code.specs.ScriptState.{State, Own, Local, Scalar, Stop, Faulted, OutOfTurns, TooDeep, Nexted, Exited, Returned, Outcome, Gives, Stops, Doing, ◌>>=◌, ◌>>◌, go_on, give, nothing, stop, settled, or_fault, perform, does, asks, look, change, local_array, global_value, local_value, with_global, with_local, with_range, spent, spend, spend_all}
-use Rattle.mid_code.specs.Sorted.{Context, calls_of, step_sorted, steps_sorted, test_sorted, is_array_place, stores_well, sorted}
-use Rattle.mid_code.specs.Statements.{Flow, Normal, Broke, Continued, after, after_round, loop, at_key, over_keys, with_status, returned, entered_with}
-use Rattle.mid_code.specs.Steps.{array_number, one_number, input_number, field_checked}
-use Rattle.mid_code.specs.Items.{range_open}
-use Rattle.mid_code.specs.ScriptRun.{next_over, for_record, on_input, records_done}
-use Rattle.mid_code.specs.Meaning.{Calls, unless_pending, asked, assign_pending}
+use Rattle.mid_program.specs.declared.mid.Operation.{Operation}
+use Rattle.mid_program.specs.declared.mid.Operation.TheVariants.{Host, Inline, AsNumber, FieldNumber}
+use Rattle.mid_program.specs.Mid.{Kind, Program, Slot, Global, Parameter, Code, Do, Over, Compare, Call, Ask, AskLine, FileLine, Replace, Number, Text, Unset, Get, Set, Array, IsOpen, Choose, Seq, Let, Bound, Codes, End, At, Fixed, Fresh, Step, Eval, Block, If, Loop, Each, Break, Continue, Next, Exit, ExitWith, Return, Mark, Steps, NoStep, Then, Form, a_value, form_of, arguments, parameters_at}
+use Rattle.mid_program.specs.MidMeaning.{Env, evaluated, all_evaluated, stepped, all_stepped, mid_called, routine_at, holds, keyed, operated, locals_of, or_zero, held, read_as, read_slot, store_slot, listing, row_of, numbered, converted, truth_in, boxed, arithmetic_of, three_values, when_read, when_replaced}
+use Rattle.mid_program.specs.Names.{ArrayName, Numbered, Given}
+use Rattle.mid_program.specs.ScriptState.{State, Own, Local, Scalar, Stop, Faulted, OutOfTurns, TooDeep, Nexted, Exited, Returned, Outcome, Gives, Stops, Doing, ◌>>=◌, ◌>>◌, go_on, give, nothing, stop, settled, or_fault, perform, does, asks, look, change, local_array, global_value, local_value, with_global, with_local, with_range, spent, spend, spend_all}
+use Rattle.mid_program.specs.Sorted.{Context, calls_of, step_sorted, steps_sorted, test_sorted, is_array_place, stores_well, sorted}
+use Rattle.mid_program.specs.Statements.{Flow, Normal, Broke, Continued, after, after_round, loop, at_key, over_keys, with_status, returned, entered_with}
+use Rattle.mid_program.specs.Steps.{array_number, one_number, input_number, field_checked}
+use Rattle.mid_program.specs.Items.{range_open}
+use Rattle.mid_program.specs.ScriptRun.{next_over, for_record, on_input, records_done}
+use Rattle.mid_program.specs.Meaning.{Calls, unless_pending, asked, assign_pending}
 
 abbrev pub NoReturn : {A : Type 0} → Outcome A → Type 0
 NoReturn (Gives a σ) = Unit {0}

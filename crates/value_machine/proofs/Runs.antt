@@ -3,9 +3,9 @@ use Rattle.std.proofs.Common.{◌≡◌, ℕ, zero, suc, ◌+◌, ◌*◌, ◌�
 use Rattle.world_core.specs.WorldState.{Action}
 use Rattle.std.specs.Prelude.{List}
 use Rattle.awk_values.specs.declared.fault.Fault.{Fault}
-use Rattle.mid_code.specs.MidMeaning.{then_row}
-use Rattle.mid_code.specs.ScriptRun.{GoesOn}
-use Rattle.mid_code.specs.ScriptState.{State, Stop, Faulted, OutOfTurns, TooDeep, Nexted, Exited, Returned, Outcome, Gives, Stops, Doing, go_on, settled, spent}
+use Rattle.mid_program.specs.MidMeaning.{then_row}
+use Rattle.mid_program.specs.ScriptRun.{GoesOn}
+use Rattle.mid_program.specs.ScriptState.{State, Stop, Faulted, OutOfTurns, TooDeep, Nexted, Exited, Returned, Outcome, Gives, Stops, Doing, go_on, settled, spent}
 use Rattle.value_machine.specs.Machine.{Code, Conf, step, go, turns_within, ending_at}
 
 pub go_add : (u : Code) (i j : ℕ) (c : Conf) → go u (i + j) c ≡ go u j (go u i c)

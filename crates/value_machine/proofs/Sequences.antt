@@ -2,11 +2,11 @@
 use Rattle.std.proofs.Common.{◌≡◌, ℕ, zero, ◌+◌, Bool, true, List, [], refl, ◌∙◌, arith}
 use Rattle.std.proofs.lemmas.Bool.{and_parts}
 use Rattle.wasm_types.specs.Syntax.{Instructions}
-use Rattle.mid_code.specs.Mid.{Kind, Program, Code, Step, Eval, Block, Steps, NoStep, Then, form_of}
-use Rattle.mid_code.specs.MidMeaning.{stepped, all_stepped}
-use Rattle.mid_code.specs.ScriptState.{State, Stop, Outcome, Doing}
-use Rattle.mid_code.specs.Sorted.{There, sorted, is_dropped, step_sorted, steps_sorted}
-use Rattle.mid_code.specs.Statements.{Flow, Normal, Broke, Continued, after}
+use Rattle.mid_program.specs.Mid.{Kind, Program, Code, Step, Eval, Block, Steps, NoStep, Then, form_of}
+use Rattle.mid_program.specs.MidMeaning.{stepped, all_stepped}
+use Rattle.mid_program.specs.ScriptState.{State, Stop, Outcome, Doing}
+use Rattle.mid_program.specs.Sorted.{There, sorted, is_dropped, step_sorted, steps_sorted}
+use Rattle.mid_program.specs.Statements.{Flow, Normal, Broke, Continued, after}
 use Rattle.value_machine.specs.Emission.{left_over}
 use Rattle.value_machine.specs.Machine.{Conf, Label, Frame, at}
 use Rattle.value_machine.specs.Places.{Bases}

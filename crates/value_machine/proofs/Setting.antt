@@ -9,11 +9,11 @@ use Rattle.awk_state.specs.Numbers.{Number, number_word}
 use Rattle.awk_state.specs.declared.sorts.Answer.TheVariants as answer
 use Rattle.awk_state.specs.declared.sorts.Sort.TheVariants as sort
 use Rattle.wasm_store.specs.declared.word.Word.TheVariants.{I64}
-use Rattle.mid_code.specs.Mid.{Kind, Many, Program, Form, Answered}
-use Rattle.mid_code.specs.MidMeaning.{Holds, boxed}
-use Rattle.mid_code.specs.Steps.{truth_number}
-use Rattle.mid_code.specs.ScriptState.{State, Scalar, with_local}
-use Rattle.mid_code.specs.Sorted.{has_kind, is_number}
+use Rattle.mid_program.specs.Mid.{Kind, Many, Program, Form, Answered}
+use Rattle.mid_program.specs.MidMeaning.{Holds, boxed}
+use Rattle.mid_program.specs.Steps.{truth_number}
+use Rattle.mid_program.specs.ScriptState.{State, Scalar, with_local}
+use Rattle.mid_program.specs.Sorted.{has_kind, is_number}
 use Rattle.value_machine.specs.Cells.{Cell, Bits}
 use Rattle.value_machine.specs.Machine.{Frame}
 use Rattle.value_machine.specs.Places.{Bases}

@@ -13,10 +13,10 @@ use Rattle.wasm_types.specs.declared.types.ValType.TheVariants as ty
 use Rattle.wasm_types.specs.declared.instr.IRelOp.TheVariants.{Ne}
 use Rattle.wasm_types.specs.declared.instr.Simple.TheVariants.{LocalGet, LocalSet, GlobalSet, I32Const, Compare}
 use Rattle.wasm_store.specs.declared.word.Word.TheVariants.{I64}
-use Rattle.mid_code.specs.Mid.{Kind, Boxed, Unboxed, Many, Program, Slot, Global, Parameter, Form, Answered, Code, Set, form_of}
-use Rattle.mid_code.specs.MidMeaning.{Holds, Env, evaluated, all_evaluated, boxed, store_slot}
-use Rattle.mid_code.specs.ScriptState.{State, Gives, ◌>>◌, give, Scalar, with_local, with_global, global_value, local_value, array_in_local}
-use Rattle.mid_code.specs.Sorted.{Held as Standing, sorted, all_sorted, held_after, has_kind, kinds_of, is_slot, takes, fits}
+use Rattle.mid_program.specs.Mid.{Kind, Boxed, Unboxed, Many, Program, Slot, Global, Parameter, Form, Answered, Code, Set, form_of}
+use Rattle.mid_program.specs.MidMeaning.{Holds, Env, evaluated, all_evaluated, boxed, store_slot}
+use Rattle.mid_program.specs.ScriptState.{State, Gives, ◌>>◌, give, Scalar, with_local, with_global, global_value, local_value, array_in_local}
+use Rattle.mid_program.specs.Sorted.{Held as Standing, sorted, all_sorted, held_after, has_kind, kinds_of, is_slot, takes, fits}
 use Rattle.value_machine.specs.Cells.{Cell, Bits, Held, Gone, is_owned}
 use Rattle.value_machine.specs.Emission.{emitted, all_emitted, slot_set, text_dropped}
 use Rattle.value_machine.specs.Machine.{Conf, Label, Frame, at}

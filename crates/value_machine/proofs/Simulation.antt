@@ -9,12 +9,12 @@ use Rattle.awk_state.specs.Constants.{constant_at}
 use Rattle.awk_state.specs.Sorts.{Row}
 use Rattle.std.specs.Prelude.{Some}
 use Rattle.wasm_types.specs.Syntax.{Instructions}
-use Rattle.mid_code.specs.declared.mid.Operation.TheVariants.{Host, Inline, AsNumber, FieldNumber}
-use Rattle.mid_code.specs.Mid.{Kind, Program, Form, Answered, Code, Do, Over, Compare, Call, Ask, AskLine, FileLine, Replace, Number, Text, Unset, Get, Set, Array, IsOpen, Choose, Seq, Let, Bound, Codes, End, At, Fixed, Fresh, form_of, form_at}
-use Rattle.mid_code.specs.MidMeaning.{Holds, Env, Values, evaluated, all_evaluated, mid_called}
-use Rattle.mid_code.specs.Names.{ArrayName}
-use Rattle.mid_code.specs.ScriptState.{State, Doing}
-use Rattle.mid_code.specs.Sorted.{Held as Standing, Context, context_of, calls_of, sorted, all_sorted, held_after, held_after_all, is_well_used}
+use Rattle.mid_program.specs.declared.mid.Operation.TheVariants.{Host, Inline, AsNumber, FieldNumber}
+use Rattle.mid_program.specs.Mid.{Kind, Program, Form, Answered, Code, Do, Over, Compare, Call, Ask, AskLine, FileLine, Replace, Number, Text, Unset, Get, Set, Array, IsOpen, Choose, Seq, Let, Bound, Codes, End, At, Fixed, Fresh, form_of, form_at}
+use Rattle.mid_program.specs.MidMeaning.{Holds, Env, Values, evaluated, all_evaluated, mid_called}
+use Rattle.mid_program.specs.Names.{ArrayName}
+use Rattle.mid_program.specs.ScriptState.{State, Doing}
+use Rattle.mid_program.specs.Sorted.{Held as Standing, Context, context_of, calls_of, sorted, all_sorted, held_after, held_after_all, is_well_used}
 use Rattle.value_machine.specs.Cells.{OwnedArray}
 use Rattle.value_machine.specs.Emission.{Layout, array_meant, emitted, all_emitted}
 use Rattle.value_machine.specs.Functions.{layout_of}

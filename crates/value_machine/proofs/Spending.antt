@@ -6,9 +6,9 @@ use Rattle.awk_state.specs.SharedState.{Inner, Shared, settles, shared_after}
 use Rattle.awk_state.specs.Sorts.{InAnswer}
 use Rattle.awk_state.specs.declared.sorts.Answer.{Answer}
 use Rattle.wasm_types.specs.Syntax.{Instructions}
-use Rattle.mid_code.specs.Mid.{Kind, Program}
-use Rattle.mid_code.specs.ScriptState.{State, Stop, OutOfTurns, Gives, Stops, Doing, go_on, spent, spend_all, settled}
-use Rattle.mid_code.specs.ScriptRun.{GoesOn}
+use Rattle.mid_program.specs.Mid.{Kind, Program}
+use Rattle.mid_program.specs.ScriptState.{State, Stop, OutOfTurns, Gives, Stops, Doing, go_on, spent, spend_all, settled}
+use Rattle.mid_program.specs.ScriptRun.{GoesOn}
 use Rattle.value_machine.specs.Cells.{Cell}
 use Rattle.value_machine.specs.Machine.{Conf, Label, Frame, Store, at, carried_at, turns_within, ending_at}
 use Rattle.value_machine.proofs.Runs.{Goes, Arrives, arrives_after}

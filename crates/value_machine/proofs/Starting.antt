@@ -11,10 +11,10 @@ use Rattle.awk_state.specs.declared.sorts.Answer.TheVariants as answer
 use Rattle.awk_state.specs.declared.table.Primitive.TheVariants as row
 use Rattle.wasm_types.specs.Syntax.{Instructions}
 use Rattle.wasm_store.specs.declared.word.Word.TheVariants.{I64}
-use Rattle.mid_code.specs.Meaning.{assign_pending}
-use Rattle.mid_code.specs.Mid.{Kind, Program}
-use Rattle.mid_code.specs.ScriptRun.{first_assigned, on_assignment}
-use Rattle.mid_code.specs.ScriptState.{State, Stop, OutOfTurns, Doing, ◌>>◌, go_on, stop, spent, spend, settled}
+use Rattle.mid_program.specs.Meaning.{assign_pending}
+use Rattle.mid_program.specs.Mid.{Kind, Program}
+use Rattle.mid_program.specs.ScriptRun.{first_assigned, on_assignment}
+use Rattle.mid_program.specs.ScriptState.{State, Stop, OutOfTurns, Doing, ◌>>◌, go_on, stop, spent, spend, settled}
 use Rattle.value_machine.specs.Cells.{Bits}
 use Rattle.value_machine.specs.Emission.{asked}
 use Rattle.value_machine.specs.Machine.{Conf, Label, Frame, at, carried_if}

@@ -11,8 +11,8 @@ use Rattle.awk_state.specs.Constants.{flag_number}
 use Rattle.awk_state.specs.Numbers.{Number, number_of, number_word}
 use Rattle.awk_state.proofs.Words.{word_no_fault, small, fits, number_again}
 use Rattle.wasm_store.specs.declared.word.Word.TheVariants.{I32, I64}
-use Rattle.mid_code.specs.Mid.{Kind, Boxed, Unboxed, Many}
-use Rattle.mid_code.specs.ScriptState.{State, Stop, Faulted, OutOfTurns, TooDeep, Nexted, Exited, Returned, global_value}
+use Rattle.mid_program.specs.Mid.{Kind, Boxed, Unboxed, Many}
+use Rattle.mid_program.specs.ScriptState.{State, Stop, Faulted, OutOfTurns, TooDeep, Nexted, Exited, Returned, global_value}
 use Rattle.value_machine.specs.Cells.{Cell, Bits, Held, OwnedArray}
 use Rattle.value_machine.specs.ImportCalls.{Host}
 use Rattle.value_machine.specs.Machine.{Store}

@@ -2,11 +2,11 @@
 -- and nothing else; where it ends in some way that does not leave the function, the same holds again.
 use Rattle.std.proofs.Common.{◌≡◌, ℕ, ◌+◌, ◌<◌, ◌≤◌, Bool, true, false, List, [], length, ◌∙◌, arith}
 use Rattle.wasm_types.specs.Syntax.{Instructions}
-use Rattle.mid_code.specs.Mid.{Kind, Program, Step, Eval, Block, If, Loop, Each, Break, Continue, Next, Exit, ExitWith, Return, Mark, Steps, NoStep, Then}
-use Rattle.mid_code.specs.MidMeaning.{stepped, all_stepped, mid_called}
-use Rattle.mid_code.specs.ScriptState.{State, Doing}
-use Rattle.mid_code.specs.Sorted.{There, calls_of, step_sorted, steps_sorted}
-use Rattle.mid_code.specs.Statements.{Flow, Normal, Broke, Continued}
+use Rattle.mid_program.specs.Mid.{Kind, Program, Step, Eval, Block, If, Loop, Each, Break, Continue, Next, Exit, ExitWith, Return, Mark, Steps, NoStep, Then}
+use Rattle.mid_program.specs.MidMeaning.{stepped, all_stepped, mid_called}
+use Rattle.mid_program.specs.ScriptState.{State, Doing}
+use Rattle.mid_program.specs.Sorted.{There, calls_of, step_sorted, steps_sorted}
+use Rattle.mid_program.specs.Statements.{Flow, Normal, Broke, Continued}
 use Rattle.value_machine.specs.Cells.{IteratorOf}
 use Rattle.value_machine.specs.Machine.{Conf, Label, Frame, at, br, loops_walked}
 use Rattle.value_machine.specs.Places.{Bases, step_room, steps_room, step_iterators, steps_iterators, step_arrays, steps_arrays}

@@ -1,6 +1,6 @@
 -- All steps do what they mean, if expressions do.
 use Rattle.std.specs.Prelude.{ℕ, true, false, List}
-use Rattle.mid_code.specs.Mid.{Kind, Program, Code, Step, Eval, Block, If, Loop, Each, Break, Continue, Next, Exit, ExitWith, Return, Mark, Steps, NoStep, Then}
+use Rattle.mid_program.specs.Mid.{Kind, Program, Code, Step, Eval, Block, If, Loop, Each, Break, Continue, Next, Exit, ExitWith, Return, Mark, Steps, NoStep, Then}
 use Rattle.value_machine.specs.Machine.{Frame}
 use Rattle.value_machine.specs.Places.{Bases}
 use Rattle.value_machine.proofs.Simulation.{ExprOk}

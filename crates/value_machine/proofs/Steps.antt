@@ -4,7 +4,7 @@ use Rattle.std.specs.Prelude.{set, not, ◌&&◌}
 use Rattle.wasm_types.specs.Syntax.{Instructions}
 use Rattle.wasm_types.specs.declared.instr.Simple.TheVariants.{LocalGet, LocalSet, LocalTee}
 use Rattle.wasm_store.specs.declared.word.Word.TheVariants.{I32}
-use Rattle.mid_code.specs.Mid.{Kind}
+use Rattle.mid_program.specs.Mid.{Kind}
 use Rattle.value_machine.specs.Cells.{Cell, Bits, Held, IteratorOf, OwnedArray, LentArray, Gone, is_owned, left_by, cell_at, has_room}
 use Rattle.value_machine.specs.Places.{Bases}
 use Rattle.value_machine.specs.Machine.{Code, Label, Frame, Store, at, guarded, teed}

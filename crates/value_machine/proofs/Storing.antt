@@ -11,11 +11,11 @@ use Rattle.wasm_types.specs.Syntax.{Instructions, Done}
 use Rattle.wasm_types.specs.declared.instr.Simple.{Simple}
 use Rattle.wasm_store.specs.declared.word.Word.TheVariants.{I64}
 use Rattle.wasm_store.specs.Words.{flag}
-use Rattle.mid_code.specs.Mid.{Kind, Program, Form, Answered, Bare, Perhaps}
-use Rattle.mid_code.specs.MidMeaning.{Holds, boxed}
-use Rattle.mid_code.specs.Steps.{truth_number}
-use Rattle.mid_code.specs.ScriptState.{State}
-use Rattle.mid_code.specs.Sorted.{fits}
+use Rattle.mid_program.specs.Mid.{Kind, Program, Form, Answered, Bare, Perhaps}
+use Rattle.mid_program.specs.MidMeaning.{Holds, boxed}
+use Rattle.mid_program.specs.Steps.{truth_number}
+use Rattle.mid_program.specs.ScriptState.{State}
+use Rattle.mid_program.specs.Sorted.{fits}
 use Rattle.value_machine.specs.Cells.{Cell, Bits, Held, Gone, is_owned}
 use Rattle.value_machine.specs.Emission.{handle_stored, value_stored}
 use Rattle.value_machine.specs.ImportCalls.{with_some, and_rest, row_in, acted}

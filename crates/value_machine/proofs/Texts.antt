@@ -9,10 +9,10 @@ use Rattle.awk_state.specs.declared.table.Primitive.TheVariants as row
 use Rattle.wasm_types.specs.Syntax.{Instructions}
 use Rattle.wasm_types.specs.declared.instr.Simple.TheVariants.{LocalSet}
 use Rattle.wasm_store.specs.declared.word.Word.TheVariants.{I32, I64}
-use Rattle.mid_code.specs.Mid.{Kind, Unboxed, Program, Global, Parameter, Bare, Text, Get}
-use Rattle.mid_code.specs.MidMeaning.{evaluated, all_evaluated}
-use Rattle.mid_code.specs.ScriptState.{State, global_value, local_value}
-use Rattle.mid_code.specs.Sorted.{sorted, all_sorted, kinds_of, announced_names}
+use Rattle.mid_program.specs.Mid.{Kind, Unboxed, Program, Global, Parameter, Bare, Text, Get}
+use Rattle.mid_program.specs.MidMeaning.{evaluated, all_evaluated}
+use Rattle.mid_program.specs.ScriptState.{State, global_value, local_value}
+use Rattle.mid_program.specs.Sorted.{sorted, all_sorted, kinds_of, announced_names}
 use Rattle.value_machine.specs.Cells.{Bits, Held, is_owned}
 use Rattle.value_machine.specs.Emission.{emitted, all_emitted, slot_read}
 use Rattle.value_machine.specs.Functions.{texts_of}

@@ -6,9 +6,9 @@ use Rattle.std.proofs.lemmas.List.{take_at, drop_at}
 use Rattle.awk_values.specs.declared.value.Value.{Value}
 use Rattle.wasm_types.specs.Syntax.{Instructions}
 use Rattle.wasm_types.specs.declared.instr.Simple.TheVariants.{Nop}
-use Rattle.mid_code.specs.Mid.{Kind, Boxed, Unboxed, Many, Program}
-use Rattle.mid_code.specs.ScriptState.{State, global_value}
-use Rattle.mid_code.specs.Sorted.{has_kind, same_kind, kinds_of}
+use Rattle.mid_program.specs.Mid.{Kind, Boxed, Unboxed, Many, Program}
+use Rattle.mid_program.specs.ScriptState.{State, global_value}
+use Rattle.mid_program.specs.Sorted.{has_kind, same_kind, kinds_of}
 use Rattle.value_machine.specs.Cells.{Cell, Bits, Held, IteratorOf, OwnedArray, LentArray, Gone, is_owned, none_owned, is_held, is_array, is_iterator, no_temporary, iterators_in, tidy_locals, tidy_name, each_name, globals_by}
 use Rattle.value_machine.specs.Machine.{Label, Frame, at, guarded, tidy, loops_walked}
 use Rattle.value_machine.specs.Places.{Bases}

@@ -6,10 +6,10 @@ use Rattle.awk_state.specs.Numbers.{Number}
 use Rattle.awk_state.specs.declared.table.Primitive.TheVariants as row
 use Rattle.wasm_types.specs.Syntax.{Instructions, Done}
 use Rattle.wasm_store.specs.declared.word.Word.TheVariants.{I64}
-use Rattle.mid_code.specs.Mid.{Kind, Boxed, Unboxed, Many, Program}
-use Rattle.mid_code.specs.ScriptRun.{Setting, unless}
-use Rattle.mid_code.specs.ScriptState.{State, Faulted, Doing, Stops, Gives}
-use Rattle.mid_code.specs.Sorted.{kinds_of, all_differ, announced_names}
+use Rattle.mid_program.specs.Mid.{Kind, Boxed, Unboxed, Many, Program}
+use Rattle.mid_program.specs.ScriptRun.{Setting, unless}
+use Rattle.mid_program.specs.ScriptState.{State, Faulted, Doing, Stops, Gives}
+use Rattle.mid_program.specs.Sorted.{kinds_of, all_differ, announced_names}
 use Rattle.value_machine.specs.Cells.{Cell, Bits, is_owned, ended_name}
 use Rattle.value_machine.specs.Functions.{layout_of, main_bases, main_callee}
 use Rattle.value_machine.specs.Machine.{Label, at, label}

@@ -5,9 +5,9 @@ use Rattle.std.proofs.lemmas.List.{get_or-set_same, get_or-set_other, length-set
 use Rattle.awk_values.specs.declared.value.Value.{Value}
 use Rattle.awk_values.specs.declared.value.Value.TheVariants.{Uninit}
 use Rattle.wasm_store.specs.declared.word.Word.TheVariants.{I64}
-use Rattle.mid_code.specs.Mid.{Kind, Program, Declared}
-use Rattle.mid_code.specs.ScriptState.{State, with_global, global_value}
-use Rattle.mid_code.specs.Sorted.{kinds_of}
+use Rattle.mid_program.specs.Mid.{Kind, Program, Declared}
+use Rattle.mid_program.specs.ScriptState.{State, with_global, global_value}
+use Rattle.mid_program.specs.Sorted.{kinds_of}
 use Rattle.value_machine.specs.Cells.{Cell, Bits}
 use Rattle.value_machine.specs.Machine.{Frame}
 use Rattle.value_machine.specs.Places.{Bases}

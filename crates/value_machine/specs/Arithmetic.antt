@@ -16,9 +16,9 @@ use Rattle.wasm_types.specs.declared.instr.IRelOp.{IRelOp}
 use Rattle.wasm_types.specs.declared.instr.IRelOp.TheVariants.{Eq, Ne, LtS, LeS, GtS, GeS, GtU}
 use Rattle.wasm_types.specs.declared.instr.ITestOp.TheVariants.{Eqz}
 use Rattle.wasm_types.specs.declared.instr.CvtOp.TheVariants.{I64ExtendI32U}
-use Rattle.mid_code.specs.declared.mid.Arithmetic.{Arithmetic}
-use Rattle.mid_code.specs.declared.mid.Arithmetic.TheVariants as inline
-use Rattle.mid_code.specs.Mid.{Form, Answered, Bare, Perhaps}
+use Rattle.mid_program.specs.declared.mid.Arithmetic.{Arithmetic}
+use Rattle.mid_program.specs.declared.mid.Arithmetic.TheVariants as inline
+use Rattle.mid_program.specs.Mid.{Form, Answered, Bare, Perhaps}
 use Rattle.value_machine.specs.Places.{Bases}
 use Rattle.value_machine.specs.Small.{does, ask_row, either, text_beside, moved_out, fail_if, number_is, h, n, kept_code, to_value, zeroed}
 

@@ -3,7 +3,7 @@ use Rattle.std.specs.Prelude.{ℕ, suc, ◌+◌, true, false}
 use Rattle.wasm_types.specs.Syntax.{Instruction, Plain, BrTable, Block, Loop, If, Instructions, Done, Then}
 use Rattle.wasm_types.specs.declared.instr.Simple.{Simple}
 use Rattle.wasm_types.specs.declared.instr.Simple.TheVariants.{Nop}
-use Rattle.mid_code.specs.Mid.{Step, Eval, Block as Body, If as Either, Loop as Rounds, Each, Break, Continue, Next, Exit, ExitWith, Return, Mark, Steps, NoStep, Then as AndThen}
+use Rattle.mid_program.specs.Mid.{Step, Eval, Block as Body, If as Either, Loop as Rounds, Each, Break, Continue, Next, Exit, ExitWith, Return, Mark, Steps, NoStep, Then as AndThen}
 
 -- how many places a step takes: its own, those of the steps in it, and that of the test of a loop whose first round goes without it
 abbrev mutual

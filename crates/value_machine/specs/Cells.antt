@@ -3,7 +3,7 @@
 use Rattle.std.specs.Prelude.{ℕ, Bool, true, false, not, ◌&&◌, ◌||◌, nat_eq, nat_lt, List, [], ◌∷◌, take, drop, get_or, length, suc, cond}
 use Rattle.awk_values.specs.declared.value.Value.{Value as AnyValue}
 use Rattle.wasm_store.specs.declared.word.Word.{Word}
-use Rattle.mid_code.specs.Mid.{Kind, Boxed, Unboxed, Many}
+use Rattle.mid_program.specs.Mid.{Kind, Boxed, Unboxed, Many}
 
 pub data Cell : Type 0 where
   Bits : Word → Cell

@@ -21,12 +21,12 @@ use Rattle.wasm_types.specs.declared.instr.Simple.TheVariants.{Br, Call as CallO
 use Rattle.wasm_types.specs.declared.instr.IRelOp.TheVariants.{Ne}
 use Rattle.wasm_types.specs.declared.instr.ITestOp.TheVariants.{Eqz}
 use Rattle.wasm_types.specs.declared.instr.CvtOp.TheVariants.{I64ExtendI32U}
-use Rattle.mid_code.specs.declared.mid.Operation.{Operation}
-use Rattle.mid_code.specs.declared.mid.Operation.TheVariants.{Host, Inline, AsNumber, FieldNumber}
-use Rattle.mid_code.specs.MidMeaning.{three_values}
-use Rattle.mid_code.specs.Names.{ArrayName, Numbered, Given}
-use Rattle.mid_code.specs.Mid.{Kind, Boxed, Unboxed, Many, Slot, Global, Parameter, Code, Do, Over, Compare, Call, Ask, AskLine, FileLine, Replace, Number, Text, Unset, Get, Set, Array, IsOpen, Choose, Seq, Let, Bound, Codes, End, At, Fixed, Fresh, Form, Answered, Bare, Perhaps, a_value, form_of, form_at, arguments, parameters_at}
-use Rattle.mid_code.specs.Sorted.{count_of}
+use Rattle.mid_program.specs.declared.mid.Operation.{Operation}
+use Rattle.mid_program.specs.declared.mid.Operation.TheVariants.{Host, Inline, AsNumber, FieldNumber}
+use Rattle.mid_program.specs.MidMeaning.{three_values}
+use Rattle.mid_program.specs.Names.{ArrayName, Numbered, Given}
+use Rattle.mid_program.specs.Mid.{Kind, Boxed, Unboxed, Many, Slot, Global, Parameter, Code, Do, Over, Compare, Call, Ask, AskLine, FileLine, Replace, Number, Text, Unset, Get, Set, Array, IsOpen, Choose, Seq, Let, Bound, Codes, End, At, Fixed, Fresh, Form, Answered, Bare, Perhaps, a_value, form_of, form_at, arguments, parameters_at}
+use Rattle.mid_program.specs.Sorted.{count_of}
 use Rattle.value_machine.specs.Imports.{import_count}
 use Rattle.value_machine.specs.Places.{Bases, place_of, array_local, array_name, range_global, handle_global, number_global, made_in}
 use Rattle.value_machine.specs.Small.{does, ask, ask_row, when, either, minus_one, least, text_beside, moved_out, let_go, copied, copied_if_any, number_is, h, n, kept, kept_code, kept_value, boxed_number, boxed_perhaps, to_value, converted, code_number, truth, unused, released, moved_from, bound_from}

@@ -1,9 +1,9 @@
 -- What emitted code gives: the machine over values shows what a program does, for every setting and number of turns, and with bounded work for each turn.
 use Rattle.std.specs.Prelude.{◌≡◌, ℕ, ◌+◌, ◌*◌, ◌≤◌, Some}
-use Rattle.mid_code.specs.Mid.{Program}
-use Rattle.mid_code.specs.MidMeaning.{mid_run_in}
-use Rattle.mid_code.specs.ScriptRun.{Setting, Ending, Ended, FaultedBy, GoesOn, Exhausted}
-use Rattle.mid_code.specs.Sorted.{IsSorted}
+use Rattle.mid_program.specs.Mid.{Program}
+use Rattle.mid_program.specs.MidMeaning.{mid_run_in}
+use Rattle.mid_program.specs.ScriptRun.{Setting, Ending, Ended, FaultedBy, GoesOn, Exhausted}
+use Rattle.mid_program.specs.Sorted.{IsSorted}
 use Rattle.value_machine.specs.Machine.{turns_within}
 use Rattle.value_machine.specs.Runs.{code_of, begun, value_run}
 

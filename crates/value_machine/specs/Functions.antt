@@ -1,7 +1,7 @@
 -- What the code of a program is emitted for, and its functions.
 use Rattle.std.specs.Prelude.{ℕ, zero, max, List, [], ◌++◌}
-use Rattle.mid_code.specs.Mid.{Routine, Program}
-use Rattle.mid_code.specs.Sorted.{kinds_of, calls_of, announced_names}
+use Rattle.mid_program.specs.Mid.{Routine, Program}
+use Rattle.mid_program.specs.Sorted.{kinds_of, calls_of, announced_names}
 use Rattle.value_machine.specs.Machine.{Callee}
 use Rattle.value_machine.specs.Places.{Bases, local_types, bases_for, steps_room, steps_iterators, steps_arrays}
 use Rattle.value_machine.specs.Emission.{Layout}

@@ -14,8 +14,8 @@ use Rattle.wasm_store.specs.declared.word.Word.{Word}
 use Rattle.wasm_store.specs.declared.word.Word.TheVariants.{I32}
 use Rattle.wasm_store.specs.Words.{binary_of, test_of, compare_of, converted, flag, zero_of}
 use Rattle.wasm_machine.specs.Frames.{constant_of}
-use Rattle.mid_code.specs.Mid.{Kind}
-use Rattle.mid_code.specs.ScriptRun.{Ending, Ended, FaultedBy, GoesOn, Exhausted}
+use Rattle.mid_program.specs.Mid.{Kind}
+use Rattle.mid_program.specs.ScriptRun.{Ending, Ended, FaultedBy, GoesOn, Exhausted}
 use Rattle.value_machine.specs.Cells.{Cell, Bits, Held, IteratorOf, OwnedArray, LentArray, Gone, is_owned, left_by, read_global, left_in_global, cell_at, has_room, none_owned, has_owner, iterators_in, tidy_locals, tidy_name, ended_name, globals_by}
 use Rattle.value_machine.specs.Imports.{import_at, import_arguments, import_count, import_number, params_of}
 use Rattle.value_machine.specs.ImportCalls.{Host, call, look, carried_by}

@@ -6,8 +6,8 @@ use Rattle.wasm_types.specs.declared.types.Limits.{Limits}
 use Rattle.wasm_types.specs.declared.instr.Simple.{Simple}
 use Rattle.wasm_types.specs.declared.instr.Simple.TheVariants.{Call, I32Const, I64Const}
 use Rattle.wasm_types.specs.declared.module.ExportDesc.TheVariants.{Func}
-use Rattle.mid_code.specs.Mid.{Kind, Program}
-use Rattle.mid_code.specs.Sorted.{kinds_of}
+use Rattle.mid_program.specs.Mid.{Kind, Program}
+use Rattle.mid_program.specs.Sorted.{kinds_of}
 use Rattle.value_machine.specs.Imports.{imports, import_name, import_type, module_name}
 use Rattle.value_machine.specs.Machine.{Callee}
 use Rattle.value_machine.specs.Places.{memory_of, kind_type}

@@ -2,9 +2,9 @@
 use Rattle.std.specs.Prelude.{ℕ, suc, List, [], ◌∷◌, ◌++◌, map, replicate, Option}
 use Rattle.awk_state.specs.Jobs.{fault_of_job, shared_at_start}
 use Rattle.wasm_store.specs.declared.word.Word.TheVariants as word
-use Rattle.mid_code.specs.Mid.{Kind, Program}
-use Rattle.mid_code.specs.Sorted.{kinds_of}
-use Rattle.mid_code.specs.ScriptRun.{Setting, Ending}
+use Rattle.mid_program.specs.Mid.{Kind, Program}
+use Rattle.mid_program.specs.Sorted.{kinds_of}
+use Rattle.mid_program.specs.ScriptRun.{Setting, Ending}
 use Rattle.value_machine.specs.Cells.{Cell, Bits}
 use Rattle.value_machine.specs.ImportCalls.{Host}
 use Rattle.value_machine.specs.Machine.{Code, Conf, at, zeros, go, ending_at}

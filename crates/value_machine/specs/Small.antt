@@ -17,7 +17,7 @@ use Rattle.wasm_types.specs.declared.instr.IBinOp.TheVariants.{Sub}
 use Rattle.wasm_types.specs.declared.instr.IRelOp.TheVariants.{Eq, Ne}
 use Rattle.wasm_types.specs.declared.instr.ITestOp.TheVariants.{Eqz}
 use Rattle.wasm_types.specs.declared.instr.CvtOp.TheVariants.{I64ExtendI32S, I64ExtendI32U}
-use Rattle.mid_code.specs.Mid.{Form, Answered, Bare, Perhaps}
+use Rattle.mid_program.specs.Mid.{Form, Answered, Bare, Perhaps}
 use Rattle.value_machine.specs.Imports.{import_number}
 use Rattle.value_machine.specs.Places.{Bases, handle_local, number_local}
 use Rattle.value_machine.specs.declared.import.Import.{Import}

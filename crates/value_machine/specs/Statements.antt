@@ -12,7 +12,7 @@ use Rattle.wasm_types.specs.declared.instr.Simple.TheVariants.{Nop, Br, BrIf, Lo
 use Rattle.wasm_types.specs.declared.instr.IRelOp.TheVariants.{Eq, Ne}
 use Rattle.wasm_types.specs.declared.instr.ITestOp.TheVariants.{Eqz}
 use Rattle.wasm_types.specs.declared.instr.CvtOp.TheVariants.{I32WrapI64}
-use Rattle.mid_code.specs.Mid.{Kind, Boxed, Unboxed, Many, Code, Step, Eval, Block as Steps_, If as Either, Loop, Each, Break, Continue, Next, Exit, ExitWith, Return, Mark, Steps, NoStep, Then as AndThen, Program, a_value, form_of}
+use Rattle.mid_program.specs.Mid.{Kind, Boxed, Unboxed, Many, Code, Step, Eval, Block as Steps_, If as Either, Loop, Each, Break, Continue, Next, Exit, ExitWith, Return, Mark, Steps, NoStep, Then as AndThen, Program, a_value, form_of}
 use Rattle.value_machine.specs.Places.{Bases, way_global, status_global, range_global, handle_global, answer_local, iterator_local, array_local}
 use Rattle.value_machine.specs.Small.{does, ask, ask_row, when, either, end_code, moved_out, emptied, let_go, number_is, h, n, kept_code, kept_number, to_value, to_number}
 use Rattle.value_machine.specs.Emission.{Layout, array_pushed, text_pushed, pending_assigned, asked, emitted, dropped, tested}

@@ -1,6 +1,6 @@
 //! Laws of the code that modules have for mid code, each the contract of a function that does nothing.
-ghost use Rattle.mid_code.specs.Mid.{Program};
-ghost use Rattle.mid_code.specs.Sorted.{IsSorted};
+ghost use Rattle.mid_program.specs.Mid.{Program};
+ghost use Rattle.mid_program.specs.Sorted.{IsSorted};
 ghost use Rattle.value_machine.specs.Follows.{Follows};
 
 /// The machine over values shows what a program does, for every well-sorted program: in every setting and for every number of turns it comes to the same

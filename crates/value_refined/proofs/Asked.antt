@@ -12,7 +12,7 @@ use Rattle.wasm_machine.specs.Runs.{told_end}
 use Rattle.wasm_machine.specs.declared.host.HostAnswer.{HostAnswer}
 use Rattle.wasm_machine.specs.declared.host.HostAnswer.TheVariants as told
 use Rattle.wasm_machine.specs.declared.state.End.TheVariants as ends
-use Rattle.mid_code.specs.Mid.{Kind}
+use Rattle.mid_program.specs.Mid.{Kind}
 use Rattle.host_step.specs.HostState.{HostState}
 use Rattle.host_step.specs.HostStep.{HostStep}
 use Rattle.value_machine.specs.Cells.{Cell}

@@ -7,7 +7,7 @@ use Rattle.wasm_types.specs.declared.instr.Simple.TheVariants.{Call}
 use Rattle.wasm_store.specs.declared.word.Word.{Word}
 use Rattle.wasm_machine.specs.Frames.{constant_of, settled_code, settled_values}
 use Rattle.wasm_machine.specs.Machines as real
-use Rattle.mid_code.specs.Mid.{Kind}
+use Rattle.mid_program.specs.Mid.{Kind}
 use Rattle.host_step.specs.HostState.{HostState}
 use Rattle.value_machine.specs.Cells.{Cell, Bits}
 use Rattle.value_machine.specs.Machine.{Code, Conf, Deep, Frame, Label, Look, Over, Run, Store, Stuck, at}

@@ -1,10 +1,10 @@
 -- Whether the machine over values shows what a program does with so many turns, computed.
 use Rattle.std.specs.Prelude.{◌≡◌, ℕ, zero, suc, ◌-◌, nat_le, ◌&&◌, if◌then◌else◌, List, [], length, Option, Some, None}
 use Rattle.world_core.specs.WorldState.{Action}
-use Rattle.mid_code.specs.Mid.{Program}
-use Rattle.mid_code.specs.MidMeaning.{mid_run_in}
-use Rattle.mid_code.specs.Kept.{output_of}
-use Rattle.mid_code.specs.ScriptRun.{Setting, Ending, Ended, FaultedBy, GoesOn, Exhausted}
+use Rattle.mid_program.specs.Mid.{Program}
+use Rattle.mid_program.specs.MidMeaning.{mid_run_in}
+use Rattle.mid_program.specs.Kept.{output_of}
+use Rattle.mid_program.specs.ScriptRun.{Setting, Ending, Ended, FaultedBy, GoesOn, Exhausted}
 use Rattle.value_machine.specs.Machine.{Code, Conf, step, ending_at, carried_at}
 use Rattle.value_machine.specs.Runs.{code_of, begun, value_run}
 

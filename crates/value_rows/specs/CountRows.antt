@@ -7,10 +7,10 @@ use Rattle.world_core.specs.WorldState.{Standard, absent, puts}
 use Rattle.world_core.specs.declared.world.Ending.TheVariants as outside
 use Rattle.awk_state.specs.declared.constants.Destination.TheVariants as to
 use Rattle.awk_state.specs.declared.table.Listed.TheVariants.{Print}
-use Rattle.mid_code.specs.ScriptRun.{Setting, Ended, FaultedBy, setting_of}
-use Rattle.mid_code.specs.declared.mid.Arithmetic.TheVariants.{Plus}
-use Rattle.mid_code.specs.declared.mid.Operation.TheVariants.{Inline}
-use Rattle.mid_code.specs.Mid.{Kind, Boxed, Unboxed, Global, Code, Do, Over, Compare, Number, Get, Set, End, At, Step, Eval, Block, Loop, Steps, NoStep, Then, Program}
+use Rattle.mid_program.specs.ScriptRun.{Setting, Ended, FaultedBy, setting_of}
+use Rattle.mid_program.specs.declared.mid.Arithmetic.TheVariants.{Plus}
+use Rattle.mid_program.specs.declared.mid.Operation.TheVariants.{Inline}
+use Rattle.mid_program.specs.Mid.{Kind, Boxed, Unboxed, Global, Code, Do, Over, Compare, Number, Get, Set, End, At, Step, Eval, Block, Loop, Steps, NoStep, Then, Program}
 use Rattle.value_machine.specs.Emission.{emitted, all_emitted}
 use Rattle.value_machine.specs.Statements.{step_emitted, steps_emitted}
 use Rattle.value_machine.specs.Machine.{Conf, go, ending_at, at, zeros}

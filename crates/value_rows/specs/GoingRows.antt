@@ -11,16 +11,16 @@ use Rattle.world_core.specs.declared.world.Ending.{Ending}
 use Rattle.world_core.specs.declared.world.Ending.TheVariants.{End}
 use Rattle.awk_state.specs.Jobs.{JobForm}
 use Rattle.awk_resolve.specs.Kinds.{special_arrays, special_scalars}
-use Rattle.mid_code.specs.Kinds.{resolved}
-use Rattle.mid_code.specs.ScriptRun.{setting_of}
-use Rattle.mid_code.specs.Texts.{texts_in, all_texts, stmt_texts, stmts_texts}
-use Rattle.mid_code.specs.Translation.{code_of, codes_of, key_code, kept_code, argument_codes, truncated_code, applied_code, step_code, steps_code, program_of}
+use Rattle.mid_program.specs.Kinds.{resolved}
+use Rattle.mid_program.specs.ScriptRun.{setting_of}
+use Rattle.mid_program.specs.Texts.{texts_in, all_texts, stmt_texts, stmts_texts}
+use Rattle.mid_program.specs.Translation.{code_of, codes_of, key_code, kept_code, argument_codes, truncated_code, applied_code, step_code, steps_code, program_of}
 use Rattle.language_rows.specs.Scripts as scripts
-use Rattle.mid_code.specs.ScriptState.{spend_all}
-use Rattle.mid_code.specs.Meaning.{asked}
-use Rattle.mid_code.specs.Statements.{loop, over_keys}
-use Rattle.mid_code.specs.ScriptRun.{first_assigned, records_done}
-use Rattle.mid_code.specs.MidMeaning.{evaluated, all_evaluated, stepped, all_stepped, mid_called}
+use Rattle.mid_program.specs.ScriptState.{spend_all}
+use Rattle.mid_program.specs.Meaning.{asked}
+use Rattle.mid_program.specs.Statements.{loop, over_keys}
+use Rattle.mid_program.specs.ScriptRun.{first_assigned, records_done}
+use Rattle.mid_program.specs.MidMeaning.{evaluated, all_evaluated, stepped, all_stepped, mid_called}
 use Rattle.value_rows.specs.Agreeing.{AgreesWith}
 use Rattle.value_machine.specs.Emission.{emitted, all_emitted}
 use Rattle.value_machine.specs.Statements.{step_emitted, steps_emitted}

@@ -8,12 +8,12 @@ use Rattle.world_core.specs.WorldState.{Standard, puts}
 use Rattle.awk_state.specs.declared.constants.Destination.TheVariants as to
 use Rattle.awk_state.specs.declared.table.Listed.TheVariants.{Print}
 use Rattle.awk_state.specs.declared.table.Primitive.TheVariants.{Elem, Concat}
-use Rattle.mid_code.specs.ScriptRun.{Ended, FaultedBy}
-use Rattle.mid_code.specs.declared.mid.Arithmetic.TheVariants.{Plus}
-use Rattle.mid_code.specs.declared.mid.Operation.TheVariants.{Host, Inline}
-use Rattle.mid_code.specs.Names.{Numbered, Given}
-use Rattle.mid_code.specs.Sorted.{sorted, all_sorted, step_sorted, steps_sorted, is_sorted}
-use Rattle.mid_code.specs.Mid.{Kind, Boxed, Many, Global, Code, Do, Over, Call, Number, Text, Get, Set, Array, Let, Bound, End, At, Fresh, Step, Eval, Each, Break, Continue, Steps, NoStep, Then, Declared, Routine, Program}
+use Rattle.mid_program.specs.ScriptRun.{Ended, FaultedBy}
+use Rattle.mid_program.specs.declared.mid.Arithmetic.TheVariants.{Plus}
+use Rattle.mid_program.specs.declared.mid.Operation.TheVariants.{Host, Inline}
+use Rattle.mid_program.specs.Names.{Numbered, Given}
+use Rattle.mid_program.specs.Sorted.{sorted, all_sorted, step_sorted, steps_sorted, is_sorted}
+use Rattle.mid_program.specs.Mid.{Kind, Boxed, Many, Global, Code, Do, Over, Call, Number, Text, Get, Set, Array, Let, Bound, End, At, Fresh, Step, Eval, Each, Break, Continue, Steps, NoStep, Then, Declared, Routine, Program}
 use Rattle.value_machine.specs.Emission.{emitted, all_emitted}
 use Rattle.value_machine.specs.Statements.{step_emitted, steps_emitted}
 use Rattle.value_machine.specs.Runs.{value_run}

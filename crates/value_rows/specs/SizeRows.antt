@@ -2,9 +2,9 @@
 use Rattle.std.specs.Prelude.{◌≡◌, ℕ, ◌-◌, Bool, true, false, [], ◌∷◌, codes, pos, refl}
 use Rattle.awk_state.specs.declared.constants.Destination.TheVariants.{Standard}
 use Rattle.awk_state.specs.declared.table.Listed.TheVariants.{Print}
-use Rattle.mid_code.specs.declared.mid.Arithmetic.TheVariants.{Plus}
-use Rattle.mid_code.specs.declared.mid.Operation.TheVariants.{Inline}
-use Rattle.mid_code.specs.Mid.{Kind, Boxed, Unboxed, Global, Do, Over, Number, Get, Set, End, At, Step, Eval, NoStep, Program}
+use Rattle.mid_program.specs.declared.mid.Arithmetic.TheVariants.{Plus}
+use Rattle.mid_program.specs.declared.mid.Operation.TheVariants.{Inline}
+use Rattle.mid_program.specs.Mid.{Kind, Boxed, Unboxed, Global, Do, Over, Number, Get, Set, End, At, Step, Eval, NoStep, Program}
 use Rattle.value_machine.specs.Emission.{emitted, all_emitted}
 use Rattle.value_machine.specs.Statements.{step_emitted, steps_emitted}
 use Rattle.value_machine.specs.Modules.{module_of}

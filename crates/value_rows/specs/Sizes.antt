@@ -3,7 +3,7 @@ use Rattle.std.specs.Prelude.{ℕ, zero, suc, ◌+◌, ◌/◌, ◌-◌, ◌^◌
 use Rattle.wasm_types.specs.Syntax.{Instruction, Plain, BrTable, Block, Loop, If, Instructions, Done, Then, FuncForm, ModuleForm}
 use Rattle.wasm_types.specs.declared.instr.Simple.{Simple}
 use Rattle.wasm_types.specs.declared.instr.Simple.TheVariants.{Br, BrIf, Call, LocalGet, LocalSet, LocalTee, GlobalGet, GlobalSet, I32Const, I64Const}
-use Rattle.mid_code.specs.Mid.{Step, Steps, NoStep, Then as AndThen}
+use Rattle.mid_program.specs.Mid.{Step, Steps, NoStep, Then as AndThen}
 
 -- seven bits to a byte, of at most ten
 abbrev groups : (most : ℕ) → ℕ → ℕ

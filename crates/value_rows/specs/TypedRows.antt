@@ -11,10 +11,10 @@ use Rattle.world_core.specs.declared.world.Ending.{Ending}
 use Rattle.world_core.specs.declared.world.Ending.TheVariants.{End}
 use Rattle.awk_state.specs.Jobs.{JobForm}
 use Rattle.awk_resolve.specs.Kinds.{special_arrays, special_scalars}
-use Rattle.mid_code.specs.Kinds.{resolved}
-use Rattle.mid_code.specs.Texts.{texts_in, all_texts, stmt_texts, stmts_texts}
-use Rattle.mid_code.specs.Translation.{code_of, codes_of, key_code, kept_code, argument_codes, truncated_code, applied_code, step_code, steps_code, program_of}
-use Rattle.mid_code.specs.Scripts as scripts
+use Rattle.mid_program.specs.Kinds.{resolved}
+use Rattle.mid_program.specs.Texts.{texts_in, all_texts, stmt_texts, stmts_texts}
+use Rattle.mid_program.specs.Translation.{code_of, codes_of, key_code, kept_code, argument_codes, truncated_code, applied_code, step_code, steps_code, program_of}
+use Rattle.mid_program.specs.Scripts as scripts
 use Rattle.value_rows.specs.Lanes.{unboxed}
 use Rattle.value_machine.specs.Modules.{module_of}
 use Rattle.value_rows.specs.Typed.{is_typed}

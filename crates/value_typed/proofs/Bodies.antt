@@ -8,8 +8,8 @@ use Rattle.awk_state.specs.declared.table.Primitive.TheVariants as row
 use Rattle.wasm_types.specs.Syntax.{Instructions}
 use Rattle.wasm_types.specs.Typing.{Context, CodeOk, done}
 use Rattle.wasm_types.specs.declared.types.ValType.TheVariants.{I32}
-use Rattle.mid_code.specs.Mid.{Kind, Boxed, Unboxed, Many, Program, Steps}
-use Rattle.mid_code.specs.Sorted.{context_of, kinds_of, has_kind, parts_sorted, steps_sorted}
+use Rattle.mid_program.specs.Mid.{Kind, Boxed, Unboxed, Many, Program, Steps}
+use Rattle.mid_program.specs.Sorted.{context_of, kinds_of, has_kind, parts_sorted, steps_sorted}
 use Rattle.value_machine.specs.Functions.{layout_of}
 use Rattle.value_machine.specs.Places.{Bases, kind_type, steps_room, steps_iterators, steps_arrays}
 use Rattle.value_machine.specs.Statements.{steps_emitted, temporaries_emptied, iterators_emptied, arrays_emptied, all_emptied, temporaries_swept, iterators_swept, arrays_swept, swept, parameters_dropped, routine_body, started, declared, declared_kind, names_declared, routines_declared, names_made, goes_on, record_done, records_read, part_done, before_parts, main_body}

@@ -5,7 +5,7 @@ use Rattle.std.specs.Prelude.{◌&&◌, nat_eq, slice_get, get_or, map}
 use Rattle.std.proofs.lemmas.Bool.{and_parts, eqb-true}
 use Rattle.std.proofs.lemmas.List.Elements.{All-cons, All-nil}
 use Rattle.awk_state.specs.declared.table.Primitive.TheVariants as row
-use Rattle.mid_code.specs.Mid.{Program}
+use Rattle.mid_program.specs.Mid.{Program}
 use Rattle.value_machine.specs.Emission.{function_number}
 use Rattle.value_machine.specs.Imports.{imports, import_number, import_at}
 use Rattle.value_machine.specs.Machine.{Callee}

@@ -7,11 +7,11 @@ use Rattle.awk_state.specs.declared.sorts.Sort.TheVariants as sort
 use Rattle.awk_state.specs.declared.table.Primitive.TheVariants as row
 use Rattle.wasm_types.specs.Syntax.{Instructions}
 use Rattle.wasm_types.specs.Typing.{Context, CodeOk, done}
-use Rattle.mid_code.specs.declared.mid.Operation.{Operation}
-use Rattle.mid_code.specs.declared.mid.Operation.TheVariants.{Host, Inline, AsNumber, FieldNumber}
-use Rattle.mid_code.specs.MidMeaning.{three_values}
-use Rattle.mid_code.specs.Mid.{Kind, Program, Code, Do, Over, Compare, Call, Ask, AskLine, FileLine, Replace, Number, Text, Unset, Get, Set, Array, IsOpen, Choose, Seq, Let, Bound, Codes, End, At, Fixed, Fresh, Form, a_value, form_of, form_at, arguments, parameters_at}
-use Rattle.mid_code.specs.Sorted.{context_of, calls_of, fits, fit_row, fit_call, all_values, are_enough, count_of, is_slot, takes, is_chosen, is_tested, is_dropped, is_kept, is_done_here, keeps_well, stores_well, sorted, all_sorted}
+use Rattle.mid_program.specs.declared.mid.Operation.{Operation}
+use Rattle.mid_program.specs.declared.mid.Operation.TheVariants.{Host, Inline, AsNumber, FieldNumber}
+use Rattle.mid_program.specs.MidMeaning.{three_values}
+use Rattle.mid_program.specs.Mid.{Kind, Program, Code, Do, Over, Compare, Call, Ask, AskLine, FileLine, Replace, Number, Text, Unset, Get, Set, Array, IsOpen, Choose, Seq, Let, Bound, Codes, End, At, Fixed, Fresh, Form, a_value, form_of, form_at, arguments, parameters_at}
+use Rattle.mid_program.specs.Sorted.{context_of, calls_of, fits, fit_row, fit_call, all_values, are_enough, count_of, is_slot, takes, is_chosen, is_tested, is_dropped, is_kept, is_done_here, keeps_well, stores_well, sorted, all_sorted}
 use Rattle.value_machine.specs.Emission.{emitted, all_emitted, performed, left_over, text_let_go}
 use Rattle.value_machine.specs.Functions.{layout_of}
 use Rattle.value_machine.specs.Places.{Bases, room, rooms, arrays_in, arrays_among, made_in}

@@ -9,7 +9,7 @@ use Rattle.wasm_types.specs.Typing.{callee_in}
 use Rattle.wasm_machine.specs.Links.{main_of, main_type, number_if, number_for, numbers_for, SegmentsFit, ElemFits, DataFits}
 use Rattle.wasm_machine.specs.Machines.{agree, same_signature}
 use Rattle.wasm_machine.proofs.Types.{decided}
-use Rattle.mid_code.specs.Mid.{Routine, Program}
+use Rattle.mid_program.specs.Mid.{Routine, Program}
 use Rattle.value_machine.specs.Functions.{texts_of, routine_callee, main_callee}
 use Rattle.value_machine.specs.Imports.{import_number, import_name, import_type, module_name}
 use Rattle.value_machine.specs.Modules.{all_callees, imports_of, callee_type, imported_from, pages_for, module_of}

@@ -6,7 +6,7 @@ use Rattle.std.proofs.lemmas.List.{length-map, length-append}
 use Rattle.std.proofs.lemmas.Option.{slice_get_past}
 use Rattle.wasm_types.specs.Syntax.{Signature, ImportForm, FuncForm}
 use Rattle.wasm_types.specs.Typing.{function_types, callee_in}
-use Rattle.mid_code.specs.Mid.{Program}
+use Rattle.mid_program.specs.Mid.{Program}
 use Rattle.value_machine.specs.Imports.{imports, import_type}
 use Rattle.value_machine.specs.Machine.{Callee}
 use Rattle.value_machine.specs.Modules.{all_callees, any_calls, called_imports, imports_of, new_number, callee_type, imported_from, functions_from, module_of}

@@ -9,8 +9,8 @@ use Rattle.wasm_types.specs.Typing.{Context}
 use Rattle.wasm_types.specs.declared.types.ValType.{ValType}
 use Rattle.wasm_types.specs.declared.types.ValType.TheVariants.{I32, I64}
 use Rattle.wasm_types.specs.declared.types.GlobalType.{GlobalType}
-use Rattle.mid_code.specs.Mid.{Kind, Boxed, Unboxed, Many, Routine, Program, parameters_at}
-use Rattle.mid_code.specs.Sorted.{kinds_of, calls_of, has_kind}
+use Rattle.mid_program.specs.Mid.{Kind, Boxed, Unboxed, Many, Routine, Program, parameters_at}
+use Rattle.mid_program.specs.Sorted.{kinds_of, calls_of, has_kind}
 use Rattle.value_machine.specs.Emission.{function_number}
 use Rattle.value_machine.specs.Functions.{routine_callee, main_callee}
 use Rattle.value_machine.specs.Imports.{imports, import_number, import_type}

@@ -13,9 +13,9 @@ use Rattle.awk_state.specs.declared.table.Listed.TheVariants as listed
 use Rattle.wasm_types.specs.Syntax.{Instructions}
 use Rattle.wasm_types.specs.Typing.{Context, CodeOk}
 use Rattle.wasm_types.specs.declared.types.ValType.TheVariants.{I32}
-use Rattle.mid_code.specs.declared.mid.Operation.TheVariants.{Inline}
-use Rattle.mid_code.specs.Mid.{Kind, Boxed, Unboxed, Many, Program, Code, Do, Over, Compare, Call, Ask, AskLine, FileLine, Replace, Number, Text, Unset, Get, Set, Array, IsOpen, Choose, Seq, Let, Bound, Codes, End, At, Fixed, Fresh, Form, Answered, Bare, form_of}
-use Rattle.mid_code.specs.Sorted.{context_of, is_array_place, fits, fit_row, is_given, fit_call, is_constant, is_kept, keeps_well, sorted, all_sorted, arrays_among as count_arrays}
+use Rattle.mid_program.specs.declared.mid.Operation.TheVariants.{Inline}
+use Rattle.mid_program.specs.Mid.{Kind, Boxed, Unboxed, Many, Program, Code, Do, Over, Compare, Call, Ask, AskLine, FileLine, Replace, Number, Text, Unset, Get, Set, Array, IsOpen, Choose, Seq, Let, Bound, Codes, End, At, Fixed, Fresh, Form, Answered, Bare, form_of}
+use Rattle.mid_program.specs.Sorted.{context_of, is_array_place, fits, fit_row, is_given, fit_call, is_constant, is_kept, keeps_well, sorted, all_sorted, arrays_among as count_arrays}
 use Rattle.value_machine.specs.Emission.{array_meant, all_converted, one_pushed, all_pushed, all_boxed, all_appended, listed_asked, all_given, one_given, all_given_pushed, all_freed}
 use Rattle.value_machine.specs.Functions.{layout_of}
 use Rattle.value_machine.specs.Imports.{params_of, words_of}

@@ -10,9 +10,9 @@ use Rattle.wasm_types.specs.Syntax.{Instructions}
 use Rattle.wasm_types.specs.Typing.{Context, CodeOk, done}
 use Rattle.wasm_types.specs.declared.types.ValType.TheVariants.{I32}
 use Rattle.wasm_types.specs.declared.instr.Simple.{Simple}
-use Rattle.mid_code.specs.Mid.{Kind, Boxed, Unboxed, Many, Slot, Global, Parameter, Program, Form, Answered, Bare, Perhaps}
-use Rattle.mid_code.specs.Names.{ArrayName, Numbered, Given}
-use Rattle.mid_code.specs.Sorted.{context_of, is_array_place, is_slot, kinds_of, arrays_among}
+use Rattle.mid_program.specs.Mid.{Kind, Boxed, Unboxed, Many, Slot, Global, Parameter, Program, Form, Answered, Bare, Perhaps}
+use Rattle.mid_program.specs.Names.{ArrayName, Numbered, Given}
+use Rattle.mid_program.specs.Sorted.{context_of, is_array_place, is_slot, kinds_of, arrays_among}
 use Rattle.value_machine.specs.Emission.{array_pushed, slot_read, handle_stored, value_stored, text_dropped, slot_set, assigned, assigned_by_number, pending_assigned, asked}
 use Rattle.value_machine.specs.Functions.{layout_of}
 use Rattle.value_machine.specs.Imports.{primitive_number}

@@ -4,8 +4,8 @@ use Rattle.std.specs.Prelude.{slice_get, map}
 use Rattle.wasm_types.specs.Syntax.{Signature}
 use Rattle.wasm_types.specs.Typing.{Context}
 use Rattle.wasm_types.specs.declared.types.ValType.TheVariants.{I32, I64}
-use Rattle.mid_code.specs.Mid.{Kind, Program, parameters_at}
-use Rattle.mid_code.specs.Sorted.{calls_of, kinds_of, has_kind}
+use Rattle.mid_program.specs.Mid.{Kind, Program, parameters_at}
+use Rattle.mid_program.specs.Sorted.{calls_of, kinds_of, has_kind}
 use Rattle.value_machine.specs.Emission.{function_number}
 use Rattle.value_machine.specs.Imports.{import_number, import_type}
 use Rattle.value_machine.specs.Places.{Bases, way_global, status_global, range_global, handle_global, number_global, answer_local, handle_local, number_local, iterator_local, array_local, kind_type}

@@ -7,8 +7,8 @@ use Rattle.awk_state.specs.declared.table.Primitive.TheVariants as row
 use Rattle.wasm_types.specs.Syntax.{Instructions}
 use Rattle.wasm_types.specs.Typing.{Context, CodeOk, done}
 use Rattle.wasm_types.specs.declared.types.ValType.TheVariants.{I32}
-use Rattle.mid_code.specs.Mid.{Kind, Program, Code, Step, Eval, Block, If, Loop, Each, Break, Continue, Next, Exit as ExitStep, ExitWith, Return, Mark, Steps, NoStep, Then, Form, a_value, form_of}
-use Rattle.mid_code.specs.Sorted.{context_of, is_array_place, fits, is_tested, is_dropped, stores_well, sorted, test_sorted, step_sorted, steps_sorted}
+use Rattle.mid_program.specs.Mid.{Kind, Program, Code, Step, Eval, Block, If, Loop, Each, Break, Continue, Next, Exit as ExitStep, ExitWith, Return, Mark, Steps, NoStep, Then, Form, a_value, form_of}
+use Rattle.mid_program.specs.Sorted.{context_of, is_array_place, fits, is_tested, is_dropped, stores_well, sorted, test_sorted, step_sorted, steps_sorted}
 use Rattle.value_machine.specs.Emission.{dropped, tested}
 use Rattle.value_machine.specs.Functions.{layout_of}
 use Rattle.value_machine.specs.Places.{Bases, room, arrays_in, step_room, steps_room, step_arrays, steps_arrays, step_iterators, steps_iterators}

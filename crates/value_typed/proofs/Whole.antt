@@ -8,8 +8,8 @@ use Rattle.std.proofs.lemmas.List.Elements.{All-cons, All-nil, All-append, All-r
 use Rattle.wasm_types.specs.Syntax.{GlobalForm, ImportForm}
 use Rattle.wasm_types.specs.Typing.{CodeOk, context_in, typed_in, callee_in, FuncOk, ImportOk, IsConstant, DescOk, DataOk, AreDistinct, LevelOk, ModuleOk}
 use Rattle.wasm_types.specs.declared.types.ValType.TheVariants.{I32}
-use Rattle.mid_code.specs.Mid.{Kind, Routine, Program}
-use Rattle.mid_code.specs.Sorted.{context_of, kinds_of, announced_names, all_differ, routines_sorted, parts_sorted, steps_sorted, is_sorted, IsSorted}
+use Rattle.mid_program.specs.Mid.{Kind, Routine, Program}
+use Rattle.mid_program.specs.Sorted.{context_of, kinds_of, announced_names, all_differ, routines_sorted, parts_sorted, steps_sorted, is_sorted, IsSorted}
 use Rattle.value_machine.specs.Functions.{texts_of, routine_bases, main_bases, routine_callee, main_callee}
 use Rattle.value_machine.specs.Imports.{import_type}
 use Rattle.value_machine.specs.Machine.{Callee}

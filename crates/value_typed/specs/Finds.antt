@@ -2,7 +2,7 @@
 use Rattle.std.specs.Prelude.{ℕ, suc, List, [], ◌∷◌, Option, Some, None, if◌then◌else◌}
 use Rattle.wasm_types.specs.Syntax.{Signature}
 use Rattle.wasm_machine.specs.Hosts.{Finds}
-use Rattle.mid_code.specs.Names.{same_name}
+use Rattle.mid_program.specs.Names.{same_name}
 use Rattle.value_machine.specs.Imports.{imports, import_name, import_type, module_name}
 use Rattle.value_machine.specs.declared.import.Import.{Import}
 

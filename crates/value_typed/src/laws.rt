@@ -1,8 +1,8 @@
 //! Laws of the module of a program, each the contract of a function that does nothing.
 ghost use Rattle.std.specs.Prelude.{◌≡◌, ◌+◌, ◌≤◌, ◌^◌, ◌↔◌, ℕ, Some, length, map, slice_get, true};
 ghost use Rattle.std.specs.List.{All};
-ghost use Rattle.mid_code.specs.Mid.{Program};
-ghost use Rattle.mid_code.specs.Sorted.{IsSorted};
+ghost use Rattle.mid_program.specs.Mid.{Program};
+ghost use Rattle.mid_program.specs.Sorted.{IsSorted};
 ghost use Rattle.value_machine.specs.Emission.{function_number};
 ghost use Rattle.value_machine.specs.Functions.{texts_of};
 ghost use Rattle.value_machine.specs.Imports.{import_number};

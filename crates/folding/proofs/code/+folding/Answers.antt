@@ -1,7 +1,7 @@
 use Rattle.std.proofs.Common.{rules, length, drop, ap, sym, ◌∙◌, arith}
-use Rattle.mid_code.specs.Mid as plain
-use Rattle.mid_code.specs.ViewCode.{view, views}
-use Rattle.mid_code.specs.declared.code.Code.{Code}
+use Rattle.mid_program.specs.Mid as plain
+use Rattle.mid_program.specs.ViewCode.{view, views}
+use Rattle.mid_program.specs.declared.code.Code.{Code}
 use Rattle.folding.specs.Folding.{folded, reduced}
 use Rattle.folding.proofs.Views.{OperandDone, done_next, operands_of, operands_done, view_call, view_do, view_over, view_replace, written_back}
 use Rattle.folding.proofs.code.+folding.Goals as goal

@@ -1,6 +1,6 @@
 use Rattle.std.proofs.Common.{◌+◌, ◌*◌}
-use Rattle.mid_code.specs.declared.code.Code.{size-Code}
-use Rattle.mid_code.specs.declared.code.Operand.{size-Operand}
+use Rattle.mid_program.specs.declared.code.Code.{size-Code}
+use Rattle.mid_program.specs.declared.code.Operand.{size-Operand}
 use Rattle.folding.proofs.Views.{Done, OperandDone}
 use Rattle.folding.proofs.code.+folding.Given as goal
 

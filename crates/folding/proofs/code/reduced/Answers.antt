@@ -1,7 +1,7 @@
 use Rattle.std.proofs.Common.{List, ap, ◌∙◌, ◌≡◌, to_z-of_z}
-use Rattle.mid_code.specs.Mid as plain
-use Rattle.mid_code.specs.ViewCode.{views}
-use Rattle.mid_code.specs.declared.code.Operand.{Operand}
+use Rattle.mid_program.specs.Mid as plain
+use Rattle.mid_program.specs.ViewCode.{views}
+use Rattle.mid_program.specs.declared.code.Operand.{Operand}
 use Rattle.folding.specs.Folding.{value_of}
 use Rattle.folding.specs.View.{numeral}
 use Rattle.folding.proofs.Views.{none_reduced, some_fits, some_reduced, view_do}

@@ -1,6 +1,6 @@
 use Rattle.std.proofs.Common.{subst, sym}
-use Rattle.mid_code.specs.Mid.{Program}
-use Rattle.mid_code.specs.View.{view_mid}
+use Rattle.mid_program.specs.Mid.{Program}
+use Rattle.mid_program.specs.View.{view_mid}
 use Rattle.mid_rewriting.specs.SameRuns.{SameRuns}
 use Rattle.folding.specs.Folding.{fold}
 use Rattle.folding.specs.Left.{NoneLeft}

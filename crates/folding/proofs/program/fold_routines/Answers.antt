@@ -1,5 +1,5 @@
 use Rattle.std.proofs.Common.{length, drop, map, ap, ◌∙◌, arith}
-use Rattle.mid_code.specs.View.{view_routine}
+use Rattle.mid_program.specs.View.{view_routine}
 use Rattle.folding.proofs.Views.{RoutineDone, done_next, routines_done, written_back}
 use Rattle.folding.proofs.program.fold_routines.Goals as goal
 

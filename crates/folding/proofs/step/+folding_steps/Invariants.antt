@@ -1,5 +1,5 @@
 use Rattle.std.proofs.Common.{◌+◌, ◌*◌}
-use Rattle.mid_code.specs.declared.step.Step.{size-Step}
+use Rattle.mid_program.specs.declared.step.Step.{size-Step}
 use Rattle.folding.proofs.Views.{Done, StepDone}
 use Rattle.folding.proofs.step.+folding_steps.Given as goal
 

@@ -1,7 +1,7 @@
 use Rattle.std.proofs.Common.{ap, ◌∙◌}
-use Rattle.mid_code.specs.Mid as plain
-use Rattle.mid_code.specs.ViewCode.{view, views}
-use Rattle.mid_code.specs.declared.code.Code.{Code}
+use Rattle.mid_program.specs.Mid as plain
+use Rattle.mid_program.specs.ViewCode.{view, views}
+use Rattle.mid_program.specs.declared.code.Code.{Code}
 use Rattle.mid_code.proofs.Views.{view_replace}
 use Rattle.mid_code.proofs.build.replaced.Goals as goal
 

@@ -4,8 +4,8 @@ use Rattle.std.proofs.lemmas.Result.{IfOk-weaker}
 use Rattle.awk_grammar.specs.View.{view as tree, views as trees, view_binary}
 use Rattle.awk_grammar.specs.declared.tree.Expr.{Expr}
 use Rattle.awk_grammar.proofs.Views.{element_is, call_is, apply_is, in_list_is}
-use Rattle.mid_code.specs.Mid as plain
-use Rattle.mid_code.specs.Translation.{applied_code, code_of}
+use Rattle.mid_program.specs.Mid as plain
+use Rattle.mid_program.specs.Translation.{applied_code, code_of}
 use Rattle.mid_code.specs.ViewScope.{scope_of, texts_of}
 use Rattle.mid_code.proofs.CodeParts.{binary_is, call_computed, call_end, call_missing, call_named, element_kept, in_list_code, index_code, key_end, key_none, key_step, length_more, list_code, match_code, no_trees, one_tree, operands_end, operands_step, other_code, other_operator, place_replaced, quotient_code, record_replaced, some_left, split_by_code, split_code, split_none, substr_code, substr_from}
 use Rattle.mid_code.proofs.expression.+expressions.Goals.{call-then-i-es+in_ok-push, call-else-i-es+in-Some+in_ok-passed+in_ok-push-2, call-else-i-es+in_default+in_ok-code+in_ok-push-3}

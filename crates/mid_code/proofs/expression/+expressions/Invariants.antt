@@ -1,8 +1,8 @@
 use Rattle.std.proofs.Common.{◌≡◌, ◌<◌, drop, length}
 use Rattle.awk_grammar.specs.View.{views as trees}
 use Rattle.awk_resolve.specs.ViewKinds.{view_name_kinds}
-use Rattle.mid_code.specs.Translation.{argument_codes, codes_of, key_code}
-use Rattle.mid_code.specs.ViewCode.{followed, view, views}
+use Rattle.mid_program.specs.Translation.{argument_codes, codes_of, key_code}
+use Rattle.mid_program.specs.ViewCode.{followed, view, views}
 use Rattle.mid_code.specs.ViewScope.{scope_of, texts_of}
 use Rattle.mid_code.proofs.expression.+expressions.Given as goal
 

@@ -3,9 +3,9 @@ use Rattle.std.proofs.Math.ListN.{drop_of_length-le}
 use Rattle.awk_grammar.specs.ViewStmt.{view_items}
 use Rattle.awk_grammar.specs.declared.tree.Item.{Item}
 use Rattle.awk_resolve.proofs.Names.{drop_at}
-use Rattle.mid_code.specs.Translation.{end_code}
+use Rattle.mid_program.specs.Translation.{end_code}
 use Rattle.mid_code.specs.ViewScope.{scope_of, texts_of}
-use Rattle.mid_code.specs.declared.step.Step.{Step}
+use Rattle.mid_program.specs.declared.step.Step.{Step}
 use Rattle.mid_code.proofs.StepParts.{chain_maybe}
 use Rattle.mid_code.proofs.Views.{chain, chain_end}
 use Rattle.mid_code.proofs.item.end.Goals as goal

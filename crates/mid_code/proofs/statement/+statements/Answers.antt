@@ -2,10 +2,10 @@ use Rattle.std.proofs.Common.{◌+◌, List, drop, ap, sym, ◌∙◌}
 use Rattle.awk_grammar.specs.ViewStmt.{view_stmt, view_stmts}
 use Rattle.awk_grammar.specs.declared.tree.Stmt.{Stmt}
 use Rattle.awk_grammar.proofs.Views.{block_is}
-use Rattle.mid_code.specs.Mid as plain
-use Rattle.mid_code.specs.Translation.{step_code, steps_code}
+use Rattle.mid_program.specs.Mid as plain
+use Rattle.mid_program.specs.Translation.{step_code, steps_code}
 use Rattle.mid_code.specs.ViewScope.{scope_of, texts_of}
-use Rattle.mid_code.specs.declared.step.Step.{Step}
+use Rattle.mid_program.specs.declared.step.Step.{Step}
 use Rattle.mid_code.proofs.StepParts.{steps_at, steps_past}
 use Rattle.mid_code.proofs.Views.{chain, chain_end, chain_push}
 use Rattle.mid_code.proofs.statement.+statements.Goals as goal

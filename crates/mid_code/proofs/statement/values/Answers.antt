@@ -1,13 +1,13 @@
 use Rattle.std.proofs.Common.{List, [], ◌∷◌, ◌++◌, ap, sym, ◌∙◌}
 use Rattle.awk_grammar.specs.ViewStmt.{view_args}
 use Rattle.awk_grammar.specs.declared.tree.PrintArgs.{PrintArgs}
-use Rattle.mid_code.specs.Mid.{Code, At, End}
-use Rattle.mid_code.specs.Statements.{operands_of}
-use Rattle.mid_code.specs.Translation.{codes_of}
-use Rattle.mid_code.specs.ViewCode.{views}
+use Rattle.mid_program.specs.Mid.{Code, At, End}
+use Rattle.mid_program.specs.Statements.{operands_of}
+use Rattle.mid_program.specs.Translation.{codes_of}
+use Rattle.mid_program.specs.ViewCode.{views}
 use Rattle.mid_code.specs.ViewScope.{scope_of, texts_of}
-use Rattle.mid_code.specs.declared.code.Operand.{Operand}
-use Rattle.mid_code.specs.declared.code.Operand.TheVariants as operand
+use Rattle.mid_program.specs.declared.code.Operand.{Operand}
+use Rattle.mid_program.specs.declared.code.Operand.TheVariants as operand
 use Rattle.mid_code.proofs.StepParts.{whole_record_is}
 use Rattle.mid_code.proofs.statement.values.Goals as goal
 

@@ -3,8 +3,8 @@ use Rattle.std.proofs.lemmas.Result.{on_ok_weaker}
 use Rattle.awk_grammar.specs.ViewStmt.{view_stmt, view_stmts}
 use Rattle.awk_grammar.specs.declared.tree.Stmt.{Stmt}
 use Rattle.awk_resolve.proofs.Names.{drop_at}
-use Rattle.mid_code.specs.Texts.{once, stmt_texts, stmts_texts}
-use Rattle.mid_code.specs.View.{view_texts}
+use Rattle.mid_program.specs.Texts.{once, stmt_texts, stmts_texts}
+use Rattle.mid_program.specs.View.{view_texts}
 use Rattle.mid_code.proofs.TextTables.{block_texts, once_append}
 use Rattle.mid_code.proofs.texts.+stmt_texts.Goals as goal
 

@@ -3,8 +3,8 @@ use Rattle.std.proofs.lemmas.Result.{on_ok_weaker}
 use Rattle.awk_grammar.specs.declared.tree.Expr.{Expr}
 use Rattle.awk_grammar.specs.View.{view as tree, views as trees}
 use Rattle.awk_resolve.proofs.Names.{drop_at}
-use Rattle.mid_code.specs.Texts.{all_texts, once, texts_in}
-use Rattle.mid_code.specs.View.{view_texts}
+use Rattle.mid_program.specs.Texts.{all_texts, once, texts_in}
+use Rattle.mid_program.specs.View.{view_texts}
 use Rattle.mid_code.proofs.TextTables.{apply_texts, call_texts, element_texts, list_texts, once_append}
 use Rattle.mid_code.proofs.texts.+texts.Goals as goal
 

@@ -1,7 +1,7 @@
 use Rattle.std.proofs.Common.{◌≡◌, drop}
 use Rattle.awk_grammar.specs.View.{views as trees}
-use Rattle.mid_code.specs.Texts.{all_texts, once}
-use Rattle.mid_code.specs.View.{view_texts}
+use Rattle.mid_program.specs.Texts.{all_texts, once}
+use Rattle.mid_program.specs.View.{view_texts}
 use Rattle.mid_code.proofs.texts.+texts.Given as goal
 
 abbrev pub invariant-put_all-loop-e : goal.invariant-put_all-loop-e

@@ -1,5 +1,5 @@
 use Rattle.std.proofs.Common.{ap, ◌∙◌}
-use Rattle.mid_code.specs.View.{view_texts}
+use Rattle.mid_program.specs.View.{view_texts}
 use Rattle.mid_code.proofs.TextTables.{put_is}
 use Rattle.mid_code.proofs.texts.put.Goals as goal
 

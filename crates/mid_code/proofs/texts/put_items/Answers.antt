@@ -2,8 +2,8 @@ use Rattle.std.proofs.Common.{◌+◌, ℕ, List, drop, ap, sym, ◌∙◌}
 use Rattle.awk_grammar.specs.ViewStmt.{view_item, view_items}
 use Rattle.awk_grammar.specs.declared.tree.Item.{Item}
 use Rattle.awk_resolve.proofs.Names.{drop_at}
-use Rattle.mid_code.specs.Texts.{item_texts, items_texts, once}
-use Rattle.mid_code.specs.View.{view_texts}
+use Rattle.mid_program.specs.Texts.{item_texts, items_texts, once}
+use Rattle.mid_program.specs.View.{view_texts}
 use Rattle.mid_code.proofs.TextTables.{once_append}
 use Rattle.mid_code.proofs.texts.put_items.Goals as goal
 

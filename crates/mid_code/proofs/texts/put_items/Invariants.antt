@@ -1,7 +1,7 @@
 use Rattle.std.proofs.Common.{◌≡◌, drop}
 use Rattle.awk_grammar.specs.ViewStmt.{view_items}
-use Rattle.mid_code.specs.Texts.{items_texts, once}
-use Rattle.mid_code.specs.View.{view_texts}
+use Rattle.mid_program.specs.Texts.{items_texts, once}
+use Rattle.mid_program.specs.View.{view_texts}
 use Rattle.mid_code.proofs.texts.put_items.Given as goal
 
 abbrev pub invariant-loop-item : goal.invariant-loop-item

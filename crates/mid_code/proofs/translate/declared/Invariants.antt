@@ -1,7 +1,7 @@
 use Rattle.std.proofs.Common.{◌≡◌, ◌++◌, drop, map}
 use Rattle.awk_resolve.specs.ViewKinds.{view_name_kinds}
-use Rattle.mid_code.specs.Translation.{declared_code}
-use Rattle.mid_code.specs.View.{view_declared}
+use Rattle.mid_program.specs.Translation.{declared_code}
+use Rattle.mid_program.specs.View.{view_declared}
 use Rattle.mid_code.proofs.translate.declared.Given as goal
 
 abbrev pub invariant-loop-name : goal.invariant-loop-name

@@ -1,7 +1,7 @@
 use Rattle.std.proofs.Common.{◌≡◌, ◌++◌, drop, map}
 use Rattle.awk_resolve.specs.ViewKinds.{view_name_kinds}
-use Rattle.mid_code.specs.Translation.{kind_of}
-use Rattle.mid_code.specs.View.{view_kind}
+use Rattle.mid_program.specs.Translation.{kind_of}
+use Rattle.mid_program.specs.View.{view_kind}
 use Rattle.mid_code.proofs.translate.kinds_of.Given as goal
 
 abbrev pub invariant-loop-name : goal.invariant-loop-name

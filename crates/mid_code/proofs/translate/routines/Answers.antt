@@ -6,14 +6,14 @@ use Rattle.awk_resolve.specs.declared.function_names.NameKind.{NameKind}
 use Rattle.awk_resolve.proofs.Names.{drop_at}
 use Rattle.awk_grammar.specs.Stmt.{Stmts}
 use Rattle.awk_grammar.specs.ViewStmt.{view_stmts}
-use Rattle.mid_code.specs.Kinds.{with_bodies}
-use Rattle.mid_code.specs.Mid.{Routine as PlainRoutine}
-use Rattle.mid_code.specs.Names.{Function}
-use Rattle.mid_code.specs.Translation.{routine_code}
-use Rattle.mid_code.specs.View.{view_routine, view_texts}
+use Rattle.mid_program.specs.Kinds.{with_bodies}
+use Rattle.mid_program.specs.Mid.{Routine as PlainRoutine}
+use Rattle.mid_program.specs.Names.{Function}
+use Rattle.mid_program.specs.Translation.{routine_code}
+use Rattle.mid_program.specs.View.{view_routine, view_texts}
 use Rattle.mid_code.specs.ViewNames.{script_of, view_bodies}
 use Rattle.mid_code.specs.ViewScope.{scope_of, texts_of}
-use Rattle.mid_code.specs.declared.program.Routine.{Routine}
+use Rattle.mid_program.specs.declared.program.Routine.{Routine}
 use Rattle.mid_code.proofs.BodyParts.{first_body, map_push}
 use Rattle.mid_code.proofs.translate.routines.Goals as goal
 

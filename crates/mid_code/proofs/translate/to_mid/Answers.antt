@@ -5,15 +5,15 @@ use Rattle.awk_grammar.specs.declared.tree.Item.{Item}
 use Rattle.awk_resolve.specs.ViewKinds.{view_name_kinds}
 use Rattle.awk_resolve.specs.declared.function_names.NameKind.{NameKind}
 use Rattle.awk_resolve.specs.declared.resolved.Resolved.{Resolved}
-use Rattle.mid_code.specs.Items.{reads_records, top}
-use Rattle.mid_code.specs.Mid.{Program}
-use Rattle.mid_code.specs.MidMeaning.{EndsAs}
-use Rattle.mid_code.specs.Texts.{texts_of_script}
-use Rattle.mid_code.specs.Translation.{begin_code, declared_code, end_code, items_code, program_of, program_with, routine_code}
-use Rattle.mid_code.specs.View.{view_declared, view_mid, view_routine, view_steps, view_texts}
+use Rattle.mid_program.specs.Items.{reads_records, top}
+use Rattle.mid_program.specs.Mid.{Program}
+use Rattle.mid_program.specs.MidMeaning.{EndsAs}
+use Rattle.mid_program.specs.Texts.{texts_of_script}
+use Rattle.mid_program.specs.Translation.{begin_code, declared_code, end_code, items_code, program_of, program_with, routine_code}
+use Rattle.mid_program.specs.View.{view_declared, view_mid, view_routine, view_steps, view_texts}
 use Rattle.mid_code.specs.ViewNames.{script_of}
 use Rattle.mid_code.specs.ViewScope.{scope_of, texts_of}
-use Rattle.mid_code.specs.declared.program.Mid.{Mid}
+use Rattle.mid_program.specs.declared.program.Mid.{Mid}
 use Rattle.mid_code.proofs.Scripts.{code_ends_as}
 use Rattle.mid_code.proofs.translate.to_mid.Goals as goal
 

@@ -1,6 +1,6 @@
 use Rattle.std.proofs.Common.{◌+◌, ◌*◌}
-use Rattle.mid_code.specs.declared.code.Code.{size-Code}
-use Rattle.mid_code.specs.declared.code.Operand.{size-Operand}
+use Rattle.mid_program.specs.declared.code.Code.{size-Code}
+use Rattle.mid_program.specs.declared.code.Operand.{size-Operand}
 use Rattle.value_kinds.specs.View.{slots}
 use Rattle.value_kinds.proofs.Views.{Done, OperandDone}
 use Rattle.value_kinds.proofs.code.+lanes.Given as goal

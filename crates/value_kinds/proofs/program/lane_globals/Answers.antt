@@ -1,5 +1,5 @@
 use Rattle.std.proofs.Common.{get_or, length, drop, map, ap, ◌∙◌, arith}
-use Rattle.mid_code.specs.View.{view_declared, view_kind}
+use Rattle.mid_program.specs.View.{view_declared, view_kind}
 use Rattle.value_kinds.specs.Applied.{is_unboxed, kind_with}
 use Rattle.value_kinds.proofs.Views.{GlobalDone, done_next, globals_done, written_back}
 use Rattle.value_kinds.proofs.program.lane_globals.Goals as goal

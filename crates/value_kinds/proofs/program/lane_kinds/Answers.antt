@@ -1,5 +1,5 @@
 use Rattle.std.proofs.Common.{length, drop, map, ap, ◌∙◌, arith}
-use Rattle.mid_code.specs.View.{view_kind}
+use Rattle.mid_program.specs.View.{view_kind}
 use Rattle.value_kinds.specs.Applied.{is_unboxed}
 use Rattle.value_kinds.proofs.Views.{KindDone, done_next, kind_step, kinds_done, written_back}
 use Rattle.value_kinds.proofs.program.lane_kinds.Goals as goal

@@ -1,5 +1,5 @@
 use Rattle.std.proofs.Common.{◌≡◌, map}
-use Rattle.mid_code.specs.View.{view_kind}
+use Rattle.mid_program.specs.View.{view_kind}
 use Rattle.value_kinds.specs.Applied.{is_unboxed}
 use Rattle.value_kinds.proofs.Views.{Done, KindDone}
 use Rattle.value_kinds.proofs.program.lane_kinds.Given as goal

@@ -1,6 +1,6 @@
 use Rattle.std.proofs.Common.{get_or, length, drop, map, ap, ◌∙◌, arith}
-use Rattle.mid_code.specs.Mid as plain
-use Rattle.mid_code.specs.View.{view_kind, view_routine}
+use Rattle.mid_program.specs.Mid as plain
+use Rattle.mid_program.specs.View.{view_kind, view_routine}
 use Rattle.value_kinds.specs.Applied.{routine_with}
 use Rattle.value_kinds.specs.View.{view_lanes}
 use Rattle.value_kinds.proofs.Views.{RoutineDone, done_next, routines_done, written_back}

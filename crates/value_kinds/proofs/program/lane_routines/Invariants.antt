@@ -1,5 +1,5 @@
 use Rattle.std.proofs.Common.{◌≡◌}
-use Rattle.mid_code.specs.Mid.{parameters_at}
+use Rattle.mid_program.specs.Mid.{parameters_at}
 use Rattle.value_kinds.specs.View.{view_lanes}
 use Rattle.value_kinds.proofs.Views.{Done, RoutineDone}
 use Rattle.value_kinds.proofs.program.lane_routines.Given as goal

@@ -1,5 +1,5 @@
 use Rattle.std.proofs.Common.{map, ap, ◌∙◌, arith}
-use Rattle.mid_code.specs.View.{view_kind}
+use Rattle.mid_program.specs.View.{view_kind}
 use Rattle.value_kinds.proofs.Views.{parameters_found, parameters_past}
 use Rattle.value_kinds.proofs.program.parameters_at.Goals as goal
 

@@ -1,6 +1,6 @@
 use Rattle.std.proofs.Common.{rules, length, drop, ap, sym, ◌∙◌, arith}
-use Rattle.mid_code.specs.Mid as plain
-use Rattle.mid_code.specs.ViewCode.{view_step, view_steps}
+use Rattle.mid_program.specs.Mid as plain
+use Rattle.mid_program.specs.ViewCode.{view_step, view_steps}
 use Rattle.mid_rewriting.specs.Rewriting.{step_in}
 use Rattle.value_kinds.specs.View.{slots}
 use Rattle.value_kinds.proofs.Views.{StepDone, done_next, steps_done, view_block, written_back}

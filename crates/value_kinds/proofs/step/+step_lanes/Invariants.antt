@@ -1,5 +1,5 @@
 use Rattle.std.proofs.Common.{◌+◌, ◌*◌}
-use Rattle.mid_code.specs.declared.step.Step.{size-Step}
+use Rattle.mid_program.specs.declared.step.Step.{size-Step}
 use Rattle.value_kinds.specs.View.{slots}
 use Rattle.value_kinds.proofs.Views.{Done, StepDone}
 use Rattle.value_kinds.proofs.step.+step_lanes.Given as goal

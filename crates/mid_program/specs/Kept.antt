@@ -1,7 +1,7 @@
 -- What more turns keep, how output grows, and where no call is too deep.
 use Rattle.std.specs.Prelude.{◌≡◌, ℕ, ◌≤◌, List, ◌++◌}
 use Rattle.world_core.specs.WorldState.{Action}
-use Rattle.mid_code.specs.ScriptRun.{Ending, Ended, FaultedBy, GoesOn, Exhausted, Setting}
+use Rattle.mid_program.specs.ScriptRun.{Ending, Ended, FaultedBy, GoesOn, Exhausted, Setting}
 
 -- more output after some output
 abbrev pub Grows : List Action → List Action → Type 0

@@ -1,13 +1,13 @@
 -- The plain program that a script's code stands for.
 use Rattle.std.specs.Prelude.{ℕ, List, map}
 use Rattle.std.specs.Global.{Vec}
-use Rattle.mid_code.specs.Mid as plain
-use Rattle.mid_code.specs.declared.program.Kind.{Kind}
-use Rattle.mid_code.specs.declared.program.Kind.TheVariants.{Boxed, Unboxed, Many}
-use Rattle.mid_code.specs.declared.program.Declared.{Declared}
-use Rattle.mid_code.specs.declared.program.Routine.{Routine}
-use Rattle.mid_code.specs.declared.program.Mid.{Mid}
-pub use Rattle.mid_code.specs.ViewCode.{view, views, view_maybe, view_step, view_steps}
+use Rattle.mid_program.specs.Mid as plain
+use Rattle.mid_program.specs.declared.program.Kind.{Kind}
+use Rattle.mid_program.specs.declared.program.Kind.TheVariants.{Boxed, Unboxed, Many}
+use Rattle.mid_program.specs.declared.program.Declared.{Declared}
+use Rattle.mid_program.specs.declared.program.Routine.{Routine}
+use Rattle.mid_program.specs.declared.program.Mid.{Mid}
+pub use Rattle.mid_program.specs.ViewCode.{view, views, view_maybe, view_step, view_steps}
 
 abbrev pub view_kind : Kind → plain.Kind
 view_kind Boxed = plain.Boxed

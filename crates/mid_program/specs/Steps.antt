@@ -20,8 +20,8 @@ use Rattle.awk_state.specs.declared.answers.CloseAnswer.TheVariants as close
 use Rattle.awk_state.specs.declared.table.Primitive.TheVariants.{Pow, GetSpecial, SetSpecial, Field, SetField, NewArray, Elem, SetElem, Sub, SubResult, Line}
 use Rattle.awk_grammar.specs.Token.{Sign, Plus, Minus, Step, Increment, Decrement, Comparison, Less, LessEqual, Equal, NotEqual, Greater, GreaterEqual, Product, Times, Over, Modulo, Literal, Ere}
 use Rattle.awk_grammar.specs.Tree.{Tree, Leaf, Group}
-use Rattle.mid_code.specs.Names.{Name, Variable, Global, Parameter, Reserved, ArrayName, Numbered, Given}
-use Rattle.mid_code.specs.ScriptState.{Local, Scalar, Array, Doing, ◌>>=◌, ◌>>◌, give, nothing, look, change, settled, does, global_value, local_value, local_array, with_global, with_local}
+use Rattle.mid_program.specs.Names.{Name, Variable, Global, Parameter, Reserved, ArrayName, Numbered, Given}
+use Rattle.mid_program.specs.ScriptState.{Local, Scalar, Array, Doing, ◌>>=◌, ◌>>◌, give, nothing, look, change, settled, does, global_value, local_value, local_array, with_global, with_local}
 
 -- Numbers and truth.
 

@@ -11,14 +11,14 @@ use Rattle.world_core.specs.WorldState.{Standard, Named, Outside, Source, absent
 use Rattle.world_core.specs.declared.world.Ending.{Ending}
 use Rattle.world_core.specs.declared.world.Ending.TheVariants.{End, Fails}
 use Rattle.awk_state.specs.Jobs.{JobForm}
-use Rattle.mid_code.specs.ScriptState.{spend_all}
+use Rattle.mid_program.specs.ScriptState.{spend_all}
 use Rattle.awk_resolve.specs.Kinds.{special_arrays, special_scalars}
-use Rattle.mid_code.specs.Kinds.{resolved}
-use Rattle.mid_code.specs.Meaning.{asked, value_of, values_of, key_of, place_of, passed, truncated_of, applied}
-use Rattle.mid_code.specs.Statements.{loop, over_keys, plain_done, done_by, all_done, called}
-use Rattle.mid_code.specs.Items.{items_done, begun, ended}
-use Rattle.mid_code.specs.ScriptRun.{first_assigned, records_done, Ended, FaultedBy, GoesOn, Exhausted, resolved_run, run_of}
-use Rattle.mid_code.specs.Scripts as scripts
+use Rattle.mid_program.specs.Kinds.{resolved}
+use Rattle.mid_program.specs.Meaning.{asked, value_of, values_of, key_of, place_of, passed, truncated_of, applied}
+use Rattle.mid_program.specs.Statements.{loop, over_keys, plain_done, done_by, all_done, called}
+use Rattle.mid_program.specs.Items.{items_done, begun, ended}
+use Rattle.mid_program.specs.ScriptRun.{first_assigned, records_done, Ended, FaultedBy, GoesOn, Exhausted, resolved_run, run_of}
+use Rattle.mid_program.specs.Scripts as scripts
 
 abbrev no_job : JobForm
 no_job = record { operands = []; assigns = []; environment = [] }

@@ -14,13 +14,13 @@ use Rattle.awk_state.specs.declared.constants.NameKind.{NameKind}
 use Rattle.awk_state.specs.declared.constants.NameKind.TheVariants as kind
 use Rattle.awk_state.specs.declared.table.Primitive.TheVariants as row
 use Rattle.awk_grammar.specs.Item.{Item}
-use Rattle.mid_code.specs.Names.{Name, Function, Resolved, names_length}
-use Rattle.mid_code.specs.Kinds.{resolved}
-use Rattle.mid_code.specs.ScriptState.{State, Faulted, OutOfTurns, TooDeep, Nexted, Exited, Returned, Outcome, Gives, Stops, Doing, ◌>>=◌, ◌>>◌, nothing, stop, does, asks, spend}
-use Rattle.mid_code.specs.Steps.{zero_number}
-use Rattle.mid_code.specs.Meaning.{assign_pending}
-use Rattle.mid_code.specs.Statements.{called}
-use Rattle.mid_code.specs.Items.{top, items_done, begun, ended, reads_records}
+use Rattle.mid_program.specs.Names.{Name, Function, Resolved, names_length}
+use Rattle.mid_program.specs.Kinds.{resolved}
+use Rattle.mid_program.specs.ScriptState.{State, Faulted, OutOfTurns, TooDeep, Nexted, Exited, Returned, Outcome, Gives, Stops, Doing, ◌>>=◌, ◌>>◌, nothing, stop, does, asks, spend}
+use Rattle.mid_program.specs.Steps.{zero_number}
+use Rattle.mid_program.specs.Meaning.{assign_pending}
+use Rattle.mid_program.specs.Statements.{called}
+use Rattle.mid_program.specs.Items.{top, items_done, begun, ended, reads_records}
 
 -- The parts of a run.
 

@@ -19,17 +19,17 @@ use Rattle.awk_grammar.specs.Stmt as stmt
 use Rattle.awk_grammar.specs.Stmt.{Stmt, Stmts, NoStmt, And}
 use Rattle.awk_grammar.specs.Item as item
 use Rattle.awk_grammar.specs.Item.{Item, Pattern}
-use Rattle.mid_code.specs.declared.mid.Arithmetic.{Arithmetic}
-use Rattle.mid_code.specs.declared.mid.Arithmetic.TheVariants as inline
-use Rattle.mid_code.specs.declared.mid.Operation.{Operation}
-use Rattle.mid_code.specs.declared.mid.Operation.TheVariants.{Host, Inline, AsNumber, FieldNumber}
-use Rattle.mid_code.specs.Names.{Name, Function, Resolved, Scope, Variable, Reserved, ArrayName, same_name, function_number, function_at, variable_of, array_of, is_array}
-use Rattle.mid_code.specs.Names as names
-use Rattle.mid_code.specs.Steps.{constant, or_nought, comparison_of, ere_text, ere_in, is_ere}
-use Rattle.mid_code.specs.Statements.{operands_of, with_target, destination_of, listed_of, scope_in}
-use Rattle.mid_code.specs.Items.{top, print_record, reads_records}
-use Rattle.mid_code.specs.Texts.{text_place, texts_of_script}
-use Rattle.mid_code.specs.Mid.{Kind, Boxed, Many, Global, Parameter, Code, Do, Over, Compare, Call, Ask, AskLine, FileLine, Replace, Number, Text, Unset, Get, Set, Array, IsOpen, Choose, Seq, Let, Bound, Codes, End, At, Fixed, Fresh, Declared, Step, Eval, Block, If, Loop, Each, Break, Continue, Next, Exit, ExitWith, Return, Mark, Steps, NoStep, Then, Routine, Program}
+use Rattle.mid_program.specs.declared.mid.Arithmetic.{Arithmetic}
+use Rattle.mid_program.specs.declared.mid.Arithmetic.TheVariants as inline
+use Rattle.mid_program.specs.declared.mid.Operation.{Operation}
+use Rattle.mid_program.specs.declared.mid.Operation.TheVariants.{Host, Inline, AsNumber, FieldNumber}
+use Rattle.mid_program.specs.Names.{Name, Function, Resolved, Scope, Variable, Reserved, ArrayName, same_name, function_number, function_at, variable_of, array_of, is_array}
+use Rattle.mid_program.specs.Names as names
+use Rattle.mid_program.specs.Steps.{constant, or_nought, comparison_of, ere_text, ere_in, is_ere}
+use Rattle.mid_program.specs.Statements.{operands_of, with_target, destination_of, listed_of, scope_in}
+use Rattle.mid_program.specs.Items.{top, print_record, reads_records}
+use Rattle.mid_program.specs.Texts.{text_place, texts_of_script}
+use Rattle.mid_program.specs.Mid.{Kind, Boxed, Many, Global, Parameter, Code, Do, Over, Compare, Call, Ask, AskLine, FileLine, Replace, Number, Text, Unset, Get, Set, Array, IsOpen, Choose, Seq, Let, Bound, Codes, End, At, Fixed, Fresh, Declared, Step, Eval, Block, If, Loop, Each, Break, Continue, Next, Exit, ExitWith, Return, Mark, Steps, NoStep, Then, Routine, Program}
 
 -- Small codes.
 

@@ -11,10 +11,10 @@ use Rattle.awk_state.specs.InTurn.{values_wanted}
 use Rattle.awk_state.specs.declared.table.Listed.{Listed}
 use Rattle.awk_state.specs.declared.table.Primitive.{Primitive}
 use Rattle.awk_state.specs.declared.table.Primitive.TheVariants.{IntOf, Concat, Pow, GetSpecial, SetSpecial, Field, SetField, Elem, SetElem, Has, Delete, Join, Length, Matches, Match, Split, Substr, SubstrFrom, Index, Lower, Upper, GetlineFile, Close}
-use Rattle.mid_code.specs.declared.mid.Operation.{Operation}
-use Rattle.mid_code.specs.declared.mid.Operation.TheVariants.{Host}
-use Rattle.mid_code.specs.Names.{ArrayName, Numbered, Given, same_name}
-use Rattle.mid_code.specs.Mid.{Kind, Boxed, Unboxed, Many, Slot, Global, Parameter, Code, Do, Over, Compare, Call, Ask, AskLine, FileLine, Replace, Number, Text, Unset, Get, Set, Array, IsOpen, Choose, Seq, Let, Bound, Codes, End, At, Fixed, Fresh, Step, Eval, Block, If, Loop, Each, Break, Continue, Next, Exit, ExitWith, Return, Mark, Steps, NoStep, Then, Declared, Routine, Program, Form, Answered, Bare, Perhaps, a_value, form_of, arguments, parameters_at}
+use Rattle.mid_program.specs.declared.mid.Operation.{Operation}
+use Rattle.mid_program.specs.declared.mid.Operation.TheVariants.{Host}
+use Rattle.mid_program.specs.Names.{ArrayName, Numbered, Given, same_name}
+use Rattle.mid_program.specs.Mid.{Kind, Boxed, Unboxed, Many, Slot, Global, Parameter, Code, Do, Over, Compare, Call, Ask, AskLine, FileLine, Replace, Number, Text, Unset, Get, Set, Array, IsOpen, Choose, Seq, Let, Bound, Codes, End, At, Fixed, Fresh, Step, Eval, Block, If, Loop, Each, Break, Continue, Next, Exit, ExitWith, Return, Mark, Steps, NoStep, Then, Declared, Routine, Program, Form, Answered, Bare, Perhaps, a_value, form_of, arguments, parameters_at}
 
 -- The primitives that are operations. The others stand behind codes of their own (`Ask`, `AskLine`, `FileLine`, `Replace`, `Compare`, `Text`, `Unset`, `Each`, `Fresh`), behind conversions, or in the run of
 -- every script: so each read is followed by its line, and each array and iterator is made where a call or a loop ends it.

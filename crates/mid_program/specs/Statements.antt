@@ -12,10 +12,10 @@ use Rattle.awk_state.specs.declared.table.Listed.TheVariants as listed
 use Rattle.awk_grammar.specs.Token.{Number}
 use Rattle.awk_grammar.specs.Tree.{Tree, Leaf, Field, Trees, NoTree, Then}
 use Rattle.awk_grammar.specs.Stmt.{Printing, Print, Printf, Args, NoArgs, Listed as Operands, Enclosed, Target, NoTarget, Written, Appended, Plain, Eval, Put, Delete, Break, Continue, Next, Exit, Return, Stmt, Block, Empty, Simple, If, IfElse, While, Do, For, ForIn, Jumping, Leave, Stmts, NoStmt, And}
-use Rattle.mid_code.specs.Names.{Function, Resolved, Scope, function_at, variable_of, array_of}
-use Rattle.mid_code.specs.ScriptState.{Local, State, Own, Faulted, OutOfTurns, TooDeep, Nexted, Exited, Returned, Outcome, Gives, Stops, Doing, ◌>>=◌, ◌>>◌, give, nothing, stop, change, does, does_listed, spend}
-use Rattle.mid_code.specs.Steps.{number_in, array_number, store_variable}
-use Rattle.mid_code.specs.Meaning.{Calls, value_of, values_of, key_of}
+use Rattle.mid_program.specs.Names.{Function, Resolved, Scope, function_at, variable_of, array_of}
+use Rattle.mid_program.specs.ScriptState.{Local, State, Own, Faulted, OutOfTurns, TooDeep, Nexted, Exited, Returned, Outcome, Gives, Stops, Doing, ◌>>=◌, ◌>>◌, give, nothing, stop, change, does, does_listed, spend}
+use Rattle.mid_program.specs.Steps.{number_in, array_number, store_variable}
+use Rattle.mid_program.specs.Meaning.{Calls, value_of, values_of, key_of}
 
 -- how a statement ends that does not leave what is being done
 pub data Flow : Type 0 where

@@ -1,17 +1,17 @@
 -- The plain code that the types of code stand for.
 use Rattle.std.specs.Prelude.{List, [], ◌∷◌, Option, Some, None}
-use Rattle.mid_code.specs.Names as names
-use Rattle.mid_code.specs.Mid as plain
-use Rattle.mid_code.specs.declared.code.Slot.{Slot}
-use Rattle.mid_code.specs.declared.code.Slot.TheVariants as slot
-use Rattle.mid_code.specs.declared.code.ArrayName.{ArrayName}
-use Rattle.mid_code.specs.declared.code.ArrayName.TheVariants as array
-use Rattle.mid_code.specs.declared.code.Operand.{Operand}
-use Rattle.mid_code.specs.declared.code.Operand.TheVariants as operand
-use Rattle.mid_code.specs.declared.code.Code.{Code, Row_of-Operand, end_of-Operand, more_of-Operand}
-use Rattle.mid_code.specs.declared.code.Code.TheVariants.{Do', Over', Compare', Call', Ask, AskLine', FileLine', Replace', Number, Text, Unset, Get, Set', Array, IsOpen, Choose', Seq', Let', Bound}
-use Rattle.mid_code.specs.declared.step.Step.{Step, Row_of-Step, end_of-Step, more_of-Step}
-use Rattle.mid_code.specs.declared.step.Step.TheVariants as step
+use Rattle.mid_program.specs.Names as names
+use Rattle.mid_program.specs.Mid as plain
+use Rattle.mid_program.specs.declared.code.Slot.{Slot}
+use Rattle.mid_program.specs.declared.code.Slot.TheVariants as slot
+use Rattle.mid_program.specs.declared.code.ArrayName.{ArrayName}
+use Rattle.mid_program.specs.declared.code.ArrayName.TheVariants as array
+use Rattle.mid_program.specs.declared.code.Operand.{Operand}
+use Rattle.mid_program.specs.declared.code.Operand.TheVariants as operand
+use Rattle.mid_program.specs.declared.code.Code.{Code, Row_of-Operand, end_of-Operand, more_of-Operand}
+use Rattle.mid_program.specs.declared.code.Code.TheVariants.{Do', Over', Compare', Call', Ask, AskLine', FileLine', Replace', Number, Text, Unset, Get, Set', Array, IsOpen, Choose', Seq', Let', Bound}
+use Rattle.mid_program.specs.declared.step.Step.{Step, Row_of-Step, end_of-Step, more_of-Step}
+use Rattle.mid_program.specs.declared.step.Step.TheVariants as step
 
 abbrev pub view_slot : Slot → plain.Slot
 view_slot (slot.Global u i) = plain.Global u i

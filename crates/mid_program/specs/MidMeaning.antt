@@ -27,19 +27,19 @@ use Rattle.awk_state.specs.declared.sorts.Answer.TheVariants as answer
 use Rattle.awk_state.specs.declared.table.Primitive.TheVariants as row
 use Rattle.awk_values.specs.declared.comparison.CompareOp.TheVariants.{Equal}
 use Rattle.awk_values.specs.declared.fault.Fault.TheVariants.{Range}
-use Rattle.mid_code.specs.declared.mid.Arithmetic.{Arithmetic}
-use Rattle.mid_code.specs.declared.mid.Arithmetic.TheVariants as inline
-use Rattle.mid_code.specs.declared.mid.Operation.{Operation}
-use Rattle.mid_code.specs.declared.mid.Operation.TheVariants.{Host, Inline, AsNumber, FieldNumber}
-use Rattle.mid_code.specs.ScriptState.{Local, Scalar, Array as ArrayOf, Nexted, Exited, Returned, OutOfTurns, Doing, ◌>>=◌, ◌>>◌, give, nothing, stop, look, change, settled, does, does_listed, asks, spend, global_value, local_value, with_global, with_local, with_range}
-use Rattle.mid_code.specs.Steps.{numeric, zero_number, one_number, truth_number, truth_value, input_number, close_number, field_checked, array_number, compared}
-use Rattle.mid_code.specs.Meaning.{Calls, asked}
-use Rattle.mid_code.specs.Statements.{Flow, Normal, Broke, Continued, after, after_round, loop, over_keys, with_status, entered}
-use Rattle.mid_code.specs.Items.{range_open}
-use Rattle.mid_code.specs.ScriptRun.{Ending, Parts, Setting, setting_of, run_with, resolved_run}
-use Rattle.mid_code.specs.Names.{Name, Resolved}
-use Rattle.mid_code.specs.Mid.{Kind, Boxed, Unboxed, Many, Slot, Global, Parameter, Code, Do, Over, Compare, Call, Ask, AskLine, FileLine, Replace, Number, Text, Unset, Get, Set, Array, IsOpen, Choose, Seq, Let, Bound, Codes, End, At, Fixed, Fresh, Step, Eval, Block, If, Loop, Each, Break, Continue, Next, Exit, ExitWith, Return, Mark, Steps, NoStep, Then, Declared, Routine, Program, Form, Answered, Bare, Perhaps, a_value, answer_by, read_form, slot_form, form_at, form_of, arguments, parameters_at}
-use Rattle.mid_code.specs.Sorted.{calls_of, is_many}
+use Rattle.mid_program.specs.declared.mid.Arithmetic.{Arithmetic}
+use Rattle.mid_program.specs.declared.mid.Arithmetic.TheVariants as inline
+use Rattle.mid_program.specs.declared.mid.Operation.{Operation}
+use Rattle.mid_program.specs.declared.mid.Operation.TheVariants.{Host, Inline, AsNumber, FieldNumber}
+use Rattle.mid_program.specs.ScriptState.{Local, Scalar, Array as ArrayOf, Nexted, Exited, Returned, OutOfTurns, Doing, ◌>>=◌, ◌>>◌, give, nothing, stop, look, change, settled, does, does_listed, asks, spend, global_value, local_value, with_global, with_local, with_range}
+use Rattle.mid_program.specs.Steps.{numeric, zero_number, one_number, truth_number, truth_value, input_number, close_number, field_checked, array_number, compared}
+use Rattle.mid_program.specs.Meaning.{Calls, asked}
+use Rattle.mid_program.specs.Statements.{Flow, Normal, Broke, Continued, after, after_round, loop, over_keys, with_status, entered}
+use Rattle.mid_program.specs.Items.{range_open}
+use Rattle.mid_program.specs.ScriptRun.{Ending, Parts, Setting, setting_of, run_with, resolved_run}
+use Rattle.mid_program.specs.Names.{Name, Resolved}
+use Rattle.mid_program.specs.Mid.{Kind, Boxed, Unboxed, Many, Slot, Global, Parameter, Code, Do, Over, Compare, Call, Ask, AskLine, FileLine, Replace, Number, Text, Unset, Get, Set, Array, IsOpen, Choose, Seq, Let, Bound, Codes, End, At, Fixed, Fresh, Step, Eval, Block, If, Loop, Each, Break, Continue, Next, Exit, ExitWith, Return, Mark, Steps, NoStep, Then, Declared, Routine, Program, Form, Answered, Bare, Perhaps, a_value, answer_by, read_form, slot_form, form_at, form_of, arguments, parameters_at}
+use Rattle.mid_program.specs.Sorted.{calls_of, is_many}
 
 abbrev pub arithmetic_of : Arithmetic → ℤ → ℤ → Checked
 arithmetic_of inline.Plus = sum

@@ -3,7 +3,7 @@ use Rattle.std.specs.Prelude.{List, [], ◌∷◌}
 use Rattle.awk_grammar.specs.Stmt.{Stmts, NoStmt}
 use Rattle.awk_grammar.specs.Item.{Item, Function}
 use Rattle.awk_resolve.specs.Kinds.{Function as Typed, Resolved as Kinds, resolved as kinds_of}
-use Rattle.mid_code.specs.Names.{Function as Defined, Resolved}
+use Rattle.mid_program.specs.Names.{Function as Defined, Resolved}
 
 -- the bodies of the functions, in the order of the script
 abbrev pub bodies : List Item → List Stmts

@@ -16,9 +16,9 @@ use Rattle.awk_tokens.specs.declared.words.Builtin.{Builtin}
 use Rattle.awk_tokens.specs.declared.words.Builtin.TheVariants as builtin
 use Rattle.awk_grammar.specs.Token.{Plus, Minus, Not, Signed, Set, SetSum, SetProduct, SetPower, Assign, Or, And, Match, Matching, Matches, Differs, Compare, Mul, Over, Pow, Number, Quoted, Ere}
 use Rattle.awk_grammar.specs.Tree.{Tree, Leaf, Length, Var, Index, Field, Group, Call, Apply, Unary, Pre, Post, Bin, Join, Add, Other, Has, HasList, Cond, Get, GetInto, GetFrom, GetIntoFrom, Trees, NoTree, Then}
-use Rattle.mid_code.specs.Names.{Name, Scope, function_number, function_at, variable_of, array_of, is_array}
-use Rattle.mid_code.specs.ScriptState.{Local, Scalar, Array, OutOfTurns, Doing, ◌>>=◌, ◌>>◌, give, stop, change, settled, does, does_listed, asks, spend, with_global}
-use Rattle.mid_code.specs.Steps.{constant, or_nought, given_value, numeric, zero_number, one_number, truth_value, number_in, arithmetic, sign_operator, product_operator, power_operator, step_operator, computed, comparison_of, compared, array_number, read_variable, field_checked, Place, Named, Element, FieldAt, read_place, store_place, stored, ere_text, ere_in, ere_or, is_ere, input_number, close_number, received, fresh_all, updated, substituted}
+use Rattle.mid_program.specs.Names.{Name, Scope, function_number, function_at, variable_of, array_of, is_array}
+use Rattle.mid_program.specs.ScriptState.{Local, Scalar, Array, OutOfTurns, Doing, ◌>>=◌, ◌>>◌, give, stop, change, settled, does, does_listed, asks, spend, with_global}
+use Rattle.mid_program.specs.Steps.{constant, or_nought, given_value, numeric, zero_number, one_number, truth_value, number_in, arithmetic, sign_operator, product_operator, power_operator, step_operator, computed, comparison_of, compared, array_number, read_variable, field_checked, Place, Named, Element, FieldAt, read_place, store_place, stored, ere_text, ere_in, ere_or, is_ere, input_number, close_number, received, fresh_all, updated, substituted}
 
 -- what a call of a function does, by its number
 abbrev pub Calls : Type 0

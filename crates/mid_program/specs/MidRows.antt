@@ -11,17 +11,17 @@ use Rattle.world_core.specs.WorldState.{Standard, Named, Outside, Source, absent
 use Rattle.world_core.specs.declared.world.Ending.{Ending}
 use Rattle.world_core.specs.declared.world.Ending.TheVariants.{End, Fails}
 use Rattle.awk_state.specs.Jobs.{JobForm}
-use Rattle.mid_code.specs.ScriptState.{spend_all}
+use Rattle.mid_program.specs.ScriptState.{spend_all}
 use Rattle.awk_resolve.specs.Kinds.{special_arrays, special_scalars}
-use Rattle.mid_code.specs.Kinds.{resolved}
-use Rattle.mid_code.specs.Meaning.{asked}
-use Rattle.mid_code.specs.Statements.{loop, over_keys}
-use Rattle.mid_code.specs.ScriptRun.{first_assigned, records_done, Ended, FaultedBy, GoesOn, Exhausted, setting_of}
-use Rattle.mid_code.specs.Sorted.{sorted, all_sorted, step_sorted, steps_sorted, is_sorted}
-use Rattle.mid_code.specs.MidMeaning.{evaluated, all_evaluated, stepped, all_stepped, mid_called, mid_run_in}
-use Rattle.mid_code.specs.Texts.{texts_in, all_texts, stmt_texts, stmts_texts}
-use Rattle.mid_code.specs.Translation.{code_of, codes_of, key_code, kept_code, argument_codes, truncated_code, applied_code, step_code, steps_code, program_of}
-use Rattle.mid_code.specs.Scripts as scripts
+use Rattle.mid_program.specs.Kinds.{resolved}
+use Rattle.mid_program.specs.Meaning.{asked}
+use Rattle.mid_program.specs.Statements.{loop, over_keys}
+use Rattle.mid_program.specs.ScriptRun.{first_assigned, records_done, Ended, FaultedBy, GoesOn, Exhausted, setting_of}
+use Rattle.mid_program.specs.Sorted.{sorted, all_sorted, step_sorted, steps_sorted, is_sorted}
+use Rattle.mid_program.specs.MidMeaning.{evaluated, all_evaluated, stepped, all_stepped, mid_called, mid_run_in}
+use Rattle.mid_program.specs.Texts.{texts_in, all_texts, stmt_texts, stmts_texts}
+use Rattle.mid_program.specs.Translation.{code_of, codes_of, key_code, kept_code, argument_codes, truncated_code, applied_code, step_code, steps_code, program_of}
+use Rattle.mid_program.specs.Scripts as scripts
 
 abbrev no_job : JobForm
 no_job = record { operands = []; assigns = []; environment = [] }

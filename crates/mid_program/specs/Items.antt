@@ -3,10 +3,10 @@ use Rattle.std.specs.Prelude.{ℕ, suc, Bool, true, false, if◌then◌else◌, 
 use Rattle.awk_grammar.specs.Tree.{Tree}
 use Rattle.awk_grammar.specs.Stmt.{Print, NoArgs, NoTarget, Put, Simple, Stmts, NoStmt, And}
 use Rattle.awk_grammar.specs.Item.{Pattern, One, Between, Item, Function, Begin, End, Always, When, Lone, Nothing}
-use Rattle.mid_code.specs.Names.{Resolved, Scope}
-use Rattle.mid_code.specs.ScriptState.{State, Doing, ◌>>=◌, ◌>>◌, give, nothing, look, change, with_range}
-use Rattle.mid_code.specs.Meaning.{Calls}
-use Rattle.mid_code.specs.Statements.{Flow, Normal, after, test_of, all_done}
+use Rattle.mid_program.specs.Names.{Resolved, Scope}
+use Rattle.mid_program.specs.ScriptState.{State, Doing, ◌>>=◌, ◌>>◌, give, nothing, look, change, with_range}
+use Rattle.mid_program.specs.Meaning.{Calls}
+use Rattle.mid_program.specs.Statements.{Flow, Normal, after, test_of, all_done}
 
 -- without an action: `print $0`
 abbrev pub print_record : Stmts

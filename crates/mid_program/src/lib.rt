@@ -1,0 +1,12 @@
+//! Programs in mid code: their types and their meaning, the meaning of scripts, and which program a script stands for.
+#![tactic(auto)]
+
+mod code;
+mod mid;
+mod program;
+mod step;
+
+pub use code::{ArrayName, Code, Operand, Slot};
+pub use mid::{Arithmetic, Operation};
+pub use program::{Declared, Kind, Mid, Routine};
+pub use step::Step;
