@@ -13,7 +13,8 @@ use Rattle.host_streams.specs.declared.reader.Reader.{Reader}
 use Rattle.host_streams.specs.declared.streams.NamedReader.{NamedReader}
 use Rattle.host_streams.specs.declared.streams.NamedWriter.{NamedWriter}
 use Rattle.host_streams.specs.Readers.{left, left_in, unread, fresh, OnlyReads}
-use Rattle.host_streams.specs.OpenFiles.{reader_handle, writer_handle, IsApart, IsNone, AreOpen, WritersGo, readers_in, is_reader, phase_named, reader_place}
+use Rattle.host_streams.specs.OpenFiles.{reader_handle, writer_handle, IsApart, IsNone, AreOpen, WritersGo, readers_in, is_reader, phase_named, reader_place, shown}
+use Rattle.host_streams.specs.declared.reader.Reader.{Reader}
 use Rattle.host_streams.proofs.Places.{AllFail, First, first, all_fail, last_place, first_item, first_set}
 
 pub same_name : (a b : List ℕ) → same_text a b ≡ true → a ≡ b
@@ -34,9 +35,10 @@ pub same_handles : (front : List NamedReader) (item other : NamedReader) (back :
 same_handles [] item other back e = ap (λ h. h ∷ map reader_handle back) e
 same_handles (x ∷ xs) item other back e = ap (λ hs. reader_handle x ∷ hs) (same_handles xs item other back e)
 
-pub phase_at : (name : List ℕ) (front : List NamedReader) (item : NamedReader) (back : List NamedReader) → AllFail (is_reader name) front → is_reader name item ≡ true → phase_named name (front ++ item ∷ back) ≡ item.reader.phase
-phase_at name [] item back none is = ap (λ b. cond b item.reader.phase (phase_named name back)) is
-phase_at name (x ∷ xs) item back none is = ap (λ b. cond b x.reader.phase (phase_named name (xs ++ item ∷ back))) none.0 ∙ phase_at name xs item back none.1 is
+pub shown_at : {A : Type 0} (show : Reader → A) (other : A) (name : List ℕ) (front : List NamedReader) (item : NamedReader) (back : List NamedReader) → AllFail (is_reader name) front → is_reader name item ≡ true →
+    shown show other name (front ++ item ∷ back) ≡ show item.reader
+shown_at show other name [] item back none is = ap (λ b. cond b (show item.reader) (shown show other name back)) is
+shown_at show other name (x ∷ xs) item back none is = ap (λ b. cond b (show x.reader) (shown show other name (xs ++ item ∷ back))) none.0 ∙ shown_at show other name xs item back none.1 is
 
 pub named_at : (name : List ℕ) (state : State) (front : List NamedReader) (item : NamedReader) (back : List NamedReader) → AllFail (is_reader name) front → is_reader name item ≡ true →
     reader_named name (readers_in (front ++ item ∷ back) state) ≡ Some (left item.reader (state.readers item.reader.id))
@@ -93,18 +95,18 @@ module _ (name : List ℕ) (xs : List NamedReader) (at : ℕ) (found : reader_pl
       ap (λ (r : NamedReader). kinds r.reader.id) item_is
       ∙ open_at Reading kinds spot.front spot.item spot.back (subst (λ (ys : List NamedReader). AreOpen Reading (map reader_handle ys) kinds) spot.is h)
 
-  pub phase_next : phase_named name xs ≡ d.reader.phase
-  phase_next = ap (phase_named name) spot.is ∙ phase_at name spot.front spot.item spot.back spot.none spot.passes ∙ ap (λ (r : NamedReader). r.reader.phase) (sym item_is)
+  pub shown_next : {A : Type 0} (show : Reader → A) (other : A) → shown show other name xs ≡ show d.reader
+  shown_next show other = ap (shown show other name) spot.is ∙ shown_at show other name spot.front spot.item spot.back spot.none spot.passes ∙ ap (λ (r : NamedReader). show r.reader) (sym item_is)
 
   pub named_next : (state : State) → reader_named name (readers_in xs state) ≡ Some (left d.reader (state.readers d.reader.id))
   named_next state =
       ap (λ ys. reader_named name (readers_in ys state)) spot.is ∙ named_at name state spot.front spot.item spot.back spot.none spot.passes
       ∙ ap (λ (r : NamedReader). Some (left r.reader (state.readers r.reader.id))) (sym item_is)
 
-  pub phase_after : (other : NamedReader) → other.name ≡ d.name → phase_named name (set xs at other) ≡ other.reader.phase
-  phase_after other e =
-      ap (phase_named name) (first_set (is_reader name) xs at spot other)
-      ∙ phase_at name spot.front other spot.back spot.none (ap (same_text name) (e ∙ ap (λ (r : NamedReader). r.name) item_is) ∙ spot.passes)
+  pub shown_after : (other : NamedReader) → other.name ≡ d.name → {A : Type 0} (show : Reader → A) (none : A) → shown show none name (set xs at other) ≡ show other.reader
+  shown_after other e show none =
+      ap (shown show none name) (first_set (is_reader name) xs at spot other)
+      ∙ shown_at show none name spot.front other spot.back spot.none (ap (same_text name) (e ∙ ap (λ (r : NamedReader). r.name) item_is) ∙ spot.passes)
 
   pub handles_next : (other : NamedReader) → other.name ≡ d.name → other.reader.id ≡ d.reader.id → map reader_handle (set xs at other) ≡ map reader_handle xs
   handles_next other e f =
@@ -206,15 +208,15 @@ held_open kinds after name r xs hs input output opens e missing h = (
 pub named_last : (name : List ℕ) (xs : List NamedReader) (r : NamedReader) → reader_place name xs ≡ None → r.name ≡ name → reader_place name (xs ++ r ∷ []) ≡ Some (length xs)
 named_last name xs r missing e = last_place (is_reader name) xs r (all_fail (is_reader name) xs missing) (ap (same_text name) e ∙ name_itself name)
 
-pub phase_last : (name : List ℕ) (xs : List NamedReader) (r : NamedReader) → reader_place name xs ≡ None → r.name ≡ name → phase_named name (xs ++ r ∷ []) ≡ r.reader.phase
-phase_last name xs r missing e = phase_at name xs r [] (all_fail (is_reader name) xs missing) (ap (same_text name) e ∙ name_itself name)
+pub shown_last : {A : Type 0} (show : Reader → A) (other : A) (name : List ℕ) (xs : List NamedReader) (r : NamedReader) → reader_place name xs ≡ None → r.name ≡ name → shown show other name (xs ++ r ∷ []) ≡ show r.reader
+shown_last show other name xs r missing e = shown_at show other name xs r [] (all_fail (is_reader name) xs missing) (ap (same_text name) e ∙ name_itself name)
 
-pub phase_missing : (name : List ℕ) (xs : List NamedReader) → reader_place name xs ≡ None → phase_named name xs ≡ Open
-phase_missing name xs missing = by xs (all_fail (is_reader name) xs missing)
+pub shown_missing : {A : Type 0} (show : Reader → A) (other : A) (name : List ℕ) (xs : List NamedReader) → reader_place name xs ≡ None → shown show other name xs ≡ other
+shown_missing show other name xs missing = by xs (all_fail (is_reader name) xs missing)
   where
-    by : (ys : List NamedReader) → AllFail (is_reader name) ys → phase_named name ys ≡ Open
+    by : (ys : List NamedReader) → AllFail (is_reader name) ys → shown show other name ys ≡ other
     by [] none = refl
-    by (y ∷ ys) none = ap (λ b. cond b y.reader.phase (phase_named name ys)) none.0 ∙ by ys none.1
+    by (y ∷ ys) none = ap (λ b. cond b (show y.reader) (shown show other name ys)) none.0 ∙ by ys none.1
 
 pub missing_named : (name : List ℕ) (state : State) (xs : List NamedReader) → reader_place name xs ≡ None → reader_named name (readers_in xs state) ≡ None
 missing_named name state xs missing = not_named name state xs (all_fail (is_reader name) xs missing)
@@ -226,4 +228,4 @@ is_broken Broken = true
 
 -- a name without a reader has none that failed
 pub none_failed : (name : List ℕ) (xs : List NamedReader) → reader_place name xs ≡ None → phase_named name xs ≡ Broken → ⊥
-none_failed name xs missing e = false≢true (ap is_broken (sym (phase_missing name xs missing) ∙ e))
+none_failed name xs missing e = false≢true (ap is_broken (sym (shown_missing (λ r. r.phase) Open name xs missing) ∙ e))

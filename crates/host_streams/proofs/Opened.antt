@@ -1,5 +1,5 @@
 -- Which files are open for reading after a call that reads one.
-use Rattle.std.proofs.Common.{◌≡◌, ◌≢◌, ℕ, List, [], ◌∷◌, ◌++◌, map, not, set, get_or, Some, None, Ok, Err, cond, Bool, true, false, refl, sym, ap, ◌∙◌}
+use Rattle.std.proofs.Common.{◌≡◌, ◌≢◌, ℕ, List, [], ◌∷◌, ◌++◌, map, not, set, get_or, Option, Some, None, Ok, Err, cond, subst, Bool, true, false, refl, sym, ap, ◌∙◌}
 use Rattle.std.proofs.lemmas.Bool.{false≢true}
 use Rattle.std.proofs.lemmas.List.{map-append}
 use Rattle.awk_values.specs.declared.fault.Stop.{Stop}
@@ -28,15 +28,20 @@ none_named name (x ∷ xs) none = ap (λ b. cond b true (is_writing name (reader
 pub is_missing : (name : List ℕ) (xs : List NamedReader) → reader_place name xs ≡ None → is_writing name (reader_names xs) ≡ false
 is_missing name xs missing = none_named name xs (all_fail (is_reader name) xs missing)
 
-pub none_there : (name : List ℕ) (xs : List NamedReader) → reader_place name xs ≡ None → is_writing name (reader_names xs) ≡ true → ⊥
+none_there : (name : List ℕ) (xs : List NamedReader) → reader_place name xs ≡ None → is_writing name (reader_names xs) ≡ true → ⊥
 none_there name xs missing there = false≢true (sym (is_missing name xs missing) ∙ there)
 
-pub not_added : (room : Bool) (name : List ℕ) (old new : List NamedReader) → OpensReader room name old (Ok None) new → new ≡ old
-not_added room name old new h = h.1
+-- nothing was opened, so the name has no reader
+pub not_added : (room : Bool) (name : List ℕ) (old new : List NamedReader) {found : Option ℕ} → found ≡ None → reader_place name old ≡ None → OpensReader room name old (Ok found) new → is_writing name (reader_names new) ≡ true → ⊥
+not_added room name old new e missing h there =
+    none_there name old missing (sym (ap (λ xs. is_writing name (reader_names xs)) (subst (λ (o : Option ℕ). OpensReader room name old (Ok o) new) e h).1) ∙ there)
 
-pub not_opened : (room : Bool) (name : List ℕ) (old : List NamedReader) (stop : Stop) (new : List NamedReader) → OpensReader room name old (Err stop) new → new ≡ old
-not_opened room name old (IsFault fault) new h = h.2
-not_opened room name old NoMemory new h = h.1
+pub not_opened : (room : Bool) (name : List ℕ) (old : List NamedReader) (stop : Stop) (new : List NamedReader) → reader_place name old ≡ None → OpensReader room name old (Err stop) new → is_writing name (reader_names new) ≡ true → ⊥
+not_opened room name old stop new missing h there = none_there name old missing (sym (ap (λ xs. is_writing name (reader_names xs)) (same stop h)) ∙ there)
+  where
+    same : (s : Stop) → OpensReader room name old (Err s) new → new ≡ old
+    same (IsFault fault) h = h.2
+    same NoMemory h = h.1
 
 -- The readers of other names.
 

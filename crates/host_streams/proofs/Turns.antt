@@ -1,14 +1,22 @@
 -- What a turn of a reader answers, told of all that it has left.
-use Rattle.std.proofs.Common.{◌≡◌, ℕ, List, [], ◌++◌, drop, Option, Ok, Err, refl, sym, ◌∙◌, ap, append-nil, slice_range}
+use Rattle.std.proofs.Common.{◌≡◌, ℕ, List, [], ◌++◌, take, drop, length, Bool, true, Option, Ok, Err, subst, append_assoc, refl, sym, ◌∙◌, ap, append-nil, slice_range}
+use Rattle.std.proofs.lemmas.List.{take-append-drop}
 use Rattle.awk_values.specs.declared.fault.Fault.TheVariants.{TextLimit}
 use Rattle.world_core.specs.declared.world.Ending.TheVariants.{End as IsEnd}
-use Rattle.world_core.specs.WorldState.{Source}
+use Rattle.world_core.specs.WorldState.{Source, State}
 use Rattle.awk_state.specs.Records.{first_record}
 use Rattle.awk_state.specs.Records.{Record as GotRecord}
 use Rattle.host_streams.specs.declared.reader.Phase.{Phase}
 use Rattle.host_streams.specs.declared.reader.Phase.TheVariants.{Open, Ended, Broken}
 use Rattle.host_streams.specs.Looks.{IsThere, IsLong}
-use Rattle.host_streams.specs.Readers.{left_in}
+use Rattle.host_streams.specs.Readers.{left_in, handed, Answers, EndStays, OnlyReads, HandsMore, HandsOver, HandsTurn}
+use Rattle.awk_values.specs.declared.fault.Stop.TheVariants.{Fault as IsFault}
+use Rattle.host_streams.specs.declared.look.Known.{Known}
+use Rattle.awk_values.specs.declared.fault.Stop.{Stop}
+use Rattle.host_streams.specs.declared.reader.FileNext.{FileNext}
+use Rattle.host_streams.specs.declared.reader.FileNext.TheVariants.{Record}
+use Rattle.host_streams.specs.declared.reader.Turn.{Turn}
+use Rattle.host_streams.specs.declared.reader.Turn.TheVariants.{Answer, Again}
 
 -- a record among what is kept
 pub left_record : (p : Phase) (rs : Option ℕ) (kept text rest : List ℕ) (source : Source) (from to next : ℕ) → (p ≡ Broken → ⊥) → IsThere rs kept from to next →
@@ -24,3 +32,104 @@ pub left_long : (p : Phase) (rs : Option ℕ) (kept : List ℕ) (source : Source
 left_long Broken rs kept source live h = absurd (live refl)
 left_long Open rs kept source live h = h source.rest source.ending
 left_long Ended rs kept source live h = ap (λ b. first_record rs (record { rest = b; ending = IsEnd })) (sym (append-nil kept)) ∙ h [] IsEnd
+
+-- nothing was handed over
+pub none_handed : (p : Phase) (kept : List ℕ) (later : Source) → left_in p kept (handed [] p later) ≡ left_in p kept later
+none_handed Open kept later = refl
+none_handed Ended kept later = refl
+none_handed Broken kept later = refl
+
+-- a piece more is kept
+pub some_handed : (kept now bytes : List ℕ) (later : Source) → now ≡ kept ++ bytes → left_in Open now later ≡ left_in Open kept (handed bytes Open later)
+some_handed kept now bytes later e = ap (λ b. record { rest = b; ending = later.ending }) (ap (λ b. b ++ later.rest) e ∙ append_assoc kept bytes later.rest)
+
+-- the end was met
+pub end_handed : (kept now : List ℕ) (later : Source) → now ≡ kept → left_in Ended now later ≡ left_in Open kept (handed [] Ended later)
+end_handed kept now later e = ap (λ b. record { rest = b; ending = IsEnd }) (e ∙ sym (append-nil kept))
+
+pub more_handed : (p q : Phase) (kept before now : List ℕ) (start : ℕ) → p ≡ Open → q ≡ p → before ≡ kept → start ≡ 0 → take (length before) now ≡ before →
+    HandsMore p kept (Ok true) q (drop start now)
+more_handed p q kept before now start live same whole zero front =
+    let rest : List ℕ = drop (length kept) now in
+    let split : now ≡ kept ++ rest = sym (take-append-drop (length kept) now) ∙ ap (λ b. b ++ rest) (subst (λ (x : List ℕ). take (length x) now ≡ x) whole front) in
+    subst (λ (x : Phase). HandsMore p kept (Ok true) x (drop start now)) (sym same) (subst (λ (x : Phase). HandsMore x kept (Ok true) x (drop start now)) (sym live) (record {
+      bytes = rest;
+      is = λ later. some_handed kept (drop start now) rest later (ap (λ n. drop n now) zero ∙ split);
+    }))
+
+-- turns: a piece more is read; a record among what is kept; one that is too long
+pub again_handed : (rs : Option ℕ) (p q : Phase) (kept now : List ℕ) (known : Known) {b : Bool} → b ≡ true → HandsMore p kept (Ok b) q now → HandsTurn rs p kept (Ok (Again known)) q now
+again_handed rs p q kept now known {b} e h =
+    let m : HandsMore p kept (Ok true) q now = subst (λ (c : Bool). HandsMore p kept (Ok c) q now) e h in record { bytes = m.bytes; answers = m.is; }
+
+pub record_handed : (p : Phase) (rs : Option ℕ) (kept rest : List ℕ) (text : List ℕ) → ((source : Source) → first_record rs (left_in p kept source) ≡ Ok (GotRecord text, left_in p rest source)) →
+    HandsTurn rs p kept (Ok (Answer (Record text))) p rest
+record_handed p rs kept rest text h = record {
+  bytes = [];
+  answers = λ later. ap (first_record rs) (none_handed p kept later) ∙ h later;
+}
+
+pub long_handed : (p : Phase) (rs : Option ℕ) (kept : List ℕ) → (p ≡ Broken → ⊥) → IsLong rs kept → HandsTurn rs p kept (Err (IsFault TextLimit)) p kept
+long_handed p rs kept live h = record {
+  bytes = [];
+  answers = λ later. (left_long p rs kept (handed [] p later) live h, sym (none_handed p kept later));
+}
+
+-- the bytes of two calls, one after the other
+abbrev pub joined : Phase → List ℕ → List ℕ → List ℕ
+joined Open first second = first ++ second
+joined Ended first second = first
+joined Broken first second = first
+
+ended_since : (q : Phase) (first second : List ℕ) (later : Source) → q ≡ Ended → handed first Ended (handed second q later) ≡ handed first q later
+ended_since q first second later e = subst (λ (x : Phase). handed first Ended (handed second x later) ≡ handed first x later) (sym e) refl
+
+open_since : (q : Phase) (first second : List ℕ) (later : Source) → handed first Open (handed second q later) ≡ handed (first ++ second) q later
+open_since Open first second later = ap (λ b. record { rest = b; ending = later.ending }) (sym (append_assoc first second later.rest))
+open_since Ended first second later = refl
+open_since Broken first second later = refl
+
+pub handed_since : (p q : Phase) (first second : List ℕ) (later : Source) → (p ≡ Broken → ⊥) → EndStays p q → handed first p (handed second q later) ≡ handed (joined p first second) q later
+handed_since Open q first second later live stays = open_since q first second later
+handed_since Ended q first second later live stays = ended_since q first second later (stays refl)
+handed_since Broken q first second later live stays = absurd (live refl)
+
+-- what was handed over since the start of a call
+abbrev pub SoFar : Phase → List ℕ → Phase → List ℕ → Type 0
+SoFar p kept q now = (bytes : List ℕ) × ((later : Source) → left_in q now later ≡ left_in p kept (handed bytes q later))
+
+pub none_so_far : (p : Phase) (kept : List ℕ) → SoFar p kept p kept
+none_so_far p kept = ([], λ later. sym (none_handed p kept later))
+
+so_far_then : (p q r : Phase) (kept now : List ℕ) (so : SoFar p kept q now) (second : List ℕ) (later : Source) → (q ≡ Broken → ⊥) → EndStays q r →
+    left_in q now (handed second r later) ≡ left_in p kept (handed (joined q so.0 second) r later)
+so_far_then p q r kept now so second later live stays = so.1 (handed second r later) ∙ ap (left_in p kept) (handed_since q r so.0 second later live stays)
+
+-- a turn more, with or without an answer
+pub so_far_again : (rs : Option ℕ) (p q r : Phase) (kept now then : List ℕ) (known : Known) {t : Turn} → t ≡ Again known → (q ≡ Broken → ⊥) → EndStays q r → SoFar p kept q now → HandsTurn rs q now (Ok t) r then →
+    SoFar p kept r then
+so_far_again rs p q r kept now then known e live stays so h =
+    let turn : HandsTurn rs q now (Ok (Again known)) r then = subst (λ (t : Turn). HandsTurn rs q now (Ok t) r then) e h in
+    (joined q so.0 turn.bytes, λ later. turn.answers later ∙ so_far_then p q r kept now so turn.bytes later live stays)
+
+pub so_far_answered : (rs : Option ℕ) (p q r : Phase) (kept now then : List ℕ) (answer : FileNext) {t : Turn} → t ≡ Answer answer → (q ≡ Broken → ⊥) → EndStays q r → SoFar p kept q now → HandsTurn rs q now (Ok t) r then →
+    HandsOver rs p kept (Ok answer) r then
+so_far_answered rs p q r kept now then answer e live stays so h =
+    let turn : HandsTurn rs q now (Ok (Answer answer)) r then = subst (λ (t : Turn). HandsTurn rs q now (Ok t) r then) e h in record {
+      bytes = joined q so.0 turn.bytes;
+      answers = λ later. subst (λ (source : Source). Answers rs source (Ok answer) (left_in r then later)) (so_far_then p q r kept now so turn.bytes later live stays) (turn.answers later);
+    }
+
+pub so_far_refused : (rs : Option ℕ) (p q r : Phase) (kept now then : List ℕ) (stop : Stop) → (q ≡ Broken → ⊥) → EndStays q r → SoFar p kept q now → HandsTurn rs q now (Err stop) r then → HandsOver rs p kept (Err stop) r then
+so_far_refused rs p q r kept now then stop live stays so turn = record {
+  bytes = joined q so.0 turn.bytes;
+  answers = λ later. subst (λ (source : Source). Answers rs source (Err stop) (left_in r then later)) (so_far_then p q r kept now so turn.bytes later live stays) (turn.answers later);
+}
+
+-- reading goes on
+pub only_again : (id k : ℕ) (first second third : State) → k ≡ id → OnlyReads id first second → OnlyReads k second third → OnlyReads id first third
+only_again id k first second third e h was = let now : OnlyReads id second third = subst (λ (n : ℕ). OnlyReads n second third) e was in record {
+  outside = now.outside ∙ h.outside;
+  writers = now.writers ∙ h.writers;
+  others = λ n apart. now.others n apart ∙ h.others n apart;
+}

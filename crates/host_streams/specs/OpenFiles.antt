@@ -14,7 +14,8 @@ use Rattle.host_streams.specs.declared.reader.FileNext.TheVariants.{Record, End,
 use Rattle.host_streams.specs.declared.streams.NamedReader.{NamedReader}
 use Rattle.host_streams.specs.declared.streams.NamedWriter.{NamedWriter}
 use Rattle.host_streams.specs.declared.streams.Streams.{Streams}
-use Rattle.host_streams.specs.Readers.{left, Answers, OnlyLimit}
+use Rattle.host_streams.specs.declared.reader.Reader.{Reader}
+use Rattle.host_streams.specs.Readers.{left, unread, Answers, HandsOver, OnlyLimit}
 
 -- the name and the number of an open stream
 abbrev pub reader_handle : NamedReader → List ℕ × ℕ
@@ -59,9 +60,21 @@ is_reader name r = same_text name r.name
 abbrev pub reader_place : List ℕ → List NamedReader → Option ℕ
 reader_place name readers = position (is_reader name) readers
 
+-- what the reader of a name shows, or else this
+abbrev pub shown : {A : Type 0} → (Reader → A) → A → List ℕ → List NamedReader → A
+shown show other name [] = other
+shown show other name (r ∷ rs) = if is_reader name r then show r.reader else shown show other name rs
+
+-- how far it is, and the bytes that it keeps; where there is none, as before anything is read
 abbrev pub phase_named : List ℕ → List NamedReader → Phase
-phase_named name [] = Open
-phase_named name (r ∷ rs) = if is_reader name r then r.reader.phase else phase_named name rs
+phase_named name readers = shown (λ r. r.phase) Open name readers
+
+abbrev pub kept_named : List ℕ → List NamedReader → List ℕ
+kept_named name readers = shown unread [] name readers
+
+-- In every world: the answer is that of the bytes that the name's reader kept, and of those that the file handed over.
+abbrev pub HandsFile : List ℕ → Option ℕ → List NamedReader → Result FileNext Stop → List NamedReader → Type 0
+HandsFile name rs old answer new = HandsOver rs (phase_named name old) (kept_named name old) answer (phase_named name new) (kept_named name new)
 
 abbrev pub is_writer : List ℕ → NamedWriter → Bool
 is_writer name w = same_text name w.name

@@ -49,6 +49,17 @@ Answers rs old (Ok Failed) new = first_record rs old ≡ Ok (GotFailure, new)
 Answers rs old (Err (IsFault fault)) new = (first_record rs old ≡ Err fault) × (new ≡ old)
 Answers rs old (Err OutOfMemory) new = new ≡ old
 
+-- what a stream had, where it handed over some bytes: these, and then what is to come, the end, or a failure, by how far its reader is then
+abbrev pub handed : List ℕ → Phase → Source → Source
+handed bytes Open later = record { rest = bytes ++ later.rest; ending = later.ending }
+handed bytes Ended later = record { rest = bytes; ending = IsEnd }
+handed bytes Broken later = record { rest = bytes; ending = IsFailure }
+
+-- In every world: the stream handed over some bytes, and whatever is to come after them, the answer is that of the whole bytes.
+pub record HandsOver (rs : Option ℕ) (old_phase : Phase) (old_kept : List ℕ) (answer : Result FileNext Stop) (new_phase : Phase) (new_kept : List ℕ) : Type 0 where
+  pub bytes : List ℕ
+  pub answers : (later : Source) → Answers rs (left_in old_phase old_kept (handed bytes new_phase later)) answer (left_in new_phase new_kept later)
+
 -- one turn, after which there may be no answer yet
 abbrev pub Turns : Option ℕ → Source → Result Turn Stop → Source → Type 0
 Turns rs old (Ok (Answer answer)) new = Answers rs old (Ok answer) new
@@ -60,6 +71,11 @@ abbrev pub ScannedAgain : Option ℕ → Result Turn Stop → Reader → Type 0
 ScannedAgain rs (Ok (Answer answer)) r = Unit {0}
 ScannedAgain rs (Ok (Again known)) r = IsScanned rs (unread r) known
 ScannedAgain rs (Err stop) r = Unit {0}
+
+-- the same of one turn
+pub record HandsTurn (rs : Option ℕ) (old_phase : Phase) (old_kept : List ℕ) (answer : Result Turn Stop) (new_phase : Phase) (new_kept : List ℕ) : Type 0 where
+  pub bytes : List ℕ
+  pub answers : (later : Source) → Turns rs (left_in old_phase old_kept (handed bytes new_phase later)) answer (left_in new_phase new_kept later)
 
 -- at the end, what is left is given, and nothing is left
 abbrev pub IsLast : List ℕ → Result Turn Stop → Reader → Reader → Type 0
@@ -81,6 +97,15 @@ abbrev pub MoreIs : List ℕ → Source → Result Bool Stop → Source → Type
 MoreIs kept old (Ok true) new = new ≡ old
 MoreIs kept old (Ok false) new = (old ≡ record { rest = kept; ending = IsFailure }) × (new ≡ record { rest = []; ending = IsFailure })
 MoreIs kept old (Err stop) new = new ≡ old
+
+-- the same of a piece more
+pub record HandsMore (old_phase : Phase) (old_kept : List ℕ) (answer : Result Bool Stop) (new_phase : Phase) (new_kept : List ℕ) : Type 0 where
+  pub bytes : List ℕ
+  pub is : (later : Source) → MoreIs old_kept (left_in old_phase old_kept (handed bytes new_phase later)) answer (left_in new_phase new_kept later)
+
+-- once the end was met the stream is not read again
+abbrev pub EndStays : Phase → Phase → Type 0
+EndStays old new = old ≡ Ended → new ≡ Ended
 
 -- how much there is left to do
 abbrev pub work_in : Phase → ℕ → ℕ

@@ -4,7 +4,7 @@ ghost use Rattle.awk_values.specs.declared.fault.Stop.TheVariants.{NoMemory};
 ghost use Rattle.awk_state.specs.Records.{record_separator};
 ghost use Rattle.world_core.specs.Calls.{Reading, next_count};
 ghost use Rattle.host_streams.specs.Looks.{IsOpen, IsScanned};
-ghost use Rattle.host_streams.specs.Readers.{Answers, Fills, GoesOn, IsLast, MoreCounts, MoreIs, MoreKeeps, NextCounts, NextPhase, OnlyLimit, OnlyReads, ScannedAgain, TurnCounts, TurnPhase, Turns, fresh, left, unread, work};
+ghost use Rattle.host_streams.specs.Readers.{Answers, EndStays, Fills, GoesOn, HandsMore, HandsOver, HandsTurn, IsLast, MoreCounts, MoreIs, MoreKeeps, NextCounts, NextPhase, OnlyLimit, OnlyReads, ScannedAgain, TurnCounts, TurnPhase, Turns, fresh, left, unread, work};
 
 use crate::look::{Known, Look, seen};
 use awk_values::{Bytes, Fault, Stop};
@@ -84,7 +84,7 @@ fn fill<W: World>(
     requires reading { W.kinds world.old id ≡ Reading }
     ensures kinds { W.kinds world.new ≡ W.kinds world.old }
     ensures count { W.count world.new ≡ next_count result (W.count world.old) }
-    ensures front { take (vec_len kept.old) kept.new.items ≡ kept.old.items }
+    ensures front { take (length kept.old.items) kept.new.items ≡ kept.old.items }
     ensures grows { IfOk result (λ more. IsTrue more → vec_len kept.old < vec_len kept.new) }
     ensures ended { IfOk result (λ more. IsFalse more → kept.new.items ≡ kept.old.items) }
     ensures failed { OnErr result (kept.new.items ≡ kept.old.items) }
@@ -151,6 +151,8 @@ impl Reader {
         ensures kinds { W.kinds world.new ≡ W.kinds world.old }
         ensures count { MoreCounts result (W.count world.old) (W.count world.new) }
         ensures keeps { MoreKeeps self.old result self.new }
+        ensures stays { EndStays self.old.phase self.new.phase }
+        ensures handed { HandsMore self.old.phase (unread self.old) result self.new.phase (unread self.new) }
         ensures told { W.tells → MoreIs (unread self.old) (left self.old ((W.state world.old).readers self.old.id)) result (left self.new ((W.state world.new).readers self.old.id)) }
         ensures only { W.tells → OnlyReads self.old.id (W.state world.old) (W.state world.new) }
     {
@@ -186,6 +188,8 @@ impl Reader {
         ensures limit { OnlyLimit result }
         ensures again { ScannedAgain rs result self.new }
         ensures goes_on { GoesOn result (work self.old) (work self.new) }
+        ensures stays { EndStays self.old.phase self.new.phase }
+        ensures handed { HandsTurn rs self.old.phase (unread self.old) result self.new.phase (unread self.new) }
         ensures told { W.tells → Turns rs (left self.old ((W.state world.old).readers self.old.id)) result (left self.new ((W.state world.new).readers self.old.id)) }
         ensures only { W.tells → OnlyReads self.old.id (W.state world.old) (W.state world.new) }
     {
@@ -242,6 +246,8 @@ impl Reader {
         ensures count { NextCounts self.old.phase result (W.count world.old) (W.count world.new) }
         ensures phase { NextPhase self.old.phase result self.new.phase }
         ensures limit { OnlyLimit result }
+        ensures stays { EndStays self.old.phase self.new.phase }
+        ensures handed { HandsOver rs self.old.phase (unread self.old) result self.new.phase (unread self.new) }
         ensures told { W.tells → Answers rs (left self.old ((W.state world.old).readers self.old.id)) result (left self.new ((W.state world.new).readers self.old.id)) }
         ensures only { W.tells → OnlyReads self.old.id (W.state world.old) (W.state world.new) }
     {

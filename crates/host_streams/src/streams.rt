@@ -1,5 +1,5 @@
 //! The files that a script has open, by their names.
-ghost use Rattle.std.specs.Prelude.{◌≡◌, ℕ, None, Some, Ok, IfOk, IfSome, false, map, true};
+ghost use Rattle.std.specs.Prelude.{◌≡◌, ℕ, [], None, Some, Ok, IfOk, IfSome, false, map, true};
 ghost use Rattle.world_core.specs.WorldState.{Named, State};
 ghost use Rattle.world_core.specs.Calls.{Kind};
 ghost use Rattle.awk_state.specs.InputRows.{source_of};
@@ -7,8 +7,8 @@ ghost use Rattle.awk_state.specs.OutputRows.{is_writing};
 ghost use Rattle.awk_state.specs.Records.{record_separator};
 ghost use Rattle.host_streams.specs.declared.reader.Phase.TheVariants.{Broken, Open};
 ghost use Rattle.host_streams.specs.declared.reader.FileNext.TheVariants.{Failed};
-ghost use Rattle.host_streams.specs.OpenFiles.{FileNextIs, HoldsOpen, IsMissing, OpensFile, OpensReader, OpenCounts, OthersKeep, OthersStay, ReadersAfter, ReadsFile, StartsFile, WritersGo, has_room, phase_named, reader_handle, reader_names, reader_place, readers_beside, readers_in};
-ghost use Rattle.host_streams.specs.Readers.{NextCounts, NextPhase, OnlyLimit};
+ghost use Rattle.host_streams.specs.OpenFiles.{FileNextIs, HandsFile, HoldsOpen, IsMissing, OpensFile, OpensReader, OpenCounts, OthersKeep, OthersStay, ReadersAfter, ReadsFile, StartsFile, WritersGo, has_room, kept_named, phase_named, reader_handle, reader_names, reader_place, readers_beside, readers_in};
+ghost use Rattle.host_streams.specs.Readers.{HandsOver, NextCounts, NextPhase, OnlyLimit};
 
 use crate::FileNext;
 use crate::reader::Reader;
@@ -81,6 +81,7 @@ impl Streams {
         ensures kept { readers_beside name.now self.new.readers.items ≡ readers_beside name.now self.old.readers.items }
         ensures place { IfOk result (λ found. IfSome found (λ at. reader_place name.now self.new.readers.items ≡ Some at)) }
         ensures phase { IfOk result (λ found. IfSome found (λ at. phase_named name.now self.new.readers.items ≡ Open)) }
+        ensures nothing { IfOk result (λ found. IfSome found (λ at. kept_named name.now self.new.readers.items ≡ [])) }
         ensures goes { W.tells → WritersGo self.new.writers.items (W.state world.new) }
         ensures told { W.tells → OpensFile name.now (has_room self.old) (W.state world.old) (readers_in self.old.readers.items (W.state world.old)) result (readers_in self.new.readers.items (W.state world.new)) }
         ensures outside { W.tells → (W.state world.new).outside ≡ (W.state world.old).outside }
@@ -121,6 +122,7 @@ impl Streams {
         ensures writers { self.new.writers ≡ self.old.writers }
         ensures count { NextCounts (phase_named name.now self.old.readers.items) result (W.count world.old) (W.count world.new) }
         ensures phase { NextPhase (phase_named name.now self.old.readers.items) result (phase_named name.now self.new.readers.items) }
+        ensures handed { HandsFile name.now rs self.old.readers.items result self.new.readers.items }
         ensures limit { OnlyLimit result }
         ensures handles { map reader_handle self.new.readers.items ≡ map reader_handle self.old.readers.items }
         ensures kept { readers_beside name.now self.new.readers.items ≡ readers_beside name.now self.old.readers.items }
@@ -152,6 +154,7 @@ impl Streams {
         ensures readers { ReadersAfter false (has_room self.old) name.now self.old.readers.items result self.new.readers.items }
         ensures kept { readers_beside name.now self.new.readers.items ≡ readers_beside name.now self.old.readers.items }
         ensures breaks { is_writing name.now (reader_names self.new.readers.items) ≡ true → NextPhase Open result (phase_named name.now self.new.readers.items) }
+        ensures handed { is_writing name.now (reader_names self.new.readers.items) ≡ true → HandsOver rs Open [] result (phase_named name.now self.new.readers.items) (kept_named name.now self.new.readers.items) }
         ensures goes { W.tells → WritersGo self.new.writers.items (W.state world.new) }
         ensures told { W.tells → StartsFile (has_room self.old) (source_of ((W.state world.old).outside (Named name.now))) name.now rs (readers_in self.old.readers.items (W.state world.old)) result (readers_in self.new.readers.items (W.state world.new)) }
         ensures outside { W.tells → (W.state world.new).outside ≡ (W.state world.old).outside }
@@ -191,6 +194,7 @@ impl Streams {
         ensures readers { ReadersAfter (is_writing name.now (reader_names self.old.readers.items)) (has_room self.old) name.now self.old.readers.items result self.new.readers.items }
         ensures kept { readers_beside name.now self.new.readers.items ≡ readers_beside name.now self.old.readers.items }
         ensures breaks { is_writing name.now (reader_names self.new.readers.items) ≡ true → NextPhase (phase_named name.now self.old.readers.items) result (phase_named name.now self.new.readers.items) }
+        ensures handed { is_writing name.now (reader_names self.new.readers.items) ≡ true → HandsFile name.now (record_separator rs.now) self.old.readers.items result self.new.readers.items }
         ensures failing { phase_named name.now self.old.readers.items ≡ Broken → (result ≡ Ok Failed) × (phase_named name.now self.new.readers.items ≡ Broken) }
         ensures told { W.tells → FileNextIs name.now (record_separator rs.now) (has_room self.old) ((W.state world.old).outside (Named name.now)) (readers_in self.old.readers.items (W.state world.old)) result (readers_in self.new.readers.items (W.state world.new)) }
         ensures outside { W.tells → (W.state world.new).outside ≡ (W.state world.old).outside }

@@ -1,7 +1,8 @@
 use Rattle.std.proofs.Common.{◌≡◌, ◌≢◌}
 use Rattle.host_streams.specs.declared.reader.Phase.TheVariants.{Broken}
 use Rattle.host_streams.specs.Looks.{IsScanned}
-use Rattle.host_streams.specs.Readers.{left, unread, OnlyReads, work}
+use Rattle.host_streams.specs.Readers.{left, unread, EndStays, OnlyReads, work}
+use Rattle.host_streams.proofs.Turns.{SoFar}
 use Rattle.host_streams.proofs.reader.Reader.next.Given as goal
 
 abbrev pub invariant-turns : goal.invariant-turns
@@ -10,6 +11,8 @@ invariant-turns g l =
     record {
       id : l.self.id ≡ l.fn.self.id;
       live : l.self.phase ≢ Broken;
+      stays : EndStays l.fn.self.phase l.self.phase;
+      handed : SoFar l.fn.self.phase (unread l.fn.self) l.self.phase (unread l.self);
       known : IsScanned l.rs (unread l.self) l.known;
       kinds : w.kinds l.world ≡ w.kinds l.fn.world;
       count : w.count l.world ≡ w.count l.fn.world;

@@ -4,7 +4,7 @@ use Rattle.world_core.specs.WorldState.{Source}
 use Rattle.host_streams.specs.Looks.{IsThere, IsLong, IsOpen}
 use Rattle.host_streams.specs.Readers.{unread, MoreCounts, MoreIs, MoreKeeps}
 use Rattle.host_streams.proofs.Cuts.{scanned_kept}
-use Rattle.host_streams.proofs.Turns.{left_record, left_long}
+use Rattle.host_streams.proofs.Turns.{again_handed, left_long, left_record, long_handed, record_handed}
 use Rattle.host_streams.proofs.reader.Reader.turn.Goals as goal
 
 pub returns-in_ok-text-in-Record-clause-told : goal.returns-in_ok-text-in-Record-clause-told
@@ -14,11 +14,22 @@ returns-in_ok-text-in-Record-clause-told g c = λ tells.
     (c.in_ok-text-in-Record.ensures ∙ ap (λ xs. slice_range xs c.in-Record.from c.in-Record.to) c.unread-in-Record.ensures)
     (sym (drop-drop c.in-Record.next c.args.self.now.start c.args.self.now.kept.items))
 
+pub returns-in_ok-text-in-Record-clause-handed : goal.returns-in_ok-text-in-Record-clause-handed
+returns-in_ok-text-in-Record-clause-handed g c = record_handed c.args.self.now.phase c.args.rs (unread c.args.self.now) _ c.in_ok-text-in-Record.text
+    (λ source. left_record c.args.self.now.phase c.args.rs (unread c.args.self.now) c.in_ok-text-in-Record.text _ source c.in-Record.from c.in-Record.to c.in-Record.next c.requires.live
+      (subst (λ (xs : List ℕ). IsThere c.args.rs xs c.in-Record.from c.in-Record.to c.in-Record.next) c.unread.ensures c.in-Record.ensures)
+      (c.in_ok-text-in-Record.ensures ∙ ap (λ xs. slice_range xs c.in-Record.from c.in-Record.to) c.unread-in-Record.ensures)
+      (sym (drop-drop c.in-Record.next c.args.self.now.start c.args.self.now.kept.items)))
+
 pub returns-in-Long-clause-told : goal.returns-in-Long-clause-told
 returns-in-Long-clause-told g c = λ tells. (
   left_long c.args.self.now.phase c.args.rs (unread c.args.self.now) _ c.requires.live (subst (λ (xs : List ℕ). IsLong c.args.rs xs) c.unread.ensures c.in-Long.ensures),
   refl,
 )
+
+pub returns-in-Long-clause-handed : goal.returns-in-Long-clause-handed
+returns-in-Long-clause-handed g c =
+    long_handed c.args.self.now.phase c.args.rs (unread c.args.self.now) c.requires.live (subst (λ (xs : List ℕ). IsLong c.args.rs xs) c.unread.ensures c.in-Long.ensures)
 
 goes_on_told : (kept : List ℕ) {old new : Source} {b : Bool} → b ≡ true → MoreIs kept old (Ok b) new → new ≡ old
 goes_on_told kept {old} {new} {b} e h = subst (λ (c : Bool). MoreIs kept old (Ok c) new) e h
@@ -37,6 +48,8 @@ returns-in-Ok-true g c =
       limit = tt;
       again = scanned_kept c.args.rs (unread c.args.self.now) (unread c.more.new.self) _ keeps.0 open_now.known;
       goes_on = keeps.2;
+      stays = c.in-Ok-true.ensures.stays;
+      handed = again_handed c.args.rs c.args.self.now.phase c.more.new.self.phase (unread c.args.self.now) (unread c.more.new.self) _ c.in-Ok-true.field-0-test c.in-Ok-true.ensures.handed;
       told = λ tells. goes_on_told (unread c.args.self.now) c.in-Ok-true.field-0-test (c.in-Ok-true.ensures.told tells);
       only = c.in-Ok-true.ensures.only;
     }

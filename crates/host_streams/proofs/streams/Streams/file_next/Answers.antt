@@ -1,13 +1,15 @@
-use Rattle.std.proofs.Common.{◌∙◌, sym, ap}
+use Rattle.std.proofs.Common.{◌∙◌, sym, ap, []}
+use Rattle.host_streams.specs.declared.reader.Phase.TheVariants.{Open}
+use Rattle.host_streams.specs.Readers.{unread}
 use Rattle.host_streams.specs.OpenFiles.{reader_place}
 use Rattle.host_streams.proofs.Opened.{is_missing, name_there}
-use Rattle.host_streams.proofs.Held.{missing_named, none_failed, phase_missing}
+use Rattle.host_streams.proofs.Held.{missing_named, none_failed, shown_missing}
 use Rattle.host_streams.proofs.streams.Streams.file_next.Goals as goal
 
 pub returns-in-None-clause-count : goal.returns-in-None-clause-count
 returns-in-None-clause-count g c =
     let missing = ap (reader_place c.args.name.now) (sym c.as_slice.ensures.value) ∙ sym c.in-None.ensures in
-    rw (phase_missing c.args.name.now c.args.self.now.readers.items missing) c.open_and_read.ensures.count
+    rw (shown_missing (λ r. r.phase) Open c.args.name.now c.args.self.now.readers.items missing) c.open_and_read.ensures.count
 
 pub returns-in-None-clause-told : goal.returns-in-None-clause-told
 returns-in-None-clause-told g c = λ tells.
@@ -32,4 +34,9 @@ returns-in-None-clause-readers g c =
 pub returns-in-None-clause-breaks : goal.returns-in-None-clause-breaks
 returns-in-None-clause-breaks g c = λ there.
     let missing = ap (reader_place c.args.name.now) (sym c.as_slice.ensures.value) ∙ sym c.in-None.ensures in
-    rw (phase_missing c.args.name.now c.args.self.now.readers.items missing) (c.open_and_read.ensures.breaks there)
+    rw (shown_missing (λ r. r.phase) Open c.args.name.now c.args.self.now.readers.items missing) (c.open_and_read.ensures.breaks there)
+
+pub returns-in-None-clause-handed : goal.returns-in-None-clause-handed
+returns-in-None-clause-handed g c = λ there.
+    let missing = ap (reader_place c.args.name.now) (sym c.as_slice.ensures.value) ∙ sym c.in-None.ensures in
+    rw (shown_missing (λ r. r.phase) Open c.args.name.now c.args.self.now.readers.items missing, shown_missing unread [] c.args.name.now c.args.self.now.readers.items missing, ← c.first_byte-separator.ensures) (c.open_and_read.ensures.handed there)

@@ -1,7 +1,9 @@
-use Rattle.std.proofs.Common.{ap, refl, subst, sym}
+use Rattle.std.proofs.Common.{ap, refl, subst, sym, []}
 use Rattle.host_streams.specs.declared.streams.NamedReader.{NamedReader}
 use Rattle.host_streams.specs.OpenFiles.{IsNone}
-use Rattle.host_streams.proofs.Held.{handles_next, open_next, phase_after, phase_next, named_next, held_next, told_next, go_same, apart_next, none_next}
+use Rattle.host_streams.specs.declared.reader.Phase.TheVariants.{Open}
+use Rattle.host_streams.specs.Readers.{unread}
+use Rattle.host_streams.proofs.Held.{handles_next, open_next, named_next, held_next, told_next, go_same, apart_next, none_next, shown_after, shown_next}
 use Rattle.host_streams.proofs.Opened.{beside_next}
 use Rattle.host_streams.proofs.streams.Streams.next_at.Goals as goal
 
@@ -18,13 +20,24 @@ returns-clause-held g c = rw c.next.ensures.kinds (
 
 pub returns-clause-count : goal.returns-clause-count
 returns-clause-count g c =
-    rw (phase_next c.args.name.now c.args.self.now.readers.items c.args.at c.requires.place c.index_mut-named.result.now c.index_mut-named.ensures.value) c.next.ensures.count
+    rw (shown_next c.args.name.now c.args.self.now.readers.items c.args.at c.requires.place c.index_mut-named.result.now c.index_mut-named.ensures.value (λ r. r.phase) Open) c.next.ensures.count
 
 pub returns-clause-phase : goal.returns-clause-phase
 returns-clause-phase g c =
     let named = c.index_mut-named.result.now in
     let other : NamedReader = record { name = named.name; reader = c.next.new.self } in
-    rw (phase_next c.args.name.now c.args.self.now.readers.items c.args.at c.requires.place named c.index_mut-named.ensures.value, phase_after c.args.name.now c.args.self.now.readers.items c.args.at c.requires.place named c.index_mut-named.ensures.value other refl) c.next.ensures.phase
+    rw (shown_next c.args.name.now c.args.self.now.readers.items c.args.at c.requires.place named c.index_mut-named.ensures.value (λ r. r.phase) Open, shown_after c.args.name.now c.args.self.now.readers.items c.args.at c.requires.place named c.index_mut-named.ensures.value other refl (λ r. r.phase) Open) c.next.ensures.phase
+
+pub returns-clause-handed : goal.returns-clause-handed
+returns-clause-handed g c =
+    let named = c.index_mut-named.result.now in
+    let other : NamedReader = record { name = named.name; reader = c.next.new.self } in
+    rw (
+      shown_next c.args.name.now c.args.self.now.readers.items c.args.at c.requires.place named c.index_mut-named.ensures.value (λ r. r.phase) Open,
+      shown_next c.args.name.now c.args.self.now.readers.items c.args.at c.requires.place named c.index_mut-named.ensures.value unread [],
+      shown_after c.args.name.now c.args.self.now.readers.items c.args.at c.requires.place named c.index_mut-named.ensures.value other refl (λ r. r.phase) Open,
+      shown_after c.args.name.now c.args.self.now.readers.items c.args.at c.requires.place named c.index_mut-named.ensures.value other refl unread [],
+    ) c.next.ensures.handed
 
 pub returns-clause-goes : goal.returns-clause-goes
 returns-clause-goes g c = λ tells. go_same c.args.self.now.writers.items _ _ (c.next.ensures.only tells).writers (c.requires.goes tells)

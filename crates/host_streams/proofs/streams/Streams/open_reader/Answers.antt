@@ -2,9 +2,11 @@ use Rattle.std.proofs.Common.{◌≡◌, ◌∙◌, ◌++◌, ◌∷◌, [], ◌
 use Rattle.std.proofs.lemmas.Bool.{lt-ltb}
 use Rattle.awk_state.specs.InputRows.{with_reader}
 use Rattle.host_streams.specs.declared.streams.NamedReader.{NamedReader}
-use Rattle.host_streams.specs.OpenFiles.{IsAdded, is_reader, phase_named, reader_place, readers_beside, readers_in}
+use Rattle.host_streams.specs.OpenFiles.{IsAdded, is_reader, kept_named, phase_named, reader_place, readers_beside, readers_in}
+use Rattle.host_streams.specs.declared.reader.Phase.TheVariants.{Open}
+use Rattle.host_streams.specs.Readers.{unread}
 use Rattle.host_streams.proofs.Places.{all_fail}
-use Rattle.host_streams.proofs.Held.{held_open, go_on, opened_last, source_opened, named_last, none_last, phase_last}
+use Rattle.host_streams.proofs.Held.{held_open, go_on, opened_last, source_opened, named_last, none_last, shown_last}
 use Rattle.host_streams.proofs.Opened.{added_last, beside_last, none_but_last}
 use Rattle.host_streams.proofs.Outputs.{kind_stays, other_number, was_kind}
 use Rattle.host_streams.proofs.streams.Streams.open_reader.Goals as goal
@@ -47,7 +49,13 @@ pub returns-in-Ok-clause-phase : goal.returns-in-Ok-clause-phase
 returns-in-Ok-clause-phase g c =
     let r : NamedReader = record { name = c.in_ok-own.own; reader = c.new-reader.result } in
     let items = c.push_reserved.ensures.items ∙ ap (λ xs. xs ++ r ∷ []) c.reserve.ensures.items in
-    ap (phase_named c.args.name.now) items ∙ phase_last c.args.name.now c.args.self.now.readers.items r c.requires.missing c.in_ok-own.ensures ∙ c.new-reader.ensures.fresh.0
+    ap (phase_named c.args.name.now) items ∙ shown_last (λ r. r.phase) Open c.args.name.now c.args.self.now.readers.items r c.requires.missing c.in_ok-own.ensures ∙ c.new-reader.ensures.fresh.0
+
+pub returns-in-Ok-clause-nothing : goal.returns-in-Ok-clause-nothing
+returns-in-Ok-clause-nothing g c =
+    let r : NamedReader = record { name = c.in_ok-own.own; reader = c.new-reader.result } in
+    let items = c.push_reserved.ensures.items ∙ ap (λ xs. xs ++ r ∷ []) c.reserve.ensures.items in
+    ap (kept_named c.args.name.now) items ∙ shown_last unread [] c.args.name.now c.args.self.now.readers.items r c.requires.missing c.in_ok-own.ensures ∙ c.new-reader.ensures.fresh.1
 
 pub returns-in-Ok-clause-others : goal.returns-in-Ok-clause-others
 returns-in-Ok-clause-others g c = λ k none was.
