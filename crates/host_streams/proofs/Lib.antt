@@ -8,3 +8,4 @@ pub mod Writing
 pub mod Outputs
 pub mod Closed
 pub mod MainSteps
+pub mod Passed

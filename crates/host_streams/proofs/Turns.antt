@@ -60,7 +60,7 @@ more_handed p q kept before now start live same whole zero front =
 -- turns: a piece more is read; a record among what is kept; one that is too long
 pub again_handed : (rs : Option ℕ) (p q : Phase) (kept now : List ℕ) (known : Known) {b : Bool} → b ≡ true → HandsMore p kept (Ok b) q now → HandsTurn rs p kept (Ok (Again known)) q now
 again_handed rs p q kept now known {b} e h =
-    let m : HandsMore p kept (Ok true) q now = subst (λ (c : Bool). HandsMore p kept (Ok c) q now) e h in record { bytes = m.bytes; answers = m.is; }
+    let m : HandsMore p kept (Ok true) q now = subst (λ (c : Bool). HandsMore p kept (Ok c) q now) e h in record { bytes = m.bytes; answers = m.is }
 
 pub record_handed : (p : Phase) (rs : Option ℕ) (kept rest : List ℕ) (text : List ℕ) → ((source : Source) → first_record rs (left_in p kept source) ≡ Ok (GotRecord text, left_in p rest source)) →
     HandsTurn rs p kept (Ok (Answer (Record text))) p rest

@@ -5,3 +5,4 @@ pub mod Puts
 pub mod Outputs
 pub mod Closing
 pub mod Mains
+pub mod Passing

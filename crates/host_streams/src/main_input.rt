@@ -1,5 +1,5 @@
 //! The main input: the files that the operands name, or else the standard input (POSIX.1-2017 awk, "OPERANDS", "INPUT FILES").
-ghost use Rattle.std.specs.Prelude.{◌≡◌, ◌≢◌, ◌≤◌, ◌^◌, ℕ, List, [], None, Some, false, length, IfErr, IfOk, OnErr};
+ghost use Rattle.std.specs.Prelude.{◌≡◌, ◌≢◌, ◌≤◌, ◌^◌, ℕ, ℤ, Result, List, [], None, Some, false, length, IfErr, IfOk, OnErr};
 ghost use Rattle.std.specs.List.{prefix_len};
 ghost use Rattle.world_core.specs.WorldState.{State};
 ghost use Rattle.world_core.specs.Calls.{Kind};
@@ -11,6 +11,7 @@ ghost use Rattle.awk_state.specs.SharedState.{Inner};
 ghost use Rattle.host_streams.specs.declared.reader.Phase.TheVariants.{Broken, Open};
 ghost use Rattle.host_streams.specs.Readers.{NextCounts, NextPhase, OnlyLimit};
 ghost use Rattle.host_streams.specs.Mains.{AnswerIs, FileIsOpen, GivenIs, GoesOn, HoldsMain, IsApartFrom, IsAsked, IsFresh, IsOfNumber, IsOffered, MainCounts, MainEnds, MainPhase, NameLen, OperandCounts, ReadsMain, SparesKinds, SparesPlaces, StandardIs, StepEnds, begins, has_operand, idle, is_equals, main_at_start, main_of, main_phase, passed, phase_at, reading_of, rest_of, with_main};
+ghost use Rattle.host_streams.specs.Passing.{AreThere, FollowsAll, HandsAt, HandsMain, HandsStep, IdleAfter, IsOfOperands, IsOfReader, IsOne, NoneMore, Passes, StandardStays, StepNoneMore, StepPasses};
 
 use crate::reader::{FileNext, Reader};
 use crate::streams::first_byte;
@@ -196,6 +197,9 @@ impl MainInput {
         ensures no_others { SparesKinds self.new.reading self.old.reading (W.kinds world.new) (W.kinds world.old) }
         ensures places { W.tells → SparesPlaces self.old.reading (W.kinds world.old) (W.state world.old) (W.state world.new) }
         ensures outside { W.tells → (W.state world.new).outside ≡ (W.state world.old).outside }
+        ensures found { self.new.found ≡ self.old.found }
+        ensures standard { StandardStays self.old.reading self.old.standard self.new.standard }
+        ensures handed { HandsAt rs self.old.reading self.old.standard result self.new.reading self.new.standard }
     {
         match &mut self.reading {
             Reading::Nothing => Ok(FileNext::End),
@@ -218,6 +222,8 @@ impl MainInput {
         ensures no_others { SparesKinds self.new.reading self.old.reading (W.kinds world.new) (W.kinds world.old) }
         ensures places { W.tells → SparesPlaces self.old.reading (W.kinds world.old) (W.state world.old) (W.state world.new) }
         ensures outside { W.tells → (W.state world.new).outside ≡ (W.state world.old).outside }
+        ensures found { self.new.found ≡ self.old.found }
+        ensures standard { self.new.standard ≡ self.old.standard }
     {
         if let Reading::File(reader) = &self.reading {
             world.close(reader.id);
@@ -240,6 +246,11 @@ impl MainInput {
         ensures no_others { SparesKinds self.new.reading self.old.reading (W.kinds world.new) (W.kinds world.old) }
         ensures places { W.tells → SparesPlaces self.old.reading (W.kinds world.old) (W.state world.old) (W.state world.new) }
         ensures outside { W.tells → (W.state world.new).outside ≡ (W.state world.old).outside }
+        ensures next { self.new.next ≡ self.old.next }
+        ensures found { self.new.found ≡ self.old.found }
+        ensures standard { StandardStays self.old.reading self.old.standard self.new.standard }
+        ensures handed { HandsStep rs self.old result self.new }
+        ensures answers { IsOfReader result }
     {
         match self.read(world, rs) {
             Ok(FileNext::Record(text)) => Ok(Some(MainNext::Record(text))),
@@ -266,6 +277,8 @@ impl MainInput {
         ensures count { (n : ℕ) → MainCounts Open result n n }
         ensures phase { MainPhase Open result (main_phase self.new) }
         ensures ends { StepEnds self.old.ended result self.new.ended }
+        ensures next { self.new.next ≡ self.old.next }
+        ensures follows { FollowsAll self.old.found result self.new.found }
     {
         if let Found::NoFile = self.found {
             let name = Bytes::from_slice(self.alloc, &[])?;
@@ -285,6 +298,7 @@ impl MainInput {
         requires held { HoldsMain self.old (W.kinds world.old) }
         requires plain { name ≢ [] }
         requires file { assignment_of name ≡ None }
+        requires left { self.old.found ≢ Found.NoneLeft }
         ensures held { HoldsMain self.new (W.kinds world.new) }
         ensures told { W.tells → (inner : Inner) → GivenIs (taken (rest_of (passed (main_of self.old (W.state world.old))) (W.state world.old).outside) (W.state world.old).outside name (with_main (passed (main_of self.old (W.state world.old))) inner)) result (W.state world.old).outside (with_main (main_of self.old (W.state world.old)) inner) (with_main (main_of self.new (W.state world.new)) inner) }
         ensures spares { SparesKinds self.old.reading self.new.reading (W.kinds world.old) (W.kinds world.new) }
@@ -295,6 +309,13 @@ impl MainInput {
         ensures count { MainCounts Open result (W.count world.old) (W.count world.new) }
         ensures phase { MainPhase Open result (main_phase self.new) }
         ensures ends { StepEnds self.old.ended result self.new.ended }
+        ensures passes { (texts : ℕ → List ℕ) → texts self.old.next ≡ name → StepPasses texts self.old.next self.old.found result self.new.next self.new.found }
+        ensures standard { self.new.standard ≡ self.old.standard }
+        ensures one { IsOne self.old.next self.new.next }
+        ensures answers { IsOfOperands result }
+        ensures idle { IdleAfter result self.new.reading }
+        ensures named { self.new.found ≢ Found.NoneLeft }
+        ensures more { (count : Result ℤ Fault) → StepNoneMore count false self.old.found result self.new.next self.new.found }
     {
         let opened = open_operand(world, self.alloc, name.as_slice())?;
         self.next += 1;
@@ -312,6 +333,7 @@ impl MainInput {
         requires live { self.old.ended ≡ false }
         requires name { NameLen text.now (Some len) }
         requires next { self.old.next ≤ 2 ^ 20 }
+        requires left { self.old.found ≢ Found.NoneLeft }
         ensures standard { self.new.standard ≡ self.old.standard }
         ensures reading { self.new.reading ≡ self.old.reading }
         ensures told { (state : State) (inner : Inner) → GivenIs (taken (rest_of (passed (main_of self.old state)) state.outside) state.outside text.now (with_main (passed (main_of self.old state)) inner)) result state.outside (with_main (main_of self.old state) inner) (with_main (main_of self.new state) inner) }
@@ -319,6 +341,12 @@ impl MainInput {
         ensures count { (n : ℕ) → MainCounts Open result n n }
         ensures phase { MainPhase Open result (main_phase self.new) }
         ensures ends { StepEnds self.old.ended result self.new.ended }
+        ensures passes { (texts : ℕ → List ℕ) → texts self.old.next ≡ text.now → StepPasses texts self.old.next self.old.found result self.new.next self.new.found }
+        ensures one { IsOne self.old.next self.new.next }
+        ensures answers { IsOfOperands result }
+        ensures idle { IdleAfter result self.new.reading }
+        ensures named { self.new.found ≢ Found.NoneLeft }
+        ensures more { (count : Result ℤ Fault) → StepNoneMore count false self.old.found result self.new.next self.new.found }
     {
         let name = Bytes::from_slice(self.alloc, &text[..len])?;
         let value = Bytes::from_slice(self.alloc, &text[len + 1..])?;
@@ -347,6 +375,13 @@ impl MainInput {
         ensures no_others { SparesKinds self.new.reading self.old.reading (W.kinds world.new) (W.kinds world.old) }
         ensures places { W.tells → SparesPlaces self.old.reading (W.kinds world.old) (W.state world.old) (W.state world.new) }
         ensures outside { W.tells → (W.state world.new).outside ≡ (W.state world.old).outside }
+        ensures passes { StepPasses (O.text operands.now) self.old.next self.old.found result self.new.next self.new.found }
+        ensures standard { self.new.standard ≡ self.old.standard }
+        ensures one { IsOne self.old.next self.new.next }
+        ensures answers { IsOfOperands result }
+        ensures idle { IdleAfter result self.new.reading }
+        ensures named { self.new.found ≢ Found.NoneLeft }
+        ensures more { (count : Result ℤ Fault) → StepNoneMore count false self.old.found result self.new.next self.new.found }
     {
         let text = operands.operand(self.next)?;
         if text.as_slice().is_empty() {
@@ -379,6 +414,12 @@ impl MainInput {
         ensures no_others { SparesKinds self.new.reading self.old.reading (W.kinds world.new) (W.kinds world.old) }
         ensures places { W.tells → SparesPlaces self.old.reading (W.kinds world.old) (W.state world.old) (W.state world.new) }
         ensures outside { W.tells → (W.state world.new).outside ≡ (W.state world.old).outside }
+        ensures passes { StepPasses (O.text operands.now) self.old.next self.old.found result self.new.next self.new.found }
+        ensures there { AreThere (number_of_value argc.now) self.old.next self.new.next }
+        ensures more { StepNoneMore (number_of_value argc.now) false self.old.found result self.new.next self.new.found }
+        ensures standard { self.new.standard ≡ self.old.standard }
+        ensures answers { IsOfOperands result }
+        ensures idle { IdleAfter result self.new.reading }
     {
         if let Found::NoneLeft = self.found {
             return self.follow();
@@ -409,6 +450,11 @@ impl MainInput {
         ensures no_others { SparesKinds self.new.reading self.old.reading (W.kinds world.new) (W.kinds world.old) }
         ensures places { W.tells → SparesPlaces self.old.reading (W.kinds world.old) (W.state world.old) (W.state world.new) }
         ensures outside { W.tells → (W.state world.new).outside ≡ (W.state world.old).outside }
+        ensures handed { HandsStep rs self.old result self.new }
+        ensures passes { StepPasses (O.text operands.now) self.old.next self.old.found result self.new.next self.new.found }
+        ensures there { AreThere (number_of_value argc.now) self.old.next self.new.next }
+        ensures more { StepNoneMore (number_of_value argc.now) self.old.ended self.old.found result self.new.next self.new.found }
+        ensures standard { StandardStays self.old.reading self.old.standard self.new.standard }
     {
         if self.ended {
             return Ok(Some(MainNext::End));
@@ -444,6 +490,11 @@ impl MainInput {
         ensures no_others { SparesKinds self.new.reading self.old.reading (W.kinds world.new) (W.kinds world.old) }
         ensures places { W.tells → SparesPlaces self.old.reading (W.kinds world.old) (W.state world.old) (W.state world.new) }
         ensures outside { W.tells → (W.state world.new).outside ≡ (W.state world.old).outside }
+        ensures handed { HandsMain (record_separator rs.now) self.old result self.new }
+        ensures passes { Passes (O.text operands.now) self.old.next self.old.found result self.new.next self.new.found }
+        ensures there { AreThere (number_of_value argc.now) self.old.next self.new.next }
+        ensures more { NoneMore (number_of_value argc.now) self.old.ended self.old.found result self.new.next self.new.found }
+        ensures standard { StandardStays self.old.reading self.old.standard self.new.standard }
     {
         let separator = first_byte(rs);
         'steps: loop {

@@ -1,13 +1,18 @@
-use Rattle.std.proofs.Common.{◌∙◌, sym}
+use Rattle.std.proofs.Common.{◌∙◌, ℕ, sym, subst, Err, Ok, Option}
+use Rattle.awk_values.specs.Values.{number_of_value}
 use Rattle.host_streams.specs.Mains.{main_of, main_phase, with_main}
+use Rattle.host_streams.specs.Passing.{HandsMain}
 use Rattle.host_streams.proofs.MainSteps.{none_since, phase_since, same_break, told_since}
+use Rattle.host_streams.proofs.Passed.{hands_since, more_since, none_hands, none_skips, passes_since, skips_since, so_far_on, some_hands, some_passes, standard_since, there_since}
 use Rattle.host_streams.proofs.main_input.MainInput.next.Goals as goal
 
 pub steps-preserved : goal.steps-preserved
 steps-preserved g c =
     let step = c.in-Ok-None.ensures in
     let before = c.steps.invariant in
-    let ends = none_since c.in-Ok-None.field-0-is step.ends in record {
+    let ends = none_since c.in-Ok-None.field-0-is step.ends in
+    let passes = none_skips (g.O.Operands.text c.args.operands.now) c.steps.self.next c.step.new.self.next c.steps.self.found c.step.new.self.found c.in-Ok-None.field-0-is step.passes in
+    let so = so_far_on _ c.args.self.now c.steps.self c.step.new.self before.so step.standard (none_hands _ c.steps.self c.step.new.self c.in-Ok-None.field-0-is step.handed) in record {
       held = step.held;
       spares = λ k apart was. let s = before.spares k apart was in let t = step.spares k s.1 (λ e. was (sym s.0 ∙ e)) in (t.0 ∙ s.0, t.1);
       no_others = λ k apart is. let t = step.no_others k apart is in let s = before.no_others k t.1 (λ e. is (sym t.0 ∙ e)) in (s.0 ∙ t.0, s.1);
@@ -19,9 +24,38 @@ steps-preserved g c =
           let now = step.places tells k own s.1 (λ e. was (sym s.0 ∙ e)) in
           let first = before.places tells k own apart was in (now.0 ∙ first.0, now.1 ∙ first.1);
       outside = λ tells. step.outside tells ∙ before.outside tells;
+      so = so;
+      standard = standard_since _ c.args.self.now c.steps.self c.step.new.self before.so before.standard step.standard;
+      skips = skips_since (g.O.Operands.text c.args.operands.now) c.args.self.now.next c.steps.self.next c.step.new.self.next before.skips passes.0;
+      found = passes.1 ∙ before.found;
+      there = there_since (number_of_value c.args.argc.now) c.args.self.now.next c.steps.self.next c.step.new.self.next before.there step.there;
       told = λ tells inner asked offered.
           told_since (with_main (main_of c.steps.self (g.W.World.state c.steps.world)) inner) (with_main (main_of c.step.new.self (g.W.World.state c.step.new.world)) inner) c.in-Ok-None.field-0-is (before.outside tells) (before.told tells inner asked offered) (step.told tells inner asked offered);
     }
 
 pub returns-in-Err-clause-phase : goal.returns-in-Err-clause-phase
 returns-in-Err-clause-phase g c = phase_since _ (main_phase c.args.self.now) (main_phase c.steps.self) _ c.steps.invariant.phase c.in-Err.ensures.phase
+
+pub returns-in-Err-clause-handed : goal.returns-in-Err-clause-handed
+returns-in-Err-clause-handed g c =
+    subst (λ (rs : Option ℕ). HandsMain rs c.args.self.now (Err c.in-Err.stop) c.step.new.self) c.first_byte-separator.ensures
+    (hands_since _ c.args.self.now c.steps.self c.step.new.self (Err c.in-Err.stop) c.steps.invariant.so c.in-Err.ensures.standard c.in-Err.ensures.handed)
+
+pub returns-in-Err-clause-passes : goal.returns-in-Err-clause-passes
+returns-in-Err-clause-passes g c =
+    passes_since _ (g.O.Operands.text c.args.operands.now) c.args.self.now c.steps.self c.step.new.self (Err c.in-Err.stop) c.steps.invariant.so c.steps.invariant.skips c.steps.invariant.found c.in-Err.ensures.handed c.in-Err.ensures.passes
+
+pub returns-in-Err-clause-there : goal.returns-in-Err-clause-there
+returns-in-Err-clause-there g c = there_since (number_of_value c.args.argc.now) c.args.self.now.next c.steps.self.next c.step.new.self.next c.steps.invariant.there c.in-Err.ensures.there
+
+pub returns-in-Err-clause-more : goal.returns-in-Err-clause-more
+returns-in-Err-clause-more g c = more_since (number_of_value c.args.argc.now) c.args.self.now c.steps.self c.step.new.self (Err c.in-Err.stop) c.steps.invariant.ended c.steps.invariant.found c.in-Err.ensures.more
+
+pub returns-in-Err-clause-standard : goal.returns-in-Err-clause-standard
+returns-in-Err-clause-standard g c = standard_since _ c.args.self.now c.steps.self c.step.new.self c.steps.invariant.so c.steps.invariant.standard c.in-Err.ensures.standard
+
+pub returns-in-Ok-Some-clause-passes : goal.returns-in-Ok-Some-clause-passes
+returns-in-Ok-Some-clause-passes g c =
+    let some = c.in-Ok-Some.field-0-is in
+    let passes = some_passes (g.O.Operands.text c.args.operands.now) c.steps.self.next c.step.new.self.next c.steps.self.found c.step.new.self.found c.in-Ok-Some.answer some c.in-Ok-Some.ensures.passes in
+    passes_since _ (g.O.Operands.text c.args.operands.now) c.args.self.now c.steps.self c.step.new.self (Ok c.in-Ok-Some.answer) c.steps.invariant.so c.steps.invariant.skips c.steps.invariant.found (some_hands _ c.steps.self c.step.new.self c.in-Ok-Some.answer some c.in-Ok-Some.ensures.handed) passes

@@ -2,7 +2,10 @@ use Rattle.std.proofs.Common.{◌≡◌}
 use Rattle.awk_state.specs.InputRows.{main_input}
 use Rattle.awk_state.specs.SharedState.{Inner}
 use Rattle.host_streams.specs.Mains.{HoldsMain, IsAsked, IsOffered, SparesKinds, SparesPlaces, main_of, main_phase, with_main, work}
+use Rattle.awk_values.specs.Values.{number_of_value}
+use Rattle.host_streams.specs.Passing.{AreThere, Skips, StandardStays}
 use Rattle.host_streams.proofs.Held.{is_broken}
+use Rattle.host_streams.proofs.Passed.{SoFarMain}
 use Rattle.host_streams.proofs.main_input.MainInput.next.Given as goal
 
 abbrev pub invariant-steps : goal.invariant-steps
@@ -17,6 +20,11 @@ invariant-steps g l =
       ended : l.self.ended ≡ l.fn.self.ended;
       places : w.tells → SparesPlaces l.fn.self.reading (w.kinds l.fn.world) (w.state l.fn.world) (w.state l.world);
       outside : w.tells → (w.state l.world).outside ≡ (w.state l.fn.world).outside;
+      so : SoFarMain l.separator l.fn.self l.self;
+      standard : StandardStays l.fn.self.reading l.fn.self.standard l.self.standard;
+      skips : Skips (g.O.Operands.text l.operands) l.fn.self.next l.self.next;
+      found : l.self.found ≡ l.fn.self.found;
+      there : AreThere (number_of_value l.argc) l.fn.self.next l.self.next;
       told : w.tells → (inner : Inner) → IsAsked l.separator inner → IsOffered l.argc (g.O.Operands.text l.operands) inner →
           main_input (w.state l.fn.world).outside (with_main (main_of l.fn.self (w.state l.fn.world)) inner) ≡ main_input (w.state l.fn.world).outside (with_main (main_of l.self (w.state l.world)) inner);
     }

@@ -1,8 +1,9 @@
-use Rattle.std.proofs.Common.{◌∙◌, sym, ap, inl, refl, subst, Ok, Option}
+use Rattle.std.proofs.Common.{◌∙◌, sym, ap, inl, refl, subst, arith, Ok, Option}
 use Rattle.awk_values.specs.Values.{number_of_value}
 use Rattle.host_streams.specs.declared.main_input.MainNext.{MainNext}
 use Rattle.host_streams.specs.Mains.{IsApartFrom, main_phase}
 use Rattle.host_streams.proofs.MainSteps.{given_later, number_counts, number_phase, has_fault, has_none, has_one, none_left}
+use Rattle.host_streams.proofs.Passed.{follow_answers, follow_idle, follow_more, follow_passes, none_there, number_answers, number_more, number_passes, one_there}
 use Rattle.host_streams.proofs.main_input.MainInput.reach.Goals as goal
 
 pub returns-in-NoneLeft-clause-told : goal.returns-in-NoneLeft-clause-told
@@ -25,6 +26,12 @@ returns-in-Ok-true g c = record {
   spares = c.take.ensures.spares;
   places = c.take.ensures.places;
   outside = c.take.ensures.outside;
+  passes = c.take.ensures.passes;
+  there = one_there (number_of_value c.args.argc.now) c.args.self.now.next c.take.new.self.next (sym c.in-Ok-true.ensures.value ∙ ap (λ b. Ok b) c.in-Ok-true.field-0-test) c.take.ensures.one.1;
+  more = c.take.ensures.more (number_of_value c.args.argc.now);
+  standard = c.take.ensures.standard;
+  answers = c.take.ensures.answers;
+  idle = c.take.ensures.idle;
 }
 
 pub returns-in-Ok-false : goal.returns-in-Ok-false
@@ -42,6 +49,13 @@ returns-in-Ok-false g c = record {
   spares = λ k apart was. (refl, c.follow-in-Ok-false.ensures.apart k);
   places = λ tells k own apart was. (refl, refl);
   outside = λ tells. refl;
+  passes = follow_passes (g.O.Operands.text c.args.operands.now) c.args.self.now.found c.follow-in-Ok-false.new.self.found c.args.self.now.next c.follow-in-Ok-false.new.self.next c.follow-in-Ok-false.result c.follow-in-Ok-false.ensures.next c.follow-in-Ok-false.ensures.follows;
+  there = none_there (number_of_value c.args.argc.now) c.args.self.now.next c.follow-in-Ok-false.new.self.next (let same = c.follow-in-Ok-false.ensures.next in omega arith);
+  more = follow_more (number_of_value c.args.argc.now) c.args.self.now.found c.follow-in-Ok-false.new.self.found c.follow-in-Ok-false.new.self.next c.follow-in-Ok-false.result
+      (λ left. rw c.follow-in-Ok-false.ensures.next (sym c.in-Ok-false.ensures.value ∙ ap (λ b. Ok b) c.in-Ok-false.field-0-test)) c.follow-in-Ok-false.ensures.follows;
+  standard = c.follow-in-Ok-false.ensures.standard;
+  answers = follow_answers c.args.self.now.found c.follow-in-Ok-false.new.self.found c.follow-in-Ok-false.result c.follow-in-Ok-false.ensures.follows;
+  idle = follow_idle c.args.self.now.found c.follow-in-Ok-false.new.self.found c.follow-in-Ok-false.new.self.reading c.follow-in-Ok-false.result c.follow-in-Ok-false.ensures.follows;
 }
 
 pub returns-in-Err : goal.returns-in-Err
@@ -58,7 +72,30 @@ returns-in-Err g c = record {
   spares = λ k apart was. (refl, apart);
   places = λ tells k own apart was. (refl, refl);
   outside = λ tells. refl;
+  passes = number_passes (g.O.Operands.text c.args.operands.now) c.args.self.now.next c.args.self.now.found c.in-Err.fault c.in-Err.ensures.own;
+  there = none_there (number_of_value c.args.argc.now) c.args.self.now.next c.args.self.now.next (omega arith);
+  more = number_more (number_of_value c.args.argc.now) c.args.self.now.next c.args.self.now.found c.in-Err.fault c.in-Err.ensures.own (sym c.in-Err.ensures.value);
+  standard = refl;
+  answers = number_answers c.in-Err.fault c.in-Err.ensures.own;
+  idle = tt;
 }
 
 pub returns-in-NoneLeft-clause-spares : goal.returns-in-NoneLeft-clause-spares
 returns-in-NoneLeft-clause-spares g c = λ k apart was. (refl, c.follow.ensures.apart k)
+
+pub returns-in-NoneLeft-clause-passes : goal.returns-in-NoneLeft-clause-passes
+returns-in-NoneLeft-clause-passes g c =
+    follow_passes (g.O.Operands.text c.args.operands.now) c.args.self.now.found c.follow.new.self.found c.args.self.now.next c.follow.new.self.next c.follow.result c.follow.ensures.next c.follow.ensures.follows
+
+pub returns-in-NoneLeft-clause-there : goal.returns-in-NoneLeft-clause-there
+returns-in-NoneLeft-clause-there g c = none_there (number_of_value c.args.argc.now) c.args.self.now.next c.follow.new.self.next (let same = c.follow.ensures.next in omega arith)
+
+pub returns-in-NoneLeft-clause-more : goal.returns-in-NoneLeft-clause-more
+returns-in-NoneLeft-clause-more g c =
+    follow_more (number_of_value c.args.argc.now) c.args.self.now.found c.follow.new.self.found c.follow.new.self.next c.follow.result (λ left. absurd (left c.in-NoneLeft.is)) c.follow.ensures.follows
+
+pub returns-in-NoneLeft-clause-answers : goal.returns-in-NoneLeft-clause-answers
+returns-in-NoneLeft-clause-answers g c = follow_answers c.args.self.now.found c.follow.new.self.found c.follow.result c.follow.ensures.follows
+
+pub returns-in-NoneLeft-clause-idle : goal.returns-in-NoneLeft-clause-idle
+returns-in-NoneLeft-clause-idle g c = follow_idle c.args.self.now.found c.follow.new.self.found c.follow.new.self.reading c.follow.result c.follow.ensures.follows

@@ -34,6 +34,6 @@ turns-preserved g c =
       told = λ tells. (
           let same = subst (λ (k : ℕ). Turns c.args.rs (left c.turns.self ((w.state c.turns.world).readers k)) (Ok c.in-Ok-Again.field-0) (left c.turn.new.self ((w.state c.turn.new.world).readers k))) was.id (turn.told tells) in
           subst (λ (t : Turn). Turns c.args.rs (left c.turns.self ((w.state c.turns.world).readers id)) (Ok t) (left c.turn.new.self ((w.state c.turn.new.world).readers id))) again same ∙ was.told tells
-      );
+          );
       only = λ tells. only_again id c.turns.self.id (w.state c.args.world.now) (w.state c.turns.world) (w.state c.turn.new.world) was.id (was.only tells) (turn.only tells);
     }
