@@ -19,7 +19,7 @@ use Rattle.host_streams.specs.declared.reader.Turn.{Turn}
 use Rattle.host_streams.specs.declared.reader.Turn.TheVariants.{Answer, Again}
 
 -- a record among what is kept
-pub left_record : (p : Phase) (rs : Option ℕ) (kept text rest : List ℕ) (source : Source) (from to next : ℕ) → (p ≡ Broken → ⊥) → IsThere rs kept from to next →
+left_record : (p : Phase) (rs : Option ℕ) (kept text rest : List ℕ) (source : Source) (from to next : ℕ) → (p ≡ Broken → ⊥) → IsThere rs kept from to next →
     text ≡ slice_range kept from to → rest ≡ drop next kept → first_record rs (left_in p kept source) ≡ Ok (GotRecord text, left_in p rest source)
 left_record Broken rs kept text rest source from to next live h e f = absurd (live refl)
 left_record Open rs kept text rest source from to next live h e f =
@@ -27,6 +27,12 @@ left_record Open rs kept text rest source from to next live h e f =
 left_record Ended rs kept text rest source from to next live h e f =
     ap (λ b. first_record rs (record { rest = b; ending = IsEnd })) (sym (append-nil kept)) ∙ h.found [] IsEnd
     ∙ ap (λ t. Ok (GotRecord t, record { rest = drop next kept ++ []; ending = IsEnd })) (sym e) ∙ ap (λ r. Ok (GotRecord text, record { rest = r; ending = IsEnd })) (append-nil (drop next kept) ∙ sym f)
+
+-- the same where what is seen of it is known by other names
+pub first_left : (p : Phase) (rs : Option ℕ) (kept seen cut text rest : List ℕ) (from to next : ℕ) → (p ≡ Broken → ⊥) → seen ≡ kept → IsThere rs seen from to next → text ≡ slice_range cut from to → cut ≡ kept → rest ≡ drop next kept → (source : Source) →
+    first_record rs (left_in p kept source) ≡ Ok (GotRecord text, left_in p rest source)
+first_left p rs kept seen cut text rest from to next live same there e f at source =
+    left_record p rs kept text rest source from to next live (subst (λ (xs : List ℕ). IsThere rs xs from to next) same there) (e ∙ ap (λ xs. slice_range xs from to) f) at
 
 pub left_long : (p : Phase) (rs : Option ℕ) (kept : List ℕ) (source : Source) → (p ≡ Broken → ⊥) → IsLong rs kept → first_record rs (left_in p kept source) ≡ Err TextLimit
 left_long Broken rs kept source live h = absurd (live refl)

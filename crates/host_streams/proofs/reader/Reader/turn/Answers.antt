@@ -1,29 +1,21 @@
-use Rattle.std.proofs.Common.{◌≡◌, ◌∙◌, refl, ap, sym, subst, slice_range, drop, ◌+◌, List, ℕ, Bool, true, Ok}
+use Rattle.std.proofs.Common.{◌≡◌, refl, sym, subst, List, ℕ, Bool, true, Ok}
 use Rattle.std.proofs.lemmas.List.{drop-drop}
 use Rattle.world_core.specs.WorldState.{Source}
-use Rattle.awk_state.specs.Records.{first_record}
-use Rattle.awk_state.specs.Records.{Record as GotRecord}
-use Rattle.host_streams.specs.Looks.{IsThere, IsLong, IsOpen}
-use Rattle.host_streams.specs.Readers.{left_in, unread, MoreCounts, MoreIs, MoreKeeps}
+use Rattle.host_streams.specs.Looks.{IsLong, IsOpen}
+use Rattle.host_streams.specs.Readers.{unread, MoreCounts, MoreIs, MoreKeeps}
 use Rattle.host_streams.proofs.Cuts.{scanned_kept}
-use Rattle.host_streams.proofs.Turns.{again_handed, left_long, left_record, long_handed, record_handed}
-use Rattle.host_streams.proofs.reader.Reader.turn.Given.{Over}
+use Rattle.host_streams.proofs.Turns.{again_handed, first_left, left_long, long_handed, record_handed}
 use Rattle.host_streams.proofs.reader.Reader.turn.Goals as goal
 
--- the record that is given is the first of what is left
-first_here : (g : Over) (c : goal.In_ok-text-in-Record g) (source : Source) → first_record c.args.rs (left_in c.args.self.now.phase (unread c.args.self.now) source)
-    ≡ Ok (GotRecord c.in_ok-text-in-Record.text, left_in c.args.self.now.phase (drop (c.args.self.now.start + c.in-Record.next) c.args.self.now.kept.items) source)
-first_here g c source =
-    left_record c.args.self.now.phase c.args.rs (unread c.args.self.now) c.in_ok-text-in-Record.text _ source c.in-Record.from c.in-Record.to c.in-Record.next c.requires.live
-    (subst (λ (xs : List ℕ). IsThere c.args.rs xs c.in-Record.from c.in-Record.to c.in-Record.next) c.unread.ensures c.in-Record.ensures)
-    (c.in_ok-text-in-Record.ensures ∙ ap (λ xs. slice_range xs c.in-Record.from c.in-Record.to) c.unread-in-Record.ensures)
-    (sym (drop-drop c.in-Record.next c.args.self.now.start c.args.self.now.kept.items))
-
 pub returns-in_ok-text-in-Record-clause-told : goal.returns-in_ok-text-in-Record-clause-told
-returns-in_ok-text-in-Record-clause-told g c = λ tells. first_here g c _
+returns-in_ok-text-in-Record-clause-told g c = λ tells.
+    first_left c.args.self.now.phase c.args.rs (unread c.args.self.now) _ _ c.in_ok-text-in-Record.text _ c.in-Record.from c.in-Record.to c.in-Record.next c.requires.live c.unread.ensures c.in-Record.ensures c.in_ok-text-in-Record.ensures c.unread-in-Record.ensures
+    (sym (drop-drop c.in-Record.next c.args.self.now.start c.args.self.now.kept.items)) _
 
 pub returns-in_ok-text-in-Record-clause-handed : goal.returns-in_ok-text-in-Record-clause-handed
-returns-in_ok-text-in-Record-clause-handed g c = record_handed c.args.self.now.phase c.args.rs (unread c.args.self.now) _ c.in_ok-text-in-Record.text (first_here g c)
+returns-in_ok-text-in-Record-clause-handed g c = record_handed c.args.self.now.phase c.args.rs (unread c.args.self.now) _ c.in_ok-text-in-Record.text
+    (first_left c.args.self.now.phase c.args.rs (unread c.args.self.now) _ _ c.in_ok-text-in-Record.text _ c.in-Record.from c.in-Record.to c.in-Record.next c.requires.live c.unread.ensures c.in-Record.ensures c.in_ok-text-in-Record.ensures c.unread-in-Record.ensures
+    (sym (drop-drop c.in-Record.next c.args.self.now.start c.args.self.now.kept.items)))
 
 pub returns-in-Long-clause-told : goal.returns-in-Long-clause-told
 returns-in-Long-clause-told g c = λ tells. (
