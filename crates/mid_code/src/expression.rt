@@ -26,7 +26,7 @@ use std::alloc::AllocError;
 
 /// The code of an expression.
 #[cycle(expressions)]
-#[tactic(auto, unfolding(crate::specs::Translation::code_of))]
+#[tactic(auto, unfolding(mid_program::specs::Translation::code_of))]
 pub(crate) fn code(scope: &Scope<'_>, e: &Expr) -> Result<Code, AllocError>
     ensures { IfOk result (λ code. view code ≡ code_of (texts_of scope.now) (scope_of scope.now) (tree e.now)) }
 {
@@ -94,7 +94,7 @@ fn host_number_of(scope: &Scope<'_>, primitive: Primitive, e: &Expr) -> Result<C
 
 /// The code of an element.
 #[cycle(expressions)]
-#[tactic(auto, unfolding(crate::specs::Translation::code_of))]
+#[tactic(auto, unfolding(mid_program::specs::Translation::code_of))]
 fn element(scope: &Scope<'_>, name: &[u8], subscripts: &[Expr]) -> Result<Code, AllocError>
     ensures { IfOk result (λ code. view code ≡ code_of (texts_of scope.now) (scope_of scope.now) (Index name.now (trees subscripts.now))) }
 {
@@ -104,7 +104,7 @@ fn element(scope: &Scope<'_>, name: &[u8], subscripts: &[Expr]) -> Result<Code, 
 
 /// Whether an array has an element.
 #[cycle(expressions)]
-#[tactic(auto, unfolding(crate::specs::Translation::code_of))]
+#[tactic(auto, unfolding(mid_program::specs::Translation::code_of))]
 fn has_key(scope: &Scope<'_>, key: &Expr, name: &[u8]) -> Result<Code, AllocError>
     ensures { IfOk result (λ code. view code ≡ code_of (texts_of scope.now) (scope_of scope.now) (Has (tree key.now) name.now)) }
 {
@@ -114,7 +114,7 @@ fn has_key(scope: &Scope<'_>, key: &Expr, name: &[u8]) -> Result<Code, AllocErro
 
 /// The code of a step whose answer is the number after it.
 #[cycle(expressions)]
-#[tactic(auto, unfolding(crate::specs::Translation::code_of))]
+#[tactic(auto, unfolding(mid_program::specs::Translation::code_of))]
 fn pre_step(scope: &Scope<'_>, op: StepOp, place: &Expr) -> Result<Code, AllocError>
     ensures { IfOk result (λ code. view code ≡ code_of (texts_of scope.now) (scope_of scope.now) (Pre (view_step op) (tree place.now))) }
 {
@@ -124,7 +124,7 @@ fn pre_step(scope: &Scope<'_>, op: StepOp, place: &Expr) -> Result<Code, AllocEr
 
 /// The code of a step whose answer is the number before it.
 #[cycle(expressions)]
-#[tactic(auto, unfolding(crate::specs::Translation::code_of))]
+#[tactic(auto, unfolding(mid_program::specs::Translation::code_of))]
 fn post_step(scope: &Scope<'_>, op: StepOp, place: &Expr) -> Result<Code, AllocError>
     ensures { IfOk result (λ code. view code ≡ code_of (texts_of scope.now) (scope_of scope.now) (Post (view_step op) (tree place.now))) }
 {
@@ -134,7 +134,7 @@ fn post_step(scope: &Scope<'_>, op: StepOp, place: &Expr) -> Result<Code, AllocE
 
 /// The code of `getline` into a place.
 #[cycle(expressions)]
-#[tactic(auto, unfolding(crate::specs::Translation::code_of))]
+#[tactic(auto, unfolding(mid_program::specs::Translation::code_of))]
 fn line_to(scope: &Scope<'_>, place: &Expr) -> Result<Code, AllocError>
     ensures { IfOk result (λ code. view code ≡ code_of (texts_of scope.now) (scope_of scope.now) (GetInto (tree place.now))) }
 {
@@ -177,7 +177,7 @@ pub(crate) fn key(scope: &Scope<'_>, subscripts: &[Expr]) -> Result<Code, AllocE
 
 /// What is kept for a place.
 #[cycle(expressions)]
-#[tactic(auto, unfolding(crate::specs::Translation::kept_code))]
+#[tactic(auto, unfolding(mid_program::specs::Translation::kept_code))]
 pub(crate) fn kept(scope: &Scope<'_>, place: &Expr) -> Result<Option<Code>, AllocError>
     ensures { IfOk result (λ kept. view_maybe kept ≡ kept_code (texts_of scope.now) (scope_of scope.now) (tree place.now)) }
 {
@@ -275,7 +275,7 @@ fn applied(scope: &Scope<'_>, function: Builtin, es: &[Expr]) -> Result<Code, Al
 
 /// The code of a built-in function of one operand.
 #[cycle(expressions)]
-#[tactic(auto, unfolding(crate::specs::Translation::applied_code))]
+#[tactic(auto, unfolding(mid_program::specs::Translation::applied_code))]
 fn apply_one(scope: &Scope<'_>, function: Builtin, e: &Expr) -> Result<Code, AllocError>
     ensures { IfOk result (λ code. view code ≡ applied_code (texts_of scope.now) (scope_of scope.now) function (Then (tree e.now) NoTree)) }
 {
@@ -297,7 +297,7 @@ fn apply_one(scope: &Scope<'_>, function: Builtin, e: &Expr) -> Result<Code, All
 
 /// The code of a built-in function of two operands and perhaps more.
 #[cycle(expressions)]
-#[tactic(auto, unfolding(crate::specs::Translation::applied_code))]
+#[tactic(auto, unfolding(mid_program::specs::Translation::applied_code))]
 fn apply_more(scope: &Scope<'_>, function: Builtin, es: &[Expr]) -> Result<Code, AllocError>
     requires { 2 ≤ length es.now }
     ensures { IfOk result (λ code. view code ≡ applied_code (texts_of scope.now) (scope_of scope.now) function (trees es.now)) }
@@ -327,7 +327,7 @@ fn apply_more(scope: &Scope<'_>, function: Builtin, es: &[Expr]) -> Result<Code,
 
 /// The code of a number's whole part: a quotient that is truncated need not be whole.
 #[cycle(expressions)]
-#[tactic(auto, unfolding(crate::specs::Translation::truncated_code, crate::specs::Translation::code_of))]
+#[tactic(auto, unfolding(mid_program::specs::Translation::truncated_code, mid_program::specs::Translation::code_of))]
 fn truncated(scope: &Scope<'_>, e: &Expr) -> Result<Code, AllocError>
     ensures { IfOk result (λ code. view code ≡ truncated_code (texts_of scope.now) (scope_of scope.now) (tree e.now) (code_of (texts_of scope.now) (scope_of scope.now) (tree e.now))) }
 {

@@ -39,7 +39,7 @@ pub(crate) fn string(scope: &Scope<'_>, quoted: &[u8]) -> Result<Code, AllocErro
 }
 
 /// Whether the record has a match of an ERE token.
-#[tactic(auto, unfolding(crate::specs::Translation::code_of))]
+#[tactic(auto, unfolding(mid_program::specs::Translation::code_of))]
 pub(crate) fn record_matches(scope: &Scope<'_>, token: &[u8]) -> Result<Code, AllocError>
     ensures { IfOk result (λ code. view code ≡ code_of (texts_of scope.now) (scope_of scope.now) (Leaf (Ere token.now))) }
 {
@@ -201,7 +201,7 @@ pub(crate) fn missing(parameter: &NameKind<'_>) -> Operand
 }
 
 /// The code of a built-in function without operands.
-#[tactic(auto, unfolding(crate::specs::Translation::applied_code, crate::specs::Translation::code_of))]
+#[tactic(auto, unfolding(mid_program::specs::Translation::applied_code, mid_program::specs::Translation::code_of))]
 pub(crate) fn apply_none(alloc: Global, function: Builtin) -> Result<Code, AllocError>
     ensures { (texts : List (List ℕ)) (scope : plain_names.Scope) → IfOk result (λ code. view code ≡ applied_code texts scope function NoTree) }
 {

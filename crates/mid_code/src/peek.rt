@@ -117,7 +117,7 @@ pub(crate) fn is_match(op: BinaryOp) -> bool
 }
 
 /// Whether an operator divides.
-#[tactic(auto, unfolding(crate::specs::Translation::truncated_code))]
+#[tactic(auto, unfolding(mid_program::specs::Translation::truncated_code))]
 pub(crate) fn is_quotient(op: BinaryOp) -> bool
     ensures { (texts : List (List ℕ)) (scope : Scope) (a b : Tree) (whole : Code) → truncated_code texts scope (Bin (view_binary op) a b) whole ≡ (if result then Do (Operation.Inline Arithmetic.Truncated) (two (code_of texts scope a) (code_of texts scope b)) else Do (Operation.Host row.IntOf) (one whole)) }
 {

@@ -42,7 +42,7 @@ fn listed_of(word: PrintWord, destination: Destination) -> Listed
 }
 
 /// The values of a print statement; without any it is the record.
-#[tactic(auto, unfolding(crate::specs::Translation::codes_of, crate::specs::Translation::code_of))]
+#[tactic(auto, unfolding(mid_program::specs::Translation::codes_of, mid_program::specs::Translation::code_of))]
 fn values(scope: &Scope<'_>, args: &PrintArgs) -> Result<Vec<Operand>, AllocError>
     ensures { IfOk result (λ codes. views codes.items ≡ codes_of (texts_of scope.now) (scope_of scope.now) (operands_of (view_args args.now))) }
 {
@@ -167,7 +167,7 @@ pub(crate) fn two_steps(alloc: Global, first: Step, second: Step) -> Result<Step
     Ok(block(steps))
 }
 
-#[tactic(auto, unfolding(crate::specs::Translation::step_code))]
+#[tactic(auto, unfolding(mid_program::specs::Translation::step_code))]
 fn jump(jump: Jump) -> Step
     ensures { (texts : List (List ℕ)) (scope : names.Scope) → view_step result ≡ step_code texts scope (Jumping (view_jump jump)) }
 {
@@ -179,7 +179,7 @@ fn jump(jump: Jump) -> Step
 }
 
 /// The code of `exit` and `return`.
-#[tactic(auto, unfolding(crate::specs::Translation::step_code))]
+#[tactic(auto, unfolding(mid_program::specs::Translation::step_code))]
 fn leave(scope: &Scope<'_>, leaving: Leaving, e: &Option<Expr>) -> Result<Step, AllocError>
     ensures { IfOk result (λ step. view_step step ≡ step_code (texts_of scope.now) (scope_of scope.now) (Leave (view_leaving leaving) (view_maybe e.now))) }
 {
@@ -219,7 +219,7 @@ fn walked(scope: &Scope<'_>, name: &[u8], array: &[u8], body: Step) -> Result<St
 
 /// The code of a statement.
 #[cycle(statements)]
-#[tactic(auto, unfolding(crate::specs::Translation::step_code))]
+#[tactic(auto, unfolding(mid_program::specs::Translation::step_code))]
 pub(crate) fn step(scope: &Scope<'_>, s: &Stmt) -> Result<Step, AllocError>
     ensures { IfOk result (λ step. view_step step ≡ step_code (texts_of scope.now) (scope_of scope.now) (tree_stmt s.now)) }
 {
@@ -260,7 +260,7 @@ pub(crate) fn step(scope: &Scope<'_>, s: &Stmt) -> Result<Step, AllocError>
 
 /// The code of statements.
 #[cycle(statements)]
-#[tactic(auto, unfolding(crate::specs::Translation::steps_code))]
+#[tactic(auto, unfolding(mid_program::specs::Translation::steps_code))]
 pub(crate) fn steps(scope: &Scope<'_>, body: &[Stmt]) -> Result<Vec<Step>, AllocError>
     ensures { IfOk result (λ steps. view_steps steps.items ≡ steps_code (texts_of scope.now) (scope_of scope.now) (tree_stmts body.now)) }
 {

@@ -31,7 +31,7 @@ fn put(texts: &mut Texts, text: Vec<u8>) -> Result<(), AllocError>
 
 /// Adds the texts of an expression.
 #[cycle(texts)]
-#[tactic(auto, using(crate::proofs::TextTables::once_append), unfolding(crate::specs::Texts::texts_in))]
+#[tactic(auto, using(crate::proofs::TextTables::once_append), unfolding(mid_program::specs::Texts::texts_in))]
 fn put_expr(alloc: Global, texts: &mut Texts, e: &Expr) -> Result<(), AllocError>
     ensures { OnOk result (view_texts texts.new.keys ≡ once (view_texts texts.old.keys) (texts_in (tree e.now))) }
 {
@@ -68,7 +68,7 @@ fn put_expr(alloc: Global, texts: &mut Texts, e: &Expr) -> Result<(), AllocError
 
 /// Adds the texts of expressions.
 #[cycle(texts)]
-#[tactic(auto, using(crate::proofs::TextTables::once_append), unfolding(crate::specs::Texts::all_texts))]
+#[tactic(auto, using(crate::proofs::TextTables::once_append), unfolding(mid_program::specs::Texts::all_texts))]
 fn put_all(alloc: Global, texts: &mut Texts, es: &[Expr]) -> Result<(), AllocError>
     ensures { OnOk result (view_texts texts.new.keys ≡ once (view_texts texts.old.keys) (all_texts (trees es.now))) }
 {
@@ -139,7 +139,7 @@ fn put_optional_simple(
 
 /// Adds the texts of a statement.
 #[cycle(stmt_texts)]
-#[tactic(auto, using(crate::proofs::TextTables::once_append), unfolding(crate::specs::Texts::stmt_texts))]
+#[tactic(auto, using(crate::proofs::TextTables::once_append), unfolding(mid_program::specs::Texts::stmt_texts))]
 fn put_stmt(alloc: Global, texts: &mut Texts, s: &Stmt) -> Result<(), AllocError>
     ensures { OnOk result (view_texts texts.new.keys ≡ once (view_texts texts.old.keys) (stmt_texts (view_stmt s.now))) }
 {
@@ -173,7 +173,7 @@ fn put_stmt(alloc: Global, texts: &mut Texts, s: &Stmt) -> Result<(), AllocError
 
 /// Adds the texts of statements.
 #[cycle(stmt_texts)]
-#[tactic(auto, using(crate::proofs::TextTables::once_append), unfolding(crate::specs::Texts::stmts_texts))]
+#[tactic(auto, using(crate::proofs::TextTables::once_append), unfolding(mid_program::specs::Texts::stmts_texts))]
 fn put_stmts(alloc: Global, texts: &mut Texts, body: &[Stmt]) -> Result<(), AllocError>
     ensures { OnOk result (view_texts texts.new.keys ≡ once (view_texts texts.old.keys) (stmts_texts (view_stmts body.now))) }
 {
