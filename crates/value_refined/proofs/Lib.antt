@@ -10,3 +10,5 @@ pub mod Moving
 pub mod Settling
 pub mod Asking
 pub mod Asked
+mod GrowingRows
+pub mod Growing
