@@ -12,3 +12,4 @@ pub mod Asking
 pub mod Asked
 mod GrowingRows
 pub mod Growing
+pub mod Outputs
