@@ -13,3 +13,4 @@ pub mod Asked
 mod GrowingRows
 pub mod Growing
 pub mod Outputs
+pub mod Links
