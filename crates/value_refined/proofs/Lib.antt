@@ -14,3 +14,4 @@ mod GrowingRows
 pub mod Growing
 pub mod Outputs
 pub mod Links
+pub mod Beginning
