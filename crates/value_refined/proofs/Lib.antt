@@ -15,3 +15,4 @@ pub mod Growing
 pub mod Outputs
 pub mod Links
 pub mod Beginning
+pub mod Telling
