@@ -16,3 +16,5 @@ pub mod Outputs
 pub mod Links
 pub mod Beginning
 pub mod Telling
+pub mod Exchanging
+pub mod Reading
