@@ -1,5 +1,6 @@
 -- Where a run begins: the real machine calls `main`, and then it is where the machine over values begins.
-use Rattle.std.proofs.Common.{◌≡◌, ℕ, zero, suc, ◌+◌, ◌*◌, ◌<◌, pos, Bool, true, false, List, [], ◌∷◌, ◌++◌, length, map, drop, replicate, Some, None, refl, sym, ap, ap₂, ◌∙◌, arith}
+use Rattle.std.proofs.Common.{◌≡◌, ℕ, zero, suc, ◌+◌, ◌*◌, ◌<◌, pos, Bool, true, false, List, [], ◌∷◌, ◌++◌, length, map, drop, replicate, Some, None, refl}
+use Rattle.std.proofs.Common.{sym, ap, ap₂, ◌∙◌, arith}
 use Rattle.std.specs.Prelude.{cond, nat_lt, slice_get}
 use Rattle.std.proofs.lemmas.List.{length-map}
 use Rattle.std.proofs.lemmas.Option.{none-some}
@@ -75,7 +76,8 @@ module _ (made : ℕ) (N : Names) where
   names_as [] = tt
   names_as (k ∷ ks) = (refl, (refl, names_as ks))
 
-  ranges_as : (n : ℕ) (ks : List Kind) → WordsAs made N (zero_ranges n ++ empty_names ks) (map (λ g. value_of g.init) (replicate n (word_global 0) ++ name_globals ks))
+  ranges_as : (n : ℕ) (ks : List Kind) → WordsAs made N (zero_ranges n ++ empty_names ks)
+      (map (λ g. value_of g.init) (replicate n (word_global 0) ++ name_globals ks))
   ranges_as zero ks = names_as ks
   ranges_as (suc n) ks = (refl, ranges_as n ks)
 
@@ -106,7 +108,8 @@ module _ (p : Program) where
   }
 
   main_there : slice_get (all_callees p) (length p.routines) ≡ Some (main_callee p)
-  main_there = let l = length-map p.routines (routine_callee p) in there_behind (map (routine_callee p) p.routines) (main_callee p ∷ []) 0 (length p.routines) (omega (arith, l))
+  main_there = let l = length-map p.routines (routine_callee p) in there_behind (map (routine_callee p) p.routines) (main_callee p ∷ []) 0 (length p.routines)
+      (omega (arith, l))
 
   -- the first step calls `main`
   calls_main : turn (program p) first ≡ Goes in_main
@@ -114,14 +117,16 @@ module _ (p : Program) where
 
   pub begins : (a : MachineForm) → IsNew host_finds (module_of p) a → turn a.program a.conf ≡ Goes in_main
   begins a new =
-      ap₂ (λ m c. turn m c) (program_is p a new) (new.conf ∙ ap (beginning (module_of p)) (some_of new.main main_number (sym new.main_is ∙ main_exported p))) ∙ calls_main
+      ap₂ (λ m c. turn m c) (program_is p a new) (new.conf ∙ ap (beginning (module_of p))
+      (some_of new.main main_number (sym new.main_is ∙ main_exported p))) ∙ calls_main
 
   module _ (s : Setting) where
     abbrev G : Store
     G = record { globals = first_globals p; host = host_at_start s }
 
     -- all else than the code
-    rest_as : (d : ℕ) → RestAs (stays p) (called_imports p) (code_of p d) [] (zeros (main_callee p).locals) [] G in_main (state_at_start s.job s.input s.outside)
+    rest_as : (d : ℕ) → RestAs (stays p) (called_imports p) (code_of p d) [] (zeros (main_callee p).locals) [] G in_main
+        (state_at_start s.job s.input s.outside)
     rest_as d = record {
       labels = tt;
       locals = zeros_as 2 first_names (main_callee p).locals;

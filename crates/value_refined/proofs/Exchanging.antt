@@ -1,5 +1,8 @@
--- Over a world that tells nothing: what only the world knows is exchanged before a call and after it. So the real machine follows the machine over values, reading aside.
+-- Over a world that tells nothing: what only the world knows is exchanged before a call and after it. So the real machine follows the machine over values,
+-- reading aside.
 use Rattle.std.proofs.Common.{◌≡◌, ℕ, Bool, false, List, [], length, Option, Some, None, refl, sym, ap, ap₂, ◌∙◌, subst}
+use Rattle.wasm_types.specs.Syntax.{Instructions}
+use Rattle.wasm_store.specs.Memories.{MemoryForm}
 use Rattle.wasm_store.specs.declared.word.Word.{Word}
 use Rattle.wasm_machine.specs.Hosts.{Meaning}
 use Rattle.wasm_machine.specs.Machines.{Asks, Ends, Goes, Turn}
@@ -15,12 +18,12 @@ use Rattle.host_step.specs.Imports.{import_at}
 use Rattle.host_step.specs.Worlds.{Anyhow, AnyhowIf, reads, unseen}
 use Rattle.host_step.specs.declared.import.Import.{Import}
 use Rattle.value_machine.specs.ImportCalls.{Host}
-use Rattle.wasm_types.specs.Syntax.{Instructions}
 use Rattle.value_machine.specs.Cells.{Cell}
 use Rattle.value_machine.specs.Machine.{Code, Conf, Deep, Frame, Label, Look, Over, Run, Store, Stuck, step}
 use Rattle.value_refined.specs.Owners.{OwnedOnce}
 use Rattle.value_refined.specs.Refined.{As, EndAs, FramesAs, LabelsAs, LeftAs, NextAs, RestAs, RunAs}
 use Rattle.value_refined.specs.Words.{ArraysFit, WordAs, WordsAs, arrays_made, state_with}
+use Rattle.value_refined.proofs.Telling.{MeansCalled}
 
 -- the host beside its tables
 abbrev pub host_of : HostState → Host
@@ -38,7 +41,8 @@ with_host h Stuck = Stuck
 abbrev pub anyhow_meaning : Meaning HostState Action
 anyhow_meaning before n words mem a after mem1 output = (mem1 ≡ mem) × Anyhow (import_at n) before words mem.bytes a after
 
-module _ (used : ℕ → Bool) (bs : List Bool) (u : Code) (c : real.Conf) (s s1 : HostState) (names : s1.names ≡ s.names) (made : length s1.shared.inner.arrays ≡ length s.shared.inner.arrays) where
+module _ (used : ℕ → Bool) (bs : List Bool) (u : Code) (c : real.Conf) (s s1 : HostState) (names : s1.names ≡ s.names)
+    (made : length s1.shared.inner.arrays ≡ length s.shared.inner.arrays) where
   abbrev moved : Store → Store
   moved G = record G { host = host_of s1 }
 
@@ -61,7 +65,8 @@ module _ (used : ℕ → Bool) (bs : List Bool) (u : Code) (c : real.Conf) (s s1
         memory = a.memory;
       }
 
-  run_moved : (vs : List Cell) (K : List Label) (L : List Cell) (F : List Frame) (code : Instructions) (G : Store) (ws : List Word) (rcode : Instructions) → RunAs used bs u vs K L F code G ws rcode c s → RunAs used bs u vs K L F code (moved G) ws rcode c s1
+  run_moved : (vs : List Cell) (K : List Label) (L : List Cell) (F : List Frame) (code : Instructions) (G : Store) (ws : List Word) (rcode : Instructions) →
+      RunAs used bs u vs K L F code G ws rcode c s → RunAs used bs u vs K L F code (moved G) ws rcode c s1
   run_moved vs K L F code G ws rcode a =
       let q = tables G.host a.rest.host in
       record {
@@ -90,13 +95,21 @@ module _ (used : ℕ → Bool) (bs : List Bool) (u : Code) (c : real.Conf) (s s1
   -- the machines are at the same place over any other host with these tables, in which as many arrays were made
   pub exchanged : (P : Conf) → As used bs u P c s → As used bs u (with_host (host_of s1) P) c s1
   exchanged (Run ks vs K L F code G) a = run_moved vs K L F code G _ _ a
-  exchanged (Look x ks vs K L F code G) a = record { word = a.word; words = a.words; there = a.there; seen = a.seen; values = a.values; run = run_moved vs K L F code G a.words c.frame.code a.run }
+  exchanged (Look x ks vs K L F code G) a = record {
+    word = a.word;
+    words = a.words;
+    there = a.there;
+    seen = a.seen;
+    values = a.values;
+    run = run_moved vs K L F code G a.words c.frame.code a.run;
+  }
   exchanged (Over v G) a = left_moved v G a
   exchanged (Deep G) a = a
   exchanged Stuck a = a
 
 -- what is exchanged where only what the world knows is another
-pub in_other_world : (used : ℕ → Bool) (bs : List Bool) (u : Code) (P : Conf) (c : real.Conf) (s s1 : HostState) → unseen s1 ≡ unseen s → As used bs u P c s → As used bs u (with_host (host_of s1) P) c s1
+pub in_other_world : (used : ℕ → Bool) (bs : List Bool) (u : Code) (P : Conf) (c : real.Conf) (s s1 : HostState) → unseen s1 ≡ unseen s → As used bs u P c s →
+    As used bs u (with_host (host_of s1) P) c s1
 in_other_world used bs u P c s s1 e a =
     exchanged used bs u c s s1 (ap (λ (z : HostState). z.names) e) (ap (λ (z : HostState). length z.shared.inner.arrays) e) P a
 
@@ -126,10 +139,12 @@ ReadsNot _ = Unit {0}
 
 -- what the step is to keep over hosts of the table, whatever the world
 abbrev pub KeptAnyhow : (used : ℕ → Bool) (bs : List Bool) (u : Code) → Conf → real.Conf → Turn → Type 0
-KeptAnyhow used bs u P c t = (before : HostState) → As used bs u (with_host (host_of before) P) c before → NextAs used bs u (step u (with_host (host_of before) P)) c before t
+KeptAnyhow used bs u P c t = (before : HostState) → As used bs u (with_host (host_of before) P) c before →
+    NextAs used bs u (step u (with_host (host_of before) P)) c before t
 
 module _ (used : ℕ → Bool) (bs : List Bool) (u : Code) (P : Conf) (c : real.Conf) (s : HostState) (now : As used bs u P c s) where
-  kept_at : (t : Turn) → KeptAnyhow used bs u P c t → (before : HostState) → unseen before ≡ unseen s → NextAs used bs u (step u (with_host (host_of before) P)) c before t
+  kept_at : (t : Turn) → KeptAnyhow used bs u P c t → (before : HostState) → unseen before ≡ unseen s →
+      NextAs used bs u (step u (with_host (host_of before) P)) c before t
   kept_at t k before e = k before (in_other_world used bs u P c s before e now)
 
   -- a call is a step in some world
@@ -141,19 +156,22 @@ module _ (used : ℕ → Bool) (bs : List Bool) (u : Code) (P : Conf) (c : real.
     same_after : unseen new ≡ unseen s1
     step : StepIf o old ws bytes a new output
 
-  some_step : (o : Option Import) (ws : List Word) (bytes : List ℕ) (a : HostAnswer) (s1 : HostState) → is_read o ≡ false → Anyhow o s ws bytes a s1 → SomeStep o ws bytes a s1
+  some_step : (o : Option Import) (ws : List Word) (bytes : List ℕ) (a : HostAnswer) (s1 : HostState) → is_read o ≡ false → Anyhow o s ws bytes a s1 →
+      SomeStep o ws bytes a s1
   some_step None ws bytes a s1 r h = record { old = s; new = s1; output = []; same_before = refl; same_after = refl; step = record { trap = h.0; state = h.1; added = refl } }
   some_step (Some i) ws bytes a s1 r h =
       let x = subst (λ b. AnyhowIf b i s ws bytes a s1) r h in
       record { old = x.old; new = x.new; output = x.output; same_before = x.same_before; same_after = x.same_after; step = x.step }
 
   -- A STEP that does not read
-  pub followed : (t : Turn) → KeptAnyhow used bs u P c t → ReadsNot t → (output : List Action) (c1 : real.Conf) (s1 : HostState) → TakenAs anyhow_meaning t s c.memory output c1 s1 → FollowsAnyhow used bs u P s c1 s1
+  pub followed : (t : Turn) → KeptAnyhow used bs u P c t → ReadsNot t → (output : List Action) (c1 : real.Conf) (s1 : HostState) →
+      TakenAs anyhow_meaning t s c.memory output c1 s1 → FollowsAnyhow used bs u P s c1 s1
   followed (Goes c0) k r output c1 s1 h = record {
     before = s;
     same = refl;
     at = in_other_world used bs u (step u (with_host (host_of s) P)) c1 s s1 (ap unseen h.1)
-        (subst (λ (z : real.Conf). As used bs u (step u (with_host (host_of s) P)) z s) (sym h.0) ((kept_at (Goes c0) k s refl).taken c0 s [] (refl, refl, refl)));
+        (subst (λ (z : real.Conf). As used bs u (step u (with_host (host_of s) P)) z s) (sym h.0)
+        ((kept_at (Goes c0) k s refl).taken c0 s [] (refl, refl, refl)));
   }
   followed (Ends e) k r output c1 s1 h = absurd h
   followed (Asks n ws c0) k r output c1 s1 h =
@@ -161,13 +179,40 @@ module _ (used : ℕ → Bool) (bs : List Bool) (u : Code) (P : Conf) (c : real.
       record {
         before = x.old;
         same = x.same_before;
-        at = in_other_world used bs u (step u (with_host (host_of x.old) P)) c1 x.new s1 (sym x.same_after) ((kept_at (Asks n ws c0) k x.old x.same_before).taken c1 x.new x.output (h.0, (h.1.0, x.step), h.2));
+        at = in_other_world used bs u (step u (with_host (host_of x.old) P)) c1 x.new s1 (sym x.same_after)
+            ((kept_at (Asks n ws c0) k x.old x.same_before).taken c1 x.new x.output (h.0, (h.1.0, x.step), h.2));
       }
 
   -- the last turn
-  pub ended : (t : Turn) → KeptAnyhow used bs u P c t → ReadsNot t → (output : List Action) (e : End) (s1 : HostState) → OverBy anyhow_meaning t s c.memory output e s1 → EndsAnyhow used bs u P s e
+  pub ended : (t : Turn) → KeptAnyhow used bs u P c t → ReadsNot t → (output : List Action) (e : End) (s1 : HostState) →
+      OverBy anyhow_meaning t s c.memory output e s1 → EndsAnyhow used bs u P s e
   ended (Goes c0) k r output e s1 h = absurd h
-  ended (Ends x) k r output e s1 h = record { before = s; same = refl; after = s; output = []; ends = (kept_at (Ends x) k s refl).over e s [] (h.0, refl, refl) }
+  ended (Ends x) k r output e s1 h =
+      record { before = s; same = refl; after = s; output = []; ends = (kept_at (Ends x) k s refl).over e s [] (h.0, refl, refl) }
   ended (Asks n ws c0) k r output e s1 h =
       let x = some_step (import_at n) ws c.memory.bytes (told.Trap h.0) s1 r h.3.1 in
-      record { before = x.old; same = x.same_before; after = x.new; output = x.output; ends = (kept_at (Asks n ws c0) k x.old x.same_before).over e x.new x.output (h.0, h.1, h.2, (h.3.0, x.step)) }
+      record {
+        before = x.old;
+        same = x.same_before;
+        after = x.new;
+        output = x.output;
+        ends = (kept_at (Asks n ws c0) k x.old x.same_before).over e x.new x.output (h.0, h.1, h.2, (h.3.0, x.step));
+      }
+
+-- what a host over a world means by a call is said in every world
+module _ (tells : Type 0) (M : Meaning HostState Action) (means : MeansCalled tells M) where
+  pub taken_anyhow : (t : Turn) (s : HostState) (mem : MemoryForm) (output : List Action) (c1 : real.Conf) (s1 : HostState) → TakenAs M t s mem output c1 s1 →
+      TakenAs anyhow_meaning t s mem output c1 s1
+  taken_anyhow (Goes c) s mem output c1 s1 h = h
+  taken_anyhow (Ends e) s mem output c1 s1 h = absurd h
+  taken_anyhow (Asks n ws c) s mem output c1 s1 h =
+      let x = means s n ws mem (told.Done h.0) s1 c1.memory output (λ q. cc) h.1 in
+      (h.0, (x.0, x.1.anyhow), h.2)
+
+  pub over_anyhow : (t : Turn) (s : HostState) (mem : MemoryForm) (output : List Action) (e : End) (s1 : HostState) → OverBy M t s mem output e s1 →
+      OverBy anyhow_meaning t s mem output e s1
+  over_anyhow (Goes c) s mem output e s1 h = absurd h
+  over_anyhow (Ends x) s mem output e s1 h = h
+  over_anyhow (Asks n ws c) s mem output e s1 h =
+      let x = means s n ws mem (told.Trap h.0) s1 h.1 output (λ q. cc) h.3 in
+      (h.0, h.1, h.2, (x.0, x.1.anyhow))

@@ -22,7 +22,9 @@ use Rattle.value_machine.specs.declared.import.Listing.TheVariants.{Sprintf, Pri
 use Rattle.value_machine.specs.declared.import.Import.TheVariants.{Of, Over, Arg, Drop, IterFree, FreeArray}
 use Rattle.value_refined.specs.Growing.{ArraysGrow, GrowsBy, NewIn}
 use Rattle.value_refined.specs.Words.{arrays_made}
-use Rattle.value_refined.proofs.GrowingRows.{Has, array_good, found_good, getline_file_good, getline_good, getline_line_file_good, getline_line_good, listed_kept, match_good, next_main_good, set_field_good, set_special_good, settled, split_good, start_good, substitute_good, visited_good}
+use Rattle.value_refined.proofs.GrowingRows.{Has, array_good, found_good, getline_file_good, getline_good, getline_line_file_good, getline_line_good}
+use Rattle.value_refined.proofs.GrowingRows.{listed_kept, match_good, next_main_good, set_field_good, set_special_good, settled, split_good, start_good}
+use Rattle.value_refined.proofs.GrowingRows.{substitute_good, visited_good}
 
 abbrev makes_array : Answer → Bool
 makes_array (answer.Of sort.Array) = true
@@ -56,7 +58,8 @@ none_new made made1 _ x e = tt
 as_many : (made : ℕ) (a : Answer) (d : Does (Result (InAnswer a) Fault)) → makes_array a ≡ false → Has made d.inner → GrowsBy made a d
 as_many made a d e h = record { longer = omega (arith, h); fresh = none_new made (length d.inner.arrays) a d.answer e }
 
-primitive_grows : (p : Primitive) (r : Row (arguments_of p)) (h : Host) (b : Bool) → makes_array (answer_of p) ≡ b → GrowsBy (arrays_made h) (answer_of p) (primitive_acts h.arguments (can_fault p) (meaning p r h.shared)).does
+primitive_grows : (p : Primitive) (r : Row (arguments_of p)) (h : Host) (b : Bool) → makes_array (answer_of p) ≡ b →
+    GrowsBy (arrays_made h) (answer_of p) (primitive_acts h.arguments (can_fault p) (meaning p r h.shared)).does
 primitive_grows p r h false e = as_many (arrays_made h) (answer_of p) _ e (row_keeps (arrays_made h) p r h.shared e refl)
 primitive_grows row.NewArray r h true e =
     let l : length (h.shared.inner.arrays ++ [] ∷ []) ≡ length h.shared.inner.arrays + 1 = length-append h.shared.inner.arrays ([] ∷ []) in
@@ -68,17 +71,21 @@ in_turn_does : {A : Type 0} → (b : Bool) (x d : A) → where_so b (Some x) ≡
 in_turn_does true x d e = cc
 in_turn_does false x d e = cc
 
-listed_grows : (l : Listed) (n : ℕ) (h : Host) (d : Acts (InAnswer (listed_answer l))) → listed_acts l n h ≡ Some d → makes_array (listed_answer l) ≡ false → GrowsBy (arrays_made h) (listed_answer l) d.does
+listed_grows : (l : Listed) (n : ℕ) (h : Host) (d : Acts (InAnswer (listed_answer l))) → listed_acts l n h ≡ Some d → makes_array (listed_answer l) ≡ false →
+    GrowsBy (arrays_made h) (listed_answer l) d.does
 listed_grows l n h d e a =
-    subst (λ (x : Acts (InAnswer (listed_answer l))). GrowsBy (arrays_made h) (listed_answer l) x.does) (in_turn_does (nat_le n (length h.arguments) && listed_in_turn l (last_of n h.arguments)) _ d e)
+    subst (λ (x : Acts (InAnswer (listed_answer l))). GrowsBy (arrays_made h) (listed_answer l) x.does)
+    (in_turn_does (nat_le n (length h.arguments) && listed_in_turn l (last_of n h.arguments)) _ d e)
     (as_many (arrays_made h) (listed_answer l) _ a (listed_kept (arrays_made h) l (last_of n h.arguments) h.shared refl))
 
 only_answered : (h : Host) (x d : Acts (Unit {0})) → Some x ≡ Some d → Has (arrays_made h) x.does.inner → GrowsBy (arrays_made h) answer.Nothing d.does
-only_answered h x d e k = subst (λ (y : Acts (Unit {0})). GrowsBy (arrays_made h) answer.Nothing y.does) (in_turn_does true x d e) (as_many (arrays_made h) answer.Nothing x.does refl k)
+only_answered h x d e k = subst (λ (y : Acts (Unit {0})). GrowsBy (arrays_made h) answer.Nothing y.does) (in_turn_does true x d e)
+    (as_many (arrays_made h) answer.Nothing x.does refl k)
 
 pub arrays_grow : ArraysGrow
 arrays_grow (Of p) r h d e =
-    subst (λ (x : Acts (InAnswer (answer_of p))). GrowsBy (arrays_made h) (answer_of p) x.does) (in_turn_does (in_turn p r h.shared) _ d e) (primitive_grows p r h (makes_array (answer_of p)) refl)
+    subst (λ (x : Acts (InAnswer (answer_of p))). GrowsBy (arrays_made h) (answer_of p) x.does) (in_turn_does (in_turn p r h.shared) _ d e)
+    (primitive_grows p r h (makes_array (answer_of p)) refl)
 arrays_grow (Over Sprintf) r h d e = listed_grows listed.Sprintf (values_taken listed.Sprintf r.0) h d e refl
 arrays_grow (Over Print) r h d e = listed_grows (listed.Print r.1.0) (values_taken (listed.Print r.1.0) r.0) h d e refl
 arrays_grow (Over Printf) r h d e = listed_grows (listed.Printf r.1.0) (values_taken (listed.Printf r.1.0) r.0) h d e refl

@@ -14,17 +14,24 @@ use Rattle.world_core.specs.WorldState.{Outside, Source, Named}
 use Rattle.awk_state.specs.ArrayRows.{array, found, numbered, stored, visited, with_array}
 use Rattle.awk_state.specs.Assignments.{assigned, assigned_by, assigned_global, assignment_of, declared, made_here, named, takes_none}
 use Rattle.awk_state.specs.Constants.{specials}
-use Rattle.awk_state.specs.FieldRows.{at_least, done, field_number, joined, resized, set_field_row, set_special, set_special_row, special_text, with_field, with_fields, with_record}
+use Rattle.awk_state.specs.FieldRows.{at_least, done, field_number, joined, resized, set_field_row, set_special, set_special_row, special_text, with_field}
+use Rattle.awk_state.specs.FieldRows.{with_fields, with_record}
 use Rattle.awk_state.specs.Fields.{Separator, fields_of, pieces_of}
 use Rattle.awk_state.specs.FirstMatch.{expression_of, first_match}
-use Rattle.awk_state.specs.InputRows.{Main, Taken, Over, Pending, NotOpened, Failed, as_line, as_record, begins_reading, counted_by, counted_record, file_or_assignment, follows}
-use Rattle.awk_state.specs.InputRows.{getline_by, getline_file_row, getline_line_file_row, getline_line_row, getline_of, getline_row, go_on, got_file, got_main, is_below, leaves, made, main_input}
-use Rattle.awk_state.specs.InputRows.{next_main_row, next_of, next_operand, next_record, open_or_read, opened, opened_file, operand_text, over, passes_operand, reach, reach_by, reached, read_file}
-use Rattle.awk_state.specs.InputRows.{read_main, reader_named, reader_of, reader_source, source_of, start_by, start_from, stops_reading, taken, with_operands, with_reader}
+use Rattle.awk_state.specs.InputRows.{Main, Taken, Over, Pending, NotOpened, Failed, as_line, as_record, begins_reading, counted_by, counted_record}
+use Rattle.awk_state.specs.InputRows.{file_or_assignment, follows}
+use Rattle.awk_state.specs.InputRows.{getline_by, getline_file_row, getline_line_file_row, getline_line_row, getline_of, getline_row, go_on, got_file, got_main}
+use Rattle.awk_state.specs.InputRows.{is_below, leaves, made, main_input}
+use Rattle.awk_state.specs.InputRows.{next_main_row, next_of, next_operand, next_record, open_or_read, opened, opened_file, operand_text, over, passes_operand}
+use Rattle.awk_state.specs.InputRows.{reach, reach_by, reached, read_file}
+use Rattle.awk_state.specs.InputRows.{read_main, reader_named, reader_of, reader_source, source_of, start_by, start_from, stops_reading, taken, with_operands}
+use Rattle.awk_state.specs.InputRows.{with_reader}
 use Rattle.awk_state.specs.Numbers.{Number}
-use Rattle.awk_state.specs.OutputRows.{file_name, formatted_values, has_room, is_writing, kept_open, opened_if, operands_of, printed, printf_by, put_text, written_by}
+use Rattle.awk_state.specs.OutputRows.{file_name, formatted_values, has_room, is_writing, kept_open, opened_if, operands_of, printed, printf_by, put_text}
+use Rattle.awk_state.specs.OutputRows.{written_by}
 use Rattle.awk_state.specs.Records.{Got, Record, AtEnd, Broken}
-use Rattle.awk_state.specs.SharedState.{Inner, MainReader, Standard, File, Operands, NoFile, SomeFile, NoneLeft, Shared, ◌>>=◌, settles, special_of, with_special}
+use Rattle.awk_state.specs.SharedState.{Inner, MainReader, Standard, File, Operands, NoFile, SomeFile, NoneLeft, Shared, ◌>>=◌, settles, special_of}
+use Rattle.awk_state.specs.SharedState.{with_special}
 use Rattle.awk_state.specs.Table.{listed_meaning}
 use Rattle.awk_state.specs.TextRows.{match_row, match_start, places_of, replaced, split_row, splits_at, substitute_row, substituted_by, with_match}
 use Rattle.awk_state.specs.Texts.{counted, limited}
@@ -60,7 +67,8 @@ module _ (n : ℕ) where
   bound g (Err e) f h = tt
 
   -- after something that has as many
-  bound_on : {A B : Type 0} → (g : B → Inner) (g1 : A → Inner) (r : Result A Fault) (f : A → Result B Fault) → Good g1 r → ((a : A) → Has (g1 a) → Good g (f a)) → Good g (r >>= f)
+  bound_on : {A B : Type 0} → (g : B → Inner) (g1 : A → Inner) (r : Result A Fault) (f : A → Result B Fault) → Good g1 r →
+      ((a : A) → Has (g1 a) → Good g (f a)) → Good g (r >>= f)
   bound_on g g1 (Ok a) f r h = h a r
   bound_on g g1 (Err e) f r h = tt
 
@@ -77,7 +85,8 @@ module _ (n : ℕ) where
       (λ texts. bound (λ j. j) (field_number (pos (length texts))) (λ k. Ok (set texts)) (λ k. e))
 
   fields_good : (values : List Value) (i : Inner) → Has i → GoodState (with_fields values i)
-  fields_good values i e = bound (λ j. j) (limited (joined (special_text Ofs i) values)) (λ text. Ok (record i { whole = StrNum text; fields = values })) (λ text. e)
+  fields_good values i e = bound (λ j. j) (limited (joined (special_text Ofs i) values)) (λ text. Ok (record i { whole = StrNum text; fields = values }))
+      (λ text. e)
 
   field_good : (k : ℕ) (v : Value) (i : Inner) → Has i → GoodState (with_field k v i)
   field_good zero v i e = record_good (text_of_value v) i e
@@ -116,11 +125,13 @@ module _ (n : ℕ) where
       bound (λ x. x.0) (expression_of (text_of_value ere)) (λ t. Ok (with_match (m t) i, counted (match_start (m t)))) (λ t. e)
 
   substituted_good : (ps : List (ℕ × ℕ)) (by text : List ℕ) (i : Inner) → Has i → GoodRow (substituted_by ps by text i)
-  substituted_good ps by text i e = bound (λ x. x.0) (limited (replaced text by 0 ps)) (λ new. Ok (record i { substituted = Some (Text new) }, counted (length ps))) (λ new. e)
+  substituted_good ps by text i e = bound (λ x. x.0) (limited (replaced text by 0 ps))
+      (λ new. Ok (record i { substituted = Some (Text new) }, counted (length ps))) (λ new. e)
 
   pub substitute_good : (ere by target : Value) (all : Bool) (i : Inner) → Has i → GoodRow (substitute_row ere by target all i)
   substitute_good ere by target all i e =
-      bound (λ x. x.0) (expression_of (text_of_value ere)) (λ t. substituted_by (places_of t (text_of_value target) all) (text_of_value by) (text_of_value target) i)
+      bound (λ x. x.0) (expression_of (text_of_value ere)) (λ t. substituted_by (places_of t (text_of_value target) all) (text_of_value by)
+      (text_of_value target) i)
       (λ t. substituted_good (places_of t (text_of_value target) all) (text_of_value by) (text_of_value target) i e)
 
   pub split_good : (v : Value) (a : ℕ) (separator : Value) (is_ere : Bool) (i : Inner) → Has i → GoodRow (split_row v a separator is_ere i)
@@ -151,7 +162,8 @@ module _ (n : ℕ) where
       on true = tt
       on false = assigned_good_by (named name specials) name (unescaped text) i e
 
-  start_by_good : (on : Inner → Result (Inner × AssignAnswer) Fault) → ((j : Inner) → Has j → GoodRow (on j)) → (x : Inner × Bool) → Has x.0 → GoodRow (start_by on x)
+  start_by_good : (on : Inner → Result (Inner × AssignAnswer) Fault) → ((j : Inner) → Has j → GoodRow (on j)) → (x : Inner × Bool) → Has x.0 →
+      GoodRow (start_by on x)
   start_by_good on good (j, true) e = e
   start_by_good on good (j, false) e = good j e
 
@@ -175,7 +187,8 @@ module _ (n : ℕ) where
     got_main_good reader i (Broken, left) e = leaves_good reader left i e
 
     read_main_good : (reader : MainReader) (i : Inner) → Has i → GoodRow (read_main on reader i)
-    read_main_good reader i e = bound (λ x. x.0) (next_record i (reader_source reader i)) (λ got. got_main on reader i got) (λ got. got_main_good reader i got e)
+    read_main_good reader i e = bound (λ x. x.0) (next_record i (reader_source reader i)) (λ got. got_main on reader i got)
+        (λ got. got_main_good reader i got e)
 
     opened_good : (name : List ℕ) (r : Option MainReader) (i : Inner) → Has i → GoodRow (opened on name r i)
     opened_good name None i e = e
@@ -198,7 +211,8 @@ module _ (n : ℕ) where
   follows_good SomeFile i e = e
   follows_good NoneLeft i e = e
 
-  reached_good : (on : Inner → Result (Inner × Main) Fault) → ((i : Inner) → Has i → GoodRow (on i)) → (o : Outside) (i : Inner) (argc : ℤ) → Has i → GoodRow (reached on o i argc)
+  reached_good : (on : Inner → Result (Inner × Main) Fault) → ((i : Inner) → Has i → GoodRow (on i)) → (o : Outside) (i : Inner) (argc : ℤ) → Has i →
+      GoodRow (reached on o i argc)
   reached_good on good o i argc e = by (is_below i.main.next argc)
     where
       by : (t : Bool) → GoodRow (elim t [ true ↦ taken on o (operand_text i.main.next i) (passes_operand i) | false ↦ follows i.main.operands i ])
@@ -239,7 +253,8 @@ module _ (n : ℕ) where
   as_line_good : (text : List ℕ) (i : Inner) → Has i → GoodRow (as_line text i)
   as_line_good text i e = e
 
-  kept_good : (keep : List ℕ → Inner → Result (Inner × InputAnswer) Fault) → ((text : List ℕ) (i : Inner) → Has i → GoodRow (keep text i)) → (text : List ℕ) (i : Inner) → Has i →
+  kept_good : (keep : List ℕ → Inner → Result (Inner × InputAnswer) Fault) → ((text : List ℕ) (i : Inner) → Has i → GoodRow (keep text i)) →
+      (text : List ℕ) (i : Inner) → Has i →
       GoodRow (counted_record i >>= λ j. keep text j)
   kept_good keep good text i e = bound_on (λ x. x.0) (λ j. j) (counted_record i) (λ j. keep text j) (counted_good i e) (λ j h. good text j h)
 
@@ -306,7 +321,8 @@ module _ (n : ℕ) where
   open_kept name i (Ok x) e = e
   open_kept name i (Err f) e = e
 
-  opened_kept : (room opens : Bool) (name : List ℕ) (append : Bool) (text : List ℕ) (s : Shared) → Has s.inner → Has (opened_if room opens name append text s).inner
+  opened_kept : (room opens : Bool) (name : List ℕ) (append : Bool) (text : List ℕ) (s : Shared) → Has s.inner →
+      Has (opened_if room opens name append text s).inner
   opened_kept false opens name append text s e = e
   opened_kept true false name append text s e = e
   opened_kept true true name append text s e = open_kept name s.inner _ e

@@ -1,5 +1,6 @@
 -- The module of a program has the imports and the functions that its code calls, under their new numbers.
-use Rattle.std.proofs.Common.{◌≡◌, ℕ, zero, suc, ◌+◌, ◌-◌, ◌&&◌, Bool, true, List, [], ◌∷◌, ◌++◌, length, Option, Some, None, map, refl, sym, ap, ap₂, ◌∙◌, arith, append-nil}
+use Rattle.std.proofs.Common.{◌≡◌, ℕ, zero, suc, ◌+◌, ◌-◌, ◌&&◌, Bool, true, List, [], ◌∷◌, ◌++◌, length, Option, Some, None, map, refl, sym, ap, ap₂, ◌∙◌}
+use Rattle.std.proofs.Common.{arith, append-nil}
 use Rattle.std.specs.Prelude.{nat_eq, option_map, slice_get}
 use Rattle.std.proofs.lemmas.Bool.{and_parts, eqb-true, or_left, or_right}
 use Rattle.std.proofs.lemmas.List.{length-append, length-map}
@@ -16,7 +17,8 @@ use Rattle.mid_program.specs.Mid.{Program}
 use Rattle.value_machine.specs.Imports.{import_at, import_count, import_name, import_number, import_type, imports, module_name}
 use Rattle.value_machine.specs.Machine.{Callee}
 use Rattle.value_machine.specs.Functions.{routine_callee, main_callee}
-use Rattle.value_machine.specs.Modules.{all_callees, any_calls, called_imports, callee_type, calls_in, functions_from, imported_from, imports_of, module_of, new_number, renumbered}
+use Rattle.value_machine.specs.Modules.{all_callees, any_calls, called_imports, callee_type, calls_in, functions_from, imported_from, imports_of, module_of}
+use Rattle.value_machine.specs.Modules.{new_number, renumbered}
 use Rattle.value_machine.specs.Runs.{code_of}
 use Rattle.value_machine.specs.declared.import.Import.{Import}
 use Rattle.value_machine.specs.declared.import.Import.TheVariants.{Of, Over}
@@ -44,14 +46,16 @@ number_at a (x ∷ is) h (suc n) i e =
     let s = number_at (suc a) is (and_parts (nat_eq (import_number x) a) (are_in_order (suc a) is) h).1 n i e in
     omega (arith, s)
 
-imported_at : (a : ℕ) (is : List Import) (n m : ℕ) (i : Import) → a + n ≡ m → slice_get is n ≡ Some i → slice_get (imported_from a is) n ≡ Some (record { from = module_name; name = import_name i; ty = m })
+imported_at : (a : ℕ) (is : List Import) (n m : ℕ) (i : Import) → a + n ≡ m → slice_get is n ≡ Some i →
+    slice_get (imported_from a is) n ≡ Some (record { from = module_name; name = import_name i; ty = m })
 imported_at a [] n m i e h = absurd (none-some i h)
 imported_at a (x ∷ is) zero m i e h =
     let q : a ≡ m = omega (arith, e) in
     ap₂ (λ (k : ℕ) (y : Import). Some (record { from = module_name; name = import_name y; ty = k })) q (some_of x i h)
 imported_at a (x ∷ is) (suc n) m i e h = imported_at (suc a) is n m i (omega (arith, e)) h
 
-function_at : (bs : List Bool) (a : ℕ) (fs : List Callee) (k m : ℕ) (f : Callee) → a + k ≡ m → slice_get fs k ≡ Some f → slice_get (functions_from bs a fs) k ≡ Some (record { ty = m; locals = f.locals; body = renumbered bs f.body })
+function_at : (bs : List Bool) (a : ℕ) (fs : List Callee) (k m : ℕ) (f : Callee) → a + k ≡ m → slice_get fs k ≡ Some f →
+    slice_get (functions_from bs a fs) k ≡ Some (record { ty = m; locals = f.locals; body = renumbered bs f.body })
 function_at bs a [] k m f e h = absurd (none-some f h)
 function_at bs a (x ∷ fs) zero m f e h =
     let q : a ≡ m = omega (arith, e) in
@@ -154,7 +158,8 @@ found_same (Over Sprintf) = refl
 found_same (Over l) = refl
 found_same i = refl
 
-numbers_same : (m : ModuleForm) (a : ℕ) (is : List Import) → map (number_for host_finds m) (imported_from a is) ≡ map (number_for table_finds m) (imported_from a is)
+numbers_same : (m : ModuleForm) (a : ℕ) (is : List Import) → map (number_for host_finds m) (imported_from a is) ≡ map (number_for table_finds m)
+    (imported_from a is)
 numbers_same m a [] = refl
 numbers_same m a (i ∷ is) = ap₂ (λ (x : Option ℕ) (xs : List (Option ℕ)). x ∷ xs) (ap (number_if m a) (found_same i)) (numbers_same m (suc a) is)
 
