@@ -1,5 +1,5 @@
 -- Where a run begins: the real machine calls `main`, and then it is where the machine over values begins.
-use Rattle.std.proofs.Common.{◌≡◌, ℕ, zero, suc, ◌+◌, ◌*◌, ◌<◌, pos, Bool, true, false, List, [], ◌∷◌, ◌++◌, length, map, drop, replicate, Some, None, refl}
+use Rattle.std.proofs.Common.{◌≡◌, ◌≢◌, subst, ℕ, zero, suc, ◌+◌, ◌*◌, ◌<◌, pos, Bool, true, false, List, [], ◌∷◌, ◌++◌, length, map, drop, replicate, Some, None, refl}
 use Rattle.std.proofs.Common.{sym, ap, ap₂, ◌∙◌, arith}
 use Rattle.std.specs.Prelude.{cond, nat_lt, slice_get}
 use Rattle.std.proofs.lemmas.List.{length-map}
@@ -9,8 +9,13 @@ use Rattle.awk_state.specs.declared.sorts.Sort.TheVariants as sort
 use Rattle.wasm_types.specs.declared.types.ValType.{ValType}
 use Rattle.wasm_store.specs.Words.{zero_of}
 use Rattle.wasm_machine.specs.Links.{IsNew, beginning, value_of}
-use Rattle.wasm_machine.specs.Machines.{Conf, Goes, turn}
-use Rattle.wasm_machine.specs.Runs.{MachineForm}
+use Rattle.wasm_machine.specs.Hosts.{Meaning}
+use Rattle.wasm_machine.specs.Machines.{Conf, Goes, ProgramForm, Turn, turn}
+use Rattle.wasm_machine.specs.Runs.{IsWithin, MachineForm, OverBy, Ran, Steps, TakenAs}
+use Rattle.wasm_machine.specs.declared.state.End.{End}
+use Rattle.wasm_machine.specs.declared.state.End.TheVariants as ends
+use Rattle.wasm_machine.specs.declared.state.RunEnd.{RunEnd}
+use Rattle.wasm_machine.specs.declared.state.RunEnd.TheVariants.{Ended, NoMemory, OutOfSteps}
 use Rattle.host_step.specs.HostState.{Names}
 use Rattle.host_step.specs.Imports.{host_finds}
 use Rattle.host_step.specs.Starts.{first_arrays, first_names, state_at_start}
@@ -151,3 +156,29 @@ module _ (p : Program) where
     begun_as d =
         at_as (stays p) (called_imports p) (code_of p d) [] [] (zeros (main_callee p).locals) [] G in_main (state_at_start s.job s.input s.outside) (rest_as d)
         (main_callee p).body [] tt (code_there p (length p.routines) (main_callee p) main_there) once
+
+-- So a run has one step more than its run from `main` on, over whatever host.
+module _ {H O : Type 0} (M : Meaning H O) (m : ProgramForm) (c c0 : Conf) (first : turn m c ≡ Goes c0) where
+  taken_first : (h : H) (out : List O) (c1 : Conf) (h1 : H) → TakenAs M (turn m c) h c.memory out c1 h1 → (c1 ≡ c0) × (h1 ≡ h) × (out ≡ [])
+  taken_first h out c1 h1 t = subst (λ (z : Turn). TakenAs M z h c.memory out c1 h1) first t
+
+  pub steps_after : (n : ℕ) (h : H) (out : List O) (c1 : Conf) (h1 : H) → Steps M m (suc n) c h out c1 h1 → Steps M m n c0 h out c1 h1
+  steps_after n h out c1 h1 s =
+      let t = taken_first h s.2 s.0 s.1 s.4 in
+      let e : s.3 ≡ out = sym (s.6 ∙ ap (λ z. z ++ s.3) t.2) in
+      subst (λ z. Steps M m n z h out c1 h1) t.0 (subst (λ z. Steps M m n s.0 z out c1 h1) t.1 (subst (λ z. Steps M m n s.0 s.1 z c1 h1) e s.5))
+
+  one_less : (k n : ℕ) (e : End) → IsWithin (suc k) (suc n) e → IsWithin k n e
+  one_less k n (ends.Returned w) l = omega (arith, l)
+  one_less k n (ends.Trapped kind) l = omega (arith, l)
+  one_less k n ends.Exhausted l = omega (arith, l)
+  one_less k n ends.Stuck l = omega (arith, l)
+
+  pub run_after : (n : ℕ) (h : H) (out : List O) (r : RunEnd) (c1 : Conf) (h1 : H) → r ≢ NoMemory → Ran M m (suc n) c h out r c1 h1 → Ran M m n c0 h out r c1 h1
+  run_after n h out NoMemory c1 h1 ne s = absurd (ne refl)
+  run_after n h out OutOfSteps c1 h1 ne s = (steps_after n h out c1 h1 s.0, s.1)
+  run_after n h out (Ended e) c1 h1 ne s = by s.0 s.1 s.6
+    where
+      by : (k : ℕ) → IsWithin k (suc n) e → Steps M m k c h s.4 s.2 s.3 → Ran M m n c0 h out (Ended e) c1 h1
+      by zero l q = absurd (subst (λ (z : Turn). OverBy M z s.3 s.2.memory s.5 e h1) (ap (turn m) q.0 ∙ first) s.7)
+      by (suc k) l q = (k, one_less k n e l, s.2, s.3, s.4, s.5, steps_after k h s.4 s.2 s.3 q, s.7, s.8)

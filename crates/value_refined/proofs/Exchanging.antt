@@ -158,7 +158,8 @@ module _ (used : ℕ → Bool) (bs : List Bool) (u : Code) (P : Conf) (c : real.
 
   some_step : (o : Option Import) (ws : List Word) (bytes : List ℕ) (a : HostAnswer) (s1 : HostState) → is_read o ≡ false → Anyhow o s ws bytes a s1 →
       SomeStep o ws bytes a s1
-  some_step None ws bytes a s1 r h = record { old = s; new = s1; output = []; same_before = refl; same_after = refl; step = record { trap = h.0; state = h.1; added = refl } }
+  some_step None ws bytes a s1 r h =
+      record { old = s; new = s1; output = []; same_before = refl; same_after = refl; step = record { trap = h.0; state = h.1; added = refl } }
   some_step (Some i) ws bytes a s1 r h =
       let x = subst (λ b. AnyhowIf b i s ws bytes a s1) r h in
       record { old = x.old; new = x.new; output = x.output; same_before = x.same_before; same_after = x.same_after; step = x.step }
