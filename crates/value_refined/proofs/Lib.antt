@@ -18,3 +18,5 @@ pub mod Beginning
 pub mod Telling
 pub mod Exchanging
 pub mod Reading
+pub mod Room
+pub mod Replying
