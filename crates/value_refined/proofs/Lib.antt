@@ -10,3 +10,13 @@ pub mod Moving
 pub mod Settling
 pub mod Asking
 pub mod Asked
+mod GrowingRows
+pub mod Growing
+pub mod Outputs
+pub mod Links
+pub mod Beginning
+pub mod Telling
+pub mod Exchanging
+pub mod Reading
+pub mod Room
+pub mod Replying
