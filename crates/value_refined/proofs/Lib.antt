@@ -10,3 +10,12 @@ pub mod Moving
 pub mod Settling
 pub mod Asking
 pub mod Asked
+pub mod Going
+pub mod Putting
+pub mod Locals
+pub mod Globals
+pub mod Blocks
+pub mod Operators
+pub mod Leaving
+pub mod Entering
+pub mod Looked
