@@ -19,3 +19,4 @@ pub mod Operators
 pub mod Leaving
 pub mod Entering
 pub mod Looked
+pub mod Stepping

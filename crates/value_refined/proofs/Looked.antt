@@ -1,5 +1,6 @@
 -- The step after a look: a comparison, or a call of an import that looks.
-use Rattle.std.proofs.Common.{◌≡◌, ◌⊎◌, inl, inr, ℕ, ◌+◌, Bool, true, false, nat_lt, List, [], ◌∷◌, length, take, drop, reverse, Option, Some, None, refl, sym, ap, subst, arith, if◌then◌else◌}
+use Rattle.std.proofs.Common.{◌≡◌, ◌⊎◌, inl, inr, ℕ, suc, ◌+◌, Bool, true, false, nat_lt, List, [], ◌∷◌, length, take, drop, reverse, Option, Some, None, refl, sym, ap, subst, arith, if◌then◌else◌}
+use Rattle.std.proofs.lemmas.Bool.{le-ltb}
 use Rattle.awk_state.specs.declared.sorts.Sort.{Sort}
 use Rattle.awk_state.specs.declared.table.Primitive.{Primitive}
 use Rattle.awk_state.specs.declared.table.Primitive.TheVariants as row
@@ -102,4 +103,5 @@ module _ {used : ℕ → Bool} {bs : List Bool} {u : Code} {K : List Label} {L :
       by (inr e) = subst (λ o. NextAs used bs u (with_answer o ks vs K L F k G) c s (asked n (import_type i) c)) (sym (e d G.host)) (stuck_as c s (asked n (import_type i) c))
       by (inl e) =
           subst (λ j. NextAs used bs u (with_answer (look i d G.host) ks vs K L F k G) c s (asked_with j c.frame.values)) (sym e)
-          (subst (λ words. NextAs used bs u (with_answer (look i d G.host) ks vs K L F k G) c s (asked_with 1 words)) (sym values) asks)
+          (subst (λ words. NextAs used bs u (with_answer (look i d G.host) ks vs K L F k G) c s (asked_with 1 words)) (sym values)
+          (subst (λ b. NextAs used bs u (with_answer (look i d G.host) ks vs K L F k G) c s (if b then Ends ends.Stuck else Asks n (w ∷ []) after)) (sym (le-ltb (suc (length ws)) 1 (omega arith))) asks))
