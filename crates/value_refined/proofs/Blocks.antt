@@ -1,5 +1,5 @@
 -- Blocks, loops and choices begin; branches; the end of a block.
-use Rattle.std.proofs.Common.{◌≡◌, ℕ, zero, suc, ◌+◌, Bool, true, false, cond, nat_eq, List, [], ◌∷◌, ◌++◌, drop, length, Option, Some, None, refl, sym, subst, arith, if◌then◌else◌}
+use Rattle.std.proofs.Common.{◌≡◌, ℕ, zero, suc, Bool, true, false, cond, nat_eq, List, [], ◌∷◌, ◌++◌, drop, length, Option, Some, None, refl, sym, subst, arith, if◌then◌else◌}
 use Rattle.std.proofs.Math.Dec.{eqb-zero-suc, eqb-suc-suc}
 use Rattle.wasm_types.specs.Syntax.{Instructions}
 use Rattle.wasm_types.specs.declared.types.ValType.{ValType}
@@ -13,7 +13,7 @@ use Rattle.wasm_machine.specs.Machines as real
 use Rattle.mid_program.specs.Mid.{Kind}
 use Rattle.host_step.specs.HostState.{HostState}
 use Rattle.value_machine.specs.Cells.{Cell, Bits, Held, IteratorOf, OwnedArray, LentArray, Gone, none_owned}
-use Rattle.value_machine.specs.Machine.{Code, Conf, Frame, Label, Store, Stuck, at, br, br_if, choose, guarded, label}
+use Rattle.value_machine.specs.Machine.{Code, Conf, Frame, Label, Store, at, br, br_if, choose, guarded, label}
 use Rattle.value_refined.specs.Refined.{AgainAs, CodeAs, LabelAs, LabelsAs, NextAs, RestAs}
 use Rattle.value_refined.specs.Words.{WordsAs, arrays_made}
 use Rattle.value_refined.proofs.Carrying.{unowned_all, unowned_one}

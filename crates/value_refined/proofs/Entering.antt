@@ -1,12 +1,11 @@
 -- A call of a function of the module.
-use Rattle.std.proofs.Common.{◌≡◌, inr, ℕ, zero, suc, ◌+◌, ◌-◌, ◌≤◌, ◌<◌, Bool, true, false, ◌&&◌, cond, nat_lt, nat_le, List, [], ◌∷◌, ◌++◌, drop, length, map, reverse, take, Option, Some, None, refl, sym, ap, ◌∙◌, subst, arith, slice_get, if◌then◌else◌}
+use Rattle.std.proofs.Common.{◌≡◌, inr, ℕ, suc, Bool, true, false, ◌&&◌, cond, nat_lt, nat_le, List, [], ◌∷◌, ◌++◌, drop, length, map, reverse, take, Some, refl, sym, ap, subst, arith, if◌then◌else◌}
 use Rattle.std.proofs.lemmas.List.{length-map}
 use Rattle.std.proofs.lemmas.Bool.{lt-ltb, le-ltb, ltb-true, ltb-false}
 use Rattle.awk_state.specs.declared.sorts.Sort.{Sort}
 use Rattle.wasm_types.specs.Syntax.{FuncForm, Instructions}
 use Rattle.wasm_types.specs.declared.types.ValType.{ValType}
 use Rattle.wasm_store.specs.Words.{zero_of}
-use Rattle.wasm_store.specs.declared.word.Word.{Word}
 use Rattle.wasm_machine.specs.Frames.{with_values}
 use Rattle.wasm_machine.specs.Machines.{CallerForm, Ends, Goes, ProgramForm, Turn, called, entered_func, locals_for}
 use Rattle.wasm_machine.specs.Machines as real
@@ -14,7 +13,7 @@ use Rattle.wasm_machine.specs.declared.state.End.TheVariants as ends
 use Rattle.mid_program.specs.Mid.{Kind}
 use Rattle.host_step.specs.HostState.{HostState, Names}
 use Rattle.value_machine.specs.Cells.{Cell, Bits, none_owned}
-use Rattle.value_machine.specs.Machine.{Callee, Code, Conf, Deep, Frame, Label, Store, Stuck, at, enter, guarded, zeros}
+use Rattle.value_machine.specs.Machine.{Callee, Code, Conf, Deep, Frame, Label, Store, at, enter, guarded, zeros}
 use Rattle.value_machine.specs.Modules.{callee_type}
 use Rattle.value_machine.specs.Places.{kind_type}
 use Rattle.value_refined.specs.Owners.{owners}

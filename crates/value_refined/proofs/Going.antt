@@ -1,5 +1,5 @@
 -- A step that goes on by itself, from its parts.
-use Rattle.std.proofs.Common.{◌≡◌, inl, inr, ℕ, Bool, List, refl, sym, ap, subst}
+use Rattle.std.proofs.Common.{inl, inr, ℕ, Bool, List, refl, sym, ap, subst}
 use Rattle.wasm_types.specs.Syntax.{Instructions}
 use Rattle.wasm_store.specs.declared.word.Word.{Word}
 use Rattle.wasm_machine.specs.Frames.{FrameForm}

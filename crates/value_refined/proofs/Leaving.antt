@@ -1,8 +1,5 @@
 -- The end of a function, with its answer, and the frame that called it.
-use Rattle.std.proofs.Common.{◌≡◌, ℕ, zero, ◌+◌, Bool, true, false, not, ◌&&◌, List, [], ◌∷◌, Option, Some, None, refl, sym, subst, arith}
-use Rattle.std.proofs.lemmas.Option.{none-some}
-use Rattle.awk_state.specs.declared.sorts.Sort.{Sort}
-use Rattle.wasm_types.specs.declared.types.ValType.{ValType}
+use Rattle.std.proofs.Common.{◌≡◌, ℕ, Bool, true, false, not, ◌&&◌, List, [], ◌∷◌, Some, refl, sym, subst, arith}
 use Rattle.wasm_types.specs.declared.types.ValType.TheVariants as ty
 use Rattle.wasm_store.specs.declared.word.Word.{Word}
 use Rattle.wasm_machine.specs.Frames.{LabelForm, with_values}
@@ -12,14 +9,14 @@ use Rattle.wasm_machine.specs.Machines as real
 use Rattle.mid_program.specs.Mid.{Kind}
 use Rattle.host_step.specs.HostState.{HostState}
 use Rattle.value_machine.specs.Cells.{Cell, globals_by, ended_name, is_owned, none_owned}
-use Rattle.value_machine.specs.Machine.{Code, Conf, Frame, Label, Over, Store, Stuck, at, guarded, leave, leave_function}
+use Rattle.value_machine.specs.Machine.{Code, Conf, Frame, Label, Over, Store, at, guarded, leave, leave_function}
 use Rattle.value_refined.specs.Owners.{OwnedOnce}
-use Rattle.value_refined.specs.Refined.{CodeAs, FramesAs, LabelsAs, NextAs, RestAs, entry}
+use Rattle.value_refined.specs.Refined.{FramesAs, LabelsAs, NextAs, RestAs, entry}
 use Rattle.value_refined.specs.Words.{WordAs, WordsAs, arrays_made}
 use Rattle.value_refined.proofs.Asking.{both}
 use Rattle.value_refined.proofs.Blocks.{end_as}
 use Rattle.value_refined.proofs.Carrying.{unowned_all, unowned_one}
-use Rattle.value_refined.proofs.Going.{Once, goes_as, stuck_as, untyped_as}
+use Rattle.value_refined.proofs.Going.{Once, goes_as, stuck_as}
 use Rattle.value_refined.proofs.Locals.{not_true}
 use Rattle.value_refined.proofs.Settling.{at_as}
 

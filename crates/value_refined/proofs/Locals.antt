@@ -1,5 +1,5 @@
 -- Locals that are read and set.
-use Rattle.std.proofs.Common.{◌≡◌, ℕ, ◌+◌, ◌<◌, Bool, true, false, ◌&&◌, not, cond, nat_lt, List, [], ◌∷◌, set, length, Option, Some, None, refl, sym, ap, ◌∙◌, subst, arith, slice_get, get_or, length-set, if◌then◌else◌, true≢false}
+use Rattle.std.proofs.Common.{◌≡◌, ℕ, ◌+◌, ◌<◌, Bool, true, false, not, nat_lt, List, [], ◌∷◌, set, length, Option, Some, None, refl, sym, subst, arith, slice_get, get_or, length-set, if◌then◌else◌, true≢false}
 use Rattle.std.proofs.lemmas.Bool.{ltb-true}
 use Rattle.std.proofs.lemmas.Option.{slice_get-get_or}
 use Rattle.awk_state.specs.declared.sorts.Sort.{Sort}
@@ -14,7 +14,7 @@ use Rattle.wasm_machine.specs.Machines as real
 use Rattle.mid_program.specs.Mid.{Kind}
 use Rattle.host_step.specs.HostState.{HostState}
 use Rattle.value_machine.specs.Cells.{Cell, Bits, Held, IteratorOf, OwnedArray, LentArray, Gone, cell_at, has_room, is_owned, left_by}
-use Rattle.value_machine.specs.Machine.{Code, Conf, Frame, Label, Look, Store, Stuck, act, at, guarded, set_local, takes_look, tee_local, teed}
+use Rattle.value_machine.specs.Machine.{Code, Conf, Frame, Label, Look, Store, act, at, guarded, set_local, takes_look, tee_local, teed}
 use Rattle.value_refined.specs.Owners.{owner, owners}
 use Rattle.value_refined.specs.Refined.{CodeAs, NextAs, RestAs}
 use Rattle.value_refined.specs.Words.{WordAs, WordsAs, arrays_made}

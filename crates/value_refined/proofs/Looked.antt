@@ -1,8 +1,7 @@
 -- The step after a look: a comparison, or a call of an import that looks.
-use Rattle.std.proofs.Common.{◌≡◌, ◌⊎◌, inl, inr, ℕ, suc, ◌+◌, Bool, true, false, nat_lt, List, [], ◌∷◌, length, take, drop, reverse, Option, Some, None, refl, sym, ap, subst, arith, if◌then◌else◌}
+use Rattle.std.proofs.Common.{◌≡◌, ◌⊎◌, inl, inr, ℕ, suc, ◌+◌, Bool, nat_lt, List, [], ◌∷◌, length, take, drop, reverse, Option, Some, None, refl, sym, ap, subst, arith, if◌then◌else◌}
 use Rattle.std.proofs.lemmas.Bool.{le-ltb}
 use Rattle.awk_state.specs.declared.sorts.Sort.{Sort}
-use Rattle.awk_state.specs.declared.table.Primitive.{Primitive}
 use Rattle.awk_state.specs.declared.table.Primitive.TheVariants as row
 use Rattle.awk_values.specs.declared.fault.Fault.{Fault}
 use Rattle.world_core.specs.WorldState.{Action}
@@ -12,27 +11,26 @@ use Rattle.wasm_store.specs.declared.trap.TrapKind.{TrapKind}
 use Rattle.wasm_store.specs.declared.word.Word.{Word}
 use Rattle.wasm_machine.specs.Machines.{Asks, Ends, Turn, answered, asked, with_operands}
 use Rattle.wasm_machine.specs.Machines as real
-use Rattle.wasm_machine.specs.Runs.{told_end}
 use Rattle.wasm_machine.specs.declared.host.HostAnswer.{HostAnswer}
 use Rattle.wasm_machine.specs.declared.host.HostAnswer.TheVariants as told
 use Rattle.wasm_machine.specs.declared.state.End.TheVariants as ends
 use Rattle.mid_program.specs.Mid.{Kind}
 use Rattle.host_step.specs.HostState.{HostState}
 use Rattle.host_step.specs.HostStep.{HostStep}
-use Rattle.value_machine.specs.Cells.{Cell, cell_at}
+use Rattle.value_machine.specs.Cells.{Cell}
 use Rattle.value_machine.specs.ImportCalls.{Host, acted, look, looked_at}
 use Rattle.value_machine.specs.Imports.{import_at, import_type}
-use Rattle.value_machine.specs.Machine.{Code, Conf, Frame, Label, Store, Stuck, ask_looking, with_answer}
+use Rattle.value_machine.specs.Machine.{Code, Frame, Label, Store, Stuck, ask_looking, with_answer}
 use Rattle.value_machine.specs.declared.import.Import.{Import}
-use Rattle.value_machine.specs.declared.import.Import.TheVariants.{Of, Over, Arg, Drop, IterFree, FreeArray}
+use Rattle.value_machine.specs.declared.import.Import.TheVariants.{Of}
 use Rattle.value_refined.specs.Growing.{ArraysGrow}
-use Rattle.value_refined.specs.Owners.{owners, waiting, wanted}
+use Rattle.value_refined.specs.Owners.{owners, waiting}
 use Rattle.value_refined.specs.Refined.{As, CodeAs, NextAs, RestAs}
 use Rattle.value_refined.specs.Words.{WordAs, WordsAs, arrays_made, state_with}
 use Rattle.value_refined.proofs.Asking.{rest_after}
 use Rattle.value_refined.proofs.Calling.{Outcome}
 use Rattle.value_refined.proofs.Carrying.{words_carried}
-use Rattle.value_refined.proofs.Going.{Once, stuck_as, untyped_as}
+use Rattle.value_refined.proofs.Going.{Once, stuck_as}
 use Rattle.value_refined.proofs.Looking.{looking}
 use Rattle.value_refined.proofs.Numbering.{looked_as}
 use Rattle.value_refined.proofs.Settling.{at_as}

@@ -1,8 +1,7 @@
 -- Operators on words, and comparisons with a handle or the number of an array.
-use Rattle.std.proofs.Common.{◌≡◌, ℕ, ◌+◌, ◌^◌, ◌<◌, Bool, true, false, not, cond, nat_eq, nat_le, List, [], ◌∷◌, Option, Some, None, Result, Ok, Err, refl, sym, ap, ◌∙◌, subst, arith, w32}
+use Rattle.std.proofs.Common.{◌≡◌, ℕ, ◌^◌, ◌<◌, Bool, true, false, not, cond, nat_le, List, [], ◌∷◌, Option, Some, None, Result, Ok, Err, refl, sym, ap, ◌∙◌, subst, arith}
 use Rattle.std.proofs.lemmas.Bool.{leb-true, ne_eqb}
 use Rattle.std.proofs.lemmas.Option.{none-some}
-use Rattle.awk_state.specs.declared.sorts.Sort.{Sort}
 use Rattle.wasm_types.specs.Syntax.{Instructions}
 use Rattle.wasm_types.specs.declared.types.ValType.{ValType}
 use Rattle.wasm_types.specs.declared.types.ValType.TheVariants as ty
@@ -22,8 +21,7 @@ use Rattle.wasm_machine.specs.Machines as real
 use Rattle.mid_program.specs.Mid.{Kind}
 use Rattle.host_step.specs.HostState.{HostState, Names}
 use Rattle.value_machine.specs.Cells.{Cell, Bits, Held, IteratorOf, OwnedArray, LentArray, Gone, is_owned}
-use Rattle.value_machine.specs.Machine.{Code, Conf, Frame, Label, Store, Stuck, at, compared, handle_compared, looked_compared, operated, push_result, push_word, with_operands}
-use Rattle.value_refined.specs.Owners.{owner}
+use Rattle.value_machine.specs.Machine.{Code, Frame, Label, Store, compared, handle_compared, looked_compared, operated, push_result, push_word, with_operands}
 use Rattle.value_refined.specs.Refined.{CodeAs, NextAs, RestAs}
 use Rattle.value_refined.specs.Words.{WordAs, WordsAs, arrays_made}
 use Rattle.value_refined.proofs.Carrying.{unowned_one}

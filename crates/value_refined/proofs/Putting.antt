@@ -1,5 +1,5 @@
 -- A cell of locals or of globals: what stands there, and what is put in its place.
-use Rattle.std.proofs.Common.{◌≡◌, ℕ, zero, suc, ◌+◌, ◌<◌, Bool, false, List, [], ◌∷◌, set, length, Some, refl, sym, ap, ◌∙◌, subst, arith, slice_get}
+use Rattle.std.proofs.Common.{◌≡◌, ℕ, zero, suc, ◌+◌, ◌<◌, false, List, [], ◌∷◌, set, length, Some, refl, sym, ap, subst, arith, slice_get}
 use Rattle.std.proofs.lemmas.Option.{none-some}
 use Rattle.awk_state.specs.declared.sorts.Sort.{Sort}
 use Rattle.wasm_store.specs.declared.word.Word.{Word}
@@ -7,7 +7,7 @@ use Rattle.wasm_store.specs.declared.word.Word.TheVariants.{I32, I64}
 use Rattle.host_step.specs.HostState.{Names}
 use Rattle.value_machine.specs.Cells.{Cell, Bits, Held, IteratorOf, OwnedArray, LentArray, Gone, cell_at, is_owned, left_by, left_in_global, read_global}
 use Rattle.value_refined.specs.Owners.{owner, owners}
-use Rattle.value_refined.specs.Words.{ArraysFit, Lends, Stands, WordAs, WordsAs}
+use Rattle.value_refined.specs.Words.{ArraysFit, WordAs, WordsAs}
 use Rattle.value_refined.proofs.Answering.{some_of}
 use Rattle.value_refined.proofs.Carrying.{unowned_one}
 

@@ -1,5 +1,5 @@
 -- Every step of the machine over values is one of the real machine.
-use Rattle.std.proofs.Common.{◌≡◌, ℕ, ◌+◌, ◌-◌, Bool, true, false, ◌||◌, cond, nat_eq, nat_lt, List, [], ◌∷◌, ◌++◌, length, Option, Some, None, refl, sym, ap, ◌∙◌, subst, arith, slice_get}
+use Rattle.std.proofs.Common.{◌≡◌, ℕ, ◌+◌, ◌-◌, Bool, true, false, ◌||◌, cond, nat_lt, List, ◌∷◌, Option, Some, None, refl, sym, ap, subst, arith, slice_get}
 use Rattle.std.proofs.lemmas.Bool.{eq-eqb, ltb-false, or_left, or_right}
 use Rattle.wasm_types.specs.Syntax.{Instruction, Plain, BrTable, Block, Loop, If, Instructions, Done, Then}
 use Rattle.wasm_types.specs.declared.types.ValType.TheVariants as ty
@@ -9,20 +9,20 @@ use Rattle.wasm_types.specs.declared.instr.Simple.TheVariants as simple
 use Rattle.wasm_store.specs.Words.{compare_of}
 use Rattle.wasm_store.specs.declared.word.Word.{Word}
 use Rattle.wasm_store.specs.declared.word.Word.TheVariants.{I32}
-use Rattle.wasm_machine.specs.Frames.{FrameForm, next_at, settled, with_values}
+use Rattle.wasm_machine.specs.Frames.{FrameForm, next_at, pushed, settled, with_values}
 use Rattle.wasm_machine.specs.Frames as form
 use Rattle.wasm_machine.specs.Machines.{Goes, ProgramForm, Turn, asked, called, entered_func, turn, turn_by, with_frame}
 use Rattle.wasm_machine.specs.Machines as real
 use Rattle.mid_program.specs.Mid.{Kind}
 use Rattle.host_step.specs.HostState.{HostState}
 use Rattle.value_machine.specs.Cells.{Cell, cell_at}
-use Rattle.value_machine.specs.Imports.{import_at, import_count, import_type}
-use Rattle.value_machine.specs.Machine.{Callee, Code, Conf, Deep, Frame, Label, Look, Over, Run, Store, Stuck, act, ask, ask_looking, at, call_number, enter, guarded, run, run_looking, step, tidy, work}
-use Rattle.value_machine.specs.Modules.{callee_type, calls_by, calls_in, new_number, renumbered, renumbered_one, renumbered_simple}
+use Rattle.value_machine.specs.Imports.{import_at, import_count}
+use Rattle.value_machine.specs.Machine.{Callee, Code, Conf, Deep, Frame, Label, Look, Over, Run, Store, Stuck, act, ask, ask_looking, at, call_number, enter, guarded, looked_compared, run, run_looking, step, tidy, work}
+use Rattle.value_machine.specs.Modules.{is_call, calls_by, calls_in, new_number, renumbered, renumbered_one, renumbered_simple}
 use Rattle.value_machine.specs.declared.import.Import.{Import}
 use Rattle.value_refined.specs.Growing.{ArraysGrow}
-use Rattle.value_refined.specs.Refined.{As, CodeAs, Linked, LookAs, NextAs, RestAs, RunAs}
-use Rattle.value_refined.specs.Words.{WordsAs, arrays_made}
+use Rattle.value_refined.specs.Refined.{As, CodeAs, Linked, LookAs, NextAs, RestAs}
+use Rattle.value_refined.specs.Words.{WordAs, WordsAs, arrays_made}
 use Rattle.value_refined.proofs.Asked.{asked_as}
 use Rattle.value_refined.proofs.Blocks.{br_as, br_if_as, choose_as, entered_as}
 use Rattle.value_refined.proofs.Entering as entering
@@ -31,6 +31,7 @@ use Rattle.value_refined.proofs.Going.{Once, frame_as, framed, stuck_as}
 use Rattle.value_refined.proofs.Leaving.{leave_as}
 use Rattle.value_refined.proofs.Locals.{local_get_as, local_set_as, local_tee_as}
 use Rattle.value_refined.proofs.Looked.{asked_looking_as}
+use Rattle.value_refined.proofs.Putting.{word_at}
 use Rattle.value_refined.proofs.Operators.{looked_word, operated_as, word_as}
 
 module _ {used : ℕ → Bool} {bs : List Bool} {u : Code} {m : ProgramForm} (linked : Linked used bs u m) (grow : ArraysGrow) where
@@ -140,9 +141,34 @@ module _ {used : ℕ → Bool} {bs : List Bool} {u : Code} {m : ProgramForm} (li
       local : List Word → Instructions → form.Local
       local ws k = form.local_step (record c.frame { values = ws; code = k })
 
+      -- the frame once the look is on the operands, and this code is next
+      frame : List Word → Instructions → FrameForm
+      frame ws k = record c.frame { values = ws; code = renumbered bs k }
+
+      here : (ws : List Word) (k : Instructions) → RestAs used bs u K L F G (with_frame c (frame ws k)) s
+      here ws k = framed a.run.rest K L (frame ws k) a.run.rest.labels a.run.rest.locals
+
+      same : WordAs (arrays_made G.host) s.names (cell_at L x) a.word
+      same = word_at (arrays_made G.host) s.names L c.frame.locals x a.word a.run.rest.locals a.seen
+
+      compared_as : (n : ℕ) (op : IRelOp) (k : Instructions) → UsedOnly k → Next (Then (Plain (simple.I32Const n)) (Then (Plain (simple.Compare ty.I32 op)) k)) (pushed (frame (I32 n ∷ (a.word ∷ a.words)) k) a.words (compare_of ty.I32 op a.word (I32 n)))
+      compared_as n op k o =
+          from_frame (run_looking u x ks vs K L F (Then (Plain (simple.I32Const n)) (Then (Plain (simple.Compare ty.I32 op)) k)) G) c (frame (I32 n ∷ (a.word ∷ a.words)) k) s
+          (pushed (frame (I32 n ∷ (a.word ∷ a.words)) k) a.words (compare_of ty.I32 op a.word (I32 n)))
+          (word_as m ks (here (I32 n ∷ (a.word ∷ a.words)) k) (part k o) (looked_compared op (cell_at L x) n) (compare_of ty.I32 op a.word (I32 n)) vs a.words
+          (looked_word (arrays_made G.host) s.names op (cell_at L x) a.word n same) a.run.operands a.run.once)
+
+      asked-as : (n : ℕ) (k : Instructions) → UsedOnly k → used n ≡ true → (i : Option Import) → import_at n ≡ i →
+          NextAs used bs u (ask_looking i (cell_at L x) ks vs K L F k G) c s (called m (new_number bs n) (with_frame c (frame (a.word ∷ a.words) k)))
+      asked-as n k o used-n None e = stuck_as c s (called m (new_number bs n) (with_frame c (frame (a.word ∷ a.words) k)))
+      asked-as n k o used-n (Some i) e =
+          let c1 = with_frame c (frame (a.word ∷ a.words) k) in
+          let h = asked_looking_as grow ks (here (a.word ∷ a.words) k) (part k o) vs a.words a.run.operands a.run.once (cell_at L x) a.word same refl n i e in
+          subst (λ t. NextAs used bs u (ask_looking (Some i) (cell_at L x) ks vs K L F k G) c s t) (sym (linked.imported n i c1 e used-n)) (record { taken = h.taken; over = h.over })
+
       by : (k : Instructions) → UsedOnly k → Next k (local (a.word ∷ a.words) (renumbered bs k))
-      by (Then (Plain (simple.I32Const n)) (Then (Plain (simple.Compare ty.I32 op)) k)) o = ?
-      by (Then (Plain (simple.Call n)) k) o = ?
+      by (Then (Plain (simple.I32Const n)) (Then (Plain (simple.Compare ty.I32 op)) k)) o = compared_as n op k (λ j e. o j e)
+      by (Then (Plain (simple.Call n)) k) o = asked-as n k (λ j e. o j (or_right (is_call j (simple.Call n)) (calls_in j k) e)) (o n (ap (λ b. b || calls_in n k) (eq-eqb n n refl))) (import_at n) refl
       by k o = stuck_as c s (turn_by m c (local (a.word ∷ a.words) (renumbered bs k)))
 
   -- where the machine is over it takes no step
