@@ -20,3 +20,5 @@ pub mod Leaving
 pub mod Entering
 pub mod Looked
 pub mod Stepping
+pub mod Putout
+pub mod Running
