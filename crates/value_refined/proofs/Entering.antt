@@ -101,7 +101,7 @@ module _ {used : ℕ → Bool} {bs : List Bool} {u : Code} {K : List Label} {L :
 
   -- a call too deep ends both
   deep_as : Next (Deep G) (Ends ends.Exhausted)
-  deep_as = record { taken = λ c1 s1 out t. absurd t; over = λ e s1 out t. inr (inr (G, refl, t.0, t.1, t.2)) }
+  deep_as = record { taken = λ c1 s1 out t. absurd t; over = λ e s1 out t. inr (inr (G, refl, t.0, rest.host, t.1, t.2)) }
 
   -- how many callers wait, as both machines count them
   depth_same : u.deepest ≡ 9999 → nat_lt (length c.callers) 10000 ≡ nat_lt (length F) u.deepest

@@ -22,3 +22,4 @@ pub mod Looked
 pub mod Stepping
 pub mod Putout
 pub mod Running
+pub mod Telling

@@ -22,7 +22,7 @@ use Rattle.value_refined.proofs.Stepping.{step_as}
 
 module _ {used : ℕ → Bool} {bs : List Bool} {u : Code} {m : ProgramForm} (linked : Linked used bs u m) (grow : ArraysGrow) where
   -- `main` is left: the frame of the entry ends, and the run with it
-  left_turn : (v : Cell) (G : Store) (c : real.Conf) (s : HostState) (a : LeftAs used bs u v G c s) → turn m c ≡ Ends (ends.Returned (Some a.word))
+  pub left_turn : (v : Cell) (G : Store) (c : real.Conf) (s : HostState) (a : LeftAs used bs u v G c s) → turn m c ≡ Ends (ends.Returned (Some a.word))
   left_turn v G c s a =
       ap (λ (f : FrameForm). turn_by m c (form.local_step f)) a.frame
       ∙ (ap (λ (q : Option ValType). returned_with (with_frame c (record { values = a.word ∷ []; labels = []; locals = []; code = Done })) q (a.word ∷ [])) a.result
