@@ -4,7 +4,7 @@ use Rattle.std.proofs.Math.Dec.{eqb-zero-suc, eqb-suc-suc}
 use Rattle.wasm_types.specs.Syntax.{Instructions}
 use Rattle.wasm_types.specs.declared.types.ValType.{ValType}
 use Rattle.wasm_store.specs.declared.word.Word.{Word}
-use Rattle.wasm_store.specs.declared.word.Word.TheVariants.{I32, I64}
+use Rattle.wasm_store.specs.declared.word.Word.TheVariants.{I32}
 use Rattle.wasm_machine.specs.Frames.{LabelForm, branch_at, branch_if, branch_to, chosen, entered, with_values}
 use Rattle.wasm_machine.specs.Frames as form
 use Rattle.wasm_machine.specs.Stacks.{taken}
@@ -12,7 +12,7 @@ use Rattle.wasm_machine.specs.Machines.{Goes, ProgramForm, Turn, turn_by, with_f
 use Rattle.wasm_machine.specs.Machines as real
 use Rattle.mid_program.specs.Mid.{Kind}
 use Rattle.host_step.specs.HostState.{HostState}
-use Rattle.value_machine.specs.Cells.{Cell, Bits, Held, IteratorOf, OwnedArray, LentArray, Gone, none_owned}
+use Rattle.value_machine.specs.Cells.{Cell, Bits, none_owned}
 use Rattle.value_machine.specs.Machine.{Code, Conf, Frame, Label, Store, at, br, br_if, choose, guarded, label}
 use Rattle.value_refined.specs.Refined.{AgainAs, CodeAs, LabelAs, LabelsAs, NextAs, RestAs}
 use Rattle.value_refined.specs.Words.{WordsAs, arrays_made}
@@ -62,13 +62,6 @@ module _ {used : ℕ → Bool} {bs : List Bool} {u : Code} {K : List Label} {L :
 
   module _ {k : Instructions} (code-is : CodeAs used bs k c.frame.code) where
     pub br_if_as : (n : ℕ) (vs : List Cell) (ws : List Word) → WordsAs made s.names vs ws → Once rest vs ws L c.frame.locals → Next (br_if n ks vs K L F k G) (branch_if c.frame n ws)
-    br_if_as n [] ws a once = stuck_as c s (turn_by m c (branch_if c.frame n ws))
-    br_if_as n (Held v ∷ vs) ws a once = stuck_as c s (turn_by m c (branch_if c.frame n ws))
-    br_if_as n (IteratorOf v ∷ vs) ws a once = stuck_as c s (turn_by m c (branch_if c.frame n ws))
-    br_if_as n (OwnedArray v ∷ vs) ws a once = stuck_as c s (turn_by m c (branch_if c.frame n ws))
-    br_if_as n (LentArray v ∷ vs) ws a once = stuck_as c s (turn_by m c (branch_if c.frame n ws))
-    br_if_as n (Gone ∷ vs) ws a once = stuck_as c s (turn_by m c (branch_if c.frame n ws))
-    br_if_as n (Bits (I64 x) ∷ vs) ws a once = stuck_as c s (turn_by m c (branch_if c.frame n ws))
     br_if_as n (Bits (I32 x) ∷ vs) [] a once = absurd a
     br_if_as n (Bits (I32 x) ∷ vs) (w ∷ ws) a once =
         subst (λ z. Next (br_if n ks (Bits (I32 x) ∷ vs) K L F k G) (branch_if c.frame n (z ∷ ws))) (sym a.0) (within (none_owned vs) refl (nat_eq x 0))
@@ -77,6 +70,7 @@ module _ {used : ℕ → Bool} {bs : List Bool} {u : Code} {K : List Label} {L :
         within false e z = stuck_as c s (turn_by m c (if z then form.Goes (with_values c.frame ws) else form.jump (with_values c.frame ws) n))
         within true e true = frame_as rest ks vs K L k (with_values c.frame ws) rest.labels rest.locals a.1 code-is (λ t q. let o = once t q in let h = unowned_all t q (Bits (I32 x) ∷ vs) (w ∷ ws) e in let g = unowned_all t q vs ws e in omega arith)
         within true e false = jump_as (dropped_once (Bits (I32 x) ∷ vs) (w ∷ ws) e once) ws n K c.frame.labels rest.labels
+    br_if_as n vs ws a once = stuck_as c s (turn_by m c (branch_if c.frame n ws))
 
     -- a block or a loop begins, over operands that own nothing
     pub entered_as : (o q : Option Instructions) (body code : Instructions) (vs : List Cell) (ws : List Word) → AgainAs used bs o q → CodeAs used bs body code → WordsAs made s.names vs ws → Once rest vs ws L c.frame.locals →
@@ -90,13 +84,6 @@ module _ {used : ℕ → Bool} {bs : List Bool} {u : Code} {K : List Label} {L :
             (dropped_once vs ws e once)
 
     pub choose_as : (p q rp rq : Instructions) (vs : List Cell) (ws : List Word) → CodeAs used bs p rp → CodeAs used bs q rq → WordsAs made s.names vs ws → Once rest vs ws L c.frame.locals → Next (choose p q ks vs K L F k G) (chosen c.frame None rp rq ws)
-    choose_as p q rp rq [] ws b d a once = stuck_as c s (turn_by m c (chosen c.frame None rp rq ws))
-    choose_as p q rp rq (Held v ∷ vs) ws b d a once = stuck_as c s (turn_by m c (chosen c.frame None rp rq ws))
-    choose_as p q rp rq (IteratorOf v ∷ vs) ws b d a once = stuck_as c s (turn_by m c (chosen c.frame None rp rq ws))
-    choose_as p q rp rq (OwnedArray v ∷ vs) ws b d a once = stuck_as c s (turn_by m c (chosen c.frame None rp rq ws))
-    choose_as p q rp rq (LentArray v ∷ vs) ws b d a once = stuck_as c s (turn_by m c (chosen c.frame None rp rq ws))
-    choose_as p q rp rq (Gone ∷ vs) ws b d a once = stuck_as c s (turn_by m c (chosen c.frame None rp rq ws))
-    choose_as p q rp rq (Bits (I64 x) ∷ vs) ws b d a once = stuck_as c s (turn_by m c (chosen c.frame None rp rq ws))
     choose_as p q rp rq (Bits (I32 x) ∷ vs) [] b d a once = absurd a
     choose_as p q rp rq (Bits (I32 x) ∷ vs) (w ∷ ws) b d a once =
         subst (λ z. Next (choose p q ks (Bits (I32 x) ∷ vs) K L F k G) (chosen c.frame None rp rq (z ∷ ws))) (sym a.0) (by (nat_eq x 0))
@@ -107,6 +94,7 @@ module _ {used : ℕ → Bool} {bs : List Bool} {u : Code} {K : List Label} {L :
         by : (z : Bool) → Next (guarded (none_owned vs) (at ks [] (label vs None k ∷ K) L F (cond z q p) G)) (form.Goes (entered (with_values c.frame ws) None None (if z then rq else rp)))
         by true = entered_as None None q rq vs ws tt d a.1 fewer
         by false = entered_as None None p rp vs ws tt b a.1 fewer
+    choose_as p q rp rq vs ws b d a once = stuck_as c s (turn_by m c (chosen c.frame None rp rq ws))
 
   -- the end of a block
   pub end_as : (vs : List Cell) (l : Label) (r : LabelForm) (K1 : List Label) (rs : List LabelForm) → LabelAs used bs made s.names l r → LabelsAs used bs made s.names K1 rs → WordsAs made s.names vs c.frame.values → Once rest vs c.frame.values L c.frame.locals →

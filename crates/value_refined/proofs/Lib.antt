@@ -9,6 +9,7 @@ pub mod Numbering
 pub mod Moving
 pub mod Settling
 pub mod Asking
+pub mod Answered
 pub mod Asked
 pub mod Going
 pub mod Putting

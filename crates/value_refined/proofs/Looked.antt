@@ -1,18 +1,14 @@
 -- The step after a look: a comparison, or a call of an import that looks.
-use Rattle.std.proofs.Common.{◌≡◌, ◌⊎◌, inl, inr, ℕ, suc, ◌+◌, Bool, nat_lt, List, [], ◌∷◌, length, take, drop, reverse, Option, Some, None, refl, sym, ap, subst, arith, if◌then◌else◌}
+use Rattle.std.proofs.Common.{◌≡◌, ◌⊎◌, inl, inr, ℕ, suc, Bool, nat_lt, List, [], ◌∷◌, length, take, drop, reverse, Option, Some, None, refl, sym, ap, subst, arith, if◌then◌else◌}
 use Rattle.std.proofs.lemmas.Bool.{le-ltb}
-use Rattle.awk_state.specs.declared.sorts.Sort.{Sort}
 use Rattle.awk_state.specs.declared.table.Primitive.TheVariants as row
 use Rattle.awk_values.specs.declared.fault.Fault.{Fault}
 use Rattle.world_core.specs.WorldState.{Action}
 use Rattle.wasm_types.specs.Syntax.{Instructions}
-use Rattle.wasm_store.specs.Memories.{MemoryForm}
-use Rattle.wasm_store.specs.declared.trap.TrapKind.{TrapKind}
 use Rattle.wasm_store.specs.declared.word.Word.{Word}
 use Rattle.wasm_machine.specs.Machines.{Asks, Ends, Turn, answered, asked, with_operands}
 use Rattle.wasm_machine.specs.Machines as real
 use Rattle.wasm_machine.specs.declared.host.HostAnswer.{HostAnswer}
-use Rattle.wasm_machine.specs.declared.host.HostAnswer.TheVariants as told
 use Rattle.wasm_machine.specs.declared.state.End.TheVariants as ends
 use Rattle.mid_program.specs.Mid.{Kind}
 use Rattle.host_step.specs.HostState.{HostState}
@@ -20,20 +16,17 @@ use Rattle.host_step.specs.HostStep.{HostStep}
 use Rattle.value_machine.specs.Cells.{Cell}
 use Rattle.value_machine.specs.ImportCalls.{Host, acted, look, looked_at}
 use Rattle.value_machine.specs.Imports.{import_at, import_type}
-use Rattle.value_machine.specs.Machine.{Code, Frame, Label, Store, Stuck, ask_looking, with_answer}
+use Rattle.value_machine.specs.Machine.{Code, Frame, Label, Store, ask_looking, with_answer}
 use Rattle.value_machine.specs.declared.import.Import.{Import}
 use Rattle.value_machine.specs.declared.import.Import.TheVariants.{Of}
 use Rattle.value_refined.specs.Growing.{ArraysGrow}
-use Rattle.value_refined.specs.Owners.{owners, waiting}
-use Rattle.value_refined.specs.Refined.{As, CodeAs, NextAs, RestAs}
+use Rattle.value_refined.specs.Refined.{CodeAs, NextAs, RestAs}
 use Rattle.value_refined.specs.Words.{WordAs, WordsAs, arrays_made, state_with}
-use Rattle.value_refined.proofs.Asking.{rest_after}
+use Rattle.value_refined.proofs.Answered.{comes_as, others}
 use Rattle.value_refined.proofs.Calling.{Outcome}
-use Rattle.value_refined.proofs.Carrying.{words_carried}
 use Rattle.value_refined.proofs.Going.{Once, stuck_as}
 use Rattle.value_refined.proofs.Looking.{looking}
 use Rattle.value_refined.proofs.Numbering.{looked_as}
-use Rattle.value_refined.proofs.Settling.{at_as}
 
 abbrev look_with : (i : Import) → Cell → Host → Option Fault → Option (Option Cell × Host)
 look_with i d h f = elim f [ None ↦ acted i h (looked_at i d) | Some k ↦ None ]
@@ -54,40 +47,14 @@ look_width i = inr (λ d h. nothing_looked i d h refl h.fault)
 
 module _ {used : ℕ → Bool} {bs : List Bool} {u : Code} {K : List Label} {L : List Cell} {F : List Frame} {k : Instructions} {G : Store} {c : real.Conf} {s : HostState} (grow : ArraysGrow) (ks : List Kind) (rest : RestAs used bs u K L F G c s) (code-is : CodeAs used bs k c.frame.code)
     (vs : List Cell) (ws : List Word) (a : WordsAs (arrays_made G.host) s.names vs ws) (once : Once rest vs ws L c.frame.locals) (d : Cell) (w : Word) (same : WordAs (arrays_made G.host) s.names d w) (values : c.frame.values ≡ w ∷ ws) (n : ℕ) (i : Import) (at-n : import_at n ≡ Some i) where
-  abbrev others : Sort → ℕ → ℕ
-  others t q = owners t q vs ws + (owners t q L c.frame.locals + (owners t q G.globals c.globals + waiting t q F c.callers))
-
-  abbrev after : real.Conf
-  after = with_operands c ws
-
   -- what the look comes to
-  looks_to : (v : HostAnswer) (s1 : HostState) (out : List Action) → HostStep n s (w ∷ []) c.memory.bytes v s1 out → Outcome s.names G.host others (look i d G.host) v s1
+  looks_to : (v : HostAnswer) (s1 : HostState) (out : List Action) → HostStep n s (w ∷ []) c.memory.bytes v s1 out → Outcome s.names G.host (others ks rest code-is vs ws a) (look i d G.host) v s1
   looks_to v s1 out h =
-      looked_as u.memory rest.behind grow s.names G.host others rest.arrays n i at-n once d w same v s1 out
+      looked_as u.memory rest.behind grow s.names G.host (others ks rest code-is vs ws a) rest.arrays n i at-n once d w same v s1 out
       (subst (λ (b : List ℕ). HostStep n (state_with s.names G.host) (w ∷ []) b v s1 out) rest.memory (subst (λ (z : HostState). HostStep n z (w ∷ []) c.memory.bytes v s1 out) rest.host h))
 
-  answer_as : (o : Option (Option Cell × Host)) (x : Option Word) (s1 : HostState) (m1 : MemoryForm) → m1 ≡ c.memory → Outcome s.names G.host others o (told.Done x) s1 → As used bs u (with_answer o ks vs K L F k G) (answered (record after { memory = m1 }) x) s1
-  answer_as None x s1 m1 me h = tt
-  answer_as (Some (None, h1)) None s1 m1 me h =
-      at_as used bs u ks K L F (record G { host = h1 }) (record after { memory = m1 }) s1 (rest_after used bs u K L F G c s rest others (λ t q. omega arith) (None, h1) None s1 ws m1 me h) k vs
-      (words_carried (arrays_made G.host) (arrays_made h1) s.names s1.names others h.told.carried vs ws (λ t q. omega arith) a) code-is (λ t q. (let z = h.told.once t q in omega arith))
-  answer_as (Some (Some y, h1)) (Some x) s1 m1 me h =
-      at_as used bs u ks K L F (record G { host = h1 }) (answered (record after { memory = m1 }) (Some x)) s1 (rest_after used bs u K L F G c s rest others (λ t q. omega arith) (Some y, h1) (Some x) s1 (x ∷ ws) m1 me h) k (y ∷ vs)
-      (h.told.word, words_carried (arrays_made G.host) (arrays_made h1) s.names s1.names others h.told.carried vs ws (λ t q. omega arith) a) code-is (λ t q. (let z = h.told.once t q in omega arith))
-  answer_as (Some (None, h1)) (Some x) s1 m1 me h = absurd h.told.word
-  answer_as (Some (Some y, h1)) None s1 m1 me h = absurd h.told.word
-
-  trap_as : (o : Option (Option Cell × Host)) (kind : TrapKind) (s1 : HostState) → Outcome s.names G.host others o (told.Trap kind) s1 → with_answer o ks vs K L F k G ≡ Stuck
-  trap_as None kind s1 h = refl
-  trap_as (Some r) kind s1 h = absurd h
-
-  asks : NextAs used bs u (with_answer (look i d G.host) ks vs K L F k G) c s (Asks n (w ∷ []) after)
-  asks = record {
-    taken = λ c1 s1 out t.
-        subst (λ (z : real.Conf). As used bs u (with_answer (look i d G.host) ks vs K L F k G) z s1) (sym t.2)
-        (answer_as (look i d G.host) t.0 s1 c1.memory t.1.0 (looks_to (told.Done t.0) s1 out t.1.1));
-    over = λ e s1 out t. inr (inl (trap_as (look i d G.host) t.0 s1 (looks_to (told.Trap t.0) s1 out t.3.1)));
-  }
+  asks : NextAs used bs u (with_answer (look i d G.host) ks vs K L F k G) c s (Asks n (w ∷ []) (with_operands c ws))
+  asks = comes_as ks rest code-is vs ws a n (w ∷ []) (look i d G.host) looks_to
 
   -- so many operands are taken of these
   abbrev asked_with : ℕ → List Word → Turn
@@ -102,4 +69,4 @@ module _ {used : ℕ → Bool} {bs : List Bool} {u : Code} {K : List Label} {L :
       by (inl e) =
           subst (λ j. NextAs used bs u (with_answer (look i d G.host) ks vs K L F k G) c s (asked_with j c.frame.values)) (sym e)
           (subst (λ words. NextAs used bs u (with_answer (look i d G.host) ks vs K L F k G) c s (asked_with 1 words)) (sym values)
-          (subst (λ b. NextAs used bs u (with_answer (look i d G.host) ks vs K L F k G) c s (if b then Ends ends.Stuck else Asks n (w ∷ []) after)) (sym (le-ltb (suc (length ws)) 1 (omega arith))) asks))
+          (subst (λ b. NextAs used bs u (with_answer (look i d G.host) ks vs K L F k G) c s (if b then Ends ends.Stuck else Asks n (w ∷ []) (with_operands c ws))) (sym (le-ltb (suc (length ws)) 1 (omega arith))) asks))

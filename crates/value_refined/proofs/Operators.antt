@@ -8,7 +8,7 @@ use Rattle.wasm_types.specs.declared.types.ValType.TheVariants as ty
 use Rattle.wasm_types.specs.declared.instr.Simple.{Simple}
 use Rattle.wasm_types.specs.declared.instr.Simple.TheVariants as simple
 use Rattle.wasm_types.specs.declared.instr.IRelOp.{IRelOp}
-use Rattle.wasm_types.specs.declared.instr.IRelOp.TheVariants.{Eq, Ne, LtS, LtU, GtS, GtU, LeS, LeU, GeS, GeU}
+use Rattle.wasm_types.specs.declared.instr.IRelOp.TheVariants.{Eq, Ne}
 use Rattle.wasm_types.specs.declared.instr.IBinOp.{IBinOp}
 use Rattle.wasm_store.specs.declared.trap.TrapKind.{TrapKind}
 use Rattle.wasm_store.specs.declared.word.Word.{Word}
@@ -43,14 +43,7 @@ handle_word Eq h n l w e =
 handle_word Ne h n l w e =
     let g = from_there (nat_le (2 ^ 31) n) (flag true) w e in
     ap (λ b. Some (flag (not b))) (ne_eqb h n (λ same. let k = leb-true (2 ^ 31) n g.0 in absurd (omega (arith, same, k, l)))) ∙ g.1
-handle_word LtS h n l w e = absurd (none-some w e)
-handle_word LtU h n l w e = absurd (none-some w e)
-handle_word GtS h n l w e = absurd (none-some w e)
-handle_word GtU h n l w e = absurd (none-some w e)
-handle_word LeS h n l w e = absurd (none-some w e)
-handle_word LeU h n l w e = absurd (none-some w e)
-handle_word GeS h n l w e = absurd (none-some w e)
-handle_word GeU h n l w e = absurd (none-some w e)
+handle_word op h n l w e = absurd (none-some w e)
 
 module _ (made : ℕ) (N : Names) where
   -- a comparison with what was looked at

@@ -1,8 +1,7 @@
 -- What is told of a run of the real machine is what the machine over values is at after as many steps.
-use Rattle.std.proofs.Common.{◌≡◌, inl, inr, ℕ, zero, suc, ◌+◌, ◌-◌, ◌<◌, ◌≤◌, Bool, List, Option, Some, None, refl, sym, ap, ◌∙◌, subst, arith}
+use Rattle.std.proofs.Common.{◌≡◌, inl, inr, ℕ, zero, suc, ◌+◌, ◌-◌, ◌≤◌, Bool, List, Some, refl, sym, ap, ◌∙◌, subst, arith}
 use Rattle.std.proofs.lemmas.Option.{none-some}
 use Rattle.world_core.specs.WorldState.{Action}
-use Rattle.wasm_store.specs.declared.word.Word.{Word}
 use Rattle.wasm_machine.specs.Machines.{ProgramForm, turn}
 use Rattle.wasm_machine.specs.Machines as real
 use Rattle.wasm_machine.specs.Runs.{Did, IsStep, IsWithin, Ran, told_end, told_run}
@@ -18,7 +17,7 @@ use Rattle.value_machine.proofs.Runs.{go_add}
 use Rattle.value_refined.specs.Growing.{ArraysGrow}
 use Rattle.value_refined.specs.Refined.{As, EndAs, Linked, table_meaning}
 use Rattle.value_refined.specs.Running.{EndedAs, SharesAs, TellsAs}
-use Rattle.value_refined.specs.Words.{WordAs, arrays_made, state_with}
+use Rattle.value_refined.specs.Words.{WordAs, arrays_made}
 use Rattle.value_refined.proofs.Answering.{some_of}
 use Rattle.value_refined.proofs.Running.{left_turn, ran_as}
 
