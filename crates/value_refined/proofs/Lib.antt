@@ -9,6 +9,7 @@ pub mod Numbering
 pub mod Moving
 pub mod Settling
 pub mod Asking
+pub mod Answered
 pub mod Asked
 mod GrowingRows
 pub mod Growing
@@ -20,3 +21,16 @@ pub mod Exchanging
 pub mod Reading
 pub mod Room
 pub mod Replying
+pub mod Going
+pub mod Putting
+pub mod Locals
+pub mod Globals
+pub mod Blocks
+pub mod Operators
+pub mod Leaving
+pub mod Entering
+pub mod Looked
+pub mod Stepping
+pub mod Putout
+pub mod Running
+pub mod Told
