@@ -1,5 +1,5 @@
 -- What the machine over values has put out only grows.
-use Rattle.std.proofs.Common.{◌≡◌, ℕ, zero, suc, Bool, true, false, ◌&&◌, not, cond, nat_eq, nat_lt, ◌-◌, List, [], ◌∷◌, ◌++◌, length, slice_get, Option, Some, None, Result, Ok, Err, sym, ap, subst, ◌∙◌, append-nil, append_assoc}
+use Rattle.std.proofs.Common.{◌≡◌, ℕ, zero, suc, Bool, true, false, ◌&&◌, not, cond, nat_eq, nat_lt, ◌-◌, ◌^◌, ◌%◌, List, [], ◌∷◌, ◌++◌, length, slice_get, Option, Some, None, Result, Ok, Err, sym, ap, subst, ◌∙◌, append-nil, append_assoc}
 use Rattle.awk_values.specs.declared.fault.Fault.{Fault}
 use Rattle.world_core.specs.WorldState.{Action}
 use Rattle.wasm_types.specs.Syntax.{Instruction, Plain, Block, Loop, If, Instructions, Done, Then}
@@ -12,7 +12,7 @@ use Rattle.wasm_machine.specs.Frames.{constant_of}
 use Rattle.awk_state.specs.Sorts.{InAnswer, Row}
 use Rattle.awk_state.specs.declared.sorts.Answer.{Answer}
 use Rattle.mid_program.specs.Kept.{Grows, output_of}
-use Rattle.mid_program.specs.ScriptRun.{Ending, FaultedBy}
+use Rattle.mid_program.specs.ScriptRun.{Ending, Ended, FaultedBy}
 use Rattle.mid_program.specs.Mid.{Kind}
 use Rattle.value_machine.specs.Cells.{Cell, Bits, Held, LentArray, OwnedArray, IteratorOf, Gone, none_owned, is_owned, globals_by, ended_name}
 use Rattle.value_machine.specs.ImportCalls.{Acts, Host, acted, acts, after_fault, call, fault_cell, lets_go, look, looked_at, replied, taken, where_so, with_some}
@@ -227,7 +227,11 @@ output_if None = []
 output_if (Some e) = output_of e
 
 status_shows : (v : Cell) (G : Store) (e : Ending) → status_of v G ≡ Some e → output_of e ≡ G.host.shared.output
-status_shows (Bits (I32 n)) G e eq = sym (ap output_if eq)
+status_shows (Bits (I32 n)) G e eq = by (nat_lt n (2 ^ 32)) eq
+  where
+    by : (b : Bool) → cond b (Some (Ended (n % 256) G.host.shared.output)) None ≡ Some e → output_of e ≡ G.host.shared.output
+    by true eq = sym (ap output_if eq)
+    by false eq = cc
 status_shows (Bits (I64 n)) G e eq = cc
 status_shows (Held v) G e eq = cc
 status_shows (LentArray a) G e eq = cc
