@@ -158,8 +158,8 @@ module _ (p : Program) (agree : ValueAgreement p) (job : JobForm) (input : Sourc
   none_taken : (e : ModuleEnding) → Ends zero e → e ≡ Like (GoesOn [])
   none_taken e r = by r.run-end r.telling (not_refused r.run-end r.told r.telling (not_wanting r.state.fault r.told r.output e r.ending)) r.ran
     where
-      no_end : (t : Turn) → t ≡ Goes (in_main p) → {mem : MemoryForm} (h : HostState) (out : List Action) (x : End) (h1 : HostState) → OverBy table_meaning t h mem out x h1 → ⊥
-      no_end t first {mem} h out x h1 over = subst (λ (u : Turn). OverBy table_meaning u h mem out x h1) first over
+      no_end : (t : Turn) → t ≡ Goes (in_main p) → (mem : MemoryForm) (h : HostState) (out : List Action) (x : End) (h1 : HostState) → OverBy table_meaning t h mem out x h1 → ⊥
+      no_end t first mem h out x h1 over = subst (λ (u : Turn). OverBy table_meaning u h mem out x h1) first over
 
       none_within : (k : ℕ) (x : End) → IsWithin k zero x → k ≡ zero
       none_within k (ends.Returned w) l = omega (arith, l)
@@ -173,7 +173,7 @@ module _ (p : Program) (agree : ValueAgreement p) (job : JobForm) (input : Sourc
       by (HasEnded x) t ne h = absurd (at_start h.0 (none_within h.0 x h.1) h.6)
         where
           at_start : (k : ℕ) → k ≡ zero → Steps table_meaning r.machine.program k r.machine.conf (state_at_start job input outside) h.4 h.2 h.3 → ⊥
-          at_start zero e q = no_end (turn r.machine.program h.2) (ap (turn r.machine.program) q.0 ∙ begins p r.machine r.is_new) h.3 h.5 x r.state h.7
+          at_start zero e q = no_end (turn r.machine.program h.2) (ap (turn r.machine.program) q.0 ∙ begins p r.machine r.is_new) h.2.memory h.3 h.5 x r.state h.7
           at_start (suc k) e q = cc
       by NoMemory t ne h = absurd (ne refl)
 
