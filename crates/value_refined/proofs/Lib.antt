@@ -20,3 +20,4 @@ pub mod Exchanging
 pub mod Reading
 pub mod Room
 pub mod Replying
+pub mod Existing
