@@ -15,7 +15,7 @@ pub mod Growing
 pub mod Outputs
 pub mod Links
 pub mod Beginning
-pub mod Telling
+pub mod Worlds
 pub mod Exchanging
 pub mod Reading
 pub mod Room
