@@ -35,7 +35,7 @@ use Rattle.value_refined.proofs.Beginning.{begins, begun_as, in_main, run_after}
 use Rattle.value_refined.proofs.Growing.{arrays_grow}
 use Rattle.value_refined.proofs.Links.{linked, program, program_is, stays}
 use Rattle.value_refined.proofs.Outputs.{run_adds}
-use Rattle.value_refined.proofs.Told.{tells_as}
+use Rattle.value_refined.proofs.Telling.{tells_as}
 use Rattle.module_agreement.specs.Agreement.{Agreement, Like, MayEnd, ModuleEnding, Trapped, ended_with, ending_told, output_in, setting_of}
 use Rattle.module_agreement.specs.ValueAgreement.{IsOver, ValueAgreement}
 

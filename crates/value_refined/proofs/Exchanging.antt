@@ -23,7 +23,7 @@ use Rattle.value_machine.specs.Machine.{Code, Conf, Deep, Frame, Label, Look, Ov
 use Rattle.value_refined.specs.Owners.{OwnedOnce}
 use Rattle.value_refined.specs.Refined.{As, EndAs, FramesAs, LabelsAs, LeftAs, NextAs, RestAs, RunAs}
 use Rattle.value_refined.specs.Words.{ArraysFit, WordAs, WordsAs, arrays_made, state_with}
-use Rattle.value_refined.proofs.Telling.{MeansCalled}
+use Rattle.value_refined.proofs.Worlds.{MeansCalled}
 
 -- the host beside its tables
 abbrev pub host_of : HostState → Host

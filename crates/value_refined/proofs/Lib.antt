@@ -16,7 +16,7 @@ pub mod Growing
 pub mod Outputs
 pub mod Links
 pub mod Beginning
-pub mod Telling
+pub mod Worlds
 pub mod Exchanging
 pub mod Reading
 pub mod Room
@@ -33,4 +33,5 @@ pub mod Looked
 pub mod Stepping
 pub mod Putout
 pub mod Running
-pub mod Told
+pub mod Telling
+pub mod Existing

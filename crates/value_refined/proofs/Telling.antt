@@ -1,100 +1,82 @@
--- A host over a world that tells what it holds: its runs are runs over a host of the table, whose state keeps the output too.
-use Rattle.std.proofs.Common.{◌≡◌, ◌≢◌, ℕ, zero, suc, List, [], ◌++◌, refl, sym, ap, ◌∙◌, subst, append-nil}
-use Rattle.std.proofs.lemmas.List.{append_assoc}
-use Rattle.wasm_store.specs.Memories.{MemoryForm}
-use Rattle.wasm_store.specs.declared.word.Word.{Word}
-use Rattle.wasm_machine.specs.Hosts.{Meaning}
-use Rattle.wasm_machine.specs.Machines.{Asks, Conf, Ends, Goes, ProgramForm, Turn, turn}
-use Rattle.wasm_machine.specs.Runs.{HasMore, OverBy, Ran, Steps, TakenAs}
-use Rattle.wasm_machine.specs.declared.host.HostAnswer.{HostAnswer}
-use Rattle.wasm_machine.specs.declared.host.HostAnswer.TheVariants as told
-use Rattle.wasm_machine.specs.declared.state.End.{End}
-use Rattle.wasm_machine.specs.declared.state.RunEnd.{RunEnd}
-use Rattle.wasm_machine.specs.declared.state.RunEnd.TheVariants.{Ended, NoMemory, OutOfSteps}
+-- What is told of a run of the real machine is what the machine over values is at after as many steps.
+use Rattle.std.proofs.Common.{◌≡◌, inl, inr, ℕ, zero, suc, ◌+◌, ◌-◌, ◌≤◌, Bool, List, Some, refl, sym, ap, ◌∙◌, subst, arith}
+use Rattle.std.proofs.lemmas.Option.{none-some}
 use Rattle.world_core.specs.WorldState.{Action}
+use Rattle.wasm_machine.specs.Machines.{ProgramForm, turn}
+use Rattle.wasm_machine.specs.Machines as real
+use Rattle.wasm_machine.specs.Runs.{Did, IsStep, IsWithin, Ran, told_end, told_run}
+use Rattle.wasm_machine.specs.declared.machine.MachineEnd.{MachineEnd}
+use Rattle.wasm_machine.specs.declared.machine.MachineEnd.TheVariants as told
+use Rattle.wasm_machine.specs.declared.state.End.{End}
+use Rattle.wasm_machine.specs.declared.state.End.TheVariants as ends
+use Rattle.wasm_machine.specs.declared.state.RunEnd.{RunEnd}
+use Rattle.wasm_machine.specs.declared.state.RunEnd.TheVariants.{Ended, OutOfSteps, NoMemory}
 use Rattle.host_step.specs.HostState.{HostState}
-use Rattle.host_step.specs.Imports.{import_at}
-use Rattle.host_step.specs.Worlds.{Called, with_output}
-use Rattle.value_refined.specs.Refined.{table_meaning}
+use Rattle.value_machine.specs.Machine.{Code, Conf, Deep, Look, Over, Run, Store, Stuck, go, step}
+use Rattle.value_machine.proofs.Runs.{go_add}
+use Rattle.value_refined.specs.Growing.{ArraysGrow}
+use Rattle.value_refined.specs.Refined.{As, EndAs, Linked, table_meaning}
+use Rattle.value_refined.specs.Running.{EndedAs, SharesAs, TellsAs}
+use Rattle.value_refined.specs.Words.{WordAs, arrays_made}
+use Rattle.value_refined.proofs.Answering.{some_of}
+use Rattle.value_refined.proofs.Running.{left_turn, ran_as}
 
--- what a host's calls mean over a world, where they want no memory: they change none, and the world tells, or not
-abbrev pub MeansCalled : (tells : Type 0) → Meaning HostState Action → Type 0
-MeansCalled tells M = (before : HostState) (n : ℕ) (words : List Word) (mem : MemoryForm) (a : HostAnswer) (after : HostState) (mem1 : MemoryForm)
-    (output : List Action) → a ≢ told.NoMemory →
-    M before n words mem a after mem1 output → (mem1 ≡ mem) × Called tells (import_at n) before words mem.bytes a after output
+-- where no step leads away
+go_rests : (u : Code) (n : ℕ) (p : Conf) → step u p ≡ p → go u n p ≡ p
+go_rests u zero p e = refl
+go_rests u (suc n) p e = ap (λ z. go u n z) e ∙ go_rests u n p e
 
-same_output : (s s1 : HostState) (so_far output : List Action) → s1 ≡ s → output ≡ [] → with_output (so_far ++ output) s1 ≡ with_output so_far s
-same_output s s1 so_far output e n = ap (λ (z : HostState). with_output (so_far ++ output) z) e ∙
-    (ap (λ z. with_output (so_far ++ z) s) n ∙ ap (λ z. with_output z s) (append-nil so_far))
+go_from : (u : Code) (k n : ℕ) (p q : Conf) → k ≤ n → step u q ≡ q → go u k p ≡ q → go u n p ≡ q
+go_from u k n p q h r e = ap (λ z. go u z p) (let j : n ≡ k + (n - k) = omega (arith, h) in j) ∙ (go_add u k (n - k) p ∙ (ap (λ z. go u (n - k) z) e ∙ go_rests u (n - k) q r))
 
-more_output : (s : HostState) (so_far out1 out2 output : List Action) → output ≡ out1 ++ out2 →
-    with_output ((so_far ++ out1) ++ out2) s ≡ with_output (so_far ++ output) s
-more_output s so_far out1 out2 output e = ap (λ z. with_output z s) (append_assoc so_far out1 out2 ∙ ap (λ z. so_far ++ z) (sym e))
+-- the step after k steps
+go_after : (u : Code) (k : ℕ) (p : Conf) → go u (suc k) p ≡ step u (go u k p)
+go_after u k p = ap (λ z. go u z p) (let j : suc k ≡ k + 1 = omega arith in j) ∙ go_add u k 1 p
 
-module _ (tells : Type 0) (M : Meaning HostState Action) (means : MeansCalled tells M) (it : tells) where
-  call_told : (s : HostState) (n : ℕ) (words : List Word) (mem : MemoryForm) (a : HostAnswer) (s1 : HostState) (mem1 : MemoryForm)
-      (output so_far : List Action) → a ≢ told.NoMemory →
-      M s n words mem a s1 mem1 output → table_meaning (with_output so_far s) n words mem a (with_output (so_far ++ output) s1) mem1 output
-  call_told s n words mem a s1 mem1 output so_far ne h = let c = means s n words mem a s1 mem1 output ne h in (c.0, c.1.step it so_far)
+within_at_most : (k n : ℕ) (e : End) → IsWithin k n e → k ≤ n
+within_at_most k n (ends.Returned w) h = h
+within_at_most k n (ends.Trapped kind) h = omega (arith, h)
+within_at_most k n ends.Exhausted h = omega (arith, h)
+within_at_most k n ends.Stuck h = omega (arith, h)
 
-  pub step_told : (t : Turn) (s : HostState) (mem : MemoryForm) (output : List Action) (c1 : Conf) (s1 : HostState) (so_far : List Action) →
-      TakenAs M t s mem output c1 s1 →
-      TakenAs table_meaning t (with_output so_far s) mem output c1 (with_output (so_far ++ output) s1)
-  step_told (Goes c) s mem output c1 s1 so_far h = (h.0, same_output s s1 so_far output h.1 h.2, h.2)
-  step_told (Ends e) s mem output c1 s1 so_far h = absurd h
-  step_told (Asks n ws c) s mem output c1 s1 so_far h = (h.0, call_told s n ws mem (told.Done h.0) s1 c1.memory output so_far (λ q. cc) h.1, h.2)
+shared_same : (G : Store) (before after : HostState) → SharesAs G before → after ≡ before → SharesAs G after
+shared_same G before after h e = subst (λ z. SharesAs G z) (sym e) h
 
-  pub end_told : (t : Turn) (s : HostState) (mem : MemoryForm) (output : List Action) (e : End) (s1 : HostState) (so_far : List Action) →
-      OverBy M t s mem output e s1 →
-      OverBy table_meaning t (with_output so_far s) mem output e (with_output (so_far ++ output) s1)
-  end_told (Goes c) s mem output e s1 so_far h = absurd h
-  end_told (Ends x) s mem output e s1 so_far h = (h.0, same_output s s1 so_far output h.1 h.2, h.2)
-  end_told (Asks n ws c) s mem output e s1 so_far h = (h.0, h.1, h.2, call_told s n ws mem (told.Trap h.0) s1 h.1 output so_far (λ q. cc) h.3)
+module _ {used : ℕ → Bool} {bs : List Bool} {u : Code} {m : ProgramForm} (linked : Linked used bs u m) (grow : ArraysGrow) where
+  -- there are more steps
+  goes_on : (p : Conf) (c : real.Conf) (s : HostState) → As used bs u p c s → IsStep (turn m c) → TellsAs p told.OutOfSteps s
+  goes_on (Run ks vs K L F code G) c s a t = (refl, a.rest.host)
+  goes_on (Look x ks vs K L F code G) c s a t = (refl, a.run.rest.host)
+  goes_on (Over v G) c s a t = absurd (subst IsStep (left_turn linked grow v G c s a) t)
+  goes_on (Deep G) c s a t = absurd a
+  goes_on Stuck c s a t = tt
 
-  pub steps_told : (m : ProgramForm) (n : ℕ) (c : Conf) (s : HostState) (output : List Action) (c1 : Conf) (s1 : HostState) (so_far : List Action) →
-      Steps M m n c s output c1 s1 →
-      Steps table_meaning m n c (with_output so_far s) output c1 (with_output (so_far ++ output) s1)
-  steps_told m zero c s output c1 s1 so_far h = (h.0, same_output s s1 so_far output h.1 h.2, h.2)
-  steps_told m (suc n) c s output c1 s1 so_far h = (
-    h.0,
-    with_output (so_far ++ h.2) h.1,
-    h.2,
-    h.3,
-    step_told (turn m c) s c.memory h.2 h.0 h.1 so_far h.4,
-    subst (λ z. Steps table_meaning m n h.0 (with_output (so_far ++ h.2) h.1) h.3 c1 z) (more_output s1 so_far h.2 h.3 output h.6)
-        (steps_told m n h.0 h.1 h.3 c1 s1 (so_far ++ h.2) h.5),
-    h.6,
-  )
+  module _ (n : ℕ) (p : Conf) (alive : go u (suc n) p ≡ Stuck → ⊥) (k : ℕ) (e : End) (within : IsWithin k n e) (t : MachineEnd) (told-is : told_end e ≡ Some t) (before after : HostState) (out : List Action) where
+    -- an end in the step after k steps
+    step_ends : EndAs used bs u (step u (go u k p)) e before after out → TellsAs (go u n p) t after
+    step_ends (inl h) = absurd (none-some t (sym h ∙ told-is))
+    step_ends (inr (inl h)) = absurd (alive (go_from u (suc k) (suc n) p Stuck (let l = within_at_most k n e within in omega arith) refl (go_after u k p ∙ h)))
+    step_ends (inr (inr h)) =
+        subst (λ q. TellsAs q t after) (sym (go_from u (suc k) n p (Deep h.0) (subst (λ z. IsWithin k n z) h.2 within) refl (go_after u k p ∙ h.1)))
+        (sym (some_of told.Exhausted t (sym (ap told_end h.2) ∙ told-is)), shared_same h.0 before after h.3 h.4)
 
-  -- A RUN that does not want memory
-  pub run_told : (m : ProgramForm) (n : ℕ) (c : Conf) (s : HostState) (output : List Action) (r : RunEnd) (c1 : Conf) (s1 : HostState) (so_far : List Action) →
-      r ≢ NoMemory → Ran M m n c s output r c1 s1 →
-      Ran table_meaning m n c (with_output so_far s) output r c1 (with_output (so_far ++ output) s1)
-  run_told m n c s output NoMemory c1 s1 so_far ne h = absurd (ne refl)
-  run_told m n c s output OutOfSteps c1 s1 so_far ne h = (steps_told m n c s output c1 s1 so_far h.0, h.1)
-  run_told m n c s output (Ended e) c1 s1 so_far ne h = (
-    h.0,
-    h.1,
-    h.2,
-    with_output (so_far ++ h.4) h.3,
-    h.4,
-    h.5,
-    steps_told m h.0 c s h.4 h.2 h.3 so_far h.6,
-    subst (λ z. OverBy table_meaning (turn m h.2) (with_output (so_far ++ h.4) h.3) h.2.memory h.5 e z) (more_output s1 so_far h.4 h.5 output h.8)
-        (end_told (turn m h.2) h.3 h.2.memory h.5 e s1 (so_far ++ h.4) h.7),
-    h.8,
-  )
+    ends_as : (q : Conf) (c : real.Conf) → go u k p ≡ q → As used bs u q c before → EndedAs used bs u q e before after out → TellsAs (go u n p) t after
+    ends_as (Over v G) c r a h =
+        subst (λ z. TellsAs z t after) (sym (go_from u k n p (Over v G) (within_at_most k n e within) refl r))
+        (h.0, subst (λ (z : HostState). WordAs (arrays_made G.host) z.names v h.0) (sym h.3) h.1, sym (ap told_end h.2) ∙ told-is, shared_same G before after a.host h.3)
+    ends_as (Run ks vs K L F code G) c r a h = step_ends (subst (λ q. EndAs used bs u (step u q) e before after out) (sym r) h)
+    ends_as (Look x ks vs K L F code G) c r a h = step_ends (subst (λ q. EndAs used bs u (step u q) e before after out) (sym r) h)
+    ends_as (Deep G) c r a h = absurd a
+    ends_as Stuck c r a h = step_ends (subst (λ q. EndAs used bs u (step u q) e before after out) (sym r) h)
 
-  -- so too a run that shows what one that wanted memory would have put out
-  pub more_told : (m : ProgramForm) (n : ℕ) (c : Conf) (s : HostState) (output so_far : List Action) → HasMore M m n c s output →
-      HasMore table_meaning m n c (with_output so_far s) output
-  more_told m n c s output so_far h = (
-    h.0,
-    h.1,
-    h.2,
-    h.3,
-    h.4,
-    with_output (so_far ++ (output ++ h.2)) h.5,
-    h.6,
-    run_told m h.0 c s (output ++ h.2) h.3 h.4 h.5 so_far h.6 h.7,
-  )
+  ran_tells : (n : ℕ) (p : Conf) → (go u (suc n) p ≡ Stuck → ⊥) → (c : real.Conf) (s : HostState) (out : List Action) (r : RunEnd) (t : MachineEnd) (c1 : real.Conf) (s1 : HostState) → As used bs u p c s → (t ≡ told.NoMemory → ⊥) → told_run r ≡ Some t → Ran table_meaning m n c s out r c1 s1 →
+      TellsAs (go u n p) t s1
+  ran_tells n p alive c s out OutOfSteps t c1 s1 a enough e h = subst (λ z. TellsAs (go u n p) z s1) (some_of told.OutOfSteps t e) (goes_on (go u n p) c1 s1 (ran_as linked grow n p c s out OutOfSteps c1 s1 a h) h.1)
+  ran_tells n p alive c s out (Ended x) t c1 s1 a enough e h =
+      let r = ran_as linked grow n p c s out (Ended x) c1 s1 a h in
+      ends_as n p alive r.0 x r.1 t e r.3 s1 r.4 (go u r.0 p) r.2 refl r.5 r.6
+  ran_tells n p alive c s out NoMemory t c1 s1 a enough e h = absurd (enough (sym (some_of told.NoMemory t e)))
+
+  -- WHAT IS TOLD: where memory was not wanting, and the machine over values is not stuck one step later, a run of n steps is told of as it is after n steps
+  pub tells_as : (n : ℕ) (p : Conf) → (go u (suc n) p ≡ Stuck → ⊥) → (c : real.Conf) (s : HostState) (t : MachineEnd) (c1 : real.Conf) (s1 : HostState) → As used bs u p c s → (t ≡ told.NoMemory → ⊥) → Did table_meaning m n c s t c1 s1 → TellsAs (go u n p) t s1
+  tells_as n p alive c s t c1 s1 a enough d = ran_tells n p alive c s d.0 d.1 t c1 s1 a enough d.2 d.3
