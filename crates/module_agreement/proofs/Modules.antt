@@ -1,16 +1,15 @@
 -- A program and its module agree: what is told of a run is where the machine over values is, one step earlier.
-use Rattle.std.proofs.Common.{◌≡◌, ◌≢◌, inl, inr, ℕ, zero, suc, ◌+◌, ◌-◌, ◌*◌, ◌^◌, ◌%◌, ◌<◌, ◌≤◌, nat_lt, Bool, true, false, cond, List, [], ◌++◌, Option, Some, None, ℤ, pos, negsuc, unsigned_abs, w32, refl, sym, ap, ◌∙◌, subst, arith}
+use Rattle.std.proofs.Common.{◌≡◌, ◌≢◌, ℕ, zero, suc, ◌+◌, ◌-◌, ◌*◌, ◌^◌, ◌%◌, ◌<◌, ◌≤◌, nat_lt, Bool, true, false, cond, List, [], Option, Some, None, ℤ, pos, negsuc, unsigned_abs, w32, refl, sym, ap, ◌∙◌, subst, arith}
 use Rattle.std.proofs.lemmas.Bool.{ltb-true}
 use Rattle.std.specs.Int.{cast_signed, int_rem_euclid}
 use Rattle.awk_values.specs.declared.fault.Fault.{Fault}
 use Rattle.awk_state.specs.Jobs.{JobForm}
 use Rattle.world_core.specs.WorldState.{Action, Outside, Source}
-use Rattle.wasm_types.specs.Syntax.{ModuleForm}
 use Rattle.wasm_store.specs.declared.trap.TrapKind.{TrapKind}
 use Rattle.wasm_store.specs.declared.word.Word.{Word}
 use Rattle.wasm_store.specs.declared.word.Word.TheVariants.{I32, I64}
 use Rattle.wasm_store.specs.Memories.{MemoryForm}
-use Rattle.wasm_machine.specs.Machines.{Conf as RealConf, Goes, ProgramForm, Turn, turn}
+use Rattle.wasm_machine.specs.Machines.{Goes, ProgramForm, Turn, turn}
 use Rattle.wasm_machine.specs.Runs.{IsWithin, OverBy, Ran, Steps, told_end, told_run}
 use Rattle.wasm_machine.specs.declared.state.End.{End}
 use Rattle.wasm_machine.specs.declared.state.End.TheVariants as ends
@@ -26,14 +25,14 @@ use Rattle.mid_program.specs.MidMeaning.{mid_run_in}
 use Rattle.mid_program.specs.ScriptRun.{Setting, Ending, Ended, FaultedBy, GoesOn, Exhausted}
 use Rattle.value_machine.specs.Cells.{Cell, Bits, Held, LentArray, OwnedArray, IteratorOf, Gone}
 use Rattle.value_machine.specs.Machine.{Conf, Run, Look, Over, Deep, Store, Stuck, ending_at, go, status_of}
-use Rattle.value_machine.specs.Modules.{called_imports, module_of}
+use Rattle.value_machine.specs.Modules.{module_of}
 use Rattle.value_machine.specs.Runs.{begun, code_of, value_run}
 use Rattle.value_refined.specs.Refined.{table_meaning}
 use Rattle.value_refined.specs.Running.{SharesAs, TellsAs}
 use Rattle.value_refined.specs.Words.{WordAs, arrays_made}
 use Rattle.value_refined.proofs.Beginning.{begins, begun_as, in_main, run_after}
 use Rattle.value_refined.proofs.Growing.{arrays_grow}
-use Rattle.value_refined.proofs.Links.{linked, program, program_is, stays}
+use Rattle.value_refined.proofs.Links.{linked, program, program_is}
 use Rattle.value_refined.proofs.Outputs.{run_adds}
 use Rattle.value_refined.proofs.Telling.{tells_as}
 use Rattle.module_agreement.specs.Agreement.{Agreement, Like, MayEnd, ModuleEnding, Trapped, ended_with, ending_told, output_in, setting_of}
@@ -183,8 +182,8 @@ module _ (p : Program) (agree : ValueAgreement p) (job : JobForm) (input : Sourc
     same : e ≡ Like shown
 
   shows_as : (steps : ℕ) (e : ModuleEnding) → Ends steps e → Shows steps e
-  shows_as zero e r = record { shown = GoesOn []; same = none_taken e r; }
-  shows_as (suc n) e r = let g = agree.never_stuck s n in record { shown = g.0; same = told_at n g.0 g.1 e r; }
+  shows_as zero e r = record { shown = GoesOn []; same = none_taken e r }
+  shows_as (suc n) e r = let g = agree.never_stuck s n in record { shown = g.0; same = told_at n g.0 g.1 e r }
 
   one_run : (steps : ℕ) (e f : ModuleEnding) → Ends steps e → Ends steps f → e ≡ f
   one_run zero e f r q = none_taken e r ∙ sym (none_taken f q)

@@ -31,7 +31,7 @@ pub mod Leaving
 pub mod Entering
 pub mod Looked
 pub mod Stepping
-pub mod Putout
 pub mod Running
 pub mod Telling
 pub mod Existing
+pub mod Whole
