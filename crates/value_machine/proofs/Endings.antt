@@ -1,6 +1,7 @@
 -- The end of `main`, with the status that the script has, and how whole runs show: what the machine comes to is what the script's run is.
-use Rattle.std.proofs.Common.{◌≡◌, ℕ, zero, suc, ◌+◌, ◌-◌, ◌*◌, ◌^◌, ◌≤◌, true, [], length, Some, None, Option, ℤ, pos, negsuc, unsigned_abs, w64, refl, ap, ◌∙◌, arith}
+use Rattle.std.proofs.Common.{◌≡◌, ℕ, zero, suc, ◌+◌, ◌-◌, ◌*◌, ◌^◌, ◌<◌, ◌≤◌, cond, true, [], length, Some, None, Option, ℤ, pos, negsuc, unsigned_abs, w64, refl, ap, ◌∙◌, arith}
 use Rattle.std.specs.Prelude.{◌%◌, ◌&&◌}
+use Rattle.std.proofs.lemmas.Bool.{lt-ltb}
 use Rattle.std.specs.Int.{cast_unsigned, int_rem_euclid}
 use Rattle.awk_values.specs.declared.fault.Fault.{Fault}
 use Rattle.awk_values.specs.declared.value.Value.{Value}
@@ -92,7 +93,10 @@ module _ (p : Program) (deepest : ℕ) (b : Bases) where
 
   -- how it shows then
   pub shows_ended : (way : ℕ) (σ : State) → ending_at (Over (Bits (I32 (number_word σ.status % 2 ^ 32))) (store_with p.ranges (kinds_of p.globals) way None σ)) ≡ Some (Ended (unsigned_abs (int_rem_euclid σ.status.number (pos 256))) σ.shared.output)
-  shows_ended way σ = ap (λ s. Some (Ended s σ.shared.output)) (status_low σ.status)
+  shows_ended way σ =
+      let w : ℕ = number_word σ.status in
+      let small : w % 2 ^ 32 < 2 ^ 32 = omega arith in
+      ap (λ q. cond q (Some (Ended ((w % 2 ^ 32) % 256) σ.shared.output)) None) (lt-ltb (w % 2 ^ 32) (2 ^ 32) small) ∙ ap (λ s. Some (Ended s σ.shared.output)) (status_low σ.status)
 
 -- Whole runs: where the machine comes to what shows as the script's ending, with bounded work, the emitted code follows the program.
 

@@ -285,8 +285,9 @@ go u (suc n) c = go u n (step u c)
 
 -- How a run shows after some steps; none where the machine is stuck.
 
+-- the low bits of a word
 abbrev pub status_of : Cell → Store → Option Ending
-status_of (Bits (I32 n)) G = Some (Ended (n % 256) G.host.shared.output)
+status_of (Bits (I32 n)) G = cond (nat_lt n (2 ^ 32)) (Some (Ended (n % 256) G.host.shared.output)) None
 status_of _ G = None
 
 abbrev pub over_by : Cell → Store → Option Ending

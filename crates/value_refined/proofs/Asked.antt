@@ -1,35 +1,31 @@
 -- The step that asks the host, whichever import it is.
-use Rattle.std.proofs.Common.{◌≡◌, inl, inr, ℕ, ◌+◌, Bool, true, false, nat_lt, List, ◌∷◌, length, take, drop, reverse, Option, Some, None, refl, sym, ap, subst, arith, if◌then◌else◌}
+use Rattle.std.proofs.Common.{◌≡◌, ℕ, ◌+◌, Bool, true, false, nat_lt, List, length, take, drop, reverse, Some, refl, subst, arith, if◌then◌else◌}
 use Rattle.awk_state.specs.declared.sorts.Sort.{Sort}
 use Rattle.world_core.specs.WorldState.{Action}
 use Rattle.wasm_types.specs.Syntax.{Instructions}
-use Rattle.wasm_store.specs.Memories.{MemoryForm}
 use Rattle.wasm_store.specs.declared.word.Word.{Word}
-use Rattle.wasm_store.specs.declared.trap.TrapKind.{TrapKind}
 use Rattle.wasm_machine.specs.Machines.{Asks, Ends, Turn, answered, asked, with_operands}
 use Rattle.wasm_machine.specs.Machines as real
-use Rattle.wasm_machine.specs.Runs.{told_end}
 use Rattle.wasm_machine.specs.declared.host.HostAnswer.{HostAnswer}
-use Rattle.wasm_machine.specs.declared.host.HostAnswer.TheVariants as told
 use Rattle.wasm_machine.specs.declared.state.End.TheVariants as ends
 use Rattle.mid_program.specs.Mid.{Kind}
 use Rattle.host_step.specs.HostState.{HostState}
 use Rattle.host_step.specs.HostStep.{HostStep}
 use Rattle.value_machine.specs.Cells.{Cell}
-use Rattle.value_machine.specs.ImportCalls.{Host, call}
+use Rattle.value_machine.specs.ImportCalls.{call}
 use Rattle.value_machine.specs.Imports.{import_at, import_type}
-use Rattle.value_machine.specs.Machine.{Code, Frame, Label, Store, Stuck, all_live, ask, guarded, width, with_answer}
+use Rattle.value_machine.specs.Machine.{Code, Frame, Label, Store, all_live, ask, guarded, width, with_answer}
 use Rattle.value_machine.specs.declared.import.Import.{Import}
 use Rattle.value_refined.specs.Growing.{ArraysGrow}
 use Rattle.value_refined.specs.Owners.{owners, waiting, wanted}
-use Rattle.value_refined.specs.Refined.{As, NextAs, RunAs}
+use Rattle.value_refined.specs.Refined.{NextAs, RunAs}
 use Rattle.value_refined.specs.Words.{arrays_made, state_with}
-use Rattle.value_refined.proofs.Asking.{all_live_as, rest_after}
+use Rattle.value_refined.proofs.Answered.{comes_as}
+use Rattle.value_refined.proofs.Asking.{all_live_as}
 use Rattle.value_refined.proofs.Calling.{Outcome}
-use Rattle.value_refined.proofs.Carrying.{words_carried}
+use Rattle.value_refined.proofs.Going.{stuck_as, untyped_as}
 use Rattle.value_refined.proofs.Moving.{owners_reverse, owners_split, words_drop, words_reverse, words_take}
 use Rattle.value_refined.proofs.Numbering.{called_as}
-use Rattle.value_refined.proofs.Settling.{at_as}
 
 module _ (used : ℕ → Bool) (bs : List Bool) (u : Code) (grow : ArraysGrow) (ks : List Kind) (vs : List Cell) (K : List Label) (L : List Cell) (F : List Frame) (k : Instructions) (G : Store) (c : real.Conf) (s : HostState)
     (run : RunAs used bs u vs K L F k G c.frame.values c.frame.code c s) (n : ℕ) (i : Import) (at-n : import_at n ≡ Some i) where
@@ -48,9 +44,6 @@ module _ (used : ℕ → Bool) (bs : List Bool) (u : Code) (grow : ArraysGrow) (
   abbrev args : List Word
   args = reverse (take w c.frame.values)
 
-  abbrev after : real.Conf
-  after = with_operands c (drop w c.frame.values)
-
   once_of : (t : Sort) (q : ℕ) → owners t q cells args + others t q ≡ wanted s.names t q
   once_of t q =
       let a = owners_reverse (arrays_made G.host) s.names t q (take w vs) (take w c.frame.values) (words_take (arrays_made G.host) s.names w vs c.frame.values run.operands) in
@@ -66,38 +59,14 @@ module _ (used : ℕ → Bool) (bs : List Bool) (u : Code) (grow : ArraysGrow) (
       (all_live_as used bs u K L F G c s run.rest cells l) once_of v s1 out
       (subst (λ (b : List ℕ). HostStep n (state_with s.names G.host) args b v s1 out) run.rest.memory (subst (λ (z : HostState). HostStep n z args c.memory.bytes v s1 out) run.rest.host h))
 
-  answer_as : (o : Option (Option Cell × Host)) (x : Option Word) (s1 : HostState) (m1 : MemoryForm) → m1 ≡ c.memory → Outcome s.names G.host others o (told.Done x) s1 → As used bs u (with_answer o ks (drop w vs) K L F k G) (answered (record after { memory = m1 }) x) s1
-  answer_as None x s1 m1 me h = tt
-  answer_as (Some (None, h1)) None s1 m1 me h =
-      at_as used bs u ks K L F (record G { host = h1 }) (record after { memory = m1 }) s1
-      (rest_after used bs u K L F G c s run.rest others (λ t q. omega arith) (None, h1) None s1 (drop w c.frame.values) m1 me h) k (drop w vs)
-      (words_carried (arrays_made G.host) (arrays_made h1) s.names s1.names others h.told.carried (drop w vs) (drop w c.frame.values) (λ t q. omega arith) (words_drop (arrays_made G.host) s.names w vs c.frame.values run.operands))
-      run.code-is (λ t q. (let z = h.told.once t q in omega arith))
-  answer_as (Some (Some d, h1)) (Some x) s1 m1 me h =
-      at_as used bs u ks K L F (record G { host = h1 }) (answered (record after { memory = m1 }) (Some x)) s1
-      (rest_after used bs u K L F G c s run.rest others (λ t q. omega arith) (Some d, h1) (Some x) s1 (x ∷ drop w c.frame.values) m1 me h) k (d ∷ drop w vs)
-      (h.told.word, words_carried (arrays_made G.host) (arrays_made h1) s.names s1.names others h.told.carried (drop w vs) (drop w c.frame.values) (λ t q. omega arith) (words_drop (arrays_made G.host) s.names w vs c.frame.values run.operands))
-      run.code-is (λ t q. (let z = h.told.once t q in omega arith))
-  answer_as (Some (None, h1)) (Some x) s1 m1 me h = absurd h.told.word
-  answer_as (Some (Some d, h1)) None s1 m1 me h = absurd h.told.word
-
-  trap_as : (o : Option (Option Cell × Host)) (kind : TrapKind) (s1 : HostState) → Outcome s.names G.host others o (told.Trap kind) s1 → with_answer o ks (drop w vs) K L F k G ≡ Stuck
-  trap_as None kind s1 h = refl
-  trap_as (Some r) kind s1 h = absurd h
-
   -- THE STEP: whatever the host answers, and whatever number it gives out, the two machines are at the same place
   pub asked_as : NextAs used bs u (ask u.memory (Some i) ks vs K L F k G) c s (asked n (import_type i) c)
   asked_as = within (nat_lt (length c.frame.values) (length (import_type i).params))
     where
-      asks : (b : Bool) → all_live L F G.globals cells ≡ b → NextAs used bs u (guarded b (with_answer (call u.memory i cells G.host) ks (drop w vs) K L F k G)) c s (Asks n args after)
-      asks false l = record { taken = λ c1 s1 out t. tt; over = λ e s1 out t. inr (inl refl) }
-      asks true l = record {
-        taken = λ c1 s1 out t.
-            subst (λ (z : real.Conf). As used bs u (with_answer (call u.memory i cells G.host) ks (drop w vs) K L F k G) z s1) (sym t.2)
-            (answer_as (call u.memory i cells G.host) t.0 s1 c1.memory t.1.0 (comes_to l (told.Done t.0) s1 out t.1.1));
-        over = λ e s1 out t. inr (inl (trap_as (call u.memory i cells G.host) t.0 s1 (comes_to l (told.Trap t.0) s1 out t.3.1)));
-      }
+      asks : (b : Bool) → all_live L F G.globals cells ≡ b → NextAs used bs u (guarded b (with_answer (call u.memory i cells G.host) ks (drop w vs) K L F k G)) c s (Asks n args (with_operands c (drop w c.frame.values)))
+      asks false l = stuck_as c s (Asks n args (with_operands c (drop w c.frame.values)))
+      asks true l = comes_as ks run.rest run.code-is (drop w vs) (drop w c.frame.values) (words_drop (arrays_made G.host) s.names w vs c.frame.values run.operands) n args (call u.memory i cells G.host) (comes_to l)
 
-      within : (b : Bool) → NextAs used bs u (ask u.memory (Some i) ks vs K L F k G) c s (if b then Ends ends.Stuck else Asks n args after)
-      within true = record { taken = λ c1 s1 out t. absurd t; over = λ e s1 out t. inl (ap told_end t.0) }
+      within : (b : Bool) → NextAs used bs u (ask u.memory (Some i) ks vs K L F k G) c s (if b then Ends ends.Stuck else Asks n args (with_operands c (drop w c.frame.values)))
+      within true = untyped_as c s (ask u.memory (Some i) ks vs K L F k G)
       within false = asks (all_live L F G.globals cells) refl

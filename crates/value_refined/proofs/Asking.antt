@@ -20,7 +20,7 @@ use Rattle.value_refined.proofs.Carrying.{frames_carried, labels_carried, words_
 use Rattle.value_refined.proofs.Decoding.{AllLive, LiveIn}
 use Rattle.value_refined.proofs.Moving.{owner_found}
 
-both : (a b : Bool) → a && b ≡ true → (a ≡ true) × (b ≡ true)
+pub both : (a b : Bool) → a && b ≡ true → (a ≡ true) × (b ≡ true)
 both true b e = (refl, e)
 both false b e = absurd (true≢false (sym e))
 

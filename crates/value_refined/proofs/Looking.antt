@@ -32,7 +32,7 @@ use Rattle.value_refined.proofs.Carrying.{carried_same}
 use Rattle.value_refined.proofs.Decoding.{small_signed}
 use Rattle.value_refined.proofs.Calling.{Outcome, RowOk, Spent, acted_as, fit_same, primitive_same, to_host}
 
-looking : (p : Primitive) → ((p ≡ row.Dup) ⊎ (p ≡ row.IterNext)) ⊎ ((c : Cell) → looked_at (Of p) c ≡ None)
+pub looking : (p : Primitive) → ((p ≡ row.Dup) ⊎ (p ≡ row.IterNext)) ⊎ ((c : Cell) → looked_at (Of p) c ≡ None)
 looking row.Num = inr (λ c. refl)
 looking row.Lit = inr (λ c. refl)
 looking row.Uninit = inr (λ c. refl)

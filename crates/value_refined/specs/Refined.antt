@@ -122,7 +122,7 @@ module _ (used : ℕ → Bool) (bs : List Bool) where
     -- How the real machine may end in one step by which the machine over values comes to p: so that nothing is told, as no typed module does; anyhow, where p is stuck; or because a
     -- call is too deep.
     abbrev pub EndAs : Conf → End → HostState → HostState → List Action → Type 0
-    EndAs p e before after output = (told_end e ≡ None) ⊎ ((p ≡ Stuck) ⊎ ((G : Store) × (p ≡ Deep G) × (e ≡ ends.Exhausted) × (after ≡ before) × (output ≡ [])))
+    EndAs p e before after output = (told_end e ≡ None) ⊎ ((p ≡ Stuck) ⊎ ((G : Store) × (p ≡ Deep G) × (e ≡ ends.Exhausted) × (before ≡ state_with before.names G.host) × (after ≡ before) × (output ≡ [])))
 
     -- What a step leads to, where the machine over values comes to p by its own.
     pub record NextAs (p : Conf) (c : real.Conf) (s : HostState) (t : Turn) : Type 0 where

@@ -1,0 +1,2 @@
+pub mod ValueAgreement
+pub mod Agreement
