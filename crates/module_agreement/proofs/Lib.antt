@@ -1,3 +1,4 @@
 pub mod Growing
 pub mod Agreeing
 pub mod Modules
+pub mod Exchanged
