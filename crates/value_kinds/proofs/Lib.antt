@@ -1,3 +1,5 @@
 mod Applies
 mod Views
 mod Finds
+mod Closed
+mod Walked
