@@ -7,7 +7,7 @@ use Rattle.value_kinds.specs.Found.{GlobalNumber, ParameterNumber, Every, InRout
 use Rattle.value_kinds.specs.Lanes.{Lanes, opened, close_at, close_in, is_plain, unless, marked, all_marked, routines_marked, at_first, function_count, infer}
 use Rattle.value_kinds.specs.Stores.{Store, Into, Given, steps_stores}
 
-clash : false ≡ true → ⊥
+pub clash : false ≡ true → ⊥
 clash e = cc
 
 -- at first
