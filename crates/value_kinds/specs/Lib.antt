@@ -1,4 +1,3 @@
-pub mod Stores
 pub mod Lanes
 pub mod Applied
 pub mod Walks

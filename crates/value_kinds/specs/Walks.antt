@@ -2,7 +2,7 @@
 use Rattle.std.specs.Prelude.{ℕ, List, ◌∷◌, drop, length, map}
 use Rattle.mid_program.specs.Mid.{Code, Codes, Form, Step, Steps, form_of, Kind, Routine}
 use Rattle.value_kinds.specs.Lanes.{Lanes, all_marked, routines_marked}
-use Rattle.value_kinds.specs.Stores.{Store, step_stores, steps_stores, stores, stores_given, stores_in}
+use Rattle.mid_rewriting.specs.Stores.{Store, step_stores, steps_stores, stores, stores_given, stores_in}
 
 pub record Walk : Type 0 where
   pub lanes : Lanes

@@ -5,7 +5,7 @@ use Rattle.mid_program.specs.Mid.{a_value, form_of}
 use Rattle.mid_program.specs.ViewCode.{view, view_slot, views}
 use Rattle.mid_program.specs.declared.code.Code.{Code}
 use Rattle.mid_program.specs.declared.code.Operand.{Operand}
-use Rattle.value_kinds.specs.Stores.{stores, stores_in}
+use Rattle.mid_rewriting.specs.Stores.{stores, stores_in}
 use Rattle.value_kinds.specs.View.{view_form, view_walk}
 use Rattle.value_kinds.specs.Walks.{walked, walked_given, walked_in, walked_under}
 use Rattle.value_kinds.proofs.Views.{view_call, view_do, view_over, view_replace}

@@ -3,7 +3,7 @@ use Rattle.std.proofs.lemmas.Result.{on_ok_weaker}
 use Rattle.mid_program.specs.Mid.{a_value}
 use Rattle.mid_program.specs.ViewCode.{view, view_step, view_steps}
 use Rattle.mid_program.specs.declared.step.Step.{Step}
-use Rattle.value_kinds.specs.Stores.{step_stores, stores}
+use Rattle.mid_rewriting.specs.Stores.{step_stores, stores}
 use Rattle.value_kinds.specs.View.{view_walk}
 use Rattle.value_kinds.specs.Walks.{walked_step, walked_steps}
 use Rattle.value_kinds.proofs.Views.{view_block}
