@@ -1,6 +1,7 @@
 -- Folded code is well sorted where the code was.
-use Rattle.std.proofs.Common.{◌≡◌, ℕ, ◌^◌, Bool, true, false, T, ◌&&◌, nat_le, unsigned_abs, List, [], ◌∷◌, ◌++◌, map, Option, Some, None, refl, sym, ap, ◌∙◌, subst}
+use Rattle.std.proofs.Common.{◌≡◌, ℕ, ◌^◌, Bool, true, false, ◌&&◌, nat_le, unsigned_abs, List, [], ◌∷◌, ◌++◌, map, Option, Some, None, refl, sym, ap, ◌∙◌, subst}
 use Rattle.std.proofs.lemmas.Bool.{and_parts, and_from}
+use Rattle.std.proofs.lemmas.Float.{T_from_true}
 use Rattle.awk_state.specs.Numbers.{Number as AnyNumber}
 use Rattle.awk_state.specs.declared.table.Primitive.TheVariants.{Pow}
 use Rattle.mid_program.specs.declared.mid.Operation.{Operation}
@@ -8,18 +9,10 @@ use Rattle.mid_program.specs.declared.mid.Operation.TheVariants.{Host, Inline, A
 use Rattle.mid_program.specs.Mid.{Kind, Code, Do, Codes, End, At, Steps, Declared, Routine, Program, Form, Answered, a_number, answer_by, form_of}
 use Rattle.mid_program.specs.Sorted.{Context, Held, held_after, held_after_all, sorted, all_sorted, steps_sorted, context_of, routines_sorted, announced_names, all_differ, parts_sorted, is_sorted, IsSorted}
 use Rattle.mid_rewriting.specs.Stores.{Store, Every, steps_stores}
-use Rattle.mid_rewriting.proofs.Sorted.{Keeps, Stays, steps_rewritten}
+use Rattle.mid_rewriting.proofs.Sorted.{Keeps, Stays, from_T, steps_rewritten}
 use Rattle.folding.specs.Folding.{constant, of_one, of_two, value_of, reduced_to, reduced, same, folded_steps, folded_routine, fold}
 use Rattle.folding.proofs.Constants.{constant_is}
 use Rattle.folding.proofs.Folds.{calls_kept}
-
-from_T : (b : Bool) → T b → b ≡ true
-from_T true t = refl
-from_T false t = absurd t
-
-to_T : (b : Bool) → b ≡ true → T b
-to_T true h = tt
-to_T false h = absurd cc
 
 -- an operation on constants
 
@@ -107,5 +100,5 @@ module _ (p : Program) where
       let m = and_parts (steps_sorted (context_of p []) false false p.begin) (steps_sorted (context_of p []) false false p.items && steps_sorted (context_of p []) false false p.end) b.1 in
       let n = and_parts (steps_sorted (context_of p []) false false p.items) (steps_sorted (context_of p []) false false p.end) m.1 in
       let announced : announced_names (fold p) ≡ announced_names p = ap (λ (ns : List (List ℕ)). map (λ (d : Declared). d.name) p.globals ++ ns) (names_same p.routines) in
-      to_T (is_sorted (fold p)) (and_from _ _ (ap all_differ announced ∙ a.0)
+      T_from_true (is_sorted (fold p)) (and_from _ _ (ap all_differ announced ∙ a.0)
       (and_from _ _ (bodies_kept p.routines b.0) (and_from _ _ (body_kept [] false p.begin m.0) (and_from _ _ (body_kept [] false p.items n.0) (body_kept [] false p.end n.1)))))

@@ -1,5 +1,5 @@
 -- Code whose names and operations are written anew is well sorted where the code was.
-use Rattle.std.proofs.Common.{◌≡◌, ℕ, zero, suc, Bool, true, false, ◌&&◌, nat_le, nat_lt, List, [], ◌∷◌, ◌++◌, length, map, refl, sym, ap, ◌∙◌}
+use Rattle.std.proofs.Common.{◌≡◌, ℕ, zero, suc, Bool, true, false, T, ◌&&◌, nat_le, nat_lt, List, [], ◌∷◌, ◌++◌, length, map, refl, sym, ap, ◌∙◌}
 use Rattle.std.proofs.lemmas.Bool.{and_parts, and_from}
 use Rattle.std.proofs.lemmas.List.{length-map}
 use Rattle.awk_state.specs.declared.sorts.Sort.{Sort}
@@ -14,6 +14,10 @@ use Rattle.mid_program.specs.Sorted.{Context, fits, is_number, is_tested, is_dro
 use Rattle.mid_rewriting.specs.Alike.{erased}
 use Rattle.mid_rewriting.specs.Rewriting.{code_in, codes_in, step_in, steps_in}
 use Rattle.mid_rewriting.specs.Stores.{Store, Into, Given, Every, stores, stores_in, stores_given, step_stores, steps_stores}
+
+pub from_T : (b : Bool) → T b → b ≡ true
+from_T true t = refl
+from_T false t = absurd t
 
 -- forms that are the same but for lanes
 

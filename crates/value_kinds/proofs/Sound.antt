@@ -1,8 +1,10 @@
 -- The lanes that are found box each name into which something else than a number is stored, and leave a program well sorted.
-use Rattle.std.proofs.Common.{◌≡◌, ℕ, zero, suc, ◌+◌, Bool, true, false, T, ◌&&◌, List, [], ◌∷◌, ◌++◌, map, refl, sym, ap, ◌∙◌, subst, arith, if◌then◌else◌}
+use Rattle.std.proofs.Common.{◌≡◌, ℕ, zero, suc, ◌+◌, Bool, true, false, ◌&&◌, List, [], ◌∷◌, ◌++◌, map, refl, sym, ap, ◌∙◌, subst, arith, if◌then◌else◌}
 use Rattle.std.proofs.lemmas.Bool.{and_parts, and_from}
+use Rattle.std.proofs.lemmas.Float.{T_from_true}
 use Rattle.mid_program.specs.Mid.{Kind, Boxed, Unboxed, Many, Global, Parameter, Steps, Declared, Routine, Program, parameters_at}
 use Rattle.mid_program.specs.Sorted.{Context, is_number, kinds_of, arrays_among, context_of, steps_sorted, routines_sorted, announced_names, all_differ, parts_sorted, is_sorted, IsSorted}
+use Rattle.mid_rewriting.proofs.Sorted.{from_T}
 use Rattle.value_kinds.specs.Applied.{is_unboxed, kind_with, kinds_with, globals_with, steps_with, routines_with, apply}
 use Rattle.value_kinds.specs.Found.{InRoutines, Throughout}
 use Rattle.value_kinds.specs.Lanes.{Lanes, closed, close_at, close_in, is_plain, unless, marked, all_marked, routines_marked, at_first, function_count, infer}
@@ -185,13 +187,5 @@ module _ (l : Lanes) (p : Program) where
       (and_from _ _ (bodies_kept 0 (parameters_at l.parameters) (λ f. ap (parameters_at l.parameters) (omega arith)) p.routines b.0 v.0)
       (and_from _ _ (main p.begin c.0 v.1.0) (and_from _ _ (main p.items d.0 v.1.1.0) (main p.end d.1 v.1.1.1))))
 
-true_by : (b : Bool) → T b → b ≡ true
-true_by true h = refl
-true_by false h = absurd h
-
-by_true : (b : Bool) → b ≡ true → T b
-by_true true h = tt
-by_true false h = absurd (clash h)
-
 pub found_sorted : (p : Program) → IsSorted p → IsSorted (apply (infer p) p)
-found_sorted p h = by_true (is_sorted (apply (infer p) p)) (apply_sorted (infer p) p (infer_fine p) (true_by (is_sorted p) h))
+found_sorted p h = T_from_true (is_sorted (apply (infer p) p)) (apply_sorted (infer p) p (infer_fine p) (from_T (is_sorted p) h))
