@@ -74,8 +74,8 @@ fn mark_routines(alloc: Global, walk: &mut Walk, routines: &[Routine]) -> Result
     Ok(())
 }
 
-/// Which names of a script's code are unboxed: each scalar, unless something else than a number is stored into it, or something else than a number or nothing is
-/// given for it as an argument. It takes time linear in the code.
+/// Which names of a script's code are unboxed: each scalar, unless something else than a number is stored into it, or something else than a number or
+/// nothing is given for it as an argument. It takes time linear in the code.
 ///
 /// # Errors
 ///
