@@ -2,4 +2,5 @@ mod Constants
 mod Reduced
 mod Folds
 mod Left
+mod Sorted
 mod Views

@@ -37,6 +37,7 @@ pub fn fold(mid: Mid) -> Result<Mid, (Mid, AllocError)>
     ensures code { IfOk result (λ new. view_mid new ≡ fold (view_mid mid)) }
     ensures same_meaning { IfOk result (λ new. SameRuns (view_mid new) (view_mid mid)) }
     ensures none_left { IfOk result (λ new. NoneLeft (view_mid new)) }
+    ensures sorted { IfOk result (λ new. IsSorted (view_mid mid) → IsSorted (view_mid new)) }
 {
     let mut mid = mid;
     fold_routines(&mut mid.routines);

@@ -2,3 +2,4 @@ pub mod Outcomes
 pub mod Seen
 pub mod Congruence
 pub mod Runs
+pub mod Sorted

@@ -1,4 +1,5 @@
 pub mod Rewriting
+pub mod Stores
 pub mod SameRuns
 pub mod Alike
 pub mod Rewritten

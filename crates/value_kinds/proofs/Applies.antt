@@ -32,7 +32,7 @@ same_places gs ps = record { reads = reads_alike gs ps; stores = λ x v. stores_
     stores_alike (Global u i) v = refl
     stores_alike (Parameter u i) v = refl
 
-same_many : (u : Bool) (k : Kind) → is_many k ≡ is_many (kind_with u k)
+pub same_many : (u : Bool) (k : Kind) → is_many k ≡ is_many (kind_with u k)
 same_many u Many = refl
 same_many true Boxed = refl
 same_many false Boxed = refl

@@ -3,11 +3,11 @@ use Rattle.std.proofs.Common.{◌≡◌, ℕ, zero, suc, Bool, true, false, List
 use Rattle.mid_program.specs.Mid.{Kind, Boxed, Unboxed, Many, Global, Parameter, Routine, Program, parameters_at}
 use Rattle.mid_program.specs.Sorted.{is_number, kinds_of, calls_of}
 use Rattle.value_kinds.specs.Applied.{is_unboxed}
-use Rattle.value_kinds.specs.Found.{GlobalNumber, ParameterNumber, Every, InRoutines, is_scalar, FindsNumbers}
+use Rattle.value_kinds.specs.Found.{GlobalNumber, ParameterNumber, InRoutines, is_scalar, FindsNumbers}
 use Rattle.value_kinds.specs.Lanes.{Lanes, opened, close_at, close_in, is_plain, unless, marked, all_marked, routines_marked, at_first, function_count, infer}
-use Rattle.value_kinds.specs.Stores.{Store, Into, Given, steps_stores}
+use Rattle.mid_rewriting.specs.Stores.{Store, Into, Given, Every, steps_stores}
 
-clash : false ≡ true → ⊥
+pub clash : false ≡ true → ⊥
 clash e = cc
 
 -- at first

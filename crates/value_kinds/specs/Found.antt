@@ -4,7 +4,7 @@ use Rattle.mid_program.specs.Mid.{Kind, Boxed, Unboxed, Many, Global, Parameter,
 use Rattle.mid_program.specs.Sorted.{is_number, kinds_of, calls_of}
 use Rattle.value_kinds.specs.Applied.{is_unboxed}
 use Rattle.value_kinds.specs.Lanes.{is_plain, function_count, infer}
-use Rattle.value_kinds.specs.Stores.{Store, Into, Given, steps_stores}
+use Rattle.mid_rewriting.specs.Stores.{Store, Into, Given, Every, steps_stores}
 
 -- what is stored into this global is a number
 abbrev pub GlobalNumber : ℕ → ℕ → Store → Type 0
@@ -17,10 +17,6 @@ abbrev pub ParameterNumber : (h i : ℕ) → ℕ → Store → Type 0
 ParameterNumber h i g (Into (Global u j) f) = Unit {0}
 ParameterNumber h i g (Into (Parameter u j) f) = h ≡ g → i ≡ j → is_number f ≡ true
 ParameterNumber h i g (Given k j f) = h ≡ k → i ≡ j → is_plain f ≡ true
-
-abbrev pub Every : (Store → Type 0) → List Store → Type 0
-Every P [] = Unit {0}
-Every P (s ∷ ss) = P s × Every P ss
 
 abbrev pub InRoutines : (ℕ → Store → Type 0) → ℕ → List Routine → Type 0
 InRoutines P g [] = Unit {0}

@@ -1,6 +1,6 @@
-pub mod Stores
 pub mod Lanes
 pub mod Applied
+pub mod Walks
 pub mod View
 pub mod Found
 pub mod Rows

@@ -87,3 +87,32 @@ parameter_is_unboxed = (refl, refl)
 pub copies_are_boxed : lanes_of scripts.arrays_by_reference ≡ record { globals = Unboxed ∷ Many ∷ []; parameters = (Many ∷ Boxed ∷ Many ∷ []) ∷ [] } × is_sorted (with_lanes scripts.arrays_by_reference) ≡ true
 unfolding special_arrays special_scalars sorted all_sorted step_sorted steps_sorted texts_in all_texts stmt_texts stmts_texts code_of codes_of key_code kept_code argument_codes truncated_code applied_code step_code steps_code numeral_at sign_at fraction_at exponent_at numerator denominator digits unescaped escaped octal keywords builtins left_out_words
 copies_are_boxed = (refl, refl)
+
+-- BEGIN { while (n < 10) n = n + 1; print n }
+abbrev counted_up : List Item
+counted_up = (item.Begin (stmt.And (stmt.While (tree.Bin (tree.Other (token.Compare token.Less)) (tree.Var (codes "n")) (tree.Leaf (token.Number (codes "10")))) (stmt.Simple (stmt.Eval (tree.Bin (tree.Other (token.Assign token.Set)) (tree.Var (codes "n")) (tree.Bin (tree.Add token.Plus) (tree.Var (codes "n")) (tree.Leaf (token.Number (codes "1")))))))) (stmt.And (stmt.Simple (stmt.Put stmt.Print (stmt.Listed (tree.Then (tree.Var (codes "n")) tree.NoTree)) stmt.NoTarget)) stmt.NoStmt))) ∷ []
+
+-- a test on numbers, and a sum
+pub counted_in_a_loop : lanes_of counted_up ≡ record { globals = Unboxed ∷ []; parameters = [] } × is_sorted (with_lanes counted_up) ≡ true × mid_run_in (with_lanes counted_up) (setting_of (job_with [] []) no_input empty) 20 ≡ Ended 0 (puts Standard (codes "10\n"))
+unfolding special_arrays special_scalars spend_all asked loop over_keys first_assigned records_done evaluated all_evaluated stepped all_stepped mid_called sorted all_sorted step_sorted steps_sorted texts_in all_texts stmt_texts stmts_texts code_of codes_of key_code kept_code argument_codes truncated_code applied_code step_code steps_code numeral_at sign_at fraction_at exponent_at numerator denominator digits unescaped escaped octal keywords builtins left_out_words
+counted_in_a_loop = (refl, refl, refl)
+
+-- what was never stored is the empty text, and nought
+pub never_stored : lanes_of scripts.unset_name ≡ record { globals = Unboxed ∷ []; parameters = [] } × is_sorted (with_lanes scripts.unset_name) ≡ true × mid_run_in (with_lanes scripts.unset_name) (setting_of (job_with [] []) no_input empty) 20 ≡ Ended 0 (puts Standard (codes "[] 0\n"))
+unfolding special_arrays special_scalars spend_all asked loop over_keys first_assigned records_done evaluated all_evaluated stepped all_stepped mid_called sorted all_sorted step_sorted steps_sorted texts_in all_texts stmt_texts stmts_texts code_of codes_of key_code kept_code argument_codes truncated_code applied_code step_code steps_code numeral_at sign_at fraction_at exponent_at numerator denominator digits unescaped escaped octal keywords builtins left_out_words
+never_stored = (refl, refl, refl)
+
+-- -v n=007: the text is printed as it is, and counted as its number
+pub text_then_number : lanes_of scripts.assigned_before ≡ record { globals = Unboxed ∷ []; parameters = [] } × is_sorted (with_lanes scripts.assigned_before) ≡ true × mid_run_in (with_lanes scripts.assigned_before) (setting_of (job_with [] ((codes "n", codes "007") ∷ [])) no_input empty) 20 ≡ Ended 0 (puts Standard (codes "007\n8\n"))
+unfolding special_arrays special_scalars spend_all asked loop over_keys first_assigned records_done evaluated all_evaluated stepped all_stepped mid_called sorted all_sorted step_sorted steps_sorted texts_in all_texts stmt_texts stmts_texts code_of codes_of key_code kept_code argument_codes truncated_code applied_code step_code steps_code numeral_at sign_at fraction_at exponent_at numerator denominator digits unescaped escaped octal keywords builtins left_out_words
+text_then_number = (refl, refl, refl)
+
+-- BEGIN { a = 2^53; print a * a }
+pub range_of_a_product : lanes_of scripts.product_past_range ≡ record { globals = Unboxed ∷ []; parameters = [] } × is_sorted (with_lanes scripts.product_past_range) ≡ true × mid_run_in (with_lanes scripts.product_past_range) (setting_of (job_with [] []) no_input empty) 20 ≡ FaultedBy Range []
+unfolding special_arrays special_scalars spend_all asked loop over_keys first_assigned records_done evaluated all_evaluated stepped all_stepped mid_called sorted all_sorted step_sorted steps_sorted texts_in all_texts stmt_texts stmts_texts code_of codes_of key_code kept_code argument_codes truncated_code applied_code step_code steps_code numeral_at sign_at fraction_at exponent_at numerator denominator digits unescaped escaped octal keywords builtins left_out_words
+range_of_a_product = (refl, refl, refl)
+
+-- BEGIN { n = 1; print n ++ 2; print "a" ++n; x = 1 + 2 " " 3; .. }: the steps of n are numbers, and what x is given is a text
+pub steps_are_numbers : lanes_of scripts.steps_and_powers ≡ record { globals = Unboxed ∷ Boxed ∷ []; parameters = [] } × is_sorted (with_lanes scripts.steps_and_powers) ≡ true
+unfolding special_arrays special_scalars sorted all_sorted step_sorted steps_sorted texts_in all_texts stmt_texts stmts_texts code_of codes_of key_code kept_code argument_codes truncated_code applied_code step_code steps_code numeral_at sign_at fraction_at exponent_at numerator denominator digits unescaped escaped octal keywords builtins left_out_words
+steps_are_numbers = (refl, refl)

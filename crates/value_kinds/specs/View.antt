@@ -1,17 +1,32 @@
 -- What the lanes of the code stand for.
-use Rattle.std.specs.Prelude.{map}
+use Rattle.std.specs.Prelude.{List, map, reverse}
 use Rattle.std.specs.Global.{Vec}
 use Rattle.mid_program.specs.Mid as plain
 use Rattle.mid_program.specs.View.{view_kind}
 use Rattle.mid_program.specs.declared.program.Kind.{Kind}
 use Rattle.value_kinds.specs.Applied.{slot_in}
 use Rattle.value_kinds.specs.Lanes as lanes
+use Rattle.value_kinds.specs.Walks as walks
+use Rattle.value_kinds.specs.declared.form.Form.{Form}
+use Rattle.value_kinds.specs.declared.form.Form.TheVariants as form
 use Rattle.value_kinds.specs.declared.names.Lanes.{Lanes}
 use Rattle.value_kinds.specs.declared.names.Names.{Names}
+use Rattle.value_kinds.specs.declared.walk.Walk.{Walk}
+
+abbrev pub view_kinds : Vec Kind → List plain.Kind
+view_kinds ks = map view_kind ks.items
 
 abbrev pub view_lanes : Lanes → lanes.Lanes
-view_lanes l = record { globals = map view_kind l.globals.items; parameters = map (λ (ks : Vec Kind). map view_kind ks.items) l.parameters.items }
+view_lanes l = record { globals = map view_kind l.globals.items; parameters = map view_kinds l.parameters.items }
 
 -- what becomes of the names in a piece of code
 abbrev pub slots : Names → plain.Slot → plain.Slot
 slots n = slot_in (map view_kind n.globals.now) (map view_kind n.parameters.now)
+
+abbrev pub view_form : Form → plain.Form
+view_form (form.Answered a) = plain.Answered a
+view_form form.Bare = plain.Bare
+view_form form.Perhaps = plain.Perhaps
+
+abbrev pub view_walk : Walk → walks.Walk
+view_walk w = record { lanes = view_lanes w.lanes; function = w.function; kept = reverse (map view_form w.kept.items) }

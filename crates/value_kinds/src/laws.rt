@@ -1,9 +1,10 @@
 //! Laws of lanes, each the contract of a function that does nothing.
 ghost use Rattle.mid_program.specs.Mid.{Program};
+ghost use Rattle.mid_program.specs.Sorted.{IsSorted};
 ghost use Rattle.mid_rewriting.specs.SameRuns.{SameRuns};
 ghost use Rattle.value_kinds.specs.Applied.{apply};
 ghost use Rattle.value_kinds.specs.Found.{FindsNumbers};
-ghost use Rattle.value_kinds.specs.Lanes.{Lanes};
+ghost use Rattle.value_kinds.specs.Lanes.{Lanes, infer};
 
 /// Whatever lanes the names of a program have, it runs as before: with the same status or fault, or still going on, and with the same output,
 /// in every setting and for every number of turns.
@@ -15,4 +16,10 @@ pub fn lanes_keep_the_meaning()
 /// operators, of steps and of comparisons are numbers, and so are number constants.
 pub fn numbers_are_unboxed()
     ensures { (p : Program) → FindsNumbers p }
+{}
+
+/// A program that is well sorted stays so with the lanes that are found: into an unboxed name numbers alone are stored, and for an unboxed parameter numbers
+/// alone, or nothing, are given.
+pub fn found_lanes_leave_sorted()
+    ensures { (p : Program) → IsSorted p → IsSorted (apply (infer p) p) }
 {}

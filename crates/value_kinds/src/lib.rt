@@ -2,10 +2,16 @@
 #![tactic(auto)]
 
 mod code;
+mod form;
+mod inference;
 pub mod laws;
+mod marks;
 mod names;
 mod program;
 mod step;
+mod step_marks;
+mod walk;
 
+pub use inference::infer;
 pub use names::Lanes;
 pub use program::apply;

@@ -60,3 +60,7 @@ abbrev mutual
   pub steps_stores : Steps → List Store
   steps_stores NoStep = []
   steps_stores (Then s ss) = step_stores s ++ steps_stores ss
+
+abbrev pub Every : (Store → Type 0) → List Store → Type 0
+Every P [] = Unit {0}
+Every P (s ∷ ss) = P s × Every P ss

@@ -1,0 +1,104 @@
+-- Folded code is well sorted where the code was.
+use Rattle.std.proofs.Common.{◌≡◌, ℕ, ◌^◌, Bool, true, false, ◌&&◌, nat_le, unsigned_abs, List, [], ◌∷◌, ◌++◌, map, Option, Some, None, refl, sym, ap, ◌∙◌, subst}
+use Rattle.std.proofs.lemmas.Bool.{and_parts, and_from}
+use Rattle.std.proofs.lemmas.Float.{T_from_true}
+use Rattle.awk_state.specs.Numbers.{Number as AnyNumber}
+use Rattle.awk_state.specs.declared.table.Primitive.TheVariants.{Pow}
+use Rattle.mid_program.specs.declared.mid.Operation.{Operation}
+use Rattle.mid_program.specs.declared.mid.Operation.TheVariants.{Host, Inline, AsNumber, FieldNumber}
+use Rattle.mid_program.specs.Mid.{Kind, Code, Do, Codes, End, At, Steps, Declared, Routine, Program, Form, Answered, a_number, answer_by, form_of}
+use Rattle.mid_program.specs.Sorted.{Context, Held, held_after, held_after_all, sorted, all_sorted, steps_sorted, context_of, routines_sorted, announced_names, all_differ, parts_sorted, is_sorted, IsSorted}
+use Rattle.mid_rewriting.specs.Stores.{Store, Every, steps_stores}
+use Rattle.mid_rewriting.proofs.Sorted.{Keeps, Stays, from_T, steps_rewritten}
+use Rattle.folding.specs.Folding.{constant, of_one, of_two, value_of, reduced_to, reduced, same, folded_steps, folded_routine, fold}
+use Rattle.folding.proofs.Constants.{constant_is}
+use Rattle.folding.proofs.Folds.{calls_kept}
+
+-- an operation on constants
+
+-- it answers a number, and moves nothing that is kept
+record Constants (o : Operation) (es : Codes) : Type 0 where
+  answers : Answered (answer_by o) ≡ a_number
+  moves : (i : ℕ) (h : Held) → held_after_all i es h ≡ h
+
+one_constant : (o : Operation) (a : Code) (x : Option AnyNumber) (r : AnyNumber) → constant a ≡ x → of_one o x ≡ Some r → Constants o (At a End)
+one_constant AsNumber a (Some x) r e h = record { answers = refl; moves = λ i g. ap (λ (c : Code). held_after i c g) (constant_is a x e) }
+one_constant FieldNumber a (Some x) r e h = record { answers = refl; moves = λ i g. ap (λ (c : Code). held_after i c g) (constant_is a x e) }
+one_constant _ a x r e h = absurd cc
+
+two_constants : (o : Operation) (a b : Code) (x y : Option AnyNumber) (r : AnyNumber) → constant a ≡ x → constant b ≡ y → of_two o x y ≡ Some r → Constants o (At a (At b End))
+two_constants (Inline k) a b (Some x) (Some y) r e d h = record { answers = refl; moves = λ i g j. held_after i (constant_is b y d j) (held_after i (constant_is a x e j) g) }
+two_constants (Host Pow) a b (Some x) (Some y) r e d h = record { answers = refl; moves = λ i g j. held_after i (constant_is b y d j) (held_after i (constant_is a x e j) g) }
+two_constants _ a b x y r e d h = absurd cc
+
+constants_by : (o : Operation) (es : Codes) (r : AnyNumber) → value_of o es ≡ Some r → Constants o es
+constants_by o (At a End) r h = one_constant o a (constant a) r refl h
+constants_by o (At a (At b End)) r h = two_constants o a b (constant a) (constant b) r refl refl h
+constants_by o _ r h = absurd cc
+
+form_by : (fs : List Form) (o : Operation) (es : Codes) (v : Option AnyNumber) → value_of o es ≡ v → form_of fs (reduced_to v o es) ≡ Answered (answer_by o)
+form_by fs o es (Some r) h = sym (constants_by o es r h).answers
+form_by fs o es None h = refl
+
+held_by : (i : ℕ) (g : Held) (o : Operation) (es : Codes) (v : Option AnyNumber) → value_of o es ≡ v → held_after i (reduced_to v o es) g ≡ held_after_all i es g
+held_by i g o es (Some r) h = sym ((constants_by o es r h).moves i g)
+held_by i g o es None h = refl
+
+sorted_by : (c : Context) (fs : List Form) (o : Operation) (es : Codes) (v : Option AnyNumber) → sorted c fs (Do o es) ≡ true → sorted c fs (reduced_to v o es) ≡ true
+unfolding sorted all_sorted
+sorted_by c fs o es (Some r) h = from_T (nat_le (unsigned_abs r.number) (2 ^ 53)) r.in_range
+sorted_by c fs o es None h = h
+
+-- names stay, and so does what they may take
+keeps : Keeps same reduced
+keeps = record { slot_forms = λ x. refl; forms = λ fs o es. form_by fs o es (value_of o es) refl; moves = λ i h o es. held_by i h o es (value_of o es) refl }
+
+abbrev Anything : Store → Type 0
+Anything s = Unit {0}
+
+stays : (c : Context) → Stays same reduced Anything c c
+stays c = record {
+  texts = refl;
+  ranges = refl;
+  calls = refl;
+  slot = λ x h. h;
+  array = λ a h. h;
+  stored = λ x f h o. h;
+  given = λ f fs es h o. h;
+  does = λ fs o es h. sorted_by c fs o es (value_of o es) h;
+}
+
+anything : (ss : List Store) → Every Anything ss
+anything [] = tt
+anything (s ∷ ss) = (tt, anything ss)
+
+steps_kept : (c : Context) (r l : Bool) (ss : Steps) → steps_sorted c r l ss ≡ true → steps_sorted c r l (folded_steps ss) ≡ true
+steps_kept c r l ss h = steps_rewritten same reduced keeps Anything c c (stays c) r l ss h (anything (steps_stores ss))
+
+-- programs
+
+names_same : (rs : List Routine) → map (λ (r : Routine). r.name) (map folded_routine rs) ≡ map (λ (r : Routine). r.name) rs
+names_same [] = refl
+names_same (r ∷ rs) = ap (λ (ns : List (List ℕ)). r.name ∷ ns) (names_same rs)
+
+module _ (p : Program) where
+  context_kept : (ks : List Kind) → context_of p ks ≡ context_of (fold p) ks
+  context_kept ks = λ i. record (context_of p ks) { calls = sym (calls_kept p.routines) i }
+
+  body_kept : (ks : List Kind) (r : Bool) (ss : Steps) → steps_sorted (context_of p ks) r false ss ≡ true → steps_sorted (context_of (fold p) ks) r false (folded_steps ss) ≡ true
+  body_kept ks r ss h = subst (λ (c : Context). steps_sorted c r false (folded_steps ss) ≡ true) (context_kept ks) (steps_kept (context_of p ks) r false ss h)
+
+  bodies_kept : (rs : List Routine) → routines_sorted p rs ≡ true → routines_sorted (fold p) (map folded_routine rs) ≡ true
+  bodies_kept [] h = refl
+  bodies_kept (r ∷ rs) h =
+      let q = and_parts (steps_sorted (context_of p r.parameters) true false r.body) (routines_sorted p rs) h in and_from _ _ (body_kept r.parameters true r.body q.0) (bodies_kept rs q.1)
+
+  pub fold_sorted : IsSorted p → IsSorted (fold p)
+  fold_sorted t =
+      let a = and_parts (all_differ (announced_names p)) (routines_sorted p p.routines && parts_sorted p (context_of p [])) (from_T (is_sorted p) t) in
+      let b = and_parts (routines_sorted p p.routines) (parts_sorted p (context_of p [])) a.1 in
+      let m = and_parts (steps_sorted (context_of p []) false false p.begin) (steps_sorted (context_of p []) false false p.items && steps_sorted (context_of p []) false false p.end) b.1 in
+      let n = and_parts (steps_sorted (context_of p []) false false p.items) (steps_sorted (context_of p []) false false p.end) m.1 in
+      let announced : announced_names (fold p) ≡ announced_names p = ap (λ (ns : List (List ℕ)). map (λ (d : Declared). d.name) p.globals ++ ns) (names_same p.routines) in
+      T_from_true (is_sorted (fold p)) (and_from _ _ (ap all_differ announced ∙ a.0)
+      (and_from _ _ (bodies_kept p.routines b.0) (and_from _ _ (body_kept [] false p.begin m.0) (and_from _ _ (body_kept [] false p.items n.0) (body_kept [] false p.end n.1)))))

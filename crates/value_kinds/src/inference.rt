@@ -1,0 +1,96 @@
+//! Which names of a program are unboxed.
+
+ghost use Rattle.std.specs.Prelude.{◌≡◌, map, IfOk, OnOk};
+ghost use Rattle.mid_program.specs.View.{view_declared, view_kind, view_mid, view_routine};
+ghost use Rattle.value_kinds.specs.Lanes.{at_first, infer, opened};
+ghost use Rattle.mid_program.specs.Sorted.{kinds_of};
+ghost use Rattle.value_kinds.specs.View.{view_kinds, view_lanes, view_walk};
+ghost use Rattle.value_kinds.specs.Walks.{after_routines, parameters_in};
+
+use crate::names::Lanes;
+use crate::step_marks::mark_steps;
+use crate::walk::Walk;
+use mid_program::{Declared, Kind, Mid, Routine};
+use std::alloc::{AllocError, Global};
+
+fn opened(kind: Kind) -> Kind
+    ensures { view_kind result ≡ opened (view_kind kind) }
+{
+    match kind {
+        Kind::Many => Kind::Many,
+        Kind::Boxed | Kind::Unboxed => Kind::Unboxed,
+    }
+}
+
+fn open_globals(alloc: Global, globals: &[Declared]) -> Result<Vec<Kind>, AllocError>
+    ensures { IfOk result (λ kinds. map view_kind kinds.items ≡ map opened (kinds_of (map view_declared globals.now))) }
+{
+    let mut kinds = Vec::new(alloc);
+    for global in globals {
+        kinds.push(opened(global.kind))?;
+    }
+    Ok(kinds)
+}
+
+fn open_parameters(alloc: Global, parameters: &[Kind]) -> Result<Vec<Kind>, AllocError>
+    ensures { IfOk result (λ kinds. map view_kind kinds.items ≡ map opened (map view_kind parameters.now)) }
+{
+    let mut kinds = Vec::new(alloc);
+    for kind in parameters {
+        kinds.push(opened(*kind))?;
+    }
+    Ok(kinds)
+}
+
+fn open_routines(alloc: Global, routines: &[Routine]) -> Result<Vec<Vec<Kind>>, AllocError>
+    ensures { IfOk result (λ kinds. map view_kinds kinds.items ≡ map (map opened) (parameters_in (map view_routine routines.now))) }
+{
+    let mut kinds = Vec::new(alloc);
+    for routine in routines {
+        kinds.push(open_parameters(alloc, &routine.parameters)?)?;
+    }
+    Ok(kinds)
+}
+
+/// At first each scalar is unboxed.
+fn at_first(alloc: Global, mid: &Mid) -> Result<Lanes, AllocError>
+    ensures { IfOk result (λ lanes. view_lanes lanes ≡ at_first (view_mid mid.now)) }
+{
+    Ok(Lanes {
+        globals: open_globals(alloc, &mid.globals)?,
+        parameters: open_routines(alloc, &mid.routines)?,
+    })
+}
+
+/// Marks what functions store. The main parts come next, which stand in none of them.
+fn mark_routines(alloc: Global, walk: &mut Walk, routines: &[Routine]) -> Result<(), AllocError>
+    ensures { OnOk result (view_walk walk.new ≡ after_routines (view_walk walk.old) (map view_routine routines.now)) }
+{
+    for place in 0..routines.len() {
+        walk.function = place;
+        mark_steps(alloc, walk, &routines[place].body)?;
+    }
+    walk.function = routines.len();
+    Ok(())
+}
+
+/// Which names of a script's code are unboxed: each scalar, unless something else than a number is stored into it, or something else than a number or
+/// nothing is given for it as an argument. It takes time linear in the code.
+///
+/// # Errors
+///
+/// Where memory is wanting.
+pub fn infer(alloc: Global, mid: &Mid) -> Result<Lanes, AllocError>
+    ensures { IfOk result (λ lanes. view_lanes lanes ≡ infer (view_mid mid.now)) }
+{
+    let mut walk = Walk {
+        lanes: at_first(alloc, mid)?,
+        function: 0,
+        kept: Vec::new(alloc),
+    };
+    mark_routines(alloc, &mut walk, &mid.routines)?;
+    mark_steps(alloc, &mut walk, &mid.begin)?;
+    mark_steps(alloc, &mut walk, &mid.items)?;
+    mark_steps(alloc, &mut walk, &mid.end)?;
+    Ok(walk.lanes)
+}

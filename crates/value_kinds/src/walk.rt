@@ -1,0 +1,104 @@
+//! The walk over code, which marks what is stored.
+
+ghost use Rattle.std.specs.Prelude.{◌≡◌, ◌∷◌, [], map, OnOk};
+ghost use Rattle.mid_program.specs.Mid.{form_at};
+ghost use Rattle.mid_program.specs.View.{view_kind};
+ghost use Rattle.mid_program.specs.ViewCode.{view_slot};
+ghost use Rattle.value_kinds.specs.Lanes.{close_at, close_in, closed};
+ghost use Rattle.mid_rewriting.specs.Stores.{Given, Into};
+ghost use Rattle.value_kinds.specs.View.{view_form, view_kinds, view_walk};
+ghost use Rattle.value_kinds.specs.Walks.{after, kept_too, last_let_go};
+
+use crate::form::Form;
+use crate::names::Lanes;
+use awk_state::Answer;
+use mid_program::{Kind, Slot};
+use std::alloc::AllocError;
+
+/// The walk over the code of a function.
+#[derive(Drop)]
+pub(crate) struct Walk {
+    /// The lanes as they are after what was visited.
+    pub(crate) lanes: Lanes,
+    /// The function's number; the main parts have one that no function has.
+    pub(crate) function: usize,
+    /// The forms of what is kept, the last one last.
+    pub(crate) kept: Vec<Form>,
+}
+
+fn closed(kind: Kind) -> Kind
+    ensures { view_kind result ≡ closed (view_kind kind) }
+{
+    match kind {
+        Kind::Many => Kind::Many,
+        Kind::Boxed | Kind::Unboxed => Kind::Boxed,
+    }
+}
+
+/// Boxes a name, if it is a scalar.
+fn close_at(kinds: &mut Vec<Kind>, place: usize)
+    ensures { map view_kind kinds.new.items ≡ close_at (map view_kind kinds.old.items) place }
+{
+    if place < kinds.len() {
+        kinds[place] = closed(kinds[place]);
+    }
+}
+
+/// Boxes a parameter of a function, if it is a scalar.
+fn close_in(functions: &mut Vec<Vec<Kind>>, function: usize, place: usize)
+    ensures { map view_kinds functions.new.items ≡ close_in (map view_kinds functions.old.items) function place }
+{
+    if function < functions.len() {
+        close_at(&mut functions[function], place);
+    }
+}
+
+impl Walk {
+    /// The form of what was kept with so many others after it.
+    pub(crate) fn form_at(&self, place: usize) -> Form
+        ensures { view_form result ≡ form_at (view_walk self.now).kept place }
+    {
+        if place < self.kept.len() {
+            self.kept[self.kept.len() - 1 - place]
+        } else {
+            Form::Answered(Answer::Nothing)
+        }
+    }
+
+    /// Keeps what has this form.
+    pub(crate) fn keep(&mut self, form: Form) -> Result<(), AllocError>
+        ensures { OnOk result (view_walk self.new ≡ kept_too (view_form form) (view_walk self.old)) }
+    {
+        self.kept.push(form)?;
+        Ok(())
+    }
+
+    /// Keeps the last one no longer.
+    pub(crate) fn let_go(&mut self)
+        ensures { view_walk self.new ≡ last_let_go (view_walk self.old) }
+    {
+        let _last = self.kept.pop();
+    }
+
+    /// Marks what is stored into a name.
+    pub(crate) fn store(&mut self, slot: Slot, form: Form)
+        ensures { view_walk self.new ≡ after (view_walk self.old) (Into (view_slot slot) (view_form form) ∷ []) }
+    {
+        if form.is_number() {
+            return;
+        }
+        match slot {
+            Slot::Global(_, place) => close_at(&mut self.lanes.globals, place),
+            Slot::Parameter(_, place) => close_in(&mut self.lanes.parameters, self.function, place),
+        }
+    }
+
+    /// Marks what is given for a function's parameter.
+    pub(crate) fn give(&mut self, function: usize, place: usize, form: Form)
+        ensures { view_walk self.new ≡ after (view_walk self.old) (Given function place (view_form form) ∷ []) }
+    {
+        if !form.is_plain() {
+            close_in(&mut self.lanes.parameters, function, place);
+        }
+    }
+}
