@@ -1,2 +1,2 @@
-mod Views
-mod Lengths
+pub mod Views
+pub mod Lengths
