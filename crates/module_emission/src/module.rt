@@ -63,6 +63,9 @@ fn small_memory(alloc: Global, mid: &Mid) -> Result<Vec<u8>, EmitFault>
 pub fn module_for(alloc: Global, mid: &Mid, fs: &[Function]) -> Result<Module, EmitFault>
     requires { view_functions fs.now ≡ all_callees (view_mid mid.now) }
     ensures module { IfOk result (λ m. view_module m ≡ module_of (view_mid mid.now)) }
+    ensures small { IfOk result
+        (λ m. (length (memory_of (texts_of (view_mid mid.now))) ≤ most_bytes)
+        × (length (view_mid mid.now).routines ≤ most_bytes)) }
     ensures too_large { IfErr result
         (λ fault. fault ≡ EmitFault.TooLarge → IsTooLarge (view_mid mid.now)) }
 {

@@ -1,4 +1,4 @@
-use Rattle.std.proofs.Common.{◌≡◌, ◌+◌, ◌++◌, ◌∷◌, [], ℕ, List, Bool, Some, None, map, codes, length, sym, ap, ◌∙◌, rules}
+use Rattle.std.proofs.Common.{◌≡◌, ◌+◌, ◌++◌, ◌∷◌, [], ℕ, List, Bool, Some, None, map, codes, length, sym, ap, ◌∙◌, rules, ◌≤◌, subst}
 use Rattle.std.proofs.lemmas.List.{length-map}
 use Rattle.std.specs.Vec.{vec_len}
 use Rattle.mid_program.specs.View.{view_mid, view_routine}
@@ -13,6 +13,7 @@ use Rattle.value_machine.specs.Modules.{called_from, called_imports, callee_type
 use Rattle.value_machine.specs.Places.{memory_of}
 use Rattle.value_machine.specs.Small.{does}
 use Rattle.value_machine.specs.declared.import.Import.{Import}
+use Rattle.module_emission.specs.Limits.{most_bytes}
 use Rattle.module_emission.specs.View.{view_functions}
 use Rattle.module_emission.proofs.module.module_for.Goals as goal
 
@@ -58,3 +59,6 @@ returns-clause-module c =
       elems = elems i;
       data_segments = segments i;
     }
+
+pub returns-clause-small : goal.returns-clause-small
+returns-clause-small c = (subst (λ (b : List ℕ). length b ≤ most_bytes) c.in_ok-bytes.ensures.bytes c.in_ok-bytes.ensures.few, c.in_ok-bytes.ensures.functions)
