@@ -1,0 +1,14 @@
+use Rattle.std.proofs.Common.{length, map, sym}
+use Rattle.std.proofs.lemmas.List.{length-map}
+use Rattle.mid_program.specs.View.{view_kind}
+use Rattle.mid_program.specs.ViewCode.{view_steps}
+use Rattle.value_machine.specs.Places.{bases_for}
+use Rattle.code_needs.proofs.Lengths.{needs_are}
+use Rattle.code_needs.proofs.needs.routine_needs.Goals as goal
+
+pub returns : goal.returns
+returns c =
+    let kinds = c.args.kinds.now in
+    needs_are c.few.result (record { parameters = length kinds; temporaries = c.steps_room.result; iterators = c.steps_iterators.result; arrays = c.steps_arrays.result })
+    (bases_for (map view_kind kinds) (view_steps c.args.body.now)) (sym (length-map kinds view_kind)) c.if-count-gt-MOST_PARAMETERS.false
+    c.steps_room.ensures c.steps_iterators.ensures c.steps_arrays.ensures c.few.ensures

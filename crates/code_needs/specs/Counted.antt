@@ -1,0 +1,5 @@
+-- Numbers that are counted up to the largest of 32 bits.
+use Rattle.std.specs.Prelude.{ℕ, ◌-◌, ◌^◌, min}
+
+abbrev pub counted : ℕ → ℕ
+counted n = min n (2 ^ 32 - 1)

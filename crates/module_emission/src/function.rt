@@ -1,0 +1,13 @@
+//! A function whose code is emitted.
+
+use mid_program::Kind;
+use wasm_types::{Instr, ValType};
+
+/// A function whose code is emitted: the kinds of its parameters, its locals beside these, and its code, which calls imports by their numbers in
+/// the table and functions by numbers after those.
+#[derive(Drop)]
+pub struct Function {
+    pub kinds: Vec<Kind>,
+    pub locals: Vec<ValType>,
+    pub body: Vec<Instr>,
+}

@@ -1,0 +1,14 @@
+//! The module around emitted code, as it is defined.
+#![tactic(auto)]
+
+mod calls;
+mod fault;
+mod function;
+mod imports;
+mod module;
+mod parts;
+mod types;
+
+pub use fault::EmitFault;
+pub use function::Function;
+pub use module::module_for;
