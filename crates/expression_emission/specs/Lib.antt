@@ -1,0 +1,4 @@
+pub mod Fits
+pub mod Keeping
+pub mod Spans
+pub mod View
