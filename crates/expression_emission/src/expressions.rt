@@ -6,7 +6,7 @@ ghost use Rattle.value_machine.specs.Emission.{dropped, emitted, tested};
 ghost use Rattle.code_emission.specs.Emits.{Emits};
 ghost use Rattle.code_emission.specs.Forms.{view_form};
 ghost use Rattle.expression_emission.specs.Fits.{Fits};
-ghost use Rattle.expression_emission.specs.View.{texts_in, view_layout};
+ghost use Rattle.expression_emission.specs.View.{view_layout};
 
 use crate::kept::Kept;
 use crate::layout::Layout;
@@ -33,7 +33,7 @@ pub fn expression(
     code: &Code,
     at: At,
 ) -> Result<Form, AllocError>
-    requires { Fits (texts_in y.now) (view code.now) at.temporary at.arrays at.exit }
+    requires { Fits (view_layout y.now) (view code.now) at.temporary at.arrays at.exit }
     ensures form { IfOk result (λ form. view_form form ≡ form_of kept.old.forms (view code.now)) }
     ensures emits { OnOk result (Emits out.old.items out.new.items (emitted (view_layout y.now) only kept.old.forms kept.old.temporaries (view code.now) at.temporary at.arrays at.exit)) }
     ensures kept { OnOk result (kept.new ≡ kept.old) }
@@ -49,7 +49,7 @@ pub fn dropped(
     code: &Code,
     at: At,
 ) -> Result<(), AllocError>
-    requires { Fits (texts_in y.now) (view code.now) at.temporary at.arrays at.exit }
+    requires { Fits (view_layout y.now) (view code.now) at.temporary at.arrays at.exit }
     ensures emits { OnOk result (Emits out.old.items out.new.items (dropped (view_layout y.now) kept.old.forms kept.old.temporaries (view code.now) at.temporary at.arrays at.exit)) }
     ensures kept { OnOk result (kept.new ≡ kept.old) }
 {
@@ -64,7 +64,7 @@ pub fn tested(
     code: &Code,
     at: At,
 ) -> Result<(), AllocError>
-    requires { Fits (texts_in y.now) (view code.now) at.temporary at.arrays at.exit }
+    requires { Fits (view_layout y.now) (view code.now) at.temporary at.arrays at.exit }
     ensures emits { OnOk result (Emits out.old.items out.new.items (tested (view_layout y.now) kept.old.forms kept.old.temporaries (view code.now) at.temporary at.arrays at.exit)) }
     ensures kept { OnOk result (kept.new ≡ kept.old) }
 {
