@@ -1,0 +1,2 @@
+mod Keepings
+mod SpanLemmas

@@ -1,16 +1,20 @@
 //! The code of expressions, emitted as it is defined.
 #![tactic(auto)]
 
-mod expressions;
+mod at;
+mod calls;
 mod kept;
 mod layout;
+mod leaves;
+mod lists;
 mod operands;
 mod pending;
 mod places;
 mod slots;
 mod tables;
+mod walks;
 
-pub use expressions::{At, dropped, expression, tested};
+pub use at::At;
 pub use kept::Kept;
 pub use layout::Layout;
 pub use pending::{asked, pending_assigned};

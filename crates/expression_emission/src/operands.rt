@@ -8,13 +8,14 @@ ghost use Rattle.code_emission.specs.Bounds.{most_labels, most_places};
 ghost use Rattle.code_emission.specs.Emits.{Emits};
 ghost use Rattle.code_emission.specs.Forms.{view_form};
 ghost use Rattle.expression_emission.specs.Fits.{ArrayFits, ArraysFit};
-ghost use Rattle.expression_emission.specs.Parts.{converted_with, host_performed, operated};
+ghost use Rattle.expression_emission.specs.Parts.{host_performed, operated};
 ghost use Rattle.expression_emission.specs.View.{view_layout};
 
 use crate::layout::Layout;
 use crate::places::array_pushed;
+use crate::walks::all_converted;
 use awk_state::{Answer, Argument, Primitive, Sort};
-use code_emission::{Form, ask_row, calculated, converted, does, field_checked, kept, moved_out};
+use code_emission::{Form, ask_row, calculated, does, field_checked, kept, moved_out};
 use mid_program::{ArrayName, Code, Operand, Operation};
 use std::alloc::AllocError;
 use wasm_types::{Instr, Simple};
@@ -56,33 +57,6 @@ fn arguments(operation: Operation) -> &'static [Argument]
     }
 }
 
-/// Converts operands to what is wanted.
-pub(crate) fn all_converted(
-    y: &Layout<'_>,
-    out: &mut Vec<Instr>,
-    forms: &[Form],
-    wanted: &[Argument],
-    operands: &[Operand],
-    t: u32,
-    exit: u32,
-) -> Result<(), AllocError>
-    requires places { t + count_of (views operands.now) ≤ most_places }
-    requires labels { exit ≤ most_labels }
-    ensures { OnOk result (Emits out.old.items out.new.items (converted_with y.now.bases.now (map view_form forms.now) wanted.now (views operands.now) t exit)) }
-{
-    let ([first, wanted @ ..], [operand, operands @ ..]) = (wanted, operands) else {
-        return Ok(());
-    };
-    match (first, operand, forms) {
-        (Argument::Of(sort), Operand::Code(_), [form, forms @ ..]) => {
-            converted(y.alloc, y.bases, out, *form, *sort, t, exit)?;
-            all_converted(y, out, forms, wanted, operands, t + 1, exit)
-        }
-        (_, Operand::Constant(_), _) => all_converted(y, out, forms, wanted, operands, t, exit),
-        _ => Ok(()),
-    }
-}
-
 /// Puts an operand on the stack.
 fn one_pushed(
     y: &Layout<'_>,
@@ -115,7 +89,10 @@ pub(crate) fn all_pushed(
     requires arrays { ArraysFit (views operands.now) }
     ensures { OnOk result (Emits out.old.items out.new.items (all_pushed (view_layout y.now) wanted.now (views operands.now) t)) }
 {
-    let ([first, wanted @ ..], [operand, operands @ ..]) = (wanted, operands) else {
+    let Some((operand, operands)) = operands.split_first() else {
+        return Ok(());
+    };
+    let Some((first, wanted)) = wanted.split_first() else {
         return Ok(());
     };
     match operand {
@@ -193,7 +170,8 @@ pub(crate) fn operated(
     requires arrays { ArraysFit (views operands.now) }
     ensures { OnOk result (Emits out.old.items out.new.items (operated (view_layout y.now) (map view_form forms.now) operation (views operands.now) t exit)) }
 {
-    all_converted(y, out, forms, arguments(operation), operands, t, exit)?;
+    let wanted = arguments(operation);
+    all_converted(y.alloc, y.bases, out, forms, wanted, operands, t, exit)?;
     performed(y, out, operation, operands, t, exit)
 }
 

@@ -7,7 +7,7 @@ ghost use Rattle.value_machine.specs.Emission.{asked, assigned, assigned_by_numb
 ghost use Rattle.value_machine.specs.Small.{does};
 ghost use Rattle.code_emission.specs.Bounds.{most_labels, most_places};
 ghost use Rattle.code_emission.specs.Emits.{Emits};
-ghost use Rattle.expression_emission.specs.Parts.{one_asked, one_assigned};
+ghost use Rattle.expression_emission.specs.Parts.{asked_once, number_assigned, one_asked, one_assigned};
 ghost use Rattle.expression_emission.specs.View.{view_layout};
 
 use crate::layout::Layout;
@@ -15,7 +15,7 @@ use crate::places::{global_handle, global_number};
 use crate::slots::text_dropped;
 use awk_state::Primitive;
 use code_emission::{
-    TEXT_BESIDE, again, ask, ask_row, does, does_all, kept_code, moved_out, number_is, when,
+    Bases, TEXT_BESIDE, again, ask, ask_row, does, does_all, kept_code, moved_out, number_is, when,
 };
 use mid_program::Kind;
 use std::alloc::AllocError;
@@ -76,6 +76,22 @@ fn assigned_code(y: &Layout<'_>, kind: Kind, name: usize, t: u32) -> Result<Vec<
     Ok(code)
 }
 
+/// Gives a scalar the value of a temporary, where its number is the one there.
+fn number_assigned(
+    y: &Layout<'_>,
+    out: &mut Vec<Instr>,
+    kind: Kind,
+    name: usize,
+    t: u32,
+) -> Result<(), AllocError>
+    requires name { name ≤ most_places }
+    requires places { suc t ≤ most_places }
+    ensures { OnOk result (Emits out.old.items out.new.items (number_assigned (view_layout y.now) (view_kind kind) name t)) }
+{
+    number_is(out, y.bases.number(t), name as u64)?;
+    when(y.alloc, out, assigned_code(y, kind, name, t)?)
+}
+
 /// Gives a name the value of a temporary, where its number is the one there.
 fn one_assigned(
     y: &Layout<'_>,
@@ -89,10 +105,7 @@ fn one_assigned(
     ensures { OnOk result (Emits out.old.items out.new.items (one_assigned (view_layout y.now) (view_kind kind) name t)) }
 {
     match kind {
-        Kind::Boxed | Kind::Unboxed => {
-            number_is(out, y.bases.number(t), name as u64)?;
-            when(y.alloc, out, assigned_code(y, kind, name, t)?)
-        }
+        Kind::Boxed | Kind::Unboxed => number_assigned(y, out, kind, name, t),
         Kind::Many => Ok(()),
     }
 }
@@ -134,6 +147,39 @@ fn pending_code(y: &Layout<'_>, t: u32) -> Result<Vec<Instr>, AllocError>
     Ok(code)
 }
 
+/// Asks an import, and adds the test whether an assignment is pending.
+fn asked_once(
+    b: &Bases,
+    out: &mut Vec<Instr>,
+    primitive: Primitive,
+    t: u32,
+    exit: u32,
+) -> Result<(), AllocError>
+    requires places { t ≤ most_places }
+    requires labels { exit ≤ most_labels }
+    ensures { OnOk result (Emits out.old.items out.new.items (asked_once b.now primitive t exit)) }
+{
+    ask_row(out, primitive)?;
+    kept_code(b, out, true, t, exit + 1)?;
+    number_is(out, b.number(t), 2)
+}
+
+/// Adds one turn of asking.
+fn one_turn(
+    y: &Layout<'_>,
+    out: &mut Vec<Instr>,
+    primitive: Primitive,
+    t: u32,
+    exit: u32,
+) -> Result<(), AllocError>
+    requires places { suc t ≤ most_places }
+    requires labels { exit ≤ most_labels }
+    ensures { OnOk result (Emits out.old.items out.new.items (one_asked (view_layout y.now) primitive t exit)) }
+{
+    asked_once(y.bases, out, primitive, t, exit)?;
+    when(y.alloc, out, pending_code(y, t)?)
+}
+
 /// One turn of asking.
 fn one_asked(
     y: &Layout<'_>,
@@ -146,10 +192,7 @@ fn one_asked(
     ensures { IfOk result (λ v. Emits [] v.items (one_asked (view_layout y.now) primitive t exit)) }
 {
     let mut code = Vec::new(y.alloc);
-    ask_row(&mut code, primitive)?;
-    kept_code(y.bases, &mut code, true, t, exit + 1)?;
-    number_is(&mut code, y.bases.number(t), 2)?;
-    when(y.alloc, &mut code, pending_code(y, t)?)?;
+    one_turn(y, &mut code, primitive, t, exit)?;
     Ok(code)
 }
 

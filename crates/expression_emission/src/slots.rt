@@ -9,6 +9,7 @@ ghost use Rattle.code_emission.specs.Bounds.{most_places};
 ghost use Rattle.code_emission.specs.Emits.{Emits};
 ghost use Rattle.code_emission.specs.Forms.{view_form};
 ghost use Rattle.expression_emission.specs.Fits.{SlotFits};
+ghost use Rattle.expression_emission.specs.Parts.{bare_set};
 ghost use Rattle.expression_emission.specs.View.{view_layout};
 
 use crate::layout::Layout;
@@ -191,7 +192,7 @@ pub(crate) fn text_dropped(
 fn bare_set(y: &Layout<'_>, out: &mut Vec<Instr>, name: usize, t: u32) -> Result<(), AllocError>
     requires name { name ≤ most_places }
     requires places { t ≤ most_places }
-    ensures { (only : _) (form : _) → OnOk result (Emits out.old.items out.new.items (slot_set (view_layout y.now) only (GlobalSlot true name) form t)) }
+    ensures { OnOk result (Emits out.old.items out.new.items (bare_set (view_layout y.now) name t)) }
 {
     text_dropped(y, out, name, t)?;
     let all = [
