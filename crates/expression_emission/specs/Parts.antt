@@ -92,8 +92,14 @@ operated y fs o es t d k = converted_with y.bases fs (arguments o) es t d (perfo
 abbrev pub listed_with : Layout → List plain.Form → Listed → ℕ → ℕ → Instructions → Instructions
 listed_with y fs l t d k = boxed_with y.bases fs t (appended_with y.bases fs t (listed_asked y l (length fs) t d k))
 
+-- what a function is given, where its operands, of these forms, are evaluated
+abbrev pub passed_with : Layout → List plain.Form → List Kind → Codes → ℕ → ℕ → Instructions → Instructions
+passed_with y fs ks es t w k = given_with y.bases fs ks es t (pushed_with y ks es t w k)
+
+-- a function is entered, and its answer kept
+abbrev pub entered : Bases → ℕ → ℕ → ℕ → Instructions → Instructions
+entered b f t d k = does (CallOf (function_number f)) (kept_value b true t d k)
+
 -- a call whose operands, of these forms, are evaluated
 abbrev pub called_with : Layout → List plain.Form → ℕ → Codes → ℕ → ℕ → ℕ → Instructions → Instructions
-called_with y fs f es t w d k =
-    let ks = parameters_at y.calls f in
-    given_with y.bases fs ks es t (pushed_with y ks es t w (does (CallOf (function_number f)) (kept_value y.bases true t d (freed_with y.bases w (made_in es) k))))
+called_with y fs f es t w d k = passed_with y fs (parameters_at y.calls f) es t w (entered y.bases f t d (freed_with y.bases w (made_in es) k))

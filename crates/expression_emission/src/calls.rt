@@ -10,14 +10,15 @@ ghost use Rattle.code_emission.specs.Bounds.{most_places};
 ghost use Rattle.code_emission.specs.Emits.{Emits};
 ghost use Rattle.code_emission.specs.Forms.{view_form};
 ghost use Rattle.expression_emission.specs.Fits.{ArrayFits, ArraysFit};
-ghost use Rattle.expression_emission.specs.Parts.{called_with, pushed_with};
+ghost use Rattle.expression_emission.specs.Parts.{called_with, entered, passed_with, pushed_with};
 ghost use Rattle.expression_emission.specs.View.{view_layout};
 
+use crate::at::At;
 use crate::layout::Layout;
 use crate::operands::array_meant;
 use crate::places::array_pushed;
 use crate::walks::{all_freed, all_given, made_in};
-use code_emission::{Form, does, does_all, kept_value, moved_out};
+use code_emission::{Bases, Form, does, does_all, kept_value, moved_out};
 use mid_program::{Code, Kind, Operand};
 use std::alloc::AllocError;
 use wasm_types::{Instr, Simple};
@@ -85,6 +86,41 @@ fn parameters<'a>(y: &Layout<'a>, function: usize) -> &'a [Kind]
     }
 }
 
+/// Adds what a function is given, whose operands are evaluated.
+fn all_passed(
+    y: &Layout<'_>,
+    out: &mut Vec<Instr>,
+    forms: &[Form],
+    kinds: &[Kind],
+    operands: &[Operand],
+    t: u32,
+    arrays: u32,
+) -> Result<(), AllocError>
+    requires places { t + count_of (views operands.now) ≤ most_places }
+    requires made { arrays + made_in (views operands.now) ≤ most_places }
+    requires fit { ArraysFit (views operands.now) }
+    ensures { OnOk result (Emits out.old.items out.new.items (passed_with (view_layout y.now) (map view_form forms.now) (map view_kind kinds.now) (views operands.now) t arrays)) }
+{
+    all_given(y.alloc, y.bases, out, forms, kinds, operands, t)?;
+    all_pushed(y, out, kinds, operands, t, arrays)
+}
+
+/// Enters a function, and keeps what it answers.
+fn entered(
+    b: &Bases,
+    out: &mut Vec<Instr>,
+    function: usize,
+    t: u32,
+    exit: u32,
+) -> Result<(), AllocError>
+    requires function { function ≤ most_places }
+    requires places { t ≤ most_places }
+    ensures { OnOk result (Emits out.old.items out.new.items (entered b.now function t exit)) }
+{
+    does(out, Simple::Call(function as u32 + 53))?;
+    kept_value(b, out, true, t, exit)
+}
+
 /// Adds a call of a function, whose operands are evaluated.
 pub(crate) fn called(
     y: &Layout<'_>,
@@ -92,20 +128,16 @@ pub(crate) fn called(
     forms: &[Form],
     function: usize,
     operands: &[Operand],
-    t: u32,
-    arrays: u32,
-    exit: u32,
+    at: At,
 ) -> Result<(), AllocError>
     requires function { function ≤ most_places }
-    requires places { t + count_of (views operands.now) ≤ most_places }
-    requires made { arrays + made_in (views operands.now) ≤ most_places }
+    requires places { at.temporary + count_of (views operands.now) ≤ most_places }
+    requires made { at.arrays + made_in (views operands.now) ≤ most_places }
     requires fit { ArraysFit (views operands.now) }
-    ensures { OnOk result (Emits out.old.items out.new.items (called_with (view_layout y.now) (map view_form forms.now) function (views operands.now) t arrays exit)) }
+    ensures { OnOk result (Emits out.old.items out.new.items (called_with (view_layout y.now) (map view_form forms.now) function (views operands.now) at.temporary at.arrays at.exit)) }
 {
     let kinds = parameters(y, function);
-    all_given(y.alloc, y.bases, out, forms, kinds, operands, t)?;
-    all_pushed(y, out, kinds, operands, t, arrays)?;
-    does(out, Simple::Call(function as u32 + 53))?;
-    kept_value(y.bases, out, true, t, exit)?;
-    all_freed(y.bases, out, arrays, made_in(operands))
+    all_passed(y, out, forms, kinds, operands, at.temporary, at.arrays)?;
+    entered(y.bases, out, function, at.temporary, at.exit)?;
+    all_freed(y.bases, out, at.arrays, made_in(operands))
 }

@@ -60,9 +60,11 @@ pub(crate) fn all_boxed(
     requires { t + length forms.now ≤ most_places }
     ensures { OnOk result (Emits out.old.items out.new.items (boxed_with b.now (map view_form forms.now) t)) }
 {
+    let mut left = forms;
     let mut place = t;
-    for form in forms {
+    while let Some((form, rest)) = left.split_first() {
         to_value(alloc, b, out, *form, place)?;
+        left = rest;
         place += 1;
     }
     Ok(())
@@ -78,10 +80,12 @@ pub(crate) fn all_appended(
     requires { t + length forms.now ≤ most_places }
     ensures { OnOk result (Emits out.old.items out.new.items (appended_with b.now (map view_form forms.now) t)) }
 {
+    let mut left = forms;
     let mut place = t;
-    for _form in forms {
+    while let Some((_, rest)) = left.split_first() {
         moved_out(out, b.handle(place))?;
         ask(out, Import::Arg)?;
+        left = rest;
         place += 1;
     }
     Ok(())
