@@ -1,10 +1,15 @@
 -- Parts of the definitions, which are added by functions of their own.
-use Rattle.std.specs.Prelude.{ℕ, zero, suc, ◌+◌, true, List, [], ◌∷◌, length}
+use Rattle.std.specs.Prelude.{ℕ, zero, suc, ◌+◌, Bool, true, List, [], ◌∷◌, length}
+use Rattle.awk_state.specs.Constants.{flag_number}
 use Rattle.awk_state.specs.Table.{arguments_of, answer_of, can_fault}
 use Rattle.awk_state.specs.declared.sorts.Argument.{Argument}
 use Rattle.awk_state.specs.declared.sorts.Argument.TheVariants as argument
 use Rattle.awk_state.specs.declared.table.Listed.{Listed}
 use Rattle.awk_state.specs.declared.table.Primitive.{Primitive}
+use Rattle.awk_state.specs.declared.table.Primitive.TheVariants.{GetlineVarFile, Sub}
+use Rattle.awk_state.specs.declared.sorts.Answer.TheVariants as answer
+use Rattle.awk_state.specs.declared.sorts.Sort.TheVariants as sort
+use Rattle.mid_program.specs.MidMeaning.{three_values}
 use Rattle.wasm_types.specs.Syntax.{Instructions, Done}
 use Rattle.wasm_types.specs.declared.instr.Simple.TheVariants.{Br, Call as CallOf, GlobalSet, I32Const, LocalGet, LocalTee}
 use Rattle.mid_program.specs.Mid as plain
@@ -103,3 +108,15 @@ entered b f t d k = does (CallOf (function_number f)) (kept_value b true t d k)
 -- a call whose operands, of these forms, are evaluated
 abbrev pub called_with : Layout → List plain.Form → ℕ → Codes → ℕ → ℕ → ℕ → Instructions → Instructions
 called_with y fs f es t w d k = passed_with y fs (parameters_at y.calls f) es t w (entered y.bases f t d (freed_with y.bases w (made_in es) k))
+
+-- a record of a file is asked for
+abbrev pub file_asked : Bases → plain.Form → ℕ → ℕ → Instructions → Instructions
+file_asked b f t d k = to_value b f t (moved_out (h b t) (ask_row GetlineVarFile (kept_code b true t d k)))
+
+-- code that stores is run where a text was read
+abbrev pub stored_when : Bases → Instructions → ℕ → Instructions → Instructions
+stored_when b store t k = number_is (n b t) 1 (when store k)
+
+-- the host is asked for a replacement
+abbrev pub replaced_asked : Layout → Bool → Codes → ℕ → ℕ → Instructions → Instructions
+replaced_asked y every es t d k = all_pushed y three_values es t (does (I32Const (flag_number every)) (ask_row Sub (kept y.bases true (answer.Of sort.Number) t d k)))

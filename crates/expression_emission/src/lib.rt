@@ -11,6 +11,7 @@ mod operands;
 mod pending;
 mod places;
 mod slots;
+mod storing;
 mod tables;
 mod walks;
 
