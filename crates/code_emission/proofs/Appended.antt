@@ -3,11 +3,12 @@ use Rattle.std.proofs.Common.{◌≡◌, None, List, [], ◌∷◌, ◌++◌, re
 use Rattle.std.specs.declared.vec.Vec.{Vec}
 use Rattle.std.specs.declared.rc.Rc.{Rc}
 use Rattle.std.specs.declared.alloc.Global.{Global}
-use Rattle.wasm_types.specs.Syntax.{Instruction, If, Instructions, Done, Then}
-use Rattle.wasm_types.proofs.Views.{view_if}
+use Rattle.wasm_types.specs.Syntax.{Instruction, Block, Loop, If, Instructions, Done, Then}
+use Rattle.wasm_types.proofs.Views.{view_block, view_if, view_loop}
 use Rattle.wasm_types.specs.View.{view, views}
-use Rattle.wasm_types.specs.declared.instr.Instr.{Instr, If as IfInstr}
+use Rattle.wasm_types.specs.declared.instr.Instr.{Instr, Block as BlockInstr, Loop as LoopInstr, If as IfInstr}
 use Rattle.value_machine.specs.Small.{either}
+use Rattle.value_machine.specs.Statements.{again, block}
 use Rattle.code_emission.specs.Emits.{followed, Emits}
 
 pub followed_push : (is : List Instr) (i : Instr) (k : Instructions) → followed (is ++ i ∷ []) k ≡ followed is (Then (view i) k)
@@ -33,6 +34,16 @@ pub chosen : (before after : List Instr) (a b : Rc (Vec Instr Global) Global) (v
 chosen before after a b v w yes_code no_code e f added first second k =
     emits_one before after (IfInstr None a b) added k
     ∙ ap (λ (i : Instruction). followed before (Then i k)) (choice a b v w e f ∙ ap (λ (is : Instructions). If None is (views w.items)) (own_code v.items yes_code first) ∙ ap (If None (yes_code Done)) (own_code w.items no_code second))
+
+pub blocked : (before after : List Instr) (a : Rc (Vec Instr Global) Global) (v : Vec Instr Global) (code : Instructions → Instructions) → a.value ≡ v → after ≡ before ++ BlockInstr None a ∷ [] → Emits [] v.items code → Emits before after (block (code Done))
+blocked before after a v code e added emits k =
+    emits_one before after (BlockInstr None a) added k
+    ∙ ap (λ (i : Instruction). followed before (Then i k)) (view_block None a ∙ ap (λ (x : Vec Instr Global). Block None (views x.items)) e ∙ ap (Block None) (own_code v.items code emits))
+
+pub looped : (before after : List Instr) (a : Rc (Vec Instr Global) Global) (v : Vec Instr Global) (code : Instructions → Instructions) → a.value ≡ v → after ≡ before ++ LoopInstr None a ∷ [] → Emits [] v.items code → Emits before after (again (code Done))
+looped before after a v code e added emits k =
+    emits_one before after (LoopInstr None a) added k
+    ∙ ap (λ (i : Instruction). followed before (Then i k)) (view_loop None a ∙ ap (λ (x : Vec Instr Global). Loop None (views x.items)) e ∙ ap (Loop None) (own_code v.items code emits))
 
 -- code that adds nothing
 pub emits_none : (before after : List Instr) → after ≡ before → Emits before after (λ k. k)

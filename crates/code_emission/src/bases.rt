@@ -29,14 +29,14 @@ impl Model for Bases {
 
 impl Bases {
     /// The local of the function's answer.
-    pub(crate) fn answer(&self) -> u32
+    pub fn answer(&self) -> u32
         ensures { result ≡ answer_local self.now }
     {
         self.parameters
     }
 
     /// The local of a temporary's handle.
-    pub(crate) fn handle(&self, temporary: u32) -> u32
+    pub fn handle(&self, temporary: u32) -> u32
         requires { temporary ≤ most_places }
         ensures { result ≡ handle_local self.now temporary }
     {
@@ -44,7 +44,7 @@ impl Bases {
     }
 
     /// The local of a temporary's number.
-    pub(crate) fn number(&self, temporary: u32) -> u32
+    pub fn number(&self, temporary: u32) -> u32
         requires { temporary ≤ most_places }
         ensures { result ≡ number_local self.now temporary }
     {
@@ -52,7 +52,7 @@ impl Bases {
     }
 
     /// The local of an iterator.
-    pub(crate) fn iterator(&self, iterator: u32) -> u32
+    pub fn iterator(&self, iterator: u32) -> u32
         requires { iterator ≤ most_places }
         ensures { result ≡ iterator_local self.now iterator }
     {
@@ -60,7 +60,7 @@ impl Bases {
     }
 
     /// The local of an array that is made for a call.
-    pub(crate) fn array(&self, array: u32) -> u32
+    pub fn array(&self, array: u32) -> u32
         requires { array ≤ most_places }
         ensures { result ≡ array_local self.now array }
     {

@@ -17,10 +17,10 @@ use std::alloc::{AllocError, Global};
 use wasm_types::{Instr, Simple};
 
 /// In an unboxed name: that a text stands beside it.
-pub(crate) const TEXT_BESIDE: u64 = LEAST + 1;
+pub const TEXT_BESIDE: u64 = LEAST + 1;
 
 /// Boxes the number of a temporary.
-pub(crate) fn boxed_number(b: &Bases, out: &mut Vec<Instr>, t: u32) -> Result<(), AllocError>
+pub fn boxed_number(b: &Bases, out: &mut Vec<Instr>, t: u32) -> Result<(), AllocError>
     requires { t ≤ most_places }
     ensures { OnOk result (Emits out.old.items out.new.items (boxed_number b.now t)) }
 {
@@ -50,7 +50,7 @@ fn number_put(alloc: Global, b: &Bases, t: u32, put: Simple) -> Result<Vec<Instr
 }
 
 /// Puts a number, or that there is none yet, as a value.
-pub(crate) fn boxed_perhaps(
+pub fn boxed_perhaps(
     alloc: Global,
     b: &Bases,
     out: &mut Vec<Instr>,

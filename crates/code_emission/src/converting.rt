@@ -37,7 +37,7 @@ fn bare_value(alloc: Global, b: &Bases, out: &mut Vec<Instr>, t: u32) -> Result<
 }
 
 /// Makes a value of what stands in a temporary.
-pub(crate) fn to_value(
+pub fn to_value(
     alloc: Global,
     b: &Bases,
     out: &mut Vec<Instr>,

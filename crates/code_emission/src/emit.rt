@@ -2,6 +2,7 @@
 ghost use Rattle.std.specs.Prelude.{◌≡◌, [], ◌∷◌, IfOk, OnOk};
 ghost use Rattle.wasm_types.specs.Syntax.{Instructions, Done};
 ghost use Rattle.value_machine.specs.Small.{ask, ask_row, does, either, when};
+ghost use Rattle.value_machine.specs.Statements.{again, block};
 ghost use Rattle.code_emission.specs.Emits.{does_all, Emits};
 
 use crate::imports::import_number;
@@ -12,7 +13,7 @@ use value_machine::Import;
 use wasm_types::{Instr, Simple};
 
 /// Adds an instruction.
-pub(crate) fn does(out: &mut Vec<Instr>, simple: Simple) -> Result<(), AllocError>
+pub fn does(out: &mut Vec<Instr>, simple: Simple) -> Result<(), AllocError>
     ensures { OnOk result (Emits out.old.items out.new.items (does simple)) }
 {
     out.push(Instr::Plain(simple))?;
@@ -20,7 +21,7 @@ pub(crate) fn does(out: &mut Vec<Instr>, simple: Simple) -> Result<(), AllocErro
 }
 
 /// Adds instructions.
-pub(crate) fn does_all(out: &mut Vec<Instr>, all: &[Simple]) -> Result<(), AllocError>
+pub fn does_all(out: &mut Vec<Instr>, all: &[Simple]) -> Result<(), AllocError>
     ensures { OnOk result (Emits out.old.items out.new.items (does_all all.now)) }
 {
     for simple in all {
@@ -30,21 +31,21 @@ pub(crate) fn does_all(out: &mut Vec<Instr>, all: &[Simple]) -> Result<(), Alloc
 }
 
 /// Adds a call of an import.
-pub(crate) fn ask(out: &mut Vec<Instr>, import: Import) -> Result<(), AllocError>
+pub fn ask(out: &mut Vec<Instr>, import: Import) -> Result<(), AllocError>
     ensures { OnOk result (Emits out.old.items out.new.items (ask import)) }
 {
     does(out, Simple::Call(import_number(import)))
 }
 
 /// Adds a call of a primitive.
-pub(crate) fn ask_row(out: &mut Vec<Instr>, primitive: Primitive) -> Result<(), AllocError>
+pub fn ask_row(out: &mut Vec<Instr>, primitive: Primitive) -> Result<(), AllocError>
     ensures { OnOk result (Emits out.old.items out.new.items (ask_row primitive)) }
 {
     ask(out, Import::Of(primitive))
 }
 
 /// Adds what is done where the topmost operand is not 0, and what is done where it is.
-pub(crate) fn either(
+pub fn either(
     alloc: Global,
     out: &mut Vec<Instr>,
     yes: Vec<Instr>,
@@ -59,8 +60,26 @@ pub(crate) fn either(
 }
 
 /// Adds what is done where the topmost operand is not 0.
-pub(crate) fn when(alloc: Global, out: &mut Vec<Instr>, yes: Vec<Instr>) -> Result<(), AllocError>
+pub fn when(alloc: Global, out: &mut Vec<Instr>, yes: Vec<Instr>) -> Result<(), AllocError>
     ensures { (a : Instructions → Instructions) → Emits [] yes.items a → OnOk result (Emits out.old.items out.new.items (when (a Done))) }
 {
     either(alloc, out, yes, Vec::new(alloc))
+}
+
+/// Adds a block.
+pub fn block(alloc: Global, out: &mut Vec<Instr>, code: Vec<Instr>) -> Result<(), AllocError>
+    ensures { (a : Instructions → Instructions) → Emits [] code.items a → OnOk result (Emits out.old.items out.new.items (block (a Done))) }
+{
+    let code = Rc::new(alloc, code)?;
+    out.push(Instr::Block(None, code))?;
+    Ok(())
+}
+
+/// Adds a loop.
+pub fn again(alloc: Global, out: &mut Vec<Instr>, code: Vec<Instr>) -> Result<(), AllocError>
+    ensures { (a : Instructions → Instructions) → Emits [] code.items a → OnOk result (Emits out.old.items out.new.items (again (a Done))) }
+{
+    let code = Rc::new(alloc, code)?;
+    out.push(Instr::Loop(None, code))?;
+    Ok(())
 }

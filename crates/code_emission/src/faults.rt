@@ -26,7 +26,7 @@ fn failing(alloc: Global, fault: Fault, exit: u32) -> Result<Vec<Instr>, AllocEr
 }
 
 /// Keeps a fault and leaves the function, whose exit is `exit` labels further out, where the topmost operand is not 0.
-pub(crate) fn fail_if(
+pub fn fail_if(
     alloc: Global,
     out: &mut Vec<Instr>,
     fault: Fault,
@@ -39,7 +39,7 @@ pub(crate) fn fail_if(
 }
 
 /// Adds the test whether a local has this number.
-pub(crate) fn number_is(out: &mut Vec<Instr>, local: u32, number: u64) -> Result<(), AllocError>
+pub fn number_is(out: &mut Vec<Instr>, local: u32, number: u64) -> Result<(), AllocError>
     ensures { OnOk result (Emits out.old.items out.new.items (number_is local number)) }
 {
     let all = [

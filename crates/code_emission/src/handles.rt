@@ -12,10 +12,10 @@ use value_machine::Import;
 use wasm_types::{IRelOp, Instr, Simple, ValType};
 
 /// -1, which stands for a fault where an answer is a word of 32 bits, and for no handle in a local.
-pub(crate) const MINUS_ONE: u32 = u32::MAX;
+pub const MINUS_ONE: u32 = u32::MAX;
 
 /// Adds a handle's way from its local onto the stack.
-pub(crate) fn moved_out(out: &mut Vec<Instr>, local: u32) -> Result<(), AllocError>
+pub fn moved_out(out: &mut Vec<Instr>, local: u32) -> Result<(), AllocError>
     ensures { OnOk result (Emits out.old.items out.new.items (moved_out local)) }
 {
     let all = [
@@ -27,7 +27,7 @@ pub(crate) fn moved_out(out: &mut Vec<Instr>, local: u32) -> Result<(), AllocErr
 }
 
 /// Adds a handle's way from local to local.
-pub(crate) fn moved(out: &mut Vec<Instr>, from: u32, to: u32) -> Result<(), AllocError>
+pub fn moved(out: &mut Vec<Instr>, from: u32, to: u32) -> Result<(), AllocError>
     ensures { OnOk result (Emits out.old.items out.new.items (moved from to)) }
 {
     moved_out(out, from)?;
@@ -35,7 +35,7 @@ pub(crate) fn moved(out: &mut Vec<Instr>, from: u32, to: u32) -> Result<(), Allo
 }
 
 /// Empties a local.
-pub(crate) fn emptied(out: &mut Vec<Instr>, local: u32) -> Result<(), AllocError>
+pub fn emptied(out: &mut Vec<Instr>, local: u32) -> Result<(), AllocError>
     ensures { OnOk result (Emits out.old.items out.new.items (emptied local)) }
 {
     does_all(out, &[Simple::I32Const(MINUS_ONE), Simple::LocalSet(local)])
@@ -55,7 +55,7 @@ fn has_handle(out: &mut Vec<Instr>, local: u32) -> Result<(), AllocError>
 }
 
 /// What lets go of what a local has.
-fn going(alloc: Global, import: Import, local: u32) -> Result<Vec<Instr>, AllocError>
+pub fn going(alloc: Global, import: Import, local: u32) -> Result<Vec<Instr>, AllocError>
     ensures { IfOk result (λ v. Emits [] v.items (λ k. moved_out local (ask import k))) }
 {
     let mut code = Vec::new(alloc);
@@ -65,7 +65,7 @@ fn going(alloc: Global, import: Import, local: u32) -> Result<Vec<Instr>, AllocE
 }
 
 /// Lets go of what a local has, if it has anything.
-pub(crate) fn let_go(
+pub fn let_go(
     alloc: Global,
     out: &mut Vec<Instr>,
     import: Import,
@@ -78,19 +78,14 @@ pub(crate) fn let_go(
 }
 
 /// Adds a second handle for what a local has, which goes to another local and stays where it was.
-pub(crate) fn copied(out: &mut Vec<Instr>, from: u32, to: u32) -> Result<(), AllocError>
+pub fn copied(out: &mut Vec<Instr>, from: u32, to: u32) -> Result<(), AllocError>
     ensures { OnOk result (Emits out.old.items out.new.items (copied (LocalGet from) (LocalSet from) to)) }
 {
     copied_by(out, Simple::LocalGet(from), Simple::LocalSet(from), to)
 }
 
 /// The same for what `get` reads and `set` writes.
-pub(crate) fn copied_by(
-    out: &mut Vec<Instr>,
-    get: Simple,
-    set: Simple,
-    to: u32,
-) -> Result<(), AllocError>
+pub fn copied_by(out: &mut Vec<Instr>, get: Simple, set: Simple, to: u32) -> Result<(), AllocError>
     ensures { OnOk result (Emits out.old.items out.new.items (copied get set to)) }
 {
     does_all(out, &[get, Simple::LocalTee(to)])?;
@@ -108,7 +103,7 @@ fn copy_back(alloc: Global, set: Simple, to: u32) -> Result<Vec<Instr>, AllocErr
 }
 
 /// The same where there may be no handle.
-pub(crate) fn copied_if_any(
+pub fn copied_if_any(
     alloc: Global,
     out: &mut Vec<Instr>,
     get: Simple,

@@ -70,7 +70,7 @@ fn listing_number(listing: Listing) -> u32
 }
 
 /// The number of an import in the table.
-pub(crate) fn import_number(import: Import) -> u32
+pub fn import_number(import: Import) -> u32
     ensures { result ≡ import_number import }
 {
     match import {

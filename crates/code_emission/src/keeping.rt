@@ -13,10 +13,10 @@ use std::alloc::AllocError;
 use wasm_types::{CvtOp, IRelOp, Instr, Simple, ValType};
 
 /// The least number of 64 bits, which stands for a fault where an answer is a number, and in an unboxed name for none.
-pub(crate) const LEAST: u64 = 1 << 63;
+pub const LEAST: u64 = 1 << 63;
 
 /// Keeps a code, as a number.
-pub(crate) fn kept_code(
+pub fn kept_code(
     b: &Bases,
     out: &mut Vec<Instr>,
     faults: bool,
@@ -46,7 +46,7 @@ pub(crate) fn kept_code(
 }
 
 /// Keeps a value's handle.
-pub(crate) fn kept_value(
+pub fn kept_value(
     b: &Bases,
     out: &mut Vec<Instr>,
     faults: bool,
@@ -71,7 +71,7 @@ pub(crate) fn kept_value(
 }
 
 /// Keeps a number.
-pub(crate) fn kept_number(
+pub fn kept_number(
     b: &Bases,
     out: &mut Vec<Instr>,
     faults: bool,
@@ -112,7 +112,7 @@ fn kept_done(out: &mut Vec<Instr>, faults: bool, exit: u32) -> Result<(), AllocE
 }
 
 /// Keeps an answer.
-pub(crate) fn kept(
+pub fn kept(
     b: &Bases,
     out: &mut Vec<Instr>,
     faults: bool,

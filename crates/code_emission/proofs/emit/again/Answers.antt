@@ -1,0 +1,5 @@
+use Rattle.code_emission.proofs.Appended.{looped}
+use Rattle.code_emission.proofs.emit.again.Goals as goal
+
+pub returns : goal.returns
+returns c = λ a emits. looped c.args.out.now.items c.push.new.self.items c.in_ok-code.code c.args.code a c.in_ok-code.ensures.ok c.in_ok-push.ensures.items emits

@@ -1,0 +1,4 @@
+mod Keepings
+mod RoutineLemmas
+mod SpanLemmas
+mod WalkLemmas

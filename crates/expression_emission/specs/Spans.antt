@@ -1,0 +1,16 @@
+-- Where the texts of a script stand, and which scripts are small enough.
+use Rattle.std.specs.Prelude.{ℕ, zero, ◌+◌, ◌≤◌, ◌<◌, ◌^◌, List, [], ◌∷◌, length}
+use Rattle.mid_program.specs.Mid.{Program}
+use Rattle.value_machine.specs.Places.{memory_of}
+use Rattle.value_machine.specs.Functions.{texts_of}
+use Rattle.code_emission.specs.Bounds.{most_places}
+use Rattle.expression_emission.specs.declared.tables.Span.{Span}
+
+-- one text after the other, from a place on
+abbrev pub spans_from : ℕ → List (List ℕ) → List Span
+spans_from at [] = []
+spans_from at (s ∷ ss) = (record { place = at; size = length s }) ∷ spans_from (at + length s) ss
+
+-- few enough names and ranges, and texts that fit in memory
+abbrev pub IsSmall : Program → Type 0
+IsSmall p = (length p.globals ≤ most_places) × ((p.ranges ≤ most_places) × (length (memory_of (texts_of p)) < 2 ^ 32))

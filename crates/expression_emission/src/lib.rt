@@ -1,0 +1,23 @@
+//! The code of expressions, emitted as it is defined.
+#![tactic(auto)]
+
+mod at;
+mod calls;
+mod kept;
+mod layout;
+mod leaves;
+mod lists;
+mod operands;
+mod pending;
+mod places;
+mod slots;
+mod storing;
+mod tables;
+mod walks;
+
+pub use at::At;
+pub use kept::Kept;
+pub use layout::Layout;
+pub use pending::{asked, pending_assigned};
+pub use places::{array_pushed, global_handle, global_number, text_pushed};
+pub use tables::{Span, Tables};

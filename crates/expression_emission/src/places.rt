@@ -1,0 +1,86 @@
+//! Where names and arrays stand.
+ghost use Rattle.std.specs.Prelude.{◌≡◌, ◌<◌, ◌≤◌, length, map, OnOk};
+ghost use Rattle.mid_program.specs.Sorted.{kinds_of};
+ghost use Rattle.mid_program.specs.View.{view_declared};
+ghost use Rattle.mid_program.specs.ViewCode.{view_array};
+ghost use Rattle.value_machine.specs.Emission.{array_pushed, global_handle, global_number, text_pushed};
+ghost use Rattle.value_machine.specs.Places.{array_name};
+ghost use Rattle.code_emission.specs.Bounds.{most_places};
+ghost use Rattle.code_emission.specs.Emits.{Emits};
+ghost use Rattle.expression_emission.specs.Fits.{ArrayFits};
+ghost use Rattle.expression_emission.specs.View.{view_layout};
+
+use crate::layout::Layout;
+use code_emission::{does, does_all};
+use mid_program::{ArrayName, Declared, Kind};
+use std::alloc::AllocError;
+use wasm_types::{Instr, Simple};
+
+/// The global of a name's handle.
+pub fn global_handle(y: &Layout<'_>, name: usize) -> u32
+    requires { name ≤ most_places }
+    ensures { result ≡ global_handle (view_layout y.now) name }
+{
+    let name = name as u32;
+    y.tables.ranges() + 2 + (name + name)
+}
+
+/// The global of a name's number.
+pub fn global_number(y: &Layout<'_>, name: usize) -> u32
+    requires { name ≤ most_places }
+    ensures { result ≡ global_number (view_layout y.now) name }
+{
+    let name = name as u32;
+    y.tables.ranges() + 3 + (name + name)
+}
+
+/// The name of an array of the script.
+fn array_name(names: &[Declared], array: usize) -> usize
+    ensures name { result ≡ array_name (kinds_of (map view_declared names.now)) array }
+    ensures few { result ≤ length names.now }
+{
+    let mut left = array;
+    let mut place = 0;
+    for name in names {
+        if let Kind::Many = name.kind {
+            if left == 0 {
+                return place;
+            }
+            left -= 1;
+        }
+        place += 1;
+    }
+    place
+}
+
+/// Adds an array.
+pub fn array_pushed(
+    y: &Layout<'_>,
+    out: &mut Vec<Instr>,
+    array: ArrayName,
+) -> Result<(), AllocError>
+    requires { ArrayFits (view_array array) }
+    ensures { OnOk result (Emits out.old.items out.new.items (array_pushed (view_layout y.now) (view_array array))) }
+{
+    match array {
+        ArrayName::Numbered(0) => does(out, Simple::I32Const(0)),
+        ArrayName::Numbered(1) => does(out, Simple::I32Const(1)),
+        ArrayName::Numbered(number) => {
+            let name = array_name(y.tables.names(), number - 2);
+            does(out, Simple::GlobalGet(global_handle(y, name)))
+        }
+        ArrayName::Given(parameter) => does(out, Simple::LocalGet(parameter as u32)),
+    }
+}
+
+/// Adds a text's place and its length.
+pub fn text_pushed(y: &Layout<'_>, out: &mut Vec<Instr>, text: usize) -> Result<(), AllocError>
+    requires { text < length (view_layout y.now).texts }
+    ensures { OnOk result (Emits out.old.items out.new.items (text_pushed (view_layout y.now) text)) }
+{
+    let span = y.tables.span(text);
+    does_all(
+        out,
+        &[Simple::I32Const(span.place), Simple::I32Const(span.size)],
+    )
+}
