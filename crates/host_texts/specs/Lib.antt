@@ -1,0 +1,4 @@
+pub mod Primitives
+pub mod States
+pub mod Evaluations
+pub mod Calls
