@@ -6,3 +6,5 @@ mod Steps
 mod Rows
 mod Outcomes
 mod Bounds
+mod LastOnes
+mod LastFormats

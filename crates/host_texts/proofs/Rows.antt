@@ -39,7 +39,7 @@ use Rattle.host_texts.proofs.Reading.{number, other, stop, stop_at, taken}
 use Rattle.host_texts.proofs.Reading as reading
 use Rattle.host_texts.proofs.Steps.{Fits, IsDone, SameAnswer}
 
-fits_replied : (a : Answer) (f : InAnswer a → Reply) (r : Result (InAnswer a) Fault) → ((x : InAnswer a) → SameAnswer a x (f x)) → Fits a r (replied f r)
+pub fits_replied : (a : Answer) (f : InAnswer a → Reply) (r : Result (InAnswer a) Fault) → ((x : InAnswer a) → SameAnswer a x (f x)) → Fits a r (replied f r)
 fits_replied a f (Ok x) same = same x
 fits_replied a f (Err fault) same = refl
 

@@ -2,3 +2,4 @@ pub mod Primitives
 pub mod States
 pub mod Evaluations
 pub mod Calls
+pub mod LastFormatted

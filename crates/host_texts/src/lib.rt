@@ -6,6 +6,7 @@ mod calls;
 mod change;
 mod evaluate;
 mod expressions;
+mod listed;
 mod primitive;
 mod record;
 mod reply;
@@ -15,6 +16,7 @@ mod texts;
 mod words;
 
 pub use calls::call;
+pub use listed::sprintf;
 pub use primitive::TextPrimitive;
 pub use specials::Specials;
 pub use texts::Texts;
