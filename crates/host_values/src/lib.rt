@@ -13,3 +13,4 @@ pub use calls::call;
 pub use primitive::ValuePrimitive;
 pub use reply::Refusal;
 pub use single::{append, release};
+pub use words::{ends, number_front, value_after, value_front};

@@ -70,14 +70,14 @@ fn fault_at(number: u32) -> Option<Fault>
 }
 
 /// That no word is left.
-pub(crate) fn ends(words: &[Word]) -> Result<(), TrapKind>
+pub fn ends(words: &[Word]) -> Result<(), TrapKind>
     ensures { result ≡ no_more words.now }
 {
     if words.is_empty() { Ok(()) } else { Err(UNFIT) }
 }
 
 /// A handle, with its value.
-pub(crate) fn value_front<'a, 'b>(
+pub fn value_front<'a, 'b>(
     handles: &'a Handles,
     words: &'b [Word],
 ) -> Result<(i32, &'a Value, &'b [Word]), TrapKind>
@@ -95,7 +95,7 @@ pub(crate) fn value_front<'a, 'b>(
 
 /// The same where a handle before it is spent.
 #[tactic(auto, using(crate::proofs::Tables::get_removed, crate::proofs::Tables::get_others))]
-pub(crate) fn value_after<'a, 'b>(
+pub fn value_after<'a, 'b>(
     handles: &'a Handles,
     first: i32,
     words: &'b [Word],
@@ -116,7 +116,7 @@ pub(crate) fn value_after<'a, 'b>(
 }
 
 /// A number in range.
-pub(crate) fn number_front(words: &[Word]) -> Result<(i64, &[Word]), TrapKind>
+pub fn number_front(words: &[Word]) -> Result<(i64, &[Word]), TrapKind>
     ensures value { owned result ≡ plain_number (number_front words.now) }
     ensures in_range { IfOk result (λ r. InRange r.0) }
 {

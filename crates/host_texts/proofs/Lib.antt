@@ -1,0 +1,10 @@
+mod Counts
+mod SpecialNumbers
+mod Reading
+mod Spare
+mod Steps
+mod Rows
+mod Outcomes
+mod Bounds
+mod LastOnes
+mod LastFormats

@@ -1,0 +1,7 @@
+use Rattle.std.proofs.Common.{◌∙◌}
+use Rattle.host_texts.proofs.Outcomes.{matches_row_is}
+use Rattle.host_texts.proofs.expressions.matched.Goals as goal
+
+pub returns-in-Ok-clause-ok : goal.returns-in-Ok-clause-ok
+returns-in-Ok-clause-ok c =
+    matches_row_is c.args.value.now c.args.ere.now c.in_ok-auto.ensures.ok.0 c.as_slice.result.now c.in-Ok.found c.in_ok-auto.ensures.ok.1 (c.as_slice.ensures.value ∙ c.in_ok-text.ensures) (c.in-Ok.ensures.found c.in_ok-auto.ensures.ok.0 c.in_ok-auto.ensures.ok.2)

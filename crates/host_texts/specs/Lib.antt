@@ -1,0 +1,5 @@
+pub mod Primitives
+pub mod States
+pub mod Evaluations
+pub mod Calls
+pub mod LastFormatted

@@ -1,0 +1,218 @@
+//! Primitives on special variables, the record and its fields.
+ghost use Rattle.std.specs.Prelude.{◌≡◌, ◌≢◌, pos, IfErr, IfOk, OnErr, OnOk};
+ghost use Rattle.awk_values.specs.Values.{text_of_value};
+ghost use Rattle.awk_state.specs.FieldRows.{done, set_special, set_special_row, with_record};
+ghost use Rattle.awk_state.specs.SharedState.{Inner, special_of};
+ghost use Rattle.host_step.specs.HostState.{HostState};
+ghost use Rattle.host_format.specs.Outcomes.{IsStopOf};
+ghost use Rattle.host_fields.specs.Calls.{count_set, field_read, field_set};
+ghost use Rattle.host_texts.specs.Evaluations.{Evaluates, done_reply, evaluation, replied, settled};
+ghost use Rattle.host_texts.specs.States.{holding, with_texts};
+ghost use Rattle.host_texts.specs.declared.primitive.TextPrimitive.{TextPrimitive};
+
+use crate::evaluate::text_value;
+use crate::reply::{Evaluated, Reply};
+use crate::spent::Spent;
+use crate::texts::Texts;
+use crate::words::special_front;
+use awk_state::Special;
+use awk_values::{Fault, Stop, Value, to_number};
+use host_handles::Handles;
+use host_values::{Refusal, ends, number_front, value_front};
+use std::alloc::{AllocError, Global};
+use wasm_store::Word;
+
+/// The value of a special variable.
+fn special_value(texts: &Texts, special: Special) -> Result<Value, AllocError>
+    ensures { IfOk result (λ value. (inner : Inner) → value ≡ special_of (with_texts texts.now inner) special) }
+{
+    if special != Special::Nf {
+        return texts.specials.get(special).clone();
+    }
+    match i64::try_from(texts.held.count()) {
+        Ok(count) => Ok(Value::Num(count)),
+        Err(_) => Err(AllocError),
+    }
+}
+
+pub(crate) fn get_special(
+    handles: &Handles,
+    texts: &Texts,
+    words: &[Word],
+) -> Result<Evaluated, Refusal>
+    ensures { (s : HostState) → Evaluates handles.now (holding texts.now s) result (holding texts.now s) (evaluation TextPrimitive.GetSpecial handles.now (holding texts.now s) words.now) }
+{
+    let (special, rest) = special_front(words)?;
+    ends(rest)?;
+    Ok(Evaluated {
+        spent: Spent::Nothing,
+        outcome: Ok(Reply::Value(special_value(texts, special)?)),
+    })
+}
+
+/// Sets NF.
+fn set_count(alloc: Global, texts: &mut Texts, count: i64) -> Result<(), Stop>
+    ensures ok { OnOk result ((inner : Inner) → count_set count (with_texts texts.old inner) ≡ Ok (with_texts texts.new inner)) }
+    ensures err { IfErr result (λ stop. (inner : Inner) → IsStopOf (count_set count (with_texts texts.old inner)) stop) }
+    ensures refused { OnErr result (texts.new ≡ texts.old) }
+{
+    let ofs = text_value(alloc, texts.specials.get(Special::Ofs))?;
+    match texts.held.set_count(count, ofs.as_slice()) {
+        Ok(()) => Ok(()),
+        Err(stop) => Err(stop),
+    }
+}
+
+/// Sets a special variable.
+fn put_special(
+    alloc: Global,
+    texts: &mut Texts,
+    special: Special,
+    value: &Value,
+) -> Result<(), Stop>
+    ensures ok { OnOk result ((inner : Inner) → set_special special value.now (with_texts texts.old inner) ≡ Ok (with_texts texts.new inner)) }
+    ensures err { IfErr result (λ stop. (inner : Inner) → IsStopOf (set_special special value.now (with_texts texts.old inner)) stop) }
+    ensures refused { OnErr result (texts.new ≡ texts.old) }
+{
+    if special == Special::Nf {
+        let count = to_number(value)?;
+        return set_count(alloc, texts, count);
+    }
+    texts.specials.set(special, value.kept(alloc)?);
+    Ok(())
+}
+
+/// What setting a special variable comes to.
+fn special_outcome(
+    alloc: Global,
+    texts: &mut Texts,
+    special: Special,
+    value: &Value,
+) -> Result<Result<Reply, Fault>, AllocError>
+    ensures { IfOk result (λ outcome. (s : HostState) → settled (holding texts.old s) done_reply (set_special_row special value.now (with_texts texts.old s.shared.inner)) ≡ (holding texts.new s, outcome)) }
+{
+    match put_special(alloc, texts, special, value) {
+        Ok(()) => Ok(Ok(Reply::Done)),
+        Err(Stop::Fault(fault)) => Ok(Err(fault)),
+        Err(Stop::NoMemory) => Err(AllocError),
+    }
+}
+
+pub(crate) fn set_special(
+    alloc: Global,
+    handles: &Handles,
+    texts: &mut Texts,
+    words: &[Word],
+) -> Result<Evaluated, Refusal>
+    ensures { (s : HostState) → Evaluates handles.now (holding texts.old s) result (holding texts.new s) (evaluation TextPrimitive.SetSpecial handles.now (holding texts.old s) words.now) }
+{
+    let (special, behind) = special_front(words)?;
+    let (handle, value, rest) = value_front(handles, behind)?;
+    ends(rest)?;
+    Ok(Evaluated {
+        spent: Spent::One(handle),
+        outcome: special_outcome(alloc, texts, special, value)?,
+    })
+}
+
+/// The same value; a text is shared.
+fn copied(value: &Value) -> Result<Value, AllocError>
+    ensures { IfOk result (λ copy. copy ≡ value.now) }
+{
+    value.clone()
+}
+
+/// What reading a field comes to.
+fn read_outcome(texts: &Texts, number: i64) -> Result<Result<Reply, Fault>, AllocError>
+    ensures { IfOk result (λ outcome. (inner : Inner) → replied Reply.Value (field_read number (with_texts texts.now inner)) ≡ outcome) }
+{
+    match texts.held.field(number) {
+        Ok(value) => Ok(Ok(Reply::Value(copied(value)?))),
+        Err(fault) => Ok(Err(fault)),
+    }
+}
+
+pub(crate) fn field(handles: &Handles, texts: &Texts, words: &[Word]) -> Result<Evaluated, Refusal>
+    ensures { (s : HostState) → Evaluates handles.now (holding texts.now s) result (holding texts.now s) (evaluation TextPrimitive.Field handles.now (holding texts.now s) words.now) }
+{
+    let (number, rest) = number_front(words)?;
+    ends(rest)?;
+    Ok(Evaluated {
+        spent: Spent::Nothing,
+        outcome: read_outcome(texts, number)?,
+    })
+}
+
+/// Sets `$0`.
+fn put_whole(alloc: Global, texts: &mut Texts, value: &Value) -> Result<(), Stop>
+    ensures ok { OnOk result ((inner : Inner) → with_record (text_of_value value.now) (with_texts texts.old inner) ≡ Ok (with_texts texts.new inner)) }
+    ensures err { IfErr result (λ stop. (inner : Inner) → IsStopOf (with_record (text_of_value value.now) (with_texts texts.old inner)) stop) }
+    ensures refused { OnErr result (texts.new ≡ texts.old) }
+{
+    let fs = text_value(alloc, texts.specials.get(Special::Fs))?;
+    let rs = text_value(alloc, texts.specials.get(Special::Rs))?;
+    let text = text_value(alloc, value)?;
+    match texts.held.set_whole(text, fs.as_slice(), rs.as_slice()) {
+        Ok(()) => Ok(()),
+        Err(stop) => Err(stop),
+    }
+}
+
+/// Sets a field from `$1` on.
+fn put_field(alloc: Global, texts: &mut Texts, number: i64, value: &Value) -> Result<(), Stop>
+    requires { number ≢ pos 0 }
+    ensures ok { OnOk result ((inner : Inner) → field_set number value.now (with_texts texts.old inner) ≡ Ok (with_texts texts.new inner)) }
+    ensures err { IfErr result (λ stop. (inner : Inner) → IsStopOf (field_set number value.now (with_texts texts.old inner)) stop) }
+    ensures refused { OnErr result (texts.new ≡ texts.old) }
+{
+    let ofs = text_value(alloc, texts.specials.get(Special::Ofs))?;
+    match texts.held.set_field(number, copied(value)?, ofs.as_slice()) {
+        Ok(()) => Ok(()),
+        Err(stop) => Err(stop),
+    }
+}
+
+/// Sets a field; that of 0 is `$0`.
+fn store_field(alloc: Global, texts: &mut Texts, number: i64, value: &Value) -> Result<(), Stop>
+    ensures ok { OnOk result ((inner : Inner) → field_set number value.now (with_texts texts.old inner) ≡ Ok (with_texts texts.new inner)) }
+    ensures err { IfErr result (λ stop. (inner : Inner) → IsStopOf (field_set number value.now (with_texts texts.old inner)) stop) }
+    ensures refused { OnErr result (texts.new ≡ texts.old) }
+{
+    if number == 0 {
+        return put_whole(alloc, texts, value);
+    }
+    put_field(alloc, texts, number, value)
+}
+
+/// What setting a field, or `$0`, comes to.
+fn field_outcome(
+    alloc: Global,
+    texts: &mut Texts,
+    number: i64,
+    value: &Value,
+) -> Result<Result<Reply, Fault>, AllocError>
+    ensures { IfOk result (λ outcome. (s : HostState) → settled (holding texts.old s) done_reply (done (field_set number value.now (with_texts texts.old s.shared.inner))) ≡ (holding texts.new s, outcome)) }
+{
+    match store_field(alloc, texts, number, value) {
+        Ok(()) => Ok(Ok(Reply::Done)),
+        Err(Stop::Fault(fault)) => Ok(Err(fault)),
+        Err(Stop::NoMemory) => Err(AllocError),
+    }
+}
+
+pub(crate) fn set_field(
+    alloc: Global,
+    handles: &Handles,
+    texts: &mut Texts,
+    words: &[Word],
+) -> Result<Evaluated, Refusal>
+    ensures { (s : HostState) → Evaluates handles.now (holding texts.old s) result (holding texts.new s) (evaluation TextPrimitive.SetField handles.now (holding texts.old s) words.now) }
+{
+    let (number, behind) = number_front(words)?;
+    let (handle, value, rest) = value_front(handles, behind)?;
+    ends(rest)?;
+    Ok(Evaluated {
+        spent: Spent::One(handle),
+        outcome: field_outcome(alloc, texts, number, value)?,
+    })
+}

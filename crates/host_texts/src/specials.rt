@@ -1,0 +1,76 @@
+//! The special variables.
+ghost use Rattle.std.specs.Prelude.{◌≡◌, ◌<◌, ◌^◌, IfOk, slice_set};
+ghost use Rattle.awk_state.specs.Constants.{special_number};
+ghost use Rattle.awk_state.specs.SharedState.{specials_at_start};
+ghost use Rattle.awk_state.specs.declared.constants.Special.{Special as AnySpecial};
+ghost use Rattle.host_texts.specs.States.{specials_of};
+
+use awk_state::Special;
+use awk_values::{Bytes, Value};
+use std::alloc::{AllocError, Global};
+
+/// The values of the special variables, in the order of their numbers (POSIX.1-2017 awk, "Variables and Special Variables"). That of NF is
+/// never looked at: NF is the number of fields.
+#[derive(Drop)]
+pub struct Specials {
+    pub values: [Value; 14],
+}
+
+fn text(alloc: Global, bytes: &[u8]) -> Result<Value, AllocError>
+    ensures { IfOk result (λ value. value ≡ Value.Text bytes.now) }
+{
+    Ok(Value::Text(Bytes::from_slice(alloc, bytes)?))
+}
+
+/// The place of a special variable among them.
+#[tactic(auto, using(crate::proofs::SpecialNumbers::number_below))]
+fn place_of(special: Special) -> usize
+    ensures is { result ≡ special_number special }
+    ensures below { result < 14 }
+{
+    usize::from(special.number())
+}
+
+impl Specials {
+    /// Their values before a script runs with this many operands.
+    ///
+    /// # Errors
+    ///
+    /// There is no memory.
+    pub fn at_start(alloc: Global, operands: u32) -> Result<Specials, AllocError>
+        ensures { IfOk result (λ specials. (t : AnySpecial) → specials_of specials.values t ≡ specials_at_start operands t) }
+    {
+        Ok(Specials {
+            values: [
+                Value::Num(i64::from(operands) + 1),
+                text(alloc, b"%.6g")?,
+                Value::Uninit,
+                Value::Num(0),
+                text(alloc, b" ")?,
+                Value::Num(0),
+                Value::Num(0),
+                text(alloc, b"%.6g")?,
+                text(alloc, b" ")?,
+                text(alloc, b"\n")?,
+                Value::Num(-1),
+                text(alloc, b"\n")?,
+                Value::Num(0),
+                text(alloc, b"\x1c")?,
+            ],
+        })
+    }
+
+    /// The value of one; of NF, which is the number of fields, it is no use.
+    pub fn get(&self, special: Special) -> &Value
+        ensures { result.now ≡ specials_of self.now.values special }
+    {
+        &self.values[place_of(special)]
+    }
+
+    /// Gives one another value.
+    pub fn set(&mut self, special: Special, value: Value)
+        ensures { self.new.values ≡ slice_set self.old.values (special_number special) value }
+    {
+        self.values[place_of(special)] = value;
+    }
+}

@@ -1,0 +1,77 @@
+//! What the words of a call say, beside what `host_values` reads.
+ghost use Rattle.std.specs.Prelude.{◌≡◌};
+ghost use Rattle.std.specs.FinMap as map;
+ghost use Rattle.awk_state.specs.Constants.{flag_at};
+ghost use Rattle.awk_state.specs.declared.sorts.Constant.{Constant};
+ghost use Rattle.host_step.specs.Arguments.{constant_front};
+ghost use Rattle.host_values.specs.Fronts.{handle_front, lent_handle, owned};
+
+use awk_state::Special;
+use awk_values::Value;
+use host_handles::Handles;
+use wasm_store::{TrapKind, Word};
+
+const UNFIT: TrapKind = TrapKind::BadArgument;
+
+/// A handle, with its value, where two handles before it are spent.
+#[tactic(auto, using(host_values::proofs::Tables::get_removed, host_values::proofs::Tables::get_others))]
+pub(crate) fn value_third<'a, 'b>(
+    handles: &'a Handles,
+    first: i32,
+    second: i32,
+    words: &'b [Word],
+) -> Result<(i32, &'a Value, &'b [Word]), TrapKind>
+    ensures { lent_handle result ≡ handle_front (map.remove (map.remove handles.now first) second) words.now }
+{
+    let Some((Word::I32(handle), rest)) = words.split_first() else {
+        return Err(UNFIT);
+    };
+    let handle = handle.cast_signed();
+    if handle == second {
+        return Err(TrapKind::BadHandle);
+    }
+    if handle == first {
+        return Err(TrapKind::BadHandle);
+    }
+    match handles.view(handle) {
+        Some(value) => Ok((handle, value, rest)),
+        None => Err(TrapKind::BadHandle),
+    }
+}
+
+/// A special variable.
+pub(crate) fn special_front(words: &[Word]) -> Result<(Special, &[Word]), TrapKind>
+    ensures { owned result ≡ constant_front Constant.Special words.now }
+{
+    let Some((Word::I32(number), rest)) = words.split_first() else {
+        return Err(UNFIT);
+    };
+    match Special::of_number(*number) {
+        Some(special) => Ok((special, rest)),
+        None => Err(UNFIT),
+    }
+}
+
+/// No, or yes.
+fn flag_at(number: u32) -> Option<bool>
+    ensures { result ≡ flag_at number }
+{
+    match number {
+        0 => Some(false),
+        1 => Some(true),
+        _ => None,
+    }
+}
+
+/// A flag.
+pub(crate) fn flag_front(words: &[Word]) -> Result<(bool, &[Word]), TrapKind>
+    ensures { owned result ≡ constant_front Constant.Flag words.now }
+{
+    let Some((Word::I32(number), rest)) = words.split_first() else {
+        return Err(UNFIT);
+    };
+    match flag_at(*number) {
+        Some(flag) => Ok((flag, rest)),
+        None => Err(UNFIT),
+    }
+}
