@@ -70,14 +70,22 @@ fn fault_at(number: u32) -> Option<Fault>
 }
 
 /// That no word is left.
-pub(crate) fn ends(words: &[Word]) -> Result<(), TrapKind>
+///
+/// # Errors
+///
+/// A trap, where one is.
+pub fn ends(words: &[Word]) -> Result<(), TrapKind>
     ensures { result ≡ no_more words.now }
 {
     if words.is_empty() { Ok(()) } else { Err(UNFIT) }
 }
 
-/// A handle, with its value.
-pub(crate) fn value_front<'a, 'b>(
+/// A handle, with its value, and the words behind it.
+///
+/// # Errors
+///
+/// A trap, where no handle is there.
+pub fn value_front<'a, 'b>(
     handles: &'a Handles,
     words: &'b [Word],
 ) -> Result<(i32, &'a Value, &'b [Word]), TrapKind>
@@ -94,8 +102,12 @@ pub(crate) fn value_front<'a, 'b>(
 }
 
 /// The same where a handle before it is spent.
+///
+/// # Errors
+///
+/// A trap, where no handle is there but the one that is spent.
 #[tactic(auto, using(crate::proofs::Tables::get_removed, crate::proofs::Tables::get_others))]
-pub(crate) fn value_after<'a, 'b>(
+pub fn value_after<'a, 'b>(
     handles: &'a Handles,
     first: i32,
     words: &'b [Word],

@@ -1,0 +1,4 @@
+pub mod Forms
+pub mod Turns
+pub mod Reads
+pub mod Calls
