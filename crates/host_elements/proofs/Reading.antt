@@ -14,9 +14,9 @@ use Rattle.wasm_store.specs.declared.trap.TrapKind.{TrapKind}
 use Rattle.wasm_store.specs.declared.trap.TrapKind.TheVariants.{BadHandle}
 use Rattle.wasm_store.specs.declared.word.Word.{Word}
 use Rattle.wasm_store.specs.declared.word.Word.TheVariants.{I32, I64}
-use Rattle.host_step.specs.Arguments.{and_then, decode, named_front, no_more, said, spent_if}
+use Rattle.host_step.specs.Arguments.{and_then, decode, named_front, no_more, removed_front, said, spent_if}
 use Rattle.host_step.specs.HostState.{HostState, Names}
-use Rattle.host_step.specs.Tables.{Table}
+use Rattle.host_step.specs.Tables.{Table, without}
 use Rattle.host_values.specs.Calls.{names_with}
 use Rattle.host_values.specs.Evaluations.{Values}
 use Rattle.host_values.specs.Fronts.{found, handle_front}
@@ -74,11 +74,49 @@ number_row places (Err k) names = Err k
 abbrev only_by : Result (ℤ × List Word) TrapKind → Result ℤ TrapKind
 only_by r = and_then r (λ x. and_then (no_more x.1) (λ end. Ok x.0))
 
-pub number_by : {A : Type 0} (places : FinMap int_cmp ℕ) (r : Result (ℤ × List Word) TrapKind) (names : A)
+number_by : {A : Type 0} (places : FinMap int_cmp ℕ) (r : Result (ℤ × List Word) TrapKind) (names : A)
     → then_rest (placed places r) (ended names) ≡ number_row places (only_by r) names
 number_by places (Err k) names = refl
 number_by places (Ok (q, [])) names = refl
 number_by places (Ok (q, w ∷ rest)) names = refl
+
+-- an array or an iterator alone
+
+abbrev pub freed_row : FinMap int_cmp ℕ → (Table ℕ → Names) → Result ℤ TrapKind → Result ((ℕ × Unit {0}) × Names) TrapKind
+freed_row places put (Ok q) = Ok ((place_at places q, tt), put (map.entries (map.remove places q)))
+freed_row places put (Err k) = Err k
+
+freed_by : (places : FinMap int_cmp ℕ) (put : Table ℕ → Names) (b : Bool) (q : ℤ) (rest : List Word)
+    → then_rest (placed places (known b q rest)) (ended (put (without q (map.entries places)))) ≡ freed_row places put (only_by (known b q rest))
+freed_by places put false q rest = refl
+freed_by places put true q [] = ap (λ (t : Table ℕ). Ok ((place_at places q, tt), put t)) (entries_remove places q)
+freed_by places put true q (w ∷ rest) = refl
+
+-- one that is spent
+pub freed_alone : {A : Type 0} (held : FinMap int_cmp A) (places : FinMap int_cmp ℕ) (all : List A) (put : Table ℕ → Names) (words : List Word) → IsHeld held places all
+    → then_rest (named_front (map.entries places) words) (ended (put (removed_front (map.entries places) words))) ≡ freed_row places put (only_number held words)
+freed_alone held places all put [] is = refl
+freed_alone held places all put (I64 n ∷ rest) is = refl
+freed_alone held places all put (I32 n ∷ rest) is =
+    let q = cast_signed w32 n in
+    ap (λ (r : Result (ℕ × List Word) TrapKind). then_rest r (ended (put (without q (map.entries places))))) (named held places all (I32 n ∷ rest) is)
+    ∙ freed_by places put (map.contains_key held q) q rest
+
+-- one that is only looked at
+
+pub array_alone : (f : HostForm) (p : Past) (spent : Sort → Bool) → spent sort.Array ≡ false → (memory : List ℕ) (words : List Word) → IsHeld f.arrays p.array_places p.arrays
+    → decode spent memory (state_of f p).names (argument.Of sort.Array ∷ []) words ≡ number_row p.array_places (only_number f.arrays words) (state_of f p).names
+array_alone f p spent looks memory words is =
+    ap (λ (b : Bool). then_rest (named_front (map.entries p.array_places) words) (ended (spent_if b sort.Array words (state_of f p).names))) looks
+    ∙ ap (λ (r : Result (ℕ × List Word) TrapKind). then_rest r (ended (state_of f p).names)) (named f.arrays p.array_places p.arrays words is)
+    ∙ number_by p.array_places (number_front f.arrays words) (state_of f p).names
+
+pub iterator_alone : (f : HostForm) (p : Past) (spent : Sort → Bool) → spent sort.Iterator ≡ false → (memory : List ℕ) (words : List Word) → IsHeld f.iterators p.iterator_places p.iterators
+    → decode spent memory (state_of f p).names (argument.Of sort.Iterator ∷ []) words ≡ number_row p.iterator_places (only_number f.iterators words) (state_of f p).names
+iterator_alone f p spent looks memory words is =
+    ap (λ (b : Bool). then_rest (named_front (map.entries p.iterator_places) words) (ended (spent_if b sort.Iterator words (state_of f p).names))) looks
+    ∙ ap (λ (r : Result (ℕ × List Word) TrapKind). then_rest r (ended (state_of f p).names)) (named f.iterators p.iterator_places p.iterators words is)
+    ∙ number_by p.iterator_places (number_front f.iterators words) (state_of f p).names
 
 -- two values
 

@@ -1,8 +1,12 @@
 -- What a call is on the host's tables: a step, in every state that they show.
-use Rattle.std.specs.Prelude.{◌≢◌, ℕ, List, [], Option, Some, Result, Ok, Err}
+use Rattle.std.specs.Prelude.{◌≡◌, ◌≢◌, ◌<◌, ◌^◌, ℕ, pos, List, [], Option, Some, None, Result, Ok, Err}
+use Rattle.std.specs.Ordering.{int_cmp}
+use Rattle.std.specs.FinMap as map
+use Rattle.std.specs.FinMap.{FinMap}
 use Rattle.wasm_machine.specs.declared.host.HostAnswer.{HostAnswer}
 use Rattle.wasm_machine.specs.declared.host.HostAnswer.TheVariants as told
 use Rattle.wasm_store.specs.declared.word.Word.{Word}
+use Rattle.wasm_store.specs.declared.word.Word.TheVariants.{I32}
 use Rattle.host_step.specs.Answers.{refusal}
 use Rattle.host_step.specs.HostState.{HostState}
 use Rattle.host_step.specs.HostStep.{StepOf}
@@ -27,13 +31,27 @@ IsTableCall i before words memory (Err (why.Trap k)) after = Leads i before word
 IsTableCall i before words memory (Err why.NoMemory) after = (s : HostState) → Stands before s
     → (a : HostAnswer) × (a ≢ told.NoMemory) × (left : HostState) × (StepOf i s words memory a left [])
 
--- forms with these tables
+-- what is new gets a number that is free
+abbrev pub IsNumbered : {A : Type 0} → FinMap int_cmp A → A → Result (Option Word) Refusal → FinMap int_cmp A → Type 0
+IsNumbered before x (Ok w) after = (q : ℕ) × (q < 2 ^ 31) × (map.get before (pos q) ≡ None) × (w ≡ Some (I32 q)) × (after ≡ map.insert before (pos q) x)
+IsNumbered before x (Err why.NoMemory) after = after ≡ before
+IsNumbered before x (Err (why.Trap k)) after = ⊥
+IsNumbered before x (Err (why.Fault f)) after = ⊥
 
-abbrev pub with_values : Values → HostForm → HostForm
-with_values values f = record f { values = values }
+-- it is put, and that is answered
+abbrev pub IsPut : Result (Option Word) Refusal → Arrays → Arrays → Type 0
+IsPut (Ok w) wanted after = (w ≡ Some (I32 0)) × (after ≡ wanted)
+IsPut (Err why.NoMemory) wanted after = Unit {0}
+IsPut (Err (why.Trap k)) wanted after = ⊥
+IsPut (Err (why.Fault f)) wanted after = ⊥
+
+-- forms with these tables
 
 abbrev pub with_arrays : Values → Arrays → HostForm → HostForm
 with_arrays values arrays f = record f { values = values; arrays = arrays }
 
 abbrev pub with_iterators : Values → Iterators → HostForm → HostForm
 with_iterators values iterators f = record f { values = values; iterators = iterators }
+
+abbrev pub with_both : Arrays → Iterators → HostForm → HostForm
+with_both arrays iterators f = record f { arrays = arrays; iterators = iterators }
