@@ -1,5 +1,5 @@
 -- What the functions did to arrays, as calls.
-use Rattle.std.proofs.Common.{◌≡◌, ◌<◌, ◌^◌, ℕ, ℤ, pos, List, [], Option, Some, None, is_some, Result, Ok, Err, refl, sym, ap, subst, ◌∙◌, true, arith}
+use Rattle.std.proofs.Common.{◌≡◌, ◌<◌, ◌^◌, ℕ, ℤ, pos, List, [], Option, Some, None, is_some, Result, Ok, Err, sym, ap, subst, ◌∙◌, true, arith}
 use Rattle.std.specs.FinMap as map
 use Rattle.awk_values.specs.Values.{text_of_value}
 use Rattle.awk_values.specs.declared.value.Value.{Value}

@@ -1,5 +1,5 @@
 -- Calls on arrays are steps.
-use Rattle.std.proofs.Common.{◌≡◌, ◌<◌, ◌^◌, ℕ, ℤ, pos, Bool, true, false, cond, List, [], ◌∷◌, ◌++◌, length, Option, Some, None, is_some, Result, Ok, Err, refl, sym, ap, subst, ◌∙◌, true≢false}
+use Rattle.std.proofs.Common.{◌≡◌, ◌<◌, ◌^◌, ℕ, ℤ, pos, Bool, true, false, cond, List, [], ◌∷◌, ◌++◌, length, Option, Some, None, is_some, Result, Ok, Err, refl, sym, ap, subst, ◌∙◌}
 use Rattle.std.specs.Prelude.{slice_set}
 use Rattle.std.specs.Ordering.{int_cmp, int_eq}
 use Rattle.std.specs.Cmp.{signed_Decides}
@@ -7,7 +7,6 @@ use Rattle.std.specs.FinMap as map
 use Rattle.std.specs.FinMap.{FinMap}
 use Rattle.std.proofs.lemmas.Option.{get_or_from_slice_get}
 use Rattle.awk_values.specs.Values.{text_of_value}
-use Rattle.awk_values.specs.declared.fault.Fault.{Fault}
 use Rattle.awk_values.specs.declared.value.Value.{Value}
 use Rattle.awk_values.specs.declared.value.Value.TheVariants.{Uninit}
 use Rattle.awk_state.specs.ArrayRows.{array, found, stored}
@@ -32,7 +31,7 @@ use Rattle.host_values.specs.declared.reply.Refusal.TheVariants as why
 use Rattle.host_values.proofs.Entries.{entries_insert, look_entries}
 use Rattle.host_arrays.specs.Pairs.{created, delete_pair, get_pair, pairs_at, pairs_or_none, set_pair, value_or_uninit}
 use Rattle.host_elements.specs.Calls.{IsTableCall, with_arrays}
-use Rattle.host_elements.specs.Forms.{AreFirst, Arrays, HostForm, IsHeld, Past, inner_of, state_of}
+use Rattle.host_elements.specs.Forms.{Arrays, HostForm, IsHeld, Past, inner_of, state_of}
 use Rattle.host_elements.specs.Reads.{array_and_two, array_and_value}
 use Rattle.host_elements.proofs.Elements.{at_place, created_new, created_old, element-get_pair, stored-set_pair}
 use Rattle.host_elements.proofs.Places.{HasPlace, a_place, added, changed, insert_held, inserted, no_place}

@@ -1,16 +1,13 @@
 -- Arrays of the definition beside those of the tables.
-use Rattle.std.proofs.Common.{◌≡◌, ℕ, ℤ, Bool, true, false, cond, if◌then◌else◌, inl, inr, List, [], ◌∷◌, ◌++◌, Option, Some, None, refl, sym, ap, ◌∙◌, true≢false}
+use Rattle.std.proofs.Common.{◌≡◌, ℕ, ℤ, Bool, true, false, cond, if◌then◌else◌, inl, inr, List, [], ◌∷◌, Some, None, refl, sym, ap, ◌∙◌, true≢false}
 use Rattle.std.specs.Ordering.{int_cmp}
 use Rattle.std.specs.FinMap as map
 use Rattle.std.specs.FinMap.{FinMap}
-use Rattle.std.proofs.lemmas.Option.{get_or_from_slice_get}
 use Rattle.awk_values.specs.declared.value.Value.{Value}
 use Rattle.awk_values.specs.declared.value.Value.TheVariants.{Uninit}
 use Rattle.awk_state.specs.ArrayRows.{element, stored}
-use Rattle.host_arrays.specs.Pairs.{Pairs, created, created_by, get_pair, is_key, pairs_at, pairs_or_none, set_pair}
-use Rattle.host_arrays.proofs.PairLemmas.{cases_key, same_key, set_pair-new}
-use Rattle.host_elements.specs.Forms.{HostForm, Past}
-use Rattle.host_elements.proofs.Places.{HasPlace}
+use Rattle.host_arrays.specs.Pairs.{Pairs, created, created_by, get_pair, is_key, set_pair}
+use Rattle.host_arrays.proofs.PairLemmas.{cases_key, set_pair-new}
 use Rattle.host_elements.proofs.Reading.{place_at, place_or_first}
 
 pub element-get_pair : (k : List ℕ) (ps : Pairs) → element k ps ≡ get_pair k ps

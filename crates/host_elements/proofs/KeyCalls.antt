@@ -1,5 +1,5 @@
 -- What the functions did to iterators, as calls.
-use Rattle.std.proofs.Common.{◌≡◌, ◌≢◌, ℕ, ℤ, pos, List, [], ◌∷◌, Option, Some, None, Result, Ok, Err, refl, sym, ap, subst, ◌∙◌, true, false, nat_le}
+use Rattle.std.proofs.Common.{◌≡◌, ◌≢◌, ℕ, ℤ, pos, List, [], ◌∷◌, Option, Some, None, Result, Ok, Err, refl, sym, ap, subst, ◌∙◌, true, nat_le}
 use Rattle.std.specs.FinMap as map
 use Rattle.std.specs.Map.{keys_of}
 use Rattle.awk_values.specs.declared.value.Value.TheVariants.{Text}

@@ -1,11 +1,9 @@
 -- Calls on iterators, and those that let go, are steps.
-use Rattle.std.proofs.Common.{◌≡◌, ◌≢◌, ◌<◌, ◌^◌, ℕ, zero, suc, ℤ, pos, get_or, Bool, true, false, cond, List, [], ◌∷◌, ◌++◌, length, Option, Some, None, is_some, Result, Ok, Err, refl, sym, ap, subst, ◌∙◌, arith, nat_le}
-use Rattle.std.specs.Int.{w32, cast_signed}
+use Rattle.std.proofs.Common.{◌≡◌, ◌≢◌, ◌<◌, ◌^◌, ℕ, zero, suc, ℤ, pos, get_or, Bool, true, false, cond, List, [], ◌∷◌, ◌++◌, length, Option, Some, None, is_some, Ok, Err, refl, sym, ap, ◌∙◌, arith, nat_le}
 use Rattle.std.specs.Prelude.{slice_set, ◌&&◌}
-use Rattle.std.specs.Ordering.{int_cmp, int_eq}
+use Rattle.std.specs.Ordering.{int_eq}
 use Rattle.std.specs.Cmp.{signed_Decides}
 use Rattle.std.specs.FinMap as map
-use Rattle.std.specs.FinMap.{FinMap}
 use Rattle.std.specs.Map.{keys_of}
 use Rattle.std.proofs.lemmas.Bool.{le-leb}
 use Rattle.std.proofs.lemmas.Option.{get_or_from_slice_get}
@@ -13,33 +11,30 @@ use Rattle.awk_values.specs.declared.fault.Fault.{Fault}
 use Rattle.awk_values.specs.declared.value.Value.{Value}
 use Rattle.awk_values.specs.declared.value.Value.TheVariants.{Text}
 use Rattle.awk_state.specs.ArrayRows.{keys, visited}
-use Rattle.awk_state.specs.SharedState.{Inner, Pairs}
-use Rattle.awk_state.specs.declared.sorts.Argument.TheVariants as argument
-use Rattle.awk_state.specs.declared.sorts.Sort.TheVariants as sort
+use Rattle.awk_state.specs.SharedState.{Inner}
 use Rattle.awk_state.specs.declared.table.Primitive.TheVariants as row
 use Rattle.wasm_machine.specs.declared.host.HostAnswer.TheVariants as told
 use Rattle.wasm_store.specs.declared.trap.TrapKind.{TrapKind}
-use Rattle.wasm_store.specs.declared.trap.TrapKind.TheVariants.{BadArgument, BadHandle}
+use Rattle.wasm_store.specs.declared.trap.TrapKind.TheVariants.{BadArgument}
 use Rattle.wasm_store.specs.declared.word.Word.{Word}
-use Rattle.wasm_store.specs.declared.word.Word.TheVariants.{I32, I64}
+use Rattle.wasm_store.specs.declared.word.Word.TheVariants.{I32}
 use Rattle.host_step.specs.Answers.{end_word}
-use Rattle.host_step.specs.Arguments.{and_then, decode}
-use Rattle.host_step.specs.HostState.{HostState, Names}
+use Rattle.host_step.specs.Arguments.{and_then}
 use Rattle.host_step.specs.HostStep.{only_answers, where_fit}
 use Rattle.host_step.specs.Imports.{spends}
 use Rattle.host_step.specs.Tables.{Table}
 use Rattle.host_step.specs.declared.import.Import.TheVariants.{Of, IterFree, FreeArray}
 use Rattle.host_values.specs.Evaluations.{Values}
 use Rattle.host_values.specs.declared.reply.Refusal.TheVariants as why
-use Rattle.host_values.proofs.Entries.{entries_insert, entries_remove, look_entries}
+use Rattle.host_values.proofs.Entries.{entries_insert, look_entries}
 use Rattle.host_arrays.specs.Pairs.{pairs_at}
 use Rattle.host_elements.specs.Calls.{IsTableCall, with_arrays, with_both, with_iterators}
 use Rattle.host_elements.specs.Forms.{HostForm, Keys, Past, inner_of, state_of}
-use Rattle.host_elements.specs.Reads.{number_front, only_number}
-use Rattle.host_elements.specs.Turns.{first_key, keys_at, keys_or_none, other_keys}
+use Rattle.host_elements.specs.Reads.{only_number}
+use Rattle.host_elements.specs.Turns.{keys_at, keys_or_none}
 use Rattle.host_elements.proofs.ArraySteps.{array_is, carry, inner_at}
 use Rattle.host_elements.proofs.Elements.{at_place}
-use Rattle.host_elements.proofs.Places.{HasPlace, a_place, added, changed, insert_held, no_place, removed, removed_at}
+use Rattle.host_elements.proofs.Places.{HasPlace, a_place, added, changed, no_place, removed, removed_at}
 use Rattle.host_elements.proofs.Reading.{array_alone, freed_alone, freed_row, iterator_alone, number_row, place_at}
 use Rattle.host_elements.proofs.Steps.{GoesOn, IsPast, acts_of, goes, state_with, trapped, unrefused}
 

@@ -1,5 +1,5 @@
 -- What the definition makes of words, where tables show its state: what is read over the tables, with places for numbers.
-use Rattle.std.proofs.Common.{◌≡◌, ℕ, ℤ, Bool, true, false, List, [], ◌∷◌, Option, Some, None, is_some, Result, Ok, Err, refl, sym, ap, subst, ◌∙◌}
+use Rattle.std.proofs.Common.{◌≡◌, ℕ, ℤ, Bool, true, false, List, [], ◌∷◌, Option, Some, None, is_some, Result, Ok, Err, refl, sym, ap, ◌∙◌}
 use Rattle.std.specs.Int.{w32, cast_signed}
 use Rattle.std.specs.Ordering.{int_cmp}
 use Rattle.std.specs.FinMap as map
@@ -19,11 +19,11 @@ use Rattle.host_step.specs.HostState.{HostState, Names}
 use Rattle.host_step.specs.Tables.{Table, without}
 use Rattle.host_values.specs.Calls.{names_with}
 use Rattle.host_values.specs.Evaluations.{Values}
-use Rattle.host_values.specs.Fronts.{found, handle_front}
+use Rattle.host_values.specs.Fronts.{found}
 use Rattle.host_values.specs.Singles.{only_handle}
 use Rattle.host_values.proofs.Entries.{entries_remove, look_entries}
 use Rattle.host_values.proofs.OneHandle as one
-use Rattle.host_elements.specs.Forms.{Arrays, HostForm, IsHeld, Past, Shows, state_of}
+use Rattle.host_elements.specs.Forms.{HostForm, IsHeld, Past, Shows, state_of}
 use Rattle.host_elements.specs.Reads.{array_and_two, array_and_value, known, number_front, only_number, two_handles}
 
 -- the place of a number

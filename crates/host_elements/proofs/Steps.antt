@@ -1,11 +1,8 @@
 -- From what an import comes to, where tables show the state, to its step.
-use Rattle.std.proofs.Common.{◌≡◌, ◌≢◌, ◌<◌, ◌^◌, ℕ, ℤ, pos, Bool, true, false, cond, List, [], ◌∷◌, Option, Some, None, Result, Ok, Err, refl, sym, ap, subst, ◌∙◌, arith}
-use Rattle.std.specs.Prelude.{is_some, ◌&&◌, not}
-use Rattle.std.specs.FinMap as map
+use Rattle.std.proofs.Common.{◌≡◌, ◌≢◌, ℕ, Bool, false, cond, List, [], Option, Some, None, Result, Ok, Err, refl, sym, ap, subst, ◌∙◌}
 use Rattle.awk_values.specs.declared.fault.Fault.{Fault}
 use Rattle.awk_state.specs.SharedState.{Inner}
 use Rattle.awk_state.specs.Sorts.{InAnswer}
-use Rattle.awk_state.specs.declared.table.Primitive.{Primitive}
 use Rattle.wasm_machine.specs.declared.host.HostAnswer.{HostAnswer}
 use Rattle.wasm_machine.specs.declared.host.HostAnswer.TheVariants as told
 use Rattle.wasm_store.specs.declared.trap.TrapKind.{TrapKind}
@@ -15,11 +12,10 @@ use Rattle.host_step.specs.HostState.{HostState, Names}
 use Rattle.host_step.specs.HostStep.{Acts, Refuses, StepBy, StepOf, carried, come, refuses}
 use Rattle.host_step.specs.Imports.{import_answer}
 use Rattle.host_step.specs.declared.import.Import.{Import}
-use Rattle.host_step.specs.declared.import.Import.TheVariants.{Of}
 use Rattle.host_values.specs.declared.reply.Refusal.TheVariants as why
 use Rattle.host_values.proofs.Steps.{unshared}
 use Rattle.host_elements.specs.Calls.{IsTableCall, Leads}
-use Rattle.host_elements.specs.Forms.{AreFirst, HostForm, IsHeld, Past, Stands, state_of}
+use Rattle.host_elements.specs.Forms.{AreFirst, HostForm, IsHeld, Past, state_of}
 
 -- the state, with these tables of numbers and this shared state
 abbrev pub state_with : Names → Inner → HostForm → HostState

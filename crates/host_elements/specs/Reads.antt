@@ -1,5 +1,5 @@
 -- What words say over the host's tables, where arrays and iterators go by their numbers.
-use Rattle.std.specs.Prelude.{◌≡◌, ℕ, ℤ, Bool, true, false, List, [], ◌∷◌, Option, Some, None, Result, Ok, Err}
+use Rattle.std.specs.Prelude.{ℤ, Bool, true, false, List, ◌∷◌, Result, Ok, Err}
 use Rattle.std.specs.Borrow.{Bor}
 use Rattle.std.specs.Int.{w32, cast_signed}
 use Rattle.std.specs.Ordering.{int_cmp}
@@ -9,7 +9,7 @@ use Rattle.awk_values.specs.declared.value.Value.{Value}
 use Rattle.wasm_store.specs.declared.trap.TrapKind.{TrapKind}
 use Rattle.wasm_store.specs.declared.trap.TrapKind.TheVariants.{BadHandle, BadArgument}
 use Rattle.wasm_store.specs.declared.word.Word.{Word}
-use Rattle.wasm_store.specs.declared.word.Word.TheVariants.{I32, I64}
+use Rattle.wasm_store.specs.declared.word.Word.TheVariants.{I32}
 use Rattle.host_step.specs.Arguments.{and_then, no_more}
 use Rattle.host_values.specs.Evaluations.{Values}
 use Rattle.host_values.specs.Fronts.{handle_front}

@@ -1,4 +1,4 @@
-use Rattle.std.proofs.Common.{w32, sym, ap, ◌∙◌}
+use Rattle.std.proofs.Common.{w32, ap, ◌∙◌}
 use Rattle.std.proofs.lemmas.Int.{to_z-of_z}
 use Rattle.std.proofs.lemmas.Result.{on_err_weaker}
 use Rattle.std.specs.FinMap as map
