@@ -12,10 +12,10 @@ use std::alloc::{AllocError, Global};
 use std::hash::RandomState;
 use std::marker::Model;
 
-/// How many numbers there are.
-const LIMIT: usize = 1 << 31;
+/// How many numbers are given at most: the greatest number below 2^31 is never given, so that one is always free.
+const LIMIT: usize = (1 << 31) - 1;
 
-/// Arrays, each under a number from 0 to 2^31 - 1 (POSIX.1-2017 awk, "Variables and Special Variables").
+/// Arrays, each under a number from 0 to 2^31 - 2 (POSIX.1-2017 awk, "Variables and Special Variables").
 ///
 /// Contracts see a finite map from numbers to lists of pairs of key and value, in the order of insertion.
 #[derive(Drop)]
@@ -87,6 +87,7 @@ impl Arrays {
     pub fn new_array(&mut self) -> Result<i32, AllocError>
         ensures free { IfOk result (λ number. map.get self.old number ≡ None) }
         ensures from_zero { IfOk result (λ number. pos 0 ≤ℤ number) }
+        ensures below { IfOk result (λ number. number <ℤ pos 2147483647) }
         ensures added { IfOk result (λ number. self.new ≡ map.insert self.old number []) }
         ensures refused { OnErr result (self.new ≡ self.old) }
     {

@@ -33,7 +33,8 @@ use Rattle.host_values.proofs.Entries.{entries_remove, look_entries}
 use Rattle.host_values.proofs.Spare.{spare_removed}
 use Rattle.host_values.proofs.Steps.{state_by, unshared}
 
-abbrev as_row : HostState → Values → Result (ℤ × Value) TrapKind → Result (Row (argument.Of sort.Value ∷ []) × Names) TrapKind
+-- a value and the tables without its handle
+abbrev pub as_row : HostState → Values → Result (ℤ × Value) TrapKind → Result (Row (argument.Of sort.Value ∷ []) × Names) TrapKind
 as_row s m (Ok x) = Ok ((x.1, tt), names_with (map.remove m x.0) s)
 as_row s m (Err k) = Err k
 

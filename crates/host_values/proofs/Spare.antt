@@ -1,4 +1,4 @@
--- No value is ever under the greatest number.
+-- Nothing is ever under the greatest number.
 use Rattle.std.proofs.Common.{◌≡◌, ◌<ℤ◌, ℕ, ℤ, pos, Bool, true, false, cond, List, Option, Some, None, Result, Ok, Err, IfOk, OnErr, refl, ap, ◌∙◌, arith}
 use Rattle.std.specs.Ordering.{eq_by_cmp, int_cmp, int_eq}
 use Rattle.std.specs.Cmp.{int_cmp_total, signed_Decides}
@@ -19,21 +19,21 @@ use Rattle.host_values.specs.declared.reply.Reply.{Reply}
 use Rattle.host_values.specs.declared.spent.Spent.{Spent}
 use Rattle.host_values.specs.declared.spent.Spent.TheVariants.{Nothing, One, Two}
 
-put_by : (m : Values) (h : ℤ) (v : Value) → h <ℤ spare → map.get m spare ≡ None → map.get (map.insert m h v) spare ≡ None
+put_by : {V : Type 0} (m : FinMap int_cmp V) (h : ℤ) (v : V) → h <ℤ spare → map.get m spare ≡ None → map.get (map.insert m h v) spare ≡ None
 put_by m h v below free = map.get-insert int_cmp_total m h v spare ∙ by (int_eq spare h) refl
   where
     by : (b : Bool) → int_eq spare h ≡ b → cond b (Some v) (map.get m spare) ≡ None
     by true e = let same : spare ≡ h = (signed_Decides spare h).0 e in absurd (grind (arith, same, below))
     by false e = free
 
--- a value that was put
-pub spare_put : {E : Type 0} (r : Result ℤ E) (old new : Values) (v : Value) → IfOk r (λ h. h <ℤ spare) → IfOk r (λ h. new
+-- what was put
+pub spare_put : {E V : Type 0} (r : Result ℤ E) (old new : FinMap int_cmp V) (v : V) → IfOk r (λ h. h <ℤ spare) → IfOk r (λ h. new
     ≡ map.insert old h v) → OnErr r (new ≡ old) → map.get old spare ≡ None → map.get new spare ≡ None
 spare_put (Ok h) old new v below stored refused free = ap (λ m. map.get m spare) stored ∙ put_by old h v below free
 spare_put (Err e) old new v below stored refused free = ap (λ m. map.get m spare) refused ∙ free
 
--- a handle that is spent
-pub spare_removed : (m : Values) (h : ℤ) → map.get m spare ≡ None → map.get (map.remove m h) spare ≡ None
+-- a number that is spent
+pub spare_removed : {V : Type 0} (m : FinMap int_cmp V) (h : ℤ) → map.get m spare ≡ None → map.get (map.remove m h) spare ≡ None
 spare_removed m h free = map.get-remove int_cmp_total m h spare ∙ by (eq_by_cmp int_cmp spare h)
   where
     by : (b : Bool) → cond b None (map.get m spare) ≡ None

@@ -14,7 +14,11 @@ use std::alloc::Global;
 use wasm_store::Word;
 
 /// Gives an answer: a value under a new handle.
-fn give(handles: &mut Handles, reply: Reply) -> Result<Option<Word>, Refusal>
+///
+/// # Errors
+///
+/// There is no memory; nothing changes.
+pub fn give(handles: &mut Handles, reply: Reply) -> Result<Option<Word>, Refusal>
     requires { map.get handles.old spare ≡ None }
     ensures answer { Gives reply handles.old result handles.new }
     ensures spare { map.get handles.new spare ≡ None }

@@ -133,7 +133,7 @@ fn comparison(handles: &Handles, words: &[Word]) -> Result<Evaluated, Refusal>
 }
 
 /// The length of a value's text.
-fn text_len(value: &Value) -> usize
+pub fn text_len(value: &Value) -> usize
     ensures { result ≡ length (text_of_value value.now) }
 {
     match value {
@@ -144,7 +144,11 @@ fn text_len(value: &Value) -> usize
 }
 
 /// Appends the text of a value.
-pub(crate) fn push_text(out: &mut Vec<u8>, value: &Value) -> Result<(), AllocError>
+///
+/// # Errors
+///
+/// There is no memory.
+pub fn push_text(out: &mut Vec<u8>, value: &Value) -> Result<(), AllocError>
     ensures { OnOk result (out.new.items ≡ out.old.items ++ text_of_value value.now) }
 {
     match value {

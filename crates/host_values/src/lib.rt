@@ -9,8 +9,9 @@ mod single;
 mod spent;
 mod words;
 
-pub use calls::call;
+pub use calls::{call, give};
+pub use evaluate::{push_text, text_len};
 pub use primitive::ValuePrimitive;
-pub use reply::Refusal;
+pub use reply::{Refusal, Reply};
 pub use single::{append, release};
 pub use words::{ends, number_front, value_after, value_front};

@@ -7,9 +7,9 @@ use awk_values::{Fault, Value};
 use std::alloc::AllocError;
 use wasm_store::TrapKind;
 
-/// An answer.
+/// An answer that gives nothing new but a value.
 #[derive(Drop)]
-pub(crate) enum Reply {
+pub enum Reply {
     Value(Value),
     Number(i64),
     Truth(bool),

@@ -70,13 +70,21 @@ fn fault_at(number: u32) -> Option<Fault>
 }
 
 /// That no word is left.
+///
+/// # Errors
+///
+/// A trap, where one is.
 pub fn ends(words: &[Word]) -> Result<(), TrapKind>
     ensures { result ≡ no_more words.now }
 {
     if words.is_empty() { Ok(()) } else { Err(UNFIT) }
 }
 
-/// A handle, with its value.
+/// A handle, with its value, and the words behind it.
+///
+/// # Errors
+///
+/// A trap, where no handle is there.
 pub fn value_front<'a, 'b>(
     handles: &'a Handles,
     words: &'b [Word],
@@ -94,6 +102,10 @@ pub fn value_front<'a, 'b>(
 }
 
 /// The same where a handle before it is spent.
+///
+/// # Errors
+///
+/// A trap, where no handle is there but the one that is spent.
 #[tactic(auto, using(crate::proofs::Tables::get_removed, crate::proofs::Tables::get_others))]
 pub fn value_after<'a, 'b>(
     handles: &'a Handles,

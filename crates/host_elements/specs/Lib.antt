@@ -1,0 +1,5 @@
+pub mod Forms
+pub mod Turns
+pub mod Reads
+pub mod Calls
+pub mod Rows

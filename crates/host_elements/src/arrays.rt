@@ -1,0 +1,187 @@
+//! Calls on arrays and their keys.
+ghost use Rattle.std.specs.Prelude.{◌≡◌, List, [], ℕ, None, true};
+ghost use Rattle.std.specs.FinMap as map;
+ghost use Rattle.awk_state.specs.declared.table.Primitive.TheVariants as row;
+ghost use Rattle.host_step.specs.declared.import.Import.{Import};
+ghost use Rattle.host_values.specs.Calls.{spare};
+ghost use Rattle.host_elements.specs.Calls.{IsNumbered, IsPut, IsTableCall, with_arrays};
+ghost use Rattle.host_elements.specs.Forms.{HostForm};
+ghost use Rattle.host_arrays.specs.Pairs.{pairs_at, set_pair};
+
+use crate::words::{array_and_key, array_key_value, key_text, only_array};
+use awk_values::{Bytes, Value};
+use host_arrays::Arrays;
+use host_handles::Handles;
+use host_values::{Refusal, Reply, ends, give};
+use std::alloc::Global;
+use wasm_store::{TrapKind, Word};
+
+/// What is answered where nothing else is to be said.
+const DONE: Word = Word::I32(0);
+
+/// Adds an array without an element.
+fn add_array(arrays: &mut Arrays) -> Result<Option<Word>, Refusal>
+    requires { map.get arrays.old spare ≡ None }
+    ensures number { IsNumbered arrays.old [] result arrays.new }
+    ensures spare { map.get arrays.new spare ≡ None }
+{
+    match arrays.new_array() {
+        Ok(number) => Ok(Some(Word::I32(number.cast_unsigned()))),
+        Err(_) => Err(Refusal::NoMemory),
+    }
+}
+
+/// Makes an array without an element.
+///
+/// # Errors
+///
+/// A trap, where there is a word, or want of memory; nothing changes.
+pub fn new_array(arrays: &mut Arrays, words: &[Word]) -> Result<Option<Word>, Refusal>
+    requires { map.get arrays.old spare ≡ None }
+    ensures step { (f : HostForm) (memory : List ℕ) → f.fault ≡ None → IsTableCall (Import.Of row.NewArray) (with_arrays f.values arrays.old f) words.now memory result (with_arrays f.values arrays.new f) }
+    ensures spare { map.get arrays.new spare ≡ None }
+{
+    match ends(words) {
+        Ok(()) => add_array(arrays),
+        Err(kind) => Err(Refusal::Trap(kind)),
+    }
+}
+
+/// A copy of an element, which is made where there is none.
+///
+/// # Errors
+///
+/// A trap, which changes nothing, or want of memory.
+pub fn elem(
+    alloc: Global,
+    arrays: &mut Arrays,
+    handles: &mut Handles,
+    words: &[Word],
+) -> Result<Option<Word>, Refusal>
+    requires { map.get handles.old spare ≡ None }
+    ensures step { (f : HostForm) (memory : List ℕ) → f.fault ≡ None → IsTableCall (Import.Of row.Elem) (with_arrays handles.old arrays.old f) words.now memory result (with_arrays handles.new arrays.new f) }
+    ensures spare { map.get handles.new spare ≡ None }
+{
+    let (array, handle, value) = match array_and_key(arrays, handles, words) {
+        Ok(read) => read,
+        Err(kind) => return Err(Refusal::Trap(kind)),
+    };
+    let Ok(key) = key_text(alloc, value) else {
+        return Err(Refusal::NoMemory);
+    };
+    handles.take(handle);
+    match arrays.get_or_create(array, &key) {
+        Ok(value) => give(handles, Reply::Value(value)),
+        Err(_) => Err(Refusal::NoMemory),
+    }
+}
+
+/// Puts a value at a key.
+fn put(arrays: &mut Arrays, array: i32, key: &Bytes, value: Value) -> Result<Option<Word>, Refusal>
+    requires { map.contains_key arrays.old array ≡ true }
+    ensures { IsPut result (map.insert arrays.old array (set_pair key.now value (pairs_at arrays.old array))) arrays.new }
+{
+    match arrays.set(array, key, value) {
+        Ok(()) => Ok(Some(DONE)),
+        Err(_) => Err(Refusal::NoMemory),
+    }
+}
+
+/// Gives an element a value.
+///
+/// # Errors
+///
+/// A trap, which changes nothing, or want of memory.
+pub fn set_elem(
+    alloc: Global,
+    arrays: &mut Arrays,
+    handles: &mut Handles,
+    words: &[Word],
+) -> Result<Option<Word>, Refusal>
+    ensures step { (f : HostForm) (memory : List ℕ) → f.fault ≡ None → IsTableCall (Import.Of row.SetElem) (with_arrays handles.old arrays.old f) words.now memory result (with_arrays handles.new arrays.new f) }
+    ensures spare { map.get handles.old spare ≡ None → map.get handles.new spare ≡ None }
+{
+    let (array, first, key, second) = match array_key_value(arrays, handles, words) {
+        Ok(read) => read,
+        Err(kind) => return Err(Refusal::Trap(kind)),
+    };
+    let Ok(key) = key_text(alloc, key) else {
+        return Err(Refusal::NoMemory);
+    };
+    handles.take(first);
+    match handles.take(second) {
+        Some(value) => put(arrays, array, &key, value),
+        None => unreachable!(),
+    }
+}
+
+/// Whether an array has an element; none is made.
+///
+/// # Errors
+///
+/// A trap, which changes nothing, or want of memory.
+pub fn has(
+    alloc: Global,
+    arrays: &Arrays,
+    handles: &mut Handles,
+    words: &[Word],
+) -> Result<Option<Word>, Refusal>
+    ensures step { (f : HostForm) (memory : List ℕ) → f.fault ≡ None → IsTableCall (Import.Of row.Has) (with_arrays handles.old arrays.now f) words.now memory result (with_arrays handles.new arrays.now f) }
+    ensures spare { map.get handles.old spare ≡ None → map.get handles.new spare ≡ None }
+{
+    let (array, handle, value) = match array_and_key(arrays, handles, words) {
+        Ok(read) => read,
+        Err(kind) => return Err(Refusal::Trap(kind)),
+    };
+    let Ok(key) = key_text(alloc, value) else {
+        return Err(Refusal::NoMemory);
+    };
+    handles.take(handle);
+    Ok(Some(Word::I32(u32::from(arrays.has(array, &key)))))
+}
+
+/// Takes an element away, where there is one.
+///
+/// # Errors
+///
+/// A trap, which changes nothing, or want of memory.
+pub fn delete(
+    alloc: Global,
+    arrays: &mut Arrays,
+    handles: &mut Handles,
+    words: &[Word],
+) -> Result<Option<Word>, Refusal>
+    ensures step { (f : HostForm) (memory : List ℕ) → f.fault ≡ None → IsTableCall (Import.Of row.Delete) (with_arrays handles.old arrays.old f) words.now memory result (with_arrays handles.new arrays.new f) }
+    ensures spare { map.get handles.old spare ≡ None → map.get handles.new spare ≡ None }
+{
+    let (array, handle, value) = match array_and_key(arrays, handles, words) {
+        Ok(read) => read,
+        Err(kind) => return Err(Refusal::Trap(kind)),
+    };
+    let Ok(key) = key_text(alloc, value) else {
+        return Err(Refusal::NoMemory);
+    };
+    handles.take(handle);
+    arrays.delete(array, &key);
+    Ok(Some(DONE))
+}
+
+/// Gives an array up, also where a fault is kept. ARGV and ENVIRON stay.
+///
+/// # Errors
+///
+/// A trap, which changes nothing.
+pub fn free_array(arrays: &mut Arrays, words: &[Word]) -> Result<Option<Word>, Refusal>
+    ensures step { (f : HostForm) (memory : List ℕ) → IsTableCall Import.FreeArray (with_arrays f.values arrays.old f) words.now memory result (with_arrays f.values arrays.new f) }
+    ensures spare { map.get arrays.old spare ≡ None → map.get arrays.new spare ≡ None }
+{
+    let number = match only_array(arrays, words) {
+        Ok(number) => number,
+        Err(kind) => return Err(Refusal::Trap(kind)),
+    };
+    if number == Arrays::ARGV || number == Arrays::ENVIRON {
+        return Err(Refusal::Trap(TrapKind::BadArgument));
+    }
+    arrays.free(number);
+    Ok(None)
+}
