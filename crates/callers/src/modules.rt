@@ -1,5 +1,6 @@
 //! Modules of WebAssembly.
-ghost use Rattle.std.specs.Prelude.{IfOk};
+ghost use Rattle.std.specs.Prelude.{IfErr, IfOk};
+ghost use Rattle.callers.specs.Unfits.{HasCause};
 ghost use Rattle.wasm_types.specs.ModuleGrammar.{IsModule};
 ghost use Rattle.wasm_types.specs.Typing.{ModuleOk};
 ghost use Rattle.wasm_types.specs.View.{view_module};
@@ -25,6 +26,7 @@ pub enum Unfit {
 pub fn checked_module(alloc: Global, bytes: &[u8]) -> Result<ValidModule, Unfit>
     ensures module { IfOk result (λ m. IsModule bytes.now (view_module m)) }
     ensures typed { IfOk result (λ m. ModuleOk (view_module m)) }
+    ensures refused { IfErr result (λ why. HasCause bytes.now why) }
 {
     let module = match decode(alloc, bytes) {
         Ok(module) => module,
