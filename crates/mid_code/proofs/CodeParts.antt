@@ -7,7 +7,7 @@ use Rattle.std.specs.Borrow.{Bor}
 use Rattle.std.proofs.Math.ListN.{drop_of_length-le}
 use Rattle.awk_grammar.specs.Tree.{Tree, Leaf, Length, Var, Index, Field, Group, Call, Apply, Unary, Pre, Post, Bin, Op, Has, HasList, Cond, Get, GetInto, GetFrom, GetIntoFrom, Trees, NoTree, Then}
 use Rattle.awk_grammar.specs.View.{view as tree, views as trees, view_binary}
-use Rattle.awk_grammar.specs.declared.tree.Expr.{Expr, Binary}
+use Rattle.awk_grammar.specs.declared.tree.Expr.{Expr, Binary, Conditional}
 use Rattle.awk_grammar.specs.declared.tree.BinaryOp.{BinaryOp}
 use Rattle.std.specs.declared.boxed.Box.{Box}
 use Rattle.std.specs.declared.alloc.Global.{Global}
@@ -16,11 +16,12 @@ use Rattle.awk_resolve.specs.ViewKinds.{view_name, view_name_kinds}
 use Rattle.awk_resolve.specs.declared.function_names.NameKind.{NameKind}
 use Rattle.awk_state.specs.Constants.{flag_number}
 use Rattle.awk_state.specs.declared.constants.Special.TheVariants.{Fs}
+use Rattle.awk_state.specs.declared.sorts.Sort.TheVariants as sort
 use Rattle.awk_state.specs.declared.table.Listed.TheVariants as listed
 use Rattle.awk_state.specs.declared.table.Primitive.TheVariants as row
 use Rattle.awk_tokens.specs.declared.words.Builtin.{Builtin}
 use Rattle.awk_tokens.specs.declared.words.Builtin.TheVariants as builtin
-use Rattle.mid_program.specs.Mid.{Code, Codes, End, At, Fixed, Do, Over, Let, Array, Unset, Call as Called}
+use Rattle.mid_program.specs.Mid.{Code, Codes, End, At, Fixed, Do, Over, Choose, Let, Array, Unset, Call as Called}
 use Rattle.mid_program.specs.Names.{Name, Scope, array_of, function_at, function_number}
 use Rattle.mid_program.specs.Steps.{ere_in, is_ere}
 use Rattle.mid_program.specs.Translation.{FieldTarget, applied_code, argument_codes, code_of, codes_of, ere_code, fresh_codes, given_code, host, keeping, kept_code, key_code, one, passed_code, record_code, special_code, substituted_at, target_in, truncated_code, two, zero_code}
@@ -95,6 +96,13 @@ module _ (texts : List (List ℕ)) (scope : Scope) where
       rest ≡ key_code texts scope ts → host row.Has (two (Array (array_of scope x)) (host row.Join (two first rest))) ≡ code_of texts scope e
   unfolding code_of
   in_list_code e x t ts first rest is f r = rw (f, r) (ap (code_of texts scope) is)
+
+  pub conditional_code : (e : Expr) (p q r : Box Expr Global) (a b c : Expr) (test first second : Code) → e ≡ Conditional p q r → a ≡ p.value →
+      b ≡ q.value → c ≡ r.value →
+      test ≡ code_of texts scope (tree a) → first ≡ code_of texts scope (tree b) → second ≡ code_of texts scope (tree c) →
+      Choose sort.Value test first second ≡ code_of texts scope (tree e)
+  unfolding code_of
+  conditional_code e p q r a b c test first second is ha hb hc ht hf hs = rw (ht, hf, hs, ha, hb, hc, is) refl
 
   pub element_kept : (e : Tree) (x : List ℕ) (ts : Trees) (key : Code) → Index x ts ≡ e → key ≡ key_code texts scope ts →
       Some key ≡ kept_code texts scope e

@@ -49,9 +49,7 @@ pub(crate) fn binary(
 ) -> Result<Code, AllocError>
     ensures { IfOk result (λ code. view code ≡ plain.Do operation (two (view left) (view right))) }
 {
-    let mut operands = Vec::new(alloc);
-    operands.push(Operand::Code(left))?;
-    operands.push(Operand::Code(right))?;
+    let operands = vec![in alloc; Operand::Code(left), Operand::Code(right)]?;
     Ok(applied(operation, operands))
 }
 
@@ -64,11 +62,11 @@ pub(crate) fn three(
 ) -> Result<Vec<Operand>, AllocError>
     ensures { IfOk result (λ operands. views operands.items ≡ plain.At (view first) (two (view second) (view third))) }
 {
-    let mut operands = Vec::new(alloc);
-    operands.push(Operand::Code(first))?;
-    operands.push(Operand::Code(second))?;
-    operands.push(Operand::Code(third))?;
-    Ok(operands)
+    Ok(vec![in alloc;
+        Operand::Code(first),
+        Operand::Code(second),
+        Operand::Code(third),
+    ]?)
 }
 
 /// What the host does with three operands.
@@ -81,65 +79,56 @@ pub(crate) fn ternary(
 ) -> Result<Code, AllocError>
     ensures { IfOk result (λ code. view code ≡ plain.Do (Operation.Host primitive) (plain.At (view first) (two (view second) (view third)))) }
 {
-    Ok(applied(
-        Operation::Host(primitive),
-        three(alloc, first, second, third)?,
-    ))
+    let operands = three(alloc, first, second, third)?;
+    Ok(applied(Operation::Host(primitive), operands))
 }
 
-pub(crate) fn compared(
-    alloc: Global,
-    op: CompareOp,
-    left: Code,
-    right: Code,
-) -> Result<Code, AllocError>
-    ensures { IfOk result (λ code. view code ≡ plain.Compare op (view left) (view right)) }
+/// Code in a box.
+pub(crate) fn boxed(alloc: Global, code: Code) -> Result<Box<Code>, AllocError>
+    ensures { IfOk result (λ boxed. boxed.value ≡ code) }
 {
-    Ok(Code::Compare(op, Box::new(alloc, left)?, Box::new(alloc, right)?))
+    Ok(Box::new(alloc, code)?)
+}
+
+/// A number in a box.
+pub(crate) fn number(alloc: Global, number: i64) -> Result<Box<Code>, AllocError>
+    ensures { IfOk result (λ code. view code.value ≡ plain.Number number) }
+{
+    boxed(alloc, Code::Number(number))
+}
+
+pub(crate) fn compared(op: CompareOp, left: Box<Code>, right: Box<Code>) -> Code
+    ensures { view result ≡ plain.Compare op (view left.value) (view right.value) }
+{
+    Code::Compare(op, left, right)
 }
 
 /// One of two codes, by the truth of a test.
-pub(crate) fn chosen(
-    alloc: Global,
-    sort: Sort,
-    test: Code,
-    yes: Code,
-    no: Code,
-) -> Result<Code, AllocError>
-    ensures { IfOk result (λ code. view code ≡ plain.Choose sort (view test) (view yes) (view no)) }
+pub(crate) fn chosen(sort: Sort, test: Box<Code>, yes: Box<Code>, no: Box<Code>) -> Code
+    ensures { view result ≡ plain.Choose sort (view test.value) (view yes.value) (view no.value) }
 {
-    Ok(Code::Choose(
-        sort,
-        Box::new(alloc, test)?,
-        Box::new(alloc, yes)?,
-        Box::new(alloc, no)?,
-    ))
+    Code::Choose(sort, test, yes, no)
 }
 
 /// What is kept for other code.
-pub(crate) fn kept_while(alloc: Global, kept: Code, body: Code) -> Result<Code, AllocError>
-    ensures { IfOk result (λ code. view code ≡ plain.Let (view kept) (view body)) }
+pub(crate) fn kept_while(alloc: Global, kept: Box<Code>, body: Code) -> Result<Code, AllocError>
+    ensures { IfOk result (λ code. view code ≡ plain.Let (view kept.value) (view body)) }
 {
-    Ok(Code::Let(Box::new(alloc, kept)?, Box::new(alloc, body)?))
+    Ok(Code::Let(kept, boxed(alloc, body)?))
 }
 
 /// One code after the other.
-pub(crate) fn in_turn(alloc: Global, first: Code, second: Code) -> Result<Code, AllocError>
-    ensures { IfOk result (λ code. view code ≡ plain.Seq (view first) (view second)) }
+pub(crate) fn in_turn(alloc: Global, first: Box<Code>, second: Code) -> Result<Code, AllocError>
+    ensures { IfOk result (λ code. view code ≡ plain.Seq (view first.value) (view second)) }
 {
-    Ok(Code::Seq(Box::new(alloc, first)?, Box::new(alloc, second)?))
+    Ok(Code::Seq(first, boxed(alloc, second)?))
 }
 
 /// A substitution: expression, replacement and target; and the code that stores the new text.
-fn replaced(
-    alloc: Global,
-    all: bool,
-    operands: Vec<Operand>,
-    store: Code,
-) -> Result<Code, AllocError>
-    ensures { IfOk result (λ code. view code ≡ plain.Replace all (views operands.items) (view store)) }
+fn replaced(all: bool, operands: Vec<Operand>, store: Box<Code>) -> Code
+    ensures { view result ≡ plain.Replace all (views operands.items) (view store.value) }
 {
-    Ok(Code::Replace(all, operands, Box::new(alloc, store)?))
+    Code::Replace(all, operands, store)
 }
 
 /// The same, with its operands.
@@ -149,46 +138,55 @@ pub(crate) fn substitution(
     ere: Code,
     replacement: Code,
     target: Code,
-    store: Code,
+    store: Box<Code>,
 ) -> Result<Code, AllocError>
-    ensures { IfOk result (λ code. view code ≡ plain.Replace all (plain.At (view ere) (two (view replacement) (view target))) (view store)) }
+    ensures { IfOk result (λ code. view code ≡ plain.Replace all (plain.At (view ere) (two (view replacement) (view target))) (view store.value)) }
 {
-    let operands = three(alloc, ere, replacement, target)?;
-    replaced(alloc, all, operands, store)
+    Ok(replaced(all, three(alloc, ere, replacement, target)?, store))
 }
 
 /// A record of the main input, which the code stores.
 pub(crate) fn ask_line(alloc: Global, store: Code) -> Result<Code, AllocError>
     ensures { IfOk result (λ code. view code ≡ plain.AskLine (view store)) }
 {
-    Ok(Code::AskLine(Box::new(alloc, store)?))
+    Ok(Code::AskLine(boxed(alloc, store)?))
 }
 
 /// A record of a file, which the code stores.
-pub(crate) fn file_line(alloc: Global, file: Code, store: Code) -> Result<Code, AllocError>
-    ensures { IfOk result (λ code. view code ≡ plain.FileLine (view file) (view store)) }
+pub(crate) fn file_line(alloc: Global, file: Box<Code>, store: Code) -> Result<Code, AllocError>
+    ensures { IfOk result (λ code. view code ≡ plain.FileLine (view file.value) (view store)) }
 {
-    Ok(Code::FileLine(Box::new(alloc, file)?, Box::new(alloc, store)?))
+    Ok(Code::FileLine(file, boxed(alloc, store)?))
 }
 
 fn set(alloc: Global, slot: Slot, code: Code) -> Result<Code, AllocError>
     ensures { IfOk result (λ set. view set ≡ plain.Set (view_slot slot) (view code)) }
 {
-    Ok(Code::Set(slot, Box::new(alloc, code)?))
+    Ok(Code::Set(slot, boxed(alloc, code)?))
+}
+
+/// One of two numbers, by the truth of code.
+fn one_of(alloc: Global, code: Code, yes: i64, no: i64) -> Result<Code, AllocError>
+    ensures { IfOk result (λ chosen. view chosen ≡ plain.Choose sort.Number (view code) (plain.Number yes) (plain.Number no)) }
+{
+    let test = boxed(alloc, code)?;
+    let yes = number(alloc, yes)?;
+    let no = number(alloc, no)?;
+    Ok(chosen(Sort::Number, test, yes, no))
 }
 
 /// The number of code's truth.
 pub(crate) fn truth(alloc: Global, code: Code) -> Result<Code, AllocError>
     ensures { IfOk result (λ truth. view truth ≡ truth_code (view code)) }
 {
-    chosen(alloc, Sort::Number, code, Code::Number(1), Code::Number(0))
+    one_of(alloc, code, 1, 0)
 }
 
 /// The number of the opposite truth.
 pub(crate) fn untruth(alloc: Global, code: Code) -> Result<Code, AllocError>
     ensures { IfOk result (λ untruth. view untruth ≡ untruth_code (view code)) }
 {
-    chosen(alloc, Sort::Number, code, Code::Number(0), Code::Number(1))
+    one_of(alloc, code, 0, 1)
 }
 
 /// The record.
@@ -211,9 +209,8 @@ pub(crate) fn reserved(alloc: Global, special: Special) -> Result<Code, AllocErr
 fn set_reserved(alloc: Global, special: Special, code: Code) -> Result<Code, AllocError>
     ensures { IfOk result (λ set. view set ≡ store_variable_code (view_variable (Variable.Reserved special)) (view code)) }
 {
-    let mut operands = Vec::new(alloc);
-    operands.push(Operand::Constant(u32::from(special.number())))?;
-    operands.push(Operand::Code(code))?;
+    let number = Operand::Constant(u32::from(special.number()));
+    let operands = vec![in alloc; number, Operand::Code(code)]?;
     Ok(applied(Operation::Host(Primitive::SetSpecial), operands))
 }
 
@@ -255,7 +252,8 @@ pub(crate) fn set_variable(
         Variable::Global(number) => set(alloc, Slot::Global(false, number), code),
         Variable::Parameter(place) => set(alloc, Slot::Parameter(false, place), code),
         Variable::Reserved(special) => {
-            let store = set_reserved(alloc, special, Code::Bound(false, 0))?;
+            let code = boxed(alloc, code)?;
+            let store = boxed(alloc, set_reserved(alloc, special, Code::Bound(false, 0))?)?;
             let both = in_turn(alloc, store, Code::Bound(true, 0))?;
             kept_while(alloc, code, both)
         }

@@ -6,22 +6,24 @@ ghost use Rattle.awk_grammar.specs.View.{view as tree, views as trees, view_bina
 ghost use Rattle.awk_state.specs.declared.table.Primitive.TheVariants as row;
 ghost use Rattle.mid_program.specs.Mid as plain;
 ghost use Rattle.mid_program.specs.Translation.{applied_code, code_of, codes_of, ere_code, ere_for, key_code, kept_code, one, truncated_code};
-ghost use Rattle.mid_program.specs.ViewCode.{followed, view, view_maybe, views};
+ghost use Rattle.mid_program.specs.ViewCode.{followed, view, views};
+ghost use Rattle.mid_program.specs.declared.mid.Operation.{Operation};
 ghost use Rattle.mid_code.specs.ViewScope.{scope_of, texts_of};
-ghost use Rattle.mid_code.specs.ViewTarget.{sub_or_gsub};
+ghost use Rattle.mid_code.specs.ViewTarget.{sub_or_gsub, view_kept};
 
-use crate::build::{binary, called, chosen, over, reserved, ternary, unary, variable};
-use crate::operators::{combined, constant, host, prefixed};
+use crate::build::{boxed, called, chosen, number, over, variable};
+use crate::operators::{combined, constant, host, inline, prefixed};
 use crate::parts::{
-    apply_none, assign_place, file_line_into, has_list, host_array, host_number, host_one,
-    line_into, missing, passed, record_length, record_matches, split_into, step_place,
-    step_place_after, string, substitute_place, substitute_record,
+    apply_none, assign_place, field_number, field_separator, file_line_into, has_list, host_array,
+    host_number, host_one, joined, line_into, missing, part_of, passed, record_length,
+    record_matches, split_into, step_place, step_place_after, string, substitute_place,
+    substitute_record,
 };
 use crate::peek::{bare_name, ere_in, is_ere, is_match, is_quotient};
 use crate::scope::Scope;
 use awk_grammar::{BinaryOp, Builtin, Expr, StepOp};
-use awk_state::{Listed, Primitive, Sort, Special};
-use mid_program::{Arithmetic, Code, Operand, Operation};
+use awk_state::{Listed, Primitive, Sort};
+use mid_program::{Arithmetic, Code, Operand};
 use std::alloc::AllocError;
 
 /// The code of an expression.
@@ -46,7 +48,7 @@ pub(crate) fn code(scope: &Scope<'_>, e: &Expr) -> Result<Code, AllocError>
         Expr::PreStep(op, place) => pre_step(scope, *op, place),
         Expr::PostStep(op, place) => post_step(scope, *op, place),
         Expr::Binary(op, left, right) => {
-            let left = code(scope, left)?;
+            let left = boxed_code(scope, left)?;
             combined(alloc, *op, left, operand(scope, *op, right)?)
         }
         Expr::Assign(op, place, value) => {
@@ -56,22 +58,30 @@ pub(crate) fn code(scope: &Scope<'_>, e: &Expr) -> Result<Code, AllocError>
         Expr::In(key, name) => has_key(scope, key, name),
         Expr::InList(first, others, name) => {
             let others = key(scope, others)?;
-            let first = code(scope, first)?;
+            let first = boxed_code(scope, first)?;
             has_list(scope, name, first, others)
         }
         Expr::Conditional(test, yes, no) => {
-            let test = code(scope, test)?;
-            let yes = code(scope, yes)?;
-            chosen(alloc, Sort::Value, test, yes, code(scope, no)?)
+            let test = boxed_code(scope, test)?;
+            let yes = boxed_code(scope, yes)?;
+            Ok(chosen(Sort::Value, test, yes, boxed_code(scope, no)?))
         }
         Expr::Getline => Ok(Code::Ask),
         Expr::GetlineInto(place) => line_to(scope, place),
         Expr::GetlineFrom(file) => host_number_of(scope, Primitive::GetlineFile, file),
         Expr::GetlineIntoFrom(place, file) => {
             let kept = kept(scope, place)?;
-            file_line_into(scope, place, kept, code(scope, file)?)
+            file_line_into(scope, place, kept, boxed_code(scope, file)?)
         }
     }
+}
+
+/// The code of an expression in a box.
+#[cycle(expressions)]
+fn boxed_code(scope: &Scope<'_>, e: &Expr) -> Result<Box<Code>, AllocError>
+    ensures { IfOk result (λ code. view code.value ≡ code_of (texts_of scope.now) (scope_of scope.now) (tree e.now)) }
+{
+    boxed(scope.alloc, code(scope, e)?)
 }
 
 /// What the host does with an expression's answer.
@@ -108,7 +118,7 @@ fn element(scope: &Scope<'_>, name: &[u8], subscripts: &[Expr]) -> Result<Code, 
 fn has_key(scope: &Scope<'_>, key: &Expr, name: &[u8]) -> Result<Code, AllocError>
     ensures { IfOk result (λ code. view code ≡ code_of (texts_of scope.now) (scope_of scope.now) (Has (tree key.now) name.now)) }
 {
-    let key = code(scope, key)?;
+    let key = boxed_code(scope, key)?;
     host_array(scope, Primitive::Has, name, key)
 }
 
@@ -159,18 +169,18 @@ pub(crate) fn push_operands(
 
 /// The code of a key, by its subscripts.
 #[cycle(expressions)]
-pub(crate) fn key(scope: &Scope<'_>, subscripts: &[Expr]) -> Result<Code, AllocError>
-    ensures { IfOk result (λ code. view code ≡ key_code (texts_of scope.now) (scope_of scope.now) (trees subscripts.now)) }
+pub(crate) fn key(scope: &Scope<'_>, subscripts: &[Expr]) -> Result<Box<Code>, AllocError>
+    ensures { IfOk result (λ code. view code.value ≡ key_code (texts_of scope.now) (scope_of scope.now) (trees subscripts.now)) }
 {
     if subscripts.is_empty() {
-        return Ok(Code::Unset);
+        return boxed(scope.alloc, Code::Unset);
     }
     let mut place = subscripts.len() - 1;
-    let mut key = code(scope, &subscripts[place])?;
+    let mut key = boxed_code(scope, &subscripts[place])?;
     while place > 0 {
         place -= 1;
-        let subscript = code(scope, &subscripts[place])?;
-        key = host(scope.alloc, Primitive::Join, subscript, key)?;
+        let subscript = boxed_code(scope, &subscripts[place])?;
+        key = joined(scope.alloc, subscript, key)?;
     }
     Ok(key)
 }
@@ -178,16 +188,15 @@ pub(crate) fn key(scope: &Scope<'_>, subscripts: &[Expr]) -> Result<Code, AllocE
 /// What is kept for a place.
 #[cycle(expressions)]
 #[tactic(auto, unfolding(mid_program::specs::Translation::kept_code))]
-pub(crate) fn kept(scope: &Scope<'_>, place: &Expr) -> Result<Option<Code>, AllocError>
-    ensures { IfOk result (λ kept. view_maybe kept ≡ kept_code (texts_of scope.now) (scope_of scope.now) (tree place.now)) }
+pub(crate) fn kept(scope: &Scope<'_>, place: &Expr) -> Result<Option<Box<Code>>, AllocError>
+    ensures { IfOk result (λ kept. view_kept kept ≡ kept_code (texts_of scope.now) (scope_of scope.now) (tree place.now)) }
 {
     match place {
         Expr::Var(_) => Ok(None),
         Expr::Element(_, subscripts) => Ok(Some(key(scope, subscripts)?)),
         Expr::Field(number) => {
             let number = code(scope, number)?;
-            let checked = unary(scope.alloc, Operation::FieldNumber, number)?;
-            Ok(Some(checked))
+            Ok(Some(field_number(scope.alloc, number)?))
         }
         Expr::Number(_)
         | Expr::Str(_)
@@ -207,21 +216,21 @@ pub(crate) fn kept(scope: &Scope<'_>, place: &Expr) -> Result<Option<Code>, Allo
         | Expr::Getline
         | Expr::GetlineInto(_)
         | Expr::GetlineFrom(_)
-        | Expr::GetlineIntoFrom(_, _) => Ok(Some(Code::Number(0))),
+        | Expr::GetlineIntoFrom(_, _) => Ok(Some(number(scope.alloc, 0)?)),
     }
 }
 
 /// The code of an operator's right operand: an ERE token that is matched is its text.
 #[cycle(expressions)]
-fn operand(scope: &Scope<'_>, op: BinaryOp, e: &Expr) -> Result<Code, AllocError>
-    ensures { IfOk result (λ code. view code ≡ ere_code (texts_of scope.now) (ere_for (view_binary op) (tree e.now)) (code_of (texts_of scope.now) (scope_of scope.now) (tree e.now))) }
+fn operand(scope: &Scope<'_>, op: BinaryOp, e: &Expr) -> Result<Box<Code>, AllocError>
+    ensures { IfOk result (λ code. view code.value ≡ ere_code (texts_of scope.now) (ere_for (view_binary op) (tree e.now)) (code_of (texts_of scope.now) (scope_of scope.now) (tree e.now))) }
 {
     if is_match(op) {
         if let Some(text) = ere_in(e) {
-            return Ok(Code::Text(scope.text_place(text)));
+            return boxed(scope.alloc, Code::Text(scope.text_place(text)));
         }
     }
-    code(scope, e)
+    boxed_code(scope, e)
 }
 
 /// The code of a call.
@@ -309,11 +318,12 @@ fn apply_more(scope: &Scope<'_>, function: Builtin, es: &[Expr]) -> Result<Code,
         Builtin::Close => host_number_of(scope, Primitive::Close, &es[0]),
         Builtin::Int => truncated(scope, &es[0]),
         Builtin::Index => {
-            let text = code(scope, &es[0])?;
-            host(scope.alloc, Primitive::Index, text, code(scope, &es[1])?)
+            let text = boxed_code(scope, &es[0])?;
+            let part = boxed_code(scope, &es[1])?;
+            host(scope.alloc, Primitive::Index, text, part)
         }
         Builtin::Match => {
-            let text = code(scope, &es[0])?;
+            let text = boxed_code(scope, &es[0])?;
             let ere = operand(scope, BinaryOp::Match, &es[1])?;
             host(scope.alloc, Primitive::Match, text, ere)
         }
@@ -337,10 +347,9 @@ fn truncated(scope: &Scope<'_>, e: &Expr) -> Result<Code, AllocError>
             if !is_quotient(*op) {
                 return host_of(scope, Primitive::IntOf, e);
             }
-            let left = code(scope, left)?;
-            let right = code(scope, right)?;
-            let operation = Operation::Inline(Arithmetic::Truncated);
-            binary(scope.alloc, operation, left, right)
+            let left = boxed_code(scope, left)?;
+            let right = boxed_code(scope, right)?;
+            inline(scope.alloc, Arithmetic::Truncated, left, right)
         }
         Expr::Number(_)
         | Expr::Str(_)
@@ -371,13 +380,13 @@ fn substr(scope: &Scope<'_>, es: &[Expr]) -> Result<Code, AllocError>
     requires { 2 ≤ length es.now }
     ensures { IfOk result (λ code. view code ≡ applied_code (texts_of scope.now) (scope_of scope.now) Builtin.Substr (trees es.now)) }
 {
-    let text = code(scope, &es[0])?;
-    let from = code(scope, &es[1])?;
+    let text = boxed_code(scope, &es[0])?;
+    let from = boxed_code(scope, &es[1])?;
     if es.len() == 2 {
         return host(scope.alloc, Primitive::SubstrFrom, text, from);
     }
-    let count = code(scope, &es[2])?;
-    ternary(scope.alloc, Primitive::Substr, text, from, count)
+    let count = boxed_code(scope, &es[2])?;
+    part_of(scope.alloc, text, from, count)
 }
 
 /// The code of `split`.
@@ -389,10 +398,10 @@ fn split(scope: &Scope<'_>, es: &[Expr]) -> Result<Code, AllocError>
     let Some(name) = bare_name(&es[1]) else {
         return Ok(Code::Unset);
     };
-    let text = code(scope, &es[0])?;
-    let array = Code::Array(scope.array(name));
+    let text = boxed_code(scope, &es[0])?;
+    let array = scope.array(name);
     if es.len() == 2 {
-        let separator = reserved(scope.alloc, Special::Fs)?;
+        let separator = field_separator(scope.alloc)?;
         return split_into(scope.alloc, text, array, separator, false);
     }
     let ere = &es[2];
@@ -407,7 +416,7 @@ fn substitute(scope: &Scope<'_>, all: bool, es: &[Expr]) -> Result<Code, AllocEr
     ensures { IfOk result (λ code. view code ≡ applied_code (texts_of scope.now) (scope_of scope.now) (sub_or_gsub all) (trees es.now)) }
 {
     let ere = operand(scope, BinaryOp::Match, &es[0])?;
-    let replacement = code(scope, &es[1])?;
+    let replacement = boxed_code(scope, &es[1])?;
     if es.len() == 2 {
         return substitute_record(scope.alloc, all, ere, replacement);
     }

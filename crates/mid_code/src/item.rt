@@ -14,7 +14,7 @@ ghost use Rattle.mid_code.specs.ViewScope.{scope_of, texts_of};
 use crate::build::{over, record};
 use crate::expression::code;
 use crate::scope::Scope;
-use crate::statement::{block, chosen, nothing, steps, two_steps};
+use crate::statement::{block, boxed, chosen, done_where, nothing, steps};
 use awk_grammar::{Expr, Item, Pattern, Stmt};
 use awk_state::{Destination, Listed};
 use mid_program::{Code, Operand, Step};
@@ -40,25 +40,43 @@ fn print_record(scope: &Scope<'_>) -> Result<Step, AllocError>
     Ok(block(steps))
 }
 
+/// The code that opens or closes the range of an item where a pattern is true.
+fn marked(
+    scope: &Scope<'_>,
+    number: usize,
+    pattern: &Expr,
+    is_open: bool,
+) -> Result<Step, AllocError>
+    ensures { IfOk result (λ step. view_step step ≡ plain.If (code_of (texts_of scope.now) (scope_of scope.now) (tree pattern.now)) (plain.Mark number is_open) (plain.Block plain.NoStep)) }
+{
+    let mark = boxed(scope.alloc, Step::Mark(number, is_open))?;
+    done_where(scope, pattern, mark)
+}
+
 /// The code that opens the range of an item where its first pattern is true.
 fn opening(scope: &Scope<'_>, number: usize, first: &Expr) -> Result<Step, AllocError>
     ensures { IfOk result (λ step. view_step step ≡ plain.If (plain.IsOpen number) (plain.Block plain.NoStep) (plain.If (code_of (texts_of scope.now) (scope_of scope.now) (tree first.now)) (plain.Mark number true) (plain.Block plain.NoStep))) }
 {
-    let alloc = scope.alloc;
-    let test = code(scope, first)?;
-    let opened = chosen(alloc, test, Step::Mark(number, true), nothing(alloc))?;
-    chosen(alloc, Code::IsOpen(number), nothing(alloc), opened)
+    let opened = boxed(scope.alloc, marked(scope, number, first, true)?)?;
+    let nothing = boxed(scope.alloc, nothing(scope.alloc))?;
+    Ok(chosen(Code::IsOpen(number), nothing, opened))
 }
 
 /// The code that closes the range of an item where its last pattern is true, before its action.
-fn closing(scope: &Scope<'_>, number: usize, last: &Expr, action: Step) -> Result<Step, AllocError>
-    ensures { IfOk result (λ step. view_step step ≡ plain.If (plain.IsOpen number) (plain.Block (plain.Then (plain.If (code_of (texts_of scope.now) (scope_of scope.now) (tree last.now)) (plain.Mark number false) (plain.Block plain.NoStep)) (plain.Then (view_step action) plain.NoStep))) (plain.Block plain.NoStep)) }
+fn closing(
+    scope: &Scope<'_>,
+    number: usize,
+    last: &Expr,
+    action: Box<Step>,
+) -> Result<Step, AllocError>
+    ensures { IfOk result (λ step. view_step step ≡ plain.If (plain.IsOpen number) (plain.Block (plain.Then (plain.If (code_of (texts_of scope.now) (scope_of scope.now) (tree last.now)) (plain.Mark number false) (plain.Block plain.NoStep)) (plain.Then (view_step action.value) plain.NoStep))) (plain.Block plain.NoStep)) }
 {
-    let alloc = scope.alloc;
-    let test = code(scope, last)?;
-    let closed = chosen(alloc, test, Step::Mark(number, false), nothing(alloc))?;
-    let both = two_steps(alloc, closed, action)?;
-    chosen(alloc, Code::IsOpen(number), both, nothing(alloc))
+    let mut both = Vec::new(scope.alloc);
+    both.push(marked(scope, number, last, false)?)?;
+    both.push(Box::into_inner(action))?;
+    let both = boxed(scope.alloc, block(both))?;
+    let nothing = boxed(scope.alloc, nothing(scope.alloc))?;
+    Ok(chosen(Code::IsOpen(number), both, nothing))
 }
 
 /// The code of an item's action where its pattern is met.
@@ -66,19 +84,17 @@ fn where_met(
     scope: &Scope<'_>,
     number: usize,
     pattern: &Pattern,
-    action: Step,
+    action: Box<Step>,
 ) -> Result<Step, AllocError>
-    ensures { IfOk result (λ step. view_step step ≡ where_code (texts_of scope.now) (scope_of scope.now) number (view_pattern pattern.now) (view_step action)) }
+    ensures { IfOk result (λ step. view_step step ≡ where_code (texts_of scope.now) (scope_of scope.now) number (view_pattern pattern.now) (view_step action.value)) }
 {
     match pattern {
-        Pattern::One(e) => {
-            let test = code(scope, e)?;
-            chosen(scope.alloc, test, action, nothing(scope.alloc))
-        }
+        Pattern::One(e) => done_where(scope, e, action),
         Pattern::Range(first, last) => {
-            let closing = closing(scope, number, last, action)?;
-            let opening = opening(scope, number, first)?;
-            two_steps(scope.alloc, opening, closing)
+            let mut both = Vec::new(scope.alloc);
+            both.push(opening(scope, number, first)?)?;
+            both.push(closing(scope, number, last, action)?)?;
+            Ok(block(both))
         }
     }
 }
@@ -90,11 +106,11 @@ fn record_item(scope: &Scope<'_>, number: usize, item: &Item) -> Result<Option<S
     match item {
         Item::Action(body) => Ok(Some(action(scope, body)?)),
         Item::Rule(pattern, body) => {
-            let action = action(scope, body)?;
+            let action = boxed(scope.alloc, action(scope, body)?)?;
             Ok(Some(where_met(scope, number, pattern, action)?))
         }
         Item::PatternOnly(pattern) => {
-            let action = print_record(scope)?;
+            let action = boxed(scope.alloc, print_record(scope)?)?;
             Ok(Some(where_met(scope, number, pattern, action)?))
         }
         Item::Function(_, _, _) | Item::Begin(_) | Item::End(_) | Item::Empty => Ok(None),

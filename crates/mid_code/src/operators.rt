@@ -8,7 +8,7 @@ ghost use Rattle.mid_program.specs.Steps.{constant, or_nought};
 ghost use Rattle.mid_program.specs.Translation.{combined, one_code, prefixed, truth_code, two, zero_code};
 ghost use Rattle.mid_program.specs.ViewCode.{view};
 
-use crate::build::{binary, chosen, compared, truth, unary, untruth};
+use crate::build::{binary, boxed, chosen, compared, number, truth, unary, untruth};
 use awk_grammar::{BinaryOp, UnaryOp};
 use awk_state::{Primitive, Sort};
 use awk_text::number_of;
@@ -41,53 +41,65 @@ pub(crate) fn prefixed(alloc: Global, op: UnaryOp, operand: Code) -> Result<Code
 }
 
 /// What the module does with two numbers.
-fn inline(
+pub(crate) fn inline(
     alloc: Global,
     arithmetic: Arithmetic,
-    left: Code,
-    right: Code,
+    left: Box<Code>,
+    right: Box<Code>,
 ) -> Result<Code, AllocError>
-    ensures { IfOk result (λ code. view code ≡ plain.Do (Operation.Inline arithmetic) (two (view left) (view right))) }
+    ensures { IfOk result (λ code. view code ≡ plain.Do (Operation.Inline arithmetic) (two (view left.value) (view right.value))) }
 {
-    binary(alloc, Operation::Inline(arithmetic), left, right)
+    binary(
+        alloc,
+        Operation::Inline(arithmetic),
+        Box::into_inner(left),
+        Box::into_inner(right),
+    )
 }
 
 /// What the host does with two operands.
 pub(crate) fn host(
     alloc: Global,
     primitive: Primitive,
-    left: Code,
-    right: Code,
+    left: Box<Code>,
+    right: Box<Code>,
 ) -> Result<Code, AllocError>
-    ensures { IfOk result (λ code. view code ≡ plain.Do (Operation.Host primitive) (two (view left) (view right))) }
+    ensures { IfOk result (λ code. view code ≡ plain.Do (Operation.Host primitive) (two (view left.value) (view right.value))) }
 {
-    binary(alloc, Operation::Host(primitive), left, right)
+    binary(
+        alloc,
+        Operation::Host(primitive),
+        Box::into_inner(left),
+        Box::into_inner(right),
+    )
 }
 
 /// Whether both are true.
-fn both(alloc: Global, left: Code, right: Code) -> Result<Code, AllocError>
-    ensures { IfOk result (λ code. view code ≡ plain.Choose sort.Number (view left) (truth_code (view right)) zero_code) }
+fn both(alloc: Global, left: Box<Code>, right: Box<Code>) -> Result<Code, AllocError>
+    ensures { IfOk result (λ code. view code ≡ plain.Choose sort.Number (view left.value) (truth_code (view right.value)) zero_code) }
 {
-    let right = truth(alloc, right)?;
-    chosen(alloc, Sort::Number, left, right, Code::Number(0))
+    let right = boxed(alloc, truth(alloc, Box::into_inner(right))?)?;
+    let zero = number(alloc, 0)?;
+    Ok(chosen(Sort::Number, left, right, zero))
 }
 
 /// Whether one is true.
-fn either(alloc: Global, left: Code, right: Code) -> Result<Code, AllocError>
-    ensures { IfOk result (λ code. view code ≡ plain.Choose sort.Number (view left) one_code (truth_code (view right))) }
+fn either(alloc: Global, left: Box<Code>, right: Box<Code>) -> Result<Code, AllocError>
+    ensures { IfOk result (λ code. view code ≡ plain.Choose sort.Number (view left.value) one_code (truth_code (view right.value))) }
 {
-    let right = truth(alloc, right)?;
-    chosen(alloc, Sort::Number, left, Code::Number(1), right)
+    let right = boxed(alloc, truth(alloc, Box::into_inner(right))?)?;
+    let one = number(alloc, 1)?;
+    Ok(chosen(Sort::Number, left, one, right))
 }
 
 /// An operator between its operands.
 pub(crate) fn combined(
     alloc: Global,
     op: BinaryOp,
-    left: Code,
-    right: Code,
+    left: Box<Code>,
+    right: Box<Code>,
 ) -> Result<Code, AllocError>
-    ensures { IfOk result (λ code. view code ≡ combined (view_binary op) (view left) (view right)) }
+    ensures { IfOk result (λ code. view code ≡ combined (view_binary op) (view left.value) (view right.value)) }
 {
     match op {
         BinaryOp::Or => either(alloc, left, right),
@@ -97,12 +109,12 @@ pub(crate) fn combined(
             let matched = host(alloc, Primitive::Matches, left, right)?;
             untruth(alloc, matched)
         }
-        BinaryOp::Less => compared(alloc, CompareOp::Less, left, right),
-        BinaryOp::LessEqual => compared(alloc, CompareOp::LessOrEqual, left, right),
-        BinaryOp::Equal => compared(alloc, CompareOp::Equal, left, right),
-        BinaryOp::NotEqual => compared(alloc, CompareOp::NotEqual, left, right),
-        BinaryOp::Greater => compared(alloc, CompareOp::Greater, left, right),
-        BinaryOp::GreaterEqual => compared(alloc, CompareOp::GreaterOrEqual, left, right),
+        BinaryOp::Less => Ok(compared(CompareOp::Less, left, right)),
+        BinaryOp::LessEqual => Ok(compared(CompareOp::LessOrEqual, left, right)),
+        BinaryOp::Equal => Ok(compared(CompareOp::Equal, left, right)),
+        BinaryOp::NotEqual => Ok(compared(CompareOp::NotEqual, left, right)),
+        BinaryOp::Greater => Ok(compared(CompareOp::Greater, left, right)),
+        BinaryOp::GreaterEqual => Ok(compared(CompareOp::GreaterOrEqual, left, right)),
         BinaryOp::Concat => host(alloc, Primitive::Concat, left, right),
         BinaryOp::Add => inline(alloc, Arithmetic::Plus, left, right),
         BinaryOp::Subtract => inline(alloc, Arithmetic::Minus, left, right),

@@ -12,11 +12,15 @@ ghost use Rattle.mid_program.specs.Mid as plain;
 ghost use Rattle.mid_program.specs.Names as plain_names;
 ghost use Rattle.mid_program.specs.Names.{Name, array_of};
 ghost use Rattle.mid_program.specs.Texts.{text_place};
-ghost use Rattle.mid_program.specs.Translation.{FieldTarget, applied_code, assigned_at, code_of, fresh_codes, keeping, one, passed_code, received_at, record_code, step_after_at, stepped_at, substituted_at, target_in, two, zero_code};
-ghost use Rattle.mid_program.specs.ViewCode.{before, view, view_maybe};
+ghost use Rattle.mid_program.specs.Translation.{FieldTarget, applied_code, assigned_at, code_of, fresh_codes, keeping, one, passed_code, received_at, record_code, special_code, step_after_at, stepped_at, substituted_at, target_in, two, zero_code};
+ghost use Rattle.mid_program.specs.ViewCode.{before, view, view_array};
 ghost use Rattle.mid_code.specs.ViewScope.{scope_of, texts_of};
+ghost use Rattle.mid_code.specs.ViewTarget.{view_kept};
 
-use crate::build::{applied, ask_line, file_line, kept_while, record, three, unary, variable};
+use crate::build::{
+    applied, ask_line, binary, boxed, file_line, kept_while, number, record, reserved, ternary,
+    three, unary, variable,
+};
 use crate::operators::host;
 use crate::peek::ere_text;
 use crate::scope::Scope;
@@ -25,9 +29,9 @@ use crate::target::{
 };
 use awk_grammar::{AssignOp, Builtin, Expr, StepOp};
 use awk_resolve::NameKind;
-use awk_state::Primitive;
+use awk_state::{Primitive, Special};
 use awk_text::string_text;
-use mid_program::{Code, Operand, Operation};
+use mid_program::{ArrayName, Code, Operand, Operation};
 use std::alloc::{AllocError, Global};
 
 /// A string.
@@ -43,9 +47,14 @@ pub(crate) fn string(scope: &Scope<'_>, quoted: &[u8]) -> Result<Code, AllocErro
 pub(crate) fn record_matches(scope: &Scope<'_>, token: &[u8]) -> Result<Code, AllocError>
     ensures { IfOk result (λ code. view code ≡ code_of (texts_of scope.now) (scope_of scope.now) (Leaf (Ere token.now))) }
 {
-    let text = Code::Text(scope.text_place(ere_text(token)));
     let record = record(scope.alloc)?;
-    host(scope.alloc, Primitive::Matches, record, text)
+    let text = Code::Text(scope.text_place(ere_text(token)));
+    binary(
+        scope.alloc,
+        Operation::Host(Primitive::Matches),
+        record,
+        text,
+    )
 }
 
 /// The length of the record.
@@ -84,25 +93,48 @@ pub(crate) fn host_array(
     scope: &Scope<'_>,
     primitive: Primitive,
     name: &[u8],
-    key: Code,
+    key: Box<Code>,
 ) -> Result<Code, AllocError>
-    ensures { IfOk result (λ code. view code ≡ plain.Do (Operation.Host primitive) (two (plain.Array (array_of (scope_of scope.now) name.now)) (view key))) }
+    ensures { IfOk result (λ code. view code ≡ plain.Do (Operation.Host primitive) (two (plain.Array (array_of (scope_of scope.now) name.now)) (view key.value))) }
 {
     let array = Code::Array(scope.array(name));
-    host(scope.alloc, primitive, array, key)
+    binary(
+        scope.alloc,
+        Operation::Host(primitive),
+        array,
+        Box::into_inner(key),
+    )
+}
+
+/// A subscript before the key of others.
+pub(crate) fn joined(
+    alloc: Global,
+    first: Box<Code>,
+    others: Box<Code>,
+) -> Result<Box<Code>, AllocError>
+    ensures { IfOk result (λ key. view key.value ≡ plain.Do (Operation.Host row.Join) (two (view first.value) (view others.value))) }
+{
+    boxed(alloc, host(alloc, Primitive::Join, first, others)?)
 }
 
 /// Whether an array has the element of a list of subscripts.
 pub(crate) fn has_list(
     scope: &Scope<'_>,
     name: &[u8],
-    first: Code,
-    others: Code,
+    first: Box<Code>,
+    others: Box<Code>,
 ) -> Result<Code, AllocError>
-    ensures { IfOk result (λ code. view code ≡ plain.Do (Operation.Host row.Has) (two (plain.Array (array_of (scope_of scope.now) name.now)) (plain.Do (Operation.Host row.Join) (two (view first) (view others))))) }
+    ensures { IfOk result (λ code. view code ≡ plain.Do (Operation.Host row.Has) (two (plain.Array (array_of (scope_of scope.now) name.now)) (plain.Do (Operation.Host row.Join) (two (view first.value) (view others.value))))) }
 {
-    let key = host(scope.alloc, Primitive::Join, first, others)?;
+    let key = joined(scope.alloc, first, others)?;
     host_array(scope, Primitive::Has, name, key)
+}
+
+/// The number of a field, which is kept for a place.
+pub(crate) fn field_number(alloc: Global, number: Code) -> Result<Box<Code>, AllocError>
+    ensures { IfOk result (λ kept. view kept.value ≡ plain.Do Operation.FieldNumber (one (view number))) }
+{
+    boxed(alloc, unary(alloc, Operation::FieldNumber, number)?)
 }
 
 /// A step of a place; the number after it is the answer.
@@ -110,9 +142,9 @@ pub(crate) fn step_place(
     scope: &Scope<'_>,
     op: StepOp,
     place: &Expr,
-    kept: Option<Code>,
+    kept: Option<Box<Code>>,
 ) -> Result<Code, AllocError>
-    ensures { IfOk result (λ code. view code ≡ keeping (view_maybe kept) (stepped_at (view_step op) (target_in (texts_of scope.now) (scope_of scope.now) (tree place.now)))) }
+    ensures { IfOk result (λ code. view code ≡ keeping (view_kept kept) (stepped_at (view_step op) (target_in (texts_of scope.now) (scope_of scope.now) (tree place.now)))) }
 {
     let body = stepped(scope.alloc, op, target_in(scope, place))?;
     keeping(scope.alloc, kept, body)
@@ -123,9 +155,9 @@ pub(crate) fn step_place_after(
     scope: &Scope<'_>,
     op: StepOp,
     place: &Expr,
-    kept: Option<Code>,
+    kept: Option<Box<Code>>,
 ) -> Result<Code, AllocError>
-    ensures { IfOk result (λ code. view code ≡ keeping (view_maybe kept) (step_after_at (view_step op) (target_in (texts_of scope.now) (scope_of scope.now) (tree place.now)))) }
+    ensures { IfOk result (λ code. view code ≡ keeping (view_kept kept) (step_after_at (view_step op) (target_in (texts_of scope.now) (scope_of scope.now) (tree place.now)))) }
 {
     let body = step_after(scope.alloc, op, target_in(scope, place))?;
     keeping(scope.alloc, kept, body)
@@ -136,10 +168,10 @@ pub(crate) fn assign_place(
     scope: &Scope<'_>,
     op: AssignOp,
     place: &Expr,
-    kept: Option<Code>,
+    kept: Option<Box<Code>>,
     right: Code,
 ) -> Result<Code, AllocError>
-    ensures { IfOk result (λ code. view code ≡ keeping (view_maybe kept) (assigned_at (view_assign op) (target_in (texts_of scope.now) (scope_of scope.now) (tree place.now)) (view right))) }
+    ensures { IfOk result (λ code. view code ≡ keeping (view_kept kept) (assigned_at (view_assign op) (target_in (texts_of scope.now) (scope_of scope.now) (tree place.now)) (view right))) }
 {
     let body = assigned(scope.alloc, op, target_in(scope, place), right)?;
     keeping(scope.alloc, kept, body)
@@ -149,9 +181,9 @@ pub(crate) fn assign_place(
 pub(crate) fn line_into(
     scope: &Scope<'_>,
     place: &Expr,
-    kept: Option<Code>,
+    kept: Option<Box<Code>>,
 ) -> Result<Code, AllocError>
-    ensures { IfOk result (λ code. view code ≡ keeping (view_maybe kept) (plain.AskLine (received_at (target_in (texts_of scope.now) (scope_of scope.now) (tree place.now))))) }
+    ensures { IfOk result (λ code. view code ≡ keeping (view_kept kept) (plain.AskLine (received_at (target_in (texts_of scope.now) (scope_of scope.now) (tree place.now))))) }
 {
     let store = received(scope.alloc, target_in(scope, place))?;
     let body = ask_line(scope.alloc, store)?;
@@ -162,10 +194,10 @@ pub(crate) fn line_into(
 pub(crate) fn file_line_into(
     scope: &Scope<'_>,
     place: &Expr,
-    kept: Option<Code>,
-    file: Code,
+    kept: Option<Box<Code>>,
+    file: Box<Code>,
 ) -> Result<Code, AllocError>
-    ensures { IfOk result (λ code. view code ≡ keeping (view_maybe kept) (plain.FileLine (view file) (received_at (target_in (texts_of scope.now) (scope_of scope.now) (tree place.now))))) }
+    ensures { IfOk result (λ code. view code ≡ keeping (view_kept kept) (plain.FileLine (view file.value) (received_at (target_in (texts_of scope.now) (scope_of scope.now) (tree place.now))))) }
 {
     let store = received(scope.alloc, target_in(scope, place))?;
     let body = file_line(scope.alloc, file, store)?;
@@ -221,24 +253,52 @@ pub(crate) fn apply_none(alloc: Global, function: Builtin) -> Result<Code, Alloc
     }
 }
 
+/// A part of a text, from a place on and of a length.
+pub(crate) fn part_of(
+    alloc: Global,
+    text: Box<Code>,
+    from: Box<Code>,
+    count: Box<Code>,
+) -> Result<Code, AllocError>
+    ensures { IfOk result (λ code. view code ≡ plain.Do (Operation.Host row.Substr) (plain.At (view text.value) (two (view from.value) (view count.value)))) }
+{
+    let text = Box::into_inner(text);
+    let from = Box::into_inner(from);
+    ternary(alloc, Primitive::Substr, text, from, Box::into_inner(count))
+}
+
+/// The separator of `split` where none is given.
+pub(crate) fn field_separator(alloc: Global) -> Result<Box<Code>, AllocError>
+    ensures { IfOk result (λ code. view code.value ≡ special_code Special.Fs) }
+{
+    boxed(alloc, reserved(alloc, Special::Fs)?)
+}
+
 /// A text is split into an array's elements; the last operand says whether the separator is an ERE.
 pub(crate) fn split_into(
     alloc: Global,
-    text: Code,
-    array: Code,
-    separator: Code,
+    text: Box<Code>,
+    array: ArrayName,
+    separator: Box<Code>,
     is_ere: bool,
 ) -> Result<Code, AllocError>
-    ensures { IfOk result (λ code. view code ≡ plain.Do (Operation.Host row.Split) (plain.At (view text) (plain.At (view array) (plain.At (view separator) (plain.Fixed (flag_number is_ere) plain.End))))) }
+    ensures { IfOk result (λ code. view code ≡ plain.Do (Operation.Host row.Split) (plain.At (view text.value) (plain.At (plain.Array (view_array array)) (plain.At (view separator.value) (plain.Fixed (flag_number is_ere) plain.End))))) }
 {
-    let mut operands = three(alloc, text, array, separator)?;
+    let text = Box::into_inner(text);
+    let separator = Box::into_inner(separator);
+    let mut operands = three(alloc, text, Code::Array(array), separator)?;
     operands.push(Operand::Constant(u32::from(is_ere)))?;
     Ok(applied(Operation::Host(Primitive::Split), operands))
 }
 
 /// Replacement and expression are kept for what replaces.
-fn replacing(alloc: Global, ere: Code, replacement: Code, body: Code) -> Result<Code, AllocError>
-    ensures { IfOk result (λ code. view code ≡ plain.Let (view ere) (plain.Let (view replacement) (view body))) }
+fn replacing(
+    alloc: Global,
+    ere: Box<Code>,
+    replacement: Box<Code>,
+    body: Code,
+) -> Result<Code, AllocError>
+    ensures { IfOk result (λ code. view code ≡ plain.Let (view ere.value) (plain.Let (view replacement.value) (view body))) }
 {
     let body = kept_while(alloc, replacement, body)?;
     kept_while(alloc, ere, body)
@@ -248,13 +308,14 @@ fn replacing(alloc: Global, ere: Code, replacement: Code, body: Code) -> Result<
 pub(crate) fn substitute_record(
     alloc: Global,
     all: bool,
-    ere: Code,
-    replacement: Code,
+    ere: Box<Code>,
+    replacement: Box<Code>,
 ) -> Result<Code, AllocError>
-    ensures { IfOk result (λ code. view code ≡ plain.Let (view ere) (plain.Let (view replacement) (plain.Let zero_code (substituted_at all FieldTarget)))) }
+    ensures { IfOk result (λ code. view code ≡ plain.Let (view ere.value) (plain.Let (view replacement.value) (plain.Let zero_code (substituted_at all FieldTarget)))) }
 {
+    let zero = number(alloc, 0)?;
     let body = substituted(alloc, all, Target::Field)?;
-    let body = kept_while(alloc, Code::Number(0), body)?;
+    let body = kept_while(alloc, zero, body)?;
     replacing(alloc, ere, replacement, body)
 }
 
@@ -263,11 +324,11 @@ pub(crate) fn substitute_place(
     scope: &Scope<'_>,
     all: bool,
     place: &Expr,
-    kept: Option<Code>,
-    ere: Code,
-    replacement: Code,
+    kept: Option<Box<Code>>,
+    ere: Box<Code>,
+    replacement: Box<Code>,
 ) -> Result<Code, AllocError>
-    ensures { IfOk result (λ code. view code ≡ plain.Let (view ere) (plain.Let (view replacement) (keeping (view_maybe kept) (substituted_at all (target_in (texts_of scope.now) (scope_of scope.now) (tree place.now)))))) }
+    ensures { IfOk result (λ code. view code ≡ plain.Let (view ere.value) (plain.Let (view replacement.value) (keeping (view_kept kept) (substituted_at all (target_in (texts_of scope.now) (scope_of scope.now) (tree place.now)))))) }
 {
     let body = substituted(scope.alloc, all, target_in(scope, place))?;
     let body = keeping(scope.alloc, kept, body)?;

@@ -1,13 +1,14 @@
 //! The code of statements.
 
 ghost use Rattle.std.specs.Prelude.{◌≡◌, ℕ, List, true, false, IfOk};
+ghost use Rattle.awk_grammar.specs.View.{view as tree};
 ghost use Rattle.awk_grammar.specs.ViewStmt.{view_args, view_jump, view_leaving, view_maybe, view_maybe_simple, view_simple, view_stmt as tree_stmt, view_stmts as tree_stmts, view_target as tree_target, view_word};
 ghost use Rattle.awk_grammar.specs.Stmt.{Jumping, Leave};
 ghost use Rattle.mid_program.specs.Mid as plain;
 ghost use Rattle.mid_program.specs.Names as names;
 ghost use Rattle.mid_program.specs.Names.{array_of, variable_of};
 ghost use Rattle.mid_program.specs.Statements.{destination_of, listed_of, operands_of, with_target};
-ghost use Rattle.mid_program.specs.Translation.{codes_of, maybe_step, moved, plain_step, step_code, steps_code, store_variable_code, test_code};
+ghost use Rattle.mid_program.specs.Translation.{code_of, codes_of, maybe_step, moved, plain_step, step_code, steps_code, store_variable_code, test_code};
 ghost use Rattle.mid_program.specs.ViewCode.{view, view_array, view_step, view_steps, views};
 ghost use Rattle.mid_code.specs.ViewScope.{scope_of, texts_of};
 
@@ -133,38 +134,62 @@ fn test(scope: &Scope<'_>, e: &Option<Expr>) -> Result<Code, AllocError>
     }
 }
 
-pub(crate) fn chosen(alloc: Global, test: Code, yes: Step, no: Step) -> Result<Step, AllocError>
-    ensures { IfOk result (λ step. view_step step ≡ plain.If (view test) (view_step yes) (view_step no)) }
+/// A step in a box.
+pub(crate) fn boxed(alloc: Global, step: Step) -> Result<Box<Step>, AllocError>
+    ensures { IfOk result (λ boxed. boxed.value ≡ step) }
 {
-    Ok(Step::If(test, Box::new(alloc, yes)?, Box::new(alloc, no)?))
+    Ok(Box::new(alloc, step)?)
 }
 
-fn repeated(
-    alloc: Global,
-    first: bool,
-    test: Code,
-    body: Step,
-    next: Step,
+/// One of two steps, by the truth of a test.
+pub(crate) fn chosen(test: Code, yes: Box<Step>, no: Box<Step>) -> Step
+    ensures { view_step result ≡ plain.If (view test) (view_step yes.value) (view_step no.value) }
+{
+    Step::If(test, yes, no)
+}
+
+/// The code of `if` and `else`, where both branches have their code.
+fn branches(
+    scope: &Scope<'_>,
+    test: &Expr,
+    yes: Box<Step>,
+    no: Box<Step>,
 ) -> Result<Step, AllocError>
-    ensures { IfOk result (λ step. view_step step ≡ plain.Loop first (view test) (view_step body) (view_step next)) }
+    ensures { IfOk result (λ step. view_step step ≡ plain.If (code_of (texts_of scope.now) (scope_of scope.now) (tree test.now)) (view_step yes.value) (view_step no.value)) }
 {
-    Ok(Step::Loop(first, test, Box::new(alloc, body)?, Box::new(alloc, next)?))
+    Ok(chosen(code(scope, test)?, yes, no))
 }
 
-fn for_each(alloc: Global, array: ArrayName, store: Code, body: Step) -> Result<Step, AllocError>
-    ensures { IfOk result (λ step. view_step step ≡ plain.Each (view_array array) (view store) (view_step body)) }
+/// The code of `if`, where what is done has its code.
+pub(crate) fn done_where(
+    scope: &Scope<'_>,
+    test: &Expr,
+    done: Box<Step>,
+) -> Result<Step, AllocError>
+    ensures { IfOk result (λ step. view_step step ≡ plain.If (code_of (texts_of scope.now) (scope_of scope.now) (tree test.now)) (view_step done.value) (plain.Block plain.NoStep)) }
 {
-    Ok(Step::Each(array, store, Box::new(alloc, body)?))
+    let otherwise = boxed(scope.alloc, nothing(scope.alloc))?;
+    branches(scope, test, done, otherwise)
 }
 
-/// Two steps in order.
-pub(crate) fn two_steps(alloc: Global, first: Step, second: Step) -> Result<Step, AllocError>
-    ensures { IfOk result (λ step. view_step step ≡ plain.Block (plain.Then (view_step first) (plain.Then (view_step second) plain.NoStep))) }
+fn repeated(first: bool, test: Code, body: Box<Step>, next: Box<Step>) -> Step
+    ensures { view_step result ≡ plain.Loop first (view test) (view_step body.value) (view_step next.value) }
 {
-    let mut steps = Vec::new(alloc);
-    steps.push(first)?;
-    steps.push(second)?;
-    Ok(block(steps))
+    Step::Loop(first, test, body, next)
+}
+
+/// The code of `while` and `do`, where the body has its code.
+fn rounds(scope: &Scope<'_>, first: bool, test: &Expr, body: Box<Step>) -> Result<Step, AllocError>
+    ensures { IfOk result (λ step. view_step step ≡ plain.Loop first (code_of (texts_of scope.now) (scope_of scope.now) (tree test.now)) (view_step body.value) (plain.Block plain.NoStep)) }
+{
+    let next = boxed(scope.alloc, nothing(scope.alloc))?;
+    Ok(repeated(first, code(scope, test)?, body, next))
+}
+
+fn for_each(array: ArrayName, store: Code, body: Box<Step>) -> Step
+    ensures { view_step result ≡ plain.Each (view_array array) (view store) (view_step body.value) }
+{
+    Step::Each(array, store, body)
 }
 
 #[tactic(auto, unfolding(mid_program::specs::Translation::step_code))]
@@ -197,24 +222,25 @@ fn counted(
     first: &Option<SimpleStmt>,
     condition: &Option<Expr>,
     next: &Option<SimpleStmt>,
-    body: Step,
+    body: Box<Step>,
 ) -> Result<Step, AllocError>
-    ensures { IfOk result (λ step. view_step step ≡ plain.Block (plain.Then (maybe_step (texts_of scope.now) (scope_of scope.now) (view_maybe_simple first.now)) (plain.Then (plain.Loop true (test_code (texts_of scope.now) (scope_of scope.now) (view_maybe condition.now)) (view_step body) (maybe_step (texts_of scope.now) (scope_of scope.now) (view_maybe_simple next.now))) plain.NoStep))) }
+    ensures { IfOk result (λ step. view_step step ≡ plain.Block (plain.Then (maybe_step (texts_of scope.now) (scope_of scope.now) (view_maybe_simple first.now)) (plain.Then (plain.Loop true (test_code (texts_of scope.now) (scope_of scope.now) (view_maybe condition.now)) (view_step body.value) (maybe_step (texts_of scope.now) (scope_of scope.now) (view_maybe_simple next.now))) plain.NoStep))) }
 {
-    let next = optional_simple(scope, next)?;
-    let condition = test(scope, condition)?;
-    let rounds = repeated(scope.alloc, true, condition, body, next)?;
-    let first = optional_simple(scope, first)?;
-    two_steps(scope.alloc, first, rounds)
+    let mut steps = Vec::new(scope.alloc);
+    steps.push(optional_simple(scope, first)?)?;
+    let next = boxed(scope.alloc, optional_simple(scope, next)?)?;
+    steps.push(repeated(true, test(scope, condition)?, body, next))?;
+    Ok(block(steps))
 }
 
 /// The code of `for (key in array)`, where its body has its code.
-fn walked(scope: &Scope<'_>, name: &[u8], array: &[u8], body: Step) -> Result<Step, AllocError>
-    ensures { IfOk result (λ step. view_step step ≡ plain.Each (array_of (scope_of scope.now) array.now) (store_variable_code (variable_of (scope_of scope.now) name.now) (moved 0)) (view_step body)) }
+fn walked(scope: &Scope<'_>, name: &[u8], array: &[u8], body: Box<Step>) -> Result<Step, AllocError>
+    ensures { IfOk result (λ step. view_step step ≡ plain.Each (array_of (scope_of scope.now) array.now) (store_variable_code (variable_of (scope_of scope.now) name.now) (moved 0)) (view_step body.value)) }
 {
-    let key = Code::Bound(true, 0);
-    let store = store_variable(scope.alloc, scope.variable(name), key)?;
-    for_each(scope.alloc, scope.array(array), store, body)
+    let variable = scope.variable(name);
+    let array = scope.array(array);
+    let store = store_variable(scope.alloc, variable, Code::Bound(true, 0))?;
+    Ok(for_each(array, store, body))
 }
 
 /// The code of a statement.
@@ -223,39 +249,32 @@ fn walked(scope: &Scope<'_>, name: &[u8], array: &[u8], body: Step) -> Result<St
 pub(crate) fn step(scope: &Scope<'_>, s: &Stmt) -> Result<Step, AllocError>
     ensures { IfOk result (λ step. view_step step ≡ step_code (texts_of scope.now) (scope_of scope.now) (tree_stmt s.now)) }
 {
-    let alloc = scope.alloc;
     match s {
         Stmt::Block(body) => Ok(block(steps(scope, body)?)),
-        Stmt::Empty => Ok(nothing(alloc)),
+        Stmt::Empty => Ok(nothing(scope.alloc)),
         Stmt::Simple(s) => simple(scope, s),
-        Stmt::If(test, yes) => {
-            let test = code(scope, test)?;
-            chosen(alloc, test, step(scope, yes)?, nothing(alloc))
-        }
+        Stmt::If(test, yes) => done_where(scope, test, boxed_step(scope, yes)?),
         Stmt::IfElse(test, yes, no) => {
-            let test = code(scope, test)?;
-            let yes = step(scope, yes)?;
-            chosen(alloc, test, yes, step(scope, no)?)
+            let yes = boxed_step(scope, yes)?;
+            branches(scope, test, yes, boxed_step(scope, no)?)
         }
-        Stmt::While(test, body) => {
-            let test = code(scope, test)?;
-            repeated(alloc, true, test, step(scope, body)?, nothing(alloc))
-        }
-        Stmt::Do(body, test) => {
-            let test = code(scope, test)?;
-            repeated(alloc, false, test, step(scope, body)?, nothing(alloc))
-        }
+        Stmt::While(test, body) => rounds(scope, true, test, boxed_step(scope, body)?),
+        Stmt::Do(body, test) => rounds(scope, false, test, boxed_step(scope, body)?),
         Stmt::For(first, condition, next, body) => {
-            let body = step(scope, body)?;
-            counted(scope, first, condition, next, body)
+            counted(scope, first, condition, next, boxed_step(scope, body)?)
         }
-        Stmt::ForIn(key, array, body) => {
-            let body = step(scope, body)?;
-            walked(scope, key, array, body)
-        }
+        Stmt::ForIn(key, array, body) => walked(scope, key, array, boxed_step(scope, body)?),
         Stmt::Jump(jumping) => Ok(jump(*jumping)),
         Stmt::Leave(leaving, e) => leave(scope, *leaving, e),
     }
+}
+
+/// The code of a statement in a box.
+#[cycle(statements)]
+fn boxed_step(scope: &Scope<'_>, s: &Stmt) -> Result<Box<Step>, AllocError>
+    ensures { IfOk result (λ step. view_step step.value ≡ step_code (texts_of scope.now) (scope_of scope.now) (tree_stmt s.now)) }
+{
+    boxed(scope.alloc, step(scope, s)?)
 }
 
 /// The code of statements.

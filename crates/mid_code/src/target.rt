@@ -3,12 +3,12 @@
 ghost use Rattle.std.specs.Prelude.{◌≡◌, IfOk};
 ghost use Rattle.awk_grammar.specs.View.{view as tree, view_assign, view_step};
 ghost use Rattle.mid_program.specs.Translation.{assigned_at, kept_at, keeping, read_at, received_at, step_after_at, step_of, stepped_at, store_at, stored_at, substituted_at, target_in, updated_at};
-ghost use Rattle.mid_program.specs.ViewCode.{view, view_maybe};
+ghost use Rattle.mid_program.specs.ViewCode.{view};
 ghost use Rattle.mid_code.specs.ViewScope.{scope_of, texts_of};
-ghost use Rattle.mid_code.specs.ViewTarget.{view_target};
+ghost use Rattle.mid_code.specs.ViewTarget.{view_kept, view_target};
 
 use crate::build::{
-    binary, in_turn, kept_while, set_variable, store_variable, substitution, ternary, unary,
+    binary, boxed, in_turn, kept_while, set_variable, store_variable, substitution, ternary, unary,
     variable,
 };
 use crate::names::Variable;
@@ -19,7 +19,7 @@ use mid_program::{Arithmetic, ArrayName, Code, Operation};
 use std::alloc::{AllocError, Global};
 
 /// What takes a value, once its key or its field's number is kept.
-#[derive(Clone, Copy, Debug, PartialEq, Eq)]
+#[derive(Clone, Copy)]
 pub(crate) enum Target {
     Element(ArrayName),
     Name(Variable),
@@ -60,14 +60,21 @@ pub(crate) fn target_in(scope: &Scope<'_>, place: &Expr) -> Target
 fn read(alloc: Global, target: Target, after: usize) -> Result<Code, AllocError>
     ensures { IfOk result (λ code. view code ≡ read_at (view_target target) after) }
 {
-    let kept = Code::Bound(false, after);
     match target {
         Target::Element(array) => {
             let operation = Operation::Host(Primitive::Elem);
-            binary(alloc, operation, Code::Array(array), kept)
+            binary(
+                alloc,
+                operation,
+                Code::Array(array),
+                Code::Bound(false, after),
+            )
         }
         Target::Name(name) => variable(alloc, name),
-        Target::Field => unary(alloc, Operation::Host(Primitive::Field), kept),
+        Target::Field => {
+            let operation = Operation::Host(Primitive::Field);
+            unary(alloc, operation, Code::Bound(false, after))
+        }
     }
 }
 
@@ -75,14 +82,17 @@ fn read(alloc: Global, target: Target, after: usize) -> Result<Code, AllocError>
 fn store(alloc: Global, target: Target, after: usize, code: Code) -> Result<Code, AllocError>
     ensures { IfOk result (λ store. view store ≡ store_at (view_target target) after (view code)) }
 {
-    let kept = Code::Bound(true, after);
     match target {
         Target::Element(array) => {
             let array = Code::Array(array);
+            let kept = Code::Bound(true, after);
             ternary(alloc, Primitive::SetElem, array, kept, code)
         }
         Target::Name(name) => store_variable(alloc, name, code),
-        Target::Field => binary(alloc, Operation::Host(Primitive::SetField), kept, code),
+        Target::Field => {
+            let kept = Code::Bound(true, after);
+            binary(alloc, Operation::Host(Primitive::SetField), kept, code)
+        }
     }
 }
 
@@ -93,8 +103,9 @@ fn stored(alloc: Global, target: Target, after: u8, code: Code) -> Result<Code, 
     match target {
         Target::Name(name) => set_variable(alloc, name, code),
         Target::Element(_) | Target::Field => {
+            let code = boxed(alloc, code)?;
             let after = usize::from(after) + 1;
-            let store = store(alloc, target, after, Code::Bound(false, 0))?;
+            let store = boxed(alloc, store(alloc, target, after, Code::Bound(false, 0))?)?;
             let both = in_turn(alloc, store, Code::Bound(true, 0))?;
             kept_while(alloc, code, both)
         }
@@ -124,17 +135,18 @@ pub(crate) fn stepped(alloc: Global, op: StepOp, target: Target) -> Result<Code,
 pub(crate) fn step_after(alloc: Global, op: StepOp, target: Target) -> Result<Code, AllocError>
     ensures { IfOk result (λ code. view code ≡ step_after_at (view_step op) (view_target target)) }
 {
-    let store = store(alloc, target, 2, Code::Bound(true, 0))?;
-    let both = in_turn(alloc, store, Code::Bound(true, 1))?;
+    let old = read(alloc, target, 0)?;
+    let number = boxed(alloc, unary(alloc, Operation::AsNumber, old)?)?;
     let new = binary(
         alloc,
         step_operation(op),
         Code::Bound(false, 0),
         Code::Number(1),
     )?;
+    let new = boxed(alloc, new)?;
+    let store = boxed(alloc, store(alloc, target, 2, Code::Bound(true, 0))?)?;
+    let both = in_turn(alloc, store, Code::Bound(true, 1))?;
     let body = kept_while(alloc, new, both)?;
-    let old = read(alloc, target, 0)?;
-    let number = unary(alloc, Operation::AsNumber, old)?;
     kept_while(alloc, number, body)
 }
 
@@ -147,6 +159,7 @@ fn updated(
 ) -> Result<Code, AllocError>
     ensures { IfOk result (λ code. view code ≡ updated_at operation (view_target target) (view right)) }
 {
+    let right = boxed(alloc, right)?;
     let old = read(alloc, target, 1)?;
     let new = binary(alloc, operation, old, Code::Bound(true, 0))?;
     let body = stored(alloc, target, 1, new)?;
@@ -196,16 +209,20 @@ pub(crate) fn substituted(alloc: Global, all: bool, target: Target) -> Result<Co
     ensures { IfOk result (λ code. view code ≡ substituted_at all (view_target target)) }
 {
     let after = usize::from(kept_count(target));
+    let store = boxed(alloc, store(alloc, target, 1, Code::Bound(true, 0))?)?;
+    let old = read(alloc, target, 0)?;
     let ere = Code::Bound(true, after + 1);
     let replacement = Code::Bound(true, after);
-    let old = read(alloc, target, 0)?;
-    let store = store(alloc, target, 1, Code::Bound(true, 0))?;
     substitution(alloc, all, ere, replacement, old, store)
 }
 
 /// What is kept, if anything is, before what is done with it.
-pub(crate) fn keeping(alloc: Global, kept: Option<Code>, body: Code) -> Result<Code, AllocError>
-    ensures { IfOk result (λ code. view code ≡ keeping (view_maybe kept) (view body)) }
+pub(crate) fn keeping(
+    alloc: Global,
+    kept: Option<Box<Code>>,
+    body: Code,
+) -> Result<Code, AllocError>
+    ensures { IfOk result (λ code. view code ≡ keeping (view_kept kept) (view body)) }
 {
     match kept {
         Some(kept) => kept_while(alloc, kept, body),

@@ -6,8 +6,9 @@ use Rattle.awk_grammar.specs.declared.tree.Expr.{Expr}
 use Rattle.awk_grammar.proofs.Views.{element_is, call_is, apply_is, in_list_is}
 use Rattle.mid_program.specs.Mid as plain
 use Rattle.mid_program.specs.Translation.{applied_code, code_of}
+use Rattle.mid_program.specs.ViewCode.{view}
 use Rattle.mid_code.specs.ViewScope.{scope_of, texts_of}
-use Rattle.mid_code.proofs.CodeParts.{binary_is, call_computed, call_end, call_missing, call_named, element_kept, in_list_code, index_code, key_end, key_none, key_step, length_more, list_code, match_code, no_trees, one_tree, operands_end, operands_step, other_code, other_operator, place_replaced, quotient_code, record_replaced, some_left, split_by_code, split_code, split_none, substr_code, substr_from}
+use Rattle.mid_code.proofs.CodeParts.{binary_is, call_computed, call_end, call_missing, call_named, conditional_code, element_kept, in_list_code, index_code, key_end, key_none, key_step, length_more, list_code, match_code, no_trees, one_tree, operands_end, operands_step, other_code, other_operator, place_replaced, quotient_code, record_replaced, some_left, split_by_code, split_code, split_none, substr_code, substr_from}
 use Rattle.mid_code.proofs.expression.+expressions.Goals.{call-then-i-es+in_ok-push, call-else-i-es+in-Some+in_ok-passed+in_ok-push-2, call-else-i-es+in_default+in_ok-code+in_ok-push-3}
 use Rattle.mid_code.proofs.expression.+expressions.Goals as goal
 
@@ -37,6 +38,12 @@ code-returns-in_ok-first-in-InList t c =
     c.deref-in-InList.ensures.value c.deref-in-InList-3.ensures.value) c.in_ok-first-in-InList.ensures c.in_ok-others-in-InList.ensures)
     c.has_list.ensures
 
+pub code-returns-in_ok-boxed_code-in-Conditional : goal.code-returns-in_ok-boxed_code-in-Conditional
+code-returns-in_ok-boxed_code-in-Conditional t c =
+    c.chosen.ensures ∙ conditional_code (texts_of c.args.scope.now) (scope_of c.args.scope.now) c.args.e.now _ _ _ _ _ _ _ _ _ c.in-Conditional.is
+    c.deref-in-Conditional.ensures c.deref-in-Conditional-2.ensures c.deref-in-Conditional-3.ensures
+    c.in_ok-test-in-Conditional.ensures c.in_ok-yes-in-Conditional.ensures c.in_ok-boxed_code-in-Conditional.ensures
+
 pub kept-returns-in_ok-key-in-Element : goal.kept-returns-in_ok-key-in-Element
 kept-returns-in_ok-key-in-Element t c =
     element_kept (texts_of c.args.scope.now) (scope_of c.args.scope.now) (tree c.args.place.now) _ _ _
@@ -55,7 +62,9 @@ push_operands-returns t c = operands_end (texts_of c.args.scope.now) (scope_of c
     (omega arith) c.loop-e.invariant
 
 pub key-returns-then-is_empty : goal.key-returns-then-is_empty
-key-returns-then-is_empty t c = key_none (texts_of c.args.scope.now) (scope_of c.args.scope.now) c.args.subscripts.now (cc)
+key-returns-then-is_empty t c =
+    IfOk-weaker c.boxed.result _ _ (λ r h. ap view h ∙ key_none (texts_of c.args.scope.now) (scope_of c.args.scope.now) c.args.subscripts.now (cc))
+    c.boxed.ensures
 
 pub key-loop-place-init : goal.key-loop-place-init
 key-loop-place-init t c =
@@ -124,11 +133,11 @@ apply_more-returns-in-Length t c =
     IfOk-weaker c.record_length.result _ _ (λ r h. h ∙ length_more (texts_of c.args.scope.now)
     (scope_of c.args.scope.now) c.args.function c.args.es.now (omega arith) c.in-Length.is) c.record_length.ensures
 
-pub apply_more-returns-in_ok-code-in-Index : goal.apply_more-returns-in_ok-code-in-Index
-apply_more-returns-in_ok-code-in-Index t c =
+pub apply_more-returns-in_ok-part-in-Index : goal.apply_more-returns-in_ok-part-in-Index
+apply_more-returns-in_ok-part-in-Index t c =
     IfOk-weaker c.host.result _ _ (λ r h. h ∙ index_code (texts_of c.args.scope.now)
     (scope_of c.args.scope.now) c.args.function c.args.es.now _ _ _ _
-    (omega arith) c.index-es-0-in-Index.is c.index-es-1.is c.in-Index.is c.in_ok-text-in-Index.ensures c.in_ok-code-in-Index.ensures)
+    (omega arith) c.index-es-0-in-Index.is c.index-es-1.is c.in-Index.is c.in_ok-text-in-Index.ensures c.in_ok-part-in-Index.ensures)
     c.host.ensures
 
 pub apply_more-returns-in_ok-ere-in-Match : goal.apply_more-returns-in_ok-ere-in-Match
@@ -145,9 +154,9 @@ substr-returns-then-es-eq2 t c =
 
 pub substr-returns : goal.substr-returns
 substr-returns t c =
-    IfOk-weaker c.ternary.result _ _ (λ r h. h ∙ substr_code (texts_of c.args.scope.now) (scope_of c.args.scope.now) c.args.es.now _ _ _ _ _ _
+    IfOk-weaker c.part_of.result _ _ (λ r h. h ∙ substr_code (texts_of c.args.scope.now) (scope_of c.args.scope.now) c.args.es.now _ _ _ _ _ _
     (omega arith) c.index-es-0.is c.index-es-1.is c.index-es-2.is c.in_ok-text.ensures c.in_ok-from.ensures c.in_ok-count.ensures)
-    c.ternary.ensures
+    c.part_of.ensures
 
 pub split-returns-in_default : goal.split-returns-in_default
 split-returns-in_default t c = split_none (texts_of c.args.scope.now) (scope_of c.args.scope.now) c.args.es.now c.index-es-1.result
@@ -158,14 +167,14 @@ split-returns-then-es-eq2 t c =
     IfOk-weaker c.split_into.result _ _ (λ r h. h ∙ split_code (texts_of c.args.scope.now)
     (scope_of c.args.scope.now) c.args.es.now _ _ c.in-Some.name.now _ _ _
     (omega arith) c.index-es-0.is c.index-es-1.is c.in-Some.ensures c.in_ok-text.ensures
-    (ap plain.Array c.array.ensures) c.in_ok-separator.ensures) c.split_into.ensures
+    (ap plain.Array c.array-array.ensures) c.in_ok-separator.ensures) c.split_into.ensures
 
 pub split-returns : goal.split-returns
 split-returns t c =
     IfOk-weaker c.split_into-2.result _ _ (λ r h. h ∙ split_by_code (texts_of c.args.scope.now)
     (scope_of c.args.scope.now) c.args.es.now _ _ _ c.in-Some.name.now _ _ _ _
     (omega arith) c.index-es-0.is c.index-es-1.is c.index-es-2.is c.in-Some.ensures c.in_ok-text.ensures
-    (ap plain.Array c.array.ensures) c.in_ok-separator-2.ensures c.is_ere.ensures) c.split_into-2.ensures
+    (ap plain.Array c.array-array.ensures) c.in_ok-separator-2.ensures c.is_ere.ensures) c.split_into-2.ensures
 
 pub substitute-returns-then-es-eq2 : goal.substitute-returns-then-es-eq2
 substitute-returns-then-es-eq2 t c =
@@ -184,9 +193,9 @@ pub truncated-returns-in_ok-right-in-Binary : goal.truncated-returns-in_ok-right
 truncated-returns-in_ok-right-in-Binary t c =
     let is = binary_is c.args.e.now c.in-Binary.op c.in-Binary.left c.in-Binary.right _ _ c.in-Binary.is c.deref-in-Binary.ensures
     c.deref-in-Binary-2.ensures in
-    IfOk-weaker c.binary.result _ _ (λ r h. h ∙ quotient_code (texts_of c.args.scope.now) (scope_of c.args.scope.now) (tree c.args.e.now) _ _
+    IfOk-weaker c.inline.result _ _ (λ r h. h ∙ quotient_code (texts_of c.args.scope.now) (scope_of c.args.scope.now) (tree c.args.e.now) _ _
     (view_binary c.in-Binary.op) c.is_quotient.result _ _ is (c.is_quotient.ensures (texts_of c.args.scope.now) (scope_of c.args.scope.now) _ _)
-    (cc) c.in_ok-left-in-Binary.ensures c.in_ok-right-in-Binary.ensures) c.binary.ensures
+    (cc) c.in_ok-left-in-Binary.ensures c.in_ok-right-in-Binary.ensures) c.inline.ensures
 
 pub truncated-returns-then-not-is_quotient : goal.truncated-returns-then-not-is_quotient
 truncated-returns-then-not-is_quotient t c =

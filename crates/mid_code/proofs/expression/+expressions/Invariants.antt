@@ -14,7 +14,7 @@ invariant-push_operands-loop-e l =
 abbrev pub invariant-key-loop-place : goal.invariant-key-loop-place
 invariant-key-loop-place l = record {
   within : l.place < length l.subscripts;
-  key : view l.key ≡ key_code (texts_of l.scope) (scope_of l.scope) (trees (drop l.place l.subscripts));
+  key : view l.key.value ≡ key_code (texts_of l.scope) (scope_of l.scope) (trees (drop l.place l.subscripts));
 }
 
 abbrev pub decreases-key-loop-place : goal.decreases-key-loop-place
