@@ -8,7 +8,7 @@ use Rattle.std.proofs.lemmas.Option.{get_or_from_slice_get, none-some, slice_get
 use Rattle.std.proofs.lemmas.Simd.{map-map}
 use Rattle.std.proofs.Math.ListN.{get_or-append}
 use Rattle.wasm_types.specs.Syntax.{FuncForm, ImportForm, ModuleForm, Signature}
-use Rattle.wasm_machine.specs.Links.{IsNew, number_for, number_if}
+use Rattle.wasm_machine.specs.Links.{IsNew, number_for, number_if, numbers_for}
 use Rattle.wasm_machine.specs.Machines.{Conf, ProgramForm, asked, asked_if, call_at, called, entered_func, entered_if}
 use Rattle.wasm_machine.specs.Runs.{MachineForm}
 use Rattle.host_step.specs.Imports.{host_finds}
@@ -172,7 +172,10 @@ all_some (m ∷ ms) (n ∷ ns) e =
     let t : map Some ms ≡ map Some ns = cc in
     ap₂ (λ x xs. x ∷ xs) (some_of m n h) (all_some ms ns t)
 
+-- it has the numbers of the imports that stay
+pub numbers_are : (p : Program) → numbers_for host_finds (module_of p) ≡ map Some (program p).numbers
+numbers_are p = numbers_same (module_of p) 0 (imports_of p) ∙ (imports_there p ∙ sym (map-map Some import_number (imports_of p)))
+
 pub program_is : (p : Program) (a : MachineForm) → IsNew host_finds (module_of p) a → a.program ≡ program p
 program_is p a new = ap₂ (λ (m : ModuleForm) (ns : List ℕ). record { whole = m; numbers = ns }) new.whole
-    (all_some a.program.numbers (map import_number (imports_of p))
-    (sym new.linked ∙ (numbers_same (module_of p) 0 (imports_of p) ∙ (imports_there p ∙ sym (map-map Some import_number (imports_of p))))))
+    (all_some a.program.numbers (map import_number (imports_of p)) (sym new.linked ∙ numbers_are p))

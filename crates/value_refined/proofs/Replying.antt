@@ -27,8 +27,8 @@ use Rattle.wasm_machine.specs.declared.host.HostAnswer.{HostAnswer}
 use Rattle.wasm_machine.specs.declared.host.HostAnswer.TheVariants as told
 use Rattle.wasm_machine.specs.declared.state.End.{End}
 use Rattle.wasm_machine.specs.declared.state.End.TheVariants as ends
-use Rattle.host_step.specs.Answers.{FreeFor}
-use Rattle.host_step.specs.Arguments.{and_then, decode, front, removed_front, spent_if, taken_front}
+use Rattle.host_step.specs.Answers.{FreeFor, IsFree}
+use Rattle.host_step.specs.Arguments.{and_then, decode, front, removed_front, spent_if, taken_front, without_front}
 use Rattle.host_step.specs.HostState.{HostState, Names}
 use Rattle.host_step.specs.HostStep.{Acts, Comes, Goes, HostStep, Refuses, Settles, StepBy, StepIf, Traps, acts, answered as given_answer, carried, come, comes}
 use Rattle.host_step.specs.HostStep.{faulted, refused, refuses}
@@ -37,27 +37,13 @@ use Rattle.host_step.specs.Tables.{Table, look, without}
 use Rattle.host_step.specs.declared.import.Import.{Import}
 use Rattle.value_machine.specs.Machine as Machine
 use Rattle.value_refined.specs.Refined.{As, table_meaning}
-use Rattle.value_refined.proofs.Room.{HasFree, has_free, places_in}
+use Rattle.value_refined.specs.Owners.{places_in}
+use Rattle.value_refined.proofs.Room.{HasFree, has_free}
 
 -- What is taken away leaves free what was free.
 
 abbrev KeepsFree : {A : Type 0} → Table A → Table A → Type 0
 KeepsFree t t1 = (q : ℕ) → look t (pos q) ≡ None → look t1 (pos q) ≡ None
-
-record Less (N N1 : Names) : Type 0 where
-  values : KeepsFree N.values N1.values
-  arrays : KeepsFree N.arrays N1.arrays
-  iterators : KeepsFree N.iterators N1.iterators
-
-less_same : (N : Names) → Less N N
-less_same N = record { values = λ q e. e; arrays = λ q e. e; iterators = λ q e. e }
-
-less_then : (N N1 N2 : Names) → Less N N1 → Less N1 N2 → Less N N2
-less_then N N1 N2 a b = record {
-  values = λ q e. b.values q (a.values q e);
-  arrays = λ q e. b.arrays q (a.arrays q e);
-  iterators = λ q e. b.iterators q (a.iterators q e);
-}
 
 without_free : {A : Type 0} → (t : Table A) (k : ℤ) → KeepsFree t (without k t)
 without_free t k q e =
@@ -74,44 +60,65 @@ removed_free t [] q e = e
 removed_free t (I64 n ∷ rest) q e = e
 removed_free t (I32 n ∷ rest) q e = without_free t (cast_signed w32 n) q e
 
-spent_less : (b : Bool) (s : Sort) (ws : List Word) (N : Names) → Less N (spent_if b s ws N)
-spent_less false s ws N = less_same N
-spent_less true sort.Value ws N = record { values = removed_free N.values ws; arrays = λ q e. e; iterators = λ q e. e }
-spent_less true sort.Number ws N = less_same N
-spent_less true sort.Array ws N = record { values = λ q e. e; arrays = removed_free N.arrays ws; iterators = λ q e. e }
-spent_less true sort.Iterator ws N = record { values = λ q e. e; arrays = λ q e. e; iterators = removed_free N.iterators ws }
+still_free : {A : Type 0} → (t : Table A) (ws : List Word) → (q : ℕ) × IsFree t q → (q : ℕ) × IsFree (removed_front t ws) q
+still_free t ws x = (x.0, record { below = x.1.below; free = removed_free t ws x.0 x.1.free })
 
-taken_less : (spent : Sort → Bool) (a : Argument) (ws : List Word) (N : Names) → Less N (taken_front spent a ws N)
-taken_less spent (argument.Of s) ws N = spent_less (spent s) s ws N
-taken_less spent (argument.Constant c) ws N = less_same N
-taken_less spent argument.Place ws N = less_same N
+front_free : (s : Sort) (ws : List Word) (N : Names) → HasFree N → HasFree (without_front s ws N)
+front_free sort.Value ws N f = record { values = still_free N.values ws f.values; arrays = f.arrays; iterators = f.iterators }
+front_free sort.Number ws N f = f
+front_free sort.Array ws N f = record { values = f.values; arrays = still_free N.arrays ws f.arrays; iterators = f.iterators }
+front_free sort.Iterator ws N f = record { values = f.values; arrays = f.arrays; iterators = still_free N.iterators ws f.iterators }
 
-abbrev LessOk : {A : Type 0} → Names → Result (A × Names) TrapKind → Type 0
-LessOk N (Ok y) = Less N y.1
-LessOk N (Err k) = Unit {0}
+-- What stays true of the tables where a number is taken away is true of them once a call has taken its arguments.
+module _ (P : Names → Type 0) where
+  abbrev KeptOk : {A : Type 0} → Result (A × Names) TrapKind → Type 0
+  KeptOk (Ok y) = P y.1
+  KeptOk (Err k) = Unit {0}
 
-decode_less : (spent : Sort → Bool) (mem : List ℕ) (N : Names) (w : List Argument) (ws : List Word) → LessOk N (decode spent mem N w ws)
-decode_less spent mem N [] [] = less_same N
-decode_less spent mem N [] (x ∷ ws) = tt
-decode_less spent mem N (a ∷ w) ws = by (front N mem a ws) (λ rest. decode_less spent mem (taken_front spent a ws N) w rest)
-  where
-    on : (x : InArgument a) (r : Result (Row w × Names) TrapKind) → LessOk (taken_front spent a ws N) r →
-        LessOk {A = Row (a ∷ w)} N (and_then r (λ rest. Ok ((x, rest.0), rest.1)))
-    on x (Ok y) l = less_then N (taken_front spent a ws N) y.1 (taken_less spent a ws N) l
-    on x (Err k) l = tt
+  -- of those that an act finds
+  abbrev pub KeptBy : {A : Type 0} → Comes A → Type 0
+  KeptBy (Goes left d) = P left
+  KeptBy _ = Unit {0}
 
-    by : (r : Result (InArgument a × List Word) TrapKind) → ((rest : List Word) →
-        LessOk (taken_front spent a ws N) (decode spent mem (taken_front spent a ws N) w rest)) →
-        LessOk {A = Row (a ∷ w)} N (and_then r (λ x. and_then (decode spent mem (taken_front spent a ws N) w x.1) (λ rest. Ok ((x.0, rest.0), rest.1))))
-    by (Ok x) f = on x.0 (decode spent mem (taken_front spent a ws N) w x.1) (f x.1)
-    by (Err k) f = tt
+  module _ (kept : (s : Sort) (ws : List Word) (N : Names) → P N → P (without_front s ws N)) where
+    spent_keeps : (b : Bool) (s : Sort) (ws : List Word) (N : Names) → P N → P (spent_if b s ws N)
+    spent_keeps false s ws N h = h
+    spent_keeps true s ws N h = kept s ws N h
 
-free_less : (N N1 : Names) → Less N N1 → HasFree N → HasFree N1
-free_less N N1 l f = record {
-  values = (f.values.0, record { below = f.values.1.below; free = l.values f.values.0 f.values.1.free });
-  arrays = (f.arrays.0, record { below = f.arrays.1.below; free = l.arrays f.arrays.0 f.arrays.1.free });
-  iterators = (f.iterators.0, record { below = f.iterators.1.below; free = l.iterators f.iterators.0 f.iterators.1.free });
-}
+    taken_keeps : (spent : Sort → Bool) (a : Argument) (ws : List Word) (N : Names) → P N → P (taken_front spent a ws N)
+    taken_keeps spent (argument.Of s) ws N h = spent_keeps (spent s) s ws N h
+    taken_keeps spent (argument.Constant c) ws N h = h
+    taken_keeps spent argument.Place ws N h = h
+
+    decode_keeps : (spent : Sort → Bool) (mem : List ℕ) (N : Names) (w : List Argument) (ws : List Word) → P N → KeptOk (decode spent mem N w ws)
+    decode_keeps spent mem N [] [] h = h
+    decode_keeps spent mem N [] (x ∷ ws) h = tt
+    decode_keeps spent mem N (a ∷ w) ws h = by (front N mem a ws) (λ rest. decode_keeps spent mem (taken_front spent a ws N) w rest (taken_keeps spent a ws N h))
+      where
+        on : (x : InArgument a) (r : Result (Row w × Names) TrapKind) → KeptOk r → KeptOk {A = Row (a ∷ w)} (and_then r (λ rest. Ok ((x, rest.0), rest.1)))
+        on x (Ok y) l = l
+        on x (Err k) l = tt
+
+        by : (r : Result (InArgument a × List Word) TrapKind) → ((rest : List Word) → KeptOk (decode spent mem (taken_front spent a ws N) w rest)) →
+            KeptOk {A = Row (a ∷ w)} (and_then r (λ x. and_then (decode spent mem (taken_front spent a ws N) w x.1) (λ rest. Ok ((x.0, rest.0), rest.1))))
+        by (Ok x) f = on x.0 (decode spent mem (taken_front spent a ws N) w x.1) (f x.1)
+        by (Err k) f = tt
+
+    pub comes_keeps : (i : Import) (s : HostState) (ws : List Word) (mem : List ℕ) → P s.names → KeptBy (comes i ws mem s)
+    comes_keeps i s ws mem h = unless (refuses i s.fault)
+      where
+        acting : (left : Names) (d : Result (Acts (InAnswer (import_answer i))) TrapKind) → P left → KeptBy (come (and_then d (λ z. Ok (left, z))))
+        acting left (Ok d) l = l
+        acting left (Err k) l = tt
+
+        decoded : (r : Result (Row (import_arguments i) × Names) TrapKind) → KeptOk r →
+            KeptBy (come (and_then r (λ x. and_then (acts i x.0 s) (λ d. Ok (x.1, d)))))
+        decoded (Ok x) l = acting x.1 (acts i x.0 s) l
+        decoded (Err k) l = tt
+
+        unless : (b : Bool) → KeptBy (cond b Refuses (come (carried i ws mem s)))
+        unless true = tt
+        unless false = decoded (decode (spends i) mem s.names (import_arguments i) ws) (decode_keeps (spends i) mem s.names (import_arguments i) ws h)
 
 -- What is new gets a number.
 
@@ -142,30 +149,10 @@ settles_there a s left d (Err k) f =
     let g = faulted a s left d k in
     inl (g.word, g.after, g.added, record { word = refl; state = refl; added = refl })
 
-abbrev FreeAfter : {A : Type 0} → Comes A → Type 0
-FreeAfter (Goes left d) = HasFree left
-FreeAfter _ = Unit {0}
-
-comes_there : (a : Answer) (s : HostState) (x : Comes (InAnswer a)) → FreeAfter x → Replies (StepBy a s x)
+comes_there : (a : Answer) (s : HostState) (x : Comes (InAnswer a)) → KeptBy HasFree x → Replies (StepBy a s x)
 comes_there a s (Traps k) f = inr (k, s, [], record { trap = refl; state = refl; added = refl })
 comes_there a s Refuses f = let g = refused a s in inl (g.word, g.after, g.added, record { word = refl; state = refl; added = refl })
 comes_there a s (Goes left d) f = settles_there a s left d d.does.answer f
-
-free_after : (i : Import) (s : HostState) (ws : List Word) (mem : List ℕ) → HasFree s.names → FreeAfter (comes i ws mem s)
-free_after i s ws mem f = unless (refuses i s.fault)
-  where
-    acting : (left : Names) (d : Result (Acts (InAnswer (import_answer i))) TrapKind) → HasFree left → FreeAfter (come (and_then d (λ z. Ok (left, z))))
-    acting left (Ok d) h = h
-    acting left (Err k) h = tt
-
-    decoded : (r : Result (Row (import_arguments i) × Names) TrapKind) → LessOk s.names r →
-        FreeAfter (come (and_then r (λ x. and_then (acts i x.0 s) (λ d. Ok (x.1, d)))))
-    decoded (Ok x) l = acting x.1 (acts i x.0 s) (free_less s.names x.1 l f)
-    decoded (Err k) l = tt
-
-    unless : (b : Bool) → FreeAfter (cond b Refuses (come (carried i ws mem s)))
-    unless true = tt
-    unless false = decoded (decode (spends i) mem s.names (import_arguments i) ws) (decode_less (spends i) mem s.names (import_arguments i) ws)
 
 -- EVERY CALL is answered, or traps
 pub replies : (n : ℕ) (s : HostState) (ws : List Word) (mem : List ℕ) → HasFree s.names → Replies (HostStep n s ws mem)
@@ -173,7 +160,7 @@ replies n s ws mem f = by (import_at n)
   where
     by : (o : Option Import) → Replies (StepIf o s ws mem)
     by None = inr (BadArgument, s, [], record { trap = refl; state = refl; added = refl })
-    by (Some i) = comes_there (import_answer i) s (comes i ws mem s) (free_after i s ws mem f)
+    by (Some i) = comes_there (import_answer i) s (comes i ws mem s) (comes_keeps HasFree front_free i s ws mem f)
 
 -- EVERY TURN is taken, or is the last one
 pub turns : (t : Turn) (s : HostState) (mem : MemoryForm) → HasFree s.names →

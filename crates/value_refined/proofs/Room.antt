@@ -2,7 +2,7 @@
 -- answers.
 use Rattle.std.proofs.Common.{◌≡◌, ℕ, zero, suc, ◌+◌, ◌<◌, ◌≤◌, ◌^◌, Bool, true, false, ◌&&◌, cond, nat_eq, nat_lt, pos, List, [], ◌∷◌, length, Option, Some}
 use Rattle.std.proofs.Common.{None, refl, sym, ap, ◌∙◌, arith}
-use Rattle.std.proofs.lemmas.Bool.{eqb-true, le-ltb, ne_eqb}
+use Rattle.std.proofs.lemmas.Bool.{eqb-false, eqb-true, le-ltb, ne_eqb}
 use Rattle.awk_state.specs.declared.sorts.Sort.{Sort}
 use Rattle.awk_state.specs.declared.sorts.Sort.TheVariants as sort
 use Rattle.wasm_store.specs.declared.word.Word.{Word}
@@ -13,23 +13,28 @@ use Rattle.host_step.specs.HostState.{Names}
 use Rattle.host_step.specs.Tables.{look}
 use Rattle.value_machine.specs.Cells.{Cell}
 use Rattle.value_machine.specs.Machine.{Frame}
-use Rattle.value_refined.specs.Owners.{OwnedOnce, owner, owners, owns_sort, there, waiting, wanted}
+use Rattle.value_refined.specs.Owners.{OwnedOnce, owner, owners, owns_sort, places_in, there, waiting, wanted}
 
 -- Sums over n numbers, from a on.
 
-total : (ℕ → ℕ) → ℕ → ℕ → ℕ
+pub total : (ℕ → ℕ) → ℕ → ℕ → ℕ
 total f a zero = 0
 total f a (suc n) = f a + total f (suc a) n
 
-total_none : (f : ℕ → ℕ) (a n : ℕ) → ((q : ℕ) → a ≤ q → f q ≡ 0) → total f a n ≡ 0
+pub total_none : (f : ℕ → ℕ) (a n : ℕ) → ((q : ℕ) → a ≤ q → f q ≡ 0) → total f a n ≡ 0
 unfolding total
 total_none f a zero h = refl
 total_none f a (suc n) h = let x = h a (omega arith) in let y = total_none f (suc a) n (λ q l. h q (omega (arith, l))) in omega (arith, x, y)
 
-total_sum : (f g : ℕ → ℕ) (a n : ℕ) → total (λ q. f q + g q) a n ≡ total f a n + total g a n
+pub total_sum : (f g : ℕ → ℕ) (a n : ℕ) → total (λ q. f q + g q) a n ≡ total f a n + total g a n
 unfolding total
 total_sum f g a zero = refl
 total_sum f g a (suc n) = let x = total_sum f g (suc a) n in omega (arith, x)
+
+pub total_less : (f g : ℕ → ℕ) (a n : ℕ) → ((q : ℕ) → f q ≤ g q) → total f a n ≤ total g a n
+unfolding total
+total_less f g a zero h = omega arith
+total_less f g a (suc n) h = let x = h a in let y = total_less f g (suc a) n h in omega (arith, x, y)
 
 -- where the sum is less than the numbers, one of them has nothing
 nothing_at : (f : ℕ → ℕ) (n a : ℕ) → total f a n < n → (q : ℕ) × (a ≤ q) × (q < a + n) × (f q ≡ 0)
@@ -47,14 +52,14 @@ nothing_at f (suc n) a l = by (f a) refl (nothing_at f n (suc a))
 
 -- Each place owns one number at most.
 
-abbrev owns_one : Bool → ℕ → ℕ → ℕ
+abbrev pub owns_one : Bool → ℕ → ℕ → ℕ
 owns_one b m q = cond (b && nat_eq q m) 1 0
 
 other_number : (b : Bool) (m q : ℕ) → nat_eq q m ≡ false → owns_one b m q ≡ 0
 other_number true m q e = ap (λ z. cond {A = ℕ} z 1 0) e
 other_number false m q e = refl
 
-one_most : (b : Bool) (m a n : ℕ) → total (owns_one b m) a n ≤ 1
+pub one_most : (b : Bool) (m a n : ℕ) → total (owns_one b m) a n ≤ 1
 unfolding total
 one_most b m a zero = omega arith
 one_most b m a (suc n) = by (nat_eq a m) refl (one_most b m (suc a) n)
@@ -71,6 +76,16 @@ one_most b m a (suc n) = by (nat_eq a m) refl (one_most b m (suc a) n)
         omega (arith, x, y)
     by false e h = let x = other_number b m a e in omega (arith, x, h)
 
+-- one of the numbers is m
+pub counted_once : (m a n : ℕ) → a ≤ m → m < a + n → 1 ≤ total (owns_one true m) a n
+unfolding total
+counted_once m a zero l h = absurd (omega (arith, l, h))
+counted_once m a (suc n) l h = by (nat_eq a m) refl (λ k. counted_once m (suc a) n k (omega (arith, h)))
+  where
+    by : (b : Bool) → nat_eq a m ≡ b → (suc a ≤ m → 1 ≤ total (owns_one true m) (suc a) n) → 1 ≤ cond {A = ℕ} b 1 0 + total (owns_one true m) (suc a) n
+    by true e later = omega arith
+    by false e later = let ne = eqb-false a m e in let x = later (omega (arith, l, ne)) in omega (arith, x)
+
 owner_most : (s : Sort) (c : Cell) (w : Word) (a n : ℕ) → total (λ q. owner s q c w) a n ≤ 1
 owner_most s c (I32 m) a n = one_most (owns_sort s c) m a n
 owner_most s c (I64 m) a n = let x = total_none (λ q. owner s q c (I64 m)) a n (λ q l. refl) in omega (arith, x)
@@ -84,12 +99,7 @@ owners_most s (c ∷ cs) (w ∷ ws) a n =
     let z = total_sum (λ q. owner s q c w) (λ q. owners s q cs ws) a n in
     omega (arith, x, y, z)
 
--- the places of callers that wait
-abbrev pub places_in : List CallerForm → ℕ
-places_in [] = 0
-places_in (r ∷ rs) = length r.frame.locals + places_in rs
-
-waiting_most : (s : Sort) (F : List Frame) (rs : List CallerForm) (a n : ℕ) → total (λ q. waiting s q F rs) a n ≤ places_in rs
+pub waiting_most : (s : Sort) (F : List Frame) (rs : List CallerForm) (a n : ℕ) → total (λ q. waiting s q F rs) a n ≤ places_in rs
 waiting_most s [] rs a n = let x = total_none (λ q. waiting s q [] rs) a n (λ q l. refl) in omega (arith, x)
 waiting_most s (f ∷ F) [] a n = let x = total_none (λ q. waiting s q (f ∷ F) []) a n (λ q l. refl) in omega (arith, x)
 waiting_most s (f ∷ F) (r ∷ rs) a n =

@@ -1,5 +1,5 @@
 -- How many places own a number: each number that stands for something has one owner, and each other number none.
-use Rattle.std.specs.Prelude.{ℕ, ◌+◌, ◌≡◌, pos, nat_eq, nat_lt, Bool, true, false, ◌&&◌, cond, List, ◌∷◌, Option, Some, None}
+use Rattle.std.specs.Prelude.{ℕ, ◌+◌, ◌≡◌, pos, nat_eq, nat_lt, Bool, true, false, ◌&&◌, cond, List, [], ◌∷◌, length, Option, Some, None}
 use Rattle.awk_state.specs.declared.sorts.Sort.{Sort}
 use Rattle.awk_state.specs.declared.sorts.Sort.TheVariants as sort
 use Rattle.wasm_store.specs.declared.word.Word.{Word}
@@ -29,6 +29,11 @@ owners s q _ _ = 0
 abbrev pub waiting : Sort → ℕ → List Frame → List CallerForm → ℕ
 waiting s q (f ∷ F) (r ∷ rs) = owners s q f.locals r.frame.locals + waiting s q F rs
 waiting s q _ _ = 0
+
+-- how many places callers that wait have: their locals
+abbrev pub places_in : List CallerForm → ℕ
+places_in [] = 0
+places_in (r ∷ rs) = length r.frame.locals + places_in rs
 
 abbrev pub there : {A : Type 0} → Option A → ℕ
 there None = 0

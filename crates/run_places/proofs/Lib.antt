@@ -1,0 +1,11 @@
+pub mod Fitting
+pub mod Begun
+pub mod Free
+pub mod Runs
+pub mod Numbers
+pub mod Counting
+pub mod Keeping
+pub mod Spelled
+pub mod Parameters
+pub mod Nops
+pub mod Stepping

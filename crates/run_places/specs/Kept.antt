@@ -1,0 +1,145 @@
+-- Nothing is kept: what is alive in the host where a statement begins, and where `main` has returned. Each number that stands for a value, an array or an iterator is in exactly one place:
+-- a global, a local of the function at work, or a local of a caller that waits.
+use Rattle.std.specs.Prelude.{ℕ, zero, suc, ◌+◌, ◌≡◌, ◌⊎◌, ◌≤◌, nat_eq, Bool, true, false, ◌&&◌, cond, List, [], ◌∷◌, Option, Some, None}
+use Rattle.std.specs.List.{Contains}
+use Rattle.awk_state.specs.Jobs.{JobForm}
+use Rattle.awk_state.specs.declared.sorts.Sort.{Sort}
+use Rattle.awk_state.specs.declared.sorts.Sort.TheVariants as sort
+use Rattle.world_core.specs.WorldState.{Action, Outside, Source}
+use Rattle.wasm_types.specs.Syntax.{Instructions, ModuleForm, Plain, Then}
+use Rattle.wasm_types.specs.declared.instr.Simple.TheVariants.{Nop}
+use Rattle.wasm_store.specs.declared.word.Word.{Word}
+use Rattle.wasm_store.specs.declared.word.Word.TheVariants.{I32, I64}
+use Rattle.wasm_machine.specs.Frames.{LabelForm}
+use Rattle.wasm_machine.specs.Links.{IsNew}
+use Rattle.wasm_machine.specs.Machines.{CallerForm, Conf}
+use Rattle.wasm_machine.specs.Runs.{MachineForm, Steps}
+use Rattle.host_step.specs.HostState.{HostState, live_arrays, live_iterators, live_values}
+use Rattle.host_step.specs.Imports.{host_finds}
+use Rattle.host_step.specs.Starts.{state_at_start}
+use Rattle.mid_program.specs.Mid.{Kind, Boxed, Unboxed, Many, Program}
+use Rattle.mid_program.specs.Sorted.{kinds_of}
+use Rattle.value_machine.specs.Machine.{Callee}
+use Rattle.value_machine.specs.Modules.{all_callees}
+use Rattle.value_refined.specs.Owners.{places_in, wanted}
+use Rattle.value_refined.specs.Refined.{table_meaning}
+
+-- Places and what they hold: the number of a value, of an array with the right to free it, of an iterator, or none of these.
+
+abbrev pub holds : Sort → Option Sort → Bool
+holds sort.Value (Some sort.Value) = true
+holds sort.Array (Some sort.Array) = true
+holds sort.Iterator (Some sort.Iterator) = true
+holds _ _ = false
+
+-- how many of these places hold number q of this sort
+abbrev pub holders : Sort → ℕ → List (Option Sort) → List Word → ℕ
+holders s q (o ∷ os) (I32 n ∷ ws) = cond (holds s o && nat_eq q n) 1 0 + holders s q os ws
+holders s q (o ∷ os) (I64 n ∷ ws) = holders s q os ws
+holders s q _ _ = 0
+
+-- among the locals of callers that wait
+abbrev pub holders_waiting : Sort → ℕ → List (List (Option Sort)) → List CallerForm → ℕ
+holders_waiting s q (os ∷ rest) (r ∷ rs) = holders s q os r.frame.locals + holders_waiting s q rest rs
+holders_waiting s q _ _ = 0
+
+-- What globals hold: those of the module and of ranges nothing; then each name has one for a handle, or an array, and one for a number.
+
+abbrev pub NamesHold : (Kind → Option Sort → Type 0) → List Kind → List (Option Sort) → Type 0
+NamesHold P [] [] = Unit {0}
+NamesHold P (k ∷ ks) (o ∷ (n ∷ os)) = P k o × (n ≡ None) × NamesHold P ks os
+NamesHold P _ _ = ⊥
+
+abbrev pub GlobalsHold : (Kind → Option Sort → Type 0) → ℕ → List Kind → List (Option Sort) → Type 0
+GlobalsHold P zero ks os = NamesHold P ks os
+GlobalsHold P (suc n) ks (o ∷ os) = (o ≡ None) × GlobalsHold P n ks os
+GlobalsHold P (suc n) ks [] = NamesHold P ks []
+
+-- a boxed name its value; one that is unboxed may have the text of its number beside it; an array's name the array
+abbrev pub NameHolds : Kind → Option Sort → Type 0
+NameHolds Boxed o = o ≡ Some sort.Value
+NameHolds Unboxed o = (o ≡ None) ⊎ (o ≡ Some sort.Value)
+NameHolds Many o = o ≡ Some sort.Array
+
+-- where `main` has returned these are bounds from above
+abbrev pub NameMayHold : Kind → Option Sort → Type 0
+NameMayHold Boxed o = (o ≡ None) ⊎ (o ≡ Some sort.Value)
+NameMayHold Unboxed o = (o ≡ None) ⊎ (o ≡ Some sort.Value)
+NameMayHold Many o = (o ≡ None) ⊎ (o ≡ Some sort.Array)
+
+-- What the locals of the function at work hold: a boxed parameter its value, all others nothing, iterators of loops over keys aside.
+
+abbrev pub OnlyIterators : List (Option Sort) → Type 0
+OnlyIterators [] = Unit {0}
+OnlyIterators (o ∷ os) = ((o ≡ None) ⊎ (o ≡ Some sort.Iterator)) × OnlyIterators os
+
+abbrev pub LocalsHold : List Kind → List (Option Sort) → Type 0
+LocalsHold [] os = OnlyIterators os
+LocalsHold (Boxed ∷ ks) (o ∷ os) = (o ≡ Some sort.Value) × LocalsHold ks os
+LocalsHold (Unboxed ∷ ks) (o ∷ os) = (o ≡ None) × LocalsHold ks os
+LocalsHold (Many ∷ ks) (o ∷ os) = (o ≡ None) × LocalsHold ks os
+LocalsHold (k ∷ ks) [] = ⊥
+
+-- Counts.
+
+abbrev pub scalars : List Kind → ℕ
+scalars [] = 0
+scalars (Many ∷ ks) = scalars ks
+scalars (k ∷ ks) = suc (scalars ks)
+
+abbrev pub boxed : List Kind → ℕ
+boxed [] = 0
+boxed (Boxed ∷ ks) = suc (boxed ks)
+boxed (k ∷ ks) = boxed ks
+
+abbrev pub arrays : List Kind → ℕ
+arrays [] = 0
+arrays (Many ∷ ks) = suc (arrays ks)
+arrays (k ∷ ks) = arrays ks
+
+-- loops that the code at work is in
+abbrev pub if_loop : Option Instructions → ℕ
+if_loop None = 0
+if_loop (Some code) = 1
+
+abbrev pub loops : List LabelForm → ℕ
+loops [] = 0
+loops (l ∷ ls) = if_loop l.again + loops ls
+
+-- WHERE A STATEMENT BEGINS: nothing is on the operands or the argument list; each number that stands for something is in one place, and what is in none stands for nothing; names hold what
+-- their kinds say, and so do the parameters of the function at work, whose other locals hold nothing. What callers that wait hold is in their locals. So at most so much is alive.
+pub record AtStatement (p : Program) (c : Conf) (s : HostState) : Type 0 where
+  pub operands : c.frame.values ≡ []
+  pub arguments : s.arguments ≡ []
+  pub globals : List (Option Sort)
+  pub own : List (Option Sort)
+  pub waiting : List (List (Option Sort))
+  pub once : (t : Sort) (q : ℕ) → holders t q own c.frame.locals + (holders t q globals c.globals + holders_waiting t q waiting c.callers) ≡ wanted s.names t q
+  pub names_hold : GlobalsHold NameHolds (suc (suc p.ranges)) (kinds_of p.globals) globals
+  pub function : Callee
+  pub is_function : Contains (all_callees p) function
+  pub locals_hold : LocalsHold function.kinds own
+  pub few_values : live_values s ≤ scalars (kinds_of p.globals) + (boxed function.kinds + places_in c.callers)
+  pub few_arrays : live_arrays s ≤ 2 + (arrays (kinds_of p.globals) + places_in c.callers)
+  pub few_iterators : live_iterators s ≤ loops c.frame.labels + places_in c.callers
+
+-- WHERE `main` HAS RETURNED: names alone hold something.
+pub record AtReturn (p : Program) (c : Conf) (s : HostState) : Type 0 where
+  pub globals : List (Option Sort)
+  pub once : (t : Sort) (q : ℕ) → holders t q globals c.globals ≡ wanted s.names t q
+  pub names_hold : GlobalsHold NameMayHold (suc (suc p.ranges)) (kinds_of p.globals) globals
+  pub few_values : live_values s ≤ scalars (kinds_of p.globals)
+  pub few_arrays : live_arrays s ≤ 2 + arrays (kinds_of p.globals)
+  pub few_iterators : live_iterators s ≡ 0
+
+-- each statement begins with a `nop`, and so does the test of a `do` loop
+abbrev pub begins_statement : Instructions → Bool
+begins_statement (Then (Plain Nop) code) = true
+begins_statement _ = false
+
+-- where a run of a module may come to, linked with a host of the table, whatever free numbers the host gives out
+pub record Reached (m : ModuleForm) (job : JobForm) (input : Source) (outside : Outside) (a : MachineForm) (c : Conf) (s : HostState) : Type 0 where
+  pub is_new : IsNew host_finds m a
+  pub steps : ℕ
+  pub output : List Action
+  pub taken : Steps table_meaning a.program steps a.conf (state_at_start job input outside) output c s

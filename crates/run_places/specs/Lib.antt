@@ -1,0 +1,5 @@
+pub mod Places
+pub mod Existence
+pub mod Kept
+pub mod Statements
+pub mod Rows

@@ -1,0 +1,55 @@
+//! Laws of the runs of modules, each the contract of a function that does nothing.
+ghost use Rattle.std.specs.List.{All};
+ghost use Rattle.std.specs.Prelude.{◌≡◌, ◌≤◌, true, ℕ, List, None, Some, length};
+ghost use Rattle.awk_state.specs.Jobs.{JobForm};
+ghost use Rattle.awk_grammar.specs.Item.{Item};
+ghost use Rattle.awk_resolve.specs.Kinds.{refusal};
+ghost use Rattle.host_step.specs.HostState.{HostState};
+ghost use Rattle.mid_program.specs.Kinds.{resolved};
+ghost use Rattle.mid_program.specs.Mid.{Program, Routine};
+ghost use Rattle.mid_program.specs.Sorted.{IsSorted};
+ghost use Rattle.mid_program.specs.Translation.{program_of};
+ghost use Rattle.value_machine.specs.Boundaries.{nops_in, steps_places};
+ghost use Rattle.value_machine.specs.Functions.{main_callee, routine_callee};
+ghost use Rattle.value_machine.specs.Modules.{module_of};
+ghost use Rattle.wasm_machine.specs.Machines.{Conf, Ends, turn};
+ghost use Rattle.wasm_machine.specs.Runs.{MachineForm};
+ghost use Rattle.wasm_machine.specs.declared.state.End.TheVariants as ends;
+ghost use Rattle.wasm_store.specs.declared.word.Word.TheVariants.{I32};
+ghost use Rattle.wasm_types.specs.ModuleGrammar.{IsModule};
+ghost use Rattle.world_core.specs.WorldState.{Outside, Source};
+ghost use Rattle.run_places.specs.Existence.{HasRuns};
+ghost use Rattle.run_places.specs.Kept.{AtReturn, AtStatement, Reached, begins_statement};
+ghost use Rattle.run_places.specs.Places.{IsSmall};
+ghost use Rattle.run_places.specs.Statements.{main_places};
+
+/// The module of a well-sorted program has a run of each number of steps, or a shorter one that ends, in every job and whatever the outside is, where its
+/// functions have few locals and not too much code: the host never lacks a free number. So it is where the module has bytes, and no function has more
+/// than 100 parameters.
+pub fn modules_run()
+    ensures small { (p : Program) → IsSorted p → IsSmall p
+        → (job : JobForm) (input : Source) (outside : Outside) → HasRuns (module_of p) job input outside }
+    ensures spelled { (p : Program) → IsSorted p → (bytes : List ℕ) → IsModule bytes (module_of p) → All (λ r. length r.parameters ≤ 100) p.routines
+        → (job : JobForm) (input : Source) (outside : Outside) → HasRuns (module_of p) job input outside }
+{}
+
+/// Nothing is kept. Where a statement begins each number that the host has for the module is in one place, and these are few: names, the parameters
+/// of the function at work, and locals of callers. Where `main` has returned names alone hold something. So it is after every way out of a function too.
+pub fn nothing_kept()
+    ensures statement { (p : Program) → IsSorted p → (job : JobForm) (input : Source) (outside : Outside) (m : MachineForm) (c : Conf) (s : HostState)
+        → Reached (module_of p) job input outside m c s → begins_statement c.frame.code ≡ true → AtStatement p c s }
+    ensures returned { (p : Program) → IsSorted p → (job : JobForm) (input : Source) (outside : Outside) (m : MachineForm) (c : Conf) (s : HostState)
+        → Reached (module_of p) job input outside m c s → (n : ℕ) → turn m.program c ≡ Ends (ends.Returned (Some (I32 n))) → AtReturn p c s }
+{}
+
+/// The functions of a script whose names are not refused have at most 100 parameters, and so have the routines of its code.
+pub fn few_parameters()
+    ensures { (items : List Item) → refusal items ≡ None → All (λ r. length r.parameters ≤ 100) (program_of (resolved items)).routines }
+{}
+
+/// Each step of a program has a place of its own, the `nop` that begins its code, and a function's code has no other `nop`, but one before the test of a
+/// `do` loop.
+pub fn statements_have_places()
+    ensures routines { (p : Program) (r : Routine) → nops_in (routine_callee p r).body ≡ steps_places r.body }
+    ensures main { (p : Program) → nops_in (main_callee p).body ≡ main_places p }
+{}
