@@ -24,10 +24,50 @@ impl Model for Bases {
 
     ghost view = { λ b. record { parameters = b.parameters; temporaries = b.temporaries; iterators = b.iterators; arrays = b.arrays } };
 
-    ghost invariant = { λ b. (b.parameters ≤ most_places) × (b.temporaries ≤ most_places) × (b.iterators ≤ most_places) };
+    ghost invariant = { λ b. (b.parameters ≤ most_places) × (b.temporaries ≤ most_places) × (b.iterators ≤ most_places) × (b.arrays ≤ most_places) };
 }
 
 impl Bases {
+    /// The places of a function with so many of each.
+    pub fn new(parameters: u32, temporaries: u32, iterators: u32, arrays: u32) -> Self
+        requires parameters { parameters ≤ most_places }
+        requires temporaries { temporaries ≤ most_places }
+        requires iterators { iterators ≤ most_places }
+        requires arrays { arrays ≤ most_places }
+        ensures { result ≡ record { parameters = parameters; temporaries = temporaries; iterators = iterators; arrays = arrays } }
+    {
+        Bases {
+            parameters,
+            temporaries,
+            iterators,
+            arrays,
+        }
+    }
+
+    /// How many temporaries there are.
+    pub fn temporaries(&self) -> u32
+        ensures count { result ≡ self.now.temporaries }
+        ensures few { result ≤ most_places }
+    {
+        self.temporaries
+    }
+
+    /// How many iterators there are.
+    pub fn iterators(&self) -> u32
+        ensures count { result ≡ self.now.iterators }
+        ensures few { result ≤ most_places }
+    {
+        self.iterators
+    }
+
+    /// How many arrays that are made for calls there are.
+    pub fn arrays(&self) -> u32
+        ensures count { result ≡ self.now.arrays }
+        ensures few { result ≤ most_places }
+    {
+        self.arrays
+    }
+
     /// The local of the function's answer.
     pub fn answer(&self) -> u32
         ensures { result ≡ answer_local self.now }

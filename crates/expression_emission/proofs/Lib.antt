@@ -1,4 +1,9 @@
+mod Arms
+mod FitLemmas
+mod FormLemmas
 mod Keepings
 mod RoutineLemmas
 mod SpanLemmas
+mod Views
 mod WalkLemmas
+mod Weights

@@ -1,5 +1,5 @@
 -- Operands, one after the other: where they end, and how many are left.
-use Rattle.std.proofs.Common.{◌≡◌, ℕ, zero, suc, ◌+◌, ◌-◌, ◌<◌, ◌≤◌, List, [], ◌∷◌, length, map, refl, sym, ap, ◌∙◌, arith}
+use Rattle.std.proofs.Common.{◌≡◌, ℕ, zero, suc, ◌+◌, ◌-◌, ◌<◌, ◌≤◌, List, [], ◌∷◌, length, map, refl, ap, ◌∙◌, arith}
 use Rattle.awk_state.specs.declared.sorts.Argument.{Argument}
 use Rattle.awk_state.specs.declared.sorts.Argument.TheVariants as argument
 use Rattle.wasm_types.specs.Syntax.{Instructions}
@@ -60,7 +60,7 @@ none_put y ws es t k e = all_pushed_end y ws t k ∙ ap (λ (x : Codes). all_pus
 
 -- nothing more is wanted
 
-unwanted : (b : Bases) (fs : List plain.Form) (es : Codes) (t d : ℕ) (k : Instructions) → k ≡ converted_with b fs [] es t d k
+pub unwanted : (b : Bases) (fs : List plain.Form) (es : Codes) (t d : ℕ) (k : Instructions) → k ≡ converted_with b fs [] es t d k
 unwanted b [] End t d k = refl
 unwanted b [] (At e es) t d k = refl
 unwanted b [] (Fixed m es) t d k = refl
@@ -70,7 +70,7 @@ unwanted b (f ∷ fs) (At e es) t d k = refl
 unwanted b (f ∷ fs) (Fixed m es) t d k = refl
 unwanted b (f ∷ fs) (Fresh es) t d k = refl
 
-no_items : {A : Type 0} (xs : List A) → length xs ≡ 0 → ◌≡◌ {A = List A} [] xs
+pub no_items : {A : Type 0} (xs : List A) → length xs ≡ 0 → ◌≡◌ {A = List A} [] xs
 no_items [] e = refl
 no_items (x ∷ xs) e = absurd cc
 

@@ -44,12 +44,12 @@ abbrev mutual
   pub Fits : (y : Layout) → Code → (t w d : ℕ) → Type 0
   Fits y (Do o es) t w d = AllFit y es t w d
   Fits y (Over l es) t w d = AllCode es × AllFit y es t w d
-  Fits y (Compare c a b) t w d = Fits y a t w d × Fits y b (suc t) w d
+  Fits y (Compare c a b) t w d = Within t w d × (Fits y a t w d × Fits y b (suc t) w d)
   Fits y (Call f es) t w d = IsGiven (parameters_at y.calls f) es × ((f ≤ most_places) × ((w + made_in es ≤ most_places) × AllFit y es t w d))
   Fits y Ask t w d = Within t w d
   Fits y (AskLine s) t w d = Within t w d × Fits y s (suc (suc t)) w (suc d)
   Fits y (FileLine e s) t w d = Within t w d × (Fits y e t w d × Fits y s (suc (suc t)) w (suc d))
-  Fits y (Replace all es s) t w d = AllFit y es t w d × Fits y s (suc (suc t)) w (suc d)
+  Fits y (Replace all es s) t w d = Within t w d × (AllFit y es t w d × Fits y s (suc (suc t)) w (suc d))
   Fits y (Number z) t w d = Within t w d
   Fits y (Text i) t w d = Within t w d × (i < length y.texts)
   Fits y Unset t w d = Within t w d

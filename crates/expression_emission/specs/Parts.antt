@@ -1,5 +1,5 @@
 -- Parts of the definitions, which are added by functions of their own.
-use Rattle.std.specs.Prelude.{ℕ, zero, suc, ◌+◌, Bool, true, List, [], ◌∷◌, length}
+use Rattle.std.specs.Prelude.{ℕ, zero, suc, ◌+◌, Bool, true, false, List, [], ◌∷◌, length}
 use Rattle.awk_state.specs.Constants.{flag_number}
 use Rattle.awk_state.specs.Table.{arguments_of, answer_of, can_fault}
 use Rattle.awk_state.specs.declared.sorts.Argument.{Argument}
@@ -8,16 +8,19 @@ use Rattle.awk_state.specs.declared.table.Listed.{Listed}
 use Rattle.awk_state.specs.declared.table.Primitive.{Primitive}
 use Rattle.awk_state.specs.declared.table.Primitive.TheVariants.{GetlineVarFile, Sub}
 use Rattle.awk_state.specs.declared.sorts.Answer.TheVariants as answer
+use Rattle.awk_state.specs.declared.sorts.Sort.{Sort}
 use Rattle.awk_state.specs.declared.sorts.Sort.TheVariants as sort
+use Rattle.wasm_types.specs.declared.types.ValType.TheVariants.{I64}
+use Rattle.wasm_types.specs.declared.instr.ITestOp.TheVariants.{Eqz}
 use Rattle.mid_program.specs.MidMeaning.{three_values}
 use Rattle.wasm_types.specs.Syntax.{Instructions, Done}
-use Rattle.wasm_types.specs.declared.instr.Simple.TheVariants.{Br, Call as CallOf, GlobalSet, I32Const, LocalGet, LocalTee}
+use Rattle.wasm_types.specs.declared.instr.Simple.TheVariants.{Br, Call as CallOf, GlobalSet, I32Const, LocalGet, LocalTee, Test}
 use Rattle.mid_program.specs.Mid as plain
 use Rattle.mid_program.specs.declared.mid.Operation.{Operation}
 use Rattle.mid_program.specs.Mid.{Kind, Boxed, Unboxed, Many, Code, Codes, End, At, Fixed, Fresh, arguments, form_of, parameters_at}
 use Rattle.value_machine.specs.Places.{Bases, array_local, made_in}
 use Rattle.value_machine.specs.Small.{ask, ask_row, does, h, kept, kept_code, kept_value, minus_one, moved_out, n, number_is, to_value, converted, when}
-use Rattle.value_machine.specs.Emission.{Layout, all_pushed, assigned, function_number, global_handle, global_number, listed_asked, one_given, pending_assigned, performed, text_dropped}
+use Rattle.value_machine.specs.Emission.{Layout, all_pushed, emitted, text_kept, text_let_go, assigned, function_number, global_handle, global_number, listed_asked, one_given, pending_assigned, performed, text_dropped}
 use Rattle.value_machine.specs.declared.import.Import.TheVariants.{Arg, FreeArray}
 
 -- an unboxed name takes a number
@@ -120,3 +123,16 @@ stored_when b store t k = number_is (n b t) 1 (when store k)
 -- the host is asked for a replacement
 abbrev pub replaced_asked : Layout → Bool → Codes → ℕ → ℕ → Instructions → Instructions
 replaced_asked y every es t d k = all_pushed y three_values es t (does (I32Const (flag_number every)) (ask_row Sub (kept y.bases true (answer.Of sort.Number) t d k)))
+
+-- code that stores a text, from within one label more
+abbrev pub stored_with : Layout → List plain.Form → List ℕ → Primitive → Code → ℕ → ℕ → ℕ → Instructions → Instructions
+stored_with y fs ts p s t w d k = text_kept y p t (emitted y true (plain.a_value ∷ fs) (suc t ∷ ts) s (suc (suc t)) w (suc d) (text_let_go y fs s t k))
+
+-- a replacement once its operands, of these forms, are evaluated, and the test whether nothing was replaced
+abbrev pub replaced_with : Layout → List plain.Form → Bool → Codes → ℕ → ℕ → Instructions → Instructions
+replaced_with y fs every es t d k =
+    converted_with y.bases fs three_values es t d (replaced_asked y every es t d (does (LocalGet (n y.bases t)) (does (Test I64 Eqz) k)))
+
+-- one of two ways, as the sort that is wanted
+abbrev pub branch_with : Layout → List plain.Form → List ℕ → Sort → Code → ℕ → ℕ → ℕ → Instructions → Instructions
+branch_with y fs ts s e t w d k = emitted y false fs ts e t w (suc d) (converted y.bases (form_of fs e) s t (suc d) k)

@@ -1,5 +1,5 @@
 -- Where the texts of a script stand, and which scripts are small enough.
-use Rattle.std.specs.Prelude.{ℕ, zero, ◌+◌, ◌≤◌, ◌<◌, ◌^◌, List, [], ◌∷◌, length}
+use Rattle.std.specs.Prelude.{ℕ, ◌+◌, ◌++◌, ◌≡◌, ◌≤◌, ◌<◌, ◌^◌, List, [], ◌∷◌, length, Option, MatchOption}
 use Rattle.mid_program.specs.Mid.{Program}
 use Rattle.value_machine.specs.Places.{memory_of}
 use Rattle.value_machine.specs.Functions.{texts_of}
@@ -14,3 +14,8 @@ spans_from at (s ∷ ss) = (record { place = at; size = length s }) ∷ spans_fr
 -- few enough names and ranges, and texts that fit in memory
 abbrev pub IsSmall : Program → Type 0
 IsSmall p = (length p.globals ≤ most_places) × ((p.ranges ≤ most_places) × (length (memory_of (texts_of p)) < 2 ^ 32))
+
+-- texts were placed one after the other, from a place on, and the next one goes there; or there is no place left for them
+abbrev pub IsPlaced : Option ℕ → ℕ → List (List ℕ) → List Span → List Span → Type 0
+IsPlaced end place texts before after =
+    MatchOption end (2 ^ 32 ≤ place + length (memory_of texts)) (λ next. (next ≡ place + length (memory_of texts)) × ((next < 2 ^ 32) × (after ≡ before ++ spans_from place texts)))

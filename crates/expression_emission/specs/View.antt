@@ -1,6 +1,5 @@
 -- What code is emitted for, as the definitions see it.
 use Rattle.mid_program.specs.View.{view_mid}
-use Rattle.mid_program.specs.declared.program.Mid.{Mid}
 use Rattle.value_machine.specs.Emission as plain
 use Rattle.value_machine.specs.Functions.{layout_of}
 use Rattle.expression_emission.specs.declared.layout.Layout.{Layout}

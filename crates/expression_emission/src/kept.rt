@@ -47,7 +47,7 @@ impl Kept {
     }
 
     /// Something more is kept.
-    pub(crate) fn push(&mut self, form: Form, temporary: u32) -> Result<(), AllocError>
+    pub fn push(&mut self, form: Form, temporary: u32) -> Result<(), AllocError>
         requires { temporary ≤ most_places }
         ensures { OnOk result (self.new ≡ kept_more (view_form form) temporary self.old) }
     {

@@ -1,6 +1,5 @@
 //! Code with no code within it.
 ghost use Rattle.std.specs.Prelude.{◌≡◌, ◌<◌, ◌≤◌, get_or, IfOk, length, OnOk, suc, true};
-ghost use Rattle.std.specs.Int.{cast_unsigned, w64};
 ghost use Rattle.awk_state.specs.declared.table.Primitive.TheVariants.{Getline, Lit};
 ghost use Rattle.wasm_types.specs.declared.instr.CvtOp.TheVariants.{I64ExtendI32U};
 ghost use Rattle.wasm_types.specs.declared.instr.Simple.TheVariants.{Convert, GlobalGet, I64Const, LocalSet};
@@ -38,19 +37,19 @@ pub(crate) fn line(y: &Layout<'_>, out: &mut Vec<Instr>, at: At) -> Result<Form,
     Ok(Form::Answered(Answer::Of(Sort::Number)))
 }
 
-/// Adds a number.
+/// Adds a number, by its bits.
 pub(crate) fn constant(
     y: &Layout<'_>,
     out: &mut Vec<Instr>,
-    number: i64,
+    bits: u64,
     at: At,
 ) -> Result<Form, AllocError>
     requires { Within at.temporary at.arrays at.exit }
     ensures form { IfOk result (λ form. view_form form ≡ a_number) }
-    ensures emits { OnOk result (Emits out.old.items out.new.items (λ k. does (I64Const (cast_unsigned w64 number)) (does (LocalSet (n y.now.bases.now at.temporary)) k))) }
+    ensures emits { OnOk result (Emits out.old.items out.new.items (λ k. does (I64Const bits) (does (LocalSet (n y.now.bases.now at.temporary)) k))) }
 {
     let put = Simple::LocalSet(y.bases.number(at.temporary));
-    does_all(out, &[Simple::I64Const(number.cast_unsigned()), put])?;
+    does_all(out, &[Simple::I64Const(bits), put])?;
     Ok(Form::Answered(Answer::Of(Sort::Number)))
 }
 

@@ -3,6 +3,7 @@
 
 mod at;
 mod calls;
+mod expressions;
 mod kept;
 mod layout;
 mod leaves;
@@ -11,13 +12,16 @@ mod operands;
 mod pending;
 mod places;
 mod slots;
+mod spans;
 mod storing;
 mod tables;
 mod walks;
 
 pub use at::At;
+pub use expressions::expression;
 pub use kept::Kept;
 pub use layout::Layout;
-pub use pending::{asked, pending_assigned};
+pub use pending::{asked, pending_assigned, pending_code};
 pub use places::{array_pushed, global_handle, global_number, text_pushed};
+pub use storing::left_over;
 pub use tables::{Span, Tables};

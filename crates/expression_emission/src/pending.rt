@@ -137,7 +137,7 @@ pub fn pending_assigned(y: &Layout<'_>, out: &mut Vec<Instr>, t: u32) -> Result<
 }
 
 /// What makes an assignment and begins again.
-fn pending_code(y: &Layout<'_>, t: u32) -> Result<Vec<Instr>, AllocError>
+pub fn pending_code(y: &Layout<'_>, t: u32) -> Result<Vec<Instr>, AllocError>
     requires { suc t ≤ most_places }
     ensures { IfOk result (λ v. Emits [] v.items (λ k. pending_assigned (view_layout y.now) t (does (Br 1) k))) }
 {

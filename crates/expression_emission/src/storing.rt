@@ -1,5 +1,5 @@
 //! Texts that were read or replaced, kept while code stores them.
-ghost use Rattle.std.specs.Prelude.{[], ◌+◌, suc, ◌≤◌, OnOk};
+ghost use Rattle.std.specs.Prelude.{[], ◌+◌, suc, ◌≤◌, map, OnOk};
 ghost use Rattle.awk_state.specs.declared.table.Primitive.TheVariants.{NewArray};
 ghost use Rattle.wasm_types.specs.Syntax.{Done, Instructions};
 ghost use Rattle.wasm_types.specs.declared.instr.Simple.TheVariants.{LocalSet};
@@ -8,22 +8,24 @@ ghost use Rattle.mid_program.specs.ViewCode.{view, views};
 ghost use Rattle.value_machine.specs.Emission.{left_over};
 ghost use Rattle.value_machine.specs.Places.{array_local};
 ghost use Rattle.value_machine.specs.Small.{ask_row, does, h};
-ghost use Rattle.code_emission.specs.Bounds.{most_places};
+ghost use Rattle.code_emission.specs.Bounds.{most_labels, most_places};
 ghost use Rattle.code_emission.specs.Emits.{Emits};
 ghost use Rattle.code_emission.specs.Forms.{view_form};
 ghost use Rattle.expression_emission.specs.Fits.{ArraysFit};
-ghost use Rattle.expression_emission.specs.Parts.{file_asked, replaced_asked, stored_when};
+ghost use Rattle.expression_emission.specs.Parts.{file_asked, replaced_asked, replaced_with, stored_when};
 ghost use Rattle.expression_emission.specs.View.{view_layout};
 
 use crate::layout::Layout;
 use crate::operands::all_pushed;
+use crate::walks::all_converted;
 use awk_state::{Answer, Argument, Primitive, Sort};
 use code_emission::{
-    Bases, Form, ask_row, does, kept, kept_code, moved_out, number_is, to_value, unused, when,
+    Bases, Form, ask_row, does, does_all, kept, kept_code, moved_out, number_is, to_value, unused,
+    when,
 };
 use mid_program::{Code, Operand};
 use std::alloc::AllocError;
-use wasm_types::{Instr, Simple};
+use wasm_types::{ITestOp, Instr, Simple, ValType};
 
 /// Adds an array that is made for a call.
 pub(crate) fn array_made(b: &Bases, out: &mut Vec<Instr>, arrays: u32) -> Result<(), AllocError>
@@ -49,7 +51,7 @@ pub(crate) fn text_kept(
 }
 
 /// Drops what code left that was evaluated for what it does alone: an assignment has given its value away then.
-pub(crate) fn left_over(
+pub fn left_over(
     y: &Layout<'_>,
     out: &mut Vec<Instr>,
     code: &Code,
@@ -100,7 +102,7 @@ pub(crate) fn file_asked(
 }
 
 /// Stores a text where one was read.
-fn stored_when(
+pub(crate) fn stored_when(
     y: &Layout<'_>,
     out: &mut Vec<Instr>,
     store: Vec<Instr>,
@@ -135,4 +137,33 @@ fn replaced_asked(
     does(out, Simple::I32Const(u32::from(every)))?;
     ask_row(out, Primitive::Sub)?;
     kept(y.bases, out, true, Answer::Of(Sort::Number), t, exit)
+}
+
+/// Adds a replacement, whose operands are evaluated, and the test whether nothing was replaced.
+pub(crate) fn replaced(
+    y: &Layout<'_>,
+    out: &mut Vec<Instr>,
+    forms: &[Form],
+    every: bool,
+    operands: &[Operand],
+    t: u32,
+    exit: u32,
+) -> Result<(), AllocError>
+    requires places { t + count_of (views operands.now) ≤ most_places }
+    requires labels { exit ≤ most_labels }
+    requires arrays { ArraysFit (views operands.now) }
+    ensures { OnOk result (Emits out.old.items out.new.items (replaced_with (view_layout y.now) (map view_form forms.now) every (views operands.now) t exit)) }
+{
+    let wanted = [
+        Argument::Of(Sort::Value),
+        Argument::Of(Sort::Value),
+        Argument::Of(Sort::Value),
+    ];
+    all_converted(y.alloc, y.bases, out, forms, &wanted, operands, t, exit)?;
+    replaced_asked(y, out, every, operands, t, exit)?;
+    let all = [
+        Simple::LocalGet(y.bases.number(t)),
+        Simple::Test(ValType::I64, ITestOp::Eqz),
+    ];
+    does_all(out, &all)
 }

@@ -1,12 +1,17 @@
 //! Where the things of a script stand.
-ghost use Rattle.std.specs.Prelude.{[], ◌≡◌, ◌<◌, ◌≤◌, get_or, length};
+ghost use Rattle.std.specs.Prelude.{[], ◌≡◌, ◌<◌, ◌≤◌, IfOk, MatchOption, get_or, length};
 ghost use Rattle.mid_program.specs.View.{view_mid};
 ghost use Rattle.value_machine.specs.Functions.{texts_of};
 ghost use Rattle.value_machine.specs.Places.{place_of};
 ghost use Rattle.code_emission.specs.Bounds.{most_places};
 ghost use Rattle.expression_emission.specs.Spans.{spans_from, IsSmall};
 
+use crate::spans::{place_globals, place_routines, place_texts};
 use mid_program::{Declared, Mid, Routine};
+use std::alloc::{AllocError, Global};
+
+/// More names or ranges a script does not have.
+const MOST_PLACES: usize = 1 << 24;
 
 /// A text's place in memory, and how long it is.
 #[derive(Clone, Copy, Debug, Drop)]
@@ -25,6 +30,26 @@ pub struct Tables<'a> {
 }
 
 impl<'a> Tables<'a> {
+    /// The tables of a script; nothing where it has too many names or ranges, or texts that do not fit in memory.
+    pub fn new(alloc: Global, program: &'a Mid) -> Result<Option<Self>, AllocError>
+        ensures { IfOk result (λ made. MatchOption made (IsSmall (view_mid program.now) → ⊥) (λ tables. tables.program.now ≡ program.now)) }
+    {
+        if program.globals.len() > MOST_PLACES || program.ranges > MOST_PLACES {
+            return Ok(None);
+        }
+        let mut spans = Vec::new(alloc);
+        let Some(place) = place_texts(&mut spans, 0, program.texts.as_slice())? else {
+            return Ok(None);
+        };
+        let Some(place) = place_globals(&mut spans, place, &program.globals)? else {
+            return Ok(None);
+        };
+        let Some(_) = place_routines(&mut spans, place, &program.routines)? else {
+            return Ok(None);
+        };
+        Ok(Some(Tables { program, spans }))
+    }
+
     /// Where a text stands.
     pub fn span(&self, text: usize) -> Span
         requires { text < length (texts_of (view_mid self.now.program.now)) }

@@ -1,4 +1,4 @@
-use Rattle.std.proofs.Common.{ap, ◌∙◌, ◌≡◌, ◌<◌, ◌≤◌, ℕ, List, get_or, length, map, subst, arith}
+use Rattle.std.proofs.Common.{ap, ◌∙◌, ◌<◌, ◌≤◌, List, get_or, length, map, subst, arith}
 use Rattle.mid_program.specs.View.{view_kind}
 use Rattle.mid_program.specs.declared.program.Routine.{Routine}
 use Rattle.expression_emission.proofs.RoutineLemmas.{no_parameters, parameters_are}

@@ -1,5 +1,4 @@
-use Rattle.std.proofs.Common.{ap, map, arith}
-use Rattle.mid_program.specs.View.{view_kind}
+use Rattle.std.proofs.Common.{ap}
 use Rattle.code_emission.specs.Emits.{followed}
 use Rattle.expression_emission.specs.View.{view_layout}
 use Rattle.expression_emission.proofs.WalkLemmas.{none_put}

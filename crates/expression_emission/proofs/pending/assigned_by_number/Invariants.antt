@@ -1,4 +1,4 @@
-use Rattle.std.proofs.Common.{◌≡◌, ℕ, zero, drop, map}
+use Rattle.std.proofs.Common.{◌≡◌, zero, drop, map}
 use Rattle.wasm_types.specs.Syntax.{Instructions}
 use Rattle.mid_program.specs.Sorted.{kinds_of}
 use Rattle.mid_program.specs.View.{view_declared}

@@ -1,4 +1,4 @@
-use Rattle.std.proofs.Common.{ap, sym, ◌∙◌, ◌-◌, arith}
+use Rattle.std.proofs.Common.{ap, sym, ◌∙◌, arith}
 use Rattle.code_emission.specs.Emits.{followed}
 use Rattle.expression_emission.proofs.WalkLemmas.{freed_step}
 use Rattle.expression_emission.proofs.walks.all_freed.Goals as goal
