@@ -1,0 +1,5 @@
+pub mod Announced
+pub mod Fitting
+pub mod Holdings
+pub mod Smallness
+pub mod Stepping

@@ -1,0 +1,21 @@
+use Rattle.std.proofs.Common.{ap, map, subst, sym, ◌∙◌}
+use Rattle.mid_program.specs.View.{view_kind, view_mid}
+use Rattle.value_machine.specs.Functions.{layout_of}
+use Rattle.value_machine.specs.Places.{Bases, local_types}
+use Rattle.value_machine.specs.Statements.{main_body}
+use Rattle.statement_emission.specs.StepFits.{PartsFit}
+use Rattle.statement_emission.proofs.Smallness.{main_fits}
+use Rattle.statement_emission.proofs.script.main_function.Goals as goal
+
+pub main_code-requires-clause-fit : goal.main_code-requires-clause-fit
+main_code-requires-clause-fit c =
+    let p = view_mid c.args.tables.now.program.now in
+    subst (λ (b : Bases). PartsFit (layout_of p b) p) (sym (c.bases-bases.ensures ∙ c.in-Some.ensures.0)) (main_fits p c.args.tables.now.small c.requires.few c.in-Some.ensures.1 c.requires.sorted)
+
+pub returns-clause-function : goal.returns-clause-function
+returns-clause-function c =
+    let p = view_mid c.args.tables.now.program.now in
+    let kinds = c.new.ensures.items in
+    let locals = c.in_ok-locals.ensures ∙ ap local_types c.in-Some.ensures.0 in
+    let body = c.in_ok-body.ensures ∙ ap (λ (b : Bases). main_body (layout_of p b) p) (c.bases-bases.ensures ∙ c.in-Some.ensures.0) in
+    λ i. record { kinds = map view_kind (kinds i); locals = locals i; body = body i }

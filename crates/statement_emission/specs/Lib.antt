@@ -1,0 +1,5 @@
+pub mod Holding
+pub mod Limits
+pub mod Parts
+pub mod Places
+pub mod StepFits

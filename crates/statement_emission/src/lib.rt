@@ -1,0 +1,16 @@
+//! The code of statements, of functions and of `main`, emitted as it is defined.
+#![tactic(auto)]
+
+mod around;
+mod beginning;
+mod evaluating;
+mod holding;
+mod leaving;
+mod loops;
+mod parts;
+mod records;
+mod routines;
+mod script;
+mod steps;
+
+pub use script::{functions, module};
