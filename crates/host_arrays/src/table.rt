@@ -183,6 +183,15 @@ impl Arrays {
         self.array_mut(number).delete(key);
     }
 
+    /// Takes all keys out of the array. It takes no memory.
+    pub fn clear(&mut self, number: i32)
+        requires { map.contains_key self.old number ≡ true }
+        ensures { self.new ≡ map.insert self.old number [] }
+    {
+        let none = Array::new(self.alloc, self.state);
+        *self.array_mut(number) = none;
+    }
+
     /// The keys of the array, in the order of insertion.
     ///
     /// # Errors

@@ -85,6 +85,15 @@ insert_held m q v there = map.same_map int_cmp_total int_cmp-IsAntisymmetric _ _
     by r true e = sym (ap (map.get m) ((signed_Decides r q).0 e) ∙ there)
     by r false e = refl
 
+-- what is put where something stands gives nothing else something
+pub free_still : {V : Type 0} (m : FinMap int_cmp V) (q : ℤ) (v : V) (r : ℤ) → map.contains_key m q ≡ true → map.get m r ≡ None
+    → map.get (map.insert m q v) r ≡ None
+free_still m q v r there none = inserted m q v r ∙ by (int_eq r q) refl
+  where
+    by : (b : Bool) → int_eq r q ≡ b → cond b (Some v) (map.get m r) ≡ None
+    by true e = absurd (true≢false (sym there ∙ ap is_some (ap (map.get m) (sym ((signed_Decides r q).0 e)) ∙ none)))
+    by false e = none
+
 pub insert_keys : (m : Iterators) (q : ℤ) → map.contains_key m q ≡ true → map.insert m q (keys_at m q) ≡ m
 insert_keys m q there = insert_held m q (keys_at m q) (by (map.get m q) there)
   where

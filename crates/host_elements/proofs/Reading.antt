@@ -34,7 +34,7 @@ place_or_first (Some n) = n
 abbrev pub place_at : FinMap int_cmp ℕ → ℤ → ℕ
 place_at places q = place_or_first (map.get places q)
 
-abbrev placed : FinMap int_cmp ℕ → Result (ℤ × List Word) TrapKind → Result (ℕ × List Word) TrapKind
+abbrev pub placed : FinMap int_cmp ℕ → Result (ℤ × List Word) TrapKind → Result (ℕ × List Word) TrapKind
 placed places (Ok x) = Ok (place_at places x.0, x.1)
 placed places (Err k) = Err k
 
@@ -58,13 +58,13 @@ named held places all (I32 n ∷ rest) is =
 -- Rows of arguments.
 
 -- an argument before the others
-abbrev before : {A R N : Type 0} → A → R × N → Result ((A × R) × N) TrapKind
+abbrev pub before : {A R N : Type 0} → A → R × N → Result ((A × R) × N) TrapKind
 before a rest = Ok ((a, rest.0), rest.1)
 
 abbrev then_rest : {A R N : Type 0} → Result (A × List Word) TrapKind → (List Word → Result (R × N) TrapKind) → Result ((A × R) × N) TrapKind
 then_rest r d = and_then r (λ x. and_then (d x.1) (before x.0))
 
-abbrev ended : {N : Type 0} → N → List Word → Result (Unit {0} × N) TrapKind
+abbrev pub ended : {N : Type 0} → N → List Word → Result (Unit {0} × N) TrapKind
 ended names words = and_then (no_more words) (λ end. Ok (end, names))
 
 abbrev pub number_row : {A : Type 0} → FinMap int_cmp ℕ → Result ℤ TrapKind → A → Result ((ℕ × Unit {0}) × A) TrapKind

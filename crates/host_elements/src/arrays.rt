@@ -61,6 +61,7 @@ pub fn elem(
     requires { map.get handles.old spare ≡ None }
     ensures step { (f : HostForm) (memory : List ℕ) → f.fault ≡ None → IsTableCall (Import.Of row.Elem) (with_arrays handles.old arrays.old f) words.now memory result (with_arrays handles.new arrays.new f) }
     ensures spare { map.get handles.new spare ≡ None }
+    ensures spare_array { map.get arrays.old spare ≡ None → map.get arrays.new spare ≡ None }
 {
     let (array, handle, value) = match array_and_key(arrays, handles, words) {
         Ok(read) => read,
@@ -79,7 +80,8 @@ pub fn elem(
 /// Puts a value at a key.
 fn put(arrays: &mut Arrays, array: i32, key: &Bytes, value: Value) -> Result<Option<Word>, Refusal>
     requires { map.contains_key arrays.old array ≡ true }
-    ensures { IsPut result (map.insert arrays.old array (set_pair key.now value (pairs_at arrays.old array))) arrays.new }
+    ensures put { IsPut result (map.insert arrays.old array (set_pair key.now value (pairs_at arrays.old array))) arrays.new }
+    ensures spare_array { map.get arrays.old spare ≡ None → map.get arrays.new spare ≡ None }
 {
     match arrays.set(array, key, value) {
         Ok(()) => Ok(Some(DONE)),
@@ -100,6 +102,7 @@ pub fn set_elem(
 ) -> Result<Option<Word>, Refusal>
     ensures step { (f : HostForm) (memory : List ℕ) → f.fault ≡ None → IsTableCall (Import.Of row.SetElem) (with_arrays handles.old arrays.old f) words.now memory result (with_arrays handles.new arrays.new f) }
     ensures spare { map.get handles.old spare ≡ None → map.get handles.new spare ≡ None }
+    ensures spare_array { map.get arrays.old spare ≡ None → map.get arrays.new spare ≡ None }
 {
     let (array, first, key, second) = match array_key_value(arrays, handles, words) {
         Ok(read) => read,
@@ -153,6 +156,7 @@ pub fn delete(
 ) -> Result<Option<Word>, Refusal>
     ensures step { (f : HostForm) (memory : List ℕ) → f.fault ≡ None → IsTableCall (Import.Of row.Delete) (with_arrays handles.old arrays.old f) words.now memory result (with_arrays handles.new arrays.new f) }
     ensures spare { map.get handles.old spare ≡ None → map.get handles.new spare ≡ None }
+    ensures spare_array { map.get arrays.old spare ≡ None → map.get arrays.new spare ≡ None }
 {
     let (array, handle, value) = match array_and_key(arrays, handles, words) {
         Ok(read) => read,

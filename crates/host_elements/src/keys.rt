@@ -67,6 +67,7 @@ pub fn iter_next(
     requires { map.get handles.old spare ≡ None }
     ensures step { (f : HostForm) (memory : List ℕ) → f.fault ≡ None → IsTableCall (Import.Of row.IterNext) (with_iterators handles.old iterators.old f) words.now memory result (with_iterators handles.new iterators.new f) }
     ensures spare { map.get handles.new spare ≡ None }
+    ensures spare_iterator { map.get iterators.old spare ≡ None → map.get iterators.new spare ≡ None }
 {
     let number = match only_iterator(iterators, words) {
         Ok(number) => number,

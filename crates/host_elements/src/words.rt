@@ -14,7 +14,11 @@ use std::alloc::{AllocError, Global};
 use wasm_store::{TrapKind, Word};
 
 /// The number of an array, and the words behind it.
-fn array_front<'a>(arrays: &Arrays, words: &'a [Word]) -> Result<(i32, &'a [Word]), TrapKind>
+///
+/// # Errors
+///
+/// A trap, where no array's number is there.
+pub fn array_front<'a>(arrays: &Arrays, words: &'a [Word]) -> Result<(i32, &'a [Word]), TrapKind>
     ensures number { owned_number result ≡ number_front arrays.now words.now }
     ensures there { IfOk result (λ x. map.contains_key arrays.now x.0 ≡ true) }
 {

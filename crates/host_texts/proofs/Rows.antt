@@ -4,6 +4,7 @@ use Rattle.std.specs.Prelude.{is_some}
 use Rattle.awk_values.specs.declared.fault.Fault.{Fault}
 use Rattle.awk_values.specs.Values.{text_of_value}
 use Rattle.awk_values.specs.declared.value.Value.{Value as AnyValue}
+use Rattle.awk_state.specs.ArrayRows.{join_row}
 use Rattle.awk_state.specs.FieldRows.{done, field_number, field_row, set_field_row, set_special_row, with_field}
 use Rattle.awk_state.specs.Numbers.{Number}
 use Rattle.awk_state.specs.SharedState.{Inner, ◌>>=◌, settles, special_of}
@@ -32,7 +33,7 @@ use Rattle.host_texts.specs.Evaluations.{Evaluation, Outcome, done_reply, ends_t
 use Rattle.host_texts.specs.Primitives.{row_of}
 use Rattle.host_texts.specs.States.{with_inner}
 use Rattle.host_texts.specs.declared.primitive.TextPrimitive.{TextPrimitive}
-use Rattle.host_texts.specs.declared.primitive.TextPrimitive.TheVariants.{GetSpecial, SetSpecial, Field, SetField, Length, Matches, Match, Sub, SubResult, Substr, SubstrFrom, Index, Lower, Upper}
+use Rattle.host_texts.specs.declared.primitive.TextPrimitive.TheVariants.{GetSpecial, SetSpecial, Field, SetField, Length, Matches, Match, Sub, SubResult, Substr, SubstrFrom, Index, Lower, Upper, Join}
 use Rattle.host_texts.specs.declared.reply.Reply.{Reply}
 use Rattle.host_texts.specs.declared.reply.Reply.TheVariants as reply
 use Rattle.host_texts.proofs.Reading.{number, other, stop, stop_at, taken}
@@ -128,6 +129,10 @@ matching Lower s m words memory =
 matching Upper s m words memory =
     taken (answer_of row.Upper) s (Good Upper s) [] (spends (Of row.Upper)) memory refl m words _ _ (λ v left rest.
     stop (answer_of row.Upper) s (Good Upper s) rest (names_with left s) _ left (s, Ok (reply.Value (upper_row v))) (refl, record { added = refl; state = refl; fits = refl }))
+matching Join s m words memory =
+    taken (answer_of row.Join) s (Good Join s) (argument.Of sort.Value ∷ []) (spends (Of row.Join)) memory refl m words _ _ (λ v without_v behind.
+    taken (answer_of row.Join) s (Good Join s) [] (spends (Of row.Join)) memory refl without_v behind _ _ (λ w left rest.
+    stop (answer_of row.Join) s (Good Join s) rest (names_with left s) _ left (s, replied reply.Value (join_row v w s.shared.inner)) (refl, record { added = refl; state = refl; fits = fits_replied (answer.Of sort.Value) reply.Value (join_row v w s.shared.inner) (λ x. refl) })))
 
 pub matched : (p : TextPrimitive) (s : HostState) (m : Values) (words : List Word) (memory : List ℕ) (e : Evaluation) → evaluation p m s words ≡ e
     → reading.Matches (answer_of (row_of p)) s (Good p s) (carried (Of (row_of p)) words memory (with_values m s)) e

@@ -15,7 +15,7 @@ use Rattle.host_values.specs.Fronts.{handle_front, plain_number}
 use Rattle.host_values.proofs.Spare.{spare_removed}
 use Rattle.host_texts.specs.Evaluations.{Evaluation, Outcome, ends_then, evaluation, front_then, handle_then, left_by}
 use Rattle.host_texts.specs.declared.primitive.TextPrimitive.{TextPrimitive}
-use Rattle.host_texts.specs.declared.primitive.TextPrimitive.TheVariants.{GetSpecial, SetSpecial, Field, SetField, Length, Matches, Match, Sub, SubResult, Substr, SubstrFrom, Index, Lower, Upper}
+use Rattle.host_texts.specs.declared.primitive.TextPrimitive.TheVariants.{GetSpecial, SetSpecial, Field, SetField, Length, Matches, Match, Sub, SubResult, Substr, SubstrFrom, Index, Lower, Upper, Join}
 use Rattle.host_texts.specs.declared.spent.Spent.{Spent}
 use Rattle.host_texts.specs.declared.spent.Spent.TheVariants.{Nothing, One, Two, Three}
 
@@ -79,3 +79,4 @@ spare_evaluated SubstrFrom m s words free =
 spare_evaluated Index m s words free = handle (handle_front m words) _ (λ h v behind. handle (handle_front (map.remove m h) behind) _ (λ k w rest. end (no_more rest) (map.remove (map.remove m h) k) _ (spare_removed (map.remove m h) k (spare_removed m h free))))
 spare_evaluated Lower m s words free = handle (handle_front m words) _ (λ h v rest. end (no_more rest) (map.remove m h) _ (spare_removed m h free))
 spare_evaluated Upper m s words free = handle (handle_front m words) _ (λ h v rest. end (no_more rest) (map.remove m h) _ (spare_removed m h free))
+spare_evaluated Join m s words free = handle (handle_front m words) _ (λ h v behind. handle (handle_front (map.remove m h) behind) _ (λ k w rest. end (no_more rest) (map.remove (map.remove m h) k) _ (spare_removed (map.remove m h) k (spare_removed m h free))))

@@ -6,6 +6,7 @@ use Rattle.awk_values.specs.declared.fault.Fault.{Fault}
 use Rattle.awk_values.specs.Values.{text_of_value}
 use Rattle.awk_values.specs.declared.value.Value.{Value as AnyValue}
 use Rattle.awk_values.specs.declared.value.Value.TheVariants as value
+use Rattle.awk_state.specs.ArrayRows.{join_row}
 use Rattle.awk_state.specs.Constants.{InConstant}
 use Rattle.awk_state.specs.FieldRows.{done, set_special_row}
 use Rattle.awk_state.specs.Numbers.{Number}
@@ -26,7 +27,7 @@ use Rattle.host_values.specs.declared.reply.Refusal.{Refusal}
 use Rattle.host_values.specs.declared.reply.Refusal.TheVariants as refusal
 use Rattle.host_texts.specs.States.{with_inner}
 use Rattle.host_texts.specs.declared.primitive.TextPrimitive.{TextPrimitive}
-use Rattle.host_texts.specs.declared.primitive.TextPrimitive.TheVariants.{GetSpecial, SetSpecial, Field, SetField, Length, Matches, Match, Sub, SubResult, Substr, SubstrFrom, Index, Lower, Upper}
+use Rattle.host_texts.specs.declared.primitive.TextPrimitive.TheVariants.{GetSpecial, SetSpecial, Field, SetField, Length, Matches, Match, Sub, SubResult, Substr, SubstrFrom, Index, Lower, Upper, Join}
 use Rattle.host_texts.specs.declared.reply.Evaluated.{Evaluated}
 use Rattle.host_texts.specs.declared.reply.Reply.{Reply}
 use Rattle.host_texts.specs.declared.reply.Reply.TheVariants as reply
@@ -114,6 +115,8 @@ evaluation Index m s words =
     value_then m words (λ v without_v behind. value_then without_v behind (λ wanted left rest. ends_then (no_more rest) (Ok (left, (s, Ok (number_reply (index_row v wanted)))))))
 evaluation Lower m s words = value_then m words (λ v left rest. ends_then (no_more rest) (Ok (left, (s, Ok (reply.Value (lower_row v))))))
 evaluation Upper m s words = value_then m words (λ v left rest. ends_then (no_more rest) (Ok (left, (s, Ok (reply.Value (upper_row v))))))
+evaluation Join m s words =
+    value_then m words (λ v without_v behind. value_then without_v behind (λ w left rest. ends_then (no_more rest) (Ok (left, (s, replied reply.Value (join_row v w s.shared.inner))))))
 
 -- What the code gives.
 

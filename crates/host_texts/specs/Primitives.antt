@@ -3,7 +3,7 @@ use Rattle.std.specs.Prelude.{Option, Some, None}
 use Rattle.awk_state.specs.declared.table.Primitive.{Primitive}
 use Rattle.awk_state.specs.declared.table.Primitive.TheVariants as row
 use Rattle.host_texts.specs.declared.primitive.TextPrimitive.{TextPrimitive}
-use Rattle.host_texts.specs.declared.primitive.TextPrimitive.TheVariants.{GetSpecial, SetSpecial, Field, SetField, Length, Matches, Match, Sub, SubResult, Substr, SubstrFrom, Index, Lower, Upper}
+use Rattle.host_texts.specs.declared.primitive.TextPrimitive.TheVariants.{GetSpecial, SetSpecial, Field, SetField, Length, Matches, Match, Sub, SubResult, Substr, SubstrFrom, Index, Lower, Upper, Join}
 
 abbrev pub row_of : TextPrimitive → Primitive
 row_of GetSpecial = row.GetSpecial
@@ -20,6 +20,7 @@ row_of SubstrFrom = row.SubstrFrom
 row_of Index = row.Index
 row_of Lower = row.Lower
 row_of Upper = row.Upper
+row_of Join = row.Join
 
 abbrev pub text_primitive : Primitive → Option TextPrimitive
 text_primitive row.GetSpecial = Some GetSpecial
@@ -36,4 +37,5 @@ text_primitive row.SubstrFrom = Some SubstrFrom
 text_primitive row.Index = Some Index
 text_primitive row.Lower = Some Lower
 text_primitive row.Upper = Some Upper
+text_primitive row.Join = Some Join
 text_primitive _ = None

@@ -9,6 +9,7 @@ ghost use Rattle.host_texts.specs.declared.primitive.TextPrimitive.{TextPrimitiv
 
 use crate::change::{match_at, sub, sub_result};
 use crate::expressions::matches;
+use crate::join::join;
 use crate::primitive::TextPrimitive;
 use crate::record::{field, get_special, set_field, set_special};
 use crate::reply::{Evaluated, Reply, counted};
@@ -157,5 +158,6 @@ pub(crate) fn evaluate(
         TextPrimitive::Index => index(alloc, handles, words),
         TextPrimitive::Lower => lower_case(alloc, handles, words),
         TextPrimitive::Upper => upper_case(alloc, handles, words),
+        TextPrimitive::Join => join(alloc, handles, texts, words),
     }
 }

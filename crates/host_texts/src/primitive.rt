@@ -21,6 +21,7 @@ pub enum TextPrimitive {
     Index,
     Lower,
     Upper,
+    Join,
 }
 
 impl TextPrimitive {
@@ -43,6 +44,7 @@ impl TextPrimitive {
             Primitive::Index => Some(TextPrimitive::Index),
             Primitive::Lower => Some(TextPrimitive::Lower),
             Primitive::Upper => Some(TextPrimitive::Upper),
+            Primitive::Join => Some(TextPrimitive::Join),
             _ => None,
         }
     }

@@ -63,8 +63,12 @@ fn set_count(alloc: Global, texts: &mut Texts, count: i64) -> Result<(), Stop>
     }
 }
 
-/// Sets a special variable.
-fn put_special(
+/// Gives a special variable a value; NF cuts or extends the fields.
+///
+/// # Errors
+///
+/// The fault of the value's number where it is NF's, `FieldNumber` and `TextLimit` of NF, or want of memory; nothing changes.
+pub fn put_special(
     alloc: Global,
     texts: &mut Texts,
     special: Special,

@@ -26,7 +26,7 @@ const LARGEST: i64 = 1 << 53;
 
 /// A count as a number.
 #[tactic(auto, using(crate::proofs::Counts::counted_within, crate::proofs::Counts::counted_past))]
-pub(crate) fn counted(count: usize) -> i64
+pub fn counted(count: usize) -> i64
     ensures { result ≡ (counted count).number }
 {
     if count <= LARGEST as usize {

@@ -64,7 +64,11 @@ fn flag_at(number: u32) -> Option<bool>
 }
 
 /// A flag.
-pub(crate) fn flag_front(words: &[Word]) -> Result<(bool, &[Word]), TrapKind>
+///
+/// # Errors
+///
+/// A trap, where none is there.
+pub fn flag_front(words: &[Word]) -> Result<(bool, &[Word]), TrapKind>
     ensures { owned result ≡ constant_front Constant.Flag words.now }
 {
     let Some((Word::I32(number), rest)) = words.split_first() else {

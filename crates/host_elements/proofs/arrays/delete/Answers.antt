@@ -4,6 +4,7 @@ use Rattle.std.specs.FinMap as map
 use Rattle.host_values.specs.Calls.{spare}
 use Rattle.host_values.proofs.Spare.{spare_removed}
 use Rattle.host_elements.specs.Calls.{with_arrays}
+use Rattle.host_elements.proofs.Places.{free_still}
 use Rattle.host_elements.proofs.ArrayCalls.{delete_call, delete_memory}
 use Rattle.host_elements.proofs.ArraySteps.{delete_traps}
 use Rattle.host_elements.proofs.arrays.delete.Goals as goal
@@ -22,3 +23,8 @@ returns-clause-step c f memory none =
 
 pub returns-clause-spare : goal.returns-clause-spare
 returns-clause-spare c free = ap (λ m. map.get m spare) c.take.ensures.rest ∙ spare_removed c.args.handles.now _ free
+
+pub returns-clause-spare_array : goal.returns-clause-spare_array
+returns-clause-spare_array c free =
+    let deleted : c.delete.new.self ≡ map.insert c.args.arrays.now c.in-Ok.read.0 (delete_pair c.in-Ok-key_text.key (pairs_at c.args.arrays.now c.in-Ok.read.0)) = search rules in
+    ap (λ m. map.get m spare) deleted ∙ free_still c.args.arrays.now c.in-Ok.read.0 _ spare c.in-Ok.ensures.there free

@@ -4,6 +4,7 @@ use Rattle.std.specs.FinMap as map
 use Rattle.host_values.specs.Calls.{spare}
 use Rattle.host_values.proofs.Spare.{spare_removed}
 use Rattle.host_elements.specs.Calls.{with_arrays}
+use Rattle.host_elements.proofs.Places.{free_still}
 use Rattle.host_elements.proofs.ArrayCalls.{elem_call, elem_memory}
 use Rattle.host_elements.proofs.ArraySteps.{elem_traps}
 use Rattle.host_elements.proofs.arrays.elem.Goals as goal
@@ -30,3 +31,8 @@ returns-clause-step c f memory none = elem_memory (with_arrays c.args.handles.no
 
 pub returns-clause-spare : goal.returns-clause-spare
 returns-clause-spare c = ap (λ m. map.get m spare) c.take.ensures.rest ∙ spare_removed c.args.handles.now _ c.requires
+
+pub returns-in-Ok-get_or_create-clause-spare_array : goal.returns-in-Ok-get_or_create-clause-spare_array
+returns-in-Ok-get_or_create-clause-spare_array c free =
+    let made : c.get_or_create.new.self ≡ map.insert c.args.arrays.now c.in-Ok.read.0 (created c.in-Ok-key_text.key (pairs_at c.args.arrays.now c.in-Ok.read.0)) = search rules in
+    ap (λ m. map.get m spare) made ∙ free_still c.args.arrays.now c.in-Ok.read.0 _ spare c.in-Ok.ensures.there free

@@ -1,7 +1,9 @@
-use Rattle.std.proofs.Common.{rules, ◌≡◌, Some, None, sym}
+use Rattle.std.proofs.Common.{rules, ◌≡◌, Some, None, sym, ap, ◌∙◌}
 use Rattle.std.specs.FinMap as map
 use Rattle.host_elements.specs.Calls.{with_iterators}
 use Rattle.host_elements.specs.Turns.{first_key, keys_at, other_keys}
+use Rattle.host_values.specs.Calls.{spare}
+use Rattle.host_elements.proofs.Places.{free_still}
 use Rattle.host_elements.proofs.KeyCalls.{end_call, next_call, next_memory}
 use Rattle.host_elements.proofs.KeySteps.{next_traps}
 use Rattle.host_elements.proofs.keys.iter_next.Goals as goal
@@ -23,3 +25,13 @@ returns-in-Ok-None-clause-step c f memory none =
 
 pub returns-in-Err-next-clause-step : goal.returns-in-Err-next-clause-step
 returns-in-Err-next-clause-step c f memory none = next_memory (with_iterators c.args.handles.now c.args.iterators.now f) c.args.words.now memory none _ (sym c.in-Ok.ensures.number) c.in-Ok.ensures.there c.requires f
+
+pub returns-in-Ok-Some-clause-spare_iterator : goal.returns-in-Ok-Some-clause-spare_iterator
+returns-in-Ok-Some-clause-spare_iterator c free =
+    let left : c.next.new.self ≡ map.insert c.args.iterators.now c.in-Ok.number (other_keys (keys_at c.args.iterators.now c.in-Ok.number)) = search rules in
+    ap (λ m. map.get m spare) left ∙ free_still c.args.iterators.now c.in-Ok.number _ spare c.in-Ok.ensures.there free
+
+pub returns-in-Ok-None-clause-spare_iterator : goal.returns-in-Ok-None-clause-spare_iterator
+returns-in-Ok-None-clause-spare_iterator c free =
+    let left : c.next.new.self ≡ map.insert c.args.iterators.now c.in-Ok.number (other_keys (keys_at c.args.iterators.now c.in-Ok.number)) = search rules in
+    ap (λ m. map.get m spare) left ∙ free_still c.args.iterators.now c.in-Ok.number _ spare c.in-Ok.ensures.there free

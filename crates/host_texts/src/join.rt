@@ -1,0 +1,76 @@
+//! Two parts of a key.
+ghost use Rattle.std.specs.Prelude.{◌≡◌, ◌+◌, ◌++◌, ◌^◌, IfOk, nat_le};
+ghost use Rattle.awk_state.specs.ValueRows.{within_limit};
+ghost use Rattle.awk_state.specs.declared.constants.Special.{Special as AnySpecial};
+ghost use Rattle.awk_values.specs.Values.{text_of_value};
+ghost use Rattle.host_step.specs.HostState.{HostState};
+ghost use Rattle.host_texts.specs.Evaluations.{Evaluates, evaluation, replied};
+ghost use Rattle.host_texts.specs.States.{holding, specials_of};
+ghost use Rattle.host_texts.specs.declared.primitive.TextPrimitive.{TextPrimitive};
+
+use crate::reply::{Evaluated, Reply};
+use crate::spent::Spent;
+use crate::texts::Texts;
+use awk_state::Special;
+use awk_values::{Bytes, Fault, Value};
+use host_handles::Handles;
+use host_values::{Refusal, ends, push_text, text_len, value_after, value_front};
+use std::alloc::{AllocError, Global};
+use wasm_store::Word;
+
+/// The greatest length of a text.
+const TEXT_LIMIT: usize = 1 << 26;
+
+/// Whether three texts are within the limit together.
+fn fits(left: usize, between: usize, right: usize) -> bool
+    ensures { result ≡ nat_le (left + (between + right)) (2 ^ 26) }
+{
+    left <= TEXT_LIMIT
+        && between <= TEXT_LIMIT
+        && right <= TEXT_LIMIT
+        && left + (between + right) <= TEXT_LIMIT
+}
+
+/// The texts of two values with another between them.
+fn joined(alloc: Global, left: &Value, between: &Value, right: &Value) -> Result<Bytes, AllocError>
+    ensures { IfOk result (λ text. text ≡ text_of_value left.now ++ (text_of_value between.now ++ text_of_value right.now)) }
+{
+    let mut text = Vec::new(alloc);
+    push_text(&mut text, left)?;
+    push_text(&mut text, between)?;
+    push_text(&mut text, right)?;
+    Bytes::from_vec(text)
+}
+
+/// The texts of two values with SUBSEP between them, where that is within the limit.
+fn join_outcome(
+    alloc: Global,
+    texts: &Texts,
+    left: &Value,
+    right: &Value,
+) -> Result<Result<Reply, Fault>, AllocError>
+    ensures { IfOk result (λ outcome. replied Reply.Value (within_limit (text_of_value left.now ++ (text_of_value (specials_of texts.now.specials.values AnySpecial.Subsep) ++ text_of_value right.now))) ≡ outcome) }
+{
+    let between = texts.specials.get(Special::Subsep);
+    if !fits(text_len(left), text_len(between), text_len(right)) {
+        return Ok(Err(Fault::TextLimit));
+    }
+    Ok(Ok(Reply::Value(Value::Text(joined(alloc, left, between, right)?))))
+}
+
+pub(crate) fn join(
+    alloc: Global,
+    handles: &Handles,
+    texts: &Texts,
+    words: &[Word],
+) -> Result<Evaluated, Refusal>
+    ensures { (s : HostState) → Evaluates handles.now (holding texts.now s) result (holding texts.now s) (evaluation TextPrimitive.Join handles.now (holding texts.now s) words.now) }
+{
+    let (first, left, behind) = value_front(handles, words)?;
+    let (second, right, rest) = value_after(handles, first, behind)?;
+    ends(rest)?;
+    Ok(Evaluated {
+        spent: Spent::Two(first, second),
+        outcome: join_outcome(alloc, texts, left, right)?,
+    })
+}
