@@ -1,0 +1,3 @@
+pub mod Assigned
+pub mod Reading
+pub mod Steps

@@ -1,0 +1,50 @@
+-- The shared state, and forms of the host, with the names and the assignments that are kept.
+use Rattle.std.specs.Prelude.{◌≡◌, ℕ, List, [], ◌∷◌, drop, map, Option, Some, None, Result, Err}
+use Rattle.awk_state.specs.SharedState.{Inner}
+use Rattle.awk_state.specs.declared.constants.NameKind.{NameKind}
+use Rattle.wasm_store.specs.declared.word.Word.{Word}
+use Rattle.host_values.specs.Evaluations.{Values}
+use Rattle.host_values.specs.declared.reply.Refusal.{Refusal}
+use Rattle.host_values.specs.declared.reply.Refusal.TheVariants as why
+use Rattle.host_texts.specs.States.{with_texts}
+use Rattle.host_texts.specs.declared.texts.Texts.{Texts}
+use Rattle.host_elements.specs.Forms.{HostForm}
+use Rattle.host_names.specs.declared.names.Name.{Name}
+use Rattle.host_names.specs.declared.names.NamedText.{NamedText}
+use Rattle.host_names.specs.declared.names.Names.{Names}
+
+-- a name and what it is
+abbrev pub name_of : Name → List ℕ × NameKind
+name_of n = (n.text, n.kind)
+
+abbrev pub pair_of : NamedText → List ℕ × List ℕ
+pair_of p = (p.name, p.text)
+
+-- the assignments that are still to be made
+abbrev pub left_of : Names → List (List ℕ × List ℕ)
+left_of n = map pair_of (drop n.made n.assigns.items)
+
+abbrev pub with_names : Names → Inner → Inner
+with_names n inner = record inner { names = map name_of n.names.items; assigns = left_of n; pending = n.pending }
+
+-- with these special variables and this record too
+abbrev pub with_all : Texts → Names → Inner → Inner
+with_all t n inner = with_names n (with_texts t inner)
+
+-- the next assignment is taken, or none is left
+abbrev pub Takes : Names → Option (List ℕ × List ℕ) → Names → Type 0
+Takes old None new = (left_of old ≡ []) × (new ≡ old)
+Takes old (Some pair) new = (left_of old ≡ pair ∷ left_of new) × ((inner : Inner) → with_names new inner ≡ record (with_names old inner) { assigns = left_of new })
+
+-- forms
+
+abbrev pub of_names : Names → Values → HostForm → HostForm
+of_names n values f = record f { values = values; shared = record f.shared { inner = with_names n f.shared.inner } }
+
+abbrev pub of_all : Texts → Names → HostForm → HostForm
+of_all t n f = record f { shared = record f.shared { inner = with_all t n f.shared.inner } }
+
+-- what a call leaves: at a fault what a script and its host share is as it was, whatever was done before
+abbrev pub left_after : Result (Option Word) Refusal → (old new : HostForm) → HostForm
+left_after (Err (why.Fault f)) old new = old
+left_after r old new = new

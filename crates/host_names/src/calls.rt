@@ -1,0 +1,138 @@
+//! Calls on names and on assignments of the command line.
+ghost use Rattle.std.specs.Prelude.{◌≡◌, ◌∷◌, [], ◌++◌, List, ℕ, None, OnOk, map as map_list};
+ghost use Rattle.std.specs.FinMap as map;
+ghost use Rattle.awk_state.specs.SharedState.{Inner};
+ghost use Rattle.awk_state.specs.declared.table.Primitive.TheVariants as row;
+ghost use Rattle.host_step.specs.Answers.{assign_code};
+ghost use Rattle.host_step.specs.declared.import.Import.{Import};
+ghost use Rattle.host_values.specs.Calls.{spare};
+ghost use Rattle.host_elements.specs.Calls.{IsTableCall};
+ghost use Rattle.host_elements.specs.Forms.{HostForm};
+ghost use Rattle.host_names.specs.Forms.{left_after, name_of, of_all, of_names, with_names};
+
+use crate::making::make_left;
+use crate::names::{Names, declared};
+use crate::words::declare_front;
+use awk_state::{AssignAnswer, NameKind};
+use awk_values::{Bytes, Stop};
+use host_handles::Handles;
+use host_texts::Texts;
+use host_values::{Refusal, Reply, ends, give};
+use std::alloc::{AllocError, Global};
+use wasm_store::{TrapKind, Word};
+
+/// A call out of turn.
+const UNFIT: Refusal = Refusal::Trap(TrapKind::BadArgument);
+
+/// Adds a name.
+fn add(alloc: Global, names: &mut Names, text: &[u8], kind: NameKind) -> Result<(), AllocError>
+    ensures { OnOk result ((inner : Inner) → with_names names.new inner ≡ record (with_names names.old inner) { names = map_list name_of names.old.names.items ++ (text.now, kind) ∷ [] }) }
+{
+    let text = Bytes::from_slice(alloc, text)?;
+    names.add(text, kind)
+}
+
+/// `declare`: a name of the script is announced, once.
+///
+/// # Errors
+///
+/// A trap, which changes nothing, also where the name was announced before; or want of memory.
+pub fn declare(
+    alloc: Global,
+    names: &mut Names,
+    words: &[Word],
+    memory: &[u8],
+) -> Result<Option<Word>, Refusal>
+    ensures step { (f : HostForm) → f.fault ≡ None → IsTableCall (Import.Of row.Declare) (of_names names.old f.values f) words.now memory.now result (of_names names.new f.values f) }
+{
+    let (text, kind) = match declare_front(memory, words) {
+        Ok(said) => said,
+        Err(kind) => return Err(Refusal::Trap(kind)),
+    };
+    if declared(names.names.as_slice(), text).is_some() {
+        return Err(UNFIT);
+    }
+    match add(alloc, names, text, kind) {
+        Ok(()) => Ok(None),
+        Err(_) => Err(Refusal::NoMemory),
+    }
+}
+
+/// The word of an answer.
+fn assign_word(answer: AssignAnswer) -> Word
+    ensures { result ≡ Word.I32 (assign_code answer) }
+{
+    match answer {
+        AssignAnswer::NoneLeft => Word::I32(0),
+        AssignAnswer::Pending => Word::I32(2),
+    }
+}
+
+/// `start_assign`: makes the assignments of the command line, up to one that the script is to make.
+///
+/// # Errors
+///
+/// A trap, which changes nothing, also where one is to be made by the script still; a fault, which is to be kept; or want of memory.
+pub fn start_assign(
+    alloc: Global,
+    texts: &mut Texts,
+    names: &mut Names,
+    words: &[Word],
+) -> Result<Option<Word>, Refusal>
+    ensures step { (f : HostForm) (memory : List ℕ) → f.fault ≡ None → IsTableCall (Import.Of row.StartAssign) (of_all texts.old names.old f) words.now memory result (left_after result (of_all texts.old names.old f) (of_all texts.new names.new f)) }
+{
+    match ends(words) {
+        Ok(()) => {}
+        Err(kind) => return Err(Refusal::Trap(kind)),
+    }
+    if names.is_pending() {
+        return Err(UNFIT);
+    }
+    match make_left(alloc, texts, names) {
+        Ok(answer) => Ok(Some(assign_word(answer))),
+        Err(Stop::Fault(fault)) => Err(Refusal::Fault(fault)),
+        Err(Stop::NoMemory) => Err(Refusal::NoMemory),
+    }
+}
+
+/// `pending_name`: the number of the name that the script is to assign to.
+///
+/// # Errors
+///
+/// A trap, also where none is.
+pub fn pending_name(names: &Names, words: &[Word]) -> Result<Option<Word>, Refusal>
+    ensures step { (f : HostForm) (memory : List ℕ) → f.fault ≡ None → IsTableCall (Import.Of row.PendingName) (of_names names.now f.values f) words.now memory result (of_names names.now f.values f) }
+{
+    match ends(words) {
+        Ok(()) => {}
+        Err(kind) => return Err(Refusal::Trap(kind)),
+    }
+    match &names.pending {
+        Some((number, _)) => Ok(Some(Word::I32(*number))),
+        None => Err(UNFIT),
+    }
+}
+
+/// `pending_value`: the value that the script is to assign, which is given once.
+///
+/// # Errors
+///
+/// A trap, which changes nothing, also where there is none; or want of memory.
+pub fn pending_value(
+    names: &mut Names,
+    handles: &mut Handles,
+    words: &[Word],
+) -> Result<Option<Word>, Refusal>
+    requires { map.get handles.old spare ≡ None }
+    ensures step { (f : HostForm) (memory : List ℕ) → f.fault ≡ None → IsTableCall (Import.Of row.PendingValue) (of_names names.old handles.old f) words.now memory result (of_names names.new handles.new f) }
+    ensures spare { map.get handles.new spare ≡ None }
+{
+    match ends(words) {
+        Ok(()) => {}
+        Err(kind) => return Err(Refusal::Trap(kind)),
+    }
+    match names.pending.take() {
+        Some((_, value)) => give(handles, Reply::Value(value)),
+        None => Err(UNFIT),
+    }
+}

@@ -1,0 +1,111 @@
+//! The names that a script announced, and the assignments of the command line that are to be made.
+ghost use Rattle.std.specs.Prelude.{◌≡◌, [], ◌∷◌, ◌++◌, IfErr, IfOk, None, Ok, OnErr, OnOk, is_some, map};
+ghost use Rattle.awk_state.specs.Assignments.{assigned_global, declared};
+ghost use Rattle.awk_state.specs.SharedState.{Inner};
+ghost use Rattle.host_format.specs.Outcomes.{IsStopOf};
+ghost use Rattle.host_names.specs.Forms.{Takes, left_of, name_of, pair_of, with_names};
+
+use awk_state::NameKind;
+use awk_values::{Bytes, Fault, Stop, Value};
+use std::alloc::{AllocError, Global};
+
+/// A name of the script, and what it is.
+#[derive(Drop)]
+pub struct Name {
+    pub text: Bytes,
+    pub kind: NameKind,
+}
+
+/// A name and a text for it, as it stands on the command line.
+#[derive(Drop)]
+pub struct NamedText {
+    pub name: Bytes,
+    pub text: Bytes,
+}
+
+/// The names of the script by their numbers, the assignments of the command line (`-v`) of which so many are made, and the name and the value of the
+/// one that is to be made now.
+#[derive(Drop)]
+pub struct Names {
+    pub names: Vec<Name>,
+    pub assigns: Vec<NamedText>,
+    pub made: usize,
+    pub pending: Option<(u32, Value)>,
+}
+
+/// The number and the kind of a name.
+pub(crate) fn declared(names: &[Name], text: &[u8]) -> Option<(usize, NameKind)>
+    ensures { result ≡ declared 0 text.now (map name_of names.now) }
+{
+    for (at, name) in names.iter().enumerate() {
+        if text == name.text.as_slice() {
+            return Some((at, name.kind));
+        }
+    }
+    None
+}
+
+impl Names {
+    /// No name, and these assignments. It takes no memory.
+    pub fn at_start(alloc: Global, assigns: Vec<NamedText>) -> Names
+        ensures names { result.names.items ≡ [] }
+        ensures assigns { left_of result ≡ map pair_of assigns.items }
+        ensures pending { result.pending ≡ None }
+    {
+        Names {
+            names: Vec::new(alloc),
+            assigns,
+            made: 0,
+            pending: None,
+        }
+    }
+
+    /// Whether an assignment is to be made by the script now.
+    pub fn is_pending(&self) -> bool
+        ensures { result ≡ is_some self.now.pending }
+    {
+        self.pending.is_some()
+    }
+
+    /// Adds a name.
+    pub(crate) fn add(&mut self, text: Bytes, kind: NameKind) -> Result<(), AllocError>
+        ensures { OnOk result ((inner : Inner) → with_names self.new inner ≡ record (with_names self.old inner) { names = map name_of self.old.names.items ++ (text, kind) ∷ [] }) }
+    {
+        self.names.push(Name { text, kind })?;
+        Ok(())
+    }
+
+    /// Takes the next assignment, which counts as made from then on.
+    pub(crate) fn take_next(&mut self) -> Result<Option<(Bytes, Bytes)>, AllocError>
+        ensures { IfOk result (λ next. Takes self.old next self.new) }
+    {
+        let Some(pair) = self.assigns.get(self.made) else {
+            return Ok(None);
+        };
+        let name = pair.name.clone()?;
+        let text = pair.text.clone()?;
+        self.made += 1;
+        Ok(Some((name, text)))
+    }
+
+    /// An assignment to a name that is no special variable: of a scalar it is to be made by the script, of a name that the script does not have it is none.
+    pub(crate) fn keep(&mut self, name: &[u8], text: Bytes) -> Result<bool, Stop>
+        ensures ok { IfOk result (λ kept. (inner : Inner) → assigned_global (declared 0 name.now (map name_of self.old.names.items)) text (with_names self.old inner) ≡ Ok (with_names self.new inner, kept)) }
+        ensures err { IfErr result (λ stop. (inner : Inner) → IsStopOf (assigned_global (declared 0 name.now (map name_of self.old.names.items)) text (with_names self.old inner)) stop) }
+        ensures refused { OnErr result (self.new ≡ self.old) }
+        ensures made { self.new.made ≡ self.old.made }
+        ensures assigns { self.new.assigns.items ≡ self.old.assigns.items }
+    {
+        match declared(self.names.as_slice(), name) {
+            None => Ok(false),
+            Some((_, NameKind::ArrayOrFunction)) => Err(Stop::Fault(Fault::BadAssignment)),
+            Some((number, NameKind::Scalar)) => {
+                let Ok(number) = u32::try_from(number) else {
+                    return Err(Stop::NoMemory);
+                };
+                self.pending = Some((number, Value::StrNum(text)));
+                Ok(true)
+            }
+        }
+    }
+}

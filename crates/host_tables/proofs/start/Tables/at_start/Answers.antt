@@ -1,0 +1,38 @@
+use Rattle.std.proofs.Common.{rules, ◌≡◌, length, map, ap, ◌∙◌}
+use Rattle.std.specs.FinMap as maps
+use Rattle.awk_state.specs.SharedState.{specials_at_start}
+use Rattle.host_names.specs.Forms.{name_of}
+use Rattle.host_tables.specs.Starts.{job_of}
+use Rattle.host_tables.specs.declared.start.Tables.{Tables}
+use Rattle.host_tables.proofs.Starting.{none_there, spare_first, stands}
+use Rattle.host_values.specs.Calls.{spare}
+use Rattle.host_tables.proofs.start.Tables.at_start.Goals as goal
+
+pub returns-clause-stands : goal.returns-clause-stands
+returns-clause-stands c input outside =
+    let t : Tables = record { handles = c.new.result; arrays = c.in_ok-arrays.arrays; iterators = c.new-2.result; texts = c.in_ok-texts.texts; names = c.at_start-2.result; arguments = c.new-3.result; fault = c.fault_of-fault.result } in
+    let count : c.in-Ok.operands ≡ length c.args.job.operands.items = search rules in
+    stands t (job_of c.args.job)
+    (record {
+      handles = c.new.ensures;
+      arrays = c.in_ok-arrays.ensures;
+      iterators = c.new-2.ensures;
+      specials = λ s. c.in_ok-texts.ensures.specials s ∙ ap (λ n. specials_at_start n s) count;
+      held = c.in_ok-texts.ensures.fields;
+      substituted = c.in_ok-texts.ensures.substituted;
+      names = ap (map name_of) c.at_start-2.ensures.names;
+      assigns = c.at_start-2.ensures.assigns;
+      pending = c.at_start-2.ensures.pending;
+      arguments = c.new-3.ensures.items;
+      fault = c.fault_of-fault.ensures;
+    })
+    input outside
+
+pub returns-clause-values : goal.returns-clause-values
+returns-clause-values c = ap (λ m. maps.get m spare) c.new.ensures ∙ none_there spare
+
+pub returns-clause-arrays : goal.returns-clause-arrays
+returns-clause-arrays c = ap (λ m. maps.get m spare) c.in_ok-arrays.ensures ∙ spare_first _ _
+
+pub returns-clause-iterators : goal.returns-clause-iterators
+returns-clause-iterators c = ap (λ m. maps.get m spare) c.new-2.ensures ∙ none_there spare

@@ -1,0 +1,114 @@
+//! All tables of the host but those of open files and of the main input, and what they are at the start of a job.
+ghost use Rattle.std.specs.Prelude.{◌≡◌, ◌∷◌, [], IfOk, None, OnOk, codes, map, pos, true};
+ghost use Rattle.std.specs.FinMap as maps;
+ghost use Rattle.awk_state.specs.Jobs.{arguments_from, environment_in, shared_at_start};
+ghost use Rattle.host_elements.specs.Forms.{Stands};
+ghost use Rattle.host_names.specs.Forms.{pair_of};
+ghost use Rattle.host_step.specs.Starts.{state_at_start};
+ghost use Rattle.host_tables.specs.Starts.{argv_and_environ, form_of, job_of};
+ghost use Rattle.host_values.specs.Calls.{spare};
+ghost use Rattle.world_core.specs.WorldState.{Outside, Source};
+
+use crate::filling::put_text;
+use crate::job::{Job, fault_of};
+use awk_values::{Bytes, Fault, Value};
+use host_arrays::Arrays;
+use host_elements::Iterators;
+use host_handles::Handles;
+use host_names::{NamedText, Names};
+use host_texts::Texts;
+use smallvec::SmallVec;
+use std::alloc::{AllocError, Global};
+use std::hash::RandomState;
+
+/// All tables of the host but those of open files and of the main input.
+#[derive(Drop)]
+pub struct Tables {
+    pub handles: Handles,
+    pub arrays: Arrays,
+    pub iterators: Iterators,
+    pub texts: Texts,
+    pub names: Names,
+    /// The argument list.
+    pub arguments: SmallVec<Value, 8>,
+    /// The fault that is kept.
+    pub fault: Option<Fault>,
+}
+
+/// The same text, which is shared.
+fn copied(text: &Bytes) -> Result<Bytes, AllocError>
+    ensures { IfOk result (λ copy. copy ≡ text.now) }
+{
+    text.clone()
+}
+
+/// ARGV: the name of awk, and the operands by their numbers.
+fn fill_argv(alloc: Global, arrays: &mut Arrays, operands: &[Bytes]) -> Result<(), AllocError>
+    requires { maps.contains_key arrays.old (pos 0) ≡ true }
+    ensures { OnOk result (arrays.new ≡ maps.insert arrays.old (pos 0) (arguments_from 0 (codes "awk" ∷ operands.now))) }
+{
+    arrays.clear(Arrays::ARGV);
+    let awk = Bytes::from_slice(alloc, b"awk")?;
+    put_text(alloc, arrays, Arrays::ARGV, 0, awk)?;
+    for (at, operand) in operands.iter().enumerate() {
+        let text = copied(operand)?;
+        put_text(alloc, arrays, Arrays::ARGV, at + 1, text)?;
+    }
+    Ok(())
+}
+
+/// ENVIRON: a later pair replaces an earlier one of its name.
+fn fill_environ(arrays: &mut Arrays, environment: &[NamedText]) -> Result<(), AllocError>
+    requires { maps.contains_key arrays.old (pos 1) ≡ true }
+    ensures { OnOk result (arrays.new ≡ maps.insert arrays.old (pos 1) (environment_in [] (map pair_of environment.now))) }
+{
+    arrays.clear(Arrays::ENVIRON);
+    for pair in environment {
+        let text = copied(&pair.text)?;
+        match arrays.set(Arrays::ENVIRON, &pair.name, Value::StrNum(text)) {
+            Ok(()) => {}
+            Err(_) => return Err(AllocError),
+        }
+    }
+    Ok(())
+}
+
+/// The arrays at the start.
+fn first_arrays(alloc: Global, job: &Job, state: RandomState) -> Result<Arrays, AllocError>
+    ensures { IfOk result (λ arrays. arrays ≡ argv_and_environ (job_of job.now)) }
+{
+    let mut arrays = Arrays::new(alloc, state)?;
+    fill_argv(alloc, &mut arrays, job.operands.as_slice())?;
+    fill_environ(&mut arrays, job.environment.as_slice())?;
+    Ok(arrays)
+}
+
+impl Tables {
+    /// The tables before a script runs. The keys of arrays are hashed by the state; no answer depends on it.
+    ///
+    /// # Errors
+    ///
+    /// There is no memory.
+    pub fn at_start(alloc: Global, job: Job, state: RandomState) -> Result<Tables, AllocError>
+        ensures stands { IfOk result (λ t. (input : Source) (outside : Outside) → Stands (form_of t (shared_at_start (job_of job) input outside)) (state_at_start (job_of job) input outside)) }
+        ensures values { IfOk result (λ t. maps.get t.handles spare ≡ None) }
+        ensures arrays { IfOk result (λ t. maps.get t.arrays spare ≡ None) }
+        ensures iterators { IfOk result (λ t. maps.get t.iterators spare ≡ None) }
+    {
+        let fault = fault_of(&job);
+        let Ok(operands) = u32::try_from(job.operands.len()) else {
+            return Err(AllocError);
+        };
+        let arrays = first_arrays(alloc, &job, state)?;
+        let texts = Texts::at_start(alloc, operands)?;
+        Ok(Tables {
+            handles: Handles::new(alloc),
+            arrays,
+            iterators: Iterators::new(alloc),
+            texts,
+            names: Names::at_start(alloc, job.assigns),
+            arguments: SmallVec::new(alloc),
+            fault,
+        })
+    }
+}
