@@ -1,0 +1,5 @@
+pub mod Showing
+pub mod AnyOutput
+pub mod Means
+pub mod Led
+pub mod Faults

@@ -1,0 +1,4 @@
+//! What the calls of a host mean that is told by its tables.
+#![tactic(auto)]
+
+pub mod laws;

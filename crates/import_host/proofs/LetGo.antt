@@ -1,0 +1,43 @@
+-- What lets something go does so whatever else is shared: also once a fault is kept, where the tables are told in part.
+use Rattle.std.proofs.Common.{◌≡◌, ℕ, List, Option, Some, None, Result, refl, sym, ap, subst}
+use Rattle.awk_values.specs.declared.fault.Fault.{Fault}
+use Rattle.wasm_store.specs.declared.word.Word.{Word}
+use Rattle.host_step.specs.declared.import.Import.{Import}
+use Rattle.host_step.specs.declared.import.Import.TheVariants.{IterFree, FreeArray}
+use Rattle.host_values.specs.declared.reply.Refusal.{Refusal}
+use Rattle.host_elements.specs.Calls.{IsTableCall, with_arrays, with_iterators}
+use Rattle.host_elements.specs.Forms.{Arrays, HostForm, Iterators}
+use Rattle.form_meaning.specs.Shown.{SharesBy, SharesTables, form_with_output}
+use Rattle.form_meaning.specs.TableCalls.{TableCalls}
+use Rattle.form_meaning.proofs.Showing.{shares_tables}
+
+-- the same with another table of these
+
+with_iterators_by : (o : Option Fault) (x : Iterators) (form f : HostForm) → SharesBy o form f → SharesBy o (record form { iterators = x }) (record f { iterators = x })
+with_iterators_by None x form f e = ap (λ (z : HostForm). record z { iterators = x }) e
+with_iterators_by (Some fault) x form f e =
+    record { values = e.values; arrays = e.arrays; iterators = refl; fault = e.fault; outside = e.outside; output = e.output }
+
+with_arrays_by : (o : Option Fault) (x : Arrays) (form f : HostForm) → SharesBy o form f → SharesBy o (record form { arrays = x }) (record f { arrays = x })
+with_arrays_by None x form f e = ap (λ (z : HostForm). record z { arrays = x }) e
+with_arrays_by (Some fault) x form f e =
+    record { values = e.values; arrays = refl; iterators = e.iterators; fault = e.fault; outside = e.outside; output = e.output }
+
+module _ (before : HostForm) (words : List Word) (memory : List ℕ) (r : Result (Option Word) Refusal) where
+  pub iterator_goes : (x : Iterators) → ((f : HostForm) → IsTableCall IterFree (with_iterators f.values before.iterators f) words memory r (with_iterators f.values x f))
+      → TableCalls IterFree before words memory r (record before { iterators = x })
+  iterator_goes x calls so_far form shares = (
+    record form { iterators = x },
+    with_iterators_by before.fault x form (form_with_output so_far before) shares,
+    subst (λ (y : Iterators). IsTableCall IterFree (record form { iterators = y }) words memory r (record form { iterators = x }))
+        (sym (shares_tables before.fault form (form_with_output so_far before) shares).iterators) (calls form),
+  )
+
+  pub array_goes : (x : Arrays) → ((f : HostForm) → IsTableCall FreeArray (with_arrays f.values before.arrays f) words memory r (with_arrays f.values x f))
+      → TableCalls FreeArray before words memory r (record before { arrays = x })
+  array_goes x calls so_far form shares = (
+    record form { arrays = x },
+    with_arrays_by before.fault x form (form_with_output so_far before) shares,
+    subst (λ (y : Arrays). IsTableCall FreeArray (record form { arrays = y }) words memory r (record form { arrays = x }))
+        (sym (shares_tables before.fault form (form_with_output so_far before) shares).arrays) (calls form),
+  )

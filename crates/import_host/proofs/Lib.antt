@@ -1,0 +1,2 @@
+mod LetGo
+mod Told

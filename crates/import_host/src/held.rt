@@ -1,0 +1,27 @@
+//! The tables of the host, apart from the world.
+ghost use Rattle.std.specs.Prelude.{◌≡◌, None};
+ghost use Rattle.std.specs.FinMap as map;
+ghost use Rattle.host_values.specs.Calls.{spare};
+
+use awk_values::{Fault, Value};
+use host_arrays::Arrays;
+use host_elements::Iterators;
+use host_handles::Handles;
+use host_texts::Texts;
+use smallvec::SmallVec;
+use std::alloc::Global;
+
+/// Values, arrays and iterators by their numbers; special variables, record and what else belongs to texts; the argument list; the fault that is kept.
+#[derive(Drop)]
+pub struct Tables {
+    pub(crate) alloc: Global,
+    pub(crate) handles: Handles,
+    pub(crate) arrays: Arrays,
+    pub(crate) iterators: Iterators,
+    pub(crate) texts: Texts,
+    pub(crate) arguments: SmallVec<Value, 8>,
+    pub(crate) fault: Option<Fault>,
+    ghost free_handle: { map.get handles spare ≡ None },
+    ghost free_array: { map.get arrays spare ≡ None },
+    ghost free_iterator: { map.get iterators spare ≡ None },
+}
