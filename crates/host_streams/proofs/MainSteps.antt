@@ -5,7 +5,7 @@ use Rattle.std.proofs.lemmas.List.{drop-drop, take_all}
 use Rattle.awk_values.specs.Values.{number_of_value}
 use Rattle.std.proofs.Common.{◌≡◌, ◌≢◌, ℤ, ℕ, zero, suc, ◌+◌, ◌-◌, ◌^◌, ◌<◌, ◌≤◌, ◌==◌, ◌&&◌, nat_le, List, [], ◌∷◌, length, length-take, take, drop, Option, Some, None, Result, Ok, Err, cond, if◌then◌else◌, Bool, true, false, refl, sym, ap, ◌∙◌, arith, subst, inl, inr}
 use Rattle.awk_values.specs.declared.fault.Fault.{Fault}
-use Rattle.awk_values.specs.declared.fault.Fault.TheVariants.{ReadFailed}
+use Rattle.awk_values.specs.declared.fault.Fault.TheVariants.{ReadFailed, TextLimit}
 use Rattle.awk_values.specs.declared.fault.Stop.{Stop}
 use Rattle.awk_values.specs.declared.fault.Stop.TheVariants.{Fault as IsFault, NoMemory}
 use Rattle.world_core.specs.WorldState.{Outside, Source, State}
@@ -23,10 +23,11 @@ use Rattle.host_streams.specs.declared.main_input.MainInput.{MainInput as Mains}
 use Rattle.host_streams.specs.declared.main_input.MainNext.{MainNext}
 use Rattle.host_streams.specs.declared.main_input.Reading.TheVariants as reading
 use Rattle.host_streams.specs.declared.main_input.MainNext.TheVariants as main
+use Rattle.host_streams.specs.declared.reader.FileNext.{FileNext}
 use Rattle.host_streams.specs.declared.reader.FileNext.TheVariants as file
 use Rattle.host_streams.specs.declared.reader.Phase.{Phase}
 use Rattle.host_streams.specs.declared.reader.Phase.TheVariants.{Broken as IsBroken, Ended, Open}
-use Rattle.host_streams.specs.Readers.{left}
+use Rattle.host_streams.specs.Readers.{OnlyLimit, left}
 use Rattle.host_streams.proofs.Held.{is_broken}
 use Rattle.host_streams.specs.Mains.{FaultIs, GivenIs, IsOfNumber, MainCounts, MainPhase, NameLen, PhaseBy, ReadsMain, StepEnds, begins, begun, has_operand, idle, is_equals, left_main, main_of, main_source, operands_of, passed, reading_of, rest_of, with_file, with_main}
 
@@ -65,21 +66,23 @@ module _ (outside : Outside) (m : MainInput) (inner : Inner) (rs : Option ℕ) (
       ∙ ap (λ x. main_input outside (with_main x inner)) (sym e)
 
   pub reads_failure : (n : MainInput) → ReadsMain rs m (Ok file.Failed) n → GivenIs (main_input outside (with_main m inner)) (Err (IsFault ReadFailed)) outside (with_main m inner) (with_main n inner)
-  reads_failure n h = inr (inr (
-    refl,
-    given_read outside m inner rs h.reader live h.reading asked ∙ ap (λ r. r >>= λ got. got_main (next_operand outside) h.reader (with_main m inner) got) h.answers
-        ∙ ap (λ i. Ok (i, ReadingFailed)) (leaves_is h.reader h.later m inner) ∙ ap (λ x. Ok (with_main x inner, ReadingFailed)) (sym h.leaves),
-  ))
+  reads_failure n h =
+      given_read outside m inner rs h.reader live h.reading asked ∙ ap (λ r. r >>= λ got. got_main (next_operand outside) h.reader (with_main m inner) got) h.answers
+      ∙ ap (λ i. Ok (i, ReadingFailed)) (leaves_is h.reader h.later m inner) ∙ ap (λ x. Ok (with_main x inner, ReadingFailed)) (sym h.leaves)
 
   same_main : (reader : MainReader) (n : MainInput) (later : Source) → m.reading ≡ Some reader → later ≡ main_source reader m → n ≡ left_main reader later m → n ≡ m
   same_main Standard n later busy e l = l ∙ ap (λ s. record m { standard = s; reading = Some Standard }) e ∙ ap (λ r. record m { reading = r }) (sym busy)
   same_main (File source) n later busy e l = l ∙ ap (λ s. record m { reading = Some (File s) }) e ∙ ap (λ r. record m { reading = r }) (sym busy)
 
-  pub reads_refused : (stop : Stop) (n : MainInput) → ReadsMain rs m (Err stop) n → GivenIs (main_input outside (with_main m inner)) (Err stop) outside (with_main m inner) (with_main n inner)
-  reads_refused (IsFault fault) n h =
+  pub reads_refused : (stop : Stop) (n : MainInput) → OnlyLimit {A = FileNext} (Err stop) → ReadsMain rs m (Err stop) n → GivenIs (main_input outside (with_main m inner)) (Err stop) outside (with_main m inner) (with_main n inner)
+  reads_refused (IsFault fault) n limit h =
       let given : main_input outside (with_main m inner) ≡ Err fault = given_read outside m inner rs h.reader live h.reading asked ∙ ap (λ r. r >>= λ got. got_main (next_operand outside) h.reader (with_main m inner) got) h.answers.0 in
-      inl (given, ap (λ x. main_input outside (with_main x inner)) (same_main h.reader n h.later h.reading h.answers.1 h.leaves) ∙ given)
-  reads_refused NoMemory n h = ap (λ x. main_input outside (with_main x inner)) (sym (same_main h.reader n h.later h.reading h.answers h.leaves))
+      limit_given fault limit given (ap (λ x. main_input outside (with_main x inner)) (same_main h.reader n h.later h.reading h.answers.1 h.leaves) ∙ given)
+    where
+      limit_given : (f : Fault) → f ≡ TextLimit → main_input outside (with_main m inner) ≡ Err f → main_input outside (with_main n inner) ≡ Err f → FaultIs (main_input outside (with_main m inner)) f outside (with_main n inner)
+      limit_given f e a b =
+          subst (λ (x : Fault). FaultIs (main_input outside (with_main m inner)) x outside (with_main n inner)) (sym e) (a ∙ ap (λ x. Err x) e, b ∙ ap (λ x. Err x) e)
+  reads_refused NoMemory n limit h = ap (λ x. main_input outside (with_main x inner)) (sym (same_main h.reader n h.later h.reading h.answers h.leaves))
 
 -- An operand, or what follows the operands: no file is read.
 
@@ -373,3 +376,8 @@ pub told_since : {o : Option MainNext} {outside later : Outside} {first : Result
     first ≡ main_input outside new
 told_since {o} {outside} {later} {first} old new e same before h =
     before ∙ ap (λ out. main_input out old) (sym same) ∙ subst (λ x. GivenIs (main_input later old) (Ok x) later old new) e h ∙ ap (λ out. main_input out new) same
+
+-- ARGC is no number
+pub number_given : (given : Result (Inner × Main) Fault) (fault : Fault) (outside : Outside) (new : Inner) → IsOfNumber fault → given ≡ Err fault → main_input outside new ≡ Err fault → FaultIs given fault outside new
+number_given given fault outside new (inl e) a b = subst (λ (x : Fault). FaultIs given x outside new) (sym e) (a ∙ ap (λ x. Err x) e, b ∙ ap (λ x. Err x) e)
+number_given given fault outside new (inr e) a b = subst (λ (x : Fault). FaultIs given x outside new) (sym e) (a ∙ ap (λ x. Err x) e, b ∙ ap (λ x. Err x) e)

@@ -113,7 +113,7 @@ part_fits : (room : Option ℕ) (at : ℕ) (text : List ℕ) → at ≤ length t
 part_fits None at text h fits = h
 part_fits (Some r) at text h fits = omega (arith, length-take r text)
 
-part_is : (room : Option ℕ) (at : ℕ) (text : List ℕ) → IfSome room (λ r. at ≤ r) → take at text ≡ take at (what_fits room text)
+pub part_is : (room : Option ℕ) (at : ℕ) (text : List ℕ) → IfSome room (λ r. at ≤ r) → take at text ≡ take at (what_fits room text)
 part_is None at text fits = refl
 part_is (Some r) at text fits = sym (take-take at r text fits)
 

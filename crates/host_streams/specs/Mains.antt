@@ -181,10 +181,11 @@ with_file m = record m { operands = SomeFile }
 abbrev pub idle : MainInput → MainInput
 idle m = record m { reading = None }
 
--- A fault of the definition, which comes again; or a file that does not open, or does not read.
+-- A file that does not open, or does not read; or a fault of the definition, which comes again.
 abbrev pub FaultIs : Result (Inner × Main) Fault → Fault → Outside → Inner → Type 0
-FaultIs given fault outside new =
-    ((given ≡ Err fault) × (main_input outside new ≡ Err fault)) ⊎ (((fault ≡ OpenInput) × (given ≡ Ok (new, NotOpened))) ⊎ ((fault ≡ ReadFailed) × (given ≡ Ok (new, ReadingFailed))))
+FaultIs given OpenInput outside new = given ≡ Ok (new, NotOpened)
+FaultIs given ReadFailed outside new = given ≡ Ok (new, ReadingFailed)
+FaultIs given fault outside new = (given ≡ Err fault) × (main_input outside new ≡ Err fault)
 
 -- How what is to be given follows from what the definition gives after the call; short of memory the same is to be given. Who is told of an assignment makes it, and who is told of a file
 -- that was opened sets FILENAME and FNR.

@@ -1,5 +1,5 @@
 -- Texts that go to files by their names, as the definition of printing has it.
-use Rattle.std.specs.Prelude.{◌≡◌, ℕ, List, [], ◌∷◌, ◌++◌, if◌then◌else◌, Result, Ok, Err}
+use Rattle.std.specs.Prelude.{◌≡◌, ℕ, List, [], ◌∷◌, ◌++◌, if◌then◌else◌, Bool, true, Result, Ok, Err}
 use Rattle.awk_values.specs.declared.fault.Fault.{Fault}
 use Rattle.awk_values.specs.declared.fault.Stop.{Stop}
 use Rattle.awk_values.specs.declared.fault.Stop.TheVariants.{Fault as IsFault, NoMemory}
@@ -44,3 +44,9 @@ abbrev pub PutsIs : Does (Result (Unit {0}) Fault) → Result (Unit {0}) Stop �
 PutsIs does (Ok x) old new before now = HasDone does (Ok x) old new × (now ≡ does.inner.writers)
 PutsIs does (Err (IsFault fault)) old new before now = HasDone does (Err fault) old new × (now ≡ does.inner.writers)
 PutsIs does (Err NoMemory) old new before now = HasBegun does.added old new × (now ≡ before)
+
+-- whether a target is open before a text is put
+abbrev pub open_before : Target → List (List ℕ) → Bool
+open_before Standard names = true
+open_before (Emptied name) names = is_writing name.now names
+open_before (Appended name) names = is_writing name.now names

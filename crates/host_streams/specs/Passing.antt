@@ -140,6 +140,15 @@ abbrev pub IdleAfter : Result (Option MainNext) Stop → Reading → Type 0
 IdleAfter (Ok None) r = r ≡ reading.Nothing
 IdleAfter answer r = Unit {0}
 
+-- after an assignment nothing is at hand, and operands may follow
+abbrev pub RestsAfter : Result MainNext Stop → Reading → Found → Type 0
+RestsAfter (Ok (Assign name text)) r f = (r ≡ reading.Nothing) × (f ≢ NoneLeft)
+RestsAfter answer r f = Unit {0}
+
+abbrev pub StepRests : Result (Option MainNext) Stop → Reading → Found → Type 0
+StepRests (Ok (Some answer)) r f = RestsAfter (Ok answer) r f
+StepRests answer r f = Unit {0}
+
 -- the standard input follows the operands, or the end
 abbrev pub FollowsAll : Found → Result (Option MainNext) Stop → Found → Type 0
 FollowsAll f (Ok (Some (Opened name))) g = (name ≡ []) × (f ≡ NoFile) × (g ≡ NoneLeft)

@@ -1,5 +1,5 @@
 -- Texts that go to streams, as the definition of printing has it.
-use Rattle.std.specs.Prelude.{◌≡◌, ◌≢◌, ℕ, ◌+◌, ◌%◌, ◌^◌, ◌≤◌, List, length, take, Bool, true, false, Result, Ok, Err}
+use Rattle.std.specs.Prelude.{◌≡◌, ◌≢◌, ℕ, ◌+◌, ◌%◌, ◌^◌, ◌<◌, ◌≤◌, List, length, take, Bool, true, false, Result, Ok, Err}
 use Rattle.awk_values.specs.declared.fault.Fault.{Fault}
 use Rattle.awk_values.specs.declared.fault.Fault.TheVariants.{OpenOutput, TooManyStreams, WriteFailed}
 use Rattle.awk_values.specs.declared.fault.Stop.{Stop}
@@ -8,7 +8,7 @@ use Rattle.world_core.specs.declared.world.WorldFault.{WorldFault}
 use Rattle.world_core.specs.declared.world.WorldFault.TheVariants.{Failed, NoMemory}
 use Rattle.world_core.specs.WorldState.{Action, Entry, Named, State, after, free, puts}
 use Rattle.world_core.specs.Calls.{Does, Kind, Closed, OpensWriter}
-use Rattle.awk_state.specs.SharedState.{Does as Doing}
+use Rattle.awk_state.specs.SharedState.{Shared, Does as Doing}
 use Rattle.awk_state.specs.OutputRows.{all_fits, what_fits}
 
 -- what a stream writes to holds
@@ -63,3 +63,34 @@ OpensOr name append old (Err OutOfMemory) new = new ≡ old
 pub record Spares (kinds : ℕ → Kind) (old new : State) : Type 0 where
   pub readers : (k : ℕ) → kinds k ≢ Closed → new.readers k ≡ old.readers k
   pub writers : (k : ℕ) → kinds k ≢ Closed → new.writers k ≡ old.writers k
+
+-- In every world.
+
+-- why a text did not go out, by whether its stream was open, and whether one more could be opened
+abbrev pub PutFault : Bool → Bool → List ℕ → Fault → Type 0
+PutFault true room text WriteFailed = 0 < length text
+PutFault false true text WriteFailed = 0 < length text
+PutFault false true text OpenOutput = Unit {0}
+PutFault false false text TooManyStreams = Unit {0}
+PutFault _ _ text fault = ⊥
+
+-- how putting a text ends
+abbrev pub EndsPut : {A : Type 0} → Bool → Bool → List ℕ → Result A Stop → Type 0
+EndsPut false false text (Ok x) = ⊥
+EndsPut ready room text (Ok x) = Unit {0}
+EndsPut ready room text (Err (IsFault fault)) = PutFault ready room text fault
+EndsPut ready room text (Err OutOfMemory) = Unit {0}
+
+-- Where memory was wanting, so many of the actions were done; what these are, a world tells that tells its state.
+abbrev pub BeginsBy : {A : Type 0} → Type 0 → (Shared → Type 0) → (Shared → Doing (Result (Unit {0}) Fault)) → Result A Stop → State → State → Type 0
+BeginsBy tells is does (Err OutOfMemory) old new = (n : ℕ) × (tells → (shared : Shared) → is shared → new.outside ≡ after (take n (does shared).added) old.outside)
+BeginsBy tells is does r old new = Unit {0}
+
+-- where memory was wanting, so many bytes of what fits have gone out
+abbrev pub BeginsText : Type 0 → ℕ → List ℕ → State → Result (Unit {0}) WorldFault → State → Type 0
+BeginsText tells id text old (Err NoMemory) new = (n : ℕ) × (tells → PutsPart n id (what_fits (free (entry_written id old)) text) old new)
+BeginsText tells id text old r new = Unit {0}
+
+-- what goes out to a stream is looked at over this outside
+abbrev pub IsOver : State → Shared → Type 0
+IsOver state shared = shared.outside ≡ state.outside

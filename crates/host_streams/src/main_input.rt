@@ -11,7 +11,7 @@ ghost use Rattle.awk_state.specs.SharedState.{Inner};
 ghost use Rattle.host_streams.specs.declared.reader.Phase.TheVariants.{Broken, Open};
 ghost use Rattle.host_streams.specs.Readers.{NextCounts, NextPhase, OnlyLimit};
 ghost use Rattle.host_streams.specs.Mains.{AnswerIs, FileIsOpen, GivenIs, GoesOn, HoldsMain, IsApartFrom, IsAsked, IsFresh, IsOfNumber, IsOffered, MainCounts, MainEnds, MainPhase, NameLen, OperandCounts, ReadsMain, SparesKinds, SparesPlaces, StandardIs, StepEnds, begins, has_operand, idle, is_equals, main_at_start, main_of, main_phase, passed, phase_at, reading_of, rest_of, with_main};
-ghost use Rattle.host_streams.specs.Passing.{AreThere, FollowsAll, HandsAt, HandsMain, HandsStep, IdleAfter, IsOfOperands, IsOfReader, IsOne, NoneMore, Passes, StandardStays, StepNoneMore, StepPasses};
+ghost use Rattle.host_streams.specs.Passing.{AreThere, FollowsAll, HandsAt, HandsMain, HandsStep, IdleAfter, IsOfOperands, IsOfReader, IsOne, NoneMore, Passes, RestsAfter, StandardStays, StepNoneMore, StepPasses, StepRests};
 
 use crate::reader::{FileNext, Reader};
 use crate::streams::first_byte;
@@ -251,6 +251,7 @@ impl MainInput {
         ensures standard { StandardStays self.old.reading self.old.standard self.new.standard }
         ensures handed { HandsStep rs self.old result self.new }
         ensures answers { IsOfReader result }
+        ensures rests { StepRests result self.new.reading self.new.found }
     {
         match self.read(world, rs) {
             Ok(FileNext::Record(text)) => Ok(Some(MainNext::Record(text))),
@@ -279,6 +280,7 @@ impl MainInput {
         ensures ends { StepEnds self.old.ended result self.new.ended }
         ensures next { self.new.next ≡ self.old.next }
         ensures follows { FollowsAll self.old.found result self.new.found }
+        ensures rests { StepRests result self.new.reading self.new.found }
     {
         if let Found::NoFile = self.found {
             let name = Bytes::from_slice(self.alloc, &[])?;
@@ -314,6 +316,7 @@ impl MainInput {
         ensures one { IsOne self.old.next self.new.next }
         ensures answers { IsOfOperands result }
         ensures idle { IdleAfter result self.new.reading }
+        ensures rests { StepRests result self.new.reading self.new.found }
         ensures named { self.new.found ≢ Found.NoneLeft }
         ensures more { (count : Result ℤ Fault) → StepNoneMore count false self.old.found result self.new.next self.new.found }
     {
@@ -345,6 +348,7 @@ impl MainInput {
         ensures one { IsOne self.old.next self.new.next }
         ensures answers { IsOfOperands result }
         ensures idle { IdleAfter result self.new.reading }
+        ensures rests { StepRests result self.new.reading self.new.found }
         ensures named { self.new.found ≢ Found.NoneLeft }
         ensures more { (count : Result ℤ Fault) → StepNoneMore count false self.old.found result self.new.next self.new.found }
     {
@@ -380,6 +384,7 @@ impl MainInput {
         ensures one { IsOne self.old.next self.new.next }
         ensures answers { IsOfOperands result }
         ensures idle { IdleAfter result self.new.reading }
+        ensures rests { StepRests result self.new.reading self.new.found }
         ensures named { self.new.found ≢ Found.NoneLeft }
         ensures more { (count : Result ℤ Fault) → StepNoneMore count false self.old.found result self.new.next self.new.found }
     {
@@ -420,6 +425,7 @@ impl MainInput {
         ensures standard { self.new.standard ≡ self.old.standard }
         ensures answers { IsOfOperands result }
         ensures idle { IdleAfter result self.new.reading }
+        ensures rests { StepRests result self.new.reading self.new.found }
     {
         if let Found::NoneLeft = self.found {
             return self.follow();
@@ -454,6 +460,7 @@ impl MainInput {
         ensures passes { StepPasses (O.text operands.now) self.old.next self.old.found result self.new.next self.new.found }
         ensures there { AreThere (number_of_value argc.now) self.old.next self.new.next }
         ensures more { StepNoneMore (number_of_value argc.now) self.old.ended self.old.found result self.new.next self.new.found }
+        ensures rests { StepRests result self.new.reading self.new.found }
         ensures standard { StandardStays self.old.reading self.old.standard self.new.standard }
     {
         if self.ended {
@@ -494,6 +501,7 @@ impl MainInput {
         ensures passes { Passes (O.text operands.now) self.old.next self.old.found result self.new.next self.new.found }
         ensures there { AreThere (number_of_value argc.now) self.old.next self.new.next }
         ensures more { NoneMore (number_of_value argc.now) self.old.ended self.old.found result self.new.next self.new.found }
+        ensures rests { RestsAfter result self.new.reading self.new.found }
         ensures standard { StandardStays self.old.reading self.old.standard self.new.standard }
     {
         let separator = first_byte(rs);

@@ -1,12 +1,12 @@
 //! Texts that go to the standard output and to files.
-ghost use Rattle.std.specs.Prelude.{◌≡◌, None, true, false, take, vec_len, IfOk, OnErr, OnOk};
+ghost use Rattle.std.specs.Prelude.{◌≡◌, [], None, true, false, take, vec_len, IfOk, OnErr, OnOk};
 ghost use Rattle.world_core.specs.WorldState.{Named};
 ghost use Rattle.world_core.specs.Calls.{Opens, Writing};
 ghost use Rattle.awk_state.specs.SharedState.{Shared};
 ghost use Rattle.awk_state.specs.OutputRows.{is_writing, opened_if, put_text, written_by};
-ghost use Rattle.host_streams.specs.OpenFiles.{HoldsOpen, OthersStay, WritersGo, names_of, writer_place};
-ghost use Rattle.host_streams.specs.Outputs.{IsOf, PutsIs, destination_of, name_of, writers_to, with_writer};
-ghost use Rattle.host_streams.specs.Puts.{OpensOr, PutCounts, PutsBy, Spares};
+ghost use Rattle.host_streams.specs.OpenFiles.{HoldsOpen, OthersStay, WritersGo, has_room, names_of, writer_place};
+ghost use Rattle.host_streams.specs.Outputs.{IsOf, PutsIs, destination_of, name_of, open_before, writers_to, with_writer};
+ghost use Rattle.host_streams.specs.Puts.{BeginsBy, EndsPut, IsOver, OpensOr, PutCounts, PutsBy, Spares};
 
 use crate::put::put_open;
 use crate::streams::{NamedWriter, STREAMS, Streams};
@@ -36,6 +36,7 @@ fn open_file<W: World>(world: &mut W, name: &[u8], append: bool) -> Result<u32, 
     ensures opened { IfOk result (λ id. Opens Writing id (W.kinds world.old) (W.kinds world.new)) }
     ensures not_opened { OnErr result (W.kinds world.new ≡ W.kinds world.old) }
     ensures count { PutCounts result (W.count world.old) (W.count world.new) }
+    ensures ends { EndsPut false true [] result }
     ensures told { W.tells → OpensOr name.now append (W.state world.old) result (W.state world.new) }
 {
     match world.open_write(name, append) {
@@ -52,6 +53,8 @@ fn put_new<W: World>(world: &mut W, name: &[u8], append: bool, text: &[u8]) -> R
     ensures count { PutCounts result (W.count world.old) (W.count world.new) }
     ensures goes { W.tells → IfOk result (λ id. (W.state world.new).writers id ≡ Named name.now) }
     ensures spares { W.tells → Spares (W.kinds world.old) (W.state world.old) (W.state world.new) }
+    ensures ends { EndsPut false true text.now result }
+    ensures begun { BeginsBy W.tells (IsOver (W.state world.old)) (λ shared. opened_if true (shared.outside (Named name.now)).opens name.now append text.now shared) result (W.state world.old) (W.state world.new) }
     ensures told { W.tells → (shared : Shared) → shared.outside ≡ (W.state world.old).outside → PutsBy (opened_if true (shared.outside (Named name.now)).opens name.now append text.now shared) result (W.state world.old) (W.state world.new) }
 {
     let id = open_file(world, name, append)?;
@@ -86,6 +89,8 @@ impl Streams {
         ensures others { OthersStay self.old self.new (W.kinds world.old) (W.kinds world.new) }
         ensures no_others { OthersStay self.new self.old (W.kinds world.new) (W.kinds world.old) }
         ensures spares { W.tells → Spares (W.kinds world.old) (W.state world.old) (W.state world.new) }
+        ensures ends { EndsPut false (has_room self.old) text.now result }
+        ensures begun { BeginsBy W.tells (IsOf self.old (W.state world.old)) (written_by false name.now append text.now) result (W.state world.old) (W.state world.new) }
         ensures told { W.tells → (shared : Shared) → IsOf self.old (W.state world.old) shared → PutsBy (written_by false name.now append text.now shared) result (W.state world.old) (W.state world.new) }
     {
         if self.readers.as_slice().len() + self.writers.as_slice().len() >= STREAMS {
@@ -118,6 +123,8 @@ impl Streams {
         ensures others { OthersStay self.old self.new (W.kinds world.old) (W.kinds world.new) }
         ensures no_others { OthersStay self.new self.old (W.kinds world.new) (W.kinds world.old) }
         ensures spares { W.tells → Spares (W.kinds world.old) (W.state world.old) (W.state world.new) }
+        ensures ends { EndsPut (is_writing name.now (names_of self.old.writers.items)) (has_room self.old) text.now result }
+        ensures begun { BeginsBy W.tells (IsOf self.old (W.state world.old)) (λ shared. written_by (is_writing name.now shared.inner.writers) name.now append text.now shared) result (W.state world.old) (W.state world.new) }
         ensures told { W.tells → (shared : Shared) → IsOf self.old (W.state world.old) shared → PutsBy (written_by (is_writing name.now shared.inner.writers) name.now append text.now shared) result (W.state world.old) (W.state world.new) }
     {
         match find_writer(self.writers.as_slice(), name) {
@@ -152,6 +159,8 @@ impl Streams {
         ensures others { OthersStay self.old self.new (W.kinds world.old) (W.kinds world.new) }
         ensures no_others { OthersStay self.new self.old (W.kinds world.new) (W.kinds world.old) }
         ensures spares { W.tells → Spares (W.kinds world.old) (W.state world.old) (W.state world.new) }
+        ensures ends { EndsPut (open_before target.entry (names_of self.old.writers.items)) (has_room self.old) text.now result }
+        ensures begun { BeginsBy W.tells (IsOf self.old (W.state world.old)) (put_text (destination_of target.entry) (name_of target.entry) text.now) result (W.state world.old) (W.state world.new) }
         ensures told { W.tells → (shared : Shared) → IsOf self.old (W.state world.old) shared → PutsIs (put_text (destination_of target.entry) (name_of target.entry) text.now shared) result (W.state world.old) (W.state world.new) (names_of self.old.writers.items) (names_of self.new.writers.items) }
     {
         match target {

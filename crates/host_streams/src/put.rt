@@ -1,10 +1,10 @@
 //! Texts that go to an open stream.
-ghost use Rattle.std.specs.Prelude.{◌≡◌};
+ghost use Rattle.std.specs.Prelude.{◌≡◌, ◌<◌, OnErr, length, true};
 ghost use Rattle.world_core.specs.WorldState.{Target};
 ghost use Rattle.world_core.specs.Calls.{Writing, next_count};
 ghost use Rattle.awk_state.specs.SharedState.{Shared};
 ghost use Rattle.awk_state.specs.OutputRows.{written};
-ghost use Rattle.host_streams.specs.Puts.{PutCounts, PutsBy, PutsText};
+ghost use Rattle.host_streams.specs.Puts.{BeginsBy, BeginsText, EndsPut, IsOver, PutCounts, PutsBy, PutsText};
 
 use awk_values::{Fault, Stop};
 use world_core::{World, WorldFault};
@@ -15,6 +15,8 @@ fn write_all<W: World>(world: &mut W, id: u32, text: &[u8]) -> Result<(), WorldF
     ensures kinds { W.kinds world.new ≡ W.kinds world.old }
     ensures count { W.count world.new ≡ next_count result (W.count world.old) }
     ensures told { W.tells → PutsText id text.now (W.state world.old) result (W.state world.new) }
+    ensures some { OnErr result (0 < length text.now) }
+    ensures begun { BeginsText W.tells id text.now (W.state world.old) result (W.state world.new) }
 {
     let mut at = 0;
     while at < text.len() {
@@ -30,6 +32,8 @@ pub(crate) fn put_open<W: World>(world: &mut W, id: u32, text: &[u8]) -> Result<
     ensures kinds { W.kinds world.new ≡ W.kinds world.old }
     ensures count { PutCounts result (W.count world.old) (W.count world.new) }
     ensures told { W.tells → (shared : Shared) → shared.outside ≡ (W.state world.old).outside → PutsBy (written ((W.state world.old).writers id) text.now shared) result (W.state world.old) (W.state world.new) }
+    ensures ends { EndsPut true true text.now result }
+    ensures begun { BeginsBy W.tells (IsOver (W.state world.old)) (written ((W.state world.old).writers id) text.now) result (W.state world.old) (W.state world.new) }
     ensures readers { W.tells → (W.state world.new).readers ≡ (W.state world.old).readers }
     ensures writers { W.tells → (W.state world.new).writers ≡ (W.state world.old).writers }
 {

@@ -1,5 +1,6 @@
-use Rattle.std.proofs.Common.{Err, Ok}
+use Rattle.std.proofs.Common.{ℕ, Err, Ok}
 use Rattle.host_streams.proofs.Outputs.{opened_in, opened_outside, put_opened, put_shut}
+use Rattle.host_streams.proofs.Begun.{begins_opened, ends_new}
 use Rattle.host_streams.proofs.output.put_new.Goals as goal
 
 pub returns-in-Ok-clause-told : goal.returns-in-Ok-clause-told
@@ -14,3 +15,10 @@ returns-in-Err-clause-told g c = λ tells shared e.
     put_shut _ c.in-Err.stop _ _ _ (c.close.ensures.told tells).outside
     (put_opened {A = Unit {0}} c.args.name.now c.args.text.now c.args.append c.in_ok-id.id shared (Err c.in-Err.stop) _ _ _ e o
     (c.in-Err.ensures.told tells (opened_in c.args.name.now c.args.append shared) (opened_outside c.args.name.now c.args.append c.in_ok-id.id shared _ _ e o)))
+
+pub returns-in-Err-clause-ends : goal.returns-in-Err-clause-ends
+returns-in-Err-clause-ends g c = ends_new (Unit {0}) ℕ c.args.text.now c.in-Err.stop c.in-Err.ensures.ends
+
+pub returns-in-Err-clause-begun : goal.returns-in-Err-clause-begun
+returns-in-Err-clause-begun g c =
+    begins_opened g.W.World.tells c.args.name.now c.args.text.now c.args.append c.in_ok-id.id c.in-Err.stop _ _ _ _ c.in_ok-id.ensures.told (λ tells. (c.close.ensures.told tells).outside) c.in-Err.ensures.begun

@@ -2,6 +2,7 @@ use Rattle.std.proofs.Common.{◌≡◌, ◌<◌, length, arith, Err, List, ℕ,
 use Rattle.std.proofs.lemmas.Result.{err_from_is_err_and}
 use Rattle.world_core.specs.Calls.{Writes, WritesSome}
 use Rattle.host_streams.proofs.Writing.{rest_is, fits_next, part_next, put_fails}
+use Rattle.host_streams.proofs.Begun.{on_err, put_begins}
 use Rattle.host_streams.proofs.put.write_all.Goals as goal
 
 pub returns-in_err-n-clause-told : goal.returns-in_err-n-clause-told
@@ -18,3 +19,14 @@ loop-at-preserved g c = record {
   fits = λ tells. fits_next c.loop-at.at c.in_ok-n.n c.args.id c.args.text.now _ _ _ c.loop-at.invariant.within (c.loop-at.invariant.fits tells) (c.loop-at.invariant.does tells) (subst (λ (piece : List ℕ). WritesSome c.args.id c.in_ok-n.n piece (g.W.World.state c.loop-at.world) (g.W.World.state c.write.new.self)) (rest_is c.loop-at.at c.args.text.now) (c.in_ok-n.ensures.told tells));
   does = λ tells. part_next c.loop-at.at c.in_ok-n.n c.args.id c.args.text.now _ _ _ (c.loop-at.invariant.does tells) (subst (λ (piece : List ℕ). WritesSome c.args.id c.in_ok-n.n piece (g.W.World.state c.loop-at.world) (g.W.World.state c.write.new.self)) (rest_is c.loop-at.at c.args.text.now) (c.in_ok-n.ensures.told tells));
 }
+
+pub returns-in_err-n-clause-some : goal.returns-in_err-n-clause-some
+returns-in_err-n-clause-some g c =
+    let at_test : c.loop-at.at < length c.args.text.now = c.loop-at-test.true in
+    on_err c.from_residual.result (0 < length c.args.text.now) (omega (arith, at_test))
+
+pub returns-in_err-n-clause-begun : goal.returns-in_err-n-clause-begun
+returns-in_err-n-clause-begun g c =
+    let p = err_from_is_err_and c.from_residual.result c.from_residual.ensures.1 in rw (p.1, p.2)
+    (put_begins g.W.World.tells c.loop-at.at c.args.id c.args.text.now _ _ _ c.in_err-n.field-0.0 c.loop-at.invariant.fits c.loop-at.invariant.does
+    (λ tells. subst (λ (piece : List ℕ). Writes c.args.id piece (g.W.World.state c.loop-at.world) (Err c.in_err-n.field-0.0) (g.W.World.state c.write.new.self)) (rest_is c.loop-at.at c.args.text.now) (c.in_err-n.ensures.told tells)))

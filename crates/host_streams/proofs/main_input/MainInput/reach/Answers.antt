@@ -1,8 +1,8 @@
-use Rattle.std.proofs.Common.{◌∙◌, sym, ap, inl, refl, subst, arith, Ok, Option}
+use Rattle.std.proofs.Common.{◌∙◌, sym, ap, refl, subst, arith, Ok, Option}
 use Rattle.awk_values.specs.Values.{number_of_value}
 use Rattle.host_streams.specs.declared.main_input.MainNext.{MainNext}
 use Rattle.host_streams.specs.Mains.{IsApartFrom, main_phase}
-use Rattle.host_streams.proofs.MainSteps.{given_later, number_counts, number_phase, has_fault, has_none, has_one, none_left}
+use Rattle.host_streams.proofs.MainSteps.{given_later, number_counts, number_given, number_phase, has_fault, has_none, has_one, none_left}
 use Rattle.host_streams.proofs.Passed.{follow_answers, follow_idle, follow_more, follow_passes, none_there, number_answers, number_more, number_passes, one_there}
 use Rattle.host_streams.proofs.main_input.MainInput.reach.Goals as goal
 
@@ -32,6 +32,7 @@ returns-in-Ok-true g c = record {
   standard = c.take.ensures.standard;
   answers = c.take.ensures.answers;
   idle = c.take.ensures.idle;
+  rests = c.take.ensures.rests;
 }
 
 pub returns-in-Ok-false : goal.returns-in-Ok-false
@@ -56,6 +57,7 @@ returns-in-Ok-false g c = record {
   standard = c.follow-in-Ok-false.ensures.standard;
   answers = follow_answers c.args.self.now.found c.follow-in-Ok-false.new.self.found c.follow-in-Ok-false.result c.follow-in-Ok-false.ensures.follows;
   idle = follow_idle c.args.self.now.found c.follow-in-Ok-false.new.self.found c.follow-in-Ok-false.new.self.reading c.follow-in-Ok-false.result c.follow-in-Ok-false.ensures.follows;
+  rests = c.follow-in-Ok-false.ensures.rests;
 }
 
 pub returns-in-Err : goal.returns-in-Err
@@ -63,7 +65,7 @@ returns-in-Err g c = record {
   held = c.requires.held;
   told = λ tells inner offered.
       let e = has_fault (g.W.World.state c.args.world.now).outside inner c.args.self.now (g.W.World.state c.args.world.now) c.requires.idle c.requires.live c.in_default.not-NoneLeft (number_of_value c.args.argc.now) c.in-Err.fault (ap number_of_value offered.count) (sym c.in-Err.ensures.value) in
-      inl (e, e);
+      number_given _ c.in-Err.fault _ _ c.in-Err.ensures.own e e;
   goes_on = tt;
   count = number_counts (Option MainNext) c.in-Err.fault (g.W.World.count c.args.world.now) c.in-Err.ensures.own;
   phase = number_phase (Option MainNext) c.in-Err.fault (main_phase c.args.self.now) c.in-Err.ensures.own (rw (c.requires.live, c.requires.idle) (λ is. cc is));
@@ -78,6 +80,7 @@ returns-in-Err g c = record {
   standard = refl;
   answers = number_answers c.in-Err.fault c.in-Err.ensures.own;
   idle = tt;
+  rests = tt;
 }
 
 pub returns-in-NoneLeft-clause-spares : goal.returns-in-NoneLeft-clause-spares

@@ -1,8 +1,11 @@
-use Rattle.std.proofs.Common.{◌∙◌, sym, ap}
-use Rattle.awk_state.specs.OutputRows.{is_writing}
-use Rattle.host_streams.specs.OpenFiles.{writer_place}
+use Rattle.std.proofs.Common.{◌∙◌, false, sym, ap, subst}
+use Rattle.awk_state.specs.OutputRows.{is_writing, written, written_by}
+use Rattle.host_streams.specs.OpenFiles.{has_room, writer_place}
+use Rattle.host_streams.specs.Outputs.{IsOf}
+use Rattle.host_streams.specs.Puts.{EndsPut, IsOver}
 use Rattle.host_streams.proofs.Held.{go_same}
 use Rattle.host_streams.proofs.Outputs.{on_ok, put_missing, put_to, with_named, writer_goes, writer_missing, writer_named, writer_open}
+use Rattle.host_streams.proofs.Begun.{begins_as, ends_open}
 use Rattle.host_streams.proofs.streams.Streams.put_file.Goals as goal
 
 pub put_open-requires : goal.put_open-requires
@@ -32,3 +35,37 @@ returns-in-None-clause-told g c = λ tells shared is.
     put_missing c.args.name.now c.args.text.now c.args.append shared c.put_first.result _ _
     (ap (λ names. is_writing c.args.name.now names) is.writers ∙ writer_missing c.args.name.now c.args.self.now.writers.items missing)
     (c.put_first.ensures.told tells shared is)
+
+pub returns-in-Some-clause-ends : goal.returns-in-Some-clause-ends
+returns-in-Some-clause-ends g c =
+    let found = ap (writer_place c.args.name.now) (sym c.as_slice.ensures.value) ∙ sym c.in-Some.ensures in
+    subst (λ b. EndsPut b (has_room c.args.self.now) c.args.text.now c.put_open.result) (sym (writer_named c.args.name.now c.args.self.now.writers.items c.in-Some.at found))
+    (ends_open (has_room c.args.self.now) c.args.text.now c.put_open.result c.put_open.ensures.ends)
+
+pub returns-in-Some-clause-begun : goal.returns-in-Some-clause-begun
+returns-in-Some-clause-begun g c =
+    let found = ap (writer_place c.args.name.now) (sym c.as_slice.ensures.value) ∙ sym c.in-Some.ensures in
+    let state = g.W.World.state c.args.world.now in
+    begins_as g.W.World.tells (IsOver state) (IsOf c.args.self.now state) (written (state.writers c.index.result.now.id) c.args.text.now) (λ shared. written_by (is_writing c.args.name.now shared.inner.writers) c.args.name.now c.args.append c.args.text.now shared) c.put_open.result _ _
+    (λ tells shared is. (
+      is.outside,
+      ap (λ x. (written x c.args.text.now shared).added) (writer_goes c.args.name.now c.args.self.now.writers.items c.in-Some.at found c.index.result.now c.index.ensures state (c.requires.goes tells))
+          ∙ sym (ap (λ b. (written_by b c.args.name.now c.args.append c.args.text.now shared).added) (ap (λ names. is_writing c.args.name.now names) is.writers ∙ writer_named c.args.name.now c.args.self.now.writers.items c.in-Some.at found)),
+    ))
+    c.put_open.ensures.begun
+
+pub returns-in-None-clause-ends : goal.returns-in-None-clause-ends
+returns-in-None-clause-ends g c =
+    let missing = ap (writer_place c.args.name.now) (sym c.as_slice.ensures.value) ∙ sym c.in-None.ensures in
+    subst (λ b. EndsPut b (has_room c.args.self.now) c.args.text.now c.put_first.result) (sym (writer_missing c.args.name.now c.args.self.now.writers.items missing)) c.put_first.ensures.ends
+
+pub returns-in-None-clause-begun : goal.returns-in-None-clause-begun
+returns-in-None-clause-begun g c =
+    let missing = ap (writer_place c.args.name.now) (sym c.as_slice.ensures.value) ∙ sym c.in-None.ensures in
+    let state = g.W.World.state c.args.world.now in
+    begins_as g.W.World.tells (IsOf c.args.self.now state) (IsOf c.args.self.now state) (written_by false c.args.name.now c.args.append c.args.text.now) (λ shared. written_by (is_writing c.args.name.now shared.inner.writers) c.args.name.now c.args.append c.args.text.now shared) c.put_first.result _ _
+    (λ tells shared is. (
+      is,
+      sym (ap (λ b. (written_by b c.args.name.now c.args.append c.args.text.now shared).added) (ap (λ names. is_writing c.args.name.now names) is.writers ∙ writer_missing c.args.name.now c.args.self.now.writers.items missing)),
+    ))
+    c.put_first.ensures.begun

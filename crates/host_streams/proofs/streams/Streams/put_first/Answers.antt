@@ -1,7 +1,12 @@
-use Rattle.std.proofs.Common.{◌∙◌, ◌++◌, ◌∷◌, [], sym, ap}
+use Rattle.std.proofs.Common.{◌≡◌, ◌∙◌, ◌++◌, ◌∷◌, ◌+◌, ◌<◌, [], ℕ, true, false, length, sym, ap, arith}
+use Rattle.std.proofs.lemmas.Result.{err_from_is_err_and}
+use Rattle.awk_state.specs.OutputRows.{opened_if, written_by}
 use Rattle.world_core.specs.WorldState.{Named}
 use Rattle.host_streams.specs.declared.streams.NamedWriter.{NamedWriter}
 use Rattle.host_streams.specs.OpenFiles.{names_of, writer_place}
+use Rattle.host_streams.specs.Outputs.{IsOf}
+use Rattle.host_streams.specs.Puts.{IsOver}
+use Rattle.host_streams.proofs.Begun.{begins_first, room_is}
 use Rattle.host_streams.proofs.Outputs.{go_last, go_spared, none_but_last, was_kind, held_written, kind_stays, names_last, none_more, other_number, with_missing, writer_missing}
 use Rattle.host_streams.proofs.streams.Streams.put_first.Goals as goal
 
@@ -47,3 +52,13 @@ returns-clause-no_others g c = λ k none was.
       was_kind _ c.in_ok-id.id k (g.W.World.kinds c.args.world.now) _ c.in_ok-id.ensures.opened rest.0,
       (none.0, rest.1),
     )
+
+pub returns-in_err-id-clause-begun : goal.returns-in_err-id-clause-begun
+returns-in_err-id-clause-begun g c =
+    let p = err_from_is_err_and c.from_residual-in_err-id.result c.from_residual-in_err-id.ensures.1 in
+    let readers : length c.as_slice.result.now ≡ length c.args.self.now.readers.items = ap length c.as_slice.ensures.value in
+    let writers : length c.as_slice-2.result.now ≡ length c.args.self.now.writers.items = ap length c.as_slice-2.ensures.value in
+    let few : length c.args.self.now.readers.items + length c.args.self.now.writers.items < 256 = (let below = c.if-as_slice-ge-STREAMS.false in omega arith) in
+    let state = g.W.World.state c.args.world.now in
+    rw (p.1, p.2) (begins_first ℕ (Unit {0}) g.W.World.tells (IsOver state) (IsOf c.args.self.now state) (λ shared. opened_if true (shared.outside (Named c.args.name.now)).opens c.args.name.now c.args.append c.args.text.now shared) (written_by false c.args.name.now c.args.append c.args.text.now) c.in_err-id.field-0.0 _ _
+    (λ tells shared is. (is.outside, sym (ap (λ b. (opened_if b (shared.outside (Named c.args.name.now)).opens c.args.name.now c.args.append c.args.text.now shared).added) (room_is c.args.self.now state shared is few)))) c.in_err-id.ensures.begun)

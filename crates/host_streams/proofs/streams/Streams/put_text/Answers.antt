@@ -1,4 +1,10 @@
-use Rattle.std.proofs.Common.{false, true}
+use Rattle.std.proofs.Common.{[], ap, false, true}
+use Rattle.awk_state.specs.OutputRows.{put_text, written}
+use Rattle.awk_state.specs.declared.constants.Destination.TheVariants as destination
+use Rattle.host_streams.specs.OpenFiles.{has_room}
+use Rattle.host_streams.specs.Outputs.{IsOf}
+use Rattle.host_streams.specs.Puts.{IsOver}
+use Rattle.host_streams.proofs.Begun.{begins_as, ends_open}
 use Rattle.host_streams.proofs.Held.{go_same}
 use Rattle.host_streams.proofs.Outputs.{puts_file, puts_standard}
 use Rattle.host_streams.proofs.streams.Streams.put_text.Goals as goal
@@ -17,3 +23,18 @@ returns-in-Emptied-clause-told g c = λ tells shared is.
 pub returns-in-Appended-clause-told : goal.returns-in-Appended-clause-told
 returns-in-Appended-clause-told g c = λ tells shared is.
     rw c.in-Appended.is (puts_file c.in-Appended.name.now c.args.text.now true shared c.put_file-in-Appended.result _ _ c.args.self.now.writers.items c.put_file-in-Appended.new.self.writers.items is.writers c.put_file-in-Appended.ensures.opened c.put_file-in-Appended.ensures.refused (c.put_file-in-Appended.ensures.told tells shared is))
+
+pub returns-in-Standard-clause-ends : goal.returns-in-Standard-clause-ends
+returns-in-Standard-clause-ends g c = rw c.in-Standard.is (ends_open (has_room c.args.self.now) c.args.text.now c.put_open.result c.put_open.ensures.ends)
+
+pub returns-in-Standard-clause-begun : goal.returns-in-Standard-clause-begun
+returns-in-Standard-clause-begun g c =
+    let state = g.W.World.state c.args.world.now in
+    rw c.in-Standard.is (begins_as g.W.World.tells (IsOver state) (IsOf c.args.self.now state) (written (state.writers 1) c.args.text.now) (put_text destination.Standard [] c.args.text.now) c.put_open.result _ _
+    (λ tells shared is. (is.outside, ap (λ x. (written x c.args.text.now shared).added) (g.met.W.World.standard c.args.world.now))) c.put_open.ensures.begun)
+
+pub returns-in-Emptied-clause-begun : goal.returns-in-Emptied-clause-begun
+returns-in-Emptied-clause-begun g c = rw c.in-Emptied.is c.put_file.ensures.begun
+
+pub returns-in-Appended-clause-begun : goal.returns-in-Appended-clause-begun
+returns-in-Appended-clause-begun g c = rw c.in-Appended.is c.put_file-in-Appended.ensures.begun

@@ -1,0 +1,10 @@
+mod SpecialNumbers
+mod Kept
+mod Apart
+mod Named
+mod Turns
+mod FileReads
+mod ReadSteps
+mod MainCalls
+mod FileCalls
+mod LineCalls

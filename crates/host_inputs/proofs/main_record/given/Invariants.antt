@@ -1,0 +1,25 @@
+use Rattle.std.proofs.Common.{◌≡◌}
+use Rattle.awk_state.specs.InputRows.{main_input}
+use Rattle.awk_state.specs.SharedState.{Inner}
+use Rattle.host_streams.specs.OpenFiles.{WritersGo}
+use Rattle.host_inputs.specs.Givens.{OffersTexts, left_to_open}
+use Rattle.host_inputs.specs.Keeps.{IsMoved, KeepsSubstituted}
+use Rattle.host_inputs.specs.States.{HoldsInput, with_tables}
+use Rattle.host_inputs.proofs.main_record.given.Given as goal
+
+abbrev pub invariant-turns : goal.invariant-turns
+invariant-turns g l =
+    let w = g.W.World in
+    record {
+      held : HoldsInput l.input (w.kinds l.world);
+      goes : w.tells → WritersGo l.input.files.writers.items (w.state l.world);
+      outside : w.tells → (w.state l.world).outside ≡ (w.state l.fn.world).outside;
+      rest : IsMoved l.fn.input l.input;
+      substituted : KeepsSubstituted l.fn.texts l.texts;
+      pending : l.input.pending ≡ l.fn.input.pending;
+      told : w.tells → (inner : Inner) → OffersTexts (g.O.Operands.text l.operands) inner →
+          main_input (w.state l.fn.world).outside (with_tables l.fn.texts l.fn.input (w.state l.fn.world) inner) ≡ main_input (w.state l.fn.world).outside (with_tables l.texts l.input (w.state l.world) inner);
+    }
+
+abbrev pub decreases-turns : goal.decreases-turns
+decreases-turns g l = left_to_open l.input.main

@@ -1,0 +1,8 @@
+use Rattle.std.proofs.Common.{pos, ap, ◌∙◌}
+use Rattle.awk_values.specs.declared.value.Value.TheVariants.{Num}
+use Rattle.awk_state.specs.SharedState.{with_special}
+use Rattle.awk_state.specs.declared.constants.Special.TheVariants.{Fnr}
+use Rattle.host_inputs.proofs.turn.begin.Goals as goal
+
+pub returns-clause-set : goal.returns-clause-set
+returns-clause-set c = λ inner. c.give-2.ensures.set inner ∙ ap (with_special Fnr (Num (pos 0))) (c.give.ensures.set inner)

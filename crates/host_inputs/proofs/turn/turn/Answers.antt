@@ -1,0 +1,51 @@
+use Rattle.std.proofs.Common.{ap, subst, sym, ◌∙◌, true, false}
+use Rattle.awk_state.specs.InputRows.{main_input}
+use Rattle.host_streams.specs.declared.main_input.MainNext.TheVariants as main
+use Rattle.host_streams.specs.Mains.{main_of}
+use Rattle.host_inputs.specs.Givens.{TurnGives}
+use Rattle.host_inputs.specs.States.{with_input, with_tables}
+use Rattle.host_inputs.specs.declared.input.Input.{Input}
+use Rattle.host_inputs.proofs.Turns.{assign_made, assign_pends, assign_stops, goes_on, next_told, renamed, renamed_stop, stopped_gives, told_live, told_rests}
+use Rattle.host_inputs.proofs.turn.turn.Goals as goal
+
+pub returns-in-Ok-Record-clause-told : goal.returns-in-Ok-Record-clause-told
+returns-in-Ok-Record-clause-told g c = λ tells inner offered. next_told (main.Record c.in-Ok-Record.text) _ _ _ _ c.in-Ok-Record.field-0-is (c.in-Ok-Record.ensures.told tells inner offered)
+
+pub returns-in-Ok-End-clause-told : goal.returns-in-Ok-End-clause-told
+returns-in-Ok-End-clause-told g c = λ tells inner offered. next_told main.End _ _ _ _ c.in-Ok-End.field-0-is (c.in-Ok-End.ensures.told tells inner offered)
+
+pub returns-in-Ok-Opened-clause-told : goal.returns-in-Ok-Opened-clause-told
+returns-in-Ok-Opened-clause-told g c = λ tells inner offered.
+    next_told (main.Opened c.in-Ok-Opened.name) _ _ _ _ c.in-Ok-Opened.field-0-is (c.in-Ok-Opened.ensures.told tells inner offered)
+    ∙ ap (main_input (g.W.World.state c.args.world.now).outside) (sym (c.begin.ensures.set (with_input c.next.new.input (g.W.World.state c.next.new.world) inner)))
+
+pub returns-in-Ok-true-clause-told : goal.returns-in-Ok-true-clause-told
+returns-in-Ok-true-clause-told g c = λ tells inner offered.
+    let now = g.W.World.state c.next.new.world in
+    assign_pends _ _ c.in-Ok-Assign.name c.in-Ok-Assign.text (with_tables c.args.texts.now c.next.new.input now inner) (with_tables c.assign.new.texts c.assign.new.input now inner)
+    (next_told (main.Assign c.in-Ok-Assign.name c.in-Ok-Assign.text) _ _ _ _ c.in-Ok-Assign.field-0-is (c.in-Ok-Assign.ensures.told tells inner offered))
+    (renamed c.as_slice.result.now c.as_slice-in-Ok-Assign.result.now c.in-Ok-Assign.name c.in-Ok-Assign.text c.in-Ok-true.field-0 true _ _ c.as_slice.ensures.value c.as_slice-in-Ok-Assign.ensures.value c.in-Ok-true.field-0-test (c.in-Ok-true.ensures.ok now inner))
+
+pub returns-in-Ok-false-clause-told : goal.returns-in-Ok-false-clause-told
+returns-in-Ok-false-clause-told g c = λ tells inner offered.
+    let now = g.W.World.state c.next.new.world in
+    let rests = told_rests c.in-Ok-Assign.name c.in-Ok-Assign.text c.next.new.input.main c.in-Ok-Assign.field-0-is c.in-Ok-Assign.ensures.rests in
+    assign_made _ _ c.in-Ok-Assign.name c.in-Ok-Assign.text (with_tables c.args.texts.now c.next.new.input now inner) (with_tables c.assign.new.texts c.assign.new.input now inner)
+    (next_told (main.Assign c.in-Ok-Assign.name c.in-Ok-Assign.text) _ _ _ _ c.in-Ok-Assign.field-0-is (c.in-Ok-Assign.ensures.told tells inner offered))
+    (renamed c.as_slice.result.now c.as_slice-in-Ok-Assign.result.now c.in-Ok-Assign.name c.in-Ok-Assign.text c.in-Ok-false.field-0 false _ _ c.as_slice.ensures.value c.as_slice-in-Ok-Assign.ensures.value c.in-Ok-false.field-0-test (c.in-Ok-false.ensures.ok now inner))
+    ∙ goes_on (g.W.World.state c.args.world.now).outside c.next.new.input.main now (with_tables c.assign.new.texts c.assign.new.input now inner) (ap (λ (i : Input). main_of i.main now) c.assign.ensures.rest)
+    (told_live c.in-Ok-Assign.name c.in-Ok-Assign.text c.next.new.input.main c.in-Ok-Assign.field-0-is c.in-Ok-Assign.ensures.live) rests.0 rests.1
+
+pub returns-in-Ok-Assign-clause-told : goal.returns-in-Ok-Assign-clause-told
+returns-in-Ok-Assign-clause-told g c = λ tells inner offered.
+    let now = g.W.World.state c.next.new.world in
+    assign_stops _ _ c.in-Ok-Assign.name c.in-Ok-Assign.text (with_tables c.args.texts.now c.next.new.input now inner) (with_tables c.assign.new.texts c.assign.new.input now inner)
+    (next_told (main.Assign c.in-Ok-Assign.name c.in-Ok-Assign.text) _ _ _ _ c.in-Ok-Assign.field-0-is (c.in-Ok-Assign.ensures.told tells inner offered)) c.in-Err-assign.stop
+    (renamed_stop c.as_slice.result.now c.as_slice-in-Ok-Assign.result.now c.in-Ok-Assign.name c.in-Ok-Assign.text _ c.in-Err-assign.stop c.as_slice.ensures.value c.as_slice-in-Ok-Assign.ensures.value (c.in-Err-assign.ensures.err now inner))
+
+pub returns-clause-told : goal.returns-clause-told
+returns-clause-told g c = λ tells inner offered.
+    let old = g.W.World.state c.args.world.now in
+    let new = with_tables c.args.texts.now c.next.new.input (g.W.World.state c.next.new.world) inner in
+    subst (λ r. TurnGives (main_input old.outside (with_tables c.args.texts.now c.args.input.now old inner)) r old.outside new) (sym c.stopped.ensures)
+    (stopped_gives c.in-Err.stop _ old.outside (with_tables c.args.texts.now c.args.input.now old inner) new (c.in-Err.ensures.told tells inner offered))

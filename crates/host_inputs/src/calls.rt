@@ -1,0 +1,146 @@
+//! The calls.
+ghost use Rattle.std.specs.Prelude.{◌≡◌, ℕ, List, [], None};
+ghost use Rattle.std.specs.FinMap as map;
+ghost use Rattle.awk_state.specs.declared.table.Primitive.TheVariants as row;
+ghost use Rattle.host_step.specs.Answers.{input_code};
+ghost use Rattle.host_step.specs.declared.import.Import.{Import};
+ghost use Rattle.host_streams.specs.OpenFiles.{WritersGo};
+ghost use Rattle.host_texts.specs.declared.texts.Texts.{Texts as AnyTexts};
+ghost use Rattle.host_values.specs.Calls.{spare};
+ghost use Rattle.host_values.specs.Singles.{lent_only, only_handle};
+ghost use Rattle.host_elements.specs.Forms.{HostForm};
+ghost use Rattle.form_meaning.specs.WorldCalls.{IsCalled};
+ghost use Rattle.host_inputs.specs.Calls.{answered_by, shown_after, with_values};
+ghost use Rattle.host_inputs.specs.Keeps.{with_line};
+ghost use Rattle.host_inputs.specs.Givens.{file_primitive, main_primitive};
+ghost use Rattle.host_inputs.specs.States.{HoldsInput, OffersArgv, over_world};
+
+use crate::input::{Input, Keep, MainRead};
+use crate::{files, main_record};
+use awk_state::InputAnswer;
+use awk_values::{Stop, Value, to_text};
+use host_handles::Handles;
+use host_streams::Operands;
+use host_texts::Texts;
+use host_values::{Refusal, Reply, ends, give, value_front};
+use std::alloc::Global;
+use wasm_store::{TrapKind, Word};
+use world_core::World;
+
+/// The word of an answer.
+fn input_code(answer: InputAnswer) -> u32
+    ensures { result ≡ input_code answer }
+{
+    match answer {
+        InputAnswer::End => 0,
+        InputAnswer::Read => 1,
+        InputAnswer::Pending => 2,
+        InputAnswer::Failed => 3,
+    }
+}
+
+/// What a call answers where this was read.
+fn answered(read: Result<InputAnswer, Stop>) -> Result<Option<Word>, Refusal>
+    ensures { result ≡ answered_by read }
+{
+    match read {
+        Ok(answer) => Ok(Some(Word::I32(input_code(answer)))),
+        Err(Stop::Fault(fault)) => Err(Refusal::Fault(fault)),
+        Err(Stop::NoMemory) => Err(Refusal::NoMemory),
+    }
+}
+
+/// Reads the main input (`next_main`, `getline`, `getline_var`), where no fault is kept.
+///
+/// # Errors
+///
+/// A trap, which changes nothing; a fault, which is to be kept, and after which nothing of texts and input is to be looked at; or want of memory.
+pub fn read_main<W: World, O: Operands>(
+    alloc: Global,
+    world: &mut W,
+    operands: &O,
+    texts: &mut Texts,
+    input: &mut Input,
+    how: MainRead,
+    words: &[Word],
+) -> Result<Option<Word>, Refusal>
+    requires held { HoldsInput input.old (W.kinds world.old) }
+    requires goes { W.tells → WritersGo input.old.files.writers.items (W.state world.old) }
+    ensures held { HoldsInput input.new (W.kinds world.new) }
+    ensures goes { W.tells → WritersGo input.new.files.writers.items (W.state world.new) }
+    ensures called { (f : HostForm) (memory : List ℕ) → f.fault ≡ None → OffersArgv (O.text operands.now) f.arrays → IsCalled W.tells (Import.Of (main_primitive how)) (over_world texts.old input.old (W.state world.old) f) words.now memory result (shown_after result (over_world texts.old input.old (W.state world.old) f) (over_world texts.new input.new (W.state world.new) f)) [] }
+{
+    if let Err(kind) = ends(words) {
+        return Err(Refusal::Trap(kind));
+    }
+    if input.pending.is_some() {
+        return Err(Refusal::Trap(TrapKind::BadArgument));
+    }
+    answered(main_record::read(alloc, world, operands, texts, input, how))
+}
+
+/// The one handle that words name, and its value.
+fn only_value<'a>(handles: &'a Handles, words: &[Word]) -> Result<(i32, &'a Value), TrapKind>
+    ensures { lent_only result ≡ only_handle handles.now words.now }
+{
+    let (handle, value, rest) = value_front(handles, words)?;
+    ends(rest)?;
+    Ok((handle, value))
+}
+
+/// Reads a file (`getline_file`, `getline_var_file`), where no fault is kept.
+///
+/// # Errors
+///
+/// The same.
+pub fn read_file<W: World>(
+    alloc: Global,
+    world: &mut W,
+    handles: &mut Handles,
+    texts: &mut Texts,
+    input: &mut Input,
+    to: Keep,
+    words: &[Word],
+) -> Result<Option<Word>, Refusal>
+    requires held { HoldsInput input.old (W.kinds world.old) }
+    requires goes { W.tells → WritersGo input.old.files.writers.items (W.state world.old) }
+    ensures held { HoldsInput input.new (W.kinds world.new) }
+    ensures goes { W.tells → WritersGo input.new.files.writers.items (W.state world.new) }
+    ensures spare { map.get handles.old spare ≡ None → map.get handles.new spare ≡ None }
+    ensures called { (f : HostForm) (memory : List ℕ) → f.fault ≡ None → IsCalled W.tells (Import.Of (file_primitive to)) (with_values handles.old (over_world texts.old input.old (W.state world.old) f)) words.now memory result (shown_after result (with_values handles.old (over_world texts.old input.old (W.state world.old) f)) (with_values handles.new (over_world texts.new input.new (W.state world.new) f))) [] }
+{
+    let (handle, value) = match only_value(handles, words) {
+        Ok(read) => read,
+        Err(kind) => return Err(Refusal::Trap(kind)),
+    };
+    let Ok(name) = to_text(alloc, value) else {
+        return Err(Refusal::NoMemory);
+    };
+    handles.take(handle);
+    answered(files::read(alloc, world, texts, input, name.as_slice(), to))
+}
+
+/// Gives what was read for a variable (`line`), where no fault is kept.
+///
+/// # Errors
+///
+/// A trap, which changes nothing, or want of memory.
+pub fn line<W: World>(
+    _world: &W,
+    handles: &mut Handles,
+    input: &mut Input,
+    words: &[Word],
+) -> Result<Option<Word>, Refusal>
+    requires { map.get handles.old spare ≡ None }
+    ensures rest { input.new ≡ with_line input.new.line input.old }
+    ensures spare { map.get handles.new spare ≡ None }
+    ensures called { (f : HostForm) (memory : List ℕ) (texts : AnyTexts) → f.fault ≡ None → IsCalled W.tells (Import.Of row.Line) (with_values handles.old (over_world texts input.old (W.state _world.now) f)) words.now memory result (with_values handles.new (over_world texts input.new (W.state _world.now) f)) [] }
+{
+    if let Err(kind) = ends(words) {
+        return Err(Refusal::Trap(kind));
+    }
+    match input.line.take() {
+        Some(value) => give(handles, Reply::Value(value)),
+        None => Err(Refusal::Trap(TrapKind::BadArgument)),
+    }
+}

@@ -1,0 +1,73 @@
+//! What these imports read and change, beside texts and the world.
+ghost use Rattle.std.specs.Prelude.{◌≡◌, ℕ};
+ghost use Rattle.world_core.specs.WorldState.{State};
+ghost use Rattle.world_core.specs.Calls.{Kind};
+ghost use Rattle.awk_state.specs.SharedState.{Inner};
+ghost use Rattle.host_streams.specs.OpenFiles.{WritersGo};
+ghost use Rattle.host_inputs.specs.States.{HoldsInput, input_at_start, with_input};
+
+use awk_state::NameKind;
+use awk_values::{Bytes, Value};
+use host_streams::{MainInput, Streams};
+use std::alloc::Global;
+
+/// What these imports read and change, beside values, arrays and texts.
+#[derive(Drop)]
+pub struct Input {
+    pub main: MainInput,
+    pub files: Streams,
+    /// The names of the script, by their numbers.
+    pub names: Vec<(Bytes, NameKind)>,
+    /// The number of the name and the value of the assignment that is to be made now.
+    pub pending: Option<(u32, Value)>,
+    /// What was read for a variable, until it is given.
+    pub line: Option<Value>,
+    /// The actions of END have begun.
+    pub in_end: bool,
+}
+
+impl Input {
+    /// Before anything is read, and before the script announced a name. It takes no memory.
+    pub fn new(alloc: Global) -> Input
+        ensures held { (kinds : ℕ → Kind) → HoldsInput result kinds }
+        ensures goes { (state : State) → WritersGo result.files.writers.items state }
+        ensures begins { (state : State) (inner : Inner) → with_input result state inner ≡ input_at_start state inner }
+    {
+        Input {
+            main: MainInput::new(alloc),
+            files: Streams::new(alloc),
+            names: Vec::new(alloc),
+            pending: None,
+            line: None,
+            in_end: false,
+        }
+    }
+}
+
+/// Where a record goes.
+#[derive(Clone, Copy, Debug, PartialEq, Eq, Drop)]
+pub enum Keep {
+    /// `$0`.
+    Record,
+    /// A variable: it is kept until `line` gives it.
+    Line,
+}
+
+/// Which import reads the main input.
+#[derive(Clone, Copy, Debug, PartialEq, Eq, Drop)]
+pub enum MainRead {
+    /// `next_main`: a file that does not open, or does not read, is a fault.
+    Loop,
+    /// `getline` and `getline_var`: that is an answer.
+    Getline(Keep),
+}
+
+/// What the main input gives, once the assignments that need no script are made.
+#[derive(Drop)]
+pub(crate) enum Given {
+    Taken(Bytes),
+    Over,
+    Pending,
+    NotOpened,
+    Failed,
+}

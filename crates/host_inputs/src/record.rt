@@ -1,0 +1,139 @@
+//! The record, and the special variables that count and hold.
+ghost use Rattle.std.specs.Prelude.{◌≡◌, ◌≢◌, ◌==◌, cond, Err, IfErr, IfOk, Ok, OnErr, OnOk, pos};
+ghost use Rattle.awk_values.specs.Operators.{sum};
+ghost use Rattle.awk_state.specs.FieldRows.{set_special, with_record};
+ghost use Rattle.awk_state.specs.InputRows.{counted_by, counted_record};
+ghost use Rattle.awk_state.specs.SharedState.{Inner, with_special};
+ghost use Rattle.host_inputs.specs.Counts.{count_after, next_count};
+ghost use Rattle.awk_state.specs.Constants.{special_number};
+ghost use Rattle.host_format.specs.Outcomes.{IsStopOf};
+ghost use Rattle.host_fields.specs.Calls.{count_set};
+ghost use Rattle.host_texts.specs.States.{specials_of, with_texts};
+ghost use Rattle.host_inputs.specs.Keeps.{KeepsSubstituted};
+
+use awk_state::Special;
+use awk_values::{Bytes, Fault, Stop, Value, to_number, to_text};
+use host_texts::Texts;
+use std::alloc::Global;
+
+/// The greatest number.
+const LARGEST: i64 = 1 << 53;
+
+/// The value of a special variable, among all of them, is another.
+#[tactic(auto, using(crate::proofs::SpecialNumbers::number_within))]
+fn put(values: &mut [Value; 14], special: Special, value: Value)
+    ensures { specials_of values.new ≡ (λ t. cond (special_number special == special_number t) value (specials_of values.old t)) }
+{
+    values[usize::from(special.number())] = value;
+}
+
+/// Gives a special variable another value; NF is not kept so.
+pub(crate) fn give(texts: &mut Texts, special: Special, value: Value)
+    ensures set { (inner : Inner) → with_texts texts.new inner ≡ with_special special value (with_texts texts.old inner) }
+    ensures substituted { KeepsSubstituted texts.old texts.new }
+{
+    put(&mut texts.specials.values, special, value);
+}
+
+/// The next number.
+fn one_more(number: i64) -> Result<i64, Fault>
+    ensures { result ≡ sum number (pos 1) }
+{
+    if number >= LARGEST {
+        return Err(Fault::Range);
+    }
+    if number + 1 >= -LARGEST {
+        Ok(number + 1)
+    } else {
+        Err(Fault::Range)
+    }
+}
+
+/// The count after the one that a value holds.
+fn count_after(value: &Value) -> Result<i64, Fault>
+    ensures { result ≡ count_after value.now }
+{
+    match to_number(value) {
+        Ok(number) => one_more(number),
+        Err(fault) => Err(fault),
+    }
+}
+
+/// The same as a value.
+fn next_count(value: &Value) -> Result<Value, Fault>
+    ensures { result ≡ next_count value.now }
+{
+    match count_after(value) {
+        Ok(count) => Ok(Value::Num(count)),
+        Err(fault) => Err(fault),
+    }
+}
+
+/// A special variable counts a record, by its own number.
+fn count_by(texts: &mut Texts, special: Special) -> Result<(), Fault>
+    requires { special ≢ Special.Nf }
+    ensures ok { OnOk result ((inner : Inner) → counted_by special (with_texts texts.old inner) ≡ Ok (with_texts texts.new inner)) }
+    ensures err { IfErr result (λ fault. (inner : Inner) → counted_by special (with_texts texts.old inner) ≡ Err fault) }
+    ensures refused { OnErr result (texts.new ≡ texts.old) }
+    ensures substituted { KeepsSubstituted texts.old texts.new }
+{
+    let next = next_count(texts.specials.get(special))?;
+    give(texts, special, next);
+    Ok(())
+}
+
+/// NR counts a record, and then FNR.
+pub(crate) fn count_record(texts: &mut Texts) -> Result<(), Fault>
+    ensures ok { OnOk result ((inner : Inner) → counted_record (with_texts texts.old inner) ≡ Ok (with_texts texts.new inner)) }
+    ensures err { IfErr result (λ fault. (inner : Inner) → counted_record (with_texts texts.old inner) ≡ Err fault) }
+    ensures substituted { KeepsSubstituted texts.old texts.new }
+{
+    count_by(texts, Special::Nr)?;
+    count_by(texts, Special::Fnr)
+}
+
+/// Sets `$0`.
+pub(crate) fn set_record(alloc: Global, texts: &mut Texts, text: Bytes) -> Result<(), Stop>
+    ensures ok { OnOk result ((inner : Inner) → with_record text (with_texts texts.old inner) ≡ Ok (with_texts texts.new inner)) }
+    ensures err { IfErr result (λ stop. (inner : Inner) → IsStopOf (with_record text (with_texts texts.old inner)) stop) }
+    ensures substituted { KeepsSubstituted texts.old texts.new }
+{
+    let fs = to_text(alloc, texts.specials.get(Special::Fs))?;
+    let rs = to_text(alloc, texts.specials.get(Special::Rs))?;
+    match texts.held.set_whole(text, fs.as_slice(), rs.as_slice()) {
+        Ok(()) => Ok(()),
+        Err(stop) => Err(stop),
+    }
+}
+
+/// NF cuts or extends the fields.
+fn set_count(alloc: Global, texts: &mut Texts, count: i64) -> Result<(), Stop>
+    ensures ok { OnOk result ((inner : Inner) → count_set count (with_texts texts.old inner) ≡ Ok (with_texts texts.new inner)) }
+    ensures err { IfErr result (λ stop. (inner : Inner) → IsStopOf (count_set count (with_texts texts.old inner)) stop) }
+    ensures substituted { KeepsSubstituted texts.old texts.new }
+{
+    let ofs = to_text(alloc, texts.specials.get(Special::Ofs))?;
+    match texts.held.set_count(count, ofs.as_slice()) {
+        Ok(()) => Ok(()),
+        Err(stop) => Err(stop),
+    }
+}
+
+/// Sets a special variable.
+pub(crate) fn set_special(
+    alloc: Global,
+    texts: &mut Texts,
+    special: Special,
+    value: Value,
+) -> Result<(), Stop>
+    ensures ok { OnOk result ((inner : Inner) → set_special special value (with_texts texts.old inner) ≡ Ok (with_texts texts.new inner)) }
+    ensures err { IfErr result (λ stop. (inner : Inner) → IsStopOf (set_special special value (with_texts texts.old inner)) stop) }
+    ensures substituted { KeepsSubstituted texts.old texts.new }
+{
+    if let Special::Nf = special {
+        let count = to_number(&value)?;
+        return set_count(alloc, texts, count);
+    }
+    give(texts, special, value);
+    Ok(())
+}

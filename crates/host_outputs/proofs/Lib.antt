@@ -1,0 +1,12 @@
+pub mod Joined
+pub mod Lasts
+pub mod Puts
+pub mod Names
+pub mod Steps
+pub mod Worlds
+pub mod Outsides
+pub mod Texts
+pub mod Faults
+pub mod Tables
+pub mod Printed
+pub mod Closings

@@ -1,0 +1,71 @@
+-- From what became of a text, to what became of the row that has it.
+use Rattle.std.proofs.Common.{◌≡◌, ℕ, List, take, Result, Ok, Err, sym, ap, subst, ◌∙◌}
+use Rattle.awk_values.specs.declared.fault.Fault.{Fault}
+use Rattle.awk_values.specs.declared.fault.Stop.{Stop}
+use Rattle.awk_values.specs.declared.fault.Stop.TheVariants as stop
+use Rattle.awk_values.specs.declared.value.Value.{Value}
+use Rattle.awk_state.specs.OutputRows.{file_name, formatted_values, operands_of, print_row, printed, printf_by, printf_row, put_text}
+use Rattle.awk_state.specs.SharedState.{Inner, Shared}
+use Rattle.awk_state.specs.declared.constants.Destination.{Destination}
+use Rattle.world_core.specs.WorldState.{State, after}
+use Rattle.host_format.specs.Outcomes.{IsStopOf}
+use Rattle.host_texts.specs.declared.specials.Specials.{Specials}
+use Rattle.host_streams.specs.Outputs.{IsOf}
+use Rattle.host_streams.specs.Puts.{BeginsBy}
+use Rattle.host_streams.specs.declared.streams.Streams.{Streams}
+use Rattle.host_outputs.specs.Calls.{Could, SomeOutside, over}
+use Rattle.host_outputs.specs.Forms.{inner_with, shared_with}
+use Rattle.host_outputs.proofs.Steps.{Puts}
+
+-- A line of print.
+module _ (to : Destination) (values : List Value) (specials : Specials) (line : List ℕ) (is-line : (inner : Inner) → line ≡ printed (inner_with specials inner) (operands_of to values)) where
+  abbrev of_line : Shared → Puts
+  of_line shared = put_text to (file_name to values) line shared
+
+  abbrev pub of_values : Shared → Puts
+  of_values shared = print_row to values (shared_with specials shared)
+
+  same_row : (shared shared' : Shared) → put_text to (file_name to values) line shared' ≡ put_text to (file_name to values) (printed (inner_with specials shared.inner) (operands_of to values)) shared'
+  same_row shared shared' = ap (λ text. put_text to (file_name to values) text shared') (is-line shared.inner)
+
+  some_line : (streams streams' : Streams) (answer : Result (Unit {0}) Fault) → SomeOutside of_line streams streams' answer → SomeOutside of_values streams streams' answer
+  some_line streams streams' answer some shared is =
+      let x = some (shared_with specials shared) (record { readers = is.readers; writers = is.writers }) in
+      let same = same_row shared (over x.0 (shared_with specials shared)) in
+      (x.0, ap (λ (d : Puts). d.answer) (sym same) ∙ x.1, ap (λ (d : Puts). d.inner.writers) (sym same) ∙ x.2)
+
+  pub could_line : (streams streams' : Streams) (r : Result (Unit {0}) Stop) → Could of_line streams streams' r → Could of_values streams streams' r
+  could_line streams streams' (Ok u) some = some_line streams streams' (Ok tt) some
+  could_line streams streams' (Err (stop.Fault fault)) some = some_line streams streams' (Err fault) some
+  could_line streams streams' (Err stop.NoMemory) some = tt
+
+  pub begins_line : (tells : Type 0) (streams : Streams) (s t : State) (r : Result (Unit {0}) Stop) → BeginsBy tells (IsOf streams s) of_line r s t → BeginsBy tells (IsOf streams s) of_values r s t
+  begins_line tells streams s t (Ok u) begun = tt
+  begins_line tells streams s t (Err (stop.Fault fault)) begun = tt
+  begins_line tells streams s t (Err stop.NoMemory) begun = (
+    begun.0,
+    λ w shared is.
+        begun.1 w (shared_with specials shared) (record { readers = is.readers; writers = is.writers; outside = is.outside })
+        ∙ ap (λ (d : Puts). after (take begun.0 d.added) s.outside) (same_row shared (shared_with specials shared)),
+  )
+
+-- A text of printf.
+
+could_same : (does does' : Shared → Puts) (streams streams' : Streams) (r : Result (Unit {0}) Stop) → ((shared : Shared) → does shared ≡ does' shared) → Could does streams streams' r → Could does' streams streams' r
+could_same does does' streams streams' r same some = subst (λ (f : Shared → Puts). Could f streams streams' r) (λ i shared. same shared i) some
+
+module _ (to : Destination) (values : List Value) (text : List ℕ) (is : formatted_values (operands_of to values) ≡ Ok text) where
+  same_text_row : (shared : Shared) → put_text to (file_name to values) text shared ≡ printf_row to values shared
+  same_text_row shared = ap (λ r. printf_by r to (file_name to values) shared) (sym is)
+
+  pub could_text : (streams streams' : Streams) (r : Result (Unit {0}) Stop) → Could (put_text to (file_name to values) text) streams streams' r → Could (printf_row to values) streams streams' r
+  could_text streams streams' r some = could_same (put_text to (file_name to values) text) (printf_row to values) streams streams' r same_text_row some
+
+  pub begins_text : (tells : Type 0) (streams : Streams) (s t : State) (r : Result (Unit {0}) Stop) → BeginsBy tells (IsOf streams s) (put_text to (file_name to values) text) r s t → BeginsBy tells (IsOf streams s) (printf_row to values) r s t
+  begins_text tells streams s t r begun = subst (λ (f : Shared → Puts). BeginsBy tells (IsOf streams s) f r s t) (λ i shared. same_text_row shared i) begun
+
+-- a fault of the format
+pub could_refused : (to : Destination) (values : List Value) (streams : Streams) (why : Stop) → IsStopOf (formatted_values (operands_of to values)) why → Could (printf_row to values) streams streams (Err why)
+could_refused to values streams (stop.Fault fault) is = λ shared has.
+    (shared.outside, ap (λ r. (printf_by r to (file_name to values) shared).answer) is, ap (λ r. (printf_by r to (file_name to values) shared).inner.writers) is ∙ has.writers)
+could_refused to values streams stop.NoMemory is = tt
