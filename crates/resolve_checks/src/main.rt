@@ -1,15 +1,15 @@
 //! Says of each script on standard input which kinds its names have, or why it is refused for them.
 //!
 //! A line is a script, in which a byte 1 stands for a newline. The answer is a line: `names`, the functions with their parameters and the globals in
-//! the order of their first places, `[]` behind an array; or the refusal and the name that it carries; or `NoTree`. The script's mid code must name
-//! the same functions and globals with the same kinds, else `OtherCode` is added.
+//! the order of their first places, `[]` behind an array; or the refusal and the name that it carries; or `NoTree`. The script's code, folded and unboxed, must
+//! name the same functions and globals with the same kinds, else `OtherCode` is added.
 #![tactic(auto)]
 
 use awk_parse::parse;
 use awk_resolve::{NameKind, ResolveFault, Resolved, resolve};
 use awk_tokens::tokens;
-use mid_code::to_mid;
 use mid_program::{Declared, Kind, Routine};
+use script_code::{CompileFault, code_of};
 use std::alloc::{AllocError, Global};
 use std::io;
 
@@ -32,7 +32,7 @@ fn push_name(out: &mut Vec<u8>, name: &NameKind) -> Result<(), AllocError> {
 }
 
 /// What is said of a script that is not refused.
-fn names_of(alloc: Global, resolved: &Resolved) -> Result<Vec<u8>, AllocError> {
+fn names_of(alloc: Global, script: &[u8], resolved: &Resolved) -> Result<Vec<u8>, AllocError> {
     let mut out = Vec::new(alloc);
     out.extend_from_slice(b"names")?;
     for function in &resolved.functions {
@@ -51,7 +51,7 @@ fn names_of(alloc: Global, resolved: &Resolved) -> Result<Vec<u8>, AllocError> {
         out.push(b' ')?;
         push_name(&mut out, global)?;
     }
-    if !is_named_in_code(alloc, resolved)? {
+    if !is_named_in_code(alloc, script, resolved)? {
         out.extend_from_slice(b" OtherCode")?;
     }
     Ok(out)
@@ -61,8 +61,7 @@ fn names_of(alloc: Global, resolved: &Resolved) -> Result<Vec<u8>, AllocError> {
 fn is_kind_of(kind: &Kind, name: &NameKind) -> bool {
     match kind {
         Kind::Many => name.is_array,
-        Kind::Boxed => !name.is_array,
-        Kind::Unboxed => false,
+        Kind::Boxed | Kind::Unboxed => !name.is_array,
     }
 }
 
@@ -79,9 +78,13 @@ fn are_parameters(routine: &Routine, names: &[NameKind]) -> bool {
     routine.parameters.len() == names.len() && pairs.all(|(kind, name)| is_kind_of(kind, name))
 }
 
-/// Whether the script's code has its functions and globals.
-fn is_named_in_code(alloc: Global, resolved: &Resolved) -> Result<bool, AllocError> {
-    let mid = to_mid(alloc, resolved)?;
+/// Whether the script's code has its functions and globals. A script with a bad regular expression has none.
+fn is_named_in_code(alloc: Global, script: &[u8], resolved: &Resolved) -> Result<bool, AllocError> {
+    let mid = match code_of(alloc, script) {
+        Ok(mid) => mid,
+        Err(CompileFault::NoMemory) => return Err(AllocError),
+        Err(fault) => return Ok(matches!(fault, CompileFault::Ere(..))),
+    };
     let functions = &resolved.functions;
     let mut pairs = mid.routines.iter().zip(functions);
     Ok(
@@ -119,11 +122,11 @@ fn answer(alloc: Global, script: &[u8]) -> Result<Vec<u8>, AllocError> {
     let Ok(tokens) = tokens(alloc, script) else {
         return refused(alloc, b"NoTree", b"");
     };
-    let Ok(script) = parse(alloc, &tokens) else {
+    let Ok(tree) = parse(alloc, &tokens) else {
         return refused(alloc, b"NoTree", b"");
     };
-    match resolve(alloc, &script) {
-        Ok(resolved) => names_of(alloc, &resolved),
+    match resolve(alloc, &tree) {
+        Ok(resolved) => names_of(alloc, script, &resolved),
         Err(fault) => refusal_of(alloc, &fault),
     }
 }

@@ -5,8 +5,12 @@ ghost use Rattle.awk_grammar.specs.Item.{Item};
 ghost use Rattle.awk_parse.specs.Parsing.{IsParsed};
 ghost use Rattle.awk_resolve.specs.Kinds.{refusal};
 ghost use Rattle.mid_program.specs.Kinds.{resolved};
+ghost use Rattle.mid_program.specs.Mid.{Program};
+ghost use Rattle.mid_program.specs.Names.{Resolved};
 ghost use Rattle.mid_program.specs.ScriptRun.{resolved_run};
+ghost use Rattle.mid_program.specs.Sorted.{IsSorted};
 ghost use Rattle.mid_program.specs.Translation.{program_of};
+ghost use Rattle.mid_rewriting.specs.SameRuns.{SameRuns};
 ghost use Rattle.value_machine.specs.Functions.{texts_of};
 ghost use Rattle.value_machine.specs.Modules.{module_of};
 ghost use Rattle.value_machine.specs.Places.{memory_of};
@@ -26,6 +30,15 @@ pub fn scripts_agree()
 {
     same_meaning();
     parsed_scripts_are_placed();
+    modules_agree();
+}
+
+/// A script agrees with the module of any well-sorted code that runs as the script's own does: once constant parts are computed and names of numbers
+/// are unboxed.
+pub fn rewritten_scripts_agree()
+    ensures { (script : Resolved) (p : Program) → SameRuns p (program_of script) → IsSorted p → Agreement (resolved_run script) (module_of p) }
+{
+    same_meaning();
     modules_agree();
 }
 

@@ -1,0 +1,3 @@
+mod FirstBad
+mod Scripts
+mod Codes

@@ -1,0 +1,10 @@
+//! The code of a script: from its bytes to mid code in which constant parts are computed and names of numbers are unboxed.
+#![tactic(auto)]
+
+mod code;
+mod expressions;
+mod fault;
+mod tree;
+
+pub use code::code_of;
+pub use fault::CompileFault;
