@@ -1,0 +1,56 @@
+-- What a script is compiled to, whichever it is.
+use Rattle.std.specs.Prelude.{◌≡◌, ◌≤◌, ◌^◌, ℕ, List, Ok, Some, length, map, true}
+use Rattle.awk_state.specs.Jobs.{JobForm}
+use Rattle.awk_tokens.specs.Cutting.{IsTokens, Spelled}
+use Rattle.awk_grammar.specs.Item.{Item}
+use Rattle.world_core.specs.WorldState.{Outside, Source}
+use Rattle.mid_program.specs.Kinds.{resolved}
+use Rattle.mid_program.specs.Mid.{Program}
+use Rattle.mid_program.specs.ScriptRun.{resolved_run}
+use Rattle.wasm_types.specs.ModuleGrammar.{IsModule}
+use Rattle.wasm_types.specs.Syntax.{ModuleForm}
+use Rattle.wasm_types.specs.Typing.{ModuleOk}
+use Rattle.wasm_machine.specs.Links.{SegmentsFit, main_of, numbers_for}
+use Rattle.wasm_machine.specs.Machines.{Conf, Ends, turn}
+use Rattle.wasm_machine.specs.Runs.{MachineForm}
+use Rattle.wasm_machine.specs.declared.state.End.TheVariants as ends
+use Rattle.wasm_store.specs.declared.word.Word.TheVariants.{I32}
+use Rattle.host_step.specs.HostState.{HostState}
+use Rattle.host_step.specs.Imports.{host_finds}
+use Rattle.module_agreement.specs.Agreement.{Agreement}
+use Rattle.run_places.specs.Existence.{HasRuns}
+use Rattle.run_places.specs.Kept.{AtReturn, AtStatement, Reached, begins_statement}
+use Rattle.script_code.specs.Coded.{IsSound}
+
+-- a module that links with the host
+pub record Links (m : ModuleForm) : Type 0 where
+  pub numbers : List ℕ
+  pub imports : numbers_for host_finds m ≡ map Some numbers
+  pub main : ℕ
+  pub main_is : main_of m ≡ Some main
+  pub segments : SegmentsFit m
+
+-- A module keeps nothing: where a statement begins, and where `main` has returned, names, parameters and callers that wait hold what is alive in the host. `code` says which names and functions
+-- there are, and of what kinds.
+pub record KeepsNothing (code : Program) (m : ModuleForm) : Type 0 where
+  pub statement : (job : JobForm) (input : Source) (outside : Outside) (a : MachineForm) (c : Conf) (s : HostState)
+      → Reached m job input outside a c s → begins_statement c.frame.code ≡ true → AtStatement code c s
+  pub returned : (job : JobForm) (input : Source) (outside : Outside) (a : MachineForm) (c : Conf) (s : HostState)
+      → Reached m job input outside a c s → (n : ℕ) → turn a.program c ≡ Ends (ends.Returned (Some (I32 n))) → AtReturn code c s
+
+-- THE MAIN THEOREM, of a script and the bytes that it is compiled to: they are a module, which the rules type, which links with the host, which has runs, which agrees with the script in every
+-- job and world, and which keeps nothing.
+pub record IsCompiled (bytes : List ℕ) (compiled : List ℕ) : Type 0 where
+  pub short : length bytes ≤ 2 ^ 20
+  pub tokens : List Spelled
+  pub cut : IsTokens bytes (Ok tokens)
+  pub script : List Item
+  pub sound : IsSound tokens script
+  pub whole : ModuleForm
+  pub spelled : IsModule compiled whole
+  pub typed : ModuleOk whole
+  pub links : Links whole
+  pub runs : (job : JobForm) (input : Source) (outside : Outside) → HasRuns whole job input outside
+  pub agreement : Agreement (resolved_run (resolved script)) whole
+  pub code : Program
+  pub keeps : KeepsNothing code whole

@@ -1,0 +1,64 @@
+//! From a script to a module's bytes.
+ghost use Rattle.std.specs.Prelude.{IfOk, IfErr};
+ghost use Rattle.mid_program.specs.Sorted.{IsSorted};
+ghost use Rattle.mid_program.specs.View.{view_mid};
+ghost use Rattle.value_machine.specs.Modules.{module_of};
+ghost use Rattle.wasm_types.specs.ModuleGrammar.{IsModule};
+ghost use Rattle.script_compiler.specs.Compiled.{IsCompiled};
+ghost use Rattle.script_compiler.specs.Refusals.{HasNoBytes, IsNotCompiled};
+
+use expression_emission::Tables;
+use mid_program::Mid;
+use module_agreement::laws::modules_agree;
+use module_emission::EmitFault;
+use module_writer::{WriteFault, write};
+use run_places::laws::{few_parameters, modules_run, nothing_kept};
+use script_code::{CompileFault, code_of};
+use statement_emission::module;
+use std::alloc::Global;
+use value_typed::laws::{links, typed};
+
+/// The bytes of the module of some code.
+fn bytes_of(alloc: Global, mid: &Mid) -> Result<Vec<u8>, CompileFault>
+    requires { IsSorted (view_mid mid.now) }
+    ensures ok { IfOk result (λ v. IsModule v.items (module_of (view_mid mid.now))) }
+    ensures err { IfErr result (HasNoBytes (view_mid mid.now)) }
+{
+    let tables = match Tables::new(alloc, mid) {
+        Ok(Some(tables)) => tables,
+        Ok(None) => return Err(CompileFault::TooLarge),
+        Err(_) => return Err(CompileFault::NoMemory),
+    };
+    let module = match module(alloc, &tables) {
+        Ok(module) => module,
+        Err(EmitFault::TooLarge) => return Err(CompileFault::TooLarge),
+        Err(EmitFault::NoMemory) => return Err(CompileFault::NoMemory),
+    };
+    match write(alloc, &module) {
+        Ok(bytes) => Ok(bytes),
+        Err(WriteFault::TooLarge) => Err(CompileFault::TooLarge),
+        Err(WriteFault::NoMemory) => Err(CompileFault::NoMemory),
+    }
+}
+
+/// The bytes of a module that does what a script does (POSIX.1-2017 awk, in the profile of this project), in every job, and in every world that tells
+/// what it holds, over a host of the table of imports.
+///
+/// # Errors
+///
+/// The first of these that there is: those of [`code_of`]; then [`CompileFault::TooLarge`] where the module would pass the limits of modules.
+/// [`CompileFault::NoMemory`] where memory was wanting, in place of any answer.
+pub fn compile(alloc: Global, script: &[u8]) -> Result<Vec<u8>, CompileFault>
+    ensures compiled { IfOk result (λ v. IsCompiled script.now v.items) }
+    ensures refused { IfErr result (IsNotCompiled script.now) }
+{
+    modules_agree();
+    typed();
+    links();
+    modules_run();
+    few_parameters();
+    nothing_kept();
+    let mid = code_of(alloc, script)?;
+    let bytes = bytes_of(alloc, &mid)?;
+    Ok(bytes)
+}

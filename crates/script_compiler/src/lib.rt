@@ -1,0 +1,7 @@
+//! Scripts to modules, whatever the script: the bytes of a module that does what the script does.
+#![tactic(auto)]
+
+mod compiler;
+
+pub use compiler::compile;
+pub use script_code::CompileFault;
