@@ -1,5 +1,5 @@
 //! One array: its pairs in the order of insertion.
-ghost use Rattle.std.specs.Prelude.{◌≡◌, ℕ, List, [], Option, Some, None, get_or, is_some, OnOk, OnErr, IfOk, IfErr, IsSome};
+ghost use Rattle.std.specs.Prelude.{◌≡◌, ℕ, List, [], Option, Some, None, get_or, is_some, option_copied, OnOk, OnErr, IfOk, IfErr, IsSome};
 ghost use Rattle.std.specs.Map.{keys_of};
 ghost use Rattle.host_arrays.specs.Pairs.{get_pair, set_pair, delete_pair, created, value_or_uninit};
 ghost use Rattle.host_arrays.specs.Order.{IsOnce, held_in, kept_value, place_in};
@@ -80,6 +80,16 @@ impl Array {
         ensures { result ≡ is_some (get_pair key.now self.now) }
     {
         self.pairs.contains_key(key)
+    }
+
+    /// The value at a key.
+    pub(crate) fn get(&self, key: &Bytes) -> Option<&Value>
+        ensures { option_copied result ≡ get_pair key.now self.now }
+    {
+        match self.pairs.get(key) {
+            Some(held) => Some(&held.value),
+            None => None,
+        }
     }
 
     /// Adds a pair of a key that has none, or hands the value back.

@@ -1,5 +1,5 @@
 //! The arrays by number.
-ghost use Rattle.std.specs.Prelude.{◌≡◌, ◌≤ℤ◌, ◌<ℤ◌, pos, [], None, is_some, true, OnOk, OnErr, IfOk, IfErr};
+ghost use Rattle.std.specs.Prelude.{◌≡◌, ◌≤ℤ◌, ◌<ℤ◌, pos, [], None, is_some, option_copied, true, OnOk, OnErr, IfOk, IfErr};
 ghost use Rattle.std.specs.FinMap as map;
 ghost use Rattle.std.specs.Map.{keys_of};
 ghost use Rattle.std.specs.Borrow.{Lends, sem};
@@ -141,6 +141,16 @@ impl Arrays {
         ensures { result ≡ is_some (get_pair key.now (pairs_at self.now number)) }
     {
         self.array(number).has(key)
+    }
+
+    /// The value at a key of the array; none where the number has no array, or the key no pair. It creates nothing.
+    pub fn get(&self, number: i32, key: &Bytes) -> Option<&Value>
+        ensures { option_copied result ≡ get_pair key.now (pairs_at self.now number) }
+    {
+        if !self.is_array(number) {
+            return None;
+        }
+        self.array(number).get(key)
     }
 
     /// A copy of the value at a key of the array. A key without a pair is created uninitialised, and goes last.
