@@ -140,12 +140,11 @@ holds_new i kinds main files missing = record {
   apart = (subst (λ xs. AreApart i.main.reading (map reader_handle xs)) (sym missing.0) tt, subst (λ xs. AreApart i.main.reading (map writer_handle xs)) (sym missing.1) tt);
 }
 
-pub begins_new : (i : Input) (state : State) (inner : Inner) → main_of i.main state ≡ main_at_start (state.readers 0) → IsMissing i.files → i.in_end ≡ false → i.names.items ≡ [] → i.pending ≡ None → i.line ≡ None
-    → with_input i state inner ≡ input_at_start state inner
-begins_new i state inner main missing running names pending line =
+pub begins_new : (i : Input) (state : State) (inner : Inner) → main_of i.main state ≡ main_at_start (state.readers 0) → IsMissing i.files → i.in_end ≡ false → i.line ≡ None
+    → with_input i state inner ≡ input_at_start i.names state inner
+begins_new i state inner main missing running line =
     ap (λ m. record (with_input i state inner) { main = m }) main
     ∙ ap (λ rs. record (with_input i state inner) { main = main_at_start (state.readers 0); readers = readers_in rs state }) missing.0
     ∙ ap (λ ws. record (with_input i state inner) { main = main_at_start (state.readers 0); readers = []; writers = names_of ws }) missing.1
     ∙ ap (λ b. record (with_input i state inner) { main = main_at_start (state.readers 0); readers = []; writers = []; in_end = b }) running
-    ∙ ap (λ ns. record (input_at_start state inner) { names = ns; pending = i.pending; line = i.line }) names
-    ∙ ap (λ p. record (input_at_start state inner) { pending = p; line = i.line }) pending ∙ ap (λ l. record (input_at_start state inner) { line = l }) line
+    ∙ ap (λ l. record (input_at_start i.names state inner) { line = l }) line

@@ -1,5 +1,6 @@
 -- Reads of files are calls.
 use Rattle.std.proofs.Common.{◌≡◌, ◌≢◌, ℕ, ℤ, true, List, [], ◌∷◌, Some, None, Result, Ok, Err, refl, sym, ap, subst, ◌∙◌}
+use Rattle.std.specs.Prelude.{map as map_list}
 use Rattle.std.specs.FinMap as map
 use Rattle.awk_values.specs.declared.fault.Stop.{Stop}
 use Rattle.awk_values.specs.declared.fault.Stop.TheVariants.{Fault as IsFault, NoMemory}
@@ -31,6 +32,7 @@ use Rattle.host_values.specs.declared.reply.Refusal.TheVariants as why
 use Rattle.host_values.proofs.OneHandle.{as_row, decoded}
 use Rattle.host_elements.specs.Forms.{HostForm, Past, inner_of, state_of}
 use Rattle.host_elements.proofs.Steps.{state_with}
+use Rattle.host_names.specs.Forms.{left_of, name_of}
 use Rattle.form_meaning.specs.WorldCalls.{IsCalled}
 use Rattle.host_inputs.specs.Calls.{answered_by, shown_after, with_values}
 use Rattle.host_inputs.specs.Givens.{RowGives, file_primitive, file_row}
@@ -106,8 +108,8 @@ module _ (m m' : Values) (t t' : Texts) (i i' : Input) (s s' : State) (f : HostF
     iterators = refl;
     writers = ap (λ w. names_of w.items) writers;
     in_end = ap (λ (x : Input). x.in_end) moved;
-    names = ap (λ (x : Input). x.names.items) moved;
-    assigns = refl;
+    names = ap (λ (x : Input). map_list name_of x.names.names.items) moved;
+    assigns = ap (λ (x : Input). left_of x.names) moved;
     substituted = kept;
   }
 
@@ -158,8 +160,8 @@ module _ (tells : Type 0) (to : Keep) (f : HostForm) (words : List Word) (memory
     pending_by : (p : Past) (x : InputAnswer) → r ≡ Ok x → HasPending (reads_main (Of (file_primitive to))) x (state_of old p).shared.inner (state_of new p).shared.inner
     pending_by p x e = by to x e
       where
-        same : i'.pending ≡ i.pending
-        same = ap (λ (y : Input). y.pending) moved
+        same : i'.names.pending ≡ i.names.pending
+        same = ap (λ (y : Input). y.names.pending) moved
 
         by : (k : Keep) (x : InputAnswer) → r ≡ Ok x → HasPending (reads_main (Of (file_primitive k))) x (state_of old p).shared.inner (state_of new p).shared.inner
         by Record input.Read e = same

@@ -1,10 +1,11 @@
 mod SpecialNumbers
 mod Kept
 mod Apart
-mod Named
 mod Turns
 mod FileReads
 mod ReadSteps
+mod ArgvTexts
 mod MainCalls
 mod FileCalls
 mod LineCalls
+mod EndCalls

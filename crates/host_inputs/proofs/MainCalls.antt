@@ -1,6 +1,6 @@
 -- Reads of the main input are calls.
 use Rattle.std.proofs.Common.{◌≡◌, ℕ, pos, Bool, true, false, not, List, [], ◌∷◌, get_or, Option, Some, None, is_some, Result, Ok, Err, refl, sym, ap, subst, ◌∙◌}
-use Rattle.std.specs.Prelude.{decimal}
+use Rattle.std.specs.Prelude.{decimal, map as map_list}
 use Rattle.std.specs.FinMap as map
 use Rattle.std.proofs.lemmas.Option.{get_or_from_slice_get}
 use Rattle.awk_values.specs.declared.fault.Stop.{Stop}
@@ -26,14 +26,16 @@ use Rattle.host_step.specs.Worlds.{HasLine, HasPending, KeepsOthers, Wanted, rea
 use Rattle.host_step.specs.declared.import.Import.TheVariants.{Of}
 use Rattle.host_streams.specs.OpenFiles.{names_of}
 use Rattle.host_texts.specs.declared.texts.Texts.{Texts}
+use Rattle.host_arrays.specs.Pairs.{pairs_or_none}
+use Rattle.host_names.specs.Forms.{left_of, name_of}
 use Rattle.host_values.specs.declared.reply.Refusal.TheVariants as why
-use Rattle.host_elements.specs.Forms.{HostForm, Past, Shows, inner_of, state_of}
+use Rattle.host_elements.specs.Forms.{Arrays, HostForm, Past, Shows, inner_of, state_of}
 use Rattle.host_elements.proofs.Steps.{IsPast, state_with}
 use Rattle.form_meaning.specs.WorldCalls.{IsCalled}
 use Rattle.host_inputs.specs.Calls.{answered_by, shown_after}
 use Rattle.host_inputs.specs.Givens.{OffersTexts, RowGives, main_primitive, main_row}
 use Rattle.host_inputs.specs.Keeps.{AnswerLine, AnswerPends, IsMovedOn, KeepsSubstituted, keep_of}
-use Rattle.host_inputs.specs.States.{OffersArgv, over_world, texts_of, with_tables}
+use Rattle.host_inputs.specs.States.{argv_texts, over_world, with_tables}
 use Rattle.host_inputs.specs.declared.input.Input.{Input}
 use Rattle.host_inputs.specs.declared.input.Keep.TheVariants.{Line, Record}
 use Rattle.host_inputs.specs.declared.input.MainRead.{MainRead}
@@ -98,13 +100,13 @@ module _ (f : HostForm) (p : Past) (memory : List ℕ) (none : f.fault ≡ None)
 
 -- the operands are ARGV's texts
 
-held_texts : (all : List Pairs) (o : Option Pairs) (n : ℕ) → Shows all (Some 0) o → text_or_none (element (decimal n) (get_or all 0 [])) ≡ texts_of o n
+held_texts : (all : List Pairs) (o : Option Pairs) (n : ℕ) → Shows all (Some 0) o → text_or_none (element (decimal n) (get_or all 0 [])) ≡ text_or_none (element (decimal n) (pairs_or_none o))
 held_texts all None n h = absurd h
 held_texts all (Some pairs) n h = ap (λ ps. text_or_none (element (decimal n) ps)) (get_or_from_slice_get all 0 pairs [] h)
 
-pub offers : (texts : ℕ → List ℕ) (f : HostForm) (p : Past) (inner : Inner) → IsPast f p → OffersArgv texts f.arrays → OffersTexts texts (inner_of inner p.arrays p.iterators)
-offers texts f p inner past argv = λ n.
-    held_texts p.arrays (map.get f.arrays (pos 0)) n (subst (λ o. Shows p.arrays o (map.get f.arrays (pos 0))) past.first.argv (past.arrays.shows (pos 0))) ∙ argv n
+pub offers : (arrays : Arrays) (f : HostForm) (p : Past) (inner : Inner) → IsPast f p → f.arrays ≡ arrays → OffersTexts (argv_texts arrays) (inner_of inner p.arrays p.iterators)
+offers arrays f p inner past same = λ n.
+    held_texts p.arrays (map.get f.arrays (pos 0)) n (subst (λ o. Shows p.arrays o (map.get f.arrays (pos 0))) past.first.argv (past.arrays.shows (pos 0))) ∙ ap (λ a. argv_texts a n) same
 
 -- What is left alone.
 
@@ -121,8 +123,8 @@ module _ (t t' : Texts) (i i' : Input) (s s' : State) (f : HostForm) (p : Past) 
     iterators = refl;
     writers = ap (λ (x : Input). names_of x.files.writers.items) moved;
     in_end = ap (λ (x : Input). x.in_end) moved;
-    names = ap (λ (x : Input). x.names.items) moved;
-    assigns = refl;
+    names = ap (λ (x : Input). map_list name_of x.names.names.items) moved;
+    assigns = ap (λ (x : Input). left_of x.names) moved;
     substituted = kept;
   }
 
@@ -163,14 +165,14 @@ module _ (tells : Type 0) (how : MainRead) (f : HostForm) (memory : List ℕ) (n
   main_trapped words k e = leads_in tells (Of (main_primitive how)) _ _ words memory (told.Trap k) refl refl (λ p past.
       trap_called (Of (main_primitive how)) (main_reading how) (over_world t i s f) p words memory none tells k (main_words (over_world t i s f) p memory none how words k e))
 
-  pub main_pends : (words : List Word) → no_more words ≡ Ok tt → is_some i.pending ≡ true → IsCalled tells (Of (main_primitive how)) (over_world t i s f) words memory (Err (why.Trap BadArgument)) (over_world t i s f) []
+  pub main_pends : (words : List Word) → no_more words ≡ Ok tt → is_some i.names.pending ≡ true → IsCalled tells (Of (main_primitive how)) (over_world t i s f) words memory (Err (why.Trap BadArgument)) (over_world t i s f) []
   main_pends words fit e =
       subst (λ ws. IsCalled tells (Of (main_primitive how)) (over_world t i s f) ws memory (Err (why.Trap BadArgument)) (over_world t i s f) []) (sym (no_words words fit))
       (leads_in tells (Of (main_primitive how)) _ _ [] memory (told.Trap BadArgument) refl refl (λ p past.
       trap_called (Of (main_primitive how)) (main_reading how) (over_world t i s f) p [] memory none tells BadArgument (main_waits (over_world t i s f) p memory none how (ap not e))))
 
-  module _ (texts : ℕ → List ℕ) (argv : OffersArgv texts f.arrays) (waits : is_some i.pending ≡ false) (t' : Texts) (i' : Input) (s' : State) (r : Result InputAnswer Stop)
-      (told_row : tells → (inner : Inner) → OffersTexts texts inner → RowGives (main_row how s.outside (with_tables t i s inner)) r (with_tables t' i' s' inner)) (outside : tells → s'.outside ≡ s.outside)
+  module _ (arrays : Arrays) (same : f.arrays ≡ arrays) (waits : is_some i.names.pending ≡ false) (t' : Texts) (i' : Input) (s' : State) (r : Result InputAnswer Stop)
+      (told_row : tells → (inner : Inner) → OffersTexts (argv_texts arrays) inner → RowGives (main_row how s.outside (with_tables t i s inner)) r (with_tables t' i' s' inner)) (outside : tells → s'.outside ≡ s.outside)
       (moved : IsMovedOn i i') (line : AnswerLine (keep_of how) r i i') (pending : AnswerPends r i i') (kept : KeepsSubstituted t t') where
     abbrev old : HostForm
     old = over_world t i s f
@@ -188,7 +190,7 @@ module _ (tells : Type 0) (how : MainRead) (f : HostForm) (memory : List ℕ) (n
     main_called (Ok x) e = leads_in tells (Of (main_primitive how)) old new [] memory (told.Done (Some (I32 (input_code x)))) refl refl (λ p past.
         let c = main_carries old p memory none how (ap not waits) in
         answer_called (Of (main_primitive how)) (main_reading how) old p [] memory none (state_of old p).names (main_row how s.outside (with_tables t i s (inner_at p))) c tells x (state_of new p)
-        (λ y. (with_tables t' i' s' (inner_at p), subst (λ a. RowGives (main_row how s.outside (with_tables t i s (inner_at p))) a (with_tables t' i' s' (inner_at p))) e (told_row y (inner_at p) (offers texts f p f.shared.inner (record { arrays = past.arrays; iterators = past.iterators; first = past.first }) argv)), state_is p (outside y)))
+        (λ y. (with_tables t' i' s' (inner_at p), subst (λ a. RowGives (main_row how s.outside (with_tables t i s (inner_at p))) a (with_tables t' i' s' (inner_at p))) e (told_row y (inner_at p) (offers arrays f p f.shared.inner (record { arrays = past.arrays; iterators = past.iterators; first = past.first }) same)), state_is p (outside y)))
         (record {
           names = refl;
           arguments = refl;
@@ -199,7 +201,7 @@ module _ (tells : Type 0) (how : MainRead) (f : HostForm) (memory : List ℕ) (n
     main_called (Err (IsFault fault)) e = leads_in tells (Of (main_primitive how)) old (record old { fault = Some fault }) [] memory (told.Done (refusal (import_answer (Of (main_primitive how))))) refl refl (λ p past.
         let c = main_carries old p memory none how (ap not waits) in
         fault_called (Of (main_primitive how)) (main_reading how) old p [] memory none (state_of old p).names (main_row how s.outside (with_tables t i s (inner_at p))) c tells fault (state_of (record old { fault = Some fault }) p)
-        (λ y. subst (λ a. RowGives (main_row how s.outside (with_tables t i s (inner_at p))) a (with_tables t' i' s' (inner_at p))) e (told_row y (inner_at p) (offers texts f p f.shared.inner (record { arrays = past.arrays; iterators = past.iterators; first = past.first }) argv)))
+        (λ y. subst (λ a. RowGives (main_row how s.outside (with_tables t i s (inner_at p))) a (with_tables t' i' s' (inner_at p))) e (told_row y (inner_at p) (offers arrays f p f.shared.inner (record { arrays = past.arrays; iterators = past.iterators; first = past.first }) same)))
         refl
         (record {
           names = refl;

@@ -8,7 +8,6 @@ use Rattle.awk_values.specs.declared.fault.Fault.{Fault}
 use Rattle.awk_values.specs.declared.value.Value.{Value}
 use Rattle.awk_values.specs.declared.value.Value.TheVariants.{Num, Uninit}
 use Rattle.awk_state.specs.Constants.{special_number}
-use Rattle.awk_state.specs.FieldRows.{set_special}
 use Rattle.awk_state.specs.InputRows.{counted_by}
 use Rattle.awk_state.specs.SharedState.{Inner, ◌>>=◌, special_of, with_special}
 use Rattle.awk_state.specs.declared.constants.Special.{Special}
@@ -75,21 +74,3 @@ two_steps s inner (Err fault) v e = cc
 pub counts : (s : Special) (inner new : Inner) (v w : Value) → s ≢ Nf → v ≡ inner.specials s → next_count v ≡ Ok w → new ≡ with_special s w inner → counted_by s inner ≡ Ok new
 counts s inner new v w other held is set =
     ap (λ x. number_of_value x >>= λ k. sum k (pos 1) >>= λ j. Ok (with_special s (Num j) inner)) (plain s inner other ∙ sym held) ∙ two_steps s inner (number_of_value v) w is ∙ ap (λ i. Ok i) (sym set)
-
--- A special variable is set, NF aside.
-
-pub sets : (s : Special) (v : Value) (inner new : Inner) → s ≢ Nf → new ≡ with_special s v inner → set_special s v inner ≡ Ok new
-sets Argc v inner new other e = ap (λ i. Ok i) (sym e)
-sets Convfmt v inner new other e = ap (λ i. Ok i) (sym e)
-sets Filename v inner new other e = ap (λ i. Ok i) (sym e)
-sets Fnr v inner new other e = ap (λ i. Ok i) (sym e)
-sets Fs v inner new other e = ap (λ i. Ok i) (sym e)
-sets Nf v inner new other e = absurd (other refl)
-sets Nr v inner new other e = ap (λ i. Ok i) (sym e)
-sets Ofmt v inner new other e = ap (λ i. Ok i) (sym e)
-sets Ofs v inner new other e = ap (λ i. Ok i) (sym e)
-sets Ors v inner new other e = ap (λ i. Ok i) (sym e)
-sets Rlength v inner new other e = ap (λ i. Ok i) (sym e)
-sets Rs v inner new other e = ap (λ i. Ok i) (sym e)
-sets Rstart v inner new other e = ap (λ i. Ok i) (sym e)
-sets Subsep v inner new other e = ap (λ i. Ok i) (sym e)

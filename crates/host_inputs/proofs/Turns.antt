@@ -24,7 +24,6 @@ use Rattle.host_inputs.specs.Givens.{AssignLive, GivesMain, NextPasses, TurnGive
 use Rattle.host_inputs.specs.Keeps.{IsMoved, TurnPends, with_main_input, with_pending}
 use Rattle.host_inputs.specs.declared.input.Given.{Given}
 use Rattle.host_inputs.specs.declared.input.Input.{Input}
-use Rattle.host_inputs.proofs.Named.{assignment_named}
 
 -- What is left to do.
 
@@ -59,7 +58,7 @@ takes_less texts count n m f g text t there =
 
 pub next_passes : (texts : ℕ → List ℕ) (count : Result ℤ Fault) (old new : Mains) (r : Result MainNext Stop) → Passes texts old.next old.found r new.next new.found → AreThere count old.next new.next → NextPasses old r new
 next_passes texts count old new (Ok (Record text)) p there = tt
-next_passes texts count old new (Ok (Assign name text)) p there = (takes_less texts count old.next new.next old.found new.found p.0 p.1 there, assignment_named p.0 name text p.2)
+next_passes texts count old new (Ok (Assign name text)) p there = takes_less texts count old.next new.next old.found new.found p.0 p.1 there
 next_passes texts count old new (Ok (Opened name)) (inl p) there = takes_less texts count old.next new.next old.found new.found name p.0.takes there
 next_passes texts count old new (Ok (Opened name)) (inr p) there = last_left old.next new.next old.found new.found p.0.order p.2 p.3
   where
@@ -138,11 +137,11 @@ turn_some given wanted outside new e h = subst (λ (x : Option Given). TurnGives
 pub turn_none : {o : Option Given} (wanted : Result (Inner × Main) Fault) (outside : Outside) (new : Inner) → o ≡ None → TurnGives wanted (Ok o) outside new → wanted ≡ main_input outside new
 turn_none wanted outside new e h = subst (λ (x : Option Given). TurnGives wanted (Ok x) outside new) e h
 
-pub none_pends : {o : Option Given} (old new : Input) → o ≡ None → TurnPends (Ok o) old new → new.pending ≡ old.pending
+pub none_pends : {o : Option Given} (old new : Input) → o ≡ None → TurnPends (Ok o) old new → new.names.pending ≡ old.names.pending
 none_pends old new e h = subst (λ (x : Option Given). TurnPends (Ok x) old new) e h
 
 pub moved_on : (first now then : Input) → IsMoved first now → IsMoved now then → IsMoved first then
-moved_on first now then a b = b ∙ ap (λ x. with_pending then.pending (with_main_input then.main x)) a
+moved_on first now then a b = b ∙ ap (λ x. with_pending then.names.pending (with_main_input then.main x)) a
 
 pub renamed : (n t name text : List ℕ) (b d : Bool) (inner new : Inner) → n ≡ name → t ≡ text → b ≡ d → assigned n t inner ≡ Ok (new, b) → assigned name text inner ≡ Ok (new, d)
 renamed n t name text b d inner new a f g e =

@@ -1,11 +1,10 @@
 -- What reading comes to, by what the definition gives.
-use Rattle.std.specs.Prelude.{◌≡◌, ◌≢◌, ℕ, ◌+◌, ◌*◌, ◌-◌, ◌^◌, ◌<◌, List, Bool, true, false, Option, Some, None, Result, Ok, Err}
+use Rattle.std.specs.Prelude.{◌≡◌, ◌≢◌, ℕ, ◌+◌, ◌*◌, ◌-◌, ◌^◌, ◌<◌, List, Bool, false, Option, Some, None, Result, Ok, Err}
 use Rattle.awk_values.specs.declared.fault.Fault.{Fault}
 use Rattle.awk_values.specs.declared.fault.Fault.TheVariants.{OpenInput, ReadFailed}
 use Rattle.awk_values.specs.declared.fault.Stop.{Stop}
 use Rattle.awk_values.specs.declared.fault.Stop.TheVariants.{Fault as IsFault, NoMemory}
 use Rattle.world_core.specs.WorldState.{Outside}
-use Rattle.awk_state.specs.Assignments.{is_name}
 use Rattle.awk_state.specs.InputRows.{Main, as_line, as_record, getline_line_file_row, getline_file_row, getline_line_row, getline_of, getline_row, main_input, next_main_row, next_of, operand_text}
 use Rattle.awk_state.specs.InputRows as definition
 use Rattle.awk_state.specs.SharedState.{Inner}
@@ -70,9 +69,9 @@ may_follow found.SomeFile = 1
 abbrev pub left_to_open : Mains → ℕ
 left_to_open m = 2 * (2 ^ 20 + 1 - m.next) + may_follow m.found
 
--- an operand that is told has less after it; the name of an assignment is one
+-- an operand that is told has less after it
 abbrev pub NextPasses : Mains → Result MainNext Stop → Mains → Type 0
-NextPasses old (Ok (Assign name text)) new = (left_to_open new < left_to_open old) × (is_name name ≡ true)
+NextPasses old (Ok (Assign name text)) new = left_to_open new < left_to_open old
 NextPasses old (Ok (Opened name)) new = left_to_open new < left_to_open old
 NextPasses old answer new = Unit {0}
 

@@ -1,6 +1,5 @@
 pub mod States
 pub mod Givens
 pub mod Keeps
-pub mod Names
 pub mod Counts
 pub mod Calls

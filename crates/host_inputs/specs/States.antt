@@ -1,11 +1,11 @@
 -- The host's state with what these imports read and change, over a world.
-use Rattle.std.specs.Prelude.{◌≡◌, ℕ, pos, List, [], ◌∷◌, false, map, Option, Some, None, decimal}
-use Rattle.std.specs.FinMap as finmap
+use Rattle.std.specs.Prelude.{ℕ, pos, List, [], ◌∷◌, false, map, None, decimal}
 use Rattle.world_core.specs.WorldState.{State}
 use Rattle.world_core.specs.Calls.{Kind}
 use Rattle.awk_state.specs.ArrayRows.{element}
 use Rattle.awk_state.specs.InputRows.{text_or_none}
-use Rattle.awk_state.specs.SharedState.{Inner, Pairs}
+use Rattle.awk_state.specs.SharedState.{Inner}
+use Rattle.host_arrays.specs.Pairs.{pairs_at}
 use Rattle.host_streams.specs.Mains.{HoldsMain, IsApartFrom, main_at_start, main_of}
 use Rattle.host_streams.specs.OpenFiles.{HoldsOpen, names_of, reader_handle, readers_in, writer_handle}
 use Rattle.host_streams.specs.declared.main_input.Reading.{Reading}
@@ -13,23 +13,23 @@ use Rattle.host_streams.specs.declared.streams.Streams.{Streams}
 use Rattle.host_texts.specs.States.{with_texts}
 use Rattle.host_texts.specs.declared.texts.Texts.{Texts}
 use Rattle.host_elements.specs.Forms.{Arrays, HostForm}
+use Rattle.host_names.specs.Forms.{with_names}
+use Rattle.host_names.specs.declared.names.Names.{Names}
 use Rattle.host_inputs.specs.declared.input.Input.{Input}
 
 -- the shared state with this input: what is left of main input and files is the world's
 abbrev pub with_input : Input → State → Inner → Inner
-with_input i state inner = record inner {
+with_input i state inner = with_names i.names (record inner {
   readers = readers_in i.files.readers.items state;
   writers = names_of i.files.writers.items;
   main = main_of i.main state;
   in_end = i.in_end;
-  names = i.names.items;
-  pending = i.pending;
   line = i.line;
-}
+})
 
--- that before anything is read
-abbrev pub input_at_start : State → Inner → Inner
-input_at_start state inner = record inner { readers = []; writers = []; main = main_at_start (state.readers 0); in_end = false; names = []; pending = None; line = None }
+-- that before anything is read, with these names
+abbrev pub input_at_start : Names → State → Inner → Inner
+input_at_start names state inner = with_names names (record inner { readers = []; writers = []; main = main_at_start (state.readers 0); in_end = false; line = None })
 
 -- and with these texts
 abbrev pub with_tables : Texts → Input → State → Inner → Inner
@@ -53,11 +53,6 @@ pub record HoldsInput (i : Input) (kinds : ℕ → Kind) : Type 0 where
   pub files : HoldsOpen i.files kinds
   pub apart : FilesApart i.main.reading i.files
 
--- the texts of an array's elements by their numbers, empty where there is none
-abbrev pub texts_of : Option Pairs → ℕ → List ℕ
-texts_of None n = []
-texts_of (Some pairs) n = text_or_none (element (decimal n) pairs)
-
--- these are the texts of ARGV
-abbrev pub OffersArgv : (ℕ → List ℕ) → Arrays → Type 0
-OffersArgv texts arrays = (n : ℕ) → texts_of (finmap.get arrays (pos 0)) n ≡ texts n
+-- the texts of the elements of ARGV by their numbers, empty where there is none
+abbrev pub argv_texts : Arrays → ℕ → List ℕ
+argv_texts arrays n = text_or_none (element (decimal n) (pairs_at arrays (pos 0)))

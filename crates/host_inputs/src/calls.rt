@@ -1,6 +1,7 @@
 //! The calls.
 ghost use Rattle.std.specs.Prelude.{◌≡◌, ℕ, List, [], None};
 ghost use Rattle.std.specs.FinMap as map;
+ghost use Rattle.world_core.specs.WorldState.{State};
 ghost use Rattle.awk_state.specs.declared.table.Primitive.TheVariants as row;
 ghost use Rattle.host_step.specs.Answers.{input_code};
 ghost use Rattle.host_step.specs.declared.import.Import.{Import};
@@ -8,19 +9,21 @@ ghost use Rattle.host_streams.specs.OpenFiles.{WritersGo};
 ghost use Rattle.host_texts.specs.declared.texts.Texts.{Texts as AnyTexts};
 ghost use Rattle.host_values.specs.Calls.{spare};
 ghost use Rattle.host_values.specs.Singles.{lent_only, only_handle};
+ghost use Rattle.host_elements.specs.Calls.{IsTableCall};
 ghost use Rattle.host_elements.specs.Forms.{HostForm};
 ghost use Rattle.form_meaning.specs.WorldCalls.{IsCalled};
 ghost use Rattle.host_inputs.specs.Calls.{answered_by, shown_after, with_values};
-ghost use Rattle.host_inputs.specs.Keeps.{with_line};
+ghost use Rattle.host_inputs.specs.Keeps.{IsMovedOn, IsReadOn, with_end, with_line};
 ghost use Rattle.host_inputs.specs.Givens.{file_primitive, main_primitive};
-ghost use Rattle.host_inputs.specs.States.{HoldsInput, OffersArgv, over_world};
+ghost use Rattle.host_inputs.specs.States.{HoldsInput, over_world};
 
+use crate::argv::Argv;
 use crate::input::{Input, Keep, MainRead};
 use crate::{files, main_record};
 use awk_state::InputAnswer;
 use awk_values::{Stop, Value, to_text};
+use host_arrays::Arrays;
 use host_handles::Handles;
-use host_streams::Operands;
 use host_texts::Texts;
 use host_values::{Refusal, Reply, ends, give, value_front};
 use std::alloc::Global;
@@ -55,10 +58,10 @@ fn answered(read: Result<InputAnswer, Stop>) -> Result<Option<Word>, Refusal>
 /// # Errors
 ///
 /// A trap, which changes nothing; a fault, which is to be kept, and after which nothing of texts and input is to be looked at; or want of memory.
-pub fn read_main<W: World, O: Operands>(
+pub fn read_main<W: World>(
     alloc: Global,
     world: &mut W,
-    operands: &O,
+    arrays: &Arrays,
     texts: &mut Texts,
     input: &mut Input,
     how: MainRead,
@@ -68,15 +71,17 @@ pub fn read_main<W: World, O: Operands>(
     requires goes { W.tells → WritersGo input.old.files.writers.items (W.state world.old) }
     ensures held { HoldsInput input.new (W.kinds world.new) }
     ensures goes { W.tells → WritersGo input.new.files.writers.items (W.state world.new) }
-    ensures called { (f : HostForm) (memory : List ℕ) → f.fault ≡ None → OffersArgv (O.text operands.now) f.arrays → IsCalled W.tells (Import.Of (main_primitive how)) (over_world texts.old input.old (W.state world.old) f) words.now memory result (shown_after result (over_world texts.old input.old (W.state world.old) f) (over_world texts.new input.new (W.state world.new) f)) [] }
+    ensures rest { IsMovedOn input.old input.new }
+    ensures called { (f : HostForm) (memory : List ℕ) → f.fault ≡ None → f.arrays ≡ arrays.now → IsCalled W.tells (Import.Of (main_primitive how)) (over_world texts.old input.old (W.state world.old) f) words.now memory result (shown_after result (over_world texts.old input.old (W.state world.old) f) (over_world texts.new input.new (W.state world.new) f)) [] }
 {
     if let Err(kind) = ends(words) {
         return Err(Refusal::Trap(kind));
     }
-    if input.pending.is_some() {
+    if input.names.is_pending() {
         return Err(Refusal::Trap(TrapKind::BadArgument));
     }
-    answered(main_record::read(alloc, world, operands, texts, input, how))
+    let argv = Argv { arrays, alloc };
+    answered(main_record::read(alloc, world, &argv, texts, input, how))
 }
 
 /// The one handle that words name, and its value.
@@ -106,6 +111,7 @@ pub fn read_file<W: World>(
     requires goes { W.tells → WritersGo input.old.files.writers.items (W.state world.old) }
     ensures held { HoldsInput input.new (W.kinds world.new) }
     ensures goes { W.tells → WritersGo input.new.files.writers.items (W.state world.new) }
+    ensures rest { IsReadOn input.old input.new }
     ensures spare { map.get handles.old spare ≡ None → map.get handles.new spare ≡ None }
     ensures called { (f : HostForm) (memory : List ℕ) → f.fault ≡ None → IsCalled W.tells (Import.Of (file_primitive to)) (with_values handles.old (over_world texts.old input.old (W.state world.old) f)) words.now memory result (shown_after result (with_values handles.old (over_world texts.old input.old (W.state world.old) f)) (with_values handles.new (over_world texts.new input.new (W.state world.new) f))) [] }
 {
@@ -143,4 +149,20 @@ pub fn line<W: World>(
         Some(value) => give(handles, Reply::Value(value)),
         None => Err(Refusal::Trap(TrapKind::BadArgument)),
     }
+}
+
+/// The actions of END begin (`begin_end`), where no fault is kept: from then on `getline` reads nothing of the main input.
+///
+/// # Errors
+///
+/// A trap where there are words, which changes nothing.
+pub fn begin_end(input: &mut Input, words: &[Word]) -> Result<Option<Word>, Refusal>
+    ensures rest { input.new ≡ with_end input.new.in_end input.old }
+    ensures step { (f : HostForm) (memory : List ℕ) (texts : AnyTexts) (state : State) → f.fault ≡ None → IsTableCall (Import.Of row.BeginEnd) (over_world texts input.old state f) words.now memory result (over_world texts input.new state f) }
+{
+    if let Err(kind) = ends(words) {
+        return Err(Refusal::Trap(kind));
+    }
+    input.in_end = true;
+    Ok(None)
 }

@@ -6,8 +6,8 @@ ghost use Rattle.awk_state.specs.SharedState.{Inner};
 ghost use Rattle.host_streams.specs.OpenFiles.{WritersGo};
 ghost use Rattle.host_inputs.specs.States.{HoldsInput, input_at_start, with_input};
 
-use awk_state::NameKind;
 use awk_values::{Bytes, Value};
+use host_names::Names;
 use host_streams::{MainInput, Streams};
 use std::alloc::Global;
 
@@ -16,10 +16,8 @@ use std::alloc::Global;
 pub struct Input {
     pub main: MainInput,
     pub files: Streams,
-    /// The names of the script, by their numbers.
-    pub names: Vec<(Bytes, NameKind)>,
-    /// The number of the name and the value of the assignment that is to be made now.
-    pub pending: Option<(u32, Value)>,
+    /// The names of the script, and the assignment that is to be made now.
+    pub names: Names,
     /// What was read for a variable, until it is given.
     pub line: Option<Value>,
     /// The actions of END have begun.
@@ -27,17 +25,16 @@ pub struct Input {
 }
 
 impl Input {
-    /// Before anything is read, and before the script announced a name. It takes no memory.
-    pub fn new(alloc: Global) -> Input
+    /// Before anything is read, with these names. It takes no memory.
+    pub fn new(alloc: Global, names: Names) -> Input
         ensures held { (kinds : ℕ → Kind) → HoldsInput result kinds }
         ensures goes { (state : State) → WritersGo result.files.writers.items state }
-        ensures begins { (state : State) (inner : Inner) → with_input result state inner ≡ input_at_start state inner }
+        ensures begins { (state : State) (inner : Inner) → with_input result state inner ≡ input_at_start names state inner }
     {
         Input {
             main: MainInput::new(alloc),
             files: Streams::new(alloc),
-            names: Vec::new(alloc),
-            pending: None,
+            names,
             line: None,
             in_end: false,
         }

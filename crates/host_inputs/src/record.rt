@@ -1,13 +1,12 @@
 //! The record, and the special variables that count and hold.
 ghost use Rattle.std.specs.Prelude.{◌≡◌, ◌≢◌, ◌==◌, cond, Err, IfErr, IfOk, Ok, OnErr, OnOk, pos};
 ghost use Rattle.awk_values.specs.Operators.{sum};
-ghost use Rattle.awk_state.specs.FieldRows.{set_special, with_record};
+ghost use Rattle.awk_state.specs.FieldRows.{with_record};
 ghost use Rattle.awk_state.specs.InputRows.{counted_by, counted_record};
 ghost use Rattle.awk_state.specs.SharedState.{Inner, with_special};
 ghost use Rattle.host_inputs.specs.Counts.{count_after, next_count};
 ghost use Rattle.awk_state.specs.Constants.{special_number};
 ghost use Rattle.host_format.specs.Outcomes.{IsStopOf};
-ghost use Rattle.host_fields.specs.Calls.{count_set};
 ghost use Rattle.host_texts.specs.States.{specials_of, with_texts};
 ghost use Rattle.host_inputs.specs.Keeps.{KeepsSubstituted};
 
@@ -104,36 +103,4 @@ pub(crate) fn set_record(alloc: Global, texts: &mut Texts, text: Bytes) -> Resul
         Ok(()) => Ok(()),
         Err(stop) => Err(stop),
     }
-}
-
-/// NF cuts or extends the fields.
-fn set_count(alloc: Global, texts: &mut Texts, count: i64) -> Result<(), Stop>
-    ensures ok { OnOk result ((inner : Inner) → count_set count (with_texts texts.old inner) ≡ Ok (with_texts texts.new inner)) }
-    ensures err { IfErr result (λ stop. (inner : Inner) → IsStopOf (count_set count (with_texts texts.old inner)) stop) }
-    ensures substituted { KeepsSubstituted texts.old texts.new }
-{
-    let ofs = to_text(alloc, texts.specials.get(Special::Ofs))?;
-    match texts.held.set_count(count, ofs.as_slice()) {
-        Ok(()) => Ok(()),
-        Err(stop) => Err(stop),
-    }
-}
-
-/// Sets a special variable.
-pub(crate) fn set_special(
-    alloc: Global,
-    texts: &mut Texts,
-    special: Special,
-    value: Value,
-) -> Result<(), Stop>
-    ensures ok { OnOk result ((inner : Inner) → set_special special value (with_texts texts.old inner) ≡ Ok (with_texts texts.new inner)) }
-    ensures err { IfErr result (λ stop. (inner : Inner) → IsStopOf (set_special special value (with_texts texts.old inner)) stop) }
-    ensures substituted { KeepsSubstituted texts.old texts.new }
-{
-    if let Special::Nf = special {
-        let count = to_number(&value)?;
-        return set_count(alloc, texts, count);
-    }
-    give(texts, special, value);
-    Ok(())
 }

@@ -13,11 +13,11 @@ ghost use Rattle.host_inputs.specs.Keeps.{IsMoved, KeepsSubstituted, TurnPends, 
 ghost use Rattle.host_texts.specs.States.{with_texts};
 ghost use Rattle.host_inputs.specs.States.{HoldsInput, with_tables};
 
-use crate::assigning::assign;
 use crate::input::{Given, Input};
 use crate::record::give;
 use awk_state::Special;
 use awk_values::{Bytes, Fault, Stop, Value, to_text};
+use host_names::assign;
 use host_streams::{MainNext, Operands};
 use host_texts::Texts;
 use std::alloc::Global;
@@ -94,7 +94,13 @@ pub(crate) fn turn<W: World, O: Operands>(
             Ok(None)
         }
         Ok(MainNext::Assign(name, text)) => {
-            match assign(alloc, texts, input, name.as_slice(), text.as_slice()) {
+            match assign(
+                alloc,
+                texts,
+                &mut input.names,
+                name.as_slice(),
+                text.as_slice(),
+            ) {
                 Ok(true) => Ok(Some(Given::Pending)),
                 Ok(false) => Ok(None),
                 Err(stop) => Err(stop),

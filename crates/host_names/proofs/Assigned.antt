@@ -1,5 +1,5 @@
 -- Assignments are made one after another.
-use Rattle.std.proofs.Common.{◌≡◌, ℕ, Bool, true, false, List, drop, map, Option, Some, None, Ok, Err, Result, sym, ap, subst, ◌∙◌}
+use Rattle.std.proofs.Common.{◌≡◌, ℕ, Bool, true, false, List, Option, Some, None, Ok, Err, Result, sym, ap, subst, ◌∙◌}
 use Rattle.awk_text.specs.Escapes.{unescaped}
 use Rattle.awk_values.specs.declared.fault.Fault.{Fault}
 use Rattle.awk_values.specs.declared.fault.Fault.TheVariants.{BadAssignment}
@@ -15,7 +15,7 @@ use Rattle.awk_state.specs.declared.answers.AssignAnswer.TheVariants.{NoneLeft, 
 use Rattle.host_format.specs.Outcomes.{IsStopOf}
 use Rattle.host_texts.specs.States.{with_texts}
 use Rattle.host_texts.specs.declared.texts.Texts.{Texts}
-use Rattle.host_names.specs.Forms.{Takes, left_of, pair_of, with_all}
+use Rattle.host_names.specs.Forms.{Takes, left_of, with_all}
 use Rattle.host_names.specs.declared.names.Names.{Names}
 
 abbrev pub Pair : Type 0
@@ -82,10 +82,6 @@ made_by t u n m name text read said b c inner same_name same_text told made =
     ∙ ap (λ (x : List ℕ). assigned read x (with_all t n inner)) (sym same_text)
     ∙ made
     ∙ ap (λ (x : Bool). Ok (with_all u m inner, x)) told
-
--- as many are left
-pub same_left : (n m : Names) → m.made ≡ n.made → m.assigns.items ≡ n.assigns.items → left_of m ≡ left_of n
-same_left n m made assigns i = map pair_of (drop (made i) (assigns i))
 
 pub stop_read : (name text read said : List ℕ) (inner : Inner) (stop : Stop) → read ≡ name → said ≡ text → IsStopOf (assigned read said inner) stop → IsStopOf (assigned name text inner) stop
 stop_read name text read said inner stop same_name same_text is =

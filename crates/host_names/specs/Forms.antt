@@ -1,7 +1,8 @@
 -- The shared state, and forms of the host, with the names and the assignments that are kept.
-use Rattle.std.specs.Prelude.{◌≡◌, ℕ, List, [], ◌∷◌, drop, map, Option, Some, None, Result, Err}
+use Rattle.std.specs.Prelude.{◌≡◌, ℕ, Bool, true, false, List, [], ◌∷◌, drop, map, Option, Some, None, IsSome, Result, Err}
 use Rattle.awk_state.specs.SharedState.{Inner}
 use Rattle.awk_state.specs.declared.constants.NameKind.{NameKind}
+use Rattle.awk_values.specs.declared.value.Value.{Value}
 use Rattle.wasm_store.specs.declared.word.Word.{Word}
 use Rattle.host_values.specs.Evaluations.{Values}
 use Rattle.host_values.specs.declared.reply.Refusal.{Refusal}
@@ -26,6 +27,15 @@ left_of n = map pair_of (drop n.made n.assigns.items)
 
 abbrev pub with_names : Names → Inner → Inner
 with_names n inner = record inner { names = map name_of n.names.items; assigns = left_of n; pending = n.pending }
+
+-- nothing changes but this
+abbrev pub with_pending : Option (ℕ × Value) → Names → Names
+with_pending pending n = record n { pending = pending }
+
+-- one is to be made now, or what is to be made is as it was
+abbrev pub PendsBy : Bool → Names → Names → Type 0
+PendsBy true old new = IsSome new.pending
+PendsBy false old new = new.pending ≡ old.pending
 
 -- with these special variables and this record too
 abbrev pub with_all : Texts → Names → Inner → Inner

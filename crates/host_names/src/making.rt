@@ -4,7 +4,7 @@ ghost use Rattle.awk_state.specs.Assignments.{assigned, assigned_by};
 ghost use Rattle.awk_state.specs.InputRows.{start_assign_row};
 ghost use Rattle.awk_state.specs.SharedState.{Inner};
 ghost use Rattle.host_format.specs.Outcomes.{IsStopOf};
-ghost use Rattle.host_names.specs.Forms.{with_all};
+ghost use Rattle.host_names.specs.Forms.{PendsBy, with_all, with_pending};
 
 use crate::name::{special_named, takes_none};
 use crate::names::Names;
@@ -25,8 +25,9 @@ fn assign_by(
 ) -> Result<bool, Stop>
     ensures ok { IfOk result (λ pending. (inner : Inner) → assigned_by special name.now text (with_all texts.old names.old inner) ≡ Ok (with_all texts.new names.new inner, pending)) }
     ensures err { IfErr result (λ stop. (inner : Inner) → IsStopOf (assigned_by special name.now text (with_all texts.old names.old inner)) stop) }
-    ensures made { names.new.made ≡ names.old.made }
-    ensures assigns { names.new.assigns.items ≡ names.old.assigns.items }
+    ensures rest { names.new ≡ with_pending names.new.pending names.old }
+    ensures pending { IfOk result (λ pending. PendsBy pending names.old names.new) }
+    ensures substituted { texts.new.substituted ≡ texts.old.substituted }
 {
     let Some(special) = special else {
         return names.keep(name, text);
@@ -52,8 +53,9 @@ pub fn assign(
 ) -> Result<bool, Stop>
     ensures ok { IfOk result (λ pending. (inner : Inner) → assigned name.now text.now (with_all texts.old names.old inner) ≡ Ok (with_all texts.new names.new inner, pending)) }
     ensures err { IfErr result (λ stop. (inner : Inner) → IsStopOf (assigned name.now text.now (with_all texts.old names.old inner)) stop) }
-    ensures made { names.new.made ≡ names.old.made }
-    ensures assigns { names.new.assigns.items ≡ names.old.assigns.items }
+    ensures rest { names.new ≡ with_pending names.new.pending names.old }
+    ensures pending { IfOk result (λ pending. PendsBy pending names.old names.new) }
+    ensures substituted { texts.new.substituted ≡ texts.old.substituted }
 {
     if takes_none(name) {
         return Err(Stop::Fault(Fault::BadAssignment));

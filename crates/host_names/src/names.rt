@@ -3,7 +3,7 @@ ghost use Rattle.std.specs.Prelude.{◌≡◌, [], ◌∷◌, ◌++◌, IfErr, I
 ghost use Rattle.awk_state.specs.Assignments.{assigned_global, declared};
 ghost use Rattle.awk_state.specs.SharedState.{Inner};
 ghost use Rattle.host_format.specs.Outcomes.{IsStopOf};
-ghost use Rattle.host_names.specs.Forms.{Takes, left_of, name_of, pair_of, with_names};
+ghost use Rattle.host_names.specs.Forms.{PendsBy, Takes, left_of, name_of, pair_of, with_names, with_pending};
 
 use awk_state::NameKind;
 use awk_values::{Bytes, Fault, Stop, Value};
@@ -93,8 +93,8 @@ impl Names {
         ensures ok { IfOk result (λ kept. (inner : Inner) → assigned_global (declared 0 name.now (map name_of self.old.names.items)) text (with_names self.old inner) ≡ Ok (with_names self.new inner, kept)) }
         ensures err { IfErr result (λ stop. (inner : Inner) → IsStopOf (assigned_global (declared 0 name.now (map name_of self.old.names.items)) text (with_names self.old inner)) stop) }
         ensures refused { OnErr result (self.new ≡ self.old) }
-        ensures made { self.new.made ≡ self.old.made }
-        ensures assigns { self.new.assigns.items ≡ self.old.assigns.items }
+        ensures rest { self.new ≡ with_pending self.new.pending self.old }
+        ensures pending { IfOk result (λ kept. PendsBy kept self.old self.new) }
     {
         match declared(self.names.as_slice(), name) {
             None => Ok(false),

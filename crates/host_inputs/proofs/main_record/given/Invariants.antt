@@ -16,7 +16,7 @@ invariant-turns g l =
       outside : w.tells → (w.state l.world).outside ≡ (w.state l.fn.world).outside;
       rest : IsMoved l.fn.input l.input;
       substituted : KeepsSubstituted l.fn.texts l.texts;
-      pending : l.input.pending ≡ l.fn.input.pending;
+      pending : l.input.names.pending ≡ l.fn.input.names.pending;
       told : w.tells → (inner : Inner) → OffersTexts (g.O.Operands.text l.operands) inner →
           main_input (w.state l.fn.world).outside (with_tables l.fn.texts l.fn.input (w.state l.fn.world) inner) ≡ main_input (w.state l.fn.world).outside (with_tables l.texts l.input (w.state l.world) inner);
     }

@@ -1,10 +1,8 @@
-use Rattle.std.proofs.Common.{ap, subst, sym, ◌∙◌, true, false}
+use Rattle.std.proofs.Common.{refl, ap, subst, sym, ◌∙◌, true, false}
 use Rattle.awk_state.specs.InputRows.{main_input}
 use Rattle.host_streams.specs.declared.main_input.MainNext.TheVariants as main
-use Rattle.host_streams.specs.Mains.{main_of}
 use Rattle.host_inputs.specs.Givens.{TurnGives}
 use Rattle.host_inputs.specs.States.{with_input, with_tables}
-use Rattle.host_inputs.specs.declared.input.Input.{Input}
 use Rattle.host_inputs.proofs.Turns.{assign_made, assign_pends, assign_stops, goes_on, next_told, renamed, renamed_stop, stopped_gives, told_live, told_rests}
 use Rattle.host_inputs.proofs.turn.turn.Goals as goal
 
@@ -22,26 +20,26 @@ returns-in-Ok-Opened-clause-told g c = λ tells inner offered.
 pub returns-in-Ok-true-clause-told : goal.returns-in-Ok-true-clause-told
 returns-in-Ok-true-clause-told g c = λ tells inner offered.
     let now = g.W.World.state c.next.new.world in
-    assign_pends _ _ c.in-Ok-Assign.name c.in-Ok-Assign.text (with_tables c.args.texts.now c.next.new.input now inner) (with_tables c.assign.new.texts c.assign.new.input now inner)
+    assign_pends _ _ c.in-Ok-Assign.name c.in-Ok-Assign.text (with_tables c.args.texts.now c.next.new.input now inner) (with_tables c.assign.new.texts (record c.next.new.input { names = c.assign.new.names }) now inner)
     (next_told (main.Assign c.in-Ok-Assign.name c.in-Ok-Assign.text) _ _ _ _ c.in-Ok-Assign.field-0-is (c.in-Ok-Assign.ensures.told tells inner offered))
-    (renamed c.as_slice.result.now c.as_slice-in-Ok-Assign.result.now c.in-Ok-Assign.name c.in-Ok-Assign.text c.in-Ok-true.field-0 true _ _ c.as_slice.ensures.value c.as_slice-in-Ok-Assign.ensures.value c.in-Ok-true.field-0-test (c.in-Ok-true.ensures.ok now inner))
+    (renamed c.as_slice.result.now c.as_slice-in-Ok-Assign.result.now c.in-Ok-Assign.name c.in-Ok-Assign.text c.in-Ok-true.field-0 true _ _ c.as_slice.ensures.value c.as_slice-in-Ok-Assign.ensures.value c.in-Ok-true.field-0-test (c.in-Ok-true.ensures.ok (with_input c.next.new.input now inner)))
 
 pub returns-in-Ok-false-clause-told : goal.returns-in-Ok-false-clause-told
 returns-in-Ok-false-clause-told g c = λ tells inner offered.
     let now = g.W.World.state c.next.new.world in
     let rests = told_rests c.in-Ok-Assign.name c.in-Ok-Assign.text c.next.new.input.main c.in-Ok-Assign.field-0-is c.in-Ok-Assign.ensures.rests in
-    assign_made _ _ c.in-Ok-Assign.name c.in-Ok-Assign.text (with_tables c.args.texts.now c.next.new.input now inner) (with_tables c.assign.new.texts c.assign.new.input now inner)
+    assign_made _ _ c.in-Ok-Assign.name c.in-Ok-Assign.text (with_tables c.args.texts.now c.next.new.input now inner) (with_tables c.assign.new.texts (record c.next.new.input { names = c.assign.new.names }) now inner)
     (next_told (main.Assign c.in-Ok-Assign.name c.in-Ok-Assign.text) _ _ _ _ c.in-Ok-Assign.field-0-is (c.in-Ok-Assign.ensures.told tells inner offered))
-    (renamed c.as_slice.result.now c.as_slice-in-Ok-Assign.result.now c.in-Ok-Assign.name c.in-Ok-Assign.text c.in-Ok-false.field-0 false _ _ c.as_slice.ensures.value c.as_slice-in-Ok-Assign.ensures.value c.in-Ok-false.field-0-test (c.in-Ok-false.ensures.ok now inner))
-    ∙ goes_on (g.W.World.state c.args.world.now).outside c.next.new.input.main now (with_tables c.assign.new.texts c.assign.new.input now inner) (ap (λ (i : Input). main_of i.main now) c.assign.ensures.rest)
+    (renamed c.as_slice.result.now c.as_slice-in-Ok-Assign.result.now c.in-Ok-Assign.name c.in-Ok-Assign.text c.in-Ok-false.field-0 false _ _ c.as_slice.ensures.value c.as_slice-in-Ok-Assign.ensures.value c.in-Ok-false.field-0-test (c.in-Ok-false.ensures.ok (with_input c.next.new.input now inner)))
+    ∙ goes_on (g.W.World.state c.args.world.now).outside c.next.new.input.main now (with_tables c.assign.new.texts (record c.next.new.input { names = c.assign.new.names }) now inner) refl
     (told_live c.in-Ok-Assign.name c.in-Ok-Assign.text c.next.new.input.main c.in-Ok-Assign.field-0-is c.in-Ok-Assign.ensures.live) rests.0 rests.1
 
 pub returns-in-Ok-Assign-clause-told : goal.returns-in-Ok-Assign-clause-told
 returns-in-Ok-Assign-clause-told g c = λ tells inner offered.
     let now = g.W.World.state c.next.new.world in
-    assign_stops _ _ c.in-Ok-Assign.name c.in-Ok-Assign.text (with_tables c.args.texts.now c.next.new.input now inner) (with_tables c.assign.new.texts c.assign.new.input now inner)
+    assign_stops _ _ c.in-Ok-Assign.name c.in-Ok-Assign.text (with_tables c.args.texts.now c.next.new.input now inner) (with_tables c.assign.new.texts (record c.next.new.input { names = c.assign.new.names }) now inner)
     (next_told (main.Assign c.in-Ok-Assign.name c.in-Ok-Assign.text) _ _ _ _ c.in-Ok-Assign.field-0-is (c.in-Ok-Assign.ensures.told tells inner offered)) c.in-Err-assign.stop
-    (renamed_stop c.as_slice.result.now c.as_slice-in-Ok-Assign.result.now c.in-Ok-Assign.name c.in-Ok-Assign.text _ c.in-Err-assign.stop c.as_slice.ensures.value c.as_slice-in-Ok-Assign.ensures.value (c.in-Err-assign.ensures.err now inner))
+    (renamed_stop c.as_slice.result.now c.as_slice-in-Ok-Assign.result.now c.in-Ok-Assign.name c.in-Ok-Assign.text _ c.in-Err-assign.stop c.as_slice.ensures.value c.as_slice-in-Ok-Assign.ensures.value (c.in-Err-assign.ensures.err (with_input c.next.new.input now inner)))
 
 pub returns-clause-told : goal.returns-clause-told
 returns-clause-told g c = λ tells inner offered.

@@ -9,6 +9,7 @@ use Rattle.host_format.specs.Outcomes.{IsStopOf}
 use Rattle.host_texts.specs.States.{with_texts}
 use Rattle.host_names.specs.Forms.{with_all, with_names}
 use Rattle.host_names.proofs.Assigned.{stop_made}
+use Rattle.host_names.proofs.Stays.{substituted_stays}
 use Rattle.host_names.proofs.making.assign_by.Goals as goal
 
 pub returns-in_default-clause-ok : goal.returns-in_default-clause-ok
@@ -29,6 +30,9 @@ pub returns-in-Ok-clause-ok : goal.returns-in-Ok-clause-ok
 returns-in-Ok-clause-ok c inner =
     let all = with_all c.args.texts.now c.args.names.now inner in
     ap (λ (s : Option Special). assigned_by s c.args.name.now c.args.text all) c.in-Some.is ∙ ap made_here (c.in-Ok.ensures.ok (with_names c.args.names.now inner))
+
+pub returns-in-Ok-clause-substituted : goal.returns-in-Ok-clause-substituted
+returns-in-Ok-clause-substituted c = substituted_stays c.args.texts.now c.put_special.new.texts c.in-Some.special (StrNum c.args.text) c.in-Ok.ensures.ok
 
 pub returns-clause-err : goal.returns-clause-err
 returns-clause-err c inner =

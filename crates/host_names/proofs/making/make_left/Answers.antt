@@ -1,9 +1,9 @@
-use Rattle.std.proofs.Common.{ℕ, List, Option, true, false, ◌∙◌, sym, subst}
+use Rattle.std.proofs.Common.{ℕ, List, Option, true, false, ◌∙◌, sym, ap, subst}
 use Rattle.std.proofs.lemmas.Result.{err_from_is_err_and}
 use Rattle.awk_state.specs.SharedState.{Inner}
 use Rattle.host_format.specs.Outcomes.{IsStopOf}
-use Rattle.host_names.specs.Forms.{Takes}
-use Rattle.host_names.proofs.Assigned.{made_by, made_here, made_there, not_made, same_left, stop_read, taken}
+use Rattle.host_names.specs.Forms.{Takes, left_of}
+use Rattle.host_names.proofs.Assigned.{made_by, made_here, made_there, not_made, stop_read, taken}
 use Rattle.host_names.proofs.making.make_left.Goals as goal
 
 pub returns-then-branch-clause-ok : goal.returns-then-branch-clause-ok
@@ -19,7 +19,7 @@ loop-name-preserved c inner =
     let takes = subst (λ (next : Option (List ℕ × List ℕ)). Takes c.loop-name.names next new) c.in-Some.is c.in_ok-name.ensures in
     let made = made_by c.loop-name.texts c.assign.new.texts new c.assign.new.names c.in-Some.name c.in-Some.text _ _ _ false inner c.as_slice.ensures.value c.as_slice-in-Some.ensures.value c.if-branch.false (c.in_ok-assign.ensures.ok inner) in
     c.loop-name.invariant inner ∙ taken c.loop-name.texts c.loop-name.names new (c.in-Some.name, c.in-Some.text) inner takes
-    ∙ made_here c.loop-name.texts c.assign.new.texts new c.assign.new.names (c.in-Some.name, c.in-Some.text) inner made (same_left new c.assign.new.names c.assign.ensures.made c.assign.ensures.assigns)
+    ∙ made_here c.loop-name.texts c.assign.new.texts new c.assign.new.names (c.in-Some.name, c.in-Some.text) inner made (ap left_of c.assign.ensures.rest)
 
 pub returns-in_err-assign-clause-err : goal.returns-in_err-assign-clause-err
 returns-in_err-assign-clause-err c =

@@ -7,4 +7,4 @@ returns-clause-held c = λ kinds. holds_new _ kinds (c.new.ensures.held kinds) (
 
 pub returns-clause-begins : goal.returns-clause-begins
 returns-clause-begins c = λ state inner.
-    begins_new (record { main = c.new.result; files = c.new-2.result; names = c.new-3.result; pending = None; line = None; in_end = false }) state inner (c.new.ensures.begins state) c.new-2.ensures.none refl c.new-3.ensures.items refl refl
+    begins_new (record { main = c.new.result; files = c.new-2.result; names = c.args.names; line = None; in_end = false }) state inner (c.new.ensures.begins state) c.new-2.ensures.none refl refl
