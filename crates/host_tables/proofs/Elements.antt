@@ -45,3 +45,14 @@ pair_more base arrays now xs i d item text held within same is put =
     ∙ ap (λ (p : NamedText). map.insert base (pos 1) (set_pair p.name (StrNum p.text) so_far)) same
     ∙ ap (map.insert base (pos 1)) (sym (stored-set_pair (get_or xs i d).name (StrNum (get_or xs i d).text) so_far) ∙ sym (environ_last [] (map_list pair_of (take i xs)) (pair_of (get_or xs i d))))
     ∙ ap (λ (ps : List (List ℕ × List ℕ)). map.insert base (pos 1) (environment_in [] ps)) (sym (map_more pair_of xs i d within))
+
+-- the next pair that is copied
+pub copied_more : (copy now xs : List NamedText) (i : ℕ) (d item : NamedText) (name text : List ℕ) → copy ≡ take i xs → i < length xs → item ≡ get_or xs i d → name ≡ item.name → text ≡ item.text
+    → now ≡ copy ++ record { name = name; text = text } ∷ [] → now ≡ take (i + 1) xs
+copied_more copy now xs i d item name text held within same name_is text_is pushed =
+    pushed
+    ∙ ap (λ (n : List ℕ). copy ++ record { name = n; text = text } ∷ []) name_is
+    ∙ ap (λ (t : List ℕ). copy ++ record { name = item.name; text = t } ∷ []) text_is
+    ∙ ap (λ (p : NamedText). copy ++ p ∷ []) same
+    ∙ ap (λ (ps : List NamedText). ps ++ get_or xs i d ∷ []) held
+    ∙ sym (take_more xs i d within)

@@ -18,7 +18,7 @@ use Rattle.host_elements.specs.Forms.{Arrays, IsHeld, Past, Shows, Stands, state
 use Rattle.host_elements.proofs.Places.{added, inserted}
 use Rattle.host_names.specs.Forms.{left_of, name_of}
 use Rattle.host_tables.specs.Starts.{argv_and_environ, form_of}
-use Rattle.host_tables.specs.declared.start.Tables.{Tables}
+use Rattle.host_tables.specs.declared.start.FirstTables.{FirstTables}
 use Rattle.world_core.specs.WorldState.{Outside, Source}
 
 -- Places.
@@ -82,7 +82,7 @@ there_second argv = ap is_some (inserted no_pairs (pos 0) argv (pos 1) ∙ inser
 
 -- The state.
 
-pub record Begins (t : Tables) (job : JobForm) : Type 0 where
+pub record Begins (t : FirstTables) (job : JobForm) : Type 0 where
   pub handles : t.handles ≡ nothing
   pub arrays : t.arrays ≡ argv_and_environ job
   pub iterators : t.iterators ≡ nothing
@@ -95,7 +95,7 @@ pub record Begins (t : Tables) (job : JobForm) : Type 0 where
   pub arguments : t.arguments.items ≡ []
   pub fault : t.fault ≡ fault_of_job job
 
-module _ (t : Tables) (job : JobForm) (b : Begins t job) (input : Source) (outside : Outside) where
+module _ (t : FirstTables) (job : JobForm) (b : Begins t job) (input : Source) (outside : Outside) where
   abbrev argv : Pairs
   argv = arguments_from 0 (codes "awk" ∷ job.operands)
 

@@ -7,17 +7,21 @@ use Rattle.host_elements.specs.Forms.{Arrays, HostForm}
 use Rattle.host_names.specs.Forms.{pair_of, with_all}
 use Rattle.host_names.specs.declared.names.NamedText.{NamedText}
 use Rattle.host_tables.specs.declared.job.Job.{Job}
-use Rattle.host_tables.specs.declared.start.Tables.{Tables}
+use Rattle.host_tables.specs.declared.start.FirstTables.{FirstTables}
 
 abbrev pub job_of : Job → JobForm
 job_of job = record { operands = job.operands.items; assigns = map_list pair_of job.assigns.items; environment = map_list pair_of job.environment.items }
+
+-- nothing at all
+abbrev pub empty_job : JobForm
+empty_job = record { operands = []; assigns = []; environment = [] }
 
 -- one of both is past the limit
 abbrev pub is_long_pair : NamedText → Bool
 is_long_pair p = is_long p.name || is_long p.text
 
 -- these tables, where all else that is shared is that of a state
-abbrev pub form_of : Tables → Shared → HostForm
+abbrev pub form_of : FirstTables → Shared → HostForm
 form_of t shared = record {
   values = t.handles;
   arrays = t.arrays;

@@ -1,11 +1,12 @@
 //! An array takes the pieces of a text.
-ghost use Rattle.std.specs.Prelude.{◌≡◌, ◌+◌, OnOk, decimal, map, true};
+ghost use Rattle.std.specs.Prelude.{◌≡◌, ◌+◌, None, OnErr, OnOk, decimal, map, true};
 ghost use Rattle.std.specs.FinMap as maps;
 ghost use Rattle.std.specs.List.{All};
 ghost use Rattle.awk_state.specs.ArrayRows.{numbered};
 ghost use Rattle.awk_values.specs.declared.value.Value.{Value as AnyValue};
 ghost use Rattle.host_arrays.specs.Pairs.{pairs_at, set_pair};
 ghost use Rattle.host_format.specs.Spans.{IsInside, span_text};
+ghost use Rattle.host_values.specs.Calls.{spare};
 
 use awk_text::text_of;
 use awk_values::{Bytes, Value};
@@ -22,7 +23,8 @@ pub(crate) fn put_text(
     text: Bytes,
 ) -> Result<(), AllocError>
     requires { maps.contains_key arrays.old array ≡ true }
-    ensures { OnOk result (arrays.new ≡ maps.insert arrays.old array (set_pair (decimal number) (AnyValue.StrNum text) (pairs_at arrays.old array))) }
+    ensures put { OnOk result (arrays.new ≡ maps.insert arrays.old array (set_pair (decimal number) (AnyValue.StrNum text) (pairs_at arrays.old array))) }
+    ensures refused { OnErr result (arrays.new ≡ arrays.old) }
 {
     let Ok(number) = i64::try_from(number) else {
         return Err(AllocError);
@@ -44,7 +46,8 @@ pub(crate) fn fill(
 ) -> Result<(), AllocError>
     requires there { maps.contains_key arrays.old array ≡ true }
     requires inside { All (IsInside text.now) spans.now }
-    ensures { OnOk result (arrays.new ≡ maps.insert arrays.old array (numbered 1 (map (span_text text.now) spans.now))) }
+    ensures filled { OnOk result (arrays.new ≡ maps.insert arrays.old array (numbered 1 (map (span_text text.now) spans.now))) }
+    ensures spare { maps.get arrays.old spare ≡ None → maps.get arrays.new spare ≡ None }
 {
     arrays.clear(array);
     for (at, span) in spans.iter().enumerate() {

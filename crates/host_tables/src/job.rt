@@ -2,10 +2,11 @@
 ghost use Rattle.std.specs.List.{list_any};
 ghost use Rattle.std.specs.Prelude.{◌≡◌, ◌||◌};
 ghost use Rattle.awk_state.specs.Jobs.{fault_of_job, is_long};
-ghost use Rattle.host_tables.specs.Starts.{is_long_pair, job_of};
+ghost use Rattle.host_tables.specs.Starts.{empty_job, is_long_pair, job_of};
 
 use awk_values::{Bytes, Fault};
 use host_names::NamedText;
+use std::alloc::Global;
 
 /// The greatest length of a text.
 const TEXT_LIMIT: usize = 1 << 26;
@@ -19,6 +20,19 @@ pub struct Job {
     pub assigns: Vec<NamedText>,
     /// The environment; a later pair of a name replaces an earlier one.
     pub environment: Vec<NamedText>,
+}
+
+impl Job {
+    /// A job without operands, assignments or environment. It takes no memory.
+    pub fn empty(alloc: Global) -> Job
+        ensures { job_of result ≡ empty_job }
+    {
+        Job {
+            operands: Vec::new(alloc),
+            assigns: Vec::new(alloc),
+            environment: Vec::new(alloc),
+        }
+    }
 }
 
 fn is_long(text: &Bytes) -> bool

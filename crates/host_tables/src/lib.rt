@@ -12,4 +12,4 @@ mod words;
 pub use families::{append, format_last, on_texts, on_values, release};
 pub use job::Job;
 pub use splits::split;
-pub use start::Tables;
+pub use start::FirstTables;

@@ -33,7 +33,8 @@ fn take_pieces(
 ) -> Result<Option<Word>, Refusal>
     requires there { maps.contains_key arrays.old array ≡ true }
     requires inside { All (IsInside text.now) spans.now }
-    ensures { IsFilled result (length spans.now) (maps.insert arrays.old array (numbered 1 (map (span_text text.now) spans.now))) arrays.new }
+    ensures filled { IsFilled result (length spans.now) (maps.insert arrays.old array (numbered 1 (map (span_text text.now) spans.now))) arrays.new }
+    ensures spare { maps.get arrays.old spare ≡ None → maps.get arrays.new spare ≡ None }
 {
     match fill(alloc, arrays, array, text, spans) {
         Ok(()) => Ok(Some(Word::I64(counted(spans.len()).cast_unsigned()))),
@@ -54,6 +55,7 @@ pub fn split(
 ) -> Result<Option<Word>, Refusal>
     ensures step { (f : HostForm) (memory : List ℕ) → f.fault ≡ None → IsTableCall (Import.Of row.Split) (with_arrays handles.old arrays.old f) words.now memory result (with_arrays handles.new arrays.new f) }
     ensures spare { maps.get handles.old spare ≡ None → maps.get handles.new spare ≡ None }
+    ensures spare_array { maps.get arrays.old spare ≡ None → maps.get arrays.new spare ≡ None }
 {
     let (first, value, array, second, between, is_ere) = match split_front(arrays, handles, words) {
         Ok(said) => said,

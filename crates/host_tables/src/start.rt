@@ -21,9 +21,9 @@ use smallvec::SmallVec;
 use std::alloc::{AllocError, Global};
 use std::hash::RandomState;
 
-/// All tables of the host but those of open files and of the main input.
+/// All tables of the host but those of open files and of the main input, as a job begins with them.
 #[derive(Drop)]
-pub struct Tables {
+pub struct FirstTables {
     pub handles: Handles,
     pub arrays: Arrays,
     pub iterators: Iterators,
@@ -40,6 +40,19 @@ fn copied(text: &Bytes) -> Result<Bytes, AllocError>
     ensures { IfOk result (λ copy. copy ≡ text.now) }
 {
     text.clone()
+}
+
+/// The same pairs, whose texts are shared.
+fn copied_pairs(alloc: Global, pairs: &[NamedText]) -> Result<Vec<NamedText>, AllocError>
+    ensures { IfOk result (λ copy. copy.items ≡ pairs.now) }
+{
+    let mut copy = Vec::new(alloc);
+    for pair in pairs {
+        let name = copied(&pair.name)?;
+        let text = copied(&pair.text)?;
+        copy.push(NamedText { name, text })?;
+    }
+    Ok(copy)
 }
 
 /// ARGV: the name of awk, and the operands by their numbers.
@@ -83,30 +96,31 @@ fn first_arrays(alloc: Global, job: &Job, state: RandomState) -> Result<Arrays, 
     Ok(arrays)
 }
 
-impl Tables {
+impl FirstTables {
     /// The tables before a script runs. The keys of arrays are hashed by the state; no answer depends on it.
     ///
     /// # Errors
     ///
     /// There is no memory.
-    pub fn at_start(alloc: Global, job: Job, state: RandomState) -> Result<Tables, AllocError>
-        ensures stands { IfOk result (λ t. (input : Source) (outside : Outside) → Stands (form_of t (shared_at_start (job_of job) input outside)) (state_at_start (job_of job) input outside)) }
+    pub fn at_start(alloc: Global, job: &Job, state: RandomState) -> Result<FirstTables, AllocError>
+        ensures stands { IfOk result (λ t. (input : Source) (outside : Outside) → Stands (form_of t (shared_at_start (job_of job.now) input outside)) (state_at_start (job_of job.now) input outside)) }
         ensures values { IfOk result (λ t. maps.get t.handles spare ≡ None) }
         ensures arrays { IfOk result (λ t. maps.get t.arrays spare ≡ None) }
         ensures iterators { IfOk result (λ t. maps.get t.iterators spare ≡ None) }
     {
-        let fault = fault_of(&job);
+        let fault = fault_of(job);
         let Ok(operands) = u32::try_from(job.operands.len()) else {
             return Err(AllocError);
         };
-        let arrays = first_arrays(alloc, &job, state)?;
+        let arrays = first_arrays(alloc, job, state)?;
         let texts = Texts::at_start(alloc, operands)?;
-        Ok(Tables {
+        let assigns = copied_pairs(alloc, job.assigns.as_slice())?;
+        Ok(FirstTables {
             handles: Handles::new(alloc),
             arrays,
             iterators: Iterators::new(alloc),
             texts,
-            names: Names::at_start(alloc, job.assigns),
+            names: Names::at_start(alloc, assigns),
             arguments: SmallVec::new(alloc),
             fault,
         })

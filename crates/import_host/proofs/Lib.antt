@@ -1,2 +1,3 @@
-mod LetGo
-mod Told
+pub mod LetGo
+pub mod Quiet
+pub mod Tellings

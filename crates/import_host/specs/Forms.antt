@@ -1,4 +1,6 @@
 -- The host's form with its tables.
+use Rattle.host_names.specs.Forms.{with_all}
+use Rattle.host_names.specs.declared.names.Names.{Names}
 use Rattle.host_texts.specs.States.{with_texts}
 use Rattle.host_elements.specs.Forms.{HostForm}
 use Rattle.import_host.specs.declared.held.Tables.{Tables}
@@ -13,3 +15,7 @@ of_tables t f = record {
   arguments = t.arguments.items;
   fault = t.fault;
 }
+
+-- with the names of the script and the assignments of the command line beside them
+abbrev pub of_tables_and_names : Tables → Names → HostForm → HostForm
+of_tables_and_names t n f = record (of_tables t f) { shared = record f.shared { inner = with_all t.texts n f.shared.inner } }

@@ -15,7 +15,7 @@ use wasm_store::{TrapKind, Word};
 const FAULTED: u64 = 1 << 63;
 
 /// What is answered in the place of an answer where a fault is kept.
-pub(crate) fn refusal(answer: Answer) -> Option<Word>
+pub fn refusal(answer: Answer) -> Option<Word>
     ensures { result ≡ refusal answer }
 {
     match answer {
@@ -26,7 +26,7 @@ pub(crate) fn refusal(answer: Answer) -> Option<Word>
 }
 
 /// Whether an import only refuses: after a fault every one does but those that let something go.
-pub(crate) fn refuses(import: Import, kept: Option<Fault>) -> bool
+pub fn refuses(import: Import, kept: Option<Fault>) -> bool
     ensures { result ≡ refuses import kept }
 {
     kept.is_some() && !import.lets_go()
@@ -44,7 +44,7 @@ fn fits(answer: Answer, word: Option<Word>) -> bool
 }
 
 /// What is answered for a call that came to this. A word that does not fit is never given.
-pub(crate) fn told(import: Import, outcome: Result<Option<Word>, Refusal>) -> HostAnswer
+pub fn told(import: Import, outcome: Result<Option<Word>, Refusal>) -> HostAnswer
     ensures { result ≡ told_as import outcome }
 {
     let answer = import.answer();

@@ -12,15 +12,18 @@ use smallvec::SmallVec;
 use std::alloc::Global;
 
 /// Values, arrays and iterators by their numbers; special variables, record and what else belongs to texts; the argument list; the fault that is kept.
+/// The number 2^31 - 1 stays free in each table.
 #[derive(Drop)]
 pub struct Tables {
-    pub(crate) alloc: Global,
-    pub(crate) handles: Handles,
-    pub(crate) arrays: Arrays,
-    pub(crate) iterators: Iterators,
-    pub(crate) texts: Texts,
-    pub(crate) arguments: SmallVec<Value, 8>,
-    pub(crate) fault: Option<Fault>,
+    pub alloc: Global,
+    pub handles: Handles,
+    pub arrays: Arrays,
+    pub iterators: Iterators,
+    pub texts: Texts,
+    /// The argument list.
+    pub arguments: SmallVec<Value, 8>,
+    /// The fault that is kept.
+    pub fault: Option<Fault>,
     ghost free_handle: { map.get handles spare ≡ None },
     ghost free_array: { map.get arrays spare ≡ None },
     ghost free_iterator: { map.get iterators spare ≡ None },

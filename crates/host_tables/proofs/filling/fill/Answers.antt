@@ -1,7 +1,9 @@
-use Rattle.std.proofs.Common.{◌+◌, ◌<◌, ◌^◌, arith}
+use Rattle.std.proofs.Common.{◌+◌, ◌<◌, ◌^◌, arith, ◌∙◌}
+use Rattle.std.proofs.lemmas.Int.{to_z-of_z}
+use Rattle.std.specs.Int.{w32}
 use Rattle.host_format.specs.Spans.{span_text}
 use Rattle.host_format.specs.declared.span.Span.{Span}
-use Rattle.host_tables.proofs.Numbered.{put_more, there_put}
+use Rattle.host_tables.proofs.Numbered.{free_put, put_more, there_put}
 use Rattle.host_tables.proofs.filling.fill.Goals as goal
 
 pub put_text-requires : goal.put_text-requires
@@ -11,4 +13,13 @@ pub loop-at-preserved : goal.loop-at-preserved
 loop-at-preserved c =
     let none : Span = record { start = 0; end = 0 } in
     let small : c.loop-at.at + 1 < 2 ^ 64 = omega arith in
-    put_more (span_text c.args.text.now) c.args.arrays.now c.loop-at.arrays c.put_text.new.arrays _ c.args.spans.now c.loop-at.at none c.in_ok-piece.piece c.loop-at.invariant c.loop-at-test.true small c.in_ok-piece.ensures c.in_ok-put_text.ensures
+    put_more (span_text c.args.text.now) c.args.arrays.now c.loop-at.arrays c.put_text.new.arrays _ c.args.spans.now c.loop-at.at none c.in_ok-piece.piece c.loop-at.invariant c.loop-at-test.true small c.in_ok-piece.ensures c.in_ok-put_text.ensures.put
+
+pub returns-in_err-piece-clause-spare : goal.returns-in_err-piece-clause-spare
+returns-in_err-piece-clause-spare c free = free_put _ _ _ _ _ (to_z-of_z w32 _ c.ranges.array) c.requires.there free c.loop-at.invariant
+
+pub returns-in_err-put_text-clause-spare : goal.returns-in_err-put_text-clause-spare
+returns-in_err-put_text-clause-spare c free = free_put _ _ _ _ _ (to_z-of_z w32 _ c.ranges.array) c.requires.there free (c.in_err-put_text.ensures.refused ∙ c.loop-at.invariant)
+
+pub returns-clause-spare : goal.returns-clause-spare
+returns-clause-spare c free = free_put _ _ _ _ _ (to_z-of_z w32 _ c.ranges.array) c.requires.there free c.loop-at.invariant

@@ -1,18 +1,18 @@
 use Rattle.std.proofs.Common.{rules, ◌≡◌, length, map, ap, ◌∙◌}
 use Rattle.std.specs.FinMap as maps
 use Rattle.awk_state.specs.SharedState.{specials_at_start}
-use Rattle.host_names.specs.Forms.{name_of}
+use Rattle.host_names.specs.Forms.{name_of, pair_of}
 use Rattle.host_tables.specs.Starts.{job_of}
-use Rattle.host_tables.specs.declared.start.Tables.{Tables}
+use Rattle.host_tables.specs.declared.start.FirstTables.{FirstTables}
 use Rattle.host_tables.proofs.Starting.{none_there, spare_first, stands}
 use Rattle.host_values.specs.Calls.{spare}
-use Rattle.host_tables.proofs.start.Tables.at_start.Goals as goal
+use Rattle.host_tables.proofs.start.FirstTables.at_start.Goals as goal
 
 pub returns-clause-stands : goal.returns-clause-stands
 returns-clause-stands c input outside =
-    let t : Tables = record { handles = c.new.result; arrays = c.in_ok-arrays.arrays; iterators = c.new-2.result; texts = c.in_ok-texts.texts; names = c.at_start-2.result; arguments = c.new-3.result; fault = c.fault_of-fault.result } in
-    let count : c.in-Ok.operands ≡ length c.args.job.operands.items = search rules in
-    stands t (job_of c.args.job)
+    let t : FirstTables = record { handles = c.new.result; arrays = c.in_ok-arrays.arrays; iterators = c.new-2.result; texts = c.in_ok-texts.texts; names = c.at_start-2.result; arguments = c.new-3.result; fault = c.fault_of-fault.result } in
+    let count : c.in-Ok.operands ≡ length c.args.job.now.operands.items = search rules in
+    stands t (job_of c.args.job.now)
     (record {
       handles = c.new.ensures;
       arrays = c.in_ok-arrays.ensures;
@@ -21,7 +21,7 @@ returns-clause-stands c input outside =
       held = c.in_ok-texts.ensures.fields;
       substituted = c.in_ok-texts.ensures.substituted;
       names = ap (map name_of) c.at_start-2.ensures.names;
-      assigns = c.at_start-2.ensures.assigns;
+      assigns = c.at_start-2.ensures.assigns ∙ ap (map pair_of) (c.in_ok-assigns.ensures ∙ c.as_slice.ensures.value);
       pending = c.at_start-2.ensures.pending;
       arguments = c.new-3.ensures.items;
       fault = c.fault_of-fault.ensures;
