@@ -11,28 +11,33 @@ ghost use Rattle.host_texts.specs.States.{holding, with_texts};
 ghost use Rattle.host_texts.specs.declared.primitive.TextPrimitive.{TextPrimitive};
 
 use crate::evaluate::text_value;
-use crate::expressions::{automaton, first};
+use crate::expressions::{first, matcher};
 use crate::reply::{Evaluated, Reply, counted};
 use crate::spent::Spent;
 use crate::texts::Texts;
 use crate::words::{flag_front, value_third};
 use awk_state::Special;
 use awk_values::{Fault, Stop, Value};
-use host_format::substitute;
 use host_handles::Handles;
 use host_values::{Refusal, ends, value_after, value_front};
+use kept_expressions::Expressions;
 use std::alloc::{AllocError, Global};
 use wasm_store::{TrapKind, Word};
 
 /// The first match, as places in the text.
-fn first_of(alloc: Global, value: &Value, ere: &Value) -> Result<Option<(usize, usize)>, Stop>
+fn first_of(
+    alloc: Global,
+    expressions: &mut Expressions,
+    value: &Value,
+    ere: &Value,
+) -> Result<Option<(usize, usize)>, Stop>
     ensures ok { IfOk result (λ found. (inner : Inner) → match_row value.now ere.now inner ≡ Ok (with_match found inner, counted (match_start found))) }
     ensures inside { IfOk result (λ found. IfSome found (λ m. (m.0 ≤ m.1) × (m.1 < 2 ^ 63))) }
     ensures err { IfErr result (λ stop. (inner : Inner) → IsStopOf (match_row value.now ere.now inner) stop) }
 {
-    let mut auto = automaton(alloc, ere)?;
+    let matcher = matcher(alloc, expressions, ere)?;
     let text = text_value(alloc, value)?;
-    first(&mut auto, text.as_slice())
+    first(matcher, text.as_slice())
 }
 
 /// Where a match begins, counted from 1, and its length; 0 and -1 of none.
@@ -74,7 +79,7 @@ fn matched(alloc: Global, texts: &mut Texts, value: &Value, ere: &Value) -> Resu
     ensures err { IfErr result (λ stop. (inner : Inner) → IsStopOf (match_row value.now ere.now inner) stop) }
     ensures refused { OnErr result (texts.new ≡ texts.old) }
 {
-    let found = first_of(alloc, value, ere)?;
+    let found = first_of(alloc, &mut texts.expressions, value, ere)?;
     let (start, length) = numbers_of(found)?;
     keep_match(texts, start, length);
     Ok(start_of(found))
@@ -126,10 +131,10 @@ fn substituted(
     ensures err { IfErr result (λ stop. (inner : Inner) → IsStopOf (substitute_row ere.now by.now target.now all inner) stop) }
     ensures refused { OnErr result (texts.new ≡ texts.old) }
 {
-    let mut auto = automaton(alloc, ere)?;
+    let matcher = matcher(alloc, &mut texts.expressions, ere)?;
     let by = text_value(alloc, by)?;
     let target = text_value(alloc, target)?;
-    match substitute(alloc, &mut auto, by.as_slice(), target.as_slice(), all) {
+    match matcher.substitute(alloc, by.as_slice(), target.as_slice(), all) {
         Ok(new) => {
             texts.substituted = Some(Value::Text(new.text));
             Ok(new.count)

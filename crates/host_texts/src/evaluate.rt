@@ -149,7 +149,7 @@ pub(crate) fn evaluate(
         TextPrimitive::Field => field(handles, texts, words),
         TextPrimitive::SetField => set_field(alloc, handles, texts, words),
         TextPrimitive::Length => length(handles, words),
-        TextPrimitive::Matches => matches(alloc, handles, words),
+        TextPrimitive::Matches => matches(alloc, handles, &mut texts.expressions, words),
         TextPrimitive::Match => match_at(alloc, handles, texts, words),
         TextPrimitive::Sub => sub(alloc, handles, texts, words),
         TextPrimitive::SubResult => sub_result(handles, texts, words),

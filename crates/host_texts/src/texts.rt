@@ -7,6 +7,7 @@ ghost use Rattle.host_texts.specs.States.{no_record, specials_of};
 use crate::specials::Specials;
 use awk_values::Value;
 use host_fields::Record;
+use kept_expressions::Expressions;
 use std::alloc::{AllocError, Global};
 
 /// What these imports read and change of the state that a script and its host share.
@@ -17,6 +18,8 @@ pub struct Texts {
     pub held: Record,
     /// What a substitution made, until it is given.
     pub substituted: Option<Value>,
+    /// The expressions that were met last.
+    pub expressions: Expressions,
 }
 
 impl Texts {
@@ -34,6 +37,7 @@ impl Texts {
             specials: Specials::at_start(alloc, operands)?,
             held: Record::new(alloc),
             substituted: None,
+            expressions: Expressions::new(alloc)?,
         })
     }
 }
