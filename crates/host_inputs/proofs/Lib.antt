@@ -1,6 +1,6 @@
 mod SpecialNumbers
 mod Kept
-mod Apart
+pub mod Apart
 mod Turns
 mod FileReads
 mod ReadSteps

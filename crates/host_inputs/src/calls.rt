@@ -71,6 +71,7 @@ pub fn read_main<W: World>(
     requires goes { W.tells → WritersGo input.old.files.writers.items (W.state world.old) }
     ensures held { HoldsInput input.new (W.kinds world.new) }
     ensures goes { W.tells → WritersGo input.new.files.writers.items (W.state world.new) }
+    ensures outside { W.tells → (W.state world.new).outside ≡ (W.state world.old).outside }
     ensures rest { IsMovedOn input.old input.new }
     ensures called { (f : HostForm) (memory : List ℕ) → f.fault ≡ None → f.arrays ≡ arrays.now → IsCalled W.tells (Import.Of (main_primitive how)) (over_world texts.old input.old (W.state world.old) f) words.now memory result (shown_after result (over_world texts.old input.old (W.state world.old) f) (over_world texts.new input.new (W.state world.new) f)) [] }
 {
@@ -111,6 +112,7 @@ pub fn read_file<W: World>(
     requires goes { W.tells → WritersGo input.old.files.writers.items (W.state world.old) }
     ensures held { HoldsInput input.new (W.kinds world.new) }
     ensures goes { W.tells → WritersGo input.new.files.writers.items (W.state world.new) }
+    ensures outside { W.tells → (W.state world.new).outside ≡ (W.state world.old).outside }
     ensures rest { IsReadOn input.old input.new }
     ensures spare { map.get handles.old spare ≡ None → map.get handles.new spare ≡ None }
     ensures called { (f : HostForm) (memory : List ℕ) → f.fault ≡ None → IsCalled W.tells (Import.Of (file_primitive to)) (with_values handles.old (over_world texts.old input.old (W.state world.old) f)) words.now memory result (shown_after result (with_values handles.old (over_world texts.old input.old (W.state world.old) f)) (with_values handles.new (over_world texts.new input.new (W.state world.new) f))) [] }
