@@ -1,9 +1,5 @@
-mod ImportLemmas
-mod WordLemmas
-mod OutputLemmas
-mod HostLemmas
-mod TypedAnswers
-mod PrimitiveSteps
-mod ListSteps
-mod PrintSteps
-mod AnswerSteps
+pub mod Comes
+pub mod Faulted
+pub mod Moved
+pub mod Starting
+pub mod Written

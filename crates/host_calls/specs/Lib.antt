@@ -1,11 +1,3 @@
-pub mod Imports
-pub mod HostState
-pub mod HostStep
-pub mod HostLaws
-pub mod Links
-pub mod Replies
-pub mod Output
-pub mod Jobs
-pub mod Hosts
+pub mod Held
 pub mod Calls
-pub mod Rows
+pub mod Forms

@@ -1,24 +1,25 @@
 //! The host.
-ghost use Rattle.std.specs.Prelude.{◌≡◌, None, pos};
-ghost use Rattle.std.specs.FinMap as map;
+ghost use Rattle.host_calls.specs.Held.{HoldsInput-prop, WritersGo-prop};
+ghost use Rattle.host_inputs.specs.States.{HoldsInput};
+ghost use Rattle.host_streams.specs.OpenFiles.{WritersGo};
+ghost use Rattle.std.specs.Coded.{→_prop};
 
-use crate::links::Links;
-use crate::specials::Specials;
-use awk_values::{Fault, Value};
-use host_handles::Handles;
-use smallvec::SmallVec;
+use host_inputs::Input;
+use import_host::Tables;
+use import_links::Links;
 use std::alloc::Global;
+use world_core::World;
 
-/// The host of a module over a world: the values that the module has handles of, the special variables, the argument list, the world, and
-/// the fault that is kept.
+/// The host of a module over a world: its tables, what it reads, the world, and a place for the line that is printed.
 #[derive(Drop)]
-pub struct Host<W> {
+pub struct Host<W: World> {
     pub(crate) alloc: Global,
     pub(crate) links: Links,
-    pub(crate) handles: Handles,
-    pub(crate) specials: Specials,
-    pub(crate) arguments: SmallVec<Value, 8>,
-    pub(crate) fault: Option<Fault>,
+    pub(crate) tables: Tables,
+    pub(crate) input: Input,
+    /// What `print` puts together, kept for its memory.
+    pub(crate) line: Vec<u8>,
     pub(crate) world: W,
-    ghost spare: { map.get handles (pos 2147483647) ≡ None },
+    ghost held: { HoldsInput input (W.kinds world) } by { HoldsInput-prop input (W.kinds world) },
+    ghost goes: { W.tells → WritersGo input.files.writers.items (W.state world) } by { →_prop (WritersGo-prop input.files.writers.items (W.state world)) },
 }

@@ -1,19 +1,17 @@
-//! The host of modules that awkwasm compiles: the imports of the module `awk1`.
+//! The host of modules that awkwasm compiles: every import of the module `awk1`, over a world.
 #![tactic(auto)]
 
+mod answers;
 mod calls;
-mod evaluate;
+mod dispatch;
+mod families;
 mod host;
-mod import;
-mod job;
-mod links;
-mod output;
-mod reply;
-mod specials;
+mod inputs;
+mod outputs;
 mod start;
-mod words;
 
 pub use host::Host;
-pub use import::{IMPORTS, Import};
-pub use job::{Job, NamedText};
-pub use links::type_of;
+pub use host_names::NamedText;
+pub use host_step::{IMPORTS, Import, Listing};
+pub use host_tables::Job;
+pub use import_links::type_of;

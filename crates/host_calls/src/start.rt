@@ -1,55 +1,55 @@
 //! The host's beginning and its end.
 ghost use Rattle.std.specs.Prelude.{◌≡◌, IfErr, IfOk};
-ghost use Rattle.host_calls.specs.Hosts.{host_state, state_at_start};
-ghost use Rattle.host_calls.specs.Jobs.{job_of};
+ghost use Rattle.form_meaning.specs.Shown.{Shown};
+ghost use Rattle.host_calls.specs.Forms.{host_form};
+ghost use Rattle.host_step.specs.Starts.{state_at_start};
+ghost use Rattle.host_tables.specs.Starts.{job_of};
 
 use crate::host::Host;
-use crate::job::Job;
-use crate::links::Links;
-use crate::specials::Specials;
 use awk_values::Fault;
-use host_handles::Handles;
-use smallvec::SmallVec;
+use host_inputs::Input;
+use host_tables::{FirstTables, Job};
+use import_host::Tables;
+use import_links::Links;
 use std::alloc::Global;
+use std::hash::RandomState;
 use world_core::World;
 
 impl<W: World> Host<W> {
-    /// The host at the start of a job: no value has a handle, the special variables have their first values, and no fault is kept but
-    /// [`Fault::TextLimit`] where a text of the job is past 67,108,864 bytes.
+    /// The host at the start of a job: no value has a handle, ARGV and ENVIRON are filled, nothing is read, and no fault is kept but
+    /// [`Fault::TextLimit`], where a text of the job is past 67,108,864 bytes. The keys of arrays are hashed by the state; no answer depends on it.
     ///
     /// # Errors
     ///
-    /// The world is handed back where memory is wanting.
-    pub fn new(alloc: Global, job: &Job, world: W) -> Result<Host<W>, W>
-        ensures started { IfOk result (λ host. host_state W.state host ≡ state_at_start (job_of job.now) (W.state world).outside) }
+    /// The world is handed back unless memory suffices.
+    pub fn new(alloc: Global, job: &Job, state: RandomState, world: W) -> Result<Host<W>, W>
+        ensures started { IfOk result (λ host. Shown (host_form W.state host)
+            (state_at_start (job_of job.now) ((W.state world).readers 0) (W.state world).outside)) }
         ensures world { IfOk result (λ host. host.world ≡ world) }
         ensures handed_back { IfErr result (λ given. given ≡ world) }
     {
-        let Ok(operands) = u32::try_from(job.operands.len()) else {
-            return Err(world);
-        };
         let Ok(links) = Links::new(alloc) else {
             return Err(world);
         };
-        let Ok(specials) = Specials::at_start(alloc, operands) else {
+        let Ok(first) = FirstTables::at_start(alloc, job, state) else {
             return Err(world);
         };
+        let (tables, names) = Tables::new(alloc, first);
         Ok(Host {
             alloc,
             links,
-            handles: Handles::new(alloc),
-            specials,
-            arguments: SmallVec::new(alloc),
-            fault: job.first_fault(),
+            tables,
+            input: Input::new(alloc, names),
+            line: Vec::new(alloc),
             world,
         })
     }
 
-    /// The first fault of the calls, which is kept.
+    /// The fault that is kept: the first one that was met.
     pub fn kept_fault(&self) -> Option<Fault>
-        ensures { result ≡ self.now.fault }
+        ensures { result ≡ self.now.tables.fault }
     {
-        self.fault
+        self.tables.fault()
     }
 
     /// The world, with the output of the calls.

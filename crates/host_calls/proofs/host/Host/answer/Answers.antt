@@ -1,25 +1,39 @@
-use Rattle.std.proofs.Common.{◌∙◌, ap, subst, sym}
-use Rattle.host_calls.specs.Calls.{MeansSome}
-use Rattle.host_calls.specs.declared.import.Import.{Import}
-use Rattle.host_calls.specs.declared.import.Import.TheVariants.{Over}
-use Rattle.host_calls.specs.HostState.{refusal}
-use Rattle.host_calls.specs.Hosts.{host_state}
-use Rattle.host_calls.proofs.AnswerSteps.{only_print, refused_means}
+use Rattle.std.proofs.Common.{[], Option, ap, subst, sym, ◌∙◌}
+use Rattle.wasm_machine.specs.declared.host.HostAnswer.{HostAnswer}
+use Rattle.wasm_machine.specs.declared.host.HostAnswer.TheVariants as told
+use Rattle.wasm_store.specs.declared.word.Word.{Word}
+use Rattle.host_step.specs.Answers.{refusal}
+use Rattle.host_step.specs.HostStep.{refuses}
+use Rattle.host_step.specs.declared.import.Import.{Import}
+use Rattle.host_elements.specs.Forms.{HostForm}
+use Rattle.import_host.specs.Answers.{told_as}
+use Rattle.import_host.proofs.Tellings.{refused_means}
+use Rattle.host_calls.specs.Calls.{ComesTo, MeansSome}
+use Rattle.host_calls.specs.Forms.{form_in, host_form}
 use Rattle.host_calls.proofs.host.Host.answer.Goals as goal
 
 pub returns-then-refuses : goal.returns-then-refuses
 returns-then-refuses g c =
-    refused_means g.W.World.tells c.args.import (host_state g.W.World.state c.args.self.now) c.args.words.now c.args.memory.now c.refusal.result c.args.self.now.spare (sym c.refuses.ensures ∙ c.if-refuses.true)
-    (c.refusal.ensures ∙ ap refusal c.answer.ensures)
+    let before = host_form g.W.World.state c.args.self.now in
+    let words = c.args.words.now in
+    let memory = c.args.memory.now in
+    subst (λ (w : Option Word). MeansSome g.W.World.tells c.args.import before words memory (told.Done w) before)
+    (sym (c.refusal.ensures ∙ ap refusal c.answer.ensures)) (
+      [],
+      refused_means g.W.World.tells c.args.import before words memory
+          (ap (refuses c.args.import) (sym c.fault.ensures) ∙ (sym c.refuses.ensures ∙ c.if-refuses.true)),
+    )
 
-pub returns-in-Of : goal.returns-in-Of
-returns-in-Of g c = subst (λ (i : Import). MeansSome g.W.World.tells i (host_state g.W.World.state c.args.self.now) c.args.words.now c.args.memory.now c.primitive.result (host_state g.W.World.state c.primitive.new.self)) (sym c.in-Of.is) c.primitive.ensures
-
-pub returns-in-Over-Print : goal.returns-in-Over-Print
-returns-in-Over-Print g c = subst (λ (i : Import). MeansSome g.W.World.tells i (host_state g.W.World.state c.args.self.now) c.args.words.now c.args.memory.now c.print.result (host_state g.W.World.state c.print.new.self)) (sym (c.in-Over-Print.is ∙ ap Over (only_print c.in-Over-Print.field-0))) (c.print.ensures c.args.memory.now)
-
-pub returns-in-Arg : goal.returns-in-Arg
-returns-in-Arg g c = subst (λ (i : Import). MeansSome g.W.World.tells i (host_state g.W.World.state c.args.self.now) c.args.words.now c.args.memory.now c.append.result (host_state g.W.World.state c.append.new.self)) (sym c.in-Arg.is) (c.append.ensures c.args.memory.now)
-
-pub returns-in-Drop : goal.returns-in-Drop
-returns-in-Drop g c = subst (λ (i : Import). MeansSome g.W.World.tells i (host_state g.W.World.state c.args.self.now) c.args.words.now c.args.memory.now c.release.result (host_state g.W.World.state c.release.new.self)) (sym c.in-Drop.is) (c.release.ensures c.args.memory.now)
+pub returns : goal.returns
+returns g c =
+    let before = host_form g.W.World.state c.args.self.now in
+    let came = c.outcome-outcome.new.self in
+    let between = host_form g.W.World.state came in
+    let after = form_in c.keep.new.self came.input (g.W.World.state came.world) in
+    let words = c.args.words.now in
+    let memory = c.args.memory.now in
+    let outcome = c.outcome-outcome.result in
+    let comes = subst (λ (i : Import). ComesTo g.W.World.tells i before words memory outcome between) c.call_of.ensures c.outcome-outcome.ensures in
+    subst (λ (a : HostAnswer). MeansSome g.W.World.tells c.args.import before words memory a after) (sym c.told.ensures)
+    (subst (λ (z : HostForm). MeansSome g.W.World.tells c.args.import before words memory (told_as c.args.import outcome) z)
+    (sym (c.keep.ensures between)) comes)

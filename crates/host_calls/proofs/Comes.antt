@@ -1,0 +1,58 @@
+-- From calls of the families to what a call of the host comes to.
+use Rattle.std.proofs.Common.{◌≡◌, ℕ, false, List, [], Option, Some, None, Result, Ok, Err, refl}
+use Rattle.awk_values.specs.declared.fault.Fault.{Fault}
+use Rattle.wasm_store.specs.declared.word.Word.{Word}
+use Rattle.world_core.specs.WorldState.{Action}
+use Rattle.host_step.specs.Worlds.{reads}
+use Rattle.host_step.specs.declared.import.Import.{Import}
+use Rattle.host_values.specs.declared.reply.Refusal.{Refusal}
+use Rattle.host_values.specs.declared.reply.Refusal.TheVariants as why
+use Rattle.host_elements.specs.Calls.{IsTableCall}
+use Rattle.host_elements.specs.Forms.{HostForm}
+use Rattle.host_names.specs.Forms.{left_after}
+use Rattle.form_meaning.specs.Shown.{SharesTables, form_with_output}
+use Rattle.form_meaning.specs.TableCalls.{TableCalls, answer_of_call}
+use Rattle.form_meaning.specs.WorldCalls.{IsCalled}
+use Rattle.form_meaning.proofs.Faults.{called_too}
+use Rattle.form_meaning.proofs.Means.{plain_calls}
+use Rattle.import_host.proofs.Tellings.{told_means, world_told}
+use Rattle.host_calls.specs.Calls.{ComesTo}
+
+module _ (tells : Type 0) (i : Import) (words : List Word) (memory : List ℕ) where
+  module _ (quiet : reads i ≡ false) where
+    -- a call on tables
+    pub table_comes : (before after-call : HostForm) (r : Result (Option Word) Refusal) → after-call.shared.outside ≡ before.shared.outside
+        → after-call.shared.output ≡ before.shared.output → TableCalls i before words memory r after-call → ComesTo tells i before words memory r after-call
+    table_comes before after-call r outside output calls = ([], told_means tells i words memory quiet before after-call outside output r calls)
+
+    -- the same where no fault is kept
+    pub plain_comes : (before after-call : HostForm) (r : Result (Option Word) Refusal) → before.fault ≡ None
+        → after-call.shared.outside ≡ before.shared.outside → after-call.shared.output ≡ before.shared.output
+        → ((so_far : List Action) → IsTableCall i (form_with_output so_far before) words memory r (form_with_output so_far after-call))
+        → ComesTo tells i before words memory r after-call
+    plain_comes before after-call r none outside output calls =
+        table_comes before after-call r outside output (plain_calls i before after-call words memory r none calls)
+
+    -- a call that at a fault leaves what is shared as it was, as the family tells it
+    pub left_comes : (before after-call : HostForm) (r : Result (Option Word) Refusal) → before.fault ≡ None
+        → after-call.shared.outside ≡ before.shared.outside → after-call.shared.output ≡ before.shared.output
+        → ((f : Fault) → SharesTables (record before { fault = Some f }) (record after-call { fault = Some f }))
+        → ((so_far : List Action) → IsTableCall i (form_with_output so_far before) words memory r
+        (left_after r (form_with_output so_far before) (form_with_output so_far after-call)))
+        → ComesTo tells i before words memory r after-call
+    left_comes before after-call (Ok w) none outside output shares calls = plain_comes before after-call (Ok w) none outside output calls
+    left_comes before after-call (Err (why.Fault f)) none outside output shares calls =
+        let faulted = plain_calls i before before words memory (Err (why.Fault f)) none calls in
+        let told = told_means tells i words memory quiet before before refl refl (Err (why.Fault f)) faulted in
+        let answer = answer_of_call i (Err (why.Fault f)) in
+        let shown = record before { fault = Some f } in
+        ([], called_too tells (Some i) before shown (record after-call { fault = Some f }) words memory answer [] f refl (shares f) told)
+    left_comes before after-call (Err (why.Trap k)) none outside output shares calls =
+        plain_comes before after-call (Err (why.Trap k)) none outside output calls
+    left_comes before after-call (Err why.NoMemory) none outside output shares calls =
+        plain_comes before after-call (Err why.NoMemory) none outside output calls
+
+  -- a call over a world, where no fault is kept
+  pub world_comes : (before after-call : HostForm) (r : Result (Option Word) Refusal) → before.fault ≡ None → (output : List Action)
+      → IsCalled tells i before words memory r after-call output → ComesTo tells i before words memory r after-call
+  world_comes before after-call r none output calls = (output, world_told tells i words memory before none output after-call r calls)

@@ -1,0 +1,113 @@
+-- Where a call writes, what is left of the main input stays as it was; in a world that does not tell its state, nobody sees whether it does.
+use Rattle.std.proofs.Common.{◌≡◌, ℕ, List, ◌++◌, Option, Some, None, Result, Ok, Err, false, refl, sym, ap, ◌∙◌, subst}
+use Rattle.awk_values.specs.declared.fault.Fault.{Fault}
+use Rattle.awk_state.specs.SharedState.{MainInput}
+use Rattle.wasm_machine.specs.declared.host.HostAnswer.{HostAnswer}
+use Rattle.wasm_machine.specs.declared.host.HostAnswer.TheVariants as told
+use Rattle.wasm_store.specs.declared.word.Word.{Word}
+use Rattle.world_core.specs.WorldState.{Action, State}
+use Rattle.host_step.specs.HostState.{HostState}
+use Rattle.host_step.specs.Worlds.{AnyhowIf, IsStepInSomeWorld, reads, unseen, unseen_main, unseen_reading}
+use Rattle.host_step.specs.declared.import.Import.{Import}
+use Rattle.host_values.specs.declared.reply.Refusal.{Refusal}
+use Rattle.host_values.specs.declared.reply.Refusal.TheVariants as why
+use Rattle.host_elements.specs.Forms.{HostForm, Past, Stands, state_of}
+use Rattle.host_streams.specs.Mains.{main_of, reading_of}
+use Rattle.host_streams.specs.declared.main_input.MainInput.{MainInput as Mains}
+use Rattle.host_streams.specs.declared.main_input.Reading.{Reading}
+use Rattle.host_streams.specs.declared.main_input.Reading.TheVariants as reading
+use Rattle.form_meaning.specs.FormMeaning.{AnyhowShown, FormCalled, FormMeans, StepShown}
+use Rattle.form_meaning.specs.Shown.{SharesBy, form_with_output}
+use Rattle.form_meaning.specs.TableCalls.{left_by_call}
+use Rattle.form_meaning.specs.WorldCalls.{IsCalled}
+use Rattle.import_host.specs.Answers.{told_as}
+use Rattle.import_host.proofs.Tellings.{world_told}
+use Rattle.host_calls.specs.Calls.{ComesTo}
+
+-- with this main input
+abbrev pub with_main : MainInput → HostForm → HostForm
+with_main m f = record f { shared = record f.shared { inner = record f.shared.inner { main = m } } }
+
+-- what is not seen of the main input is all that the world decides
+
+unseen_by : (r : Reading) (old new : State) → unseen_reading (reading_of r old) ≡ unseen_reading (reading_of r new)
+unseen_by reading.Nothing old new = refl
+unseen_by reading.Standard old new = refl
+unseen_by (reading.File r) old new = refl
+
+pub unseen_of : (m : Mains) (old new : State) → unseen_main (main_of m old) ≡ unseen_main (main_of m new)
+unseen_of m old new = ap (λ r. record (unseen_main (main_of m old)) { reading = r }) (unseen_by m.reading old new)
+
+module _ (tells : Type 0) (i : Import) (quiet : reads i ≡ false) (before f : HostForm) (words : List Word) (memory : List ℕ) (old new : MainInput)
+    (hidden : unseen_main old ≡ unseen_main new) (same : tells → old ≡ new) where
+  unseen_state : (p : Past) → unseen (state_of (with_main old f) p) ≡ unseen (state_of (with_main new f) p)
+  unseen_state p = ap (λ (z : MainInput). record (unseen (state_of (with_main old f) p)) {
+    shared = record (unseen (state_of (with_main old f) p)).shared { inner = record (unseen (state_of (with_main old f) p)).shared.inner { main = z } };
+  }) hidden
+
+  some_world : (a : HostAnswer) (s : HostState) (x y : HostState) → unseen x ≡ unseen y → AnyhowIf (reads i) i s words memory a x
+      → AnyhowIf (reads i) i s words memory a y
+  some_world a s x y e h = subst (λ b. AnyhowIf b i s words memory a y) (sym quiet)
+      (let w : IsStepInSomeWorld i s words memory a x = subst (λ b. AnyhowIf b i s words memory a x) quiet h in
+      record { old = w.old; new = w.new; output = w.output; same_before = w.same_before; same_after = w.same_after ∙ e; step = w.step })
+
+  anyhow_by : (a : HostAnswer) (s state : HostState) (fault : Option Fault) → f.fault ≡ fault → (form : HostForm) → SharesBy fault form (with_main old f)
+      → Stands form state
+      → AnyhowIf (reads i) i s words memory a state → AnyhowShown (Some i) s words memory a (with_main new f)
+  anyhow_by a s state None e form same stands any =
+      let x : Stands (with_main old f) state = subst (λ z. Stands z state) same stands in
+      let to = state_of (with_main new f) x.past in
+      record {
+        state = to;
+        shown = record {
+          form = with_main new f;
+          same = subst (λ z. SharesBy z (with_main new f) (with_main new f)) (sym e) refl;
+          stands = record { past = x.past; state = refl; arrays = x.arrays; iterators = x.iterators; first = x.first };
+        };
+        anyhow = some_world a s state to (ap unseen x.state ∙ unseen_state x.past) any;
+      }
+  anyhow_by a s state (Some fault) e form same stands any = record {
+    state = state;
+    shown = record {
+      form = form;
+      same = subst (λ z. SharesBy z form (with_main new f)) (sym e)
+          (record { values = same.values; arrays = same.arrays; iterators = same.iterators; fault = same.fault; outside = same.outside; output = same.output });
+      stands = stands;
+    };
+    anyhow = any;
+  }
+
+  called_moved : (a : HostAnswer) (output : List Action) → FormCalled tells (Some i) before words memory a (with_main old f) output
+      → FormCalled tells (Some i) before words memory a (with_main new f) output
+  called_moved a output c = record {
+    typed = c.typed;
+    step = λ t so_far s h.
+        subst (λ m. StepShown (Some i) s words memory a (form_with_output (so_far ++ output) (with_main m f)) output) (same t) (c.step t so_far s h);
+    anyhow = λ s h. let x = c.anyhow s h in anyhow_by a s x.state f.fault refl x.shown.form x.shown.same x.shown.stands x.anyhow;
+  }
+
+  pub means_moved : (a : HostAnswer) (output : List Action) → FormMeans tells (Some i) before words memory a (with_main old f) output
+      → FormMeans tells (Some i) before words memory a (with_main new f) output
+  means_moved (told.Done w) output m = called_moved (told.Done w) output m
+  means_moved (told.Trap k) output m = called_moved (told.Trap k) output m
+  means_moved told.NoMemory output m = record { outside = m.outside; begins = m.begins }
+
+-- the fault that is kept is none of the main input
+pub left_with_main : (r : Result (Option Word) Refusal) (m : MainInput) (f : HostForm) → left_by_call r (with_main m f) ≡ with_main m (left_by_call r f)
+left_with_main (Ok w) m f = refl
+left_with_main (Err (why.Fault x)) m f = refl
+left_with_main (Err (why.Trap k)) m f = refl
+left_with_main (Err why.NoMemory) m f = refl
+
+-- A call that writes: the family tells the main input as it was before.
+pub wrote_comes : (tells : Type 0) (i : Import) (words : List Word) (memory : List ℕ) → reads i ≡ false → (before f : HostForm) (old new : MainInput)
+    → unseen_main old ≡ unseen_main new → (tells → old ≡ new)
+    → (r : Result (Option Word) Refusal) → before.fault ≡ None → (output : List Action) → IsCalled tells i before words memory r (with_main old f) output
+    → ComesTo tells i before words memory r (with_main new f)
+wrote_comes tells i words memory quiet before f old new hidden same r none output calls = (
+  output,
+  subst (λ z. FormMeans tells (Some i) before words memory (told_as i r) z output) (sym (left_with_main r new f))
+      (means_moved tells i quiet before (left_by_call r f) words memory old new hidden same (told_as i r) output
+      (subst (λ z. FormMeans tells (Some i) before words memory (told_as i r) z output) (left_with_main r old f)
+      (world_told tells i words memory before none output (with_main old f) r calls))),
+)

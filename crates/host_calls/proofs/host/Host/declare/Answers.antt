@@ -1,0 +1,16 @@
+use Rattle.std.proofs.Common.{refl}
+use Rattle.awk_state.specs.declared.table.Primitive.TheVariants as row
+use Rattle.host_step.specs.declared.import.Import.TheVariants.{Of}
+use Rattle.form_meaning.specs.Shown.{form_with_output}
+use Rattle.host_calls.specs.Forms.{form_in}
+use Rattle.host_calls.proofs.Comes.{plain_comes}
+use Rattle.host_calls.proofs.host.Host.declare.Goals as goal
+
+pub returns : goal.returns
+returns g c =
+    let host = c.args.self.now in
+    let state = g.W.World.state host.world in
+    let before = form_in host.tables host.input state in
+    let after = form_in host.tables (record host.input { names = c.declare.new.names }) state in
+    plain_comes g.W.World.tells (Of row.Declare) c.args.words.now c.args.memory.now refl before after c.declare.result c.requires refl refl
+    (λ so_far. c.declare.ensures.step (form_with_output so_far before) c.requires)

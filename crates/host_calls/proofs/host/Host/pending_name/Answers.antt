@@ -1,0 +1,14 @@
+use Rattle.std.proofs.Common.{refl}
+use Rattle.awk_state.specs.declared.table.Primitive.TheVariants as row
+use Rattle.host_step.specs.declared.import.Import.TheVariants.{Of}
+use Rattle.form_meaning.specs.Shown.{form_with_output}
+use Rattle.host_calls.specs.Forms.{form_in}
+use Rattle.host_calls.proofs.Comes.{plain_comes}
+use Rattle.host_calls.proofs.host.Host.pending_name.Goals as goal
+
+pub returns : goal.returns
+returns g c memory =
+    let host = c.args.self.now in
+    let before = form_in host.tables host.input (g.W.World.state host.world) in
+    plain_comes g.W.World.tells (Of row.PendingName) c.args.words.now memory refl before before c.pending_name.result c.requires refl refl
+    (λ so_far. c.pending_name.ensures.step (form_with_output so_far before) memory c.requires)

@@ -1,0 +1,18 @@
+use Rattle.std.proofs.Common.{refl}
+use Rattle.awk_state.specs.declared.table.Primitive.TheVariants as row
+use Rattle.host_step.specs.declared.import.Import.TheVariants.{Of}
+use Rattle.form_meaning.specs.Shown.{form_with_output}
+use Rattle.host_calls.specs.Forms.{form_in}
+use Rattle.host_elements.specs.Forms.{HostForm}
+use Rattle.host_calls.proofs.Comes.{plain_comes}
+use Rattle.host_calls.proofs.host.Host.pending_value.Goals as goal
+
+pub returns : goal.returns
+returns g c memory =
+    let host = c.args.self.now in
+    let state = g.W.World.state host.world in
+    let before = form_in host.tables host.input state in
+    let input = record host.input { names = c.pending_value.new.names } in
+    let after : HostForm = record (form_in host.tables input state) { values = c.pending_value.new.handles } in
+    plain_comes g.W.World.tells (Of row.PendingValue) c.args.words.now memory refl before after c.pending_value.result c.requires refl refl
+    (λ so_far. c.pending_value.ensures.step (form_with_output so_far before) memory c.requires)

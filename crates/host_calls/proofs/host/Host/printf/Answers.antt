@@ -1,0 +1,27 @@
+use Rattle.std.proofs.Common.{refl}
+use Rattle.host_step.specs.declared.import.Import.TheVariants.{Over}
+use Rattle.host_step.specs.declared.import.Listing.TheVariants.{Printf}
+use Rattle.host_inputs.proofs.Apart.{holds_file}
+use Rattle.host_outputs.specs.Forms.{writing}
+use Rattle.host_calls.specs.Forms.{host_form}
+use Rattle.host_calls.proofs.Written.{files_come, others_keep}
+use Rattle.host_calls.proofs.host.Host.printf.Goals as goal
+
+pub invariant_of-self : goal.invariant_of-self
+invariant_of-self g c =
+    let was = c.args.self.now in
+    let held = holds_file was.input c.printf.new.streams (g.W.World.kinds was.world) (g.W.World.kinds c.printf.new.world)
+    was.held c.printf.ensures.keeps.held c.printf.ensures.keeps.others in
+    ((was.tables.free_handle, (was.tables.free_array, (was.tables.free_iterator, tt))), (held, (c.printf.ensures.keeps.goes, tt)))
+
+pub returns : goal.returns
+returns g c = λ memory.
+    let was = c.args.self.now in
+    let old = g.W.World.state was.world in
+    let new = g.W.World.state c.printf.new.world in
+    let before = host_form g.W.World.state was in
+    files_come g.W.World.tells (Over Printf) c.args.words.now memory refl
+    was.input (g.W.World.kinds was.world) was.held (g.met.W.World.input was.world) old new
+    (λ t. others_keep was.input (g.W.World.kinds was.world) old new (c.printf.ensures.keeps.spares t)) before
+    (writing c.printf.new.arguments.items c.printf.new.streams new before) c.printf.result c.requires
+    (c.printf.ensures.step before memory c.requires)

@@ -1,0 +1,18 @@
+use Rattle.std.proofs.Common.{[], refl}
+use Rattle.host_step.specs.declared.import.Import.TheVariants.{Of}
+use Rattle.host_inputs.specs.Calls.{with_values}
+use Rattle.host_inputs.specs.Givens.{file_primitive}
+use Rattle.host_inputs.specs.States.{over_world}
+use Rattle.host_calls.specs.Forms.{host_form}
+use Rattle.host_calls.proofs.Faulted.{file_reads, read_told}
+use Rattle.host_calls.proofs.host.Host.read_file.Goals as goal
+
+pub returns : goal.returns
+returns g c = λ memory.
+    let before = host_form g.W.World.state c.args.self.now in
+    let later = with_values c.read_file.new.handles (over_world c.read_file.new.texts c.read_file.new.input (g.W.World.state c.read_file.new.world) before) in (
+      [],
+      read_told g.W.World.tells (Of (file_primitive c.args.to)) (file_reads c.args.to) before later c.requires
+          c.args.words.now memory refl refl refl c.read_file.ensures.outside
+          c.read_file.result (c.read_file.ensures.called before memory c.requires),
+    )

@@ -1,0 +1,17 @@
+use Rattle.std.proofs.Common.{refl}
+use Rattle.awk_state.specs.declared.table.Primitive.TheVariants as row
+use Rattle.host_step.specs.declared.import.Import.TheVariants.{Of}
+use Rattle.form_meaning.specs.Shown.{form_with_output}
+use Rattle.host_calls.specs.Forms.{form_in}
+use Rattle.host_calls.proofs.Comes.{left_comes}
+use Rattle.host_calls.proofs.host.Host.start_assign.Goals as goal
+
+pub returns : goal.returns
+returns g c memory =
+    let host = c.args.self.now in
+    let state = g.W.World.state host.world in
+    let before = form_in host.tables host.input state in
+    let after = form_in (record host.tables { texts = c.start_assign.new.texts }) (record host.input { names = c.start_assign.new.names }) state in
+    left_comes g.W.World.tells (Of row.StartAssign) c.args.words.now memory refl before after c.start_assign.result c.requires refl refl
+    (λ f. record { values = refl; arrays = refl; iterators = refl; fault = refl; outside = refl; output = refl })
+    (λ so_far. c.start_assign.ensures.step (form_with_output so_far before) memory c.requires)

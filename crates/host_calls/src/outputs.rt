@@ -1,0 +1,59 @@
+//! Calls that write, and that close files.
+ghost use Rattle.std.specs.Prelude.{◌≡◌, List, ℕ, None};
+ghost use Rattle.awk_state.specs.declared.table.Primitive.TheVariants as row;
+ghost use Rattle.host_calls.specs.Calls.{ComesTo};
+ghost use Rattle.host_calls.specs.Forms.{host_form};
+ghost use Rattle.host_step.specs.declared.import.Import.{Import};
+ghost use Rattle.host_step.specs.declared.import.Listing.{Listing};
+
+use crate::host::Host;
+use host_outputs::{close, print, printf};
+use host_values::Refusal;
+use wasm_store::Word;
+use world_core::World;
+
+impl<W: World> Host<W> {
+    /// The last values of the argument list are printed.
+    pub(crate) fn print(&mut self, words: &[Word]) -> Result<Option<Word>, Refusal>
+        requires { self.old.tables.fault ≡ None }
+        ensures { (memory : List ℕ) → ComesTo W.tells (Import.Over Listing.Print) (host_form W.state self.old) words.now memory result (host_form W.state self.new) }
+    {
+        print(
+            self.alloc,
+            &mut self.line,
+            &self.tables.texts.specials,
+            &mut self.tables.arguments,
+            &mut self.input.files,
+            &mut self.world,
+            words,
+        )
+    }
+
+    /// The last values of the argument list are printed by a format.
+    pub(crate) fn printf(&mut self, words: &[Word]) -> Result<Option<Word>, Refusal>
+        requires { self.old.tables.fault ≡ None }
+        ensures { (memory : List ℕ) → ComesTo W.tells (Import.Over Listing.Printf) (host_form W.state self.old) words.now memory result (host_form W.state self.new) }
+    {
+        printf(
+            self.alloc,
+            &mut self.tables.arguments,
+            &mut self.input.files,
+            &mut self.world,
+            words,
+        )
+    }
+
+    /// The file of a name is closed.
+    pub(crate) fn close(&mut self, words: &[Word]) -> Result<Option<Word>, Refusal>
+        requires { self.old.tables.fault ≡ None }
+        ensures { (memory : List ℕ) → ComesTo W.tells (Import.Of row.Close) (host_form W.state self.old) words.now memory result (host_form W.state self.new) }
+    {
+        close(
+            self.alloc,
+            &mut self.tables.handles,
+            &mut self.input.files,
+            &mut self.world,
+            words,
+        )
+    }
+}
