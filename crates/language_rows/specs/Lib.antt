@@ -1,3 +1,5 @@
 pub mod Scripts
+pub mod Settings
 pub mod Rows
 pub mod MidRows
+pub mod MidFurtherRows

@@ -1,5 +1,5 @@
 -- Scripts' runs, computed from the definition.
-use Rattle.std.specs.Prelude.{◌≡◌, ℕ, true, false, List, [], ◌∷◌, ◌++◌, codes, Some, None, refl}
+use Rattle.std.specs.Prelude.{◌≡◌, true, false, [], ◌∷◌, ◌++◌, codes, refl}
 use Rattle.std.specs.Fmt.{digits}
 use Rattle.awk_text.specs.Reading.{numeral_at, sign_at, fraction_at, exponent_at}
 use Rattle.awk_text.specs.Number.{numerator, denominator}
@@ -7,10 +7,9 @@ use Rattle.awk_text.specs.Escapes.{unescaped, escaped, octal}
 use Rattle.awk_tokens.specs.Words.{keywords, builtins, left_out_words}
 use Rattle.ere_syntax.specs.Scan.{table, sign_of}
 use Rattle.awk_values.specs.declared.fault.Fault.TheVariants.{Range, Fraction, Inexact, FieldNumber, Format, BadEre, ReadFailed, WriteFailed, NextOutside, BadAssignment}
-use Rattle.world_core.specs.WorldState.{Standard, Named, Outside, Source, absent, replaced, Open, puts}
+use Rattle.world_core.specs.WorldState.{Standard, Named, Open, puts}
 use Rattle.world_core.specs.declared.world.Ending.{Ending}
 use Rattle.world_core.specs.declared.world.Ending.TheVariants.{End, Fails}
-use Rattle.awk_state.specs.Jobs.{JobForm}
 use Rattle.mid_program.specs.ScriptState.{spend_all}
 use Rattle.awk_resolve.specs.Kinds.{special_arrays, special_scalars}
 use Rattle.mid_program.specs.Meaning.{asked, value_of, values_of, key_of, place_of, passed, truncated_of, applied}
@@ -18,29 +17,7 @@ use Rattle.mid_program.specs.Statements.{loop, over_keys, plain_done, done_by, a
 use Rattle.mid_program.specs.Items.{items_done, begun, ended}
 use Rattle.mid_program.specs.ScriptRun.{first_assigned, records_done, Ended, FaultedBy, GoesOn, run_of}
 use Rattle.language_rows.specs.Scripts as scripts
-
-abbrev no_job : JobForm
-no_job = record { operands = []; assigns = []; environment = [] }
-
-abbrev no_input : Source
-no_input = record { rest = []; ending = End }
-
-abbrev empty : Outside
-empty = λ target. absent
-
--- where standard output has room for so many bytes
-abbrev narrow : ℕ → Outside
-narrow room = replaced Standard (record { bytes = Some []; ending = End; room = Some room; opens = true }) empty
-
-abbrev with_file : List ℕ → List ℕ → Ending → Outside → Outside
-with_file name bytes ending outside = replaced (Named name) (record { bytes = Some bytes; ending = ending; room = None; opens = true }) outside
-
--- where a name holds bytes and has room for so many
-abbrev with_room : List ℕ → List ℕ → ℕ → Outside → Outside
-with_room name bytes room outside = replaced (Named name) (record { bytes = Some bytes; ending = End; room = Some room; opens = true }) outside
-
-abbrev without_opening : List ℕ → Outside → Outside
-without_opening name outside = replaced (Named name) (record { bytes = Some []; ending = End; room = None; opens = false }) outside
+use Rattle.language_rows.specs.Settings.{no_job, no_input, empty, with_file, with_room}
 
 -- function f() { x = 5; return 1 } BEGIN { x = 1; print x + f(), x; x = 1; print x f() x; x = 1; x += f(); print x }
 pub name_read_when_met : run_of scripts.name_read_when_met no_job no_input empty 40 ≡ Ended 0 (puts Standard (codes "2 5\n115\n6\n"))

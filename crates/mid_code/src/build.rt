@@ -60,7 +60,8 @@ pub(crate) fn three(
     second: Code,
     third: Code,
 ) -> Result<Vec<Operand>, AllocError>
-    ensures { IfOk result (λ operands. views operands.items ≡ plain.At (view first) (two (view second) (view third))) }
+    ensures { IfOk result (λ operands. views operands.items
+        ≡ plain.At (view first) (two (view second) (view third))) }
 {
     Ok(vec![in alloc;
         Operand::Code(first),
@@ -77,7 +78,8 @@ pub(crate) fn ternary(
     second: Code,
     third: Code,
 ) -> Result<Code, AllocError>
-    ensures { IfOk result (λ code. view code ≡ plain.Do (Operation.Host primitive) (plain.At (view first) (two (view second) (view third)))) }
+    ensures { IfOk result (λ code. view code ≡ plain.Do (Operation.Host primitive) (plain.At (view
+        first) (two (view second) (view third)))) }
 {
     let operands = three(alloc, first, second, third)?;
     Ok(applied(Operation::Host(primitive), operands))
@@ -140,7 +142,8 @@ pub(crate) fn substitution(
     target: Code,
     store: Box<Code>,
 ) -> Result<Code, AllocError>
-    ensures { IfOk result (λ code. view code ≡ plain.Replace all (plain.At (view ere) (two (view replacement) (view target))) (view store.value)) }
+    ensures { IfOk result (λ code. view code ≡ plain.Replace all (plain.At (view ere) (two (view
+        replacement) (view target))) (view store.value)) }
 {
     Ok(replaced(all, three(alloc, ere, replacement, target)?, store))
 }
@@ -167,7 +170,8 @@ fn set(alloc: Global, slot: Slot, code: Code) -> Result<Code, AllocError>
 
 /// One of two numbers, by the truth of code.
 fn one_of(alloc: Global, code: Code, yes: i64, no: i64) -> Result<Code, AllocError>
-    ensures { IfOk result (λ chosen. view chosen ≡ plain.Choose sort.Number (view code) (plain.Number yes) (plain.Number no)) }
+    ensures { IfOk result (λ chosen. view chosen ≡ plain.Choose sort.Number (view code)
+        (plain.Number yes) (plain.Number no)) }
 {
     let test = boxed(alloc, code)?;
     let yes = number(alloc, yes)?;
@@ -207,7 +211,8 @@ pub(crate) fn reserved(alloc: Global, special: Special) -> Result<Code, AllocErr
 
 /// A special variable takes a value.
 fn set_reserved(alloc: Global, special: Special, code: Code) -> Result<Code, AllocError>
-    ensures { IfOk result (λ set. view set ≡ store_variable_code (view_variable (Variable.Reserved special)) (view code)) }
+    ensures { IfOk result (λ set. view set ≡ store_variable_code (view_variable (Variable.Reserved
+        special)) (view code)) }
 {
     let number = Operand::Constant(u32::from(special.number()));
     let operands = vec![in alloc; number, Operand::Code(code)]?;
@@ -231,7 +236,8 @@ pub(crate) fn store_variable(
     variable: Variable,
     code: Code,
 ) -> Result<Code, AllocError>
-    ensures { IfOk result (λ store. view store ≡ store_variable_code (view_variable variable) (view code)) }
+    ensures { IfOk result (λ store. view store ≡ store_variable_code (view_variable variable) (view
+        code)) }
 {
     match variable {
         Variable::Global(number) => set(alloc, Slot::Global(false, number), code),

@@ -30,7 +30,8 @@ use std::alloc::AllocError;
 #[cycle(expressions)]
 #[tactic(auto, unfolding(mid_program::specs::Translation::code_of))]
 pub(crate) fn code(scope: &Scope<'_>, e: &Expr) -> Result<Code, AllocError>
-    ensures { IfOk result (λ code. view code ≡ code_of (texts_of scope.now) (scope_of scope.now) (tree e.now)) }
+    ensures { IfOk result (λ code. view code ≡ code_of (texts_of scope.now) (scope_of scope.now)
+        (tree e.now)) }
 {
     let alloc = scope.alloc;
     match e {
@@ -79,7 +80,8 @@ pub(crate) fn code(scope: &Scope<'_>, e: &Expr) -> Result<Code, AllocError>
 /// The code of an expression in a box.
 #[cycle(expressions)]
 fn boxed_code(scope: &Scope<'_>, e: &Expr) -> Result<Box<Code>, AllocError>
-    ensures { IfOk result (λ code. view code.value ≡ code_of (texts_of scope.now) (scope_of scope.now) (tree e.now)) }
+    ensures { IfOk result (λ code. view code.value ≡ code_of (texts_of scope.now) (scope_of
+        scope.now) (tree e.now)) }
 {
     boxed(scope.alloc, code(scope, e)?)
 }
@@ -87,7 +89,8 @@ fn boxed_code(scope: &Scope<'_>, e: &Expr) -> Result<Box<Code>, AllocError>
 /// What the host does with an expression's answer.
 #[cycle(expressions)]
 fn host_of(scope: &Scope<'_>, primitive: Primitive, e: &Expr) -> Result<Code, AllocError>
-    ensures { IfOk result (λ code. view code ≡ plain.Do (Operation.Host primitive) (one (code_of (texts_of scope.now) (scope_of scope.now) (tree e.now)))) }
+    ensures { IfOk result (λ code. view code ≡ plain.Do (Operation.Host primitive) (one (code_of
+        (texts_of scope.now) (scope_of scope.now) (tree e.now)))) }
 {
     let operand = code(scope, e)?;
     host_one(scope.alloc, primitive, operand)
@@ -96,7 +99,9 @@ fn host_of(scope: &Scope<'_>, primitive: Primitive, e: &Expr) -> Result<Code, Al
 /// The number of what the host does with an expression's answer.
 #[cycle(expressions)]
 fn host_number_of(scope: &Scope<'_>, primitive: Primitive, e: &Expr) -> Result<Code, AllocError>
-    ensures { IfOk result (λ code. view code ≡ plain.Do Operation.AsNumber (one (plain.Do (Operation.Host primitive) (one (code_of (texts_of scope.now) (scope_of scope.now) (tree e.now)))))) }
+    ensures { IfOk result (λ code. view code ≡ plain.Do Operation.AsNumber (one (plain.Do
+        (Operation.Host primitive) (one (code_of (texts_of scope.now) (scope_of scope.now) (tree
+        e.now)))))) }
 {
     let operand = code(scope, e)?;
     host_number(scope.alloc, primitive, operand)
@@ -106,7 +111,8 @@ fn host_number_of(scope: &Scope<'_>, primitive: Primitive, e: &Expr) -> Result<C
 #[cycle(expressions)]
 #[tactic(auto, unfolding(mid_program::specs::Translation::code_of))]
 fn element(scope: &Scope<'_>, name: &[u8], subscripts: &[Expr]) -> Result<Code, AllocError>
-    ensures { IfOk result (λ code. view code ≡ code_of (texts_of scope.now) (scope_of scope.now) (Index name.now (trees subscripts.now))) }
+    ensures { IfOk result (λ code. view code ≡ code_of (texts_of scope.now) (scope_of scope.now)
+        (Index name.now (trees subscripts.now))) }
 {
     let key = key(scope, subscripts)?;
     host_array(scope, Primitive::Elem, name, key)
@@ -116,7 +122,8 @@ fn element(scope: &Scope<'_>, name: &[u8], subscripts: &[Expr]) -> Result<Code, 
 #[cycle(expressions)]
 #[tactic(auto, unfolding(mid_program::specs::Translation::code_of))]
 fn has_key(scope: &Scope<'_>, key: &Expr, name: &[u8]) -> Result<Code, AllocError>
-    ensures { IfOk result (λ code. view code ≡ code_of (texts_of scope.now) (scope_of scope.now) (Has (tree key.now) name.now)) }
+    ensures { IfOk result (λ code. view code ≡ code_of (texts_of scope.now) (scope_of scope.now)
+        (Has (tree key.now) name.now)) }
 {
     let key = boxed_code(scope, key)?;
     host_array(scope, Primitive::Has, name, key)
@@ -126,7 +133,8 @@ fn has_key(scope: &Scope<'_>, key: &Expr, name: &[u8]) -> Result<Code, AllocErro
 #[cycle(expressions)]
 #[tactic(auto, unfolding(mid_program::specs::Translation::code_of))]
 fn pre_step(scope: &Scope<'_>, op: StepOp, place: &Expr) -> Result<Code, AllocError>
-    ensures { IfOk result (λ code. view code ≡ code_of (texts_of scope.now) (scope_of scope.now) (Pre (view_step op) (tree place.now))) }
+    ensures { IfOk result (λ code. view code ≡ code_of (texts_of scope.now) (scope_of scope.now)
+        (Pre (view_step op) (tree place.now))) }
 {
     let kept = kept(scope, place)?;
     step_place(scope, op, place, kept)
@@ -136,7 +144,8 @@ fn pre_step(scope: &Scope<'_>, op: StepOp, place: &Expr) -> Result<Code, AllocEr
 #[cycle(expressions)]
 #[tactic(auto, unfolding(mid_program::specs::Translation::code_of))]
 fn post_step(scope: &Scope<'_>, op: StepOp, place: &Expr) -> Result<Code, AllocError>
-    ensures { IfOk result (λ code. view code ≡ code_of (texts_of scope.now) (scope_of scope.now) (Post (view_step op) (tree place.now))) }
+    ensures { IfOk result (λ code. view code ≡ code_of (texts_of scope.now) (scope_of scope.now)
+        (Post (view_step op) (tree place.now))) }
 {
     let kept = kept(scope, place)?;
     step_place_after(scope, op, place, kept)
@@ -146,7 +155,8 @@ fn post_step(scope: &Scope<'_>, op: StepOp, place: &Expr) -> Result<Code, AllocE
 #[cycle(expressions)]
 #[tactic(auto, unfolding(mid_program::specs::Translation::code_of))]
 fn line_to(scope: &Scope<'_>, place: &Expr) -> Result<Code, AllocError>
-    ensures { IfOk result (λ code. view code ≡ code_of (texts_of scope.now) (scope_of scope.now) (GetInto (tree place.now))) }
+    ensures { IfOk result (λ code. view code ≡ code_of (texts_of scope.now) (scope_of scope.now)
+        (GetInto (tree place.now))) }
 {
     let kept = kept(scope, place)?;
     line_into(scope, place, kept)
@@ -159,7 +169,8 @@ pub(crate) fn push_operands(
     es: &[Expr],
     codes: &mut Vec<Operand>,
 ) -> Result<(), AllocError>
-    ensures { OnOk result (views codes.new.items ≡ followed (views codes.old.items) (codes_of (texts_of scope.now) (scope_of scope.now) (trees es.now))) }
+    ensures { OnOk result (views codes.new.items ≡ followed (views codes.old.items) (codes_of
+        (texts_of scope.now) (scope_of scope.now) (trees es.now))) }
 {
     for e in es {
         codes.push(Operand::Code(code(scope, e)?))?;
@@ -170,7 +181,8 @@ pub(crate) fn push_operands(
 /// The code of a key, by its subscripts.
 #[cycle(expressions)]
 pub(crate) fn key(scope: &Scope<'_>, subscripts: &[Expr]) -> Result<Box<Code>, AllocError>
-    ensures { IfOk result (λ code. view code.value ≡ key_code (texts_of scope.now) (scope_of scope.now) (trees subscripts.now)) }
+    ensures { IfOk result (λ code. view code.value ≡ key_code (texts_of scope.now) (scope_of
+        scope.now) (trees subscripts.now)) }
 {
     if subscripts.is_empty() {
         return boxed(scope.alloc, Code::Unset);
@@ -189,7 +201,8 @@ pub(crate) fn key(scope: &Scope<'_>, subscripts: &[Expr]) -> Result<Box<Code>, A
 #[cycle(expressions)]
 #[tactic(auto, unfolding(mid_program::specs::Translation::kept_code))]
 pub(crate) fn kept(scope: &Scope<'_>, place: &Expr) -> Result<Option<Box<Code>>, AllocError>
-    ensures { IfOk result (λ kept. view_kept kept ≡ kept_code (texts_of scope.now) (scope_of scope.now) (tree place.now)) }
+    ensures { IfOk result (λ kept. view_kept kept ≡ kept_code (texts_of scope.now) (scope_of
+        scope.now) (tree place.now)) }
 {
     match place {
         Expr::Var(_) => Ok(None),
@@ -223,7 +236,9 @@ pub(crate) fn kept(scope: &Scope<'_>, place: &Expr) -> Result<Option<Box<Code>>,
 /// The code of an operator's right operand: an ERE token that is matched is its text.
 #[cycle(expressions)]
 fn operand(scope: &Scope<'_>, op: BinaryOp, e: &Expr) -> Result<Box<Code>, AllocError>
-    ensures { IfOk result (λ code. view code.value ≡ ere_code (texts_of scope.now) (ere_for (view_binary op) (tree e.now)) (code_of (texts_of scope.now) (scope_of scope.now) (tree e.now))) }
+    ensures { IfOk result (λ code. view code.value ≡ ere_code (texts_of scope.now) (ere_for
+        (view_binary op) (tree e.now)) (code_of (texts_of scope.now) (scope_of scope.now) (tree
+        e.now))) }
 {
     if is_match(op) {
         if let Some(text) = ere_in(e) {
@@ -236,7 +251,8 @@ fn operand(scope: &Scope<'_>, op: BinaryOp, e: &Expr) -> Result<Box<Code>, Alloc
 /// The code of a call.
 #[cycle(expressions)]
 fn call(scope: &Scope<'_>, name: &[u8], es: &[Expr]) -> Result<Code, AllocError>
-    ensures { IfOk result (λ code. view code ≡ code_of (texts_of scope.now) (scope_of scope.now) (Call name.now (trees es.now))) }
+    ensures { IfOk result (λ code. view code ≡ code_of (texts_of scope.now) (scope_of scope.now)
+        (Call name.now (trees es.now))) }
 {
     let function = scope.function(name);
     let parameters = scope.parameters_of(function);
@@ -256,7 +272,8 @@ fn call(scope: &Scope<'_>, name: &[u8], es: &[Expr]) -> Result<Code, AllocError>
 /// The code of a built-in function.
 #[cycle(expressions)]
 fn apply(scope: &Scope<'_>, function: Builtin, es: &[Expr]) -> Result<Code, AllocError>
-    ensures { IfOk result (λ code. view code ≡ code_of (texts_of scope.now) (scope_of scope.now) (Apply function (trees es.now))) }
+    ensures { IfOk result (λ code. view code ≡ code_of (texts_of scope.now) (scope_of scope.now)
+        (Apply function (trees es.now))) }
 {
     match function {
         Builtin::Sprintf => {
@@ -271,7 +288,8 @@ fn apply(scope: &Scope<'_>, function: Builtin, es: &[Expr]) -> Result<Code, Allo
 /// The code of a built-in function that takes no list of values.
 #[cycle(expressions)]
 fn applied(scope: &Scope<'_>, function: Builtin, es: &[Expr]) -> Result<Code, AllocError>
-    ensures { IfOk result (λ code. view code ≡ applied_code (texts_of scope.now) (scope_of scope.now) function (trees es.now)) }
+    ensures { IfOk result (λ code. view code ≡ applied_code (texts_of scope.now) (scope_of
+        scope.now) function (trees es.now)) }
 {
     if es.is_empty() {
         return apply_none(scope.alloc, function);
@@ -286,7 +304,8 @@ fn applied(scope: &Scope<'_>, function: Builtin, es: &[Expr]) -> Result<Code, Al
 #[cycle(expressions)]
 #[tactic(auto, unfolding(mid_program::specs::Translation::applied_code))]
 fn apply_one(scope: &Scope<'_>, function: Builtin, e: &Expr) -> Result<Code, AllocError>
-    ensures { IfOk result (λ code. view code ≡ applied_code (texts_of scope.now) (scope_of scope.now) function (Then (tree e.now) NoTree)) }
+    ensures { IfOk result (λ code. view code ≡ applied_code (texts_of scope.now) (scope_of
+        scope.now) function (Then (tree e.now) NoTree)) }
 {
     match function {
         Builtin::Length => host_of(scope, Primitive::Length, e),
@@ -309,7 +328,8 @@ fn apply_one(scope: &Scope<'_>, function: Builtin, e: &Expr) -> Result<Code, All
 #[tactic(auto, unfolding(mid_program::specs::Translation::applied_code))]
 fn apply_more(scope: &Scope<'_>, function: Builtin, es: &[Expr]) -> Result<Code, AllocError>
     requires { 2 ≤ length es.now }
-    ensures { IfOk result (λ code. view code ≡ applied_code (texts_of scope.now) (scope_of scope.now) function (trees es.now)) }
+    ensures { IfOk result (λ code. view code ≡ applied_code (texts_of scope.now) (scope_of
+        scope.now) function (trees es.now)) }
 {
     match function {
         Builtin::Length => record_length(scope.alloc),
@@ -339,7 +359,8 @@ fn apply_more(scope: &Scope<'_>, function: Builtin, es: &[Expr]) -> Result<Code,
 #[cycle(expressions)]
 #[tactic(auto, unfolding(mid_program::specs::Translation::truncated_code, mid_program::specs::Translation::code_of))]
 fn truncated(scope: &Scope<'_>, e: &Expr) -> Result<Code, AllocError>
-    ensures { IfOk result (λ code. view code ≡ truncated_code (texts_of scope.now) (scope_of scope.now) (tree e.now) (code_of (texts_of scope.now) (scope_of scope.now) (tree e.now))) }
+    ensures { IfOk result (λ code. view code ≡ truncated_code (texts_of scope.now) (scope_of
+        scope.now) (tree e.now) (code_of (texts_of scope.now) (scope_of scope.now) (tree e.now))) }
 {
     match e {
         Expr::Group(inner) => truncated(scope, inner),
@@ -378,7 +399,8 @@ fn truncated(scope: &Scope<'_>, e: &Expr) -> Result<Code, AllocError>
 #[cycle(expressions)]
 fn substr(scope: &Scope<'_>, es: &[Expr]) -> Result<Code, AllocError>
     requires { 2 ≤ length es.now }
-    ensures { IfOk result (λ code. view code ≡ applied_code (texts_of scope.now) (scope_of scope.now) Builtin.Substr (trees es.now)) }
+    ensures { IfOk result (λ code. view code ≡ applied_code (texts_of scope.now) (scope_of
+        scope.now) Builtin.Substr (trees es.now)) }
 {
     let text = boxed_code(scope, &es[0])?;
     let from = boxed_code(scope, &es[1])?;
@@ -393,7 +415,8 @@ fn substr(scope: &Scope<'_>, es: &[Expr]) -> Result<Code, AllocError>
 #[cycle(expressions)]
 fn split(scope: &Scope<'_>, es: &[Expr]) -> Result<Code, AllocError>
     requires { 2 ≤ length es.now }
-    ensures { IfOk result (λ code. view code ≡ applied_code (texts_of scope.now) (scope_of scope.now) Builtin.Split (trees es.now)) }
+    ensures { IfOk result (λ code. view code ≡ applied_code (texts_of scope.now) (scope_of
+        scope.now) Builtin.Split (trees es.now)) }
 {
     let Some(name) = bare_name(&es[1]) else {
         return Ok(Code::Unset);
@@ -413,7 +436,8 @@ fn split(scope: &Scope<'_>, es: &[Expr]) -> Result<Code, AllocError>
 #[cycle(expressions)]
 fn substitute(scope: &Scope<'_>, all: bool, es: &[Expr]) -> Result<Code, AllocError>
     requires { 2 ≤ length es.now }
-    ensures { IfOk result (λ code. view code ≡ applied_code (texts_of scope.now) (scope_of scope.now) (sub_or_gsub all) (trees es.now)) }
+    ensures { IfOk result (λ code. view code ≡ applied_code (texts_of scope.now) (scope_of
+        scope.now) (sub_or_gsub all) (trees es.now)) }
 {
     let ere = operand(scope, BinaryOp::Match, &es[0])?;
     let replacement = boxed_code(scope, &es[1])?;

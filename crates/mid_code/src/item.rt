@@ -22,7 +22,8 @@ use std::alloc::{AllocError, Global};
 
 /// The code of an action.
 fn action(scope: &Scope<'_>, body: &[Stmt]) -> Result<Step, AllocError>
-    ensures { IfOk result (λ step. view_step step ≡ plain.Block (steps_code (texts_of scope.now) (scope_of scope.now) (tree_stmts body.now))) }
+    ensures { IfOk result (λ step. view_step step ≡ plain.Block (steps_code (texts_of scope.now)
+        (scope_of scope.now) (tree_stmts body.now))) }
 {
     Ok(block(steps(scope, body)?))
 }
@@ -30,7 +31,8 @@ fn action(scope: &Scope<'_>, body: &[Stmt]) -> Result<Step, AllocError>
 /// The code of an action that is left out.
 #[tactic(auto, using(crate::proofs::StepParts::print_record_is))]
 fn print_record(scope: &Scope<'_>) -> Result<Step, AllocError>
-    ensures { IfOk result (λ step. view_step step ≡ plain.Block (steps_code (texts_of scope.now) (scope_of scope.now) print_record)) }
+    ensures { IfOk result (λ step. view_step step ≡ plain.Block (steps_code (texts_of scope.now)
+        (scope_of scope.now) print_record)) }
 {
     let mut values = Vec::new(scope.alloc);
     values.push(Operand::Code(record(scope.alloc)?))?;
@@ -47,7 +49,8 @@ fn marked(
     pattern: &Expr,
     is_open: bool,
 ) -> Result<Step, AllocError>
-    ensures { IfOk result (λ step. view_step step ≡ plain.If (code_of (texts_of scope.now) (scope_of scope.now) (tree pattern.now)) (plain.Mark number is_open) (plain.Block plain.NoStep)) }
+    ensures { IfOk result (λ step. view_step step ≡ plain.If (code_of (texts_of scope.now) (scope_of
+        scope.now) (tree pattern.now)) (plain.Mark number is_open) (plain.Block plain.NoStep)) }
 {
     let mark = boxed(scope.alloc, Step::Mark(number, is_open))?;
     done_where(scope, pattern, mark)
@@ -55,7 +58,9 @@ fn marked(
 
 /// The code that opens the range of an item where its first pattern is true.
 fn opening(scope: &Scope<'_>, number: usize, first: &Expr) -> Result<Step, AllocError>
-    ensures { IfOk result (λ step. view_step step ≡ plain.If (plain.IsOpen number) (plain.Block plain.NoStep) (plain.If (code_of (texts_of scope.now) (scope_of scope.now) (tree first.now)) (plain.Mark number true) (plain.Block plain.NoStep))) }
+    ensures { IfOk result (λ step. view_step step ≡ plain.If (plain.IsOpen number) (plain.Block
+        plain.NoStep) (plain.If (code_of (texts_of scope.now) (scope_of scope.now) (tree first.now))
+        (plain.Mark number true) (plain.Block plain.NoStep))) }
 {
     let opened = boxed(scope.alloc, marked(scope, number, first, true)?)?;
     let nothing = boxed(scope.alloc, nothing(scope.alloc))?;
@@ -69,7 +74,10 @@ fn closing(
     last: &Expr,
     action: Box<Step>,
 ) -> Result<Step, AllocError>
-    ensures { IfOk result (λ step. view_step step ≡ plain.If (plain.IsOpen number) (plain.Block (plain.Then (plain.If (code_of (texts_of scope.now) (scope_of scope.now) (tree last.now)) (plain.Mark number false) (plain.Block plain.NoStep)) (plain.Then (view_step action.value) plain.NoStep))) (plain.Block plain.NoStep)) }
+    ensures { IfOk result (λ step. view_step step ≡ plain.If (plain.IsOpen number) (plain.Block
+        (plain.Then (plain.If (code_of (texts_of scope.now) (scope_of scope.now) (tree last.now))
+        (plain.Mark number false) (plain.Block plain.NoStep)) (plain.Then (view_step action.value)
+        plain.NoStep))) (plain.Block plain.NoStep)) }
 {
     let mut both = Vec::new(scope.alloc);
     both.push(marked(scope, number, last, false)?)?;
@@ -86,7 +94,8 @@ fn where_met(
     pattern: &Pattern,
     action: Box<Step>,
 ) -> Result<Step, AllocError>
-    ensures { IfOk result (λ step. view_step step ≡ where_code (texts_of scope.now) (scope_of scope.now) number (view_pattern pattern.now) (view_step action.value)) }
+    ensures { IfOk result (λ step. view_step step ≡ where_code (texts_of scope.now) (scope_of
+        scope.now) number (view_pattern pattern.now) (view_step action.value)) }
 {
     match pattern {
         Pattern::One(e) => done_where(scope, e, action),
@@ -101,7 +110,9 @@ fn where_met(
 
 /// The code of an item that is done for each record, by its number.
 fn record_item(scope: &Scope<'_>, number: usize, item: &Item) -> Result<Option<Step>, AllocError>
-    ensures { IfOk result (λ step. (items : List PlainItem) → items_code (texts_of scope.now) (scope_of scope.now) number (view_item item.now ∷ items) ≡ maybe_then step (items_code (texts_of scope.now) (scope_of scope.now) (suc number) items)) }
+    ensures { IfOk result (λ step. (items : List PlainItem)
+        → items_code (texts_of scope.now) (scope_of scope.now) number (view_item item.now ∷ items) ≡
+        maybe_then step (items_code (texts_of scope.now) (scope_of scope.now) (suc number) items)) }
 {
     match item {
         Item::Action(body) => Ok(Some(action(scope, body)?)),
@@ -119,7 +130,9 @@ fn record_item(scope: &Scope<'_>, number: usize, item: &Item) -> Result<Option<S
 
 /// The code of an item that is an action of BEGIN.
 fn begin_item(scope: &Scope<'_>, item: &Item) -> Result<Option<Step>, AllocError>
-    ensures { IfOk result (λ step. (items : List PlainItem) → begin_code (texts_of scope.now) (scope_of scope.now) (view_item item.now ∷ items) ≡ maybe_then step (begin_code (texts_of scope.now) (scope_of scope.now) items)) }
+    ensures { IfOk result (λ step. (items : List PlainItem)
+        → begin_code (texts_of scope.now) (scope_of scope.now) (view_item item.now ∷ items)
+        ≡ maybe_then step (begin_code (texts_of scope.now) (scope_of scope.now) items)) }
 {
     match item {
         Item::Begin(body) => Ok(Some(action(scope, body)?)),
@@ -134,7 +147,9 @@ fn begin_item(scope: &Scope<'_>, item: &Item) -> Result<Option<Step>, AllocError
 
 /// The code of an item that is an action of END.
 fn end_item(scope: &Scope<'_>, item: &Item) -> Result<Option<Step>, AllocError>
-    ensures { IfOk result (λ step. (items : List PlainItem) → end_code (texts_of scope.now) (scope_of scope.now) (view_item item.now ∷ items) ≡ maybe_then step (end_code (texts_of scope.now) (scope_of scope.now) items)) }
+    ensures { IfOk result (λ step. (items : List PlainItem)
+        → end_code (texts_of scope.now) (scope_of scope.now) (view_item item.now ∷ items)
+        ≡ maybe_then step (end_code (texts_of scope.now) (scope_of scope.now) items)) }
 {
     match item {
         Item::End(body) => Ok(Some(action(scope, body)?)),
@@ -162,7 +177,8 @@ fn push_step(steps: &mut Vec<Step>, step: Option<Step>) -> Result<(), AllocError
 
 /// The code of the items that are done for each record.
 pub(crate) fn record_items(scope: &Scope<'_>, items: &[Item]) -> Result<Vec<Step>, AllocError>
-    ensures { IfOk result (λ steps. view_steps steps.items ≡ items_code (texts_of scope.now) (scope_of scope.now) 0 (view_items items.now)) }
+    ensures { IfOk result (λ steps. view_steps steps.items
+        ≡ items_code (texts_of scope.now) (scope_of scope.now) 0 (view_items items.now)) }
 {
     let mut found = Vec::new(scope.alloc);
     for i in 0..items.len() {
@@ -173,7 +189,8 @@ pub(crate) fn record_items(scope: &Scope<'_>, items: &[Item]) -> Result<Vec<Step
 
 /// The code of the actions of BEGIN.
 pub(crate) fn begin(scope: &Scope<'_>, items: &[Item]) -> Result<Vec<Step>, AllocError>
-    ensures { IfOk result (λ steps. view_steps steps.items ≡ begin_code (texts_of scope.now) (scope_of scope.now) (view_items items.now)) }
+    ensures { IfOk result (λ steps. view_steps steps.items
+        ≡ begin_code (texts_of scope.now) (scope_of scope.now) (view_items items.now)) }
 {
     let mut found = Vec::new(scope.alloc);
     for item in items {
@@ -184,7 +201,8 @@ pub(crate) fn begin(scope: &Scope<'_>, items: &[Item]) -> Result<Vec<Step>, Allo
 
 /// The code of the actions of END.
 pub(crate) fn end(scope: &Scope<'_>, items: &[Item]) -> Result<Vec<Step>, AllocError>
-    ensures { IfOk result (λ steps. view_steps steps.items ≡ end_code (texts_of scope.now) (scope_of scope.now) (view_items items.now)) }
+    ensures { IfOk result (λ steps. view_steps steps.items
+        ≡ end_code (texts_of scope.now) (scope_of scope.now) (view_items items.now)) }
 {
     let mut found = Vec::new(scope.alloc);
     for item in items {
@@ -195,7 +213,8 @@ pub(crate) fn end(scope: &Scope<'_>, items: &[Item]) -> Result<Vec<Step>, AllocE
 
 /// Whether records are read for an item; before the actions of END all are.
 fn reads_record(item: &Item) -> bool
-    ensures { (items : List PlainItem) → reads_records (view_item item.now ∷ items) ≡ (result || reads_records items) }
+    ensures { (items : List PlainItem) → reads_records (view_item item.now ∷ items)
+        ≡ (result || reads_records items) }
 {
     match item {
         Item::End(_) | Item::Action(_) | Item::Rule(_, _) | Item::PatternOnly(_) => true,

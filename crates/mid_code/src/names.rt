@@ -100,7 +100,8 @@ fn places_of_globals<'a>(
     alloc: Global,
     names: &[NameKind<'a>],
 ) -> Result<IndexMap<&'a [u8], usize>, AllocError>
-    ensures { IfOk result (λ found. (x : List ℕ) → place_found found.entries x ≡ place_from 0 (view_name_kinds names.now) x) }
+    ensures { IfOk result (λ found. (x : List ℕ) → place_found found.entries x
+        ≡ place_from 0 (view_name_kinds names.now) x) }
 {
     let mut found = IndexMap::new(alloc);
     let mut place = names.len();
@@ -116,7 +117,8 @@ fn places_of_functions<'a>(
     alloc: Global,
     functions: &[FunctionNames<'a>],
 ) -> Result<IndexMap<&'a [u8], usize>, AllocError>
-    ensures { IfOk result (λ found. (x : List ℕ) → place_found found.entries x ≡ function_from 0 (view_functions functions.now) x) }
+    ensures { IfOk result (λ found. (x : List ℕ) → place_found found.entries x
+        ≡ function_from 0 (view_functions functions.now) x) }
 {
     let mut found = IndexMap::new(alloc);
     let mut place = functions.len();
@@ -150,9 +152,12 @@ pub(crate) struct Names<'a> {
     globals: IndexMap<&'a [u8], usize>,
     functions: IndexMap<&'a [u8], usize>,
     numbers: Vec<usize>,
-    ghost globals_found: { (x : List ℕ) → place_found globals.entries x ≡ place_from 0 (view_name_kinds resolved.now.globals.items) x },
-    ghost functions_found: { (x : List ℕ) → place_found functions.entries x ≡ function_from 0 (view_functions resolved.now.functions.items) x },
-    ghost numbers_found: { numbers.items ≡ array_numbers 2 (view_name_kinds resolved.now.globals.items) },
+    ghost globals_found: { (x : List ℕ) → place_found globals.entries x
+        ≡ place_from 0 (view_name_kinds resolved.now.globals.items) x },
+    ghost functions_found: { (x : List ℕ) → place_found functions.entries x
+        ≡ function_from 0 (view_functions resolved.now.functions.items) x },
+    ghost numbers_found: { numbers.items ≡ array_numbers 2 (view_name_kinds
+        resolved.now.globals.items) },
 }
 
 impl<'a> Names<'a> {

@@ -47,7 +47,8 @@ pub(crate) fn inline(
     left: Box<Code>,
     right: Box<Code>,
 ) -> Result<Code, AllocError>
-    ensures { IfOk result (λ code. view code ≡ plain.Do (Operation.Inline arithmetic) (two (view left.value) (view right.value))) }
+    ensures { IfOk result (λ code. view code ≡ plain.Do (Operation.Inline arithmetic) (two (view
+        left.value) (view right.value))) }
 {
     binary(
         alloc,
@@ -64,7 +65,8 @@ pub(crate) fn host(
     left: Box<Code>,
     right: Box<Code>,
 ) -> Result<Code, AllocError>
-    ensures { IfOk result (λ code. view code ≡ plain.Do (Operation.Host primitive) (two (view left.value) (view right.value))) }
+    ensures { IfOk result (λ code. view code ≡ plain.Do (Operation.Host primitive) (two (view
+        left.value) (view right.value))) }
 {
     binary(
         alloc,
@@ -76,7 +78,8 @@ pub(crate) fn host(
 
 /// Whether both are true.
 fn both(alloc: Global, left: Box<Code>, right: Box<Code>) -> Result<Code, AllocError>
-    ensures { IfOk result (λ code. view code ≡ plain.Choose sort.Number (view left.value) (truth_code (view right.value)) zero_code) }
+    ensures { IfOk result (λ code. view code ≡ plain.Choose sort.Number (view left.value)
+        (truth_code (view right.value)) zero_code) }
 {
     let right = boxed(alloc, truth(alloc, Box::into_inner(right))?)?;
     let zero = number(alloc, 0)?;
@@ -85,7 +88,8 @@ fn both(alloc: Global, left: Box<Code>, right: Box<Code>) -> Result<Code, AllocE
 
 /// Whether one is true.
 fn either(alloc: Global, left: Box<Code>, right: Box<Code>) -> Result<Code, AllocError>
-    ensures { IfOk result (λ code. view code ≡ plain.Choose sort.Number (view left.value) one_code (truth_code (view right.value))) }
+    ensures { IfOk result (λ code. view code ≡ plain.Choose sort.Number (view left.value) one_code
+        (truth_code (view right.value))) }
 {
     let right = boxed(alloc, truth(alloc, Box::into_inner(right))?)?;
     let one = number(alloc, 1)?;
@@ -99,7 +103,8 @@ pub(crate) fn combined(
     left: Box<Code>,
     right: Box<Code>,
 ) -> Result<Code, AllocError>
-    ensures { IfOk result (λ code. view code ≡ combined (view_binary op) (view left.value) (view right.value)) }
+    ensures { IfOk result (λ code. view code ≡ combined (view_binary op) (view left.value) (view
+        right.value)) }
 {
     match op {
         BinaryOp::Or => either(alloc, left, right),

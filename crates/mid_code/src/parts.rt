@@ -36,7 +36,8 @@ use std::alloc::{AllocError, Global};
 
 /// A string.
 pub(crate) fn string(scope: &Scope<'_>, quoted: &[u8]) -> Result<Code, AllocError>
-    ensures { IfOk result (λ code. view code ≡ plain.Text (text_place (texts_of scope.now) (string_text quoted.now))) }
+    ensures { IfOk result (λ code. view code ≡ plain.Text (text_place (texts_of scope.now)
+        (string_text quoted.now))) }
 {
     let text = string_text(scope.alloc, quoted)?;
     Ok(Code::Text(scope.text_place(&text)))
@@ -45,7 +46,8 @@ pub(crate) fn string(scope: &Scope<'_>, quoted: &[u8]) -> Result<Code, AllocErro
 /// Whether the record has a match of an ERE token.
 #[tactic(auto, unfolding(mid_program::specs::Translation::code_of))]
 pub(crate) fn record_matches(scope: &Scope<'_>, token: &[u8]) -> Result<Code, AllocError>
-    ensures { IfOk result (λ code. view code ≡ code_of (texts_of scope.now) (scope_of scope.now) (Leaf (Ere token.now))) }
+    ensures { IfOk result (λ code. view code ≡ code_of (texts_of scope.now) (scope_of scope.now)
+        (Leaf (Ere token.now))) }
 {
     let record = record(scope.alloc)?;
     let text = Code::Text(scope.text_place(ere_text(token)));
@@ -59,7 +61,8 @@ pub(crate) fn record_matches(scope: &Scope<'_>, token: &[u8]) -> Result<Code, Al
 
 /// The length of the record.
 pub(crate) fn record_length(alloc: Global) -> Result<Code, AllocError>
-    ensures { IfOk result (λ code. view code ≡ plain.Do (Operation.Host row.Length) (one record_code)) }
+    ensures { IfOk result (λ code. view code ≡ plain.Do (Operation.Host row.Length) (one
+        record_code)) }
 {
     let record = record(alloc)?;
     unary(alloc, Operation::Host(Primitive::Length), record)
@@ -71,7 +74,8 @@ pub(crate) fn host_one(
     primitive: Primitive,
     operand: Code,
 ) -> Result<Code, AllocError>
-    ensures { IfOk result (λ code. view code ≡ plain.Do (Operation.Host primitive) (one (view operand))) }
+    ensures { IfOk result (λ code. view code ≡ plain.Do (Operation.Host primitive) (one (view
+        operand))) }
 {
     unary(alloc, Operation::Host(primitive), operand)
 }
@@ -82,7 +86,8 @@ pub(crate) fn host_number(
     primitive: Primitive,
     operand: Code,
 ) -> Result<Code, AllocError>
-    ensures { IfOk result (λ code. view code ≡ plain.Do Operation.AsNumber (one (plain.Do (Operation.Host primitive) (one (view operand))))) }
+    ensures { IfOk result (λ code. view code ≡ plain.Do Operation.AsNumber (one (plain.Do
+        (Operation.Host primitive) (one (view operand))))) }
 {
     let answer = host_one(alloc, primitive, operand)?;
     unary(alloc, Operation::AsNumber, answer)
@@ -95,7 +100,8 @@ pub(crate) fn host_array(
     name: &[u8],
     key: Box<Code>,
 ) -> Result<Code, AllocError>
-    ensures { IfOk result (λ code. view code ≡ plain.Do (Operation.Host primitive) (two (plain.Array (array_of (scope_of scope.now) name.now)) (view key.value))) }
+    ensures { IfOk result (λ code. view code ≡ plain.Do (Operation.Host primitive) (two (plain.Array
+        (array_of (scope_of scope.now) name.now)) (view key.value))) }
 {
     let array = Code::Array(scope.array(name));
     binary(
@@ -112,7 +118,8 @@ pub(crate) fn joined(
     first: Box<Code>,
     others: Box<Code>,
 ) -> Result<Box<Code>, AllocError>
-    ensures { IfOk result (λ key. view key.value ≡ plain.Do (Operation.Host row.Join) (two (view first.value) (view others.value))) }
+    ensures { IfOk result (λ key. view key.value ≡ plain.Do (Operation.Host row.Join) (two (view
+        first.value) (view others.value))) }
 {
     boxed(alloc, host(alloc, Primitive::Join, first, others)?)
 }
@@ -124,7 +131,9 @@ pub(crate) fn has_list(
     first: Box<Code>,
     others: Box<Code>,
 ) -> Result<Code, AllocError>
-    ensures { IfOk result (λ code. view code ≡ plain.Do (Operation.Host row.Has) (two (plain.Array (array_of (scope_of scope.now) name.now)) (plain.Do (Operation.Host row.Join) (two (view first.value) (view others.value))))) }
+    ensures { IfOk result (λ code. view code ≡ plain.Do (Operation.Host row.Has) (two (plain.Array
+        (array_of (scope_of scope.now) name.now)) (plain.Do (Operation.Host row.Join) (two (view
+        first.value) (view others.value))))) }
 {
     let key = joined(scope.alloc, first, others)?;
     host_array(scope, Primitive::Has, name, key)
@@ -132,7 +141,8 @@ pub(crate) fn has_list(
 
 /// The number of a field, which is kept for a place.
 pub(crate) fn field_number(alloc: Global, number: Code) -> Result<Box<Code>, AllocError>
-    ensures { IfOk result (λ kept. view kept.value ≡ plain.Do Operation.FieldNumber (one (view number))) }
+    ensures { IfOk result (λ kept. view kept.value ≡ plain.Do Operation.FieldNumber (one (view
+        number))) }
 {
     boxed(alloc, unary(alloc, Operation::FieldNumber, number)?)
 }
@@ -144,7 +154,8 @@ pub(crate) fn step_place(
     place: &Expr,
     kept: Option<Box<Code>>,
 ) -> Result<Code, AllocError>
-    ensures { IfOk result (λ code. view code ≡ keeping (view_kept kept) (stepped_at (view_step op) (target_in (texts_of scope.now) (scope_of scope.now) (tree place.now)))) }
+    ensures { IfOk result (λ code. view code ≡ keeping (view_kept kept) (stepped_at (view_step op)
+        (target_in (texts_of scope.now) (scope_of scope.now) (tree place.now)))) }
 {
     let body = stepped(scope.alloc, op, target_in(scope, place))?;
     keeping(scope.alloc, kept, body)
@@ -157,7 +168,8 @@ pub(crate) fn step_place_after(
     place: &Expr,
     kept: Option<Box<Code>>,
 ) -> Result<Code, AllocError>
-    ensures { IfOk result (λ code. view code ≡ keeping (view_kept kept) (step_after_at (view_step op) (target_in (texts_of scope.now) (scope_of scope.now) (tree place.now)))) }
+    ensures { IfOk result (λ code. view code ≡ keeping (view_kept kept) (step_after_at (view_step
+        op) (target_in (texts_of scope.now) (scope_of scope.now) (tree place.now)))) }
 {
     let body = step_after(scope.alloc, op, target_in(scope, place))?;
     keeping(scope.alloc, kept, body)
@@ -171,7 +183,8 @@ pub(crate) fn assign_place(
     kept: Option<Box<Code>>,
     right: Code,
 ) -> Result<Code, AllocError>
-    ensures { IfOk result (λ code. view code ≡ keeping (view_kept kept) (assigned_at (view_assign op) (target_in (texts_of scope.now) (scope_of scope.now) (tree place.now)) (view right))) }
+    ensures { IfOk result (λ code. view code ≡ keeping (view_kept kept) (assigned_at (view_assign
+        op) (target_in (texts_of scope.now) (scope_of scope.now) (tree place.now)) (view right))) }
 {
     let body = assigned(scope.alloc, op, target_in(scope, place), right)?;
     keeping(scope.alloc, kept, body)
@@ -183,7 +196,8 @@ pub(crate) fn line_into(
     place: &Expr,
     kept: Option<Box<Code>>,
 ) -> Result<Code, AllocError>
-    ensures { IfOk result (λ code. view code ≡ keeping (view_kept kept) (plain.AskLine (received_at (target_in (texts_of scope.now) (scope_of scope.now) (tree place.now))))) }
+    ensures { IfOk result (λ code. view code ≡ keeping (view_kept kept) (plain.AskLine (received_at
+        (target_in (texts_of scope.now) (scope_of scope.now) (tree place.now))))) }
 {
     let store = received(scope.alloc, target_in(scope, place))?;
     let body = ask_line(scope.alloc, store)?;
@@ -197,7 +211,9 @@ pub(crate) fn file_line_into(
     kept: Option<Box<Code>>,
     file: Box<Code>,
 ) -> Result<Code, AllocError>
-    ensures { IfOk result (λ code. view code ≡ keeping (view_kept kept) (plain.FileLine (view file.value) (received_at (target_in (texts_of scope.now) (scope_of scope.now) (tree place.now))))) }
+    ensures { IfOk result (λ code. view code ≡ keeping (view_kept kept) (plain.FileLine (view
+        file.value) (received_at (target_in (texts_of scope.now) (scope_of scope.now) (tree
+        place.now))))) }
 {
     let store = received(scope.alloc, target_in(scope, place))?;
     let body = file_line(scope.alloc, file, store)?;
@@ -210,7 +226,8 @@ pub(crate) fn passed(
     parameter: &NameKind<'_>,
     name: &[u8],
 ) -> Result<Code, AllocError>
-    ensures { IfOk result (λ code. view code ≡ passed_code (texts_of scope.now) (scope_of scope.now) (view_name parameter.now) name.now) }
+    ensures { IfOk result (λ code. view code ≡ passed_code (texts_of scope.now) (scope_of scope.now)
+        (view_name parameter.now) name.now) }
 {
     if parameter.is_array {
         return Ok(Code::Array(scope.array(name)));
@@ -223,7 +240,8 @@ pub(crate) fn passed(
 
 /// What stands for an argument that is missing.
 pub(crate) fn missing(parameter: &NameKind<'_>) -> Operand
-    ensures { (ps : List Name) → before result (fresh_codes ps) ≡ fresh_codes (view_name parameter.now ∷ ps) }
+    ensures { (ps : List Name) → before result (fresh_codes ps)
+        ≡ fresh_codes (view_name parameter.now ∷ ps) }
 {
     if parameter.is_array {
         Operand::Fresh
@@ -235,7 +253,8 @@ pub(crate) fn missing(parameter: &NameKind<'_>) -> Operand
 /// The code of a built-in function without operands.
 #[tactic(auto, unfolding(mid_program::specs::Translation::applied_code, mid_program::specs::Translation::code_of))]
 pub(crate) fn apply_none(alloc: Global, function: Builtin) -> Result<Code, AllocError>
-    ensures { (texts : List (List ℕ)) (scope : plain_names.Scope) → IfOk result (λ code. view code ≡ applied_code texts scope function NoTree) }
+    ensures { (texts : List (List ℕ)) (scope : plain_names.Scope)
+        → IfOk result (λ code. view code ≡ applied_code texts scope function NoTree) }
 {
     match function {
         Builtin::Length => record_length(alloc),
@@ -260,7 +279,8 @@ pub(crate) fn part_of(
     from: Box<Code>,
     count: Box<Code>,
 ) -> Result<Code, AllocError>
-    ensures { IfOk result (λ code. view code ≡ plain.Do (Operation.Host row.Substr) (plain.At (view text.value) (two (view from.value) (view count.value)))) }
+    ensures { IfOk result (λ code. view code ≡ plain.Do (Operation.Host row.Substr) (plain.At (view
+        text.value) (two (view from.value) (view count.value)))) }
 {
     let text = Box::into_inner(text);
     let from = Box::into_inner(from);
@@ -282,7 +302,9 @@ pub(crate) fn split_into(
     separator: Box<Code>,
     is_ere: bool,
 ) -> Result<Code, AllocError>
-    ensures { IfOk result (λ code. view code ≡ plain.Do (Operation.Host row.Split) (plain.At (view text.value) (plain.At (plain.Array (view_array array)) (plain.At (view separator.value) (plain.Fixed (flag_number is_ere) plain.End))))) }
+    ensures { IfOk result (λ code. view code ≡ plain.Do (Operation.Host row.Split) (plain.At (view
+        text.value) (plain.At (plain.Array (view_array array)) (plain.At (view separator.value)
+        (plain.Fixed (flag_number is_ere) plain.End))))) }
 {
     let text = Box::into_inner(text);
     let separator = Box::into_inner(separator);
@@ -298,7 +320,8 @@ fn replacing(
     replacement: Box<Code>,
     body: Code,
 ) -> Result<Code, AllocError>
-    ensures { IfOk result (λ code. view code ≡ plain.Let (view ere.value) (plain.Let (view replacement.value) (view body))) }
+    ensures { IfOk result (λ code. view code ≡ plain.Let (view ere.value) (plain.Let (view
+        replacement.value) (view body))) }
 {
     let body = kept_while(alloc, replacement, body)?;
     kept_while(alloc, ere, body)
@@ -311,7 +334,8 @@ pub(crate) fn substitute_record(
     ere: Box<Code>,
     replacement: Box<Code>,
 ) -> Result<Code, AllocError>
-    ensures { IfOk result (λ code. view code ≡ plain.Let (view ere.value) (plain.Let (view replacement.value) (plain.Let zero_code (substituted_at all FieldTarget)))) }
+    ensures { IfOk result (λ code. view code ≡ plain.Let (view ere.value) (plain.Let (view
+        replacement.value) (plain.Let zero_code (substituted_at all FieldTarget)))) }
 {
     let zero = number(alloc, 0)?;
     let body = substituted(alloc, all, Target::Field)?;
@@ -328,7 +352,9 @@ pub(crate) fn substitute_place(
     ere: Box<Code>,
     replacement: Box<Code>,
 ) -> Result<Code, AllocError>
-    ensures { IfOk result (λ code. view code ≡ plain.Let (view ere.value) (plain.Let (view replacement.value) (keeping (view_kept kept) (substituted_at all (target_in (texts_of scope.now) (scope_of scope.now) (tree place.now)))))) }
+    ensures { IfOk result (λ code. view code ≡ plain.Let (view ere.value) (plain.Let (view
+        replacement.value) (keeping (view_kept kept) (substituted_at all (target_in (texts_of
+        scope.now) (scope_of scope.now) (tree place.now)))))) }
 {
     let body = substituted(scope.alloc, all, target_in(scope, place))?;
     let body = keeping(scope.alloc, kept, body)?;

@@ -17,7 +17,8 @@ use awk_grammar::{BinaryOp, Expr};
 
 /// The name that an expression is, if it is a bare name.
 pub(crate) fn bare_name(e: &Expr) -> Option<&[u8]>
-    ensures { MatchOption result (bare_name (tree e.now) ≡ None) (λ name. tree e.now ≡ Var name.now) }
+    ensures { MatchOption result (bare_name (tree e.now) ≡ None) (λ name. tree e.now
+        ≡ Var name.now) }
 {
     match e {
         Expr::Var(name) => Some(name),
@@ -57,7 +58,8 @@ pub(crate) fn ere_text(token: &[u8]) -> &[u8]
 
 /// The ERE that an expression is, parentheses aside, if it is an ERE token.
 pub(crate) fn ere_in(e: &Expr) -> Option<&[u8]>
-    ensures { MatchOption result (ere_in (tree e.now) ≡ []) (λ text. ere_in (tree e.now) ≡ text.now ∷ []) }
+    ensures { MatchOption result (ere_in (tree e.now) ≡ []) (λ text. ere_in (tree e.now)
+        ≡ text.now ∷ []) }
 {
     match e {
         Expr::Ere(token) => Some(ere_text(token)),
@@ -119,7 +121,10 @@ pub(crate) fn is_match(op: BinaryOp) -> bool
 /// Whether an operator divides.
 #[tactic(auto, unfolding(mid_program::specs::Translation::truncated_code))]
 pub(crate) fn is_quotient(op: BinaryOp) -> bool
-    ensures { (texts : List (List ℕ)) (scope : Scope) (a b : Tree) (whole : Code) → truncated_code texts scope (Bin (view_binary op) a b) whole ≡ (if result then Do (Operation.Inline Arithmetic.Truncated) (two (code_of texts scope a) (code_of texts scope b)) else Do (Operation.Host row.IntOf) (one whole)) }
+    ensures { (texts : List (List ℕ)) (scope : Scope) (a b : Tree) (whole : Code)
+        → truncated_code texts scope (Bin (view_binary op) a b) whole
+        ≡ (if result then Do (Operation.Inline Arithmetic.Truncated) (two (code_of texts scope a)
+        (code_of texts scope b)) else Do (Operation.Host row.IntOf) (one whole)) }
 {
     match op {
         BinaryOp::Divide => true,

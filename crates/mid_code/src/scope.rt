@@ -77,7 +77,8 @@ impl<'a> Scope<'a> {
     /// The parameters of a function, by its number.
     #[tactic(auto, unfolding(crate::specs::ViewScope::scope_of))]
     pub fn parameters_of(&self, function: usize) -> &'a [NameKind<'a>]
-        ensures { view_name_kinds result.now ≡ (function_at (scope_of self.now).script.functions function).parameters }
+        ensures { view_name_kinds result.now ≡ (function_at (scope_of self.now).script.functions
+            function).parameters }
     {
         match self.names.resolved.functions.get(function) {
             Some(found) => &found.parameters,

@@ -45,7 +45,8 @@ fn listed_of(word: PrintWord, destination: Destination) -> Listed
 /// The values of a print statement; without any it is the record.
 #[tactic(auto, unfolding(mid_program::specs::Translation::codes_of, mid_program::specs::Translation::code_of))]
 fn values(scope: &Scope<'_>, args: &PrintArgs) -> Result<Vec<Operand>, AllocError>
-    ensures { IfOk result (λ codes. views codes.items ≡ codes_of (texts_of scope.now) (scope_of scope.now) (operands_of (view_args args.now))) }
+    ensures { IfOk result (λ codes. views codes.items
+        ≡ codes_of (texts_of scope.now) (scope_of scope.now) (operands_of (view_args args.now))) }
 {
     let mut codes = Vec::new(scope.alloc);
     match args {
@@ -72,7 +73,9 @@ fn printed(
     args: &PrintArgs,
     target: &PrintTarget,
 ) -> Result<Vec<Operand>, AllocError>
-    ensures { IfOk result (λ codes. views codes.items ≡ codes_of (texts_of scope.now) (scope_of scope.now) (with_target (operands_of (view_args args.now)) (tree_target target.now))) }
+    ensures { IfOk result (λ codes. views codes.items
+        ≡ codes_of (texts_of scope.now) (scope_of scope.now) (with_target (operands_of (view_args
+        args.now)) (tree_target target.now))) }
 {
     let mut codes = values(scope, args)?;
     match target {
@@ -86,7 +89,8 @@ fn printed(
 
 /// The code of a simple statement.
 fn simple(scope: &Scope<'_>, s: &SimpleStmt) -> Result<Step, AllocError>
-    ensures { IfOk result (λ step. view_step step ≡ plain_step (texts_of scope.now) (scope_of scope.now) (view_simple s.now)) }
+    ensures { IfOk result (λ step. view_step step ≡ plain_step (texts_of scope.now) (scope_of
+        scope.now) (view_simple s.now)) }
 {
     match s {
         SimpleStmt::Eval(e) => Ok(Step::Eval(code(scope, e)?)),
@@ -116,7 +120,8 @@ pub(crate) fn nothing(alloc: Global) -> Step
 
 /// The code of a simple statement, if there is one.
 fn optional_simple(scope: &Scope<'_>, s: &Option<SimpleStmt>) -> Result<Step, AllocError>
-    ensures { IfOk result (λ step. view_step step ≡ maybe_step (texts_of scope.now) (scope_of scope.now) (view_maybe_simple s.now)) }
+    ensures { IfOk result (λ step. view_step step ≡ maybe_step (texts_of scope.now) (scope_of
+        scope.now) (view_maybe_simple s.now)) }
 {
     match s {
         None => Ok(nothing(scope.alloc)),
@@ -126,7 +131,8 @@ fn optional_simple(scope: &Scope<'_>, s: &Option<SimpleStmt>) -> Result<Step, Al
 
 /// The code of a test, which holds where it is left out.
 fn test(scope: &Scope<'_>, e: &Option<Expr>) -> Result<Code, AllocError>
-    ensures { IfOk result (λ code. view code ≡ test_code (texts_of scope.now) (scope_of scope.now) (view_maybe e.now)) }
+    ensures { IfOk result (λ code. view code ≡ test_code (texts_of scope.now) (scope_of scope.now)
+        (view_maybe e.now)) }
 {
     match e {
         None => Ok(Code::Number(1)),
@@ -155,7 +161,8 @@ fn branches(
     yes: Box<Step>,
     no: Box<Step>,
 ) -> Result<Step, AllocError>
-    ensures { IfOk result (λ step. view_step step ≡ plain.If (code_of (texts_of scope.now) (scope_of scope.now) (tree test.now)) (view_step yes.value) (view_step no.value)) }
+    ensures { IfOk result (λ step. view_step step ≡ plain.If (code_of (texts_of scope.now) (scope_of
+        scope.now) (tree test.now)) (view_step yes.value) (view_step no.value)) }
 {
     Ok(chosen(code(scope, test)?, yes, no))
 }
@@ -166,21 +173,24 @@ pub(crate) fn done_where(
     test: &Expr,
     done: Box<Step>,
 ) -> Result<Step, AllocError>
-    ensures { IfOk result (λ step. view_step step ≡ plain.If (code_of (texts_of scope.now) (scope_of scope.now) (tree test.now)) (view_step done.value) (plain.Block plain.NoStep)) }
+    ensures { IfOk result (λ step. view_step step ≡ plain.If (code_of (texts_of scope.now) (scope_of
+        scope.now) (tree test.now)) (view_step done.value) (plain.Block plain.NoStep)) }
 {
     let otherwise = boxed(scope.alloc, nothing(scope.alloc))?;
     branches(scope, test, done, otherwise)
 }
 
 fn repeated(first: bool, test: Code, body: Box<Step>, next: Box<Step>) -> Step
-    ensures { view_step result ≡ plain.Loop first (view test) (view_step body.value) (view_step next.value) }
+    ensures { view_step result ≡ plain.Loop first (view test) (view_step body.value) (view_step
+        next.value) }
 {
     Step::Loop(first, test, body, next)
 }
 
 /// The code of `while` and `do`, where the body has its code.
 fn rounds(scope: &Scope<'_>, first: bool, test: &Expr, body: Box<Step>) -> Result<Step, AllocError>
-    ensures { IfOk result (λ step. view_step step ≡ plain.Loop first (code_of (texts_of scope.now) (scope_of scope.now) (tree test.now)) (view_step body.value) (plain.Block plain.NoStep)) }
+    ensures { IfOk result (λ step. view_step step ≡ plain.Loop first (code_of (texts_of scope.now)
+        (scope_of scope.now) (tree test.now)) (view_step body.value) (plain.Block plain.NoStep)) }
 {
     let next = boxed(scope.alloc, nothing(scope.alloc))?;
     Ok(repeated(first, code(scope, test)?, body, next))
@@ -194,7 +204,8 @@ fn for_each(array: ArrayName, store: Code, body: Box<Step>) -> Step
 
 #[tactic(auto, unfolding(mid_program::specs::Translation::step_code))]
 fn jump(jump: Jump) -> Step
-    ensures { (texts : List (List ℕ)) (scope : names.Scope) → view_step result ≡ step_code texts scope (Jumping (view_jump jump)) }
+    ensures { (texts : List (List ℕ)) (scope : names.Scope)
+        → view_step result ≡ step_code texts scope (Jumping (view_jump jump)) }
 {
     match jump {
         Jump::Break => Step::Break,
@@ -206,7 +217,8 @@ fn jump(jump: Jump) -> Step
 /// The code of `exit` and `return`.
 #[tactic(auto, unfolding(mid_program::specs::Translation::step_code))]
 fn leave(scope: &Scope<'_>, leaving: Leaving, e: &Option<Expr>) -> Result<Step, AllocError>
-    ensures { IfOk result (λ step. view_step step ≡ step_code (texts_of scope.now) (scope_of scope.now) (Leave (view_leaving leaving) (view_maybe e.now))) }
+    ensures { IfOk result (λ step. view_step step ≡ step_code (texts_of scope.now) (scope_of
+        scope.now) (Leave (view_leaving leaving) (view_maybe e.now))) }
 {
     match (leaving, e) {
         (Leaving::Exit, None) => Ok(Step::Exit),
@@ -224,7 +236,11 @@ fn counted(
     next: &Option<SimpleStmt>,
     body: Box<Step>,
 ) -> Result<Step, AllocError>
-    ensures { IfOk result (λ step. view_step step ≡ plain.Block (plain.Then (maybe_step (texts_of scope.now) (scope_of scope.now) (view_maybe_simple first.now)) (plain.Then (plain.Loop true (test_code (texts_of scope.now) (scope_of scope.now) (view_maybe condition.now)) (view_step body.value) (maybe_step (texts_of scope.now) (scope_of scope.now) (view_maybe_simple next.now))) plain.NoStep))) }
+    ensures { IfOk result (λ step. view_step step ≡ plain.Block (plain.Then (maybe_step (texts_of
+        scope.now) (scope_of scope.now) (view_maybe_simple first.now)) (plain.Then (plain.Loop true
+        (test_code (texts_of scope.now) (scope_of scope.now) (view_maybe condition.now)) (view_step
+        body.value) (maybe_step (texts_of scope.now) (scope_of scope.now) (view_maybe_simple
+        next.now))) plain.NoStep))) }
 {
     let mut steps = Vec::new(scope.alloc);
     steps.push(optional_simple(scope, first)?)?;
@@ -235,7 +251,9 @@ fn counted(
 
 /// The code of `for (key in array)`, where its body has its code.
 fn walked(scope: &Scope<'_>, name: &[u8], array: &[u8], body: Box<Step>) -> Result<Step, AllocError>
-    ensures { IfOk result (λ step. view_step step ≡ plain.Each (array_of (scope_of scope.now) array.now) (store_variable_code (variable_of (scope_of scope.now) name.now) (moved 0)) (view_step body.value)) }
+    ensures { IfOk result (λ step. view_step step ≡ plain.Each (array_of (scope_of scope.now)
+        array.now) (store_variable_code (variable_of (scope_of scope.now) name.now) (moved 0))
+        (view_step body.value)) }
 {
     let variable = scope.variable(name);
     let array = scope.array(array);
@@ -247,7 +265,8 @@ fn walked(scope: &Scope<'_>, name: &[u8], array: &[u8], body: Box<Step>) -> Resu
 #[cycle(statements)]
 #[tactic(auto, unfolding(mid_program::specs::Translation::step_code))]
 pub(crate) fn step(scope: &Scope<'_>, s: &Stmt) -> Result<Step, AllocError>
-    ensures { IfOk result (λ step. view_step step ≡ step_code (texts_of scope.now) (scope_of scope.now) (tree_stmt s.now)) }
+    ensures { IfOk result (λ step. view_step step ≡ step_code (texts_of scope.now) (scope_of
+        scope.now) (tree_stmt s.now)) }
 {
     match s {
         Stmt::Block(body) => Ok(block(steps(scope, body)?)),
@@ -272,7 +291,8 @@ pub(crate) fn step(scope: &Scope<'_>, s: &Stmt) -> Result<Step, AllocError>
 /// The code of a statement in a box.
 #[cycle(statements)]
 fn boxed_step(scope: &Scope<'_>, s: &Stmt) -> Result<Box<Step>, AllocError>
-    ensures { IfOk result (λ step. view_step step.value ≡ step_code (texts_of scope.now) (scope_of scope.now) (tree_stmt s.now)) }
+    ensures { IfOk result (λ step. view_step step.value
+        ≡ step_code (texts_of scope.now) (scope_of scope.now) (tree_stmt s.now)) }
 {
     boxed(scope.alloc, step(scope, s)?)
 }
@@ -281,7 +301,8 @@ fn boxed_step(scope: &Scope<'_>, s: &Stmt) -> Result<Box<Step>, AllocError>
 #[cycle(statements)]
 #[tactic(auto, unfolding(mid_program::specs::Translation::steps_code))]
 pub(crate) fn steps(scope: &Scope<'_>, body: &[Stmt]) -> Result<Vec<Step>, AllocError>
-    ensures { IfOk result (λ steps. view_steps steps.items ≡ steps_code (texts_of scope.now) (scope_of scope.now) (tree_stmts body.now)) }
+    ensures { IfOk result (λ steps. view_steps steps.items
+        ≡ steps_code (texts_of scope.now) (scope_of scope.now) (tree_stmts body.now)) }
 {
     let mut found = Vec::new(scope.alloc);
     for s in body {

@@ -28,7 +28,8 @@ pub(crate) enum Target {
 
 /// What takes a value that is stored into a place; what is no place counts as a field.
 pub(crate) fn target_in(scope: &Scope<'_>, place: &Expr) -> Target
-    ensures { view_target result ≡ target_in (texts_of scope.now) (scope_of scope.now) (tree place.now) }
+    ensures { view_target result ≡ target_in (texts_of scope.now) (scope_of scope.now) (tree
+        place.now) }
 {
     match place {
         Expr::Element(name, _) => Target::Element(scope.array(name)),
@@ -157,7 +158,8 @@ fn updated(
     target: Target,
     right: Code,
 ) -> Result<Code, AllocError>
-    ensures { IfOk result (λ code. view code ≡ updated_at operation (view_target target) (view right)) }
+    ensures { IfOk result (λ code. view code ≡ updated_at operation (view_target target) (view
+        right)) }
 {
     let right = boxed(alloc, right)?;
     let old = read(alloc, target, 1)?;
@@ -173,7 +175,8 @@ pub(crate) fn assigned(
     target: Target,
     right: Code,
 ) -> Result<Code, AllocError>
-    ensures { IfOk result (λ code. view code ≡ assigned_at (view_assign op) (view_target target) (view right)) }
+    ensures { IfOk result (λ code. view code ≡ assigned_at (view_assign op) (view_target target)
+        (view right)) }
 {
     let operation = match op {
         AssignOp::Set => return stored(alloc, target, 0, right),

@@ -23,7 +23,8 @@ type Texts = IndexSet<Vec<u8>>;
 /// Adds a text.
 #[tactic(auto, using(crate::proofs::TextTables::put_is))]
 fn put(texts: &mut Texts, text: Vec<u8>) -> Result<(), AllocError>
-    ensures { OnOk result (view_texts texts.new.keys ≡ once (view_texts texts.old.keys) (text.items ∷ [])) }
+    ensures { OnOk result (view_texts texts.new.keys
+        ≡ once (view_texts texts.old.keys) (text.items ∷ [])) }
 {
     texts.insert(text)?;
     Ok(())
@@ -33,7 +34,8 @@ fn put(texts: &mut Texts, text: Vec<u8>) -> Result<(), AllocError>
 #[cycle(texts)]
 #[tactic(auto, using(crate::proofs::TextTables::once_append), unfolding(mid_program::specs::Texts::texts_in))]
 fn put_expr(alloc: Global, texts: &mut Texts, e: &Expr) -> Result<(), AllocError>
-    ensures { OnOk result (view_texts texts.new.keys ≡ once (view_texts texts.old.keys) (texts_in (tree e.now))) }
+    ensures { OnOk result (view_texts texts.new.keys
+        ≡ once (view_texts texts.old.keys) (texts_in (tree e.now))) }
 {
     match e {
         Expr::Str(quoted) => put(texts, string_text(alloc, quoted)?),
@@ -70,7 +72,8 @@ fn put_expr(alloc: Global, texts: &mut Texts, e: &Expr) -> Result<(), AllocError
 #[cycle(texts)]
 #[tactic(auto, using(crate::proofs::TextTables::once_append), unfolding(mid_program::specs::Texts::all_texts))]
 fn put_all(alloc: Global, texts: &mut Texts, es: &[Expr]) -> Result<(), AllocError>
-    ensures { OnOk result (view_texts texts.new.keys ≡ once (view_texts texts.old.keys) (all_texts (trees es.now))) }
+    ensures { OnOk result (view_texts texts.new.keys
+        ≡ once (view_texts texts.old.keys) (all_texts (trees es.now))) }
 {
     for e in es {
         put_expr(alloc, texts, e)?;
@@ -80,7 +83,8 @@ fn put_all(alloc: Global, texts: &mut Texts, es: &[Expr]) -> Result<(), AllocErr
 
 #[tactic(auto, using(crate::proofs::TextTables::once_append))]
 fn put_args(alloc: Global, texts: &mut Texts, args: &PrintArgs) -> Result<(), AllocError>
-    ensures { OnOk result (view_texts texts.new.keys ≡ once (view_texts texts.old.keys) (args_texts (view_args args.now))) }
+    ensures { OnOk result (view_texts texts.new.keys
+        ≡ once (view_texts texts.old.keys) (args_texts (view_args args.now))) }
 {
     match args {
         PrintArgs::Bare => Ok(()),
@@ -93,7 +97,8 @@ fn put_args(alloc: Global, texts: &mut Texts, args: &PrintArgs) -> Result<(), Al
 }
 
 fn put_target(alloc: Global, texts: &mut Texts, target: &PrintTarget) -> Result<(), AllocError>
-    ensures { OnOk result (view_texts texts.new.keys ≡ once (view_texts texts.old.keys) (target_texts (view_target target.now))) }
+    ensures { OnOk result (view_texts texts.new.keys
+        ≡ once (view_texts texts.old.keys) (target_texts (view_target target.now))) }
 {
     match target {
         PrintTarget::Output => Ok(()),
@@ -103,7 +108,8 @@ fn put_target(alloc: Global, texts: &mut Texts, target: &PrintTarget) -> Result<
 
 #[tactic(auto, using(crate::proofs::TextTables::once_append))]
 fn put_simple(alloc: Global, texts: &mut Texts, simple: &SimpleStmt) -> Result<(), AllocError>
-    ensures { OnOk result (view_texts texts.new.keys ≡ once (view_texts texts.old.keys) (plain_texts (view_simple simple.now))) }
+    ensures { OnOk result (view_texts texts.new.keys
+        ≡ once (view_texts texts.old.keys) (plain_texts (view_simple simple.now))) }
 {
     match simple {
         SimpleStmt::Eval(e) => put_expr(alloc, texts, e),
@@ -116,7 +122,8 @@ fn put_simple(alloc: Global, texts: &mut Texts, simple: &SimpleStmt) -> Result<(
 }
 
 fn put_optional(alloc: Global, texts: &mut Texts, e: &Option<Expr>) -> Result<(), AllocError>
-    ensures { OnOk result (view_texts texts.new.keys ≡ once (view_texts texts.old.keys) (maybe_texts (view_maybe e.now))) }
+    ensures { OnOk result (view_texts texts.new.keys
+        ≡ once (view_texts texts.old.keys) (maybe_texts (view_maybe e.now))) }
 {
     match e {
         None => Ok(()),
@@ -129,7 +136,8 @@ fn put_optional_simple(
     texts: &mut Texts,
     simple: &Option<SimpleStmt>,
 ) -> Result<(), AllocError>
-    ensures { OnOk result (view_texts texts.new.keys ≡ once (view_texts texts.old.keys) (maybe_plain_texts (view_maybe_simple simple.now))) }
+    ensures { OnOk result (view_texts texts.new.keys
+        ≡ once (view_texts texts.old.keys) (maybe_plain_texts (view_maybe_simple simple.now))) }
 {
     match simple {
         None => Ok(()),
@@ -141,7 +149,8 @@ fn put_optional_simple(
 #[cycle(stmt_texts)]
 #[tactic(auto, using(crate::proofs::TextTables::once_append), unfolding(mid_program::specs::Texts::stmt_texts))]
 fn put_stmt(alloc: Global, texts: &mut Texts, s: &Stmt) -> Result<(), AllocError>
-    ensures { OnOk result (view_texts texts.new.keys ≡ once (view_texts texts.old.keys) (stmt_texts (view_stmt s.now))) }
+    ensures { OnOk result (view_texts texts.new.keys
+        ≡ once (view_texts texts.old.keys) (stmt_texts (view_stmt s.now))) }
 {
     match s {
         Stmt::Block(body) => put_stmts(alloc, texts, body),
@@ -175,7 +184,8 @@ fn put_stmt(alloc: Global, texts: &mut Texts, s: &Stmt) -> Result<(), AllocError
 #[cycle(stmt_texts)]
 #[tactic(auto, using(crate::proofs::TextTables::once_append), unfolding(mid_program::specs::Texts::stmts_texts))]
 fn put_stmts(alloc: Global, texts: &mut Texts, body: &[Stmt]) -> Result<(), AllocError>
-    ensures { OnOk result (view_texts texts.new.keys ≡ once (view_texts texts.old.keys) (stmts_texts (view_stmts body.now))) }
+    ensures { OnOk result (view_texts texts.new.keys
+        ≡ once (view_texts texts.old.keys) (stmts_texts (view_stmts body.now))) }
 {
     for s in body {
         put_stmt(alloc, texts, s)?;
@@ -185,7 +195,8 @@ fn put_stmts(alloc: Global, texts: &mut Texts, body: &[Stmt]) -> Result<(), Allo
 
 #[tactic(auto, using(crate::proofs::TextTables::once_append))]
 fn put_pattern(alloc: Global, texts: &mut Texts, pattern: &Pattern) -> Result<(), AllocError>
-    ensures { OnOk result (view_texts texts.new.keys ≡ once (view_texts texts.old.keys) (pattern_texts (view_pattern pattern.now))) }
+    ensures { OnOk result (view_texts texts.new.keys
+        ≡ once (view_texts texts.old.keys) (pattern_texts (view_pattern pattern.now))) }
 {
     match pattern {
         Pattern::One(e) => put_expr(alloc, texts, e),
@@ -199,7 +210,8 @@ fn put_pattern(alloc: Global, texts: &mut Texts, pattern: &Pattern) -> Result<()
 /// Adds the texts of an item; those of functions come after all items.
 #[tactic(auto, using(crate::proofs::TextTables::once_append))]
 fn put_item(alloc: Global, texts: &mut Texts, item: &Item) -> Result<(), AllocError>
-    ensures { OnOk result (view_texts texts.new.keys ≡ once (view_texts texts.old.keys) (item_texts (view_item item.now))) }
+    ensures { OnOk result (view_texts texts.new.keys
+        ≡ once (view_texts texts.old.keys) (item_texts (view_item item.now))) }
 {
     match item {
         Item::Function(_, _, _) | Item::Empty => Ok(()),
@@ -215,7 +227,8 @@ fn put_item(alloc: Global, texts: &mut Texts, item: &Item) -> Result<(), AllocEr
 /// Adds the texts of items.
 #[tactic(auto, using(crate::proofs::TextTables::once_append))]
 fn put_items(alloc: Global, texts: &mut Texts, items: &[Item]) -> Result<(), AllocError>
-    ensures { OnOk result (view_texts texts.new.keys ≡ once (view_texts texts.old.keys) (items_texts (view_items items.now))) }
+    ensures { OnOk result (view_texts texts.new.keys
+        ≡ once (view_texts texts.old.keys) (items_texts (view_items items.now))) }
 {
     for item in items {
         put_item(alloc, texts, item)?;
@@ -231,7 +244,9 @@ fn put_bodies(
     functions: &[FunctionNames<'_>],
     bodies: &[&[Stmt]],
 ) -> Result<(), AllocError>
-    ensures { OnOk result (view_texts texts.new.keys ≡ once (view_texts texts.old.keys) (functions_texts (with_bodies (view_functions functions.now) (view_bodies bodies.now)))) }
+    ensures { OnOk result (view_texts texts.new.keys
+        ≡ once (view_texts texts.old.keys) (functions_texts (with_bodies (view_functions
+        functions.now) (view_bodies bodies.now)))) }
 {
     for i in 0..functions.len() {
         put_stmts(alloc, texts, body_at(bodies, i))?;
@@ -247,7 +262,8 @@ pub(crate) fn texts_of(
     bodies: &[&[Stmt]],
 ) -> Result<IndexSet<Vec<u8>>, AllocError>
     requires { view_bodies bodies.now ≡ bodies_of (view_script resolved.now.script.now) }
-    ensures { IfOk result (λ texts. view_texts texts.keys ≡ texts_of_script (script_of resolved.now)) }
+    ensures { IfOk result (λ texts. view_texts texts.keys
+        ≡ texts_of_script (script_of resolved.now)) }
 {
     let mut texts = IndexSet::new(alloc);
     put_items(alloc, &mut texts, &resolved.script.items)?;

@@ -34,7 +34,8 @@ fn kind_of(name: &NameKind<'_>) -> Kind
 }
 
 fn kinds_of(alloc: Global, names: &[NameKind<'_>]) -> Result<Vec<Kind>, AllocError>
-    ensures { IfOk result (λ kinds. map view_kind kinds.items ≡ map kind_of (view_name_kinds names.now)) }
+    ensures { IfOk result (λ kinds. map view_kind kinds.items
+        ≡ map kind_of (view_name_kinds names.now)) }
 {
     let mut kinds = Vec::new(alloc);
     for name in names {
@@ -45,7 +46,8 @@ fn kinds_of(alloc: Global, names: &[NameKind<'_>]) -> Result<Vec<Kind>, AllocErr
 
 /// What is announced of the global names.
 fn declared(alloc: Global, names: &[NameKind<'_>]) -> Result<Vec<Declared>, AllocError>
-    ensures { IfOk result (λ found. map view_declared found.items ≡ map declared_code (view_name_kinds names.now)) }
+    ensures { IfOk result (λ found. map view_declared found.items
+        ≡ map declared_code (view_name_kinds names.now)) }
 {
     let mut found = Vec::new(alloc);
     for name in names {
@@ -59,7 +61,12 @@ fn declared(alloc: Global, names: &[NameKind<'_>]) -> Result<Vec<Declared>, Allo
 /// The code of a function.
 #[tactic(auto, unfolding(crate::specs::ViewScope::scope_of))]
 fn routine(scope: &Scope<'_>, name: &[u8], body: &[Stmt]) -> Result<Routine, AllocError>
-    ensures { IfOk result (λ found. view_routine found ≡ routine_code (texts_in scope.now) (scope_of scope.now).script (record { name = name.now; parameters = (scope_of scope.now).parameters; body = view_stmts body.now })) }
+    ensures { IfOk result (λ found. view_routine found
+        ≡ routine_code (texts_in scope.now) (scope_of scope.now).script (record {
+          name = name.now;
+          parameters = (scope_of scope.now).parameters;
+          body = view_stmts body.now;
+        })) }
 {
     Ok(Routine {
         name: name.to_vec(scope.alloc)?,
@@ -76,7 +83,9 @@ fn routines(
     bodies: &[&[Stmt]],
 ) -> Result<Vec<Routine>, AllocError>
     requires { view_bodies bodies.now ≡ bodies_of (view_script names.now.resolved.now.script.now) }
-    ensures { IfOk result (λ found. map view_routine found.items ≡ map (routine_code (view_texts texts.now.keys) (script_of names.now.resolved.now)) (script_of names.now.resolved.now).functions) }
+    ensures { IfOk result (λ found. map view_routine found.items
+        ≡ map (routine_code (view_texts texts.now.keys) (script_of names.now.resolved.now))
+        (script_of names.now.resolved.now).functions) }
 {
     let mut found = Vec::new(alloc);
     let functions = &names.resolved.functions;

@@ -89,7 +89,7 @@ module _ (p : Program) (deepest : ℕ) (ks : List Kind) (F : List Frame) where
   module _ (b : Bases) where
     -- a number's value, or the uninitialised one where there is no number yet
     pub data PerhapsIs (m : ℕ) (v : Value) : Type 0 where
-      NotYet : m ≡ least → v ≡ value.Uninit → PerhapsIs m v
+      NoNumber : m ≡ least → v ≡ value.Uninit → PerhapsIs m v
       There : (x : Number) → m ≡ number_word x → v ≡ value.Num x.number → PerhapsIs m v
 
     -- the number of a temporary comes as a value into its local
@@ -104,7 +104,7 @@ module _ (p : Program) (deepest : ℕ) (ks : List Kind) (F : List Frame) where
 
     pub boxed_perhaps_ok : (k : Instructions) (K : List Label) (l : Locals) (t m : ℕ) (σ : State) (v : Value) → t < b.temporaries → l.number t ≡ Bits (I64 m) → is_owned (l.hand t) ≡ false → PerhapsIs m v →
         Boxed t (boxed_perhaps b t (LocalSet (h b t)) k) k K l σ v
-    boxed_perhaps_ok k K l t m σ v lt e o (NotYet q q1) = record {
+    boxed_perhaps_ok k K l t m σ v lt e o (NoNumber q q1) = record {
       steps = 6;
       few = omega arith;
       goes = goes_to

@@ -35,7 +35,7 @@ use Rattle.value_machine.proofs.State.{bare, perhaps, word_not_least, word_not_b
 use Rattle.value_machine.proofs.Relation.{HoldsAt, Fit, fit_loose, fit_hand, fit_number, Away, away_out}
 use Rattle.value_machine.proofs.Pieces.{chooses, closes, number_is_ok, number_kept, number_failed}
 use Rattle.value_machine.proofs.Answers.{machine, beside_state, left_beside, reply, after_reply, Reached}
-use Rattle.value_machine.proofs.Conversions.{BareIs, IsBeside, IsNone, IsNumber, bare_is, ask_to_num, PerhapsIs, NotYet, There, boxed_number_ok, boxed_perhaps_ok, Nought, Itself, zeroed_ok, code_number_ok}
+use Rattle.value_machine.proofs.Conversions.{BareIs, IsBeside, IsNone, IsNumber, bare_is, ask_to_num, PerhapsIs, NoNumber, There, boxed_number_ok, boxed_perhaps_ok, Nought, Itself, zeroed_ok, code_number_ok}
 
 -- the same but for one temporary
 pub record Keeps (t : ℕ) (l l1 : Locals) : Type 0 where
@@ -104,7 +104,7 @@ module _ (p : Program) (deepest : ℕ) (ks : List Kind) (F : List Frame) (b : Ba
       (then_goes (number_is_ok b l t text_beside text_beside lt (hd.1 ∙ ap (λ m. Bits (I64 m)) e)) (then_goes (chooses Done (boxed_perhaps b t (LocalSet (h b t)) Done) 1) closes)) (omega arith)
       (conv_self q i w t (Answered (answer.Of sort.Value)) k K l v σ ft (hd.0 ∙ e1, tt))
   bare_boxed q i w t d k K l v σ lq lt ft hd (IsNone e e1 e2) =
-      let x = boxed_perhaps_ok p deepest ks F b Done (label [] None k ∷ K) l t (bare v) σ v lt hd.1 (ap is_owned (hd.0 ∙ e2)) (NotYet e1 e) in
+      let x = boxed_perhaps_ok p deepest ks F b Done (label [] None k ∷ K) l t (bare v) σ v lt hd.1 (ap is_owned (hd.0 ∙ e2)) (NoNumber e1 e) in
       there u M 16 (3 + (x.steps + 1)) _ _ v σ (Converted q i w t (Answered (answer.Of sort.Value)) k K l) (Away p deepest ks F b d K)
       (then_goes (then_goes (number_is_ok b l t least text_beside lt (hd.1 ∙ ap (λ m. Bits (I64 m)) e1)) (chooses Done (boxed_perhaps b t (LocalSet (h b t)) Done) 0)) (then_goes x.goes closes)) (omega (arith, x.few))
       (conv_hand q i w t k K l v σ lq ft)
@@ -116,7 +116,7 @@ module _ (p : Program) (deepest : ℕ) (ks : List Kind) (F : List Frame) (b : Ba
       (conv_hand q i w t k K l v σ lq ft)
 
   pub perhaps_is : (o : Option Number) → PerhapsIs p deepest ks F b (perhaps o) (boxed Perhaps o)
-  perhaps_is None = NotYet refl refl
+  perhaps_is None = NoNumber refl refl
   perhaps_is (Some x) = There x refl refl
 
   -- a value as a number

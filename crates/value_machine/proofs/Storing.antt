@@ -33,7 +33,7 @@ use Rattle.value_machine.proofs.Calls.{called}
 use Rattle.value_machine.proofs.State.{host_of, bare, word_not_least, word_not_beside, perhaps}
 use Rattle.value_machine.proofs.Relation.{HoldsAt, Fit, fit_hand}
 use Rattle.value_machine.proofs.Answers.{machine}
-use Rattle.value_machine.proofs.Conversions.{BareIs, IsBeside, IsNone, IsNumber, bare_is, same_state, PerhapsIs, NotYet, There}
+use Rattle.value_machine.proofs.Conversions.{BareIs, IsBeside, IsNone, IsNumber, bare_is, same_state, PerhapsIs, NoNumber, There}
 use Rattle.value_machine.proofs.Converting.{flag_word, perhaps_is}
 use Rattle.value_machine.proofs.Copies.{dup_ok}
 use Rattle.value_machine.proofs.Simulation.{StandsAt, layout}
@@ -107,7 +107,7 @@ module _ (p : Program) (deepest : ℕ) (ks : List Kind) (F : List Frame) (b : Ba
 
   perhaps_stored : (o : Bool) (t : ℕ) (l : Locals) (put : Simple) (gs : List Cell) (σ : State) (L1 : Value → List Cell) (G1 : Value → Store) → t < b.temporaries → Puts o t l put gs σ L1 G1 → (m : ℕ) (v : Value) (K : List Label) (k : Instructions) → l.hand t ≡ empty → l.number t ≡ Bits (I64 m) → PerhapsIs p deepest ks F b m v →
       PerhapsStored o t l put gs σ L1 G1 v K k
-  perhaps_stored o t l put gs σ L1 G1 lt puts m v K k e e1 (NotYet q q1) = record {
+  perhaps_stored o t l put gs σ L1 G1 lt puts m v K k e e1 (NoNumber q q1) = record {
     steps = 6;
     few = omega arith;
     goes = goes_to
@@ -146,7 +146,7 @@ module _ (p : Program) (deepest : ℕ) (ks : List Kind) (F : List Frame) (b : Ba
       }
   bare_stored o t l put gs σ L1 G1 lt puts v K k hd (IsNone e e1 e2) =
       let a = handle_stored (layout p deepest ks F b M n) o t put Done in
-      let s = perhaps_stored o t l put gs σ L1 G1 lt puts (bare v) v (label [] None k ∷ K) Done (hd.0 ∙ e2) hd.1 (NotYet e1 e) in
+      let s = perhaps_stored o t l put gs σ L1 G1 lt puts (bare v) v (label [] None k ∷ K) Done (hd.0 ∙ e2) hd.1 (NoNumber e1 e) in
       record {
         steps = 3 + (s.steps + 1);
         few = let q = s.few in omega (arith, q);
