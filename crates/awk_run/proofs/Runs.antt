@@ -1,82 +1,72 @@
 -- What a machine did is how the run of its module ended.
-use Rattle.std.proofs.Common.{◌≡◌, ℕ, Option, Some, None, List, Err, true≢false, inl, inr, refl, sym, ap, ◌∙◌}
-use Rattle.std.specs.Prelude.{⊤}
+use Rattle.std.proofs.Common.{◌≡◌, ◌≢◌, ℕ, Option, Some, None, List, Err, true≢false, inl, inr, refl, sym, ap, ◌∙◌}
 use Rattle.std.specs.Result.{is_ok}
 use Rattle.awk_values.specs.declared.fault.Fault.{Fault}
+use Rattle.awk_state.specs.Jobs.{JobForm}
 use Rattle.world_core.specs.WorldState.{Action, State}
 use Rattle.wasm_types.specs.Syntax.{ModuleForm}
 use Rattle.wasm_machine.specs.Links.{IsNew}
-use Rattle.wasm_machine.specs.Machines.{Conf, ProgramForm}
-use Rattle.wasm_machine.specs.Runs.{Did, HasMore, MachineForm, Ran, told_run}
+use Rattle.wasm_machine.specs.Machines.{Conf}
+use Rattle.wasm_machine.specs.Runs.{Did, MachineForm, Ran}
 use Rattle.wasm_machine.specs.declared.machine.MachineEnd.{MachineEnd}
 use Rattle.wasm_machine.specs.declared.machine.MachineEnd.TheVariants as machine
-use Rattle.wasm_machine.specs.declared.state.End.TheVariants as ends
 use Rattle.wasm_machine.specs.declared.state.RunEnd.{RunEnd as MachineRunEnd}
-use Rattle.wasm_machine.specs.declared.state.RunEnd.TheVariants.{Ended, OutOfSteps, NoMemory}
-use Rattle.wasm_store.specs.declared.word.Word.TheVariants.{I32, I64}
-use Rattle.wasm_machine.proofs.Chains.{no_memory}
+use Rattle.wasm_machine.specs.declared.state.RunEnd.TheVariants as chain
 use Rattle.module_decoder.specs.Readers.{Fails}
 use Rattle.module_decoder.specs.Reading.{module_at}
 use Rattle.module_decoder.specs.declared.fault.DecodeFault.{DecodeFault}
 use Rattle.module_decoder.specs.declared.fault.DecodeFault.TheVariants as decoding
 use Rattle.module_decoder.proofs.CompleteModule.{module_again}
-use Rattle.host_calls.specs.HostLaws.{host_refused}
-use Rattle.host_calls.specs.HostState.{HostState}
-use Rattle.host_calls.specs.HostStep.{host_meaning}
-use Rattle.host_calls.specs.Imports.{host_finds}
-use Rattle.host_calls.specs.Hosts.{state_at_start}
-use Rattle.host_calls.specs.Jobs.{JobForm}
-use Rattle.awk_run.specs.ModuleRun.{run_end, undecoded, BeginsAnother, IsRefused, IsRunOf, RunAnswers, Answers, IsTyped, Unread}
+use Rattle.host_step.specs.HostState.{HostState}
+use Rattle.host_step.specs.Imports.{host_finds}
+use Rattle.host_step.specs.Starts.{state_at_start}
+use Rattle.host_elements.specs.Forms.{HostForm}
+use Rattle.form_meaning.specs.FormMeaning.{Told, form_meaning}
+use Rattle.form_meaning.specs.Shown.{Shown}
+use Rattle.form_runs.specs.ToldRuns.{AnyhowRun, ToldRun}
+use Rattle.awk_run.specs.ModuleRun.{run_end, undecoded, IsRefused, IsRunOf, RunAnswers, Answers, IsTyped, Unread}
 use Rattle.awk_run.specs.declared.end.Refusal.TheVariants.{Compile, Decode, Invalid, Link}
 use Rattle.awk_run.specs.declared.end.RunEnd.{RunEnd}
 use Rattle.awk_run.specs.declared.end.RunEnd.TheVariants as run
-use Rattle.awk_run.proofs.MeaningMaps.{ran_by, weaker}
-use Rattle.awk_run.proofs.Outsides.{ran_kept}
 
-told : (tells : Type 0) (whole : ModuleForm) (start : HostState) (steps : ℕ) (before after : State) (kept : Option Fault) (t : MachineEnd) → IsRunOf tells whole start steps (run_end kept t) after → RunAnswers tells whole start steps before (run_end kept t) after
-told tells whole start steps before after (Some f) (machine.Returned n) r = r
-told tells whole start steps before after None (machine.Returned n) r = r
-told tells whole start steps before after kept (machine.Trapped kind) r = r
-told tells whole start steps before after kept machine.OutOfSteps r = r
-told tells whole start steps before after kept machine.Exhausted r = r
-told tells whole start steps before after kept machine.NoMemory r = inl r
+module _ (tells : Type 0) (whole : ModuleForm) (job : JobForm) (steps : ℕ) (before after : State) where
+  -- what is told of an end is the run itself
+  told : (kept : Option Fault) (t : MachineEnd) → IsRunOf tells whole job steps before (run_end kept t) after
+      → RunAnswers tells whole job steps before (run_end kept t) after
+  told (Some f) (machine.Returned n) r = r
+  told None (machine.Returned n) r = r
+  told kept (machine.Trapped kind) r = r
+  told kept machine.OutOfSteps r = r
+  told kept machine.Exhausted r = r
+  told kept machine.NoMemory r = inl r
 
--- a run that is told to have wanted memory has put out how another begins that does not
-pub more : (tells : Type 0) (m : ProgramForm) (steps : ℕ) (c : Conf) (s : HostState) (out : List Action) (e : MachineRunEnd) (c2 : Conf) (s2 : HostState) → told_run e ≡ Some machine.NoMemory → Ran (host_meaning tells) m steps c s out e c2 s2 → HasMore (host_meaning tells) m steps c s out
-more tells m steps c s out NoMemory c2 s2 t r = no_memory (host_meaning tells) m (host_refused tells) steps c s out c2 s2 r
-more tells m steps c s out OutOfSteps c2 s2 t r = cc
-more tells m steps c s out (Ended (ends.Returned (Some (I32 w)))) c2 s2 t r = cc
-more tells m steps c s out (Ended (ends.Returned (Some (I64 w)))) c2 s2 t r = cc
-more tells m steps c s out (Ended (ends.Returned None)) c2 s2 t r = cc
-more tells m steps c s out (Ended (ends.Trapped kind)) c2 s2 t r = cc
-more tells m steps c s out (Ended ends.Exhausted) c2 s2 t r = cc
-more tells m steps c s out (Ended ends.Stuck) c2 s2 t r = cc
+  abbrev start : HostState
+  start = state_at_start job (before.readers 0) before.outside
 
-begins_another : (tells : Type 0) (a : MachineForm) (steps : ℕ) (start : HostState) (t : MachineEnd) (c : Conf) (s : HostState) (d : Did (host_meaning tells) a.program steps a.conf start t c s) → BeginsAnother tells a steps start d.0 t
-begins_another tells a steps start (machine.Returned n) c s d = tt
-begins_another tells a steps start (machine.Trapped kind) c s d = tt
-begins_another tells a steps start machine.OutOfSteps c s d = tt
-begins_another tells a steps start machine.Exhausted c s d = tt
-begins_another tells a steps start machine.NoMemory c s d = more tells a.program steps a.conf start d.0 d.1 c s d.2 d.3
-
-pub did_answers : (tells : Type 0) (whole : ModuleForm) (start : HostState) (steps : ℕ) (before after : State) (a : MachineForm) → IsNew host_finds whole a → (t : MachineEnd) (c : Conf) (s : HostState) → Did (host_meaning tells) a.program steps a.conf start t c s → after.outside ≡ s.shared.outside →
-    RunAnswers tells whole start steps before (run_end s.fault t) after
-did_answers tells whole start steps before after a n t c s d e =
-    told tells whole start steps before after s.fault t (record {
-      machine = a;
-      is_new = n;
-      run-end = d.1;
-      told = t;
-      telling = d.2;
-      conf = c;
-      state = s;
-      output = d.0;
-      ran = d.3;
-      answered = refl;
-      outside = e;
-      applied = λ p. e ∙ ran_kept a.program steps a.conf start d.0 d.1 c s (ran_by (host_meaning tells) (host_meaning ⊤) a.program (weaker tells p) steps a.conf start d.0 d.1 c s d.3);
-      wanting = begins_another tells a steps start t c s d;
-    })
+  pub did_answers : (a : MachineForm) → IsNew host_finds whole a → (f : HostForm) → Shown f start → (t : MachineEnd) (c : Conf) (g : HostForm)
+      → Did (form_meaning tells) a.program steps a.conf (Told f) t c (Told g) → after.outside ≡ g.shared.outside
+      → (tells → ToldRun whole job (before.readers 0) before.outside steps t g)
+      → ((out : List Action) (e : MachineRunEnd) → e ≢ chain.NoMemory → Ran (form_meaning tells) a.program steps a.conf (Told f) out e c (Told g)
+      → AnyhowRun a.program steps a.conf start out e c g)
+      → RunAnswers tells whole job steps before (run_end g.fault t) after
+  did_answers a n f h t c g d o over anyhow =
+      told g.fault t (record {
+        machine = a;
+        is_new = n;
+        start = f;
+        begins = h;
+        run-end = d.1;
+        told = t;
+        telling = d.2;
+        conf = c;
+        left = g;
+        output = d.0;
+        ran = d.3;
+        answered = refl;
+        outside = o;
+        over_table = over;
+        anyhow = λ ne. anyhow d.0 d.1 ne d.3;
+      })
 
 -- bytes that the decoder refuses are no module
 no_module : (bytes : List ℕ) (f : DecodeFault) → module_at bytes ≡ Err f → IsRefused bytes (Decode f)
@@ -93,7 +83,8 @@ undecoded_answers bytes (decoding.Float n) r = no_module bytes (decoding.Float n
 undecoded_answers bytes decoding.TooLarge r = no_module bytes decoding.TooLarge r
 
 -- of a typed module that the bytes are
-pub typed_answers : (tells : Type 0) (bytes : List ℕ) (job : JobForm) (steps : ℕ) (before after : State) (whole : ModuleForm) (e : RunEnd) → IsTyped bytes whole → RunAnswers tells whole (state_at_start job before.outside) steps before e after → Answers tells bytes job steps before e after
+pub typed_answers : (tells : Type 0) (bytes : List ℕ) (job : JobForm) (steps : ℕ) (before after : State) (whole : ModuleForm) (e : RunEnd)
+    → IsTyped bytes whole → RunAnswers tells whole job steps before e after → Answers tells bytes job steps before e after
 typed_answers tells bytes job steps before after whole (run.Refused (Compile f)) t r = absurd r
 typed_answers tells bytes job steps before after whole (run.Refused (Decode f)) t r = absurd r
 typed_answers tells bytes job steps before after whole (run.Refused (Invalid f)) t r = absurd r
@@ -106,7 +97,8 @@ typed_answers tells bytes job steps before after whole run.OutOfSteps t r = reco
 typed_answers tells bytes job steps before after whole run.Exhausted t r = record { whole = whole; read = t.0; typed = t.1; run = r }
 typed_answers tells bytes job steps before after whole (run.Trapped k) t r = record { whole = whole; read = t.0; typed = t.1; run = r }
 
-pub unread_answers : (tells : Type 0) (bytes : List ℕ) (job : JobForm) (steps : ℕ) (before : State) (e : RunEnd) → Unread bytes e → Answers tells bytes job steps before e before
+pub unread_answers : (tells : Type 0) (bytes : List ℕ) (job : JobForm) (steps : ℕ) (before : State) (e : RunEnd) → Unread bytes e
+    → Answers tells bytes job steps before e before
 unread_answers tells bytes job steps before (run.Refused (Compile f)) r = absurd r
 unread_answers tells bytes job steps before (run.Refused (Decode f)) r = (r, refl)
 unread_answers tells bytes job steps before (run.Refused (Invalid f)) r = (r, refl)

@@ -1,5 +1,5 @@
 -- What a sound script excludes.
-use Rattle.std.proofs.Common.{◌≡◌, ◌≢◌, ◌⊎◌, inl, inr, ℕ, List, [], ◌∷◌, ◌++◌, Option, Some, None, Result, Ok, Err, true, false, refl, sym, ap, ◌∙◌, subst, true≢false}
+use Rattle.std.proofs.Common.{◌≡◌, ◌≢◌, ◌⊎◌, inl, inr, ℕ, List, [], ◌∷◌, ◌++◌, Option, Some, None, Result, Ok, Err, refl, sym, ap, ◌∙◌, subst, true≢false}
 use Rattle.std.specs.Result.{is_ok}
 use Rattle.awk_tokens.specs.Cutting.{IsTokens, Spelled}
 use Rattle.awk_tokens.proofs.Whole.{one_outcome}
@@ -21,12 +21,13 @@ use Rattle.ere_syntax.specs.declared.fault.EreFault.TheVariants.{BadEre, EreTooL
 use Rattle.ere_syntax.specs.declared.fault.EreFault.TheVariants as expressions
 use Rattle.ere_syntax.proofs.Scans.{one_ere}
 use Rattle.awk_text.specs.Escapes.{between}
-use Rattle.print_code.specs.Covered.{is_covered}
-use Rattle.awk_run.specs.Compiled.{IsCompiled, IsSound}
-use Rattle.awk_run.specs.Expressions.{AreFine, IsBad, IsFine, IsFirstBad}
-use Rattle.awk_run.specs.Refusals.{HasNoScript, IsNotCompiled}
-use Rattle.awk_run.specs.declared.fault.CompileFault.{CompileFault}
-use Rattle.awk_run.specs.declared.fault.CompileFault.TheVariants.{TooLarge, Token, Parse, Ere, Resolve, NotYet, NoMemory}
+use Rattle.script_compiler.specs.Compiled.{IsCompiled}
+use Rattle.script_code.specs.Coded.{IsSound}
+use Rattle.script_code.specs.Expressions.{AreFine, IsBad, IsFine, IsFirstBad}
+use Rattle.script_code.specs.Refusals.{HasNoScript}
+use Rattle.script_compiler.specs.Refusals.{IsNotCompiled}
+use Rattle.script_code.specs.declared.fault.CompileFault.{CompileFault}
+use Rattle.script_code.specs.declared.fault.CompileFault.TheVariants.{TooLarge, Token, Parse, Ere, Resolve, NoMemory}
 
 abbrev ok_of : {A E : Type 0} → A → Result A E → A
 ok_of d (Ok x) = x
@@ -75,20 +76,17 @@ no_cause r resolving.NoMemory n m c = m refl
 module _ (bytes v : List ℕ) (c : IsCompiled bytes v) where
   -- the script is sound by whatever tokens the bytes have
   sound : (tokens : List Spelled) → IsTokens bytes (Ok tokens) → IsSound tokens c.script
-  sound tokens cut = subst (λ (ts : List Spelled). IsSound ts c.script) (same_tokens bytes c.read.tokens tokens c.read.cut cut) c.read.sound
+  sound tokens cut = subst (λ (ts : List Spelled). IsSound ts c.script) (same_tokens bytes c.tokens tokens c.cut cut) c.sound
 
   is_it : (tokens : List Spelled) (script : List Item) → IsTokens bytes (Ok tokens) → IsParsed tokens script → script ≡ c.script
   is_it tokens script cut p = same_script tokens script c.script p (sound tokens cut).parsed
 
   pub sound_only : (fault : CompileFault) → IsNotCompiled bytes fault → (fault ≡ TooLarge) ⊎ (fault ≡ NoMemory)
   sound_only TooLarge r = inl refl
-  sound_only (Token e) r = absurd (true≢false (ap is_ok (one_outcome bytes (Ok c.read.tokens) (Err e) c.read.cut r.cause)))
+  sound_only (Token e) r = absurd (true≢false (ap is_ok (one_outcome bytes (Ok c.tokens) (Err e) c.cut r.cause)))
   sound_only (Parse e) r = absurd (no_refusal r.tokens c.script e (sound r.tokens r.cut).parsed r.said)
   sound_only (Ere line e) r = absurd (no_bad r.tokens line e (sound r.tokens r.cut).expressions r.said.first)
   sound_only (Resolve e) r =
       let here = is_it r.tokens r.said.script r.cut r.said.parsed in
       absurd (no_cause (refusal r.said.script) e (ap refusal here ∙ (sound r.tokens r.cut).names) r.said.named r.said.cause)
-  sound_only (NotYet line) r =
-      let here = is_it r.tokens r.said.script r.cut r.said.sound.parsed in
-      absurd (true≢false (sym c.covered ∙ (ap is_covered (sym here) ∙ r.said.uncovered)))
   sound_only NoMemory r = inr refl

@@ -2,7 +2,7 @@
 use Rattle.std.specs.Prelude.{◌≡◌, ◌≢◌, ◌⊎◌, ℕ, ℤ, pos, unsigned_abs, List, Option, Some, None, Err}
 use Rattle.std.specs.Int.{int_rem_euclid}
 use Rattle.awk_values.specs.declared.fault.Fault.{Fault}
-use Rattle.world_core.specs.WorldState.{Action, State, after as outside_after}
+use Rattle.world_core.specs.WorldState.{Action, State}
 use Rattle.wasm_types.specs.Syntax.{ModuleForm}
 use Rattle.wasm_types.specs.ModuleGrammar.{IsModule}
 use Rattle.wasm_types.specs.Typing.{ModuleOk}
@@ -14,17 +14,20 @@ use Rattle.module_validator.specs.declared.valid.InvalidFault.{InvalidFault}
 use Rattle.module_validator.specs.declared.valid.InvalidFault.TheVariants as invalid
 use Rattle.wasm_machine.specs.Links.{IsNew, Refuses as Unlinks}
 use Rattle.wasm_machine.specs.Machines.{Conf}
-use Rattle.wasm_machine.specs.Runs.{HasMore, MachineForm, Ran, told_run}
+use Rattle.wasm_machine.specs.Runs.{MachineForm, Ran, told_run}
 use Rattle.wasm_machine.specs.declared.link.LinkFault.{LinkFault}
 use Rattle.wasm_machine.specs.declared.link.LinkFault.TheVariants as link
 use Rattle.wasm_machine.specs.declared.state.RunEnd.{RunEnd as MachineRunEnd}
+use Rattle.wasm_machine.specs.declared.state.RunEnd.TheVariants as chain
 use Rattle.wasm_machine.specs.declared.machine.MachineEnd.{MachineEnd}
 use Rattle.wasm_machine.specs.declared.machine.MachineEnd.TheVariants as machine
-use Rattle.host_calls.specs.Hosts.{state_at_start}
-use Rattle.host_calls.specs.HostState.{HostState}
-use Rattle.host_calls.specs.HostStep.{host_meaning}
-use Rattle.host_calls.specs.Imports.{host_finds}
-use Rattle.host_calls.specs.Jobs.{JobForm}
+use Rattle.awk_state.specs.Jobs.{JobForm}
+use Rattle.host_step.specs.Imports.{host_finds}
+use Rattle.host_step.specs.Starts.{state_at_start}
+use Rattle.host_elements.specs.Forms.{HostForm}
+use Rattle.form_meaning.specs.FormMeaning.{Told, form_meaning}
+use Rattle.form_meaning.specs.Shown.{Shown}
+use Rattle.form_runs.specs.ToldRuns.{AnyhowRun, ToldRun}
 use Rattle.awk_run.specs.declared.end.Refusal.{Refusal}
 use Rattle.awk_run.specs.declared.end.Refusal.TheVariants.{Decode, Invalid, Link}
 use Rattle.awk_run.specs.declared.end.RunEnd.{RunEnd}
@@ -64,41 +67,40 @@ IsRefused bytes _ = ⊥
 abbrev pub IsUnlinked : ModuleForm → LinkFault → Type 0
 IsUnlinked whole cause = (cause ≢ link.NoMemory) × Unlinks host_finds whole cause
 
--- a run that wanted memory has put out how another begins that does not
-abbrev pub BeginsAnother : (tells : Type 0) → MachineForm → ℕ → HostState → List Action → MachineEnd → Type 0
-BeginsAnother tells a steps start output machine.NoMemory = HasMore (host_meaning tells) a.program steps a.conf start output
-BeginsAnother tells a steps start output _ = Unit {0}
-
--- A run of a typed module: from its beginning and a host in this state, to a world that holds that. What a world holds that tells its state is
--- what the output makes of what it held.
-pub record IsRunOf (tells : Type 0) (whole : ModuleForm) (start : HostState) (steps : ℕ) (e : RunEnd) (after : State) : Type 0 where
+-- A run of a typed module in a job: from its beginning, over a host that shows the state at the start of the job, to a world that holds what the host
+-- left. Where the world tells what it holds, this is how the module may end, and its output made what the names hold of what they held. In every
+-- world each call is as it is said of every world, unless memory ran out.
+pub record IsRunOf (tells : Type 0) (whole : ModuleForm) (job : JobForm) (steps : ℕ) (before : State) (e : RunEnd) (after : State) : Type 0 where
   pub machine : MachineForm
   pub is_new : IsNew host_finds whole machine
+  pub start : HostForm
+  pub begins : Shown start (state_at_start job (before.readers 0) before.outside)
   pub run-end : MachineRunEnd
   pub told : MachineEnd
   pub telling : told_run run-end ≡ Some told
   pub conf : Conf
-  pub state : HostState
+  pub left : HostForm
   pub output : List Action
-  pub ran : Ran (host_meaning tells) machine.program steps machine.conf start output run-end conf state
-  pub answered : e ≡ run_end state.fault told
-  pub outside : after.outside ≡ state.shared.outside
-  pub applied : tells → after.outside ≡ outside_after output start.shared.outside
-  pub wanting : BeginsAnother tells machine steps start output told
+  pub ran : Ran (form_meaning tells) machine.program steps machine.conf (Told start) output run-end conf (Told left)
+  pub answered : e ≡ run_end left.fault told
+  pub outside : after.outside ≡ left.shared.outside
+  pub over_table : tells → ToldRun whole job (before.readers 0) before.outside steps told left
+  pub anyhow : run-end ≢ chain.NoMemory
+      → AnyhowRun machine.program steps machine.conf (state_at_start job (before.readers 0) before.outside) output run-end conf left
 
 -- what is answered for a typed module; a run that wanted memory may not have begun
-abbrev pub RunAnswers : (tells : Type 0) → ModuleForm → HostState → ℕ → State → RunEnd → State → Type 0
-RunAnswers tells whole start steps before (run.Refused (Link cause)) after = IsUnlinked whole cause × (after ≡ before)
-RunAnswers tells whole start steps before (run.Refused cause) after = ⊥
-RunAnswers tells whole start steps before run.NoMemory after = IsRunOf tells whole start steps run.NoMemory after ⊎ (after ≡ before)
-RunAnswers tells whole start steps before e after = IsRunOf tells whole start steps e after
+abbrev pub RunAnswers : (tells : Type 0) → ModuleForm → JobForm → ℕ → State → RunEnd → State → Type 0
+RunAnswers tells whole job steps before (run.Refused (Link cause)) after = IsUnlinked whole cause × (after ≡ before)
+RunAnswers tells whole job steps before (run.Refused cause) after = ⊥
+RunAnswers tells whole job steps before run.NoMemory after = IsRunOf tells whole job steps before run.NoMemory after ⊎ (after ≡ before)
+RunAnswers tells whole job steps before e after = IsRunOf tells whole job steps before e after
 
 -- The bytes are a typed module that is run so.
 pub record HasRun (tells : Type 0) (bytes : List ℕ) (job : JobForm) (steps : ℕ) (before : State) (e : RunEnd) (after : State) : Type 0 where
   pub whole : ModuleForm
   pub read : IsModule bytes whole
   pub typed : ModuleOk whole
-  pub run : RunAnswers tells whole (state_at_start job before.outside) steps before e after
+  pub run : RunAnswers tells whole job steps before e after
 
 -- what an answer says of the bytes and of the world
 abbrev pub Answers : (tells : Type 0) → List ℕ → JobForm → ℕ → State → RunEnd → State → Type 0
@@ -106,6 +108,8 @@ Answers tells bytes job steps before (run.Refused (Decode cause)) after = IsRefu
 Answers tells bytes job steps before (run.Refused (Invalid cause)) after = IsRefused bytes (Invalid cause) × (after ≡ before)
 Answers tells bytes job steps before run.NoMemory after = HasRun tells bytes job steps before run.NoMemory after ⊎ (after ≡ before)
 Answers tells bytes job steps before e after = HasRun tells bytes job steps before e after
+
+-- The rest serves contracts inside the crate.
 
 -- what is answered for bytes that the decoder refuses so
 abbrev pub undecoded : DecodeFault → RunEnd

@@ -2,10 +2,10 @@
 ghost use Rattle.std.specs.Prelude.{◌≡◌};
 ghost use Rattle.awk_run.specs.ModuleRun.{run_end, status};
 
-use crate::fault::CompileFault;
 use awk_values::Fault;
 use module_decoder::DecodeFault;
 use module_validator::InvalidFault;
+use script_compiler::CompileFault;
 use wasm_machine::{LinkFault, MachineEnd};
 use wasm_store::TrapKind;
 

@@ -1,18 +1,20 @@
-//! Modules and scripts in the sandbox.
+//! Modules in the sandbox.
 ghost use Rattle.std.specs.Prelude.{◌≡◌, IfOk, IfErr};
 ghost use Rattle.awk_run.specs.ModuleRun.{undecoded, Answers, IsTyped, RunAnswers, Unread};
-ghost use Rattle.awk_run.specs.ScriptRuns.{ScriptAnswers};
-ghost use Rattle.host_calls.specs.Hosts.{host_state};
+ghost use Rattle.awk_state.specs.Jobs.{JobForm};
+ghost use Rattle.form_meaning.specs.Shown.{Shown};
+ghost use Rattle.host_calls.specs.Forms.{host_form};
+ghost use Rattle.host_step.specs.Starts.{state_at_start};
+ghost use Rattle.host_tables.specs.Starts.{job_of};
+ghost use Rattle.wasm_types.specs.Typing.{ModuleOk};
 ghost use Rattle.wasm_types.specs.View.{view_module};
-ghost use Rattle.host_calls.specs.Jobs.{job_of};
 
-use crate::compiler::compile;
 use crate::end::{Refusal, RunEnd, run_end};
-use crate::fault::CompileFault;
 use host_calls::{Host, Job};
 use module_decoder::{DecodeFault, decode};
 use module_validator::{InvalidFault, ValidModule, validate};
 use std::alloc::Global;
+use std::hash::RandomState;
 use wasm_machine::{LinkFault, Machine};
 use world_core::World;
 
@@ -44,7 +46,11 @@ fn read(alloc: Global, bytes: &[u8]) -> Result<ValidModule, RunEnd>
 
 /// Links a module with a host, and runs it.
 fn run_valid<W: World>(alloc: Global, valid: ValidModule, host: Host<W>, steps: u64) -> (RunEnd, W)
-    ensures { RunAnswers W.tells (view_module valid) (host_state W.state host) steps (W.state host.world) result.0 (W.state result.1) }
+    requires { ModuleOk (view_module valid) }
+    ensures { (job : JobForm) → Shown (host_form W.state host)
+        (state_at_start job ((W.state host.world).readers 0) (W.state host.world).outside)
+        → RunAnswers W.tells (view_module valid) job steps (W.state host.world) result.0
+        (W.state result.1) }
 {
     let mut host = host;
     let mut machine = match Machine::new(alloc, valid, &host) {
@@ -56,7 +62,8 @@ fn run_valid<W: World>(alloc: Global, valid: ValidModule, host: Host<W>, steps: 
     (run_end(host.kept_fault(), end), host.into_world())
 }
 
-/// Runs a module in a job over a world, for so many steps at most, and gives the world back.
+/// Runs a module in a job over a world, for so many steps at most, and gives the world back. `state` seeds the tables of its arrays, and shows in
+/// no answer.
 ///
 /// The answer is [`RunEnd::Refused`] where the bytes are no module, the typing rules do not allow it, or it does not link with the host, in
 /// this order; nothing is done to the world then. [`RunEnd::NoMemory`] may come instead of any other answer, where memory was wanting.
@@ -66,41 +73,20 @@ pub fn run_module<W: World>(
     alloc: Global,
     bytes: &[u8],
     job: &Job,
+    state: RandomState,
     world: W,
     steps: u64,
 ) -> (RunEnd, W)
-    ensures { Answers W.tells bytes.now (job_of job.now) steps (W.state world) result.0 (W.state result.1) }
+    ensures { Answers W.tells bytes.now (job_of job.now) steps (W.state world) result.0
+        (W.state result.1) }
 {
     let valid = match read(alloc, bytes) {
         Ok(valid) => valid,
         Err(end) => return (end, world),
     };
-    let host = match Host::new(alloc, job, world) {
+    let host = match Host::new(alloc, job, state, world) {
         Ok(host) => host,
         Err(world) => return (RunEnd::NoMemory, world),
     };
     run_valid(alloc, valid, host, steps)
-}
-
-/// Runs a script in a job over a world, for so many steps of its module at most, and gives the world back.
-///
-/// The answer is [`RunEnd::Refused`] with [`Refusal::Compile`] where the script is not compiled, and never otherwise; nothing is done to the world then.
-/// [`RunEnd::NoMemory`] may come instead of any other answer, where memory was wanting; what went out by then is how the script's output begins.
-/// [`RunEnd::OutOfSteps`] where the steps did not suffice, after a beginning of its output. Any other answer is how the script ends, with its output.
-/// What the script does is said of worlds that tell what they hold, and of jobs without assignments and without a text past the limit.
-#[tactic(auto, using(crate::proofs::ScriptRuns::script_answers))]
-pub fn run_script<W: World>(
-    alloc: Global,
-    script: &[u8],
-    job: &Job,
-    world: W,
-    steps: u64,
-) -> (RunEnd, W)
-    ensures { ScriptAnswers W.tells script.now (job_of job.now) steps (W.state world) result.0 (W.state result.1) }
-{
-    match compile(alloc, script) {
-        Ok(module) => run_module(alloc, &module, job, world, steps),
-        Err(CompileFault::NoMemory) => (RunEnd::NoMemory, world),
-        Err(fault) => (RunEnd::Refused(Refusal::Compile(fault)), world),
-    }
 }

@@ -6,8 +6,8 @@ use Rattle.awk_parse.specs.declared.fault.ParseFault.{ParseFault}
 use Rattle.awk_parse.specs.declared.fault.ParseFault.TheVariants as parsing
 use Rattle.awk_resolve.specs.declared.fault.ResolveFault.{ResolveFault}
 use Rattle.awk_resolve.specs.declared.fault.ResolveFault.TheVariants as resolving
-use Rattle.awk_run.specs.declared.fault.CompileFault.{CompileFault}
-use Rattle.awk_run.specs.declared.fault.CompileFault.TheVariants as compiling
+use Rattle.script_code.specs.declared.fault.CompileFault.{CompileFault}
+use Rattle.script_code.specs.declared.fault.CompileFault.TheVariants as compiling
 use Rattle.awk_run.specs.declared.end.Refusal.{Refusal}
 use Rattle.awk_run.specs.declared.end.Refusal.TheVariants.{Compile, Decode, Invalid, Link}
 use Rattle.awk_run.specs.declared.end.RunEnd.{RunEnd}
@@ -99,7 +99,6 @@ compile_words (compiling.Token fault) = token_words fault
 compile_words (compiling.Parse fault) = parse_words fault
 compile_words (compiling.Ere line fault) = ere_words line fault
 compile_words (compiling.Resolve fault) = resolve_words fault
-compile_words (compiling.NotYet line) = numbered (codes "NotYet") line
 compile_words compiling.NoMemory = alone (codes "NoMemory")
 
 abbrev pub decode_words : DecodeFault → List (List ℕ)

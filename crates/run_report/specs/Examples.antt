@@ -2,7 +2,7 @@
 use Rattle.std.specs.Prelude.{◌≡◌, [], Some, codes, refl}
 use Rattle.std.specs.Fmt.{digits}
 use Rattle.awk_run.specs.declared.end.Refusal.TheVariants.{Compile, Decode, Invalid, Link}
-use Rattle.awk_run.specs.declared.fault.CompileFault.TheVariants.{Token, Parse, Ere, Resolve, NotYet}
+use Rattle.script_code.specs.declared.fault.CompileFault.TheVariants.{Token, Parse, Ere, Resolve, TooLarge}
 use Rattle.awk_parse.specs.declared.fault.Feature.TheVariants.{Pipe, Word}
 use Rattle.awk_parse.specs.declared.fault.ParseFault.TheVariants.{ConstantRange, LeftOut as LeavesOut, Misplaced, NotWhole, Syntax}
 use Rattle.awk_resolve.specs.declared.fault.ResolveFault.TheVariants.{KindClash, UnknownFunction}
@@ -45,9 +45,9 @@ pub type_line : end_text (Refused (Invalid (BadType 0))) ≡ codes "awkwasm: Bad
 unfolding line_of digits
 type_line = refl
 
-pub not_yet_line : end_text (Refused (Compile (NotYet 1))) ≡ codes "awkwasm: NotYet 1\n"
-unfolding line_of digits
-not_yet_line = refl
+pub large_line : end_text (Refused (Compile TooLarge)) ≡ codes "awkwasm: TooLarge\n"
+unfolding line_of
+large_line = refl
 
 pub token_line : end_text (Refused (Compile (Token (OpenString 1)))) ≡ codes "awkwasm: OpenString 1\n"
 unfolding line_of digits

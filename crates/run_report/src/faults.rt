@@ -109,7 +109,6 @@ fn compile_words(fault: &CompileFault) -> Told<'_>
         CompileFault::Parse(fault) => parse_words(fault),
         CompileFault::Ere(line, fault) => ere_words(*line, fault),
         CompileFault::Resolve(fault) => resolve_words(fault),
-        CompileFault::NotYet(line) => Told::numbered("NotYet", *line),
         CompileFault::NoMemory => Told::alone("NoMemory"),
     }
 }

@@ -1,6 +1,8 @@
 use Rattle.std.proofs.Common.{◌≡◌, sym, ap, ◌∙◌, subst, Option}
 use Rattle.awk_values.specs.declared.fault.Fault.{Fault}
-use Rattle.host_calls.specs.Hosts.{host_state}
+use Rattle.form_runs.proofs.Telling.{anyhow_run, did_tell}
+use Rattle.host_calls.specs.Forms.{host_form}
+use Rattle.host_step.specs.Starts.{state_at_start}
 use Rattle.wasm_types.specs.View.{view_module}
 use Rattle.awk_run.specs.ModuleRun.{RunAnswers, run_end}
 use Rattle.awk_run.specs.declared.end.RunEnd.{RunEnd}
@@ -8,12 +10,22 @@ use Rattle.awk_run.proofs.Runs.{did_answers}
 use Rattle.awk_run.proofs.module.run_valid.Goals as goal
 
 pub returns : goal.returns
-returns g c =
+returns g c = λ job shown.
     let tells = g.W.World.tells in
+    let told = g.W.World.state in
     let n = c.in-Ok.ensures.ok in
-    let after = g.W.World.state c.into_world-2.result in
-    let e : c.run_end.result ≡ run_end c.run-end.new.host.fault c.run-end.result = c.run_end.ensures ∙ ap (λ (k : Option Fault). run_end k c.run-end.result) c.kept_fault.ensures in
-    subst (λ (z : RunEnd). RunAnswers tells (view_module c.args.valid) (host_state g.W.World.state c.args.host) c.args.steps (g.W.World.state c.args.host.world) z after) (sym e)
-    (did_answers tells (view_module c.args.valid) (host_state g.W.World.state c.args.host) c.args.steps (g.W.World.state c.args.host.world) after c.in-Ok.machine n c.run-end.result c.run-end.new.self.conf (host_state g.W.World.state c.run-end.new.host)
-    (c.run-end.ensures.run n.ended)
-    (ap (λ w. (g.W.World.state w).outside) c.into_world-2.ensures))
+    let before = told c.args.host.world in
+    let after = told c.into_world-2.result in
+    let whole = view_module c.args.valid in
+    let start = host_form told c.args.host in
+    let left = host_form told c.run-end.new.host in
+    let a = c.in-Ok.machine in
+    let end = c.run-end.result in
+    let conf = c.run-end.new.self.conf in
+    let did = c.run-end.ensures.run n.ended in
+    let e : c.run_end.result ≡ run_end left.fault end = c.run_end.ensures ∙ ap (λ (k : Option Fault). run_end k end) c.kept_fault.ensures in
+    subst (λ (z : RunEnd). RunAnswers tells whole job c.args.steps before z after) (sym e)
+    (did_answers tells whole job c.args.steps before after a n start shown end conf left did
+    (ap (λ w. (told w).outside) c.into_world-2.ensures)
+    (λ t. did_tell whole c.requires a n job (before.readers 0) before.outside tells t start shown c.args.steps end conf left did)
+    (λ out r ne ran. anyhow_run tells a.program c.args.steps a.conf start out r conf left (state_at_start job (before.readers 0) before.outside) shown ne ran))

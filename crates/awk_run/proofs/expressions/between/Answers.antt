@@ -1,5 +1,0 @@
-use Rattle.awk_text.proofs.Octals.{between_is}
-use Rattle.awk_run.proofs.expressions.between.Goals as goal
-
-pub returns-in-len2-up : goal.returns-in-len2-up
-returns-in-len2-up c = between_is c.args.ere.now c.in-len2-up.len_at_least

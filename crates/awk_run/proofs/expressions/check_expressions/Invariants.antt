@@ -1,8 +1,0 @@
-use Rattle.std.proofs.Common.{take, map}
-use Rattle.awk_tokens.specs.Views.{spelled}
-use Rattle.awk_run.specs.Expressions.{AreFine}
-use Rattle.awk_run.proofs.expressions.check_expressions.Given as goal
-
--- no token so far is bad
-abbrev pub invariant-loop-token : goal.invariant-loop-token
-invariant-loop-token l = AreFine (map spelled (take l.token-index l.tokens))
