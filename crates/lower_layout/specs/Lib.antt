@@ -1,3 +1,0 @@
-pub mod Layouts
-pub mod Placed
-pub mod Rows

@@ -1,4 +1,0 @@
-pub mod Emitted
-pub mod Modules
-pub mod Agreement
-pub mod Behind

@@ -1,9 +1,0 @@
-pub mod Views
-pub mod Items
-pub mod CodeKinds
-pub mod Binding
-pub mod SameMeaning
-pub mod SortedCode
-pub mod Programs
-pub mod Steady
-pub mod SteadyMeaning

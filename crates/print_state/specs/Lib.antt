@@ -1,9 +1,0 @@
-pub mod Numbers
-pub mod Constants
-pub mod Sorts
-pub mod SharedState
-pub mod ValueRows
-pub mod OutputRows
-pub mod Table
-pub mod Jobs
-pub mod Rows
