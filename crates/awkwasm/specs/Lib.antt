@@ -1,2 +1,3 @@
-pub mod Words
+pub mod Jobs
+pub mod Rows
 pub mod Tasks

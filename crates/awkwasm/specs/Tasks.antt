@@ -1,13 +1,13 @@
 -- What is told of a task: the line and the exit status where it is not done, and the status of each.
 use Rattle.std.specs.Prelude.{ℕ, List, Result, Ok, Err, codes}
-use Rattle.awk_run.specs.Refusals.{IsNotCompiled}
+use Rattle.script_compiler.specs.Refusals.{IsNotCompiled}
 use Rattle.awk_run.specs.declared.end.Refusal.TheVariants.{Compile}
 use Rattle.awk_run.specs.declared.end.RunEnd.{RunEnd}
 use Rattle.awk_run.specs.declared.end.RunEnd.TheVariants.{Refused}
 use Rattle.awk_run.specs.declared.end.RunEnd.TheVariants as end
 use Rattle.run_report.specs.EndTexts.{exit_code, file_text}
 use Rattle.awkwasm.specs.declared.undone.Undone.{Undone}
-use Rattle.awkwasm.specs.declared.undone.Undone.TheVariants.{Arguments, Environment, File, NoMemory, NotYet}
+use Rattle.awkwasm.specs.declared.undone.Undone.TheVariants.{Arguments, Environment, File, NoMemory, RandomNumbers}
 
 -- what is told of a script that is not compiled
 abbrev pub IsUncompiled : List ℕ → RunEnd → Type 0
@@ -18,16 +18,16 @@ IsUncompiled bytes _ = ⊥
 -- one line, whatever the cause
 abbrev pub undone_text : Undone → List ℕ
 undone_text (File fault) = file_text fault
-undone_text NotYet = codes "awkwasm: NotYet\n"
 undone_text Arguments = codes "awkwasm: an argument is not UTF-8\n"
 undone_text Environment = codes "awkwasm: the environment is not UTF-8\n"
+undone_text RandomNumbers = codes "awkwasm: the system gives no random numbers\n"
 undone_text NoMemory = codes "awkwasm: NoMemory\n"
 
 abbrev pub undone_code : Undone → ℕ
 undone_code (File fault) = 8
-undone_code NotYet = 3
 undone_code Arguments = 8
 undone_code Environment = 8
+undone_code RandomNumbers = 8
 undone_code NoMemory = 5
 
 abbrev pub task_code : Result RunEnd Undone → ℕ

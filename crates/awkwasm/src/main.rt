@@ -1,6 +1,7 @@
 //! awkwasm: compiles AWK scripts to WebAssembly modules, and runs scripts and modules.
 #![tactic(auto)]
 
+mod job;
 mod tasks;
 mod undone;
 

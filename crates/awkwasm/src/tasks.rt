@@ -1,25 +1,25 @@
 //! What the command line asks for, over real files.
 ghost use Rattle.std.specs.Prelude.{◌≡◌, map, IfErr, IfOk};
-ghost use Rattle.awk_run.specs.Compiled.{IsCompiled};
+ghost use Rattle.script_compiler.specs.Compiled.{IsCompiled};
 ghost use Rattle.awk_run.specs.ModuleRun.{Answers};
 ghost use Rattle.awk_run.specs.ScriptRuns.{ScriptAnswers};
 ghost use Rattle.run_report.specs.EndTexts.{exit_code};
+ghost use Rattle.awkwasm.specs.Jobs.{job_of_task};
 ghost use Rattle.awkwasm.specs.Tasks.{IsUncompiled, task_code};
-ghost use Rattle.awkwasm.specs.Words.{job_of_words};
-ghost use Rattle.host_calls.specs.Jobs.{job_of};
+ghost use Rattle.host_names.specs.Forms.{pair_of};
 
+use crate::job::{environment_of, job_on};
 use crate::undone::{Undone, undone_status, undone_text};
 use awk_run::{CompileFault, Refusal, RunEnd, compile, run_module, run_script};
-use awk_values::Bytes;
 use command_line::{Request, Task};
-use host_calls::{Job, NamedText};
+use host_calls::NamedText;
 use os_world::OsWorld;
 use run_report::{FileFault, fault_text, status_of};
-use std::alloc::{AllocError, Global};
-use std::env::VarError;
+use std::alloc::Global;
+use std::hash::RandomState;
 use std::io::{Print, Read};
 use std::rt::Files;
-use std::{env, fs, io};
+use std::{fs, io};
 use world_core::World;
 
 /// How many bytes of a script's file are read at most: one past the greatest length of a script.
@@ -44,109 +44,66 @@ fn file_of(rt: &HostRuntime, path: &str, limit: u64) -> Result<Vec<u8>, Undone> 
     }
 }
 
-/// The words, as operands.
-fn operands_of(alloc: Global, words: &[&str]) -> Result<Vec<Bytes>, AllocError>
-    ensures { IfOk result (λ operands. operands.items ≡ map (λ word. word.now) words.now) }
-{
-    let mut operands = Vec::new(alloc);
-    for word in words {
-        operands.push(Bytes::from_slice(alloc, word.as_bytes())?)?;
-    }
-    Ok(operands)
-}
-
-/// The pairs, in order, as bytes.
-fn named_texts(alloc: Global, pairs: &[(String, String)]) -> Result<Vec<NamedText>, AllocError> {
-    let mut texts = Vec::new(alloc);
-    for (name, text) in pairs {
-        texts.push(NamedText {
-            name: Bytes::from_slice(alloc, name.as_bytes())?,
-            text: Bytes::from_slice(alloc, text.as_bytes())?,
-        })?;
-    }
-    Ok(texts)
-}
-
-/// The environment, sorted by name.
-fn environment_of(rt: &HostRuntime) -> Result<Vec<NamedText>, Undone> {
-    let pairs = match env::vars(rt) {
-        Ok(pairs) => pairs,
-        Err(VarError::OutOfMemory) => return Err(Undone::NoMemory),
-        Err(_) => return Err(Undone::Environment),
-    };
-    let mut sorted: Vec<(String, String)> = pairs.collect(rt.alloc())?;
-    sorted.sort_by(|a, b| a.0.cmp(&b.0))?;
-    Ok(named_texts(rt.alloc(), &sorted)?)
-}
-
-/// A job of operands, without assignments before them, in this environment.
-fn job_on(alloc: Global, words: &[&str], environment: Vec<NamedText>) -> Result<Job, AllocError>
-    ensures { IfOk result (λ job. job_of job ≡ job_of_words (map (λ word. word.now) words.now) environment.items) }
-{
-    Ok(Job {
-        operands: operands_of(alloc, words)?,
-        assigns: Vec::new(alloc),
-        environment,
-    })
-}
-
-/// Runs a module on operands in this environment, for so many steps at most.
+/// Runs a module as a task says, in an environment.
 fn module_on<W: World>(
     alloc: Global,
     bytes: &[u8],
-    words: &[&str],
+    task: &Task<'_>,
     environment: Vec<NamedText>,
+    state: RandomState,
     world: W,
-    steps: u64,
 ) -> (RunEnd, W)
-    ensures { Answers W.tells bytes.now (job_of_words (map (λ word. word.now) words.now) environment.items) steps (W.state world) result.0 (W.state result.1) }
+    ensures { Answers W.tells bytes.now (job_of_task task.now (map pair_of environment.items)) task.now.steps
+        (W.state world) result.0 (W.state result.1) }
 {
-    match job_on(alloc, words, environment) {
-        Ok(job) => run_module(alloc, bytes, &job, world, steps),
+    match job_on(alloc, task, environment) {
+        Ok(job) => run_module(alloc, bytes, &job, state, world, task.steps),
         Err(_) => (RunEnd::NoMemory, world),
     }
 }
 
-/// Runs a script on operands in this environment, for so many steps at most.
+/// Runs a script as a task says, in an environment.
 fn script_on<W: World>(
     alloc: Global,
     script: &[u8],
-    words: &[&str],
+    task: &Task<'_>,
     environment: Vec<NamedText>,
+    state: RandomState,
     world: W,
-    steps: u64,
 ) -> (RunEnd, W)
-    ensures { ScriptAnswers W.tells script.now (job_of_words (map (λ word. word.now) words.now) environment.items) steps (W.state world) result.0 (W.state result.1) }
+    ensures { ScriptAnswers W.tells script.now (job_of_task task.now (map pair_of environment.items)) task.now.steps
+        (W.state world) result.0 (W.state result.1) }
 {
-    match job_on(alloc, words, environment) {
-        Ok(job) => run_script(alloc, script, &job, world, steps),
+    match job_on(alloc, task, environment) {
+        Ok(job) => run_script(alloc, script, &job, state, world, task.steps),
         Err(_) => (RunEnd::NoMemory, world),
     }
 }
 
-/// The environment of a task whose options are carried out.
-fn environment_for(rt: &HostRuntime, task: &Task) -> Result<Vec<NamedText>, Undone> {
-    if !task.assigns.is_empty() || !task.separators.is_empty() {
-        return Err(Undone::NotYet);
+/// What the keys of arrays are hashed with. No script can know it.
+fn random_state(rt: &HostRuntime) -> Result<RandomState, Undone> {
+    match RandomState::new(rt) {
+        Ok(state) => Ok(state),
+        Err(error) if error.kind() == io::ErrorKind::OutOfMemory => Err(Undone::NoMemory),
+        Err(_) => Err(Undone::RandomNumbers),
     }
-    environment_of(rt)
 }
 
-fn run_task(rt: &HostRuntime, task: &Task) -> Result<RunEnd, Undone> {
-    let environment = environment_for(rt, task)?;
+fn run_task(rt: &HostRuntime, task: &Task<'_>) -> Result<RunEnd, Undone> {
+    let environment = environment_of(rt)?;
+    let state = random_state(rt)?;
     let world = OsWorld::new(rt.alloc(), rt, rt.stdin(), io::writer(rt));
     let script = task.subject.as_bytes();
-    let alloc = rt.alloc();
-    let (end, _) = script_on(alloc, script, &task.words, environment, world, task.steps);
+    let (end, _) = script_on(rt.alloc(), script, task, environment, state, world);
     Ok(end)
 }
 
-fn exec_task(rt: &HostRuntime, task: &Task) -> Result<RunEnd, Undone> {
+fn exec_task(rt: &HostRuntime, task: &Task<'_>) -> Result<RunEnd, Undone> {
     let bytes = file_of(rt, task.subject, MODULE_LIMIT)?;
-    let environment = environment_for(rt, task)?;
+    let environment = environment_of(rt)?;
+    let state = random_state(rt)?;
     let world = OsWorld::new(rt.alloc(), rt, rt.stdin(), io::writer(rt));
-    let alloc = rt.alloc();
-    let (end, _) = module_on(alloc, &bytes, &task.words, environment, world, task.steps);
+    let (end, _) = module_on(rt.alloc(), &bytes, task, environment, state, world);
     Ok(end)
 }
 

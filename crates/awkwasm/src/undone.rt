@@ -10,13 +10,13 @@ use std::alloc::AllocError;
 pub(crate) enum Undone {
     /// A file that the line names failed.
     File(FileFault),
-    /// It has options that are not carried out yet.
-    NotYet,
     /// An argument is not UTF-8.
     Arguments,
     /// The environment is not UTF-8.
     Environment,
-    /// Memory was wanting.
+    /// The system gives no random numbers, with which the keys of arrays are hashed.
+    RandomNumbers,
+    /// Memory ran out.
     NoMemory,
 }
 
@@ -37,20 +37,19 @@ pub(crate) fn undone_text(undone: &Undone) -> &'static [u8]
 {
     match undone {
         Undone::File(fault) => file_fault_text(fault),
-        Undone::NotYet => "awkwasm: NotYet\n".as_bytes(),
         Undone::Arguments => "awkwasm: an argument is not UTF-8\n".as_bytes(),
         Undone::Environment => "awkwasm: the environment is not UTF-8\n".as_bytes(),
+        Undone::RandomNumbers => "awkwasm: the system gives no random numbers\n".as_bytes(),
         Undone::NoMemory => "awkwasm: NoMemory\n".as_bytes(),
     }
 }
 
-/// The exit status: 3 of what is refused, 5 for want of memory, 8 of a line that is refused and of a file that failed.
+/// The exit status: 5 where memory ran out, 8 for every other cause.
 pub(crate) fn undone_status(undone: &Undone) -> u8
     ensures { result ≡ undone_code undone.now }
 {
     match undone {
-        Undone::NotYet => 3,
         Undone::NoMemory => 5,
-        Undone::File(_) | Undone::Arguments | Undone::Environment => 8,
+        Undone::File(_) | Undone::Arguments | Undone::Environment | Undone::RandomNumbers => 8,
     }
 }

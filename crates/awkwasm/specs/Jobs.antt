@@ -1,0 +1,25 @@
+-- What a script or a module is run with, as the words of the command line say it.
+use Rattle.std.specs.Prelude.{ℕ, Bool, ◌==◌, List, [], ◌++◌, if◌then◌else◌, codes, map}
+use Rattle.std.specs.List.{list_any, before_first, after_first}
+use Rattle.awk_state.specs.Jobs.{JobForm}
+use Rattle.command_line.specs.Request.{texts}
+use Rattle.command_line.specs.declared.Task.{Task}
+
+abbrev pub is_equals : ℕ → Bool
+is_equals c = c == 61
+
+-- A word of `-v`: a name before the first `=`, and a text after it. A word without `=` is the text of an empty name.
+abbrev pub assignment : List ℕ → List ℕ × List ℕ
+assignment word = if list_any is_equals word then (before_first is_equals word, after_first is_equals word) else ([], word)
+
+-- a separator of `-F`: an assignment to FS
+abbrev pub separator : List ℕ → List ℕ × List ℕ
+separator text = (codes "FS", text)
+
+-- the words as operands, every `-v` in order and then every `-F`, and an environment
+abbrev pub job_of_task : Task → List (List ℕ × List ℕ) → JobForm
+job_of_task task environment = record {
+  operands = texts task.words.items;
+  assigns = map assignment (texts task.assigns.items) ++ map separator (texts task.separators.items);
+  environment = environment;
+}
