@@ -1,0 +1,6 @@
+pub mod Flowing
+pub mod Parts
+pub mod Sums
+pub mod Statements
+pub mod Written
+pub mod Whole

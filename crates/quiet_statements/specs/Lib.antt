@@ -1,0 +1,4 @@
+pub mod Quiet
+pub mod Sums
+pub mod Statements
+pub mod Rows

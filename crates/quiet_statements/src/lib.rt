@@ -1,0 +1,4 @@
+//! Statements on numbers alone call no import.
+#![tactic(auto)]
+
+pub mod laws;
