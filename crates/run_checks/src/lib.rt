@@ -1,17 +1,13 @@
-//! Tests of the crates between a script's tree and its run: each public function once with ample memory, and what no clause says.
+//! Tests of runs over worlds that fail, of runs that are cut off, of modules written byte by byte, and of command lines.
 #![tactic(auto)]
 
-#[cfg(test)]
-mod code;
 #[cfg(test)]
 mod lines;
 #[cfg(test)]
 mod modules;
 #[cfg(test)]
-mod parts;
-#[cfg(test)]
-mod scripts;
-#[cfg(test)]
-mod table;
+mod steps;
 #[cfg(test)]
 mod told;
+#[cfg(test)]
+mod worlds;

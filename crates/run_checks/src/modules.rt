@@ -1,50 +1,33 @@
+//! Modules written byte by byte.
 use crate::told::is_told;
 use awk_run::{RunEnd, run_module};
+use hex::decode;
 use host_calls::Job;
-use std::alloc::{AllocError, Global};
+use std::alloc::Global;
+use std::hash::RandomState;
 use std::test::Fail;
 use world_core::{MemFile, MemWorld};
 
 /// The header, one type without parameters and with a 32-bit result, and one function of it.
-const START: &str = "0061736d01000000 0105016000017f 03020100";
+const START: &str = "0061736d010000000105016000017f03020100";
 
 /// `main` is the first function.
-const MAIN: &str = "0708 01 046d61696e 0000";
+const MAIN: &str = "070801046d61696e0000";
 
-fn digit(c: u8) -> Option<u8> {
-    match c {
-        b'0'..=b'9' => Some(c - b'0'),
-        b'a'..=b'f' => Some(c - b'a' + 10),
-        _ => None,
-    }
-}
-
-/// Hexadecimal digits onto bytes; blanks between them say nothing.
-fn push_hex(bytes: &mut Vec<u8>, text: &str) -> Result<(), AllocError> {
-    let mut high = None;
-    for c in text.as_bytes() {
-        if let Some(d) = digit(*c) {
-            match high {
-                None => high = Some(d),
-                Some(h) => {
-                    bytes.push((h << 4) | d)?;
-                    high = None;
-                }
-            }
-        }
-    }
-    Ok(())
-}
-
-/// How the module of these parts ends within a million steps.
-fn end_of(alloc: Global, parts: &[&str]) -> Result<RunEnd, AllocError> {
+/// The bytes that parts are, in hexadecimal digits.
+fn bytes_of(alloc: Global, parts: &[&str]) -> Result<Vec<u8>, Fail> {
     let mut bytes = Vec::new(alloc);
     for part in parts {
-        push_hex(&mut bytes, part)?;
+        bytes.extend_from_slice(&decode(alloc, *part)?)?;
     }
+    Ok(bytes)
+}
+
+/// How a module ends within a million steps.
+fn end_of(alloc: Global, state: RandomState, bytes: &[u8]) -> RunEnd {
     let world = MemWorld::new(alloc, MemFile::absent(), MemFile::absent());
-    let (end, _) = run_module(alloc, &bytes, &Job::empty(alloc), world, 1000000);
-    Ok(end)
+    let (end, _) = run_module(alloc, bytes, &Job::empty(alloc), state, world, 1000000);
+    end
 }
 
 /// Modules with the exit status and the line of their ends.
@@ -59,74 +42,76 @@ static MODULES: [(&[&str], u8, &str); 13] = [
     (
         &[
             "0061736d01000000",
-            "0109 02 60017f00 6000017f",
-            "020d 01 0461776b31 0464726f70 0000",
-            "0302 01 01",
-            "0708 01 046d61696e 0001",
-            "0a0b 01 09 00 41e300 1000 4100 0b",
+            "01090260017f006000017f",
+            "020d010461776b310464726f700000",
+            "03020101",
+            "070801046d61696e0001",
+            "0a0b01090041e300100041000b",
         ],
         7,
         "awkwasm: BadHandle\n",
     ),
     (
-        &[START, MAIN, "0a09 01 07 00 027f 0c00 0b 0b"],
+        &[START, MAIN, "0a09010700027f0c000b0b"],
         3,
         "awkwasm: BadType 0\n",
     ),
     (
-        &[START, MAIN, "0a06 01 04 00 1000 0b"],
+        &[START, MAIN, "0a0601040010000b"],
         6,
         "awkwasm: Exhausted\n",
     ),
     (
-        &[START, MAIN, "0a0d 01 0b 00 418080808078 417f 6d 0b"],
+        &[START, MAIN, "0a0d010b00418080808078417f6d0b"],
         7,
         "awkwasm: IntegerOverflow\n",
     ),
+    (&[START, MAIN, "0a0d010b00418080808078417f6f0b"], 0, ""),
     (
-        &[START, MAIN, "0a0d 01 0b 00 418080808078 417f 6f 0b"],
-        0,
-        "",
-    ),
-    (
-        &[
-            START,
-            "0404 01 70 00 01",
-            MAIN,
-            "0a09 01 07 00 4100 110000 0b",
-        ],
+        &[START, "040401700001", MAIN, "0a0901070041001100000b"],
         7,
         "awkwasm: EmptyElement\n",
     ),
     (
-        &[
-            START,
-            "0404 01 70 00 01",
-            MAIN,
-            "0a09 01 07 00 4101 110000 0b",
-        ],
+        &[START, "040401700001", MAIN, "0a0901070041011100000b"],
         7,
         "awkwasm: TableBounds\n",
     ),
     (
-        &[START, MAIN, "0a09 01 07 00 4300000000 0b"],
+        &[START, MAIN, "0a0901070043000000000b"],
         3,
         "awkwasm: Float 34\n",
     ),
-    (&[START, MAIN, "0a06 01 04 00 417f 0b"], 255, ""),
+    (&[START, MAIN, "0a06010400417f0b"], 255, ""),
     (
-        &[START, MAIN, "0a0b 01 09 00 0340 0c00 0b 4100 0b"],
+        &[START, MAIN, "0a0b01090003400c000b41000b"],
         4,
         "awkwasm: OutOfSteps\n",
     ),
 ];
 
+/// A module that drops handle 99.
+const DROPS: usize = 3;
+
 #[test]
 fn modules_and_how_they_end(rt: HostRuntime) -> Result<(), Fail> {
     let alloc = rt.alloc();
+    let state = RandomState::new(&rt)?;
     for (parts, status, line) in MODULES {
-        let end = end_of(alloc, parts)?;
+        let end = end_of(alloc, state, &bytes_of(alloc, parts)?);
         assert!(rt; is_told(alloc, &end, status, line)?, "{line}");
+    }
+    Ok(())
+}
+
+#[test]
+fn beginnings_of_a_module(rt: HostRuntime) -> Result<(), Fail> {
+    let alloc = rt.alloc();
+    let state = RandomState::new(&rt)?;
+    let bytes = bytes_of(alloc, MODULES[DROPS].0)?;
+    for length in 0..bytes.len() {
+        let end = end_of(alloc, state, &bytes[..length]);
+        assert!(rt; matches!(end, RunEnd::Refused(_)), "{length}");
     }
     Ok(())
 }
