@@ -1,4 +1,4 @@
-# What is compiled today: strings, and sums, differences and products of whole numbers.
+# Strings and constant whole numbers up to the greatest.
 BEGIN {
   print "seconds in a day", 24 * 60 * 60
   print "minutes in a leap year", 366 * 24 * 60

@@ -1,282 +1,475 @@
-// A small host for modules that awkwasm compiled: the imports of module `awk1` that stand today, with text output only.
+// A small host for modules that awkwasm compiled: the 53 imports of module `awk1`, over the files of the machine.
 //
-//     node host.mjs MODULE WORDS..
+//     node host.mjs [-v NAME=TEXT].. MODULE WORDS..
 //
-// It follows docs/EMBEDDING.md. Nothing of it is proved, and the gate does not run it.
+// It follows docs/EMBEDDING.md, and reads a file whole when it is opened. Nothing of it is proved, and the gate does not run it.
+// Texts are strings whose characters are bytes ("latin1").
 
-import { readFileSync, writeSync } from "node:fs";
+import { closeSync, openSync, readFileSync, writeSync } from "node:fs";
 import { argv, env, exit } from "node:process";
 import { pathToFileURL } from "node:url";
 
-const FAULTS = [
-  "Range", "Fraction", "DivisionByZero", "Inexact", "FieldNumber", "Format", "BadEre", "EreTooLarge", "TextLimit",
-  "OpenInput", "ReadFailed", "OpenOutput", "WriteFailed", "TooManyStreams", "NextOutside", "BadAssignment",
-];
+import { MainInput, Names, ReadError, expressionOf, nextRecord, piecesOf } from "./input.mjs";
+import {
+  FAULTS, Fault, MOST, TEXT_LIMIT, UNINIT, formatted, inRange, limited, num, numberOf, order, power, strnum, text, textOf, truthOf,
+} from "./texts.mjs";
 
-const MOST = 2n ** 53n;
 const LEAST_I64 = -(2n ** 63n);
-const TEXT_LIMIT = 67_108_864;
-const MOST_HANDLES = 2 ** 31 - 1;
-
-/** A fault of the script: the host keeps it, and the call answers -1 or the least i64. */
-class Fault extends Error {}
+const MOST_NUMBERS = 2 ** 31 - 1;
+const MOST_STREAMS = 256;
+const MOST_FIELDS = 1_048_576;
 
 /** A trap of the module: it is at odds with the host, and its run is over. */
 class Trap extends Error {}
 
-/** The host has no handle left. */
+/** The host has no number left. */
 class NoMemory extends Error {}
 
-// Values: { kind: "uninit" }, { kind: "num", number } with a BigInt, { kind: "text", bytes } with a Buffer.
-// A numeric string comes from input alone, so no import of today makes one.
+const SPECIALS = "ARGC CONVFMT FILENAME FNR FS NF NR OFMT OFS ORS RLENGTH RS RSTART SUBSEP".split(" ");
 
-function textOf(value) {
-  switch (value.kind) {
-    case "uninit": return Buffer.alloc(0);
-    case "num": return Buffer.from(value.number.toString(), "latin1");
-    default: return value.bytes;
-  }
-}
-
-function isDigit(byte) {
-  return byte >= 48 && byte <= 57;
-}
-
-function isSpace(byte) {
-  return byte === 32 || (byte >= 9 && byte <= 13);
-}
-
-/** The place after the digits that begin at a place. */
-function afterDigits(bytes, at) {
-  while (at < bytes.length && isDigit(bytes[at])) at++;
-  return at;
-}
-
-/** A sign at a place, and the place after it. */
-function signAt(bytes, at) {
-  if (bytes[at] === 45) return [true, at + 1];
-  return [false, bytes[at] === 43 ? at + 1 : at];
-}
-
-/** The exponent at a place: 0 where a mark is not followed by digits. Beyond 10^15 every exponent is alike. */
-function exponentAt(bytes, at) {
-  if (bytes[at] !== 101 && bytes[at] !== 69) return 0;
-  const [negative, from] = signAt(bytes, at + 1);
-  const end = afterDigits(bytes, from);
-  let magnitude = 0;
-  for (let i = from; i < end; i++) magnitude = Math.min(magnitude * 10 + bytes[i] - 48, 1e15);
-  return negative ? -magnitude : magnitude;
-}
-
-/** The longest prefix that is number text: its sign, its digits from the first that is not 0 on, and the power of ten on them. */
-function numeralOf(bytes) {
-  let at = 0;
-  while (at < bytes.length && isSpace(bytes[at])) at++;
-  const [negative, from] = signAt(bytes, at);
-  const whole = afterDigits(bytes, from);
-  const point = bytes[whole] === 46;
-  const end = point ? afterDigits(bytes, whole + 1) : whole;
-  const fraction = point ? end - whole - 1 : 0;
-  if (whole - from + fraction === 0) return null;
-  let digits = bytes.toString("latin1", from, whole);
-  if (fraction > 0) digits += bytes.toString("latin1", whole + 1, end);
-  let first = 0;
-  while (first < digits.length && digits[first] === "0") first++;
-  return { negative, digits: digits.slice(first), power: exponentAt(bytes, end) - fraction };
-}
-
-/** The digits before and after the point that a negative power of ten puts among them. */
-function cut(digits, places) {
-  const at = Math.max(digits.length - places, 0);
-  return [digits.slice(0, at), digits.slice(at)];
-}
-
-function hasNonzero(digits) {
-  for (const digit of digits) if (digit !== "0") return true;
-  return false;
-}
-
-function inRange(number) {
-  if (number < -MOST || number > MOST) throw new Fault("Range");
-  return number;
-}
-
-/** The number of a text; cut towards 0 where `truncated`, and else a Fraction where it is not whole. */
-function numberOfText(bytes, truncated) {
-  const numeral = numeralOf(bytes);
-  if (numeral === null || numeral.digits === "") return 0n;
-  let whole = numeral.digits;
-  if (numeral.power < 0) {
-    const [before, after] = cut(numeral.digits, -numeral.power);
-    if (!truncated && hasNonzero(after)) throw new Fault("Fraction");
-    whole = before;
-  } else if (whole.length + numeral.power > 16) {
-    throw new Fault("Range");
-  } else {
-    whole += "0".repeat(numeral.power);
-  }
-  if (whole.length > 16) throw new Fault("Range");
-  const magnitude = BigInt(whole === "" ? "0" : whole);
-  return inRange(numeral.negative ? -magnitude : magnitude);
-}
-
-function numberOf(value, truncated) {
-  switch (value.kind) {
-    case "uninit": return 0n;
-    case "num": return value.number;
-    default: return numberOfText(value.bytes, truncated);
-  }
-}
-
-function truthOf(value) {
-  switch (value.kind) {
-    case "uninit": return false;
-    case "num": return value.number !== 0n;
-    default: return value.bytes.length > 0;
-  }
-}
-
-/** Below 0, 0 or above 0: by number where neither side is a text, and else by the bytes of the texts. */
-function order(left, right) {
-  if (left.kind === "text" || right.kind === "text") return Buffer.compare(textOf(left), textOf(right));
-  const a = numberOf(left, false);
-  const b = numberOf(right, false);
-  return a < b ? -1 : a > b ? 1 : 0;
+function specialsAtStart(operands) {
+  const nought = num(0n);
+  return {
+    ARGC: num(BigInt(operands + 1)), CONVFMT: text("%.6g"), FILENAME: UNINIT, FNR: nought, FS: text(" "), NR: nought, OFMT: text("%.6g"),
+    OFS: text(" "), ORS: text("\n"), RLENGTH: num(-1n), RS: text("\n"), RSTART: nought, SUBSEP: text("\x1c"),
+  };
 }
 
 const COMPARISONS = [(o) => o < 0, (o) => o <= 0, (o) => o === 0, (o) => o !== 0, (o) => o > 0, (o) => o >= 0];
 
-function powerOfUnit(base, exponent) {
-  return base === 1n || exponent % 2n === 0n ? 1n : -1n;
-}
+/** What numbers stand for. A number that was given up comes again. */
+class Table {
+  constructor(first) {
+    this.held = new Map(first.entries());
+    this.next = first.length;
+    this.free = [];
+  }
 
-function power(base, exponent) {
-  if (exponent === 0n) return 1n;
-  if (base === 1n || base === -1n) return powerOfUnit(base, exponent);
-  if (exponent < 0n) throw new Fault(base === 0n ? "DivisionByZero" : "Inexact");
-  if (base === 0n) return 0n;
-  if (exponent > 53n) throw new Fault("Range");
-  return inRange(base ** exponent);
-}
+  get(number) {
+    const held = this.held.get(number);
+    if (held === undefined) throw new Trap("BadHandle");
+    return held;
+  }
 
-/** Writes all bytes to a file descriptor. */
-function writeAll(descriptor, bytes) {
-  let at = 0;
-  while (at < bytes.length) {
-    try {
-      at += writeSync(descriptor, bytes, at);
-    } catch (error) {
-      if (error.code !== "EAGAIN") throw error;
-    }
+  take(number) {
+    const held = this.get(number);
+    this.held.delete(number);
+    this.free.push(number);
+    return held;
+  }
+
+  put(held) {
+    const number = this.free.pop() ?? this.next++;
+    if (number >= MOST_NUMBERS) throw new NoMemory("NoMemory");
+    this.held.set(number, held);
+    return number;
   }
 }
 
-/** The state of a host, and its imports. `write` takes bytes, and throws where they cannot be written. */
+/** A match's replacement: an ampersand is the match, and after a backslash itself, as a backslash is. */
+function replacement(matched, by) {
+  return by.replace(/\\([&\\])|&/g, (whole, c) => c ?? matched);
+}
+
+/** The text with its first match replaced, or all, and how many there were. An empty match directly after a match is none. */
+function substituted(ere, by, t, all) {
+  let out = "";
+  let from = 0;
+  let last = -1;
+  let count = 0;
+  for (let at = 0; at <= t.length; ) {
+    const match = ere.firstMatch(t, at);
+    if (match === null) break;
+    const [start, end] = match;
+    at = end === start ? end + 1 : end;
+    if (start === end && start === last) continue;
+    out += t.slice(from, start) + replacement(t.slice(start, end), by);
+    from = last = end;
+    count++;
+    if (!all) break;
+  }
+  return [limited(out + t.slice(from)), count];
+}
+
+function chosen(t, from, below) {
+  const start = from < 1n ? 1n : from;
+  return start >= below ? "" : t.slice(Number(start < MOST ? start : MOST) - 1, Number(below < MOST ? below : MOST) - 1);
+}
+
+/** The state of a host, and its imports. `io` has `open`, `standard`, `create` and `write`; see `files` below. */
 export class Host {
-  constructor(job, write) {
-    this.write = write;
-    this.values = new Map();
-    this.next = 0;
-    this.arguments = [];
+  constructor(job, io) {
+    this.io = io;
+    const argvArray = new Map(["awk", ...job.operands].map((operand, n) => [String(n), strnum(operand)]));
+    const environ = new Map();
+    for (const [name, value] of job.environment) environ.set(name, strnum(value));
+    this.values = new Table([]);
+    this.arrays = new Table([argvArray, environ]);
+    this.iterators = new Table([]);
+    this.specials = specialsAtStart(job.operands.length);
+    this.names = new Names(job.assigns, (name, value) => SPECIALS.includes(name) && (this.setSpecial(name, value), true));
+    this.main = new MainInput(this);
+    this.input = null;
+    this.inEnd = false;
+    this.whole = UNINIT;
+    this.fields = [];
+    this.readers = new Map();
+    this.writers = new Map();
+    this.list = [];
+    this.line = null;
+    this.result = null;
     this.fault = null;
     this.memory = null;
-    const texts = [...job.operands, ...job.environment.flat()];
-    if (texts.some((text) => Buffer.byteLength(text) > TEXT_LIMIT)) this.fault = "TextLimit";
+    const texts = [...job.operands, ...job.assigns.flat(), ...job.environment.flat()];
+    if (texts.some((t) => t.length > TEXT_LIMIT)) this.fault = "TextLimit";
   }
 
-  value(handle) {
-    const value = this.values.get(handle);
-    if (value === undefined) throw new Trap("BadHandle");
-    return value;
+  standard() {
+    this.input ??= this.io.standard();
+    return this.input;
   }
 
-  put(value) {
-    if (this.next >= MOST_HANDLES) throw new NoMemory("NoMemory");
-    this.values.set(this.next, value);
-    return this.next++;
+  special(name) {
+    return textOf(this.specials[name]);
   }
 
-  number(word) {
-    if (word < -MOST || word > MOST) throw new Trap("BadArgument");
-    return word;
+  setSpecial(name, value) {
+    if (name !== "NF") {
+      this.specials[name] = value;
+      return;
+    }
+    const count = this.fieldNumber(numberOf(value));
+    const values = this.fields.slice(0, count);
+    while (values.length < count) values.push(UNINIT);
+    this.setFields(values);
   }
 
-  /** A copy of the bytes at a place in the module's memory. */
-  text(place, length) {
-    const from = place >>> 0;
-    const end = from + (length >>> 0);
-    if (end > this.memory.buffer.byteLength) throw new Trap("BadPointer");
-    return Buffer.from(new Uint8Array(this.memory.buffer.slice(from, end)));
+  fieldNumber(number) {
+    if (number < 0n || number > BigInt(MOST_FIELDS)) throw new Fault("FieldNumber");
+    return Number(number);
   }
 
-  concat(left, right) {
-    const parts = [textOf(left), textOf(right)];
-    if (parts[0].length + parts[1].length > TEXT_LIMIT) throw new Fault("TextLimit");
-    return this.put({ kind: "text", bytes: Buffer.concat(parts) });
+  setRecord(t) {
+    const [fs, rs] = [this.special("FS"), this.special("RS")];
+    const pieces = piecesOf(fs, false, rs === "" && fs !== "", t);
+    this.fieldNumber(BigInt(pieces.length));
+    this.whole = strnum(t);
+    this.fields = pieces.map(strnum);
   }
 
-  print(count, target) {
-    if (target !== 0 || count > this.arguments.length) throw new Trap("BadArgument");
-    const values = this.arguments.splice(this.arguments.length - count, count);
-    const line = [];
-    values.forEach((value, place) => {
-      if (place > 0) line.push(Buffer.from(" "));
-      line.push(textOf(value));
-    });
-    line.push(Buffer.from("\n"));
+  setFields(values) {
+    this.whole = strnum(limited(values.map(textOf).join(this.special("OFS"))));
+    this.fields = values;
+  }
+
+  field(number) {
+    const n = this.fieldNumber(number);
+    return n === 0 ? this.whole : this.fields[n - 1] ?? UNINIT;
+  }
+
+  setField(number, value) {
+    const n = this.fieldNumber(number);
+    if (n === 0) return this.setRecord(textOf(value));
+    const values = [...this.fields];
+    while (values.length < n) values.push(UNINIT);
+    values[n - 1] = value;
+    this.setFields(values);
+  }
+
+  element(array, key) {
+    const name = textOf(key);
+    if (!array.has(name)) array.set(name, UNINIT);
+    return array.get(name);
+  }
+
+  match(value, ere) {
+    const match = expressionOf(textOf(ere)).firstMatch(textOf(value), 0);
+    const start = BigInt(match === null ? 0 : match[0] + 1);
+    this.specials.RSTART = num(start);
+    this.specials.RLENGTH = num(match === null ? -1n : BigInt(match[1] - match[0]));
+    return start;
+  }
+
+  substitute(ere, by, target, all) {
+    const [t, count] = substituted(expressionOf(textOf(ere)), textOf(by), textOf(target), all);
+    this.result = text(t);
+    return BigInt(count);
+  }
+
+  split(value, array, separator, isEre) {
+    const pieces = piecesOf(textOf(separator), isEre, false, textOf(value));
+    array.clear();
+    pieces.forEach((piece, n) => array.set(String(n + 1), strnum(piece)));
+    return BigInt(pieces.length);
+  }
+
+  // Input. `keep` takes a record.
+
+  keepRecord = (t) => this.setRecord(t);
+  keepLine = (t) => { this.line = strnum(t); };
+
+  count(name) {
+    this.specials[name] = num(inRange(numberOf(this.specials[name]) + 1n));
+  }
+
+  readMain(keep, loop) {
+    if (this.names.pending !== null) throw new Trap("BadArgument");
+    let got;
     try {
-      this.write(Buffer.concat(line));
+      got = this.main.read(this.special("RS"));
+    } catch (error) {
+      if (!(error instanceof ReadError)) throw error;
+      got = { how: "failed" };
+    }
+    if (got.record !== undefined) {
+      this.count("NR");
+      this.count("FNR");
+      keep(got.record);
+      return 1;
+    }
+    if (loop && got.how === "unopened") throw new Fault("OpenInput");
+    if (loop && got.how === "failed") throw new Fault("ReadFailed");
+    return { end: 0, pending: 2, unopened: 3, failed: 3 }[got.how];
+  }
+
+  hasRoom() {
+    if (this.readers.size + this.writers.size >= MOST_STREAMS) throw new Fault("TooManyStreams");
+  }
+
+  readFile(value, keep) {
+    const name = textOf(value);
+    let reader = this.readers.get(name) ?? null;
+    if (reader === null) {
+      this.hasRoom();
+      reader = this.io.open(name);
+      if (reader === null) return 3;
+      this.readers.set(name, reader);
+    }
+    try {
+      const record = nextRecord(reader, this.special("RS"));
+      if (record === null) return 0;
+      keep(record);
+      return 1;
+    } catch (error) {
+      if (error instanceof ReadError) return 3;
+      throw error;
+    }
+  }
+
+  // Output.
+
+  /** The last values of the list; the name of a file is one more, and the last of them. */
+  taken(count, to, least) {
+    const wanted = to === 0 ? count : count + 1;
+    if (wanted > this.list.length || count < least) throw new Trap("BadArgument");
+    const values = this.list.splice(this.list.length - wanted, wanted);
+    return { name: to === 0 ? null : textOf(values.pop()), values };
+  }
+
+  outlet(name, append) {
+    const open = this.writers.get(name);
+    if (open !== undefined) return open;
+    this.hasRoom();
+    const made = this.io.create(name, append);
+    if (made === null) throw new Fault("OpenOutput");
+    this.writers.set(name, made);
+    return made;
+  }
+
+  write(name, append, t) {
+    const outlet = name === null ? 1 : this.outlet(name, append);
+    try {
+      this.io.write(outlet, Buffer.from(t, "latin1"));
     } catch {
       throw new Fault("WriteFailed");
     }
-    return 0;
   }
 
-  fail(code) {
-    if (code < 1 || code > FAULTS.length) throw new Trap("BadArgument");
-    throw new Fault(FAULTS[code - 1]);
+  print(count, to) {
+    const { name, values } = this.taken(count, to, 0);
+    this.write(name, to === 2, values.map(textOf).join(this.special("OFS")) + this.special("ORS"));
   }
 
-  compare(operator, left, right) {
-    if (operator < 0 || operator >= COMPARISONS.length) throw new Trap("BadArgument");
-    const sides = [this.value(left), this.value(right)];
-    return COMPARISONS[operator](order(sides[0], sides[1])) ? 1 : 0;
+  printf(count, to) {
+    const { name, values } = this.taken(count, to, 1);
+    this.write(name, to === 2, formatted(textOf(values[0]), values.slice(1)));
   }
 
-  /** An import: after a kept fault it answers only `refusal`, and a fault that it meets is kept. */
-  guarded(refusal, act) {
-    return (...words) => {
-      if (this.fault !== null) return refusal;
-      try {
-        return act(...words);
-      } catch (error) {
-        if (!(error instanceof Fault)) throw error;
-        this.fault = error.message;
-        return refusal;
-      }
+  sprintf(count) {
+    const { values } = this.taken(count, 0, 1);
+    return text(formatted(textOf(values[0]), values.slice(1)));
+  }
+
+  close(value) {
+    const name = textOf(value);
+    const writer = this.writers.get(name);
+    const wasOpen = this.readers.delete(name) || writer !== undefined;
+    if (writer !== undefined) this.io.close(writer);
+    this.writers.delete(name);
+    return wasOpen ? 0 : 3;
+  }
+
+  // Names.
+
+  declare(name, kind) {
+    if (this.names.kinds.has(name)) throw new Trap("BadArgument");
+    this.names.kinds.set(name, { number: this.names.kinds.size, kind });
+  }
+
+  pending() {
+    if (this.names.pending === null) throw new Trap("BadArgument");
+    return this.names.pending;
+  }
+
+  pendingValue() {
+    const { value } = this.pending();
+    this.names.pending = null;
+    return value;
+  }
+
+  once(field) {
+    const value = this[field];
+    if (value === null) throw new Trap("BadArgument");
+    this[field] = null;
+    return value;
+  }
+
+  startAssign() {
+    if (this.names.pending !== null) throw new Trap("BadArgument");
+    return this.names.start();
+  }
+
+  freeArray(number) {
+    this.arrays.get(number);
+    if (number < 2) throw new Trap("BadArgument");
+    this.arrays.take(number);
+  }
+
+  /**
+   * Each import: its arguments, its answer, and what it does. Letters: h a value, k a value that stays, n a number, a an array, t an iterator, p a
+   * text in memory, o a comparison, s a special variable, f a fault, b a flag, d a destination, m the kind of a name, c a count, r a raw number.
+   * Answers: h a value, e a value or -2, n a 64-bit number, i a 32-bit one, c 0 for what is done, - nothing.
+   */
+  table() {
+    return {
+      num: ["n", "h", (n) => num(n)],
+      lit: ["p", "h", (t) => text(t)],
+      uninit: ["", "h", () => UNINIT],
+      dup: ["k", "h", (v) => v],
+      to_num: ["h", "n", (v) => numberOf(v)],
+      int_of: ["h", "n", (v) => numberOf(v, true)],
+      truth: ["h", "i", (v) => Number(truthOf(v))],
+      compare: ["ohh", "i", (holds, v, w) => Number(holds(order(v, w)))],
+      concat: ["hh", "h", (v, w) => text(limited(textOf(v) + textOf(w)))],
+      pow: ["nn", "n", (n, m) => power(n, m)],
+      fail: ["f", "-", (fault) => { throw new Fault(fault); }],
+      get_special: ["s", "h", (name) => (name === "NF" ? num(BigInt(this.fields.length)) : this.specials[name])],
+      set_special: ["sh", "c", (name, v) => this.setSpecial(name, v)],
+      field: ["n", "h", (n) => this.field(n)],
+      set_field: ["nh", "c", (n, v) => this.setField(n, v)],
+      new_array: ["", "i", () => this.arrays.put(new Map())],
+      elem: ["ah", "h", (a, v) => this.element(a, v)],
+      set_elem: ["ahh", "c", (a, v, w) => a.set(textOf(v), w)],
+      has: ["ah", "i", (a, v) => Number(a.has(textOf(v)))],
+      delete: ["ah", "c", (a, v) => a.delete(textOf(v))],
+      join: ["hh", "h", (v, w) => text(limited(textOf(v) + this.special("SUBSEP") + textOf(w)))],
+      iter: ["a", "i", (a) => this.iterators.put({ keys: [...a.keys()], at: 0 })],
+      iter_next: ["t", "e", (t) => (t.at < t.keys.length ? text(t.keys[t.at++]) : null)],
+      length: ["h", "n", (v) => BigInt(textOf(v).length)],
+      matches: ["hh", "i", (v, ere) => Number(expressionOf(textOf(ere)).firstMatch(textOf(v), 0) !== null)],
+      match: ["hh", "n", (v, ere) => this.match(v, ere)],
+      sub: ["hhhb", "n", (ere, by, target, all) => this.substitute(ere, by, target, all)],
+      sub_result: ["", "h", () => this.once("result")],
+      split: ["hahb", "n", (v, a, separator, isEre) => this.split(v, a, separator, isEre)],
+      substr: ["hnn", "h", (v, m, n) => text(chosen(textOf(v), m, m + n))],
+      substr_from: ["hn", "h", (v, m) => text(chosen(textOf(v), m, MOST))],
+      index: ["hh", "n", (v, w) => BigInt(textOf(w) === "" ? 0 : textOf(v).indexOf(textOf(w)) + 1)],
+      lower: ["h", "h", (v) => text(textOf(v).replace(/[A-Z]/g, (c) => c.toLowerCase()))],
+      upper: ["h", "h", (v) => text(textOf(v).replace(/[a-z]/g, (c) => c.toUpperCase()))],
+      next_main: ["", "i", () => this.readMain(this.keepRecord, true)],
+      getline: ["", "i", () => (this.inEnd ? 0 : this.readMain(this.keepRecord, false))],
+      getline_var: ["", "i", () => (this.inEnd ? 0 : this.readMain(this.keepLine, false))],
+      getline_file: ["h", "i", (v) => this.readFile(v, this.keepRecord)],
+      getline_var_file: ["h", "i", (v) => this.readFile(v, this.keepLine)],
+      line: ["", "h", () => this.once("line")],
+      declare: ["pm", "-", (name, kind) => this.declare(name, kind)],
+      start_assign: ["", "i", () => this.startAssign()],
+      pending_name: ["", "i", () => this.pending().number],
+      pending_value: ["", "h", () => this.pendingValue()],
+      begin_end: ["", "-", () => { this.inEnd = true; }],
+      close: ["h", "i", (v) => this.close(v)],
+      arg: ["h", "-", (v) => { this.list.push(v); }],
+      sprintf: ["c", "h", (count) => this.sprintf(count)],
+      print: ["cd", "c", (count, to) => this.print(count, to)],
+      printf: ["cd", "c", (count, to) => this.printf(count, to)],
+      drop: ["h", "-", () => {}],
+      iter_free: ["r", "-", (t) => { this.iterators.take(t); }],
+      free_array: ["r", "-", (a) => this.freeArray(a)],
     };
+  }
+
+  /** What small numbers say, by the letter of the argument. */
+  constant(letter, word) {
+    const says = {
+      o: COMPARISONS[word], s: SPECIALS[word], f: FAULTS[word - 1], b: [false, true][word], d: [0, 1, 2][word], m: [0, 1][word],
+    }[letter];
+    if (says === undefined) throw new Trap("BadArgument");
+    return says;
+  }
+
+  /** The bytes at a place in the module's memory. */
+  place(at, length) {
+    const end = (at >>> 0) + (length >>> 0);
+    if (end > this.memory.buffer.byteLength) throw new Trap("BadPointer");
+    return Buffer.from(this.memory.buffer, at >>> 0, length >>> 0).toString("latin1");
+  }
+
+  /** The arguments that words stand for, from left to right; handles are spent. */
+  decode(letters, words) {
+    const left = [...words];
+    return [...letters].map((letter) => {
+      const word = left.shift();
+      switch (letter) {
+        case "h": return this.values.take(word);
+        case "k": return this.values.get(word);
+        case "a": return this.arrays.get(word);
+        case "t": return this.iterators.get(word);
+        case "p": return this.place(word, left.shift());
+        case "c": return word >>> 0;
+        case "r": return word;
+        case "n":
+          if (word < -MOST || word > MOST) throw new Trap("BadArgument");
+          return word;
+        default: return this.constant(letter, word);
+      }
+    });
+  }
+
+  encode(letter, answer) {
+    switch (letter) {
+      case "h": return this.values.put(answer);
+      case "e": return answer === null ? -2 : this.values.put(answer);
+      case "c": return 0;
+      case "-": return undefined;
+      default: return answer;
+    }
+  }
+
+  /** After a kept fault an import only refuses, but for those that let something go; a fault that it meets is kept. */
+  call(name, [letters, answer, act], words) {
+    const refusal = answer === "-" ? undefined : answer === "n" ? LEAST_I64 : -1;
+    if (this.fault !== null && !["drop", "iter_free", "free_array"].includes(name)) return refusal;
+    try {
+      return this.encode(answer, act(...this.decode(letters, words)));
+    } catch (error) {
+      if (!(error instanceof Fault)) throw error;
+      this.fault = error.message;
+      return refusal;
+    }
   }
 
   imports() {
-    const nothing = (act) => this.guarded(undefined, act);
-    const word = (act) => this.guarded(-1, act);
-    const number = (act) => this.guarded(LEAST_I64, act);
-    return {
-      num: word((n) => this.put({ kind: "num", number: this.number(n) })),
-      lit: word((place, length) => this.put({ kind: "text", bytes: this.text(place, length) })),
-      arg: nothing((handle) => { this.arguments.push(this.value(handle)); }),
-      print: word((count, target) => this.print(count >>> 0, target)),
-      fail: nothing((code) => this.fail(code)),
-      drop: (handle) => { this.value(handle); },
-      dup: word((handle) => this.put(this.value(handle))),
-      uninit: word(() => this.put({ kind: "uninit" })),
-      to_num: number((handle) => numberOf(this.value(handle), false)),
-      int_of: number((handle) => numberOf(this.value(handle), true)),
-      truth: word((handle) => (truthOf(this.value(handle)) ? 1 : 0)),
-      compare: word((operator, left, right) => this.compare(operator, left, right)),
-      concat: word((left, right) => this.concat(this.value(left), this.value(right))),
-      pow: number((base, exponent) => power(this.number(base), this.number(exponent))),
-    };
+    return Object.fromEntries(Object.entries(this.table()).map(([name, row]) => [name, (...words) => this.call(name, row, words)]));
   }
 }
 
@@ -326,8 +519,8 @@ function moduleOf(bytes) {
 }
 
 /** Runs a module in a job: `{ status }`, `{ fault }` or `{ trap }`. */
-export function runModule(bytes, job, write) {
-  const host = new Host(job, write);
+export function runModule(bytes, job, io) {
+  const host = new Host(job, io);
   const instance = new WebAssembly.Instance(moduleOf(bytes), { awk1: host.imports() });
   host.memory = instance.exports.memory;
   let result;
@@ -340,14 +533,63 @@ export function runModule(bytes, job, write) {
   return host.fault === null ? { status: result & 255 } : { fault: host.fault };
 }
 
+/** A source of what is left in a file, which is read whole; one that cannot be read fails at once. */
+function sourceOf(descriptor) {
+  try {
+    return { rest: readFileSync(descriptor, "latin1"), fails: false };
+  } catch {
+    return { rest: "", fails: true };
+  }
+}
+
+/** The files of the machine. */
+export const files = {
+  standard: () => sourceOf(0),
+  open(name) {
+    try {
+      const descriptor = openSync(Buffer.from(name, "latin1"), "r");
+      const source = sourceOf(descriptor);
+      closeSync(descriptor);
+      return source;
+    } catch {
+      return null;
+    }
+  },
+  create(name, append) {
+    try {
+      return openSync(Buffer.from(name, "latin1"), append ? "a" : "w");
+    } catch {
+      return null;
+    }
+  },
+  write(descriptor, bytes) {
+    for (let at = 0; at < bytes.length; ) {
+      try {
+        at += writeSync(descriptor, bytes, at);
+      } catch (error) {
+        if (error.code !== "EAGAIN") throw error;
+      }
+    }
+  },
+  close: closeSync,
+};
+
 function main() {
-  const [file, ...operands] = argv.slice(2);
+  const bytesOf = (t) => Buffer.from(t).toString("latin1");
+  const words = argv.slice(2);
+  const assigns = [];
+  while (words[0] === "-v") {
+    const [, assignment] = words.splice(0, 2);
+    const at = assignment.indexOf("=");
+    assigns.push([assignment.slice(0, at), assignment.slice(at + 1)].map(bytesOf));
+  }
+  const [file, ...operands] = words;
   if (file === undefined) {
-    writeSync(2, "usage: node host.mjs MODULE WORDS..\n");
+    writeSync(2, "usage: node host.mjs [-v NAME=TEXT].. MODULE WORDS..\n");
     return 8;
   }
-  const job = { operands, environment: Object.entries(env) };
-  const end = runModule(readFileSync(file), job, (bytes) => writeAll(1, bytes));
+  const environment = Object.entries(env).map((pair) => pair.map(bytesOf)).sort(([a], [b]) => (a < b ? -1 : 1));
+  const end = runModule(readFileSync(file), { operands: operands.map(bytesOf), assigns, environment }, files);
   if (end.status !== undefined) return end.status;
   writeSync(2, `awkwasm: ${end.fault ?? end.trap}\n`);
   return end.fault !== undefined ? 2 : 7;
