@@ -25,10 +25,9 @@ use Rattle.module_decoder.specs.declared.fault.DecodeFault.{DecodeFault}
 use Rattle.module_decoder.specs.declared.fault.DecodeFault.TheVariants.{BadHeader, Truncated, BadSection, BadInteger, BadOpcode, Float, TooLarge, NoMemory}
 use Rattle.module_decoder.specs.declared.basics.Span.{Span}
 use Rattle.module_decoder.specs.declared.body.Ending.{Ending}
-use Rattle.module_decoder.specs.declared.body.Ending.TheVariants as ending
 use Rattle.module_decoder.specs.declared.body.Step.TheVariants.{Ends, Opens}
 use Rattle.module_decoder.specs.Readers.{◌>>=◌, Fails, Read, each_at, both_at, index_at, malformed, bytes_at}
-use Rattle.module_decoder.specs.Reading.{Progress, section_at, sections_at, val_type_at, run_by, runs_at, name_at, ReadBody, made_body, with_first, step_at, block_type_at, block_at, loop_at, instr_by, body_by, body_at}
+use Rattle.module_decoder.specs.Reading.{Progress, section_at, sections_at, val_type_at, run_by, runs_at, name_at, ReadBody, made_body, with_first, step_at, instr_by, body_by, body_at}
 
 -- a fault that is not want of memory is the reader's
 pub fails_bind : {A B : Type 0} (e : DecodeFault) (r : Result A DecodeFault) (f : A → Result B DecodeFault) → Fails e r → Fails e (r >>= f)
@@ -142,15 +141,11 @@ front_nil (Err f) = refl
 abbrev Shared : Type 0
 Shared = Rc (Vec Instr Global) Global
 
-pub block_ok : (c : Span) (body : List ℕ → ReadBody) (bytes r rest : List ℕ) (k : Option ValType) (e : Ending) (is : List Instr) (v : Shared) → block_type_at c bytes ≡ Ok (k, r) → body r ≡ Ok (made_body (views is) e rest) → e ≡ ending.End → v.value.items ≡ is → block_at c body bytes ≡ Ok (view (Block k v), rest)
-block_ok c body bytes r rest k e is v h g q s =
-    let a : block_at c body bytes ≡ Ok (tree.Block k (views is), rest) = rw (h, g, q) refl in
-    a ∙ ap (λ (u : Instruction). Ok (u, rest)) (ap (λ (us : List Instr). tree.Block k (views us)) (sym s) ∙ sym (view_block k v))
+pub block_is : (k : Option ValType) (is : List Instr) (v : Shared) → v.value.items ≡ is → tree.Block k (views is) ≡ view (Block k v)
+block_is k is v s = ap (λ (us : List Instr). tree.Block k (views us)) (sym s) ∙ sym (view_block k v)
 
-pub loop_ok : (c : Span) (body : List ℕ → ReadBody) (bytes r rest : List ℕ) (k : Option ValType) (e : Ending) (is : List Instr) (v : Shared) → block_type_at c bytes ≡ Ok (k, r) → body r ≡ Ok (made_body (views is) e rest) → e ≡ ending.End → v.value.items ≡ is → loop_at c body bytes ≡ Ok (view (Loop k v), rest)
-loop_ok c body bytes r rest k e is v h g q s =
-    let a : loop_at c body bytes ≡ Ok (tree.Loop k (views is), rest) = rw (h, g, q) refl in
-    a ∙ ap (λ (u : Instruction). Ok (u, rest)) (ap (λ (us : List Instr). tree.Loop k (views us)) (sym s) ∙ sym (view_loop k v))
+pub loop_is : (k : Option ValType) (is : List Instr) (v : Shared) → v.value.items ≡ is → tree.Loop k (views is) ≡ view (Loop k v)
+loop_is k is v s = ap (λ (us : List Instr). tree.Loop k (views us)) (sym s) ∙ sym (view_loop k v)
 
 pub if_is : (k : Option ValType) (is js : List Instr) (v w : Shared) → v.value.items ≡ is → w.value.items ≡ js → tree.If k (views is) (views js) ≡ view (If k v w)
 if_is k is js v w s z =

@@ -22,6 +22,8 @@ use Rattle.module_decoder.specs.declared.fault.DecodeFault.TheVariants.{BadHeade
 use Rattle.module_decoder.specs.declared.basics.Span.{Span}
 use Rattle.module_decoder.specs.declared.body.Ending.{Ending}
 use Rattle.module_decoder.specs.declared.body.Ending.TheVariants as ending
+use Rattle.module_decoder.specs.declared.body.Opener.{Opener}
+use Rattle.module_decoder.specs.declared.body.Opener.TheVariants as opener
 use Rattle.module_decoder.specs.declared.body.Step.{Step}
 use Rattle.module_decoder.specs.declared.body.Step.TheVariants.{Ends, Opens}
 use Rattle.module_decoder.specs.Readers.{◌>>=◌, Read, both_at, mapped, malformed, place, unfinished, index_at, bits32_at, bits64_at, vec_at, option_at, tagged_at, whole, bytes_at}
@@ -85,6 +87,12 @@ second_side c body k b = elim b.ending [ ending.End ↦ Ok (If k b.instrs Done, 
 
 abbrev pub if_at : Span → (List ℕ → ReadBody) → List ℕ → Read Instruction
 if_at c body bytes = block_type_at c bytes >>= λ k. body k.1 >>= second_side c body k.0
+
+-- an instruction that holds others, by what opened it
+abbrev pub nested_at : Span → (List ℕ → ReadBody) → Opener → List ℕ → Read Instruction
+nested_at c body opener.Block bytes = block_at c body bytes
+nested_at c body opener.Loop bytes = loop_at c body bytes
+nested_at c body opener.If bytes = if_at c body bytes
 
 abbrev pub table_at : Span → List ℕ → Read Instruction
 table_at c bytes = vec_at c (index_at c) bytes >>= λ ns. index_at c ns.1 >>= λ n. Ok (BrTable ns.0 n.0, n.1)

@@ -3,10 +3,10 @@
 ghost use Rattle.std.specs.Prelude.{◌≡◌, ◌+◌, ◌-◌, Some, None, Ok, MatchOption, length};
 ghost use Rattle.wasm_types.specs.declared.instr.Simple.TheVariants as simple;
 ghost use Rattle.wasm_types.specs.Opcodes.{indexed};
-ghost use Rattle.wasm_types.specs.Syntax.{Plain, If, Done};
+ghost use Rattle.wasm_types.specs.Syntax.{Plain, Block, Loop, If, Done};
 ghost use Rattle.wasm_types.specs.View.{view, views};
 ghost use Rattle.module_decoder.specs.Readers.{Gives, mapped, vec_at, index_at, bits32_at, bits64_at};
-ghost use Rattle.module_decoder.specs.Reading.{step_by, step_at, mem_arg_at, reserved_at, call_indirect_at, made_body, by_end, block_at, loop_at, if_at, table_at, instr_by, body_at, expr_at};
+ghost use Rattle.module_decoder.specs.Reading.{step_by, step_at, mem_arg_at, reserved_at, call_indirect_at, made_body, by_end, nested_at, table_at, instr_by, body_at, expr_at};
 
 use crate::basics::{Span, bits32, bits64, block_type, index, mem_arg, reserved};
 use crate::entries::entries;
@@ -23,6 +23,14 @@ const MAX_NESTING: u32 = 4000;
 pub enum Ending {
     End,
     Else,
+}
+
+/// What opens instructions of its own.
+#[derive(Clone, Copy)]
+pub enum Opener {
+    Block,
+    Loop,
+    If,
 }
 
 /// What comes next.
@@ -138,12 +146,16 @@ fn table(alloc: Global, c: Span, bytes: &[u8]) -> Result<(Instr, &[u8]), DecodeF
     Ok((Instr::BrTable(labels, last), rest))
 }
 
-#[cycle(body)]
-fn block(alloc: Global, c: Span, limit: u32, bytes: &[u8]) -> Result<(Instr, &[u8]), DecodeFault>
-    ensures { Gives (λ x. (view x.0, x.1.now)) result (block_at c (body_at c limit) bytes.now) }
+/// A block, from what it holds.
+fn blocked<'a>(
+    alloc: Global,
+    c: Span,
+    kind: BlockType,
+    inner: Sequence<'a>,
+) -> Result<(Instr, &'a [u8]), DecodeFault>
+    ensures { Gives (λ x. (view x.0, x.1.now)) result (by_end c (Block kind)
+        (made_body (views inner.entry.instrs.items) inner.entry.ending inner.entry.rest.now)) }
 {
-    let (kind, rest) = block_type(c, bytes)?;
-    let inner = body_of(alloc, c, limit, rest)?;
     match inner.ending {
         Ending::End => Ok((
             Instr::Block(kind, Rc::new(alloc, inner.instrs)?),
@@ -153,12 +165,16 @@ fn block(alloc: Global, c: Span, limit: u32, bytes: &[u8]) -> Result<(Instr, &[u
     }
 }
 
-#[cycle(body)]
-fn looped(alloc: Global, c: Span, limit: u32, bytes: &[u8]) -> Result<(Instr, &[u8]), DecodeFault>
-    ensures { Gives (λ x. (view x.0, x.1.now)) result (loop_at c (body_at c limit) bytes.now) }
+/// A loop, from what it holds.
+fn looped<'a>(
+    alloc: Global,
+    c: Span,
+    kind: BlockType,
+    inner: Sequence<'a>,
+) -> Result<(Instr, &'a [u8]), DecodeFault>
+    ensures { Gives (λ x. (view x.0, x.1.now)) result (by_end c (Loop kind)
+        (made_body (views inner.entry.instrs.items) inner.entry.ending inner.entry.rest.now)) }
 {
-    let (kind, rest) = block_type(c, bytes)?;
-    let inner = body_of(alloc, c, limit, rest)?;
     match inner.ending {
         Ending::End => Ok((Instr::Loop(kind, Rc::new(alloc, inner.instrs)?), inner.rest)),
         Ending::Else => Err(DecodeFault::BadOpcode(behind(c, inner.rest))),
@@ -193,18 +209,30 @@ fn two_sided<'a>(
     }
 }
 
+/// An instruction that holds others, from what follows its opcode.
 #[cycle(body)]
-fn choice(alloc: Global, c: Span, limit: u32, bytes: &[u8]) -> Result<(Instr, &[u8]), DecodeFault>
-    ensures { Gives (λ x. (view x.0, x.1.now)) result (if_at c (body_at c limit) bytes.now) }
+fn nested(
+    alloc: Global,
+    c: Span,
+    limit: u32,
+    opener: Opener,
+    bytes: &[u8],
+) -> Result<(Instr, &[u8]), DecodeFault>
+    ensures { Gives (λ x. (view x.0, x.1.now)) result
+        (nested_at c (body_at c limit) opener bytes.now) }
 {
     let (kind, rest) = block_type(c, bytes)?;
-    let first = body_of(alloc, c, limit, rest)?;
-    match first.ending {
-        Ending::End => Ok((one_sided(alloc, kind, first.instrs)?, first.rest)),
-        Ending::Else => {
-            let second = body_of(alloc, c, limit, first.rest)?;
-            two_sided(alloc, c, kind, first.instrs, second)
-        }
+    let inner = body_of(alloc, c, limit, rest)?;
+    match opener {
+        Opener::Block => blocked(alloc, c, kind, inner),
+        Opener::Loop => looped(alloc, c, kind, inner),
+        Opener::If => match inner.ending {
+            Ending::End => Ok((one_sided(alloc, kind, inner.instrs)?, inner.rest)),
+            Ending::Else => {
+                let second = body_of(alloc, c, limit, inner.rest)?;
+                two_sided(alloc, c, kind, inner.instrs, second)
+            }
+        },
     }
 }
 
@@ -229,9 +257,9 @@ fn instr(
         Lead::MemorySize => with_reserved(c, Simple::MemorySize, bytes),
         Lead::MemoryGrow => with_reserved(c, Simple::MemoryGrow, bytes),
         Lead::BrTable => table(alloc, c, bytes),
-        Lead::Block => block(alloc, c, limit, bytes),
-        Lead::Loop => looped(alloc, c, limit, bytes),
-        Lead::If => choice(alloc, c, limit, bytes),
+        Lead::Block => nested(alloc, c, limit, Opener::Block, bytes),
+        Lead::Loop => nested(alloc, c, limit, Opener::Loop, bytes),
+        Lead::If => nested(alloc, c, limit, Opener::If, bytes),
         Lead::Float => Err(DecodeFault::Float(behind(c, bytes))),
         Lead::Else | Lead::End | Lead::Unknown => Err(DecodeFault::BadOpcode(behind(c, bytes))),
     }

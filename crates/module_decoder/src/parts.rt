@@ -6,7 +6,7 @@ ghost use Rattle.module_decoder.specs.View.{view_code};
 ghost use Rattle.module_decoder.specs.Readers.{Gives, vec_at, option_at, tagged_at, index_at};
 ghost use Rattle.std.specs.Prelude.{◌++◌, OnOk, IfErr};
 ghost use Rattle.module_decoder.specs.declared.fault.DecodeFault.TheVariants.{NoMemory};
-ghost use Rattle.module_decoder.specs.Reading.{val_type_at, func_type_at, import_at, limits_at, limits_by, table_type_at, global_type_at, global_at, export_desc_at, export_at, elem_at, data_at, runs_at, locals_at, code_parts_at, code_at};
+ghost use Rattle.module_decoder.specs.Reading.{val_type_at, func_type_at, import_at, limits_at, limits_by, max_at, table_type_at, global_type_at, global_at, export_desc_at, export_at, elem_at, data_at, runs_at, locals_at, code_parts_at, code_at};
 
 use crate::basics::{Span, counted, ended, index, mutability, name, val_type};
 use crate::body::expr;
@@ -121,24 +121,23 @@ impl Entry for Import {
 fn limits_by(c: Span, b: u8, bytes: &[u8]) -> Result<(Limits, &[u8]), DecodeFault>
     ensures { Gives (λ x. (x.0, x.1.now)) result (limits_by c b bytes.now) }
 {
-    match b {
-        0 => {
-            let (min, rest) = index(c, bytes)?;
-            Ok((Limits { min, max: None }, rest))
-        }
-        1 => {
-            let (min, rest) = index(c, bytes)?;
-            let (max, rest) = index(c, rest)?;
-            Ok((
-                Limits {
-                    min,
-                    max: Some(max),
-                },
-                rest,
-            ))
-        }
-        _ => Err(c.malformed()),
+    if b > 1 {
+        return Err(c.malformed());
     }
+    let (min, rest) = index(c, bytes)?;
+    if b == 0 {
+        return Ok((Limits { min, max: None }, rest));
+    }
+    limits_from(c, min, rest)
+}
+
+/// The limits with this least size, where the greatest one follows.
+fn limits_from(c: Span, min: u32, bytes: &[u8]) -> Result<(Limits, &[u8]), DecodeFault>
+    ensures { Gives (λ x. (x.0, x.1.now)) result (max_at c min bytes.now) }
+{
+    let (max, rest) = index(c, bytes)?;
+    let max = Some(max);
+    Ok((Limits { min, max }, rest))
 }
 
 fn limits(c: Span, most: u32, bytes: &[u8]) -> Result<(Limits, &[u8]), DecodeFault>

@@ -5,6 +5,7 @@ ghost use Rattle.std.specs.List.{All};
 ghost use Rattle.wasm_types.specs.Instructions.{depths};
 ghost use Rattle.wasm_types.specs.Syntax.{ModuleForm};
 ghost use Rattle.wasm_types.specs.View.{view_func, view_module};
+ghost use Rattle.wasm_types.specs.declared.module.SectionId.TheVariants as section_id;
 ghost use Rattle.wasm_types.specs.ModuleGrammar.{number, no_parts, joined, module_of, IsModule};
 ghost use Rattle.module_decoder.specs.View.{view_code, view_parts, view_progress};
 ghost use Rattle.module_decoder.specs.Readers.{Gives, Fails, ended};
@@ -94,6 +95,25 @@ fn whole<T: Drop>(c: Span, read: Result<(T, &[u8]), DecodeFault>) -> Result<T, D
     Ok(value)
 }
 
+// Puts what was read, if something was.
+fn put(
+    place: &mut Option<Limits>,
+    read: Result<Option<Limits>, DecodeFault>,
+) -> Result<(), DecodeFault>
+    ensures { MatchResult read (λ x. (result ≡ Ok tt) × (place.new ≡ x)) (λ e. result ≡ Err e) }
+{
+    *place = read?;
+    Ok(())
+}
+
+// Puts the index of the function that starts, if it was read.
+fn put_start(place: &mut Option<u32>, read: Result<u32, DecodeFault>) -> Result<(), DecodeFault>
+    ensures { MatchResult read (λ n. (result ≡ Ok tt) × (place.new ≡ Some n)) (λ e. result ≡ Err e) }
+{
+    *place = Some(read?);
+    Ok(())
+}
+
 impl Parts {
     fn new(alloc: Global) -> Parts
         ensures { view_parts result ≡ no_parts }
@@ -113,6 +133,20 @@ impl Parts {
         }
     }
 
+    // Takes the codes, of which there are as many as functions.
+    fn take_codes(&mut self, alloc: Global, c: Span, bytes: &[u8]) -> Result<(), DecodeFault>
+        ensures { MatchResult result
+            (λ _. part_at c section_id.Code (view_parts self.old) bytes.now ≡ Ok (view_parts self.new))
+            (λ e. Fails e (part_at c section_id.Code (view_parts self.old) bytes.now)) }
+    {
+        fill(&mut self.codes, alloc, c, bytes)?;
+        if self.codes.len() == self.type_indices.len() {
+            Ok(())
+        } else {
+            Err(c.malformed())
+        }
+    }
+
     // Takes what the contents of a section give.
     fn take(
         &mut self,
@@ -127,29 +161,13 @@ impl Parts {
             SectionId::Type => fill(&mut self.types, alloc, c, bytes),
             SectionId::Import => fill(&mut self.imports, alloc, c, bytes),
             SectionId::Function => fill(&mut self.type_indices, alloc, c, bytes),
-            SectionId::Table => {
-                self.table = whole(c, table(c, bytes))?;
-                Ok(())
-            }
-            SectionId::Memory => {
-                self.memory = whole(c, memory(c, bytes))?;
-                Ok(())
-            }
+            SectionId::Table => put(&mut self.table, whole(c, table(c, bytes))),
+            SectionId::Memory => put(&mut self.memory, whole(c, memory(c, bytes))),
             SectionId::Global => fill(&mut self.globals, alloc, c, bytes),
             SectionId::Export => fill(&mut self.exports, alloc, c, bytes),
-            SectionId::Start => {
-                self.start = Some(whole(c, index(c, bytes))?);
-                Ok(())
-            }
+            SectionId::Start => put_start(&mut self.start, whole(c, index(c, bytes))),
             SectionId::Element => fill(&mut self.elems, alloc, c, bytes),
-            SectionId::Code => {
-                fill(&mut self.codes, alloc, c, bytes)?;
-                if self.codes.len() == self.type_indices.len() {
-                    Ok(())
-                } else {
-                    Err(c.malformed())
-                }
-            }
+            SectionId::Code => self.take_codes(alloc, c, bytes),
             SectionId::Data => fill(&mut self.data, alloc, c, bytes),
         }
     }

@@ -5,18 +5,8 @@ use Rattle.wasm_types.specs.View.{view, views}
 use Rattle.wasm_types.proofs.Views.{followed_by, views_push}
 use Rattle.module_decoder.specs.declared.body.Step.TheVariants.{Ends, Opens}
 use Rattle.module_decoder.specs.Reading.{body_at, body_by, step_at}
-use Rattle.module_decoder.proofs.Loops.{block_ok, loop_ok, body_zero, body_some, body_none, body_end, body_next, body_fails, front_nil}
+use Rattle.module_decoder.proofs.Loops.{body_zero, body_some, body_none, body_end, body_next, body_fails, front_nil}
 use Rattle.module_decoder.proofs.body.+body.Goals as goal
-
-pub block-returns-in-End : goal.block-returns-in-End
-block-returns-in-End t c =
-    block_ok c.args.c (body_at c.args.c c.args.limit) c.args.bytes.now c.in_ok-kind.rest.now c.in_ok-inner.inner.rest.now c.in_ok-kind.kind c.in_ok-inner.inner.ending c.in_ok-inner.inner.instrs.items c.in_ok-new-in-End.field-0
-    c.in_ok-kind.ensures c.in_ok-inner.ensures c.in-End.is (ap (λ v. v.items) c.in_ok-new-in-End.ensures.ok)
-
-pub looped-returns-in-End : goal.looped-returns-in-End
-looped-returns-in-End t c =
-    loop_ok c.args.c (body_at c.args.c c.args.limit) c.args.bytes.now c.in_ok-kind.rest.now c.in_ok-inner.inner.rest.now c.in_ok-kind.kind c.in_ok-inner.inner.ending c.in_ok-inner.inner.instrs.items c.in_ok-new-in-End.field-0
-    c.in_ok-kind.ensures c.in_ok-inner.ensures c.in-End.is (ap (λ v. v.items) c.in_ok-new-in-End.ensures.ok)
 
 pub body_of-returns-then-limit-eq0 : goal.body_of-returns-then-limit-eq0
 body_of-returns-then-limit-eq0 t c = body_zero c.args.c c.args.limit c.args.bytes.now c.if-limit-eq0.true

@@ -4,14 +4,8 @@ use Rattle.module_decoder.specs.Reading.{body_at, body_by}
 use Rattle.module_decoder.proofs.Loops.{with_front}
 use Rattle.module_decoder.proofs.body.+body.Given as goal
 
-abbrev pub decreases-block : goal.decreases-block
-decreases-block l = 3 * l.limit + 1
-
-abbrev pub decreases-looped : goal.decreases-looped
-decreases-looped l = 3 * l.limit + 1
-
-abbrev pub decreases-choice : goal.decreases-choice
-decreases-choice l = 3 * l.limit + 1
+abbrev pub decreases-nested : goal.decreases-nested
+decreases-nested l = 3 * l.limit + 1
 
 abbrev pub decreases-instr : goal.decreases-instr
 decreases-instr l = 3 * l.limit + 2
