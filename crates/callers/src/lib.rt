@@ -3,4 +3,3 @@
 
 pub mod matching;
 pub mod modules;
-pub mod scripts;
