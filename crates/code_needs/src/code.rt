@@ -1,11 +1,12 @@
 //! What the code of an expression needs.
-ghost use Rattle.std.specs.Prelude.{◌≡◌, max};
+ghost use Rattle.std.specs.Prelude.{◌≡◌, ◌+◌, max};
 ghost use Rattle.code_needs.specs.Counted.{counted};
+ghost use Rattle.code_needs.specs.Labels.{labels_among, labels_in};
 ghost use Rattle.mid_program.specs.Mid.{Codes, Do};
 ghost use Rattle.mid_program.specs.ViewCode.{before, view, views};
 ghost use Rattle.value_machine.specs.Places.{arrays_among, arrays_in, room, rooms};
 
-use crate::counts::{larger, next};
+use crate::counts::{Counts, at_least, both, inside, later, made, only};
 use mid_program::{Code, Operand, Operation};
 
 /// How many temporaries an operation needs at least.
@@ -18,113 +19,83 @@ fn least_room(operation: Operation) -> u32
     }
 }
 
-/// How many temporaries code needs whose value goes into the first of them.
-#[cycle(room)]
-pub(crate) fn room(code: &Code) -> u32
-    ensures { result ≡ counted (room (view code.now)) }
+/// What code needs that stores a text, which is kept, within a label.
+fn stored(counts: Counts) -> Counts
+    ensures temporaries { result.temporaries ≡ counted (counts.temporaries + 2) }
+    ensures arrays { result.arrays ≡ counts.arrays }
+    ensures iterators { result.iterators ≡ counts.iterators }
+    ensures labels { result.labels ≡ counted (counts.labels + 1) }
+{
+    inside(later(later(counts)), 1)
+}
+
+/// What code needs whose value goes into the first temporary.
+#[cycle(counts)]
+pub(crate) fn counts_in(code: &Code) -> Counts
+    ensures temporaries { result.temporaries ≡ counted (room (view code.now)) }
+    ensures arrays { result.arrays ≡ counted (arrays_in (view code.now)) }
+    ensures iterators { result.iterators ≡ 0 }
+    ensures labels { result.labels ≡ counted (labels_in (view code.now)) }
 {
     match code {
-        Code::Do(operation, operands) => larger(least_room(*operation), rooms(operands)),
-        Code::Over(_, operands) => larger(1, rooms(operands)),
-        Code::Call(_, operands) => larger(1, rooms(operands)),
-        Code::Compare(_, a, b) => larger(room(a), next(room(b))),
-        Code::Let(a, b) => larger(room(a), next(room(b))),
-        Code::AskLine(store) => next(next(room(store))),
-        Code::FileLine(name, store) => larger(room(name), next(next(room(store)))),
-        Code::Replace(_, operands, store) => {
-            larger(larger(3, rooms(operands)), next(next(room(store))))
+        Code::Do(operation, operands) => at_least(least_room(*operation), counts_among(operands)),
+        Code::Over(_, operands) => at_least(1, counts_among(operands)),
+        Code::Call(_, operands) => at_least(1, counts_among(operands)),
+        Code::Compare(_, a, b) => both(counts_in(a), later(counts_in(b))),
+        Code::Let(a, b) => both(counts_in(a), later(counts_in(b))),
+        Code::Seq(a, b) => both(counts_in(a), counts_in(b)),
+        Code::AskLine(store) => stored(counts_in(store)),
+        Code::FileLine(name, store) => both(counts_in(name), stored(counts_in(store))),
+        Code::Replace(_, operands, store) => both(
+            at_least(3, counts_among(operands)),
+            stored(counts_in(store)),
+        ),
+        Code::Set(_, value) => counts_in(value),
+        Code::Choose(_, test, a, b) => {
+            both(counts_in(test), inside(both(counts_in(a), counts_in(b)), 1))
         }
-        Code::Set(_, value) => room(value),
-        Code::Choose(_, test, a, b) => larger(room(test), larger(room(a), room(b))),
-        Code::Seq(a, b) => larger(room(a), room(b)),
-        Code::Ask => 2,
+        Code::Ask => only(2),
         Code::Number(_)
         | Code::Text(_)
         | Code::Unset
         | Code::Get(_)
         | Code::Array(_)
         | Code::IsOpen(_)
-        | Code::Bound(_, _) => 1,
+        | Code::Bound(_, _) => only(1),
     }
 }
 
-/// How many temporaries an operand and those after it need.
-#[cycle(room)]
-fn operand_room(operand: &Operand, after: u32) -> u32
-    ensures { (rest : Codes) → after ≡ counted (rooms rest) → result ≡ counted (rooms (before operand.now rest)) }
+/// What an operand and those after it need.
+#[cycle(counts)]
+fn operand_counts(operand: &Operand, after: Counts) -> Counts
+    ensures temporaries { (rest : Codes) → after.temporaries ≡ counted (rooms rest)
+        → result.temporaries ≡ counted (rooms (before operand.now rest)) }
+    ensures arrays { (rest : Codes) → after.arrays ≡ counted (arrays_among rest)
+        → result.arrays ≡ counted (arrays_among (before operand.now rest)) }
+    ensures iterators { result.iterators ≡ after.iterators }
+    ensures labels { (rest : Codes) → after.labels ≡ counted (labels_among rest)
+        → result.labels ≡ counted (labels_among (before operand.now rest)) }
 {
     match operand {
-        Operand::Code(code) => larger(room(code), next(after)),
-        Operand::Constant(_) | Operand::Fresh => after,
-    }
-}
-
-/// How many temporaries operands need, one after the other.
-#[cycle(room)]
-fn rooms(operands: &[Operand]) -> u32
-    ensures { result ≡ counted (rooms (views operands.now)) }
-{
-    let mut needed = 0;
-    let mut i = operands.len();
-    while i > 0 {
-        i -= 1;
-        needed = operand_room(&operands[i], needed);
-    }
-    needed
-}
-
-/// How many arrays code makes for calls that are not done yet.
-#[cycle(arrays)]
-pub(crate) fn arrays_in(code: &Code) -> u32
-    ensures { result ≡ counted (arrays_in (view code.now)) }
-{
-    match code {
-        Code::Do(_, operands) => arrays_among(operands),
-        Code::Over(_, operands) => arrays_among(operands),
-        Code::Call(_, operands) => arrays_among(operands),
-        Code::Compare(_, a, b) => larger(arrays_in(a), arrays_in(b)),
-        Code::Let(a, b) => larger(arrays_in(a), arrays_in(b)),
-        Code::Seq(a, b) => larger(arrays_in(a), arrays_in(b)),
-        Code::FileLine(a, b) => larger(arrays_in(a), arrays_in(b)),
-        Code::AskLine(store) => arrays_in(store),
-        Code::Replace(_, operands, store) => larger(arrays_among(operands), arrays_in(store)),
-        Code::Set(_, value) => arrays_in(value),
-        Code::Choose(_, test, a, b) => {
-            larger(arrays_in(test), larger(arrays_in(a), arrays_in(b)))
-        }
-        Code::Ask
-        | Code::Number(_)
-        | Code::Text(_)
-        | Code::Unset
-        | Code::Get(_)
-        | Code::Array(_)
-        | Code::IsOpen(_)
-        | Code::Bound(_, _) => 0,
-    }
-}
-
-/// How many arrays an operand and those after it make.
-#[cycle(arrays)]
-fn operand_arrays(operand: &Operand, after: u32) -> u32
-    ensures { (rest : Codes) → after ≡ counted (arrays_among rest) → result ≡ counted (arrays_among (before operand.now rest)) }
-{
-    match operand {
-        Operand::Code(code) => larger(arrays_in(code), after),
+        Operand::Code(code) => both(counts_in(code), later(after)),
         Operand::Constant(_) => after,
-        Operand::Fresh => next(after),
+        Operand::Fresh => made(after),
     }
 }
 
-/// How many arrays operands make.
-#[cycle(arrays)]
-fn arrays_among(operands: &[Operand]) -> u32
-    ensures { result ≡ counted (arrays_among (views operands.now)) }
+/// What operands need, one after the other.
+#[cycle(counts)]
+fn counts_among(operands: &[Operand]) -> Counts
+    ensures temporaries { result.temporaries ≡ counted (rooms (views operands.now)) }
+    ensures arrays { result.arrays ≡ counted (arrays_among (views operands.now)) }
+    ensures iterators { result.iterators ≡ 0 }
+    ensures labels { result.labels ≡ counted (labels_among (views operands.now)) }
 {
-    let mut needed = 0;
+    let mut needed = only(0);
     let mut i = operands.len();
     while i > 0 {
         i -= 1;
-        needed = operand_arrays(&operands[i], needed);
+        needed = operand_counts(&operands[i], needed);
     }
     needed
 }

@@ -7,8 +7,8 @@ ghost use Rattle.mid_program.specs.ViewCode.{view_steps};
 ghost use Rattle.value_machine.specs.Functions.{main_bases};
 ghost use Rattle.value_machine.specs.Places.{bases_for, handle_types, local_types, steps_arrays, steps_iterators, steps_room, temporary_types};
 
-use crate::counts::larger;
-use crate::steps::{steps_arrays, steps_iterators, steps_room};
+use crate::counts::{both, larger};
+use crate::steps::steps_counts;
 use mid_program::{Kind, Mid, Step};
 use std::alloc::{AllocError, Global};
 use wasm_types::ValType;
@@ -47,11 +47,12 @@ pub fn routine_needs(kinds: &[Kind], body: &[Step]) -> Option<Needs>
     if count > MOST_PARAMETERS {
         return None;
     }
+    let counts = steps_counts(body);
     few(Needs {
         parameters: count as u32,
-        temporaries: steps_room(body),
-        iterators: steps_iterators(body),
-        arrays: steps_arrays(body),
+        temporaries: counts.temporaries,
+        iterators: counts.iterators,
+        arrays: counts.arrays,
     })
 }
 
@@ -68,14 +69,13 @@ fn parts_needs(begin: &[Step], items: &[Step], end: &[Step]) -> Needs
         (max (steps_arrays (view_steps begin.now))
         (max (steps_arrays (view_steps items.now)) (steps_arrays (view_steps end.now)))) }
 {
-    let room = larger(steps_room(items), steps_room(end));
-    let iterators = larger(steps_iterators(items), steps_iterators(end));
-    let arrays = larger(steps_arrays(items), steps_arrays(end));
+    let after = both(steps_counts(items), steps_counts(end));
+    let counts = both(steps_counts(begin), after);
     Needs {
         parameters: 0,
-        temporaries: larger(2, larger(steps_room(begin), room)),
-        iterators: larger(steps_iterators(begin), iterators),
-        arrays: larger(steps_arrays(begin), arrays),
+        temporaries: larger(2, counts.temporaries),
+        iterators: counts.iterators,
+        arrays: counts.arrays,
     }
 }
 

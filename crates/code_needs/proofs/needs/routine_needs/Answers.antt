@@ -9,6 +9,6 @@ use Rattle.code_needs.proofs.needs.routine_needs.Goals as goal
 pub returns : goal.returns
 returns c =
     let kinds = c.args.kinds.now in
-    needs_are c.few.result (record { parameters = length kinds; temporaries = c.steps_room.result; iterators = c.steps_iterators.result; arrays = c.steps_arrays.result })
+    needs_are c.few.result (record { parameters = length kinds; temporaries = c.steps_counts-counts.result.temporaries; iterators = c.steps_counts-counts.result.iterators; arrays = c.steps_counts-counts.result.arrays })
     (bases_for (map view_kind kinds) (view_steps c.args.body.now)) (sym (length-map kinds view_kind)) c.if-count-gt-MOST_PARAMETERS.false
-    c.steps_room.ensures c.steps_iterators.ensures c.steps_arrays.ensures c.few.ensures
+    c.steps_counts-counts.ensures.temporaries c.steps_counts-counts.ensures.iterators c.steps_counts-counts.ensures.arrays c.few.ensures

@@ -1,0 +1,93 @@
+use Rattle.std.proofs.Common.{List, ap, sym, ◌∙◌, arith}
+use Rattle.mid_program.specs.Mid as plain
+use Rattle.mid_program.specs.ViewCode.{view, views}
+use Rattle.mid_program.specs.declared.code.Code.{Code}
+use Rattle.mid_program.specs.declared.code.Operand.{Operand}
+use Rattle.value_machine.specs.Places.{arrays_among, arrays_in, room, rooms}
+use Rattle.code_needs.specs.Counted.{counted}
+use Rattle.code_needs.specs.Labels.{labels_among, labels_in}
+use Rattle.code_needs.proofs.Views.{view_call, view_do, view_over, view_replace}
+use Rattle.code_needs.proofs.code.+counts.Goals as goal
+
+pub counts_in-returns-in-Do-clause-temporaries : goal.counts_in-returns-in-Do-clause-temporaries
+counts_in-returns-in-Do-clause-temporaries t c =
+    let r = c.counts_among.ensures.temporaries ∙ ap (λ (es : List Operand). counted (rooms (views es))) c.deref.ensures.value in
+    let k = c.least_room.ensures (views c.in-Do.operands.items) in
+    let few = c.least_room.type_inv in
+    let whole = ap room (ap view c.in-Do.is ∙ view_do c.in-Do.operation c.in-Do.operands) in
+    let l = c.at_least.ensures.temporaries in
+    omega (arith, r, k, few, whole, l)
+
+pub counts_in-returns-in-Do-clause-arrays : goal.counts_in-returns-in-Do-clause-arrays
+counts_in-returns-in-Do-clause-arrays t c =
+    c.at_least.ensures.arrays ∙ c.counts_among.ensures.arrays ∙ ap (λ (es : List Operand). counted (arrays_among (views es))) c.deref.ensures.value
+    ∙ sym (ap (λ (e : plain.Code). counted (arrays_in e)) (ap view c.in-Do.is ∙ view_do c.in-Do.operation c.in-Do.operands))
+
+pub counts_in-returns-in-Do-clause-labels : goal.counts_in-returns-in-Do-clause-labels
+counts_in-returns-in-Do-clause-labels t c =
+    c.at_least.ensures.labels ∙ c.counts_among.ensures.labels ∙ ap (λ (es : List Operand). counted (labels_among (views es))) c.deref.ensures.value
+    ∙ sym (ap (λ (e : plain.Code). counted (labels_in e)) (ap view c.in-Do.is ∙ view_do c.in-Do.operation c.in-Do.operands))
+
+pub counts_in-returns-in-Over-clause-temporaries : goal.counts_in-returns-in-Over-clause-temporaries
+counts_in-returns-in-Over-clause-temporaries t c =
+    let r = c.counts_among-in-Over.ensures.temporaries ∙ ap (λ (es : List Operand). counted (rooms (views es))) c.deref-in-Over.ensures.value in
+    let whole = ap room (ap view c.in-Over.is ∙ view_over c.in-Over.field-0 c.in-Over.operands) in
+    let l = c.at_least-in-Over.ensures.temporaries in
+    omega (arith, r, whole, l)
+
+pub counts_in-returns-in-Over-clause-arrays : goal.counts_in-returns-in-Over-clause-arrays
+counts_in-returns-in-Over-clause-arrays t c =
+    c.at_least-in-Over.ensures.arrays ∙ c.counts_among-in-Over.ensures.arrays ∙ ap (λ (es : List Operand). counted (arrays_among (views es))) c.deref-in-Over.ensures.value
+    ∙ sym (ap (λ (e : plain.Code). counted (arrays_in e)) (ap view c.in-Over.is ∙ view_over c.in-Over.field-0 c.in-Over.operands))
+
+pub counts_in-returns-in-Over-clause-labels : goal.counts_in-returns-in-Over-clause-labels
+counts_in-returns-in-Over-clause-labels t c =
+    c.at_least-in-Over.ensures.labels ∙ c.counts_among-in-Over.ensures.labels ∙ ap (λ (es : List Operand). counted (labels_among (views es))) c.deref-in-Over.ensures.value
+    ∙ sym (ap (λ (e : plain.Code). counted (labels_in e)) (ap view c.in-Over.is ∙ view_over c.in-Over.field-0 c.in-Over.operands))
+
+pub counts_in-returns-in-Call-clause-temporaries : goal.counts_in-returns-in-Call-clause-temporaries
+counts_in-returns-in-Call-clause-temporaries t c =
+    let r = c.counts_among-in-Call.ensures.temporaries ∙ ap (λ (es : List Operand). counted (rooms (views es))) c.deref-in-Call.ensures.value in
+    let whole = ap room (ap view c.in-Call.is ∙ view_call c.in-Call.field-0 c.in-Call.operands) in
+    let l = c.at_least-in-Call.ensures.temporaries in
+    omega (arith, r, whole, l)
+
+pub counts_in-returns-in-Call-clause-arrays : goal.counts_in-returns-in-Call-clause-arrays
+counts_in-returns-in-Call-clause-arrays t c =
+    c.at_least-in-Call.ensures.arrays ∙ c.counts_among-in-Call.ensures.arrays ∙ ap (λ (es : List Operand). counted (arrays_among (views es))) c.deref-in-Call.ensures.value
+    ∙ sym (ap (λ (e : plain.Code). counted (arrays_in e)) (ap view c.in-Call.is ∙ view_call c.in-Call.field-0 c.in-Call.operands))
+
+pub counts_in-returns-in-Call-clause-labels : goal.counts_in-returns-in-Call-clause-labels
+counts_in-returns-in-Call-clause-labels t c =
+    c.at_least-in-Call.ensures.labels ∙ c.counts_among-in-Call.ensures.labels ∙ ap (λ (es : List Operand). counted (labels_among (views es))) c.deref-in-Call.ensures.value
+    ∙ sym (ap (λ (e : plain.Code). counted (labels_in e)) (ap view c.in-Call.is ∙ view_call c.in-Call.field-0 c.in-Call.operands))
+
+pub counts_in-returns-in-Replace-clause-temporaries : goal.counts_in-returns-in-Replace-clause-temporaries
+counts_in-returns-in-Replace-clause-temporaries t c =
+    let a = c.counts_among-in-Replace.ensures.temporaries ∙ ap (λ (es : List Operand). counted (rooms (views es))) c.deref-in-Replace.ensures.value in
+    let b = c.counts_in-in-Replace.ensures.temporaries ∙ ap (λ (e : Code). counted (room (view e))) c.deref-in-Replace-2.ensures in
+    let whole = ap room (ap view c.in-Replace.is ∙ view_replace c.in-Replace.field-0 c.in-Replace.operands c.in-Replace.store) in
+    let l = c.at_least-in-Replace.ensures.temporaries in
+    let s = c.stored-in-Replace.ensures.temporaries in
+    let m = c.both-in-Replace.ensures.temporaries in
+    omega (arith, a, b, whole, l, s, m)
+
+pub counts_in-returns-in-Replace-clause-arrays : goal.counts_in-returns-in-Replace-clause-arrays
+counts_in-returns-in-Replace-clause-arrays t c =
+    let a = c.counts_among-in-Replace.ensures.arrays ∙ ap (λ (es : List Operand). counted (arrays_among (views es))) c.deref-in-Replace.ensures.value in
+    let b = c.counts_in-in-Replace.ensures.arrays ∙ ap (λ (e : Code). counted (arrays_in (view e))) c.deref-in-Replace-2.ensures in
+    let whole = ap arrays_in (ap view c.in-Replace.is ∙ view_replace c.in-Replace.field-0 c.in-Replace.operands c.in-Replace.store) in
+    let l = c.at_least-in-Replace.ensures.arrays in
+    let s = c.stored-in-Replace.ensures.arrays in
+    let m = c.both-in-Replace.ensures.arrays in
+    omega (arith, a, b, whole, l, s, m)
+
+pub counts_in-returns-in-Replace-clause-labels : goal.counts_in-returns-in-Replace-clause-labels
+counts_in-returns-in-Replace-clause-labels t c =
+    let a = c.counts_among-in-Replace.ensures.labels ∙ ap (λ (es : List Operand). counted (labels_among (views es))) c.deref-in-Replace.ensures.value in
+    let b = c.counts_in-in-Replace.ensures.labels ∙ ap (λ (e : Code). counted (labels_in (view e))) c.deref-in-Replace-2.ensures in
+    let whole = ap labels_in (ap view c.in-Replace.is ∙ view_replace c.in-Replace.field-0 c.in-Replace.operands c.in-Replace.store) in
+    let l = c.at_least-in-Replace.ensures.labels in
+    let s = c.stored-in-Replace.ensures.labels in
+    let m = c.both-in-Replace.ensures.labels in
+    omega (arith, a, b, whole, l, s, m)
