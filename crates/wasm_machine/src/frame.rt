@@ -1,6 +1,6 @@
 //! A frame and its steps.
 ghost use Rattle.std.specs.Prelude.{◌≡◌, IfOk, OnOk, if◌then◌else◌, nat_eq, Some, None, slice_get, get_or};
-ghost use Rattle.wasm_machine.specs.Frames.{Goes, frame_of, seen, local_step, settled, code_at, body_now, IsConstantAt, pushed, pushed_or, of_one, of_two, of_two_or, local_set, local_tee, dropped, selected, branch, jump, branch_if, entered, called_through, simple, at_end};
+ghost use Rattle.wasm_machine.specs.Frames.{frame_of, begun, seen, event_of, local_step, settled, code_at, body_now, IsConstantAt, pushed, pushed_or, of_one, of_two, of_two_or, local_set, local_tee, dropped, selected, branch, jump, branch_if, entered, called_through, simple, at_end};
 ghost use Rattle.wasm_store.specs.Words.{binary_of, compare_of, converted, test_of, unary_of};
 
 use crate::access::Access;
@@ -32,6 +32,26 @@ pub(crate) enum Event {
     Leaves,
     Trapped(TrapKind),
     Stuck,
+}
+
+/// Where a branch or the end of a block leads: on in the frame, out of the function, or nowhere.
+#[derive(Clone, Copy)]
+pub(crate) enum Way {
+    On,
+    Out,
+    Nowhere,
+}
+
+impl Way {
+    fn event(self) -> Event
+        ensures { result ≡ event_of self }
+    {
+        match self {
+            Way::On => Event::Went,
+            Way::Out => Event::Leaves,
+            Way::Nowhere => Event::Stuck,
+        }
+    }
 }
 
 /// What a call works on.
@@ -83,6 +103,17 @@ pub(crate) fn constant(code: &[Instr], at: usize) -> Option<Word>
 }
 
 impl Frame {
+    /// At the beginning of some code, with nothing else. The room that it had stays.
+    pub(crate) fn begin(&mut self, code: Rc<Vec<Instr>>)
+        ensures { frame_of self.new ≡ begun (code_at code 0) }
+    {
+        self.values.clear();
+        self.labels.clear();
+        self.locals.clear();
+        self.code = code;
+        self.at = 0;
+    }
+
     /// Constants are values already.
     #[tactic(auto, using(crate::proofs::Settling::settle_on, crate::proofs::Settling::in_code, crate::proofs::Settling::no_more))]
     fn settle(&mut self) -> Result<(), AllocError>
@@ -266,10 +297,9 @@ impl Frame {
         again: bool,
         gives: BlockType,
         body: Rc<Vec<Instr>>,
-    ) -> Result<Event, AllocError>
-        ensures { IfOk result
-            (λ e. Goes (entered (frame_of self.old) (body_now again body) gives (code_at body 0))
-            ≡ seen e (frame_of self.new)) }
+    ) -> Result<(), AllocError>
+        ensures { OnOk result (frame_of self.new
+            ≡ entered (frame_of self.old) (body_now again body) gives (code_at body 0)) }
     {
         let label = Label {
             under: self.values.lay_down(alloc),
@@ -280,70 +310,69 @@ impl Frame {
         };
         self.labels.push(label)?;
         self.at = 0;
-        Ok(Event::Went)
+        Ok(())
     }
 
     /// Past the innermost label, or out of the function.
-    fn leave(&mut self) -> Result<Event, AllocError>
+    fn leave(&mut self) -> Result<Way, AllocError>
         ensures { IfOk result
-            (λ e. at_end (frame_of self.old) (frame_of self.old).labels
-            ≡ seen e (frame_of self.new)) }
+            (λ w. at_end (frame_of self.old) (frame_of self.old).labels
+            ≡ seen (event_of w) (frame_of self.new)) }
     {
         let Some(label) = self.labels.pop() else {
-            return Ok(Event::Leaves);
+            return Ok(Way::Out);
         };
         self.values.lay_under(label.under)?;
         self.code = label.rest;
         self.at = label.at;
-        Ok(Event::Went)
+        Ok(Way::On)
     }
 
     /// To a label inside the function.
-    fn branch(&mut self, n: u32) -> Result<Event, AllocError>
-        ensures { IfOk result (λ e. branch (frame_of self.old) n ≡ seen e (frame_of self.new)) }
+    fn branch(&mut self, n: u32) -> Result<Way, AllocError>
+        ensures { IfOk result
+            (λ w. branch (frame_of self.old) n ≡ seen (event_of w) (frame_of self.new)) }
     {
         let n = n as usize;
         if n >= self.labels.len() {
-            return Ok(Event::Stuck);
+            return Ok(Way::Nowhere);
         }
         let at = self.labels.len() - 1 - n;
         self.labels.truncate(at + 1);
         let label = &self.labels[at];
         if !self.values.keep(label.gives)? {
-            return Ok(Event::Stuck);
+            return Ok(Way::Nowhere);
         }
         match &label.again {
             Some(body) => {
                 self.code = body.clone()?;
                 self.at = 0;
-                Ok(Event::Went)
+                Ok(Way::On)
             }
             None => self.leave(),
         }
     }
 
     /// To any label. The function's own is a return.
-    fn jump(&mut self, n: u32) -> Result<Event, AllocError>
-        ensures { IfOk result (λ e. jump (frame_of self.old) n ≡ seen e (frame_of self.new)) }
+    fn jump(&mut self, n: u32) -> Result<Way, AllocError>
+        ensures { IfOk result
+            (λ w. jump (frame_of self.old) n ≡ seen (event_of w) (frame_of self.new)) }
     {
         if n as usize == self.labels.len() {
-            return Ok(Event::Leaves);
+            return Ok(Way::Out);
         }
         self.branch(n)
     }
 
-    fn branch_if(&mut self, n: u32) -> Result<Event, AllocError>
+    fn branch_if(&mut self, n: u32) -> Result<Way, AllocError>
         ensures { IfOk result
-            (λ e. branch_if (frame_of self.old) n self.old.values ≡ seen e (frame_of self.new)) }
+            (λ w. branch_if (frame_of self.old) n self.old.values
+            ≡ seen (event_of w) (frame_of self.new)) }
     {
         let Some(Word::I32(c)) = self.values.pop() else {
-            return Ok(Event::Stuck);
+            return Ok(Way::Nowhere);
         };
-        if c == 0 {
-            Ok(Event::Went)
-        } else {
-            self.jump(n)
-        }
+        if c == 0 { Ok(Way::On) } else { self.jump(n) }
     }
 
     fn simple(&mut self, p: Simple) -> Result<Event, AllocError>
@@ -352,8 +381,8 @@ impl Frame {
         match p {
             Simple::Unreachable => Ok(Event::Trapped(TrapKind::Unreachable)),
             Simple::Nop => Ok(Event::Went),
-            Simple::Br(n) => self.jump(n),
-            Simple::BrIf(n) => self.branch_if(n),
+            Simple::Br(n) => Ok(self.jump(n)?.event()),
+            Simple::BrIf(n) => Ok(self.branch_if(n)?.event()),
             Simple::Return => Ok(Event::Leaves),
             Simple::Call(n) => Ok(Event::Calls(n)),
             Simple::CallIndirect(n) => Ok(self.call_through(n)),
@@ -385,7 +414,7 @@ impl Frame {
     {
         self.settle()?;
         let Some(i) = self.code.get(self.at) else {
-            return self.leave();
+            return Ok(self.leave()?.event());
         };
         self.at += 1;
         match i {
@@ -398,16 +427,18 @@ impl Frame {
                     return Ok(Event::Stuck);
                 };
                 let n = target(table.as_slice(), *other, c);
-                self.jump(n)
+                Ok(self.jump(n)?.event())
             }
             Instr::Block(gives, body) => {
                 let gives = *gives;
                 let body = body.clone()?;
-                self.enter(alloc, false, gives, body)
+                self.enter(alloc, false, gives, body)?;
+                Ok(Event::Went)
             }
             Instr::Loop(_, body) => {
                 let body = body.clone()?;
-                self.enter(alloc, true, None, body)
+                self.enter(alloc, true, None, body)?;
+                Ok(Event::Went)
             }
             Instr::If(gives, yes, no) => {
                 let Some(Word::I32(c)) = self.values.pop() else {
@@ -415,7 +446,8 @@ impl Frame {
                 };
                 let gives = *gives;
                 let body = chosen(c, yes, no)?;
-                self.enter(alloc, false, gives, body)
+                self.enter(alloc, false, gives, body)?;
+                Ok(Event::Went)
             }
         }
     }

@@ -34,7 +34,8 @@ pub trait HostCalls {
 
     /// From this state, this import with these arguments over this memory may answer so, and leave this state, this memory and this
     /// further output.
-    ghost meaning: { State → ℕ → List AnyWord → MemoryForm → HostAnswer → State → MemoryForm → List Output → Type 0 };
+    ghost meaning: { State → ℕ → List AnyWord → MemoryForm → HostAnswer → State → MemoryForm
+        → List Output → Type 0 };
 
     /// The types of its imports, by number.
     ghost types: { ℕ → Option Signature };
@@ -52,11 +53,16 @@ pub trait HostCalls {
             (state self.new) memory.new };
 
     /// An import that is found has this type.
-    ghost found: { (from name : List ℕ) (r : ℕ × Signature) → finds from name ≡ Some r → types r.0 ≡ Some r.1 };
+    ghost found: { (from name : List ℕ) (r : ℕ × Signature) → finds from name ≡ Some r
+        → types r.0 ≡ Some r.1 };
 
     /// An answer is of its import's type.
-    ghost typed: { (h : State) (i : ℕ) (args : List AnyWord) (mem : MemoryForm) (a : HostAnswer) (h' : State) (mem' : MemoryForm) (out : List Output) → meaning h i args mem a h' mem' out → Typed (types i) a };
+    ghost typed: { (h : State) (i : ℕ) (args : List AnyWord) (mem : MemoryForm) (a : HostAnswer)
+        (h' : State) (mem' : MemoryForm) (out : List Output)
+        → meaning h i args mem a h' mem' out → Typed (types i) a };
 
     /// Where it wants memory, what it has written by then is how another answer's output begins.
-    ghost refused: { (h : State) (i : ℕ) (args : List AnyWord) (mem : MemoryForm) (h' : State) (mem' : MemoryForm) (out : List Output) → meaning h i args mem HostAnswer.NoMemory h' mem' out → GoesOn meaning h i args mem out };
+    ghost refused: { (h : State) (i : ℕ) (args : List AnyWord) (mem : MemoryForm) (h' : State)
+        (mem' : MemoryForm) (out : List Output)
+        → meaning h i args mem HostAnswer.NoMemory h' mem' out → GoesOn meaning h i args mem out };
 }

@@ -278,6 +278,7 @@ pub(crate) fn first_state(alloc: Global, whole: &Module, main: u32) -> Result<St
         },
         result: Some(ValType::I32),
         callers: Vec::new(alloc),
+        spare: Vec::new(alloc),
         memory,
         table,
         globals,

@@ -62,7 +62,11 @@ impl Model for Machine {
 
     ghost coded = { Prim.hlevel (codes, instructions_code (Prim.hlevel codes)) };
 
-    ghost view = { λ a. record { program = program_of a.program; conf = conf_of a.state; ended = a.ended } };
+    ghost view = { λ a. record {
+      program = program_of a.program;
+      conf = conf_of a.state;
+      ended = a.ended;
+    } };
 
     ghost invariant = { λ a. MachineOk (program_of a.program) (conf_of a.state) a.ended };
 }
