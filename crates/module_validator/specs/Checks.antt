@@ -16,8 +16,8 @@ context_of s = let m = view_module s.whole.now in record {
   callee = callee_in m;
   typed = typed_in m;
   globals = map (λ g. g.ty) m.globals;
-  memory = is_there m.memory;
-  table = is_there m.table;
+  memory = is_there m.memories;
+  table = is_there m.tables;
 }
 
 -- what the algorithm knows behind an instruction without a body

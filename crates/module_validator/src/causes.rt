@@ -46,14 +46,14 @@ impl<'a> Scope<'a> {
             Simple::Br(n) | Simple::BrIf(n) => labels <= n,
             Simple::Call(n) => callee(self.whole, n).is_none(),
             Simple::CallIndirect(n) => {
-                self.whole.table.is_none() || typed(self.whole, n).is_none()
+                !self.has_table() || typed(self.whole, n).is_none()
             }
             Simple::LocalGet(x) | Simple::LocalSet(x) | Simple::LocalTee(x) => {
                 self.locals.len() <= x as usize
             }
             Simple::GlobalGet(x) | Simple::GlobalSet(x) => self.whole.globals.len() <= x as usize,
             Simple::Load(..) | Simple::Store(..) | Simple::MemorySize | Simple::MemoryGrow => {
-                self.whole.memory.is_none()
+                !self.has_memory()
             }
             _ => false,
         }

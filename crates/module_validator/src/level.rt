@@ -1,5 +1,5 @@
 //! The module level: everything but the bodies of functions.
-ghost use Rattle.std.specs.Prelude.{◌≡◌, ◌↔◌, ◌<◌, ◌+◌, ◌^◌, ℕ, length, map, IsTrue, IfOk, Some, string_bytes};
+ghost use Rattle.std.specs.Prelude.{◌≡◌, ◌↔◌, ◌<◌, ◌≤◌, ◌+◌, ◌^◌, ℕ, length, map, IsTrue, IfOk, Some, string_bytes};
 ghost use Rattle.std.specs.List.{All};
 ghost use Rattle.wasm_types.specs.Typing.{AreDistinct, DataOk, DescOk, ElemOk, ImportOk, IsConstant, IsFunction, IsMemory, IsTable, LevelOk, LimitsOk, StartOk, constant_of, constant_type, function_types};
 ghost use Rattle.wasm_types.specs.View.{view, view_data, view_elem, view_module, views};
@@ -40,18 +40,23 @@ fn is_constant(code: &[Instr], kind: ValType) -> bool
     constant_type(code) == Some(kind)
 }
 
-fn limits_ok(bound: u64, limits: Option<Limits>) -> bool
+fn limits_ok(bound: u64, limits: Limits) -> bool
     ensures { IsTrue result ↔ LimitsOk bound limits }
 {
-    match limits {
-        None => true,
-        Some(Limits { min, max: None }) => u64::from(min) <= bound,
-        Some(
-            Limits {
-                min,
-                max: Some(max),
-            },
-        ) => min <= max && u64::from(max) <= bound,
+    match limits.max {
+        None => u64::from(limits.min) <= bound,
+        Some(max) => limits.min <= max && u64::from(max) <= bound,
+    }
+}
+
+/// Whether there is at most one, within the bound.
+fn one_ok(bound: u64, all: &[Limits]) -> bool
+    ensures { IsTrue result ↔ (All (LimitsOk bound) all.now × (length all.now ≤ 1)) }
+{
+    match all {
+        [] => true,
+        [only] => limits_ok(bound, *only),
+        _ => false,
     }
 }
 
@@ -78,8 +83,8 @@ fn desc_ok(m: &Module, desc: ExportDesc) -> bool
 {
     match desc {
         ExportDesc::Func(n) => (n as usize) < function_count(m),
-        ExportDesc::Table(n) => n == 0 && m.table.is_some(),
-        ExportDesc::Memory(n) => n == 0 && m.memory.is_some(),
+        ExportDesc::Table(n) => (n as usize) < m.tables.len(),
+        ExportDesc::Memory(n) => (n as usize) < m.memories.len(),
         ExportDesc::Global(n) => (n as usize) < m.globals.len(),
     }
 }
@@ -107,8 +112,7 @@ fn elem_ok(m: &Module, elem: &Elem) -> bool
     ensures { IsTrue result ↔ ElemOk (view_module m.now) (view_elem elem.now) }
 {
     let functions = function_count(m);
-    elem.table == 0
-        && m.table.is_some()
+    (elem.table as usize) < m.tables.len()
         && is_constant(&elem.offset, ValType::I32)
         && elem.init.iter().all(|n| (*n as usize) < functions)
 }
@@ -116,7 +120,7 @@ fn elem_ok(m: &Module, elem: &Elem) -> bool
 fn data_ok(m: &Module, segment: &Data) -> bool
     ensures { IsTrue result ↔ DataOk (view_module m.now) (view_data segment.now) }
 {
-    segment.memory == 0 && m.memory.is_some() && is_constant(&segment.offset, ValType::I32)
+    (segment.memory as usize) < m.memories.len() && is_constant(&segment.offset, ValType::I32)
 }
 
 fn elems_ok(m: &Module, elems: &[Elem]) -> bool
@@ -148,13 +152,13 @@ pub(crate) fn level_ok(alloc: alloc::Global, m: &Module) -> Result<bool, AllocEr
     ensures { IfOk result (λ b. IsTrue b ↔ LevelOk (view_module m.now)) }
 {
     let imports = imports_within(&m.imports, &m.types);
-    let table = limits_ok(1 << 32, m.table);
-    let memory = limits_ok(65536, m.memory);
+    let tables = one_ok(1 << 32, &m.tables);
+    let memories = one_ok(65536, &m.memories);
     let globals = globals_ok(&m.globals);
     let exports = exports_ok(m, &m.exports);
     let names = names_differ(alloc, &m.exports)?;
     let start = start_ok(m);
     let elems = elems_ok(m, &m.elems);
     let data = data_all_ok(m, &m.data);
-    Ok(imports & table & memory & globals & exports & names & start & elems & data)
+    Ok(imports & tables & memories & globals & exports & names & start & elems & data)
 }

@@ -1,5 +1,5 @@
 -- The bytes of modules (Core 1.0, section 5.5), within the limits of the profile.
-use Rattle.std.specs.Prelude.{◌≡◌, ℕ, ◌+◌, ◌<◌, ◌≤◌, ◌^◌, List, [], ◌∷◌, ◌++◌, length, replicate, Option, Some, None, option_to_list, Bool, true, false}
+use Rattle.std.specs.Prelude.{◌≡◌, ℕ, ◌<◌, ◌≤◌, ◌^◌, List, [], ◌∷◌, ◌++◌, length, replicate, Option, Some, None, option_to_list, Bool, true, false}
 use Rattle.std.specs.Str.{IsUtf8}
 use Rattle.wasm_types.specs.declared.types.ValType.{ValType}
 use Rattle.wasm_types.specs.declared.types.Limits.{Limits}
@@ -90,8 +90,8 @@ pub record Parts : Type 0 where
   pub types : List Signature
   pub imports : List ImportForm
   pub type_indices : List ℕ
-  pub table : Option Limits
-  pub memory : Option Limits
+  pub tables : List Limits
+  pub memories : List Limits
   pub globals : List GlobalForm
   pub exports : List ExportForm
   pub start : Option ℕ
@@ -100,7 +100,7 @@ pub record Parts : Type 0 where
   pub data_segments : List DataForm
 
 abbrev pub no_parts : Parts
-no_parts = record { types = []; imports = []; type_indices = []; table = None; memory = None; globals = []; exports = []; start = None; elems = []; codes = []; data_segments = [] }
+no_parts = record { types = []; imports = []; type_indices = []; tables = []; memories = []; globals = []; exports = []; start = None; elems = []; codes = []; data_segments = [] }
 
 abbrev pub number : SectionId → ℕ
 number section.Type = 1
@@ -120,8 +120,8 @@ abbrev pub GivesPart : SectionId → List ℕ → Parts → Parts → Type 0
 GivesPart section.Type text p q = (xs : List Signature) × IsVec IsFuncType xs text × (q ≡ record p { types = xs })
 GivesPart section.Import text p q = (xs : List ImportForm) × IsVec IsImport xs text × (q ≡ record p { imports = xs })
 GivesPart section.Function text p q = (xs : List ℕ) × IsVec IsIndex xs text × (q ≡ record p { type_indices = xs })
-GivesPart section.Table text p q = (x : Option Limits) × IsOption IsTable x text × (q ≡ record p { table = x })
-GivesPart section.Memory text p q = (x : Option Limits) × IsOption IsMemory x text × (q ≡ record p { memory = x })
+GivesPart section.Table text p q = (xs : List Limits) × IsVec IsTable xs text × (q ≡ record p { tables = xs })
+GivesPart section.Memory text p q = (xs : List Limits) × IsVec IsMemory xs text × (q ≡ record p { memories = xs })
 GivesPart section.Global text p q = (xs : List GlobalForm) × IsVec IsGlobal xs text × (q ≡ record p { globals = xs })
 GivesPart section.Export text p q = (xs : List ExportForm) × IsVec IsExport xs text × (q ≡ record p { exports = xs })
 GivesPart section.Start text p q = (x : ℕ) × IsIndex x text × (q ≡ record p { start = Some x })
@@ -171,8 +171,8 @@ module_of p = record {
   types = p.types;
   imports = p.imports;
   funcs = joined p.type_indices p.codes;
-  table = p.table;
-  memory = p.memory;
+  tables = p.tables;
+  memories = p.memories;
   globals = p.globals;
   exports = p.exports;
   start = p.start;

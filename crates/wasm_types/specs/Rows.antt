@@ -1,6 +1,6 @@
 -- Worked integers, computed from the definitions.
-use Rattle.std.specs.Prelude.{◌≡◌, ℕ, ◌^◌, List, [], ◌∷◌, Some, None, refl}
-use Rattle.std.specs.Int.{cast_unsigned, w32, w64}
+use Rattle.std.specs.Prelude.{◌≡◌, ◌^◌, [], ◌∷◌, Some, None, refl}
+use Rattle.std.specs.Int.{cast_unsigned, w32}
 use Rattle.std.specs.Prelude.{negsuc}
 use Rattle.wasm_types.specs.Leb128.{unsigned_at, signed_at, unsigned_text, signed_text}
 use Rattle.wasm_types.specs.declared.instr.Simple.TheVariants as simple

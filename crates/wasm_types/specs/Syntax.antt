@@ -56,8 +56,8 @@ pub record ModuleForm : Type 0 where
   pub types : List Signature
   pub imports : List ImportForm
   pub funcs : List FuncForm
-  pub table : Option Limits
-  pub memory : Option Limits
+  pub tables : List Limits
+  pub memories : List Limits
   pub globals : List GlobalForm
   pub exports : List ExportForm
   pub start : Option ℕ

@@ -15,7 +15,7 @@ use Rattle.wasm_types.specs.declared.instr.Simple.{Simple}
 use Rattle.wasm_types.specs.declared.instr.Simple.TheVariants.{Unreachable, Nop, Br, BrIf, Return, Call, CallIndirect, Drop, Select, LocalGet, LocalSet, LocalTee, GlobalGet, GlobalSet, Load, Store, MemorySize, MemoryGrow, I32Const, I64Const, Test, Compare, Unary, Binary, Convert}
 use Rattle.wasm_types.specs.declared.module.ExportDesc.{ExportDesc}
 use Rattle.wasm_types.specs.declared.module.ExportDesc.TheVariants as export
-use Rattle.wasm_types.specs.Syntax.{Instruction, Plain, BrTable, Block, Loop, If, Instructions, Done, Then, Signature, ImportForm, FuncForm, GlobalForm, ExportForm, ElemForm, DataForm, ModuleForm}
+use Rattle.wasm_types.specs.Syntax.{Instruction, Plain, BrTable, Block, Loop, If, Instructions, Done, Then, Signature, ImportForm, FuncForm, ElemForm, DataForm, ModuleForm}
 
 abbrev pub one : Option ValType → List ValType
 one None = []
@@ -136,9 +136,10 @@ mutual
 
 -- The module level.
 
-abbrev pub is_there : {A : Type 0} → Option A → Bool
-is_there None = false
-is_there (Some x) = true
+-- whether there is one
+abbrev pub is_there : {A : Type 0} → List A → Bool
+is_there [] = false
+is_there (x ∷ xs) = true
 
 -- the types of the functions, imported ones first
 abbrev pub function_types : ModuleForm → List ℕ
@@ -157,8 +158,8 @@ context_in m t locals = record {
   callee = callee_in m;
   typed = typed_in m;
   globals = map (λ g. g.ty) m.globals;
-  memory = is_there m.memory;
-  table = is_there m.table;
+  memory = is_there m.memories;
+  table = is_there m.tables;
 }
 
 -- the function's type is there, and its body gives the result
@@ -184,9 +185,8 @@ abbrev pub GrowsTo : ℕ → ℕ → Option ℕ → Type 0
 GrowsTo bound least None = least ≤ bound
 GrowsTo bound least (Some most) = (least ≤ most) × (most ≤ bound)
 
-abbrev pub LimitsOk : ℕ → Option Limits → Type 0
-LimitsOk bound None = Unit {0}
-LimitsOk bound (Some l) = GrowsTo bound l.min l.max
+abbrev pub LimitsOk : ℕ → Limits → Type 0
+LimitsOk bound l = GrowsTo bound l.min l.max
 
 abbrev pub ImportOk : ModuleForm → ImportForm → Type 0
 ImportOk m i = i.ty < length m.types
@@ -194,12 +194,11 @@ ImportOk m i = i.ty < length m.types
 abbrev pub IsFunction : ModuleForm → ℕ → Type 0
 IsFunction m n = n < length (function_types m)
 
--- the one table and the one memory have the number 0
 abbrev pub IsTable : ModuleForm → ℕ → Type 0
-IsTable m n = (n ≡ 0) × (is_there m.table ≡ true)
+IsTable m n = n < length m.tables
 
 abbrev pub IsMemory : ModuleForm → ℕ → Type 0
-IsMemory m n = (n ≡ 0) × (is_there m.memory ≡ true)
+IsMemory m n = n < length m.memories
 
 abbrev pub DescOk : ModuleForm → ExportDesc → Type 0
 DescOk m (export.Func n) = IsFunction m n
@@ -224,11 +223,13 @@ pub record DataOk (m : ModuleForm) (d : DataForm) : Type 0 where
   pub of_memory : IsMemory m d.memory
   pub offset : IsConstant d.offset I32
 
--- Everything but the bodies of functions.
+-- Everything but the bodies of functions. There is at most one table, and at most one memory.
 pub record LevelOk (m : ModuleForm) : Type 0 where
   pub imports_ok : All (ImportOk m) m.imports
-  pub table_ok : LimitsOk (2 ^ 32) m.table
-  pub memory_ok : LimitsOk 65536 m.memory
+  pub tables_ok : All (LimitsOk (2 ^ 32)) m.tables
+  pub one_table : length m.tables ≤ 1
+  pub memories_ok : All (LimitsOk 65536) m.memories
+  pub one_memory : length m.memories ≤ 1
   pub globals_ok : All (λ g. IsConstant g.init g.ty.value) m.globals
   pub exports_ok : All (λ e. DescOk m e.desc) m.exports
   pub names_ok : AreDistinct (map (λ e. e.name) m.exports)

@@ -75,14 +75,14 @@ pub struct Import {
     pub ty: u32,
 }
 
-/// A module. Its imports are functions, and it has at most one table and one memory.
+/// A module. Its imports are functions.
 #[derive(Drop)]
 pub struct Module {
     pub types: Vec<FuncType>,
     pub imports: Vec<Import>,
     pub funcs: Vec<Func>,
-    pub table: Option<Limits>,
-    pub memory: Option<Limits>,
+    pub tables: Vec<Limits>,
+    pub memories: Vec<Limits>,
     pub globals: Vec<Global>,
     pub exports: Vec<Export>,
     pub start: Option<u32>,
