@@ -109,8 +109,8 @@ pub part_again : (c : Span) (k : SectionId) (p : Parts) (bytes : List ℕ) (q : 
 part_again c section.Type p bytes q h = rw (whole_again c (IsVec IsFuncType) (vec_at c (func_type_at c)) (vec_again c IsFuncType (func_type_at c) (func_type_again c)) h.0 bytes h.1, h.2) refl
 part_again c section.Import p bytes q h = rw (whole_again c (IsVec IsImport) (vec_at c (import_at c)) (vec_again c IsImport (import_at c) (import_again c)) h.0 bytes h.1, h.2) refl
 part_again c section.Function p bytes q h = rw (whole_again c (IsVec IsIndex) (vec_at c (index_at c)) (vec_again c IsIndex (index_at c) (index_again c)) h.0 bytes h.1, h.2) refl
-part_again c section.Table p bytes q h = rw (whole_again c (IsOption IsTable) (option_at c (table_type_at c)) (option_again c IsTable (table_type_at c) (table_type_again c)) h.0 bytes h.1, h.2) refl
-part_again c section.Memory p bytes q h = rw (whole_again c (IsOption IsMemory) (option_at c (limits_at c 256)) (option_again c IsMemory (limits_at c 256) (limits_again c 256)) h.0 bytes h.1, h.2) refl
+part_again c section.Table p bytes q h = rw (whole_again c (IsVec IsTable) (vec_at c (table_type_at c)) (vec_again c IsTable (table_type_at c) (table_type_again c)) h.0 bytes h.1, h.2) refl
+part_again c section.Memory p bytes q h = rw (whole_again c (IsVec IsMemory) (vec_at c (limits_at c 256)) (vec_again c IsMemory (limits_at c 256) (limits_again c 256)) h.0 bytes h.1, h.2) refl
 part_again c section.Global p bytes q h = rw (whole_again c (IsVec IsGlobal) (vec_at c (global_at c)) (vec_again c IsGlobal (global_at c) (global_again c)) h.0 bytes h.1, h.2) refl
 part_again c section.Export p bytes q h = rw (whole_again c (IsVec IsExport) (vec_at c (export_at c)) (vec_again c IsExport (export_at c) (export_again c)) h.0 bytes h.1, h.2) refl
 part_again c section.Start p bytes q h = rw (whole_again c IsIndex (index_at c) (index_again c) h.0 bytes h.1, h.2) refl

@@ -1,5 +1,5 @@
 -- Worked modules, computed from the reader.
-use Rattle.std.proofs.Common.{◌≡◌, [], ◌∷◌, ◌++◌, Ok, Err, refl}
+use Rattle.std.proofs.Common.{◌≡◌, [], ◌∷◌, ◌++◌, Some, None, Ok, Err, refl}
 use Rattle.wasm_types.specs.Leb128.{u32_at}
 use Rattle.wasm_types.specs.ModuleGrammar.{no_parts, module_of, header}
 use Rattle.module_decoder.specs.declared.fault.DecodeFault.TheVariants.{BadHeader, Truncated, BadSection, BadInteger}
@@ -20,3 +20,13 @@ unused_bits = refl
 
 unknown_section : module_at (header ++ 0x0c ∷ 0x00 ∷ []) ≡ Err (BadSection 8)
 unknown_section = refl
+
+two_tables : module_at (header ++ 0x04 ∷ 0x08 ∷ 0x02 ∷ 0x70 ∷ 0x00 ∷ 0x00 ∷ 0x70 ∷ 0x01 ∷ 0x01 ∷ 0x02 ∷ [])
+    ≡ Ok (module_of (record no_parts { tables = (record { min = 0; max = None }) ∷ ((record { min = 1; max = Some 2 }) ∷ []) }))
+unfolding u32_at
+two_tables = refl
+
+two_memories : module_at (header ++ 0x05 ∷ 0x05 ∷ 0x02 ∷ 0x00 ∷ 0x00 ∷ 0x00 ∷ 0x01 ∷ [])
+    ≡ Ok (module_of (record no_parts { memories = (record { min = 0; max = None }) ∷ ((record { min = 1; max = None }) ∷ []) }))
+unfolding u32_at
+two_memories = refl

@@ -179,11 +179,11 @@ part_sound c section.Function p bytes q e =
     let a = bind_ok (whole c (vec_at c (index_at c)) bytes) (λ xs. Ok (record p { type_indices = xs })) q e in
     (a.0, whole_sound c _ _ (vec_sound c IsIndex _ (index_sound c)) bytes a.0 a.1, sym (ok_is (record p { type_indices = a.0 }) q a.2))
 part_sound c section.Table p bytes q e =
-    let a = bind_ok (whole c (option_at c (table_type_at c)) bytes) (λ x. Ok (record p { table = x })) q e in
-    (a.0, whole_sound c _ _ (option_sound c IsTable _ (table_type_sound c)) bytes a.0 a.1, sym (ok_is (record p { table = a.0 }) q a.2))
+    let a = bind_ok (whole c (vec_at c (table_type_at c)) bytes) (λ xs. Ok (record p { tables = xs })) q e in
+    (a.0, whole_sound c _ _ (vec_sound c IsTable _ (table_type_sound c)) bytes a.0 a.1, sym (ok_is (record p { tables = a.0 }) q a.2))
 part_sound c section.Memory p bytes q e =
-    let a = bind_ok (whole c (option_at c (limits_at c 256)) bytes) (λ x. Ok (record p { memory = x })) q e in
-    (a.0, whole_sound c _ _ (option_sound c IsMemory _ (limits_sound c 256)) bytes a.0 a.1, sym (ok_is (record p { memory = a.0 }) q a.2))
+    let a = bind_ok (whole c (vec_at c (limits_at c 256)) bytes) (λ xs. Ok (record p { memories = xs })) q e in
+    (a.0, whole_sound c _ _ (vec_sound c IsMemory _ (limits_sound c 256)) bytes a.0 a.1, sym (ok_is (record p { memories = a.0 }) q a.2))
 part_sound c section.Global p bytes q e =
     let a = bind_ok (whole c (vec_at c (global_at c)) bytes) (λ xs. Ok (record p { globals = xs })) q e in
     (a.0, whole_sound c _ _ (vec_sound c IsGlobal _ (global_sound c)) bytes a.0 a.1, sym (ok_is (record p { globals = a.0 }) q a.2))

@@ -26,6 +26,8 @@ use Rattle.module_decoder.specs.declared.body.Opener.{Opener}
 use Rattle.module_decoder.specs.declared.body.Opener.TheVariants as opener
 use Rattle.module_decoder.specs.declared.body.Step.{Step}
 use Rattle.module_decoder.specs.declared.body.Step.TheVariants.{Ends, Opens}
+use Rattle.module_decoder.specs.declared.parts.Limited.{Limited}
+use Rattle.module_decoder.specs.declared.parts.Limited.TheVariants as limited
 use Rattle.module_decoder.specs.Readers.{◌>>=◌, Read, both_at, mapped, malformed, place, unfinished, index_at, bits32_at, bits64_at, vec_at, option_at, tagged_at, whole, bytes_at}
 
 -- ---- types
@@ -177,6 +179,11 @@ limits_at c most (b ∷ bytes) = limits_by c b bytes >>= within most
 abbrev pub table_type_at : Span → List ℕ → Read Limits
 table_type_at c = tagged_at c 0x70 (limits_at c 65536)
 
+-- the type of a table or of a memory
+abbrev pub limited_at : Limited → Span → List ℕ → Read Limits
+limited_at limited.Table c = table_type_at c
+limited_at limited.Memory c = limits_at c 256
+
 abbrev pub mut_at : Span → List ℕ → Read Bool
 mut_at c [] = malformed c
 mut_at c (b ∷ bytes) = if b == 0 then Ok (false, bytes) else if b == 1 then Ok (true, bytes) else malformed c
@@ -252,8 +259,8 @@ abbrev pub part_at : Span → SectionId → Parts → List ℕ → Result Parts 
 part_at c section.Type p bytes = whole c (vec_at c (func_type_at c)) bytes >>= λ xs. Ok (record p { types = xs })
 part_at c section.Import p bytes = whole c (vec_at c (import_at c)) bytes >>= λ xs. Ok (record p { imports = xs })
 part_at c section.Function p bytes = whole c (vec_at c (index_at c)) bytes >>= λ xs. Ok (record p { type_indices = xs })
-part_at c section.Table p bytes = whole c (option_at c (table_type_at c)) bytes >>= λ x. Ok (record p { table = x })
-part_at c section.Memory p bytes = whole c (option_at c (limits_at c 256)) bytes >>= λ x. Ok (record p { memory = x })
+part_at c section.Table p bytes = whole c (vec_at c (table_type_at c)) bytes >>= λ xs. Ok (record p { tables = xs })
+part_at c section.Memory p bytes = whole c (vec_at c (limits_at c 256)) bytes >>= λ xs. Ok (record p { memories = xs })
 part_at c section.Global p bytes = whole c (vec_at c (global_at c)) bytes >>= λ xs. Ok (record p { globals = xs })
 part_at c section.Export p bytes = whole c (vec_at c (export_at c)) bytes >>= λ xs. Ok (record p { exports = xs })
 part_at c section.Start p bytes = whole c (index_at c) bytes >>= λ x. Ok (record p { start = Some x })

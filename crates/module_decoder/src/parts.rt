@@ -1,12 +1,12 @@
 //! The parts of modules.
 
-ghost use Rattle.std.specs.Prelude.{◌≡◌, ◌≤◌, ◌-◌, ◌+◌, map, length, replicate};
+ghost use Rattle.std.specs.Prelude.{◌≡◌, ◌≤◌, ◌-◌, ◌+◌, MatchResult, Ok, map, length, replicate};
 ghost use Rattle.wasm_types.specs.View.{signature_of, view_import, view_global, view_export, view_elem, view_data};
 ghost use Rattle.module_decoder.specs.View.{view_code};
-ghost use Rattle.module_decoder.specs.Readers.{Gives, vec_at, option_at, tagged_at, index_at};
+ghost use Rattle.module_decoder.specs.Readers.{Fails, Gives, vec_at, option_at, tagged_at, index_at, whole};
 ghost use Rattle.std.specs.Prelude.{◌++◌, OnOk, IfErr};
 ghost use Rattle.module_decoder.specs.declared.fault.DecodeFault.TheVariants.{NoMemory};
-ghost use Rattle.module_decoder.specs.Reading.{val_type_at, func_type_at, import_at, limits_at, limits_by, max_at, table_type_at, global_type_at, global_at, export_desc_at, export_at, elem_at, data_at, runs_at, locals_at, code_parts_at, code_at};
+ghost use Rattle.module_decoder.specs.Reading.{val_type_at, func_type_at, import_at, limits_at, limits_by, limited_at, max_at, table_type_at, global_type_at, global_at, export_desc_at, export_at, elem_at, data_at, runs_at, locals_at, code_parts_at, code_at};
 
 use crate::basics::{Span, counted, ended, index, mutability, name, val_type};
 use crate::body::expr;
@@ -19,6 +19,13 @@ use wasm_types::{
 
 /// How many locals a function may have.
 const MAX_LOCALS: u32 = 50000;
+
+/// What has limits.
+#[derive(Clone, Copy)]
+pub enum Limited {
+    Table,
+    Memory,
+}
 
 /// The locals and the body of a function.
 #[derive(Drop)]
@@ -171,34 +178,52 @@ fn table_type(c: Span, bytes: &[u8]) -> Result<(Limits, &[u8]), DecodeFault>
     }
 }
 
-/// The contents of a table section.
-pub(crate) fn table(c: Span, bytes: &[u8]) -> Result<(Option<Limits>, &[u8]), DecodeFault>
-    ensures { Gives (λ x. (x.0, x.1.now)) result (option_at c (table_type_at c) bytes.now) }
+/// The type of a table or of a memory.
+fn one_limited(c: Span, kind: Limited, bytes: &[u8]) -> Result<(Limits, &[u8]), DecodeFault>
+    ensures { Gives (λ x. (x.0, x.1.now)) result (limited_at kind c bytes.now) }
 {
-    let (count, rest) = index(c, bytes)?;
-    match count {
-        0 => Ok((None, rest)),
-        1 => {
-            let (t, rest) = table_type(c, rest)?;
-            Ok((Some(t), rest))
-        }
-        _ => Err(c.malformed()),
+    match kind {
+        Limited::Table => table_type(c, bytes),
+        Limited::Memory => limits(c, 256, bytes),
     }
 }
 
-/// The contents of a memory section.
-pub(crate) fn memory(c: Span, bytes: &[u8]) -> Result<(Option<Limits>, &[u8]), DecodeFault>
-    ensures { Gives (λ x. (x.0, x.1.now)) result (option_at c (limits_at c 256) bytes.now) }
+/// The types of tables or of memories, with their number before them.
+fn all_limited(
+    alloc: Global,
+    c: Span,
+    kind: Limited,
+    bytes: &[u8],
+) -> Result<(Vec<Limits>, &[u8]), DecodeFault>
+    ensures { Gives (λ x. (x.0.items, x.1.now)) result (vec_at c (limited_at kind c) bytes.now) }
 {
-    let (count, rest) = index(c, bytes)?;
-    match count {
-        0 => Ok((None, rest)),
-        1 => {
-            let (t, rest) = limits(c, 256, rest)?;
-            Ok((Some(t), rest))
-        }
-        _ => Err(c.malformed()),
+    let (count, first) = index(c, bytes)?;
+    let mut all = Vec::new(alloc);
+    let mut rest = first;
+    for _ in 0..count {
+        let (one, after) = one_limited(c, kind, rest)?;
+        all.push(one)?;
+        rest = after;
     }
+    Ok((all, rest))
+}
+
+/// Takes the types of tables or of memories that fill a section.
+pub(crate) fn fill_limited(
+    all: &mut Vec<Limits>,
+    alloc: Global,
+    c: Span,
+    kind: Limited,
+    bytes: &[u8],
+) -> Result<(), DecodeFault>
+    ensures { MatchResult result
+        (λ _. whole c (vec_at c (limited_at kind c)) bytes.now ≡ Ok all.new.items)
+        (λ e. Fails e (whole c (vec_at c (limited_at kind c)) bytes.now)) }
+{
+    let (read, rest) = all_limited(alloc, c, kind, bytes)?;
+    ended(c, rest)?;
+    *all = read;
+    Ok(())
 }
 
 fn global_type(c: Span, bytes: &[u8]) -> Result<(GlobalType, &[u8]), DecodeFault>

@@ -14,7 +14,7 @@ ghost use Rattle.module_decoder.specs.Reading.{made_frame, section_by, part_at, 
 use crate::basics::{Span, ended, index, name, unfinished};
 use crate::entries::fill;
 use crate::fault::DecodeFault;
-use crate::parts::{Code, memory, table};
+use crate::parts::{Code, Limited, fill_limited};
 use std::alloc::{AllocError, Global};
 use std::rc::Rc;
 use wasm_types::{Data, Elem, Export, Func, FuncType, Import, Limits, Module, SectionId, take_u32};
@@ -31,8 +31,8 @@ pub struct Parts {
     pub types: Vec<FuncType>,
     pub imports: Vec<Import>,
     pub type_indices: Vec<u32>,
-    pub table: Option<Limits>,
-    pub memory: Option<Limits>,
+    pub tables: Vec<Limits>,
+    pub memories: Vec<Limits>,
     pub globals: Vec<wasm_types::Global>,
     pub exports: Vec<Export>,
     pub start: Option<u32>,
@@ -95,17 +95,6 @@ fn whole<T: Drop>(c: Span, read: Result<(T, &[u8]), DecodeFault>) -> Result<T, D
     Ok(value)
 }
 
-// Puts what was read, if something was.
-fn put(
-    place: &mut Option<Limits>,
-    read: Result<Option<Limits>, DecodeFault>,
-) -> Result<(), DecodeFault>
-    ensures { MatchResult read (λ x. (result ≡ Ok tt) × (place.new ≡ x)) (λ e. result ≡ Err e) }
-{
-    *place = read?;
-    Ok(())
-}
-
 // Puts the index of the function that starts, if it was read.
 fn put_start(place: &mut Option<u32>, read: Result<u32, DecodeFault>) -> Result<(), DecodeFault>
     ensures { MatchResult read (λ n. (result ≡ Ok tt) × (place.new ≡ Some n)) (λ e. result ≡ Err e) }
@@ -122,8 +111,8 @@ impl Parts {
             types: Vec::new(alloc),
             imports: Vec::new(alloc),
             type_indices: Vec::new(alloc),
-            table: None,
-            memory: None,
+            tables: Vec::new(alloc),
+            memories: Vec::new(alloc),
             globals: Vec::new(alloc),
             exports: Vec::new(alloc),
             start: None,
@@ -161,8 +150,10 @@ impl Parts {
             SectionId::Type => fill(&mut self.types, alloc, c, bytes),
             SectionId::Import => fill(&mut self.imports, alloc, c, bytes),
             SectionId::Function => fill(&mut self.type_indices, alloc, c, bytes),
-            SectionId::Table => put(&mut self.table, whole(c, table(c, bytes))),
-            SectionId::Memory => put(&mut self.memory, whole(c, memory(c, bytes))),
+            SectionId::Table => fill_limited(&mut self.tables, alloc, c, Limited::Table, bytes),
+            SectionId::Memory => {
+                fill_limited(&mut self.memories, alloc, c, Limited::Memory, bytes)
+            }
             SectionId::Global => fill(&mut self.globals, alloc, c, bytes),
             SectionId::Export => fill(&mut self.exports, alloc, c, bytes),
             SectionId::Start => put_start(&mut self.start, whole(c, index(c, bytes))),
@@ -332,8 +323,8 @@ fn finish(alloc: Global, functions: usize, parts: Parts) -> Result<Module, Decod
         types,
         imports,
         type_indices,
-        table,
-        memory,
+        tables,
+        memories,
         globals,
         exports,
         start,
@@ -349,8 +340,8 @@ fn finish(alloc: Global, functions: usize, parts: Parts) -> Result<Module, Decod
         types,
         imports,
         funcs,
-        table,
-        memory,
+        tables,
+        memories,
         globals,
         exports,
         start,

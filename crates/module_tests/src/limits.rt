@@ -11,8 +11,8 @@ fn empty(alloc: Global) -> Module {
         types: Vec::new(alloc),
         imports: Vec::new(alloc),
         funcs: Vec::new(alloc),
-        table: None,
-        memory: None,
+        tables: Vec::new(alloc),
+        memories: Vec::new(alloc),
         globals: Vec::new(alloc),
         exports: Vec::new(alloc),
         start: None,
@@ -44,17 +44,17 @@ fn is_too_large(alloc: Global, m: &Module) -> bool {
     matches!(write(alloc, m), Err(WriteFault::TooLarge))
 }
 
-fn limits_of(min: u32) -> Option<Limits> {
-    Some(Limits { min, max: None })
+fn limits_of(min: u32) -> Limits {
+    Limits { min, max: None }
 }
 
 #[test]
 fn tables_and_memories(rt: HostRuntime) -> Result<(), Fail> {
     let mut m = empty(rt.alloc());
-    m.memory = limits_of(257);
+    m.memories.push(limits_of(257))?;
     assert!(rt; is_too_large(rt.alloc(), &m));
-    m.memory = None;
-    m.table = limits_of(65537);
+    let mut m = empty(rt.alloc());
+    m.tables.push(limits_of(65537))?;
     assert!(rt; is_too_large(rt.alloc(), &m));
     Ok(())
 }

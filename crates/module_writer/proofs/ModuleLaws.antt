@@ -6,7 +6,7 @@ use Rattle.wasm_types.specs.declared.module.SectionId.{SectionId}
 use Rattle.wasm_types.specs.declared.module.SectionId.TheVariants as section
 use Rattle.wasm_types.specs.Syntax.{Signature, ImportForm, GlobalForm, ExportForm, ElemForm, DataForm}
 use Rattle.wasm_types.specs.Instructions.{IsVec, IsIndex}
-use Rattle.wasm_types.specs.ModuleGrammar.{IsOption, IsFuncType, IsImport, IsTable, IsMemory, IsGlobal, IsExport, IsElem, IsData, CodeForm, IsCode, Parts, no_parts, number, GivesPart, Section, Custom, Known, AreSections, Give}
+use Rattle.wasm_types.specs.ModuleGrammar.{IsFuncType, IsImport, IsTable, IsMemory, IsGlobal, IsExport, IsElem, IsData, CodeForm, IsCode, Parts, no_parts, number, GivesPart, Section, Custom, Known, AreSections, Give}
 use Rattle.module_writer.proofs.Meets.{Follow}
 use Rattle.module_writer.proofs.SectionLaws.{PartSection, IsStart, FromTypes, FromImports, FromFunctions, FromTable, FromMemory, FromGlobals, FromExports, FromStart, FromElems, FromCodes, DataOf}
 
@@ -22,10 +22,10 @@ abbrev pub to_type_indices : Parts → Parts
 to_type_indices q = record (to_imports q) { type_indices = q.type_indices }
 
 abbrev pub to_table : Parts → Parts
-to_table q = record (to_type_indices q) { table = q.table }
+to_table q = record (to_type_indices q) { tables = q.tables }
 
 abbrev pub to_memory : Parts → Parts
-to_memory q = record (to_table q) { memory = q.memory }
+to_memory q = record (to_table q) { memories = q.memories }
 
 abbrev pub to_globals : Parts → Parts
 to_globals q = record (to_memory q) { globals = q.globals }
@@ -84,10 +84,10 @@ lead_globals : (q : Parts) → length q.codes ≡ length q.type_indices → (t :
 lead_globals q counts t h = put_before (q.globals ≡ []) section.Global (IsVec IsGlobal q.globals) (FromExports q) 5 (to_memory q) (to_globals q) q (omega arith) (λ e. ap (λ (x : List GlobalForm). record (to_memory q) { globals = x }) e) (λ c v. (q.globals, v, refl)) (lead_exports q counts) t h
 
 lead_memory : (q : Parts) → length q.codes ≡ length q.type_indices → (t : List ℕ) → FromMemory q t → Leads 4 (to_table q) q t
-lead_memory q counts t h = put_before (q.memory ≡ None) section.Memory (IsOption IsMemory q.memory) (FromGlobals q) 4 (to_table q) (to_memory q) q (omega arith) (λ e. ap (λ (x : Option Limits). record (to_table q) { memory = x }) e) (λ c v. (q.memory, v, refl)) (lead_globals q counts) t h
+lead_memory q counts t h = put_before (q.memories ≡ []) section.Memory (IsVec IsMemory q.memories) (FromGlobals q) 4 (to_table q) (to_memory q) q (omega arith) (λ e. ap (λ (x : List Limits). record (to_table q) { memories = x }) e) (λ c v. (q.memories, v, refl)) (lead_globals q counts) t h
 
 lead_table : (q : Parts) → length q.codes ≡ length q.type_indices → (t : List ℕ) → FromTable q t → Leads 3 (to_type_indices q) q t
-lead_table q counts t h = put_before (q.table ≡ None) section.Table (IsOption IsTable q.table) (FromMemory q) 3 (to_type_indices q) (to_table q) q (omega arith) (λ e. ap (λ (x : Option Limits). record (to_type_indices q) { table = x }) e) (λ c v. (q.table, v, refl)) (lead_memory q counts) t h
+lead_table q counts t h = put_before (q.tables ≡ []) section.Table (IsVec IsTable q.tables) (FromMemory q) 3 (to_type_indices q) (to_table q) q (omega arith) (λ e. ap (λ (x : List Limits). record (to_type_indices q) { tables = x }) e) (λ c v. (q.tables, v, refl)) (lead_memory q counts) t h
 
 lead_type_indices : (q : Parts) → length q.codes ≡ length q.type_indices → (t : List ℕ) → FromFunctions q t → Leads 2 (to_imports q) q t
 lead_type_indices q counts t h = put_before (q.type_indices ≡ []) section.Function (IsVec IsIndex q.type_indices) (FromTable q) 2 (to_imports q) (to_type_indices q) q (omega arith) (λ e. ap (λ (x : List ℕ). record (to_imports q) { type_indices = x }) e) (λ c v. (q.type_indices, v, refl)) (lead_table q counts) t h

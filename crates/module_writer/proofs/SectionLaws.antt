@@ -5,10 +5,10 @@ use Rattle.wasm_types.specs.declared.module.SectionId.{SectionId}
 use Rattle.wasm_types.specs.declared.module.SectionId.TheVariants as section
 use Rattle.wasm_types.specs.Syntax.{ModuleForm}
 use Rattle.wasm_types.specs.Instructions.{IsVec, IsIndex}
-use Rattle.wasm_types.specs.ModuleGrammar.{IsOption, IsFuncType, IsImport, IsTable, IsMemory, IsGlobal, IsExport, IsElem, IsData, IsCode, Parts, number, Known, IsSection}
-use Rattle.module_writer.specs.Writers.{Written, byte_to, index_to, vec_to, option_to, bytes_to}
-use Rattle.module_writer.specs.Writing.{func_type_to, import_to, type_index_to, table_type_to, limits_to, global_to, export_to, elem_to, code_to, data_to, section_to, vec_section_to, one_section_to, start_to, from_types_to, from_imports_to, from_functions_to, from_table_to, from_memory_to, from_globals_to, from_exports_to, from_start_to, from_elems_to, from_codes_to, from_data_to}
-use Rattle.module_writer.proofs.Meets.{Meets, Follow, Sized, then_meets, as_form, byte_meets, index_meets, vec_meets, option_meets, sized_meets}
+use Rattle.wasm_types.specs.ModuleGrammar.{IsFuncType, IsImport, IsTable, IsMemory, IsGlobal, IsExport, IsElem, IsData, IsCode, Parts, number, Known, IsSection}
+use Rattle.module_writer.specs.Writers.{Written, byte_to, index_to, vec_to, bytes_to}
+use Rattle.module_writer.specs.Writing.{func_type_to, import_to, type_index_to, table_type_to, limits_to, global_to, export_to, elem_to, code_to, data_to, section_to, vec_section_to, start_to, from_types_to, from_imports_to, from_functions_to, from_table_to, from_memory_to, from_globals_to, from_exports_to, from_start_to, from_elems_to, from_codes_to, from_data_to}
+use Rattle.module_writer.proofs.Meets.{Meets, Follow, Sized, then_meets, as_form, byte_meets, index_meets, vec_meets, sized_meets}
 use Rattle.module_writer.proofs.PartLaws.{func_type_meets, import_meets, table_type_meets, memory_type_meets, global_meets, export_meets, elem_meets, data_meets, code_form, type_indices_meet, codes_meet}
 
 -- a section with such contents
@@ -46,10 +46,6 @@ vec_section_meets : {A : Type 0} (k : SectionId) (p : A → List ℕ → Written
 vec_section_meets k p [] N P f g h old = absent N k P (f refl) old
 vec_section_meets k p (x ∷ xs) N P f g h old = present N k P (vec_to p (x ∷ xs) []) (λ n. some_list x xs (g n)) h old
 
-one_section_meets : {A : Type 0} (k : SectionId) (P : A → List ℕ → Type 0) (p : A → List ℕ → Written) → ((x : A) (old : List ℕ) → Meets (P x) old (p x old)) → (o : Option A) (old : List ℕ) → Meets (PartSection (o ≡ None) k (IsOption P o)) old (one_section_to k p o old)
-one_section_meets k P p f None old = absent (None ≡ None) k (IsOption P None) refl old
-one_section_meets k P p f (Some x) old = present (Some x ≡ None) k (IsOption P (Some x)) (option_to p (Some x) []) (λ e. some_one x (Some x) refl e) (option_meets P p f (Some x) []) old
-
 -- ---- the sections of parts
 
 abbrev pub IsStart : Option ℕ → List ℕ → Type 0
@@ -73,10 +69,10 @@ abbrev pub FunctionsOf : Parts → List ℕ → Type 0
 FunctionsOf q text = PartSection (q.type_indices ≡ []) section.Function (IsVec IsIndex q.type_indices) text
 
 abbrev pub TableOf : Parts → List ℕ → Type 0
-TableOf q text = PartSection (q.table ≡ None) section.Table (IsOption IsTable q.table) text
+TableOf q text = PartSection (q.tables ≡ []) section.Table (IsVec IsTable q.tables) text
 
 abbrev pub MemoryOf : Parts → List ℕ → Type 0
-MemoryOf q text = PartSection (q.memory ≡ None) section.Memory (IsOption IsMemory q.memory) text
+MemoryOf q text = PartSection (q.memories ≡ []) section.Memory (IsVec IsMemory q.memories) text
 
 abbrev pub GlobalsOf : Parts → List ℕ → Type 0
 GlobalsOf q text = PartSection (q.globals ≡ []) section.Global (IsVec IsGlobal q.globals) text
@@ -132,8 +128,8 @@ parts_of m = record {
   types = m.types;
   imports = m.imports;
   type_indices = map (λ f. f.ty) m.funcs;
-  table = m.table;
-  memory = m.memory;
+  tables = m.tables;
+  memories = m.memories;
   globals = m.globals;
   exports = m.exports;
   start = m.start;
@@ -158,11 +154,11 @@ imports_meet m old = vec_section_meets section.Import import_to m.imports (m.imp
 functions_meet : (m : ModuleForm) (old : List ℕ) → Meets (FunctionsOf (parts_of m)) old (vec_section_to section.Function type_index_to m.funcs old)
 functions_meet m old = vec_section_meets section.Function type_index_to m.funcs (map (λ f. f.ty) m.funcs ≡ []) (IsVec IsIndex (map (λ f. f.ty) m.funcs)) (none_mapped (λ f. f.ty) m.funcs) (mapped_none (λ f. f.ty) m.funcs) (type_indices_meet m.funcs []) old
 
-table_meets : (m : ModuleForm) (old : List ℕ) → Meets (TableOf (parts_of m)) old (one_section_to section.Table table_type_to m.table old)
-table_meets m old = one_section_meets section.Table IsTable table_type_to table_type_meets m.table old
+table_meets : (m : ModuleForm) (old : List ℕ) → Meets (TableOf (parts_of m)) old (vec_section_to section.Table table_type_to m.tables old)
+table_meets m old = vec_section_meets section.Table table_type_to m.tables (m.tables ≡ []) (IsVec IsTable m.tables) (λ e. e) (λ e. e) (vec_meets IsTable table_type_to table_type_meets m.tables []) old
 
-memory_meets : (m : ModuleForm) (old : List ℕ) → Meets (MemoryOf (parts_of m)) old (one_section_to section.Memory (limits_to 256) m.memory old)
-memory_meets m old = one_section_meets section.Memory IsMemory (limits_to 256) memory_type_meets m.memory old
+memory_meets : (m : ModuleForm) (old : List ℕ) → Meets (MemoryOf (parts_of m)) old (vec_section_to section.Memory (limits_to 256) m.memories old)
+memory_meets m old = vec_section_meets section.Memory (limits_to 256) m.memories (m.memories ≡ []) (IsVec IsMemory m.memories) (λ e. e) (λ e. e) (vec_meets IsMemory (limits_to 256) memory_type_meets m.memories []) old
 
 globals_meet : (m : ModuleForm) (old : List ℕ) → Meets (GlobalsOf (parts_of m)) old (vec_section_to section.Global global_to m.globals old)
 globals_meet m old = vec_section_meets section.Global global_to m.globals (m.globals ≡ []) (IsVec IsGlobal m.globals) (λ e. e) (λ e. e) (vec_meets IsGlobal global_to global_meets m.globals []) old
@@ -197,10 +193,10 @@ from_globals_meets : (m : ModuleForm) (old : List ℕ) → Meets (FromGlobals (p
 from_globals_meets m old = then_meets (GlobalsOf (parts_of m)) (FromExports (parts_of m)) old (vec_section_to section.Global global_to m.globals old) (from_exports_to m) (globals_meet m old) (from_exports_meets m)
 
 from_memory_meets : (m : ModuleForm) (old : List ℕ) → Meets (FromMemory (parts_of m)) old (from_memory_to m old)
-from_memory_meets m old = then_meets (MemoryOf (parts_of m)) (FromGlobals (parts_of m)) old (one_section_to section.Memory (limits_to 256) m.memory old) (from_globals_to m) (memory_meets m old) (from_globals_meets m)
+from_memory_meets m old = then_meets (MemoryOf (parts_of m)) (FromGlobals (parts_of m)) old (vec_section_to section.Memory (limits_to 256) m.memories old) (from_globals_to m) (memory_meets m old) (from_globals_meets m)
 
 from_table_meets : (m : ModuleForm) (old : List ℕ) → Meets (FromTable (parts_of m)) old (from_table_to m old)
-from_table_meets m old = then_meets (TableOf (parts_of m)) (FromMemory (parts_of m)) old (one_section_to section.Table table_type_to m.table old) (from_memory_to m) (table_meets m old) (from_memory_meets m)
+from_table_meets m old = then_meets (TableOf (parts_of m)) (FromMemory (parts_of m)) old (vec_section_to section.Table table_type_to m.tables old) (from_memory_to m) (table_meets m old) (from_memory_meets m)
 
 from_functions_meets : (m : ModuleForm) (old : List ℕ) → Meets (FromFunctions (parts_of m)) old (from_functions_to m old)
 from_functions_meets m old = then_meets (FunctionsOf (parts_of m)) (FromTable (parts_of m)) old (vec_section_to section.Function type_index_to m.funcs old) (from_table_to m) (functions_meet m old) (from_table_meets m)

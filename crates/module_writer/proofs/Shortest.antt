@@ -7,7 +7,7 @@ use Rattle.wasm_types.specs.declared.module.SectionId.{SectionId}
 use Rattle.wasm_types.specs.declared.module.SectionId.TheVariants as section
 use Rattle.wasm_types.specs.Syntax.{Signature, ImportForm, GlobalForm, ExportForm, ElemForm, DataForm}
 use Rattle.wasm_types.specs.Instructions.{IsVec, IsIndex}
-use Rattle.wasm_types.specs.ModuleGrammar.{IsOption, IsFuncType, IsImport, IsTable, IsMemory, IsGlobal, IsExport, IsElem, IsData, CodeForm, IsCode, Parts, no_parts, number, GivesPart, Section, Custom, Known, IsSection, AreSections, Give}
+use Rattle.wasm_types.specs.ModuleGrammar.{IsFuncType, IsImport, IsTable, IsMemory, IsGlobal, IsExport, IsElem, IsData, CodeForm, IsCode, Parts, no_parts, number, GivesPart, Section, Custom, Known, IsSection, AreSections, Give}
 use Rattle.module_writer.proofs.Meets.{Follow}
 use Rattle.module_writer.proofs.SectionLaws.{PartSection, IsStart, DataOf, FromCodes, FromElems, FromStart, FromExports, FromGlobals, FromMemory, FromTable, FromFunctions, FromImports, FromTypes}
 use Rattle.module_writer.proofs.ModuleLaws.{to_types, to_imports, to_type_indices, to_table, to_memory, to_globals, to_exports, to_start, to_elems, to_codes}
@@ -240,10 +240,10 @@ globals_field = record {
 found_globals : Finds FromGlobals to_memory 5
 found_globals = found_before (λ (x : List GlobalForm). x ≡ []) (IsVec IsGlobal) section.Global to_memory to_globals (λ q. q.globals) 5 FromExports refl globals_field found_exports
 
-memory_field : Field (λ (x : Option Limits). x ≡ None) (IsOption IsMemory) section.Memory to_table to_memory (λ q. q.memory)
+memory_field : Field (λ (x : List Limits). x ≡ []) (IsVec IsMemory) section.Memory to_table to_memory (λ q. q.memories)
 memory_field = record {
-  put = λ p x. record p { memory = x };
-  none = None;
+  put = λ p x. record p { memories = x };
+  none = [];
   nothing = refl;
   unset = λ p. refl;
   set = λ p c q h. h;
@@ -254,12 +254,12 @@ memory_field = record {
 }
 
 found_memory : Finds FromMemory to_table 4
-found_memory = found_before (λ (x : Option Limits). x ≡ None) (IsOption IsMemory) section.Memory to_table to_memory (λ q. q.memory) 4 FromGlobals refl memory_field found_globals
+found_memory = found_before (λ (x : List Limits). x ≡ []) (IsVec IsMemory) section.Memory to_table to_memory (λ q. q.memories) 4 FromGlobals refl memory_field found_globals
 
-table_field : Field (λ (x : Option Limits). x ≡ None) (IsOption IsTable) section.Table to_type_indices to_table (λ q. q.table)
+table_field : Field (λ (x : List Limits). x ≡ []) (IsVec IsTable) section.Table to_type_indices to_table (λ q. q.tables)
 table_field = record {
-  put = λ p x. record p { table = x };
-  none = None;
+  put = λ p x. record p { tables = x };
+  none = [];
   nothing = refl;
   unset = λ p. refl;
   set = λ p c q h. h;
@@ -270,7 +270,7 @@ table_field = record {
 }
 
 found_table : Finds FromTable to_type_indices 3
-found_table = found_before (λ (x : Option Limits). x ≡ None) (IsOption IsTable) section.Table to_type_indices to_table (λ q. q.table) 3 FromMemory refl table_field found_memory
+found_table = found_before (λ (x : List Limits). x ≡ []) (IsVec IsTable) section.Table to_type_indices to_table (λ q. q.tables) 3 FromMemory refl table_field found_memory
 
 type_indices_field : Field (λ (x : List ℕ). x ≡ []) (IsVec IsIndex) section.Function to_imports to_type_indices (λ q. q.type_indices)
 type_indices_field = record {

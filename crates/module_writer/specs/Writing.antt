@@ -144,11 +144,6 @@ abbrev pub vec_section_to : {A : Type 0} → SectionId → (A → List ℕ → W
 vec_section_to k p [] out = Some out
 vec_section_to k p (x ∷ xs) out = section_to k (vec_to p (x ∷ xs) []) out
 
--- a section for the one that there is
-abbrev pub one_section_to : {A : Type 0} → SectionId → (A → List ℕ → Written) → Option A → List ℕ → Written
-one_section_to k p None out = Some out
-one_section_to k p (Some x) out = section_to k (option_to p (Some x) []) out
-
 abbrev pub start_to : Option ℕ → List ℕ → Written
 start_to None out = Some out
 start_to (Some n) out = section_to section.Start (index_to n []) out
@@ -173,10 +168,10 @@ abbrev pub from_globals_to : ModuleForm → List ℕ → Written
 from_globals_to m out = and_then (vec_section_to section.Global global_to m.globals out) (from_exports_to m)
 
 abbrev pub from_memory_to : ModuleForm → List ℕ → Written
-from_memory_to m out = and_then (one_section_to section.Memory (limits_to 256) m.memory out) (from_globals_to m)
+from_memory_to m out = and_then (vec_section_to section.Memory (limits_to 256) m.memories out) (from_globals_to m)
 
 abbrev pub from_table_to : ModuleForm → List ℕ → Written
-from_table_to m out = and_then (one_section_to section.Table table_type_to m.table out) (from_memory_to m)
+from_table_to m out = and_then (vec_section_to section.Table table_type_to m.tables out) (from_memory_to m)
 
 abbrev pub from_functions_to : ModuleForm → List ℕ → Written
 from_functions_to m out = and_then (vec_section_to section.Function type_index_to m.funcs out) (from_table_to m)

@@ -92,18 +92,33 @@ fn limits(out: &mut Vec<u8>, most: u32, l: Limits) -> Result<(), WriteFault>
 }
 
 /// The type of a table: at most 65,536 elements at first.
-pub(crate) fn table_type(out: &mut Vec<u8>, l: Limits) -> Result<(), WriteFault>
+fn table_type(out: &mut Vec<u8>, l: Limits) -> Result<(), WriteFault>
     ensures { Puts result (table_type_to l out.old.items) out.new.items }
 {
     byte(out, 0x70)?;
     limits(out, 65536, l)
 }
 
-/// The type of a memory: at most 256 pages at first.
-pub(crate) fn memory_type(out: &mut Vec<u8>, l: Limits) -> Result<(), WriteFault>
-    ensures { Puts result (limits_to 256 l out.old.items) out.new.items }
+/// The contents of a table section.
+pub(crate) fn tables(out: &mut Vec<u8>, all: &[Limits]) -> Result<(), WriteFault>
+    ensures { Puts result (vec_to table_type_to all.now out.old.items) out.new.items }
 {
-    limits(out, 256, l)
+    count(out, all.len())?;
+    for l in all {
+        table_type(out, *l)?;
+    }
+    Ok(())
+}
+
+/// The contents of a memory section: at most 256 pages at first.
+pub(crate) fn memories(out: &mut Vec<u8>, all: &[Limits]) -> Result<(), WriteFault>
+    ensures { Puts result (vec_to (limits_to 256) all.now out.old.items) out.new.items }
+{
+    count(out, all.len())?;
+    for l in all {
+        limits(out, 256, *l)?;
+    }
+    Ok(())
 }
 
 fn global(out: &mut Vec<u8>, g: &Global) -> Result<(), WriteFault>

@@ -6,13 +6,12 @@ ghost use Rattle.wasm_types.specs.View.{signature_of, view_import, view_func, vi
 ghost use Rattle.wasm_types.specs.ModuleGrammar.{number, IsModule};
 ghost use Rattle.module_writer.specs.declared.fault.WriteFault.TheVariants.{TooLarge};
 ghost use Rattle.module_writer.specs.Writers.{Puts, Gives};
-ghost use Rattle.module_writer.specs.Writing.{func_type_to, import_to, type_index_to, table_type_to, limits_to, global_to, export_to, elem_to, code_to, data_to, section_to, vec_section_to, one_section_to, start_to, from_types_to, module_to};
+ghost use Rattle.module_writer.specs.Writing.{func_type_to, import_to, type_index_to, table_type_to, limits_to, global_to, export_to, elem_to, code_to, data_to, section_to, vec_section_to, start_to, from_types_to, module_to};
 
 use crate::basics::{MAX_SIZE, byte, counted, index};
 use crate::fault::WriteFault;
 use crate::parts::{
-    codes, elems, exports, func_types, globals, imports, memory_type, segments, table_type,
-    type_indices,
+    codes, elems, exports, func_types, globals, imports, memories, segments, tables, type_indices,
 };
 use std::alloc;
 use wasm_types::{Data, Elem, Export, Func, FuncType, Global, Import, Limits, Module, SectionId};
@@ -85,37 +84,29 @@ fn function_section(alloc: alloc::Global, out: &mut Vec<u8>, all: &[Func]) -> Re
     }
 }
 
-fn table_section(
-    alloc: alloc::Global,
-    out: &mut Vec<u8>,
-    limits: Option<Limits>,
-) -> Result<(), WriteFault>
-    ensures { Puts result (one_section_to section.Table table_type_to limits out.old.items) out.new.items }
+fn table_section(alloc: alloc::Global, out: &mut Vec<u8>, all: &[Limits]) -> Result<(), WriteFault>
+    ensures { Puts result
+        (vec_section_to section.Table table_type_to all.now out.old.items) out.new.items }
 {
-    match limits {
-        None => Ok(()),
-        Some(l) => {
+    match all {
+        [] => Ok(()),
+        [_, ..] => {
             let mut contents = Vec::new(alloc);
-            index(&mut contents, 1)?;
-            table_type(&mut contents, l)?;
+            tables(&mut contents, all)?;
             section(out, SectionId::Table, &contents)
         }
     }
 }
 
-fn memory_section(
-    alloc: alloc::Global,
-    out: &mut Vec<u8>,
-    limits: Option<Limits>,
-) -> Result<(), WriteFault>
-    ensures { Puts result (one_section_to section.Memory (limits_to 256) limits out.old.items) out.new.items }
+fn memory_section(alloc: alloc::Global, out: &mut Vec<u8>, all: &[Limits]) -> Result<(), WriteFault>
+    ensures { Puts result
+        (vec_section_to section.Memory (limits_to 256) all.now out.old.items) out.new.items }
 {
-    match limits {
-        None => Ok(()),
-        Some(l) => {
+    match all {
+        [] => Ok(()),
+        [_, ..] => {
             let mut contents = Vec::new(alloc);
-            index(&mut contents, 1)?;
-            memory_type(&mut contents, l)?;
+            memories(&mut contents, all)?;
             section(out, SectionId::Memory, &contents)
         }
     }
@@ -210,8 +201,8 @@ fn sections(alloc: alloc::Global, out: &mut Vec<u8>, m: &Module) -> Result<(), W
     type_section(alloc, out, &m.types)?;
     import_section(alloc, out, &m.imports)?;
     function_section(alloc, out, &m.funcs)?;
-    table_section(alloc, out, m.table)?;
-    memory_section(alloc, out, m.memory)?;
+    table_section(alloc, out, &m.tables)?;
+    memory_section(alloc, out, &m.memories)?;
     global_section(alloc, out, &m.globals)?;
     export_section(alloc, out, &m.exports)?;
     start_section(alloc, out, m.start)?;

@@ -124,8 +124,8 @@ module_of p =
       types = map import_type used ++ map callee_type (all_callees p);
       imports = imported_from zero used;
       funcs = functions_from bs (length used) (all_callees p);
-      table = None;
-      memory = Some (memory_for (length memory));
+      tables = [];
+      memories = memory_for (length memory) ∷ [];
       globals = globals_of p;
       exports = (record { name = codes "main"; desc = Func (length used + length p.routines) }) ∷ [];
       start = None;

@@ -6,14 +6,14 @@ use Rattle.std.proofs.lemmas.Bool.{and_parts, or_left, or_right}
 use Rattle.std.proofs.lemmas.List.{length-map, length-append}
 use Rattle.std.proofs.lemmas.List.Elements.{All-cons, All-nil, All-append, All-replicate}
 use Rattle.wasm_types.specs.Syntax.{GlobalForm, ImportForm}
-use Rattle.wasm_types.specs.Typing.{CodeOk, context_in, typed_in, callee_in, FuncOk, ImportOk, IsConstant, DescOk, DataOk, AreDistinct, LevelOk, ModuleOk}
+use Rattle.wasm_types.specs.Typing.{CodeOk, context_in, typed_in, callee_in, FuncOk, ImportOk, IsConstant, DescOk, DataOk, AreDistinct, LimitsOk, LevelOk, ModuleOk}
 use Rattle.wasm_types.specs.declared.types.ValType.TheVariants.{I32}
 use Rattle.mid_program.specs.Mid.{Kind, Routine, Program}
 use Rattle.mid_program.specs.Sorted.{context_of, kinds_of, announced_names, all_differ, routines_sorted, parts_sorted, steps_sorted, is_sorted, IsSorted}
 use Rattle.value_machine.specs.Functions.{texts_of, routine_bases, main_bases, routine_callee, main_callee}
 use Rattle.value_machine.specs.Imports.{import_type}
 use Rattle.value_machine.specs.Machine.{Callee}
-use Rattle.value_machine.specs.Modules.{all_callees, calls_in, any_calls, called_imports, imports_of, renumbered, callee_type, imported_from, functions_from, word_global, long_global, name_globals, globals_of, pages_for, module_of}
+use Rattle.value_machine.specs.Modules.{all_callees, calls_in, any_calls, called_imports, imports_of, renumbered, callee_type, imported_from, functions_from, word_global, long_global, name_globals, globals_of, memory_for, pages_for, module_of}
 use Rattle.value_machine.specs.Places.{memory_of}
 use Rattle.value_machine.specs.Small.{minus_one, least}
 use Rattle.value_machine.specs.declared.import.Import.{Import}
@@ -129,14 +129,16 @@ module _ (p : Program) where
   level_ok : length (memory_of (texts_of p)) ≤ 2 ^ 32 → LevelOk (module_of p)
   level_ok h = record {
     imports_ok = imports_ok;
-    table_ok = tt;
-    memory_ok = (omega arith, pages_few (length (memory_of (texts_of p))) h);
+    tables_ok = All-nil _;
+    one_table = omega arith;
+    memories_ok = All-cons (LimitsOk 65536) _ [] (omega arith, pages_few (length (memory_of (texts_of p))) h) (All-nil _);
+    one_memory = omega arith;
     globals_ok = globals_set;
     exports_ok = All-cons (λ e. DescOk (module_of p) e.desc) _ [] (let a = main_there in let l = numbers_length p in omega (arith, a, l)) (All-nil _);
     names_ok = one_name;
     start_ok = tt;
     elems_ok = All-nil _;
-    data_ok = All-cons (DataOk (module_of p)) _ [] (record { of_memory = (refl, refl); offset = refl }) (All-nil _);
+    data_ok = All-cons (DataOk (module_of p)) _ [] (record { of_memory = omega arith; offset = refl }) (All-nil _);
   }
 
   pages_enough : (n : ℕ) → pages_for n ≤ 65536 → n ≤ 2 ^ 32
@@ -145,5 +147,5 @@ module _ (p : Program) where
   pub module_ok : IsSorted p → (length (memory_of (texts_of p)) ≤ 2 ^ 32) ↔ ModuleOk (module_of p)
   module_ok s = (
     λ h. record { level = level_ok h; funcs_ok = all_functions_ok (from_T (is_sorted p) s) },
-    λ (m : ModuleOk (module_of p)). pages_enough (length (memory_of (texts_of p))) m.level.memory_ok.1,
+    λ (m : ModuleOk (module_of p)). pages_enough (length (memory_of (texts_of p))) (m.level.memories_ok 0 (memory_for (length (memory_of (texts_of p)))) (omega arith)).1,
   )

@@ -1,5 +1,5 @@
 -- A module that is linked begins in a well-typed configuration.
-use Rattle.std.proofs.Common.{◌≡◌, ◌≢◌, ◌+◌, ℕ, zero, suc, List, [], ◌∷◌, Option, Some, None, Bool, true, false, map, length, refl, sym, ap, subst, ◌∙◌, arith, if◌then◌else◌, reverse, replicate}
+use Rattle.std.proofs.Common.{◌≡◌, ◌≢◌, ◌≤◌, ◌+◌, ℕ, zero, suc, List, [], ◌∷◌, Option, Some, None, Bool, true, false, map, length, refl, sym, ap, subst, ◌∙◌, arith, if◌then◌else◌, reverse, replicate}
 use Rattle.std.specs.Prelude.{slice_get, option_map}
 use Rattle.std.specs.List.{All}
 use Rattle.std.proofs.lemmas.List.{length-map}
@@ -11,7 +11,7 @@ use Rattle.wasm_types.specs.declared.instr.Simple.TheVariants.{Call, I32Const, I
 use Rattle.wasm_types.specs.declared.module.ExportDesc.{ExportDesc}
 use Rattle.wasm_types.specs.declared.module.ExportDesc.TheVariants as export
 use Rattle.wasm_types.specs.Syntax.{Instructions, Done, Then, Plain, Signature, ImportForm, ExportForm, GlobalForm, ModuleForm}
-use Rattle.wasm_types.specs.Typing.{one, Context, CodeOk, done, more, InstrOk, Fixed, effect_of, IsConstant, ModuleOk, StartOk, callee_in, typed_in, context_in}
+use Rattle.wasm_types.specs.Typing.{one, Context, CodeOk, done, more, InstrOk, Fixed, effect_of, GrowsTo, IsConstant, LimitsOk, ModuleOk, StartOk, callee_in, typed_in, context_in}
 use Rattle.wasm_types.specs.Typing as typing
 use Rattle.wasm_store.specs.declared.word.Word.{Word}
 use Rattle.wasm_store.specs.Memories.{MemoryForm, fresh}
@@ -25,9 +25,17 @@ use Rattle.wasm_machine.specs.Machines.{CallerForm, ProgramForm, agree}
 use Rattle.wasm_machine.specs.Typed.{bottom, ConfOk, IsCalls, Linked}
 use Rattle.wasm_machine.proofs.Types.{agreed}
 
-pub least_is : (l : Option Limits) → (limits_or_none l).min ≡ least l
-least_is None = refl
-least_is (Some l) = refl
+pub least_is : (ls : List Limits) → (limits_or_none ls).min ≡ least ls
+least_is [] = refl
+least_is (l ∷ ls) = refl
+
+grows_few : (least : ℕ) (most : Option ℕ) → GrowsTo 65536 least most → least ≤ 65536
+grows_few n None h = h
+grows_few n (Some k) h = omega (arith, h.0, h.1)
+
+pub pages_few : (ls : List Limits) → All (LimitsOk 65536) ls → (limits_or_none ls).min ≤ 65536
+pages_few [] a = omega arith
+pages_few (l ∷ ls) a = grows_few l.min l.max (a zero l (omega arith))
 
 pub none_missing : (ns : List ℕ) → first_none (map Some ns) ≡ None
 none_missing [] = refl
@@ -100,7 +108,7 @@ begun_ok m p n e = record {
 
 -- A configuration is the beginning, part by part.
 pub beginning_is : (m : ModuleForm) (n : ℕ) (vs lo gl : List Word) (ls : List LabelForm) (code : Instructions) (cs : List CallerForm) (mem : MemoryForm) (t : List (Option ℕ)) →
-    vs ≡ [] → ls ≡ [] → lo ≡ [] → code ≡ entry_code m.start n → cs ≡ [] → mem ≡ poured (fresh (limits_or_none m.memory)) m.data_segments → t ≡ filled (replicate (least m.table) None) m.elems → gl ≡ map (λ g. value_of g.init) m.globals →
+    vs ≡ [] → ls ≡ [] → lo ≡ [] → code ≡ entry_code m.start n → cs ≡ [] → mem ≡ poured (fresh (limits_or_none m.memories)) m.data_segments → t ≡ filled (replicate (least m.tables) None) m.elems → gl ≡ map (λ g. value_of g.init) m.globals →
     record { frame = record { values = vs; labels = ls; locals = lo; code = code }; result = Some ty.I32; callers = cs; memory = mem; table = t; globals = gl } ≡ beginning m n
 beginning_is m n vs lo gl ls code cs mem t a b c d e f g h = cc
 

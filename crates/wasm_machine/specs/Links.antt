@@ -92,9 +92,10 @@ place_if (I64 n) = 0
 abbrev pub place_of : Instructions → ℕ
 place_of code = place_if (value_of code)
 
-abbrev pub least : Option Limits → ℕ
-least None = 0
-least (Some l) = l.min
+-- how many elements or pages the first one has at the beginning
+abbrev pub least : List Limits → ℕ
+least [] = 0
+least (l ∷ ls) = l.min
 
 abbrev pub ElemFits : ℕ → ElemForm → Type 0
 ElemFits size e = place_of e.offset + length e.init ≤ size
@@ -103,7 +104,7 @@ abbrev pub DataFits : ℕ → DataForm → Type 0
 DataFits size d = place_of d.offset + length d.init ≤ size
 
 abbrev pub SegmentsFit : ModuleForm → Type 0
-SegmentsFit m = All (ElemFits (least m.table)) m.elems × All (DataFits (least m.memory * 65536)) m.data_segments
+SegmentsFit m = All (ElemFits (least m.tables)) m.elems × All (DataFits (least m.memories * 65536)) m.data_segments
 
 -- What each refusal says. They are told in this order.
 abbrev pub Refuses : Finds → ModuleForm → LinkFault → Type 0
@@ -124,9 +125,9 @@ poured m [] = m
 poured m (d ∷ ds) = poured (record m { bytes = written m.bytes (place_of d.offset) d.init }) ds
 
 -- a module without memory has one of no pages, which never grows
-abbrev pub limits_or_none : Option Limits → Limits
-limits_or_none None = record { min = 0; max = Some 0 }
-limits_or_none (Some l) = l
+abbrev pub limits_or_none : List Limits → Limits
+limits_or_none [] = record { min = 0; max = Some 0 }
+limits_or_none (l ∷ ls) = l
 
 -- the calls that make up a run, in the first frame, which is no function's
 abbrev pub entry_code : Option ℕ → ℕ → Instructions
@@ -138,8 +139,8 @@ beginning m n = record {
   frame = record { values = []; labels = []; locals = []; code = entry_code m.start n };
   result = Some ty.I32;
   callers = [];
-  memory = poured (fresh (limits_or_none m.memory)) m.data_segments;
-  table = filled (replicate (least m.table) None) m.elems;
+  memory = poured (fresh (limits_or_none m.memories)) m.data_segments;
+  table = filled (replicate (least m.tables) None) m.elems;
   globals = map (λ g. value_of g.init) m.globals;
 }
 

@@ -51,8 +51,8 @@ module_with imports funcs start = record {
   types = (record { params = []; result = Some ty.I32 }) ∷ ((record { params = []; result = None }) ∷ []);
   imports = imports;
   funcs = funcs;
-  table = None;
-  memory = None;
+  tables = [];
+  memories = [];
   globals = [];
   exports = [];
   start = start;

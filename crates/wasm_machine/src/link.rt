@@ -126,12 +126,12 @@ fn place_of(code: &[Instr]) -> u32
     }
 }
 
-fn least(limits: Option<Limits>) -> u32
-    ensures { result ≡ least limits }
+fn least(all: &[Limits]) -> u32
+    ensures { result ≡ least all.now }
 {
-    match limits {
-        Some(limits) => limits.min,
-        None => 0,
+    match all {
+        [] => 0,
+        [limits, ..] => limits.min,
     }
 }
 
@@ -180,8 +180,8 @@ fn all_fit<S: Segment>(size: usize, segments: &[S]) -> bool
 fn segments_fit(whole: &Module) -> bool
     ensures { IsTrue result ↔ SegmentsFit (view_module whole.now) }
 {
-    let elems = all_fit(least(whole.table) as usize, &whole.elems);
-    let data = all_fit(least(whole.memory) as usize * 65536, &whole.data);
+    let elems = all_fit(least(&whole.tables) as usize, &whole.elems);
+    let data = all_fit(least(&whole.memories) as usize * 65536, &whole.data);
     elems & data
 }
 
@@ -241,28 +241,28 @@ fn entry(alloc: Global, start: Option<u32>, main: u32) -> Result<Vec<Instr>, All
 }
 
 /// The memory of a module, or one of no pages.
-fn limits_of(memory: Option<Limits>) -> Limits
-    ensures { result ≡ limits_or_none memory }
+fn limits_of(memories: &[Limits]) -> Limits
+    ensures { result ≡ limits_or_none memories.now }
 {
-    match memory {
-        Some(limits) => limits,
-        None => Limits {
+    match memories {
+        [] => Limits {
             min: 0,
             max: Some(0),
         },
+        [limits, ..] => *limits,
     }
 }
 
 /// The configuration in which a run begins.
 pub(crate) fn first_state(alloc: Global, whole: &Module, main: u32) -> Result<State, AllocError>
     requires fit { SegmentsFit (view_module whole.now) }
-    requires pages { (limits_or_none whole.now.memory).min ≤ 65536 }
+    requires pages { (limits_or_none whole.now.memories.items).min ≤ 65536 }
     ensures { IfOk result (λ s. conf_of s ≡ beginning (view_module whole.now) main) }
 {
-    let limits = limits_of(whole.memory);
+    let limits = limits_of(&whole.memories);
     let mut memory = Memory::new(alloc, limits)?;
     pour(&mut memory, limits.min as usize * 65536, &whole.data);
-    let elements = least(whole.table);
+    let elements = least(&whole.tables);
     let mut table = Table::new(alloc, elements)?;
     fill(&mut table, elements as usize, &whole.elems);
     let globals = Globals::new(values_of(alloc, &whole.globals)?);

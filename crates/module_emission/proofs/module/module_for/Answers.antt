@@ -4,6 +4,7 @@ use Rattle.std.specs.Vec.{vec_len}
 use Rattle.mid_program.specs.View.{view_mid, view_routine}
 use Rattle.wasm_types.specs.View.{view_data, view_elem, view_export}
 use Rattle.wasm_types.specs.Syntax.{Done, ExportForm, DataForm}
+use Rattle.wasm_types.specs.declared.types.Limits.{Limits}
 use Rattle.wasm_types.specs.declared.module.ExportDesc.TheVariants.{Func}
 use Rattle.wasm_types.specs.declared.instr.Simple.TheVariants.{I32Const}
 use Rattle.value_machine.specs.Functions.{texts_of}
@@ -41,18 +42,18 @@ returns-clause-module c =
     let forms = c.in_ok-import_forms.ensures ∙ ap (imported_from 0) (c.deref-3.ensures.value ∙ used) in
     let funcs = c.in_ok-function_forms.ensures ∙ ap (λ (bs : List Bool). functions_from bs c.len-first.result fs) (c.deref-4.ensures.value ∙ called)
     ∙ ap (λ (n : ℕ). functions_from (called_imports p) n fs) first ∙ ap (functions_from (called_imports p) (length (imports_of p))) c.requires in
-    let memory = c.memory_for.ensures ∙ ap memory_for size in
+    let memories = c.in_ok-vec.ensures.items ∙ ap (λ (l : Limits). l ∷ []) (c.memory_for.ensures ∙ ap memory_for size) in
     let main = c.in_ok-main_export.ensures ∙ (λ i. main_form (first i + count i)) in
-    let exports = ap (map view_export) c.in_ok-vec.ensures.items ∙ ap (λ (e : ExportForm). e ∷ []) main in
+    let exports = ap (map view_export) c.in_ok-vec-2.ensures.items ∙ ap (λ (e : ExportForm). e ∷ []) main in
     let texts = c.in_ok-text_segment.ensures ∙ ap text_form bytes in
-    let segments = ap (map view_data) c.in_ok-vec-2.ensures.items ∙ ap (λ (d : DataForm). d ∷ []) texts in
-    let elems = ap (map view_elem) c.new.ensures.items in
+    let segments = ap (map view_data) c.in_ok-vec-3.ensures.items ∙ ap (λ (d : DataForm). d ∷ []) texts in
+    let elems = ap (map view_elem) c.new-2.ensures.items in
     λ i. record {
       types = types i;
       imports = forms i;
       funcs = funcs i;
-      table = None;
-      memory = Some (memory i);
+      tables = c.new.ensures.items i;
+      memories = memories i;
       globals = c.in_ok-globals.ensures i;
       exports = exports i;
       start = None;

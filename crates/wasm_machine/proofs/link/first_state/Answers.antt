@@ -22,25 +22,27 @@ use Rattle.wasm_machine.proofs.link.first_state.Goals as goal
 pub pour-requires-clause-fit : goal.pour-requires-clause-fit
 pour-requires-clause-fit c =
     let m = c.args.whole.now in
-    let size : c.limits_of-limits.result.min ≡ least m.memory = ap (λ (l : Limits). l.min) c.limits_of-limits.ensures ∙ least_is m.memory in
-    subst (λ (ds : List Data). All (λ (x : Data). DataFits (c.limits_of-limits.result.min * 65536) (view_data x)) ds) (sym c.deref.ensures.value)
-    (subst (λ (n : ℕ). All (λ (x : Data). DataFits (n * 65536) (view_data x)) m.data.items) (sym size) (all_of_map (DataFits (least m.memory * 65536)) view_data m.data.items c.requires.fit.1))
+    let limits = c.limits_of-limits.ensures ∙ ap limits_or_none c.deref.ensures.value in
+    let size : c.limits_of-limits.result.min ≡ least m.memories.items = ap (λ (l : Limits). l.min) limits ∙ least_is m.memories.items in
+    subst (λ (ds : List Data). All (λ (x : Data). DataFits (c.limits_of-limits.result.min * 65536) (view_data x)) ds) (sym c.deref-2.ensures.value)
+    (subst (λ (n : ℕ). All (λ (x : Data). DataFits (n * 65536) (view_data x)) m.data.items) (sym size) (all_of_map (DataFits (least m.memories.items * 65536)) view_data m.data.items c.requires.fit.1))
 
 pub fill-requires-clause-fit : goal.fill-requires-clause-fit
 fill-requires-clause-fit c =
     let m = c.args.whole.now in
-    subst (λ (es : List Elem). All (λ (x : Elem). ElemFits c.least-elements.result (view_elem x)) es) (sym c.deref-2.ensures.value)
-    (subst (λ (n : ℕ). All (λ (x : Elem). ElemFits n (view_elem x)) m.elems.items) (sym c.least-elements.ensures) (all_of_map (ElemFits (least m.table)) view_elem m.elems.items c.requires.fit.0))
+    subst (λ (es : List Elem). All (λ (x : Elem). ElemFits c.least-elements.result (view_elem x)) es) (sym c.deref-4.ensures.value)
+    (subst (λ (n : ℕ). All (λ (x : Elem). ElemFits n (view_elem x)) m.elems.items) (sym (c.least-elements.ensures ∙ ap least c.deref-3.ensures.value)) (all_of_map (ElemFits (least m.tables.items)) view_elem m.elems.items c.requires.fit.0))
 
 pub returns : goal.returns
 returns c =
     let m = c.args.whole.now in
+    let limits = c.limits_of-limits.ensures ∙ ap limits_or_none c.deref.ensures.value in
     beginning_is (view_module m) c.args.main c.new-4.result c.new-6.result.items c.new-globals.result (reverse (map label_of c.new-5.result.items)) (views c.in_ok-code.code.value.items) (reverse (map caller_of c.new-7.result.items)) c.pour.new.memory c.fill.new.table
     c.new-4.ensures
     (ap (λ (ls : List Label). reverse (map label_of ls)) c.new-5.ensures.items)
     c.new-6.ensures.items
     (ap (λ (v : Vec Instr Global). views v.items) c.in_ok-code.ensures.ok ∙ c.in_ok-entry.ensures)
     (ap (λ (cs : List Caller). reverse (map caller_of cs)) c.new-7.ensures.items)
-    (c.pour.ensures ∙ (ap (λ (x : MemoryForm). poured x (map view_data c.deref.result.now)) (c.in_ok-memory.ensures ∙ ap fresh c.limits_of-limits.ensures) ∙ ap (λ (ds : List Data). poured (fresh (limits_or_none m.memory)) (map view_data ds)) c.deref.ensures.value))
-    (c.fill.ensures ∙ (ap (λ (x : List (Option ℕ)). filled x (map view_elem c.deref-2.result.now)) (c.in_ok-table.ensures ∙ ap (λ (n : ℕ). replicate n None) c.least-elements.ensures) ∙ ap (λ (es : List Elem). filled (replicate (least m.table) None) (map view_elem es)) c.deref-2.ensures.value))
-    (c.new-globals.ensures ∙ (c.in_ok-values_of.ensures ∙ (ap (λ (gs : List ModuleGlobal). map (λ g. value_of (views g.init.items)) gs) c.deref-3.ensures.value ∙ sym (map-map (λ g. value_of g.init) view_global m.globals.items))))
+    (c.pour.ensures ∙ (ap (λ (x : MemoryForm). poured x (map view_data c.deref-2.result.now)) (c.in_ok-memory.ensures ∙ ap fresh limits) ∙ ap (λ (ds : List Data). poured (fresh (limits_or_none m.memories.items)) (map view_data ds)) c.deref-2.ensures.value))
+    (c.fill.ensures ∙ (ap (λ (x : List (Option ℕ)). filled x (map view_elem c.deref-4.result.now)) (c.in_ok-table.ensures ∙ ap (λ (n : ℕ). replicate n None) (c.least-elements.ensures ∙ ap least c.deref-3.ensures.value)) ∙ ap (λ (es : List Elem). filled (replicate (least m.tables.items) None) (map view_elem es)) c.deref-4.ensures.value))
+    (c.new-globals.ensures ∙ (c.in_ok-values_of.ensures ∙ (ap (λ (gs : List ModuleGlobal). map (λ g. value_of (views g.init.items)) gs) c.deref-5.ensures.value ∙ sym (map-map (λ g. value_of g.init) view_global m.globals.items))))
