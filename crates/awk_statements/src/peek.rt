@@ -171,7 +171,6 @@ pub(crate) fn after_name<'a>(tokens: &'a [Token<'a>]) -> Option<(&'a [u8], &'a [
 }
 
 /// The key, the array and what is behind them, where the tokens are those of `key in array )`.
-#[tactic(auto, using(crate::proofs::Peeks::keys_no_key, crate::proofs::Peeks::keys_no_in, crate::proofs::Peeks::keys_no_array, crate::proofs::Peeks::keys_no_close, crate::proofs::Peeks::keys_found))]
 pub(crate) fn keys<'a>(tokens: &'a [Token<'a>]) -> Option<(&'a [u8], &'a [u8], &'a [Token<'a>])>
     ensures { MatchOption result (keys_at (seen tokens.now) ≡ None) (λ o. keys_at (seen tokens.now) ≡ Some (o.0.now, o.1.now, seen o.2.now)) }
 {
