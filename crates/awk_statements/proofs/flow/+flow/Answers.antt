@@ -46,3 +46,38 @@ counted_loop-returns t c =
     let plain : maybe_plain_at expr ts ≡ Ok (first, us) = rw both.0 c.in_ok-first.ensures in
     let next = semicolon_given c.semicolon.result c.in_ok-first-2.behind us both.1 c.semicolon.ensures in
     gives_is (λ x. (view_stmt x.0, seen x.1.now)) c.loop_test.result _ _ (counted_is expr stmt ts us (seen c.in_ok-first-2.behind.now) first plain next) c.loop_test.ensures
+
+pub block-returns-in_err-body : goal.block-returns-in_err-body
+block-returns-in_err-body t c =
+    let p = err_from_is_err_and c.from_residual.result c.from_residual.ensures.1 in
+    rw (p.1, p.2) (fails_bind c.in_err-body.field-0.0 _ _ c.in_err-body.ensures)
+
+pub if_statement-returns-in_err-test : goal.if_statement-returns-in_err-test
+if_statement-returns-in_err-test t c =
+    let p = err_from_is_err_and c.from_residual.result c.from_residual.ensures.1 in
+    rw (p.1, p.2) (fails_bind c.in_err-test.field-0.0 _ _ c.in_err-test.ensures)
+
+pub while_loop-returns-in_err-test : goal.while_loop-returns-in_err-test
+while_loop-returns-in_err-test t c =
+    let p = err_from_is_err_and c.from_residual.result c.from_residual.ensures.1 in
+    rw (p.1, p.2) (fails_bind c.in_err-test.field-0.0 _ _ c.in_err-test.ensures)
+
+pub do_loop-returns-in_err-body : goal.do_loop-returns-in_err-body
+do_loop-returns-in_err-body t c =
+    let p = err_from_is_err_and c.from_residual.result c.from_residual.ensures.1 in
+    rw (p.1, p.2) (fails_bind c.in_err-body.field-0.0 _ _ c.in_err-body.ensures)
+
+pub for_loop-returns-in_err-behind : goal.for_loop-returns-in_err-behind
+for_loop-returns-in_err-behind t c =
+    let p = err_from_is_err_and c.from_residual.result c.from_residual.ensures.1 in
+    rw (p.1, p.2) (fails_bind c.in_err-behind.field-0.0 _ _ c.in_err-behind.ensures)
+
+pub loop_over-returns-in_err-body : goal.loop_over-returns-in_err-body
+loop_over-returns-in_err-body t c =
+    let p = err_from_is_err_and c.from_residual.result c.from_residual.ensures.1 in
+    rw (p.1, p.2) (fails_bind c.in_err-body.field-0.0 _ _ c.in_err-body.ensures)
+
+pub counted_loop-returns-in_err-first : goal.counted_loop-returns-in_err-first
+counted_loop-returns-in_err-first t c =
+    let p = err_from_is_err_and c.from_residual.result c.from_residual.ensures.1 in
+    rw (p.1, p.2) (fails_bind c.in_err-first.field-0.0 _ _ c.in_err-first.ensures)
