@@ -3,6 +3,7 @@ use Rattle.std.proofs.Common.{◌≡◌, [], ◌∷◌, ◌++◌, Some, None, Ok
 use Rattle.wasm_types.specs.Leb128.{u32_at}
 use Rattle.wasm_types.specs.ModuleGrammar.{no_parts, module_of, header}
 use Rattle.module_decoder.specs.declared.fault.DecodeFault.TheVariants.{BadHeader, Truncated, BadSection, BadInteger}
+use Rattle.module_decoder.specs.Readers.{index_at}
 use Rattle.module_decoder.specs.Reading.{module_at}
 
 header_alone : module_at header ≡ Ok (module_of no_parts)
@@ -23,10 +24,10 @@ unknown_section = refl
 
 two_tables : module_at (header ++ 0x04 ∷ 0x08 ∷ 0x02 ∷ 0x70 ∷ 0x00 ∷ 0x00 ∷ 0x70 ∷ 0x01 ∷ 0x01 ∷ 0x02 ∷ [])
     ≡ Ok (module_of (record no_parts { tables = (record { min = 0; max = None }) ∷ ((record { min = 1; max = Some 2 }) ∷ []) }))
-unfolding u32_at
+unfolding u32_at index_at
 two_tables = refl
 
 two_memories : module_at (header ++ 0x05 ∷ 0x05 ∷ 0x02 ∷ 0x00 ∷ 0x00 ∷ 0x00 ∷ 0x01 ∷ [])
     ≡ Ok (module_of (record no_parts { memories = (record { min = 0; max = None }) ∷ ((record { min = 1; max = None }) ∷ []) }))
-unfolding u32_at
+unfolding u32_at index_at
 two_memories = refl
