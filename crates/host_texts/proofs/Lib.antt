@@ -1,5 +1,6 @@
 mod Counts
 mod SpecialNumbers
+mod Starts
 mod Reading
 mod Spare
 mod Steps

@@ -1,8 +1,9 @@
 //! The special variables.
-ghost use Rattle.std.specs.Prelude.{◌≡◌, ◌<◌, ◌^◌, IfOk, slice_set};
+ghost use Rattle.std.specs.Prelude.{◌≡◌, ◌<◌, ◌^◌, IfOk, OnOk, slice_set};
 ghost use Rattle.awk_state.specs.Constants.{special_number};
 ghost use Rattle.awk_state.specs.SharedState.{specials_at_start};
 ghost use Rattle.awk_state.specs.declared.constants.Special.{Special as AnySpecial};
+ghost use Rattle.host_texts.specs.Starts.{with_blanks, with_ends, with_formats, with_text};
 ghost use Rattle.host_texts.specs.States.{specials_of};
 
 use awk_state::Special;
@@ -37,27 +38,69 @@ impl Specials {
     /// # Errors
     ///
     /// There is no memory.
+    #[tactic(auto, using(crate::proofs::Starts::started))]
     pub fn at_start(alloc: Global, operands: u32) -> Result<Specials, AllocError>
         ensures { IfOk result (λ specials. (t : AnySpecial) → specials_of specials.values t ≡ specials_at_start operands t) }
     {
-        Ok(Specials {
+        let mut specials = Specials {
             values: [
                 Value::Num(i64::from(operands) + 1),
-                text(alloc, b"%.6g")?,
+                Value::Uninit,
                 Value::Uninit,
                 Value::Num(0),
-                text(alloc, b" ")?,
+                Value::Uninit,
                 Value::Num(0),
                 Value::Num(0),
-                text(alloc, b"%.6g")?,
-                text(alloc, b" ")?,
-                text(alloc, b"\n")?,
+                Value::Uninit,
+                Value::Uninit,
+                Value::Uninit,
                 Value::Num(-1),
-                text(alloc, b"\n")?,
+                Value::Uninit,
                 Value::Num(0),
-                text(alloc, b"\x1c")?,
+                Value::Uninit,
             ],
-        })
+        };
+        specials.set_texts(alloc)?;
+        Ok(specials)
+    }
+
+    /// Gives those that are texts theirs.
+    fn set_texts(&mut self, alloc: Global) -> Result<(), AllocError>
+        ensures { OnOk result (self.new.values ≡ with_ends (with_blanks (with_formats self.old.values))) }
+    {
+        self.set_formats(alloc)?;
+        self.set_blanks(alloc)?;
+        self.set_ends(alloc)
+    }
+
+    fn set_formats(&mut self, alloc: Global) -> Result<(), AllocError>
+        ensures { OnOk result (self.new.values ≡ with_formats self.old.values) }
+    {
+        self.set_text(alloc, Special::Convfmt, b"%.6g")?;
+        self.set_text(alloc, Special::Ofmt, b"%.6g")
+    }
+
+    fn set_blanks(&mut self, alloc: Global) -> Result<(), AllocError>
+        ensures { OnOk result (self.new.values ≡ with_blanks self.old.values) }
+    {
+        self.set_text(alloc, Special::Fs, b" ")?;
+        self.set_text(alloc, Special::Ofs, b" ")
+    }
+
+    fn set_ends(&mut self, alloc: Global) -> Result<(), AllocError>
+        ensures { OnOk result (self.new.values ≡ with_ends self.old.values) }
+    {
+        self.set_text(alloc, Special::Ors, b"\n")?;
+        self.set_text(alloc, Special::Rs, b"\n")?;
+        self.set_text(alloc, Special::Subsep, b"\x1c")
+    }
+
+    /// Gives one a text.
+    fn set_text(&mut self, alloc: Global, special: Special, bytes: &[u8]) -> Result<(), AllocError>
+        ensures { OnOk result (self.new.values ≡ with_text special bytes.now self.old.values) }
+    {
+        self.set(special, text(alloc, bytes)?);
+        Ok(())
     }
 
     /// The value of one; of NF, which is the number of fields, it is no use.
