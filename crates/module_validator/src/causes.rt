@@ -45,9 +45,7 @@ impl<'a> Scope<'a> {
         match p {
             Simple::Br(n) | Simple::BrIf(n) => labels <= n,
             Simple::Call(n) => callee(self.whole, n).is_none(),
-            Simple::CallIndirect(n) => {
-                !self.has_table() || typed(self.whole, n).is_none()
-            }
+            Simple::CallIndirect(n) => { !self.has_table() || typed(self.whole, n).is_none() }
             Simple::LocalGet(x) | Simple::LocalSet(x) | Simple::LocalTee(x) => {
                 self.locals.len() <= x as usize
             }
