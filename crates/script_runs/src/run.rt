@@ -1,0 +1,22 @@
+//! The run of a row.
+use crate::row::Row;
+use awk_run::{RunEnd, run_module, run_script};
+use std::alloc::{AllocError, Global};
+use std::hash::RandomState;
+use world_core::MemWorld;
+
+/// How a row's script or module ends within so many steps, and the world after it.
+pub(crate) fn run(
+    alloc: Global,
+    state: RandomState,
+    row: &Row,
+    steps: u64,
+) -> Result<(RunEnd, MemWorld), AllocError> {
+    let world = row.outside.world(alloc)?;
+    let (end, world) = if row.is_module {
+        run_module(alloc, &row.code, &row.job, state, world, steps)
+    } else {
+        run_script(alloc, &row.code, &row.job, state, world, steps)
+    };
+    Ok((end, world.into_inner()))
+}
