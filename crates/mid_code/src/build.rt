@@ -252,7 +252,8 @@ pub(crate) fn set_variable(
     variable: Variable,
     code: Code,
 ) -> Result<Code, AllocError>
-    ensures { IfOk result (λ set. view set ≡ set_variable_code (view_variable variable) (view code)) }
+    ensures { IfOk result
+        (λ set. view set ≡ set_variable_code (view_variable variable) (view code)) }
 {
     match variable {
         Variable::Global(number) => set(alloc, Slot::Global(false, number), code),

@@ -99,7 +99,8 @@ fn store(alloc: Global, target: Target, after: usize, code: Code) -> Result<Code
 
 /// The same, and what it takes is the answer.
 fn stored(alloc: Global, target: Target, after: u8, code: Code) -> Result<Code, AllocError>
-    ensures { IfOk result (λ stored. view stored ≡ stored_at (view_target target) after (view code)) }
+    ensures { IfOk result
+        (λ stored. view stored ≡ stored_at (view_target target) after (view code)) }
 {
     match target {
         Target::Name(name) => set_variable(alloc, name, code),
