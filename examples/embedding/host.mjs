@@ -42,6 +42,7 @@ class Table {
   constructor(first) {
     this.held = new Map(first.entries());
     this.next = first.length;
+    this.step = 1;
     this.free = [];
   }
 
@@ -59,8 +60,9 @@ class Table {
   }
 
   put(held) {
-    const number = this.free.pop() ?? this.next++;
+    const number = this.free.pop() ?? this.next;
     if (number >= MOST_NUMBERS) throw new NoMemory("NoMemory");
+    if (number === this.next) this.next += this.step;
     this.held.set(number, held);
     return number;
   }
@@ -518,9 +520,8 @@ function moduleOf(bytes) {
   return new WebAssembly.Module(withMemoryExport(bytes));
 }
 
-/** Runs a module in a job: `{ status }`, `{ fault }` or `{ trap }`. */
-export function runModule(bytes, job, io) {
-  const host = new Host(job, io);
+/** Runs a module in a job, or over a host of this job: `{ status }`, `{ fault }` or `{ trap }`. */
+export function runModule(bytes, job, io, host = new Host(job, io)) {
   const instance = new WebAssembly.Instance(moduleOf(bytes), { awk1: host.imports() });
   host.memory = instance.exports.memory;
   let result;
