@@ -23,6 +23,7 @@ mod field;
 mod outside;
 mod row;
 mod run;
+pub mod scripts;
 mod words;
 
 use answer::answer_to_row;
