@@ -1,59 +1,20 @@
-//! Says of each script on standard input whether it has a tree, or why it has none.
+//! Whether scripts have a tree, or why they have none.
 //!
-//! A line is a script, in which a byte 1 stands for a newline. The answer is a line: `tree`, or the fault with the script's line and what it names.
-//! The tree itself is not printed: the tokens of a script have no second one. It is looked at: it must be well formed and have the tokens of the script.
-//! Behind the lines come scripts with very many parentheses.
-#![tactic(auto)]
-
+//! The answer is `tree`, or the fault with the script's line and what it names. The tree itself is not printed: the tokens of a script have no second one. It
+//! is looked at: it must be well formed and have the tokens of the script.
+use crate::kinds::left_out_text;
+use crate::token_lists::no_tokens;
 use awk_parse::{Feature, ParseFault, parse};
-use awk_tokens::{LeftOut, Token, TokenFault, TokenKind, tokens};
+use awk_tokens::{Token, TokenKind, tokens};
 use awk_tree::{Printed, Script, is_well_formed, print_tokens};
 use std::alloc::{AllocError, Global};
-use std::io;
-
-/// The script that a line of the input writes.
-fn script_of(alloc: Global, line: &[u8]) -> Result<Vec<u8>, AllocError> {
-    let mut script = Vec::new(alloc);
-    for byte in line {
-        script.push(if *byte == 1 { b'\n' } else { *byte })?;
-    }
-    Ok(script)
-}
-
-/// A left-out word as scripts write it.
-fn word(left_out: LeftOut) -> &'static str {
-    match left_out {
-        LeftOut::Atan2 => "atan2",
-        LeftOut::Cos => "cos",
-        LeftOut::Sin => "sin",
-        LeftOut::Exp => "exp",
-        LeftOut::Log => "log",
-        LeftOut::Sqrt => "sqrt",
-        LeftOut::Rand => "rand",
-        LeftOut::Srand => "srand",
-        LeftOut::System => "system",
-        LeftOut::Func => "func",
-        LeftOut::Nextfile => "nextfile",
-        LeftOut::Fflush => "fflush",
-    }
-}
 
 /// The name of a left-out feature.
 fn feature_name(feature: Feature) -> &'static str {
     match feature {
-        Feature::Word(left_out) => word(left_out),
+        Feature::Word(left_out) => left_out_text(left_out),
         Feature::Pipe => "pipe",
         Feature::Delete => "delete",
-    }
-}
-
-/// What is said of a script without tokens.
-fn no_tokens(alloc: Global, fault: TokenFault) -> Result<String, AllocError> {
-    match fault {
-        TokenFault::BadByte(line) => format!(in alloc; "BadByte {line}"),
-        TokenFault::OpenString(line) => format!(in alloc; "OpenString {line}"),
-        TokenFault::OpenEre(line) => format!(in alloc; "OpenEre {line}"),
-        TokenFault::NoMemory => format!(in alloc; "NoMemory"),
     }
 }
 
@@ -103,7 +64,7 @@ fn tree(alloc: Global, script: &Script, found: &[Token<'_>]) -> Result<String, A
 }
 
 /// What is said of a script.
-fn answer(alloc: Global, script: &[u8]) -> Result<String, AllocError> {
+pub(crate) fn tree_or_fault(alloc: Global, script: &[u8]) -> Result<String, AllocError> {
     let tokens = match tokens(alloc, script) {
         Ok(tokens) => tokens,
         Err(fault) => return no_tokens(alloc, fault),
@@ -115,7 +76,7 @@ fn answer(alloc: Global, script: &[u8]) -> Result<String, AllocError> {
 }
 
 /// `BEGIN { print 1 }` with this many parentheses around the 1.
-fn enclosed(alloc: Global, depth: usize) -> Result<Vec<u8>, AllocError> {
+pub(crate) fn enclosed(alloc: Global, depth: usize) -> Result<Vec<u8>, AllocError> {
     let mut script = b"BEGIN { print ".to_vec(alloc)?;
     for _ in 0..depth {
         script.push(b'(')?;
@@ -126,19 +87,4 @@ fn enclosed(alloc: Global, depth: usize) -> Result<Vec<u8>, AllocError> {
     }
     script.extend_from_slice(b" }")?;
     Ok(script)
-}
-
-fn main(rt: HostRuntime) -> io::Result<()> {
-    for line in rt.lines(rt.alloc()) {
-        let line = line?;
-        let script = script_of(rt.alloc(), line.as_str().as_bytes())?;
-        let answer = answer(rt.alloc(), &script)?;
-        println!(rt; "{answer}")?;
-    }
-    for depth in [500, 1001, 200_000] {
-        let script = enclosed(rt.alloc(), depth)?;
-        let answer = answer(rt.alloc(), &script)?;
-        println!(rt; "{depth} parentheses: {answer}")?;
-    }
-    Ok(())
 }

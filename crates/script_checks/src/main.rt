@@ -1,0 +1,83 @@
+//! Says of each script on standard input which tokens it has, whether it has a tree, or which kinds its names have.
+//!
+//! A line is a script, in which a byte 1 stands for a newline. A line `# tokens`, `# words`, `# trees`, `# parentheses` or `# names` says what is asked of the
+//! lines behind it: the tokens (there a backslash begins an escape, as in awk's strings); which reserved word it is; whether there is a tree, of a script or
+//! of one with so many parentheses; the kinds of names.
+#![tactic(auto)]
+
+mod kinds;
+mod names;
+mod show;
+mod token_lists;
+mod trees;
+
+use awk_text::unescape;
+use kinds::reserved_text;
+use names::names_or_refusal;
+use std::alloc::{AllocError, Global};
+use std::io;
+use token_lists::token_list;
+use trees::{enclosed, tree_or_fault};
+
+/// What is asked of a line.
+#[derive(Clone, Copy)]
+enum Question {
+    Tokens,
+    Words,
+    Trees,
+    Parentheses,
+    Names,
+}
+
+/// The question that a line names.
+fn question_of(line: &str) -> Option<Question> {
+    match line {
+        "# tokens" => Some(Question::Tokens),
+        "# words" => Some(Question::Words),
+        "# trees" => Some(Question::Trees),
+        "# parentheses" => Some(Question::Parentheses),
+        "# names" => Some(Question::Names),
+        _ => None,
+    }
+}
+
+/// The script that a line writes.
+fn script_of(alloc: Global, line: &str) -> Result<Vec<u8>, AllocError> {
+    let mut script = Vec::new(alloc);
+    for byte in line.as_bytes() {
+        script.push(if *byte == 1 { b'\n' } else { *byte })?;
+    }
+    Ok(script)
+}
+
+/// What is said of a script with so many parentheses.
+fn of_parentheses(alloc: Global, line: &str) -> Result<String, AllocError> {
+    let depth = line.parse::<usize>().unwrap_or(0);
+    tree_or_fault(alloc, &enclosed(alloc, depth)?)
+}
+
+/// What is said of a line.
+fn answer(alloc: Global, question: Question, line: &str) -> Result<String, AllocError> {
+    match question {
+        Question::Tokens => token_list(alloc, &unescape(alloc, line.as_bytes())?),
+        Question::Words => reserved_text(alloc, line.as_bytes()),
+        Question::Trees => tree_or_fault(alloc, &script_of(alloc, line)?),
+        Question::Parentheses => of_parentheses(alloc, line),
+        Question::Names => names_or_refusal(alloc, &script_of(alloc, line)?),
+    }
+}
+
+fn main(rt: HostRuntime) -> io::Result<()> {
+    let mut question = Question::Trees;
+    for line in rt.lines(rt.alloc()) {
+        let line = line?;
+        match question_of(line.as_str()) {
+            Some(named) => question = named,
+            None => {
+                let answer = answer(rt.alloc(), question, line.as_str())?;
+                println!(rt; "{answer}")?;
+            }
+        }
+    }
+    Ok(())
+}
