@@ -1,14 +1,11 @@
--- The numbers that have an array: from 0 on, as many as slots that are taken, and none changed where its array stays the same.
-use Rattle.std.proofs.Common.{◌≡◌, ℕ, ◌+◌, ℤ, pos, negsuc, ◌≤ℤ◌, ◌<ℤ◌, List, [], ◌∷◌, ◌++◌, Option, Some, None, is_some, Bool, true, false, cond, count_by, get_or, option_copied, Bor, refl, sym, ap, ◌∙◌, arith, true≢false}
+-- The numbers that have an array: from 0 on, and none changed where its array stays the same.
+use Rattle.std.proofs.Common.{◌≡◌, ℕ, ℤ, pos, negsuc, ◌≤ℤ◌, ◌<ℤ◌, List, Option, Some, None, is_some, Bool, true, false, cond, get_or, option_copied, Bor, refl, sym, ap, ◌∙◌, arith, true≢false}
 use Rattle.std.specs.FinMap as map
 use Rattle.std.specs.FinMap.{int_cmp-IsAntisymmetric}
 use Rattle.std.specs.Ordering.{int_cmp, int_eq}
 use Rattle.std.specs.Cmp.{int_cmp_total, signed_Decides}
-use Rattle.std.proofs.lemmas.List.{append_assoc, append-nil}
-use Rattle.std.proofs.lemmas.List.Sums.{sum_by-cons}
-use Rattle.slab.specs.Slab.{Slab, Updates}
-use Rattle.tables.specs.Tables.{entries_from, table, Writes}
-use Rattle.tables.proofs.TableLemmas.{get-table, get-table-below_zero, len-table-push}
+use Rattle.tables.specs.Tables.{table}
+use Rattle.tables.proofs.TableLemmas.{get-table, get-table-below_zero}
 use Rattle.host_arrays.specs.Pairs.{Pairs, pairs_at, pairs_or_none}
 
 -- an array's number is at least 0
@@ -25,32 +22,6 @@ taken_slot slots h k key taken = sym (ap (λ q. map.contains_key (table slots) q
 pub shown_some : {V : Type 0} (found : Option (Bor V)) → is_some found ≡ is_some (option_copied found)
 shown_some None = refl
 shown_some (Some v) = refl
-
-pub writes_slot : {V : Type 0} (old new : Slab V) (key : ℕ) (slot : Option V) → Updates old new key slot → Writes key slot old.slots new.slots
-writes_slot old new key slot u = record { written = u.changed; others = u.others }
-
-entries-hole : {V : Type 0} (key : ℕ) (slots : List (Option V)) → entries_from key (slots ++ None ∷ []) ≡ entries_from key slots
-entries-hole key [] = refl
-entries-hole key (None ∷ rest) = entries-hole (key + 1) rest
-entries-hole key (Some v ∷ rest) = ap (λ more. (pos key, v) ∷ more) (entries-hole (key + 1) rest)
-
-counted : {V : Type 0} (front rest : List (Option V)) → map.len (table (front ++ rest)) ≡ map.len (table front) + count_by is_some rest
-counted front [] = let same = ap (λ slots. map.len (table slots)) (append-nil front) in omega (arith, same)
-counted front (None ∷ rest) =
-    let one : map.len (table (front ++ None ∷ rest)) ≡ map.len (table (front ++ None ∷ [])) + count_by is_some rest
-    = ap (λ slots. map.len (table slots)) (sym (append_assoc front (None ∷ []) rest)) ∙ counted (front ++ None ∷ []) rest in
-    let hole : map.len (table (front ++ None ∷ [])) ≡ map.len (table front) = ap (λ es. map.len (map.from_entries {R = int_cmp} es)) (entries-hole 0 front) in
-    omega (arith, one, hole, sum_by-cons (λ o. cond (is_some o) 1 0) None rest)
-counted front (Some v ∷ rest) =
-    let one : map.len (table (front ++ Some v ∷ rest)) ≡ map.len (table (front ++ Some v ∷ [])) + count_by is_some rest
-    = ap (λ slots. map.len (table slots)) (sym (append_assoc front (Some v ∷ []) rest)) ∙ counted (front ++ Some v ∷ []) rest in
-    omega (arith, one, len-table-push front v, sum_by-cons (λ o. cond (is_some o) 1 0) (Some v) rest)
-
--- as many arrays as slots that are taken
-pub len-table-count : {V : Type 0} (slots : List (Option V)) → map.len (table slots) ≡ count_by is_some slots
-len-table-count {V} slots =
-    let none : map.len (table {V = V} []) ≡ 0 = map.len-empty int_cmp V in
-    omega (arith, counted [] slots, none)
 
 -- an array that stays the same leaves the others and itself
 pub insert-same : (arrays : map.FinMap int_cmp Pairs) (h : ℤ) → map.contains_key arrays h ≡ true → map.insert arrays h (pairs_at arrays h) ≡ arrays

@@ -105,6 +105,13 @@ impl Iterators {
         Ok(key as i32)
     }
 
+    /// How many iterators there are.
+    pub fn live(&self) -> usize
+        ensures { result ≡ map.len self.now }
+    {
+        self.slab.len()
+    }
+
     /// Whether a number is that of an iterator.
     pub fn is_iterator(&self, number: i32) -> bool
         ensures { result ≡ map.contains_key self.now number }

@@ -1,13 +1,14 @@
 -- What the finite map of a list of slots answers, and what a write of one slot does to it.
-use Rattle.std.proofs.Common.{◌≡◌, ◌≢◌, ℕ, zero, suc, ℤ, pos, negsuc, ◌+◌, ◌-◌, ◌<◌, ◌≤◌, ◌<ℤ◌, List, [], ◌∷◌, ◌++◌, length, set, get_or, Option, Some, None, is_some, cond, Bool, true, false, refl, sym, ap, ◌∙◌, arith, rules, inl, inr, add-zero, true≢false, get_or-set_other, get_or-set_same, length-append}
-use Rattle.std.proofs.lemmas.List.{get_or_append_left, get_or_past, get_or_push, set_past}
+use Rattle.std.proofs.Common.{◌≡◌, ◌≢◌, ℕ, zero, suc, ℤ, pos, negsuc, ◌+◌, ◌<◌, ◌<ℤ◌, List, [], ◌∷◌, ◌++◌, length, count_by, get_or, Option, Some, None, is_some, cond, Bool, true, false, refl, sym, ap, ◌∙◌, arith, rules, inl, inr, add-zero, true≢false, length-append}
+use Rattle.std.proofs.lemmas.List.{append_assoc, append-nil, get_or_append_left, get_or_past, get_or_push}
+use Rattle.std.proofs.lemmas.List.Sums.{sum_by-cons}
 use Rattle.std.proofs.lemmas.Bool.{cases_lt}
 use Rattle.std.specs.declared.cmp.Ordering.TheVariants.{Less, Greater}
 use Rattle.std.specs.Ordering.{int_cmp, int_eq}
 use Rattle.std.specs.Cmp.{int_cmp_is, int_cmp_total, tied_itself, signed_Decides}
-use Rattle.std.proofs.lemmas.Option.{none-some}
 use Rattle.std.specs.FinMap as map
 use Rattle.std.specs.FinMap.{find, int_cmp-IsAntisymmetric}
+use Rattle.slab.specs.Slab.{Slab, Updates}
 use Rattle.tables.specs.Tables.{entries_from, table, Writes}
 
 module _ {V : Type 0} where
@@ -49,21 +50,6 @@ module _ {V : Type 0} where
   pub get-table-below_zero : (slots : List (Option V)) (h : ℤ) → h <ℤ pos 0 → map.get (table slots) h ≡ None
   get-table-below_zero slots (pos k) below = absurd (grind (arith))
   get-table-below_zero slots (negsuc n) below = get-table-negative slots n
-
-  -- no more values than slots
-  counted : (key : ℕ) (slots : List (Option V)) → map.len (map.from_entries {R = int_cmp} (entries_from key slots)) ≤ length slots
-  counted key [] = omega (arith, map.len-empty int_cmp V)
-  counted key (None ∷ rest) = omega (arith, counted (key + 1) rest)
-  counted key (Some v ∷ rest) =
-      let fresh : map.get (map.from_entries {R = int_cmp} (entries_from (key + 1) rest)) (pos key) ≡ None
-      = map.get-from_entries int_cmp_total _ (pos key) ∙ found_before key (key + 1) rest (omega arith) in
-      let one_more : map.len (map.from_entries {R = int_cmp} (entries_from key (Some v ∷ rest))) ≡ map.len (map.from_entries {R = int_cmp} (entries_from (key + 1) rest)) + 1
-      = map.len-insert int_cmp_total _ (pos key) v
-      ∙ ap (λ o. cond (is_some o) (map.len (map.from_entries {R = int_cmp} (entries_from (key + 1) rest))) (map.len (map.from_entries {R = int_cmp} (entries_from (key + 1) rest)) + 1)) fresh in
-      omega (arith, counted (key + 1) rest, one_more)
-
-  pub len-table : (slots : List (Option V)) → map.len (table slots) ≤ length slots
-  len-table slots = counted 0 slots
 
   get-Writes : (key : ℕ) (slot : Option V) (old new : List (Option V)) → Writes key slot old new → (q : ℕ) → get_or new q None ≡ cond (int_eq (pos q) (pos key)) slot (get_or old q None)
   get-Writes key slot old new w q = by (int_eq (pos q) (pos key)) refl
@@ -109,7 +95,7 @@ module _ {V : Type 0} where
       map.same_map int_cmp_total int_cmp-IsAntisymmetric _ _ (λ q. remove_absent slots h q (get-table-below_zero slots h below))
 
   -- a slot put at the end
-  pub Writes-push : (key : ℕ) (slot : Option V) (slots : List (Option V)) → length slots ≡ key → Writes key slot slots (slots ++ slot ∷ [])
+  Writes-push : (key : ℕ) (slot : Option V) (slots : List (Option V)) → length slots ≡ key → Writes key slot slots (slots ++ slot ∷ [])
   Writes-push key slot slots end = record {
     written = get_or_push slots slot None key end;
     others = λ k other. elim (cases_lt k (length slots)) [
@@ -118,46 +104,42 @@ module _ {V : Type 0} where
     ];
   }
 
-  -- a slot emptied where it stands, if it does
-  pub Writes-set : (key : ℕ) (slots : List (Option V)) → Writes key None slots (set slots key None)
-  Writes-set key slots = record {
-    written = elim (cases_lt key (length slots)) [
-      | inl low ↦ get_or-set_same slots key None None low
-      | inr high ↦ ap (λ (s : List (Option V)). get_or s key None) (set_past slots key None high) ∙ get_or_past slots key None high
-    ];
-    others = λ k other. get_or-set_other slots key k None None other;
-  }
-
-  -- a table in which some number has a value is not empty
-  len-positive : (m : map.FinMap int_cmp V) (h : ℤ) (v : V) → map.get m h ≡ Some v → 1 ≤ map.len m
-  len-positive m h v found = by (map.len m) refl
-    where
-      by : (n : ℕ) → map.len m ≡ n → 1 ≤ map.len m
-      by zero e = absurd (none-some v (sym (map.get-empty int_cmp h) ∙ ap (λ (t : map.FinMap int_cmp V). map.get t h) (sym (map.empty_of_len m e)) ∙ found))
-      by (suc n) e = omega (arith, e)
-
   -- a value put at the end, under the number of slots that there were
-  pub get-table-end : (slots : List (Option V)) (key : ℕ) → length slots ≡ key → map.get (table slots) (pos key) ≡ None
+  get-table-end : (slots : List (Option V)) (key : ℕ) → length slots ≡ key → map.get (table slots) (pos key) ≡ None
   get-table-end slots key end = get-table slots key ∙ get_or_past slots key None (omega (arith, end))
 
-  pub table-push : (slots : List (Option V)) (key : ℕ) (v : V) → length slots ≡ key → table (slots ++ Some v ∷ []) ≡ map.insert (table slots) (pos key) v
+  table-push : (slots : List (Option V)) (key : ℕ) (v : V) → length slots ≡ key → table (slots ++ Some v ∷ []) ≡ map.insert (table slots) (pos key) v
   table-push slots key v end = table-insert key v slots (slots ++ Some v ∷ []) (Writes-push key (Some v) slots end)
 
-  pub len-table-push : (slots : List (Option V)) (v : V) → map.len (table (slots ++ Some v ∷ [])) ≡ map.len (table slots) + 1
+  len-table-push : (slots : List (Option V)) (v : V) → map.len (table (slots ++ Some v ∷ [])) ≡ map.len (table slots) + 1
   len-table-push slots v =
       ap (λ (t : map.FinMap int_cmp V). map.len t) (table-push slots (length slots) v refl)
       ∙ map.len-insert int_cmp_total (table slots) (pos (length slots)) v
       ∙ ap (λ o. cond (is_some o) (map.len (table slots)) (map.len (table slots) + 1)) (get-table-end slots (length slots) refl)
 
-  -- a slot emptied, under its number
-  pub table-set : (slots : List (Option V)) (key : ℕ) → table (set slots key None) ≡ map.remove (table slots) (pos key)
-  table-set slots key = table-remove key slots (set slots key None) (Writes-set key slots)
+  -- what a slab's contracts say of a changed key
+  pub writes_slot : (old new : Slab V) (key : ℕ) (slot : Option V) → Updates old new key slot → Writes key slot old.slots new.slots
+  writes_slot old new key slot u = record { written = u.changed; others = u.others }
 
-  pub len-table-set : (slots : List (Option V)) (key : ℕ) (v : V) → get_or slots key None ≡ Some v → map.len (table (set slots key None)) + 1 ≡ map.len (table slots)
-  len-table-set slots key v found =
-      let there : map.get (table slots) (pos key) ≡ Some v = get-table slots key ∙ found in
-      let less : map.len (table (set slots key None)) ≡ map.len (table slots) - 1
-      = ap (λ (t : map.FinMap int_cmp V). map.len t) (table-set slots key)
-      ∙ map.len-remove int_cmp_total (table slots) (pos key)
-      ∙ ap (λ o. cond (is_some o) (map.len (table slots) - 1) (map.len (table slots))) there in
-      omega (arith, less, len-positive (table slots) (pos key) v there)
+  entries-hole : (key : ℕ) (slots : List (Option V)) → entries_from key (slots ++ None ∷ []) ≡ entries_from key slots
+  entries-hole key [] = refl
+  entries-hole key (None ∷ rest) = entries-hole (key + 1) rest
+  entries-hole key (Some v ∷ rest) = ap (λ more. (pos key, v) ∷ more) (entries-hole (key + 1) rest)
+
+  counted : (front rest : List (Option V)) → map.len (table (front ++ rest)) ≡ map.len (table front) + count_by is_some rest
+  counted front [] = let same = ap (λ slots. map.len (table slots)) (append-nil front) in omega (arith, same)
+  counted front (None ∷ rest) =
+      let one : map.len (table (front ++ None ∷ rest)) ≡ map.len (table (front ++ None ∷ [])) + count_by is_some rest
+      = ap (λ slots. map.len (table slots)) (sym (append_assoc front (None ∷ []) rest)) ∙ counted (front ++ None ∷ []) rest in
+      let hole : map.len (table (front ++ None ∷ [])) ≡ map.len (table front) = ap (λ es. map.len (map.from_entries {R = int_cmp} es)) (entries-hole 0 front) in
+      omega (arith, one, hole, sum_by-cons (λ o. cond (is_some o) 1 0) None rest)
+  counted front (Some v ∷ rest) =
+      let one : map.len (table (front ++ Some v ∷ rest)) ≡ map.len (table (front ++ Some v ∷ [])) + count_by is_some rest
+      = ap (λ slots. map.len (table slots)) (sym (append_assoc front (Some v ∷ []) rest)) ∙ counted (front ++ Some v ∷ []) rest in
+      omega (arith, one, len-table-push front v, sum_by-cons (λ o. cond (is_some o) 1 0) (Some v) rest)
+
+  -- as many values as slots that are taken
+  pub len-table-count : (slots : List (Option V)) → map.len (table slots) ≡ count_by is_some slots
+  len-table-count slots =
+      let none : map.len (table {V = V} []) ≡ 0 = map.len-empty int_cmp V in
+      omega (arith, counted [] slots, none)

@@ -1,8 +1,8 @@
 use Rattle.std.proofs.Common.{◌≤ℤ◌, ℤ, pos, w32, None, ap, sym, subst, ◌∙◌}
 use Rattle.std.proofs.lemmas.Int.{to_z-of_z}
 use Rattle.std.specs.FinMap as map
-use Rattle.tables.proofs.TableLemmas.{table-remove}
-use Rattle.host_arrays.proofs.NumberLemmas.{taken_from_zero, taken_slot, writes_slot}
+use Rattle.tables.proofs.TableLemmas.{table-remove, writes_slot}
+use Rattle.host_arrays.proofs.NumberLemmas.{taken_from_zero, taken_slot}
 use Rattle.host_elements.proofs.iterators.Iterators.free.Goals as goal
 
 pub slot_of-requires : goal.slot_of-requires
