@@ -14,7 +14,7 @@ use Rattle.awk_state.specs.SharedState.{◌>>=◌}
 use Rattle.ere_match.specs.declared.automaton.Auto.{Auto}
 use Rattle.std.proofs.lemmas.Bool.{cases_Bool}
 use Rattle.host_format.specs.Expressions.{IsExpression, is_stop_of_ere}
-use Rattle.host_format.specs.Separators.{Separates}
+use Rattle.host_format.specs.Separators.{IsLong, Separates}
 use Rattle.host_format.specs.declared.sep.Sep.TheVariants as seps
 use Rattle.host_format.specs.Outcomes.{IsStopOf}
 
@@ -52,7 +52,10 @@ byte_separates (c ∷ []) some one other =
     (Byte c, ap (λ b. Ok (if b then Blanks else Byte c)) (not_same c other), refl)
 byte_separates (c ∷ d ∷ rest) some one other = absurd (omega arith)
 
-pub ere_separates : (text : List ℕ) (auto : Auto) → 2 ≤ length text → IsExpression text auto → Separates text (seps.Ere auto)
-ere_separates [] auto more x = absurd (omega arith)
-ere_separates (c ∷ []) auto more x = absurd (omega arith)
-ere_separates (c ∷ d ∷ rest) auto more x = (Expression x.0, ap (λ r. r >>= λ t. Ok (Expression t)) x.1, x.2)
+pub long_text : (text : List ℕ) → 2 ≤ length text → IsLong text
+long_text [] more = absurd (omega arith)
+long_text (c ∷ []) more = absurd (omega arith)
+long_text (c ∷ d ∷ rest) more = refl
+
+pub ere_separates : (text : List ℕ) (auto : Auto) → IsLong text → IsExpression text auto → Separates text (seps.Ere auto)
+ere_separates text auto long x = (Expression x.0, long ∙ ap (λ r. r >>= λ t. Ok (Expression t)) x.1, x.2)

@@ -2,6 +2,8 @@
 use Rattle.std.specs.Prelude.{◌≡◌, ℕ, List, Ok}
 use Rattle.ere_match.specs.Autos.{IsAutoOf}
 use Rattle.awk_state.specs.Fields.{Separator, Blanks, Nothing, Byte, Expression, separator_of}
+use Rattle.awk_state.specs.FirstMatch.{expression_of}
+use Rattle.awk_state.specs.SharedState.{◌>>=◌}
 use Rattle.host_format.specs.declared.sep.Sep.{Sep}
 use Rattle.host_format.specs.declared.sep.Sep.TheVariants as seps
 
@@ -11,6 +13,10 @@ IsSep seps.EachByte Nothing = Unit {0}
 IsSep (seps.Byte b) (Byte c) = b ≡ c
 IsSep (seps.Ere auto) (Expression t) = IsAutoOf auto t
 IsSep sep separator = ⊥
+
+-- a text that means the expression that it is
+abbrev pub IsLong : List ℕ → Type 0
+IsLong text = separator_of text ≡ (expression_of text >>= λ t. Ok (Expression t))
 
 -- the separator that a text means
 abbrev pub Separates : List ℕ → Sep → Type 0

@@ -107,6 +107,29 @@ fn split_by_ere(
     Ok(spans)
 }
 
+/// The pieces of a text between the matches of an expression that are not empty, as parts of it. An empty text has none. Where `newlines` says so,
+/// newlines separate too; of a newline and a match the earlier counts, and at one place the longer.
+///
+/// # Errors
+///
+/// There is no memory.
+pub fn split_by_expression(
+    alloc: Global,
+    text: &[u8],
+    auto: &mut Auto,
+    newlines: bool,
+) -> Result<Vec<Span>, AllocError>
+    requires { IsAuto auto.old }
+    ensures ok { (t : Tree) → IsAutoOf auto.old t → IfOk result (λ spans. AreSpans text.now spans.items (pieces_of (Expression t) newlines text.now)) }
+    ensures kept { (t : Tree) → IsAutoOf auto.old t → IsAutoOf auto.new t }
+{
+    if text.is_empty() {
+        return Ok(Vec::new(alloc));
+    }
+    let spans = split_by_ere(alloc, text, auto, newlines)?;
+    Ok(spans)
+}
+
 fn byte_marks(byte: u8, newlines: bool) -> Marks
     ensures { result ≡ (if newlines then marks.ByteOrNewline byte else marks.Byte byte) }
 {

@@ -1,8 +1,8 @@
 //! What stands between fields.
-ghost use Rattle.std.specs.Prelude.{◌≡◌, IfErr, IfOk};
+ghost use Rattle.std.specs.Prelude.{IfErr, IfNone, IfOk, IfSome};
 ghost use Rattle.awk_state.specs.Fields.{separator_of};
 ghost use Rattle.host_format.specs.Outcomes.{IsStopOf};
-ghost use Rattle.host_format.specs.Separators.{IsAnySep, Separates};
+ghost use Rattle.host_format.specs.Separators.{IsAnySep, IsLong, Separates};
 
 use crate::eres::expression;
 use awk_values::Stop;
@@ -23,7 +23,26 @@ pub enum Sep {
 }
 
 impl Sep {
-    /// What a separator's text means: one space, blanks; another byte, that byte; no byte, nothing; more bytes, an expression.
+    /// What a separator's text means where it is no expression: one space, blanks; another byte, that byte; no byte, nothing.
+    pub fn plain(text: &[u8]) -> Option<Sep>
+        ensures some { IfSome result (λ sep. Separates text.now sep) }
+        ensures sep { IfSome result IsAnySep }
+        ensures none { IfNone result (IsLong text.now) }
+    {
+        match text {
+            [] => Some(Sep::EachByte),
+            [byte] => {
+                if *byte == b' ' {
+                    Some(Sep::Blanks)
+                } else {
+                    Some(Sep::Byte(*byte))
+                }
+            }
+            _ => None,
+        }
+    }
+
+    /// What a separator's text means: where it has more bytes than one, an expression.
     ///
     /// # Errors
     ///
@@ -33,19 +52,10 @@ impl Sep {
         ensures sep { IfOk result IsAnySep }
         ensures err { IfErr result (IsStopOf (separator_of text.now)) }
     {
-        match text {
-            [] => Ok(Sep::EachByte),
-            [byte] => {
-                if *byte == b' ' {
-                    Ok(Sep::Blanks)
-                } else {
-                    Ok(Sep::Byte(*byte))
-                }
-            }
-            _ => {
-                let auto = expression(alloc, text)?;
-                Ok(Sep::Ere(auto))
-            }
+        if let Some(sep) = Sep::plain(text) {
+            return Ok(sep);
         }
+        let auto = expression(alloc, text)?;
+        Ok(Sep::Ere(auto))
     }
 }

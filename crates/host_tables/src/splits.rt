@@ -20,6 +20,7 @@ use host_format::Span;
 use host_handles::Handles;
 use host_texts::counted;
 use host_values::Refusal;
+use kept_expressions::Expressions;
 use std::alloc::Global;
 use wasm_store::Word;
 
@@ -42,13 +43,14 @@ fn take_pieces(
     }
 }
 
-/// Splits a text at a separator, or at the matches of an expression: the array holds the pieces, by their numbers from 1 on, and nothing else.
+/// Splits a text at a separator, or at the matches of an expression, which is kept: the array holds the pieces, by their numbers from 1 on, and nothing else.
 ///
 /// # Errors
 ///
 /// A trap, which changes nothing; a fault, which is to be kept, and changes no array; or want of memory.
 pub fn split(
     alloc: Global,
+    expressions: &mut Expressions,
     arrays: &mut Arrays,
     handles: &mut Handles,
     words: &[Word],
@@ -61,7 +63,7 @@ pub fn split(
         Ok(said) => said,
         Err(kind) => return Err(Refusal::Trap(kind)),
     };
-    let Ok(found) = split_outcome(alloc, value, between, is_ere) else {
+    let Ok(found) = split_outcome(alloc, expressions, value, between, is_ere) else {
         return Err(Refusal::NoMemory);
     };
     handles.take(first);

@@ -69,7 +69,13 @@ impl Tables {
         requires { self.old.fault ≡ None }
         ensures { (f : HostForm) (memory : List ℕ) → IsTableCall (Import.Of row.Split) (of_tables self.old f) words.now memory result (of_tables self.new f) }
     {
-        split(self.alloc, &mut self.arrays, &mut self.handles, words)
+        split(
+            self.alloc,
+            &mut self.texts.expressions,
+            &mut self.arrays,
+            &mut self.handles,
+            words,
+        )
     }
 
     /// Gives a value up, also where a fault is kept.

@@ -1,14 +1,16 @@
 //! An expression's text, with its automaton.
-ghost use Rattle.std.specs.Prelude.{◌≡◌, IfErr, IfOk, Ok, true};
+ghost use Rattle.std.specs.Prelude.{◌≡◌, IfErr, IfOk, Ok, false, true};
 ghost use Rattle.ere_syntax.specs.Tree.{Tree};
 ghost use Rattle.ere_match.specs.FirstMatch.{IsFirstMatch, IsMatch};
 ghost use Rattle.awk_state.specs.FirstMatch.{expression_of};
+ghost use Rattle.awk_state.specs.Fields.{Expression, pieces_of};
+ghost use Rattle.host_format.specs.Spans.{AreSpans};
 ghost use Rattle.host_format.specs.Outcomes.{IsStopOf};
 ghost use Rattle.host_format.specs.Substitutions.{substitution};
 
 use awk_values::{Bytes, Stop};
 use ere_match::{Auto, first_match, is_match};
-use host_format::{Substituted, expression, substitute};
+use host_format::{Span, Substituted, expression, split_by_expression, substitute};
 use std::alloc::{AllocError, Global};
 use std::marker::Model;
 
@@ -67,6 +69,15 @@ impl Matcher {
     {
         let found = first_match(&mut self.auto, text, 0)?;
         Ok(found)
+    }
+
+    /// The pieces of the text between the matches that are not empty, as parts of it. An empty text has none.
+    pub fn split(&mut self, alloc: Global, text: &[u8]) -> Result<Vec<Span>, AllocError>
+        ensures pieces { IfOk result (λ spans. (t : Tree) × (expression_of self.old ≡ Ok t) × AreSpans text.now spans.items (pieces_of (Expression t) false text.now)) }
+        ensures kept { self.new ≡ self.old }
+    {
+        let spans = split_by_expression(alloc, text, &mut self.auto, false)?;
+        Ok(spans)
     }
 
     /// The text with its first match, or with every match, replaced.
