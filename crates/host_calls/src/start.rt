@@ -1,5 +1,6 @@
 //! The host's beginning and its end.
 ghost use Rattle.std.specs.Prelude.{◌≡◌, IfErr, IfOk};
+ghost use Rattle.std.specs.FinMap as map;
 ghost use Rattle.form_meaning.specs.Shown.{Shown};
 ghost use Rattle.host_calls.specs.Forms.{host_form};
 ghost use Rattle.host_step.specs.Starts.{state_at_start};
@@ -50,6 +51,27 @@ impl<W: World> Host<W> {
         ensures { result ≡ self.now.tables.fault }
     {
         self.tables.fault()
+    }
+
+    /// How many values have a handle.
+    pub fn live_values(&self) -> usize
+        ensures { result ≡ map.len (host_form W.state self.now).values }
+    {
+        self.tables.handles.live()
+    }
+
+    /// How many arrays there are, ARGV and ENVIRON counted.
+    pub fn live_arrays(&self) -> usize
+        ensures { result ≡ map.len (host_form W.state self.now).arrays }
+    {
+        self.tables.arrays.live()
+    }
+
+    /// How many iterators there are.
+    pub fn live_iterators(&self) -> usize
+        ensures { result ≡ map.len (host_form W.state self.now).iterators }
+    {
+        self.tables.iterators.live()
     }
 
     /// The world, with the output of the calls.
