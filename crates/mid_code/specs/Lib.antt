@@ -1,4 +1,6 @@
 pub mod ViewNames
 pub mod ViewBodies
 pub mod ViewScope
+pub mod ViewScript
+pub mod ViewSteps
 pub mod ViewTarget

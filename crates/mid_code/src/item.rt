@@ -7,39 +7,49 @@ ghost use Rattle.awk_grammar.specs.View.{view as tree};
 ghost use Rattle.awk_grammar.specs.ViewStmt.{view_item, view_items, view_pattern, view_stmts as tree_stmts};
 ghost use Rattle.mid_program.specs.Items.{print_record, reads_records};
 ghost use Rattle.mid_program.specs.Mid as plain;
-ghost use Rattle.mid_program.specs.Translation.{begin_code, code_of, end_code, items_code, steps_code, where_code};
+ghost use Rattle.mid_program.specs.Translation.{begin_code, code_of, end_code, items_code, one, record_code, steps_code, where_code};
 ghost use Rattle.mid_program.specs.ViewCode.{maybe_then, view_step, view_steps};
 ghost use Rattle.mid_code.specs.ViewScope.{scope_of, texts_of};
+ghost use Rattle.mid_code.specs.ViewSteps.{unboxed};
 
 use crate::build::{over, record};
 use crate::expression::code;
 use crate::scope::Scope;
-use crate::statement::{block, boxed, chosen, done_where, nothing, steps};
+use crate::statement::{
+    block, boxed, chosen, done_where, evaluated, in_turn, nothing, push_step, steps,
+};
 use awk_grammar::{Expr, Item, Pattern, Stmt};
 use awk_state::{Destination, Listed};
 use mid_program::{Code, Operand, Step};
 use std::alloc::{AllocError, Global};
 
 /// The code of an action.
-fn action(scope: &Scope<'_>, body: &[Stmt]) -> Result<Step, AllocError>
-    ensures { IfOk result (λ step. view_step step ≡ plain.Block (steps_code (texts_of scope.now)
-        (scope_of scope.now) (tree_stmts body.now))) }
+fn action(scope: &Scope<'_>, body: &[Stmt]) -> Result<Box<Step>, AllocError>
+    ensures { IfOk result (λ step. view_step step.value ≡ plain.Block (steps_code (texts_of
+        scope.now) (scope_of scope.now) (tree_stmts body.now))) }
 {
-    Ok(block(steps(scope, body)?))
+    block(scope.alloc, steps(scope, body)?)
+}
+
+/// The code that prints the record.
+fn print(alloc: Global) -> Result<Box<Step>, AllocError>
+    ensures { IfOk result (λ step. view_step step.value ≡ plain.Eval (plain.Over (Listed.Print
+        Destination.Standard) (one record_code))) }
+{
+    let mut values = Vec::new(alloc);
+    values.push(Operand::Code(record(alloc)?))?;
+    evaluated(alloc, over(Listed::Print(Destination::Standard), values))
 }
 
 /// The code of an action that is left out.
 #[tactic(auto, using(crate::proofs::StepParts::print_record_is))]
-fn print_record(scope: &Scope<'_>) -> Result<Step, AllocError>
-    ensures { IfOk result (λ step. view_step step ≡ plain.Block (steps_code (texts_of scope.now)
-        (scope_of scope.now) print_record)) }
+fn print_record(scope: &Scope<'_>) -> Result<Box<Step>, AllocError>
+    ensures { IfOk result (λ step. view_step step.value ≡ plain.Block (steps_code (texts_of
+        scope.now) (scope_of scope.now) print_record)) }
 {
-    let mut values = Vec::new(scope.alloc);
-    values.push(Operand::Code(record(scope.alloc)?))?;
-    let print = Step::Eval(over(Listed::Print(Destination::Standard), values));
     let mut steps = Vec::new(scope.alloc);
-    steps.push(print)?;
-    Ok(block(steps))
+    push_step(&mut steps, print(scope.alloc)?)?;
+    block(scope.alloc, steps)
 }
 
 /// The code that opens or closes the range of an item where a pattern is true.
@@ -48,23 +58,24 @@ fn marked(
     number: usize,
     pattern: &Expr,
     is_open: bool,
-) -> Result<Step, AllocError>
-    ensures { IfOk result (λ step. view_step step ≡ plain.If (code_of (texts_of scope.now) (scope_of
-        scope.now) (tree pattern.now)) (plain.Mark number is_open) (plain.Block plain.NoStep)) }
+) -> Result<Box<Step>, AllocError>
+    ensures { IfOk result (λ step. view_step step.value ≡ plain.If (code_of (texts_of scope.now)
+        (scope_of scope.now) (tree pattern.now)) (plain.Mark number is_open) (plain.Block
+        plain.NoStep)) }
 {
     let mark = boxed(scope.alloc, Step::Mark(number, is_open))?;
     done_where(scope, pattern, mark)
 }
 
 /// The code that opens the range of an item where its first pattern is true.
-fn opening(scope: &Scope<'_>, number: usize, first: &Expr) -> Result<Step, AllocError>
-    ensures { IfOk result (λ step. view_step step ≡ plain.If (plain.IsOpen number) (plain.Block
-        plain.NoStep) (plain.If (code_of (texts_of scope.now) (scope_of scope.now) (tree first.now))
-        (plain.Mark number true) (plain.Block plain.NoStep))) }
+fn opening(scope: &Scope<'_>, number: usize, first: &Expr) -> Result<Box<Step>, AllocError>
+    ensures { IfOk result (λ step. view_step step.value ≡ plain.If (plain.IsOpen number)
+        (plain.Block plain.NoStep) (plain.If (code_of (texts_of scope.now) (scope_of scope.now)
+        (tree first.now)) (plain.Mark number true) (plain.Block plain.NoStep))) }
 {
-    let opened = boxed(scope.alloc, marked(scope, number, first, true)?)?;
-    let nothing = boxed(scope.alloc, nothing(scope.alloc))?;
-    Ok(chosen(Code::IsOpen(number), nothing, opened))
+    let opened = marked(scope, number, first, true)?;
+    let nothing = nothing(scope.alloc)?;
+    chosen(scope.alloc, Code::IsOpen(number), nothing, opened)
 }
 
 /// The code that closes the range of an item where its last pattern is true, before its action.
@@ -73,18 +84,16 @@ fn closing(
     number: usize,
     last: &Expr,
     action: Box<Step>,
-) -> Result<Step, AllocError>
-    ensures { IfOk result (λ step. view_step step ≡ plain.If (plain.IsOpen number) (plain.Block
-        (plain.Then (plain.If (code_of (texts_of scope.now) (scope_of scope.now) (tree last.now))
-        (plain.Mark number false) (plain.Block plain.NoStep)) (plain.Then (view_step action.value)
-        plain.NoStep))) (plain.Block plain.NoStep)) }
+) -> Result<Box<Step>, AllocError>
+    ensures { IfOk result (λ step. view_step step.value ≡ plain.If (plain.IsOpen number)
+        (plain.Block (plain.Then (plain.If (code_of (texts_of scope.now) (scope_of scope.now) (tree
+        last.now)) (plain.Mark number false) (plain.Block plain.NoStep)) (plain.Then (view_step
+        action.value) plain.NoStep))) (plain.Block plain.NoStep)) }
 {
-    let mut both = Vec::new(scope.alloc);
-    both.push(marked(scope, number, last, false)?)?;
-    both.push(Box::into_inner(action))?;
-    let both = boxed(scope.alloc, block(both))?;
-    let nothing = boxed(scope.alloc, nothing(scope.alloc))?;
-    Ok(chosen(Code::IsOpen(number), both, nothing))
+    let closed = marked(scope, number, last, false)?;
+    let both = in_turn(scope.alloc, closed, action)?;
+    let nothing = nothing(scope.alloc)?;
+    chosen(scope.alloc, Code::IsOpen(number), both, nothing)
 }
 
 /// The code of an item's action where its pattern is met.
@@ -93,35 +102,39 @@ fn where_met(
     number: usize,
     pattern: &Pattern,
     action: Box<Step>,
-) -> Result<Step, AllocError>
-    ensures { IfOk result (λ step. view_step step ≡ where_code (texts_of scope.now) (scope_of
+) -> Result<Box<Step>, AllocError>
+    ensures { IfOk result (λ step. view_step step.value ≡ where_code (texts_of scope.now) (scope_of
         scope.now) number (view_pattern pattern.now) (view_step action.value)) }
 {
     match pattern {
         Pattern::One(e) => done_where(scope, e, action),
         Pattern::Range(first, last) => {
-            let mut both = Vec::new(scope.alloc);
-            both.push(opening(scope, number, first)?)?;
-            both.push(closing(scope, number, last, action)?)?;
-            Ok(block(both))
+            let closing = closing(scope, number, last, action)?;
+            let opening = opening(scope, number, first)?;
+            in_turn(scope.alloc, opening, closing)
         }
     }
 }
 
 /// The code of an item that is done for each record, by its number.
-fn record_item(scope: &Scope<'_>, number: usize, item: &Item) -> Result<Option<Step>, AllocError>
+fn record_item(
+    scope: &Scope<'_>,
+    number: usize,
+    item: &Item,
+) -> Result<Option<Box<Step>>, AllocError>
     ensures { IfOk result (λ step. (items : List PlainItem)
         → items_code (texts_of scope.now) (scope_of scope.now) number (view_item item.now ∷ items) ≡
-        maybe_then step (items_code (texts_of scope.now) (scope_of scope.now) (suc number) items)) }
+        maybe_then (unboxed step) (items_code (texts_of scope.now) (scope_of scope.now) (suc number)
+        items)) }
 {
     match item {
         Item::Action(body) => Ok(Some(action(scope, body)?)),
         Item::Rule(pattern, body) => {
-            let action = boxed(scope.alloc, action(scope, body)?)?;
+            let action = action(scope, body)?;
             Ok(Some(where_met(scope, number, pattern, action)?))
         }
         Item::PatternOnly(pattern) => {
-            let action = boxed(scope.alloc, print_record(scope)?)?;
+            let action = print_record(scope)?;
             Ok(Some(where_met(scope, number, pattern, action)?))
         }
         Item::Function(_, _, _) | Item::Begin(_) | Item::End(_) | Item::Empty => Ok(None),
@@ -129,10 +142,10 @@ fn record_item(scope: &Scope<'_>, number: usize, item: &Item) -> Result<Option<S
 }
 
 /// The code of an item that is an action of BEGIN.
-fn begin_item(scope: &Scope<'_>, item: &Item) -> Result<Option<Step>, AllocError>
+fn begin_item(scope: &Scope<'_>, item: &Item) -> Result<Option<Box<Step>>, AllocError>
     ensures { IfOk result (λ step. (items : List PlainItem)
         → begin_code (texts_of scope.now) (scope_of scope.now) (view_item item.now ∷ items)
-        ≡ maybe_then step (begin_code (texts_of scope.now) (scope_of scope.now) items)) }
+        ≡ maybe_then (unboxed step) (begin_code (texts_of scope.now) (scope_of scope.now) items)) }
 {
     match item {
         Item::Begin(body) => Ok(Some(action(scope, body)?)),
@@ -146,10 +159,10 @@ fn begin_item(scope: &Scope<'_>, item: &Item) -> Result<Option<Step>, AllocError
 }
 
 /// The code of an item that is an action of END.
-fn end_item(scope: &Scope<'_>, item: &Item) -> Result<Option<Step>, AllocError>
+fn end_item(scope: &Scope<'_>, item: &Item) -> Result<Option<Box<Step>>, AllocError>
     ensures { IfOk result (λ step. (items : List PlainItem)
         → end_code (texts_of scope.now) (scope_of scope.now) (view_item item.now ∷ items)
-        ≡ maybe_then step (end_code (texts_of scope.now) (scope_of scope.now) items)) }
+        ≡ maybe_then (unboxed step) (end_code (texts_of scope.now) (scope_of scope.now) items)) }
 {
     match item {
         Item::End(body) => Ok(Some(action(scope, body)?)),
@@ -163,15 +176,12 @@ fn end_item(scope: &Scope<'_>, item: &Item) -> Result<Option<Step>, AllocError>
 }
 
 /// Adds a step, if there is one.
-fn push_step(steps: &mut Vec<Step>, step: Option<Step>) -> Result<(), AllocError>
-    ensures { OnOk result (steps.new.items ≡ steps.old.items ++ option_to_list step) }
+fn push_found(steps: &mut Vec<Step>, step: Option<Box<Step>>) -> Result<(), AllocError>
+    ensures { OnOk result (steps.new.items ≡ steps.old.items ++ option_to_list (unboxed step)) }
 {
     match step {
         None => Ok(()),
-        Some(step) => {
-            steps.push(step)?;
-            Ok(())
-        }
+        Some(step) => push_step(steps, step),
     }
 }
 
@@ -182,7 +192,7 @@ pub(crate) fn record_items(scope: &Scope<'_>, items: &[Item]) -> Result<Vec<Step
 {
     let mut found = Vec::new(scope.alloc);
     for i in 0..items.len() {
-        push_step(&mut found, record_item(scope, i, &items[i])?)?;
+        push_found(&mut found, record_item(scope, i, &items[i])?)?;
     }
     Ok(found)
 }
@@ -194,7 +204,7 @@ pub(crate) fn begin(scope: &Scope<'_>, items: &[Item]) -> Result<Vec<Step>, Allo
 {
     let mut found = Vec::new(scope.alloc);
     for item in items {
-        push_step(&mut found, begin_item(scope, item)?)?;
+        push_found(&mut found, begin_item(scope, item)?)?;
     }
     Ok(found)
 }
@@ -206,7 +216,7 @@ pub(crate) fn end(scope: &Scope<'_>, items: &[Item]) -> Result<Vec<Step>, AllocE
 {
     let mut found = Vec::new(scope.alloc);
     for item in items {
-        push_step(&mut found, end_item(scope, item)?)?;
+        push_found(&mut found, end_item(scope, item)?)?;
     }
     Ok(found)
 }

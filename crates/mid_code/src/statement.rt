@@ -1,6 +1,6 @@
 //! The code of statements.
 
-ghost use Rattle.std.specs.Prelude.{◌≡◌, ℕ, List, true, false, IfOk};
+ghost use Rattle.std.specs.Prelude.{◌≡◌, ℕ, List, [], ◌∷◌, ◌++◌, true, false, IfOk, OnOk};
 ghost use Rattle.awk_grammar.specs.View.{view as tree};
 ghost use Rattle.awk_grammar.specs.ViewStmt.{view_args, view_jump, view_leaving, view_maybe, view_maybe_simple, view_simple, view_stmt as tree_stmt, view_stmts as tree_stmts, view_target as tree_target, view_word};
 ghost use Rattle.awk_grammar.specs.Stmt.{Jumping, Leave};
@@ -87,44 +87,89 @@ fn printed(
     }
 }
 
+/// A step in a box.
+pub(crate) fn boxed(alloc: Global, step: Step) -> Result<Box<Step>, AllocError>
+    ensures { IfOk result (λ boxed. boxed.value ≡ step) }
+{
+    Ok(Box::new(alloc, step)?)
+}
+
+/// Code whose answer is dropped.
+pub(crate) fn evaluated(alloc: Global, code: Code) -> Result<Box<Step>, AllocError>
+    ensures { IfOk result (λ step. view_step step.value ≡ plain.Eval (view code)) }
+{
+    boxed(alloc, Step::Eval(code))
+}
+
 /// The code of a simple statement.
-fn simple(scope: &Scope<'_>, s: &SimpleStmt) -> Result<Step, AllocError>
-    ensures { IfOk result (λ step. view_step step ≡ plain_step (texts_of scope.now) (scope_of
+fn simple(scope: &Scope<'_>, s: &SimpleStmt) -> Result<Box<Step>, AllocError>
+    ensures { IfOk result (λ step. view_step step.value ≡ plain_step (texts_of scope.now) (scope_of
         scope.now) (view_simple s.now)) }
 {
     match s {
-        SimpleStmt::Eval(e) => Ok(Step::Eval(code(scope, e)?)),
+        SimpleStmt::Eval(e) => evaluated(scope.alloc, code(scope, e)?),
         SimpleStmt::Print(word, args, target) => {
             let listed = listed_of(*word, destination_of(target));
-            Ok(Step::Eval(over(listed, printed(scope, args, target)?)))
+            evaluated(scope.alloc, over(listed, printed(scope, args, target)?))
         }
         SimpleStmt::Delete(name, subscripts) => {
             let key = key(scope, subscripts)?;
-            Ok(Step::Eval(host_array(scope, Primitive::Delete, name, key)?))
+            let deletion = host_array(scope, Primitive::Delete, name, key)?;
+            evaluated(scope.alloc, deletion)
         }
     }
 }
 
-pub(crate) fn block(steps: Vec<Step>) -> Step
+fn block_of(steps: Vec<Step>) -> Step
     ensures { view_step result ≡ plain.Block (view_steps steps.items) }
 {
     Step::Block(steps)
 }
 
-/// What does nothing.
-pub(crate) fn nothing(alloc: Global) -> Step
-    ensures { view_step result ≡ plain.Block plain.NoStep }
+/// Steps one after the other.
+pub(crate) fn block(alloc: Global, steps: Vec<Step>) -> Result<Box<Step>, AllocError>
+    ensures { IfOk result (λ step. view_step step.value ≡ plain.Block (view_steps steps.items)) }
 {
-    block(Vec::new(alloc))
+    boxed(alloc, block_of(steps))
+}
+
+/// Adds a step.
+pub(crate) fn push_step(steps: &mut Vec<Step>, step: Box<Step>) -> Result<(), AllocError>
+    ensures { OnOk result (steps.new.items ≡ steps.old.items ++ step.value ∷ []) }
+{
+    steps.push(Box::into_inner(step))?;
+    Ok(())
+}
+
+/// One step after the other.
+pub(crate) fn in_turn(
+    alloc: Global,
+    first: Box<Step>,
+    second: Box<Step>,
+) -> Result<Box<Step>, AllocError>
+    ensures { IfOk result (λ step. view_step step.value ≡ plain.Block (plain.Then (view_step
+        first.value) (plain.Then (view_step second.value) plain.NoStep))) }
+{
+    let mut steps = Vec::new(alloc);
+    push_step(&mut steps, first)?;
+    push_step(&mut steps, second)?;
+    block(alloc, steps)
+}
+
+/// What does nothing.
+pub(crate) fn nothing(alloc: Global) -> Result<Box<Step>, AllocError>
+    ensures { IfOk result (λ step. view_step step.value ≡ plain.Block plain.NoStep) }
+{
+    block(alloc, Vec::new(alloc))
 }
 
 /// The code of a simple statement, if there is one.
-fn optional_simple(scope: &Scope<'_>, s: &Option<SimpleStmt>) -> Result<Step, AllocError>
-    ensures { IfOk result (λ step. view_step step ≡ maybe_step (texts_of scope.now) (scope_of
+fn optional_simple(scope: &Scope<'_>, s: &Option<SimpleStmt>) -> Result<Box<Step>, AllocError>
+    ensures { IfOk result (λ step. view_step step.value ≡ maybe_step (texts_of scope.now) (scope_of
         scope.now) (view_maybe_simple s.now)) }
 {
     match s {
-        None => Ok(nothing(scope.alloc)),
+        None => nothing(scope.alloc),
         Some(s) => simple(scope, s),
     }
 }
@@ -140,18 +185,17 @@ fn test(scope: &Scope<'_>, e: &Option<Expr>) -> Result<Code, AllocError>
     }
 }
 
-/// A step in a box.
-pub(crate) fn boxed(alloc: Global, step: Step) -> Result<Box<Step>, AllocError>
-    ensures { IfOk result (λ boxed. boxed.value ≡ step) }
-{
-    Ok(Box::new(alloc, step)?)
-}
-
 /// One of two steps, by the truth of a test.
-pub(crate) fn chosen(test: Code, yes: Box<Step>, no: Box<Step>) -> Step
-    ensures { view_step result ≡ plain.If (view test) (view_step yes.value) (view_step no.value) }
+pub(crate) fn chosen(
+    alloc: Global,
+    test: Code,
+    yes: Box<Step>,
+    no: Box<Step>,
+) -> Result<Box<Step>, AllocError>
+    ensures { IfOk result (λ step. view_step step.value ≡ plain.If (view test) (view_step yes.value)
+        (view_step no.value)) }
 {
-    Step::If(test, yes, no)
+    boxed(alloc, Step::If(test, yes, no))
 }
 
 /// The code of `if` and `else`, where both branches have their code.
@@ -160,11 +204,11 @@ fn branches(
     test: &Expr,
     yes: Box<Step>,
     no: Box<Step>,
-) -> Result<Step, AllocError>
-    ensures { IfOk result (λ step. view_step step ≡ plain.If (code_of (texts_of scope.now) (scope_of
-        scope.now) (tree test.now)) (view_step yes.value) (view_step no.value)) }
+) -> Result<Box<Step>, AllocError>
+    ensures { IfOk result (λ step. view_step step.value ≡ plain.If (code_of (texts_of scope.now)
+        (scope_of scope.now) (tree test.now)) (view_step yes.value) (view_step no.value)) }
 {
-    Ok(chosen(code(scope, test)?, yes, no))
+    chosen(scope.alloc, code(scope, test)?, yes, no)
 }
 
 /// The code of `if`, where what is done has its code.
@@ -172,60 +216,108 @@ pub(crate) fn done_where(
     scope: &Scope<'_>,
     test: &Expr,
     done: Box<Step>,
-) -> Result<Step, AllocError>
-    ensures { IfOk result (λ step. view_step step ≡ plain.If (code_of (texts_of scope.now) (scope_of
-        scope.now) (tree test.now)) (view_step done.value) (plain.Block plain.NoStep)) }
+) -> Result<Box<Step>, AllocError>
+    ensures { IfOk result (λ step. view_step step.value ≡ plain.If (code_of (texts_of scope.now)
+        (scope_of scope.now) (tree test.now)) (view_step done.value) (plain.Block plain.NoStep)) }
 {
-    let otherwise = boxed(scope.alloc, nothing(scope.alloc))?;
+    let otherwise = nothing(scope.alloc)?;
     branches(scope, test, done, otherwise)
 }
 
-fn repeated(first: bool, test: Code, body: Box<Step>, next: Box<Step>) -> Step
-    ensures { view_step result ≡ plain.Loop first (view test) (view_step body.value) (view_step
-        next.value) }
+fn repeated(
+    alloc: Global,
+    first: bool,
+    test: Code,
+    body: Box<Step>,
+    next: Box<Step>,
+) -> Result<Box<Step>, AllocError>
+    ensures { IfOk result (λ step. view_step step.value ≡ plain.Loop first (view test) (view_step
+        body.value) (view_step next.value)) }
 {
-    Step::Loop(first, test, body, next)
+    boxed(alloc, Step::Loop(first, test, body, next))
 }
 
 /// The code of `while` and `do`, where the body has its code.
-fn rounds(scope: &Scope<'_>, first: bool, test: &Expr, body: Box<Step>) -> Result<Step, AllocError>
-    ensures { IfOk result (λ step. view_step step ≡ plain.Loop first (code_of (texts_of scope.now)
-        (scope_of scope.now) (tree test.now)) (view_step body.value) (plain.Block plain.NoStep)) }
+fn rounds(
+    scope: &Scope<'_>,
+    first: bool,
+    test: &Expr,
+    body: Box<Step>,
+) -> Result<Box<Step>, AllocError>
+    ensures { IfOk result (λ step. view_step step.value ≡ plain.Loop first (code_of (texts_of
+        scope.now) (scope_of scope.now) (tree test.now)) (view_step body.value) (plain.Block
+        plain.NoStep)) }
 {
-    let next = boxed(scope.alloc, nothing(scope.alloc))?;
-    Ok(repeated(first, code(scope, test)?, body, next))
+    let next = nothing(scope.alloc)?;
+    repeated(scope.alloc, first, code(scope, test)?, body, next)
 }
 
-fn for_each(array: ArrayName, store: Code, body: Box<Step>) -> Step
-    ensures { view_step result ≡ plain.Each (view_array array) (view store) (view_step body.value) }
+fn for_each(
+    alloc: Global,
+    array: ArrayName,
+    store: Code,
+    body: Box<Step>,
+) -> Result<Box<Step>, AllocError>
+    ensures { IfOk result (λ step. view_step step.value ≡ plain.Each (view_array array) (view store)
+        (view_step body.value)) }
 {
-    Step::Each(array, store, body)
+    boxed(alloc, Step::Each(array, store, body))
 }
 
 #[tactic(auto, unfolding(mid_program::specs::Translation::step_code))]
-fn jump(jump: Jump) -> Step
+fn jump(alloc: Global, jump: Jump) -> Result<Box<Step>, AllocError>
     ensures { (texts : List (List ℕ)) (scope : names.Scope)
-        → view_step result ≡ step_code texts scope (Jumping (view_jump jump)) }
+        → IfOk result (λ step. view_step step.value ≡ step_code texts scope (Jumping (view_jump
+        jump))) }
 {
     match jump {
-        Jump::Break => Step::Break,
-        Jump::Continue => Step::Continue,
-        Jump::Next => Step::Next,
+        Jump::Break => boxed(alloc, Step::Break),
+        Jump::Continue => boxed(alloc, Step::Continue),
+        Jump::Next => boxed(alloc, Step::Next),
     }
+}
+
+/// `exit` with a status.
+fn exit_with(alloc: Global, status: Code) -> Result<Box<Step>, AllocError>
+    ensures { IfOk result (λ step. view_step step.value ≡ plain.ExitWith (view status)) }
+{
+    boxed(alloc, Step::ExitWith(status))
+}
+
+/// `return` with a value.
+fn return_with(alloc: Global, value: Code) -> Result<Box<Step>, AllocError>
+    ensures { IfOk result (λ step. view_step step.value ≡ plain.Return (view value)) }
+{
+    boxed(alloc, Step::Return(value))
 }
 
 /// The code of `exit` and `return`.
 #[tactic(auto, unfolding(mid_program::specs::Translation::step_code))]
-fn leave(scope: &Scope<'_>, leaving: Leaving, e: &Option<Expr>) -> Result<Step, AllocError>
-    ensures { IfOk result (λ step. view_step step ≡ step_code (texts_of scope.now) (scope_of
+fn leave(scope: &Scope<'_>, leaving: Leaving, e: &Option<Expr>) -> Result<Box<Step>, AllocError>
+    ensures { IfOk result (λ step. view_step step.value ≡ step_code (texts_of scope.now) (scope_of
         scope.now) (Leave (view_leaving leaving) (view_maybe e.now))) }
 {
     match (leaving, e) {
-        (Leaving::Exit, None) => Ok(Step::Exit),
-        (Leaving::Exit, Some(e)) => Ok(Step::ExitWith(code(scope, e)?)),
-        (Leaving::Return, None) => Ok(Step::Return(Code::Unset)),
-        (Leaving::Return, Some(e)) => Ok(Step::Return(code(scope, e)?)),
+        (Leaving::Exit, None) => boxed(scope.alloc, Step::Exit),
+        (Leaving::Exit, Some(e)) => exit_with(scope.alloc, code(scope, e)?),
+        (Leaving::Return, None) => return_with(scope.alloc, Code::Unset),
+        (Leaving::Return, Some(e)) => return_with(scope.alloc, code(scope, e)?),
     }
+}
+
+/// The rounds of `for`, where its body has its code.
+fn counting(
+    scope: &Scope<'_>,
+    condition: &Option<Expr>,
+    next: &Option<SimpleStmt>,
+    body: Box<Step>,
+) -> Result<Box<Step>, AllocError>
+    ensures { IfOk result (λ step. view_step step.value ≡ plain.Loop true (test_code (texts_of
+        scope.now) (scope_of scope.now) (view_maybe condition.now)) (view_step body.value)
+        (maybe_step (texts_of scope.now) (scope_of scope.now) (view_maybe_simple next.now))) }
+{
+    let next = optional_simple(scope, next)?;
+    repeated(scope.alloc, true, test(scope, condition)?, body, next)
 }
 
 /// The code of `for`, where its body has its code.
@@ -235,66 +327,60 @@ fn counted(
     condition: &Option<Expr>,
     next: &Option<SimpleStmt>,
     body: Box<Step>,
-) -> Result<Step, AllocError>
-    ensures { IfOk result (λ step. view_step step ≡ plain.Block (plain.Then (maybe_step (texts_of
-        scope.now) (scope_of scope.now) (view_maybe_simple first.now)) (plain.Then (plain.Loop true
-        (test_code (texts_of scope.now) (scope_of scope.now) (view_maybe condition.now)) (view_step
-        body.value) (maybe_step (texts_of scope.now) (scope_of scope.now) (view_maybe_simple
-        next.now))) plain.NoStep))) }
+) -> Result<Box<Step>, AllocError>
+    ensures { IfOk result (λ step. view_step step.value ≡ plain.Block (plain.Then (maybe_step
+        (texts_of scope.now) (scope_of scope.now) (view_maybe_simple first.now)) (plain.Then
+        (plain.Loop true (test_code (texts_of scope.now) (scope_of scope.now) (view_maybe
+        condition.now)) (view_step body.value) (maybe_step (texts_of scope.now) (scope_of scope.now)
+        (view_maybe_simple next.now))) plain.NoStep))) }
 {
-    let mut steps = Vec::new(scope.alloc);
-    steps.push(optional_simple(scope, first)?)?;
-    let next = boxed(scope.alloc, optional_simple(scope, next)?)?;
-    steps.push(repeated(true, test(scope, condition)?, body, next))?;
-    Ok(block(steps))
+    let rounds = counting(scope, condition, next, body)?;
+    let first = optional_simple(scope, first)?;
+    in_turn(scope.alloc, first, rounds)
 }
 
 /// The code of `for (key in array)`, where its body has its code.
-fn walked(scope: &Scope<'_>, name: &[u8], array: &[u8], body: Box<Step>) -> Result<Step, AllocError>
-    ensures { IfOk result (λ step. view_step step ≡ plain.Each (array_of (scope_of scope.now)
+fn walked(
+    scope: &Scope<'_>,
+    name: &[u8],
+    array: &[u8],
+    body: Box<Step>,
+) -> Result<Box<Step>, AllocError>
+    ensures { IfOk result (λ step. view_step step.value ≡ plain.Each (array_of (scope_of scope.now)
         array.now) (store_variable_code (variable_of (scope_of scope.now) name.now) (moved 0))
         (view_step body.value)) }
 {
     let variable = scope.variable(name);
     let array = scope.array(array);
     let store = store_variable(scope.alloc, variable, Code::Bound(true, 0))?;
-    Ok(for_each(array, store, body))
+    for_each(scope.alloc, array, store, body)
 }
 
 /// The code of a statement.
 #[cycle(statements)]
 #[tactic(auto, unfolding(mid_program::specs::Translation::step_code))]
-pub(crate) fn step(scope: &Scope<'_>, s: &Stmt) -> Result<Step, AllocError>
-    ensures { IfOk result (λ step. view_step step ≡ step_code (texts_of scope.now) (scope_of
+fn step(scope: &Scope<'_>, s: &Stmt) -> Result<Box<Step>, AllocError>
+    ensures { IfOk result (λ step. view_step step.value ≡ step_code (texts_of scope.now) (scope_of
         scope.now) (tree_stmt s.now)) }
 {
     match s {
-        Stmt::Block(body) => Ok(block(steps(scope, body)?)),
-        Stmt::Empty => Ok(nothing(scope.alloc)),
+        Stmt::Block(body) => block(scope.alloc, steps(scope, body)?),
+        Stmt::Empty => nothing(scope.alloc),
         Stmt::Simple(s) => simple(scope, s),
-        Stmt::If(test, yes) => done_where(scope, test, boxed_step(scope, yes)?),
+        Stmt::If(test, yes) => done_where(scope, test, step(scope, yes)?),
         Stmt::IfElse(test, yes, no) => {
-            let yes = boxed_step(scope, yes)?;
-            branches(scope, test, yes, boxed_step(scope, no)?)
+            let yes = step(scope, yes)?;
+            branches(scope, test, yes, step(scope, no)?)
         }
-        Stmt::While(test, body) => rounds(scope, true, test, boxed_step(scope, body)?),
-        Stmt::Do(body, test) => rounds(scope, false, test, boxed_step(scope, body)?),
+        Stmt::While(test, body) => rounds(scope, true, test, step(scope, body)?),
+        Stmt::Do(body, test) => rounds(scope, false, test, step(scope, body)?),
         Stmt::For(first, condition, next, body) => {
-            counted(scope, first, condition, next, boxed_step(scope, body)?)
+            counted(scope, first, condition, next, step(scope, body)?)
         }
-        Stmt::ForIn(key, array, body) => walked(scope, key, array, boxed_step(scope, body)?),
-        Stmt::Jump(jumping) => Ok(jump(*jumping)),
+        Stmt::ForIn(key, array, body) => walked(scope, key, array, step(scope, body)?),
+        Stmt::Jump(jumping) => jump(scope.alloc, *jumping),
         Stmt::Leave(leaving, e) => leave(scope, *leaving, e),
     }
-}
-
-/// The code of a statement in a box.
-#[cycle(statements)]
-fn boxed_step(scope: &Scope<'_>, s: &Stmt) -> Result<Box<Step>, AllocError>
-    ensures { IfOk result (λ step. view_step step.value
-        ≡ step_code (texts_of scope.now) (scope_of scope.now) (tree_stmt s.now)) }
-{
-    boxed(scope.alloc, step(scope, s)?)
 }
 
 /// The code of statements.
@@ -306,7 +392,7 @@ pub(crate) fn steps(scope: &Scope<'_>, body: &[Stmt]) -> Result<Vec<Step>, Alloc
 {
     let mut found = Vec::new(scope.alloc);
     for s in body {
-        found.push(step(scope, s)?)?;
+        push_step(&mut found, step(scope, s)?)?;
     }
     Ok(found)
 }

@@ -2,13 +2,14 @@
 
 ghost use Rattle.std.specs.Prelude.{◌≡◌, List, map, IfOk};
 ghost use Rattle.awk_resolve.specs.ViewKinds.{view_name, view_name_kinds};
-ghost use Rattle.awk_grammar.specs.ViewStmt.{view_script, view_stmts};
+ghost use Rattle.awk_grammar.specs.ViewStmt.{view_items, view_script, view_stmts};
 ghost use Rattle.mid_program.specs.Kinds.{bodies as bodies_of};
 ghost use Rattle.mid_program.specs.MidMeaning.{EndsAs};
-ghost use Rattle.mid_program.specs.Translation.{declared_code, kind_of, program_of, routine_code};
-ghost use Rattle.mid_program.specs.View.{view_declared, view_kind, view_mid, view_routine, view_texts};
+ghost use Rattle.mid_program.specs.Translation.{begin_code, declared_code, end_code, items_code, kind_of, program_of, program_with, routine_code};
+ghost use Rattle.mid_program.specs.View.{view_declared, view_kind, view_mid, view_routine, view_steps, view_texts};
 ghost use Rattle.mid_code.specs.ViewNames.{script_of, view_bodies};
 ghost use Rattle.mid_code.specs.ViewScope.{scope_of, texts_of as texts_in};
+ghost use Rattle.mid_code.specs.ViewScript.{view_script_code};
 
 use crate::bodies::{bodies, body_at};
 use crate::item::{begin, end, reads_records, record_items};
@@ -16,10 +17,10 @@ use crate::names::Names;
 use crate::scope::Scope;
 use crate::statement::steps;
 use crate::texts::texts_of;
-use awk_grammar::Stmt;
+use awk_grammar::{Item, Stmt};
 use awk_resolve::{NameKind, Resolved};
 use indexmap::IndexSet;
-use mid_program::{Declared, Kind, Mid, Routine};
+use mid_program::{Declared, Kind, Mid, Routine, Step};
 use std::alloc::{AllocError, Global};
 
 /// What a name of the program is; all scalars are boxed.
@@ -102,6 +103,100 @@ fn routines(
     Ok(found)
 }
 
+/// The code of the items.
+#[derive(Drop)]
+struct Actions {
+    begin: Vec<Step>,
+    /// What is done for each record.
+    each: Vec<Step>,
+    end: Vec<Step>,
+}
+
+/// The code of all items.
+fn code_of_items(scope: &Scope<'_>, items: &[Item]) -> Result<Actions, AllocError>
+    ensures begin { IfOk result (λ found. view_steps found.begin.items
+        ≡ begin_code (texts_in scope.now) (scope_of scope.now) (view_items items.now)) }
+    ensures each { IfOk result (λ found. view_steps found.each.items
+        ≡ items_code (texts_in scope.now) (scope_of scope.now) 0 (view_items items.now)) }
+    ensures end { IfOk result (λ found. view_steps found.end.items
+        ≡ end_code (texts_in scope.now) (scope_of scope.now) (view_items items.now)) }
+{
+    let begin = begin(scope, items)?;
+    let each = record_items(scope, items)?;
+    let end = end(scope, items)?;
+    Ok(Actions { begin, each, end })
+}
+
+/// A script's code without its texts.
+#[derive(Drop)]
+struct ScriptCode {
+    globals: Vec<Declared>,
+    routines: Vec<Routine>,
+    ranges: usize,
+    reads: bool,
+    actions: Actions,
+}
+
+/// The code of a script whose names are known by their hashes.
+fn code_by_names(
+    alloc: Global,
+    names: &Names<'_>,
+    texts: &IndexSet<Vec<u8>>,
+    bodies: &[&[Stmt]],
+) -> Result<ScriptCode, AllocError>
+    requires { view_bodies bodies.now ≡ bodies_of (view_script names.now.resolved.now.script.now) }
+    ensures { IfOk result (λ found. view_script_code (view_texts texts.now.keys) found
+        ≡ program_with (view_texts texts.now.keys) (script_of names.now.resolved.now)) }
+{
+    let globals = declared(alloc, &names.resolved.globals)?;
+    let routines = routines(alloc, names, texts, bodies)?;
+    let items = names.resolved.script.items.as_slice();
+    let scope = Scope {
+        alloc,
+        names,
+        texts,
+        parameters: &[],
+    };
+    let actions = code_of_items(&scope, items)?;
+    Ok(ScriptCode {
+        globals,
+        routines,
+        ranges: items.len(),
+        reads: reads_records(items),
+        actions,
+    })
+}
+
+/// The code of a script, by its texts and the bodies of its functions.
+fn script_code(
+    alloc: Global,
+    resolved: &Resolved<'_>,
+    texts: &IndexSet<Vec<u8>>,
+    bodies: &[&[Stmt]],
+) -> Result<ScriptCode, AllocError>
+    requires { view_bodies bodies.now ≡ bodies_of (view_script resolved.now.script.now) }
+    ensures { IfOk result (λ found. view_script_code (view_texts texts.now.keys) found
+        ≡ program_with (view_texts texts.now.keys) (script_of resolved.now)) }
+{
+    let names = Names::new(alloc, resolved)?;
+    code_by_names(alloc, &names, texts, bodies)
+}
+
+fn with_texts(texts: IndexSet<Vec<u8>>, code: ScriptCode) -> Mid
+    ensures { view_mid result ≡ view_script_code (view_texts texts.keys) code }
+{
+    Mid {
+        texts,
+        globals: code.globals,
+        routines: code.routines,
+        ranges: code.ranges,
+        begin: code.actions.begin,
+        reads: code.reads,
+        items: code.actions.each,
+        end: code.actions.end,
+    }
+}
+
 /// The mid code of a script: at each job, input, outside and number of turns it ends as the script does, with the same output.
 ///
 /// # Errors
@@ -113,26 +208,6 @@ pub fn to_mid(alloc: Global, resolved: &Resolved<'_>) -> Result<Mid, AllocError>
 {
     let bodies = bodies(alloc, resolved.script)?;
     let texts = texts_of(alloc, resolved, &bodies)?;
-    let names = Names::new(alloc, resolved)?;
-    let routines = routines(alloc, &names, &texts, &bodies)?;
-    let scope = Scope {
-        alloc,
-        names: &names,
-        texts: &texts,
-        parameters: &[],
-    };
-    let items = resolved.script.items.as_slice();
-    let begin = begin(&scope, items)?;
-    let end = end(&scope, items)?;
-    let record = record_items(&scope, items)?;
-    Ok(Mid {
-        globals: declared(alloc, &resolved.globals)?,
-        routines,
-        ranges: items.len(),
-        begin,
-        reads: reads_records(items),
-        items: record,
-        end,
-        texts,
-    })
+    let code = script_code(alloc, resolved, &texts, &bodies)?;
+    Ok(with_texts(texts, code))
 }
