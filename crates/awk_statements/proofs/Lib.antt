@@ -1,3 +1,4 @@
 pub mod Peeks
 pub mod Blocks
+pub mod Refused
 pub mod Names

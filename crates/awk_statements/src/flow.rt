@@ -9,7 +9,7 @@ ghost use Rattle.awk_grammar.specs.ViewStmt.{view_stmt, view_stmts, view_maybe, 
 ghost use Rattle.awk_expressions.specs.Seen.{seen, Gives};
 ghost use Rattle.awk_statements.specs.Bodies.{seen_body, with_one, do_test_at, loop_over_at, loop_test_at, loop_step_at, loop_body_at};
 
-use crate::held::beside;
+use crate::held::{beside, boxed, pushed};
 use crate::node::block_of;
 use crate::peek::{after_brace, after_else, keys, open, semicolon, while_word};
 use crate::stmt::{condition, optional, optional_simple, simple};
@@ -105,13 +105,11 @@ fn with_statement<'a>(alloc: Global, limit: u32, front: Body<'a>) -> Result<Body
     ensures { Gives seen_body result (with_one (stmt_at limit) (view_stmts front.entry.statements.items) (seen front.entry.rest.now)) }
 {
     let (next, rest) = statement(alloc, limit, front.rest)?;
-    let mut statements = front.statements;
-    statements.push(next)?;
+    let statements = pushed(front.statements, next)?;
     Ok(Body { statements, rest })
 }
 
 #[cycle(flow)]
-#[tactic(auto, using(awk_expressions::proofs::Binds::fails_bind))]
 fn block<'a>(
     alloc: Global,
     limit: u32,
@@ -135,12 +133,11 @@ fn inner<'a>(
     ensures { Gives (λ x. (view_stmt x.0.value, seen x.1.now)) result (stmt_at limit (seen tokens.now)) }
 {
     let (body, rest) = statement(alloc, limit, tokens)?;
-    Ok((Box::new(alloc, body)?, rest))
+    Ok((boxed(alloc, body)?, rest))
 }
 
 /// What stands behind `if`.
 #[cycle(flow)]
-#[tactic(auto, using(awk_expressions::proofs::Binds::fails_bind))]
 fn if_statement<'a>(
     alloc: Global,
     limit: u32,
@@ -156,7 +153,6 @@ fn if_statement<'a>(
 
 /// A condition, its statement, and the `else` behind that, if there is one.
 #[cycle(flow)]
-#[tactic(auto, using(awk_expressions::proofs::Binds::fails_bind))]
 fn else_part<'a>(
     alloc: Global,
     limit: u32,
@@ -176,7 +172,6 @@ fn else_part<'a>(
 
 /// What stands behind `while`.
 #[cycle(flow)]
-#[tactic(auto, using(awk_expressions::proofs::Binds::fails_bind))]
 fn while_loop<'a>(
     alloc: Global,
     limit: u32,
@@ -192,7 +187,6 @@ fn while_loop<'a>(
 
 /// What stands behind `do`.
 #[cycle(flow)]
-#[tactic(auto, using(awk_expressions::proofs::Binds::fails_bind))]
 fn do_loop<'a>(
     alloc: Global,
     limit: u32,
@@ -206,7 +200,6 @@ fn do_loop<'a>(
 }
 
 /// The body of a loop, and the `while` and the condition behind it.
-#[tactic(auto, using(awk_expressions::proofs::Binds::fails_bind))]
 fn do_test<'a>(
     alloc: Global,
     limit: u32,
@@ -223,7 +216,6 @@ fn do_test<'a>(
 
 /// What stands behind `for`.
 #[cycle(flow)]
-#[tactic(auto, using(awk_expressions::proofs::Binds::fails_bind))]
 fn for_loop<'a>(
     alloc: Global,
     limit: u32,
@@ -241,7 +233,6 @@ fn for_loop<'a>(
 
 /// The loop over the keys of an array, and its body.
 #[cycle(flow)]
-#[tactic(auto, using(awk_expressions::proofs::Binds::fails_bind))]
 fn loop_over<'a>(
     alloc: Global,
     limit: u32,
@@ -266,7 +257,6 @@ fn over_keys(alloc: Global, key: &[u8], array: &[u8], body: Box<Stmt>) -> Result
 
 /// What stands behind `for (`, where it is no loop over keys.
 #[cycle(flow)]
-#[tactic(auto, using(awk_expressions::proofs::Binds::fails_bind))]
 fn counted_loop<'a>(
     alloc: Global,
     limit: u32,
@@ -282,7 +272,6 @@ fn counted_loop<'a>(
 
 /// What a counted loop does first, and what stands behind that.
 #[cycle(flow)]
-#[tactic(auto, using(awk_expressions::proofs::Binds::fails_bind))]
 fn loop_test<'a>(
     alloc: Global,
     limit: u32,
@@ -299,7 +288,6 @@ fn loop_test<'a>(
 
 /// What a counted loop does first, its condition, and what stands behind that.
 #[cycle(flow)]
-#[tactic(auto, using(awk_expressions::proofs::Binds::fails_bind))]
 fn loop_step<'a>(
     alloc: Global,
     limit: u32,
@@ -320,7 +308,6 @@ fn loop_step<'a>(
 
 /// The head of a counted loop, and its body.
 #[cycle(flow)]
-#[tactic(auto, using(awk_expressions::proofs::Binds::fails_bind))]
 fn loop_body<'a>(
     alloc: Global,
     limit: u32,
@@ -339,7 +326,6 @@ fn loop_body<'a>(
     Ok((Stmt::For(first, test, step, body), rest))
 }
 
-#[tactic(auto, using(awk_expressions::proofs::Binds::fails_bind))]
 fn jump<'a>(kind: Jump, tokens: &'a [Token<'a>]) -> Result<(Stmt, &'a [Token<'a>]), Refusal>
     ensures { Gives (λ x. (view_stmt x.0, seen x.1.now)) result (jump_at (view_jump kind) (seen tokens.now)) }
 {
@@ -348,7 +334,6 @@ fn jump<'a>(kind: Jump, tokens: &'a [Token<'a>]) -> Result<(Stmt, &'a [Token<'a>
 }
 
 /// What stands behind `exit` or `return`.
-#[tactic(auto, using(awk_expressions::proofs::Binds::fails_bind))]
 fn leave<'a>(
     alloc: Global,
     limit: u32,
@@ -363,7 +348,6 @@ fn leave<'a>(
     Ok((Stmt::Leave(kind, value), rest))
 }
 
-#[tactic(auto, using(awk_expressions::proofs::Binds::fails_bind))]
 fn simple_statement<'a>(
     alloc: Global,
     limit: u32,

@@ -1,8 +1,10 @@
 //! What is held while more is read.
 
-ghost use Rattle.std.specs.Prelude.{◌≡◌, Ok, Err, IfOk, IfErr};
+ghost use Rattle.std.specs.Prelude.{◌≡◌, ◌++◌, ◌∷◌, [], Ok, Err, IfOk, IfErr};
+ghost use Rattle.awk_expressions.specs.declared.fault.Refusal.TheVariants.{NoMemory};
 
 use awk_expressions::Refusal;
+use std::alloc::Global;
 
 /// What is held, and what was read after it; where reading refused, what is held is let go.
 pub(crate) fn beside<T: Drop, U>(held: T, read: Result<U, Refusal>) -> Result<(T, U), Refusal>
@@ -13,4 +15,22 @@ pub(crate) fn beside<T: Drop, U>(held: T, read: Result<U, Refusal>) -> Result<(T
         Ok(read) => Ok((held, read)),
         Err(refusal) => Err(refusal),
     }
+}
+
+/// A value on the heap.
+pub(crate) fn boxed<T: Drop>(alloc: Global, value: T) -> Result<Box<T>, Refusal>
+    ensures value { IfOk result (λ x. x.value ≡ value) }
+    ensures refused { IfErr result (λ e. e ≡ NoMemory) }
+{
+    Ok(Box::new(alloc, value)?)
+}
+
+/// Items and one more.
+pub(crate) fn pushed<T: Drop>(front: Vec<T>, item: T) -> Result<Vec<T>, Refusal>
+    ensures items { IfOk result (λ x. x.items ≡ front.items ++ item ∷ []) }
+    ensures refused { IfErr result (λ e. e ≡ NoMemory) }
+{
+    let mut items = front;
+    items.push(item)?;
+    Ok(items)
 }

@@ -10,7 +10,7 @@ ghost use Rattle.awk_statements.specs.Bodies.{seen_body};
 ghost use Rattle.awk_statements.specs.Names.{seen_names, with_names, one_name, defined_at, seen_items, one_item};
 
 use crate::flow::{Body, statements};
-use crate::held::beside;
+use crate::held::{beside, pushed};
 use crate::peek::{after_name, after_semicolon, open};
 use awk_expressions::{Mode, Refusal, after_comma, close, expression, name, stopped};
 use awk_grammar::{Item, Pattern};
@@ -76,7 +76,7 @@ fn only_name<'a>(
 }
 
 /// Names and one more.
-#[tactic(auto, using(awk_expressions::proofs::Binds::fails_bind, crate::proofs::Names::view_names_push))]
+#[tactic(auto, using(crate::proofs::Names::view_names_push))]
 fn with_name<'a>(
     alloc: Global,
     front: Vec<Vec<u8>>,
@@ -85,8 +85,7 @@ fn with_name<'a>(
     ensures { Gives seen_names result (one_name (view_names front.items) (seen tokens.now)) }
 {
     let (next, rest) = name(alloc, tokens)?;
-    let mut names = front;
-    names.push(next)?;
+    let names = pushed(front, next)?;
     Ok(NamesRead { names, rest })
 }
 
@@ -105,7 +104,6 @@ fn params<'a>(alloc: Global, tokens: &'a [Token<'a>]) -> Result<NamesRead<'a>, R
 }
 
 /// What stands behind the name of a function.
-#[tactic(auto, using(awk_expressions::proofs::Binds::fails_bind))]
 fn function<'a>(
     alloc: Global,
     text: &[u8],
@@ -119,7 +117,6 @@ fn function<'a>(
 }
 
 /// The name of a function, its parameters, and the `)` and the body behind them.
-#[tactic(auto, using(awk_expressions::proofs::Binds::fails_bind))]
 fn defined<'a>(
     alloc: Global,
     text: &[u8],
@@ -175,7 +172,6 @@ fn pattern<'a>(
 }
 
 /// A pattern, and its action or a `;`.
-#[tactic(auto, using(awk_expressions::proofs::Binds::fails_bind))]
 fn rule<'a>(alloc: Global, tokens: &'a [Token<'a>]) -> Result<(Item, &'a [Token<'a>]), Refusal>
     ensures { Gives (λ x. (view_item x.0, seen x.1.now)) result (rule_at 1000 (seen tokens.now)) }
 {
@@ -235,13 +231,12 @@ struct ItemsRead<'a> {
 }
 
 /// Items and one more.
-#[tactic(auto, using(awk_expressions::proofs::Binds::fails_bind, crate::proofs::Names::view_items_push))]
+#[tactic(auto, using(crate::proofs::Names::view_items_push))]
 fn with_item<'a>(alloc: Global, front: ItemsRead<'a>) -> Result<ItemsRead<'a>, Refusal>
     ensures { Gives seen_items result (one_item (view_items front.entry.items.items) (seen front.entry.rest.now)) }
 {
     let (next, rest) = item(alloc, front.rest)?;
-    let mut items = front.items;
-    items.push(next)?;
+    let items = pushed(front.items, next)?;
     Ok(ItemsRead { items, rest })
 }
 

@@ -20,7 +20,6 @@ use awk_tokens::{Keyword, Punctuator, Token, TokenKind};
 use std::alloc::Global;
 
 /// Two expressions or more in parentheses that no `in` follows.
-#[tactic(auto, using(awk_expressions::proofs::Binds::fails_bind))]
 fn enclosed<'a>(
     alloc: Global,
     limit: u32,
@@ -35,7 +34,6 @@ fn enclosed<'a>(
 }
 
 /// The first of the expressions, and the others behind their comma.
-#[tactic(auto, using(awk_expressions::proofs::Binds::fails_bind))]
 fn others<'a>(
     alloc: Global,
     limit: u32,
@@ -75,7 +73,6 @@ fn no_in(tokens: &[Token<'_>]) -> Result<(), Refusal>
 }
 
 /// One expression or more without parentheses around them.
-#[tactic(auto, using(awk_expressions::proofs::Binds::fails_bind))]
 fn listed<'a>(
     alloc: Global,
     limit: u32,
@@ -157,7 +154,6 @@ fn print_target<'a>(
 }
 
 /// What stands behind `print` or `printf`.
-#[tactic(auto, using(awk_expressions::proofs::Binds::fails_bind))]
 fn printing<'a>(
     alloc: Global,
     limit: u32,
@@ -173,7 +169,6 @@ fn printing<'a>(
 }
 
 /// What stands behind `delete`.
-#[tactic(auto, using(awk_expressions::proofs::Binds::fails_bind))]
 fn deletion<'a>(
     alloc: Global,
     limit: u32,
@@ -189,7 +184,6 @@ fn deletion<'a>(
     Ok((SimpleStmt::Delete(array, subscripts.trees), rest))
 }
 
-#[tactic(auto, using(awk_expressions::proofs::Binds::fails_bind))]
 fn evaluation<'a>(
     alloc: Global,
     limit: u32,
