@@ -4,6 +4,7 @@ pub mod Calls
 pub mod Chains
 pub mod Cuts
 pub mod First
+pub mod Following
 pub mod Linking
 pub mod Nesting
 pub mod Operators

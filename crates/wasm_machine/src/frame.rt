@@ -1,6 +1,6 @@
 //! A frame and its steps.
-ghost use Rattle.std.specs.Prelude.{◌≡◌, IfOk, OnOk, if◌then◌else◌, nat_eq, Some, None, slice_get, get_or};
-ghost use Rattle.wasm_machine.specs.Frames.{frame_of, begun, seen, event_of, local_step, settled, code_at, body_now, IsConstantAt, pushed, pushed_or, of_one, of_two, of_two_or, local_set, local_tee, dropped, selected, branch, jump, branch_if, entered, called_through, simple, at_end};
+ghost use Rattle.std.specs.Prelude.{◌≡◌, IfOk, OnOk, if◌then◌else◌, nat_eq, Some, None, slice_get, get_or, take};
+ghost use Rattle.wasm_machine.specs.Frames.{frame_of, begun, seen, event_of, local_step, code_at, body_now, pushed, pushed_or, of_one, of_two, of_two_or, local_set, local_tee, dropped, selected, branch, jump, branch_if, entered, called_through, simple, at_end};
 ghost use Rattle.wasm_store.specs.Words.{binary_of, compare_of, converted, test_of, unary_of};
 
 use crate::access::Access;
@@ -64,6 +64,15 @@ pub(crate) struct Frame {
     pub(crate) at: usize,
 }
 
+/// Leaves the outermost labels.
+fn keep_labels(labels: &mut Vec<Label>, count: usize)
+    ensures { labels.new.items ≡ take count labels.old.items }
+{
+    if count < labels.len() {
+        labels.truncate(count);
+    }
+}
+
 /// Where a branch by a table goes.
 fn target(table: &[u32], other: u32, index: u32) -> u32
     ensures { result ≡ get_or table.now index other }
@@ -91,17 +100,6 @@ fn chosen(
     })
 }
 
-/// A constant at a place.
-pub(crate) fn constant(code: &[Instr], at: usize) -> Option<Word>
-    ensures { IsConstantAt code.now at result }
-{
-    match code.get(at) {
-        Some(Instr::Plain(Simple::I32Const(n))) => Some(Word::I32(*n)),
-        Some(Instr::Plain(Simple::I64Const(n))) => Some(Word::I64(*n)),
-        _ => None,
-    }
-}
-
 impl Frame {
     /// At the beginning of some code, with nothing else. The room that it had stays.
     pub(crate) fn begin(&mut self, code: Rc<Vec<Instr>>)
@@ -114,18 +112,6 @@ impl Frame {
         self.at = 0;
     }
 
-    /// Constants are values already.
-    #[tactic(auto, using(crate::proofs::Settling::settle_on, crate::proofs::Settling::in_code, crate::proofs::Settling::no_more))]
-    fn settle(&mut self) -> Result<(), AllocError>
-        ensures { OnOk result (frame_of self.new ≡ settled (frame_of self.old)) }
-    {
-        while let Some(word) = constant(&self.code, self.at) {
-            self.values.push(word)?;
-            self.at += 1;
-        }
-        Ok(())
-    }
-
     fn push(&mut self, word: Word) -> Result<Event, AllocError>
         ensures { IfOk result
             (λ e. pushed (frame_of self.old) self.old.values (Some word)
@@ -135,81 +121,83 @@ impl Frame {
         Ok(Event::Went)
     }
 
-    fn test(&mut self, ty: ValType, op: ITestOp) -> Result<Event, AllocError>
-        ensures { IfOk result
-            (λ e. of_one (frame_of self.old) (test_of ty op) self.old.values
-            ≡ seen e (frame_of self.new)) }
+    fn test(&mut self, ty: ValType, op: ITestOp) -> Event
+        ensures { of_one (frame_of self.old) (test_of ty op) self.old.values
+            ≡ seen result (frame_of self.new) }
     {
-        let Some(a) = self.values.pop() else {
-            return Ok(Event::Stuck);
+        let Some(a) = self.values.last() else {
+            return Event::Stuck;
         };
         let Some(word) = wasm_store::test(ty, op, a) else {
-            return Ok(Event::Stuck);
+            return Event::Stuck;
         };
-        self.push(word)
+        self.values.replace(word);
+        Event::Went
     }
 
-    fn compare(&mut self, ty: ValType, op: IRelOp) -> Result<Event, AllocError>
-        ensures { IfOk result
-            (λ e. of_two (frame_of self.old) (compare_of ty op) self.old.values
-            ≡ seen e (frame_of self.new)) }
+    fn compare(&mut self, ty: ValType, op: IRelOp) -> Event
+        ensures { of_two (frame_of self.old) (compare_of ty op) self.old.values
+            ≡ seen result (frame_of self.new) }
     {
         let Some(b) = self.values.pop() else {
-            return Ok(Event::Stuck);
+            return Event::Stuck;
         };
-        let Some(a) = self.values.pop() else {
-            return Ok(Event::Stuck);
+        let Some(a) = self.values.last() else {
+            return Event::Stuck;
         };
         let Some(word) = wasm_store::compare(ty, op, a, b) else {
-            return Ok(Event::Stuck);
+            return Event::Stuck;
         };
-        self.push(word)
+        self.values.replace(word);
+        Event::Went
     }
 
-    fn unary(&mut self, ty: ValType, op: IUnOp) -> Result<Event, AllocError>
-        ensures { IfOk result
-            (λ e. of_one (frame_of self.old) (unary_of ty op) self.old.values
-            ≡ seen e (frame_of self.new)) }
+    fn unary(&mut self, ty: ValType, op: IUnOp) -> Event
+        ensures { of_one (frame_of self.old) (unary_of ty op) self.old.values
+            ≡ seen result (frame_of self.new) }
     {
-        let Some(a) = self.values.pop() else {
-            return Ok(Event::Stuck);
+        let Some(a) = self.values.last() else {
+            return Event::Stuck;
         };
         let Some(word) = wasm_store::unary(ty, op, a) else {
-            return Ok(Event::Stuck);
+            return Event::Stuck;
         };
-        self.push(word)
+        self.values.replace(word);
+        Event::Went
     }
 
-    fn binary(&mut self, ty: ValType, op: IBinOp) -> Result<Event, AllocError>
-        ensures { IfOk result
-            (λ e. of_two_or (frame_of self.old) (binary_of ty op) self.old.values
-            ≡ seen e (frame_of self.new)) }
+    fn binary(&mut self, ty: ValType, op: IBinOp) -> Event
+        ensures { of_two_or (frame_of self.old) (binary_of ty op) self.old.values
+            ≡ seen result (frame_of self.new) }
     {
         let Some(b) = self.values.pop() else {
-            return Ok(Event::Stuck);
+            return Event::Stuck;
         };
-        let Some(a) = self.values.pop() else {
-            return Ok(Event::Stuck);
+        let Some(a) = self.values.last() else {
+            return Event::Stuck;
         };
         match wasm_store::binary(ty, op, a, b) {
-            Some(Ok(word)) => self.push(word),
-            Some(Err(kind)) => Ok(Event::Trapped(kind)),
-            None => Ok(Event::Stuck),
+            Some(Ok(word)) => {
+                self.values.replace(word);
+                Event::Went
+            }
+            Some(Err(kind)) => Event::Trapped(kind),
+            None => Event::Stuck,
         }
     }
 
-    fn convert(&mut self, op: CvtOp) -> Result<Event, AllocError>
-        ensures { IfOk result
-            (λ e. of_one (frame_of self.old) (converted op) self.old.values
-            ≡ seen e (frame_of self.new)) }
+    fn convert(&mut self, op: CvtOp) -> Event
+        ensures { of_one (frame_of self.old) (converted op) self.old.values
+            ≡ seen result (frame_of self.new) }
     {
-        let Some(a) = self.values.pop() else {
-            return Ok(Event::Stuck);
+        let Some(a) = self.values.last() else {
+            return Event::Stuck;
         };
         let Some(word) = wasm_store::convert(op, a) else {
-            return Ok(Event::Stuck);
+            return Event::Stuck;
         };
-        self.push(word)
+        self.values.replace(word);
+        Event::Went
     }
 
     fn local_get(&mut self, x: u32) -> Result<Event, AllocError>
@@ -239,20 +227,19 @@ impl Frame {
         Event::Went
     }
 
-    fn local_tee(&mut self, x: u32) -> Result<Event, AllocError>
-        ensures { IfOk result
-            (λ e. local_tee (frame_of self.old) x self.old.values ≡ seen e (frame_of self.new)) }
+    fn local_tee(&mut self, x: u32) -> Event
+        ensures { local_tee (frame_of self.old) x self.old.values
+            ≡ seen result (frame_of self.new) }
     {
         let x = x as usize;
-        let Some(word) = self.values.pop() else {
-            return Ok(Event::Stuck);
+        let Some(word) = self.values.last() else {
+            return Event::Stuck;
         };
         if x >= self.locals.len() {
-            return Ok(Event::Stuck);
+            return Event::Stuck;
         }
-        self.values.push(word)?;
         self.locals[x] = word;
-        Ok(Event::Went)
+        Event::Went
     }
 
     fn discard(&mut self) -> Event
@@ -264,20 +251,20 @@ impl Frame {
         }
     }
 
-    fn select(&mut self) -> Result<Event, AllocError>
-        ensures { IfOk result
-            (λ e. selected (frame_of self.old) self.old.values ≡ seen e (frame_of self.new)) }
+    fn select(&mut self) -> Event
+        ensures { selected (frame_of self.old) self.old.values ≡ seen result (frame_of self.new) }
     {
         let Some(Word::I32(c)) = self.values.pop() else {
-            return Ok(Event::Stuck);
+            return Event::Stuck;
         };
         let Some(b) = self.values.pop() else {
-            return Ok(Event::Stuck);
+            return Event::Stuck;
         };
-        let Some(a) = self.values.pop() else {
-            return Ok(Event::Stuck);
+        let Some(a) = self.values.last() else {
+            return Event::Stuck;
         };
-        self.push(if c == 0 { b } else { a })
+        self.values.replace(if c == 0 { b } else { a });
+        Event::Went
     }
 
     fn call_through(&mut self, ty: u32) -> Event
@@ -338,7 +325,7 @@ impl Frame {
             return Ok(Way::Nowhere);
         }
         let at = self.labels.len() - 1 - n;
-        self.labels.truncate(at + 1);
+        keep_labels(&mut self.labels, at + 1);
         let label = &self.labels[at];
         if !self.values.keep(label.gives)? {
             return Ok(Way::Nowhere);
@@ -387,10 +374,10 @@ impl Frame {
             Simple::Call(n) => Ok(Event::Calls(n)),
             Simple::CallIndirect(n) => Ok(self.call_through(n)),
             Simple::Drop => Ok(self.discard()),
-            Simple::Select => self.select(),
+            Simple::Select => Ok(self.select()),
             Simple::LocalGet(x) => self.local_get(x),
             Simple::LocalSet(x) => Ok(self.local_set(x)),
-            Simple::LocalTee(x) => self.local_tee(x),
+            Simple::LocalTee(x) => Ok(self.local_tee(x)),
             Simple::GlobalGet(x) => Ok(Event::Works(Access::GlobalGet(x))),
             Simple::GlobalSet(x) => Ok(Event::Works(Access::GlobalSet(x))),
             Simple::Load(op, at) => Ok(Event::Works(Access::Load(op, at.offset))),
@@ -399,56 +386,63 @@ impl Frame {
             Simple::MemoryGrow => Ok(Event::Works(Access::MemoryGrow)),
             Simple::I32Const(n) => self.push(Word::I32(n)),
             Simple::I64Const(n) => self.push(Word::I64(n)),
-            Simple::Test(ty, op) => self.test(ty, op),
-            Simple::Compare(ty, op) => self.compare(ty, op),
-            Simple::Unary(ty, op) => self.unary(ty, op),
-            Simple::Binary(ty, op) => self.binary(ty, op),
-            Simple::Convert(op) => self.convert(op),
+            Simple::Test(ty, op) => Ok(self.test(ty, op)),
+            Simple::Compare(ty, op) => Ok(self.compare(ty, op)),
+            Simple::Unary(ty, op) => Ok(self.unary(ty, op)),
+            Simple::Binary(ty, op) => Ok(self.binary(ty, op)),
+            Simple::Convert(op) => Ok(self.convert(op)),
         }
     }
 
-    /// One step.
-    #[tactic(auto, using(wasm_types::proofs::Views::view_block, wasm_types::proofs::Views::view_loop, wasm_types::proofs::Views::view_if))]
+    /// One step. Constants before its instruction are values already.
+    #[tactic(auto, using(crate::proofs::Stepping::end_at, wasm_types::proofs::Views::view_block, wasm_types::proofs::Views::view_loop, wasm_types::proofs::Views::view_if))]
     pub(crate) fn step(&mut self, alloc: Global) -> Result<Event, AllocError>
         ensures { IfOk result (λ e. local_step (frame_of self.old) ≡ seen e (frame_of self.new)) }
     {
-        self.settle()?;
-        let Some(i) = self.code.get(self.at) else {
-            return Ok(self.leave()?.event());
-        };
-        self.at += 1;
-        match i {
-            Instr::Plain(p) => {
-                let p = *p;
-                self.simple(p)
-            }
-            Instr::BrTable(table, other) => {
-                let Some(Word::I32(c)) = self.values.pop() else {
-                    return Ok(Event::Stuck);
-                };
-                let n = target(table.as_slice(), *other, c);
-                Ok(self.jump(n)?.event())
-            }
-            Instr::Block(gives, body) => {
-                let gives = *gives;
-                let body = body.clone()?;
-                self.enter(alloc, false, gives, body)?;
-                Ok(Event::Went)
-            }
-            Instr::Loop(_, body) => {
-                let body = body.clone()?;
-                self.enter(alloc, true, None, body)?;
-                Ok(Event::Went)
-            }
-            Instr::If(gives, yes, no) => {
-                let Some(Word::I32(c)) = self.values.pop() else {
-                    return Ok(Event::Stuck);
-                };
-                let gives = *gives;
-                let body = chosen(c, yes, no)?;
-                self.enter(alloc, false, gives, body)?;
-                Ok(Event::Went)
+        while let Some(i) = self.code.get(self.at) {
+            self.at += 1;
+            match i {
+                Instr::Plain(Simple::I32Const(n)) => {
+                    let word = Word::I32(*n);
+                    self.values.push(word)?;
+                }
+                Instr::Plain(Simple::I64Const(n)) => {
+                    let word = Word::I64(*n);
+                    self.values.push(word)?;
+                }
+                Instr::Plain(p) => {
+                    let p = *p;
+                    return self.simple(p);
+                }
+                Instr::BrTable(table, other) => {
+                    let Some(Word::I32(c)) = self.values.pop() else {
+                        return Ok(Event::Stuck);
+                    };
+                    let n = target(table.as_slice(), *other, c);
+                    return Ok(self.jump(n)?.event());
+                }
+                Instr::Block(gives, body) => {
+                    let gives = *gives;
+                    let body = body.clone()?;
+                    self.enter(alloc, false, gives, body)?;
+                    return Ok(Event::Went);
+                }
+                Instr::Loop(_, body) => {
+                    let body = body.clone()?;
+                    self.enter(alloc, true, None, body)?;
+                    return Ok(Event::Went);
+                }
+                Instr::If(gives, yes, no) => {
+                    let Some(Word::I32(c)) = self.values.pop() else {
+                        return Ok(Event::Stuck);
+                    };
+                    let gives = *gives;
+                    let body = chosen(c, yes, no)?;
+                    self.enter(alloc, false, gives, body)?;
+                    return Ok(Event::Went);
+                }
             }
         }
+        Ok(self.leave()?.event())
     }
 }

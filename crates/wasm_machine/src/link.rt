@@ -1,12 +1,13 @@
 //! Linking: from a module and a host to the beginning of a run (Core 1.0, section 4.5.4).
 ghost use Rattle.std.specs.List.{All};
 ghost use Rattle.std.specs.Prelude.{◌≡◌, ◌↔◌, ◌*◌, ◌≤◌, ◌^◌, IfErr, IfOk, IsTrue, None, OnErr, Some, length, map, MatchResult};
+ghost use Rattle.wasm_machine.specs.Frames.{IsConstantAt};
 ghost use Rattle.wasm_machine.specs.Links.{first_some, first_none, main_at, main_of, number_for, numbers_for, place_of, value_of, least, ElemFits, DataFits, SegmentsFit, filled, poured, limits_or_none, entry_code, beginning, Numbers, Refuses};
 ghost use Rattle.wasm_machine.specs.Machines.{agree, conf_of};
 ghost use Rattle.wasm_types.specs.Typing.{callee_in, typed_in};
 ghost use Rattle.wasm_types.specs.View.{signature_of, view_data, view_elem, view_export, view_import, view_module, views};
 
-use crate::frame::{Frame, constant};
+use crate::frame::Frame;
 use crate::host::HostCalls;
 use crate::stack::Stack;
 use crate::state::{State, callee, typed};
@@ -114,6 +115,17 @@ fn numbers_among<H: HostCalls>(
         }
     }
     Ok(numbers)
+}
+
+/// A constant at a place.
+fn constant(code: &[Instr], at: usize) -> Option<Word>
+    ensures { IsConstantAt code.now at result }
+{
+    match code.get(at) {
+        Some(Instr::Plain(Simple::I32Const(n))) => Some(Word::I32(*n)),
+        Some(Instr::Plain(Simple::I64Const(n))) => Some(Word::I64(*n)),
+        _ => None,
+    }
 }
 
 /// The place that a segment begins at.
