@@ -1,4 +1,4 @@
-/* Prints lines `put KEY` for array_checks: keys of eight letters whose hash, by the plain hasher of the kit, begins the search in the table at the
+/* Prints keys for bench/arrays, one a line: eight letters each, whose hash, by the plain hasher of the kit, begins the search in the table at the
    same place as long as the table has at most 2^BITS places to begin. colliding_keys BITS KEYS; with BITS 0 any keys. */
 #include <stdint.h>
 #include <stdio.h>
@@ -18,7 +18,7 @@ static uint64_t folded(uint64_t a, uint64_t b) {
 static void extend(uint64_t state, int place) {
   if (place == 8) {
     if (((state ^ state >> 32) & mask) == 0) {
-      printf("put %s\n", key);
+      printf("%s\n", key);
       if (--wanted == 0) exit(0);
     }
     return;

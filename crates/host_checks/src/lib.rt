@@ -1,13 +1,9 @@
-//! Tests of the crates of the host and of those below it: each public function once with ample memory, and what no clause says.
+//! Tests of worlds, in memory and real files, and of tables before a script runs.
 #![tactic(auto)]
 
 #[cfg(test)]
-mod handles;
-#[cfg(test)]
-mod number_texts;
+mod beginnings;
 #[cfg(test)]
 mod real_files;
-#[cfg(test)]
-mod values;
 #[cfg(test)]
 mod worlds;
