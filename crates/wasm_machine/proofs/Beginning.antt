@@ -18,7 +18,7 @@ use Rattle.wasm_store.specs.Memories.{MemoryForm, fresh}
 use Rattle.wasm_store.specs.Words.{type_of}
 use Rattle.wasm_machine.specs.declared.link.LinkFault.{LinkFault}
 use Rattle.wasm_machine.specs.declared.link.LinkFault.TheVariants as fault
-use Rattle.wasm_machine.specs.Frames.{LabelForm}
+use Rattle.wasm_machine.specs.Frames.{FrameForm, begun}
 use Rattle.wasm_machine.specs.Hosts.{Finds}
 use Rattle.wasm_machine.specs.Links.{NumberRefused, first_some, first_none, main_type, main_function, main_at, main_of, is_main_name, number_if, number_for, numbers_for, value_of, least, limits_or_none, Refuses, filled, poured, entry_code, beginning}
 use Rattle.wasm_machine.specs.Machines.{CallerForm, ProgramForm, agree}
@@ -107,10 +107,10 @@ begun_ok m p n e = record {
 }
 
 -- A configuration is the beginning, part by part.
-pub beginning_is : (m : ModuleForm) (n : ℕ) (vs lo gl : List Word) (ls : List LabelForm) (code : Instructions) (cs : List CallerForm) (mem : MemoryForm) (t : List (Option ℕ)) →
-    vs ≡ [] → ls ≡ [] → lo ≡ [] → code ≡ entry_code m.start n → cs ≡ [] → mem ≡ poured (fresh (limits_or_none m.memories)) m.data_segments → t ≡ filled (replicate (least m.tables) None) m.elems → gl ≡ map (λ g. value_of g.init) m.globals →
-    record { frame = record { values = vs; labels = ls; locals = lo; code = code }; result = Some ty.I32; callers = cs; memory = mem; table = t; globals = gl } ≡ beginning m n
-beginning_is m n vs lo gl ls code cs mem t a b c d e f g h = cc
+pub beginning_is : (m : ModuleForm) (n : ℕ) (frame : FrameForm) (gl : List Word) (cs : List CallerForm) (mem : MemoryForm) (t : List (Option ℕ)) →
+    frame ≡ begun (entry_code m.start n) → cs ≡ [] → mem ≡ poured (fresh (limits_or_none m.memories)) m.data_segments → t ≡ filled (replicate (least m.tables) None) m.elems → gl ≡ map (λ g. value_of g.init) m.globals →
+    record { frame = frame; result = Some ty.I32; callers = cs; memory = mem; table = t; globals = gl } ≡ beginning m n
+beginning_is m n frame gl cs mem t a b c d e = cc
 
 -- Imports.
 

@@ -4,10 +4,13 @@ pub mod Calls
 pub mod Chains
 pub mod Cuts
 pub mod First
+pub mod Flattening
 pub mod Following
+pub mod Heights
 pub mod Linking
 pub mod Nesting
 pub mod Operators
+pub mod Placing
 pub mod Reduced
 pub mod Reducing
 pub mod Refusals

@@ -1,6 +1,9 @@
+pub mod Callers
 pub mod Codes
+pub mod Flat
 pub mod Frames
 pub mod Hosts
+pub mod Levels
 pub mod Links
 pub mod Machines
 pub mod Reductions

@@ -1,25 +1,17 @@
 //! A frame and its steps.
-ghost use Rattle.std.specs.Prelude.{◌≡◌, IfOk, OnOk, if◌then◌else◌, nat_eq, Some, None, slice_get, get_or, take};
-ghost use Rattle.wasm_machine.specs.Frames.{frame_of, begun, seen, event_of, local_step, code_at, body_now, pushed, pushed_or, of_one, of_two, of_two_or, local_set, local_tee, dropped, selected, branch, jump, branch_if, entered, called_through, simple, at_end};
+ghost use Rattle.std.specs.Prelude.{◌≡◌, ◌↔◌, IfOk, IsTrue, Some, slice_get, get_or};
+ghost use Rattle.wasm_machine.specs.Flat.{code_at};
+ghost use Rattle.wasm_machine.specs.Frames.{frame_of, begun, seen, event_of, local_step, pushed, of_one, of_two, of_two_or, local_set, local_tee, dropped, selected, branch, jump, branch_if, called_through, at_end};
+ghost use Rattle.wasm_types.specs.Syntax.{Done};
 ghost use Rattle.wasm_store.specs.Words.{binary_of, compare_of, converted, test_of, unary_of};
 
 use crate::access::Access;
-use crate::stack::Stack;
+use crate::code::{Code, Op};
+use crate::levels::Levels;
 use std::alloc::{AllocError, Global};
-use std::mem;
 use std::rc::Rc;
 use wasm_store::{TrapKind, Word};
-use wasm_types::{BlockType, CvtOp, IBinOp, IRelOp, ITestOp, IUnOp, Instr, Simple, ValType};
-
-/// Where a branch to a block goes, and what lies under the block's operands.
-#[derive(Drop)]
-pub(crate) struct Label {
-    under: Stack,
-    again: Option<Rc<Vec<Instr>>>,
-    gives: BlockType,
-    rest: Rc<Vec<Instr>>,
-    at: usize,
-}
+use wasm_types::{CvtOp, IBinOp, IRelOp, ITestOp, IUnOp, ValType};
 
 /// How a step within a frame went.
 #[derive(Clone, Copy)]
@@ -43,6 +35,7 @@ pub(crate) enum Way {
 }
 
 impl Way {
+    #[inline(always)]
     fn event(self) -> Event
         ensures { result ≡ event_of self }
     {
@@ -57,23 +50,14 @@ impl Way {
 /// What a call works on.
 #[derive(Drop)]
 pub(crate) struct Frame {
-    pub(crate) values: Stack,
-    pub(crate) labels: Vec<Label>,
+    pub(crate) levels: Levels,
     pub(crate) locals: Vec<Word>,
-    pub(crate) code: Rc<Vec<Instr>>,
+    pub(crate) code: Rc<Code>,
     pub(crate) at: usize,
 }
 
-/// Leaves the outermost labels.
-fn keep_labels(labels: &mut Vec<Label>, count: usize)
-    ensures { labels.new.items ≡ take count labels.old.items }
-{
-    if count < labels.len() {
-        labels.truncate(count);
-    }
-}
-
 /// Where a branch by a table goes.
+#[inline(always)]
 fn target(table: &[u32], other: u32, index: u32) -> u32
     ensures { result ≡ get_or table.now index other }
 {
@@ -83,102 +67,113 @@ fn target(table: &[u32], other: u32, index: u32) -> u32
     }
 }
 
-/// The body that a condition chooses.
-fn chosen(
-    condition: u32,
-    yes: &Rc<Vec<Instr>>,
-    no: &Rc<Vec<Instr>>,
-) -> Result<Rc<Vec<Instr>>, AllocError>
-    ensures { IfOk result
-        (λ body. code_at body 0
-        ≡ (if nat_eq condition 0 then code_at no.now 0 else code_at yes.now 0)) }
-{
-    Ok(if condition == 0 {
-        no.clone()?
-    } else {
-        yes.clone()?
-    })
-}
-
 impl Frame {
-    /// At the beginning of some code, with nothing else. The room that it had stays.
-    pub(crate) fn begin(&mut self, code: Rc<Vec<Instr>>)
-        ensures { frame_of self.new ≡ begun (code_at code 0) }
+    /// At the beginning of some code, with nothing else.
+    pub(crate) fn new(alloc: Global, code: Rc<Code>) -> Frame
+        ensures { frame_of result ≡ begun (code_at code.value 0) }
     {
-        self.values.clear();
-        self.labels.clear();
+        Frame {
+            levels: Levels::new(alloc),
+            locals: Vec::new(alloc),
+            code,
+            at: 0,
+        }
+    }
+
+    /// The same in the room of a frame that is over.
+    #[inline(always)]
+    pub(crate) fn begin(&mut self, code: Rc<Code>)
+        ensures { frame_of self.new ≡ begun (code_at code.value 0) }
+    {
+        self.levels.clear();
         self.locals.clear();
         self.code = code;
         self.at = 0;
     }
 
+    /// Whether no code is left inside the innermost label.
+    #[inline(always)]
+    pub(crate) fn is_done(&self) -> bool
+        ensures { IsTrue result ↔ ((frame_of self.now).code ≡ Done) }
+    {
+        match self.code.get(self.at) {
+            None | Some(Op::End) => true,
+            Some(_) => false,
+        }
+    }
+
+    #[inline(always)]
     fn push(&mut self, word: Word) -> Result<Event, AllocError>
         ensures { IfOk result
-            (λ e. pushed (frame_of self.old) self.old.values (Some word)
+            (λ e. pushed (frame_of self.old) self.old.levels.values (Some word)
             ≡ seen e (frame_of self.new)) }
     {
-        self.values.push(word)?;
+        self.levels.push(word)?;
         Ok(Event::Went)
     }
 
+    #[inline(always)]
     fn test(&mut self, ty: ValType, op: ITestOp) -> Event
-        ensures { of_one (frame_of self.old) (test_of ty op) self.old.values
+        ensures { of_one (frame_of self.old) (test_of ty op) self.old.levels.values
             ≡ seen result (frame_of self.new) }
     {
-        let Some(a) = self.values.last() else {
+        let Some(a) = self.levels.last() else {
             return Event::Stuck;
         };
         let Some(word) = wasm_store::test(ty, op, a) else {
             return Event::Stuck;
         };
-        self.values.replace(word);
+        self.levels.replace(word);
         Event::Went
     }
 
+    #[inline(always)]
     fn compare(&mut self, ty: ValType, op: IRelOp) -> Event
-        ensures { of_two (frame_of self.old) (compare_of ty op) self.old.values
+        ensures { of_two (frame_of self.old) (compare_of ty op) self.old.levels.values
             ≡ seen result (frame_of self.new) }
     {
-        let Some(b) = self.values.pop() else {
+        let Some(b) = self.levels.pop() else {
             return Event::Stuck;
         };
-        let Some(a) = self.values.last() else {
+        let Some(a) = self.levels.last() else {
             return Event::Stuck;
         };
         let Some(word) = wasm_store::compare(ty, op, a, b) else {
             return Event::Stuck;
         };
-        self.values.replace(word);
+        self.levels.replace(word);
         Event::Went
     }
 
+    #[inline(always)]
     fn unary(&mut self, ty: ValType, op: IUnOp) -> Event
-        ensures { of_one (frame_of self.old) (unary_of ty op) self.old.values
+        ensures { of_one (frame_of self.old) (unary_of ty op) self.old.levels.values
             ≡ seen result (frame_of self.new) }
     {
-        let Some(a) = self.values.last() else {
+        let Some(a) = self.levels.last() else {
             return Event::Stuck;
         };
         let Some(word) = wasm_store::unary(ty, op, a) else {
             return Event::Stuck;
         };
-        self.values.replace(word);
+        self.levels.replace(word);
         Event::Went
     }
 
+    #[inline(always)]
     fn binary(&mut self, ty: ValType, op: IBinOp) -> Event
-        ensures { of_two_or (frame_of self.old) (binary_of ty op) self.old.values
+        ensures { of_two_or (frame_of self.old) (binary_of ty op) self.old.levels.values
             ≡ seen result (frame_of self.new) }
     {
-        let Some(b) = self.values.pop() else {
+        let Some(b) = self.levels.pop() else {
             return Event::Stuck;
         };
-        let Some(a) = self.values.last() else {
+        let Some(a) = self.levels.last() else {
             return Event::Stuck;
         };
         match wasm_store::binary(ty, op, a, b) {
             Some(Ok(word)) => {
-                self.values.replace(word);
+                self.levels.replace(word);
                 Event::Went
             }
             Some(Err(kind)) => Event::Trapped(kind),
@@ -186,23 +181,25 @@ impl Frame {
         }
     }
 
+    #[inline(always)]
     fn convert(&mut self, op: CvtOp) -> Event
-        ensures { of_one (frame_of self.old) (converted op) self.old.values
+        ensures { of_one (frame_of self.old) (converted op) self.old.levels.values
             ≡ seen result (frame_of self.new) }
     {
-        let Some(a) = self.values.last() else {
+        let Some(a) = self.levels.last() else {
             return Event::Stuck;
         };
         let Some(word) = wasm_store::convert(op, a) else {
             return Event::Stuck;
         };
-        self.values.replace(word);
+        self.levels.replace(word);
         Event::Went
     }
 
+    #[inline(always)]
     fn local_get(&mut self, x: u32) -> Result<Event, AllocError>
         ensures { IfOk result
-            (λ e. pushed (frame_of self.old) self.old.values (slice_get self.old.locals.items x)
+            (λ e. pushed (frame_of self.old) self.old.levels.values (slice_get self.old.locals.items x)
             ≡ seen e (frame_of self.new)) }
     {
         let Some(word) = self.locals.get(x as usize) else {
@@ -212,12 +209,13 @@ impl Frame {
         self.push(word)
     }
 
+    #[inline(always)]
     fn local_set(&mut self, x: u32) -> Event
-        ensures { local_set (frame_of self.old) x self.old.values
+        ensures { local_set (frame_of self.old) x self.old.levels.values
             ≡ seen result (frame_of self.new) }
     {
         let x = x as usize;
-        let Some(word) = self.values.pop() else {
+        let Some(word) = self.levels.pop() else {
             return Event::Stuck;
         };
         if x >= self.locals.len() {
@@ -227,12 +225,13 @@ impl Frame {
         Event::Went
     }
 
+    #[inline(always)]
     fn local_tee(&mut self, x: u32) -> Event
-        ensures { local_tee (frame_of self.old) x self.old.values
+        ensures { local_tee (frame_of self.old) x self.old.levels.values
             ≡ seen result (frame_of self.new) }
     {
         let x = x as usize;
-        let Some(word) = self.values.last() else {
+        let Some(word) = self.levels.last() else {
             return Event::Stuck;
         };
         if x >= self.locals.len() {
@@ -242,207 +241,204 @@ impl Frame {
         Event::Went
     }
 
+    #[inline(always)]
     fn discard(&mut self) -> Event
-        ensures { dropped (frame_of self.old) self.old.values ≡ seen result (frame_of self.new) }
+        ensures { dropped (frame_of self.old) self.old.levels.values ≡ seen result (frame_of self.new) }
     {
-        match self.values.pop() {
+        match self.levels.pop() {
             Some(_) => Event::Went,
             None => Event::Stuck,
         }
     }
 
+    #[inline(always)]
     fn select(&mut self) -> Event
-        ensures { selected (frame_of self.old) self.old.values ≡ seen result (frame_of self.new) }
+        ensures { selected (frame_of self.old) self.old.levels.values ≡ seen result (frame_of self.new) }
     {
-        let Some(Word::I32(c)) = self.values.pop() else {
+        let Some(Word::I32(c)) = self.levels.pop() else {
             return Event::Stuck;
         };
-        let Some(b) = self.values.pop() else {
+        let Some(b) = self.levels.pop() else {
             return Event::Stuck;
         };
-        let Some(a) = self.values.last() else {
+        let Some(a) = self.levels.last() else {
             return Event::Stuck;
         };
-        self.values.replace(if c == 0 { b } else { a });
+        self.levels.replace(if c == 0 { b } else { a });
         Event::Went
     }
 
     fn call_through(&mut self, ty: u32) -> Event
-        ensures { called_through (frame_of self.old) ty self.old.values
+        ensures { called_through (frame_of self.old) ty self.old.levels.values
             ≡ seen result (frame_of self.new) }
     {
-        match self.values.pop() {
+        match self.levels.pop() {
             Some(Word::I32(at)) => Event::CallsThrough(ty, at),
             _ => Event::Stuck,
         }
     }
 
-    /// Into a block, or a loop that begins again.
-    fn enter(
-        &mut self,
-        alloc: Global,
-        again: bool,
-        gives: BlockType,
-        body: Rc<Vec<Instr>>,
-    ) -> Result<(), AllocError>
-        ensures { OnOk result (frame_of self.new
-            ≡ entered (frame_of self.old) (body_now again body) gives (code_at body 0)) }
-    {
-        let label = Label {
-            under: self.values.lay_down(alloc),
-            again: if again { Some(body.clone()?) } else { None },
-            gives,
-            rest: mem::replace(&mut self.code, body),
-            at: self.at,
-        };
-        self.labels.push(label)?;
-        self.at = 0;
-        Ok(())
-    }
-
     /// Past the innermost label, or out of the function.
-    fn leave(&mut self) -> Result<Way, AllocError>
-        ensures { IfOk result
-            (λ w. at_end (frame_of self.old) (frame_of self.old).labels
-            ≡ seen (event_of w) (frame_of self.new)) }
+    #[inline(always)]
+    fn leave(&mut self) -> Way
+        ensures { at_end (frame_of self.old) (frame_of self.old).labels
+            ≡ seen (event_of result) (frame_of self.new) }
     {
-        let Some(label) = self.labels.pop() else {
-            return Ok(Way::Out);
-        };
-        self.values.lay_under(label.under)?;
-        self.code = label.rest;
-        self.at = label.at;
-        Ok(Way::On)
+        match self.levels.leave() {
+            Some(at) => {
+                self.at = at as usize;
+                Way::On
+            }
+            None => Way::Out,
+        }
     }
 
     /// To a label inside the function.
-    fn branch(&mut self, n: u32) -> Result<Way, AllocError>
-        ensures { IfOk result
-            (λ w. branch (frame_of self.old) n ≡ seen (event_of w) (frame_of self.new)) }
+    #[inline(always)]
+    fn branch(&mut self, n: u32) -> Way
+        ensures { branch (frame_of self.old) n ≡ seen (event_of result) (frame_of self.new) }
     {
-        let n = n as usize;
-        if n >= self.labels.len() {
-            return Ok(Way::Nowhere);
-        }
-        let at = self.labels.len() - 1 - n;
-        keep_labels(&mut self.labels, at + 1);
-        let label = &self.labels[at];
-        if !self.values.keep(label.gives)? {
-            return Ok(Way::Nowhere);
-        }
-        match &label.again {
-            Some(body) => {
-                self.code = body.clone()?;
-                self.at = 0;
-                Ok(Way::On)
+        match self.levels.branch(n) {
+            Some(at) => {
+                self.at = at as usize;
+                Way::On
             }
-            None => self.leave(),
+            None => Way::Nowhere,
         }
     }
 
     /// To any label. The function's own is a return.
-    fn jump(&mut self, n: u32) -> Result<Way, AllocError>
-        ensures { IfOk result
-            (λ w. jump (frame_of self.old) n ≡ seen (event_of w) (frame_of self.new)) }
+    #[inline(always)]
+    fn jump(&mut self, n: u32) -> Way
+        ensures { jump (frame_of self.old) n ≡ seen (event_of result) (frame_of self.new) }
     {
-        if n as usize == self.labels.len() {
-            return Ok(Way::Out);
+        if n as usize == self.levels.depth() {
+            return Way::Out;
         }
         self.branch(n)
     }
 
-    fn branch_if(&mut self, n: u32) -> Result<Way, AllocError>
-        ensures { IfOk result
-            (λ w. branch_if (frame_of self.old) n self.old.values
-            ≡ seen (event_of w) (frame_of self.new)) }
+    #[inline(always)]
+    fn branch_if(&mut self, n: u32) -> Way
+        ensures { branch_if (frame_of self.old) n self.old.levels.values
+            ≡ seen (event_of result) (frame_of self.new) }
     {
-        let Some(Word::I32(c)) = self.values.pop() else {
-            return Ok(Way::Nowhere);
+        let Some(Word::I32(c)) = self.levels.pop() else {
+            return Way::Nowhere;
         };
-        if c == 0 { Ok(Way::On) } else { self.jump(n) }
-    }
-
-    fn simple(&mut self, p: Simple) -> Result<Event, AllocError>
-        ensures { IfOk result (λ e. simple (frame_of self.old) p ≡ seen e (frame_of self.new)) }
-    {
-        match p {
-            Simple::Unreachable => Ok(Event::Trapped(TrapKind::Unreachable)),
-            Simple::Nop => Ok(Event::Went),
-            Simple::Br(n) => Ok(self.jump(n)?.event()),
-            Simple::BrIf(n) => Ok(self.branch_if(n)?.event()),
-            Simple::Return => Ok(Event::Leaves),
-            Simple::Call(n) => Ok(Event::Calls(n)),
-            Simple::CallIndirect(n) => Ok(self.call_through(n)),
-            Simple::Drop => Ok(self.discard()),
-            Simple::Select => Ok(self.select()),
-            Simple::LocalGet(x) => self.local_get(x),
-            Simple::LocalSet(x) => Ok(self.local_set(x)),
-            Simple::LocalTee(x) => Ok(self.local_tee(x)),
-            Simple::GlobalGet(x) => Ok(Event::Works(Access::GlobalGet(x))),
-            Simple::GlobalSet(x) => Ok(Event::Works(Access::GlobalSet(x))),
-            Simple::Load(op, at) => Ok(Event::Works(Access::Load(op, at.offset))),
-            Simple::Store(op, at) => Ok(Event::Works(Access::Store(op, at.offset))),
-            Simple::MemorySize => Ok(Event::Works(Access::MemorySize)),
-            Simple::MemoryGrow => Ok(Event::Works(Access::MemoryGrow)),
-            Simple::I32Const(n) => self.push(Word::I32(n)),
-            Simple::I64Const(n) => self.push(Word::I64(n)),
-            Simple::Test(ty, op) => Ok(self.test(ty, op)),
-            Simple::Compare(ty, op) => Ok(self.compare(ty, op)),
-            Simple::Unary(ty, op) => Ok(self.unary(ty, op)),
-            Simple::Binary(ty, op) => Ok(self.binary(ty, op)),
-            Simple::Convert(op) => Ok(self.convert(op)),
-        }
+        if c == 0 { Way::On } else { self.jump(n) }
     }
 
     /// One step. Constants before its instruction are values already.
-    #[tactic(auto, using(crate::proofs::Stepping::end_at, wasm_types::proofs::Views::view_block, wasm_types::proofs::Views::view_loop, wasm_types::proofs::Views::view_if))]
-    pub(crate) fn step(&mut self, alloc: Global) -> Result<Event, AllocError>
+    #[inline(always)]
+    pub(crate) fn step(&mut self) -> Result<Event, AllocError>
         ensures { IfOk result (λ e. local_step (frame_of self.old) ≡ seen e (frame_of self.new)) }
     {
-        while let Some(i) = self.code.get(self.at) {
-            self.at += 1;
-            match i {
-                Instr::Plain(Simple::I32Const(n)) => {
+        while let Some(op) = self.code.get(self.at) {
+            let here = self.at;
+            self.at = here + 1;
+            match op {
+                Op::I32Const(n) => {
                     let word = Word::I32(*n);
-                    self.values.push(word)?;
+                    self.levels.push(word)?;
                 }
-                Instr::Plain(Simple::I64Const(n)) => {
+                Op::I64Const(n) => {
                     let word = Word::I64(*n);
-                    self.values.push(word)?;
+                    self.levels.push(word)?;
                 }
-                Instr::Plain(p) => {
-                    let p = *p;
-                    return self.simple(p);
+                Op::LocalGet(x) => {
+                    let x = *x;
+                    return self.local_get(x);
                 }
-                Instr::BrTable(table, other) => {
-                    let Some(Word::I32(c)) = self.values.pop() else {
+                Op::LocalSet(x) => {
+                    let x = *x;
+                    return Ok(self.local_set(x));
+                }
+                Op::LocalTee(x) => {
+                    let x = *x;
+                    return Ok(self.local_tee(x));
+                }
+                Op::GlobalGet(x) => return Ok(Event::Works(Access::GlobalGet(*x))),
+                Op::GlobalSet(x) => return Ok(Event::Works(Access::GlobalSet(*x))),
+                Op::Load(op, at) => return Ok(Event::Works(Access::Load(*op, at.offset))),
+                Op::Store(op, at) => return Ok(Event::Works(Access::Store(*op, at.offset))),
+                Op::MemorySize => return Ok(Event::Works(Access::MemorySize)),
+                Op::MemoryGrow => return Ok(Event::Works(Access::MemoryGrow)),
+                Op::Test(ty, op) => {
+                    let (ty, op) = (*ty, *op);
+                    return Ok(self.test(ty, op));
+                }
+                Op::Compare(ty, op) => {
+                    let (ty, op) = (*ty, *op);
+                    return Ok(self.compare(ty, op));
+                }
+                Op::Unary(ty, op) => {
+                    let (ty, op) = (*ty, *op);
+                    return Ok(self.unary(ty, op));
+                }
+                Op::Binary(ty, op) => {
+                    let (ty, op) = (*ty, *op);
+                    return Ok(self.binary(ty, op));
+                }
+                Op::Convert(op) => {
+                    let op = *op;
+                    return Ok(self.convert(op));
+                }
+                Op::Drop => return Ok(self.discard()),
+                Op::Select => return Ok(self.select()),
+                Op::Nop => return Ok(Event::Went),
+                Op::Unreachable => return Ok(Event::Trapped(TrapKind::Unreachable)),
+                Op::Call(n) => return Ok(Event::Calls(*n)),
+                Op::CallIndirect(n) => {
+                    let n = *n;
+                    return Ok(self.call_through(n));
+                }
+                Op::Return => return Ok(Event::Leaves),
+                Op::Br(n) => {
+                    let n = *n;
+                    return Ok(self.jump(n).event());
+                }
+                Op::BrIf(n) => {
+                    let n = *n;
+                    return Ok(self.branch_if(n).event());
+                }
+                Op::BrTable(targets) => {
+                    let Some(Word::I32(c)) = self.levels.pop() else {
                         return Ok(Event::Stuck);
                     };
-                    let n = target(table.as_slice(), *other, c);
-                    return Ok(self.jump(n)?.event());
+                    let n = target(targets.table.as_slice(), targets.other, c);
+                    return Ok(self.jump(n).event());
                 }
-                Instr::Block(gives, body) => {
-                    let gives = *gives;
-                    let body = body.clone()?;
-                    self.enter(alloc, false, gives, body)?;
+                Op::Block(gives, past) => {
+                    let (gives, past) = (*gives, *past);
+                    self.levels.enter(None, gives, past)?;
                     return Ok(Event::Went);
                 }
-                Instr::Loop(_, body) => {
-                    let body = body.clone()?;
-                    self.enter(alloc, true, None, body)?;
+                Op::Loop(_, past) => {
+                    let past = *past;
+                    let Ok(body) = u32::try_from(here + 1) else {
+                        return Err(AllocError);
+                    };
+                    self.levels.enter(Some(body), None, past)?;
                     return Ok(Event::Went);
                 }
-                Instr::If(gives, yes, no) => {
-                    let Some(Word::I32(c)) = self.values.pop() else {
+                Op::If(gives, other, past) => {
+                    let (gives, other, past) = (*gives, *other, *past);
+                    let Some(Word::I32(c)) = self.levels.pop() else {
                         return Ok(Event::Stuck);
                     };
-                    let gives = *gives;
-                    let body = chosen(c, yes, no)?;
-                    self.enter(alloc, false, gives, body)?;
+                    self.levels.enter(None, gives, past)?;
+                    if c == 0 {
+                        self.at = other as usize;
+                    }
                     return Ok(Event::Went);
+                }
+                Op::End => {
+                    self.at = here;
+                    return Ok(self.leave().event());
                 }
             }
         }
-        Ok(self.leave()?.event())
+        Ok(self.leave().event())
     }
 }

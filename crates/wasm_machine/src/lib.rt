@@ -2,12 +2,14 @@
 #![tactic(auto)]
 
 mod access;
+mod callers;
+mod code;
 mod frame;
 mod host;
 pub mod laws;
+mod levels;
 mod link;
 mod machine;
-mod stack;
 mod state;
 
 pub use host::{HostAnswer, HostCalls};

@@ -1,21 +1,23 @@
 //! Linking: from a module and a host to the beginning of a run (Core 1.0, section 4.5.4).
 ghost use Rattle.std.specs.List.{All};
 ghost use Rattle.std.specs.Prelude.{◌≡◌, ◌↔◌, ◌*◌, ◌≤◌, ◌^◌, IfErr, IfOk, IsTrue, None, OnErr, Some, length, map, MatchResult};
+ghost use Rattle.wasm_machine.specs.Flat.{code_at};
 ghost use Rattle.wasm_machine.specs.Frames.{IsConstantAt};
 ghost use Rattle.wasm_machine.specs.Links.{first_some, first_none, main_at, main_of, number_for, numbers_for, place_of, value_of, least, ElemFits, DataFits, SegmentsFit, filled, poured, limits_or_none, entry_code, beginning, Numbers, Refuses};
 ghost use Rattle.wasm_machine.specs.Machines.{agree, conf_of};
 ghost use Rattle.wasm_types.specs.Typing.{callee_in, typed_in};
 ghost use Rattle.wasm_types.specs.View.{signature_of, view_data, view_elem, view_export, view_import, view_module, views};
 
+use crate::callers::Callers;
+use crate::code::Code;
 use crate::frame::Frame;
 use crate::host::HostCalls;
-use crate::stack::Stack;
 use crate::state::{State, callee, typed};
 use std::alloc::{AllocError, Global};
 use std::rc::Rc;
 use wasm_store::{Globals, Memory, Table, Word};
 use wasm_types::{
-    Data, Elem, Export, ExportDesc, FuncType, Global as ModuleGlobal, Import, Instr, Limits,
+    Data, Elem, Export, ExportDesc, Func, FuncType, Global as ModuleGlobal, Import, Instr, Limits,
     Module, Simple, ValType,
 };
 
@@ -265,6 +267,18 @@ fn limits_of(memories: &[Limits]) -> Limits
     }
 }
 
+/// The code of each function, with its places.
+pub(crate) fn codes_of(alloc: Global, funcs: &[Func]) -> Result<Vec<Rc<Code>>, AllocError>
+    ensures { IfOk result
+        (λ v. map (λ c. code_at c.value 0) v.items ≡ map (λ f. views f.body.value.items) funcs.now) }
+{
+    let mut codes = Vec::new(alloc);
+    for func in funcs {
+        codes.push(Rc::new(alloc, Code::new(alloc, &func.body)?)?)?;
+    }
+    Ok(codes)
+}
+
 /// The configuration in which a run begins.
 pub(crate) fn first_state(alloc: Global, whole: &Module, main: u32) -> Result<State, AllocError>
     requires fit { SegmentsFit (view_module whole.now) }
@@ -278,19 +292,15 @@ pub(crate) fn first_state(alloc: Global, whole: &Module, main: u32) -> Result<St
     let mut table = Table::new(alloc, elements)?;
     fill(&mut table, elements as usize, &whole.elems);
     let globals = Globals::new(values_of(alloc, &whole.globals)?);
-    let code = Rc::new(alloc, entry(alloc, whole.start, main)?)?;
+    let calls = entry(alloc, whole.start, main)?;
+    let code = Code::new(alloc, &calls)?;
+    let frame = Frame::new(alloc, Rc::new(alloc, code)?);
+    let callers = Callers::new(alloc);
     Ok(State {
         alloc,
-        frame: Frame {
-            values: Stack::new(alloc),
-            labels: Vec::new(alloc),
-            locals: Vec::new(alloc),
-            code,
-            at: 0,
-        },
+        frame,
         result: Some(ValType::I32),
-        callers: Vec::new(alloc),
-        spare: Vec::new(alloc),
+        callers,
         memory,
         table,
         globals,

@@ -7,7 +7,7 @@ ghost use Rattle.wasm_machine.specs.Typed.{Linked, SafeRun};
 ghost use Rattle.wasm_types.specs.View.{view_module};
 
 use crate::host::HostCalls;
-use crate::link::{LinkFault, first_state, link};
+use crate::link::{LinkFault, codes_of, first_state, link};
 use crate::state::{End, Program, RunEnd, State};
 use module_validator::ValidModule;
 use std::alloc::Global;
@@ -54,7 +54,7 @@ pub struct Machine {
 impl Model for Machine {
     ghost use Rattle.std.specs.Coded.{codes};
     ghost use Rattle.wasm_machine.specs.Codes.{instructions_code};
-    ghost use Rattle.wasm_machine.specs.Machines.{conf_of, program_of};
+    ghost use Rattle.wasm_machine.specs.Machines.{HasCodes, conf_of, program_of};
     ghost use Rattle.wasm_machine.specs.Runs.{MachineForm};
     ghost use Rattle.wasm_machine.specs.Typed.{MachineOk};
 
@@ -68,7 +68,7 @@ impl Model for Machine {
       ended = a.ended;
     } };
 
-    ghost invariant = { λ a. MachineOk (program_of a.program) (conf_of a.state) a.ended };
+    ghost invariant = { λ a. HasCodes a.program × MachineOk (program_of a.program) (conf_of a.state) a.ended };
 }
 
 impl Machine {
@@ -94,9 +94,14 @@ impl Machine {
         let Ok(state) = first_state(alloc, valid.get(), main) else {
             return Err(LinkFault::NoMemory);
         };
+        let whole = valid.into_module();
+        let Ok(codes) = codes_of(alloc, &whole.funcs) else {
+            return Err(LinkFault::NoMemory);
+        };
         let program = Program {
-            whole: valid.into_module(),
+            whole,
             numbers,
+            codes,
         };
         Ok(Machine {
             program,

@@ -10,10 +10,9 @@ use Rattle.wasm_types.specs.declared.module.Elem.{Elem}
 use Rattle.wasm_types.specs.declared.module.Global.{Global as ModuleGlobal}
 use Rattle.wasm_types.specs.View.{view_data, view_elem, view_global, view_module, views}
 use Rattle.wasm_store.specs.Memories.{MemoryForm, fresh}
-use Rattle.wasm_machine.specs.declared.frame.Label.{Label}
-use Rattle.wasm_machine.specs.declared.state.Caller.{Caller}
-use Rattle.wasm_machine.specs.Frames.{label_of}
-use Rattle.wasm_machine.specs.Machines.{caller_of}
+use Rattle.wasm_machine.specs.declared.code.Op.{Op}
+use Rattle.wasm_machine.specs.Flat.{code_at}
+use Rattle.wasm_machine.specs.Frames.{begun, frame_of}
 use Rattle.wasm_machine.specs.Links.{DataFits, ElemFits, filled, least, limits_or_none, poured, value_of}
 use Rattle.wasm_machine.proofs.Beginning.{least_is, beginning_is}
 use Rattle.wasm_machine.proofs.Linking.{all_of_map}
@@ -37,12 +36,9 @@ pub returns : goal.returns
 returns c =
     let m = c.args.whole.now in
     let limits = c.limits_of-limits.ensures ∙ ap limits_or_none c.deref.ensures.value in
-    beginning_is (view_module m) c.args.main c.new-4.result c.new-6.result.items c.new-globals.result (reverse (map label_of c.new-5.result.items)) (views c.in_ok-code.code.value.items) (reverse (map caller_of c.new-7.result.items)) c.pour.new.memory c.fill.new.table
-    c.new-4.ensures
-    (ap (λ (ls : List Label). reverse (map label_of ls)) c.new-5.ensures.items)
-    c.new-6.ensures.items
-    (ap (λ (v : Vec Instr Global). views v.items) c.in_ok-code.ensures.ok ∙ c.in_ok-entry.ensures)
-    (ap (λ (cs : List Caller). reverse (map caller_of cs)) c.new-7.ensures.items)
+    beginning_is (view_module m) c.args.main (frame_of c.new-frame.result) c.new-globals.result c.new-callers.result c.pour.new.memory c.fill.new.table
+    (c.new-frame.ensures ∙ ap begun (ap (λ (x : List Op). code_at x 0) c.in_ok-new.ensures.ok ∙ (c.in_ok-code.ensures ∙ (ap views c.deref-6.ensures.value ∙ c.in_ok-calls.ensures))))
+    c.new-callers.ensures
     (c.pour.ensures ∙ (ap (λ (x : MemoryForm). poured x (map view_data c.deref-2.result.now)) (c.in_ok-memory.ensures ∙ ap fresh limits) ∙ ap (λ (ds : List Data). poured (fresh (limits_or_none m.memories.items)) (map view_data ds)) c.deref-2.ensures.value))
     (c.fill.ensures ∙ (ap (λ (x : List (Option ℕ)). filled x (map view_elem c.deref-4.result.now)) (c.in_ok-table.ensures ∙ ap (λ (n : ℕ). replicate n None) (c.least-elements.ensures ∙ ap least c.deref-3.ensures.value)) ∙ ap (λ (es : List Elem). filled (replicate (least m.tables.items) None) (map view_elem es)) c.deref-4.ensures.value))
     (c.new-globals.ensures ∙ (c.in_ok-values_of.ensures ∙ (ap (λ (gs : List ModuleGlobal). map (λ g. value_of (views g.init.items)) gs) c.deref-5.ensures.value ∙ sym (map-map (λ g. value_of g.init) view_global m.globals.items))))
