@@ -31,6 +31,7 @@ pub(crate) enum Call {
 }
 
 /// The call of a primitive.
+#[inline(always)]
 fn call_of_row(primitive: Primitive) -> Call
     ensures { import_of result ≡ Import.Of primitive }
 {
@@ -85,6 +86,7 @@ fn call_of_row(primitive: Primitive) -> Call
 }
 
 /// The call of an import.
+#[inline(always)]
 pub(crate) fn call_of(import: Import) -> Call
     ensures { import_of result ≡ import }
 {

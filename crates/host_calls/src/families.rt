@@ -17,6 +17,7 @@ use world_core::World;
 
 impl<W: World> Host<W> {
     /// A call on the tables alone. What lets something go does so once a fault is kept too.
+    #[inline(always)]
     pub(crate) fn on_tables(
         &mut self,
         call: TableCall,

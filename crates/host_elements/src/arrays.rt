@@ -52,6 +52,7 @@ pub fn new_array(arrays: &mut Arrays, words: &[Word]) -> Result<Option<Word>, Re
 /// # Errors
 ///
 /// A trap, which changes nothing, or want of memory.
+#[inline(always)]
 pub fn elem(
     alloc: Global,
     arrays: &mut Arrays,
@@ -123,6 +124,7 @@ pub fn set_elem(
 /// # Errors
 ///
 /// A trap, which changes nothing, or want of memory.
+#[inline(always)]
 pub fn has(
     alloc: Global,
     arrays: &Arrays,

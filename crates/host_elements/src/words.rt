@@ -18,6 +18,7 @@ use wasm_store::{TrapKind, Word};
 /// # Errors
 ///
 /// A trap, where no array's number is there.
+#[inline(always)]
 pub fn array_front<'a>(arrays: &Arrays, words: &'a [Word]) -> Result<(i32, &'a [Word]), TrapKind>
     ensures number { owned_number result ≡ number_front arrays.now words.now }
     ensures there { IfOk result (λ x. map.contains_key arrays.now x.0 ≡ true) }
@@ -34,6 +35,7 @@ pub fn array_front<'a>(arrays: &Arrays, words: &'a [Word]) -> Result<(i32, &'a [
 }
 
 /// The one array that words name.
+#[inline(always)]
 pub(crate) fn only_array(arrays: &Arrays, words: &[Word]) -> Result<i32, TrapKind>
     ensures number { result ≡ only_number arrays.now words.now }
     ensures there { IfOk result (λ n. map.contains_key arrays.now n ≡ true) }
@@ -44,6 +46,7 @@ pub(crate) fn only_array(arrays: &Arrays, words: &[Word]) -> Result<i32, TrapKin
 }
 
 /// The one iterator that words name.
+#[inline(always)]
 pub(crate) fn only_iterator(iterators: &Iterators, words: &[Word]) -> Result<i32, TrapKind>
     ensures number { result ≡ only_number iterators.now words.now }
     ensures there { IfOk result (λ n. map.contains_key iterators.now n ≡ true) }
@@ -60,6 +63,7 @@ pub(crate) fn only_iterator(iterators: &Iterators, words: &[Word]) -> Result<i32
 }
 
 /// Two values, each with its handle.
+#[inline(always)]
 pub(crate) fn two_values<'a>(
     handles: &'a Handles,
     words: &[Word],
@@ -73,6 +77,7 @@ pub(crate) fn two_values<'a>(
 }
 
 /// An array and a key, with the key's handle.
+#[inline(always)]
 pub(crate) fn array_and_key<'a>(
     arrays: &Arrays,
     handles: &'a Handles,
@@ -88,6 +93,7 @@ pub(crate) fn array_and_key<'a>(
 }
 
 /// An array, a key and the handle of a value, with the key's handle.
+#[inline(always)]
 pub(crate) fn array_key_value<'a>(
     arrays: &Arrays,
     handles: &'a Handles,
@@ -102,6 +108,7 @@ pub(crate) fn array_key_value<'a>(
 }
 
 /// The text of a value, which a text of its own shares.
+#[inline(always)]
 pub(crate) fn key_text(alloc: Global, value: &Value) -> Result<Bytes, AllocError>
     ensures { IfOk result (λ text. text ≡ text_of_value value.now) }
 {

@@ -32,6 +32,7 @@ impl Model for Handles {
 }
 
 /// The slot of a handle; a number below 0 has none.
+#[inline(always)]
 fn slot_of(handle: i32) -> Option<usize>
     ensures slot { IfSome result (λ key. handle ≡ pos key) }
     ensures none { IfNone result (handle <ℤ pos 0) }
@@ -57,6 +58,7 @@ impl Handles {
     /// # Errors
     ///
     /// The value is handed back, and nothing changes, where there is no memory or no number is left.
+    #[inline(always)]
     pub fn put(&mut self, value: Value) -> Result<i32, Value>
         ensures free { IfOk result (λ handle. map.get self.old handle ≡ None) }
         ensures from_zero { IfOk result (λ handle. pos 0 ≤ℤ handle) }
@@ -77,6 +79,7 @@ impl Handles {
     }
 
     /// The value under a handle; none under a number that is no handle.
+    #[inline(always)]
     pub fn view(&self, handle: i32) -> Option<&Value>
         ensures { option_copied result ≡ map.get self.now handle }
     {
@@ -85,6 +88,7 @@ impl Handles {
     }
 
     /// Takes the value under a handle out, where there is one.
+    #[inline(always)]
     pub fn take(&mut self, handle: i32) -> Option<Value>
         ensures value { result ≡ map.get self.old handle }
         ensures rest { self.new ≡ map.remove self.old handle }

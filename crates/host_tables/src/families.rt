@@ -23,6 +23,7 @@ use wasm_store::Word;
 /// # Errors
 ///
 /// A trap, which changes nothing; a fault, which is to be kept; or want of memory.
+#[inline(always)]
 pub fn on_values(
     alloc: Global,
     primitive: ValuePrimitive,
@@ -42,6 +43,7 @@ pub fn on_values(
 /// # Errors
 ///
 /// A trap, which changes nothing; a fault, which is to be kept; or want of memory.
+#[inline(always)]
 pub fn on_texts(
     alloc: Global,
     primitive: TextPrimitive,

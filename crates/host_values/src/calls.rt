@@ -18,6 +18,7 @@ use wasm_store::Word;
 /// # Errors
 ///
 /// There is no memory; nothing changes.
+#[inline(always)]
 pub fn give(handles: &mut Handles, reply: Reply) -> Result<Option<Word>, Refusal>
     requires { map.get handles.old spare ≡ None }
     ensures answer { Gives reply handles.old result handles.new }
@@ -38,6 +39,7 @@ pub fn give(handles: &mut Handles, reply: Reply) -> Result<Option<Word>, Refusal
 /// # Errors
 ///
 /// A trap, which changes nothing; a fault, which is to be kept; or want of memory.
+#[inline(always)]
 pub fn call(
     alloc: Global,
     primitive: ValuePrimitive,

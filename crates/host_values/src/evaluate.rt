@@ -23,6 +23,7 @@ use wasm_store::Word;
 const TEXT_LIMIT: usize = 1 << 26;
 
 /// An outcome of a call that spends nothing.
+#[inline(always)]
 fn unspent(outcome: Result<Reply, Fault>) -> Evaluated
     ensures { result ≡ record { spent = Spent.Nothing; outcome = outcome } }
 {
@@ -32,6 +33,7 @@ fn unspent(outcome: Result<Reply, Fault>) -> Evaluated
     }
 }
 
+#[inline(always)]
 fn num(words: &[Word]) -> Result<Evaluated, Refusal>
     ensures { (values : Values) → Evaluates values result (evaluation ValuePrimitive.Num values [] words.now) }
 {
@@ -49,6 +51,7 @@ fn lit(alloc: Global, words: &[Word], memory: &[u8]) -> Result<Evaluated, Refusa
     Ok(unspent(Ok(Reply::Value(Value::Text(text)))))
 }
 
+#[inline(always)]
 fn uninit(words: &[Word]) -> Result<Evaluated, Refusal>
     ensures { (values : Values) → Evaluates values result (evaluation ValuePrimitive.Uninit values [] words.now) }
 {
@@ -56,6 +59,7 @@ fn uninit(words: &[Word]) -> Result<Evaluated, Refusal>
     Ok(unspent(Ok(Reply::Value(Value::Uninit))))
 }
 
+#[inline(always)]
 fn dup(handles: &Handles, words: &[Word]) -> Result<Evaluated, Refusal>
     ensures { Evaluates handles.now result (evaluation ValuePrimitive.Dup handles.now [] words.now) }
 {
@@ -64,6 +68,7 @@ fn dup(handles: &Handles, words: &[Word]) -> Result<Evaluated, Refusal>
     Ok(unspent(Ok(Reply::Value(value.clone()?))))
 }
 
+#[inline(always)]
 fn to_num(handles: &Handles, words: &[Word]) -> Result<Evaluated, Refusal>
     ensures { Evaluates handles.now result (evaluation ValuePrimitive.ToNum handles.now [] words.now) }
 {
@@ -87,6 +92,7 @@ fn truncated_text(text: &[u8]) -> Result<i64, Fault>
 }
 
 /// The number of a value, truncated towards 0.
+#[inline(always)]
 fn truncated(value: &Value) -> Result<i64, Fault>
     ensures { result ≡ truncated value.now }
 {
@@ -97,6 +103,7 @@ fn truncated(value: &Value) -> Result<i64, Fault>
     }
 }
 
+#[inline(always)]
 fn int_of(handles: &Handles, words: &[Word]) -> Result<Evaluated, Refusal>
     ensures { Evaluates handles.now result (evaluation ValuePrimitive.IntOf handles.now [] words.now) }
 {
@@ -108,6 +115,7 @@ fn int_of(handles: &Handles, words: &[Word]) -> Result<Evaluated, Refusal>
     })
 }
 
+#[inline(always)]
 fn truth_of(handles: &Handles, words: &[Word]) -> Result<Evaluated, Refusal>
     ensures { Evaluates handles.now result (evaluation ValuePrimitive.Truth handles.now [] words.now) }
 {
@@ -119,6 +127,7 @@ fn truth_of(handles: &Handles, words: &[Word]) -> Result<Evaluated, Refusal>
     })
 }
 
+#[inline(always)]
 fn comparison(handles: &Handles, words: &[Word]) -> Result<Evaluated, Refusal>
     ensures { Evaluates handles.now result (evaluation ValuePrimitive.Compare handles.now [] words.now) }
 {
@@ -219,6 +228,7 @@ fn fail(words: &[Word]) -> Result<Evaluated, Refusal>
 }
 
 /// What a primitive answers to words, over this memory.
+#[inline(always)]
 pub(crate) fn evaluate(
     alloc: Global,
     primitive: ValuePrimitive,

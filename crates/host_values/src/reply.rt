@@ -58,6 +58,7 @@ impl From<TrapKind> for Refusal {
 const LIMIT: u64 = 1 << 53;
 
 /// A number as an answer, where it is in range.
+#[inline(always)]
 pub(crate) fn number_reply(outcome: Result<i64, Fault>) -> Result<Reply, Fault>
     ensures { result ≡ number_reply outcome }
 {
@@ -70,6 +71,7 @@ pub(crate) fn number_reply(outcome: Result<i64, Fault>) -> Result<Reply, Fault>
 }
 
 /// A truth value as an answer.
+#[inline(always)]
 pub(crate) fn truth_reply(outcome: Result<bool, Fault>) -> Result<Reply, Fault>
     ensures { result ≡ truth_reply outcome }
 {

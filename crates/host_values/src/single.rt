@@ -13,6 +13,7 @@ use smallvec::SmallVec;
 use wasm_store::{TrapKind, Word};
 
 /// The one handle that words name, with its value.
+#[inline(always)]
 fn only_handle<'a>(handles: &'a Handles, words: &[Word]) -> Result<(i32, &'a Value), TrapKind>
     ensures { lent_only result ≡ only_handle handles.now words.now }
 {
@@ -30,6 +31,7 @@ fn only_number(handles: &Handles, words: &[Word]) -> Result<i32, TrapKind>
 }
 
 /// Takes the one value that words name.
+#[inline(always)]
 fn take_one(handles: &mut Handles, words: &[Word]) -> Result<Value, TrapKind>
     ensures value { result ≡ only_value (only_handle handles.old words.now) }
     ensures rest { handles.new ≡ left_one handles.old (only_handle handles.old words.now) }
@@ -59,6 +61,7 @@ fn push_value(arguments: &mut SmallVec<Value, 8>, value: Value) -> Result<(), Re
 /// # Errors
 ///
 /// A trap, which changes nothing.
+#[inline(always)]
 pub fn release(handles: &mut Handles, words: &[Word]) -> Result<(), TrapKind>
     ensures step { (s : HostState) (memory : List ℕ) → IsReleased s words.now memory handles.old result handles.new }
     ensures spare { map.get handles.old spare ≡ None → map.get handles.new spare ≡ None }

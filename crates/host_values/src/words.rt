@@ -46,6 +46,7 @@ const LIMIT: u64 = 1 << 53;
 
 const UNFIT: TrapKind = TrapKind::BadArgument;
 
+#[inline(always)]
 fn comparison_at(number: u32) -> Option<CompareOp>
     ensures { result ≡ comparison_at number }
 {
@@ -74,6 +75,7 @@ fn fault_at(number: u32) -> Option<Fault>
 /// # Errors
 ///
 /// A trap, where one is.
+#[inline(always)]
 pub fn ends(words: &[Word]) -> Result<(), TrapKind>
     ensures { result ≡ no_more words.now }
 {
@@ -85,6 +87,7 @@ pub fn ends(words: &[Word]) -> Result<(), TrapKind>
 /// # Errors
 ///
 /// A trap, where no handle is there.
+#[inline(always)]
 pub fn value_front<'a, 'b>(
     handles: &'a Handles,
     words: &'b [Word],
@@ -107,6 +110,7 @@ pub fn value_front<'a, 'b>(
 ///
 /// A trap, where no handle is there but the one that is spent.
 #[tactic(auto, using(crate::proofs::Tables::get_removed, crate::proofs::Tables::get_others))]
+#[inline(always)]
 pub fn value_after<'a, 'b>(
     handles: &'a Handles,
     first: i32,
@@ -128,6 +132,7 @@ pub fn value_after<'a, 'b>(
 }
 
 /// A number in range.
+#[inline(always)]
 pub fn number_front(words: &[Word]) -> Result<(i64, &[Word]), TrapKind>
     ensures value { owned result ≡ plain_number (number_front words.now) }
     ensures in_range { IfOk result (λ r. InRange r.0) }
@@ -144,6 +149,7 @@ pub fn number_front(words: &[Word]) -> Result<(i64, &[Word]), TrapKind>
 }
 
 /// An operator of comparison.
+#[inline(always)]
 pub(crate) fn comparison_front(words: &[Word]) -> Result<(CompareOp, &[Word]), TrapKind>
     ensures { owned result ≡ constant_front Constant.Comparison words.now }
 {

@@ -15,6 +15,7 @@ use wasm_store::{TrapKind, Word};
 const FAULTED: u64 = 1 << 63;
 
 /// What is answered in the place of an answer where a fault is kept.
+#[inline(always)]
 pub fn refusal(answer: Answer) -> Option<Word>
     ensures { result ≡ refusal answer }
 {
@@ -26,6 +27,7 @@ pub fn refusal(answer: Answer) -> Option<Word>
 }
 
 /// Whether an import only refuses: after a fault every one does but those that let something go.
+#[inline(always)]
 pub fn refuses(import: Import, kept: Option<Fault>) -> bool
     ensures { result ≡ refuses import kept }
 {
@@ -33,6 +35,7 @@ pub fn refuses(import: Import, kept: Option<Fault>) -> bool
 }
 
 /// Whether a word is as wide as this answer's.
+#[inline(always)]
 fn fits(answer: Answer, word: Option<Word>) -> bool
     ensures { result ≡ fits answer word }
 {
@@ -44,6 +47,7 @@ fn fits(answer: Answer, word: Option<Word>) -> bool
 }
 
 /// What is answered for a call that came to this. A word that does not fit is never given.
+#[inline(always)]
 pub fn told(import: Import, outcome: Result<Option<Word>, Refusal>) -> HostAnswer
     ensures { result ≡ told_as import outcome }
 {

@@ -18,6 +18,7 @@ impl Tables {
     /// # Errors
     ///
     /// A trap, which changes nothing; a fault; or want of memory.
+    #[inline(always)]
     pub fn call(
         &mut self,
         call: TableCall,
@@ -47,6 +48,7 @@ impl Tables {
     }
 
     /// Keeps the fault that a call met.
+    #[inline(always)]
     pub fn keep(&mut self, outcome: Result<Option<Word>, Refusal>)
         ensures { (f : HostForm) → of_tables self.new f ≡ left_by_call outcome (of_tables self.old f) }
     {
@@ -56,6 +58,7 @@ impl Tables {
     }
 
     /// The fault that is kept.
+    #[inline(always)]
     pub fn fault(&self) -> Option<Fault>
         ensures { result ≡ self.now.fault }
     {

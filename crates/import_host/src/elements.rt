@@ -23,6 +23,7 @@ impl Tables {
     }
 
     /// A copy of an element, which is made where there is none.
+    #[inline(always)]
     pub(crate) fn elem(&mut self, words: &[Word]) -> Result<Option<Word>, Refusal>
         requires { self.old.fault ≡ None }
         ensures { (f : HostForm) (memory : List ℕ) → IsTableCall (Import.Of row.Elem) (of_tables self.old f) words.now memory result (of_tables self.new f) }
@@ -31,6 +32,7 @@ impl Tables {
     }
 
     /// Gives an element a value.
+    #[inline(always)]
     pub(crate) fn set_elem(&mut self, words: &[Word]) -> Result<Option<Word>, Refusal>
         requires { self.old.fault ≡ None }
         ensures { (f : HostForm) (memory : List ℕ) → IsTableCall (Import.Of row.SetElem) (of_tables self.old f) words.now memory result (of_tables self.new f) }
@@ -39,6 +41,7 @@ impl Tables {
     }
 
     /// Whether an array has an element.
+    #[inline(always)]
     pub(crate) fn has(&mut self, words: &[Word]) -> Result<Option<Word>, Refusal>
         requires { self.old.fault ≡ None }
         ensures { (f : HostForm) (memory : List ℕ) → IsTableCall (Import.Of row.Has) (of_tables self.old f) words.now memory result (of_tables self.new f) }

@@ -18,6 +18,7 @@ use wasm_store::Word;
 
 impl Tables {
     /// A primitive on values.
+    #[inline(always)]
     pub(crate) fn on_values(
         &mut self,
         primitive: ValuePrimitive,
@@ -31,6 +32,7 @@ impl Tables {
     }
 
     /// A primitive on texts, special variables and the record.
+    #[inline(always)]
     pub(crate) fn on_texts(
         &mut self,
         primitive: TextPrimitive,
@@ -79,6 +81,7 @@ impl Tables {
     }
 
     /// Gives a value up, also where a fault is kept.
+    #[inline(always)]
     pub(crate) fn release(&mut self, words: &[Word]) -> Result<Option<Word>, Refusal>
         ensures step { (f : HostForm) (memory : List ℕ) → IsTableCall Import.Drop (of_values self.old.handles f) words.now memory result (of_values self.new.handles f) }
         ensures others { (f : HostForm) → of_tables self.new f ≡ of_values self.new.handles (of_tables self.old f) }

@@ -28,6 +28,7 @@ impl Globals {
     }
 
     /// How many there are.
+    #[inline(always)]
     pub fn len(&self) -> usize
         ensures { result ≡ length self.now }
     {
@@ -35,6 +36,7 @@ impl Globals {
     }
 
     /// The value of a global, if it is there.
+    #[inline(always)]
     pub fn get(&self, index: u32) -> Option<Word>
         ensures { result ≡ slice_get self.now index }
     {
@@ -42,6 +44,7 @@ impl Globals {
     }
 
     /// Gives a global a value.
+    #[inline(always)]
     pub fn set(&mut self, index: u32, value: Word)
         requires { index < length self.old }
         ensures { self.new ≡ slice_set self.old index value }

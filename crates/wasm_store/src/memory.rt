@@ -56,6 +56,7 @@ impl Memory {
     }
 
     /// The number of pages.
+    #[inline(always)]
     pub fn size(&self) -> u32
         ensures { result ≡ pages_of self.now }
     {
@@ -63,12 +64,14 @@ impl Memory {
     }
 
     /// The bytes.
+    #[inline(always)]
     pub fn bytes(&self) -> &[u8]
         ensures { result.now ≡ self.now.bytes }
     {
         self.bytes.as_slice()
     }
 
+    #[inline(always)]
     fn number_8(&self, at: usize) -> Option<u8>
         requires { at ≤ 2 ^ 33 }
         ensures { result ≡ number_at 1 self.now.bytes at }
@@ -80,6 +83,7 @@ impl Memory {
         }
     }
 
+    #[inline(always)]
     fn number_16(&self, at: usize) -> Option<u16>
         requires { at ≤ 2 ^ 33 }
         ensures { result ≡ number_at 2 self.now.bytes at }
@@ -91,6 +95,7 @@ impl Memory {
         }
     }
 
+    #[inline(always)]
     fn number_32(&self, at: usize) -> Option<u32>
         requires { at ≤ 2 ^ 33 }
         ensures { result ≡ number_at 4 self.now.bytes at }
@@ -102,6 +107,7 @@ impl Memory {
         }
     }
 
+    #[inline(always)]
     fn number_64(&self, at: usize) -> Option<u64>
         requires { at ≤ 2 ^ 33 }
         ensures { result ≡ number_at 8 self.now.bytes at }
@@ -113,6 +119,7 @@ impl Memory {
         }
     }
 
+    #[inline(always)]
     fn read(&self, op: LoadOp, at: usize) -> Option<Word>
         requires { at ≤ 2 ^ 33 }
         ensures { word_if op (number_at (loaded op).1 self.now.bytes at) ≡ found result }
@@ -148,6 +155,7 @@ impl Memory {
     /// # Errors
     ///
     /// [`TrapKind::MemoryBounds`] where a byte of it is past the end.
+    #[inline(always)]
     pub fn load(&self, op: LoadOp, base: u32, offset: u32) -> Result<Word, TrapKind>
         ensures { result ≡ load op self.now.bytes (base + offset) }
     {
@@ -157,6 +165,7 @@ impl Memory {
         }
     }
 
+    #[inline(always)]
     fn put_8(&mut self, at: usize, x: u8) -> bool
         requires { at ≤ 2 ^ 33 }
         ensures { put_if self.old (put 1 self.old.bytes at x) ≡ (told result, self.new) }
@@ -168,6 +177,7 @@ impl Memory {
         true
     }
 
+    #[inline(always)]
     fn put_16(&mut self, at: usize, x: u16) -> bool
         requires { at ≤ 2 ^ 33 }
         ensures { put_if self.old (put 2 self.old.bytes at x) ≡ (told result, self.new) }
@@ -179,6 +189,7 @@ impl Memory {
         true
     }
 
+    #[inline(always)]
     fn put_32(&mut self, at: usize, x: u32) -> bool
         requires { at ≤ 2 ^ 33 }
         ensures { put_if self.old (put 4 self.old.bytes at x) ≡ (told result, self.new) }
@@ -190,6 +201,7 @@ impl Memory {
         true
     }
 
+    #[inline(always)]
     fn put_64(&mut self, at: usize, x: u64) -> bool
         requires { at ≤ 2 ^ 33 }
         ensures { put_if self.old (put 8 self.old.bytes at x) ≡ (told result, self.new) }
@@ -206,6 +218,7 @@ impl Memory {
     /// # Errors
     ///
     /// [`TrapKind::MemoryBounds`] where a byte of it is past the end; nothing is stored then.
+    #[inline(always)]
     pub fn store(
         &mut self,
         op: StoreOp,

@@ -8,6 +8,7 @@ use crate::trap::TrapKind;
 use crate::word::Word;
 use wasm_types::{CvtOp, IBinOp, IRelOp, ITestOp, IUnOp, ValType};
 
+#[inline(always)]
 fn div_s_32(a: u32, b: u32) -> Result<u32, TrapKind>
     ensures { result ≡ quotient_signed w32 a b }
 {
@@ -20,6 +21,7 @@ fn div_s_32(a: u32, b: u32) -> Result<u32, TrapKind>
     }
 }
 
+#[inline(always)]
 fn div_s_64(a: u64, b: u64) -> Result<u64, TrapKind>
     ensures { result ≡ quotient_signed w64 a b }
 {
@@ -32,6 +34,7 @@ fn div_s_64(a: u64, b: u64) -> Result<u64, TrapKind>
     }
 }
 
+#[inline(always)]
 fn rem_s_32(a: u32, b: u32) -> Result<u32, TrapKind>
     ensures { result ≡ remainder_signed w32 a b }
 {
@@ -45,6 +48,7 @@ fn rem_s_32(a: u32, b: u32) -> Result<u32, TrapKind>
     )
 }
 
+#[inline(always)]
 fn rem_s_64(a: u64, b: u64) -> Result<u64, TrapKind>
     ensures { result ≡ remainder_signed w64 a b }
 {
@@ -58,6 +62,7 @@ fn rem_s_64(a: u64, b: u64) -> Result<u64, TrapKind>
     )
 }
 
+#[inline(always)]
 fn div_u_32(a: u32, b: u32) -> Result<u32, TrapKind>
     ensures { result ≡ quotient_unsigned a b }
 {
@@ -68,6 +73,7 @@ fn div_u_32(a: u32, b: u32) -> Result<u32, TrapKind>
     }
 }
 
+#[inline(always)]
 fn div_u_64(a: u64, b: u64) -> Result<u64, TrapKind>
     ensures { result ≡ quotient_unsigned a b }
 {
@@ -78,6 +84,7 @@ fn div_u_64(a: u64, b: u64) -> Result<u64, TrapKind>
     }
 }
 
+#[inline(always)]
 fn rem_u_32(a: u32, b: u32) -> Result<u32, TrapKind>
     ensures { result ≡ remainder_unsigned a b }
 {
@@ -88,6 +95,7 @@ fn rem_u_32(a: u32, b: u32) -> Result<u32, TrapKind>
     }
 }
 
+#[inline(always)]
 fn rem_u_64(a: u64, b: u64) -> Result<u64, TrapKind>
     ensures { result ≡ remainder_unsigned a b }
 {
@@ -98,12 +106,14 @@ fn rem_u_64(a: u64, b: u64) -> Result<u64, TrapKind>
     }
 }
 
+#[inline(always)]
 fn shr_s_32(a: u32, b: u32) -> u32
     ensures { result ≡ shifted_right_signed w32 a b }
 {
     a.cast_signed().wrapping_shr(b).cast_unsigned()
 }
 
+#[inline(always)]
 fn shr_s_64(a: u64, b: u64) -> u64
     ensures { result ≡ shifted_right_signed w64 a b }
 {
@@ -112,6 +122,7 @@ fn shr_s_64(a: u64, b: u64) -> u64
         .cast_unsigned()
 }
 
+#[inline(always)]
 fn binary_32(op: IBinOp, a: u32, b: u32) -> Result<u32, TrapKind>
     ensures { result ≡ binary_at w32 op a b }
 {
@@ -134,6 +145,7 @@ fn binary_32(op: IBinOp, a: u32, b: u32) -> Result<u32, TrapKind>
     }
 }
 
+#[inline(always)]
 fn binary_64(op: IBinOp, a: u64, b: u64) -> Result<u64, TrapKind>
     ensures { result ≡ binary_at w64 op a b }
 {
@@ -156,6 +168,7 @@ fn binary_64(op: IBinOp, a: u64, b: u64) -> Result<u64, TrapKind>
     }
 }
 
+#[inline(always)]
 fn unary_32(op: IUnOp, a: u32) -> u32
     ensures { result ≡ unary_at w32 op a }
 {
@@ -166,6 +179,7 @@ fn unary_32(op: IUnOp, a: u32) -> u32
     }
 }
 
+#[inline(always)]
 fn unary_64(op: IUnOp, a: u64) -> u64
     ensures { result ≡ unary_at w64 op a }
 {
@@ -176,6 +190,7 @@ fn unary_64(op: IUnOp, a: u64) -> u64
     })
 }
 
+#[inline(always)]
 fn compare_32(op: IRelOp, a: u32, b: u32) -> bool
     ensures { result ≡ compare_at w32 op a b }
 {
@@ -193,6 +208,7 @@ fn compare_32(op: IRelOp, a: u32, b: u32) -> bool
     }
 }
 
+#[inline(always)]
 fn compare_64(op: IRelOp, a: u64, b: u64) -> bool
     ensures { result ≡ compare_at w64 op a b }
 {
@@ -216,6 +232,7 @@ fn compare_64(op: IRelOp, a: u64, b: u64) -> bool
 ///
 /// [`TrapKind::DivideByZero`] for a division or remainder by 0, [`TrapKind::IntegerOverflow`] for a signed quotient that is no integer
 /// of the width.
+#[inline(always)]
 pub fn binary(ty: ValType, op: IBinOp, a: Word, b: Word) -> Option<Result<Word, TrapKind>>
     ensures { result ≡ binary_of ty op a b }
 {
@@ -227,6 +244,7 @@ pub fn binary(ty: ValType, op: IBinOp, a: Word, b: Word) -> Option<Result<Word, 
 }
 
 /// What an operator makes of a value. None where it is of another type.
+#[inline(always)]
 pub fn unary(ty: ValType, op: IUnOp, a: Word) -> Option<Word>
     ensures { result ≡ unary_of ty op a }
 {
@@ -238,6 +256,7 @@ pub fn unary(ty: ValType, op: IUnOp, a: Word) -> Option<Word>
 }
 
 /// The answer of a test, as the 32-bit integer 1 or 0. None where the value is of another type.
+#[inline(always)]
 pub fn test(ty: ValType, op: ITestOp, a: Word) -> Option<Word>
     ensures { result ≡ test_of ty op a }
 {
@@ -250,6 +269,7 @@ pub fn test(ty: ValType, op: ITestOp, a: Word) -> Option<Word>
 }
 
 /// The answer of a comparison, as the 32-bit integer 1 or 0. None where one of the values is of another type.
+#[inline(always)]
 pub fn compare(ty: ValType, op: IRelOp, a: Word, b: Word) -> Option<Word>
     ensures { result ≡ compare_of ty op a b }
 {
@@ -262,6 +282,7 @@ pub fn compare(ty: ValType, op: IRelOp, a: Word, b: Word) -> Option<Word>
 }
 
 /// What a conversion makes of a value. None where it is of another type.
+#[inline(always)]
 pub fn convert(op: CvtOp, a: Word) -> Option<Word>
     ensures { result ≡ converted op a }
 {

@@ -39,6 +39,7 @@ impl Table {
     /// # Errors
     ///
     /// [`TrapKind::TableBounds`] past the end of the table, [`TrapKind::EmptyElement`] at an element that names none.
+    #[inline(always)]
     pub fn get(&self, at: u32) -> Result<u32, TrapKind>
         ensures { result ≡ element (slice_get self.now at) }
     {

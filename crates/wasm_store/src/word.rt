@@ -13,6 +13,7 @@ pub enum Word {
 
 impl Word {
     /// The value 0 of a type, which locals have at first.
+    #[inline(always)]
     pub fn zero(ty: ValType) -> Word
         ensures { result ≡ zero_of ty }
     {
@@ -23,6 +24,7 @@ impl Word {
     }
 
     /// The type of the value.
+    #[inline(always)]
     pub fn ty(self) -> ValType
         ensures { result ≡ type_of self }
     {
@@ -33,6 +35,7 @@ impl Word {
     }
 
     /// The bit pattern, as a number.
+    #[inline(always)]
     pub(crate) fn pattern(self) -> u64
         ensures { result ≡ pattern self }
     {
