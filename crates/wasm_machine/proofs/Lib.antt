@@ -15,7 +15,5 @@ pub mod Reduced
 pub mod Reducing
 pub mod Refusals
 pub mod Safe
-pub mod Settling
-pub mod Stepping
 pub mod Types
 pub mod Whole
