@@ -1,5 +1,5 @@
 //! An expression's text, with its automaton.
-ghost use Rattle.std.specs.Prelude.{◌≡◌, IfErr, IfOk, Ok, false, true};
+ghost use Rattle.std.specs.Prelude.{◌≡◌, ◌↔◌, IfErr, IfOk, IsTrue, Ok, false};
 ghost use Rattle.ere_syntax.specs.Tree.{Tree};
 ghost use Rattle.ere_match.specs.FirstMatch.{IsFirstMatch, IsMatch};
 ghost use Rattle.awk_state.specs.FirstMatch.{expression_of};
@@ -48,7 +48,7 @@ impl Matcher {
 
     /// Whether it is the matcher of a text.
     pub fn is_of(&self, text: &Bytes) -> bool
-        ensures { result ≡ true → self.now ≡ text.now }
+        ensures { IsTrue result ↔ (self.now ≡ text.now) }
     {
         self.text == *text
     }
