@@ -13,40 +13,47 @@
 //! Where there is no tree, the answer is the fault.
 #![tactic(auto)]
 
-mod calls;
-mod long;
+mod call;
+mod matches;
+mod texts;
+mod trees;
 mod words;
 
-use calls::{by_threads, first, first_of_parts, matched, read_parts, reversed, set, tree};
+use call::{Call, call_of};
 use ere_syntax::EreFault;
-use long::long;
-use std::alloc::Global;
+use std::alloc::{AllocError, Global};
 use std::io;
-use words::word;
+use texts::{expression_of, from_of, text_of};
+use trees::of_expression;
 
-/// What a line asks for.
-fn answer(alloc: Global, line: &str) -> Result<String, EreFault> {
-    match word(line, 0) {
-        "tree" => tree(alloc, line),
-        "set" => set(alloc, line),
-        "first" => first(alloc, line),
-        "match" => matched(alloc, line),
-        "threads" => by_threads(alloc, line),
-        "read" => read_parts(alloc, line),
-        "found" => first_of_parts(alloc, line),
-        "long" => long(alloc, line),
-        "reversed" => reversed(alloc),
-        _ => Ok(String::from_str(alloc, "no such call")?),
+/// What a call gives.
+fn answer(alloc: Global, call: Call, line: &str) -> Result<String, EreFault> {
+    let expression = expression_of(alloc, call, line)?;
+    let text = text_of(alloc, call, line)?;
+    of_expression(alloc, call, &expression, &text, from_of(call, line))
+}
+
+/// What a call gives; where there is no tree, the fault.
+fn answer_or_fault(alloc: Global, call: Call, line: &str) -> Result<String, AllocError> {
+    match answer(alloc, call, line) {
+        Ok(text) => Ok(text),
+        Err(fault) => format!(in alloc; "{fault}"),
+    }
+}
+
+/// What is said of a line.
+fn said(alloc: Global, line: &str) -> Result<String, AllocError> {
+    match call_of(line) {
+        Some(call) => answer_or_fault(alloc, call, line),
+        None => String::from_str(alloc, "no such call"),
     }
 }
 
 fn main(rt: HostRuntime) -> io::Result<()> {
     for line in rt.lines(rt.alloc()) {
         let line = line?;
-        match answer(rt.alloc(), line.as_str()) {
-            Ok(text) => println!(rt; "{text}")?,
-            Err(fault) => println!(rt; "{fault}")?,
-        }
+        let said = said(rt.alloc(), line.as_str())?;
+        println!(rt; "{said}")?;
     }
     Ok(())
 }

@@ -10,6 +10,11 @@ pub(crate) fn word(line: &str, place: usize) -> &str {
     line.split('\t').nth(place).unwrap_or("")
 }
 
+/// A word that is a letter; `a` where there is none.
+pub(crate) fn letter(line: &str, place: usize) -> u8 {
+    *word(line, place).as_bytes().first().unwrap_or(&b'a')
+}
+
 /// The bytes that a word stands for.
 pub(crate) fn bytes(alloc: Global, line: &str, place: usize) -> Result<Vec<u8>, AllocError> {
     unescape(alloc, word(line, place).as_bytes())
