@@ -12,7 +12,7 @@ ghost use Rattle.wasm_machine.specs.Typed.{Linked};
 mod small_host;
 
 use module_decoder::{DecodeFault, decode};
-use module_validator::{InvalidFault, validate};
+use module_validator::{InvalidFault, ValidModule, validate};
 use small_host::SmallHost;
 use std::alloc::{AllocError, Global};
 use std::{fmt, io};
@@ -43,12 +43,13 @@ fn bytes_of(alloc: Global, text: &[u8]) -> Result<Vec<u8>, AllocError> {
     Ok(bytes)
 }
 
-/// What refuses a module.
+/// What refuses a module, or a run.
 #[derive(Drop)]
 enum Refusal {
     Bytes(DecodeFault),
     Types(InvalidFault),
     Link(LinkFault),
+    NoMemory,
 }
 
 impl fmt::Display for Refusal {
@@ -57,7 +58,47 @@ impl fmt::Display for Refusal {
             Refusal::Bytes(fault) => write!(f, "{fault:?}"),
             Refusal::Types(fault) => write!(f, "{fault:?}"),
             Refusal::Link(fault) => write!(f, "{fault:?}"),
+            Refusal::NoMemory => write!(f, "NoMemory"),
         }
+    }
+}
+
+/// How a run in two parts went: the end of each part, and the sum of what the host was told.
+#[derive(Clone, Copy, PartialEq, Eq)]
+struct Outcome {
+    first: MachineEnd,
+    then: MachineEnd,
+    told: u32,
+}
+
+impl Outcome {
+    /// The end of the whole run.
+    fn end(self) -> MachineEnd {
+        if self.first == MachineEnd::OutOfSteps {
+            self.then
+        } else {
+            self.first
+        }
+    }
+}
+
+fn valid_of(alloc: Global, bytes: &[u8]) -> Result<ValidModule, Refusal> {
+    let module = match decode(alloc, bytes) {
+        Ok(module) => module,
+        Err(fault) => return Err(Refusal::Bytes(fault)),
+    };
+    match validate(alloc, module) {
+        Ok(valid) => Ok(valid),
+        Err((_, fault)) => Err(Refusal::Types(fault)),
+    }
+}
+
+fn begun(alloc: Global, valid: ValidModule, host: &SmallHost) -> Result<Machine, Refusal>
+    ensures { IfOk result (λ m. Linked small_types m.program) }
+{
+    match Machine::new(alloc, valid, host) {
+        Ok(machine) => Ok(machine),
+        Err(fault) => Err(Refusal::Link(fault)),
     }
 }
 
@@ -65,64 +106,94 @@ impl fmt::Display for Refusal {
 fn machine_of(alloc: Global, bytes: &[u8], host: &SmallHost) -> Result<Machine, Refusal>
     ensures { IfOk result (λ m. Linked small_types m.program) }
 {
-    let module = match decode(alloc, bytes) {
-        Ok(module) => module,
-        Err(fault) => return Err(Refusal::Bytes(fault)),
-    };
-    let valid = match validate(alloc, module) {
-        Ok(valid) => valid,
-        Err((_, fault)) => return Err(Refusal::Types(fault)),
-    };
-    match Machine::new(alloc, valid, host) {
-        Ok(machine) => Ok(machine),
-        Err(fault) => Err(Refusal::Link(fault)),
+    match valid_of(alloc, bytes) {
+        Ok(valid) => begun(alloc, valid, host),
+        Err(refusal) => Err(refusal),
     }
 }
 
-/// The end of a run that is cut after so many steps, and what the host was told.
-fn run_cut(alloc: Global, bytes: &[u8], first: u64) -> Option<(MachineEnd, u32)> {
+/// The ends of two runs, one after the other.
+fn ends_of(
+    machine: &mut Machine,
+    host: &mut SmallHost,
+    first: u64,
+    then: u64,
+) -> (MachineEnd, MachineEnd)
+    requires { Linked small_types machine.old.program }
+{
+    let end = machine.run(host, first);
+    (end, machine.run(host, then))
+}
+
+/// A run of so many steps, and on for so many. This alone holds a machine: the more ways out of a function hold one, the longer its proof takes.
+fn run_parts(alloc: Global, bytes: &[u8], first: u64, then: u64) -> Result<Outcome, Refusal> {
     let Ok(mut host) = SmallHost::new(alloc) else {
-        return None;
+        return Err(Refusal::NoMemory);
     };
-    let Ok(mut machine) = machine_of(alloc, bytes, &host) else {
-        return None;
+    let mut machine = match machine_of(alloc, bytes, &host) {
+        Ok(machine) => machine,
+        Err(refusal) => return Err(refusal),
     };
-    let end = machine.run(&mut host, first);
-    if end != MachineEnd::OutOfSteps {
-        return Some((end, host.told()));
+    let (first, then) = ends_of(&mut machine, &mut host, first, then);
+    Ok(Outcome {
+        first,
+        then,
+        told: host.told(),
+    })
+}
+
+/// Whether a run that is cut after so many steps ends as the whole one.
+fn agrees(alloc: Global, bytes: &[u8], cut: u64, whole: Outcome) -> bool {
+    match run_parts(alloc, bytes, cut, STEPS) {
+        Ok(parts) => parts.end() == whole.first && parts.told == whole.told,
+        Err(_) => false,
     }
-    let end = machine.run(&mut host, STEPS);
-    Some((end, host.told()))
+}
+
+/// What is said of a refusal.
+fn refused(alloc: Global, refusal: Refusal) -> Result<String, AllocError> {
+    match refusal {
+        Refusal::NoMemory => Err(AllocError),
+        refusal => format!(in alloc; "{refusal}"),
+    }
+}
+
+/// What is said of a run.
+fn told(alloc: Global, whole: Outcome) -> Result<String, AllocError> {
+    let (end, told) = (whole.first, whole.told);
+    format!(in alloc; "{end:?}, host {told}")
+}
+
+/// What is said of a run that goes on, and of its cuts.
+fn compared(alloc: Global, bytes: &[u8], whole: Outcome) -> Result<String, AllocError> {
+    if whole.first == MachineEnd::OutOfSteps {
+        return told(alloc, whole);
+    }
+    if whole.then != whole.first {
+        return format!(in alloc; "another end at a later run");
+    }
+    for cut in 0..CUTS {
+        if !agrees(alloc, bytes, cut, whole) {
+            return format!(in alloc; "another end where it is cut at {cut}");
+        }
+    }
+    told(alloc, whole)
 }
 
 /// What is said of a module that is run at once, and in two parts.
 fn answer(alloc: Global, bytes: &[u8]) -> Result<String, AllocError> {
-    let mut host = SmallHost::new(alloc)?;
-    let mut machine = match machine_of(alloc, bytes, &host) {
-        Ok(machine) => machine,
-        Err(refusal) => return format!(in alloc; "{refusal}"),
-    };
-    let end = machine.run(&mut host, STEPS);
-    if machine.run(&mut host, 1) != end && end != MachineEnd::OutOfSteps {
-        return format!(in alloc; "another end at a later run");
+    match run_parts(alloc, bytes, STEPS, 1) {
+        Ok(whole) => compared(alloc, bytes, whole),
+        Err(refusal) => refused(alloc, refusal),
     }
-    for cut in 0..CUTS {
-        if run_cut(alloc, bytes, cut) != Some((end, host.told())) && end != MachineEnd::OutOfSteps {
-            return format!(in alloc; "another end where it is cut at {cut}");
-        }
-    }
-    format!(in alloc; "{end:?}, host {}", host.told())
 }
 
 /// What is said of a module that is run once, for so many steps.
 fn answer_for(alloc: Global, bytes: &[u8], steps: u64) -> Result<String, AllocError> {
-    let mut host = SmallHost::new(alloc)?;
-    let mut machine = match machine_of(alloc, bytes, &host) {
-        Ok(machine) => machine,
-        Err(refusal) => return format!(in alloc; "{refusal}"),
-    };
-    let end = machine.run(&mut host, steps);
-    format!(in alloc; "{end:?}, host {}", host.told())
+    match run_parts(alloc, bytes, steps, 0) {
+        Ok(whole) => told(alloc, whole),
+        Err(refusal) => refused(alloc, refusal),
+    }
 }
 
 /// What is said of a module, and of a module with a number behind it.
