@@ -7,4 +7,5 @@ pub mod Longest
 pub mod Meaning
 pub mod LongExponent
 mod Nonzero
+pub mod Plain
 pub mod Octals

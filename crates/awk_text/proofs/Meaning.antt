@@ -25,7 +25,7 @@ within : (negative : Bool) (k : ℕ) → InRange (signed negative k) → k ≤ 2
 within true k h = let low = h.0 in omega (arith, ints)
 within false k h = let high = h.1 in omega (arith, ints)
 
-ranged_in : (negative : Bool) (k : ℕ) → k ≤ 2 ^ 53 → ranged negative k ≡ Ok (signed negative k)
+pub ranged_in : (negative : Bool) (k : ℕ) → k ≤ 2 ^ 53 → ranged negative k ≡ Ok (signed negative k)
 ranged_in negative k h = cond-true (nat_le k (2 ^ 53)) _ _ (le-leb k (2 ^ 53) h)
 
 ranged_out : (negative : Bool) (k : ℕ) → (k ≤ 2 ^ 53 → ⊥) → ranged negative k ≡ Err Range
@@ -93,6 +93,9 @@ whole_exact n k even =
     let some = denominator_some n in
     cond-true (numerator n % denominator n == 0) _ _ (ap (λ r. r == 0) (exact_rest _ _ k some even))
     ∙ ap (ranged n.negative) (part_is _ _ k (exact_part _ _ k some even))
+
+pub truncated_exact : (n : Numeral) (k : ℕ) → k * denominator n ≡ numerator n → truncated_value n ≡ ranged n.negative k
+truncated_exact n k even = ap (ranged n.negative) (part_is _ _ k (exact_part _ _ k (denominator_some n) even))
 
 whole_one : (n : Numeral) (v : Result ℤ NumberFault) → IsWholeValue n v → v ≡ whole_value n
 whole_one n (Ok v) (k, (even, (same, range))) = ap (λ (z : ℤ). Ok z) same ∙ sym (whole_exact n k even ∙ ranged_in n.negative k (within n.negative k (subst InRange same range)))

@@ -1,4 +1,4 @@
-ghost use Rattle.std.specs.Prelude.{◌≡◌, ℕ, ◌+◌, ◌-◌, ◌*◌, ◌/◌, ◌%◌, ◌^◌, ◌<◌, ◌≤◌, ◌==◌, ◌↔◌, IsTrue, min};
+ghost use Rattle.std.specs.Prelude.{◌≡◌, ℕ, ◌+◌, ◌-◌, ◌*◌, ◌/◌, ◌%◌, ◌^◌, ◌<◌, ◌≤◌, ◌==◌, ◌↔◌, IfSome, IsTrue, min, pos};
 ghost use Rattle.awk_text.specs.Number.{capped, ranged, denominator, is_nonzero_text, looks_numeric_text, number_of_text, numerator, truncated_of_text, value_after};
 ghost use Rattle.awk_text.specs.NumberText.{IsNonzero, IsNumberOf, IsNumericLooking, IsTruncatedValue, IsWholeValue};
 ghost use Rattle.awk_text.specs.Parts.{parts};
@@ -71,6 +71,27 @@ fn are_zeros(digits: &[u8]) -> bool
     true
 }
 
+/// The number of digits alone; none where another byte is among them, or past the range. Most fields that hold a number are so.
+#[tactic(auto, using(crate::proofs::Plain::next_value, crate::proofs::Plain::next_digits))]
+#[inline(always)]
+fn plain_number(text: &[u8]) -> Option<i64>
+    ensures digits { IfSome result (λ n. AreDigits text.now) }
+    ensures value { IfSome result (λ n. n ≡ pos (value_after 0 text.now)) }
+    ensures in_range { IfSome result (λ n. value_after 0 text.now ≤ 2 ^ 53) }
+{
+    let mut number = 0u64;
+    for byte in text {
+        if !byte.is_ascii_digit() {
+            return None;
+        }
+        number = number * 10 + u64::from(*byte - b'0');
+        if number > LIMIT {
+            return None;
+        }
+    }
+    Some(number as i64)
+}
+
 /// The magnitude towards 0, cut to one past the range, and whether it is exact.
 fn magnitude(numeral: &Numeral<'_>) -> (u64, bool)
     requires whole { AreDigits (parts numeral.now).whole }
@@ -110,10 +131,14 @@ fn ranged_number(negative: bool, magnitude: u64) -> Result<i64, NumberFault>
 /// # Errors
 ///
 /// [`NumberFault::Fraction`] where the value is not whole, and else [`NumberFault::Range`] where it is outside the range.
+#[tactic(auto, using(crate::proofs::Plain::digits_number))]
 pub fn number_of(text: &[u8]) -> Result<i64, NumberFault>
     ensures value { result ≡ number_of_text text.now }
     ensures meaning { IsNumberOf IsWholeValue text.now result }
 {
+    if let Some(number) = plain_number(text) {
+        return Ok(number);
+    }
     match read_numeral(text) {
         None => Ok(0),
         Some((numeral, _)) => match magnitude(&numeral) {
@@ -128,10 +153,14 @@ pub fn number_of(text: &[u8]) -> Result<i64, NumberFault>
 /// # Errors
 ///
 /// [`NumberFault::Range`] where the number that is cut is outside the range; never [`NumberFault::Fraction`].
+#[tactic(auto, using(crate::proofs::Plain::digits_truncated))]
 pub fn truncated_of(text: &[u8]) -> Result<i64, NumberFault>
     ensures value { result ≡ truncated_of_text text.now }
     ensures meaning { IsNumberOf IsTruncatedValue text.now result }
 {
+    if let Some(number) = plain_number(text) {
+        return Ok(number);
+    }
     match read_numeral(text) {
         None => Ok(0),
         Some((numeral, _)) => ranged_number(numeral.negative, magnitude(&numeral).0),
@@ -139,10 +168,14 @@ pub fn truncated_of(text: &[u8]) -> Result<i64, NumberFault>
 }
 
 /// Whether a text is number text with nothing but space bytes behind it, as a numeric string is (POSIX.1-2017 awk, "Expressions in awk").
+#[tactic(auto, using(crate::proofs::Plain::digits_look))]
 pub fn looks_numeric(text: &[u8]) -> bool
     ensures value { result ≡ looks_numeric_text text.now }
     ensures meaning { IsTrue result ↔ IsNumericLooking text.now }
 {
+    if !text.is_empty() && plain_number(text).is_some() {
+        return true;
+    }
     match read_numeral(text) {
         None => false,
         Some((_, rest)) => spaces(rest) == rest.len(),

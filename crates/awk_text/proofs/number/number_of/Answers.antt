@@ -1,13 +1,14 @@
 use Rattle.std.proofs.Common.{rules}
 use Rattle.awk_text.proofs.ReadingFacts.{some_digits}
 use Rattle.awk_text.proofs.Meaning.{number_meant}
+use Rattle.awk_text.proofs.Plain.{digits_number}
 use Rattle.awk_text.proofs.number.number_of.Goals as goal
 
 pub magnitude-requires-clause-whole : goal.magnitude-requires-clause-whole
-magnitude-requires-clause-whole c = (some_digits c.args.text.now _ c.in-Some.ensures).0
+magnitude-requires-clause-whole c = (some_digits c.args.text.now _ c.in-Some-read_numeral.ensures).0
 
 pub magnitude-requires-clause-fraction : goal.magnitude-requires-clause-fraction
-magnitude-requires-clause-fraction c = (some_digits c.args.text.now _ c.in-Some.ensures).1
+magnitude-requires-clause-fraction c = (some_digits c.args.text.now _ c.in-Some-read_numeral.ensures).1
 
 pub returns-in-None-clause-meaning : goal.returns-in-None-clause-meaning
 returns-in-None-clause-meaning c = number_meant c.args.text.now _ (search rules)
@@ -17,3 +18,6 @@ returns-in_default-true-clause-meaning c = number_meant c.args.text.now _ (searc
 
 pub returns-in_default-false-clause-meaning : goal.returns-in_default-false-clause-meaning
 returns-in_default-false-clause-meaning c = number_meant c.args.text.now _ (search rules)
+
+pub returns-in-Some-clause-meaning : goal.returns-in-Some-clause-meaning
+returns-in-Some-clause-meaning c = number_meant c.args.text.now _ (search (rules, digits_number))

@@ -1,16 +1,20 @@
 use Rattle.std.proofs.Common.{rules}
 use Rattle.awk_text.proofs.ReadingFacts.{some_digits}
 use Rattle.awk_text.proofs.Meaning.{truncated_number_meant}
+use Rattle.awk_text.proofs.Plain.{digits_truncated}
 use Rattle.awk_text.proofs.number.truncated_of.Goals as goal
 
 pub magnitude-requires-clause-whole : goal.magnitude-requires-clause-whole
-magnitude-requires-clause-whole c = (some_digits c.args.text.now _ c.in-Some.ensures).0
+magnitude-requires-clause-whole c = (some_digits c.args.text.now _ c.in-Some-read_numeral.ensures).0
 
 pub magnitude-requires-clause-fraction : goal.magnitude-requires-clause-fraction
-magnitude-requires-clause-fraction c = (some_digits c.args.text.now _ c.in-Some.ensures).1
+magnitude-requires-clause-fraction c = (some_digits c.args.text.now _ c.in-Some-read_numeral.ensures).1
 
 pub returns-in-None-clause-meaning : goal.returns-in-None-clause-meaning
 returns-in-None-clause-meaning c = truncated_number_meant c.args.text.now _ (search rules)
 
 pub returns-in-Some-clause-meaning : goal.returns-in-Some-clause-meaning
-returns-in-Some-clause-meaning c = truncated_number_meant c.args.text.now _ (search rules)
+returns-in-Some-clause-meaning c = truncated_number_meant c.args.text.now _ (search (rules, digits_truncated))
+
+pub returns-in-Some-read_numeral-clause-meaning : goal.returns-in-Some-read_numeral-clause-meaning
+returns-in-Some-read_numeral-clause-meaning c = truncated_number_meant c.args.text.now _ (search rules)
