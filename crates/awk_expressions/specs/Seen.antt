@@ -10,9 +10,9 @@ use Rattle.awk_grammar.specs.Reading.{Link, Joined, Within, Chosen}
 use Rattle.awk_grammar.specs.View.{view, views, view_binary, view_assign}
 use Rattle.awk_expressions.specs.declared.fault.Refusal.{Refusal}
 use Rattle.awk_expressions.specs.declared.fault.Refusal.TheVariants as refusals
-use Rattle.awk_expressions.specs.declared.expr.Parsed.{Parsed}
-use Rattle.awk_expressions.specs.declared.expr.Part.{Part}
-use Rattle.awk_expressions.specs.declared.expr.ParsedList.{ParsedList}
+use Rattle.awk_expressions.specs.declared.parsed.Parsed.{Parsed}
+use Rattle.awk_expressions.specs.declared.parsed.Part.{Part}
+use Rattle.awk_expressions.specs.declared.parsed.ParsedList.{ParsedList}
 use Rattle.awk_expressions.specs.declared.mode.Mode.{Mode as Mode'}
 use Rattle.awk_expressions.specs.declared.mode.Mode.TheVariants as modes
 use Rattle.awk_expressions.specs.declared.peek.Link.{Link as Link'}

@@ -6,9 +6,9 @@ ghost use Rattle.awk_grammar.specs.View.{view, views};
 ghost use Rattle.awk_expressions.specs.Operands.{in_array_at, array_at, contained_at};
 ghost use Rattle.awk_expressions.specs.Seen.{seen, seen_tree, Gives};
 
-use crate::expr::Parsed;
 use crate::fault::Refusal;
 use crate::node::membership;
+use crate::parsed::Parsed;
 use crate::peek::{close, in_word, name};
 use awk_grammar::Expr;
 use awk_tokens::Token;

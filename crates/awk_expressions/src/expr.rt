@@ -1,52 +1,28 @@
 //! Expressions, by operator precedence: an operand, and the operators behind it that may stand there.
 
-ghost use Rattle.std.specs.Prelude.{◌≡◌, ◌<◌, ◌≤◌, ◌+◌, ◌-◌, ◌∷◌, Ok, IfOk, IfErr, true, None, Some, length, max};
+ghost use Rattle.std.specs.Prelude.{◌≡◌, ◌<◌, ◌≤◌, ◌+◌, ◌-◌, ◌∷◌, IfOk, true, None, Some, length, max};
 ghost use Rattle.awk_grammar.specs.Token.{Assign};
 ghost use Rattle.awk_grammar.specs.Lexeme.{mark_lexeme};
-ghost use Rattle.awk_grammar.specs.Reading.{Joined, expr_at, posted, stops, after, climb, list_at, arguments_at, indexed_by, call_by, applied_by, checked, getline_at, from_by, first_at, bare, open_at, index_at, less_at};
+ghost use Rattle.awk_grammar.specs.Reading.{Joined, expr_at, stops, after, climb, list_at, arguments_at, indexed_by, call_by, applied_by, getline_at, from_by, first_at, bare, open_at, index_at, less_at};
 ghost use Rattle.awk_grammar.specs.Tree.{Other, depth, depths, is_start, class_at};
 ghost use Rattle.awk_grammar.specs.View.{view, views, view_step, view_unary, view_binary, view_assign};
-ghost use Rattle.awk_expressions.specs.Operands.{done, fitted_at, extended_at, field_at, unary_at, pre_at, paren_at, in_list_at, conditional_at, otherwise_at};
+ghost use Rattle.awk_expressions.specs.Operands.{extended_at, field_at, unary_at, pre_at, paren_at, in_list_at, conditional_at, otherwise_at};
 ghost use Rattle.awk_expressions.specs.Seen.{seen, seen_tree, seen_part, seen_trees, view_mode, view_link, Gives};
-ghost use Rattle.awk_expressions.specs.declared.fault.Refusal.TheVariants.{NoMemory};
 
 use crate::contains::{contained, in_array};
 use crate::fault::Refusal;
-use crate::mode::{Mode, fits, floor, is_normal, right_of, under};
+use crate::mode::{Mode, floor, right_of, under};
 use crate::node::{application, call_of, element};
+use crate::parsed::{Parsed, ParsedList, Part, boxed, fitted, within};
 use crate::peek::{
     Link, after_bracket, after_close, after_comma, after_less, after_open, close, close_bracket,
-    colon, line_of, link_left, link_level, next_link, next_of, step, stopped,
+    colon, line_of, link_left, link_level, next_link, next_of, stopped,
 };
 use awk_grammar::{
     AssignOp, BinaryOp, Builtin, Expr, Next, StepOp, UnaryOp, has_edge, suits, takes,
 };
 use awk_tokens::{Keyword, Punctuator, Token, TokenKind};
 use std::alloc::Global;
-
-/// An expression that was read, its depth, and the tokens behind it.
-#[derive(Drop)]
-pub struct Parsed<'a> {
-    pub tree: Expr,
-    pub depth: u32,
-    pub rest: &'a [Token<'a>],
-}
-
-/// An expression in a box, as a part of another, its depth, and the tokens behind it.
-#[derive(Drop)]
-struct Part<'a> {
-    tree: Box<Expr>,
-    depth: u32,
-    rest: &'a [Token<'a>],
-}
-
-/// Expressions that were read, the greatest depth among them, and the tokens behind them.
-#[derive(Drop)]
-pub struct ParsedList<'a> {
-    pub trees: Vec<Expr>,
-    pub depth: u32,
-    pub rest: &'a [Token<'a>],
-}
 
 /// An expression of at most this depth, where `greater` says whether `>` may stand outside parentheses and brackets.
 #[cycle(expr)]
@@ -71,27 +47,6 @@ pub fn expression<'a>(
     chain(alloc, limit, greater, floor(mode), first)
 }
 
-/// An operand and the step behind it, if they may stand there, where these tokens begin with it.
-fn fitted<'a>(
-    alloc: Global,
-    limit: u32,
-    mode: Mode,
-    bare: Parsed<'a>,
-    tokens: &'a [Token<'a>],
-) -> Result<Parsed<'a>, Refusal>
-    requires room { bare.depth < 4294967295 }
-    requires depth { bare.depth ≡ depth (view bare.tree) }
-    ensures tree { Gives seen_tree result (fitted_at limit (view_mode mode) (seen_tree bare.entry)) }
-    ensures depth { IfOk result (λ x. x.depth ≡ depth (view x.tree)) }
-    ensures small { IfOk result (λ x. x.depth ≤ limit) }
-{
-    let first = with_step(alloc, mode, bare)?;
-    if !fits(mode, &first.tree) {
-        return Err(stopped(tokens));
-    }
-    within(limit, first)
-}
-
 /// An expression of at most this depth, as a part of another.
 #[cycle(expr)]
 fn read_part<'a>(
@@ -108,54 +63,6 @@ fn read_part<'a>(
 {
     let read = expression(alloc, limit, greater, mode, tokens)?;
     boxed(alloc, read)
-}
-
-/// What was read, in a box.
-fn boxed<'a>(alloc: Global, read: Parsed<'a>) -> Result<Part<'a>, Refusal>
-    ensures tree { Gives seen_part result (Ok (seen_tree read.entry)) }
-    ensures depth { IfOk result (λ x. (x.tree.value ≡ read.entry.tree) × (x.depth ≡ read.entry.depth)) }
-{
-    let tree = Box::new(alloc, read.tree)?;
-    Ok(Part {
-        tree,
-        depth: read.depth,
-        rest: read.rest,
-    })
-}
-
-/// An expression that must not be deeper than this.
-fn within<'a>(limit: u32, read: Parsed<'a>) -> Result<Parsed<'a>, Refusal>
-    requires depth { read.depth ≡ depth (view read.tree) }
-    ensures tree { Gives seen_tree result (checked limit done (seen_tree read.entry)) }
-    ensures same { IfOk result (λ x. (x ≡ read.entry) × (x.depth ≤ limit)) }
-{
-    if read.depth > limit {
-        return Err(Refusal::TooDeep(line_of(read.rest)));
-    }
-    Ok(read)
-}
-
-/// An LValue with the step behind it, if there is one and it may stand there.
-fn with_step<'a>(alloc: Global, mode: Mode, bare: Parsed<'a>) -> Result<Parsed<'a>, Refusal>
-    requires room { bare.depth < 4294967295 }
-    requires depth { bare.depth ≡ depth (view bare.tree) }
-    ensures tree { IfOk result (λ x. seen_tree x ≡ posted (view_mode mode) (seen_tree bare.entry)) }
-    ensures depth { IfOk result (λ x. x.depth ≡ depth (view x.tree)) }
-    ensures small { IfOk result (λ x. x.depth ≤ bare.entry.depth + 1) }
-    ensures refused { IfErr result (λ e. e ≡ NoMemory) }
-{
-    if !is_normal(mode) || !fits(Mode::LValue, &bare.tree) {
-        return Ok(bare);
-    }
-    let Some((op, rest)) = step(bare.rest) else {
-        return Ok(bare);
-    };
-    let inner = Box::new(alloc, bare.tree)?;
-    Ok(Parsed {
-        tree: Expr::PostStep(op, inner),
-        depth: bare.depth + 1,
-        rest,
-    })
 }
 
 /// Whether a link does not take the expression as its left side where this level is the least.

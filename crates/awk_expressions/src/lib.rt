@@ -6,11 +6,13 @@ mod expr;
 mod fault;
 mod mode;
 mod node;
+mod parsed;
 mod peek;
 
-pub use expr::{Parsed, ParsedList, expression, list};
+pub use expr::{expression, list};
 pub use fault::Refusal;
 pub use mode::Mode;
+pub use parsed::{Parsed, ParsedList};
 pub use peek::{
     after_close, after_comma, begins_expr, close, close_bracket, line_of, name, stopped,
 };
