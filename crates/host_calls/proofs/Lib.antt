@@ -1,3 +1,4 @@
+pub mod Chosen
 pub mod Comes
 pub mod Faulted
 pub mod Moved

@@ -1,3 +1,4 @@
+pub mod Chosen
 pub mod LetGo
 pub mod Quiet
 pub mod Tellings

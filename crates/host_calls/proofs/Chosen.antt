@@ -1,0 +1,11 @@
+-- A call, by the choice that stands for it.
+use Rattle.std.proofs.Common.{◌≡◌, ℕ, List, Option, Result, subst, sym}
+use Rattle.wasm_store.specs.declared.word.Word.{Word}
+use Rattle.host_values.specs.declared.reply.Refusal.{Refusal}
+use Rattle.host_elements.specs.Forms.{HostForm}
+use Rattle.host_calls.specs.Calls.{ComesTo, import_of}
+use Rattle.host_calls.specs.declared.dispatch.Call.{Call}
+
+pub chosen : (tells : Type 0) (c k : Call) (before : HostForm) (words : List Word) (memory : List ℕ) (r : Result (Option Word) Refusal) (after : HostForm) → c ≡ k
+    → ComesTo tells (import_of k) before words memory r after → ComesTo tells (import_of c) before words memory r after
+chosen tells c k before words memory r after is comes = subst (λ (m : Call). ComesTo tells (import_of m) before words memory r after) (sym is) comes
