@@ -5,7 +5,7 @@ use Rattle.awk_run.specs.declared.end.Refusal.TheVariants.{Compile}
 use Rattle.awk_run.specs.declared.end.RunEnd.{RunEnd}
 use Rattle.awk_run.specs.declared.end.RunEnd.TheVariants.{Refused}
 use Rattle.awk_run.specs.declared.end.RunEnd.TheVariants as end
-use Rattle.run_report.specs.EndTexts.{exit_code, file_text}
+use Rattle.run_report.specs.EndTexts.{end_text, exit_code, file_text}
 use Rattle.awkwasm.specs.declared.undone.Undone.{Undone}
 use Rattle.awkwasm.specs.declared.undone.Undone.TheVariants.{Arguments, Environment, File, NoMemory, RandomNumbers}
 
@@ -21,7 +21,7 @@ undone_text (File fault) = file_text fault
 undone_text Arguments = codes "awkwasm: an argument is not UTF-8\n"
 undone_text Environment = codes "awkwasm: the environment is not UTF-8\n"
 undone_text RandomNumbers = codes "awkwasm: the system gives no random numbers\n"
-undone_text NoMemory = codes "awkwasm: NoMemory\n"
+undone_text NoMemory = end_text end.NoMemory
 
 abbrev pub undone_code : Undone → ℕ
 undone_code (File fault) = 8

@@ -2,12 +2,14 @@
 #![tactic(auto)]
 
 mod job;
+mod standard;
 mod tasks;
 mod undone;
 
+use crate::standard::take_closed;
 use crate::tasks::{carry_out, tell_task};
 use crate::undone::Undone;
-use command_line::{exit_status, request_of};
+use command_line::{exit_status, is_no_memory, request_of};
 use std::alloc::AllocError;
 use std::io;
 use std::process::ExitCode;
@@ -31,24 +33,27 @@ fn words_of<'a>(rt: &HostRuntime, arguments: &'a [String]) -> Result<Vec<&'a str
 }
 
 /// Does what the words ask for; the answer is the exit status.
-fn answer(rt: &HostRuntime, words: &[&str]) -> u8 {
+fn answer(rt: &HostRuntime, words: &[&str]) -> Result<u8, Undone> {
     // A failing standard stream changes no status.
     match request_of(rt.alloc(), words) {
+        Err(error) if is_no_memory(&error) => Err(Undone::NoMemory),
         Err(error) => {
             let _ = error.print(rt);
-            exit_status(&error)
+            Ok(exit_status(&error))
         }
-        Ok(request) => carry_out(rt, &request),
+        Ok(request) => Ok(carry_out(rt, &request)),
     }
 }
 
 fn status(rt: &HostRuntime) -> Result<u8, Undone> {
     let arguments = arguments(rt)?;
     let words = words_of(rt, &arguments)?;
-    Ok(answer(rt, &words))
+    answer(rt, &words)
 }
 
 fn main(rt: HostRuntime) -> ExitCode {
+    // Kept to the end of the run, before any other file is opened.
+    let _taken = take_closed(&rt);
     let status = match status(&rt) {
         Ok(status) => status,
         Err(undone) => tell_task(&rt, Err(undone)),

@@ -14,7 +14,7 @@ use awk_run::{CompileFault, Refusal, RunEnd, compile, run_module, run_script};
 use command_line::{Request, Task};
 use host_calls::NamedText;
 use os_world::OsWorld;
-use run_report::{FileFault, fault_text, status_of};
+use run_report::{FileFault, fault_text, no_memory_text, status_of};
 use std::alloc::Global;
 use std::hash::RandomState;
 use std::io::{Print, Read};
@@ -141,7 +141,9 @@ fn tell(rt: &HostRuntime, line: &[u8]) {
 fn tell_end(rt: &HostRuntime, end: RunEnd) -> u8
     ensures { result ≡ exit_code end }
 {
-    if let Ok(line) = fault_text(rt.alloc(), &end) {
+    if let RunEnd::NoMemory = end {
+        tell(rt, no_memory_text());
+    } else if let Ok(line) = fault_text(rt.alloc(), &end) {
         tell(rt, line.as_slice());
     }
     status_of(&end)

@@ -2,7 +2,7 @@
 ghost use Rattle.std.specs.Prelude.{◌≡◌};
 ghost use Rattle.awkwasm.specs.Tasks.{undone_code, undone_text};
 
-use run_report::{FileFault, file_fault_text};
+use run_report::{FileFault, file_fault_text, no_memory_text};
 use std::alloc::AllocError;
 
 /// Why a task is not done.
@@ -40,7 +40,7 @@ pub(crate) fn undone_text(undone: &Undone) -> &'static [u8]
         Undone::Arguments => "awkwasm: an argument is not UTF-8\n".as_bytes(),
         Undone::Environment => "awkwasm: the environment is not UTF-8\n".as_bytes(),
         Undone::RandomNumbers => "awkwasm: the system gives no random numbers\n".as_bytes(),
-        Undone::NoMemory => "awkwasm: NoMemory\n".as_bytes(),
+        Undone::NoMemory => no_memory_text(),
     }
 }
 

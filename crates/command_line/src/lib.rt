@@ -1,7 +1,7 @@
 //! The command line of awkwasm: what it asks for, and what is said of a line that asks for nothing.
 #![tactic(auto)]
 
-ghost use Rattle.std.specs.Prelude.{◌≡◌, IfOk, IfSome, false};
+ghost use Rattle.std.specs.Prelude.{◌≡◌, ◌↔◌, IfOk, IfSome, IsTrue, false};
 ghost use Rattle.std.specs.Prelude.{map, true, IfErr, codes};
 ghost use Rattle.clap.specs.Words.{app_of, rule_of, takes, kind_of, rows_of, found_of, matches_of, one_of, subcommand_rows_of, subcommand_of};
 ghost use Rattle.clap.specs.declared.builder.command.Command.TheViews.{out-Command as fields_of};
@@ -169,6 +169,13 @@ pub fn exit_status(error: &Error) -> u8
         ErrorKind::OutOfMemory => 5,
         _ => 8,
     }
+}
+
+/// Whether a line asks for nothing for want of memory. Then the text of the error is clap's own.
+pub fn is_no_memory(error: &Error) -> bool
+    ensures { IsTrue result ↔ (kind_of error.now ≡ ErrorKind.OutOfMemory) }
+{
+    matches!(error.kind(), ErrorKind::OutOfMemory)
 }
 
 /// The words of an argument that may be given often.

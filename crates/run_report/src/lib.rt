@@ -5,4 +5,4 @@ mod faults;
 mod line;
 mod report;
 
-pub use report::{FileFault, fault_text, file_fault_text, status_of};
+pub use report::{FileFault, fault_text, file_fault_text, no_memory_text, status_of};

@@ -64,6 +64,14 @@ pub fn fault_text(alloc: Global, end: &RunEnd) -> Result<Vec<u8>, AllocError>
     }
 }
 
+/// The line for the standard error that tells want of memory, as [`fault_text`] has it of [`RunEnd::NoMemory`]. It takes no memory.
+#[tactic(auto, unfolding(crate::specs::EndTexts::line_of))]
+pub fn no_memory_text() -> &'static [u8]
+    ensures { result.now ≡ end_text RunEnd.NoMemory }
+{
+    "awkwasm: NoMemory\n".as_bytes()
+}
+
 /// The line for the standard error that tells what failed of a file.
 #[tactic(auto, unfolding(crate::specs::EndTexts::line_of))]
 pub fn file_fault_text(fault: &FileFault) -> &'static [u8]
