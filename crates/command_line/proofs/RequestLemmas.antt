@@ -1,12 +1,11 @@
 -- What the getters of clap give, read off the rows of what is found.
 use Rattle.std.proofs.Common.{◌≡◌, ◌∙◌, ℕ, ◌^◌, ◌-◌, ◌<◌, List, [], Option, None, Some, option_map, ap, codes, refl}
-use Rattle.std.specs.Borrow.{Bor}
 use Rattle.std.specs.Prelude.{unwrap_or}
 use Rattle.std.specs.Str.Parse.{IsNumeral, digits_value, without_leading_plus}
 use Rattle.clap.specs.declared.parser.matches.ArgMatches.{ArgMatches}
 use Rattle.clap.specs.Words.{Text, first_value, found_of, matched_of, one_of, one_text, raw_values, rows_of}
 use Rattle.clap.proofs.WalkLemmas.{first_value-rows, one_text-rows, raw_values-rows}
-use Rattle.command_line.specs.Request.{IsSteps, texts, word_at, words_at}
+use Rattle.command_line.specs.Request.{IsSteps, word_at, words_at}
 
 pub listed : (m : ArgMatches) (id : Text) (o : Option (List Text)) → o ≡ option_map raw_values (matched_of (found_of m) id) → unwrap_or o [] ≡ words_at id (rows_of (found_of m))
 listed m id o given = ap (λ found. unwrap_or found []) (given ∙ raw_values-rows (found_of m) id)

@@ -1,5 +1,5 @@
 -- The command line of awkwasm, as the words of clap's specification say it.
-use Rattle.std.specs.Prelude.{ℕ, ◌^◌, ◌-◌, List, Some, true, codes}
+use Rattle.std.specs.Prelude.{ℕ, ◌^◌, ◌-◌, Some, true, codes}
 use Rattle.clap.specs.Words.{App, Rule, Text, new_app, new_rule, with_rule, with_subcommand}
 use Rattle.clap.specs.Simple.{on_top}
 use Rattle.clap.specs.declared.builder.action.ArgAction.TheVariants.{Set, Append}
