@@ -1,4 +1,5 @@
 mod Arms
+mod ArrayLemmas
 mod FitLemmas
 mod FormLemmas
 mod Keepings

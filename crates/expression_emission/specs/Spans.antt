@@ -1,6 +1,6 @@
--- Where the texts of a script stand, and which scripts are small enough.
-use Rattle.std.specs.Prelude.{ℕ, ◌+◌, ◌++◌, ◌≡◌, ◌≤◌, ◌<◌, ◌^◌, List, [], ◌∷◌, length, Option, MatchOption}
-use Rattle.mid_program.specs.Mid.{Program}
+-- Where the texts and the arrays of a script stand, and which scripts are small enough.
+use Rattle.std.specs.Prelude.{ℕ, suc, ◌+◌, ◌++◌, ◌≡◌, ◌≤◌, ◌<◌, ◌^◌, List, [], ◌∷◌, length, Option, MatchOption}
+use Rattle.mid_program.specs.Mid.{Kind, Boxed, Many, Program, Unboxed}
 use Rattle.value_machine.specs.Places.{memory_of}
 use Rattle.value_machine.specs.Functions.{texts_of}
 use Rattle.code_emission.specs.Bounds.{most_places}
@@ -10,6 +10,13 @@ use Rattle.expression_emission.specs.declared.tables.Span.{Span}
 abbrev pub spans_from : ℕ → List (List ℕ) → List Span
 spans_from at [] = []
 spans_from at (s ∷ ss) = (record { place = at; size = length s }) ∷ spans_from (at + length s) ss
+
+-- the places of the arrays among names, of which the first has this one
+abbrev pub arrays_from : ℕ → List Kind → List ℕ
+arrays_from at [] = []
+arrays_from at (Many ∷ ks) = at ∷ arrays_from (suc at) ks
+arrays_from at (Boxed ∷ ks) = arrays_from (suc at) ks
+arrays_from at (Unboxed ∷ ks) = arrays_from (suc at) ks
 
 -- few enough names and ranges, and texts that fit in memory
 abbrev pub IsSmall : Program → Type 0

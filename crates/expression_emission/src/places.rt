@@ -1,10 +1,7 @@
 //! Where names and arrays stand.
-ghost use Rattle.std.specs.Prelude.{◌≡◌, ◌<◌, ◌≤◌, length, map, OnOk};
-ghost use Rattle.mid_program.specs.Sorted.{kinds_of};
-ghost use Rattle.mid_program.specs.View.{view_declared};
+ghost use Rattle.std.specs.Prelude.{◌≡◌, ◌<◌, ◌≤◌, length, OnOk};
 ghost use Rattle.mid_program.specs.ViewCode.{view_array};
 ghost use Rattle.value_machine.specs.Emission.{array_pushed, global_handle, global_number, text_pushed};
-ghost use Rattle.value_machine.specs.Places.{array_name};
 ghost use Rattle.code_emission.specs.Bounds.{most_places};
 ghost use Rattle.code_emission.specs.Emits.{Emits};
 ghost use Rattle.expression_emission.specs.Fits.{ArrayFits};
@@ -12,7 +9,7 @@ ghost use Rattle.expression_emission.specs.View.{view_layout};
 
 use crate::layout::Layout;
 use code_emission::{does, does_all};
-use mid_program::{ArrayName, Declared, Kind};
+use mid_program::ArrayName;
 use std::alloc::AllocError;
 use wasm_types::{Instr, Simple};
 
@@ -34,25 +31,6 @@ pub fn global_number(y: &Layout<'_>, name: usize) -> u32
     y.tables.ranges() + 3 + (name + name)
 }
 
-/// The name of an array of the script.
-fn array_name(names: &[Declared], array: usize) -> usize
-    ensures name { result ≡ array_name (kinds_of (map view_declared names.now)) array }
-    ensures few { result ≤ length names.now }
-{
-    let mut left = array;
-    let mut place = 0;
-    for name in names {
-        if let Kind::Many = name.kind {
-            if left == 0 {
-                return place;
-            }
-            left -= 1;
-        }
-        place += 1;
-    }
-    place
-}
-
 /// Adds an array.
 pub fn array_pushed(
     y: &Layout<'_>,
@@ -66,7 +44,7 @@ pub fn array_pushed(
         ArrayName::Numbered(0) => does(out, Simple::I32Const(0)),
         ArrayName::Numbered(1) => does(out, Simple::I32Const(1)),
         ArrayName::Numbered(number) => {
-            let name = array_name(y.tables.names(), number - 2);
+            let name = y.tables.array_name(number - 2);
             does(out, Simple::GlobalGet(global_handle(y, name)))
         }
         ArrayName::Given(parameter) => does(out, Simple::LocalGet(parameter as u32)),

@@ -1,13 +1,14 @@
 //! Where the things of a script stand.
-ghost use Rattle.std.specs.Prelude.{[], ◌≡◌, ◌<◌, ◌≤◌, IfOk, MatchOption, get_or, length};
-ghost use Rattle.mid_program.specs.View.{view_mid};
+ghost use Rattle.std.specs.Prelude.{[], ◌≡◌, ◌<◌, ◌≤◌, IfOk, MatchOption, get_or, length, map};
+ghost use Rattle.mid_program.specs.Sorted.{kinds_of};
+ghost use Rattle.mid_program.specs.View.{view_declared, view_mid};
 ghost use Rattle.value_machine.specs.Functions.{texts_of};
-ghost use Rattle.value_machine.specs.Places.{place_of};
+ghost use Rattle.value_machine.specs.Places.{array_name, place_of};
 ghost use Rattle.code_emission.specs.Bounds.{most_places};
-ghost use Rattle.expression_emission.specs.Spans.{spans_from, IsSmall};
+ghost use Rattle.expression_emission.specs.Spans.{arrays_from, spans_from, IsSmall};
 
 use crate::spans::{place_globals, place_routines, place_texts};
-use mid_program::{Declared, Mid, Routine};
+use mid_program::{Declared, Kind, Mid, Routine};
 use std::alloc::{AllocError, Global};
 
 /// More names or ranges a script does not have.
@@ -20,12 +21,27 @@ pub struct Span {
     pub size: u32,
 }
 
-/// A script, and where its texts stand.
+/// Which of the names are arrays.
+fn array_names(alloc: Global, names: &[Declared]) -> Result<Vec<usize>, AllocError>
+    ensures { IfOk result (λ arrays. arrays.items ≡ arrays_from 0 (kinds_of (map view_declared names.now))) }
+{
+    let mut arrays = Vec::new(alloc);
+    for (place, name) in names.iter().enumerate() {
+        if let Kind::Many = name.kind {
+            arrays.push(place)?;
+        }
+    }
+    Ok(arrays)
+}
+
+/// A script, where its texts stand, and which of its names are arrays.
 #[derive(Drop)]
 pub struct Tables<'a> {
     pub program: &'a Mid,
     spans: Vec<Span>,
+    arrays: Vec<usize>,
     ghost placed: { spans.items ≡ spans_from 0 (texts_of (view_mid program.now)) },
+    ghost named: { arrays.items ≡ arrays_from 0 (kinds_of (map view_declared program.now.globals.items)) },
     ghost small: { IsSmall (view_mid program.now) },
 }
 
@@ -47,7 +63,12 @@ impl<'a> Tables<'a> {
         let Some(_) = place_routines(&mut spans, place, &program.routines)? else {
             return Ok(None);
         };
-        Ok(Some(Tables { program, spans }))
+        let arrays = array_names(alloc, &program.globals)?;
+        Ok(Some(Tables {
+            program,
+            spans,
+            arrays,
+        }))
     }
 
     /// Where a text stands.
@@ -65,6 +86,17 @@ impl<'a> Tables<'a> {
         ensures few { length result.now ≤ most_places }
     {
         &self.program.globals
+    }
+
+    /// The name of an array of the script.
+    pub fn array_name(&self, array: usize) -> usize
+        ensures name { result ≡ array_name (kinds_of (map view_declared self.now.program.now.globals.items)) array }
+        ensures few { result ≤ length self.now.program.now.globals.items }
+    {
+        match self.arrays.get(array) {
+            Some(name) => *name,
+            None => self.program.globals.len(),
+        }
     }
 
     /// The functions.

@@ -1,6 +1,5 @@
 -- Reads of files are calls.
 use Rattle.std.proofs.Common.{◌≡◌, ◌≢◌, ℕ, ℤ, true, List, [], ◌∷◌, Some, None, Result, Ok, Err, refl, sym, ap, subst, ◌∙◌}
-use Rattle.std.specs.Prelude.{map as map_list}
 use Rattle.std.specs.FinMap as map
 use Rattle.awk_values.specs.declared.fault.Stop.{Stop}
 use Rattle.awk_values.specs.declared.fault.Stop.TheVariants.{Fault as IsFault, NoMemory}
@@ -32,7 +31,7 @@ use Rattle.host_values.specs.declared.reply.Refusal.TheVariants as why
 use Rattle.host_values.proofs.OneHandle.{as_row, decoded}
 use Rattle.host_elements.specs.Forms.{HostForm, Past, inner_of, state_of}
 use Rattle.host_elements.proofs.Steps.{state_with}
-use Rattle.host_names.specs.Forms.{left_of, name_of}
+use Rattle.host_names.specs.Forms.{announced, left_of}
 use Rattle.form_meaning.specs.WorldCalls.{IsCalled}
 use Rattle.host_inputs.specs.Calls.{answered_by, shown_after, with_values}
 use Rattle.host_inputs.specs.Givens.{RowGives, file_primitive, file_row}
@@ -108,7 +107,7 @@ module _ (m m' : Values) (t t' : Texts) (i i' : Input) (s s' : State) (f : HostF
     iterators = refl;
     writers = ap (λ w. names_of w.items) writers;
     in_end = ap (λ (x : Input). x.in_end) moved;
-    names = ap (λ (x : Input). map_list name_of x.names.names.items) moved;
+    names = ap (λ (x : Input). announced x.names) moved;
     assigns = ap (λ (x : Input). left_of x.names) moved;
     substituted = kept;
   }

@@ -1,6 +1,6 @@
 -- Reads of the main input are calls.
 use Rattle.std.proofs.Common.{◌≡◌, ℕ, pos, Bool, true, false, not, List, [], ◌∷◌, get_or, Option, Some, None, is_some, Result, Ok, Err, refl, sym, ap, subst, ◌∙◌}
-use Rattle.std.specs.Prelude.{decimal, map as map_list}
+use Rattle.std.specs.Prelude.{decimal}
 use Rattle.std.specs.FinMap as map
 use Rattle.std.proofs.lemmas.Option.{get_or_from_slice_get}
 use Rattle.awk_values.specs.declared.fault.Stop.{Stop}
@@ -27,7 +27,7 @@ use Rattle.host_step.specs.declared.import.Import.TheVariants.{Of}
 use Rattle.host_streams.specs.OpenFiles.{names_of}
 use Rattle.host_texts.specs.declared.texts.Texts.{Texts}
 use Rattle.host_arrays.specs.Pairs.{pairs_or_none}
-use Rattle.host_names.specs.Forms.{left_of, name_of}
+use Rattle.host_names.specs.Forms.{announced, left_of}
 use Rattle.host_values.specs.declared.reply.Refusal.TheVariants as why
 use Rattle.host_elements.specs.Forms.{Arrays, HostForm, Past, Shows, inner_of, state_of}
 use Rattle.host_elements.proofs.Steps.{IsPast, state_with}
@@ -123,7 +123,7 @@ module _ (t t' : Texts) (i i' : Input) (s s' : State) (f : HostForm) (p : Past) 
     iterators = refl;
     writers = ap (λ (x : Input). names_of x.files.writers.items) moved;
     in_end = ap (λ (x : Input). x.in_end) moved;
-    names = ap (λ (x : Input). map_list name_of x.names.names.items) moved;
+    names = ap (λ (x : Input). announced x.names) moved;
     assigns = ap (λ (x : Input). left_of x.names) moved;
     substituted = kept;
   }

@@ -1,3 +1,4 @@
+pub mod Announced
 pub mod Assigned
 pub mod Reading
 pub mod Steps

@@ -45,6 +45,9 @@ declare_traps f words memory k none reads =
     trapped (Of row.Declare) f words memory k (unrefused (Of row.Declare) f.fault none)
     (λ p past. ap (carry (Of row.Declare) (state_of f p)) (declare_decoded (state_of f p).names (spends (Of row.Declare)) memory words ∙ ap (declare_row (state_of f p).names) reads))
 
+trap_is_some : (k : TrapKind) → told.Trap k ≢ told.NoMemory
+trap_is_some k e = cc
+
 module _ (f : HostForm) (words : List Word) (memory : List ℕ) (none : f.fault ≡ None) (text : List ℕ) (kind : NameKind) (reads : declare_front memory words ≡ Ok (text, kind)) where
   abbrev named : Inner → Inner
   named inner = record inner { names = inner.names ++ (text, kind) ∷ [] }
@@ -68,8 +71,13 @@ module _ (f : HostForm) (words : List Word) (memory : List ℕ) (none : f.fault 
         (declare_carried p false absent) tt refl refl;
   }
 
-  pub declare_memory : is_some (declared 0 text f.shared.inner.names) ≡ false → (g : HostForm) → IsTableCall (Of row.Declare) f words memory (Err why.NoMemory) g
-  declare_memory absent g = wanted (Of row.Declare) f _ g words memory None (declare_goes absent)
+  declare_wanted : (b : Bool) → is_some (declared 0 text f.shared.inner.names) ≡ b → (g : HostForm) → IsTableCall (Of row.Declare) f words memory (Err why.NoMemory) g
+  declare_wanted true there g s st = let x = declare_twice there s st in (told.Trap BadArgument, trap_is_some BadArgument, x.0, x.2)
+  declare_wanted false absent g = wanted (Of row.Declare) f _ g words memory None (declare_goes absent)
+
+  -- memory was wanting, for the name or for its place
+  pub declare_memory : (g : HostForm) → IsTableCall (Of row.Declare) f words memory (Err why.NoMemory) g
+  declare_memory = declare_wanted (is_some (declared 0 text f.shared.inner.names)) refl
 
   pub declare_call : is_some (declared 0 text f.shared.inner.names) ≡ false → (inner : Inner) → inner ≡ named f.shared.inner
       → IsTableCall (Of row.Declare) f words memory (Ok None) (record f { shared = record f.shared { inner = inner } })

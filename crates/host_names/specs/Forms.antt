@@ -10,13 +10,12 @@ use Rattle.host_values.specs.declared.reply.Refusal.TheVariants as why
 use Rattle.host_texts.specs.States.{with_texts}
 use Rattle.host_texts.specs.declared.texts.Texts.{Texts}
 use Rattle.host_elements.specs.Forms.{HostForm}
-use Rattle.host_names.specs.declared.names.Name.{Name}
 use Rattle.host_names.specs.declared.names.NamedText.{NamedText}
 use Rattle.host_names.specs.declared.names.Names.{Names}
 
--- a name and what it is
-abbrev pub name_of : Name → List ℕ × NameKind
-name_of n = (n.text, n.kind)
+-- the names of the script and what they are, by their numbers
+abbrev pub announced : Names → List (List ℕ × NameKind)
+announced n = n.names.entries
 
 abbrev pub pair_of : NamedText → List ℕ × List ℕ
 pair_of p = (p.name, p.text)
@@ -26,7 +25,7 @@ abbrev pub left_of : Names → List (List ℕ × List ℕ)
 left_of n = map pair_of (drop n.made n.assigns.items)
 
 abbrev pub with_names : Names → Inner → Inner
-with_names n inner = record inner { names = map name_of n.names.items; assigns = left_of n; pending = n.pending }
+with_names n inner = record inner { names = announced n; assigns = left_of n; pending = n.pending }
 
 -- nothing changes but this
 abbrev pub with_pending : Option (ℕ × Value) → Names → Names

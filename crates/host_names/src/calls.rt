@@ -1,36 +1,27 @@
 //! Calls on names and on assignments of the command line.
-ghost use Rattle.std.specs.Prelude.{◌≡◌, ◌∷◌, [], ◌++◌, List, ℕ, None, OnOk, map as map_list};
+ghost use Rattle.std.specs.Prelude.{◌≡◌, List, ℕ, None};
 ghost use Rattle.std.specs.FinMap as map;
-ghost use Rattle.awk_state.specs.SharedState.{Inner};
 ghost use Rattle.awk_state.specs.declared.table.Primitive.TheVariants as row;
 ghost use Rattle.host_step.specs.Answers.{assign_code};
 ghost use Rattle.host_step.specs.declared.import.Import.{Import};
 ghost use Rattle.host_values.specs.Calls.{spare};
 ghost use Rattle.host_elements.specs.Calls.{IsTableCall};
 ghost use Rattle.host_elements.specs.Forms.{HostForm};
-ghost use Rattle.host_names.specs.Forms.{left_after, name_of, of_all, of_names, with_names};
+ghost use Rattle.host_names.specs.Forms.{left_after, of_all, of_names};
 
 use crate::making::make_left;
-use crate::names::{Names, declared};
+use crate::names::Names;
 use crate::words::declare_front;
 use awk_state::{AssignAnswer, NameKind};
 use awk_values::{Bytes, Stop};
 use host_handles::Handles;
 use host_texts::Texts;
 use host_values::{Refusal, Reply, ends, give};
-use std::alloc::{AllocError, Global};
+use std::alloc::Global;
 use wasm_store::{TrapKind, Word};
 
 /// A call out of turn.
 const UNFIT: Refusal = Refusal::Trap(TrapKind::BadArgument);
-
-/// Adds a name.
-fn add(alloc: Global, names: &mut Names, text: &[u8], kind: NameKind) -> Result<(), AllocError>
-    ensures { OnOk result ((inner : Inner) → with_names names.new inner ≡ record (with_names names.old inner) { names = map_list name_of names.old.names.items ++ (text.now, kind) ∷ [] }) }
-{
-    let text = Bytes::from_slice(alloc, text)?;
-    names.add(text, kind)
-}
 
 /// `declare`: a name of the script is announced, once.
 ///
@@ -49,10 +40,13 @@ pub fn declare(
         Ok(said) => said,
         Err(kind) => return Err(Refusal::Trap(kind)),
     };
-    if declared(names.names.as_slice(), text).is_some() {
+    let Ok(name) = Bytes::from_slice(alloc, text) else {
+        return Err(Refusal::NoMemory);
+    };
+    if names.declared(&name).is_some() {
         return Err(UNFIT);
     }
-    match add(alloc, names, text, kind) {
+    match names.add(name, kind) {
         Ok(()) => Ok(None),
         Err(_) => Err(Refusal::NoMemory),
     }

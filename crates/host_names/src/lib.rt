@@ -9,4 +9,4 @@ mod words;
 
 pub use calls::{declare, pending_name, pending_value, start_assign};
 pub use making::assign;
-pub use names::{Name, NamedText, Names};
+pub use names::{NamedText, Names};

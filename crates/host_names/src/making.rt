@@ -30,7 +30,8 @@ fn assign_by(
     ensures substituted { texts.new.substituted ≡ texts.old.substituted }
 {
     let Some(special) = special else {
-        return names.keep(name, text);
+        let name = Bytes::from_slice(alloc, name)?;
+        return names.keep(&name, text);
     };
     match put_special(alloc, texts, special, &Value::StrNum(text)) {
         Ok(()) => Ok(false),

@@ -1,20 +1,15 @@
 //! The names that a script announced, and the assignments of the command line that are to be made.
-ghost use Rattle.std.specs.Prelude.{◌≡◌, [], ◌∷◌, ◌++◌, IfErr, IfOk, None, Ok, OnErr, OnOk, is_some, map};
+ghost use Rattle.std.specs.Prelude.{◌≡◌, [], ◌∷◌, ◌++◌, IfErr, IfOk, None, Ok, OnErr, OnOk, false, is_some, map};
 ghost use Rattle.awk_state.specs.Assignments.{assigned_global, declared};
 ghost use Rattle.awk_state.specs.SharedState.{Inner};
 ghost use Rattle.host_format.specs.Outcomes.{IsStopOf};
-ghost use Rattle.host_names.specs.Forms.{PendsBy, Takes, left_of, name_of, pair_of, with_names, with_pending};
+ghost use Rattle.host_names.specs.Forms.{PendsBy, Takes, announced, left_of, pair_of, with_names, with_pending};
 
 use awk_state::NameKind;
 use awk_values::{Bytes, Fault, Stop, Value};
+use indexmap::IndexMap;
 use std::alloc::{AllocError, Global};
-
-/// A name of the script, and what it is.
-#[derive(Drop)]
-pub struct Name {
-    pub text: Bytes,
-    pub kind: NameKind,
-}
+use std::hash::RandomState;
 
 /// A name and a text for it, as it stands on the command line.
 #[derive(Drop)]
@@ -23,37 +18,25 @@ pub struct NamedText {
     pub text: Bytes,
 }
 
-/// The names of the script by their numbers, the assignments of the command line (`-v`) of which so many are made, and the name and the value of the
-/// one that is to be made now.
+/// The names of the script with what they are, where the number of a name is that of its entry; the assignments of the command line (`-v`) of which so
+/// many are made; and the name and the value of the one that is to be made now.
 #[derive(Drop)]
 pub struct Names {
-    pub names: Vec<Name>,
+    pub names: IndexMap<Bytes, NameKind, RandomState>,
     pub assigns: Vec<NamedText>,
     pub made: usize,
     pub pending: Option<(u32, Value)>,
 }
 
-/// The number and the kind of a name.
-pub(crate) fn declared(names: &[Name], text: &[u8]) -> Option<(usize, NameKind)>
-    ensures { result ≡ declared 0 text.now (map name_of names.now) }
-{
-    for (at, name) in names.iter().enumerate() {
-        if text == name.text.as_slice() {
-            return Some((at, name.kind));
-        }
-    }
-    None
-}
-
 impl Names {
-    /// No name, and these assignments. It takes no memory.
-    pub fn at_start(alloc: Global, assigns: Vec<NamedText>) -> Names
-        ensures names { result.names.items ≡ [] }
+    /// No name, and these assignments. Names are hashed by the state; no answer depends on it. It takes no memory.
+    pub fn at_start(alloc: Global, assigns: Vec<NamedText>, state: RandomState) -> Names
+        ensures names { announced result ≡ [] }
         ensures assigns { left_of result ≡ map pair_of assigns.items }
         ensures pending { result.pending ≡ None }
     {
         Names {
-            names: Vec::new(alloc),
+            names: IndexMap::with_hasher(alloc, state),
             assigns,
             made: 0,
             pending: None,
@@ -67,11 +50,22 @@ impl Names {
         self.pending.is_some()
     }
 
-    /// Adds a name.
-    pub(crate) fn add(&mut self, text: Bytes, kind: NameKind) -> Result<(), AllocError>
-        ensures { OnOk result ((inner : Inner) → with_names self.new inner ≡ record (with_names self.old inner) { names = map name_of self.old.names.items ++ (text, kind) ∷ [] }) }
+    /// The number and the kind of a name.
+    pub(crate) fn declared(&self, text: &Bytes) -> Option<(usize, NameKind)>
+        ensures { result ≡ declared 0 text.now (announced self.now) }
     {
-        self.names.push(Name { text, kind })?;
+        match self.names.get_full(text) {
+            Some((at, _, kind)) => Some((at, *kind)),
+            None => None,
+        }
+    }
+
+    /// Adds a name that is not there yet.
+    pub(crate) fn add(&mut self, text: Bytes, kind: NameKind) -> Result<(), AllocError>
+        requires { is_some (declared 0 text (announced self.old)) ≡ false }
+        ensures { OnOk result ((inner : Inner) → with_names self.new inner ≡ record (with_names self.old inner) { names = announced self.old ++ (text, kind) ∷ [] }) }
+    {
+        self.names.insert(text, kind)?;
         Ok(())
     }
 
@@ -89,14 +83,14 @@ impl Names {
     }
 
     /// An assignment to a name that is no special variable: of a scalar it is to be made by the script, of a name that the script does not have it is none.
-    pub(crate) fn keep(&mut self, name: &[u8], text: Bytes) -> Result<bool, Stop>
-        ensures ok { IfOk result (λ kept. (inner : Inner) → assigned_global (declared 0 name.now (map name_of self.old.names.items)) text (with_names self.old inner) ≡ Ok (with_names self.new inner, kept)) }
-        ensures err { IfErr result (λ stop. (inner : Inner) → IsStopOf (assigned_global (declared 0 name.now (map name_of self.old.names.items)) text (with_names self.old inner)) stop) }
+    pub(crate) fn keep(&mut self, name: &Bytes, text: Bytes) -> Result<bool, Stop>
+        ensures ok { IfOk result (λ kept. (inner : Inner) → assigned_global (declared 0 name.now (announced self.old)) text (with_names self.old inner) ≡ Ok (with_names self.new inner, kept)) }
+        ensures err { IfErr result (λ stop. (inner : Inner) → IsStopOf (assigned_global (declared 0 name.now (announced self.old)) text (with_names self.old inner)) stop) }
         ensures refused { OnErr result (self.new ≡ self.old) }
         ensures rest { self.new ≡ with_pending self.new.pending self.old }
         ensures pending { IfOk result (λ kept. PendsBy kept self.old self.new) }
     {
-        match declared(self.names.as_slice(), name) {
+        match self.declared(name) {
             None => Ok(false),
             Some((_, NameKind::ArrayOrFunction)) => Err(Stop::Fault(Fault::BadAssignment)),
             Some((number, NameKind::Scalar)) => {

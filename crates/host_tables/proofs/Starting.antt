@@ -1,5 +1,5 @@
 -- The tables at the start of a job show its state.
-use Rattle.std.proofs.Common.{◌≡◌, ℕ, ℤ, pos, Bool, true, false, cond, [], ◌∷◌, length, map as map_list, Option, Some, None, refl, sym, ap, subst, ◌∙◌, codes, is_some}
+use Rattle.std.proofs.Common.{◌≡◌, ℕ, ℤ, pos, Bool, true, false, cond, [], ◌∷◌, length, Option, Some, None, refl, sym, ap, subst, ◌∙◌, codes, is_some}
 use Rattle.std.specs.Ordering.{int_cmp, int_eq}
 use Rattle.std.specs.Cmp.{int_cmp_total}
 use Rattle.std.specs.FinMap as map
@@ -16,7 +16,7 @@ use Rattle.host_arrays.specs.Pairs.{first_arrays as no_pairs}
 use Rattle.host_texts.specs.States.{no_record, specials_of}
 use Rattle.host_elements.specs.Forms.{Arrays, IsHeld, Past, Shows, Stands, state_of}
 use Rattle.host_elements.proofs.Places.{added, inserted}
-use Rattle.host_names.specs.Forms.{left_of, name_of}
+use Rattle.host_names.specs.Forms.{announced, left_of}
 use Rattle.host_tables.specs.Starts.{argv_and_environ, form_of}
 use Rattle.host_tables.specs.declared.start.FirstTables.{FirstTables}
 use Rattle.world_core.specs.WorldState.{Outside, Source}
@@ -89,7 +89,7 @@ pub record Begins (t : FirstTables) (job : JobForm) : Type 0 where
   pub specials : (s : Special) → specials_of t.texts.specials.values s ≡ specials_at_start (length job.operands) s
   pub held : t.texts.held ≡ no_record
   pub substituted : t.texts.substituted ≡ None
-  pub names : map_list name_of t.names.names.items ≡ []
+  pub names : announced t.names ≡ []
   pub assigns : left_of t.names ≡ job.assigns
   pub pending : t.names.pending ≡ None
   pub arguments : t.arguments.items ≡ []

@@ -97,7 +97,7 @@ fn first_arrays(alloc: Global, job: &Job, state: RandomState) -> Result<Arrays, 
 }
 
 impl FirstTables {
-    /// The tables before a script runs. The keys of arrays are hashed by the state; no answer depends on it.
+    /// The tables before a script runs. The keys of arrays and the names of the script are hashed by the state; no answer depends on it.
     ///
     /// # Errors
     ///
@@ -120,7 +120,7 @@ impl FirstTables {
             arrays,
             iterators: Iterators::new(alloc),
             texts,
-            names: Names::at_start(alloc, assigns),
+            names: Names::at_start(alloc, assigns, state),
             arguments: SmallVec::new(alloc),
             fault,
         })

@@ -1,2 +1,3 @@
+mod Marks
 mod Steps
 mod Pieces

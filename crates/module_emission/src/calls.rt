@@ -1,5 +1,6 @@
 //! Which imports are called, and the numbers of functions once the others are left out.
 ghost use Rattle.std.specs.Prelude.{◌≡◌, ◌≤◌, length, map, IfOk};
+ghost use Rattle.module_emission.specs.Marked.{marked};
 ghost use Rattle.module_emission.specs.View.{view_functions};
 ghost use Rattle.value_machine.specs.Imports.{imports};
 ghost use Rattle.value_machine.specs.Modules.{any_calls, called_from, calls_by, calls_in, chosen, is_call, new_number, renumbered, renumbered_one, renumbered_simple};
@@ -12,62 +13,60 @@ use std::rc::Rc;
 use value_machine::Import;
 use wasm_types::{Instr, Simple};
 
-fn is_call(import: usize, simple: Simple) -> bool
-    ensures { result ≡ is_call import simple }
+/// Marks the import that an instruction calls.
+fn mark_call(called: &mut [bool], simple: Simple)
+    ensures { called.new ≡ marked called.old (λ i. is_call i simple) }
 {
-    match simple {
-        Simple::Call(number) => import == number as usize,
-        _ => false,
+    if let Simple::Call(number) = simple {
+        let import = number as usize;
+        if import < called.len() {
+            called[import] = true;
+        }
     }
 }
 
-/// Whether an instruction calls an import.
+/// Marks the imports that an instruction calls.
 #[cycle(calls)]
-fn calls_by(import: usize, instr: &Instr) -> bool
-    ensures { result ≡ calls_by import (view instr.now) }
+fn mark_calls_by(called: &mut [bool], instr: &Instr)
+    ensures { called.new ≡ marked called.old (λ i. calls_by i (view instr.now)) }
 {
     match instr {
-        Instr::Plain(simple) => is_call(import, *simple),
-        Instr::BrTable(_, _) => false,
-        Instr::Block(_, inner) => calls_in(import, inner),
-        Instr::Loop(_, inner) => calls_in(import, inner),
-        Instr::If(_, inner, other) => calls_in(import, inner) || calls_in(import, other),
+        Instr::Plain(simple) => mark_call(called, *simple),
+        Instr::BrTable(_, _) => {}
+        Instr::Block(_, inner) => mark_calls_in(called, inner),
+        Instr::Loop(_, inner) => mark_calls_in(called, inner),
+        Instr::If(_, inner, other) => {
+            mark_calls_in(called, inner);
+            mark_calls_in(called, other);
+        }
     }
 }
 
-/// Whether code calls an import.
+/// Marks the imports that code calls.
 #[cycle(calls)]
-fn calls_in(import: usize, code: &[Instr]) -> bool
-    ensures { result ≡ calls_in import (views code.now) }
+fn mark_calls_in(called: &mut [bool], code: &[Instr])
+    ensures { called.new ≡ marked called.old (λ i. calls_in i (views code.now)) }
 {
     for instr in code {
-        if calls_by(import, instr) {
-            return true;
-        }
+        mark_calls_by(called, instr);
     }
-    false
 }
 
-/// Whether a function calls an import.
-fn any_calls(import: usize, fs: &[Function]) -> bool
-    ensures { result ≡ any_calls import (view_functions fs.now) }
+/// Marks the imports that functions call.
+fn mark_calls(called: &mut [bool], fs: &[Function])
+    ensures { called.new ≡ marked called.old (λ i. any_calls i (view_functions fs.now)) }
 {
     for f in fs {
-        if calls_in(import, &f.body) {
-            return true;
-        }
+        mark_calls_in(called, &f.body);
     }
-    false
 }
 
-/// For each import, whether it is called.
+/// For each import, whether it is called. The code is read once, for all imports together.
 pub(crate) fn called_imports(alloc: Global, fs: &[Function]) -> Result<Vec<bool>, AllocError>
     ensures { IfOk result (λ bs. bs.items ≡ called_from 0 imports (view_functions fs.now)) }
 {
-    let mut called = Vec::new(alloc);
-    for i in 0..COUNT {
-        called.push(any_calls(i, fs))?;
-    }
+    let mut called = vec![in alloc; false; COUNT]?;
+    mark_calls(&mut called, fs);
     Ok(called)
 }
 

@@ -1,7 +1,7 @@
 use Rattle.std.proofs.Common.{rules, ◌≡◌, length, map, ap, ◌∙◌}
 use Rattle.std.specs.FinMap as maps
 use Rattle.awk_state.specs.SharedState.{specials_at_start}
-use Rattle.host_names.specs.Forms.{name_of, pair_of}
+use Rattle.host_names.specs.Forms.{pair_of}
 use Rattle.host_tables.specs.Starts.{job_of}
 use Rattle.host_tables.specs.declared.start.FirstTables.{FirstTables}
 use Rattle.host_tables.proofs.Starting.{none_there, spare_first, stands}
@@ -20,7 +20,7 @@ returns-clause-stands c input outside =
       specials = λ s. c.in_ok-texts.ensures.specials s ∙ ap (λ n. specials_at_start n s) count;
       held = c.in_ok-texts.ensures.fields;
       substituted = c.in_ok-texts.ensures.substituted;
-      names = ap (map name_of) c.at_start-2.ensures.names;
+      names = c.at_start-2.ensures.names;
       assigns = c.at_start-2.ensures.assigns ∙ ap (map pair_of) (c.in_ok-assigns.ensures ∙ c.as_slice.ensures.value);
       pending = c.at_start-2.ensures.pending;
       arguments = c.new-3.ensures.items;
