@@ -1,4 +1,4 @@
-use Rattle.std.proofs.Common.{◌≡◌, ◌++◌, drop, map}
+use Rattle.std.proofs.Common.{◌≡◌, ◌++◌, drop}
 use Rattle.command_line.specs.Request.{texts}
 use Rattle.awkwasm.proofs.job.operands_of.Given as goal
 
