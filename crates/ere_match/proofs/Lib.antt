@@ -14,3 +14,4 @@ pub mod Begins
 pub mod Hastes
 pub mod Tested
 pub mod Firsts
+pub mod Crowds

@@ -1,12 +1,12 @@
 -- Marking a node, and leading its thread on.
 use Rattle.std.proofs.Common.{◌≡◌, ◌≢◌, ℕ, zero, suc, ◌+◌, ◌<◌, ◌≤◌, ◌⊎◌, inl, inr, Bool, true, false, List, [], ◌∷◌, length, Option, Some, None, refl, sym, ap, ◌∙◌, subst, arith, set, get_or, length-set, get_or-set_same, get_or-set_other}
-use Rattle.std.specs.Prelude.{slice_get, ◌||◌}
+use Rattle.std.specs.Prelude.{slice_get, nat_le, ◌&&◌, ◌||◌}
 use Rattle.std.proofs.lemmas.Option.{slice_get-get_or, slice_get_past, slice_get_within}
-use Rattle.std.proofs.lemmas.Bool.{cases_lt, cases_eq, or_cases}
+use Rattle.std.proofs.lemmas.Bool.{cases_lt, cases_eq, leb-false, or_cases}
 use Rattle.ere_match.specs.declared.node.Node.{Node}
 use Rattle.ere_match.specs.declared.node.Node.TheVariants as nodes
 use Rattle.ere_match.specs.Runs.{Runs}
-use Rattle.ere_match.specs.Threads.{IsNear, Holds, HoldsBy, LeadsTo, cost, IsLess, IsCovered, IsWithin, IsMarked, IsSeeded, IsFollowed, IsFrom, AreStarts, IsLed, IsVisited, IsPassed}
+use Rattle.ere_match.specs.Threads.{IsNear, Holds, HoldsBy, LeadsTo, cost, IsLess, IsCovered, IsKeptFrom, IsWithin, IsMarked, IsRaised, IsSeeded, IsFollowed, IsFrom, AreStarts, IsLed, IsVisited, IsPassed}
 use Rattle.ere_match.proofs.Paths.{go}
 
 abbrev Set : Type 0
@@ -102,8 +102,33 @@ or_false false y h = (refl, h)
 
 -- ---- following
 
-pub followed_split : (first last : Bool) (bound s a b : ℕ) (old one two : Set) (x y : Bool) → IsMarked bound a s old one x → IsMarked bound b s one two y → IsFollowed first last bound s (nodes.Split a b) old two (x || y)
-followed_split first last bound s a b old one two x y g h = record {
+kept_all : (n : ℕ) (old new : Set) → new ≡ old → IsKeptFrom n old new
+kept_all n old new e = record { at = λ k t above there. subst (λ (u : Set). Holds u k t) e there }
+
+and_false : (x y : Bool) → (x && y) ≡ false → (x ≡ false) ⊎ (y ≡ false)
+and_false true y h = inr h
+and_false false y h = inl refl
+
+and_true : (x y : Bool) → (x && y) ≡ true → x ≡ true
+and_true true y h = refl
+and_true false y h = cc
+
+pub raised : (n bound a s : ℕ) (old new : Set) (x : Bool) → IsMarked bound a s old new x → IsRaised n bound a s old new (x && nat_le n a)
+raised n bound a s old new x g = record {
+  len = g.len;
+  within = g.within;
+  here = g.here;
+  only = g.only;
+  quiet = λ e. elim (and_false x (nat_le n a) e) [
+    | inl same ↦ kept_all n old new (g.quiet same)
+    | inr below ↦ record { at = λ k t above there. elim (g.only k t there) [ inl older ↦ older | inr is ↦ absurd (let l = leb-false n a below in omega (arith, l, above, is.0)) ] }
+  ];
+  fewer = g.fewer;
+  less = λ e. g.less (and_true x (nat_le n a) e);
+}
+
+pub followed_split : (first last : Bool) (bound n s a b : ℕ) (old one two : Set) (x y : Bool) → IsRaised n bound a s old one x → IsRaised n bound b s one two y → IsFollowed first last bound n s (nodes.Split a b) old two (x || y)
+followed_split first last bound n s a b old one two x y g h = record {
   len = h.len ∙ g.len;
   within = within_on old one two g.within h.within;
   all_in = λ to leads inside. elim leads [
@@ -114,13 +139,13 @@ followed_split first last bound s a b old one two x y g h = record {
     | inl before ↦ elim (g.only k t before) [ inl older ↦ inl older | inr is ↦ inr (inl is.0, is.1) ]
     | inr is ↦ inr (inr is.0, is.1)
   ];
-  quiet = λ e. (let both = or_false x y e in h.quiet both.1 ∙ g.quiet both.0);
+  quiet = λ e. (let both = or_false x y e in record { at = λ k t above there. (g.quiet both.0).at k t above ((h.quiet both.1).at k t above there) });
   fewer = omega (arith, g.fewer, h.fewer);
   less = λ e. elim (or_cases x y e) [ inl first ↦ omega (arith, g.less first, h.fewer) | inr second ↦ omega (arith, g.fewer, h.less second) ];
 }
 
-pub followed_start : (first last : Bool) (bound s a : ℕ) (old new : Set) (x : Bool) → first ≡ true → IsMarked bound a s old new x → IsFollowed first last bound s (nodes.Start a) old new x
-followed_start first last bound s a old new x e g = record {
+pub followed_start : (first last : Bool) (bound n s a : ℕ) (old new : Set) (x : Bool) → first ≡ true → IsRaised n bound a s old new x → IsFollowed first last bound n s (nodes.Start a) old new x
+followed_start first last bound n s a old new x e g = record {
   len = g.len;
   within = g.within;
   all_in = λ to leads inside. subst (λ k. HoldsBy new k s) (sym leads.1) (g.here (omega (arith, leads.1)));
@@ -130,8 +155,8 @@ followed_start first last bound s a old new x e g = record {
   less = g.less;
 }
 
-pub followed_end : (first last : Bool) (bound s a : ℕ) (old new : Set) (x : Bool) → last ≡ true → IsMarked bound a s old new x → IsFollowed first last bound s (nodes.End a) old new x
-followed_end first last bound s a old new x e g = record {
+pub followed_end : (first last : Bool) (bound n s a : ℕ) (old new : Set) (x : Bool) → last ≡ true → IsRaised n bound a s old new x → IsFollowed first last bound n s (nodes.End a) old new x
+followed_end first last bound n s a old new x e g = record {
   len = g.len;
   within = g.within;
   all_in = λ to leads inside. subst (λ k. HoldsBy new k s) (sym leads.1) (g.here (omega (arith, leads.1)));
@@ -141,13 +166,13 @@ followed_end first last bound s a old new x e g = record {
   less = g.less;
 }
 
-pub followed_none : (first last : Bool) (bound s : ℕ) (node : Node) (old : Set) → ((to : ℕ) → LeadsTo first last (Some node) to → ⊥) → IsFollowed first last bound s node old old false
-followed_none first last bound s node old none = record {
+pub followed_none : (first last : Bool) (bound n s : ℕ) (node : Node) (old : Set) → ((to : ℕ) → LeadsTo first last (Some node) to → ⊥) → IsFollowed first last bound n s node old old false
+followed_none first last bound n s node old none = record {
   len = refl;
   within = record { at = λ k t holds. holds_by old k t holds };
   all_in = λ to leads inside. absurd (none to leads);
   only = λ k t holds. inl holds;
-  quiet = λ _. refl;
+  quiet = λ _. kept_all n old old refl;
   fewer = omega arith;
   less = λ bad. cc;
 }
@@ -165,7 +190,7 @@ leads_run all first last text i j n id to (nodes.Take f a) is h leads r = absurd
 leads_run all first last text i j n id to nodes.Never is h leads r = absurd leads
 leads_run all first last text i j n id to nodes.Accept is h leads r = absurd leads
 
-pub visited : (all : List Node) (first last : Bool) (bound id s : ℕ) (node : Node) (old new : Set) (x : Bool) → slice_get all id ≡ Some node → Holds old id s → IsFollowed first last bound s node old new x → IsVisited all first last bound id old new x
+pub visited : (all : List Node) (first last : Bool) (bound id s : ℕ) (node : Node) (old new : Set) (x : Bool) → slice_get all id ≡ Some node → Holds old id s → IsFollowed first last bound id s node old new x → IsVisited all first last bound id old new x
 visited all first last bound id s node old new x h holds f = record {
   len = f.len;
   within = f.within;
@@ -178,8 +203,8 @@ visited all first last bound id s node old new x h holds f = record {
   starts = record { at = λ k t there. elim (f.only k t there) [ inl older ↦ (k, older) | inr leads ↦ (id, subst (λ t. Holds old id t) (sym leads.1) holds) ] };
   quiet = f.quiet;
   closed = λ e to t there leads inside.
-      (let same = f.quiet e in
-      let is : t ≡ s = some_is t s (sym there.is ∙ ap (λ (u : Set). slice_get u id) same ∙ holds.is) in
+      (let older = (f.quiet e).at id t (omega arith) there in
+      let is : t ≡ s = some_is t s (sym older.is ∙ holds.is) in
       subst (λ t. HoldsBy new to t) (sym is) (f.all_in to (subst (λ o. LeadsTo first last o to) h leads) (omega (arith, f.len))));
   fewer = f.fewer;
   less = f.less;
@@ -191,13 +216,17 @@ not_visited all first last bound id old out = record {
   within = record { at = λ k t holds. holds_by old k t holds };
   from = record { at = λ text i is j n k t there r. (n, k, there, r) };
   starts = record { at = λ k t there. (k, there) };
-  quiet = λ _. refl;
+  quiet = λ _. kept_all id old old refl;
   closed = λ e to t there leads within. (let is : None ≡ Some t = sym out ∙ read_holds old id t there in cc);
   fewer = omega arith;
   less = λ bad. cc;
 }
 
 -- ---- one pass
+
+-- the threads of a node at which none is new stay led on
+led_on : (all : List Node) (first last : Bool) (old new : Set) (id : ℕ) → length new ≡ length old → ((s : ℕ) → Holds new id s → Holds old id s) → IsWithin old new → IsLed all first last old id → IsLed all first last new id
+led_on all first last old new id len older w led = λ to s there leads inside. within_by old new to s w (led to s (older s there) leads (omega (arith, inside, len)))
 
 pub passed_none : (all : List Node) (first last : Bool) (bound n : ℕ) (old : Set) → length old ≡ length all → n ≡ length all → IsPassed all first last bound n old old false
 passed_none all first last bound n old len e = record {
@@ -216,9 +245,9 @@ passed_on all first last bound id n old mid new x y z is p v or = record {
   within = within_on old mid new p.within v.within;
   from = record { at = λ text i is j m k t there r. (let back = v.from.at text i is j m k t there r in p.from.at text i is j back.0 back.1 t back.2 back.3) };
   starts = record { at = λ k t there. (let back = v.starts.at k t there in p.starts.at back.0 t back.1) };
-  closed = λ e. (let both = or.1 e in let same = v.quiet both.1 in record {
+  closed = λ e. (let both = or.1 e in record {
     at = λ k above below. elim (cases_lt id k) [
-      | inl later ↦ subst (λ (u : Set). IsLed all first last u k) (sym same) ((p.closed both.0).at k (omega (arith, is)) (omega (arith, v.len)))
+      | inl later ↦ led_on all first last mid new k v.len (λ s there. (v.quiet both.1).at k s (omega (arith, later)) there) v.within ((p.closed both.0).at k (omega (arith, is)) (omega (arith, below, v.len)))
       | inr here ↦ (let same_id : id ≡ k = omega arith in subst (λ m. IsLed all first last new m) same_id (v.closed both.1))
     ];
   });

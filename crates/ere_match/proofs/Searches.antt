@@ -28,7 +28,7 @@ with_old f n at k less = by (nat_eq k n) refl
 with_last : (f : ℕ → ℕ) (n at : ℕ) → with_new f n at n ≡ at
 with_last f n at = ap (λ b. cond b at (f n)) (eq-eqb n n refl)
 
-not_first : (i : ℕ) → nat_eq (i + 1) 0 ≡ false
+pub not_first : (i : ℕ) → nat_eq (i + 1) 0 ≡ false
 not_first i = by (nat_eq (i + 1) 0) refl
   where
     by : (b : Bool) → nat_eq (i + 1) 0 ≡ b → b ≡ false

@@ -230,7 +230,7 @@ takes_class all classes b c h lb lc e id to (Some (nodes.End x)) is t = absurd t
 takes_class all classes b c h lb lc e id to (Some nodes.Never) is t = absurd t
 takes_class all classes b c h lb lc e id to (Some nodes.Accept) is t = absurd t
 
-stepped_class : (all : List Node) (classes : List ℕ) (b c n : ℕ) (old new : Set) → AreClasses all classes → b < 256 → c < 256 → get_or classes b 0 ≡ get_or classes c 0 → IsStepped all b n old new → IsStepped all c n old new
+pub stepped_class : (all : List Node) (classes : List ℕ) (b c n : ℕ) (old new : Set) → AreClasses all classes → b < 256 → c < 256 → get_or classes b 0 ≡ get_or classes c 0 → IsStepped all b n old new → IsStepped all c n old new
 stepped_class all classes b c n old new h lb lc e s = record {
   len = s.len;
   into = λ id to t below holds takes small. s.into id to t below holds (takes_class all classes c b h lc lb (sym e) id to (slice_get all id) refl takes) small;
@@ -278,7 +278,7 @@ made_all all entry count found first stepped before closed after t m old new s p
 
 -- ---- a column or a beginning is filled
 
-column_set : (found b : Bool) (r c state class : ℕ) (m : Move) (moves : List Moves) (x y : Moves) (to : Move) → slice_get moves state ≡ Some x → columns found y ≡ set (columns found x) class (Some to) → ((d : Bool) → (d ≡ found → ⊥) → columns d y ≡ columns d x) → column_at b (slice_get (set moves state y) r) c ≡ Some m → (column_at b (slice_get moves r) c ≡ Some m) ⊎ ((r ≡ state) × (b ≡ found) × (c ≡ class) × (m ≡ to))
+pub column_set : (found b : Bool) (r c state class : ℕ) (m : Move) (moves : List Moves) (x y : Moves) (to : Move) → slice_get moves state ≡ Some x → columns found y ≡ set (columns found x) class (Some to) → ((d : Bool) → (d ≡ found → ⊥) → columns d y ≡ columns d x) → column_at b (slice_get (set moves state y) r) c ≡ Some m → (column_at b (slice_get moves r) c ≡ Some m) ⊎ ((r ≡ state) × (b ≡ found) × (c ≡ class) × (m ≡ to))
 column_set found b r c state class m moves x y to at here other e = elim (cases_eq r state) [
   | inr apart ↦ inl (ap (λ o. column_at b o c) (sym (slice_other moves state r y apart)) ∙ e)
   | inl same ↦ (

@@ -5,3 +5,4 @@ pub mod FirstMatch
 pub mod Leads
 pub mod Autos
 pub mod Rows
+pub mod Crowds

@@ -66,6 +66,20 @@ pub record IsMarked (bound id start : ℕ) (old new : List (Option ℕ)) (added 
   pub fewer : cost bound new ≤ cost bound old
   pub less : added ≡ true → cost bound new < cost bound old
 
+-- threads at nodes not before n were there before
+pub record IsKeptFrom (n : ℕ) (old new : List (Option ℕ)) : Type 0 where
+  pub at : (id s : ℕ) → n ≤ id → Holds new id s → Holds old id s
+
+-- one thread more, and whether it is a new one at a node not before n
+pub record IsRaised (n bound id start : ℕ) (old new : List (Option ℕ)) (added : Bool) : Type 0 where
+  pub len : length new ≡ length old
+  pub within : IsWithin old new
+  pub here : id < length old → HoldsBy new id start
+  pub only : (k s : ℕ) → Holds new k s → Holds old k s ⊎ ((k ≡ id) × (s ≡ start))
+  pub quiet : added ≡ false → IsKeptFrom n old new
+  pub fewer : cost bound new ≤ cost bound old
+  pub less : added ≡ true → cost bound new < cost bound old
+
 -- one thread more, if there was no earlier one
 pub record IsSeeded (id start : ℕ) (old new : List (Option ℕ)) : Type 0 where
   pub len : length new ≡ length old
@@ -73,13 +87,13 @@ pub record IsSeeded (id start : ℕ) (old new : List (Option ℕ)) : Type 0 wher
   pub here : id < length old → HoldsBy new id start
   pub only : (k s : ℕ) → Holds new k s → Holds old k s ⊎ ((k ≡ id) × (s ≡ start))
 
--- the threads of a node were led on
-pub record IsFollowed (first last : Bool) (bound start : ℕ) (node : Node) (old new : List (Option ℕ)) (added : Bool) : Type 0 where
+-- the threads of node n were led on
+pub record IsFollowed (first last : Bool) (bound n start : ℕ) (node : Node) (old new : List (Option ℕ)) (added : Bool) : Type 0 where
   pub len : length new ≡ length old
   pub within : IsWithin old new
   pub all_in : (to : ℕ) → LeadsTo first last (Some node) to → to < length old → HoldsBy new to start
   pub only : (k s : ℕ) → Holds new k s → Holds old k s ⊎ (LeadsTo first last (Some node) k × (s ≡ start))
-  pub quiet : added ≡ false → new ≡ old
+  pub quiet : added ≡ false → IsKeptFrom n old new
   pub fewer : cost bound new ≤ cost bound old
   pub less : added ≡ true → cost bound new < cost bound old
 
@@ -104,7 +118,7 @@ pub record IsVisited (all : List Node) (first last : Bool) (bound id : ℕ) (old
   pub within : IsWithin old new
   pub from : IsFrom all first last old new
   pub starts : AreStarts old new
-  pub quiet : added ≡ false → new ≡ old
+  pub quiet : added ≡ false → IsKeptFrom id old new
   pub closed : added ≡ false → IsLed all first last new id
   pub fewer : cost bound new ≤ cost bound old
   pub less : added ≡ true → cost bound new < cost bound old

@@ -26,13 +26,14 @@ fn limit(row: &Row, found: bool) -> usize
 }
 
 /// Leads the threads of a row on by the byte, into `next`, and tells how many numbers the row has.
-fn lead(nodes: &[Node], table: &mut Table, state: usize, byte: u8, found: bool) -> usize
+pub(crate) fn lead(nodes: &[Node], table: &mut Table, state: usize, byte: u8, found: bool) -> usize
     requires state { state < length table.old.rows.items }
     requires set_len { length table.old.set.items ≡ length nodes.now }
     requires next_len { length table.old.next.items ≡ length nodes.now }
     requires ranks { (row : SpecRow) → slice_get table.old.rows.items state ≡ Some row → length row.ranks.items ≡ length nodes.now }
     ensures led { HasLed nodes.now byte found table.old.rows.items state table.new.next.items result }
     ensures rows { table.new.rows ≡ table.old.rows }
+    ensures sources { table.new.sources ≡ table.old.sources }
     ensures set_len { length table.new.set.items ≡ length nodes.now }
     ensures next_len { length table.new.next.items ≡ length nodes.now }
     ensures starts { table.new.starts ≡ table.old.starts }
@@ -179,7 +180,7 @@ fn known_first(table: &Table, first: bool) -> Option<Move>
 }
 
 /// Leaves no thread in `next`.
-fn no_threads(table: &mut Table)
+pub(crate) fn no_threads(table: &mut Table)
     ensures empty { IsEmpty table.new.next.items }
     ensures len { length table.new.next.items ≡ length table.old.next.items }
     ensures set { table.new.set ≡ table.old.set }

@@ -5,6 +5,7 @@ mod advance;
 mod assemble;
 mod automaton;
 mod classes;
+mod crowd;
 mod haste;
 mod lead;
 mod matching;

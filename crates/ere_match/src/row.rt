@@ -105,6 +105,7 @@ impl Table {
         ensures next { IfOk result (λ table. length table.next.items ≡ nodes) }
         ensures rows { IfOk result (λ table. table.rows.items ≡ []) }
         ensures moves { IfOk result (λ table. table.moves.items ≡ []) }
+        ensures sources { IfOk result (λ table. table.sources.items ≡ []) }
         ensures at_first { IfOk result (λ table. table.at_first ≡ None) }
         ensures elsewhere { IfOk result (λ table. table.elsewhere ≡ None) }
     {

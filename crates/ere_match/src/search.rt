@@ -1,11 +1,12 @@
 //! A search by rows: the threads of all starts at once, as `scan` leads them, with a table of where each byte leads.
-ghost use Rattle.std.specs.Prelude.{◌≡◌, ◌+◌, ◌<◌, ◌≤◌, ◌^◌, ℕ, List, IfOk, length, true};
+ghost use Rattle.std.specs.Prelude.{◌≡◌, ◌+◌, ◌<◌, ◌≤◌, ◌^◌, ℕ, List, IfOk, None, length, true};
 ghost use Rattle.std.proofs.Common.{get_or};
 ghost use Rattle.ere_match.specs.Leads.{IsLead};
 ghost use Rattle.ere_match.specs.Rows.{AreClasses, IsSearching, IsTable, is_soon, started};
 ghost use Rattle.ere_match.specs.Threads.{IsBest};
 
 use crate::advance::{advance, begin};
+use crate::crowd::may_match;
 use crate::haste::hasten;
 use crate::lead::Lead;
 use crate::node::Node;
@@ -38,6 +39,26 @@ fn is_soon(before: Option<usize>, at: usize, rows: usize) -> bool
     }
 }
 
+/// Whether it is known that there is no match, by rows without starts.
+fn is_over(
+    nodes: &[Node],
+    entry: usize,
+    classes: &[u8; 256],
+    table: &Table,
+    text: &[u8],
+    from: usize,
+) -> bool
+    requires inside { from ≤ length text.now }
+    requires classes { AreClasses nodes.now classes.now }
+    ensures { result ≡ true → IsBest nodes.now text.now entry from (length text.now + 1) None }
+{
+    let alloc = *table.sources.allocator();
+    match may_match(alloc, nodes, entry, classes, text, from) {
+        Ok(may) => !may,
+        Err(_) => false,
+    }
+}
+
 /// Goes on from a row without the table.
 fn go_on(
     nodes: &[Node],
@@ -52,11 +73,15 @@ fn go_on(
 ) -> Option<(usize, usize)>
     requires begun { from ≤ at }
     requires inside { at ≤ length text.now }
+    requires classes { AreClasses nodes.now classes.now }
     requires table { ∥ IsTable nodes.now entry classes.now table.old ∥₁ }
     requires search { ∥ IsSearching nodes.now text.now entry from at state best table.old ∥₁ }
     ensures best { ∥ IsBest nodes.now text.now entry from (length text.now + 1) result ∥₁ }
     ensures table { ∥ IsTable nodes.now entry classes.now table.new ∥₁ }
 {
+    if best.is_none() && is_over(nodes, entry, classes, table, text, from) {
+        return None;
+    }
     let row = &table.rows[state];
     unload(&row.ranks, &table.starts, &mut table.set);
     scan_on(

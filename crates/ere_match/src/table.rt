@@ -84,7 +84,7 @@ fn widen(starts: &mut Vec<usize>, count: usize) -> Result<(), AllocError>
 }
 
 /// Room for the moves of so many rows and one more.
-fn widen_moves(moves: &mut Vec<Moves>, count: usize) -> Result<(), AllocError>
+pub(crate) fn widen_moves(moves: &mut Vec<Moves>, count: usize) -> Result<(), AllocError>
     ensures none { AddsNoMoves moves.old.items moves.new.items }
     ensures ok { OnOk result (count < length moves.new.items) }
 {
@@ -153,7 +153,7 @@ fn place(nodes: &[Node], table: &mut Table, first: bool, bound: usize) -> Result
 
 /// Begins a thread at the entry with the next number, unless a match has been found.
 fn sow(set: &mut [Option<usize>], entry: usize, found: bool, count: usize)
-    requires { (id s : ℕ) → Holds set.old id s → s < count }
+    requires { (id s : ℕ) → Holds set.old id s → s < count + 1 }
     ensures begins { Begins found entry count set.old set.new }
     ensures numbers { (id s : ℕ) → Holds set.new id s → s < count + 1 }
 {
@@ -173,7 +173,7 @@ fn settle(
     count: usize,
 )
     requires len { length set.old ≡ length nodes.now }
-    requires numbers { (id s : ℕ) → Holds set.old id s → s < count }
+    requires numbers { (id s : ℕ) → Holds set.old id s → s < count + 1 }
     ensures settled { SetSettled nodes.now entry found first count set.old set.new }
     ensures numbers { (id s : ℕ) → Holds set.new id s → s < count + 1 }
 {
@@ -195,7 +195,7 @@ pub(crate) fn make(
     requires sources { length table.old.sources.items < 2 ^ 31 }
     requires set_len { length table.old.set.items ≡ length nodes.now }
     requires next_len { length table.old.next.items ≡ length nodes.now }
-    requires numbers { (id s : ℕ) → Holds table.old.next.items id s → s < count }
+    requires numbers { (id s : ℕ) → Holds table.old.next.items id s → s < count + 1 }
     ensures made { IfOk result (IsMadeMove nodes.now entry found first count table.old.next.items table.new) }
     ensures table { (classes : List ℕ) → IsTable nodes.now entry classes table.old → IsKnownTable nodes.now entry classes table.old table.new }
     ensures starts { IsSame table.old.starts.items table.new.starts.items }

@@ -1,6 +1,6 @@
 //! Sets of threads, and how they are led on without a byte.
 ghost use Rattle.std.specs.Prelude.{◌≡◌, ◌<◌, ◌≤◌, ℕ, Some, false, length, true};
-ghost use Rattle.ere_match.specs.Threads.{Holds, IsClosure, IsCovered, IsFollowed, IsLess, IsMarked, IsPassed, IsVisited};
+ghost use Rattle.ere_match.specs.Threads.{Holds, IsClosure, IsCovered, IsFollowed, IsLess, IsMarked, IsPassed, IsRaised, IsVisited};
 
 use crate::node::Node;
 
@@ -38,35 +38,49 @@ pub(crate) fn mark(set: &mut [Option<usize>], id: usize, start: usize) -> bool
     true
 }
 
-/// Leads the thread of a node on without a byte.
-fn follow(node: &Node, set: &mut [Option<usize>], start: usize, first: bool, last: bool) -> bool
-    ensures { (bound : ℕ) → start < bound → IsFollowed first last bound start node.now set.old set.new result }
+/// Puts a thread into the set as `mark` does, and tells whether a node not before `from` has changed.
+fn raise(set: &mut [Option<usize>], from: usize, id: usize, start: usize) -> bool
+    ensures { (bound : ℕ) → start < bound → IsRaised from bound id start set.old set.new result }
+{
+    mark(set, id, start) && id >= from
+}
+
+/// Leads the thread of a node on without a byte, and tells whether a node not before it has changed.
+fn follow(
+    node: &Node,
+    id: usize,
+    set: &mut [Option<usize>],
+    start: usize,
+    first: bool,
+    last: bool,
+) -> bool
+    ensures { (bound : ℕ) → start < bound → IsFollowed first last bound id start node.now set.old set.new result }
 {
     match node {
         Node::Split(to, other) => {
-            let one = mark(set, *to, start);
-            let two = mark(set, *other, start);
+            let one = raise(set, id, *to, start);
+            let two = raise(set, id, *other, start);
             one || two
         }
-        Node::Start(to) => first && mark(set, *to, start),
-        Node::End(to) => last && mark(set, *to, start),
+        Node::Start(to) => first && raise(set, id, *to, start),
+        Node::End(to) => last && raise(set, id, *to, start),
         _ => false,
     }
 }
 
-/// Leads the thread of a node on, if there is one.
+/// Leads the thread of a node on, if there is one, and tells whether a node not before it has changed.
 fn visit(nodes: &[Node], id: usize, set: &mut [Option<usize>], first: bool, last: bool) -> bool
     requires within { id < length nodes.now }
     requires same_len { length set.old ≡ length nodes.now }
     ensures { (bound : ℕ) → ((k s : ℕ) → Holds set.old k s → s < bound) → IsVisited nodes.now first last bound id set.old set.new result }
 {
     match set[id] {
-        Some(start) => follow(&nodes[id], set, start, first, last),
+        Some(start) => follow(&nodes[id], id, set, start, first, last),
         None => false,
     }
 }
 
-/// Leads each thread on once, from the last node to the first, and tells whether the set has changed.
+/// Leads each thread on once, from the last node to the first, and tells whether one has come to a node that was passed by then.
 fn pass(nodes: &[Node], set: &mut [Option<usize>], first: bool, last: bool) -> bool
     requires { length set.old ≡ length nodes.now }
     ensures { (bound : ℕ) → ((k s : ℕ) → Holds set.old k s → s < bound) → IsPassed nodes.now first last bound 0 set.old set.new result }

@@ -19,8 +19,9 @@ lead-count-requires-clause-ranks c = λ row is. ∥∥₁_elim c.requires.table 
 
 pub make-requires-clause-numbers : goal.make-requires-clause-numbers
 make-requires-clause-numbers c = λ id s h. ∥∥₁_elim c.requires.table (search props) (λ t.
-    led_few c.args.nodes.now c.args.byte c.args.state c.lead-count.result id s c.args.found c.args.table.now.rows.items c.lead-count.new.table.next.items (λ row is. (t.rows c.args.state row is).is) c.lead-count.ensures.led
-    (subst (λ (v : Vec (Option ℕ) Global). Holds v.items id s) c.make_room-kept.ensures.next h))
+    (let few = led_few c.args.nodes.now c.args.byte c.args.state c.lead-count.result id s c.args.found c.args.table.now.rows.items c.lead-count.new.table.next.items (λ row is. (t.rows c.args.state row is).is) c.lead-count.ensures.led
+    (subst (λ (v : Vec (Option ℕ) Global). Holds v.items id s) c.make_room-kept.ensures.next h) in
+    omega (arith, few)))
 
 pub returns-in_err-to-clause-table : goal.returns-in_err-to-clause-table
 returns-in_err-to-clause-table c = ∥∥₁_map c.requires.table (λ t.

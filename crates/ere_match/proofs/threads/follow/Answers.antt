@@ -8,10 +8,10 @@ use Rattle.ere_match.proofs.threads.follow.Goals as goal
 
 pub returns-then-one : goal.returns-then-one
 returns-then-one c = λ bound small.
-    (let f = followed_split c.args.first c.args.last bound c.args.start c.in-Split.to c.in-Split.other c.args.set.now c.mark-one.new.set c.mark-two.new.set c.mark-one.result c.mark-two.result (c.mark-one.ensures bound small) (c.mark-two.ensures bound small) in
-    let one : (c.mark-one.result || c.mark-two.result) ≡ c.mark-one.result = joined c.mark-one.result c.mark-two.result c.if-one.true in
-    let P : Node → Type 0 = λ n. IsFollowed c.args.first c.args.last bound c.args.start n c.args.set.now c.mark-two.new.set c.mark-one.result in
-    subst P (sym c.in-Split.is) (subst (λ (b : Bool). IsFollowed c.args.first c.args.last bound c.args.start (nodes.Split c.in-Split.to c.in-Split.other) c.args.set.now c.mark-two.new.set b) one f))
+    (let f = followed_split c.args.first c.args.last bound c.args.id c.args.start c.in-Split.to c.in-Split.other c.args.set.now c.raise-one.new.set c.raise-two.new.set c.raise-one.result c.raise-two.result (c.raise-one.ensures bound small) (c.raise-two.ensures bound small) in
+    let one : (c.raise-one.result || c.raise-two.result) ≡ c.raise-one.result = joined c.raise-one.result c.raise-two.result c.if-one.true in
+    let P : Node → Type 0 = λ n. IsFollowed c.args.first c.args.last bound c.args.id c.args.start n c.args.set.now c.raise-two.new.set c.raise-one.result in
+    subst P (sym c.in-Split.is) (subst (λ (b : Bool). IsFollowed c.args.first c.args.last bound c.args.id c.args.start (nodes.Split c.in-Split.to c.in-Split.other) c.args.set.now c.raise-two.new.set b) one f))
   where
     joined : (a b : Bool) → a ≡ true → (a || b) ≡ a
     joined true b e = refl
@@ -19,10 +19,10 @@ returns-then-one c = λ bound small.
 
 pub returns-else-one : goal.returns-else-one
 returns-else-one c = λ bound small.
-    (let f = followed_split c.args.first c.args.last bound c.args.start c.in-Split.to c.in-Split.other c.args.set.now c.mark-one.new.set c.mark-two.new.set c.mark-one.result c.mark-two.result (c.mark-one.ensures bound small) (c.mark-two.ensures bound small) in
-    let two : (c.mark-one.result || c.mark-two.result) ≡ c.mark-two.result = joined c.mark-one.result c.mark-two.result c.if-one.false in
-    let P : Node → Type 0 = λ n. IsFollowed c.args.first c.args.last bound c.args.start n c.args.set.now c.mark-two.new.set c.mark-two.result in
-    subst P (sym c.in-Split.is) (subst (λ (b : Bool). IsFollowed c.args.first c.args.last bound c.args.start (nodes.Split c.in-Split.to c.in-Split.other) c.args.set.now c.mark-two.new.set b) two f))
+    (let f = followed_split c.args.first c.args.last bound c.args.id c.args.start c.in-Split.to c.in-Split.other c.args.set.now c.raise-one.new.set c.raise-two.new.set c.raise-one.result c.raise-two.result (c.raise-one.ensures bound small) (c.raise-two.ensures bound small) in
+    let two : (c.raise-one.result || c.raise-two.result) ≡ c.raise-two.result = joined c.raise-one.result c.raise-two.result c.if-one.false in
+    let P : Node → Type 0 = λ n. IsFollowed c.args.first c.args.last bound c.args.id c.args.start n c.args.set.now c.raise-two.new.set c.raise-two.result in
+    subst P (sym c.in-Split.is) (subst (λ (b : Bool). IsFollowed c.args.first c.args.last bound c.args.id c.args.start (nodes.Split c.in-Split.to c.in-Split.other) c.args.set.now c.raise-two.new.set b) two f))
   where
     joined : (a b : Bool) → a ≡ false → (a || b) ≡ b
     joined true b e = absurd cc
