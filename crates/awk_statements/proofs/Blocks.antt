@@ -1,6 +1,6 @@
 -- Reading statements in a loop.
-use Rattle.std.proofs.Common.{◌≡◌, ℕ, zero, suc, ◌+◌, ◌-◌, ◌<◌, Option, Some, None, List, [], ◌∷◌, ◌++◌, Result, Ok, Err, refl, sym, ap, subst, ◌∙◌, arith}
-use Rattle.awk_grammar.specs.Token.{Token, Fault, Syntax, TooDeep}
+use Rattle.std.proofs.Common.{◌≡◌, ℕ, zero, suc, ◌+◌, ◌-◌, ◌<◌, Option, Some, None, List, [], ◌∷◌, ◌++◌, Result, Ok, Err, refl, sym, ap, arith}
+use Rattle.awk_grammar.specs.Token.{Token, Fault, TooDeep}
 use Rattle.awk_grammar.specs.Tree.{Tree}
 use Rattle.awk_grammar.specs.Reading.{◌>>=◌, Reader, close_at, expr_at}
 use Rattle.awk_grammar.specs.Stmt.{Stmts, NoStmt, And, For, Plain, Stmt as PlainStmt}
