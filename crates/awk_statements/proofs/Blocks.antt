@@ -1,14 +1,13 @@
 -- Reading statements in a loop.
-use Rattle.std.proofs.Common.{◌≡◌, ℕ, zero, suc, ◌+◌, ◌-◌, ◌<◌, Option, Some, None, List, [], ◌∷◌, ◌++◌, Result, Ok, Err, refl, sym, ap, subst, ◌∙◌, arith}
-use Rattle.awk_grammar.specs.Token.{Token, Fault, Syntax, TooDeep}
-use Rattle.awk_grammar.specs.Reading.{◌>>=◌, Reader, expr_at}
-use Rattle.awk_grammar.specs.Stmt.{Stmts, NoStmt, And, Plain, Stmt as PlainStmt}
-use Rattle.awk_grammar.specs.ReadStmt.{Read, StmtReader, brace_at, semicolon_at, maybe_plain_at, stmts_at, for_by, one_at, stmt_at}
+use Rattle.std.proofs.Common.{◌≡◌, ℕ, zero, suc, ◌+◌, ◌-◌, ◌<◌, Option, Some, None, List, [], ◌∷◌, ◌++◌, Result, Ok, Err, refl, sym, ap, arith}
+use Rattle.awk_grammar.specs.Token.{Token, Fault, TooDeep}
+use Rattle.awk_grammar.specs.Tree.{Tree}
+use Rattle.awk_grammar.specs.Reading.{◌>>=◌, Reader, close_at, expr_at}
+use Rattle.awk_grammar.specs.Stmt.{Stmts, NoStmt, And, For, Plain, Stmt as PlainStmt}
+use Rattle.awk_grammar.specs.ReadStmt.{Read, StmtReader, brace_at, semicolon_at, maybe_at, maybe_plain_at, stmts_at, for_by, one_at, stmt_at}
 use Rattle.awk_expressions.specs.declared.fault.Refusal.{Refusal}
-use Rattle.std.specs.Borrow.{Bor}
-use Rattle.awk_tokens.specs.declared.token.Token.{Token as ScriptToken}
-use Rattle.awk_expressions.specs.Seen.{seen, Gives}
-use Rattle.awk_statements.specs.Bodies.{stmts_then, with_one, loop_test_at}
+use Rattle.awk_expressions.specs.Seen.{Gives}
+use Rattle.awk_statements.specs.Bodies.{Parts, stmts_then, with_one, head_step_at, head_test_at, head_at}
 use Rattle.awk_expressions.proofs.Binds.{gives_is}
 use Rattle.awk_grammar.specs.ViewStmt.{view_stmt, view_stmts}
 use Rattle.awk_grammar.specs.declared.tree.Stmt.{Stmt}
@@ -69,10 +68,46 @@ stmt_some (suc d) ts h = let e : suc d - 1 ≡ d = omega arith in rw e refl
 pub stmt_gives : {X : Type 0} (f : X → PlainStmt × List Token) (x : Result X Refusal) (limit : ℕ) (ts : List Token) → 0 < limit → Gives f x (one_at (expr_at (limit - 1)) (stmt_at (limit - 1)) ts) → Gives f x (stmt_at limit ts)
 stmt_gives f x limit ts h g = gives_is f x _ _ (stmt_some limit ts h) g
 
--- ---- the head of a counted loop
+-- ---- a counted loop: its head, and its body
 
-pub semicolon_given : (x : Result (Bor (List ScriptToken)) Refusal) (rest : Bor (List ScriptToken)) (ts : List Token) → x ≡ Ok rest → Gives (λ r. seen r.now) x (semicolon_at ts) → semicolon_at ts ≡ Ok (seen rest.now)
-semicolon_given x rest ts e g = subst (λ (y : Result (Bor (List ScriptToken)) Refusal). Gives (λ r. seen r.now) y (semicolon_at ts)) e g
+abbrev pub for_body : StmtReader → Parts × List Token → Read PlainStmt
+for_body stmt h = stmt h.1 >>= λ x. Ok (For h.0.0 h.0.1 h.0.2 x.0, x.1)
 
-pub counted_is : (expr : Reader) (stmt : StmtReader) (ts us vs : List Token) (i : Option Plain) → maybe_plain_at expr ts ≡ Ok (i, us) → semicolon_at us ≡ Ok vs → for_by expr stmt ts None ≡ loop_test_at expr stmt i vs
-counted_is expr stmt ts us vs i e s = rw (e, s) refl
+abbrev for_step : Reader → StmtReader → Option Plain → Option Tree → List Token → Read PlainStmt
+for_step expr stmt i c ts = maybe_plain_at expr ts >>= λ p. close_at p.1 >>= λ us. for_body stmt ((i, c, p.0), us)
+
+abbrev for_test : Reader → StmtReader → Option Plain → List Token → Read PlainStmt
+for_test expr stmt i ts = maybe_at expr ts >>= λ c. semicolon_at c.1 >>= λ us. for_step expr stmt i c.0 us
+
+step_is : (expr : Reader) (stmt : StmtReader) (i : Option Plain) (c : Option Tree) (ts : List Token) → for_step expr stmt i c ts ≡ (head_step_at expr i c ts >>= for_body stmt)
+step_is expr stmt i c ts = by (maybe_plain_at expr ts)
+  where
+    closed : (p : Option Plain) (r : Result (List Token) Fault) → (r >>= λ us. for_body stmt ((i, c, p), us)) ≡ (r >>= (λ us. Ok ((i, c, p), us)) >>= for_body stmt)
+    closed p (Ok us) = refl
+    closed p (Err f) = refl
+
+    by : (r : Read (Option Plain)) → (r >>= λ p. close_at p.1 >>= λ us. for_body stmt ((i, c, p.0), us)) ≡ (r >>= (λ p. close_at p.1 >>= λ us. Ok ((i, c, p.0), us)) >>= for_body stmt)
+    by (Ok p) = closed p.0 (close_at p.1)
+    by (Err f) = refl
+
+test_is : (expr : Reader) (stmt : StmtReader) (i : Option Plain) (ts : List Token) → for_test expr stmt i ts ≡ (head_test_at expr i ts >>= for_body stmt)
+test_is expr stmt i ts = by (maybe_at expr ts)
+  where
+    behind : (c : Option Tree) (r : Result (List Token) Fault) → (r >>= λ us. for_step expr stmt i c us) ≡ (r >>= (λ us. head_step_at expr i c us) >>= for_body stmt)
+    behind c (Ok us) = step_is expr stmt i c us
+    behind c (Err f) = refl
+
+    by : (r : Read (Option Tree)) → (r >>= λ c. semicolon_at c.1 >>= λ us. for_step expr stmt i c.0 us) ≡ (r >>= (λ c. semicolon_at c.1 >>= λ us. head_step_at expr i c.0 us) >>= for_body stmt)
+    by (Ok c) = behind c.0 (semicolon_at c.1)
+    by (Err f) = refl
+
+pub for_is : (expr : Reader) (stmt : StmtReader) (ts : List Token) → for_by expr stmt ts None ≡ (head_at expr ts >>= for_body stmt)
+for_is expr stmt ts = by (maybe_plain_at expr ts)
+  where
+    behind : (i : Option Plain) (r : Result (List Token) Fault) → (r >>= λ us. for_test expr stmt i us) ≡ (r >>= (λ us. head_test_at expr i us) >>= for_body stmt)
+    behind i (Ok us) = test_is expr stmt i us
+    behind i (Err f) = refl
+
+    by : (r : Read (Option Plain)) → (r >>= λ i. semicolon_at i.1 >>= λ us. for_test expr stmt i.0 us) ≡ (r >>= (λ i. semicolon_at i.1 >>= λ us. head_test_at expr i.0 us) >>= for_body stmt)
+    by (Ok i) = behind i.0 (semicolon_at i.1)
+    by (Err f) = refl

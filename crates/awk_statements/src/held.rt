@@ -18,6 +18,7 @@ pub(crate) fn beside<T: Drop, U>(held: T, read: Result<U, Refusal>) -> Result<(T
 }
 
 /// A value on the heap.
+#[inline(never)]
 pub(crate) fn boxed<T: Drop>(alloc: Global, value: T) -> Result<Box<T>, Refusal>
     ensures value { IfOk result (λ x. x.value ≡ value) }
     ensures refused { IfErr result (λ e. e ≡ NoMemory) }
@@ -26,6 +27,7 @@ pub(crate) fn boxed<T: Drop>(alloc: Global, value: T) -> Result<Box<T>, Refusal>
 }
 
 /// Items and one more.
+#[inline(never)]
 pub(crate) fn pushed<T: Drop>(front: Vec<T>, item: T) -> Result<Vec<T>, Refusal>
     ensures items { IfOk result (λ x. x.items ≡ front.items ++ item ∷ []) }
     ensures refused { IfErr result (λ e. e ≡ NoMemory) }
@@ -33,4 +35,13 @@ pub(crate) fn pushed<T: Drop>(front: Vec<T>, item: T) -> Result<Vec<T>, Refusal>
     let mut items = front;
     items.push(item)?;
     Ok(items)
+}
+
+/// Items and one more, which comes boxed.
+#[inline(never)]
+pub(crate) fn pushed_boxed<T: Drop>(front: Vec<T>, item: Box<T>) -> Result<Vec<T>, Refusal>
+    ensures items { IfOk result (λ x. x.items ≡ front.items ++ item.value ∷ []) }
+    ensures refused { IfErr result (λ e. e ≡ NoMemory) }
+{
+    pushed(front, Box::into_inner(item))
 }

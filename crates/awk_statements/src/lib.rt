@@ -2,6 +2,7 @@
 #![tactic(auto)]
 
 mod flow;
+mod head;
 mod held;
 mod item;
 mod node;

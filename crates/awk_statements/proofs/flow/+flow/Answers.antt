@@ -1,21 +1,21 @@
 use Rattle.std.proofs.Common.{◌≡◌, ◌-◌, length, Ok, refl, sym, ap, ◌∙◌, arith}
 use Rattle.std.proofs.lemmas.Result.{err_from_is_err_and}
-use Rattle.awk_grammar.specs.Stmt.{Stmts, NoStmt, And}
+use Rattle.awk_grammar.specs.Stmt.{Stmt as PlainStmt, Stmts, NoStmt, And}
 use Rattle.awk_grammar.specs.Reading.{expr_at}
-use Rattle.awk_grammar.specs.ReadStmt.{maybe_plain_at, stmts_at, stmt_at}
-use Rattle.awk_grammar.specs.ViewStmt.{view_stmt, view_stmts, view_maybe, view_maybe_simple}
+use Rattle.awk_grammar.specs.ReadStmt.{stmts_at, stmt_at}
+use Rattle.awk_grammar.specs.ViewStmt.{view_stmt, view_stmts}
 use Rattle.awk_expressions.specs.Seen.{seen}
 use Rattle.awk_statements.specs.Bodies.{stmts_then, with_one}
-use Rattle.awk_expressions.proofs.Binds.{seen_length, fails_bind, gives_is}
-use Rattle.awk_statements.proofs.Blocks.{with_stmts, stmts_start, stmts_push, stmts_none, stmts_end, stmts_more, semicolon_given, counted_is}
+use Rattle.awk_expressions.proofs.Binds.{seen_length, fails_bind, fails_is}
+use Rattle.awk_statements.proofs.Blocks.{with_stmts, stmts_start, stmts_push, stmts_none, stmts_end, stmts_more, for_is}
 use Rattle.awk_statements.proofs.Refused.{fails_then, gives_refused, gives_read}
 use Rattle.awk_statements.proofs.flow.+flow.Goals as goal
 
 pub with_statement-returns : goal.with_statement-returns
 with_statement-returns t c =
     let front = view_stmts c.args.front.statements.items in
-    let next : stmt_at c.args.limit (seen c.args.front.rest.now) ≡ Ok (view_stmt c.in_ok-next.next, seen c.in_ok-next.rest.now) = c.in_ok-next.ensures in
-    let items : view_stmts c.in_ok-statements.statements.items ≡ stmts_then front (And (view_stmt c.in_ok-next.next) NoStmt) = ap view_stmts c.in_ok-statements.ensures.items ∙ stmts_push c.args.front.statements.items c.in_ok-next.next in
+    let next : stmt_at c.args.limit (seen c.args.front.rest.now) ≡ Ok (view_stmt c.in_ok-next.next.value, seen c.in_ok-next.rest.now) = c.in_ok-next.ensures in
+    let items : view_stmts c.in_ok-statements.statements.items ≡ stmts_then front (And (view_stmt c.in_ok-next.next.value) NoStmt) = ap view_stmts c.in_ok-statements.ensures.items ∙ stmts_push c.args.front.statements.items c.in_ok-next.next.value in
     rw next (ap (λ (u : Stmts). Ok (u, seen c.in_ok-next.rest.now)) (sym items))
 
 pub statements-loop-init : goal.statements-loop-init
@@ -38,15 +38,24 @@ statements-returns-in-Some t c =
 
 pub counted_loop-returns : goal.counted_loop-returns
 counted_loop-returns t c =
-    let expr = expr_at c.args.limit in
-    let stmt = stmt_at c.args.limit in
-    let both = c.in_ok-first-2.ensures.both in
+    let limit = c.args.limit in
     let ts = seen c.args.tokens.now in
-    let us = seen c.in_ok-first.behind.now in
-    let first = view_maybe_simple c.in_ok-first-2.first in
-    let plain : maybe_plain_at expr ts ≡ Ok (first, us) = rw both.0 c.in_ok-first.ensures in
-    let next = semicolon_given c.semicolon.result c.in_ok-first-2.behind us both.1 c.semicolon.ensures in
-    gives_is (λ x. (view_stmt x.0, seen x.1.now)) c.loop_test.result _ _ (counted_is expr stmt ts us (seen c.in_ok-first-2.behind.now) first plain next) c.loop_test.ensures
+    let both = c.in_ok-head-2.ensures.both in
+    let body = gives_read (λ x. (view_stmt x.0.value, seen x.1.now)) c.statement.result _ _ both.1 c.statement.ensures in
+    rw (for_is (expr_at limit) (stmt_at limit) ts, c.in_ok-head.ensures, body, ← both.0) (ap (λ (s : PlainStmt). Ok (s, seen c.in_ok-head-2.rest.now)) (sym c.in_ok-for_of.ensures.value))
+
+pub counted_loop-returns-in_err-head : goal.counted_loop-returns-in_err-head
+counted_loop-returns-in_err-head t c =
+    let p = err_from_is_err_and c.from_residual.result c.from_residual.ensures.1 in
+    let e = c.in_err-head.field-0.0 in
+    rw (p.1, p.2) (fails_is e _ _ (for_is (expr_at c.args.limit) (stmt_at c.args.limit) (seen c.args.tokens.now)) (fails_bind e _ _ c.in_err-head.ensures))
+
+pub counted_loop-returns-in_err-head-2 : goal.counted_loop-returns-in_err-head-2
+counted_loop-returns-in_err-head-2 t c =
+    let p = err_from_is_err_and c.from_residual-in_err-head-2.result c.from_residual-in_err-head-2.ensures.1 in
+    let e = c.in_err-head-2.field-0.0 in
+    let body = gives_refused (λ x. (view_stmt x.0.value, seen x.1.now)) c.statement.result e _ c.in_err-head-2.ensures.refused c.statement.ensures in
+    rw (p.1, p.2) (fails_is e _ _ (for_is (expr_at c.args.limit) (stmt_at c.args.limit) (seen c.args.tokens.now)) (fails_then e _ _ _ c.in_ok-head.ensures (fails_bind e _ _ body)))
 
 pub block-returns-in_err-body : goal.block-returns-in_err-body
 block-returns-in_err-body t c =
@@ -78,55 +87,14 @@ loop_over-returns-in_err-body t c =
     let p = err_from_is_err_and c.from_residual.result c.from_residual.ensures.1 in
     rw (p.1, p.2) (fails_bind c.in_err-body.field-0.0 _ _ c.in_err-body.ensures)
 
-pub counted_loop-returns-in_err-first : goal.counted_loop-returns-in_err-first
-counted_loop-returns-in_err-first t c =
-    let p = err_from_is_err_and c.from_residual.result c.from_residual.ensures.1 in
-    rw (p.1, p.2) (fails_bind c.in_err-first.field-0.0 _ _ c.in_err-first.ensures)
-
 pub if_statement-returns-in_err-test-2 : goal.if_statement-returns-in_err-test-2
 if_statement-returns-in_err-test-2 t c =
     let p = err_from_is_err_and c.from_residual-in_err-test-2.result c.from_residual-in_err-test-2.ensures.1 in
     let e = c.in_err-test-2.field-0.0 in
-    rw (p.1, p.2) (fails_then e _ _ _ c.in_ok-test.ensures (fails_bind e _ _ (gives_refused (λ x. (view_stmt x.0.value, seen x.1.now)) c.inner.result e _ c.in_err-test-2.ensures.refused c.inner.ensures)))
+    rw (p.1, p.2) (fails_then e _ _ _ c.in_ok-test.ensures (fails_bind e _ _ (gives_refused (λ x. (view_stmt x.0.value, seen x.1.now)) c.statement.result e _ c.in_err-test-2.ensures.refused c.statement.ensures)))
 
 pub while_loop-returns-in_err-test-2 : goal.while_loop-returns-in_err-test-2
 while_loop-returns-in_err-test-2 t c =
     let p = err_from_is_err_and c.from_residual-in_err-test-2.result c.from_residual-in_err-test-2.ensures.1 in
     let e = c.in_err-test-2.field-0.0 in
-    rw (p.1, p.2) (fails_then e _ _ _ c.in_ok-test.ensures (fails_bind e _ _ (gives_refused (λ x. (view_stmt x.0.value, seen x.1.now)) c.inner.result e _ c.in_err-test-2.ensures.refused c.inner.ensures)))
-
-pub counted_loop-returns-in_err-first-2 : goal.counted_loop-returns-in_err-first-2
-counted_loop-returns-in_err-first-2 t c =
-    let p = err_from_is_err_and c.from_residual-in_err-first-2.result c.from_residual-in_err-first-2.ensures.1 in
-    let e = c.in_err-first-2.field-0.0 in
-    rw (p.1, p.2) (fails_then e _ _ _ c.in_ok-first.ensures (fails_bind e _ _ (gives_refused (λ r. seen r.now) c.semicolon.result e _ c.in_err-first-2.ensures.refused c.semicolon.ensures)))
-
-pub loop_test-returns-in_err-first : goal.loop_test-returns-in_err-first
-loop_test-returns-in_err-first t c =
-    let p = err_from_is_err_and c.from_residual.result c.from_residual.ensures.1 in
-    let e = c.in_err-first.field-0.0 in
-    rw (p.1, p.2) (fails_bind e _ _ (gives_refused (λ x. (view_maybe x.0, seen x.1.now)) c.optional.result e _ c.in_err-first.ensures.refused c.optional.ensures))
-
-pub loop_test-returns-in_err-first-2 : goal.loop_test-returns-in_err-first-2
-loop_test-returns-in_err-first-2 t c =
-    let p = err_from_is_err_and c.from_residual-in_err-first-2.result c.from_residual-in_err-first-2.ensures.1 in
-    let e = c.in_err-first-2.field-0.0 in
-    rw (p.1, p.2) (fails_then e _ _ _ (gives_read (λ x. (view_maybe x.0, seen x.1.now)) c.optional.result _ _ c.in_ok-first.ensures.both.1 c.optional.ensures) (fails_bind e _ _ (gives_refused (λ r. seen r.now) c.semicolon.result e _ c.in_err-first-2.ensures.refused c.semicolon.ensures)))
-
-pub loop_step-returns-in_err-first : goal.loop_step-returns-in_err-first
-loop_step-returns-in_err-first t c =
-    let p = err_from_is_err_and c.from_residual.result c.from_residual.ensures.1 in
-    let e = c.in_err-first.field-0.0 in
-    rw (p.1, p.2) (fails_bind e _ _ (gives_refused (λ x. (view_maybe_simple x.0, seen x.1.now)) c.optional_simple.result e _ c.in_err-first.ensures.refused c.optional_simple.ensures))
-
-pub loop_step-returns-in_err-first-2 : goal.loop_step-returns-in_err-first-2
-loop_step-returns-in_err-first-2 t c =
-    let p = err_from_is_err_and c.from_residual-in_err-first-2.result c.from_residual-in_err-first-2.ensures.1 in
-    let e = c.in_err-first-2.field-0.0 in
-    rw (p.1, p.2) (fails_then e _ _ _ (gives_read (λ x. (view_maybe_simple x.0, seen x.1.now)) c.optional_simple.result _ _ c.in_ok-first.ensures.both.1 c.optional_simple.ensures) (fails_bind e _ _ (gives_refused (λ r. seen r.now) c.close.result e _ c.in_err-first-2.ensures.refused c.close.ensures)))
-
-pub loop_body-returns-in_err-first : goal.loop_body-returns-in_err-first
-loop_body-returns-in_err-first t c =
-    let p = err_from_is_err_and c.from_residual.result c.from_residual.ensures.1 in
-    let e = c.in_err-first.field-0.0 in
-    rw (p.1, p.2) (fails_bind e _ _ (gives_refused (λ x. (view_stmt x.0.value, seen x.1.now)) c.inner.result e _ c.in_err-first.ensures.refused c.inner.ensures))
+    rw (p.1, p.2) (fails_then e _ _ _ c.in_ok-test.ensures (fails_bind e _ _ (gives_refused (λ x. (view_stmt x.0.value, seen x.1.now)) c.statement.result e _ c.in_err-test-2.ensures.refused c.statement.ensures)))

@@ -9,49 +9,37 @@ abbrev pub invariant-statements-loop : goal.invariant-statements-loop
 invariant-statements-loop l = with_stmts (view_stmts l.read.statements.items) (stmts_at (stmt_at l.limit) (l.turns - l.counter) (seen l.read.rest.now)) ≡ stmts_at (stmt_at l.limit) (length (seen l.tokens)) (seen l.tokens)
 
 abbrev pub decreases-statement : goal.decreases-statement
-decreases-statement l = 9 * l.limit
-
-abbrev pub decreases-inner : goal.decreases-inner
-decreases-inner l = 9 * l.limit + 1
+decreases-statement l = 5 * l.limit
 
 abbrev pub decreases-with_statement : goal.decreases-with_statement
-decreases-with_statement l = 9 * l.limit + 1
+decreases-with_statement l = 5 * l.limit + 1
 
 abbrev pub decreases-statements : goal.decreases-statements
-decreases-statements l = 9 * l.limit + 2
+decreases-statements l = 5 * l.limit + 2
 
 abbrev pub decreases-block : goal.decreases-block
-decreases-block l = 9 * l.limit + 3
+decreases-block l = 5 * l.limit + 3
 
 abbrev pub decreases-else_part : goal.decreases-else_part
-decreases-else_part l = 9 * l.limit + 2
+decreases-else_part l = 5 * l.limit + 1
 
 abbrev pub decreases-if_statement : goal.decreases-if_statement
-decreases-if_statement l = 9 * l.limit + 3
+decreases-if_statement l = 5 * l.limit + 2
 
 abbrev pub decreases-while_loop : goal.decreases-while_loop
-decreases-while_loop l = 9 * l.limit + 2
+decreases-while_loop l = 5 * l.limit + 1
 
 abbrev pub decreases-do_loop : goal.decreases-do_loop
-decreases-do_loop l = 9 * l.limit + 2
+decreases-do_loop l = 5 * l.limit + 1
 
 abbrev pub decreases-loop_over : goal.decreases-loop_over
-decreases-loop_over l = 9 * l.limit + 2
-
-abbrev pub decreases-loop_body : goal.decreases-loop_body
-decreases-loop_body l = 9 * l.limit + 2
-
-abbrev pub decreases-loop_step : goal.decreases-loop_step
-decreases-loop_step l = 9 * l.limit + 3
-
-abbrev pub decreases-loop_test : goal.decreases-loop_test
-decreases-loop_test l = 9 * l.limit + 4
+decreases-loop_over l = 5 * l.limit + 1
 
 abbrev pub decreases-counted_loop : goal.decreases-counted_loop
-decreases-counted_loop l = 9 * l.limit + 5
+decreases-counted_loop l = 5 * l.limit + 1
 
 abbrev pub decreases-for_loop : goal.decreases-for_loop
-decreases-for_loop l = 9 * l.limit + 6
+decreases-for_loop l = 5 * l.limit + 2
 
 abbrev pub decreases-one : goal.decreases-one
-decreases-one l = 9 * l.limit + 7
+decreases-one l = 5 * l.limit + 4

@@ -1,5 +1,0 @@
-use Rattle.awk_grammar.proofs.Views.{view_block}
-use Rattle.awk_statements.proofs.node.block_of.Goals as goal
-
-pub returns : goal.returns
-returns c = view_block c.args.body
