@@ -72,7 +72,7 @@ module _ (f : HostForm) (words : List Word) (memory : List ℕ) (none : f.fault 
   }
 
   declare_wanted : (b : Bool) → is_some (declared 0 text f.shared.inner.names) ≡ b → (g : HostForm) → IsTableCall (Of row.Declare) f words memory (Err why.NoMemory) g
-  declare_wanted true there g s st = let x = declare_twice there s st in (told.Trap BadArgument, trap_is_some BadArgument, x.0, x.2)
+  declare_wanted true there g = λ s st. let x = declare_twice there s st in (told.Trap BadArgument, trap_is_some BadArgument, x.0, x.2)
   declare_wanted false absent g = wanted (Of row.Declare) f _ g words memory None (declare_goes absent)
 
   -- memory was wanting, for the name or for its place

@@ -1,9 +1,6 @@
 -- Marking imports one after another.
 use Rattle.std.proofs.Common.{◌≡◌, ℕ, zero, suc, ◌+◌, ◌<◌, ◌≤◌, nat_eq, Bool, true, false, ◌||◌, List, [], ◌∷◌, length, replicate, slice_set, ◌≢◌, refl, sym, ap, ◌∙◌, arith}
 use Rattle.std.proofs.lemmas.Bool.{eq-eqb, ne_eqb}
-use Rattle.value_machine.specs.Machine.{Callee}
-use Rattle.value_machine.specs.Modules.{any_calls, called_from}
-use Rattle.value_machine.specs.declared.import.Import.{Import}
 use Rattle.module_emission.specs.Marked.{marked, marked_from}
 
 or_false : (b : Bool) → (b || false) ≡ b
@@ -62,9 +59,3 @@ marked_one bs k below =
 -- a number of none
 pub marked_past : (bs : List Bool) (k : ℕ) → length bs ≤ k → bs ≡ marked bs (λ i. nat_eq i k)
 marked_past bs k past = sym (none_has 0 bs k (λ i after before same. omega (arith, before, same, past)))
-
--- All imports, none of which was marked.
-
-pub called_marked : (n : ℕ) (xs : List Import) (fs : List Callee) → marked_from n (replicate (length xs) false) (λ i. any_calls i fs) ≡ called_from n xs fs
-called_marked n [] fs = refl
-called_marked n (x ∷ xs) fs = ap (λ (bs : List Bool). any_calls n fs ∷ bs) (called_marked (suc n) xs fs)
