@@ -9,11 +9,11 @@ use Rattle.wasm_machine.specs.Machines.{CallerForm}
 use Rattle.host_step.specs.HostState.{Names}
 use Rattle.host_step.specs.Tables.{look}
 use Rattle.mid_program.specs.Mid.{Kind, Boxed, Unboxed, Many}
-use Rattle.value_machine.specs.Cells.{Cell, Bits, Held, IteratorOf, OwnedArray, LentArray, Gone, each_name, ended_name, is_owned, iterators_in, no_temporary, none_owned, tidy_locals, tidy_name}
-use Rattle.value_machine.specs.Machine.{Frame}
+use Rattle.value_machine.specs.Cells.{Cell, Bits, Held, IteratorOf, OwnedArray, LentArray, Gone, each_name, ended_name, globals_by, is_bare, is_owned, iterators_in, no_temporary, none_owned, tidy_locals, tidy_name}
+use Rattle.value_machine.specs.Machine.{Frame, ending_name}
 use Rattle.value_refined.specs.Owners.{OwnedOnce, owner, owners, owns_sort, places_in, there, waiting, wanted}
 use Rattle.value_refined.proofs.Room.{one_most, owns_one, total, total_less, total_none, total_sum, waiting_most}
-use Rattle.run_places.specs.Kept.{GlobalsHold, LocalsHold, NameHolds, NameMayHold, NamesHold, OnlyIterators, arrays, boxed, holders, holders_waiting, holds, scalars}
+use Rattle.run_places.specs.Kept.{GlobalsHold, LocalsHold, NameHolds, NameMayHold, NamesHold, OnlyIterators, arrays, boxed, count, holders, holders_waiting, holds, one, scalars}
 
 -- what a place holds, by its cell
 abbrev pub held_in : Cell → Option Sort
@@ -161,7 +161,24 @@ globals_may zero ks os h = names_may ks os h
 globals_may (suc n) ks [] h = names_may ks [] h
 globals_may (suc n) ks (o ∷ os) h = (h.0, globals_may n ks os h.1)
 
+-- where `main` ends
+pub ending_globals : {A : Type 0} (o : Option A) (before : ℕ) (ks : List Kind) (cs : List Cell) → globals_by (ending_name o) before ks cs ≡ true → GlobalsHold NameMayHold before ks (held cs)
+ending_globals None before ks cs e = globals_may before ks (held cs) (tidy_globals before ks cs e)
+ending_globals (Some x) before ks cs e = ended_globals before ks cs e
+
+pub exact_globals : {A : Type 0} (o : Option A) (before : ℕ) (ks : List Kind) (cs : List Cell) → o ≡ None → globals_by (ending_name o) before ks cs ≡ true → GlobalsHold NameHolds before ks (held cs)
+exact_globals None before ks cs q e = tidy_globals before ks cs e
+exact_globals (Some x) before ks cs q e = cc
+
 -- Locals.
+
+bare_holds : (c : Cell) → is_bare c ≡ true → held_in c ≡ None
+bare_holds (Bits w) e = refl
+bare_holds (Held v) e = cc
+bare_holds (IteratorOf t) e = cc
+bare_holds (OwnedArray a) e = cc
+bare_holds (LentArray a) e = cc
+bare_holds Gone e = cc
 
 only_held : (cs : List Cell) → no_temporary cs ≡ true → OnlyIterators (held cs)
 only_held [] e = tt
@@ -180,20 +197,13 @@ tidy_held (Boxed ∷ ks) (IteratorOf t ∷ cs) e = cc
 tidy_held (Boxed ∷ ks) (Bits w ∷ cs) e = cc
 tidy_held (Boxed ∷ ks) (LentArray a ∷ cs) e = cc
 tidy_held (Boxed ∷ ks) (Gone ∷ cs) e = cc
-tidy_held (Unboxed ∷ ks) (c ∷ cs) e = let h = and_parts (not (is_owned c)) (tidy_locals ks cs) e in (nothing_held tidy_name NameHolds tidy_holds c h.0, tidy_held ks cs h.1)
+tidy_held (Unboxed ∷ ks) (c ∷ cs) e = let h = and_parts (is_bare c) (tidy_locals ks cs) e in (bare_holds c h.0, tidy_held ks cs h.1)
 tidy_held (Many ∷ ks) (c ∷ cs) e = let h = and_parts (not (is_owned c)) (tidy_locals ks cs) e in (nothing_held tidy_name NameHolds tidy_holds c h.0, tidy_held ks cs h.1)
 tidy_held (Boxed ∷ ks) [] e = cc
 tidy_held (Unboxed ∷ ks) [] e = cc
 tidy_held (Many ∷ ks) [] e = cc
 
 -- Counts.
-
-abbrev one : Sort → Option Sort → ℕ
-one t o = cond (holds t o) 1 0
-
-abbrev pub count : Sort → List (Option Sort) → ℕ
-count t [] = 0
-count t (o ∷ os) = one t o + count t os
 
 none_counted : (t : Sort) → one t None ≡ 0
 none_counted sort.Value = refl
@@ -339,6 +349,31 @@ wanted_few N L G ls gs F rs once t n =
     let b = owners_counted t L ls 0 n in
     let c = owners_counted t G gs 0 n in
     let d = waiting_most t F rs 0 n in
+    let x = total_sum (λ q. owners t q G gs) (λ q. waiting t q F rs) 0 n in
+    let y = total_sum (λ q. owners t q L ls) (λ q. owners t q G gs + waiting t q F rs) 0 n in
+    omega (arith, a, b, c, d, x, y)
+
+-- the same, and what callers hold is counted
+abbrev pub counts : Sort → List Frame → ℕ
+counts t [] = 0
+counts t (f ∷ F) = count t (held f.locals) + counts t F
+
+waiting_counted : (t : Sort) (F : List Frame) (rs : List CallerForm) (a n : ℕ) → total (λ q. waiting t q F rs) a n ≤ counts t F
+waiting_counted t [] rs a n = let x = total_none (λ q. waiting t q [] rs) a n (λ q l. refl) in omega (arith, x)
+waiting_counted t (f ∷ F) [] a n = let x = total_none (λ q. waiting t q (f ∷ F) []) a n (λ q l. refl) in omega (arith, x)
+waiting_counted t (f ∷ F) (r ∷ rs) a n =
+    let x = owners_counted t f.locals r.frame.locals a n in
+    let y = waiting_counted t F rs a n in
+    let z = total_sum (λ q. owners t q f.locals r.frame.locals) (λ q. waiting t q F rs) a n in
+    omega (arith, x, y, z)
+
+pub wanted_counted : (N : Names) (L G : List Cell) (ls gs : List Word) (F : List Frame) (rs : List CallerForm) → OwnedOnce N [] [] L ls G gs F rs → (t : Sort) (n : ℕ) →
+    total (λ q. wanted N t q) 0 n ≤ count t (held L) + (count t (held G) + counts t F)
+wanted_counted N L G ls gs F rs once t n =
+    let a = total_less (λ q. wanted N t q) (λ q. owners t q L ls + (owners t q G gs + waiting t q F rs)) 0 n (λ q. let e = once t q in omega (arith, e)) in
+    let b = owners_counted t L ls 0 n in
+    let c = owners_counted t G gs 0 n in
+    let d = waiting_counted t F rs 0 n in
     let x = total_sum (λ q. owners t q G gs) (λ q. waiting t q F rs) 0 n in
     let y = total_sum (λ q. owners t q L ls) (λ q. owners t q G gs + waiting t q F rs) 0 n in
     omega (arith, a, b, c, d, x, y)

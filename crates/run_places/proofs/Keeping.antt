@@ -1,5 +1,5 @@
 -- NOTHING IS KEPT: where a statement begins the machine over values is not stuck, so it is tidy there; and the numbers that the host has are those that its places own.
-use Rattle.std.proofs.Common.{◌≡◌, inl, inr, ℕ, zero, suc, ◌+◌, ◌^◌, ◌≤◌, Bool, true, false, ◌&&◌, cond, nat_eq, List, [], ◌∷◌, length, Option, Some, None, refl, sym, ap, ◌∙◌, subst, arith}
+use Rattle.std.proofs.Common.{◌≡◌, inl, inr, ℕ, zero, suc, ◌+◌, ◌^◌, ◌≤◌, Bool, true, false, ◌&&◌, cond, nat_eq, List, [], ◌∷◌, drop, length, Option, Some, None, refl, sym, ap, ◌∙◌, subst, arith}
 use Rattle.std.specs.List.{All}
 use Rattle.std.proofs.lemmas.Bool.{and_parts, eqb-true}
 use Rattle.awk_state.specs.Jobs.{JobForm}
@@ -19,8 +19,8 @@ use Rattle.host_step.specs.HostState.{HostState, Names}
 use Rattle.host_step.specs.Starts.{state_at_start}
 use Rattle.mid_program.specs.Mid.{Kind, Program}
 use Rattle.mid_program.specs.ScriptRun.{Setting}
-use Rattle.value_machine.specs.Cells.{Cell, ended_name, globals_by, iterators_in, tidy_locals, tidy_name}
-use Rattle.value_machine.specs.Machine.{Code, Conf, Deep, Frame, Label, Look, Over, Run, Store, Stuck, at, ending_at, go, guarded, is_empty, is_walk, loops_walked, step, tidy}
+use Rattle.value_machine.specs.Cells.{Cell, globals_by, iterators_in, marks_fit, tidy_locals, tidy_name}
+use Rattle.value_machine.specs.Machine.{Code, Conf, Deep, Frame, Label, Look, Over, Run, Store, Stuck, at, ending_at, go, guarded, is_empty, is_walk, loops_walked, step, tidy, ending_name}
 use Rattle.value_machine.specs.Modules.{all_callees, called_imports, globals_of, module_of, renumbered, renumbered_simple}
 use Rattle.value_machine.specs.Runs.{begun, code_of}
 use Rattle.value_machine.proofs.Runs.{go_add}
@@ -35,11 +35,15 @@ use Rattle.value_refined.proofs.Running.{steps_as}
 use Rattle.value_refined.proofs.Stepping.{step_as}
 use Rattle.module_agreement.specs.Agreement.{setting_of}
 use Rattle.module_agreement.specs.ValueAgreement.{ValueAgreement}
-use Rattle.run_places.specs.Places.{IsWithin}
-use Rattle.run_places.specs.Kept.{AtReturn, AtStatement, LocalsHold, Reached, begins_statement, boxed, if_loop, loops}
+use Rattle.run_places.specs.Kept.{AtReturn, AtStatement, BareParameters, CallersWait, LocalsHold, Reached, begins_statement, boxed}
 use Rattle.run_places.proofs.Begun.{OfFunction, fits_on, some_within}
-use Rattle.run_places.proofs.Counting.{arrays_wanted, ended_globals, global_arrays, global_iterators, global_values, globals_may, held, held_waiting, holders_same, local_arrays, local_iterators, local_values, tidy_globals, tidy_held, waiting_same, wanted_few}
+use Rattle.run_places.proofs.Counting.{arrays_wanted, ending_globals, exact_globals, global_arrays, global_iterators, global_values, globals_may, held, held_waiting, holders_same, local_arrays, local_iterators, local_values, tidy_globals, tidy_held, waiting_same, wanted_counted, wanted_few}
 use Rattle.run_places.proofs.Fitting.{Fits}
+use Rattle.run_places.proofs.Marks.{names_marked, parameters_bare, words_behind}
+use Rattle.std.specs.List.{Contains}
+use Rattle.run_places.specs.Places.{IsPart, IsWithin}
+use Rattle.run_places.proofs.Working.{Stands, part_renumbered, stands_on}
+use Rattle.run_places.proofs.Waiting.{callers_wait, iterators_counted, values_counted, walks_same}
 use Rattle.run_places.proofs.Numbers.{AreTables, first_tables, length_counted, steps_tables}
 
 none_empty : {A : Type 0} → (xs : List A) → is_empty xs ≡ true → xs ≡ []
@@ -88,30 +92,6 @@ no_look u x ks vs K L F Done G e alive = cc
 no_look u x ks vs K L F (Then (Plain simple.Nop) k) G e alive = alive refl
 no_look u x ks vs K L F (Then i k) G e alive = cc
 
--- Loops.
-
-module _ (used : ℕ → Bool) (bs : List Bool) (made : ℕ) (N : Names) where
-  walk_once : (a : Option Instructions) (b : Option Instructions) → AgainAs used bs a b → cond {A = ℕ} (is_walk a) 1 0 ≤ if_loop b
-  walk_once None None h = omega arith
-  walk_once None (Some b) h = absurd h
-  walk_once (Some a) None h = absurd h
-  walk_once (Some a) (Some b) h = by (is_walk (Some a))
-    where
-      by : (z : Bool) → cond {A = ℕ} z 1 0 ≤ 1
-      by true = omega arith
-      by false = omega arith
-
-  walks_few : (K : List Label) (rs : List LabelForm) → LabelsAs used bs made N K rs → loops_walked K ≤ loops rs
-  walks_few [] [] h = omega arith
-  walks_few [] (r ∷ rs) h = absurd h
-  walks_few (l ∷ K) [] h = absurd h
-  walks_few (l ∷ K) (r ∷ rs) h = by (is_walk l.again) refl (walk_once l.again r.again h.0.again) (walks_few K rs h.1)
-    where
-      by : (z : Bool) → is_walk l.again ≡ z → cond {A = ℕ} (is_walk l.again) 1 0 ≤ if_loop r.again → loops_walked K ≤ loops rs →
-          cond z (suc (loops_walked K)) (loops_walked K) ≤ if_loop r.again + loops rs
-      by true e x y = let q = ap (λ b. cond {A = ℕ} b 1 0) e in omega (arith, q, x, y)
-      by false e x y = omega (arith, y)
-
 -- How much is alive.
 
 module _ (p : Program) where
@@ -142,19 +122,23 @@ module _ (p : Program) where
 
   -- where a statement begins
   at_statement : (ks : List Kind) (K : List Label) (L : List Cell) (F : List Frame) (code : Instructions) (G : Store) (ws : List Word) (rcode : Instructions) (c : real.Conf) (s : HostState) →
-      RunAs (stays p) (called_imports p) u [] K L F code G ws rcode c s → c.frame.values ≡ [] → TidyAt ks [] K L G → OfFunction p ks → AreTables s.names → AtStatement p c s
-  at_statement ks K L F code G ws rcode c s a none tidy-is own tables =
-      let split = and_parts (is_empty {A = Cell} [] && is_empty G.host.arguments) ((tidy_locals ks L && nat_eq (iterators_in L) (loops_walked K)) && globals_by tidy_name u.before u.names G.globals) tidy-is in
-      let inner = and_parts (tidy_locals ks L && nat_eq (iterators_in L) (loops_walked K)) (globals_by tidy_name u.before u.names G.globals) split.1 in
+      RunAs (stays p) (called_imports p) u [] K L F code G ws rcode c s → c.frame.values ≡ [] → TidyAt ks [] K L G → (own : OfFunction p ks) → IsPart (renumbered (called_imports p) own.0.body) c.frame.code → CallersWait p (held_waiting F) c.callers → AreTables s.names → AtStatement p c s
+  at_statement ks K L F code G ws rcode c s a none tidy-is own part callers tables =
+      let split = and_parts (is_empty {A = Cell} [] && is_empty G.host.arguments) ((tidy_locals ks L && nat_eq (iterators_in L) (loops_walked K)) && (globals_by tidy_name u.before u.names G.globals && marks_fit u.names (drop u.before G.globals))) tidy-is in
+      let inner = and_parts (tidy_locals ks L && nat_eq (iterators_in L) (loops_walked K)) (globals_by tidy_name u.before u.names G.globals && marks_fit u.names (drop u.before G.globals)) split.1 in
+      let named = and_parts (globals_by tidy_name u.before u.names G.globals) (marks_fit u.names (drop u.before G.globals)) inner.1 in
       let walks = and_parts (tidy_locals ks L) (nat_eq (iterators_in L) (loops_walked K)) inner.0 in
-      let names = tidy_globals u.before u.names G.globals inner.1 in
+      let names = tidy_globals u.before u.names G.globals named.0 in
       let may = globals_may u.before u.names (held G.globals) names in
       let locals = tidy_held ks L walks.0 in
       let once : OwnedOnce s.names [] [] L c.frame.locals G.globals c.globals F c.callers = (λ t q. a.once t q) in
-      let few = wanted_few s.names L G.globals c.frame.locals c.globals F c.callers once in
+      let few = wanted_counted s.names L G.globals c.frame.locals c.globals F c.callers once in
+      let places = wanted_few s.names L G.globals c.frame.locals c.globals F c.callers once in
       let v = few sort.Value (2 ^ 31) in
-      let r = few sort.Array (2 ^ 31) in
+      let r = places sort.Array (2 ^ 31) in
       let i = few sort.Iterator (2 ^ 31) in
+      let v0 = values_counted p F c.callers callers in
+      let i0 = iterators_counted p F c.callers callers in
       let v1 = local_values ks (held L) locals in
       let v2 = global_values u.before u.names (held G.globals) may in
       let r1 = local_arrays ks (held L) locals in
@@ -162,7 +146,7 @@ module _ (p : Program) where
       let i1 = local_iterators L in
       let i2 = global_iterators u.before u.names (held G.globals) may in
       let i3 = eqb-true (iterators_in L) (loops_walked K) walks.1 in
-      let i4 = walks_few (stays p) (called_imports p) (arrays_made G.host) s.names K c.frame.labels a.rest.labels in
+      let i4 = walks_same p (arrays_made G.host) s.names K c.frame.labels a.rest.labels in
       let kinds = ap boxed own.2 in
       record {
         operands = none;
@@ -179,16 +163,21 @@ module _ (p : Program) where
         names_hold = names;
         function = own.0;
         is_function = own.1;
+        at_work = part;
         locals_hold = subst (λ k. LocalsHold k (held L)) (sym own.2) locals;
-        few_values = values_few s.names tables _ (omega (arith, v, v1, v2, kinds));
+        walked = i1 ∙ (i3 ∙ sym i4);
+        waits = callers;
+        bare = subst (λ k. BareParameters k c.frame.locals) (sym own.2) (parameters_bare (arrays_made G.host) s.names ks L c.frame.locals a.rest.locals walks.0);
+        marked = names_marked (arrays_made G.host) s.names u.names (drop u.before G.globals) (drop u.before c.globals) (words_behind (arrays_made G.host) s.names u.before G.globals c.globals a.rest.globals) named.1;
+        few_values = values_few s.names tables _ (omega (arith, v, v0, v1, v2, kinds));
         few_arrays = arrays_few s.names tables _ (omega (arith, r, r1, r2));
-        few_iterators = iterators_few s.names tables _ (omega (arith, i, i1, i2, i3, i4));
+        few_iterators = iterators_few s.names tables _ (omega (arith, i, i0, i1, i2, i3, i4));
       }
 
   -- where `main` has returned
-  at_return : (v : Cell) (G : Store) (c : real.Conf) (s : HostState) → LeftAs (stays p) (called_imports p) u v G c s → globals_by ended_name u.before u.names G.globals ≡ true → AreTables s.names → AtReturn p c s
+  at_return : (v : Cell) (G : Store) (c : real.Conf) (s : HostState) → LeftAs (stays p) (called_imports p) u v G c s → globals_by (ending_name G.host.fault) u.before u.names G.globals ≡ true → AreTables s.names → AtReturn p c s
   at_return v G c s a ended tables =
-      let names = ended_globals u.before u.names G.globals ended in
+      let names = ending_globals G.host.fault u.before u.names G.globals ended in
       let few = wanted_few s.names [] G.globals [] c.globals [] [] a.once in
       let v = few sort.Value (2 ^ 31) in
       let r = few sort.Array (2 ^ 31) in
@@ -201,6 +190,7 @@ module _ (p : Program) where
         globals = held G.globals;
         once = λ t q. let x = holders_same t q G.globals c.globals in let e = a.once t q in omega (arith, x, e);
         names_hold = names;
+        exact = λ q. exact_globals G.host.fault u.before u.names G.globals (sym (ap (λ (z : HostState). z.fault) a.host) ∙ q) ended;
         few_values = values_few s.names tables _ (omega (arith, v, v1));
         few_arrays = arrays_few s.names tables _ (omega (arith, r, r1));
         few_iterators = omega (arith, i2);
@@ -209,22 +199,22 @@ module _ (p : Program) where
   abbrev FitsAt : ℕ → ℕ → Conf → Type 0
   FitsAt instructions places P = Fits u instructions places (length (globals_of p)) (OfFunction p) P
 
-  begins_as : (P : Conf) (c : real.Conf) (s : HostState) (instructions places : ℕ) → AsThere P c s → FitsAt instructions places P → (step u P ≡ Stuck → ⊥) → AreTables s.names → begins_statement c.frame.code ≡ true → AtStatement p c s
-  begins_as (Run ks vs K L F code G) c s instructions places a fits alive tables e =
+  begins_as : (P : Conf) (c : real.Conf) (s : HostState) (instructions places : ℕ) → AsThere P c s → FitsAt instructions places P → Stands u (Contains (all_callees p)) P → (step u P ≡ Stuck → ⊥) → AreTables s.names → begins_statement c.frame.code ≡ true → AtStatement p c s
+  begins_as (Run ks vs K L F code G) c s instructions places a fits stands alive tables e =
       let same = begins_same (called_imports p) code in
       let begins : begins_statement code ≡ true = sym same ∙ ap begins_statement (sym a.code-is.same ∙ settled_nop c.frame.code e) ∙ e in
       let tidy-is = tidy_there u ks vs K L F code G begins alive in
-      let split = and_parts (is_empty vs && is_empty G.host.arguments) ((tidy_locals ks L && nat_eq (iterators_in L) (loops_walked K)) && globals_by tidy_name u.before u.names G.globals) tidy-is in
+      let split = and_parts (is_empty vs && is_empty G.host.arguments) ((tidy_locals ks L && nat_eq (iterators_in L) (loops_walked K)) && (globals_by tidy_name u.before u.names G.globals && marks_fit u.names (drop u.before G.globals))) tidy-is in
       let none = none_empty vs (and_parts (is_empty vs) (is_empty G.host.arguments) split.0).0 in
       let ws = settled_values c.frame.values c.frame.code in
       let no_more = no_words (arrays_made G.host) s.names vs ws none a.operands in
       let here = subst (λ (z : List Cell). RunAs (stays p) (called_imports p) u z K L F code G ws (settled_code c.frame.code) c s × TidyAt ks z K L G) none (a, tidy-is) in
-      at_statement ks K L F code G ws (settled_code c.frame.code) c s here.0 (sym (operands_nop c.frame.values c.frame.code e) ∙ no_more) here.1 fits.1.kinds tables
-  begins_as (Look x ks vs K L F code G) c s instructions places a fits alive tables e =
+      at_statement ks K L F code G ws (settled_code c.frame.code) c s here.0 (sym (operands_nop c.frame.values c.frame.code e) ∙ no_more) here.1 (stands.0.function, stands.0.is, stands.0.kinds) (subst (λ (k : Instructions). IsPart (renumbered (called_imports p) stands.0.function.body) k) (sym (sym (settled_nop c.frame.code e) ∙ a.code-is.same)) (part_renumbered (called_imports p) stands.0.function.body code stands.0.code)) (callers_wait p u instructions places (length (globals_of p)) (arrays_made G.host) s.names F c.callers a.rest.callers fits.1.frames stands.1) tables
+  begins_as (Look x ks vs K L F code G) c s instructions places a fits stands alive tables e =
       absurd (no_look u x ks vs K L F code G (sym (begins_same (called_imports p) code) ∙ ap begins_statement (sym a.run.code-is.same) ∙ e) alive)
-  begins_as (Over v G) c s instructions places a fits alive tables e = let h : false ≡ true = sym (ap (λ (f : FrameForm). begins_statement f.code) a.frame) ∙ e in cc
-  begins_as (Deep G) c s instructions places a fits alive tables e = absurd a
-  begins_as Stuck c s instructions places a fits alive tables e = absurd (alive refl)
+  begins_as (Over v G) c s instructions places a fits stands alive tables e = let h : false ≡ true = sym (ap (λ (f : FrameForm). begins_statement f.code) a.frame) ∙ e in cc
+  begins_as (Deep G) c s instructions places a fits stands alive tables e = absurd a
+  begins_as Stuck c s instructions places a fits stands alive tables e = absurd (alive refl)
 
   abbrev ReturnsFrom : real.Conf → ℕ → Type 0
   ReturnsFrom c n = turn (program p) c ≡ Ends (ends.Returned (Some (I32 n)))
@@ -282,7 +272,7 @@ module _ (p : Program) where
       where
         by : (n : ℕ) → Steps table_meaning m.program n m.conf start reached.output c s → AtStatement p c s
         by zero t = let h : false ≡ true = sym (ap (λ (z : real.Conf). begins_statement z.frame.code) (t.0 ∙ reached.is_new.conf)) ∙ e in cc
-        by (suc n) t = begins_as (place n) c s sizes.1 sizes.0 (there_as n t) (fits n) (alive n) tables e
+        by (suc n) t = begins_as (place n) c s sizes.1 sizes.0 (there_as n t) (fits n) (stands_on p set n) (alive n) tables e
 
     pub returned : (n : ℕ) → turn m.program c ≡ Ends (ends.Returned (Some (I32 n))) → AtReturn p c s
     returned w e = by reached.steps reached.taken

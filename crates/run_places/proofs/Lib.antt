@@ -4,6 +4,9 @@ pub mod Free
 pub mod Runs
 pub mod Numbers
 pub mod Counting
+pub mod Marks
+pub mod Working
+pub mod Waiting
 pub mod Keeping
 pub mod Spelled
 pub mod Parameters
