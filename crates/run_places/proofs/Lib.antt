@@ -2,8 +2,9 @@ pub mod Fitting
 pub mod Begun
 pub mod Free
 pub mod Runs
-pub mod Numbers
 pub mod Counting
+pub mod Totals
+pub mod Numbers
 pub mod Marks
 pub mod Working
 pub mod Waiting

@@ -1,5 +1,5 @@
 -- What a caller that waits holds, and the loops over keys that are walked.
-use Rattle.std.proofs.Common.{◌≡◌, ◌⊎◌, inl, inr, ℕ, zero, suc, ◌+◌, ◌-◌, ◌≤◌, Bool, true, false, not, ◌&&◌, ◌||◌, cond, nat_eq, nat_lt, List, [], ◌∷◌, length, map, get_or, slice_get, Option, Some, None, refl, sym, ap, ap₂, ◌∙◌, subst, arith}
+use Rattle.std.proofs.Common.{◌≡◌, ◌⊎◌, inl, inr, ℕ, zero, suc, ◌+◌, ◌-◌, ◌≤◌, Bool, true, false, not, ◌&&◌, ◌||◌, cond, nat_eq, nat_lt, List, [], ◌∷◌, length, get_or, slice_get, Option, Some, None, refl, sym, ap, ap₂, ◌∙◌, subst, arith}
 use Rattle.std.proofs.lemmas.Bool.{and_parts, eq-eqb, eqb-true, ltb-false, ltb-true, ne_eqb}
 use Rattle.std.proofs.lemmas.List.{length-map}
 use Rattle.std.proofs.lemmas.Option.{slice_get-get_or, slice_get_past}
@@ -15,19 +15,19 @@ use Rattle.host_step.specs.HostState.{Names}
 use Rattle.mid_program.specs.Mid.{Kind, Boxed, Unboxed, Many, Program}
 use Rattle.value_machine.specs.Cells.{Cell, Bits, Held, IteratorOf, OwnedArray, LentArray, Gone, is_held, is_operand, is_owned, iterators_in, locals_wait, no_value, operands_wait}
 use Rattle.value_machine.specs.Emission.{function_number}
-use Rattle.value_machine.specs.Imports.{import_at, import_count, import_number, imports}
-use Rattle.value_machine.specs.Machine.{Code, Frame, Label, answers_to, is_walk, loops_walked, waits}
+use Rattle.value_machine.specs.Imports.{import_count, import_number, imports}
+use Rattle.value_machine.specs.Machine.{Code, Frame, Label, answers_to, is_walk, loops_walked}
 use Rattle.value_machine.specs.Modules.{all_callees, called_imports, calls_in, imports_of, new_number, renumbered, renumbered_simple}
-use Rattle.value_machine.specs.declared.import.Import.{Import}
 use Rattle.value_machine.specs.declared.import.Import.TheVariants.{Drop, Of}
 use Rattle.value_typed.proofs.Chosen.{functions_behind}
-use Rattle.value_refined.specs.Refined.{AgainAs, CodeAs, FrameAs, FramesAs, LabelsAs}
+use Rattle.value_refined.specs.Refined.{AgainAs, FrameAs, FramesAs, LabelsAs}
 use Rattle.value_refined.proofs.Links.{number_there, stays}
-use Rattle.run_places.specs.Kept.{CallerWaits, CallersWait, LocalsWait, NoValues, OperandsHold, boxed, count, is_keys, is_next, numbers_of, one, values_waiting, walks, walks_waiting}
+use Rattle.run_places.specs.Kept.{CallerWaits, CallersWait, LocalsWait, NoValues, OperandsHold, boxed, count, count_waiting, is_keys, is_next, numbers_of, one, values_waiting, walks, walks_waiting}
 use Rattle.run_places.proofs.Begun.{OfFunction}
-use Rattle.run_places.proofs.Counting.{counts, held, held_in, held_waiting, local_iterators}
+use Rattle.run_places.proofs.Counting.{held, held_in, held_waiting, local_iterators}
 use Rattle.std.specs.List.{Contains}
 use Rattle.run_places.specs.Places.{IsPart}
+use Rattle.run_places.proofs.Totals.{held_each}
 use Rattle.run_places.proofs.Fitting.{FrameFits, FramesFit}
 use Rattle.run_places.proofs.Working.{FramesWork, Works, part_renumbered}
 
@@ -219,6 +219,7 @@ module _ (p : Program) where
           at_place = subst (λ (k : Instructions). IsPart (renumbered bs y.function.body) k) (sym a.rest.same) (part_renumbered bs y.function.body f.rest y.code);
           operands = h.0;
           answer_to = ap answers_to a.rest.same ∙ (answers_same bs f.rest ∙ (h.1 ∙ ap (λ (ks : List Kind). suc (length ks) + (h.0 + h.0)) (sym y.kinds)));
+          each = held_each made N f.locals r.frame.locals a.locals;
           locals_hold = subst (λ (ks : List Kind). LocalsWait h.0 ks (held f.locals)) (sym y.kinds) h.2;
           walked = local_iterators f.locals ∙ (eqb-true (iterators_in f.locals) (loops_walked f.labels) w.1 ∙ sym (walks_same made N f.labels r.frame.labels a.labels));
         }
@@ -230,7 +231,7 @@ module _ (p : Program) where
     callers_wait (f ∷ F) [] a b y = absurd a
     callers_wait (f ∷ F) (r ∷ rs) a b y = (caller_waits f r a.0 b.0 y.0, callers_wait F rs a.1 b.1 y.1)
 
-  pub values_counted : (F : List Frame) (rs : List CallerForm) (h : CallersWait p (held_waiting F) rs) → counts sort.Value F ≤ values_waiting p (held_waiting F) rs h
+  pub values_counted : (F : List Frame) (rs : List CallerForm) (h : CallersWait p (held_waiting F) rs) → count_waiting sort.Value (held_waiting F) ≤ values_waiting p (held_waiting F) rs h
   values_counted [] rs h = omega arith
   values_counted (f ∷ F) [] h = absurd h
   values_counted (f ∷ F) (r ∷ rs) h =
@@ -238,7 +239,9 @@ module _ (p : Program) where
       let y = values_counted F rs h.1 in
       omega (arith, x, y)
 
-  pub iterators_counted : (F : List Frame) (rs : List CallerForm) → CallersWait p (held_waiting F) rs → counts sort.Iterator F ≤ walks_waiting (numbers_of p) rs
-  iterators_counted [] rs h = omega arith
+  pub iterators_counted : (F : List Frame) (rs : List CallerForm) → CallersWait p (held_waiting F) rs → count_waiting sort.Iterator (held_waiting F) ≡ walks_waiting (numbers_of p) rs
+  iterators_counted [] [] h = absurd h
+  iterators_counted [] (r ∷ []) h = ap (λ (z : CallerForm). walks (numbers_of p) z.frame.labels + 0) (sym h)
+  iterators_counted [] (r ∷ (q ∷ rs)) h = absurd h
   iterators_counted (f ∷ F) [] h = absurd h
-  iterators_counted (f ∷ F) (r ∷ rs) h = let x = h.0.walked in let y = iterators_counted F rs h.1 in omega (arith, x, y)
+  iterators_counted (f ∷ F) (r ∷ rs) h = ap₂ (λ x y. x + y) h.0.walked (iterators_counted F rs h.1)

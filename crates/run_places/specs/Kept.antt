@@ -27,7 +27,7 @@ use Rattle.value_machine.specs.Modules.{all_callees, called_imports, imports_of,
 use Rattle.value_machine.specs.Small.{minus_one, text_beside}
 use Rattle.value_machine.specs.declared.import.Import.TheVariants.{Of}
 use Rattle.run_places.specs.Places.{IsPart}
-use Rattle.value_refined.specs.Owners.{places_in, wanted}
+use Rattle.value_refined.specs.Owners.{wanted}
 use Rattle.value_refined.specs.Refined.{table_meaning}
 
 -- Places and what they hold: the number of a value, of an array with the right to free it, of an iterator, or none of these.
@@ -110,6 +110,10 @@ abbrev pub count : Sort → List (Option Sort) → ℕ
 count t [] = 0
 count t (o ∷ os) = one t o + count t os
 
+abbrev pub count_waiting : Sort → List (List (Option Sort)) → ℕ
+count_waiting t [] = 0
+count_waiting t (os ∷ rest) = count t os + count_waiting t rest
+
 -- Loops over keys that are walked: such a loop begins with the call for its next key. `numbers` are those of the module's imports in the table.
 
 abbrev pub numbers_of : Program → List ℕ
@@ -157,6 +161,7 @@ pub record CallerWaits (p : Program) (os : List (Option Sort)) (r : CallerForm) 
   pub at_place : IsPart (renumbered (called_imports p) function.body) r.frame.code
   pub operands : ℕ
   pub answer_to : answers_to r.frame.code ≡ suc (length function.kinds) + (operands + operands)
+  pub each : length os ≡ length r.frame.locals
   pub locals_hold : LocalsWait operands function.kinds os
   pub walked : count sort.Iterator os ≡ walks (numbers_of p) r.frame.labels
 
@@ -203,23 +208,26 @@ pub record AtStatement (p : Program) (c : Conf) (s : HostState) : Type 0 where
   pub own : List (Option Sort)
   pub waiting : List (List (Option Sort))
   pub once : (t : Sort) (q : ℕ) → holders t q own c.frame.locals + (holders t q globals c.globals + holders_waiting t q waiting c.callers) ≡ wanted s.names t q
+  pub each_global : length globals ≡ length c.globals
   pub names_hold : GlobalsHold NameHolds (suc (suc p.ranges)) (kinds_of p.globals) globals
   pub function : Callee
   pub is_function : Contains (all_callees p) function
   pub at_work : IsPart (renumbered (called_imports p) function.body) c.frame.code
+  pub each_local : length own ≡ length c.frame.locals
   pub locals_hold : LocalsHold function.kinds own
   pub walked : count sort.Iterator own ≡ walks (numbers_of p) c.frame.labels
   pub waits : CallersWait p waiting c.callers
   pub bare : BareParameters function.kinds c.frame.locals
   pub marked : NamesMarked (kinds_of p.globals) (drop (suc (suc p.ranges)) c.globals)
   pub few_values : live_values s ≤ scalars (kinds_of p.globals) + (boxed function.kinds + values_waiting p waiting c.callers waits)
-  pub few_arrays : live_arrays s ≤ 2 + (arrays (kinds_of p.globals) + places_in c.callers)
-  pub few_iterators : live_iterators s ≤ walks (numbers_of p) c.frame.labels + walks_waiting (numbers_of p) c.callers
+  pub live_arrays_are : live_arrays s ≡ 2 + (arrays (kinds_of p.globals) + count_waiting sort.Array waiting)
+  pub live_iterators_are : live_iterators s ≡ walks (numbers_of p) c.frame.labels + walks_waiting (numbers_of p) c.callers
 
 -- WHERE `main` HAS RETURNED: names alone hold something.
 pub record AtReturn (p : Program) (c : Conf) (s : HostState) : Type 0 where
   pub globals : List (Option Sort)
   pub once : (t : Sort) (q : ℕ) → holders t q globals c.globals ≡ wanted s.names t q
+  pub each_global : length globals ≡ length c.globals
   pub names_hold : GlobalsHold NameMayHold (suc (suc p.ranges)) (kinds_of p.globals) globals
   pub exact : s.fault ≡ None → GlobalsHold NameHolds (suc (suc p.ranges)) (kinds_of p.globals) globals
   pub few_values : live_values s ≤ scalars (kinds_of p.globals)

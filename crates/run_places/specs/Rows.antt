@@ -2,7 +2,7 @@
 use Rattle.std.specs.Prelude.{◌≡◌, true, false, List, [], ◌∷◌, Option, Some, None, refl}
 use Rattle.awk_state.specs.declared.sorts.Sort.{Sort}
 use Rattle.awk_state.specs.declared.sorts.Sort.TheVariants as sort
-use Rattle.wasm_types.specs.Syntax.{Block, Done, If, Instructions, Loop, Plain, Then}
+use Rattle.wasm_types.specs.Syntax.{Done, If, Instructions, Loop, Plain, Then}
 use Rattle.wasm_types.specs.declared.instr.Simple.TheVariants.{I32Const, LocalSet, Nop}
 use Rattle.wasm_store.specs.declared.word.Word.{Word}
 use Rattle.wasm_store.specs.declared.word.Word.TheVariants.{I32, I64}
