@@ -12,7 +12,8 @@ ghost use Rattle.wasm_machine.specs.Machines.{Conf};
 ghost use Rattle.wasm_machine.specs.Runs.{MachineForm};
 ghost use Rattle.wasm_types.specs.Typing.{ModuleOk};
 ghost use Rattle.world_core.specs.WorldState.{Outside, Source};
-ghost use Rattle.run_places.specs.Kept.{Reached};
+ghost use Rattle.run_places.specs.Kept.{AtStatement, Reached};
+ghost use Rattle.quiet_statements.specs.Laned.{AtLaned, IsNext};
 ghost use Rattle.quiet_statements.specs.Quiet.{Quietly};
 ghost use Rattle.quiet_statements.specs.Statements.{IsNumeric, IsSo, IsSumStep, assignment};
 ghost use Rattle.quiet_statements.specs.Sums.{AtFault, AtNext, AtSum};
@@ -25,6 +26,14 @@ pub fn numbers_are_quiet()
         → (job : JobForm) (input : Source) (outside : Outside) (m : MachineForm) (c : Conf) (s : HostState)
         → Reached (module_of p) job input outside m c s → (a : AtSum p c)
         → Quietly m.program c (λ there. AtNext p c a there ⊎ AtFault p c there) }
+{}
+
+/// So is a statement whose names are unboxed in the function at work, where no name has a handle: an unboxed parameter never has a text beside it.
+pub fn lanes_are_quiet()
+    ensures { (p : Program) → IsSorted p → ModuleOk (module_of p)
+        → (job : JobForm) (input : Source) (outside : Outside) (m : MachineForm) (c : Conf) (s : HostState)
+        → Reached (module_of p) job input outside m c s → (here : AtStatement p c s) → (a : AtLaned p c s here)
+        → Quietly m.program c (λ there. IsNext p c s here a there ⊎ AtFault p c there) }
 {}
 
 /// The code of such a statement of a script is one: an assignment of a sum, with constants computed and names in the lanes that they are given. Its names

@@ -13,3 +13,4 @@ pub mod Spelled
 pub mod Parameters
 pub mod Nops
 pub mod Stepping
+pub mod Rows
