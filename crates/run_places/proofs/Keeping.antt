@@ -42,8 +42,9 @@ use Rattle.run_places.proofs.Counting.{ending_globals, exact_globals, global_arr
 use Rattle.run_places.proofs.Fitting.{Fits}
 use Rattle.run_places.proofs.Marks.{names_marked, parameters_bare, words_behind}
 use Rattle.std.specs.List.{Contains}
-use Rattle.run_places.specs.Places.{IsPart, IsWithin}
-use Rattle.run_places.proofs.Working.{Stands, part_renumbered, stands_on}
+use Rattle.run_places.specs.Places.{IsWithin}
+use Rattle.run_places.specs.Statements.{starts_in}
+use Rattle.run_places.proofs.Working.{Stands, stands_at, stands_on}
 use Rattle.run_places.proofs.Waiting.{callers_wait, iterators_counted, values_counted, walks_same}
 use Rattle.run_places.proofs.Numbers.{AreTables, first_tables, length_counted, steps_tables}
 use Rattle.run_places.proofs.Totals.{arrays_exact, held_each, names_exact, wanted_exact}
@@ -124,8 +125,8 @@ module _ (p : Program) where
 
   -- where a statement begins
   at_statement : (ks : List Kind) (K : List Label) (L : List Cell) (F : List Frame) (code : Instructions) (G : Store) (ws : List Word) (rcode : Instructions) (c : real.Conf) (s : HostState) →
-      RunAs (stays p) (called_imports p) u [] K L F code G ws rcode c s → c.frame.values ≡ [] → TidyAt ks [] K L G → (own : OfFunction p ks) → IsPart (renumbered (called_imports p) own.0.body) c.frame.code → CallersWait p (held_waiting F) c.callers → AreTables s.names → AtStatement p c s
-  at_statement ks K L F code G ws rcode c s a none tidy-is own part callers tables =
+      RunAs (stays p) (called_imports p) u [] K L F code G ws rcode c s → c.frame.values ≡ [] → TidyAt ks [] K L G → (own : OfFunction p ks) → Contains (starts_in own.0.body) code → c.frame.code ≡ renumbered (called_imports p) code → CallersWait p (held_waiting F) c.callers → AreTables s.names → AtStatement p c s
+  at_statement ks K L F code G ws rcode c s a none tidy-is own place same callers tables =
       let split = and_parts (is_empty {A = Cell} [] && is_empty G.host.arguments) ((tidy_locals ks L && nat_eq (iterators_in L) (loops_walked K)) && (globals_by tidy_name u.before u.names G.globals && marks_fit u.names (drop u.before G.globals))) tidy-is in
       let inner = and_parts (tidy_locals ks L && nat_eq (iterators_in L) (loops_walked K)) (globals_by tidy_name u.before u.names G.globals && marks_fit u.names (drop u.before G.globals)) split.1 in
       let named = and_parts (globals_by tidy_name u.before u.names G.globals) (marks_fit u.names (drop u.before G.globals)) inner.1 in
@@ -168,7 +169,9 @@ module _ (p : Program) where
         names_hold = names;
         function = own.0;
         is_function = own.1;
-        at_work = part;
+        statement = code;
+        is_statement = place;
+        at_work = same;
         each_local = held_each made s.names L c.frame.locals a.rest.locals;
         locals_hold = subst (λ k. LocalsHold k (held L)) (sym own.2) locals;
         walked = i1 ∙ (i3 ∙ sym i4);
@@ -218,7 +221,8 @@ module _ (p : Program) where
       let ws = settled_values c.frame.values c.frame.code in
       let no_more = no_words (arrays_made G.host) s.names vs ws none a.operands in
       let here = subst (λ (z : List Cell). RunAs (stays p) (called_imports p) u z K L F code G ws (settled_code c.frame.code) c s × TidyAt ks z K L G) none (a, tidy-is) in
-      at_statement ks K L F code G ws (settled_code c.frame.code) c s here.0 (sym (operands_nop c.frame.values c.frame.code e) ∙ no_more) here.1 (stands.0.function, stands.0.is, stands.0.kinds) (subst (λ (k : Instructions). IsPart (renumbered (called_imports p) stands.0.function.body) k) (sym (sym (settled_nop c.frame.code e) ∙ a.code-is.same)) (part_renumbered (called_imports p) stands.0.function.body code stands.0.code)) (callers_wait p u instructions places (length (globals_of p)) (arrays_made G.host) s.names F c.callers a.rest.callers fits.1.frames stands.1) tables
+      at_statement ks K L F code G ws (settled_code c.frame.code) c s here.0 (sym (operands_nop c.frame.values c.frame.code e) ∙ no_more) here.1 (stands.0.function, stands.0.is, stands.0.kinds) (stands_at stands.0.function.body code stands.0.code begins) (sym (settled_nop c.frame.code e) ∙ a.code-is.same)
+      (callers_wait p u instructions places (length (globals_of p)) (arrays_made G.host) s.names F c.callers a.rest.callers fits.1.frames stands.1) tables
   begins_as (Look x ks vs K L F code G) c s instructions places a fits stands alive tables e =
       absurd (no_look u x ks vs K L F code G (sym (begins_same (called_imports p) code) ∙ ap begins_statement (sym a.run.code-is.same) ∙ e) alive)
   begins_as (Over v G) c s instructions places a fits stands alive tables e = let h : false ≡ true = sym (ap (λ (f : FrameForm). begins_statement f.code) a.frame) ∙ e in cc

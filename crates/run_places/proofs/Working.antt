@@ -1,5 +1,5 @@
 -- Which function is at work: its code, and that under its labels, are parts of the function's body, and so are those of callers that wait.
-use Rattle.std.proofs.Common.{◌≡◌, ℕ, zero, suc, ◌-◌, Bool, true, false, not, ◌&&◌, cond, nat_eq, nat_lt, List, [], ◌∷◌, ◌++◌, length, take, drop, reverse, set, slice_get, Option, Some, None, refl}
+use Rattle.std.proofs.Common.{◌≡◌, ℕ, zero, suc, ◌-◌, Bool, true, false, not, ◌&&◌, cond, nat_eq, nat_lt, List, [], ◌∷◌, ◌++◌, length, take, drop, reverse, set, slice_get, Option, Some, None, refl, arith}
 use Rattle.wasm_types.specs.Syntax.{Instruction, Plain, Block, Loop, If, Instructions, Done, Then}
 use Rattle.wasm_types.specs.declared.instr.Simple.{Simple}
 use Rattle.wasm_types.specs.declared.instr.Simple.TheVariants as simple
@@ -14,7 +14,7 @@ use Rattle.value_machine.specs.Imports.{import_at, import_count}
 use Rattle.value_machine.specs.Machine.{Code, Callee, Conf, Run, Look, Over, Deep, Stuck, Frame, Label, Store, act, ask, ask_looking, at, br, br_if, call_number, choose, enter, go, guarded, label, leave, leave_function, onto, operated, run_looking, set_global, set_local, step, takes_look, tee_local, teed, width, with_answer, with_operands, work, zeros, ending_name}
 use Rattle.value_machine.specs.declared.import.Import.{Import}
 use Rattle.std.specs.List.{Contains}
-use Rattle.std.proofs.lemmas.List.Elements.{Contains-append_left, Contains-push}
+use Rattle.std.proofs.lemmas.List.Elements.{Contains-append_left, Contains-append_right, Contains-push}
 use Rattle.std.proofs.Common.{map}
 use Rattle.mid_program.specs.Mid.{Program}
 use Rattle.mid_program.specs.ScriptRun.{Setting}
@@ -22,7 +22,9 @@ use Rattle.value_machine.specs.Functions.{main_callee, routine_callee}
 use Rattle.value_machine.specs.Modules.{all_callees, renumbered, renumbered_one}
 use Rattle.value_machine.specs.Runs.{begun, code_of, first_globals, host_at_start}
 use Rattle.run_places.proofs.Begun.{contained}
+use Rattle.run_places.specs.Kept.{begins_statement}
 use Rattle.run_places.specs.Places.{IsPart, all, further, in_block, in_loop, where_true, where_false}
+use Rattle.run_places.specs.Statements.{starts_in, starts_of}
 
 module _ (u : Code) (Fun : Callee → Type 0) where
   abbrev pub AgainPart : Instructions → Option Instructions → Type 0
@@ -210,6 +212,25 @@ stands_on p s n =
     (λ k f e. Contains-append_left (map (routine_callee p) p.routines) (main_callee p ∷ []) f (contained (map (routine_callee p) p.routines) k f e)) n (begun p s)
     (at_stands u (Contains (all_callees p)) [] [] [] (zeros m.locals) [] m.body (record { globals = first_globals p; host = host_at_start s })
     (record { function = m; is = Contains-push (map (routine_callee p) p.routines) m; kinds = refl; code = all; labels = tt }) tt)
+
+-- what begins with a `nop` in a part is a place of the whole
+places_of_part : (whole c x : Instructions) → IsPart whole c → Contains (starts_in c) x → Contains (starts_in whole) x
+places_of_part whole c x all h = h
+places_of_part whole c x (further i k part) h = places_of_part whole (Then i k) x part (Contains-append_right (starts_of i k) (starts_in k) x h)
+places_of_part whole c x (in_block r a k part) h = places_of_part whole (Then (Block r a) k) x part (Contains-append_left (starts_in a) (starts_in k) x h)
+places_of_part whole c x (in_loop r a k part) h = places_of_part whole (Then (Loop r a) k) x part (Contains-append_left (starts_in a) (starts_in k) x h)
+places_of_part whole c x (where_true r a b k part) h =
+    places_of_part whole (Then (If r a b) k) x part (Contains-append_left (starts_in a ++ starts_in b) (starts_in k) x (Contains-append_left (starts_in a) (starts_in b) x h))
+places_of_part whole c x (where_false r a b k part) h =
+    places_of_part whole (Then (If r a b) k) x part (Contains-append_left (starts_in a ++ starts_in b) (starts_in k) x (Contains-append_right (starts_in a) (starts_in b) x h))
+
+begins_itself : (c : Instructions) → begins_statement c ≡ true → Contains (starts_in c) c
+begins_itself Done e = cc
+begins_itself (Then (Plain simple.Nop) k) e = (zero, omega arith, refl)
+begins_itself (Then i k) e = cc
+
+pub stands_at : (whole c : Instructions) → IsPart whole c → begins_statement c ≡ true → Contains (starts_in whole) c
+stands_at whole c part e = places_of_part whole c c part (begins_itself c e)
 
 -- parts stay parts as calls are numbered anew
 pub part_renumbered : (bs : List Bool) (whole c : Instructions) → IsPart whole c → IsPart (renumbered bs whole) (renumbered bs c)

@@ -27,6 +27,7 @@ use Rattle.value_machine.specs.Modules.{all_callees, called_imports, imports_of,
 use Rattle.value_machine.specs.Small.{minus_one, text_beside}
 use Rattle.value_machine.specs.declared.import.Import.TheVariants.{Of}
 use Rattle.run_places.specs.Places.{IsPart}
+use Rattle.run_places.specs.Statements.{starts_in}
 use Rattle.value_refined.specs.Owners.{wanted}
 use Rattle.value_refined.specs.Refined.{table_meaning}
 
@@ -198,7 +199,7 @@ NamesMarked [] ws = Unit {0}
 NamesMarked (k ∷ ks) (h ∷ (n ∷ ws)) = IsMarked k h n × NamesMarked ks ws
 NamesMarked (k ∷ ks) _ = ⊥
 
--- WHERE A STATEMENT BEGINS: nothing is on the operands or the argument list; each number that stands for something is in one place, and what is in none stands for nothing; names hold what
+-- WHERE A STATEMENT BEGINS: it is one of the function at work, whose code is the code that is left. Nothing is on the operands or the argument list; each number that stands for something is in one place, and what is in none stands for nothing; names hold what
 -- their kinds say, and so do the parameters of the function at work, whose other locals hold nothing but an iterator for each loop over keys that is walked. Callers that wait hold their
 -- parameters, operands that are pending, and an iterator for each such loop. So at most so much is alive.
 pub record AtStatement (p : Program) (c : Conf) (s : HostState) : Type 0 where
@@ -212,7 +213,9 @@ pub record AtStatement (p : Program) (c : Conf) (s : HostState) : Type 0 where
   pub names_hold : GlobalsHold NameHolds (suc (suc p.ranges)) (kinds_of p.globals) globals
   pub function : Callee
   pub is_function : Contains (all_callees p) function
-  pub at_work : IsPart (renumbered (called_imports p) function.body) c.frame.code
+  pub statement : Instructions
+  pub is_statement : Contains (starts_in function.body) statement
+  pub at_work : c.frame.code ≡ renumbered (called_imports p) statement
   pub each_local : length own ≡ length c.frame.locals
   pub locals_hold : LocalsHold function.kinds own
   pub walked : count sort.Iterator own ≡ walks (numbers_of p) c.frame.labels
