@@ -1,18 +1,28 @@
--- Names that are unboxed, and that have no handle, have no text beside them where a statement begins.
-use Rattle.std.proofs.Common.{◌≡◌, ◌≢◌, ℕ, zero, suc, ◌+◌, true, false, List, [], ◌∷◌, drop, length, slice_get, Some, refl, sym, ap, ◌∙◌, subst, arith}
+-- Names that are unboxed, and that have no handle, have no text beside them where a statement begins. So statements of scripts on such names are quiet.
+use Rattle.std.proofs.Common.{◌≡◌, ◌⊎◌, inl, inr, ℕ, zero, suc, ◌+◌, true, false, List, [], ◌∷◌, drop, length, slice_get, refl, ap, ◌∙◌, arith}
 use Rattle.wasm_store.specs.declared.word.Word.{Word}
-use Rattle.wasm_store.specs.declared.word.Word.TheVariants.{I32, I64}
 use Rattle.wasm_machine.specs.Machines.{Conf}
 use Rattle.host_step.specs.HostState.{HostState}
-use Rattle.mid_program.specs.Mid.{Code, Global, Kind, Parameter, Program, Slot, Unboxed}
-use Rattle.mid_program.specs.Sorted.{has_kind, kinds_of}
+use Rattle.mid_program.specs.Mid.{Code, Global, Parameter, Program, Slot, Step, Then, Unboxed}
+use Rattle.mid_program.specs.Sorted.{kinds_of}
 use Rattle.value_machine.specs.Places.{Bases, handle_global, number_global}
-use Rattle.value_machine.specs.Small.{minus_one, text_beside}
 use Rattle.value_machine.proofs.Reading.{kind_below}
-use Rattle.run_places.specs.Kept.{AtStatement}
+use Rattle.awk_state.specs.Jobs.{JobForm}
+use Rattle.world_core.specs.WorldState.{Outside, Source}
+use Rattle.wasm_machine.specs.Runs.{MachineForm}
+use Rattle.wasm_types.specs.Typing.{ModuleOk}
+use Rattle.mid_program.specs.Sorted.{IsSorted}
+use Rattle.value_machine.specs.Modules.{module_of}
+use Rattle.value_machine.proofs.CodeFollows.{code_follows}
+use Rattle.module_agreement.proofs.Agreeing as Agreeing
+use Rattle.module_agreement.proofs.Modules.{agreement}
+use Rattle.run_places.specs.Kept.{AtStatement, Reached}
 use Rattle.run_places.proofs.Marks.{bare_at, unmarked_at}
-use Rattle.quiet_statements.specs.Laned.{AtLaned, IsLaned, IsNext}
-use Rattle.quiet_statements.specs.Sums.{AtNext, AtSum, HasNoText, IsSum, constant, itself, joined, name}
+use Rattle.quiet_statements.specs.Laned.{AtLaned, AtNumeric, IsLaned, IsNext}
+use Rattle.quiet_statements.specs.Quiet.{Quietly}
+use Rattle.quiet_statements.specs.Sums.{AtFault, AtNext, AtSum, HasNoText, IsSum, code_in, constant, itself, joined, name}
+use Rattle.quiet_statements.proofs.Whole.{quietly}
+use Rattle.quiet_statements.proofs.Written.{assigned}
 
 pub sum_weaker : (P Q : Slot → Type 0) → ((x : Slot) → P x → Q x) → (e : Code) → IsSum P e → IsSum Q e
 sum_weaker P Q f e (constant z) = constant z
@@ -56,5 +66,35 @@ module _ (p : Program) (c : Conf) (s : HostState) (here : AtStatement p c s) whe
     sum = sum_weaker (IsLaned p here.function.kinds c) (HasNoText p.ranges a.bases c) (no_text a.bases a.parameters) a.expression a.sum;
   }
 
-  pub next_is : (a : AtLaned p c s here) (there : Conf) → AtNext p c (at_sum a) there → IsNext p c s here a there
+  pub next_is : (a : AtLaned p c s here) (there : Conf) → AtNext p c (at_sum a) there → IsNext p c a.bases (Then a.next a.further) a.iterators a.out a.breaking a.continuing a.after there
   next_is a there x = record { code = x.code; operands = x.operands; labels = x.labels; callers = x.callers }
+
+  -- a statement of a script is one in mid code
+  abbrev pub at_laned : AtNumeric p c s here → AtLaned p c s here
+  at_laned a =
+      let w = assigned (IsLaned p here.function.kinds c) a.globals_lanes a.parameters_lanes a.texts a.scope a.target a.expression a.target_is a.numeric in
+      record {
+        bases = a.bases;
+        parameters = a.parameters;
+        target = w.target;
+        expression = w.expression;
+        next = a.next;
+        further = a.further;
+        iterators = a.iterators;
+        out = a.out;
+        breaking = a.breaking;
+        continuing = a.continuing;
+        after = a.after;
+        code = a.code ∙ ap (λ (z : Step). code_in p a.bases (Then z (Then a.next a.further)) a.iterators a.out a.breaking a.continuing a.after) w.same;
+        target_is = w.target_is;
+        sum = w.sum;
+      }
+
+-- QUIET: such a statement calls no import
+pub laned_quiet : (p : Program) → IsSorted p → ModuleOk (module_of p) → (job : JobForm) (input : Source) (outside : Outside) (m : MachineForm) (c : Conf) (s : HostState) →
+    Reached (module_of p) job input outside m c s → (here : AtStatement p c s) (a : AtLaned p c s here) →
+    Quietly m.program c (λ there. IsNext p c a.bases (Then a.next a.further) a.iterators a.out a.breaking a.continuing a.after there ⊎ AtFault p c there)
+laned_quiet p sorted typed job input outside m c s reached here a =
+    let values = Agreeing.agreement p (code_follows p sorted) in
+    let q = quietly p (agreement p values) typed job input outside m reached.is_new values c s reached (at_sum p c s here a) in
+    record { steps = q.steps; place = q.place; goes = q.goes; holds = elim q.holds [ inl x ↦ inl (next_is p c s here a q.place x) | inr x ↦ inr x ] }

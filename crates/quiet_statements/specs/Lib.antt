@@ -1,5 +1,5 @@
 pub mod Quiet
 pub mod Sums
-pub mod Laned
 pub mod Statements
+pub mod Laned
 pub mod Rows
