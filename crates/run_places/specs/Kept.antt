@@ -199,9 +199,9 @@ NamesMarked [] ws = Unit {0}
 NamesMarked (k ∷ ks) (h ∷ (n ∷ ws)) = IsMarked k h n × NamesMarked ks ws
 NamesMarked (k ∷ ks) _ = ⊥
 
--- WHERE A STATEMENT BEGINS: it is one of the function at work, whose code is the code that is left. Nothing is on the operands or the argument list; each number that stands for something is in one place, and what is in none stands for nothing; names hold what
--- their kinds say, and so do the parameters of the function at work, whose other locals hold nothing but an iterator for each loop over keys that is walked. Callers that wait hold their
--- parameters, operands that are pending, and an iterator for each such loop. So at most so much is alive.
+-- WHERE A STATEMENT BEGINS: the code at work is that of a statement of a function, with what comes after it. Nothing is on the operands or the argument list; each number that stands for
+-- something is in one place, and what is in none stands for nothing; names hold what their kinds say, and so do the parameters of the function at work, whose other locals hold nothing but an
+-- iterator for each loop over keys that is walked. Callers that wait hold their parameters, operands that are pending, and an iterator for each such loop. So at most so much is alive.
 pub record AtStatement (p : Program) (c : Conf) (s : HostState) : Type 0 where
   pub operands : c.frame.values ≡ []
   pub arguments : s.arguments ≡ []
