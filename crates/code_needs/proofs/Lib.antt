@@ -1,2 +1,4 @@
 pub mod Views
 pub mod Lengths
+pub mod Depths
+pub mod Nested

@@ -14,10 +14,10 @@ use Rattle.awk_state.specs.declared.sorts.Answer.{Answer}
 use Rattle.mid_program.specs.Kept.{Grows, output_of}
 use Rattle.mid_program.specs.ScriptRun.{Ending, Ended, FaultedBy}
 use Rattle.mid_program.specs.Mid.{Kind}
-use Rattle.value_machine.specs.Cells.{Cell, Bits, Held, LentArray, OwnedArray, IteratorOf, Gone, none_owned, is_owned, globals_by, ended_name}
+use Rattle.value_machine.specs.Cells.{Cell, Bits, Held, LentArray, OwnedArray, IteratorOf, Gone, none_owned, is_owned, globals_by}
 use Rattle.value_machine.specs.ImportCalls.{Acts, Host, acted, acts, after_fault, call, fault_cell, lets_go, look, looked_at, replied, taken, where_so, with_some}
 use Rattle.value_machine.specs.Imports.{import_answer, import_arguments, import_at, import_count}
-use Rattle.value_machine.specs.Machine.{Code, Callee, Conf, Run, Look, Over, Deep, Stuck, Frame, Label, Store, at, ask, ask_looking, br, br_if, choose, enter, go, guarded, label, leave, leave_function, run_looking, set_global, set_local, step, takes_look, tee_local, teed, with_answer, with_operands, work, act, operated, call_number, ending_at, status_of}
+use Rattle.value_machine.specs.Machine.{Code, Callee, Conf, Run, Look, Over, Deep, Stuck, Frame, Label, Store, at, ask, ask_looking, br, br_if, choose, enter, go, guarded, label, leave, leave_function, run_looking, set_global, set_local, step, takes_look, tee_local, teed, with_answer, with_operands, work, act, operated, call_number, ending_at, status_of, ending_name}
 use Rattle.value_machine.specs.declared.import.Import.{Import}
 
 pub grows_self : (xs : List Action) → Grows xs xs
@@ -157,7 +157,7 @@ module _ (o : List Action) where
       by false x q = p
 
   leave_function_put : (u : Code) (v : Cell) (F : List Frame) (G : Store) → Has G.host → HasPut (leave_function u v F G)
-  leave_function_put u v [] G p = guarded_put (not (is_owned v) && globals_by ended_name u.before u.names G.globals) (Over v G) p
+  leave_function_put u v [] G p = guarded_put (not (is_owned v) && globals_by (ending_name G.host.fault) u.before u.names G.globals) (Over v G) p
   leave_function_put u v (f ∷ F) G p = at_put f.kinds (v ∷ f.under) f.labels f.locals F f.rest G p
 
   leave_put : (u : Code) (ks : List Kind) (vs : List Cell) (K : List Label) (L : List Cell) (F : List Frame) (G : Store) → Has G.host → HasPut (leave u ks vs K L F G)

@@ -4,3 +4,4 @@ pub mod Sums
 pub mod Statements
 pub mod Written
 pub mod Whole
+pub mod Laned

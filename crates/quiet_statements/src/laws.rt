@@ -4,7 +4,7 @@ ghost use Rattle.std.specs.List.{Contains};
 ghost use Rattle.awk_grammar.specs.Tree.{Tree};
 ghost use Rattle.awk_state.specs.Jobs.{JobForm};
 ghost use Rattle.host_step.specs.HostState.{HostState};
-ghost use Rattle.mid_program.specs.Mid.{Kind, Program, Slot};
+ghost use Rattle.mid_program.specs.Mid.{Kind, Program, Slot, Then};
 ghost use Rattle.mid_program.specs.Names.{Scope, variable_of};
 ghost use Rattle.mid_program.specs.Sorted.{IsSorted};
 ghost use Rattle.value_machine.specs.Modules.{module_of};
@@ -12,7 +12,8 @@ ghost use Rattle.wasm_machine.specs.Machines.{Conf};
 ghost use Rattle.wasm_machine.specs.Runs.{MachineForm};
 ghost use Rattle.wasm_types.specs.Typing.{ModuleOk};
 ghost use Rattle.world_core.specs.WorldState.{Outside, Source};
-ghost use Rattle.run_places.specs.Kept.{Reached};
+ghost use Rattle.run_places.specs.Kept.{AtStatement, Reached};
+ghost use Rattle.quiet_statements.specs.Laned.{AtLaned, AtNumeric, IsNext};
 ghost use Rattle.quiet_statements.specs.Quiet.{Quietly};
 ghost use Rattle.quiet_statements.specs.Statements.{IsNumeric, IsSo, IsSumStep, assignment};
 ghost use Rattle.quiet_statements.specs.Sums.{AtFault, AtNext, AtSum};
@@ -25,6 +26,22 @@ pub fn numbers_are_quiet()
         → (job : JobForm) (input : Source) (outside : Outside) (m : MachineForm) (c : Conf) (s : HostState)
         → Reached (module_of p) job input outside m c s → (a : AtSum p c)
         → Quietly m.program c (λ there. AtNext p c a there ⊎ AtFault p c there) }
+{}
+
+/// So is a statement whose names are unboxed in the function at work, where no name has a handle: an unboxed parameter never has a text beside it.
+pub fn lanes_are_quiet()
+    ensures { (p : Program) → IsSorted p → ModuleOk (module_of p)
+        → (job : JobForm) (input : Source) (outside : Outside) (m : MachineForm) (c : Conf) (s : HostState)
+        → Reached (module_of p) job input outside m c s → (here : AtStatement p c s) → (a : AtLaned p c s here)
+        → Quietly m.program c (λ there. IsNext p c a.bases (Then a.next a.further) a.iterators a.out a.breaking a.continuing a.after there ⊎ AtFault p c there) }
+{}
+
+/// So is a statement of a script, `name = Expr` with number constants, names, groups, signs, `+`, `-` and `*` in Expr, whose names are such.
+pub fn statements_are_quiet()
+    ensures { (p : Program) → IsSorted p → ModuleOk (module_of p)
+        → (job : JobForm) (input : Source) (outside : Outside) (m : MachineForm) (c : Conf) (s : HostState)
+        → Reached (module_of p) job input outside m c s → (here : AtStatement p c s) → (a : AtNumeric p c s here)
+        → Quietly m.program c (λ there. IsNext p c a.bases (Then a.next a.further) a.iterators a.out a.breaking a.continuing a.after there ⊎ AtFault p c there) }
 {}
 
 /// The code of such a statement of a script is one: an assignment of a sum, with constants computed and names in the lanes that they are given. Its names

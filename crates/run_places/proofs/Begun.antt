@@ -36,7 +36,7 @@ of_last : {A : Type 0} (P : A → Type 0) (xs : List A) (a : A) → ByRecursion 
 of_last P [] a h = h.0
 of_last P (x ∷ xs) a h = of_last P xs a h.1
 
-contained : {A : Type 0} (xs : List A) (k : ℕ) (a : A) → slice_get xs k ≡ Some a → Contains xs a
+pub contained : {A : Type 0} (xs : List A) (k : ℕ) (a : A) → slice_get xs k ≡ Some a → Contains xs a
 contained xs k a e = (k, slice_get_within xs k a e, get_or_from_slice_get xs k a a e)
 
 -- these parameters are a function's

@@ -1,19 +1,16 @@
 -- What places hold, and how much of it there is.
-use Rattle.std.proofs.Common.{◌≡◌, ◌⊎◌, inl, inr, ℕ, zero, suc, ◌+◌, ◌<◌, ◌≤◌, Bool, true, false, not, ◌&&◌, cond, nat_eq, nat_lt, pos, List, [], ◌∷◌, take, drop, Option, Some, None, refl, ap, ap₂, ◌∙◌, arith}
-use Rattle.std.proofs.lemmas.Bool.{and_parts, eqb-false, ltb-true}
+use Rattle.std.proofs.Common.{◌≡◌, ◌⊎◌, inl, inr, ℕ, zero, suc, ◌+◌, ◌≤◌, Bool, true, not, ◌&&◌, cond, nat_eq, List, [], ◌∷◌, take, drop, Option, Some, None, refl, ap, ap₂, ◌∙◌, arith}
+use Rattle.std.proofs.lemmas.Bool.{and_parts}
 use Rattle.awk_state.specs.declared.sorts.Sort.{Sort}
 use Rattle.awk_state.specs.declared.sorts.Sort.TheVariants as sort
 use Rattle.wasm_store.specs.declared.word.Word.{Word}
 use Rattle.wasm_store.specs.declared.word.Word.TheVariants.{I32, I64}
 use Rattle.wasm_machine.specs.Machines.{CallerForm}
-use Rattle.host_step.specs.HostState.{Names}
-use Rattle.host_step.specs.Tables.{look}
 use Rattle.mid_program.specs.Mid.{Kind, Boxed, Unboxed, Many}
-use Rattle.value_machine.specs.Cells.{Cell, Bits, Held, IteratorOf, OwnedArray, LentArray, Gone, each_name, ended_name, is_owned, iterators_in, no_temporary, none_owned, tidy_locals, tidy_name}
-use Rattle.value_machine.specs.Machine.{Frame}
-use Rattle.value_refined.specs.Owners.{OwnedOnce, owner, owners, owns_sort, places_in, there, waiting, wanted}
-use Rattle.value_refined.proofs.Room.{one_most, owns_one, total, total_less, total_none, total_sum, waiting_most}
-use Rattle.run_places.specs.Kept.{GlobalsHold, LocalsHold, NameHolds, NameMayHold, NamesHold, OnlyIterators, arrays, boxed, holders, holders_waiting, holds, scalars}
+use Rattle.value_machine.specs.Cells.{Cell, Bits, Held, IteratorOf, OwnedArray, LentArray, Gone, each_name, ended_name, globals_by, is_bare, is_owned, iterators_in, no_temporary, none_owned, tidy_locals, tidy_name}
+use Rattle.value_machine.specs.Machine.{Frame, ending_name}
+use Rattle.value_refined.specs.Owners.{owners, owns_sort, waiting}
+use Rattle.run_places.specs.Kept.{GlobalsHold, LocalsHold, NameHolds, NameMayHold, NamesHold, OnlyIterators, arrays, boxed, count, holders, holders_waiting, holds, one, scalars}
 
 -- what a place holds, by its cell
 abbrev pub held_in : Cell → Option Sort
@@ -32,7 +29,7 @@ abbrev pub held_waiting : List Frame → List (List (Option Sort))
 held_waiting [] = []
 held_waiting (f ∷ F) = held f.locals ∷ held_waiting F
 
-same_sort : (t : Sort) (c : Cell) → holds t (held_in c) ≡ owns_sort t c
+pub same_sort : (t : Sort) (c : Cell) → holds t (held_in c) ≡ owns_sort t c
 same_sort sort.Value (Held v) = refl
 same_sort sort.Value (OwnedArray a) = refl
 same_sort sort.Value (IteratorOf i) = refl
@@ -161,7 +158,24 @@ globals_may zero ks os h = names_may ks os h
 globals_may (suc n) ks [] h = names_may ks [] h
 globals_may (suc n) ks (o ∷ os) h = (h.0, globals_may n ks os h.1)
 
+-- where `main` ends
+pub ending_globals : {A : Type 0} (o : Option A) (before : ℕ) (ks : List Kind) (cs : List Cell) → globals_by (ending_name o) before ks cs ≡ true → GlobalsHold NameMayHold before ks (held cs)
+ending_globals None before ks cs e = globals_may before ks (held cs) (tidy_globals before ks cs e)
+ending_globals (Some x) before ks cs e = ended_globals before ks cs e
+
+pub exact_globals : {A : Type 0} (o : Option A) (before : ℕ) (ks : List Kind) (cs : List Cell) → o ≡ None → globals_by (ending_name o) before ks cs ≡ true → GlobalsHold NameHolds before ks (held cs)
+exact_globals None before ks cs q e = tidy_globals before ks cs e
+exact_globals (Some x) before ks cs q e = cc
+
 -- Locals.
+
+bare_holds : (c : Cell) → is_bare c ≡ true → held_in c ≡ None
+bare_holds (Bits w) e = refl
+bare_holds (Held v) e = cc
+bare_holds (IteratorOf t) e = cc
+bare_holds (OwnedArray a) e = cc
+bare_holds (LentArray a) e = cc
+bare_holds Gone e = cc
 
 only_held : (cs : List Cell) → no_temporary cs ≡ true → OnlyIterators (held cs)
 only_held [] e = tt
@@ -180,7 +194,7 @@ tidy_held (Boxed ∷ ks) (IteratorOf t ∷ cs) e = cc
 tidy_held (Boxed ∷ ks) (Bits w ∷ cs) e = cc
 tidy_held (Boxed ∷ ks) (LentArray a ∷ cs) e = cc
 tidy_held (Boxed ∷ ks) (Gone ∷ cs) e = cc
-tidy_held (Unboxed ∷ ks) (c ∷ cs) e = let h = and_parts (not (is_owned c)) (tidy_locals ks cs) e in (nothing_held tidy_name NameHolds tidy_holds c h.0, tidy_held ks cs h.1)
+tidy_held (Unboxed ∷ ks) (c ∷ cs) e = let h = and_parts (is_bare c) (tidy_locals ks cs) e in (bare_holds c h.0, tidy_held ks cs h.1)
 tidy_held (Many ∷ ks) (c ∷ cs) e = let h = and_parts (not (is_owned c)) (tidy_locals ks cs) e in (nothing_held tidy_name NameHolds tidy_holds c h.0, tidy_held ks cs h.1)
 tidy_held (Boxed ∷ ks) [] e = cc
 tidy_held (Unboxed ∷ ks) [] e = cc
@@ -188,14 +202,7 @@ tidy_held (Many ∷ ks) [] e = cc
 
 -- Counts.
 
-abbrev one : Sort → Option Sort → ℕ
-one t o = cond (holds t o) 1 0
-
-abbrev pub count : Sort → List (Option Sort) → ℕ
-count t [] = 0
-count t (o ∷ os) = one t o + count t os
-
-none_counted : (t : Sort) → one t None ≡ 0
+pub none_counted : (t : Sort) → one t None ≡ 0
 none_counted sort.Value = refl
 none_counted sort.Number = refl
 none_counted sort.Array = refl
@@ -265,6 +272,21 @@ module _ (before : ℕ) (ks : List Kind) (os : List (Option Sort)) (h : GlobalsH
   pub global_iterators : count sort.Iterator os ≡ 0
   global_iterators = let x = globals_counted sort.Iterator before ks os h in let y = iterators_of ks in omega (arith, x, y)
 
+-- each name of an array holds one, and no other name does
+arrays_held : (ks : List Kind) (os : List (Option Sort)) → NamesHold NameHolds ks os → count sort.Array os ≡ arrays ks
+arrays_held [] [] h = refl
+arrays_held [] (o ∷ os) h = absurd h
+arrays_held (k ∷ ks) [] h = absurd h
+arrays_held (k ∷ ks) (o ∷ []) h = absurd h
+arrays_held (Boxed ∷ ks) (o ∷ (n ∷ os)) h = let x = ap (one sort.Array) h.0 in let y = ap (one sort.Array) h.1 in let r = arrays_held ks os h.2 in omega (arith, x, y, r)
+arrays_held (Unboxed ∷ ks) (o ∷ (n ∷ os)) h = let x = either_counted sort.Array sort.Value o h.0 in let y = ap (one sort.Array) h.1 in let r = arrays_held ks os h.2 in omega (arith, x, y, r)
+arrays_held (Many ∷ ks) (o ∷ (n ∷ os)) h = let x = ap (one sort.Array) h.0 in let y = ap (one sort.Array) h.1 in let r = arrays_held ks os h.2 in omega (arith, x, y, r)
+
+pub global_arrays_are : (before : ℕ) (ks : List Kind) (os : List (Option Sort)) → GlobalsHold NameHolds before ks os → count sort.Array os ≡ arrays ks
+global_arrays_are zero ks os h = arrays_held ks os h
+global_arrays_are (suc n) ks [] h = arrays_held ks [] h
+global_arrays_are (suc n) ks (o ∷ os) h = let x = ap (one sort.Array) h.0 in let r = global_arrays_are n ks os h.1 in omega (arith, x, r)
+
 -- of parameters, and of the other locals
 abbrev of_locals : Sort → List Kind → ℕ
 of_locals t [] = 0
@@ -311,61 +333,3 @@ local_iterators (OwnedArray a ∷ cs) = let r = local_iterators cs in omega (ari
 local_iterators (Bits w ∷ cs) = let r = local_iterators cs in omega (arith, r)
 local_iterators (LentArray a ∷ cs) = let r = local_iterators cs in omega (arith, r)
 local_iterators (Gone ∷ cs) = let r = local_iterators cs in omega (arith, r)
-
--- Sums over numbers.
-
-one_counted : (b : Bool) (m a n : ℕ) → total (owns_one b m) a n ≤ cond {A = ℕ} b 1 0
-one_counted true m a n = one_most true m a n
-one_counted false m a n = let x = total_none (owns_one false m) a n (λ q l. refl) in omega (arith, x)
-
-owner_counted : (t : Sort) (c : Cell) (w : Word) (a n : ℕ) → total (λ q. owner t q c w) a n ≤ one t (held_in c)
-owner_counted t c (I32 m) a n = let x = one_counted (owns_sort t c) m a n in let y = ap (λ b. cond {A = ℕ} b 1 0) (same_sort t c) in omega (arith, x, y)
-owner_counted t c (I64 m) a n = let x = total_none (λ q. owner t q c (I64 m)) a n (λ q l. refl) in omega (arith, x)
-
-owners_counted : (t : Sort) (cs : List Cell) (ws : List Word) (a n : ℕ) → total (λ q. owners t q cs ws) a n ≤ count t (held cs)
-owners_counted t [] ws a n = let x = total_none (λ q. owners t q [] ws) a n (λ q l. refl) in omega (arith, x)
-owners_counted t (c ∷ cs) [] a n = let x = total_none (λ q. owners t q (c ∷ cs) []) a n (λ q l. refl) in omega (arith, x)
-owners_counted t (c ∷ cs) (w ∷ ws) a n =
-    let x = owner_counted t c w a n in
-    let y = owners_counted t cs ws a n in
-    let z = total_sum (λ q. owner t q c w) (λ q. owners t q cs ws) a n in
-    omega (arith, x, y, z)
-
--- SO MUCH IS WANTED, where nothing is on the operands
-pub wanted_few : (N : Names) (L G : List Cell) (ls gs : List Word) (F : List Frame) (rs : List CallerForm) → OwnedOnce N [] [] L ls G gs F rs → (t : Sort) (n : ℕ) →
-    total (λ q. wanted N t q) 0 n ≤ count t (held L) + (count t (held G) + places_in rs)
-wanted_few N L G ls gs F rs once t n =
-    let a = total_less (λ q. wanted N t q) (λ q. owners t q L ls + (owners t q G gs + waiting t q F rs)) 0 n (λ q. let e = once t q in omega (arith, e)) in
-    let b = owners_counted t L ls 0 n in
-    let c = owners_counted t G gs 0 n in
-    let d = waiting_most t F rs 0 n in
-    let x = total_sum (λ q. owners t q G gs) (λ q. waiting t q F rs) 0 n in
-    let y = total_sum (λ q. owners t q L ls) (λ q. owners t q G gs + waiting t q F rs) 0 n in
-    omega (arith, a, b, c, d, x, y)
-
--- ARGV and ENVIRON have no owner among these
-array_wanted : (N : Names) (q : ℕ) → there (look N.arrays (pos q)) ≤ wanted N sort.Array q + (owns_one true 0 q + owns_one true 1 q)
-array_wanted N q = by (nat_lt q 2) refl
-  where
-    at_most : {A : Type 0} → (o : Option A) → there o ≤ 1
-    at_most None = omega arith
-    at_most (Some x) = omega arith
-
-    -- 0 or 1
-    counted : (b c : Bool) → nat_eq q 0 ≡ b → nat_eq q 1 ≡ c → q < 2 → 1 ≤ cond {A = ℕ} b 1 0 + cond {A = ℕ} c 1 0
-    counted true c e f l = omega arith
-    counted false true e f l = omega arith
-    counted false false e f l = let x = eqb-false q 0 e in let y = eqb-false q 1 f in absurd (omega (arith, x, y, l))
-
-    by : (b : Bool) → nat_lt q 2 ≡ b → there (look N.arrays (pos q)) ≤ cond b 0 (there (look N.arrays (pos q))) + (owns_one true 0 q + owns_one true 1 q)
-    by true e = let x = at_most (look N.arrays (pos q)) in let y = counted (nat_eq q 0) (nat_eq q 1) refl refl (ltb-true q 2 e) in omega (arith, x, y)
-    by false e = omega arith
-
-pub arrays_wanted : (N : Names) (n : ℕ) → total (λ q. there (look N.arrays (pos q))) 0 n ≤ 2 + total (λ q. wanted N sort.Array q) 0 n
-arrays_wanted N n =
-    let a = total_less (λ q. there (look N.arrays (pos q))) (λ q. wanted N sort.Array q + (owns_one true 0 q + owns_one true 1 q)) 0 n (array_wanted N) in
-    let b = total_sum (λ q. wanted N sort.Array q) (λ q. owns_one true 0 q + owns_one true 1 q) 0 n in
-    let c = total_sum (owns_one true 0) (owns_one true 1) 0 n in
-    let d = one_most true 0 0 n in
-    let e = one_most true 1 0 n in
-    omega (arith, a, b, c, d, e)

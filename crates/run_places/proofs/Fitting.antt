@@ -1,6 +1,6 @@
 -- How many cells a run holds. The operands of a function, its instructions that are left, and the same under each of its labels, are together at most the
 -- instructions of its body: each of these gives one operand at most.
-use Rattle.std.proofs.Common.{◌≡◌, ℕ, zero, suc, ◌+◌, ◌-◌, ◌≤◌, Bool, true, false, not, ◌&&◌, cond, nat_eq, nat_lt, List, [], ◌∷◌, ◌++◌, length, take, drop, reverse, set, slice_get, Option, Some, None, Result, Ok, Err, refl, arith}
+use Rattle.std.proofs.Common.{◌≡◌, ℕ, zero, suc, ◌+◌, ◌-◌, ◌≤◌, Bool, true, false, not, ◌&&◌, cond, nat_eq, nat_le, nat_lt, List, [], ◌∷◌, ◌++◌, length, take, drop, reverse, set, slice_get, Option, Some, None, Result, Ok, Err, refl, arith}
 use Rattle.std.proofs.lemmas.Bool.{and_parts, ltb-true}
 use Rattle.std.proofs.lemmas.List.{length-append, length-drop, length-map, length-reverse, length-set, length-take}
 use Rattle.std.proofs.Math.Nat.{min-le_left}
@@ -14,10 +14,10 @@ use Rattle.wasm_store.specs.declared.word.Word.TheVariants.{I32}
 use Rattle.wasm_store.specs.Words.{binary_of, converted, test_of, zero_of}
 use Rattle.wasm_machine.specs.Frames.{constant_of}
 use Rattle.mid_program.specs.Mid.{Kind}
-use Rattle.value_machine.specs.Cells.{Cell, Bits, Held, LentArray, OwnedArray, IteratorOf, Gone, cell_at, ended_name, globals_by, is_owned, left_by, left_in_global, none_owned}
+use Rattle.value_machine.specs.Cells.{Cell, Bits, Held, LentArray, OwnedArray, IteratorOf, Gone, cell_at, globals_by, is_owned, left_by, left_in_global, none_owned}
 use Rattle.value_machine.specs.ImportCalls.{Host, call, look}
 use Rattle.value_machine.specs.Imports.{import_at, import_count}
-use Rattle.value_machine.specs.Machine.{Code, Callee, Conf, Run, Look, Over, Deep, Stuck, Frame, Label, Store, act, ask, ask_looking, at, br, br_if, call_number, choose, compared, enter, go, guarded, label, leave, leave_function, onto, operated, push_result, push_word, run_looking, set_global, set_local, step, takes_look, tee_local, teed, width, with_answer, with_operands, work, zeros}
+use Rattle.value_machine.specs.Machine.{Code, Callee, Conf, Run, Look, Over, Deep, Stuck, Frame, Label, Store, act, ask, ask_looking, at, br, br_if, call_number, choose, compared, enter, go, guarded, label, leave, leave_function, onto, operated, push_result, push_word, run_looking, set_global, set_local, step, takes_look, tee_local, teed, waits, width, with_answer, with_operands, work, zeros, ending_name}
 use Rattle.value_machine.specs.declared.import.Import.{Import}
 use Rattle.run_places.specs.Places.{IsWithin, size}
 
@@ -65,6 +65,7 @@ module _ (u : Code) (instructions places globals : ℕ) (Own : List Kind → Typ
     pub code : suc (length f.under) + (size f.rest + under f.labels) ≤ instructions
     pub labels : LabelsFit f.labels
     pub locals : length f.locals ≤ places
+    pub waits : waits f.kinds f.labels f.locals f.rest ≡ true
 
   abbrev pub FramesFit : List Frame → Type 0
   FramesFit [] = Unit {0}
@@ -86,7 +87,7 @@ module _ (u : Code) (instructions places globals : ℕ) (Own : List Kind → Typ
   abbrev pub Fits : Conf → Type 0
   Fits (Run ks vs K L F c G) = CodeFits (length vs) c K × RestFits ks K L F G
   Fits (Look x ks vs K L F c G) = CodeFits (length vs) c K × RestFits ks K L F G
-  Fits (Over v G) = (length G.globals ≤ globals) × (globals_by ended_name u.before u.names G.globals ≡ true)
+  Fits (Over v G) = (length G.globals ≤ globals) × (globals_by (ending_name G.host.fault) u.before u.names G.globals ≡ true)
   Fits (Deep G) = Unit {0}
   Fits Stuck = Unit {0}
 
@@ -108,6 +109,11 @@ module _ (u : Code) (instructions places globals : ℕ) (Own : List Kind → Typ
   guarded_fits : (b : Bool) (c : Conf) → Fits c → Fits (guarded b c)
   guarded_fits true c h = h
   guarded_fits false c h = tt
+
+  -- behind what is checked it is known
+  guarded_known : (b : Bool) (c : Conf) → (b ≡ true → Fits c) → Fits (guarded b c)
+  guarded_known true c h = h refl
+  guarded_known false c h = tt
 
   -- a constant is an operand in place of an instruction
   pub at_fits : (ks : List Kind) (vs : List Cell) (K : List Label) (L : List Cell) (F : List Frame) (c : Instructions) (G : Store) → CodeFits (length vs) c K → RestFits ks K L F G → Fits (at ks vs K L F c G)
@@ -198,27 +204,29 @@ module _ (u : Code) (instructions places globals : ℕ) (Own : List Kind → Typ
 
   enter_fits : (f : Option Callee) → ((g : Callee) → f ≡ Some g → Own g.kinds × IsWithin places instructions g) → (ks : List Kind) (vs : List Cell) (K : List Label) (L : List Cell) (F : List Frame) (c : Instructions) (G : Store) → CodeFits (suc (length vs)) c K → RestFits ks K L F G → Fits (enter u.deepest f ks vs K L F c G)
   enter_fits None w ks vs K L F c G h r = tt
-  enter_fits (Some f) w ks vs K L F c G h r = guarded_fits _ _ (by (nat_lt (length F) u.deepest) refl)
+  enter_fits (Some f) w ks vs K L F c G h r =
+      guarded_known ((nat_le (length f.kinds) (length vs) && none_owned (drop (length f.kinds) vs)) && waits ks K L c) _
+      (λ q. by (and_parts (nat_le (length f.kinds) (length vs) && none_owned (drop (length f.kinds) vs)) (waits ks K L c) q).1 (nat_lt (length F) u.deepest) refl)
     where
       waiting : Frame
       waiting = record { kinds = ks; under = drop (length f.kinds) vs; labels = K; locals = L; rest = c }
 
-      waits : FrameFits waiting
-      waits = record { kinds = r.kinds; code = (let e = length-drop (length f.kinds) vs in omega (arith, e, h)); labels = r.labels; locals = r.locals }
+      stands : waits ks K L c ≡ true → FrameFits waiting
+      stands wt = record { kinds = r.kinds; code = (let e = length-drop (length f.kinds) vs in omega (arith, e, h)); labels = r.labels; locals = r.locals; waits = wt }
 
-      by : (b : Bool) → nat_lt (length F) u.deepest ≡ b → Fits (cond b (at f.kinds [] [] (reverse (take (length f.kinds) vs) ++ zeros f.locals) (waiting ∷ F) f.body G) (Deep G))
-      by true e =
+      by : waits ks K L c ≡ true → (b : Bool) → nat_lt (length F) u.deepest ≡ b → Fits (cond b (at f.kinds [] [] (reverse (take (length f.kinds) vs) ++ zeros f.locals) (waiting ∷ F) f.body G) (Deep G))
+      by wt true e =
           let few = ltb-true (length F) u.deepest e in
           let code = (w f refl).1.code in
           at_fits f.kinds [] [] (reverse (take (length f.kinds) vs) ++ zeros f.locals) (waiting ∷ F) f.body G (omega (arith, code))
-          (record { kinds = (w f refl).0; labels = tt; locals = locals_few f vs (w f refl).1; frames = (waits, r.frames); depth = omega (arith, few); shared = r.shared })
-      by false e = tt
+          (record { kinds = (w f refl).0; labels = tt; locals = locals_few f vs (w f refl).1; frames = (stands wt, r.frames); depth = omega (arith, few); shared = r.shared })
+      by wt false e = tt
 
   leave_function_fits : (ks : List Kind) (v : Cell) (L : List Cell) (F : List Frame) (G : Store) → RestFits ks [] L F G → Fits (leave_function u v F G)
-  leave_function_fits ks v L [] G r = by (not (is_owned v) && globals_by ended_name u.before u.names G.globals) refl
+  leave_function_fits ks v L [] G r = by (not (is_owned v) && globals_by (ending_name G.host.fault) u.before u.names G.globals) refl
     where
-      by : (b : Bool) → not (is_owned v) && globals_by ended_name u.before u.names G.globals ≡ b → Fits (guarded b (Over v G))
-      by true e = (r.shared, (and_parts (not (is_owned v)) (globals_by ended_name u.before u.names G.globals) e).1)
+      by : (b : Bool) → not (is_owned v) && globals_by (ending_name G.host.fault) u.before u.names G.globals ≡ b → Fits (guarded b (Over v G))
+      by true e = (r.shared, (and_parts (not (is_owned v)) (globals_by (ending_name G.host.fault) u.before u.names G.globals) e).1)
       by false e = tt
   leave_function_fits ks v L (f ∷ F) G r =
       let d = r.depth in

@@ -2,10 +2,15 @@ pub mod Fitting
 pub mod Begun
 pub mod Free
 pub mod Runs
-pub mod Numbers
 pub mod Counting
+pub mod Totals
+pub mod Numbers
+pub mod Marks
+pub mod Working
+pub mod Waiting
 pub mod Keeping
 pub mod Spelled
 pub mod Parameters
 pub mod Nops
 pub mod Stepping
+pub mod Rows

@@ -1,5 +1,5 @@
--- Each step of a script has the `nop` that begins its code, and no other instruction of a function is one, but the `nop` before the test of a `do` loop.
-use Rattle.std.proofs.Common.{◌≡◌, ℕ, zero, suc, Bool, true, false, ◌||◌, List, [], ◌∷◌, refl, arith}
+-- The code of expressions has no places: no `nop` stands in it.
+use Rattle.std.proofs.Common.{◌≡◌, ℕ, zero, suc, Bool, true, false, ◌||◌, cond, nat_eq, List, [], ◌∷◌, ◌++◌, refl, ap, ap₂, ◌∙◌}
 use Rattle.std.specs.Prelude.{if◌then◌else◌, get_or}
 use Rattle.awk_values.specs.declared.comparison.CompareOp.{CompareOp}
 use Rattle.awk_state.specs.Table.{arguments_of, answer_of, can_fault}
@@ -22,47 +22,51 @@ use Rattle.mid_program.specs.declared.mid.Operation.{Operation}
 use Rattle.mid_program.specs.declared.mid.Operation.TheVariants.{Host, Inline, AsNumber, FieldNumber}
 use Rattle.mid_program.specs.MidMeaning.{three_values}
 use Rattle.mid_program.specs.Names.{ArrayName, Numbered, Given}
-use Rattle.mid_program.specs.Mid.{Kind, Boxed, Unboxed, Many, Slot, Global, Parameter, Code, Do, Over, Compare, Call, Ask, AskLine, FileLine, Replace, Number, Text, Unset, Get, Set, Array, IsOpen, Choose, Seq, Let, Bound, Codes, End, At, Fixed, Fresh, Form, Answered, Bare, a_value, form_of, form_at, arguments, parameters_at}
+use Rattle.mid_program.specs.Mid.{Kind, Boxed, Unboxed, Many, Slot, Global, Parameter, Code, Do, Over, Compare, Call, Ask, AskLine, FileLine, Replace, Number, Text, Unset, Get, Set, Array, IsOpen, Choose, Seq, Let, Bound, Codes, End, At, Fixed, Fresh, Form, Answered, Bare, Perhaps, a_value, form_of, form_at, arguments, parameters_at}
 use Rattle.mid_program.specs.Sorted.{count_of}
 use Rattle.value_machine.specs.Arithmetic.{calculated, compared, field_checked, is_value, may_be_text, numbers_compared, texts_beside, values_compared, zeroed_if}
-use Rattle.value_machine.specs.Boundaries.{is_nop, nops_in}
+use Rattle.value_machine.specs.Boundaries.{is_nop}
 use Rattle.value_machine.specs.Emission.{Layout, all_appended, all_boxed, all_converted, all_emitted, all_freed, all_given, all_given_pushed, all_pushed, array_meant, array_pushed, asked, assigned, assigned_by_number, dropped, emitted, handle_stored, left_over, listed_asked, one_given, one_pushed, pending_assigned, performed, slot_read, slot_set, tested, text_kept, text_let_go, value_stored}
 use Rattle.value_machine.specs.Places.{Bases, made_in}
-use Rattle.value_machine.specs.Small.{bound_from, code_number, converted, does, either, kept, kept_code, kept_done, kept_number, kept_value, moved_from, released, to_number, to_value, truth, unused}
+use Rattle.value_machine.specs.Small.{ask_row, bound_from, boxed_perhaps, code_number, converted, does, either, kept, kept_code, kept_done, kept_number, kept_value, moved_from, n, number_is, released, to_number, to_value, truth, unused, when}
+use Rattle.run_places.specs.Statements.{starts_in}
 
--- so many `nop`s stand in code
-pub record Nops (k : Instructions) (m : ℕ) : Type 0 where
-  pub count : nops_in k ≡ m
+-- these are the places of code
+pub record Nops (k : Instructions) (m : List Instructions) : Type 0 where
+  pub are : starts_in k ≡ m
 
-pub none : Nops Done 0
-none = record { count = refl }
+pub none : Nops Done []
+none = record { are = refl }
 
-pub plain : {k : Instructions} {m : ℕ} (i : Simple) → is_nop i ≡ 0 → Nops k m → Nops (does i k) m
-plain i e r = record { count = let h = r.count in omega (arith, e, h) }
+passes : (i : Simple) (k : Instructions) → is_nop i ≡ 0 → starts_in (does i k) ≡ starts_in k
+passes i k e = ap (λ n. cond (nat_eq n 0) [] (does i k ∷ []) ++ starts_in k) e
 
-pub choice : {a c k : Instructions} {m : ℕ} → Nops a 0 → Nops c 0 → Nops k m → Nops (either a c k) m
-choice a c r = record { count = let x = a.count in let y = c.count in let h = r.count in omega (arith, x, y, h) }
+pub plain : {k : Instructions} {m : List Instructions} (i : Simple) → is_nop i ≡ 0 → Nops k m → Nops (does i k) m
+plain {k = k} i e r = record { are = passes i k e ∙ r.are }
 
-whichever : {a c : Instructions} {m : ℕ} (z : Bool) → Nops a m → Nops c m → Nops (if z then a else c) m
+pub choice : {a c k : Instructions} {m : List Instructions} → Nops a [] → Nops c [] → Nops k m → Nops (either a c k) m
+choice {k = k} a c r = record { are = ap₂ (λ x y. (x ++ y) ++ starts_in k) a.are c.are ∙ r.are }
+
+whichever : {a c : Instructions} {m : List Instructions} (z : Bool) → Nops a m → Nops c m → Nops (if z then a else c) m
 whichever true a c = a
 whichever false a c = c
 
-module _ (b : Bases) {k : Instructions} {m : ℕ} where
+module _ (b : Bases) {k : Instructions} {m : List Instructions} where
   pub kept_code_nops : (f : Bool) (t d : ℕ) → Nops k m → Nops (kept_code b f t d k) m
-  kept_code_nops true t d r = record { count = let h = r.count in omega (arith, h) }
-  kept_code_nops false t d r = record { count = let h = r.count in omega (arith, h) }
+  kept_code_nops true t d r = record { are = r.are }
+  kept_code_nops false t d r = record { are = r.are }
 
   kept_value_nops : (f : Bool) (t d : ℕ) → Nops k m → Nops (kept_value b f t d k) m
-  kept_value_nops true t d r = record { count = let h = r.count in omega (arith, h) }
-  kept_value_nops false t d r = record { count = let h = r.count in omega (arith, h) }
+  kept_value_nops true t d r = record { are = r.are }
+  kept_value_nops false t d r = record { are = r.are }
 
   pub kept_number_nops : (f : Bool) (t d : ℕ) → Nops k m → Nops (kept_number b f t d k) m
-  kept_number_nops true t d r = record { count = let h = r.count in omega (arith, h) }
-  kept_number_nops false t d r = record { count = let h = r.count in omega (arith, h) }
+  kept_number_nops true t d r = record { are = r.are }
+  kept_number_nops false t d r = record { are = r.are }
 
   kept_done_nops : (f : Bool) (d : ℕ) → Nops k m → Nops (kept_done b f d k) m
-  kept_done_nops true d r = record { count = let h = r.count in omega (arith, h) }
-  kept_done_nops false d r = record { count = let h = r.count in omega (arith, h) }
+  kept_done_nops true d r = record { are = r.are }
+  kept_done_nops false d r = record { are = r.are }
 
   kept_nops : (f : Bool) (a : Answer) (t d : ℕ) → Nops k m → Nops (kept b f a t d k) m
   kept_nops f (answer.Of sort.Value) t d r = kept_value_nops f t d r
@@ -76,14 +80,14 @@ module _ (b : Bases) {k : Instructions} {m : ℕ} where
 
   pub to_value_nops : (f : Form) (t : ℕ) → Nops k m → Nops (to_value b f t k) m
   to_value_nops (Answered (answer.Of sort.Value)) t r = r
-  to_value_nops f t r = record { count = let h = r.count in omega (arith, h) }
+  to_value_nops f t r = record { are = r.are }
 
   code_number_nops : (t : ℕ) → Nops k m → Nops (code_number b t k) m
-  code_number_nops t r = record { count = let h = r.count in omega (arith, h) }
+  code_number_nops t r = record { are = r.are }
 
   pub to_number_nops : (f : Form) (t d : ℕ) → Nops k m → Nops (to_number b f t d k) m
-  to_number_nops (Answered (answer.Of sort.Value)) t d r = record { count = let h = r.count in omega (arith, h) }
-  to_number_nops f t d r = record { count = let h = r.count in omega (arith, h) }
+  to_number_nops (Answered (answer.Of sort.Value)) t d r = record { are = r.are }
+  to_number_nops f t d r = record { are = r.are }
 
   converted_nops : (f : Form) (s : Sort) (t d : ℕ) → Nops k m → Nops (converted b f s t d k) m
   converted_nops f sort.Value t d r = to_value_nops f t r
@@ -91,50 +95,50 @@ module _ (b : Bases) {k : Instructions} {m : ℕ} where
   converted_nops f s t d r = r
 
   truth_nops : (f : Form) (t : ℕ) → Nops k m → Nops (truth b f t k) m
-  truth_nops (Answered (answer.Of sort.Value)) t r = record { count = let h = r.count in omega (arith, h) }
-  truth_nops f t r = record { count = let h = r.count in omega (arith, h) }
+  truth_nops (Answered (answer.Of sort.Value)) t r = record { are = r.are }
+  truth_nops f t r = record { are = r.are }
 
   unused_nops : (f : Form) (t : ℕ) → Nops k m → Nops (unused b f t k) m
-  unused_nops (Answered (answer.Of sort.Value)) t r = record { count = let h = r.count in omega (arith, h) }
-  unused_nops f t r = record { count = let h = r.count in omega (arith, h) }
+  unused_nops (Answered (answer.Of sort.Value)) t r = record { are = r.are }
+  unused_nops f t r = record { are = r.are }
 
   released_nops : (f : Form) (t : ℕ) → Nops k m → Nops (released b f t k) m
-  released_nops (Answered (answer.Of sort.Value)) t r = record { count = let h = r.count in omega (arith, h) }
-  released_nops f t r = record { count = let h = r.count in omega (arith, h) }
+  released_nops (Answered (answer.Of sort.Value)) t r = record { are = r.are }
+  released_nops f t r = record { are = r.are }
 
   bound_nops : (z : Bool) (f : Form) (s t : ℕ) → Nops k m → Nops (bound_from b z f s t k) m
-  bound_nops true (Answered (answer.Of sort.Value)) s t r = record { count = let h = r.count in omega (arith, h) }
-  bound_nops true f s t r = record { count = let h = r.count in omega (arith, h) }
-  bound_nops false (Answered (answer.Of sort.Value)) s t r = record { count = let h = r.count in omega (arith, h) }
-  bound_nops false f s t r = record { count = let h = r.count in omega (arith, h) }
+  bound_nops true (Answered (answer.Of sort.Value)) s t r = record { are = r.are }
+  bound_nops true f s t r = record { are = r.are }
+  bound_nops false (Answered (answer.Of sort.Value)) s t r = record { are = r.are }
+  bound_nops false f s t r = record { are = r.are }
 
   moved_nops : (f : Form) (s t : ℕ) → Nops k m → Nops (moved_from b f s t k) m
   moved_nops f s t r = bound_nops true f s t r
 
   calculated_nops : (a : Arithmetic) (t d : ℕ) → Nops k m → Nops (calculated b a t d k) m
-  calculated_nops inline.Plus t d r = record { count = let h = r.count in omega (arith, h) }
-  calculated_nops a t d r = record { count = let h = r.count in omega (arith, h) }
+  calculated_nops inline.Plus t d r = record { are = r.are }
+  calculated_nops a t d r = record { are = r.are }
 
   field_nops : (t d : ℕ) → Nops k m → Nops (field_checked b t d k) m
-  field_nops t d r = record { count = let h = r.count in omega (arith, h) }
+  field_nops t d r = record { are = r.are }
 
   zeroed_nops : (f : Form) (t : ℕ) → Nops k m → Nops (zeroed_if b f t k) m
-  zeroed_nops Bare t r = record { count = let h = r.count in omega (arith, h) }
-  zeroed_nops f t r = record { count = let h = r.count in omega (arith, h) }
+  zeroed_nops Bare t r = record { are = r.are }
+  zeroed_nops f t r = record { are = r.are }
 
   beside_nops : (f g : Form) (t : ℕ) → Nops k m → Nops (texts_beside b f g t k) m
-  beside_nops Bare Bare t r = record { count = let h = r.count in omega (arith, h) }
-  beside_nops Bare g t r = record { count = let h = r.count in omega (arith, h) }
-  beside_nops f g t r = record { count = let h = r.count in omega (arith, h) }
+  beside_nops Bare Bare t r = record { are = r.are }
+  beside_nops Bare g t r = record { are = r.are }
+  beside_nops f g t r = record { are = r.are }
 
-module _ (b : Bases) {k : Instructions} {m : ℕ} where
+module _ (b : Bases) {k : Instructions} {m : List Instructions} where
   values_nops : (c : CompareOp) (f g : Form) (t d : ℕ) → Nops k m → Nops (values_compared b c f g t d k) m
-  values_nops c f g t d r = to_value_nops b f t (to_value_nops b g (suc t) (record { count = let h = r.count in omega (arith, h) }))
+  values_nops c f g t d r = to_value_nops b f t (to_value_nops b g (suc t) (record { are = r.are }))
 
   numbers_nops : (c : CompareOp) (f g : Form) (t : ℕ) → Nops k m → Nops (numbers_compared b c f g t k) m
-  numbers_nops c f g t r = zeroed_nops b f t (zeroed_nops b g (suc t) (record { count = let h = r.count in omega (arith, h) }))
+  numbers_nops c f g t r = zeroed_nops b f t (zeroed_nops b g (suc t) (record { are = r.are }))
 
-module _ (b : Bases) {k : Instructions} {m : ℕ} where
+module _ (b : Bases) {k : Instructions} {m : List Instructions} where
   compared_nops : (c : CompareOp) (f g : Form) (t d : ℕ) → Nops k m → Nops (compared b c f g t d k) m
   compared_nops c f g t d r =
       whichever (is_value f || is_value g) (values_nops b c f g t d r)
@@ -146,124 +150,132 @@ module _ (y : Layout) where
   abbrev b : Bases
   b = y.bases
 
-  module _ {k : Instructions} {m : ℕ} where
+  module _ {k : Instructions} {m : List Instructions} where
     pub array_nops : (a : ArrayName) → Nops k m → Nops (array_pushed y a k) m
-    array_nops (Numbered zero) r = record { count = let h = r.count in omega (arith, h) }
-    array_nops (Numbered (suc zero)) r = record { count = let h = r.count in omega (arith, h) }
-    array_nops (Numbered (suc (suc i))) r = record { count = let h = r.count in omega (arith, h) }
-    array_nops (Given i) r = record { count = let h = r.count in omega (arith, h) }
+    array_nops (Numbered zero) r = record { are = r.are }
+    array_nops (Numbered (suc zero)) r = record { are = r.are }
+    array_nops (Numbered (suc (suc i))) r = record { are = r.are }
+    array_nops (Given i) r = record { are = r.are }
 
     read_nops : (x : Slot) (t : ℕ) → Nops k m → Nops (slot_read y x t k) m
-    read_nops (Global false i) t r = record { count = let h = r.count in omega (arith, h) }
-    read_nops (Global true i) t r = record { count = let h = r.count in omega (arith, h) }
-    read_nops (Parameter false i) t r = record { count = let h = r.count in omega (arith, h) }
-    read_nops (Parameter true i) t r = record { count = let h = r.count in omega (arith, h) }
+    read_nops (Global false i) t r = record { are = r.are }
+    read_nops (Global true i) t r = record { are = r.are }
+    read_nops (Parameter false i) t r = record { are = r.are }
+    read_nops (Parameter true i) t r = record { are = r.are }
 
     handle_nops : (o : Bool) (t : ℕ) (put : Simple) → is_nop put ≡ 0 → Nops k m → Nops (handle_stored y o t put k) m
-    handle_nops true t put e r = record { count = let h = r.count in omega (arith, e, h) }
-    handle_nops false t put e r = record { count = let h = r.count in omega (arith, e, h) }
+    handle_nops true t put e r = record { are = passes put k e ∙ r.are }
+    handle_nops false t put e r = record { are = passes put k e ∙ r.are }
 
-  module _ {k : Instructions} {m : ℕ} where
+  module _ {k : Instructions} {m : List Instructions} where
+    perhaps_nops : (t : ℕ) (put : Simple) → is_nop put ≡ 0 → Nops k m → Nops (boxed_perhaps b t put k) m
+    perhaps_nops t put e r = plain _ refl (plain _ refl (plain _ refl (choice (plain _ refl (plain put e none)) (record { are = passes put Done e }) r)))
+
+  module _ {k : Instructions} {m : List Instructions} where
     stored_nops : (o : Bool) (f : Form) (t : ℕ) (put : Simple) → is_nop put ≡ 0 → Nops k m → Nops (value_stored y o f t put k) m
     stored_nops o (Answered (answer.Of sort.Value)) t put e r = handle_nops o t put e r
-    stored_nops o Bare t put e r = record { count = let x = (handle_nops {k = Done} o t put e none).count in let h = r.count in omega (arith, e, x, h) }
-    stored_nops o f t put e r = record { count = let h = r.count in omega (arith, e, h) }
+    stored_nops o Bare t put e r = plain _ refl (plain _ refl (plain _ refl (choice (handle_nops o t put e none) (perhaps_nops t put e none) r)))
+    stored_nops o Perhaps t put e r = perhaps_nops t put e r
+    stored_nops o f t put e r = record { are = passes put k e ∙ r.are }
 
-  module _ {k : Instructions} {m : ℕ} where
+  module _ {k : Instructions} {m : List Instructions} where
     set_nops : (o : Bool) (x : Slot) (f : Form) (t : ℕ) → Nops k m → Nops (slot_set y o x f t k) m
     set_nops o (Global false i) f t r = plain _ refl (plain _ refl (stored_nops o f t _ refl r))
-    set_nops o (Global true i) f t r = record { count = let h = r.count in omega (arith, h) }
+    set_nops o (Global true i) f t r = record { are = r.are }
     set_nops o (Parameter false i) f t r = plain _ refl (plain _ refl (stored_nops o f t _ refl r))
-    set_nops o (Parameter true i) f t r = record { count = let h = r.count in omega (arith, h) }
+    set_nops o (Parameter true i) f t r = record { are = r.are }
 
     assigned_nops : (kind : Kind) (i t : ℕ) → Nops k m → Nops (assigned y kind i t k) m
-    assigned_nops Boxed i t r = record { count = let h = r.count in omega (arith, h) }
-    assigned_nops Unboxed i t r = record { count = let h = r.count in omega (arith, h) }
+    assigned_nops Boxed i t r = record { are = r.are }
+    assigned_nops Unboxed i t r = record { are = r.are }
     assigned_nops Many i t r = r
 
-  by_number_nops : {k : Instructions} {m : ℕ} (ks : List Kind) (i t : ℕ) → Nops k m → Nops (assigned_by_number y ks i t k) m
+  by_number_nops : {k : Instructions} {m : List Instructions} (ks : List Kind) (i t : ℕ) → Nops k m → Nops (assigned_by_number y ks i t k) m
   by_number_nops [] i t r = r
   by_number_nops (Many ∷ ks) i t r = by_number_nops ks (suc i) t r
   by_number_nops (Boxed ∷ ks) i t r = plain _ refl (plain _ refl (plain _ refl (choice (assigned_nops Boxed i t none) none (by_number_nops ks (suc i) t r))))
   by_number_nops (Unboxed ∷ ks) i t r = plain _ refl (plain _ refl (plain _ refl (choice (assigned_nops Unboxed i t none) none (by_number_nops ks (suc i) t r))))
 
-  module _ {k : Instructions} {m : ℕ} where
+  module _ {k : Instructions} {m : List Instructions} where
     pub pending_nops : (t : ℕ) → Nops k m → Nops (pending_assigned y t k) m
     pending_nops t r = plain _ refl (plain _ refl (plain _ refl (plain _ refl (plain _ refl (by_number_nops y.names zero t r)))))
 
-  module _ {k : Instructions} {m : ℕ} where
+  module _ {k : Instructions} {m : List Instructions} where
     pub asked_nops : (p : Primitive) (t d : ℕ) → Nops k m → Nops (asked y p t d k) m
-    asked_nops p t d r = record { count = let x = (pending_nops {k = does (Br 1) Done} t (plain (Br 1) refl none)).count in let h = r.count in omega (arith, x, h) }
+    asked_nops p t d r = record { are = ap (λ x. x ++ starts_in k) asking.are ∙ r.are }
+      where
+        asking : Nops (ask_row p (kept_code b true t (suc d) (number_is (n b t) 2 (when (pending_assigned y t (does (Br 1) Done)) Done)))) []
+        asking = plain _ refl (kept_code_nops b true t (suc d) (plain _ refl (plain _ refl (plain _ refl (choice (pending_nops t (plain (Br 1) refl none)) none none)))))
 
-  converts_nops : {k : Instructions} {m : ℕ} (fs : List Form) (given : List Argument) (es : Codes) (t d : ℕ) → Nops k m → Nops (all_converted y fs given es t d k) m
+  converts_nops : {k : Instructions} {m : List Instructions} (fs : List Form) (given : List Argument) (es : Codes) (t d : ℕ) → Nops k m → Nops (all_converted y fs given es t d k) m
   converts_nops fs (argument.Of s ∷ rest) (At e es) t d r = converted_nops b (form_of fs e) s t d (converts_nops fs rest es (suc t) d r)
   converts_nops fs (a ∷ rest) (Fixed n es) t d r = converts_nops fs rest es t d r
   converts_nops fs given es t d r = r
 
-  module _ {k : Instructions} {m : ℕ} where
+  module _ {k : Instructions} {m : List Instructions} where
     push_nops : (a : Argument) (e : Code) (t : ℕ) → Nops k m → Nops (one_pushed y a e t k) m
-    push_nops (argument.Of sort.Value) e t r = record { count = let h = r.count in omega (arith, h) }
-    push_nops (argument.Of sort.Number) e t r = record { count = let h = r.count in omega (arith, h) }
+    push_nops (argument.Of sort.Value) e t r = record { are = r.are }
+    push_nops (argument.Of sort.Number) e t r = record { are = r.are }
     push_nops (argument.Of sort.Array) e t r = array_nops (array_meant e) r
     push_nops a e t r = r
 
-  pushes_nops : {k : Instructions} {m : ℕ} (given : List Argument) (es : Codes) (t : ℕ) → Nops k m → Nops (all_pushed y given es t k) m
+  pushes_nops : {k : Instructions} {m : List Instructions} (given : List Argument) (es : Codes) (t : ℕ) → Nops k m → Nops (all_pushed y given es t k) m
   pushes_nops (a ∷ rest) (At e es) t r = push_nops a e t (pushes_nops rest es (suc t) r)
   pushes_nops (a ∷ rest) (Fixed n es) t r = plain _ refl (pushes_nops rest es t r)
   pushes_nops given es t r = r
 
-  module _ {k : Instructions} {m : ℕ} where
+  module _ {k : Instructions} {m : List Instructions} where
     performed_nops : (o : Operation) (es : Codes) (t d : ℕ) → Nops k m → Nops (performed y o es t d k) m
     performed_nops (Host p) es t d r = pushes_nops (arguments_of p) es t (plain _ refl (kept_nops b (can_fault p) (answer_of p) t d r))
     performed_nops (Inline a) es t d r = calculated_nops b a t d r
     performed_nops AsNumber es t d r = r
     performed_nops FieldNumber es t d r = field_nops b t d r
 
-  boxes_nops : {k : Instructions} {m : ℕ} (fs : List Form) (es : Codes) (t : ℕ) → Nops k m → Nops (all_boxed y fs es t k) m
+  boxes_nops : {k : Instructions} {m : List Instructions} (fs : List Form) (es : Codes) (t : ℕ) → Nops k m → Nops (all_boxed y fs es t k) m
   boxes_nops fs (At e es) t r = to_value_nops b (form_of fs e) t (boxes_nops fs es (suc t) r)
   boxes_nops fs es t r = r
 
-  appends_nops : {k : Instructions} {m : ℕ} (es : Codes) (t : ℕ) → Nops k m → Nops (all_appended y es t k) m
+  appends_nops : {k : Instructions} {m : List Instructions} (es : Codes) (t : ℕ) → Nops k m → Nops (all_appended y es t k) m
   appends_nops (At e es) t r = plain _ refl (plain _ refl (plain _ refl (plain _ refl (appends_nops es (suc t) r))))
   appends_nops es t r = r
 
-  module _ {k : Instructions} {m : ℕ} where
+  module _ {k : Instructions} {m : List Instructions} where
     listed_nops : (l : Listed) (count t d : ℕ) → Nops k m → Nops (listed_asked y l count t d k) m
-    listed_nops listed.Sprintf c t d r = record { count = let h = r.count in omega (arith, h) }
-    listed_nops (listed.Print to) c t d r = record { count = let h = r.count in omega (arith, h) }
-    listed_nops (listed.Printf to) c t d r = record { count = let h = r.count in omega (arith, h) }
+    listed_nops listed.Sprintf c t d r = record { are = r.are }
+    listed_nops (listed.Print to) c t d r = record { are = r.are }
+    listed_nops (listed.Printf to) c t d r = record { are = r.are }
 
-  given_nops : {k : Instructions} {m : ℕ} (fs : List Form) (ks : List Kind) (es : Codes) (t : ℕ) → Nops k m → Nops (all_given y fs ks es t k) m
+  given_nops : {k : Instructions} {m : List Instructions} (fs : List Form) (ks : List Kind) (es : Codes) (t : ℕ) → Nops k m → Nops (all_given y fs ks es t k) m
   given_nops fs (Boxed ∷ ks) (At e es) t r = to_value_nops b (form_of fs e) t (given_nops fs ks es (suc t) r)
   given_nops fs (kind ∷ ks) (At e es) t r = given_nops fs ks es (suc t) r
   given_nops fs (kind ∷ ks) (Fresh es) t r = given_nops fs ks es t r
   given_nops fs ks es t r = r
 
-  module _ {k : Instructions} {m : ℕ} where
+  module _ {k : Instructions} {m : List Instructions} where
     one_nops : (kind : Kind) (e : Code) (t : ℕ) → Nops k m → Nops (one_given y kind e t k) m
-    one_nops Boxed e t r = record { count = let h = r.count in omega (arith, h) }
-    one_nops Unboxed e t r = record { count = let h = r.count in omega (arith, h) }
+    one_nops Boxed e t r = record { are = r.are }
+    one_nops Unboxed e t r = record { are = r.are }
     one_nops Many e t r = array_nops (array_meant e) r
 
-  given_pushed_nops : {k : Instructions} {m : ℕ} (ks : List Kind) (es : Codes) (t w : ℕ) → Nops k m → Nops (all_given_pushed y ks es t w k) m
+  given_pushed_nops : {k : Instructions} {m : List Instructions} (ks : List Kind) (es : Codes) (t w : ℕ) → Nops k m → Nops (all_given_pushed y ks es t w k) m
   given_pushed_nops (kind ∷ ks) (At e es) t w r = one_nops kind e t (given_pushed_nops ks es (suc t) w r)
   given_pushed_nops (kind ∷ ks) (Fresh es) t w r = plain _ refl (plain _ refl (given_pushed_nops ks es t (suc w) r))
   given_pushed_nops ks es t w r = r
 
-  freed_nops : {k : Instructions} {m : ℕ} (w n : ℕ) → Nops k m → Nops (all_freed y w n k) m
+  freed_nops : {k : Instructions} {m : List Instructions} (w n : ℕ) → Nops k m → Nops (all_freed y w n k) m
   freed_nops w zero r = r
   freed_nops w (suc n) r = plain _ refl (plain _ refl (plain _ refl (plain _ refl (freed_nops w n r))))
 
-  module _ {k : Instructions} {m : ℕ} where
+  module _ {k : Instructions} {m : List Instructions} where
     left_nops : (e : Code) (f : Form) (t : ℕ) → Nops k m → Nops (left_over y e f t k) m
     left_nops (Set x e) f t r = r
     left_nops e f t r = unused_nops b f t r
 
-  module _ {k : Instructions} {m : ℕ} where
+  module _ {k : Instructions} {m : List Instructions} where
     text_nops : (fs : List Form) (s : Code) (t : ℕ) → Nops k m → Nops (text_let_go y fs s t k) m
-    text_nops fs s t r = left_nops s (form_of (a_value ∷ fs) s) (suc (suc t)) (record { count = let h = r.count in omega (arith, h) })
+    text_nops fs s t r = left_nops s (form_of (a_value ∷ fs) s) (suc (suc t)) (record { are = r.are })
 
-  line_nops : {k : Instructions} (p : Primitive) (t : ℕ) → Nops k 0 → Nops (text_kept y p t k) 0
+  line_nops : {k : Instructions} (p : Primitive) (t : ℕ) → Nops k [] → Nops (text_kept y p t k) []
   line_nops p t r = plain _ refl (plain _ refl r)
 
   -- Code.
@@ -271,7 +283,7 @@ module _ (y : Layout) where
   mutual
     unfolding emitted all_emitted
 
-    pub emitted_nops : {k : Instructions} {m : ℕ} (v : Bool) (fs : List Form) (ts : List ℕ) (e : Code) (t w d : ℕ) → Nops k m → Nops (emitted y v fs ts e t w d k) m
+    pub emitted_nops : {k : Instructions} {m : List Instructions} (v : Bool) (fs : List Form) (ts : List ℕ) (e : Code) (t w d : ℕ) → Nops k m → Nops (emitted y v fs ts e t w d k) m
     emitted_nops v fs ts (Do o es) t w d r = emits_nops fs ts es t w d (converts_nops fs (arguments o) es t d (performed_nops o es t d r))
     emitted_nops v fs ts (Over l es) t w d r = emits_nops fs ts es t w d (boxes_nops fs es t (appends_nops es t (listed_nops l (count_of es) t d r)))
     emitted_nops v fs ts (Compare c e f) t w d r = emitted_nops false fs ts e t w d (emitted_nops false fs ts f (suc t) w d (compared_nops b c (form_of fs e) (form_of fs f) t d r))
@@ -287,13 +299,13 @@ module _ (y : Layout) where
     emitted_nops v fs ts (Replace all es s) t w d r =
         emits_nops fs ts es t w d (converts_nops fs three_values es t d (pushes_nops three_values es t
         (plain _ refl (plain _ refl (kept_nops b true (answer.Of sort.Number) t d (plain _ refl (plain _ refl (choice none (line_nops row.SubResult t (emitted_nops true (a_value ∷ fs) (suc t ∷ ts) s (suc (suc t)) w (suc d) (text_nops fs s t none))) r))))))))
-    emitted_nops v fs ts (Number z) t w d r = record { count = let h = r.count in omega (arith, h) }
-    emitted_nops v fs ts (Text i) t w d r = record { count = let h = r.count in omega (arith, h) }
-    emitted_nops v fs ts Unset t w d r = record { count = let h = r.count in omega (arith, h) }
+    emitted_nops v fs ts (Number z) t w d r = record { are = r.are }
+    emitted_nops v fs ts (Text i) t w d r = record { are = r.are }
+    emitted_nops v fs ts Unset t w d r = record { are = r.are }
     emitted_nops v fs ts (Get x) t w d r = read_nops x t r
     emitted_nops v fs ts (Set x e) t w d r = emitted_nops false fs ts e t w d (set_nops v x (form_of fs e) t r)
     emitted_nops v fs ts (Array a) t w d r = r
-    emitted_nops v fs ts (IsOpen i) t w d r = record { count = let h = r.count in omega (arith, h) }
+    emitted_nops v fs ts (IsOpen i) t w d r = record { are = r.are }
     emitted_nops v fs ts (Choose s c e f) t w d r =
         emitted_nops false fs ts c t w d (truth_nops b (form_of fs c) t (choice
         (emitted_nops false fs ts e t w (suc d) (converted_nops b (form_of fs e) s t (suc d) none))
@@ -304,13 +316,13 @@ module _ (y : Layout) where
         (released_nops b (form_of fs e) t (moved_nops b (form_of (form_of fs e ∷ fs) f) (suc t) t r)))
     emitted_nops v fs ts (Bound z i) t w d r = bound_nops b z (form_at fs i) (get_or ts i zero) t r
 
-    emits_nops : {k : Instructions} {m : ℕ} (fs : List Form) (ts : List ℕ) (es : Codes) (t w d : ℕ) → Nops k m → Nops (all_emitted y fs ts es t w d k) m
+    emits_nops : {k : Instructions} {m : List Instructions} (fs : List Form) (ts : List ℕ) (es : Codes) (t w d : ℕ) → Nops k m → Nops (all_emitted y fs ts es t w d k) m
     emits_nops fs ts End t w d r = r
     emits_nops fs ts (At e es) t w d r = emitted_nops false fs ts e t w d (emits_nops fs ts es (suc t) w d r)
     emits_nops fs ts (Fixed n es) t w d r = emits_nops fs ts es t w d r
     emits_nops fs ts (Fresh es) t w d r = plain _ refl (plain _ refl (emits_nops fs ts es t (suc w) d r))
 
-  module _ {k : Instructions} {m : ℕ} where
+  module _ {k : Instructions} {m : List Instructions} where
     pub dropped_nops : (fs : List Form) (ts : List ℕ) (e : Code) (t w d : ℕ) → Nops k m → Nops (dropped y fs ts e t w d k) m
     dropped_nops fs ts e t w d r = emitted_nops true fs ts e t w d (left_nops e (form_of fs e) t r)
 

@@ -1,6 +1,6 @@
 -- The host's tables through a run: their numbers differ and are below 2^31, so a table is as long as there are numbers that stand for something.
-use Rattle.std.proofs.Common.{◌≡◌, ℕ, zero, suc, ◌+◌, ◌^◌, ◌<◌, ◌≤◌, Bool, true, false, not, cond, nat_eq, ℤ, pos, List, [], ◌∷◌, length, Option, Some, None, Result, Ok, Err, refl, sym, ap, ◌∙◌, subst, arith}
-use Rattle.std.proofs.lemmas.Bool.{eqb-true}
+use Rattle.std.proofs.Common.{◌≡◌, ℕ, zero, suc, ◌+◌, ◌^◌, ◌<◌, Bool, true, false, not, cond, nat_eq, ℤ, pos, List, [], ◌∷◌, length, Option, Some, None, Result, Ok, Err, refl, sym, ap, ◌∙◌, subst, arith}
+use Rattle.std.proofs.lemmas.Bool.{eqb-false, eqb-true}
 use Rattle.std.proofs.lemmas.Option.{none-some}
 use Rattle.std.specs.Cmp.{int_cmp_total, signed_Decides}
 use Rattle.std.specs.FinMap.Entries.{by_order, find-put, find-where_key}
@@ -32,7 +32,8 @@ use Rattle.host_step.specs.declared.import.Import.{Import}
 use Rattle.value_refined.specs.Owners.{there}
 use Rattle.value_refined.specs.Refined.{table_meaning}
 use Rattle.value_refined.proofs.Replying.{KeptBy, comes_keeps}
-use Rattle.value_refined.proofs.Room.{counted_once, owns_one, total, total_less, total_sum}
+use Rattle.value_refined.proofs.Room.{owns_one, total, total_none, total_sum}
+use Rattle.run_places.proofs.Totals.{one_exactly, total_same}
 
 -- each number is below a bound, and stands there once
 abbrev pub IsTable : {A : Type 0} → ℕ → Table A → Type 0
@@ -154,33 +155,33 @@ first_tables = record {
 
 -- How many numbers stand for something.
 
-there_once : {A : Type 0} → (o : Option A) → there o ≤ 1
-there_once None = omega arith
-there_once (Some x) = omega arith
-
 -- the number of the first entry is that of no other
 one_more : {A : Type 0} (e : ℤ × A) (t : Table A) (m : ℕ) → e.0 ≡ pos m → look t e.0 ≡ None → (q : ℕ) →
-    owns_one true m q + there (look t (pos q)) ≤ there (look (e ∷ t) (pos q))
+    there (look (e ∷ t) (pos q)) ≡ owns_one true m q + there (look t (pos q))
 one_more e t m number none q = by (nat_eq q m) refl
   where
-    later : (b : Bool) → there (look t (pos q)) ≤ there (cond b (Some e.1) (look t (pos q)))
-    later true = there_once (look t (pos q))
-    later false = omega arith
-
-    by : (b : Bool) → nat_eq q m ≡ b → cond {A = ℕ} b 1 0 + there (look t (pos q)) ≤ there (look (e ∷ t) (pos q))
+    by : (b : Bool) → nat_eq q m ≡ b → there (look (e ∷ t) (pos q)) ≡ cond {A = ℕ} b 1 0 + there (look t (pos q))
     by true d =
         let same : pos q ≡ e.0 = ap pos (eqb-true q m d) ∙ sym number in
         let found = ap (λ z. there (cond z (Some e.1) (look t (pos q)))) ((signed_Decides (pos q) e.0).1 same) in
         let free = ap there (ap (look t) same ∙ none) in
         omega (arith, found, free)
-    by false d = let h = later (int_eq (pos q) e.0) in omega (arith, h)
+    by false d = let x = ap (λ z. there (cond z (Some e.1) (look t (pos q)))) (other (int_eq (pos q) e.0) refl) in omega (arith, x)
+      where
+        number_in : ℤ → ℕ
+        number_in (pos n) = n
+        number_in _ = zero
+
+        other : (b : Bool) → int_eq (pos q) e.0 ≡ b → int_eq (pos q) e.0 ≡ false
+        other false f = f
+        other true f = absurd (eqb-false q m d (ap number_in ((signed_Decides (pos q) e.0).0 f ∙ number)))
 
 -- A TABLE IS as long as so many numbers stand for something
-pub length_counted : {A : Type 0} (n : ℕ) (t : Table A) → IsTable n t → length t ≤ total (λ q. there (look t (pos q))) 0 n
-length_counted n [] h = omega arith
+pub length_counted : {A : Type 0} (n : ℕ) (t : Table A) → IsTable n t → length t ≡ total (λ q. there (look t (pos q))) 0 n
+length_counted n [] h = sym (total_none (λ q. 0) 0 n (λ q l. refl))
 length_counted n (e ∷ t) h =
     let l = length_counted n t h.4 in
     let s = total_sum (owns_one true h.0) (λ q. there (look t (pos q))) 0 n in
-    let w = total_less (λ q. owns_one true h.0 q + there (look t (pos q))) (λ q. there (look (e ∷ t) (pos q))) 0 n (one_more e t h.0 h.1 h.3) in
-    let c = counted_once h.0 0 n (omega arith) (let b = h.2 in omega (arith, b)) in
+    let w = total_same (λ q. there (look (e ∷ t) (pos q))) (λ q. owns_one true h.0 q + there (look t (pos q))) 0 n (one_more e t h.0 h.1 h.3) in
+    let c = one_exactly h.0 n h.2 in
     omega (arith, l, s, w, c)

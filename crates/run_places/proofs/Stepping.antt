@@ -1,183 +1,286 @@
--- Where the `nop`s of functions stand: one for each step, and one before the test of a `do` loop.
-use Rattle.std.proofs.Common.{◌≡◌, ℕ, zero, suc, ◌+◌, Bool, true, false, List, [], ◌∷◌, length, refl, ◌∙◌, arith}
+-- Where the places of functions are: one for each step, and one for the test of a `do` loop.
+use Rattle.std.proofs.Common.{◌≡◌, ℕ, zero, suc, ◌+◌, Bool, true, false, List, [], ◌∷◌, ◌++◌, length, refl, sym, ap, ap₂, ◌∙◌, arith}
+use Rattle.std.proofs.lemmas.List.{append_assoc, append-nil, length-append}
 use Rattle.std.specs.Prelude.{if◌then◌else◌}
 use Rattle.awk_state.specs.declared.table.Primitive.TheVariants as row
-use Rattle.wasm_types.specs.Syntax.{Instructions, Done}
-use Rattle.wasm_types.specs.declared.instr.Simple.TheVariants.{Br, Nop}
+use Rattle.wasm_types.specs.Syntax.{Instruction, Plain, BrTable, Block, Loop as Again, If, Instructions, Done, Then}
+use Rattle.wasm_types.specs.declared.instr.Simple.{Simple}
+use Rattle.wasm_types.specs.declared.instr.Simple.TheVariants.{Br, BrIf, LocalSet, Nop}
 use Rattle.mid_program.specs.Mid.{Kind, Boxed, Unboxed, Many, Code, Step, Eval, Block as Steps_, If as Either, Loop, Each, Break, Continue, Next, Exit, ExitWith, Return, Mark, Steps, NoStep, Then as AndThen, Program, Routine, a_value, form_of}
-use Rattle.value_machine.specs.Boundaries.{nops_in, step_places, steps_places}
-use Rattle.value_machine.specs.Emission.{Layout}
+use Rattle.value_machine.specs.Boundaries.{is_nop, nops_in, nops_of, step_places, steps_places}
+use Rattle.value_machine.specs.Emission.{Layout, tested}
 use Rattle.value_machine.specs.Functions.{layout_of, main_bases, main_callee, routine_bases, routine_callee}
-use Rattle.value_machine.specs.Places.{Bases}
-use Rattle.value_machine.specs.Small.{does, either}
+use Rattle.value_machine.specs.Places.{Bases, answer_local}
+use Rattle.value_machine.specs.Small.{ask_row, does, either}
 use Rattle.value_machine.specs.Statements.{again, all_emptied, arrays_emptied, arrays_swept, before_parts, block, first_part, goes_on, iterator_left, iterators_emptied, iterators_swept, key_stored, left_by, main_body, names_declared, names_made, parameters_dropped, part_done, record_done, records_read, routine_body, routines_declared, started, step_emitted, steps_emitted, swept, temporaries_emptied, temporaries_swept}
-use Rattle.run_places.specs.Statements.{main_places}
+use Rattle.run_places.specs.Statements.{main_places, main_starts, routine_starts, starts_in, starts_of, step_starts, steps_starts}
 use Rattle.run_places.proofs.Nops.{Nops, array_nops, asked_nops, choice, dropped_nops, emitted_nops, kept_code_nops, kept_number_nops, none, pending_nops, plain, tested_nops, to_number_nops, to_value_nops}
 
-begun : {k : Instructions} {m j : ℕ} → Nops k m → j ≡ suc m → Nops (does Nop k) j
-begun r e = record { count = let h = r.count in omega (arith, e, h) }
+begun : {k : Instructions} {m : List Instructions} → Nops k m → Nops (does Nop k) (does Nop k ∷ m)
+begun {k = k} r = record { are = ap (λ x. does Nop k ∷ x) r.are }
 
-within : {a k : Instructions} {p m : ℕ} → Nops a p → Nops k m → Nops (block a k) (p + m)
-within a r = record { count = let x = a.count in let h = r.count in omega (arith, x, h) }
+within : {a k : Instructions} {p m : List Instructions} → Nops a p → Nops k m → Nops (block a k) (p ++ m)
+within a r = record { are = ap₂ (λ x y. x ++ y) a.are r.are }
 
-rounds : {a k : Instructions} {p m : ℕ} → Nops a p → Nops k m → Nops (again a k) (p + m)
-rounds a r = record { count = let x = a.count in let h = r.count in omega (arith, x, h) }
+rounds : {a k : Instructions} {p m : List Instructions} → Nops a p → Nops k m → Nops (again a k) (p ++ m)
+rounds a r = record { are = ap₂ (λ x y. x ++ y) a.are r.are }
 
-branches : {a c k : Instructions} {p q m : ℕ} → Nops a p → Nops c q → Nops k m → Nops (either a c k) ((p + q) + m)
-branches a c r = record { count = let x = a.count in let z = c.count in let h = r.count in omega (arith, x, z, h) }
+branches : {a c k : Instructions} {p q m : List Instructions} → Nops a p → Nops c q → Nops k m → Nops (either a c k) ((p ++ q) ++ m)
+branches {k = k} a c r = record { are = ap₂ (λ x y. x ++ y) (ap₂ (λ x y. x ++ y) a.are c.are) r.are }
 
-as_many : {k : Instructions} {m j : ℕ} → Nops k m → m ≡ j → Nops k j
-as_many r e = record { count = r.count ∙ e }
+as_listed : {k : Instructions} {m j : List Instructions} → Nops k m → m ≡ j → Nops k j
+as_listed r e = record { are = r.are ∙ e }
+
+-- nothing comes after
+alone : {k : Instructions} {m : List Instructions} → Nops k (m ++ []) → Nops k m
+alone {m = m} r = as_listed r (append-nil m)
 
 module _ (y : Layout) where
   abbrev b : Bases
   b = y.bases
 
-  module _ {k : Instructions} {m : ℕ} where
+  module _ {k : Instructions} {m : List Instructions} where
     key_nops : (u : ℕ) (e : Code) (d : ℕ) → Nops k m → Nops (key_stored y u e d k) m
     key_nops u e d r =
         plain _ refl (plain _ refl (plain _ refl (plain _ refl (plain _ refl (plain _ refl (plain _ refl
-        (dropped_nops y (a_value ∷ []) (zero ∷ []) e 1 zero d (record { count = let h = r.count in omega (arith, h) }))))))))
+        (dropped_nops y (a_value ∷ []) (zero ∷ []) e 1 zero d (record { are = r.are }))))))))
 
     iterator_nops : (u : ℕ) → Nops k m → Nops (iterator_left y u k) m
-    iterator_nops u r = record { count = let h = r.count in omega (arith, h) }
+    iterator_nops u r = record { are = r.are }
 
     left_by_nops : (way d : ℕ) → Nops k m → Nops (left_by way d k) m
-    left_by_nops way d r = record { count = let h = r.count in omega (arith, h) }
+    left_by_nops way d r = record { are = r.are }
 
   mutual
     unfolding step_emitted steps_emitted
 
-    step_nops : {k : Instructions} {m : ℕ} (s : Step) (u d bk ct : ℕ) → Nops k m → Nops (step_emitted y s u d bk ct k) (step_places s + m)
-    step_nops (Eval e) u d bk ct r = begun (dropped_nops y [] [] e zero zero d r) (omega arith)
-    step_nops (Steps_ ss) u d bk ct r = begun (steps_nops ss u d bk ct r) (omega arith)
+    step_nops : {k : Instructions} {m : List Instructions} (s : Step) (u d bk ct : ℕ) → Nops k m → Nops (step_emitted y s u d bk ct k) (step_starts y s u d bk ct k ++ m)
+    step_nops (Eval e) u d bk ct r = begun (dropped_nops y [] [] e zero zero d r)
+    step_nops (Steps_ ss) u d bk ct r = begun (steps_nops ss u d bk ct r)
     step_nops (Either e a c) u d bk ct r =
-        begun (tested_nops y [] [] e zero zero d (branches (step_nops a u (suc d) (suc bk) (suc ct) none) (step_nops c u (suc d) (suc bk) (suc ct) none) r)) (omega arith)
+        begun (tested_nops y [] [] e zero zero d (branches (alone (step_nops a u (suc d) (suc bk) (suc ct) none)) (alone (step_nops c u (suc d) (suc bk) (suc ct) none)) r))
     step_nops (Loop true e a c) u d bk ct r =
-        begun (within (rounds (tested_nops y [] [] e zero zero (suc (suc d)) (plain _ refl (plain _ refl
-        (within (step_nops a u (suc (suc (suc d))) 2 zero none) (step_nops c u (suc (suc d)) 1 zero (plain _ refl none)))))) none) r) (omega arith)
+        begun (within (alone (rounds (tested_nops y [] [] e zero zero (suc (suc d)) (plain _ refl (plain _ refl
+        (within (alone (step_nops a u (suc (suc (suc d))) 2 zero none)) (alone (step_nops c u (suc (suc d)) 1 zero (plain _ refl none))))))) none)) r)
     step_nops (Loop false e a c) u d bk ct r =
-        begun (within (rounds (within (step_nops a u (suc (suc (suc d))) 2 zero none)
-        (step_nops c u (suc (suc d)) 1 zero (begun (tested_nops y [] [] e zero zero (suc (suc d)) (plain _ refl none)) refl))) none) r) (omega arith)
+        begun (within (alone (rounds (within (alone (step_nops a u (suc (suc (suc d))) 2 zero none))
+        (step_nops c u (suc (suc d)) 1 zero (begun (tested_nops y [] [] e zero zero (suc (suc d)) (plain _ refl none))))) none)) r)
     step_nops (Each a e s) u d bk ct r =
-        begun (array_nops y a (plain _ refl (plain _ refl (within (rounds (key_nops u e (suc (suc d))
-        (within (step_nops s (suc u) (suc (suc (suc d))) 2 zero none) (plain _ refl none))) none) (iterator_nops u r))))) (omega arith)
-    step_nops Break u d bk ct r = begun (plain _ refl r) (omega arith)
-    step_nops Continue u d bk ct r = begun (plain _ refl r) (omega arith)
-    step_nops Next u d bk ct r = begun (left_by_nops _ d r) (omega arith)
-    step_nops Exit u d bk ct r = begun (left_by_nops _ d r) (omega arith)
+        begun (array_nops y a (plain _ refl (plain _ refl (within (alone (rounds (key_nops u e (suc (suc d))
+        (alone (within (alone (step_nops s (suc u) (suc (suc (suc d))) 2 zero none)) (plain _ refl none)))) none)) (iterator_nops u r)))))
+    step_nops Break u d bk ct r = begun (plain _ refl r)
+    step_nops Continue u d bk ct r = begun (plain _ refl r)
+    step_nops Next u d bk ct r = begun (left_by_nops _ d r)
+    step_nops Exit u d bk ct r = begun (left_by_nops _ d r)
     step_nops (ExitWith e) u d bk ct r =
-        begun (emitted_nops y false [] [] e zero zero d (to_number_nops b (form_of [] e) zero d (plain _ refl (plain _ refl (left_by_nops _ d r))))) (omega arith)
+        begun (emitted_nops y false [] [] e zero zero d (to_number_nops b (form_of [] e) zero d (plain _ refl (plain _ refl (left_by_nops _ d r)))))
     step_nops (Return e) u d bk ct r =
-        begun (emitted_nops y false [] [] e zero zero d (to_value_nops b (form_of [] e) zero (plain _ refl (plain _ refl (plain _ refl (plain _ refl (plain _ refl r))))))) (omega arith)
-    step_nops (Mark i c) u d bk ct r = begun (plain _ refl (plain _ refl r)) (omega arith)
+        begun (emitted_nops y false [] [] e zero zero d (to_value_nops b (form_of [] e) zero (plain _ refl (plain _ refl (plain _ refl (plain _ refl (plain _ refl r)))))))
+    step_nops (Mark i c) u d bk ct r = begun (plain _ refl (plain _ refl r))
 
-    pub steps_nops : {k : Instructions} {m : ℕ} (ss : Steps) (u d bk ct : ℕ) → Nops k m → Nops (steps_emitted y ss u d bk ct k) (steps_places ss + m)
-    steps_nops NoStep u d bk ct r = as_many r (omega arith)
-    steps_nops (AndThen s ss) u d bk ct r = as_many (step_nops s u d bk ct (steps_nops ss u d bk ct r)) (omega arith)
+    pub steps_nops : {k : Instructions} {m : List Instructions} (ss : Steps) (u d bk ct : ℕ) → Nops k m → Nops (steps_emitted y ss u d bk ct k) (steps_starts y ss u d bk ct k ++ m)
+    steps_nops NoStep u d bk ct r = r
+    steps_nops {k = k} {m = m} (AndThen s ss) u d bk ct r =
+        as_listed (step_nops s u d bk ct (steps_nops ss u d bk ct r)) (sym (append_assoc (step_starts y s u d bk ct (steps_emitted y ss u d bk ct k)) (steps_starts y ss u d bk ct k) m))
 
   -- Functions.
 
-  temporaries_nops : {k : Instructions} {m : ℕ} (t n : ℕ) → Nops k m → Nops (temporaries_emptied y t n k) m
+  temporaries_nops : {k : Instructions} {m : List Instructions} (t n : ℕ) → Nops k m → Nops (temporaries_emptied y t n k) m
   temporaries_nops t zero r = r
   temporaries_nops t (suc n) r = plain _ refl (plain _ refl (temporaries_nops (suc t) n r))
 
-  iterators_nops : {k : Instructions} {m : ℕ} (t n : ℕ) → Nops k m → Nops (iterators_emptied y t n k) m
+  iterators_nops : {k : Instructions} {m : List Instructions} (t n : ℕ) → Nops k m → Nops (iterators_emptied y t n k) m
   iterators_nops t zero r = r
   iterators_nops t (suc n) r = plain _ refl (plain _ refl (iterators_nops (suc t) n r))
 
-  arrays_nops : {k : Instructions} {m : ℕ} (t n : ℕ) → Nops k m → Nops (arrays_emptied y t n k) m
+  arrays_nops : {k : Instructions} {m : List Instructions} (t n : ℕ) → Nops k m → Nops (arrays_emptied y t n k) m
   arrays_nops t zero r = r
   arrays_nops t (suc n) r = plain _ refl (plain _ refl (arrays_nops (suc t) n r))
 
-  emptied_nops : {k : Instructions} {m : ℕ} → Nops k m → Nops (all_emptied y k) m
+  emptied_nops : {k : Instructions} {m : List Instructions} → Nops k m → Nops (all_emptied y k) m
   emptied_nops r = plain _ refl (plain _ refl (temporaries_nops zero b.temporaries (iterators_nops zero b.iterators (arrays_nops zero b.arrays r))))
 
-  temporaries_let_go : {k : Instructions} {m : ℕ} (t n : ℕ) → Nops k m → Nops (temporaries_swept y t n k) m
+  temporaries_let_go : {k : Instructions} {m : List Instructions} (t n : ℕ) → Nops k m → Nops (temporaries_swept y t n k) m
   temporaries_let_go t zero r = r
-  temporaries_let_go t (suc n) r = record { count = let h = (temporaries_let_go (suc t) n r).count in omega (arith, h) }
+  temporaries_let_go t (suc n) r = record { are = (temporaries_let_go (suc t) n r).are }
 
-  iterators_let_go : {k : Instructions} {m : ℕ} (t n : ℕ) → Nops k m → Nops (iterators_swept y t n k) m
+  iterators_let_go : {k : Instructions} {m : List Instructions} (t n : ℕ) → Nops k m → Nops (iterators_swept y t n k) m
   iterators_let_go t zero r = r
-  iterators_let_go t (suc n) r = record { count = let h = (iterators_let_go (suc t) n r).count in omega (arith, h) }
+  iterators_let_go t (suc n) r = record { are = (iterators_let_go (suc t) n r).are }
 
-  arrays_let_go : {k : Instructions} {m : ℕ} (t n : ℕ) → Nops k m → Nops (arrays_swept y t n k) m
+  arrays_let_go : {k : Instructions} {m : List Instructions} (t n : ℕ) → Nops k m → Nops (arrays_swept y t n k) m
   arrays_let_go t zero r = r
-  arrays_let_go t (suc n) r = record { count = let h = (arrays_let_go (suc t) n r).count in omega (arith, h) }
+  arrays_let_go t (suc n) r = record { are = (arrays_let_go (suc t) n r).are }
 
-  swept_nops : {k : Instructions} {m : ℕ} → Nops k m → Nops (swept y k) m
+  swept_nops : {k : Instructions} {m : List Instructions} → Nops k m → Nops (swept y k) m
   swept_nops r = temporaries_let_go zero b.temporaries (iterators_let_go zero b.iterators (arrays_let_go zero b.arrays r))
 
-  parameters_nops : {k : Instructions} {m : ℕ} (x : ℕ) (ks : List Kind) → Nops k m → Nops (parameters_dropped y x ks k) m
+  parameters_nops : {k : Instructions} {m : List Instructions} (x : ℕ) (ks : List Kind) → Nops k m → Nops (parameters_dropped y x ks k) m
   parameters_nops x [] r = r
   parameters_nops x (Boxed ∷ ks) r = plain _ refl (plain _ refl (parameters_nops (suc x) ks r))
   parameters_nops x (Unboxed ∷ ks) r = parameters_nops (suc x) ks r
   parameters_nops x (Many ∷ ks) r = parameters_nops (suc x) ks r
 
-  routine_nops : (ks : List Kind) (body : Steps) → Nops (routine_body y ks body) (steps_places body)
+  routine_nops : (ks : List Kind) (body : Steps) → Nops (routine_body y ks body) (steps_starts y body zero zero zero zero (ask_row row.Uninit (does (LocalSet (answer_local b)) Done)))
   routine_nops ks body =
-      as_many (emptied_nops (within (steps_nops body zero zero zero zero (plain _ refl (plain _ refl none))) (swept_nops (parameters_nops zero ks (plain _ refl none))))) (omega arith)
+      emptied_nops (alone (within (alone (steps_nops body zero zero zero zero (plain _ refl (plain _ refl none)))) (swept_nops (parameters_nops zero ks (plain _ refl none)))))
 
   -- `main`.
 
-  declared_nops : {k : Instructions} {m : ℕ} (i : ℕ) (ks : List Kind) → Nops k m → Nops (names_declared y i ks k) m
+  declared_nops : {k : Instructions} {m : List Instructions} (i : ℕ) (ks : List Kind) → Nops k m → Nops (names_declared y i ks k) m
   declared_nops i [] r = r
   declared_nops i (kind ∷ ks) r = plain _ refl (plain _ refl (plain _ refl (plain _ refl (declared_nops (suc i) ks r))))
 
-  routines_nops : {k : Instructions} {m : ℕ} (i n : ℕ) → Nops k m → Nops (routines_declared y i n k) m
+  routines_nops : {k : Instructions} {m : List Instructions} (i n : ℕ) → Nops k m → Nops (routines_declared y i n k) m
   routines_nops i zero r = r
   routines_nops i (suc n) r = plain _ refl (plain _ refl (plain _ refl (plain _ refl (routines_nops (suc i) n r))))
 
-  made_nops : {k : Instructions} {m : ℕ} (i : ℕ) (ks : List Kind) → Nops k m → Nops (names_made y i ks k) m
+  made_nops : {k : Instructions} {m : List Instructions} (i : ℕ) (ks : List Kind) → Nops k m → Nops (names_made y i ks k) m
   made_nops i [] r = r
   made_nops i (Boxed ∷ ks) r = plain _ refl (plain _ refl (made_nops (suc i) ks r))
   made_nops i (Unboxed ∷ ks) r = made_nops (suc i) ks r
   made_nops i (Many ∷ ks) r = plain _ refl (plain _ refl (made_nops (suc i) ks r))
 
-  module _ {k : Instructions} {m : ℕ} where
+  module _ {k : Instructions} {m : List Instructions} where
     started_nops : Nops k m → Nops (started y k) m
     started_nops r = plain _ refl (plain _ refl (plain _ refl (kept_number_nops b true zero zero r)))
 
     goes_nops : Nops k m → Nops (goes_on y k) m
     goes_nops r = plain _ refl (plain _ refl (swept_nops r))
 
-  module _ {k : Instructions} {m : ℕ} where
-    record_nops : (items : Steps) (d : ℕ) → Nops k m → Nops (record_done y items d k) (steps_places items + m)
+  module _ {k : Instructions} {m : List Instructions} where
+    record_nops : (items : Steps) (d : ℕ) → Nops k m → Nops (record_done y items d k) (steps_starts y items zero zero zero zero (does (Br 1) Done) ++ m)
     record_nops items d r =
-        as_many (within (within (steps_nops items zero zero zero zero (plain _ refl none)) (plain _ refl (plain _ refl (plain _ refl (plain _ refl (goes_nops none)))))) r) (omega arith)
+        within (alone (within (alone (steps_nops items zero zero zero zero (plain _ refl none))) (plain _ refl (plain _ refl (plain _ refl (plain _ refl (goes_nops none))))))) r
 
-    part_nops : {a : Instructions} {q : ℕ} (d : ℕ) → Nops a q → Nops k m → Nops (part_done y a d k) (q + m)
+    part_nops : {a : Instructions} {q : List Instructions} (d : ℕ) → Nops a q → Nops k m → Nops (part_done y a d k) (q ++ m)
     part_nops d a r =
-        as_many (within (within a (plain _ refl (plain _ refl (plain _ refl (plain _ refl (plain _ refl (plain _ refl
-        (choice (plain _ refl (plain _ refl (plain _ refl none))) none (goes_nops none))))))))) r) (omega arith)
+        within (alone (within a (plain _ refl (plain _ refl (plain _ refl (plain _ refl (plain _ refl (plain _ refl
+        (choice (plain _ refl (plain _ refl (plain _ refl none))) none (goes_nops none)))))))))) r
 
-  module _ {k : Instructions} {m : ℕ} where
-    records_nops : (items : Steps) (d : ℕ) → Nops k m → Nops (records_read y items d k) (steps_places items + m)
+  module _ {k : Instructions} {m : List Instructions} where
+    records_nops : (items : Steps) (d : ℕ) → Nops k m → Nops (records_read y items d k) (steps_starts y items zero zero zero zero (does (Br 1) Done) ++ m)
     records_nops items d r =
-        as_many (rounds (plain _ refl (kept_code_nops b true zero (suc d) (plain _ refl (plain _ refl (plain _ refl
-        (branches (record_nops items (suc (suc d)) (plain _ refl none)) none (plain _ refl (plain _ refl (plain _ refl
-        (choice (pending_nops y zero (plain _ refl none)) none none)))))))))) r) (omega arith)
+        rounds (plain _ refl (kept_code_nops b true zero (suc d) (plain _ refl (plain _ refl (plain _ refl
+        (alone (alone (branches (alone (record_nops items (suc (suc d)) (plain _ refl none))) none (plain _ refl (plain _ refl (plain _ refl
+        (choice (pending_nops y zero (plain _ refl none)) none none)))))))))))) r
 
     before_nops : (p : Program) → Nops k m → Nops (before_parts y p k) m
     before_nops p r =
         started_nops (declared_nops (length p.texts) y.names (routines_nops (length p.texts + length p.globals) (length p.routines)
         (made_nops zero y.names (asked_nops y row.StartAssign zero zero r))))
 
-  first_nops : (p : Program) → Nops (first_part y p) (steps_places p.begin + (if p.reads then steps_places p.items else 0))
+  abbrev out : Instructions
+  out = does (Br 1) Done
+
+  first_nops : (p : Program) →
+      Nops (first_part y p) (steps_starts y p.begin zero zero zero zero (if p.reads then records_read y p.items zero out else out) ++ (if p.reads then steps_starts y p.items zero zero zero zero out else []))
   first_nops p = steps_nops p.begin zero zero zero zero (by p.reads)
     where
-      by : (z : Bool) → Nops (if z then records_read y p.items zero (does (Br 1) Done) else does (Br 1) Done) (if z then steps_places p.items else 0)
-      by true = as_many (records_nops p.items zero (plain _ refl none)) (omega arith)
+      by : (z : Bool) → Nops (if z then records_read y p.items zero out else out) (if z then steps_starts y p.items zero zero zero zero out else [])
+      by true = alone (records_nops p.items zero (plain _ refl none))
       by false = plain _ refl none
 
-  main_nops : (p : Program) → Nops (main_body y p) (main_places p)
+  main_nops : (p : Program) → Nops (main_body y p)
+      ((steps_starts y p.begin zero zero zero zero (if p.reads then records_read y p.items zero out else out) ++ (if p.reads then steps_starts y p.items zero zero zero zero out else [])) ++ steps_starts y p.end zero zero zero zero out)
   main_nops p =
-      as_many (emptied_nops (within (before_nops p (part_nops zero (first_nops p) (plain _ refl (part_nops zero (steps_nops p.end zero zero zero zero (plain _ refl none)) none))))
-      (swept_nops (plain _ refl (plain _ refl none))))) (omega arith)
+      emptied_nops (alone (within (before_nops p (part_nops zero (first_nops p) (plain _ refl (alone (part_nops zero (alone (steps_nops p.end zero zero zero zero (plain _ refl none))) none)))))
+      (swept_nops (plain _ refl (plain _ refl none)))))
 
 -- EACH STEP has its place
+pub routine_has_starts : (p : Program) (r : Routine) → starts_in (routine_callee p r).body ≡ routine_starts p r
+routine_has_starts p r = (routine_nops (layout_of p (routine_bases r)) r.parameters r.body).are
+
+pub main_has_starts : (p : Program) → starts_in (main_callee p).body ≡ main_starts p
+main_has_starts p = (main_nops (layout_of p (main_bases p)) p).are
+
+-- How many there are.
+
+mutual
+  nops_counted : (k : Instructions) → length (starts_in k) ≡ nops_in k
+  nops_counted Done = refl
+  nops_counted (Then i k) = let x = length-append (starts_of i k) (starts_in k) in let a = nop_counted i k in let r = nops_counted k in omega (arith, x, a, r)
+
+  nop_counted : (i : Instruction) (k : Instructions) → length (starts_of i k) ≡ nops_of i
+  nop_counted (Plain p) k = by p
+    where
+      by : (p : Simple) → length (starts_of (Plain p) k) ≡ is_nop p
+      by Nop = refl
+      by p = refl
+  nop_counted (BrTable ds d) k = refl
+  nop_counted (Block r a) k = nops_counted a
+  nop_counted (Again r a) k = nops_counted a
+  nop_counted (If r a c) k = let x = length-append (starts_in a) (starts_in c) in let l = nops_counted a in let m = nops_counted c in omega (arith, x, l, m)
+
+module _ (y : Layout) where
+  mutual
+    step_counted : (s : Step) (u d bk ct : ℕ) (k : Instructions) → length (step_starts y s u d bk ct k) ≡ step_places s
+    step_counted (Steps_ ss) u d bk ct k = let r = steps_counted ss u d bk ct k in omega (arith, r)
+    step_counted (Either e a c) u d bk ct k =
+        let x = length-append (step_starts y a u (suc d) (suc bk) (suc ct) Done) (step_starts y c u (suc d) (suc bk) (suc ct) Done) in
+        let l = step_counted a u (suc d) (suc bk) (suc ct) Done in
+        let m = step_counted c u (suc d) (suc bk) (suc ct) Done in
+        omega (arith, x, l, m)
+    step_counted (Loop true e a c) u d bk ct k =
+        let after = does (Br zero) Done in
+        let x = length-append (step_starts y a u (suc (suc (suc d))) 2 zero Done) (step_starts y c u (suc (suc d)) 1 zero after) in
+        let l = step_counted a u (suc (suc (suc d))) 2 zero Done in
+        let m = step_counted c u (suc (suc d)) 1 zero after in
+        omega (arith, x, l, m)
+    step_counted (Loop false e a c) u d bk ct k =
+        let test = does Nop (tested y [] [] e zero zero (suc (suc d)) (does (BrIf zero) Done)) in
+        let x = length-append (step_starts y a u (suc (suc (suc d))) 2 zero Done) (step_starts y c u (suc (suc d)) 1 zero test ++ (test ∷ [])) in
+        let z = length-append (step_starts y c u (suc (suc d)) 1 zero test) (test ∷ []) in
+        let l = step_counted a u (suc (suc (suc d))) 2 zero Done in
+        let m = step_counted c u (suc (suc d)) 1 zero test in
+        omega (arith, x, z, l, m)
+    step_counted (Each a e s) u d bk ct k = let r = step_counted s (suc u) (suc (suc (suc d))) 2 zero Done in omega (arith, r)
+    step_counted (Eval e) u d bk ct k = refl
+    step_counted Break u d bk ct k = refl
+    step_counted Continue u d bk ct k = refl
+    step_counted Next u d bk ct k = refl
+    step_counted Exit u d bk ct k = refl
+    step_counted (ExitWith e) u d bk ct k = refl
+    step_counted (Return e) u d bk ct k = refl
+    step_counted (Mark i c) u d bk ct k = refl
+
+    steps_counted : (ss : Steps) (u d bk ct : ℕ) (k : Instructions) → length (steps_starts y ss u d bk ct k) ≡ steps_places ss
+    steps_counted NoStep u d bk ct k = refl
+    steps_counted (AndThen s ss) u d bk ct k =
+        let rest = steps_emitted y ss u d bk ct k in
+        let x = length-append (step_starts y s u d bk ct rest) (steps_starts y ss u d bk ct k) in
+        let l = step_counted s u d bk ct rest in
+        let m = steps_counted ss u d bk ct k in
+        omega (arith, x, l, m)
+
 pub routine_places : (p : Program) (r : Routine) → nops_in (routine_callee p r).body ≡ steps_places r.body
-routine_places p r = (routine_nops (layout_of p (routine_bases r)) r.parameters r.body).count
+routine_places p r =
+    sym (nops_counted (routine_callee p r).body) ∙ (ap (λ (xs : List Instructions). length xs) (routine_has_starts p r)
+    ∙ steps_counted (layout_of p (routine_bases r)) r.body zero zero zero zero (ask_row row.Uninit (does (LocalSet (answer_local (routine_bases r))) Done)))
 
 pub main_has_places : (p : Program) → nops_in (main_callee p).body ≡ main_places p
-main_has_places p = (main_nops (layout_of p (main_bases p)) p).count
+main_has_places p =
+    sym (nops_counted (main_callee p).body) ∙ (ap (λ (xs : List Instructions). length xs) (main_has_starts p) ∙ by p.reads)
+  where
+    y : Layout
+    y = layout_of p (main_bases p)
+
+    after : Instructions
+    after = does (Br 1) Done
+
+    by : (z : Bool) → length ((steps_starts y p.begin zero zero zero zero (if p.reads then records_read y p.items zero after else after) ++ (if z then steps_starts y p.items zero zero zero zero after else [])) ++ steps_starts y p.end zero zero zero zero after)
+        ≡ (steps_places p.begin + (if z then steps_places p.items else 0)) + steps_places p.end
+    by z =
+        let first = steps_starts y p.begin zero zero zero zero (if p.reads then records_read y p.items zero after else after) in
+        let last = steps_starts y p.end zero zero zero zero after in
+        let middle = if z then steps_starts y p.items zero zero zero zero after else [] in
+        let a = length-append (first ++ middle) last in
+        let c = length-append first middle in
+        let l = steps_counted y p.begin zero zero zero zero (if p.reads then records_read y p.items zero after else after) in
+        let m = of z in
+        let r = steps_counted y p.end zero zero zero zero after in
+        omega (arith, a, c, l, m, r)
+      where
+        of : (z : Bool) → length (if z then steps_starts y p.items zero zero zero zero after else []) ≡ (if z then steps_places p.items else 0)
+        of true = steps_counted y p.items zero zero zero zero after
+        of false = refl

@@ -1,13 +1,17 @@
 -- Rows: sizes of code, and what places hold.
-use Rattle.std.specs.Prelude.{◌≡◌, true, false, List, [], ◌∷◌, Option, Some, None, refl}
+use Rattle.std.specs.Prelude.{◌≡◌, true, false, ℕ, List, [], ◌∷◌, Option, Some, None, refl}
 use Rattle.awk_state.specs.declared.sorts.Sort.{Sort}
 use Rattle.awk_state.specs.declared.sorts.Sort.TheVariants as sort
-use Rattle.wasm_types.specs.Syntax.{Block, Done, If, Instructions, Loop, Plain, Then}
-use Rattle.wasm_types.specs.declared.instr.Simple.TheVariants.{I32Const, LocalSet, Nop}
+use Rattle.awk_state.specs.declared.table.Primitive.TheVariants as row
+use Rattle.wasm_types.specs.Syntax.{Done, If, Instructions, Loop, Plain, Then}
+use Rattle.wasm_types.specs.declared.instr.Simple.TheVariants.{Call, I32Const, LocalGet, LocalSet, LocalTee, Nop}
 use Rattle.wasm_store.specs.declared.word.Word.{Word}
 use Rattle.wasm_store.specs.declared.word.Word.TheVariants.{I32, I64}
+use Rattle.wasm_machine.specs.Frames.{LabelForm}
 use Rattle.mid_program.specs.Mid.{Kind, Boxed, Unboxed, Many}
-use Rattle.run_places.specs.Kept.{arrays, begins_statement, boxed, holders, scalars}
+use Rattle.value_machine.specs.Imports.{import_number}
+use Rattle.value_machine.specs.declared.import.Import.TheVariants.{Of}
+use Rattle.run_places.specs.Kept.{arrays, begins_statement, boxed, holders, is_keys, scalars, walks}
 use Rattle.run_places.specs.Places.{size}
 
 -- a statement in a loop, after a choice
@@ -45,3 +49,26 @@ kinds = Boxed ∷ (Many ∷ (Unboxed ∷ (Boxed ∷ [])))
 
 pub names_counted : scalars kinds ∷ (arrays kinds ∷ (boxed kinds ∷ [])) ≡ 3 ∷ (1 ∷ (2 ∷ []))
 names_counted = refl
+
+-- A loop over keys begins with the call for its next key. In this module that import is the second one.
+
+abbrev numbers : List ℕ
+numbers = 0 ∷ (import_number (Of row.IterNext) ∷ [])
+
+abbrev next_key : ℕ → Option Instructions
+next_key n = Some (Then (Plain (LocalGet 3)) (Then (Plain (LocalTee 3)) (Then (Plain (Call n)) Done)))
+
+pub loop_over_keys : is_keys numbers (next_key 1) ≡ true
+loop_over_keys = refl
+
+pub other_import : is_keys numbers (next_key 0) ≡ false
+other_import = refl
+
+pub loop_with_a_test : is_keys numbers (Some (Then (Plain Nop) Done)) ≡ false
+loop_with_a_test = refl
+
+abbrev label : Option Instructions → LabelForm
+label again = record { under = []; gives = None; again = again; rest = Done }
+
+pub one_walk : walks numbers (label None ∷ (label (next_key 1) ∷ (label (Some Done) ∷ []))) ≡ 1
+one_walk = refl

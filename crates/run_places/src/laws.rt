@@ -21,7 +21,7 @@ ghost use Rattle.world_core.specs.WorldState.{Outside, Source};
 ghost use Rattle.run_places.specs.Existence.{HasRuns};
 ghost use Rattle.run_places.specs.Kept.{AtReturn, AtStatement, Reached, begins_statement};
 ghost use Rattle.run_places.specs.Places.{IsSmall};
-ghost use Rattle.run_places.specs.Statements.{main_places};
+ghost use Rattle.run_places.specs.Statements.{main_places, main_starts, routine_starts, starts_in};
 
 /// The module of a well-sorted program has a run of each number of steps, or a shorter one that ends, in every job and whatever the outside is, where its
 /// functions have few locals and not too much code: the host never lacks a free number. So it is where the module has bytes, and no function has more
@@ -48,8 +48,10 @@ pub fn few_parameters()
 {}
 
 /// Each step of a program has a place of its own, the `nop` that begins its code, and a function's code has no other `nop`, but one before the test of a
-/// `do` loop.
+/// `do` loop. So what begins with a `nop` in a function's code is the code of its steps, one after another.
 pub fn statements_have_places()
+    ensures starts { (p : Program) (r : Routine) → starts_in (routine_callee p r).body ≡ routine_starts p r }
+    ensures main_starts { (p : Program) → starts_in (main_callee p).body ≡ main_starts p }
     ensures routines { (p : Program) (r : Routine) → nops_in (routine_callee p r).body ≡ steps_places r.body }
     ensures main { (p : Program) → nops_in (main_callee p).body ≡ main_places p }
 {}

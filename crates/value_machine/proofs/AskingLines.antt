@@ -12,7 +12,7 @@ use Rattle.mid_program.specs.ScriptState.{give, asks}
 use Rattle.mid_program.specs.Sorted.{sorted, all_sorted, held_after, keeps_well, is_dropped, stores_well}
 use Rattle.mid_program.specs.Steps.{input_number}
 use Rattle.value_machine.specs.Emission.{emitted, all_emitted, text_kept, text_let_go}
-use Rattle.value_machine.specs.Machine.{Frame}
+use Rattle.value_machine.specs.Machine.{Frame, loops_walked}
 use Rattle.value_machine.specs.Places.{Bases}
 use Rattle.value_machine.specs.Small.{number_is, when, code_number}
 use Rattle.value_machine.specs.Small
@@ -24,7 +24,7 @@ use Rattle.value_machine.proofs.Arguments.{under_same, under_keeps}
 use Rattle.value_machine.proofs.Choosing.{well_right}
 use Rattle.value_machine.proofs.Asking.{assign_work, Asked, asked_ok, asks_record, asks_line}
 use Rattle.value_machine.proofs.Receiving.{same_any, Received, storing_meant, received_ok}
-use Rattle.value_machine.proofs.Simulation.{work_of, layout, context, Done, ExprOk}
+use Rattle.value_machine.proofs.Simulation.{work_of, layout, context, Done, ExprOk, walking_same}
 
 module _ (p : Program) (deepest : ℕ) (ks : List Kind) (F : List Frame) (b : Bases) (M n : ℕ) where
   pub ask_expr : assign_work p deepest ks F b M n ≤ M → ExprOk p deepest ks F b M n Ask
@@ -99,5 +99,6 @@ module _ (p : Program) (deepest : ℕ) (ks : List Kind) (F : List Frame) (b : Ba
         turns = omega (arith, le, rd.turns);
         parameters = rd.parameters;
         plain = rd.plain;
+        walking = walking_same p deepest ks F b M n (loops_walked K) u l g.next (λ x. g.same.iterators x) rd.walking;
       })
       g.holds g.line))))

@@ -18,7 +18,7 @@ use Rattle.mid_program.specs.ScriptState.{State, Stop, Faulted, OutOfTurns, TooD
 use Rattle.mid_program.specs.Sorted.{sorted, all_sorted, held_after_all, fits, is_given, fit_call, is_array_place, context_of, calls_of}
 use Rattle.value_machine.specs.Cells.{Cell, Bits, Held, OwnedArray, LentArray, Gone, is_owned, has_owner}
 use Rattle.value_machine.specs.Emission.{array_meant, emitted, all_emitted, all_given, all_given_pushed, all_freed, function_number}
-use Rattle.value_machine.specs.Machine.{Conf, Deep, Label, Frame, at, br, owner_waits}
+use Rattle.value_machine.specs.Machine.{Conf, Deep, Label, Frame, at, br, owner_waits, loops_walked, waits}
 use Rattle.value_machine.specs.Places.{Bases, made_in, arrays_among as arrays_in_codes}
 use Rattle.value_machine.specs.Small.{does, kept_value, h}
 use Rattle.value_machine.proofs.Runs.{Goes, then_goes, goes_to, goes_from, stays, Arrives, Onward, reaches_on, first, then_on, then_step, within}
@@ -34,7 +34,8 @@ use Rattle.value_machine.proofs.Converting.{Converted, converted_ok}
 use Rattle.value_machine.proofs.Setting.{number_of_form, number_boxed, number_held}
 use Rattle.value_machine.proofs.Arguments.{Under, under_self, under_then, under_keeps, onto_reverse}
 use Rattle.value_machine.proofs.Operands.{all_held_same}
-use Rattle.value_machine.proofs.Simulation.{work_of, works_of, extra_of, past, made_past, past_from, made_from, past_room, layout, context, all_meant, Done, ExprOk, AllHeld, AllDone, CodesOk}
+use Rattle.value_machine.proofs.Simulation.{work_of, works_of, extra_of, past, made_past, past_from, made_from, past_room, layout, context, all_meant, Done, ExprOk, AllHeld, AllDone, CodesOk, walking_same}
+use Rattle.value_machine.proofs.Waiting.{waits_there}
 
 -- what an unboxed parameter is given is a number, or nothing yet
 unboxed_given : (f : Form) (x : Holds f) (t : ℕ) (l : Locals) → is_given f Unboxed ≡ true → HoldsAt f t l x → (l.hand t ≡ empty) × (l.number t ≡ Bits (I64 (bare (boxed f x)))) × (beside (boxed f x) ≡ empty)
@@ -340,7 +341,7 @@ module _ (p : Program) (deepest : ℕ) (ks : List Kind) (F : List Frame) (b : Ba
 
   -- each call of a function does what it means
   abbrev pub CallsDo : Type 0
-  CallsDo = (f : ℕ) (own : List Local) (words : List Cell) (K : List Label) (L : List Cell) (rest : Instructions) (σ : State) → f < length p.routines →
+  CallsDo = (f : ℕ) (own : List Local) (words : List Cell) (K : List Label) (L : List Cell) (rest : Instructions) (σ : State) → f < length p.routines → waits ks K L rest ≡ true →
       GivenTo (parameters_at (calls_of p) f) (waiting K L rest ∷ F) (parameters_at (calls_of p) f) own words → Sound p deepest ks F σ → σ.turns ≤ n →
       Arrives (machine p deepest ks F) M 20 σ.turns (at ks (reverse words ++ []) K L F (does (CallOf (function_number f)) rest) (beside_state p deepest ks F σ)) (CameBack K L rest σ) (LeftCall K L rest) (go_on (spent σ.turns σ) (λ x. mid_called p n f own))
 
@@ -475,4 +476,4 @@ module _ (p : Program) (deepest : ℕ) (ks : List Kind) (F : List Frame) (b : Ba
       })
       (left_onward 3 20 23 τ.turns _ (CameBack K (laid b z.next) k4 τ) (LeftCall K (laid b z.next) k4) Q (go_on (spent τ.turns τ) (λ x. mid_called p n f own)) (omega arith)
       (λ why τ1 c2 q. leaves_too t u (made_past w es) d k5 K z.next τ why τ1 c2 (omega (arith, rm)) z.fit q)
-      (calls f own z.words K (laid b z.next) k4 τ (omega (arith, fl, ln)) (to_given pks K k4 g.next z.next pks own z.words z.under.arrays z.given) z.fit.sound (omega (arith, le, rd.turns))))))
+      (calls f own z.words K (laid b z.next) k4 τ (omega (arith, fl, ln)) (waits_there p deepest ks F b M n t u (made_past w es) d k5 K z.next τ z.fit (walking_same p deepest ks F b M n (loops_walked K) u l z.next (λ x. z.under.iterators x ∙ (g.under.iterators x ∙ a.same.iterators x)) rd.walking) rd.parameters (omega (arith, rm))) (to_given pks K k4 g.next z.next pks own z.words z.under.arrays z.given) z.fit.sound (omega (arith, le, rd.turns))))))

@@ -26,7 +26,7 @@ use Rattle.mid_program.specs.ScriptState.{State, Stop, Doing, go_on, settled}
 use Rattle.mid_program.specs.Sorted.{Held as Standing, There, Moved, Misused, either_way, sorted, all_sorted, held_after, is_well_used, is_tested, is_chosen, fits}
 use Rattle.value_machine.specs.Cells.{Cell, Bits, Held}
 use Rattle.value_machine.specs.Emission.{emitted, all_emitted}
-use Rattle.value_machine.specs.Machine.{Conf, Label, Frame, at, label}
+use Rattle.value_machine.specs.Machine.{Conf, Label, Frame, at, label, loops_walked}
 use Rattle.value_machine.specs.Places.{Bases, room, arrays_in}
 use Rattle.value_machine.specs.Small.{does, ask_row, either, moved_out, number_is, not_zero, zeroed, truth, text_beside, least, h}
 use Rattle.value_machine.specs.Small
@@ -40,7 +40,7 @@ use Rattle.value_machine.proofs.Pieces.{chooses, closes, number_is_ok}
 use Rattle.value_machine.proofs.Answers.{machine, beside_state, Reached}
 use Rattle.value_machine.proofs.Conversions.{BareIs, IsBeside, IsNone, IsNumber, bare_is, ask_truth, zeroed_ok, ZeroedIs, Nought, Itself}
 use Rattle.value_machine.proofs.Converting.{Keeps, keeps_self, keeps_then, keeps_hand, keeps_number, Converted, converted_ok, conv_closes}
-use Rattle.value_machine.proofs.Simulation.{work_of, still_stands, NoArray, plain_stands, layout, context, meant, Ready, WellUsed, Done, ExprOk, room_one}
+use Rattle.value_machine.proofs.Simulation.{work_of, still_stands, NoArray, plain_stands, layout, context, meant, Ready, walking_same, WellUsed, Done, ExprOk, room_one}
 use Rattle.value_machine.proofs.Operands.{well_before}
 use Rattle.value_machine.proofs.Arguments.{under_keeps, under_same}
 use Rattle.value_machine.proofs.Keeping.{kept_left}
@@ -197,7 +197,7 @@ module _ (p : Program) (deepest : ℕ) (ks : List Kind) (F : List Frame) (b : Ba
 
   -- one of two, in a block
   chosen_ok : (s : Sort) (c a1 a2 a : Code) (fs : List Form) (env : Env fs) (ts : List ℕ) (v : Bool) (st st1 : ℕ → Standing) (t u w d : ℕ) (k : Instructions) (K : List Label) (l0 l : Locals) (σ0 σ : State) → ExprOk p deepest ks F b M n a → is_chosen s ≡ true → fits (form_of fs a) s ≡ true → sorted (context p deepest ks F b M n) fs a ≡ true →
-      WellUsed p deepest ks F b M n fs (λ i. held_after i a (st i)) → t + room a ≤ b.temporaries → w + arrays_in a ≤ b.arrays → Ready p deepest ks F b M n fs env ts st t u w l σ → Same ts t w l0 l → SameOwn p deepest ks F σ0 σ →
+      WellUsed p deepest ks F b M n fs (λ i. held_after i a (st i)) → t + room a ≤ b.temporaries → w + arrays_in a ≤ b.arrays → Ready p deepest ks F b M n fs env ts st t u w (loops_walked K) l σ → Same ts t w l0 l → SameOwn p deepest ks F σ0 σ →
       ((l1 : Locals) → Kept fs ts (λ i. held_after i a (st i)) l1 env → Kept fs ts (λ i. held_after i (Choose s c a1 a2) (st1 i)) l1 env) →
       Reached p deepest ks F b M (work_of a + 17) σ.turns (at ks [] (label [] None k ∷ K) (laid b l) F (emitted (layout p deepest ks F b M n) false fs ts a t w (suc d) (Small.converted b (form_of fs a) s t (suc d) NoMore)) (beside_state p deepest ks F σ))
       (Done p deepest ks F b M n v (Choose s c a1 a2) fs env ts st1 t u w k K l0 σ0) (Away p deepest ks F b d K) (go_on (meant p deepest ks F b M n fs env a σ) (λ x. settled (converted (form_of fs a) s x)))
@@ -271,13 +271,14 @@ module _ (p : Program) (deepest : ℕ) (ks : List Kind) (F : List Frame) (b : Ba
       (λ x τ c1 le h1.
       let z = truth_ok g x t u w (either A B k) K h1.next τ s2.0 (omega (arith, rm, r1)) h1.fit (still_stands c g t h1.next x h1.stands) in
       let same : Same ts t w l z.next = same_then ts t t w w l h1.next z.next (omega arith) (omega arith) h1.same (under_same ts t w h1.next z.next (under_keeps t t h1.next z.next (omega arith) z.keeps)) in
-      let rd1 : Ready p deepest ks F b M n fs env ts st1 t u w z.next τ = record {
+      let rd1 : Ready p deepest ks F b M n fs env ts st1 t u w (loops_walked K) z.next τ = record {
         below = rd.below;
         kept = kept_same fs ts st1 h1.next z.next env t rd.below (λ y ly. z.keeps.hands y (λ e. omega (arith, e, ly))) (λ y ly. z.keeps.numbers y (λ e. omega (arith, e, ly))) h1.kept;
         fit = z.fit;
         turns = omega (arith, le, rd.turns);
         parameters = rd.parameters;
         plain = rd.plain;
+        walking = walking_same p deepest ks F b M n (loops_walked K) u l z.next (λ x. same.iterators x) rd.walking;
       } in
       let m1 : Doing (In s) = λ τ1. go_on (meant p deepest ks F b M n fs env a1 τ1) (λ x1. settled (converted (form_of fs a1) s x1)) in
       let m2 : Doing (In s) = λ τ1. go_on (meant p deepest ks F b M n fs env a2 τ1) (λ x1. settled (converted (form_of fs a2) s x1)) in

@@ -15,10 +15,10 @@ use Rattle.mid_program.specs.Mid.{Kind, Boxed, Unboxed, Many, Program}
 use Rattle.mid_program.specs.ScriptRun.{Setting, Ended, ending}
 use Rattle.mid_program.specs.ScriptState.{State, Faulted, OutOfTurns, TooDeep, Nexted, Exited, Returned, Outcome, Gives, Stops}
 use Rattle.mid_program.specs.Sorted.{kinds_of}
-use Rattle.value_machine.specs.Cells.{Bits, is_owned, none_owned, ended_name, globals_by}
+use Rattle.value_machine.specs.Cells.{Bits, is_owned, none_owned, ended_name, globals_by, tidy_name}
 use Rattle.value_machine.specs.Follows.{Shown}
 use Rattle.value_machine.specs.Functions.{layout_of}
-use Rattle.value_machine.specs.Machine.{Conf, Over, Store, at, ending_at, guarded}
+use Rattle.value_machine.specs.Machine.{Conf, Over, Store, at, ending_at, ending_name, guarded}
 use Rattle.value_machine.specs.ImportCalls.{Host}
 use Rattle.value_machine.specs.Places.{Bases, status_global}
 use Rattle.value_machine.specs.Runs.{code_of, begun}
@@ -33,7 +33,7 @@ use Rattle.value_machine.proofs.State.{beside, name_hand, cells_of, host_of, sto
 use Rattle.value_machine.proofs.Relation.{Loose}
 use Rattle.value_machine.proofs.Conversions.{BareIs, IsBeside, IsNone, IsNumber, bare_is}
 use Rattle.value_machine.proofs.Answers.{machine}
-use Rattle.value_machine.proofs.Tidy.{globals_fine}
+use Rattle.value_machine.proofs.Tidy.{globals_fine, name_tidy}
 use Rattle.value_machine.proofs.Exits.{sweep_ok, unowned_laid}
 
 -- the low eight bits of a status are its remainder
@@ -68,7 +68,7 @@ module _ (p : Program) (deepest : ℕ) (b : Bases) where
     pub goes : Goes (machine p deepest [] []) steps (at [] [] [] (laid b l) [] main_exit G) (Over (Bits (I32 (w % 2 ^ 32))) G)
 
   pub main_ends_by : (g : Globals) (o : Host) (w : ℕ) (l : Locals) → zero ≡ b.parameters → Loose p deepest [] [] l → l.answer ≡ empty → g.status ≡ Bits (I64 w) →
-      globals_by ended_name (suc (suc p.ranges)) (kinds_of p.globals) (placed p.ranges (length (kinds_of p.globals)) g) ≡ true → MainEnds w (storing (placed p.ranges (length (kinds_of p.globals)) g) o) l
+      globals_by (ending_name o.fault) (suc (suc p.ranges)) (kinds_of p.globals) (placed p.ranges (length (kinds_of p.globals)) g) ≡ true → MainEnds w (storing (placed p.ranges (length (kinds_of p.globals)) g) o) l
   main_ends_by g o w l none lo an es fine =
       let G = storing (placed p.ranges (length (kinds_of p.globals)) g) o in
       let mach = machine p deepest [] [] in
@@ -84,12 +84,16 @@ module _ (p : Program) (deepest : ℕ) (b : Bases) where
             (then_goes (global_copied p.ranges (length (kinds_of p.globals)) g Status (Bits (I64 w)) tt es refl)
             (then_goes (by_steps 1 refl)
             (by_steps 1
-            (ap (λ t. guarded (true && t) (guarded (true && globals_by ended_name mach.before mach.names G.globals) (Over v G))) clean
+            (ap (λ t. guarded (true && t) (guarded (true && globals_by (ending_name o.fault) mach.before mach.names G.globals) (Over v G))) clean
             ∙ ap (λ t. guarded (true && t) (Over v G)) fine))));
       }
 
   pub main_ends : (way : ℕ) (fault : Option Fault) (l : Locals) (σ : State) → zero ≡ b.parameters → Loose p deepest [] [] l → l.answer ≡ empty → MainEnds (number_word σ.status) (store_with p.ranges (kinds_of p.globals) way fault σ) l
-  main_ends way fault l σ none lo an = main_ends_by (cells_of (kinds_of p.globals) way σ) (host_of σ fault) (number_word σ.status) l none lo an refl (globals_fine p ended_name way σ name_ended)
+  main_ends way fault l σ none lo an = main_ends_by (cells_of (kinds_of p.globals) way σ) (host_of σ fault) (number_word σ.status) l none lo an refl (by fault)
+    where
+      by : (o : Option Fault) → globals_by (ending_name o) (suc (suc p.ranges)) (kinds_of p.globals) (placed p.ranges (length (kinds_of p.globals)) (cells_of (kinds_of p.globals) way σ)) ≡ true
+      by None = globals_fine p tidy_name way σ name_tidy
+      by (Some f) = globals_fine p ended_name way σ name_ended
 
   -- how it shows then
   pub shows_ended : (way : ℕ) (σ : State) → ending_at (Over (Bits (I32 (number_word σ.status % 2 ^ 32))) (store_with p.ranges (kinds_of p.globals) way None σ)) ≡ Some (Ended (unsigned_abs (int_rem_euclid σ.status.number (pos 256))) σ.shared.output)

@@ -17,7 +17,7 @@ use Rattle.mid_program.specs.ScriptState.{go_on, does}
 use Rattle.mid_program.specs.Sorted.{Held as Standing, sorted, all_sorted, held_after, fits, keeps_well, is_dropped, stores_well}
 use Rattle.value_machine.specs.Cells.{Held}
 use Rattle.value_machine.specs.Emission.{emitted, all_emitted, text_kept, text_let_go}
-use Rattle.value_machine.specs.Machine.{Frame}
+use Rattle.value_machine.specs.Machine.{Frame, loops_walked}
 use Rattle.value_machine.specs.Places.{Bases}
 use Rattle.value_machine.specs.Small.{ask_row, number_is, when, code_number, moved_out, kept_code, to_value, h}
 use Rattle.value_machine.specs.Small
@@ -33,7 +33,7 @@ use Rattle.value_machine.proofs.InputLaws.{LineAt, LineThere, file_line_there}
 use Rattle.value_machine.proofs.Arguments.{under_same, under_keeps}
 use Rattle.value_machine.proofs.Choosing.{well_left, well_right}
 use Rattle.value_machine.proofs.Receiving.{same_any, Received, storing_meant, received_ok}
-use Rattle.value_machine.proofs.Simulation.{work_of, room_one, still_stands, layout, context, meant, Done, ExprOk}
+use Rattle.value_machine.proofs.Simulation.{work_of, room_one, still_stands, layout, context, meant, Done, ExprOk, walking_same}
 
 abbrev ok_of : {A : Type 0} → A → Result A Fault → A
 ok_of a (Ok z) = z
@@ -111,5 +111,6 @@ module _ (p : Program) (deepest : ℕ) (ks : List Kind) (F : List Frame) (b : Ba
         turns = omega (arith, le, rd.turns);
         parameters = rd.parameters;
         plain = rd.plain;
+        walking = walking_same p deepest ks F b M n (loops_walked K) u l put.next (λ x. sm.iterators x ∙ a.same.iterators x) rd.walking;
       })
       put.holds (line_after τ.shared (getline_line_file_row y τ.shared.outside τ.shared.inner) z (file_line_there y τ.shared.outside τ.shared.inner) er1))))))))

@@ -19,7 +19,7 @@ use Rattle.mid_program.specs.Statements.{Flow, Normal, Broke, Continued, returne
 use Rattle.value_machine.specs.Cells.{Cell, Bits, Held, Gone, is_owned, none_owned}
 use Rattle.value_machine.specs.Emission.{function_number}
 use Rattle.value_machine.specs.Functions.{layout_of, routine_bases, routine_callee}
-use Rattle.value_machine.specs.Machine.{Conf, Deep, Label, Frame, Store, at, label, zeros, guarded, enter, ask as asked}
+use Rattle.value_machine.specs.Machine.{Conf, Deep, Label, Frame, Store, at, label, zeros, guarded, enter, waits, ask as asked}
 use Rattle.value_machine.specs.Imports.{import_at, import_count}
 use Rattle.value_machine.specs.Places.{Bases, answer_local, local_types, temporary_types, handle_types, steps_room, steps_iterators, steps_arrays}
 use Rattle.value_machine.specs.Small.{does, ask_row}
@@ -221,7 +221,7 @@ module _ (p : Program) (deepest : ℕ) where
 
   -- A call of a function, with n more inside one another. It costs a turn, which pays for all of it.
   abbrev pub CallOk : (M n f : ℕ) → Type 0
-  CallOk M n f = (ks : List Kind) (F : List Frame) (K : List Label) (L : List Cell) (k : Instructions) (words : List Cell) (os : List Local) (σ : State) →
+  CallOk M n f = (ks : List Kind) (F : List Frame) (K : List Label) (L : List Cell) (k : Instructions) (words : List Cell) (os : List Local) (σ : State) → waits ks K L k ≡ true →
       GivenTo (routine_at p.routines f).parameters (waiting ks K L k ∷ F) words os → Sound p deepest ks F σ → σ.turns ≤ n →
       Arrives (machine p deepest ks F) M 0 σ.turns (at ks (reverse words ++ []) K L F (does (Call (function_number f)) k) (beside_state p deepest ks F σ)) (Back (waiting ks K L k) F σ.own) (Lost (waiting ks K L k) F) ((spend >> mid_called p n f os) σ)
 
@@ -249,10 +249,10 @@ module _ (p : Program) (deepest : ℕ) where
   begins f ks F K L k words G = at (routine_at p.routines f).parameters [] [] (words ++ zeros (local_types (routine_bases (routine_at p.routines f)))) (waiting ks K L k ∷ F) (routine_callee p (routine_at p.routines f)).body G
 
   -- the frame is pushed, unless too many wait
-  entered : (f : ℕ) (ks : List Kind) (F : List Frame) (K : List Label) (L : List Cell) (k : Instructions) (words : List Cell) (G : Store) → f < length p.routines → length words ≡ length (routine_at p.routines f).parameters →
+  entered : (f : ℕ) (ks : List Kind) (F : List Frame) (K : List Label) (L : List Cell) (k : Instructions) (words : List Cell) (G : Store) → f < length p.routines → length words ≡ length (routine_at p.routines f).parameters → waits ks K L k ≡ true →
       Goes (machine p deepest ks F) 1 (at ks (reverse words ++ []) K L F (does (Call (function_number f)) k) G)
       (cond (nat_lt (length F) deepest) (begins f ks F K L k words G) (Deep G))
-  entered f ks F K L k words G lt wide =
+  entered f ks F K L k words G lt wide wt =
       let r = routine_at p.routines f in
       let vs = reverse words ++ [] in
       let m = length r.parameters in
@@ -268,8 +268,8 @@ module _ (p : Program) (deepest : ℕ) where
             ap (λ t. cond t (asked (machine p deepest ks F).memory (import_at (function_number f)) ks vs K L F k G) (enter deepest (slice_get (machine p deepest ks F).callees (function_number f - import_count)) ks vs K L F k G)) high
             ∙ (ap (λ i. enter deepest (slice_get (machine p deepest ks F).callees i) ks vs K L F k G) index
             ∙ (ap (λ o. enter deepest o ks vs K L F k G) (callee_found f lt)
-            ∙ (ap (λ t. guarded (t && none_owned (drop m vs)) (cond (nat_lt (length F) deepest) (at r.parameters [] [] (reverse (take m vs) ++ zeros (routine_callee p r).locals) (record { kinds = ks; under = drop m vs; labels = K; locals = L; rest = k } ∷ F) (routine_callee p r).body G) (Deep G))) enough
-            ∙ ap₂ (λ ws us. guarded (true && none_owned us) (cond (nat_lt (length F) deepest) (at r.parameters [] [] (ws ++ zeros (routine_callee p r).locals) (record { kinds = ks; under = us; labels = K; locals = L; rest = k } ∷ F) (routine_callee p r).body G) (Deep G))) front under)));
+            ∙ (ap₂ (λ t z. guarded ((t && none_owned (drop m vs)) && z) (cond (nat_lt (length F) deepest) (at r.parameters [] [] (reverse (take m vs) ++ zeros (routine_callee p r).locals) (record { kinds = ks; under = drop m vs; labels = K; locals = L; rest = k } ∷ F) (routine_callee p r).body G) (Deep G))) enough wt
+            ∙ ap₂ (λ ws us. guarded ((true && none_owned us) && true) (cond (nat_lt (length F) deepest) (at r.parameters [] [] (ws ++ zeros (routine_callee p r).locals) (record { kinds = ks; under = us; labels = K; locals = L; rest = k } ∷ F) (routine_callee p r).body G) (Deep G))) front under)));
       }
 
   -- Every call does what it means, if expressions do where calls inside them do.
@@ -305,9 +305,9 @@ module _ (p : Program) (deepest : ℕ) where
 
     pub calls_ok : (n : ℕ) → CallsOk M n
     unfolding mid_called
-    calls_ok zero f lt ks F K L k words os σ given s le =
-        turned (machine p deepest ks F) M σ.turns 0 0 0 σ _ _ (Back (waiting ks K L k) F σ.own) (Lost (waiting ks K L k) F) (mid_called p zero f os) refl (entered f ks F K L k words (beside_state p deepest ks F σ) lt given.wide) refl (let q = few f lt in omega (arith, q))
+    calls_ok zero f lt ks F K L k words os σ wt given s le =
+        turned (machine p deepest ks F) M σ.turns 0 0 0 σ _ _ (Back (waiting ks K L k) F σ.own) (Lost (waiting ks K L k) F) (mid_called p zero f os) refl (entered f ks F K L k words (beside_state p deepest ks F σ) lt given.wide wt) refl (let q = few f lt in omega (arith, q))
         (λ m e. absurd (omega (arith, e, le)))
-    calls_ok (suc n) f lt ks F K L k words os σ given s le =
-        turned (machine p deepest ks F) M σ.turns 0 (routine_work (routine_at p.routines f)) 0 σ _ _ (Back (waiting ks K L k) F σ.own) (Lost (waiting ks K L k) F) (mid_called p (suc n) f os) refl (entered f ks F K L k words (beside_state p deepest ks F σ) lt given.wide) refl (let q = few f lt in omega (arith, q))
+    calls_ok (suc n) f lt ks F K L k words os σ wt given s le =
+        turned (machine p deepest ks F) M σ.turns 0 (routine_work (routine_at p.routines f)) 0 σ _ _ (Back (waiting ks K L k) F σ.own) (Lost (waiting ks K L k) F) (mid_called p (suc n) f os) refl (entered f ks F K L k words (beside_state p deepest ks F σ) lt given.wide wt) refl (let q = few f lt in omega (arith, q))
         (λ m e. pushed n f σ.own.room (calls_ok n) lt ks F K L k words os (record σ { turns = m }) given (record { room = s.room; names = s.names; calm = s.calm }) (omega (arith, e, le)) refl)

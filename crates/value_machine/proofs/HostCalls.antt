@@ -19,7 +19,7 @@ use Rattle.mid_program.specs.Names.{ArrayName}
 use Rattle.mid_program.specs.ScriptState.{State, Doing, go_on, settled, does}
 use Rattle.mid_program.specs.Sorted.{Held as Standing, all_sorted, held_after_all, is_operation, fit_row}
 use Rattle.value_machine.specs.Emission.{all_emitted, all_converted, all_pushed}
-use Rattle.value_machine.specs.Machine.{Conf, Label, Frame, at}
+use Rattle.value_machine.specs.Machine.{Conf, Label, Frame, at, loops_walked}
 use Rattle.value_machine.specs.Places.{Bases, rooms, arrays_among}
 use Rattle.value_machine.specs.Small.{ask_row, kept}
 use Rattle.value_machine.proofs.Runs.{then_goes, first, then_on, then_settled, weaker}
@@ -101,7 +101,7 @@ module _ (p : Program) (deepest : ℕ) (ks : List Kind) (F : List Frame) (b : Ba
     pub row : RowAt p deepest ks F b M n wanted es t next σ1 r
 
   pub row_then : {B : Type 0} → (wanted : List Argument) (es : Codes) → CodesOk p deepest ks F b M n es → (fs : List Form) (env : Env fs) (ts : List ℕ) (st : ℕ → Standing) (t u w d : ℕ) (k : Instructions) (K : List Label) (l : Locals) (σ : State) (w1 w' : ℕ) (P : B → State → Conf → Type 0) (f : Row wanted → Doing B) →
-      fit_row fs wanted es ≡ true → all_sorted (context p deepest ks F b M n) fs es ≡ true → WellUsed p deepest ks F b M n fs (λ i. held_after_all i es (st i)) → t + rooms es ≤ b.temporaries → w + arrays_among es ≤ b.arrays → Ready p deepest ks F b M n fs env ts st t u w l σ → works_of es + conv_work es + w1 ≤ w' →
+      fit_row fs wanted es ≡ true → all_sorted (context p deepest ks F b M n) fs es ≡ true → WellUsed p deepest ks F b M n fs (λ i. held_after_all i es (st i)) → t + rooms es ≤ b.temporaries → w + arrays_among es ≤ b.arrays → Ready p deepest ks F b M n fs env ts st t u w (loops_walked K) l σ → works_of es + conv_work es + w1 ≤ w' →
       ((r : Row wanted) (τ : State) (c : Conf) → τ.turns ≤ σ.turns → RowReady wanted es fs env ts st t u w k K l σ r τ c → Reached p deepest ks F b M w1 τ.turns c P (Away p deepest ks F b d K) (f r τ)) →
       Reached p deepest ks F b M w' σ.turns (at ks [] K (laid b l) F (all_emitted (layout p deepest ks F b M n) fs ts es t w d (all_converted (layout p deepest ks F b M n) fs wanted es t d k)) (beside_state p deepest ks F σ)) P (Away p deepest ks F b d K)
       (go_on (all_meant p deepest ks F b M n fs env es σ) (λ vs τ. go_on (settled (row_of fs wanted es vs) τ) f))

@@ -11,7 +11,7 @@ use Rattle.mid_program.specs.ScriptState.{State}
 use Rattle.mid_program.specs.Sorted.{Held as Standing, There, Moved, Misused, sorted, all_sorted, held_after, is_well_used, is_dropped, is_kept, keeps_well}
 use Rattle.value_machine.specs.Cells.{Cell, Bits, Held, IteratorOf, OwnedArray, LentArray, Gone, is_owned, left_by}
 use Rattle.value_machine.specs.Emission.{emitted, all_emitted, left_over}
-use Rattle.value_machine.specs.Machine.{Conf, Label, Frame, at}
+use Rattle.value_machine.specs.Machine.{Conf, Label, Frame, at, loops_walked}
 use Rattle.value_machine.specs.Places.{Bases}
 use Rattle.value_machine.specs.Small.{unused, released, moved_from, number_copied, let_go, h, moved}
 use Rattle.value_machine.specs.declared.import.Import.TheVariants.{Drop}
@@ -22,7 +22,7 @@ use Rattle.value_machine.proofs.Steps.{empty, set_ok, get_copied, moved_out_ok}
 use Rattle.value_machine.proofs.Relation.{IsHand, HoldsAt, hand_of, WordIs, LeftBy, hand_left, KeptAs, kept_same, Same, same_then, Fit, fit_less, fit_hand, fit_number, Away}
 use Rattle.value_machine.proofs.Pieces.{drop_ok, let_go_hand}
 use Rattle.value_machine.proofs.Answers.{machine, beside_state}
-use Rattle.value_machine.proofs.Simulation.{work_of, gives_away, StandsAt, still_stands, layout, context, meant, Done, ExprOk, room_one, NoArray}
+use Rattle.value_machine.proofs.Simulation.{work_of, gives_away, StandsAt, still_stands, layout, context, meant, Done, ExprOk, room_one, NoArray, walking_same}
 use Rattle.value_machine.proofs.Operands.{holds_same, well_before}
 use Rattle.value_machine.proofs.Arguments.{Under, under_keeps, under_same}
 use Rattle.value_machine.proofs.Converting.{Keeps, keeps_self, keeps_hand}
@@ -126,7 +126,7 @@ module _ (p : Program) (deepest : ℕ) (ks : List Kind) (F : List Frame) (b : Ba
       })
       (λ why τ1 c2 q. q)
       (okc false fs env ts st1 t u w d k K g.next τ s2.1 us (omega (arith, rm)) (omega (arith, ar))
-      (record { below = rd.below; kept = kept_same fs ts st1 h.next g.next env t rd.below (λ y lt. g.keeps.hands y (λ z. omega (arith, z, lt))) (λ y lt. g.keeps.numbers y (λ z. omega (arith, z, lt))) h.kept; fit = g.fit; turns = omega (arith, le, rd.turns); parameters = rd.parameters; plain = rd.plain }))))
+      (record { below = rd.below; kept = kept_same fs ts st1 h.next g.next env t rd.below (λ y lt. g.keeps.hands y (λ z. omega (arith, z, lt))) (λ y lt. g.keeps.numbers y (λ z. omega (arith, z, lt))) h.kept; fit = g.fit; turns = omega (arith, le, rd.turns); parameters = rd.parameters; plain = rd.plain; walking = walking_same p deepest ks F b M n (loops_walked K) u l g.next (λ x. g.keeps.iterators x ∙ h.same.iterators x) rd.walking }))))
 
   -- Moves from one temporary to another.
 
@@ -306,7 +306,7 @@ module _ (p : Program) (deepest : ℕ) (ks : List Kind) (F : List Frame) (b : Ba
         };
       })
       (okc false gs env2 (t ∷ ts) st2 (suc t) u w d k3 K h1.next τ s3.1 used (omega (arith, rm)) (omega (arith, ar))
-      (record { below = (omega arith, rd.below); kept = (still_stands a g t h1.next x h1.stands, h1.kept); fit = h1.fit; turns = omega (arith, le, rd.turns); parameters = rd.parameters; plain = all_plain fs g s1.0 rd.plain }))))
+      (record { below = (omega arith, rd.below); kept = (still_stands a g t h1.next x h1.stands, h1.kept); fit = h1.fit; turns = omega (arith, le, rd.turns); parameters = rd.parameters; plain = all_plain fs g s1.0 rd.plain; walking = walking_same p deepest ks F b M n (loops_walked K) u l h1.next (λ x. h1.same.iterators x) rd.walking }))))
     where
       all_plain : (fs : List Form) (g : Form) → is_kept g ≡ true → ((i : ℕ) → NoArray (form_at fs i)) → (i : ℕ) → NoArray (form_at (g ∷ fs) i)
       all_plain fs g e q zero = kept_plain g e

@@ -59,6 +59,7 @@ pub mod Asking
 pub mod AskingLines
 pub mod Announcing
 pub mod Starting
+pub mod Waiting
 pub mod Calling
 pub mod Induction
 pub mod Recursion

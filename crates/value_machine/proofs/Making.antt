@@ -7,7 +7,7 @@ use Rattle.mid_program.specs.ScriptState.{State}
 use Rattle.mid_program.specs.Sorted.{sorted, all_sorted}
 use Rattle.value_machine.specs.Cells.{OwnedArray, is_owned}
 use Rattle.value_machine.specs.Emission.{emitted, all_emitted}
-use Rattle.value_machine.specs.Machine.{Frame}
+use Rattle.value_machine.specs.Machine.{Frame, loops_walked}
 use Rattle.value_machine.specs.Places.{Bases}
 use Rattle.value_machine.proofs.Runs.{then_goes, stays, there, first, then_on}
 use Rattle.value_machine.proofs.Regions.{upd_same, upd_other}
@@ -16,7 +16,7 @@ use Rattle.value_machine.proofs.Steps.{set_ok}
 use Rattle.value_machine.proofs.Relation.{kept_same, Fit, fit_array, fit_shared, Away}
 use Rattle.value_machine.proofs.Answers.{machine, done_by, row_called}
 use Rattle.value_machine.proofs.HostCalls.{calm_after}
-use Rattle.value_machine.proofs.Simulation.{works_of, all_meant, AllDone, CodesOk}
+use Rattle.value_machine.proofs.Simulation.{works_of, all_meant, AllDone, CodesOk, walking_same}
 
 module _ (p : Program) (deepest : ℕ) (ks : List Kind) (F : List Frame) (b : Bases) (M n : ℕ) where
   -- one more array is in use
@@ -38,7 +38,7 @@ module _ (p : Program) (deepest : ℕ) (ks : List Kind) (F : List Frame) (b : Ba
       (then_goes (row_called p deepest ks F row.NewArray tt [] [] σ refl refl refl refl refl) (set_ok b l (Array w) (OwnedArray i) (omega (arith, ar)) (ap is_owned (rd.fit.spare w (omega arith))))) (omega arith)
       (then_on mach M (works_of es) 0 (works_of es) τ.turns _ (AllDone p deepest ks F b M n es fs env ts st t u (suc w) k K l1 τ) P Q (all_meant p deepest ks F b M n fs env es τ) _ (omega arith)
       (oks fs env ts st t u (suc w) d k K l1 τ so us rm (omega (arith, ar))
-      (record { below = rd.below; kept = kept_same fs ts st l l1 env t rd.below (λ x h. refl) (λ x h. refl) rd.kept; fit = f1; turns = rd.turns; parameters = rd.parameters; plain = rd.plain }))
+      (record { below = rd.below; kept = kept_same fs ts st l l1 env t rd.below (λ x h. refl) (λ x h. refl) rd.kept; fit = f1; turns = rd.turns; parameters = rd.parameters; plain = rd.plain; walking = walking_same p deepest ks F b M n (loops_walked K) u l l1 (λ x. refl) rd.walking }))
       (λ vs τ1 c2 le a. there mach M 0 0 _ _ (i, vs) τ1 P Q stays (omega arith)
       (record {
         next = a.next;

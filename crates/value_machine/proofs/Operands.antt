@@ -10,13 +10,13 @@ use Rattle.mid_program.specs.Names.{ArrayName, Numbered, Given}
 use Rattle.mid_program.specs.ScriptState.{State}
 use Rattle.mid_program.specs.Sorted.{Held as Standing, There, Moved, Misused, used, either_way, same_number, sorted, all_sorted, held_after, held_after_all, is_well_used}
 use Rattle.value_machine.specs.Emission.{array_meant, emitted, all_emitted}
-use Rattle.value_machine.specs.Machine.{Frame}
+use Rattle.value_machine.specs.Machine.{Frame, loops_walked}
 use Rattle.value_machine.specs.Places.{Bases}
 use Rattle.value_machine.proofs.Runs.{stays, there, first, then_on, weaker}
 use Rattle.value_machine.proofs.Locals.{Locals}
 use Rattle.value_machine.proofs.Relation.{HoldsAt, Meant, WordIs, outside_below, below_more, same_self, same_then, SameOwn, Away}
 use Rattle.value_machine.proofs.Answers.{machine}
-use Rattle.value_machine.proofs.Simulation.{work_of, works_of, past, made_past, past_from, made_from, room_one, still_stands, layout, context, meant, all_meant, Done, ExprOk, AllHeld, AllDone, CodesOk}
+use Rattle.value_machine.proofs.Simulation.{work_of, works_of, past, made_past, past_from, made_from, room_one, still_stands, layout, context, meant, all_meant, Done, ExprOk, AllHeld, AllDone, CodesOk, walking_same}
 
 pub holds_same : (f : Form) (t : ℕ) (l l1 : Locals) (x : Holds f) → l1.hand t ≡ l.hand t → l1.number t ≡ l.number t → HoldsAt f t l x → HoldsAt f t l1 x
 holds_same f t l l1 x e e1 q = (e ∙ q.0, subst (λ c. WordIs f x c) (sym e1) q.1)
@@ -124,7 +124,7 @@ module _ (p : Program) (deepest : ℕ) (ks : List Kind) (F : List Frame) (b : Ba
       first mach M 0 (works_of es) (works_of es) τ.turns c1 _ P Q _ (record { it = a.comes }) (omega arith)
       (then_on mach M (works_of es) 0 (works_of es) τ.turns _ P2 P Q (all_meant p deepest ks F b M n fs env es τ) _ (omega arith)
       (oks fs env ts (λ i. held_after i e (st i)) (suc t) u w d k K a.next τ s.1 us (omega (arith, rm, r1)) (omega (arith, ar))
-      (record { below = below_more t (suc t) ts (omega arith) r.below; kept = a.kept; fit = a.fit; turns = omega (arith, le, r.turns); parameters = r.parameters; plain = r.plain }))
+      (record { below = below_more t (suc t) ts (omega arith) r.below; kept = a.kept; fit = a.fit; turns = omega (arith, le, r.turns); parameters = r.parameters; plain = r.plain; walking = walking_same p deepest ks F b M n (loops_walked K) u l a.next (λ x. a.same.iterators x) r.walking }))
       (λ vs τ1 c2 le2 a2. there mach M 0 0 _ _ (v, vs) τ1 P Q stays (omega arith)
       (record {
         next = a2.next;

@@ -26,7 +26,7 @@ use Rattle.value_machine.specs.Cells.{Bits, Held, is_owned}
 use Rattle.value_machine.specs.Emission.{emitted, text_kept, text_let_go}
 use Rattle.value_machine.specs.ImportCalls.{input_code}
 use Rattle.value_machine.specs.Machine
-use Rattle.value_machine.specs.Machine.{Conf, Label, Frame, at, label}
+use Rattle.value_machine.specs.Machine.{Conf, Label, Frame, at, label, loops_walked}
 use Rattle.value_machine.specs.Places.{Bases, room, arrays_in}
 use Rattle.value_machine.specs.Small.{does, number_is, when, either, code_number, let_go, h}
 use Rattle.value_machine.specs.Small
@@ -45,7 +45,7 @@ use Rattle.value_machine.proofs.InputLaws.{LineAt}
 use Rattle.value_machine.proofs.Arguments.{under_same, under_keeps}
 use Rattle.value_machine.proofs.Choosing.{zero_word, kept_left_way, kept_right_way}
 use Rattle.value_machine.proofs.Keeping.{consed, left_ok}
-use Rattle.value_machine.proofs.Simulation.{work_of, layout, context, meant, NoArray, WellUsed, Done, ExprOk, room_one}
+use Rattle.value_machine.proofs.Simulation.{work_of, layout, context, meant, NoArray, WellUsed, Done, ExprOk, room_one, walking_same, Walking}
 
 -- one more is kept, which is no array
 plain_more : (f : Form) (fs : List Form) → NoArray f → ((i : ℕ) → NoArray (form_at fs i)) → (i : ℕ) → NoArray (form_at (f ∷ fs) i)
@@ -57,7 +57,7 @@ same_any ts t w l l1 a = record { hands = λ x h o. a.hands x h tt; numbers = a.
 
 module _ (p : Program) (deepest : ℕ) (ks : List Kind) (F : List Frame) (b : Bases) (M n : ℕ) where
   -- what a text is kept for: what is kept beside it, and the code that stores it
-  pub record Stores (s : Code) (fs : List Form) (env : Env fs) (ts : List ℕ) (st : ℕ → Standing) (t u w : ℕ) (l : Locals) (σ : State) : Type 0 where
+  pub record Stores (s : Code) (fs : List Form) (env : Env fs) (ts : List ℕ) (st : ℕ → Standing) (t u w m : ℕ) (l : Locals) (σ : State) : Type 0 where
     pub ok : ExprOk p deepest ks F b M n s
     pub well : sorted (context p deepest ks F b M n) (a_value ∷ fs) s ≡ true
     pub keeps : keeps_well s ≡ true
@@ -70,6 +70,7 @@ module _ (p : Program) (deepest : ℕ) (ks : List Kind) (F : List Frame) (b : Ba
     pub turns : σ.turns ≤ n
     pub parameters : length ks ≡ b.parameters
     pub plain : (i : ℕ) → NoArray (form_at fs i)
+    pub walking : Walking p deepest ks F b M n m u l
 
   -- once it is stored
   pub record TextDone (s : Code) (fs : List Form) (env : Env fs) (ts : List ℕ) (st : ℕ → Standing) (t u w : ℕ) (k : Instructions) (K : List Label) (l : Locals) (σ : State) (x : Unit {0}) (σ1 : State) (c : Conf) : Type 0 where
@@ -84,7 +85,7 @@ module _ (p : Program) (deepest : ℕ) (ks : List Kind) (F : List Frame) (b : Ba
   abbrev pub storing_meant : (s : Code) (fs : List Form) → Env fs → Value → Doing (Unit {0})
   storing_meant s fs env text = λ σ. go_on (meant p deepest ks F b M n (a_value ∷ fs) (text, env) s σ) (λ v. nothing)
 
-  stored_text : (s : Code) (fs : List Form) (env : Env fs) (ts : List ℕ) (st : ℕ → Standing) (t u w d : ℕ) (k : Instructions) (K : List Label) (l : Locals) (σ : State) (text : Value) → Stores s fs env ts st t u w l σ →
+  stored_text : (s : Code) (fs : List Form) (env : Env fs) (ts : List ℕ) (st : ℕ → Standing) (t u w d : ℕ) (k : Instructions) (K : List Label) (l : Locals) (σ : State) (text : Value) → Stores s fs env ts st t u w (loops_walked K) l σ →
       Reached p deepest ks F b M (work_of s + 16) σ.turns (at ks [] K (laid b (with_at l (Hand (suc t)) (Held text))) F (emitted (layout p deepest ks F b M n) true (a_value ∷ fs) (suc t ∷ ts) s (suc (suc t)) w d (text_let_go (layout p deepest ks F b M n) fs s t k)) (beside_state p deepest ks F σ)) (TextDone s fs env ts st t u w k K l σ) (Away p deepest ks F b d K) (storing_meant s fs env text σ)
   stored_text s fs env ts st t u w d k K l σ text g =
       let mach = machine p deepest ks F in
@@ -105,6 +106,7 @@ module _ (p : Program) (deepest : ℕ) (ks : List Kind) (F : List Frame) (b : Ba
         turns = g.turns;
         parameters = g.parameters;
         plain = plain_more a_value fs tt g.plain;
+        walking = walking_same p deepest ks F b M n (loops_walked K) u l l1 (λ x. refl) g.walking;
       }))
       (λ x τ c1 le a.
       let z = left_ok p deepest ks F b M n s (form_of gs s) x (suc (suc t)) u w (let_go Drop (h b (suc t)) k) K a.next τ (room_there s q) a.fit a.stands in
@@ -144,7 +146,7 @@ module _ (p : Program) (deepest : ℕ) (ks : List Kind) (F : List Frame) (b : Ba
   }
 
   -- the same in a block, which ends
-  stored_in_block : (s : Code) (fs : List Form) (env : Env fs) (ts : List ℕ) (st : ℕ → Standing) (t u w d : ℕ) (k : Instructions) (K : List Label) (l : Locals) (σ : State) (text : Value) → Stores s fs env ts st t u w l σ →
+  stored_in_block : (s : Code) (fs : List Form) (env : Env fs) (ts : List ℕ) (st : ℕ → Standing) (t u w d : ℕ) (k : Instructions) (K : List Label) (l : Locals) (σ : State) (text : Value) → Stores s fs env ts st t u w (loops_walked K) l σ →
       Reached p deepest ks F b M (work_of s + 17) σ.turns (at ks [] (label [] None k ∷ K) (laid b (with_at l (Hand (suc t)) (Held text))) F (emitted (layout p deepest ks F b M n) true (a_value ∷ fs) (suc t ∷ ts) s (suc (suc t)) w (suc d) (text_let_go (layout p deepest ks F b M n) fs s t NoMore)) (beside_state p deepest ks F σ)) (TextDone s fs env ts st t u w k K l σ) (Away p deepest ks F b d K) (storing_meant s fs env text σ)
   stored_in_block s fs env ts st t u w d k K l σ text g =
       within (machine p deepest ks F) M (work_of s + 16 + 1) (work_of s + 17) σ.turns _ (TextDone s fs env ts st t u w k K l σ) (Away p deepest ks F b d K) (storing_meant s fs env text σ) (omega arith)
@@ -194,8 +196,8 @@ module _ (p : Program) (deepest : ℕ) (ks : List Kind) (F : List Frame) (b : Ba
   text_fetched t l σ lt o e = then_goes (row_called p deepest ks F row.SubResult tt [] [] σ refl refl refl refl e) (set_ok b l (Hand (suc t)) (Held (given σ.shared.inner.substituted)) lt o)
 
   -- after a row that leaves names and assignments alone
-  stores_after : (s : Code) (fs : List Form) (env : Env fs) (ts : List ℕ) (st : ℕ → Standing) (t u w : ℕ) (l : Locals) (σ : State) (sh : Shared) → Calm p sh → Stores s fs env ts st t u w l σ → Stores s fs env ts st t u w l (record σ { shared = sh })
-  stores_after s fs env ts st t u w l σ sh c g = record {
+  stores_after : (s : Code) (fs : List Form) (env : Env fs) (ts : List ℕ) (st : ℕ → Standing) (t u w m : ℕ) (l : Locals) (σ : State) (sh : Shared) → Calm p sh → Stores s fs env ts st t u w m l σ → Stores s fs env ts st t u w m l (record σ { shared = sh })
+  stores_after s fs env ts st t u w m l σ sh c g = record {
     ok = g.ok;
     well = g.well;
     keeps = g.keeps;
@@ -208,10 +210,11 @@ module _ (p : Program) (deepest : ℕ) (ks : List Kind) (F : List Frame) (b : Ba
     turns = g.turns;
     parameters = g.parameters;
     plain = g.plain;
+    walking = g.walking;
   }
 
   -- nothing was read
-  passed : (s : Code) (fs : List Form) (env : Env fs) (ts : List ℕ) (st : ℕ → Standing) (t u w d : ℕ) (k : Instructions) (K : List Label) (l : Locals) (σ : State) (x : InputAnswer) → Stores s fs env ts st t u w l σ → HoldsAt (Answered answer.Input) t l x → nat_eq (input_code x) 1 ≡ false → (block : Instructions) →
+  passed : (s : Code) (fs : List Form) (env : Env fs) (ts : List ℕ) (st : ℕ → Standing) (t u w d : ℕ) (k : Instructions) (K : List Label) (l : Locals) (σ : State) (x : InputAnswer) → Stores s fs env ts st t u w (loops_walked K) l σ → HoldsAt (Answered answer.Input) t l x → nat_eq (input_code x) 1 ≡ false → (block : Instructions) →
       Reached p deepest ks F b M (work_of s + 40) σ.turns (at ks [] K (laid b l) F (number_is (Small.n b t) 1 (when block (code_number b t k))) (beside_state p deepest ks F σ)) (Received s fs env ts st t u w k K l σ) (Away p deepest ks F b d K) (give (input_number x) σ)
   passed s fs env ts st t u w d k K l σ x g hd e block =
       let q = g.room_enough in
@@ -220,7 +223,7 @@ module _ (p : Program) (deepest : ℕ) (ks : List Kind) (F : List Frame) (b : Ba
       (then_goes (chooses block NoMore 0) closes)) (omega arith)
       (numbered_in s fs env ts st t u w d k K l l σ σ x (omega (arith, q)) g.below (same_self ts t w l) (λ j h. refl) (kept_left_way fs ts st (λ i. held_after (suc i) s (st i)) l env g.kept) g.fit hd)
 
-  pub received_ok : (s : Code) (fs : List Form) (env : Env fs) (ts : List ℕ) (st : ℕ → Standing) (t u w d : ℕ) (k : Instructions) (K : List Label) (l : Locals) (σ : State) (x : InputAnswer) → Stores s fs env ts st t u w l σ → HoldsAt (Answered answer.Input) t l x → LineAt σ.shared.inner x →
+  pub received_ok : (s : Code) (fs : List Form) (env : Env fs) (ts : List ℕ) (st : ℕ → Standing) (t u w d : ℕ) (k : Instructions) (K : List Label) (l : Locals) (σ : State) (x : InputAnswer) → Stores s fs env ts st t u w (loops_walked K) l σ → HoldsAt (Answered answer.Input) t l x → LineAt σ.shared.inner x →
       Reached p deepest ks F b M (work_of s + 40) σ.turns
       (at ks [] K (laid b l) F (number_is (Small.n b t) 1 (when (text_kept (layout p deepest ks F b M n) row.Line t (emitted (layout p deepest ks F b M n) true (a_value ∷ fs) (suc t ∷ ts) s (suc (suc t)) w (suc d) (text_let_go (layout p deepest ks F b M n) fs s t NoMore))) (code_number b t k))) (beside_state p deepest ks F σ))
       (Received s fs env ts st t u w k K l σ) (Away p deepest ks F b d K) (when_read (storing_meant s fs env) x σ)
@@ -238,7 +241,7 @@ module _ (p : Program) (deepest : ℕ) (ks : List Kind) (F : List Frame) (b : Ba
       (then_goes (number_is_ok b l t 1 1 (omega (arith, q)) hd.1)
       (then_goes (chooses block NoMore 1) (line_fetched t l σ (omega (arith, q)) (hand_free (suc t) (suc t) u w l σ (omega arith) g.fit) la))) (omega arith)
       (then_on mach M (work_of s + 17) 16 (work_of s + 33) τ.turns _ (TextDone s fs env ts st t u w k1 K l τ) P Q (storing_meant s fs env text τ) (λ y. give (input_number input.Read)) (omega arith)
-      (stored_in_block s fs env ts st t u w d k1 K l τ text (stores_after s fs env ts st t u w l σ τ.shared c g))
+      (stored_in_block s fs env ts st t u w d k1 K l τ text (stores_after s fs env ts st t u w (loops_walked K) l σ τ.shared c g))
       (λ y τ1 c1 le a.
       first mach M 0 16 16 τ1.turns c1 _ P Q (give (input_number input.Read) τ1) (record { it = a.comes }) (omega arith)
       (numbered_in s fs env ts st t u w d k K l a.next σ τ1 input.Read (omega (arith, q)) g.below (same_less ts t w l a.next a.same) a.own
@@ -250,7 +253,7 @@ module _ (p : Program) (deepest : ℕ) (ks : List Kind) (F : List Frame) (b : Ba
 
   -- The text of a substitution, where anything was replaced.
 
-  pub replaced_ok : (s : Code) (fs : List Form) (env : Env fs) (ts : List ℕ) (st : ℕ → Standing) (t u w d : ℕ) (k : Instructions) (K : List Label) (l : Locals) (σ : State) (x : Number) → Stores s fs env ts st t u w l σ → HoldsAt a_number t l x → is_some σ.shared.inner.substituted ≡ true →
+  pub replaced_ok : (s : Code) (fs : List Form) (env : Env fs) (ts : List ℕ) (st : ℕ → Standing) (t u w d : ℕ) (k : Instructions) (K : List Label) (l : Locals) (σ : State) (x : Number) → Stores s fs env ts st t u w (loops_walked K) l σ → HoldsAt a_number t l x → is_some σ.shared.inner.substituted ≡ true →
       Reached p deepest ks F b M (work_of s + 30) σ.turns
       (at ks [] K (laid b l) F (does (LocalGet (Small.n b t)) (does (Test ty.I64 Eqz) (either NoMore (text_kept (layout p deepest ks F b M n) row.SubResult t (emitted (layout p deepest ks F b M n) true (a_value ∷ fs) (suc t ∷ ts) s (suc (suc t)) w (suc d) (text_let_go (layout p deepest ks F b M n) fs s t NoMore))) k))) (beside_state p deepest ks F σ))
       (Received s fs env ts st t u w k K l σ) (Away p deepest ks F b d K) (when_replaced (storing_meant s fs env) x σ)
@@ -289,7 +292,7 @@ module _ (p : Program) (deepest : ℕ) (ks : List Kind) (F : List Frame) (b : Ba
       by false =
           first mach M 3 (work_of s + 17) (work_of s + 28) σ.turns _ _ P Q _ (then_goes (chooses NoMore block 0) (text_fetched t l σ lt1 (hand_free (suc t) (suc t) u w l σ (omega arith) g.fit) la)) (omega arith)
           (then_on mach M (work_of s + 17) 0 (work_of s + 17) τ.turns _ (TextDone s fs env ts st t u w k K l τ) P Q (storing_meant s fs env text τ) (λ y. give x) (omega arith)
-          (stored_in_block s fs env ts st t u w d k K l τ text (stores_after s fs env ts st t u w l σ τ.shared (calm_after p row.SubResult tt σ.shared refl g.fit.sound.calm) g))
+          (stored_in_block s fs env ts st t u w d k K l τ text (stores_after s fs env ts st t u w (loops_walked K) l σ τ.shared (calm_after p row.SubResult tt σ.shared refl g.fit.sound.calm) g))
           (λ y τ1 c1 le a. there mach M 0 0 c1 _ x τ1 P Q stays (omega arith)
           (record {
             next = a.next;

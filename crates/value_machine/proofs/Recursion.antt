@@ -117,10 +117,10 @@ module _ (p : Program) (deepest : ℕ) where
     came_back K L k σ w l c (Stops Exited τ) e a = lost K L k Exited tt τ w l c a
 
     calls_do : CallsOk p deepest M n → CallsDo p deepest ks F b M n
-    calls_do calls f own words K L rest σ lt g s le =
+    calls_do calls f own words K L rest σ lt wt g s le =
         within (machine p deepest ks F) M 0 20 σ.turns _ (CameBack p deepest ks F b M n K L rest σ) (LeftCall p deepest ks F b M n K L rest) (go_on (spent σ.turns σ) (λ x. mid_called p n f own)) (omega arith)
         (came_back K L rest σ 0 σ.turns _ (go_on (spent σ.turns σ) (λ x. mid_called p n f own)) (spent_ends p n f own σ.turns σ)
-        (calls f lt ks F K L rest words own σ (given (routine_at p.routines f).parameters (parameters_at (calls_of p) f) (function.waiting ks K L rest ∷ F) own words (parameters_of p.routines f) g) s le))
+        (calls f lt ks F K L rest words own σ wt (given (routine_at p.routines f).parameters (parameters_at (calls_of p) f) (function.waiting ks K L rest ∷ F) own words (parameters_of p.routines f) g) s le))
 
 pub exprs_do : (p : Program) (M deepest n : ℕ) → 40 + 4 * length (kinds_of p.globals) ≤ M → CallsOk p deepest M n → (ks : List Kind) (F : List Frame) (b : Bases) (e : Code) → ExprOk p deepest ks F b M n e
 exprs_do p M deepest n paid calls ks F b e = expr_ok p deepest ks F b M n (record { paid = paid; calls = calls_do p deepest ks F b M n calls }) e

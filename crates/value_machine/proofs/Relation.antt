@@ -222,7 +222,7 @@ module _ (p : Program) (deepest : ℕ) (ks : List Kind) (F : List Frame) where
   array_loose : (a : ℕ) (c : Cell) → IsArray a c → is_owned c ≡ false
   array_loose a c h = elim h [ inl q ↦ ap is_owned q.1 | inr q ↦ ap is_owned q.0 ]
 
-  param_loose : (k : Kind) (o : Local) (c : Cell) → ParamIs k o c → ParamLoose k c
+  pub param_loose : (k : Kind) (o : Local) (c : Cell) → ParamIs k o c → ParamLoose k c
   param_loose Boxed o c h = (value_in_local o, h)
   param_loose Unboxed o c h = ap is_owned h.0
   param_loose Many o c h = array_loose (array_in_local o) c h

@@ -23,7 +23,7 @@ use Rattle.mid_program.specs.MidMeaning.{evaluated, all_evaluated, three_values,
 use Rattle.mid_program.specs.ScriptState.{go_on, does}
 use Rattle.mid_program.specs.Sorted.{Held as Standing, sorted, all_sorted, held_after, held_after_all, fits, fit_row, is_constant, keeps_well, is_dropped, stores_well}
 use Rattle.value_machine.specs.Emission.{emitted, all_emitted, text_kept, text_let_go}
-use Rattle.value_machine.specs.Machine.{Frame}
+use Rattle.value_machine.specs.Machine.{Frame, loops_walked}
 use Rattle.value_machine.specs.Places.{Bases}
 use Rattle.value_machine.specs.Small.{does as do_it, either, h}
 use Rattle.value_machine.specs.Small
@@ -34,7 +34,7 @@ use Rattle.value_machine.proofs.HostCalls.{row_then, host_asked}
 use Rattle.value_machine.proofs.InputLaws.{TextThere, text_there}
 use Rattle.value_machine.proofs.Choosing.{well_left, well_right}
 use Rattle.value_machine.proofs.Receiving.{same_any, Received, storing_meant, replaced_ok}
-use Rattle.value_machine.proofs.Simulation.{work_of, layout, context, Done, ExprOk, CodesOk}
+use Rattle.value_machine.proofs.Simulation.{work_of, layout, context, Done, ExprOk, CodesOk, walking_same}
 
 -- once a row answered how many were replaced, the text is there
 text_after : (s : Shared) (r : Result (Inner × Number) Fault) (x : Number) → TextThere r → (settles s r).answer ≡ Ok x → is_some (settles s r).inner.substituted ≡ true
@@ -138,6 +138,7 @@ module _ (p : Program) (deepest : ℕ) (ks : List Kind) (F : List Frame) (b : Ba
         turns = omega (arith, le, rd.turns);
         parameters = rd.parameters;
         plain = rd.plain;
+        walking = walking_same p deepest ks F b M n (loops_walked K) u l put.next (λ x. put.same.iterators x ∙ a.same.iterators x) rd.walking;
       })
       put.holds (text_after τ.shared (substitute_row r.0 r.1.0 r.1.1.0 all τ.shared.inner) z (text_there r.0 r.1.0 r.1.1.0 all τ.shared.inner) er))))))
 

@@ -1,6 +1,6 @@
 -- The simulation of expressions: what emitted code does beside what mid code means. An expression's code comes to the code after it with the answer in its temporary, where the script gives one;
 -- where the script stops, the function is left; where turns run out, the machine is at work.
-use Rattle.std.proofs.Common.{◌≡◌, ℕ, suc, ◌+◌, ◌<◌, ◌≤◌, Bool, true, false, List, [], ◌∷◌, length, arith}
+use Rattle.std.proofs.Common.{◌≡◌, ◌∙◌, ℕ, suc, ◌+◌, ◌<◌, ◌≤◌, Bool, true, false, List, [], ◌∷◌, length, arith}
 use Rattle.awk_state.specs.declared.sorts.Argument.{Argument}
 use Rattle.awk_state.specs.declared.sorts.Argument.TheVariants as argument
 use Rattle.awk_state.specs.declared.sorts.Answer.TheVariants as answer
@@ -15,10 +15,10 @@ use Rattle.mid_program.specs.MidMeaning.{Holds, Env, Values, evaluated, all_eval
 use Rattle.mid_program.specs.Names.{ArrayName}
 use Rattle.mid_program.specs.ScriptState.{State, Doing}
 use Rattle.mid_program.specs.Sorted.{Held as Standing, Context, context_of, calls_of, sorted, all_sorted, held_after, held_after_all, is_well_used}
-use Rattle.value_machine.specs.Cells.{OwnedArray}
+use Rattle.value_machine.specs.Cells.{IteratorOf, OwnedArray}
 use Rattle.value_machine.specs.Emission.{Layout, array_meant, emitted, all_emitted}
 use Rattle.value_machine.specs.Functions.{layout_of}
-use Rattle.value_machine.specs.Machine.{Conf, Label, Frame, at}
+use Rattle.value_machine.specs.Machine.{Conf, Label, Frame, at, loops_walked}
 use Rattle.value_machine.specs.Places.{Bases, room, rooms, arrays_in, arrays_among}
 use Rattle.value_machine.proofs.Locals.{Locals, laid}
 use Rattle.value_machine.proofs.Steps.{empty}
@@ -153,14 +153,24 @@ module _ (p : Program) (deepest : ℕ) (ks : List Kind) (F : List Frame) (b : Ba
   abbrev pub all_meant : (fs : List Form) → Env fs → (es : Codes) → Doing (Values fs es)
   all_meant fs env es = all_evaluated p.texts (calls_of p) n (mid_called p n) fs env es
 
+  -- u loops over keys are walked, m among the labels, and each has its iterator
+  pub record Walking (m u : ℕ) (l : Locals) : Type 0 where
+    pub loops : m ≡ u
+    pub few : u ≤ b.iterators
+    pub each : (x : ℕ) → x < u → (t : ℕ) × (l.iterator x ≡ IteratorOf t)
+
+  pub walking_same : (m u : ℕ) (l l1 : Locals) → ((x : ℕ) → l1.iterator x ≡ l.iterator x) → Walking m u l → Walking m u l1
+  walking_same m u l l1 same w = record { loops = w.loops; few = w.few; each = λ x lt. let q = w.each x lt in (q.0, same x ∙ q.1) }
+
   -- before code: what is kept, and how it will be used; places enough; turns within the bound
-  pub record Ready (fs : List Form) (env : Env fs) (ts : List ℕ) (st : ℕ → Standing) (t u w : ℕ) (l : Locals) (σ : State) : Type 0 where
+  pub record Ready (fs : List Form) (env : Env fs) (ts : List ℕ) (st : ℕ → Standing) (t u w m : ℕ) (l : Locals) (σ : State) : Type 0 where
     pub below : Below t ts
     pub kept : Kept fs ts st l env
     pub fit : Fit p deepest ks F t u w l σ
     pub turns : σ.turns ≤ n
     pub parameters : length ks ≡ b.parameters
     pub plain : (i : ℕ) → NoArray (form_at fs i)
+    pub walking : Walking m u l
 
   abbrev pub WellUsed : List Form → (ℕ → Standing) → Type 0
   WellUsed fs st = (i : ℕ) → i < length fs → is_well_used (st i) ≡ true
@@ -179,7 +189,7 @@ module _ (p : Program) (deepest : ℕ) (ks : List Kind) (F : List Frame) (b : Ba
   -- code does what it means
   abbrev pub ExprOk : Code → Type 0
   ExprOk e = (v : Bool) (fs : List Form) (env : Env fs) (ts : List ℕ) (st : ℕ → Standing) (t u w d : ℕ) (k : Instructions) (K : List Label) (l : Locals) (σ : State) →
-      sorted context fs e ≡ true → WellUsed fs (λ i. held_after i e (st i)) → t + room e ≤ b.temporaries → w + arrays_in e ≤ b.arrays → Ready fs env ts st t u w l σ →
+      sorted context fs e ≡ true → WellUsed fs (λ i. held_after i e (st i)) → t + room e ≤ b.temporaries → w + arrays_in e ≤ b.arrays → Ready fs env ts st t u w (loops_walked K) l σ →
       Reached p deepest ks F b M (work_of e) σ.turns (at ks [] K (laid b l) F (emitted layout v fs ts e t w d k) (beside_state p deepest ks F σ)) (Done v e fs env ts st t u w k K l σ) (Away p deepest ks F b d K) (meant fs env e σ)
 
   -- Operands: each in the next temporary; an array that is made for a call is in its local.
@@ -200,7 +210,7 @@ module _ (p : Program) (deepest : ℕ) (ks : List Kind) (F : List Frame) (b : Ba
 
   abbrev pub CodesOk : Codes → Type 0
   CodesOk es = (fs : List Form) (env : Env fs) (ts : List ℕ) (st : ℕ → Standing) (t u w d : ℕ) (k : Instructions) (K : List Label) (l : Locals) (σ : State) →
-      all_sorted context fs es ≡ true → WellUsed fs (λ i. held_after_all i es (st i)) → t + rooms es ≤ b.temporaries → w + arrays_among es ≤ b.arrays → Ready fs env ts st t u w l σ →
+      all_sorted context fs es ≡ true → WellUsed fs (λ i. held_after_all i es (st i)) → t + rooms es ≤ b.temporaries → w + arrays_among es ≤ b.arrays → Ready fs env ts st t u w (loops_walked K) l σ →
       Reached p deepest ks F b M (works_of es) σ.turns (at ks [] K (laid b l) F (all_emitted layout fs ts es t w d k) (beside_state p deepest ks F σ)) (AllDone es fs env ts st t u w k K l σ) (Away p deepest ks F b d K) (all_meant fs env es σ)
 
   -- they stand there as a row of arguments

@@ -1,15 +1,17 @@
 -- Where a step begins the machine is tidy, so that it goes on past the `nop` there.
 use Rattle.std.proofs.Common.{◌≡◌, inl, inr, ℕ, zero, suc, ◌+◌, ◌<◌, ◌≤◌, Bool, true, false, List, [], ◌∷◌, ◌++◌, length, refl, sym, ap, ap₂, ◌∙◌, append-nil, arith}
-use Rattle.std.specs.Prelude.{not, ◌&&◌, cond, nat_eq}
+use Rattle.std.specs.Prelude.{drop, get_or, not, ◌&&◌, cond, nat_eq}
 use Rattle.std.proofs.lemmas.Bool.{eq-eqb}
 use Rattle.std.proofs.lemmas.List.{take_at, drop_at}
 use Rattle.awk_values.specs.declared.value.Value.{Value}
 use Rattle.wasm_types.specs.Syntax.{Instructions}
 use Rattle.wasm_types.specs.declared.instr.Simple.TheVariants.{Nop}
 use Rattle.mid_program.specs.Mid.{Kind, Boxed, Unboxed, Many, Program}
-use Rattle.mid_program.specs.ScriptState.{State, global_value}
+use Rattle.awk_values.specs.declared.value.Value.TheVariants.{Uninit}
+use Rattle.wasm_store.specs.declared.word.Word.TheVariants.{I64}
+use Rattle.mid_program.specs.ScriptState.{State, Local, Scalar, global_value, value_in_local}
 use Rattle.mid_program.specs.Sorted.{has_kind, same_kind, kinds_of}
-use Rattle.value_machine.specs.Cells.{Cell, Bits, Held, IteratorOf, OwnedArray, LentArray, Gone, is_owned, none_owned, is_held, is_array, is_iterator, no_temporary, iterators_in, tidy_locals, tidy_name, each_name, globals_by}
+use Rattle.value_machine.specs.Cells.{Cell, Bits, Held, IteratorOf, OwnedArray, LentArray, Gone, is_owned, none_owned, is_held, is_array, is_iterator, no_temporary, iterators_in, tidy_locals, tidy_name, each_name, globals_by, is_bare, mark_fits, marks_fit}
 use Rattle.value_machine.specs.Machine.{Label, Frame, at, guarded, tidy, loops_walked}
 use Rattle.value_machine.specs.Places.{Bases}
 use Rattle.value_machine.specs.Small.{does}
@@ -18,8 +20,8 @@ use Rattle.value_machine.proofs.Regions.{cells, pairs, cells_length}
 use Rattle.value_machine.proofs.Globals.{Globals, names_on, placed}
 use Rattle.value_machine.proofs.Locals.{Locals, temporaries_on, laid}
 use Rattle.value_machine.proofs.Steps.{empty}
-use Rattle.value_machine.proofs.State.{beside, kind_here, arrays_before, name_hand, cells_of}
-use Rattle.value_machine.proofs.Relation.{IsWalk, ParamLoose, fit_loose}
+use Rattle.value_machine.proofs.State.{bare, beside, kind_here, arrays_before, name_hand, name_word, cells_of, word_not_beside}
+use Rattle.value_machine.proofs.Relation.{IsWalk, ParamIs, ParamLoose, fit_loose, param_loose}
 use Rattle.value_machine.proofs.Conversions.{BareIs, IsBeside, IsNone, IsNumber, bare_is}
 use Rattle.value_machine.proofs.Answers.{machine, beside_state}
 use Rattle.value_machine.proofs.StatementForms.{Starts}
@@ -37,7 +39,7 @@ unowned_fine (OwnedArray a) e = cc
 unowned_fine (LentArray a) e = refl
 unowned_fine Gone e = refl
 
-unowned_still : (c : Cell) → is_owned c ≡ false → is_iterator c ≡ false
+pub unowned_still : (c : Cell) → is_owned c ≡ false → is_iterator c ≡ false
 unowned_still (Bits w) e = refl
 unowned_still (Held v) e = refl
 unowned_still (IteratorOf t) e = cc
@@ -60,21 +62,21 @@ fine_pairs f g (suc n) rest h k r =
 
 -- Iterators are counted.
 
-passed : (c : Cell) (m : ℕ) → is_iterator c ≡ false → cond (is_iterator c) (suc m) m ≡ m
+pub passed : (c : Cell) (m : ℕ) → is_iterator c ≡ false → cond (is_iterator c) (suc m) m ≡ m
 passed c m e = ap (λ t. cond t (suc m) m) e
 
-still_cells : (f : ℕ → Cell) (n : ℕ) (rest : List Cell) → ((i : ℕ) → is_iterator (f i) ≡ false) → iterators_in (cells f n ++ rest) ≡ iterators_in rest
+pub still_cells : (f : ℕ → Cell) (n : ℕ) (rest : List Cell) → ((i : ℕ) → is_iterator (f i) ≡ false) → iterators_in (cells f n ++ rest) ≡ iterators_in rest
 still_cells f zero rest h = refl
 still_cells f (suc n) rest h = passed (f zero) (iterators_in (cells (λ i. f (suc i)) n ++ rest)) (h zero) ∙ still_cells (λ i. f (suc i)) n rest (λ i. h (suc i))
 
-still_pairs : (f g : ℕ → Cell) (n : ℕ) (rest : List Cell) → ((i : ℕ) → is_iterator (f i) ≡ false) → ((i : ℕ) → is_iterator (g i) ≡ false) → iterators_in (pairs f g n ++ rest) ≡ iterators_in rest
+pub still_pairs : (f g : ℕ → Cell) (n : ℕ) (rest : List Cell) → ((i : ℕ) → is_iterator (f i) ≡ false) → ((i : ℕ) → is_iterator (g i) ≡ false) → iterators_in (pairs f g n ++ rest) ≡ iterators_in rest
 still_pairs f g zero rest h k = refl
 still_pairs f g (suc n) rest h k =
     passed (f zero) (iterators_in (g zero ∷ (pairs (λ i. f (suc i)) (λ i. g (suc i)) n ++ rest))) (h zero)
     ∙ (passed (g zero) (iterators_in (pairs (λ i. f (suc i)) (λ i. g (suc i)) n ++ rest)) (k zero)
     ∙ still_pairs (λ i. f (suc i)) (λ i. g (suc i)) n rest (λ i. h (suc i)) (λ i. k (suc i)))
 
-walked_cells : (f : ℕ → Cell) (n u : ℕ) (rest : List Cell) → u ≤ n → ((x : ℕ) → x < u → (t : ℕ) × (f x ≡ IteratorOf t)) → ((x : ℕ) → u ≤ x → f x ≡ empty) → iterators_in (cells f n ++ rest) ≡ u + iterators_in rest
+pub walked_cells : (f : ℕ → Cell) (n u : ℕ) (rest : List Cell) → u ≤ n → ((x : ℕ) → x < u → (t : ℕ) × (f x ≡ IteratorOf t)) → ((x : ℕ) → u ≤ x → f x ≡ empty) → iterators_in (cells f n ++ rest) ≡ u + iterators_in rest
 walked_cells f n zero rest le h k = still_cells f n rest (λ i. ap is_iterator (k i (omega arith))) ∙ omega arith
 walked_cells f zero (suc u) rest le h k = absurd (omega (arith, le))
 walked_cells f (suc n) (suc u) rest le h k =
@@ -104,7 +106,25 @@ beside_tidy v (IsBeside e e1) = ap (tidy_name Unboxed) e1
 beside_tidy v (IsNone e e1 e2) = ap (tidy_name Unboxed) e2
 beside_tidy v (IsNumber m e e1 e2) = ap (tidy_name Unboxed) e2
 
-name_tidy : (k : Kind) (a : ℕ) (v : Value) → tidy_name k (name_hand k a v) ≡ true
+bare_fine : (v : Value) → beside v ≡ empty → is_bare (Bits (I64 (bare v))) ≡ true
+bare_fine v q = by (bare_is v)
+  where
+    by : BareIs v → is_bare (Bits (I64 (bare v))) ≡ true
+    by (IsBeside e e1) = let z : is_held empty ≡ true = ap is_held (sym q ∙ e1) in cc
+    by (IsNone e e1 e2) = ap (λ n. is_bare (Bits (I64 n))) e1
+    by (IsNumber m e e1 e2) = ap (λ n. is_bare (Bits (I64 n))) e1 ∙ ap not (word_not_beside m)
+
+mark_fine : (k : Kind) (a : ℕ) (v : Value) → mark_fits k (name_hand k a v) (Bits (I64 (name_word k v))) ≡ true
+mark_fine Boxed a v = refl
+mark_fine Many a v = refl
+mark_fine Unboxed a v = by (bare_is v)
+  where
+    by : BareIs v → mark_fits Unboxed (beside v) (Bits (I64 (bare v))) ≡ true
+    by (IsBeside e e1) = ap₂ (λ c n. mark_fits Unboxed c (Bits (I64 n))) e1 e
+    by (IsNone e e1 e2) = ap₂ (λ c n. mark_fits Unboxed c (Bits (I64 n))) e2 e1
+    by (IsNumber m e e1 e2) = ap₂ (λ c n. mark_fits Unboxed c (Bits (I64 n))) e2 e1 ∙ ap not (word_not_beside m)
+
+pub name_tidy : (k : Kind) (a : ℕ) (v : Value) → tidy_name k (name_hand k a v) ≡ true
 name_tidy Boxed a v = refl
 name_tidy Unboxed a v = beside_tidy v (bare_is v)
 name_tidy Many a v = refl
@@ -128,28 +148,40 @@ globals_fine p ok way σ fine =
     let kinds = kinds_of p.globals in
     placed_fine p ok (cells_of kinds way σ) refl refl (λ i. refl) (λ i. fine (kind_here kinds i) (suc (suc (arrays_before kinds i))) (global_value i σ)) (λ i. refl)
 
-same_self : (k : Kind) → same_kind k k ≡ true
+pub each_mark : (kinds : List Kind) (h g : ℕ → Cell) → ((i : ℕ) → mark_fits (kind_here kinds i) (h i) (g i) ≡ true) → marks_fit kinds (pairs h g (length kinds) ++ []) ≡ true
+each_mark [] h g e = refl
+each_mark (k ∷ kinds) h g e = ap₂ (λ x y. x && y) (e zero) (each_mark kinds (λ i. h (suc i)) (λ i. g (suc i)) (λ i. e (suc i)))
+
+marks_fine : (p : Program) (way : ℕ) (σ : State) → marks_fit (kinds_of p.globals) (drop (suc (suc p.ranges)) (placed p.ranges (length (kinds_of p.globals)) (cells_of (kinds_of p.globals) way σ))) ≡ true
+marks_fine p way σ =
+    let kinds = kinds_of p.globals in
+    let g = cells_of kinds way σ in
+    let size : length (g.way ∷ (g.status ∷ cells g.range p.ranges)) ≡ suc (suc p.ranges) = ap (λ m. suc (suc m)) (cells_length g.range p.ranges) in
+    ap (marks_fit kinds) (drop_at (g.way ∷ (g.status ∷ cells g.range p.ranges)) (names_on p.ranges (length kinds) g) (suc (suc p.ranges)) size)
+    ∙ each_mark kinds g.hand g.number (λ i. mark_fine (kind_here kinds i) (suc (suc (arrays_before kinds i))) (global_value i σ))
+
+pub same_self : (k : Kind) → same_kind k k ≡ true
 same_self Boxed = refl
 same_self Unboxed = refl
 same_self Many = refl
 
 module _ (p : Program) (deepest : ℕ) (ks : List Kind) (F : List Frame) (b : Bases) (M n : ℕ) where
-  loose_still : (k : Kind) (c : Cell) → ParamLoose p deepest ks F k c → is_iterator c ≡ false
+  pub loose_still : (k : Kind) (c : Cell) → ParamLoose p deepest ks F k c → is_iterator c ≡ false
   loose_still Boxed c h = ap is_iterator h.1
   loose_still Unboxed c h = unowned_still c h
   loose_still Many c h = unowned_still c h
 
-  still_parameters : (js : List Kind) (f : ℕ → Cell) (rest : List Cell) → ((i : ℕ) (k : Kind) → has_kind js i k ≡ true → ParamLoose p deepest ks F k (f i)) → iterators_in (cells f (length js) ++ rest) ≡ iterators_in rest
+  pub still_parameters : (js : List Kind) (f : ℕ → Cell) (rest : List Cell) → ((i : ℕ) (k : Kind) → has_kind js i k ≡ true → ParamLoose p deepest ks F k (f i)) → iterators_in (cells f (length js) ++ rest) ≡ iterators_in rest
   still_parameters [] f rest h = refl
   still_parameters (k ∷ js) f rest h =
       passed (f zero) (iterators_in (cells (λ i. f (suc i)) (length js) ++ rest)) (loose_still k (f zero) (h zero k (same_self k)))
       ∙ still_parameters js (λ i. f (suc i)) rest (λ i j e. h (suc i) j e)
 
-  tidy_parameters : (js : List Kind) (f : ℕ → Cell) (rest : List Cell) → ((i : ℕ) (k : Kind) → has_kind js i k ≡ true → ParamLoose p deepest ks F k (f i)) → no_temporary rest ≡ true → tidy_locals js (cells f (length js) ++ rest) ≡ true
-  tidy_parameters [] f rest h r = r
-  tidy_parameters (Boxed ∷ js) f rest h r = ap₂ (λ x y. x && y) (ap is_held (h zero Boxed refl).1) (tidy_parameters js (λ i. f (suc i)) rest (λ i j e. h (suc i) j e) r)
-  tidy_parameters (Unboxed ∷ js) f rest h r = ap₂ (λ x y. not x && y) (h zero Unboxed refl) (tidy_parameters js (λ i. f (suc i)) rest (λ i j e. h (suc i) j e) r)
-  tidy_parameters (Many ∷ js) f rest h r = ap₂ (λ x y. not x && y) (h zero Many refl) (tidy_parameters js (λ i. f (suc i)) rest (λ i j e. h (suc i) j e) r)
+  tidy_parameters : (js : List Kind) (o : ℕ → Local) (f : ℕ → Cell) (rest : List Cell) → ((i : ℕ) (k : Kind) → has_kind js i k ≡ true → ParamIs p deepest ks F k (o i) (f i)) → no_temporary rest ≡ true → tidy_locals js (cells f (length js) ++ rest) ≡ true
+  tidy_parameters [] o f rest h r = r
+  tidy_parameters (Boxed ∷ js) o f rest h r = ap₂ (λ x y. x && y) (ap is_held (h zero Boxed refl)) (tidy_parameters js (λ i. o (suc i)) (λ i. f (suc i)) rest (λ i j e. h (suc i) j e) r)
+  tidy_parameters (Unboxed ∷ js) o f rest h r = ap₂ (λ x y. x && y) (ap is_bare (h zero Unboxed refl).0 ∙ bare_fine (value_in_local (o zero)) (h zero Unboxed refl).1) (tidy_parameters js (λ i. o (suc i)) (λ i. f (suc i)) rest (λ i j e. h (suc i) j e) r)
+  tidy_parameters (Many ∷ js) o f rest h r = ap₂ (λ x y. not x && y) (param_loose p deepest ks F Many (o zero) (f zero) (h zero Many refl)) (tidy_parameters js (λ i. o (suc i)) (λ i. f (suc i)) rest (λ i j e. h (suc i) j e) r)
 
   -- the locals behind the parameters
   abbrev behind : Locals → List Cell
@@ -172,8 +204,7 @@ module _ (p : Program) (deepest : ℕ) (ks : List Kind) (F : List Frame) (b : Ba
 
   locals_tidy : (u : ℕ) (K : List Label) (l : Locals) (σ : State) → Starts p deepest ks F b M n u K l σ → tidy_locals ks (laid b l) ≡ true
   locals_tidy u K l σ s =
-      let lo = fit_loose p deepest ks F 0 u 0 l σ s.fit in
-      ap (λ m. tidy_locals ks (cells l.param m ++ behind l)) (sym s.parameters) ∙ tidy_parameters ks l.param (behind l) lo.params (behind_fine u K l σ s)
+      ap (λ m. tidy_locals ks (cells l.param m ++ behind l)) (sym s.parameters) ∙ tidy_parameters ks (λ i. get_or σ.own.locals i (Scalar Uninit)) l.param (behind l) s.fit.params (behind_fine u K l σ s)
 
   locals_walked : (u : ℕ) (K : List Label) (l : Locals) (σ : State) → Starts p deepest ks F b M n u K l σ → nat_eq (iterators_in (laid b l)) (loops_walked K) ≡ true
   locals_walked u K l σ s =
@@ -186,6 +217,6 @@ module _ (p : Program) (deepest : ℕ) (ks : List Kind) (F : List Frame) (b : Ba
       Goes (machine p deepest ks F) 1 (at ks [] K (laid b l) F (does Nop k) (beside_state p deepest ks F σ)) (at ks [] K (laid b l) F k (beside_state p deepest ks F σ))
   nop_ok {k = k} u K l σ s = record {
     it = ap (λ t. guarded t (at ks [] K (laid b l) F k (beside_state p deepest ks F σ))) (
-        ap₂ (λ x y. (true && true) && (x && y)) (ap₂ (λ x y. x && y) (locals_tidy u K l σ s) (locals_walked u K l σ s)) (globals_fine p tidy_name 0 σ name_tidy)
+        ap₂ (λ x y. (true && true) && (x && y)) (ap₂ (λ x y. x && y) (locals_tidy u K l σ s) (locals_walked u K l σ s)) (ap₂ (λ x y. x && y) (globals_fine p tidy_name 0 σ name_tidy) (marks_fine p 0 σ))
         );
   }

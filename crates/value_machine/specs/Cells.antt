@@ -1,9 +1,11 @@
 -- What stands on the stack, in locals and in globals of the machine over values: a word, or what the number of a handle, of an array or of an iterator stands for.
 -- A cell that is owned has one place: who reads it moves it, and nothing may be put over it.
-use Rattle.std.specs.Prelude.{ℕ, Bool, true, false, not, ◌&&◌, ◌||◌, nat_eq, nat_lt, List, [], ◌∷◌, take, drop, get_or, length, suc, cond}
+use Rattle.std.specs.Prelude.{ℕ, zero, Bool, true, false, not, ◌&&◌, ◌||◌, nat_eq, nat_lt, List, [], ◌∷◌, take, drop, get_or, length, suc, cond}
 use Rattle.awk_values.specs.declared.value.Value.{Value as AnyValue}
 use Rattle.wasm_store.specs.declared.word.Word.{Word}
+use Rattle.wasm_store.specs.declared.word.Word.TheVariants.{I32, I64}
 use Rattle.mid_program.specs.Mid.{Kind, Boxed, Unboxed, Many}
+use Rattle.value_machine.specs.Small.{minus_one, text_beside}
 
 pub data Cell : Type 0 where
   Bits : Word → Cell
@@ -88,13 +90,44 @@ abbrev pub iterators_in : List Cell → ℕ
 iterators_in [] = 0
 iterators_in (c ∷ cs) = cond (is_iterator c) (suc (iterators_in cs)) (iterators_in cs)
 
+-- the number of an unboxed name, beside which no text stands
+abbrev pub is_bare : Cell → Bool
+is_bare (Bits (I64 n)) = not (nat_eq n text_beside)
+is_bare _ = false
+
 -- the first locals are parameters of these kinds; the others hold nothing, iterators aside
 abbrev pub tidy_locals : List Kind → List Cell → Bool
 tidy_locals [] cs = no_temporary cs
 tidy_locals (Boxed ∷ ks) (c ∷ cs) = is_held c && tidy_locals ks cs
-tidy_locals (Unboxed ∷ ks) (c ∷ cs) = not (is_owned c) && tidy_locals ks cs
+tidy_locals (Unboxed ∷ ks) (c ∷ cs) = is_bare c && tidy_locals ks cs
 tidy_locals (Many ∷ ks) (c ∷ cs) = not (is_owned c) && tidy_locals ks cs
 tidy_locals (k ∷ ks) [] = false
+
+-- Where a caller waits for the answer of a call: its parameters have what they are to have, temporaries before the answer's may have a value each, and no other local has one.
+
+abbrev pub no_value : List Cell → Bool
+no_value [] = true
+no_value (c ∷ cs) = not (is_held c) && no_value cs
+
+abbrev pub is_operand : Cell → Bool
+is_operand c = is_held c || not (is_owned c)
+
+-- so many locals of temporaries, one for a handle and one for a number each
+abbrev pub operands_wait : ℕ → List Cell → Bool
+operands_wait zero cs = no_value cs
+operands_wait (suc zero) cs = false
+operands_wait (suc (suc m)) [] = false
+operands_wait (suc (suc m)) (h ∷ []) = false
+operands_wait (suc (suc m)) (h ∷ (n ∷ cs)) = (is_operand h && not (is_owned n)) && operands_wait m cs
+
+-- x is the local that the call's answer goes to
+abbrev pub locals_wait : (x : ℕ) → List Kind → List Cell → Bool
+locals_wait zero ks cs = false
+locals_wait (suc x) ks [] = false
+locals_wait (suc x) [] (a ∷ cs) = not (is_owned a) && operands_wait x cs
+locals_wait (suc x) (Boxed ∷ ks) (c ∷ cs) = is_held c && locals_wait x ks cs
+locals_wait (suc x) (Unboxed ∷ ks) (c ∷ cs) = not (is_owned c) && locals_wait x ks cs
+locals_wait (suc x) (Many ∷ ks) (c ∷ cs) = not (is_owned c) && locals_wait x ks cs
 
 -- A name has two globals, for a handle and for a number. A boxed name's handle is there; beside a number there may be one of a text.
 
@@ -102,6 +135,23 @@ abbrev pub tidy_name : Kind → Cell → Bool
 tidy_name Boxed c = is_held c
 tidy_name Unboxed c = not (is_array c) && not (is_iterator c)
 tidy_name Many c = is_array c
+
+-- the number of an unboxed name says whether a text stands beside it
+abbrev pub is_marked : Cell → Bool
+is_marked (Bits (I64 n)) = nat_eq n text_beside
+is_marked _ = false
+
+abbrev pub mark_fits : Kind → (handle number : Cell) → Bool
+mark_fits Unboxed (Held v) n = is_marked n
+mark_fits Unboxed (Bits (I32 m)) n = nat_eq m minus_one && is_bare n
+mark_fits Unboxed c n = false
+mark_fits Boxed c n = true
+mark_fits Many c n = true
+
+abbrev pub marks_fit : List Kind → List Cell → Bool
+marks_fit [] cs = true
+marks_fit (k ∷ ks) (c ∷ (n ∷ cs)) = mark_fits k c n && marks_fit ks cs
+marks_fit (k ∷ ks) _ = false
 
 -- once a fault is kept this is a bound from above: a name may have nothing
 abbrev pub ended_name : Kind → Cell → Bool

@@ -16,7 +16,7 @@ use Rattle.wasm_store.specs.Words.{binary_of, test_of, compare_of, converted, fl
 use Rattle.wasm_machine.specs.Frames.{constant_of}
 use Rattle.mid_program.specs.Mid.{Kind}
 use Rattle.mid_program.specs.ScriptRun.{Ending, Ended, FaultedBy, GoesOn, Exhausted}
-use Rattle.value_machine.specs.Cells.{Cell, Bits, Held, IteratorOf, OwnedArray, LentArray, Gone, is_owned, left_by, read_global, left_in_global, cell_at, has_room, none_owned, has_owner, iterators_in, tidy_locals, tidy_name, ended_name, globals_by}
+use Rattle.value_machine.specs.Cells.{Cell, Bits, Held, IteratorOf, OwnedArray, LentArray, Gone, is_owned, left_by, read_global, left_in_global, cell_at, has_room, none_owned, has_owner, iterators_in, tidy_locals, locals_wait, tidy_name, ended_name, globals_by, marks_fit}
 use Rattle.value_machine.specs.Imports.{import_at, import_arguments, import_count, import_number, params_of}
 use Rattle.value_machine.specs.ImportCalls.{Host, call, look, carried_by}
 use Rattle.value_machine.specs.declared.import.Import.{Import}
@@ -198,20 +198,43 @@ ask_looking (Some i) v ks vs K L F c G = with_answer (look i v G.host) ks vs K L
 abbrev pub zeros : List ValType → List Cell
 zeros types = map (λ t. Bits (zero_of t)) types
 
+-- an iterator for each loop over keys that is walked, and no other: such a loop begins with the call for its next key
+abbrev pub is_walk : Option Instructions → Bool
+is_walk (Some (Then (Plain (LocalGet x)) (Then (Plain (LocalTee y)) (Then (Plain (Call n)) c)))) = nat_eq n (import_number (Of row.IterNext))
+is_walk _ = false
+
+abbrev pub loops_walked : List Label → ℕ
+loops_walked [] = 0
+loops_walked (l ∷ K) = cond (is_walk l.again) (suc (loops_walked K)) (loops_walked K)
+
+-- the local that the answer of a call goes to
+abbrev pub answers_to : Instructions → ℕ
+answers_to (Then (Plain (LocalTee x)) c) = x
+answers_to _ = 0
+
+-- a caller that waits holds operands that are pending, and its iterators
+abbrev pub waits : List Kind → List Label → List Cell → Instructions → Bool
+waits ks K L c = locals_wait (answers_to c) ks L && nat_eq (iterators_in L) (loops_walked K)
+
 -- the arguments are the first locals; nothing that is owned waits on the stack of a caller
 abbrev pub enter : ℕ → Option Callee → List Kind → List Cell → List Label → List Cell → List Frame → Instructions → Store → Conf
 enter deepest None ks vs K L F c G = Stuck
 enter deepest (Some f) ks vs K L F c G =
     let n = length f.kinds in
     let under = drop n vs in
-    guarded (nat_le n (length vs) && none_owned under)
+    guarded ((nat_le n (length vs) && none_owned under) && waits ks K L c)
     (cond (nat_lt (length F) deepest)
     (at f.kinds [] [] (reverse (take n vs) ++ zeros f.locals) (record { kinds = ks; under = under; labels = K; locals = L; rest = c } ∷ F) f.body G)
     (Deep G))
 
+-- where `main` ends names have what they are to have, unless a fault is kept
+abbrev pub ending_name : {A : Type 0} → Option A → Kind → Cell → Bool
+ending_name None k c = tidy_name k c
+ending_name (Some fault) k c = ended_name k c
+
 -- the end of a function, with its answer
 abbrev pub leave_function : Code → Cell → List Frame → Store → Conf
-leave_function u v [] G = guarded (not (is_owned v) && globals_by ended_name u.before u.names G.globals) (Over v G)
+leave_function u v [] G = guarded (not (is_owned v) && globals_by (ending_name G.host.fault) u.before u.names G.globals) (Over v G)
 leave_function u v (f ∷ F) G = at f.kinds (v ∷ f.under) f.labels f.locals F f.rest G
 
 -- the end of a block, or of the function
@@ -225,17 +248,8 @@ abbrev pub is_empty : {A : Type 0} → List A → Bool
 is_empty [] = true
 is_empty (x ∷ xs) = false
 
--- an iterator for each loop over keys that is walked, and no other: such a loop begins with the call for its next key
-abbrev pub is_walk : Option Instructions → Bool
-is_walk (Some (Then (Plain (LocalGet x)) (Then (Plain (LocalTee y)) (Then (Plain (Call n)) c)))) = nat_eq n (import_number (Of row.IterNext))
-is_walk _ = false
-
-abbrev pub loops_walked : List Label → ℕ
-loops_walked [] = 0
-loops_walked (l ∷ K) = cond (is_walk l.again) (suc (loops_walked K)) (loops_walked K)
-
 abbrev pub tidy : Code → List Kind → List Cell → List Label → List Cell → Store → Bool
-tidy u ks vs K L G = (is_empty vs && is_empty G.host.arguments) && ((tidy_locals ks L && nat_eq (iterators_in L) (loops_walked K)) && globals_by tidy_name u.before u.names G.globals)
+tidy u ks vs K L G = (is_empty vs && is_empty G.host.arguments) && ((tidy_locals ks L && nat_eq (iterators_in L) (loops_walked K)) && (globals_by tidy_name u.before u.names G.globals && marks_fit u.names (drop u.before G.globals)))
 
 abbrev pub with_operands : Option (List Cell) → List Kind → List Label → List Cell → List Frame → Instructions → Store → Conf
 with_operands None ks K L F c G = Stuck

@@ -8,8 +8,8 @@ use Rattle.wasm_machine.specs.Machines.{CallerForm, Goes, ProgramForm, Turn, ret
 use Rattle.wasm_machine.specs.Machines as real
 use Rattle.mid_program.specs.Mid.{Kind}
 use Rattle.host_step.specs.HostState.{HostState}
-use Rattle.value_machine.specs.Cells.{Cell, globals_by, ended_name, is_owned, none_owned}
-use Rattle.value_machine.specs.Machine.{Code, Conf, Frame, Label, Over, Store, at, guarded, leave, leave_function}
+use Rattle.value_machine.specs.Cells.{Cell, globals_by, is_owned, none_owned}
+use Rattle.value_machine.specs.Machine.{Code, Conf, Frame, Label, Over, Store, at, guarded, leave, leave_function, ending_name}
 use Rattle.value_refined.specs.Owners.{OwnedOnce}
 use Rattle.value_refined.specs.Refined.{FramesAs, LabelsAs, NextAs, RestAs, entry}
 use Rattle.value_refined.specs.Words.{WordAs, WordsAs, arrays_made}
@@ -39,7 +39,7 @@ module _ {used : ℕ → Bool} {bs : List Bool} {u : Code} {K : List Label} {L :
       (at_as used bs u f.kinds f.labels f.locals F1 G (record c { frame = with_values r.frame (w ∷ r.frame.values); result = r.result; callers = rs }) s
       (record { labels = h.labels; locals = h.locals; globals = rest.globals; callers = b.1; result = h.result; host = rest.host; arrays = rest.arrays; behind = rest.behind; memory = rest.memory })
       f.rest (v ∷ f.under) (a, h.under) h.rest (λ t q. let o = once t q in let g = unowned_all t q f.under r.frame.values h.unowned in omega arith))
-  caller_as v w [] (r ∷ []) a b once = within (not (is_owned v)) refl (globals_by ended_name u.before u.names G.globals)
+  caller_as v w [] (r ∷ []) a b once = within (not (is_owned v)) refl (globals_by (ending_name G.host.fault) u.before u.names G.globals)
     where
       after : real.Conf
       after = record c { frame = with_values (entry used bs).frame (w ∷ []); result = Some ty.I32; callers = [] }

@@ -97,7 +97,7 @@ module _ (p : Program) where
         ap (λ l. slice_get l (new_number bs n)) (sym (append-nil (imports_of p)))
         ∙ (renumbered_there p imports [] n refl stays-n ∙ at-n)
 
-    number_there : slice_get program.numbers (new_number bs n) ≡ Some n
+    pub number_there : slice_get program.numbers (new_number bs n) ≡ Some n
     number_there =
         let q : import_number i ≡ n = (let z = number_at 0 imports refl n i at-n in omega (arith, z)) in
         slice_get-map import_number (imports_of p) (new_number bs n) ∙ (ap (λ (o : Option Import). option_map import_number o) there ∙ ap Some q)

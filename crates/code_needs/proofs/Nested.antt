@@ -1,0 +1,243 @@
+-- Code is nested as deep as its labels are counted.
+use Rattle.std.proofs.Common.{◌≡◌, ◌≤◌, ◌+◌, ℕ, zero, suc, Bool, true, false, List, [], ◌∷◌, length, max, arith}
+use Rattle.std.specs.Prelude.{if◌then◌else◌}
+use Rattle.awk_state.specs.declared.sorts.Answer.TheVariants as answer
+use Rattle.awk_state.specs.declared.sorts.Sort.TheVariants as sort
+use Rattle.awk_state.specs.declared.table.Primitive.{Primitive}
+use Rattle.awk_state.specs.declared.table.Primitive.TheVariants as row
+use Rattle.wasm_types.specs.Instructions.{depths}
+use Rattle.wasm_types.specs.Syntax.{Instructions, Done}
+use Rattle.wasm_types.specs.declared.instr.Simple.{Simple}
+use Rattle.wasm_types.specs.declared.instr.Simple.TheVariants.{Br, Call as CallOf}
+use Rattle.value_machine.specs.Imports.{import_number}
+use Rattle.value_machine.specs.declared.import.Import.TheVariants.{Of}
+use Rattle.mid_program.specs.MidMeaning.{three_values}
+use Rattle.mid_program.specs.Mid.{Kind, Boxed, Unboxed, Many, Code, Do, Over, Compare, Call, Ask, AskLine, FileLine, Replace, Number, Text, Unset, Get, Set, Array, IsOpen, Choose, Seq, Let, Bound, Codes, End, At, Fixed, Fresh, Step, Eval, Block as Steps_, If as Either, Loop, Each, Break, Continue, Next, Exit, ExitWith, Return, Mark, Steps, NoStep, Then as AndThen, Program, Routine, Form, a_value, form_of}
+use Rattle.value_machine.specs.Emission.{Layout, all_emitted, emitted, text_kept}
+use Rattle.value_machine.specs.Functions.{layout_of, main_bases, main_callee, routine_bases, routine_callee}
+use Rattle.value_machine.specs.Places.{Bases}
+use Rattle.value_machine.specs.Small.{does, either}
+use Rattle.value_machine.specs.Statements.{again, all_emptied, arrays_emptied, before_parts, block, iterator_left, iterators_emptied, key_stored, left_by, names_declared, names_made, part_done, record_done, records_read, routines_declared, step_emitted, steps_emitted, temporaries_emptied}
+use Rattle.code_needs.specs.Labels.{labels_among, labels_in, step_labels, steps_labels}
+use Rattle.code_needs.proofs.Depths.{Deep, array_deep, asked_deep, converts_deep, dropped_deep, emitted_deep, emits_deep, kept_code_deep, kept_deep, kept_number_deep, left_deep, pushes_deep, tested_deep, to_number_deep, to_value_deep, truth_deep}
+
+any : {k : Instructions} → Deep k 0
+any = record { count = omega arith }
+
+past : {k : Instructions} {m : ℕ} (i : Simple) → Deep k m → Deep (does i k) m
+past i r = record { count = let h = r.count in omega (arith, h) }
+
+both : {k : Instructions} {m n : ℕ} → Deep k m → Deep k n → Deep k (max m n)
+both a b = record { count = let x = a.count in let y = b.count in omega (arith, x, y) }
+
+at_least : {k : Instructions} {m n : ℕ} → Deep k m → n ≤ m → Deep k n
+at_least r e = record { count = let h = r.count in omega (arith, h, e) }
+
+inside_either : {a c k : Instructions} {m n : ℕ} → Deep a m → Deep c n → Deep (either a c k) (suc (max m n))
+inside_either a c = record { count = let x = a.count in let y = c.count in omega (arith, x, y) }
+
+behind_either : {a c k : Instructions} {m : ℕ} → Deep k m → Deep (either a c k) m
+behind_either r = record { count = let h = r.count in omega (arith, h) }
+
+inside_block : {a k : Instructions} {m : ℕ} → Deep a m → Deep (block a k) (suc m)
+inside_block r = record { count = let h = r.count in omega (arith, h) }
+
+behind_block : {a k : Instructions} {m : ℕ} → Deep k m → Deep (block a k) m
+behind_block r = record { count = let h = r.count in omega (arith, h) }
+
+inside_loop : {a k : Instructions} {m : ℕ} → Deep a m → Deep (block (again a Done) k) (suc (suc m))
+inside_loop r = record { count = let h = r.count in omega (arith, h) }
+
+inside_again : {a k : Instructions} {m : ℕ} → Deep a m → Deep (again a k) m
+inside_again r = record { count = let h = r.count in omega (arith, h) }
+
+module _ (y : Layout) where
+  abbrev b : Bases
+  b = y.bases
+
+  line_kept : {k : Instructions} {m : ℕ} (p : Primitive) (t : ℕ) → Deep k m → Deep (text_kept y p t k) m
+  line_kept p t r = past _ (past _ r)
+
+  -- Expressions.
+
+  mutual
+    unfolding emitted all_emitted
+
+    pub labelled : (k : Instructions) (v : Bool) (fs : List Form) (ts : List ℕ) (e : Code) (t w d : ℕ) → Deep (emitted y v fs ts e t w d k) (labels_in e)
+    labelled k v fs ts (Do o es) t w d = all_labelled _ fs ts es t w d
+    labelled k v fs ts (Over l es) t w d = all_labelled _ fs ts es t w d
+    labelled k v fs ts (Compare c e f) t w d = both (labelled _ false fs ts e t w d) (emitted_deep y false fs ts e t w d (labelled _ false fs ts f (suc t) w d))
+    labelled k v fs ts (Call f es) t w d = all_labelled _ fs ts es t w d
+    labelled k v fs ts Ask t w d = any
+    labelled k v fs ts (AskLine s) t w d =
+        asked_deep y row.GetlineVar t d (past _ (past _ (past _ (at_least (inside_either (line_kept row.Line t (labelled _ true (a_value ∷ fs) (suc t ∷ ts) s (suc (suc t)) w (suc d))) any) (omega arith)))))
+    labelled k v fs ts (FileLine e s) t w d =
+        both (labelled _ false fs ts e t w d)
+        (emitted_deep y false fs ts e t w d (to_value_deep b (form_of fs e) t (past _ (past _ (past _ (past _ (kept_code_deep b true t d
+        (past _ (past _ (past _ (at_least (inside_either (line_kept row.Line t (labelled _ true (a_value ∷ fs) (suc t ∷ ts) s (suc (suc t)) w (suc d))) any) (omega arith))))))))))))
+    labelled k v fs ts (Replace all es s) t w d =
+        both (all_labelled _ fs ts es t w d)
+        (emits_deep y fs ts es t w d (converts_deep y fs three_values es t d (pushes_deep y three_values es t
+        (past _ (past _ (kept_deep b true (answer.Of sort.Number) t d (past _ (past _ (at_least (inside_either any (line_kept row.SubResult t (labelled _ true (a_value ∷ fs) (suc t ∷ ts) s (suc (suc t)) w (suc d)))) (omega arith))))))))))
+    labelled k v fs ts (Number z) t w d = any
+    labelled k v fs ts (Text i) t w d = any
+    labelled k v fs ts Unset t w d = any
+    labelled k v fs ts (Get x) t w d = any
+    labelled k v fs ts (Set x e) t w d = labelled _ false fs ts e t w d
+    labelled k v fs ts (Array a) t w d = any
+    labelled k v fs ts (IsOpen i) t w d = any
+    labelled k v fs ts (Choose s c e f) t w d =
+        both (labelled _ false fs ts c t w d)
+        (emitted_deep y false fs ts c t w d (truth_deep b (form_of fs c) t (inside_either (labelled _ false fs ts e t w (suc d)) (labelled _ false fs ts f t w (suc d)))))
+    labelled k v fs ts (Seq e f) t w d = both (labelled _ true fs ts e t w d) (emitted_deep y true fs ts e t w d (left_deep y e (form_of fs e) t (labelled _ false fs ts f t w d)))
+    labelled k v fs ts (Let e f) t w d = both (labelled _ false fs ts e t w d) (emitted_deep y false fs ts e t w d (labelled _ false (form_of fs e ∷ fs) (t ∷ ts) f (suc t) w d))
+    labelled k v fs ts (Bound z i) t w d = any
+
+    all_labelled : (k : Instructions) (fs : List Form) (ts : List ℕ) (es : Codes) (t w d : ℕ) → Deep (all_emitted y fs ts es t w d k) (labels_among es)
+    all_labelled k fs ts End t w d = any
+    all_labelled k fs ts (At e es) t w d = both (labelled _ false fs ts e t w d) (emitted_deep y false fs ts e t w d (all_labelled _ fs ts es (suc t) w d))
+    all_labelled k fs ts (Fixed n es) t w d = all_labelled _ fs ts es t w d
+    all_labelled k fs ts (Fresh es) t w d = past _ (past _ (all_labelled _ fs ts es t (suc w) d))
+
+  -- Steps.
+
+  module _ {k : Instructions} {m : ℕ} where
+    key_deep : (u : ℕ) (e : Code) (d : ℕ) → Deep k m → Deep (key_stored y u e d k) m
+    key_deep u e d r =
+        past _ (past _ (past _ (past _ (past _ (past _ (past _
+        (dropped_deep y (a_value ∷ []) (zero ∷ []) e 1 zero d (record { count = let h = r.count in omega (arith, h) }))))))))
+
+    iterator_deep : (u : ℕ) → Deep k m → Deep (iterator_left y u k) m
+    iterator_deep u r = record { count = let h = r.count in omega (arith, h) }
+
+    left_by_deep : (way d : ℕ) → Deep k m → Deep (left_by way d k) m
+    left_by_deep way d r = record { count = let h = r.count in omega (arith, h) }
+
+  mutual
+    unfolding step_emitted steps_emitted
+
+    step_deep : {k : Instructions} {m : ℕ} (s : Step) (u d bk ct : ℕ) → Deep k m → Deep (step_emitted y s u d bk ct k) m
+    step_deep (Eval e) u d bk ct r = past _ (dropped_deep y [] [] e zero zero d r)
+    step_deep (Steps_ ss) u d bk ct r = past _ (steps_deep ss u d bk ct r)
+    step_deep (Either e a c) u d bk ct r = past _ (tested_deep y [] [] e zero zero d (behind_either r))
+    step_deep (Loop true e a c) u d bk ct r = past _ (behind_block r)
+    step_deep (Loop false e a c) u d bk ct r = past _ (behind_block r)
+    step_deep (Each a e s) u d bk ct r = past _ (array_deep y a (past _ (past _ (behind_block (iterator_deep u r)))))
+    step_deep Break u d bk ct r = past _ (past _ r)
+    step_deep Continue u d bk ct r = past _ (past _ r)
+    step_deep Next u d bk ct r = past _ (left_by_deep _ d r)
+    step_deep Exit u d bk ct r = past _ (left_by_deep _ d r)
+    step_deep (ExitWith e) u d bk ct r = past _ (emitted_deep y false [] [] e zero zero d (to_number_deep b (form_of [] e) zero d (past _ (past _ (left_by_deep _ d r)))))
+    step_deep (Return e) u d bk ct r = past _ (emitted_deep y false [] [] e zero zero d (to_value_deep b (form_of [] e) zero (past _ (past _ (past _ (past _ (past _ r)))))))
+    step_deep (Mark i c) u d bk ct r = past _ (past _ (past _ r))
+
+    steps_deep : {k : Instructions} {m : ℕ} (ss : Steps) (u d bk ct : ℕ) → Deep k m → Deep (steps_emitted y ss u d bk ct k) m
+    steps_deep NoStep u d bk ct r = r
+    steps_deep (AndThen s ss) u d bk ct r = step_deep s u d bk ct (steps_deep ss u d bk ct r)
+
+  mutual
+    unfolding step_emitted steps_emitted
+
+    step_labelled : (k : Instructions) (s : Step) (u d bk ct : ℕ) → Deep (step_emitted y s u d bk ct k) (step_labels s)
+    step_labelled k (Eval e) u d bk ct = past _ (labelled _ true [] [] e zero zero d)
+    step_labelled k (Steps_ ss) u d bk ct = past _ (steps_labelled _ ss u d bk ct)
+    step_labelled k (Either e a c) u d bk ct =
+        past _ (both (labelled _ false [] [] e zero zero d) (tested_deep y [] [] e zero zero d (inside_either (step_labelled _ a u (suc d) (suc bk) (suc ct)) (step_labelled _ c u (suc d) (suc bk) (suc ct)))))
+    step_labelled k (Loop true e a c) u d bk ct =
+        past _ (at_least (inside_loop (both (labelled _ false [] [] e zero zero (suc (suc d))) (tested_deep y [] [] e zero zero (suc (suc d)) (past _ (past _
+        (both (inside_block (step_labelled _ a u (suc (suc (suc d))) 2 zero)) (behind_block (step_labelled _ c u (suc (suc d)) 1 zero)))))))) (omega arith))
+    step_labelled k (Loop false e a c) u d bk ct =
+        past _ (at_least (inside_loop (both (inside_block (step_labelled _ a u (suc (suc (suc d))) 2 zero))
+        (behind_block (both (step_labelled _ c u (suc (suc d)) 1 zero) (step_deep c u (suc (suc d)) 1 zero (past _ (labelled _ false [] [] e zero zero (suc (suc d))))))))) (omega arith))
+    step_labelled k (Each a e s) u d bk ct =
+        past _ (array_deep y a (past _ (past _ (at_least (inside_loop (both
+        (past _ (past _ (past _ (past _ (past _ (past _ (past _ (labelled _ true (a_value ∷ []) (zero ∷ []) e 1 zero (suc (suc d))))))))))
+        (key_deep u e (suc (suc d)) (inside_block (step_labelled _ s (suc u) (suc (suc (suc d))) 2 zero))))) (omega arith)))))
+    step_labelled k Break u d bk ct = any
+    step_labelled k Continue u d bk ct = any
+    step_labelled k Next u d bk ct = any
+    step_labelled k Exit u d bk ct = any
+    step_labelled k (ExitWith e) u d bk ct = past _ (labelled _ false [] [] e zero zero d)
+    step_labelled k (Return e) u d bk ct = past _ (labelled _ false [] [] e zero zero d)
+    step_labelled k (Mark i c) u d bk ct = any
+
+    pub steps_labelled : (k : Instructions) (ss : Steps) (u d bk ct : ℕ) → Deep (steps_emitted y ss u d bk ct k) (steps_labels ss)
+    steps_labelled k NoStep u d bk ct = any
+    steps_labelled k (AndThen s ss) u d bk ct = both (step_labelled _ s u d bk ct) (step_deep s u d bk ct (steps_labelled _ ss u d bk ct))
+
+  -- Functions.
+
+  temporaries_deep : {k : Instructions} {m : ℕ} (t n : ℕ) → Deep k m → Deep (temporaries_emptied y t n k) m
+  temporaries_deep t zero r = r
+  temporaries_deep t (suc n) r = past _ (past _ (temporaries_deep (suc t) n r))
+
+  iterators_deep : {k : Instructions} {m : ℕ} (t n : ℕ) → Deep k m → Deep (iterators_emptied y t n k) m
+  iterators_deep t zero r = r
+  iterators_deep t (suc n) r = past _ (past _ (iterators_deep (suc t) n r))
+
+  arrays_deep : {k : Instructions} {m : ℕ} (t n : ℕ) → Deep k m → Deep (arrays_emptied y t n k) m
+  arrays_deep t zero r = r
+  arrays_deep t (suc n) r = past _ (past _ (arrays_deep (suc t) n r))
+
+  emptied_deep : {k : Instructions} {m : ℕ} → Deep k m → Deep (all_emptied y k) m
+  emptied_deep r = past _ (past _ (temporaries_deep zero b.temporaries (iterators_deep zero b.iterators (arrays_deep zero b.arrays r))))
+
+-- A FUNCTION is nested as deep as its labels
+pub routine_labelled : (p : Program) (r : Routine) → steps_labels r.body ≤ depths (routine_callee p r).body
+routine_labelled p r =
+    let y = layout_of p (routine_bases r) in
+    (at_least (emptied_deep y (inside_block (steps_labelled y _ r.body zero zero zero zero))) (omega arith)).count
+
+-- `main`.
+
+module _ (y : Layout) where
+  declared_deep : {k : Instructions} {m : ℕ} (i : ℕ) (ks : List Kind) → Deep k m → Deep (names_declared y i ks k) m
+  declared_deep i [] r = r
+  declared_deep i (kind ∷ ks) r = past _ (past _ (past _ (past _ (declared_deep (suc i) ks r))))
+
+  routines_deep : {k : Instructions} {m : ℕ} (i n : ℕ) → Deep k m → Deep (routines_declared y i n k) m
+  routines_deep i zero r = r
+  routines_deep i (suc n) r = past _ (past _ (past _ (past _ (routines_deep (suc i) n r))))
+
+  made_deep : {k : Instructions} {m : ℕ} (i : ℕ) (ks : List Kind) → Deep k m → Deep (names_made y i ks k) m
+  made_deep i [] r = r
+  made_deep i (Boxed ∷ ks) r = past _ (past _ (made_deep (suc i) ks r))
+  made_deep i (Unboxed ∷ ks) r = made_deep (suc i) ks r
+  made_deep i (Many ∷ ks) r = past _ (past _ (made_deep (suc i) ks r))
+
+  before_deep : {k : Instructions} {m : ℕ} (p : Program) → Deep k m → Deep (before_parts y p k) m
+  before_deep p r =
+      past _ (past _ (past _ (kept_number_deep y.bases true zero zero (declared_deep (length p.texts) y.names (routines_deep (length p.texts + length p.globals) (length p.routines)
+      (made_deep zero y.names (asked_deep y row.StartAssign zero zero r)))))))
+
+  inside_part : {a k : Instructions} {m : ℕ} (d : ℕ) → Deep a m → Deep (part_done y a d k) m
+  inside_part d r = at_least (inside_block (inside_block r)) (omega arith)
+
+  behind_part : {a k : Instructions} {m : ℕ} (d : ℕ) → Deep k m → Deep (part_done y a d k) m
+  behind_part d r = behind_block r
+
+  records_labelled : (k : Instructions) (items : Steps) (d : ℕ) → Deep (records_read y items d k) (steps_labels items)
+  records_labelled k items d =
+      let done : Deep (record_done y items (suc (suc d)) (does (Br 1) Done)) (steps_labels items) = at_least (inside_block (inside_block (steps_labelled y _ items zero zero zero zero))) (omega arith) in
+      inside_again (past (CallOf (import_number (Of row.NextMain))) (kept_code_deep y.bases true zero (suc d) (past _ (past _ (past _
+      (at_least {m = suc (max (steps_labels items) 0)} (inside_either {m = steps_labels items} {n = 0} done any) (omega arith)))))))
+
+  items_labelled_in : (items : Steps) (z : Bool) → z ≡ true → Deep (if z then records_read y items zero (does (Br 1) Done) else does (Br 1) Done) (steps_labels items)
+  items_labelled_in items true e = records_labelled (does (Br 1) Done) items zero
+  items_labelled_in items false e = cc
+
+-- BEGIN, END, and the items where records are read
+pub begin_labelled : (p : Program) → steps_labels p.begin ≤ depths (main_callee p).body
+begin_labelled p =
+    let y = layout_of p (main_bases p) in
+    (emptied_deep y (at_least (inside_block (before_deep y p (inside_part y zero (steps_labelled y _ p.begin zero zero zero zero)))) (omega arith))).count
+
+pub end_labelled : (p : Program) → steps_labels p.end ≤ depths (main_callee p).body
+end_labelled p =
+    let y = layout_of p (main_bases p) in
+    (emptied_deep y (at_least (inside_block (before_deep y p (behind_part y zero (past _ (inside_part y zero (steps_labelled y _ p.end zero zero zero zero)))))) (omega arith))).count
+
+pub items_labelled : (p : Program) → p.reads ≡ true → steps_labels p.items ≤ depths (main_callee p).body
+items_labelled p e =
+    let y = layout_of p (main_bases p) in
+    (emptied_deep y (at_least (inside_block (before_deep y p (inside_part y zero (steps_deep y p.begin zero zero zero zero (items_labelled_in y p.items p.reads e))))) (omega arith))).count

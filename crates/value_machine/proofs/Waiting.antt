@@ -1,0 +1,98 @@
+-- Where a function is called its caller holds parameters, operands that are pending, and iterators of the loops that are walked: the machine goes on.
+use Rattle.std.proofs.Common.{◌≡◌, inl, inr, ℕ, zero, suc, ◌+◌, ◌<◌, ◌≤◌, Bool, true, false, List, [], ◌∷◌, ◌++◌, length, refl, sym, ap, ap₂, ◌∙◌, arith}
+use Rattle.std.specs.Prelude.{not, ◌&&◌, ◌||◌, nat_eq}
+use Rattle.std.proofs.lemmas.Bool.{eq-eqb}
+use Rattle.wasm_types.specs.Syntax.{Instructions}
+use Rattle.mid_program.specs.Mid.{Kind, Boxed, Unboxed, Many, Program}
+use Rattle.mid_program.specs.ScriptState.{State}
+use Rattle.mid_program.specs.Sorted.{has_kind}
+use Rattle.value_machine.specs.Cells.{Cell, Bits, Held, IteratorOf, OwnedArray, LentArray, Gone, is_owned, is_held, is_iterator, iterators_in, is_operand, locals_wait, no_value, operands_wait}
+use Rattle.value_machine.specs.Machine.{Label, Frame, loops_walked, waits}
+use Rattle.value_machine.specs.Places.{Bases}
+use Rattle.value_machine.specs.Small.{kept_value}
+use Rattle.value_machine.proofs.Regions.{cells, pairs}
+use Rattle.value_machine.proofs.Locals.{Locals, temporaries_on, laid}
+use Rattle.value_machine.proofs.Steps.{empty}
+use Rattle.value_machine.proofs.Relation.{Fit, IsHand, IsWalk, IsYard, ParamLoose, fit_loose}
+use Rattle.value_machine.proofs.Simulation.{Walking}
+use Rattle.value_machine.proofs.Tidy.{loose_still, passed, same_self, still_cells, still_pairs, still_parameters, unowned_still, walked_cells}
+
+-- cells that hold no value
+
+no_cells : (f : ℕ → Cell) (n : ℕ) (rest : List Cell) → ((i : ℕ) → is_held (f i) ≡ false) → no_value rest ≡ true → no_value (cells f n ++ rest) ≡ true
+no_cells f zero rest h r = r
+no_cells f (suc n) rest h r = ap₂ (λ x y. not x && y) (h zero) (no_cells (λ i. f (suc i)) n rest (λ i. h (suc i)) r)
+
+no_pairs : (f g : ℕ → Cell) (n : ℕ) (rest : List Cell) → ((i : ℕ) → is_held (f i) ≡ false) → ((i : ℕ) → is_held (g i) ≡ false) → no_value rest ≡ true → no_value (pairs f g n ++ rest) ≡ true
+no_pairs f g zero rest h k r = r
+no_pairs f g (suc n) rest h k r =
+    ap₂ (λ x y. not x && y) (h zero) (ap₂ (λ x y. not x && y) (k zero) (no_pairs (λ i. f (suc i)) (λ i. g (suc i)) n rest (λ i. h (suc i)) (λ i. k (suc i)) r))
+
+unowned_free : (c : Cell) → is_owned c ≡ false → is_held c ≡ false
+unowned_free (Bits w) e = refl
+unowned_free (Held v) e = cc
+unowned_free (IteratorOf t) e = refl
+unowned_free (OwnedArray a) e = refl
+unowned_free (LentArray a) e = refl
+unowned_free Gone e = refl
+
+hand_operand : (c : Cell) → IsHand c → is_operand c ≡ true
+hand_operand c (inl e) = ap is_operand e
+hand_operand c (inr q) = ap is_operand q.1
+
+hand_still : (c : Cell) → IsHand c → is_iterator c ≡ false
+hand_still c (inl e) = ap is_iterator e
+hand_still c (inr q) = ap is_iterator q.1
+
+walk_free : (c : Cell) → IsWalk c → is_held c ≡ false
+walk_free c (inl e) = ap is_held e
+walk_free c (inr q) = ap is_held q.1
+
+yard_free : (c : Cell) → IsYard c → is_held c ≡ false
+yard_free c (inl e) = ap is_held e
+yard_free c (inr q) = ap is_held q.1
+
+yard_still : (c : Cell) → IsYard c → is_iterator c ≡ false
+yard_still c (inl e) = ap is_iterator e
+yard_still c (inr q) = ap is_iterator q.1
+
+-- values stand in the first temporaries alone
+operands_ok : (f g : ℕ → Cell) (n t m : ℕ) (rest : List Cell) → m ≡ t + t → t ≤ n → ((i : ℕ) → IsHand (f i)) → ((i : ℕ) → is_owned (g i) ≡ false) → ((i : ℕ) → t ≤ i → f i ≡ empty) → no_value rest ≡ true → operands_wait m (pairs f g n ++ rest) ≡ true
+operands_ok f g n t zero rest e le h k free r = no_pairs f g n rest (λ i. ap is_held (free i (omega (arith, e)))) (λ i. unowned_free (g i) (k i)) r
+operands_ok f g n t (suc zero) rest e le h k free r = absurd (omega (arith, e))
+operands_ok f g zero t (suc (suc m)) rest e le h k free r = absurd (omega (arith, e, le))
+operands_ok f g (suc n) zero (suc (suc m)) rest e le h k free r = absurd (omega (arith, e))
+operands_ok f g (suc n) (suc t) (suc (suc m)) rest e le h k free r =
+    ap₂ (λ x y. x && y) (ap₂ (λ x y. x && not y) (hand_operand (f zero) (h zero)) (k zero))
+    (operands_ok (λ i. f (suc i)) (λ i. g (suc i)) n t m rest (omega (arith, e)) (omega (arith, le)) (λ i. h (suc i)) (λ i. k (suc i)) (λ i li. free (suc i) (omega (arith, li))) r)
+
+module _ (p : Program) (deepest : ℕ) (ks : List Kind) (F : List Frame) (b : Bases) (M n : ℕ) where
+  parameters_wait : (js : List Kind) (f : ℕ → Cell) (m x : ℕ) (rest : List Cell) → x ≡ suc (length js) + m → ((i : ℕ) (k : Kind) → has_kind js i k ≡ true → ParamLoose p deepest ks F k (f i)) → locals_wait (suc m) [] rest ≡ true → locals_wait x js (cells f (length js) ++ rest) ≡ true
+  parameters_wait [] f m x rest e h r = let q : x ≡ suc m = omega (arith, e) in ap (λ z. locals_wait z [] rest) q ∙ r
+  parameters_wait (k ∷ js) f m zero rest e h r = absurd (omega (arith, e))
+  parameters_wait (Boxed ∷ js) f m (suc x) rest e h r = ap₂ (λ x y. x && y) (ap is_held (h zero Boxed refl).1) (parameters_wait js (λ i. f (suc i)) m x rest (omega (arith, e)) (λ i j q. h (suc i) j q) r)
+  parameters_wait (Unboxed ∷ js) f m (suc x) rest e h r = ap₂ (λ x y. not x && y) (h zero Unboxed refl) (parameters_wait js (λ i. f (suc i)) m x rest (omega (arith, e)) (λ i j q. h (suc i) j q) r)
+  parameters_wait (Many ∷ js) f m (suc x) rest e h r = ap₂ (λ x y. not x && y) (h zero Many refl) (parameters_wait js (λ i. f (suc i)) m x rest (omega (arith, e)) (λ i j q. h (suc i) j q) r)
+
+  -- A CALLER WAITS
+  pub waits_there : (t u w d : ℕ) (k : Instructions) (K : List Label) (l : Locals) (σ : State) → Fit p deepest ks F t u w l σ → Walking p deepest ks F b M n (loops_walked K) u l → length ks ≡ b.parameters → t < b.temporaries → waits ks K (laid b l) (kept_value b true t d k) ≡ true
+  waits_there t u w d k K l σ fit walking same lt =
+      let lo = fit_loose p deepest ks F t u w l σ fit in
+      let yards : no_value (cells l.array b.arrays ++ []) ≡ true = no_cells l.array b.arrays [] (λ i. yard_free (l.array i) (fit.yards i)) refl in
+      let rest : no_value (cells l.iterator b.iterators ++ (cells l.array b.arrays ++ [])) ≡ true = no_cells l.iterator b.iterators (cells l.array b.arrays ++ []) (λ i. walk_free (l.iterator i) (fit.walks i)) yards in
+      let behind : locals_wait (suc (t + t)) [] (l.answer ∷ temporaries_on b l) ≡ true =
+      ap₂ (λ x y. not x && y) (ap is_owned fit.answer)
+      (operands_ok l.hand l.number b.temporaries t (t + t) (cells l.iterator b.iterators ++ (cells l.array b.arrays ++ [])) refl (omega (arith, lt)) fit.hands fit.numbers fit.free rest) in
+      let held : locals_wait (suc b.parameters + (t + t)) ks (laid b l) ≡ true =
+      ap (λ m. locals_wait (suc m + (t + t)) ks (cells l.param m ++ (l.answer ∷ temporaries_on b l))) (sym same) ∙ parameters_wait ks l.param (t + t) (suc (length ks) + (t + t)) (l.answer ∷ temporaries_on b l) refl lo.params behind in
+      let e = walked_cells l.iterator b.iterators u (cells l.array b.arrays ++ []) walking.few walking.each (λ x le. fit.still x le) in
+      let a = still_cells l.array b.arrays [] (λ i. yard_still (l.array i) (fit.yards i)) in
+      let walked : iterators_in (l.answer ∷ temporaries_on b l) ≡ u =
+      passed l.answer (iterators_in (temporaries_on b l)) (ap is_iterator fit.answer)
+      ∙ (still_pairs l.hand l.number b.temporaries (cells l.iterator b.iterators ++ (cells l.array b.arrays ++ [])) (λ i. hand_still (l.hand i) (fit.hands i)) (λ i. unowned_still (l.number i) (fit.numbers i))
+      ∙ (e ∙ omega (arith, a))) in
+      let count : nat_eq (iterators_in (laid b l)) (loops_walked K) ≡ true =
+      eq-eqb (iterators_in (laid b l)) (loops_walked K)
+      (ap (λ m. iterators_in (cells l.param m ++ (l.answer ∷ temporaries_on b l))) (sym same)
+      ∙ (still_parameters p deepest ks F b M n ks l.param (l.answer ∷ temporaries_on b l) lo.params ∙ (walked ∙ sym walking.loops))) in
+      ap₂ (λ x y. x && y) held count
