@@ -14,6 +14,7 @@ use Rattle.ere_match.specs.Rows.{AddsNoMoves, AreClasses, HasLed, IsMade, IsMade
 use Rattle.ere_match.specs.Runs.{Runs}
 use Rattle.ere_match.specs.Threads.{Holds, IsAccepted, IsAt, IsBest, IsStepped, SetRuns}
 use Rattle.ere_match.proofs.Ranks.{length_cut, length_numbers}
+use Rattle.ere_match.proofs.Scans.{place_in}
 use Rattle.ere_match.proofs.Searches.{not_first}
 use Rattle.ere_match.proofs.Spreads.{closed_cut, holds_cut, spread_holds}
 use Rattle.ere_match.proofs.Steps.{ends_in, runs_le, runs_within, step_on}
@@ -76,13 +77,6 @@ single_made all entry first stepped row f made = elim (cases_lt 1 row.count) [
   | inl more ↦ absurd (let x = made.increasing.up 0 1 (omega arith) more in let y = made.known 1 more in omega (arith, x, y))
   | inr few ↦ few
 ]
-
-place_in : (text : List ℕ) (i : ℕ) (first : Bool) → first ≡ nat_eq i 0 → i < length text → IsAt text i first false
-place_in text i first is inside = record {
-  near = record { is_first = λ e. eqb-true i 0 (sym is ∙ e); is_last = λ e. absurd cc };
-  first_is = λ e. is ∙ eq-eqb i 0 e;
-  last_is = λ e. absurd (omega (arith, inside, e));
-}
 
 place_last : (text : List ℕ) (i : ℕ) (first : Bool) → first ≡ nat_eq i 0 → i ≡ length text → IsAt text i first true
 place_last text i first is e = record {

@@ -15,3 +15,4 @@ pub mod Hastes
 pub mod Tested
 pub mod Firsts
 pub mod Crowds
+pub mod Sweeps

@@ -21,6 +21,14 @@ place_is text i = record {
   last_is = eq-eqb i (length text);
 }
 
+-- what they say of a place before the end
+pub place_in : (text : List ℕ) (i : ℕ) (first : Bool) → first ≡ nat_eq i 0 → i < length text → IsAt text i first false
+place_in text i first is inside = record {
+  near = record { is_first = λ e. eqb-true i 0 (sym is ∙ e); is_last = λ e. absurd cc };
+  first_is = λ e. is ∙ eq-eqb i 0 e;
+  last_is = λ e. absurd (omega (arith, inside, e));
+}
+
 module _ (all : List Node) (text : List ℕ) (entry from i : ℕ) where
   pub threads_start : (set : Set) → length set ≡ length all → ((id s : ℕ) → Holds set id s → ⊥) → from ≡ i → AreThreads all text entry from i i set None
   threads_start set len empty e = record {

@@ -15,6 +15,7 @@ mod row;
 mod scan;
 mod search;
 mod step;
+mod sweep;
 mod table;
 mod threads;
 

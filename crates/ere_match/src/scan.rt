@@ -3,7 +3,8 @@ ghost use Rattle.std.specs.Prelude.{◌≡◌, ◌+◌, ◌<◌, ◌≤◌, ℕ,
 ghost use Rattle.ere_match.specs.Threads.{AreThreads, Holds, IsBest, IsSettled, SpecNode, better_of};
 
 use crate::node::Node;
-use crate::step::{accepted, step};
+use crate::step::accepted;
+use crate::sweep::sweep;
 use crate::threads::{clear, close, mark};
 
 /// The best match so far, with the least start that is accepted at this place.
@@ -74,6 +75,31 @@ fn settle(
     better(accepted(nodes, set), at, best)
 }
 
+/// Leads the threads of a place before the last on as far as they go, looks for those that are accepted, and leads all over
+/// the byte, into `next`.
+fn cross(
+    nodes: &[Node],
+    entry: usize,
+    text: &[u8],
+    at: usize,
+    set: &mut [Option<usize>],
+    next: &mut [Option<usize>],
+    best: Option<(usize, usize)>,
+) -> Option<(usize, usize)>
+    requires inside { at < length text.now }
+    requires set_len { length set.old ≡ length nodes.now }
+    requires next_len { length next.old ≡ length nodes.now }
+    requires starts { (k s : ℕ) → Holds set.old k s → s ≤ at }
+    ensures next_len { length next.new ≡ length nodes.now }
+    ensures starts { (k s : ℕ) → Holds next.new k s → s ≤ at }
+    ensures threads { (from : ℕ) → from ≤ at → AreThreads nodes.now text.now entry from at at set.old best → IsBest nodes.now text.now entry from at best → AreThreads nodes.now text.now entry from (at + 1) (at + 1) next.new result }
+    ensures best { (from : ℕ) → from ≤ at → AreThreads nodes.now text.now entry from at at set.old best → IsBest nodes.now text.now entry from at best → IsBest nodes.now text.now entry from (at + 1) result }
+{
+    seed(set, entry, at, best);
+    sweep(nodes, set, next, at, text[at], at == 0);
+    better(accepted(nodes, set), at, best)
+}
+
 /// Goes on from a place: the least start, and its greatest end, of the runs from the entry, where `best` is that of the runs
 /// that end before.
 pub(crate) fn scan_on(
@@ -93,8 +119,7 @@ pub(crate) fn scan_on(
 {
     let mut best = best;
     for place in at..text.len() {
-        best = settle(nodes, entry, text, place, set, best);
-        step(nodes, set, text[place], next);
+        best = cross(nodes, entry, text, place, set, next, best);
         match best {
             Some(_) if is_empty(next) => return best,
             _ => {}

@@ -51,7 +51,13 @@ fn target(node: &Node, byte: u8) -> Option<usize>
 }
 
 /// Leads the thread of a node on by the byte, if there is one that takes it.
-fn advance(nodes: &[Node], id: usize, set: &[Option<usize>], byte: u8, next: &mut [Option<usize>])
+pub(crate) fn advance(
+    nodes: &[Node],
+    id: usize,
+    set: &[Option<usize>],
+    byte: u8,
+    next: &mut [Option<usize>],
+)
     requires node { id < length nodes.now }
     requires same_len { length set.now ≡ length nodes.now }
     requires next_len { length next.old ≡ length nodes.now }

@@ -69,7 +69,13 @@ fn follow(
 }
 
 /// Leads the thread of a node on, if there is one, and tells whether a node not before it has changed.
-fn visit(nodes: &[Node], id: usize, set: &mut [Option<usize>], first: bool, last: bool) -> bool
+pub(crate) fn visit(
+    nodes: &[Node],
+    id: usize,
+    set: &mut [Option<usize>],
+    first: bool,
+    last: bool,
+) -> bool
     requires within { id < length nodes.now }
     requires same_len { length set.old ≡ length nodes.now }
     ensures { (bound : ℕ) → ((k s : ℕ) → Holds set.old k s → s < bound) → IsVisited nodes.now first last bound id set.old set.new result }
