@@ -2,6 +2,7 @@ mod Arms
 mod FitLemmas
 mod FormLemmas
 mod Keepings
+mod Keys
 mod RoutineLemmas
 mod SpanLemmas
 mod Views
