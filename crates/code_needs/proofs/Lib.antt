@@ -2,3 +2,4 @@ pub mod Views
 pub mod Lengths
 pub mod Depths
 pub mod Nested
+pub mod Keys

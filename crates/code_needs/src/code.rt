@@ -1,9 +1,9 @@
 //! What the code of an expression needs.
-ghost use Rattle.std.specs.Prelude.{◌≡◌, ◌+◌, max};
+ghost use Rattle.std.specs.Prelude.{◌≡◌, ◌+◌, map, max};
 ghost use Rattle.code_needs.specs.Counted.{counted};
 ghost use Rattle.code_needs.specs.Labels.{labels_among, labels_in};
-ghost use Rattle.mid_program.specs.Mid.{Codes, Do};
-ghost use Rattle.mid_program.specs.ViewCode.{before, view, views};
+ghost use Rattle.mid_program.specs.Mid.{Code as Plain, Codes, Do};
+ghost use Rattle.mid_program.specs.ViewCode.{before, joined, view, views};
 ghost use Rattle.value_machine.specs.Places.{arrays_among, arrays_in, room, rooms};
 
 use crate::counts::{Counts, at_least, both, inside, later, made, only};
@@ -39,6 +39,10 @@ pub(crate) fn counts_in(code: &Code) -> Counts
 {
     match code {
         Code::Do(operation, operands) => at_least(least_room(*operation), counts_among(operands)),
+        Code::Joined(first, others, last) => {
+            let after = joined_counts(others, counts_in(last));
+            both(counts_in(first), later(after))
+        }
         Code::Over(_, operands) => at_least(1, counts_among(operands)),
         Code::Call(_, operands) => at_least(1, counts_among(operands)),
         Code::Compare(_, a, b) => both(counts_in(a), later(counts_in(b))),
@@ -96,6 +100,26 @@ fn counts_among(operands: &[Operand]) -> Counts
     while i > 0 {
         i -= 1;
         needed = operand_counts(&operands[i], needed);
+    }
+    needed
+}
+
+/// What the last of some subscripts needs, after those before it.
+#[cycle(counts)]
+fn joined_counts(others: &[Code], last: Counts) -> Counts
+    ensures temporaries { (z : Plain) → last.temporaries ≡ counted (room z)
+        → result.temporaries ≡ counted (room (joined (map view others.now) z)) }
+    ensures arrays { (z : Plain) → last.arrays ≡ counted (arrays_in z)
+        → result.arrays ≡ counted (arrays_in (joined (map view others.now) z)) }
+    ensures iterators { last.iterators ≡ 0 → result.iterators ≡ 0 }
+    ensures labels { (z : Plain) → last.labels ≡ counted (labels_in z)
+        → result.labels ≡ counted (labels_in (joined (map view others.now) z)) }
+{
+    let mut needed = last;
+    let mut i = others.len();
+    while i > 0 {
+        i -= 1;
+        needed = both(counts_in(&others[i]), later(needed));
     }
     needed
 }

@@ -3,6 +3,7 @@ mod ArrayLemmas
 mod FitLemmas
 mod FormLemmas
 mod Keepings
+mod Keys
 mod RoutineLemmas
 mod SpanLemmas
 mod Views

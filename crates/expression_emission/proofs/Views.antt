@@ -1,14 +1,15 @@
 -- The plain code of code with lists, from those of the lists.
-use Rattle.std.proofs.Common.{◌≡◌, ℕ, Bool, List, refl, sym, ap, ◌∙◌}
+use Rattle.std.proofs.Common.{◌≡◌, ℕ, Bool, List, ◌∷◌, map, refl, sym, ap, ◌∙◌}
 use Rattle.std.specs.declared.vec.Vec.{Vec}
 use Rattle.std.specs.declared.boxed.Box.{Box}
 use Rattle.std.specs.declared.alloc.Global.{Global}
 use Rattle.awk_state.specs.declared.table.Listed.{Listed}
 use Rattle.mid_program.specs.Mid as plain
-use Rattle.mid_program.specs.ViewCode.{before, view, view_row, views}
+use Rattle.mid_program.specs.ViewCode.{before, joined, view, view_row, views}
+use Rattle.mid_program.proofs.Views.{view_joined}
 use Rattle.mid_program.specs.declared.mid.Operation.{Operation}
 use Rattle.mid_program.specs.declared.code.Operand.{Operand}
-use Rattle.mid_program.specs.declared.code.Code.{Code, Do, Over, Call, Replace, Row_of-Operand, end_of-Operand, more_of-Operand, items-the_row-Operand, items_hidden-the_row-Operand-0}
+use Rattle.mid_program.specs.declared.code.Code.{Code, Do, Joined, Over, Call, Replace, Row_of-Operand, end_of-Operand, more_of-Operand, items-the_row-Operand, items_hidden-the_row-Operand-0}
 use Rattle.mid_program.specs.declared.code.Code.TheBlock.{hidden-the_row-Operand-0}
 
 row_views : {n : _} (k : Row_of-Operand n) → view_row k ≡ views (items-the_row-Operand n k)
@@ -31,3 +32,7 @@ pub replace_view : (c : Code) (all : Bool) (v : Vec Operand Global) (es : List O
 replace_view c all v es b s is e f =
     ap (λ (x : plain.Codes). plain.Replace all x (view s)) (operands_of v es e)
     ∙ ap (λ (x : Code). plain.Replace all (view_row (hidden-the_row-Operand-0 v)) (view x)) f ∙ sym (ap view is)
+
+pub key_view : (c : Code) (a : Box Code Global) (v : Vec Code Global) (z : Box Code Global) (first : Code) (others : List Code) (last : Code) → c ≡ Joined a v z → first ≡ a.value → others ≡ v.items → last ≡ z.value
+    → joined (view first ∷ map view others) (view last) ≡ view c
+key_view c a v z first others last is e f g = (λ i. joined (view (e i) ∷ map view (f i)) (view (g i))) ∙ sym (ap view is ∙ view_joined a v z)

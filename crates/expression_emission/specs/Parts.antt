@@ -6,7 +6,7 @@ use Rattle.awk_state.specs.declared.sorts.Argument.{Argument}
 use Rattle.awk_state.specs.declared.sorts.Argument.TheVariants as argument
 use Rattle.awk_state.specs.declared.table.Listed.{Listed}
 use Rattle.awk_state.specs.declared.table.Primitive.{Primitive}
-use Rattle.awk_state.specs.declared.table.Primitive.TheVariants.{GetlineVarFile, Sub}
+use Rattle.awk_state.specs.declared.table.Primitive.TheVariants.{GetlineVarFile, Join, Sub}
 use Rattle.awk_state.specs.declared.sorts.Answer.TheVariants as answer
 use Rattle.awk_state.specs.declared.sorts.Sort.{Sort}
 use Rattle.awk_state.specs.declared.sorts.Sort.TheVariants as sort
@@ -17,6 +17,7 @@ use Rattle.wasm_types.specs.Syntax.{Instructions, Done}
 use Rattle.wasm_types.specs.declared.instr.Simple.TheVariants.{Br, Call as CallOf, GlobalSet, I32Const, LocalGet, LocalTee, Test}
 use Rattle.mid_program.specs.Mid as plain
 use Rattle.mid_program.specs.declared.mid.Operation.{Operation}
+use Rattle.mid_program.specs.declared.mid.Operation.TheVariants.{Host}
 use Rattle.mid_program.specs.Mid.{Kind, Boxed, Unboxed, Many, Code, Codes, End, At, Fixed, Fresh, arguments, form_of, parameters_at}
 use Rattle.value_machine.specs.Places.{Bases, array_local, made_in}
 use Rattle.value_machine.specs.Small.{ask, ask_row, does, h, kept, kept_code, kept_value, minus_one, moved_out, n, number_is, to_value, converted, when}
@@ -95,6 +96,23 @@ host_performed y p es t d k = all_pushed y (arguments_of p) es t (ask_row p (kep
 -- an operation once its operands, of these forms, are evaluated
 abbrev pub operated : Layout → List plain.Form → Operation → Codes → ℕ → ℕ → Instructions → Instructions
 operated y fs o es t d k = converted_with y.bases fs (arguments o) es t d (performed y o es t d k)
+
+-- two subscripts of these forms are joined
+abbrev pub joined_with : Layout → plain.Form → plain.Form → ℕ → ℕ → Instructions → Instructions
+joined_with y f g t d k = operated y (f ∷ g ∷ []) (Host Join) (At plain.Unset (At plain.Unset End)) t d k
+
+abbrev pub joined_form : plain.Form
+joined_form = plain.Answered (answer_of Join)
+
+-- the form of the key of subscripts, the last one apart
+abbrev pub key_form : List plain.Form → plain.Form → plain.Form
+key_form [] last = last
+key_form (f ∷ fs) last = joined_form
+
+-- subscripts of these forms, the last one apart, are joined from the last one on
+abbrev pub all_joined : Layout → List plain.Form → plain.Form → ℕ → ℕ → Instructions → Instructions
+all_joined y [] last t d k = k
+all_joined y (f ∷ fs) last t d k = all_joined y fs last (suc t) d (joined_with y f (key_form fs last) t d k)
 
 -- what takes a list of values, of these forms, that are evaluated
 abbrev pub listed_with : Layout → List plain.Form → Listed → ℕ → ℕ → Instructions → Instructions

@@ -1,8 +1,8 @@
 //! The code of expressions.
-ghost use Rattle.std.specs.Prelude.{[], ◌++◌, ◌≡◌, suc, Bool, map, IfOk, OnOk};
+ghost use Rattle.std.specs.Prelude.{[], ◌∷◌, ◌++◌, ◌≡◌, suc, Bool, map, IfOk, OnOk};
 ghost use Rattle.mid_program.specs.Mid as plain;
 ghost use Rattle.mid_program.specs.Mid.{form_of};
-ghost use Rattle.mid_program.specs.ViewCode.{view, view_slot, views};
+ghost use Rattle.mid_program.specs.ViewCode.{joined, view, view_slot, views};
 ghost use Rattle.value_machine.specs.Emission.{all_emitted, emitted};
 ghost use Rattle.code_emission.specs.Emits.{Emits};
 ghost use Rattle.code_emission.specs.Forms.{view_form};
@@ -16,7 +16,7 @@ use crate::kept::Kept;
 use crate::layout::Layout;
 use crate::leaves::{bound, constant, is_open, line, text, unset, variable};
 use crate::lists::listed;
-use crate::operands::{operated, operation_form};
+use crate::operands::{all_joined, operated, operation_form};
 use crate::pending::asked;
 use crate::slots::slot_set;
 use crate::storing::{array_made, file_asked, left_over, replaced, stored_when, text_kept};
@@ -48,6 +48,7 @@ pub fn expression(
 {
     match code {
         Code::Do(what, es) => operation(y, kept, out, *what, es, at),
+        Code::Joined(first, others, last) => key(y, kept, out, first, others, last, at),
         Code::Over(what, es) => listing(y, kept, out, *what, es, at),
         Code::Compare(op, left, right) => comparison(y, kept, out, *op, left, right, at),
         Code::Call(function, es) => call(y, kept, out, *function, es, at),
@@ -120,6 +121,37 @@ fn operation(
     operands(y, kept, out, &mut forms, es, at)?;
     operated(y, out, &forms, what, es, at.temporary, at.exit)?;
     Ok(operation_form(what))
+}
+
+/// Adds the key of subscripts. All are evaluated before any are joined.
+#[cycle(expressions)]
+fn key(
+    y: &Layout<'_>,
+    kept: &mut Kept,
+    out: &mut Vec<Instr>,
+    first: &Code,
+    others: &[Code],
+    last: &Code,
+    at: At,
+) -> Result<Form, AllocError>
+    requires { Fits (view_layout y.now) (joined (view first.now ∷ map view others.now) (view last.now)) at.temporary at.arrays at.exit }
+    ensures form { IfOk result (λ form. view_form form ≡ form_of kept.old.forms (joined (view first.now ∷ map view others.now) (view last.now))) }
+    ensures emits { (v : Bool) → OnOk result (Emits out.old.items out.new.items (emitted (view_layout y.now) v kept.old.forms kept.old.temporaries (joined (view first.now ∷ map view others.now) (view last.now)) at.temporary at.arrays at.exit)) }
+    ensures kept { OnOk result (kept.new ≡ kept.old) }
+{
+    let form = expression(y, kept, out, false, first, at)?;
+    let mut forms = vec![in y.alloc; form]?;
+    let mut place = next(at);
+    let mut left = others;
+    while let Some((other, rest)) = left.split_first() {
+        let form = expression(y, kept, out, false, other, place)?;
+        forms.push(form)?;
+        place = next(place);
+        left = rest;
+    }
+    let form = expression(y, kept, out, false, last, place)?;
+    all_joined(y, out, &forms, form, at.temporary, at.exit)?;
+    Ok(operation_form(Operation::Host(Primitive::Join)))
 }
 
 /// Adds what takes a list of values.

@@ -1,5 +1,5 @@
 //! Operands that are evaluated: converted, and taken by an operation.
-ghost use Rattle.std.specs.Prelude.{[], ◌≡◌, ◌+◌, suc, ◌≤◌, OnOk, map};
+ghost use Rattle.std.specs.Prelude.{[], ◌≡◌, ◌+◌, suc, ◌≤◌, OnOk, length, map};
 ghost use Rattle.mid_program.specs.Mid.{Answered, answer_by, arguments};
 ghost use Rattle.mid_program.specs.Sorted.{count_of};
 ghost use Rattle.mid_program.specs.ViewCode.{view, view_array, views};
@@ -8,7 +8,7 @@ ghost use Rattle.code_emission.specs.Bounds.{most_labels, most_places};
 ghost use Rattle.code_emission.specs.Emits.{Emits};
 ghost use Rattle.code_emission.specs.Forms.{view_form};
 ghost use Rattle.expression_emission.specs.Fits.{ArrayFits, ArraysFit};
-ghost use Rattle.expression_emission.specs.Parts.{host_performed, operated};
+ghost use Rattle.expression_emission.specs.Parts.{all_joined, host_performed, joined_with, operated};
 ghost use Rattle.expression_emission.specs.View.{view_layout};
 
 use crate::layout::Layout;
@@ -30,6 +30,7 @@ pub(crate) fn array_meant(code: &Code) -> ArrayName
         Code::Do(_, _)
         | Code::Over(_, _)
         | Code::Compare(_, _, _)
+        | Code::Joined(_, _, _)
         | Code::Call(_, _)
         | Code::Ask
         | Code::AskLine(_)
@@ -185,4 +186,46 @@ pub(crate) fn operation_form(operation: Operation) -> Form
             Answer::Of(Sort::Number),
         ),
     }
+}
+
+/// Joins two subscripts that are evaluated.
+fn joined(
+    y: &Layout<'_>,
+    out: &mut Vec<Instr>,
+    first: Form,
+    second: Form,
+    t: u32,
+    exit: u32,
+) -> Result<(), AllocError>
+    requires places { suc (suc (suc (suc t))) ≤ most_places }
+    requires labels { exit ≤ most_labels }
+    ensures { OnOk result (Emits out.old.items out.new.items (joined_with (view_layout y.now) (view_form first) (view_form second) t exit)) }
+{
+    let values = [Operand::Code(Code::Unset), Operand::Code(Code::Unset)];
+    let join = Operation::Host(Primitive::Join);
+    operated(y, out, &[first, second], join, &values, t, exit)
+}
+
+/// Joins subscripts that are evaluated: the last one, whose form stands apart, to the one before it, and so on.
+pub(crate) fn all_joined(
+    y: &Layout<'_>,
+    out: &mut Vec<Instr>,
+    forms: &[Form],
+    last: Form,
+    t: u32,
+    exit: u32,
+) -> Result<(), AllocError>
+    requires places { suc (suc (suc t)) + length forms.now ≤ most_places }
+    requires labels { exit ≤ most_labels }
+    ensures { OnOk result (Emits out.old.items out.new.items (all_joined (view_layout y.now) (map view_form forms.now) (view_form last) t exit)) }
+{
+    let mut second = last;
+    let mut left = forms;
+    while let Some((first, before)) = left.split_last() {
+        let place = t + before.len() as u32;
+        joined(y, out, *first, second, place, exit)?;
+        second = operation_form(Operation::Host(Primitive::Join));
+        left = before;
+    }
+    Ok(())
 }

@@ -66,6 +66,7 @@ pub fn left_over(
         Code::Do(_, _)
         | Code::Over(_, _)
         | Code::Compare(_, _, _)
+        | Code::Joined(_, _, _)
         | Code::Call(_, _)
         | Code::Ask
         | Code::AskLine(_)

@@ -18,7 +18,7 @@ use Rattle.awk_state.specs.Numbers.{Number}
 use Rattle.awk_state.proofs.Words.{fits, small}
 use Rattle.mid_program.specs.View.{view_routine}
 use Rattle.mid_program.specs.declared.program.Routine.{Routine}
-use Rattle.folding.specs.Folding.{folded_routine, folded_steps, reduced, reduced_to, same, value_of}
+use Rattle.folding.specs.Folding.{folded, folded_routine, folded_steps, reduced, reduced_to, same, value_of}
 use Rattle.folding.specs.View.{numeral}
 use Rattle.mid_rewriting.specs.Rewriting.{codes_in, step_in}
 
@@ -111,6 +111,14 @@ operand_more operand.Fresh (operand.Constant n) xs ys h k = absurd cc
 
 pub operands_done : (i : ℕ) (xs ys : List Operand) → i ≡ length xs → Done OperandDone i xs ys → views xs ≡ codes_in same reduced (views ys)
 operands_done i xs ys e h = done_all OperandDone views (λ zs. codes_in same reduced (views zs)) operand_more refl i xs ys e h
+
+-- codes
+
+abbrev pub CodeDone : Code → Code → Type 0
+CodeDone x y = view x ≡ folded (view y)
+
+pub codes_done : (i : ℕ) (xs ys : List Code) → i ≡ length xs → Done CodeDone i xs ys → map view xs ≡ map folded (map view ys)
+codes_done i xs ys e h = done_all CodeDone (map view) (λ zs. map folded (map view zs)) (λ x y xs ys r k. λ j. r j ∷ k j) refl i xs ys e h
 
 -- steps
 

@@ -1,6 +1,6 @@
 //! Expressions.
 
-ghost use Rattle.std.specs.Prelude.{◌≡◌};
+ghost use Rattle.std.specs.Prelude.{◌≡◌, map};
 ghost use Rattle.folding.specs.Folding.{folded, reduced, same};
 ghost use Rattle.mid_program.specs.Mid.{End};
 ghost use Rattle.mid_program.specs.ViewCode.{before, view, views};
@@ -29,6 +29,12 @@ fn folded(code: Code) -> Code
         Code::Do(operation, mut operands) => {
             fold_operands(&mut operands);
             reduced(operation, operands)
+        }
+        Code::Joined(mut first, mut others, mut last) => {
+            fold_code(&mut first);
+            fold_codes(&mut others);
+            fold_code(&mut last);
+            Code::Joined(first, others, last)
         }
         Code::Over(listed, mut operands) => {
             fold_operands(&mut operands);
@@ -112,5 +118,14 @@ fn fold_operands(operands: &mut Vec<Operand>)
 {
     for operand in operands.iter_mut() {
         fold_operand(operand);
+    }
+}
+
+#[cycle(folding)]
+fn fold_codes(codes: &mut Vec<Code>)
+    ensures { map view codes.new.items ≡ map folded (map view codes.old.items) }
+{
+    for code in codes.iter_mut() {
+        fold_code(code);
     }
 }

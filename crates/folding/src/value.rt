@@ -36,6 +36,7 @@ fn constant(code: &Code) -> Option<i64>
     match code {
         Code::Number(number) => in_range(*number),
         Code::Do(_, _)
+        | Code::Joined(_, _, _)
         | Code::Over(_, _)
         | Code::Compare(_, _, _)
         | Code::Call(_, _)

@@ -1,5 +1,6 @@
 -- The code of lists of expressions, a step at a time.
-use Rattle.std.proofs.Common.{◌≡◌, ◌≢◌, ℕ, zero, suc, ◌+◌, ◌<◌, ◌≤◌, ◌==◌, length, drop, get_or, List, [], ◌∷◌, ◌++◌, Option, None, Some, Bool, true, false, if◌then◌else◌, MatchOption, refl, ap, sym, ◌∙◌, arith, length-drop}
+use Rattle.std.proofs.Common.{◌≡◌, ◌≢◌, ℕ, zero, suc, ◌+◌, ◌<◌, ◌≤◌, ◌==◌, length, drop, get_or, List, [], ◌∷◌, ◌++◌, Option, None, Some, Bool, true, false, if◌then◌else◌, MatchOption, map, refl, ap, sym, ◌∙◌, arith}
+use Rattle.std.proofs.lemmas.List.{append_assoc, append-nil, map-append}
 use Rattle.std.specs.Prelude.{is_some}
 use Rattle.std.proofs.lemmas.Bool.{eqb-true}
 use Rattle.std.specs.Int.{from_bool}
@@ -26,6 +27,7 @@ use Rattle.mid_program.specs.Names.{Name, Scope, array_of, function_at, function
 use Rattle.mid_program.specs.Steps.{ere_in, is_ere}
 use Rattle.mid_program.specs.Translation.{FieldTarget, applied_code, argument_codes, code_of, codes_of, ere_code, fresh_codes, given_code, host, keeping, kept_code, key_code, one, passed_code, record_code, special_code, substituted_at, target_in, truncated_code, two, zero_code}
 use Rattle.mid_program.specs.ViewCode.{before, followed, view, views}
+use Rattle.mid_code.specs.Keys.{each_code, key_of}
 use Rattle.mid_code.specs.ViewTarget.{sub_or_gsub}
 use Rattle.mid_program.specs.declared.code.Code.{Code as Owned}
 use Rattle.mid_program.specs.declared.code.Operand.{Operand}
@@ -92,10 +94,10 @@ some_kind (p ∷ ps) lt = p
 module _ (texts : List (List ℕ)) (scope : Scope) where
   -- places
 
-  pub in_list_code : (e : Tree) (x : List ℕ) (t : Tree) (ts : Trees) (first rest : Code) → HasList t ts x ≡ e → first ≡ code_of texts scope t →
-      rest ≡ key_code texts scope ts → host row.Has (two (Array (array_of scope x)) (host row.Join (two first rest))) ≡ code_of texts scope e
+  pub in_list_code : (e : Tree) (x : List ℕ) (t : Tree) (ts : Trees) (key first rest : Code) → HasList t ts x ≡ e → key ≡ host row.Join (two first rest) →
+      first ≡ code_of texts scope t → rest ≡ key_code texts scope ts → host row.Has (two (Array (array_of scope x)) key) ≡ code_of texts scope e
   unfolding code_of
-  in_list_code e x t ts first rest is f r = rw (f, r) (ap (code_of texts scope) is)
+  in_list_code e x t ts key first rest is k f r = rw (k, f, r) (ap (code_of texts scope) is)
 
   pub conditional_code : (e : Expr) (p q r : Box Expr Global) (a b c : Expr) (test first second : Code) → e ≡ Conditional p q r → a ≡ p.value →
       b ≡ q.value → c ≡ r.value →
@@ -133,29 +135,27 @@ module _ (texts : List (List ℕ)) (scope : Scope) where
 
   -- keys
 
-  pub key_none : (es : List Expr) → (length es == 0) ≡ true → Unset ≡ key_code texts scope (trees es)
+  pub key_each : (ts : Trees) → key_of (each_code texts scope ts) ≡ key_code texts scope ts
   unfolding key_code
-  key_none es none = ap (key_code texts scope) (sym (no_trees es none))
+  key_each NoTree = refl
+  key_each (Then t NoTree) = refl
+  key_each (Then t (Then u ts)) = ap (λ (k : Code). host row.Join (two (code_of texts scope t) k)) (key_each (Then u ts))
 
-  pub key_end : (es : List Expr) (i : ℕ) (e : Expr) → i + 1 ≡ length es → e ≡ get_or es i e →
-      code_of texts scope (tree e) ≡ key_code texts scope (trees (drop i es))
-  unfolding key_code
-  key_end es i e n read =
-      sym (ap (key_code texts scope) (part_of es i e (omega arith) read ∙ ap (Then (tree e)) (no_more es (i + 1) (omega arith))))
+  pub each_step : (old new : List Owned) (code : Owned) (es : List Expr) (i : ℕ) (e : Expr) (total : List Code) → i < length es → e ≡ get_or es i e →
+      new ≡ old ++ code ∷ [] → view code ≡ code_of texts scope (tree e) → map view old ++ each_code texts scope (trees (drop i es)) ≡ total →
+      map view new ++ each_code texts scope (trees (drop (i + 1) es)) ≡ total
+  each_step old new code es i e total lt read more is so =
+      let rest = each_code texts scope (trees (drop (i + 1) es)) in
+      ap (λ (cs : List Owned). map view cs ++ rest) more
+      ∙ ap (λ (cs : List Code). cs ++ rest) (map-append view old (code ∷ []))
+      ∙ append_assoc (map view old) (view code ∷ []) rest
+      ∙ ap (λ (c : Code). map view old ++ c ∷ rest) is
+      ∙ sym (ap (λ (ts : Trees). map view old ++ each_code texts scope ts) (part_of es i e lt read)) ∙ so
 
-  key_before : (t : Tree) (es : List Expr) → 0 < length es → host row.Join
-      (two (code_of texts scope t) (key_code texts scope (trees es))) ≡ key_code texts scope (Then t (trees es))
-  unfolding key_code
-  key_before t [] lt = absurd (omega arith)
-  key_before t (e ∷ es) lt = refl
-
-  -- j is the place after i
-  pub key_step : (es : List Expr) (i j : ℕ) (e : Expr) (first rest : Code) → j ≡ i + 1 → j < length es → e ≡ get_or es i e →
-      first ≡ code_of texts scope (tree e) →
-      rest ≡ key_code texts scope (trees (drop j es)) → host row.Join (two first rest) ≡ key_code texts scope (trees (drop i es))
-  key_step es i j e first rest next lt read f r =
-      rw (f, r, next) (key_before (tree e) (drop (i + 1) es) (omega (arith, length-drop (i + 1) es))
-      ∙ sym (ap (key_code texts scope) (part_of es i e (omega arith) read)))
+  pub each_end : (es : List Expr) (i : ℕ) (all : List Owned) → length es ≤ i →
+      map view all ++ each_code texts scope (trees (drop i es)) ≡ each_code texts scope (trees es) → map view all ≡ each_code texts scope (trees es)
+  each_end es i all le so =
+      sym (append-nil (map view all)) ∙ sym (ap (λ (ts : Trees). map view all ++ each_code texts scope ts) (no_more es i le)) ∙ so
 
   -- arguments
 

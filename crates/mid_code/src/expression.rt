@@ -1,6 +1,6 @@
 //! The code of expressions.
 
-ghost use Rattle.std.specs.Prelude.{◌≡◌, ◌≤◌, length, IfOk, OnOk};
+ghost use Rattle.std.specs.Prelude.{◌≡◌, ◌≤◌, length, map, IfOk, OnOk};
 ghost use Rattle.awk_grammar.specs.Tree.{Apply, Call, GetInto, Has, Index, NoTree, Post, Pre, Then};
 ghost use Rattle.awk_grammar.specs.View.{view as tree, views as trees, view_binary, view_step};
 ghost use Rattle.awk_state.specs.declared.table.Primitive.TheVariants as row;
@@ -8,14 +8,15 @@ ghost use Rattle.mid_program.specs.Mid as plain;
 ghost use Rattle.mid_program.specs.Translation.{applied_code, code_of, codes_of, ere_code, ere_for, key_code, kept_code, one, truncated_code};
 ghost use Rattle.mid_program.specs.ViewCode.{followed, view, views};
 ghost use Rattle.mid_program.specs.declared.mid.Operation.{Operation};
+ghost use Rattle.mid_code.specs.Keys.{each_code};
 ghost use Rattle.mid_code.specs.ViewScope.{scope_of, texts_of};
 ghost use Rattle.mid_code.specs.ViewTarget.{sub_or_gsub, view_kept};
 
 use crate::build::{boxed, called, chosen, number, over, variable};
 use crate::operators::{combined, constant, host, inline, prefixed};
 use crate::parts::{
-    apply_none, assign_place, field_number, field_separator, file_line_into, has_list, host_array,
-    host_number, host_one, joined, line_into, missing, part_of, passed, record_length,
+    apply_none, assign_place, field_number, field_separator, file_line_into, host_array, host_number,
+    host_one, joined, key_of, line_into, missing, part_of, passed, record_length,
     record_matches, split_into, step_place, step_place_after, string, substitute_place,
     substitute_record,
 };
@@ -58,9 +59,10 @@ pub(crate) fn code(scope: &Scope<'_>, e: &Expr) -> Result<Code, AllocError>
         }
         Expr::In(key, name) => has_key(scope, key, name),
         Expr::InList(first, others, name) => {
-            let others = key(scope, others)?;
             let first = boxed_code(scope, first)?;
-            has_list(scope, name, first, others)
+            let others = codes(scope, others)?;
+            let key = joined(scope.alloc, first, others)?;
+            host_array(scope, Primitive::Has, name, key)
         }
         Expr::Conditional(test, yes, no) => {
             let test = boxed_code(scope, test)?;
@@ -178,23 +180,27 @@ pub(crate) fn push_operands(
     Ok(())
 }
 
+/// The code of each expression.
+#[cycle(expressions)]
+fn codes(scope: &Scope<'_>, es: &[Expr]) -> Result<Vec<Code>, AllocError>
+    ensures { IfOk result (λ codes. map view codes.items ≡ each_code (texts_of scope.now) (scope_of
+        scope.now) (trees es.now)) }
+{
+    let mut codes = Vec::new(scope.alloc);
+    for e in es {
+        codes.push(code(scope, e)?)?;
+    }
+    Ok(codes)
+}
+
 /// The code of a key, by its subscripts.
 #[cycle(expressions)]
 pub(crate) fn key(scope: &Scope<'_>, subscripts: &[Expr]) -> Result<Box<Code>, AllocError>
     ensures { IfOk result (λ code. view code.value ≡ key_code (texts_of scope.now) (scope_of
         scope.now) (trees subscripts.now)) }
 {
-    if subscripts.is_empty() {
-        return boxed(scope.alloc, Code::Unset);
-    }
-    let mut place = subscripts.len() - 1;
-    let mut key = boxed_code(scope, &subscripts[place])?;
-    while place > 0 {
-        place -= 1;
-        let subscript = boxed_code(scope, &subscripts[place])?;
-        key = joined(scope.alloc, subscript, key)?;
-    }
-    Ok(key)
+    let codes = codes(scope, subscripts)?;
+    key_of(scope.alloc, codes)
 }
 
 /// What is kept for a place.

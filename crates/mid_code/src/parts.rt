@@ -1,6 +1,6 @@
 //! The code of expressions whose parts have their code.
 
-ghost use Rattle.std.specs.Prelude.{◌≡◌, ℕ, List, ◌∷◌, IfOk};
+ghost use Rattle.std.specs.Prelude.{◌≡◌, ℕ, List, ◌∷◌, map, IfOk};
 ghost use Rattle.awk_grammar.specs.Token.{Ere};
 ghost use Rattle.awk_grammar.specs.Tree.{Leaf, NoTree};
 ghost use Rattle.awk_grammar.specs.View.{view as tree, view_assign, view_step};
@@ -14,6 +14,7 @@ ghost use Rattle.mid_program.specs.Names.{Name, array_of};
 ghost use Rattle.mid_program.specs.Texts.{text_place};
 ghost use Rattle.mid_program.specs.Translation.{FieldTarget, applied_code, assigned_at, code_of, fresh_codes, keeping, one, passed_code, received_at, record_code, special_code, step_after_at, stepped_at, substituted_at, target_in, two, zero_code};
 ghost use Rattle.mid_program.specs.ViewCode.{before, view, view_array};
+ghost use Rattle.mid_code.specs.Keys.{key_of};
 ghost use Rattle.mid_code.specs.ViewScope.{scope_of, texts_of};
 ghost use Rattle.mid_code.specs.ViewTarget.{view_kept};
 
@@ -112,31 +113,31 @@ pub(crate) fn host_array(
     )
 }
 
-/// A subscript before the key of others.
+/// The key of a subscript and others.
 pub(crate) fn joined(
     alloc: Global,
     first: Box<Code>,
-    others: Box<Code>,
+    others: Vec<Code>,
 ) -> Result<Box<Code>, AllocError>
     ensures { IfOk result (λ key. view key.value ≡ plain.Do (Operation.Host row.Join) (two (view
-        first.value) (view others.value))) }
+        first.value) (key_of (map view others.items)))) }
 {
-    boxed(alloc, host(alloc, Primitive::Join, first, others)?)
+    let mut others = others;
+    let last = others.pop().unwrap_or(Code::Unset);
+    let last = boxed(alloc, last)?;
+    boxed(alloc, Code::Joined(first, others, last))
 }
 
-/// Whether an array has the element of a list of subscripts.
-pub(crate) fn has_list(
-    scope: &Scope<'_>,
-    name: &[u8],
-    first: Box<Code>,
-    others: Box<Code>,
-) -> Result<Code, AllocError>
-    ensures { IfOk result (λ code. view code ≡ plain.Do (Operation.Host row.Has) (two (plain.Array
-        (array_of (scope_of scope.now) name.now)) (plain.Do (Operation.Host row.Join) (two (view
-        first.value) (view others.value))))) }
+/// The key of subscripts.
+pub(crate) fn key_of(alloc: Global, codes: Vec<Code>) -> Result<Box<Code>, AllocError>
+    ensures { IfOk result (λ key. view key.value ≡ key_of (map view codes.items)) }
 {
-    let key = joined(scope.alloc, first, others)?;
-    host_array(scope, Primitive::Has, name, key)
+    let mut codes = codes;
+    if codes.len() < 2 {
+        return boxed(alloc, codes.pop().unwrap_or(Code::Unset));
+    }
+    let first = boxed(alloc, codes.remove(0))?;
+    joined(alloc, first, codes)
 }
 
 /// The number of a field, which is kept for a place.

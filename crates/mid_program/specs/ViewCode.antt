@@ -1,15 +1,17 @@
 -- The plain code that the types of code stand for.
 use Rattle.std.specs.Prelude.{List, [], ◌∷◌, Option, Some, None}
+use Rattle.awk_state.specs.declared.table.Primitive.TheVariants as row
 use Rattle.mid_program.specs.Names as names
 use Rattle.mid_program.specs.Mid as plain
+use Rattle.mid_program.specs.declared.mid.Operation.TheVariants as operation
 use Rattle.mid_program.specs.declared.code.Slot.{Slot}
 use Rattle.mid_program.specs.declared.code.Slot.TheVariants as slot
 use Rattle.mid_program.specs.declared.code.ArrayName.{ArrayName}
 use Rattle.mid_program.specs.declared.code.ArrayName.TheVariants as array
 use Rattle.mid_program.specs.declared.code.Operand.{Operand}
 use Rattle.mid_program.specs.declared.code.Operand.TheVariants as operand
-use Rattle.mid_program.specs.declared.code.Code.{Code, Row_of-Operand, end_of-Operand, more_of-Operand}
-use Rattle.mid_program.specs.declared.code.Code.TheVariants.{Do', Over', Compare', Call', Ask, AskLine', FileLine', Replace', Number, Text, Unset, Get, Set', Array, IsOpen, Choose', Seq', Let', Bound}
+use Rattle.mid_program.specs.declared.code.Code.{Code, Row_of-Code, end_of-Code, more_of-Code, Row_of-Operand, end_of-Operand, more_of-Operand}
+use Rattle.mid_program.specs.declared.code.Code.TheVariants.{Do', Joined', Over', Compare', Call', Ask, AskLine', FileLine', Replace', Number, Text, Unset, Get, Set', Array, IsOpen, Choose', Seq', Let', Bound}
 use Rattle.mid_program.specs.declared.step.Step.{Step, Row_of-Step, end_of-Step, more_of-Step}
 use Rattle.mid_program.specs.declared.step.Step.TheVariants as step
 
@@ -21,9 +23,15 @@ abbrev pub view_array : ArrayName → names.ArrayName
 view_array (array.Numbered i) = names.Numbered i
 view_array (array.Given i) = names.Given i
 
+-- the key of subscripts, the last one apart: each is joined to the key of those after it
+abbrev pub joined : List plain.Code → plain.Code → plain.Code
+joined [] last = last
+joined (e ∷ es) last = plain.Do (operation.Host row.Join) (plain.At e (plain.At (joined es last) plain.End))
+
 abbrev mutual
   pub view : Code → plain.Code
   view (Do' o shape all) = plain.Do o (view_row all)
+  view (Joined' p e shape all q last) = joined (view e ∷ view_code_row all) (view last)
   view (Over' l shape all) = plain.Over l (view_row all)
   view (Compare' op p a q b) = plain.Compare op (view a) (view b)
   view (Call' f shape all) = plain.Call f (view_row all)
@@ -52,6 +60,10 @@ abbrev mutual
   pub view_row : {m : _} → Row_of-Operand m → plain.Codes
   view_row end_of-Operand = plain.End
   view_row (more_of-Operand e rest) = before e (view_row rest)
+
+  pub view_code_row : {m : _} → Row_of-Code m → List plain.Code
+  view_code_row end_of-Code = []
+  view_code_row (more_of-Code e rest) = view e ∷ view_code_row rest
 
 abbrev pub views : List Operand → plain.Codes
 views [] = plain.End

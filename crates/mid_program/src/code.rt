@@ -23,6 +23,8 @@ pub enum ArrayName {
 #[derive(Drop)]
 pub enum Code {
     Do(Operation, Vec<Operand>),
+    /// The key of subscripts: the first, others, and the last. All are evaluated before any are joined, with SUBSEP between; the last two are joined first.
+    Joined(Box<Code>, Vec<Code>, Box<Code>),
     /// What takes a list of values.
     Over(Listed, Vec<Operand>),
     /// A comparison, of numbers where both are.

@@ -3,3 +3,4 @@ pub mod Seen
 pub mod Congruence
 pub mod Runs
 pub mod Sorted
+pub mod Joining

@@ -16,7 +16,7 @@ use Rattle.mid_program.specs.declared.step.Step.{Step, Block, Row_of-Step, end_o
 use Rattle.mid_program.specs.declared.step.Step.TheBlock.{hidden-the_row-Step-0}
 use Rattle.mid_program.specs.View.{view_routine}
 use Rattle.mid_program.specs.declared.program.Routine.{Routine}
-use Rattle.mid_rewriting.specs.Rewriting.{codes_in, step_in, steps_in}
+use Rattle.mid_rewriting.specs.Rewriting.{code_in, codes_in, step_in, steps_in}
 use Rattle.mid_program.specs.declared.program.Declared.{Declared}
 use Rattle.mid_program.specs.declared.program.Kind.{Kind}
 use Rattle.mid_program.specs.View.{view_declared, view_kind, view_routine}
@@ -109,6 +109,19 @@ module _ (slots : plain.Slot → plain.Slot) where
   operands_done (suc i) (x ∷ xs) (y ∷ ys) e h = operand_more x y xs ys h.0 (operands_done i xs ys (omega (arith, e)) h.1)
   operands_done (suc i) (x ∷ xs) [] e h = absurd h
   operands_done (suc i) [] ys e h = absurd cc
+
+  -- codes
+
+  abbrev pub CodeDone : ℕ → Code → Code → Type 0
+  CodeDone k x y = view x ≡ code_in slots plain.Do (view y)
+
+  pub codes_done : (i : ℕ) (xs ys : List Code) → i ≡ length xs → Done CodeDone i xs ys → map view xs ≡ map (code_in slots plain.Do) (map view ys)
+  codes_done zero [] [] e h = refl
+  codes_done zero [] (y ∷ ys) e h = absurd cc
+  codes_done zero (x ∷ xs) ys e h = absurd cc
+  codes_done (suc i) (x ∷ xs) (y ∷ ys) e h = let rest = codes_done i xs ys (omega (arith, e)) h.1 in λ j. h.0 j ∷ rest j
+  codes_done (suc i) (x ∷ xs) [] e h = absurd h
+  codes_done (suc i) [] ys e h = absurd cc
 
   -- steps
 

@@ -1,15 +1,16 @@
 -- The walk over code, part after part.
-use Rattle.std.proofs.Common.{◌≡◌, ℕ, suc, ◌+◌, ◌<◌, List, [], ◌∷◌, ◌++◌, append_assoc, get_or, drop, length, add-one, refl, sym, ap, ◌∙◌}
+use Rattle.std.proofs.Common.{◌≡◌, ℕ, suc, ◌+◌, ◌<◌, List, [], ◌∷◌, ◌++◌, append_assoc, get_or, drop, length, map, add-one, append-nil, refl, sym, ap, ◌∙◌}
 use Rattle.std.proofs.Math.Seq.{drop-cons}
 use Rattle.mid_program.specs.Mid as plain
 use Rattle.mid_program.specs.Mid.{Code, Codes, End, Form, form_of}
-use Rattle.mid_program.specs.ViewCode.{before, view, view_step, view_steps, views}
+use Rattle.mid_program.specs.ViewCode.{before, joined, view, view_step, view_steps, views}
+use Rattle.mid_program.specs.declared.code.Code.{Code as Owned}
 use Rattle.mid_program.specs.declared.code.Operand.{Operand}
 use Rattle.mid_program.specs.declared.code.Operand.TheVariants as operand
 use Rattle.mid_program.specs.declared.step.Step.{Step}
 use Rattle.value_kinds.specs.Lanes.{Lanes, all_marked, marked}
 use Rattle.mid_rewriting.specs.Stores.{Given, Into, Store, step_stores, steps_stores, stores, stores_given, stores_in}
-use Rattle.value_kinds.specs.Walks.{Walk, after, walked, walked_given, walked_in, walked_step, walked_steps, walked_under}
+use Rattle.value_kinds.specs.Walks.{Walk, after, stores_each, walked, walked_each, walked_given, walked_in, walked_step, walked_steps, walked_under}
 
 marked_twice : (g : ℕ) (l : Lanes) (xs ys : List Store) → all_marked g (all_marked g l xs) ys ≡ all_marked g l (xs ++ ys)
 marked_twice g l [] ys = refl
@@ -58,6 +59,29 @@ pub given_next : (f i : ℕ) (w s : Walk) (x d : Operand) (xs : List Operand) �
 given_next f i w s x d xs lt h e =
     ap (λ (n : ℕ). walked_given f n s (views (drop n xs))) (add-one i) ∙ given_first f i w s x (drop (suc i) xs) e
     ∙ ap (λ (y : Operand). walked_given f i w (views (y ∷ drop (suc i) xs))) h ∙ ap (λ (ys : List Operand). walked_given f i w (views ys)) (sym (drop-cons xs i d lt))
+
+-- codes
+
+each_first : (w s : Walk) (x : Owned) (xs : List Owned) → s ≡ walked w (view x) → walked_each s (map view xs) ≡ walked_each w (map view (x ∷ xs))
+each_first w s x xs e = ap (λ (u : Walk). walked_each u (map view xs)) e ∙ after_twice w (stores w.kept (view x)) (stores_each w.kept (map view xs))
+
+pub each_next : (w s : Walk) (x d : Owned) (xs : List Owned) (i : ℕ) → i < length xs → x ≡ get_or xs i d → s ≡ walked w (view x) → walked_each s (map view (drop (i + 1) xs)) ≡ walked_each w (map view (drop i xs))
+each_next w s x d xs i lt h e =
+    ap (λ (n : ℕ). walked_each s (map view (drop n xs))) (add-one i) ∙ each_first w s x (drop (suc i) xs) e
+    ∙ ap (λ (y : Owned). walked_each w (map view (y ∷ drop (suc i) xs))) h ∙ ap (λ (ys : List Owned). walked_each w (map view ys)) (sym (drop-cons xs i d lt))
+
+joined_stores : (fs : List Form) (es : List Code) (last : Code) → stores_each fs es ++ stores fs last ≡ stores fs (joined es last)
+joined_stores fs [] last = refl
+joined_stores fs (e ∷ es) last =
+    append_assoc (stores fs e) (stores_each fs es) (stores fs last)
+    ∙ ap (λ (ss : List Store). stores fs e ++ ss) (joined_stores fs es last ∙ sym (append-nil (stores fs (joined es last))))
+
+-- the key of subscripts: the first, others, and the last
+pub key_walked : (w s t u : Walk) (e : Code) (es : List Code) (last : Code) → s ≡ walked w e → t ≡ walked_each s es → u ≡ walked t last → u ≡ walked w (joined (e ∷ es) last)
+key_walked w s t u e es last h k l =
+    two_walked w s u (λ fs. stores fs e) (λ fs. stores_each fs es ++ stores fs last) h
+    (two_walked s t u (λ fs. stores_each fs es) (λ fs. stores fs last) k l)
+    ∙ ap (after w) (sym (append_assoc (stores w.kept e) (stores_each w.kept es) (stores w.kept last)) ∙ joined_stores w.kept (e ∷ es) last)
 
 -- statements
 

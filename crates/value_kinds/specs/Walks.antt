@@ -1,5 +1,5 @@
 -- The walk over code that marks what the code stores.
-use Rattle.std.specs.Prelude.{ℕ, List, ◌∷◌, drop, length, map}
+use Rattle.std.specs.Prelude.{ℕ, List, [], ◌∷◌, ◌++◌, drop, length, map}
 use Rattle.mid_program.specs.Mid.{Code, Codes, Form, Step, Steps, form_of, Kind, Routine}
 use Rattle.value_kinds.specs.Lanes.{Lanes, all_marked, routines_marked}
 use Rattle.mid_rewriting.specs.Stores.{Store, step_stores, steps_stores, stores, stores_given, stores_in}
@@ -33,6 +33,14 @@ walked_under f w e = after w (stores (f ∷ w.kept) e)
 
 abbrev pub walked_in : Walk → Codes → Walk
 walked_in w es = after w (stores_in w.kept es)
+
+-- over codes, one after the other
+abbrev pub stores_each : List Form → List Code → List Store
+stores_each fs [] = []
+stores_each fs (e ∷ es) = stores fs e ++ stores_each fs es
+
+abbrev pub walked_each : Walk → List Code → Walk
+walked_each w es = after w (stores_each w.kept es)
 
 -- over the arguments of a function from the i-th on
 abbrev pub walked_given : ℕ → ℕ → Walk → Codes → Walk

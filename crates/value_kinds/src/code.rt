@@ -1,6 +1,6 @@
 //! Expressions.
 
-ghost use Rattle.std.specs.Prelude.{◌≡◌};
+ghost use Rattle.std.specs.Prelude.{◌≡◌, map};
 ghost use Rattle.mid_program.specs.Mid.{Do, End};
 ghost use Rattle.mid_program.specs.ViewCode.{before, view, views};
 ghost use Rattle.mid_rewriting.specs.Rewriting.{code_in, codes_in};
@@ -19,6 +19,12 @@ fn laned(names: Names<'_>, code: Code) -> Code
         Code::Do(operation, mut operands) => {
             lane_operands(names, &mut operands);
             Code::Do(operation, operands)
+        }
+        Code::Joined(mut first, mut others, mut last) => {
+            lane_code(names, &mut first);
+            lane_codes(names, &mut others);
+            lane_code(names, &mut last);
+            Code::Joined(first, others, last)
         }
         Code::Over(listed, mut operands) => {
             lane_operands(names, &mut operands);
@@ -102,5 +108,14 @@ fn lane_operands(names: Names<'_>, operands: &mut Vec<Operand>)
 {
     for operand in operands.iter_mut() {
         lane_operand(names, operand);
+    }
+}
+
+#[cycle(lanes)]
+fn lane_codes(names: Names<'_>, codes: &mut Vec<Code>)
+    ensures { map view codes.new.items ≡ map (code_in (slots names.entry) Do) (map view codes.old.items) }
+{
+    for code in codes.iter_mut() {
+        lane_code(names, code);
     }
 }

@@ -1,14 +1,14 @@
 //! What expressions store.
 
-ghost use Rattle.std.specs.Prelude.{◌≡◌, IfOk, OnOk};
+ghost use Rattle.std.specs.Prelude.{◌≡◌, map, IfOk, OnOk};
 ghost use Rattle.mid_program.specs.Mid.{End};
 ghost use Rattle.mid_program.specs.ViewCode.{before, view, views};
 ghost use Rattle.value_kinds.specs.View.{view_form, view_walk};
-ghost use Rattle.value_kinds.specs.Walks.{form_in, kept_too, walked, walked_given, walked_in, walked_under};
+ghost use Rattle.value_kinds.specs.Walks.{form_in, kept_too, walked, walked_each, walked_given, walked_in, walked_under};
 
 use crate::form::{Form, answer_by};
 use crate::walk::Walk;
-use awk_state::{Answer, Sort};
+use awk_state::{Answer, Primitive, Sort};
 use mid_program::{Code, Operand};
 use std::alloc::AllocError;
 
@@ -69,6 +69,12 @@ pub(crate) fn mark_code(walk: &mut Walk, code: &Code) -> Result<Form, AllocError
             let form = mark_code(walk, kept)?;
             mark_under(walk, form, body)
         }
+        Code::Joined(first, others, last) => {
+            mark_code(walk, first)?;
+            mark_codes(walk, others)?;
+            mark_code(walk, last)?;
+            Ok(Form::Answered(Primitive::Join.answer()))
+        }
         Code::Get(slot) => Ok(Form::of_slot(*slot)),
         Code::Bound(_, place) => Ok(walk.form_at(*place)),
         Code::Ask | Code::Number(_) => Ok(Form::Answered(Answer::Of(Sort::Number))),
@@ -89,6 +95,17 @@ pub(crate) fn mark_under(walk: &mut Walk, form: Form, code: &Code) -> Result<For
     let found = mark_code(walk, code)?;
     walk.let_go();
     Ok(found)
+}
+
+/// Marks what codes store, one after the other.
+#[cycle(marks)]
+fn mark_codes(walk: &mut Walk, codes: &[Code]) -> Result<(), AllocError>
+    ensures { OnOk result (view_walk walk.new ≡ walked_each (view_walk walk.old) (map view codes.now)) }
+{
+    for code in codes {
+        mark_code(walk, code)?;
+    }
+    Ok(())
 }
 
 #[cycle(marks)]

@@ -1,24 +1,30 @@
-use Rattle.std.proofs.Common.{◌≡◌, ℕ, suc, ◌+◌, List, [], ◌++◌, length, map, sym, ap, ◌∙◌, subst, arith}
-use Rattle.std.proofs.lemmas.List.{length-map}
+use Rattle.std.proofs.Common.{◌≡◌, ℕ, suc, ◌+◌, false, List, [], ◌∷◌, ◌++◌, length, map, sym, ap, ◌∙◌, subst, arith, length-append}
+use Rattle.std.proofs.lemmas.List.{length-map, map-append}
 use Rattle.std.proofs.lemmas.Result.{IfOk-weaker, on_ok_weaker}
 use Rattle.awk_state.specs.declared.table.Primitive.TheVariants as row
 use Rattle.mid_program.specs.Mid as plain
 use Rattle.mid_program.specs.Mid.{Codes, form_of}
-use Rattle.mid_program.specs.ViewCode.{view, view_slot, views}
+use Rattle.mid_program.specs.ViewCode.{joined, view, view_slot, views}
+use Rattle.mid_program.specs.declared.code.Code.{Code}
+use Rattle.value_machine.specs.Emission.{emitted}
 use Rattle.value_machine.specs.Places.{handle_local}
 use Rattle.value_machine.specs.Small.{let_go, moved_from}
 use Rattle.value_machine.specs.declared.import.Import.TheVariants.{Drop}
-use Rattle.code_emission.specs.Emits.{Emits}
+use Rattle.code_emission.specs.Emits.{followed, Emits}
 use Rattle.code_emission.specs.Forms.{view_form}
+use Rattle.code_emission.specs.declared.form.Form.{Form}
 use Rattle.code_emission.proofs.Appended.{emits_none}
 use Rattle.expression_emission.specs.Fits.{AllFit, Fits}
-use Rattle.expression_emission.specs.Keeping.{kept_but_one, kept_more}
-use Rattle.expression_emission.specs.Parts.{branch_with, forms_in, stored_with}
+use Rattle.expression_emission.specs.Keeping.{Keeping, kept_but_one, kept_more}
+use Rattle.expression_emission.specs.Parts.{all_joined, branch_with, forms_in, stored_with}
 use Rattle.expression_emission.specs.View.{view_layout}
+use Rattle.expression_emission.specs.declared.at.At.{At}
 use Rattle.expression_emission.proofs.Arms.{assignment_emitted, branch_emitted, call_emitted, choice_emitted, code_emitted, comparison_emitted, file_line_emitted, fixed_emitted, form_added, fresh_emitted, keeping_emitted, kept_form, line_emitted, listing_emitted, next_operand, no_form, none_emitted, operation_emitted, replace_emitted, sequence_emitted, stored_emitted}
 use Rattle.expression_emission.proofs.FitLemmas.{all_places, all_within, arrays_fit}
 use Rattle.expression_emission.proofs.FormLemmas.{forms_counted}
-use Rattle.expression_emission.proofs.Views.{call_view, do_view, over_view, replace_view}
+use Rattle.expression_emission.proofs.Keys.{key_fits, key_weighs, subscript_emitted}
+use Rattle.expression_emission.proofs.WalkLemmas.{no_items}
+use Rattle.expression_emission.proofs.Views.{call_view, do_view, key_view, over_view, replace_view}
 use Rattle.expression_emission.proofs.Weights.{weight, weights}
 use Rattle.expression_emission.proofs.expressions.+expressions.Goals as goal
 
@@ -118,6 +124,146 @@ expression-returns-in-Seq-clause-emits t c = rw ((λ i. plain.Seq (view (c.deref
 pub expression-returns-in-Let-clause-emits : goal.expression-returns-in-Let-clause-emits
 expression-returns-in-Let-clause-emits t c = rw ((λ i. plain.Let (view (c.deref-in-Let.ensures i)) (view (c.deref-in-Let-2.ensures i))) ∙ sym (ap view
     c.in-Let.is)) at (c.keeping.ensures.emits c.args.only)
+
+-- keys
+
+pub expression-key-requires : goal.expression-key-requires
+expression-key-requires t c =
+    let is = key_view c.args.code.now c.in-Joined.first c.in-Joined.others c.in-Joined.last c.deref-in-Joined.result.now c.deref-in-Joined-2.result.now
+    c.deref-in-Joined-3.result.now c.in-Joined.is c.deref-in-Joined.ensures c.deref-in-Joined-2.ensures.value c.deref-in-Joined-3.ensures in
+    let w = ap weight is in (
+      omega (arith, w, c.decreases),
+      subst (λ (x : plain.Code). Fits (view_layout c.args.y.now) x c.args.at.temporary c.args.at.arrays c.args.at.exit)
+          (sym is) c.requires,
+    )
+
+pub expression-returns-in-Joined-clause-form : goal.expression-returns-in-Joined-clause-form
+expression-returns-in-Joined-clause-form t c =
+    let is = key_view c.args.code.now c.in-Joined.first c.in-Joined.others c.in-Joined.last c.deref-in-Joined.result.now c.deref-in-Joined-2.result.now
+    c.deref-in-Joined-3.result.now c.in-Joined.is c.deref-in-Joined.ensures c.deref-in-Joined-2.ensures.value c.deref-in-Joined-3.ensures in
+    IfOk-weaker c.key.result _ _ (λ r h. h ∙ ap (form_of c.args.kept.now.forms) is) c.key.ensures.form
+
+pub expression-returns-in-Joined-clause-emits : goal.expression-returns-in-Joined-clause-emits
+expression-returns-in-Joined-clause-emits t c =
+    let is = key_view c.args.code.now c.in-Joined.first c.in-Joined.others c.in-Joined.last c.deref-in-Joined.result.now c.deref-in-Joined-2.result.now
+    c.deref-in-Joined-3.result.now c.in-Joined.is c.deref-in-Joined.ensures c.deref-in-Joined-2.ensures.value c.deref-in-Joined-3.ensures in
+    rw is at (c.key.ensures.emits c.args.only)
+
+pub key-expression-requires : goal.key-expression-requires
+key-expression-requires t c = (omega (arith, c.decreases), c.requires.1.0)
+
+pub key-next-place-requires : goal.key-next-place-requires
+key-next-place-requires t c = c.requires.0
+
+pub key-loop-other-init : goal.key-loop-other-init
+key-loop-other-init t c =
+    let y = view_layout c.args.y.now in
+    let fs = c.args.kept.now.forms in
+    let ts = c.args.kept.now.temporaries in
+    let w = c.args.at.arrays in
+    let d = c.args.at.exit in
+    let es = map view c.args.others.now in
+    let last = view c.args.last.now in
+    let first : c.next-place.result.temporary ≡ suc c.args.at.temporary = ap (λ (a : At). a.temporary) c.next-place.ensures in
+    let one = ap length c.in_ok-forms.ensures.items in
+    record {
+      fit = rw c.next-place.ensures c.requires.1.1;
+      temporary = omega (arith, first, one);
+      arrays = ap (λ (a : At). a.arrays) c.next-place.ensures;
+      exit = ap (λ (a : At). a.exit) c.next-place.ensures;
+      emits = λ v k. ap (λ (n : ℕ). followed c.expression.new.out.items (emitted y false fs ts (joined es last) n w d
+          (all_joined y (map view_form c.in_ok-forms.forms.items) (form_of fs (joined es last)) c.args.at.temporary d k))) first
+          ∙ ap (λ (gs : List Form). followed c.expression.new.out.items (emitted y false fs ts (joined es last) (suc c.args.at.temporary) w d
+          (all_joined y (map view_form gs) (form_of fs (joined es last)) c.args.at.temporary d k))) c.in_ok-forms.ensures.items
+          ∙ subscript_emitted y v fs [] ts (view c.args.first.now) es last (view_form c.in_ok-form.form) c.args.at.temporary c.args.at.temporary w d
+          c.args.out.now.items c.expression.new.out.items k c.in_ok-form.ensures.form (omega arith) c.in_ok-form.ensures.emits;
+      kept = c.in_ok-form.ensures.kept;
+      lighter = omega arith;
+    }
+
+pub key-loop-other-preserved : goal.key-loop-other-preserved
+key-loop-other-preserved t c =
+    let y = view_layout c.args.y.now in
+    let fs = c.args.kept.now.forms in
+    let ts = c.args.kept.now.temporaries in
+    let w = c.args.at.arrays in
+    let d = c.args.at.exit in
+    let last = view c.args.last.now in
+    let left = c.loop-other.left.now in
+    let rest = c.in-Some.rest.now in
+    let x = c.in-Some.other.now in
+    let gs = map view_form c.loop-other.forms.items in
+    let place = c.loop-other.place.temporary in
+    let old = c.loop-other.out.items in
+    let new = c.expression-in-Some.new.out.items in
+    let is = c.in-Some.ensures.cases.0 in
+    let here = c.loop-other.invariant in
+    let further : c.next-place-in-Some.result.temporary ≡ suc place = ap (λ (a : At). a.temporary) c.next-place-in-Some.ensures in
+    let more = ap length c.in_ok-push.ensures.items ∙ length-append c.loop-other.forms.items (c.in_ok-form-2.form ∷ []) in
+    let there : place ≡ c.args.at.temporary + length gs = omega (arith, here.temporary, length-map c.loop-other.forms.items view_form) in
+    let form = c.in_ok-form-2.ensures.form ∙ ap (λ (m : Keeping). form_of m.forms (view x)) here.kept in
+    let code = rw (here.kept, here.arrays, here.exit) at c.in_ok-form-2.ensures.emits in
+    record {
+      fit = rw c.next-place-in-Some.ensures (key_fits y left rest x last place c.loop-other.place.arrays c.loop-other.place.exit is here.fit).1;
+      temporary = omega (arith, further, more, here.temporary);
+      arrays = ap (λ (a : At). a.arrays) c.next-place-in-Some.ensures ∙ here.arrays;
+      exit = ap (λ (a : At). a.exit) c.next-place-in-Some.ensures ∙ here.exit;
+      emits = λ v k. ap (λ (n : ℕ). followed new (emitted y false fs ts (joined (map view rest) last) n w d
+          (all_joined y (map view_form c.push.new.self.items) (form_of fs (joined (map view rest) last)) c.args.at.temporary d k))) further
+          ∙ ap (λ (hs : List plain.Form). followed new (emitted y false fs ts (joined (map view rest) last) (suc place) w d
+          (all_joined y hs (form_of fs (joined (map view rest) last)) c.args.at.temporary d k)))
+          (ap (map view_form) c.in_ok-push.ensures.items ∙ map-append view_form c.loop-other.forms.items (c.in_ok-form-2.form ∷ []))
+          ∙ subscript_emitted y false fs gs ts (view x) (map view rest) last (view_form c.in_ok-form-2.form) place c.args.at.temporary w d old new k form there code
+          ∙ ap (λ (xs : List Code). followed old (emitted y false fs ts (joined (map view xs) last) place w d
+          (all_joined y gs (form_of fs (joined (map view xs) last)) c.args.at.temporary d k))) (sym is)
+          ∙ here.emits v k;
+      kept = c.in_ok-form-2.ensures.kept ∙ here.kept;
+      lighter = let n = key_weighs left rest x last is in omega (arith, n.1, here.lighter);
+    }
+
+pub key-expression-requires-2 : goal.key-expression-requires-2
+key-expression-requires-2 t c =
+    let none = no_items c.loop-other.left.now c.in_default.ensures.cases in
+    let last = view c.args.last.now in
+    let w = ap (λ (xs : List Code). weight (joined (map view xs) last)) none in
+    let most = c.loop-other.invariant.lighter in (
+      omega (arith, c.decreases, w, most),
+      (subst (λ (xs : List Code). AllFit (view_layout c.args.y.now) (plain.At (joined (map view xs) last) plain.End) c.loop-other.place.temporary
+      c.loop-other.place.arrays c.loop-other.place.exit) (sym none) c.loop-other.invariant.fit).1.0,
+    )
+
+pub key-all_joined-requires-clause-places : goal.key-all_joined-requires-clause-places
+key-all_joined-requires-clause-places t c =
+    let a = c.loop-other.invariant.fit.1.1.0 in
+    let b = c.loop-other.invariant.temporary in
+    omega (arith, a, b)
+
+pub key-all_joined-requires-clause-labels : goal.key-all_joined-requires-clause-labels
+key-all_joined-requires-clause-labels t c =
+    let a = c.loop-other.invariant.fit.0.1.1 in
+    let b = c.loop-other.invariant.exit in
+    omega (arith, a, b)
+
+pub key-returns-clause-emits : goal.key-returns-clause-emits
+key-returns-clause-emits t c =
+    let y = view_layout c.args.y.now in
+    let fs = c.args.kept.now.forms in
+    let ts = c.args.kept.now.temporaries in
+    let w = c.args.at.arrays in
+    let d = c.args.at.exit in
+    let last = view c.args.last.now in
+    let gs = map view_form c.loop-other.forms.items in
+    let place = c.loop-other.place.temporary in
+    let here = c.loop-other.invariant in
+    let form = c.in_ok-form-3.ensures.form ∙ ap (λ (m : Keeping). form_of m.forms last) here.kept in
+    let code = rw (here.kept, here.arrays, here.exit) at c.in_ok-form-3.ensures.emits in
+    λ v k. c.in_ok-all_joined.ensures k
+    ∙ ap (λ (hs : List Form). followed c.expression-2.new.out.items (all_joined y (map view_form hs) (view_form c.in_ok-form-3.form) c.args.at.temporary d k)) c.deref.ensures.value
+    ∙ ap (λ (f : plain.Form). followed c.expression-2.new.out.items (all_joined y gs f c.args.at.temporary d k)) form
+    ∙ code (all_joined y gs (form_of fs last) c.args.at.temporary d k)
+    ∙ ap (λ (xs : List Code). followed c.loop-other.out.items (emitted y false fs ts (joined (map view xs) last) place w d
+    (all_joined y gs (form_of fs (joined (map view xs) last)) c.args.at.temporary d k))) (no_items c.loop-other.left.now c.in_default.ensures.cases)
+    ∙ here.emits v k
 
 -- operands
 

@@ -1,5 +1,14 @@
-use Rattle.std.proofs.Common.{◌+◌, ◌*◌}
-use Rattle.mid_program.specs.ViewCode.{view, views}
+use Rattle.std.proofs.Common.{◌≡◌, ◌+◌, ◌-◌, ◌*◌, ◌≤◌, Bool, false, ◌∷◌, length, map}
+use Rattle.wasm_types.specs.Syntax.{Instructions}
+use Rattle.mid_program.specs.Mid as plain
+use Rattle.mid_program.specs.Mid.{form_of}
+use Rattle.mid_program.specs.ViewCode.{joined, view, views}
+use Rattle.value_machine.specs.Emission.{emitted}
+use Rattle.code_emission.specs.Emits.{followed}
+use Rattle.code_emission.specs.Forms.{view_form}
+use Rattle.expression_emission.specs.Fits.{AllFit}
+use Rattle.expression_emission.specs.Parts.{all_joined}
+use Rattle.expression_emission.specs.View.{view_layout}
 use Rattle.expression_emission.proofs.Weights.{weight, weights}
 use Rattle.expression_emission.proofs.expressions.+expressions.Given as goal
 
@@ -47,3 +56,23 @@ decreases-sequence l = 4 * (weight (view l.first.now) + weight (view l.second.no
 
 abbrev pub decreases-keeping : goal.decreases-keeping
 decreases-keeping l = 4 * (weight (view l.value.now) + weight (view l.rest.now)) + 3
+
+abbrev pub decreases-key : goal.decreases-key
+decreases-key l = 4 * weight (joined (view l.first.now ∷ map view l.others.now) (view l.last.now)) - 1
+
+abbrev pub decreases-key-loop-other : goal.decreases-key-loop-other
+decreases-key-loop-other l = length l.left
+
+abbrev pub invariant-key-loop-other : goal.invariant-key-loop-other
+invariant-key-loop-other l = record {
+  fit : AllFit (view_layout l.y) (plain.At (joined (map view l.left) (view l.last)) plain.End) l.place.temporary l.place.arrays l.place.exit;
+  temporary : l.place.temporary ≡ l.at.temporary + length l.forms.items;
+  arrays : l.place.arrays ≡ l.at.arrays;
+  exit : l.place.exit ≡ l.at.exit;
+  emits : (v : Bool) (k : Instructions) →
+      followed l.out.items (emitted (view_layout l.y) false l.fn.kept.forms l.fn.kept.temporaries (joined (map view l.left) (view l.last)) l.place.temporary l.at.arrays l.at.exit
+      (all_joined (view_layout l.y) (map view_form l.forms.items) (form_of l.fn.kept.forms (joined (map view l.left) (view l.last))) l.at.temporary l.at.exit k))
+      ≡ followed l.fn.out.items (emitted (view_layout l.y) v l.fn.kept.forms l.fn.kept.temporaries (joined (view l.first ∷ map view l.others) (view l.last)) l.at.temporary l.at.arrays l.at.exit k);
+  kept : l.kept ≡ l.fn.kept;
+  lighter : weight (joined (map view l.left) (view l.last)) ≤ weight (joined (map view l.others) (view l.last));
+}

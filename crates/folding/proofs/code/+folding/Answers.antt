@@ -1,9 +1,11 @@
-use Rattle.std.proofs.Common.{rules, length, drop, ap, sym, ◌∙◌, arith}
+use Rattle.std.proofs.Common.{rules, ◌∷◌, length, drop, map, refl, ap, sym, ◌∙◌, arith}
 use Rattle.mid_program.specs.Mid as plain
-use Rattle.mid_program.specs.ViewCode.{view, views}
+use Rattle.mid_program.specs.ViewCode.{joined, view, views}
 use Rattle.mid_program.specs.declared.code.Code.{Code}
-use Rattle.folding.specs.Folding.{folded, reduced}
-use Rattle.folding.proofs.Views.{OperandDone, done_next, operands_of, operands_done, view_call, view_do, view_over, view_replace, written_back}
+use Rattle.mid_program.proofs.Views.{view_codes, view_joined}
+use Rattle.folding.specs.Folding.{folded, reduced, same}
+use Rattle.mid_rewriting.proofs.Joining.{joined_in}
+use Rattle.folding.proofs.Views.{CodeDone, OperandDone, codes_done, done_next, operands_of, operands_done, view_call, view_do, view_over, view_replace, written_back}
 use Rattle.folding.proofs.code.+folding.Goals as goal
 
 pub fold_operands-loop-operand-preserved : goal.fold_operands-loop-operand-preserved
@@ -16,6 +18,26 @@ pub fold_operands-returns : goal.fold_operands-returns
 fold_operands-returns t c =
     ap views (written_back c.args.operands.now.len c.loop-operand.operand-items (drop (length c.loop-operand.operand-items) c.args.operands.now.items) (omega arith))
     ∙ operands_done c.loop-operand.operand-index c.loop-operand.operand-items c.args.operands.now.items (omega arith) c.loop-operand.invariant.done
+
+pub fold_codes-loop-code-preserved : goal.fold_codes-loop-code-preserved
+fold_codes-loop-code-preserved t c = record {
+  rest = search rules;
+  done = done_next CodeDone c.loop-code.code-index c.loop-code.code-items c.args.codes.now.items c.code-item.result c.fold_code.new.code (omega arith) c.loop-code.invariant.done c.fold_code.ensures;
+}
+
+pub fold_codes-returns : goal.fold_codes-returns
+fold_codes-returns t c =
+    ap (map view) (written_back c.args.codes.now.len c.loop-code.code-items (drop (length c.loop-code.code-items) c.args.codes.now.items) (omega arith))
+    ∙ codes_done c.loop-code.code-index c.loop-code.code-items c.args.codes.now.items (omega arith) c.loop-code.invariant.done
+
+pub folded-returns-in-Joined : goal.folded-returns-in-Joined
+folded-returns-in-Joined t c =
+    let first = c.fold_code-in-Joined.ensures ∙ ap (λ (e : Code). folded (view e)) c.deref_mut-in-Joined.ensures.value in
+    let last = c.fold_code-in-Joined-2.ensures ∙ ap (λ (e : Code). folded (view e)) c.deref_mut-in-Joined-2.ensures.value in
+    let others = view_codes c.fold_codes-in-Joined.new.codes ∙ c.fold_codes-in-Joined.ensures in
+    (λ i. joined (first i ∷ others i) (last i))
+    ∙ joined_in same reduced (λ a b. refl) (view c.in-Joined.first.value ∷ map view c.in-Joined.others.items) (view c.in-Joined.last.value)
+    ∙ ap folded (sym (ap view c.in-Joined.is ∙ view_joined c.in-Joined.first c.in-Joined.others c.in-Joined.last))
 
 pub folded-returns-in-Do : goal.folded-returns-in-Do
 folded-returns-in-Do t c =

@@ -1,7 +1,7 @@
 use Rattle.std.proofs.Common.{◌+◌, ◌*◌}
 use Rattle.mid_program.specs.declared.code.Code.{size-Code}
 use Rattle.mid_program.specs.declared.code.Operand.{size-Operand}
-use Rattle.folding.proofs.Views.{Done, OperandDone}
+use Rattle.folding.proofs.Views.{CodeDone, Done, OperandDone}
 use Rattle.folding.proofs.code.+folding.Given as goal
 
 abbrev pub decreases-folded : goal.decreases-folded
@@ -20,4 +20,13 @@ abbrev pub invariant-fold_operands-loop-operand : goal.invariant-fold_operands-l
 invariant-fold_operands-loop-operand l = record {
   rest : goal.unvisited-fold_operands-loop-operand l;
   done : Done OperandDone l.operand-index l.operand-items l.fn.operands.items;
+}
+
+abbrev pub decreases-fold_codes : goal.decreases-fold_codes
+decreases-fold_codes l = 2 * goal.size-fold_codes l + 1
+
+abbrev pub invariant-fold_codes-loop-code : goal.invariant-fold_codes-loop-code
+invariant-fold_codes-loop-code l = record {
+  rest : goal.unvisited-fold_codes-loop-code l;
+  done : Done CodeDone l.code-index l.code-items l.fn.codes.items;
 }

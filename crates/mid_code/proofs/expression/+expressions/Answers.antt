@@ -7,8 +7,9 @@ use Rattle.awk_grammar.proofs.Views.{element_is, call_is, apply_is, in_list_is}
 use Rattle.mid_program.specs.Mid as plain
 use Rattle.mid_program.specs.Translation.{applied_code, code_of}
 use Rattle.mid_program.specs.ViewCode.{view}
+use Rattle.mid_code.specs.Keys.{key_of}
 use Rattle.mid_code.specs.ViewScope.{scope_of, texts_of}
-use Rattle.mid_code.proofs.CodeParts.{binary_is, call_computed, call_end, call_missing, call_named, conditional_code, element_kept, in_list_code, index_code, key_end, key_none, key_step, length_more, list_code, match_code, no_trees, one_tree, operands_end, operands_step, other_code, other_operator, place_replaced, quotient_code, record_replaced, some_left, split_by_code, split_code, split_none, substr_code, substr_from}
+use Rattle.mid_code.proofs.CodeParts.{binary_is, call_computed, call_end, call_missing, call_named, conditional_code, element_kept, in_list_code, index_code, each_end, each_step, key_each, length_more, list_code, match_code, no_trees, one_tree, operands_end, operands_step, other_code, other_operator, place_replaced, quotient_code, record_replaced, split_by_code, split_code, split_none, substr_code, substr_from}
 use Rattle.mid_code.proofs.expression.+expressions.Goals.{call-then-i-es+in_ok-push, call-else-i-es+in-Some+in_ok-passed+in_ok-push-2, call-else-i-es+in_default+in_ok-code+in_ok-push-3}
 use Rattle.mid_code.proofs.expression.+expressions.Goals as goal
 
@@ -31,12 +32,13 @@ code-returns-in-Apply t c =
     IfOk-weaker c.apply.result _ _ (λ r h. h ∙ ap (code_of (texts_of c.args.scope.now) (scope_of c.args.scope.now))
     (apply_is c.args.e.now c.in-Apply.function c.in-Apply.arguments _ c.in-Apply.is c.deref-in-Apply.ensures.value)) c.apply.ensures
 
-pub code-returns-in_ok-first-in-InList : goal.code-returns-in_ok-first-in-InList
-code-returns-in_ok-first-in-InList t c =
-    IfOk-weaker c.has_list.result _ _ (λ r h. h ∙ in_list_code (texts_of c.args.scope.now) (scope_of c.args.scope.now) (tree c.args.e.now) _ _ _ _ _
-    (in_list_is c.args.e.now c.in-InList.first c.in-InList.others c.in-InList.name _ _ _ c.in-InList.is c.deref-in-InList-2.ensures
-    c.deref-in-InList.ensures.value c.deref-in-InList-3.ensures.value) c.in_ok-first-in-InList.ensures c.in_ok-others-in-InList.ensures)
-    c.has_list.ensures
+pub code-returns-in_ok-key-in-InList : goal.code-returns-in_ok-key-in-InList
+code-returns-in_ok-key-in-InList t c =
+    let others = ap key_of c.in_ok-others-in-InList.ensures ∙ key_each (texts_of c.args.scope.now) (scope_of c.args.scope.now) _ in
+    IfOk-weaker c.host_array.result _ _ (λ r h. h ∙ in_list_code (texts_of c.args.scope.now) (scope_of c.args.scope.now) (tree c.args.e.now) _ _ _ _ _ _
+    (in_list_is c.args.e.now c.in-InList.first c.in-InList.others c.in-InList.name _ _ _ c.in-InList.is c.deref-in-InList.ensures
+    c.deref-in-InList-2.ensures.value c.deref-in-InList-3.ensures.value) c.in_ok-key-in-InList.ensures c.in_ok-first-in-InList.ensures others)
+    c.host_array.ensures
 
 pub code-returns-in_ok-boxed_code-in-Conditional : goal.code-returns-in_ok-boxed_code-in-Conditional
 code-returns-in_ok-boxed_code-in-Conditional t c =
@@ -61,27 +63,18 @@ pub push_operands-returns : goal.push_operands-returns
 push_operands-returns t c = operands_end (texts_of c.args.scope.now) (scope_of c.args.scope.now) _ c.args.es.now c.loop-e.e-index _
     (omega arith) c.loop-e.invariant
 
-pub key-returns-then-is_empty : goal.key-returns-then-is_empty
-key-returns-then-is_empty t c =
-    IfOk-weaker c.boxed.result _ _ (λ r h. ap view h ∙ key_none (texts_of c.args.scope.now) (scope_of c.args.scope.now) c.args.subscripts.now (cc))
-    c.boxed.ensures
+pub codes-loop-e-preserved : goal.codes-loop-e-preserved
+codes-loop-e-preserved t c =
+    each_step (texts_of c.args.scope.now) (scope_of c.args.scope.now) _ _ _ c.args.es.now c.loop-e.e-index c.e-item.result _
+    (omega arith) c.e-item.is c.in_ok-push.ensures.items c.in_ok-code.ensures c.loop-e.invariant
 
-pub key-loop-place-init : goal.key-loop-place-init
-key-loop-place-init t c =
-    let some = some_left (length c.args.subscripts.now) (cc) in
-    record {
-      within = omega arith;
-      key = c.in_ok-key.ensures ∙ key_end (texts_of c.args.scope.now)
-          (scope_of c.args.scope.now) c.args.subscripts.now _ c.index-subscripts-place.result (omega arith) c.index-subscripts-place.is;
-    }
+pub codes-returns : goal.codes-returns
+codes-returns t c = each_end (texts_of c.args.scope.now) (scope_of c.args.scope.now) c.args.es.now c.loop-e.e-index _ (omega arith) c.loop-e.invariant
 
-pub key-loop-place-preserved : goal.key-loop-place-preserved
-key-loop-place-preserved t c = record {
-  within = omega arith;
-  key = c.in_ok-key-2.ensures ∙ key_step (texts_of c.args.scope.now) (scope_of c.args.scope.now) c.args.subscripts.now
-      (c.loop-place.place - 1) c.loop-place.place _ _ _ (omega arith) c.loop-place.invariant.within c.index-subscripts-place-in-loop-place.is
-      c.in_ok-subscript.ensures c.loop-place.invariant.key;
-}
+pub key-returns : goal.key-returns
+key-returns t c =
+    IfOk-weaker c.key_of.result _ _ (λ r h. h ∙ ap key_of c.in_ok-codes.ensures ∙ key_each (texts_of c.args.scope.now) (scope_of c.args.scope.now)
+    (trees c.args.subscripts.now)) c.key_of.ensures
 
 pub call-loop-i-preserved : goal.call-loop-i-preserved
 call-loop-i-preserved t c =

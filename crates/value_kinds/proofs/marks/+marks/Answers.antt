@@ -1,4 +1,4 @@
-use Rattle.std.proofs.Common.{List, [], ◌∷◌, ◌++◌, ap, sym, ◌∙◌, arith}
+use Rattle.std.proofs.Common.{List, [], ◌∷◌, ◌++◌, map, ap, sym, ◌∙◌, arith}
 use Rattle.std.proofs.lemmas.List.{drop_all}
 use Rattle.std.proofs.lemmas.Result.{on_ok_weaker}
 use Rattle.mid_program.specs.Mid.{a_value, form_of}
@@ -7,9 +7,10 @@ use Rattle.mid_program.specs.declared.code.Code.{Code}
 use Rattle.mid_program.specs.declared.code.Operand.{Operand}
 use Rattle.mid_rewriting.specs.Stores.{stores, stores_in}
 use Rattle.value_kinds.specs.View.{view_form, view_walk}
-use Rattle.value_kinds.specs.Walks.{walked, walked_given, walked_in, walked_under}
+use Rattle.value_kinds.specs.Walks.{walked, walked_each, walked_given, walked_in, walked_under}
+use Rattle.mid_program.proofs.Views.{view_joined}
 use Rattle.value_kinds.proofs.Views.{view_call, view_do, view_over, view_replace}
-use Rattle.value_kinds.proofs.Walked.{given_next, given_walked, in_next, let_walked, set_walked, two_walked}
+use Rattle.value_kinds.proofs.Walked.{each_next, given_next, given_walked, in_next, key_walked, let_walked, set_walked, two_walked}
 use Rattle.value_kinds.proofs.marks.+marks.Goals as goal
 
 pub mark_argument-returns-in_ok-form-in-Code : goal.mark_argument-returns-in_ok-form-in-Code
@@ -32,6 +33,27 @@ pub mark_code-returns-in_ok-mark_operands-in-Do-clause-walk : goal.mark_code-ret
 mark_code-returns-in_ok-mark_operands-in-Do-clause-walk t c =
     c.in_ok-mark_operands-in-Do.ensures ∙ ap (λ (es : List Operand). walked_in (view_walk c.args.walk.now) (views es)) c.deref.ensures.value
     ∙ ap (walked (view_walk c.args.walk.now)) (sym (ap view c.in-Do.is ∙ view_do c.in-Do.operation c.in-Do.operands))
+
+pub mark_code-returns-in_ok-mark_code-in-Joined-2-clause-walk : goal.mark_code-returns-in_ok-mark_code-in-Joined-2-clause-walk
+mark_code-returns-in_ok-mark_code-in-Joined-2-clause-walk t c =
+    let w = view_walk c.args.walk.now in
+    let s = view_walk c.mark_code-in-Joined.new.walk in
+    let u = view_walk c.mark_codes-in-Joined.new.walk in
+    key_walked w s u (view_walk c.mark_code-in-Joined-2.new.walk) (view c.in-Joined.first.value) (map view c.in-Joined.others.items) (view c.in-Joined.last.value)
+    (c.in_ok-mark_code-in-Joined.ensures.walk ∙ ap (λ (x : Code). walked w (view x)) c.deref-in-Joined.ensures)
+    (c.in_ok-mark_codes-in-Joined.ensures ∙ ap (λ (es : List Code). walked_each s (map view es)) c.deref-in-Joined-2.ensures.value)
+    (c.in_ok-mark_code-in-Joined-2.ensures.walk ∙ ap (λ (x : Code). walked u (view x)) c.deref-in-Joined-3.ensures)
+    ∙ ap (walked w) (sym (ap view c.in-Joined.is ∙ view_joined c.in-Joined.first c.in-Joined.others c.in-Joined.last))
+
+pub mark_codes-loop-code-preserved : goal.mark_codes-loop-code-preserved
+mark_codes-loop-code-preserved t c =
+    each_next (view_walk c.loop-code.walk) (view_walk c.mark_code.new.walk) c.code-item.result c.code-item.result c.args.codes.now c.loop-code.code-index
+    (omega arith) c.code-item.is c.in_ok-mark_code.ensures.walk ∙ c.loop-code.invariant
+
+pub mark_codes-returns : goal.mark_codes-returns
+mark_codes-returns t c =
+    ap (λ (xs : List Code). walked_each (view_walk c.loop-code.walk) (map view xs)) (sym (drop_all c.loop-code.code-index c.args.codes.now (omega arith)))
+    ∙ c.loop-code.invariant
 
 pub mark_code-returns-in_ok-mark_operands-in-Over-clause-walk : goal.mark_code-returns-in_ok-mark_operands-in-Over-clause-walk
 mark_code-returns-in_ok-mark_operands-in-Over-clause-walk t c =
