@@ -1,5 +1,5 @@
 -- The code of the key of subscripts, from that of each.
-use Rattle.std.proofs.Common.{◌≡◌, ℕ, suc, ◌+◌, ◌<◌, ◌≤◌, Bool, false, List, [], ◌∷◌, ◌++◌, length, map, refl, sym, ap, subst, ◌∙◌, arith}
+use Rattle.std.proofs.Common.{◌≡◌, ℕ, suc, ◌+◌, ◌<◌, Bool, false, List, [], ◌∷◌, ◌++◌, length, map, refl, sym, ap, subst, ◌∙◌, arith}
 use Rattle.wasm_types.specs.Syntax.{Instructions}
 use Rattle.wasm_types.specs.declared.instr.Instr.{Instr}
 use Rattle.mid_program.specs.Mid as plain

@@ -15,8 +15,8 @@ ghost use Rattle.mid_code.specs.ViewTarget.{sub_or_gsub, view_kept};
 use crate::build::{boxed, called, chosen, number, over, variable};
 use crate::operators::{combined, constant, host, inline, prefixed};
 use crate::parts::{
-    apply_none, assign_place, field_number, field_separator, file_line_into, host_array, host_number,
-    host_one, joined, key_of, line_into, missing, part_of, passed, record_length,
+    apply_none, assign_place, field_number, field_separator, file_line_into, host_array,
+    host_number, host_one, joined, key_of, line_into, missing, part_of, passed, record_length,
     record_matches, split_into, step_place, step_place_after, string, substitute_place,
     substitute_record,
 };

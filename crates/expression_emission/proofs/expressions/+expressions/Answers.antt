@@ -229,7 +229,7 @@ key-expression-requires-2 t c =
     let most = c.loop-other.invariant.lighter in (
       omega (arith, c.decreases, w, most),
       (subst (λ (xs : List Code). AllFit (view_layout c.args.y.now) (plain.At (joined (map view xs) last) plain.End) c.loop-other.place.temporary
-      c.loop-other.place.arrays c.loop-other.place.exit) (sym none) c.loop-other.invariant.fit).1.0,
+          c.loop-other.place.arrays c.loop-other.place.exit) (sym none) c.loop-other.invariant.fit).1.0,
     )
 
 pub key-all_joined-requires-clause-places : goal.key-all_joined-requires-clause-places

@@ -4,7 +4,7 @@ use Rattle.mid_program.specs.Mid as plain
 use Rattle.code_emission.specs.Emits.{followed}
 use Rattle.code_emission.specs.Forms.{view_form}
 use Rattle.code_emission.specs.declared.form.Form.{Form}
-use Rattle.expression_emission.specs.Parts.{all_joined, joined_form, joined_with}
+use Rattle.expression_emission.specs.Parts.{all_joined, joined_form}
 use Rattle.expression_emission.specs.View.{view_layout}
 use Rattle.expression_emission.proofs.Keys.{joined_last}
 use Rattle.expression_emission.proofs.WalkLemmas.{no_items}

@@ -32,9 +32,9 @@ fold_codes-returns t c =
 
 pub folded-returns-in-Joined : goal.folded-returns-in-Joined
 folded-returns-in-Joined t c =
-    let first = c.fold_code-in-Joined.ensures ∙ ap (λ (e : Code). folded (view e)) c.deref_mut-in-Joined.ensures.value in
-    let last = c.fold_code-in-Joined-2.ensures ∙ ap (λ (e : Code). folded (view e)) c.deref_mut-in-Joined-2.ensures.value in
-    let others = view_codes c.fold_codes-in-Joined.new.codes ∙ c.fold_codes-in-Joined.ensures in
+    let first = c.fold_code.ensures ∙ ap (λ (e : Code). folded (view e)) c.deref_mut.ensures.value in
+    let last = c.fold_code-in-Joined.ensures ∙ ap (λ (e : Code). folded (view e)) c.deref_mut-in-Joined.ensures.value in
+    let others = view_codes c.fold_codes.new.codes ∙ c.fold_codes.ensures in
     (λ i. joined (first i ∷ others i) (last i))
     ∙ joined_in same reduced (λ a b. refl) (view c.in-Joined.first.value ∷ map view c.in-Joined.others.items) (view c.in-Joined.last.value)
     ∙ ap folded (sym (ap view c.in-Joined.is ∙ view_joined c.in-Joined.first c.in-Joined.others c.in-Joined.last))

@@ -5,16 +5,16 @@ use Rattle.folding.proofs.Views.{CodeDone, Done, OperandDone}
 use Rattle.folding.proofs.code.+folding.Given as goal
 
 abbrev pub decreases-folded : goal.decreases-folded
-decreases-folded l = 2 * size-Code l.code
+decreases-folded l = 3 * size-Code l.code
 
 abbrev pub decreases-fold_code : goal.decreases-fold_code
-decreases-fold_code l = 2 * size-Code l.code.now + 1
+decreases-fold_code l = 3 * size-Code l.code.now + 1
 
 abbrev pub decreases-fold_operand : goal.decreases-fold_operand
-decreases-fold_operand l = 2 * size-Operand l.operand.now
+decreases-fold_operand l = 3 * size-Operand l.operand.now
 
 abbrev pub decreases-fold_operands : goal.decreases-fold_operands
-decreases-fold_operands l = 2 * goal.size-fold_operands l + 1
+decreases-fold_operands l = 3 * goal.size-fold_operands l + 1
 
 abbrev pub invariant-fold_operands-loop-operand : goal.invariant-fold_operands-loop-operand
 invariant-fold_operands-loop-operand l = record {
@@ -23,7 +23,7 @@ invariant-fold_operands-loop-operand l = record {
 }
 
 abbrev pub decreases-fold_codes : goal.decreases-fold_codes
-decreases-fold_codes l = 2 * goal.size-fold_codes l + 1
+decreases-fold_codes l = 3 * goal.size-fold_codes l + 2
 
 abbrev pub invariant-fold_codes-loop-code : goal.invariant-fold_codes-loop-code
 invariant-fold_codes-loop-code l = record {

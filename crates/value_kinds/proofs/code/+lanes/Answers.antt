@@ -34,9 +34,9 @@ lane_codes-returns t c =
 pub laned-returns-in-Joined : goal.laned-returns-in-Joined
 laned-returns-in-Joined t c =
     let laned : plain.Code → plain.Code = code_in (slots c.args.names) plain.Do in
-    let first = c.lane_code-in-Joined.ensures ∙ ap (λ (e : Code). laned (view e)) c.deref_mut-in-Joined.ensures.value in
-    let last = c.lane_code-in-Joined-2.ensures ∙ ap (λ (e : Code). laned (view e)) c.deref_mut-in-Joined-2.ensures.value in
-    let others = view_codes c.lane_codes-in-Joined.new.codes ∙ c.lane_codes-in-Joined.ensures in
+    let first = c.lane_code.ensures ∙ ap (λ (e : Code). laned (view e)) c.deref_mut.ensures.value in
+    let last = c.lane_code-in-Joined.ensures ∙ ap (λ (e : Code). laned (view e)) c.deref_mut-in-Joined.ensures.value in
+    let others = view_codes c.lane_codes.new.codes ∙ c.lane_codes.ensures in
     (λ i. joined (first i ∷ others i) (last i))
     ∙ joined_in (slots c.args.names) plain.Do (λ a b. refl) (view c.in-Joined.first.value ∷ map view c.in-Joined.others.items) (view c.in-Joined.last.value)
     ∙ ap laned (sym (ap view c.in-Joined.is ∙ view_joined c.in-Joined.first c.in-Joined.others c.in-Joined.last))

@@ -6,16 +6,16 @@ use Rattle.value_kinds.proofs.Views.{CodeDone, Done, OperandDone}
 use Rattle.value_kinds.proofs.code.+lanes.Given as goal
 
 abbrev pub decreases-laned : goal.decreases-laned
-decreases-laned l = 2 * size-Code l.code
+decreases-laned l = 3 * size-Code l.code
 
 abbrev pub decreases-lane_code : goal.decreases-lane_code
-decreases-lane_code l = 2 * size-Code l.code.now + 1
+decreases-lane_code l = 3 * size-Code l.code.now + 1
 
 abbrev pub decreases-lane_operand : goal.decreases-lane_operand
-decreases-lane_operand l = 2 * size-Operand l.operand.now
+decreases-lane_operand l = 3 * size-Operand l.operand.now
 
 abbrev pub decreases-lane_operands : goal.decreases-lane_operands
-decreases-lane_operands l = 2 * goal.size-lane_operands l + 1
+decreases-lane_operands l = 3 * goal.size-lane_operands l + 1
 
 abbrev pub invariant-lane_operands-loop-operand : goal.invariant-lane_operands-loop-operand
 invariant-lane_operands-loop-operand l = record {
@@ -24,7 +24,7 @@ invariant-lane_operands-loop-operand l = record {
 }
 
 abbrev pub decreases-lane_codes : goal.decreases-lane_codes
-decreases-lane_codes l = 2 * goal.size-lane_codes l + 1
+decreases-lane_codes l = 3 * goal.size-lane_codes l + 2
 
 abbrev pub invariant-lane_codes-loop-code : goal.invariant-lane_codes-loop-code
 invariant-lane_codes-loop-code l = record {

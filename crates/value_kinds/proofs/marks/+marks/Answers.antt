@@ -38,7 +38,7 @@ pub mark_code-returns-in_ok-mark_code-in-Joined-2-clause-walk : goal.mark_code-r
 mark_code-returns-in_ok-mark_code-in-Joined-2-clause-walk t c =
     let w = view_walk c.args.walk.now in
     let s = view_walk c.mark_code-in-Joined.new.walk in
-    let u = view_walk c.mark_codes-in-Joined.new.walk in
+    let u = view_walk c.mark_codes.new.walk in
     key_walked w s u (view_walk c.mark_code-in-Joined-2.new.walk) (view c.in-Joined.first.value) (map view c.in-Joined.others.items) (view c.in-Joined.last.value)
     (c.in_ok-mark_code-in-Joined.ensures.walk ∙ ap (λ (x : Code). walked w (view x)) c.deref-in-Joined.ensures)
     (c.in_ok-mark_codes-in-Joined.ensures ∙ ap (λ (es : List Code). walked_each s (map view es)) c.deref-in-Joined-2.ensures.value)
