@@ -1,5 +1,5 @@
 -- Marking imports one after another.
-use Rattle.std.proofs.Common.{◌≡◌, ℕ, zero, suc, ◌+◌, ◌<◌, ◌≤◌, nat_eq, Bool, true, false, ◌||◌, List, [], ◌∷◌, length, replicate, slice_set, ◌≢◌, refl, sym, ap, ◌∙◌, arith}
+use Rattle.std.proofs.Common.{◌≡◌, ℕ, zero, suc, ◌+◌, ◌<◌, ◌≤◌, nat_eq, Bool, true, false, ◌||◌, List, [], ◌∷◌, length, slice_set, ◌≢◌, refl, sym, ap, ◌∙◌, arith}
 use Rattle.std.proofs.lemmas.Bool.{eq-eqb, ne_eqb}
 use Rattle.module_emission.specs.Marked.{marked, marked_from}
 
@@ -49,7 +49,7 @@ one_from n (b ∷ bs) (suc k) below =
     let later : suc n + k ≡ n + suc k = omega arith in
     let apart : nat_eq n (n + suc k) ≡ false = ne_eqb n (n + suc k) (λ same. omega (arith, same)) in
     λ j. sym (ap (λ (c : Bool). b || c) apart ∙ or_false b) j
-        ∷ (one_from (suc n) bs k (omega (arith, below)) ∙ ap (λ (m : ℕ). marked_from (suc n) bs (λ i. nat_eq i m)) later) j
+    ∷ (one_from (suc n) bs k (omega (arith, below)) ∙ ap (λ (m : ℕ). marked_from (suc n) bs (λ i. nat_eq i m)) later) j
 
 pub marked_one : (bs : List Bool) (k : ℕ) → k < length bs → slice_set bs k true ≡ marked bs (λ i. nat_eq i k)
 marked_one bs k below =

@@ -1,4 +1,4 @@
-use Rattle.std.proofs.Common.{rules, ◌≡◌, ℕ, Bool, false, List, ap, sym, ◌∙◌, arith}
+use Rattle.std.proofs.Common.{rules, ◌≡◌, ℕ, false, ap, sym, ◌∙◌, arith}
 use Rattle.wasm_types.specs.declared.instr.Simple.{Simple}
 use Rattle.value_machine.specs.Modules.{is_call}
 use Rattle.module_emission.specs.Marked.{marked}

@@ -1,8 +1,11 @@
-use Rattle.std.proofs.Common.{ℕ, List, map, arith}
+use Rattle.std.proofs.Common.{ℕ, List, map, ap, ◌∙◌, arith}
 use Rattle.std.proofs.lemmas.List.{length-map}
 use Rattle.mid_program.specs.Mid as plain
+use Rattle.mid_program.specs.Sorted.{kinds_of}
 use Rattle.mid_program.specs.View.{view_declared, view_routine, view_texts}
+use Rattle.mid_program.specs.declared.program.Declared.{Declared}
 use Rattle.mid_program.specs.declared.program.Mid.{Mid}
+use Rattle.expression_emission.specs.Spans.{arrays_from}
 use Rattle.expression_emission.proofs.SpanLemmas.{memory_whole, spans_whole}
 use Rattle.expression_emission.proofs.tables.Tables.new.Goals as goal
 
@@ -60,5 +63,6 @@ invariant_of-result c =
     record {
       placed = spans_whole (texts m) (names m) (routines m) c.new-spans.result.items c.place_texts.new.spans.items c.place_globals.new.spans.items c.place_routines.new.spans.items
           c.in-Some.place c.in-Some-2.place c.new-spans.ensures.items first.0 first.1.1 second.0 second.1.1 third.1.1;
+      named = c.in_ok-arrays.ensures ∙ ap (λ (ds : List Declared). arrays_from 0 (kinds_of (map view_declared ds))) c.deref-3.ensures.value;
       small = (omega (arith, counted, len, few), (omega (arith, opened), omega (arith, start, next, end, below, whole)));
     }
