@@ -1,19 +1,14 @@
 -- From the parts of a compilation to what is said of the whole.
-use Rattle.std.proofs.Common.{◌≡◌, inl, inr, ℕ, suc, zero, ◌≤◌, ◌^◌, Bool, List, [], ◌∷◌, length, map, Option, Some, MatchOption, refl, ap, sym, subst}
-use Rattle.std.specs.List.{All, AllByRecursion as ByRecursion}
-use Rattle.std.proofs.lemmas.List.Elements.{All-from_recursion, recursion_from_All}
+use Rattle.std.proofs.Common.{◌≡◌, inl, inr, ℕ, ◌≤◌, ◌^◌, List, length, Option, Some, MatchOption, refl, ap, subst}
+use Rattle.std.proofs.lemmas.List.Elements.{recursion_from_All}
 use Rattle.awk_state.specs.Jobs.{JobForm}
-use Rattle.awk_tokens.specs.Cutting.{Spelled}
 use Rattle.world_core.specs.WorldState.{Outside, Source}
 use Rattle.mid_program.specs.Kinds.{resolved}
-use Rattle.mid_program.specs.Mid.{Kind, Program, Routine}
+use Rattle.mid_program.specs.Mid.{Program}
 use Rattle.mid_program.specs.MidMeaning.{mid_run_in}
 use Rattle.mid_program.specs.ScriptRun.{resolved_run}
-use Rattle.mid_program.specs.Translation.{program_of}
 use Rattle.mid_program.specs.View.{view_mid}
 use Rattle.mid_program.specs.declared.program.Mid.{Mid}
-use Rattle.folding.specs.Folding.{folded_routine}
-use Rattle.value_kinds.specs.Applied.{is_unboxed, kinds_with, routines_with}
 use Rattle.wasm_types.specs.ModuleGrammar.{IsModule}
 use Rattle.wasm_types.specs.Typing.{ModuleOk}
 use Rattle.wasm_machine.specs.Links.{SegmentsFit, main_of}
@@ -22,46 +17,19 @@ use Rattle.value_refined.proofs.Links.{numbers_are, program}
 use Rattle.module_agreement.specs.Agreement.{Agreement}
 use Rattle.module_agreement.proofs.Exchanged.{agreement_as}
 use Rattle.run_places.specs.Existence.{HasRuns}
+use Rattle.run_places.proofs.Parameters.{few_parameters}
 use Rattle.run_places.proofs.Spelled.{spelled_small}
 use Rattle.value_machine.specs.Functions.{texts_of}
 use Rattle.value_machine.specs.Places.{memory_of}
 use Rattle.expression_emission.specs.Spans.{IsSmall}
 use Rattle.expression_emission.specs.declared.tables.Tables.{Tables}
-use Rattle.script_code.specs.Coded.{HasTokens, IsCodeOf, unboxed}
+use Rattle.script_code.specs.Coded.{HasTokens, IsCodeOf}
 use Rattle.script_code.specs.Refusals.{IsNotCoded}
 use Rattle.script_code.specs.declared.fault.CompileFault.{CompileFault}
 use Rattle.script_code.specs.declared.fault.CompileFault.TheVariants.{TooLarge, Token, Parse, Ere, Resolve, NoMemory}
-use Rattle.script_compiler.specs.Compiled.{IsCompiled, KeepsNothing}
-use Rattle.script_compiler.specs.Refusals.{HasNoBytes, IsNotCompiled}
-
--- Folding and lanes leave a function as many parameters.
-
-abbrev Few : Routine → Type 0
-Few r = length r.parameters ≤ 100
-
-abbrev pub FewParameters : List Routine → Type 0
-FewParameters rs = All Few rs
-
-kinds_same : (u : ℕ → Bool) (ks : List Kind) → length (kinds_with u ks) ≡ length ks
-kinds_same u [] = refl
-kinds_same u (k ∷ ks) = ap suc (kinds_same (λ i. u (suc i)) ks)
-
-folded_few : (rs : List Routine) → ByRecursion Few rs → ByRecursion Few (map folded_routine rs)
-folded_few [] h = tt
-folded_few (r ∷ rs) h = (h.0, folded_few rs h.1)
-
-laned_few : (gs : List Kind) (ps : ℕ → List Kind) (rs : List Routine) → ByRecursion Few rs →
-    ByRecursion Few (routines_with gs ps rs)
-laned_few gs ps [] h = tt
-laned_few gs ps (r ∷ rs) h = (subst (λ (n : ℕ). n ≤ 100) (sym (kinds_same (is_unboxed (ps zero)) r.parameters)) h.0, laned_few gs (λ f. ps (suc f)) rs h.1)
-
-unboxed_few : (p : Program) → FewParameters p.routines → FewParameters (unboxed p).routines
-unboxed_few p h =
-    let folded = folded_few p.routines (recursion_from_All Few p.routines h) in
-    All-from_recursion Few (unboxed p).routines (laned_few _ _ (map folded_routine p.routines) folded)
-
-pub few : (tokens : List Spelled) (p : Program) (c : IsCodeOf tokens p) → FewParameters (program_of (resolved c.script)).routines → FewParameters p.routines
-few tokens p c h = subst (λ (q : Program). FewParameters q.routines) (sym c.code) (unboxed_few (program_of (resolved c.script)) h)
+use Rattle.script_compiler.specs.Compiled.{IsCompiled, IsQuiet, KeepsNothing}
+use Rattle.script_compiler.specs.Refusals.{HasNoBytes, IsNotCompiled, IsPastLimits}
+use Rattle.script_compiler.proofs.Limits.{Few, FewParameters, ReadsItsItems, few, no_module, reads}
 
 -- tables are of the code that they were made of
 pub module_same : (mid : Mid) (tables : Tables) (made : Option Tables) → made ≡ Some tables → MatchOption made (IsSmall (view_mid mid) → ⊥) (λ t. t.program.now ≡ mid) →
@@ -75,8 +43,9 @@ texts_small p v m h = (spelled_small p v m h).texts
 
 pub compiled : (bytes v : List ℕ) (p : Program) (t : HasTokens bytes (λ tokens. IsCodeOf tokens p)) → IsModule v (module_of p) → Agreement (mid_run_in p) (module_of p) → ModuleOk (module_of p) →
     (main : ℕ) → main_of (module_of p) ≡ Some main → SegmentsFit (module_of p) →
-    ((job : JobForm) (input : Source) (outside : Outside) → HasRuns (module_of p) job input outside) → KeepsNothing p (module_of p) → IsCompiled bytes v
-compiled bytes v p t m agreement typed main main_is segments runs keeps =
+    ((job : JobForm) (input : Source) (outside : Outside) → HasRuns (module_of p) job input outside) → KeepsNothing p (module_of p) →
+    IsQuiet p (module_of p) → IsCompiled bytes v
+compiled bytes v p t m agreement typed main main_is segments runs keeps quiet =
     let c = t.said in
     record {
       short = t.short;
@@ -91,7 +60,10 @@ compiled bytes v p t m agreement typed main main_is segments runs keeps =
       runs = runs;
       agreement = agreement_as (mid_run_in p) (resolved_run (resolved c.script)) (module_of p) c.same agreement;
       code = p;
+      code_is = c.code;
+      whole_is = refl;
       keeps = keeps;
+      quiet = quiet;
     }
 
 pub not_coded : (bytes : List ℕ) (fault : CompileFault) → IsNotCoded bytes fault → IsNotCompiled bytes fault
@@ -102,8 +74,14 @@ not_coded bytes (Ere line fault) h = h
 not_coded bytes (Resolve fault) h = h
 not_coded bytes NoMemory h = h
 
+large : (p : Program) → FewParameters p.routines → ReadsItsItems p → HasNoBytes p TooLarge → IsPastLimits p
+large p few empty (inl past) = no_module p (recursion_from_All Few p.routines few) empty past
+large p few empty (inr none) = none
+
 pub no_bytes : (bytes : List ℕ) (p : Program) (fault : CompileFault) → HasTokens bytes (λ tokens. IsCodeOf tokens p) → HasNoBytes p fault → IsNotCompiled bytes fault
-no_bytes bytes p TooLarge t h = inr (record { short = t.short; tokens = t.tokens; cut = t.cut; said = record { code = p; is_code = t.said; large = h } })
+no_bytes bytes p TooLarge t h =
+    let parameters = few t.tokens p t.said (few_parameters t.said.script t.said.sound.names) in
+    inr (record { short = t.short; tokens = t.tokens; cut = t.cut; said = record { code = p; is_code = t.said; large = large p parameters (reads t.tokens p t.said) h } })
 no_bytes bytes p (Token fault) t h = absurd h
 no_bytes bytes p (Parse fault) t h = absurd h
 no_bytes bytes p (Ere line fault) t h = absurd h

@@ -1,1 +1,3 @@
+mod Limits
 mod Compiling
+mod OneModule

@@ -1,12 +1,13 @@
 -- What a script is compiled to, whichever it is.
-use Rattle.std.specs.Prelude.{◌≡◌, ◌≤◌, ◌^◌, ℕ, List, Ok, Some, length, map, true}
+use Rattle.std.specs.Prelude.{◌≡◌, ◌⊎◌, ◌≤◌, ◌^◌, ℕ, List, Ok, Some, length, map, true}
 use Rattle.awk_state.specs.Jobs.{JobForm}
 use Rattle.awk_tokens.specs.Cutting.{IsTokens, Spelled}
 use Rattle.awk_grammar.specs.Item.{Item}
 use Rattle.world_core.specs.WorldState.{Outside, Source}
 use Rattle.mid_program.specs.Kinds.{resolved}
-use Rattle.mid_program.specs.Mid.{Program}
+use Rattle.mid_program.specs.Mid.{Program, Then}
 use Rattle.mid_program.specs.ScriptRun.{resolved_run}
+use Rattle.mid_program.specs.Translation.{program_of}
 use Rattle.wasm_types.specs.ModuleGrammar.{IsModule}
 use Rattle.wasm_types.specs.Syntax.{ModuleForm}
 use Rattle.wasm_types.specs.Typing.{ModuleOk}
@@ -17,10 +18,14 @@ use Rattle.wasm_machine.specs.declared.state.End.TheVariants as ends
 use Rattle.wasm_store.specs.declared.word.Word.TheVariants.{I32}
 use Rattle.host_step.specs.HostState.{HostState}
 use Rattle.host_step.specs.Imports.{host_finds}
+use Rattle.value_machine.specs.Modules.{module_of}
 use Rattle.module_agreement.specs.Agreement.{Agreement}
 use Rattle.run_places.specs.Existence.{HasRuns}
 use Rattle.run_places.specs.Kept.{AtReturn, AtStatement, Reached, begins_statement}
-use Rattle.script_code.specs.Coded.{IsSound}
+use Rattle.quiet_statements.specs.Laned.{AtNumeric, IsNext}
+use Rattle.quiet_statements.specs.Quiet.{Quietly}
+use Rattle.quiet_statements.specs.Sums.{AtFault}
+use Rattle.script_code.specs.Coded.{IsSound, unboxed}
 
 -- a module that links with the host
 pub record Links (m : ModuleForm) : Type 0 where
@@ -30,16 +35,23 @@ pub record Links (m : ModuleForm) : Type 0 where
   pub main_is : main_of m ≡ Some main
   pub segments : SegmentsFit m
 
--- A module keeps nothing: where a statement begins, and where `main` has returned, names, parameters and callers that wait hold what is alive in the host. `code` says which names and functions
--- there are, and of what kinds.
+-- A module keeps nothing: where a statement begins, and where `main` has returned, names, parameters, loops over keys and callers that wait hold what is alive in the host. The code is the
+-- script's: it says which names and functions there are, and of what kinds.
 pub record KeepsNothing (code : Program) (m : ModuleForm) : Type 0 where
   pub statement : (job : JobForm) (input : Source) (outside : Outside) (a : MachineForm) (c : Conf) (s : HostState)
       → Reached m job input outside a c s → begins_statement c.frame.code ≡ true → AtStatement code c s
   pub returned : (job : JobForm) (input : Source) (outside : Outside) (a : MachineForm) (c : Conf) (s : HostState)
       → Reached m job input outside a c s → (n : ℕ) → turn a.program c ≡ Ends (ends.Returned (Some (I32 n))) → AtReturn code c s
 
+-- A module is quiet on numbers. Where a run stands at a statement `name = Expr` of the script, with number constants, names, groups, `+`, `-` and `*` in Expr, and each name is unboxed and has no
+-- handle, it calls no import up to the next statement of the block, or to the fault.
+abbrev pub IsQuiet : Program → ModuleForm → Type 0
+IsQuiet code m = (job : JobForm) (input : Source) (outside : Outside) (a : MachineForm) (c : Conf) (s : HostState)
+    → Reached m job input outside a c s → (here : AtStatement code c s) → (on : AtNumeric code c s here)
+    → Quietly a.program c (λ there. IsNext code c on.bases (Then on.next on.further) on.iterators on.out on.breaking on.continuing on.after there ⊎ AtFault code c there)
+
 -- THE MAIN THEOREM, of a script and the bytes that it is compiled to: they are a module, which the rules type, which links with the host, which has runs, which agrees with the script in every
--- job and world, and which keeps nothing.
+-- job and world, and which keeps nothing. It is the module of the script's code, so that a script has one module.
 pub record IsCompiled (bytes : List ℕ) (compiled : List ℕ) : Type 0 where
   pub short : length bytes ≤ 2 ^ 20
   pub tokens : List Spelled
@@ -53,4 +65,7 @@ pub record IsCompiled (bytes : List ℕ) (compiled : List ℕ) : Type 0 where
   pub runs : (job : JobForm) (input : Source) (outside : Outside) → HasRuns whole job input outside
   pub agreement : Agreement (resolved_run (resolved script)) whole
   pub code : Program
+  pub code_is : code ≡ unboxed (program_of (resolved script))
+  pub whole_is : whole ≡ module_of code
   pub keeps : KeepsNothing code whole
+  pub quiet : IsQuiet code whole

@@ -12,9 +12,9 @@ use Rattle.script_code.specs.Refusals.{IsNotCoded}
 use Rattle.script_code.specs.declared.fault.CompileFault.{CompileFault}
 use Rattle.script_code.specs.declared.fault.CompileFault.TheVariants.{TooLarge, NoMemory}
 
--- code with too many or too long names and texts, or a function past the limits; or no bytes are its module
+-- No bytes of the profile are its module: it passes 16 MiB, or a function of it 50,000 locals, or code 4,000 blocks in one another.
 abbrev pub IsPastLimits : Program → Type 0
-IsPastLimits p = (IsSmall p → AreSmallEnough p → IsTooLarge p) ⊎ ((bytes : List ℕ) → IsModule bytes (module_of p) → ⊥)
+IsPastLimits p = (bytes : List ℕ) → IsModule bytes (module_of p) → ⊥
 
 -- the code of the script is past the limits
 pub record HasLargeCode (tokens : List Spelled) : Type 0 where
@@ -28,8 +28,8 @@ IsNotCompiled bytes fault = IsNotCoded bytes fault
 
 -- The rest serves contracts inside the crate.
 
--- why code has no bytes
+-- why code has no bytes: it has too many or too long names and texts, or a function past the limits, as the compiler counts them; or no bytes are its module
 abbrev pub HasNoBytes : Program → CompileFault → Type 0
-HasNoBytes p TooLarge = IsPastLimits p
+HasNoBytes p TooLarge = (IsSmall p → AreSmallEnough p → IsTooLarge p) ⊎ IsPastLimits p
 HasNoBytes p NoMemory = Unit {0}
 HasNoBytes p _ = ⊥

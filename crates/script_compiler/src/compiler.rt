@@ -12,6 +12,7 @@ use mid_program::Mid;
 use module_agreement::laws::modules_agree;
 use module_emission::EmitFault;
 use module_writer::{WriteFault, write};
+use quiet_statements::laws::statements_are_quiet;
 use run_places::laws::{few_parameters, modules_run, nothing_kept};
 use script_code::{CompileFault, code_of};
 use statement_emission::module;
@@ -42,11 +43,13 @@ fn bytes_of(alloc: Global, mid: &Mid) -> Result<Vec<u8>, CompileFault>
 }
 
 /// The bytes of a module that does what a script does (POSIX.1-2017 awk, in the profile of this project), in every job, and in every world that tells
-/// what it holds, over a host of the table of imports.
+/// what it holds, over a host of the table of imports. It keeps nothing from one statement to the next but what names, calls and loops over keys hold, and a
+/// statement on unboxed numbers calls no import.
 ///
 /// # Errors
 ///
-/// The first of these that there is: those of [`code_of`]; then [`CompileFault::TooLarge`] where the module would pass the limits of modules.
+/// The first of these that there is: those of [`code_of`]; then [`CompileFault::TooLarge`] where no bytes of the profile are the module: it passes 16 MiB,
+/// 50,000 locals of a function, or 4,000 blocks in one another.
 /// [`CompileFault::NoMemory`] where memory was wanting, in place of any answer.
 pub fn compile(alloc: Global, script: &[u8]) -> Result<Vec<u8>, CompileFault>
     ensures compiled { IfOk result (λ v. IsCompiled script.now v.items) }
@@ -58,6 +61,7 @@ pub fn compile(alloc: Global, script: &[u8]) -> Result<Vec<u8>, CompileFault>
     modules_run();
     few_parameters();
     nothing_kept();
+    statements_are_quiet();
     let mid = code_of(alloc, script)?;
     let bytes = bytes_of(alloc, &mid)?;
     Ok(bytes)

@@ -2,6 +2,7 @@
 #![tactic(auto)]
 
 mod compiler;
+pub mod laws;
 
 pub use compiler::compile;
 pub use script_code::CompileFault;
