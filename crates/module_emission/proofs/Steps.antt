@@ -4,8 +4,7 @@ use Rattle.std.proofs.Math.Seq.{take-suc}
 use Rattle.std.proofs.lemmas.List.{append-nil, drop_more}
 use Rattle.awk_state.specs.declared.sorts.Argument.{Argument}
 use Rattle.value_machine.specs.Imports.{params_of, words_of}
-use Rattle.value_machine.specs.Machine.{Callee}
-use Rattle.value_machine.specs.Modules.{any_calls, called_from, chosen}
+use Rattle.value_machine.specs.Modules.{chosen}
 use Rattle.value_machine.specs.declared.import.Import.{Import}
 
 params_push : (xs : List Argument) (a : Argument) → params_of (xs ++ a ∷ []) ≡ params_of xs ++ words_of a
@@ -14,11 +13,6 @@ params_push (x ∷ xs) a = ap (λ r. words_of x ++ r) (params_push xs a) ∙ sym
 
 pub params_next : (xs : List Argument) (i : ℕ) (d : Argument) → i < length xs → params_of (take (suc i) xs) ≡ params_of (take i xs) ++ words_of (get_or xs i d)
 params_next xs i d below = ap params_of (take-suc xs i d below) ∙ params_push (take i xs) (get_or xs i d)
-
-pub called_next : (xs : List Import) (i : ℕ) (d : Import) (fs : List Callee) → i < length xs → called_from i (drop i xs) fs ≡ any_calls i fs ∷ called_from (i + 1) (drop (i + 1) xs) fs
-called_next xs i d fs below =
-    let later : suc i ≡ i + 1 = omega arith in
-    ap (λ (ys : List Import). called_from i ys fs) (drop_more xs i d below) ∙ ap (λ (k : ℕ). any_calls i fs ∷ called_from k (drop (i + 1) xs) fs) later
 
 chosen_at : (bs : List Bool) (xs : List Import) (i : ℕ) (c : Bool) (d : Import) → i < length bs → i < length xs → chosen (drop i bs) (drop i xs) ≡ chosen (get_or bs i c ∷ drop (i + 1) bs) (get_or xs i d ∷ drop (i + 1) xs)
 chosen_at bs xs i c d p q = ap (λ (ys : List Import). chosen (drop i bs) ys) (drop_more xs i d q) ∙ ap (λ (cs : List Bool). chosen cs (get_or xs i d ∷ drop (i + 1) xs)) (drop_more bs i c p)

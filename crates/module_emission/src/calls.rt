@@ -1,8 +1,9 @@
 //! Which imports are called, and the numbers of functions once the others are left out.
 ghost use Rattle.std.specs.Prelude.{◌≡◌, ◌≤◌, length, map, IfOk};
+ghost use Rattle.module_emission.specs.Calls.{noted};
 ghost use Rattle.module_emission.specs.View.{view_functions};
 ghost use Rattle.value_machine.specs.Imports.{imports};
-ghost use Rattle.value_machine.specs.Modules.{any_calls, called_from, calls_by, calls_in, chosen, is_call, new_number, renumbered, renumbered_one, renumbered_simple};
+ghost use Rattle.value_machine.specs.Modules.{called_from, calls_by, calls_in, chosen, is_call, new_number, renumbered, renumbered_one, renumbered_simple};
 ghost use Rattle.wasm_types.specs.View.{view, views};
 
 use crate::function::Function;
@@ -12,61 +13,55 @@ use std::rc::Rc;
 use value_machine::Import;
 use wasm_types::{Instr, Simple};
 
-fn is_call(import: usize, simple: Simple) -> bool
-    ensures { result ≡ is_call import simple }
+/// Notes what an instruction calls, if that is an import.
+fn note_simple(called: &mut Vec<bool>, simple: Simple)
+    ensures { called.new.items ≡ noted (λ i. is_call i simple) called.old.items }
 {
     match simple {
-        Simple::Call(number) => import == number as usize,
-        _ => false,
+        Simple::Call(number) => {
+            let number = number as usize;
+            if number < called.len() {
+                called[number] = true;
+            }
+        }
+        _ => {}
     }
 }
 
-/// Whether an instruction calls an import.
+/// Notes which imports an instruction calls.
 #[cycle(calls)]
-fn calls_by(import: usize, instr: &Instr) -> bool
-    ensures { result ≡ calls_by import (view instr.now) }
+fn note_calls_by(called: &mut Vec<bool>, instr: &Instr)
+    ensures { called.new.items ≡ noted (λ i. calls_by i (view instr.now)) called.old.items }
 {
     match instr {
-        Instr::Plain(simple) => is_call(import, *simple),
-        Instr::BrTable(_, _) => false,
-        Instr::Block(_, inner) => calls_in(import, inner),
-        Instr::Loop(_, inner) => calls_in(import, inner),
-        Instr::If(_, inner, other) => calls_in(import, inner) || calls_in(import, other),
+        Instr::Plain(simple) => note_simple(called, *simple),
+        Instr::BrTable(_, _) => {}
+        Instr::Block(_, inner) => note_calls_in(called, inner),
+        Instr::Loop(_, inner) => note_calls_in(called, inner),
+        Instr::If(_, inner, other) => {
+            note_calls_in(called, inner);
+            note_calls_in(called, other);
+        }
     }
 }
 
-/// Whether code calls an import.
+/// Notes which imports code calls.
 #[cycle(calls)]
-fn calls_in(import: usize, code: &[Instr]) -> bool
-    ensures { result ≡ calls_in import (views code.now) }
+fn note_calls_in(called: &mut Vec<bool>, code: &[Instr])
+    ensures { called.new.items ≡ noted (λ i. calls_in i (views code.now)) called.old.items }
 {
     for instr in code {
-        if calls_by(import, instr) {
-            return true;
-        }
+        note_calls_by(called, instr);
     }
-    false
 }
 
-/// Whether a function calls an import.
-fn any_calls(import: usize, fs: &[Function]) -> bool
-    ensures { result ≡ any_calls import (view_functions fs.now) }
-{
-    for f in fs {
-        if calls_in(import, &f.body) {
-            return true;
-        }
-    }
-    false
-}
-
-/// For each import, whether it is called.
+/// For each import, whether it is called: one walk over the code finds all of them.
 pub(crate) fn called_imports(alloc: Global, fs: &[Function]) -> Result<Vec<bool>, AllocError>
     ensures { IfOk result (λ bs. bs.items ≡ called_from 0 imports (view_functions fs.now)) }
 {
-    let mut called = Vec::new(alloc);
-    for i in 0..COUNT {
-        called.push(any_calls(i, fs))?;
+    let mut called = vec![in alloc; false; COUNT]?;
+    for f in fs {
+        note_calls_in(&mut called, &f.body);
     }
     Ok(called)
 }
@@ -147,7 +142,7 @@ pub(crate) fn renumbered(
 ) -> Result<Vec<Instr>, AllocError>
     ensures { IfOk result (λ out. views out.items ≡ renumbered called.now (views code.now)) }
 {
-    let mut out = Vec::new(alloc);
+    let mut out = Vec::with_capacity(alloc, code.len())?;
     for instr in code {
         out.push(renumbered_one(alloc, called, instr)?)?;
     }

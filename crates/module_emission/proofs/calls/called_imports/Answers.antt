@@ -1,17 +1,29 @@
-use Rattle.std.proofs.Common.{◌+◌, ◌++◌, ◌∷◌, [], List, Bool, drop, sym, ap, ◌∙◌, append_assoc}
-use Rattle.value_machine.specs.Imports.{imports}
-use Rattle.value_machine.specs.Modules.{any_calls, called_from}
-use Rattle.value_machine.specs.declared.import.Import.TheVariants.{Drop}
+use Rattle.std.proofs.Common.{ℕ, ◌+◌, List, Bool, drop, ap, sym, ◌∙◌}
+use Rattle.std.proofs.lemmas.List.{at_drop_all}
+use Rattle.awk_resolve.proofs.Names.{drop_at}
+use Rattle.wasm_types.specs.declared.instr.Instr.{Instr}
+use Rattle.wasm_types.specs.View.{views}
+use Rattle.value_machine.specs.Modules.{any_calls, calls_in}
+use Rattle.module_emission.specs.Calls.{noted}
 use Rattle.module_emission.specs.View.{view_functions}
-use Rattle.module_emission.proofs.Steps.{called_next}
+use Rattle.module_emission.specs.declared.function.Function.{Function}
+use Rattle.module_emission.proofs.Noted.{noted_both, noted_none}
 use Rattle.module_emission.proofs.calls.called_imports.Goals as goal
 
-pub loop-i-preserved : goal.loop-i-preserved
-loop-i-preserved c =
-    let fs = view_functions c.args.fs.now in
-    let rest = called_from (c.loop-i.i + 1) (drop (c.loop-i.i + 1) imports) fs in
-    ap (λ (bs : List Bool). bs ++ rest) c.in_ok-push.ensures.items
-    ∙ ap (λ (b : Bool). (c.loop-i.called.items ++ b ∷ []) ++ rest) c.any_calls.ensures
-    ∙ append_assoc c.loop-i.called.items (any_calls c.loop-i.i fs ∷ []) rest
-    ∙ ap (λ (bs : List Bool). c.loop-i.called.items ++ bs) (sym (called_next imports c.loop-i.i Drop fs c.loop-i-test.true))
-    ∙ c.loop-i.invariant
+pub loop-f-preserved : goal.loop-f-preserved
+loop-f-preserved c =
+    let fs = c.args.fs.now in
+    let at = c.loop-f.f-index in
+    let bs = c.loop-f.called.items in
+    let f : ℕ → Bool = λ i. calls_in i (views c.f-item.result.body.items) in
+    let g : ℕ → Bool = λ i. any_calls i (view_functions (drop (at + 1) fs)) in
+    ap (noted g) (c.note_calls_in.ensures ∙ ap (λ (is : List Instr). noted (λ i. calls_in i (views is)) bs) c.deref.ensures.value) ∙ noted_both f g bs
+    ∙ sym (ap (λ (xs : List Function). noted (λ i. any_calls i (view_functions xs)) bs) (drop_at fs at c.f-item.result c.loop-f-test.true c.f-item.is))
+    ∙ c.loop-f.invariant
+
+pub returns : goal.returns
+returns c =
+    let bs = c.loop-f.called.items in
+    sym (noted_none bs)
+    ∙ sym (at_drop_all (λ (xs : List Function). noted (λ i. any_calls i (view_functions xs)) bs) c.args.fs.now c.loop-f.f-index c.loop-f-test.false)
+    ∙ c.loop-f.invariant
