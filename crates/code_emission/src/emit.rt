@@ -50,7 +50,7 @@ fn enclosed(alloc: Global, code: Vec<Instr>) -> Result<Rc<Vec<Instr>>, AllocErro
 {
     let mut code = code;
     code.shrink_to_fit();
-    Rc::new(alloc, code)
+    Ok(Rc::new(alloc, code)?)
 }
 
 /// Adds what is done where the topmost operand is not 0, and what is done where it is.
