@@ -1,4 +1,4 @@
-use Rattle.std.proofs.Common.{ℕ, ◌+◌, ◌≤◌, drop, ap, List, arith}
+use Rattle.std.proofs.Common.{◌≤◌, ap, arith}
 use Rattle.std.proofs.lemmas.Result.{IfOk-weaker}
 use Rattle.mid_program.specs.ViewCode.{view_step, view_steps}
 use Rattle.wasm_types.specs.View.{views}
@@ -6,7 +6,7 @@ use Rattle.value_machine.specs.Statements.{step_emitted, steps_emitted}
 use Rattle.expression_emission.specs.View.{view_layout}
 use Rattle.module_emission.specs.Lengths.{least_in}
 use Rattle.statement_emission.specs.Lengths.{TakesAtLeast}
-use Rattle.statement_emission.proofs.Stepping.{block_fits, block_places, first_fits, first_places}
+use Rattle.statement_emission.proofs.Stepping.{block_fits, block_places}
 use Rattle.statement_emission.proofs.Weighing.{block_least, next_least, none_left, piece, rest_few, rest_fits}
 use Rattle.statement_emission.proofs.lengths.+lengths.Goals as goal
 

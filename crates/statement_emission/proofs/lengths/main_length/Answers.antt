@@ -1,4 +1,4 @@
-use Rattle.std.proofs.Common.{◌≡◌, ℕ, ◌+◌, ◌≤◌, arith}
+use Rattle.std.proofs.Common.{ℕ, ◌+◌, ◌≤◌, arith}
 use Rattle.mid_program.specs.View.{view_mid}
 use Rattle.value_machine.specs.Statements.{main_body, steps_emitted}
 use Rattle.expression_emission.specs.View.{view_layout}
