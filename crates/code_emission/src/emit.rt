@@ -44,6 +44,15 @@ pub fn ask_row(out: &mut Vec<Instr>, primitive: Primitive) -> Result<(), AllocEr
     ask(out, Import::Of(primitive))
 }
 
+/// Code within an instruction, in no more memory than it takes: nothing is added to it any more, and large scripts have much of it.
+fn enclosed(alloc: Global, code: Vec<Instr>) -> Result<Rc<Vec<Instr>>, AllocError>
+    ensures { IfOk result (λ inner. inner.value.items ≡ code.items) }
+{
+    let mut code = code;
+    code.shrink_to_fit();
+    Ok(Rc::new(alloc, code)?)
+}
+
 /// Adds what is done where the topmost operand is not 0, and what is done where it is.
 pub fn either(
     alloc: Global,
@@ -53,8 +62,8 @@ pub fn either(
 ) -> Result<(), AllocError>
     ensures { (a b : Instructions → Instructions) → Emits [] yes.items a → Emits [] no.items b → OnOk result (Emits out.old.items out.new.items (either (a Done) (b Done))) }
 {
-    let yes = Rc::new(alloc, yes)?;
-    let no = Rc::new(alloc, no)?;
+    let yes = enclosed(alloc, yes)?;
+    let no = enclosed(alloc, no)?;
     out.push(Instr::If(None, yes, no))?;
     Ok(())
 }
@@ -70,7 +79,7 @@ pub fn when(alloc: Global, out: &mut Vec<Instr>, yes: Vec<Instr>) -> Result<(), 
 pub fn block(alloc: Global, out: &mut Vec<Instr>, code: Vec<Instr>) -> Result<(), AllocError>
     ensures { (a : Instructions → Instructions) → Emits [] code.items a → OnOk result (Emits out.old.items out.new.items (block (a Done))) }
 {
-    let code = Rc::new(alloc, code)?;
+    let code = enclosed(alloc, code)?;
     out.push(Instr::Block(None, code))?;
     Ok(())
 }
@@ -79,7 +88,7 @@ pub fn block(alloc: Global, out: &mut Vec<Instr>, code: Vec<Instr>) -> Result<()
 pub fn again(alloc: Global, out: &mut Vec<Instr>, code: Vec<Instr>) -> Result<(), AllocError>
     ensures { (a : Instructions → Instructions) → Emits [] code.items a → OnOk result (Emits out.old.items out.new.items (again (a Done))) }
 {
-    let code = Rc::new(alloc, code)?;
+    let code = enclosed(alloc, code)?;
     out.push(Instr::Loop(None, code))?;
     Ok(())
 }

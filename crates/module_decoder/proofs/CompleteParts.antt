@@ -1,5 +1,5 @@
 -- What is spelled of the parts of a module is read.
-use Rattle.std.proofs.Common.{◌≡◌, ℕ, suc, ◌-◌, ◌≤◌, true, false, List, [], ◌∷◌, ◌++◌, length, replicate, Option, Some, None, Ok, refl, sym, ap, subst, ◌∙◌, append_assoc, arith, length-append, eq-eqb}
+use Rattle.std.proofs.Common.{◌≡◌, ℕ, ◌-◌, ◌≤◌, true, false, List, [], ◌∷◌, ◌++◌, length, replicate, Option, Some, None, Ok, refl, sym, ap, subst, ◌∙◌, append_assoc, arith, length-append, eq-eqb}
 use Rattle.std.proofs.lemmas.Bool.{le-leb}
 use Rattle.std.proofs.lemmas.List.{length-replicate}
 use Rattle.wasm_types.specs.declared.types.ValType.{ValType}
@@ -10,7 +10,7 @@ use Rattle.wasm_types.specs.Instructions.{Both, Each, IsVec, Tagged, IsIndex, va
 use Rattle.wasm_types.specs.ModuleGrammar.{IsBytes, IsName, IsOption, IsFuncType, IsImport, limits_text, IsLimits, IsTable, IsMemory, mut_code, IsGlobalType, IsGlobal, IsExportDesc, IsExport, IsElem, IsData, expanded, IsLocals, CodeForm, IsCode, Parts, GivesPart}
 use Rattle.module_decoder.specs.declared.basics.Span.{Span}
 use Rattle.module_decoder.specs.Readers.{◌>>=◌, Read, both_at, index_at, vec_at, option_at, tagged_at, bytes_at}
-use Rattle.module_decoder.specs.Reading.{name_at, expr_at, val_type_at, func_type_at, import_at, limits_by, limits_at, table_type_at, mut_at, global_type_at, global_at, export_desc_at, export_at, elem_at, data_at, run_by, runs_at, locals_at, code_parts_at, before, code_at, part_at}
+use Rattle.module_decoder.specs.Reading.{name_at, expr_at, val_type_at, func_type_at, import_at, min_at, limits_by, limits_at, table_type_at, mut_at, global_type_at, global_at, export_desc_at, export_at, elem_at, data_at, runs_at, locals_at, code_parts_at, before, code_at, codes_by, part_at}
 use Rattle.module_decoder.proofs.Complete.{IsAgain, both_again, mapped_again, index_again, vec_again, option_again, tagged_again, whole_again, bytes_again, name_again}
 use Rattle.module_decoder.proofs.CompleteBody.{val_type_again, expr_again}
 
@@ -28,14 +28,17 @@ import_again c =
     mapped_again (Both IsName (Both IsName (Tagged 0x00 IsIndex))) IsImport (λ x. record { from = x.0; name = x.1.0; ty = x.1.1 }) (λ i. (i.from, (i.name, i.ty))) (both_at (name_at c) (both_at (name_at c) (tagged_at c 0x00 (index_at c))))
     (both_again IsName (Both IsName (Tagged 0x00 IsIndex)) (name_at c) (both_at (name_at c) (tagged_at c 0x00 (index_at c))) (name_again c) inner) (λ y text h. h) (λ y. refl)
 
-limits_by_again : (c : Span) (min : ℕ) (max : Option ℕ) (text rest : List ℕ) → limits_text (record { min = min; max = max }) max text → (b : ℕ) × (tail : List ℕ) × (text ≡ b ∷ tail) × (limits_by c b (tail ++ rest) ≡ Ok (record { min = min; max = max }, rest))
-limits_by_again c min None text rest h = (0x00, h.0, h.2, rw (index_again c min h.0 rest h.1) refl)
-limits_by_again c min (Some n) text rest h =
+min_again : (c : Span) (most min : ℕ) (text rest : List ℕ) → min ≤ most → IsIndex min text → min_at c most (text ++ rest) ≡ Ok (min, rest)
+min_again c most min text rest small h = rw (index_again c min text rest h, le-leb min most small) refl
+
+limits_by_again : (c : Span) (most min : ℕ) (max : Option ℕ) (text rest : List ℕ) → min ≤ most → limits_text (record { min = min; max = max }) max text → (b : ℕ) × (tail : List ℕ) × (text ≡ b ∷ tail) × (limits_by c most b (tail ++ rest) ≡ Ok (record { min = min; max = max }, rest))
+limits_by_again c most min None text rest small h = (0x00, h.0, h.2, rw (min_again c most min h.0 rest small h.1) refl)
+limits_by_again c most min (Some n) text rest small h =
     let q : h.0 ++ rest ≡ h.1.0 ++ (h.1.1 ++ rest) = rw h.1.4 (append_assoc h.1.0 h.1.1 rest) in
-    (0x01, h.0, h.2, rw (q, index_again c min h.1.0 (h.1.1 ++ rest) h.1.2, index_again c n h.1.1 rest h.1.3) refl)
+    (0x01, h.0, h.2, rw (q, min_again c most min h.1.0 (h.1.1 ++ rest) small h.1.2, index_again c n h.1.1 rest h.1.3) refl)
 
 limits_again : (c : Span) (most : ℕ) → IsAgain (IsLimits most) (limits_at c most)
-limits_again c most l text rest h = let r = limits_by_again c l.min l.max text rest h.1 in rw (r.2, r.3, le-leb l.min most h.0) refl
+limits_again c most l text rest h = let r = limits_by_again c most l.min l.max text rest h.0 h.1 in rw (r.2, r.3) refl
 
 table_type_again : (c : Span) → IsAgain IsTable (table_type_at c)
 table_type_again c = tagged_again c 0x70 (IsLimits 65536) (limits_at c 65536) (limits_again c 65536)
@@ -81,12 +84,12 @@ runs_again : (c : Span) (runs : List (ℕ × ValType)) (left : ℕ) (text rest :
 runs_again c [] left text rest h room = rw h refl
 runs_again c (r ∷ runs) left text rest h room =
     let q : text ++ rest ≡ h.0 ++ (h.1 ++ rest) = rw h.4 (append_assoc h.0 h.1 rest) in
-    let one : both_at (index_at c) (val_type_at c) (h.0 ++ (h.1 ++ rest)) ≡ Ok (r, h.1 ++ rest) = both_again IsIndex IsValType (index_at c) (val_type_at c) (index_again c) (val_type_again c) r h.0 (h.1 ++ rest) h.2 in
     let n = length-replicate r.0 r.1 in
     let l = length-append (replicate r.0 r.1) (expanded runs) in
     let next = runs_again c runs (left - r.0) h.1 rest h.3 (omega (arith, n, l, room)) in
-    let first : runs_at c (suc (length runs)) left (text ++ rest) ≡ run_by (runs_at c (length runs)) left (r, h.1 ++ rest) = rw q (ap (λ (x : Read (ℕ × ValType)). x >>= run_by (runs_at c (length runs)) left) one) in
-    first ∙ rw (le-leb r.0 left (omega (arith, n, l, room)), next) refl
+    let parts : h.0 ++ (h.1 ++ rest) ≡ h.2.0 ++ (h.2.1 ++ (h.1 ++ rest)) = rw h.2.4 (append_assoc h.2.0 h.2.1 (h.1 ++ rest)) in
+    let small : r.0 ≤ left = omega (arith, n, l, room) in
+    rw (q, parts, index_again c r.0 h.2.0 (h.2.1 ++ (h.1 ++ rest)) h.2.2, le-leb r.0 left small, val_type_again c r.1 h.2.1 (h.1 ++ rest) h.2.3, next) refl
 
 locals_again : (c : Span) → IsAgain IsLocals (locals_at c)
 locals_again c ts text rest h =
@@ -115,5 +118,9 @@ part_again c section.Global p bytes q h = rw (whole_again c (IsVec IsGlobal) (ve
 part_again c section.Export p bytes q h = rw (whole_again c (IsVec IsExport) (vec_at c (export_at c)) (vec_again c IsExport (export_at c) (export_again c)) h.0 bytes h.1, h.2) refl
 part_again c section.Start p bytes q h = rw (whole_again c IsIndex (index_at c) (index_again c) h.0 bytes h.1, h.2) refl
 part_again c section.Element p bytes q h = rw (whole_again c (IsVec IsElem) (vec_at c (elem_at c)) (vec_again c IsElem (elem_at c) (elem_again c)) h.0 bytes h.1, h.2) refl
-part_again c section.Code p bytes q h = rw (whole_again c (IsVec IsCode) (vec_at c (code_at c)) (vec_again c IsCode (code_at c) (code_again c)) h.0 bytes h.1, eq-eqb (length h.0) (length p.type_indices) h.2, h.3) refl
+part_again c section.Code p bytes q h =
+    let count : index_at c bytes ≡ Ok (length h.0, h.1.1) = ap (index_at c) h.1.4 ∙ index_again c (length h.0) h.1.0 h.1.1 h.1.2 in
+    let same : codes_by c p bytes (length h.0, h.1.1) ≡ Ok q =
+    rw (eq-eqb (length h.0) (length p.type_indices) h.2, whole_again c (IsVec IsCode) (vec_at c (code_at c)) (vec_again c IsCode (code_at c) (code_again c)) h.0 bytes h.1, h.3) refl in
+    ap (λ (r : Read ℕ). r >>= codes_by c p bytes) count ∙ same
 part_again c section.Data p bytes q h = rw (whole_again c (IsVec IsData) (vec_at c (data_at c)) (vec_again c IsData (data_at c) (data_again c)) h.0 bytes h.1, h.2) refl

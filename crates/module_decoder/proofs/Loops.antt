@@ -26,7 +26,7 @@ use Rattle.module_decoder.specs.declared.fault.DecodeFault.TheVariants.{BadHeade
 use Rattle.module_decoder.specs.declared.basics.Span.{Span}
 use Rattle.module_decoder.specs.declared.body.Ending.{Ending}
 use Rattle.module_decoder.specs.declared.body.Step.TheVariants.{Ends, Opens}
-use Rattle.module_decoder.specs.Readers.{◌>>=◌, Fails, Read, each_at, both_at, index_at, malformed, bytes_at}
+use Rattle.module_decoder.specs.Readers.{◌>>=◌, Fails, Read, each_at, index_at, malformed, bytes_at}
 use Rattle.module_decoder.specs.Reading.{Progress, section_at, sections_at, val_type_at, run_by, runs_at, name_at, ReadBody, made_body, with_first, step_at, instr_by, body_by, body_at}
 
 -- a fault that is not want of memory is the reader's
@@ -166,7 +166,7 @@ name_bad c bytes text rest h u = rw h (by (is_utf8 text) refl)
 
 -- ---- runs of locals
 
-runs_step : (c : Span) (count i left : ℕ) (bytes : List ℕ) → i < count → runs_at c (count - i) left bytes ≡ (both_at (index_at c) (val_type_at c) bytes >>= run_by (runs_at c (count - (i + 1))) left)
+runs_step : (c : Span) (count i left : ℕ) (bytes : List ℕ) → i < count → runs_at c (count - i) left bytes ≡ (index_at c bytes >>= run_by c (runs_at c (count - (i + 1))) left)
 runs_step c count i left bytes lt = let k : count - i ≡ suc (count - (i + 1)) = omega arith in rw k refl
 
 run_front : (front run : List ValType) (read : Read (List ValType)) → with_items front (read >>= λ y. Ok (run ++ y.0, y.1)) ≡ with_items (front ++ run) read
@@ -176,26 +176,27 @@ run_front front run (Err e) = refl
 pub runs_next : (c : Span) (front : List ValType) (count i left n : ℕ) (t : ValType) (bytes after rest : List ℕ) (total : Read (List ValType)) → i < count → index_at c bytes ≡ Ok (n, after) → val_type_at c after ≡ Ok (t, rest) → n ≤ left
     → with_items front (runs_at c (count - i) left bytes) ≡ total → with_items (front ++ replicate n t) (runs_at c (count - (i + 1)) (left - n) rest) ≡ total
 runs_next c front count i left n t bytes after rest total lt h g small so_far =
-    let one : runs_at c (count - i) left bytes ≡ (runs_at c (count - (i + 1)) (left - n) rest >>= λ y. Ok (replicate n t ++ y.0, y.1)) = runs_step c count i left bytes lt ∙ rw (h, g, le-leb n left small) refl in
+    let one : runs_at c (count - i) left bytes ≡ (runs_at c (count - (i + 1)) (left - n) rest >>= λ y. Ok (replicate n t ++ y.0, y.1)) = runs_step c count i left bytes lt ∙ rw (h, le-leb n left small, g) refl in
     sym (ap (with_items front) one ∙ run_front front (replicate n t) (runs_at c (count - (i + 1)) (left - n) rest)) ∙ so_far
 
 pub runs_fail_index : (e : DecodeFault) (c : Span) (front : List ValType) (count i left : ℕ) (bytes : List ℕ) (total : Read (List ValType)) → i < count → Fails e (index_at c bytes)
     → with_items front (runs_at c (count - i) left bytes) ≡ total → Fails e total
 runs_fail_index e c front count i left bytes total lt h so_far =
-    let one = fails_bind e _ (λ x. Ok (front ++ x.0, x.1)) (fails_bind e (both_at (index_at c) (val_type_at c) bytes) (run_by (runs_at c (count - (i + 1))) left) (fails_bind e (index_at c bytes) (λ x. val_type_at c x.1 >>= λ y. Ok ((x.0, y.0), y.1)) h)) in
+    let one = fails_bind e _ (λ x. Ok (front ++ x.0, x.1)) (fails_bind e (index_at c bytes) (run_by c (runs_at c (count - (i + 1))) left) h) in
     fails_is e total _ (sym so_far ∙ ap (with_items front) (runs_step c count i left bytes lt)) one
 
-pub runs_fail_type : (e : DecodeFault) (c : Span) (front : List ValType) (count i left n : ℕ) (bytes after : List ℕ) (total : Read (List ValType)) → i < count → index_at c bytes ≡ Ok (n, after) → Fails e (val_type_at c after)
+pub runs_fail_type : (e : DecodeFault) (c : Span) (front : List ValType) (count i left n : ℕ) (bytes after : List ℕ) (total : Read (List ValType)) → i < count → index_at c bytes ≡ Ok (n, after) → n ≤ left → Fails e (val_type_at c after)
     → with_items front (runs_at c (count - i) left bytes) ≡ total → Fails e total
-runs_fail_type e c front count i left n bytes after total lt h g so_far =
-    let both : both_at (index_at c) (val_type_at c) bytes ≡ (val_type_at c after >>= λ y. Ok ((n, y.0), y.1)) = rw h refl in
-    let one = fails_bind e _ (λ x. Ok (front ++ x.0, x.1)) (fails_bind e _ (run_by (runs_at c (count - (i + 1))) left) (fails_bind e (val_type_at c after) (λ y. Ok ((n, y.0), y.1)) g)) in
-    fails_is e total _ (sym so_far ∙ ap (with_items front) (runs_step c count i left bytes lt ∙ ap (λ (r : Read (ℕ × ValType)). r >>= run_by (runs_at c (count - (i + 1))) left) both)) one
+runs_fail_type e c front count i left n bytes after total lt h small g so_far =
+    let go : ValType × List ℕ → Read (List ValType) = λ t. runs_at c (count - (i + 1)) (left - n) t.1 >>= λ y. Ok (replicate n t.0 ++ y.0, y.1) in
+    let step : runs_at c (count - i) left bytes ≡ (val_type_at c after >>= go) = runs_step c count i left bytes lt ∙ rw (h, le-leb n left small) refl in
+    let one = fails_bind e _ (λ x. Ok (front ++ x.0, x.1)) (fails_bind e (val_type_at c after) go g) in
+    fails_is e total _ (sym so_far ∙ ap (with_items front) step) one
 
-pub runs_past : (c : Span) (front : List ValType) (count i left n : ℕ) (t : ValType) (bytes after rest : List ℕ) (total : Read (List ValType)) → i < count → index_at c bytes ≡ Ok (n, after) → val_type_at c after ≡ Ok (t, rest) → left < n
+pub runs_past : (c : Span) (front : List ValType) (count i left n : ℕ) (bytes after : List ℕ) (total : Read (List ValType)) → i < count → index_at c bytes ≡ Ok (n, after) → left < n
     → with_items front (runs_at c (count - i) left bytes) ≡ total → total ≡ Err TooLarge
-runs_past c front count i left n t bytes after rest total lt h g large so_far =
-    let one : runs_at c (count - i) left bytes ≡ Err TooLarge = runs_step c count i left bytes lt ∙ rw (h, g, lt-leb n left large) refl in
+runs_past c front count i left n bytes after total lt h large so_far =
+    let one : runs_at c (count - i) left bytes ≡ Err TooLarge = runs_step c count i left bytes lt ∙ rw (h, lt-leb n left large) refl in
     sym so_far ∙ ap (with_items front) one
 
 pub runs_done : (c : Span) (front : List ValType) (count i left : ℕ) (bytes : List ℕ) (total : Read (List ValType)) → count ≤ i → with_items front (runs_at c (count - i) left bytes) ≡ total → total ≡ Ok (front, bytes)

@@ -1,5 +1,5 @@
 -- The bodies of a module that bytes have are nested at most 4,000 deep.
-use Rattle.std.proofs.Common.{◌≡◌, ◌≤◌, ◌<◌, ℕ, zero, suc, List, [], ◌∷◌, length, get_or, sym, subst, arith, Result, Ok, Err}
+use Rattle.std.proofs.Common.{◌≤◌, ℕ, zero, suc, List, [], ◌∷◌, sym, subst, arith, Result, Ok, Err}
 use Rattle.std.specs.Prelude.{IfOk}
 use Rattle.std.specs.List.{All}
 use Rattle.wasm_types.specs.declared.module.Module.{Module}
@@ -8,7 +8,7 @@ use Rattle.wasm_types.specs.declared.module.SectionId.TheVariants as section
 use Rattle.wasm_types.specs.Syntax.{ModuleForm}
 use Rattle.wasm_types.specs.View.{view_module}
 use Rattle.wasm_types.specs.Instructions.{Each, depths}
-use Rattle.wasm_types.specs.ModuleGrammar.{CodeForm, Parts, IsCode, GivesPart, Section, Custom, Known, Give, joined, number, no_parts, module_of, IsModule}
+use Rattle.wasm_types.specs.ModuleGrammar.{CodeForm, Parts, IsCode, GivesPart, Section, Custom, Known, Give, joined, number, no_parts, IsModule}
 use Rattle.module_decoder.specs.declared.fault.DecodeFault.{DecodeFault}
 
 abbrev AreNested : List CodeForm → Type 0

@@ -1,5 +1,5 @@
 -- What is read of the parts and sections of a module is spelled so.
-use Rattle.std.proofs.Common.{◌≡◌, ℕ, zero, suc, ◌-◌, ◌≤◌, Bool, true, false, cond, leb, List, [], ◌∷◌, ◌++◌, length, replicate, Some, None, Result, Ok, refl, sym, ap, subst, ◌∙◌, append_assoc, arith, nat_eq, length-append}
+use Rattle.std.proofs.Common.{◌≡◌, ℕ, zero, suc, ◌-◌, ◌≤◌, Bool, true, false, cond, leb, List, [], ◌∷◌, ◌++◌, length, replicate, Some, None, Ok, refl, sym, ap, subst, ◌∙◌, append_assoc, arith, nat_eq, length-append}
 use Rattle.std.proofs.lemmas.Bool.{eqb-true, leb-true}
 use Rattle.std.proofs.lemmas.List.{length-replicate}
 use Rattle.wasm_types.specs.declared.types.ValType.{ValType}
@@ -10,13 +10,12 @@ use Rattle.wasm_types.specs.declared.module.SectionId.{SectionId}
 use Rattle.wasm_types.specs.declared.module.SectionId.TheVariants as section
 use Rattle.wasm_types.specs.Leb128.{IsU32}
 use Rattle.wasm_types.specs.Instructions.{Both, Each, Tagged, IsIndex, IsValType, IsExpr}
-use Rattle.wasm_types.specs.ModuleGrammar.{IsBytes, IsName, IsFuncType, IsImport, limits_text, IsLimits, IsTable, IsMemory, mut_code, IsGlobalType, IsGlobal, IsExportDesc, IsExport, IsElem, IsData, expanded, IsLocals, CodeForm, IsCode, Parts, GivesPart}
-use Rattle.module_decoder.specs.declared.fault.DecodeFault.{DecodeFault}
+use Rattle.wasm_types.specs.ModuleGrammar.{IsBytes, IsName, IsFuncType, IsImport, IsLimits, IsTable, IsMemory, mut_code, IsGlobalType, IsGlobal, IsExportDesc, IsExport, IsElem, IsData, expanded, IsLocals, CodeForm, IsCode, Parts, GivesPart}
 use Rattle.module_decoder.specs.declared.fault.DecodeFault.TheVariants.{BadSection, TooLarge}
 use Rattle.module_decoder.specs.declared.basics.Span.{Span}
-use Rattle.module_decoder.specs.Readers.{◌>>=◌, both_at, mapped, malformed, index_at, vec_at, option_at, whole, bytes_at}
-use Rattle.module_decoder.specs.Reading.{val_type_at, func_type_at, import_at, within, max_at, limits_by, limits_at, table_type_at, mut_at, global_type_at, global_at, export_desc_at, export_at, elem_at, data_at, run_by, runs_at, locals_at, code_parts_at, before, code_in, code_at, with_codes, part_at}
-use Rattle.module_decoder.proofs.Sound.{bind_ok, ok_is, err_ok, passed, Takes, IsSound, both_sound, mapped_sound, index_sound, vec_sound, option_sound, tagged_sound, whole_sound, bytes_sound, name_sound}
+use Rattle.module_decoder.specs.Readers.{◌>>=◌, each_at, mapped, malformed, index_at, vec_at, ended_by, ended, whole, bytes_at}
+use Rattle.module_decoder.specs.Reading.{val_type_at, func_type_at, import_at, within, min_at, max_at, limits_by, limits_at, table_type_at, mut_at, global_type_at, global_at, export_desc_at, export_at, elem_at, data_at, run_by, runs_at, locals_at, code_parts_at, before, code_in, code_at, codes_by, part_at}
+use Rattle.module_decoder.proofs.Sound.{bind_ok, ok_is, err_ok, passed, Takes, IsSound, both_sound, each_sound, mapped_sound, index_sound, vec_sound, option_sound, tagged_sound, whole_sound, bytes_sound, name_sound}
 use Rattle.module_decoder.proofs.SoundBody.{val_type_sound, expr_sound}
 
 func_type_sound : (c : Span) → IsSound IsFuncType (func_type_at c)
@@ -25,37 +24,38 @@ func_type_sound c = mapped_sound _ IsFuncType _ _ (tagged_sound c 0x60 _ _ (both
 import_sound : (c : Span) → IsSound IsImport (import_at c)
 import_sound c = mapped_sound _ IsImport _ _ (both_sound IsName _ _ _ (name_sound c) (both_sound IsName _ _ _ (name_sound c) (tagged_sound c 0x00 IsIndex _ (index_sound c)))) (λ x text h. h)
 
-limits_by_sound : (c : Span) (b : ℕ) (bytes : List ℕ) (x : Limits × List ℕ) → limits_by c b bytes ≡ Ok x → Takes (λ l t. limits_text l l.max t) (b ∷ bytes) x
-limits_by_sound c b bytes x e = zero_by (nat_eq b 0) refl e
-  where
-    two : Result (Limits × List ℕ) DecodeFault
-    two = index_at c bytes >>= λ n. max_at c n.0 n.1
+min_sound : (c : Span) (most : ℕ) (bytes : List ℕ) (x : ℕ × List ℕ) → min_at c most bytes ≡ Ok x → (x.0 ≤ most) × Takes IsIndex bytes x
+min_sound c most bytes x e =
+    let a = bind_ok (index_at c bytes) (within most) x e in
+    let p = passed (leb a.0.0 most) (Ok a.0) TooLarge x a.2 in
+    subst (λ (y : ℕ × List ℕ). (y.0 ≤ most) × Takes IsIndex bytes y) (ok_is a.0 x p.1) (leb-true a.0.0 most p.0, index_sound c bytes a.0 a.1)
 
-    one_by : (k : Bool) → nat_eq b 1 ≡ k → cond k (index_at c bytes >>= λ n. max_at c n.0 n.1) (malformed c) ≡ Ok x → Takes (λ l t. limits_text l l.max t) (b ∷ bytes) x
+limits_by_sound : (c : Span) (most b : ℕ) (bytes : List ℕ) (x : Limits × List ℕ) → limits_by c most b bytes ≡ Ok x → Takes (IsLimits most) (b ∷ bytes) x
+limits_by_sound c most b bytes x e = zero_by (nat_eq b 0) refl e
+  where
+    one_by : (k : Bool) → nat_eq b 1 ≡ k → cond k (min_at c most bytes >>= λ n. max_at c n.0 n.1) (malformed c) ≡ Ok x → Takes (IsLimits most) (b ∷ bytes) x
     one_by true q f =
-        let a = bind_ok (index_at c bytes) (λ n. max_at c n.0 n.1) x f in
+        let a = bind_ok (min_at c most bytes) (λ n. max_at c n.0 n.1) x f in
         let d = bind_ok (index_at c a.0.1) (λ n. Ok (record { min = a.0.0; max = Some n.0 }, n.1)) x a.2 in
-        let t = index_sound c bytes a.0 a.1 in
+        let m = min_sound c most bytes a.0 a.1 in
+        let t = m.1 in
         let u = index_sound c a.0.1 d.0 d.1 in
-        subst (Takes (λ l t. limits_text l l.max t) (b ∷ bytes)) (ok_is (record { min = a.0.0; max = Some d.0.0 }, d.0.1) x d.2)
-        (0x01 ∷ t.0 ++ u.0, (t.0 ++ u.0, (t.0, u.0, t.1, u.1, refl), refl), ap (λ (n : ℕ). n ∷ bytes) (eqb-true b 1 q) ∙ ap (λ (v : List ℕ). 0x01 ∷ v) (t.2 ∙ ap (λ (v : List ℕ). t.0 ++ v) u.2 ∙ sym (append_assoc t.0 u.0 d.0.1)))
+        subst (Takes (IsLimits most) (b ∷ bytes)) (ok_is (record { min = a.0.0; max = Some d.0.0 }, d.0.1) x d.2)
+        (0x01 ∷ t.0 ++ u.0, (m.0, (t.0 ++ u.0, (t.0, u.0, t.1, u.1, refl), refl)), ap (λ (n : ℕ). n ∷ bytes) (eqb-true b 1 q) ∙ ap (λ (v : List ℕ). 0x01 ∷ v) (t.2 ∙ ap (λ (v : List ℕ). t.0 ++ v) u.2 ∙ sym (append_assoc t.0 u.0 d.0.1)))
     one_by false q f = absurd (err_ok (BadSection c.section) x f)
 
-    zero_by : (k : Bool) → nat_eq b 0 ≡ k → cond k (index_at c bytes >>= λ n. Ok (record { min = n.0; max = None }, n.1)) (cond (nat_eq b 1) (index_at c bytes >>= λ n. max_at c n.0 n.1) (malformed c)) ≡ Ok x → Takes (λ l t. limits_text l l.max t) (b ∷ bytes) x
+    zero_by : (k : Bool) → nat_eq b 0 ≡ k → cond k (min_at c most bytes >>= λ n. Ok (record { min = n.0; max = None }, n.1)) (cond (nat_eq b 1) (min_at c most bytes >>= λ n. max_at c n.0 n.1) (malformed c)) ≡ Ok x → Takes (IsLimits most) (b ∷ bytes) x
     zero_by true q f =
-        let a = bind_ok (index_at c bytes) (λ n. Ok (record { min = n.0; max = None }, n.1)) x f in
-        let t = index_sound c bytes a.0 a.1 in
-        subst (Takes (λ l t. limits_text l l.max t) (b ∷ bytes)) (ok_is (record { min = a.0.0; max = None }, a.0.1) x a.2)
-        (0x00 ∷ t.0, (t.0, t.1, refl), ap (λ (n : ℕ). n ∷ bytes) (eqb-true b 0 q) ∙ ap (λ (v : List ℕ). 0x00 ∷ v) t.2)
+        let a = bind_ok (min_at c most bytes) (λ n. Ok (record { min = n.0; max = None }, n.1)) x f in
+        let m = min_sound c most bytes a.0 a.1 in
+        let t = m.1 in
+        subst (Takes (IsLimits most) (b ∷ bytes)) (ok_is (record { min = a.0.0; max = None }, a.0.1) x a.2)
+        (0x00 ∷ t.0, (m.0, (t.0, t.1, refl)), ap (λ (n : ℕ). n ∷ bytes) (eqb-true b 0 q) ∙ ap (λ (v : List ℕ). 0x00 ∷ v) t.2)
     zero_by false q f = one_by (nat_eq b 1) refl f
 
 limits_sound : (c : Span) (most : ℕ) → IsSound (IsLimits most) (limits_at c most)
 limits_sound c most [] x e = absurd (err_ok (BadSection c.section) x e)
-limits_sound c most (b ∷ bytes) x e =
-    let a = bind_ok (limits_by c b bytes) (within most) x e in
-    let t = limits_by_sound c b bytes a.0 a.1 in
-    let p = passed (leb a.0.0.min most) (Ok a.0) TooLarge x a.2 in
-    subst (Takes (IsLimits most) (b ∷ bytes)) (ok_is a.0 x p.1) (t.0, (leb-true a.0.0.min most p.0, t.1), t.2)
+limits_sound c most (b ∷ bytes) x e = limits_by_sound c most b bytes x e
 
 table_type_sound : (c : Span) → IsSound IsTable (table_type_at c)
 table_type_sound c = tagged_sound c 0x70 (IsLimits 65536) _ (limits_sound c 65536)
@@ -128,24 +128,29 @@ record Runs (n left : ℕ) (bytes : List ℕ) (x : List ValType × List ℕ) : T
   types : x.0 ≡ expanded runs
   room : length x.0 ≤ left
 
+spread : (a b c d : List ℕ) → a ++ (b ++ (c ++ d)) ≡ ((a ++ b) ++ c) ++ d
+spread a b c d = sym (append_assoc a b (c ++ d)) ∙ sym (append_assoc (a ++ b) c d)
+
 runs_sound : (c : Span) (n left : ℕ) (bytes : List ℕ) (x : List ValType × List ℕ) → runs_at c n left bytes ≡ Ok x → Runs n left bytes x
 runs_sound c zero left bytes x e = subst (Runs 0 left bytes) (ok_is ([], bytes) x e) (record { runs = []; count = refl; text = []; each = refl; parts = refl; types = refl; room = omega arith })
 runs_sound c (suc n) left bytes x e =
-    let a = bind_ok (both_at (index_at c) (val_type_at c) bytes) (run_by (runs_at c n) left) x e in
-    let p = passed (leb a.0.0.0 left) (runs_at c n (left - a.0.0.0) a.0.1 >>= λ y. Ok (replicate a.0.0.0 a.0.0.1 ++ y.0, y.1)) TooLarge x a.2 in
-    let b = bind_ok (runs_at c n (left - a.0.0.0) a.0.1) (λ y. Ok (replicate a.0.0.0 a.0.0.1 ++ y.0, y.1)) x p.1 in
-    let t = both_sound IsIndex IsValType _ _ (index_sound c) (val_type_sound c) bytes a.0 a.1 in
-    let u = runs_sound c n (left - a.0.0.0) a.0.1 b.0 b.1 in
-    let small = leb-true a.0.0.0 left p.0 in
-    subst (Runs (suc n) left bytes) (ok_is (replicate a.0.0.0 a.0.0.1 ++ b.0.0, b.0.1) x b.2)
+    let a = bind_ok (index_at c bytes) (run_by c (runs_at c n) left) x e in
+    let p = passed (leb a.0.0 left) (val_type_at c a.0.1 >>= λ t. runs_at c n (left - a.0.0) t.1 >>= λ y. Ok (replicate a.0.0 t.0 ++ y.0, y.1)) TooLarge x a.2 in
+    let d = bind_ok (val_type_at c a.0.1) (λ t. runs_at c n (left - a.0.0) t.1 >>= λ y. Ok (replicate a.0.0 t.0 ++ y.0, y.1)) x p.1 in
+    let b = bind_ok (runs_at c n (left - a.0.0) d.0.1) (λ y. Ok (replicate a.0.0 d.0.0 ++ y.0, y.1)) x d.2 in
+    let h = index_sound c bytes a.0 a.1 in
+    let g = val_type_sound c a.0.1 d.0 d.1 in
+    let u = runs_sound c n (left - a.0.0) d.0.1 b.0 b.1 in
+    let small = leb-true a.0.0 left p.0 in
+    subst (Runs (suc n) left bytes) (ok_is (replicate a.0.0 d.0.0 ++ b.0.0, b.0.1) x b.2)
     (record {
-      runs = a.0.0 ∷ u.runs;
+      runs = (a.0.0, d.0.0) ∷ u.runs;
       count = ap suc u.count;
-      text = t.0 ++ u.text;
-      each = (t.0, u.text, t.1, u.each, refl);
-      parts = t.2 ∙ ap (λ (v : List ℕ). t.0 ++ v) u.parts ∙ sym (append_assoc t.0 u.text b.0.1);
-      types = ap (λ (v : List ValType). replicate a.0.0.0 a.0.0.1 ++ v) u.types;
-      room = omega (arith, small, u.room, length-append (replicate a.0.0.0 a.0.0.1) b.0.0, length-replicate a.0.0.0 a.0.0.1);
+      text = (h.0 ++ g.0) ++ u.text;
+      each = (h.0 ++ g.0, u.text, (h.0, g.0, h.1, g.1, refl), u.each, refl);
+      parts = h.2 ∙ ap (λ (v : List ℕ). h.0 ++ v) (g.2 ∙ ap (λ (v : List ℕ). g.0 ++ v) u.parts) ∙ spread h.0 g.0 u.text b.0.1;
+      types = ap (λ (v : List ValType). replicate a.0.0 d.0.0 ++ v) u.types;
+      room = omega (arith, small, u.room, length-append (replicate a.0.0 d.0.0) b.0.0, length-replicate a.0.0 d.0.0);
     })
 
 locals_sound : (c : Span) → IsSound IsLocals (locals_at c)
@@ -167,6 +172,15 @@ code_sound c bytes x e =
     subst (Takes IsCode bytes) (ok_is (b.0, a.0.1) x b.2) (t.0, (t.1.0, a.0.0, t.1.1, u, t.1.2), t.2)
 
 -- ---- sections
+
+-- the number before codes is theirs
+codes_counted : (c : Span) (bytes : List ℕ) (xs : List CodeForm) (n : ℕ × List ℕ) → index_at c bytes ≡ Ok n → whole c (vec_at c (code_at c)) bytes ≡ Ok xs → n.0 ≡ length xs
+codes_counted c bytes xs n h e =
+    let v = bind_ok (vec_at c (code_at c) bytes) (ended c) xs e in
+    let i = bind_ok (index_at c bytes) (λ m. each_at (code_at c) m.0 m.1) v.0 v.1 in
+    let k = each_sound IsCode (code_at c) (code_sound c) i.0.0 i.0.1 v.0 i.2 in
+    let u = bind_ok (ended_by c v.0.1) (λ o. Ok v.0.0) xs v.2 in
+    ap (λ (m : ℕ × List ℕ). m.0) (ok_is n i.0 (sym h ∙ i.1)) ∙ sym k.0 ∙ ap length (ok_is v.0.0 xs u.2)
 
 pub part_sound : (c : Span) (k : SectionId) (p : Parts) (bytes : List ℕ) (q : Parts) → part_at c k p bytes ≡ Ok q → GivesPart k bytes p q
 part_sound c section.Type p bytes q e =
@@ -197,9 +211,11 @@ part_sound c section.Element p bytes q e =
     let a = bind_ok (whole c (vec_at c (elem_at c)) bytes) (λ xs. Ok (record p { elems = xs })) q e in
     (a.0, whole_sound c _ _ (vec_sound c IsElem _ (elem_sound c)) bytes a.0 a.1, sym (ok_is (record p { elems = a.0 }) q a.2))
 part_sound c section.Code p bytes q e =
-    let a = bind_ok (whole c (vec_at c (code_at c)) bytes) (with_codes c p) q e in
-    let t = passed (nat_eq (length a.0) (length p.type_indices)) (Ok (record p { codes = a.0 })) (BadSection c.section) q a.2 in
-    (a.0, whole_sound c _ _ (vec_sound c IsCode _ (code_sound c)) bytes a.0 a.1, eqb-true (length a.0) (length p.type_indices) t.0, sym (ok_is (record p { codes = a.0 }) q t.1))
+    let n = bind_ok (index_at c bytes) (codes_by c p bytes) q e in
+    let t = passed (nat_eq n.0.0 (length p.type_indices)) (whole c (vec_at c (code_at c)) bytes >>= λ xs. Ok (record p { codes = xs })) (BadSection c.section) q n.2 in
+    let a = bind_ok (whole c (vec_at c (code_at c)) bytes) (λ xs. Ok (record p { codes = xs })) q t.1 in
+    let count = sym (codes_counted c bytes a.0 n.0 n.1 a.1) ∙ eqb-true n.0.0 (length p.type_indices) t.0 in
+    (a.0, whole_sound c _ _ (vec_sound c IsCode _ (code_sound c)) bytes a.0 a.1, count, sym (ok_is (record p { codes = a.0 }) q a.2))
 part_sound c section.Data p bytes q e =
     let a = bind_ok (whole c (vec_at c (data_at c)) bytes) (λ xs. Ok (record p { data_segments = xs })) q e in
     (a.0, whole_sound c _ _ (vec_sound c IsData _ (data_sound c)) bytes a.0 a.1, sym (ok_is (record p { data_segments = a.0 }) q a.2))

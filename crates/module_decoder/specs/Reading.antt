@@ -163,18 +163,24 @@ func_type_at c = mapped (λ x. record { params = x.0; result = x.1 }) (tagged_at
 abbrev pub import_at : Span → List ℕ → Read ImportForm
 import_at c = mapped (λ x. record { from = x.0; name = x.1.0; ty = x.1.1 }) (both_at (name_at c) (both_at (name_at c) (tagged_at c 0x00 (index_at c))))
 
-abbrev pub within : ℕ → Limits × List ℕ → Read Limits
-within most x = if nat_le x.0.min most then Ok x else Err TooLarge
+abbrev pub within : ℕ → ℕ × List ℕ → Read ℕ
+within most n = if nat_le n.0 most then Ok n else Err TooLarge
+
+-- the least size, which is at most this
+abbrev pub min_at : Span → ℕ → List ℕ → Read ℕ
+min_at c most bytes = index_at c bytes >>= within most
 
 abbrev pub max_at : Span → ℕ → List ℕ → Read Limits
 max_at c min bytes = index_at c bytes >>= λ n. Ok (record { min = min; max = Some n.0 }, n.1)
 
-abbrev pub limits_by : Span → ℕ → List ℕ → Read Limits
-limits_by c b bytes = if b == 0 then (index_at c bytes >>= λ n. Ok (record { min = n.0; max = None }, n.1)) else if b == 1 then (index_at c bytes >>= λ n. max_at c n.0 n.1) else malformed c
+abbrev pub limits_by : Span → ℕ → ℕ → List ℕ → Read Limits
+limits_by c most b bytes =
+    if b == 0 then (min_at c most bytes >>= λ n. Ok (record { min = n.0; max = None }, n.1)) else
+    if b == 1 then (min_at c most bytes >>= λ n. max_at c n.0 n.1) else malformed c
 
 abbrev pub limits_at : Span → ℕ → List ℕ → Read Limits
 limits_at c most [] = malformed c
-limits_at c most (b ∷ bytes) = limits_by c b bytes >>= within most
+limits_at c most (b ∷ bytes) = limits_by c most b bytes
 
 abbrev pub table_type_at : Span → List ℕ → Read Limits
 table_type_at c = tagged_at c 0x70 (limits_at c 65536)
@@ -214,13 +220,13 @@ elem_at c = mapped (λ x. record { table = x.0; offset = x.1.0; init = x.1.1 }) 
 abbrev pub data_at : Span → List ℕ → Read DataForm
 data_at c = mapped (λ x. record { memory = x.0; offset = x.1.0; init = x.1.1 }) (both_at (index_at c) (both_at (expr_at c) (bytes_at c)))
 
--- runs of locals, of which so many are left
-abbrev pub run_by : (ℕ → List ℕ → Read (List ValType)) → ℕ → (ℕ × ValType) × List ℕ → Read (List ValType)
-run_by go left x = if nat_le x.0.0 left then (go (left - x.0.0) x.1 >>= λ y. Ok (replicate x.0.0 x.0.1 ++ y.0, y.1)) else Err TooLarge
+-- a run of this many locals, of which so many are left
+abbrev pub run_by : Span → (ℕ → List ℕ → Read (List ValType)) → ℕ → ℕ × List ℕ → Read (List ValType)
+run_by c go left n = if nat_le n.0 left then (val_type_at c n.1 >>= λ t. go (left - n.0) t.1 >>= λ y. Ok (replicate n.0 t.0 ++ y.0, y.1)) else Err TooLarge
 
 abbrev pub runs_at : Span → ℕ → ℕ → List ℕ → Read (List ValType)
 runs_at c zero left bytes = Ok ([], bytes)
-runs_at c (suc n) left bytes = both_at (index_at c) (val_type_at c) bytes >>= run_by (runs_at c n) left
+runs_at c (suc n) left bytes = index_at c bytes >>= run_by c (runs_at c n) left
 
 abbrev pub locals_at : Span → List ℕ → Read (List ValType)
 locals_at c bytes = index_at c bytes >>= λ n. runs_at c n.0 50000 n.1
@@ -252,8 +258,9 @@ find_section (k ∷ ks) b = if b == number k then Some k else find_section ks b
 abbrev pub section_by : ℕ → Option SectionId
 section_by b = find_section all_sections b
 
-abbrev pub with_codes : Span → Parts → List CodeForm → Result Parts DecodeFault
-with_codes c p xs = if length xs == length p.type_indices then Ok (record p { codes = xs }) else malformed c
+-- the codes, if there are as many as functions; their number stands before them
+abbrev pub codes_by : Span → Parts → List ℕ → ℕ × List ℕ → Result Parts DecodeFault
+codes_by c p bytes n = if n.0 == length p.type_indices then (whole c (vec_at c (code_at c)) bytes >>= λ xs. Ok (record p { codes = xs })) else malformed c
 
 abbrev pub part_at : Span → SectionId → Parts → List ℕ → Result Parts DecodeFault
 part_at c section.Type p bytes = whole c (vec_at c (func_type_at c)) bytes >>= λ xs. Ok (record p { types = xs })
@@ -265,7 +272,7 @@ part_at c section.Global p bytes = whole c (vec_at c (global_at c)) bytes >>= λ
 part_at c section.Export p bytes = whole c (vec_at c (export_at c)) bytes >>= λ xs. Ok (record p { exports = xs })
 part_at c section.Start p bytes = whole c (index_at c) bytes >>= λ x. Ok (record p { start = Some x })
 part_at c section.Element p bytes = whole c (vec_at c (elem_at c)) bytes >>= λ xs. Ok (record p { elems = xs })
-part_at c section.Code p bytes = whole c (vec_at c (code_at c)) bytes >>= with_codes c p
+part_at c section.Code p bytes = index_at c bytes >>= codes_by c p bytes
 part_at c section.Data p bytes = whole c (vec_at c (data_at c)) bytes >>= λ xs. Ok (record p { data_segments = xs })
 
 -- what was read: the last id, the parts, and where the function section was

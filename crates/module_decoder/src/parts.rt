@@ -6,7 +6,7 @@ ghost use Rattle.module_decoder.specs.View.{view_code};
 ghost use Rattle.module_decoder.specs.Readers.{Fails, Gives, vec_at, option_at, tagged_at, index_at, whole};
 ghost use Rattle.std.specs.Prelude.{◌++◌, OnOk, IfErr};
 ghost use Rattle.module_decoder.specs.declared.fault.DecodeFault.TheVariants.{NoMemory};
-ghost use Rattle.module_decoder.specs.Reading.{val_type_at, func_type_at, import_at, limits_at, limits_by, limited_at, max_at, table_type_at, global_type_at, global_at, export_desc_at, export_at, elem_at, data_at, runs_at, locals_at, code_parts_at, code_at};
+ghost use Rattle.module_decoder.specs.Reading.{val_type_at, func_type_at, import_at, limits_at, limits_by, limited_at, min_at, max_at, table_type_at, global_type_at, global_at, export_desc_at, export_at, elem_at, data_at, runs_at, locals_at, code_parts_at, code_at};
 
 use crate::basics::{Span, counted, ended, index, mutability, name, val_type};
 use crate::body::expr;
@@ -125,13 +125,25 @@ impl Entry for Import {
     }
 }
 
-fn limits_by(c: Span, b: u8, bytes: &[u8]) -> Result<(Limits, &[u8]), DecodeFault>
-    ensures { Gives (λ x. (x.0, x.1.now)) result (limits_by c b bytes.now) }
+/// The least size, which is at most this.
+fn min_size(c: Span, most: u32, bytes: &[u8]) -> Result<(u32, &[u8]), DecodeFault>
+    ensures { Gives (λ x. (x.0, x.1.now)) result (min_at c most bytes.now) }
+{
+    let (min, rest) = index(c, bytes)?;
+    if min <= most {
+        Ok((min, rest))
+    } else {
+        Err(DecodeFault::TooLarge)
+    }
+}
+
+fn limits_by(c: Span, most: u32, b: u8, bytes: &[u8]) -> Result<(Limits, &[u8]), DecodeFault>
+    ensures { Gives (λ x. (x.0, x.1.now)) result (limits_by c most b bytes.now) }
 {
     if b > 1 {
         return Err(c.malformed());
     }
-    let (min, rest) = index(c, bytes)?;
+    let (min, rest) = min_size(c, most, bytes)?;
     if b == 0 {
         return Ok((Limits { min, max: None }, rest));
     }
@@ -152,14 +164,7 @@ fn limits(c: Span, most: u32, bytes: &[u8]) -> Result<(Limits, &[u8]), DecodeFau
 {
     match bytes {
         [] => Err(c.malformed()),
-        [b, rest @ ..] => {
-            let (limits, rest) = limits_by(c, *b, rest)?;
-            if limits.min <= most {
-                Ok((limits, rest))
-            } else {
-                Err(DecodeFault::TooLarge)
-            }
-        }
+        [b, rest @ ..] => limits_by(c, most, *b, rest),
     }
 }
 
@@ -356,10 +361,10 @@ fn locals(alloc: Global, c: Span, bytes: &[u8]) -> Result<(Vec<ValType>, &[u8]),
     let mut rest = first;
     for _ in 0..count {
         let (n, after) = index(c, rest)?;
-        let (t, after) = val_type(c, after)?;
         if n > left {
             return Err(DecodeFault::TooLarge);
         }
+        let (t, after) = val_type(c, after)?;
         add_run(&mut all, n, t)?;
         left -= n;
         rest = after;

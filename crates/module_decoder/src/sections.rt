@@ -122,18 +122,17 @@ impl Parts {
         }
     }
 
-    // Takes the codes, of which there are as many as functions.
+    // Takes the codes, of which there are as many as functions. Their number stands before them, so it is told first where it differs.
     fn take_codes(&mut self, alloc: Global, c: Span, bytes: &[u8]) -> Result<(), DecodeFault>
         ensures { MatchResult result
             (λ _. part_at c section_id.Code (view_parts self.old) bytes.now ≡ Ok (view_parts self.new))
             (λ e. Fails e (part_at c section_id.Code (view_parts self.old) bytes.now)) }
     {
-        fill(&mut self.codes, alloc, c, bytes)?;
-        if self.codes.len() == self.type_indices.len() {
-            Ok(())
-        } else {
-            Err(c.malformed())
+        let (count, _) = index(c, bytes)?;
+        if count as usize != self.type_indices.len() {
+            return Err(c.malformed());
         }
+        fill(&mut self.codes, alloc, c, bytes)
     }
 
     // Takes what the contents of a section give.

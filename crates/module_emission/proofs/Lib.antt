@@ -1,3 +1,4 @@
-mod Marks
 mod Steps
 mod Pieces
+mod Noted
+pub mod Spelled

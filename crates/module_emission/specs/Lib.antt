@@ -1,3 +1,4 @@
+pub mod Calls
+pub mod Lengths
 pub mod Limits
-pub mod Marked
 pub mod View

@@ -1,9 +1,9 @@
 //! Which imports are called, and the numbers of functions once the others are left out.
 ghost use Rattle.std.specs.Prelude.{◌≡◌, ◌≤◌, length, map, IfOk};
-ghost use Rattle.module_emission.specs.Marked.{marked};
+ghost use Rattle.module_emission.specs.Calls.{noted};
 ghost use Rattle.module_emission.specs.View.{view_functions};
 ghost use Rattle.value_machine.specs.Imports.{imports};
-ghost use Rattle.value_machine.specs.Modules.{any_calls, called_from, calls_by, calls_in, chosen, is_call, new_number, renumbered, renumbered_one, renumbered_simple};
+ghost use Rattle.value_machine.specs.Modules.{called_from, calls_by, calls_in, chosen, is_call, new_number, renumbered, renumbered_one, renumbered_simple};
 ghost use Rattle.wasm_types.specs.View.{view, views};
 
 use crate::function::Function;
@@ -13,60 +13,56 @@ use std::rc::Rc;
 use value_machine::Import;
 use wasm_types::{Instr, Simple};
 
-/// Marks the import that an instruction calls.
-fn mark_call(called: &mut [bool], simple: Simple)
-    ensures { called.new ≡ marked called.old (λ i. is_call i simple) }
+/// Notes what an instruction calls, if that is an import.
+fn note_simple(called: &mut Vec<bool>, simple: Simple)
+    ensures { called.new.items ≡ noted (λ i. is_call i simple) called.old.items }
 {
-    if let Simple::Call(number) = simple {
-        let import = number as usize;
-        if import < called.len() {
-            called[import] = true;
+    match simple {
+        Simple::Call(number) => {
+            let number = number as usize;
+            if number < called.len() {
+                called[number] = true;
+            }
         }
+        _ => {}
     }
 }
 
-/// Marks the imports that an instruction calls.
+/// Notes which imports an instruction calls.
 #[cycle(calls)]
-fn mark_calls_by(called: &mut [bool], instr: &Instr)
-    ensures { called.new ≡ marked called.old (λ i. calls_by i (view instr.now)) }
+fn note_calls_by(called: &mut Vec<bool>, instr: &Instr)
+    ensures { called.new.items ≡ noted (λ i. calls_by i (view instr.now)) called.old.items }
 {
     match instr {
-        Instr::Plain(simple) => mark_call(called, *simple),
+        Instr::Plain(simple) => note_simple(called, *simple),
         Instr::BrTable(_, _) => {}
-        Instr::Block(_, inner) => mark_calls_in(called, inner),
-        Instr::Loop(_, inner) => mark_calls_in(called, inner),
+        Instr::Block(_, inner) => note_calls_in(called, inner),
+        Instr::Loop(_, inner) => note_calls_in(called, inner),
         Instr::If(_, inner, other) => {
-            mark_calls_in(called, inner);
-            mark_calls_in(called, other);
+            note_calls_in(called, inner);
+            note_calls_in(called, other);
         }
     }
 }
 
-/// Marks the imports that code calls.
+/// Notes which imports code calls.
 #[cycle(calls)]
-fn mark_calls_in(called: &mut [bool], code: &[Instr])
-    ensures { called.new ≡ marked called.old (λ i. calls_in i (views code.now)) }
+fn note_calls_in(called: &mut Vec<bool>, code: &[Instr])
+    ensures { called.new.items ≡ noted (λ i. calls_in i (views code.now)) called.old.items }
 {
     for instr in code {
-        mark_calls_by(called, instr);
+        note_calls_by(called, instr);
     }
 }
 
-/// Marks the imports that functions call.
-fn mark_calls(called: &mut [bool], fs: &[Function])
-    ensures { called.new ≡ marked called.old (λ i. any_calls i (view_functions fs.now)) }
-{
-    for f in fs {
-        mark_calls_in(called, &f.body);
-    }
-}
-
-/// For each import, whether it is called. The code is read once, for all imports together.
+/// For each import, whether it is called: one walk over the code finds all of them.
 pub(crate) fn called_imports(alloc: Global, fs: &[Function]) -> Result<Vec<bool>, AllocError>
     ensures { IfOk result (λ bs. bs.items ≡ called_from 0 imports (view_functions fs.now)) }
 {
     let mut called = vec![in alloc; false; COUNT]?;
-    mark_calls(&mut called, fs);
+    for f in fs {
+        note_calls_in(&mut called, &f.body);
+    }
     Ok(called)
 }
 
@@ -146,7 +142,7 @@ pub(crate) fn renumbered(
 ) -> Result<Vec<Instr>, AllocError>
     ensures { IfOk result (λ out. views out.items ≡ renumbered called.now (views code.now)) }
 {
-    let mut out = Vec::new(alloc);
+    let mut out = Vec::with_capacity(alloc, code.len())?;
     for instr in code {
         out.push(renumbered_one(alloc, called, instr)?)?;
     }

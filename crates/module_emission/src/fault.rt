@@ -5,7 +5,7 @@ use thiserror::Error;
 /// Why a script has no module.
 #[derive(Clone, Copy, Debug, PartialEq, Eq, Drop, Error)]
 pub enum EmitFault {
-    /// Its texts and names take more than 16,777,216 bytes, or it has more functions than that.
+    /// Its texts and names, or its code, take more than 16,777,216 bytes, or it has more functions than that.
     #[error("TooLarge")]
     TooLarge,
     #[error("NoMemory")]

@@ -12,6 +12,7 @@ ghost use Rattle.wasm_types.specs.View.{signature_of, view_module};
 use crate::calls::{called_imports, chosen};
 use crate::fault::EmitFault;
 use crate::function::Function;
+use crate::lengths::least_among;
 use crate::parts::{
     function_forms, globals, import_forms, main_export, memory, memory_for, text_segment,
 };
@@ -58,8 +59,8 @@ fn small_memory(alloc: Global, mid: &Mid) -> Result<Vec<u8>, EmitFault>
 ///
 /// # Errors
 ///
-/// [`EmitFault::TooLarge`] where texts and names take more than 16,777,216 bytes or there are more functions than that, and
-/// [`EmitFault::NoMemory`].
+/// [`EmitFault::TooLarge`] where texts and names take more than 16,777,216 bytes, or there are more functions than that, or the code takes more at least,
+/// which is told before any more is made of it; and [`EmitFault::NoMemory`].
 pub fn module_for(alloc: Global, mid: &Mid, fs: &[Function]) -> Result<Module, EmitFault>
     requires { view_functions fs.now ≡ all_callees (view_mid mid.now) }
     ensures module { IfOk result (λ m. view_module m ≡ module_of (view_mid mid.now)) }
@@ -69,6 +70,9 @@ pub fn module_for(alloc: Global, mid: &Mid, fs: &[Function]) -> Result<Module, E
     ensures too_large { IfErr result
         (λ fault. fault ≡ EmitFault.TooLarge → IsTooLarge (view_mid mid.now)) }
 {
+    if least_among(fs) > MOST_BYTES as u64 {
+        return Err(EmitFault::TooLarge);
+    }
     let bytes = small_memory(alloc, mid)?;
     let called = called_imports(alloc, fs)?;
     let used = chosen(alloc, &called)?;

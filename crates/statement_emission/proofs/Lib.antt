@@ -1,5 +1,6 @@
 pub mod Announced
 pub mod Fitting
 pub mod Holdings
+pub mod Weighing
 pub mod Smallness
 pub mod Stepping

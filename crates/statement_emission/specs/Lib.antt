@@ -1,4 +1,5 @@
 pub mod Holding
+pub mod Lengths
 pub mod Limits
 pub mod Parts
 pub mod Places

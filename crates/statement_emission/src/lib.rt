@@ -6,6 +6,7 @@ mod beginning;
 mod evaluating;
 mod holding;
 mod leaving;
+mod lengths;
 mod loops;
 mod parts;
 mod records;

@@ -1,5 +1,5 @@
 //! The functions of a script, and its module.
-ghost use Rattle.std.specs.Prelude.{[], true, false, ◌≡◌, ◌≤◌, IfErr, IfOk, length, map, MatchOption, OnOk};
+ghost use Rattle.std.specs.Prelude.{[], true, false, ◌≡◌, ◌<◌, ◌≤◌, IfErr, IfOk, length, map, MatchOption, OnOk};
 ghost use Rattle.std.specs.List.{AllByRecursion};
 ghost use Rattle.mid_program.specs.Sorted.{context_of, parts_sorted, routines_sorted, steps_sorted, IsSorted};
 ghost use Rattle.mid_program.specs.View.{view_mid, view_routine};
@@ -7,11 +7,13 @@ ghost use Rattle.value_machine.specs.Functions.{main_bases, main_callee, routine
 ghost use Rattle.value_machine.specs.Modules.{all_callees, module_of};
 ghost use Rattle.code_needs.specs.Fits.{view_needs, FewLocals};
 ghost use Rattle.code_emission.specs.Bounds.{most_places};
-ghost use Rattle.module_emission.specs.Limits.{IsTooLarge};
+ghost use Rattle.module_emission.specs.Lengths.{least_in};
+ghost use Rattle.module_emission.specs.Limits.{most_bytes, IsTooLarge};
 ghost use Rattle.module_emission.specs.View.{view_function, view_functions};
 ghost use Rattle.statement_emission.specs.Limits.{AreSmallEnough, MainIsSmall, RoutineIsSmall};
 ghost use Rattle.wasm_types.specs.View.{view_module};
 
+use crate::lengths::main_length;
 use crate::parts::main_code;
 use crate::routines::routine_code;
 use code_emission::Bases;
@@ -24,6 +26,9 @@ use wasm_types::Module;
 
 /// How many labels may stand in one another.
 const MOST_NESTED: u32 = 4000;
+
+/// The most bytes of a module.
+const MOST_BYTES: u64 = 1 << 24;
 
 /// How many functions there may be, beside `main`.
 const MOST_ROUTINES: usize = 1 << 24;
@@ -101,7 +106,7 @@ fn main_function(alloc: Global, tables: &Tables<'_>) -> Result<Function, EmitFau
     requires sorted { parts_sorted (view_mid tables.now.program.now) (context_of (view_mid tables.now.program.now) []) ≡ true }
     ensures function { IfOk result (λ f. view_function f ≡ main_callee (view_mid tables.now.program.now)) }
     ensures small { OnOk result (MainIsSmall (view_mid tables.now.program.now)) }
-    ensures too_large { IfErr result (λ fault. fault ≡ EmitFault.TooLarge → MainIsSmall (view_mid tables.now.program.now) → ⊥) }
+    ensures too_large { IfErr result (λ fault. fault ≡ EmitFault.TooLarge → MainIsSmall (view_mid tables.now.program.now) → most_bytes < least_in (main_callee (view_mid tables.now.program.now)).body) }
 {
     let Some(needs) = small_main(tables.program) else {
         return Err(EmitFault::TooLarge);
@@ -112,6 +117,9 @@ fn main_function(alloc: Global, tables: &Tables<'_>) -> Result<Function, EmitFau
         tables,
         bases: &bases,
     };
+    if main_length(&y)? > MOST_BYTES {
+        return Err(EmitFault::TooLarge);
+    }
     let body = main_code(&y)?;
     let locals = local_types(alloc, needs)?;
     Ok(Function {
@@ -142,14 +150,15 @@ fn routine_functions(alloc: Global, tables: &Tables<'_>) -> Result<Vec<Function>
 /// # Errors
 ///
 /// [`EmitFault::TooLarge`] where a function has more than 50,000 locals or its labels are nested past 4,000, or there are more than
-/// 16,777,216 functions, and [`EmitFault::NoMemory`].
+/// 16,777,216 functions, or the code of `main` takes more bytes than that, and [`EmitFault::NoMemory`].
 pub fn functions(alloc: Global, tables: &Tables<'_>) -> Result<Vec<Function>, EmitFault>
     requires { IsSorted (view_mid tables.now.program.now) }
     ensures functions { IfOk result
         (λ fs. view_functions fs.items ≡ all_callees (view_mid tables.now.program.now)) }
     ensures small { OnOk result (AreSmallEnough (view_mid tables.now.program.now)) }
-    ensures too_large { IfErr result
-        (λ fault. fault ≡ EmitFault.TooLarge → AreSmallEnough (view_mid tables.now.program.now) → ⊥) }
+    ensures too_large { IfErr result (λ fault. fault ≡ EmitFault.TooLarge
+        → AreSmallEnough (view_mid tables.now.program.now)
+        → IsTooLarge (view_mid tables.now.program.now)) }
 {
     if tables.routines().len() > MOST_ROUTINES {
         return Err(EmitFault::TooLarge);

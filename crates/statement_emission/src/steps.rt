@@ -74,7 +74,7 @@ fn statement(
 
 /// The code of a statement in a list of its own.
 #[cycle(statements)]
-fn inner(y: &Layout<'_>, step: &Step, at: Around) -> Result<Vec<Instr>, AllocError>
+pub(crate) fn inner(y: &Layout<'_>, step: &Step, at: Around) -> Result<Vec<Instr>, AllocError>
     requires fit { StepFits (view_layout y.now) (view_step step.now) at.iterators at.exit }
     requires own { OwnLabels at }
     ensures { IfOk result (λ v. Emits [] v.items (step_emitted (view_layout y.now) (view_step step.now) at.iterators at.exit at.break_to at.continue_to)) }

@@ -1,4 +1,4 @@
-use Rattle.std.proofs.Common.{◌≡◌, ◌+◌, ◌++◌, ◌∷◌, [], ℕ, List, Bool, Some, None, map, codes, length, sym, ap, ◌∙◌, rules, ◌≤◌, subst}
+use Rattle.std.proofs.Common.{◌≡◌, ◌+◌, ◌++◌, ◌∷◌, [], ℕ, List, Bool, None, map, codes, length, sym, ap, ◌∙◌, rules, ◌≤◌, inr, subst, arith}
 use Rattle.std.proofs.lemmas.List.{length-map}
 use Rattle.std.specs.Vec.{vec_len}
 use Rattle.mid_program.specs.View.{view_mid, view_routine}
@@ -14,8 +14,10 @@ use Rattle.value_machine.specs.Modules.{called_from, called_imports, callee_type
 use Rattle.value_machine.specs.Places.{memory_of}
 use Rattle.value_machine.specs.Small.{does}
 use Rattle.value_machine.specs.declared.import.Import.{Import}
+use Rattle.module_emission.specs.Lengths.{least_among}
 use Rattle.module_emission.specs.Limits.{most_bytes}
 use Rattle.module_emission.specs.View.{view_functions}
+use Rattle.module_emission.proofs.Spelled.{spelled_short}
 use Rattle.module_emission.proofs.module.module_for.Goals as goal
 
 abbrev main_form : ℕ → ExportForm
@@ -60,6 +62,14 @@ returns-clause-module c =
       elems = elems i;
       data_segments = segments i;
     }
+
+pub returns-then-least_among-clause-too_large : goal.returns-then-least_among-clause-too_large
+returns-then-least_among-clause-too_large c = λ e. inr (inr (λ bytes m.
+    let short = spelled_short (view_mid c.args.mid.now) bytes m in
+    let functions = ap least_among c.requires in
+    let least = c.least_among.ensures in
+    let past = c.if-least_among.true in
+    omega (arith, short, functions, least, past)))
 
 pub returns-clause-small : goal.returns-clause-small
 returns-clause-small c = (subst (λ (b : List ℕ). length b ≤ most_bytes) c.in_ok-bytes.ensures.bytes c.in_ok-bytes.ensures.few, c.in_ok-bytes.ensures.functions)
