@@ -112,9 +112,10 @@ module _ (p : Program) where
       let ends = end_labelled p in
       (limits.routines, (both.0, (record { parameters = omega arith; locals = both.1.0 }, (omega (arith, depth, begins), (items_shallow empty depth, omega (arith, depth, ends))))))
 
-  not_large : IsLimited p → IsTooLarge p → ⊥
-  not_large limits (inl e) = let texts = limits.texts in omega (arith, texts, e)
-  not_large limits (inr e) = let routines = limits.routines in omega (arith, routines, e)
+  not_large : IsLimited p → (bytes : List ℕ) → IsModule bytes (module_of p) → IsTooLarge p → ⊥
+  not_large limits bytes m (inl e) = let texts = limits.texts in omega (arith, texts, e)
+  not_large limits bytes m (inr (inl e)) = let routines = limits.routines in omega (arith, routines, e)
+  not_large limits bytes m (inr (inr none)) = none bytes m
 
   pub no_module : ByRecursion Few p.routines → ReadsItsItems p → (IsSmall p → AreSmallEnough p → IsTooLarge p) → (bytes : List ℕ) → IsModule bytes (module_of p) → ⊥
-  no_module few empty past bytes m = let limits = spelled_limited p bytes m in not_large limits (past (small limits) (small_enough limits few empty))
+  no_module few empty past bytes m = let limits = spelled_limited p bytes m in not_large limits bytes m (past (small limits) (small_enough limits few empty))
