@@ -1,4 +1,4 @@
-use Rattle.std.proofs.Common.{◌≡◌, ◌-◌, ℕ, suc, max, List, ◌∷◌, map, drop, ap, sym, ◌∙◌, arith}
+use Rattle.std.proofs.Common.{◌≡◌, ◌-◌, ℕ, suc, max, List, map, drop, ap, sym, ◌∙◌, arith}
 use Rattle.mid_program.specs.Mid as plain
 use Rattle.mid_program.specs.ViewCode.{joined, view, views}
 use Rattle.mid_program.specs.declared.code.Code.{Code}

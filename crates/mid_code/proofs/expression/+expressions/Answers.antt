@@ -1,4 +1,4 @@
-use Rattle.std.proofs.Common.{◌-◌, length, ap, sym, ◌∙◌, refl, arith}
+use Rattle.std.proofs.Common.{ap, sym, ◌∙◌, refl, arith}
 use Rattle.std.proofs.lemmas.List.{get_or_default}
 use Rattle.std.proofs.lemmas.Result.{IfOk-weaker}
 use Rattle.awk_grammar.specs.View.{view as tree, views as trees, view_binary}
@@ -6,7 +6,6 @@ use Rattle.awk_grammar.specs.declared.tree.Expr.{Expr}
 use Rattle.awk_grammar.proofs.Views.{element_is, call_is, apply_is, in_list_is}
 use Rattle.mid_program.specs.Mid as plain
 use Rattle.mid_program.specs.Translation.{applied_code, code_of}
-use Rattle.mid_program.specs.ViewCode.{view}
 use Rattle.mid_code.specs.Keys.{key_of}
 use Rattle.mid_code.specs.ViewScope.{scope_of, texts_of}
 use Rattle.mid_code.proofs.CodeParts.{binary_is, call_computed, call_end, call_missing, call_named, conditional_code, element_kept, in_list_code, index_code, each_end, each_step, key_each, length_more, list_code, match_code, no_trees, one_tree, operands_end, operands_step, other_code, other_operator, place_replaced, quotient_code, record_replaced, split_by_code, split_code, split_none, substr_code, substr_from}
