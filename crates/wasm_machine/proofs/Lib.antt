@@ -1,12 +1,15 @@
 pub mod Beginning
 pub mod Branches
+pub mod Bursting
 pub mod Calls
 pub mod Chains
 pub mod Cuts
 pub mod First
 pub mod Flattening
 pub mod Following
+pub mod Fusing
 pub mod Heights
+pub mod Hurrying
 pub mod Linking
 pub mod Nesting
 pub mod Operators

@@ -1,7 +1,9 @@
+pub mod Bursts
 pub mod Callers
 pub mod Codes
 pub mod Flat
 pub mod Frames
+pub mod Fusions
 pub mod Hosts
 pub mod Levels
 pub mod Links

@@ -1,16 +1,19 @@
 //! A frame and its steps.
 ghost use Rattle.std.specs.Prelude.{◌≡◌, ◌↔◌, IfOk, IsTrue, Some, slice_get, get_or};
+ghost use Rattle.wasm_machine.specs.Bursts.{Hurried};
 ghost use Rattle.wasm_machine.specs.Flat.{code_at};
 ghost use Rattle.wasm_machine.specs.Frames.{frame_of, begun, seen, event_of, local_step, pushed, of_one, of_two, of_two_or, local_set, local_tee, dropped, selected, branch, jump, branch_if, called_through, at_end};
 ghost use Rattle.wasm_types.specs.Syntax.{Done};
 ghost use Rattle.wasm_store.specs.Words.{binary_of, compare_of, converted, test_of, unary_of};
 
 use crate::access::Access;
+use crate::burst::hurry;
 use crate::code::{Code, Op};
+use crate::fused::Fused;
 use crate::levels::Levels;
 use std::alloc::{AllocError, Global};
 use std::rc::Rc;
-use wasm_store::{TrapKind, Word};
+use wasm_store::{Globals, TrapKind, Word};
 use wasm_types::{CvtOp, IBinOp, IRelOp, ITestOp, IUnOp, ValType};
 
 /// How a step within a frame went.
@@ -327,6 +330,36 @@ impl Frame {
             return Way::Nowhere;
         };
         if c == 0 { Way::On } else { self.jump(n) }
+    }
+
+    /// Several steps at once, as long as that is known how. One step at least is left.
+    #[inline(never)]
+    fn several(&mut self, globals: &mut Globals, given: u64) -> Result<u64, AllocError>
+        ensures { IfOk result (λ left. Hurried given left (frame_of self.old) globals.old
+            (frame_of self.new) globals.new) }
+    {
+        let reached = hurry(
+            &self.code,
+            &mut self.locals,
+            &mut self.levels,
+            globals,
+            self.at,
+            given,
+        )?;
+        self.at = reached.at;
+        Ok(reached.left)
+    }
+
+    /// The same, where more than a value begins here.
+    #[inline(always)]
+    pub(crate) fn burst(&mut self, globals: &mut Globals, given: u64) -> Result<u64, AllocError>
+        ensures { IfOk result (λ left. Hurried given left (frame_of self.old) globals.old
+            (frame_of self.new) globals.new) }
+    {
+        match self.code.fused(self.at) {
+            None | Some(Fused::Other | Fused::Get(_)) => Ok(given),
+            Some(_) => self.several(globals, given),
+        }
     }
 
     /// One step. Constants before its instruction are values already.

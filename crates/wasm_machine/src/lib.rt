@@ -2,9 +2,11 @@
 #![tactic(auto)]
 
 mod access;
+mod burst;
 mod callers;
 mod code;
 mod frame;
+mod fused;
 mod host;
 pub mod laws;
 mod levels;
