@@ -32,10 +32,13 @@ use Rattle.script_compiler.specs.Refusals.{HasNoBytes, IsNotCompiled, IsPastLimi
 use Rattle.script_compiler.proofs.Limits.{Few, FewParameters, ReadsItsItems, few, no_module, reads}
 
 -- tables are of the code that they were made of
+pub program_same : (mid : Mid) (tables : Tables) (made : Option Tables) → made ≡ Some tables → MatchOption made (IsSmall (view_mid mid) → ⊥) (λ t. t.program.now ≡ mid) →
+    tables.program.now ≡ mid
+program_same mid tables made is h = subst (λ (o : Option Tables). MatchOption o (IsSmall (view_mid mid) → ⊥) (λ t. t.program.now ≡ mid)) is h
+
 pub module_same : (mid : Mid) (tables : Tables) (made : Option Tables) → made ≡ Some tables → MatchOption made (IsSmall (view_mid mid) → ⊥) (λ t. t.program.now ≡ mid) →
     module_of (view_mid tables.program.now) ≡ module_of (view_mid mid)
-module_same mid tables made is h =
-    ap (λ (m : Mid). module_of (view_mid m)) (subst (λ (o : Option Tables). MatchOption o (IsSmall (view_mid mid) → ⊥) (λ t. t.program.now ≡ mid)) is h)
+module_same mid tables made is h = ap (λ (m : Mid). module_of (view_mid m)) (program_same mid tables made is h)
 
 -- texts of a module that has bytes are small
 pub texts_small : (p : Program) (v : List ℕ) → IsModule v (module_of p) → FewParameters p.routines → length (memory_of (texts_of p)) ≤ 2 ^ 32
