@@ -1,5 +1,5 @@
 -- Code takes at least what its parts take.
-use Rattle.std.proofs.Common.{◌≡◌, ℕ, zero, suc, ◌+◌, ◌^◌, ◌<◌, ◌≤◌, Bool, true, false, if◌then◌else◌, List, [], ◌∷◌, ◌++◌, None, drop, drop-cons, get_or, length, map, refl, sym, ap, ◌∙◌, subst, arith}
+use Rattle.std.proofs.Common.{◌≡◌, ℕ, zero, suc, ◌+◌, ◌^◌, ◌<◌, ◌≤◌, Bool, true, false, if◌then◌else◌, List, [], ◌∷◌, ◌++◌, None, drop, drop-cons, get_or, length, map, sym, ap, ◌∙◌, subst, arith}
 use Rattle.std.proofs.lemmas.List.{at_drop_all}
 use Rattle.std.specs.declared.alloc.Global.{Global}
 use Rattle.std.specs.declared.vec.Vec.{Vec}
@@ -25,7 +25,7 @@ use Rattle.value_machine.specs.Statements.{all_emptied, arrays_emptied, before_p
 use Rattle.awk_state.specs.declared.table.Primitive.TheVariants as row
 use Rattle.code_emission.specs.Emits.{Emits, followed}
 use Rattle.module_emission.specs.Lengths.{least_among, least_in}
-use Rattle.statement_emission.specs.Lengths.{TakesAtLeast}
+use Rattle.statement_emission.specs.Lengths.{TakesAtLeast, Weighs}
 use Rattle.module_emission.specs.Limits.{most_bytes}
 use Rattle.module_emission.proofs.Spelled.{spelled_short}
 use Rattle.statement_emission.specs.StepFits.{StepsFit}
@@ -43,12 +43,22 @@ piece code is n emits le k =
     let f = followed_least is k in
     omega (arith, le, e, f)
 
+pub weighed : (n : ℕ) (code : Instructions → Instructions) → TakesAtLeast n code → Weighs n code
+weighed n code h = (λ k. let a = h k in omega (arith, a), λ few. h)
+
+block_more : (y : Layout) (s : Step) (v : Vec Step Global) (ss : List Step) → s ≡ Block v → ss ≡ v.items → (k : Instructions) →
+    least_in (steps_emitted y (view_steps ss) 0 0 0 0 k) ≤ least_in (step_emitted y (view_step s) 0 0 0 0 k)
+block_more y s v ss e f k = let b = ap least_in (block_code y s v ss 0 0 0 0 k e f) in omega (arith, b)
+
 pub block_least : (y : Layout) (s : Step) (v : Vec Step Global) (ss : List Step) (n : ℕ) → s ≡ Block v → ss ≡ v.items →
-    TakesAtLeast n (steps_emitted y (view_steps ss) 0 0 0 0) → TakesAtLeast n (step_emitted y (view_step s) 0 0 0 0)
-block_least y s v ss n e f h k =
-    let b = ap least_in (block_code y s v ss 0 0 0 0 k e f) in
-    let a = h k in
-    omega (arith, a, b)
+    Weighs n (steps_emitted y (view_steps ss) 0 0 0 0) → Weighs n (step_emitted y (view_step s) 0 0 0 0)
+block_least y s v ss n e f h = (alone, beside)
+  where
+    alone : (k : Instructions) → n ≤ least_in (step_emitted y (view_step s) 0 0 0 0 k)
+    alone k = let b = block_more y s v ss e f k in let a = h.0 k in omega (arith, a, b)
+
+    beside : n ≤ most_bytes → TakesAtLeast n (step_emitted y (view_step s) 0 0 0 0)
+    beside few k = let b = block_more y s v ss e f k in let a = h.1 few k in omega (arith, a, b)
 
 next_code : (y : Layout) (ss : List Step) (i : ℕ) (s : Step) (k : Instructions) → i < length ss → s ≡ get_or ss i s →
     steps_emitted y (view_steps (drop i ss)) 0 0 0 0 k ≡ step_emitted y (view_step s) 0 0 0 0 (steps_emitted y (view_steps (drop (i + 1) ss)) 0 0 0 0 k)
@@ -63,6 +73,14 @@ pub next_least : (y : Layout) (ss : List Step) (i : ℕ) (s : Step) (b n total :
     TakesAtLeast n (step_emitted y (view_step s) 0 0 0 0) → b + least_in (steps_emitted y (view_steps (drop i ss)) 0 0 0 0 k) ≤ total →
     b + n + least_in (steps_emitted y (view_steps (drop (i + 1) ss)) 0 0 0 0 k) ≤ total
 next_least y ss i s b n total k lt at h le =
+    let e = ap least_in (next_code y ss i s k lt at) in
+    let a = h (steps_emitted y (view_steps (drop (i + 1) ss)) 0 0 0 0 k) in
+    omega (arith, e, a, le)
+
+-- the first of these alone, whatever comes after it
+pub first_alone : (y : Layout) (ss : List Step) (i : ℕ) (s : Step) (b n total : ℕ) (k : Instructions) → i < length ss → s ≡ get_or ss i s →
+    ((j : Instructions) → n ≤ least_in (step_emitted y (view_step s) 0 0 0 0 j)) → b + least_in (steps_emitted y (view_steps (drop i ss)) 0 0 0 0 k) ≤ total → b + n ≤ total
+first_alone y ss i s b n total k lt at h le =
     let e = ap least_in (next_code y ss i s k lt at) in
     let a = h (steps_emitted y (view_steps (drop (i + 1) ss)) 0 0 0 0 k) in
     omega (arith, e, a, le)
@@ -85,10 +103,6 @@ unfolding steps_emitted
 none_left y ss i k le = at_drop_all (λ (xs : List Step). steps_emitted y (view_steps xs) 0 0 0 0 k) ss i le
 
 -- `main`.
-
-differ : (z : Bool) → z ≡ true → z ≡ false → ⊥
-differ true h f = cc
-differ false h f = cc
 
 module _ (y : Layout) where
   temporaries_least : (t m : ℕ) (k : Instructions) → least_in k ≤ least_in (temporaries_emptied y t m k)
@@ -140,31 +154,35 @@ module _ (y : Layout) where
   part_least : (actions : Instructions) (d : ℕ) (k : Instructions) → least_in actions + least_in k ≤ least_in (part_done y actions d k)
   part_least actions d k = omega arith
 
-  records_least : (items : Steps) (n : ℕ) (k : Instructions) → TakesAtLeast n (steps_emitted y items 0 0 0 0) → n + least_in k ≤ least_in (records_read y items zero k)
-  records_least items n k h = let a = h (does (Br 1) Done) in omega (arith, a)
+  -- the items of a record
+  items_alone : (items : Steps) (n : ℕ) (k : Instructions) → ((j : Instructions) → n ≤ least_in (steps_emitted y items 0 0 0 0 j)) → n ≤ least_in (records_read y items zero k)
+  items_alone items n k h = let a = h (does (Br 1) Done) in omega (arith, a)
 
-  first_least : (p : Program) (b i : ℕ) → TakesAtLeast b (steps_emitted y p.begin 0 0 0 0) → (p.reads ≡ true → TakesAtLeast i (steps_emitted y p.items 0 0 0 0)) → (p.reads ≡ false → i ≡ 0) →
-      b + i ≤ least_in (first_part y p)
-  first_least p b i begin items none = by p.reads items none
+  abbrev first_by : (p : Program) → Bool → Instructions
+  first_by p z = steps_emitted y p.begin 0 0 0 0 (if z then records_read y p.items zero (does (Br 1) Done) else does (Br 1) Done)
+
+  begin_first : (p : Program) (b : ℕ) → ((k : Instructions) → b ≤ least_in (steps_emitted y p.begin 0 0 0 0 k)) → b ≤ least_in (first_part y p)
+  begin_first p b h = by p.reads
     where
-      by : (z : Bool) → (z ≡ true → TakesAtLeast i (steps_emitted y p.items 0 0 0 0)) → (z ≡ false → i ≡ 0) →
-          b + i ≤ least_in (steps_emitted y p.begin 0 0 0 0 (if z then records_read y p.items zero (does (Br 1) Done) else does (Br 1) Done))
-      by true f g =
-          let a = begin (records_read y p.items zero (does (Br 1) Done)) in
-          let r = records_least p.items i (does (Br 1) Done) (f refl) in
-          omega (arith, a, r)
-      by false f g =
-          let a = begin (does (Br 1) Done) in
-          let e = g refl in
-          omega (arith, a, e)
+      by : (z : Bool) → b ≤ least_in (first_by p z)
+      by true = h (records_read y p.items zero (does (Br 1) Done))
+      by false = h (does (Br 1) Done)
 
-  main_least : (p : Program) (b e i : ℕ) → TakesAtLeast b (steps_emitted y p.begin 0 0 0 0) → TakesAtLeast e (steps_emitted y p.end 0 0 0 0) →
-      (p.reads ≡ true → TakesAtLeast i (steps_emitted y p.items 0 0 0 0)) → (p.reads ≡ false → i ≡ 0) → b + e + i ≤ least_in (main_body y p)
-  main_least p b e i begin end items none =
+  items_first : (p : Program) (b i : ℕ) → p.reads ≡ true → TakesAtLeast b (steps_emitted y p.begin 0 0 0 0) → ((k : Instructions) → i ≤ least_in (steps_emitted y p.items 0 0 0 0 k)) →
+      b + i ≤ least_in (first_part y p)
+  items_first p b i reads begin items = by p.reads reads
+    where
+      by : (z : Bool) → z ≡ true → b + i ≤ least_in (first_by p z)
+      by true e =
+          let a = begin (records_read y p.items zero (does (Br 1) Done)) in
+          let r = items_alone p.items i (does (Br 1) Done) items in
+          omega (arith, a, r)
+      by false e = cc
+
+  within : (p : Program) (f l : ℕ) → f ≤ least_in (first_part y p) → l ≤ least_in (last_part y p) → f + l ≤ least_in (main_body y p)
+  within p f l first ends =
       let last = ask_row BeginEnd (part_done y (last_part y p) zero Done) in
       let parts = part_done y (first_part y p) zero last in
-      let first = first_least p b i begin items none in
-      let ends = end (does (Br 1) Done) in
       let q = part_least (last_part y p) zero Done in
       let r = part_least (first_part y p) zero last in
       let s = before_least p parts in
@@ -177,12 +195,21 @@ module _ (y : Layout) where
           let a = emptied_least (Then (tree.Block None inner) rest) in
           omega (arith, a)
 
-  pub main_reads : (p : Program) (b e i : ℕ) → TakesAtLeast b (steps_emitted y p.begin 0 0 0 0) → TakesAtLeast e (steps_emitted y p.end 0 0 0 0) → p.reads ≡ true → TakesAtLeast i (steps_emitted y p.items 0 0 0 0) →
-      b + e + i ≤ least_in (main_body y p)
-  main_reads p b e i begin end reads items = main_least p b e i begin end (λ t. items) (λ f. absurd (differ p.reads reads f))
+  -- `main` takes what its parts take
+  pub begin_within : (p : Program) (b : ℕ) → Weighs b (steps_emitted y p.begin 0 0 0 0) → b ≤ least_in (main_body y p)
+  begin_within p b begin = let w = within p b 0 (begin_first p b begin.0) (omega arith) in omega (arith, w)
 
-  pub main_alone : (p : Program) (b e : ℕ) → TakesAtLeast b (steps_emitted y p.begin 0 0 0 0) → TakesAtLeast e (steps_emitted y p.end 0 0 0 0) → p.reads ≡ false → b + e + 0 ≤ least_in (main_body y p)
-  main_alone p b e begin end alone = main_least p b e 0 begin end (λ t. absurd (differ p.reads t alone)) (λ f. refl)
+  pub end_within : (p : Program) (e : ℕ) → Weighs e (steps_emitted y p.end 0 0 0 0) → e ≤ least_in (main_body y p)
+  end_within p e end = let w = within p 0 e (omega arith) (end.0 (does (Br 1) Done)) in omega (arith, w)
+
+  pub both_within : (p : Program) (b e r : ℕ) → Weighs b (steps_emitted y p.begin 0 0 0 0) → Weighs e (steps_emitted y p.end 0 0 0 0) → r ≤ b + e → r ≤ least_in (main_body y p)
+  both_within p b e r begin end le = let w = within p b e (begin_first p b begin.0) (end.0 (does (Br 1) Done)) in omega (arith, w, le)
+
+  pub all_within : (p : Program) (b e i r : ℕ) → Weighs b (steps_emitted y p.begin 0 0 0 0) → b ≤ most_bytes → Weighs e (steps_emitted y p.end 0 0 0 0) → p.reads ≡ true →
+      Weighs i (steps_emitted y p.items 0 0 0 0) → r ≤ b + e + i → r ≤ least_in (main_body y p)
+  all_within p b e i r begin few end reads items le =
+      let w = within p (b + i) e (items_first p b i reads (begin.1 few) items.0) (end.0 (does (Br 1) Done)) in
+      omega (arith, w, le)
 
 pub passed : (m n t : ℕ) → m < n → n ≤ t → m < t
 passed m n t a b = omega (arith, a, b)

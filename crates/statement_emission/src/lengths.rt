@@ -1,12 +1,12 @@
 //! How long the code of `main` is at least. It is made piece by piece for this and dropped, so that a script whose code is too long is refused before all of
 //! it is there at once.
-ghost use Rattle.std.specs.Prelude.{◌+◌, ◌≤◌, IfOk};
+ghost use Rattle.std.specs.Prelude.{◌≤◌, IfOk};
 ghost use Rattle.mid_program.specs.View.{view_mid};
 ghost use Rattle.mid_program.specs.ViewCode.{view_step, view_steps};
 ghost use Rattle.value_machine.specs.Statements.{main_body, step_emitted, steps_emitted};
 ghost use Rattle.expression_emission.specs.View.{view_layout};
 ghost use Rattle.module_emission.specs.Lengths.{least_in};
-ghost use Rattle.statement_emission.specs.Lengths.{TakesAtLeast};
+ghost use Rattle.statement_emission.specs.Lengths.{Weighs};
 ghost use Rattle.statement_emission.specs.StepFits.{PartsFit, StepFits, StepsFit};
 
 use crate::around::OUTERMOST;
@@ -16,11 +16,14 @@ use mid_program::Step;
 use module_emission::least_in;
 use std::alloc::AllocError;
 
+/// The most bytes of a module.
+pub(crate) const MOST_BYTES: u64 = 1 << 24;
+
 /// How long the code of a statement is at least; that of a block by its statements, of which a script may have all in one.
 #[cycle(lengths)]
 fn step_length(y: &Layout<'_>, step: &Step) -> Result<u64, AllocError>
     requires { StepFits (view_layout y.now) (view_step step.now) 0 0 }
-    ensures { IfOk result (λ n. TakesAtLeast n (step_emitted (view_layout y.now) (view_step step.now) 0 0 0 0)) }
+    ensures { IfOk result (λ n. Weighs n (step_emitted (view_layout y.now) (view_step step.now) 0 0 0 0)) }
 {
     match step {
         Step::Block(steps) => steps_length(y, steps),
@@ -31,15 +34,18 @@ fn step_length(y: &Layout<'_>, step: &Step) -> Result<u64, AllocError>
     }
 }
 
-/// How long the code of statements is at least.
+/// How long the code of statements is at least. What comes after too much is not looked at.
 #[cycle(lengths)]
 fn steps_length(y: &Layout<'_>, steps: &[Step]) -> Result<u64, AllocError>
     requires { StepsFit (view_layout y.now) (view_steps steps.now) 0 0 }
-    ensures { IfOk result (λ n. TakesAtLeast n (steps_emitted (view_layout y.now) (view_steps steps.now) 0 0 0 0)) }
+    ensures { IfOk result (λ n. Weighs n (steps_emitted (view_layout y.now) (view_steps steps.now) 0 0 0 0)) }
 {
     let mut bytes: u64 = 0;
     for step in steps {
         bytes = bytes.saturating_add(step_length(y, step)?);
+        if bytes > MOST_BYTES {
+            return Ok(bytes);
+        }
     }
     Ok(bytes)
 }
@@ -51,11 +57,20 @@ pub(crate) fn main_length(y: &Layout<'_>) -> Result<u64, AllocError>
 {
     let program = y.tables.program;
     let begin = steps_length(y, &program.begin)?;
+    if begin > MOST_BYTES {
+        return Ok(begin);
+    }
     let end = steps_length(y, &program.end)?;
-    let items = if program.reads {
-        steps_length(y, &program.items)?
-    } else {
-        0
-    };
-    Ok(begin.saturating_add(end).saturating_add(items))
+    if end > MOST_BYTES {
+        return Ok(end);
+    }
+    let outside = begin.saturating_add(end);
+    if !program.reads {
+        return Ok(outside);
+    }
+    let items = steps_length(y, &program.items)?;
+    if items > MOST_BYTES {
+        return Ok(items);
+    }
+    Ok(outside.saturating_add(items))
 }

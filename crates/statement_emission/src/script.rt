@@ -13,7 +13,7 @@ ghost use Rattle.module_emission.specs.View.{view_function, view_functions};
 ghost use Rattle.statement_emission.specs.Limits.{AreSmallEnough, MainIsSmall, RoutineIsSmall};
 ghost use Rattle.wasm_types.specs.View.{view_module};
 
-use crate::lengths::main_length;
+use crate::lengths::{MOST_BYTES, main_length};
 use crate::parts::main_code;
 use crate::routines::routine_code;
 use code_emission::Bases;
@@ -26,9 +26,6 @@ use wasm_types::Module;
 
 /// How many labels may stand in one another.
 const MOST_NESTED: u32 = 4000;
-
-/// The most bytes of a module.
-const MOST_BYTES: u64 = 1 << 24;
 
 /// How many functions there may be, beside `main`.
 const MOST_ROUTINES: usize = 1 << 24;

@@ -5,6 +5,7 @@ use Rattle.value_machine.specs.Boundaries.{step_places, steps_places}
 use Rattle.value_machine.specs.Statements.{steps_emitted}
 use Rattle.expression_emission.specs.View.{view_layout}
 use Rattle.module_emission.specs.Lengths.{least_in}
+use Rattle.module_emission.specs.Limits.{most_bytes}
 use Rattle.statement_emission.specs.StepFits.{StepsFit}
 use Rattle.statement_emission.proofs.lengths.+lengths.Given as goal
 
@@ -16,6 +17,7 @@ decreases-steps_length l = 2 * steps_places (view_steps l.steps.now) + 1
 
 abbrev pub invariant-steps_length-loop-step : goal.invariant-steps_length-loop-step
 invariant-steps_length-loop-step l = record {
+  short : l.bytes ≤ most_bytes;
   few : steps_places (view_steps (drop l.step-index l.steps)) ≤ steps_places (view_steps l.steps);
   fit : StepsFit (view_layout l.fn.y) (view_steps (drop l.step-index l.steps)) 0 0;
   long : (k : Instructions) →
