@@ -1,5 +1,5 @@
 -- Names take a value: globals, and boxed parameters.
-use Rattle.std.proofs.Common.{◌≡◌, ℕ, suc, ◌+◌, ◌<◌, ◌≤◌, Bool, true, false, List, [], ◌∷◌, length, None, refl, sym, ap, ◌∙◌, subst, arith}
+use Rattle.std.proofs.Common.{◌≡◌, ℕ, suc, ◌+◌, ◌<◌, ◌≤◌, Bool, true, false, List, [], ◌∷◌, length, Option, None, refl, sym, ap, ◌∙◌, subst, arith}
 use Rattle.std.specs.Prelude.{◌&&◌}
 use Rattle.std.proofs.lemmas.Bool.{and_parts}
 use Rattle.std.proofs.lemmas.List.{get_or-set_other}
@@ -27,7 +27,7 @@ use Rattle.value_machine.proofs.Runs.{Goes, then_goes, goes_to, goes_from, by_st
 use Rattle.value_machine.proofs.Locals.{Locals, Param, Hand, Number as NumberAt, local_of, with_at, has_with, laid, laid_at, laid_twice, laid_again}
 use Rattle.value_machine.proofs.Globals.{Globals, Hand as NameHand, Number as NameNumber, global_of, with_global_at, has_global_with, placed, placed_twice, placed_again}
 use Rattle.value_machine.proofs.Steps.{empty, get_moved, get_copied, set_ok, tee_ok, moved_out_ok}
-use Rattle.value_machine.proofs.GlobalSteps.{storing, global_moved, global_copied, global_set_ok}
+use Rattle.value_machine.proofs.GlobalSteps.{storing, while_assigning, comes_back, global_moved, global_copied, global_set_ok}
 use Rattle.value_machine.proofs.Pieces.{chooses, closes, drop_ok}
 use Rattle.value_machine.proofs.State.{bare, beside, bare_number, beside_number, cells_of, host_of, kind_here, arrays_before, name_hand, name_word}
 use Rattle.value_machine.proofs.Relation.{HoldsAt, Below, kept_same, Same, same_self, same_hand, same_then, Fit, SameOwn, Away}
@@ -100,7 +100,7 @@ module _ (p : Program) (deepest : ℕ) (ks : List Kind) (F : List Frame) (b : Ba
       let put = GlobalSet (global_of p.ranges nn (NameHand i)) in
       let old = global_value i σ in
       let s = stored_ok p deepest ks F b M n o f x t l put (placed p.ranges nn g1) σ (λ v. laid b (handed o t l)) (λ v. storing (placed p.ranges nn (with_global_at p.ranges nn g1 (NameHand i) (Held v))) (host_of σ None)) K k lt e hd
-      (λ v K k. global_set_ok p.ranges nn g1 (NameHand i) (Held v) li (ap is_owned (has_global_with p.ranges nn g (NameHand i) Gone))) in
+      (λ v K k. global_set_ok p.ranges nn g1 (NameHand i) (Held v) li (ap is_owned (has_global_with p.ranges nn g (NameHand i) Gone)) (comes_back _ _ None _ _ (Held v) (has_global_with p.ranges nn g (NameHand i) Gone))) in
       let q = s.few in
       record {
         steps = 2 + s.steps;
@@ -132,17 +132,17 @@ module _ (p : Program) (deepest : ℕ) (ks : List Kind) (F : List Frame) (b : Ba
             (goes_to s.goes (ap (λ L. at ks [] K L F k G) (param_again o t i (boxed f x) l li)));
       }
 
-  -- An unboxed global: the text beside it is dropped.
+  -- An unboxed global: the text beside it is dropped, while code makes an assignment too.
 
-  pub record TextGone (i t : ℕ) (k : Instructions) (K : List Label) (l : Locals) (σ : State) : Type 0 where
+  pub record TextGone (name : Option ℕ) (i t : ℕ) (k : Instructions) (K : List Label) (l : Locals) (σ : State) : Type 0 where
     pub left : Cell
     pub unowned : is_owned left ≡ false
     pub steps : ℕ
     pub few : steps ≤ 8
-    pub goes : Goes (machine p deepest ks F) steps (at ks [] K (laid b l) F (text_dropped (layout p deepest ks F b M n) i t k) (beside_state p deepest ks F σ)) (at ks [] K (laid b l) F k (storing (placed p.ranges (length kinds) (with_global_at p.ranges (length kinds) (globals_at σ) (NameHand i) left)) (host_of σ None)))
+    pub goes : Goes (machine p deepest ks F) steps (at ks [] K (laid b l) F (text_dropped (layout p deepest ks F b M n) i t k) (while_assigning name (beside_state p deepest ks F σ))) (at ks [] K (laid b l) F k (while_assigning name (storing (placed p.ranges (length kinds) (with_global_at p.ranges (length kinds) (globals_at σ) (NameHand i) left)) (host_of σ None))))
 
-  no_text : (i t : ℕ) (k : Instructions) (K : List Label) (l : Locals) (σ : State) → has_kind kinds i Unboxed ≡ true → t < b.temporaries → l.hand t ≡ empty → beside (global_value i σ) ≡ empty → TextGone i t k K l σ
-  no_text i t k K l σ hk lt e eh =
+  no_text : (name : Option ℕ) (i t : ℕ) (k : Instructions) (K : List Label) (l : Locals) (σ : State) → has_kind kinds i Unboxed ≡ true → t < b.temporaries → l.hand t ≡ empty → beside (global_value i σ) ≡ empty → TextGone name i t k K l σ
+  no_text name i t k K l σ hk lt e eh =
       let nn = length kinds in
       let li = kind_below kinds i Unboxed hk in
       let kh = kind_found kinds i Unboxed hk in
@@ -156,13 +156,13 @@ module _ (p : Program) (deepest : ℕ) (ks : List Kind) (F : List Frame) (b : Ba
         steps = 5;
         few = omega arith;
         goes = then_goes (global_copied p.ranges nn g (NameHand i) empty li hand refl)
-            (then_goes (goes_to (tee_ok b l (Hand t) empty lt (ap is_owned e)) (ap (λ L. at ks (empty ∷ []) K L F (does (I32Const minus_one) (does (Compare ty.I32 Ne) (when away k))) (beside_state p deepest ks F σ)) (laid_again b l (Hand t) empty lt e)))
+            (then_goes (goes_to (tee_ok b l (Hand t) empty lt (ap is_owned e)) (ap (λ L. at ks (empty ∷ []) K L F (does (I32Const minus_one) (does (Compare ty.I32 Ne) (when away k))) (while_assigning name (beside_state p deepest ks F σ))) (laid_again b l (Hand t) empty lt e)))
             (then_goes (by_steps 1 refl)
-            (then_goes (chooses away NoMore 0) (goes_to closes (ap (λ m. at ks [] K (laid b l) F k (storing m (host_of σ None))) (sym (placed_again p.ranges nn g (NameHand i) empty li hand)))))));
+            (then_goes (chooses away NoMore 0) (goes_to closes (ap (λ m. at ks [] K (laid b l) F k (while_assigning name (storing m (host_of σ None)))) (sym (placed_again p.ranges nn g (NameHand i) empty li hand)))))));
       }
 
-  pub text_dropped_ok : (i t : ℕ) (k : Instructions) (K : List Label) (l : Locals) (σ : State) → has_kind kinds i Unboxed ≡ true → t < b.temporaries → l.hand t ≡ empty → BareIs (global_value i σ) → TextGone i t k K l σ
-  text_dropped_ok i t k K l σ hk lt e (IsBeside eb eh) =
+  pub text_dropped_ok : (name : Option ℕ) (i t : ℕ) (k : Instructions) (K : List Label) (l : Locals) (σ : State) → has_kind kinds i Unboxed ≡ true → t < b.temporaries → l.hand t ≡ empty → BareIs (global_value i σ) → TextGone name i t k K l σ
+  text_dropped_ok name i t k K l σ hk lt e (IsBeside eb eh) =
       let nn = length kinds in
       let li = kind_below kinds i Unboxed hk in
       let kh = kind_found kinds i Unboxed hk in
@@ -180,14 +180,14 @@ module _ (p : Program) (deepest : ℕ) (ks : List Kind) (F : List Frame) (b : Ba
         few = omega arith;
         goes = then_goes (global_moved p.ranges nn g (NameHand i) (Held old) li hand)
             (then_goes (tee_ok b l (Hand t) (Held old) lt (ap is_owned e))
-            (then_goes (looked p deepest ks F b (h b t) (laid b l1) (placed p.ranges nn g1) old (host_of σ None) e1)
+            (then_goes (looked p deepest ks F b (h b t) (laid b l1) (while_assigning name (storing (placed p.ranges nn g1) (host_of σ None))) old e1)
             (then_goes (chooses away NoMore 1)
             (then_goes (moved_out_ok b l1 (Hand t) (Held old) lt (has_with l (Hand t) (Held old)))
             (then_goes (drop_ok old [])
-            (goes_to closes (ap (λ L. at ks [] K L F k (storing (placed p.ranges nn g1) (host_of σ None))) (laid_twice b l (Hand t) (Held old) empty lt ∙ laid_again b l (Hand t) empty lt e))))))));
+            (goes_to closes (ap (λ L. at ks [] K L F k (while_assigning name (storing (placed p.ranges nn g1) (host_of σ None)))) (laid_twice b l (Hand t) (Held old) empty lt ∙ laid_again b l (Hand t) empty lt e))))))));
       }
-  text_dropped_ok i t k K l σ hk lt e (IsNone q eb eh) = no_text i t k K l σ hk lt e eh
-  text_dropped_ok i t k K l σ hk lt e (IsNumber m q eb eh) = no_text i t k K l σ hk lt e eh
+  text_dropped_ok name i t k K l σ hk lt e (IsNone q eb eh) = no_text name i t k K l σ hk lt e eh
+  text_dropped_ok name i t k K l σ hk lt e (IsNumber m q eb eh) = no_text name i t k K l σ hk lt e eh
 
   bare_global_set : (o : Bool) (f : Form) (i t : ℕ) (l : Locals) (y : Number) (σ : State) (K : List Label) (k : Instructions) → t < b.temporaries → l.hand t ≡ empty → l.number t ≡ Bits (I64 (number_word y)) → length σ.globals ≡ length p.globals → has_kind kinds i Unboxed ≡ true →
       TakesValue (slot_set (layout p deepest ks F b M n) o (Global true i) f t k) k K l σ l (with_global i (Num y.number) σ)
@@ -200,16 +200,16 @@ module _ (p : Program) (deepest : ℕ) (ks : List Kind) (F : List Frame) (b : Ba
       let c = Bits (I64 (number_word y)) in
       let hnum = global_of p.ranges nn (NameNumber i) in
       let k2 = does (LocalGet (local_of b (NumberAt t))) (does (GlobalSet hnum) k) in
-      let s = text_dropped_ok i t (does (I32Const minus_one) (does (GlobalSet (global_of p.ranges nn (NameHand i))) k2)) K l σ hk lt e (bare_is (global_value i σ)) in
+      let s = text_dropped_ok None i t (does (I32Const minus_one) (does (GlobalSet (global_of p.ranges nn (NameHand i))) k2)) K l σ hk lt e (bare_is (global_value i σ)) in
       let q = s.few in
       record {
         steps = s.steps + 3;
         few = omega (arith, q);
         goes = then_goes s.goes
-            (then_goes (goes_to (global_set_ok p.ranges nn (with_global_at p.ranges nn g (NameHand i) s.left) (NameHand i) empty li (ap is_owned (has_global_with p.ranges nn g (NameHand i) s.left) ∙ s.unowned))
+            (then_goes (goes_to (global_set_ok p.ranges nn (with_global_at p.ranges nn g (NameHand i) s.left) (NameHand i) empty li (ap is_owned (has_global_with p.ranges nn g (NameHand i) s.left) ∙ s.unowned) refl)
             (ap (λ m. at ks [] K (laid b l) F k2 (storing m (host_of σ None))) (placed_twice p.ranges nn g (NameHand i) s.left empty li)))
             (then_goes (get_copied b l (NumberAt t) c lt e1 refl)
-            (goes_to (global_set_ok p.ranges nn g2 (NameNumber i) c li refl)
+            (goes_to (global_set_ok p.ranges nn g2 (NameNumber i) c li refl refl)
             (ap (λ m. at ks [] K (laid b l) F k (storing m (host_of σ None)))
             (global_written p deepest ks F b M n i (Num y.number) σ empty c sz li
             (ap (λ z. name_hand z (suc (suc (arrays_before kinds i))) (Num y.number)) kh ∙ beside_number y)
