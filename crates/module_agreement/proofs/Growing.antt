@@ -17,7 +17,7 @@ use Rattle.mid_program.specs.Mid.{Kind}
 use Rattle.value_machine.specs.Cells.{Cell, Bits, Held, LentArray, OwnedArray, IteratorOf, Gone, none_owned, is_owned, globals_by}
 use Rattle.value_machine.specs.ImportCalls.{Acts, Host, acted, acts, after_fault, call, fault_cell, lets_go, look, looked_at, replied, taken, where_so, with_some}
 use Rattle.value_machine.specs.Imports.{import_answer, import_arguments, import_at, import_count}
-use Rattle.value_machine.specs.Machine.{Code, Callee, Conf, Run, Look, Over, Deep, Stuck, Frame, Label, Store, at, ask, ask_looking, br, br_if, choose, enter, go, guarded, label, leave, leave_function, run_looking, set_global, set_local, step, takes_look, tee_local, teed, with_answer, with_operands, work, act, operated, call_number, ending_at, status_of, ending_name}
+use Rattle.value_machine.specs.Machine.{Code, Callee, Conf, Run, Look, Over, Deep, Stuck, Frame, Label, Store, at, ask, ask_looking, assigning_after, br, br_if, choose, enter, go, guarded, label, leave, leave_function, run_looking, set_global, set_local, step, takes_look, tee_local, teed, with_answer, with_operands, work, act, operated, call_number, ending_at, status_of, ending_name}
 use Rattle.value_machine.specs.declared.import.Import.{Import}
 
 pub grows_self : (xs : List Action) → Grows xs xs
@@ -132,9 +132,9 @@ module _ (o : List Action) where
   tee_local_put x ks [] K L F c G p = tt
   tee_local_put x ks (v ∷ vs) K L F c G p = guarded_put _ _ (teed_put v x ks vs K _ F c G p)
 
-  set_global_put : (x : ℕ) (ks : List Kind) (vs : List Cell) (K : List Label) (L : List Cell) (F : List Frame) (c : Instructions) (G : Store) → Has G.host → HasPut (set_global x ks vs K L F c G)
-  set_global_put x ks [] K L F c G p = tt
-  set_global_put x ks (v ∷ vs) K L F c G p = guarded_put _ _ (at_put ks vs K L F c _ p)
+  set_global_put : (u : Code) (x : ℕ) (ks : List Kind) (vs : List Cell) (K : List Label) (L : List Cell) (F : List Frame) (c : Instructions) (G : Store) → Has G.host → HasPut (set_global u x ks vs K L F c G)
+  set_global_put u x ks [] K L F c G p = tt
+  set_global_put u x ks (v ∷ vs) K L F c G p = guarded_put _ _ (at_put ks vs K L F c _ p)
 
   with_answer_put : (a : Option (Option Cell × Host)) (ks : List Kind) (vs : List Cell) (K : List Label) (L : List Cell) (F : List Frame) (c : Instructions) (G : Store) → HasIf a → HasPut (with_answer a ks vs K L F c G)
   with_answer_put None ks vs K L F c G p = tt
@@ -142,7 +142,7 @@ module _ (o : List Action) where
 
   ask_put : (memory : List ℕ) (i : Option Import) (ks : List Kind) (vs : List Cell) (K : List Label) (L : List Cell) (F : List Frame) (c : Instructions) (G : Store) → Has G.host → HasPut (ask memory i ks vs K L F c G)
   ask_put memory None ks vs K L F c G p = tt
-  ask_put memory (Some i) ks vs K L F c G p = guarded_put _ _ (with_answer_put _ ks _ K L F c G (call_put memory i _ G.host p))
+  ask_put memory (Some i) ks vs K L F c G p = guarded_put _ _ (with_answer_put _ ks _ K L F c (record G { assigning = assigning_after i G }) (call_put memory i _ G.host p))
 
   ask_looking_put : (i : Option Import) (v : Cell) (ks : List Kind) (vs : List Cell) (K : List Label) (L : List Cell) (F : List Frame) (c : Instructions) (G : Store) → Has G.host → HasPut (ask_looking i v ks vs K L F c G)
   ask_looking_put None v ks vs K L F c G p = tt
@@ -182,7 +182,7 @@ module _ (o : List Action) where
   act_put u (simple.LocalSet x) ks vs K L F c G p = set_local_put x ks vs K L F c G p
   act_put u (simple.LocalTee x) ks vs K L F c G p = tee_local_put x ks vs K L F c G p
   act_put u (simple.GlobalGet x) ks vs K L F c G p = at_put ks _ K L F c _ p
-  act_put u (simple.GlobalSet x) ks vs K L F c G p = set_global_put x ks vs K L F c G p
+  act_put u (simple.GlobalSet x) ks vs K L F c G p = set_global_put u x ks vs K L F c G p
   act_put u (simple.Br d) ks vs K L F c G p = guarded_put _ _ (br_put d ks K L F G p)
   act_put u (simple.BrIf d) ks vs K L F c G p = br_if_put d ks vs K L F c G p
   act_put u (simple.Call n) ks vs K L F c G p = call_number_put u n ks vs K L F c G p

@@ -128,7 +128,7 @@ module _ (p : Program) where
 
   module _ (s : Setting) where
     abbrev G : Store
-    G = record { globals = first_globals p; host = host_at_start s }
+    G = record { globals = first_globals p; host = host_at_start s; assigning = None }
 
     -- all else than the code
     rest_as : (d : ℕ) → RestAs (stays p) (called_imports p) (code_of p d) [] (zeros (main_callee p).locals) [] G in_main
