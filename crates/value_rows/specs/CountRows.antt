@@ -1,5 +1,5 @@
 -- What runs take: `n` is unboxed, and no import is called where it counts.
-use Rattle.std.specs.Prelude.{◌≡◌, ℕ, Bool, true, false, [], ◌∷◌, codes, Some, pos, refl}
+use Rattle.std.specs.Prelude.{◌≡◌, ℕ, Bool, true, false, [], ◌∷◌, codes, None, Some, pos, refl}
 use Rattle.std.specs.Fmt.{digits}
 use Rattle.awk_values.specs.declared.comparison.CompareOp.TheVariants.{Less}
 use Rattle.awk_values.specs.declared.fault.Fault.TheVariants.{TextLimit}
@@ -69,7 +69,7 @@ no_import_between = refl
 abbrev faulted_at_start : Program → Conf
 faulted_at_start p =
     let f = main_callee p in
-    at [] [] [] (zeros f.locals) [] f.body (record { globals = first_globals p; host = record (host_at_start plain_setting) { fault = Some TextLimit } })
+    at [] [] [] (zeros f.locals) [] f.body (record { globals = first_globals p; host = record (host_at_start plain_setting) { fault = Some TextLimit }; assigning = None })
 
 pub kept_from_the_start : ending_at (go (code_of (counting false 3) 9999) 1000 (faulted_at_start (counting false 3))) ≡ Some (FaultedBy TextLimit [])
 unfolding emitted all_emitted step_emitted steps_emitted digits

@@ -1,0 +1,25 @@
+-- Which names the command line has assigned to in a run, by `-v` or by an operand: the host has each such assignment pending until the module makes it.
+use Rattle.std.specs.Prelude.{ℕ, zero, suc, ◌≡◌, ◌⊎◌, List, Some}
+use Rattle.awk_state.specs.Jobs.{JobForm}
+use Rattle.awk_values.specs.declared.value.Value.{Value}
+use Rattle.world_core.specs.WorldState.{Action, Outside, Source}
+use Rattle.wasm_types.specs.Syntax.{ModuleForm}
+use Rattle.wasm_machine.specs.Machines.{Conf, ProgramForm}
+use Rattle.wasm_machine.specs.Runs.{MachineForm, Steps}
+use Rattle.host_step.specs.HostState.{HostState}
+use Rattle.host_step.specs.Starts.{state_at_start}
+use Rattle.value_refined.specs.Refined.{table_meaning}
+use Rattle.run_places.specs.Kept.{Reached}
+
+-- so it was of the host somewhere on the way of a run, at its beginning and its end too
+abbrev pub Somewhere : (P : HostState → Type 0) (m : ProgramForm) (n : ℕ) (c : Conf) (s : HostState) (output : List Action) (c1 : Conf) (s1 : HostState) → Steps table_meaning m n c s output c1 s1 → Type 0
+Somewhere P m zero c s output c1 s1 way = P s
+Somewhere P m (suc n) c s output c1 s1 way = P s ⊎ Somewhere P m n way.0 way.1 way.3 c1 s1 way.5
+
+-- an assignment to the i-th name of the script is to be made now
+abbrev pub IsPending : ℕ → HostState → Type 0
+IsPending i s = (v : Value) × (s.shared.inner.pending ≡ Some (i, v))
+
+abbrev pub IsAssigned : {m : ModuleForm} {job : JobForm} {input : Source} {outside : Outside} {a : MachineForm} {c : Conf} {s : HostState} → Reached m job input outside a c s → ℕ → Type 0
+IsAssigned {job = job} {input = input} {outside = outside} {a = a} {c = c} {s = s} reached i =
+    Somewhere (IsPending i) a.program reached.steps a.conf (state_at_start job input outside) reached.output c s reached.taken
