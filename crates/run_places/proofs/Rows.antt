@@ -1,10 +1,22 @@
--- Rows: what a caller that waits holds, and marks.
-use Rattle.std.proofs.Common.{◌≡◌, inl, inr, List, [], ◌∷◌, Option, Some, None, refl}
+-- Rows: what a caller that waits holds, marks, and assignments of the command line.
+use Rattle.std.proofs.Common.{◌≡◌, inl, inr, ℕ, zero, List, [], ◌∷◌, Option, Some, None, refl, ap, arith}
+use Rattle.awk_values.specs.declared.value.Value.{Value}
+use Rattle.awk_values.specs.declared.value.Value.TheVariants.{StrNum}
+use Rattle.awk_state.specs.Jobs.{JobForm}
 use Rattle.awk_state.specs.declared.sorts.Sort.{Sort}
 use Rattle.awk_state.specs.declared.sorts.Sort.TheVariants as sort
 use Rattle.wasm_store.specs.declared.word.Word.TheVariants.{I32, I64}
+use Rattle.wasm_types.specs.Syntax.{Done, Instructions, Plain, Then}
+use Rattle.wasm_types.specs.declared.instr.Simple.TheVariants.{Nop}
+use Rattle.wasm_machine.specs.Machines.{Conf, ProgramForm}
+use Rattle.wasm_machine.specs.Runs.{Steps}
+use Rattle.host_step.specs.HostState.{HostState}
+use Rattle.host_step.specs.Starts.{state_at_start}
+use Rattle.world_core.specs.WorldState.{Outside, Source}
 use Rattle.mid_program.specs.Mid.{Boxed, Unboxed}
 use Rattle.value_machine.specs.Small.{minus_one, text_beside}
+use Rattle.value_refined.specs.Refined.{table_meaning}
+use Rattle.run_places.specs.Assigned.{IsPending, Somewhere}
 use Rattle.run_places.specs.Kept.{BareParameters, IsMarked, LocalsWait, count}
 
 -- a boxed and an unboxed parameter, the answer's local, one operand that is pending, and an iterator
@@ -30,3 +42,37 @@ marked = inr ((λ e. cc), refl)
 
 pub no_text_beside_a_parameter : BareParameters (Unboxed ∷ []) (I64 text_beside ∷ []) → ⊥
 no_text_beside_a_parameter h = h.0 refl
+
+-- The command line assigns "A" to the fourth name: it has done so once this was pending, and to no other name. At the start of a run nothing is pending.
+
+number_in : Option (ℕ × Value) → ℕ
+number_in None = zero
+number_in (Some x) = x.0
+
+abbrev here : Instructions → Conf
+here code = record { frame = record { values = []; labels = []; locals = []; code = code }; result = None; callers = []; memory = record { bytes = []; most = 0 }; table = []; globals = [] }
+
+module _ (job : JobForm) (input : Source) (outside : Outside) (m : ProgramForm) where
+  abbrev start : HostState
+  start = state_at_start job input outside
+
+  abbrev told : HostState
+  told = record start { shared = record start.shared { inner = record start.shared.inner { pending = Some (3, StrNum (65 ∷ [])) } } }
+
+  pub fourth_pending : IsPending 3 told
+  fourth_pending = (StrNum (65 ∷ []), refl)
+
+  pub third_not : IsPending 2 told → ⊥
+  third_not h = let e : 3 ≡ 2 = ap number_in h.1 in absurd (omega (arith, e))
+
+  pub none_at_start : (i : ℕ) → IsPending i start → ⊥
+  none_at_start i h = let e = h.1 in cc
+
+  abbrev way : Steps table_meaning m 1 (here (Then (Plain Nop) Done)) told [] (here Done) told
+  way = (here Done, told, [], [], (refl, refl, refl), (refl, refl, refl), refl)
+
+  pub fourth_assigned : Somewhere (IsPending 3) m 1 (here (Then (Plain Nop) Done)) told [] (here Done) told way
+  fourth_assigned = inl fourth_pending
+
+  pub third_not_assigned : Somewhere (IsPending 2) m 1 (here (Then (Plain Nop) Done)) told [] (here Done) told way → ⊥
+  third_not_assigned h = elim h [ inl q ↦ third_not q | inr q ↦ third_not q ]
