@@ -1,24 +1,18 @@
 -- What the machine over values has put out only grows.
-use Rattle.std.proofs.Common.{◌≡◌, ℕ, zero, suc, Bool, true, false, ◌&&◌, not, cond, nat_eq, nat_lt, ◌-◌, ◌^◌, ◌%◌, List, [], ◌∷◌, ◌++◌, length, slice_get, Option, Some, None, Result, Ok, Err, sym, ap, subst, ◌∙◌, append-nil, append_assoc}
+use Rattle.std.proofs.Common.{◌≡◌, ℕ, zero, suc, Bool, true, false, cond, nat_lt, ◌-◌, ◌^◌, ◌%◌, List, [], ◌++◌, Option, Some, None, Result, Ok, Err, sym, ap, subst, ◌∙◌, append-nil, append_assoc}
 use Rattle.awk_values.specs.declared.fault.Fault.{Fault}
 use Rattle.world_core.specs.WorldState.{Action}
-use Rattle.wasm_types.specs.Syntax.{Instruction, Plain, Block, Loop, If, Instructions, Done, Then}
-use Rattle.wasm_types.specs.declared.instr.Simple.{Simple}
-use Rattle.wasm_types.specs.declared.instr.Simple.TheVariants as simple
-use Rattle.wasm_types.specs.declared.types.ValType.TheVariants as ty
-use Rattle.wasm_store.specs.declared.word.Word.{Word}
 use Rattle.wasm_store.specs.declared.word.Word.TheVariants.{I32, I64}
-use Rattle.wasm_machine.specs.Frames.{constant_of}
 use Rattle.awk_state.specs.Sorts.{InAnswer, Row}
 use Rattle.awk_state.specs.declared.sorts.Answer.{Answer}
 use Rattle.mid_program.specs.Kept.{Grows, output_of}
 use Rattle.mid_program.specs.ScriptRun.{Ending, Ended, FaultedBy}
-use Rattle.mid_program.specs.Mid.{Kind}
-use Rattle.value_machine.specs.Cells.{Cell, Bits, Held, LentArray, OwnedArray, IteratorOf, Gone, none_owned, is_owned, globals_by}
+use Rattle.value_machine.specs.Cells.{Cell, Bits, Held, LentArray, OwnedArray, IteratorOf, Gone, none_owned}
 use Rattle.value_machine.specs.ImportCalls.{Acts, Host, acted, acts, after_fault, call, fault_cell, lets_go, look, looked_at, replied, taken, where_so, with_some}
-use Rattle.value_machine.specs.Imports.{import_answer, import_arguments, import_at, import_count}
-use Rattle.value_machine.specs.Machine.{Code, Callee, Conf, Run, Look, Over, Deep, Stuck, Frame, Label, Store, at, ask, ask_looking, assigning_after, br, br_if, choose, enter, go, guarded, label, leave, leave_function, run_looking, set_global, set_local, step, takes_look, tee_local, teed, with_answer, with_operands, work, act, operated, call_number, ending_at, status_of, ending_name}
+use Rattle.value_machine.specs.Imports.{import_answer, import_arguments}
+use Rattle.value_machine.specs.Machine.{Code, Conf, Run, Look, Over, Deep, Stuck, Store, go, step, ending_at, status_of}
 use Rattle.value_machine.specs.declared.import.Import.{Import}
+use Rattle.module_agreement.proofs.Stores.{InStore, Leads, step_in}
 
 pub grows_self : (xs : List Action) → Grows xs xs
 grows_self xs = ([], sym (append-nil xs))

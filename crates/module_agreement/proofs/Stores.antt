@@ -1,5 +1,5 @@
 -- A step of the machine over values changes its store by a call, a look, or a global that is read or set, or leaves it as it is. So what these keep of a store a step keeps.
-use Rattle.std.proofs.Common.{◌≡◌, ℕ, Bool, true, false, ◌&&◌, not, cond, nat_eq, nat_lt, ◌-◌, ◌++◌, List, [], ◌∷◌, length, set, slice_get, Option, Some, None, refl}
+use Rattle.std.proofs.Common.{◌≡◌, ℕ, Bool, true, false, ◌&&◌, not, cond, nat_eq, nat_lt, ◌-◌, List, [], ◌∷◌, length, set, slice_get, Option, Some, None, refl}
 use Rattle.std.proofs.lemmas.Bool.{and_parts}
 use Rattle.wasm_types.specs.Syntax.{Instruction, Plain, Block, Loop, If, Instructions, Done, Then}
 use Rattle.wasm_types.specs.declared.instr.Simple.{Simple}

@@ -1,10 +1,8 @@
 -- So on a run: a name to which the command line has not assigned has no handle where a statement begins.
-use Rattle.std.proofs.Common.{◌≡◌, inl, inr, ℕ, zero, suc, ◌+◌, Bool, true, false, ◌&&◌, nat_eq, List, [], ◌∷◌, ◌++◌, drop, slice_get, Option, Some, None, refl, sym, ap, ◌∙◌, arith, subst}
+use Rattle.std.proofs.Common.{◌≡◌, inl, inr, ℕ, zero, suc, ◌+◌, Bool, true, false, ◌&&◌, nat_eq, List, [], ◌∷◌, ◌++◌, drop, slice_get, Some, None, refl, sym, ap, ◌∙◌, arith, subst}
 use Rattle.std.proofs.lemmas.Bool.{and_parts, eqb-true}
 use Rattle.awk_state.specs.Jobs.{JobForm}
-use Rattle.awk_values.specs.declared.value.Value.{Value}
 use Rattle.world_core.specs.WorldState.{Action, Outside, Source}
-use Rattle.wasm_types.specs.Syntax.{Instructions}
 use Rattle.wasm_store.specs.declared.word.Word.{Word}
 use Rattle.wasm_store.specs.declared.word.Word.TheVariants.{I32, I64}
 use Rattle.wasm_machine.specs.Frames.{FrameForm}
@@ -15,10 +13,10 @@ use Rattle.host_step.specs.HostState.{HostState, Names}
 use Rattle.host_step.specs.Starts.{state_at_start}
 use Rattle.mid_program.specs.Mid.{Kind, Boxed, Unboxed, Many, Program}
 use Rattle.mid_program.specs.ScriptRun.{Setting}
-use Rattle.mid_program.specs.Sorted.{has_kind, kinds_of, same_kind}
+use Rattle.mid_program.specs.Sorted.{has_kind, kinds_of}
 use Rattle.value_machine.specs.Cells.{Cell, Bits, Held, IteratorOf, OwnedArray, LentArray, Gone, cell_at, globals_by, is_bare, is_bare_handle, is_word, iterators_in, mark_fits, marks_fit, tidy_locals, tidy_name}
 use Rattle.value_machine.specs.Functions.{main_callee}
-use Rattle.value_machine.specs.Machine.{Code, Conf, Deep, Frame, Label, Look, Over, Run, Store, Stuck, go, is_empty, loops_walked, step, zeros}
+use Rattle.value_machine.specs.Machine.{Code, Conf, Deep, Look, Over, Run, Store, Stuck, go, is_empty, loops_walked, step, zeros}
 use Rattle.value_machine.specs.Modules.{called_imports, module_of}
 use Rattle.value_machine.specs.Places.{handle_global}
 use Rattle.value_machine.specs.Runs.{begun, code_of, empty_names, first_globals, host_at_start, zero_ranges}

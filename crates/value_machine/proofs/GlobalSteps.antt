@@ -1,10 +1,10 @@
 -- Single instructions on globals.
-use Rattle.std.proofs.Common.{◌≡◌, ℕ, zero, suc, ◌+◌, ◌-◌, Bool, true, false, List, [], ◌∷◌, Option, Some, None, refl, ap, ap₂, ◌∙◌, arith}
-use Rattle.std.specs.Prelude.{set, nat_eq, not, ◌&&◌, ◌||◌}
+use Rattle.std.proofs.Common.{◌≡◌, ℕ, zero, suc, ◌+◌, ◌-◌, true, false, List, [], ◌∷◌, Option, Some, None, refl, ap, ap₂, ◌∙◌, arith}
+use Rattle.std.specs.Prelude.{set, not, ◌&&◌, ◌||◌}
 use Rattle.std.proofs.lemmas.Bool.{eq-eqb, or_right}
 use Rattle.wasm_types.specs.Syntax.{Instructions}
 use Rattle.wasm_types.specs.declared.instr.Simple.TheVariants.{GlobalGet, GlobalSet}
-use Rattle.mid_program.specs.Mid.{Kind, Boxed, Unboxed}
+use Rattle.mid_program.specs.Mid.{Kind, Unboxed}
 use Rattle.mid_program.specs.Sorted.{same_kind}
 use Rattle.value_machine.specs.Cells.{Cell, Gone, is_owned, is_word, is_gone, is_bare_handle, is_handle_of, may_come, read_global, left_in_global, has_room}
 use Rattle.value_machine.specs.ImportCalls.{Host}
