@@ -1,5 +1,5 @@
 -- Single instructions on globals.
-use Rattle.std.proofs.Common.{◌≡◌, ℕ, zero, suc, ◌+◌, ◌-◌, true, false, List, [], ◌∷◌, Option, Some, None, refl, ap, ap₂, ◌∙◌, arith}
+use Rattle.std.proofs.Common.{◌≡◌, ℕ, zero, suc, ◌+◌, ◌-◌, true, false, List, [], ◌∷◌, length, Option, Some, None, refl, ap, ap₂, ◌∙◌, arith}
 use Rattle.std.specs.Prelude.{set, not, ◌&&◌, ◌||◌}
 use Rattle.std.proofs.lemmas.Bool.{eq-eqb, or_right}
 use Rattle.wasm_types.specs.Syntax.{Instructions}
@@ -12,7 +12,7 @@ use Rattle.value_machine.specs.Machine.{Code, Label, Frame, Store, at, guarded}
 use Rattle.value_machine.specs.Places.{handle_global}
 use Rattle.value_machine.specs.Small.{does}
 use Rattle.value_machine.proofs.Runs.{Goes, goes_to}
-use Rattle.value_machine.proofs.Globals.{Globals, Global, global_of, IsGlobal, has_global, with_global_at, placed, placed_at, placed_set, placed_again, global_there}
+use Rattle.value_machine.proofs.Globals.{Globals, Global, global_of, IsGlobal, has_global, with_global_at, has_global_with, placed, placed_at, placed_set, placed_again, global_there}
 use Rattle.value_machine.proofs.State.{kind_here}
 
 abbrev pub storing : List Cell → Host → Store
@@ -27,8 +27,10 @@ global_roomy ranges names g p h e = ap₂ (λ x y. x && not y) (global_there ran
 
 -- What may come into a global: back to where it was moved from, to the name that is assigned to, and to a name that has no number.
 
-pub comes_back : (before : ℕ) (ks : List Kind) (name : Option ℕ) (x : ℕ) (old new : Cell) → old ≡ Gone → may_come before ks name x old new ≡ true
-comes_back before ks name x old new e = ap (λ c. is_word new || (is_gone c || (not (is_bare_handle ks (x - before)) || is_handle_of name (x - before)))) e ∙ or_right (is_word new) true refl
+pub comes_back : (ranges : ℕ) (ks : List Kind) (name : Option ℕ) (g : Globals) (p : Global) (new : Cell) →
+    may_come (suc (suc ranges)) ks name (global_of ranges (length ks) p) (has_global ranges (length ks) (with_global_at ranges (length ks) g p Gone) p) new ≡ true
+comes_back ranges ks name g p new =
+    ap (λ c. may_come (suc (suc ranges)) ks name (global_of ranges (length ks) p) c new) (has_global_with ranges (length ks) g p Gone) ∙ or_right (is_word new) true refl
 
 pub assigned_comes : (ranges : ℕ) (ks : List Kind) (i : ℕ) (old new : Cell) → may_come (suc (suc ranges)) ks (Some i) (handle_global ranges i) old new ≡ true
 assigned_comes ranges ks i old new =

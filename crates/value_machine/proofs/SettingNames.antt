@@ -100,7 +100,7 @@ module _ (p : Program) (deepest : ℕ) (ks : List Kind) (F : List Frame) (b : Ba
       let put = GlobalSet (global_of p.ranges nn (NameHand i)) in
       let old = global_value i σ in
       let s = stored_ok p deepest ks F b M n o f x t l put (placed p.ranges nn g1) σ (λ v. laid b (handed o t l)) (λ v. storing (placed p.ranges nn (with_global_at p.ranges nn g1 (NameHand i) (Held v))) (host_of σ None)) K k lt e hd
-      (λ v K k. global_set_ok p.ranges nn g1 (NameHand i) (Held v) li (ap is_owned (has_global_with p.ranges nn g (NameHand i) Gone)) (comes_back _ _ None _ _ (Held v) (has_global_with p.ranges nn g (NameHand i) Gone))) in
+      (λ v K k. global_set_ok p.ranges nn g1 (NameHand i) (Held v) li (ap is_owned (has_global_with p.ranges nn g (NameHand i) Gone)) (comes_back p.ranges kinds None g (NameHand i) (Held v))) in
       let q = s.few in
       record {
         steps = 2 + s.steps;
