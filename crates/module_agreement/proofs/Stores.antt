@@ -1,5 +1,5 @@
 -- A step of the machine over values changes its store by a call, a look, or a global that is read or set, or leaves it as it is. So what these keep of a store a step keeps.
-use Rattle.std.proofs.Common.{◌≡◌, ℕ, Bool, true, false, ◌&&◌, not, cond, nat_eq, nat_lt, ◌-◌, List, [], ◌∷◌, length, set, slice_get, Option, Some, None, refl}
+use Rattle.std.proofs.Common.{◌≡◌, ℕ, zero, suc, Bool, true, false, ◌&&◌, not, cond, nat_eq, nat_lt, ◌-◌, List, [], ◌∷◌, length, take, drop, reverse, set, slice_get, Option, Some, None, refl}
 use Rattle.std.proofs.lemmas.Bool.{and_parts}
 use Rattle.wasm_types.specs.Syntax.{Instruction, Plain, Block, Loop, If, Instructions, Done, Then}
 use Rattle.wasm_types.specs.declared.instr.Simple.{Simple}
@@ -12,7 +12,7 @@ use Rattle.mid_program.specs.Mid.{Kind}
 use Rattle.value_machine.specs.Cells.{Cell, Bits, Held, LentArray, OwnedArray, IteratorOf, Gone, cell_at, globals_by, has_room, is_owned, left_in_global, may_come, none_owned}
 use Rattle.value_machine.specs.ImportCalls.{Host, call, look}
 use Rattle.value_machine.specs.Imports.{import_at, import_count}
-use Rattle.value_machine.specs.Machine.{Code, Callee, Conf, Run, Look, Over, Deep, Stuck, Frame, Label, Store, act, ask, ask_looking, assigning_after, at, br, br_if, call_number, choose, enter, guarded, label, leave, leave_function, operated, run_looking, set_global, set_local, step, takes_look, tee_local, teed, with_answer, with_operands, work, ending_name}
+use Rattle.value_machine.specs.Machine.{Code, Callee, Conf, Run, Look, Over, Deep, Stuck, Frame, Label, Store, act, all_live, ask, ask_looking, assigning_after, at, br, br_if, call_number, choose, enter, guarded, label, leave, leave_function, operated, run_looking, set_global, set_local, step, takes_look, tee_local, teed, width, with_answer, with_operands, work, ending_name}
 use Rattle.value_machine.specs.declared.import.Import.{Import}
 
 -- so it is of the store at this place
@@ -99,7 +99,11 @@ module _ (u : Code) (P Q : Store → Type 0) (leads : Leads u P Q) where
 
   ask_in : (i : Option Import) (ks : List Kind) (vs : List Cell) (K : List Label) (L : List Cell) (F : List Frame) (c : Instructions) (G : Store) → P G → InStore Q (ask u.memory i ks vs K L F c G)
   ask_in None ks vs K L F c G p = tt
-  ask_in (Some i) ks vs K L F c G p = guarded_in _ _ (with_answer_in _ ks _ K L F c (record G { assigning = assigning_after i G }) (λ a e. leads.called i _ a G e p))
+  ask_in (Some i) ks vs K L F c G p =
+      let given = reverse (take (width i) vs) in
+      let o = call u.memory i given G.host in
+      let named = record G { assigning = assigning_after i G } in
+      guarded_in (all_live L F G.globals given) (with_answer o ks (drop (width i) vs) K L F c named) (with_answer_in o ks (drop (width i) vs) K L F c named (λ a e. leads.called i given a G e p))
 
   ask_looking_in : (i : Option Import) (v : Cell) (ks : List Kind) (vs : List Cell) (K : List Label) (L : List Cell) (F : List Frame) (c : Instructions) (G : Store) → P G → InStore Q (ask_looking i v ks vs K L F c G)
   ask_looking_in None v ks vs K L F c G p = tt
