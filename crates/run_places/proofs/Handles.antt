@@ -138,7 +138,7 @@ module _ (p : Program) (T : ℕ → Type 0) where
       store_there (Told u T) [] [] [] (zeros f.locals) [] f.body (record { globals = first_globals p; host = host_at_start set; assigning = None })
       (record { assigning = λ i e. cc; handles = λ i b e. absurd (let t : true ≡ false = sym (first_words p (i + i) (suc (suc p.ranges) + (i + i)) refl b) ∙ e in cc) })
 
-  NoHandle : real.Conf → ℕ → Type 0
+  abbrev NoHandle : real.Conf → ℕ → Type 0
   NoHandle c i = slice_get c.globals (handle_global p.ranges i) ≡ Some (I32 minus_one)
 
   without : (G : Store) (c : real.Conf) (s : HostState) → WordsAs (arrays_made G.host) s.names G.globals c.globals → marks_fit u.names (drop u.before G.globals) ≡ true → Told u T G → (i : ℕ) → has_kind u.names i Unboxed ≡ true → (T i → ⊥) → NoHandle c i

@@ -45,7 +45,7 @@ no_text_beside_a_parameter h = h.0 refl
 
 -- The command line assigns "A" to the fourth name: it has done so once this was pending, and to no other name. At the start of a run nothing is pending.
 
-number_in : Option (ℕ × Value) → ℕ
+abbrev number_in : Option (ℕ × Value) → ℕ
 number_in None = zero
 number_in (Some x) = x.0
 
