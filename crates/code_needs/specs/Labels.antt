@@ -34,10 +34,10 @@ abbrev mutual
 -- a loop is a `block` with a `loop` in it, and its body a `block` in that
 abbrev mutual
   pub step_labels : Step → ℕ
-  step_labels (Eval e) = suc (labels_in e)
+  step_labels (Eval e) = labels_in e
   step_labels (Block ss) = steps_labels ss
-  step_labels (If e a b) = max (suc (suc (suc (labels_in e)))) (suc (suc (max (step_labels a) (step_labels b))))
-  step_labels (Loop first e a b) = max (suc (suc (suc (labels_in e)))) (max (suc (suc (suc (step_labels a)))) (suc (suc (step_labels b))))
+  step_labels (If e a b) = max (labels_in e) (suc (max (step_labels a) (step_labels b)))
+  step_labels (Loop first e a b) = max (suc (suc (labels_in e))) (max (suc (suc (suc (step_labels a)))) (suc (suc (step_labels b))))
   step_labels (Each a e s) = max (suc (suc (labels_in e))) (suc (suc (suc (step_labels s))))
   step_labels Break = 0
   step_labels Continue = 0

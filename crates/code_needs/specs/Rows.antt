@@ -18,7 +18,7 @@ one_choice : labels_in (Choose NumberSort (Number (pos 1)) (Number (pos 2)) (Num
 one_choice = refl
 
 -- a loop's body has three labels around it, and a statement after the loop none of them
-body_of_loop : steps_labels (Then (Loop true (Number (pos 1)) (If (Number (pos 1)) Break Break) (Eval (Number (pos 1)))) (Then Break NoStep)) ≡ 6
+body_of_loop : steps_labels (Then (Loop true (Number (pos 1)) (If (Number (pos 1)) Break Break) (Eval (Number (pos 1)))) (Then Break NoStep)) ≡ 4
 body_of_loop = refl
 
 -- `answer`, two locals for each temporary, an iterator and an array

@@ -15,10 +15,10 @@ fn loop_counts(test: Counts, body: Counts, last: Counts) -> Counts
         ≡ max test.temporaries (max body.temporaries last.temporaries) }
     ensures arrays { result.arrays ≡ max test.arrays (max body.arrays last.arrays) }
     ensures iterators { result.iterators ≡ max test.iterators (max body.iterators last.iterators) }
-    ensures labels { result.labels ≡ max (counted (test.labels + 3))
+    ensures labels { result.labels ≡ max (counted (test.labels + 2))
         (max (counted (body.labels + 3)) (counted (last.labels + 2))) }
 {
-    both(inside(test, 3), both(inside(body, 3), inside(last, 2)))
+    both(inside(test, 2), both(inside(body, 3), inside(last, 2)))
 }
 
 /// What a statement needs.
@@ -30,12 +30,12 @@ fn step_counts(step: &Step) -> Counts
     ensures labels { result.labels ≡ counted (step_labels (view_step step.now)) }
 {
     match step {
-        Step::Eval(code) => inside(counts_in(code), 1),
+        Step::Eval(code) => counts_in(code),
         Step::Block(steps) => steps_counts(steps),
         Step::If(test, a, b) => {
             both(
-                inside(counts_in(test), 3),
-                inside(both(step_counts(a), step_counts(b)), 2),
+                counts_in(test),
+                inside(both(step_counts(a), step_counts(b)), 1),
             )
         }
         Step::Loop(_, test, body, last) => {
