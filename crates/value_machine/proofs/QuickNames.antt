@@ -22,7 +22,6 @@ use Rattle.mid_program.specs.Mid.{Global, Code, Do, Number, Get, Set, Seq, Bound
 use Rattle.mid_program.specs.MidMeaning.{or_zero, arithmetic_of}
 use Rattle.mid_program.specs.ScriptState.{State, global_value}
 use Rattle.value_machine.specs.Quick.{Source, Named, Constant, source_in, is_among, and_name, and_source, Sum, sum_names, is_near, is_sum, sum_op, sum_of, stored_name, new_sum, Pair, pair_names, contrary}
-use Rattle.value_machine.proofs.Runs.{within}
 use Rattle.value_machine.proofs.State.{bare}
 use Rattle.value_machine.proofs.Products.{word, sum_word, difference_word, triangle}
 use Rattle.value_machine.proofs.Inlining.{checked_in, added_abs}
