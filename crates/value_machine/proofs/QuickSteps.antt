@@ -1,4 +1,4 @@
--- Steps with a quick way: a constant is added to a name, and a test that is sure.
+-- Steps with a quick way: sums that go to a name, and tests of names and constants.
 use Rattle.std.proofs.Common.{◌≡◌, ℕ, zero, suc, ◌+◌, ◌^◌, ◌<◌, ◌≤◌, Bool, true, false, nat_eq, nat_le, List, [], ◌∷◌, length, Some, None, Option, Ok, Result, ℤ, pos, ◌+ℤ◌, unsigned_abs, w64, refl, sym, ap, ap₂, ◌∙◌, subst, arith, if◌then◌else◌}
 use Rattle.std.specs.Prelude.{◌&&◌, not, cond, bit_or}
 use Rattle.std.proofs.lemmas.Int.{ints}
