@@ -126,15 +126,15 @@ module _ (p : Program) (deepest : ℕ) (ks : List Kind) (F : List Frame) (b : Ba
       let l1 = with_at l (Hand t) empty in
       let k3 = does (I64Const text_beside) (does (GlobalSet (global_of p.ranges nn (NameNumber i))) k) in
       let k2 = does (GlobalSet (global_of p.ranges nn (NameHand i))) k3 in
-      let s = text_dropped_ok p deepest ks F b M n (Some i) i (suc t) (moved_out (h b t) k2) K l σ hk lt e1 (bare_is (global_value i σ)) in
+      let s = text_dropped_ok p deepest ks F b M n (Some i) i (moved_out (h b t) k2) K l σ hk (bare_is (global_value i σ)) in
       let q = s.few in
       record {
         steps = s.steps + 4;
         few = omega (arith, q);
         goes = then_goes s.goes
             (then_goes (moved_out_ok b l (Hand t) (Held v) (omega (arith, lt)) e)
-            (then_goes (goes_to (global_set_ok p.ranges nn (with_global_at p.ranges nn g (NameHand i) s.left) (NameHand i) (Held v) li (ap is_owned (has_global_with p.ranges nn g (NameHand i) s.left) ∙ s.unowned) (assigned_comes p.ranges _ i _ (Held v)))
-            (ap (λ m. at ks [] K (laid b l1) F k3 (storing m (host_of σ None))) (placed_twice p.ranges nn g (NameHand i) s.left (Held v) li)))
+            (then_goes (goes_to (global_set_ok p.ranges nn (with_global_at p.ranges nn g (NameHand i) empty) (NameHand i) (Held v) li (ap is_owned (has_global_with p.ranges nn g (NameHand i) empty)) (assigned_comes p.ranges _ i _ (Held v)))
+            (ap (λ m. at ks [] K (laid b l1) F k3 (storing m (host_of σ None))) (placed_twice p.ranges nn g (NameHand i) empty (Held v) li)))
             (goes_to (global_set_ok p.ranges nn g2 (NameNumber i) (Bits (I64 text_beside)) li refl refl)
             (ap (λ m. at ks [] K (laid b l1) F k (storing m (host_of σ None)))
             (global_written p deepest ks F b M n i v σ (Held v) (Bits (I64 text_beside)) sz li
