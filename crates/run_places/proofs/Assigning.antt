@@ -6,7 +6,7 @@ use Rattle.awk_values.specs.declared.value.Value.{Value}
 use Rattle.awk_state.specs.declared.table.Primitive.TheVariants as row
 use Rattle.mid_program.specs.Mid.{Kind}
 use Rattle.value_machine.specs.Cells.{Cell, Bits, Held, IteratorOf, OwnedArray, LentArray, Gone, cell_at, is_bare_handle, is_gone, is_handle_of, is_word, left_in_global, may_come}
-use Rattle.value_machine.specs.Machine.{Code, Conf, Store, assigning_after, number_pending, step}
+use Rattle.value_machine.specs.Machine.{Code, Conf, Store, assigning_after, assigning_left, number_pending, step}
 use Rattle.value_machine.specs.declared.import.Import.{Import}
 use Rattle.value_machine.specs.declared.import.Import.TheVariants.{Of}
 use Rattle.module_agreement.proofs.Stores.{InStore, Leads, step_in}
@@ -54,6 +54,11 @@ comes_by before ks name i old new b w e =
     by : (is_gone old ≡ true) ⊎ (is_handle_of name (i + i) ≡ true) → (is_word old ≡ false) ⊎ (name ≡ Some i)
     by (inl h) = inl (gone_word old h)
     by (inr h) = inr (handle_of name i h)
+
+still_assigning : (name : Option ℕ) (c : Cell) (i : ℕ) → assigning_left name c ≡ Some i → name ≡ Some i
+still_assigning None c i e = e
+still_assigning (Some j) (Bits w) i e = e
+still_assigning (Some j) c i e = cc
 
 -- names that are assigned are among some
 module _ (u : Code) (T : ℕ → Type 0) where
@@ -120,7 +125,7 @@ module _ (u : Code) (T : ℕ → Type 0) where
     called = λ i cs r G e a. record { assigning = after_told i G a; handles = a.told.handles };
     looked = λ i c r G e a. record { assigning = a.told.assigning; handles = a.told.handles };
     read = λ x G a. record { assigning = a.told.assigning; handles = read_told x G a };
-    written = λ x v G e a. record { assigning = λ i q. cc; handles = written_told x v G e a };
+    written = λ x v G e a. record { assigning = λ i q. a.told.assigning i (still_assigning G.assigning v i q); handles = written_told x v G e a };
   }
 
   -- ONE STEP
