@@ -12,7 +12,7 @@ use Rattle.mid_program.specs.Mid.{Kind}
 use Rattle.value_machine.specs.Cells.{Cell, Bits, Held, LentArray, OwnedArray, IteratorOf, Gone, cell_at, globals_by, has_room, is_owned, left_in_global, may_come, none_owned}
 use Rattle.value_machine.specs.ImportCalls.{Host, call, look}
 use Rattle.value_machine.specs.Imports.{import_at, import_count}
-use Rattle.value_machine.specs.Machine.{Code, Callee, Conf, Run, Look, Over, Deep, Stuck, Frame, Label, Store, act, all_live, ask, ask_looking, assigning_after, assigning_left, at, br, br_if, call_number, choose, enter, guarded, label, leave, leave_function, operated, run_looking, set_global, set_local, step, takes_look, tee_local, teed, width, with_answer, with_operands, work, ending_name}
+use Rattle.value_machine.specs.Machine.{Code, Callee, Conf, Run, Look, Over, Deep, Stuck, Frame, Label, Store, act, all_live, ask, ask_looking, assigning_after, assigning_then, at, br, br_if, call_number, choose, enter, guarded, label, leave, leave_function, operated, run_looking, set_global, set_local, step, takes_look, tee_local, teed, width, with_answer, with_operands, work, ending_name}
 use Rattle.value_machine.specs.declared.import.Import.{Import}
 
 -- so it is of the store at this place
@@ -37,7 +37,7 @@ pub record Leads (u : Code) (P Q : Store → Type 0) : Type 0 where
   pub called : (i : Import) (cs : List Cell) (a : Option Cell × Host) (G : Store) → call u.memory i cs G.host ≡ Some a → P G → Q (record G { host = a.1; assigning = assigning_after i G })
   pub looked : (i : Import) (c : Cell) (a : Option Cell × Host) (G : Store) → look i c G.host ≡ Some a → P G → Q (record G { host = a.1 })
   pub read : (x : ℕ) (G : Store) → P G → Q (record G { globals = set G.globals x (left_in_global (cell_at G.globals x)) })
-  pub written : (x : ℕ) (v : Cell) (G : Store) → may_come u.before u.names G.assigning x (cell_at G.globals x) v ≡ true → P G → Q (record G { globals = set G.globals x v; assigning = assigning_left G.assigning v })
+  pub written : (x : ℕ) (v : Cell) (G : Store) → may_come u.before u.names G.assigning x (cell_at G.globals x) v ≡ true → P G → Q (record G { globals = set G.globals x v; assigning = assigning_then v G.assigning })
 
 module _ (u : Code) (P Q : Store → Type 0) (leads : Leads u P Q) where
   at_in : (ks : List Kind) (vs : List Cell) (K : List Label) (L : List Cell) (F : List Frame) (k : Instructions) (G : Store) → Q G → InStore Q (at ks vs K L F k G)

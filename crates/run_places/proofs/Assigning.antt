@@ -6,7 +6,7 @@ use Rattle.awk_values.specs.declared.value.Value.{Value}
 use Rattle.awk_state.specs.declared.table.Primitive.TheVariants as row
 use Rattle.mid_program.specs.Mid.{Kind}
 use Rattle.value_machine.specs.Cells.{Cell, Bits, Held, IteratorOf, OwnedArray, LentArray, Gone, cell_at, is_bare_handle, is_gone, is_handle_of, is_word, left_in_global, may_come}
-use Rattle.value_machine.specs.Machine.{Code, Conf, Store, assigning_after, assigning_left, number_pending, step}
+use Rattle.value_machine.specs.Machine.{Code, Conf, Store, assigning_after, assigning_then, number_pending, step}
 use Rattle.value_machine.specs.declared.import.Import.{Import}
 use Rattle.value_machine.specs.declared.import.Import.TheVariants.{Of}
 use Rattle.module_agreement.proofs.Stores.{InStore, Leads, step_in}
@@ -55,11 +55,6 @@ comes_by before ks name i old new b w e =
     by (inl h) = inl (gone_word old h)
     by (inr h) = inr (handle_of name i h)
 
-still_assigning : (name : Option ℕ) (c : Cell) (i : ℕ) → assigning_left name c ≡ Some i → name ≡ Some i
-still_assigning None c i e = e
-still_assigning (Some j) (Bits w) i e = e
-still_assigning (Some j) c i e = cc
-
 -- names that are assigned are among some
 module _ (u : Code) (T : ℕ → Type 0) where
   pub record Told (G : Store) : Type 0 where
@@ -99,6 +94,14 @@ module _ (u : Code) (T : ℕ → Type 0) where
       by (inl q) = here q (set_at G.globals x left)
       by (inr ne) = a.told.handles i b (sym (ap is_word (get_or-set_other G.globals x y left Gone ne)) ∙ e)
 
+  assigned_before : (v : Cell) (name : Option ℕ) (i : ℕ) → assigning_then v name ≡ Some i → name ≡ Some i
+  assigned_before (Bits w) name i q = q
+  assigned_before (Held v) name i q = cc
+  assigned_before (IteratorOf t) name i q = cc
+  assigned_before (OwnedArray x) name i q = cc
+  assigned_before (LentArray x) name i q = cc
+  assigned_before Gone name i q = cc
+
   written_told : (x : ℕ) (v : Cell) (G : Store) → may_come u.before u.names G.assigning x (cell_at G.globals x) v ≡ true → Asks G → (i : ℕ) → is_bare_handle u.names (i + i) ≡ true → is_word (cell_at (set G.globals x v) (u.before + (i + i))) ≡ false → T i
   written_told x v G may a i b e = by (cases_eq (u.before + (i + i)) x)
     where
@@ -125,7 +128,7 @@ module _ (u : Code) (T : ℕ → Type 0) where
     called = λ i cs r G e a. record { assigning = after_told i G a; handles = a.told.handles };
     looked = λ i c r G e a. record { assigning = a.told.assigning; handles = a.told.handles };
     read = λ x G a. record { assigning = a.told.assigning; handles = read_told x G a };
-    written = λ x v G e a. record { assigning = λ i q. a.told.assigning i (still_assigning G.assigning v i q); handles = written_told x v G e a };
+    written = λ x v G e a. record { assigning = λ i q. a.told.assigning i (assigned_before v G.assigning i q); handles = written_told x v G e a };
   }
 
   -- ONE STEP

@@ -17,7 +17,7 @@ use Rattle.mid_program.specs.Mid.{Kind}
 use Rattle.value_machine.specs.Cells.{Cell, Bits, Held, LentArray, OwnedArray, IteratorOf, Gone, cell_at, globals_by, is_owned, left_by, left_in_global, none_owned}
 use Rattle.value_machine.specs.ImportCalls.{Host, call, look}
 use Rattle.value_machine.specs.Imports.{import_at, import_count}
-use Rattle.value_machine.specs.Machine.{Code, Callee, Conf, Run, Look, Over, Deep, Stuck, Frame, Label, Store, act, ask, ask_looking, assigning_after, assigning_left, at, br, br_if, call_number, choose, compared, enter, go, guarded, label, leave, leave_function, onto, operated, push_result, push_word, run_looking, set_global, set_local, step, takes_look, tee_local, teed, waits, width, with_answer, with_operands, work, zeros, ending_name}
+use Rattle.value_machine.specs.Machine.{Code, Callee, Conf, Run, Look, Over, Deep, Stuck, Frame, Label, Store, act, ask, ask_looking, assigning_after, assigning_then, at, br, br_if, call_number, choose, compared, enter, go, guarded, label, leave, leave_function, onto, operated, push_result, push_word, run_looking, set_global, set_local, step, takes_look, tee_local, teed, waits, width, with_answer, with_operands, work, zeros, ending_name}
 use Rattle.value_machine.specs.declared.import.Import.{Import}
 use Rattle.run_places.specs.Places.{IsWithin, size}
 
@@ -173,7 +173,7 @@ module _ (u : Code) (instructions places globals : ℕ) (Own : List Kind → Typ
 
   set_global_fits : (x : ℕ) (ks : List Kind) (vs : List Cell) (K : List Label) (L : List Cell) (F : List Frame) (c : Instructions) (G : Store) → CodeFits (length vs) c K → RestFits ks K L F G → Fits (set_global u x ks vs K L F c G)
   set_global_fits x ks [] K L F c G h r = tt
-  set_global_fits x ks (v ∷ vs) K L F c G h r = guarded_fits _ _ (at_fits ks vs K L F c _ (omega (arith, h)) (with_global G x v (assigning_left G.assigning v) r))
+  set_global_fits x ks (v ∷ vs) K L F c G h r = guarded_fits _ _ (at_fits ks vs K L F c _ (omega (arith, h)) (with_global G x v (assigning_then v G.assigning) r))
 
   -- an import gives one operand at most
   onto_fits : (o : Option Cell) (vs : List Cell) (c : Instructions) (K : List Label) → CodeFits (suc (length vs)) c K → CodeFits (length (onto o vs)) c K

@@ -8,7 +8,7 @@ use Rattle.mid_program.specs.Mid.{Kind, Unboxed}
 use Rattle.mid_program.specs.Sorted.{same_kind}
 use Rattle.value_machine.specs.Cells.{Cell, Gone, is_owned, is_word, is_gone, is_bare_handle, is_handle_of, may_come, read_global, left_in_global, has_room}
 use Rattle.value_machine.specs.ImportCalls.{Host}
-use Rattle.value_machine.specs.Machine.{Code, Label, Frame, Store, assigning_left, at, guarded}
+use Rattle.value_machine.specs.Machine.{Code, Label, Frame, Store, assigning_then, at, guarded}
 use Rattle.value_machine.specs.Places.{handle_global}
 use Rattle.value_machine.specs.Small.{does}
 use Rattle.value_machine.proofs.Runs.{Goes, goes_to}
@@ -76,12 +76,12 @@ module _ {u : Code} {ks : List Kind} {F : List Frame} (ranges names : ℕ) where
 
   pub global_set_ok : {vs : List Cell} {K : List Label} {L : List Cell} {c : Instructions} {o : Host} {name : Option ℕ} → (g : Globals) (p : Global) (v : Cell) → IsGlobal ranges names p → is_owned (has_global ranges names g p) ≡ false →
       may_come u.before u.names name (global_of ranges names p) (has_global ranges names g p) v ≡ true →
-      Goes u 1 (at ks (v ∷ vs) K L F (does (GlobalSet (global_of ranges names p)) c) (while_assigning name (storing (placed ranges names g) o))) (at ks vs K L F c (while_assigning (assigning_left name v) (storing (placed ranges names (with_global_at ranges names g p v)) o)))
+      Goes u 1 (at ks (v ∷ vs) K L F (does (GlobalSet (global_of ranges names p)) c) (while_assigning name (storing (placed ranges names g) o))) (at ks vs K L F c (while_assigning (assigning_then v name) (storing (placed ranges names (with_global_at ranges names g p v)) o)))
   global_set_ok {vs = vs} {K = K} {L = L} {c = c} {o = o} {name = name} g p v h e may =
       let x = global_of ranges names p in
       record {
         it =
-            ap (λ t. guarded t (at ks vs K L F c (while_assigning (assigning_left name v) (storing (set (placed ranges names g) x v) o))))
+            ap (λ t. guarded t (at ks vs K L F c (while_assigning (assigning_then v name) (storing (set (placed ranges names g) x v) o))))
             (ap₂ (λ a d. a && may_come u.before u.names name x d v) (global_roomy ranges names g p h e) (placed_at ranges names g p h) ∙ may)
-            ∙ ap (λ m. at ks vs K L F c (while_assigning (assigning_left name v) (storing m o))) (placed_set ranges names g p v h);
+            ∙ ap (λ m. at ks vs K L F c (while_assigning (assigning_then v name) (storing m o))) (placed_set ranges names g p v h);
       }

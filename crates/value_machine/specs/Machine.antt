@@ -173,16 +173,15 @@ abbrev pub tee_local : ℕ → List Kind → List Cell → List Label → List C
 tee_local x ks [] K L F c G = Stuck
 tee_local x ks (v ∷ vs) K L F c G = guarded (has_room L x) (teed v x ks vs K (set L x v) F c G)
 
--- an assignment is made once its value, which is no word, stands in a global
-abbrev pub assigning_left : Option ℕ → Cell → Option ℕ
-assigning_left None c = None
-assigning_left (Some i) (Bits w) = Some i
-assigning_left (Some i) c = None
+-- an assignment is made once its value stands in a global; words come into globals before
+abbrev pub assigning_then : Cell → Option ℕ → Option ℕ
+assigning_then (Bits w) name = name
+assigning_then _ name = None
 
 abbrev pub set_global : Code → ℕ → List Kind → List Cell → List Label → List Cell → List Frame → Instructions → Store → Conf
 set_global u x ks [] K L F c G = Stuck
 set_global u x ks (v ∷ vs) K L F c G =
-    guarded (has_room G.globals x && may_come u.before u.names G.assigning x (cell_at G.globals x) v) (at ks vs K L F c (record G { globals = set G.globals x v; assigning = assigning_left G.assigning v }))
+    guarded (has_room G.globals x && may_come u.before u.names G.assigning x (cell_at G.globals x) v) (at ks vs K L F c (record G { globals = set G.globals x v; assigning = assigning_then v G.assigning }))
 
 -- Calls.
 

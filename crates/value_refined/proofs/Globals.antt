@@ -12,7 +12,7 @@ use Rattle.wasm_machine.specs.Machines as real
 use Rattle.mid_program.specs.Mid.{Kind}
 use Rattle.host_step.specs.HostState.{HostState}
 use Rattle.value_machine.specs.Cells.{Cell, cell_at, has_room, left_in_global, may_come, read_global}
-use Rattle.value_machine.specs.Machine.{Code, Conf, Frame, Label, Store, act, assigning_left, at, guarded, set_global}
+use Rattle.value_machine.specs.Machine.{Code, Conf, Frame, Label, Store, act, assigning_then, at, guarded, set_global}
 use Rattle.value_refined.specs.Owners.{OwnedOnce}
 use Rattle.value_refined.specs.Refined.{CodeAs, NextAs, RestAs}
 use Rattle.value_refined.specs.Words.{WordsAs, arrays_made}
@@ -60,7 +60,7 @@ module _ {used : ℕ → Bool} {bs : List Bool} {u : Code} {K : List Label} {L :
       may = may_come u.before u.names G.assigning x (cell_at G.globals x) v
 
       after : Conf
-      after = at ks vs K L F k (record G { globals = set G.globals x v; assigning = assigning_left G.assigning v })
+      after = at ks vs K L F k (record G { globals = set G.globals x v; assigning = assigning_then v G.assigning })
 
       goes : Turn
       goes = Goes (record (with_operands c ws) { globals = set c.globals x w })
@@ -72,7 +72,7 @@ module _ {used : ℕ → Bool} {bs : List Bool} {u : Code} {K : List Label} {L :
       set-is e =
           let h = room_is G.globals x e in
           let g = words_length made s.names G.globals c.globals rest.globals in
-          stored_as vs ws (set G.globals x v) (set c.globals x w) (assigning_left G.assigning v) a.1 (words_put made s.names G.globals c.globals x v w rest.globals a.0)
+          stored_as vs ws (set G.globals x v) (set c.globals x w) (assigning_then v G.assigning) a.1 (words_put made s.names G.globals c.globals x v w rest.globals a.0)
           (λ t q. (let o = once t q in
           let p = owners_put made s.names t q G.globals c.globals x v old w rest.globals (slice_get-get_or c.globals x (I32 0) (let l = h.0 in omega arith)) in
           let n = unowned_one t q (cell_at G.globals x) old h.1 in
