@@ -1,0 +1,5 @@
+mod Ends
+mod Levels
+mod Arguments
+mod Derived
+mod Deriving
