@@ -1,10 +1,10 @@
 -- The arguments of the functions of the language: the table of counts says the same.
-use Rattle.std.proofs.Common.{◌≡◌, ℕ, ◌+◌, ◌≤◌, Bool, true, false, List, refl, ap, arith}
+use Rattle.std.proofs.Common.{◌≡◌, ℕ, ◌+◌, ◌≤◌, Bool, true, false, refl, arith}
 use Rattle.std.specs.Prelude.{nat_le, ◌&&◌}
 use Rattle.std.proofs.lemmas.Bool.{leb-true, le-leb}
 use Rattle.awk_tokens.specs.declared.words.Builtin.{Builtin}
 use Rattle.awk_tokens.specs.declared.words.Builtin.TheVariants as function
-use Rattle.awk_grammar.specs.Tree.{Tree, Leaf, Length, Var, Index, Field, Group, Call, Apply, Unary, Pre, Post, Bin, Has, HasList, Cond, Get, GetInto, GetFrom, GetIntoFrom, Op, Join, Add, Other, Trees, NoTree, Then, count, within, is_var, second_is_var, third_is_lvalue, suits, level}
+use Rattle.awk_grammar.specs.Tree.{Tree, Var, Index, Field, Bin, Trees, NoTree, Then, count, within, is_var, second_is_var, third_is_lvalue, suits, level}
 use Rattle.awk_productions.specs.Ends.{IsVariable}
 use Rattle.awk_productions.specs.Expressions.{Takes, length_0, length_1, substr_2, substr_3, index, match, split_2, split_3, sub_2, sub_3, gsub_2, gsub_3, sprintf, tolower, toupper, int, close}
 use Rattle.awk_productions.proofs.Levels.{op_low}

@@ -1,9 +1,8 @@
 -- What the end of a tree takes, and what it ends in.
 use Rattle.std.proofs.Common.{◌≡◌, Bool, true, false, ◌||◌, List, [], ◌∷◌, ◌++◌, refl, sym, ap, subst, append_assoc}
 use Rattle.std.proofs.lemmas.List.{append-nil}
-use Rattle.std.specs.Prelude.{◌&&◌}
-use Rattle.awk_grammar.specs.Token.{Not, Signed, Less, LessEqual, Equal, NotEqual, Greater, GreaterEqual, Comparison, Compare, Token, Lit, Name, FuncName, Word, GetlineWord, InWord, Dollar, Open, Close, OpenBracket, SignMark, NotMark, StepMark, Infix}
-use Rattle.awk_grammar.specs.Tree.{Tree, Leaf, Length, Var, Index, Field, Group, Call, Apply, Unary, Pre, Post, Bin, Has, HasList, Cond, Get, GetInto, GetFrom, GetIntoFrom, print, op_tokens, Class, Opens, StartsLValue, IsLess, Steps, Free, class_at, takes, StartsOperand, allowed}
+use Rattle.awk_grammar.specs.Token.{Not, Signed, Less, LessEqual, Equal, NotEqual, Greater, GreaterEqual, Comparison, Compare, Token, Lit, Name, FuncName, Word, GetlineWord, Dollar, Open, SignMark, NotMark, StepMark, Infix}
+use Rattle.awk_grammar.specs.Tree.{Tree, Leaf, Length, Var, Index, Field, Group, Call, Apply, Unary, Pre, Post, Bin, Has, HasList, Cond, Get, GetInto, GetFrom, GetIntoFrom, print, op_tokens, Opens, StartsLValue, IsLess, Steps, Free, class_at, takes, StartsOperand, allowed}
 use Rattle.awk_productions.specs.Ends.{EndsIn, whole, in_field, in_unary, in_step, in_right, in_choice, in_variable, in_source, in_source_behind, IsBareLength, IsBareGetline, IsSourceless, IsVariable, BeginsWithSign, BeginsWithStep, BeginsWithOpen, BeginsVariable, MayJoin, MayCompare}
 
 or_no : (b : Bool) → b ≡ false → (b || false) ≡ false

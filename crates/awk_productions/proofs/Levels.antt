@@ -1,6 +1,6 @@
 -- The levels of well-formed trees, and of their right edges.
-use Rattle.std.proofs.Common.{◌≡◌, ℕ, zero, suc, ◌+◌, ◌≤◌, ◌⊎◌, inl, inr, Bool, true, false, refl, arith}
-use Rattle.std.specs.Prelude.{nat_le, min}
+use Rattle.std.proofs.Common.{◌≡◌, ◌≤◌, Bool, true, refl, arith}
+use Rattle.std.specs.Prelude.{min}
 use Rattle.std.proofs.lemmas.Bool.{leb-true, le-leb}
 use Rattle.awk_grammar.specs.Token.{Assign, Or, And, Match, Compare, Mul, Pow}
 use Rattle.awk_grammar.specs.Tree.{Op, Join, Add, Other, Tree, Leaf, Length, Var, Index, Field, Group, Call, Apply, Unary, Pre, Post, Bin, Has, HasList, Cond, Get, GetInto, GetFrom, GetIntoFrom, op_level, op_edge, op_right, level, edge, is_field, fits, IsWellFormed}
@@ -47,6 +47,12 @@ edge_below Get = omega arith
 edge_below (GetInto v) = omega arith
 edge_below (GetFrom s) = omega arith
 edge_below (GetIntoFrom v s) = omega arith
+
+-- the right edge of a tree without operators and signs is the tree's own level
+pub own_edge : (t : Tree) → 11 ≤ level t → level t ≤ edge t
+own_edge (Unary p t) h = absurd (omega arith)
+own_edge (Bin op a b) h = absurd (omega (arith, op_low op))
+own_edge t h = omega arith
 
 -- The right edge of a tree is as tight as the tree, below signs, or an assignment or a choice ends it.
 pub data Edged (t : Tree) : Type 0 where

@@ -1,5 +1,5 @@
 -- How an expression ends and begins: the conditions that stand beside the productions.
-use Rattle.std.specs.Prelude.{◌≡◌, ℕ, true, Bool, List, ◌∷◌}
+use Rattle.std.specs.Prelude.{◌≡◌, true, Bool, List, ◌∷◌}
 use Rattle.awk_grammar.specs.Token.{Prefix, Step, Less, Greater, Comparison, Token, Name, Dollar, Open, SignMark, StepMark}
 use Rattle.awk_grammar.specs.Tree.{Tree, Length, Var, Index, Field, Unary, Pre, Bin, Cond, Get, GetInto, GetFrom, GetIntoFrom, Op}
 
