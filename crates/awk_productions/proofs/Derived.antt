@@ -48,7 +48,7 @@ record AreGiven (xs : Trees) (ts : List Token) : Type 0 where
   parts : print_list xs ≡ ts
   fine : AreWellFormed true xs
 
-high : (k : ℕ) (t : Tree) → k ≤ edge t → nat_le k (level t) ≡ true
+pub high : (k : ℕ) (t : Tree) → k ≤ edge t → nat_le k (level t) ≡ true
 high k t h = le-leb k (level t) (omega (arith, edge_below t))
 
 abbrev Joins : Bool → Op → Tree → Tree → Type 0

@@ -240,3 +240,9 @@ mutual
 
 pub deriving_of : (g : Bool) (t : Tree) → IsWellFormed g t → Derives g Expr t (print t)
 deriving_of g t h = (found g t h).expr
+
+-- behind `>` and `>>`
+pub concat_of : (t : Tree) → IsWellFormed true t → nat_le 6 (level t) ≡ true → Derives true ConcatExpr t (print t)
+concat_of t h f =
+    let x = found true t h in
+    to_concat x.kind (omega (arith, x.high, edge_from 6 t (omega arith) (omega arith) f (edged true t h))) x.own

@@ -185,7 +185,7 @@ ends_step (in_variable e) = ap (◌|| false) (ends_step e)
 ends_step (in_source e) = ends_step e
 ends_step (in_source_behind e) = ends_step e
 
-not_both : {b : Bool} → b ≡ true → b ≡ false → ⊥
+pub not_both : {b : Bool} → b ≡ true → b ≡ false → ⊥
 not_both e f = absurd (cc)
 
 -- ---- operands side by side

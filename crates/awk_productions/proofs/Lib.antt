@@ -3,3 +3,5 @@ mod Levels
 mod Arguments
 mod Derived
 mod Deriving
+mod Statements
+mod Scripts
