@@ -60,35 +60,29 @@ mutual
     -- Expr := OrExpr '||' TailExpr
     or_tail : {g : Bool} {a b : Tree} {ts us : List Token} →
         Derives g OrExpr a ts → Derives g TailExpr b us → Derives g Expr (Bin (Other Or) a b) (ts ++ (Infix Or ∷ us))
-
     -- TailExpr := AssignExpr
     tail_assign : {g : Bool} {t : Tree} {ts : List Token} → Derives g AssignExpr t ts → Derives g TailExpr t ts
     -- TailExpr := AndExpr '&&' AssignExpr
     and_assign : {g : Bool} {a b : Tree} {ts us : List Token} →
         Derives g AndExpr a ts → Derives g AssignExpr b us → Derives g TailExpr (Bin (Other And) a b) (ts ++ (Infix And ∷ us))
-
     -- AssignExpr := LValue ('=' | '+=' | '-=' | '*=' | '/=' | '%=' | '^=') Expr
     assign : {g : Bool} {how : Assigning} {a b : Tree} {ts us : List Token} →
         Derives g LValue a ts → Derives g Expr b us → Derives g AssignExpr (Bin (Other (Assign how)) a b) (ts ++ (Infix (Assign how) ∷ us))
-
     -- CondExpr := OrExpr
     cond_or : {g : Bool} {t : Tree} {ts : List Token} → Derives g OrExpr t ts → Derives g CondExpr t ts
     -- CondExpr := OrExpr '?' Expr ':' Expr
     choice : {g : Bool} {a b c : Tree} {ts us vs : List Token} →
         Derives g OrExpr a ts → Derives g Expr b us → Derives g Expr c vs → Derives g CondExpr (Cond a b c) (ts ++ (Question ∷ (us ++ (Colon ∷ vs))))
-
     -- OrExpr := AndExpr
     or_and : {g : Bool} {t : Tree} {ts : List Token} → Derives g AndExpr t ts → Derives g OrExpr t ts
     -- OrExpr := OrExpr '||' AndExpr
     or : {g : Bool} {a b : Tree} {ts us : List Token} →
         Derives g OrExpr a ts → Derives g AndExpr b us → Derives g OrExpr (Bin (Other Or) a b) (ts ++ (Infix Or ∷ us))
-
     -- AndExpr := InExpr
     and_in : {g : Bool} {t : Tree} {ts : List Token} → Derives g InExpr t ts → Derives g AndExpr t ts
     -- AndExpr := AndExpr '&&' InExpr
     and : {g : Bool} {a b : Tree} {ts us : List Token} →
         Derives g AndExpr a ts → Derives g InExpr b us → Derives g AndExpr (Bin (Other And) a b) (ts ++ (Infix And ∷ us))
-
     -- InExpr := MatchExpr
     in_match : {g : Bool} {t : Tree} {ts : List Token} → Derives g MatchExpr t ts → Derives g InExpr t ts
     -- InExpr := InExpr 'in' name
@@ -96,60 +90,50 @@ mutual
     -- InExpr := '(' Expr ',' List ')' 'in' name
     has_list : {g : Bool} {a : Tree} {bs : Trees} {n : List ℕ} {ts us : List Token} →
         Derives true Expr a ts → ListOf true bs us → Derives g InExpr (HasList a bs n) (Open ∷ (ts ++ (Comma ∷ (us ++ (Close ∷ (InWord ∷ (Name n ∷ [])))))))
-
     -- MatchExpr := CompareExpr
     match_compare : {g : Bool} {t : Tree} {ts : List Token} → Derives g CompareExpr t ts → Derives g MatchExpr t ts
     -- MatchExpr := CompareExpr ('~' | '!~') CompareExpr
     matching : {g : Bool} {how : Matching} {a b : Tree} {ts us : List Token} →
         Derives g CompareExpr a ts → Derives g CompareExpr b us → Derives g MatchExpr (Bin (Other (Match how)) a b) (ts ++ (Infix (Match how) ∷ us))
-
     -- CompareExpr := ConcatExpr
     compare_concat : {g : Bool} {t : Tree} {ts : List Token} → Derives g ConcatExpr t ts → Derives g CompareExpr t ts
     -- CompareExpr := ConcatExpr ('<' | '<=' | '==' | '!=' | '>' | '>=') ConcatExpr
     compare : {g : Bool} {how : Comparison} {a b : Tree} {ts us : List Token} →
         Derives g ConcatExpr a ts → Derives g ConcatExpr b us → MayCompare g how a → Derives g CompareExpr (Bin (Other (Compare how)) a b) (ts ++ (Infix (Compare how) ∷ us))
-
     -- ConcatExpr := AddExpr
     concat_add : {g : Bool} {t : Tree} {ts : List Token} → Derives g AddExpr t ts → Derives g ConcatExpr t ts
     -- ConcatExpr := ConcatExpr AddExpr
     concat : {g : Bool} {a b : Tree} {ts us : List Token} →
         Derives g ConcatExpr a ts → Derives g AddExpr b us → MayJoin a us → Derives g ConcatExpr (Bin Join a b) (ts ++ us)
-
     -- AddExpr := MulExpr
     add_mul : {g : Bool} {t : Tree} {ts : List Token} → Derives g MulExpr t ts → Derives g AddExpr t ts
     -- AddExpr := AddExpr ('+' | '-') MulExpr
     add : {g : Bool} {sign : Sign} {a b : Tree} {ts us : List Token} →
         Derives g AddExpr a ts → Derives g MulExpr b us → Derives g AddExpr (Bin (Add sign) a b) (ts ++ (SignMark sign ∷ us))
-
     -- MulExpr := UnaryExpr
     mul_unary : {g : Bool} {t : Tree} {ts : List Token} → Derives g UnaryExpr t ts → Derives g MulExpr t ts
     -- MulExpr := MulExpr ('*' | '/' | '%') UnaryExpr
     mul : {g : Bool} {how : Product} {a b : Tree} {ts us : List Token} →
         Derives g MulExpr a ts → Derives g UnaryExpr b us → Derives g MulExpr (Bin (Other (Mul how)) a b) (ts ++ (Infix (Mul how) ∷ us))
-
     -- UnaryExpr := ('!' | '+' | '-') UnaryExpr
     unary : {g : Bool} {p : Prefix} {t : Tree} {ts : List Token} → Derives g UnaryExpr t ts → Derives g UnaryExpr (Unary p t) (prefix_token p ∷ ts)
     -- UnaryExpr := PowerExpr
     unary_power : {g : Bool} {t : Tree} {ts : List Token} → Derives g PowerExpr t ts → Derives g UnaryExpr t ts
-
     -- PowerExpr := PostfixExpr
     power_postfix : {g : Bool} {t : Tree} {ts : List Token} → Derives g PostfixExpr t ts → Derives g PowerExpr t ts
     -- PowerExpr := PostfixExpr '^' Exponent
     power : {g : Bool} {a b : Tree} {ts us : List Token} →
         Derives g PostfixExpr a ts → Derives g Exponent b us → Derives g PowerExpr (Bin (Other Pow) a b) (ts ++ (Infix Pow ∷ us))
-
     -- Exponent := ('!' | '+' | '-') Exponent
     signed_exponent : {g : Bool} {p : Prefix} {t : Tree} {ts : List Token} → Derives g Exponent t ts → Derives g Exponent (Unary p t) (prefix_token p ∷ ts)
     -- Exponent := PowerExpr
     exponent : {g : Bool} {t : Tree} {ts : List Token} → Derives g PowerExpr t ts → Derives g Exponent t ts
-
     -- PostfixExpr := LValue ('++' | '--')
     step_after : {g : Bool} {s : Step} {t : Tree} {ts : List Token} → Derives g LValue t ts → Derives g PostfixExpr (Post s t) (ts ++ (StepMark s ∷ []))
     -- PostfixExpr := ('++' | '--') LValue
     step_before : {g : Bool} {s : Step} {t : Tree} {ts : List Token} → Derives g LValue t ts → Derives g PostfixExpr (Pre s t) (StepMark s ∷ ts)
     -- PostfixExpr := PrimaryExpr
     postfix_primary : {g : Bool} {t : Tree} {ts : List Token} → Derives g PrimaryExpr t ts → Derives g PostfixExpr t ts
-
     -- PrimaryExpr := SimpleExpr
     primary_simple : {g : Bool} {t : Tree} {ts : List Token} → Derives g SimpleExpr t ts → Derives g PrimaryExpr t ts
     -- PrimaryExpr := 'getline'
@@ -162,7 +146,6 @@ mutual
     -- PrimaryExpr := 'getline' LValue '<' SimpleExpr
     getline_variable_source : {g : Bool} {v s : Tree} {ts us : List Token} →
         Derives g LValue v ts → Derives g SimpleExpr s us → Derives g PrimaryExpr (GetIntoFrom v s) (GetlineWord ∷ (ts ++ (Infix (Compare Less) ∷ us)))
-
     -- SimpleExpr := number | string | ere
     literal : {g : Bool} {c : Literal} → Derives g SimpleExpr (Leaf c) (Lit c ∷ [])
     -- SimpleExpr := LValue
@@ -177,7 +160,6 @@ mutual
         ArgumentsOf xs ts → Takes f xs → Derives g SimpleExpr (Apply f xs) (Word f ∷ (Open ∷ (ts ++ (Close ∷ []))))
     -- SimpleExpr := 'length'
     bare_length : {g : Bool} → Derives g SimpleExpr Length (Word function.Length ∷ [])
-
     -- LValue := name
     name : {g : Bool} {n : List ℕ} → Derives g LValue (Var n) (Name n ∷ [])
     -- LValue := name '[' List ']'
@@ -185,7 +167,6 @@ mutual
         ListOf true xs ts → Derives g LValue (Index n xs) (Name n ∷ (OpenBracket ∷ (ts ++ (CloseBracket ∷ []))))
     -- LValue := '$' FieldOperand
     field : {g : Bool} {t : Tree} {ts : List Token} → Derives g FieldOperand t ts → Derives g LValue (Field t) (Dollar ∷ ts)
-
     -- FieldOperand := SimpleExpr
     field_simple : {g : Bool} {t : Tree} {ts : List Token} → Derives g SimpleExpr t ts → Derives g FieldOperand t ts
     -- FieldOperand := ('++' | '--') LValue

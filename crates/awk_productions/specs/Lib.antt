@@ -2,3 +2,4 @@ pub mod Ends
 pub mod Expressions
 pub mod Statements
 pub mod Scripts
+pub mod Rows

@@ -1,5 +1,4 @@
 use Rattle.std.proofs.Common.{subst}
-use Rattle.awk_grammar.specs.Lexeme.{spoken}
 use Rattle.awk_productions.specs.Scripts.{ScriptOf}
 use Rattle.awk_productions.proofs.Scripts.{script_fine, script_of}
 use Rattle.awk_productions.proofs.laws.scripts_are_derived.Goals as goal
