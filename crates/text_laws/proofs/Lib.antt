@@ -1,2 +1,5 @@
 mod Places
 mod Replaced
+mod Words
+mod Longest
+mod Parted
