@@ -3,3 +3,4 @@ mod Replaced
 mod Words
 mod Longest
 mod Parted
+mod Fields
