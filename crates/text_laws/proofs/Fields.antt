@@ -5,7 +5,7 @@ use Rattle.awk_values.specs.declared.fault.Fault.{Fault}
 use Rattle.awk_state.specs.SharedState.{◌>>=◌}
 use Rattle.awk_state.specs.Texts.{is_empty}
 use Rattle.awk_state.specs.Fields.{Separator, Blanks, Nothing, Byte, Expression, separator_of, pieces, pieces_of, fields_of}
-use Rattle.text_laws.specs.Fields.{AreBytes, no_byte, one_byte, Separates, AreParted, AreFields}
+use Rattle.text_laws.specs.Fields.{AreBytes, no_byte, one_byte, AreFields}
 use Rattle.text_laws.proofs.Words.{words_are, words_value}
 use Rattle.text_laws.proofs.Parted.{by_expression, by_byte, same_parts}
 
@@ -43,6 +43,7 @@ pub record_fields : (fs rs text : List ℕ) (separator : Separator) (fields : Li
 unfolding parts_of
 record_fields fs rs text separator parts e =
     let newlines : Bool = is_empty rs && not (is_empty fs) in
-    let value : fields_of fs rs text ≡ Ok (pieces_of separator newlines text) = ap (λ r. r >>= λ s. Ok (pieces_of s newlines text)) e in
-    (λ d. value ∙ ap (λ x. Ok x) (sym (fields_value separator newlines text parts d)),
-    λ h. subst (AreFields separator newlines text) (ap parts_of (sym value ∙ h)) (fields_are separator newlines text))
+    let value : fields_of fs rs text ≡ Ok (pieces_of separator newlines text) = ap (λ r. r >>= λ s. Ok (pieces_of s newlines text)) e in (
+      λ d. value ∙ ap (λ x. Ok x) (sym (fields_value separator newlines text parts d)),
+      λ h. subst (AreFields separator newlines text) (ap parts_of (sym value ∙ h)) (fields_are separator newlines text),
+    )

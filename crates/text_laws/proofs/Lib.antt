@@ -1,3 +1,4 @@
+mod Leftmost
 mod Places
 mod Replaced
 mod Words

@@ -1,17 +1,16 @@
 -- Where a separator that begins at a place ends.
-use Rattle.std.proofs.Common.{◌≡◌, ◌⊎◌, inl, inr, ℕ, zero, suc, ◌+◌, ◌-◌, ◌<◌, ◌≤◌, Bool, true, false, List, length, get_or, Option, Some, None, refl, sym, ap, subst, ◌∙◌, arith, eqb-true, eq-eqb}
+use Rattle.std.proofs.Common.{◌≡◌, inl, inr, ℕ, zero, suc, ◌+◌, ◌-◌, ◌<◌, ◌≤◌, Bool, true, false, List, length, get_or, Option, Some, None, refl, ap, subst, ◌∙◌, arith, eqb-true, eq-eqb}
 use Rattle.std.specs.Prelude.{◌==◌, ◌&&◌, nat_lt, if◌then◌else◌, slice_get}
-use Rattle.std.proofs.lemmas.Bool.{cases_lt, cases_Bool}
 use Rattle.std.proofs.lemmas.Bool.Decides.{nat_tests}
 use Rattle.std.proofs.lemmas.Option.{slice_get_within, slice_get-get_or, get_or_from_slice_get}
 use Rattle.ere_syntax.specs.Tree.{Tree}
 use Rattle.ere_syntax.specs.Matches.{Matches}
 use Rattle.ere_syntax.proofs.Meaning.{matches_inside}
-use Rattle.ere_match.specs.FirstMatch.{IsFirst, IsFirstMatch}
+use Rattle.ere_match.specs.FirstMatch.{IsFirstMatch}
 use Rattle.awk_state.specs.FirstMatch.{longest, or_next, first_by, first_match}
 use Rattle.awk_state.specs.Fields.{Expression, newline_end, end_or_newline}
 use Rattle.awk_state.proofs.Firsts.{first_match_is}
-use Rattle.text_laws.specs.Fields.{IsNewline, Separates}
+use Rattle.text_laws.specs.Fields.{Separates}
 
 -- ---- the longest match from a place
 

@@ -1,5 +1,5 @@
 -- The places that are computed are those of the relation, and no others are.
-use Rattle.std.proofs.Common.{◌≡◌, ◌⊎◌, inl, inr, ℕ, zero, suc, ◌+◌, ◌-◌, ◌<◌, ◌≤◌, Bool, true, false, List, [], ◌∷◌, length, take, Option, Some, None, refl, sym, ap, subst, ◌∙◌, arith, eqb-true, eq-eqb}
+use Rattle.std.proofs.Common.{◌≡◌, inl, inr, ℕ, zero, suc, ◌+◌, ◌<◌, ◌≤◌, Bool, true, false, List, [], ◌∷◌, length, take, Option, Some, None, refl, sym, ap, subst, ◌∙◌, arith, eqb-true, eq-eqb}
 use Rattle.std.specs.Prelude.{◌==◌, ◌&&◌, if◌then◌else◌}
 use Rattle.std.proofs.lemmas.Bool.{cases_lt, cases_Bool, false≢true}
 use Rattle.ere_syntax.specs.Tree.{Tree}
@@ -7,12 +7,11 @@ use Rattle.ere_syntax.specs.Matches.{Matches}
 use Rattle.ere_syntax.proofs.Meaning.{matches_inside}
 use Rattle.ere_match.specs.FirstMatch.{IsFirst, IsFirstMatch}
 use Rattle.awk_state.specs.FirstMatch.{first_match}
-use Rattle.awk_state.specs.TextRows.{is_at, behind, is_empty_at, places, places_of}
+use Rattle.awk_state.specs.TextRows.{behind, is_empty_at, places, places_of}
 use Rattle.awk_state.proofs.Firsts.{first_match_is}
-use Rattle.text_laws.specs.Substitutions.{end_of, IsTaken, IsNext, ArePlaces, no_more, next, IsPlace}
-
-some_inj : (a b : ℕ) → Some a ≡ Some b → a ≡ b
-some_inj a b e = ap (λ o. end_of o) e
+use Rattle.text_laws.specs.Substitutions.{end_of, IsTaken, ArePlaces, no_more, next, IsPlace}
+use Rattle.text_laws.specs.Leftmost.{IsLeftmost, IsNone}
+use Rattle.text_laws.proofs.Leftmost.{same_leftmost, some_inj}
 
 -- ---- the test for an empty match directly behind the former one
 
@@ -69,7 +68,7 @@ order : (t : Tree) (text : List ℕ) (i j : ℕ) → Matches t text i j → i �
 order t text i j m = (matches_inside t text i j m).0
 
 none_left : {t : Tree} {text : List ℕ} {n at : ℕ} {last : Option ℕ} → HasRoom t text n at last → ((i j : ℕ) → at ≤ i → Matches t text i j → ⊥)
-    → (i j : ℕ) → end_of last ≤ i → IsTaken t text last i j → ⊥
+    → IsNone (IsTaken t text last) (end_of last)
 none_left {at} room past i j low k = elim (cases_lt i at) [ inl less ↦ room.none i j low less k | inr more ↦ past i j more k.0 ]
 
 after_empty : {t : Tree} {text : List ℕ} {n at : ℕ} {last : Option ℕ} {p : ℕ × ℕ} → HasRoom t text (suc n) at last → IsFirst t text at p.0 p.1
@@ -89,13 +88,16 @@ after_empty {t} {text} {n} {at} {last} {p} room f same former = record {
 }
 
 is_next : {t : Tree} {text : List ℕ} {n at : ℕ} {last : Option ℕ} {p : ℕ × ℕ} → HasRoom t text n at last → IsFirst t text at p.0 p.1
-    → is_empty_at last p ≡ false → IsNext t text last p.0 p.1
+    → is_empty_at last p ≡ false → IsLeftmost (IsTaken t text last) (end_of last) p.0 p.1
 is_next {t} {text} {n} {at} {last} {p} room f e = record {
   above = (let low = room.low in let above = f.above in omega (arith, low, above));
-  taken = (f.matches, λ former. (let inside = order t text p.0 p.1 f.matches in elim (cases_lt p.0 p.1) [
-    | inl less ↦ less
-    | inr more ↦ absurd (not_empty last p e former (omega (arith, inside, more)))
-  ]));
+  is = (
+    f.matches,
+    λ former. (let inside = order t text p.0 p.1 f.matches in elim (cases_lt p.0 p.1) [
+      | inl less ↦ less
+      | inr more ↦ absurd (not_empty last p e former (omega (arith, inside, more)))
+    ]),
+  );
   least = λ i j low k. elim (cases_lt i at) [ inl less ↦ absurd (room.none i j low less k) | inr more ↦ f.least i j more k.0 ];
   greatest = λ j k. f.greatest j k.0;
 }
@@ -111,17 +113,17 @@ after_match {t} {text} {n} {at} {last} {p} room f =
         enough = omega (arith, left, above, less, behind_full p less);
       }
       | inr more ↦ (
-        let inside = order t text p.0 p.1 f.matches in
-        let same : p.0 ≡ p.1 = omega (arith, inside, more) in
-        record {
-          low = omega (arith, behind_empty p same);
-          none = λ i j low before k. (
-            let place : p.1 ≡ i = omega (arith, low, before, behind_empty p same) in
-            let longer = k.1 (ap (λ x. Some x) place) in
-            let most = f.greatest j (subst (λ x. Matches t text x j) (sym place ∙ sym same) k.0) in
-            omega (arith, longer, most, place));
-          enough = omega (arith, left, above, same, behind_empty p same);
-        })
+          let inside = order t text p.0 p.1 f.matches in
+          let same : p.0 ≡ p.1 = omega (arith, inside, more) in
+          record {
+            low = omega (arith, behind_empty p same);
+            none = λ i j low before k. (
+                let place : p.1 ≡ i = omega (arith, low, before, behind_empty p same) in
+                let longer = k.1 (ap (λ x. Some x) place) in
+                let most = f.greatest j (subst (λ x. Matches t text x j) (sym place ∙ sym same) k.0) in
+                omega (arith, longer, most, place));
+            enough = omega (arith, left, above, same, behind_empty p same);
+          })
     ]
 
 are_places : (t : Tree) (text : List ℕ) (n at : ℕ) (last : Option ℕ) → HasRoom t text n at last → ArePlaces t text last (places (first_match t text) n at last)
@@ -147,21 +149,15 @@ all_places t text = are_places t text (length text + 1) 0 None (record { low = o
 same_pair : (p q : ℕ × ℕ) → p.0 ≡ q.0 → p.1 ≡ q.1 → p ≡ q
 same_pair p q e f = ap (λ x. (x, p.1)) e ∙ ap (λ y. (q.0, y)) f
 
-same_next : (t : Tree) (text : List ℕ) (former : Option ℕ) (p q : ℕ × ℕ) → IsNext t text former p.0 p.1 → IsNext t text former q.0 q.1 → p ≡ q
-same_next t text former p q f g =
-    let a = f.least q.0 q.1 g.above g.taken in
-    let b = g.least p.0 p.1 f.above f.taken in
-    let start : p.0 ≡ q.0 = omega (arith, a, b) in
-    let c = f.greatest q.1 (subst (λ x. IsTaken t text former x q.1) (sym start) g.taken) in
-    let d = g.greatest p.1 (subst (λ x. IsTaken t text former x p.1) start f.taken) in
-    same_pair p q start (omega (arith, c, d))
+same_match : {Is : ℕ → ℕ → Type 0} {at : ℕ} (p q : ℕ × ℕ) → IsLeftmost Is at p.0 p.1 → IsLeftmost Is at q.0 q.1 → p ≡ q
+same_match p q f g = let same = same_leftmost f g in same_pair p q same.0 same.1
 
 pub same_places : {t : Tree} {text : List ℕ} {former : Option ℕ} {ps qs : List (ℕ × ℕ)} → ArePlaces t text former ps → ArePlaces t text former qs → ps ≡ qs
 same_places (no_more h) (no_more k) = refl
-same_places (no_more h) (next {p} f r) = absurd (h p.0 p.1 f.above f.taken)
-same_places (next {p} f r) (no_more k) = absurd (k p.0 p.1 f.above f.taken)
+same_places (no_more h) (next {p} f r) = absurd (h p.0 p.1 f.above f.is)
+same_places (next {p} f r) (no_more k) = absurd (k p.0 p.1 f.above f.is)
 same_places {t} {text} {former} (next {p} {ps} f r) (next {p = q} {ps = qs} g s) =
-    let e : p ≡ q = same_next t text former p q f g in
+    let e : p ≡ q = same_match p q f g in
     ap (λ x. x ∷ ps) e ∙ ap (q ∷◌) (same_places r (subst (λ x. ArePlaces t text (Some x.1) qs) (sym e) s))
 
 -- ---- the place of a sub
@@ -175,29 +171,20 @@ one_place t text zero h = absurd (omega (arith, h))
 one_place t text (suc n) h = by (first_match t text 0) (first_match_is t text 0)
   where
     split : (p : ℕ × ℕ) → IsFirst t text 0 p.0 p.1 → (b : Bool) → b ≡ false → IsPlace t text (take 1 (choose (first_match t text) n None p b))
-    split p f false e = f
+    split p f false e = record { above = f.above; is = f.matches; least = f.least; greatest = f.greatest }
     split p f true e = absurd cc
 
     by : (r : Option (ℕ × ℕ)) → IsFirstMatch t text 0 r → IsPlace t text (take 1 (cut (first_match t text) n None r))
-    by None f = λ i j m. f i j (omega arith) m
+    by None f = f
     by (Some p) f = split p f (is_empty_at None p) (never (p.0 == p.1))
 
 pub the_place : (t : Tree) (text : List ℕ) → IsPlace t text (places_of t text false)
 the_place t text = one_place t text (length text + 1) (omega arith)
 
-one_first : (t : Tree) (text : List ℕ) (p q : ℕ × ℕ) → IsFirst t text 0 p.0 p.1 → IsFirst t text 0 q.0 q.1 → p ≡ q
-one_first t text p q f g =
-    let a = f.least q.0 q.1 g.above g.matches in
-    let b = g.least p.0 p.1 f.above f.matches in
-    let start : p.0 ≡ q.0 = omega (arith, a, b) in
-    let c = f.greatest q.1 (subst (λ x. Matches t text x q.1) (sym start) g.matches) in
-    let d = g.greatest p.1 (subst (λ x. Matches t text x p.1) start f.matches) in
-    same_pair p q start (omega (arith, c, d))
-
 pub same_place : (t : Tree) (text : List ℕ) (ps qs : List (ℕ × ℕ)) → IsPlace t text ps → IsPlace t text qs → ps ≡ qs
 same_place t text [] [] f g = refl
-same_place t text [] (q ∷ []) f g = absurd (f q.0 q.1 g.matches)
-same_place t text (p ∷ []) [] f g = absurd (g p.0 p.1 f.matches)
-same_place t text (p ∷ []) (q ∷ []) f g = ap (λ x. x ∷ []) (one_first t text p q f g)
+same_place t text [] (q ∷ []) f g = absurd (f q.0 q.1 g.above g.is)
+same_place t text (p ∷ []) [] f g = absurd (g p.0 p.1 f.above f.is)
+same_place t text (p ∷ []) (q ∷ []) f g = ap (λ x. x ∷ []) (same_match p q f g)
 same_place t text (p ∷ q ∷ ps) qs f g = absurd f
 same_place t text ps (p ∷ q ∷ qs) f g = absurd g

@@ -1,13 +1,14 @@
 -- What a replacement stands for, and the text that is put together.
-use Rattle.std.proofs.Common.{◌≡◌, ◌⊎◌, inl, inr, ℕ, suc, ◌+◌, ◌-◌, ◌<◌, ◌≤◌, Bool, true, false, ◌||◌, List, [], ◌∷◌, ◌++◌, length, take, drop, slice_range, Option, Some, None, refl, sym, ap, subst, ◌∙◌, arith, eqb-true, eq-eqb}
-use Rattle.std.specs.Prelude.{◌==◌, min, if◌then◌else◌}
+use Rattle.std.proofs.Common.{◌≡◌, inl, inr, ℕ, ◌+◌, ◌-◌, ◌≤◌, Bool, true, false, ◌||◌, List, [], ◌∷◌, ◌++◌, length, take, drop, slice_range, Option, refl, sym, ap, subst, ◌∙◌, arith, eqb-true, eq-eqb}
+use Rattle.std.specs.Prelude.{◌==◌, if◌then◌else◌}
 use Rattle.std.proofs.lemmas.Bool.{cases_Bool}
-use Rattle.std.proofs.lemmas.List.{length-take, length-drop, drop-drop, drop_at, take_at}
+use Rattle.std.proofs.lemmas.List.{drop-drop, drop_at, take_at}
 use Rattle.std.proofs.lemmas.List.Folds.{drop_split}
 use Rattle.ere_syntax.specs.Tree.{Tree}
 use Rattle.ere_syntax.proofs.Meaning.{matches_inside}
 use Rattle.awk_state.specs.TextRows.{places_of, replacement, escaped, replaced}
 use Rattle.text_laws.specs.Substitutions.{end_of, ArePlaces, no_more, next, IsPlace, IsSpecial, BeginsPlain, StandsFor, ends, match, escaped as is_escaped, backslash, byte, Becomes, rest, replace}
+use Rattle.text_laws.proofs.Leftmost.{length_range}
 use Rattle.text_laws.proofs.Places.{all_places, the_place}
 
 -- ---- replacements
@@ -88,20 +89,17 @@ InOrder size at (p ∷ ps) = (at ≤ p.0) × (p.0 ≤ p.1) × (p.1 ≤ size) × 
 places_in_order : {t : Tree} {text : List ℕ} {former : Option ℕ} {ps : List (ℕ × ℕ)} → ArePlaces t text former ps → InOrder (length text) (end_of former) ps
 places_in_order (no_more h) = tt
 places_in_order {t} {text} (next {p} f r) =
-    let inside = matches_inside t text p.0 p.1 f.taken.0 in
+    let inside = matches_inside t text p.0 p.1 f.is.0 in
     (f.above, inside.0, inside.1, places_in_order r)
 
 place_in_order : (t : Tree) (text : List ℕ) (ps : List (ℕ × ℕ)) → IsPlace t text ps → InOrder (length text) 0 ps
 place_in_order t text [] h = tt
-place_in_order t text (p ∷ []) h = let inside = matches_inside t text p.0 p.1 h.matches in (h.above, inside.0, inside.1, tt)
+place_in_order t text (p ∷ []) h = let inside = matches_inside t text p.0 p.1 h.is in (h.above, inside.0, inside.1, tt)
 place_in_order t text (p ∷ q ∷ ps) h = absurd h
 
 in_order : (t : Tree) (text : List ℕ) (all : Bool) → InOrder (length text) 0 (places_of t text all)
 in_order t text true = places_in_order (all_places t text)
 in_order t text false = place_in_order t text (places_of t text false) (the_place t text)
-
-length_range : (text : List ℕ) (i j : ℕ) → i ≤ j → j ≤ length text → j ≡ i + length (slice_range text i j)
-length_range text i j low high = omega (arith, low, high, length-take (j - i) (drop i text), length-drop i text)
 
 becomes : (by text : List ℕ) (at : ℕ) (ps : List (ℕ × ℕ)) → InOrder (length text) at ps → Becomes by at ps (drop at text) (replaced text by at ps)
 becomes by text at [] h = rest
@@ -110,7 +108,7 @@ becomes by text at (p ∷ ps) h =
     let start = length_range text at p.0 h.0 (omega (arith, h.1, h.2)) in
     let end = length_range text p.0 p.1 h.1 h.2 in
     subst (λ x. Becomes by at (p ∷ ps) x (replaced text by at (p ∷ ps))) (sym split)
-        (replace (slice_range text at p.0) (slice_range text p.0 p.1) start end (stands_for (slice_range text p.0 p.1) by) (becomes by text p.1 ps h.3))
+    (replace (slice_range text at p.0) (slice_range text p.0 p.1) start end (stands_for (slice_range text p.0 p.1) by) (becomes by text p.1 ps h.3))
 
 pub becomes_replaced : (t : Tree) (text by : List ℕ) (all : Bool) → Becomes by 0 (places_of t text all) text (replaced text by 0 (places_of t text all))
 becomes_replaced t text by all = becomes by text 0 (places_of t text all) (in_order t text all)
@@ -118,9 +116,10 @@ becomes_replaced t text by all = becomes by text 0 (places_of t text all) (in_or
 -- a part of the rest, by its length
 part : (text front behind : List ℕ) (at end : ℕ) → front ++ behind ≡ drop at text → end ≡ at + length front → (slice_range text at end ≡ front) × (drop end text ≡ behind)
 part text front behind at end e size =
-    let same : length front ≡ end - at = omega (arith, size) in
-    (ap (take (end - at)) (sym e) ∙ take_at front behind (end - at) same,
-    ap (λ n. drop n text) size ∙ sym (drop-drop (length front) at text) ∙ ap (drop (length front)) (sym e) ∙ drop_at front behind (length front) refl)
+    let same : length front ≡ end - at = omega (arith, size) in (
+      ap (take (end - at)) (sym e) ∙ take_at front behind (end - at) same,
+      ap (λ n. drop n text) size ∙ sym (drop-drop (length front) at text) ∙ ap (drop (length front)) (sym e) ∙ drop_at front behind (length front) refl,
+    )
 
 pub becomes_value : {by old new : List ℕ} {at : ℕ} {ps : List (ℕ × ℕ)} (text : List ℕ) → Becomes by at ps old new → old ≡ drop at text → new ≡ replaced text by at ps
 becomes_value text rest e = e

@@ -1,6 +1,7 @@
 -- The fields of a text as relations.
-use Rattle.std.specs.Prelude.{◌≡◌, ◌⊎◌, ℕ, ◌+◌, ◌<◌, ◌≤◌, Bool, true, false, List, [], ◌∷◌, ◌++◌, length, slice_get, Some}
+use Rattle.std.specs.Prelude.{◌≡◌, ◌⊎◌, ℕ, ◌+◌, ◌<◌, Bool, true, false, List, [], ◌∷◌, ◌++◌, length, slice_get, Some}
 use Rattle.ere_syntax.specs.Matches.{Matches}
+use Rattle.text_laws.specs.Leftmost.{IsLeftmost, IsNone}
 use Rattle.awk_state.specs.Fields.{Separator, Blanks, Nothing, Byte, Expression, is_blank}
 
 -- Blanks separate, and none stands in a field, so none at its ends.
@@ -40,18 +41,12 @@ Separates Nothing newlines text i j = ⊥
 Separates (Byte b) newlines text i j = ((slice_get text i ≡ Some b) × (j ≡ i + 1)) ⊎ IsNewline newlines text i j
 Separates (Expression t) newlines text i j = (Matches t text i j × (i < j)) ⊎ IsNewline newlines text i j
 
--- the first separator from a place on: the leftmost, and of these the longest
-pub record IsFirstSeparator (Is : ℕ → ℕ → Type 0) (from start end : ℕ) : Type 0 where
-  pub above : from ≤ start
-  pub separates : Is start end
-  pub least : (i j : ℕ) → from ≤ i → Is i j → start ≤ i
-  pub greatest : (j : ℕ) → Is start j → j ≤ end
-
--- the rest of a text, from a place of the whole on: fields and separators in turn, each separator the first behind the one before
+-- the rest of a text, from a place of the whole on: fields and separators in turn, each separator the leftmost behind the one before, and
+-- the longest there
 pub data AreParted (Is : ℕ → ℕ → Type 0) : ℕ → List ℕ → List (List ℕ) → Type 0 where
-  last_field : {at : ℕ} {field : List ℕ} → ((i j : ℕ) → at ≤ i → Is i j → ⊥) → AreParted Is at field (field ∷ [])
+  last_field : {at : ℕ} {field : List ℕ} → IsNone Is at → AreParted Is at field (field ∷ [])
   one_field : {at start end : ℕ} {field rest : List ℕ} {fields : List (List ℕ)} (separator : List ℕ) →
-      start ≡ at + length field → end ≡ start + length separator → IsFirstSeparator Is at start end → AreParted Is end rest fields →
+      start ≡ at + length field → end ≡ start + length separator → IsLeftmost Is at start end → AreParted Is end rest fields →
       AreParted Is at (field ++ (separator ++ rest)) (field ∷ fields)
 
 -- an empty text has no fields

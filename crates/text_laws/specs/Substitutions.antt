@@ -1,8 +1,8 @@
 -- What sub and gsub replace, and by what, as relations.
-use Rattle.std.specs.Prelude.{◌≡◌, ◌≢◌, ◌⊎◌, ℕ, ◌+◌, ◌<◌, ◌≤◌, List, [], ◌∷◌, ◌++◌, length, Option, Some, None}
+use Rattle.std.specs.Prelude.{◌≡◌, ◌⊎◌, ℕ, ◌+◌, ◌<◌, List, [], ◌∷◌, ◌++◌, length, Option, Some, None}
 use Rattle.ere_syntax.specs.Tree.{Tree}
 use Rattle.ere_syntax.specs.Matches.{Matches}
-use Rattle.ere_match.specs.FirstMatch.{IsFirst}
+use Rattle.text_laws.specs.Leftmost.{IsLeftmost, IsNone}
 
 -- where the former match ends, or the text begins
 abbrev pub end_of : Option ℕ → ℕ
@@ -13,22 +13,15 @@ end_of (Some end) = end
 abbrev pub IsTaken : Tree → List ℕ → Option ℕ → ℕ → ℕ → Type 0
 IsTaken t text former i j = Matches t text i j × (former ≡ Some i → i < j)
 
--- the first one that is taken behind the former match: the leftmost, and of these the longest
-pub record IsNext (t : Tree) (text : List ℕ) (former : Option ℕ) (start end : ℕ) : Type 0 where
-  pub above : end_of former ≤ start
-  pub taken : IsTaken t text former start end
-  pub least : (i j : ℕ) → end_of former ≤ i → IsTaken t text former i j → start ≤ i
-  pub greatest : (j : ℕ) → IsTaken t text former start j → j ≤ end
-
--- the places of a gsub, behind a former match that ends so
+-- the places of a gsub, behind a former match that ends so: the leftmost match that is taken, of these the longest; then the others
 pub data ArePlaces (t : Tree) (text : List ℕ) : Option ℕ → List (ℕ × ℕ) → Type 0 where
-  no_more : {former : Option ℕ} → ((i j : ℕ) → end_of former ≤ i → IsTaken t text former i j → ⊥) → ArePlaces t text former []
-  next : {former : Option ℕ} {p : ℕ × ℕ} {ps : List (ℕ × ℕ)} → IsNext t text former p.0 p.1 → ArePlaces t text (Some p.1) ps → ArePlaces t text former (p ∷ ps)
+  no_more : {former : Option ℕ} → IsNone (IsTaken t text former) (end_of former) → ArePlaces t text former []
+  next : {former : Option ℕ} {p : ℕ × ℕ} {ps : List (ℕ × ℕ)} → IsLeftmost (IsTaken t text former) (end_of former) p.0 p.1 → ArePlaces t text (Some p.1) ps → ArePlaces t text former (p ∷ ps)
 
 -- the place of a sub: the first match, if there is one
 abbrev pub IsPlace : Tree → List ℕ → List (ℕ × ℕ) → Type 0
-IsPlace t text [] = (i j : ℕ) → Matches t text i j → ⊥
-IsPlace t text (p ∷ []) = IsFirst t text 0 p.0 p.1
+IsPlace t text [] = IsNone (Matches t text) 0
+IsPlace t text (p ∷ []) = IsLeftmost (Matches t text) 0 p.0 p.1
 IsPlace t text (p ∷ q ∷ ps) = ⊥
 
 -- the bytes `&` and `\`

@@ -1,4 +1,4 @@
-use Rattle.std.proofs.Common.{true, false, None, sym, subst}
+use Rattle.std.proofs.Common.{false, None, sym, subst}
 use Rattle.awk_state.specs.TextRows.{places_of}
 use Rattle.text_laws.specs.Substitutions.{ArePlaces, IsPlace}
 use Rattle.text_laws.proofs.Places.{all_places, same_places, the_place, same_place}
