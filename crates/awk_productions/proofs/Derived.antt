@@ -51,7 +51,8 @@ record AreGiven (xs : Trees) (ts : List Token) : Type 0 where
 pub high : (k : ℕ) (t : Tree) → k ≤ edge t → nat_le k (level t) ≡ true
 high k t h = le-leb k (level t) (omega (arith, edge_below t))
 
-abbrev Joins : Bool → Op → Tree → Tree → Type 0
+-- what is asked of an operator's operands, themselves aside
+abbrev pub Joins : Bool → Op → Tree → Tree → Type 0
 Joins g op a b = (op_left op ≤ edge a) × (fits (op_right op) b ≡ true) × MayStandJoined op (print b) × (takes true a (class_at (op_tokens op ++ print b)) ≡ false) × (op_allowed g op ≡ true)
 
 binary : {g : Bool} {M N : Nonterminal} {a b : Tree} {ts us : List Token} (K : Nonterminal) (op : Op) →

@@ -1,13 +1,14 @@
 -- The productions derive every well-formed tree from its tokens.
-use Rattle.std.proofs.Common.{◌≡◌, ℕ, ◌≤◌, Bool, true, false, List, ◌++◌, refl, sym, subst, ◌∙◌, arith}
+use Rattle.std.proofs.Common.{◌≡◌, ℕ, ◌≤◌, Bool, true, List, refl, sym, subst, ◌∙◌, arith}
 use Rattle.std.specs.Prelude.{nat_le}
 use Rattle.std.proofs.lemmas.Bool.{leb-true}
 use Rattle.std.proofs.lemmas.List.{append-nil}
 use Rattle.awk_grammar.specs.Token.{Prefix, Assign, Or, And, Match, Compare, Mul, Pow, Token}
-use Rattle.awk_grammar.specs.Tree.{Op, Join, Add, Other, Tree, Leaf, Length, Var, Index, Field, Group, Call, Apply, Unary, Pre, Post, Bin, Has, HasList, Cond, Get, GetInto, GetFrom, GetIntoFrom, Trees, NoTree, Then, op_tokens, op_level, op_left, op_right, op_allowed, print, print_list, level, edge, is_field, fits, class_at, takes, MayJoin, IsSome, IsWellFormed, AreWellFormed}
+use Rattle.awk_grammar.specs.Tree.{Op, Join, Add, Other, Tree, Leaf, Length, Var, Index, Field, Group, Call, Apply, Unary, Pre, Post, Bin, Has, HasList, Cond, Get, GetInto, GetFrom, GetIntoFrom, Trees, NoTree, Then, op_level, print, print_list, level, edge, is_field, IsSome, IsWellFormed, AreWellFormed}
 use Rattle.awk_productions.specs.Expressions.{Nonterminal, Expr, TailExpr, AssignExpr, OrExpr, AndExpr, InExpr, MatchExpr, CompareExpr, ConcatExpr, AddExpr, MulExpr, UnaryExpr, PowerExpr, Exponent, PostfixExpr, SimpleExpr, LValue, FieldOperand, Derives, expr_cond, expr_tail, or_tail, tail_assign, and_assign, assign, cond_or, choice, or_and, or, and_in, and, in_match, has, has_list, match_compare, matching, compare_concat, compare, concat_add, concat, add_mul, add, mul_unary, mul, unary, unary_power, power_postfix, power, signed_exponent, exponent, step_after, step_before, postfix_primary, primary_simple, getline, getline_variable, getline_source, getline_variable_source, literal, variable, group, call, apply, bare_length, name, element, field, field_simple, field_step, field_unary, ListOf, last, more, ArgumentsOf, none, some}
 use Rattle.awk_productions.proofs.Ends.{may_join, may_compare}
 use Rattle.awk_productions.proofs.Levels.{own_edge, Edged, Tight, Open, edged}
+use Rattle.awk_productions.proofs.Derived.{Joins}
 use Rattle.awk_productions.proofs.Arguments.{takes_suited}
 
 -- ---- from tight nonterminals to looser ones
@@ -114,7 +115,7 @@ tight t M d h k e f = record {
 atom : {g : Bool} (t : Tree) (M : Nonterminal) → Derives g M t (print t) → edge t ≤ rank M → 11 ≤ edge t → (is_field t ≡ true → Derives g FieldOperand t (print t)) → Found g t
 atom t M d h k f = tight t M d h (omega (arith, k)) (λ l. exponent (to_power M (omega (arith, h, k)) d)) f
 
--- one that may stand alone behind a dollar sign
+-- one that may stand alone after a dollar sign
 simple : {g : Bool} (t : Tree) (M : Nonterminal) → Derives g M t (print t) → edge t ≤ rank M → 12 ≤ edge t → Found g t
 simple t M d h k = atom t M d h (omega (arith, k)) λ f. field_simple (to_simple M (omega (arith, h, k)) d)
 
@@ -138,9 +139,6 @@ open_ended t d z l u v i = record {
   exponent = λ k. absurd (omega (arith, l, k));
   field = λ e. not_field (level t) (omega (arith, l)) (sym i ∙ e);
 }
-
-abbrev Joins : Bool → Op → Tree → Tree → Type 0
-Joins g op a b = (op_left op ≤ edge a) × (fits (op_right op) b ≡ true) × MayJoin op (print b) × (takes true a (class_at (op_tokens op ++ print b)) ≡ false) × (op_allowed g op ≡ true)
 
 either : {g : Bool} (a b : Tree) → Found g a → Found g b → 1 ≤ edge a → 2 ≤ level b → Edged b → Found g (Bin (Other Or) a b)
 either a b x y h f (Tight e) =
@@ -241,7 +239,7 @@ mutual
 pub deriving_of : (g : Bool) (t : Tree) → IsWellFormed g t → Derives g Expr t (print t)
 deriving_of g t h = (found g t h).expr
 
--- behind `>` and `>>`
+-- after `>` and `>>`
 pub concat_of : (t : Tree) → IsWellFormed true t → nat_le 6 (level t) ≡ true → Derives true ConcatExpr t (print t)
 concat_of t h f =
     let x = found true t h in

@@ -3,7 +3,7 @@ use Rattle.std.proofs.Common.{◌≡◌, Bool, true, false, ◌||◌, List, [], 
 use Rattle.std.proofs.lemmas.List.{append-nil}
 use Rattle.awk_grammar.specs.Token.{Not, Signed, Less, LessEqual, Equal, NotEqual, Greater, GreaterEqual, Comparison, Compare, Token, Lit, Name, FuncName, Word, GetlineWord, Dollar, Open, SignMark, NotMark, StepMark, Infix}
 use Rattle.awk_grammar.specs.Tree.{Tree, Leaf, Length, Var, Index, Field, Group, Call, Apply, Unary, Pre, Post, Bin, Has, HasList, Cond, Get, GetInto, GetFrom, GetIntoFrom, print, op_tokens, Opens, StartsLValue, IsLess, Steps, Free, class_at, takes, StartsOperand, allowed}
-use Rattle.awk_productions.specs.Ends.{EndsIn, whole, in_field, in_unary, in_step, in_right, in_choice, in_variable, in_source, in_source_behind, IsBareLength, IsBareGetline, IsSourceless, IsVariable, BeginsWithSign, BeginsWithStep, BeginsWithOpen, BeginsVariable, MayJoin, MayCompare}
+use Rattle.awk_productions.specs.Ends.{EndsIn, whole, in_field, in_unary, in_step, in_right, in_choice, in_variable, in_source, in_last_source, IsBareLength, IsBareGetline, IsSourceless, IsVariable, BeginsWithSign, BeginsWithStep, BeginsWithOpen, BeginsVariable, MayJoin, MayCompare}
 
 or_no : (b : Bool) → b ≡ false → (b || false) ≡ false
 or_no b e = ap (◌|| false) e
@@ -57,7 +57,7 @@ takes_open n (Cond a b c) h = takes_open n c λ e. h (in_choice e)
 takes_open n Get h = refl
 takes_open n (GetInto v) h = or_no (takes n v Opens) (takes_open n v λ e. h (in_variable e))
 takes_open n (GetFrom s) h = takes_open n s λ e. h (in_source e)
-takes_open n (GetIntoFrom v s) h = takes_open n s λ e. h (in_source_behind e)
+takes_open n (GetIntoFrom v s) h = takes_open n s λ e. h (in_last_source e)
 
 ends_open : (n : Bool) {t : Tree} → EndsIn IsBareLength t → takes n t Opens ≡ true
 ends_open n (whole {t} i) = by t i
@@ -72,7 +72,7 @@ ends_open n (in_right e) = ends_open n e
 ends_open n (in_choice e) = ends_open n e
 ends_open n (in_variable e) = ap (◌|| false) (ends_open n e)
 ends_open n (in_source e) = ends_open n e
-ends_open n (in_source_behind e) = ends_open n e
+ends_open n (in_last_source e) = ends_open n e
 
 takes_start : (n : Bool) (t : Tree) → (EndsIn IsBareGetline t → ⊥) → takes n t StartsLValue ≡ false
 takes_start n (Leaf x) h = refl
@@ -93,7 +93,7 @@ takes_start n (Cond a b c) h = takes_start n c λ e. h (in_choice e)
 takes_start n Get h = absurd (h (whole tt))
 takes_start n (GetInto v) h = or_no (takes n v StartsLValue) (takes_start n v λ e. h (in_variable e))
 takes_start n (GetFrom s) h = takes_start n s λ e. h (in_source e)
-takes_start n (GetIntoFrom v s) h = takes_start n s λ e. h (in_source_behind e)
+takes_start n (GetIntoFrom v s) h = takes_start n s λ e. h (in_last_source e)
 
 ends_start : (n : Bool) {t : Tree} → EndsIn IsBareGetline t → takes n t StartsLValue ≡ true
 ends_start n (whole {t} i) = by t i
@@ -108,7 +108,7 @@ ends_start n (in_right e) = ends_start n e
 ends_start n (in_choice e) = ends_start n e
 ends_start n (in_variable e) = ap (◌|| false) (ends_start n e)
 ends_start n (in_source e) = ends_start n e
-ends_start n (in_source_behind e) = ends_start n e
+ends_start n (in_last_source e) = ends_start n e
 
 takes_less : (n : Bool) (t : Tree) → (EndsIn IsSourceless t → ⊥) → takes n t IsLess ≡ false
 takes_less n (Leaf x) h = refl
@@ -129,7 +129,7 @@ takes_less n (Cond a b c) h = takes_less n c λ e. h (in_choice e)
 takes_less n Get h = absurd (h (whole tt))
 takes_less n (GetInto v) h = absurd (h (whole tt))
 takes_less n (GetFrom s) h = takes_less n s λ e. h (in_source e)
-takes_less n (GetIntoFrom v s) h = takes_less n s λ e. h (in_source_behind e)
+takes_less n (GetIntoFrom v s) h = takes_less n s λ e. h (in_last_source e)
 
 ends_less : (n : Bool) {t : Tree} → EndsIn IsSourceless t → takes n t IsLess ≡ true
 ends_less n (whole {t} i) = by t i
@@ -145,7 +145,7 @@ ends_less n (in_right e) = ends_less n e
 ends_less n (in_choice e) = ends_less n e
 ends_less n (in_variable {v} e) = or_yes (takes n v IsLess)
 ends_less n (in_source e) = ends_less n e
-ends_less n (in_source_behind e) = ends_less n e
+ends_less n (in_last_source e) = ends_less n e
 
 takes_step : (t : Tree) → (EndsIn IsVariable t → ⊥) → takes true t Steps ≡ false
 takes_step (Leaf x) h = refl
@@ -166,7 +166,7 @@ takes_step (Cond a b c) h = takes_step c λ e. h (in_choice e)
 takes_step Get h = refl
 takes_step (GetInto v) h = or_no (takes true v Steps) (takes_step v λ e. h (in_variable e))
 takes_step (GetFrom s) h = takes_step s λ e. h (in_source e)
-takes_step (GetIntoFrom v s) h = takes_step s λ e. h (in_source_behind e)
+takes_step (GetIntoFrom v s) h = takes_step s λ e. h (in_last_source e)
 
 ends_step : {t : Tree} → EndsIn IsVariable t → takes true t Steps ≡ true
 ends_step (whole {t} i) = by t i
@@ -183,7 +183,7 @@ ends_step (in_right e) = ends_step e
 ends_step (in_choice e) = ends_step e
 ends_step (in_variable e) = ap (◌|| false) (ends_step e)
 ends_step (in_source e) = ends_step e
-ends_step (in_source_behind e) = ends_step e
+ends_step (in_last_source e) = ends_step e
 
 pub not_both : {b : Bool} → b ≡ true → b ≡ false → ⊥
 not_both e f = absurd (cc)

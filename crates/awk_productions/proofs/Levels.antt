@@ -103,7 +103,7 @@ edged g (GetInto v) h = Tight (omega arith)
 edged g (GetFrom s) h = Tight (omega arith)
 edged g (GetIntoFrom v s) h = Tight (omega arith)
 
--- ---- what may stand behind a dollar sign
+-- ---- what may stand after a dollar sign
 
 pub simple_is_field : (t : Tree) → 12 ≤ level t → is_field t ≡ true
 simple_is_field (Unary p t) h = absurd (omega arith)

@@ -13,7 +13,7 @@ pub data EndsIn (Is : Tree → Type 0) : Tree → Type 0 where
   in_choice : {a b c : Tree} → EndsIn Is c → EndsIn Is (Cond a b c)
   in_variable : {v : Tree} → EndsIn Is v → EndsIn Is (GetInto v)
   in_source : {s : Tree} → EndsIn Is s → EndsIn Is (GetFrom s)
-  in_source_behind : {v s : Tree} → EndsIn Is s → EndsIn Is (GetIntoFrom v s)
+  in_last_source : {v s : Tree} → EndsIn Is s → EndsIn Is (GetIntoFrom v s)
 
 -- `length` without parentheses
 abbrev pub IsBareLength : Tree → Type 0
@@ -66,7 +66,7 @@ pub record MayJoin (left : Tree) (right : List Token) : Type 0 where
   -- the variable would be that of getline
   pub no_variable : BeginsVariable right → EndsIn IsBareGetline left → ⊥
 
--- Where a comparison may stand: `<` behind a getline without a source names its source; `>` outside parentheses in the list of a print names a file.
+-- Where a comparison may stand: `<` after a getline without a source names its source; `>` outside parentheses in the list of a print names a file.
 abbrev pub MayCompare : Bool → Comparison → Tree → Type 0
 MayCompare greater Less left = EndsIn IsSourceless left → ⊥
 MayCompare greater Greater left = greater ≡ true

@@ -51,7 +51,7 @@ pub data SimpleOf : Stmt → List Token → Type 0 where
   -- Simple := ('exit' | 'return') [Expr]
   leave : {l : Leaving} {e : Option Tree} {ts : List Token} → MaybeExprOf e ts → SimpleOf (Leave l e) (leaving_token l ∷ ts)
 
--- the statement ends in an `if` without `else`, which would take an `else` behind it
+-- the statement ends in an `if` without `else`, which would take an `else` after it
 pub data EndsInIf : Stmt → Type 0 where
   bare : {c : Tree} {s : Stmt} → EndsInIf (If c s)
   in_else : {c : Tree} {s t : Stmt} → EndsInIf t → EndsInIf (IfElse c s t)

@@ -5,3 +5,4 @@ mod Words
 mod Longest
 mod Parted
 mod Fields
+mod Rows

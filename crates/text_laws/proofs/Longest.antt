@@ -8,9 +8,9 @@ use Rattle.ere_syntax.specs.Matches.{Matches}
 use Rattle.ere_syntax.proofs.Meaning.{matches_inside}
 use Rattle.ere_match.specs.FirstMatch.{IsFirstMatch}
 use Rattle.awk_state.specs.FirstMatch.{longest, or_next, first_by, first_match}
-use Rattle.awk_state.specs.Fields.{Expression, newline_end, end_or_newline}
+use Rattle.awk_state.specs.Fields.{newline_end, end_or_newline}
 use Rattle.awk_state.proofs.Firsts.{first_match_is}
-use Rattle.text_laws.specs.Fields.{Separates}
+use Rattle.text_laws.specs.Fields.{IsFullMatch, Separates}
 
 -- ---- the longest match from a place
 
@@ -68,16 +68,16 @@ newline_test false text at e s = absurd cc
 
 -- where no match is left, a newline may separate
 newline_is : (t : Tree) (newlines : Bool) (text : List ℕ) (at : ℕ) → at < length text → ((j : ℕ) → Matches t text at j → at < j → ⊥)
-    → IsEnd (Separates (Expression t) newlines text) at (newline_end newlines text at)
+    → IsEnd (Separates (IsFullMatch t text) newlines text) at (newline_end newlines text at)
 newline_is t newlines text at inside none = by (newlines && (get_or text at 0 == 10)) refl
   where
-    most : (j : ℕ) → Separates (Expression t) newlines text at j → j ≤ at + 1
+    most : (j : ℕ) → Separates (IsFullMatch t text) newlines text at j → j ≤ at + 1
     most j (inl m) = absurd (none j m.0 m.1)
-    most j (inr n) = omega (arith, n.2)
+    most j (inr n) = omega (arith, n.1.1)
 
-    by : (b : Bool) → (newlines && (get_or text at 0 == 10)) ≡ b → IsEnd (Separates (Expression t) newlines text) at (if b then Some (at + 1) else None)
-    by true e = let h = newline_at newlines text at inside e in (inr (h.0, h.1, refl), most)
-    by false e = λ j s. elim s [ inl m ↦ none j m.0 m.1 | inr n ↦ (let h = newline_test newlines text at n.0 n.1 in absurd cc) ]
+    by : (b : Bool) → (newlines && (get_or text at 0 == 10)) ≡ b → IsEnd (Separates (IsFullMatch t text) newlines text) at (if b then Some (at + 1) else None)
+    by true e = let h = newline_at newlines text at inside e in (inr (h.0, (h.1, refl)), most)
+    by false e = λ j s. elim s [ inl m ↦ none j m.0 m.1 | inr n ↦ (let h = newline_test newlines text at n.0 n.1.0 in absurd cc) ]
 
 less_false : (a b : ℕ) → nat_lt a b ≡ false → b ≤ a
 less_false a b e = grind (arith, nat_tests)
@@ -86,21 +86,21 @@ less_true : (a b : ℕ) → nat_lt a b ≡ true → a < b
 less_true a b e = grind (arith, nat_tests)
 
 pub end_is : (t : Tree) (newlines : Bool) (text : List ℕ) (at : ℕ) → at < length text
-    → IsEnd (Separates (Expression t) newlines text) at (end_or_newline newlines text at (longest t text at))
+    → IsEnd (Separates (IsFullMatch t text) newlines text) at (end_or_newline newlines text at (longest t text at))
 end_is t newlines text at inside = by (longest t text at) (longest_is t text at (omega (arith, inside)))
   where
     longer : (end : ℕ) → IsLongest t text at (Some end) → (b : Bool) → nat_lt at end ≡ b
-        → IsEnd (Separates (Expression t) newlines text) at (if b then Some end else newline_end newlines text at)
+        → IsEnd (Separates (IsFullMatch t text) newlines text) at (if b then Some end else newline_end newlines text at)
     longer end h true e =
         let less = less_true at end e in
-        (inl (h.0, less), λ j s. elim s [ inl m ↦ h.1 j m.0 | inr n ↦ omega (arith, n.2, less) ])
+        (inl (h.0, less), λ j s. elim s [ inl m ↦ h.1 j m.0 | inr n ↦ omega (arith, n.1.1, less) ])
     longer end h false e = newline_is t newlines text at inside λ j m low. (let most = h.1 j m in let short = less_false at end e in omega (arith, most, short, low))
 
-    by : (o : Option ℕ) → IsLongest t text at o → IsEnd (Separates (Expression t) newlines text) at (end_or_newline newlines text at o)
+    by : (o : Option ℕ) → IsLongest t text at o → IsEnd (Separates (IsFullMatch t text) newlines text) at (end_or_newline newlines text at o)
     by None h = newline_is t newlines text at inside λ j m low. h j m
     by (Some end) h = longer end h (nat_lt at end) refl
 
 -- a separator is not empty, and lies in the text
-pub separator_inside : (t : Tree) (newlines : Bool) (text : List ℕ) (i j : ℕ) → Separates (Expression t) newlines text i j → (i < j) × (j ≤ length text)
+pub separator_inside : (t : Tree) (newlines : Bool) (text : List ℕ) (i j : ℕ) → Separates (IsFullMatch t text) newlines text i j → (i < j) × (j ≤ length text)
 separator_inside t newlines text i j (inl m) = (m.1, (matches_inside t text i j m.0).1)
-separator_inside t newlines text i j (inr n) = let low = slice_get_within text i 10 n.1 in (omega (arith, n.2), omega (arith, low, n.2))
+separator_inside t newlines text i j (inr n) = let low = slice_get_within text i 10 n.1.0 in (omega (arith, n.1.1), omega (arith, low, n.1.1))

@@ -6,8 +6,8 @@ use Rattle.std.proofs.lemmas.List.{take_at, drop_at}
 use Rattle.std.proofs.lemmas.List.Folds.{drop_split}
 use Rattle.ere_syntax.specs.Tree.{Tree}
 use Rattle.awk_state.specs.FirstMatch.{longest, or_next, first_by}
-use Rattle.awk_state.specs.Fields.{Byte, Expression, behind, parted, end_or_newline, separators, between}
-use Rattle.text_laws.specs.Fields.{Separates, AreParted, last_field, one_field}
+use Rattle.awk_state.specs.Fields.{behind, parted, end_or_newline, separators, between}
+use Rattle.text_laws.specs.Fields.{IsByte, IsFullMatch, Separates, AreParted, last_field, one_field}
 use Rattle.text_laws.specs.Leftmost.{IsLeftmost, IsNone}
 use Rattle.text_laws.proofs.Leftmost.{same_leftmost, length_range, some_inj}
 use Rattle.text_laws.proofs.Longest.{IsEnd, end_is, separator_inside}
@@ -72,9 +72,9 @@ parted_by Is end text (suc n) at inside ends enough low =
         (one_field (slice_range text p.0 p.1) start stop f (go p.1 (omega (arith, above, within.0)) within.1))
 
 pub by_expression : (t : Tree) (newlines : Bool) (text : List ℕ)
-    → AreParted (Separates (Expression t) newlines text) 0 text (between text 0 (separators (λ at. end_or_newline newlines text at (longest t text at)) (length text) (length text) 0))
+    → AreParted (Separates (IsFullMatch t text) newlines text) 0 text (between text 0 (separators (λ at. end_or_newline newlines text at (longest t text at)) (length text) (length text) 0))
 by_expression t newlines text =
-    parted_by (Separates (Expression t) newlines text) (λ at. end_or_newline newlines text at (longest t text at)) text (length text) 0
+    parted_by (Separates (IsFullMatch t text) newlines text) (λ at. end_or_newline newlines text at (longest t text at)) text (length text) 0
     (separator_inside t newlines text) (end_is t newlines text) (omega arith) (omega arith)
 
 -- ---- bytes
@@ -82,12 +82,12 @@ by_expression t newlines text =
 abbrev marks : ℕ → Bool → ℕ → Bool
 marks b newlines c = (c == b) || (newlines && (c == 10))
 
-marked : (b : ℕ) (newlines : Bool) (text : List ℕ) (at c : ℕ) → slice_get text at ≡ Some c → marks b newlines c ≡ true → Separates (Byte b) newlines text at (at + 1)
+marked : (b : ℕ) (newlines : Bool) (text : List ℕ) (at c : ℕ) → slice_get text at ≡ Some c → marks b newlines c ≡ true → Separates (IsByte b text) newlines text at (at + 1)
 marked b newlines text at c here e = by (c == b) refl newlines refl (c == 10) refl e
   where
-    by : (x : Bool) → (c == b) ≡ x → (y : Bool) → newlines ≡ y → (z : Bool) → (c == 10) ≡ z → (x || (y && z)) ≡ true → Separates (Byte b) newlines text at (at + 1)
+    by : (x : Bool) → (c == b) ≡ x → (y : Bool) → newlines ≡ y → (z : Bool) → (c == 10) ≡ z → (x || (y && z)) ≡ true → Separates (IsByte b text) newlines text at (at + 1)
     by true ex y ey z ez h = inl (here ∙ ap (λ k. Some k) (eqb-true c b ex), refl)
-    by false ex true ey true ez h = inr (ey, here ∙ ap (λ k. Some k) (eqb-true c 10 ez), refl)
+    by false ex true ey true ez h = inr (ey, (here ∙ ap (λ k. Some k) (eqb-true c 10 ez), refl))
     by false ex true ey false ez h = absurd cc
     by false ex false ey z ez h = absurd cc
 
@@ -95,23 +95,23 @@ or_right : (x : Bool) → (x || true) ≡ true
 or_right true = refl
 or_right false = refl
 
-unmarked : (b : ℕ) (newlines : Bool) (text : List ℕ) (at c : ℕ) → slice_get text at ≡ Some c → marks b newlines c ≡ false → (j : ℕ) → Separates (Byte b) newlines text at j → ⊥
+unmarked : (b : ℕ) (newlines : Bool) (text : List ℕ) (at c : ℕ) → slice_get text at ≡ Some c → marks b newlines c ≡ false → (j : ℕ) → Separates (IsByte b text) newlines text at j → ⊥
 unmarked b newlines text at c here e j (inl s) =
     let same = eq-eqb c b (some_inj c b (sym here ∙ s.0)) in
     let held : marks b newlines c ≡ true = ap (λ x. x || (newlines && (c == 10))) same in
     absurd cc
 unmarked b newlines text at c here e j (inr n) =
-    let same = eq-eqb c 10 (some_inj c 10 (sym here ∙ n.1)) in
+    let same = eq-eqb c 10 (some_inj c 10 (sym here ∙ n.1.0)) in
     let held : marks b newlines c ≡ true = rw (n.0, same) (or_right (c == b)) in
     absurd cc
 
-one_byte_long : (b : ℕ) (newlines : Bool) (text : List ℕ) (i j : ℕ) → Separates (Byte b) newlines text i j → j ≡ i + 1
+one_byte_long : (b : ℕ) (newlines : Bool) (text : List ℕ) (i j : ℕ) → Separates (IsByte b text) newlines text i j → j ≡ i + 1
 one_byte_long b newlines text i j (inl s) = s.1
-one_byte_long b newlines text i j (inr n) = n.2
+one_byte_long b newlines text i j (inr n) = n.1.1
 
-some_byte : (b : ℕ) (newlines : Bool) (text : List ℕ) (i j : ℕ) → Separates (Byte b) newlines text i j → slice_get text i ≡ None → ⊥
+some_byte : (b : ℕ) (newlines : Bool) (text : List ℕ) (i j : ℕ) → Separates (IsByte b text) newlines text i j → slice_get text i ≡ None → ⊥
 some_byte b newlines text i j (inl s) e = let same = sym s.0 ∙ e in absurd cc
-some_byte b newlines text i j (inr n) e = let same = sym n.1 ∙ e in absurd cc
+some_byte b newlines text i j (inr n) e = let same = sym n.1.0 ∙ e in absurd cc
 
 longer_field : {Is : ℕ → ℕ → Type 0} {at : ℕ} {cs : List ℕ} {fields : List (List ℕ)} (c : ℕ) → ((j : ℕ) → Is at j → ⊥) → AreParted Is (at + 1) cs fields → AreParted Is at (c ∷ cs) (behind false c fields)
 longer_field c none (last_field h) = last_field (none_back none h)
@@ -119,7 +119,7 @@ longer_field {at} c none (one_field {start} {end} {field} separator e f s r) =
     let sum : start ≡ at + length (c ∷ field) = omega (arith, e) in
     one_field {field = c ∷ field} separator sum f (one_back none s) r
 
-by_byte_from : (b : ℕ) (newlines : Bool) (text : List ℕ) (at : ℕ) (cs : List ℕ) → ((k : ℕ) → slice_get text (k + at) ≡ slice_get cs k) → AreParted (Separates (Byte b) newlines text) at cs (parted (marks b newlines) cs)
+by_byte_from : (b : ℕ) (newlines : Bool) (text : List ℕ) (at : ℕ) (cs : List ℕ) → ((k : ℕ) → slice_get text (k + at) ≡ slice_get cs k) → AreParted (Separates (IsByte b text) newlines text) at cs (parted (marks b newlines) cs)
 by_byte_from b newlines text at [] same = last_field λ i j low s. some_byte b newlines text i j s (
     let sum : i - at + at ≡ i = omega (arith, low) in
     ap (slice_get text) (sym sum) ∙ same (i - at))
@@ -129,10 +129,10 @@ by_byte_from b newlines text at (c ∷ cs) same =
     here : slice_get text at ≡ Some c
     here = let sum : at ≡ 0 + at = omega arith in ap (slice_get text) sum ∙ same 0
 
-    by : (x : Bool) → marks b newlines c ≡ x → AreParted (Separates (Byte b) newlines text) (at + 1) cs (parted (marks b newlines) cs)
-        → AreParted (Separates (Byte b) newlines text) at (c ∷ cs) (behind x c (parted (marks b newlines) cs))
+    by : (x : Bool) → marks b newlines c ≡ x → AreParted (Separates (IsByte b text) newlines text) (at + 1) cs (parted (marks b newlines) cs)
+        → AreParted (Separates (IsByte b text) newlines text) at (c ∷ cs) (behind x c (parted (marks b newlines) cs))
     by true e r =
-        let s : IsLeftmost (Separates (Byte b) newlines text) at at (at + 1) = record {
+        let s : IsLeftmost (Separates (IsByte b text) newlines text) at at (at + 1) = record {
           above = omega arith;
           is = marked b newlines text at c here e;
           least = λ i j low s. low;
@@ -141,7 +141,7 @@ by_byte_from b newlines text at (c ∷ cs) same =
         one_field {field = []} (c ∷ []) (omega arith) (omega arith) s r
     by false e r = longer_field c (unmarked b newlines text at c here e) r
 
-pub by_byte : (b : ℕ) (newlines : Bool) (text : List ℕ) → AreParted (Separates (Byte b) newlines text) 0 text (parted (λ c. (c == b) || (newlines && (c == 10))) text)
+pub by_byte : (b : ℕ) (newlines : Bool) (text : List ℕ) → AreParted (Separates (IsByte b text) newlines text) 0 text (parted (λ c. (c == b) || (newlines && (c == 10))) text)
 by_byte b newlines text = by_byte_from b newlines text 0 text λ k. (let sum : k + 0 ≡ k = omega arith in ap (slice_get text) sum)
 
 -- ---- there are no others

@@ -13,7 +13,7 @@ use Rattle.text_laws.specs.Substitutions.{end_of, IsTaken, ArePlaces, no_more, n
 use Rattle.text_laws.specs.Leftmost.{IsLeftmost, IsNone}
 use Rattle.text_laws.proofs.Leftmost.{same_leftmost, some_inj}
 
--- ---- the test for an empty match directly behind the former one
+-- ---- the test for an empty match directly after the former one
 
 is_empty : (last : Option ℕ) (p : ℕ × ℕ) → is_empty_at last p ≡ true → (p.0 ≡ p.1) × (last ≡ Some p.0)
 is_empty None p e = by (p.0 == p.1) e
@@ -36,7 +36,7 @@ not_empty (Some m) p e l same =
     let z : is_empty_at (Some m) p ≡ true = rw (x, y) refl in
     false≢true (sym e ∙ z)
 
--- ---- behind a match
+-- ---- after a match
 
 behind_empty : (p : ℕ × ℕ) → p.0 ≡ p.1 → behind p ≡ p.1 + 1
 behind_empty p e = ap (λ b. if b then p.1 + 1 else p.1) (eq-eqb p.0 p.1 e)

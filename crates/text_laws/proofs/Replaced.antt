@@ -19,8 +19,8 @@ plainly matched c cs b = (if b then matched else c ∷ []) ++ replacement matche
 abbrev by_byte : List ℕ → ℕ → List ℕ → Bool → List ℕ
 by_byte matched c cs b = elim b [ true ↦ escaped matched cs | false ↦ plainly matched c cs (c == 38) ]
 
-abbrev behind_backslash : List ℕ → ℕ → List ℕ → Bool → List ℕ
-behind_backslash matched c cs b = (if b then [] else 92 ∷ []) ++ (c ∷ replacement matched cs)
+abbrev after_backslash : List ℕ → ℕ → List ℕ → Bool → List ℕ
+after_backslash matched c cs b = (if b then [] else 92 ∷ []) ++ (c ∷ replacement matched cs)
 
 differs : (a b : ℕ) → (a == b) ≡ false → a ≡ b → ⊥
 differs a b e same = let h : (a == b) ≡ true = eq-eqb a b same in absurd cc
@@ -36,7 +36,7 @@ plain_by : (matched : List ℕ) (c : ℕ) (cs : List ℕ) → (c == 92) ≡ fals
 plain_by matched c cs f d true e = match (eqb-true c 38 e) d
 plain_by matched c cs f d false e = byte (not_special c e f) d
 
-escaped_by : (matched : List ℕ) (c : ℕ) (cs : List ℕ) → StandsFor matched cs (replacement matched cs) → (x y : Bool) → (c == 38) ≡ x → (c == 92) ≡ y → StandsFor matched (92 ∷ c ∷ cs) (behind_backslash matched c cs (x || y))
+escaped_by : (matched : List ℕ) (c : ℕ) (cs : List ℕ) → StandsFor matched cs (replacement matched cs) → (x y : Bool) → (c == 38) ≡ x → (c == 92) ≡ y → StandsFor matched (92 ∷ c ∷ cs) (after_backslash matched c cs (x || y))
 escaped_by matched c cs d true y e f = is_escaped refl (inl (eqb-true c 38 e)) d
 escaped_by matched c cs d false true e f = is_escaped refl (inr (eqb-true c 92 f)) d
 escaped_by matched c cs d false false e f = backslash refl (not_special c e f) (byte (not_special c e f) d)
@@ -63,7 +63,7 @@ backslash_value matched [] h = refl
 backslash_value matched (c ∷ cs) h =
     let a : (c == 38) ≡ false = equal_not c 38 λ e. h (inl e) in
     let b : (c == 92) ≡ false = equal_not c 92 λ e. h (inr e) in
-    ap (λ x. behind_backslash matched c cs (x || (c == 92))) a ∙ ap (behind_backslash matched c cs) b ∙ ap (92 ∷◌) (sym (plain_value matched c cs h))
+    ap (λ x. after_backslash matched c cs (x || (c == 92))) a ∙ ap (after_backslash matched c cs) b ∙ ap (92 ∷◌) (sym (plain_value matched c cs h))
 
 escaped_value : (matched : List ℕ) (c : ℕ) (cs : List ℕ) → IsSpecial c → escaped matched (c ∷ cs) ≡ c ∷ replacement matched cs
 escaped_value matched c cs (inl e) = subst (λ x. escaped matched (x ∷ cs) ≡ x ∷ replacement matched cs) (sym e) refl
@@ -81,7 +81,7 @@ stands_value {matched} (byte {c} {cs} h d) = ap (c ∷◌) (stands_value d) ∙ 
 
 -- ---- texts
 
--- places one behind another, within a text of this length
+-- places one after another, within a text of this length
 abbrev InOrder : ℕ → ℕ → List (ℕ × ℕ) → Type 0
 InOrder size at [] = Unit {0}
 InOrder size at (p ∷ ps) = (at ≤ p.0) × (p.0 ≤ p.1) × (p.1 ≤ size) × InOrder size p.1 ps
@@ -114,11 +114,11 @@ pub becomes_replaced : (t : Tree) (text by : List ℕ) (all : Bool) → Becomes 
 becomes_replaced t text by all = becomes by text 0 (places_of t text all) (in_order t text all)
 
 -- a part of the rest, by its length
-part : (text front behind : List ℕ) (at end : ℕ) → front ++ behind ≡ drop at text → end ≡ at + length front → (slice_range text at end ≡ front) × (drop end text ≡ behind)
-part text front behind at end e size =
+part : (text front back : List ℕ) (at end : ℕ) → front ++ back ≡ drop at text → end ≡ at + length front → (slice_range text at end ≡ front) × (drop end text ≡ back)
+part text front back at end e size =
     let same : length front ≡ end - at = omega (arith, size) in (
-      ap (take (end - at)) (sym e) ∙ take_at front behind (end - at) same,
-      ap (λ n. drop n text) size ∙ sym (drop-drop (length front) at text) ∙ ap (drop (length front)) (sym e) ∙ drop_at front behind (length front) refl,
+      ap (take (end - at)) (sym e) ∙ take_at front back (end - at) same,
+      ap (λ n. drop n text) size ∙ sym (drop-drop (length front) at text) ∙ ap (drop (length front)) (sym e) ∙ drop_at front back (length front) refl,
     )
 
 pub becomes_value : {by old new : List ℕ} {at : ℕ} {ps : List (ℕ × ℕ)} (text : List ℕ) → Becomes by at ps old new → old ≡ drop at text → new ≡ replaced text by at ps

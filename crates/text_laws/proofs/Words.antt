@@ -17,7 +17,7 @@ blank_more : (c : ℕ) {cs : List ℕ} {fields : List (List ℕ)} → is_blank c
 blank_more c h (no_word b) = no_word (h, b)
 blank_more c h (word blanks b f e r) = word (c ∷ blanks) (h, b) f e r
 
--- the first piece runs up to a blank or the end; behind it stand the words of the others
+-- the first piece runs up to a blank or the end; after it stand the words of the others
 record IsFront (text piece : List ℕ) (pieces : List (List ℕ)) : Type 0 where
   rest : List ℕ
   parts : text ≡ piece ++ rest

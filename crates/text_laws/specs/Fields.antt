@@ -1,5 +1,6 @@
 -- The fields of a text as relations.
 use Rattle.std.specs.Prelude.{◌≡◌, ◌⊎◌, ℕ, ◌+◌, ◌<◌, Bool, true, false, List, [], ◌∷◌, ◌++◌, length, slice_get, Some}
+use Rattle.ere_syntax.specs.Tree.{Tree}
 use Rattle.ere_syntax.specs.Matches.{Matches}
 use Rattle.text_laws.specs.Leftmost.{IsLeftmost, IsNone}
 use Rattle.awk_state.specs.Fields.{Separator, Blanks, Nothing, Byte, Expression, is_blank}
@@ -31,17 +32,17 @@ pub data AreBytes : List ℕ → List (List ℕ) → Type 0 where
 
 -- A byte separates, or the matches of an expression that are not empty. In paragraph mode a newline separates as well.
 
-abbrev pub IsNewline : Bool → List ℕ → ℕ → ℕ → Type 0
-IsNewline newlines text i j = (newlines ≡ true) × (slice_get text i ≡ Some 10) × (j ≡ i + 1)
+abbrev pub IsByte : ℕ → List ℕ → ℕ → ℕ → Type 0
+IsByte b text i j = (slice_get text i ≡ Some b) × (j ≡ i + 1)
 
--- this separator, or a newline, stands from i to j
-abbrev pub Separates : Separator → Bool → List ℕ → ℕ → ℕ → Type 0
-Separates Blanks newlines text i j = ⊥
-Separates Nothing newlines text i j = ⊥
-Separates (Byte b) newlines text i j = ((slice_get text i ≡ Some b) × (j ≡ i + 1)) ⊎ IsNewline newlines text i j
-Separates (Expression t) newlines text i j = (Matches t text i j × (i < j)) ⊎ IsNewline newlines text i j
+abbrev pub IsFullMatch : Tree → List ℕ → ℕ → ℕ → Type 0
+IsFullMatch t text i j = Matches t text i j × (i < j)
 
--- the rest of a text, from a place of the whole on: fields and separators in turn, each separator the leftmost behind the one before, and
+-- what separates, or a newline
+abbrev pub Separates : (ℕ → ℕ → Type 0) → Bool → List ℕ → ℕ → ℕ → Type 0
+Separates Is newlines text i j = Is i j ⊎ ((newlines ≡ true) × IsByte 10 text i j)
+
+-- the rest of a text, from a place of the whole on: fields and separators in turn, each separator the leftmost after the one before, and
 -- the longest there
 pub data AreParted (Is : ℕ → ℕ → Type 0) : ℕ → List ℕ → List (List ℕ) → Type 0 where
   last_field : {at : ℕ} {field : List ℕ} → IsNone Is at → AreParted Is at field (field ∷ [])
@@ -54,4 +55,5 @@ abbrev pub AreFields : Separator → Bool → List ℕ → List (List ℕ) → T
 AreFields separator newlines [] fields = fields ≡ []
 AreFields Blanks newlines (c ∷ cs) fields = AreWords (c ∷ cs) fields
 AreFields Nothing newlines (c ∷ cs) fields = AreBytes (c ∷ cs) fields
-AreFields separator newlines (c ∷ cs) fields = AreParted (Separates separator newlines (c ∷ cs)) 0 (c ∷ cs) fields
+AreFields (Byte b) newlines (c ∷ cs) fields = AreParted (Separates (IsByte b (c ∷ cs)) newlines (c ∷ cs)) 0 (c ∷ cs) fields
+AreFields (Expression t) newlines (c ∷ cs) fields = AreParted (Separates (IsFullMatch t (c ∷ cs)) newlines (c ∷ cs)) 0 (c ∷ cs) fields

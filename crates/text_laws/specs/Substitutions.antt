@@ -9,11 +9,11 @@ abbrev pub end_of : Option ℕ → ℕ
 end_of None = 0
 end_of (Some end) = end
 
--- a match that is taken: an empty one does not stand directly behind the former match
+-- a match that is taken: an empty one does not stand directly after the former match
 abbrev pub IsTaken : Tree → List ℕ → Option ℕ → ℕ → ℕ → Type 0
 IsTaken t text former i j = Matches t text i j × (former ≡ Some i → i < j)
 
--- the places of a gsub, behind a former match that ends so: the leftmost match that is taken, of these the longest; then the others
+-- the places of a gsub, after a former match that ends so: the leftmost match that is taken, of these the longest; then the others
 pub data ArePlaces (t : Tree) (text : List ℕ) : Option ℕ → List (ℕ × ℕ) → Type 0 where
   no_more : {former : Option ℕ} → IsNone (IsTaken t text former) (end_of former) → ArePlaces t text former []
   next : {former : Option ℕ} {p : ℕ × ℕ} {ps : List (ℕ × ℕ)} → IsLeftmost (IsTaken t text former) (end_of former) p.0 p.1 → ArePlaces t text (Some p.1) ps → ArePlaces t text former (p ∷ ps)
@@ -46,7 +46,7 @@ pub data StandsFor (matched : List ℕ) : List ℕ → List ℕ → Type 0 where
 
 -- the rest of a text, from a place of the whole on, and what it becomes where the matches at such places are replaced
 pub data Becomes (by : List ℕ) : ℕ → List (ℕ × ℕ) → List ℕ → List ℕ → Type 0 where
-  -- behind the last match the text is kept
+  -- after the last match the text is kept
   rest : {at : ℕ} {text : List ℕ} → Becomes by at [] text text
   -- before a match the text is kept, and the replacement stands for the match
   replace : {at : ℕ} {p : ℕ × ℕ} {ps : List (ℕ × ℕ)} {put old new : List ℕ} (kept matched : List ℕ) →

@@ -7,7 +7,7 @@ ghost use Rattle.awk_state.specs.Fields.{Separator, separator_of, pieces_of, fie
 ghost use Rattle.text_laws.specs.Substitutions.{ArePlaces, IsPlace, StandsFor, Becomes};
 ghost use Rattle.text_laws.specs.Fields.{AreFields};
 
-/// The places of gsub are the matches from left to right, each the first behind the one before, without an empty one directly behind it; the place of
+/// The places of gsub are the matches from left to right, each the first after the one before, without an empty one directly after it; the place of
 /// sub is the first match.
 pub fn places_are_matches()
     ensures all { (t : Tree) (text : List ℕ) (ps : List (ℕ × ℕ)) → ArePlaces t text None ps ↔ (ps ≡ places_of t text true) }
