@@ -2,4 +2,3 @@ pub mod Ends
 pub mod Expressions
 pub mod Statements
 pub mod Scripts
-pub mod Rows
