@@ -1,192 +1,132 @@
 -- What the end of a tree takes, and what it ends in.
-use Rattle.std.proofs.Common.{◌≡◌, Bool, true, false, ◌||◌, List, [], ◌∷◌, ◌++◌, refl, sym, ap, subst, append_assoc}
+use Rattle.std.proofs.Common.{◌≡◌, ℕ, Bool, true, false, ◌||◌, ◌&&◌, List, [], ◌∷◌, ◌++◌, refl, sym, subst, append_assoc}
 use Rattle.std.proofs.lemmas.List.{append-nil}
 use Rattle.awk_grammar.specs.Token.{Not, Signed, Less, LessEqual, Equal, NotEqual, Greater, GreaterEqual, Comparison, Compare, Token, Lit, Name, FuncName, Word, GetlineWord, Dollar, Open, SignMark, NotMark, StepMark, Infix}
-use Rattle.awk_grammar.specs.Tree.{Tree, Leaf, Length, Var, Index, Field, Group, Call, Apply, Unary, Pre, Post, Bin, Has, HasList, Cond, Get, GetInto, GetFrom, GetIntoFrom, print, op_tokens, Opens, StartsLValue, IsLess, Steps, Free, class_at, takes, StartsOperand, allowed}
+use Rattle.awk_grammar.specs.Tree.{Tree, Leaf, Length, Var, Index, Field, Group, Call, Apply, Unary, Pre, Post, Bin, Has, HasList, Cond, Get, GetInto, GetFrom, GetIntoFrom, print, op_tokens, Class, Opens, OpensIndex, StartsLValue, IsLess, Steps, Free, is_opens, is_index, is_start, is_less, is_steps, class_at, takes, StartsOperand, allowed}
 use Rattle.awk_productions.specs.Ends.{EndsIn, whole, in_field, in_unary, in_step, in_right, in_choice, in_variable, in_source, in_last_source, IsBareLength, IsBareGetline, IsSourceless, IsVariable, BeginsWithSign, BeginsWithStep, BeginsWithOpen, BeginsVariable, MayJoin, MayCompare}
 
-or_no : (b : Bool) → b ≡ false → (b || false) ≡ false
-or_no b e = ap (◌|| false) e
+-- ---- what the end of a tree takes
 
-or_yes : (b : Bool) → (b || true) ≡ true
-or_yes true = refl
-or_yes false = refl
+-- the trees that take a token of this class
+abbrev TakenBy : Class → Tree → Type 0
+TakenBy Opens t = IsBareLength t
+TakenBy OpensIndex (Var n) = Unit {0}
+TakenBy OpensIndex t = ⊥
+TakenBy StartsLValue t = IsBareGetline t
+TakenBy IsLess t = IsSourceless t
+TakenBy Steps t = IsVariable t
+TakenBy Free t = ⊥
 
-left_no : (b c : Bool) → (b || c) ≡ false → b ≡ false
-left_no true c e = absurd cc
-left_no false c e = refl
+or_no : (a b : Bool) → a ≡ false → b ≡ false → (a || b) ≡ false
+or_no a b e f = rw (e, f) refl
+
+or_left : (a b : Bool) → a ≡ true → (a || b) ≡ true
+or_left a b e = rw e refl
+
+or_right : (a b : Bool) → b ≡ true → (a || b) ≡ true
+or_right true b e = refl
+or_right false b e = e
+
+no_length : (c : Class) → (TakenBy c Length → ⊥) → is_opens c ≡ false
+no_length Opens h = absurd (h tt)
+no_length c h = refl
+
+no_name : (n : Bool) (x : List ℕ) (c : Class) → (TakenBy c (Var x) → ⊥) → (is_index c || (is_steps c && n)) ≡ false
+no_name n x OpensIndex h = absurd (h tt)
+no_name n x Steps h = absurd (h tt)
+no_name n x c h = refl
+
+no_variable_step : (n : Bool) (t : Tree) (c : Class) → IsVariable t → (TakenBy c t → ⊥) → (is_steps c && n) ≡ false
+no_variable_step n t Steps v h = absurd (h v)
+no_variable_step n t c v h = refl
+
+no_getline : (c : Class) → (TakenBy c Get → ⊥) → (is_start c || is_less c) ≡ false
+no_getline StartsLValue h = absurd (h tt)
+no_getline IsLess h = absurd (h tt)
+no_getline c h = refl
+
+no_source : (v : Tree) (c : Class) → (TakenBy c (GetInto v) → ⊥) → is_less c ≡ false
+no_source v IsLess h = absurd (h tt)
+no_source v c h = refl
+
+untaken : (n : Bool) (c : Class) (t : Tree) → (EndsIn (TakenBy c) t → ⊥) → takes n t c ≡ false
+untaken n c (Leaf x) h = refl
+untaken n c Length h = no_length c λ k. h (whole k)
+untaken n c (Var x) h = no_name n x c λ k. h (whole k)
+untaken n c (Index x ts) h = no_variable_step n (Index x ts) c tt λ k. h (whole k)
+untaken n c (Field t) h = or_no (takes false t c) (is_steps c && n) (untaken false c t λ e. h (in_field e)) (no_variable_step n (Field t) c tt λ k. h (whole k))
+untaken n c (Group t) h = refl
+untaken n c (Call f ts) h = refl
+untaken n c (Apply f ts) h = refl
+untaken n c (Unary p t) h = untaken n c t λ e. h (in_unary e)
+untaken n c (Pre s t) h = untaken n c t λ e. h (in_step e)
+untaken n c (Post s t) h = refl
+untaken n c (Bin op a b) h = untaken n c b λ e. h (in_right e)
+untaken n c (Has a x) h = refl
+untaken n c (HasList t ts x) h = refl
+untaken n c (Cond a b d) h = untaken n c d λ e. h (in_choice e)
+untaken n c Get h = no_getline c λ k. h (whole k)
+untaken n c (GetInto v) h = or_no (takes n v c) (is_less c) (untaken n c v λ e. h (in_variable e)) (no_source v c λ k. h (whole k))
+untaken n c (GetFrom s) h = untaken n c s λ e. h (in_source e)
+untaken n c (GetIntoFrom v s) h = untaken n c s λ e. h (in_last_source e)
 
 -- nothing takes what is free
+never_free : {t : Tree} → EndsIn (TakenBy Free) t → ⊥
+never_free (whole k) = k
+never_free (in_field e) = never_free e
+never_free (in_unary e) = never_free e
+never_free (in_step e) = never_free e
+never_free (in_right e) = never_free e
+never_free (in_choice e) = never_free e
+never_free (in_variable e) = never_free e
+never_free (in_source e) = never_free e
+never_free (in_last_source e) = never_free e
+
 pub takes_free : (n : Bool) (t : Tree) → takes n t Free ≡ false
-takes_free n (Leaf x) = refl
-takes_free n Length = refl
-takes_free n (Var x) = refl
-takes_free n (Index x ts) = refl
-takes_free n (Field t) = or_no (takes false t Free) (takes_free false t)
-takes_free n (Group t) = refl
-takes_free n (Call f ts) = refl
-takes_free n (Apply f ts) = refl
-takes_free n (Unary p t) = takes_free n t
-takes_free n (Pre s t) = takes_free n t
-takes_free n (Post s t) = refl
-takes_free n (Bin op a b) = takes_free n b
-takes_free n (Has a x) = refl
-takes_free n (HasList t ts x) = refl
-takes_free n (Cond a b c) = takes_free n c
-takes_free n Get = refl
-takes_free n (GetInto v) = or_no (takes n v Free) (takes_free n v)
-takes_free n (GetFrom s) = takes_free n s
-takes_free n (GetIntoFrom v s) = takes_free n s
+takes_free n t = untaken n Free t never_free
 
-takes_open : (n : Bool) (t : Tree) → (EndsIn IsBareLength t → ⊥) → takes n t Opens ≡ false
-takes_open n (Leaf x) h = refl
-takes_open n Length h = absurd (h (whole tt))
-takes_open n (Var x) h = refl
-takes_open n (Index x ts) h = refl
-takes_open n (Field t) h = or_no (takes false t Opens) (takes_open false t λ e. h (in_field e))
-takes_open n (Group t) h = refl
-takes_open n (Call f ts) h = refl
-takes_open n (Apply f ts) h = refl
-takes_open n (Unary p t) h = takes_open n t λ e. h (in_unary e)
-takes_open n (Pre s t) h = takes_open n t λ e. h (in_step e)
-takes_open n (Post s t) h = refl
-takes_open n (Bin op a b) h = takes_open n b λ e. h (in_right e)
-takes_open n (Has a x) h = refl
-takes_open n (HasList t ts x) h = refl
-takes_open n (Cond a b c) h = takes_open n c λ e. h (in_choice e)
-takes_open n Get h = refl
-takes_open n (GetInto v) h = or_no (takes n v Opens) (takes_open n v λ e. h (in_variable e))
-takes_open n (GetFrom s) h = takes_open n s λ e. h (in_source e)
-takes_open n (GetIntoFrom v s) h = takes_open n s λ e. h (in_last_source e)
+-- whether steps, if it is one, are taken
+abbrev Counts : Bool → Class → Type 0
+Counts n Steps = n ≡ true
+Counts n c = Unit {0}
 
-ends_open : (n : Bool) {t : Tree} → EndsIn IsBareLength t → takes n t Opens ≡ true
-ends_open n (whole {t} i) = by t i
-  where
-    by : (t : Tree) → IsBareLength t → takes n t Opens ≡ true
-    by Length i = refl
-    by t i = absurd i
-ends_open n (in_field e) = ap (◌|| false) (ends_open false e)
-ends_open n (in_unary e) = ends_open n e
-ends_open n (in_step e) = ends_open n e
-ends_open n (in_right e) = ends_open n e
-ends_open n (in_choice e) = ends_open n e
-ends_open n (in_variable e) = ap (◌|| false) (ends_open n e)
-ends_open n (in_source e) = ends_open n e
-ends_open n (in_last_source e) = ends_open n e
+own : (n : Bool) (c : Class) (t : Tree) → Counts n c → TakenBy c t → takes n t c ≡ true
+own n Opens Length k h = refl
+own n Opens t k h = absurd h
+own n OpensIndex (Var x) k h = refl
+own n OpensIndex t k h = absurd h
+own n StartsLValue Get k h = refl
+own n StartsLValue t k h = absurd h
+own n IsLess Get k h = refl
+own n IsLess (GetInto v) k h = or_right (takes n v IsLess) true refl
+own n IsLess t k h = absurd h
+own n Steps (Var x) k h = k
+own n Steps (Index x ts) k h = k
+own n Steps (Field t) k h = or_right (takes false t Steps) n k
+own n Steps t k h = absurd h
+own n Free t k h = absurd h
 
-takes_start : (n : Bool) (t : Tree) → (EndsIn IsBareGetline t → ⊥) → takes n t StartsLValue ≡ false
-takes_start n (Leaf x) h = refl
-takes_start n Length h = refl
-takes_start n (Var x) h = refl
-takes_start n (Index x ts) h = refl
-takes_start n (Field t) h = or_no (takes false t StartsLValue) (takes_start false t λ e. h (in_field e))
-takes_start n (Group t) h = refl
-takes_start n (Call f ts) h = refl
-takes_start n (Apply f ts) h = refl
-takes_start n (Unary p t) h = takes_start n t λ e. h (in_unary e)
-takes_start n (Pre s t) h = takes_start n t λ e. h (in_step e)
-takes_start n (Post s t) h = refl
-takes_start n (Bin op a b) h = takes_start n b λ e. h (in_right e)
-takes_start n (Has a x) h = refl
-takes_start n (HasList t ts x) h = refl
-takes_start n (Cond a b c) h = takes_start n c λ e. h (in_choice e)
-takes_start n Get h = absurd (h (whole tt))
-takes_start n (GetInto v) h = or_no (takes n v StartsLValue) (takes_start n v λ e. h (in_variable e))
-takes_start n (GetFrom s) h = takes_start n s λ e. h (in_source e)
-takes_start n (GetIntoFrom v s) h = takes_start n s λ e. h (in_last_source e)
+after_dollar : (n : Bool) (c : Class) (b : Bool) → Counts n c → (Counts false c → b ≡ true) → (b || (is_steps c && n)) ≡ true
+after_dollar n Steps b k h = or_right b n k
+after_dollar n Opens b k h = or_left b false (h tt)
+after_dollar n OpensIndex b k h = or_left b false (h tt)
+after_dollar n StartsLValue b k h = or_left b false (h tt)
+after_dollar n IsLess b k h = or_left b false (h tt)
+after_dollar n Free b k h = or_left b false (h tt)
 
-ends_start : (n : Bool) {t : Tree} → EndsIn IsBareGetline t → takes n t StartsLValue ≡ true
-ends_start n (whole {t} i) = by t i
-  where
-    by : (t : Tree) → IsBareGetline t → takes n t StartsLValue ≡ true
-    by Get i = refl
-    by t i = absurd i
-ends_start n (in_field e) = ap (◌|| false) (ends_start false e)
-ends_start n (in_unary e) = ends_start n e
-ends_start n (in_step e) = ends_start n e
-ends_start n (in_right e) = ends_start n e
-ends_start n (in_choice e) = ends_start n e
-ends_start n (in_variable e) = ap (◌|| false) (ends_start n e)
-ends_start n (in_source e) = ends_start n e
-ends_start n (in_last_source e) = ends_start n e
-
-takes_less : (n : Bool) (t : Tree) → (EndsIn IsSourceless t → ⊥) → takes n t IsLess ≡ false
-takes_less n (Leaf x) h = refl
-takes_less n Length h = refl
-takes_less n (Var x) h = refl
-takes_less n (Index x ts) h = refl
-takes_less n (Field t) h = or_no (takes false t IsLess) (takes_less false t λ e. h (in_field e))
-takes_less n (Group t) h = refl
-takes_less n (Call f ts) h = refl
-takes_less n (Apply f ts) h = refl
-takes_less n (Unary p t) h = takes_less n t λ e. h (in_unary e)
-takes_less n (Pre s t) h = takes_less n t λ e. h (in_step e)
-takes_less n (Post s t) h = refl
-takes_less n (Bin op a b) h = takes_less n b λ e. h (in_right e)
-takes_less n (Has a x) h = refl
-takes_less n (HasList t ts x) h = refl
-takes_less n (Cond a b c) h = takes_less n c λ e. h (in_choice e)
-takes_less n Get h = absurd (h (whole tt))
-takes_less n (GetInto v) h = absurd (h (whole tt))
-takes_less n (GetFrom s) h = takes_less n s λ e. h (in_source e)
-takes_less n (GetIntoFrom v s) h = takes_less n s λ e. h (in_last_source e)
-
-ends_less : (n : Bool) {t : Tree} → EndsIn IsSourceless t → takes n t IsLess ≡ true
-ends_less n (whole {t} i) = by t i
-  where
-    by : (t : Tree) → IsSourceless t → takes n t IsLess ≡ true
-    by Get i = refl
-    by (GetInto v) i = or_yes (takes n v IsLess)
-    by t i = absurd i
-ends_less n (in_field e) = ap (◌|| false) (ends_less false e)
-ends_less n (in_unary e) = ends_less n e
-ends_less n (in_step e) = ends_less n e
-ends_less n (in_right e) = ends_less n e
-ends_less n (in_choice e) = ends_less n e
-ends_less n (in_variable {v} e) = or_yes (takes n v IsLess)
-ends_less n (in_source e) = ends_less n e
-ends_less n (in_last_source e) = ends_less n e
-
-takes_step : (t : Tree) → (EndsIn IsVariable t → ⊥) → takes true t Steps ≡ false
-takes_step (Leaf x) h = refl
-takes_step Length h = refl
-takes_step (Var x) h = absurd (h (whole tt))
-takes_step (Index x ts) h = absurd (h (whole tt))
-takes_step (Field t) h = absurd (h (whole tt))
-takes_step (Group t) h = refl
-takes_step (Call f ts) h = refl
-takes_step (Apply f ts) h = refl
-takes_step (Unary p t) h = takes_step t λ e. h (in_unary e)
-takes_step (Pre s t) h = takes_step t λ e. h (in_step e)
-takes_step (Post s t) h = refl
-takes_step (Bin op a b) h = takes_step b λ e. h (in_right e)
-takes_step (Has a x) h = refl
-takes_step (HasList t ts x) h = refl
-takes_step (Cond a b c) h = takes_step c λ e. h (in_choice e)
-takes_step Get h = refl
-takes_step (GetInto v) h = or_no (takes true v Steps) (takes_step v λ e. h (in_variable e))
-takes_step (GetFrom s) h = takes_step s λ e. h (in_source e)
-takes_step (GetIntoFrom v s) h = takes_step s λ e. h (in_last_source e)
-
-ends_step : {t : Tree} → EndsIn IsVariable t → takes true t Steps ≡ true
-ends_step (whole {t} i) = by t i
-  where
-    by : (t : Tree) → IsVariable t → takes true t Steps ≡ true
-    by (Var x) i = refl
-    by (Index x ts) i = refl
-    by (Field t) i = or_yes (takes false t Steps)
-    by t i = absurd i
-ends_step (in_field {t} e) = or_yes (takes false t Steps)
-ends_step (in_unary e) = ends_step e
-ends_step (in_step e) = ends_step e
-ends_step (in_right e) = ends_step e
-ends_step (in_choice e) = ends_step e
-ends_step (in_variable e) = ap (◌|| false) (ends_step e)
-ends_step (in_source e) = ends_step e
-ends_step (in_last_source e) = ends_step e
+taken : (c : Class) (n : Bool) {t : Tree} → Counts n c → EndsIn (TakenBy c) t → takes n t c ≡ true
+taken c n k (whole {t} h) = own n c t k h
+taken c n k (in_field {t} e) = after_dollar n c (takes false t c) k λ f. taken c false f e
+taken c n k (in_unary e) = taken c n k e
+taken c n k (in_step e) = taken c n k e
+taken c n k (in_right e) = taken c n k e
+taken c n k (in_choice e) = taken c n k e
+taken c n k (in_variable {v} e) = or_left (takes n v c) (is_less c) (taken c n k e)
+taken c n k (in_source e) = taken c n k e
+taken c n k (in_last_source e) = taken c n k e
 
 pub not_both : {b : Bool} → b ≡ true → b ≡ false → ⊥
-not_both e f = absurd (cc)
+not_both e f = absurd cc
 
 -- ---- operands side by side
 
@@ -224,14 +164,14 @@ starts t h = (subst IsBegun (append-nil (print t)) (begun t [])).starts h
 
 pub joined_takes : (a : Tree) (ts : List Token) → StartsOperand ts → MayJoin a ts → takes true a (class_at ts) ≡ false
 joined_takes a (Lit c ∷ ts) h j = takes_free true a
-joined_takes a (Name n ∷ ts) h j = takes_start true a (j.no_variable tt)
+joined_takes a (Name n ∷ ts) h j = untaken true StartsLValue a (j.no_variable tt)
 joined_takes a (FuncName n ∷ ts) h j = takes_free true a
 joined_takes a (Word f ∷ ts) h j = takes_free true a
 joined_takes a (GetlineWord ∷ ts) h j = takes_free true a
-joined_takes a (Dollar ∷ ts) h j = takes_start true a (j.no_variable tt)
-joined_takes a (Open ∷ ts) h j = takes_open true a (j.no_call tt)
+joined_takes a (Dollar ∷ ts) h j = untaken true StartsLValue a (j.no_variable tt)
+joined_takes a (Open ∷ ts) h j = untaken true Opens a (j.no_call tt)
 joined_takes a (NotMark ∷ ts) h j = takes_free true a
-joined_takes a (StepMark s ∷ ts) h j = takes_step a (j.no_step tt)
+joined_takes a (StepMark s ∷ ts) h j = untaken true Steps a (j.no_step tt)
 joined_takes a ts h j = absurd h
 
 no_sign : (ts : List Token) → StartsOperand ts → BeginsWithSign ts → ⊥
@@ -239,16 +179,16 @@ no_sign (SignMark s ∷ ts) h b = h
 no_sign ts h b = absurd b
 
 no_step : (a : Tree) (ts : List Token) → takes true a (class_at ts) ≡ false → BeginsWithStep ts → EndsIn IsVariable a → ⊥
-no_step a (StepMark s ∷ ts) h b e = not_both (ends_step e) h
+no_step a (StepMark s ∷ ts) h b e = not_both (taken Steps true refl e) h
 no_step a ts h b e = absurd b
 
 no_call : (a : Tree) (ts : List Token) → takes true a (class_at ts) ≡ false → BeginsWithOpen ts → EndsIn IsBareLength a → ⊥
-no_call a (Open ∷ ts) h b e = not_both (ends_open true e) h
+no_call a (Open ∷ ts) h b e = not_both (taken Opens true tt e) h
 no_call a ts h b e = absurd b
 
 no_variable : (a : Tree) (ts : List Token) → takes true a (class_at ts) ≡ false → BeginsVariable ts → EndsIn IsBareGetline a → ⊥
-no_variable a (Name n ∷ ts) h b e = not_both (ends_start true e) h
-no_variable a (Dollar ∷ ts) h b e = not_both (ends_start true e) h
+no_variable a (Name n ∷ ts) h b e = not_both (taken StartsLValue true tt e) h
+no_variable a (Dollar ∷ ts) h b e = not_both (taken StartsLValue true tt e) h
 no_variable a ts h b e = absurd b
 
 pub may_join : (a : Tree) (ts : List Token) → StartsOperand ts → takes true a (class_at ts) ≡ false → MayJoin a ts
@@ -257,7 +197,7 @@ may_join a ts s h = record { no_sign = no_sign ts s; no_step = no_step a ts h; n
 -- ---- comparisons
 
 pub compared_takes : (g : Bool) (c : Comparison) (a : Tree) (ts : List Token) → MayCompare g c a → takes true a (class_at (Infix (Compare c) ∷ ts)) ≡ false
-compared_takes g Less a ts h = takes_less true a h
+compared_takes g Less a ts h = untaken true IsLess a h
 compared_takes g LessEqual a ts h = takes_free true a
 compared_takes g Equal a ts h = takes_free true a
 compared_takes g NotEqual a ts h = takes_free true a
@@ -273,7 +213,7 @@ compared_allowed g Greater a h = h
 compared_allowed g GreaterEqual a h = refl
 
 pub may_compare : (g : Bool) (c : Comparison) (a : Tree) (ts : List Token) → takes true a (class_at (Infix (Compare c) ∷ ts)) ≡ false → allowed g (Compare c) ≡ true → MayCompare g c a
-may_compare g Less a ts h k = λ e. not_both (ends_less true e) h
+may_compare g Less a ts h k = λ e. not_both (taken IsLess true tt e) h
 may_compare g LessEqual a ts h k = tt
 may_compare g Equal a ts h k = tt
 may_compare g NotEqual a ts h k = tt

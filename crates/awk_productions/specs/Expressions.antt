@@ -8,26 +8,35 @@ use Rattle.awk_tokens.specs.declared.words.Builtin.TheVariants as function
 use Rattle.awk_grammar.specs.Tree.{Join, Add, Other, Tree, Leaf, Length, Var, Index, Field, Group, Call, Apply, Unary, Pre, Post, Bin, Has, HasList, Cond, Get, GetInto, GetFrom, GetIntoFrom, Trees, NoTree, Then, prefix_token}
 use Rattle.awk_productions.specs.Ends.{IsVariable, MayJoin, MayCompare}
 
+-- From the loosest to the tightest. A TailExpr ends in an assignment, which so may stand without parentheses at the end of `||` and `&&`.
 pub data Nonterminal : Type 0 where
   Expr : Nonterminal
-  CondExpr : Nonterminal
   TailExpr : Nonterminal
   AssignExpr : Nonterminal
+  -- `? :`
+  CondExpr : Nonterminal
   OrExpr : Nonterminal
   AndExpr : Nonterminal
+  -- `in`
   InExpr : Nonterminal
+  -- `~`
   MatchExpr : Nonterminal
   CompareExpr : Nonterminal
+  -- operands side by side
   ConcatExpr : Nonterminal
   AddExpr : Nonterminal
   MulExpr : Nonterminal
   UnaryExpr : Nonterminal
   PowerExpr : Nonterminal
   Exponent : Nonterminal
+  -- `++` and `--`
   PostfixExpr : Nonterminal
+  -- getline
   PrimaryExpr : Nonterminal
+  -- what may stand after `getline <`
   SimpleExpr : Nonterminal
   LValue : Nonterminal
+  -- what may stand after `$`
   FieldOperand : Nonterminal
 
 -- the arguments that a function of the language takes
