@@ -59,6 +59,7 @@ module _ (x : Scalar) (g : ℕ) (texts : List (List ℕ)) (scope : Scope) where
 
   mutual
     unfolding step_code steps_code
+
     step_fit : (s : Stmt) → Ok (stmt_stores g scope s) → StepFits (step_code texts scope s)
     step_fit (stmt.Block ss) h = steps_fit ss h
     step_fit stmt.Empty h = tt
@@ -177,10 +178,14 @@ module _ (x : Scalar) (script : Resolved) where
       let none = functions_length script.functions in
       let functions = functions_stores script 0 script.functions in
       let items = items_stores none (top script) script.items in
-      let own = second x functions items h in
-      (routines_fit 0 script.functions (first x functions items h),
-      subst (λ (n : ℕ). Every (CodeFits x n) (steps_stores (fold (program_of script)).begin) × (Every (CodeFits x n) (steps_stores (fold (program_of script)).items) × Every (CodeFits x n) (steps_stores (fold (program_of script)).end)))
-      (sym (counted script.functions))
-      (folded_fit none (begin_code texts (top script) script.items) (begin_fit x none texts (top script) script.items own),
-      (folded_fit none (items_code texts (top script) 0 script.items) (items_fit x none texts (top script) 0 script.items own),
-      folded_fit none (end_code texts (top script) script.items) (end_fit x none texts (top script) script.items own))))
+      let own = second x functions items h in (
+        routines_fit 0 script.functions (first x functions items h),
+        subst (λ (n : ℕ). Every (CodeFits x n) (steps_stores (fold (program_of script)).begin) × (Every (CodeFits x n) (steps_stores (fold (program_of script)).items) × Every (CodeFits x n) (steps_stores (fold (program_of script)).end)))
+            (sym (counted script.functions)) (
+              folded_fit none (begin_code texts (top script) script.items) (begin_fit x none texts (top script) script.items own),
+              (
+                folded_fit none (items_code texts (top script) 0 script.items) (items_fit x none texts (top script) 0 script.items own),
+                folded_fit none (end_code texts (top script) script.items) (end_fit x none texts (top script) script.items own),
+              ),
+            ),
+      )
