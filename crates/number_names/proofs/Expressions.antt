@@ -1,5 +1,5 @@
 -- What the code of an expression stores is what the script stores there: if of a scalar the one is numbers, so is the other.
-use Rattle.std.proofs.Common.{◌≡◌, ℕ, zero, suc, Bool, true, false, List, [], ◌∷◌, ◌++◌, Option, Some, None, refl, ap}
+use Rattle.std.proofs.Common.{◌≡◌, ℕ, suc, Bool, true, false, List, [], ◌∷◌, ◌++◌, refl, ap}
 use Rattle.std.specs.Prelude.{if◌then◌else◌}
 use Rattle.std.specs.List.{AllByRecursion as Each}
 use Rattle.awk_state.specs.declared.table.Primitive.TheVariants as row
@@ -9,14 +9,14 @@ use Rattle.awk_grammar.specs.Token.{And, Assign, Compare, Differs, Ere, Match, M
 use Rattle.awk_grammar.specs.Token as token
 use Rattle.awk_grammar.specs.Tree.{Add, Apply, Bin, Call, Cond, Field, Get, GetFrom, GetInto, GetIntoFrom, Group, Has, HasList, Index, Join, Leaf, Length, NoTree, Other, Post, Pre, Then, Tree, Trees, Unary, Var}
 use Rattle.mid_program.specs.declared.mid.Operation.{Operation}
-use Rattle.mid_program.specs.declared.mid.Operation.TheVariants.{AsNumber, Host}
+use Rattle.mid_program.specs.declared.mid.Operation.TheVariants.{Host}
 use Rattle.mid_program.specs.Mid.{Answered, AskLine, Code, Codes, Do, FileLine, Form, Let, Perhaps, a_number, a_value, answer_by, form_of}
 use Rattle.mid_program.specs.Mid as mid
 use Rattle.mid_program.specs.Names.{Name, Reserved, Scope, Variable, array_of, function_at, function_number, is_array, variable_of}
 use Rattle.mid_program.specs.Names as names
 use Rattle.mid_program.specs.Sorted as sorted
 use Rattle.mid_program.specs.Steps.{ere_in}
-use Rattle.mid_program.specs.Translation.{ElementTarget, FieldTarget, NameTarget, Target, applied_code, argument_codes, assigned_at, code_of, codes_of, copied, ere_code, fresh_codes, given_code, host, keeping, kept_code, key_code, moved, one, one_code, passed_code, product_of, read_at, received_at, record_code, replacing_code, sign_of, step_after_at, step_of, stepped_at, store_at, stored_at, substituted_at, target_in, truncated_code, truth_code, two, updated_at, variable_code, zero_code}
+use Rattle.mid_program.specs.Translation.{ElementTarget, FieldTarget, NameTarget, Target, applied_code, argument_codes, code_of, codes_of, ere_code, fresh_codes, given_code, keeping, kept_code, key_code, moved, one_code, passed_code, product_of, read_at, received_at, sign_of, step_after_at, step_of, stepped_at, store_at, stored_at, substituted_at, target_in, truncated_code, two, updated_at, variable_code, zero_code}
 use Rattle.mid_rewriting.specs.Stores.{Every, Given, Into, stores_given, stores_in}
 use Rattle.mid_rewriting.specs.Stores as code
 use Rattle.value_kinds.specs.Lanes.{is_plain}
@@ -82,7 +82,7 @@ module _ (x : Scalar) where
 
     -- what stands at the left
 
-    abbrev Takes : Target → Form → Type 0
+    abbrev pub Takes : Target → Form → Type 0
     Takes (NameTarget v) f = scalar_in g v ≡ x → sorted.is_number f ≡ true
     Takes t f = Unit {0}
 
@@ -126,7 +126,7 @@ module _ (x : Scalar) where
 
     replacing_fit : (e r body : Code) (fs : List Form) → Fit (code.stores fs e) → ((gs : List Form) → Fit (code.stores gs r)) → ((gs : List Form) → Fit (code.stores gs body)) →
         Fit (code.stores fs (Let e (Let r body)))
-    replacing_fit e r body fs h k l = both (code.stores fs e) _ h (both (code.stores (form_of fs e ∷ fs) r) _ (k _) (l _))
+    replacing_fit e r body fs h k l = both (code.stores fs e) _ h (both (code.stores (form_of fs e ∷ fs) r) _ (k (form_of fs e ∷ fs)) (l (form_of (form_of fs e ∷ fs) r ∷ (form_of fs e ∷ fs))))
 
     -- arguments that are missing
     fresh_chosen : (z : Bool) (a b : Codes) (k i : ℕ) (fs : List Form) → Fit (stores_given k i fs a) → Fit (stores_given k i fs b) → Fit (stores_given k i fs (if z then a else b))
@@ -167,7 +167,7 @@ module _ (x : Scalar) where
 
       argument_fit : (p : Name) (t : Tree) (k i : ℕ) → (Parameter k i ≡ x → gives_number t ≡ true) → (fs : List Form) → Fit (code.stores fs (C t)) → Argument p t k i fs
       argument_fit p (Var y) k i n fs h = record { fit = passed_fit p y fs; number = λ e. clash (n e) }
-      argument_fit p t k i n fs h = record { fit = h; number = λ e. plain_number _ (number_code texts scope t (n e) fs) }
+      argument_fit p t k i n fs h = record { fit = h; number = λ e. plain_number (form_of fs (C t)) (number_code texts scope t (n e) fs) }
 
       -- what is stored into a name is as the script says
       takes : (t : Tree) (w : Stored) (f : Form) → AllFit (into g scope t w) → (is_number w ≡ true → sorted.is_number f ≡ true) → Takes (T t) f
@@ -265,10 +265,10 @@ module _ (x : Scalar) where
 
         -- what is kept for a place, and what is done there
         kept_fit : (t : Tree) → AllFit (S t) → (e : Code) → ((fs : List Form) → Fit (code.stores fs e)) → (fs : List Form) → Fit (code.stores fs (keeping (kept_code texts scope t) e))
-        kept_fit (Index y ts) h e k fs = both (code.stores fs (K ts)) _ (key_fit ts h fs) (k _)
-        kept_fit (Field t) h e k fs = both (code.stores fs (C t) ++ []) _ (alone (code.stores fs (C t)) (code_fit t h fs)) (k _)
+        kept_fit (Index y ts) h e k fs = both (code.stores fs (K ts)) _ (key_fit ts h fs) (k (form_of fs (K ts) ∷ fs))
+        kept_fit (Field t) h e k fs = both (code.stores fs (C t) ++ []) _ (alone (code.stores fs (C t)) (code_fit t h fs)) (k (a_number ∷ fs))
         kept_fit (Var y) h e k fs = k fs
-        kept_fit t h e k fs = k _
+        kept_fit t h e k fs = k (a_number ∷ fs)
 
         -- the arguments from the i-th on of the n-th function
         given_fit : (ts : Trees) (ps : List Name) (n i : ℕ) → AllFit (Ss ts) → AllFit (given n i ts) → (fs : List Form) → Fit (stores_given n i fs (argument_codes texts scope ps ts))

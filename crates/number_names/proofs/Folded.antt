@@ -1,15 +1,13 @@
 -- Folding leaves what code stores, and in which form it is there.
-use Rattle.std.proofs.Common.{◌≡◌, ℕ, suc, List, [], ◌∷◌, ◌++◌, map, Option, Some, None, refl, sym, ap, ◌∙◌}
+use Rattle.std.proofs.Common.{◌≡◌, ℕ, suc, List, [], ◌∷◌, ◌++◌, Option, Some, None, refl, sym, ap, ◌∙◌}
 use Rattle.awk_state.specs.Numbers.{Number as AnyNumber}
 use Rattle.awk_state.specs.declared.table.Primitive.TheVariants.{Pow}
 use Rattle.mid_program.specs.declared.mid.Operation.{Operation}
 use Rattle.mid_program.specs.declared.mid.Operation.TheVariants.{AsNumber, FieldNumber, Host, Inline}
-use Rattle.mid_program.specs.Mid.{Answered, Array, Ask, AskLine, At, Block, Bound, Break, Call, Choose, Code, Codes, Compare, Continue, Do, Each, End, Eval, Exit, ExitWith, FileLine, Fixed, Form, Fresh, Get, If, IsOpen, Let, Loop, Mark, Next, NoStep, Number, Over, Program, Replace, Return, Routine, Seq, Set, Step, Steps, Text, Then, Unset, a_number, a_value, answer_by, form_of}
+use Rattle.mid_program.specs.Mid.{Answered, Array, Ask, AskLine, At, Block, Bound, Break, Call, Choose, Code, Codes, Compare, Continue, Do, Each, End, Eval, Exit, ExitWith, FileLine, Fixed, Form, Fresh, Get, If, IsOpen, Let, Loop, Mark, Next, NoStep, Number, Over, Replace, Return, Seq, Set, Step, Steps, Text, Then, Unset, a_number, a_value, answer_by, form_of}
 use Rattle.mid_rewriting.specs.Rewriting.{code_in, codes_in, step_in, steps_in}
 use Rattle.mid_rewriting.specs.Stores.{Given, Into, Store, step_stores, steps_stores, stores, stores_given, stores_in}
-use Rattle.folding.specs.Folding.{constant, fold, folded_routine, of_one, of_two, reduced, reduced_to, same, value_of}
-use Rattle.value_kinds.specs.Found.{InRoutines, Throughout}
-use Rattle.value_kinds.specs.Lanes.{function_count}
+use Rattle.folding.specs.Folding.{constant, of_one, of_two, reduced, reduced_to, same, value_of}
 
 -- an operation that is computed: its operands are constants, which store nothing, and its answer is a number
 

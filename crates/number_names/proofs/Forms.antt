@@ -1,19 +1,19 @@
 -- The form of code: what a script says is a number is one in its code.
-use Rattle.std.proofs.Common.{◌≡◌, ℕ, zero, suc, Bool, true, false, List, [], ◌∷◌, Option, Some, None, refl, ap, ◌∙◌}
+use Rattle.std.proofs.Common.{◌≡◌, ℕ, Bool, true, false, List, ◌∷◌, Option, Some, None, refl, ap, ◌∙◌}
 use Rattle.std.proofs.lemmas.Bool.{and_parts}
 use Rattle.awk_state.specs.declared.table.Primitive.TheVariants as row
 use Rattle.awk_tokens.specs.declared.words.Builtin.{Builtin}
 use Rattle.awk_tokens.specs.declared.words.Builtin.TheVariants as builtin
 use Rattle.awk_grammar.specs.Token.{And, Assign, Compare, Differs, Ere, Match, Matches, Minus, Modulo, Mul, Not, Number as Numeral, Or, Over, Plus, Pow, Quoted, Set, SetPower, SetProduct, SetSum, Sign, Signed, Product, Times}
-use Rattle.awk_grammar.specs.Tree.{Add, Apply, Bin, Call, Cond, Field, Get, GetFrom, GetInto, GetIntoFrom, Group, Has, HasList, Index, Join, Leaf, Length, NoTree, Other, Post, Pre, Then, Tree, Trees, Unary, Var, count, second_is_var, suits}
+use Rattle.awk_grammar.specs.Tree.{Add, Apply, Bin, Call, Cond, Field, Get, GetFrom, GetInto, GetIntoFrom, Group, Has, HasList, Index, Join, Leaf, Length, NoTree, Other, Post, Pre, Then, Tree, Trees, Unary, Var, second_is_var, suits, within}
 use Rattle.mid_program.specs.declared.mid.Operation.{Operation}
-use Rattle.mid_program.specs.declared.mid.Operation.TheVariants.{Host, Inline}
-use Rattle.mid_program.specs.Mid.{Answered, Code, Form, a_number, answer_by, form_of}
-use Rattle.mid_program.specs.Mid as mid
-use Rattle.mid_program.specs.Names.{Reserved, Scope, Variable}
+use Rattle.mid_program.specs.declared.mid.Operation.TheVariants.{Host}
+use Rattle.mid_program.specs.Mid.{Answered, AskLine, Code, Do, FileLine, Form, Let, a_number, answer_by, form_of}
+use Rattle.mid_program.specs.Names.{Reserved, Scope}
 use Rattle.mid_program.specs.Names as names
 use Rattle.mid_program.specs.Sorted.{is_number}
-use Rattle.mid_program.specs.Translation.{ElementTarget, FieldTarget, NameTarget, Target, applied_code, code_of, kept_code, keeping, product_of, sign_of, stored_at, target_in, truncated_code, updated_at}
+use Rattle.mid_program.specs.Steps.{ere_in}
+use Rattle.mid_program.specs.Translation.{ElementTarget, FieldTarget, NameTarget, Target, applied_code, code_of, ere_code, kept_code, keeping, moved, one_code, product_of, read_at, received_at, sign_of, step_after_at, step_of, stepped_at, stored_at, substituted_at, target_in, truncated_code, two, updated_at}
 use Rattle.number_names.specs.Stores.{answers_number, gives_number}
 
 pub clash : {A : Type 0} → false ≡ true → A
@@ -47,7 +47,7 @@ product_number Over = refl
 product_number Modulo = refl
 
 updated_number : (o : Operation) (t : Target) (e : Code) → Answered (answer_by o) ≡ a_number → IsNumber (updated_at o t e)
-updated_number o t e h fs = ap is_number (stored_form (form_of fs e ∷ fs) t 1 _ ∙ h)
+updated_number o t e h fs = ap is_number (stored_form (form_of fs e ∷ fs) t 1 (Do o (two (read_at t 1) (moved 0))) ∙ h)
 
 module _ (texts : List (List ℕ)) (scope : Scope) where
   truncated_number : (t : Tree) (plain : Code) → IsNumber (truncated_code texts scope t plain)
@@ -55,6 +55,21 @@ module _ (texts : List (List ℕ)) (scope : Scope) where
   truncated_number (Group t) plain fs = truncated_number t plain fs
   truncated_number (Bin (Other (Mul Over)) a b) plain fs = refl
   truncated_number t plain fs = refl
+
+  abbrev C : Tree → Code
+  C t = code_of texts scope t
+
+  abbrev T : Tree → Target
+  T t = target_in texts scope t
+
+  abbrev K : Tree → Option Code
+  K t = kept_code texts scope t
+
+  abbrev E : Tree → Code
+  E t = ere_code texts (ere_in t) (C t)
+
+  replaced_number : (all : Bool) (e r t : Tree) → IsNumber (Let (E e) (Let (C r) (keeping (K t) (substituted_at all (T t)))))
+  replaced_number all e r t fs = keeping_number (K t) (substituted_at all (T t)) (λ gs. refl) (form_of (form_of fs (E e) ∷ fs) (C r) ∷ (form_of fs (E e) ∷ fs))
 
   -- a function with as many operands as it takes
   applied_number : (f : Builtin) (ts : Trees) → answers_number f ≡ true → suits f ts ≡ true → IsNumber (applied_code texts scope f ts)
@@ -69,20 +84,20 @@ module _ (texts : List (List ℕ)) (scope : Scope) where
   applied_number builtin.Split (Then t NoTree) n s fs = clash s
   applied_number builtin.Split (Then t (Then (Var a) NoTree)) n s fs = refl
   applied_number builtin.Split (Then t (Then (Var a) (Then u ts))) n s fs = refl
-  applied_number builtin.Split (Then t (Then u ts)) n s fs = clash (and_parts _ (second_is_var (Then t (Then u ts))) s).1
+  applied_number builtin.Split (Then t (Then u ts)) n s fs = clash (and_parts (within 2 3 (Then t (Then u ts))) (second_is_var (Then t (Then u ts))) s).1
   applied_number builtin.Sub NoTree n s fs = clash s
   applied_number builtin.Sub (Then e NoTree) n s fs = clash s
   applied_number builtin.Sub (Then e (Then r NoTree)) n s fs = refl
-  applied_number builtin.Sub (Then e (Then r (Then t ts))) n s fs = keeping_number (kept_code texts scope t) _ (λ gs. refl) _
+  applied_number builtin.Sub (Then e (Then r (Then t ts))) n s fs = replaced_number false e r t fs
   applied_number builtin.Gsub NoTree n s fs = clash s
   applied_number builtin.Gsub (Then e NoTree) n s fs = clash s
   applied_number builtin.Gsub (Then e (Then r NoTree)) n s fs = refl
-  applied_number builtin.Gsub (Then e (Then r (Then t ts))) n s fs = keeping_number (kept_code texts scope t) _ (λ gs. refl) _
+  applied_number builtin.Gsub (Then e (Then r (Then t ts))) n s fs = replaced_number true e r t fs
   applied_number builtin.Match NoTree n s fs = clash s
   applied_number builtin.Match (Then t NoTree) n s fs = clash s
   applied_number builtin.Match (Then t (Then u ts)) n s fs = refl
   applied_number builtin.Int NoTree n s fs = clash s
-  applied_number builtin.Int (Then t ts) n s fs = truncated_number t (code_of texts scope t) fs
+  applied_number builtin.Int (Then t ts) n s fs = truncated_number t (C t) fs
   applied_number builtin.Close NoTree n s fs = clash s
   applied_number builtin.Close (Then t ts) n s fs = refl
   applied_number builtin.Substr ts n s fs = clash n
@@ -107,14 +122,14 @@ module _ (texts : List (List ℕ)) (scope : Scope) where
   number_code (Unary Not t) h fs = refl
   number_code (Unary (Signed Plus) t) h fs = refl
   number_code (Unary (Signed Minus) t) h fs = refl
-  number_code (Pre s t) h fs = keeping_number (kept_code texts scope t) _ (stored_number (target_in texts scope t) 0 _ (λ gs. refl)) fs
-  number_code (Post s t) h fs = keeping_number (kept_code texts scope t) _ (λ gs. refl) fs
+  number_code (Pre s t) h fs = keeping_number (K t) (stepped_at s (T t)) (stored_number (T t) 0 (Do (step_of s) (two (read_at (T t) 0) one_code)) (λ gs. refl)) fs
+  number_code (Post s t) h fs = keeping_number (K t) (step_after_at s (T t)) (λ gs. refl) fs
   number_code (Bin Join a b) h fs = clash h
   number_code (Bin (Add s) a b) h fs = ap is_number (sign_number s)
-  number_code (Bin (Other (Assign Set)) a b) h fs = keeping_number (kept_code texts scope a) _ (stored_number (target_in texts scope a) 0 (code_of texts scope b) (number_code b h)) fs
-  number_code (Bin (Other (Assign (SetSum s))) a b) h fs = keeping_number (kept_code texts scope a) _ (updated_number (sign_of s) (target_in texts scope a) (code_of texts scope b) (sign_number s)) fs
-  number_code (Bin (Other (Assign (SetProduct p))) a b) h fs = keeping_number (kept_code texts scope a) _ (updated_number (product_of p) (target_in texts scope a) (code_of texts scope b) (product_number p)) fs
-  number_code (Bin (Other (Assign SetPower)) a b) h fs = keeping_number (kept_code texts scope a) _ (updated_number (Host row.Pow) (target_in texts scope a) (code_of texts scope b) refl) fs
+  number_code (Bin (Other (Assign Set)) a b) h fs = keeping_number (K a) (stored_at (T a) 0 (C b)) (stored_number (T a) 0 (C b) (number_code b h)) fs
+  number_code (Bin (Other (Assign (SetSum s))) a b) h fs = keeping_number (K a) (updated_at (sign_of s) (T a) (C b)) (updated_number (sign_of s) (T a) (C b) (sign_number s)) fs
+  number_code (Bin (Other (Assign (SetProduct p))) a b) h fs = keeping_number (K a) (updated_at (product_of p) (T a) (C b)) (updated_number (product_of p) (T a) (C b) (product_number p)) fs
+  number_code (Bin (Other (Assign SetPower)) a b) h fs = keeping_number (K a) (updated_at (Host row.Pow) (T a) (C b)) (updated_number (Host row.Pow) (T a) (C b) refl) fs
   number_code (Bin (Other Or) a b) h fs = refl
   number_code (Bin (Other And) a b) h fs = refl
   number_code (Bin (Other (Match Matches)) a b) h fs = refl
@@ -126,6 +141,6 @@ module _ (texts : List (List ℕ)) (scope : Scope) where
   number_code (HasList t ts x) h fs = refl
   number_code (Cond c a b) h fs = clash h
   number_code Get h fs = refl
-  number_code (GetInto v) h fs = keeping_number (kept_code texts scope v) _ (λ gs. refl) fs
+  number_code (GetInto v) h fs = keeping_number (K v) (AskLine (received_at (T v))) (λ gs. refl) fs
   number_code (GetFrom s) h fs = refl
-  number_code (GetIntoFrom v s) h fs = keeping_number (kept_code texts scope v) _ (λ gs. refl) fs
+  number_code (GetIntoFrom v s) h fs = keeping_number (K v) (FileLine (C s) (received_at (T v))) (λ gs. refl) fs

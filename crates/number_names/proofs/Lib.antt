@@ -2,5 +2,5 @@ pub mod Folded
 pub mod Forms
 pub mod Expressions
 pub mod Scripts
-pub mod Kinds
+pub mod NameKinds
 pub mod Whole

@@ -1,16 +1,13 @@
 -- What a script's code stores is what the script stores, of statements, items and functions.
-use Rattle.std.proofs.Common.{◌≡◌, ℕ, zero, suc, List, [], ◌∷◌, ◌++◌, Option, Some, None, map, refl, sym, ap, subst}
-use Rattle.awk_state.specs.declared.table.Primitive.TheVariants as row
+use Rattle.std.proofs.Common.{◌≡◌, ℕ, suc, List, [], ◌∷◌, ◌++◌, Option, Some, None, map, refl, sym, ap, subst}
 use Rattle.awk_grammar.specs.Tree.{Tree, Var}
 use Rattle.awk_grammar.specs.Stmt.{And, Delete, Eval, NoStmt, Plain, Put, Stmt, Stmts}
 use Rattle.awk_grammar.specs.Stmt as stmt
 use Rattle.awk_grammar.specs.Item.{Item, Pattern}
 use Rattle.awk_grammar.specs.Item as item
 use Rattle.mid_program.specs.Items.{print_record, top}
-use Rattle.mid_program.specs.Mid.{Block, Form, If, IsOpen, Mark, NoStep, Routine, Step, Steps, a_value}
-use Rattle.mid_program.specs.Mid as mid
+use Rattle.mid_program.specs.Mid.{Block, Form, Step, Steps, a_value}
 use Rattle.mid_program.specs.Names.{Function, Resolved, Scope, functions_length, variable_of}
-use Rattle.mid_program.specs.Names as names
 use Rattle.mid_program.specs.Statements.{operands_of, scope_in, with_target}
 use Rattle.mid_program.specs.Texts.{texts_of_script}
 use Rattle.mid_program.specs.Translation.{NameTarget, begin_code, code_of, end_code, items_code, maybe_step, moved, plain_step, program_of, routine_code, step_code, steps_code, store_variable_code, test_code, where_code}
@@ -19,7 +16,7 @@ use Rattle.mid_rewriting.specs.Stores as code
 use Rattle.folding.specs.Folding.{fold, folded_routine, folded_steps}
 use Rattle.value_kinds.specs.Found.{InRoutines, Throughout}
 use Rattle.value_kinds.specs.Lanes.{function_count}
-use Rattle.number_names.specs.Stores.{Parameter, Scalar, Store, Text, functions_stores, given, into, item_stores, items_stores, maybe_plain_stores, maybe_stores, pattern_stores, plain_stores, script_stores, stmt_stores, stmts_stores, stores}
+use Rattle.number_names.specs.Stores.{Scalar, Store, Text, functions_stores, into, items_stores, maybe_plain_stores, maybe_stores, pattern_stores, plain_stores, script_stores, stmt_stores, stmts_stores, stores}
 use Rattle.number_names.proofs.Expressions.{AllFit, CodeFits, Fit, alone, both, code_fit, codes_fit, first, key_fit, second, store_fit, three}
 use Rattle.number_names.proofs.Folded.{steps_same}
 use Rattle.number_names.proofs.Forms.{clash}

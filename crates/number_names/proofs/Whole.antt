@@ -1,11 +1,10 @@
 -- The scalars into which a script stores numbers alone are unboxed in its code.
-use Rattle.std.proofs.Common.{◌≡◌, ℕ, suc, true, List, [], ◌∷◌, ap, sym, ◌∙◌, subst}
+use Rattle.std.proofs.Common.{◌≡◌, ℕ, suc, true, List, [], ◌∷◌, ap, sym, subst}
 use Rattle.std.proofs.lemmas.List.Elements.{recursion_from_All}
 use Rattle.folding.specs.Folding.{fold}
 use Rattle.mid_program.specs.Mid.{Kind, Program, Routine, parameters_at}
 use Rattle.mid_program.specs.Mid as mid
 use Rattle.mid_program.specs.Names.{Resolved}
-use Rattle.mid_program.specs.Sorted.{calls_of, kinds_of}
 use Rattle.mid_program.specs.Texts.{texts_of_script}
 use Rattle.mid_program.specs.Translation.{program_of}
 use Rattle.mid_rewriting.specs.Stores.{Every, Given, Into}
@@ -16,7 +15,7 @@ use Rattle.value_kinds.specs.Lanes.{function_count, infer}
 use Rattle.number_names.specs.Stores.{Global, Parameter, Scalar, script_stores}
 use Rattle.number_names.specs.Unboxed.{TakesNumbers, UnboxesNumbers}
 use Rattle.number_names.proofs.Expressions.{CodeFits, Fits}
-use Rattle.number_names.proofs.Kinds.{declared_kinds, function_scalars, globals_unboxed, parameters_unboxed, scalars}
+use Rattle.number_names.proofs.NameKinds.{declared_kinds, function_scalars, globals_unboxed, parameters_unboxed, scalars}
 use Rattle.number_names.proofs.Scripts.{script_fit}
 
 -- another word for each store
