@@ -1,5 +1,6 @@
 -- What scripts store, and into which scalars they store numbers alone.
 use Rattle.std.specs.Prelude.{◌≡◌, true, false, List, [], ◌∷◌, codes, refl}
+use Rattle.std.specs.List.{AllByRecursion as Each}
 use Rattle.std.proofs.lemmas.List.Elements.{All-from_recursion, recursion_from_All}
 use Rattle.awk_resolve.specs.Kinds.{special_arrays, special_scalars}
 use Rattle.awk_tokens.specs.declared.words.Builtin.TheVariants as builtin
@@ -19,6 +20,9 @@ stored_in x w = record { scalar = x; stored = w }
 
 abbrev Says : Scalar → Store → Type 0
 Says x s = s.scalar ≡ x → is_number s.stored ≡ true
+
+not_so : false ≡ true → ⊥
+not_so e = absurd cc
 
 abbrev n_plus_one : Tree
 n_plus_one = tree.Bin (tree.Add token.Plus) (tree.Var (codes "n")) (tree.Leaf (token.Number (codes "1")))
@@ -55,6 +59,25 @@ pub texts_are_stored : script_stores (resolved texts_of_all_kinds) ≡
 unfolding special_arrays special_scalars
 texts_are_stored = refl
 
+abbrev each_store : (items : List Item) (x : Scalar) → TakesNumbers (resolved items) x → Each (Says x) (script_stores (resolved items))
+each_store items x h = recursion_from_All (Says x) (script_stores (resolved items)) h
+
+pub field_is_no_number : TakesNumbers (resolved texts_of_all_kinds) (Global 0) → ⊥
+unfolding special_arrays special_scalars
+field_is_no_number h = not_so ((each_store texts_of_all_kinds (Global 0) h).0 refl)
+
+pub name_is_no_number : TakesNumbers (resolved texts_of_all_kinds) (Global 1) → ⊥
+unfolding special_arrays special_scalars
+name_is_no_number h = not_so ((each_store texts_of_all_kinds (Global 1) h).1.0 refl)
+
+pub record_is_no_number : TakesNumbers (resolved texts_of_all_kinds) (Global 2) → ⊥
+unfolding special_arrays special_scalars
+record_is_no_number h = not_so ((each_store texts_of_all_kinds (Global 2) h).1.1.0 refl)
+
+pub key_is_no_number : TakesNumbers (resolved texts_of_all_kinds) (Global 3) → ⊥
+unfolding special_arrays special_scalars
+key_is_no_number h = not_so ((each_store texts_of_all_kinds (Global 3) h).1.1.1.0 refl)
+
 abbrev gsub_into_s : Tree
 gsub_into_s = tree.Apply builtin.Gsub (tree.Then (tree.Leaf (token.Ere (codes "/x*/"))) (tree.Then (tree.Leaf (token.Quoted (34 ∷ 45 ∷ 34 ∷ []))) (tree.Then (tree.Var (codes "s")) tree.NoTree)))
 
@@ -70,9 +93,18 @@ count_is_a_number = All-from_recursion (Says (Global 1)) (script_stores (resolve
 
 pub text_is_no_number : TakesNumbers (resolved scripts.all_replaced) (Global 0) → ⊥
 unfolding special_arrays special_scalars
-text_is_no_number h = let each = recursion_from_All (Says (Global 0)) (script_stores (resolved scripts.all_replaced)) h in let clash : false ≡ true = each.0 refl in absurd cc
+text_is_no_number h = not_so ((each_store scripts.all_replaced (Global 0) h).0 refl)
 
 -- function r(n) { return n ? r(n-1) : 7 } BEGIN { print "x"; print r(4) }: a difference and a constant are given for n
 pub arguments_are_numbers : TakesNumbers (resolved scripts.calls_too_deep) (Parameter 0 0)
 unfolding special_arrays special_scalars
 arguments_are_numbers = All-from_recursion (Says (Parameter 0 0)) (script_stores (resolved scripts.calls_too_deep)) (λ e. refl, (λ e. refl, tt))
+
+-- function f(a, n, own) { .. n = 9; .. } BEGIN { n = 12; print f(t, n), t["k"], n }: the constant 9 is stored into the parameter n, and a name's value is given for it
+pub copy_is_no_number : TakesNumbers (resolved scripts.arrays_by_reference) (Parameter 0 1) → ⊥
+unfolding special_arrays special_scalars
+copy_is_no_number h = not_so ((each_store scripts.arrays_by_reference (Parameter 0 1) h).1.1.1.0 refl)
+
+pub constant_is_a_number : TakesNumbers (resolved scripts.arrays_by_reference) (Global 0)
+unfolding special_arrays special_scalars
+constant_is_a_number = All-from_recursion (Says (Global 0)) (script_stores (resolved scripts.arrays_by_reference)) (λ e. absurd cc, (λ e. refl, (λ e. absurd cc, (λ e. absurd cc, tt))))
