@@ -26,6 +26,7 @@ use Rattle.run_places.specs.Kept.{AtReturn, AtStatement, Reached, begins_stateme
 use Rattle.quiet_statements.specs.Laned.{AtNumeric, IsNext}
 use Rattle.quiet_statements.specs.Quiet.{Quietly}
 use Rattle.quiet_statements.specs.Sums.{AtFault}
+use Rattle.number_names.specs.Unboxed.{UnboxesNumbers}
 use Rattle.script_code.specs.Coded.{IsSound, unboxed}
 
 -- a module that links with the host
@@ -52,7 +53,7 @@ IsQuiet code m = (job : JobForm) (input : Source) (outside : Outside) (a : Machi
     → Quietly a.program c (λ there. IsNext code c on.bases (Then on.next on.further) on.iterators on.out on.breaking on.continuing on.after there ⊎ AtFault code c there)
 
 -- THE MAIN THEOREM, of a script and the bytes that it is compiled to: they are a module, which the rules type, which links with the host, which has runs, which agrees with the script in every
--- job and world, and which keeps nothing. It is the module of the script's code, so that a script has one module.
+-- job and world, and which keeps nothing. It is the module of the script's code, so that a script has one module; in this code a scalar into which the script stores numbers alone is unboxed.
 pub record IsCompiled (bytes : List ℕ) (compiled : List ℕ) : Type 0 where
   pub short : length bytes ≤ 2 ^ 20
   pub tokens : List Spelled
@@ -70,3 +71,4 @@ pub record IsCompiled (bytes : List ℕ) (compiled : List ℕ) : Type 0 where
   pub whole_is : whole ≡ module_of code
   pub keeps : KeepsNothing code whole
   pub quiet : IsQuiet code whole
+  pub unboxed_names : UnboxesNumbers (resolved script) code
