@@ -1,4 +1,4 @@
--- What rows of the main input, and assignments of the command line, leave: the names as they are; what is pending is of a scalar name, and a text of the input; they put nothing out.
+-- What rows of the main input, and assignments of the command line, leave: the names as they are; what is pending is of a scalar name to which a word assigns, and a text of the input; they put nothing out.
 use Rattle.std.proofs.Common.{◌≡◌, ◌⊎◌, inl, inr, ℕ, zero, suc, Bool, true, false, List, [], ◌∷◌, Some, None, Option, Result, Ok, Err, refl, sym, ap, subst, ◌∙◌}
 use Rattle.std.specs.Prelude.{ℤ, ◌-◌, ◌+◌, ◌^◌, pos, decimal, get_or, is_some, length}
 use Rattle.awk_text.specs.Escapes.{unescaped}
