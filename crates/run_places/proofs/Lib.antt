@@ -11,6 +11,8 @@ pub mod Working
 pub mod Waiting
 pub mod Keeping
 pub mod Handles
+pub mod Words
+pub mod FromWords
 pub mod Spelled
 pub mod Parameters
 pub mod Nops

@@ -1,8 +1,11 @@
 -- Rows: what a caller that waits holds, marks, and assignments of the command line.
 use Rattle.std.proofs.Common.{◌≡◌, inl, inr, ℕ, zero, List, [], ◌∷◌, Option, Some, None, refl, ap, arith}
+use Rattle.std.specs.Fmt.{digits}
+use Rattle.std.specs.Prelude.{codes}
 use Rattle.awk_values.specs.declared.value.Value.{Value}
 use Rattle.awk_values.specs.declared.value.Value.TheVariants.{StrNum}
 use Rattle.awk_state.specs.Jobs.{JobForm}
+use Rattle.awk_state.specs.declared.constants.NameKind.TheVariants.{Scalar}
 use Rattle.awk_state.specs.declared.sorts.Sort.{Sort}
 use Rattle.awk_state.specs.declared.sorts.Sort.TheVariants as sort
 use Rattle.wasm_store.specs.declared.word.Word.TheVariants.{I32, I64}
@@ -16,7 +19,7 @@ use Rattle.world_core.specs.WorldState.{Outside, Source}
 use Rattle.mid_program.specs.Mid.{Boxed, Unboxed}
 use Rattle.value_machine.specs.Small.{minus_one, text_beside}
 use Rattle.value_refined.specs.Refined.{table_meaning}
-use Rattle.run_places.specs.Assigned.{IsPending, Somewhere}
+use Rattle.run_places.specs.Assigned.{IsPending, IsWord, Somewhere}
 use Rattle.run_places.specs.Kept.{BareParameters, IsMarked, LocalsWait, count}
 
 -- a boxed and an unboxed parameter, the answer's local, one operand that is pending, and an iterator
@@ -76,3 +79,30 @@ module _ (job : JobForm) (input : Source) (outside : Outside) (m : ProgramForm) 
 
   pub third_not_assigned : Somewhere (IsPending 2) m 1 (here (Then (Plain Nop) Done)) told [] (here Done) told way → ⊥
   third_not_assigned h = elim h [ inl q ↦ third_not q | inr q ↦ third_not q ]
+
+-- The job `-v B=2` with the operand "A=1", once A, B and C are announced: words assign to the first two. Without `-v`, and where ARGV has no element, no word assigns.
+
+abbrev words : JobForm
+words = record { operands = codes "A=1" ∷ []; assigns = (codes "B", codes "2") ∷ []; environment = [] }
+
+abbrev no_words : JobForm
+no_words = record { operands = []; assigns = []; environment = [] }
+
+module _ (input : Source) (outside : Outside) where
+  abbrev announced : JobForm → HostState
+  announced job =
+      let start = state_at_start job input outside in
+      record start { shared = record start.shared { inner = record start.shared.inner { names = (codes "A", Scalar) ∷ ((codes "B", Scalar) ∷ ((codes "C", Scalar) ∷ [])) } } }
+
+  abbrev emptied : HostState
+  emptied = let start = announced no_words in record start { shared = record start.shared { inner = record start.shared.inner { arrays = [] ∷ ([] ∷ []) } } }
+
+  pub operand_assigns : IsWord words 0 (announced words)
+  unfolding digits
+  operand_assigns = (codes "A", refl, inr (1, codes "1", refl))
+
+  pub option_assigns : IsWord words 1 (announced words)
+  option_assigns = (codes "B", refl, inl (0, codes "2", refl))
+
+  pub none_assigns : (i : ℕ) → IsWord no_words i emptied → ⊥
+  none_assigns i h = elim h.2 [ inl q ↦ (let e = q.2 in cc) | inr q ↦ (let e = q.2 in cc) ]

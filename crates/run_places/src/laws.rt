@@ -20,7 +20,7 @@ ghost use Rattle.wasm_machine.specs.declared.state.End.TheVariants as ends;
 ghost use Rattle.wasm_store.specs.declared.word.Word.TheVariants.{I32};
 ghost use Rattle.wasm_types.specs.ModuleGrammar.{IsModule};
 ghost use Rattle.world_core.specs.WorldState.{Outside, Source};
-ghost use Rattle.run_places.specs.Assigned.{IsAssigned};
+ghost use Rattle.run_places.specs.Assigned.{HasWord, IsAssigned};
 ghost use Rattle.run_places.specs.Existence.{HasRuns};
 ghost use Rattle.run_places.specs.Kept.{AtReturn, AtStatement, Reached, begins_statement};
 ghost use Rattle.run_places.specs.Places.{IsSmall};
@@ -52,6 +52,13 @@ pub fn names_get_no_handle()
         → (reached : Reached (module_of p) job input outside m c s) → begins_statement c.frame.code ≡ true
         → (i : ℕ) → has_kind (kinds_of p.globals) i Unboxed ≡ true → (IsAssigned reached i → ⊥)
         → slice_get c.globals (handle_global p.ranges i) ≡ Some (I32 minus_one) }
+{}
+
+/// An assignment of the command line comes from a word of it. A name that it assigned in a run is one to which, somewhere on the way, a `-v` of the job or an
+/// element that ARGV then had assigned.
+pub fn assignments_come_from_words()
+    ensures { (p : Program) → IsSorted p → (job : JobForm) (input : Source) (outside : Outside) (m : MachineForm) (c : Conf) (s : HostState)
+        → (reached : Reached (module_of p) job input outside m c s) → (i : ℕ) → IsAssigned reached i → HasWord reached i }
 {}
 
 /// The functions of a script whose names are not refused have at most 100 parameters, and so have the routines of its code.
