@@ -48,7 +48,7 @@ pub fn few_parameters()
 {}
 
 /// Each step of a program has a place of its own, the `nop` that begins its code, and a function's code has no other `nop`, but one before the test of a
-/// `do` loop. So what begins with a `nop` in a function's code is the code of its steps, one after another.
+/// `do` loop. A loop without a third part has no code for it. So what begins with a `nop` in a function's code is the code of its steps, one after another.
 pub fn statements_have_places()
     ensures starts { (p : Program) (r : Routine) → starts_in (routine_callee p r).body ≡ routine_starts p r }
     ensures main_starts { (p : Program) → starts_in (main_callee p).body ≡ main_starts p }

@@ -36,6 +36,7 @@ pub mod Tidy
 pub mod Sequences
 pub mod Branches
 pub mod Walks
+pub mod QuickNames
 pub mod QuickSteps
 pub mod QuickIfs
 pub mod Jumping

@@ -1,26 +1,22 @@
--- Steps with a quick way: a constant is added to a name, and a test that is sure.
-use Rattle.std.proofs.Common.{◌≡◌, ℕ, zero, suc, ◌+◌, ◌%◌, ◌^◌, ◌<◌, ◌≤◌, Bool, true, false, T, nat_eq, nat_le, List, [], ◌∷◌, length, Some, None, Option, Ok, Result, ℤ, pos, ◌+ℤ◌, neg_ℤ, unsigned_abs, w64, refl, sym, ap, ap₂, ◌∙◌, subst, arith, if◌then◌else◌}
-use Rattle.std.specs.Prelude.{◌&&◌, ◌||◌, not, nat_lt, cond, bit_or, FitsSigned}
-use Rattle.std.proofs.lemmas.Nat.{le_or_l, le_or_r}
-use Rattle.std.proofs.lemmas.Int.{ints, fits_signed_from_abs}
-use Rattle.std.proofs.lemmas.Bool.{and_parts, le-leb, le-ltb, ltb-false, leb-true, eqb-true, eq-eqb}
+-- Steps with a quick way: sums that go to a name, and tests of names and constants.
+use Rattle.std.proofs.Common.{◌≡◌, ℕ, zero, suc, ◌+◌, ◌^◌, ◌<◌, ◌≤◌, Bool, true, false, nat_eq, nat_le, List, [], ◌∷◌, length, Some, None, Option, Ok, Result, ℤ, pos, ◌+ℤ◌, unsigned_abs, w64, refl, sym, ap, ap₂, ◌∙◌, subst, arith, if◌then◌else◌}
+use Rattle.std.specs.Prelude.{◌&&◌, not, cond, bit_or}
+use Rattle.std.proofs.lemmas.Int.{ints}
+use Rattle.std.proofs.lemmas.Bool.{and_parts, le-leb, leb-true}
 use Rattle.awk_values.specs.declared.fault.Fault.{Fault}
 use Rattle.awk_values.specs.declared.value.Value.{Value}
 use Rattle.awk_values.specs.declared.value.Value.TheVariants as value
-use Rattle.awk_values.specs.Operators.{checked}
 use Rattle.awk_values.specs.Comparison.{comparison, numeric_side, order_by, held, holds}
 use Rattle.awk_values.specs.declared.comparison.CompareOp.{CompareOp}
 use Rattle.awk_values.specs.declared.comparison.CompareOp.TheVariants as op
 use Rattle.std.specs.Ordering.{int_cmp}
-use Rattle.std.specs.declared.cmp.Ordering.{Ordering}
-use Rattle.std.specs.declared.cmp.Ordering.TheVariants.{Less, Equal, Greater}
+use Rattle.std.specs.declared.cmp.Ordering.TheVariants.{Less}
 use Rattle.awk_state.specs.declared.sorts.Sort.TheVariants as sort
 use Rattle.wasm_store.specs.Integers.{compare_at, binary_at}
 use Rattle.value_machine.specs.Arithmetic.{relation}
 use Rattle.value_machine.proofs.Orders.{words_compared}
 use Rattle.awk_state.specs.Numbers.{Number as AnyNumber, number_of, number_word, outcome_of}
-use Rattle.awk_state.specs.ValueRows.{number_of_row}
-use Rattle.awk_state.proofs.Words.{small, fits, number_again}
+use Rattle.awk_state.proofs.Words.{small}
 use Rattle.wasm_types.specs.Syntax.{Instructions, Done as NoMore}
 use Rattle.wasm_types.specs.declared.types.ValType.TheVariants.{I32}
 use Rattle.wasm_types.specs.declared.instr.Simple.{Simple}
@@ -29,46 +25,39 @@ use Rattle.wasm_types.specs.declared.instr.ITestOp.TheVariants.{Eqz}
 use Rattle.wasm_store.specs.declared.word.Word.TheVariants.{I64}
 use Rattle.wasm_store.specs.Words.{flag, given_by}
 use Rattle.mid_program.specs.declared.mid.Arithmetic.{Arithmetic}
-use Rattle.mid_program.specs.declared.mid.Arithmetic.TheVariants as inline
 use Rattle.mid_program.specs.declared.mid.Operation.TheVariants.{Inline, AsNumber}
-use Rattle.mid_program.specs.Mid.{Kind, Unboxed, Program, Global, Code, Do, Compare, Number, Get, Set, Seq, Let, Bound, Codes, End, At, Step, Eval, a_number, Form, form_of}
-use Rattle.mid_program.specs.MidMeaning.{evaluated, all_evaluated, stepped, all_stepped, or_zero, then_row, boxed, store_slot, arithmetic_of}
-use Rattle.mid_program.specs.ScriptState.{State, Stop, Gives, Outcome, go_on, settled, give, ◌>>◌, global_value, with_global}
+use Rattle.mid_program.specs.Mid.{Kind, Unboxed, Program, Global, Code, Do, Compare, Number, Get, Set, Seq, Let, Bound, Codes, End, At, Eval, a_number, Form, form_of}
+use Rattle.mid_program.specs.MidMeaning.{evaluated, all_evaluated, stepped, all_stepped, or_zero, then_row, store_slot, arithmetic_of}
+use Rattle.mid_program.specs.ScriptState.{State, Gives, Outcome, go_on, settled, give, ◌>>◌, global_value, with_global}
 use Rattle.mid_program.specs.Sorted.{sorted, all_sorted, has_kind, kinds_of, fits as fits_sort, is_tested, is_dropped, is_kept, keeps_well, test_sorted, step_sorted, steps_sorted}
 use Rattle.mid_program.specs.Statements.{Flow, Normal}
 use Rattle.value_machine.specs.Cells.{Cell, Bits}
 use Rattle.value_machine.specs.Emission.{tested, dropped}
 use Rattle.value_machine.specs.Machine.{Conf, Label, Frame, Store, at, br, label, with_operands, push_result}
 use Rattle.value_machine.specs.Places.{Bases, number_global, room, arrays_in}
-use Rattle.value_machine.specs.Quick.{Within, unsure, name_in, constant_in, first_ones, compared_within, both_within, test_within, Source, Named, Constant, source_in, is_among, and_name, and_source, shifted, joined, all_unsure, Sum, sum_names, is_near, is_sum, sum_op, sum_of, two_sum, set_sum, kept_sum, update_sum, old_source, stored_name, new_sum, step_sum, let_sum, sum_in, Pair, pair_names, pair_of, pair_in, contrary}
-use Rattle.value_machine.specs.Small.{does, either, when}
+use Rattle.value_machine.specs.Quick.{Within, unsure, name_in, constant_in, first_ones, compared_within, both_within, test_within, Source, Named, Constant, source_in, is_among, and_name, and_source, shifted, joined, all_unsure, Sum, sum_names, is_near, is_sum, sum_op, sum_of, two_sum, set_sum, kept_sum, update_sum, old_source, stored_name, new_sum, let_sum, sum_in, Pair, pair_names, pair_of, pair_in, contrary}
+use Rattle.value_machine.specs.Small.{does}
 use Rattle.value_machine.specs.Statements.{source_pushed, summed, quickly_dropped, pair_left, left_unless_pair, left_unless, step_emitted, steps_emitted}
-use Rattle.value_machine.proofs.Runs.{Goes, goes_from, goes_to, then_goes, by_steps, stays, first, within, there, weaker, then_step, Onward}
+use Rattle.value_machine.proofs.Runs.{Goes, goes_from, goes_to, then_goes, by_steps, stays, first, within, there, then_step, Onward}
 use Rattle.value_machine.proofs.Locals.{Locals, laid}
-use Rattle.value_machine.proofs.Globals.{Hand as NameHand, Number as NameNumber, with_global_at, placed, placed_again}
+use Rattle.value_machine.proofs.Globals.{Hand as NameHand, Number as NameNumber, with_global_at, placed_again}
 use Rattle.value_machine.proofs.GlobalSteps.{storing, global_copied, global_set_ok}
 use Rattle.value_machine.proofs.Steps.{empty}
 use Rattle.value_machine.proofs.State.{bare, beside, bare_number, beside_number, cells_of, host_of, kind_here, arrays_before, name_hand, name_word}
-use Rattle.value_machine.proofs.Relation.{Away, away_out}
+use Rattle.value_machine.proofs.Relation.{Away}
 use Rattle.value_machine.proofs.Pieces.{chooses, closes}
 use Rattle.value_machine.proofs.Answers.{machine, beside_state, Reached}
 use Rattle.value_machine.proofs.Converting.{blocked, own_number}
-use Rattle.value_machine.proofs.Products.{word, sum_word, difference_word, triangle}
-use Rattle.value_machine.proofs.Inlining.{checked_in, added_abs}
+use Rattle.value_machine.proofs.Products.{word}
 use Rattle.value_machine.proofs.Written.{fit_global, global_written}
 use Rattle.value_machine.proofs.Reading.{kind_below, kind_found}
 use Rattle.value_machine.proofs.Simulation.{work_of, context, layout, ExprOk}
-use Rattle.value_machine.proofs.StatementForms.{step_work, flows_on, step_meant, Starts, starts_after, starts_among, StepDone, StepOk}
+use Rattle.value_machine.proofs.StatementForms.{flows_on, step_meant, Starts, starts_after, starts_among, StepDone, StepOk}
 use Rattle.value_machine.proofs.Tidy.{nop_ok}
-use Rattle.value_machine.proofs.Sequences.{dropped_ok, done_before}
+use Rattle.value_machine.proofs.Sequences.{dropped_ok}
 use Rattle.value_machine.proofs.Branches.{TestDone, test_meant, test_ok, block_ends}
 use Rattle.value_machine.proofs.Quick.{Sure, sure, shown_by, name_is, constant_is, shift_pos, shifted_less, shifted_most, less_holds, most_holds}
-
-some_is : {A : Type 0} → (x y : A) → Some x ≡ Some y → x ≡ y
-some_is x y e = ap (λ o. elim o [ Some z ↦ z | None ↦ x ]) e
-
-nought_number : (z : ℤ) → nat_le (unsigned_abs z) (2 ^ 53) ≡ true → (or_zero (number_of z)).number ≡ z
-nought_number z e = ap (λ o. (or_zero o).number) (number_again (record { number = z; in_range = subst T (sym e) tt }))
+use Rattle.value_machine.proofs.QuickNames.{num_of, word_of, val_of, source_steps, shift_word, joined_word, all_flag, joined_steps, all_steps, AllSure, StandsAmong, source_code, some_is, nought_number, all_sure, among_sure, name_among, source_among, source_still, source_beside, source_is, contrary_holds, pair_few, one_few, near_sum, stored_is, none_new, result_of, sum_few}
 
 module _ (p : Program) (deepest : ℕ) (ks : List Kind) (F : List Frame) (b : Bases) (M n : ℕ) where
   abbrev kinds : List Kind
@@ -170,22 +159,6 @@ module _ (p : Program) (deepest : ℕ) (ks : List Kind) (F : List Frame) (b : Ba
   SourceFits most (Named i) = has_kind kinds i Unboxed ≡ true
   SourceFits most (Constant z) = nat_le (unsigned_abs z) most ≡ true
 
-  abbrev num_of : Source → State → Result AnyNumber Fault
-  num_of (Named i) σ = number_of_row (global_value i σ)
-  num_of (Constant z) σ = Ok (or_zero (number_of z))
-
-  abbrev word_of : Source → State → ℕ
-  word_of (Named i) σ = bare (global_value i σ)
-  word_of (Constant z) σ = word z
-
-  abbrev val_of : Source → State → Value
-  val_of (Named i) σ = global_value i σ
-  val_of (Constant z) σ = value.Num (or_zero (number_of z)).number
-
-  abbrev source_steps : Source → ℕ
-  source_steps (Named i) = 1
-  source_steps (Constant z) = 0
-
   name_got : {vs : List Cell} {K : List Label} {k : Instructions} → (i : ℕ) (l : Locals) (σ : State) → has_kind kinds i Unboxed ≡ true →
       Goes (machine p deepest ks F) 1 (at ks vs K (laid b l) F (does (GlobalGet (number_global p.ranges i)) k) (beside_state p deepest ks F σ)) (at ks (Bits (I64 (bare (global_value i σ))) ∷ vs) K (laid b l) F k (beside_state p deepest ks F σ))
   name_got i l σ hk =
@@ -198,25 +171,6 @@ module _ (p : Program) (deepest : ℕ) (ks : List Kind) (F : List Frame) (b : Ba
   source_ok vs K k m (Constant z) l σ h = stays
 
   -- Several names within the same bounds.
-
-  abbrev shift_word : State → ℤ → ℕ → ℕ
-  shift_word σ q i = (bare (global_value i σ) + word q) % 2 ^ 64
-
-  abbrev joined_word : State → ℤ → ℕ → List ℕ → ℕ
-  joined_word σ q v [] = v
-  joined_word σ q v (i ∷ is) = joined_word σ q (bit_or v (shift_word σ q i)) is
-
-  abbrev all_flag : State → ℤ → ℕ → List ℕ → Bool
-  all_flag σ q w [] = false
-  all_flag σ q w (i ∷ is) = nat_lt w (joined_word σ q (shift_word σ q i) is)
-
-  abbrev joined_steps : List ℕ → ℕ
-  joined_steps [] = 0
-  joined_steps (i ∷ is) = 2 + (1 + joined_steps is)
-
-  abbrev all_steps : List ℕ → ℕ
-  all_steps [] = 0
-  all_steps (i ∷ is) = 2 + (joined_steps is + 1)
 
   abbrev all_read : ℕ → Simple
   all_read i = GlobalGet (number_global p.ranges i)
@@ -235,60 +189,6 @@ module _ (p : Program) (deepest : ℕ) (ks : List Kind) (F : List Frame) (b : Ba
   all_unsure_ok K k [] q w l σ h = stays
   all_unsure_ok K k (i ∷ is) q w l σ h = then_goes (shifted_ok i q l σ h.0) (then_goes (joined_ok K _ is (shift_word σ q i) q l σ h.1) (by_steps 1 refl))
 
-  abbrev AllSure : State → ℤ → ℕ → List ℕ → Type 0
-  AllSure σ q w [] = Unit {0}
-  AllSure σ q w (i ∷ is) = Sure (global_value i σ) q w × AllSure σ q w is
-
-  joined_above : (is : List ℕ) (v : ℕ) (q : ℤ) (σ : State) → v ≤ joined_word σ q v is
-  joined_above [] v q σ = omega arith
-  joined_above (i ∷ is) v q σ =
-      let x = le_or_l v (shift_word σ q i) in
-      let y = joined_above is (bit_or v (shift_word σ q i)) q σ in
-      omega (arith, x, y)
-
-  one_sure : (v : Value) (q : ℤ) (w : ℕ) → unsigned_abs q ≤ 2 ^ 54 → w ≤ 2 ^ 54 → (bare v + word q) % 2 ^ 64 ≤ w → Sure v q w
-  one_sure v q w hq hw le = sure v q w hq hw (le-ltb w ((bare v + word q) % 2 ^ 64) le)
-
-  joined_sure : (is : List ℕ) (v : ℕ) (q : ℤ) (w : ℕ) (σ : State) → unsigned_abs q ≤ 2 ^ 54 → w ≤ 2 ^ 54 → joined_word σ q v is ≤ w → AllSure σ q w is
-  joined_sure [] v q w σ hq hw le = tt
-  joined_sure (i ∷ is) v q w σ hq hw le =
-      let x = le_or_r v (shift_word σ q i) in
-      let y = joined_above is (bit_or v (shift_word σ q i)) q σ in
-      (one_sure (global_value i σ) q w hq hw (omega (arith, x, y, le)), joined_sure is (bit_or v (shift_word σ q i)) q w σ hq hw le)
-
-  all_sure : (is : List ℕ) (q : ℤ) (w : ℕ) (σ : State) → unsigned_abs q ≤ 2 ^ 54 → w ≤ 2 ^ 54 → all_flag σ q w is ≡ false → AllSure σ q w is
-  all_sure [] q w σ hq hw e = tt
-  all_sure (i ∷ is) q w σ hq hw e =
-      let le = ltb-false w (joined_word σ q (shift_word σ q i) is) e in
-      let y = joined_above is (shift_word σ q i) q σ in
-      (one_sure (global_value i σ) q w hq hw (omega (arith, le, y)), joined_sure is (shift_word σ q i) q w σ hq hw le)
-
-  among_sure : (i : ℕ) (is : List ℕ) (q : ℤ) (w : ℕ) (σ : State) → is_among i is ≡ true → AllSure σ q w is → Sure (global_value i σ) q w
-  among_sure i [] q w σ e h = cc
-  among_sure i (j ∷ js) q w σ e h = by (λ e1. among_sure i js q w σ e1 h.1) (nat_eq i j) refl e
-    where
-      by : (is_among i js ≡ true → Sure (global_value i σ) q w) → (t : Bool) → nat_eq i j ≡ t → t || is_among i js ≡ true → Sure (global_value i σ) q w
-      by r true et e1 = subst (λ k. Sure (global_value k σ) q w) (sym (eqb-true i j et)) h.0
-      by r false et e1 = r e1
-
-  name_among : (i : ℕ) (is : List ℕ) → is_among i (and_name i is) ≡ true
-  name_among i is = by (is_among i is) refl
-    where
-      by : (t : Bool) → is_among i is ≡ t → is_among i (if t then is else i ∷ is) ≡ true
-      by true e = e
-      by false e = ap (λ t. t || is_among i is) (eq-eqb i i refl)
-
-  or_true : (t : Bool) → t || true ≡ true
-  or_true true = refl
-  or_true false = refl
-
-  still_among : (i j : ℕ) (is : List ℕ) → is_among j is ≡ true → is_among j (and_name i is) ≡ true
-  still_among i j is e = by (is_among i is)
-    where
-      by : (t : Bool) → is_among j (if t then is else i ∷ is) ≡ true
-      by true = e
-      by false = ap (λ t. nat_eq j i || t) e ∙ or_true (nat_eq j i)
-
   name_unboxed : (i : ℕ) (is : List ℕ) → has_kind kinds i Unboxed ≡ true → AllUnboxed is → AllUnboxed (and_name i is)
   name_unboxed i is hk h = by (is_among i is)
     where
@@ -300,22 +200,6 @@ module _ (p : Program) (deepest : ℕ) (ks : List Kind) (F : List Frame) (b : Ba
   source_unboxed m (Named i) is hs h = name_unboxed i is hs h
   source_unboxed m (Constant z) is hs h = h
 
-  abbrev Within_ : Source → List ℕ → Type 0
-  Within_ (Named i) is = is_among i is ≡ true
-  Within_ (Constant z) is = Unit {0}
-
-  source_among : (s : Source) (is : List ℕ) → Within_ s (and_source s is)
-  source_among (Named i) is = name_among i is
-  source_among (Constant z) is = tt
-
-  source_still : (s : Source) (i : ℕ) (is : List ℕ) → Within_ s is → Within_ s (and_name i is)
-  source_still (Named j) i is h = still_among i j is h
-  source_still (Constant z) i is h = tt
-
-  source_beside : (s o : Source) (is : List ℕ) → Within_ s is → Within_ s (and_source o is)
-  source_beside s (Named i) is h = source_still s i is h
-  source_beside s (Constant z) is h = h
-
   -- a source as an operand
   record Operand (s : Source) (σ : State) (most : ℕ) : Type 0 where
     number : AnyNumber
@@ -324,7 +208,7 @@ module _ (p : Program) (deepest : ℕ) (ks : List Kind) (F : List Frame) (b : Ba
     words : word_of s σ ≡ number_word number
     side : numeric_side (val_of s σ) ≡ Some (Ok number.number)
 
-  operand : (s : Source) (is : List ℕ) (c w : ℕ) (σ : State) → w ≤ c + c → SourceFits c s → c ≤ 2 ^ 53 → Within_ s is → AllSure σ (pos c) w is → Operand s σ c
+  operand : (s : Source) (is : List ℕ) (c w : ℕ) (σ : State) → w ≤ c + c → SourceFits c s → c ≤ 2 ^ 53 → StandsAmong s is → AllSure σ (pos c) w is → Operand s σ c
   operand (Named i) is c w σ hw hf hc h a =
       let s = among_sure i is (pos c) w σ h a in
       record {
@@ -339,34 +223,6 @@ module _ (p : Program) (deepest : ℕ) (ks : List Kind) (F : List Frame) (b : Ba
       let nz = or_zero (number_of z) in
       let e : nz.number ≡ z = nought_number z (le-leb (unsigned_abs z) (2 ^ 53) (omega (arith, le, hc))) in
       record { number = nz; num = refl; few = subst (λ x. unsigned_abs x ≤ c) (sym e) le; words = ap word (sym e); side = refl }
-
-  joined_few : (is : List ℕ) → joined_steps is ≤ length is + (length is + length is)
-  joined_few [] = omega arith
-  joined_few (i ∷ is) = let h = joined_few is in omega (arith, h)
-
-  all_few : (is : List ℕ) → all_steps is ≤ length is + (length is + length is)
-  all_few [] = omega arith
-  all_few (i ∷ is) = let h = joined_few is in omega (arith, h)
-
-  name_longer : (i : ℕ) (is : List ℕ) → length (and_name i is) ≤ suc (length is)
-  name_longer i is = by (is_among i is)
-    where
-      by : (t : Bool) → length (if t then is else i ∷ is) ≤ suc (length is)
-      by true = omega arith
-      by false = omega arith
-
-  source_longer : (s : Source) (is : List ℕ) → length (and_source s is) ≤ suc (length is)
-  source_longer (Named i) is = name_longer i is
-  source_longer (Constant z) is = omega arith
-
-  abbrev source_code : Source → Code
-  source_code (Named i) = Get (Global true i)
-  source_code (Constant z) = Number z
-
-  source_is : (e : Code) (s : Source) → source_in e ≡ Some s → e ≡ source_code s
-  source_is (Get (Global true j)) s q = ap source_code (some_is (Named j) s q)
-  source_is (Number z) s q = ap source_code (some_is (Constant z) s q)
-  source_is e s q = cc
 
   -- Comparisons of two sources.
 
@@ -409,39 +265,8 @@ module _ (p : Program) (deepest : ℕ) (ks : List Kind) (F : List Frame) (b : Ba
       by None e1 r e2 eq = cc
   pair_is e q eq so = cc
 
-  contrary_holds : (c : CompareOp) (o : Ordering) → holds (contrary c) o ≡ not (holds c o)
-  contrary_holds op.Less Less = refl
-  contrary_holds op.Less Equal = refl
-  contrary_holds op.Less Greater = refl
-  contrary_holds op.LessOrEqual Less = refl
-  contrary_holds op.LessOrEqual Equal = refl
-  contrary_holds op.LessOrEqual Greater = refl
-  contrary_holds op.Equal Less = refl
-  contrary_holds op.Equal Equal = refl
-  contrary_holds op.Equal Greater = refl
-  contrary_holds op.NotEqual Less = refl
-  contrary_holds op.NotEqual Equal = refl
-  contrary_holds op.NotEqual Greater = refl
-  contrary_holds op.Greater Less = refl
-  contrary_holds op.Greater Equal = refl
-  contrary_holds op.Greater Greater = refl
-  contrary_holds op.GreaterOrEqual Less = refl
-  contrary_holds op.GreaterOrEqual Equal = refl
-  contrary_holds op.GreaterOrEqual Greater = refl
-
   pub pair_unboxed : (e : Code) (q : Pair) → PairIs e q → AllUnboxed (pair_names q)
   pair_unboxed e q t = source_unboxed (2 ^ 53) q.left (and_source q.right []) t.left (source_unboxed (2 ^ 53) q.right [] t.right tt)
-
-  pair_few : (q : Pair) → all_steps (pair_names q) ≤ 6
-  pair_few q =
-      let x = source_longer q.right [] in
-      let y = source_longer q.left (and_source q.right []) in
-      let z = all_few (pair_names q) in
-      omega (arith, x, y, z)
-
-  one_few : (s : Source) → source_steps s ≤ 1
-  one_few (Named i) = omega arith
-  one_few (Constant z) = omega arith
 
   -- both ways of a comparison
   module _ (e : Code) (ok : ExprOk p deepest ks F b M n e) (u d out : ℕ) (k : Instructions) (K : List Label) (l : Locals) (σ : State) (so : test_sorted (context p deepest ks F b M n) e ≡ true) (rm : room e ≤ b.temporaries) (ar : arrays_in e ≤ b.arrays) (s : Starts p deepest ks F b M n u K l σ) where
@@ -592,17 +417,6 @@ module _ (p : Program) (deepest : ℕ) (ks : List Kind) (F : List Frame) (b : Ba
       let s2 = and_parts (sorted ctx fs x) (sorted ctx fs y && true) s1.1 in
       record { kind = s.0; first_one = s2.0; second = (and_parts (sorted ctx fs y) true s2.1).0 }
 
-  -- sources, if they are such, and near
-  near_sum : (i : ℕ) (o : Arithmetic) (a e : Source) (s : Sum) → sum_of i o (Some a) (Some e) ≡ Some s → ((is_sum o ≡ true) × (is_near a ≡ true) × (is_near e ≡ true)) × (record { target = i; op = o; left = a; right = e } ≡ s)
-  near_sum i o a e s eq = by (is_sum o && (is_near a && is_near e)) refl eq
-    where
-      by : (t : Bool) → is_sum o && (is_near a && is_near e) ≡ t → (if t then Some (record { target = i; op = o; left = a; right = e }) else None) ≡ Some s → ((is_sum o ≡ true) × (is_near a ≡ true) × (is_near e ≡ true)) × (record { target = i; op = o; left = a; right = e } ≡ s)
-      by false e1 e2 = cc
-      by true e1 e2 =
-          let h = and_parts (is_sum o) (is_near a && is_near e) e1 in
-          let g = and_parts (is_near a) (is_near e) h.1 in
-          ((h.0, g.0, g.1), some_is _ s e2)
-
   set_is : (i : ℕ) (o : Arithmetic) (x y : Code) (s : Sum) → sum_of i o (source_in x) (source_in y) ≡ Some s → sorted (context p deepest ks F b M n) [] (set_code i o x y) ≡ true → SumIs (set_code i o x y) s
   set_is i o x y s eq so = by (source_in x) refl (source_in y) refl eq
     where
@@ -708,74 +522,47 @@ module _ (p : Program) (deepest : ℕ) (ks : List Kind) (F : List Frame) (b : Ba
 
   -- Which code is such a step.
 
-  abbrev Sorted_ : Code → Type 0
-  Sorted_ e = sorted (context p deepest ks F b M n) [] e ≡ true
+  abbrev WellSorted : Code → Type 0
+  WellSorted e = sorted (context p deepest ks F b M n) [] e ≡ true
 
-  two_is : (i : ℕ) (o : Arithmetic) (es : Codes) (s : Sum) → two_sum i o es ≡ Some s → Sorted_ (Set (Global true i) (Do (Inline o) es)) → SumIs (Set (Global true i) (Do (Inline o) es)) s
+  two_is : (i : ℕ) (o : Arithmetic) (es : Codes) (s : Sum) → two_sum i o es ≡ Some s → WellSorted (Set (Global true i) (Do (Inline o) es)) → SumIs (Set (Global true i) (Do (Inline o) es)) s
   two_is i o (At x (At y End)) s eq so = set_is i o x y s eq so
   two_is i o es s eq so = cc
 
-  do_is : (i : ℕ) (e : Code) (s : Sum) → set_sum i e ≡ Some s → Sorted_ (Set (Global true i) e) → SumIs (Set (Global true i) e) s
+  do_is : (i : ℕ) (e : Code) (s : Sum) → set_sum i e ≡ Some s → WellSorted (Set (Global true i) e) → SumIs (Set (Global true i) e) s
   do_is i (Do (Inline o) es) s eq so = two_is i o es s eq so
   do_is i e s eq so = cc
 
-  kept_is : (i : ℕ) (o : Arithmetic) (a : Code) (es : Codes) (s : Sum) → kept_sum i o a es ≡ Some s → Sorted_ (Let a (Set (Global true i) (Do (Inline o) es))) → SumIs (Let a (Set (Global true i) (Do (Inline o) es))) s
+  kept_is : (i : ℕ) (o : Arithmetic) (a : Code) (es : Codes) (s : Sum) → kept_sum i o a es ≡ Some s → WellSorted (Let a (Set (Global true i) (Do (Inline o) es))) → SumIs (Let a (Set (Global true i) (Do (Inline o) es))) s
   kept_is i o a (At x (At (Bound true zero) End)) s eq so = update_is i o a x s eq so
   kept_is i o a es s eq so = cc
 
-  set_kept_is : (i : ℕ) (a e : Code) (s : Sum) → update_sum i a e ≡ Some s → Sorted_ (Let a (Set (Global true i) e)) → SumIs (Let a (Set (Global true i) e)) s
+  set_kept_is : (i : ℕ) (a e : Code) (s : Sum) → update_sum i a e ≡ Some s → WellSorted (Let a (Set (Global true i) e)) → SumIs (Let a (Set (Global true i) e)) s
   set_kept_is i a (Do (Inline o) es) s eq so = kept_is i o a es s eq so
   set_kept_is i a e s eq so = cc
 
-  stored_is : (y : Code) (i : ℕ) → stored_name y ≡ Some i → y ≡ Seq (Set (Global true i) (Bound true zero)) (Bound true (suc zero))
-  stored_is (Seq (Set (Global true j) (Bound true zero)) (Bound true (suc zero))) i e = ap (λ k. Seq (Set (Global true k) (Bound true zero)) (Bound true (suc zero))) (some_is j i e)
-  stored_is y i e = cc
-
-  new_is : (a : Code) (i : ℕ) (x : Code) (s : Sum) → new_sum (source_in a) (Some i) x ≡ Some s → Sorted_ (Let (Do AsNumber (At a End)) (Let x (Seq (Set (Global true i) (Bound true zero)) (Bound true (suc zero))))) →
+  new_is : (a : Code) (i : ℕ) (x : Code) (s : Sum) → new_sum (source_in a) (Some i) x ≡ Some s → WellSorted (Let (Do AsNumber (At a End)) (Let x (Seq (Set (Global true i) (Bound true zero)) (Bound true (suc zero))))) →
       SumIs (Let (Do AsNumber (At a End)) (Let x (Seq (Set (Global true i) (Bound true zero)) (Bound true (suc zero))))) s
   new_is a i (Do (Inline o) (At (Bound false zero) (At (Number z) End))) s eq so = old_is i o a z s eq so
   new_is a i x s eq so = cc
 
-  none_new : (i : Option ℕ) (x : Code) (s : Sum) → new_sum None i x ≡ Some s → ⊥
-  none_new (Some i) (Do (Inline o) (At (Bound false zero) (At (Number z) End))) s e = cc
-  none_new i x s e = cc
-
-  step_is : (a x y : Code) (s : Sum) → new_sum (old_source a) (stored_name y) x ≡ Some s → Sorted_ (Let a (Let x y)) → SumIs (Let a (Let x y)) s
+  step_is : (a x y : Code) (s : Sum) → new_sum (old_source a) (stored_name y) x ≡ Some s → WellSorted (Let a (Let x y)) → SumIs (Let a (Let x y)) s
   step_is (Do AsNumber (At a End)) x y s eq so = by (stored_name y) refl eq
     where
       by : (i : Option ℕ) → stored_name y ≡ i → new_sum (source_in a) i x ≡ Some s → SumIs (Let (Do AsNumber (At a End)) (Let x y)) s
-      by (Some i) e1 e2 = subst (λ t. Sorted_ (Let (Do AsNumber (At a End)) (Let x t)) → SumIs (Let (Do AsNumber (At a End)) (Let x t)) s) (sym (stored_is y i e1)) (new_is a i x s e2) so
+      by (Some i) e1 e2 = subst (λ t. WellSorted (Let (Do AsNumber (At a End)) (Let x t)) → SumIs (Let (Do AsNumber (At a End)) (Let x t)) s) (sym (stored_is y i e1)) (new_is a i x s e2) so
       by None e1 e2 = cc
   step_is a x y s eq so = absurd (none_new (stored_name y) x s eq)
 
-  let_is : (a e : Code) (s : Sum) → let_sum a e ≡ Some s → Sorted_ (Let a e) → SumIs (Let a e) s
+  let_is : (a e : Code) (s : Sum) → let_sum a e ≡ Some s → WellSorted (Let a e) → SumIs (Let a e) s
   let_is a (Set (Global true i) e) s eq so = set_kept_is i a e s eq so
   let_is a (Let x y) s eq so = step_is a x y s eq so
   let_is a e s eq so = cc
 
-  pub sum_is : (e : Code) (s : Sum) → sum_in e ≡ Some s → Sorted_ e → SumIs e s
+  pub sum_is : (e : Code) (s : Sum) → sum_in e ≡ Some s → WellSorted e → SumIs e s
   sum_is (Set (Global true i) e) s eq so = do_is i e s eq so
   sum_is (Let a e) s eq so = let_is a e s eq so
   sum_is e s eq so = cc
-
-  -- the result, and its word
-  record Result_ (o : Arithmetic) (m1 m2 : AnyNumber) : Type 0 where
-    number : AnyNumber
-    outcome : outcome_of (arithmetic_of o m1.number m2.number) ≡ Ok number
-    words : binary_at w64 (sum_op o) (number_word m1) (number_word m2) ≡ Ok (number_word number)
-
-  result_of : (o : Arithmetic) (m1 m2 : AnyNumber) → is_sum o ≡ true → unsigned_abs m1.number ≤ 2 ^ 52 → unsigned_abs m2.number ≤ 2 ^ 52 → Result_ o m1 m2
-  result_of inline.Plus m1 m2 e h1 h2 =
-      let z = m1.number +ℤ m2.number in
-      let a = added_abs m1.number m2.number in
-      let i = le-leb (unsigned_abs z) (2 ^ 53) (omega (arith, a, h1, h2)) in
-      record { number = record { number = z; in_range = subst T (sym i) tt }; outcome = checked_in z i; words = ap Ok (sum_word m1.number m2.number (fits m1.number (small m1)) (fits m2.number (small m2)) (fits z (omega (arith, a, h1, h2)))) }
-  result_of inline.Minus m1 m2 e h1 h2 =
-      let z = m1.number +ℤ neg_ℤ m2.number in
-      let a = triangle m1.number m2.number in
-      let i = le-leb (unsigned_abs z) (2 ^ 53) (omega (arith, a, h1, h2)) in
-      record { number = record { number = z; in_range = subst T (sym i) tt }; outcome = checked_in z i; words = ap Ok (difference_word m1.number m2.number (fits m1.number (small m1)) (fits m2.number (small m2)) (fits z (omega (arith, a, h1, h2)))) }
-  result_of o m1 m2 e h1 h2 = cc
 
   -- the machine adds
   summed_ok : (s : Sum) (y : AnyNumber) (K : List Label) (k : Instructions) (l : Locals) (σ : State) → has_kind kinds s.target Unboxed ≡ true → SourceFits (2 ^ 52) s.left → SourceFits (2 ^ 52) s.right → length σ.globals ≡ length p.globals → beside (global_value s.target σ) ≡ empty →
@@ -802,14 +589,6 @@ module _ (p : Program) (deepest : ℕ) (ks : List Kind) (F : List Frame) (b : Ba
 
   pub sum_unboxed : (e : Code) (s : Sum) → SumIs e s → AllUnboxed (sum_names s)
   sum_unboxed e s t = name_unboxed s.target (and_source s.left (and_source s.right [])) t.kind (source_unboxed (2 ^ 52) s.left (and_source s.right []) t.left (source_unboxed (2 ^ 52) s.right [] t.right tt))
-
-  sum_few : (s : Sum) → all_steps (sum_names s) ≤ 9
-  sum_few s =
-      let x = source_longer s.right [] in
-      let y = source_longer s.left (and_source s.right []) in
-      let t = name_longer s.target (and_source s.left (and_source s.right [])) in
-      let z = all_few (sum_names s) in
-      omega (arith, x, y, z, t)
 
   pub eval_step : (e : Code) → ExprOk p deepest ks F b M n e → StepOk p deepest ks F b M n (Eval e)
   unfolding step_emitted steps_emitted step_sorted steps_sorted

@@ -6,7 +6,7 @@ use Rattle.wasm_types.specs.declared.instr.Simple.TheVariants.{Nop}
 use Rattle.mid_program.specs.Mid.{Step, Eval, Block as Body, If as Either, Loop as Rounds, Each, Break, Continue, Next, Exit, ExitWith, Return, Mark, Steps, NoStep, Then as AndThen}
 use Rattle.value_machine.specs.Quick.{is_nothing}
 
--- how many places a step takes: its own, those of the steps in it, and that of the test of a loop whose first round goes without it
+-- how many places a step takes: its own, those of the steps in it, and that of the test of a loop whose first round goes without it. A third part in which there is nothing has no code.
 abbrev mutual
   pub step_places : Step → ℕ
   step_places (Eval e) = 1
