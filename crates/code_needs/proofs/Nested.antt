@@ -1,5 +1,5 @@
 -- Code is nested as deep as its labels are counted.
-use Rattle.std.proofs.Common.{◌≡◌, ◌≤◌, ◌+◌, ℕ, zero, suc, Bool, true, false, List, [], ◌∷◌, length, max, arith}
+use Rattle.std.proofs.Common.{◌≡◌, ◌≤◌, ◌+◌, ℕ, zero, suc, Bool, true, false, List, [], ◌∷◌, length, max, refl, arith}
 use Rattle.std.specs.Prelude.{if◌then◌else◌, Option, Some, None, is_some, ℤ}
 use Rattle.awk_state.specs.declared.sorts.Answer.TheVariants as answer
 use Rattle.awk_state.specs.declared.sorts.Sort.TheVariants as sort
@@ -160,19 +160,19 @@ module _ (y : Layout) where
       past _ (past _ (past _ (past _ (past _ (at_least (inside_either (labelled _ false [] [] e zero zero (suc d)) any) (omega (arith, l)))))))
 
   -- a choice, whose ways are so deep
-  choice_labelled : {k A B plain : Instructions} {t a c : ℕ} (o : Option Pair) (e : Code) (d : ℕ) → Deep A a → Deep B c → Deep plain (choice_labels false (labels_in e) a c) →
+  choice_labelled : (k : Instructions) {A B plain : Instructions} {a c : ℕ} (o : Option Pair) (e : Code) (d : ℕ) → Deep A a → Deep B c → Deep plain (choice_labels false (labels_in e) a c) →
       Deep (if is_some o then block (block (left_unless_pair y o e d zero A) B) k else plain) (choice_labels (is_some o) (labels_in e) a c)
-  choice_labelled None e d r q z = z
-  choice_labelled {A = A} (Some p) e d r q z =
+  choice_labelled k None e d r q z = z
+  choice_labelled k {A = A} (Some p) e d r q z =
       at_least (inside_block (both (inside_block (both (pair_labelled A (Some p) e d zero) (pair_deep (Some p) e d zero r))) (behind_block q))) (omega arith)
 
   nothing_labelled : (c : Step) → is_nothing c ≡ true → step_labels c ≤ 0
   nothing_labelled (Steps_ NoStep) e = omega arith
   nothing_labelled c e = cc
 
-  rest_labelled : (j : Bool) (c : Step) {a k : Instructions} → is_nothing c ≡ j → Deep k (step_labels c) → Deep (if j then a else k) (step_labels c)
-  rest_labelled true c e r = at_least any (nothing_labelled c e)
-  rest_labelled false c e r = r
+  rest_labelled : (j : Bool) (c : Step) (a : Instructions) {k : Instructions} → is_nothing c ≡ j → Deep k (step_labels c) → Deep (if j then a else k) (step_labels c)
+  rest_labelled true c a e r = at_least any (nothing_labelled c e)
+  rest_labelled false c a e r = r
 
   body_labelled : (j : Bool) {a inner rest : Instructions} {m n : ℕ} → Deep inner m → Deep a (max m n) → Deep rest n → Deep (if j then block inner rest else a) (max (more_if j m) n)
   body_labelled true r q z = both (inside_block r) (behind_block z)
@@ -207,10 +207,10 @@ module _ (y : Layout) where
     step_labelled k (Eval e) u d bk ct = past _ (quick_labelled k (sum_in e) e d)
     step_labelled k (Steps_ ss) u d bk ct = past _ (steps_labelled _ ss u d bk ct)
     step_labelled k (Either e a c) u d bk ct =
-        past _ (choice_labelled (pair_in e) e (suc (suc d)) (step_labelled _ a u (suc (suc d)) (suc (suc bk)) (suc (suc ct))) (step_labelled _ c u (suc d) (suc bk) (suc ct))
+        past _ (choice_labelled k (pair_in e) e (suc (suc d)) (step_labelled _ a u (suc (suc d)) (suc (suc bk)) (suc (suc ct))) (step_labelled _ c u (suc d) (suc bk) (suc ct))
         (both (labelled _ false [] [] e zero zero d) (tested_deep y [] [] e zero zero d (inside_either (step_labelled _ a u (suc d) (suc bk) (suc ct)) (step_labelled _ c u (suc d) (suc bk) (suc ct))))))
     step_labelled k (Loop true e a c) u d bk ct =
-        let rest = rest_labelled (is_nothing c) c {a = does (Br zero) Done} refl (step_labelled (does (Br zero) Done) c u (suc (suc d)) 1 zero) in
+        let rest = rest_labelled (is_nothing c) c (does (Br zero) Done) refl (step_labelled (does (Br zero) Done) c u (suc (suc d)) 1 zero) in
         past _ (at_least (inside_loop (both (unless_labelled _ (test_within e) e (suc (suc d)) 1) (unless_deep (test_within e) e (suc (suc d)) 1
         (body_labelled (step_jumps a) (step_labelled Done a u (suc (suc (suc d))) 2 zero) (both (step_labelled _ a u (suc (suc d)) 1 zero) (step_deep a u (suc (suc d)) 1 zero rest)) rest)))) (omega arith))
     step_labelled k (Loop false e a c) u d bk ct =

@@ -1,5 +1,5 @@
 -- What runs take: `n` is unboxed, and no import is called where it counts.
-use Rattle.std.specs.Prelude.{◌≡◌, ℕ, Bool, true, false, [], ◌∷◌, codes, Some, pos, refl}
+use Rattle.std.specs.Prelude.{◌≡◌, ℕ, Bool, true, false, List, [], ◌∷◌, codes, Some, pos, refl}
 use Rattle.std.specs.Fmt.{digits}
 use Rattle.awk_values.specs.declared.comparison.CompareOp.TheVariants.{Less, LessOrEqual}
 use Rattle.awk_values.specs.declared.fault.Fault.TheVariants.{TextLimit}
@@ -77,7 +77,7 @@ unfolding emitted all_emitted step_emitted steps_emitted digits
 kept_from_the_start = refl
 
 -- 15 steps a round and no import; boxed, 49 steps and 7 imports
-pub unboxed_rounds : (steps_of (counting true 10) ≡ 313) × ((steps_of (counting true 20) ≡ 463) × (imports_of (counting true 10) ≡ 7))
+pub unboxed_rounds : (steps_of (counting true 10) ≡ 303) × ((steps_of (counting true 20) ≡ 453) × (imports_of (counting true 10) ≡ 7))
 unfolding emitted all_emitted step_emitted steps_emitted digits
 unboxed_rounds = (refl, (refl, refl))
 
@@ -85,12 +85,12 @@ pub boxed_rounds : (steps_of (counting false 10) ≡ 575) × ((steps_of (countin
 unfolding emitted all_emitted step_emitted steps_emitted digits
 boxed_rounds = (refl, (refl, (refl, refl)))
 
--- BEGIN { m = k; for (i = 1; i <= m; i++) s += i; print s }, names in this order
+-- BEGIN { m = k; for (i = 1; i <= m; i++) s += i; print s }: m, i and s in this order
 abbrev nth : ℕ → Code
 nth i = Get (Global true i)
 
-abbrev unboxed_name : Declared
-unboxed_name = record { name = codes "x"; kind = Unboxed }
+abbrev unboxed_name : List ℕ → Declared
+unboxed_name x = record { name = x; kind = Unboxed }
 
 abbrev first_and_next : Steps
 first_and_next =
@@ -103,7 +103,7 @@ first_and_next =
 abbrev summing : ℕ → Program
 summing k = record {
   texts = [];
-  globals = unboxed_name ∷ (unboxed_name ∷ (unboxed_name ∷ []));
+  globals = unboxed_name (codes "m") ∷ (unboxed_name (codes "i") ∷ (unboxed_name (codes "s") ∷ []));
   routines = [];
   ranges = 1;
   begin = Then (Eval (Set (Global true 0) (Number (pos k)))) (Then (Block first_and_next) (Then (Eval (Over (Print to.Standard) (At (nth 2) End))) NoStep));
