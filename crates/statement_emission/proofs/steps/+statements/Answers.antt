@@ -13,8 +13,8 @@ use Rattle.statement_emission.specs.Parts.{first_turn, key_turn, tested_turn}
 use Rattle.statement_emission.proofs.Stepping.{block_code, block_fits, block_places, first_fits, first_places, loop_code}
 use Rattle.statement_emission.proofs.steps.+statements.Goals as goal
 
-pub choice-returns : goal.choice-returns
-choice-returns t c =
+pub plain_choice-returns : goal.plain_choice-returns
+plain_choice-returns t c =
     let y = view_layout c.args.y.now in
     let at = c.args.at in
     let yes_code : Instructions → Instructions = step_emitted y (view_step c.args.yes.now) at.iterators (suc at.exit) (suc at.break_to) (suc at.continue_to) in
