@@ -1,13 +1,14 @@
 //! What the code of statements needs.
-ghost use Rattle.std.specs.Prelude.{◌≡◌, ℕ, max};
+ghost use Rattle.std.specs.Prelude.{◌≡◌, is_some, ℕ, max};
 ghost use Rattle.code_needs.specs.Counted.{counted};
-ghost use Rattle.code_needs.specs.Labels.{choice_labels, loop_labels, more_if, step_labels, steps_labels};
-ghost use Rattle.mid_program.specs.ViewCode.{view_step, view_steps};
-ghost use Rattle.value_machine.specs.Places.{step_arrays, step_iterators, step_room, steps_arrays, steps_iterators, steps_room};
+ghost use Rattle.code_needs.specs.Labels.{choice_labels, labels_in, loop_labels, more_if, step_labels, steps_labels};
+ghost use Rattle.mid_program.specs.ViewCode.{view, view_step, view_steps};
+ghost use Rattle.value_machine.specs.Quick.{pair_in};
+ghost use Rattle.value_machine.specs.Places.{arrays_in, room, step_arrays, step_iterators, step_room, steps_arrays, steps_iterators, steps_room};
 
 use crate::code::counts_in;
 use crate::counts::{Counts, both, inside, later, only, walking};
-use mid_program::Step;
+use mid_program::{Code, Step};
 use quick_forms::{pair_in, step_jumps, sum_in};
 
 /// One label more where this is so.
@@ -18,6 +19,16 @@ fn more_if(more: bool, counts: Counts) -> Counts
     ensures labels { (n : ℕ) → counts.labels ≡ counted n → result.labels ≡ counted (more_if more n) }
 {
     if more { inside(counts, 1) } else { counts }
+}
+
+/// What a test needs: where it has a quick way, the code of all cases stands beside that.
+fn test_counts(test: &Code) -> Counts
+    ensures temporaries { result.temporaries ≡ counted (room (view test.now)) }
+    ensures arrays { result.arrays ≡ counted (arrays_in (view test.now)) }
+    ensures iterators { result.iterators ≡ 0 }
+    ensures labels { result.labels ≡ counted (more_if (is_some (pair_in (view test.now))) (labels_in (view test.now))) }
+{
+    more_if(pair_in(test).is_some(), counts_in(test))
 }
 
 /// What a choice needs, by whether its test has a quick way.
@@ -63,9 +74,8 @@ fn step_counts(step: &Step) -> Counts
             choice_counts(quick, counts_in(test), step_counts(yes), step_counts(no))
         }
         Step::Loop(true, test, body, last) => {
-            let test = more_if(pair_in(test).is_some(), counts_in(test));
             let body = more_if(step_jumps(body), step_counts(body));
-            loop_counts(test, body, step_counts(last))
+            loop_counts(test_counts(test), body, step_counts(last))
         }
         Step::Loop(false, test, body, last) => {
             let body = inside(step_counts(body), 1);
