@@ -1,5 +1,5 @@
 -- The shapes that are found, as the definitions see them.
-use Rattle.std.specs.Prelude.{Option, None, Some}
+use Rattle.std.specs.Prelude.{pos, ◌^◌}
 use Rattle.value_machine.specs.Quick as plain
 use Rattle.quick_forms.specs.declared.source.Source.{Source}
 use Rattle.quick_forms.specs.declared.source.Source.TheVariants.{Named, Constant}
@@ -17,5 +17,6 @@ view_sum s = record { target = s.target; op = s.op; left = view_source s.left; r
 abbrev pub view_pair : Pair → plain.Pair
 view_pair q = record { op = q.op; left = view_source q.left; right = view_source q.right }
 
+-- numbers from -2^53 on
 abbrev pub view_within : Within → plain.Within
-view_within w = record { name = w.name; shift = w.shift; width = w.width }
+view_within w = record { name = w.name; shift = pos (2 ^ 53); width = w.width }

@@ -12,11 +12,10 @@ use mid_program::Code;
 /// The least number.
 const LEAST_NUMBER: i64 = -(1 << 53);
 
-/// Of a name the numbers that are from 0 to a width once the shift is added to them.
+/// Of a name the numbers from the least one on, up to one that is so much greater.
 #[derive(Clone, Copy, Debug, PartialEq, Eq, Drop)]
 pub struct Within {
     pub name: usize,
-    pub shift: i64,
     pub width: u64,
 }
 
@@ -31,11 +30,7 @@ fn compared_within(op: CompareOp, name: usize, number: i64) -> Option<Within>
         CompareOp::Equal | CompareOp::NotEqual | CompareOp::Greater | CompareOp::GreaterOrEqual =>
             return None,
     };
-    Some(Within {
-        name,
-        shift: 1 << 53,
-        width,
-    })
+    Some(Within { name, width })
 }
 
 /// The numbers of a name of which a test is true, where it compares the name with a constant.

@@ -1,16 +1,19 @@
 -- The names of quick ways are numbers of globals, where the code can be emitted.
-use Rattle.std.proofs.Common.{◌≡◌, ℕ, zero, suc, ◌^◌, ◌<◌, ◌≤◌, Bool, true, false, List, [], ◌∷◌, length, get_or, drop, drop-cons, Option, Some, None, ℤ, pos, ◌+ℤ◌, unsigned_abs, refl, sym, ap, subst, if◌then◌else◌}
+use Rattle.std.proofs.Common.{◌≡◌, ℕ, zero, suc, ◌^◌, ◌<◌, ◌≤◌, Bool, true, false, List, [], ◌∷◌, length, get_or, drop, drop-cons, Option, Some, None, ℤ, pos, ◌+ℤ◌, unsigned_abs, refl, sym, ap, subst, arith, if◌then◌else◌}
 use Rattle.awk_values.specs.declared.comparison.CompareOp.{CompareOp}
 use Rattle.awk_values.specs.declared.comparison.CompareOp.TheVariants as compare
+use Rattle.wasm_types.specs.Syntax.{Instructions}
+use Rattle.wasm_types.specs.declared.instr.Simple.{Simple}
 use Rattle.mid_program.specs.declared.mid.Arithmetic.{Arithmetic}
 use Rattle.mid_program.specs.declared.mid.Operation.TheVariants.{Inline, AsNumber}
 use Rattle.mid_program.specs.Mid.{Global, Code, Do, Compare, Number, Get, Set, Seq, Let, Bound, Codes, End, At}
 use Rattle.value_machine.specs.Emission.{Layout}
-use Rattle.value_machine.specs.Quick.{Source, Named, Constant, Sum, Pair, Within, and_name, and_source, both_within, compared_within, constant_in, first_ones, is_among, kept_sum, let_sum, name_in, new_sum, old_source, pair_in, pair_names, pair_of, set_sum, source_in, stored_name, sum_in, sum_names, sum_of, test_within, two_sum, update_sum}
+use Rattle.value_machine.specs.Quick.{Source, Named, Constant, Sum, Pair, Within, all_unsure, joined, shifted, and_name, and_source, both_within, compared_within, constant_in, first_ones, is_among, kept_sum, let_sum, name_in, new_sum, old_source, pair_in, pair_names, pair_of, set_sum, source_in, stored_name, sum_in, sum_names, sum_of, test_within, two_sum, update_sum}
 use Rattle.value_machine.proofs.Quick.{name_is}
 use Rattle.value_machine.proofs.QuickNames.{near_sum, some_is, source_code, source_is, stored_is}
 use Rattle.code_emission.specs.Bounds.{most_places}
 use Rattle.expression_emission.specs.Fits.{AllFit, Fits}
+use Rattle.statement_emission.specs.Parts.{past}
 use Rattle.statement_emission.specs.QuickFits.{NamesFit, PairFits, SourceFits, SumFits}
 
 -- lists of names
@@ -35,6 +38,11 @@ pair_list q f = source_list q.left (and_source q.right []) f.0 (source_list q.ri
 -- the first of the names that are left
 pub first_name : (is : List ℕ) (n i : ℕ) → n < length is → i ≡ get_or is n i → NamesFit (drop n is) → (i ≤ most_places) × NamesFit (drop (suc n) is)
 first_name is n i lt e f = subst (λ (j : ℕ). (j ≤ most_places) × NamesFit (drop (suc n) is)) (sym e) (subst NamesFit (drop-cons is n i lt) f)
+
+-- the test of names, from that of the first and the others
+pub all_of : (read : ℕ → Simple) (is : List ℕ) (q : ℤ) (w : ℕ) (k : Instructions) → 1 ≤ length is → shifted (read (get_or is 0 0)) q (joined read (drop 1 is) q (past w k)) ≡ all_unsure read is q w k
+all_of read [] q w k h = absurd (omega arith)
+all_of read (i ∷ is) q w k h = refl
 
 -- names in code
 

@@ -65,13 +65,14 @@ fn done_alone(
     dropped(y, &mut kept, out, code, at_first(exit))
 }
 
-/// The same in a list of its own.
+/// The same in a list of its own, from within one label more.
 fn done_code(y: &Layout<'_>, code: &Code, exit: u32) -> Result<Vec<Instr>, AllocError>
-    requires { Fits (view_layout y.now) (view code.now) 0 0 exit }
-    ensures { IfOk result (λ v. Emits [] v.items (dropped (view_layout y.now) [] [] (view code.now) 0 0 exit)) }
+    requires labels { suc exit ≤ most_labels }
+    requires fit { Fits (view_layout y.now) (view code.now) 0 0 (suc exit) }
+    ensures { IfOk result (λ v. Emits [] v.items (dropped (view_layout y.now) [] [] (view code.now) 0 0 (suc exit))) }
 {
     let mut out = Vec::new(y.alloc);
-    done_alone(y, &mut out, code, exit)?;
+    done_alone(y, &mut out, code, exit + 1)?;
     Ok(out)
 }
 
@@ -90,7 +91,7 @@ fn sum_done(
 {
     let names = sum_names(y.alloc, sum)?;
     all_unsure(y, out, &names, 1 << 52, 1 << 53)?;
-    let all_cases = done_code(y, code, exit + 1)?;
+    let all_cases = done_code(y, code, exit)?;
     let quick = sum_code(y, sum)?;
     either(y.alloc, out, all_cases, quick)
 }

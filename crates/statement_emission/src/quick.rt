@@ -1,9 +1,9 @@
 //! Quick ways of statements on numbers: names whose numbers are within bounds, and what is done with them on the stack.
-ghost use Rattle.std.specs.Prelude.{[], ◌≡◌, ◌≤◌, IfOk, OnOk};
+ghost use Rattle.std.specs.Prelude.{[], ◌≡◌, ◌≤◌, ◌^◌, IfOk, OnOk, pos, suc};
 ghost use Rattle.wasm_types.specs.Syntax.{Done};
 ghost use Rattle.value_machine.specs.Quick.{all_unsure, joined, shifted, sum_op, unsure};
 ghost use Rattle.value_machine.specs.Statements.{name_read, pair_left, source_pushed, summed};
-ghost use Rattle.code_emission.specs.Bounds.{most_places};
+ghost use Rattle.code_emission.specs.Bounds.{most_labels, most_places};
 ghost use Rattle.code_emission.specs.Emits.{Emits};
 ghost use Rattle.expression_emission.specs.View.{view_layout};
 ghost use Rattle.quick_forms.specs.View.{view_pair, view_source, view_sum};
@@ -51,9 +51,9 @@ fn past(out: &mut Vec<Instr>, width: u64) -> Result<(), AllocError>
 /// Adds the test whether a name has none of these numbers.
 pub(crate) fn unsure(y: &Layout<'_>, out: &mut Vec<Instr>, within: Within) -> Result<(), AllocError>
     requires { within.name ≤ most_places }
-    ensures { OnOk result (Emits out.old.items out.new.items (unsure (name_read (view_layout y.now) within.name) within.shift within.width)) }
+    ensures { OnOk result (Emits out.old.items out.new.items (unsure (name_read (view_layout y.now) within.name) (pos (2 ^ 53)) within.width)) }
 {
-    shifted(out, name_read(y, within.name), within.shift)?;
+    shifted(out, name_read(y, within.name), 1 << 53)?;
     past(out, within.width)
 }
 
@@ -155,12 +155,13 @@ fn pair_left(y: &Layout<'_>, out: &mut Vec<Instr>, pair: Pair, label: u32) -> Re
     does_all(out, &all)
 }
 
-/// The same in a list of its own.
+/// The same in a list of its own, from within one label more.
 pub(crate) fn pair_code(y: &Layout<'_>, pair: Pair, label: u32) -> Result<Vec<Instr>, AllocError>
-    requires { PairFits (view_pair pair) }
-    ensures { IfOk result (λ v. Emits [] v.items (pair_left (view_layout y.now) (view_pair pair) label)) }
+    requires label { label ≤ most_labels }
+    requires pair { PairFits (view_pair pair) }
+    ensures { IfOk result (λ v. Emits [] v.items (pair_left (view_layout y.now) (view_pair pair) (suc label))) }
 {
     let mut code = Vec::new(y.alloc);
-    pair_left(y, &mut code, pair, label)?;
+    pair_left(y, &mut code, pair, label + 1)?;
     Ok(code)
 }

@@ -41,13 +41,15 @@ fn test_left(
     does_all(out, &all)
 }
 
-/// The same in a list of its own.
+/// The same in a list of its own, from within one label more.
 fn test_code(y: &Layout<'_>, test: &Code, exit: u32, label: u32) -> Result<Vec<Instr>, AllocError>
-    requires { Fits (view_layout y.now) (view test.now) 0 0 exit }
-    ensures { IfOk result (λ v. Emits [] v.items (test_left (view_layout y.now) (view test.now) exit label)) }
+    requires labels { suc exit ≤ most_labels }
+    requires label { label ≤ exit }
+    requires fit { Fits (view_layout y.now) (view test.now) 0 0 (suc exit) }
+    ensures { IfOk result (λ v. Emits [] v.items (test_left (view_layout y.now) (view test.now) (suc exit) (suc label))) }
 {
     let mut code = Vec::new(y.alloc);
-    test_left(y, &mut code, test, exit, label)?;
+    test_left(y, &mut code, test, exit + 1, label + 1)?;
     Ok(code)
 }
 
@@ -68,8 +70,8 @@ fn pair_tested(
 {
     let names = pair_names(y.alloc, pair)?;
     all_unsure(y, out, &names, 1 << 53, 1 << 54)?;
-    let all_cases = test_code(y, test, exit + 1, label + 1)?;
-    let quick = pair_code(y, pair, label + 1)?;
+    let all_cases = test_code(y, test, exit, label)?;
+    let quick = pair_code(y, pair, label)?;
     either(y.alloc, out, all_cases, quick)
 }
 
@@ -108,7 +110,7 @@ fn within_tested(
     ensures { OnOk result (Emits out.old.items out.new.items (within_tested (view_layout y.now) (view_within within) (view test.now) exit label)) }
 {
     unsure(y, out, within)?;
-    let all_cases = test_code(y, test, exit + 1, label + 1)?;
+    let all_cases = test_code(y, test, exit, label)?;
     when(y.alloc, out, all_cases)
 }
 
