@@ -264,8 +264,8 @@ record TestRoom (e : Code) (d : ℕ) : Type 0 where
 module _ {c : Context} {y : Layout} (n : Named c y) where
   test_fits : (e : Code) (d : ℕ) → sorted c [] e ≡ true → TestRoom e d → TestFits y e d
   test_fits e d s r = (
-    code_fits n [] e 0 0 d s (record { places = r.places; arrays = r.arrays; labels = omega (arith, r.labels) }),
-    code_fits n [] e 0 0 (suc d) s (record { places = r.places; arrays = r.arrays; labels = omega (arith, r.labels) }),
+    code_fits n [] e 0 0 d s (record { places = omega (arith, r.places); arrays = omega (arith, r.arrays); labels = omega (arith, r.labels) }),
+    code_fits n [] e 0 0 (suc d) s (record { places = omega (arith, r.places); arrays = omega (arith, r.arrays); labels = omega (arith, r.labels) }),
   )
 
   mutual

@@ -1,5 +1,6 @@
 -- The names of quick ways are numbers of globals, where the code can be emitted.
-use Rattle.std.proofs.Common.{◌≡◌, ℕ, zero, suc, ◌^◌, ◌<◌, ◌≤◌, Bool, true, false, List, [], ◌∷◌, length, get_or, drop, drop-cons, Option, Some, None, ℤ, pos, ◌+ℤ◌, unsigned_abs, refl, sym, ap, subst, arith, if◌then◌else◌}
+use Rattle.std.proofs.Common.{◌≡◌, ℕ, zero, suc, ◌^◌, ◌<◌, ◌≤◌, Bool, true, false, List, [], ◌∷◌, length, get_or, take, drop, drop-cons, ◌-◌, Option, Some, None, ℤ, pos, ◌+ℤ◌, unsigned_abs, refl, sym, ap, subst, arith, if◌then◌else◌}
+use Rattle.std.proofs.lemmas.List.{take_all}
 use Rattle.awk_values.specs.declared.comparison.CompareOp.{CompareOp}
 use Rattle.awk_values.specs.declared.comparison.CompareOp.TheVariants as compare
 use Rattle.wasm_types.specs.Syntax.{Instructions}
@@ -40,9 +41,10 @@ pub first_name : (is : List ℕ) (n i : ℕ) → n < length is → i ≡ get_or 
 first_name is n i lt e f = subst (λ (j : ℕ). (j ≤ most_places) × NamesFit (drop (suc n) is)) (sym e) (subst NamesFit (drop-cons is n i lt) f)
 
 -- the test of names, from that of the first and the others
-pub all_of : (read : ℕ → Simple) (is : List ℕ) (q : ℤ) (w : ℕ) (k : Instructions) → 1 ≤ length is → shifted (read (get_or is 0 0)) q (joined read (drop 1 is) q (past w k)) ≡ all_unsure read is q w k
+pub all_of : (read : ℕ → Simple) (is : List ℕ) (q : ℤ) (w : ℕ) (k : Instructions) → 1 ≤ length is →
+    shifted (read (get_or is 0 0)) q (joined read (take (length is - 1) (drop 1 is)) q (past w k)) ≡ all_unsure read is q w k
 all_of read [] q w k h = absurd (omega arith)
-all_of read (i ∷ is) q w k h = refl
+all_of read (i ∷ is) q w k h = ap (λ (js : List ℕ). shifted (read i) q (joined read js q (past w k))) (take_all (suc (length is) - 1) is (omega arith))
 
 -- names in code
 

@@ -26,12 +26,12 @@ fn name_read(y: &Layout<'_>, name: usize) -> Simple
 }
 
 /// Adds a word and what is added to it.
-fn shifted(out: &mut Vec<Instr>, word: Simple, shift: i64) -> Result<(), AllocError>
-    ensures { OnOk result (Emits out.old.items out.new.items (shifted word shift)) }
+fn shifted(out: &mut Vec<Instr>, word: Simple, shift: u64) -> Result<(), AllocError>
+    ensures { OnOk result (Emits out.old.items out.new.items (shifted word (pos shift))) }
 {
     let all = [
         word,
-        Simple::I64Const(shift.cast_unsigned()),
+        Simple::I64Const(shift),
         Simple::Binary(ValType::I64, IBinOp::Add),
     ];
     does_all(out, &all)
@@ -62,10 +62,10 @@ fn joined(
     y: &Layout<'_>,
     out: &mut Vec<Instr>,
     names: &[usize],
-    shift: i64,
+    shift: u64,
 ) -> Result<(), AllocError>
     requires { NamesFit names.now }
-    ensures { OnOk result (Emits out.old.items out.new.items (joined (name_read (view_layout y.now)) names.now shift)) }
+    ensures { OnOk result (Emits out.old.items out.new.items (joined (name_read (view_layout y.now)) names.now (pos shift))) }
 {
     for name in names {
         shifted(out, name_read(y, *name), shift)?;
@@ -79,11 +79,11 @@ pub(crate) fn all_unsure(
     y: &Layout<'_>,
     out: &mut Vec<Instr>,
     names: &[usize],
-    shift: i64,
+    shift: u64,
     width: u64,
 ) -> Result<(), AllocError>
     requires { NamesFit names.now }
-    ensures { OnOk result (Emits out.old.items out.new.items (all_unsure (name_read (view_layout y.now)) names.now shift width)) }
+    ensures { OnOk result (Emits out.old.items out.new.items (all_unsure (name_read (view_layout y.now)) names.now (pos shift) width)) }
 {
     let [first, others @ ..] = names else {
         return does(out, Simple::I32Const(0));

@@ -1,4 +1,4 @@
-use Rattle.std.proofs.Common.{ap, ◌∙◌, arith}
+use Rattle.std.proofs.Common.{pos, ap, ◌∙◌, arith}
 use Rattle.std.proofs.lemmas.Result.{on_ok_weaker}
 use Rattle.value_machine.specs.Statements.{name_read}
 use Rattle.code_emission.specs.Emits.{followed}
@@ -10,5 +10,5 @@ pub returns : goal.returns
 returns c =
     on_ok_weaker c.past.result
     (λ h k. h k ∙ c.in_ok-joined.ensures _ ∙ (rw c.name_read.ensures at c.in_ok-shifted.ensures) _
-    ∙ ap (followed c.args.out.now.items) (all_of (name_read (view_layout c.args.y.now)) c.args.names.now c.args.shift c.args.width k (omega arith)))
+    ∙ ap (followed c.args.out.now.items) (all_of (name_read (view_layout c.args.y.now)) c.args.names.now (pos c.args.shift) c.args.width k (omega arith)))
     c.past.ensures
