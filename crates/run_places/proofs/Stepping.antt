@@ -37,13 +37,13 @@ alone : {k : Instructions} {m : List Instructions} → Nops k (m ++ []) → Nops
 alone {m = m} r = as_listed r (append-nil m)
 
 -- one of two codes, with the places of the one that it is
-chosen : (j : Bool) {a c : Instructions} {p q m : List Instructions} → Nops a (p ++ m) → Nops c (q ++ m) → Nops (if j then a else c) ((if j then p else q) ++ m)
-chosen true r q = r
-chosen false r q = q
+chosen : (j : Bool) (p q m : List Instructions) {a c : Instructions} → Nops a (p ++ m) → Nops c (q ++ m) → Nops (if j then a else c) ((if j then p else q) ++ m)
+chosen true p q m r s = r
+chosen false p q m r s = s
 
-chosen_before : (j : Bool) {a c : Instructions} {p q n m : List Instructions} → Nops a ((p ++ n) ++ m) → Nops c ((q ++ n) ++ m) → Nops (if j then a else c) (((if j then p else q) ++ n) ++ m)
-chosen_before true r q = r
-chosen_before false r q = q
+chosen_before : (j : Bool) (p q n m : List Instructions) {a c : Instructions} → Nops a ((p ++ n) ++ m) → Nops c ((q ++ n) ++ m) → Nops (if j then a else c) (((if j then p else q) ++ n) ++ m)
+chosen_before true p q n m r s = r
+chosen_before false p q n m r s = s
 
 none_or : (j : Bool) {a c : Instructions} {q : List Instructions} → Nops a [] → Nops c q → Nops (if j then a else c) (if j then [] else q)
 none_or true r q = r
@@ -102,13 +102,13 @@ module _ (y : Layout) where
     step_nops (Steps_ ss) u d bk ct r = begun (steps_nops ss u d bk ct r)
     step_nops (Either e a c) u d bk ct r =
         let last = alone (step_nops c u (suc d) (suc bk) (suc ct) none) in
-        begun (chosen_before (is_some (pair_in e))
+        begun (chosen_before (is_some (pair_in e)) _ _ _ _
         (within (within (pair_nops (pair_in e) e (suc (suc d)) zero (alone (step_nops a u (suc (suc d)) (suc (suc bk)) (suc (suc ct)) (plain (Br 1) refl none)))) last) r)
         (tested_nops y [] [] e zero zero d (branches (alone (step_nops a u (suc d) (suc bk) (suc ct) none)) last r)))
     step_nops (Loop true e a c) u d bk ct r =
         let rest = none_or (is_nothing c) (plain (Br zero) refl none) (alone (step_nops c u (suc (suc d)) 1 zero (plain (Br zero) refl none))) in
         begun (within (alone (rounds (left_nops (test_within e) e (suc (suc d)) 1
-        (chosen (step_jumps a) (within (alone (step_nops a u (suc (suc (suc d))) 2 zero none)) rest) (step_nops a u (suc (suc d)) 1 zero rest))) none)) r)
+        (chosen (step_jumps a) _ _ _ (within (alone (step_nops a u (suc (suc (suc d))) 2 zero none)) rest) (step_nops a u (suc (suc d)) 1 zero rest))) none)) r)
     step_nops (Loop false e a c) u d bk ct r =
         begun (within (alone (rounds (within (alone (step_nops a u (suc (suc (suc d))) 2 zero none))
         (step_nops c u (suc (suc d)) 1 zero (begun (tested_nops y [] [] e zero zero (suc (suc d)) (plain _ refl none))))) none)) r)
@@ -260,13 +260,13 @@ mutual
   nop_counted (If r a c) k = let x = length-append (starts_in a) (starts_in c) in let l = nops_counted a in let m = nops_counted c in omega (arith, x, l, m)
 
 -- of two lists of one length either has it
-one_counted : (j : Bool) {p q : List Instructions} {n : ℕ} → length p ≡ n → length q ≡ n → length (if j then p else q) ≡ n
-one_counted true e f = e
-one_counted false e f = f
+one_counted : (j : Bool) (p q : List Instructions) {n : ℕ} → length p ≡ n → length q ≡ n → length (if j then p else q) ≡ n
+one_counted true p q e f = e
+one_counted false p q e f = f
 
-none_counted : (j : Bool) {q : List Instructions} {n : ℕ} → length q ≡ n → length (if j then [] else q) ≡ (if j then 0 else n)
-none_counted true e = refl
-none_counted false e = e
+none_counted : (j : Bool) (q : List Instructions) {n : ℕ} → length q ≡ n → length (if j then [] else q) ≡ (if j then 0 else n)
+none_counted true q e = refl
+none_counted false q e = e
 
 both_counted : (p q : List Instructions) {m n : ℕ} → length p ≡ m → length q ≡ n → length (p ++ q) ≡ m + n
 both_counted p q e f = length-append p q ∙ ap₂ (λ x y. x + y) e f
@@ -277,14 +277,14 @@ module _ (y : Layout) where
     step_counted (Steps_ ss) u d bk ct k = let r = steps_counted ss u d bk ct k in omega (arith, r)
     step_counted (Either e a c) u d bk ct k =
         ap suc (both_counted _ _
-        (one_counted (is_some (pair_in e)) (step_counted a u (suc (suc d)) (suc (suc bk)) (suc (suc ct)) (does (Br 1) Done)) (step_counted a u (suc d) (suc bk) (suc ct) Done))
+        (one_counted (is_some (pair_in e)) _ _ (step_counted a u (suc (suc d)) (suc (suc bk)) (suc (suc ct)) (does (Br 1) Done)) (step_counted a u (suc d) (suc bk) (suc ct) Done))
         (step_counted c u (suc d) (suc bk) (suc ct) Done))
     step_counted (Loop true e a c) u d bk ct k =
         let after = does (Br zero) Done in
         let rest = if is_nothing c then after else step_emitted y c u (suc (suc d)) 1 zero after in
         ap suc (both_counted _ _
-        (one_counted (step_jumps a) (step_counted a u (suc (suc (suc d))) 2 zero Done) (step_counted a u (suc (suc d)) 1 zero rest))
-        (none_counted (is_nothing c) (step_counted c u (suc (suc d)) 1 zero after)))
+        (one_counted (step_jumps a) _ _ (step_counted a u (suc (suc (suc d))) 2 zero Done) (step_counted a u (suc (suc d)) 1 zero rest))
+        (none_counted (is_nothing c) _ (step_counted c u (suc (suc d)) 1 zero after)))
     step_counted (Loop false e a c) u d bk ct k =
         let test = does Nop (tested y [] [] e zero zero (suc (suc d)) (does (BrIf zero) Done)) in
         let x = length-append (step_starts y a u (suc (suc (suc d))) 2 zero Done) (step_starts y c u (suc (suc d)) 1 zero test ++ (test ∷ [])) in

@@ -1,31 +1,30 @@
 -- Tests, and one of two steps.
 use Rattle.std.proofs.Common.{◌≡◌, ℕ, zero, suc, ◌+◌, ◌≤◌, Bool, true, false, List, [], ◌∷◌, None, refl, ◌∙◌, arith}
-use Rattle.std.specs.Prelude.{◌&&◌, nat_eq, cond, if◌then◌else◌}
+use Rattle.std.specs.Prelude.{nat_eq, cond, if◌then◌else◌}
 use Rattle.std.proofs.lemmas.Bool.{and_parts}
 use Rattle.awk_state.specs.Constants.{flag_number}
 use Rattle.wasm_types.specs.Syntax.{Instructions, Done as NoMore}
 use Rattle.wasm_store.specs.declared.word.Word.TheVariants.{I32}
-use Rattle.mid_program.specs.Mid.{Kind, Program, Code, Step, If, form_of}
-use Rattle.mid_program.specs.MidMeaning.{stepped, all_stepped, holds, mid_called, truth_in}
+use Rattle.mid_program.specs.Mid.{Kind, Program, Code, Step, form_of}
+use Rattle.mid_program.specs.MidMeaning.{holds, mid_called, truth_in}
 use Rattle.mid_program.specs.ScriptState.{State, Stop, Doing}
-use Rattle.mid_program.specs.Sorted.{There, calls_of, sorted, is_tested, test_sorted, step_sorted, steps_sorted}
+use Rattle.mid_program.specs.Sorted.{There, calls_of, sorted, is_tested, test_sorted, step_sorted}
 use Rattle.mid_program.specs.Statements.{Flow, Normal, Broke, Continued}
 use Rattle.value_machine.specs.Cells.{Cell, Bits}
 use Rattle.value_machine.specs.Emission.{tested}
 use Rattle.value_machine.specs.Machine.{Conf, Label, Frame, at, label}
 use Rattle.value_machine.specs.Places.{Bases, room, arrays_in, step_room, step_iterators, step_arrays}
-use Rattle.value_machine.specs.Small.{either, truth}
-use Rattle.value_machine.specs.Statements.{step_emitted, steps_emitted}
-use Rattle.value_machine.proofs.Runs.{goes_from, first, then_on, there, within, Onward, stays}
+use Rattle.value_machine.specs.Small.{truth}
+use Rattle.value_machine.specs.Statements.{step_emitted}
+use Rattle.value_machine.proofs.Runs.{goes_from, then_on, there, within, Onward, stays}
 use Rattle.value_machine.proofs.Locals.{Locals, laid}
 use Rattle.value_machine.proofs.Relation.{Away}
-use Rattle.value_machine.proofs.Pieces.{chooses, closes}
+use Rattle.value_machine.proofs.Pieces.{closes}
 use Rattle.value_machine.proofs.Answers.{machine, beside_state, Reached}
 use Rattle.value_machine.proofs.Simulation.{work_of, context, layout, meant, Done, ExprOk, room_one, still_stands}
 use Rattle.value_machine.proofs.Converting.{blocked}
 use Rattle.value_machine.proofs.Choosing.{truth_ok}
 use Rattle.value_machine.proofs.StatementForms.{step_work, step_meant, Starts, ready, starts_after, starts_among, StepDone, StepOk}
-use Rattle.value_machine.proofs.Tidy.{nop_ok}
 use Rattle.value_machine.proofs.Sequences.{done_before}
 
 module _ (p : Program) (deepest : ℕ) (ks : List Kind) (F : List Frame) (b : Bases) (M n : ℕ) where

@@ -1,5 +1,5 @@
 -- A step that has no `break` and no `continue` of the loop around it is sorted as one outside loops.
-use Rattle.std.proofs.Common.{◌≡◌, Bool, true, false, ap₂, refl, ◌∙◌, true≢false, sym}
+use Rattle.std.proofs.Common.{◌≡◌, Bool, true, false, ap₂, refl, true≢false}
 use Rattle.std.specs.Prelude.{◌&&◌, ◌||◌}
 use Rattle.std.proofs.lemmas.Bool.{and_parts}
 use Rattle.mid_program.specs.Mid.{Step, Eval, Block, If, Loop, Each, Break, Continue, Next, Exit, ExitWith, Return, Mark, Steps, NoStep, Then}
@@ -12,6 +12,7 @@ or_parts false t e = (refl, e)
 
 mutual
   unfolding step_sorted steps_sorted
+
   pub sorted_anyway : (c : Context) (r : Bool) (x : Step) → step_sorted c r true x ≡ true → step_jumps x ≡ false → step_sorted c r false x ≡ true
   sorted_anyway c r (Eval e) so nj = so
   sorted_anyway c r (Block ss) so nj = all_sorted_anyway c r ss so nj

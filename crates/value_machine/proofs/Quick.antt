@@ -1,22 +1,20 @@
 -- Quick ways: what one comparison says of a name's number, and what tests and sums mean where it is so.
-use Rattle.std.proofs.Common.{◌≡◌, ◌⊎◌, inl, inr, ℕ, zero, suc, ◌+◌, ◌-◌, ◌%◌, ◌^◌, ◌<◌, ◌≤◌, Bool, true, false, nat_eq, nat_lt, nat_le, List, [], ◌∷◌, length, Some, None, Option, Ok, Result, ℤ, pos, negsuc, ◌+ℤ◌, unsigned_abs, w64, refl, sym, ap, ap₂, ◌∙◌, subst, arith, true≢false, if◌then◌else◌}
-use Rattle.std.specs.Prelude.{◌&&◌, cond, int_lt}
+use Rattle.std.proofs.Common.{◌≡◌, ℕ, suc, ◌+◌, ◌-◌, ◌%◌, ◌^◌, ◌<◌, ◌≤◌, Bool, true, false, nat_lt, Some, None, ℤ, pos, negsuc, ◌+ℤ◌, unsigned_abs, w64, refl, ap, ◌∙◌, arith}
+use Rattle.std.specs.Prelude.{cond, int_lt}
 use Rattle.std.specs.Ordering.{int_cmp, is_lt, is_le}
 use Rattle.std.specs.declared.cmp.Ordering.TheVariants.{Less, Equal, Greater}
 use Rattle.std.proofs.lemmas.Int.{ints, fits_signed_from_abs}
-use Rattle.std.proofs.lemmas.Bool.{and_parts, lt-ltb, le-ltb, lt-leb, le-leb, ltb-true, ltb-false, leb-true, eqb-true}
+use Rattle.std.proofs.lemmas.Bool.{lt-ltb, le-ltb, ltb-false}
 use Rattle.awk_values.specs.declared.value.Value.{Value}
 use Rattle.awk_values.specs.declared.value.Value.TheVariants as value
-use Rattle.awk_values.specs.Comparison.{comparison, numeric_side, order_by, held, holds}
-use Rattle.awk_values.specs.declared.comparison.CompareOp.{CompareOp}
+use Rattle.awk_values.specs.Comparison.{holds}
 use Rattle.awk_values.specs.declared.comparison.CompareOp.TheVariants as op
-use Rattle.awk_state.specs.Numbers.{Number as AnyNumber, number_of, number_word}
-use Rattle.awk_state.proofs.Words.{small, fits, number_again}
-use Rattle.mid_program.specs.Mid.{Code, Compare, Number, Get, Global}
-use Rattle.mid_program.specs.MidMeaning.{or_zero}
-use Rattle.value_machine.specs.Quick.{Within, name_in, constant_in, first_ones, compared_within}
+use Rattle.awk_state.specs.Numbers.{Number as AnyNumber}
+use Rattle.awk_state.proofs.Words.{small, fits}
+use Rattle.mid_program.specs.Mid.{Code, Number, Get, Global}
+use Rattle.value_machine.specs.Quick.{name_in, constant_in}
 use Rattle.value_machine.specs.Small.{least, text_beside}
-use Rattle.value_machine.proofs.State.{bare, beside}
+use Rattle.value_machine.proofs.State.{bare}
 use Rattle.value_machine.proofs.Conversions.{BareIs, IsBeside, IsNone, IsNumber, bare_is}
 use Rattle.value_machine.proofs.Products.{word, sum_word, mod_small, mod_once}
 

@@ -1,5 +1,5 @@
 -- A choice of two steps, where a comparison of two sources goes both ways quickly.
-use Rattle.std.proofs.Common.{◌≡◌, ℕ, zero, suc, ◌+◌, ◌≤◌, Bool, true, false, List, [], ◌∷◌, None, refl, ◌∙◌, arith, if◌then◌else◌}
+use Rattle.std.proofs.Common.{◌≡◌, ℕ, zero, suc, ◌+◌, Bool, true, false, List, [], ◌∷◌, None, refl, ◌∙◌, arith, if◌then◌else◌}
 use Rattle.std.specs.Prelude.{◌&&◌, is_some}
 use Rattle.std.proofs.lemmas.Bool.{and_parts}
 use Rattle.awk_state.specs.Constants.{flag_number}
@@ -12,19 +12,18 @@ use Rattle.mid_program.specs.Sorted.{test_sorted, step_sorted, steps_sorted}
 use Rattle.mid_program.specs.Statements.{Flow, Normal, Broke, Continued}
 use Rattle.value_machine.specs.Emission.{tested}
 use Rattle.value_machine.specs.Machine.{Conf, Label, Frame, at, label}
-use Rattle.value_machine.specs.Places.{Bases, room, arrays_in, step_room, step_iterators, step_arrays}
+use Rattle.value_machine.specs.Places.{Bases}
 use Rattle.value_machine.specs.Quick.{pair_in}
 use Rattle.value_machine.specs.Small.{does, either}
 use Rattle.value_machine.specs.Statements.{block, left_unless_pair, step_emitted, steps_emitted}
-use Rattle.value_machine.proofs.Runs.{goes_from, by_steps, stays, first, then_on, then_step, weaker, within, Onward}
+use Rattle.value_machine.proofs.Runs.{goes_from, by_steps, stays, first, then_on, then_step, weaker, Onward}
 use Rattle.value_machine.proofs.Locals.{Locals, laid}
 use Rattle.value_machine.proofs.Relation.{Away, away_out}
 use Rattle.value_machine.proofs.Pieces.{chooses}
 use Rattle.value_machine.proofs.Answers.{machine, beside_state, Reached}
 use Rattle.value_machine.proofs.Simulation.{work_of, context, layout, ExprOk}
-use Rattle.value_machine.proofs.StatementForms.{step_work, step_meant, Starts, starts_among, StepDone, StepOk}
+use Rattle.value_machine.proofs.StatementForms.{step_work, step_meant, starts_among, StepDone, StepOk}
 use Rattle.value_machine.proofs.Tidy.{nop_ok}
-use Rattle.value_machine.proofs.Sequences.{done_before}
 use Rattle.value_machine.proofs.Branches.{TestDone, test_meant, test_ok, one_way, inner_step}
 use Rattle.value_machine.proofs.QuickSteps.{Left, left_unless_pair_ok}
 

@@ -4,13 +4,11 @@ use Rattle.std.specs.Prelude.{◌&&◌, not, cond, bit_or}
 use Rattle.std.proofs.lemmas.Int.{ints}
 use Rattle.std.proofs.lemmas.Bool.{and_parts, le-leb, leb-true}
 use Rattle.awk_values.specs.declared.fault.Fault.{Fault}
-use Rattle.awk_values.specs.declared.value.Value.{Value}
 use Rattle.awk_values.specs.declared.value.Value.TheVariants as value
 use Rattle.awk_values.specs.Comparison.{comparison, numeric_side, order_by, held, holds}
 use Rattle.awk_values.specs.declared.comparison.CompareOp.{CompareOp}
 use Rattle.awk_values.specs.declared.comparison.CompareOp.TheVariants as op
 use Rattle.std.specs.Ordering.{int_cmp}
-use Rattle.std.specs.declared.cmp.Ordering.TheVariants.{Less}
 use Rattle.awk_state.specs.declared.sorts.Sort.TheVariants as sort
 use Rattle.wasm_store.specs.Integers.{compare_at, binary_at}
 use Rattle.value_machine.specs.Arithmetic.{relation}
@@ -77,8 +75,8 @@ module _ (p : Program) (deepest : ℕ) (ks : List Kind) (F : List Frame) (b : Ba
       let nz = or_zero (number_of z) in
       let v = global_value i σ in
       let r : comparison v (value.Num nz.number) c ≡ Ok true =
-          ap (λ o. held c (order_by v (value.Num nz.number) o (Some (Ok nz.number)))) (ap numeric_side ev)
-          ∙ (ap (λ x. Ok (holds c (int_cmp m.number x))) (nought_number z hz) ∙ ap Ok h) in
+      ap (λ o. held c (order_by v (value.Num nz.number) o (Some (Ok nz.number)))) (ap numeric_side ev)
+      ∙ (ap (λ x. Ok (holds c (int_cmp m.number x))) (nought_number z hz) ∙ ap Ok h) in
       ap (λ o. go_on (settled o σ) (λ x. give x)) r
 
   first_is : (c : CompareOp) (i : ℕ) (z : ℤ) (k : ℕ) (q : Within) → first_ones i k ≡ Some q → has_kind kinds i Unboxed ≡ true → nat_le (unsigned_abs z) (2 ^ 53) ≡ true → k ≤ suc (2 ^ 54) →
@@ -298,7 +296,7 @@ module _ (p : Program) (deepest : ℕ) (ks : List Kind) (F : List Frame) (b : Ba
         let z = holds q.op (int_cmp o1.number.number o2.number.number) in
         let c : comparison (val_of q.left σ) (val_of q.right σ) q.op ≡ Ok z = ap₂ (λ x y. held q.op (order_by (val_of q.left σ) (val_of q.right σ) x y)) o1.side o2.side in
         let f : compare_at w64 (relation (contrary q.op)) (word_of q.left σ) (word_of q.right σ) ≡ not z =
-            ap₂ (compare_at w64 (relation (contrary q.op))) o1.words o2.words ∙ (words_compared o1.number o2.number (contrary q.op) ∙ contrary_holds q.op (int_cmp o1.number.number o2.number.number)) in
+        ap₂ (compare_at w64 (relation (contrary q.op))) o1.words o2.words ∙ (words_compared o1.number o2.number (contrary q.op) ∙ contrary_holds q.op (int_cmp o1.number.number o2.number.number)) in
         let w = leaves_if z in
         let w1 = w.1 in
         let f1 = one_few q.left in

@@ -5,7 +5,7 @@ use Rattle.wasm_types.specs.Syntax.{Instructions}
 use Rattle.mid_program.specs.Mid.{Kind, Program, Code, Step, Eval, Block, Steps, NoStep, Then, form_of}
 use Rattle.mid_program.specs.MidMeaning.{stepped, all_stepped}
 use Rattle.mid_program.specs.ScriptState.{State, Stop, Outcome, Doing}
-use Rattle.mid_program.specs.Sorted.{There, sorted, is_dropped, step_sorted, steps_sorted}
+use Rattle.mid_program.specs.Sorted.{There, sorted, step_sorted, steps_sorted}
 use Rattle.mid_program.specs.Statements.{Flow, Normal, Broke, Continued, after}
 use Rattle.value_machine.specs.Emission.{left_over, dropped}
 use Rattle.value_machine.specs.Machine.{Conf, Label, Frame, at}

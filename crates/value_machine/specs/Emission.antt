@@ -15,7 +15,7 @@ use Rattle.awk_state.specs.declared.table.Primitive.TheVariants as row
 use Rattle.awk_state.specs.declared.table.Listed.{Listed}
 use Rattle.awk_state.specs.declared.table.Listed.TheVariants as listed
 use Rattle.wasm_types.specs.Syntax.{Loop as Again, Instructions, Done, Then}
-use Rattle.wasm_types.specs.declared.types.ValType.TheVariants.{I32, I64}
+use Rattle.wasm_types.specs.declared.types.ValType.TheVariants.{I64}
 use Rattle.wasm_types.specs.declared.instr.Simple.{Simple}
 use Rattle.wasm_types.specs.declared.instr.Simple.TheVariants.{Br, Call as CallOf, LocalGet, LocalSet, LocalTee, GlobalGet, GlobalSet, I32Const, I64Const, Test, Compare as Comparing, Convert}
 use Rattle.wasm_types.specs.declared.instr.IRelOp.TheVariants.{Eq}

@@ -55,7 +55,7 @@ module _ (y : Layout) where
   abbrev pub iterator_left : ℕ → Instructions → Instructions
   iterator_left u k = emptied (h b zero) (moved_out (iterator_local b u) (ask IterFree k))
 
-  -- Quick ways: a constant is added to a name, and a test that is sure.
+  -- Quick ways: sums that go to a name, and tests.
 
   abbrev pub name_number : ℕ → ℕ
   name_number i = number_global y.ranges i
