@@ -1,5 +1,5 @@
 -- Parts of code.
-use Rattle.std.specs.Prelude.{ℕ, zero, suc, Bool, true, false, nat_eq, Option, None, Some}
+use Rattle.std.specs.Prelude.{ℕ, zero, Bool, true, false, nat_eq, Option, None, Some}
 use Rattle.mid_program.specs.declared.mid.Arithmetic.{Arithmetic}
 use Rattle.mid_program.specs.declared.mid.Operation.TheVariants.{Inline, AsNumber}
 use Rattle.mid_program.specs.Mid.{Global, Code, Do, Set, Bound, Codes, End, At}

@@ -7,7 +7,7 @@ use Rattle.wasm_types.specs.Syntax.{Instructions}
 use Rattle.wasm_types.specs.declared.instr.Simple.{Simple}
 use Rattle.mid_program.specs.declared.mid.Arithmetic.{Arithmetic}
 use Rattle.mid_program.specs.declared.mid.Operation.TheVariants.{Inline, AsNumber}
-use Rattle.mid_program.specs.Mid.{Global, Code, Do, Compare, Number, Get, Set, Seq, Let, Bound, Codes, End, At}
+use Rattle.mid_program.specs.Mid.{Global, Code, Do, Compare, Number, Set, Let, Bound, Codes, End, At}
 use Rattle.value_machine.specs.Emission.{Layout}
 use Rattle.value_machine.specs.Quick.{Source, Named, Constant, Sum, Pair, Within, all_unsure, joined, shifted, and_name, and_source, both_within, compared_within, constant_in, first_ones, is_among, kept_sum, let_sum, name_in, new_sum, old_source, pair_in, pair_names, pair_of, set_sum, source_in, stored_name, sum_in, sum_names, sum_of, test_within, two_sum, update_sum}
 use Rattle.value_machine.proofs.Quick.{name_is}

@@ -12,7 +12,7 @@ use Rattle.value_machine.specs.Emission.{Layout}
 use Rattle.value_machine.specs.Quick.{is_nothing}
 use Rattle.value_machine.specs.Small.{does}
 use Rattle.value_machine.specs.Statements.{step_emitted, steps_emitted}
-use Rattle.code_needs.proofs.Views.{view_block}
+use Rattle.quick_forms.proofs.Views.{view_block}
 use Rattle.statement_emission.specs.Parts.{rounds, turn}
 use Rattle.statement_emission.specs.StepFits.{StepFits, StepsFit}
 

@@ -1,6 +1,6 @@
-use Rattle.std.proofs.Common.{ap, sym, ◌∙◌, arith}
+use Rattle.std.proofs.Common.{ap, ◌∙◌}
 use Rattle.value_machine.specs.Quick.{step_jumps}
-use Rattle.quick_forms.proofs.Shapes.{block_view, first_jumps}
+use Rattle.quick_forms.proofs.Shapes.{block_view}
 use Rattle.quick_forms.proofs.jumps.+step_jumps.Goals as goal
 
 pub step_jumps-returns-in-Block : goal.step_jumps-returns-in-Block

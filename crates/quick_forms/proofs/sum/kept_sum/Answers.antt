@@ -1,4 +1,4 @@
-use Rattle.std.proofs.Common.{ap, sym, ◌∙◌}
+use Rattle.std.proofs.Common.{sym, ◌∙◌}
 use Rattle.mid_program.specs.ViewCode.{view, views}
 use Rattle.quick_forms.proofs.Shapes.{kept_is}
 use Rattle.quick_forms.proofs.sum.kept_sum.Goals as goal
