@@ -3,12 +3,15 @@ ghost use Rattle.std.specs.Prelude.{◌≡◌, false};
 ghost use Rattle.host_calls.specs.Calls.{ComesTo, MeansSome, import_of};
 ghost use Rattle.host_calls.specs.Forms.{host_form};
 ghost use Rattle.host_step.specs.HostStep.{refuses};
+ghost use Rattle.import_host.specs.Calls.{import_of_table};
 
 use crate::dispatch::{Call, call_of};
 use crate::host::Host;
+use awk_state::Primitive;
 use host_step::Import;
-use host_values::Refusal;
-use import_host::{refusal, refuses, told};
+use host_texts::TextPrimitive;
+use host_values::{Refusal, ValuePrimitive};
+use import_host::{TableCall, refusal, refuses, told};
 use wasm_machine::HostAnswer;
 use wasm_store::Word;
 use world_core::World;
@@ -40,15 +43,94 @@ impl<W: World> Host<W> {
         }
     }
 
-    /// Answers a call of an import. Once a fault is kept every import but those that let something go only refuses.
+    /// Answers a call on the tables that is not refused. Where call and import are known, so is which table it comes to, and how it is told.
+    #[inline(always)]
+    fn on_known(
+        &mut self,
+        import: Import,
+        call: TableCall,
+        words: &[Word],
+        memory: &[u8],
+    ) -> HostAnswer
+        requires same { import_of_table call ≡ import }
+        requires goes { refuses import self.old.tables.fault ≡ false }
+        ensures { MeansSome W.tells import (host_form W.state self.old) words.now memory.now result (host_form W.state self.new) }
+    {
+        let outcome = self.on_tables(call, words, memory);
+        self.tables.keep(outcome);
+        told(import, outcome)
+    }
+
+    /// Answers a call that is not refused.
+    fn on_any(&mut self, import: Import, words: &[Word], memory: &[u8]) -> HostAnswer
+        requires { refuses import self.old.tables.fault ≡ false }
+        ensures { MeansSome W.tells import (host_form W.state self.old) words.now memory.now result (host_form W.state self.new) }
+    {
+        let outcome = self.outcome(call_of(import), words, memory);
+        self.tables.keep(outcome);
+        told(import, outcome)
+    }
+
+    /// Answers a call of an import. Once a fault is kept every import but those that let something go only refuses. The imports that scripts call most
+    /// have ways of their own.
     pub(crate) fn answer(&mut self, import: Import, words: &[Word], memory: &[u8]) -> HostAnswer
         ensures { MeansSome W.tells import (host_form W.state self.old) words.now memory.now result (host_form W.state self.new) }
     {
         if refuses(import, self.tables.fault()) {
             return HostAnswer::Done(refusal(import.answer()));
         }
-        let outcome = self.outcome(call_of(import), words, memory);
-        self.tables.keep(outcome);
-        told(import, outcome)
+        match import {
+            Import::Drop => self.on_known(Import::Drop, TableCall::Drop, words, memory),
+            Import::Arg => self.on_known(Import::Arg, TableCall::Arg, words, memory),
+            Import::Of(Primitive::Num) => self.on_known(
+                Import::Of(Primitive::Num),
+                TableCall::Values(ValuePrimitive::Num),
+                words,
+                memory,
+            ),
+            Import::Of(Primitive::Dup) => self.on_known(
+                Import::Of(Primitive::Dup),
+                TableCall::Values(ValuePrimitive::Dup),
+                words,
+                memory,
+            ),
+            Import::Of(Primitive::ToNum) => self.on_known(
+                Import::Of(Primitive::ToNum),
+                TableCall::Values(ValuePrimitive::ToNum),
+                words,
+                memory,
+            ),
+            Import::Of(Primitive::Truth) => self.on_known(
+                Import::Of(Primitive::Truth),
+                TableCall::Values(ValuePrimitive::Truth),
+                words,
+                memory,
+            ),
+            Import::Of(Primitive::Compare) => self.on_known(
+                Import::Of(Primitive::Compare),
+                TableCall::Values(ValuePrimitive::Compare),
+                words,
+                memory,
+            ),
+            Import::Of(Primitive::Field) => self.on_known(
+                Import::Of(Primitive::Field),
+                TableCall::Texts(TextPrimitive::Field),
+                words,
+                memory,
+            ),
+            Import::Of(Primitive::Elem) => self.on_known(
+                Import::Of(Primitive::Elem),
+                TableCall::Elem,
+                words,
+                memory,
+            ),
+            Import::Of(Primitive::SetElem) => self.on_known(
+                Import::Of(Primitive::SetElem),
+                TableCall::SetElem,
+                words,
+                memory,
+            ),
+            _ => self.on_any(import, words, memory),
+        }
     }
 }

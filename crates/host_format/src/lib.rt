@@ -17,7 +17,7 @@ mod substitution;
 mod text;
 
 pub use eres::expression;
-pub use fields::{split_by_expression, split_text};
+pub use fields::{split_by_expression, split_into, split_text};
 pub use formatted::format;
 pub use sep::Sep;
 pub use span::Span;
