@@ -3,6 +3,8 @@ ghost use Rattle.std.specs.Prelude.{◌≡◌, false};
 ghost use Rattle.host_calls.specs.Calls.{ComesTo, MeansSome, import_of};
 ghost use Rattle.host_calls.specs.Forms.{host_form};
 ghost use Rattle.host_step.specs.HostStep.{refuses};
+ghost use Rattle.form_meaning.specs.TableCalls.{left_by_call};
+ghost use Rattle.import_host.specs.Answers.{told_as};
 ghost use Rattle.import_host.specs.Calls.{import_of_table};
 
 use crate::dispatch::{Call, call_of};
@@ -43,7 +45,17 @@ impl<W: World> Host<W> {
         }
     }
 
-    /// Answers a call on the tables that is not refused. Where call and import are known, so is which table it comes to, and how it is told.
+    /// Tells what a call came to, and keeps the fault that it met.
+    #[inline(always)]
+    fn tell(&mut self, import: Import, outcome: Result<Option<Word>, Refusal>) -> HostAnswer
+        ensures told { result ≡ told_as import outcome }
+        ensures kept { host_form W.state self.new ≡ left_by_call outcome (host_form W.state self.old) }
+    {
+        self.tables.keep(outcome);
+        told(import, outcome)
+    }
+
+    /// Answers a call on the tables that is not refused. Where it is known which import that is, so is the way to the table, and how it is told.
     #[inline(always)]
     fn on_known(
         &mut self,
@@ -57,8 +69,7 @@ impl<W: World> Host<W> {
         ensures { MeansSome W.tells import (host_form W.state self.old) words.now memory.now result (host_form W.state self.new) }
     {
         let outcome = self.on_tables(call, words, memory);
-        self.tables.keep(outcome);
-        told(import, outcome)
+        self.tell(import, outcome)
     }
 
     /// Answers a call that is not refused.
@@ -67,8 +78,7 @@ impl<W: World> Host<W> {
         ensures { MeansSome W.tells import (host_form W.state self.old) words.now memory.now result (host_form W.state self.new) }
     {
         let outcome = self.outcome(call_of(import), words, memory);
-        self.tables.keep(outcome);
-        told(import, outcome)
+        self.tell(import, outcome)
     }
 
     /// Answers a call of an import. Once a fault is kept every import but those that let something go only refuses. The imports that scripts call most

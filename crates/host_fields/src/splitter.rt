@@ -26,6 +26,26 @@ fn sep_of(alloc: Global, fs: &[u8]) -> Result<LastSep, Stop>
     Ok(LastSep { fs, sep })
 }
 
+/// Puts the fields of a text, as parts of it, in the place of these parts, by a separator that is read anew. It stands apart for its large locals.
+#[inline(never)]
+fn split_anew(
+    spans: &mut Vec<Span>,
+    last: &mut Option<LastSep>,
+    text: &[u8],
+    fs: &[u8],
+    newlines: bool,
+) -> Result<(), Stop>
+    requires { IsKept last.old }
+    ensures ok { OnOk result (AreFields fs.now newlines text.now spans.new.items) }
+    ensures err { IfErr result (IsStopOf (separator_of fs.now)) }
+    ensures kept { IsKept last.new }
+{
+    let mut fresh = sep_of(*spans.allocator(), fs)?;
+    split_into(spans, text, &mut fresh.sep, newlines)?;
+    *last = Some(fresh);
+    Ok(())
+}
+
 /// Puts the fields of a text, as parts of it, in the place of these parts. An expression is read and built only where FS is another than at the last
 /// record.
 pub(crate) fn split(
@@ -45,8 +65,5 @@ pub(crate) fn split(
             return split_into(spans, text, &mut last.sep, newlines);
         }
     }
-    let mut fresh = sep_of(*spans.allocator(), fs)?;
-    split_into(spans, text, &mut fresh.sep, newlines)?;
-    *last = Some(fresh);
-    Ok(())
+    split_anew(spans, last, text, fs, newlines)
 }
