@@ -90,56 +90,36 @@ impl<W: World> Host<W> {
             return HostAnswer::Done(refusal(import.answer()));
         }
         match import {
-            Import::Drop => self.on_known(Import::Drop, TableCall::Drop, words, memory),
-            Import::Arg => self.on_known(Import::Arg, TableCall::Arg, words, memory),
-            Import::Of(Primitive::Num) => self.on_known(
-                Import::Of(Primitive::Num),
-                TableCall::Values(ValuePrimitive::Num),
-                words,
-                memory,
-            ),
-            Import::Of(Primitive::Dup) => self.on_known(
-                Import::Of(Primitive::Dup),
-                TableCall::Values(ValuePrimitive::Dup),
-                words,
-                memory,
-            ),
-            Import::Of(Primitive::ToNum) => self.on_known(
-                Import::Of(Primitive::ToNum),
-                TableCall::Values(ValuePrimitive::ToNum),
-                words,
-                memory,
-            ),
-            Import::Of(Primitive::Truth) => self.on_known(
-                Import::Of(Primitive::Truth),
-                TableCall::Values(ValuePrimitive::Truth),
-                words,
-                memory,
-            ),
-            Import::Of(Primitive::Compare) => self.on_known(
-                Import::Of(Primitive::Compare),
-                TableCall::Values(ValuePrimitive::Compare),
-                words,
-                memory,
-            ),
-            Import::Of(Primitive::Field) => self.on_known(
-                Import::Of(Primitive::Field),
-                TableCall::Texts(TextPrimitive::Field),
-                words,
-                memory,
-            ),
-            Import::Of(Primitive::Elem) => self.on_known(
-                Import::Of(Primitive::Elem),
-                TableCall::Elem,
-                words,
-                memory,
-            ),
-            Import::Of(Primitive::SetElem) => self.on_known(
-                Import::Of(Primitive::SetElem),
-                TableCall::SetElem,
-                words,
-                memory,
-            ),
+            Import::Drop => self.on_known(import, TableCall::Drop, words, memory),
+            Import::Arg => self.on_known(import, TableCall::Arg, words, memory),
+            Import::Of(Primitive::Num) => {
+                let call = TableCall::Values(ValuePrimitive::Num);
+                self.on_known(import, call, words, memory)
+            }
+            Import::Of(Primitive::Dup) => {
+                let call = TableCall::Values(ValuePrimitive::Dup);
+                self.on_known(import, call, words, memory)
+            }
+            Import::Of(Primitive::ToNum) => {
+                let call = TableCall::Values(ValuePrimitive::ToNum);
+                self.on_known(import, call, words, memory)
+            }
+            Import::Of(Primitive::Truth) => {
+                let call = TableCall::Values(ValuePrimitive::Truth);
+                self.on_known(import, call, words, memory)
+            }
+            Import::Of(Primitive::Compare) => {
+                let call = TableCall::Values(ValuePrimitive::Compare);
+                self.on_known(import, call, words, memory)
+            }
+            Import::Of(Primitive::Field) => {
+                let call = TableCall::Texts(TextPrimitive::Field);
+                self.on_known(import, call, words, memory)
+            }
+            Import::Of(Primitive::Elem) => { self.on_known(import, TableCall::Elem, words, memory) }
+            Import::Of(Primitive::SetElem) => {
+                self.on_known(import, TableCall::SetElem, words, memory)
+            }
             _ => self.on_any(import, words, memory),
         }
     }
