@@ -1,14 +1,13 @@
-use Rattle.std.proofs.Common.{◌≡◌, ◌<◌, ℕ, zero, suc, List, [], ◌∷◌, Some, length, slice_set, refl, subst, arith}
-use Rattle.std.specs.List.{slice_get}
-use Rattle.kept_expressions.specs.declared.expressions.Kept.{Kept}
+use Rattle.std.proofs.Common.{ap, ◌∙◌}
+use Rattle.kept_expressions.proofs.Found.{lent_is, put_is_found, some_lent}
 use Rattle.kept_expressions.proofs.expressions.keep.Goals as goal
 
-there : {A : Type 0} (xs : List A) (i : ℕ) (x : A) → i < length xs → slice_get (slice_set xs i x) i ≡ Some x
-there [] i x low = absurd (omega (arith, low))
-there (y ∷ ys) zero x low = refl
-there (y ∷ ys) (suc i) x low = there ys i x (omega (arith, low))
+pub unwrap-requires : goal.unwrap-requires
+unwrap-requires c =
+    some_lent c.get_mut.result c.args.matcher
+    (c.get_mut.ensures.value ∙ put_is_found c.args.kept.now c.put.new.self c.args.key c.args.text.now c.args.matcher (ap (λ s. s.entries) c.in-Ok.ensures.entries) c.requires)
 
-pub returns : goal.returns
-returns c =
-    let inside : c.oldest-place.result < length c.args.kept.now.items = subst (λ (xs : List Kept). c.oldest-place.result < length xs) c.as_slice.ensures.value c.oldest-place.ensures in
-    (record { matcher = c.args.matcher; asked = 0 }, there c.args.kept.now.items c.oldest-place.result _ inside, refl)
+pub returns-in-Ok : goal.returns-in-Ok
+returns-in-Ok c =
+    lent_is c.get_mut.result c.unwrap.result c.args.matcher c.unwrap.ensures
+    (c.get_mut.ensures.value ∙ put_is_found c.args.kept.now c.put.new.self c.args.key c.args.text.now c.args.matcher (ap (λ s. s.entries) c.in-Ok.ensures.entries) c.requires)
