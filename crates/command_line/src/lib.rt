@@ -179,7 +179,11 @@ fn run_command<'a>(alloc: Global) -> Result<Command<'a>, AllocError>
     ensures local { IfOk result (λ c. (fields_of c).has_globals ≡ false) }
 {
     fences_command(alloc, "run", "Run a script")?
-        .arg(single_arg(alloc, "script", "The script's text; of a file: \"$(cat prog.awk)\""))?
+        .arg(single_arg(
+            alloc,
+            "script",
+            "The script's text; of a file: \"$(cat prog.awk)\"",
+        ))?
         .arg(words_arg(alloc))
 }
 
@@ -263,12 +267,22 @@ fn is_file_option(word: &str) -> bool
     word.starts_with("-f")
 }
 
-/// Whether a line is refused for an unknown option where it has the option `-f` of other awks. The script's file that it names is to be given as text,
-/// or compiled.
+/// Whether a word is that option.
+fn has_file_option(words: &[&str]) -> bool
+    ensures { result ≡ has_file_option words.now }
+{
+    words.iter().any(|word| is_file_option(word))
+}
+
+/// Whether a line is refused for an unknown option, and has the option `-f` of other awks. The script's file that it names is to be given as text, or
+/// compiled.
 pub fn is_script_file(error: &Error, words: &[&str]) -> bool
     ensures { IsTrue result ↔ (kind_of error.now ≡ ErrorKind.UnknownArgument) × (has_file_option words.now ≡ true) }
 {
-    matches!(error.kind(), ErrorKind::UnknownArgument) && words.iter().any(|w| is_file_option(w))
+    match error.kind() {
+        ErrorKind::UnknownArgument => has_file_option(words),
+        _ => false,
+    }
 }
 
 /// The words of an argument that may be given often.
