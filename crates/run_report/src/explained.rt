@@ -30,7 +30,7 @@ pub struct Explanation {
 }
 
 /// What is said of a topic.
-pub fn explanation(topic: Topic) -> Explanation {
+pub fn explain(topic: Topic) -> Explanation {
     match topic {
         Topic::Fault(fault) => fault_explanation(fault),
         Topic::Script(refusal) => script_explanation(refusal),

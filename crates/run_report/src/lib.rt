@@ -7,6 +7,6 @@ mod line;
 mod report;
 mod topic;
 
-pub use explained::{Explanation, explanation};
+pub use explained::{Explanation, explain};
 pub use report::{FileFault, fault_text, file_fault_text, no_memory_text, status_of};
 pub use topic::{EndTopic, ModuleTopic, ScriptTopic, StatusTopic, TOPICS, Topic, topic_named, topic_of};
