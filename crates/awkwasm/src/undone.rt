@@ -36,7 +36,8 @@ impl From<AllocError> for Undone {
 }
 
 /// What to do in place of `-f`.
-const SCRIPT_FILE: &str = "awkwasm: no option -f: give the file's text, as awkwasm run \"$(cat prog.awk)\" .., or compile it and then exec\n";
+const SCRIPT_FILE: &str =
+    "awkwasm: no option -f: give the file's text, as awkwasm run \"$(cat prog.awk)\" .., or compile it and then exec\n";
 
 /// The line for the standard error.
 pub(crate) fn undone_text(undone: &Undone) -> &'static [u8]
@@ -48,7 +49,8 @@ pub(crate) fn undone_text(undone: &Undone) -> &'static [u8]
         Undone::Environment => "awkwasm: the environment is not UTF-8\n".as_bytes(),
         Undone::RandomNumbers => "awkwasm: the system gives no random numbers\n".as_bytes(),
         Undone::ScriptFile => SCRIPT_FILE.as_bytes(),
-        Undone::Unexplained => "awkwasm: no such name; awkwasm explain lists the names\n".as_bytes(),
+        Undone::Unexplained =>
+            "awkwasm: no such name; awkwasm explain lists the names\n".as_bytes(),
         Undone::NoMemory => no_memory_text(),
     }
 }

@@ -9,4 +9,6 @@ mod topic;
 
 pub use explained::{Explanation, explain};
 pub use report::{FileFault, fault_text, file_fault_text, no_memory_text, status_of};
-pub use topic::{EndTopic, ModuleTopic, ScriptTopic, StatusTopic, TOPICS, Topic, topic_named, topic_of};
+pub use topic::{
+    EndTopic, ModuleTopic, ScriptTopic, StatusTopic, TOPICS, Topic, topic_named, topic_of,
+};

@@ -397,5 +397,8 @@ pub fn topic_of(end: &RunEnd) -> Option<Topic>
 pub fn topic_named(name: &str) -> Option<Topic>
     ensures { result ≡ named name.now }
 {
-    TOPICS.iter().copied().find(|topic| topic.name().as_bytes() == name.as_bytes())
+    TOPICS
+        .iter()
+        .copied()
+        .find(|topic| topic.name().as_bytes() == name.as_bytes())
 }

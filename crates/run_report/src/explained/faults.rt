@@ -69,7 +69,7 @@ const OPEN_INPUT: Explanation = Explanation {
     meaning: "An operand, a file that is to be read, did not open.",
     command: "awkwasm run '{ print }' nosuch",
     shown: "awkwasm: OpenInput",
-    advice: "Look whether the name is right and the file may be read. --no-files keeps each file out. An operand that is no file but an assignment has a = in it.",
+    advice: "Look whether the name is right and the file may be read. --no-files keeps every file out.",
 };
 
 const READ_FAILED: Explanation = Explanation {
