@@ -6,8 +6,8 @@ use Rattle.host_calls.specs.Forms.{host_form}
 use Rattle.host_calls.proofs.Comes.{told_comes}
 use Rattle.host_calls.proofs.host.Host.on_known.Goals as goal
 
-pub on_tables-requires : goal.on_tables-requires
-on_tables-requires g c = subst (λ (i : Import). refuses i c.args.self.now.tables.fault ≡ false) (sym c.requires.same) c.requires.goes
+pub on_tables-outcome-requires : goal.on_tables-outcome-requires
+on_tables-outcome-requires g c = subst (λ (i : Import). refuses i c.args.self.now.tables.fault ≡ false) (sym c.requires.same) c.requires.goes
 
 pub returns : goal.returns
 returns g c =

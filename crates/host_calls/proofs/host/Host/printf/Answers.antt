@@ -7,8 +7,8 @@ use Rattle.host_calls.specs.Forms.{host_form}
 use Rattle.host_calls.proofs.Written.{files_come, others_keep}
 use Rattle.host_calls.proofs.host.Host.printf.Goals as goal
 
-pub invariant_of-self : goal.invariant_of-self
-invariant_of-self g c =
+pub invariant_of-self-2 : goal.invariant_of-self-2
+invariant_of-self-2 g c =
     let was = c.args.self.now in
     let held = holds_file was.input c.printf.new.streams (g.W.World.kinds was.world) (g.W.World.kinds c.printf.new.world)
     was.held c.printf.ensures.keeps.held c.printf.ensures.keeps.others in
