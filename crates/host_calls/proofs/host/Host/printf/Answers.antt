@@ -7,12 +7,14 @@ use Rattle.host_calls.specs.Forms.{host_form}
 use Rattle.host_calls.proofs.Written.{files_come, others_keep}
 use Rattle.host_calls.proofs.host.Host.printf.Goals as goal
 
-pub invariant_of-self-2 : goal.invariant_of-self-2
-invariant_of-self-2 g c =
+pub invariant_of-self-2-clause-held : goal.invariant_of-self-2-clause-held
+invariant_of-self-2-clause-held g c =
     let was = c.args.self.now in
-    let held = holds_file was.input c.printf.new.streams (g.W.World.kinds was.world) (g.W.World.kinds c.printf.new.world)
-    was.held c.printf.ensures.keeps.held c.printf.ensures.keeps.others in
-    ((was.tables.free_handle, (was.tables.free_array, (was.tables.free_iterator, tt))), (held, (c.printf.ensures.keeps.goes, tt)))
+    holds_file was.input c.printf.new.streams (g.W.World.kinds was.world) (g.W.World.kinds c.printf.new.world)
+    was.held c.printf.ensures.keeps.held c.printf.ensures.keeps.others
+
+pub invariant_of-self-2-clause-goes : goal.invariant_of-self-2-clause-goes
+invariant_of-self-2-clause-goes g c = c.printf.ensures.keeps.goes
 
 pub returns : goal.returns
 returns g c = λ memory.
