@@ -2,14 +2,11 @@
 ghost use Rattle.std.specs.Prelude.{◌≡◌, ℕ, List, IfOk, IfErr};
 ghost use Rattle.awk_run.specs.ModuleRun.{Answers};
 ghost use Rattle.awk_run.specs.ScriptRuns.{ScriptAnswers};
-ghost use Rattle.fenced_world.specs.Behind.{behind};
-ghost use Rattle.fenced_world.specs.Fences.{no_name};
 ghost use Rattle.host_tables.specs.Starts.{empty_job, job_of};
 ghost use Rattle.script_compiler.specs.Compiled.{IsCompiled};
 ghost use Rattle.script_compiler.specs.Refusals.{IsNotCompiled};
 
 use awk_run::{CompileFault, RunEnd, compile, run_module, run_script};
-use fenced_world::{FencedWorld, NoFiles};
 use host_calls::Job;
 use std::alloc::Global;
 use std::hash::RandomState;
@@ -52,19 +49,4 @@ pub fn run_alone<W: World>(
 {
     let job = Job::empty(alloc);
     run_script(alloc, script, &job, state, world, STEPS)
-}
-
-/// Runs a script so, behind a fence that lets no name through: what it does is what it does where no name opens.
-pub fn run_without_files<W: World>(
-    alloc: Global,
-    script: &[u8],
-    state: RandomState,
-    world: W,
-) -> (RunEnd, W)
-    ensures { ScriptAnswers (W.tells × Unit {0}) script.now empty_job 100000000
-        (behind no_name (W.state world)) result.0 (behind no_name (W.state result.1)) }
-{
-    let world = FencedWorld::new(world, NoFiles);
-    let (end, world) = run_alone(alloc, script, state, world);
-    (end, world.into_inner())
 }
