@@ -1,7 +1,8 @@
 -- What a script or a module is run with, as the words of the command line say it.
-use Rattle.std.specs.Prelude.{ℕ, Bool, ◌==◌, List, [], ◌++◌, if◌then◌else◌, codes, map}
+use Rattle.std.specs.Prelude.{ℕ, Bool, ◌==◌, List, [], ◌++◌, if◌then◌else◌, codes, map, Some, None}
 use Rattle.std.specs.List.{list_any, before_first, after_first}
 use Rattle.awk_state.specs.Jobs.{JobForm}
+use Rattle.fenced_world.specs.Fences.{FenceForm}
 use Rattle.command_line.specs.Request.{texts}
 use Rattle.command_line.specs.declared.Task.{Task}
 
@@ -22,4 +23,12 @@ job_of_task task environment = record {
   operands = texts task.words.items;
   assigns = map assignment (texts task.assigns.items) ++ map separator (texts task.separators.items);
   environment = environment;
+}
+
+-- The fence that the options set up. Where operands alone may be read, these are all words after the script or module.
+abbrev pub fence_of_task : Task → FenceForm
+fence_of_task task = record {
+  no_files = task.fences.no_files;
+  read_only = task.fences.read_only;
+  operands = if task.fences.only_operands then Some (texts task.words.items) else None;
 }

@@ -7,7 +7,7 @@ use Rattle.awk_run.specs.declared.end.RunEnd.TheVariants.{Refused}
 use Rattle.awk_run.specs.declared.end.RunEnd.TheVariants as end
 use Rattle.run_report.specs.EndTexts.{end_text, exit_code, file_text}
 use Rattle.awkwasm.specs.declared.undone.Undone.{Undone}
-use Rattle.awkwasm.specs.declared.undone.Undone.TheVariants.{Arguments, Environment, File, NoMemory, RandomNumbers}
+use Rattle.awkwasm.specs.declared.undone.Undone.TheVariants.{Arguments, Environment, File, NoMemory, RandomNumbers, ScriptFile, Unexplained}
 
 -- what is told of a script that is not compiled
 abbrev pub IsUncompiled : List ℕ → RunEnd → Type 0
@@ -21,6 +21,8 @@ undone_text (File fault) = file_text fault
 undone_text Arguments = codes "awkwasm: an argument is not UTF-8\n"
 undone_text Environment = codes "awkwasm: the environment is not UTF-8\n"
 undone_text RandomNumbers = codes "awkwasm: the system gives no random numbers\n"
+undone_text ScriptFile = codes "awkwasm: no option -f: give the file's text, as awkwasm run \"$(cat prog.awk)\" .., or compile it and then exec\n"
+undone_text Unexplained = codes "awkwasm: no such name; awkwasm explain lists the names\n"
 undone_text NoMemory = end_text end.NoMemory
 
 abbrev pub undone_code : Undone → ℕ
@@ -28,6 +30,8 @@ undone_code (File fault) = 8
 undone_code Arguments = 8
 undone_code Environment = 8
 undone_code RandomNumbers = 8
+undone_code ScriptFile = 8
+undone_code Unexplained = 8
 undone_code NoMemory = 5
 
 abbrev pub task_code : Result RunEnd Undone → ℕ

@@ -1,6 +1,7 @@
 //! awkwasm: compiles AWK scripts to WebAssembly modules, and runs scripts and modules.
 #![tactic(auto)]
 
+mod explanations;
 mod job;
 mod standard;
 mod tasks;
@@ -9,7 +10,7 @@ mod undone;
 use crate::standard::take_closed;
 use crate::tasks::{carry_out, tell_task};
 use crate::undone::Undone;
-use command_line::{exit_status, is_no_memory, request_of};
+use command_line::{exit_status, is_no_memory, is_script_file, request_of};
 use std::alloc::AllocError;
 use std::io;
 use std::process::ExitCode;
@@ -37,6 +38,7 @@ fn answer(rt: &HostRuntime, words: &[&str]) -> Result<u8, Undone> {
     // A failing standard stream changes no status.
     match request_of(rt.alloc(), words) {
         Err(error) if is_no_memory(&error) => Err(Undone::NoMemory),
+        Err(error) if is_script_file(&error, words) => Err(Undone::ScriptFile),
         Err(error) => {
             let _ = error.print(rt);
             Ok(exit_status(&error))

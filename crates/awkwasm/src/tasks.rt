@@ -4,17 +4,20 @@ ghost use Rattle.script_compiler.specs.Compiled.{IsCompiled};
 ghost use Rattle.awk_run.specs.ModuleRun.{Answers};
 ghost use Rattle.awk_run.specs.ScriptRuns.{ScriptAnswers};
 ghost use Rattle.run_report.specs.EndTexts.{exit_code};
-ghost use Rattle.awkwasm.specs.Jobs.{job_of_task};
+ghost use Rattle.awkwasm.specs.Jobs.{fence_of_task, job_of_task};
 ghost use Rattle.awkwasm.specs.Tasks.{IsUncompiled, task_code};
+ghost use Rattle.fenced_world.specs.Fences.{form_of};
 ghost use Rattle.host_names.specs.Forms.{pair_of};
 
+use crate::explanations::{explanation_text, names_text};
 use crate::job::{environment_of, job_on};
 use crate::undone::{Undone, undone_status, undone_text};
 use awk_run::{CompileFault, Refusal, RunEnd, compile, run_module, run_script};
 use command_line::{Request, Task};
+use fenced_world::{FencedWorld, FileFence};
 use host_calls::NamedText;
 use os_world::OsWorld;
-use run_report::{FileFault, fault_text, no_memory_text, status_of};
+use run_report::{FileFault, fault_text, no_memory_text, status_of, topic_named};
 use std::alloc::Global;
 use std::hash::RandomState;
 use std::io::{Print, Read};
@@ -80,6 +83,30 @@ fn script_on<W: World>(
     }
 }
 
+/// The fence that a task's options set up.
+fn fence_of<'a>(task: &'a Task<'_>) -> FileFence<'a>
+    ensures { form_of result ≡ fence_of_task task.now }
+{
+    let operands = if task.fences.only_operands {
+        Some(task.words.as_slice())
+    } else {
+        None
+    };
+    FileFence {
+        no_files: task.fences.no_files,
+        read_only: task.fences.read_only,
+        operands,
+    }
+}
+
+/// A world in which a task opens only what its options let through.
+fn world_of<'a, W: World>(world: W, task: &'a Task<'_>) -> FencedWorld<W, FileFence<'a>>
+    ensures inner { result.inner ≡ world }
+    ensures fence { form_of result.fence ≡ fence_of_task task.now }
+{
+    FencedWorld::new(world, fence_of(task))
+}
+
 /// What the keys of arrays are hashed with. No script can know it.
 fn random_state(rt: &HostRuntime) -> Result<RandomState, Undone> {
     match RandomState::new(rt) {
@@ -93,6 +120,7 @@ fn run_task(rt: &HostRuntime, task: &Task<'_>) -> Result<RunEnd, Undone> {
     let environment = environment_of(rt)?;
     let state = random_state(rt)?;
     let world = OsWorld::new(rt.alloc(), rt, rt.stdin(), io::writer(rt));
+    let world = world_of(world, task);
     let script = task.subject.as_bytes();
     let (end, _) = script_on(rt.alloc(), script, task, environment, state, world);
     Ok(end)
@@ -103,6 +131,7 @@ fn exec_task(rt: &HostRuntime, task: &Task<'_>) -> Result<RunEnd, Undone> {
     let environment = environment_of(rt)?;
     let state = random_state(rt)?;
     let world = OsWorld::new(rt.alloc(), rt, rt.stdin(), io::writer(rt));
+    let world = world_of(world, task);
     let (end, _) = module_on(rt.alloc(), &bytes, task, environment, state, world);
     Ok(end)
 }
@@ -130,6 +159,24 @@ fn compile_file(rt: &HostRuntime, script_file: &str, out: &str) -> Result<RunEnd
         Ok(()) => Ok(RunEnd::Ended(0)),
         Err(_) => Err(Undone::File(FileFault::CannotWrite)),
     }
+}
+
+/// What is asked of `explain`: what a name means, or which names there are.
+fn explained(alloc: Global, name: Option<&str>) -> Result<String, Undone> {
+    let Some(name) = name else {
+        return Ok(names_text(alloc)?);
+    };
+    match topic_named(name) {
+        Some(topic) => Ok(explanation_text(alloc, topic)?),
+        None => Err(Undone::Unexplained),
+    }
+}
+
+/// Prints what is asked of `explain`. A failing standard output changes no status.
+fn explain_task(rt: &HostRuntime, name: Option<&str>) -> Result<RunEnd, Undone> {
+    let text = explained(rt.alloc(), name)?;
+    let _ = print!(rt; "{text}");
+    Ok(RunEnd::Ended(0))
 }
 
 /// Writes a line to the standard error. That it fails changes nothing.
@@ -168,6 +215,7 @@ pub(crate) fn carry_out(rt: &HostRuntime, request: &Request) -> u8 {
         Request::Compile { script_file, out } => compile_file(rt, script_file, out),
         Request::Run(task) => run_task(rt, task),
         Request::Exec(task) => exec_task(rt, task),
+        Request::Explain(name) => explain_task(rt, *name),
     };
     tell_task(rt, done)
 }

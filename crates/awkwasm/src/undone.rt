@@ -16,6 +16,10 @@ pub(crate) enum Undone {
     Environment,
     /// The system gives no random numbers, with which the keys of arrays are hashed.
     RandomNumbers,
+    /// The line has the option `-f` of other awks.
+    ScriptFile,
+    /// There is nothing of this name to explain.
+    Unexplained,
     /// Memory ran out.
     NoMemory,
 }
@@ -31,6 +35,10 @@ impl From<AllocError> for Undone {
     }
 }
 
+/// What to do in place of `-f`.
+const SCRIPT_FILE: &str =
+    "awkwasm: no option -f: give the file's text, as awkwasm run \"$(cat prog.awk)\" .., or compile it and then exec\n";
+
 /// The line for the standard error.
 pub(crate) fn undone_text(undone: &Undone) -> &'static [u8]
     ensures { result.now ≡ undone_text undone.now }
@@ -40,6 +48,9 @@ pub(crate) fn undone_text(undone: &Undone) -> &'static [u8]
         Undone::Arguments => "awkwasm: an argument is not UTF-8\n".as_bytes(),
         Undone::Environment => "awkwasm: the environment is not UTF-8\n".as_bytes(),
         Undone::RandomNumbers => "awkwasm: the system gives no random numbers\n".as_bytes(),
+        Undone::ScriptFile => SCRIPT_FILE.as_bytes(),
+        Undone::Unexplained =>
+            "awkwasm: no such name; awkwasm explain lists the names\n".as_bytes(),
         Undone::NoMemory => no_memory_text(),
     }
 }
@@ -50,6 +61,11 @@ pub(crate) fn undone_status(undone: &Undone) -> u8
 {
     match undone {
         Undone::NoMemory => 5,
-        Undone::File(_) | Undone::Arguments | Undone::Environment | Undone::RandomNumbers => 8,
+        Undone::File(_)
+        | Undone::Arguments
+        | Undone::Environment
+        | Undone::RandomNumbers
+        | Undone::ScriptFile
+        | Undone::Unexplained => 8,
     }
 }

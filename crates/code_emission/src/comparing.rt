@@ -21,7 +21,8 @@ use awk_values::CompareOp;
 use std::alloc::{AllocError, Global};
 use wasm_types::{CvtOp, IBinOp, IRelOp, Instr, Simple, ValType};
 
-fn relation(op: CompareOp) -> IRelOp
+/// The comparison of words that an operator is, once both are numbers.
+pub fn relation(op: CompareOp) -> IRelOp
     ensures { result ≡ relation op }
 {
     match op {

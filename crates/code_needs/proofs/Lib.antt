@@ -1,4 +1,3 @@
-pub mod Views
 pub mod Lengths
 pub mod Depths
 pub mod Nested

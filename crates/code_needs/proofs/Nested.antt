@@ -1,6 +1,6 @@
 -- Code is nested as deep as its labels are counted.
-use Rattle.std.proofs.Common.{◌≡◌, ◌≤◌, ◌+◌, ℕ, zero, suc, Bool, true, false, List, [], ◌∷◌, length, max, arith}
-use Rattle.std.specs.Prelude.{if◌then◌else◌}
+use Rattle.std.proofs.Common.{◌≡◌, ◌≤◌, ◌+◌, ℕ, zero, suc, Bool, true, false, List, [], ◌∷◌, length, max, refl, arith}
+use Rattle.std.specs.Prelude.{if◌then◌else◌, Option, Some, None, is_some, ℤ}
 use Rattle.awk_state.specs.declared.sorts.Answer.TheVariants as answer
 use Rattle.awk_state.specs.declared.sorts.Sort.TheVariants as sort
 use Rattle.awk_state.specs.declared.table.Primitive.{Primitive}
@@ -16,9 +16,10 @@ use Rattle.mid_program.specs.Mid.{Kind, Boxed, Unboxed, Many, Code, Do, Over, Co
 use Rattle.value_machine.specs.Emission.{Layout, all_emitted, emitted, text_kept}
 use Rattle.value_machine.specs.Functions.{layout_of, main_bases, main_callee, routine_bases, routine_callee}
 use Rattle.value_machine.specs.Places.{Bases}
+use Rattle.value_machine.specs.Quick.{Within, test_within, joined, all_unsure, Sum, sum_names, sum_in, Pair, pair_names, pair_in, step_jumps, is_nothing}
 use Rattle.value_machine.specs.Small.{does, either}
-use Rattle.value_machine.specs.Statements.{again, all_emptied, arrays_emptied, before_parts, block, iterator_left, iterators_emptied, key_stored, left_by, names_declared, names_made, part_done, record_done, records_read, routines_declared, step_emitted, steps_emitted, temporaries_emptied}
-use Rattle.code_needs.specs.Labels.{labels_among, labels_in, step_labels, steps_labels}
+use Rattle.value_machine.specs.Statements.{name_read, quickly_dropped, left_unless_pair, left_unless, again, all_emptied, arrays_emptied, before_parts, block, iterator_left, iterators_emptied, key_stored, left_by, names_declared, names_made, part_done, record_done, records_read, routines_declared, step_emitted, steps_emitted, temporaries_emptied}
+use Rattle.code_needs.specs.Labels.{choice_labels, labels_among, labels_in, more_if, step_labels, steps_labels}
 use Rattle.code_needs.proofs.Depths.{Deep, array_deep, asked_deep, converts_deep, dropped_deep, emitted_deep, emits_deep, kept_code_deep, kept_deep, kept_number_deep, left_deep, pushes_deep, tested_deep, to_number_deep, to_value_deep, truth_deep}
 
 any : {k : Instructions} → Deep k 0
@@ -50,6 +51,14 @@ inside_loop r = record { count = let h = r.count in omega (arith, h) }
 
 inside_again : {a k : Instructions} {m : ℕ} → Deep a m → Deep (again a k) m
 inside_again r = record { count = let h = r.count in omega (arith, h) }
+
+one_of : (j : Bool) {a c : Instructions} {m : ℕ} → Deep a m → Deep c m → Deep (if j then a else c) m
+one_of true r q = r
+one_of false r q = q
+
+more_most : (j : Bool) (n : ℕ) → more_if j n ≤ suc n
+more_most true n = omega arith
+more_most false n = omega arith
 
 module _ (y : Layout) where
   abbrev b : Bases
@@ -113,13 +122,69 @@ module _ (y : Layout) where
     left_by_deep : (way d : ℕ) → Deep k m → Deep (left_by way d k) m
     left_by_deep way d r = record { count = let h = r.count in omega (arith, h) }
 
+  -- Quick ways.
+
+  joined_deep : {k : Instructions} {m : ℕ} (is : List ℕ) (q : ℤ) → Deep k m → Deep (joined (name_read y) is q k) m
+  joined_deep [] q r = r
+  joined_deep (i ∷ is) q r = past _ (past _ (past _ (past _ (joined_deep is q r))))
+
+  all_deep : {k : Instructions} {m : ℕ} (is : List ℕ) (q : ℤ) (w : ℕ) → Deep k m → Deep (all_unsure (name_read y) is q w k) m
+  all_deep [] q w r = past _ r
+  all_deep (i ∷ is) q w r = past _ (past _ (past _ (joined_deep is q (past _ (past _ r)))))
+
+  module _ {k : Instructions} {m : ℕ} where
+    quick_deep : (o : Option Sum) (e : Code) (d : ℕ) → Deep k m → Deep (quickly_dropped y o e d k) m
+    quick_deep None e d r = dropped_deep y [] [] e zero zero d r
+    quick_deep (Some x) e d r = all_deep (sum_names x) _ _ (behind_either r)
+
+    pair_deep : (o : Option Pair) (e : Code) (d out : ℕ) → Deep k m → Deep (left_unless_pair y o e d out k) m
+    pair_deep None e d out r = tested_deep y [] [] e zero zero d (past _ (past _ r))
+    pair_deep (Some q) e d out r = all_deep (pair_names q) _ _ (behind_either r)
+
+    unless_deep : (o : Option Within) (e : Code) (d out : ℕ) → Deep k m → Deep (left_unless y o e d out k) m
+    unless_deep None e d out r = pair_deep (pair_in e) e d out r
+    unless_deep (Some q) e d out r = past _ (past _ (past _ (past _ (past _ (behind_either r)))))
+
+  quick_labelled : (k : Instructions) (o : Option Sum) (e : Code) (d : ℕ) → Deep (quickly_dropped y o e d k) (more_if (is_some o) (labels_in e))
+  quick_labelled k None e d = labelled _ true [] [] e zero zero d
+  quick_labelled k (Some x) e d = all_deep (sum_names x) _ _ (at_least (inside_either (labelled _ true [] [] e zero zero (suc d)) any) (omega arith))
+
+  pair_labelled : (k : Instructions) (o : Option Pair) (e : Code) (d out : ℕ) → Deep (left_unless_pair y o e d out k) (more_if (is_some o) (labels_in e))
+  pair_labelled k None e d out = labelled _ false [] [] e zero zero d
+  pair_labelled k (Some q) e d out = all_deep (pair_names q) _ _ (at_least (inside_either (labelled _ false [] [] e zero zero (suc d)) any) (omega arith))
+
+  unless_labelled : (k : Instructions) (o : Option Within) (e : Code) (d out : ℕ) → Deep (left_unless y o e d out k) (more_if (is_some (pair_in e)) (labels_in e))
+  unless_labelled k None e d out = pair_labelled k (pair_in e) e d out
+  unless_labelled k (Some q) e d out =
+      let l = more_most (is_some (pair_in e)) (labels_in e) in
+      past _ (past _ (past _ (past _ (past _ (at_least (inside_either (labelled _ false [] [] e zero zero (suc d)) any) (omega (arith, l)))))))
+
+  -- a choice, whose ways are so deep
+  choice_labelled : (k : Instructions) {A B plain : Instructions} {a c : ℕ} (o : Option Pair) (e : Code) (d : ℕ) → Deep A a → Deep B c → Deep plain (choice_labels false (labels_in e) a c) →
+      Deep (if is_some o then block (block (left_unless_pair y o e d zero A) B) k else plain) (choice_labels (is_some o) (labels_in e) a c)
+  choice_labelled k None e d r q z = z
+  choice_labelled k {A = A} (Some p) e d r q z =
+      at_least (inside_block (both (inside_block (both (pair_labelled A (Some p) e d zero) (pair_deep (Some p) e d zero r))) (behind_block q))) (omega arith)
+
+  nothing_labelled : (c : Step) → is_nothing c ≡ true → step_labels c ≤ 0
+  nothing_labelled (Steps_ NoStep) e = omega arith
+  nothing_labelled c e = cc
+
+  rest_labelled : (j : Bool) (c : Step) (a : Instructions) {k : Instructions} → is_nothing c ≡ j → Deep k (step_labels c) → Deep (if j then a else k) (step_labels c)
+  rest_labelled true c a e r = at_least any (nothing_labelled c e)
+  rest_labelled false c a e r = r
+
+  body_labelled : (j : Bool) {a inner rest : Instructions} {m n : ℕ} → Deep inner m → Deep a (max m n) → Deep rest n → Deep (if j then block inner rest else a) (max (more_if j m) n)
+  body_labelled true r q z = both (inside_block r) (behind_block z)
+  body_labelled false r q z = q
+
   mutual
     unfolding step_emitted steps_emitted
 
     step_deep : {k : Instructions} {m : ℕ} (s : Step) (u d bk ct : ℕ) → Deep k m → Deep (step_emitted y s u d bk ct k) m
-    step_deep (Eval e) u d bk ct r = past _ (dropped_deep y [] [] e zero zero d r)
+    step_deep (Eval e) u d bk ct r = past _ (quick_deep (sum_in e) e d r)
     step_deep (Steps_ ss) u d bk ct r = past _ (steps_deep ss u d bk ct r)
-    step_deep (Either e a c) u d bk ct r = past _ (tested_deep y [] [] e zero zero d (behind_either r))
+    step_deep (Either e a c) u d bk ct r = past _ (one_of (is_some (pair_in e)) (behind_block r) (tested_deep y [] [] e zero zero d (behind_either r)))
     step_deep (Loop true e a c) u d bk ct r = past _ (behind_block r)
     step_deep (Loop false e a c) u d bk ct r = past _ (behind_block r)
     step_deep (Each a e s) u d bk ct r = past _ (array_deep y a (past _ (past _ (behind_block (iterator_deep u r)))))
@@ -139,13 +204,15 @@ module _ (y : Layout) where
     unfolding step_emitted steps_emitted
 
     step_labelled : (k : Instructions) (s : Step) (u d bk ct : ℕ) → Deep (step_emitted y s u d bk ct k) (step_labels s)
-    step_labelled k (Eval e) u d bk ct = past _ (labelled _ true [] [] e zero zero d)
+    step_labelled k (Eval e) u d bk ct = past _ (quick_labelled k (sum_in e) e d)
     step_labelled k (Steps_ ss) u d bk ct = past _ (steps_labelled _ ss u d bk ct)
     step_labelled k (Either e a c) u d bk ct =
-        past _ (both (labelled _ false [] [] e zero zero d) (tested_deep y [] [] e zero zero d (inside_either (step_labelled _ a u (suc d) (suc bk) (suc ct)) (step_labelled _ c u (suc d) (suc bk) (suc ct)))))
+        past _ (choice_labelled k (pair_in e) e (suc (suc d)) (step_labelled _ a u (suc (suc d)) (suc (suc bk)) (suc (suc ct))) (step_labelled _ c u (suc d) (suc bk) (suc ct))
+        (both (labelled _ false [] [] e zero zero d) (tested_deep y [] [] e zero zero d (inside_either (step_labelled _ a u (suc d) (suc bk) (suc ct)) (step_labelled _ c u (suc d) (suc bk) (suc ct))))))
     step_labelled k (Loop true e a c) u d bk ct =
-        past _ (at_least (inside_loop (both (labelled _ false [] [] e zero zero (suc (suc d))) (tested_deep y [] [] e zero zero (suc (suc d)) (past _ (past _
-        (both (inside_block (step_labelled _ a u (suc (suc (suc d))) 2 zero)) (behind_block (step_labelled _ c u (suc (suc d)) 1 zero)))))))) (omega arith))
+        let rest = rest_labelled (is_nothing c) c (does (Br zero) Done) refl (step_labelled (does (Br zero) Done) c u (suc (suc d)) 1 zero) in
+        past _ (at_least (inside_loop (both (unless_labelled _ (test_within e) e (suc (suc d)) 1) (unless_deep (test_within e) e (suc (suc d)) 1
+        (body_labelled (step_jumps a) (step_labelled Done a u (suc (suc (suc d))) 2 zero) (both (step_labelled _ a u (suc (suc d)) 1 zero) (step_deep a u (suc (suc d)) 1 zero rest)) rest)))) (omega arith))
     step_labelled k (Loop false e a c) u d bk ct =
         past _ (at_least (inside_loop (both (inside_block (step_labelled _ a u (suc (suc (suc d))) 2 zero))
         (behind_block (both (step_labelled _ c u (suc (suc d)) 1 zero) (step_deep c u (suc (suc d)) 1 zero (past _ (labelled _ false [] [] e zero zero (suc (suc d))))))))) (omega arith))

@@ -1,11 +1,11 @@
 -- What the getters of clap give, read off the rows of what is found.
-use Rattle.std.proofs.Common.{◌≡◌, ◌∙◌, ℕ, ◌^◌, ◌-◌, ◌<◌, List, [], Option, None, Some, option_map, ap, codes, refl}
+use Rattle.std.proofs.Common.{◌≡◌, ◌∙◌, ℕ, ◌^◌, ◌-◌, ◌<◌, List, [], Option, None, Some, option_map, Bool, true, false, ap, codes, refl}
 use Rattle.std.specs.Prelude.{unwrap_or}
 use Rattle.std.specs.Str.Parse.{IsNumeral, digits_value, without_leading_plus}
 use Rattle.clap.specs.declared.parser.matches.ArgMatches.{ArgMatches}
 use Rattle.clap.specs.Words.{Text, first_value, found_of, matched_of, one_of, one_text, raw_values, rows_of}
 use Rattle.clap.proofs.WalkLemmas.{first_value-rows, one_text-rows, raw_values-rows}
-use Rattle.command_line.specs.Request.{IsSteps, word_at, words_at}
+use Rattle.command_line.specs.Request.{IsFlag, IsSteps, word_at, words_at}
 
 pub listed : (m : ArgMatches) (id : Text) (o : Option (List Text)) → o ≡ option_map raw_values (matched_of (found_of m) id) → unwrap_or o [] ≡ words_at id (rows_of (found_of m))
 listed m id o given = ap (λ found. unwrap_or found []) (given ∙ raw_values-rows (found_of m) id)
@@ -31,3 +31,11 @@ read_number m n none value = let rows = one_text-rows (found_of m) (codes "steps
 
 pub no_number : (m : ArgMatches) → ((t : Text) → one_text (found_of m) (codes "steps") ≡ Some t → Fits t → ⊥) → IsSteps (one_of (codes "steps") (rows_of (found_of m))) (2 ^ 64 - 1)
 no_number m value = let rows = one_text-rows (found_of m) (codes "steps") in refuses _ (λ t e. value t (rows ∙ e))
+
+given : (o : Option Text) (b : Bool) → (o ≡ None → b ≡ false) → (o ≡ Some (codes "true") → b ≡ true) → (o ≡ Some (codes "false") → b ≡ false) → IsFlag o b
+given None b none set unset = none refl
+given (Some t) b none set unset = (λ e. set (ap (λ (text : Text). Some text) e), λ e. unset (ap (λ (text : Text). Some text) e))
+
+pub read_flag : (m : ArgMatches) (id : Text) (b : Bool) → (one_text (found_of m) id ≡ None → b ≡ false) → (one_text (found_of m) id ≡ Some (codes "true") → b ≡ true)
+    → (one_text (found_of m) id ≡ Some (codes "false") → b ≡ false) → IsFlag (one_of id (rows_of (found_of m))) b
+read_flag m id b none set unset = let rows = one_text-rows (found_of m) id in given _ b (λ e. none (rows ∙ e)) (λ e. set (rows ∙ e)) (λ e. unset (rows ∙ e))

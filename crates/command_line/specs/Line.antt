@@ -1,8 +1,10 @@
 -- The command line of awkwasm, as the words of clap's specification say it.
-use Rattle.std.specs.Prelude.{ℕ, ◌^◌, ◌-◌, Some, true, codes}
+use Rattle.std.specs.Prelude.{ℕ, ◌==◌, ◌^◌, ◌-◌, List, Bool, Some, true, codes}
+use Rattle.std.specs.Borrow.{Bor}
+use Rattle.std.specs.List.{list_any, starts_with}
 use Rattle.clap.specs.Words.{App, Rule, Text, new_app, new_rule, with_rule, with_subcommand}
 use Rattle.clap.specs.Simple.{on_top}
-use Rattle.clap.specs.declared.builder.action.ArgAction.TheVariants.{Set, Append}
+use Rattle.clap.specs.declared.builder.action.ArgAction.TheVariants.{Set, Append, SetTrue}
 use Rattle.clap.specs.declared.error.kind.ErrorKind.{ErrorKind}
 use Rattle.clap.specs.declared.error.kind.ErrorKind.TheVariants.{DisplayHelp, DisplayVersion, OutOfMemory}
 use Rattle.clap.specs.declared.builder.value_parser.ValueParser.TheVariants.{Unsigned}
@@ -23,8 +25,16 @@ assign_rule = record (new_rule (codes "assign")) { short = Some 118; action = So
 abbrev pub steps_rule : Rule
 steps_rule = record (new_rule (codes "steps")) { long = Some (codes "steps"); action = Some Set; value_names = 1; parser = Some (Unsigned 0 (2 ^ 64 - 1)) }
 
+-- an option without a value, as `--no-files`
+abbrev pub flag_rule : Text → Rule
+flag_rule name = record (new_rule name) { long = Some name; action = Some SetTrue }
+
 abbrev pub words_rule : Rule
 words_rule = record (new_rule (codes "words")) { action = Some Append }
+
+-- one word that may be there
+abbrev pub topic_rule : Rule
+topic_rule = record (new_rule (codes "name")) { action = Some Set }
 
 -- `compile SCRIPTFILE OUT`
 abbrev pub compile_app : App
@@ -34,9 +44,17 @@ compile_app = with_rule (with_rule (new_app (codes "compile")) (single (codes "s
 abbrev pub options_app : Text → App
 options_app name = with_rule (with_rule (with_rule (new_app name) separator_rule) assign_rule) steps_rule
 
--- `NAME [-F s] [-v n=t].. [--steps N] SUBJECT WORDS..`
+-- `NAME [-F s] [-v n=t].. [--steps N] [--no-files] [--read-only] [--only-operands]`
+abbrev pub fences_app : Text → App
+fences_app name = with_rule (with_rule (with_rule (options_app name) (flag_rule (codes "no-files"))) (flag_rule (codes "read-only"))) (flag_rule (codes "only-operands"))
+
+-- `NAME [-F s] [-v n=t].. [--steps N] [--no-files] [--read-only] [--only-operands] SUBJECT WORDS..`
 abbrev pub task_app : Text → Text → App
-task_app name subject = with_rule (with_rule (options_app name) (single subject)) words_rule
+task_app name subject = with_rule (with_rule (fences_app name) (single subject)) words_rule
+
+-- `explain [NAME]`
+abbrev pub explain_app : App
+explain_app = with_rule (new_app (codes "explain")) topic_rule
 
 -- the line's own settings: a subcommand is wanted, and `--version` is known
 abbrev pub top_app : App
@@ -44,8 +62,7 @@ top_app = on_top (λ s. record s { has_version = true; subcommand_required = tru
 
 -- the whole line
 abbrev pub line_app : App
-line_app =
-    with_subcommand (with_subcommand (with_subcommand top_app compile_app.top) (task_app (codes "run") (codes "script")).top) (task_app (codes "exec") (codes "module")).top
+line_app = with_subcommand (with_subcommand (with_subcommand (with_subcommand top_app compile_app.top) (task_app (codes "run") (codes "script")).top) (task_app (codes "exec") (codes "module")).top) explain_app.top
 
 -- the exit status of a line that asks for nothing
 abbrev pub status_of_kind : ErrorKind → ℕ
@@ -53,3 +70,10 @@ status_of_kind DisplayHelp = 0
 status_of_kind DisplayVersion = 0
 status_of_kind OutOfMemory = 5
 status_of_kind _ = 8
+
+-- the option of other awks that names a script's file
+abbrev pub is_file_option : Text → Bool
+is_file_option word = starts_with ◌==◌ word (codes "-f")
+
+abbrev pub has_file_option : List (Bor Text) → Bool
+has_file_option words = list_any (λ word. is_file_option word.now) words

@@ -1,11 +1,12 @@
 -- What a command line asks for: each word where it belongs, as clap finds them.
-use Rattle.std.specs.Prelude.{◌≡◌, ℕ, ◌^◌, ◌-◌, ◌<◌, List, [], Option, None, Some, map, unwrap_or, codes}
+use Rattle.std.specs.Prelude.{◌≡◌, ℕ, ◌^◌, ◌-◌, ◌<◌, List, [], Option, None, Some, map, unwrap_or, codes, true, false, Bool, option_map}
 use Rattle.std.specs.Borrow.{Bor}
 use Rattle.std.specs.Str.Parse.{IsNumeral, digits_value, without_leading_plus}
 use Rattle.clap.specs.Words.{Row, Text, all_of, first_of, one_of}
 use Rattle.command_line.specs.declared.Request.{Request}
-use Rattle.command_line.specs.declared.Request.TheVariants.{Compile, Run, Exec}
+use Rattle.command_line.specs.declared.Request.TheVariants.{Compile, Run, Exec, Explain}
 use Rattle.command_line.specs.declared.Task.{Task}
+use Rattle.command_line.specs.declared.FenceOptions.{FenceOptions}
 
 -- the words of an argument that may be given often
 abbrev pub words_at : Text → List Row → List Text
@@ -20,6 +21,16 @@ abbrev pub IsSteps : Option Text → ℕ → Type 0
 IsSteps None n = n ≡ 2 ^ 64 - 1
 IsSteps (Some t) n = IsNumeral 10 (without_leading_plus t) → digits_value 10 (without_leading_plus t) < 2 ^ 64 → n ≡ digits_value 10 (without_leading_plus t)
 
+-- an option without a value is given or not; clap has it as `true` or `false`
+abbrev pub IsFlag : Option Text → Bool → Type 0
+IsFlag None b = b ≡ false
+IsFlag (Some t) b = (t ≡ codes "true" → b ≡ true) × (t ≡ codes "false" → b ≡ false)
+
+pub record IsFences (rows : List Row) (f : FenceOptions) : Type 0 where
+  pub no_files : IsFlag (one_of (codes "no-files") rows) f.no_files
+  pub read_only : IsFlag (one_of (codes "read-only") rows) f.read_only
+  pub only_operands : IsFlag (one_of (codes "only-operands") rows) f.only_operands
+
 abbrev pub texts : List (Bor Text) → List Text
 texts = map (λ s. s.now)
 
@@ -27,11 +38,13 @@ pub record IsTask (of : Text) (rows : List Row) (t : Task) : Type 0 where
   pub separators : texts t.separators.items ≡ words_at (codes "separator") rows
   pub assigns : texts t.assigns.items ≡ words_at (codes "assign") rows
   pub steps : IsSteps (one_of (codes "steps") rows) t.steps
+  pub fences : IsFences rows t.fences
   pub subject : t.subject.now ≡ word_at of rows
   pub words : texts t.words.items ≡ words_at (codes "words") rows
 
--- What is asked for, by the subcommand's name and what is found for it. The line has three subcommands.
+-- What is asked for, by the subcommand's name and what is found for it. The line has four subcommands.
 abbrev pub Asks : Text → List Row → Request → Type 0
 Asks name rows (Compile script_file out) = (name ≡ codes "compile") × (script_file.now ≡ word_at (codes "scriptfile") rows) × (out.now ≡ word_at (codes "out") rows)
 Asks name rows (Run task) = (name ≡ codes "run") × IsTask (codes "script") rows task
-Asks name rows (Exec task) = (name ≡ codes "compile" → ⊥) × (name ≡ codes "run" → ⊥) × IsTask (codes "module") rows task
+Asks name rows (Exec task) = (name ≡ codes "compile" → ⊥) × (name ≡ codes "run" → ⊥) × (name ≡ codes "explain" → ⊥) × IsTask (codes "module") rows task
+Asks name rows (Explain topic) = (name ≡ codes "explain") × (option_map (λ t. t.now) topic ≡ first_of (codes "name") rows)

@@ -2,16 +2,42 @@
 #![tactic(auto)]
 
 ghost use Rattle.std.specs.Prelude.{◌≡◌, ◌↔◌, IfOk, IfSome, IsTrue, false};
-ghost use Rattle.std.specs.Prelude.{map, true, IfErr, codes};
-ghost use Rattle.clap.specs.Words.{app_of, rule_of, takes, kind_of, rows_of, found_of, matches_of, one_of, subcommand_rows_of, subcommand_of};
+ghost use Rattle.std.specs.Prelude.{map, option_map, true, IfErr, codes};
+ghost use Rattle.clap.specs.Words.{app_of, rule_of, takes, kind_of, rows_of, found_of, matches_of, one_of, first_of, subcommand_rows_of, subcommand_of};
 ghost use Rattle.clap.specs.declared.builder.command.Command.TheViews.{out-Command as fields_of};
-ghost use Rattle.command_line.specs.Request.{Asks, IsSteps, IsTask, texts, word_at, words_at};
-ghost use Rattle.command_line.specs.Line.{single, separator_rule, assign_rule, steps_rule, words_rule, options_app, compile_app, task_app, line_app, status_of_kind};
+ghost use Rattle.command_line.specs.Request.{Asks, IsFences, IsFlag, IsSteps, IsTask, texts, word_at, words_at};
+ghost use Rattle.command_line.specs.Line.{single, separator_rule, assign_rule, steps_rule, flag_rule, words_rule, topic_rule, options_app, fences_app, compile_app, task_app, explain_app, line_app, is_file_option, has_file_option, status_of_kind};
 
 use clap::builder::ValueParser;
 use clap::error::ErrorKind;
 use clap::{Arg, ArgAction, ArgMatches, Command, Error};
 use std::alloc::{AllocError, Global};
+
+/// What the help of the whole line says at its end.
+const AFTER_HELP: &str = "\
+The awk of POSIX over whole numbers from -2^53 to 2^53, with text as bytes. A script starts no
+command and opens no connection. It opens files by their names, unless --no-files, --read-only or
+--only-operands keep them out. SCRIPT is the script's text; of a file it is \"$(cat prog.awk)\".
+
+The exit status is the script's own, or 2 a fault, 3 refused, 4 out of steps, 5 no memory,
+6 calls nested too deeply, 7 a trap of the module, 8 a wrong command line or file. With 2 to 7
+comes a line 'awkwasm: NAME ..' on the standard error: 'awkwasm explain NAME' says what to do.
+
+Examples:
+  awkwasm run '{ n += $2 } END { print n }' table
+  awkwasm run --only-operands --steps 1000000 \"$(cat prog.awk)\" access.log
+  awkwasm compile prog.awk prog.wasm && awkwasm exec prog.wasm access.log";
+
+/// What a line keeps out: each option that is given takes names of files away.
+#[derive(Clone, Copy, Debug, PartialEq, Eq, Drop)]
+pub struct FenceOptions {
+    /// `--no-files`: no file is opened.
+    pub no_files: bool,
+    /// `--read-only`: no file is opened for writing.
+    pub read_only: bool,
+    /// `--only-operands`: no file is opened but the operands, and those for reading.
+    pub only_operands: bool,
+}
 
 /// A run that is asked for: of what, and on what.
 #[derive(Drop)]
@@ -22,6 +48,8 @@ pub struct Task<'a> {
     pub assigns: Vec<&'a str>,
     /// The greatest number of steps to take; without `--steps` the greatest of 64 bits.
     pub steps: u64,
+    /// Which files are kept out.
+    pub fences: FenceOptions,
     /// The script's text for `run`, the module's file name for `exec`.
     pub subject: &'a str,
     /// The operands.
@@ -37,6 +65,8 @@ pub enum Request<'a> {
     Run(Task<'a>),
     /// `exec MODULE WORDS..`
     Exec(Task<'a>),
+    /// `explain NAME`: what a name of a message means; without a name, which names there are.
+    Explain(Option<&'a str>),
 }
 
 fn single_arg<'a>(alloc: Global, id: &'a str, help: &'a str) -> Arg<'a>
@@ -83,6 +113,25 @@ fn steps_arg<'a>(alloc: Global) -> Arg<'a>
         .action(ArgAction::Set)
 }
 
+fn flag_arg<'a>(alloc: Global, name: &'a str, help: &'a str) -> Arg<'a>
+    ensures rule { rule_of result ≡ flag_rule name.now }
+    ensures local { result.global ≡ false }
+{
+    Arg::new(alloc, name)
+        .long(name)
+        .help(help)
+        .action(ArgAction::SetTrue)
+}
+
+fn topic_arg<'a>(alloc: Global) -> Arg<'a>
+    ensures rule { rule_of result ≡ topic_rule }
+    ensures local { result.global ≡ false }
+{
+    Arg::new(alloc, "name")
+        .help("The name after 'awkwasm: ', or an exit status; without it all names are listed")
+        .action(ArgAction::Set)
+}
+
 fn words_arg<'a>(alloc: Global) -> Arg<'a>
     ensures rule { rule_of result ≡ words_rule }
     ensures local { result.global ≡ false }
@@ -107,12 +156,34 @@ fn options_command<'a>(
         .arg(steps_arg(alloc))
 }
 
+fn fences_command<'a>(
+    alloc: Global,
+    name: &'a str,
+    about: &'a str,
+) -> Result<Command<'a>, AllocError>
+    ensures app { IfOk result (λ c. app_of c ≡ fences_app name.now) }
+    ensures local { IfOk result (λ c. (fields_of c).has_globals ≡ false) }
+{
+    options_command(alloc, name, about)?
+        .arg(flag_arg(alloc, "no-files", "Open no file"))?
+        .arg(flag_arg(alloc, "read-only", "Open no file for writing"))?
+        .arg(flag_arg(
+            alloc,
+            "only-operands",
+            "Open no file but those among WORDS, and no file for writing",
+        ))
+}
+
 fn run_command<'a>(alloc: Global) -> Result<Command<'a>, AllocError>
     ensures app { IfOk result (λ c. app_of c ≡ task_app (codes "run") (codes "script")) }
     ensures local { IfOk result (λ c. (fields_of c).has_globals ≡ false) }
 {
-    options_command(alloc, "run", "Run a script")?
-        .arg(single_arg(alloc, "script", "The script's text"))?
+    fences_command(alloc, "run", "Run a script")?
+        .arg(single_arg(
+            alloc,
+            "script",
+            "The script's text; of a file: \"$(cat prog.awk)\"",
+        ))?
         .arg(words_arg(alloc))
 }
 
@@ -120,7 +191,7 @@ fn exec_command<'a>(alloc: Global) -> Result<Command<'a>, AllocError>
     ensures app { IfOk result (λ c. app_of c ≡ task_app (codes "exec") (codes "module")) }
     ensures local { IfOk result (λ c. (fields_of c).has_globals ≡ false) }
 {
-    options_command(alloc, "exec", "Run a compiled module")?
+    fences_command(alloc, "exec", "Run a compiled module")?
         .arg(single_arg(alloc, "module", "The module's file"))?
         .arg(words_arg(alloc))
 }
@@ -135,17 +206,28 @@ fn compile_command<'a>(alloc: Global) -> Result<Command<'a>, AllocError>
         .arg(single_arg(alloc, "out", "The file to write the module to"))
 }
 
+fn explain_command<'a>(alloc: Global) -> Result<Command<'a>, AllocError>
+    ensures app { IfOk result (λ c. app_of c ≡ explain_app) }
+    ensures local { IfOk result (λ c. (fields_of c).has_globals ≡ false) }
+{
+    Command::new(alloc, "explain")
+        .about("Say what the name of a fault, a refusal or an end means, and what to do")
+        .arg(topic_arg(alloc))
+}
+
 fn command<'a>(alloc: Global) -> Result<Command<'a>, AllocError>
     ensures { IfOk result (λ c. app_of c ≡ line_app) }
 {
     let compile = compile_command(alloc)?;
     Command::new(alloc, "awkwasm")
         .about("Compiles AWK scripts to WebAssembly modules, and runs them")
+        .after_help(AFTER_HELP)
         .version("0.1.0")
         .subcommand_required(true)
         .subcommand(compile)?
         .subcommand(run_command(alloc)?)?
-        .subcommand(exec_command(alloc)?)
+        .subcommand(exec_command(alloc)?)?
+        .subcommand(explain_command(alloc)?)
 }
 
 /// What clap finds in a line, whose first word is the program's name: it follows from the words.
@@ -178,6 +260,31 @@ pub fn is_no_memory(error: &Error) -> bool
     matches!(error.kind(), ErrorKind::OutOfMemory)
 }
 
+/// Whether a word is the option `-f` of other awks, with a script's file or before it.
+fn is_file_option(word: &str) -> bool
+    ensures { result ≡ is_file_option word.now }
+{
+    word.starts_with("-f")
+}
+
+/// Whether a word is that option.
+fn has_file_option(words: &[&str]) -> bool
+    ensures { result ≡ has_file_option words.now }
+{
+    words.iter().any(|word| is_file_option(word))
+}
+
+/// Whether a line is refused for an unknown option, and has the option `-f` of other awks. The script's file that it names is to be given as text, or
+/// compiled.
+pub fn is_script_file(error: &Error, words: &[&str]) -> bool
+    ensures { IsTrue result ↔ (kind_of error.now ≡ ErrorKind.UnknownArgument) × (has_file_option words.now ≡ true) }
+{
+    match error.kind() {
+        ErrorKind::UnknownArgument => has_file_option(words),
+        _ => false,
+    }
+}
+
 /// The words of an argument that may be given often.
 fn texts<'a>(alloc: Global, matches: &ArgMatches<'a>, id: &str) -> Result<Vec<&'a str>, AllocError>
     ensures { IfOk result (λ found. texts found.items ≡ words_at id.now (rows_of (found_of matches.now))) }
@@ -208,6 +315,31 @@ fn steps(matches: &ArgMatches<'_>) -> u64
     }
 }
 
+/// Whether an option without a value is given.
+fn flag(matches: &ArgMatches<'_>, id: &str) -> bool
+    ensures { IsFlag (one_of id.now (rows_of (found_of matches.now))) result }
+{
+    matches.get_flag(id)
+}
+
+/// What the options keep out.
+fn fences(matches: &ArgMatches<'_>) -> FenceOptions
+    ensures { IsFences (rows_of (found_of matches.now)) result }
+{
+    FenceOptions {
+        no_files: flag(matches, "no-files"),
+        read_only: flag(matches, "read-only"),
+        only_operands: flag(matches, "only-operands"),
+    }
+}
+
+/// The name that is to be explained.
+fn topic<'a>(matches: &ArgMatches<'a>) -> Option<&'a str>
+    ensures { option_map (λ name. name.now) result ≡ first_of (codes "name") (rows_of (found_of matches.now)) }
+{
+    matches.get_str("name")
+}
+
 /// What is asked of `run` and `exec`.
 fn task_of<'a>(
     alloc: Global,
@@ -220,6 +352,7 @@ fn task_of<'a>(
         separators: texts(alloc, matches, "separator")?,
         assigns: texts(alloc, matches, "assign")?,
         steps: steps(matches),
+        fences: fences(matches),
         subject: text(matches, subject),
         words: texts(alloc, matches, "words")?,
     })
@@ -235,6 +368,7 @@ fn request_in<'a>(alloc: Global, matches: &ArgMatches<'a>) -> Result<Request<'a>
             out: text(inner, "out"),
         }),
         Some(("run", inner)) => Ok(Request::Run(task_of(alloc, inner, "script")?)),
+        Some(("explain", inner)) => Ok(Request::Explain(topic(inner))),
         Some((_, inner)) => Ok(Request::Exec(task_of(alloc, inner, "module")?)),
         None => Err(AllocError),
     }

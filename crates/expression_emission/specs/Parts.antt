@@ -14,7 +14,7 @@ use Rattle.wasm_types.specs.declared.types.ValType.TheVariants.{I64}
 use Rattle.wasm_types.specs.declared.instr.ITestOp.TheVariants.{Eqz}
 use Rattle.mid_program.specs.MidMeaning.{three_values}
 use Rattle.wasm_types.specs.Syntax.{Instructions, Done}
-use Rattle.wasm_types.specs.declared.instr.Simple.TheVariants.{Br, Call as CallOf, GlobalSet, I32Const, LocalGet, LocalTee, Test}
+use Rattle.wasm_types.specs.declared.instr.Simple.TheVariants.{Br, Call as CallOf, GlobalGet, GlobalSet, I32Const, LocalGet, LocalTee, Test}
 use Rattle.mid_program.specs.Mid as plain
 use Rattle.mid_program.specs.declared.mid.Operation.{Operation}
 use Rattle.mid_program.specs.declared.mid.Operation.TheVariants.{Host}
@@ -22,13 +22,15 @@ use Rattle.mid_program.specs.Mid.{Kind, Boxed, Unboxed, Many, Code, Codes, End, 
 use Rattle.value_machine.specs.Places.{Bases, array_local, made_in}
 use Rattle.value_machine.specs.Small.{ask, ask_row, does, h, kept, kept_code, kept_value, minus_one, moved_out, n, number_is, to_value, converted, when}
 use Rattle.value_machine.specs.Emission.{Layout, all_pushed, emitted, text_kept, text_let_go, assigned, function_number, global_handle, global_number, listed_asked, one_given, pending_assigned, performed, text_dropped}
-use Rattle.value_machine.specs.declared.import.Import.TheVariants.{Arg, FreeArray}
+use Rattle.value_machine.specs.declared.import.Import.TheVariants.{Arg, Drop, FreeArray}
+
+-- the text beside an unboxed name is dropped
+abbrev pub handle_dropped : Layout → ℕ → Instructions → Instructions
+handle_dropped y i k = does (GlobalGet (global_handle y i)) (ask Drop (does (I32Const minus_one) (does (GlobalSet (global_handle y i)) k)))
 
 -- an unboxed name takes a number
 abbrev pub bare_set : Layout → ℕ → ℕ → Instructions → Instructions
-bare_set y i t k =
-    text_dropped y i t (does (I32Const minus_one) (does (GlobalSet (global_handle y i))
-    (does (LocalGet (n y.bases t)) (does (GlobalSet (global_number y i)) k))))
+bare_set y i t k = text_dropped y i (does (LocalGet (n y.bases t)) (does (GlobalSet (global_number y i)) k))
 
 -- what becomes of one name where the command line assigns
 abbrev pub number_assigned : Layout → Kind → ℕ → ℕ → Instructions → Instructions

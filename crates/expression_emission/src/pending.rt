@@ -48,10 +48,10 @@ fn text_assigned(
     t: u32,
 ) -> Result<(), AllocError>
     requires name { name ≤ most_places }
-    requires places { suc t ≤ most_places }
+    requires places { t ≤ most_places }
     ensures { OnOk result (Emits out.old.items out.new.items (assigned (view_layout y.now) Unboxed name t)) }
 {
-    text_dropped(y, out, name, t + 1)?;
+    text_dropped(y, out, name)?;
     moved_out(out, y.bases.handle(t))?;
     let all = [
         Simple::GlobalSet(global_handle(y, name)),

@@ -9,15 +9,15 @@ ghost use Rattle.code_emission.specs.Bounds.{most_places};
 ghost use Rattle.code_emission.specs.Emits.{Emits};
 ghost use Rattle.code_emission.specs.Forms.{view_form};
 ghost use Rattle.expression_emission.specs.Fits.{SlotFits};
-ghost use Rattle.expression_emission.specs.Parts.{bare_set};
+ghost use Rattle.expression_emission.specs.Parts.{bare_set, handle_dropped};
 ghost use Rattle.expression_emission.specs.View.{view_layout};
 
 use crate::layout::Layout;
 use crate::places::{global_handle, global_number};
 use awk_state::{Answer, Primitive, Sort};
 use code_emission::{
-    Form, MINUS_ONE, TEXT_BESIDE, ask, ask_row, boxed_number, boxed_perhaps, copied_by,
-    copied_if_any, does, does_all, either, going, moved_out, number_is, when,
+    Form, MINUS_ONE, TEXT_BESIDE, ask, ask_row, boxed_number, boxed_perhaps, copied_by, does,
+    does_all, either, moved_out, number_is, when,
 };
 use mid_program::Slot;
 use std::alloc::AllocError;
@@ -36,7 +36,20 @@ pub(crate) fn slot_form(slot: Slot) -> Form
     }
 }
 
-/// Reads an unboxed global.
+/// What copies the handle of a global.
+fn handle_copied(y: &Layout<'_>, name: usize, t: u32) -> Result<Vec<Instr>, AllocError>
+    requires name { name ≤ most_places }
+    requires places { t ≤ most_places }
+    ensures { IfOk result (λ v. Emits [] v.items (slot_read (view_layout y.now) (GlobalSlot false name) t)) }
+{
+    let mut code = Vec::new(y.alloc);
+    let global = global_handle(y, name);
+    let (get, set) = (Simple::GlobalGet(global), Simple::GlobalSet(global));
+    copied_by(&mut code, get, set, y.bases.handle(t))?;
+    Ok(code)
+}
+
+/// Reads an unboxed global. Its number says whether a text stands beside it.
 fn bare_read(y: &Layout<'_>, out: &mut Vec<Instr>, name: usize, t: u32) -> Result<(), AllocError>
     requires name { name ≤ most_places }
     requires places { t ≤ most_places }
@@ -44,12 +57,12 @@ fn bare_read(y: &Layout<'_>, out: &mut Vec<Instr>, name: usize, t: u32) -> Resul
 {
     let all = [
         Simple::GlobalGet(global_number(y, name)),
-        Simple::LocalSet(y.bases.number(t)),
+        Simple::LocalTee(y.bases.number(t)),
+        Simple::I64Const(TEXT_BESIDE),
+        Simple::Compare(ValType::I64, IRelOp::Eq),
     ];
     does_all(out, &all)?;
-    let global = global_handle(y, name);
-    let (get, set) = (Simple::GlobalGet(global), Simple::GlobalSet(global));
-    copied_if_any(y.alloc, out, get, set, y.bases.handle(t))
+    when(y.alloc, out, handle_copied(y, name, t)?)
 }
 
 /// Reads a scalar.
@@ -166,26 +179,36 @@ fn value_stored(
     }
 }
 
-/// Drops the text beside an unboxed name, if there is one.
+/// What drops the text beside an unboxed name.
+fn text_let_go(y: &Layout<'_>, name: usize) -> Result<Vec<Instr>, AllocError>
+    requires { name ≤ most_places }
+    ensures { IfOk result (λ v. Emits [] v.items (handle_dropped (view_layout y.now) name)) }
+{
+    let mut code = Vec::new(y.alloc);
+    let global = global_handle(y, name);
+    does(&mut code, Simple::GlobalGet(global))?;
+    ask(&mut code, Import::Drop)?;
+    let none = Simple::I32Const(MINUS_ONE);
+    does_all(&mut code, &[none, Simple::GlobalSet(global)])?;
+    Ok(code)
+}
+
+/// Drops the text beside an unboxed name, if its number says that there is one.
 pub(crate) fn text_dropped(
     y: &Layout<'_>,
     out: &mut Vec<Instr>,
     name: usize,
-    t: u32,
 ) -> Result<(), AllocError>
-    requires name { name ≤ most_places }
-    requires places { t ≤ most_places }
-    ensures { OnOk result (Emits out.old.items out.new.items (text_dropped (view_layout y.now) name t)) }
+    requires { name ≤ most_places }
+    ensures { OnOk result (Emits out.old.items out.new.items (text_dropped (view_layout y.now) name)) }
 {
-    let local = y.bases.handle(t);
     let all = [
-        Simple::GlobalGet(global_handle(y, name)),
-        Simple::LocalTee(local),
-        Simple::I32Const(MINUS_ONE),
-        Simple::Compare(ValType::I32, IRelOp::Ne),
+        Simple::GlobalGet(global_number(y, name)),
+        Simple::I64Const(TEXT_BESIDE),
+        Simple::Compare(ValType::I64, IRelOp::Eq),
     ];
     does_all(out, &all)?;
-    when(y.alloc, out, going(y.alloc, Import::Drop, local)?)
+    when(y.alloc, out, text_let_go(y, name)?)
 }
 
 /// Writes an unboxed global.
@@ -194,10 +217,8 @@ fn bare_set(y: &Layout<'_>, out: &mut Vec<Instr>, name: usize, t: u32) -> Result
     requires places { t ≤ most_places }
     ensures { OnOk result (Emits out.old.items out.new.items (bare_set (view_layout y.now) name t)) }
 {
-    text_dropped(y, out, name, t)?;
+    text_dropped(y, out, name)?;
     let all = [
-        Simple::I32Const(MINUS_ONE),
-        Simple::GlobalSet(global_handle(y, name)),
         Simple::LocalGet(y.bases.number(t)),
         Simple::GlobalSet(global_number(y, name)),
     ];

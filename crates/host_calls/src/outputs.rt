@@ -36,6 +36,7 @@ impl<W: World> Host<W> {
     {
         printf(
             self.alloc,
+            &mut self.line,
             &mut self.tables.arguments,
             &mut self.input.files,
             &mut self.world,

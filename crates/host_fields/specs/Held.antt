@@ -1,12 +1,16 @@
 -- What contracts see of the record, and the state that it is a part of.
-use Rattle.std.specs.Prelude.{ℕ, List, refl}
+use Rattle.std.specs.Prelude.{ℕ, List, map, refl}
 use Rattle.std.specs.Coded.{Coded, code_by, coded×, coded_list}
+use Rattle.std.specs.List.{All}
 use Rattle.awk_values.specs.contracts.value.Value as stored
 use Rattle.awk_values.specs.declared.value.Value.{Value}
 use Rattle.awk_values.specs.declared.value.Value.TheVariants.{StrNum}
 use Rattle.awk_state.specs.SharedState.{Inner}
-use Rattle.host_format.specs.Spans.{span_text}
+use Rattle.awk_values.specs.Values.{text_of_value}
+use Rattle.host_format.specs.Spans.{IsInside, span_text}
 use Rattle.host_format.specs.declared.span.Span.{Span}
+use Rattle.host_fields.specs.declared.fields.Form.{Form}
+use Rattle.host_fields.specs.declared.fields.Form.TheVariants.{Own, Parts}
 
 -- `$0`, and the fields from `$1` on
 pub record Held : Type 0 where
@@ -24,3 +28,18 @@ with_held r inner = record inner { whole = r.whole; fields = r.fields }
 -- the field that a part of a text is
 abbrev pub field_at : List ℕ → Span → Value
 field_at text span = StrNum (span_text text span)
+
+-- a part of `$0`, which was split, so that it is a numeric string
+abbrev pub IsPartOf : (whole : Value) → Span → Type 0
+IsPartOf (StrNum text) span = IsInside text span
+IsPartOf whole span = ⊥
+
+-- the fields: parts of `$0`, or values of their own
+abbrev pub fields_in : Form → (whole : Value) → List Span → List Value → List Value
+fields_in Parts whole spans own = map (field_at (text_of_value whole)) spans
+fields_in Own whole spans own = own
+
+-- fields that are parts of `$0` are so each
+abbrev pub AreHeld : Form → (whole : Value) → List Span → Type 0
+AreHeld Parts whole spans = All (IsPartOf whole) spans
+AreHeld Own whole spans = Unit {0}

@@ -1,18 +1,20 @@
 //! The record.
-ghost use Rattle.std.specs.Prelude.{◌≡◌, ◌≢◌, ◌&&◌, not, [], Err, IfErr, IfOk, OnErr, OnOk, length, pos};
+ghost use Rattle.std.specs.Prelude.{◌≡◌, ◌≢◌, ◌&&◌, not, [], IfErr, IfOk, OnErr, OnOk, get_or, length, pos};
 ghost use Rattle.awk_values.specs.declared.value.Value.TheVariants.{Uninit};
 ghost use Rattle.awk_state.specs.Texts.{is_empty};
 ghost use Rattle.awk_state.specs.FieldRows.{at_least, field_number};
+ghost use Rattle.host_format.specs.Outcomes.{IsStopOf};
 ghost use Rattle.host_fields.specs.Calls.{IsRecordOf, IsStopOfChange, IsStopOfRecord, Makes, Reads, count_set, field_set};
 
+use crate::fields::{Form, part_of, to_own};
 use crate::joined::joined;
 use crate::number::{MOST, field_number};
-use crate::parts::parts_of;
 use crate::splitter::{LastSep, split};
 use awk_values::{Bytes, Fault, Stop, Value};
+use host_format::Span;
 use std::alloc::{AllocError, Global};
 use std::marker::Model;
-use std::mem::replace;
+use std::mem::{replace, swap};
 
 /// At least so many fields: those that are missing have no value.
 fn extend(fields: &mut Vec<Value>, count: usize) -> Result<(), AllocError>
@@ -27,12 +29,17 @@ fn extend(fields: &mut Vec<Value>, count: usize) -> Result<(), AllocError>
 
 /// The record and its fields (POSIX.1-2017 awk, "Variables and Special Variables"). Contracts see `$0`, and the fields from `$1` on.
 ///
-/// Fields that were split off are parts of the record's text, which they share.
+/// Fields that are split off are parts of the record's text, until a field or NF is set. What the lists take is kept from record to record.
 #[derive(Drop)]
 pub struct Record {
     whole: Value,
-    fields: Vec<Value>,
-    nothing: Value,
+    form: Form,
+    /// The fields that are parts of `$0`.
+    spans: Vec<Span>,
+    /// Room for the parts of the next record.
+    spare: Vec<Span>,
+    /// The fields that are values of their own.
+    own: Vec<Value>,
     last: Option<LastSep>,
 }
 
@@ -44,18 +51,16 @@ fn do_newlines_separate(fs: &[u8], rs: &[u8]) -> bool
 }
 
 impl Model for Record {
-    ghost use Rattle.std.specs.Prelude.{◌≡◌};
-    ghost use Rattle.awk_values.specs.declared.value.Value.TheVariants.{Uninit};
-    ghost use Rattle.host_fields.specs.Held.{Held, held_code};
+    ghost use Rattle.host_fields.specs.Held.{AreHeld, Held, fields_in, held_code};
     ghost use Rattle.host_fields.specs.Splits.{IsKept};
 
     ghost Value = { Held };
 
     ghost coded = { held_code };
 
-    ghost view = { λ r. record { whole = r.whole; fields = r.fields.items } };
+    ghost view = { λ r. record { whole = r.whole; fields = fields_in r.form r.whole r.spans.items r.own.items } };
 
-    ghost invariant = { λ r. (r.nothing ≡ Uninit) × IsKept r.last };
+    ghost invariant = { λ r. AreHeld r.form r.whole r.spans.items × IsKept r.last };
 }
 
 impl Record {
@@ -65,8 +70,10 @@ impl Record {
     {
         Record {
             whole: Value::Uninit,
-            fields: Vec::new(alloc),
-            nothing: Value::Uninit,
+            form: Form::Own,
+            spans: Vec::new(alloc),
+            spare: Vec::new(alloc),
+            own: Vec::new(alloc),
             last: None,
         }
     }
@@ -82,13 +89,20 @@ impl Record {
         ensures err { IfErr result (IsStopOfRecord fs.now rs.now text) }
         ensures refused { OnErr result (self.new ≡ self.old) }
     {
-        let alloc = *self.fields.allocator();
         let newlines = do_newlines_separate(fs, rs);
-        let spans = split(alloc, &mut self.last, text.as_slice(), fs, newlines)?;
-        if spans.len() > MOST {
+        split(
+            &mut self.spare,
+            &mut self.last,
+            text.as_slice(),
+            fs,
+            newlines,
+        )?;
+        if self.spare.len() > MOST {
             return Err(Stop::Fault(Fault::FieldNumber));
         }
-        self.fields = parts_of(alloc, &text, spans.as_slice())?;
+        swap(&mut self.spans, &mut self.spare);
+        self.own.clear();
+        self.form = Form::Parts;
         self.whole = Value::StrNum(text);
         Ok(())
     }
@@ -104,19 +118,25 @@ impl Record {
         ensures err { IfErr result (IsStopOfChange ofs.now (field_set n value) self.old) }
         ensures refused { OnErr result (self.new ≡ self.old) }
     {
-        let alloc = *self.fields.allocator();
+        let alloc = *self.own.allocator();
         let number = field_number(n)?;
-        let former = self.fields.len();
-        extend(&mut self.fields, number)?;
-        let old = replace(&mut self.fields[number - 1], value);
-        match joined(alloc, self.fields.as_slice(), ofs) {
+        to_own(
+            &mut self.form,
+            &mut self.own,
+            &self.whole,
+            self.spans.as_slice(),
+        )?;
+        let former = self.own.len();
+        extend(&mut self.own, number)?;
+        let old = replace(&mut self.own[number - 1], value);
+        match joined(alloc, self.own.as_slice(), ofs) {
             Ok(whole) => {
                 self.whole = Value::StrNum(whole);
                 Ok(())
             }
             Err(stop) => {
-                self.fields[number - 1] = old;
-                self.fields.truncate(former);
+                self.own[number - 1] = old;
+                self.own.truncate(former);
                 Err(stop)
             }
         }
@@ -132,40 +152,59 @@ impl Record {
         ensures err { IfErr result (IsStopOfChange ofs.now (count_set n) self.old) }
         ensures refused { OnErr result (self.new ≡ self.old) }
     {
-        let alloc = *self.fields.allocator();
+        let alloc = *self.own.allocator();
         let count = field_number(n)?;
-        let former = self.fields.len();
-        extend(&mut self.fields, count)?;
-        match joined(alloc, &self.fields[..count], ofs) {
+        to_own(
+            &mut self.form,
+            &mut self.own,
+            &self.whole,
+            self.spans.as_slice(),
+        )?;
+        let former = self.own.len();
+        extend(&mut self.own, count)?;
+        match joined(alloc, &self.own[..count], ofs) {
             Ok(whole) => {
-                self.fields.truncate(count);
+                self.own.truncate(count);
                 self.whole = Value::StrNum(whole);
                 Ok(())
             }
             Err(stop) => {
-                self.fields.truncate(former);
+                self.own.truncate(former);
                 Err(stop)
             }
         }
     }
 
-    /// The field of a number; that of 0 is `$0`. Past NF it has no value, and nothing changes. It takes no memory.
+    /// A field from `$1` on, where `number` counts from 0. Past NF it has no value.
+    fn own_or_part(&self, number: usize) -> Result<Value, AllocError>
+        ensures { IfOk result (λ value. value ≡ get_or self.now.fields number Uninit) }
+    {
+        match self.form {
+            Form::Own => match self.own.get(number) {
+                Some(value) => value.clone(),
+                None => Ok(Value::Uninit),
+            },
+            Form::Parts => match self.spans.get(number) {
+                Some(span) => part_of(&self.whole, *span),
+                None => Ok(Value::Uninit),
+            },
+        }
+    }
+
+    /// The field of a number; that of 0 is `$0`. Past NF it has no value, and nothing changes. Its text is shared.
     ///
     /// # Errors
     ///
-    /// `FieldNumber` where the number is below 0 or above 1,048,576.
-    pub fn field(&self, n: i64) -> Result<&Value, Fault>
-        ensures ok { IfOk result (λ value. Reads n self.now value.now) }
-        ensures err { IfErr result (λ fault. field_number n ≡ Err fault) }
+    /// `FieldNumber` where the number is below 0 or above 1,048,576; [`Stop::NoMemory`] where the count of those who share the text is full.
+    pub fn field(&self, n: i64) -> Result<Value, Stop>
+        ensures ok { IfOk result (Reads n self.now) }
+        ensures err { IfErr result (IsStopOf (field_number n)) }
     {
         let number = field_number(n)?;
         if number == 0 {
-            return Ok(&self.whole);
+            return Ok(self.whole.clone()?);
         }
-        match self.fields.get(number - 1) {
-            Some(value) => Ok(value),
-            None => Ok(&self.nothing),
-        }
+        Ok(self.own_or_part(number - 1)?)
     }
 
     /// `$0`. It takes no memory.
@@ -179,6 +218,9 @@ impl Record {
     pub fn count(&self) -> usize
         ensures { result ≡ length self.now.fields }
     {
-        self.fields.len()
+        match self.form {
+            Form::Own => self.own.len(),
+            Form::Parts => self.spans.len(),
+        }
     }
 }

@@ -35,29 +35,30 @@ fn push_piece(
     Ok(())
 }
 
-/// The pieces between certain bytes.
-fn split_by(alloc: Global, text: &[u8], marks: Marks) -> Result<Vec<Span>, AllocError>
-    ensures { IfOk result (λ spans. AreSpans text.now spans.items (pieces_by marks text.now)) }
+/// Adds the pieces between certain bytes to no piece.
+fn split_by(spans: &mut Vec<Span>, text: &[u8], marks: Marks) -> Result<(), AllocError>
+    requires { spans.old.items ≡ [] }
+    ensures { OnOk result (AreSpans text.now spans.new.items (pieces_by marks text.now)) }
 {
-    let mut spans = Vec::new(alloc);
     let mut from = 0;
     while let Some(at) = marks.find(&text[from..]) {
-        push_piece(&mut spans, marks, from, from + at)?;
+        push_piece(spans, marks, from, from + at)?;
         from = from + at + 1;
     }
-    push_piece(&mut spans, marks, from, text.len())?;
-    Ok(spans)
+    push_piece(spans, marks, from, text.len())?;
+    Ok(())
 }
 
-/// Each byte by itself.
-fn split_each(alloc: Global, text: &[u8]) -> Result<Vec<Span>, AllocError>
-    ensures { IfOk result (λ spans. AreSpans text.now spans.items (map (λ c. c ∷ []) text.now)) }
+/// Adds each byte by itself to no piece.
+fn split_each(spans: &mut Vec<Span>, text: &[u8]) -> Result<(), AllocError>
+    requires { spans.old.items ≡ [] }
+    ensures { OnOk result (AreSpans text.now spans.new.items (map (λ c. c ∷ []) text.now)) }
 {
-    let mut spans = Vec::with_capacity(alloc, text.len())?;
+    spans.reserve(text.len())?;
     for at in 0..text.len() {
-        push(&mut spans, at, at + 1)?;
+        push(spans, at, at + 1)?;
     }
-    Ok(spans)
+    Ok(())
 }
 
 /// Adds the lines of a part of the text in which newlines alone separate, if they do, and gives where the last piece begins.
@@ -84,27 +85,27 @@ fn push_lines(
     Ok(line)
 }
 
-/// The pieces between the matches of an expression that are not empty, and newlines where these separate too.
+/// Adds the pieces between the matches of an expression that are not empty, and newlines where these separate too, to no piece.
 fn split_by_ere(
-    alloc: Global,
+    spans: &mut Vec<Span>,
     text: &[u8],
     auto: &mut Auto,
     newlines: bool,
-) -> Result<Vec<Span>, AllocError>
-    requires { IsAuto auto.old }
-    ensures ok { (t : Tree) → IsAutoOf auto.old t → IfOk result (λ spans. AreSpans text.now spans.items (pieces (Expression t) newlines text.now)) }
+) -> Result<(), AllocError>
+    requires none { spans.old.items ≡ [] }
+    requires auto { IsAuto auto.old }
+    ensures ok { (t : Tree) → IsAutoOf auto.old t → OnOk result (AreSpans text.now spans.new.items (pieces (Expression t) newlines text.now)) }
     ensures kept { (t : Tree) → IsAutoOf auto.old t → IsAutoOf auto.new t }
 {
-    let mut spans = Vec::new(alloc);
     let mut from = 0;
     while let Some((start, end)) = first_not_empty(auto, text, from)? {
-        let line = push_lines(&mut spans, text, from, start, newlines)?;
-        push(&mut spans, line, start)?;
+        let line = push_lines(spans, text, from, start, newlines)?;
+        push(spans, line, start)?;
         from = end;
     }
-    let line = push_lines(&mut spans, text, from, text.len(), newlines)?;
-    push(&mut spans, line, text.len())?;
-    Ok(spans)
+    let line = push_lines(spans, text, from, text.len(), newlines)?;
+    push(spans, line, text.len())?;
+    Ok(())
 }
 
 /// The pieces of a text between the matches of an expression that are not empty, as parts of it. An empty text has none. Where `newlines` says so,
@@ -123,10 +124,11 @@ pub fn split_by_expression(
     ensures ok { (t : Tree) → IsAutoOf auto.old t → IfOk result (λ spans. AreSpans text.now spans.items (pieces_of (Expression t) newlines text.now)) }
     ensures kept { (t : Tree) → IsAutoOf auto.old t → IsAutoOf auto.new t }
 {
+    let mut spans = Vec::new(alloc);
     if text.is_empty() {
-        return Ok(Vec::new(alloc));
+        return Ok(spans);
     }
-    let spans = split_by_ere(alloc, text, auto, newlines)?;
+    split_by_ere(&mut spans, text, auto, newlines)?;
     Ok(spans)
 }
 
@@ -140,8 +142,40 @@ fn byte_marks(byte: u8, newlines: bool) -> Marks
     }
 }
 
-/// The fields of a text, as parts of it. An empty text has none. Where `newlines` says so, newlines separate too, unless each byte is
-/// a field; of a newline and a match of an expression the earlier counts, and at one place the longer.
+/// Puts the fields of a text, as parts of it, in the place of these parts, whose room they take. An empty text has none. Where `newlines` says so,
+/// newlines separate too, unless each byte is a field; of a newline and a match of an expression the earlier counts, and at one place the longer.
+///
+/// # Errors
+///
+/// [`Stop::NoMemory`] alone; the parts may be any then.
+pub fn split_into(
+    spans: &mut Vec<Span>,
+    text: &[u8],
+    sep: &mut Sep,
+    newlines: bool,
+) -> Result<(), Stop>
+    requires { IsAnySep sep.old }
+    ensures ok { (s : Separator) → IsSep sep.old s → OnOk result (AreSpans text.now spans.new.items (pieces_of s newlines text.now)) }
+    ensures kept { (s : Separator) → IsSep sep.old s → IsSep sep.new s }
+    ensures err { IfErr result (λ stop. stop ≡ stops.NoMemory) }
+{
+    spans.clear();
+    if text.is_empty() {
+        return Ok(());
+    }
+    match sep {
+        Sep::Blanks => split_by(spans, text, Marks::Blanks)?,
+        Sep::EachByte => split_each(spans, text)?,
+        Sep::Byte(byte) => {
+            let marks = byte_marks(*byte, newlines);
+            split_by(spans, text, marks)?;
+        }
+        Sep::Ere(auto) => split_by_ere(spans, text, auto, newlines)?,
+    }
+    Ok(())
+}
+
+/// The fields of a text, as parts of it, as [`split_into`] has them.
 ///
 /// # Errors
 ///
@@ -157,16 +191,7 @@ pub fn split_text(
     ensures kept { (s : Separator) → IsSep sep.old s → IsSep sep.new s }
     ensures err { IfErr result (λ stop. stop ≡ stops.NoMemory) }
 {
-    if text.is_empty() {
-        return Ok(Vec::new(alloc));
-    }
-    match sep {
-        Sep::Blanks => Ok(split_by(alloc, text, Marks::Blanks)?),
-        Sep::EachByte => Ok(split_each(alloc, text)?),
-        Sep::Byte(byte) => {
-            let marks = byte_marks(*byte, newlines);
-            Ok(split_by(alloc, text, marks)?)
-        }
-        Sep::Ere(auto) => Ok(split_by_ere(alloc, text, auto, newlines)?),
-    }
+    let mut spans = Vec::new(alloc);
+    split_into(&mut spans, text, sep, newlines)?;
+    Ok(spans)
 }

@@ -55,19 +55,32 @@ fn put_formatted(out: &mut Vec<u8>, format: &[u8], values: &[Value]) -> Result<(
     put(out, rest)
 }
 
-/// The text of a format and values (POSIX.1-2017 awk, "Formatted output"; XBD 5). A conversion is a percent sign, flags of `-`, `+`, space,
-/// `#` and `0`, a width, a point with a precision, and one of `d i o x X u c s f`; width and precision are at most 65,535. `%%` is a
-/// percent sign. Values that are left over do not count.
+/// Makes a text that of a format and values, in the room that it has (POSIX.1-2017 awk, "Formatted output"; XBD 5). A conversion is a percent sign,
+/// flags of `-`, `+`, space, `#` and `0`, a width, a point with a precision, and one of `d i o x X u c s f`; width and precision are at most 65,535.
+/// `%%` is a percent sign. Values that are left over do not count.
 ///
 /// # Errors
 ///
 /// In the order of the format: `Format` where a conversion is malformed or lacks a value, `Range` and `Fraction` of a value's number, and
-/// `TextLimit` where the text so far is past 67,108,864 bytes. [`Stop::NoMemory`] beside these.
+/// `TextLimit` where the text so far is past 67,108,864 bytes. [`Stop::NoMemory`] beside these. The text may be any then.
+pub fn format_into(out: &mut Vec<u8>, format: &[u8], values: &[Value]) -> Result<(), Stop>
+    ensures ok { OnOk result (formatted format.now values.now ≡ Ok out.new.items) }
+    ensures err { IfErr result (IsStopOf (formatted format.now values.now)) }
+{
+    out.clear();
+    put_formatted(out, format, values)
+}
+
+/// The text of a format and values, as [`format_into`] makes it.
+///
+/// # Errors
+///
+/// Those of [`format_into`].
 pub fn format(alloc: Global, format: &[u8], values: &[Value]) -> Result<Bytes, Stop>
     ensures ok { IfOk result (λ text. formatted format.now values.now ≡ Ok text) }
     ensures err { IfErr result (IsStopOf (formatted format.now values.now)) }
 {
-    let mut out = Vec::new(alloc);
-    put_formatted(&mut out, format, values)?;
+    let mut out = Vec::with_capacity(alloc, format.len())?;
+    format_into(&mut out, format, values)?;
     Ok(Bytes::from_vec(out)?)
 }

@@ -17,8 +17,8 @@ mod substitution;
 mod text;
 
 pub use eres::expression;
-pub use fields::{split_by_expression, split_text};
-pub use formatted::format;
+pub use fields::{split_by_expression, split_into, split_text};
+pub use formatted::{format, format_into};
 pub use sep::Sep;
 pub use span::Span;
 pub use substitution::{Substituted, substitute};

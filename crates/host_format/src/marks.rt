@@ -1,9 +1,37 @@
 //! Bytes that stand between fields.
 ghost use Rattle.std.specs.Prelude.{◌≡◌};
+ghost use Rattle.awk_state.specs.Fields.{is_blank};
 ghost use Rattle.memchr.specs.Find.{IsFirstByte};
 ghost use Rattle.host_format.specs.Marks.{is_mark, skips_empty};
 
 use memchr::{memchr, memchr2, memchr3};
+
+/// A blank among so many bytes is looked for byte by byte: most fields are short.
+const NEAR: usize = 16;
+
+/// Whether a byte is a space, a tab or a newline.
+#[inline(always)]
+fn is_blank(byte: u8) -> bool
+    ensures { result ≡ is_blank byte }
+{
+    byte == b' ' || byte == b'\t' || byte == b'\n'
+}
+
+/// The first blank.
+fn first_blank(text: &[u8]) -> Option<usize>
+    ensures { IsFirstByte is_blank text.now result }
+{
+    let near = text.len().min(NEAR);
+    for at in 0..near {
+        if is_blank(text[at]) {
+            return Some(at);
+        }
+    }
+    match memchr3(b' ', b'\t', b'\n', &text[near..]) {
+        Some(at) => Some(near + at),
+        None => None,
+    }
+}
 
 /// Which bytes stand between fields.
 #[derive(Clone, Copy, Debug)]
@@ -22,7 +50,7 @@ impl Marks {
         match self {
             Marks::Byte(byte) => memchr(byte, text),
             Marks::ByteOrNewline(byte) => memchr2(byte, b'\n', text),
-            Marks::Blanks => memchr3(b' ', b'\t', b'\n', text),
+            Marks::Blanks => first_blank(text),
         }
     }
 

@@ -1,5 +1,5 @@
 -- From what became of a text, to what became of the row that has it.
-use Rattle.std.proofs.Common.{◌≡◌, ℕ, List, take, Result, Ok, Err, sym, ap, subst, ◌∙◌}
+use Rattle.std.proofs.Common.{◌≡◌, ℕ, List, take, Result, Ok, Err, refl, sym, ap, subst, ◌∙◌}
 use Rattle.awk_values.specs.declared.fault.Fault.{Fault}
 use Rattle.awk_values.specs.declared.fault.Stop.{Stop}
 use Rattle.awk_values.specs.declared.fault.Stop.TheVariants as stop
@@ -69,3 +69,9 @@ pub could_refused : (to : Destination) (values : List Value) (streams : Streams)
 could_refused to values streams (stop.Fault fault) is = λ shared has.
     (shared.outside, ap (λ r. (printf_by r to (file_name to values) shared).answer) is, ap (λ r. (printf_by r to (file_name to values) shared).inner.writers) is ∙ has.writers)
 could_refused to values streams stop.NoMemory is = tt
+
+-- nothing was put out
+pub none_begun : (tells : Type 0) (is : Shared → Type 0) (does : Shared → Puts) (s : State) (r : Result (Unit {0}) Stop) → BeginsBy tells is does r s s
+none_begun tells is does s (Ok u) = tt
+none_begun tells is does s (Err (stop.Fault fault)) = tt
+none_begun tells is does s (Err stop.NoMemory) = (0, λ w shared has. refl)

@@ -1,5 +1,5 @@
 //! `print` and `printf`.
-ghost use Rattle.std.specs.Prelude.{◌≡◌, ◌≤◌, IfErr, IfOk, List, None, Ok, ℕ, length};
+ghost use Rattle.std.specs.Prelude.{◌≡◌, ◌≤◌, IfErr, List, None, Ok, OnOk, ℕ, length};
 ghost use Rattle.awk_state.specs.InTurn.{with_name};
 ghost use Rattle.awk_state.specs.OutputRows.{formatted_values, operands_of, print_row, printf_row};
 ghost use Rattle.awk_state.specs.SharedState.{Shared};
@@ -19,8 +19,8 @@ use crate::line::fill;
 use crate::outlets::put_out;
 use crate::taken::{operands, taken};
 use awk_state::Destination;
-use awk_values::{Bytes, Stop, Value, to_text};
-use host_format::format;
+use awk_values::{Stop, Value, to_text};
+use host_format::format_into;
 use host_streams::Streams;
 use host_texts::Specials;
 use host_values::Refusal;
@@ -63,22 +63,23 @@ fn print_values<W: World>(
     put_out(alloc, streams, world, to, values, line.as_slice())
 }
 
-/// The formatted text of values, the first of which is the format.
-fn formatted(alloc: Global, values: &[Value]) -> Result<Bytes, Stop>
+/// Makes a text the formatted text of values, the first of which is the format.
+fn fill_formatted(alloc: Global, line: &mut Vec<u8>, values: &[Value]) -> Result<(), Stop>
     requires { 1 ≤ length values.now }
-    ensures ok { IfOk result (λ text. formatted_values values.now ≡ Ok text) }
+    ensures ok { OnOk result (formatted_values values.now ≡ Ok line.new.items) }
     ensures err { IfErr result (IsStopOf (formatted_values values.now)) }
 {
     let Some((first, operands)) = values.split_first() else {
         unreachable!()
     };
     let text = to_text(alloc, first)?;
-    format(alloc, text.as_slice(), operands)
+    format_into(line, text.as_slice(), operands)
 }
 
 /// Puts the formatted text of values out.
 fn printf_values<W: World>(
     alloc: Global,
+    line: &mut Vec<u8>,
     streams: &mut Streams,
     world: &mut W,
     to: Destination,
@@ -93,8 +94,8 @@ fn printf_values<W: World>(
     ensures begun { BeginsBy W.tells (IsOf streams.old (W.state world.old)) (printf_row to values.now) result (W.state world.old) (W.state world.new) }
     ensures told { W.tells → (shared : Shared) → IsOf streams.old (W.state world.old) shared → PutsIs (printf_row to values.now shared) result (W.state world.old) (W.state world.new) (names_of streams.old.writers.items) (names_of streams.new.writers.items) }
 {
-    let text = formatted(alloc, operands(to, values))?;
-    put_out(alloc, streams, world, to, values, text.as_slice())
+    fill_formatted(alloc, line, operands(to, values))?;
+    put_out(alloc, streams, world, to, values, line.as_slice())
 }
 
 /// Puts the last values of the argument list out, where no fault is kept: with OFS between them and ORS at the end, to the standard output, or to the
@@ -130,13 +131,14 @@ pub fn print<W: World>(
 }
 
 /// Puts the formatted text of the last values of the argument list out, where no fault is kept. The values are taken, also at a fault. A fault of the
-/// format comes before a file is opened.
+/// format comes before a file is opened. The text is made in `line` and goes out at once.
 ///
 /// # Errors
 ///
 /// A trap, which changes nothing; a fault, which is to be kept; or want of memory.
 pub fn printf<W: World>(
     alloc: Global,
+    line: &mut Vec<u8>,
     arguments: &mut SmallVec<Value, 8>,
     streams: &mut Streams,
     world: &mut W,
@@ -154,7 +156,7 @@ pub fn printf<W: World>(
     };
     let left = arguments.len() - count;
     let values = &arguments.as_slice()[left..];
-    let put = printf_values(alloc, streams, world, to, values);
+    let put = printf_values(alloc, line, streams, world, to, values);
     arguments.truncate(left);
     answer(put)
 }

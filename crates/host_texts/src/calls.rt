@@ -18,6 +18,7 @@ use std::alloc::Global;
 use wasm_store::Word;
 
 /// Gives an answer: a value under a new handle.
+#[inline(always)]
 pub(crate) fn give(handles: &mut Handles, reply: Reply) -> Result<Option<Word>, Refusal>
     requires { map.get handles.old spare ≡ None }
     ensures answer { Gives reply handles.old result handles.new }
@@ -39,6 +40,7 @@ pub(crate) fn give(handles: &mut Handles, reply: Reply) -> Result<Option<Word>, 
 /// # Errors
 ///
 /// A trap, which changes nothing; a fault, which is to be kept; or want of memory.
+#[inline(always)]
 pub fn call(
     alloc: Global,
     primitive: TextPrimitive,

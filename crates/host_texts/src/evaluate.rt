@@ -134,6 +134,7 @@ fn substr_from(alloc: Global, handles: &Handles, words: &[Word]) -> Result<Evalu
 }
 
 /// What a primitive answers to words, and does to the texts.
+#[inline(always)]
 pub(crate) fn evaluate(
     alloc: Global,
     primitive: TextPrimitive,

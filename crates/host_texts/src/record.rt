@@ -23,6 +23,7 @@ use std::alloc::{AllocError, Global};
 use wasm_store::Word;
 
 /// The value of a special variable.
+#[inline(always)]
 fn special_value(texts: &Texts, special: Special) -> Result<Value, AllocError>
     ensures { IfOk result (λ value. (inner : Inner) → value ≡ special_of (with_texts texts.now inner) special) }
 {
@@ -35,6 +36,7 @@ fn special_value(texts: &Texts, special: Special) -> Result<Value, AllocError>
     }
 }
 
+#[inline(always)]
 pub(crate) fn get_special(
     handles: &Handles,
     texts: &Texts,
@@ -127,15 +129,18 @@ fn copied(value: &Value) -> Result<Value, AllocError>
 }
 
 /// What reading a field comes to.
+#[inline(always)]
 fn read_outcome(texts: &Texts, number: i64) -> Result<Result<Reply, Fault>, AllocError>
     ensures { IfOk result (λ outcome. (inner : Inner) → replied Reply.Value (field_read number (with_texts texts.now inner)) ≡ outcome) }
 {
     match texts.held.field(number) {
-        Ok(value) => Ok(Ok(Reply::Value(copied(value)?))),
-        Err(fault) => Ok(Err(fault)),
+        Ok(value) => Ok(Ok(Reply::Value(value))),
+        Err(Stop::Fault(fault)) => Ok(Err(fault)),
+        Err(Stop::NoMemory) => Err(AllocError),
     }
 }
 
+#[inline(always)]
 pub(crate) fn field(handles: &Handles, texts: &Texts, words: &[Word]) -> Result<Evaluated, Refusal>
     ensures { (s : HostState) → Evaluates handles.now (holding texts.now s) result (holding texts.now s) (evaluation TextPrimitive.Field handles.now (holding texts.now s) words.now) }
 {

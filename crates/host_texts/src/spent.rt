@@ -15,6 +15,7 @@ pub(crate) enum Spent {
 
 impl Spent {
     /// Takes their values out.
+    #[inline(always)]
     pub(crate) fn leave(self, handles: &mut Handles)
         ensures { handles.new ≡ left_by self handles.old }
     {

@@ -1,3 +1,4 @@
+pub mod Stores
 pub mod Growing
 pub mod Agreeing
 pub mod Modules

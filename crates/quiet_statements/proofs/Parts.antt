@@ -1,5 +1,5 @@
 -- The parts of a number statement's code: arithmetic with its check, conversions of a name's number, and places of names.
-use Rattle.std.proofs.Common.{◌≡◌, ℕ, suc, Bool, true, false, List, [], ◌∷◌, nat_eq, Some, refl, sym, ap, ◌∙◌, subst}
+use Rattle.std.proofs.Common.{◌≡◌, ◌≢◌, ℕ, suc, Bool, true, false, List, [], ◌∷◌, nat_eq, Some, refl, sym, ap, ◌∙◌, subst}
 use Rattle.std.specs.Prelude.{slice_get, slice_set}
 use Rattle.std.proofs.lemmas.Bool.{eqb-true}
 use Rattle.awk_values.specs.Faults.{fault_number}
@@ -9,16 +9,16 @@ use Rattle.wasm_types.specs.Syntax.{Done, Instructions}
 use Rattle.wasm_types.specs.declared.types.ValType.TheVariants as ty
 use Rattle.wasm_types.specs.declared.instr.IBinOp.{IBinOp}
 use Rattle.wasm_types.specs.declared.instr.IBinOp.TheVariants.{Mul}
-use Rattle.wasm_types.specs.declared.instr.IRelOp.TheVariants.{Eq, Ne}
-use Rattle.wasm_types.specs.declared.instr.Simple.TheVariants.{Br, Compare, GlobalGet, I32Const, LocalTee}
+use Rattle.wasm_types.specs.declared.instr.IRelOp.TheVariants.{Eq}
+use Rattle.wasm_types.specs.declared.instr.Simple.TheVariants.{Br, Compare, I32Const, I64Const}
 use Rattle.wasm_store.specs.declared.word.Word.{Word}
 use Rattle.wasm_store.specs.declared.word.Word.TheVariants.{I32, I64}
 use Rattle.wasm_store.specs.Words.{compare_of, flag}
 use Rattle.wasm_machine.specs.Frames.{LabelForm}
 use Rattle.wasm_machine.specs.Machines.{Conf, ProgramForm}
 use Rattle.value_machine.specs.Arithmetic.{factors_differ, out_of_range, ranged, times, two_numbers}
-use Rattle.value_machine.specs.Small.{ask_row, does, fail_if, minus_one, number_is, when}
-use Rattle.quiet_statements.proofs.Flowing.{Flows, arrived, at, binary, branch, compare, const32, const64, convert, ended, get, get_global, set, tee, test}
+use Rattle.value_machine.specs.Small.{ask_row, does, fail_if, number_is, text_beside, when}
+use Rattle.quiet_statements.proofs.Flowing.{Flows, arrived, at, binary, branch, compare, const64, convert, ended, get, set, test}
 
 -- a number is what it is compared with, where the answer is not 0
 pub equal_word : (w v : Word) (n j : ℕ) → compare_of ty.I64 Eq w (I64 n) ≡ Some v → v ≡ I32 j → nat_eq j 0 ≡ false → w ≡ I64 n
@@ -31,14 +31,6 @@ equal_word (I64 a) v n j e h z = by (nat_eq a n) refl
         let x : Some (I32 0) ≡ Some v = ap (λ (b : Bool). Some (flag b)) (sym q) ∙ e in
         let y : j ≡ 0 = cc in
         let y2 : nat_eq j 0 ≡ true = ap (λ i. nat_eq i 0) y in cc
-
--- -1 is no other word than -1
-zero_there : (v : Word) (n : ℕ) → compare_of ty.I32 Ne (I32 minus_one) (I32 minus_one) ≡ Some v → v ≡ I32 n → nat_eq n 0 ≡ false → ⊥
-zero_there v n e h z =
-    let x : Some (I32 0) ≡ Some v = e in
-    let y : n ≡ 0 = cc in
-    let q : nat_eq n 0 ≡ true = ap (λ i. nat_eq i 0) y in
-    let r : true ≡ false = sym q ∙ z in cc
 
 module _ (m : ProgramForm) (P : Conf → Type 0) (bs : List Bool) (base : Conf) where
   abbrev pub To : List LabelForm → List Word → List Word → List Word → Instructions → Type 0
@@ -78,14 +70,7 @@ module _ (m : ProgramForm) (P : Conf → Type 0) (bs : List Bool) (base : Conf) 
         ((w v : Word) → slice_get L x ≡ Some w → compare_of ty.I64 Eq w (I64 n) ≡ Some v → To K gs L (v ∷ vs) k) → To K gs L vs (number_is x n k)
     number_is_flows x n h = get (λ w e. const64 (compare (λ v q. h w v e q)))
 
-    -- no handle stands in a name's place: nothing is done with it
-    pub no_handle_flows : {L : List Word} (a : Instructions) (x y : ℕ) → slice_get gs x ≡ Some (I32 minus_one) → To K gs (slice_set L y (I32 minus_one)) [] k →
-        To K gs L [] (does (GlobalGet x) (does (LocalTee y) (does (I32Const minus_one) (does (Compare ty.I32 Ne) (when a k)))))
-    no_handle_flows {L = L} a x y none h = get_global (λ w e. subst Next (some_same w (sym none ∙ e))
-        (tee (λ f. const32 (compare (λ v q. branch (λ n g z. absurd (zero_there v n q g z)) (λ n g z. ended h))))))
-      where
-        Next : Word → Type 0
-        Next w = To K gs L (w ∷ []) (does (LocalTee y) (does (I32Const minus_one) (does (Compare ty.I32 Ne) (when a k))))
-
-        some_same : (w : Word) → Some (I32 minus_one) ≡ Some w → I32 minus_one ≡ w
-        some_same w q = cc
+    -- a word that is no mark is tested for it: what is done with a text beside it is not done
+    pub no_mark_flows : {L : List Word} {w : Word} (a : Instructions) → w ≢ I64 text_beside → To K gs L [] k →
+        To K gs L (w ∷ []) (does (I64Const text_beside) (does (Compare ty.I64 Eq) (when a k)))
+    no_mark_flows {w = w} a none h = const64 (compare (λ v q. branch (λ n e z. absurd (none (equal_word w v text_beside n q e z))) (λ n e z. ended h)))

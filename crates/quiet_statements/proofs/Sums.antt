@@ -16,12 +16,12 @@ use Rattle.mid_program.specs.declared.mid.Arithmetic.TheVariants as inline
 use Rattle.mid_program.specs.Mid.{Answered, Bare, Code, Form, Global, Parameter, Slot, form_of}
 use Rattle.value_machine.specs.Arithmetic.{calculated}
 use Rattle.value_machine.specs.Emission.{Layout, emitted, all_emitted, slot_read, slot_set}
-use Rattle.value_machine.specs.Places.{Bases, handle_global, handle_local, number_local}
-use Rattle.value_machine.specs.Small.{least, minus_one, text_beside, to_number, zeroed}
+use Rattle.value_machine.specs.Places.{Bases, handle_local, number_global, number_local}
+use Rattle.value_machine.specs.Small.{least, text_beside, to_number, zeroed}
 use Rattle.value_refined.proofs.Putting.{set_there}
 use Rattle.quiet_statements.specs.Sums.{HasNoText, IsSum, IsSumOperator, constant, itself, joined, name}
-use Rattle.quiet_statements.proofs.Flowing.{Flows, branch, const32, const64, ended, get, get_global, set, set_global}
-use Rattle.quiet_statements.proofs.Parts.{Faults, equal_word, no_handle_flows, number_is_flows, ranged_flows, times_flows}
+use Rattle.quiet_statements.proofs.Flowing.{Flows, branch, const64, ended, get, get_global, set, set_global, tee}
+use Rattle.quiet_statements.proofs.Parts.{Faults, equal_word, no_mark_flows, number_is_flows, ranged_flows, times_flows}
 
 -- Locals that stay.
 
@@ -118,12 +118,8 @@ module _ (m : ProgramForm) (P : Conf → Type 0) (bs : List Bool) (base : Conf) 
   read_flows : {K : List LabelForm} {k : Instructions} (x : Slot) (t : ℕ) (L : List Word) → HasNoText y.ranges b base x → Below b zero base.frame.locals L →
       ((M : List Word) → Below b t L M → Ready b Bare t M → To K base.globals M k) → To K base.globals L (slot_read y x t k)
   read_flows (Global true i) t L h bl next =
-      get_global (λ w e. set (λ f. no_handle_flows m P bs base _ (handle_global y.ranges i) (handle_local b t) h.0
-      (next (slice_set (slice_set L (number_local b t) w) (handle_local b t) (I32 minus_one))
-      (below_then b t (below_set b t (number_local b t) L w (omega arith))
-      (below_set b t (handle_local b t) (slice_set L (number_local b t) w) (I32 minus_one) (omega arith)))
-      (λ q. put_ready L (number_local b t) w f (λ z. h.1 (e ∙ z))
-      (sym (set_other (slice_set L (number_local b t) w) (handle_local b t) (number_local b t) (I32 minus_one) (λ z. omega (arith, z))) ∙ q)))))
+      get_global (λ w e. tee (λ f. no_mark_flows m P bs base _ (λ z. h.1 (e ∙ ap Some z))
+      (next (slice_set L (number_local b t) w) (below_set b t (number_local b t) L w (omega arith)) (put_ready L (number_local b t) w f (λ z. h.1 (e ∙ z))))))
   read_flows (Parameter true i) t L h bl next =
       let l = h.0 in
       get (λ w e. set (λ f. next (slice_set L (number_local b t) w) (below_set b t (number_local b t) L w (omega arith))
@@ -134,9 +130,8 @@ module _ (m : ProgramForm) (P : Conf → Type 0) (bs : List Bool) (base : Conf) 
   pub set_flows : {K : List LabelForm} {gs L : List Word} {k : Instructions} (x : Slot) (f : Form) → HasNoText y.ranges b base x → gs ≡ base.globals →
       ((hs M : List Word) → To K hs M k) → To K gs L (slot_set y true x f zero k)
   set_flows (Global true i) f h e next =
-      no_handle_flows m P bs base _ (handle_global y.ranges i) (handle_local b zero)
-      (subst (λ g. slice_get g (handle_global y.ranges i) ≡ Some (I32 minus_one)) (sym e) h.0)
-      (const32 (set_global (get (λ w q. set_global (next _ _)))))
+      get_global (λ w q. no_mark_flows m P bs base _ (λ z. h.1 (ap (λ g. slice_get g (number_global y.ranges i)) (sym e) ∙ q ∙ ap Some z))
+      (get (λ v r. set_global (next _ _))))
   set_flows (Parameter true i) f h e next = get (λ w q. set (λ z. next _ _))
   set_flows (Global false i) f h e next = absurd h
   set_flows (Parameter false i) f h e next = absurd h

@@ -104,23 +104,23 @@ begins_sum = record {
   sum = joined Plus _ _ tt (name (Global true 0) (refl, no_mark)) (constant (pos 1));
 }
 
--- 34 steps, none of which calls an import, to the next statement; then n is 6
-pub quiet_statement : code_there (quiet (machine true) 34 (begun true minus_one 5)) ≡ Some (code true (printing true))
+-- 9 steps, none of which calls an import, to the next statement; then n is 6
+pub quiet_statement : code_there (quiet (machine true) 9 (begun true minus_one 5)) ≡ Some (code true (printing true))
 unfolding emitted all_emitted step_emitted steps_emitted
 quiet_statement = refl
 
-pub six_then : names_there (quiet (machine true) 34 (begun true minus_one 5)) ≡ Some (I32 0 ∷ (I64 0 ∷ (I32 minus_one ∷ (I64 6 ∷ []))))
+pub six_then : names_there (quiet (machine true) 9 (begun true minus_one 5)) ≡ Some (I32 0 ∷ (I64 0 ∷ (I32 minus_one ∷ (I64 6 ∷ []))))
 unfolding emitted all_emitted step_emitted steps_emitted
 six_then = refl
 
--- a sum out of range: after 25 steps the call that keeps the fault is next
-pub out_of_range : code_there (quiet (machine true) 25 (begun true minus_one (2 ^ 53))) ≡
-    Some (renumbered (called_imports (script true)) (does (I32Const (fault_number Range)) (ask_row row.Fail (does (Br 1) Done))))
+-- a sum out of range: by the code of all cases, after 27 steps the call that keeps the fault is next
+pub out_of_range : code_there (quiet (machine true) 27 (begun true minus_one (2 ^ 53))) ≡
+    Some (renumbered (called_imports (script true)) (does (I32Const (fault_number Range)) (ask_row row.Fail (does (Br 2) Done))))
 unfolding emitted all_emitted step_emitted steps_emitted
 out_of_range = refl
 
 -- a text beside n, of handle 7: it is copied, which calls an import
-pub text_there : (is_some (quiet (machine true) 9 (begun true 7 text_beside)) ≡ true) × (is_none (quiet (machine true) 10 (begun true 7 text_beside)) ≡ true)
+pub text_there : (is_some (quiet (machine true) 11 (begun true 7 text_beside)) ≡ true) × (is_none (quiet (machine true) 12 (begun true 7 text_beside)) ≡ true)
 unfolding emitted all_emitted step_emitted steps_emitted
 text_there = (refl, refl)
 

@@ -12,6 +12,7 @@ ghost use Rattle.wasm_machine.specs.Machines.{Conf};
 ghost use Rattle.wasm_machine.specs.Runs.{MachineForm};
 ghost use Rattle.wasm_types.specs.Typing.{ModuleOk};
 ghost use Rattle.world_core.specs.WorldState.{Outside, Source};
+ghost use Rattle.run_places.specs.Assigned.{IsAssigned};
 ghost use Rattle.run_places.specs.Kept.{AtStatement, Reached};
 ghost use Rattle.quiet_statements.specs.Laned.{AtLaned, AtNumeric, IsNext};
 ghost use Rattle.quiet_statements.specs.Quiet.{Quietly};
@@ -28,11 +29,12 @@ pub fn numbers_are_quiet()
         → Quietly m.program c (λ there. AtNext p c a there ⊎ AtFault p c there) }
 {}
 
-/// So is a statement whose names are unboxed in the function at work, where no name has a handle: an unboxed parameter never has a text beside it.
+/// So is a statement whose names are unboxed in the function at work, where the command line has assigned to none of them in this run. An unboxed
+/// parameter never has a text beside it.
 pub fn lanes_are_quiet()
     ensures { (p : Program) → IsSorted p → ModuleOk (module_of p)
         → (job : JobForm) (input : Source) (outside : Outside) (m : MachineForm) (c : Conf) (s : HostState)
-        → Reached (module_of p) job input outside m c s → (here : AtStatement p c s) → (a : AtLaned p c s here)
+        → (reached : Reached (module_of p) job input outside m c s) → (here : AtStatement p c s) → (a : AtLaned p c s here (IsAssigned reached))
         → Quietly m.program c (λ there. IsNext p c a.bases (Then a.next a.further) a.iterators a.out a.breaking a.continuing a.after there ⊎ AtFault p c there) }
 {}
 
@@ -40,7 +42,7 @@ pub fn lanes_are_quiet()
 pub fn statements_are_quiet()
     ensures { (p : Program) → IsSorted p → ModuleOk (module_of p)
         → (job : JobForm) (input : Source) (outside : Outside) (m : MachineForm) (c : Conf) (s : HostState)
-        → Reached (module_of p) job input outside m c s → (here : AtStatement p c s) → (a : AtNumeric p c s here)
+        → (reached : Reached (module_of p) job input outside m c s) → (here : AtStatement p c s) → (a : AtNumeric p c s here (IsAssigned reached))
         → Quietly m.program c (λ there. IsNext p c a.bases (Then a.next a.further) a.iterators a.out a.breaking a.continuing a.after there ⊎ AtFault p c there) }
 {}
 

@@ -1,5 +1,5 @@
 -- A run of a program's code fits the sizes of its functions, from the beginning on.
-use Rattle.std.proofs.Common.{◌≡◌, ℕ, zero, suc, ◌+◌, List, [], ◌∷◌, ◌++◌, length, map, replicate, Some, slice_get, refl, ap, subst, arith}
+use Rattle.std.proofs.Common.{◌≡◌, ℕ, zero, suc, ◌+◌, List, [], ◌∷◌, ◌++◌, length, map, replicate, None, Some, slice_get, refl, ap, subst, arith}
 use Rattle.std.specs.List.{All, AllByRecursion as ByRecursion, Contains}
 use Rattle.std.proofs.lemmas.List.{length-map}
 use Rattle.std.proofs.lemmas.List.Elements.{All-cons, All-nil, All-weaker, Contains-append_left, Contains-push, recursion_from_All}
@@ -55,7 +55,7 @@ module _ (p : Program) (instructions places : ℕ) (small : All (IsWithin places
       let c = w.code in
       let e = length-map m.locals (λ t. Bits (zero_of t)) in
       let g = ranges_length p.ranges (kinds_of p.globals) in
-      at_fits (code_of p 9999) instructions places (length (globals_of p)) (OfFunction p) [] [] [] (zeros m.locals) [] m.body (record { globals = first_globals p; host = host_at_start s }) (omega (arith, c))
+      at_fits (code_of p 9999) instructions places (length (globals_of p)) (OfFunction p) [] [] [] (zeros m.locals) [] m.body (record { globals = first_globals p; host = host_at_start s; assigning = None }) (omega (arith, c))
       (record {
         kinds = (m, Contains-push (map (routine_callee p) p.routines) m, refl);
         labels = tt;

@@ -17,7 +17,7 @@ use Rattle.mid_program.specs.Mid.{Kind}
 use Rattle.value_machine.specs.Cells.{Cell, Bits, Held, LentArray, OwnedArray, IteratorOf, Gone, cell_at, globals_by, is_owned, left_by, left_in_global, none_owned}
 use Rattle.value_machine.specs.ImportCalls.{Host, call, look}
 use Rattle.value_machine.specs.Imports.{import_at, import_count}
-use Rattle.value_machine.specs.Machine.{Code, Callee, Conf, Run, Look, Over, Deep, Stuck, Frame, Label, Store, act, ask, ask_looking, at, br, br_if, call_number, choose, compared, enter, go, guarded, label, leave, leave_function, onto, operated, push_result, push_word, run_looking, set_global, set_local, step, takes_look, tee_local, teed, waits, width, with_answer, with_operands, work, zeros, ending_name}
+use Rattle.value_machine.specs.Machine.{Code, Callee, Conf, Run, Look, Over, Deep, Stuck, Frame, Label, Store, act, ask, ask_looking, assigning_after, assigning_then, at, br, br_if, call_number, choose, compared, enter, go, guarded, label, leave, leave_function, onto, operated, push_result, push_word, run_looking, set_global, set_local, step, takes_look, tee_local, teed, waits, width, with_answer, with_operands, work, zeros, ending_name}
 use Rattle.value_machine.specs.declared.import.Import.{Import}
 use Rattle.run_places.specs.Places.{IsWithin, size}
 
@@ -100,11 +100,14 @@ module _ (u : Code) (instructions places globals : ℕ) (Own : List Kind → Typ
   with_local : {ks : List Kind} {K : List Label} {F : List Frame} {G : Store} (L : List Cell) (x : ℕ) (c : Cell) → RestFits ks K L F G → RestFits ks K (set L x c) F G
   with_local L x c r = record { kinds = r.kinds; labels = r.labels; locals = (let e = length-set L x c in let h = r.locals in omega (arith, e, h)); frames = r.frames; depth = r.depth; shared = r.shared }
 
-  with_global : {ks : List Kind} {K : List Label} {L : List Cell} {F : List Frame} (G : Store) (x : ℕ) (c : Cell) → RestFits ks K L F G → RestFits ks K L F (record G { globals = set G.globals x c })
-  with_global G x c r = record { kinds = r.kinds; labels = r.labels; locals = r.locals; frames = r.frames; depth = r.depth; shared = (let e = length-set G.globals x c in let h = r.shared in omega (arith, e, h)) }
+  with_global : {ks : List Kind} {K : List Label} {L : List Cell} {F : List Frame} (G : Store) (x : ℕ) (c : Cell) (name : Option ℕ) → RestFits ks K L F G → RestFits ks K L F (record G { globals = set G.globals x c; assigning = name })
+  with_global G x c name r = record { kinds = r.kinds; labels = r.labels; locals = r.locals; frames = r.frames; depth = r.depth; shared = (let e = length-set G.globals x c in let h = r.shared in omega (arith, e, h)) }
 
   with_host : {ks : List Kind} {K : List Label} {L : List Cell} {F : List Frame} {G : Store} (h : Host) → RestFits ks K L F G → RestFits ks K L F (record G { host = h })
   with_host h r = record { kinds = r.kinds; labels = r.labels; locals = r.locals; frames = r.frames; depth = r.depth; shared = r.shared }
+
+  with_name : {ks : List Kind} {K : List Label} {L : List Cell} {F : List Frame} {G : Store} (name : Option ℕ) → RestFits ks K L F G → RestFits ks K L F (record G { assigning = name })
+  with_name name r = record { kinds = r.kinds; labels = r.labels; locals = r.locals; frames = r.frames; depth = r.depth; shared = r.shared }
 
   guarded_fits : (b : Bool) (c : Conf) → Fits c → Fits (guarded b c)
   guarded_fits true c h = h
@@ -168,9 +171,9 @@ module _ (u : Code) (instructions places globals : ℕ) (Own : List Kind → Typ
   tee_local_fits x ks [] K L F c G h r = tt
   tee_local_fits x ks (v ∷ vs) K L F c G h r = guarded_fits _ _ (teed_fits v x ks vs K (set L x v) F c G h (with_local L x v r))
 
-  set_global_fits : (x : ℕ) (ks : List Kind) (vs : List Cell) (K : List Label) (L : List Cell) (F : List Frame) (c : Instructions) (G : Store) → CodeFits (length vs) c K → RestFits ks K L F G → Fits (set_global x ks vs K L F c G)
+  set_global_fits : (x : ℕ) (ks : List Kind) (vs : List Cell) (K : List Label) (L : List Cell) (F : List Frame) (c : Instructions) (G : Store) → CodeFits (length vs) c K → RestFits ks K L F G → Fits (set_global u x ks vs K L F c G)
   set_global_fits x ks [] K L F c G h r = tt
-  set_global_fits x ks (v ∷ vs) K L F c G h r = guarded_fits _ _ (at_fits ks vs K L F c _ (omega (arith, h)) (with_global G x v r))
+  set_global_fits x ks (v ∷ vs) K L F c G h r = guarded_fits _ _ (at_fits ks vs K L F c _ (omega (arith, h)) (with_global G x v (assigning_then v G.assigning) r))
 
   -- an import gives one operand at most
   onto_fits : (o : Option Cell) (vs : List Cell) (c : Instructions) (K : List Label) → CodeFits (suc (length vs)) c K → CodeFits (length (onto o vs)) c K
@@ -185,7 +188,7 @@ module _ (u : Code) (instructions places globals : ℕ) (Own : List Kind → Typ
   ask_fits memory None ks vs K L F c G h r = tt
   ask_fits memory (Some i) ks vs K L F c G h r =
       let e = length-drop (width i) vs in
-      guarded_fits _ _ (with_answer_fits (call memory i (reverse (take (width i) vs)) G.host) ks (drop (width i) vs) K L F c G (omega (arith, h, e)) r)
+      guarded_fits _ _ (with_answer_fits (call memory i (reverse (take (width i) vs)) G.host) ks (drop (width i) vs) K L F c _ (omega (arith, h, e)) (with_name (assigning_after i G) r))
 
   ask_looking_fits : (i : Option Import) (v : Cell) (ks : List Kind) (vs : List Cell) (K : List Label) (L : List Cell) (F : List Frame) (c : Instructions) (G : Store) → CodeFits (suc (length vs)) c K → RestFits ks K L F G → Fits (ask_looking i v ks vs K L F c G)
   ask_looking_fits None v ks vs K L F c G h r = tt
@@ -256,7 +259,7 @@ module _ (u : Code) (instructions places globals : ℕ) (Own : List Kind → Typ
     act_fits (simple.LocalGet x) ks vs K L F c G h r = guarded_fits _ _ (at_fits ks (cell_at L x ∷ vs) K (set L x (left_by (cell_at L x))) F c G h (with_local L x (left_by (cell_at L x)) r))
     act_fits (simple.LocalSet x) ks vs K L F c G h r = set_local_fits x ks vs K L F c G (omega (arith, h)) r
     act_fits (simple.LocalTee x) ks vs K L F c G h r = tee_local_fits x ks vs K L F c G (omega (arith, h)) r
-    act_fits (simple.GlobalGet x) ks vs K L F c G h r = at_fits ks (_ ∷ vs) K L F c _ h (with_global G x (left_in_global (cell_at G.globals x)) r)
+    act_fits (simple.GlobalGet x) ks vs K L F c G h r = at_fits ks (_ ∷ vs) K L F c _ h (with_global G x (left_in_global (cell_at G.globals x)) G.assigning r)
     act_fits (simple.GlobalSet x) ks vs K L F c G h r = set_global_fits x ks vs K L F c G (omega (arith, h)) r
     act_fits (simple.Br d) ks vs K L F c G h r = guarded_fits _ _ (br_fits d ks K L F G r)
     act_fits (simple.BrIf d) ks vs K L F c G h r = br_if_fits d ks vs K L F c G (omega (arith, h)) r

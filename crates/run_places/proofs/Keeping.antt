@@ -58,7 +58,7 @@ nop_same : (bs : List Bool) (p : Simple) (j k : Instructions) → begins_stateme
 nop_same bs (simple.Call n) j k = refl
 nop_same bs p j k = refl
 
-begins_same : (bs : List Bool) (code : Instructions) → begins_statement (renumbered bs code) ≡ begins_statement code
+pub begins_same : (bs : List Bool) (code : Instructions) → begins_statement (renumbered bs code) ≡ begins_statement code
 begins_same bs Done = refl
 begins_same bs (Then (Plain p) k) = nop_same bs p (renumbered bs k) k
 begins_same bs (Then (BrTable ns n) k) = refl
@@ -67,7 +67,7 @@ begins_same bs (Then (Loop r a) k) = refl
 begins_same bs (Then (If r a b) k) = refl
 
 -- a statement's code, and the operands before it, are what they are
-settled_nop : (code : Instructions) → begins_statement code ≡ true → settled_code code ≡ code
+pub settled_nop : (code : Instructions) → begins_statement code ≡ true → settled_code code ≡ code
 settled_nop Done e = cc
 settled_nop (Then (Plain simple.Nop) k) e = refl
 settled_nop (Then i k) e = cc
@@ -78,7 +78,7 @@ operands_nop vs (Then (Plain simple.Nop) k) e = refl
 operands_nop vs (Then i k) e = cc
 
 -- where a statement's code is not stuck everything is tidy
-tidy_there : (u : Code) (ks : List Kind) (vs : List Cell) (K : List Label) (L : List Cell) (F : List Frame) (code : Instructions) (G : Store) → begins_statement code ≡ true →
+pub tidy_there : (u : Code) (ks : List Kind) (vs : List Cell) (K : List Label) (L : List Cell) (F : List Frame) (code : Instructions) (G : Store) → begins_statement code ≡ true →
     (step u (Run ks vs K L F code G) ≡ Stuck → ⊥) → tidy u ks vs K L G ≡ true
 tidy_there u ks vs K L F Done G e alive = cc
 tidy_there u ks vs K L F (Then (Plain simple.Nop) k) G e alive = by (tidy u ks vs K L G) alive
@@ -89,7 +89,7 @@ tidy_there u ks vs K L F (Then (Plain simple.Nop) k) G e alive = by (tidy u ks v
 tidy_there u ks vs K L F (Then i k) G e alive = cc
 
 -- nothing looks where a statement begins
-no_look : (u : Code) (x : ℕ) (ks : List Kind) (vs : List Cell) (K : List Label) (L : List Cell) (F : List Frame) (code : Instructions) (G : Store) → begins_statement code ≡ true →
+pub no_look : (u : Code) (x : ℕ) (ks : List Kind) (vs : List Cell) (K : List Label) (L : List Cell) (F : List Frame) (code : Instructions) (G : Store) → begins_statement code ≡ true →
     (step u (Look x ks vs K L F code G) ≡ Stuck → ⊥) → ⊥
 no_look u x ks vs K L F Done G e alive = cc
 no_look u x ks vs K L F (Then (Plain simple.Nop) k) G e alive = alive refl
@@ -262,7 +262,7 @@ module _ (p : Program) where
     abbrev place : ℕ → Conf
     place n = go u n (begun p set)
 
-    alive : (n : ℕ) → step u (place n) ≡ Stuck → ⊥
+    pub alive : (n : ℕ) → step u (place n) ≡ Stuck → ⊥
     alive n h = let shows = agree.never_stuck set (n + 1) in let q = sym (ap ending_at (go_add u n 1 (begun p set) ∙ h)) ∙ shows.1 in cc
 
     sizes : (places : ℕ) × (instructions : ℕ) × All (IsWithin places instructions) (all_callees p)

@@ -6,9 +6,13 @@ pub mod Counting
 pub mod Totals
 pub mod Numbers
 pub mod Marks
+pub mod Assigning
 pub mod Working
 pub mod Waiting
 pub mod Keeping
+pub mod Handles
+pub mod Words
+pub mod FromWords
 pub mod Spelled
 pub mod Parameters
 pub mod Nops

@@ -1,7 +1,7 @@
 -- Where the places of functions are: one for each step, and one for the test of a `do` loop.
 use Rattle.std.proofs.Common.{◌≡◌, ℕ, zero, suc, ◌+◌, Bool, true, false, List, [], ◌∷◌, ◌++◌, length, refl, sym, ap, ap₂, ◌∙◌, arith}
 use Rattle.std.proofs.lemmas.List.{append_assoc, append-nil, length-append}
-use Rattle.std.specs.Prelude.{if◌then◌else◌}
+use Rattle.std.specs.Prelude.{if◌then◌else◌, Option, Some, None, is_some, ℤ}
 use Rattle.awk_state.specs.declared.table.Primitive.TheVariants as row
 use Rattle.wasm_types.specs.Syntax.{Instruction, Plain, BrTable, Block, Loop as Again, If, Instructions, Done, Then}
 use Rattle.wasm_types.specs.declared.instr.Simple.{Simple}
@@ -11,8 +11,9 @@ use Rattle.value_machine.specs.Boundaries.{is_nop, nops_in, nops_of, step_places
 use Rattle.value_machine.specs.Emission.{Layout, tested}
 use Rattle.value_machine.specs.Functions.{layout_of, main_bases, main_callee, routine_bases, routine_callee}
 use Rattle.value_machine.specs.Places.{Bases, answer_local}
+use Rattle.value_machine.specs.Quick.{Within, test_within, Source, Named, Constant, joined, all_unsure, Sum, sum_names, sum_in, Pair, pair_names, pair_in, step_jumps, is_nothing}
 use Rattle.value_machine.specs.Small.{ask_row, does, either}
-use Rattle.value_machine.specs.Statements.{again, all_emptied, arrays_emptied, arrays_swept, before_parts, block, first_part, goes_on, iterator_left, iterators_emptied, iterators_swept, key_stored, left_by, main_body, names_declared, names_made, parameters_dropped, part_done, record_done, records_read, routine_body, routines_declared, started, step_emitted, steps_emitted, swept, temporaries_emptied, temporaries_swept}
+use Rattle.value_machine.specs.Statements.{name_read, source_pushed, quickly_dropped, left_unless_pair, left_unless, again, all_emptied, arrays_emptied, arrays_swept, before_parts, block, first_part, goes_on, iterator_left, iterators_emptied, iterators_swept, key_stored, left_by, main_body, names_declared, names_made, parameters_dropped, part_done, record_done, records_read, routine_body, routines_declared, started, step_emitted, steps_emitted, swept, temporaries_emptied, temporaries_swept}
 use Rattle.run_places.specs.Statements.{main_places, main_starts, routine_starts, starts_in, starts_of, step_starts, steps_starts}
 use Rattle.run_places.proofs.Nops.{Nops, array_nops, asked_nops, choice, dropped_nops, emitted_nops, kept_code_nops, kept_number_nops, none, pending_nops, plain, tested_nops, to_number_nops, to_value_nops}
 
@@ -35,6 +36,19 @@ as_listed r e = record { are = r.are ∙ e }
 alone : {k : Instructions} {m : List Instructions} → Nops k (m ++ []) → Nops k m
 alone {m = m} r = as_listed r (append-nil m)
 
+-- one of two codes, with the places of the one that it is
+chosen : (j : Bool) (p q m : List Instructions) {a c : Instructions} → Nops a (p ++ m) → Nops c (q ++ m) → Nops (if j then a else c) ((if j then p else q) ++ m)
+chosen true p q m r s = r
+chosen false p q m r s = s
+
+chosen_before : (j : Bool) (p q n m : List Instructions) {a c : Instructions} → Nops a ((p ++ n) ++ m) → Nops c ((q ++ n) ++ m) → Nops (if j then a else c) (((if j then p else q) ++ n) ++ m)
+chosen_before true p q n m r s = r
+chosen_before false p q n m r s = s
+
+none_or : (j : Bool) {a c : Instructions} {q : List Instructions} → Nops a [] → Nops c q → Nops (if j then a else c) (if j then [] else q)
+none_or true r q = r
+none_or false r q = q
+
 module _ (y : Layout) where
   abbrev b : Bases
   b = y.bases
@@ -51,17 +65,50 @@ module _ (y : Layout) where
     left_by_nops : (way d : ℕ) → Nops k m → Nops (left_by way d k) m
     left_by_nops way d r = record { are = r.are }
 
+  -- Quick ways.
+
+  joined_nops : {k : Instructions} {m : List Instructions} (is : List ℕ) (q : ℤ) → Nops k m → Nops (joined (name_read y) is q k) m
+  joined_nops [] q r = r
+  joined_nops (i ∷ is) q r = plain _ refl (plain _ refl (plain _ refl (plain _ refl (joined_nops is q r))))
+
+  all_nops : {k : Instructions} {m : List Instructions} (is : List ℕ) (q : ℤ) (w : ℕ) → Nops k m → Nops (all_unsure (name_read y) is q w k) m
+  all_nops [] q w r = plain _ refl r
+  all_nops (i ∷ is) q w r = plain _ refl (plain _ refl (plain _ refl (joined_nops is q (plain _ refl (plain _ refl r)))))
+
+  source_nops : {k : Instructions} {m : List Instructions} (x : Source) → Nops k m → Nops (source_pushed y x k) m
+  source_nops (Named i) r = plain _ refl r
+  source_nops (Constant z) r = plain _ refl r
+
+  module _ {k : Instructions} {m : List Instructions} where
+    quick_nops : (o : Option Sum) (e : Code) (d : ℕ) → Nops k m → Nops (quickly_dropped y o e d k) m
+    quick_nops None e d r = dropped_nops y [] [] e zero zero d r
+    quick_nops (Some x) e d r =
+        all_nops (sum_names x) _ _ (choice (dropped_nops y [] [] e zero zero (suc d) none) (source_nops x.left (source_nops x.right (plain _ refl (plain _ refl none)))) r)
+
+    pair_nops : (o : Option Pair) (e : Code) (d out : ℕ) → Nops k m → Nops (left_unless_pair y o e d out k) m
+    pair_nops None e d out r = tested_nops y [] [] e zero zero d (plain _ refl (plain _ refl r))
+    pair_nops (Some q) e d out r =
+        all_nops (pair_names q) _ _ (choice (tested_nops y [] [] e zero zero (suc d) (plain _ refl (plain _ refl none))) (source_nops q.left (source_nops q.right (plain _ refl (plain _ refl none)))) r)
+
+    left_nops : (o : Option Within) (e : Code) (d out : ℕ) → Nops k m → Nops (left_unless y o e d out k) m
+    left_nops None e d out r = pair_nops (pair_in e) e d out r
+    left_nops (Some q) e d out r = plain _ refl (plain _ refl (plain _ refl (plain _ refl (plain _ refl (choice (tested_nops y [] [] e zero zero (suc d) (plain _ refl (plain _ refl none))) none r)))))
+
   mutual
     unfolding step_emitted steps_emitted
 
     step_nops : {k : Instructions} {m : List Instructions} (s : Step) (u d bk ct : ℕ) → Nops k m → Nops (step_emitted y s u d bk ct k) (step_starts y s u d bk ct k ++ m)
-    step_nops (Eval e) u d bk ct r = begun (dropped_nops y [] [] e zero zero d r)
+    step_nops (Eval e) u d bk ct r = begun (quick_nops (sum_in e) e d r)
     step_nops (Steps_ ss) u d bk ct r = begun (steps_nops ss u d bk ct r)
     step_nops (Either e a c) u d bk ct r =
-        begun (tested_nops y [] [] e zero zero d (branches (alone (step_nops a u (suc d) (suc bk) (suc ct) none)) (alone (step_nops c u (suc d) (suc bk) (suc ct) none)) r))
+        let last = alone (step_nops c u (suc d) (suc bk) (suc ct) none) in
+        begun (chosen_before (is_some (pair_in e)) _ _ _ _
+        (within (within (pair_nops (pair_in e) e (suc (suc d)) zero (alone (step_nops a u (suc (suc d)) (suc (suc bk)) (suc (suc ct)) (plain (Br 1) refl none)))) last) r)
+        (tested_nops y [] [] e zero zero d (branches (alone (step_nops a u (suc d) (suc bk) (suc ct) none)) last r)))
     step_nops (Loop true e a c) u d bk ct r =
-        begun (within (alone (rounds (tested_nops y [] [] e zero zero (suc (suc d)) (plain _ refl (plain _ refl
-        (within (alone (step_nops a u (suc (suc (suc d))) 2 zero none)) (alone (step_nops c u (suc (suc d)) 1 zero (plain _ refl none))))))) none)) r)
+        let rest = none_or (is_nothing c) (plain (Br zero) refl none) (alone (step_nops c u (suc (suc d)) 1 zero (plain (Br zero) refl none))) in
+        begun (within (alone (rounds (left_nops (test_within e) e (suc (suc d)) 1
+        (chosen (step_jumps a) _ _ _ (within (alone (step_nops a u (suc (suc (suc d))) 2 zero none)) rest) (step_nops a u (suc (suc d)) 1 zero rest))) none)) r)
     step_nops (Loop false e a c) u d bk ct r =
         begun (within (alone (rounds (within (alone (step_nops a u (suc (suc (suc d))) 2 zero none))
         (step_nops c u (suc (suc d)) 1 zero (begun (tested_nops y [] [] e zero zero (suc (suc d)) (plain _ refl none))))) none)) r)
@@ -212,21 +259,32 @@ mutual
   nop_counted (Again r a) k = nops_counted a
   nop_counted (If r a c) k = let x = length-append (starts_in a) (starts_in c) in let l = nops_counted a in let m = nops_counted c in omega (arith, x, l, m)
 
+-- of two lists of one length either has it
+one_counted : (j : Bool) (p q : List Instructions) {n : ℕ} → length p ≡ n → length q ≡ n → length (if j then p else q) ≡ n
+one_counted true p q e f = e
+one_counted false p q e f = f
+
+none_counted : (j : Bool) (q : List Instructions) {n : ℕ} → length q ≡ n → length (if j then [] else q) ≡ (if j then 0 else n)
+none_counted true q e = refl
+none_counted false q e = e
+
+both_counted : (p q : List Instructions) {m n : ℕ} → length p ≡ m → length q ≡ n → length (p ++ q) ≡ m + n
+both_counted p q e f = length-append p q ∙ ap₂ (λ x y. x + y) e f
+
 module _ (y : Layout) where
   mutual
     step_counted : (s : Step) (u d bk ct : ℕ) (k : Instructions) → length (step_starts y s u d bk ct k) ≡ step_places s
     step_counted (Steps_ ss) u d bk ct k = let r = steps_counted ss u d bk ct k in omega (arith, r)
     step_counted (Either e a c) u d bk ct k =
-        let x = length-append (step_starts y a u (suc d) (suc bk) (suc ct) Done) (step_starts y c u (suc d) (suc bk) (suc ct) Done) in
-        let l = step_counted a u (suc d) (suc bk) (suc ct) Done in
-        let m = step_counted c u (suc d) (suc bk) (suc ct) Done in
-        omega (arith, x, l, m)
+        ap suc (both_counted _ _
+        (one_counted (is_some (pair_in e)) _ _ (step_counted a u (suc (suc d)) (suc (suc bk)) (suc (suc ct)) (does (Br 1) Done)) (step_counted a u (suc d) (suc bk) (suc ct) Done))
+        (step_counted c u (suc d) (suc bk) (suc ct) Done))
     step_counted (Loop true e a c) u d bk ct k =
         let after = does (Br zero) Done in
-        let x = length-append (step_starts y a u (suc (suc (suc d))) 2 zero Done) (step_starts y c u (suc (suc d)) 1 zero after) in
-        let l = step_counted a u (suc (suc (suc d))) 2 zero Done in
-        let m = step_counted c u (suc (suc d)) 1 zero after in
-        omega (arith, x, l, m)
+        let rest = if is_nothing c then after else step_emitted y c u (suc (suc d)) 1 zero after in
+        ap suc (both_counted _ _
+        (one_counted (step_jumps a) _ _ (step_counted a u (suc (suc (suc d))) 2 zero Done) (step_counted a u (suc (suc d)) 1 zero rest))
+        (none_counted (is_nothing c) _ (step_counted c u (suc (suc d)) 1 zero after)))
     step_counted (Loop false e a c) u d bk ct k =
         let test = does Nop (tested y [] [] e zero zero (suc (suc d)) (does (BrIf zero) Done)) in
         let x = length-append (step_starts y a u (suc (suc (suc d))) 2 zero Done) (step_starts y c u (suc (suc d)) 1 zero test ++ (test ∷ [])) in

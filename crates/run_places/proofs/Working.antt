@@ -115,7 +115,7 @@ module _ (u : Code) (Fun : Callee → Type 0) where
   tee_local_stands x ks [] K L F c G w r = tt
   tee_local_stands x ks (v ∷ vs) K L F c G w r = guarded_stands _ _ (teed_stands v x ks vs K (set L x v) F c G w r)
 
-  set_global_stands : (x : ℕ) (ks : List Kind) (vs : List Cell) (K : List Label) (L : List Cell) (F : List Frame) (c : Instructions) (G : Store) → Works ks c K → FramesWork F → Stands (set_global x ks vs K L F c G)
+  set_global_stands : (x : ℕ) (ks : List Kind) (vs : List Cell) (K : List Label) (L : List Cell) (F : List Frame) (c : Instructions) (G : Store) → Works ks c K → FramesWork F → Stands (set_global u x ks vs K L F c G)
   set_global_stands x ks [] K L F c G w r = tt
   set_global_stands x ks (v ∷ vs) K L F c G w r = guarded_stands _ _ (at_stands ks vs K L F c _ w r)
 
@@ -125,7 +125,7 @@ module _ (u : Code) (Fun : Callee → Type 0) where
 
   ask_stands : (memory : List ℕ) (i : Option Import) (ks : List Kind) (vs : List Cell) (K : List Label) (L : List Cell) (F : List Frame) (c : Instructions) (G : Store) → Works ks c K → FramesWork F → Stands (ask memory i ks vs K L F c G)
   ask_stands memory None ks vs K L F c G w r = tt
-  ask_stands memory (Some i) ks vs K L F c G w r = guarded_stands _ _ (with_answer_stands (call memory i (reverse (take (width i) vs)) G.host) ks (drop (width i) vs) K L F c G w r)
+  ask_stands memory (Some i) ks vs K L F c G w r = guarded_stands _ _ (with_answer_stands (call memory i (reverse (take (width i) vs)) G.host) ks (drop (width i) vs) K L F c _ w r)
 
   ask_looking_stands : (i : Option Import) (v : Cell) (ks : List Kind) (vs : List Cell) (K : List Label) (L : List Cell) (F : List Frame) (c : Instructions) (G : Store) → Works ks c K → FramesWork F → Stands (ask_looking i v ks vs K L F c G)
   ask_looking_stands None v ks vs K L F c G w r = tt
@@ -210,7 +210,7 @@ stands_on p s n =
     let u = code_of p 9999 in
     go_stands u (Contains (all_callees p))
     (λ k f e. Contains-append_left (map (routine_callee p) p.routines) (main_callee p ∷ []) f (contained (map (routine_callee p) p.routines) k f e)) n (begun p s)
-    (at_stands u (Contains (all_callees p)) [] [] [] (zeros m.locals) [] m.body (record { globals = first_globals p; host = host_at_start s })
+    (at_stands u (Contains (all_callees p)) [] [] [] (zeros m.locals) [] m.body (record { globals = first_globals p; host = host_at_start s; assigning = None })
     (record { function = m; is = Contains-push (map (routine_callee p) p.routines) m; kinds = refl; code = all; labels = tt }) tt)
 
 -- what begins with a `nop` in a part is a place of the whole

@@ -2,4 +2,5 @@ pub mod Places
 pub mod Existence
 pub mod Kept
 pub mod Statements
+pub mod Assigned
 pub mod Rows

@@ -1,5 +1,5 @@
 -- Where statements begin: the places of code, and the code of each step of a function, with what comes after it.
-use Rattle.std.specs.Prelude.{ℕ, zero, suc, ◌+◌, nat_eq, cond, true, false, if◌then◌else◌, List, [], ◌∷◌, ◌++◌}
+use Rattle.std.specs.Prelude.{ℕ, zero, suc, ◌+◌, nat_eq, cond, true, false, if◌then◌else◌, List, [], ◌∷◌, ◌++◌, is_some}
 use Rattle.awk_state.specs.declared.table.Primitive.TheVariants as row
 use Rattle.wasm_types.specs.Syntax.{Instruction, Plain, BrTable, Block, Loop as Again, If, Instructions, Done, Then}
 use Rattle.wasm_types.specs.declared.instr.Simple.TheVariants.{Br, BrIf, LocalSet, Nop}
@@ -8,6 +8,7 @@ use Rattle.value_machine.specs.Boundaries.{is_nop, steps_places}
 use Rattle.value_machine.specs.Emission.{Layout, tested}
 use Rattle.value_machine.specs.Functions.{layout_of, main_bases, routine_bases}
 use Rattle.value_machine.specs.Places.{answer_local}
+use Rattle.value_machine.specs.Quick.{is_nothing, pair_in, step_jumps}
 use Rattle.value_machine.specs.Small.{ask_row, does}
 use Rattle.value_machine.specs.Statements.{records_read, step_emitted, steps_emitted}
 
@@ -25,16 +26,22 @@ abbrev mutual
   starts_of (If r a b) k = starts_in a ++ starts_in b
 
 -- The code of steps: of each its own, then those of the steps in it. The test of a loop whose first round goes without it comes last in that loop. Where a step stands is told by the iterators in use,
--- the labels to the function's exit and to where `break` and `continue` go, and the code after it.
+-- the labels to the function's exit and to where `break` and `continue` go, and the code after it. A choice by a comparison of two sources has one label more around what is done where it is true; a body that
+-- nothing leaves has none around it, and after it comes the code of what is done between it and the next test, if there is any.
 module _ (y : Layout) where
   abbrev mutual
     pub step_starts : Step → (u d bk ct : ℕ) → Instructions → List Instructions
     step_starts (Eval e) u d bk ct k = step_emitted y (Eval e) u d bk ct k ∷ []
     step_starts (Body ss) u d bk ct k = step_emitted y (Body ss) u d bk ct k ∷ steps_starts ss u d bk ct k
     step_starts (Either e a c) u d bk ct k =
-        step_emitted y (Either e a c) u d bk ct k ∷ (step_starts a u (suc d) (suc bk) (suc ct) Done ++ step_starts c u (suc d) (suc bk) (suc ct) Done)
+        step_emitted y (Either e a c) u d bk ct k
+        ∷ ((if is_some (pair_in e) then step_starts a u (suc (suc d)) (suc (suc bk)) (suc (suc ct)) (does (Br 1) Done) else step_starts a u (suc d) (suc bk) (suc ct) Done)
+        ++ step_starts c u (suc d) (suc bk) (suc ct) Done)
     step_starts (Loop true e a c) u d bk ct k =
-        step_emitted y (Loop true e a c) u d bk ct k ∷ (step_starts a u (suc (suc (suc d))) 2 zero Done ++ step_starts c u (suc (suc d)) 1 zero (does (Br zero) Done))
+        let again = does (Br zero) Done in
+        let rest = if is_nothing c then again else step_emitted y c u (suc (suc d)) 1 zero again in
+        step_emitted y (Loop true e a c) u d bk ct k ∷ ((if step_jumps a then step_starts a u (suc (suc (suc d))) 2 zero Done else step_starts a u (suc (suc d)) 1 zero rest)
+        ++ (if is_nothing c then [] else step_starts c u (suc (suc d)) 1 zero again))
     step_starts (Loop false e a c) u d bk ct k =
         let test = does Nop (tested y [] [] e zero zero (suc (suc d)) (does (BrIf zero) Done)) in
         step_emitted y (Loop false e a c) u d bk ct k ∷ (step_starts a u (suc (suc (suc d))) 2 zero Done ++ (step_starts c u (suc (suc d)) 1 zero test ++ (test ∷ [])))

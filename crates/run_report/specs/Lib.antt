@@ -1,3 +1,5 @@
 pub mod EndTexts
 pub mod Parts
+pub mod Topics
 pub mod Examples
+pub mod TopicRows

@@ -1,8 +1,14 @@
 //! What is told of a run's end and of a file: the exit status, and a line for the standard error.
 #![tactic(auto)]
 
+mod explained;
 mod faults;
 mod line;
 mod report;
+mod topic;
 
+pub use explained::{Explanation, explain};
 pub use report::{FileFault, fault_text, file_fault_text, no_memory_text, status_of};
+pub use topic::{
+    EndTopic, ModuleTopic, ScriptTopic, StatusTopic, TOPICS, Topic, topic_named, topic_of,
+};

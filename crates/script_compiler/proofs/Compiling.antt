@@ -1,5 +1,5 @@
 -- From the parts of a compilation to what is said of the whole.
-use Rattle.std.proofs.Common.{◌≡◌, inl, inr, ℕ, ◌≤◌, ◌^◌, List, length, Option, Some, MatchOption, refl, ap, subst}
+use Rattle.std.proofs.Common.{◌≡◌, inl, inr, ℕ, ◌≤◌, ◌^◌, List, length, Option, Some, MatchOption, refl, ap, subst, sym}
 use Rattle.std.proofs.lemmas.List.Elements.{recursion_from_All}
 use Rattle.awk_state.specs.Jobs.{JobForm}
 use Rattle.world_core.specs.WorldState.{Outside, Source}
@@ -7,6 +7,8 @@ use Rattle.mid_program.specs.Kinds.{resolved}
 use Rattle.mid_program.specs.Mid.{Program}
 use Rattle.mid_program.specs.MidMeaning.{mid_run_in}
 use Rattle.mid_program.specs.ScriptRun.{resolved_run}
+use Rattle.mid_program.specs.Names.{Resolved}
+use Rattle.mid_program.specs.Translation.{program_of}
 use Rattle.mid_program.specs.View.{view_mid}
 use Rattle.mid_program.specs.declared.program.Mid.{Mid}
 use Rattle.wasm_types.specs.ModuleGrammar.{IsModule}
@@ -23,7 +25,8 @@ use Rattle.value_machine.specs.Functions.{texts_of}
 use Rattle.value_machine.specs.Places.{memory_of}
 use Rattle.expression_emission.specs.Spans.{IsSmall}
 use Rattle.expression_emission.specs.declared.tables.Tables.{Tables}
-use Rattle.script_code.specs.Coded.{HasTokens, IsCodeOf}
+use Rattle.number_names.specs.Unboxed.{UnboxesNumbers}
+use Rattle.script_code.specs.Coded.{HasTokens, IsCodeOf, unboxed}
 use Rattle.script_code.specs.Refusals.{IsNotCoded}
 use Rattle.script_code.specs.declared.fault.CompileFault.{CompileFault}
 use Rattle.script_code.specs.declared.fault.CompileFault.TheVariants.{TooLarge, Token, Parse, Ere, Resolve, NoMemory}
@@ -47,8 +50,8 @@ texts_small p v m h = (spelled_small p v m h).texts
 pub compiled : (bytes v : List ℕ) (p : Program) (t : HasTokens bytes (λ tokens. IsCodeOf tokens p)) → IsModule v (module_of p) → Agreement (mid_run_in p) (module_of p) → ModuleOk (module_of p) →
     (main : ℕ) → main_of (module_of p) ≡ Some main → SegmentsFit (module_of p) →
     ((job : JobForm) (input : Source) (outside : Outside) → HasRuns (module_of p) job input outside) → KeepsNothing p (module_of p) →
-    IsQuiet p (module_of p) → IsCompiled bytes v
-compiled bytes v p t m agreement typed main main_is segments runs keeps quiet =
+    IsQuiet p (module_of p) → ((script : Resolved) → UnboxesNumbers script (unboxed (program_of script))) → IsCompiled bytes v
+compiled bytes v p t m agreement typed main main_is segments runs keeps quiet unboxes =
     let c = t.said in
     record {
       short = t.short;
@@ -67,6 +70,7 @@ compiled bytes v p t m agreement typed main main_is segments runs keeps quiet =
       whole_is = refl;
       keeps = keeps;
       quiet = quiet;
+      unboxed_names = subst (λ (code : Program). UnboxesNumbers (resolved c.script) code) (sym c.code) (unboxes (resolved c.script));
     }
 
 pub not_coded : (bytes : List ℕ) (fault : CompileFault) → IsNotCoded bytes fault → IsNotCompiled bytes fault

@@ -20,11 +20,13 @@ use Rattle.host_step.specs.HostState.{HostState}
 use Rattle.host_step.specs.Imports.{host_finds}
 use Rattle.value_machine.specs.Modules.{module_of}
 use Rattle.module_agreement.specs.Agreement.{Agreement}
+use Rattle.run_places.specs.Assigned.{IsAssigned}
 use Rattle.run_places.specs.Existence.{HasRuns}
 use Rattle.run_places.specs.Kept.{AtReturn, AtStatement, Reached, begins_statement}
 use Rattle.quiet_statements.specs.Laned.{AtNumeric, IsNext}
 use Rattle.quiet_statements.specs.Quiet.{Quietly}
 use Rattle.quiet_statements.specs.Sums.{AtFault}
+use Rattle.number_names.specs.Unboxed.{UnboxesNumbers}
 use Rattle.script_code.specs.Coded.{IsSound, unboxed}
 
 -- a module that links with the host
@@ -43,15 +45,15 @@ pub record KeepsNothing (code : Program) (m : ModuleForm) : Type 0 where
   pub returned : (job : JobForm) (input : Source) (outside : Outside) (a : MachineForm) (c : Conf) (s : HostState)
       → Reached m job input outside a c s → (n : ℕ) → turn a.program c ≡ Ends (ends.Returned (Some (I32 n))) → AtReturn code c s
 
--- A module is quiet on numbers. Where a run stands at a statement `name = Expr` of the script, with number constants, names, groups, `+`, `-` and `*` in Expr, and each name is unboxed and has no
--- handle, it calls no import up to the next statement of the block, or to the fault.
+-- A module is quiet on numbers. Where a run stands at a statement `name = Expr` of the script, with number constants, names, groups, `+`, `-` and `*` in Expr, and each name is unboxed and none of
+-- those to which the command line has assigned in this run, it calls no import up to the next statement of the block, or to the fault.
 abbrev pub IsQuiet : Program → ModuleForm → Type 0
 IsQuiet code m = (job : JobForm) (input : Source) (outside : Outside) (a : MachineForm) (c : Conf) (s : HostState)
-    → Reached m job input outside a c s → (here : AtStatement code c s) → (on : AtNumeric code c s here)
+    → (reached : Reached m job input outside a c s) → (here : AtStatement code c s) → (on : AtNumeric code c s here (IsAssigned reached))
     → Quietly a.program c (λ there. IsNext code c on.bases (Then on.next on.further) on.iterators on.out on.breaking on.continuing on.after there ⊎ AtFault code c there)
 
 -- THE MAIN THEOREM, of a script and the bytes that it is compiled to: they are a module, which the rules type, which links with the host, which has runs, which agrees with the script in every
--- job and world, and which keeps nothing. It is the module of the script's code, so that a script has one module.
+-- job and world, and which keeps nothing. It is the module of the script's code, so that a script has one module; in this code a scalar into which the script stores numbers alone is unboxed.
 pub record IsCompiled (bytes : List ℕ) (compiled : List ℕ) : Type 0 where
   pub short : length bytes ≤ 2 ^ 20
   pub tokens : List Spelled
@@ -69,3 +71,4 @@ pub record IsCompiled (bytes : List ℕ) (compiled : List ℕ) : Type 0 where
   pub whole_is : whole ≡ module_of code
   pub keeps : KeepsNothing code whole
   pub quiet : IsQuiet code whole
+  pub unboxed_names : UnboxesNumbers (resolved script) code

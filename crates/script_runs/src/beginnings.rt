@@ -1,4 +1,5 @@
 //! The beginnings of a module.
+use crate::fence::world_of;
 use crate::row::Row;
 use awk_run::{RunEnd, run_module};
 use std::alloc::{AllocError, Global};
@@ -11,7 +12,7 @@ fn is_refused(
     row: &Row,
     module: &[u8],
 ) -> Result<bool, AllocError> {
-    let world = row.outside.world(alloc)?;
+    let world = world_of(alloc, row, &[])?;
     let (end, _) = run_module(alloc, module, &row.job, state, world, row.steps);
     match end {
         RunEnd::NoMemory => Err(AllocError),

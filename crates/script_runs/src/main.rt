@@ -8,6 +8,7 @@
 //! - `p:N=TEXT`: the script goes on with so many times this text; `i:N=TEXT`: so does the standard input;
 //! - `x:`: reading the standard input fails at its end; `g:NAME=TEXT`: so does reading this file; `n:NAME`: a name that does not open;
 //! - `r:N`: the standard output has room for so many bytes; `c:N`: this call of the world fails, from 1 on;
+//! - `k:OPTION`: an option of the command line keeps files out, as `k:no-files`;
 //! - `s:N`: so many steps at most; `u:TEXT`: where the output is this text, once or more, `again and again` is shown for it;
 //! - `b:`: a line says how many proper beginnings of the module are refused.
 //!
@@ -19,6 +20,7 @@
 
 mod answer;
 mod beginnings;
+mod fence;
 mod field;
 mod outside;
 mod row;

@@ -2,6 +2,7 @@
 use crate::outside::{Outside, count_of, pair_of, push_times};
 use awk_text::unescape;
 use awk_values::Bytes;
+use command_line::FenceOptions;
 use hex::{FromHexError, decode};
 use host_calls::{Job, NamedText};
 use std::alloc::{AllocError, Global};
@@ -15,6 +16,8 @@ pub(crate) struct Row {
     pub(crate) outside: Outside,
     /// How many steps are taken at most.
     pub(crate) steps: u64,
+    /// Which files are kept out.
+    pub(crate) fences: FenceOptions,
     /// The files that are shown.
     pub(crate) shown: Vec<Vec<u8>>,
     /// What the output may be, again and again.
@@ -59,12 +62,23 @@ fn push_name(alloc: Global, names: &mut Vec<Vec<u8>>, name: &[u8]) -> Result<(),
     Ok(())
 }
 
+/// Sets an option that keeps files out.
+fn keep_out(fences: &mut FenceOptions, option: &[u8]) {
+    match option {
+        b"no-files" => fences.no_files = true,
+        b"read-only" => fences.read_only = true,
+        b"only-operands" => fences.only_operands = true,
+        _ => {}
+    }
+}
+
 impl Row {
     /// Sets what is shown of the run.
     fn set(&mut self, alloc: Global, letter: u8, text: &[u8]) -> Result<(), AllocError> {
         match letter {
             b's' => self.steps = count_of(text),
             b'b' => self.shows_beginnings = true,
+            b'k' => keep_out(&mut self.fences, text),
             b'u' => self.again = Some(Vec::from_slice(alloc, text)?),
             _ => {}
         }
@@ -79,7 +93,7 @@ impl Row {
             b'e' => push_named(alloc, &mut self.job.environment, text),
             b'l' => push_name(alloc, &mut self.shown, text),
             b'p' => push_times(&mut self.code, text),
-            b's' | b'b' | b'u' => self.set(alloc, letter, text),
+            b's' | b'b' | b'k' | b'u' => self.set(alloc, letter, text),
             _ => self.outside.add(alloc, letter, text),
         }
     }
@@ -107,6 +121,11 @@ fn row_on(alloc: Global, code: Option<&str>, input: Option<&str>) -> Result<Row,
         job: Job::empty(alloc),
         outside: Outside::new(alloc, input),
         steps: u64::MAX,
+        fences: FenceOptions {
+            no_files: false,
+            read_only: false,
+            only_operands: false,
+        },
         shown: Vec::new(alloc),
         again: None,
         shows_beginnings: false,

@@ -1,11 +1,27 @@
 //! Command lines, and what they ask for.
-use command_line::{Request, Task, exit_status, request_of};
+use command_line::{FenceOptions, Request, Task, exit_status, request_of};
 use std::alloc::{AllocError, Global};
+
+/// The options that keep files out, each after a space.
+fn fences_text(alloc: Global, fences: FenceOptions) -> Result<String, AllocError> {
+    let mut text = String::new(alloc);
+    if fences.no_files {
+        text.push_str(" no-files")?;
+    }
+    if fences.read_only {
+        text.push_str(" read-only")?;
+    }
+    if fences.only_operands {
+        text.push_str(" only-operands")?;
+    }
+    Ok(text)
+}
 
 /// What a task is, as text.
 fn described(alloc: Global, what: &str, task: &Task<'_>) -> Result<String, AllocError> {
+    let fences = fences_text(alloc, task.fences)?;
     format!(in alloc;
-        "{what} {:?} {:?} {} {:?} {:?}\n",
+        "{what} {:?} {:?} {} {:?} {:?}{fences}\n",
         task.separators, task.assigns, task.steps, task.subject, task.words
     )
 }
@@ -18,6 +34,8 @@ fn asked(alloc: Global, words: &[&str]) -> Result<String, AllocError> {
         ),
         Ok(Request::Run(task)) => described(alloc, "run", &task),
         Ok(Request::Exec(task)) => described(alloc, "exec", &task),
+        Ok(Request::Explain(Some(name))) => format!(in alloc; "explain {name:?}\n"),
+        Ok(Request::Explain(None)) => String::from_str(alloc, "explain\n"),
         Err(error) => match exit_status(&error) {
             5 => Err(AllocError),
             status => format!(in alloc; "status {status}\n"),

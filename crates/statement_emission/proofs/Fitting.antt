@@ -1,6 +1,6 @@
 -- Well-sorted code can be emitted where there are few places and labels.
 use Rattle.std.proofs.Common.{◌≡◌, ℕ, suc, ◌+◌, ◌≤◌, Bool, true, false, List, [], ◌∷◌, length, subst, arith, rules}
-use Rattle.std.specs.Prelude.{◌&&◌, nat_lt}
+use Rattle.std.specs.Prelude.{◌&&◌, is_some, nat_lt}
 use Rattle.std.proofs.lemmas.Bool.{and_parts, ltb-true}
 use Rattle.awk_state.specs.declared.sorts.Sort.TheVariants as sort
 use Rattle.mid_program.specs.declared.mid.Operation.{Operation}
@@ -13,10 +13,11 @@ use Rattle.mid_program.specs.Sorted.{Context, all_sorted, all_values, are_enough
 use Rattle.value_machine.proofs.Reading.{kind_below}
 use Rattle.value_machine.specs.Emission.{Layout}
 use Rattle.value_machine.specs.Places.{arrays_among, arrays_in, made_in, room, rooms, step_arrays, step_iterators, step_room, steps_arrays, steps_iterators, steps_room}
+use Rattle.value_machine.specs.Quick.{pair_in, step_jumps, sum_in}
 use Rattle.code_emission.specs.Bounds.{most_labels, most_places}
-use Rattle.code_needs.specs.Labels.{labels_among, labels_in, step_labels, steps_labels}
+use Rattle.code_needs.specs.Labels.{choice_labels, labels_among, labels_in, more_if, step_labels, steps_labels}
 use Rattle.expression_emission.specs.Fits.{AllCode, AllFit, ArrayFits, Fits, IsGiven, SlotFits, Within}
-use Rattle.statement_emission.specs.StepFits.{StepFits, StepsFit}
+use Rattle.statement_emission.specs.StepFits.{StepFits, StepsFit, TestFits}
 
 -- what sorted code names is there, and its numbers are within their fields
 pub record Named (c : Context) (y : Layout) : Type 0 where
@@ -226,43 +227,96 @@ module _ {c : Context} {y : Layout} (n : Named c y) where
       codes_fit fs es t (suc w) d s (record { places = r.places; arrays = omega (arith, r.arrays); labels = r.labels }),
     )
 
--- room for a statement, which is emitted at temporary 0 with no arrays in use, and for two more temporaries, an iterator and four labels
+-- labels of quick ways
+
+more_least : (q : Bool) (n : ℕ) → n ≤ more_if q n
+more_least true n = omega arith
+more_least false n = omega arith
+
+deeper : (q : Bool) (d n : ℕ) → more_if q d + n ≡ d + more_if q n
+deeper true d n = omega arith
+deeper false d n = omega arith
+
+-- the test and both ways of a choice are within its labels
+choice_least : (q : Bool) (t a b : ℕ) → (t ≤ choice_labels q t a b) × ((suc (more_if q a) ≤ choice_labels q t a b) × (suc b ≤ choice_labels q t a b))
+choice_least true t a b = (omega arith, (omega arith, omega arith))
+choice_least false t a b = (omega arith, (omega arith, omega arith))
+
+-- room for a statement, which is emitted at temporary 0 with no arrays in use, and for two more temporaries and five more labels
 pub record StepRoom (s : Step) (u d : ℕ) : Type 0 where
   pub places : suc (suc (step_room s)) ≤ most_places
   pub arrays : step_arrays s ≤ most_places
   pub iterators : u + step_iterators s ≤ most_places
-  pub labels : suc (suc (d + step_labels s)) ≤ most_labels
+  pub labels : 5 + (d + step_labels s) ≤ most_labels
 
 pub record StepsRoom (ss : Steps) (u d : ℕ) : Type 0 where
   pub places : suc (suc (steps_room ss)) ≤ most_places
   pub arrays : steps_arrays ss ≤ most_places
   pub iterators : u + steps_iterators ss ≤ most_places
-  pub labels : suc (suc (d + steps_labels ss)) ≤ most_labels
+  pub labels : 5 + (d + steps_labels ss) ≤ most_labels
+
+-- room for code that may stand one label deeper
+record TestRoom (e : Code) (d : ℕ) : Type 0 where
+  pub places : suc (suc (room e)) ≤ most_places
+  pub arrays : arrays_in e ≤ most_places
+  pub labels : 3 + (d + labels_in e) ≤ most_labels
 
 module _ {c : Context} {y : Layout} (n : Named c y) where
+  test_fits : (e : Code) (d : ℕ) → sorted c [] e ≡ true → TestRoom e d → TestFits y e d
+  test_fits e d s r = (
+    code_fits n [] e 0 0 d s (record { places = omega (arith, r.places); arrays = omega (arith, r.arrays); labels = omega (arith, r.labels) }),
+    code_fits n [] e 0 0 (suc d) s (record { places = omega (arith, r.places); arrays = omega (arith, r.arrays); labels = omega (arith, r.labels) }),
+  )
+
   mutual
     unfolding step_sorted steps_sorted
 
     pub step_fits : (o l : Bool) (s : Step) (u d : ℕ) → step_sorted c o l s ≡ true → StepRoom s u d → StepFits y s u d
     step_fits o l (Eval e) u d s r =
-        code_fits n [] e 0 0 d (and_parts (is_dropped (form_of [] e)) (sorted c [] e) s).1 (record { places = omega (arith, r.places); arrays = omega (arith, r.arrays); labels = r.labels })
+        let more = more_least (is_some (sum_in e)) (labels_in e) in (
+          omega (arith, r.labels),
+          test_fits e d (and_parts (is_dropped (form_of [] e)) (sorted c [] e) s).1 (record { places = omega (arith, r.places); arrays = omega (arith, r.arrays); labels = omega (arith, r.labels, more) }),
+        )
     step_fits o l (Block ss) u d s r = steps_fit o l ss u d s (record { places = r.places; arrays = r.arrays; iterators = r.iterators; labels = r.labels })
     step_fits o l (If e a b) u d s r =
         let x = step_sorted c o l a in
         let z = step_sorted c o l b in
         let s1 = and_parts (test_sorted c e) (x && z) s in
         let s2 = and_parts x z s1.1 in
-        let s0 = (and_parts (is_tested (form_of [] e)) (sorted c [] e) s1.0).1 in (
+        let s0 = (and_parts (is_tested (form_of [] e)) (sorted c [] e) s1.0).1 in
+        let q = is_some (pair_in e) in
+        let least = choice_least q (labels_in e) (step_labels a) (step_labels b) in
+        let deep = deeper q d (step_labels a) in (
+          (
+            omega (arith, r.labels),
+            (
+              code_fits n [] e 0 0 d s0 (record { places = omega (arith, r.places); arrays = omega (arith, r.arrays); labels = omega (arith, r.labels, least) }),
+              test_fits e (suc (suc d)) s0 (record { places = omega (arith, r.places); arrays = omega (arith, r.arrays); labels = omega (arith, r.labels, least) }),
+            ),
+          ),
+          (
+            step_fits o l a u (suc (more_if q d)) s2.0 (record { places = omega (arith, r.places); arrays = omega (arith, r.arrays); iterators = omega (arith, r.iterators); labels = omega (arith, r.labels, least, deep) }),
+            step_fits o l b u (suc d) s2.1 (record { places = omega (arith, r.places); arrays = omega (arith, r.arrays); iterators = omega (arith, r.iterators); labels = omega (arith, r.labels, least) }),
+          ),
+        )
+    step_fits o l (Loop true e a b) u d s r =
+        let x = step_sorted c o true a in
+        let z = step_sorted c o false b in
+        let s1 = and_parts (test_sorted c e) (x && z) s in
+        let s2 = and_parts x z s1.1 in
+        let s0 = (and_parts (is_tested (form_of [] e)) (sorted c [] e) s1.0).1 in
+        let more = more_least (is_some (pair_in e)) (labels_in e) in
+        let deep = deeper (step_jumps a) d (step_labels a) in (
           omega (arith, r.labels),
           (
-            code_fits n [] e 0 0 d s0 (record { places = omega (arith, r.places); arrays = omega (arith, r.arrays); labels = omega (arith, r.labels) }),
+            test_fits e (suc (suc d)) s0 (record { places = omega (arith, r.places); arrays = omega (arith, r.arrays); labels = omega (arith, r.labels, more) }),
             (
-              step_fits o l a u (suc d) s2.0 (record { places = omega (arith, r.places); arrays = omega (arith, r.arrays); iterators = omega (arith, r.iterators); labels = omega (arith, r.labels) }),
-              step_fits o l b u (suc d) s2.1 (record { places = omega (arith, r.places); arrays = omega (arith, r.arrays); iterators = omega (arith, r.iterators); labels = omega (arith, r.labels) }),
+              step_fits o true a u (suc (suc (more_if (step_jumps a) d))) s2.0 (record { places = omega (arith, r.places); arrays = omega (arith, r.arrays); iterators = omega (arith, r.iterators); labels = omega (arith, r.labels, deep) }),
+              step_fits o false b u (suc (suc d)) s2.1 (record { places = omega (arith, r.places); arrays = omega (arith, r.arrays); iterators = omega (arith, r.iterators); labels = omega (arith, r.labels) }),
             ),
           ),
         )
-    step_fits o l (Loop first e a b) u d s r =
+    step_fits o l (Loop false e a b) u d s r =
         let x = step_sorted c o true a in
         let z = step_sorted c o false b in
         let s1 = and_parts (test_sorted c e) (x && z) s in
@@ -270,7 +324,7 @@ module _ {c : Context} {y : Layout} (n : Named c y) where
         let s0 = (and_parts (is_tested (form_of [] e)) (sorted c [] e) s1.0).1 in (
           omega (arith, r.labels),
           (
-            code_fits n [] e 0 0 (suc (suc d)) s0 (record { places = omega (arith, r.places); arrays = omega (arith, r.arrays); labels = omega (arith, r.labels) }),
+            test_fits e (suc (suc d)) s0 (record { places = omega (arith, r.places); arrays = omega (arith, r.arrays); labels = omega (arith, r.labels) }),
             (
               step_fits o true a u (suc (suc (suc d))) s2.0 (record { places = omega (arith, r.places); arrays = omega (arith, r.arrays); iterators = omega (arith, r.iterators); labels = omega (arith, r.labels) }),
               step_fits o false b u (suc (suc d)) s2.1 (record { places = omega (arith, r.places); arrays = omega (arith, r.arrays); iterators = omega (arith, r.iterators); labels = omega (arith, r.labels) }),
@@ -301,11 +355,11 @@ module _ {c : Context} {y : Layout} (n : Named c y) where
     step_fits o l Exit u d s r = tt
     step_fits o l (ExitWith e) u d s r = (
       omega (arith, r.labels),
-      code_fits n [] e 0 0 d (and_parts (fits (form_of [] e) sort.Number) (sorted c [] e) s).1 (record { places = omega (arith, r.places); arrays = omega (arith, r.arrays); labels = r.labels }),
+      code_fits n [] e 0 0 d (and_parts (fits (form_of [] e) sort.Number) (sorted c [] e) s).1 (record { places = omega (arith, r.places); arrays = omega (arith, r.arrays); labels = omega (arith, r.labels) }),
     )
     step_fits o l (Return e) u d s r =
         let s1 = and_parts o (fits (form_of [] e) sort.Value && sorted c [] e) s in
-        code_fits n [] e 0 0 d (and_parts (fits (form_of [] e) sort.Value) (sorted c [] e) s1.1).1 (record { places = omega (arith, r.places); arrays = omega (arith, r.arrays); labels = r.labels })
+        code_fits n [] e 0 0 d (and_parts (fits (form_of [] e) sort.Value) (sorted c [] e) s1.1).1 (record { places = omega (arith, r.places); arrays = omega (arith, r.arrays); labels = omega (arith, r.labels) })
     step_fits o l (Mark i b) u d s r = let lt = ltb-true i c.ranges s in let few = n.ranges in omega (arith, lt, few)
 
     pub steps_fit : (o l : Bool) (ss : Steps) (u d : ℕ) → steps_sorted c o l ss ≡ true → StepsRoom ss u d → StepsFit y ss u d

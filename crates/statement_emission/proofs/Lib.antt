@@ -4,3 +4,4 @@ pub mod Holdings
 pub mod Weighing
 pub mod Smallness
 pub mod Stepping
+pub mod QuickNames

@@ -3,4 +3,5 @@ pub mod Lengths
 pub mod Limits
 pub mod Parts
 pub mod Places
+pub mod QuickFits
 pub mod StepFits

@@ -1,19 +1,20 @@
 -- Parts of the definitions, which are added by functions of their own.
-use Rattle.std.specs.Prelude.{ℕ, zero, suc, ◌+◌, Bool, true, false, List, [], length}
+use Rattle.std.specs.Prelude.{ℕ, zero, suc, ◌+◌, Bool, true, false, if◌then◌else◌, List, [], length, Some, is_some}
 use Rattle.awk_values.specs.declared.fault.Fault.TheVariants.{NextOutside}
 use Rattle.awk_state.specs.declared.table.Primitive.TheVariants as row
 use Rattle.wasm_types.specs.Syntax.{Instructions, Done}
-use Rattle.wasm_types.specs.declared.types.ValType.TheVariants.{I32}
+use Rattle.wasm_types.specs.declared.types.ValType.TheVariants.{I32, I64}
 use Rattle.wasm_types.specs.declared.instr.CvtOp.TheVariants.{I32WrapI64}
-use Rattle.wasm_types.specs.declared.instr.IRelOp.TheVariants.{Eq, Ne}
+use Rattle.wasm_types.specs.declared.instr.IRelOp.TheVariants.{Eq, GtU, Ne}
 use Rattle.wasm_types.specs.declared.instr.ITestOp.TheVariants.{Eqz}
-use Rattle.wasm_types.specs.declared.instr.Simple.TheVariants.{Nop, Br, BrIf, LocalGet, LocalSet, LocalTee, GlobalGet, GlobalSet, I32Const, Test, Compare as Comparing, Convert}
+use Rattle.wasm_types.specs.declared.instr.Simple.TheVariants.{Nop, Br, BrIf, LocalGet, LocalSet, LocalTee, GlobalGet, GlobalSet, I32Const, I64Const, Test, Compare as Comparing, Convert}
 use Rattle.mid_program.specs.Names.{ArrayName}
 use Rattle.mid_program.specs.Mid.{Kind, Boxed, Unboxed, Many, Code, Form, Step, Steps, Program}
 use Rattle.value_machine.specs.Emission.{Layout, array_pushed, pending_assigned, tested}
+use Rattle.value_machine.specs.Quick.{Pair, Sum, Within, is_nothing, pair_in, step_jumps, test_within}
 use Rattle.value_machine.specs.Places.{Bases, answer_local, handle_global, iterator_local, status_global, way_global}
 use Rattle.value_machine.specs.Small.{ask, ask_row, does, either, end_code, fail_if, h, kept_code, moved_out, n, number_is, to_number, to_value, when}
-use Rattle.value_machine.specs.Statements.{again, all_emptied, before_parts, block, first_part, goes_on, iterator_left, key_stored, last_part, left_by, names_declared, parameters_dropped, part_done, record_done, records_read, routines_declared, step_emitted, steps_emitted, swept, way_exit, way_next}
+use Rattle.value_machine.specs.Statements.{again, all_emptied, before_parts, block, first_part, goes_on, iterator_left, key_stored, last_part, left_by, left_unless, left_unless_pair, names_declared, parameters_dropped, part_done, quickly_dropped, record_done, records_read, routines_declared, step_emitted, steps_emitted, swept, way_exit, way_next}
 use Rattle.value_machine.specs.declared.import.Import.TheVariants.{Drop}
 use Rattle.statement_emission.specs.declared.around.Around.{Around}
 
@@ -29,29 +30,70 @@ answer_left b f d k = to_value b f zero (moved_out (h b zero) (does (LocalSet (a
 abbrev pub rounds : Instructions → Instructions → Instructions
 rounds turn k = block (again turn Done) k
 
--- a loop is left where its test does not hold
-abbrev pub tested_out : Layout → Code → ℕ → Instructions → Instructions
-tested_out y e d k = tested y [] [] e zero zero (suc (suc d)) (does (Test I32 Eqz) (does (BrIf 1) k))
+-- a test in all cases: where it does not hold, code is left to a label
+abbrev pub test_left : Layout → Code → (d out : ℕ) → Instructions → Instructions
+test_left y e d out k = tested y [] [] e zero zero d (does (Test I32 Eqz) (does (BrIf out) k))
+
+-- Quick ways.
+
+-- a word is past a width
+abbrev pub past : ℕ → Instructions → Instructions
+past width k = does (I64Const width) (does (Comparing I64 GtU) k)
+
+-- a test that compares sources
+abbrev pub pair_tested : Layout → Pair → Code → (d out : ℕ) → Instructions → Instructions
+pair_tested y q e d out k = left_unless_pair y (Some q) e d out k
+
+-- a test that holds of some numbers of a name
+abbrev pub within_tested : Layout → Within → Code → (d out : ℕ) → Instructions → Instructions
+within_tested y q e d out k = left_unless y (Some q) e d out k
+
+-- a sum that a name takes
+abbrev pub sum_done : Layout → Sum → Code → ℕ → Instructions → Instructions
+sum_done y s e d k = quickly_dropped y (Some s) e d k
 
 -- a turn begins again where the test holds
 abbrev pub tested_on : Layout → Code → ℕ → Instructions → Instructions
 tested_on y e d k = does Nop (tested y [] [] e zero zero (suc (suc d)) (does (BrIf zero) k))
 
--- a choice of two statements
-abbrev pub chosen : Layout → Code → Step → Step → Around → Instructions → Instructions
-chosen y e a c at k =
+-- a choice of two statements: by an `if`, or by a comparison of sources in two blocks
+
+abbrev pub plainly_chosen : Layout → Code → Step → Step → Around → Instructions → Instructions
+plainly_chosen y e a c at k =
     let d = suc at.exit in
     tested y [] [] e zero zero at.exit (either
     (step_emitted y a at.iterators d (suc at.break_to) (suc at.continue_to) Done)
     (step_emitted y c at.iterators d (suc at.break_to) (suc at.continue_to) Done) k)
 
+abbrev pub quick_way : Layout → Code → Step → Around → Instructions → Instructions
+quick_way y e a at k =
+    let d = suc (suc at.exit) in
+    left_unless_pair y (pair_in e) e d zero (step_emitted y a at.iterators d (suc (suc at.break_to)) (suc (suc at.continue_to)) (does (Br 1) k))
+
+abbrev pub quick_ways : Layout → Code → Step → Step → Around → Instructions → Instructions
+quick_ways y e a c at k = block (quick_way y e a at Done) (step_emitted y c at.iterators (suc at.exit) (suc at.break_to) (suc at.continue_to) k)
+
+abbrev pub quickly_chosen : Layout → Code → Step → Step → Around → Instructions → Instructions
+quickly_chosen y e a c at k = block (quick_ways y e a c at Done) k
+
+abbrev pub chosen : Layout → Code → Step → Step → Around → Instructions → Instructions
+chosen y e a c at k = if is_some (pair_in e) then quickly_chosen y e a c at k else plainly_chosen y e a c at k
+
 -- the body of a loop
 abbrev pub body_code : Layout → Step → (u d : ℕ) → Instructions
 body_code y s u d = step_emitted y s u (suc (suc (suc d))) 2 zero Done
 
+-- the body of a loop that begins with its test: in a block where `break` or `continue` leaves it
+abbrev pub turn_body : Layout → Step → (u d : ℕ) → Instructions → Instructions
+turn_body y a u d k = if step_jumps a then block (body_code y a u d) k else step_emitted y a u (suc (suc d)) 1 zero k
+
+-- what comes after it, and the next turn
+abbrev pub turn_ended : Layout → Step → (u d : ℕ) → Instructions → Instructions
+turn_ended y c u d k = if is_nothing c then does (Br zero) k else step_emitted y c u (suc (suc d)) 1 zero (does (Br zero) k)
+
 -- a turn of a loop that begins with its test
 abbrev pub tested_turn : Layout → Code → Step → Step → (u d : ℕ) → Instructions → Instructions
-tested_turn y e a c u d k = tested_out y e d (block (body_code y a u d) (step_emitted y c u (suc (suc d)) 1 zero (does (Br zero) k)))
+tested_turn y e a c u d k = left_unless y (test_within e) e (suc (suc d)) 1 (turn_body y a u d (turn_ended y c u d k))
 
 -- a turn of a loop that ends with its test
 abbrev pub first_turn : Layout → Code → Step → Step → (u d : ℕ) → Instructions → Instructions

@@ -9,9 +9,11 @@ mod leaving;
 mod lengths;
 mod loops;
 mod parts;
+mod quick;
 mod records;
 mod routines;
 mod script;
 mod steps;
+mod testing;
 
 pub use script::{functions, module};

@@ -9,7 +9,7 @@ ghost use Rattle.code_emission.specs.Bounds.{most_labels, most_places};
 ghost use Rattle.code_emission.specs.Emits.{Emits};
 ghost use Rattle.expression_emission.specs.Fits.{ArrayFits, Fits};
 ghost use Rattle.expression_emission.specs.View.{view_layout};
-ghost use Rattle.statement_emission.specs.Parts.{iterator_made, key_asked, rounds, tested_on, tested_out};
+ghost use Rattle.statement_emission.specs.Parts.{iterator_made, key_asked, rounds, tested_on};
 
 use crate::evaluating::{dropped, tested};
 use awk_state::{Answer, Primitive, Sort};
@@ -20,7 +20,7 @@ use expression_emission::{At, Kept, Layout, array_pushed};
 use mid_program::{ArrayName, Code};
 use std::alloc::{AllocError, Global};
 use value_machine::Import;
-use wasm_types::{IRelOp, ITestOp, Instr, Simple, ValType};
+use wasm_types::{IRelOp, Instr, Simple, ValType};
 
 /// -2, which an iterator answers past the last key.
 const END_CODE: u32 = u32::MAX - 1;
@@ -36,24 +36,6 @@ pub(crate) fn rounds(
     let mut code = Vec::new(alloc);
     again(alloc, &mut code, turn)?;
     block(alloc, out, code)
-}
-
-/// Leaves a loop where its test does not hold.
-pub(crate) fn tested_out(
-    y: &Layout<'_>,
-    out: &mut Vec<Instr>,
-    test: &Code,
-    exit: u32,
-) -> Result<(), AllocError>
-    requires fit { Fits (view_layout y.now) (view test.now) 0 0 (suc (suc exit)) }
-    requires labels { suc (suc exit) ≤ most_labels }
-    ensures { OnOk result (Emits out.old.items out.new.items (tested_out (view_layout y.now) (view test.now) exit)) }
-{
-    tested(y, out, test, exit + 2)?;
-    does_all(
-        out,
-        &[Simple::Test(ValType::I32, ITestOp::Eqz), Simple::BrIf(1)],
-    )
 }
 
 /// Begins a turn again where a test holds.

@@ -1,23 +1,27 @@
 //! The code of statements. A statement's place is the `nop` that begins its code.
-ghost use Rattle.std.specs.Prelude.{[], ◌≤◌, IfOk, OnOk, suc};
+ghost use Rattle.std.specs.Prelude.{[], ◌≤◌, IfOk, is_some, OnOk, suc};
 ghost use Rattle.wasm_types.specs.Syntax.{Done};
 ghost use Rattle.mid_program.specs.ViewCode.{view, view_array, view_step, view_steps};
+ghost use Rattle.value_machine.specs.Quick.{pair_in, step_jumps};
 ghost use Rattle.value_machine.specs.Statements.{step_emitted, steps_emitted};
 ghost use Rattle.code_emission.specs.Bounds.{most_labels, most_places};
 ghost use Rattle.code_emission.specs.Emits.{Emits};
 ghost use Rattle.expression_emission.specs.Fits.{ArrayFits, Fits};
 ghost use Rattle.expression_emission.specs.View.{view_layout};
-ghost use Rattle.statement_emission.specs.Parts.{chosen, first_turn, key_turn, keys_walked, rounds, tested_turn, turn};
+ghost use Rattle.code_needs.specs.Labels.{more_if};
+ghost use Rattle.statement_emission.specs.Parts.{chosen, first_turn, key_turn, keys_walked, plainly_chosen, quick_way, quickly_chosen, rounds, tested_turn, turn, turn_body, turn_ended};
 ghost use Rattle.statement_emission.specs.Places.{OwnLabels};
-ghost use Rattle.statement_emission.specs.StepFits.{LoopFits, StepFits, StepsFit};
+ghost use Rattle.statement_emission.specs.StepFits.{ChoiceFits, has_block, LoopFits, StepFits, StepsFit, TestFits};
 
 use crate::around::{Around, in_body, in_branch, in_keys, in_last};
 use crate::evaluating::{done, exit_with, returned, tested};
 use crate::leaving::{WAY_EXIT, WAY_NEXT, left_by, marked};
-use crate::loops::{iterator_left, iterator_made, key_stored, rounds, tested_on, tested_out};
+use crate::loops::{iterator_left, iterator_made, key_stored, rounds, tested_on};
+use crate::testing::{left_unless, left_unless_pair};
 use code_emission::{block, does, either};
 use expression_emission::Layout;
 use mid_program::{ArrayName, Code, Step};
+use quick_forms::{is_nothing, pair_in, step_jumps};
 use std::alloc::AllocError;
 use wasm_types::{Instr, Simple};
 
@@ -84,9 +88,9 @@ pub(crate) fn inner(y: &Layout<'_>, step: &Step, at: Around) -> Result<Vec<Instr
     Ok(code)
 }
 
-/// Adds a choice of two statements.
+/// Adds a choice of two statements by an `if`.
 #[cycle(statements)]
-fn choice(
+fn plain_choice(
     y: &Layout<'_>,
     out: &mut Vec<Instr>,
     test: &Code,
@@ -99,12 +103,115 @@ fn choice(
     requires test { Fits (view_layout y.now) (view test.now) 0 0 at.exit }
     requires yes { StepFits (view_layout y.now) (view_step yes.now) at.iterators (suc at.exit) }
     requires no { StepFits (view_layout y.now) (view_step no.now) at.iterators (suc at.exit) }
-    ensures { OnOk result (Emits out.old.items out.new.items (chosen (view_layout y.now) (view test.now) (view_step yes.now) (view_step no.now) at)) }
+    ensures { OnOk result (Emits out.old.items out.new.items (plainly_chosen (view_layout y.now) (view test.now) (view_step yes.now) (view_step no.now) at)) }
 {
     tested(y, out, test, at.exit)?;
     let yes = inner(y, yes, in_branch(at))?;
     let no = inner(y, no, in_branch(at))?;
     either(y.alloc, out, yes, no)
+}
+
+/// The test of a choice, and what is done where it holds; elsewhere the block around it is left.
+#[cycle(statements)]
+fn quick_way(y: &Layout<'_>, test: &Code, yes: &Step, at: Around) -> Result<Vec<Instr>, AllocError>
+    requires labels { suc (suc (suc at.exit)) ≤ most_labels }
+    requires own { OwnLabels at }
+    requires test { TestFits (view_layout y.now) (view test.now) (suc (suc at.exit)) }
+    requires yes { StepFits (view_layout y.now) (view_step yes.now) at.iterators (suc (suc at.exit)) }
+    ensures { IfOk result (λ v. Emits [] v.items (quick_way (view_layout y.now) (view test.now) (view_step yes.now) at)) }
+{
+    let mut code = Vec::new(y.alloc);
+    left_unless_pair(y, &mut code, test, at.exit + 2, 0)?;
+    statement(y, &mut code, yes, in_branch(in_branch(at)))?;
+    does(&mut code, Simple::Br(1))?;
+    Ok(code)
+}
+
+/// Adds a choice of two statements by a comparison of sources.
+#[cycle(statements)]
+fn quick_choice(
+    y: &Layout<'_>,
+    out: &mut Vec<Instr>,
+    test: &Code,
+    yes: &Step,
+    no: &Step,
+    at: Around,
+) -> Result<(), AllocError>
+    requires labels { suc (suc (suc at.exit)) ≤ most_labels }
+    requires own { OwnLabels at }
+    requires test { TestFits (view_layout y.now) (view test.now) (suc (suc at.exit)) }
+    requires yes { StepFits (view_layout y.now) (view_step yes.now) at.iterators (suc (suc at.exit)) }
+    requires no { StepFits (view_layout y.now) (view_step no.now) at.iterators (suc at.exit) }
+    ensures { OnOk result (Emits out.old.items out.new.items (quickly_chosen (view_layout y.now) (view test.now) (view_step yes.now) (view_step no.now) at)) }
+{
+    let way = quick_way(y, test, yes, at)?;
+    let mut ways = Vec::new(y.alloc);
+    block(y.alloc, &mut ways, way)?;
+    statement(y, &mut ways, no, in_branch(at))?;
+    block(y.alloc, out, ways)
+}
+
+/// Adds a choice of two statements.
+#[cycle(statements)]
+fn choice(
+    y: &Layout<'_>,
+    out: &mut Vec<Instr>,
+    test: &Code,
+    yes: &Step,
+    no: &Step,
+    at: Around,
+) -> Result<(), AllocError>
+    requires own { OwnLabels at }
+    requires fit { ChoiceFits (view_layout y.now) (view test.now) at.exit }
+    requires yes { StepFits (view_layout y.now) (view_step yes.now) at.iterators (suc (more_if (is_some (pair_in (view test.now))) at.exit)) }
+    requires no { StepFits (view_layout y.now) (view_step no.now) at.iterators (suc at.exit) }
+    ensures { OnOk result (Emits out.old.items out.new.items (chosen (view_layout y.now) (view test.now) (view_step yes.now) (view_step no.now) at)) }
+{
+    if pair_in(test).is_some() {
+        quick_choice(y, out, test, yes, no, at)
+    } else {
+        plain_choice(y, out, test, yes, no, at)
+    }
+}
+
+/// Adds the body of a loop that begins with its test.
+#[cycle(statements)]
+fn turn_body(
+    y: &Layout<'_>,
+    out: &mut Vec<Instr>,
+    body: &Step,
+    at: Around,
+) -> Result<(), AllocError>
+    requires labels { LoopFits at.exit }
+    requires body { StepFits (view_layout y.now) (view_step body.now) at.iterators (suc (suc (more_if (step_jumps (view_step body.now)) at.exit))) }
+    ensures { OnOk result (Emits out.old.items out.new.items (turn_body (view_layout y.now) (view_step body.now) at.iterators at.exit)) }
+{
+    if step_jumps(body) {
+        let inside = inner(y, body, in_body(at))?;
+        block(y.alloc, out, inside)
+    } else {
+        statement(y, out, body, in_last(at))
+    }
+}
+
+/// Adds what stands between the body of a loop and the next turn.
+#[cycle(statements)]
+fn turn_ended(
+    y: &Layout<'_>,
+    out: &mut Vec<Instr>,
+    last: &Step,
+    at: Around,
+) -> Result<(), AllocError>
+    requires labels { LoopFits at.exit }
+    requires last { StepFits (view_layout y.now) (view_step last.now) at.iterators (suc (suc at.exit)) }
+    ensures { OnOk result (Emits out.old.items out.new.items (turn_ended (view_layout y.now) (view_step last.now) at.iterators at.exit)) }
+{
+    if is_nothing(last) {
+        does(out, Simple::Br(0))
+    } else {
+        statement(y, out, last, in_last(at))?;
+        does(out, Simple::Br(0))
+    }
 }
 
 /// A turn of a loop that begins with its test.
@@ -117,17 +224,15 @@ fn tested_turn(
     at: Around,
 ) -> Result<Vec<Instr>, AllocError>
     requires labels { LoopFits at.exit }
-    requires test { Fits (view_layout y.now) (view test.now) 0 0 (suc (suc at.exit)) }
-    requires body { StepFits (view_layout y.now) (view_step body.now) at.iterators (suc (suc (suc at.exit))) }
+    requires test { TestFits (view_layout y.now) (view test.now) (suc (suc at.exit)) }
+    requires body { StepFits (view_layout y.now) (view_step body.now) at.iterators (suc (suc (more_if (step_jumps (view_step body.now)) at.exit))) }
     requires last { StepFits (view_layout y.now) (view_step last.now) at.iterators (suc (suc at.exit)) }
     ensures { IfOk result (λ v. Emits [] v.items (tested_turn (view_layout y.now) (view test.now) (view_step body.now) (view_step last.now) at.iterators at.exit)) }
 {
     let mut code = Vec::new(y.alloc);
-    tested_out(y, &mut code, test, at.exit)?;
-    let inside = inner(y, body, in_body(at))?;
-    block(y.alloc, &mut code, inside)?;
-    statement(y, &mut code, last, in_last(at))?;
-    does(&mut code, Simple::Br(0))?;
+    left_unless(y, &mut code, test, at.exit + 2, 1)?;
+    turn_body(y, &mut code, body, at)?;
+    turn_ended(y, &mut code, last, at)?;
     Ok(code)
 }
 
@@ -166,8 +271,8 @@ fn looped(
     at: Around,
 ) -> Result<(), AllocError>
     requires labels { LoopFits at.exit }
-    requires test { Fits (view_layout y.now) (view test.now) 0 0 (suc (suc at.exit)) }
-    requires body { StepFits (view_layout y.now) (view_step body.now) at.iterators (suc (suc (suc at.exit))) }
+    requires test { TestFits (view_layout y.now) (view test.now) (suc (suc at.exit)) }
+    requires body { StepFits (view_layout y.now) (view_step body.now) at.iterators (suc (suc (more_if (has_block tests_first (view_step body.now)) at.exit))) }
     requires last { StepFits (view_layout y.now) (view_step last.now) at.iterators (suc (suc at.exit)) }
     ensures { OnOk result (Emits out.old.items out.new.items (rounds (turn tests_first (view_layout y.now) (view test.now) (view_step body.now) (view_step last.now) at.iterators at.exit Done))) }
 {

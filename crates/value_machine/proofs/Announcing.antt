@@ -24,7 +24,7 @@ use Rattle.mid_program.specs.MidMeaning.{global_name, routine_name}
 use Rattle.mid_program.specs.Names.{same_name}
 use Rattle.mid_program.specs.ScriptRun.{kind_of, announced, arrays_made}
 use Rattle.mid_program.specs.ScriptState.{State, Gives, Doing, ◌>>◌, nothing, does}
-use Rattle.mid_program.specs.Sorted.{kinds_of, is_many, is_named, all_differ}
+use Rattle.mid_program.specs.Sorted.{kinds_of, is_many, is_named, all_differ, same_kind}
 use Rattle.value_machine.specs.Cells.{Cell, Bits, Held, OwnedArray, is_owned}
 use Rattle.value_machine.specs.Emission.{Layout}
 use Rattle.value_machine.specs.Functions.{layout_of, texts_of}
@@ -40,7 +40,7 @@ use Rattle.value_machine.proofs.Globals.{Globals, Hand, placed}
 use Rattle.value_machine.proofs.Steps.{empty}
 use Rattle.value_machine.proofs.State.{kind_here, arrays_before, name_hand}
 use Rattle.value_machine.proofs.Conversions.{same_state}
-use Rattle.value_machine.proofs.GlobalSteps.{storing, global_set_ok}
+use Rattle.value_machine.proofs.GlobalSteps.{storing, boxed_comes, global_set_ok}
 use Rattle.value_machine.proofs.Calls.{called}
 use Rattle.value_machine.proofs.Relation.{kind_told, globals_told, routines_told}
 use Rattle.value_machine.proofs.Answers.{machine}
@@ -256,6 +256,11 @@ module _ (p : Program) (deepest : ℕ) (b : Bases) (K : List Label) (L : List Ce
   within_names : (k : Kind) (ks : List Kind) (i a : ℕ) (g : Globals) (sh : Shared) → Halfway (k ∷ ks) i a g sh → i < length kinds
   within_names k ks i a g sh h = let q = h.size in omega (arith, q)
 
+  no_number : (k : Kind) (ks : List Kind) (i a : ℕ) (g : Globals) (sh : Shared) → Halfway (k ∷ ks) i a g sh → same_kind k Unboxed ≡ false → same_kind (kind_here kinds i) Unboxed ≡ false
+  no_number k ks i a g sh h e =
+      let z : i ≡ i + 0 = omega arith in
+      ap (λ j. same_kind j Unboxed) (ap (kind_here kinds) z ∙ h.alike 0) ∙ e
+
   pub names_ok : (ks : List Kind) (i a : ℕ) (k : Instructions) (g : Globals) (σ : State) → Halfway ks i a g σ.shared → Made ks i k g σ
   names_ok [] i a k g σ h = record { hands = g.hand; last = σ.shared; steps = 0; few = omega arith; goes = stays; means = refl; each = λ x lt. h.made x (let q = h.size in omega (arith, q, lt)); names = refl; pending = refl }
   names_ok (Unboxed ∷ ks) i a k g σ h =
@@ -286,7 +291,8 @@ module _ (p : Program) (deepest : ℕ) (b : Bases) (K : List Label) (L : List Ce
         few = (let q = r.few in omega (arith, q));
         goes = then_goes
             (then_goes (goes_to (called (Of row.Uninit) [] [] (store_of g σ.shared) (Some (Held Uninit)) (host_with sh1) refl refl refl) (ap (λ z. at [] (Held Uninit ∷ []) K L [] (instruction (GlobalSet (handle_global p.ranges i)) (names_made (layout_of p b) (suc i) ks k)) (store_of g z)) same))
-            (global_set_ok p.ranges nn g (Hand i) (Held Uninit) (within_names Boxed ks i a g σ.shared h) (ap is_owned (h.todo i (omega arith))))) r.goes;
+            (global_set_ok p.ranges nn g (Hand i) (Held Uninit) (within_names Boxed ks i a g σ.shared h) (ap is_owned (h.todo i (omega arith)))
+            (boxed_comes p.ranges kinds None i (g.hand i) (Held Uninit) (no_number Boxed ks i a g σ.shared h refl)))) r.goes;
         means = r.means;
         each = r.each;
         names = r.names;
@@ -307,7 +313,8 @@ module _ (p : Program) (deepest : ℕ) (b : Bases) (K : List Label) (L : List Ce
         few = (let q = r.few in omega (arith, q));
         goes = then_goes
             (then_goes (called (Of row.NewArray) [] [] (store_of g σ.shared) (Some (OwnedArray m)) (host_with sh1) refl refl refl)
-            (global_set_ok p.ranges nn g (Hand i) (OwnedArray m) (within_names Many ks i a g σ.shared h) (ap is_owned (h.todo i (omega arith))))) r.goes;
+            (global_set_ok p.ranges nn g (Hand i) (OwnedArray m) (within_names Many ks i a g σ.shared h) (ap is_owned (h.todo i (omega arith)))
+            (boxed_comes p.ranges kinds None i (g.hand i) (OwnedArray m) (no_number Many ks i a g σ.shared h refl)))) r.goes;
         means = r.means;
         each = r.each;
         names = r.names;

@@ -1,5 +1,5 @@
 -- Calls of rows of the table from code, and what becomes of their answers: they come into a temporary, or the function is left.
-use Rattle.std.proofs.Common.{◌≡◌, inl, inr, ℕ, suc, ◌-◌, ◌^◌, ◌<◌, Bool, true, false, List, [], ◌∷◌, ◌++◌, length, Some, None, Result, Ok, Err, refl, sym, ap, ap₂, ◌∙◌, arith}
+use Rattle.std.proofs.Common.{◌≡◌, inl, inr, ℕ, suc, ◌-◌, ◌^◌, ◌<◌, Bool, true, false, List, [], ◌∷◌, ◌++◌, length, Option, Some, None, Result, Ok, Err, refl, sym, ap, ap₂, ◌∙◌, arith}
 use Rattle.std.specs.Prelude.{reverse}
 use Rattle.awk_values.specs.declared.fault.Fault.{Fault}
 use Rattle.awk_values.specs.declared.value.Value.{Value}
@@ -27,7 +27,7 @@ use Rattle.mid_program.specs.Sorted.{kinds_of}
 use Rattle.value_machine.specs.Cells.{Cell, Bits, Held, is_owned}
 use Rattle.value_machine.specs.ImportCalls.{Host, Acts, with_some, where_so, row_in, taken, acts, acted, replied, call, primitive_acts, cell_of, fault_cell, input_code, close_code}
 use Rattle.value_machine.specs.ImportCalls
-use Rattle.value_machine.specs.Machine.{Code, Conf, Label, Frame, Store, at, br, all_live, onto, width}
+use Rattle.value_machine.specs.Machine.{Code, Conf, Label, Frame, Store, at, br, all_live, assigning_after, onto, width}
 use Rattle.value_machine.specs.Places.{Bases}
 use Rattle.value_machine.specs.Runs.{code_of}
 use Rattle.value_machine.specs.Small.{ask_row, kept, least}
@@ -37,20 +37,26 @@ use Rattle.value_machine.proofs.Locals.{Locals, Hand, Number as NumberAt, with_a
 use Rattle.value_machine.proofs.Regions.{upd_same}
 use Rattle.value_machine.proofs.Steps.{empty, set_ok}
 use Rattle.value_machine.proofs.Calls.{called}
+use Rattle.value_machine.proofs.GlobalSteps.{while_assigning}
 use Rattle.value_machine.proofs.State.{store, gone, word_not_least}
 use Rattle.value_machine.proofs.Relation.{hand_of, WordIs, HoldsAt, Same, same_hand, same_number, same_self, Fit, fit_loose, fit_hand, fit_number, fit_more, Away}
 use Rattle.value_machine.proofs.Pieces.{code_kept, code_failed, code_stored, value_kept, value_failed, number_kept, number_failed, done_kept, done_failed, done_dropped}
 
--- rows that take their arguments; the others only look at them
+-- rows that take their arguments, where the others only look at them; and by which no assignment begins
 abbrev pub takes_row : Primitive → Bool
 takes_row row.Dup = false
 takes_row row.IterNext = false
+takes_row row.PendingName = false
 takes_row _ = true
 
 row_taken : (q : Primitive) (memory : List ℕ) (words : List Cell) → takes_row q ≡ true → taken memory (Of q) words ≡ row_in memory (arguments_of q) words
 row_taken row.Dup memory words e = cc
 row_taken row.IterNext memory words e = cc
 row_taken _ memory words e = refl
+
+begins_none : (q : Primitive) (G : Store) → takes_row q ≡ true → assigning_after (Of q) G ≡ G.assigning
+begins_none row.PendingName G e = cc
+begins_none _ G e = refl
 
 -- answers that code keeps
 abbrev pub IsPlain : Answer → Type 0
@@ -91,27 +97,43 @@ module _ (p : Program) (deepest : ℕ) (ks : List Kind) (F : List Frame) where
   same_fault true x = refl
   same_fault false x = refl
 
-  reply_is : (L : List Cell) (K : List Label) (c : Instructions) (a : Answer) (r : Result (InAnswer a) Fault) (vs : List Cell) (σ σ1 : State) (d : Acts (InAnswer a)) → d.arguments ≡ [] → shared_after σ.shared d.does ≡ σ1.shared → σ1 ≡ record σ { shared = σ1.shared } →
-      at ks (onto (replied a (beside_state σ).host d r).0 vs) K L F c (record (beside_state σ) { host = (replied a (beside_state σ).host d r).1 }) ≡ at ks (reply a r vs) K L F c (after_reply r σ1)
-  reply_is L K c a (Ok x) vs σ σ1 d e1 e2 e3 =
-      ap₂ (λ s m. at ks (onto (cell_of a x) vs) K L F c (record (beside_state σ) { host = record { shared = s; arguments = m; fault = None } })) e2 e1 ∙ ap (λ τ. at ks (onto (cell_of a x) vs) K L F c (beside_state τ)) (sym e3)
-  reply_is L K c a (Err f) vs σ σ1 d e1 e2 e3 =
-      ap₂ (λ s m. at ks (onto (fault_cell a) vs) K L F c (record (beside_state σ) { host = record { shared = s; arguments = m; fault = Some f } })) e2 e1 ∙ ap (λ τ. at ks (onto (fault_cell a) vs) K L F c (left_beside (Faulted f) τ)) (sym e3)
+  reply_is : (L : List Cell) (K : List Label) (c : Instructions) (a : Answer) (r : Result (InAnswer a) Fault) (vs : List Cell) (name : Option ℕ) (σ σ1 : State) (d : Acts (InAnswer a)) → d.arguments ≡ [] → shared_after σ.shared d.does ≡ σ1.shared → σ1 ≡ record σ { shared = σ1.shared } →
+      at ks (onto (replied a (beside_state σ).host d r).0 vs) K L F c (record (beside_state σ) { host = (replied a (beside_state σ).host d r).1; assigning = name }) ≡ at ks (reply a r vs) K L F c (while_assigning name (after_reply r σ1))
+  reply_is L K c a (Ok x) vs name σ σ1 d e1 e2 e3 =
+      ap₂ (λ s m. at ks (onto (cell_of a x) vs) K L F c (record (beside_state σ) { host = record { shared = s; arguments = m; fault = None }; assigning = name })) e2 e1 ∙ ap (λ τ. at ks (onto (cell_of a x) vs) K L F c (while_assigning name (beside_state τ))) (sym e3)
+  reply_is L K c a (Err f) vs name σ σ1 d e1 e2 e3 =
+      ap₂ (λ s m. at ks (onto (fault_cell a) vs) K L F c (record (beside_state σ) { host = record { shared = s; arguments = m; fault = Some f }; assigning = name })) e2 e1 ∙ ap (λ τ. at ks (onto (fault_cell a) vs) K L F c (while_assigning name (left_beside (Faulted f) τ))) (sym e3)
 
-  -- a row that is asked with its arguments on the stack
-  pub row_called : {L : List Cell} {K : List Label} {c : Instructions} → (q : Primitive) (r : Row (arguments_of q)) (words vs : List Cell) (σ : State) →
-      takes_row q ≡ true → length words ≡ width (Of q) → all_live L F (beside_state σ).globals words ≡ true → row_in machine.memory (arguments_of q) words ≡ Some r → in_turn q r σ.shared ≡ true →
-      Goes machine 1 (at ks (reverse words ++ vs) K L F (ask_row q c) (beside_state σ)) (at ks (reply (answer_of q) (answered_by q r σ) vs) K L F c (after_reply (answered_by q r σ) (done_by q r σ)))
-  row_called {L = L} {K = K} {c = c} q r words vs σ tk wd live e turn =
+  -- a row that is asked with its arguments on the stack, while code makes an assignment too
+  pub row_asked : {L : List Cell} {K : List Label} {c : Instructions} → (q : Primitive) (r : Row (arguments_of q)) (words vs : List Cell) (name : Option ℕ) (σ : State) →
+      taken machine.memory (Of q) words ≡ Some r → length words ≡ width (Of q) → all_live L F (beside_state σ).globals words ≡ true → in_turn q r σ.shared ≡ true →
+      Goes machine 1 (at ks (reverse words ++ vs) K L F (ask_row q c) (while_assigning name (beside_state σ)))
+      (at ks (reply (answer_of q) (answered_by q r σ) vs) K L F c (while_assigning (assigning_after (Of q) (while_assigning name (beside_state σ))) (after_reply (answered_by q r σ) (done_by q r σ))))
+  row_asked {L = L} {K = K} {c = c} q r words vs name σ tk wd live turn =
+      let G = while_assigning name (beside_state σ) in
       let o = (beside_state σ).host in
       let d = primitive_acts {A = InAnswer (answer_of q)} [] (can_fault q) (meaning q r σ.shared) in
       let x = replied (answer_of q) o d d.does.answer in
       goes_to
-      (called (Of q) words vs (beside_state σ) x.0 x.1 wd live
-      (ap (acted (Of q) o) (row_taken q machine.memory words tk ∙ e)
+      (called (Of q) words vs G x.0 x.1 wd live
+      (ap (acted (Of q) o) tk
       ∙ ap (λ t. with_some (where_so t (Some d)) (λ a. Some (replied (answer_of q) o a a.does.answer))) turn))
-      (ap (λ z. at ks (onto (replied (answer_of q) o d z).0 vs) K L F c (record (beside_state σ) { host = (replied (answer_of q) o d z).1 })) (same_fault (can_fault q) (meaning q r σ.shared).answer)
-      ∙ reply_is L K c (answer_of q) (answered_by q r σ) vs σ (done_by q r σ) d refl refl refl)
+      (ap (λ z. at ks (onto (replied (answer_of q) o d z).0 vs) K L F c (record (beside_state σ) { host = (replied (answer_of q) o d z).1; assigning = assigning_after (Of q) G })) (same_fault (can_fault q) (meaning q r σ.shared).answer)
+      ∙ reply_is L K c (answer_of q) (answered_by q r σ) vs (assigning_after (Of q) G) σ (done_by q r σ) d refl refl refl)
+
+  reply_plain : {A : Type 0} → (r : Result A Fault) (σ : State) → while_assigning None (after_reply r σ) ≡ after_reply r σ
+  reply_plain (Ok x) σ = refl
+  reply_plain (Err f) σ = refl
+
+  -- the same between two parts of code
+  pub row_called : {L : List Cell} {K : List Label} {c : Instructions} → (q : Primitive) (r : Row (arguments_of q)) (words vs : List Cell) (σ : State) →
+      takes_row q ≡ true → length words ≡ width (Of q) → all_live L F (beside_state σ).globals words ≡ true → row_in machine.memory (arguments_of q) words ≡ Some r → in_turn q r σ.shared ≡ true →
+      Goes machine 1 (at ks (reverse words ++ vs) K L F (ask_row q c) (beside_state σ)) (at ks (reply (answer_of q) (answered_by q r σ) vs) K L F c (after_reply (answered_by q r σ) (done_by q r σ)))
+  row_called {L = L} {K = K} {c = c} q r words vs σ tk wd live e turn =
+      let z = after_reply (answered_by q r σ) (done_by q r σ) in
+      goes_to (row_asked q r words vs None σ (row_taken q machine.memory words tk ∙ e) wd live turn)
+      (ap (λ m. at ks (reply (answer_of q) (answered_by q r σ) vs) K L F c (while_assigning m z)) (begins_none q (beside_state σ) tk)
+      ∙ ap (λ G. at ks (reply (answer_of q) (answered_by q r σ) vs) K L F c G) (reply_plain (answered_by q r σ) (done_by q r σ)))
 
   -- what stands in temporary t, with all below it as it was
   pub record Put (b : Bases) (t u w : ℕ) (f : Form) (k : Instructions) (K : List Label) (l : Locals) (x : Holds f) (σ : State) (c : Conf) : Type 0 where

@@ -83,15 +83,15 @@ module _ (p : Program) (deepest : ℕ) (ks : List Kind) (F : List Frame) (b : Ba
       (then_goes (goes_to (number_is_ok b l1 t m 2 lt (upd_same l.number t (Bits (I64 m)))) (ap (λ f. at ks (Bits (flag f) ∷ []) (loop_at code t d k ∷ K) (laid b l1) F (when block NoMore) (beside_state p deepest ks F σ)) e))
       (then_goes (chooses block NoMore 0) (then_goes closes (by_steps 1 refl))))
 
-  calm_kept : (i j : Inner) (s : Shared) → s.inner ≡ j → Keeps i j → (s0 : Shared) → s0.inner ≡ i → Calm p s0 → Calm p s
-  calm_kept i j s e h s0 e0 c = record { pending = ap (λ z. z.pending) e ∙ (h.pending ∙ (ap (λ z. z.pending) (sym e0) ∙ c.pending)); names = ap (λ z. z.names) e ∙ (h.names ∙ (ap (λ z. z.names) (sym e0) ∙ c.names)) }
+  calm_kept : (i j : Inner) (s : Shared) → s.inner ≡ j → j.pending ≡ i.pending → j.names ≡ i.names → (s0 : Shared) → s0.inner ≡ i → Calm p s0 → Calm p s
+  calm_kept i j s e hp hn s0 e0 c = record { pending = ap (λ z. z.pending) e ∙ (hp ∙ (ap (λ z. z.pending) (sym e0) ∙ c.pending)); names = ap (λ z. z.names) e ∙ (hn ∙ (ap (λ z. z.names) (sym e0) ∙ c.names)) }
 
   -- with turns spent, and the host's part changed
   fit_after : (t u w : ℕ) (l : Locals) (σ : State) (m : ℕ) (sh : Shared) → Calm p sh → Fit p deepest ks F t u w l σ → Fit p deepest ks F t u w l (record σ { turns = m; shared = sh })
   fit_after t u w l σ m sh c ft = fit_shared p deepest ks F t u w l (record σ { turns = m }) sh c (fit_turns p deepest ks F t u w l σ m ft)
 
-  pub fit_answered : (a : Answer) (t u w : ℕ) (l : Locals) (σ : State) (m : ℕ) (j : Inner) (x : InAnswer a) → Keeps σ.shared.inner j → Fit p deepest ks F t u w l σ → Fit p deepest ks F t u w l (state_after p deepest ks F M a σ m (Ok (j, x)))
-  fit_answered a t u w l σ m j x h ft = fit_after t u w l σ m (shared_after σ.shared (settles {A = InAnswer a} σ.shared (Ok (j, x)))) (calm_kept σ.shared.inner j (shared_after σ.shared (settles {A = InAnswer a} σ.shared (Ok (j, x)))) refl h σ.shared refl ft.sound.calm) ft
+  pub fit_answered : (a : Answer) (t u w : ℕ) (l : Locals) (σ : State) (m : ℕ) (j : Inner) (x : InAnswer a) → j.pending ≡ σ.shared.inner.pending → j.names ≡ σ.shared.inner.names → Fit p deepest ks F t u w l σ → Fit p deepest ks F t u w l (state_after p deepest ks F M a σ m (Ok (j, x)))
+  fit_answered a t u w l σ m j x hp hn ft = fit_after t u w l σ m (shared_after σ.shared (settles {A = InAnswer a} σ.shared (Ok (j, x)))) (calm_kept σ.shared.inner j (shared_after σ.shared (settles {A = InAnswer a} σ.shared (Ok (j, x)))) refl hp hn σ.shared refl ft.sound.calm) ft
 
   pub fit_faulted : (a : Answer) (t u w : ℕ) (l : Locals) (σ : State) (m : ℕ) (g : Fault) → Fit p deepest ks F t u w l σ → Fit p deepest ks F t u w l (state_after p deepest ks F M a σ m (Err g))
   fit_faulted a t u w l σ m g ft = fit_after t u w l σ m (shared_after σ.shared (settles {A = InAnswer a} σ.shared (Err g))) (record { pending = ft.sound.calm.pending; names = ft.sound.calm.names }) ft
@@ -189,7 +189,7 @@ module _ (p : Program) (deepest : ℕ) (ks : List Kind) (F : List Frame) (b : Ba
         let τ = after_call m (Ok (j, x)) in
         let c = Bits (I64 (input_code x)) in
         let l1 = with_at l (NumberAt t) c in
-        let f0 = fit_answered answer.Input t u w l σ m j x h ft in
+        let f0 = fit_answered answer.Input t u w l σ m j x h.pending h.names ft in
         there mach M 9 9 _ _ x τ P Q (came_out a.asks.code (input_code x) t d k K l τ (codes_fit x).0 (codes_fit x).1 e lt (ft.numbers t)) (omega arith)
         (record {
           next = l1;

@@ -1,31 +1,30 @@
 -- Tests, and one of two steps.
 use Rattle.std.proofs.Common.{◌≡◌, ℕ, zero, suc, ◌+◌, ◌≤◌, Bool, true, false, List, [], ◌∷◌, None, refl, ◌∙◌, arith}
-use Rattle.std.specs.Prelude.{◌&&◌, nat_eq, cond, if◌then◌else◌}
+use Rattle.std.specs.Prelude.{nat_eq, cond, if◌then◌else◌}
 use Rattle.std.proofs.lemmas.Bool.{and_parts}
 use Rattle.awk_state.specs.Constants.{flag_number}
 use Rattle.wasm_types.specs.Syntax.{Instructions, Done as NoMore}
 use Rattle.wasm_store.specs.declared.word.Word.TheVariants.{I32}
-use Rattle.mid_program.specs.Mid.{Kind, Program, Code, Step, If, form_of}
-use Rattle.mid_program.specs.MidMeaning.{stepped, all_stepped, holds, mid_called, truth_in}
+use Rattle.mid_program.specs.Mid.{Kind, Program, Code, Step, form_of}
+use Rattle.mid_program.specs.MidMeaning.{holds, mid_called, truth_in}
 use Rattle.mid_program.specs.ScriptState.{State, Stop, Doing}
-use Rattle.mid_program.specs.Sorted.{There, calls_of, sorted, is_tested, test_sorted, step_sorted, steps_sorted}
+use Rattle.mid_program.specs.Sorted.{There, calls_of, sorted, is_tested, test_sorted, step_sorted}
 use Rattle.mid_program.specs.Statements.{Flow, Normal, Broke, Continued}
 use Rattle.value_machine.specs.Cells.{Cell, Bits}
 use Rattle.value_machine.specs.Emission.{tested}
 use Rattle.value_machine.specs.Machine.{Conf, Label, Frame, at, label}
 use Rattle.value_machine.specs.Places.{Bases, room, arrays_in, step_room, step_iterators, step_arrays}
-use Rattle.value_machine.specs.Small.{either, truth}
-use Rattle.value_machine.specs.Statements.{step_emitted, steps_emitted}
-use Rattle.value_machine.proofs.Runs.{goes_from, first, then_on, there, within, Onward, stays}
+use Rattle.value_machine.specs.Small.{truth}
+use Rattle.value_machine.specs.Statements.{step_emitted}
+use Rattle.value_machine.proofs.Runs.{goes_from, then_on, there, within, Onward, stays}
 use Rattle.value_machine.proofs.Locals.{Locals, laid}
 use Rattle.value_machine.proofs.Relation.{Away}
-use Rattle.value_machine.proofs.Pieces.{chooses, closes}
+use Rattle.value_machine.proofs.Pieces.{closes}
 use Rattle.value_machine.proofs.Answers.{machine, beside_state, Reached}
 use Rattle.value_machine.proofs.Simulation.{work_of, context, layout, meant, Done, ExprOk, room_one, still_stands}
 use Rattle.value_machine.proofs.Converting.{blocked}
 use Rattle.value_machine.proofs.Choosing.{truth_ok}
 use Rattle.value_machine.proofs.StatementForms.{step_work, step_meant, Starts, ready, starts_after, starts_among, StepDone, StepOk}
-use Rattle.value_machine.proofs.Tidy.{nop_ok}
 use Rattle.value_machine.proofs.Sequences.{done_before}
 
 module _ (p : Program) (deepest : ℕ) (ks : List Kind) (F : List Frame) (b : Bases) (M n : ℕ) where
@@ -83,7 +82,7 @@ module _ (p : Program) (deepest : ℕ) (ks : List Kind) (F : List Frame) (b : Ba
   }
 
   -- one of two, by a truth
-  one_way : (x : Bool) (w l : ℕ) (K : List Label) (L : List Cell) (A B : Instructions) (σ : State) (P : Flow → State → Conf → Type 0) (Q : Stop → State → Conf → Type 0) (m1 m2 : Doing Flow) →
+  pub one_way : (x : Bool) (w l : ℕ) (K : List Label) (L : List Cell) (A B : Instructions) (σ : State) (P : Flow → State → Conf → Type 0) (Q : Stop → State → Conf → Type 0) (m1 m2 : Doing Flow) →
       Reached p deepest ks F b M w l (at ks [] K L F A (beside_state p deepest ks F σ)) P Q (m1 σ) → Reached p deepest ks F b M w l (at ks [] K L F B (beside_state p deepest ks F σ)) P Q (m2 σ) →
       Reached p deepest ks F b M w l (at ks [] K L F (cond (nat_eq (flag_number x) 0) B A) (beside_state p deepest ks F σ)) P Q ((if x then m1 else m2) σ)
   one_way true w l K L A B σ P Q m1 m2 r1 r2 = r1
@@ -100,25 +99,3 @@ module _ (p : Program) (deepest : ℕ) (ks : List Kind) (F : List Frame) (b : Ba
       (blocked p deepest ks F b M (step_work x) σ.turns d k K _ (StepDone p deepest ks F b M n lo u (suc bk) (suc ct) NoMore K1 l1) (StepDone p deepest ks F b M n lo u bk ct k K l1) (step_meant p deepest ks F b M n x σ)
       (λ f τ c1 h. block_ends lo u bk ct k K l1 f τ c1 h)
       (ok r lo u (suc d) (suc bk) (suc ct) NoMore K1 l1 σ so rm it ar wk (starts_among p deepest ks F b M n u K K1 l1 σ refl s))))
-
-  pub if_step : (e : Code) (x y : Step) → ExprOk p deepest ks F b M n e → StepOk p deepest ks F b M n x → StepOk p deepest ks F b M n y → StepOk p deepest ks F b M n (If e x y)
-  unfolding step_emitted steps_emitted stepped all_stepped step_sorted steps_sorted
-  if_step e x y oke okx oky r lo u d bk ct k K l σ so rm it ar wk s =
-      let mach = machine p deepest ks F in
-      let ctx = context p deepest ks F b M n in
-      let lay = layout p deepest ks F b M n in
-      let Q = Away p deepest ks F b d K in
-      let P = StepDone p deepest ks F b M n lo u bk ct k K l in
-      let A = step_emitted lay x u (suc d) (suc bk) (suc ct) NoMore in
-      let B = step_emitted lay y u (suc d) (suc bk) (suc ct) NoMore in
-      let s1 = and_parts (test_sorted ctx e) (step_sorted ctx r lo x && step_sorted ctx r lo y) so in
-      let s2 = and_parts (step_sorted ctx r lo x) (step_sorted ctx r lo y) s1.1 in
-      let w2 = (step_work x + step_work y) + 1 in
-      first mach M 1 ((work_of e + 14) + (1 + w2)) (30 + (work_of e + (step_work x + step_work y))) σ.turns _ _ P Q _ (nop_ok p deepest ks F b M n u K l σ s) (omega arith)
-      (then_on mach M (work_of e + 14) (1 + w2) ((work_of e + 14) + (1 + w2)) σ.turns _ (TestDone (either A B k) K u l) P Q (test_meant e σ) _ (omega arith)
-      (test_ok e oke u d (either A B k) K l σ s1.0 (omega (arith, rm)) (omega (arith, ar)) s)
-      (λ t τ c1 le h.
-      first mach M 1 w2 (1 + w2) τ.turns c1 _ P Q _ (goes_from h.comes (chooses A B (flag_number t))) (omega arith)
-      (one_way t w2 τ.turns (label [] None k ∷ K) (laid b h.next) A B τ P Q (step_meant p deepest ks F b M n x) (step_meant p deepest ks F b M n y)
-      (inner_step x okx r lo u d bk ct w2 k K l h.next τ s2.0 (omega (arith, rm)) (omega (arith, it)) (omega (arith, ar)) (omega (arith, wk)) (omega arith) h.iterators h.starts)
-      (inner_step y oky r lo u d bk ct w2 k K l h.next τ s2.1 (omega (arith, rm)) (omega (arith, it)) (omega (arith, ar)) (omega (arith, wk)) (omega arith) h.iterators h.starts))))

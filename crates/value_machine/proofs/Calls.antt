@@ -9,7 +9,7 @@ use Rattle.mid_program.specs.Mid.{Kind}
 use Rattle.value_machine.specs.Cells.{Cell}
 use Rattle.value_machine.specs.Imports.{import_at, import_number, import_count}
 use Rattle.value_machine.specs.ImportCalls.{Host, call}
-use Rattle.value_machine.specs.Machine.{Code, Label, Frame, Store, at, guarded, all_live, with_answer, onto, width, ask as asked, enter}
+use Rattle.value_machine.specs.Machine.{Code, Label, Frame, Store, at, guarded, all_live, with_answer, assigning_after, onto, width, ask as asked, enter}
 use Rattle.value_machine.specs.Small.{ask}
 use Rattle.value_machine.specs.declared.import.Import.{Import}
 use Rattle.value_machine.specs.declared.import.Import.TheVariants.{Of, Over, Arg, Drop, IterFree, FreeArray}
@@ -49,17 +49,18 @@ import_low FreeArray = refl
 -- a call of any import, whose words lie on the stack, the last one on top
 pub called : {u : Code} {ks : List Kind} {K : List Label} {L : List Cell} {F : List Frame} {c : Instructions} → (i : Import) (words vs : List Cell) (G : Store) (a : Option Cell) (h : Host) →
     length words ≡ width i → all_live L F G.globals words ≡ true → call u.memory i words G.host ≡ Some (a, h) →
-    Goes u 1 (at ks (reverse words ++ vs) K L F (ask i c) G) (at ks (onto a vs) K L F c (record G { host = h }))
+    Goes u 1 (at ks (reverse words ++ vs) K L F (ask i c) G) (at ks (onto a vs) K L F c (record G { host = h; assigning = assigning_after i G }))
 called {u = u} {ks = ks} {K = K} {L = L} {F = F} {c = c} i words vs G a h n live e =
     let s = reverse words ++ vs in
     let m : length (reverse words) ≡ width i = length-reverse words ∙ n in
     let front : reverse (take (width i) s) ≡ words = ap reverse (take_at (reverse words) vs (width i) m) ∙ reverse-reverse words in
     let rest : drop (width i) s ≡ vs = drop_at (reverse words) vs (width i) m in
+    let Ga = record G { assigning = assigning_after i G } in
     record {
       it =
           ap (λ t. cond t (asked u.memory (import_at (import_number i)) ks s K L F c G) (enter u.deepest (slice_get u.callees (import_number i - import_count)) ks s K L F c G)) (import_low i)
           ∙ (ap (λ o. asked u.memory o ks s K L F c G) (import_found i)
-          ∙ (ap₂ (λ given under. guarded (all_live L F G.globals given) (with_answer (call u.memory i given G.host) ks under K L F c G)) front rest
-          ∙ (ap (λ t. guarded t (with_answer (call u.memory i words G.host) ks vs K L F c G)) live
-          ∙ ap (λ o. with_answer o ks vs K L F c G) e)));
+          ∙ (ap₂ (λ given under. guarded (all_live L F G.globals given) (with_answer (call u.memory i given G.host) ks under K L F c Ga)) front rest
+          ∙ (ap (λ t. guarded t (with_answer (call u.memory i words G.host) ks vs K L F c Ga)) live
+          ∙ ap (λ o. with_answer o ks vs K L F c Ga) e)));
     }

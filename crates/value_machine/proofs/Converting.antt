@@ -167,7 +167,7 @@ module _ (p : Program) (deepest : ℕ) (ks : List Kind) (F : List Frame) (b : Ba
   none_number : (v : Value) → v ≡ value.Uninit → number_of_row v ≡ Ok zero_number
   none_number v e = ap number_of_row e ∙ ap or_range (number_again zero_number)
 
-  own_number : (v : Value) (m : Number) → v ≡ value.Num m.number → number_of_row v ≡ Ok m
+  pub own_number : (v : Value) (m : Number) → v ≡ value.Num m.number → number_of_row v ≡ Ok m
   own_number v m e = ap number_of_row e ∙ ap or_range (number_again m)
 
   -- what an unboxed name has, as a number

@@ -13,8 +13,7 @@ use Rattle.mid_program.specs.Mid.{Kind, Program}
 use Rattle.mid_program.specs.Sorted.{kinds_of}
 use Rattle.mid_program.specs.ScriptState.{State}
 use Rattle.value_machine.specs.Cells.{Cell, Bits, Held, Gone, is_owned, cell_at}
-use Rattle.value_machine.specs.ImportCalls.{Host}
-use Rattle.value_machine.specs.Machine.{Look, Label, Frame, at, label, ask_looking, with_operands, push_word, looked_compared}
+use Rattle.value_machine.specs.Machine.{Look, Label, Frame, Store, at, label, ask_looking, with_operands, push_word, looked_compared}
 use Rattle.value_machine.specs.Places.{Bases}
 use Rattle.value_machine.specs.Small.{does, ask_row, copied, copied_if_any, when, minus_one, h}
 use Rattle.value_machine.specs.declared.import.Import.TheVariants.{Of}
@@ -22,7 +21,7 @@ use Rattle.value_machine.proofs.Runs.{Goes, then_goes, goes_to, by_steps}
 use Rattle.value_machine.proofs.Globals.{Global, global_of, IsGlobal, has_global, with_global_at, has_global_with, placed, placed_twice, placed_again}
 use Rattle.value_machine.proofs.Locals.{Locals, Place, Hand, local_of, IsPlace, has, with_at, has_with, laid, laid_at, laid_set, laid_twice, laid_again}
 use Rattle.value_machine.proofs.Steps.{empty, get_moved, get_copied, set_ok, tee_ok}
-use Rattle.value_machine.proofs.GlobalSteps.{storing, global_moved, global_copied, global_set_ok}
+use Rattle.value_machine.proofs.GlobalSteps.{storing, comes_back, global_moved, global_copied, global_set_ok}
 use Rattle.value_machine.proofs.Pieces.{chooses, closes}
 use Rattle.value_machine.proofs.State.{host_of, cells_of}
 use Rattle.value_machine.proofs.Conversions.{same_state}
@@ -62,9 +61,9 @@ module _ (p : Program) (deepest : ℕ) (ks : List Kind) (F : List Frame) (b : Ba
       (ap (λ w. ask_looking (Some (Of row.Dup)) w ks vs K L F c (storing gs (host_of σ None))) e
       ∙ ap (λ τ. at ks (Held v ∷ vs) K L F c (storing gs (host_of τ None))) (same_state σ v))
 
-  pub looked : {vs : List Cell} {K : List Label} {c : Instructions} → (x : ℕ) (L gs : List Cell) (v : Value) (o : Host) → cell_at L x ≡ Held v →
-      Goes (machine p deepest ks F) 1 (Look x ks vs K L F (does (I32Const minus_one) (does (Compare ty.I32 Ne) c)) (storing gs o)) (at ks (Bits (flag true) ∷ vs) K L F c (storing gs o))
-  looked {vs = vs} {K = K} {c = c} x L gs v o e = by_steps 1 (ap (λ w. with_operands (push_word vs (looked_compared Ne w minus_one)) ks K L F c (storing gs o)) e)
+  pub looked : {vs : List Cell} {K : List Label} {c : Instructions} → (x : ℕ) (L : List Cell) (G : Store) (v : Value) → cell_at L x ≡ Held v →
+      Goes (machine p deepest ks F) 1 (Look x ks vs K L F (does (I32Const minus_one) (does (Compare ty.I32 Ne) c)) G) (at ks (Bits (flag true) ∷ vs) K L F c G)
+  looked {vs = vs} {K = K} {c = c} x L G v e = by_steps 1 (ap (λ w. with_operands (push_word vs (looked_compared Ne w minus_one)) ks K L F c G) e)
 
   -- from a local
   pub copied_local : {K : List Label} {k : Instructions} → (l : Locals) (P : Place) (t : ℕ) (v : Value) (σ : State) → IsPlace b P → t < b.temporaries → local_of b P ≢ h b t → has l P ≡ Held v → is_owned (l.hand t) ≡ false →
@@ -89,7 +88,7 @@ module _ (p : Program) (deepest : ℕ) (ks : List Kind) (F : List Frame) (b : Ba
       then_goes (global_moved p.ranges nn g P (Held v) pp e)
       (then_goes (tee_ok b l (Hand t) (Held v) lt o)
       (then_goes (dup_ok (h b t) (laid b l1) (placed p.ranges nn g1) v σ (laid_at b l1 (Hand t) lt ∙ has_with l (Hand t) (Held v)))
-      (goes_to (global_set_ok p.ranges nn g1 P (Held v) pp (ap is_owned (has_global_with p.ranges nn g P Gone)))
+      (goes_to (global_set_ok p.ranges nn g1 P (Held v) pp (ap is_owned (has_global_with p.ranges nn g P Gone)) (comes_back p.ranges (kinds_of p.globals) None g P (Held v)))
       (ap (λ m. at ks [] K (laid b l1) F k (storing m (host_of σ None))) (placed_twice p.ranges nn g P Gone (Held v) pp ∙ placed_again p.ranges nn g P (Held v) pp e)))))
 
   -- The same where there may be no handle.
@@ -107,13 +106,13 @@ module _ (p : Program) (deepest : ℕ) (ks : List Kind) (F : List Frame) (b : Ba
       let k1 = copied (LocalGet (h b t)) (GlobalSet x) (h b t) Done in
       then_goes (global_moved p.ranges nn g P (Held v) pp e)
       (then_goes (tee_ok b l (Hand t) (Held v) lt o)
-      (then_goes (looked (h b t) (laid b l1) (placed p.ranges nn g1) v (host_of σ None) e1)
+      (then_goes (looked (h b t) (laid b l1) (storing (placed p.ranges nn g1) (host_of σ None)) v e1)
       (then_goes (chooses k1 Done 1)
       (then_goes (get_moved b l1 (Hand t) (Held v) lt (has_with l (Hand t) (Held v)))
       (then_goes (goes_to (tee_ok b l2 (Hand t) (Held v) lt (ap is_owned (has_with l1 (Hand t) Gone)))
       (ap (λ L. Look (h b t) ks [] (label [] None k ∷ K) L F (ask_row row.Dup (does (GlobalSet x) Done)) (storing (placed p.ranges nn g1) (host_of σ None))) (laid_twice b l1 (Hand t) Gone (Held v) lt ∙ laid_again b l1 (Hand t) (Held v) lt (has_with l (Hand t) (Held v)))))
       (then_goes (dup_ok (h b t) (laid b l1) (placed p.ranges nn g1) v σ e1)
-      (then_goes (goes_to (global_set_ok p.ranges nn g1 P (Held v) pp (ap is_owned (has_global_with p.ranges nn g P Gone)))
+      (then_goes (goes_to (global_set_ok p.ranges nn g1 P (Held v) pp (ap is_owned (has_global_with p.ranges nn g P Gone)) (comes_back p.ranges (kinds_of p.globals) None g P (Held v)))
       (ap (λ m. at ks [] (label [] None k ∷ K) (laid b l1) F Done (storing m (host_of σ None))) (placed_twice p.ranges nn g P Gone (Held v) pp ∙ placed_again p.ranges nn g P (Held v) pp e)))
       closes)))))))
 
@@ -140,7 +139,7 @@ module _ (p : Program) (deepest : ℕ) (ks : List Kind) (F : List Frame) (b : Ba
       let k1 = copied (LocalGet (h b t)) (LocalSet x) (h b t) Done in
       then_goes (get_moved b l P (Held v) pp e)
       (then_goes (tee_ok b l0 (Hand t) (Held v) lt (ap is_owned (other_still b l P (Hand t) Gone (Held v) pp lt ne) ∙ o))
-      (then_goes (looked (h b t) (laid b l1) gs v (host_of σ None) e1)
+      (then_goes (looked (h b t) (laid b l1) (storing gs (host_of σ None)) v e1)
       (then_goes (chooses k1 Done 1)
       (then_goes (get_moved b l1 (Hand t) (Held v) lt (has_with l0 (Hand t) (Held v)))
       (then_goes (goes_to (tee_ok b l2 (Hand t) (Held v) lt (ap is_owned (has_with l1 (Hand t) Gone)))

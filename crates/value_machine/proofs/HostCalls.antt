@@ -35,6 +35,7 @@ use Rattle.value_machine.proofs.Arguments.{under_same, RowDone, row_ok, push_ok,
 pub operation_takes : (q : Primitive) → is_operation q ≡ true → takes_row q ≡ true
 operation_takes row.Dup e = cc
 operation_takes row.IterNext e = cc
+operation_takes row.PendingName e = cc
 operation_takes _ e = refl
 
 pub operation_in_turn : (q : Primitive) (r : Row (arguments_of q)) (s : Shared) → is_operation q ≡ true → in_turn q r s ≡ true

@@ -56,7 +56,7 @@ use Rattle.value_machine.proofs.Simulation.{work_of, past, context, Done, ExprOk
 in_range : (z : ℤ) (e : nat_le (unsigned_abs z) (2 ^ 53) ≡ true) → outcome_of (Ok z) ≡ Ok (record { number = z; in_range = subst T (sym e) tt })
 in_range z e = ap or_range (number_again (record { number = z; in_range = subst T (sym e) tt }))
 
-checked_in : (z : ℤ) (e : nat_le (unsigned_abs z) (2 ^ 53) ≡ true) → outcome_of (checked z) ≡ Ok (record { number = z; in_range = subst T (sym e) tt })
+pub checked_in : (z : ℤ) (e : nat_le (unsigned_abs z) (2 ^ 53) ≡ true) → outcome_of (checked z) ≡ Ok (record { number = z; in_range = subst T (sym e) tt })
 checked_in z e = ap (λ t. outcome_of (if t then Ok z else Err Range)) e ∙ in_range z e
 
 checked_out : (z : ℤ) → nat_le (unsigned_abs z) (2 ^ 53) ≡ false → outcome_of (checked z) ≡ Err Range
@@ -68,7 +68,7 @@ flags_and true false = refl
 flags_and false true = refl
 flags_and false false = refl
 
-added_abs : (x y : ℤ) → unsigned_abs (x +ℤ y) ≤ unsigned_abs x + unsigned_abs y
+pub added_abs : (x y : ℤ) → unsigned_abs (x +ℤ y) ≤ unsigned_abs x + unsigned_abs y
 added_abs x y = grind (arith, ints)
 
 -- Quotients and remainders by what is not 0.

@@ -1,6 +1,6 @@
--- What rows of the main input, and assignments of the command line, leave: the names as they are; what is pending is of a scalar name, and a text of the input; they put nothing out.
-use Rattle.std.proofs.Common.{◌≡◌, ℕ, zero, suc, Bool, true, false, List, [], ◌∷◌, Some, None, Option, Result, Ok, Err, refl, ◌∙◌}
-use Rattle.std.specs.Prelude.{ℤ, ◌-◌, ◌+◌, ◌^◌, pos, is_some, length}
+-- What rows of the main input, and assignments of the command line, leave: the names as they are; what is pending is of a scalar name to which a word assigns, and a text of the input; they put nothing out.
+use Rattle.std.proofs.Common.{◌≡◌, ◌⊎◌, inl, inr, ℕ, zero, suc, Bool, true, false, List, [], ◌∷◌, Some, None, Option, Result, Ok, Err, refl, sym, ap, subst, ◌∙◌}
+use Rattle.std.specs.Prelude.{ℤ, ◌-◌, ◌+◌, ◌^◌, pos, decimal, get_or, is_some, length}
 use Rattle.awk_text.specs.Escapes.{unescaped}
 use Rattle.awk_values.specs.Operators.{sum}
 use Rattle.awk_values.specs.Values.{number_of_value, text_of_value}
@@ -10,7 +10,8 @@ use Rattle.awk_values.specs.declared.value.Value.{Value}
 use Rattle.awk_values.specs.declared.value.Value.TheVariants.{StrNum, Num, Text}
 use Rattle.world_core.specs.WorldState.{Outside, Source, Named}
 use Rattle.awk_state.specs.Constants.{specials}
-use Rattle.awk_state.specs.SharedState.{Inner, Shared, MainReader, Standard, File, Operands, NoFile, SomeFile, NoneLeft, ◌>>=◌, settles, special_of, with_special}
+use Rattle.awk_state.specs.SharedState.{Inner, Pairs, Shared, MainReader, Standard, File, Operands, NoFile, SomeFile, NoneLeft, ◌>>=◌, settles, special_of, with_special}
+use Rattle.awk_state.specs.ArrayRows.{element}
 use Rattle.awk_state.specs.Assignments.{assignment_of, assigned, assigned_by, assigned_global, made_here, declared, named, takes_none}
 use Rattle.awk_state.specs.FieldRows.{set_special, with_record}
 use Rattle.ere_syntax.specs.Tree.{Tree}
@@ -20,7 +21,7 @@ use Rattle.awk_state.specs.FirstMatch.{expression_of}
 use Rattle.awk_state.specs.TextRows.{substitute_row, substituted_by, replaced, places_of}
 use Rattle.awk_state.specs.OutputRows.{has_room}
 use Rattle.awk_state.specs.Records.{Got, Record, AtEnd, Broken}
-use Rattle.awk_state.specs.InputRows.{Main, Taken, Over, Pending, NotOpened, Failed, reader_source, leaves, stops_reading, begins_reading, with_operands, got_main, read_main, reader_of, opened, made, file_or_assignment, taken, operand_text, passes_operand, over, follows, is_below, reached, reach, reach_by, next_operand, go_on, main_input, next_record, got_file, read_file, opened_file, open_or_read, getline_line_file_row, source_of, reader_named, with_reader, counted_by, counted_record, as_record, as_line, next_of, next_main_row, getline_of, getline_by, getline_row, getline_line_row, start_by, start_from}
+use Rattle.awk_state.specs.InputRows.{Main, Taken, Over, Pending, NotOpened, Failed, reader_source, leaves, stops_reading, begins_reading, with_operands, got_main, read_main, reader_of, opened, made, file_or_assignment, taken, operand_text, text_or_none, passes_operand, over, follows, is_below, reached, reach, reach_by, next_operand, go_on, main_input, next_record, got_file, read_file, opened_file, open_or_read, getline_line_file_row, source_of, reader_named, with_reader, counted_by, counted_record, as_record, as_line, next_of, next_main_row, getline_of, getline_by, getline_row, getline_line_row, start_by, start_from}
 use Rattle.awk_state.specs.declared.answers.InputAnswer.{InputAnswer}
 use Rattle.awk_state.specs.declared.answers.InputAnswer.TheVariants as input
 use Rattle.awk_state.specs.declared.answers.AssignAnswer.{AssignAnswer}
@@ -29,7 +30,7 @@ use Rattle.awk_state.specs.declared.constants.NameKind.{NameKind}
 use Rattle.awk_state.specs.declared.constants.NameKind.TheVariants.{Scalar, ArrayOrFunction}
 use Rattle.awk_state.specs.declared.constants.Special.{Special}
 use Rattle.awk_state.specs.declared.constants.Special.TheVariants.{Nr, Fnr}
-use Rattle.value_machine.proofs.HostLaws.{Keeps, Good, special_good, keeps_same}
+use Rattle.value_machine.proofs.HostLaws.{Keeps, Still, Good, GoodBy, kept_by, special_good, keeps_same}
 use Rattle.value_machine.proofs.HostLaws
 
 -- an assignment that the script is to make
@@ -40,65 +41,86 @@ pub record IsPending (j : Inner) : Type 0 where
   pub told : declared 0 name j.names ≡ Some (number, Scalar)
   pub there : j.pending ≡ Some (number, StrNum text)
 
-abbrev pub AfterAssigned : Inner → Inner → Bool → Type 0
-AfterAssigned i j true = (j.names ≡ i.names) × IsPending j
-AfterAssigned i j false = Keeps i j
+-- an element of ARGV assigns to the name of this number
+abbrev pub IsNamed : Inner → ℕ → Type 0
+IsNamed i number = (n : ℕ) × (name : List ℕ) × (text : List ℕ) × (assignment_of (operand_text n i) ≡ Some (name, text)) × (declared 0 name i.names ≡ Some (number, Scalar))
+
+abbrev pub AfterAssigned : List ℕ → Inner → Inner → Bool → Type 0
+AfterAssigned name i j true = (j.names ≡ i.names) × (p : IsPending j) × (j.assigns ≡ i.assigns) × (declared 0 name i.names ≡ Some (p.number, Scalar))
+AfterAssigned name i j false = Still i j
 
 abbrev pub AfterMain : Inner → Inner → Main → Type 0
-AfterMain i j Pending = (j.names ≡ i.names) × IsPending j
-AfterMain i j _ = Keeps i j
+AfterMain i j Pending = (j.names ≡ i.names) × (p : IsPending j) × (j.assigns ≡ i.assigns) × IsNamed i p.number
+AfterMain i j _ = Still i j
 
 abbrev pub GoodMain : Inner → Result (Inner × Main) Fault → Type 0
 GoodMain i (Ok x) = AfterMain i x.0 x.1
 GoodMain i (Err f) = Unit {0}
 
-abbrev GoodAssigned : Inner → Result (Inner × Bool) Fault → Type 0
-GoodAssigned i (Ok x) = AfterAssigned i x.0 x.1
-GoodAssigned i (Err f) = Unit {0}
+abbrev GoodAssigned : List ℕ → Inner → Result (Inner × Bool) Fault → Type 0
+GoodAssigned name i (Ok x) = AfterAssigned name i x.0 x.1
+GoodAssigned name i (Err f) = Unit {0}
 
 keeps_then : (i j k : Inner) → Keeps i j → Keeps j k → Keeps i k
-keeps_then i j k a c = record { pending = c.pending ∙ a.pending; names = c.names ∙ a.names }
+keeps_then i j k a c = record { pending = c.pending ∙ a.pending; names = c.names ∙ a.names; assigns = c.assigns ∙ a.assigns }
 
-main_then : (i j k : Inner) (m : Main) → Keeps i j → AfterMain j k m → AfterMain i k m
-main_then i j k Pending a c = (c.0 ∙ a.names, c.1)
-main_then i j k (Taken t) a c = keeps_then i j k a c
-main_then i j k Over a c = keeps_then i j k a c
-main_then i j k NotOpened a c = keeps_then i j k a c
-main_then i j k Failed a c = keeps_then i j k a c
+still_then : (i j k : Inner) → Still i j → Still j k → Still i k
+still_then i j k a c = record { keeps = keeps_then i j k a.keeps c.keeps; arrays = c.arrays ∙ a.arrays }
 
-later : (i j : Inner) (r : Result (Inner × Main) Fault) → Keeps i j → GoodMain j r → GoodMain i r
+-- ARGV is what it was
+named_then : (i j : Inner) (number : ℕ) → Still i j → IsNamed j number → IsNamed i number
+named_then i j number a h = (
+  h.0,
+  h.1,
+  h.2,
+  ap (λ (arrays : List Pairs). assignment_of (text_or_none (element (decimal h.0) (get_or arrays 0 [])))) (sym a.arrays) ∙ h.3,
+  ap (declared 0 h.1) (sym a.keeps.names) ∙ h.4,
+)
+
+main_then : (i j k : Inner) (m : Main) → Still i j → AfterMain j k m → AfterMain i k m
+main_then i j k Pending a c = (c.0 ∙ a.keeps.names, c.1, c.2 ∙ a.keeps.assigns, named_then i j c.1.number a c.3)
+main_then i j k (Taken t) a c = still_then i j k a c
+main_then i j k Over a c = still_then i j k a c
+main_then i j k NotOpened a c = still_then i j k a c
+main_then i j k Failed a c = still_then i j k a c
+
+later : (i j : Inner) (r : Result (Inner × Main) Fault) → Still i j → GoodMain j r → GoodMain i r
 later i j (Ok x) a c = main_then i j x.0 x.1 a c
 later i j (Err f) a c = tt
 
-made_good : (i : Inner) (r : Result Inner Fault) → Good (λ j. j) i r → GoodAssigned i (made_here r)
-made_good i (Ok j) h = h
-made_good i (Err f) h = tt
+made_good : (name : List ℕ) (i : Inner) (r : Result Inner Fault) → GoodBy Still (λ j. j) i r → GoodAssigned name i (made_here r)
+made_good name i (Ok j) h = h
+made_good name i (Err f) h = tt
 
-global_good : (name text : List ℕ) (i : Inner) (o : Option (ℕ × NameKind)) → declared 0 name i.names ≡ o → GoodAssigned i (assigned_global o text i)
-global_good name text i None e = keeps_same i
-global_good name text i (Some (n, Scalar)) e = (refl, record { number = n; name = name; text = text; told = e; there = refl })
+still_same : (i : Inner) → Still i i
+still_same i = record { keeps = keeps_same i; arrays = refl }
+
+global_good : (name text : List ℕ) (i : Inner) (o : Option (ℕ × NameKind)) → declared 0 name i.names ≡ o → GoodAssigned name i (assigned_global o text i)
+global_good name text i None e = still_same i
+global_good name text i (Some (n, Scalar)) e = (refl, record { number = n; name = name; text = text; told = e; there = refl }, refl, e)
 global_good name text i (Some (n, ArrayOrFunction)) e = tt
 
-by_good : (o : Option Special) (name text : List ℕ) (i : Inner) → GoodAssigned i (assigned_by o name text i)
-by_good (Some s) name text i = made_good i (set_special s (StrNum text) i) (special_good s (StrNum text) i)
+by_good : (o : Option Special) (name text : List ℕ) (i : Inner) → GoodAssigned name i (assigned_by o name text i)
+by_good (Some s) name text i = made_good name i (set_special s (StrNum text) i) (special_good s (StrNum text) i)
 by_good None name text i = global_good name text i (declared 0 name i.names) refl
 
-pub assigned_good : (name text : List ℕ) (i : Inner) → GoodAssigned i (assigned name text i)
+pub assigned_good : (name text : List ℕ) (i : Inner) → GoodAssigned name i (assigned name text i)
 assigned_good name text i = by (takes_none name)
   where
-    by : (t : Bool) → GoodAssigned i (elim t [ true ↦ Err BadAssignment | false ↦ assigned_by (named name specials) name (unescaped text) i ])
+    by : (t : Bool) → GoodAssigned name i (elim t [ true ↦ Err BadAssignment | false ↦ assigned_by (named name specials) name (unescaped text) i ])
     by true = tt
     by false = by_good (named name specials) name (unescaped text) i
 
-leaves_keeps : (reader : MainReader) (left : Source) (i : Inner) → Keeps i (leaves reader left i)
-leaves_keeps Standard left i = record { pending = refl; names = refl }
-leaves_keeps (File s) left i = record { pending = refl; names = refl }
+-- the main input alone, or a special variable, is another
+leaves_keeps : (reader : MainReader) (left : Source) (i : Inner) → Still i (leaves reader left i)
+leaves_keeps Standard left i = record { keeps = record { pending = refl; names = refl; assigns = refl }; arrays = refl }
+leaves_keeps (File s) left i = record { keeps = record { pending = refl; names = refl; assigns = refl }; arrays = refl }
 
 -- where the rest of the input is good
 module _ (on : Inner → Result (Inner × Main) Fault) (good : (i : Inner) → GoodMain i (on i)) where
   got_good : (reader : MainReader) (i : Inner) (g : Got) (left : Source) → GoodMain i (got_main on reader i (g, left))
   got_good reader i (Record text) left = leaves_keeps reader left i
-  got_good reader i AtEnd left = let k = leaves_keeps reader left i in later i (stops_reading (leaves reader left i)) (on (stops_reading (leaves reader left i))) (record { pending = k.pending; names = k.names }) (good (stops_reading (leaves reader left i)))
+  got_good reader i AtEnd left = let k = leaves_keeps reader left i in later i (stops_reading (leaves reader left i)) (on (stops_reading (leaves reader left i))) (record { keeps = record { pending = k.keeps.pending; names = k.keeps.names; assigns = k.keeps.assigns }; arrays = k.arrays }) (good (stops_reading (leaves reader left i)))
   got_good reader i Broken left = leaves_keeps reader left i
 
   read_good : (reader : MainReader) (i : Inner) → GoodMain i (read_main on reader i)
@@ -109,29 +131,30 @@ module _ (on : Inner → Result (Inner × Main) Fault) (good : (i : Inner) → G
       by (Err f) = tt
 
   opened_good : (name : List ℕ) (r : Option MainReader) (i : Inner) → GoodMain i (opened on name r i)
-  opened_good name None i = keeps_same i
-  opened_good name (Some reader) i = later i (begins_reading name reader i) (read_main on reader (begins_reading name reader i)) (record { pending = refl; names = refl }) (read_good reader (begins_reading name reader i))
+  opened_good name None i = still_same i
+  opened_good name (Some reader) i = later i (begins_reading name reader i) (read_main on reader (begins_reading name reader i)) (record { keeps = record { pending = refl; names = refl; assigns = refl }; arrays = refl }) (read_good reader (begins_reading name reader i))
 
-  assigned_then : (i : Inner) (r : Result (Inner × Bool) Fault) → GoodAssigned i r → GoodMain i (r >>= λ x. made on x)
-  assigned_then i (Ok (j, true)) h = h
-  assigned_then i (Ok (j, false)) h = later i j (on j) h (good j)
-  assigned_then i (Err f) h = tt
+  -- the n-th operand is one
+  assigned_then : (n : ℕ) (name text : List ℕ) (i : Inner) → assignment_of (operand_text n i) ≡ Some (name, text) → (r : Result (Inner × Bool) Fault) → GoodAssigned name i r → GoodMain i (r >>= λ x. made on x)
+  assigned_then n name text i e (Ok (j, true)) h = (h.0, h.1, h.2, (n, name, text, e, h.3))
+  assigned_then n name text i e (Ok (j, false)) h = later i j (on j) h (good j)
+  assigned_then n name text i e (Err f) h = tt
 
-  operand_good : (o : Outside) (text : List ℕ) (a : Option (List ℕ × List ℕ)) (i : Inner) → GoodMain i (file_or_assignment on o text a i)
-  operand_good o text (Some pair) i = assigned_then i (assigned pair.0 pair.1 i) (assigned_good pair.0 pair.1 i)
-  operand_good o text None i = later i (with_operands SomeFile i) (opened on text (reader_of o text) (with_operands SomeFile i)) (record { pending = refl; names = refl }) (opened_good text (reader_of o text) (with_operands SomeFile i))
+  operand_good : (o : Outside) (n : ℕ) (text : List ℕ) (a : Option (List ℕ × List ℕ)) (i : Inner) → assignment_of (operand_text n i) ≡ a → GoodMain i (file_or_assignment on o text a i)
+  operand_good o n text (Some pair) i e = assigned_then n pair.0 pair.1 i e (assigned pair.0 pair.1 i) (assigned_good pair.0 pair.1 i)
+  operand_good o n text None i e = later i (with_operands SomeFile i) (opened on text (reader_of o text) (with_operands SomeFile i)) (record { keeps = record { pending = refl; names = refl; assigns = refl }; arrays = refl }) (opened_good text (reader_of o text) (with_operands SomeFile i))
 
-  taken_good : (o : Outside) (text : List ℕ) (i : Inner) → GoodMain i (taken on o text i)
-  taken_good o [] i = good i
-  taken_good o (c ∷ cs) i = operand_good o (c ∷ cs) (assignment_of (c ∷ cs)) i
+  taken_good : (o : Outside) (n : ℕ) (text : List ℕ) (i : Inner) → operand_text n i ≡ text → GoodMain i (taken on o text i)
+  taken_good o n [] i e = good i
+  taken_good o n (c ∷ cs) i e = operand_good o n (c ∷ cs) (assignment_of (c ∷ cs)) i (ap assignment_of e)
 
 over_good : (i : Inner) → GoodMain i (over i)
-over_good i = record { pending = refl; names = refl }
+over_good i = record { keeps = record { pending = refl; names = refl; assigns = refl }; arrays = refl }
 
 follows_good : (ops : Operands) (i : Inner) → GoodMain i (follows ops i)
 follows_good NoFile i =
     let j = begins_reading [] Standard (with_operands NoneLeft i) in
-    later i j (read_main over Standard j) (record { pending = refl; names = refl }) (read_good over over_good Standard j)
+    later i j (read_main over Standard j) (record { keeps = record { pending = refl; names = refl; assigns = refl }; arrays = refl }) (read_good over over_good Standard j)
 follows_good SomeFile i = over_good i
 follows_good NoneLeft i = over_good i
 
@@ -139,7 +162,7 @@ reached_good : (on : Inner → Result (Inner × Main) Fault) → ((i : Inner) �
 reached_good on good o i argc = by (is_below i.main.next argc)
   where
     by : (t : Bool) → GoodMain i (elim t [ true ↦ taken on o (operand_text i.main.next i) (passes_operand i) | false ↦ follows i.main.operands i ])
-    by true = later i (passes_operand i) (taken on o (operand_text i.main.next i) (passes_operand i)) (record { pending = refl; names = refl }) (taken_good on good o (operand_text i.main.next i) (passes_operand i))
+    by true = later i (passes_operand i) (taken on o (operand_text i.main.next i) (passes_operand i)) (record { keeps = record { pending = refl; names = refl; assigns = refl }; arrays = refl }) (taken_good on good o i.main.next (operand_text i.main.next i) (passes_operand i) refl)
     by false = follows_good i.main.operands i
 
 argc_good : (i : Inner) (go : ℤ → Result (Inner × Main) Fault) → ((z : ℤ) → GoodMain i (go z)) → (r : Result ℤ Fault) → GoodMain i (r >>= go)
@@ -156,7 +179,7 @@ next_good NoFile o i = reach_good (2 ^ 20 + 1 - i.main.next) o i
 next_good SomeFile o i = reach_good (2 ^ 20 + 1 - i.main.next) o i
 
 go_good : (t : Bool) (r : Option MainReader) (o : Outside) (i : Inner) → GoodMain i (go_on t r (next_operand o) i)
-go_good true r o i = keeps_same i
+go_good true r o i = still_same i
 go_good false None o i = next_good i.main.operands o i
 go_good false (Some reader) o i = read_good (next_operand o) (λ j. next_good j.main.operands o j) reader i
 
@@ -166,34 +189,46 @@ main_good o i = go_good i.main.ended i.main.reading o i
 
 -- The assignments before BEGIN.
 
-abbrev pub AfterStart : Inner → Inner → AssignAnswer → Type 0
-AfterStart i j assign.Pending = (j.names ≡ i.names) × IsPending j
-AfterStart i j assign.NoneLeft = Keeps i j
+-- the names of these assignments
+abbrev pub IsAmong : List (List ℕ × List ℕ) → List ℕ → Type 0
+IsAmong [] name = ⊥
+IsAmong (pair ∷ rest) name = (pair.0 ≡ name) ⊎ IsAmong rest name
 
-abbrev pub GoodStart : Inner → Result (Inner × AssignAnswer) Fault → Type 0
-GoodStart i (Ok x) = AfterStart i x.0 x.1
-GoodStart i (Err f) = Unit {0}
+-- one of these assigns to the name of this number
+abbrev pub IsNamedAmong : List (List ℕ × List ℕ) → Inner → ℕ → Type 0
+IsNamedAmong pairs i number = (name : List ℕ) × IsAmong pairs name × (declared 0 name i.names ≡ Some (number, Scalar))
 
-start_later : (i j : Inner) (r : Result (Inner × AssignAnswer) Fault) → Keeps i j → GoodStart j r → GoodStart i r
-start_later i j (Ok (k, assign.Pending)) a c = (c.0 ∙ a.names, c.1)
-start_later i j (Ok (k, assign.NoneLeft)) a c = keeps_then i j k a c
-start_later i j (Err f) a c = tt
+abbrev AreAmong : List (List ℕ × List ℕ) → List (List ℕ × List ℕ) → Type 0
+AreAmong pairs all = (name : List ℕ) → IsAmong pairs name → IsAmong all name
 
-start_then : (rest : List (List ℕ × List ℕ)) (i : Inner) → ((k : Inner) → GoodStart k (start_from rest k)) → (r : Result (Inner × Bool) Fault) → GoodAssigned i r → GoodStart i (r >>= λ x. start_by (start_from rest) x)
-start_then rest i good (Ok (k, true)) h = h
-start_then rest i good (Ok (k, false)) h = start_later i k (start_from rest k) h (good k)
-start_then rest i good (Err f) h = tt
+-- some of the assignments are left
+abbrev pub AfterStart : List (List ℕ × List ℕ) → Inner → Inner → AssignAnswer → Type 0
+AfterStart pairs i j assign.Pending = (j.names ≡ i.names) × (p : IsPending j) × AreAmong j.assigns pairs × IsNamedAmong pairs i p.number
+AfterStart pairs i j assign.NoneLeft = (j.pending ≡ i.pending) × (j.names ≡ i.names) × (j.assigns ≡ [])
 
-pub start_good : (pairs : List (List ℕ × List ℕ)) (i : Inner) → GoodStart i (start_from pairs i)
-start_good [] i = record { pending = refl; names = refl }
-start_good (pair ∷ rest) i =
-    let j = record i { assigns = rest } in
-    start_later i j (start_from (pair ∷ rest) i) (record { pending = refl; names = refl }) (start_then rest j (start_good rest) (assigned pair.0 pair.1 j) (assigned_good pair.0 pair.1 j))
+abbrev pub GoodStart : List (List ℕ × List ℕ) → Inner → Result (Inner × AssignAnswer) Fault → Type 0
+GoodStart pairs i (Ok x) = AfterStart pairs i x.0 x.1
+GoodStart pairs i (Err f) = Unit {0}
+
+-- behind the first of them, where the state has the same names, and as much is pending
+start_later : (pair : List ℕ × List ℕ) (rest : List (List ℕ × List ℕ)) (i j : Inner) (r : Result (Inner × AssignAnswer) Fault) → j.pending ≡ i.pending → j.names ≡ i.names → GoodStart rest j r → GoodStart (pair ∷ rest) i r
+start_later pair rest i j (Ok (k, assign.Pending)) a b c = (c.0 ∙ b, c.1, (λ name h. inr (c.2 name h)), (c.3.0, inr c.3.1, ap (declared 0 c.3.0) (sym b) ∙ c.3.2))
+start_later pair rest i j (Ok (k, assign.NoneLeft)) a b c = (c.0 ∙ a, c.1 ∙ b, c.2)
+start_later pair rest i j (Err f) a b c = tt
+
+start_then : (pair : List ℕ × List ℕ) (rest : List (List ℕ × List ℕ)) (i : Inner) → i.assigns ≡ rest → ((k : Inner) → GoodStart rest k (start_from rest k)) → (r : Result (Inner × Bool) Fault) → GoodAssigned pair.0 i r → GoodStart (pair ∷ rest) i (r >>= λ x. start_by (start_from rest) x)
+start_then pair rest i e good (Ok (k, true)) h = (h.0, h.1, (λ name q. inr (subst (λ ps. IsAmong ps name) (h.2 ∙ e) q)), (pair.0, inl refl, h.3))
+start_then pair rest i e good (Ok (k, false)) h = start_later pair rest i k (start_from rest k) h.keeps.pending h.keeps.names (good k)
+start_then pair rest i e good (Err f) h = tt
+
+pub start_good : (pairs : List (List ℕ × List ℕ)) (i : Inner) → GoodStart pairs i (start_from pairs i)
+start_good [] i = (refl, refl, refl)
+start_good (pair ∷ rest) i = let j = record i { assigns = rest } in start_then pair rest j refl (start_good rest) (assigned pair.0 pair.1 j) (assigned_good pair.0 pair.1 j)
 
 -- A record, or a line for a variable.
 
 abbrev pub AfterInput : Inner → Inner → InputAnswer → Type 0
-AfterInput i j input.Pending = (j.names ≡ i.names) × IsPending j
+AfterInput i j input.Pending = (j.names ≡ i.names) × (p : IsPending j) × (j.assigns ≡ i.assigns) × IsNamed i p.number
 AfterInput i j _ = Keeps i j
 
 abbrev pub GoodInput : Inner → Result (Inner × InputAnswer) Fault → Type 0
@@ -204,7 +239,7 @@ counted_good : (s : Special) (i j : Inner) → Keeps i j → Good (λ k. k) i (c
 counted_good s i j h = by (number_of_value (special_of j s))
   where
     on : (m : Result ℤ Fault) → Good (λ k. k) i (m >>= λ m. Ok (with_special s (Num m) j))
-    on (Ok m) = record { pending = h.pending; names = h.names }
+    on (Ok m) = record { pending = h.pending; names = h.names; assigns = h.assigns }
     on (Err f) = tt
 
     by : (r : Result ℤ Fault) → Good (λ k. k) i (r >>= λ n. sum n (pos 1) >>= λ m. Ok (with_special s (Num m) j))
@@ -224,11 +259,11 @@ module _ (keep : List ℕ → Inner → Result (Inner × InputAnswer) Fault) (go
   counted_kept i j text h (Err f) g = tt
 
   got_line : (i j : Inner) (m : Main) → AfterMain i j m → GoodInput i (getline_of keep (j, m))
-  got_line i j (Taken text) h = counted_kept i j text h (counted_record j) (record_good j)
-  got_line i j Over h = h
+  got_line i j (Taken text) h = counted_kept i j text h.keeps (counted_record j) (record_good j)
+  got_line i j Over h = h.keeps
   got_line i j Pending h = h
-  got_line i j NotOpened h = h
-  got_line i j Failed h = h
+  got_line i j NotOpened h = h.keeps
+  got_line i j Failed h = h.keeps
 
   got_main_line : (i : Inner) (r : Result (Inner × Main) Fault) → GoodMain i r → GoodInput i (r >>= λ x. getline_of keep x)
   got_main_line i (Ok x) h = got_line i x.0 x.1 h
@@ -239,14 +274,14 @@ module _ (keep : List ℕ → Inner → Result (Inner × InputAnswer) Fault) (go
   getline_good false o i = got_main_line i (main_input o i) (main_good o i)
 
 record_input : (text : List ℕ) (i j : Inner) → Keeps i j → GoodInput i (as_record text j)
-record_input text i j h = by (with_record text j) (HostLaws.record_good text j)
+record_input text i j h = by (with_record text j) (kept_by j (with_record text j) (HostLaws.record_good text j))
   where
     by : (r : Result Inner Fault) → Good (λ k. k) j r → GoodInput i (r >>= λ k. Ok (k, input.Read))
     by (Ok k) g = keeps_then i j k h g
     by (Err f) g = tt
 
 line_input : (text : List ℕ) (i j : Inner) → Keeps i j → GoodInput i (as_line text j)
-line_input text i j h = record { pending = h.pending; names = h.names }
+line_input text i j h = record { pending = h.pending; names = h.names; assigns = h.assigns }
 
 pub getline_row_good : (o : Outside) (i : Inner) → GoodInput i (getline_row o i)
 getline_row_good o i = getline_good as_record record_input i.in_end o i
@@ -255,8 +290,8 @@ pub getline_line_row_good : (o : Outside) (i : Inner) → GoodInput i (getline_l
 getline_line_row_good o i = getline_good as_line line_input i.in_end o i
 
 next_good_of : (i j : Inner) (m : Main) → AfterMain i j m → GoodInput i (next_of (j, m))
-next_good_of i j (Taken text) h = counted_kept as_record record_input i j text h (counted_record j) (record_good j)
-next_good_of i j Over h = h
+next_good_of i j (Taken text) h = counted_kept as_record record_input i j text h.keeps (counted_record j) (record_good j)
+next_good_of i j Over h = h.keeps
 next_good_of i j Pending h = h
 next_good_of i j NotOpened h = tt
 next_good_of i j Failed h = tt

@@ -68,7 +68,7 @@ module _ (p : Program) (deepest : ℕ) (ks : List Kind) (F : List Frame) (b : Ba
   -- the way is told, and the function is left
   leaves_by : {k : Instructions} {K : List Label} {L : List Cell} → (way d : ℕ) (σ : State) →
       Goes (machine p deepest ks F) 2 (at ks [] K L F (left_by way d k) (beside_state p deepest ks F σ)) (br d ks K L F (storing (placed p.ranges (length (kinds_of p.globals)) (cells_of (kinds_of p.globals) way σ)) (host_of σ None)))
-  leaves_by way d σ = then_goes (global_set_ok p.ranges (length (kinds_of p.globals)) (cells_of (kinds_of p.globals) 0 σ) Way (Bits (I32 way)) tt refl) (by_steps 1 refl)
+  leaves_by way d σ = then_goes (global_set_ok p.ranges (length (kinds_of p.globals)) (cells_of (kinds_of p.globals) 0 σ) Way (Bits (I32 way)) tt refl refl) (by_steps 1 refl)
 
   pub next_step : StepOk p deepest ks F b M n Next
   unfolding step_emitted steps_emitted stepped all_stepped step_sorted steps_sorted
@@ -88,7 +88,7 @@ module _ (p : Program) (deepest : ℕ) (ks : List Kind) (F : List Frame) (b : Ba
       (br d ks K (laid b l) F (gone p.ranges (kinds_of p.globals) Exited (with_status m σ)))
   exits_with d l m σ lt e =
       then_goes (get_copied b l (NumberAt zero) (Bits (I64 (number_word m))) lt e refl)
-      (then_goes (global_set_ok p.ranges (length (kinds_of p.globals)) (cells_of (kinds_of p.globals) 0 σ) Status (Bits (I64 (number_word m))) tt refl) (leaves_by way_exit d (with_status m σ)))
+      (then_goes (global_set_ok p.ranges (length (kinds_of p.globals)) (cells_of (kinds_of p.globals) 0 σ) Status (Bits (I64 (number_word m))) tt refl refl) (leaves_by way_exit d (with_status m σ)))
 
   pub exit_with_step : (e : Code) → ExprOk p deepest ks F b M n e → StepOk p deepest ks F b M n (ExitWith e)
   unfolding step_emitted steps_emitted stepped all_stepped step_sorted steps_sorted
@@ -169,7 +169,7 @@ module _ (p : Program) (deepest : ℕ) (ks : List Kind) (F : List Frame) (b : Ba
   mark_step i c r lo u d bk ct k K l σ so rm it ar wk s =
       there (machine p deepest ks F) M 2 2 _ _ Normal (with_range i c σ) (StepDone p deepest ks F b M n lo u bk ct k K l) (Away p deepest ks F b d K)
       (then_goes (nop_ok p deepest ks F b M n u K l σ s)
-      (goes_to (global_set_ok p.ranges (length (kinds_of p.globals)) (cells_of (kinds_of p.globals) 0 σ) (Range i) (Bits (I32 (flag_number c))) (ltb-true i p.ranges so) refl)
+      (goes_to (global_set_ok p.ranges (length (kinds_of p.globals)) (cells_of (kinds_of p.globals) 0 σ) (Range i) (Bits (I32 (flag_number c))) (ltb-true i p.ranges so) refl refl)
       (ap (λ m. at ks [] K (laid b l) F k (storing m (host_of σ None))) (range_written i c σ)))) (omega arith)
       (record {
         next = l;

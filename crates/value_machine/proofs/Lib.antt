@@ -31,10 +31,15 @@ pub mod InputLaws
 pub mod Setting
 pub mod Written
 pub mod StatementForms
+pub mod Quick
 pub mod Tidy
 pub mod Sequences
 pub mod Branches
 pub mod Walks
+pub mod QuickNames
+pub mod QuickSteps
+pub mod QuickIfs
+pub mod Jumping
 pub mod Loops
 pub mod Keys
 pub mod Jumps

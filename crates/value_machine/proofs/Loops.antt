@@ -1,22 +1,23 @@
 -- Loops with a test. A turn is a test, which is paid; then the body, and what stands between the body and the next test.
-use Rattle.std.proofs.Common.{◌≡◌, ℕ, zero, suc, ◌+◌, ◌≤◌, Bool, true, false, List, [], ◌∷◌, Some, None, refl, sym, ap, ◌∙◌, arith}
-use Rattle.std.specs.Prelude.{◌&&◌, cond, if◌then◌else◌}
+use Rattle.std.proofs.Common.{◌≡◌, ℕ, zero, suc, ◌+◌, ◌^◌, ◌≤◌, Bool, true, false, List, [], ◌∷◌, Some, None, Option, refl, sym, ap, ◌∙◌, subst, arith}
+use Rattle.std.specs.Prelude.{◌&&◌, cond, if◌then◌else◌, pos}
 use Rattle.std.proofs.lemmas.Bool.{and_parts}
 use Rattle.wasm_types.specs.Syntax.{Instructions, Done as NoMore}
 use Rattle.wasm_types.specs.declared.types.ValType.TheVariants.{I32}
 use Rattle.wasm_types.specs.declared.instr.Simple.TheVariants.{Nop, Br, BrIf, Test}
 use Rattle.wasm_types.specs.declared.instr.ITestOp.TheVariants.{Eqz}
-use Rattle.mid_program.specs.Mid.{Kind, Program, Code, Step, Loop}
+use Rattle.mid_program.specs.Mid.{Kind, Program, Code, Step, Block, Loop, NoStep}
 use Rattle.mid_program.specs.MidMeaning.{stepped, all_stepped}
 use Rattle.mid_program.specs.ScriptRun.{GoesOn}
 use Rattle.mid_program.specs.ScriptState.{State, Stop, Outcome, Doing, ◌>>◌, nothing, give, go_on}
 use Rattle.mid_program.specs.Sorted.{test_sorted, step_sorted, steps_sorted}
 use Rattle.mid_program.specs.Statements.{Flow, Normal, Broke, Continued, after_round, loop}
 use Rattle.value_machine.specs.Emission.{tested}
+use Rattle.value_machine.specs.Quick.{Within, test_within, Pair, pair_in, pair_names, all_unsure, step_jumps, is_nothing}
 use Rattle.value_machine.specs.Machine.{Conf, Label, Frame, at, label, ending_at, is_walk, loops_walked}
 use Rattle.value_machine.specs.Places.{Bases, step_room, step_iterators, step_arrays}
 use Rattle.value_machine.specs.Small.{does}
-use Rattle.value_machine.specs.Statements.{block, again, step_emitted, steps_emitted}
+use Rattle.value_machine.specs.Statements.{block, again, left_unless, left_unless_pair, name_read, step_emitted, steps_emitted}
 use Rattle.value_machine.proofs.Runs.{Goes, goes_from, then_goes, by_steps, stays, first, then_on, then_step, there, turned, weaker, Onward}
 use Rattle.value_machine.proofs.Locals.{Locals, laid}
 use Rattle.value_machine.proofs.Relation.{Away, away_out, fit_turns}
@@ -27,6 +28,8 @@ use Rattle.value_machine.proofs.StatementForms.{step_work, flows_on, step_meant,
 use Rattle.value_machine.proofs.Tidy.{nop_ok}
 use Rattle.value_machine.proofs.Branches.{TestDone, test_meant, test_ok}
 use Rattle.value_machine.proofs.Walks.{test_walks}
+use Rattle.value_machine.proofs.QuickSteps.{Left, left_unless_ok}
+use Rattle.value_machine.proofs.Jumping.{sorted_anyway}
 
 -- Where the machine is after a test, after a body, and after a loop.
 
@@ -189,39 +192,78 @@ module _ (p : Program) (deepest : ℕ) (ks : List Kind) (F : List Frame) (b : Ba
       by Broke σ c1 h = absurd h
       by Continued σ c1 h = absurd h
 
-  -- A loop that begins with its test.
+  -- A loop that begins with its test. Its body has a block where it may be left by `break` or `continue`.
   module _ (e : Code) (x y : Step) (u d : ℕ) (k : Instructions) (K : List Label) (l : Locals) where
+    abbrev back : Instructions
+    back = does (Br zero) NoMore
+
     abbrev first_rest : Instructions
-    first_rest = step_emitted (layout p deepest ks F b M n) y u (suc (suc d)) 1 zero (does (Br zero) NoMore)
+    first_rest = if is_nothing y then back else step_emitted (layout p deepest ks F b M n) y u (suc (suc d)) 1 zero back
+
+    abbrev body_code : Bool → Instructions
+    body_code j = if j then block (step_emitted (layout p deepest ks F b M n) x u (suc (suc (suc d))) 2 zero NoMore) first_rest else step_emitted (layout p deepest ks F b M n) x u (suc (suc d)) 1 zero first_rest
 
     abbrev first_body : Instructions
-    first_body = block (step_emitted (layout p deepest ks F b M n) x u (suc (suc (suc d))) 2 zero NoMore) first_rest
-
-    abbrev first_test : Instructions
-    first_test = does (Test I32 Eqz) (does (BrIf 1) first_body)
+    first_body = body_code (step_jumps x)
 
     abbrev first_round : Instructions
-    first_round = tested (layout p deepest ks F b M n) [] [] e zero zero (suc (suc d)) first_test
+    first_round = left_unless (layout p deepest ks F b M n) (test_within e) e (suc (suc d)) 1 first_body
 
     first_plain : is_walk (Some first_round) ≡ false
-    first_plain = test_walks (layout p deepest ks F b M n) e (suc (suc d)) first_test
+    first_plain = by (test_within e)
+      where
+        names : (is : List ℕ) (k1 : Instructions) → is_walk (Some (all_unsure (name_read (layout p deepest ks F b M n)) is (pos (2 ^ 53)) (2 ^ 54) k1)) ≡ false
+        names [] k1 = refl
+        names (i ∷ is) k1 = refl
 
-    first_chosen : (l1 : Locals) (t : Bool) (σ : State) (c : Conf) → ((z : ℕ) → l1.iterator z ≡ l.iterator z) → TestDone p deepest ks F b M n first_test (loop_labels first_round k K) u l1 t σ c →
-        Onward (machine p deepest ks F) M 2 (after_test (Here p deepest ks F b M n first_body (loop_labels first_round k K) u l) (Here p deepest ks F b M n k K u l) t σ) c
-    first_chosen l1 true σ c same h = record {
-      conf = at ks [] (loop_labels first_round k K) (laid b h.next) F first_body (beside_state p deepest ks F σ);
-      steps = 2;
-      few = omega arith;
-      goes = goes_from h.comes (by_steps 2 refl);
-      holds = record { next = h.next; comes = refl; starts = h.starts; iterators = λ z. h.iterators z ∙ same z };
-    }
-    first_chosen l1 false σ c same h = record {
-      conf = at ks [] K (laid b h.next) F k (beside_state p deepest ks F σ);
-      steps = 2;
-      few = omega arith;
-      goes = goes_from h.comes (by_steps 2 refl);
-      holds = record { next = h.next; comes = refl; starts = leaves u d k K l first_round first_plain h.next σ h.starts; iterators = λ z. h.iterators z ∙ same z };
-    }
+        pair : (o : Option Pair) → is_walk (Some (left_unless_pair (layout p deepest ks F b M n) o e (suc (suc d)) 1 first_body)) ≡ false
+        pair None = test_walks (layout p deepest ks F b M n) e (suc (suc d)) (does (Test I32 Eqz) (does (BrIf 1) first_body))
+        pair (Some q) = names (pair_names q) _
+
+        by : (o : Option Within) → is_walk (Some (left_unless (layout p deepest ks F b M n) o e (suc (suc d)) 1 first_body)) ≡ false
+        by None = pair (pair_in e)
+        by (Some q) = refl
+
+    first_chosen : (l1 : Locals) (t : Bool) (σ : State) (c : Conf) → ((z : ℕ) → l1.iterator z ≡ l.iterator z) → Left p deepest ks F b M n 1 first_body (loop_labels first_round k K) u l1 t σ c →
+        after_test (Here p deepest ks F b M n first_body (loop_labels first_round k K) u l) (Here p deepest ks F b M n k K u l) t σ c
+    first_chosen l1 true σ c same h = record { next = h.next; comes = h.comes; starts = h.starts; iterators = λ z. h.iterators z ∙ same z }
+    first_chosen l1 false σ c same h = record { next = h.next; comes = h.comes; starts = leaves u d k K l first_round first_plain h.next σ h.starts; iterators = λ z. h.iterators z ∙ same z }
+
+    -- a body that is left in no other way than at its end
+    plain_body : (okx : StepOk p deepest ks F b M n x) (r : Bool) (σ : State) (c : Conf) → step_jumps x ≡ false →
+        step_sorted (context p deepest ks F b M n) r true x ≡ true → step_room x ≤ b.temporaries → u + step_iterators x ≤ b.iterators → step_arrays x ≤ b.arrays → step_work x ≤ M →
+        Here p deepest ks F b M n (step_emitted (layout p deepest ks F b M n) x u (suc (suc d)) 1 zero first_rest) (loop_labels first_round k K) u l σ c →
+        Reached p deepest ks F b M (step_work x + 2) σ.turns c (after_body (Here p deepest ks F b M n first_rest (loop_labels first_round k K) u l) (Here p deepest ks F b M n k K u l)) (Away p deepest ks F b d K) (step_meant p deepest ks F b M n x σ)
+    plain_body okx r σ c nj so rm it ar wk h =
+        let mach = machine p deepest ks F in
+        let Kl = loop_labels first_round k K in
+        let D = StepDone p deepest ks F b M n false u 1 zero first_rest Kl h.next in
+        let P = after_body (Here p deepest ks F b M n first_rest Kl u l) (Here p deepest ks F b M n k K u l) in
+        first mach M 0 (step_work x) (step_work x + 2) σ.turns c _ P (Away p deepest ks F b d K) (step_meant p deepest ks F b M n x σ) (record { it = h.comes }) (omega arith)
+        (weaker mach M (step_work x) σ.turns _ D P (Away p deepest ks F b (suc (suc d)) Kl) (Away p deepest ks F b d K) (step_meant p deepest ks F b M n x σ)
+        (λ f τ c1 q. only f τ c1 q) (λ why τ c1 q. away_loop d first_round k K why τ c1 q)
+        (okx r false u (suc (suc d)) 1 zero first_rest Kl h.next σ (sorted_anyway (context p deepest ks F b M n) r x so nj) rm it ar wk h.starts))
+      where
+        only : (f : Flow) (τ : State) (c1 : Conf) → StepDone p deepest ks F b M n false u 1 zero first_rest (loop_labels first_round k K) h.next f τ c1 → after_body (Here p deepest ks F b M n first_rest (loop_labels first_round k K) u l) (Here p deepest ks F b M n k K u l) f τ c1
+        only Normal τ c1 q = record { next = q.next; comes = q.comes; starts = q.starts; iterators = λ z. q.iterators z ∙ h.iterators z }
+        only Broke τ c1 q = absurd q.flows
+        only Continued τ c1 q = absurd q.flows
+
+    first_bodies : (okx : StepOk p deepest ks F b M n x) (r : Bool) (σ : State) (c : Conf) →
+        step_sorted (context p deepest ks F b M n) r true x ≡ true → step_room x ≤ b.temporaries → u + step_iterators x ≤ b.iterators → step_arrays x ≤ b.arrays → step_work x ≤ M →
+        Here p deepest ks F b M n first_body (loop_labels first_round k K) u l σ c →
+        Reached p deepest ks F b M (step_work x + 2) σ.turns c (after_body (Here p deepest ks F b M n first_rest (loop_labels first_round k K) u l) (Here p deepest ks F b M n k K u l)) (Away p deepest ks F b d K) (step_meant p deepest ks F b M n x σ)
+    first_bodies okx r σ c so rm it ar wk h = by (step_jumps x) refl h
+      where
+        by : (j : Bool) → step_jumps x ≡ j → Here p deepest ks F b M n (body_code j) (loop_labels first_round k K) u l σ c →
+            Reached p deepest ks F b M (step_work x + 2) σ.turns c (after_body (Here p deepest ks F b M n first_rest (loop_labels first_round k K) u l) (Here p deepest ks F b M n k K u l)) (Away p deepest ks F b d K) (step_meant p deepest ks F b M n x σ)
+        by true e1 h1 = body_ok u d k K l first_round first_plain x okx r first_rest σ c so rm it ar wk h1
+        by false e1 h1 = plain_body okx r σ c e1 so rm it ar wk h1
+
+  nothing_meant : (y : Step) → is_nothing y ≡ true → (σ : State) → (step_meant p deepest ks F b M n y >> nothing) σ ≡ nothing σ
+  unfolding stepped all_stepped
+  nothing_meant (Block NoStep) e σ = refl
+  nothing_meant y e σ = cc
 
   pub loop_first : (e : Code) (x y : Step) → ExprOk p deepest ks F b M n e → StepOk p deepest ks F b M n x → StepOk p deepest ks F b M n y → StepOk p deepest ks F b M n (Loop true e x y)
   unfolding step_emitted steps_emitted stepped all_stepped step_sorted steps_sorted
@@ -239,25 +281,23 @@ module _ (p : Program) (deepest : ℕ) (ks : List Kind) (F : List Frame) (b : Ba
       let Body = Here p deepest ks F b M n (first_body e x y u d k K l) Kl u l in
       let Between = Here p deepest ks F b M n (first_rest e x y u d k K l) Kl u l in
       let s3 = enters u d k K l round plain l σ s in
-      first mach M 2 0 (40 + (work_of e + (step_work x + step_work y))) σ.turns _ (at ks [] (label [] None k ∷ K) (laid b l) F (again round NoMore) (beside_state p deepest ks F σ)) (StepDone p deepest ks F b M n lo u bk ct k K l) Q _
-      (then_goes (nop_ok p deepest ks F b M n u K l σ s) (by_steps 1 refl)) (omega arith)
-      (loop_done lo u bk ct 0 σ.turns k K l _ Q _
-      (rounds_ok Q Tests Body Between End (work_of e + 16) (step_work x + 2) (step_work y) (test_meant p deepest ks F b M n e) (step_meant p deepest ks F b M n x) (step_meant p deepest ks F b M n y >> nothing) (omega (arith, wk))
-      (λ τ c h.
-      first mach M 0 (work_of e + 16) (work_of e + 16) τ.turns c _ (after_test Body End) Q _ (record { it = h.comes }) (omega arith)
-      (then_step mach M 2 (work_of e + 14) (work_of e + 16) τ.turns _ (TestDone p deepest ks F b M n (first_test e x y u d k K l) Kl u h.next) (after_test Body End) Q (test_meant p deepest ks F b M n e τ) (omega arith)
-      (λ t τ1 c1 q. first_chosen e x y u d k K l h.next t τ1 c1 h.iterators q)
-      (weaker mach M (work_of e + 14) τ.turns _ (TestDone p deepest ks F b M n (first_test e x y u d k K l) Kl u h.next) (TestDone p deepest ks F b M n (first_test e x y u d k K l) Kl u h.next) (Away p deepest ks F b (suc (suc d)) Kl) Q (test_meant p deepest ks F b M n e τ)
-      (λ t τ1 c1 q. q) (λ why τ1 c1 q. away_loop d round k K why τ1 c1 q)
-      (test_ok p deepest ks F b M n e oke u (suc (suc d)) (first_test e x y u d k K l) Kl h.next τ s1.0 (omega (arith, rm)) (omega (arith, ar)) h.starts))))
-      (λ τ c h. body_ok u d k K l round plain x okx r (first_rest e x y u d k K l) τ c s2.0 (omega (arith, rm)) (omega (arith, it)) (omega (arith, ar)) (omega (arith, wk)) h)
-      (λ τ c h. between_ok u d k K l round plain y oky r (does (Br zero) NoMore) τ c (Turn Tests) s2.1 (omega (arith, rm)) (omega (arith, it)) (omega (arith, ar)) (omega (arith, wk))
-      (λ τ1 c1 q. record {
+      let turn : (τ1 : State) (c1 : Conf) → Here p deepest ks F b M n (does (Br zero) NoMore) Kl u l τ1 c1 → Turn Tests τ1 c1 = λ τ1 c1 q. record {
         conf = at ks [] Kl (laid b q.next) F round (beside_state p deepest ks F τ1);
         goes = goes_from q.comes (by_steps 1 refl);
         shows = ap ending_at q.comes;
         tests = λ m eq. at_spent u d k K l round plain round τ1 q.next m q.starts q.iterators eq;
-      }) h)
+      } in
+      first mach M 2 0 (40 + (work_of e + (step_work x + step_work y))) σ.turns _ (at ks [] (label [] None k ∷ K) (laid b l) F (again round NoMore) (beside_state p deepest ks F σ)) (StepDone p deepest ks F b M n lo u bk ct k K l) Q _
+      (then_goes (nop_ok p deepest ks F b M n u K l σ s) (by_steps 1 refl)) (omega arith)
+      (loop_done lo u bk ct 0 σ.turns k K l _ Q _
+      (rounds_ok Q Tests Body Between End (work_of e + 24) (step_work x + 2) (step_work y) (test_meant p deepest ks F b M n e) (step_meant p deepest ks F b M n x) (step_meant p deepest ks F b M n y >> nothing) (omega (arith, wk))
+      (λ τ c h.
+      first mach M 0 (work_of e + 24) (work_of e + 24) τ.turns c _ (after_test Body End) Q _ (record { it = h.comes }) (omega arith)
+      (weaker mach M (work_of e + 24) τ.turns _ (Left p deepest ks F b M n 1 (first_body e x y u d k K l) Kl u h.next) (after_test Body End) (Away p deepest ks F b (suc (suc d)) Kl) Q (test_meant p deepest ks F b M n e τ)
+      (λ t τ1 c1 q. first_chosen e x y u d k K l h.next t τ1 c1 h.iterators q) (λ why τ1 c1 q. away_loop d round k K why τ1 c1 q)
+      (left_unless_ok p deepest ks F b M n e oke u (suc (suc d)) 1 (first_body e x y u d k K l) Kl h.next τ s1.0 (omega (arith, rm)) (omega (arith, ar)) h.starts)))
+      (λ τ c h. first_bodies e x y u d k K l okx r τ c s2.0 (omega (arith, rm)) (omega (arith, it)) (omega (arith, ar)) (omega (arith, wk)) h)
+      (λ τ c h. between_or_not u d k K l round plain y oky r (does (Br zero) NoMore) τ c (Turn Tests) s2.1 (omega (arith, rm)) (omega (arith, it)) (omega (arith, ar)) (omega (arith, wk)) turn h)
       n σ _ s.turns
       (record {
         conf = at ks [] Kl (laid b l) F round (beside_state p deepest ks F σ);
@@ -265,6 +305,19 @@ module _ (p : Program) (deepest : ℕ) (ks : List Kind) (F : List Frame) (b : Ba
         shows = refl;
         tests = λ m eq. at_spent u d k K l round plain round σ l m s3 (λ z. refl) eq;
       })))
+    where
+      between_or_not : (u d : ℕ) (k : Instructions) (K : List Label) (l : Locals) (round : Instructions) (plain : is_walk (Some round) ≡ false) (y : Step) → StepOk p deepest ks F b M n y → (r : Bool) (cs : Instructions) (σ : State) (c : Conf) (P : State → Conf → Type 0) →
+          step_sorted (context p deepest ks F b M n) r false y ≡ true → step_room y ≤ b.temporaries → u + step_iterators y ≤ b.iterators → step_arrays y ≤ b.arrays → step_work y ≤ M → ((τ : State) (c1 : Conf) → Here p deepest ks F b M n cs (loop_labels round k K) u l τ c1 → P τ c1) →
+          Here p deepest ks F b M n (if is_nothing y then cs else step_emitted (layout p deepest ks F b M n) y u (suc (suc d)) 1 zero cs) (loop_labels round k K) u l σ c →
+          Reached p deepest ks F b M (step_work y) σ.turns c (λ x. P) (Away p deepest ks F b d K) ((step_meant p deepest ks F b M n y >> nothing) σ)
+      between_or_not u d k K l round plain y oky r cs σ c P so rm it ar wk goal h = by (is_nothing y) refl h
+        where
+          by : (j : Bool) → is_nothing y ≡ j → Here p deepest ks F b M n (if j then cs else step_emitted (layout p deepest ks F b M n) y u (suc (suc d)) 1 zero cs) (loop_labels round k K) u l σ c →
+              Reached p deepest ks F b M (step_work y) σ.turns c (λ x. P) (Away p deepest ks F b d K) ((step_meant p deepest ks F b M n y >> nothing) σ)
+          by true e1 h1 =
+              subst (λ o. Reached p deepest ks F b M (step_work y) σ.turns c (λ x. P) (Away p deepest ks F b d K) o) (sym (nothing_meant y e1 σ))
+              (there (machine p deepest ks F) M (step_work y) 0 c c (tt {0}) σ (λ x. P) (Away p deepest ks F b d K) stays (omega arith) (goal σ c h1))
+          by false e1 h1 = between_ok u d k K l round plain y oky r cs σ c P so rm it ar wk goal h1
 
   -- A loop whose first round goes without the test.
   module _ (e : Code) (x y : Step) (u d : ℕ) (k : Instructions) (K : List Label) (l : Locals) where

@@ -162,7 +162,7 @@ module _ (p : Program) (deepest : ℕ) (b : Bases) (M n : ℕ) (none : zero ≡ 
         let τ = after_call m (Ok (j, x)) in
         let most = st.turns in
         subst (λ (l2 : Locals). Starts p deepest [] [] b M n 0 K l2 τ) (sym e)
-        (starts_of K (with_at l (NumberAt 0) c) τ st.loops (omega (arith, le, most)) (fit_number p deepest [] [] 0 0 0 0 l τ c refl (fit_answered p deepest [] [] b M n answer.Input 0 0 0 l σ m j x h st.fit)))
+        (starts_of K (with_at l (NumberAt 0) c) τ st.loops (omega (arith, le, most)) (fit_number p deepest [] [] 0 0 0 0 l τ c refl (fit_answered p deepest [] [] b M n answer.Input 0 0 0 l σ m j x h.pending h.names st.fit)))
 
     answered : (m : ℕ) (r : Result (Inner × InputAnswer) Fault) → m ≤ σ.turns → GoodInput σ.shared.inner r →
         Arrives mach M 5 m (after_reply_of r) (Answered p deepest b M n Pending k K) (Away p deepest [] [] b d K) (go_on (settled (settles σ.shared r).answer (after_call m r)) give)

@@ -99,7 +99,7 @@ module _ (p : Program) (deepest : ℕ) (b : Bases) (M n : ℕ) where
         next = cleaned a.next;
         steps = 1 + a.steps;
         few = let q = a.few in omega (arith, q);
-        goes = then_goes (global_set_ok p.ranges (length (kinds_of p.globals)) (cells_of (kinds_of p.globals) way σ) Way (Bits (word.I32 0)) tt refl)
+        goes = then_goes (global_set_ok p.ranges (length (kinds_of p.globals)) (cells_of (kinds_of p.globals) way σ) Way (Bits (word.I32 0)) tt refl refl)
             (goes_to a.goes (ap (λ L. at [] [] K L [] k G) (laid_cleaned b a.next a.hands a.iterators a.arrays)));
         starts = record {
           fit = record {

@@ -21,7 +21,7 @@ use Rattle.mid_program.specs.ScriptState.{State, Gives, go_on, change, does as d
 use Rattle.mid_program.specs.Sorted.{has_kind, same_kind, scalar_kind, kinds_of}
 use Rattle.value_machine.specs.Cells.{Bits, Held, Gone, is_owned}
 use Rattle.value_machine.specs.Emission.{assigned, assigned_by_number, pending_assigned}
-use Rattle.value_machine.specs.Machine.{Label, Frame, at, label}
+use Rattle.value_machine.specs.Machine.{Label, Frame, at, label, number_pending}
 use Rattle.value_machine.specs.Places.{Bases}
 use Rattle.value_machine.specs.Small.{does, ask_row, when, text_beside, moved_out, h}
 use Rattle.value_machine.specs.Small
@@ -30,11 +30,11 @@ use Rattle.value_machine.proofs.Regions.{upd_same, upd_other}
 use Rattle.value_machine.proofs.Locals.{Locals, Hand, Number as NumberAt, with_at, laid}
 use Rattle.value_machine.proofs.Globals.{Hand as NameHand, Number as NameNumber, global_of, with_global_at, has_global_with, placed_twice}
 use Rattle.value_machine.proofs.Steps.{empty, set_ok, moved_out_ok}
-use Rattle.value_machine.proofs.GlobalSteps.{storing, global_moved, global_set_ok}
+use Rattle.value_machine.proofs.GlobalSteps.{storing, while_assigning, assigned_comes, global_moved, global_set_ok}
 use Rattle.value_machine.proofs.Pieces.{chooses, closes, number_is_ok, drop_ok}
 use Rattle.value_machine.proofs.State.{cells_of, host_of, arrays_before, name_hand, name_word}
 use Rattle.value_machine.proofs.Relation.{kind_told, globals_told, routines_told}
-use Rattle.value_machine.proofs.Answers.{machine, beside_state, row_called, done_by}
+use Rattle.value_machine.proofs.Answers.{machine, beside_state, row_asked, done_by}
 use Rattle.value_machine.proofs.Conversions.{bare_is, same_state}
 use Rattle.value_machine.proofs.InputLaws.{IsPending}
 use Rattle.value_machine.proofs.SettingNames.{boxed_written, text_dropped_ok}
@@ -90,15 +90,15 @@ told_name (d ∷ ds) rs i m name e = by (λ q. told_name ds rs (i + 1) m name q)
     by on false q = next_told ds d i m (on q)
 
 module _ (p : Program) (deepest : ℕ) (ks : List Kind) (F : List Frame) (b : Bases) (M n : ℕ) where
-  -- code comes to the code after it
-  pub record Makes (most : ℕ) (code k : Instructions) (K : List Label) (l : Locals) (σ : State) (l1 : Locals) (σ1 : State) : Type 0 where
+  -- code comes to the code after it, where the assignment to this name is made
+  pub record Makes (most : ℕ) (code k : Instructions) (K : List Label) (l : Locals) (name : Option ℕ) (σ : State) (l1 : Locals) (σ1 : State) : Type 0 where
     pub steps : ℕ
     pub few : steps ≤ most
-    pub goes : Goes (machine p deepest ks F) steps (at ks [] K (laid b l) F code (beside_state p deepest ks F σ)) (at ks [] K (laid b l1) F k (beside_state p deepest ks F σ1))
+    pub goes : Goes (machine p deepest ks F) steps (at ks [] K (laid b l) F code (while_assigning name (beside_state p deepest ks F σ))) (at ks [] K (laid b l1) F k (beside_state p deepest ks F σ1))
 
   -- a name takes a text
   one_assigned : (t1 : Bool) (i t : ℕ) (text : List ℕ) (k : Instructions) (K : List Label) (l : Locals) (σ : State) → has_kind (kinds_of p.globals) i (scalar_kind t1) ≡ true → length σ.globals ≡ length p.globals → suc t < b.temporaries → l.hand t ≡ Held (StrNum text) → l.hand (suc t) ≡ empty →
-      Makes 12 (assigned (layout p deepest ks F b M n) (scalar_kind t1) i t k) k K l σ (with_at l (Hand t) empty) (with_global i (StrNum text) σ)
+      Makes 12 (assigned (layout p deepest ks F b M n) (scalar_kind t1) i t k) k K l (Some i) σ (with_at l (Hand t) empty) (with_global i (StrNum text) σ)
   one_assigned false i t text k K l σ hk sz lt e e1 =
       let nn = length (kinds_of p.globals) in
       let li = kind_below (kinds_of p.globals) i Boxed hk in
@@ -113,7 +113,7 @@ module _ (p : Program) (deepest : ℕ) (ks : List Kind) (F : List Frame) (b : Ba
         goes = then_goes (global_moved p.ranges nn g (NameHand i) (Held old) li (ap (λ z. name_hand z (suc (suc (arrays_before (kinds_of p.globals) i))) old) kh))
             (then_goes (drop_ok old [])
             (then_goes (moved_out_ok b l (Hand t) (Held v) (omega (arith, lt)) e)
-            (goes_to (global_set_ok p.ranges nn g1 (NameHand i) (Held v) li (ap is_owned (has_global_with p.ranges nn g (NameHand i) Gone)))
+            (goes_to (global_set_ok p.ranges nn g1 (NameHand i) (Held v) li (ap is_owned (has_global_with p.ranges nn g (NameHand i) Gone)) (assigned_comes p.ranges _ i _ (Held v)))
             (ap (λ m. at ks [] K (laid b (with_at l (Hand t) empty)) F k (storing m (host_of σ None))) (placed_twice p.ranges nn g (NameHand i) Gone (Held v) li ∙ boxed_written p deepest ks F b M n i v σ sz hk)))));
       }
   one_assigned true i t text k K l σ hk sz lt e e1 =
@@ -126,16 +126,16 @@ module _ (p : Program) (deepest : ℕ) (ks : List Kind) (F : List Frame) (b : Ba
       let l1 = with_at l (Hand t) empty in
       let k3 = does (I64Const text_beside) (does (GlobalSet (global_of p.ranges nn (NameNumber i))) k) in
       let k2 = does (GlobalSet (global_of p.ranges nn (NameHand i))) k3 in
-      let s = text_dropped_ok p deepest ks F b M n i (suc t) (moved_out (h b t) k2) K l σ hk lt e1 (bare_is (global_value i σ)) in
+      let s = text_dropped_ok p deepest ks F b M n (Some i) i (moved_out (h b t) k2) K l σ hk (bare_is (global_value i σ)) in
       let q = s.few in
       record {
         steps = s.steps + 4;
         few = omega (arith, q);
         goes = then_goes s.goes
             (then_goes (moved_out_ok b l (Hand t) (Held v) (omega (arith, lt)) e)
-            (then_goes (goes_to (global_set_ok p.ranges nn (with_global_at p.ranges nn g (NameHand i) s.left) (NameHand i) (Held v) li (ap is_owned (has_global_with p.ranges nn g (NameHand i) s.left) ∙ s.unowned))
-            (ap (λ m. at ks [] K (laid b l1) F k3 (storing m (host_of σ None))) (placed_twice p.ranges nn g (NameHand i) s.left (Held v) li)))
-            (goes_to (global_set_ok p.ranges nn g2 (NameNumber i) (Bits (I64 text_beside)) li refl)
+            (then_goes (goes_to (global_set_ok p.ranges nn (with_global_at p.ranges nn g (NameHand i) empty) (NameHand i) (Held v) li (ap is_owned (has_global_with p.ranges nn g (NameHand i) empty)) (assigned_comes p.ranges _ i _ (Held v)))
+            (ap (λ m. at ks [] K (laid b l1) F k3 (storing m (host_of σ None))) (placed_twice p.ranges nn g (NameHand i) empty (Held v) li)))
+            (goes_to (global_set_ok p.ranges nn g2 (NameNumber i) (Bits (I64 text_beside)) li refl refl)
             (ap (λ m. at ks [] K (laid b l1) F k (storing m (host_of σ None)))
             (global_written p deepest ks F b M n i v σ (Held v) (Bits (I64 text_beside)) sz li
             (ap (λ z. name_hand z (suc (suc (arrays_before (kinds_of p.globals) i))) v) kh)
@@ -145,21 +145,21 @@ module _ (p : Program) (deepest : ℕ) (ks : List Kind) (F : List Frame) (b : Ba
   -- Names are tried one after the other.
 
   module _ (t m : ℕ) (K : List Label) (k : Instructions) (σ : State) (lt : suc t < b.temporaries) where
-    not_this : (i : ℕ) (l : Locals) (block rest : Instructions) → l.number t ≡ Bits (I64 m) → nat_eq m i ≡ false →
-        Goes (machine p deepest ks F) 4 (at ks [] K (laid b l) F (Small.number_is (Small.n b t) i (when block rest)) (beside_state p deepest ks F σ)) (at ks [] K (laid b l) F rest (beside_state p deepest ks F σ))
-    not_this i l block rest e ne =
-        then_goes (goes_to (number_is_ok b l t m i (omega (arith, lt)) e) (ap (λ f. at ks (Bits (flag f) ∷ []) K (laid b l) F (when block rest) (beside_state p deepest ks F σ)) ne))
+    not_this : (name : Option ℕ) (i : ℕ) (l : Locals) (block rest : Instructions) → l.number t ≡ Bits (I64 m) → nat_eq m i ≡ false →
+        Goes (machine p deepest ks F) 4 (at ks [] K (laid b l) F (Small.number_is (Small.n b t) i (when block rest)) (while_assigning name (beside_state p deepest ks F σ))) (at ks [] K (laid b l) F rest (while_assigning name (beside_state p deepest ks F σ)))
+    not_this name i l block rest e ne =
+        then_goes (goes_to (number_is_ok b l t m i (omega (arith, lt)) e) (ap (λ f. at ks (Bits (flag f) ∷ []) K (laid b l) F (when block rest) (while_assigning name (beside_state p deepest ks F σ))) ne))
         (then_goes (chooses block NoMore 0) closes)
 
-    passed : (kinds : List Kind) (i : ℕ) (l : Locals) → m < i → l.number t ≡ Bits (I64 m) → Makes (4 * length kinds) (assigned_by_number (layout p deepest ks F b M n) kinds i t k) k K l σ l σ
+    passed : (kinds : List Kind) (i : ℕ) (l : Locals) → m < i → l.number t ≡ Bits (I64 m) → Makes (4 * length kinds) (assigned_by_number (layout p deepest ks F b M n) kinds i t k) k K l None σ l σ
     passed [] i l le e = record { steps = 0; few = omega arith; goes = stays }
     passed (Many ∷ kinds) i l le e = let r = passed kinds (suc i) l (omega (arith, le)) e in let q = r.few in record { steps = r.steps; few = omega (arith, q); goes = r.goes }
-    passed (Boxed ∷ kinds) i l le e = let r = passed kinds (suc i) l (omega (arith, le)) e in let q = r.few in record { steps = 4 + r.steps; few = omega (arith, q); goes = then_goes (not_this i l _ _ e (ne_eqb m i (λ z. omega (arith, z, le)))) r.goes }
-    passed (Unboxed ∷ kinds) i l le e = let r = passed kinds (suc i) l (omega (arith, le)) e in let q = r.few in record { steps = 4 + r.steps; few = omega (arith, q); goes = then_goes (not_this i l _ _ e (ne_eqb m i (λ z. omega (arith, z, le)))) r.goes }
+    passed (Boxed ∷ kinds) i l le e = let r = passed kinds (suc i) l (omega (arith, le)) e in let q = r.few in record { steps = 4 + r.steps; few = omega (arith, q); goes = then_goes (not_this None i l _ _ e (ne_eqb m i (λ z. omega (arith, z, le)))) r.goes }
+    passed (Unboxed ∷ kinds) i l le e = let r = passed kinds (suc i) l (omega (arith, le)) e in let q = r.few in record { steps = 4 + r.steps; few = omega (arith, q); goes = then_goes (not_this None i l _ _ e (ne_eqb m i (λ z. omega (arith, z, le)))) r.goes }
 
     -- the name that it is
     this_one : (t1 : Bool) (kinds : List Kind) (i : ℕ) (text : List ℕ) (l : Locals) → m ≡ i → has_kind (kinds_of p.globals) m (scalar_kind t1) ≡ true → length σ.globals ≡ length p.globals → l.number t ≡ Bits (I64 m) → l.hand t ≡ Held (StrNum text) → l.hand (suc t) ≡ empty → (rest : Instructions) →
-        Makes 16 (Small.number_is (Small.n b t) i (when (assigned (layout p deepest ks F b M n) (scalar_kind t1) i t NoMore) rest)) rest K l σ (with_at l (Hand t) empty) (with_global m (StrNum text) σ)
+        Makes 16 (Small.number_is (Small.n b t) i (when (assigned (layout p deepest ks F b M n) (scalar_kind t1) i t NoMore) rest)) rest K l (Some m) σ (with_at l (Hand t) empty) (with_global m (StrNum text) σ)
     this_one t1 kinds i text l q hk sz e e1 e2 rest =
         let code = assigned (layout p deepest ks F b M n) (scalar_kind t1) i t NoMore in
         let a = one_assigned t1 i t text NoMore (label [] None rest ∷ K) l σ (ap (λ z. has_kind (kinds_of p.globals) z (scalar_kind t1)) (sym q) ∙ hk) sz lt e1 e2 in
@@ -168,13 +168,14 @@ module _ (p : Program) (deepest : ℕ) (ks : List Kind) (F : List Frame) (b : Ba
           steps = 3 + (a.steps + 1);
           few = omega (arith, fa);
           goes = goes_to
-              (then_goes (then_goes (goes_to (number_is_ok b l t m i (omega (arith, lt)) e) (ap (λ f. at ks (Bits (flag f) ∷ []) K (laid b l) F (when code rest) (beside_state p deepest ks F σ)) (eq-eqb m i q))) (chooses code NoMore 1))
+              (then_goes (goes_to (then_goes (goes_to (number_is_ok b l t m i (omega (arith, lt)) e) (ap (λ f. at ks (Bits (flag f) ∷ []) K (laid b l) F (when code rest) (while_assigning (Some m) (beside_state p deepest ks F σ))) (eq-eqb m i q))) (chooses code NoMore 1))
+              (ap (λ z. at ks [] (label [] None rest ∷ K) (laid b l) F code (while_assigning (Some z) (beside_state p deepest ks F σ))) q))
               (then_goes a.goes closes))
               (ap (λ z. at ks [] K (laid b (with_at l (Hand t) empty)) F rest (beside_state p deepest ks F (with_global z (StrNum text) σ))) (sym q));
         }
 
   assigned_there : (t1 : Bool) (kinds : List Kind) (i j t m : ℕ) (text : List ℕ) (K : List Label) (k : Instructions) (l : Locals) (σ : State) → suc t < b.temporaries → m ≡ i + j → has_kind kinds j (scalar_kind t1) ≡ true → has_kind (kinds_of p.globals) m (scalar_kind t1) ≡ true → length σ.globals ≡ length p.globals → l.number t ≡ Bits (I64 m) → l.hand t ≡ Held (StrNum text) → l.hand (suc t) ≡ empty →
-      Makes (16 + 4 * length kinds) (assigned_by_number (layout p deepest ks F b M n) kinds i t k) k K l σ (with_at l (Hand t) empty) (with_global m (StrNum text) σ)
+      Makes (16 + 4 * length kinds) (assigned_by_number (layout p deepest ks F b M n) kinds i t k) k K l (Some m) σ (with_at l (Hand t) empty) (with_global m (StrNum text) σ)
   assigned_there t1 [] i j t m text K k l σ lt q h hk sz e e1 e2 = absurd (true≢false (sym h))
   assigned_there false (Boxed ∷ kinds) i zero t m text K k l σ lt q h hk sz e e1 e2 =
       let a = this_one t m K k σ lt false kinds i text l (omega (arith, q)) hk sz e e1 e2 (assigned_by_number (layout p deepest ks F b M n) kinds (suc i) t k) in
@@ -199,11 +200,11 @@ module _ (p : Program) (deepest : ℕ) (ks : List Kind) (F : List Frame) (b : Ba
   assigned_there t1 (Boxed ∷ kinds) i (suc j) t m text K k l σ lt q h hk sz e e1 e2 =
       let r = assigned_there t1 kinds (suc i) j t m text K k l σ lt (omega (arith, q)) h hk sz e e1 e2 in
       let fr = r.few in
-      record { steps = 4 + r.steps; few = omega (arith, fr); goes = then_goes (not_this t m K k σ lt i l _ _ e (ne_eqb m i (λ z. omega (arith, z, q)))) r.goes }
+      record { steps = 4 + r.steps; few = omega (arith, fr); goes = then_goes (not_this t m K k σ lt (Some m) i l _ _ e (ne_eqb m i (λ z. omega (arith, z, q)))) r.goes }
   assigned_there t1 (Unboxed ∷ kinds) i (suc j) t m text K k l σ lt q h hk sz e e1 e2 =
       let r = assigned_there t1 kinds (suc i) j t m text K k l σ lt (omega (arith, q)) h hk sz e e1 e2 in
       let fr = r.few in
-      record { steps = 4 + r.steps; few = omega (arith, fr); goes = then_goes (not_this t m K k σ lt i l _ _ e (ne_eqb m i (λ z. omega (arith, z, q)))) r.goes }
+      record { steps = 4 + r.steps; few = omega (arith, fr); goes = then_goes (not_this t m K k σ lt (Some m) i l _ _ e (ne_eqb m i (λ z. omega (arith, z, q)))) r.goes }
 
   -- The whole of it.
 
@@ -221,7 +222,7 @@ module _ (p : Program) (deepest : ℕ) (ks : List Kind) (F : List Frame) (b : Ba
       ∙ ap (λ o. Gives tt (with_global (name_of o) (given (value_of o)) (done_by p deepest ks F row.PendingValue tt σ))) i.there
 
   pub pending_made : (t : ℕ) (K : List Label) (k : Instructions) (l : Locals) (σ : State) → (i : IsPending σ.shared.inner) → σ.shared.inner.names ≡ globals_told p.globals (routines_told p.routines) → length σ.globals ≡ length p.globals → suc t < b.temporaries → is_owned (l.number t) ≡ false → l.hand t ≡ empty → l.hand (suc t) ≡ empty →
-      Makes (21 + 4 * length (kinds_of p.globals)) (pending_assigned (layout p deepest ks F b M n) t k) k K l σ (made_locals t i.number i.text l) (made_state i.number i.text σ)
+      Makes (21 + 4 * length (kinds_of p.globals)) (pending_assigned (layout p deepest ks F b M n) t k) k K l None σ (made_locals t i.number i.text l) (made_state i.number i.text σ)
   pending_made t K k l σ i nm sz lt on e e1 =
       let mach = machine p deepest ks F in
       let m = i.number in
@@ -242,13 +243,13 @@ module _ (p : Program) (deepest : ℕ) (ks : List Kind) (F : List Frame) (b : Ba
         steps = 5 + a.steps;
         few = omega (arith, fa);
         goes = then_goes
-            (then_goes (goes_to (row_called p deepest ks F row.PendingName tt [] [] σ refl refl refl refl there)
-            (ap (λ o. at ks (Bits (I32 (name_of o)) ∷ []) K (laid b l) F k1 (beside_state p deepest ks F (done_by p deepest ks F row.PendingName tt σ))) i.there
-            ∙ ap (λ σ1. at ks (Bits (I32 m) ∷ []) K (laid b l) F k1 (beside_state p deepest ks F σ1)) (same_state σ (name_of σ.shared.inner.pending))))
+            (then_goes (goes_to (row_asked p deepest ks F row.PendingName tt [] [] None σ refl refl refl there)
+            (ap (λ o. at ks (Bits (I32 (name_of o)) ∷ []) K (laid b l) F k1 (while_assigning (number_pending o) (beside_state p deepest ks F (done_by p deepest ks F row.PendingName tt σ)))) i.there
+            ∙ ap (λ σ1. at ks (Bits (I32 m) ∷ []) K (laid b l) F k1 (while_assigning (Some m) (beside_state p deepest ks F σ1))) (same_state σ (name_of σ.shared.inner.pending))))
             (then_goes (by_steps 1 refl)
             (then_goes (set_ok b l (NumberAt t) (Bits (I64 m)) (omega (arith, lt)) on)
-            (then_goes (goes_to (row_called p deepest ks F row.PendingValue tt [] [] σ refl refl refl refl there)
-            (ap (λ o. at ks (Held (given (value_of o)) ∷ []) K (laid b l1) F k2 (beside_state p deepest ks F τ)) i.there))
+            (then_goes (goes_to (row_asked p deepest ks F row.PendingValue tt [] [] (Some m) σ refl refl refl there)
+            (ap (λ o. at ks (Held (given (value_of o)) ∷ []) K (laid b l1) F k2 (while_assigning (Some m) (beside_state p deepest ks F τ))) i.there))
             (set_ok b l1 (Hand t) (Held v) (omega (arith, lt)) (ap is_owned e))))))
             a.goes;
       }

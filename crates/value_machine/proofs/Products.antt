@@ -20,10 +20,10 @@ word_below : (z : ℤ) → FitsSigned w64 z → word z < 2 ^ 64
 word_below (pos n) f = let h = signed_small n f in omega (arith, h)
 word_below (negsuc n) f = omega arith
 
-mod_small : (n : ℕ) → n < 2 ^ 64 → n % 2 ^ 64 ≡ n
+pub mod_small : (n : ℕ) → n < 2 ^ 64 → n % 2 ^ 64 ≡ n
 mod_small n h = omega (arith, h)
 
-mod_once : (n r : ℕ) → n ≡ 2 ^ 64 + r → r < 2 ^ 64 → n % 2 ^ 64 ≡ r
+pub mod_once : (n r : ℕ) → n ≡ 2 ^ 64 + r → r < 2 ^ 64 → n % 2 ^ 64 ≡ r
 mod_once n r e h = omega (arith, e, h)
 
 mod_below : (n : ℕ) → n % 2 ^ 64 < 2 ^ 64

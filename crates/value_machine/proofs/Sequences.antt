@@ -1,15 +1,15 @@
 -- Steps one after another, and expressions that are evaluated for what they do alone.
-use Rattle.std.proofs.Common.{◌≡◌, ℕ, zero, ◌+◌, Bool, true, List, [], refl, ◌∙◌, arith}
+use Rattle.std.proofs.Common.{◌≡◌, ℕ, zero, ◌+◌, ◌≤◌, Bool, true, List, [], refl, ◌∙◌, arith}
 use Rattle.std.proofs.lemmas.Bool.{and_parts}
 use Rattle.wasm_types.specs.Syntax.{Instructions}
 use Rattle.mid_program.specs.Mid.{Kind, Program, Code, Step, Eval, Block, Steps, NoStep, Then, form_of}
 use Rattle.mid_program.specs.MidMeaning.{stepped, all_stepped}
 use Rattle.mid_program.specs.ScriptState.{State, Stop, Outcome, Doing}
-use Rattle.mid_program.specs.Sorted.{There, sorted, is_dropped, step_sorted, steps_sorted}
+use Rattle.mid_program.specs.Sorted.{There, sorted, step_sorted, steps_sorted}
 use Rattle.mid_program.specs.Statements.{Flow, Normal, Broke, Continued, after}
-use Rattle.value_machine.specs.Emission.{left_over}
+use Rattle.value_machine.specs.Emission.{left_over, dropped}
 use Rattle.value_machine.specs.Machine.{Conf, Label, Frame, at}
-use Rattle.value_machine.specs.Places.{Bases}
+use Rattle.value_machine.specs.Places.{Bases, room, arrays_in}
 use Rattle.value_machine.specs.Statements.{step_emitted, steps_emitted}
 use Rattle.value_machine.proofs.Runs.{stays, goes_from, first, then_on, there, weaker}
 use Rattle.value_machine.proofs.Locals.{Locals, laid}
@@ -21,24 +21,23 @@ use Rattle.value_machine.proofs.StatementForms.{step_work, steps_work, flows_on,
 use Rattle.value_machine.proofs.Tidy.{nop_ok}
 
 module _ (p : Program) (deepest : ℕ) (ks : List Kind) (F : List Frame) (b : Bases) (M n : ℕ) where
-  pub eval_step : (e : Code) → ExprOk p deepest ks F b M n e → StepOk p deepest ks F b M n (Eval e)
-  unfolding step_emitted steps_emitted stepped all_stepped step_sorted steps_sorted
-  eval_step e ok r lo u d bk ct k K l σ so rm it ar wk s =
+  -- an expression for what it does alone
+  pub dropped_ok : (e : Code) → ExprOk p deepest ks F b M n e → (lo : Bool) (u d bk ct : ℕ) (k : Instructions) (K : List Label) (l : Locals) (σ : State) → sorted (context p deepest ks F b M n) [] e ≡ true → room e ≤ b.temporaries → arrays_in e ≤ b.arrays → Starts p deepest ks F b M n u K l σ →
+      Reached p deepest ks F b M (work_of e + 8) σ.turns (at ks [] K (laid b l) F (dropped (layout p deepest ks F b M n) [] [] e zero zero d k) (beside_state p deepest ks F σ)) (StepDone p deepest ks F b M n lo u bk ct k K l) (Away p deepest ks F b d K) (step_meant p deepest ks F b M n (Eval e) σ)
+  unfolding stepped all_stepped
+  dropped_ok e ok lo u d bk ct k K l σ so rm ar s =
       let mach = machine p deepest ks F in
-      let ctx = context p deepest ks F b M n in
       let Q = Away p deepest ks F b d K in
       let P = StepDone p deepest ks F b M n lo u bk ct k K l in
       let k1 = left_over (layout p deepest ks F b M n) e (form_of [] e) zero k in
-      let s1 = and_parts (is_dropped (form_of [] e)) (sorted ctx [] e) so in
       let r1 = room_one e in
-      first mach M 1 (work_of e + 8) (10 + work_of e) σ.turns _ _ P Q _ (nop_ok p deepest ks F b M n u K l σ s) (omega arith)
-      (then_on mach M (work_of e) 8 (work_of e + 8) σ.turns _ (Done p deepest ks F b M n true e [] tt [] (λ i. There) zero u zero k1 K l σ) P Q (meant p deepest ks F b M n [] tt e σ) _ (omega arith)
-      (ok true [] tt [] (λ i. There) zero u zero d k1 K l σ s1.1 (λ i lt. absurd (omega (arith, lt))) (omega (arith, rm)) (omega (arith, ar)) (ready p deepest ks F b M n u K l σ s))
+      then_on mach M (work_of e) 8 (work_of e + 8) σ.turns _ (Done p deepest ks F b M n true e [] tt [] (λ i. There) zero u zero k1 K l σ) P Q (meant p deepest ks F b M n [] tt e σ) _ (omega arith)
+      (ok true [] tt [] (λ i. There) zero u zero d k1 K l σ so (λ i lt. absurd (omega (arith, lt))) (omega (arith, rm)) (omega (arith, ar)) (ready p deepest ks F b M n u K l σ s))
       (λ x τ c1 le h.
       let g = left_ok p deepest ks F b M n e (form_of [] e) x zero u zero k K h.next τ (omega (arith, rm, r1)) h.fit h.stands in
       let same : (y : ℕ) → g.next.iterator y ≡ l.iterator y = λ y. g.keeps.iterators y ∙ h.same.iterators y in
       there mach M 8 g.steps c1 _ Normal τ P Q (goes_from h.comes g.goes) (omega (arith, g.few))
-      (record { next = g.next; comes = refl; starts = starts_after p deepest ks F b M n u K K l g.next σ τ s refl le same g.fit; iterators = same; flows = flows_on lo })))
+      (record { next = g.next; comes = refl; starts = starts_after p deepest ks F b M n u K K l g.next σ τ s refl le same g.fit; iterators = same; flows = flows_on lo }))
 
   -- what was done before changes nothing of what is said after
   pub done_before : (w m : ℕ) (lo : Bool) (u bk ct : ℕ) (k : Instructions) (K : List Label) (l l1 : Locals) (c : Conf) (Q : Stop → State → Conf → Type 0) (r : Outcome Flow) → ((x : ℕ) → l1.iterator x ≡ l.iterator x) →

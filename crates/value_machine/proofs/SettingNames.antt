@@ -1,6 +1,7 @@
 -- Names take a value: globals, and boxed parameters.
-use Rattle.std.proofs.Common.{◌≡◌, ℕ, suc, ◌+◌, ◌<◌, ◌≤◌, Bool, true, false, List, [], ◌∷◌, length, None, refl, sym, ap, ◌∙◌, subst, arith}
-use Rattle.std.specs.Prelude.{◌&&◌}
+use Rattle.std.proofs.Common.{◌≡◌, ℕ, suc, ◌+◌, ◌<◌, ◌≤◌, Bool, true, false, List, [], ◌∷◌, length, Option, None, refl, sym, ap, ◌∙◌, subst, arith}
+use Rattle.std.specs.Prelude.{◌&&◌, nat_eq}
+use Rattle.wasm_store.specs.Words.{flag}
 use Rattle.std.proofs.lemmas.Bool.{and_parts}
 use Rattle.std.proofs.lemmas.List.{get_or-set_other}
 use Rattle.awk_values.specs.declared.value.Value.{Value}
@@ -10,8 +11,8 @@ use Rattle.awk_state.specs.declared.sorts.Answer.TheVariants as answer
 use Rattle.awk_state.specs.declared.sorts.Sort.TheVariants as sort
 use Rattle.wasm_types.specs.Syntax.{Instructions, Done as NoMore}
 use Rattle.wasm_types.specs.declared.types.ValType.TheVariants as ty
-use Rattle.wasm_types.specs.declared.instr.IRelOp.TheVariants.{Ne}
-use Rattle.wasm_types.specs.declared.instr.Simple.TheVariants.{LocalGet, LocalSet, GlobalSet, I32Const, Compare}
+use Rattle.wasm_types.specs.declared.instr.IRelOp.TheVariants.{Eq}
+use Rattle.wasm_types.specs.declared.instr.Simple.TheVariants.{LocalGet, LocalSet, GlobalGet, GlobalSet, I32Const, I64Const, Compare}
 use Rattle.wasm_store.specs.declared.word.Word.TheVariants.{I64}
 use Rattle.mid_program.specs.Mid.{Kind, Boxed, Unboxed, Many, Program, Slot, Global, Parameter, Form, Answered, Code, Set, form_of}
 use Rattle.mid_program.specs.MidMeaning.{Holds, Env, evaluated, all_evaluated, boxed, store_slot}
@@ -21,15 +22,15 @@ use Rattle.value_machine.specs.Cells.{Cell, Bits, Held, Gone, is_owned}
 use Rattle.value_machine.specs.Emission.{emitted, all_emitted, slot_set, text_dropped}
 use Rattle.value_machine.specs.Machine.{Conf, Label, Frame, at}
 use Rattle.value_machine.specs.Places.{Bases}
-use Rattle.value_machine.specs.Small.{does, ask, when, minus_one, least, moved_out, h}
+use Rattle.value_machine.specs.Small.{does, ask, when, minus_one, least, text_beside, moved_out, h}
 use Rattle.value_machine.specs.declared.import.Import.TheVariants.{Drop}
 use Rattle.value_machine.proofs.Runs.{Goes, then_goes, goes_to, goes_from, by_steps, there, then_on}
 use Rattle.value_machine.proofs.Locals.{Locals, Param, Hand, Number as NumberAt, local_of, with_at, has_with, laid, laid_at, laid_twice, laid_again}
 use Rattle.value_machine.proofs.Globals.{Globals, Hand as NameHand, Number as NameNumber, global_of, with_global_at, has_global_with, placed, placed_twice, placed_again}
 use Rattle.value_machine.proofs.Steps.{empty, get_moved, get_copied, set_ok, tee_ok, moved_out_ok}
-use Rattle.value_machine.proofs.GlobalSteps.{storing, global_moved, global_copied, global_set_ok}
+use Rattle.value_machine.proofs.GlobalSteps.{storing, while_assigning, comes_back, global_moved, global_copied, global_set_ok}
 use Rattle.value_machine.proofs.Pieces.{chooses, closes, drop_ok}
-use Rattle.value_machine.proofs.State.{bare, beside, bare_number, beside_number, cells_of, host_of, kind_here, arrays_before, name_hand, name_word}
+use Rattle.value_machine.proofs.State.{bare, beside, bare_number, beside_number, cells_of, host_of, kind_here, arrays_before, name_hand, name_word, word_not_beside}
 use Rattle.value_machine.proofs.Relation.{HoldsAt, Below, kept_same, Same, same_self, same_hand, same_then, Fit, SameOwn, Away}
 use Rattle.value_machine.proofs.Answers.{machine, beside_state, Reached}
 use Rattle.value_machine.proofs.Conversions.{BareIs, IsBeside, IsNone, IsNumber, bare_is}
@@ -100,7 +101,7 @@ module _ (p : Program) (deepest : ℕ) (ks : List Kind) (F : List Frame) (b : Ba
       let put = GlobalSet (global_of p.ranges nn (NameHand i)) in
       let old = global_value i σ in
       let s = stored_ok p deepest ks F b M n o f x t l put (placed p.ranges nn g1) σ (λ v. laid b (handed o t l)) (λ v. storing (placed p.ranges nn (with_global_at p.ranges nn g1 (NameHand i) (Held v))) (host_of σ None)) K k lt e hd
-      (λ v K k. global_set_ok p.ranges nn g1 (NameHand i) (Held v) li (ap is_owned (has_global_with p.ranges nn g (NameHand i) Gone))) in
+      (λ v K k. global_set_ok p.ranges nn g1 (NameHand i) (Held v) li (ap is_owned (has_global_with p.ranges nn g (NameHand i) Gone)) (comes_back p.ranges kinds None g (NameHand i) (Held v))) in
       let q = s.few in
       record {
         steps = 2 + s.steps;
@@ -132,37 +133,40 @@ module _ (p : Program) (deepest : ℕ) (ks : List Kind) (F : List Frame) (b : Ba
             (goes_to s.goes (ap (λ L. at ks [] K L F k G) (param_again o t i (boxed f x) l li)));
       }
 
-  -- An unboxed global: the text beside it is dropped.
+  -- An unboxed global: the text beside it is dropped, while code makes an assignment too.
 
-  pub record TextGone (i t : ℕ) (k : Instructions) (K : List Label) (l : Locals) (σ : State) : Type 0 where
-    pub left : Cell
-    pub unowned : is_owned left ≡ false
+  pub record TextGone (name : Option ℕ) (i : ℕ) (k : Instructions) (K : List Label) (l : Locals) (σ : State) : Type 0 where
     pub steps : ℕ
     pub few : steps ≤ 8
-    pub goes : Goes (machine p deepest ks F) steps (at ks [] K (laid b l) F (text_dropped (layout p deepest ks F b M n) i t k) (beside_state p deepest ks F σ)) (at ks [] K (laid b l) F k (storing (placed p.ranges (length kinds) (with_global_at p.ranges (length kinds) (globals_at σ) (NameHand i) left)) (host_of σ None)))
+    pub goes : Goes (machine p deepest ks F) steps (at ks [] K (laid b l) F (text_dropped (layout p deepest ks F b M n) i k) (while_assigning name (beside_state p deepest ks F σ))) (at ks [] K (laid b l) F k (while_assigning name (storing (placed p.ranges (length kinds) (with_global_at p.ranges (length kinds) (globals_at σ) (NameHand i) empty)) (host_of σ None))))
 
-  no_text : (i t : ℕ) (k : Instructions) (K : List Label) (l : Locals) (σ : State) → has_kind kinds i Unboxed ≡ true → t < b.temporaries → l.hand t ≡ empty → beside (global_value i σ) ≡ empty → TextGone i t k K l σ
-  no_text i t k K l σ hk lt e eh =
+  -- whether there is one
+  text_told : (name : Option ℕ) (i : ℕ) (k : Instructions) (K : List Label) (l : Locals) (σ : State) → has_kind kinds i Unboxed ≡ true →
+      Goes (machine p deepest ks F) 2 (at ks [] K (laid b l) F (does (GlobalGet (global_of p.ranges (length kinds) (NameNumber i))) (does (I64Const text_beside) (does (Compare ty.I64 Eq) k))) (while_assigning name (beside_state p deepest ks F σ)))
+      (at ks (Bits (flag (nat_eq (bare (global_value i σ)) text_beside)) ∷ []) K (laid b l) F k (while_assigning name (beside_state p deepest ks F σ)))
+  text_told name i k K l σ hk =
+      let x = global_value i σ in
+      then_goes (global_copied p.ranges (length kinds) (globals_at σ) (NameNumber i) (Bits (I64 (bare x))) (kind_below kinds i Unboxed hk) (ap (λ c. Bits (I64 (name_word c x))) (kind_found kinds i Unboxed hk)) refl) (by_steps 1 refl)
+
+  abbrev dropping : ℕ → Instructions
+  dropping i = does (GlobalGet (global_of p.ranges (length kinds) (NameHand i))) (ask Drop (does (I32Const minus_one) (does (GlobalSet (global_of p.ranges (length kinds) (NameHand i))) NoMore)))
+
+  no_text : (name : Option ℕ) (i : ℕ) (k : Instructions) (K : List Label) (l : Locals) (σ : State) → has_kind kinds i Unboxed ≡ true → nat_eq (bare (global_value i σ)) text_beside ≡ false → beside (global_value i σ) ≡ empty → TextGone name i k K l σ
+  no_text name i k K l σ hk ne eh =
       let nn = length kinds in
       let li = kind_below kinds i Unboxed hk in
       let kh = kind_found kinds i Unboxed hk in
-      let g = globals_at σ in
       let old = global_value i σ in
       let hand : name_hand (kind_here kinds i) (suc (suc (arrays_before kinds i))) old ≡ empty = ap (λ z. name_hand z (suc (suc (arrays_before kinds i))) old) kh ∙ eh in
-      let away = moved_out (h b t) (ask Drop NoMore) in
       record {
-        left = empty;
-        unowned = refl;
-        steps = 5;
+        steps = 4;
         few = omega arith;
-        goes = then_goes (global_copied p.ranges nn g (NameHand i) empty li hand refl)
-            (then_goes (goes_to (tee_ok b l (Hand t) empty lt (ap is_owned e)) (ap (λ L. at ks (empty ∷ []) K L F (does (I32Const minus_one) (does (Compare ty.I32 Ne) (when away k))) (beside_state p deepest ks F σ)) (laid_again b l (Hand t) empty lt e)))
-            (then_goes (by_steps 1 refl)
-            (then_goes (chooses away NoMore 0) (goes_to closes (ap (λ m. at ks [] K (laid b l) F k (storing m (host_of σ None))) (sym (placed_again p.ranges nn g (NameHand i) empty li hand)))))));
+        goes = then_goes (goes_to (text_told name i (when (dropping i) k) K l σ hk) (ap (λ f. at ks (Bits (flag f) ∷ []) K (laid b l) F (when (dropping i) k) (while_assigning name (beside_state p deepest ks F σ))) ne))
+            (then_goes (chooses (dropping i) NoMore 0) (goes_to closes (ap (λ m. at ks [] K (laid b l) F k (while_assigning name (storing m (host_of σ None)))) (sym (placed_again p.ranges nn (globals_at σ) (NameHand i) empty li hand)))));
       }
 
-  pub text_dropped_ok : (i t : ℕ) (k : Instructions) (K : List Label) (l : Locals) (σ : State) → has_kind kinds i Unboxed ≡ true → t < b.temporaries → l.hand t ≡ empty → BareIs (global_value i σ) → TextGone i t k K l σ
-  text_dropped_ok i t k K l σ hk lt e (IsBeside eb eh) =
+  pub text_dropped_ok : (name : Option ℕ) (i : ℕ) (k : Instructions) (K : List Label) (l : Locals) (σ : State) → has_kind kinds i Unboxed ≡ true → BareIs (global_value i σ) → TextGone name i k K l σ
+  text_dropped_ok name i k K l σ hk (IsBeside eb eh) =
       let nn = length kinds in
       let li = kind_below kinds i Unboxed hk in
       let kh = kind_found kinds i Unboxed hk in
@@ -170,24 +174,18 @@ module _ (p : Program) (deepest : ℕ) (ks : List Kind) (F : List Frame) (b : Ba
       let g1 = with_global_at p.ranges nn g (NameHand i) Gone in
       let old = global_value i σ in
       let hand : name_hand (kind_here kinds i) (suc (suc (arrays_before kinds i))) old ≡ Held old = ap (λ z. name_hand z (suc (suc (arrays_before kinds i))) old) kh ∙ eh in
-      let l1 = with_at l (Hand t) (Held old) in
-      let away = moved_out (h b t) (ask Drop NoMore) in
-      let e1 = laid_at b l1 (Hand t) lt ∙ has_with l (Hand t) (Held old) in
       record {
-        left = Gone;
-        unowned = refl;
-        steps = 8;
+        steps = 7;
         few = omega arith;
-        goes = then_goes (global_moved p.ranges nn g (NameHand i) (Held old) li hand)
-            (then_goes (tee_ok b l (Hand t) (Held old) lt (ap is_owned e))
-            (then_goes (looked p deepest ks F b (h b t) (laid b l1) (placed p.ranges nn g1) old (host_of σ None) e1)
-            (then_goes (chooses away NoMore 1)
-            (then_goes (moved_out_ok b l1 (Hand t) (Held old) lt (has_with l (Hand t) (Held old)))
+        goes = then_goes (goes_to (text_told name i (when (dropping i) k) K l σ hk) (ap (λ m. at ks (Bits (flag (nat_eq m text_beside)) ∷ []) K (laid b l) F (when (dropping i) k) (while_assigning name (beside_state p deepest ks F σ))) eb))
+            (then_goes (chooses (dropping i) NoMore 1)
+            (then_goes (global_moved p.ranges nn g (NameHand i) (Held old) li hand)
             (then_goes (drop_ok old [])
-            (goes_to closes (ap (λ L. at ks [] K L F k (storing (placed p.ranges nn g1) (host_of σ None))) (laid_twice b l (Hand t) (Held old) empty lt ∙ laid_again b l (Hand t) empty lt e))))))));
+            (then_goes (global_set_ok p.ranges nn g1 (NameHand i) empty li (ap is_owned (has_global_with p.ranges nn g (NameHand i) Gone)) refl)
+            (goes_to closes (ap (λ m. at ks [] K (laid b l) F k (while_assigning name (storing m (host_of σ None)))) (placed_twice p.ranges nn g (NameHand i) Gone empty li)))))));
       }
-  text_dropped_ok i t k K l σ hk lt e (IsNone q eb eh) = no_text i t k K l σ hk lt e eh
-  text_dropped_ok i t k K l σ hk lt e (IsNumber m q eb eh) = no_text i t k K l σ hk lt e eh
+  text_dropped_ok name i k K l σ hk (IsNone q eb eh) = no_text name i k K l σ hk (ap (λ m. nat_eq m text_beside) eb) eh
+  text_dropped_ok name i k K l σ hk (IsNumber m q eb eh) = no_text name i k K l σ hk (ap (λ z. nat_eq z text_beside) eb ∙ word_not_beside m) eh
 
   bare_global_set : (o : Bool) (f : Form) (i t : ℕ) (l : Locals) (y : Number) (σ : State) (K : List Label) (k : Instructions) → t < b.temporaries → l.hand t ≡ empty → l.number t ≡ Bits (I64 (number_word y)) → length σ.globals ≡ length p.globals → has_kind kinds i Unboxed ≡ true →
       TakesValue (slot_set (layout p deepest ks F b M n) o (Global true i) f t k) k K l σ l (with_global i (Num y.number) σ)
@@ -200,20 +198,18 @@ module _ (p : Program) (deepest : ℕ) (ks : List Kind) (F : List Frame) (b : Ba
       let c = Bits (I64 (number_word y)) in
       let hnum = global_of p.ranges nn (NameNumber i) in
       let k2 = does (LocalGet (local_of b (NumberAt t))) (does (GlobalSet hnum) k) in
-      let s = text_dropped_ok i t (does (I32Const minus_one) (does (GlobalSet (global_of p.ranges nn (NameHand i))) k2)) K l σ hk lt e (bare_is (global_value i σ)) in
+      let s = text_dropped_ok None i k2 K l σ hk (bare_is (global_value i σ)) in
       let q = s.few in
       record {
-        steps = s.steps + 3;
+        steps = s.steps + 2;
         few = omega (arith, q);
         goes = then_goes s.goes
-            (then_goes (goes_to (global_set_ok p.ranges nn (with_global_at p.ranges nn g (NameHand i) s.left) (NameHand i) empty li (ap is_owned (has_global_with p.ranges nn g (NameHand i) s.left) ∙ s.unowned))
-            (ap (λ m. at ks [] K (laid b l) F k2 (storing m (host_of σ None))) (placed_twice p.ranges nn g (NameHand i) s.left empty li)))
             (then_goes (get_copied b l (NumberAt t) c lt e1 refl)
-            (goes_to (global_set_ok p.ranges nn g2 (NameNumber i) c li refl)
+            (goes_to (global_set_ok p.ranges nn g2 (NameNumber i) c li refl refl)
             (ap (λ m. at ks [] K (laid b l) F k (storing m (host_of σ None)))
             (global_written p deepest ks F b M n i (Num y.number) σ empty c sz li
             (ap (λ z. name_hand z (suc (suc (arrays_before kinds i))) (Num y.number)) kh ∙ beside_number y)
-            (ap (λ z. Bits (I64 (name_word z (Num y.number)))) kh ∙ ap (λ z. Bits (I64 z)) (bare_number y)))))));
+            (ap (λ z. Bits (I64 (name_word z (Num y.number)))) kh ∙ ap (λ z. Bits (I64 z)) (bare_number y))))));
       }
 
   -- Any name.

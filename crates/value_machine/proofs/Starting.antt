@@ -66,13 +66,13 @@ module _ (p : Program) (deepest : ℕ) (ks : List Kind) (F : List Frame) (b : Ba
     abbrev Pends : Doing (Unit {0}) → Type 0
     Pends go = (m : ℕ) (j : Inner) → m ≤ σ.turns → j.names ≡ σ.shared.inner.names → IsPending j → Reached p deepest ks F b M 9 m (after_reply_of (Ok (j, assign.Pending))) P Q ((spend >> go) (after_call m (Ok (j, assign.Pending))))
 
-    answered : (m : ℕ) (r : Result (Inner × AssignAnswer) Fault) (go : Doing (Unit {0})) → m ≤ σ.turns → GoodStart σ.shared.inner r → Pends go → Reached p deepest ks F b M 9 m (after_reply_of r) P Q (go_on (settled (settles σ.shared r).answer (after_call m r)) (on_assignment go))
+    answered : (m : ℕ) (r : Result (Inner × AssignAnswer) Fault) (go : Doing (Unit {0})) → m ≤ σ.turns → GoodStart σ.shared.inner.assigns σ.shared.inner r → Pends go → Reached p deepest ks F b M 9 m (after_reply_of r) P Q (go_on (settled (settles σ.shared r).answer (after_call m r)) (on_assignment go))
     answered m (Err g) go le h pe =
         faulted (machine p deepest ks F) M 9 4 _ _ g (after_call m (Err g)) P Q (code_failed b l t (suc d) lt (ft.numbers t)) (omega arith) (away_with p deepest ks F b M t u w d (2 ^ 64 - 1) K l (after_call m (Err g)) g (fit_faulted p deepest ks F b M n answer.Assign t u w l σ m g ft))
     answered m (Ok (j, assign.Pending)) go le h pe = pe m j le h.0 h.1
     answered m (Ok (j, assign.NoneLeft)) go le h pe =
         let τ = after_call m (Ok (j, assign.NoneLeft)) in
-        let f0 = fit_answered p deepest ks F b M n answer.Assign t u w l σ m j assign.NoneLeft h ft in
+        let f0 = fit_answered p deepest ks F b M n answer.Assign t u w l σ m j assign.NoneLeft h.0 h.1 ft in
         there (machine p deepest ks F) M 9 9 _ _ tt τ P Q (came_out p deepest ks F b M n (ask_row row.StartAssign) 0 t d k K l τ refl refl refl lt (ft.numbers t)) (omega arith)
         (record { next = with_at l (NumberAt t) (Bits (I64 0)); comes = refl; fit = fit_number p deepest ks F t t u w l τ (Bits (I64 0)) refl f0; same = same_number [] t w t l (Bits (I64 0)) (omega arith); own = λ i q. refl })
 

@@ -99,7 +99,7 @@ host_of σ fault = record { shared = σ.shared; arguments = []; fault = fault }
 
 module _ (ranges : ℕ) (kinds : List Kind) where
   abbrev pub store_with : (way : ℕ) → Option Fault → State → Store
-  store_with way fault σ = record { globals = placed ranges (length kinds) (cells_of kinds way σ); host = host_of σ fault }
+  store_with way fault σ = record { globals = placed ranges (length kinds) (cells_of kinds way σ); host = host_of σ fault; assigning = None }
 
   -- between two parts of code
   abbrev pub store : State → Store

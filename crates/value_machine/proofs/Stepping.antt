@@ -5,8 +5,9 @@ use Rattle.value_machine.specs.Machine.{Frame}
 use Rattle.value_machine.specs.Places.{Bases}
 use Rattle.value_machine.proofs.Simulation.{ExprOk}
 use Rattle.value_machine.proofs.StatementForms.{StepOk, StepsOk}
-use Rattle.value_machine.proofs.Sequences.{eval_step, block_step, no_steps, then_steps}
-use Rattle.value_machine.proofs.Branches.{if_step}
+use Rattle.value_machine.proofs.QuickSteps.{eval_step}
+use Rattle.value_machine.proofs.Sequences.{block_step, no_steps, then_steps}
+use Rattle.value_machine.proofs.QuickIfs.{if_step}
 use Rattle.value_machine.proofs.Loops.{loop_first, loop_last}
 use Rattle.value_machine.proofs.Keys.{each_step}
 use Rattle.value_machine.proofs.Jumps.{break_step, continue_step, next_step, exit_step, exit_with_step, return_step, mark_step}

@@ -1,13 +1,14 @@
 -- Texts of the script, where they lie in memory; and names that are unboxed.
-use Rattle.std.proofs.Common.{◌≡◌, inr, ℕ, zero, suc, ◌+◌, ◌<◌, ◌≤◌, true, List, [], ◌∷◌, ◌++◌, length, Some, None, refl, sym, ap, ◌∙◌, arith}
-use Rattle.std.specs.Prelude.{get_or, take, drop, if◌then◌else◌}
+use Rattle.std.proofs.Common.{◌≡◌, inr, ℕ, zero, suc, ◌+◌, ◌<◌, ◌≤◌, true, false, List, [], ◌∷◌, ◌++◌, length, Some, None, refl, sym, ap, ◌∙◌, arith}
+use Rattle.std.specs.Prelude.{get_or, take, drop, nat_eq, if◌then◌else◌}
 use Rattle.std.proofs.lemmas.Bool.{ltb-true, le-leb}
 use Rattle.std.proofs.lemmas.List.{take_at, drop_at, drop-drop, length-append, get_or_append_left}
 use Rattle.awk_values.specs.declared.value.Value.{Value}
 use Rattle.awk_values.specs.declared.value.Value.TheVariants as value
 use Rattle.awk_state.specs.declared.table.Primitive.TheVariants as row
-use Rattle.wasm_types.specs.Syntax.{Instructions}
-use Rattle.wasm_types.specs.declared.instr.Simple.TheVariants.{LocalSet}
+use Rattle.wasm_types.specs.Syntax.{Instructions, Done as NoMore}
+use Rattle.wasm_types.specs.declared.instr.Simple.TheVariants.{LocalSet, GlobalGet, GlobalSet}
+use Rattle.wasm_store.specs.Words.{flag}
 use Rattle.wasm_store.specs.declared.word.Word.TheVariants.{I32, I64}
 use Rattle.mid_program.specs.Mid.{Kind, Unboxed, Program, Global, Parameter, Bare, Text, Get}
 use Rattle.mid_program.specs.MidMeaning.{evaluated, all_evaluated}
@@ -19,18 +20,19 @@ use Rattle.value_machine.specs.Functions.{texts_of}
 use Rattle.value_machine.specs.ImportCalls.{with_some, and_rest, row_in, text_at}
 use Rattle.value_machine.specs.Machine.{Conf, Label, Frame, at}
 use Rattle.value_machine.specs.Places.{Bases, place_of, memory_of}
-use Rattle.value_machine.specs.Small.{does, h}
-use Rattle.value_machine.proofs.Runs.{Goes, then_goes, goes_to, there}
+use Rattle.value_machine.specs.Small.{does, when, copied, text_beside, h}
+use Rattle.value_machine.proofs.Runs.{Goes, then_goes, goes_to, by_steps, there}
 use Rattle.value_machine.proofs.Regions.{upd_same}
 use Rattle.value_machine.proofs.Locals.{Locals, Param, Hand, Number as NumberAt, with_at, laid}
-use Rattle.value_machine.proofs.Globals.{Hand as NameHand, Number as NameNumber}
-use Rattle.value_machine.proofs.Steps.{empty, get_copied, set_ok}
+use Rattle.value_machine.proofs.Globals.{Hand as NameHand, Number as NameNumber, global_of}
+use Rattle.value_machine.proofs.Steps.{empty, get_copied, set_ok, tee_ok}
 use Rattle.value_machine.proofs.GlobalSteps.{global_copied}
-use Rattle.value_machine.proofs.State.{bare, beside, kind_here, name_hand, name_word, cells_of, arrays_before}
+use Rattle.value_machine.proofs.State.{bare, beside, kind_here, name_hand, name_word, cells_of, arrays_before, word_not_beside}
 use Rattle.value_machine.proofs.Relation.{same_self, same_then, same_hand, same_number, Fit, fit_hand, fit_number, fit_more, Away}
 use Rattle.value_machine.proofs.Answers.{machine, beside_state, row_called, Put, put_value, put_word}
 use Rattle.value_machine.proofs.Conversions.{BareIs, IsBeside, IsNone, IsNumber, bare_is, same_state}
-use Rattle.value_machine.proofs.Copies.{if_any_global, if_none_global}
+use Rattle.value_machine.proofs.Copies.{copied_global}
+use Rattle.value_machine.proofs.Pieces.{chooses, closes}
 use Rattle.value_machine.proofs.Simulation.{Done, ExprOk, layout}
 use Rattle.value_machine.proofs.Expressions.{put_done}
 use Rattle.value_machine.proofs.Reading.{kind_below, kind_found}
@@ -103,22 +105,23 @@ module _ (p : Program) (deepest : ℕ) (ks : List Kind) (F : List Frame) (b : Ba
           let x = global_value i σ in
           let e0 = ft.free t (omega arith) in
           let l1 = with_at l (NumberAt t) (Bits (I64 (bare x))) in
-          let start = then_goes (global_copied p.ranges (length kinds) g (NameNumber i) (Bits (I64 (bare x))) li (ap (λ c. Bits (I64 (name_word c x))) kh) refl) (set_ok b l (NumberAt t) (Bits (I64 (bare x))) lt (ft.numbers t)) in
+          let copy = copied (GlobalGet (global_of p.ranges (length kinds) (NameHand i))) (GlobalSet (global_of p.ranges (length kinds) (NameHand i))) (h b t) NoMore in
+          let start = then_goes (global_copied p.ranges (length kinds) g (NameNumber i) (Bits (I64 (bare x))) li (ap (λ c. Bits (I64 (name_word c x))) kh) refl) (then_goes (tee_ok b l (NumberAt t) (Bits (I64 (bare x))) lt (ft.numbers t)) (by_steps 1 refl)) in
           let f1 = fit_number p deepest ks F t (suc t) u w l σ (Bits (I64 (bare x))) refl (fit_more p deepest ks F t u w l σ ft) in
           let hand : name_hand (kind_here kinds i) (suc (suc (arrays_before kinds i))) x ≡ beside x = ap (λ c. name_hand c (suc (suc (arrays_before kinds i))) x) kh in
-          let none : beside x ≡ empty → BareRead i t u w k K l σ x = λ eh. record {
+          let none : nat_eq (bare x) text_beside ≡ false → beside x ≡ empty → BareRead i t u w k K l σ x = λ ne eh. record {
             conf = at ks [] K (laid b l1) F k (beside_state p deepest ks F σ);
-            steps = 7;
+            steps = 5;
             few = omega arith;
-            goes = then_goes start (if_none_global p deepest ks F b l1 (NameHand i) t σ li lt (hand ∙ eh) e0);
+            goes = then_goes (goes_to start (ap (λ q. at ks (Bits (flag q) ∷ []) K (laid b l1) F (when copy k) (beside_state p deepest ks F σ)) ne)) (then_goes (chooses copy NoMore 0) closes);
             put = record { next = l1; comes = refl; fit = f1; same = same_number [] t w t l (Bits (I64 (bare x))) (omega arith); holds = (e0 ∙ sym eh, upd_same l.number t (Bits (I64 (bare x)))) };
           } in
           elim z [
             | IsBeside eb eh ↦ record {
               conf = at ks [] K (laid b (with_at l1 (Hand t) (Held x))) F k (beside_state p deepest ks F σ);
-              steps = 11;
+              steps = 9;
               few = omega arith;
-              goes = then_goes start (if_any_global p deepest ks F b l1 (NameHand i) t x σ li lt (hand ∙ eh) (ap is_owned e0));
+              goes = then_goes (goes_to start (ap (λ m. at ks (Bits (flag (nat_eq m text_beside)) ∷ []) K (laid b l1) F (when copy k) (beside_state p deepest ks F σ)) eb)) (then_goes (chooses copy NoMore 1) (then_goes (copied_global p deepest ks F b l1 (NameHand i) t x σ li lt (hand ∙ eh) (ap is_owned e0)) closes));
               put = record {
                 next = with_at l1 (Hand t) (Held x);
                 comes = refl;
@@ -127,8 +130,8 @@ module _ (p : Program) (deepest : ℕ) (ks : List Kind) (F : List Frame) (b : Ba
                 holds = (upd_same l.hand t (Held x) ∙ sym eh, upd_same l.number t (Bits (I64 (bare x))));
               };
             }
-            | IsNone q eb eh ↦ none eh
-            | IsNumber m q eb eh ↦ none eh
+            | IsNone q eb eh ↦ none (ap (λ m. nat_eq m text_beside) eb) eh
+            | IsNumber m q eb eh ↦ none (ap (λ z. nat_eq z text_beside) eb ∙ word_not_beside m) eh
           ]
 
   pub get_bare_global : (i : ℕ) → ExprOk p deepest ks F b M n (Get (Global true i))

@@ -1,10 +1,11 @@
 -- What stands on the stack, in locals and in globals of the machine over values: a word, or what the number of a handle, of an array or of an iterator stands for.
 -- A cell that is owned has one place: who reads it moves it, and nothing may be put over it.
-use Rattle.std.specs.Prelude.{ℕ, zero, Bool, true, false, not, ◌&&◌, ◌||◌, nat_eq, nat_lt, List, [], ◌∷◌, take, drop, get_or, length, suc, cond}
+use Rattle.std.specs.Prelude.{ℕ, zero, ◌+◌, ◌-◌, Bool, true, false, not, ◌&&◌, ◌||◌, nat_eq, nat_lt, List, [], ◌∷◌, take, drop, get_or, length, suc, cond, Option, Some, None}
 use Rattle.awk_values.specs.declared.value.Value.{Value as AnyValue}
 use Rattle.wasm_store.specs.declared.word.Word.{Word}
 use Rattle.wasm_store.specs.declared.word.Word.TheVariants.{I32, I64}
 use Rattle.mid_program.specs.Mid.{Kind, Boxed, Unboxed, Many}
+use Rattle.mid_program.specs.Sorted.{same_kind}
 use Rattle.value_machine.specs.Small.{minus_one, text_beside}
 
 pub data Cell : Type 0 where
@@ -152,6 +153,31 @@ abbrev pub marks_fit : List Kind → List Cell → Bool
 marks_fit [] cs = true
 marks_fit (k ∷ ks) (c ∷ (n ∷ cs)) = mark_fits k c n && marks_fit ks cs
 marks_fit (k ∷ ks) _ = false
+
+-- A handle comes into the global of an unboxed name only while the command line assigns to that name, or back to where it was moved from.
+
+abbrev pub is_word : Cell → Bool
+is_word (Bits w) = true
+is_word _ = false
+
+abbrev pub is_gone : Cell → Bool
+is_gone Gone = true
+is_gone _ = false
+
+-- whether the x-th global of names is the handle of an unboxed one
+abbrev pub is_bare_handle : List Kind → (x : ℕ) → Bool
+is_bare_handle [] x = false
+is_bare_handle (k ∷ ks) zero = same_kind k Unboxed
+is_bare_handle (k ∷ ks) (suc zero) = false
+is_bare_handle (k ∷ ks) (suc (suc x)) = is_bare_handle ks x
+
+abbrev pub is_handle_of : Option ℕ → (x : ℕ) → Bool
+is_handle_of None x = false
+is_handle_of (Some i) x = nat_eq x (i + i)
+
+-- names begin with global `before`
+abbrev pub may_come : (before : ℕ) → List Kind → (assigning : Option ℕ) → (x : ℕ) → (old new : Cell) → Bool
+may_come before ks assigning x old new = is_word new || (is_gone old || (not (is_bare_handle ks (x - before)) || is_handle_of assigning (x - before)))
 
 -- once a fault is kept this is a bound from above: a name may have nothing
 abbrev pub ended_name : Kind → Cell → Bool

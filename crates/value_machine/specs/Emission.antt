@@ -15,10 +15,10 @@ use Rattle.awk_state.specs.declared.table.Primitive.TheVariants as row
 use Rattle.awk_state.specs.declared.table.Listed.{Listed}
 use Rattle.awk_state.specs.declared.table.Listed.TheVariants as listed
 use Rattle.wasm_types.specs.Syntax.{Loop as Again, Instructions, Done, Then}
-use Rattle.wasm_types.specs.declared.types.ValType.TheVariants.{I32, I64}
+use Rattle.wasm_types.specs.declared.types.ValType.TheVariants.{I64}
 use Rattle.wasm_types.specs.declared.instr.Simple.{Simple}
 use Rattle.wasm_types.specs.declared.instr.Simple.TheVariants.{Br, Call as CallOf, LocalGet, LocalSet, LocalTee, GlobalGet, GlobalSet, I32Const, I64Const, Test, Compare as Comparing, Convert}
-use Rattle.wasm_types.specs.declared.instr.IRelOp.TheVariants.{Ne}
+use Rattle.wasm_types.specs.declared.instr.IRelOp.TheVariants.{Eq}
 use Rattle.wasm_types.specs.declared.instr.ITestOp.TheVariants.{Eqz}
 use Rattle.wasm_types.specs.declared.instr.CvtOp.TheVariants.{I64ExtendI32U}
 use Rattle.mid_program.specs.declared.mid.Operation.{Operation}
@@ -29,7 +29,7 @@ use Rattle.mid_program.specs.Mid.{Kind, Boxed, Unboxed, Many, Slot, Global, Para
 use Rattle.mid_program.specs.Sorted.{count_of}
 use Rattle.value_machine.specs.Imports.{import_count}
 use Rattle.value_machine.specs.Places.{Bases, place_of, array_local, array_name, range_global, handle_global, number_global, made_in}
-use Rattle.value_machine.specs.Small.{does, ask, ask_row, when, either, minus_one, least, text_beside, moved_out, let_go, copied, copied_if_any, number_is, h, n, kept, kept_code, kept_value, boxed_number, boxed_perhaps, to_value, converted, code_number, truth, unused, released, moved_from, bound_from}
+use Rattle.value_machine.specs.Small.{does, ask, ask_row, when, either, minus_one, least, text_beside, moved_out, let_go, copied, number_is, h, n, kept, kept_code, kept_value, boxed_number, boxed_perhaps, to_value, converted, code_number, truth, unused, released, moved_from, bound_from}
 use Rattle.value_machine.specs.Arithmetic.{calculated, field_checked, compared}
 use Rattle.value_machine.specs.declared.import.Listing.TheVariants as listing
 use Rattle.value_machine.specs.declared.import.Import.TheVariants.{Over as OverLast, Arg, Drop, FreeArray}
@@ -85,8 +85,8 @@ module _ (y : Layout) where
   abbrev pub slot_read : Slot → ℕ → Instructions → Instructions
   slot_read (Global false i) t k = copied (GlobalGet (global_handle i)) (GlobalSet (global_handle i)) (h b t) k
   slot_read (Global true i) t k =
-      does (GlobalGet (global_number i)) (does (LocalSet (n b t))
-      (copied_if_any (GlobalGet (global_handle i)) (GlobalSet (global_handle i)) (h b t) k))
+      does (GlobalGet (global_number i)) (does (LocalTee (n b t)) (does (I64Const text_beside) (does (Comparing I64 Eq)
+      (when (copied (GlobalGet (global_handle i)) (GlobalSet (global_handle i)) (h b t) Done) k))))
   slot_read (Parameter false i) t k = copied (LocalGet i) (LocalSet i) (h b t) k
   slot_read (Parameter true i) t k = does (LocalGet i) (does (LocalSet (n b t)) k)
 
@@ -103,17 +103,16 @@ module _ (y : Layout) where
   value_stored o Perhaps t put k = boxed_perhaps b t put k
   value_stored o f t put k = ask_row row.Uninit (does put k)
 
-  -- the text beside an unboxed name, if there is one, is dropped; temporary t has no handle
-  abbrev pub text_dropped : ℕ → ℕ → Instructions → Instructions
-  text_dropped i t k =
-      does (GlobalGet (global_handle i)) (does (LocalTee (h b t)) (does (I32Const minus_one) (does (Comparing I32 Ne)
-      (when (moved_out (h b t) (ask Drop Done)) k))))
+  -- the text beside an unboxed name, if there is one, is dropped
+  abbrev pub text_dropped : ℕ → Instructions → Instructions
+  text_dropped i k =
+      does (GlobalGet (global_number i)) (does (I64Const text_beside) (does (Comparing I64 Eq)
+      (when (does (GlobalGet (global_handle i)) (ask Drop (does (I32Const minus_one) (does (GlobalSet (global_handle i)) Done)))) k)))
 
   abbrev pub slot_set : (only : Bool) → Slot → Form → ℕ → Instructions → Instructions
   slot_set o (Global false i) f t k = does (GlobalGet (global_handle i)) (ask Drop (value_stored o f t (GlobalSet (global_handle i)) k))
   slot_set o (Global true i) f t k =
-      text_dropped i t (does (I32Const minus_one) (does (GlobalSet (global_handle i))
-      (does (LocalGet (n b t)) (does (GlobalSet (global_number i)) k))))
+      text_dropped i (does (LocalGet (n b t)) (does (GlobalSet (global_number i)) k))
   slot_set o (Parameter false i) f t k = does (LocalGet i) (ask Drop (value_stored o f t (LocalSet i) k))
   slot_set o (Parameter true i) f t k = does (LocalGet (n b t)) (does (LocalSet i) k)
 
@@ -122,7 +121,7 @@ module _ (y : Layout) where
   abbrev pub assigned : Kind → ℕ → ℕ → Instructions → Instructions
   assigned Boxed i t k = does (GlobalGet (global_handle i)) (ask Drop (moved_out (h b t) (does (GlobalSet (global_handle i)) k)))
   assigned Unboxed i t k =
-      text_dropped i (suc t) (moved_out (h b t) (does (GlobalSet (global_handle i))
+      text_dropped i (moved_out (h b t) (does (GlobalSet (global_handle i))
       (does (I64Const text_beside) (does (GlobalSet (global_number i)) k))))
   assigned Many i t k = k
 

@@ -5,6 +5,7 @@ pub mod Machine
 pub mod Places
 pub mod Small
 pub mod Arithmetic
+pub mod Quick
 pub mod Emission
 pub mod Statements
 pub mod Boundaries

@@ -15,8 +15,9 @@ use Rattle.wasm_store.specs.declared.word.Word.TheVariants.{I32}
 use Rattle.wasm_store.specs.Words.{binary_of, test_of, compare_of, converted, flag, zero_of}
 use Rattle.wasm_machine.specs.Frames.{constant_of}
 use Rattle.mid_program.specs.Mid.{Kind}
+use Rattle.awk_values.specs.declared.value.Value.{Value}
 use Rattle.mid_program.specs.ScriptRun.{Ending, Ended, FaultedBy, GoesOn, Exhausted}
-use Rattle.value_machine.specs.Cells.{Cell, Bits, Held, IteratorOf, OwnedArray, LentArray, Gone, is_owned, left_by, read_global, left_in_global, cell_at, has_room, none_owned, has_owner, iterators_in, tidy_locals, locals_wait, tidy_name, ended_name, globals_by, marks_fit}
+use Rattle.value_machine.specs.Cells.{Cell, Bits, Held, IteratorOf, OwnedArray, LentArray, Gone, is_owned, left_by, read_global, left_in_global, cell_at, has_room, none_owned, has_owner, iterators_in, tidy_locals, locals_wait, tidy_name, ended_name, globals_by, marks_fit, may_come}
 use Rattle.value_machine.specs.Imports.{import_at, import_arguments, import_count, import_number, params_of}
 use Rattle.value_machine.specs.ImportCalls.{Host, call, look, carried_by}
 use Rattle.value_machine.specs.declared.import.Import.{Import}
@@ -36,10 +37,11 @@ pub record Frame : Type 0 where
   pub locals : List Cell
   pub rest : Instructions
 
--- what outlives calls
+-- what outlives calls; and the number of the name to which code is just making an assignment of the command line
 pub record Store : Type 0 where
   pub globals : List Cell
   pub host : Host
+  pub assigning : Option ℕ
 
 -- a function of the module, and its locals beside the parameters
 pub record Callee : Type 0 where
@@ -171,9 +173,15 @@ abbrev pub tee_local : ℕ → List Kind → List Cell → List Label → List C
 tee_local x ks [] K L F c G = Stuck
 tee_local x ks (v ∷ vs) K L F c G = guarded (has_room L x) (teed v x ks vs K (set L x v) F c G)
 
-abbrev pub set_global : ℕ → List Kind → List Cell → List Label → List Cell → List Frame → Instructions → Store → Conf
-set_global x ks [] K L F c G = Stuck
-set_global x ks (v ∷ vs) K L F c G = guarded (has_room G.globals x) (at ks vs K L F c (record G { globals = set G.globals x v }))
+-- an assignment is made once its value stands in a global; words come into globals before
+abbrev pub assigning_then : Cell → Option ℕ → Option ℕ
+assigning_then (Bits w) name = name
+assigning_then _ name = None
+
+abbrev pub set_global : Code → ℕ → List Kind → List Cell → List Label → List Cell → List Frame → Instructions → Store → Conf
+set_global u x ks [] K L F c G = Stuck
+set_global u x ks (v ∷ vs) K L F c G =
+    guarded (has_room G.globals x && may_come u.before u.names G.assigning x (cell_at G.globals x) v) (at ks vs K L F c (record G { globals = set G.globals x v; assigning = assigning_then v G.assigning }))
 
 -- Calls.
 
@@ -185,11 +193,20 @@ abbrev pub with_answer : Option (Option Cell × Host) → List Kind → List Cel
 with_answer None ks vs K L F c G = Stuck
 with_answer (Some a) ks vs K L F c G = at ks (onto a.0 vs) K L F c (record G { host = a.1 })
 
+-- an assignment begins where code asks for the name of the one that is pending
+abbrev pub number_pending : Option (ℕ × Value) → Option ℕ
+number_pending None = None
+number_pending (Some x) = Some x.0
+
+abbrev pub assigning_after : Import → Store → Option ℕ
+assigning_after (Of row.PendingName) G = number_pending G.host.shared.inner.pending
+assigning_after _ G = G.assigning
+
 abbrev pub ask : List ℕ → Option Import → List Kind → List Cell → List Label → List Cell → List Frame → Instructions → Store → Conf
 ask memory None ks vs K L F c G = Stuck
 ask memory (Some i) ks vs K L F c G =
     let given = reverse (take (width i) vs) in
-    guarded (all_live L F G.globals given) (with_answer (call memory i given G.host) ks (drop (width i) vs) K L F c G)
+    guarded (all_live L F G.globals given) (with_answer (call memory i given G.host) ks (drop (width i) vs) K L F c (record G { assigning = assigning_after i G }))
 
 abbrev pub ask_looking : Option Import → Cell → List Kind → List Cell → List Label → List Cell → List Frame → Instructions → Store → Conf
 ask_looking None v ks vs K L F c G = Stuck
@@ -264,7 +281,7 @@ act u (LocalGet x) ks vs K L F c G = guarded (nat_lt x (length L)) (at ks (cell_
 act u (LocalSet x) ks vs K L F c G = set_local x ks vs K L F c G
 act u (LocalTee x) ks vs K L F c G = tee_local x ks vs K L F c G
 act u (GlobalGet x) ks vs K L F c G = at ks (read_global (cell_at G.globals x) ∷ vs) K L F c (record G { globals = set G.globals x (left_in_global (cell_at G.globals x)) })
-act u (GlobalSet x) ks vs K L F c G = set_global x ks vs K L F c G
+act u (GlobalSet x) ks vs K L F c G = set_global u x ks vs K L F c G
 act u (Br d) ks vs K L F c G = guarded (none_owned vs) (br d ks K L F G)
 act u (BrIf d) ks vs K L F c G = br_if d ks vs K L F c G
 act u (Call n) ks vs K L F c G = call_number u n ks vs K L F c G

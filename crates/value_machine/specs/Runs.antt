@@ -1,5 +1,5 @@
 -- The run of a program's code on the machine over values.
-use Rattle.std.specs.Prelude.{ℕ, suc, List, [], ◌∷◌, ◌++◌, map, replicate, Option}
+use Rattle.std.specs.Prelude.{ℕ, suc, List, [], ◌∷◌, ◌++◌, map, replicate, Option, None}
 use Rattle.awk_state.specs.Jobs.{fault_of_job, shared_at_start}
 use Rattle.wasm_store.specs.declared.word.Word.TheVariants as word
 use Rattle.mid_program.specs.Mid.{Kind, Program}
@@ -38,7 +38,7 @@ host_at_start s = record { shared = shared_at_start s.job s.input s.outside; arg
 abbrev pub begun : Program → Setting → Conf
 begun p s =
     let f = main_callee p in
-    at [] [] [] (zeros f.locals) [] f.body (record { globals = first_globals p; host = host_at_start s })
+    at [] [] [] (zeros f.locals) [] f.body (record { globals = first_globals p; host = host_at_start s; assigning = None })
 
 -- how the module's run shows after so many steps; none where the machine is stuck
 abbrev pub value_run : Program → Setting → ℕ → Option Ending

@@ -1,5 +1,6 @@
 -- The code of steps, of functions and of `main`. A statement's place is the `nop` that begins its code: there the function holds nothing, iterators aside.
-use Rattle.std.specs.Prelude.{ℕ, zero, suc, ◌+◌, true, false, if◌then◌else◌, List, [], ◌∷◌, length, None}
+use Rattle.std.specs.Prelude.{ℕ, zero, suc, ◌+◌, ◌^◌, true, false, if◌then◌else◌, List, [], ◌∷◌, length, Option, Some, None, is_some, pos}
+use Rattle.std.specs.Int.{w64, cast_unsigned}
 use Rattle.awk_values.specs.Faults.{fault_number}
 use Rattle.awk_values.specs.declared.fault.Fault.TheVariants.{NextOutside}
 use Rattle.awk_state.specs.Constants.{flag_number, kind_number}
@@ -7,14 +8,17 @@ use Rattle.awk_state.specs.declared.constants.NameKind.{NameKind}
 use Rattle.awk_state.specs.declared.constants.NameKind.TheVariants.{Scalar, ArrayOrFunction}
 use Rattle.awk_state.specs.declared.table.Primitive.TheVariants as row
 use Rattle.wasm_types.specs.Syntax.{Block, Loop as Again, Instructions, Done, Then}
-use Rattle.wasm_types.specs.declared.types.ValType.TheVariants.{I32}
-use Rattle.wasm_types.specs.declared.instr.Simple.TheVariants.{Nop, Br, BrIf, LocalGet, LocalSet, LocalTee, GlobalGet, GlobalSet, I32Const, I64Const, Test, Compare as Comparing, Convert}
+use Rattle.wasm_types.specs.declared.types.ValType.TheVariants.{I32, I64}
+use Rattle.wasm_types.specs.declared.instr.Simple.{Simple}
+use Rattle.wasm_types.specs.declared.instr.Simple.TheVariants.{Nop, Br, BrIf, LocalGet, LocalSet, LocalTee, GlobalGet, GlobalSet, I32Const, I64Const, Test, Compare as Comparing, Binary, Convert}
 use Rattle.wasm_types.specs.declared.instr.IRelOp.TheVariants.{Eq, Ne}
 use Rattle.wasm_types.specs.declared.instr.ITestOp.TheVariants.{Eqz}
 use Rattle.wasm_types.specs.declared.instr.CvtOp.TheVariants.{I32WrapI64}
 use Rattle.mid_program.specs.Mid.{Kind, Boxed, Unboxed, Many, Code, Step, Eval, Block as Steps_, If as Either, Loop, Each, Break, Continue, Next, Exit, ExitWith, Return, Mark, Steps, NoStep, Then as AndThen, Program, a_value, form_of}
-use Rattle.value_machine.specs.Places.{Bases, way_global, status_global, range_global, handle_global, answer_local, iterator_local, array_local}
+use Rattle.value_machine.specs.Places.{Bases, way_global, status_global, range_global, handle_global, number_global, answer_local, iterator_local, array_local}
 use Rattle.value_machine.specs.Small.{does, ask, ask_row, when, either, end_code, moved_out, emptied, let_go, number_is, h, n, kept_code, kept_number, to_value, to_number}
+use Rattle.value_machine.specs.Quick.{Within, unsure, test_within, Source, Named, Constant, all_unsure, Sum, sum_names, sum_op, sum_in, Pair, pair_names, pair_in, contrary, step_jumps, is_nothing}
+use Rattle.value_machine.specs.Arithmetic.{relation}
 use Rattle.value_machine.specs.Emission.{Layout, array_pushed, text_pushed, pending_assigned, asked, emitted, dropped, tested}
 use Rattle.value_machine.specs.declared.import.Import.TheVariants.{Drop, IterFree, FreeArray}
 
@@ -51,16 +55,53 @@ module _ (y : Layout) where
   abbrev pub iterator_left : ℕ → Instructions → Instructions
   iterator_left u k = emptied (h b zero) (moved_out (iterator_local b u) (ask IterFree k))
 
+  -- Quick ways: sums that go to a name, and tests.
+
+  abbrev pub name_number : ℕ → ℕ
+  name_number i = number_global y.ranges i
+
+  abbrev pub name_read : ℕ → Simple
+  name_read i = GlobalGet (name_number i)
+
+  abbrev pub source_pushed : Source → Instructions → Instructions
+  source_pushed (Named i) k = does (name_read i) k
+  source_pushed (Constant z) k = does (I64Const (cast_unsigned w64 z)) k
+
+  abbrev pub summed : Sum → Instructions → Instructions
+  summed s k = source_pushed s.left (source_pushed s.right (does (Binary I64 (sum_op s.op)) (does (GlobalSet (name_number s.target)) k)))
+
+  abbrev pub quickly_dropped : Option Sum → Code → ℕ → Instructions → Instructions
+  quickly_dropped None e d k = dropped y [] [] e zero zero d k
+  quickly_dropped (Some s) e d k = all_unsure name_read (sum_names s) (pos (2 ^ 52)) (2 ^ 53) (either (dropped y [] [] e zero zero (suc d) Done) (summed s Done) k)
+
+  -- both ways of a comparison are quick
+  abbrev pub pair_left : Pair → ℕ → Instructions → Instructions
+  pair_left q out k = source_pushed q.left (source_pushed q.right (does (Comparing I64 (relation (contrary q.op))) (does (BrIf out) k)))
+
+  abbrev pub left_unless_pair : Option Pair → Code → (d out : ℕ) → Instructions → Instructions
+  left_unless_pair None e d out k = tested y [] [] e zero zero d (does (Test I32 Eqz) (does (BrIf out) k))
+  left_unless_pair (Some q) e d out k =
+      all_unsure name_read (pair_names q) (pos (2 ^ 53)) (2 ^ 54) (either (tested y [] [] e zero zero (suc d) (does (Test I32 Eqz) (does (BrIf (suc out)) Done))) (pair_left q (suc out) Done) k)
+
+  -- where a test fails `out` labels further out are left
+  abbrev pub left_unless : Option Within → Code → (d out : ℕ) → Instructions → Instructions
+  left_unless None e d out k = left_unless_pair (pair_in e) e d out k
+  left_unless (Some q) e d out k =
+      unsure (name_read q.name) q.shift q.width (when (tested y [] [] e zero zero (suc d) (does (Test I32 Eqz) (does (BrIf (suc out)) Done))) k)
+
   -- Steps: u iterators are in use; so many labels are between the code and the function's exit, the place where `break` goes, and the one where `continue` goes.
   unfoldable mutual
     pub step_emitted : Step → (u d bk ct : ℕ) → Instructions → Instructions
-    step_emitted (Eval e) u d bk ct k = does Nop (dropped y [] [] e zero zero d k)
+    step_emitted (Eval e) u d bk ct k = does Nop (quickly_dropped (sum_in e) e d k)
     step_emitted (Steps_ ss) u d bk ct k = does Nop (steps_emitted ss u d bk ct k)
     step_emitted (Either e a c) u d bk ct k =
-        does Nop (tested y [] [] e zero zero d (either (step_emitted a u (suc d) (suc bk) (suc ct) Done) (step_emitted c u (suc d) (suc bk) (suc ct) Done) k))
+        does Nop (if is_some (pair_in e)
+        then block (block (left_unless_pair (pair_in e) e (suc (suc d)) zero (step_emitted a u (suc (suc d)) (suc (suc bk)) (suc (suc ct)) (does (Br 1) Done))) (step_emitted c u (suc d) (suc bk) (suc ct) Done)) k
+        else tested y [] [] e zero zero d (either (step_emitted a u (suc d) (suc bk) (suc ct) Done) (step_emitted c u (suc d) (suc bk) (suc ct) Done) k))
     step_emitted (Loop true e a c) u d bk ct k =
-        does Nop (block (again (tested y [] [] e zero zero (suc (suc d)) (does (Test I32 Eqz) (does (BrIf 1)
-        (block (step_emitted a u (suc (suc (suc d))) 2 zero Done) (step_emitted c u (suc (suc d)) 1 zero (does (Br zero) Done)))))) Done) k)
+        let rest = if is_nothing c then does (Br zero) Done else step_emitted c u (suc (suc d)) 1 zero (does (Br zero) Done) in
+        does Nop (block (again (left_unless (test_within e) e (suc (suc d)) 1
+        (if step_jumps a then block (step_emitted a u (suc (suc (suc d))) 2 zero Done) rest else step_emitted a u (suc (suc d)) 1 zero rest)) Done) k)
     step_emitted (Loop false e a c) u d bk ct k =
         does Nop (block (again (block (step_emitted a u (suc (suc (suc d))) 2 zero Done)
         (step_emitted c u (suc (suc d)) 1 zero (does Nop (tested y [] [] e zero zero (suc (suc d)) (does (BrIf zero) Done))))) Done) k)

@@ -14,7 +14,7 @@ use Rattle.host_step.specs.HostStep.{HostStep}
 use Rattle.value_machine.specs.Cells.{Cell}
 use Rattle.value_machine.specs.ImportCalls.{call}
 use Rattle.value_machine.specs.Imports.{import_at, import_type}
-use Rattle.value_machine.specs.Machine.{Code, Frame, Label, Store, all_live, ask, guarded, width, with_answer}
+use Rattle.value_machine.specs.Machine.{Code, Frame, Label, Store, all_live, ask, assigning_after, guarded, width, with_answer}
 use Rattle.value_machine.specs.declared.import.Import.{Import}
 use Rattle.value_refined.specs.Growing.{ArraysGrow}
 use Rattle.value_refined.specs.Owners.{owners, waiting, wanted}
@@ -23,7 +23,7 @@ use Rattle.value_refined.specs.Words.{arrays_made, state_with}
 use Rattle.value_refined.proofs.Answered.{comes_as}
 use Rattle.value_refined.proofs.Asking.{all_live_as}
 use Rattle.value_refined.proofs.Calling.{Outcome}
-use Rattle.value_refined.proofs.Going.{stuck_as, untyped_as}
+use Rattle.value_refined.proofs.Going.{assigning_as, stuck_as, untyped_as}
 use Rattle.value_refined.proofs.Moving.{owners_reverse, owners_split, words_drop, words_reverse, words_take}
 use Rattle.value_refined.proofs.Numbering.{called_as}
 
@@ -63,9 +63,9 @@ module _ (used : ℕ → Bool) (bs : List Bool) (u : Code) (grow : ArraysGrow) (
   pub asked_as : NextAs used bs u (ask u.memory (Some i) ks vs K L F k G) c s (asked n (import_type i) c)
   asked_as = within (nat_lt (length c.frame.values) (length (import_type i).params))
     where
-      asks : (b : Bool) → all_live L F G.globals cells ≡ b → NextAs used bs u (guarded b (with_answer (call u.memory i cells G.host) ks (drop w vs) K L F k G)) c s (Asks n args (with_operands c (drop w c.frame.values)))
+      asks : (b : Bool) → all_live L F G.globals cells ≡ b → NextAs used bs u (guarded b (with_answer (call u.memory i cells G.host) ks (drop w vs) K L F k (record G { assigning = assigning_after i G }))) c s (Asks n args (with_operands c (drop w c.frame.values)))
       asks false l = stuck_as c s (Asks n args (with_operands c (drop w c.frame.values)))
-      asks true l = comes_as ks run.rest run.code-is (drop w vs) (drop w c.frame.values) (words_drop (arrays_made G.host) s.names w vs c.frame.values run.operands) n args (call u.memory i cells G.host) (comes_to l)
+      asks true l = comes_as ks (assigning_as run.rest (assigning_after i G)) run.code-is (drop w vs) (drop w c.frame.values) (words_drop (arrays_made G.host) s.names w vs c.frame.values run.operands) n args (call u.memory i cells G.host) (comes_to l)
 
       within : (b : Bool) → NextAs used bs u (ask u.memory (Some i) ks vs K L F k G) c s (if b then Ends ends.Stuck else Asks n args (with_operands c (drop w c.frame.values)))
       within true = untyped_as c s (ask u.memory (Some i) ks vs K L F k G)

@@ -128,7 +128,7 @@ module _ (p : Program) where
 
   module _ (s : Setting) where
     abbrev G : Store
-    G = record { globals = first_globals p; host = host_at_start s }
+    G = record { globals = first_globals p; host = host_at_start s; assigning = None }
 
     -- all else than the code
     rest_as : (d : ℕ) → RestAs (stays p) (called_imports p) (code_of p d) [] (zeros (main_callee p).locals) [] G in_main
@@ -160,7 +160,7 @@ module _ (p : Program) where
 
 -- So a run has one step more than its run from `main` on, over whatever host.
 module _ {H O : Type 0} (M : Meaning H O) (m : ProgramForm) (c c0 : Conf) (first : turn m c ≡ Goes c0) where
-  taken_first : (h : H) (out : List O) (c1 : Conf) (h1 : H) → TakenAs M (turn m c) h c.memory out c1 h1 → (c1 ≡ c0) × (h1 ≡ h) × (out ≡ [])
+  pub taken_first : (h : H) (out : List O) (c1 : Conf) (h1 : H) → TakenAs M (turn m c) h c.memory out c1 h1 → (c1 ≡ c0) × (h1 ≡ h) × (out ≡ [])
   taken_first h out c1 h1 t = subst (λ (z : Turn). TakenAs M z h c.memory out c1 h1) first t
 
   pub steps_after : (n : ℕ) (h : H) (out : List O) (c1 : Conf) (h1 : H) → Steps M m (suc n) c h out c1 h1 → Steps M m n c0 h out c1 h1

@@ -1,5 +1,5 @@
 -- A step that goes on by itself, from its parts.
-use Rattle.std.proofs.Common.{inl, inr, ℕ, Bool, List, refl, sym, ap, subst}
+use Rattle.std.proofs.Common.{inl, inr, ℕ, Bool, List, Option, refl, sym, ap, subst}
 use Rattle.wasm_types.specs.Syntax.{Instructions}
 use Rattle.wasm_store.specs.declared.word.Word.{Word}
 use Rattle.wasm_machine.specs.Frames.{FrameForm}
@@ -36,6 +36,20 @@ module _ {used : ℕ → Bool} {bs : List Bool} {u : Code} {K : List Label} {L :
   pub framed : (K1 : List Label) (L1 : List Cell) (f : FrameForm) → LabelsAs used bs (arrays_made G.host) s.names K1 f.labels → WordsAs (arrays_made G.host) s.names L1 f.locals → RestAs used bs u K1 L1 F G (with_frame c f) s
   framed K1 L1 f labels locals =
       record { labels = labels; locals = locals; globals = rest.globals; callers = rest.callers; result = rest.result; host = rest.host; arrays = rest.arrays; behind = rest.behind; memory = rest.memory }
+
+  -- it does not matter here to which name an assignment is just made
+  pub assigning_as : (name : Option ℕ) → RestAs used bs u K L F (record G { assigning = name }) c s
+  assigning_as name = record {
+    labels = rest.labels;
+    locals = rest.locals;
+    globals = rest.globals;
+    callers = rest.callers;
+    result = rest.result;
+    host = rest.host;
+    arrays = rest.arrays;
+    behind = rest.behind;
+    memory = rest.memory;
+  }
 
   abbrev pub Once : List Cell → List Word → List Cell → List Word → Type 0
   Once vs ws L1 ls = OwnedOnce s.names vs ws L1 ls G.globals c.globals F c.callers

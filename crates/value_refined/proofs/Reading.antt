@@ -34,7 +34,7 @@ use Rattle.host_step.specs.declared.import.Import.TheVariants as hosted
 use Rattle.value_machine.specs.Cells.{Cell, Bits}
 use Rattle.value_machine.specs.ImportCalls.{Host, acted, after_fault, call, row_in, taken}
 use Rattle.value_machine.specs.Imports.{import_at, import_type}
-use Rattle.value_machine.specs.Machine.{Code, Frame, Label, Store, all_live, ask, at, guarded, width, with_answer}
+use Rattle.value_machine.specs.Machine.{Code, Frame, Label, Store, all_live, ask, assigning_after, at, guarded, width, with_answer}
 use Rattle.value_machine.specs.declared.import.Import.TheVariants.{Of}
 use Rattle.value_refined.specs.Growing.{ArraysGrow}
 use Rattle.value_refined.specs.Owners.{owners, waiting, wanted}
@@ -158,9 +158,9 @@ module _ (used : ℕ → Bool) (bs : List Bool) (u : Code) (grow : ArraysGrow) (
 
   module _ (c1 : real.Conf) (s1 : HostState) (x : Option Word) (me : c1.memory ≡ c.memory) (to : c1 ≡ answered (record after { memory = c1.memory }) x) where
     -- nothing is promised where the machine over values is stuck
-    stuck : (b : Bool) (o : Option (Option Cell × Host)) → o ≡ None → As used bs u (guarded b (with_answer o ks (drop w vs) K L F k G)) c1 s1
+    stuck : (b : Bool) (o : Option (Option Cell × Host)) → o ≡ None → As used bs u (guarded b (with_answer o ks (drop w vs) K L F k (record G { assigning = assigning_after (Of p) G }))) c1 s1
     stuck false o e = tt
-    stuck true o e = subst (λ (z : Option (Option Cell × Host)). As used bs u (with_answer z ks (drop w vs) K L F k G) c1 s1) (sym e) tt
+    stuck true o e = subst (λ (z : Option (Option Cell × Host)). As used bs u (with_answer z ks (drop w vs) K L F k (record G { assigning = assigning_after (Of p) G })) c1 s1) (sym e) tt
 
     no_row : s.fault ≡ None → row_in u.memory (arguments_of p) cells ≡ None → call u.memory (Of p) cells G.host ≡ None
     no_row f e =
@@ -187,7 +187,7 @@ module _ (used : ℕ → Bool) (bs : List Bool) (u : Code) (grow : ArraysGrow) (
     by_row f (Some y) e (Ok z) a h = by_acts z.1 a.1 (host.acts (hosted.Of p) z.0 s) h
 
     by_live : s.fault ≡ None → (b : Bool) → all_live L F G.globals cells ≡ b → Reads (come (carried (hosted.Of p) args c.memory.bytes s)) → OwnOrRead c1 s1
-    by_live f false e h = inl (subst (λ b. As used bs u (guarded b (with_answer (call u.memory (Of p) cells G.host) ks (drop w vs) K L F k G)) c1 s1)
+    by_live f false e h = inl (subst (λ b. As used bs u (guarded b (with_answer (call u.memory (Of p) cells G.host) ks (drop w vs) K L F k (record G { assigning = assigning_after (Of p) G }))) c1 s1)
         (sym e) tt)
     by_live f true e h =
         by_row f (row_in u.memory (arguments_of p) cells) refl (decode (spends (hosted.Of p)) c.memory.bytes s.names (arguments_of p) args)

@@ -28,7 +28,8 @@ module _ {used : ℕ → Bool} {bs : List Bool} {u : Code} {m : ProgramForm} (li
       ∙ (ap (λ (q : Option ValType). returned_with (with_frame c (record { values = a.word ∷ []; labels = []; locals = []; code = Done })) q (a.word ∷ [])) a.result
       ∙ ap (λ (q : List CallerForm). to_caller c (a.word ∷ []) (Some a.word) q) a.callers)
 
-  taken_as : (p : Conf) (c : real.Conf) (s : HostState) (out : List Action) (c1 : real.Conf) (s1 : HostState) → As used bs u p c s → TakenAs table_meaning (turn m c) s c.memory out c1 s1 → As used bs u (step u p) c1 s1
+  -- one step is one step
+  pub taken_as : (p : Conf) (c : real.Conf) (s : HostState) (out : List Action) (c1 : real.Conf) (s1 : HostState) → As used bs u p c s → TakenAs table_meaning (turn m c) s c.memory out c1 s1 → As used bs u (step u p) c1 s1
   taken_as (Over v G) c s out c1 s1 a t = absurd (subst (λ z. TakenAs table_meaning z s c.memory out c1 s1) (left_turn v G c s a) t)
   taken_as (Run ks vs K L F code G) c s out c1 s1 a t = (step_as linked grow (Run ks vs K L F code G) c s tt a).taken c1 s1 out t
   taken_as (Look x ks vs K L F code G) c s out c1 s1 a t = (step_as linked grow (Look x ks vs K L F code G) c s tt a).taken c1 s1 out t

@@ -1,7 +1,7 @@
 -- What runs take: `n` is unboxed, and no import is called where it counts.
-use Rattle.std.specs.Prelude.{◌≡◌, ℕ, Bool, true, false, [], ◌∷◌, codes, Some, pos, refl}
+use Rattle.std.specs.Prelude.{◌≡◌, ℕ, Bool, true, false, List, [], ◌∷◌, codes, None, Some, pos, refl}
 use Rattle.std.specs.Fmt.{digits}
-use Rattle.awk_values.specs.declared.comparison.CompareOp.TheVariants.{Less}
+use Rattle.awk_values.specs.declared.comparison.CompareOp.TheVariants.{Less, LessOrEqual}
 use Rattle.awk_values.specs.declared.fault.Fault.TheVariants.{TextLimit}
 use Rattle.world_core.specs.WorldState.{Standard, absent, puts}
 use Rattle.world_core.specs.declared.world.Ending.TheVariants as outside
@@ -9,8 +9,9 @@ use Rattle.awk_state.specs.declared.constants.Destination.TheVariants as to
 use Rattle.awk_state.specs.declared.table.Listed.TheVariants.{Print}
 use Rattle.mid_program.specs.ScriptRun.{Setting, Ended, FaultedBy, setting_of}
 use Rattle.mid_program.specs.declared.mid.Arithmetic.TheVariants.{Plus}
-use Rattle.mid_program.specs.declared.mid.Operation.TheVariants.{Inline}
-use Rattle.mid_program.specs.Mid.{Kind, Boxed, Unboxed, Global, Code, Do, Over, Compare, Number, Get, Set, End, At, Step, Eval, Block, Loop, Steps, NoStep, Then, Program}
+use Rattle.mid_program.specs.declared.mid.Operation.TheVariants.{AsNumber, Inline}
+use Rattle.mid_program.specs.Mid.{Kind, Boxed, Unboxed, Global, Code, Do, Over, Compare, Number, Get, Set, Seq, Let, Bound, End, At, Declared, Step, Eval, Block, Loop, Steps, NoStep, Then, Program}
+use Rattle.mid_program.specs.Sorted.{sorted, all_sorted, step_sorted, steps_sorted, is_sorted}
 use Rattle.value_machine.specs.Emission.{emitted, all_emitted}
 use Rattle.value_machine.specs.Statements.{step_emitted, steps_emitted}
 use Rattle.value_machine.specs.Machine.{Conf, go, ending_at, at, zeros}
@@ -69,17 +70,53 @@ no_import_between = refl
 abbrev faulted_at_start : Program → Conf
 faulted_at_start p =
     let f = main_callee p in
-    at [] [] [] (zeros f.locals) [] f.body (record { globals = first_globals p; host = record (host_at_start plain_setting) { fault = Some TextLimit } })
+    at [] [] [] (zeros f.locals) [] f.body (record { globals = first_globals p; host = record (host_at_start plain_setting) { fault = Some TextLimit }; assigning = None })
 
 pub kept_from_the_start : ending_at (go (code_of (counting false 3) 9999) 1000 (faulted_at_start (counting false 3))) ≡ Some (FaultedBy TextLimit [])
 unfolding emitted all_emitted step_emitted steps_emitted digits
 kept_from_the_start = refl
 
--- 64 steps a round and no import; boxed, 52 steps and 7 imports
-pub unboxed_rounds : (steps_of (counting true 10) ≡ 743) × ((steps_of (counting true 20) ≡ 1383) × (imports_of (counting true 10) ≡ 7))
+-- 15 steps a round and no import; boxed, 49 steps and 7 imports
+pub unboxed_rounds : (steps_of (counting true 10) ≡ 303) × ((steps_of (counting true 20) ≡ 453) × (imports_of (counting true 10) ≡ 7))
 unfolding emitted all_emitted step_emitted steps_emitted digits
 unboxed_rounds = (refl, (refl, refl))
 
-pub boxed_rounds : (steps_of (counting false 10) ≡ 605) × ((steps_of (counting false 20) ≡ 1125) × ((imports_of (counting false 10) ≡ 81) × (imports_of (counting false 20) ≡ 151)))
+pub boxed_rounds : (steps_of (counting false 10) ≡ 575) × ((steps_of (counting false 20) ≡ 1065) × ((imports_of (counting false 10) ≡ 81) × (imports_of (counting false 20) ≡ 151)))
 unfolding emitted all_emitted step_emitted steps_emitted digits
 boxed_rounds = (refl, (refl, (refl, refl)))
+
+-- BEGIN { m = k; for (i = 1; i <= m; i++) s += i; print s }: m, i and s in this order
+abbrev nth : ℕ → Code
+nth i = Get (Global true i)
+
+abbrev unboxed_name : List ℕ → Declared
+unboxed_name x = record { name = x; kind = Unboxed }
+
+abbrev first_and_next : Steps
+first_and_next =
+    Then (Eval (Set (Global true 1) (Number (pos 1))))
+    (Then (Loop true (Compare LessOrEqual (nth 1) (nth 0))
+    (Eval (Let (nth 1) (Set (Global true 2) (Do (Inline Plus) (At (nth 2) (At (Bound true 0) End))))))
+    (Eval (Let (Do AsNumber (At (nth 1) End)) (Let (Do (Inline Plus) (At (Bound false 0) (At (Number (pos 1)) End))) (Seq (Set (Global true 1) (Bound true 0)) (Bound true 1))))))
+    NoStep)
+
+abbrev summing : ℕ → Program
+summing k = record {
+  texts = [];
+  globals = unboxed_name (codes "m") ∷ (unboxed_name (codes "i") ∷ (unboxed_name (codes "s") ∷ []));
+  routines = [];
+  ranges = 1;
+  begin = Then (Eval (Set (Global true 0) (Number (pos k)))) (Then (Block first_and_next) (Then (Eval (Over (Print to.Standard) (At (nth 2) End))) NoStep));
+  reads = false;
+  items = NoStep;
+  end = NoStep;
+}
+
+pub summed_to_ten : is_sorted (summing 10) ≡ true × value_run (summing 10) plain_setting 2000 ≡ Some (Ended 0 (puts Standard (codes "55\n")))
+unfolding emitted all_emitted step_emitted steps_emitted digits sorted all_sorted step_sorted steps_sorted
+summed_to_ten = (refl, refl)
+
+-- 35 steps a round
+pub summing_rounds : (steps_of (summing 10) ≡ 509) × (steps_of (summing 20) ≡ 859)
+unfolding emitted all_emitted step_emitted steps_emitted digits
+summing_rounds = (refl, refl)

@@ -21,7 +21,7 @@ use Rattle.value_machine.specs.declared.import.Import.TheVariants.{Of, Drop}
 use Rattle.value_machine.proofs.Arrays.{array_named}
 use Rattle.value_typed.proofs.Singles.{Stack, Labels, Exit, inner, nearest, variable, Writes, reads_local, writes_local, reads_global, writes_global, called, takes, get, put, tee, read, write, word, long, compare, convert, leave, looped, branched}
 use Rattle.value_typed.proofs.Standing.{Stands, kind_below}
-use Rattle.value_typed.proofs.Pieces.{moved_out_ok, copied_ok, copied_if_any_ok, number_is_ok, kept_code_ok, boxed_number_ok, boxed_perhaps_ok}
+use Rattle.value_typed.proofs.Pieces.{moved_out_ok, copied_ok, number_is_ok, kept_code_ok, boxed_number_ok, boxed_perhaps_ok}
 
 module _ {p : Program} {ks : List Kind} {b : Bases} {C : Context} (at : Stands p ks b C) where
   array_there : (i : ℕ) → nat_lt (suc (suc i)) (suc (suc (arrays_among p.globals))) ≡ true →
@@ -46,7 +46,7 @@ module _ {p : Program} {ks : List Kind} {b : Bases} {C : Context} (at : Stands p
     slot_read_ok (Global true i) {t = t} h lt r =
         let l = kind_below (kinds_of p.globals) i Unboxed h in
         let g = at.name_handle i l in
-        read (at.name_number i l) (put (at.number t lt) (copied_if_any_ok at (reads_global g) (writes_global g) (at.handle t lt) r))
+        read (at.name_number i l) (tee (at.number t lt) (long (compare (branched (copied_ok at (reads_global g) (writes_global g) (at.handle t lt) done) done r))))
     slot_read_ok (Parameter false i) {t = t} h lt r =
         let g = at.parameter i Boxed h in
         copied_ok at (reads_local g) (writes_local g) (at.handle t lt) r
@@ -57,11 +57,9 @@ module _ {p : Program} {ks : List Kind} {b : Bases} {C : Context} (at : Stands p
     handle_stored_ok true {t = t} lt s r = moved_out_ok at (at.handle t lt) (takes s r)
     handle_stored_ok false {t = t} lt s r = get (at.handle t lt) (tee (at.handle t lt) (called ps (at.imported (Of row.Dup)) (takes s r)))
 
-    text_dropped_ok : {i t : ℕ} → i < length (kinds_of p.globals) → t < b.temporaries → CodeOk C L k ps rs →
-        CodeOk C L (text_dropped (layout_of p b) i t k) ps rs
-    text_dropped_ok {i = i} {t = t} li lt r =
-        read (at.name_handle i li) (tee (at.handle t lt)
-        (word (compare (branched (moved_out_ok at (at.handle t lt) (called [] (at.imported Drop) done)) done r))))
+    text_dropped_ok : {i : ℕ} → i < length (kinds_of p.globals) → CodeOk C L k ps rs → CodeOk C L (text_dropped (layout_of p b) i k) ps rs
+    text_dropped_ok {i = i} li r =
+        read (at.name_number i li) (long (compare (branched (read (at.name_handle i li) (called [] (at.imported Drop) (word (write (at.name_handle i li) done)))) done r)))
 
   module _ {L : Labels} {k : Instructions} {ps rs : Stack} where
     value_stored_ok : (o : Bool) (f : Form) {t : ℕ} {set_it : Simple} → t < b.temporaries → Writes C set_it I32 → CodeOk C L k ps rs →
@@ -83,7 +81,7 @@ module _ {p : Program} {ks : List Kind} {b : Bases} {C : Context} (at : Stands p
         read g (called ps (at.imported Drop) (value_stored_ok o f lt (writes_global g) r))
     slot_set_ok o (Global true i) f {t = t} h lt r =
         let l = kind_below (kinds_of p.globals) i Unboxed h in
-        text_dropped_ok l lt (word (write (at.name_handle i l) (get (at.number t lt) (write (at.name_number i l) r))))
+        text_dropped_ok l (get (at.number t lt) (write (at.name_number i l) r))
     slot_set_ok o (Parameter false i) f h lt r =
         let g = at.parameter i Boxed h in
         get g (called ps (at.imported Drop) (value_stored_ok o f lt (writes_local g) r))
@@ -97,7 +95,7 @@ module _ {p : Program} {ks : List Kind} {b : Bases} {C : Context} (at : Stands p
         let g = at.name_handle i li in
         read g (called ps (at.imported Drop) (moved_out_ok at (at.handle t (omega (arith, lt))) (write g r)))
     assigned_ok Unboxed {i = i} {t = t} li lt r =
-        text_dropped_ok li lt (moved_out_ok at (at.handle t (omega (arith, lt))) (write (at.name_handle i li) (long (write (at.name_number i li) r))))
+        text_dropped_ok li (moved_out_ok at (at.handle t (omega (arith, lt))) (write (at.name_handle i li) (long (write (at.name_number i li) r))))
     assigned_ok Many li lt r = r
 
   module _ {L : Labels} {k : Instructions} {ps rs : Stack} where

@@ -1,21 +1,24 @@
 -- The code of steps is typed: between two steps nothing is on the stack, and each way out is a label that wants nothing.
-use Rattle.std.proofs.Common.{◌≡◌, ℕ, zero, suc, ◌+◌, ◌<◌, ◌≤◌, Bool, true, false, List, [], ◌∷◌, arith}
-use Rattle.std.specs.Prelude.{◌&&◌}
+use Rattle.std.proofs.Common.{◌≡◌, ℕ, zero, suc, ◌+◌, ◌<◌, ◌≤◌, ◌^◌, Bool, true, false, List, [], ◌∷◌, Some, None, Option, ℤ, pos, refl, arith, if◌then◌else◌}
+use Rattle.std.specs.Prelude.{◌&&◌, slice_get, is_some}
 use Rattle.std.proofs.lemmas.Bool.{and_parts, ltb-true}
 use Rattle.awk_state.specs.declared.sorts.Sort.TheVariants as sort
 use Rattle.awk_state.specs.declared.table.Primitive.TheVariants as row
 use Rattle.wasm_types.specs.Syntax.{Instructions}
 use Rattle.wasm_types.specs.Typing.{Context, CodeOk, done}
-use Rattle.wasm_types.specs.declared.types.ValType.TheVariants.{I32}
-use Rattle.mid_program.specs.Mid.{Kind, Program, Code, Step, Eval, Block, If, Loop, Each, Break, Continue, Next, Exit as ExitStep, ExitWith, Return, Mark, Steps, NoStep, Then, Form, a_value, form_of}
-use Rattle.mid_program.specs.Sorted.{context_of, is_array_place, fits, is_tested, is_dropped, stores_well, sorted, test_sorted, step_sorted, steps_sorted}
+use Rattle.wasm_types.specs.declared.types.ValType.TheVariants.{I32, I64}
+use Rattle.wasm_types.specs.declared.instr.Simple.TheVariants.{GlobalGet}
+use Rattle.mid_program.specs.Mid.{Kind, Unboxed, Program, Code, Step, Eval, Block, If, Loop, Each, Break, Continue, Next, Exit as ExitStep, ExitWith, Return, Mark, Steps, NoStep, Then, Form, a_value, form_of}
+use Rattle.mid_program.specs.Sorted.{context_of, kinds_of, is_array_place, fits, is_tested, is_dropped, stores_well, sorted, test_sorted, step_sorted, steps_sorted}
 use Rattle.value_machine.specs.Emission.{dropped, tested}
 use Rattle.value_machine.specs.Functions.{layout_of}
 use Rattle.value_machine.specs.Places.{Bases, room, arrays_in, step_room, steps_room, step_arrays, steps_arrays, step_iterators, steps_iterators}
-use Rattle.value_machine.specs.Statements.{left_by, key_stored, iterator_left, step_emitted, steps_emitted}
+use Rattle.value_machine.specs.Quick.{Within, unsure, test_within, Source, Named, Constant, joined, all_unsure, Sum, sum_names, sum_in, Pair, pair_names, pair_in, step_jumps, is_nothing}
+use Rattle.value_machine.proofs.QuickSteps.{AllUnboxed, SourceFits, test_is, sum_is, sum_unboxed, pair_is, pair_unboxed}
+use Rattle.value_machine.specs.Statements.{name_read, source_pushed, quickly_dropped, left_unless_pair, left_unless, left_by, key_stored, iterator_left, step_emitted, steps_emitted}
 use Rattle.value_machine.specs.declared.import.Import.TheVariants.{Of, Drop, IterFree}
-use Rattle.value_typed.proofs.Singles.{Stack, Labels, Exit, inner, nearest, nothing, called, get, put, tee, write, word, compare, test, leave, leave_if, blocked, looped, branched}
-use Rattle.value_typed.proofs.Standing.{Stands}
+use Rattle.value_typed.proofs.Singles.{Stack, Labels, Exit, inner, nearest, nothing, called, get, put, tee, read, write, word, long, binary, variable, compare, test, leave, leave_if, blocked, looped, branched}
+use Rattle.value_typed.proofs.Standing.{Stands, kind_below}
 use Rattle.value_typed.proofs.Pieces.{moved_out_ok, emptied_ok, let_go_ok, to_value_ok, to_number_ok, truth_ok}
 use Rattle.value_typed.proofs.Slots.{array_pushed_ok}
 use Rattle.value_typed.proofs.Rows.{room_there}
@@ -41,11 +44,60 @@ module _ {p : Program} {ks : List Kind} {b : Bases} {C : Context} (at : Stands p
         (omega (arith, h)) (omega (arith, g)) x
         (truth_ok at (form_of [] e) lt r)
 
+    unsure_ok : {ps : Stack} {x : ℕ} (q : ℤ) (w : ℕ) → slice_get C.globals x ≡ Some (variable I64) → CodeOk C L k (I32 ∷ ps) rs → CodeOk C L (unsure (GlobalGet x) q w k) ps rs
+    unsure_ok q w e r = read e (long (binary (long (compare r))))
+
+    source_ok : {ps : Stack} (m : ℕ) (q : Source) → SourceFits p 0 ks [] b 0 0 m q → CodeOk C L k (I64 ∷ ps) rs → CodeOk C L (source_pushed (layout_of p b) q k) ps rs
+    source_ok m (Named i) h r = read (at.name_number i (kind_below (kinds_of p.globals) i Unboxed h)) r
+    source_ok m (Constant z) h r = long r
+
     left_by_ok : {d : ℕ} (n : ℕ) → Exit L d → CodeOk C L k [] rs → CodeOk C L (left_by n d k) [] rs
     left_by_ok n x r = word (write at.way (leave x r))
 
     iterator_left_ok : (u : ℕ) → 0 < b.temporaries → u < b.iterators → CodeOk C L k [] rs → CodeOk C L (iterator_left (layout_of p b) u k) [] rs
     iterator_left_ok u lt lu r = emptied_ok at (at.handle 0 lt) (moved_out_ok at (at.iterator u lu) (called [] (at.imported IterFree) r))
+
+  -- quick ways: the names that are read are there
+  module _ {L : Labels} {rs : Stack} where
+    joined_ok : {k : Instructions} {ps : Stack} (is : List ℕ) (q : ℤ) → AllUnboxed p 0 ks [] b 0 0 is → CodeOk C L k (I64 ∷ ps) rs → CodeOk C L (joined (name_read (layout_of p b)) is q k) (I64 ∷ ps) rs
+    joined_ok [] q h r = r
+    joined_ok (i ∷ is) q h r = read (at.name_number i (kind_below (kinds_of p.globals) i Unboxed h.0)) (long (binary (binary (joined_ok is q h.1 r))))
+
+    all_unsure_ok : {k : Instructions} {ps : Stack} (is : List ℕ) (q : ℤ) (w : ℕ) → AllUnboxed p 0 ks [] b 0 0 is → CodeOk C L k (I32 ∷ ps) rs → CodeOk C L (all_unsure (name_read (layout_of p b)) is q w k) ps rs
+    all_unsure_ok [] q w h r = word r
+    all_unsure_ok (i ∷ is) q w h r = read (at.name_number i (kind_below (kinds_of p.globals) i Unboxed h.0)) (long (binary (joined_ok is q h.1 (long (compare r)))))
+
+  module _ {L : Labels} {k : Instructions} {rs : Stack} where
+    quickly_dropped_ok : (o : Option Sum) (e : Code) (d : ℕ) → sum_in e ≡ o → sorted (context_of p ks) [] e ≡ true → room e ≤ b.temporaries → arrays_in e ≤ b.arrays → Exit L d →
+        CodeOk C L k [] rs → CodeOk C L (quickly_dropped (layout_of p b) o e d k) [] rs
+    quickly_dropped_ok None e d eq s h g x r = let he = room_there e in dropped_ok [] [] e 0 0 d (none_below b.temporaries (omega (arith, h, he))) s (omega (arith, h)) (omega (arith, g)) x r
+    quickly_dropped_ok (Some a) e d eq s h g x r =
+        let he = room_there e in
+        let t = sum_is p 0 ks [] b 0 0 e a eq s in
+        all_unsure_ok (sum_names a) (pos (2 ^ 52)) (2 ^ 53) (sum_unboxed p 0 ks [] b 0 0 e a t)
+        (branched (dropped_ok [] [] e 0 0 (suc d) (none_below b.temporaries (omega (arith, h, he))) s (omega (arith, h)) (omega (arith, g)) (inner x) done)
+        (source_ok (2 ^ 52) a.left t.left (source_ok (2 ^ 52) a.right t.right (binary (write (at.name_number a.target (kind_below (kinds_of p.globals) a.target Unboxed t.kind)) done)))) r)
+
+    left_unless_pair_ok : (o : Option Pair) (e : Code) (d out : ℕ) → pair_in e ≡ o → test_sorted (context_of p ks) e ≡ true → room e ≤ b.temporaries → arrays_in e ≤ b.arrays → Exit L d → Exit L out →
+        CodeOk C L k [] rs → CodeOk C L (left_unless_pair (layout_of p b) o e d out k) [] rs
+    left_unless_pair_ok None e d out eq s h g x z r = tested_ok e s h g x (test (leave_if z r))
+    left_unless_pair_ok (Some q) e d out eq s h g x z r =
+        let t = pair_is p 0 ks [] b 0 0 e q eq (and_parts (is_tested (form_of [] e)) (sorted (context_of p ks) [] e) s).1 in
+        all_unsure_ok (pair_names q) (pos (2 ^ 53)) (2 ^ 54) (pair_unboxed p 0 ks [] b 0 0 e q t)
+        (branched (tested_ok e s h g (inner x) (test (leave_if (inner z) done)))
+        (source_ok (2 ^ 53) q.left t.left (source_ok (2 ^ 53) q.right t.right (compare (leave_if (inner z) done)))) r)
+
+    left_unless_ok : (o : Option Within) (e : Code) (d out : ℕ) → test_within e ≡ o → test_sorted (context_of p ks) e ≡ true → room e ≤ b.temporaries → arrays_in e ≤ b.arrays → Exit L d → Exit L out →
+        CodeOk C L k [] rs → CodeOk C L (left_unless (layout_of p b) o e d out k) [] rs
+    left_unless_ok None e d out eq s h g x z r = left_unless_pair_ok (pair_in e) e d out refl s h g x z r
+    left_unless_ok (Some q) e d out eq s h g x z r =
+        let lt = kind_below (kinds_of p.globals) q.name Unboxed (test_is p 0 ks [] b 0 0 e q eq (and_parts (is_tested (form_of [] e)) (sorted (context_of p ks) [] e) s).1).kind in
+        unsure_ok q.shift q.width (at.name_number q.name lt) (branched (tested_ok e s h g (inner x) (test (leave_if (inner z) done))) done r)
+
+  -- one of two codes
+  chosen_ok : {L : Labels} {rs : Stack} (j : Bool) (A B : Instructions) → CodeOk C L A [] rs → CodeOk C L B [] rs → CodeOk C L (if j then A else B) [] rs
+  chosen_ok true A B r q = r
+  chosen_ok false A B r q = q
 
   module _ {L : Labels} {k : Instructions} {rs : Stack} where
     key_stored_ok : (u : ℕ) (e : Code) (d : ℕ) → u < b.iterators → sorted (context_of p ks) (a_value ∷ []) e ≡ true → suc (room e) ≤ b.temporaries →
@@ -67,30 +119,35 @@ module _ {p : Program} {ks : List Kind} {b : Bases} {C : Context} (at : Stands p
         CodeOk C L k [] rs →
         CodeOk C L (step_emitted (layout_of p b) s u d bk ct k) [] rs
     step_ok o l (Eval e) u d bk ct s h i g x y z r =
-        let he = room_there e in
-        nothing (dropped_ok [] [] e 0 0 d (none_below b.temporaries (omega (arith, h, he)))
-        (and_parts (is_dropped (form_of [] e)) (sorted (context_of p ks) [] e) s).1 (omega (arith, h)) (omega (arith, g)) x r)
+        nothing (quickly_dropped_ok (sum_in e) e d refl (and_parts (is_dropped (form_of [] e)) (sorted (context_of p ks) [] e) s).1 h g x r)
     step_ok o l (Block ss) u d bk ct s h i g x y z r = nothing (steps_ok o l ss u d bk ct s h i g x y z r)
     step_ok o l (If e a c) u d bk ct s h i g x y z r =
         let sa = step_sorted (context_of p ks) o l a in
         let sc = step_sorted (context_of p ks) o l c in
         let s1 = and_parts (test_sorted (context_of p ks) e) (sa && sc) s in
         let s2 = and_parts sa sc s1.1 in
-        nothing (tested_ok e s1.0 (omega (arith, h)) (omega (arith, g)) x (branched
+        nothing (chosen_ok (is_some (pair_in e)) _ _
+        (blocked (blocked
+        (left_unless_pair_ok (pair_in e) e (suc (suc d)) 0 refl s1.0 (omega (arith, h)) (omega (arith, g)) (inner (inner x)) nearest
+        (step_ok o l a u (suc (suc d)) (suc (suc bk)) (suc (suc ct)) s2.0 (omega (arith, h)) (omega (arith, i)) (omega (arith, g)) (inner (inner x)) (inner (inner y)) (inner (inner z)) (leave (inner nearest) done)))
+        (step_ok o l c u (suc d) (suc bk) (suc ct) s2.1 (omega (arith, h)) (omega (arith, i)) (omega (arith, g)) (inner x) (inner y) (inner z) done)) r)
+        (tested_ok e s1.0 (omega (arith, h)) (omega (arith, g)) x (branched
         (step_ok o l a u (suc d) (suc bk) (suc ct) s2.0 (omega (arith, h)) (omega (arith, i)) (omega (arith, g)) (inner x) (inner y) (inner z) done)
         (step_ok o l c u (suc d) (suc bk) (suc ct) s2.1 (omega (arith, h)) (omega (arith, i)) (omega (arith, g)) (inner x) (inner y) (inner z) done)
-        r))
+        r)))
     step_ok o l (Loop true e a c) u d bk ct s h i g x y z r =
         let sa = step_sorted (context_of p ks) o true a in
         let sc = step_sorted (context_of p ks) o false c in
         let s1 = and_parts (test_sorted (context_of p ks) e) (sa && sc) s in
         let s2 = and_parts sa sc s1.1 in
+        let rest = chosen_ok (is_nothing c) _ _ (leave nearest done)
+        (step_ok o false c u (suc (suc d)) 1 0 s2.1 (omega (arith, h)) (omega (arith, i)) (omega (arith, g)) (inner (inner x)) (inner nearest) nearest (leave nearest done)) in
         nothing (blocked (looped
-        (tested_ok e s1.0 (omega (arith, h)) (omega (arith, g)) (inner (inner x)) (test (leave_if (inner nearest) (blocked
-        (step_ok o true a u (suc (suc (suc d))) 2 0 s2.0 (omega (arith, h)) (omega (arith, i)) (omega (arith, g)) (inner (inner (inner x)))
-        (inner (inner nearest)) nearest done)
-        (step_ok o false c u (suc (suc d)) 1 0 s2.1 (omega (arith, h)) (omega (arith, i)) (omega (arith, g)) (inner (inner x)) (inner nearest) nearest
-        (leave nearest done))))))
+        (left_unless_ok (test_within e) e (suc (suc d)) 1 refl s1.0 (omega (arith, h)) (omega (arith, g)) (inner (inner x)) (inner nearest)
+        (chosen_ok (step_jumps a) _ _
+        (blocked
+        (step_ok o true a u (suc (suc (suc d))) 2 0 s2.0 (omega (arith, h)) (omega (arith, i)) (omega (arith, g)) (inner (inner (inner x))) (inner (inner nearest)) nearest done) rest)
+        (step_ok o true a u (suc (suc d)) 1 0 s2.0 (omega (arith, h)) (omega (arith, i)) (omega (arith, g)) (inner (inner x)) (inner nearest) nearest rest)))
         done) r)
     step_ok o l (Loop false e a c) u d bk ct s h i g x y z r =
         let sa = step_sorted (context_of p ks) o true a in

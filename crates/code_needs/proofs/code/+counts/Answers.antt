@@ -8,7 +8,7 @@ use Rattle.code_needs.specs.Counted.{counted}
 use Rattle.code_needs.specs.Labels.{labels_among, labels_in}
 use Rattle.mid_program.proofs.Views.{view_joined}
 use Rattle.code_needs.proofs.Keys.{arrays_joined, labels_joined, one_more, room_joined}
-use Rattle.code_needs.proofs.Views.{view_call, view_do, view_over, view_replace}
+use Rattle.quick_forms.proofs.Views.{view_call, view_do, view_over, view_replace}
 use Rattle.code_needs.proofs.code.+counts.Goals as goal
 
 pub counts_in-returns-in-Do-clause-temporaries : goal.counts_in-returns-in-Do-clause-temporaries

@@ -5,7 +5,7 @@ use Rattle.mid_program.specs.declared.step.Step.{Step}
 use Rattle.value_machine.specs.Places.{step_arrays, step_iterators, step_room, steps_arrays, steps_iterators, steps_room}
 use Rattle.code_needs.specs.Counted.{counted}
 use Rattle.code_needs.specs.Labels.{step_labels, steps_labels}
-use Rattle.code_needs.proofs.Views.{view_block}
+use Rattle.quick_forms.proofs.Views.{view_block}
 use Rattle.code_needs.proofs.steps.+step_counts.Goals as goal
 
 pub step_counts-returns-in-Block-clause-temporaries : goal.step_counts-returns-in-Block-clause-temporaries

@@ -1,8 +1,8 @@
 use Rattle.std.proofs.Common.{[], ◌∷◌}
 use Rattle.std.proofs.lemmas.Result.{on_ok_weaker}
-use Rattle.wasm_types.specs.declared.instr.Simple.TheVariants.{GlobalSet, I32Const, LocalGet}
-use Rattle.value_machine.specs.Emission.{global_handle, global_number, text_dropped}
-use Rattle.value_machine.specs.Small.{minus_one, n}
+use Rattle.wasm_types.specs.declared.instr.Simple.TheVariants.{GlobalSet, LocalGet}
+use Rattle.value_machine.specs.Emission.{global_number, text_dropped}
+use Rattle.value_machine.specs.Small.{n}
 use Rattle.code_emission.specs.Emits.{does_all}
 use Rattle.code_emission.proofs.Appended.{emits_then}
 use Rattle.expression_emission.specs.View.{view_layout}
@@ -12,7 +12,5 @@ pub returns : goal.returns
 returns c =
     let y = view_layout c.args.y.now in
     on_ok_weaker c.does_all.result
-    (emits_then (text_dropped y c.args.name c.args.t)
-    (does_all (I32Const minus_one ∷ GlobalSet (global_handle y c.args.name) ∷ LocalGet (n c.args.y.now.bases.now c.args.t) ∷ GlobalSet (global_number y c.args.name) ∷ [])) _ _ _
-    c.in_ok-text_dropped.ensures)
-    (rw c.global_handle.ensures at (rw c.number.ensures at (rw c.global_number.ensures at c.does_all.ensures)))
+    (emits_then (text_dropped y c.args.name) (does_all (LocalGet (n c.args.y.now.bases.now c.args.t) ∷ GlobalSet (global_number y c.args.name) ∷ [])) _ _ _ c.in_ok-text_dropped.ensures)
+    (rw c.number.ensures at (rw c.global_number.ensures at c.does_all.ensures))

@@ -7,17 +7,17 @@ use Rattle.host_format.proofs.Opens.{agrees_before, agrees_to_end, closed, first
 use Rattle.host_format.proofs.Pieces.{all_parts}
 use Rattle.host_format.proofs.fields.split_by_ere.Goals as goal
 
-pub loop-spans-init : goal.loop-spans-init
-loop-spans-init c = record {
+pub loop-start-init : goal.loop-start-init
+loop-start-init c = record {
   inside = omega arith;
-  auto = c.requires;
+  auto = c.requires.auto;
   kept = λ t a. a;
-  opened = λ t a. subst (λ (xs : List Span). IsOpen (separator_end t c.args.newlines c.args.text.now) c.args.text.now xs 0 (pieces (Expression t) c.args.newlines c.args.text.now)) (sym c.new-spans.ensures.items) (whole_open t c.args.newlines c.args.text.now);
+  opened = λ t a. subst (λ (xs : List Span). IsOpen (separator_end t c.args.newlines c.args.text.now) c.args.text.now xs 0 (pieces (Expression t) c.args.newlines c.args.text.now)) (sym c.requires.none) (whole_open t c.args.newlines c.args.text.now);
 }
 
-pub loop-spans-preserved : goal.loop-spans-preserved
-loop-spans-preserved c =
-    let i = c.loop-spans.invariant in
+pub loop-start-preserved : goal.loop-start-preserved
+loop-start-preserved c =
+    let i = c.loop-start.invariant in
     let text = c.args.text.now in
     let less : c.in-Some.start + 1 ≤ c.in-Some.end = search rules in
     let inside : c.in-Some.end ≤ length text = search rules in
@@ -29,24 +29,24 @@ loop-spans-preserved c =
       opened = λ t a.
           let end = separator_end t c.args.newlines text in
           let total = pieces (Expression t) c.args.newlines text in
-          let f = subst (λ (x : Option (ℕ × ℕ)). IsFirstBy (not_empty t text) c.loop-spans.from (length text) x) c.in-Some.is (c.in_ok-start.ensures.found t (i.kept t a)) in
-          let agrees = agrees_before t c.args.newlines text c.loop-spans.from c.in-Some.start c.in-Some.end f in
+          let f = subst (λ (x : Option (ℕ × ℕ)). IsFirstBy (not_empty t text) c.loop-start.from (length text) x) c.in-Some.is (c.in_ok-start.ensures.found t (i.kept t a)) in
+          let agrees = agrees_before t c.args.newlines text c.loop-start.from c.in-Some.start c.in-Some.end f in
           let none = c.in_ok-line.ensures.rest end agrees in
           let o = c.in_ok-line.ensures.lines end total agrees (i.opened t a) in
-          let r = ready end text c.push_lines.new.spans.items c.in_ok-line.line c.in-Some.start c.in-Some.end total (omega (arith, less)) (first_of_line t c.args.newlines text c.loop-spans.from c.in_ok-line.line c.in-Some.start c.in-Some.end line.1 f none) o in
+          let r = ready end text c.push_lines.new.spans.items c.in_ok-line.line c.in-Some.start c.in-Some.end total (omega (arith, less)) (first_of_line t c.args.newlines text c.loop-start.from c.in_ok-line.line c.in-Some.start c.in-Some.end line.1 f none) o in
           opened end text c.push.new.spans.items c.in-Some.end total r.count r.enough
           (c.in_ok-push.ensures text (between text c.in-Some.end (separators end (length text) r.count c.in-Some.end)) total line.1 (omega (arith, less, inside)) r.pieces);
     }
 
 pub returns-clause-ok : goal.returns-clause-ok
 returns-clause-ok c = λ t a.
-    let i = c.loop-spans.invariant in
+    let i = c.loop-start.invariant in
     let text = c.args.text.now in
     let end = separator_end t c.args.newlines text in
     let total = pieces (Expression t) c.args.newlines text in
     let line = c.in_ok-line-2.ensures.from in
-    let f = subst (λ (x : Option (ℕ × ℕ)). IsFirstBy (not_empty t text) c.loop-spans.from (length text) x) c.in_default.is (c.in_ok-start.ensures.found t (i.kept t a)) in
-    let agrees = agrees_to_end t c.args.newlines text c.loop-spans.from f in
+    let f = subst (λ (x : Option (ℕ × ℕ)). IsFirstBy (not_empty t text) c.loop-start.from (length text) x) c.in_default.is (c.in_ok-start.ensures.found t (i.kept t a)) in
+    let agrees = agrees_to_end t c.args.newlines text c.loop-start.from f in
     let none = c.in_ok-line-2.ensures.rest end agrees in
     let o = c.in_ok-line-2.ensures.lines end total agrees (i.opened t a) in
     all_parts text c.push-2.new.spans.items total

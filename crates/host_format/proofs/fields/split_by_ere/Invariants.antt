@@ -6,13 +6,13 @@ use Rattle.host_format.specs.Between.{IsOpen, separator_end}
 use Rattle.host_format.specs.Expressions.{IsAuto}
 use Rattle.host_format.proofs.fields.split_by_ere.Given as goal
 
-abbrev pub invariant-loop-spans : goal.invariant-loop-spans
-invariant-loop-spans l = record {
+abbrev pub invariant-loop-start : goal.invariant-loop-start
+invariant-loop-start l = record {
   inside : l.from ≤ length l.text;
   auto : IsAuto l.auto';
   kept : (t : Tree) → IsAutoOf l.fn.auto t → IsAutoOf l.auto' t;
   opened : (t : Tree) → IsAutoOf l.fn.auto t → IsOpen (separator_end t l.newlines l.text) l.text l.spans.items l.from (pieces (Expression t) l.newlines l.text);
 }
 
-abbrev pub decreases-loop-spans : goal.decreases-loop-spans
-decreases-loop-spans l = length l.text - l.from
+abbrev pub decreases-loop-start : goal.decreases-loop-start
+decreases-loop-start l = length l.text - l.from

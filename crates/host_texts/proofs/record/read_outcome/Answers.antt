@@ -1,4 +1,4 @@
-use Rattle.std.proofs.Common.{Ok, sym, ap, ◌∙◌}
+use Rattle.std.proofs.Common.{sym, ap, ◌∙◌}
 use Rattle.std.specs.Int.{w64}
 use Rattle.std.proofs.lemmas.Int.{to_z-of_z}
 use Rattle.host_fields.specs.Calls.{field_read}
@@ -7,7 +7,7 @@ use Rattle.host_texts.specs.States.{with_texts}
 use Rattle.host_texts.specs.declared.reply.Reply.TheVariants as reply
 use Rattle.host_texts.proofs.record.read_outcome.Goals as goal
 
-pub returns-in_ok-copied-in-Ok : goal.returns-in_ok-copied-in-Ok
-returns-in_ok-copied-in-Ok c = λ inner.
+pub returns-in-Ok : goal.returns-in-Ok
+returns-in-Ok c = λ inner.
     ap (λ n. replied reply.Value (field_read n (with_texts c.args.texts.now inner))) (sym (to_z-of_z w64 c.args.number c.ranges.number))
-    ∙ ap (replied reply.Value) (c.in-Ok.ensures.ok (with_texts c.args.texts.now inner)) ∙ ap (λ v. Ok (reply.Value v)) (sym c.in_ok-copied-in-Ok.ensures)
+    ∙ ap (replied reply.Value) (c.in-Ok.ensures.ok (with_texts c.args.texts.now inner))

@@ -1,20 +1,20 @@
-use Rattle.std.proofs.Common.{[], suc, ap, sym, ◌∙◌, arith}
+use Rattle.std.proofs.Common.{Bool, if◌then◌else◌, [], suc, OnOk, ap, sym, ◌∙◌, subst, arith}
 use Rattle.std.proofs.lemmas.Result.{on_ok_weaker}
 use Rattle.wasm_types.specs.Syntax.{Instructions, Done}
 use Rattle.mid_program.specs.ViewCode.{view, view_step}
 use Rattle.mid_program.specs.declared.step.Step.{Step}
 use Rattle.value_machine.specs.Emission.{tested}
 use Rattle.value_machine.specs.Small.{either}
-use Rattle.value_machine.specs.Statements.{step_emitted}
+use Rattle.value_machine.specs.Statements.{block, step_emitted}
 use Rattle.code_emission.proofs.Appended.{emits_then}
-use Rattle.code_emission.specs.Emits.{followed}
+use Rattle.code_emission.specs.Emits.{Emits, followed}
 use Rattle.expression_emission.specs.View.{view_layout}
-use Rattle.statement_emission.specs.Parts.{first_turn, key_turn, tested_turn}
+use Rattle.statement_emission.specs.Parts.{first_turn, key_turn, quick_way, quick_ways, tested_turn}
 use Rattle.statement_emission.proofs.Stepping.{block_code, block_fits, block_places, first_fits, first_places, loop_code}
 use Rattle.statement_emission.proofs.steps.+statements.Goals as goal
 
-pub choice-returns : goal.choice-returns
-choice-returns t c =
+pub plain_choice-returns : goal.plain_choice-returns
+plain_choice-returns t c =
     let y = view_layout c.args.y.now in
     let at = c.args.at in
     let yes_code : Instructions → Instructions = step_emitted y (view_step c.args.yes.now) at.iterators (suc at.exit) (suc at.break_to) (suc at.continue_to) in
@@ -22,6 +22,25 @@ choice-returns t c =
     on_ok_weaker c.either.result
     (emits_then (tested y [] [] (view c.args.test.now) 0 0 at.exit) (either (yes_code Done) (no_code Done)) _ _ _ c.in_ok-tested.ensures)
     (c.either.ensures yes_code no_code (rw c.in_branch.ensures.is at c.in_ok-yes.ensures) (rw c.in_branch-2.ensures.is at c.in_ok-no.ensures))
+
+pub quick_choice-returns : goal.quick_choice-returns
+quick_choice-returns t c =
+    let y = view_layout c.args.y.now in
+    let e = view c.args.test.now in
+    let yes = view_step c.args.yes.now in
+    let ways : Instructions → Instructions = quick_ways y e yes (view_step c.args.no.now) c.args.at in
+    c.block-2.ensures ways
+    (λ k. (rw c.in_branch.ensures.is at c.in_ok-statement.ensures) k ∙ (rw c.new-ways.ensures.items at (c.in_ok-block.ensures (quick_way y e yes c.args.at) c.in_ok-way.ensures)) _)
+
+pub turn_body-returns-in_ok-inside : goal.turn_body-returns-in_ok-inside
+turn_body-returns-in_ok-inside t c =
+    let y = view_layout c.args.y.now in
+    let a = view_step c.args.body.now in
+    let u = c.args.at.iterators in
+    let d = c.args.at.exit in
+    let body : Instructions → Instructions = step_emitted y a u (suc (suc (suc d))) 2 0 in
+    subst (λ (jumps : Bool). OnOk c.block.result (Emits c.args.out.now.items c.block.new.out.items (λ k. if jumps then block (body Done) k else step_emitted y a u (suc (suc d)) 1 0 k))) (sym c.if-step_jumps.true ∙ c.step_jumps.ensures)
+    (c.block.ensures body (rw c.in_body.ensures.is at c.in_ok-inside.ensures))
 
 pub first_turn-returns : goal.first_turn-returns
 first_turn-returns t c = λ k.

@@ -1,0 +1,8 @@
+mod Ends
+mod Levels
+mod Arguments
+mod Derived
+mod Deriving
+mod Statements
+mod Scripts
+mod Rows

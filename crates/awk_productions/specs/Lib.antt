@@ -1,0 +1,4 @@
+pub mod Ends
+pub mod Expressions
+pub mod Statements
+pub mod Scripts

@@ -1,0 +1,4 @@
+//! The grammar of scripts as productions.
+#![tactic(auto)]
+
+pub mod laws;

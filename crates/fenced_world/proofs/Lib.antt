@@ -1,0 +1,2 @@
+mod BehindLemmas
+mod NameLemmas

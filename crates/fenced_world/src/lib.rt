@@ -1,0 +1,8 @@
+//! A world in which a script opens only the names that a fence lets through.
+#![tactic(auto)]
+
+mod fence;
+mod world;
+
+pub use fence::{Fence, FileFence, NoFiles};
+pub use world::FencedWorld;

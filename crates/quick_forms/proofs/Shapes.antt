@@ -1,0 +1,101 @@
+-- The parts of code and of steps as they stand in memory.
+use Rattle.std.proofs.Common.{◌≡◌, ℕ, zero, ◌≢◌, Bool, true, false, List, [], ◌∷◌, length, get_or, Option, Some, None, refl, sym, ap, ◌∙◌, arith}
+use Rattle.std.specs.Prelude.{nat_eq, ◌||◌}
+use Rattle.std.specs.Bool.{◌==◌}
+use Rattle.std.proofs.lemmas.Bool.{eqb-true}
+use Rattle.std.proofs.lemmas.Bool.Decides.{nat_tests}
+use Rattle.std.specs.List.{list_any}
+use Rattle.std.specs.declared.vec.Vec.{Vec}
+use Rattle.std.specs.declared.alloc.Global.{Global}
+use Rattle.mid_program.specs.Mid as plain
+use Rattle.mid_program.specs.ViewCode.{before, view, view_step, view_steps, views}
+use Rattle.mid_program.specs.declared.mid.Arithmetic.{Arithmetic}
+use Rattle.mid_program.specs.declared.mid.Operation.{Operation}
+use Rattle.mid_program.specs.declared.code.Operand.{Operand}
+use Rattle.mid_program.specs.declared.code.Operand.TheVariants as operand
+use Rattle.mid_program.specs.declared.code.Code.{Code, Do}
+use Rattle.mid_program.specs.declared.step.Step.{Step, Block}
+use Rattle.value_machine.specs.Quick.{is_among, is_nothing, kept_sum, source_in, sum_of}
+use Rattle.quick_forms.specs.Operands.{is_bound, one_code, two_codes}
+use Rattle.quick_forms.proofs.Views.{view_block, view_do}
+
+pub do_view : (c : Code) (o : Operation) (v : Vec Operand Global) (es : List Operand) → c ≡ Do o v → es ≡ v.items → plain.Do o (views es) ≡ view c
+do_view c o v es is e = ap (λ (xs : List Operand). plain.Do o (views xs)) e ∙ sym (ap view is ∙ view_do o v)
+
+pub block_view : (s : Step) (v : Vec Step Global) (ss : List Step) → s ≡ Block v → ss ≡ v.items → plain.Block (view_steps ss) ≡ view_step s
+block_view s v ss is e = ap (λ (xs : List Step). plain.Block (view_steps xs)) e ∙ sym (ap view_step is ∙ view_block v)
+
+-- how many operands there are
+
+pub not_one : (xs : List Operand) → length xs ≢ 1 → None ≡ one_code (views xs)
+not_one [] h = refl
+not_one (x ∷ []) h = absurd (h refl)
+not_one (operand.Code e ∷ operand.Code f ∷ xs) h = refl
+not_one (operand.Code e ∷ operand.Constant n ∷ xs) h = refl
+not_one (operand.Code e ∷ operand.Fresh ∷ xs) h = refl
+not_one (operand.Constant n ∷ y ∷ xs) h = refl
+not_one (operand.Fresh ∷ y ∷ xs) h = refl
+
+third_none : (a b : plain.Code) (x : Operand) (rest : plain.Codes) → two_codes (plain.At a (plain.At b (before x rest))) ≡ None
+third_none a b (operand.Code e) rest = refl
+third_none a b (operand.Constant n) rest = refl
+third_none a b operand.Fresh rest = refl
+
+pub one_of : (xs : List Operand) (a : Operand) → length xs ≡ 1 → a ≡ get_or xs 0 a → one_code (before a plain.End) ≡ one_code (views xs)
+one_of [] a n h = absurd cc
+one_of (x ∷ []) a n h = ap (λ (y : Operand). one_code (before y plain.End)) h
+one_of (x ∷ y ∷ xs) a n h = absurd cc
+
+pub not_two : (xs : List Operand) → length xs ≢ 2 → None ≡ two_codes (views xs)
+not_two [] h = refl
+not_two (operand.Code e ∷ []) h = refl
+not_two (operand.Constant n ∷ []) h = refl
+not_two (operand.Fresh ∷ []) h = refl
+not_two (x ∷ y ∷ []) h = absurd (h refl)
+not_two (operand.Code a ∷ operand.Code b ∷ z ∷ xs) h = sym (third_none (view a) (view b) z (views xs))
+not_two (operand.Code a ∷ operand.Constant n ∷ z ∷ xs) h = refl
+not_two (operand.Code a ∷ operand.Fresh ∷ z ∷ xs) h = refl
+not_two (operand.Constant n ∷ y ∷ z ∷ xs) h = refl
+not_two (operand.Fresh ∷ y ∷ z ∷ xs) h = refl
+
+pub two_of : (xs : List Operand) (a b : Operand) → length xs ≡ 2 → a ≡ get_or xs 0 a → b ≡ get_or xs 1 b → two_codes (before a (before b plain.End)) ≡ two_codes (views xs)
+two_of [] a b n h k = absurd cc
+two_of (x ∷ []) a b n h k = absurd cc
+two_of (x ∷ y ∷ []) a b n h k = λ i. two_codes (before (h i) (before (k i) plain.End))
+two_of (x ∷ y ∷ z ∷ xs) a b n h k = absurd cc
+
+-- two operands that are code are all of them
+two_are : (es : plain.Codes) (x y : plain.Code) → Some (x, y) ≡ two_codes es → es ≡ plain.At x (plain.At y plain.End)
+two_are (plain.At a (plain.At b plain.End)) x y h = λ i. plain.At (first (sym h i)) (plain.At (second (sym h i)) plain.End)
+  where
+    first : Option (plain.Code × plain.Code) → plain.Code
+    first (Some p) = p.0
+    first None = a
+
+    second : Option (plain.Code × plain.Code) → plain.Code
+    second (Some p) = p.1
+    second None = b
+two_are _ x y h = absurd cc
+
+bound_is : (m : Bool) (i : ℕ) (e : plain.Code) → is_bound m i e ≡ true → e ≡ plain.Bound m i
+bound_is true i (plain.Bound true j) h = ap (plain.Bound true) (eqb-true j i h)
+bound_is false i (plain.Bound false j) h = ap (plain.Bound false) (eqb-true j i h)
+bound_is _ i _ h = absurd cc
+
+pub kept_is : (i : ℕ) (o : Arithmetic) (a : plain.Code) (es : plain.Codes) (x y : plain.Code) → Some (x, y) ≡ two_codes es → is_bound true zero y ≡ true → sum_of i o (source_in x) (source_in a) ≡ kept_sum i o a es
+kept_is i o a es x y h k = sym (ap (kept_sum i o a) (two_are es x y h ∙ ap (λ (e : plain.Code). plain.At x (plain.At e plain.End)) (bound_is true zero y k)))
+
+-- names
+
+same_test : (a b : ℕ) → nat_eq a b ≡ nat_eq b a
+same_test a b = grind (arith, nat_tests)
+
+pub among_any : (i : ℕ) (js : List ℕ) → list_any (λ j. nat_eq j i) js ≡ is_among i js
+among_any i [] = refl
+among_any i (j ∷ js) = λ k. same_test j i k || among_any i js k
+
+-- steps
+
+pub nothing_in : (ss : List Step) → is_nothing (plain.Block (view_steps ss)) ≡ (length ss == 0)
+nothing_in [] = refl
+nothing_in (s ∷ ss) = grind (arith, nat_tests)

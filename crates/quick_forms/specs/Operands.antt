@@ -1,0 +1,31 @@
+-- Parts of code.
+use Rattle.std.specs.Prelude.{ℕ, zero, Bool, true, false, nat_eq, Option, None, Some}
+use Rattle.mid_program.specs.declared.mid.Arithmetic.{Arithmetic}
+use Rattle.mid_program.specs.declared.mid.Operation.TheVariants.{Inline, AsNumber}
+use Rattle.mid_program.specs.Mid.{Global, Code, Do, Set, Bound, Codes, End, At}
+
+abbrev pub one_code : Codes → Option Code
+one_code (At e End) = Some e
+one_code es = None
+
+abbrev pub two_codes : Codes → Option (Code × Code)
+two_codes (At a (At e End)) = Some (a, e)
+two_codes es = None
+
+abbrev pub calculated_in : Code → Option (Arithmetic × Codes)
+calculated_in (Do (Inline o) es) = Some (o, es)
+calculated_in e = None
+
+abbrev pub number_of : Code → Option Codes
+number_of (Do AsNumber es) = Some es
+number_of e = None
+
+abbrev pub is_bound : (moves : Bool) → ℕ → Code → Bool
+is_bound true i (Bound true j) = nat_eq j i
+is_bound false i (Bound false j) = nat_eq j i
+is_bound m i e = false
+
+-- the unboxed name that takes what was kept last
+abbrev pub set_last : Code → Option ℕ
+set_last (Set (Global true i) (Bound true zero)) = Some i
+set_last e = None

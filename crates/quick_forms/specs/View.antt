@@ -1,0 +1,22 @@
+-- The shapes that are found, as the definitions see them.
+use Rattle.std.specs.Prelude.{pos, ◌^◌}
+use Rattle.value_machine.specs.Quick as plain
+use Rattle.quick_forms.specs.declared.source.Source.{Source}
+use Rattle.quick_forms.specs.declared.source.Source.TheVariants.{Named, Constant}
+use Rattle.quick_forms.specs.declared.sum.Sum.{Sum}
+use Rattle.quick_forms.specs.declared.pair.Pair.{Pair}
+use Rattle.quick_forms.specs.declared.within.Within.{Within}
+
+abbrev pub view_source : Source → plain.Source
+view_source (Named i) = plain.Named i
+view_source (Constant z) = plain.Constant z
+
+abbrev pub view_sum : Sum → plain.Sum
+view_sum s = record { target = s.target; op = s.op; left = view_source s.left; right = view_source s.right }
+
+abbrev pub view_pair : Pair → plain.Pair
+view_pair q = record { op = q.op; left = view_source q.left; right = view_source q.right }
+
+-- numbers from -2^53 on
+abbrev pub view_within : Within → plain.Within
+view_within w = record { name = w.name; shift = pos (2 ^ 53); width = w.width }

@@ -1,0 +1,17 @@
+//! Which statements and tests have a quick way, found in their code as `value_machine` defines it.
+#![tactic(auto)]
+
+mod jumps;
+mod names;
+mod operands;
+mod pair;
+mod source;
+mod sum;
+mod within;
+
+pub use jumps::{is_nothing, step_jumps};
+pub use names::{pair_names, sum_names};
+pub use pair::{Pair, contrary, pair_in};
+pub use source::Source;
+pub use sum::{Sum, sum_in};
+pub use within::{Within, test_within};

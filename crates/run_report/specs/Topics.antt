@@ -1,0 +1,108 @@
+-- Topics: the names that lines for the standard error begin with, and the exit statuses.
+use Rattle.std.specs.Prelude.{ℕ, ◌==◌, List, [], ◌∷◌, Bool, Option, codes}
+use Rattle.std.specs.List.{find}
+use Rattle.std.specs.Cmp.Lexicographic.{pointwise}
+use Rattle.awk_values.specs.Faults.{fault_name}
+use Rattle.awk_values.specs.declared.fault.Fault.TheVariants as faults
+use Rattle.wasm_store.specs.declared.trap.TrapKind.TheVariants as traps
+use Rattle.run_report.specs.EndTexts.{trap_word}
+use Rattle.run_report.specs.declared.report.FileFault.{FileFault}
+use Rattle.run_report.specs.declared.report.FileFault.TheVariants as files
+use Rattle.run_report.specs.declared.topic.ScriptTopic.{ScriptTopic}
+use Rattle.run_report.specs.declared.topic.ScriptTopic.TheVariants as scripts
+use Rattle.run_report.specs.declared.topic.ModuleTopic.{ModuleTopic}
+use Rattle.run_report.specs.declared.topic.ModuleTopic.TheVariants as modules
+use Rattle.run_report.specs.declared.topic.EndTopic.{EndTopic}
+use Rattle.run_report.specs.declared.topic.EndTopic.TheVariants as ends
+use Rattle.run_report.specs.declared.topic.StatusTopic.{StatusTopic}
+use Rattle.run_report.specs.declared.topic.StatusTopic.TheVariants as statuses
+use Rattle.run_report.specs.declared.topic.Topic.{Topic}
+use Rattle.run_report.specs.declared.topic.Topic.TheVariants.{End, Fault, File, Module, Script, Status, Trap}
+
+abbrev pub script_name : ScriptTopic → List ℕ
+script_name scripts.TooLarge = codes "TooLarge"
+script_name scripts.BadByte = codes "BadByte"
+script_name scripts.OpenString = codes "OpenString"
+script_name scripts.OpenEre = codes "OpenEre"
+script_name scripts.LeftOut = codes "LeftOut"
+script_name scripts.NotWhole = codes "NotWhole"
+script_name scripts.ConstantRange = codes "ConstantRange"
+script_name scripts.Syntax = codes "Syntax"
+script_name scripts.TooDeep = codes "TooDeep"
+script_name scripts.Misplaced = codes "Misplaced"
+script_name scripts.TooMany = codes "TooMany"
+script_name scripts.DuplicateName = codes "DuplicateName"
+script_name scripts.UnknownFunction = codes "UnknownFunction"
+script_name scripts.ArgCount = codes "ArgCount"
+script_name scripts.KindClash = codes "KindClash"
+
+abbrev pub module_name : ModuleTopic → List ℕ
+module_name modules.BadHeader = codes "BadHeader"
+module_name modules.Truncated = codes "Truncated"
+module_name modules.BadSection = codes "BadSection"
+module_name modules.BadInteger = codes "BadInteger"
+module_name modules.BadOpcode = codes "BadOpcode"
+module_name modules.Float = codes "Float"
+module_name modules.BadIndex = codes "BadIndex"
+module_name modules.BadType = codes "BadType"
+module_name modules.BadAlign = codes "BadAlign"
+module_name modules.BadModule = codes "BadModule"
+module_name modules.NoMain = codes "NoMain"
+module_name modules.BadImport = codes "BadImport"
+module_name modules.SegmentBounds = codes "SegmentBounds"
+
+abbrev pub end_name : EndTopic → List ℕ
+end_name ends.OutOfSteps = codes "OutOfSteps"
+end_name ends.Exhausted = codes "Exhausted"
+end_name ends.NoMemory = codes "NoMemory"
+
+abbrev pub file_name : FileFault → List ℕ
+file_name files.CannotRead = codes "CannotRead"
+file_name files.CannotWrite = codes "CannotWrite"
+
+-- a status is named by its digits
+abbrev pub status_name : StatusTopic → List ℕ
+status_name statuses.Own = codes "0"
+status_name statuses.Faulted = codes "2"
+status_name statuses.Refused = codes "3"
+status_name statuses.OutOfSteps = codes "4"
+status_name statuses.NoMemory = codes "5"
+status_name statuses.Exhausted = codes "6"
+status_name statuses.Trapped = codes "7"
+status_name statuses.Line = codes "8"
+
+abbrev pub topic_name : Topic → List ℕ
+topic_name (Fault fault) = fault_name fault
+topic_name (Script refusal) = script_name refusal
+topic_name (Module refusal) = module_name refusal
+topic_name (Trap kind) = trap_word kind
+topic_name (End end) = end_name end
+topic_name (File fault) = file_name fault
+topic_name (Status status) = status_name status
+
+abbrev pub all_topics : List Topic
+all_topics =
+    Fault faults.Range ∷ Fault faults.Fraction ∷ Fault faults.DivisionByZero ∷ Fault faults.Inexact ∷ Fault faults.FieldNumber ∷ Fault faults.Format ∷
+    Fault faults.BadEre ∷ Fault faults.EreTooLarge ∷ Fault faults.TextLimit ∷ Fault faults.OpenInput ∷ Fault faults.ReadFailed ∷ Fault faults.OpenOutput ∷
+    Fault faults.WriteFailed ∷ Fault faults.TooManyStreams ∷ Fault faults.NextOutside ∷ Fault faults.BadAssignment ∷ Script scripts.TooLarge ∷ Script scripts.BadByte ∷
+    Script scripts.OpenString ∷ Script scripts.OpenEre ∷ Script scripts.LeftOut ∷ Script scripts.NotWhole ∷ Script scripts.ConstantRange ∷ Script scripts.Syntax ∷
+    Script scripts.TooDeep ∷ Script scripts.Misplaced ∷ Script scripts.TooMany ∷ Script scripts.DuplicateName ∷ Script scripts.UnknownFunction ∷ Script scripts.ArgCount ∷
+    Script scripts.KindClash ∷ Module modules.BadHeader ∷ Module modules.Truncated ∷ Module modules.BadSection ∷ Module modules.BadInteger ∷ Module modules.BadOpcode ∷
+    Module modules.Float ∷ Module modules.BadIndex ∷ Module modules.BadType ∷ Module modules.BadAlign ∷ Module modules.BadModule ∷ Module modules.NoMain ∷
+    Module modules.BadImport ∷ Module modules.SegmentBounds ∷ Trap traps.Unreachable ∷ Trap traps.DivideByZero ∷ Trap traps.IntegerOverflow ∷ Trap traps.MemoryBounds ∷
+    Trap traps.TableBounds ∷ Trap traps.EmptyElement ∷ Trap traps.WrongType ∷ Trap traps.BadHandle ∷ Trap traps.BadPointer ∷ Trap traps.BadArgument ∷
+    End ends.OutOfSteps ∷ End ends.Exhausted ∷ End ends.NoMemory ∷ File files.CannotRead ∷ File files.CannotWrite ∷ Status statuses.Own ∷
+    Status statuses.Faulted ∷ Status statuses.Refused ∷ Status statuses.OutOfSteps ∷ Status statuses.NoMemory ∷ Status statuses.Exhausted ∷ Status statuses.Trapped ∷
+    Status statuses.Line ∷ []
+
+abbrev pub is_named : List ℕ → Topic → Bool
+is_named name topic = pointwise ◌==◌ (topic_name topic) name
+
+-- the first topic of a name
+abbrev pub named : List ℕ → Option Topic
+named name = find (is_named name) all_topics
+
+-- the name among what is told: it comes first
+abbrev pub name_in : List (List ℕ) → List ℕ
+name_in [] = []
+name_in (name ∷ carried) = name

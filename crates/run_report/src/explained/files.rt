@@ -1,0 +1,25 @@
+//! What is said of files that the command line names.
+use crate::explained::Explanation;
+use crate::report::FileFault;
+
+const CANNOT_READ: Explanation = Explanation {
+    meaning: "The file of the script or of the module could not be read.",
+    command: "awkwasm compile nosuch out.wasm",
+    shown: "awkwasm: CannotRead",
+    advice: "Look whether the name is right and the file may be read.",
+};
+
+const CANNOT_WRITE: Explanation = Explanation {
+    meaning: "The module could not be written.",
+    command: "echo 'BEGIN { }' | awkwasm compile /dev/stdin /",
+    shown: "awkwasm: CannotWrite",
+    advice: "Look whether the folder is there and may be written to, and whether the disk has room.",
+};
+
+/// What is said of such a file.
+pub(crate) fn file_explanation(fault: FileFault) -> Explanation {
+    match fault {
+        FileFault::CannotRead => CANNOT_READ,
+        FileFault::CannotWrite => CANNOT_WRITE,
+    }
+}

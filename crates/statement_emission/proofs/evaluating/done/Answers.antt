@@ -1,0 +1,22 @@
+use Rattle.std.proofs.Common.{Option, OnOk, sym, subst}
+use Rattle.mid_program.specs.ViewCode.{view}
+use Rattle.value_machine.specs.Quick.{Sum}
+use Rattle.value_machine.specs.Statements.{quickly_dropped}
+use Rattle.code_emission.specs.Emits.{Emits}
+use Rattle.expression_emission.specs.View.{view_layout}
+use Rattle.quick_forms.specs.View.{view_sum}
+use Rattle.statement_emission.proofs.QuickNames.{sum_fits}
+use Rattle.statement_emission.proofs.evaluating.done.Goals as goal
+
+pub sum_done-requires-clause-sum : goal.sum_done-requires-clause-sum
+sum_done-requires-clause-sum c = sum_fits (view_layout c.args.y.now) (view c.args.code.now) (view_sum c.in-Some.sum) 0 0 c.args.exit (sym c.in-Some.ensures) c.requires.fit.0
+
+pub returns-in-Some : goal.returns-in-Some
+returns-in-Some c =
+    subst (λ (o : Option Sum). OnOk c.sum_done.result (Emits c.args.out.now.items c.sum_done.new.out.items (quickly_dropped (view_layout c.args.y.now) o (view c.args.code.now) c.args.exit))) c.in-Some.ensures
+    c.sum_done.ensures
+
+pub returns-in-None : goal.returns-in-None
+returns-in-None c =
+    subst (λ (o : Option Sum). OnOk c.done_alone.result (Emits c.args.out.now.items c.done_alone.new.out.items (quickly_dropped (view_layout c.args.y.now) o (view c.args.code.now) c.args.exit))) c.in-None.ensures
+    c.done_alone.ensures

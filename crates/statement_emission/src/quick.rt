@@ -1,0 +1,167 @@
+//! Quick ways of statements on numbers: names whose numbers are within bounds, and what is done with them on the stack.
+ghost use Rattle.std.specs.Prelude.{[], ◌≡◌, ◌≤◌, ◌^◌, IfOk, OnOk, pos, suc};
+ghost use Rattle.wasm_types.specs.Syntax.{Done};
+ghost use Rattle.value_machine.specs.Quick.{all_unsure, joined, shifted, sum_op, unsure};
+ghost use Rattle.value_machine.specs.Statements.{name_read, pair_left, source_pushed, summed};
+ghost use Rattle.code_emission.specs.Bounds.{most_labels, most_places};
+ghost use Rattle.code_emission.specs.Emits.{Emits};
+ghost use Rattle.expression_emission.specs.View.{view_layout};
+ghost use Rattle.quick_forms.specs.View.{view_pair, view_source, view_sum};
+ghost use Rattle.statement_emission.specs.Parts.{past};
+ghost use Rattle.statement_emission.specs.QuickFits.{NamesFit, PairFits, SourceFits, SumFits};
+
+use code_emission::{does, does_all, relation};
+use expression_emission::{Layout, global_number};
+use mid_program::Arithmetic;
+use quick_forms::{Pair, Source, Sum, Within, contrary};
+use std::alloc::AllocError;
+use wasm_types::{IBinOp, IRelOp, Instr, Simple, ValType};
+
+/// What reads an unboxed name's number.
+fn name_read(y: &Layout<'_>, name: usize) -> Simple
+    requires { name ≤ most_places }
+    ensures { result ≡ name_read (view_layout y.now) name }
+{
+    Simple::GlobalGet(global_number(y, name))
+}
+
+/// Adds a word and what is added to it.
+fn shifted(out: &mut Vec<Instr>, word: Simple, shift: u64) -> Result<(), AllocError>
+    ensures { OnOk result (Emits out.old.items out.new.items (shifted word (pos shift))) }
+{
+    let all = [
+        word,
+        Simple::I64Const(shift),
+        Simple::Binary(ValType::I64, IBinOp::Add),
+    ];
+    does_all(out, &all)
+}
+
+/// Adds the test whether a word is past a width.
+fn past(out: &mut Vec<Instr>, width: u64) -> Result<(), AllocError>
+    ensures { OnOk result (Emits out.old.items out.new.items (past width)) }
+{
+    let all = [
+        Simple::I64Const(width),
+        Simple::Compare(ValType::I64, IRelOp::GtU),
+    ];
+    does_all(out, &all)
+}
+
+/// Adds the test whether a name has none of these numbers.
+pub(crate) fn unsure(y: &Layout<'_>, out: &mut Vec<Instr>, within: Within) -> Result<(), AllocError>
+    requires { within.name ≤ most_places }
+    ensures { OnOk result (Emits out.old.items out.new.items (unsure (name_read (view_layout y.now) within.name) (pos (2 ^ 53)) within.width)) }
+{
+    shifted(out, name_read(y, within.name), 1 << 53)?;
+    past(out, within.width)
+}
+
+/// Joins the words of names, each shifted, to the one on the stack.
+fn joined(
+    y: &Layout<'_>,
+    out: &mut Vec<Instr>,
+    names: &[usize],
+    shift: u64,
+) -> Result<(), AllocError>
+    requires { NamesFit names.now }
+    ensures { OnOk result (Emits out.old.items out.new.items (joined (name_read (view_layout y.now)) names.now (pos shift))) }
+{
+    for name in names {
+        shifted(out, name_read(y, *name), shift)?;
+        does(out, Simple::Binary(ValType::I64, IBinOp::Or))?;
+    }
+    Ok(())
+}
+
+/// Adds the test whether one of several names has no number, or one that is not from 0 to a width once it is shifted.
+pub(crate) fn all_unsure(
+    y: &Layout<'_>,
+    out: &mut Vec<Instr>,
+    names: &[usize],
+    shift: u64,
+    width: u64,
+) -> Result<(), AllocError>
+    requires { NamesFit names.now }
+    ensures { OnOk result (Emits out.old.items out.new.items (all_unsure (name_read (view_layout y.now)) names.now (pos shift) width)) }
+{
+    let [first, others @ ..] = names else {
+        return does(out, Simple::I32Const(0));
+    };
+    shifted(out, name_read(y, *first), shift)?;
+    joined(y, out, others, shift)?;
+    past(out, width)
+}
+
+/// Puts a source on the stack.
+fn source_pushed(y: &Layout<'_>, out: &mut Vec<Instr>, source: Source) -> Result<(), AllocError>
+    requires { SourceFits (view_source source) }
+    ensures { OnOk result (Emits out.old.items out.new.items (source_pushed (view_layout y.now) (view_source source))) }
+{
+    match source {
+        Source::Named(name) => does(out, name_read(y, name)),
+        Source::Constant(number) => does(out, Simple::I64Const(number.cast_unsigned())),
+    }
+}
+
+fn sum_op(op: Arithmetic) -> IBinOp
+    ensures { result ≡ sum_op op }
+{
+    match op {
+        Arithmetic::Minus => IBinOp::Sub,
+        Arithmetic::Plus
+        | Arithmetic::Times
+        | Arithmetic::Over
+        | Arithmetic::Modulo
+        | Arithmetic::Truncated => IBinOp::Add,
+    }
+}
+
+/// Adds a sum in range, which its name takes.
+fn summed(y: &Layout<'_>, out: &mut Vec<Instr>, sum: Sum) -> Result<(), AllocError>
+    requires { SumFits (view_sum sum) }
+    ensures { OnOk result (Emits out.old.items out.new.items (summed (view_layout y.now) (view_sum sum))) }
+{
+    source_pushed(y, out, sum.left)?;
+    source_pushed(y, out, sum.right)?;
+    let all = [
+        Simple::Binary(ValType::I64, sum_op(sum.op)),
+        Simple::GlobalSet(global_number(y, sum.target)),
+    ];
+    does_all(out, &all)
+}
+
+/// The same in a list of its own.
+pub(crate) fn sum_code(y: &Layout<'_>, sum: Sum) -> Result<Vec<Instr>, AllocError>
+    requires { SumFits (view_sum sum) }
+    ensures { IfOk result (λ v. Emits [] v.items (summed (view_layout y.now) (view_sum sum))) }
+{
+    let mut code = Vec::new(y.alloc);
+    summed(y, &mut code, sum)?;
+    Ok(code)
+}
+
+/// Adds a comparison of numbers, and leaves to a label where it does not hold.
+fn pair_left(y: &Layout<'_>, out: &mut Vec<Instr>, pair: Pair, label: u32) -> Result<(), AllocError>
+    requires { PairFits (view_pair pair) }
+    ensures { OnOk result (Emits out.old.items out.new.items (pair_left (view_layout y.now) (view_pair pair) label)) }
+{
+    source_pushed(y, out, pair.left)?;
+    source_pushed(y, out, pair.right)?;
+    let all = [
+        Simple::Compare(ValType::I64, relation(contrary(pair.op))),
+        Simple::BrIf(label),
+    ];
+    does_all(out, &all)
+}
+
+/// The same in a list of its own, from within one label more.
+pub(crate) fn pair_code(y: &Layout<'_>, pair: Pair, label: u32) -> Result<Vec<Instr>, AllocError>
+    requires label { label ≤ most_labels }
+    requires pair { PairFits (view_pair pair) }
+    ensures { IfOk result (λ v. Emits [] v.items (pair_left (view_layout y.now) (view_pair pair) (suc label))) }
+{
+    let mut code = Vec::new(y.alloc);
+    pair_left(y, &mut code, pair, label + 1)?;
+    Ok(code)
+}

@@ -1,0 +1,134 @@
+//! Tests of loops and of choices: where one does not hold, code is left to a label.
+ghost use Rattle.std.specs.Prelude.{[], ◌≤◌, IfOk, OnOk, suc};
+ghost use Rattle.wasm_types.specs.Syntax.{Done};
+ghost use Rattle.mid_program.specs.ViewCode.{view};
+ghost use Rattle.value_machine.specs.Quick.{pair_in, test_within};
+ghost use Rattle.value_machine.specs.Statements.{left_unless, left_unless_pair};
+ghost use Rattle.code_emission.specs.Bounds.{most_labels, most_places};
+ghost use Rattle.code_emission.specs.Emits.{Emits};
+ghost use Rattle.expression_emission.specs.Fits.{Fits};
+ghost use Rattle.expression_emission.specs.View.{view_layout};
+ghost use Rattle.quick_forms.specs.View.{view_pair, view_within};
+ghost use Rattle.statement_emission.specs.Parts.{pair_tested, test_left, within_tested};
+ghost use Rattle.statement_emission.specs.QuickFits.{PairFits};
+ghost use Rattle.statement_emission.specs.StepFits.{TestFits};
+
+use crate::evaluating::tested;
+use crate::quick::{all_unsure, pair_code, unsure};
+use code_emission::{does_all, either, when};
+use expression_emission::Layout;
+use mid_program::Code;
+use quick_forms::{Pair, Within, pair_in, pair_names, test_within};
+use std::alloc::AllocError;
+use wasm_types::{ITestOp, Instr, Simple, ValType};
+
+/// Adds a test in all cases, and leaves to a label where it does not hold.
+fn test_left(
+    y: &Layout<'_>,
+    out: &mut Vec<Instr>,
+    test: &Code,
+    exit: u32,
+    label: u32,
+) -> Result<(), AllocError>
+    requires { Fits (view_layout y.now) (view test.now) 0 0 exit }
+    ensures { OnOk result (Emits out.old.items out.new.items (test_left (view_layout y.now) (view test.now) exit label)) }
+{
+    tested(y, out, test, exit)?;
+    let all = [
+        Simple::Test(ValType::I32, ITestOp::Eqz),
+        Simple::BrIf(label),
+    ];
+    does_all(out, &all)
+}
+
+/// The same in a list of its own, from within one label more.
+fn test_code(y: &Layout<'_>, test: &Code, exit: u32, label: u32) -> Result<Vec<Instr>, AllocError>
+    requires labels { suc exit ≤ most_labels }
+    requires label { label ≤ exit }
+    requires fit { Fits (view_layout y.now) (view test.now) 0 0 (suc exit) }
+    ensures { IfOk result (λ v. Emits [] v.items (test_left (view_layout y.now) (view test.now) (suc exit) (suc label))) }
+{
+    let mut code = Vec::new(y.alloc);
+    test_left(y, &mut code, test, exit + 1, label + 1)?;
+    Ok(code)
+}
+
+/// Adds a comparison of sources: by the module itself where their numbers are in range.
+fn pair_tested(
+    y: &Layout<'_>,
+    out: &mut Vec<Instr>,
+    pair: Pair,
+    test: &Code,
+    exit: u32,
+    label: u32,
+) -> Result<(), AllocError>
+    requires labels { suc exit ≤ most_labels }
+    requires label { label ≤ exit }
+    requires pair { PairFits (view_pair pair) }
+    requires fit { Fits (view_layout y.now) (view test.now) 0 0 (suc exit) }
+    ensures { OnOk result (Emits out.old.items out.new.items (pair_tested (view_layout y.now) (view_pair pair) (view test.now) exit label)) }
+{
+    let names = pair_names(y.alloc, pair)?;
+    all_unsure(y, out, &names, 1 << 53, 1 << 54)?;
+    let all_cases = test_code(y, test, exit, label)?;
+    let quick = pair_code(y, pair, label)?;
+    either(y.alloc, out, all_cases, quick)
+}
+
+/// Adds a test that may compare sources, and leaves to a label where it does not hold.
+pub(crate) fn left_unless_pair(
+    y: &Layout<'_>,
+    out: &mut Vec<Instr>,
+    test: &Code,
+    exit: u32,
+    label: u32,
+) -> Result<(), AllocError>
+    requires labels { suc exit ≤ most_labels }
+    requires label { label ≤ exit }
+    requires fit { TestFits (view_layout y.now) (view test.now) exit }
+    ensures { OnOk result (Emits out.old.items out.new.items (left_unless_pair (view_layout y.now) (pair_in (view test.now)) (view test.now) exit label)) }
+{
+    match pair_in(test) {
+        Some(pair) => pair_tested(y, out, pair, test, exit, label),
+        None => test_left(y, out, test, exit, label),
+    }
+}
+
+/// Adds a test that holds of some numbers of a name.
+fn within_tested(
+    y: &Layout<'_>,
+    out: &mut Vec<Instr>,
+    within: Within,
+    test: &Code,
+    exit: u32,
+    label: u32,
+) -> Result<(), AllocError>
+    requires labels { suc exit ≤ most_labels }
+    requires label { label ≤ exit }
+    requires name { within.name ≤ most_places }
+    requires fit { Fits (view_layout y.now) (view test.now) 0 0 (suc exit) }
+    ensures { OnOk result (Emits out.old.items out.new.items (within_tested (view_layout y.now) (view_within within) (view test.now) exit label)) }
+{
+    unsure(y, out, within)?;
+    let all_cases = test_code(y, test, exit, label)?;
+    when(y.alloc, out, all_cases)
+}
+
+/// Adds a test, and leaves to a label where it does not hold.
+pub(crate) fn left_unless(
+    y: &Layout<'_>,
+    out: &mut Vec<Instr>,
+    test: &Code,
+    exit: u32,
+    label: u32,
+) -> Result<(), AllocError>
+    requires labels { suc exit ≤ most_labels }
+    requires label { label ≤ exit }
+    requires fit { TestFits (view_layout y.now) (view test.now) exit }
+    ensures { OnOk result (Emits out.old.items out.new.items (left_unless (view_layout y.now) (test_within (view test.now)) (view test.now) exit label)) }
+{
+    match test_within(test) {
+        Some(within) => within_tested(y, out, within, test, exit, label),
+        None => left_unless_pair(y, out, test, exit, label),
+    }
+}
