@@ -2,7 +2,7 @@
 use crate::beginnings::refused_beginnings;
 use crate::field::push_escaped;
 use crate::row::{Row, row_of};
-use crate::run::run;
+use crate::run::{Ran, run};
 use awk_run::RunEnd;
 use run_report::{fault_text, status_of};
 use std::alloc::{AllocError, Global};
@@ -64,30 +64,54 @@ fn push_beginnings(
     text.push_str(&line)
 }
 
-/// What is told of a row that ended so.
-fn told(
+/// Adds the row's name, if it has one.
+fn push_name(text: &mut String, row: &Row) -> Result<(), AllocError> {
+    if row.name.is_empty() {
+        return Ok(());
+    }
+    push_escaped(text, &row.name)?;
+    text.push('\t')
+}
+
+/// Adds what is told of a row's run.
+fn push_told(
+    text: &mut String,
     alloc: Global,
     state: RandomState,
     row: &Row,
-    end: &RunEnd,
-    world: &MemWorld,
-) -> Result<String, AllocError> {
-    let mut text = String::new(alloc);
-    push_end(&mut text, alloc, end)?;
-    push_output(&mut text, row, world.output())?;
+    ran: &Ran,
+) -> Result<(), AllocError> {
+    push_name(text, row)?;
+    push_end(text, alloc, &ran.end)?;
+    push_output(text, row, ran.world.output())?;
     for name in &row.shown {
-        push_file(&mut text, world, name)?;
+        push_file(text, &ran.world, name)?;
     }
     if row.shows_beginnings {
-        push_beginnings(&mut text, alloc, state, row)?;
+        push_beginnings(text, alloc, state, row)?;
     }
-    Ok(text)
+    Ok(())
 }
 
-/// Runs a row; the answer's lines.
-fn answer_of(alloc: Global, state: RandomState, row: &Row) -> Result<String, AllocError> {
-    let (end, world) = run(alloc, state, row, row.steps)?;
-    told(alloc, state, row, &end, &world)
+/// How many calls of a world fail in turn at most.
+const MOST_CALLS: u64 = 1000;
+
+/// Adds the answers of the runs in which the first call of the world fails, the second, and so on up to the last.
+fn push_failures(
+    text: &mut String,
+    alloc: Global,
+    state: RandomState,
+    row: &mut Row,
+) -> Result<(), AllocError> {
+    for call in 1..=MOST_CALLS {
+        row.outside.let_fail(call);
+        let ran = run(alloc, state, row, row.steps)?;
+        if !ran.met_failure {
+            return Ok(());
+        }
+        push_told(text, alloc, state, row, &ran)?;
+    }
+    Ok(())
 }
 
 /// The answer to a row of a script or a module.
@@ -96,6 +120,13 @@ pub(crate) fn answer_to_row(
     state: RandomState,
     line: &str,
 ) -> Result<String, AllocError> {
-    let row = row_of(alloc, line)?;
-    answer_of(alloc, state, &row)
+    let mut row = row_of(alloc, line)?;
+    let mut text = String::new(alloc);
+    if row.fails_in_turn {
+        push_failures(&mut text, alloc, state, &mut row)?;
+    } else {
+        let ran = run(alloc, state, &row, row.steps)?;
+        push_told(&mut text, alloc, state, &row, &ran)?;
+    }
+    Ok(text)
 }

@@ -62,6 +62,11 @@ impl Outside {
         }
     }
 
+    /// Lets this call fail, from 1 on.
+    pub(crate) fn let_fail(&mut self, call: u64) {
+        self.call = call;
+    }
+
     /// Adds a file that opens.
     fn add_file(&mut self, alloc: Global, field: &[u8], ending: Ending) -> Result<(), AllocError> {
         let (name, text) = pair_of(field);

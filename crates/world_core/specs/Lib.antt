@@ -1,4 +1,5 @@
 pub mod WorldState
 pub mod Calls
 pub mod Memory
+pub mod Faulty
 pub mod Examples

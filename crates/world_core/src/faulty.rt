@@ -1,5 +1,7 @@
 //! A world of which one call fails.
-ghost use Rattle.std.specs.Prelude.{◌≡◌, ◌↔◌, ◌-◌, ◌+◌, ◌%◌, ◌^◌, IsTrue, IsFalse};
+ghost use Rattle.std.specs.Prelude.{◌≡◌, ◌≢◌, ◌↔◌, ◌<◌, ◌≤◌, ◌-◌, ◌+◌, ◌%◌, ◌^◌, length, Err, IsTrue, IsFalse, IfOk, OnErr};
+ghost use Rattle.world_core.specs.Calls.{Closed, Closes, Opens, OpensToRead, OpensToWrite, Reading, Reads, Writes, Writing, next_count, set_kind};
+ghost use Rattle.world_core.specs.Faulty.{calls_left, failed_here, inside};
 
 use crate::{World, WorldFault};
 
@@ -14,9 +16,9 @@ pub struct FaultyWorld<W: World> {
 impl<W: World> FaultyWorld<W> {
     /// The call with this number fails; `open_read`, `open_write`, `read` and `write` are counted, from 1 on. 0 is no call.
     pub fn new(inner: W, call: u64) -> FaultyWorld<W>
-        ensures inner { result.inner ≡ inner }
-        ensures call { result.calls_left ≡ call }
-        ensures failed { result.failed ≡ 0 }
+        ensures inside { inside result ≡ inner }
+        ensures call { calls_left result ≡ call }
+        ensures failed { failed_here result ≡ 0 }
     {
         FaultyWorld {
             inner,
@@ -27,18 +29,18 @@ impl<W: World> FaultyWorld<W> {
 
     /// The inner world.
     pub fn into_inner(self) -> W
-        ensures { result ≡ self.inner }
+        ensures { result ≡ inside self }
     {
         self.inner
     }
 
     /// Counts a call, and says whether it is the one that fails.
     fn fails_now(&mut self) -> bool
-        ensures result { IsTrue result ↔ (self.old.calls_left ≡ 1) }
-        ensures inner { self.new.inner ≡ self.old.inner }
-        ensures call { self.new.calls_left ≡ self.old.calls_left - 1 }
-        ensures counted { IsTrue result → self.new.failed ≡ (self.old.failed + 1) % 2 ^ 64 }
-        ensures same { IsFalse result → self.new.failed ≡ self.old.failed }
+        ensures result { IsTrue result ↔ (calls_left self.old ≡ 1) }
+        ensures inside { inside self.new ≡ inside self.old }
+        ensures call { calls_left self.new ≡ calls_left self.old - 1 }
+        ensures counted { IsTrue result → failed_here self.new ≡ (failed_here self.old + 1) % 2 ^ 64 }
+        ensures same { IsFalse result → failed_here self.new ≡ failed_here self.old }
     {
         let fails = self.calls_left == 1;
         self.calls_left = self.calls_left.saturating_sub(1);
@@ -49,44 +51,103 @@ impl<W: World> FaultyWorld<W> {
     }
 }
 
+/// Of the calls that are counted the one whose turn it is answers [`WorldFault::Failed`], changes nothing inside, and `failures` rises by one (`fails`).
+/// Every other call is handed on: what the trait says of it is so of the inner world (`counted_inside`, `handed_on`).
 impl<W: World> World for FaultyWorld<W> {
+    ghost use Rattle.world_core.specs.Faulty.{Fails, calls_left, failed_here, failures_of, inside};
+
     ghost tells = { ⊥ };
 
-    ghost state = { λ w. W.state w.inner };
+    ghost state = { λ w. W.state (inside w) };
 
-    ghost kinds = { λ w. W.kinds w.inner };
+    ghost kinds = { λ w. W.kinds (inside w) };
 
-    ghost count = { λ w. (W.count w.inner + w.failed) % 2 ^ 64 };
+    ghost count = { failures_of W.count };
 
-    fn open_read(&mut self, name: &[u8]) -> Result<u32, WorldFault> {
+    fn open_read(&mut self, name: &[u8]) -> Result<u32, WorldFault>
+        ensures opened { IfOk result (λ id. Opens Reading id (W.kinds (inside self.old)) (W.kinds (inside self.new))) }
+        ensures not_opened { OnErr result (W.kinds (inside self.new) ≡ W.kinds (inside self.old)) }
+        ensures count { failures_of W.count self.new ≡ next_count result (failures_of W.count self.old) }
+        ensures calls { calls_left self.new ≡ calls_left self.old - 1 }
+        ensures fails { calls_left self.old ≡ 1 → Fails self.old result self.new }
+        ensures counted_inside { calls_left self.old ≢ 1
+            → W.count (inside self.new) ≡ next_count result (W.count (inside self.old)) }
+        ensures handed_on { calls_left self.old ≢ 1 → W.tells
+            → OpensToRead name.now (W.state (inside self.old)) result (W.state (inside self.new)) }
+        ensures same { calls_left self.old ≢ 1 → failed_here self.new ≡ failed_here self.old }
+    {
         if self.fails_now() {
             return Err(WorldFault::Failed);
         }
         self.inner.open_read(name)
     }
 
-    fn open_write(&mut self, name: &[u8], append: bool) -> Result<u32, WorldFault> {
+    fn open_write(&mut self, name: &[u8], append: bool) -> Result<u32, WorldFault>
+        ensures opened { IfOk result (λ id. Opens Writing id (W.kinds (inside self.old)) (W.kinds (inside self.new))) }
+        ensures not_opened { OnErr result (W.kinds (inside self.new) ≡ W.kinds (inside self.old)) }
+        ensures count { failures_of W.count self.new ≡ next_count result (failures_of W.count self.old) }
+        ensures calls { calls_left self.new ≡ calls_left self.old - 1 }
+        ensures fails { calls_left self.old ≡ 1 → Fails self.old result self.new }
+        ensures counted_inside { calls_left self.old ≢ 1
+            → W.count (inside self.new) ≡ next_count result (W.count (inside self.old)) }
+        ensures handed_on { calls_left self.old ≢ 1 → W.tells
+            → OpensToWrite name.now append (W.state (inside self.old)) result (W.state (inside self.new)) }
+        ensures same { calls_left self.old ≢ 1 → failed_here self.new ≡ failed_here self.old }
+    {
         if self.fails_now() {
             return Err(WorldFault::Failed);
         }
         self.inner.open_write(name, append)
     }
 
-    fn read(&mut self, id: u32, buffer: &mut [u8]) -> Result<usize, WorldFault> {
+    fn read(&mut self, id: u32, buffer: &mut [u8]) -> Result<usize, WorldFault>
+        requires { W.kinds (inside self.old) id ≡ Reading }
+        ensures within { IfOk result (λ n. n ≤ length buffer.old) }
+        ensures kinds { W.kinds (inside self.new) ≡ W.kinds (inside self.old) }
+        ensures count { failures_of W.count self.new ≡ next_count result (failures_of W.count self.old) }
+        ensures calls { calls_left self.new ≡ calls_left self.old - 1 }
+        ensures fails { calls_left self.old ≡ 1 → Fails self.old result self.new }
+        ensures counted_inside { calls_left self.old ≢ 1
+            → W.count (inside self.new) ≡ next_count result (W.count (inside self.old)) }
+        ensures handed_on { calls_left self.old ≢ 1 → W.tells
+            → Reads id (W.state (inside self.old)) buffer.old result buffer.new (W.state (inside self.new)) }
+        ensures same { calls_left self.old ≢ 1 → failed_here self.new ≡ failed_here self.old }
+    {
         if self.fails_now() {
             return Err(WorldFault::Failed);
         }
         self.inner.read(id, buffer)
     }
 
-    fn write(&mut self, id: u32, text: &[u8]) -> Result<usize, WorldFault> {
+    fn write(&mut self, id: u32, text: &[u8]) -> Result<usize, WorldFault>
+        requires { W.kinds (inside self.old) id ≡ Writing }
+        ensures within { IfOk result (λ n. n ≤ length text.now) }
+        ensures some { IfOk result (λ n. 0 < length text.now → 0 < n) }
+        ensures kinds { W.kinds (inside self.new) ≡ W.kinds (inside self.old) }
+        ensures count { failures_of W.count self.new ≡ next_count result (failures_of W.count self.old) }
+        ensures calls { calls_left self.new ≡ calls_left self.old - 1 }
+        ensures fails { calls_left self.old ≡ 1 → Fails self.old result self.new }
+        ensures counted_inside { calls_left self.old ≢ 1
+            → W.count (inside self.new) ≡ next_count result (W.count (inside self.old)) }
+        ensures handed_on { calls_left self.old ≢ 1 → W.tells
+            → Writes id text.now (W.state (inside self.old)) result (W.state (inside self.new)) }
+        ensures same { calls_left self.old ≢ 1 → failed_here self.new ≡ failed_here self.old }
+    {
         if self.fails_now() {
             return Err(WorldFault::Failed);
         }
         self.inner.write(id, text)
     }
 
-    fn close(&mut self, id: u32) {
+    fn close(&mut self, id: u32)
+        requires open { W.kinds (inside self.old) id ≢ Closed }
+        requires own { 1 < id }
+        ensures kinds { W.kinds (inside self.new) ≡ set_kind id Closed (W.kinds (inside self.old)) }
+        ensures count { failures_of W.count self.new ≡ failures_of W.count self.old }
+        ensures handed_on { W.tells → Closes id (W.state (inside self.old)) (W.state (inside self.new)) }
+        ensures calls { calls_left self.new ≡ calls_left self.old }
+        ensures same { failed_here self.new ≡ failed_here self.old }
+    {
         self.inner.close(id)
     }
 
@@ -94,9 +155,9 @@ impl<W: World> World for FaultyWorld<W> {
         self.inner.failures().wrapping_add(self.failed)
     }
 
-    ghost input = { λ w. W.input w.inner };
+    ghost input = { λ w. W.input (inside w) };
 
-    ghost output = { λ w. W.output w.inner };
+    ghost output = { λ w. W.output (inside w) };
 
-    ghost standard = { λ w. W.standard w.inner };
+    ghost standard = { λ w. W.standard (inside w) };
 }
