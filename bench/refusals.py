@@ -56,9 +56,9 @@ def told_of(folder):
     return told
 
 
-def sweep(library, words, given, folder, most=1000, every=1, all_after=False, files=()):
-    """A program's own run, and those in which each every-th of its first allocations was refused (and, with all_after, all after it). `files`: name and bytes of each
-    that is there before the run."""
+def sweep(library, words, given, folder, most=1000, every=1, how="", files=()):
+    """A program's own run, and those in which each every-th of its first allocations was refused; as `how` says and all after it (ALL), or calls of devices in their
+    place (CALLS). `files`: name and bytes of each that is there before the run."""
     shutil.rmtree(folder, ignore_errors=True)
     os.makedirs(f"{folder}/here")
     for name, text in files:
@@ -67,8 +67,8 @@ def sweep(library, words, given, folder, most=1000, every=1, all_after=False, fi
     plain = {"PATH": "/usr/bin:/bin", "E": "1"}
     own = run(words, given, folder, plain)
     asked = {**plain, "LD_PRELOAD": library, "REFUSE_TO": folder, "REFUSE_MOST": str(most), "REFUSE_EVERY": str(every)}
-    if all_after:
-        asked["REFUSE_ALL"] = "1"
+    if how:
+        asked[f"REFUSE_{how}"] = "1"
     again = run(words, given, folder, asked)
     if again != own:
         raise RuntimeError(f"{words} {given[:100]}: ends as {again} beside its refused runs, and as {own} alone")

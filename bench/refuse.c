@@ -1,4 +1,4 @@
-/* Refuses the allocations of one run of a program, each in turn.
+/* Refuses the allocations of one run of a program, each in turn; or its calls of devices.
 
    Preloaded, it forks at each allocation that the program makes. The child's allocation is refused, and the child runs on to its end, with files of its own for
    its standard output and error, which begin with what was written by then. The parent waits for it, and goes on as if nothing had been. The environment says:
@@ -7,12 +7,14 @@
      REFUSE_MOST   how many allocations are counted at most
      REFUSE_EVERY  each so many-th is refused
      REFUSE_ALL    if it is there: every allocation after the refused one is refused as well
+     REFUSE_CALLS  if it is there: not allocations are counted and refused, but the calls open, read and write, which then fail (EIO)
 
    Where a child may write files, let it write none that the parent reads: they share them. */
 #define _GNU_SOURCE
 #include <errno.h>
 #include <fcntl.h>
 #include <link.h>
+#include <stdarg.h>
 #include <stdint.h>
 #include <stdio.h>
 #include <stdlib.h>
@@ -26,7 +28,7 @@ enum { OPEN_FILES = 40, LOG_FD = 600 };
 
 static char folder[200];
 static long count, most, every = 1;
-static int ready, is_child, stays_refused, log_fd = -1;
+static int ready, is_child, stays_refused, counts_calls, log_fd = -1;
 static uintptr_t low, high;
 
 static int find_program(struct dl_phdr_info *info, size_t size, void *data) {
@@ -77,9 +79,9 @@ static int is_refused_here(void) {
   return 0;
 }
 
-/* Whether the allocation that the program asks for, at this place of its code, is refused. */
-static int is_refused(void *asked_at) {
-  if (!ready || (uintptr_t)asked_at < low || (uintptr_t)asked_at >= high) return 0;
+/* Whether what the program asks for, at this place of its code, is refused: an allocation, or a call of a device. */
+static int is_refused(void *asked_at, int is_call) {
+  if (!ready || is_call != counts_calls || (uintptr_t)asked_at < low || (uintptr_t)asked_at >= high) return 0;
   if (is_child) return stays_refused;
   count++;
   return count <= most && (count - 1) % every == 0 && is_refused_here();
@@ -93,6 +95,7 @@ __attribute__((constructor)) static void begin(void) {
   most = limit ? atol(limit) : 1000;
   every = step && atol(step) > 0 ? atol(step) : 1;
   stays_refused = getenv("REFUSE_ALL") != NULL;
+  counts_calls = getenv("REFUSE_CALLS") != NULL;
   snprintf(path, sizeof path, "%s/log", folder);
   int fd = syscall(SYS_open, path, O_WRONLY | O_CREAT | O_TRUNC | O_APPEND, 0666);
   log_fd = fcntl(fd, F_DUPFD, LOG_FD);
@@ -105,13 +108,35 @@ extern void *__libc_malloc(size_t);
 extern void *__libc_realloc(void *, size_t);
 
 void *malloc(size_t size) {
-  if (!is_refused(__builtin_return_address(0))) return __libc_malloc(size);
+  if (!is_refused(__builtin_return_address(0), 0)) return __libc_malloc(size);
   errno = ENOMEM;
   return NULL;
 }
 
 void *realloc(void *old, size_t size) {
-  if (!is_refused(__builtin_return_address(0))) return __libc_realloc(old, size);
+  if (!is_refused(__builtin_return_address(0), 0)) return __libc_realloc(old, size);
   errno = ENOMEM;
   return NULL;
+}
+
+static int is_failing_call(void *asked_at) {
+  if (!is_refused(asked_at, 1)) return 0;
+  errno = EIO;
+  return 1;
+}
+
+int open(const char *path, int flags, ...) {
+  va_list words;
+  va_start(words, flags);
+  int mode = flags & O_CREAT ? va_arg(words, int) : 0;
+  va_end(words);
+  return is_failing_call(__builtin_return_address(0)) ? -1 : syscall(SYS_openat, AT_FDCWD, path, flags, mode);
+}
+
+ssize_t read(int fd, void *bytes, size_t size) {
+  return is_failing_call(__builtin_return_address(0)) ? -1 : syscall(SYS_read, fd, bytes, size);
+}
+
+ssize_t write(int fd, const void *bytes, size_t size) {
+  return is_failing_call(__builtin_return_address(0)) ? -1 : syscall(SYS_write, fd, bytes, size);
 }
