@@ -1,0 +1,50 @@
+-- The pairs of an array, by a table's words and by the rows'; and the numbers of fields.
+use Rattle.std.proofs.Common.{◌≡◌, inl, inr, ℕ, Bool, true, false, List, [], ◌∷◌, ◌++◌, Option, Some, None, Result, Ok, Err, refl, sym, ap, ◌∙◌}
+use Rattle.std.specs.Prelude.{◌^◌, ℤ, pos, negsuc, nat_le, if◌then◌else◌}
+use Rattle.std.specs.Cmp.Lexicographic.{bytes_decides}
+use Rattle.awk_values.specs.declared.fault.Fault.{Fault}
+use Rattle.awk_values.specs.declared.fault.Fault.TheVariants.{FieldNumber}
+use Rattle.awk_values.specs.declared.value.Value.{Value}
+use Rattle.awk_values.specs.declared.value.Value.TheVariants.{Uninit}
+use Rattle.awk_state.specs.Numbers.{Number}
+use Rattle.awk_state.specs.SharedState.{◌>>=◌, Pairs}
+use Rattle.awk_state.specs.FieldRows.{field_number}
+use Rattle.awk_state.specs.ArrayRows.{element, stored}
+use Rattle.mid_program.specs.Steps.{is_field_number}
+use Rattle.host_arrays.specs.Pairs.{created, created_by, get_pair, is_key, set_pair}
+
+pub got : (key : List ℕ) (pairs : Pairs) → get_pair key pairs ≡ element key pairs
+got key [] = refl
+got key (p ∷ ps) = ap (λ o. if is_key key p.0 then Some p.1 else o) (got key ps)
+
+pub put : (key : List ℕ) (v : Value) (pairs : Pairs) → set_pair key v pairs ≡ stored key v pairs
+put key v [] = refl
+put key v (p ∷ ps) = by (is_key key p.0) (λ e. sym ((bytes_decides key p.0).0 e))
+  where
+    by : (b : Bool) → (b ≡ true → p.0 ≡ key) → (if b then (p.0, v) ∷ ps else p ∷ set_pair key v ps) ≡ (if b then (key, v) ∷ ps else p ∷ stored key v ps)
+    by true same = ap (λ (k : List ℕ). (k, v) ∷ ps) (same refl)
+    by false same = ap (λ (qs : Pairs). p ∷ qs) (put key v ps)
+
+last : (key : List ℕ) (v : Value) (pairs : Pairs) → element key pairs ≡ None → stored key v pairs ≡ pairs ++ (key, v) ∷ []
+last key v [] h = refl
+last key v (p ∷ ps) h = by (is_key key p.0) h
+  where
+    by : (b : Bool) → (if b then Some p.1 else element key ps) ≡ None → (if b then (key, v) ∷ ps else p ∷ stored key v ps) ≡ p ∷ (ps ++ (key, v) ∷ [])
+    by true e = absurd cc
+    by false e = ap (λ (qs : Pairs). p ∷ qs) (last key v ps e)
+
+pub made : (key : List ℕ) (pairs : Pairs) → element key pairs ≡ None → created key pairs ≡ stored key Uninit pairs
+made key pairs h = ap (λ o. created_by o key pairs) (got key pairs ∙ h) ∙ sym (last key Uninit pairs h)
+
+pub there : (key : List ℕ) (v : Value) (pairs : Pairs) → element key pairs ≡ Some v → created key pairs ≡ pairs
+there key v pairs h = ap (λ o. created_by o key pairs) (got key pairs ∙ h)
+
+-- the number of a field
+
+checked_by : (n : Number) (b : Bool) (k : ℕ) → (if b then Ok n else Err FieldNumber) ≡ ((if b then Ok k else Err FieldNumber) >>= λ k. Ok n)
+checked_by n true k = refl
+checked_by n false k = refl
+
+pub field_is : (n : Number) (z : ℤ) → (if is_field_number z then Ok n else Err FieldNumber) ≡ (field_number z >>= λ k. Ok n)
+field_is n (pos k) = checked_by n (nat_le k (2 ^ 20)) k
+field_is n (negsuc k) = refl
