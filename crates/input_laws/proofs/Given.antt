@@ -1,5 +1,5 @@
 -- What is computed is given: the walk over the reader at hand and the operands.
-use Rattle.std.proofs.Common.{◌≡◌, inl, inr, ℕ, zero, suc, ◌+◌, ◌-◌, ◌<◌, ◌≤◌, Bool, true, false, List, [], ◌∷◌, Option, Some, None, Result, Ok, Err, refl, sym, ap, subst, ◌∙◌, arith}
+use Rattle.std.proofs.Common.{◌≡◌, inl, inr, ℕ, zero, suc, ◌+◌, ◌-◌, Bool, true, false, List, [], ◌∷◌, Option, Some, None, Result, Ok, Err, refl, sym, ap, subst, ◌∙◌, arith}
 use Rattle.std.specs.Prelude.{◌≢◌, ◌^◌, ℤ}
 use Rattle.awk_values.specs.Values.{number_of_value}
 use Rattle.awk_values.specs.declared.fault.Fault.{Fault}
@@ -7,7 +7,7 @@ use Rattle.world_core.specs.WorldState.{Outside, Source}
 use Rattle.awk_state.specs.SharedState.{Inner, MainReader, Standard, File, Operands, NoFile, SomeFile, NoneLeft, ◌>>=◌, special_of}
 use Rattle.awk_state.specs.Assignments.{assignment_of, assigned}
 use Rattle.awk_state.specs.Records.{Got, Record, AtEnd, Broken}
-use Rattle.awk_state.specs.InputRows.{next_record, reader_source, leaves, stops_reading, begins_reading, with_operands, got_main, read_main, reader_of, opened, made, file_or_assignment, taken, operand_text, passes_operand, over, follows, is_below, with_argc, reached, reach, reach_by, next_operand, go_on, main_input}
+use Rattle.awk_state.specs.InputRows.{next_record, reader_source, leaves, stops_reading, begins_reading, with_operands, got_main, read_main, reader_of, opened, made, file_or_assignment, taken, operand_text, passes_operand, over, follows, is_below, reached, reach, reach_by, next_operand, go_on, main_input}
 use Rattle.awk_state.specs.Carried.{counted_by, carried_behind, carried_reading, carried_opened, carried_operand, carried_taken, carried_reached, carried_reach, carried_by, carried_next, carried_on, carried_main}
 use Rattle.awk_state.specs.declared.constants.Special.TheVariants.{Argc}
 use Rattle.input_laws.specs.MainInput as walk
@@ -22,6 +22,18 @@ leaves_next (File source) left inner = refl
 pub leaves_operands : (reader : MainReader) (left : Source) (inner : Inner) → (leaves reader left inner).main.operands ≡ inner.main.operands
 leaves_operands Standard left inner = refl
 leaves_operands (File source) left inner = refl
+
+-- the state where an operand is a file, and that in which it is read
+abbrev pub file_state : Inner → Inner
+file_state inner = with_operands SomeFile (passes_operand inner)
+
+abbrev pub reading_state : Inner → List ℕ → MainReader → Inner
+reading_state inner name reader = begins_reading name reader (file_state inner)
+
+pub some_file : (o : Operands) → o ≡ SomeFile → o ≢ NoneLeft
+some_file NoneLeft e h = absurd cc
+some_file NoFile e h = absurd cc
+some_file SomeFile e h = absurd cc
 
 -- nothing is carried out after the operands
 pub none_made : (reader : MainReader) (inner : Inner) → carried_reading (λ i. 0) reader inner ≡ 0
@@ -65,28 +77,17 @@ module _ (outside : Outside) where
   module _ (on : Inner → Given) (count : Inner → ℕ) (inner : Inner)
       (go : (after : Inner) → after.main.operands ≢ NoneLeft → after.main.next ≡ inner.main.next + 1 → Follow on count after) where
 
-    looked : IsNext inner [] → (passes_operand inner).main.operands ≢ NoneLeft
-    looked next = next.looked
-
     file_gives : (c : ℕ) (cs : List ℕ) → IsNext inner (c ∷ cs) → assignment_of (c ∷ cs) ≡ None →
-        let at : Inner = with_operands SomeFile (passes_operand inner) in
-        Gives outside Operand inner (opened on (c ∷ cs) (reader_of outside (c ∷ cs)) at) (carried_opened count (c ∷ cs) (reader_of outside (c ∷ cs)) at)
+        Gives outside Operand inner (opened on (c ∷ cs) (reader_of outside (c ∷ cs)) (file_state inner)) (carried_opened count (c ∷ cs) (reader_of outside (c ∷ cs)) (file_state inner))
     file_gives c cs next none = by (reader_of outside (c ∷ cs)) refl
       where
-        abbrev at : Inner
-        at = with_operands SomeFile (passes_operand inner)
-
-        some_file : (o : Operands) → o ≡ SomeFile → o ≢ NoneLeft
-        some_file NoneLeft e h = absurd cc
-        some_file NoFile e h = absurd cc
-        some_file SomeFile e h = absurd cc
-
-        by : (o : Option MainReader) → reader_of outside (c ∷ cs) ≡ o → Gives outside Operand inner (opened on (c ∷ cs) o at) (carried_opened count (c ∷ cs) o at)
+        by : (o : Option MainReader) → reader_of outside (c ∷ cs) ≡ o →
+            Gives outside Operand inner (opened on (c ∷ cs) o (file_state inner)) (carried_opened count (c ∷ cs) o (file_state inner))
         by None e = walk.not_opened c cs next none e
-        by (Some reader) e = walk.opened c cs reader next none e (reader_gives on count reader (begins_reading (c ∷ cs) reader at)
-            (λ left. go (stops_reading (leaves reader left (begins_reading (c ∷ cs) reader at)))
-                (some_file (stops_reading (leaves reader left (begins_reading (c ∷ cs) reader at))).main.operands (leaves_operands reader left (begins_reading (c ∷ cs) reader at)))
-                (leaves_next reader left (begins_reading (c ∷ cs) reader at))))
+        by (Some reader) e = walk.opened c cs reader next none e (reader_gives on count reader (reading_state inner (c ∷ cs) reader)
+            (λ left. go (stops_reading (leaves reader left (reading_state inner (c ∷ cs) reader)))
+                (some_file (leaves reader left (reading_state inner (c ∷ cs) reader)).main.operands (leaves_operands reader left (reading_state inner (c ∷ cs) reader)))
+                (leaves_next reader left (reading_state inner (c ∷ cs) reader))))
 
     assignment_gives : (c : ℕ) (cs name text : List ℕ) → IsNext inner (c ∷ cs) → assignment_of (c ∷ cs) ≡ Some (name, text) →
         Gives outside Operand inner (assigned name text (passes_operand inner) >>= λ x. made on x) (counted_by count (assigned name text (passes_operand inner)))
@@ -117,22 +118,23 @@ module _ (outside : Outside) where
       by : (r : Result ℤ Fault) → number_of_value (special_of inner Argc) ≡ r → Gives outside Operand inner (r >>= λ argc. follows inner.main.operands inner) 0
       by (Ok argc) e = past_gives inner (record { argc = argc; count = e; past = inl (omega (arith, left)) }) some
       by (Err fault) e = walk.no_count some e
-  reach_gives (suc n) inner some left = by (number_of_value (special_of inner Argc)) refl
+  reach_gives (suc n) inner some left =
+      by (λ after kept next. reach_gives n after kept (omega (arith, left, next))) (number_of_value (special_of inner Argc)) refl
     where
-      below : (argc : ℤ) → number_of_value (special_of inner Argc) ≡ Ok argc → (b : Bool) → is_below inner.main.next argc ≡ b →
+      below : ((after : Inner) → after.main.operands ≢ NoneLeft → after.main.next ≡ inner.main.next + 1 → Follow (reach n outside) (carried_reach n outside) after) →
+          (argc : ℤ) → number_of_value (special_of inner Argc) ≡ Ok argc → (b : Bool) → is_below inner.main.next argc ≡ b →
           Gives outside Operand inner
               (elim b [ true ↦ taken (reach n outside) outside (operand_text inner.main.next inner) (passes_operand inner) | false ↦ follows inner.main.operands inner ])
               (elim b [ true ↦ carried_taken (carried_reach n outside) outside (operand_text inner.main.next inner) (passes_operand inner) | false ↦ 0 ])
-      below argc e true f = taken_gives (reach n outside) (carried_reach n outside) inner
-          (λ after kept next. reach_gives n after kept (omega (arith, left, next)))
-          (operand_text inner.main.next inner)
+      below go argc e true f = taken_gives (reach n outside) (carried_reach n outside) inner go (operand_text inner.main.next inner)
           (record { looked = some; within = omega (arith, left); argc = argc; count = e; below = f; here = refl })
-      below argc e false f = past_gives inner (record { argc = argc; count = e; past = inr f }) some
+      below go argc e false f = past_gives inner (record { argc = argc; count = e; past = inr f }) some
 
-      by : (r : Result ℤ Fault) → number_of_value (special_of inner Argc) ≡ r →
+      by : ((after : Inner) → after.main.operands ≢ NoneLeft → after.main.next ≡ inner.main.next + 1 → Follow (reach n outside) (carried_reach n outside) after) →
+          (r : Result ℤ Fault) → number_of_value (special_of inner Argc) ≡ r →
           Gives outside Operand inner (r >>= reached (reach n outside) outside inner) (carried_reached (carried_reach n outside) outside inner r)
-      by (Ok argc) e = below argc e (is_below inner.main.next argc) refl
-      by (Err fault) e = walk.no_count some e
+      by go (Ok argc) e = below go argc e (is_below inner.main.next argc) refl
+      by go (Err fault) e = walk.no_count some e
 
   operand_gives : (inner : Inner) → Follow (next_operand outside) (carried_next outside) inner
   operand_gives inner = by inner.main.operands refl

@@ -9,13 +9,13 @@ use Rattle.input_laws.specs.Assignments.{Answer, Makes, no_more, not_allowed, le
 
 pub makes : (pairs : List (List ℕ × List ℕ)) (inner : Inner) → Makes pairs inner (start_from pairs inner) (carried_from pairs inner)
 makes [] inner = no_more
-makes (pair ∷ rest) inner = by (assigned pair.0 pair.1 (record inner { assigns = rest })) refl
+makes (pair ∷ rest) inner = by (λ after. makes rest after) (assigned pair.0 pair.1 (record inner { assigns = rest })) refl
   where
-    by : (r : Result (Inner × Bool) Fault) → assigned pair.0 pair.1 (record inner { assigns = rest }) ≡ r →
+    by : ((after : Inner) → Makes rest after (start_from rest after) (carried_from rest after)) → (r : Result (Inner × Bool) Fault) → assigned pair.0 pair.1 (record inner { assigns = rest }) ≡ r →
         Makes (pair ∷ rest) inner (r >>= λ x. start_by (start_from rest) x) (counted_by (carried_from rest) r)
-    by (Ok (after, true)) e = left_to_script pair after e
-    by (Ok (after, false)) e = carried_out pair after e (makes rest after)
-    by (Err fault) e = not_allowed pair e
+    by go (Ok (after, true)) e = left_to_script pair after e
+    by go (Ok (after, false)) e = carried_out pair after e (go after)
+    by go (Err fault) e = not_allowed pair e
 
 one_made : (pair : List ℕ × List ℕ) (rest : List (List ℕ × List ℕ)) (inner : Inner) (r : Result (Inner × Bool) Fault) → assigned pair.0 pair.1 (record inner { assigns = rest }) ≡ r →
     (start_from (pair ∷ rest) inner ≡ (r >>= λ x. start_by (start_from rest) x)) × (carried_from (pair ∷ rest) inner ≡ counted_by (carried_from rest) r)

@@ -1,5 +1,5 @@
 -- What is given is computed.
-use Rattle.std.proofs.Common.{◌≡◌, inl, inr, ℕ, zero, suc, ◌+◌, ◌-◌, ◌<◌, Bool, true, false, List, [], ◌∷◌, Option, Some, None, Result, Ok, Err, refl, sym, ap, ◌∙◌, arith}
+use Rattle.std.proofs.Common.{◌≡◌, inl, inr, ℕ, zero, suc, ◌+◌, ◌-◌, Bool, true, false, List, [], ◌∷◌, Option, Some, None, Result, Ok, Err, refl, sym, ap, ◌∙◌, arith}
 use Rattle.std.specs.Prelude.{◌≢◌, ◌^◌, ℤ}
 use Rattle.awk_values.specs.Values.{number_of_value}
 use Rattle.awk_values.specs.declared.fault.Fault.{Fault}
@@ -13,7 +13,7 @@ use Rattle.awk_state.specs.declared.constants.Special.TheVariants.{Argc}
 use Rattle.input_laws.specs.MainInput as walk
 use Rattle.input_laws.specs.MainInput.{Given, Stage, Reader, Operand, Gives, GivesNext, IsNext, IsPast}
 use Rattle.input_laws.proofs.Kept.{assigned_keeps}
-use Rattle.input_laws.proofs.Given.{leaves_next, leaves_operands, none_made}
+use Rattle.input_laws.proofs.Given.{file_state, leaves_next, leaves_operands, none_made, reading_state, some_file}
 
 -- two ways to go on after a reader that agree there
 
@@ -107,11 +107,10 @@ module _ (outside : Outside) where
 
   -- an operand that is no assignment, and one that is
   file_says : (inner : Inner) (c : ℕ) (cs : List ℕ) (o : Option MainReader) → IsNext inner (c ∷ cs) → assignment_of (c ∷ cs) ≡ None → reader_of outside (c ∷ cs) ≡ o →
-      Reaches inner (opened (reach (others inner) outside) (c ∷ cs) o (with_operands SomeFile (passes_operand inner)))
-          (carried_opened (carried_reach (others inner) outside) (c ∷ cs) o (with_operands SomeFile (passes_operand inner)))
+      Reaches inner (opened (reach (others inner) outside) (c ∷ cs) o (file_state inner)) (carried_opened (carried_reach (others inner) outside) (c ∷ cs) o (file_state inner))
   file_says inner c cs o n e f =
       let t = text_reaches inner (c ∷ cs) n in
-      let at : Inner = with_operands SomeFile (passes_operand inner) in
+      let at : Inner = file_state inner in
       (t.0 ∙ (ap (λ a. file_or_assignment (reach (others inner) outside) outside (c ∷ cs) a (passes_operand inner)) e ∙ ap (λ a. opened (reach (others inner) outside) (c ∷ cs) a at) f),
       t.1 ∙ (ap (λ a. carried_operand (carried_reach (others inner) outside) outside (c ∷ cs) a (passes_operand inner)) e ∙ ap (λ a. carried_opened (carried_reach (others inner) outside) (c ∷ cs) a at) f))
 
@@ -124,25 +123,19 @@ module _ (outside : Outside) where
 
   opened_says : (inner : Inner) (c : ℕ) (cs : List ℕ) (reader : MainReader) (given : Given) (count : ℕ) → IsNext inner (c ∷ cs) → assignment_of (c ∷ cs) ≡ None →
       reader_of outside (c ∷ cs) ≡ Some reader →
-      Says (Reader reader) (begins_reading (c ∷ cs) reader (with_operands SomeFile (passes_operand inner))) given count → Reaches inner given count
+      Says (Reader reader) (reading_state inner (c ∷ cs) reader) given count → Reaches inner given count
   opened_says inner c cs reader given count n e f d =
-      let at : Inner = begins_reading (c ∷ cs) reader (with_operands SomeFile (passes_operand inner)) in
+      let at : Inner = reading_state inner (c ∷ cs) reader in
       let x = file_says inner c cs (Some reader) n e f in
       (x.0 ∙ (read_same (reach (others inner) outside) (next_operand outside) reader at (λ left. sym (there left).0) ∙ d.0),
       x.1 ∙ (count_same (carried_reach (others inner) outside) (carried_next outside) reader at (λ left. sym (there left).1) ∙ d.1))
     where
-      some_file : (o : Operands) → o ≡ SomeFile → o ≢ NoneLeft
-      some_file NoneLeft e h = absurd cc
-      some_file NoFile e h = absurd cc
-      some_file SomeFile e h = absurd cc
-
-      abbrev opens : Inner
-      opens = begins_reading (c ∷ cs) reader (with_operands SomeFile (passes_operand inner))
-
-      there : (left : Source) → Reaches (stops_reading (leaves reader left opens)) (reach (others inner) outside (stops_reading (leaves reader left opens)))
-          (carried_reach (others inner) outside (stops_reading (leaves reader left opens)))
-      there left = next_reaches inner (stops_reading (leaves reader left opens))
-          (some_file (stops_reading (leaves reader left opens)).main.operands (leaves_operands reader left opens)) (leaves_next reader left opens)
+      there : (left : Source) → Reaches (stops_reading (leaves reader left (reading_state inner (c ∷ cs) reader)))
+          (reach (others inner) outside (stops_reading (leaves reader left (reading_state inner (c ∷ cs) reader))))
+          (carried_reach (others inner) outside (stops_reading (leaves reader left (reading_state inner (c ∷ cs) reader))))
+      there left = next_reaches inner (stops_reading (leaves reader left (reading_state inner (c ∷ cs) reader)))
+          (some_file (leaves reader left (reading_state inner (c ∷ cs) reader)).main.operands (leaves_operands reader left (reading_state inner (c ∷ cs) reader)))
+          (leaves_next reader left (reading_state inner (c ∷ cs) reader))
 
   some_of : (inner : Inner) (o : Operands) → o ≢ NoneLeft → inner.main.operands ≡ o → inner.main.operands ≢ NoneLeft
   some_of inner o some e h = some (sym e ∙ h)

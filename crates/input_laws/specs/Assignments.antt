@@ -1,5 +1,5 @@
 -- The assignments of the command line before BEGIN (POSIX.1-2017 awk, "OPTIONS", -v), as one walk over those that are left.
-use Rattle.std.specs.Prelude.{◌≡◌, ℕ, suc, Bool, true, false, List, [], ◌∷◌, Result, Ok, Err}
+use Rattle.std.specs.Prelude.{◌≡◌, ℕ, suc, true, false, List, [], ◌∷◌, Result, Ok, Err}
 use Rattle.awk_values.specs.declared.fault.Fault.{Fault}
 use Rattle.awk_state.specs.SharedState.{Inner}
 use Rattle.awk_state.specs.Assignments.{assigned}

@@ -19,19 +19,19 @@ got key (p ∷ ps) = ap (λ o. if is_key key p.0 then Some p.1 else o) (got key 
 
 pub put : (key : List ℕ) (v : Value) (pairs : Pairs) → set_pair key v pairs ≡ stored key v pairs
 put key v [] = refl
-put key v (p ∷ ps) = by (is_key key p.0) (λ e. sym ((bytes_decides key p.0).0 e))
+put key v (p ∷ ps) = by (put key v ps) (is_key key p.0) (λ e. sym ((bytes_decides key p.0).0 e))
   where
-    by : (b : Bool) → (b ≡ true → p.0 ≡ key) → (if b then (p.0, v) ∷ ps else p ∷ set_pair key v ps) ≡ (if b then (key, v) ∷ ps else p ∷ stored key v ps)
-    by true same = ap (λ (k : List ℕ). (k, v) ∷ ps) (same refl)
-    by false same = ap (λ (qs : Pairs). p ∷ qs) (put key v ps)
+    by : set_pair key v ps ≡ stored key v ps → (b : Bool) → (b ≡ true → p.0 ≡ key) → (if b then (p.0, v) ∷ ps else p ∷ set_pair key v ps) ≡ (if b then (key, v) ∷ ps else p ∷ stored key v ps)
+    by rest true same = ap (λ (k : List ℕ). (k, v) ∷ ps) (same refl)
+    by rest false same = ap (λ (qs : Pairs). p ∷ qs) rest
 
 last : (key : List ℕ) (v : Value) (pairs : Pairs) → element key pairs ≡ None → stored key v pairs ≡ pairs ++ (key, v) ∷ []
 last key v [] h = refl
-last key v (p ∷ ps) h = by (is_key key p.0) h
+last key v (p ∷ ps) h = by (λ e. last key v ps e) (is_key key p.0) h
   where
-    by : (b : Bool) → (if b then Some p.1 else element key ps) ≡ None → (if b then (key, v) ∷ ps else p ∷ stored key v ps) ≡ p ∷ (ps ++ (key, v) ∷ [])
-    by true e = absurd cc
-    by false e = ap (λ (qs : Pairs). p ∷ qs) (last key v ps e)
+    by : (element key ps ≡ None → stored key v ps ≡ ps ++ (key, v) ∷ []) → (b : Bool) → (if b then Some p.1 else element key ps) ≡ None → (if b then (key, v) ∷ ps else p ∷ stored key v ps) ≡ p ∷ (ps ++ (key, v) ∷ [])
+    by go true e = absurd cc
+    by go false e = ap (λ (qs : Pairs). p ∷ qs) (go e)
 
 pub made : (key : List ℕ) (pairs : Pairs) → element key pairs ≡ None → created key pairs ≡ stored key Uninit pairs
 made key pairs h = ap (λ o. created_by o key pairs) (got key pairs ∙ h) ∙ sym (last key Uninit pairs h)

@@ -1,4 +1,4 @@
-use Rattle.std.proofs.Common.{◌≡◌, ℕ, subst, ◌∙◌}
+use Rattle.std.proofs.Common.{◌≡◌, ℕ, subst}
 use Rattle.world_core.specs.WorldState.{Outside}
 use Rattle.awk_state.specs.SharedState.{Inner}
 use Rattle.awk_state.specs.InputRows.{main_input}
