@@ -1,7 +1,6 @@
 -- Two least sets are one.
 use Rattle.std.proofs.Common.{◌≡◌, Bool, true, false, List, refl, sym, ap, subst, ◌∙◌}
 use Rattle.std.specs.Prelude.{IsTrue}
-use Rattle.std.specs.Option.{option_map}
 use Rattle.std.proofs.Math.Path.{fun_ext}
 use Rattle.awk_grammar.specs.Item.{Item}
 use Rattle.awk_resolve.specs.Marks.{Array, Kind, Scalar, script_marks}
