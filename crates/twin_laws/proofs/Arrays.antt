@@ -1,13 +1,14 @@
 -- The pairs of an array, by a table's words and by the rows'; and the numbers of fields.
-use Rattle.std.proofs.Common.{◌≡◌, inl, inr, ℕ, Bool, true, false, List, [], ◌∷◌, ◌++◌, Option, Some, None, Result, Ok, Err, refl, sym, ap, ◌∙◌}
-use Rattle.std.specs.Prelude.{◌^◌, ℤ, pos, negsuc, nat_le, if◌then◌else◌}
+use Rattle.std.proofs.lemmas.Bool.{cases_Bool}
+use Rattle.std.proofs.Common.{suc, arith, eqb-true, ◌≡◌, inl, inr, ℕ, Bool, true, false, List, [], ◌∷◌, ◌++◌, Option, Some, None, Result, Ok, Err, refl, sym, ap, ◌∙◌}
+use Rattle.std.specs.Prelude.{◌==◌, ◌^◌, ℤ, pos, negsuc, nat_le, if◌then◌else◌}
 use Rattle.std.specs.Cmp.Lexicographic.{bytes_decides}
 use Rattle.awk_values.specs.declared.fault.Fault.{Fault}
 use Rattle.awk_values.specs.declared.fault.Fault.TheVariants.{FieldNumber}
 use Rattle.awk_values.specs.declared.value.Value.{Value}
 use Rattle.awk_values.specs.declared.value.Value.TheVariants.{Uninit}
 use Rattle.awk_state.specs.Numbers.{Number}
-use Rattle.awk_state.specs.SharedState.{◌>>=◌, Pairs}
+use Rattle.awk_state.specs.SharedState.{Pairs}
 use Rattle.awk_state.specs.FieldRows.{field_number}
 use Rattle.awk_state.specs.ArrayRows.{element, stored}
 use Rattle.mid_program.specs.Steps.{is_field_number}
@@ -41,10 +42,30 @@ there key v pairs h = ap (λ o. created_by o key pairs) (got key pairs ∙ h)
 
 -- the number of a field
 
-checked_by : (n : Number) (b : Bool) (k : ℕ) → (if b then Ok n else Err FieldNumber) ≡ ((if b then Ok k else Err FieldNumber) >>= λ k. Ok n)
-checked_by n true k = refl
-checked_by n false k = refl
+abbrev pub checked : Number → ℤ → Result Number Fault
+checked n z = if is_field_number z then Ok n else Err FieldNumber
 
-pub field_is : (n : Number) (z : ℤ) → (if is_field_number z then Ok n else Err FieldNumber) ≡ (field_number z >>= λ k. Ok n)
-field_is n (pos k) = checked_by n (nat_le k (2 ^ 20)) k
-field_is n (negsuc k) = refl
+no_zero : (k : ℕ) → (suc k == 0) ≡ false
+no_zero k = elim (cases_Bool (suc k == 0)) [ inl e ↦ absurd (let h = eqb-true (suc k) 0 e in omega (arith, h)) | inr e ↦ e ]
+
+abbrev Refused : Fault → Result ℕ Fault
+Refused fault = Err fault
+
+same_fault : (f g : Fault) → Refused f ≡ Refused g → f ≡ g
+same_fault f g e = cc
+
+pub taken_by : (n : Number) (z : ℤ) (k : ℕ) → field_number z ≡ Ok k → checked n z ≡ Ok n
+taken_by n (pos m) k e = by (nat_le m (2 ^ 20)) e
+  where
+    by : (b : Bool) → (if b then Ok m else Err FieldNumber) ≡ Ok k → (if b then Ok n else Err FieldNumber) ≡ Ok n
+    by true h = refl
+    by false h = absurd cc
+taken_by n (negsuc m) k e = absurd cc
+
+pub refused_by : (n : Number) (z : ℤ) (fault : Fault) → field_number z ≡ Err fault → checked n z ≡ Err fault
+refused_by n (pos m) fault e = by (nat_le m (2 ^ 20)) e
+  where
+    by : (b : Bool) → (if b then Ok m else Err FieldNumber) ≡ Err fault → (if b then Ok n else Err FieldNumber) ≡ Err fault
+    by true h = absurd cc
+    by false h = ap (λ f. Err f) (same_fault FieldNumber fault h)
+refused_by n (negsuc m) fault e = ap (λ b. if b then Ok n else Err FieldNumber) (no_zero m) ∙ ap (λ f. Err f) (same_fault FieldNumber fault e)

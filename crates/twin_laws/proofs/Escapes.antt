@@ -25,8 +25,8 @@ octals d ds rest h =
     (octal_is (d - 48) 2 ds rest h.1 ∙ ap (λ n. octal_value n ds ∷ unescaped rest) (let e : d - 48 ≡ 0 * 8 + (d - 48) = omega arith in e))
 
 -- a byte is one of a table, or none of them
-one : {P : ℕ → Type 0} (k c : ℕ) → P k → ((c == k) ≡ false → P c) → P c
-one {P} k c p q = elim (cases_Bool (c == k)) [ inl e ↦ subst P (sym (eqb-true c k e)) p | inr e ↦ q e ]
+one : (P : ℕ → Type 0) (k c : ℕ) → P k → ((c == k) ≡ false → P c) → P c
+one P k c p q = elim (cases_Bool (c == k)) [ inl e ↦ subst P (sym (eqb-true c k e)) p | inr e ↦ q e ]
 
 some_inj : (a b : ℕ) → Some a ≡ Some b → a ≡ b
 some_inj a b e = cc
@@ -43,11 +43,11 @@ none_of c byte e h = absurd (let q = sym e ∙ h in cc)
 pub letters : (c byte : ℕ) (rest : List ℕ) → letter_escape c ≡ Some byte → (unescaped (92 ∷ (c ∷ rest)) ≡ byte ∷ unescaped rest) × (escape_value (Letter c) ≡ byte)
 unfolding unescaped
 letters c byte rest =
-    one {P = Same rest} 34 c (known rest 34 34 refl refl refl) (λ a. one {P = Same rest} 47 c (known rest 47 47 refl refl refl) (λ b.
-    one {P = Same rest} 92 c (known rest 92 92 refl refl refl) (λ d. one {P = Same rest} 97 c (known rest 97 7 refl refl refl) (λ e.
-    one {P = Same rest} 98 c (known rest 98 8 refl refl refl) (λ f. one {P = Same rest} 102 c (known rest 102 12 refl refl refl) (λ g.
-    one {P = Same rest} 110 c (known rest 110 10 refl refl refl) (λ h. one {P = Same rest} 114 c (known rest 114 13 refl refl refl) (λ i.
-    one {P = Same rest} 116 c (known rest 116 9 refl refl refl) (λ j. one {P = Same rest} 118 c (known rest 118 11 refl refl refl) (λ k.
+    one (Same rest) 34 c (known rest 34 34 refl refl refl) (λ a. one (Same rest) 47 c (known rest 47 47 refl refl refl) (λ b.
+    one (Same rest) 92 c (known rest 92 92 refl refl refl) (λ d. one (Same rest) 97 c (known rest 97 7 refl refl refl) (λ e.
+    one (Same rest) 98 c (known rest 98 8 refl refl refl) (λ f. one (Same rest) 102 c (known rest 102 12 refl refl refl) (λ g.
+    one (Same rest) 110 c (known rest 110 10 refl refl refl) (λ h. one (Same rest) 114 c (known rest 114 13 refl refl refl) (λ i.
+    one (Same rest) 116 c (known rest 116 9 refl refl refl) (λ j. one (Same rest) 118 c (known rest 118 11 refl refl refl) (λ k.
     λ other z. absurd (none_of c other (let none : letter_escape c ≡ None = rw (a, b, d, e, f, g, h, i, j, k) refl in none) z))))))))))) byte
 
 abbrev Itself : ℕ → Type 0
@@ -58,9 +58,9 @@ never c byte e = λ none. absurd (none_of c byte none e)
 
 itself : (c : ℕ) → Itself c
 itself c =
-    one {P = Itself} 97 c (never 97 7 refl) (λ e. one {P = Itself} 98 c (never 98 8 refl) (λ f. one {P = Itself} 102 c (never 102 12 refl) (λ g.
-    one {P = Itself} 110 c (never 110 10 refl) (λ h. one {P = Itself} 114 c (never 114 13 refl) (λ i. one {P = Itself} 116 c (never 116 9 refl) (λ j.
-    one {P = Itself} 118 c (never 118 11 refl) (λ k. λ none. rw (e, f, g, h, i, j, k) refl)))))))
+    one Itself 97 c (never 97 7 refl) (λ e. one Itself 98 c (never 98 8 refl) (λ f. one Itself 102 c (never 102 12 refl) (λ g.
+    one Itself 110 c (never 110 10 refl) (λ h. one Itself 114 c (never 114 13 refl) (λ i. one Itself 116 c (never 116 9 refl) (λ j.
+    one Itself 118 c (never 118 11 refl) (λ k. λ none. rw (e, f, g, h, i, j, k) refl)))))))
 
 not_newline : (c : ℕ) → c ≢ 10 → (c == 10) ≡ false
 not_newline c h = elim (cases_Bool (c == 10)) [ inl e ↦ absurd (h (eqb-true c 10 e)) | inr e ↦ e ]

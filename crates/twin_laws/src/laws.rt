@@ -1,7 +1,8 @@
 //! What the definitions say in two places is the same. Each law is the contract of a function that does nothing.
-ghost use Rattle.std.specs.Prelude.{◌≡◌, ◌≢◌, ◌||◌, not, false, is_some, ℕ, List, ◌∷◌, ◌++◌, map, Some, None, Ok, slice_get};
+ghost use Rattle.std.specs.Prelude.{◌≡◌, ◌≢◌, ◌||◌, not, false, is_some, ℕ, List, ◌∷◌, ◌++◌, map, Some, None, Ok, Err, slice_get};
 ghost use Rattle.awk_text.specs.Escapes.{is_octal, letter_escape, unescaped};
 ghost use Rattle.awk_tokens.specs.Words.{reserved_word_of};
+ghost use Rattle.awk_values.specs.declared.fault.Fault.{Fault};
 ghost use Rattle.awk_values.specs.declared.value.Value.{Value};
 ghost use Rattle.awk_values.specs.declared.value.Value.TheVariants.{Uninit};
 ghost use Rattle.ere_syntax.specs.Bracket.{IsEscape, Letter, Octal, escape_value};
@@ -9,7 +10,7 @@ ghost use Rattle.awk_resolve.specs.Kinds.{has_name, special_arrays, special_scal
 ghost use Rattle.awk_state.specs.declared.constants.Special.{Special};
 ghost use Rattle.awk_state.specs.Constants.{special_number, specials};
 ghost use Rattle.awk_state.specs.Numbers.{Number};
-ghost use Rattle.awk_state.specs.SharedState.{◌>>=◌, Pairs};
+ghost use Rattle.awk_state.specs.SharedState.{Pairs};
 ghost use Rattle.awk_state.specs.FieldRows.{field_number};
 ghost use Rattle.awk_state.specs.ArrayRows.{element, stored, without};
 ghost use Rattle.awk_state.specs.Assignments.{is_name, named, special_name, takes_none};
@@ -48,5 +49,6 @@ pub fn arrays_agree()
 
 /// The number of a field that is assigned is checked as that of a field that is read.
 pub fn field_numbers_agree()
-    ensures { (n : Number) → field_checked n ≡ (field_number n.number >>= λ k. Ok n) }
+    ensures taken { (n : Number) (k : ℕ) → field_number n.number ≡ Ok k → field_checked n ≡ Ok n }
+    ensures refused { (n : Number) (fault : Fault) → field_number n.number ≡ Err fault → field_checked n ≡ Err fault }
 {}
