@@ -1,5 +1,5 @@
 -- The tables of special variables.
-use Rattle.std.proofs.Common.{◌≡◌, ℕ, Bool, true, false, ◌||◌, List, [], ◌∷◌, Option, Some, None, refl, sym, ap, ◌∙◌}
+use Rattle.std.proofs.Common.{◌≡◌, ℕ, Bool, true, false, ◌||◌, List, [], ◌∷◌, Some, None, refl, ap, ◌∙◌}
 use Rattle.std.specs.Prelude.{map, not, codes, if◌then◌else◌, is_some, slice_get}
 use Rattle.awk_tokens.specs.Words.{reserved_word_of}
 use Rattle.awk_resolve.specs.Kinds.{has_name, same_name, special_arrays, special_scalars}
