@@ -69,16 +69,16 @@ module _ (outside : Outside) where
       by NoFile e =
           let from : Inner = begins_reading [] Standard (with_operands NoneLeft inner) in
           walk.standard_input e past (subst (Gives outside (Reader Standard) from (read_main over Standard from)) (none_made Standard from)
-              (reader_gives over (λ i. 0) Standard from (λ left. walk.followed refl)))
+          (reader_gives over (λ i. 0) Standard from (λ left. walk.followed refl)))
       by SomeFile e = walk.none_left e past
       by NoneLeft e = absurd (some e)
 
   -- an operand, where what is looked at after it is known
   module _ (on : Inner → Given) (count : Inner → ℕ) (inner : Inner)
       (go : (after : Inner) → after.main.operands ≢ NoneLeft → after.main.next ≡ inner.main.next + 1 → Follow on count after) where
-
     file_gives : (c : ℕ) (cs : List ℕ) → IsNext inner (c ∷ cs) → assignment_of (c ∷ cs) ≡ None →
-        Gives outside Operand inner (opened on (c ∷ cs) (reader_of outside (c ∷ cs)) (file_state inner)) (carried_opened count (c ∷ cs) (reader_of outside (c ∷ cs)) (file_state inner))
+        Gives outside Operand inner (opened on (c ∷ cs) (reader_of outside (c ∷ cs)) (file_state inner)) (carried_opened count (c ∷ cs)
+        (reader_of outside (c ∷ cs)) (file_state inner))
     file_gives c cs next none = by (reader_of outside (c ∷ cs)) refl
       where
         by : (o : Option MainReader) → reader_of outside (c ∷ cs) ≡ o →
@@ -86,11 +86,13 @@ module _ (outside : Outside) where
         by None e = walk.not_opened c cs next none e
         by (Some reader) e = walk.opened c cs reader next none e (reader_gives on count reader (reading_state inner (c ∷ cs) reader)
             (λ left. go (stops_reading (leaves reader left (reading_state inner (c ∷ cs) reader)))
-                (some_file (leaves reader left (reading_state inner (c ∷ cs) reader)).main.operands (leaves_operands reader left (reading_state inner (c ∷ cs) reader)))
-                (leaves_next reader left (reading_state inner (c ∷ cs) reader))))
+            (some_file (leaves reader left (reading_state inner (c ∷ cs)
+            reader)).main.operands (leaves_operands reader left (reading_state inner (c ∷ cs) reader)))
+            (leaves_next reader left (reading_state inner (c ∷ cs) reader))))
 
     assignment_gives : (c : ℕ) (cs name text : List ℕ) → IsNext inner (c ∷ cs) → assignment_of (c ∷ cs) ≡ Some (name, text) →
-        Gives outside Operand inner (assigned name text (passes_operand inner) >>= λ x. made on x) (counted_by count (assigned name text (passes_operand inner)))
+        Gives outside Operand inner (assigned name text (passes_operand inner) >>= λ x. made on x)
+        (counted_by count (assigned name text (passes_operand inner)))
     assignment_gives c cs name text next e = by (assigned name text (passes_operand inner)) refl
       where
         by : (r : Result (Inner × Bool) Fault) → assigned name text (passes_operand inner) ≡ r →
@@ -101,12 +103,14 @@ module _ (outside : Outside) where
             walk.carried_out c cs name text after next e f (go after (λ h. next.looked (sym (ap (λ m. m.operands) same) ∙ h)) (ap (λ m. m.next) same))
         by (Err fault) f = walk.not_allowed c cs name text next e f
 
-    taken_gives : (text : List ℕ) → IsNext inner text → Gives outside Operand inner (taken on outside text (passes_operand inner)) (carried_taken count outside text (passes_operand inner))
+    taken_gives : (text : List ℕ) → IsNext inner text → Gives outside Operand inner (taken on outside text (passes_operand inner))
+        (carried_taken count outside text (passes_operand inner))
     taken_gives [] next = walk.skipped next (go (passes_operand inner) next.looked refl)
     taken_gives (c ∷ cs) next = by (assignment_of (c ∷ cs)) refl
       where
         by : (o : Option (List ℕ × List ℕ)) → assignment_of (c ∷ cs) ≡ o →
-            Gives outside Operand inner (file_or_assignment on outside (c ∷ cs) o (passes_operand inner)) (carried_operand count outside (c ∷ cs) o (passes_operand inner))
+            Gives outside Operand inner (file_or_assignment on outside (c ∷ cs) o (passes_operand inner)) (carried_operand count outside (c ∷ cs)
+            o (passes_operand inner))
         by (Some (name, text)) e = assignment_gives c cs name text next e
         by None e = file_gives c cs next e
 
@@ -121,16 +125,21 @@ module _ (outside : Outside) where
   reach_gives (suc n) inner some left =
       by (λ after kept next. reach_gives n after kept (omega (arith, left, next))) (number_of_value (special_of inner Argc)) refl
     where
-      below : ((after : Inner) → after.main.operands ≢ NoneLeft → after.main.next ≡ inner.main.next + 1 → Follow (reach n outside) (carried_reach n outside) after) →
+      below : ((after : Inner) → after.main.operands ≢ NoneLeft → after.main.next ≡ inner.main.next + 1 →
+          Follow (reach n outside) (carried_reach n outside) after) →
           (argc : ℤ) → number_of_value (special_of inner Argc) ≡ Ok argc → (b : Bool) → is_below inner.main.next argc ≡ b →
           Gives outside Operand inner
-              (elim b [ true ↦ taken (reach n outside) outside (operand_text inner.main.next inner) (passes_operand inner) | false ↦ follows inner.main.operands inner ])
-              (elim b [ true ↦ carried_taken (carried_reach n outside) outside (operand_text inner.main.next inner) (passes_operand inner) | false ↦ 0 ])
+          (elim b [
+            | true ↦ taken (reach n outside) outside (operand_text inner.main.next inner) (passes_operand inner)
+            | false ↦ follows inner.main.operands inner
+          ])
+          (elim b [ true ↦ carried_taken (carried_reach n outside) outside (operand_text inner.main.next inner) (passes_operand inner) | false ↦ 0 ])
       below go argc e true f = taken_gives (reach n outside) (carried_reach n outside) inner go (operand_text inner.main.next inner)
           (record { looked = some; within = omega (arith, left); argc = argc; count = e; below = f; here = refl })
       below go argc e false f = past_gives inner (record { argc = argc; count = e; past = inr f }) some
 
-      by : ((after : Inner) → after.main.operands ≢ NoneLeft → after.main.next ≡ inner.main.next + 1 → Follow (reach n outside) (carried_reach n outside) after) →
+      by : ((after : Inner) → after.main.operands ≢ NoneLeft → after.main.next ≡ inner.main.next + 1 →
+          Follow (reach n outside) (carried_reach n outside) after) →
           (r : Result ℤ Fault) → number_of_value (special_of inner Argc) ≡ r →
           Gives outside Operand inner (r >>= reached (reach n outside) outside inner) (carried_reached (carried_reach n outside) outside inner r)
       by go (Ok argc) e = below go argc e (is_below inner.main.next argc) refl

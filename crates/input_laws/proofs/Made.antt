@@ -11,13 +11,15 @@ pub makes : (pairs : List (List ℕ × List ℕ)) (inner : Inner) → Makes pair
 makes [] inner = no_more
 makes (pair ∷ rest) inner = by (λ after. makes rest after) (assigned pair.0 pair.1 (record inner { assigns = rest })) refl
   where
-    by : ((after : Inner) → Makes rest after (start_from rest after) (carried_from rest after)) → (r : Result (Inner × Bool) Fault) → assigned pair.0 pair.1 (record inner { assigns = rest }) ≡ r →
+    by : ((after : Inner) → Makes rest after (start_from rest after) (carried_from rest after)) → (r : Result (Inner × Bool) Fault) →
+        assigned pair.0 pair.1 (record inner { assigns = rest }) ≡ r →
         Makes (pair ∷ rest) inner (r >>= λ x. start_by (start_from rest) x) (counted_by (carried_from rest) r)
     by go (Ok (after, true)) e = left_to_script pair after e
     by go (Ok (after, false)) e = carried_out pair after e (go after)
     by go (Err fault) e = not_allowed pair e
 
-one_made : (pair : List ℕ × List ℕ) (rest : List (List ℕ × List ℕ)) (inner : Inner) (r : Result (Inner × Bool) Fault) → assigned pair.0 pair.1 (record inner { assigns = rest }) ≡ r →
+one_made : (pair : List ℕ × List ℕ) (rest : List (List ℕ × List ℕ)) (inner : Inner) (r : Result (Inner × Bool) Fault) →
+    assigned pair.0 pair.1 (record inner { assigns = rest }) ≡ r →
     (start_from (pair ∷ rest) inner ≡ (r >>= λ x. start_by (start_from rest) x)) × (carried_from (pair ∷ rest) inner ≡ counted_by (carried_from rest) r)
 one_made pair rest inner r e = (ap (λ z. z >>= λ x. start_by (start_from rest) x) e, ap (counted_by (carried_from rest)) e)
 

@@ -39,7 +39,6 @@ pub record IsNext (inner : Inner) (text : List ℕ) : Type 0 where
 
 -- what is given from here, and how many assignments are carried out on the way
 pub data Gives (outside : Outside) : Stage → Inner → Given → (made : ℕ) → Type 0 where
-
   -- the reader gives a record
   one_record : {reader : MainReader} {inner : Inner} (text : List ℕ) (left : Source) →
       next_record inner (reader_source reader inner) ≡ Ok (Record text, left) →
@@ -55,7 +54,6 @@ pub data Gives (outside : Outside) : Stage → Inner → Given → (made : ℕ) 
   at_end : {reader : MainReader} {inner : Inner} {given : Given} {made : ℕ} (left : Source) →
       next_record inner (reader_source reader inner) ≡ Ok (AtEnd, left) →
       Gives outside Operand (stops_reading (leaves reader left inner)) given made → Gives outside (Reader reader) inner given made
-
   -- the standard input has followed the operands: that was the end
   followed : {inner : Inner} → inner.main.operands ≡ NoneLeft → Gives outside Operand inner (Ok (ends inner, Over)) 0
   -- ARGC is no number of the language
@@ -66,11 +64,9 @@ pub data Gives (outside : Outside) : Stage → Inner → Given → (made : ℕ) 
   -- there is none left, and none of them named a file: the standard input follows, under the empty name
   standard_input : {inner : Inner} {given : Given} {made : ℕ} → inner.main.operands ≡ NoFile → IsPast inner →
       Gives outside (Reader Standard) (begins_reading [] Standard (with_operands NoneLeft inner)) given made → Gives outside Operand inner given made
-
   -- an empty operand is skipped
   skipped : {inner : Inner} {given : Given} {made : ℕ} → IsNext inner [] →
       Gives outside Operand (passes_operand inner) given made → Gives outside Operand inner given made
-
   -- `name=text` is an assignment: one that is not allowed is counted too
   not_allowed : {inner : Inner} {fault : Fault} (c : ℕ) (cs name text : List ℕ) → IsNext inner (c ∷ cs) →
       assignment_of (c ∷ cs) ≡ Some (name, text) → assigned name text (passes_operand inner) ≡ Err fault → Gives outside Operand inner (Err fault) 1
@@ -82,7 +78,6 @@ pub data Gives (outside : Outside) : Stage → Inner → Given → (made : ℕ) 
   carried_out : {inner : Inner} {given : Given} {made : ℕ} (c : ℕ) (cs name text : List ℕ) (after : Inner) → IsNext inner (c ∷ cs) →
       assignment_of (c ∷ cs) ≡ Some (name, text) → assigned name text (passes_operand inner) ≡ Ok (after, false) →
       Gives outside Operand after given made → Gives outside Operand inner given (suc made)
-
   -- any other operand is a file, and `-` the standard input: it does not open
   not_opened : {inner : Inner} (c : ℕ) (cs : List ℕ) → IsNext inner (c ∷ cs) → assignment_of (c ∷ cs) ≡ None → reader_of outside (c ∷ cs) ≡ None →
       Gives outside Operand inner (Ok (with_operands SomeFile (passes_operand inner), NotOpened)) 0

@@ -24,12 +24,14 @@ computed_is kind script = least_is same_key key_sound key_refl (members kind (he
 
 pub set_is : (kind : Kind) (script : List Item) (set : Key → Bool) → AreUsedAs kind script set → set ≡ is_used_as kind (heads script) (script_marks script)
 set_is kind script set h =
-    one_least set (is_used_as kind (heads script) (script_marks script)) (members kind (heads script) (script_marks script)) (pairs (heads script) (script_marks script)) h (computed_is kind script)
+    one_least set (is_used_as kind (heads script) (script_marks script)) (members kind (heads script) (script_marks script)) (pairs (heads script)
+    (script_marks script)) h (computed_is kind script)
 
 pub is_set : (kind : Kind) (script : List Item) (set : Key → Bool) → set ≡ is_used_as kind (heads script) (script_marks script) → AreUsedAs kind script set
 is_set kind script set e = subst (AreUsedAs kind script) (sym e) (computed_is kind script)
 
-pub refusal_is : (script : List Item) (arrays scalars : Key → Bool) → AreUsedAs Array script arrays → AreUsedAs Scalar script scalars → refusal script ≡ refusal_by arrays scalars script
+pub refusal_is : (script : List Item) (arrays scalars : Key → Bool) → AreUsedAs Array script arrays → AreUsedAs Scalar script scalars →
+    refusal script ≡ refusal_by arrays scalars script
 refusal_is script arrays scalars a s =
     ap (λ (x : Key → Bool). refusal_by x (is_used_as Scalar (heads script) (script_marks script)) script) (sym (set_is Array script arrays a)) ∙
     ap (λ (x : Key → Bool). refusal_by arrays x script) (sym (set_is Scalar script scalars s))

@@ -23,7 +23,8 @@ abbrev pub Says : List ℕ → Result (List Item) Refused → Type 0
 Says bytes (Ok script) = IsScriptOf bytes script
 Says bytes (Err why) = IsRefusedFor bytes why
 
-names_say : (bytes : List ℕ) (ts : List Spelled) (s : List Item) → IsTokens bytes (Ok ts) → IsParsed ts s → (o : Option Refusal) → refusal s ≡ o → Says bytes (by_names s o)
+names_say : (bytes : List ℕ) (ts : List Spelled) (s : List Item) → IsTokens bytes (Ok ts) → IsParsed ts s → (o : Option Refusal) → refusal s ≡ o →
+    Says bytes (by_names s o)
 names_say bytes ts s cut p None e = record { tokens = ts; cut = cut; said = record { parsed = p; names = e } }
 names_say bytes ts s cut p (Some cause) e = record { tokens = ts; cut = cut; said = record { script = s; parsed = p; name = e } }
 
@@ -32,7 +33,8 @@ places_say : (bytes : List ℕ) (ts : List Spelled) (s : List Item) → IsTokens
 places_say bytes ts s cut whole read None e = names_say bytes ts s cut (parsed_of ts s whole read e) (refusal s) refl
 places_say bytes ts s cut whole read (Some line) e = record { tokens = ts; cut = cut; said = is_misplaced ts s line whole read e }
 
-tree_says : (bytes : List ℕ) (ts : List Spelled) → IsTokens bytes (Ok ts) → scan ts ≡ None → (r : Result (List Item) Fault) → script_at 1000 (spoken ts) ≡ r → Says bytes (by_tree ts r)
+tree_says : (bytes : List ℕ) (ts : List Spelled) → IsTokens bytes (Ok ts) → scan ts ≡ None → (r : Result (List Item) Fault) →
+    script_at 1000 (spoken ts) ≡ r → Says bytes (by_tree ts r)
 tree_says bytes ts cut whole (Ok s) e = places_say bytes ts s cut whole e (misplaced s ts) refl
 tree_says bytes ts cut whole (Err Syntax) e = record { tokens = ts; cut = cut; said = no_tree ts whole e }
 tree_says bytes ts cut whole (Err DepthFault) e = record { tokens = ts; cut = cut; said = no_small_tree ts whole e }

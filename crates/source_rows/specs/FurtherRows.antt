@@ -557,7 +557,7 @@ one_turn_too_few = (refl, refl)
 
 pub numbers_in_names : RunsAs scripts.numbers_in_names
     (codes "function f(x, y) { if (x < y) return x; y = x = x * 2; return y } BEGIN { print f(3, 5), f(7), f(\"10\", " ++
-        codes "9), f() \".\" ; n = -n; n += !m; print n, n++ + ++n, n-- }")
+    codes "9), f() \".\" ; n = -n; n += !m; print n, n++ + ++n, n-- }")
     no_job no_input empty 40 (Ended 0 (puts Standard (codes "3 14 10 0.\n1 4 3\n")))
 unfolding computed
 numbers_in_names = (refl, refl)

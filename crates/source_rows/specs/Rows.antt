@@ -155,17 +155,17 @@ longest_match = (refl, refl)
 
 pub keys_visited : RunsAs scripts.keys_visited
     (codes "BEGIN { a[\"x\"]; a[\"y\"]; a[\"z\"]; delete a[\"x\"]; a[\"x\"] = 1; for (k in a) { printf \"%s \", k; delete a[\"x\"] " ++
-        codes "}; print (\"x\" in a) }")
+    codes "}; print (\"x\" in a) }")
     no_job no_input empty 20 (Ended 0 (puts Standard (codes "y z x 0\n")))
 unfolding computed
 keys_visited = (refl, refl)
 
 pub file_written_and_read : RunsAs scripts.file_written_and_read
     (codes "BEGIN { print \"a\" > \"f\"; print \"b\" > \"f\"; print close(\"f\"), close(\"f\"); while ((getline x < \"f\") > 0) " ++
-        codes "print \"got \" x; print \"c\" >> \"f\" }")
+    codes "print \"got \" x; print \"c\" >> \"f\" }")
     no_job no_input empty 20
     (Ended 0 ((Open (codes "f") false ∷ []) ++ (puts (Named (codes "f")) (codes "a\nb\n") ++ (puts Standard (codes "0 -1\ngot a\ngot b\n") ++
-        ((Open (codes "f") true ∷ []) ++ (puts (Named (codes "f")) (codes "c\n")))))))
+    ((Open (codes "f") true ∷ []) ++ (puts (Named (codes "f")) (codes "c\n")))))))
 unfolding computed
 file_written_and_read = (refl, refl)
 
@@ -233,7 +233,7 @@ ranges = (refl, refl)
 
 pub text_functions : RunsAs scripts.text_functions
     (codes "BEGIN { print substr(\"hello\", 0, 3), substr(\"hello\", -1), substr(\"hello\", 4, 99), index(\"hello\", \"l\"), " ++
-        codes "split(\"a:b::c\", p, \":\"), \"[\" p[3] \"]\", toupper(\"ab\") tolower(\"CD\") }")
+    codes "split(\"a:b::c\", p, \":\"), \"[\" p[3] \"]\", toupper(\"ab\") tolower(\"CD\") }")
     no_job no_input empty 20 (Ended 0 (puts Standard (codes "he hello lo 3 4 [] ABcd\n")))
 unfolding computed
 text_functions = (refl, refl)
@@ -300,7 +300,7 @@ arrays_by_reference = (refl, refl)
 
 pub do_and_continue : RunsAs scripts.do_and_continue
     (codes "BEGIN { do { i++; if (i == 2) continue; if (i == 4) break; print i } while (i < 9); for (j = 0; j < 3; " ++
-        codes "j++) { if (j == 1) continue; print j } }")
+    codes "j++) { if (j == 1) continue; print j } }")
     no_job no_input empty 20 (Ended 0 (puts Standard (codes "1\n3\n0\n2\n")))
 unfolding computed
 do_and_continue = (refl, refl)

@@ -98,7 +98,7 @@ IsRefused bytes why = script_of bytes ≡ Err why
 -- what computes in the rows: a row names it in place of all that stands in its line
 unfoldable pub computed : {A : Type 0} → A → A
 unfolding digits numeral_at sign_at fraction_at exponent_at numerator denominator unescaped escaped octal keywords builtins left_out_words punctuators
-  scale_at exponent_length fraction_length number_at close_at mark_at joined_at name_at front_at cut_at raw_of expr_at stmt_at script_at
-  special_arrays special_scalars table sign_of spend_all asked value_of values_of key_of place_of passed truncated_of applied loop over_keys
-  plain_done done_by all_done called items_done begun ended first_assigned records_done
+    scale_at exponent_length fraction_length number_at close_at mark_at joined_at name_at front_at cut_at raw_of expr_at stmt_at script_at
+    special_arrays special_scalars table sign_of spend_all asked value_of values_of key_of place_of passed truncated_of applied loop over_keys
+    plain_done done_by all_done called items_done begun ended first_assigned records_done
 computed x = x

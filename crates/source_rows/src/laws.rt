@@ -14,5 +14,6 @@ pub fn scripts_are_read()
 
 /// The run that is computed from bytes is the run of the script that they spell.
 pub fn runs_are_computed()
-    ensures { (bytes : List ℕ) (setting : Setting) (turns : ℕ) (ending : Ending) → (run_in bytes setting turns ≡ Ok ending) ↔ IsRunOf bytes setting turns ending }
+    ensures { (bytes : List ℕ) (setting : Setting) (turns : ℕ) (ending : Ending) →
+        (run_in bytes setting turns ≡ Ok ending) ↔ IsRunOf bytes setting turns ending }
 {}

@@ -22,7 +22,8 @@ pub put : (key : List ℕ) (v : Value) (pairs : Pairs) → set_pair key v pairs 
 put key v [] = refl
 put key v (p ∷ ps) = by (put key v ps) (is_key key p.0) (λ e. sym ((bytes_decides key p.0).0 e))
   where
-    by : set_pair key v ps ≡ stored key v ps → (b : Bool) → (b ≡ true → p.0 ≡ key) → (if b then (p.0, v) ∷ ps else p ∷ set_pair key v ps) ≡ (if b then (key, v) ∷ ps else p ∷ stored key v ps)
+    by : set_pair key v ps ≡ stored key v ps → (b : Bool) → (b ≡ true → p.0 ≡ key) →
+        (if b then (p.0, v) ∷ ps else p ∷ set_pair key v ps) ≡ (if b then (key, v) ∷ ps else p ∷ stored key v ps)
     by rest true same = ap (λ (k : List ℕ). (k, v) ∷ ps) (same refl)
     by rest false same = ap (λ (qs : Pairs). p ∷ qs) rest
 
@@ -30,7 +31,8 @@ last : (key : List ℕ) (v : Value) (pairs : Pairs) → element key pairs ≡ No
 last key v [] h = refl
 last key v (p ∷ ps) h = by (λ e. last key v ps e) (is_key key p.0) h
   where
-    by : (element key ps ≡ None → stored key v ps ≡ ps ++ (key, v) ∷ []) → (b : Bool) → (if b then Some p.1 else element key ps) ≡ None → (if b then (key, v) ∷ ps else p ∷ stored key v ps) ≡ p ∷ (ps ++ (key, v) ∷ [])
+    by : (element key ps ≡ None → stored key v ps ≡ ps ++ (key, v) ∷ []) → (b : Bool) → (if b then Some p.1 else element key ps) ≡ None →
+        (if b then (key, v) ∷ ps else p ∷ stored key v ps) ≡ p ∷ (ps ++ (key, v) ∷ [])
     by go true e = absurd cc
     by go false e = ap (λ (qs : Pairs). p ∷ qs) (go e)
 

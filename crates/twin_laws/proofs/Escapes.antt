@@ -15,13 +15,15 @@ octal_is n (suc more) [] [] h = refl
 octal_is n (suc more) [] (c ∷ cs) h =
     ap (λ b. if b then octal (n * 8 + (c - 48)) more cs else ((n % 256) ∷ (if c == 92 then escaped cs else c ∷ unescaped cs))) h
 octal_is n (suc more) (d ∷ ds) rest h =
-    ap (λ b. if b then octal (n * 8 + (d - 48)) more (ds ++ rest) else ((n % 256) ∷ (if d == 92 then escaped (ds ++ rest) else d ∷ unescaped (ds ++ rest)))) h.0 ∙
+    ap (λ b. if b then octal (n * 8 + (d - 48)) more (ds ++ rest) else ((n % 256) ∷ (if d == 92 then escaped (ds ++ rest)
+    else d ∷ unescaped (ds ++ rest)))) h.0 ∙
     octal_is (n * 8 + (d - 48)) more ds rest h.1
 
 pub octals : (d : ℕ) (ds rest : List ℕ) → IsEscape (Octal d ds) rest → unescaped (92 ∷ (d ∷ (ds ++ rest))) ≡ escape_value (Octal d ds) ∷ unescaped rest
 unfolding unescaped
 octals d ds rest h =
-    ap (λ b. if b then octal (d - 48) 2 (ds ++ rest) else if d == 10 then unescaped (ds ++ rest) else elim (letter_escape d) [ Some byte ↦ byte ∷ unescaped (ds ++ rest) | None ↦ 92 ∷ (d ∷ unescaped (ds ++ rest)) ]) h.0 ∙
+    ap (λ b. if b then octal (d - 48) 2 (ds ++ rest) else if d == 10 then unescaped (ds ++ rest) else elim (letter_escape d)
+    [ Some byte ↦ byte ∷ unescaped (ds ++ rest) | None ↦ 92 ∷ (d ∷ unescaped (ds ++ rest)) ]) h.0 ∙
     (octal_is (d - 48) 2 ds rest h.1 ∙ ap (λ n. octal_value n ds ∷ unescaped rest) (let e : d - 48 ≡ 0 * 8 + (d - 48) = omega arith in e))
 
 -- a byte is one of a table, or none of them
@@ -40,7 +42,8 @@ known rest c byte e f g = λ other h. let same = some_inj byte other (sym g ∙ 
 none_of : (c byte : ℕ) → letter_escape c ≡ None → letter_escape c ≡ Some byte → ⊥
 none_of c byte e h = absurd (let q = sym e ∙ h in cc)
 
-pub letters : (c byte : ℕ) (rest : List ℕ) → letter_escape c ≡ Some byte → (unescaped (92 ∷ (c ∷ rest)) ≡ byte ∷ unescaped rest) × (escape_value (Letter c) ≡ byte)
+pub letters : (c byte : ℕ) (rest : List ℕ) → letter_escape c ≡ Some byte →
+    (unescaped (92 ∷ (c ∷ rest)) ≡ byte ∷ unescaped rest) × (escape_value (Letter c) ≡ byte)
 unfolding unescaped
 letters c byte rest =
     one (Same rest) 34 c (known rest 34 34 refl refl refl) (λ a. one (Same rest) 47 c (known rest 47 47 refl refl refl) (λ b.
@@ -68,7 +71,11 @@ not_newline c h = elim (cases_Bool (c == 10)) [ inl e ↦ absurd (h (eqb-true c 
 pub others : (c : ℕ) (rest : List ℕ) → letter_escape c ≡ None → is_octal c ≡ false → c ≢ 10 →
     (unescaped (92 ∷ (c ∷ rest)) ≡ 92 ∷ (c ∷ unescaped rest)) × (escape_value (Letter c) ≡ c)
 unfolding unescaped
-others c rest none no_digit no_line =
-    (ap (λ b. if b then octal (c - 48) 2 rest else if c == 10 then unescaped rest else elim (letter_escape c) [ Some byte ↦ byte ∷ unescaped rest | None ↦ 92 ∷ (c ∷ unescaped rest) ]) no_digit ∙
-    (ap (λ b. if b then unescaped rest else elim (letter_escape c) [ Some byte ↦ byte ∷ unescaped rest | None ↦ 92 ∷ (c ∷ unescaped rest) ]) (not_newline c no_line) ∙
-    ap (λ (o : Option ℕ). elim o as (λ _. List ℕ) [ Some byte ↦ byte ∷ unescaped rest | None ↦ 92 ∷ (c ∷ unescaped rest) ]) none), itself c none)
+others c rest none no_digit no_line = (
+  ap (λ b. if b then octal (c - 48) 2 rest else if c == 10 then unescaped rest else elim (letter_escape c)
+      [ Some byte ↦ byte ∷ unescaped rest | None ↦ 92 ∷ (c ∷ unescaped rest) ]) no_digit ∙
+      (ap (λ b. if b then unescaped rest else elim (letter_escape c) [ Some byte ↦ byte ∷ unescaped rest | None ↦ 92 ∷ (c ∷ unescaped rest) ])
+      (not_newline c no_line) ∙
+      ap (λ (o : Option ℕ). elim o as (λ _. List ℕ) [ Some byte ↦ byte ∷ unescaped rest | None ↦ 92 ∷ (c ∷ unescaped rest) ]) none),
+  itself c none,
+)

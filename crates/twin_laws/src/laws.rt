@@ -31,7 +31,8 @@ pub fn special_names_agree()
 /// A backslash and what follows it stand for the same byte in a string and in a regular expression. Where no escape is meant a string keeps the
 /// backslash, and a regular expression the byte after it alone.
 pub fn escapes_agree()
-    ensures octals { (d : ℕ) (ds rest : List ℕ) → IsEscape (Octal d ds) rest → unescaped (92 ∷ (d ∷ (ds ++ rest))) ≡ escape_value (Octal d ds) ∷ unescaped rest }
+    ensures octals { (d : ℕ) (ds rest : List ℕ) → IsEscape (Octal d ds) rest →
+        unescaped (92 ∷ (d ∷ (ds ++ rest))) ≡ escape_value (Octal d ds) ∷ unescaped rest }
     ensures letters { (c : ℕ) (byte : ℕ) (rest : List ℕ) → letter_escape c ≡ Some byte →
         (unescaped (92 ∷ (c ∷ rest)) ≡ byte ∷ unescaped rest) × (escape_value (Letter c) ≡ byte) }
     ensures others { (c : ℕ) (rest : List ℕ) → letter_escape c ≡ None → is_octal c ≡ false → c ≢ 10 →

@@ -5,5 +5,8 @@ use Rattle.input_laws.proofs.Made.{made, makes}
 use Rattle.input_laws.proofs.laws.assignments_are_made.Goals as goal
 
 pub returns : goal.returns
-returns c = λ inner answer count.
-    (λ h. subst (Makes inner.assigns inner answer) h.1 (subst (λ a. Makes inner.assigns inner a (carried_from inner.assigns inner)) h.0 (makes inner.assigns inner)), λ d. made d)
+returns c = λ inner answer count. (
+  λ h. subst (Makes inner.assigns inner answer) h.1 (subst (λ a. Makes inner.assigns inner a (carried_from inner.assigns inner))
+      h.0 (makes inner.assigns inner)),
+  λ d. made d,
+)
