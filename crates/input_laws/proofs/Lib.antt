@@ -1,0 +1,4 @@
+mod Kept
+mod Given
+mod Walked
+mod Made

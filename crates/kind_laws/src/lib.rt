@@ -1,0 +1,4 @@
+//! The kinds of names as least sets.
+#![tactic(auto)]
+
+pub mod laws;

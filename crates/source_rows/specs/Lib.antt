@@ -1,0 +1,6 @@
+pub mod Jobs
+pub mod Sources
+pub mod Meant
+pub mod Rows
+pub mod FurtherRows
+pub mod RefusedRows
