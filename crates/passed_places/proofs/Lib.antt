@@ -1,2 +1,2 @@
-pub mod Marked
+pub mod Probed
 pub mod Passing

@@ -37,17 +37,17 @@ use Rattle.module_agreement.specs.Agreement.{setting_of}
 use Rattle.module_agreement.specs.ValueAgreement.{IsOver, AgreesWith}
 use Rattle.module_agreement.proofs.Agreeing.{agreement_with}
 use Rattle.module_agreement.proofs.Growing.{shows_put, put_at}
-use Rattle.passed_places.specs.Passed.{Marks, MarkedRun, MarkedSteps, Passes, marked_at, marked_run, notes_of}
-use Rattle.passed_places.proofs.Marked.{looking_alike, marked_steps, run_alike}
+use Rattle.passed_places.specs.Passed.{Probe, ProbedRun, ProbedSteps, Passes, probed_at, probed_run, notes_of}
+use Rattle.passed_places.proofs.Probed.{looking_alike, probed_steps, run_alike}
 
--- what is marked is only added
-adds : (p : Program) (marks : Marks) (code : Instructions) (output : List Action) → Grows output (notes_of p marks code output)
-adds p marks code output = (marks (renumbered (called_imports p) code), refl)
+-- a probe only adds
+adds : (p : Program) (probe : Probe) (code : Instructions) (output : List Action) → Grows output (notes_of p probe code output)
+adds p probe code output = (probe (renumbered (called_imports p) code), refl)
 
-agree : (p : Program) → IsSorted p → (marks : Marks) → AgreesWith (notes_of p marks) p (marked_run p marks)
-agree p sorted marks =
+agree : (p : Program) → IsSorted p → (probe : Probe) → AgreesWith (notes_of p probe) p (probed_run p probe)
+agree p sorted probe =
     let f : FollowsNoted p = code_notes p sorted in
-    agreement_with (notes_of p marks) (adds p marks) p (marked_run p marks) (record { bound = f.bound; shown = f.shown (notes_of p marks) })
+    agreement_with (notes_of p probe) (adds p probe) p (probed_run p probe) (record { bound = f.bound; shown = f.shown (notes_of p probe) })
 
 abbrev IsOverIf : Option Ending → Type 0
 IsOverIf None = Unit {0}
@@ -76,12 +76,12 @@ no_end t c e a b = let q = sym a ∙ b in cc
 go_after : (u : Code) (k : ℕ) (c : Conf) → go u (suc k) c ≡ step u (go u k c)
 go_after u k c = ap (λ z. go u z c) (let j : suc k ≡ k + 1 = omega arith in j) ∙ go_add u k 1 c
 
-module _ (p : Program) (marks : Marks) (values : AgreesWith (notes_of p marks) p (marked_run p marks)) (job : JobForm) (input : Source) (outside : Outside) where
+module _ (p : Program) (probe : Probe) (values : AgreesWith (notes_of p probe) p (probed_run p probe)) (job : JobForm) (input : Source) (outside : Outside) where
   abbrev s : Setting
   s = setting_of job input outside
 
   abbrev place : ℕ → Conf
-  place n = go (noting_code (notes_of p marks) p 9999) n (begun p s)
+  place n = go (noting_code (notes_of p probe) p 9999) n (begun p s)
 
   abbrev Rel : Conf → real.Conf → HostState → Type 0
   Rel q c h = As (stays p) (called_imports p) (code_of p 9999) q c h
@@ -90,17 +90,17 @@ module _ (p : Program) (marks : Marks) (values : AgreesWith (notes_of p marks) p
   record There (n : ℕ) (c : real.Conf) (h : HostState) (o : List Action) : Type 0 where
     it : Rel (place n) c (with_output o h)
 
-  there : (n : ℕ) (a : MachineForm) (c : real.Conf) (h : HostState) (o : List Action) → MarkedRun marks (module_of p) job input outside (suc n) a c h o → There n c h o
+  there : (n : ℕ) (a : MachineForm) (c : real.Conf) (h : HostState) (o : List Action) → ProbedRun probe (module_of p) job input outside (suc n) a c h o → There n c h o
   there n a c h o r =
       let t = r.taken in
       let first = subst (λ (z : Turn). TakenAs table_meaning z (state_at_start job input outside) a.conf.memory t.2 t.0 t.1) (begins p a r.is_new) t.3 in
-      let none : marked_at marks (settled_code a.conf.frame.code) [] ++ t.2 ≡ [] = ap₂ (λ (x y : List Action). x ++ y) (ap (λ (z : real.Conf). marked_at marks (settled_code z.frame.code) []) r.is_new.conf) first.2 in
-      let steps : MarkedSteps marks (program p) n (in_main p) (state_at_start job input outside) [] c h o =
-      subst (λ (z : List Action). MarkedSteps marks (program p) n (in_main p) (state_at_start job input outside) z c h o) none
-      (subst (λ (z : HostState). MarkedSteps marks (program p) n (in_main p) z (marked_at marks (settled_code a.conf.frame.code) [] ++ t.2) c h o) first.1
-      (subst (λ (z : real.Conf). MarkedSteps marks (program p) n z t.1 (marked_at marks (settled_code a.conf.frame.code) [] ++ t.2) c h o) first.0
-      (subst (λ (m : ProgramForm). MarkedSteps marks m n t.0 t.1 (marked_at marks (settled_code a.conf.frame.code) [] ++ t.2) c h o) (program_is p a r.is_new) t.4))) in
-      record { it = marked_steps p marks n (begun p s) (in_main p) (state_at_start job input outside) [] c h o (begun_as p s 9999) steps }
+      let none : probed_at probe (settled_code a.conf.frame.code) [] ++ t.2 ≡ [] = ap₂ (λ (x y : List Action). x ++ y) (ap (λ (z : real.Conf). probed_at probe (settled_code z.frame.code) []) r.is_new.conf) first.2 in
+      let steps : ProbedSteps probe (program p) n (in_main p) (state_at_start job input outside) [] c h o =
+      subst (λ (z : List Action). ProbedSteps probe (program p) n (in_main p) (state_at_start job input outside) z c h o) none
+      (subst (λ (z : HostState). ProbedSteps probe (program p) n (in_main p) z (probed_at probe (settled_code a.conf.frame.code) [] ++ t.2) c h o) first.1
+      (subst (λ (z : real.Conf). ProbedSteps probe (program p) n z t.1 (probed_at probe (settled_code a.conf.frame.code) [] ++ t.2) c h o) first.0
+      (subst (λ (m : ProgramForm). ProbedSteps probe m n t.0 t.1 (probed_at probe (settled_code a.conf.frame.code) [] ++ t.2) c h o) (program_is p a r.is_new) t.4))) in
+      record { it = probed_steps p probe n (begun p s) (in_main p) (state_at_start job input outside) [] c h o (begun_as p s 9999) steps }
 
   -- what is put out there
   put_there : (q : Conf) (c : real.Conf) (h : HostState) (o : List Action) (e : Ending) → ending_at q ≡ Some e → Rel q c (with_output o h) → output_of e ≡ o
@@ -111,38 +111,38 @@ module _ (p : Program) (marks : Marks) (values : AgreesWith (notes_of p marks) p
   put_there Stuck c h o e eq a = cc
 
   -- so far
-  so_far : (n : ℕ) (a : MachineForm) (c : real.Conf) (h : HostState) (o : List Action) → MarkedRun marks (module_of p) job input outside n a c h o → (turns : ℕ) × Grows o (output_of (marked_run p marks s turns))
-  so_far zero a c h o r = (zero, subst (λ (z : List Action). Grows z (output_of (marked_run p marks s zero))) (sym r.taken.2) (output_of (marked_run p marks s zero), refl))
+  so_far : (n : ℕ) (a : MachineForm) (c : real.Conf) (h : HostState) (o : List Action) → ProbedRun probe (module_of p) job input outside n a c h o → (turns : ℕ) × Grows o (output_of (probed_run p probe s turns))
+  so_far zero a c h o r = (zero, subst (λ (z : List Action). Grows z (output_of (probed_run p probe s zero))) (sym r.taken.2) (output_of (probed_run p probe s zero), refl))
   so_far (suc n) a c h o r =
       let g = values.never_stuck s n in
       let w = values.output_machine s n g.0 g.1 in
-      (w.0, subst (λ (z : List Action). Grows z (output_of (marked_run p marks s w.0))) (put_there (place n) c h o g.0 g.1 (there n a c h o r).it) w.1)
+      (w.0, subst (λ (z : List Action). Grows z (output_of (probed_run p probe s w.0))) (put_there (place n) c h o g.0 g.1 (there n a c h o r).it) w.1)
 
   -- in time
-  in_time : (turns : ℕ) → (enough : ℕ) × ((n : ℕ) (a : MachineForm) (c : real.Conf) (h : HostState) (o : List Action) → enough ≤ n → MarkedRun marks (module_of p) job input outside n a c h o → Grows (output_of (marked_run p marks s turns)) o)
+  in_time : (turns : ℕ) → (enough : ℕ) × ((n : ℕ) (a : MachineForm) (c : real.Conf) (h : HostState) (o : List Action) → enough ≤ n → ProbedRun probe (module_of p) job input outside n a c h o → Grows (output_of (probed_run p probe s turns)) o)
   in_time turns =
       let w = values.output_program s turns in
       (suc w.0, λ n a c h o le r. by n a c h o le r w.0 refl w.2)
     where
-      by : (n : ℕ) (a : MachineForm) (c : real.Conf) (h : HostState) (o : List Action) {enough : ℕ} → suc enough ≤ n → MarkedRun marks (module_of p) job input outside n a c h o → (k : ℕ) → k ≡ enough →
-          ((m : ℕ) (g : Ending) → k ≤ m → noting_run (notes_of p marks) p s m ≡ Some g → Grows (output_of (marked_run p marks s turns)) (output_of g)) → Grows (output_of (marked_run p marks s turns)) o
+      by : (n : ℕ) (a : MachineForm) (c : real.Conf) (h : HostState) (o : List Action) {enough : ℕ} → suc enough ≤ n → ProbedRun probe (module_of p) job input outside n a c h o → (k : ℕ) → k ≡ enough →
+          ((m : ℕ) (g : Ending) → k ≤ m → noting_run (notes_of p probe) p s m ≡ Some g → Grows (output_of (probed_run p probe s turns)) (output_of g)) → Grows (output_of (probed_run p probe s turns)) o
       by zero a c h o le r k same later = absurd (omega (arith, le))
       by (suc n) a c h o le r k same later =
           let g = values.never_stuck s n in
-          subst (λ (z : List Action). Grows (output_of (marked_run p marks s turns)) z) (put_there (place n) c h o g.0 g.1 (there n a c h o r).it) (later n g.0 (omega (arith, le, same)) g.1)
+          subst (λ (z : List Action). Grows (output_of (probed_run p probe s turns)) z) (put_there (place n) c h o g.0 g.1 (there n a c h o r).it) (later n g.0 (omega (arith, le, same)) g.1)
 
   -- where a run ends
 
   OverAt : List Action → Type 0
-  OverAt o = (turns : ℕ) × IsOver (marked_run p marks s turns) × (output_of (marked_run p marks s turns) ≡ o)
+  OverAt o = (turns : ℕ) × IsOver (probed_run p probe s turns) × (output_of (probed_run p probe s turns) ≡ o)
 
-  over_by : (n : ℕ) (e : Ending) (o : List Action) → IsOver e → noting_run (notes_of p marks) p s n ≡ Some e → output_of e ≡ o → OverAt o
+  over_by : (n : ℕ) (e : Ending) (o : List Action) → IsOver e → noting_run (notes_of p probe) p s n ≡ Some e → output_of e ≡ o → OverAt o
   over_by n e o over shows put =
       let w = values.backward s n e over shows in
       (w.0, subst IsOver (sym w.1) over, ap output_of w.1 ∙ put)
 
   abbrev mach : Code
-  mach = noting_code (notes_of p marks) p 9999
+  mach = noting_code (notes_of p probe) p 9999
 
   -- the step after n steps is the last one
   last : (n : ℕ) (q : Conf) (o : List Action) (c : real.Conf) (h : HostState) (e : End) (t : MachineEnd) → place n ≡ q → step mach q ≡ step (code_of p 9999) q → EndAs (stays p) (called_imports p) (code_of p 9999) (step (code_of p 9999) q) e (with_output o h) (with_output o h) [] → told_end e ≡ Some t → OverAt o
@@ -169,7 +169,7 @@ module _ (p : Program) (marks : Marks) (values : AgreesWith (notes_of p marks) p
       let g = values.never_stuck s n in
       let none = sym (ap ending_at at) ∙ g.1 in cc
   ends_at n (Look x ks vs K L F code G) c h o e t at a ends told =
-      last n (Look x ks vs K L F code G) o c h e t at (looking_alike p marks x ks vs K L F code G)
+      last n (Look x ks vs K L F code G) o c h e t at (looking_alike p probe x ks vs K L F code G)
       (over_as (linked p) arrays_grow (Look x ks vs K L F code G) c (with_output o h) [] e (with_output o h) a (subst (λ (z : Turn). OverBy table_meaning z (with_output o h) c.memory [] e (with_output o h)) (sym ends) (refl, refl, refl))) told
   ends_at n (Run ks vs K L F code G) c h o e t at a ends told = by code at a
     where
@@ -180,16 +180,16 @@ module _ (p : Program) (marks : Marks) (values : AgreesWith (notes_of p marks) p
       by (Then (Plain simple.Nop) k) at a =
           let g = nop_goes c (renumbered (called_imports p) k) a.code-is.same in
           absurd (no_end (turn (program p) c) g.0 e g.1 ends)
-      by Done at a = last n (Run ks vs K L F Done G) o c h e t at (run_alike p marks ks vs K L F Done G) (over Done a) told
-      by (Then i k) at a = last n (Run ks vs K L F (Then i k) G) o c h e t at (run_alike p marks ks vs K L F (Then i k) G) (over (Then i k) a) told
+      by Done at a = last n (Run ks vs K L F Done G) o c h e t at (run_alike p probe ks vs K L F Done G) (over Done a) told
+      by (Then i k) at a = last n (Run ks vs K L F (Then i k) G) o c h e t at (run_alike p probe ks vs K L F (Then i k) G) (over (Then i k) a) told
 
-  ended : (n : ℕ) (a : MachineForm) (c : real.Conf) (h : HostState) (o : List Action) → MarkedRun marks (module_of p) job input outside n a c h o → (e : End) (t : MachineEnd) → turn a.program c ≡ Ends e → told_end e ≡ Some t → OverAt o
+  ended : (n : ℕ) (a : MachineForm) (c : real.Conf) (h : HostState) (o : List Action) → ProbedRun probe (module_of p) job input outside n a c h o → (e : End) (t : MachineEnd) → turn a.program c ≡ Ends e → told_end e ≡ Some t → OverAt o
   ended zero a c h o r e t ends told = absurd (no_end (turn a.program a.conf) (in_main p) e (begins p a r.is_new) (ap (turn a.program) (sym r.taken.0) ∙ ends))
   ended (suc n) a c h o r e t ends told = ends_at n (place n) c h o e t refl (there n a c h o r).it (ap (λ (m : ProgramForm). turn m c) (sym (program_is p a r.is_new)) ∙ ends) told
 
-pub passes : (p : Program) → IsSorted p → Passes (marked_run p) (module_of p)
+pub passes : (p : Program) → IsSorted p → Passes (probed_run p) (module_of p)
 passes p sorted = record {
-  so_far = λ marks job input outside n a c h o r. so_far p marks (agree p sorted marks) job input outside n a c h o r;
-  ended = λ marks job input outside n a c h o r e t ends told. ended p marks (agree p sorted marks) job input outside n a c h o r e t ends told;
-  in_time = λ marks job input outside turns. in_time p marks (agree p sorted marks) job input outside turns;
+  so_far = λ probe job input outside n a c h o r. so_far p probe (agree p sorted probe) job input outside n a c h o r;
+  ended = λ probe job input outside n a c h o r e t ends told. ended p probe (agree p sorted probe) job input outside n a c h o r e t ends told;
+  in_time = λ probe job input outside turns. in_time p probe (agree p sorted probe) job input outside turns;
 }

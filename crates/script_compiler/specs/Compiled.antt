@@ -20,7 +20,7 @@ use Rattle.host_step.specs.HostState.{HostState}
 use Rattle.host_step.specs.Imports.{host_finds}
 use Rattle.value_machine.specs.Modules.{module_of}
 use Rattle.module_agreement.specs.Agreement.{Agreement}
-use Rattle.passed_places.specs.Passed.{Passes, marked_run}
+use Rattle.passed_places.specs.Passed.{Passes, probed_run}
 use Rattle.run_places.specs.Assigned.{IsAssigned}
 use Rattle.run_places.specs.Existence.{HasRuns}
 use Rattle.run_places.specs.Kept.{AtReturn, AtStatement, Reached, begins_statement}
@@ -72,5 +72,5 @@ pub record IsCompiled (bytes : List ℕ) (compiled : List ℕ) : Type 0 where
   pub whole_is : whole ≡ module_of code
   pub keeps : KeepsNothing code whole
   pub quiet : IsQuiet code whole
-  pub passes : Passes (marked_run code) whole
+  pub passes : Passes (probed_run code) whole
   pub unboxed_names : UnboxesNumbers (resolved script) code

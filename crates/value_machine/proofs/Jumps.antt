@@ -60,7 +60,7 @@ module _ (p : Program) (deepest : Watch) (ks : List Kind) (F : List Frame) (b : 
   break_step r lo u d bk ct k K l σ so rm it ar wk s =
       let P = StepDone p deepest ks F b M n lo u bk ct k K l in
       let Q = Away p deepest ks F b d K in
-      begun_step p deepest ks F b M n 1 2 u K l σ P Q (plain_meant p deepest ks F b M n Break) (omega arith) s
+      begun_step p deepest ks F b M n _ 1 2 u K l σ P Q (plain_meant p deepest ks F b M n Break) (omega arith) s
       (λ τ s1. there (machine p deepest ks F) M 1 1 _ _ Broke τ P Q (by_steps 1 refl) (omega arith) (record { next = l; comes = refl; starts = s1; iterators = λ x. refl; flows = broke_fits lo so }))
 
   pub continue_step : StepOk p deepest ks F b M n Continue
@@ -68,7 +68,7 @@ module _ (p : Program) (deepest : Watch) (ks : List Kind) (F : List Frame) (b : 
   continue_step r lo u d bk ct k K l σ so rm it ar wk s =
       let P = StepDone p deepest ks F b M n lo u bk ct k K l in
       let Q = Away p deepest ks F b d K in
-      begun_step p deepest ks F b M n 1 2 u K l σ P Q (plain_meant p deepest ks F b M n Continue) (omega arith) s
+      begun_step p deepest ks F b M n _ 1 2 u K l σ P Q (plain_meant p deepest ks F b M n Continue) (omega arith) s
       (λ τ s1. there (machine p deepest ks F) M 1 1 _ _ Continued τ P Q (by_steps 1 refl) (omega arith) (record { next = l; comes = refl; starts = s1; iterators = λ x. refl; flows = continued_fits lo so }))
 
   -- the way is told, and the function is left
@@ -80,14 +80,14 @@ module _ (p : Program) (deepest : Watch) (ks : List Kind) (F : List Frame) (b : 
   unfolding step_emitted steps_emitted step_noted steps_noted stepped step_sorted steps_sorted
   next_step r lo u d bk ct k K l σ so rm it ar wk s =
       let Q = Away p deepest ks F b d K in
-      begun_step p deepest ks F b M n 3 4 u K l σ (StepDone p deepest ks F b M n lo u bk ct k K l) Q (plain_meant p deepest ks F b M n Next) (omega arith) s
+      begun_step p deepest ks F b M n _ 3 4 u K l σ (StepDone p deepest ks F b M n lo u bk ct k K l) Q (plain_meant p deepest ks F b M n Next) (omega arith) s
       (λ τ s1. left_in 3 2 τ.turns _ _ (Q Nexted τ) (leaves_by way_next d τ) (omega arith) (record { next = l; comes = refl; loose = fit_loose p deepest ks F 0 u 0 l τ s1.fit; answer = s1.fit.answer; after = s1.fit.sound }))
 
   pub exit_step : StepOk p deepest ks F b M n Exit
   unfolding step_emitted steps_emitted step_noted steps_noted stepped step_sorted steps_sorted
   exit_step r lo u d bk ct k K l σ so rm it ar wk s =
       let Q = Away p deepest ks F b d K in
-      begun_step p deepest ks F b M n 3 4 u K l σ (StepDone p deepest ks F b M n lo u bk ct k K l) Q (plain_meant p deepest ks F b M n Exit) (omega arith) s
+      begun_step p deepest ks F b M n _ 3 4 u K l σ (StepDone p deepest ks F b M n lo u bk ct k K l) Q (plain_meant p deepest ks F b M n Exit) (omega arith) s
       (λ τ s1. left_in 3 2 τ.turns _ _ (Q Exited τ) (leaves_by way_exit d τ) (omega arith) (record { next = l; comes = refl; loose = fit_loose p deepest ks F 0 u 0 l τ s1.fit; answer = s1.fit.answer; after = s1.fit.sound }))
 
   -- the status is told too
@@ -110,7 +110,7 @@ module _ (p : Program) (deepest : Watch) (ks : List Kind) (F : List Frame) (b : 
       let k1 = to_number b f zero d k2 in
       let s1 = and_parts (fits f sort.Number) (sorted ctx [] e) so in
       let r1 = room_one e in
-      begun_step p deepest ks F b M n (work_of e + 20) (30 + work_of e) u K l σ0 P Q (plain_meant p deepest ks F b M n (ExitWith e)) (omega arith) s0
+      begun_step p deepest ks F b M n _ (work_of e + 20) (30 + work_of e) u K l σ0 P Q (plain_meant p deepest ks F b M n (ExitWith e)) (omega arith) s0
       (λ σ s. then_on mach M (work_of e) 20 (work_of e + 20) σ.turns _ (Done p deepest ks F b M n false e [] tt [] (λ i. There) zero u zero k1 K l σ) P Q (meant p deepest ks F b M n [] tt e σ) _ (omega arith)
       (ok false [] tt [] (λ i. There) zero u zero d k1 K l σ s1.1 (λ i lt. absurd (omega (arith, lt))) (omega (arith, rm)) (omega (arith, ar)) (ready p deepest ks F b M n u K l σ s))
       (λ x τ c1 le h.
@@ -126,7 +126,7 @@ module _ (p : Program) (deepest : Watch) (ks : List Kind) (F : List Frame) (b : 
         loose = fit_loose p deepest ks F 1 u zero a.next τ a.fit;
         answer = a.fit.answer;
         after = record { room = a.fit.sound.room; names = a.fit.sound.names; calm = a.fit.sound.calm };
-      }))))))
+      })))))
 
   pub return_step : (e : Code) → ExprOk p deepest ks F b M n e → StepOk p deepest ks F b M n (Return e)
   unfolding step_emitted steps_emitted step_noted steps_noted stepped step_sorted steps_sorted
@@ -141,7 +141,7 @@ module _ (p : Program) (deepest : Watch) (ks : List Kind) (F : List Frame) (b : 
       let s0 = and_parts r (fits f sort.Value && sorted ctx [] e) so in
       let s1 = and_parts (fits f sort.Value) (sorted ctx [] e) s0.1 in
       let r1 = room_one e in
-      begun_step p deepest ks F b M n (work_of e + 20) (30 + work_of e) u K l σ0 P Q (plain_meant p deepest ks F b M n (Return e)) (omega arith) st
+      begun_step p deepest ks F b M n _ (work_of e + 20) (30 + work_of e) u K l σ0 P Q (plain_meant p deepest ks F b M n (Return e)) (omega arith) st
       (λ σ s. then_on mach M (work_of e) 20 (work_of e + 20) σ.turns _ (Done p deepest ks F b M n false e [] tt [] (λ i. There) zero u zero k1 K l σ) P Q (meant p deepest ks F b M n [] tt e σ) _ (omega arith)
       (ok false [] tt [] (λ i. There) zero u zero d k1 K l σ s1.1 (λ i lt. absurd (omega (arith, lt))) (omega (arith, rm)) (omega (arith, ar)) (ready p deepest ks F b M n u K l σ s))
       (λ x τ c1 le h.
@@ -161,7 +161,7 @@ module _ (p : Program) (deepest : Watch) (ks : List Kind) (F : List Frame) (b : 
         loose = record { params = lo1.params; hands = lo1.hands; numbers = lo1.numbers; walks = lo1.walks; yards = lo1.yards };
         answer = refl;
         after = a.fit.sound;
-      }))))))
+      })))))
 
   fit_range : (i : ℕ) (c : Bool) (t u w : ℕ) (l : Locals) (σ : State) → Fit p deepest ks F t u w l σ → Fit p deepest ks F t u w l (with_range i c σ)
   fit_range i c t u w l σ f = record { params = f.params; size = f.size; answer = f.answer; hands = f.hands; numbers = f.numbers; free = f.free; walks = f.walks; still = f.still; yards = f.yards; spare = f.spare; sound = record { room = f.sound.room; names = f.sound.names; calm = f.sound.calm } }
@@ -177,7 +177,7 @@ module _ (p : Program) (deepest : Watch) (ks : List Kind) (F : List Frame) (b : 
   mark_step i c r lo u d bk ct k K l σ0 so rm it ar wk s0 =
       let P = StepDone p deepest ks F b M n lo u bk ct k K l in
       let Q = Away p deepest ks F b d K in
-      begun_step p deepest ks F b M n 1 2 u K l σ0 P Q (plain_meant p deepest ks F b M n (Mark i c)) (omega arith) s0
+      begun_step p deepest ks F b M n _ 1 2 u K l σ0 P Q (plain_meant p deepest ks F b M n (Mark i c)) (omega arith) s0
       (λ σ s. there (machine p deepest ks F) M 1 1 _ _ Normal (with_range i c σ) P Q
       (goes_to (global_set_ok p.ranges (length (kinds_of p.globals)) (cells_of (kinds_of p.globals) 0 σ) (Range i) (Bits (I32 (flag_number c))) (ltb-true i p.ranges so) refl refl)
       (ap (λ m. at ks [] K (laid b l) F k (storing m (host_of σ None))) (range_written i c σ))) (omega arith)

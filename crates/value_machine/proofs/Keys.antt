@@ -376,5 +376,5 @@ module _ (p : Program) (deepest : Watch) (ks : List Kind) (F : List Frame) (b : 
   pub each_step : (a : ArrayName) (e : Code) (s : Step) → ExprOk p deepest ks F b M n e → StepOk p deepest ks F b M n s → StepOk p deepest ks F b M n (Each a e s)
   unfolding step_emitted steps_emitted step_noted steps_noted
   each_step a e s oke oks r lo u d bk ct k K l σ so rm it ar wk st =
-      begun_step p deepest ks F b M n (59 + (work_of e + step_work s)) (60 + (work_of e + step_work s)) u K l σ (StepDone p deepest ks F b M n lo u bk ct k K l) (Away p deepest ks F b d K) (walk_meant a e s u d) (omega arith) st
+      begun_step p deepest ks F b M n _ (59 + (work_of e + step_work s)) (60 + (work_of e + step_work s)) u K l σ (StepDone p deepest ks F b M n lo u bk ct k K l) (Away p deepest ks F b d K) (walk_meant a e s u d) (omega arith) st
       (λ τ st1. each_done a e s oke oks r lo u d bk ct k K l τ so rm it ar wk st1)

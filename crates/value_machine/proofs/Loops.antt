@@ -329,7 +329,7 @@ module _ (p : Program) (deepest : Watch) (ks : List Kind) (F : List Frame) (b : 
   pub loop_first : (e : Code) (x y : Step) → ExprOk p deepest ks F b M n e → StepOk p deepest ks F b M n x → StepOk p deepest ks F b M n y → StepOk p deepest ks F b M n (Loop true e x y)
   unfolding step_emitted steps_emitted step_noted steps_noted
   loop_first e x y oke okx oky r lo u d bk ct k K l σ so rm it ar wk s =
-      begun_step p deepest ks F b M n (39 + (work_of e + (step_work x + step_work y))) (40 + (work_of e + (step_work x + step_work y))) u K l σ (StepDone p deepest ks F b M n lo u bk ct k K l) (Away p deepest ks F b d K)
+      begun_step p deepest ks F b M n _ (39 + (work_of e + (step_work x + step_work y))) (40 + (work_of e + (step_work x + step_work y))) u K l σ (StepDone p deepest ks F b M n lo u bk ct k K l) (Away p deepest ks F b d K)
       (loop n (test_meant p deepest ks F b M n e) (body_meant e x y u d k K l (step_jumps x)) (between_meant e x y u d k K l (is_nothing y))) (omega arith) s
       (λ τ s1. first_done e x y oke okx oky r lo u d bk ct k K l τ so rm it ar wk s1)
 
@@ -420,5 +420,5 @@ module _ (p : Program) (deepest : Watch) (ks : List Kind) (F : List Frame) (b : 
   pub loop_last : (e : Code) (x y : Step) → ExprOk p deepest ks F b M n e → StepOk p deepest ks F b M n x → StepOk p deepest ks F b M n y → StepOk p deepest ks F b M n (Loop false e x y)
   unfolding step_emitted steps_emitted step_noted steps_noted
   loop_last e x y oke okx oky r lo u d bk ct k K l σ so rm it ar wk s =
-      begun_step p deepest ks F b M n (39 + (work_of e + (step_work x + step_work y))) (40 + (work_of e + (step_work x + step_work y))) u K l σ (StepDone p deepest ks F b M n lo u bk ct k K l) (Away p deepest ks F b d K) (last_meant e x y u d k K l) (omega arith) s
+      begun_step p deepest ks F b M n _ (39 + (work_of e + (step_work x + step_work y))) (40 + (work_of e + (step_work x + step_work y))) u K l σ (StepDone p deepest ks F b M n lo u bk ct k K l) (Away p deepest ks F b d K) (last_meant e x y u d k K l) (omega arith) s
       (λ τ s1. last_done e x y oke okx oky r lo u d bk ct k K l τ so rm it ar wk s1)

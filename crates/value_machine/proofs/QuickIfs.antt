@@ -1,5 +1,5 @@
 -- A choice of two steps, where a comparison of two sources goes both ways quickly.
-use Rattle.std.proofs.Common.{◌≡◌, ℕ, zero, suc, ◌+◌, Bool, true, false, List, [], ◌∷◌, None, refl, ◌∙◌, arith, if◌then◌else◌}
+use Rattle.std.proofs.Common.{◌≡◌, ℕ, zero, suc, ◌+◌, ◌≤◌, Bool, true, false, List, [], ◌∷◌, None, refl, ◌∙◌, arith, if◌then◌else◌}
 use Rattle.std.specs.Prelude.{◌&&◌, is_some}
 use Rattle.std.proofs.lemmas.Bool.{and_parts}
 use Rattle.awk_state.specs.Constants.{flag_number}
@@ -12,7 +12,7 @@ use Rattle.mid_program.specs.Statements.{Flow, Normal, Broke, Continued}
 use Rattle.value_machine.specs.Emission.{tested}
 use Rattle.value_machine.specs.Machine.{Conf, Label, Frame, at, label}
 use Rattle.value_machine.specs.Noted.{step_noted, steps_noted}
-use Rattle.value_machine.specs.Places.{Bases}
+use Rattle.value_machine.specs.Places.{Bases, step_room, step_iterators, step_arrays}
 use Rattle.value_machine.specs.Quick.{pair_in}
 use Rattle.value_machine.specs.Small.{does, either}
 use Rattle.value_machine.specs.Statements.{block, left_unless_pair, step_emitted, steps_emitted}
@@ -23,7 +23,7 @@ use Rattle.value_machine.proofs.Relation.{Away, away_out}
 use Rattle.value_machine.proofs.Pieces.{chooses}
 use Rattle.value_machine.proofs.Answers.{machine, beside_state, Reached}
 use Rattle.value_machine.proofs.Simulation.{work_of, context, layout, ExprOk}
-use Rattle.value_machine.proofs.StatementForms.{step_work, step_meant, starts_among, StepDone, StepOk}
+use Rattle.value_machine.proofs.StatementForms.{step_work, step_meant, Starts, starts_among, StepDone, StepOk}
 use Rattle.value_machine.proofs.Tidy.{begun_step}
 use Rattle.value_machine.proofs.Branches.{TestDone, test_meant, test_ok, one_way, inner_step}
 use Rattle.value_machine.proofs.QuickSteps.{Left, left_unless_pair_ok}
@@ -133,5 +133,5 @@ module _ (p : Program) (deepest : Watch) (ks : List Kind) (F : List Frame) (b : 
   pub if_step : (e : Code) (x y : Step) → ExprOk p deepest ks F b M n e → StepOk p deepest ks F b M n x → StepOk p deepest ks F b M n y → StepOk p deepest ks F b M n (If e x y)
   unfolding step_emitted steps_emitted step_noted steps_noted
   if_step e x y oke okx oky r lo u d bk ct k K l σ so rm it ar wk s =
-      begun_step p deepest ks F b M n (28 + (work_of e + (step_work x + step_work y))) (30 + (work_of e + (step_work x + step_work y))) u K l σ (StepDone p deepest ks F b M n lo u bk ct k K l) (Away p deepest ks F b d K)
+      begun_step p deepest ks F b M n _ (28 + (work_of e + (step_work x + step_work y))) (30 + (work_of e + (step_work x + step_work y))) u K l σ (StepDone p deepest ks F b M n lo u bk ct k K l) (Away p deepest ks F b d K)
       (chosen_meant (is_some (pair_in e)) e x y u d bk ct) (omega arith) s (λ τ s1. if_rest e x y oke okx oky r lo u d bk ct k K l τ so rm it ar wk s1)

@@ -651,5 +651,5 @@ module _ (p : Program) (deepest : Watch) (ks : List Kind) (F : List Frame) (b : 
   pub eval_step : (e : Code) → ExprOk p deepest ks F b M n e → StepOk p deepest ks F b M n (Eval e)
   unfolding step_emitted steps_emitted step_noted steps_noted
   eval_step e ok r lo u d bk ct k K l σ so rm it ar wk s =
-      begun_step p deepest ks F b M n (work_of e + 20) (30 + work_of e) u K l σ (StepDone p deepest ks F b M n lo u bk ct k K l) (Away p deepest ks F b d K) (plain_meant p deepest ks F b M n (Eval e)) (omega arith) s
+      begun_step p deepest ks F b M n _ (work_of e + 20) (30 + work_of e) u K l σ (StepDone p deepest ks F b M n lo u bk ct k K l) (Away p deepest ks F b d K) (plain_meant p deepest ks F b M n (Eval e)) (omega arith) s
       (λ τ s1. eval_rest e ok r lo u d bk ct k K l τ so rm ar s1)

@@ -83,5 +83,5 @@ module _ (p : Program) (deepest : Watch) (ks : List Kind) (F : List Frame) (b : 
   pub block_step : (ss : Steps) → StepsOk p deepest ks F b M n ss → StepOk p deepest ks F b M n (Block ss)
   unfolding step_emitted steps_emitted step_noted steps_noted step_sorted steps_sorted
   block_step ss oks r lo u d bk ct k K l σ so rm it ar wk s =
-      begun_step p deepest ks F b M n (steps_work ss) (1 + steps_work ss) u K l σ (StepDone p deepest ks F b M n lo u bk ct k K l) (Away p deepest ks F b d K) (steps_meant p deepest ks F b M n ss u d bk ct k) (omega arith) s
+      begun_step p deepest ks F b M n _ (steps_work ss) (1 + steps_work ss) u K l σ (StepDone p deepest ks F b M n lo u bk ct k K l) (Away p deepest ks F b d K) (steps_meant p deepest ks F b M n ss u d bk ct k) (omega arith) s
       (λ τ s1. oks r lo u d bk ct k K l τ so rm it ar (omega (arith, wk)) s1)

@@ -231,9 +231,9 @@ module _ (p : Program) (deepest : Watch) (ks : List Kind) (F : List Frame) (b : 
   starts_noted c u K l σ s = record { fit = fit_noted c 0 u 0 l σ s.fit; walked = s.walked; walks = s.walks; loops = s.loops; turns = s.turns; parameters = s.parameters }
 
   -- where a step begins its place is noted, and then it does what it means
-  pub begun_step : {k : Instructions} → (w w1 u : ℕ) (K : List Label) (l : Locals) (σ : State) (P : Flow → State → Conf → Type 0) (Q : Stop → State → Conf → Type 0) (m : Doing Flow) → 1 + w ≤ w1 → Starts p deepest ks F b M n u K l σ →
+  pub begun_step : (k : Instructions) (w w1 u : ℕ) (K : List Label) (l : Locals) (σ : State) (P : Flow → State → Conf → Type 0) (Q : Stop → State → Conf → Type 0) (m : Doing Flow) → 1 + w ≤ w1 → Starts p deepest ks F b M n u K l σ →
       ((τ : State) → Starts p deepest ks F b M n u K l τ → Reached p deepest ks F b M w τ.turns (at ks [] K (laid b l) F k (beside_state p deepest ks F τ)) P Q (m τ)) →
       Reached p deepest ks F b M w1 σ.turns (at ks [] K (laid b l) F (does Nop k) (beside_state p deepest ks F σ)) P Q ((noted deepest.notes (does Nop k) >> m) σ)
-  begun_step {k = k} w w1 u K l σ P Q m le s next =
+  begun_step k w w1 u K l σ P Q m le s next =
       let c = does Nop k in
       first (machine p deepest ks F) M 1 w w1 σ.turns _ _ P Q (m (noting deepest.notes c σ)) (nop_ok u K l σ s) le (next (noting deepest.notes c σ) (starts_noted c u K l σ s))

@@ -1,4 +1,4 @@
--- A run of a module with marks is one of the machine over values with notes.
+-- A run of a module with a probe is one of the machine over values with notes.
 use Rattle.std.proofs.Common.{◌≡◌, ℕ, zero, suc, Bool, true, false, List, [], ◌∷◌, ◌++◌, Some, None, Option, refl, sym, ap, ap₂, subst, ◌∙◌, append-nil}
 use Rattle.world_core.specs.WorldState.{Action}
 use Rattle.wasm_types.specs.Syntax.{Instruction, Plain, BrTable, Block, Loop, If, Instructions, Done, Then}
@@ -23,7 +23,7 @@ use Rattle.value_refined.proofs.Growing.{arrays_grow}
 use Rattle.value_refined.proofs.Links.{linked, program, stays}
 use Rattle.value_refined.proofs.Running.{left_turn, taken_as}
 use Rattle.form_meaning.proofs.AnyOutput.{step_free}
-use Rattle.passed_places.specs.Passed.{Marks, MarkedSteps, marked_at, notes_of}
+use Rattle.passed_places.specs.Passed.{Probe, ProbedSteps, probed_at, notes_of}
 
 -- A step over a host, whatever was put out before.
 
@@ -35,7 +35,7 @@ taken_free (Goes c) mem o out s c1 s1 h = (h.0, same_output o out s s1 h.1 h.2, 
 taken_free (Ends e) mem o out s c1 s1 h = absurd h
 taken_free (Asks i args c) mem o out s c1 s1 h = (h.0, (h.1.0, step_free o (import_at i) s args mem.bytes (asked h.0) s1 out h.1.1), h.2)
 
-module _ (p : Program) (marks : Marks) where
+module _ (p : Program) (probe : Probe) where
   abbrev bs : List Bool
   bs = called_imports p
 
@@ -43,7 +43,7 @@ module _ (p : Program) (marks : Marks) where
   quiet = code_of p 9999
 
   abbrev pub noting : Code
-  noting = noting_code (notes_of p marks) p 9999
+  noting = noting_code (notes_of p probe) p 9999
 
   -- what was put out at a place
   abbrev put : List Action → Store → Store
@@ -110,49 +110,49 @@ module _ (p : Program) (marks : Marks) where
   abbrev Rel : Conf → real.Conf → HostState → Type 0
   Rel q c s = As (stays p) bs quiet q c s
 
-  -- what is noted at a place of the code is marked at that of the module
+  -- what is noted at a place of the code the probe adds at that of the module
   place_noted : (ks : List Kind) (vs : List Cell) (K : List Label) (L : List Cell) (F : List Frame) (code : Instructions) (G : Store) (c : real.Conf) (s : HostState) (o : List Action) (next : Instructions) → next ≡ renumbered bs code →
-      Rel (Run ks vs K L F code G) c (with_output o s) → Rel (Run ks vs K L F code (noted_by code G)) c (with_output (marked_at marks next o) s)
+      Rel (Run ks vs K L F code G) c (with_output o s) → Rel (Run ks vs K L F code (noted_by code G)) c (with_output (probed_at probe next o) s)
   place_noted ks vs K L F code G c s o next q a =
-      subst (λ (x : Instructions). Rel (Run ks vs K L F code (noted_by code G)) c (with_output (marked_at marks x o) s)) (sym q) (by code a)
+      subst (λ (x : Instructions). Rel (Run ks vs K L F code (noted_by code G)) c (with_output (probed_at probe x o) s)) (sym q) (by code a)
     where
-      by : (code : Instructions) → Rel (Run ks vs K L F code G) c (with_output o s) → Rel (Run ks vs K L F code (noted_by code G)) c (with_output (marked_at marks (renumbered bs code) o) s)
+      by : (code : Instructions) → Rel (Run ks vs K L F code G) c (with_output o s) → Rel (Run ks vs K L F code (noted_by code G)) c (with_output (probed_at probe (renumbered bs code) o) s)
       by (Then (Plain simple.Nop) k) h =
-          let o1 : List Action = o ++ marks (Then (Plain simple.Nop) (renumbered bs k)) in
+          let o1 : List Action = o ++ probe (Then (Plain simple.Nop) (renumbered bs k)) in
           let was : o ≡ G.host.shared.output = ap (λ (z : HostState). z.shared.output) h.rest.host in
-          subst (λ (x : List Action). RunAs (stays p) bs quiet vs K L F (Then (Plain simple.Nop) k) (put (x ++ marks (Then (Plain simple.Nop) (renumbered bs k))) G) (settled_values c.frame.values c.frame.code) (settled_code c.frame.code) c (with_output o1 s)) was
+          subst (λ (x : List Action). RunAs (stays p) bs quiet vs K L F (Then (Plain simple.Nop) k) (put (x ++ probe (Then (Plain simple.Nop) (renumbered bs k))) G) (settled_values c.frame.values c.frame.code) (settled_code c.frame.code) c (with_output o1 s)) was
           (record { operands = h.operands; code-is = h.code-is; rest = rest_put o1 h.rest; once = h.once })
       by Done h = h
       by (Then i k) h = h
 
   -- one step is one step
-  marked_step : (q : Conf) (c : real.Conf) (s : HostState) (o : List Action) (c1 : real.Conf) (s1 : HostState) (out : List Action) → Rel q c (with_output o s) → TakenAs table_meaning (turn (program p) c) s c.memory out c1 s1 →
-      Rel (step noting q) c1 (with_output (marked_at marks (settled_code c.frame.code) o ++ out) s1)
-  marked_step (Run ks vs K L F code G) c s o c1 s1 out a t =
-      let o1 = marked_at marks (settled_code c.frame.code) o in
+  probed_step : (q : Conf) (c : real.Conf) (s : HostState) (o : List Action) (c1 : real.Conf) (s1 : HostState) (out : List Action) → Rel q c (with_output o s) → TakenAs table_meaning (turn (program p) c) s c.memory out c1 s1 →
+      Rel (step noting q) c1 (with_output (probed_at probe (settled_code c.frame.code) o ++ out) s1)
+  probed_step (Run ks vs K L F code G) c s o c1 s1 out a t =
+      let o1 = probed_at probe (settled_code c.frame.code) o in
       subst (λ (x : Conf). Rel x c1 (with_output (o1 ++ out) s1)) (sym (run_alike ks vs K L F code G))
       (taken_as (linked p) arrays_grow (Run ks vs K L F code (noted_by code G)) c (with_output o1 s) out c1 (with_output (o1 ++ out) s1) (place_noted ks vs K L F code G c s o (settled_code c.frame.code) a.code-is.same a)
       (taken_free (turn (program p) c) c.memory o1 out s c1 s1 t))
-  marked_step (Look x ks vs K L F code G) c s o c1 s1 out a t = by code (c.frame.code) a.run.code-is.same a
+  probed_step (Look x ks vs K L F code G) c s o c1 s1 out a t = by code (c.frame.code) a.run.code-is.same a
     where
       free : TakenAs table_meaning (turn (program p) c) (with_output o s) c.memory out c1 (with_output (o ++ out) s1)
       free = taken_free (turn (program p) c) c.memory o out s c1 s1 t
 
-      by : (code next : Instructions) → next ≡ renumbered bs code → LookAs (stays p) bs quiet x vs K L F code G c (with_output o s) → Rel (run_looking noting x ks vs K L F code G) c1 (with_output (marked_at marks (settled_code next) o ++ out) s1)
+      by : (code next : Instructions) → next ≡ renumbered bs code → LookAs (stays p) bs quiet x vs K L F code G c (with_output o s) → Rel (run_looking noting x ks vs K L F code G) c1 (with_output (probed_at probe (settled_code next) o ++ out) s1)
       by (Then (Plain (simple.I32Const n)) (Then (Plain (simple.Compare ty.I32 op)) k)) next e h =
-          subst (λ (z : Instructions). Rel (run_looking noting x ks vs K L F (Then (Plain (simple.I32Const n)) (Then (Plain (simple.Compare ty.I32 op)) k)) G) c1 (with_output (marked_at marks (settled_code z) o ++ out) s1)) (sym e)
+          subst (λ (z : Instructions). Rel (run_looking noting x ks vs K L F (Then (Plain (simple.I32Const n)) (Then (Plain (simple.Compare ty.I32 op)) k)) G) c1 (with_output (probed_at probe (settled_code z) o ++ out) s1)) (sym e)
           (taken_as (linked p) arrays_grow (Look x ks vs K L F (Then (Plain (simple.I32Const n)) (Then (Plain (simple.Compare ty.I32 op)) k)) G) c (with_output o s) out c1 (with_output (o ++ out) s1) h free)
       by (Then (Plain (simple.Call n)) k) next e h =
-          subst (λ (z : Instructions). Rel (run_looking noting x ks vs K L F (Then (Plain (simple.Call n)) k) G) c1 (with_output (marked_at marks (settled_code z) o ++ out) s1)) (sym e)
+          subst (λ (z : Instructions). Rel (run_looking noting x ks vs K L F (Then (Plain (simple.Call n)) k) G) c1 (with_output (probed_at probe (settled_code z) o ++ out) s1)) (sym e)
           (taken_as (linked p) arrays_grow (Look x ks vs K L F (Then (Plain (simple.Call n)) k) G) c (with_output o s) out c1 (with_output (o ++ out) s1) h free)
       by k next e h = tt
-  marked_step (Over v G) c s o c1 s1 out a t = absurd (subst (λ (z : Turn). TakenAs table_meaning z s c.memory out c1 s1) (left_turn (linked p) arrays_grow v G c (with_output o s) a) t)
-  marked_step (Deep G) c s o c1 s1 out a t = absurd a
-  marked_step Stuck c s o c1 s1 out a t = tt
+  probed_step (Over v G) c s o c1 s1 out a t = absurd (subst (λ (z : Turn). TakenAs table_meaning z s c.memory out c1 s1) (left_turn (linked p) arrays_grow v G c (with_output o s) a) t)
+  probed_step (Deep G) c s o c1 s1 out a t = absurd a
+  probed_step Stuck c s o c1 s1 out a t = tt
 
   -- n steps are n steps
-  pub marked_steps : (n : ℕ) (q : Conf) (c : real.Conf) (s : HostState) (o : List Action) (c1 : real.Conf) (s1 : HostState) (o1 : List Action) → As (stays p) (called_imports p) (code_of p 9999) q c (with_output o s) → MarkedSteps marks (program p) n c s o c1 s1 o1 →
-      As (stays p) (called_imports p) (code_of p 9999) (go (noting_code (notes_of p marks) p 9999) n q) c1 (with_output o1 s1)
-  marked_steps zero q c s o c1 s1 o1 a t = subst (λ (x : List Action). Rel q c1 (with_output x s1)) (sym t.2) (subst (λ (x : HostState). Rel q c1 (with_output o x)) (sym t.1) (subst (λ (x : real.Conf). Rel q x (with_output o s)) (sym t.0) a))
-  marked_steps (suc n) q c s o c1 s1 o1 a t =
-      marked_steps n (step noting q) t.0 t.1 (marked_at marks (settled_code c.frame.code) o ++ t.2) c1 s1 o1 (marked_step q c s o t.0 t.1 t.2 a t.3) t.4
+  pub probed_steps : (n : ℕ) (q : Conf) (c : real.Conf) (s : HostState) (o : List Action) (c1 : real.Conf) (s1 : HostState) (o1 : List Action) → As (stays p) (called_imports p) (code_of p 9999) q c (with_output o s) → ProbedSteps probe (program p) n c s o c1 s1 o1 →
+      As (stays p) (called_imports p) (code_of p 9999) (go (noting_code (notes_of p probe) p 9999) n q) c1 (with_output o1 s1)
+  probed_steps zero q c s o c1 s1 o1 a t = subst (λ (x : List Action). Rel q c1 (with_output x s1)) (sym t.2) (subst (λ (x : HostState). Rel q c1 (with_output o x)) (sym t.1) (subst (λ (x : real.Conf). Rel q x (with_output o s)) (sym t.0) a))
+  probed_steps (suc n) q c s o c1 s1 o1 a t =
+      probed_steps n (step noting q) t.0 t.1 (probed_at probe (settled_code c.frame.code) o ++ t.2) c1 s1 o1 (probed_step q c s o t.0 t.1 t.2 a t.3) t.4
