@@ -148,12 +148,12 @@ module _ (m : ℕ) (texts : List (List ℕ)) (scope : Scope) where
     code_few (Unary (Signed Minus) x) t h = (tt, (code_few x (suc t) (omega (arith, h)), tt))
     code_few (Pre s x) t h = kept_few x t (stepped_at s (target_in texts scope x)) (omega (arith, h)) (stepped_few m s (target_in texts scope x) t) (stepped_few m s (target_in texts scope x) (suc t))
     code_few (Post s x) t h = kept_few x t (step_after_at s (target_in texts scope x)) (omega (arith, h)) (step_after_few m s (target_in texts scope x) t) (step_after_few m s (target_in texts scope x) (suc t))
-    code_few (Bin Join a c) t h = two_few a c t h
-    code_few (Bin (Add s) a c) t h = two_few a c t h
-    code_few (Bin (Other (Mul p)) a c) t h = two_few a c t h
-    code_few (Bin (Other Pow) a c) t h = two_few a c t h
-    code_few (Bin (Other (Compared o)) a c) t h = let r = two_few a c t h in (r.0, r.1.0)
-    code_few (Bin (Other (Match o)) a c) t h = let r = two_few a c t h in matching_few m o t _ (r.0, (ere_few m texts (ere_in c) (suc t) (code c) r.1.0, tt))
+    code_few (Bin Join a c) t h = (code_few a t (omega (arith, h)), (code_few c (suc t) (omega (arith, h)), tt))
+    code_few (Bin (Add s) a c) t h = (code_few a t (omega (arith, h)), (code_few c (suc t) (omega (arith, h)), tt))
+    code_few (Bin (Other (Mul p)) a c) t h = (code_few a t (omega (arith, h)), (code_few c (suc t) (omega (arith, h)), tt))
+    code_few (Bin (Other Pow) a c) t h = (code_few a t (omega (arith, h)), (code_few c (suc t) (omega (arith, h)), tt))
+    code_few (Bin (Other (Compared o)) a c) t h = (code_few a t (omega (arith, h)), code_few c (suc t) (omega (arith, h)))
+    code_few (Bin (Other (Match o)) a c) t h = matching_few m o t _ (code_few a t (omega (arith, h)), (ere_few m texts (ere_in c) (suc t) (code c) (code_few c (suc t) (omega (arith, h))), tt))
     code_few (Bin (Other Both) a c) t h = (code_few a t (omega (arith, h)), ((code_few c t (omega (arith, h)), (tt, tt)), tt))
     code_few (Bin (Other Or) a c) t h = (code_few a t (omega (arith, h)), (tt, (code_few c t (omega (arith, h)), (tt, tt))))
     code_few (Bin (Other (Assign s)) a c) t h =
@@ -169,9 +169,6 @@ module _ (m : ℕ) (texts : List (List ℕ)) (scope : Scope) where
         let g = target_in texts scope v in
         kept_few v t (FileLine (code s) (received_at g)) (omega (arith, h))
         (code_few s t (omega (arith, h)), received_few m g (suc (suc t))) (code_few s (suc t) (omega (arith, h)), received_few m g (suc (suc (suc t))))
-
-    two_few : (a c : Tree) (t : ℕ) → t + suc (nodes a + nodes c) ≤ suc m → AllFew m t (translation.two (code a) (code c))
-    two_few a c t h = (code_few a t (omega (arith, h)), (code_few c (suc t) (omega (arith, h)), tt))
 
     pub codes_few : (ts : Trees) (t : ℕ) → t + all_nodes ts ≤ suc m → AllFew m t (codes_of texts scope ts)
     codes_few NoTree t h = tt
@@ -198,18 +195,8 @@ module _ (m : ℕ) (texts : List (List ℕ)) (scope : Scope) where
 
     truncated_few : (x : Tree) (t : ℕ) (e : Code) → t + nodes x ≤ suc m → Few m t e → Few m t (truncated_code texts scope x e)
     truncated_few (Group x) t e h r = truncated_few x t e (omega (arith, h)) r
-    truncated_few (Bin (Other (Mul Divided)) a c) t e h r = two_few a c t h
+    truncated_few (Bin (Other (Mul Divided)) a c) t e h r = (code_few a t (omega (arith, h)), (code_few c (suc t) (omega (arith, h)), tt))
     truncated_few x t e h r = (r, tt)
-
-    replacing_few : (all : Bool) (e r : Tree) (ts : Trees) (t : ℕ) → t + suc (nodes e + (nodes r + all_nodes ts)) ≤ suc m →
-        (body : Code) → Few m (suc (suc t)) body → Few m t (translation.replacing_code texts scope (ere_code texts (ere_in e) (code e)) (code r) body)
-    replacing_few all e r ts t h body b = (ere_few m texts (ere_in e) t (code e) (code_few e t (omega (arith, h))), (code_few r (suc t) (omega (arith, h)), b))
-
-    place_few : (all : Bool) (e r x : Tree) (ts : Trees) (t : ℕ) → t + suc (nodes e + (nodes r + (nodes x + all_nodes ts))) ≤ suc m → Few m (suc (suc t)) (keeping (kept_code texts scope x) (substituted_at all (target_in texts scope x)))
-    place_few all e r x ts t h =
-        let g = target_in texts scope x in
-        let n = nodes_some e in
-        kept_few x (suc (suc t)) (substituted_at all g) (omega (arith, h, n)) (replaced_few m all g (suc (suc t))) (replaced_few m all g (suc (suc (suc t))))
 
     applied_few : (f : Builtin) (ts : Trees) (t : ℕ) → t + suc (all_nodes ts) ≤ suc m → Few m t (code (Apply f ts))
     applied_few builtin.Length NoTree t h = ((tt, tt), tt)
@@ -228,19 +215,28 @@ module _ (m : ℕ) (texts : List (List ℕ)) (scope : Scope) where
     applied_few builtin.Split (tree.Then x (tree.Then (Var a) (tree.Then u ts))) t h =
         (code_few x t (omega (arith, h)), (tt, (ere_few m texts (ere_in u) (suc (suc t)) (code u) (code_few u (suc (suc t)) (omega (arith, h))), tt)))
     applied_few builtin.Split ts t h = tt
-    applied_few builtin.Sub (tree.Then e (tree.Then r NoTree)) t h = replacing_few false e r NoTree t h _ (tt, replaced_few m false FieldTarget (suc (suc (suc t))))
-    applied_few builtin.Sub (tree.Then e (tree.Then r (tree.Then x ts))) t h = replacing_few false e r (tree.Then x ts) t h _ (place_few false e r x ts t h)
+    applied_few builtin.Sub (tree.Then e (tree.Then r NoTree)) t h = (ere_few m texts (ere_in e) t (code e) (code_few e t (omega (arith, h))), (code_few r (suc t) (omega (arith, h)), (tt, replaced_few m false FieldTarget (suc (suc (suc t))))))
+    applied_few builtin.Sub (tree.Then e (tree.Then r (tree.Then x ts))) t h =
+        let g = target_in texts scope x in
+        let n = nodes_some e in
+        let place = kept_few x (suc (suc t)) (substituted_at false g) (omega (arith, h, n)) (replaced_few m false g (suc (suc t))) (replaced_few m false g (suc (suc (suc t)))) in
+        (ere_few m texts (ere_in e) t (code e) (code_few e t (omega (arith, h))), (code_few r (suc t) (omega (arith, h)), place))
     applied_few builtin.Sub NoTree t h = tt
     applied_few builtin.Sub (tree.Then x NoTree) t h = tt
-    applied_few builtin.Gsub (tree.Then e (tree.Then r NoTree)) t h = replacing_few true e r NoTree t h _ (tt, replaced_few m true FieldTarget (suc (suc (suc t))))
-    applied_few builtin.Gsub (tree.Then e (tree.Then r (tree.Then x ts))) t h = replacing_few true e r (tree.Then x ts) t h _ (place_few true e r x ts t h)
+    applied_few builtin.Gsub (tree.Then e (tree.Then r NoTree)) t h = (ere_few m texts (ere_in e) t (code e) (code_few e t (omega (arith, h))), (code_few r (suc t) (omega (arith, h)), (tt, replaced_few m true FieldTarget (suc (suc (suc t))))))
+    applied_few builtin.Gsub (tree.Then e (tree.Then r (tree.Then x ts))) t h =
+        let g = target_in texts scope x in
+        let n = nodes_some e in
+        let place = kept_few x (suc (suc t)) (substituted_at true g) (omega (arith, h, n)) (replaced_few m true g (suc (suc t))) (replaced_few m true g (suc (suc (suc t)))) in
+        (ere_few m texts (ere_in e) t (code e) (code_few e t (omega (arith, h))), (code_few r (suc t) (omega (arith, h)), place))
     applied_few builtin.Gsub NoTree t h = tt
     applied_few builtin.Gsub (tree.Then x NoTree) t h = tt
     applied_few builtin.Match (tree.Then x (tree.Then e ts)) t h =
         (code_few x t (omega (arith, h)), (ere_few m texts (ere_in e) (suc t) (code e) (code_few e (suc t) (omega (arith, h))), tt))
     applied_few builtin.Match NoTree t h = tt
     applied_few builtin.Match (tree.Then x NoTree) t h = tt
-    applied_few builtin.Sprintf ts t h = codes_few ts t (omega (arith, h))
+    applied_few builtin.Sprintf NoTree t h = tt
+    applied_few builtin.Sprintf (tree.Then x ts) t h = let n = nodes_some x in (code_few x t (omega (arith, h)), codes_few ts (suc t) (omega (arith, h, n)))
     applied_few builtin.ToLower (tree.Then x ts) t h = (code_few x t (omega (arith, h)), tt)
     applied_few builtin.ToLower NoTree t h = tt
     applied_few builtin.ToUpper (tree.Then x ts) t h = (code_few x t (omega (arith, h)), tt)
@@ -313,33 +309,33 @@ module _ (m : ℕ) (texts : List (List ℕ)) (scope : Scope) where
 
   items_few : (i : ℕ) (is : List Item) → items_nodes is ≤ m → StepsFew m (items_code texts scope i is)
   items_few i [] h = tt
-  items_few i (item.Function f ps ss ∷ is) h = items_few (suc i) is h
+  items_few i (item.Function f ps ss ∷ is) h = items_few (suc i) is (omega (arith, h))
   items_few i (item.Begin ss ∷ is) h = items_few (suc i) is (omega (arith, h))
   items_few i (item.End ss ∷ is) h = items_few (suc i) is (omega (arith, h))
   items_few i (item.Always ss ∷ is) h = (steps_few ss (omega (arith, h)), items_few (suc i) is (omega (arith, h)))
   items_few i (item.When p ss ∷ is) h = (where_few i p (mid.Block (steps_code texts scope ss)) (omega (arith, h)) (steps_few ss (omega (arith, h))), items_few (suc i) is (omega (arith, h)))
   items_few i (item.Lone p ∷ is) h = (where_few i p (mid.Block (steps_code texts scope print_record)) (omega (arith, h)) record_few, items_few (suc i) is (omega (arith, h)))
-  items_few i (item.Nothing ∷ is) h = items_few (suc i) is h
+  items_few i (item.Nothing ∷ is) h = items_few (suc i) is (omega (arith, h))
 
   begin_few : (is : List Item) → items_nodes is ≤ m → StepsFew m (begin_code texts scope is)
   begin_few [] h = tt
-  begin_few (item.Function f ps ss ∷ is) h = begin_few is h
+  begin_few (item.Function f ps ss ∷ is) h = begin_few is (omega (arith, h))
   begin_few (item.Begin ss ∷ is) h = (steps_few ss (omega (arith, h)), begin_few is (omega (arith, h)))
   begin_few (item.End ss ∷ is) h = begin_few is (omega (arith, h))
   begin_few (item.Always ss ∷ is) h = begin_few is (omega (arith, h))
   begin_few (item.When p ss ∷ is) h = begin_few is (omega (arith, h))
   begin_few (item.Lone p ∷ is) h = begin_few is (omega (arith, h))
-  begin_few (item.Nothing ∷ is) h = begin_few is h
+  begin_few (item.Nothing ∷ is) h = begin_few is (omega (arith, h))
 
   end_few : (is : List Item) → items_nodes is ≤ m → StepsFew m (end_code texts scope is)
   end_few [] h = tt
-  end_few (item.Function f ps ss ∷ is) h = end_few is h
+  end_few (item.Function f ps ss ∷ is) h = end_few is (omega (arith, h))
   end_few (item.Begin ss ∷ is) h = end_few is (omega (arith, h))
   end_few (item.End ss ∷ is) h = (steps_few ss (omega (arith, h)), end_few is (omega (arith, h)))
   end_few (item.Always ss ∷ is) h = end_few is (omega (arith, h))
   end_few (item.When p ss ∷ is) h = end_few is (omega (arith, h))
   end_few (item.Lone p ∷ is) h = end_few is (omega (arith, h))
-  end_few (item.Nothing ∷ is) h = end_few is h
+  end_few (item.Nothing ∷ is) h = end_few is (omega (arith, h))
 
 routines_few : (texts : List (List ℕ)) (script : Resolved) (fs : List Function) → RoutinesFew (map (λ (f : Function). stmts_nodes f.body) fs) (map (routine_code texts script) fs)
 routines_few texts script [] = tt

@@ -22,7 +22,7 @@ module _ (m : ℕ) where
     Few t Ask = Unit {0}
     Few t (AskLine s) = Few (suc (suc t)) s
     Few t (FileLine e s) = Few t e × Few (suc (suc t)) s
-    Few t (Replace all es s) = AllFew t es × Few (suc (suc t)) s
+    Few t (Replace every es s) = AllFew t es × Few (suc (suc t)) s
     Few t (Number z) = Unit {0}
     Few t (Text i) = Unit {0}
     Few t Unset = Unit {0}
