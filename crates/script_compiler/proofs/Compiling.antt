@@ -33,6 +33,7 @@ use Rattle.script_code.specs.declared.fault.CompileFault.{CompileFault}
 use Rattle.script_code.specs.declared.fault.CompileFault.TheVariants.{TooLarge, Token, Parse, Ere, Resolve, NoMemory}
 use Rattle.script_compiler.specs.Compiled.{IsCompiled, IsQuiet, KeepsNothing}
 use Rattle.script_compiler.specs.Refusals.{HasNoBytes, IsNotCompiled, IsPastLimits}
+use Rattle.script_compiler.proofs.Operands.{few_operands}
 use Rattle.script_compiler.proofs.Limits.{Few, FewParameters, ReadsItsItems, few, no_module, reads}
 
 -- tables are of the code that they were made of
@@ -70,6 +71,7 @@ compiled bytes v p t m agreement typed main main_is segments runs keeps quiet pa
       code_is = c.code;
       whole_is = refl;
       keeps = keeps;
+      few_operands = few_operands (resolved c.script) p c.code;
       quiet = quiet;
       passes = passes;
       unboxed_names = subst (λ (code : Program). UnboxesNumbers (resolved c.script) code) (sym c.code) (unboxes (resolved c.script));
