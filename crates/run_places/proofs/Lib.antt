@@ -15,6 +15,9 @@ pub mod Words
 pub mod FromWords
 pub mod Spelled
 pub mod Parameters
+pub mod Pending
 pub mod Nops
 pub mod Stepping
+pub mod Callers
+pub mod Operands
 pub mod Rows

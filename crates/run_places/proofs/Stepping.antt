@@ -13,233 +13,242 @@ use Rattle.value_machine.specs.Functions.{layout_of, main_bases, main_callee, ro
 use Rattle.value_machine.specs.Places.{Bases, answer_local}
 use Rattle.value_machine.specs.Quick.{Within, test_within, Source, Named, Constant, joined, all_unsure, Sum, sum_names, sum_in, Pair, pair_names, pair_in, step_jumps, is_nothing}
 use Rattle.value_machine.specs.Small.{ask_row, does, either}
-use Rattle.value_machine.specs.Statements.{name_read, source_pushed, quickly_dropped, left_unless_pair, left_unless, again, all_emptied, arrays_emptied, arrays_swept, before_parts, block, first_part, goes_on, iterator_left, iterators_emptied, iterators_swept, key_stored, left_by, main_body, names_declared, names_made, parameters_dropped, part_done, record_done, records_read, routine_body, routines_declared, started, step_emitted, steps_emitted, swept, temporaries_emptied, temporaries_swept}
+use Rattle.value_machine.specs.Statements.{name_read, source_pushed, quickly_dropped, left_unless_pair, left_unless, all_emptied, arrays_emptied, arrays_swept, before_parts, block, first_part, goes_on, iterator_left, iterators_emptied, iterators_swept, key_stored, left_by, main_body, names_declared, names_made, parameters_dropped, part_done, record_done, records_read, routine_body, routines_declared, started, step_emitted, steps_emitted, swept, temporaries_emptied, temporaries_swept}
 use Rattle.run_places.specs.Statements.{main_places, main_starts, routine_starts, starts_in, starts_of, step_starts, steps_starts}
-use Rattle.run_places.proofs.Nops.{Nops, array_nops, asked_nops, choice, dropped_nops, emitted_nops, kept_code_nops, kept_number_nops, none, pending_nops, plain, tested_nops, to_number_nops, to_value_nops}
+use Rattle.run_places.proofs.Nops.{Nops, array_nops, asked_nops, choice, dropped_nops, emitted_nops, kept_code_nops, kept_number_nops, none, pending_nops, plain, rounds, tested_nops, to_number_nops, to_value_nops}
+use Rattle.run_places.proofs.Pending.{Few, Limit, PartsFew, StepFew, StepsFew, calls_fit, limit_of}
 
-begun : {k : Instructions} {m : List Instructions} → Nops k m → Nops (does Nop k) (does Nop k ∷ m)
-begun {k = k} r = record { are = ap (λ x. does Nop k ∷ x) r.are }
+begun : {l : Limit} {k : Instructions} {m : List Instructions} → Nops l k m → Nops l (does Nop k) (does Nop k ∷ m)
+begun {k = k} r = record { are = ap (λ x. does Nop k ∷ x) r.are; calls = r.calls }
 
-within : {a k : Instructions} {p m : List Instructions} → Nops a p → Nops k m → Nops (block a k) (p ++ m)
-within a r = record { are = ap₂ (λ x y. x ++ y) a.are r.are }
+within : {l : Limit} {a k : Instructions} {p m : List Instructions} → Nops l a p → Nops l k m → Nops l (block a k) (p ++ m)
+within a r = let x = rounds a r in record { are = x.are; calls = x.calls }
 
-rounds : {a k : Instructions} {p m : List Instructions} → Nops a p → Nops k m → Nops (again a k) (p ++ m)
-rounds a r = record { are = ap₂ (λ x y. x ++ y) a.are r.are }
+branches : {l : Limit} {a c k : Instructions} {p q m : List Instructions} → Nops l a p → Nops l c q → Nops l k m → Nops l (either a c k) ((p ++ q) ++ m)
+branches a c r = let x = rounds (rounds a c) r in record { are = ap₂ (λ x y. x ++ y) (ap₂ (λ x y. x ++ y) a.are c.are) r.are; calls = x.calls }
 
-branches : {a c k : Instructions} {p q m : List Instructions} → Nops a p → Nops c q → Nops k m → Nops (either a c k) ((p ++ q) ++ m)
-branches {k = k} a c r = record { are = ap₂ (λ x y. x ++ y) (ap₂ (λ x y. x ++ y) a.are c.are) r.are }
-
-as_listed : {k : Instructions} {m j : List Instructions} → Nops k m → m ≡ j → Nops k j
-as_listed r e = record { are = r.are ∙ e }
+as_listed : {l : Limit} {k : Instructions} {m j : List Instructions} → Nops l k m → m ≡ j → Nops l k j
+as_listed r e = record { are = r.are ∙ e; calls = r.calls }
 
 -- nothing comes after
-alone : {k : Instructions} {m : List Instructions} → Nops k (m ++ []) → Nops k m
+alone : {l : Limit} {k : Instructions} {m : List Instructions} → Nops l k (m ++ []) → Nops l k m
 alone {m = m} r = as_listed r (append-nil m)
 
 -- one of two codes, with the places of the one that it is
-chosen : (j : Bool) (p q m : List Instructions) {a c : Instructions} → Nops a (p ++ m) → Nops c (q ++ m) → Nops (if j then a else c) ((if j then p else q) ++ m)
+chosen : {l : Limit} (j : Bool) (p q m : List Instructions) {a c : Instructions} → Nops l a (p ++ m) → Nops l c (q ++ m) → Nops l (if j then a else c) ((if j then p else q) ++ m)
 chosen true p q m r s = r
 chosen false p q m r s = s
 
-chosen_before : (j : Bool) (p q n m : List Instructions) {a c : Instructions} → Nops a ((p ++ n) ++ m) → Nops c ((q ++ n) ++ m) → Nops (if j then a else c) (((if j then p else q) ++ n) ++ m)
+chosen_before : {l : Limit} (j : Bool) (p q n m : List Instructions) {a c : Instructions} → Nops l a ((p ++ n) ++ m) → Nops l c ((q ++ n) ++ m) → Nops l (if j then a else c) (((if j then p else q) ++ n) ++ m)
 chosen_before true p q n m r s = r
 chosen_before false p q n m r s = s
 
-none_or : (j : Bool) {a c : Instructions} {q : List Instructions} → Nops a [] → Nops c q → Nops (if j then a else c) (if j then [] else q)
+none_or : {l : Limit} (j : Bool) {a c : Instructions} {q : List Instructions} → Nops l a [] → Nops l c q → Nops l (if j then a else c) (if j then [] else q)
 none_or true r q = r
 none_or false r q = q
 
-module _ (y : Layout) where
+module _ (y : Layout) (asks : Bool) (most : ℕ) where
   abbrev b : Bases
   b = y.bases
 
+  abbrev l : Limit
+  l = record { parameters = y.bases.parameters; asked = asks; most = most }
+
   module _ {k : Instructions} {m : List Instructions} where
-    key_nops : (u : ℕ) (e : Code) (d : ℕ) → Nops k m → Nops (key_stored y u e d k) m
-    key_nops u e d r =
+    key_nops : (u : ℕ) (e : Code) (d : ℕ) → (asks ≡ true → Few most 1 e) → Nops l k m → Nops l (key_stored y u e d k) m
+    key_nops u e d lo r =
         plain _ refl (plain _ refl (plain _ refl (plain _ refl (plain _ refl (plain _ refl (plain _ refl
-        (dropped_nops y (a_value ∷ []) (zero ∷ []) e 1 zero d (record { are = r.are }))))))))
+        (dropped_nops y asks most (a_value ∷ []) (zero ∷ []) e 1 zero d lo (record { are = r.are; calls = r.calls }))))))))
 
-    iterator_nops : (u : ℕ) → Nops k m → Nops (iterator_left y u k) m
-    iterator_nops u r = record { are = r.are }
+    iterator_nops : (u : ℕ) → Nops l k m → Nops l (iterator_left y u k) m
+    iterator_nops u r = record { are = r.are; calls = r.calls }
 
-    left_by_nops : (way d : ℕ) → Nops k m → Nops (left_by way d k) m
-    left_by_nops way d r = record { are = r.are }
+    left_by_nops : (way d : ℕ) → Nops l k m → Nops l (left_by way d k) m
+    left_by_nops way d r = record { are = r.are; calls = r.calls }
 
   -- Quick ways.
 
-  joined_nops : {k : Instructions} {m : List Instructions} (is : List ℕ) (q : ℤ) → Nops k m → Nops (joined (name_read y) is q k) m
+  joined_nops : {k : Instructions} {m : List Instructions} (is : List ℕ) (q : ℤ) → Nops l k m → Nops l (joined (name_read y) is q k) m
   joined_nops [] q r = r
   joined_nops (i ∷ is) q r = plain _ refl (plain _ refl (plain _ refl (plain _ refl (joined_nops is q r))))
 
-  all_nops : {k : Instructions} {m : List Instructions} (is : List ℕ) (q : ℤ) (w : ℕ) → Nops k m → Nops (all_unsure (name_read y) is q w k) m
+  all_nops : {k : Instructions} {m : List Instructions} (is : List ℕ) (q : ℤ) (w : ℕ) → Nops l k m → Nops l (all_unsure (name_read y) is q w k) m
   all_nops [] q w r = plain _ refl r
   all_nops (i ∷ is) q w r = plain _ refl (plain _ refl (plain _ refl (joined_nops is q (plain _ refl (plain _ refl r)))))
 
-  source_nops : {k : Instructions} {m : List Instructions} (x : Source) → Nops k m → Nops (source_pushed y x k) m
+  source_nops : {k : Instructions} {m : List Instructions} (x : Source) → Nops l k m → Nops l (source_pushed y x k) m
   source_nops (Named i) r = plain _ refl r
   source_nops (Constant z) r = plain _ refl r
 
   module _ {k : Instructions} {m : List Instructions} where
-    quick_nops : (o : Option Sum) (e : Code) (d : ℕ) → Nops k m → Nops (quickly_dropped y o e d k) m
-    quick_nops None e d r = dropped_nops y [] [] e zero zero d r
-    quick_nops (Some x) e d r =
-        all_nops (sum_names x) _ _ (choice (dropped_nops y [] [] e zero zero (suc d) none) (source_nops x.left (source_nops x.right (plain _ refl (plain _ refl none)))) r)
+    quick_nops : (o : Option Sum) (e : Code) (d : ℕ) → (asks ≡ true → Few most zero e) → Nops l k m → Nops l (quickly_dropped y o e d k) m
+    quick_nops None e d lo r = dropped_nops y asks most [] [] e zero zero d lo r
+    quick_nops (Some x) e d lo r =
+        all_nops (sum_names x) _ _ (choice (dropped_nops y asks most [] [] e zero zero (suc d) lo none) (source_nops x.left (source_nops x.right (plain _ refl (plain _ refl none)))) r)
 
-    pair_nops : (o : Option Pair) (e : Code) (d out : ℕ) → Nops k m → Nops (left_unless_pair y o e d out k) m
-    pair_nops None e d out r = tested_nops y [] [] e zero zero d (plain _ refl (plain _ refl r))
-    pair_nops (Some q) e d out r =
-        all_nops (pair_names q) _ _ (choice (tested_nops y [] [] e zero zero (suc d) (plain _ refl (plain _ refl none))) (source_nops q.left (source_nops q.right (plain _ refl (plain _ refl none)))) r)
+    pair_nops : (o : Option Pair) (e : Code) (d out : ℕ) → (asks ≡ true → Few most zero e) → Nops l k m → Nops l (left_unless_pair y o e d out k) m
+    pair_nops None e d out lo r = tested_nops y asks most [] [] e zero zero d lo (plain _ refl (plain _ refl r))
+    pair_nops (Some q) e d out lo r =
+        all_nops (pair_names q) _ _ (choice (tested_nops y asks most [] [] e zero zero (suc d) lo (plain _ refl (plain _ refl none))) (source_nops q.left (source_nops q.right (plain _ refl (plain _ refl none)))) r)
 
-    left_nops : (o : Option Within) (e : Code) (d out : ℕ) → Nops k m → Nops (left_unless y o e d out k) m
-    left_nops None e d out r = pair_nops (pair_in e) e d out r
-    left_nops (Some q) e d out r = plain _ refl (plain _ refl (plain _ refl (plain _ refl (plain _ refl (choice (tested_nops y [] [] e zero zero (suc d) (plain _ refl (plain _ refl none))) none r)))))
+    left_nops : (o : Option Within) (e : Code) (d out : ℕ) → (asks ≡ true → Few most zero e) → Nops l k m → Nops l (left_unless y o e d out k) m
+    left_nops None e d out lo r = pair_nops (pair_in e) e d out lo r
+    left_nops (Some q) e d out lo r = plain _ refl (plain _ refl (plain _ refl (plain _ refl (plain _ refl (choice (tested_nops y asks most [] [] e zero zero (suc d) lo (plain _ refl (plain _ refl none))) none r)))))
 
   mutual
     unfolding step_emitted steps_emitted
 
-    step_nops : {k : Instructions} {m : List Instructions} (s : Step) (u d bk ct : ℕ) → Nops k m → Nops (step_emitted y s u d bk ct k) (step_starts y s u d bk ct k ++ m)
-    step_nops (Eval e) u d bk ct r = begun (quick_nops (sum_in e) e d r)
-    step_nops (Steps_ ss) u d bk ct r = begun (steps_nops ss u d bk ct r)
-    step_nops (Either e a c) u d bk ct r =
-        let last = alone (step_nops c u (suc d) (suc bk) (suc ct) none) in
+    step_nops : {k : Instructions} {m : List Instructions} (s : Step) (u d bk ct : ℕ) → (asks ≡ true → StepFew most s) → Nops l k m → Nops l (step_emitted y s u d bk ct k) (step_starts y s u d bk ct k ++ m)
+    step_nops (Eval e) u d bk ct lo r = begun (quick_nops (sum_in e) e d lo r)
+    step_nops (Steps_ ss) u d bk ct lo r = begun (steps_nops ss u d bk ct lo r)
+    step_nops (Either e a c) u d bk ct lo r =
+        let last = alone (step_nops c u (suc d) (suc bk) (suc ct) (λ z. (lo z).1.1) none) in
         begun (chosen_before (is_some (pair_in e)) _ _ _ _
-        (within (within (pair_nops (pair_in e) e (suc (suc d)) zero (alone (step_nops a u (suc (suc d)) (suc (suc bk)) (suc (suc ct)) (plain (Br 1) refl none)))) last) r)
-        (tested_nops y [] [] e zero zero d (branches (alone (step_nops a u (suc d) (suc bk) (suc ct) none)) last r)))
-    step_nops (Loop true e a c) u d bk ct r =
-        let rest = none_or (is_nothing c) (plain (Br zero) refl none) (alone (step_nops c u (suc (suc d)) 1 zero (plain (Br zero) refl none))) in
-        begun (within (alone (rounds (left_nops (test_within e) e (suc (suc d)) 1
-        (chosen (step_jumps a) _ _ _ (within (alone (step_nops a u (suc (suc (suc d))) 2 zero none)) rest) (step_nops a u (suc (suc d)) 1 zero rest))) none)) r)
-    step_nops (Loop false e a c) u d bk ct r =
-        begun (within (alone (rounds (within (alone (step_nops a u (suc (suc (suc d))) 2 zero none))
-        (step_nops c u (suc (suc d)) 1 zero (begun (tested_nops y [] [] e zero zero (suc (suc d)) (plain _ refl none))))) none)) r)
-    step_nops (Each a e s) u d bk ct r =
-        begun (array_nops y a (plain _ refl (plain _ refl (within (alone (rounds (key_nops u e (suc (suc d))
-        (alone (within (alone (step_nops s (suc u) (suc (suc (suc d))) 2 zero none)) (plain _ refl none)))) none)) (iterator_nops u r)))))
-    step_nops Break u d bk ct r = begun (plain _ refl r)
-    step_nops Continue u d bk ct r = begun (plain _ refl r)
-    step_nops Next u d bk ct r = begun (left_by_nops _ d r)
-    step_nops Exit u d bk ct r = begun (left_by_nops _ d r)
-    step_nops (ExitWith e) u d bk ct r =
-        begun (emitted_nops y false [] [] e zero zero d (to_number_nops b (form_of [] e) zero d (plain _ refl (plain _ refl (left_by_nops _ d r)))))
-    step_nops (Return e) u d bk ct r =
-        begun (emitted_nops y false [] [] e zero zero d (to_value_nops b (form_of [] e) zero (plain _ refl (plain _ refl (plain _ refl (plain _ refl (plain _ refl r)))))))
-    step_nops (Mark i c) u d bk ct r = begun (plain _ refl (plain _ refl r))
+        (within (within (pair_nops (pair_in e) e (suc (suc d)) zero (λ z. (lo z).0)
+        (alone (step_nops a u (suc (suc d)) (suc (suc bk)) (suc (suc ct)) (λ z. (lo z).1.0) (plain (Br 1) refl none)))) last) r)
+        (tested_nops y asks most [] [] e zero zero d (λ z. (lo z).0) (branches (alone (step_nops a u (suc d) (suc bk) (suc ct) (λ z. (lo z).1.0) none)) last r)))
+    step_nops (Loop true e a c) u d bk ct lo r =
+        let rest = none_or (is_nothing c) (plain (Br zero) refl none) (alone (step_nops c u (suc (suc d)) 1 zero (λ z. (lo z).1.1) (plain (Br zero) refl none))) in
+        begun (within (alone (rounds (left_nops (test_within e) e (suc (suc d)) 1 (λ z. (lo z).0)
+        (chosen (step_jumps a) _ _ _ (within (alone (step_nops a u (suc (suc (suc d))) 2 zero (λ z. (lo z).1.0) none)) rest) (step_nops a u (suc (suc d)) 1 zero (λ z. (lo z).1.0) rest))) none)) r)
+    step_nops (Loop false e a c) u d bk ct lo r =
+        begun (within (alone (rounds (within (alone (step_nops a u (suc (suc (suc d))) 2 zero (λ z. (lo z).1.0) none))
+        (step_nops c u (suc (suc d)) 1 zero (λ z. (lo z).1.1) (begun (tested_nops y asks most [] [] e zero zero (suc (suc d)) (λ z. (lo z).0) (plain _ refl none))))) none)) r)
+    step_nops (Each a e s) u d bk ct lo r =
+        begun (array_nops y asks most a (plain _ refl (plain _ refl (within (alone (rounds (key_nops u e (suc (suc d)) (λ z. (lo z).0)
+        (alone (within (alone (step_nops s (suc u) (suc (suc (suc d))) 2 zero (λ z. (lo z).1) none)) (plain _ refl none)))) none)) (iterator_nops u r)))))
+    step_nops Break u d bk ct lo r = begun (plain _ refl r)
+    step_nops Continue u d bk ct lo r = begun (plain _ refl r)
+    step_nops Next u d bk ct lo r = begun (left_by_nops _ d r)
+    step_nops Exit u d bk ct lo r = begun (left_by_nops _ d r)
+    step_nops (ExitWith e) u d bk ct lo r =
+        begun (emitted_nops y asks most false [] [] e zero zero d lo (to_number_nops b (form_of [] e) zero d (plain _ refl (plain _ refl (left_by_nops _ d r)))))
+    step_nops (Return e) u d bk ct lo r =
+        begun (emitted_nops y asks most false [] [] e zero zero d lo (to_value_nops b (form_of [] e) zero (plain _ refl (plain _ refl (plain _ refl (plain _ refl (plain _ refl r)))))))
+    step_nops (Mark i c) u d bk ct lo r = begun (plain _ refl (plain _ refl r))
 
-    pub steps_nops : {k : Instructions} {m : List Instructions} (ss : Steps) (u d bk ct : ℕ) → Nops k m → Nops (steps_emitted y ss u d bk ct k) (steps_starts y ss u d bk ct k ++ m)
-    steps_nops NoStep u d bk ct r = r
-    steps_nops {k = k} {m = m} (AndThen s ss) u d bk ct r =
-        as_listed (step_nops s u d bk ct (steps_nops ss u d bk ct r)) (sym (append_assoc (step_starts y s u d bk ct (steps_emitted y ss u d bk ct k)) (steps_starts y ss u d bk ct k) m))
+    pub steps_nops : {k : Instructions} {m : List Instructions} (ss : Steps) (u d bk ct : ℕ) → (asks ≡ true → StepsFew most ss) → Nops l k m → Nops l (steps_emitted y ss u d bk ct k) (steps_starts y ss u d bk ct k ++ m)
+    steps_nops NoStep u d bk ct lo r = r
+    steps_nops {k = k} {m = m} (AndThen s ss) u d bk ct lo r =
+        as_listed (step_nops s u d bk ct (λ z. (lo z).0) (steps_nops ss u d bk ct (λ z. (lo z).1) r)) (sym (append_assoc (step_starts y s u d bk ct (steps_emitted y ss u d bk ct k)) (steps_starts y ss u d bk ct k) m))
 
   -- Functions.
 
-  temporaries_nops : {k : Instructions} {m : List Instructions} (t n : ℕ) → Nops k m → Nops (temporaries_emptied y t n k) m
+  temporaries_nops : {k : Instructions} {m : List Instructions} (t n : ℕ) → Nops l k m → Nops l (temporaries_emptied y t n k) m
   temporaries_nops t zero r = r
   temporaries_nops t (suc n) r = plain _ refl (plain _ refl (temporaries_nops (suc t) n r))
 
-  iterators_nops : {k : Instructions} {m : List Instructions} (t n : ℕ) → Nops k m → Nops (iterators_emptied y t n k) m
+  iterators_nops : {k : Instructions} {m : List Instructions} (t n : ℕ) → Nops l k m → Nops l (iterators_emptied y t n k) m
   iterators_nops t zero r = r
   iterators_nops t (suc n) r = plain _ refl (plain _ refl (iterators_nops (suc t) n r))
 
-  arrays_nops : {k : Instructions} {m : List Instructions} (t n : ℕ) → Nops k m → Nops (arrays_emptied y t n k) m
+  arrays_nops : {k : Instructions} {m : List Instructions} (t n : ℕ) → Nops l k m → Nops l (arrays_emptied y t n k) m
   arrays_nops t zero r = r
   arrays_nops t (suc n) r = plain _ refl (plain _ refl (arrays_nops (suc t) n r))
 
-  emptied_nops : {k : Instructions} {m : List Instructions} → Nops k m → Nops (all_emptied y k) m
+  emptied_nops : {k : Instructions} {m : List Instructions} → Nops l k m → Nops l (all_emptied y k) m
   emptied_nops r = plain _ refl (plain _ refl (temporaries_nops zero b.temporaries (iterators_nops zero b.iterators (arrays_nops zero b.arrays r))))
 
-  temporaries_let_go : {k : Instructions} {m : List Instructions} (t n : ℕ) → Nops k m → Nops (temporaries_swept y t n k) m
+  temporaries_let_go : {k : Instructions} {m : List Instructions} (t n : ℕ) → Nops l k m → Nops l (temporaries_swept y t n k) m
   temporaries_let_go t zero r = r
-  temporaries_let_go t (suc n) r = record { are = (temporaries_let_go (suc t) n r).are }
+  temporaries_let_go t (suc n) r = let x = temporaries_let_go (suc t) n r in record { are = x.are; calls = x.calls }
 
-  iterators_let_go : {k : Instructions} {m : List Instructions} (t n : ℕ) → Nops k m → Nops (iterators_swept y t n k) m
+  iterators_let_go : {k : Instructions} {m : List Instructions} (t n : ℕ) → Nops l k m → Nops l (iterators_swept y t n k) m
   iterators_let_go t zero r = r
-  iterators_let_go t (suc n) r = record { are = (iterators_let_go (suc t) n r).are }
+  iterators_let_go t (suc n) r = let x = iterators_let_go (suc t) n r in record { are = x.are; calls = x.calls }
 
-  arrays_let_go : {k : Instructions} {m : List Instructions} (t n : ℕ) → Nops k m → Nops (arrays_swept y t n k) m
+  arrays_let_go : {k : Instructions} {m : List Instructions} (t n : ℕ) → Nops l k m → Nops l (arrays_swept y t n k) m
   arrays_let_go t zero r = r
-  arrays_let_go t (suc n) r = record { are = (arrays_let_go (suc t) n r).are }
+  arrays_let_go t (suc n) r = let x = arrays_let_go (suc t) n r in record { are = x.are; calls = x.calls }
 
-  swept_nops : {k : Instructions} {m : List Instructions} → Nops k m → Nops (swept y k) m
+  swept_nops : {k : Instructions} {m : List Instructions} → Nops l k m → Nops l (swept y k) m
   swept_nops r = temporaries_let_go zero b.temporaries (iterators_let_go zero b.iterators (arrays_let_go zero b.arrays r))
 
-  parameters_nops : {k : Instructions} {m : List Instructions} (x : ℕ) (ks : List Kind) → Nops k m → Nops (parameters_dropped y x ks k) m
+  parameters_nops : {k : Instructions} {m : List Instructions} (x : ℕ) (ks : List Kind) → Nops l k m → Nops l (parameters_dropped y x ks k) m
   parameters_nops x [] r = r
   parameters_nops x (Boxed ∷ ks) r = plain _ refl (plain _ refl (parameters_nops (suc x) ks r))
   parameters_nops x (Unboxed ∷ ks) r = parameters_nops (suc x) ks r
   parameters_nops x (Many ∷ ks) r = parameters_nops (suc x) ks r
 
-  routine_nops : (ks : List Kind) (body : Steps) → Nops (routine_body y ks body) (steps_starts y body zero zero zero zero (ask_row row.Uninit (does (LocalSet (answer_local b)) Done)))
-  routine_nops ks body =
-      emptied_nops (alone (within (alone (steps_nops body zero zero zero zero (plain _ refl (plain _ refl none)))) (swept_nops (parameters_nops zero ks (plain _ refl none)))))
+  routine_nops : (ks : List Kind) (body : Steps) → (asks ≡ true → StepsFew most body) → Nops l (routine_body y ks body) (steps_starts y body zero zero zero zero (ask_row row.Uninit (does (LocalSet (answer_local b)) Done)))
+  routine_nops ks body lo =
+      emptied_nops (alone (within (alone (steps_nops body zero zero zero zero lo (plain _ refl (plain _ refl none)))) (swept_nops (parameters_nops zero ks (plain _ refl none)))))
 
   -- `main`.
 
-  declared_nops : {k : Instructions} {m : List Instructions} (i : ℕ) (ks : List Kind) → Nops k m → Nops (names_declared y i ks k) m
+  declared_nops : {k : Instructions} {m : List Instructions} (i : ℕ) (ks : List Kind) → Nops l k m → Nops l (names_declared y i ks k) m
   declared_nops i [] r = r
   declared_nops i (kind ∷ ks) r = plain _ refl (plain _ refl (plain _ refl (plain _ refl (declared_nops (suc i) ks r))))
 
-  routines_nops : {k : Instructions} {m : List Instructions} (i n : ℕ) → Nops k m → Nops (routines_declared y i n k) m
+  routines_nops : {k : Instructions} {m : List Instructions} (i n : ℕ) → Nops l k m → Nops l (routines_declared y i n k) m
   routines_nops i zero r = r
   routines_nops i (suc n) r = plain _ refl (plain _ refl (plain _ refl (plain _ refl (routines_nops (suc i) n r))))
 
-  made_nops : {k : Instructions} {m : List Instructions} (i : ℕ) (ks : List Kind) → Nops k m → Nops (names_made y i ks k) m
+  made_nops : {k : Instructions} {m : List Instructions} (i : ℕ) (ks : List Kind) → Nops l k m → Nops l (names_made y i ks k) m
   made_nops i [] r = r
   made_nops i (Boxed ∷ ks) r = plain _ refl (plain _ refl (made_nops (suc i) ks r))
   made_nops i (Unboxed ∷ ks) r = made_nops (suc i) ks r
   made_nops i (Many ∷ ks) r = plain _ refl (plain _ refl (made_nops (suc i) ks r))
 
   module _ {k : Instructions} {m : List Instructions} where
-    started_nops : Nops k m → Nops (started y k) m
+    started_nops : Nops l k m → Nops l (started y k) m
     started_nops r = plain _ refl (plain _ refl (plain _ refl (kept_number_nops b true zero zero r)))
 
-    goes_nops : Nops k m → Nops (goes_on y k) m
+    goes_nops : Nops l k m → Nops l (goes_on y k) m
     goes_nops r = plain _ refl (plain _ refl (swept_nops r))
 
   module _ {k : Instructions} {m : List Instructions} where
-    record_nops : (items : Steps) (d : ℕ) → Nops k m → Nops (record_done y items d k) (steps_starts y items zero zero zero zero (does (Br 1) Done) ++ m)
-    record_nops items d r =
-        within (alone (within (alone (steps_nops items zero zero zero zero (plain _ refl none))) (plain _ refl (plain _ refl (plain _ refl (plain _ refl (goes_nops none))))))) r
+    record_nops : (items : Steps) (d : ℕ) → (asks ≡ true → StepsFew most items) → Nops l k m → Nops l (record_done y items d k) (steps_starts y items zero zero zero zero (does (Br 1) Done) ++ m)
+    record_nops items d lo r =
+        within (alone (within (alone (steps_nops items zero zero zero zero lo (plain _ refl none))) (plain _ refl (plain _ refl (plain _ refl (plain _ refl (goes_nops none))))))) r
 
-    part_nops : {a : Instructions} {q : List Instructions} (d : ℕ) → Nops a q → Nops k m → Nops (part_done y a d k) (q ++ m)
+    part_nops : {a : Instructions} {q : List Instructions} (d : ℕ) → Nops l a q → Nops l k m → Nops l (part_done y a d k) (q ++ m)
     part_nops d a r =
         within (alone (within a (plain _ refl (plain _ refl (plain _ refl (plain _ refl (plain _ refl (plain _ refl
         (choice (plain _ refl (plain _ refl (plain _ refl none))) none (goes_nops none)))))))))) r
 
   module _ {k : Instructions} {m : List Instructions} where
-    records_nops : (items : Steps) (d : ℕ) → Nops k m → Nops (records_read y items d k) (steps_starts y items zero zero zero zero (does (Br 1) Done) ++ m)
-    records_nops items d r =
+    records_nops : (items : Steps) (d : ℕ) → (asks ≡ true → StepsFew most items) → Nops l k m → Nops l (records_read y items d k) (steps_starts y items zero zero zero zero (does (Br 1) Done) ++ m)
+    records_nops items d lo r =
         rounds (plain _ refl (kept_code_nops b true zero (suc d) (plain _ refl (plain _ refl (plain _ refl
-        (alone (alone (branches (alone (record_nops items (suc (suc d)) (plain _ refl none))) none (plain _ refl (plain _ refl (plain _ refl
-        (choice (pending_nops y zero (plain _ refl none)) none none)))))))))))) r
+        (alone (alone (branches (alone (record_nops items (suc (suc d)) lo (plain _ refl none))) none (plain _ refl (plain _ refl (plain _ refl
+        (choice (pending_nops y asks most zero (plain _ refl none)) none none)))))))))))) r
 
-    before_nops : (p : Program) → Nops k m → Nops (before_parts y p k) m
+    before_nops : (p : Program) → Nops l k m → Nops l (before_parts y p k) m
     before_nops p r =
         started_nops (declared_nops (length p.texts) y.names (routines_nops (length p.texts + length p.globals) (length p.routines)
-        (made_nops zero y.names (asked_nops y row.StartAssign zero zero r))))
+        (made_nops zero y.names (asked_nops y asks most row.StartAssign zero zero r))))
 
   abbrev out : Instructions
   out = does (Br 1) Done
 
-  first_nops : (p : Program) →
-      Nops (first_part y p) (steps_starts y p.begin zero zero zero zero (if p.reads then records_read y p.items zero out else out) ++ (if p.reads then steps_starts y p.items zero zero zero zero out else []))
-  first_nops p = steps_nops p.begin zero zero zero zero (by p.reads)
+  first_nops : (p : Program) → (asks ≡ true → PartsFew most p) →
+      Nops l (first_part y p) (steps_starts y p.begin zero zero zero zero (if p.reads then records_read y p.items zero out else out) ++ (if p.reads then steps_starts y p.items zero zero zero zero out else []))
+  first_nops p lo = steps_nops p.begin zero zero zero zero (λ z. (lo z).0) (by p.reads)
     where
-      by : (z : Bool) → Nops (if z then records_read y p.items zero out else out) (if z then steps_starts y p.items zero zero zero zero out else [])
-      by true = alone (records_nops p.items zero (plain _ refl none))
+      by : (z : Bool) → Nops l (if z then records_read y p.items zero out else out) (if z then steps_starts y p.items zero zero zero zero out else [])
+      by true = alone (records_nops p.items zero (λ z. (lo z).1.0) (plain _ refl none))
       by false = plain _ refl none
 
-  main_nops : (p : Program) → Nops (main_body y p)
+  main_nops : (p : Program) → (asks ≡ true → PartsFew most p) → Nops l (main_body y p)
       ((steps_starts y p.begin zero zero zero zero (if p.reads then records_read y p.items zero out else out) ++ (if p.reads then steps_starts y p.items zero zero zero zero out else [])) ++ steps_starts y p.end zero zero zero zero out)
-  main_nops p =
-      emptied_nops (alone (within (before_nops p (part_nops zero (first_nops p) (plain _ refl (alone (part_nops zero (alone (steps_nops p.end zero zero zero zero (plain _ refl none))) none)))))
+  main_nops p lo =
+      emptied_nops (alone (within (before_nops p (part_nops zero (first_nops p lo) (plain _ refl (alone (part_nops zero (alone (steps_nops p.end zero zero zero zero (λ z. (lo z).1.1) (plain _ refl none))) none)))))
       (swept_nops (plain _ refl (plain _ refl none)))))
 
 -- EACH STEP has its place
 pub routine_has_starts : (p : Program) (r : Routine) → starts_in (routine_callee p r).body ≡ routine_starts p r
-routine_has_starts p r = (routine_nops (layout_of p (routine_bases r)) r.parameters r.body).are
+routine_has_starts p r = (routine_nops (layout_of p (routine_bases r)) false zero r.parameters r.body (λ z. cc)).are
 
 pub main_has_starts : (p : Program) → starts_in (main_callee p).body ≡ main_starts p
-main_has_starts p = (main_nops (layout_of p (main_bases p)) p).are
+main_has_starts p = (main_nops (layout_of p (main_bases p)) false zero p (λ z. cc)).are
+
+-- THE OPERANDS under each call of a function are few in its code, where they are few in its steps
+pub routine_few : (p : Program) (r : Routine) (most : ℕ) → StepsFew most r.body → calls_fit (limit_of (routine_callee p r) most) (routine_callee p r).body ≡ true
+routine_few p r most h = (routine_nops (layout_of p (routine_bases r)) true most r.parameters r.body (λ z. h)).calls refl
+
+pub main_few : (p : Program) (most : ℕ) → PartsFew most p → calls_fit (limit_of (main_callee p) most) (main_callee p).body ≡ true
+main_few p most h = (main_nops (layout_of p (main_bases p)) true most p (λ z. h)).calls refl
 
 -- How many there are.
 

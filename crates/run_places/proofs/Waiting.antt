@@ -26,10 +26,9 @@ use Rattle.run_places.specs.Kept.{CallerWaits, CallersWait, LocalsWait, NoValues
 use Rattle.run_places.proofs.Begun.{OfFunction}
 use Rattle.run_places.proofs.Counting.{held, held_in, held_waiting, local_iterators}
 use Rattle.std.specs.List.{Contains}
-use Rattle.run_places.specs.Places.{IsPart}
 use Rattle.run_places.proofs.Totals.{held_each}
 use Rattle.run_places.proofs.Fitting.{FrameFits, FramesFit}
-use Rattle.run_places.proofs.Working.{FramesWork, Works, part_renumbered}
+use Rattle.run_places.proofs.Working.{FramesWork, Waits}
 
 -- Locals.
 
@@ -131,7 +130,7 @@ simple_answers : (bs : List Bool) (i : Simple) (j k : Instructions) → answers_
 simple_answers bs (simple.Call n) j k = refl
 simple_answers bs i j k = refl
 
-answers_same : (bs : List Bool) (code : Instructions) → answers_to (renumbered bs code) ≡ answers_to code
+pub answers_same : (bs : List Bool) (code : Instructions) → answers_to (renumbered bs code) ≡ answers_to code
 answers_same bs Done = refl
 answers_same bs (Then (Plain i) k) = simple_answers bs i (renumbered bs k) k
 answers_same bs (Then (BrTable ns n) k) = refl
@@ -209,14 +208,17 @@ module _ (p : Program) where
   -- Callers.
 
   module _ (u : Code) (instructions places globals : ℕ) (made : ℕ) (N : Names) where
-    caller_waits : (f : Frame) (r : CallerForm) → FrameAs (stays p) bs made N f r → FrameFits u instructions places globals (OfFunction p) f → Works u (Contains (all_callees p)) f.kinds f.rest f.labels → CallerWaits p (held f.locals) r
+    caller_waits : (f : Frame) (r : CallerForm) → FrameAs (stays p) bs made N f r → FrameFits u instructions places globals (OfFunction p) f → Waits u (Contains (all_callees p)) f.kinds f.rest f.labels → CallerWaits p (held f.locals) r
     caller_waits f r a b y =
         let w = and_parts (locals_wait (answers_to f.rest) f.kinds f.locals) (nat_eq (iterators_in f.locals) (loops_walked f.labels)) b.waits in
         let h = locals_hold (answers_to f.rest) f.kinds f.locals w.0 in
         record {
           function = y.function;
           is_function = y.is;
-          at_place = subst (λ (k : Instructions). IsPart (renumbered bs y.function.body) k) (sym a.rest.same) (part_renumbered bs y.function.body f.rest y.code);
+          called = y.called;
+          place = f.rest;
+          is_place = y.code;
+          at_place = a.rest.same;
           operands = h.0;
           answer_to = ap answers_to a.rest.same ∙ (answers_same bs f.rest ∙ (h.1 ∙ ap (λ (ks : List Kind). suc (length ks) + (h.0 + h.0)) (sym y.kinds)));
           each = held_each made N f.locals r.frame.locals a.locals;

@@ -1,5 +1,6 @@
 -- Which function is at work: its code, and that under its labels, are parts of the function's body, and so are those of callers that wait.
-use Rattle.std.proofs.Common.{◌≡◌, ℕ, zero, suc, ◌-◌, Bool, true, false, not, ◌&&◌, cond, nat_eq, nat_lt, List, [], ◌∷◌, ◌++◌, length, take, drop, reverse, set, slice_get, Option, Some, None, refl, arith}
+use Rattle.std.proofs.Common.{◌≡◌, ℕ, zero, suc, ◌-◌, Bool, true, false, not, ◌&&◌, cond, nat_eq, nat_lt, List, [], ◌∷◌, ◌++◌, length, take, drop, reverse, set, slice_get, Option, Some, None, refl, sym, subst, arith}
+use Rattle.std.proofs.lemmas.Bool.{ltb-false}
 use Rattle.wasm_types.specs.Syntax.{Instruction, Plain, Block, Loop, If, Instructions, Done, Then}
 use Rattle.wasm_types.specs.declared.instr.Simple.{Simple}
 use Rattle.wasm_types.specs.declared.instr.Simple.TheVariants as simple
@@ -9,6 +10,7 @@ use Rattle.wasm_store.specs.declared.word.Word.TheVariants.{I32}
 use Rattle.wasm_machine.specs.Frames.{constant_of}
 use Rattle.mid_program.specs.Mid.{Kind}
 use Rattle.value_machine.specs.Cells.{Cell, Bits, Held, LentArray, OwnedArray, IteratorOf, Gone, cell_at, globals_by, is_owned, left_by, none_owned}
+use Rattle.value_machine.specs.Emission.{function_number}
 use Rattle.value_machine.specs.ImportCalls.{Host, call, look}
 use Rattle.value_machine.specs.Imports.{import_at, import_count}
 use Rattle.value_machine.specs.Machine.{Code, Callee, Conf, Run, Look, Over, Deep, Stuck, Frame, Label, Store, act, ask, ask_looking, at, br, br_if, call_number, choose, enter, go, guarded, label, leave, leave_function, onto, operated, run_looking, set_global, set_local, step, takes_look, tee_local, teed, width, with_answer, with_operands, work, zeros, ending_name}
@@ -19,7 +21,7 @@ use Rattle.std.proofs.Common.{map}
 use Rattle.mid_program.specs.Mid.{Program}
 use Rattle.mid_program.specs.ScriptRun.{Setting}
 use Rattle.value_machine.specs.Functions.{main_callee, routine_callee}
-use Rattle.value_machine.specs.Modules.{all_callees, renumbered, renumbered_one}
+use Rattle.value_machine.specs.Modules.{all_callees}
 use Rattle.value_machine.specs.Runs.{begun, code_of, first_globals, host_at_start}
 use Rattle.run_places.proofs.Begun.{contained}
 use Rattle.run_places.specs.Kept.{begins_statement}
@@ -42,9 +44,18 @@ module _ (u : Code) (Fun : Callee → Type 0) where
     pub code : IsPart function.body c
     pub labels : LabelsPart function.body K
 
+  -- what waits is behind the call of a function
+  pub record Waits (ks : List Kind) (c : Instructions) (K : List Label) : Type 0 where
+    pub function : Callee
+    pub is : Fun function
+    pub kinds : function.kinds ≡ ks
+    pub called : ℕ
+    pub code : IsPart function.body (Then (Plain (simple.Call (function_number called))) c)
+    pub labels : LabelsPart function.body K
+
   abbrev pub FramesWork : List Frame → Type 0
   FramesWork [] = Unit {0}
-  FramesWork (f ∷ F) = Works f.kinds f.rest f.labels × FramesWork F
+  FramesWork (f ∷ F) = Waits f.kinds f.rest f.labels × FramesWork F
 
   abbrev pub Stands : Conf → Type 0
   Stands (Run ks vs K L F c G) = Works ks c K × FramesWork F
@@ -55,6 +66,21 @@ module _ (u : Code) (Fun : Callee → Type 0) where
 
   on : {ks : List Kind} {i : Instruction} {c : Instructions} {K : List Label} → Works ks (Then i c) K → Works ks c K
   on w = record { function = w.function; is = w.is; kinds = w.kinds; code = further _ _ w.code; labels = w.labels }
+
+  calling : {ks : List Kind} {n : ℕ} {c : Instructions} {K : List Label} → nat_lt n import_count ≡ false → Works ks (Then (Plain (simple.Call n)) c) K → Waits ks c K
+  calling {n = n} {c = c} e w =
+      let q : function_number (n - import_count) ≡ n = (let le = ltb-false n import_count e in omega (arith, le)) in
+      record {
+        function = w.function;
+        is = w.is;
+        kinds = w.kinds;
+        called = n - import_count;
+        code = subst (λ (z : ℕ). IsPart w.function.body (Then (Plain (simple.Call z)) c)) (sym q) w.code;
+        labels = w.labels;
+      }
+
+  called_back : {ks : List Kind} {c : Instructions} {K : List Label} → Waits ks c K → Works ks c K
+  called_back w = record { function = w.function; is = w.is; kinds = w.kinds; code = further _ _ w.code; labels = w.labels }
 
   out : {ks : List Kind} {c : Instructions} {l : Label} {K : List Label} → Works ks c (l ∷ K) → Works ks l.rest K
   out w = record { function = w.function; is = w.is; kinds = w.kinds; code = w.labels.0.1; labels = w.labels.1 }
@@ -131,7 +157,7 @@ module _ (u : Code) (Fun : Callee → Type 0) where
   ask_looking_stands None v ks vs K L F c G w r = tt
   ask_looking_stands (Some i) v ks vs K L F c G w r = with_answer_stands (look i v G.host) ks vs K L F c G w r
 
-  enter_stands : (f : Option Callee) → ((g : Callee) → f ≡ Some g → Fun g) → (ks : List Kind) (vs : List Cell) (K : List Label) (L : List Cell) (F : List Frame) (c : Instructions) (G : Store) → Works ks c K → FramesWork F → Stands (enter u.deepest f ks vs K L F c G)
+  enter_stands : (f : Option Callee) → ((g : Callee) → f ≡ Some g → Fun g) → (ks : List Kind) (vs : List Cell) (K : List Label) (L : List Cell) (F : List Frame) (c : Instructions) (G : Store) → Waits ks c K → FramesWork F → Stands (enter u.deepest f ks vs K L F c G)
   enter_stands None is ks vs K L F c G w r = tt
   enter_stands (Some f) is ks vs K L F c G w r = guarded_stands _ _ (by (nat_lt (length F) u.deepest))
     where
@@ -144,7 +170,7 @@ module _ (u : Code) (Fun : Callee → Type 0) where
 
   leave_function_stands : (v : Cell) (F : List Frame) (G : Store) → FramesWork F → Stands (leave_function u v F G)
   leave_function_stands v [] G r = guarded_stands (not (is_owned v) && globals_by (ending_name G.host.fault) u.before u.names G.globals) (Over v G) tt
-  leave_function_stands v (f ∷ F) G r = at_stands f.kinds (v ∷ f.under) f.labels f.locals F f.rest G r.0 r.1
+  leave_function_stands v (f ∷ F) G r = at_stands f.kinds (v ∷ f.under) f.labels f.locals F f.rest G (called_back r.0) r.1
 
   leave_stands : (ks : List Kind) (vs : List Cell) (K : List Label) (L : List Cell) (F : List Frame) (G : Store) → Works ks Done K → FramesWork F → Stands (leave u ks vs K L F G)
   leave_stands ks vs (l ∷ K) L F G w r = guarded_stands _ _ (at_stands ks (vs ++ l.under) K L F l.rest G (out w) r)
@@ -156,27 +182,27 @@ module _ (u : Code) (Fun : Callee → Type 0) where
   operands_stand (Some vs) ks K L F c G w r = at_stands ks vs K L F c G w r
 
   module _ (bodies : (k : ℕ) (f : Callee) → slice_get u.callees k ≡ Some f → Fun f) where
-    call_number_stands : (n : ℕ) (ks : List Kind) (vs : List Cell) (K : List Label) (L : List Cell) (F : List Frame) (c : Instructions) (G : Store) → Works ks c K → FramesWork F → Stands (call_number u n ks vs K L F c G)
-    call_number_stands n ks vs K L F c G w r = by (nat_lt n import_count)
+    call_number_stands : (n : ℕ) (ks : List Kind) (vs : List Cell) (K : List Label) (L : List Cell) (F : List Frame) (c : Instructions) (G : Store) → Works ks (Then (Plain (simple.Call n)) c) K → FramesWork F → Stands (call_number u n ks vs K L F c G)
+    call_number_stands n ks vs K L F c G w r = by (nat_lt n import_count) refl
       where
-        by : (b : Bool) → Stands (cond b (ask u.memory (import_at n) ks vs K L F c G) (enter u.deepest (slice_get u.callees (n - import_count)) ks vs K L F c G))
-        by true = ask_stands u.memory (import_at n) ks vs K L F c G w r
-        by false = enter_stands (slice_get u.callees (n - import_count)) (bodies (n - import_count)) ks vs K L F c G w r
+        by : (b : Bool) → nat_lt n import_count ≡ b → Stands (cond b (ask u.memory (import_at n) ks vs K L F c G) (enter u.deepest (slice_get u.callees (n - import_count)) ks vs K L F c G))
+        by true e = ask_stands u.memory (import_at n) ks vs K L F c G (on w) r
+        by false e = enter_stands (slice_get u.callees (n - import_count)) (bodies (n - import_count)) ks vs K L F c G (calling e w) r
 
-    act_stands : (i : Simple) (ks : List Kind) (vs : List Cell) (K : List Label) (L : List Cell) (F : List Frame) (c : Instructions) (G : Store) → Works ks c K → FramesWork F → Stands (act u i ks vs K L F c G)
-    act_stands simple.Nop ks vs K L F c G w r = guarded_stands _ _ (at_stands ks vs K L F c G w r)
-    act_stands (simple.LocalGet x) ks vs K L F c G w r = guarded_stands _ _ (at_stands ks (cell_at L x ∷ vs) K (set L x (left_by (cell_at L x))) F c G w r)
-    act_stands (simple.LocalSet x) ks vs K L F c G w r = set_local_stands x ks vs K L F c G w r
-    act_stands (simple.LocalTee x) ks vs K L F c G w r = tee_local_stands x ks vs K L F c G w r
-    act_stands (simple.GlobalGet x) ks vs K L F c G w r = at_stands ks (_ ∷ vs) K L F c _ w r
-    act_stands (simple.GlobalSet x) ks vs K L F c G w r = set_global_stands x ks vs K L F c G w r
-    act_stands (simple.Br d) ks vs K L F c G w r = guarded_stands _ _ (br_stands d ks c K L F G w r)
-    act_stands (simple.BrIf d) ks vs K L F c G w r = br_if_stands d ks vs K L F c G w r
+    act_stands : (i : Simple) (ks : List Kind) (vs : List Cell) (K : List Label) (L : List Cell) (F : List Frame) (c : Instructions) (G : Store) → Works ks (Then (Plain i) c) K → FramesWork F → Stands (act u i ks vs K L F c G)
+    act_stands simple.Nop ks vs K L F c G w r = guarded_stands _ _ (at_stands ks vs K L F c _ (on w) r)
+    act_stands (simple.LocalGet x) ks vs K L F c G w r = guarded_stands _ _ (at_stands ks (cell_at L x ∷ vs) K (set L x (left_by (cell_at L x))) F c G (on w) r)
+    act_stands (simple.LocalSet x) ks vs K L F c G w r = set_local_stands x ks vs K L F c G (on w) r
+    act_stands (simple.LocalTee x) ks vs K L F c G w r = tee_local_stands x ks vs K L F c G (on w) r
+    act_stands (simple.GlobalGet x) ks vs K L F c G w r = at_stands ks (_ ∷ vs) K L F c _ (on w) r
+    act_stands (simple.GlobalSet x) ks vs K L F c G w r = set_global_stands x ks vs K L F c G (on w) r
+    act_stands (simple.Br d) ks vs K L F c G w r = guarded_stands _ _ (br_stands d ks c K L F G (on w) r)
+    act_stands (simple.BrIf d) ks vs K L F c G w r = br_if_stands d ks vs K L F c G (on w) r
     act_stands (simple.Call n) ks vs K L F c G w r = call_number_stands n ks vs K L F c G w r
-    act_stands i ks vs K L F c G w r = operands_stand (operated i vs) ks K L F c G w r
+    act_stands i ks vs K L F c G w r = operands_stand (operated i vs) ks K L F c G (on w) r
 
     work_stands : (i : Instruction) (ks : List Kind) (vs : List Cell) (K : List Label) (L : List Cell) (F : List Frame) (c : Instructions) (G : Store) → Works ks (Then i c) K → FramesWork F → Stands (work u i ks vs K L F c G)
-    work_stands (Plain i) ks vs K L F c G w r = act_stands i ks vs K L F c G (on w) r
+    work_stands (Plain i) ks vs K L F c G w r = act_stands i ks vs K L F c G w r
     work_stands (Block None b) ks vs K L F c G w r =
         guarded_stands _ _ (at_stands ks [] (label vs None c ∷ K) L F b G (record { function = w.function; is = w.is; kinds = w.kinds; code = in_block _ b c w.code; labels = ((tt, further _ _ w.code), w.labels) }) r)
     work_stands (Loop None b) ks vs K L F c G w r =
@@ -231,12 +257,3 @@ begins_itself (Then i k) e = cc
 
 pub stands_at : (whole c : Instructions) → IsPart whole c → begins_statement c ≡ true → Contains (starts_in whole) c
 stands_at whole c part e = places_of_part whole c c part (begins_itself c e)
-
--- parts stay parts as calls are numbered anew
-pub part_renumbered : (bs : List Bool) (whole c : Instructions) → IsPart whole c → IsPart (renumbered bs whole) (renumbered bs c)
-part_renumbered bs whole c all = all
-part_renumbered bs whole c (further i k h) = further (renumbered_one bs i) (renumbered bs k) (part_renumbered bs whole (Then i k) h)
-part_renumbered bs whole c (in_block r a k h) = in_block r (renumbered bs a) (renumbered bs k) (part_renumbered bs whole (Then (Block r a) k) h)
-part_renumbered bs whole c (in_loop r a k h) = in_loop r (renumbered bs a) (renumbered bs k) (part_renumbered bs whole (Then (Loop r a) k) h)
-part_renumbered bs whole c (where_true r a b k h) = where_true r (renumbered bs a) (renumbered bs b) (renumbered bs k) (part_renumbered bs whole (Then (If r a b) k) h)
-part_renumbered bs whole c (where_false r a b k h) = where_false r (renumbered bs a) (renumbered bs b) (renumbered bs k) (part_renumbered bs whole (Then (If r a b) k) h)

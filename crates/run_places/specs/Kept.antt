@@ -21,6 +21,7 @@ use Rattle.host_step.specs.Starts.{state_at_start}
 use Rattle.mid_program.specs.Mid.{Kind, Boxed, Unboxed, Many, Program}
 use Rattle.mid_program.specs.Sorted.{kinds_of}
 use Rattle.awk_state.specs.declared.table.Primitive.TheVariants as row
+use Rattle.value_machine.specs.Emission.{function_number}
 use Rattle.value_machine.specs.Imports.{import_number}
 use Rattle.value_machine.specs.Machine.{Callee, answers_to}
 use Rattle.value_machine.specs.Modules.{all_callees, called_imports, imports_of, renumbered}
@@ -155,11 +156,14 @@ LocalsWait m (Boxed ∷ ks) (o ∷ os) = (o ≡ Some sort.Value) × LocalsWait m
 LocalsWait m (Unboxed ∷ ks) (o ∷ os) = (o ≡ None) × LocalsWait m ks os
 LocalsWait m (Many ∷ ks) (o ∷ os) = (o ≡ None) × LocalsWait m ks os
 
--- A caller that waits for a call in one of its expressions: the answer goes to the local of the operand after those that are pending.
+-- A caller that waits for a call of a function in one of its expressions: what is left comes after that call, and the answer goes to the local of the operand after those that are pending.
 pub record CallerWaits (p : Program) (os : List (Option Sort)) (r : CallerForm) : Type 0 where
   pub function : Callee
   pub is_function : Contains (all_callees p) function
-  pub at_place : IsPart (renumbered (called_imports p) function.body) r.frame.code
+  pub called : ℕ
+  pub place : Instructions
+  pub is_place : IsPart function.body (Then (Plain (Call (function_number called))) place)
+  pub at_place : r.frame.code ≡ renumbered (called_imports p) place
   pub operands : ℕ
   pub answer_to : answers_to r.frame.code ≡ suc (length function.kinds) + (operands + operands)
   pub each : length os ≡ length r.frame.locals

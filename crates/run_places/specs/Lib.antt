@@ -3,4 +3,6 @@ pub mod Existence
 pub mod Kept
 pub mod Statements
 pub mod Assigned
+pub mod Nodes
+pub mod Pending
 pub mod Rows

@@ -8,10 +8,16 @@ use Rattle.wasm_types.specs.declared.instr.Simple.TheVariants.{Call, I32Const, L
 use Rattle.wasm_store.specs.declared.word.Word.{Word}
 use Rattle.wasm_store.specs.declared.word.Word.TheVariants.{I32, I64}
 use Rattle.wasm_machine.specs.Frames.{LabelForm}
+use Rattle.awk_grammar.specs.Token.{Number as Numeral}
+use Rattle.awk_grammar.specs.Tree.{Tree, Leaf, Var, Call as CallOf, Bin, Join, NoTree, Then as AndTree}
+use Rattle.awk_grammar.specs.Stmt.{Print, NoArgs, Written, Put, Return, Stmt, Simple, Leave, NoStmt, And}
+use Rattle.awk_grammar.specs.Item.{Begin}
 use Rattle.mid_program.specs.Mid.{Kind, Boxed, Unboxed, Many}
+use Rattle.mid_program.specs.Names.{Resolved}
 use Rattle.value_machine.specs.Imports.{import_number}
 use Rattle.value_machine.specs.declared.import.Import.TheVariants.{Of}
 use Rattle.run_places.specs.Kept.{arrays, begins_statement, boxed, holders, is_keys, scalars, walks}
+use Rattle.run_places.specs.Nodes.{nodes_of}
 use Rattle.run_places.specs.Places.{size}
 
 -- a statement in a loop, after a choice
@@ -72,3 +78,24 @@ label again = record { under = []; gives = None; again = again; rest = Done }
 
 pub one_walk : walks numbers (label None ∷ (label (next_key 1) ∷ (label (Some Done) ∷ []))) ≡ 1
 one_walk = refl
+
+-- `return a b f(c)` has six expressions, each part counted, and `print > f(1)` two; the second stands in no function
+
+abbrev name : ℕ → Tree
+name x = Var (x ∷ [])
+
+abbrev joined : Tree
+joined = Bin Join (Bin Join (name 97) (name 98)) (CallOf (102 ∷ []) (AndTree (name 99) NoTree))
+
+abbrev written : Stmt
+written = Simple (Put Print NoArgs (Written (CallOf (102 ∷ []) (AndTree (Leaf (Numeral (49 ∷ []))) NoTree))))
+
+abbrev script : Resolved
+script = record {
+  globals = [];
+  functions = (record { name = 102 ∷ []; parameters = []; body = And (Leave Return (Some joined)) NoStmt }) ∷ [];
+  items = Begin (And written NoStmt) ∷ [];
+}
+
+pub expressions_counted : nodes_of script ≡ 6 ∷ (2 ∷ [])
+expressions_counted = refl

@@ -18,6 +18,7 @@ use Rattle.value_machine.specs.Modules.{module_of}
 use Rattle.value_refined.proofs.Links.{numbers_are, program}
 use Rattle.module_agreement.specs.Agreement.{Agreement}
 use Rattle.module_agreement.proofs.Exchanged.{agreement_as}
+use Rattle.passed_places.specs.Passed.{Passes, probed_run}
 use Rattle.run_places.specs.Existence.{HasRuns}
 use Rattle.run_places.proofs.Parameters.{few_parameters}
 use Rattle.run_places.proofs.Spelled.{spelled_small}
@@ -32,6 +33,7 @@ use Rattle.script_code.specs.declared.fault.CompileFault.{CompileFault}
 use Rattle.script_code.specs.declared.fault.CompileFault.TheVariants.{TooLarge, Token, Parse, Ere, Resolve, NoMemory}
 use Rattle.script_compiler.specs.Compiled.{IsCompiled, IsQuiet, KeepsNothing}
 use Rattle.script_compiler.specs.Refusals.{HasNoBytes, IsNotCompiled, IsPastLimits}
+use Rattle.script_compiler.proofs.Operands.{few_operands}
 use Rattle.script_compiler.proofs.Limits.{Few, FewParameters, ReadsItsItems, few, no_module, reads}
 
 -- tables are of the code that they were made of
@@ -50,8 +52,8 @@ texts_small p v m h = (spelled_small p v m h).texts
 pub compiled : (bytes v : List ℕ) (p : Program) (t : HasTokens bytes (λ tokens. IsCodeOf tokens p)) → IsModule v (module_of p) → Agreement (mid_run_in p) (module_of p) → ModuleOk (module_of p) →
     (main : ℕ) → main_of (module_of p) ≡ Some main → SegmentsFit (module_of p) →
     ((job : JobForm) (input : Source) (outside : Outside) → HasRuns (module_of p) job input outside) → KeepsNothing p (module_of p) →
-    IsQuiet p (module_of p) → ((script : Resolved) → UnboxesNumbers script (unboxed (program_of script))) → IsCompiled bytes v
-compiled bytes v p t m agreement typed main main_is segments runs keeps quiet unboxes =
+    IsQuiet p (module_of p) → Passes (probed_run p) (module_of p) → ((script : Resolved) → UnboxesNumbers script (unboxed (program_of script))) → IsCompiled bytes v
+compiled bytes v p t m agreement typed main main_is segments runs keeps quiet passes unboxes =
     let c = t.said in
     record {
       short = t.short;
@@ -69,7 +71,9 @@ compiled bytes v p t m agreement typed main main_is segments runs keeps quiet un
       code_is = c.code;
       whole_is = refl;
       keeps = keeps;
+      few_operands = few_operands (resolved c.script) p c.code;
       quiet = quiet;
+      passes = passes;
       unboxed_names = subst (λ (code : Program). UnboxesNumbers (resolved c.script) code) (sym c.code) (unboxes (resolved c.script));
     }
 

@@ -1,3 +1,4 @@
 mod Limits
+mod Operands
 mod Compiling
 mod OneModule

@@ -6,6 +6,7 @@ use Rattle.awk_grammar.specs.Item.{Item}
 use Rattle.world_core.specs.WorldState.{Outside, Source}
 use Rattle.mid_program.specs.Kinds.{resolved}
 use Rattle.mid_program.specs.Mid.{Program, Then}
+use Rattle.mid_program.specs.Names.{Resolved}
 use Rattle.mid_program.specs.ScriptRun.{resolved_run}
 use Rattle.mid_program.specs.Translation.{program_of}
 use Rattle.wasm_types.specs.ModuleGrammar.{IsModule}
@@ -20,9 +21,12 @@ use Rattle.host_step.specs.HostState.{HostState}
 use Rattle.host_step.specs.Imports.{host_finds}
 use Rattle.value_machine.specs.Modules.{module_of}
 use Rattle.module_agreement.specs.Agreement.{Agreement}
+use Rattle.passed_places.specs.Passed.{Passes, probed_run}
 use Rattle.run_places.specs.Assigned.{IsAssigned}
 use Rattle.run_places.specs.Existence.{HasRuns}
 use Rattle.run_places.specs.Kept.{AtReturn, AtStatement, Reached, begins_statement}
+use Rattle.run_places.specs.Nodes.{nodes_of}
+use Rattle.run_places.specs.Pending.{FewAlive}
 use Rattle.quiet_statements.specs.Laned.{AtNumeric, IsNext}
 use Rattle.quiet_statements.specs.Quiet.{Quietly}
 use Rattle.quiet_statements.specs.Sums.{AtFault}
@@ -52,8 +56,13 @@ IsQuiet code m = (job : JobForm) (input : Source) (outside : Outside) (a : Machi
     → (reached : Reached m job input outside a c s) → (here : AtStatement code c s) → (on : AtNumeric code c s here (IsAssigned reached))
     → Quietly a.program c (λ there. IsNext code c on.bases (Then on.next on.further) on.iterators on.out on.breaking on.continuing on.after there ⊎ AtFault code c there)
 
+-- Where a statement begins each caller that waits has at most as many operands pending as its function has expressions in the script, each part of one counted too; `main` as many as stand in no
+-- function. So at most so many values are alive.
+abbrev pub HasFewOperands : Resolved → Program → Type 0
+HasFewOperands script code = (c : Conf) (s : HostState) (here : AtStatement code c s) → FewAlive (nodes_of script) code c s here
+
 -- THE MAIN THEOREM, of a script and the bytes that it is compiled to: they are a module, which the rules type, which links with the host, which has runs, which agrees with the script in every
--- job and world, and which keeps nothing. It is the module of the script's code, so that a script has one module; in this code a scalar into which the script stores numbers alone is unboxed.
+-- job and world, and which keeps nothing, and whose runs pass the places of statements as the script's code executes them. It is the module of the script's code, so that a script has one module; in this code a scalar into which the script stores numbers alone is unboxed.
 pub record IsCompiled (bytes : List ℕ) (compiled : List ℕ) : Type 0 where
   pub short : length bytes ≤ 2 ^ 20
   pub tokens : List Spelled
@@ -70,5 +79,7 @@ pub record IsCompiled (bytes : List ℕ) (compiled : List ℕ) : Type 0 where
   pub code_is : code ≡ unboxed (program_of (resolved script))
   pub whole_is : whole ≡ module_of code
   pub keeps : KeepsNothing code whole
+  pub few_operands : HasFewOperands (resolved script) code
   pub quiet : IsQuiet code whole
+  pub passes : Passes (probed_run code) whole
   pub unboxed_names : UnboxesNumbers (resolved script) code
