@@ -12,8 +12,10 @@ pub mod Heights
 pub mod Hurrying
 pub mod Linking
 pub mod Nesting
+pub mod Operating
 pub mod Operators
 pub mod Placing
+pub mod Reaching
 pub mod Reduced
 pub mod Reducing
 pub mod Refusals
