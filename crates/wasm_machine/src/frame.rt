@@ -368,7 +368,7 @@ impl Frame {
             memory.old (frame_of self.new) globals.new memory.new) }
     {
         match self.code.fused(self.at) {
-            None | Some(Fused::Other) => Ok(given),
+            None | Some(Fused::Other | Fused::Get(_) | Fused::I32(_) | Fused::I64(_)) => Ok(given),
             Some(_) => self.several(globals, memory, given),
         }
     }
