@@ -15,7 +15,6 @@ pub mod Nesting
 pub mod Operating
 pub mod Operators
 pub mod Placing
-pub mod Reaching
 pub mod Reduced
 pub mod Reducing
 pub mod Refusals

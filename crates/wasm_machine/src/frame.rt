@@ -13,7 +13,7 @@ use crate::fused::Fused;
 use crate::levels::Levels;
 use std::alloc::{AllocError, Global};
 use std::rc::Rc;
-use wasm_store::{Globals, Memory, TrapKind, Word};
+use wasm_store::{Globals, TrapKind, Word};
 use wasm_types::{CvtOp, IBinOp, IRelOp, ITestOp, IUnOp, ValType};
 
 /// How a step within a frame went.
@@ -334,21 +334,15 @@ impl Frame {
 
     /// Several steps at once, as long as that is known how. One step at least is left.
     #[inline(never)]
-    fn several(
-        &mut self,
-        globals: &mut Globals,
-        memory: &mut Memory,
-        given: u64,
-    ) -> Result<u64, AllocError>
+    fn several(&mut self, globals: &mut Globals, given: u64) -> Result<u64, AllocError>
         ensures { IfOk result (λ left. Hurried given left (frame_of self.old) globals.old
-            memory.old (frame_of self.new) globals.new memory.new) }
+            (frame_of self.new) globals.new) }
     {
         let reached = hurry(
             &self.code,
             &mut self.locals,
             &mut self.levels,
             globals,
-            memory,
             self.at,
             given,
         )?;
@@ -358,18 +352,13 @@ impl Frame {
 
     /// The same, where more than a value begins here.
     #[inline(always)]
-    pub(crate) fn burst(
-        &mut self,
-        globals: &mut Globals,
-        memory: &mut Memory,
-        given: u64,
-    ) -> Result<u64, AllocError>
+    pub(crate) fn burst(&mut self, globals: &mut Globals, given: u64) -> Result<u64, AllocError>
         ensures { IfOk result (λ left. Hurried given left (frame_of self.old) globals.old
-            memory.old (frame_of self.new) globals.new memory.new) }
+            (frame_of self.new) globals.new) }
     {
         match self.code.fused(self.at) {
-            None | Some(Fused::Other | Fused::Get(_) | Fused::I32(_) | Fused::I64(_)) => Ok(given),
-            Some(_) => self.several(globals, memory, given),
+            None | Some(Fused::Other | Fused::Get(_)) => Ok(given),
+            Some(_) => self.several(globals, given),
         }
     }
 
