@@ -19,6 +19,5 @@ pub mod Reduced
 pub mod Reducing
 pub mod Refusals
 pub mod Safe
-pub mod Tops
 pub mod Types
 pub mod Whole
