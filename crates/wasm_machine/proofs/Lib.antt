@@ -12,6 +12,7 @@ pub mod Heights
 pub mod Hurrying
 pub mod Linking
 pub mod Nesting
+pub mod Operating
 pub mod Operators
 pub mod Placing
 pub mod Reduced

@@ -350,14 +350,23 @@ impl Frame {
         Ok(reached.left)
     }
 
-    /// The same, where more than a value begins here.
+    /// The same, where more begins here than one instruction of those that often stand alone.
     #[inline(always)]
     pub(crate) fn burst(&mut self, globals: &mut Globals, given: u64) -> Result<u64, AllocError>
         ensures { IfOk result (λ left. Hurried given left (frame_of self.old) globals.old
             (frame_of self.new) globals.new) }
     {
         match self.code.fused(self.at) {
-            None | Some(Fused::Other | Fused::Get(_)) => Ok(given),
+            None
+            | Some(
+                Fused::Other
+                | Fused::Get(_)
+                | Fused::GetGlobal(_)
+                | Fused::Tee(_)
+                | Fused::Drop
+                | Fused::Br(_)
+                | Fused::BrIf(_),
+            ) => Ok(given),
             Some(_) => self.several(globals, given),
         }
     }

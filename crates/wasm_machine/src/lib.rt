@@ -12,6 +12,7 @@ pub mod laws;
 mod levels;
 mod link;
 mod machine;
+mod operands;
 mod state;
 
 pub use host::{HostAnswer, HostCalls};
