@@ -1,0 +1,64 @@
+-- The list of imports: one more, the first that is missing, and what it says of a machine's numbers.
+use Rattle.std.proofs.Common.{◌≡◌, ◌∙◌, ◌<◌, ℕ, zero, suc, List, [], ◌∷◌, ◌++◌, length, take, get_or, map, Option, Some, None, Bool, true, false, refl, sym, ap, subst, if◌then◌else◌}
+use Rattle.std.specs.Prelude.{slice_get}
+use Rattle.wasm_types.specs.Syntax.{ImportForm, ModuleForm, Signature}
+use Rattle.wasm_types.specs.Typing.{typed_in}
+use Rattle.wasm_machine.specs.Links.{first_none, number_for, number_if}
+use Rattle.wasm_machine.specs.Machines.{Asks, Conf, Ends, Goes, ProgramForm, Turn, agree, turn}
+use Rattle.wasm_machine.proofs.Linking.{missing_at, number_is}
+use Rattle.host_step.specs.HostLaws.{host_found}
+use Rattle.host_step.specs.Imports.{host_finds, host_types, import_at, type_if_there}
+use Rattle.host_step.specs.declared.import.Import.{Import}
+use Rattle.module_imports.specs.Calls.{AreImportsOf, AsksAmong, IsAmong, IsImportOf, IsOneOf}
+use Rattle.module_imports.proofs.Turns.{AsksOneOf, asks_one_of}
+
+-- one more
+pub one_more : (found : List Import) (numbers : List (Option ℕ)) (i : Import) (number : Option ℕ) → AreImportsOf found numbers → IsImportOf (Some i) number
+    → AreImportsOf (found ++ i ∷ []) (numbers ++ number ∷ [])
+one_more [] [] i number h one = (one, tt)
+one_more [] (n ∷ numbers) i number h one = absurd h
+one_more (j ∷ found) [] i number h one = absurd h
+one_more (j ∷ found) (n ∷ numbers) i number h one = (h.0, one_more found numbers i number h.1 one)
+
+-- all numbers are there
+pub numbers_there : (found : List Import) (numbers : List (Option ℕ)) → AreImportsOf found numbers → (ns : List ℕ) × (numbers ≡ map Some ns)
+numbers_there [] [] h = ([], refl)
+numbers_there [] (n ∷ numbers) h = absurd h
+numbers_there (i ∷ found) [] h = absurd h
+numbers_there (i ∷ found) (n ∷ numbers) h =
+    let rest = numbers_there found numbers h.1 in
+    (h.0.0 ∷ rest.0, ap (λ (o : Option ℕ). o ∷ numbers) h.0.1 ∙ ap (λ (os : List (Option ℕ)). Some h.0.0 ∷ os) rest.1)
+
+pub first_missing : {A : Type 0} (g : A → Option ℕ) (xs : List A) (i : ℕ) (found : List Import) (x : A) → i < length xs → x ≡ get_or xs i x
+    → AreImportsOf found (map g (take i xs)) → g x ≡ None → first_none (map g xs) ≡ Some i
+first_missing g xs i found x below is h none = let ns = numbers_there found (map g (take i xs)) h in missing_at g xs i ns.0 x below is ns.1 none
+
+-- a number that is found has an import
+there : (o : Option Import) (s : Signature) → type_if_there o ≡ Some s → (i : Import) × (o ≡ Some i)
+there None s e = cc
+there (Some i) s e = (i, refl)
+
+-- the import of a number that is found, where its type is the one that is wanted
+pub found_import : (m : ModuleForm) (x : ImportForm) (r : ℕ × Signature) (b : Bool) (o : Option Import) → Some r ≡ host_finds x.from x.name
+    → b ≡ agree (Some r.1) (typed_in m x.ty) → o ≡ (if b then import_at r.0 else None) → IsImportOf o (number_for host_finds m x)
+found_import m x r true o found same is =
+    let i = there (import_at r.0) r.1 (host_found x.from x.name r (sym found)) in
+    subst (λ (p : Option Import). IsImportOf p (number_for host_finds m x)) (sym (is ∙ i.1)) (r.0, number_is host_finds m x r true found same, i.1)
+found_import m x r false o found same is =
+    subst (λ (p : Option Import). IsImportOf p (number_for host_finds m x)) (sym is) (number_is host_finds m x r false found same)
+
+-- A number of a machine's program is that of an import of the list.
+pub among : (found : List Import) (ns : List ℕ) (n at : ℕ) → AreImportsOf found (map Some ns) → slice_get ns at ≡ Some n → IsAmong found n
+among [] [] n at h e = cc
+among [] (k ∷ ns) n at h e = absurd h
+among (i ∷ found) [] n at h e = cc
+among (i ∷ found) (k ∷ ns) n zero h e = (zero, i, refl, number_of h.0.0 h.0.1 h.0.2)
+  where
+    number_of : (j : ℕ) → Some k ≡ Some j → import_at j ≡ Some i → import_at n ≡ Some i
+    number_of j s t = let same : n ≡ j = cc in subst (λ (z : ℕ). import_at z ≡ Some i) (sym same) t
+among (i ∷ found) (k ∷ ns) n (suc at) h e = let rest = among found ns n at h.1 e in (suc rest.0, rest.1, rest.2, rest.3)
+
+pub turn_among : (found : List Import) (ns : List ℕ) (t : Turn) → AreImportsOf found (map Some ns) → AsksOneOf ns t → AsksAmong found t
+turn_among found ns (Goes c) h a = tt
+turn_among found ns (Ends e) h a = tt
+turn_among found ns (Asks n words c) h a = among found ns n a.0 h a.1
