@@ -55,7 +55,7 @@ fn sets_elements(import: Import) -> bool
 }
 
 /// Whether a call writes.
-fn writes(import: Import) -> bool
+fn can_write(import: Import) -> bool
     ensures { result ≡ writes import }
 {
     matches!(import, Import::Over(Listing::Print | Listing::Printf))
@@ -82,7 +82,7 @@ fn any_sets_elements(imports: &[Import]) -> bool
 fn any_writes(imports: &[Import]) -> bool
     ensures { result ≡ list_any writes imports.now }
 {
-    imports.iter().any(|import| writes(*import))
+    imports.iter().any(|import| can_write(*import))
 }
 
 /// What a module with these imports may read. Operands are named by the command line alone where no call sets an element of an array: `set_elem` and
