@@ -1,11 +1,13 @@
 -- The list of imports: one more, the first that is missing, and what it says of a machine's numbers.
-use Rattle.std.proofs.Common.{◌≡◌, ◌∙◌, ◌<◌, ℕ, zero, suc, List, [], ◌∷◌, ◌++◌, length, take, get_or, map, Option, Some, None, Bool, true, false, refl, sym, ap, subst, if◌then◌else◌}
-use Rattle.std.specs.Prelude.{slice_get}
+use Rattle.std.proofs.Common.{◌≡◌, ◌∙◌, ◌+◌, ◌<◌, ◌≤◌, ℕ, zero, suc, List, [], ◌∷◌, ◌++◌, length, take, get_or, map, Option, Some, None, Bool, true, false, refl, sym, ap, subst, if◌then◌else◌}
+use Rattle.std.specs.Prelude.{slice_get, ◌↔◌, IsTrue}
+use Rattle.std.proofs.lemmas.List.{map-append, take_all, take_more}
 use Rattle.wasm_types.specs.Syntax.{ImportForm, ModuleForm, Signature}
 use Rattle.wasm_types.specs.Typing.{typed_in}
 use Rattle.wasm_machine.specs.Links.{first_none, number_for, number_if}
 use Rattle.wasm_machine.specs.Machines.{Asks, Conf, Ends, Goes, ProgramForm, Turn, agree, turn}
 use Rattle.wasm_machine.proofs.Linking.{missing_at, number_is}
+use Rattle.wasm_machine.proofs.Types.{agree_is}
 use Rattle.host_step.specs.HostLaws.{host_found}
 use Rattle.host_step.specs.Imports.{host_finds, host_types, import_at, type_if_there}
 use Rattle.host_step.specs.declared.import.Import.{Import}
@@ -39,13 +41,11 @@ there None s e = cc
 there (Some i) s e = (i, refl)
 
 -- the import of a number that is found, where its type is the one that is wanted
-pub found_import : (m : ModuleForm) (x : ImportForm) (r : ℕ × Signature) (b : Bool) (o : Option Import) → Some r ≡ host_finds x.from x.name
-    → b ≡ agree (Some r.1) (typed_in m x.ty) → o ≡ (if b then import_at r.0 else None) → IsImportOf o (number_for host_finds m x)
-found_import m x r true o found same is =
+pub found_import : (m : ModuleForm) (x : ImportForm) (r : ℕ × Signature) (o : Option Import) → Some r ≡ host_finds x.from x.name
+    → true ≡ agree (Some r.1) (typed_in m x.ty) → o ≡ import_at r.0 → IsImportOf o (number_for host_finds m x)
+found_import m x r o found same is =
     let i = there (import_at r.0) r.1 (host_found x.from x.name r (sym found)) in
     subst (λ (p : Option Import). IsImportOf p (number_for host_finds m x)) (sym (is ∙ i.1)) (r.0, number_is host_finds m x r true found same, i.1)
-found_import m x r false o found same is =
-    subst (λ (p : Option Import). IsImportOf p (number_for host_finds m x)) (sym is) (number_is host_finds m x r false found same)
 
 -- A number of a machine's program is that of an import of the list.
 pub among : (found : List Import) (ns : List ℕ) (n at : ℕ) → AreImportsOf found (map Some ns) → slice_get ns at ≡ Some n → IsAmong found n
@@ -62,3 +62,29 @@ pub turn_among : (found : List Import) (ns : List ℕ) (t : Turn) → AreImports
 turn_among found ns (Goes c) h a = tt
 turn_among found ns (Ends e) h a = tt
 turn_among found ns (Asks n words c) h a = among found ns n a.0 h a.1
+
+-- The loop that makes the list.
+
+pub one_more_at : {A : Type 0} (g : A → Option ℕ) (xs : List A) (i : ℕ) (found more : List Import) (x : A) (it : Import) → i < length xs → x ≡ get_or xs i x
+    → AreImportsOf found (map g (take i xs)) → IsImportOf (Some it) (g x) → more ≡ found ++ it ∷ [] → AreImportsOf more (map g (take (i + 1) xs))
+one_more_at {A} g xs i found more x it below is h one pushed =
+    subst (λ (l : List Import). AreImportsOf l (map g (take (i + 1) xs))) (sym pushed)
+    (subst (λ (os : List (Option ℕ)). AreImportsOf (found ++ it ∷ []) os)
+    (sym (ap (map g) (take_more xs i x below is ∙ ap (λ (y : A). take i xs ++ y ∷ []) (sym is)) ∙ map-append g (take i xs) (x ∷ [])))
+    (one_more found (map g (take i xs)) it (g x) h one))
+
+pub all_taken : {A : Type 0} (g : A → Option ℕ) (xs : List A) (i : ℕ) (found : List Import) → AreImportsOf found (map g (take i xs)) → length xs ≤ i
+    → AreImportsOf found (map g xs)
+all_taken {A} g xs i found h past = subst (λ (l : List A). AreImportsOf found (map g l)) (take_all i xs past) h
+
+-- Types.
+
+agrees : (o : Option Signature) (s t : Signature) (b : Bool) → o ≡ Some t → (IsTrue b ↔ s ≡ t) → b ≡ agree (Some s) o
+agrees o s t b e h = agree_is (Some s) o s t b refl e h
+
+pub same_type : (m : ModuleForm) (n : ℕ) (s t : Signature) (b : Bool) → typed_in m n ≡ Some t → (IsTrue b ↔ s ≡ t) → b ≡ true → true ≡ agree (Some s) (typed_in m n)
+same_type m n s t b e h is = sym is ∙ agrees (typed_in m n) s t b e h
+
+pub other_type : (m : ModuleForm) (x : ImportForm) (r : ℕ × Signature) (t : Signature) (b : Bool) → Some r ≡ host_finds x.from x.name → typed_in m x.ty ≡ Some t
+    → (IsTrue b ↔ r.1 ≡ t) → b ≡ false → number_for host_finds m x ≡ None
+other_type m x r t b found e h is = number_is host_finds m x r false found (sym is ∙ agrees (typed_in m x.ty) r.1 t b e h)

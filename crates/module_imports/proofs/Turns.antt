@@ -1,23 +1,25 @@
 -- A step of the machine asks for an import by a number of its program's, or for none.
-use Rattle.std.proofs.Common.{◌≡◌, ℕ, ◌+◌, ◌-◌, List, [], ◌∷◌, ◌++◌, length, take, drop, reverse, Option, Some, None, Result, Ok, Err, Bool, true, false, refl, if◌then◌else◌}
-use Rattle.std.specs.Prelude.{slice_get, slice_set, nat_lt, ⊤}
-use Rattle.wasm_types.specs.Syntax.{Signature, ImportForm, FuncForm}
+use Rattle.std.proofs.Common.{◌≡◌, ℕ, ◌+◌, ◌-◌, List, [], ◌∷◌, ◌++◌, length, take, drop, reverse, get_or, Option, Some, None, Result, Ok, Err, Bool, true, false, refl, if◌then◌else◌}
+use Rattle.std.specs.Prelude.{slice_get, slice_set, nat_eq, nat_lt, ⊤}
+use Rattle.wasm_types.specs.Syntax.{Block, BrTable, Done, FuncForm, If, ImportForm, Instruction, Instructions, Loop, Plain, Signature, Then}
 use Rattle.wasm_types.specs.Typing.{typed_in, callee_in}
 use Rattle.wasm_types.specs.declared.types.ValType.{ValType}
+use Rattle.wasm_types.specs.declared.instr.Simple.{Simple}
+use Rattle.wasm_types.specs.declared.instr.Simple.TheVariants as op
 use Rattle.wasm_types.specs.declared.instr.LoadOp.{LoadOp}
 use Rattle.wasm_types.specs.declared.instr.StoreOp.{StoreOp}
 use Rattle.wasm_store.specs.Memories.{MemoryForm, grown, load, store}
 use Rattle.wasm_store.specs.Tables.{element}
+use Rattle.wasm_store.specs.Words.{binary_of, compare_of, converted, test_of, unary_of}
 use Rattle.wasm_store.specs.declared.trap.TrapKind.{TrapKind}
 use Rattle.wasm_store.specs.declared.trap.TrapKind.TheVariants as trap
 use Rattle.wasm_store.specs.declared.word.Word.{Word}
 use Rattle.wasm_store.specs.declared.word.Word.TheVariants.{I32, I64}
 use Rattle.wasm_machine.specs.Callers.{CallerForm}
-use Rattle.wasm_machine.specs.Frames.{Local, local_step}
+use Rattle.wasm_machine.specs.Stacks.{taken}
+use Rattle.wasm_machine.specs.Frames.{FrameForm, LabelForm, Local, act, at_end, branch, branch_at, branch_if, branch_table, branch_to, called_through, chosen, dropped, jump, local_set, local_step, local_tee, next_at, of_one, of_two, of_two_or, pushed, pushed_or, selected, settled, simple, with_values}
 use Rattle.wasm_machine.specs.Frames as form
-use Rattle.wasm_machine.specs.Machines.{Asks, Conf, Ends, Goes, ProgramForm, Turn, agree, asked, asked_if, call_at, called, called_by, entered_func, entered_if, global_set, memory_grow, memory_load, memory_store, returned, returned_with, to_caller, turn, turn_by, with_frame, with_grown, with_loaded, with_operands, with_stored, with_value, worked}
-use Rattle.wasm_machine.specs.declared.access.Access.{Access}
-use Rattle.wasm_machine.specs.declared.access.Access.TheVariants as access
+use Rattle.wasm_machine.specs.Machines.{Asks, Conf, Ends, Goes, ProgramForm, Turn, agree, asked, asked_if, call_at, called, called_by, entered_func, entered_if, global_set, memory_grow, memory_load, memory_store, returned, returned_with, to_caller, turn, turn_by, with_frame, with_grown, with_loaded, with_operands, with_stored, with_value}
 use Rattle.wasm_machine.specs.declared.state.End.TheVariants as ends
 use Rattle.module_imports.specs.Calls.{IsOneOf}
 
@@ -68,14 +70,6 @@ module _ (numbers : List ℕ) where
   grow_so c (I32 n ∷ vs) = grown_so c vs (grown c.memory n)
   grow_so c (I64 n ∷ vs) = tt
 
-  worked_so : (op : Access) (c : Conf) → AsksOneOf numbers (worked op c)
-  worked_so (access.GlobalGet x) c = value_so c c.frame.values (slice_get c.globals x)
-  worked_so (access.GlobalSet x) c = set_so c x c.frame.values
-  worked_so (access.Load op offset) c = load_so c op offset c.frame.values
-  worked_so (access.Store op offset) c = store_so c op offset c.frame.values
-  worked_so access.MemorySize c = tt
-  worked_so access.MemoryGrow c = grow_so c c.frame.values
-
   to_caller_so : (c : Conf) (result : List Word) (w : Option Word) (fs : List CallerForm) → AsksOneOf numbers (to_caller c result w fs)
   to_caller_so c result w [] = tt
   to_caller_so c result w (f ∷ fs) = tt
@@ -116,14 +110,140 @@ module _ (m : ProgramForm) where
   called_by_so n (Ok f) c =
       either m.numbers (agree (typed_in m.whole n) (callee_in m.whole f)) (called m f c) (Ends (ends.Trapped trap.WrongType)) (called_so f c) tt
 
-  turn_so : (c : Conf) (l : Local) → AsksOneOf m.numbers (turn_by m c l)
-  turn_so c (form.Goes f) = tt
-  turn_so c (form.Calls n f) = called_so n (with_frame c f)
-  turn_so c (form.CallsThrough n at f) = called_by_so n (element (slice_get c.table at)) (with_frame c f)
-  turn_so c (form.Works op f) = worked_so m.numbers op (with_frame c f)
-  turn_so c (form.Leaves f) = returned_so m.numbers (with_frame c f) c.result f.values
-  turn_so c (form.Traps k) = tt
-  turn_so c form.Stuck = tt
+-- What a step within a frame leads to, instruction by instruction: those that work on the store have no names outside of the machine's crate, and compute.
+module _ (m : ProgramForm) (c : Conf) where
+  abbrev Fine : Local → Type 0
+  Fine l = AsksOneOf m.numbers (turn_by m c l)
 
-  pub asks_one_of : (c : Conf) → AsksOneOf m.numbers (turn m c)
-  asks_one_of c = turn_so c (local_step c.frame)
+  choose : (b : Bool) (s t : Local) → Fine s → Fine t → Fine (if b then s else t)
+  choose true s t p q = p
+  choose false s t p q = q
+
+  leaves_so : (f : FrameForm) → Fine (form.Leaves f)
+  leaves_so f = returned_so m.numbers (with_frame c f) c.result f.values
+
+  pushed_so : (f : FrameForm) (vs : List Word) (w : Option Word) → Fine (pushed f vs w)
+  pushed_so f vs None = tt
+  pushed_so f vs (Some w) = tt
+
+  pushed_or_so : (f : FrameForm) (vs : List Word) (w : Option (Result Word TrapKind)) → Fine (pushed_or f vs w)
+  pushed_or_so f vs None = tt
+  pushed_or_so f vs (Some (Err k)) = tt
+  pushed_or_so f vs (Some (Ok w)) = tt
+
+  one_so : (f : FrameForm) (g : Word → Option Word) (vs : List Word) → Fine (of_one f g vs)
+  one_so f g [] = tt
+  one_so f g (a ∷ vs) = pushed_so f vs (g a)
+
+  two_so : (f : FrameForm) (g : Word → Word → Option Word) (vs : List Word) → Fine (of_two f g vs)
+  two_so f g [] = tt
+  two_so f g (b ∷ []) = tt
+  two_so f g (b ∷ (a ∷ vs)) = pushed_so f vs (g a b)
+
+  two_or_so : (f : FrameForm) (g : Word → Word → Option (Result Word TrapKind)) (vs : List Word) → Fine (of_two_or f g vs)
+  two_or_so f g [] = tt
+  two_or_so f g (b ∷ []) = tt
+  two_or_so f g (b ∷ (a ∷ vs)) = pushed_or_so f vs (g a b)
+
+  set_local_so : (f : FrameForm) (x : ℕ) (vs : List Word) → Fine (local_set f x vs)
+  set_local_so f x [] = tt
+  set_local_so f x (w ∷ vs) =
+      choose (nat_lt x (length f.locals)) (form.Goes (record f { values = vs; locals = slice_set f.locals x w })) form.Stuck tt tt
+
+  tee_so : (f : FrameForm) (x : ℕ) (vs : List Word) → Fine (local_tee f x vs)
+  tee_so f x [] = tt
+  tee_so f x (w ∷ vs) = choose (nat_lt x (length f.locals)) (form.Goes (record f { locals = slice_set f.locals x w })) form.Stuck tt tt
+
+  dropped_so : (f : FrameForm) (vs : List Word) → Fine (dropped f vs)
+  dropped_so f [] = tt
+  dropped_so f (w ∷ vs) = tt
+
+  selected_so : (f : FrameForm) (vs : List Word) → Fine (selected f vs)
+  selected_so f [] = tt
+  selected_so f (I64 n ∷ vs) = tt
+  selected_so f (I32 n ∷ []) = tt
+  selected_so f (I32 n ∷ (b ∷ [])) = tt
+  selected_so f (I32 n ∷ (b ∷ (a ∷ vs))) = tt
+
+  branch_to_so : (f : FrameForm) (l : LabelForm) (outer : List LabelForm) (vs : Option (List Word)) → Fine (branch_to f l outer vs)
+  branch_to_so f l outer None = tt
+  branch_to_so f l outer (Some vs) = by l.again
+    where
+      by : (again : Option Instructions) → Fine (elim again [
+        | Some body ↦ form.Goes (record f { values = vs; labels = l ∷ outer; code = body })
+        | None ↦ form.Goes (record f { values = vs ++ l.under; labels = outer; code = l.rest })
+      ])
+      by None = tt
+      by (Some body) = tt
+
+  branch_at_so : (f : FrameForm) (ls : List LabelForm) → Fine (branch_at f ls)
+  branch_at_so f [] = tt
+  branch_at_so f (l ∷ outer) = branch_to_so f l outer (taken l.gives f.values)
+
+  jump_so : (f : FrameForm) (n : ℕ) → Fine (jump f n)
+  jump_so f n = choose (nat_eq n (length f.labels)) (form.Leaves f) (branch f n) (leaves_so f) (branch_at_so f (drop n f.labels))
+
+  branch_if_so : (f : FrameForm) (n : ℕ) (vs : List Word) → Fine (branch_if f n vs)
+  branch_if_so f n [] = tt
+  branch_if_so f n (I64 k ∷ vs) = tt
+  branch_if_so f n (I32 k ∷ vs) = choose (nat_eq k 0) (form.Goes (with_values f vs)) (jump (with_values f vs) n) tt (jump_so (with_values f vs) n)
+
+  branch_table_so : (f : FrameForm) (ns : List ℕ) (other : ℕ) (vs : List Word) → Fine (branch_table f ns other vs)
+  branch_table_so f ns other [] = tt
+  branch_table_so f ns other (I64 k ∷ vs) = tt
+  branch_table_so f ns other (I32 k ∷ vs) = jump_so (with_values f vs) (get_or ns k other)
+
+  chosen_so : (f : FrameForm) (gives : Option ValType) (p q : Instructions) (vs : List Word) → Fine (chosen f gives p q vs)
+  chosen_so f gives p q [] = tt
+  chosen_so f gives p q (I64 k ∷ vs) = tt
+  chosen_so f gives p q (I32 k ∷ vs) = tt
+
+  through_so : (f : FrameForm) (n : ℕ) (vs : List Word) → Fine (called_through f n vs)
+  through_so f n [] = tt
+  through_so f n (I64 k ∷ vs) = tt
+  through_so f n (I32 at ∷ vs) = called_by_so m n (element (slice_get c.table at)) (with_frame c (with_values f vs))
+
+  simple_so : (f : FrameForm) (p : Simple) → Fine (simple f p)
+  simple_so f op.Unreachable = tt
+  simple_so f op.Nop = tt
+  simple_so f (op.Br n) = jump_so f n
+  simple_so f (op.BrIf n) = branch_if_so f n f.values
+  simple_so f op.Return = leaves_so f
+  simple_so f (op.Call n) = called_so m n (with_frame c f)
+  simple_so f (op.CallIndirect n) = through_so f n f.values
+  simple_so f op.Drop = dropped_so f f.values
+  simple_so f op.Select = selected_so f f.values
+  simple_so f (op.LocalGet x) = pushed_so f f.values (slice_get f.locals x)
+  simple_so f (op.LocalSet x) = set_local_so f x f.values
+  simple_so f (op.LocalTee x) = tee_so f x f.values
+  simple_so f (op.GlobalGet x) = value_so m.numbers (with_frame c f) f.values (slice_get c.globals x)
+  simple_so f (op.GlobalSet x) = set_so m.numbers (with_frame c f) x f.values
+  simple_so f (op.Load g at) = load_so m.numbers (with_frame c f) g at.offset f.values
+  simple_so f (op.Store g at) = store_so m.numbers (with_frame c f) g at.offset f.values
+  simple_so f op.MemorySize = tt
+  simple_so f op.MemoryGrow = grow_so m.numbers (with_frame c f) f.values
+  simple_so f (op.I32Const n) = tt
+  simple_so f (op.I64Const n) = tt
+  simple_so f (op.Test k g) = one_so f (test_of k g) f.values
+  simple_so f (op.Compare k g) = two_so f (compare_of k g) f.values
+  simple_so f (op.Unary k g) = one_so f (unary_of k g) f.values
+  simple_so f (op.Binary k g) = two_or_so f (binary_of k g) f.values
+  simple_so f (op.Convert g) = one_so f (converted g) f.values
+
+  act_so : (f : FrameForm) (i : Instruction) → Fine (act f i)
+  act_so f (Plain p) = simple_so f p
+  act_so f (BrTable ns n) = branch_table_so f ns n f.values
+  act_so f (Block gives b) = tt
+  act_so f (Loop gives b) = tt
+  act_so f (If gives b d) = chosen_so f gives b d f.values
+
+  end_so : (f : FrameForm) (ls : List LabelForm) → Fine (at_end f ls)
+  end_so f [] = leaves_so f
+  end_so f (l ∷ outer) = tt
+
+  next_so : (f : FrameForm) (is : Instructions) → Fine (next_at f is)
+  next_so f Done = end_so f f.labels
+  next_so f (Then i is) = act_so (record f { code = is }) i
+
+pub asks_one_of : (m : ProgramForm) (c : Conf) → AsksOneOf m.numbers (turn m c)
+asks_one_of m c = let g = settled c.frame in next_so m c g g.code

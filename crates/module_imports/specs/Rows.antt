@@ -8,7 +8,7 @@ use Rattle.module_imports.specs.Powers.{reads_of, writes_of}
 use Rattle.module_imports.specs.declared.powers.Reads.TheVariants as reading
 use Rattle.module_imports.specs.declared.powers.Writes.TheVariants as writing
 
-sums : List Import
+abbrev sums : List Import
 sums = Of row.Num ∷ Of row.ToNum ∷ Of row.Pow ∷ Of row.Field ∷ Of row.NextMain ∷ Arg ∷ Over Print ∷ []
 
 pub sums_operands : reads_of sums ≡ reading.Operands
