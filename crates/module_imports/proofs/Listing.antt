@@ -1,18 +1,18 @@
 -- The list of imports: one more, the first that is missing, and what it says of a machine's numbers.
-use Rattle.std.proofs.Common.{◌≡◌, ◌∙◌, ◌+◌, ◌<◌, ◌≤◌, ℕ, zero, suc, List, [], ◌∷◌, ◌++◌, length, take, get_or, map, Option, Some, None, Bool, true, false, refl, sym, ap, subst, if◌then◌else◌}
+use Rattle.std.proofs.Common.{◌≡◌, ◌∙◌, ◌+◌, ◌<◌, ◌≤◌, ℕ, zero, suc, List, [], ◌∷◌, ◌++◌, length, take, get_or, map, Option, Some, None, Bool, true, false, refl, sym, ap, subst}
 use Rattle.std.specs.Prelude.{slice_get, ◌↔◌, IsTrue}
 use Rattle.std.proofs.lemmas.List.{map-append, take_all, take_more}
 use Rattle.wasm_types.specs.Syntax.{ImportForm, ModuleForm, Signature}
 use Rattle.wasm_types.specs.Typing.{typed_in}
-use Rattle.wasm_machine.specs.Links.{first_none, number_for, number_if}
-use Rattle.wasm_machine.specs.Machines.{Asks, Conf, Ends, Goes, ProgramForm, Turn, agree, turn}
+use Rattle.wasm_machine.specs.Links.{first_none, number_for}
+use Rattle.wasm_machine.specs.Machines.{Asks, Ends, Goes, Turn, agree}
 use Rattle.wasm_machine.proofs.Linking.{missing_at, number_is}
 use Rattle.wasm_machine.proofs.Types.{agree_is}
 use Rattle.host_step.specs.HostLaws.{host_found}
-use Rattle.host_step.specs.Imports.{host_finds, host_types, import_at, type_if_there}
+use Rattle.host_step.specs.Imports.{host_finds, import_at, type_if_there}
 use Rattle.host_step.specs.declared.import.Import.{Import}
-use Rattle.module_imports.specs.Calls.{AreImportsOf, AsksAmong, IsAmong, IsImportOf, IsOneOf}
-use Rattle.module_imports.proofs.Turns.{AsksOneOf, asks_one_of}
+use Rattle.module_imports.specs.Calls.{AreImportsOf, AsksAmong, IsAmong, IsImportOf}
+use Rattle.module_imports.proofs.Turns.{AsksOneOf}
 
 -- one more
 pub one_more : (found : List Import) (numbers : List (Option ℕ)) (i : Import) (number : Option ℕ) → AreImportsOf found numbers → IsImportOf (Some i) number
@@ -70,7 +70,7 @@ pub one_more_at : {A : Type 0} (g : A → Option ℕ) (xs : List A) (i : ℕ) (f
 one_more_at {A} g xs i found more x it below is h one pushed =
     subst (λ (l : List Import). AreImportsOf l (map g (take (i + 1) xs))) (sym pushed)
     (subst (λ (os : List (Option ℕ)). AreImportsOf (found ++ it ∷ []) os)
-    (sym (ap (map g) (take_more xs i x below is ∙ ap (λ (y : A). take i xs ++ y ∷ []) (sym is)) ∙ map-append g (take i xs) (x ∷ [])))
+    (sym (ap (map g) (take_more xs i x below ∙ ap (λ (y : A). take i xs ++ y ∷ []) (sym is)) ∙ map-append g (take i xs) (x ∷ [])))
     (one_more found (map g (take i xs)) it (g x) h one))
 
 pub all_taken : {A : Type 0} (g : A → Option ℕ) (xs : List A) (i : ℕ) (found : List Import) → AreImportsOf found (map g (take i xs)) → length xs ≤ i

@@ -1,14 +1,12 @@
 -- No call but `print` and `printf` puts anything out.
-use Rattle.std.proofs.Common.{◌≡◌, ◌∙◌, ℕ, Bool, true, false, List, [], ◌∷◌, ◌++◌, Option, Some, None, Result, Ok, Err, refl, cond}
+use Rattle.std.proofs.Common.{◌≡◌, ◌∙◌, ℕ, Bool, true, false, List, [], Result, Ok, Err, refl, cond}
 use Rattle.awk_values.specs.declared.fault.Fault.{Fault}
-use Rattle.awk_values.specs.declared.value.Value.{Value}
-use Rattle.awk_state.specs.InTurn.{in_turn, values_taken, listed_in_turn}
-use Rattle.awk_state.specs.SharedState.{Does, Inner, Shared, settles}
+use Rattle.awk_state.specs.InTurn.{in_turn}
+use Rattle.awk_state.specs.SharedState.{Inner, Shared, settles}
 use Rattle.awk_state.specs.Sorts.{InAnswer, Row}
 use Rattle.awk_state.specs.Table.{arguments_of, listed_meaning, meaning}
 use Rattle.awk_state.specs.Table as table
 use Rattle.awk_state.specs.declared.sorts.Answer.{Answer}
-use Rattle.awk_state.specs.declared.table.Listed.TheVariants as listed
 use Rattle.awk_state.specs.declared.table.Primitive.{Primitive}
 use Rattle.awk_state.specs.declared.table.Primitive.TheVariants as row
 use Rattle.wasm_store.specs.declared.trap.TrapKind.{TrapKind}
@@ -17,8 +15,8 @@ use Rattle.wasm_machine.specs.declared.host.HostAnswer.{HostAnswer}
 use Rattle.world_core.specs.WorldState.{Action}
 use Rattle.host_step.specs.Arguments.{and_then, decode}
 use Rattle.host_step.specs.HostState.{HostState, Names}
-use Rattle.host_step.specs.HostStep.{Acts, Comes, Goes, Refuses, Settles, StepBy, StepIf, StepOf, Traps, acts, carried, come, comes, is_freed, last_of, listed_acts, only_answers, primitive_acts, refuses, where_fit}
-use Rattle.host_step.specs.Imports.{import_answer, import_arguments, import_at, spends}
+use Rattle.host_step.specs.HostStep.{Acts, Comes, Goes, Refuses, Settles, StepBy, StepOf, Traps, acts, carried, come, comes, is_freed, only_answers, primitive_acts, refuses, where_fit}
+use Rattle.host_step.specs.Imports.{import_answer, import_arguments, spends}
 use Rattle.host_step.specs.declared.import.Import.{Import}
 use Rattle.host_step.specs.declared.import.Import.TheVariants.{Arg, Drop, FreeArray, IterFree, Of, Over}
 use Rattle.host_step.specs.declared.import.Listing.TheVariants.{Print, Printf, Sprintf}

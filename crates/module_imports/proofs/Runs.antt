@@ -1,5 +1,5 @@
 -- A run is one over the host without the calls that its module does not import; and where no call that it imports puts anything out, neither does the run.
-use Rattle.std.proofs.Common.{◌≡◌, ◌∙◌, ℕ, zero, suc, Bool, true, false, List, [], ◌++◌, Option, Some, None, ap₂}
+use Rattle.std.proofs.Common.{◌≡◌, ◌∙◌, ℕ, zero, suc, Bool, true, false, List, [], ◌++◌, ap₂}
 use Rattle.wasm_store.specs.Memories.{MemoryForm}
 use Rattle.wasm_store.specs.declared.word.Word.{Word}
 use Rattle.wasm_machine.specs.Hosts.{Meaning}

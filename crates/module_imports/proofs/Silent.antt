@@ -1,5 +1,5 @@
 -- What the list of a module's imports says of its machines and of their runs.
-use Rattle.std.proofs.Common.{◌≡◌, ◌∙◌, ℕ, zero, suc, List, [], ◌∷◌, map, Option, Some, None, Result, Ok, Err, IfOk, IfErr, Bool, true, false, refl, sym, ap, subst, ◌||◌}
+use Rattle.std.proofs.Common.{◌≡◌, ◌∙◌, ℕ, zero, suc, List, [], ◌∷◌, map, Option, Some, Result, Ok, Err, IfOk, IfErr, Bool, true, false, refl, sym, ap, subst, ◌||◌}
 use Rattle.std.specs.Prelude.{slice_get, if◌then◌else◌}
 use Rattle.std.specs.List.{list_any}
 use Rattle.std.specs.declared.vec.Vec.{Vec}
@@ -11,7 +11,6 @@ use Rattle.wasm_types.specs.Syntax.{ModuleForm}
 use Rattle.wasm_types.specs.View.{view_import, view_module}
 use Rattle.wasm_types.specs.ModuleGrammar.{IsModule}
 use Rattle.module_decoder.proofs.CompleteModule.{one_module}
-use Rattle.wasm_store.specs.Memories.{MemoryForm}
 use Rattle.wasm_store.specs.declared.word.Word.{Word}
 use Rattle.wasm_machine.specs.Links.{IsNew, first_none, number_for, numbers_for}
 use Rattle.wasm_machine.specs.Machines.{turn}
@@ -20,13 +19,12 @@ use Rattle.wasm_machine.specs.declared.host.HostAnswer.{HostAnswer}
 use Rattle.world_core.specs.WorldState.{Action}
 use Rattle.host_step.specs.HostState.{HostState}
 use Rattle.host_step.specs.HostStep.{HostStep, StepIf}
-use Rattle.host_step.specs.Imports.{host_finds, import_at}
+use Rattle.host_step.specs.Imports.{host_finds}
 use Rattle.host_step.specs.declared.import.Import.{Import}
-use Rattle.module_imports.specs.Calls.{AreImportsOf, AsksOnly, HasImports, IsAmong, IsOneOf, IsSilent, IsTyped, IsUnlisted, Lists, step_meaning}
+use Rattle.module_imports.specs.Calls.{AreImportsOf, AsksOnly, HasImports, IsAmong, IsSilent, IsTyped, IsUnlisted, Lists, step_meaning}
 use Rattle.module_imports.specs.Powers.{writes, writes_of}
 use Rattle.module_imports.specs.declared.imports.Unlisted.{Unlisted}
 use Rattle.module_imports.specs.declared.imports.Unlisted.TheVariants as unlisted
-use Rattle.module_imports.specs.declared.powers.Writes.{Writes}
 use Rattle.module_imports.specs.declared.powers.Writes.TheVariants as writing
 use Rattle.module_imports.proofs.Listing.{among, turn_among}
 use Rattle.module_imports.proofs.Quiet.{step_quiet}

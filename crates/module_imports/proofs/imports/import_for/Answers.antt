@@ -1,7 +1,4 @@
-use Rattle.std.proofs.Common.{◌≡◌, ◌∙◌, Bool, Option, Some, None, ap, true, false, sym, refl, if◌then◌else◌}
-use Rattle.wasm_types.specs.Typing.{typed_in}
 use Rattle.wasm_types.specs.View.{signature_of, view_import, view_module}
-use Rattle.host_step.specs.declared.import.Import.{Import}
 use Rattle.module_imports.proofs.Listing.{found_import, other_type, same_type}
 use Rattle.module_imports.proofs.imports.import_for.Goals as goal
 
