@@ -19,9 +19,9 @@ pub(crate) fn listed(alloc: Global, bytes: &[u8]) -> Result<Vec<Import>, RunEnd>
         Ok(imports) => Ok(imports),
         Err(Unlisted::Decode(fault)) => Err(RunEnd::Refused(Refusal::Decode(fault))),
         Err(Unlisted::Invalid(fault)) => Err(RunEnd::Refused(Refusal::Invalid(fault))),
-        Err(Unlisted::BadImport(place)) => Err(RunEnd::Refused(Refusal::Link(
-            LinkFault::BadImport(place),
-        ))),
+        Err(Unlisted::BadImport(place)) => Err(RunEnd::Refused(Refusal::Link(LinkFault::BadImport(
+            place,
+        )))),
         Err(Unlisted::NoMemory) => Err(RunEnd::NoMemory),
     }
 }
