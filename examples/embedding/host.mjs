@@ -2,7 +2,7 @@
 //
 //     node host.mjs [-v NAME=TEXT].. MODULE WORDS..
 //
-// It follows docs/EMBEDDING.md, and reads a file whole when it is opened. Nothing of it is proved, and the gate does not run it.
+// It follows docs/EMBEDDING.md, and reads a file whole when it is opened. Its page is README.md here. Nothing of it is proved, and the gate does not run it.
 // Texts are strings whose characters are bytes ("latin1").
 
 import { closeSync, openSync, readFileSync, writeSync } from "node:fs";
@@ -513,23 +513,34 @@ function withMemoryExport(bytes) {
 }
 
 /** A module whose memory is exported as `memory`. */
-function moduleOf(bytes) {
+export function moduleOf(bytes) {
   const module = new WebAssembly.Module(bytes);
   const exports = WebAssembly.Module.exports(module);
   if (exports.some((e) => e.name === "memory")) return module;
   return new WebAssembly.Module(withMemoryExport(bytes));
 }
 
-/** Runs a module in a job, or over a host of this job: `{ status }`, `{ fault }` or `{ trap }`. */
+/** How a run ended that threw: by a trap, by calls nested too deeply for the engine's stack, or for want of memory. */
+function endOf(error) {
+  if (error instanceof Trap || error instanceof WebAssembly.RuntimeError) return { trap: error.message };
+  if (error instanceof NoMemory) return { noMemory: true };
+  if (error instanceof RangeError && error.message.includes("call stack")) return { exhausted: true };
+  throw error;
+}
+
+/**
+ * Runs a module in a job, or over a host of this job: `{ status }`, `{ fault }`, `{ trap }`, `{ exhausted }` or `{ noMemory }`. Bytes that are no module, or
+ * one that wants other imports, throw the engine's CompileError or LinkError. A module that is run often may be given as a WebAssembly.Module of `moduleOf`.
+ */
 export function runModule(bytes, job, io, host = new Host(job, io)) {
-  const instance = new WebAssembly.Instance(moduleOf(bytes), { awk1: host.imports() });
+  const module = bytes instanceof WebAssembly.Module ? bytes : moduleOf(bytes);
+  const instance = new WebAssembly.Instance(module, { awk1: host.imports() });
   host.memory = instance.exports.memory;
   let result;
   try {
     result = instance.exports.main();
   } catch (error) {
-    if (error instanceof Trap || error instanceof WebAssembly.RuntimeError) return { trap: error.message };
-    throw error;
+    return endOf(error);
   }
   return host.fault === null ? { status: result & 255 } : { fault: host.fault };
 }
@@ -592,8 +603,9 @@ function main() {
   const environment = Object.entries(env).map((pair) => pair.map(bytesOf)).sort(([a], [b]) => (a < b ? -1 : 1));
   const end = runModule(readFileSync(file), { operands: operands.map(bytesOf), assigns, environment }, files);
   if (end.status !== undefined) return end.status;
-  writeSync(2, `awkwasm: ${end.fault ?? end.trap}\n`);
-  return end.fault !== undefined ? 2 : 7;
+  const [name, status] = end.fault ? [end.fault, 2] : end.trap ? [end.trap, 7] : end.exhausted ? ["Exhausted", 6] : ["NoMemory", 5];
+  writeSync(2, `awkwasm: ${name}\n`);
+  return status;
 }
 
 if (argv[1] !== undefined && import.meta.url === pathToFileURL(argv[1]).href) exit(main());

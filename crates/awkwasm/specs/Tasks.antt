@@ -1,7 +1,10 @@
 -- What is told of a task: the line and the exit status where it is not done, and the status of each.
 use Rattle.std.specs.Prelude.{ℕ, List, Result, Ok, Err, codes}
 use Rattle.script_compiler.specs.Refusals.{IsNotCompiled}
-use Rattle.awk_run.specs.declared.end.Refusal.TheVariants.{Compile}
+use Rattle.wasm_machine.specs.declared.link.LinkFault.TheVariants.{BadImport}
+use Rattle.module_imports.specs.Calls.{IsUnlisted}
+use Rattle.module_imports.specs.declared.imports.Unlisted.TheVariants as unlisted
+use Rattle.awk_run.specs.declared.end.Refusal.TheVariants.{Compile, Decode, Invalid, Link}
 use Rattle.awk_run.specs.declared.end.RunEnd.{RunEnd}
 use Rattle.awk_run.specs.declared.end.RunEnd.TheVariants.{Refused}
 use Rattle.awk_run.specs.declared.end.RunEnd.TheVariants as end
@@ -14,6 +17,14 @@ abbrev pub IsUncompiled : List ℕ → RunEnd → Type 0
 IsUncompiled bytes (Refused (Compile fault)) = IsNotCompiled bytes fault
 IsUncompiled bytes end.NoMemory = Unit {0}
 IsUncompiled bytes _ = ⊥
+
+-- what is told of a module whose imports are not listed: what is told of it where it is run
+abbrev pub IsUnreadable : List ℕ → RunEnd → Type 0
+IsUnreadable bytes (Refused (Decode fault)) = IsUnlisted bytes (unlisted.Decode fault)
+IsUnreadable bytes (Refused (Invalid fault)) = IsUnlisted bytes (unlisted.Invalid fault)
+IsUnreadable bytes (Refused (Link (BadImport place))) = IsUnlisted bytes (unlisted.BadImport place)
+IsUnreadable bytes end.NoMemory = Unit {0}
+IsUnreadable bytes _ = ⊥
 
 -- one line, whatever the cause
 abbrev pub undone_text : Undone → List ℕ

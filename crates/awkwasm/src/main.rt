@@ -2,6 +2,7 @@
 #![tactic(auto)]
 
 mod explanations;
+mod imports;
 mod job;
 mod standard;
 mod tasks;

@@ -10,6 +10,7 @@ ghost use Rattle.fenced_world.specs.Fences.{form_of};
 ghost use Rattle.host_names.specs.Forms.{pair_of};
 
 use crate::explanations::{explanation_text, names_text};
+use crate::imports::{imports_text, listed};
 use crate::job::{environment_of, job_on};
 use crate::undone::{Undone, undone_status, undone_text};
 use awk_run::{CompileFault, Refusal, RunEnd, compile, run_module, run_script};
@@ -179,6 +180,18 @@ fn explain_task(rt: &HostRuntime, name: Option<&str>) -> Result<RunEnd, Undone> 
     Ok(RunEnd::Ended(0))
 }
 
+/// Prints what a module imports, and what follows. A failing standard output changes no status.
+fn imports_task(rt: &HostRuntime, file: &str) -> Result<RunEnd, Undone> {
+    let bytes = file_of(rt, file, MODULE_LIMIT)?;
+    let imports = match listed(rt.alloc(), &bytes) {
+        Ok(imports) => imports,
+        Err(end) => return Ok(end),
+    };
+    let text = imports_text(rt.alloc(), &imports)?;
+    let _ = print!(rt; "{text}");
+    Ok(RunEnd::Ended(0))
+}
+
 /// Writes a line to the standard error. That it fails changes nothing.
 fn tell(rt: &HostRuntime, line: &[u8]) {
     let _ = rt.stderr().write_all(line);
@@ -215,6 +228,7 @@ pub(crate) fn carry_out(rt: &HostRuntime, request: &Request) -> u8 {
         Request::Compile { script_file, out } => compile_file(rt, script_file, out),
         Request::Run(task) => run_task(rt, task),
         Request::Exec(task) => exec_task(rt, task),
+        Request::Imports(file) => imports_task(rt, file),
         Request::Explain(name) => explain_task(rt, *name),
     };
     tell_task(rt, done)

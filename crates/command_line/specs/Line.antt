@@ -52,6 +52,10 @@ fences_app name = with_rule (with_rule (with_rule (options_app name) (flag_rule 
 abbrev pub task_app : Text → Text → App
 task_app name subject = with_rule (with_rule (fences_app name) (single subject)) words_rule
 
+-- `imports MODULE`
+abbrev pub imports_app : App
+imports_app = with_rule (new_app (codes "imports")) (single (codes "module"))
+
 -- `explain [NAME]`
 abbrev pub explain_app : App
 explain_app = with_rule (new_app (codes "explain")) topic_rule
@@ -62,7 +66,9 @@ top_app = on_top (λ s. record s { has_version = true; subcommand_required = tru
 
 -- the whole line
 abbrev pub line_app : App
-line_app = with_subcommand (with_subcommand (with_subcommand (with_subcommand top_app compile_app.top) (task_app (codes "run") (codes "script")).top) (task_app (codes "exec") (codes "module")).top) explain_app.top
+line_app =
+    with_subcommand (with_subcommand (with_subcommand (with_subcommand (with_subcommand top_app compile_app.top)
+    (task_app (codes "run") (codes "script")).top) (task_app (codes "exec") (codes "module")).top) imports_app.top) explain_app.top
 
 -- the exit status of a line that asks for nothing
 abbrev pub status_of_kind : ErrorKind → ℕ

@@ -6,7 +6,7 @@ ghost use Rattle.std.specs.Prelude.{map, option_map, true, IfErr, codes};
 ghost use Rattle.clap.specs.Words.{app_of, rule_of, takes, kind_of, rows_of, found_of, matches_of, one_of, first_of, subcommand_rows_of, subcommand_of};
 ghost use Rattle.clap.specs.declared.builder.command.Command.TheViews.{out-Command as fields_of};
 ghost use Rattle.command_line.specs.Request.{Asks, IsFences, IsFlag, IsSteps, IsTask, texts, word_at, words_at};
-ghost use Rattle.command_line.specs.Line.{single, separator_rule, assign_rule, steps_rule, flag_rule, words_rule, topic_rule, options_app, fences_app, compile_app, task_app, explain_app, line_app, is_file_option, has_file_option, status_of_kind};
+ghost use Rattle.command_line.specs.Line.{single, separator_rule, assign_rule, steps_rule, flag_rule, words_rule, topic_rule, options_app, fences_app, compile_app, task_app, explain_app, imports_app, line_app, is_file_option, has_file_option, status_of_kind};
 
 use clap::builder::ValueParser;
 use clap::error::ErrorKind;
@@ -65,6 +65,8 @@ pub enum Request<'a> {
     Run(Task<'a>),
     /// `exec MODULE WORDS..`
     Exec(Task<'a>),
+    /// `imports MODULE`: what a module imports.
+    Imports(&'a str),
     /// `explain NAME`: what a name of a message means; without a name, which names there are.
     Explain(Option<&'a str>),
 }
@@ -206,6 +208,15 @@ fn compile_command<'a>(alloc: Global) -> Result<Command<'a>, AllocError>
         .arg(single_arg(alloc, "out", "The file to write the module to"))
 }
 
+fn imports_command<'a>(alloc: Global) -> Result<Command<'a>, AllocError>
+    ensures app { IfOk result (λ c. app_of c ≡ imports_app) }
+    ensures local { IfOk result (λ c. (fields_of c).has_globals ≡ false) }
+{
+    Command::new(alloc, "imports")
+        .about("List what a module imports, and say what it can read and write")
+        .arg(single_arg(alloc, "module", "The module's file"))
+}
+
 fn explain_command<'a>(alloc: Global) -> Result<Command<'a>, AllocError>
     ensures app { IfOk result (λ c. app_of c ≡ explain_app) }
     ensures local { IfOk result (λ c. (fields_of c).has_globals ≡ false) }
@@ -227,6 +238,7 @@ fn command<'a>(alloc: Global) -> Result<Command<'a>, AllocError>
         .subcommand(compile)?
         .subcommand(run_command(alloc)?)?
         .subcommand(exec_command(alloc)?)?
+        .subcommand(imports_command(alloc)?)?
         .subcommand(explain_command(alloc)?)
 }
 
@@ -368,6 +380,7 @@ fn request_in<'a>(alloc: Global, matches: &ArgMatches<'a>) -> Result<Request<'a>
             out: text(inner, "out"),
         }),
         Some(("run", inner)) => Ok(Request::Run(task_of(alloc, inner, "script")?)),
+        Some(("imports", inner)) => Ok(Request::Imports(text(inner, "module"))),
         Some(("explain", inner)) => Ok(Request::Explain(topic(inner))),
         Some((_, inner)) => Ok(Request::Exec(task_of(alloc, inner, "module")?)),
         None => Err(AllocError),

@@ -34,6 +34,7 @@ fn asked(alloc: Global, words: &[&str]) -> Result<String, AllocError> {
         ),
         Ok(Request::Run(task)) => described(alloc, "run", &task),
         Ok(Request::Exec(task)) => described(alloc, "exec", &task),
+        Ok(Request::Imports(file)) => format!(in alloc; "imports {file:?}\n"),
         Ok(Request::Explain(Some(name))) => format!(in alloc; "explain {name:?}\n"),
         Ok(Request::Explain(None)) => String::from_str(alloc, "explain\n"),
         Err(error) => match exit_status(&error) {

@@ -13,7 +13,7 @@ const BAD_BYTE: Explanation = Explanation {
     meaning: "No token of awk begins with this byte. The number is the line.",
     command: "awkwasm run 'BEGIN { print @ }'",
     shown: "awkwasm: BadByte 1",
-    advice: "Look for a stray sign on the line, such as a quote that an editor has curled.",
+    advice: "Look for a stray sign on the line, such as a quote that an editor has curled. run takes a script's text: of a file it is \"$(cat prog.awk)\".",
 };
 
 const OPEN_STRING: Explanation = Explanation {
@@ -73,35 +73,35 @@ const MISPLACED: Explanation = Explanation {
 };
 
 const TOO_MANY: Explanation = Explanation {
-    meaning: "The function of this name is one after 1,000 others, or has more than 100 parameters.",
+    meaning: "The function of this name is one after 1,000 others, or has more than 100 parameters. No line is told: look for the name.",
     command: "awkwasm run \"function f($(seq -s, -f a%g 101)) { }\"",
     shown: "awkwasm: TooMany f",
     advice: "Hand over an array in place of many parameters.",
 };
 
 const DUPLICATE_NAME: Explanation = Explanation {
-    meaning: "The name stands for two things: two functions, two parameters of a function, or a function and a variable.",
+    meaning: "The name stands for two things: two functions, two parameters of a function, or a function and a variable. No line is told: look for the name.",
     command: "awkwasm run 'function f(a, a) { } BEGIN { f(1) }'",
     shown: "awkwasm: DuplicateName a",
     advice: "Rename one of them. Names of special variables, as NF, are taken.",
 };
 
 const UNKNOWN_FUNCTION: Explanation = Explanation {
-    meaning: "The script calls a function that it does not have.",
+    meaning: "The script calls a function that it does not have. No line is told: look for the name.",
     command: "awkwasm run 'BEGIN { print f(1) }'",
     shown: "awkwasm: UnknownFunction f",
     advice: "Write the function. Functions of other awks, as gensub and strftime, are left out. A variable before a parenthesis needs a space: f (1)",
 };
 
 const ARG_COUNT: Explanation = Explanation {
-    meaning: "A function is called with more arguments than it has parameters.",
+    meaning: "A function is called with more arguments than it has parameters. No line is told: look for the name.",
     command: "awkwasm run 'function f(a) { } BEGIN { f(1, 2) }'",
     shown: "awkwasm: ArgCount f",
     advice: "Leave the argument out, or add a parameter.",
 };
 
 const KIND_CLASH: Explanation = Explanation {
-    meaning: "The name is used as an array and as a variable.",
+    meaning: "The name is used as an array and as a variable. No line is told: look for the name.",
     command: "awkwasm run 'BEGIN { a = 1; a[1] = 2 }'",
     shown: "awkwasm: KindClash a",
     advice: "Use two names. length(a) of an array is left out: count its elements in a loop.",

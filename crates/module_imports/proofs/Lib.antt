@@ -1,0 +1,6 @@
+mod Turns
+mod Runs
+mod Quiet
+mod Listing
+mod Silent
+mod Unlisting
