@@ -1,5 +1,5 @@
 -- A run of a module passes its places as its program executes statements.
-use Rattle.std.proofs.Common.{◌≡◌, ℕ, zero, suc, ◌+◌, ◌≤◌, ◌^◌, ◌%◌, Bool, true, false, cond, nat_lt, List, [], ◌++◌, Some, None, Option, inl, inr, refl, sym, ap, ap₂, subst, ◌∙◌, arith}
+use Rattle.std.proofs.Common.{◌≡◌, ℕ, zero, suc, ◌+◌, ◌≤◌, ◌^◌, ◌%◌, Bool, true, false, cond, nat_lt, List, [], ◌++◌, Some, None, Option, inl, inr, refl, sym, ap, ap₂, subst, ◌∙◌, append-nil, arith}
 use Rattle.awk_state.specs.Jobs.{JobForm}
 use Rattle.world_core.specs.WorldState.{Action, Outside, Source}
 use Rattle.awk_values.specs.declared.fault.Fault.{Fault}
@@ -17,16 +17,18 @@ use Rattle.host_step.specs.Starts.{state_at_start}
 use Rattle.host_step.specs.Worlds.{with_output}
 use Rattle.mid_program.specs.Kept.{Grows, output_of}
 use Rattle.mid_program.specs.Mid.{Program}
+use Rattle.mid_program.specs.MidMeaning.{mid_run_in}
 use Rattle.mid_program.specs.ScriptRun.{Ending, Setting, Ended, FaultedBy, Exhausted}
 use Rattle.mid_program.specs.Sorted.{IsSorted}
 use Rattle.value_machine.specs.Cells.{Cell, Bits, Held, LentArray, OwnedArray, IteratorOf, Gone}
 use Rattle.value_machine.specs.Follows.{FollowsNoted}
-use Rattle.value_machine.specs.Machine.{Code, Conf, Run, Look, Over, Deep, Stuck, Store, ending_at, go, status_of, step}
+use Rattle.value_machine.specs.Machine.{Code, Notes, Conf, Run, Look, Over, Deep, Stuck, Store, ending_at, go, status_of, step}
 use Rattle.value_machine.specs.Modules.{called_imports, module_of, renumbered}
 use Rattle.value_machine.specs.Noted.{noted_run_in}
 use Rattle.value_machine.specs.Runs.{begun, code_of, noting_code, noting_run}
 use Rattle.value_machine.proofs.CodeFollows.{code_notes}
 use Rattle.value_machine.proofs.Runs.{go_add}
+use Rattle.value_machine.proofs.Silent.{silent_run}
 use Rattle.value_refined.specs.Refined.{As, EndAs, table_meaning}
 use Rattle.value_refined.proofs.Beginning.{begins, begun_as, in_main}
 use Rattle.value_refined.proofs.Growing.{arrays_grow}
@@ -36,7 +38,7 @@ use Rattle.module_agreement.specs.Agreement.{setting_of}
 use Rattle.module_agreement.specs.ValueAgreement.{IsOver, AgreesWith}
 use Rattle.module_agreement.proofs.Agreeing.{agreement_with}
 use Rattle.module_agreement.proofs.Growing.{shows_put, put_at}
-use Rattle.passed_places.specs.Passed.{Probe, ProbedRun, ProbedSteps, Passes, probed_at, probed_run, notes_of}
+use Rattle.passed_places.specs.Passed.{Probe, no_probe, ProbedRun, ProbedSteps, Passes, probed_at, probed_run, notes_of}
 use Rattle.passed_places.proofs.Probed.{looking_alike, probed_steps, run_alike}
 
 -- a probe only adds
@@ -192,3 +194,6 @@ passes p sorted = record {
   ended = λ probe job input outside n a c h o r e t ends told. ended p probe (agree p sorted probe) job input outside n a c h o r e t ends told;
   in_time = λ probe job input outside turns. in_time p probe (agree p sorted probe) job input outside turns;
 }
+
+pub without : (p : Program) (s : Setting) (turns : ℕ) → probed_run p no_probe s turns ≡ mid_run_in p s turns
+without p s turns = ap (λ (n : Notes). noted_run_in n p s turns) (λ i. λ code output. append-nil output i) ∙ silent_run p s turns

@@ -29,6 +29,9 @@ use Rattle.module_agreement.specs.ValueAgreement.{IsOver}
 abbrev pub Probe : Type 0
 Probe = Instructions → List Action
 
+abbrev pub no_probe : Probe
+no_probe code = []
+
 -- the code that comes next
 abbrev pub probed_at : Probe → Instructions → List Action → List Action
 probed_at probe (Then (Plain Nop) code) output = output ++ probe (Then (Plain Nop) code)
