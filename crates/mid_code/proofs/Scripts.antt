@@ -1,5 +1,5 @@
 -- The code of a script ends as the script does.
-use Rattle.std.proofs.Common.{◌≡◌, ℕ, zero, suc, Bool, true, false, List, [], ◌∷◌, refl, sym, ◌∙◌}
+use Rattle.std.proofs.Common.{◌≡◌, ℕ, zero, suc, ◌+◌, Bool, true, false, List, [], ◌∷◌, refl, sym, ◌∙◌}
 use Rattle.std.specs.Prelude.{if◌then◌else◌}
 use Rattle.awk_grammar.specs.Tree.{Tree}
 use Rattle.mid_program.specs.Names.{Scope}
@@ -21,7 +21,7 @@ use Rattle.awk_grammar.specs.Item.{Item, Pattern}
 use Rattle.mid_program.specs.Names.{Function, Resolved, function_at}
 use Rattle.mid_program.specs.ScriptState.{with_range}
 use Rattle.mid_program.specs.Statements.{called, entered, scope_in}
-use Rattle.mid_program.specs.Items.{top, print_record, range_open, range_opens, range_closes, where_met, items_done, begun, ended}
+use Rattle.mid_program.specs.Items.{top, print_record, pattern_ranges, range_open, range_opens, range_closes, where_met, items_done, begun, ended}
 use Rattle.mid_program.specs.Items.{reads_records}
 use Rattle.mid_program.specs.ScriptRun.{as_name, run_with, parts_of}
 use Rattle.mid_program.specs.Mid.{IsOpen, Mark, Routine}
@@ -86,13 +86,13 @@ module _ (texts : List (List ℕ)) (parameters : List (List Kind)) (n : ℕ) (ca
   items_same : (i : ℕ) (is : List Item) → AllStand texts (items_texts is) → all_stepped texts parameters n calls (items_code texts scope i is) ≡ items_done scope n calls i is
   unfolding stepped all_stepped items_done
   items_same i [] f = refl
-  items_same i (item.Function g ps ss ∷ is) f = items_same (suc i) is (second_part texts (item_texts (item.Function g ps ss)) (items_texts is) f)
-  items_same i (item.Begin ss ∷ is) f = items_same (suc i) is (second_part texts (item_texts (item.Begin ss)) (items_texts is) f)
-  items_same i (item.End ss ∷ is) f = items_same (suc i) is (second_part texts (item_texts (item.End ss)) (items_texts is) f)
-  items_same i (item.Nothing ∷ is) f = items_same (suc i) is (second_part texts (item_texts item.Nothing) (items_texts is) f)
-  items_same i (item.Always ss ∷ is) f = λ j. steps_same texts parameters n calls scope heads ss (first_part texts (item_texts (item.Always ss)) (items_texts is) f) j >>= λ flow. after flow (items_same (suc i) is (second_part texts (item_texts (item.Always ss)) (items_texts is) f) j)
-  items_same i (item.When p ss ∷ is) f = λ j. met_same i p (Block (steps_code texts scope ss)) (all_done scope n calls ss) (first_part texts (pattern_texts p) (stmts_texts ss) (first_part texts (item_texts (item.When p ss)) (items_texts is) f)) (steps_same texts parameters n calls scope heads ss (second_part texts (pattern_texts p) (stmts_texts ss) (first_part texts (item_texts (item.When p ss)) (items_texts is) f))) j >>= λ flow. after flow (items_same (suc i) is (second_part texts (item_texts (item.When p ss)) (items_texts is) f) j)
-  items_same i (item.Lone p ∷ is) f = λ j. met_same i p (Block (steps_code texts scope print_record)) (all_done scope n calls print_record) (first_part texts (item_texts (item.Lone p)) (items_texts is) f) (steps_same texts parameters n calls scope heads print_record (print_stands texts)) j >>= λ flow. after flow (items_same (suc i) is (second_part texts (item_texts (item.Lone p)) (items_texts is) f) j)
+  items_same i (item.Function g ps ss ∷ is) f = items_same i is (second_part texts (item_texts (item.Function g ps ss)) (items_texts is) f)
+  items_same i (item.Begin ss ∷ is) f = items_same i is (second_part texts (item_texts (item.Begin ss)) (items_texts is) f)
+  items_same i (item.End ss ∷ is) f = items_same i is (second_part texts (item_texts (item.End ss)) (items_texts is) f)
+  items_same i (item.Nothing ∷ is) f = items_same i is (second_part texts (item_texts item.Nothing) (items_texts is) f)
+  items_same i (item.Always ss ∷ is) f = λ j. steps_same texts parameters n calls scope heads ss (first_part texts (item_texts (item.Always ss)) (items_texts is) f) j >>= λ flow. after flow (items_same i is (second_part texts (item_texts (item.Always ss)) (items_texts is) f) j)
+  items_same i (item.When p ss ∷ is) f = λ j. met_same i p (Block (steps_code texts scope ss)) (all_done scope n calls ss) (first_part texts (pattern_texts p) (stmts_texts ss) (first_part texts (item_texts (item.When p ss)) (items_texts is) f)) (steps_same texts parameters n calls scope heads ss (second_part texts (pattern_texts p) (stmts_texts ss) (first_part texts (item_texts (item.When p ss)) (items_texts is) f))) j >>= λ flow. after flow (items_same (pattern_ranges p + i) is (second_part texts (item_texts (item.When p ss)) (items_texts is) f) j)
+  items_same i (item.Lone p ∷ is) f = λ j. met_same i p (Block (steps_code texts scope print_record)) (all_done scope n calls print_record) (first_part texts (item_texts (item.Lone p)) (items_texts is) f) (steps_same texts parameters n calls scope heads print_record (print_stands texts)) j >>= λ flow. after flow (items_same (pattern_ranges p + i) is (second_part texts (item_texts (item.Lone p)) (items_texts is) f) j)
 
   begin_same : (is : List Item) → AllStand texts (items_texts is) → all_stepped texts parameters n calls (begin_code texts scope is) ≡ begun scope n calls is
   unfolding stepped all_stepped begun

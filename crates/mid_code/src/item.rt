@@ -1,11 +1,11 @@
 //! The code of items.
 
 ghost use Rattle.std.specs.Option.{option_to_list};
-ghost use Rattle.std.specs.Prelude.{◌≡◌, suc, ◌||◌, List, ◌∷◌, ◌++◌, true, false, IfOk, OnOk};
+ghost use Rattle.std.specs.Prelude.{◌≡◌, ◌≤◌, ◌+◌, ◌||◌, List, ◌∷◌, ◌++◌, true, false, IfOk, OnOk};
 ghost use Rattle.awk_grammar.specs.Item.{Item as PlainItem};
 ghost use Rattle.awk_grammar.specs.View.{view as tree};
 ghost use Rattle.awk_grammar.specs.ViewStmt.{view_item, view_items, view_pattern, view_stmts as tree_stmts};
-ghost use Rattle.mid_program.specs.Items.{print_record, reads_records};
+ghost use Rattle.mid_program.specs.Items.{item_ranges, print_record, range_count, reads_records};
 ghost use Rattle.mid_program.specs.Mid as plain;
 ghost use Rattle.mid_program.specs.Translation.{begin_code, code_of, end_code, items_code, one, record_code, steps_code, where_code};
 ghost use Rattle.mid_program.specs.ViewCode.{maybe_then, view_step, view_steps};
@@ -52,7 +52,7 @@ fn print_record(scope: &Scope<'_>) -> Result<Box<Step>, AllocError>
     block(scope.alloc, steps)
 }
 
-/// The code that opens or closes the range of an item where a pattern is true.
+/// The code that opens or closes a range where a pattern is true.
 fn marked(
     scope: &Scope<'_>,
     number: usize,
@@ -67,7 +67,7 @@ fn marked(
     done_where(scope, pattern, mark)
 }
 
-/// The code that opens the range of an item where its first pattern is true.
+/// The code that opens a range where its first pattern is true.
 fn opening(scope: &Scope<'_>, number: usize, first: &Expr) -> Result<Box<Step>, AllocError>
     ensures { IfOk result (λ step. view_step step.value ≡ plain.If (plain.IsOpen number)
         (plain.Block plain.NoStep) (plain.If (code_of (texts_of scope.now) (scope_of scope.now)
@@ -78,7 +78,7 @@ fn opening(scope: &Scope<'_>, number: usize, first: &Expr) -> Result<Box<Step>, 
     chosen(scope.alloc, Code::IsOpen(number), nothing, opened)
 }
 
-/// The code that closes the range of an item where its last pattern is true, before its action.
+/// The code that closes a range where its last pattern is true, before its action.
 fn closing(
     scope: &Scope<'_>,
     number: usize,
@@ -96,7 +96,7 @@ fn closing(
     chosen(scope.alloc, Code::IsOpen(number), both, nothing)
 }
 
-/// The code of an item's action where its pattern is met.
+/// The code of an action where its pattern is met, which has this number if it is a range.
 fn where_met(
     scope: &Scope<'_>,
     number: usize,
@@ -116,7 +116,7 @@ fn where_met(
     }
 }
 
-/// The code of an item that is done for each record, by its number.
+/// The code of an item that is done for each record, by the number of its range.
 fn record_item(
     scope: &Scope<'_>,
     number: usize,
@@ -124,8 +124,8 @@ fn record_item(
 ) -> Result<Option<Box<Step>>, AllocError>
     ensures { IfOk result (λ step. (items : List PlainItem)
         → items_code (texts_of scope.now) (scope_of scope.now) number (view_item item.now ∷ items) ≡
-        maybe_then (unboxed step) (items_code (texts_of scope.now) (scope_of scope.now) (suc number)
-        items)) }
+        maybe_then (unboxed step) (items_code (texts_of scope.now) (scope_of scope.now)
+        (item_ranges (view_item item.now) + number) items)) }
 {
     match item {
         Item::Action(body) => Ok(Some(action(scope, body)?)),
@@ -185,14 +185,44 @@ fn push_found(steps: &mut Vec<Step>, step: Option<Box<Step>>) -> Result<(), Allo
     }
 }
 
+/// How many ranges an item has: one where its pattern is a range.
+fn ranges_of(item: &Item) -> usize
+    ensures is { result ≡ item_ranges (view_item item.now) }
+    ensures within { result ≤ 1 }
+{
+    match item {
+        Item::Rule(Pattern::Range(_, _), _) | Item::PatternOnly(Pattern::Range(_, _)) => 1,
+        Item::Rule(Pattern::One(_), _)
+        | Item::PatternOnly(Pattern::One(_))
+        | Item::Function(_, _, _)
+        | Item::Begin(_)
+        | Item::End(_)
+        | Item::Action(_)
+        | Item::Empty => 0,
+    }
+}
+
+/// How many ranges items have.
+pub(crate) fn range_count(items: &[Item]) -> usize
+    ensures { result ≡ range_count (view_items items.now) }
+{
+    let mut count = 0;
+    for item in items {
+        count += ranges_of(item);
+    }
+    count
+}
+
 /// The code of the items that are done for each record.
 pub(crate) fn record_items(scope: &Scope<'_>, items: &[Item]) -> Result<Vec<Step>, AllocError>
     ensures { IfOk result (λ steps. view_steps steps.items
         ≡ items_code (texts_of scope.now) (scope_of scope.now) 0 (view_items items.now)) }
 {
     let mut found = Vec::new(scope.alloc);
-    for i in 0..items.len() {
-        push_found(&mut found, record_item(scope, i, &items[i])?)?;
+    let mut number = 0;
+    for item in items {
+        push_found(&mut found, record_item(scope, number, item)?)?;
+        number += ranges_of(item);
     }
     Ok(found)
 }

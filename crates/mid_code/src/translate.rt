@@ -12,7 +12,7 @@ ghost use Rattle.mid_code.specs.ViewScope.{scope_of, texts_of as texts_in};
 ghost use Rattle.mid_code.specs.ViewScript.{view_script_code};
 
 use crate::bodies::{bodies, body_at};
-use crate::item::{begin, end, reads_records, record_items};
+use crate::item::{begin, end, range_count, reads_records, record_items};
 use crate::names::Names;
 use crate::scope::Scope;
 use crate::statement::steps;
@@ -161,7 +161,7 @@ fn code_by_names(
     Ok(ScriptCode {
         globals,
         routines,
-        ranges: items.len(),
+        ranges: range_count(items),
         reads: reads_records(items),
         actions,
     })

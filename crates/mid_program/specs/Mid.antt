@@ -54,7 +54,7 @@ mutual
     -- a scalar takes what is answered
     Set : Slot → Code → Code
     Array : ArrayName → Code
-    -- whether the range of an item is open
+    -- whether a range is open
     IsOpen : ℕ → Code
     -- one of two, as this sort, by the truth of the first
     Choose : Sort → Code → Code → Code → Code
@@ -88,7 +88,7 @@ mutual
     Exit : Step
     ExitWith : Code → Step
     Return : Code → Step
-    -- the range of an item opens, or closes
+    -- a range opens, or closes
     Mark : ℕ → Bool → Step
 
   pub data Steps : Type 0 where
@@ -110,7 +110,7 @@ pub record Program : Type 0 where
   -- what is announced to the host, and made before the script runs; then the functions are announced
   pub globals : List Declared
   pub routines : List Routine
-  -- how many items there are: each may have a range that is open
+  -- how many ranges there are
   pub ranges : ℕ
   pub begin : Steps
   -- whether records are read

@@ -28,7 +28,7 @@ pub record State : Type 0 where
   pub turns : ℕ
   -- by the numbers of the script's names
   pub globals : List Value
-  -- which items have a range that is open
+  -- which ranges are open, by their numbers
   pub ranges : ℕ → Bool
   pub status : Number
   pub own : Own

@@ -1,5 +1,5 @@
 -- The mid code of a script. It need not be believed: `EndsAs` says that its meaning is the script's.
-use Rattle.std.specs.Prelude.{ℕ, suc, Bool, true, false, if◌then◌else◌, List, [], ◌∷◌, map, length, Option, Some, None, pos}
+use Rattle.std.specs.Prelude.{ℕ, suc, ◌+◌, Bool, true, false, if◌then◌else◌, List, [], ◌∷◌, map, Option, Some, None, pos}
 use Rattle.awk_text.specs.Escapes.{string_text}
 use Rattle.awk_state.specs.Numbers.{Number as AnyNumber}
 use Rattle.awk_state.specs.Constants.{special_number, flag_number}
@@ -27,7 +27,7 @@ use Rattle.mid_program.specs.Names.{Name, Function, Resolved, Scope, Variable, R
 use Rattle.mid_program.specs.Names as names
 use Rattle.mid_program.specs.Steps.{constant, or_nought, comparison_of, ere_text, ere_in, is_ere}
 use Rattle.mid_program.specs.Statements.{operands_of, with_target, destination_of, listed_of, scope_in}
-use Rattle.mid_program.specs.Items.{top, print_record, reads_records}
+use Rattle.mid_program.specs.Items.{top, print_record, pattern_ranges, range_count, reads_records}
 use Rattle.mid_program.specs.Texts.{text_place, texts_of_script}
 use Rattle.mid_program.specs.Mid.{Kind, Boxed, Many, Global, Parameter, Code, Do, Over, Compare, Call, Ask, AskLine, FileLine, Replace, Number, Text, Unset, Get, Set, Array, IsOpen, Choose, Seq, Let, Bound, Codes, End, At, Fixed, Fresh, Declared, Step, Eval, Block, If, Loop, Each, Break, Continue, Next, Exit, ExitWith, Return, Mark, Steps, NoStep, Then, Routine, Program}
 
@@ -337,7 +337,7 @@ module _ (texts : List (List ℕ)) (scope : Scope) where
 
   -- Items.
 
-  -- the i-th item's action where its pattern is met
+  -- an action where its pattern is met, which is the i-th range if it is one
   abbrev pub where_code : ℕ → Pattern → Step → Step
   where_code i (item.One t) action = If (code_of t) action (Block NoStep)
   where_code i (item.Between t u) action =
@@ -346,10 +346,10 @@ module _ (texts : List (List ℕ)) (scope : Scope) where
 
   abbrev pub items_code : ℕ → List Item → Steps
   items_code i [] = NoStep
-  items_code i (item.Always ss ∷ items) = Then (Block (steps_code ss)) (items_code (suc i) items)
-  items_code i (item.When p ss ∷ items) = Then (where_code i p (Block (steps_code ss))) (items_code (suc i) items)
-  items_code i (item.Lone p ∷ items) = Then (where_code i p (Block (steps_code print_record))) (items_code (suc i) items)
-  items_code i (_ ∷ items) = items_code (suc i) items
+  items_code i (item.Always ss ∷ items) = Then (Block (steps_code ss)) (items_code i items)
+  items_code i (item.When p ss ∷ items) = Then (where_code i p (Block (steps_code ss))) (items_code (pattern_ranges p + i) items)
+  items_code i (item.Lone p ∷ items) = Then (where_code i p (Block (steps_code print_record))) (items_code (pattern_ranges p + i) items)
+  items_code i (_ ∷ items) = items_code i items
 
   abbrev pub begin_code : List Item → Steps
   begin_code [] = NoStep
@@ -375,7 +375,7 @@ program_with texts script = record {
   texts = texts;
   globals = map declared_code script.globals;
   routines = map (routine_code texts script) script.functions;
-  ranges = length script.items;
+  ranges = range_count script.items;
   begin = begin_code texts (top script) script.items;
   reads = reads_records script.items;
   items = items_code texts (top script) 0 script.items;

@@ -49,7 +49,7 @@ pub enum Code {
     /// A scalar takes what is answered.
     Set(Slot, Box<Code>),
     Array(ArrayName),
-    /// Whether the range of an item is open.
+    /// Whether a range is open.
     IsOpen(usize),
     /// The second or the third, as this sort, by the truth of the first.
     Choose(Sort, Box<Code>, Box<Code>, Box<Code>),

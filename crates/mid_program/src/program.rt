@@ -38,7 +38,7 @@ pub struct Mid {
     pub globals: Vec<Declared>,
     /// The functions, which the code names by their places.
     pub routines: Vec<Routine>,
-    /// How many items there are; each may have a range that is open.
+    /// How many ranges there are: patterns of two, which are numbered in their order.
     pub ranges: usize,
     pub begin: Vec<Step>,
     /// Whether records are read.

@@ -21,6 +21,6 @@ pub enum Step {
     /// `exit` with a status.
     ExitWith(Code),
     Return(Code),
-    /// The range of an item opens, or closes.
+    /// A range opens, or closes.
     Mark(usize, bool),
 }

@@ -1,12 +1,12 @@
 -- The code of scripts is well sorted.
-use Rattle.std.proofs.Common.{◌≡◌, ℕ, suc, ◌+◌, ◌≤◌, true, false, T, List, [], ◌∷◌, ◌++◌, length, refl, sym, ap, ap₂, subst, lt-ltb, arith}
+use Rattle.std.proofs.Common.{◌≡◌, ℕ, ◌+◌, ◌≤◌, true, false, T, List, [], ◌∷◌, ◌++◌, refl, sym, ap, ap₂, subst, lt-ltb, arith}
 use Rattle.std.specs.Prelude.{is_some, nat_lt, map, Option, Some, None}
 use Rattle.awk_grammar.specs.Stmt.{Stmts}
 use Rattle.awk_grammar.specs.Item as item
 use Rattle.awk_grammar.specs.Item.{Item, Pattern}
 use Rattle.awk_resolve.specs.Marks.{marks}
 use Rattle.mid_program.specs.Names.{Name, Function, Resolved, Scope}
-use Rattle.mid_program.specs.Items.{top, print_record}
+use Rattle.mid_program.specs.Items.{top, print_record, pattern_ranges, range_count}
 use Rattle.mid_program.specs.Texts.{texts_in, all_texts, stmt_texts, stmts_texts, pattern_texts, item_texts, items_texts, functions_texts, texts_of_script}
 use Rattle.mid_program.specs.Mid.{Step, Block, Declared, Routine}
 use Rattle.mid_program.specs.Sorted.{Context, announced_names, context_of, routines_sorted, sorted, step_sorted, steps_sorted, is_sorted, IsSorted}
@@ -35,31 +35,28 @@ module _ (c : Context) (texts : List (List ℕ)) (script : Resolved) where
     unfolding stmt_texts stmts_texts texts_in all_texts
     print_fine = steps_fine c texts script None agrees print_record false false ((tt, tt), tt) refl (refl, refl)
 
-    where_fine : (i : ℕ) (p : Pattern) (s : Step) → PatternFits script p → AllWithin texts (pattern_texts p) → nat_lt i c.ranges ≡ true → step_sorted c false false s ≡ true → step_sorted c false false (where_code texts scope i p s) ≡ true
+    where_fine : (i : ℕ) (p : Pattern) (s : Step) → PatternFits script p → AllWithin texts (pattern_texts p) → i + pattern_ranges p ≤ c.ranges → step_sorted c false false s ≡ true → step_sorted c false false (where_code texts scope i p s) ≡ true
     unfolding sorted step_sorted steps_sorted
-    where_fine i (item.One t) s f h n e = rw (test_fine c texts script None agrees t f.formed (f.met, h), e) refl
-    where_fine i (item.Between t u) s f h n e =
+    where_fine i (item.One t) s f h l e = rw (test_fine c texts script None agrees t f.formed (f.met, h), e) refl
+    where_fine i (item.Between t u) s f h l e =
         let m = parts (is_met script) (marks None t) (marks None u) f.met in
         let q = text_parts (texts_in t) (texts_in u) h in
-        rw (n, test_fine c texts script None agrees t f.formed.0 (m.0, q.0), test_fine c texts script None agrees u f.formed.1 (m.1, q.1), e) refl
+        rw (lt-ltb i c.ranges (omega (arith, l)), test_fine c texts script None agrees t f.formed.0 (m.0, q.0), test_fine c texts script None agrees u f.formed.1 (m.1, q.1), e) refl
 
-    below : (i n : ℕ) → i + suc n ≤ c.ranges → nat_lt i c.ranges ≡ true
-    below i n l = lt-ltb i c.ranges (omega (arith, l))
-
-    items_fine : (i : ℕ) (is : List Item) → ItemsFit script is → AllWithin texts (items_texts is) → i + length is ≤ c.ranges → steps_sorted c false false (items_code texts scope i is) ≡ true
+    items_fine : (i : ℕ) (is : List Item) → ItemsFit script is → AllWithin texts (items_texts is) → i + range_count is ≤ c.ranges → steps_sorted c false false (items_code texts scope i is) ≡ true
     unfolding step_sorted steps_sorted
     items_fine i [] f h l = refl
     items_fine i (item.Always ss ∷ is) f h l =
         let q = text_parts (item_texts (item.Always ss)) (items_texts is) h in
-        rw (body_fine None agrees ss f.0 q.0, items_fine (suc i) is f.1 q.1 (omega (arith, l))) refl
+        rw (body_fine None agrees ss f.0 q.0, items_fine i is f.1 q.1 l) refl
     items_fine i (item.When p ss ∷ is) f h l =
         let q = text_parts (item_texts (item.When p ss)) (items_texts is) h in
         let r = text_parts (pattern_texts p) (stmts_texts ss) q.0 in
-        rw (where_fine i p (Block (steps_code texts scope ss)) f.0.0 r.0 (below i (length is) (omega (arith, l))) (body_fine None agrees ss f.0.1 r.1), items_fine (suc i) is f.1 q.1 (omega (arith, l))) refl
+        rw (where_fine i p (Block (steps_code texts scope ss)) f.0.0 r.0 (omega (arith, l)) (body_fine None agrees ss f.0.1 r.1), items_fine (pattern_ranges p + i) is f.1 q.1 (omega (arith, l))) refl
     items_fine i (item.Lone p ∷ is) f h l =
         let q = text_parts (item_texts (item.Lone p)) (items_texts is) h in
-        rw (where_fine i p (Block (steps_code texts scope print_record)) f.0 q.0 (below i (length is) (omega (arith, l))) print_fine, items_fine (suc i) is f.1 q.1 (omega (arith, l))) refl
-    items_fine i (it ∷ is) f h l = items_fine (suc i) is f.1 (text_parts (item_texts it) (items_texts is) h).1 (omega (arith, l))
+        rw (where_fine i p (Block (steps_code texts scope print_record)) f.0 q.0 (omega (arith, l)) print_fine, items_fine (pattern_ranges p + i) is f.1 q.1 (omega (arith, l))) refl
+    items_fine i (it ∷ is) f h l = items_fine i is f.1 (text_parts (item_texts it) (items_texts is) h).1 l
 
     begin_fine : (is : List Item) → ItemsFit script is → AllWithin texts (items_texts is) → steps_sorted c false false (begin_code texts scope is) ≡ true
     unfolding step_sorted steps_sorted

@@ -1,11 +1,11 @@
 -- What a script's code stores is what the script stores, of statements, items and functions.
-use Rattle.std.proofs.Common.{◌≡◌, ℕ, suc, List, [], ◌∷◌, ◌++◌, Option, Some, None, map, refl, sym, ap, subst}
+use Rattle.std.proofs.Common.{◌≡◌, ℕ, suc, ◌+◌, List, [], ◌∷◌, ◌++◌, Option, Some, None, map, refl, sym, ap, subst}
 use Rattle.awk_grammar.specs.Tree.{Tree, Var}
 use Rattle.awk_grammar.specs.Stmt.{And, Delete, Eval, NoStmt, Plain, Put, Stmt, Stmts}
 use Rattle.awk_grammar.specs.Stmt as stmt
 use Rattle.awk_grammar.specs.Item.{Item, Pattern}
 use Rattle.awk_grammar.specs.Item as item
-use Rattle.mid_program.specs.Items.{print_record, top}
+use Rattle.mid_program.specs.Items.{pattern_ranges, print_record, top}
 use Rattle.mid_program.specs.Mid.{Block, Form, Step, Steps, a_value}
 use Rattle.mid_program.specs.Names.{Function, Resolved, Scope, functions_length, variable_of}
 use Rattle.mid_program.specs.Statements.{operands_of, scope_in, with_target}
@@ -107,23 +107,23 @@ module _ (x : Scalar) (g : ℕ) (texts : List (List ℕ)) (scope : Scope) where
 
   items_fit : (i : ℕ) (is : List Item) → Ok (items_stores g scope is) → Fit x g (steps_stores (items_code texts scope i is))
   items_fit i [] h = tt
-  items_fit i (item.Function f ps ss ∷ is) h = items_fit (suc i) is h
-  items_fit i (item.Begin ss ∷ is) h = items_fit (suc i) is (second x (stmts_stores g scope ss) (items_stores g scope is) h)
-  items_fit i (item.End ss ∷ is) h = items_fit (suc i) is (second x (stmts_stores g scope ss) (items_stores g scope is) h)
+  items_fit i (item.Function f ps ss ∷ is) h = items_fit i is h
+  items_fit i (item.Begin ss ∷ is) h = items_fit i is (second x (stmts_stores g scope ss) (items_stores g scope is) h)
+  items_fit i (item.End ss ∷ is) h = items_fit i is (second x (stmts_stores g scope ss) (items_stores g scope is) h)
   items_fit i (item.Always ss ∷ is) h =
       both x g (steps_stores (steps_code texts scope ss)) _ (steps_fit ss (first x (stmts_stores g scope ss) (items_stores g scope is) h))
-      (items_fit (suc i) is (second x (stmts_stores g scope ss) (items_stores g scope is) h))
+      (items_fit i is (second x (stmts_stores g scope ss) (items_stores g scope is) h))
   items_fit i (item.When p ss ∷ is) h =
       let own = first x (pattern_stores g scope p ++ stmts_stores g scope ss) (items_stores g scope is) h in
       both x g (step_stores (where_code texts scope i p (Block (steps_code texts scope ss)))) _
       (where_fit i p (Block (steps_code texts scope ss)) (first x (pattern_stores g scope p) (stmts_stores g scope ss) own)
       (steps_fit ss (second x (pattern_stores g scope p) (stmts_stores g scope ss) own)))
-      (items_fit (suc i) is (second x (pattern_stores g scope p ++ stmts_stores g scope ss) (items_stores g scope is) h))
+      (items_fit (pattern_ranges p + i) is (second x (pattern_stores g scope p ++ stmts_stores g scope ss) (items_stores g scope is) h))
   items_fit i (item.Lone p ∷ is) h =
       both x g (step_stores (where_code texts scope i p (Block (steps_code texts scope print_record)))) _
       (where_fit i p (Block (steps_code texts scope print_record)) (first x (pattern_stores g scope p) (items_stores g scope is) h) (steps_fit print_record tt))
-      (items_fit (suc i) is (second x (pattern_stores g scope p) (items_stores g scope is) h))
-  items_fit i (item.Nothing ∷ is) h = items_fit (suc i) is h
+      (items_fit (pattern_ranges p + i) is (second x (pattern_stores g scope p) (items_stores g scope is) h))
+  items_fit i (item.Nothing ∷ is) h = items_fit i is h
 
   begin_fit : (is : List Item) → Ok (items_stores g scope is) → Fit x g (steps_stores (begin_code texts scope is))
   begin_fit [] h = tt

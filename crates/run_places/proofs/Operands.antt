@@ -14,7 +14,7 @@ use Rattle.awk_grammar.specs.Item.{Item, Pattern, One, Between}
 use Rattle.mid_program.specs.declared.mid.Operation.{Operation}
 use Rattle.mid_program.specs.Names as names
 use Rattle.mid_program.specs.Names.{Function, Name, Resolved, Reserved, Scope, Variable, array_of, function_at, function_number, is_array, variable_of}
-use Rattle.mid_program.specs.Items.{print_record, top}
+use Rattle.mid_program.specs.Items.{pattern_ranges, print_record, top}
 use Rattle.mid_program.specs.Mid as mid
 use Rattle.mid_program.specs.Mid.{AskLine, Bound, Code, Codes, FileLine, Routine, Steps}
 use Rattle.mid_program.specs.Statements.{operands_of, scope_in, with_last, with_target}
@@ -309,13 +309,13 @@ module _ (m : ℕ) (texts : List (List ℕ)) (scope : Scope) where
 
   items_few : (i : ℕ) (is : List Item) → items_nodes is ≤ m → StepsFew m (items_code texts scope i is)
   items_few i [] h = tt
-  items_few i (item.Function f ps ss ∷ is) h = items_few (suc i) is (omega (arith, h))
-  items_few i (item.Begin ss ∷ is) h = items_few (suc i) is (omega (arith, h))
-  items_few i (item.End ss ∷ is) h = items_few (suc i) is (omega (arith, h))
-  items_few i (item.Always ss ∷ is) h = (steps_few ss (omega (arith, h)), items_few (suc i) is (omega (arith, h)))
-  items_few i (item.When p ss ∷ is) h = (where_few i p (mid.Block (steps_code texts scope ss)) (omega (arith, h)) (steps_few ss (omega (arith, h))), items_few (suc i) is (omega (arith, h)))
-  items_few i (item.Lone p ∷ is) h = (where_few i p (mid.Block (steps_code texts scope print_record)) (omega (arith, h)) record_few, items_few (suc i) is (omega (arith, h)))
-  items_few i (item.Nothing ∷ is) h = items_few (suc i) is (omega (arith, h))
+  items_few i (item.Function f ps ss ∷ is) h = items_few i is (omega (arith, h))
+  items_few i (item.Begin ss ∷ is) h = items_few i is (omega (arith, h))
+  items_few i (item.End ss ∷ is) h = items_few i is (omega (arith, h))
+  items_few i (item.Always ss ∷ is) h = (steps_few ss (omega (arith, h)), items_few i is (omega (arith, h)))
+  items_few i (item.When p ss ∷ is) h = (where_few i p (mid.Block (steps_code texts scope ss)) (omega (arith, h)) (steps_few ss (omega (arith, h))), items_few (pattern_ranges p + i) is (omega (arith, h)))
+  items_few i (item.Lone p ∷ is) h = (where_few i p (mid.Block (steps_code texts scope print_record)) (omega (arith, h)) record_few, items_few (pattern_ranges p + i) is (omega (arith, h)))
+  items_few i (item.Nothing ∷ is) h = items_few i is (omega (arith, h))
 
   begin_few : (is : List Item) → items_nodes is ≤ m → StepsFew m (begin_code texts scope is)
   begin_few [] h = tt

@@ -61,9 +61,9 @@ ReadsItsItems p = p.reads ≡ false → p.items ≡ NoStep
 
 no_items : (texts : List (List ℕ)) (scope : Scope) (i : ℕ) (items : List Item) → reads_records items ≡ false → items_code texts scope i items ≡ NoStep
 no_items texts scope i [] e = refl
-no_items texts scope i (Function f ps ss ∷ items) e = no_items texts scope (suc i) items e
-no_items texts scope i (Begin ss ∷ items) e = no_items texts scope (suc i) items e
-no_items texts scope i (Nothing ∷ items) e = no_items texts scope (suc i) items e
+no_items texts scope i (Function f ps ss ∷ items) e = no_items texts scope i items e
+no_items texts scope i (Begin ss ∷ items) e = no_items texts scope i items e
+no_items texts scope i (Nothing ∷ items) e = no_items texts scope i items e
 no_items texts scope i (End ss ∷ items) e = cc
 no_items texts scope i (Always ss ∷ items) e = cc
 no_items texts scope i (When p ss ∷ items) e = cc

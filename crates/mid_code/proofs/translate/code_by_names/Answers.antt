@@ -1,11 +1,10 @@
-use Rattle.std.proofs.Common.{◌≡◌, ℕ, List, length, map, refl, ap, sym, ◌∙◌}
-use Rattle.std.proofs.lemmas.List.{length-map}
-use Rattle.awk_grammar.specs.ViewStmt.{view_item, view_items}
+use Rattle.std.proofs.Common.{◌≡◌, ℕ, List, map, refl, ap, sym, ◌∙◌}
+use Rattle.awk_grammar.specs.ViewStmt.{view_items}
 use Rattle.awk_grammar.specs.declared.tree.Item.{Item}
 use Rattle.awk_resolve.specs.ViewKinds.{view_name_kinds}
 use Rattle.awk_resolve.specs.declared.function_names.NameKind.{NameKind}
 use Rattle.awk_resolve.specs.declared.resolved.Resolved.{Resolved}
-use Rattle.mid_program.specs.Items.{reads_records, top}
+use Rattle.mid_program.specs.Items.{range_count, reads_records, top}
 use Rattle.mid_program.specs.Translation.{begin_code, declared_code, end_code, items_code, program_with, routine_code}
 use Rattle.mid_program.specs.View.{view_declared, view_routine, view_steps, view_texts}
 use Rattle.mid_code.specs.ViewNames.{script_of}
@@ -18,7 +17,7 @@ use Rattle.mid_code.proofs.translate.code_by_names.Goals as goal
 code_of_parts : (c : ScriptCode) (r : Resolved) (items : List Item) (texts : List (List ℕ)) → items ≡ r.script.now.items.items →
     map view_declared c.globals.items ≡ map declared_code (view_name_kinds r.globals.items) →
     map view_routine c.routines.items ≡ map (routine_code texts (script_of r)) (script_of r).functions →
-    c.ranges ≡ length items →
+    c.ranges ≡ range_count (view_items items) →
     view_steps c.actions.begin.items ≡ begin_code texts (top (script_of r)) (view_items items) →
     c.reads ≡ reads_records (view_items items) →
     view_steps c.actions.each.items ≡ items_code texts (top (script_of r)) 0 (view_items items) →
@@ -30,7 +29,7 @@ code_of_parts c r items texts all globals routines ranges begin reads each end =
       texts = texts;
       globals = globals i;
       routines = routines i;
-      ranges = (ranges ∙ ap length all ∙ sym (length-map r.script.now.items.items view_item)) i;
+      ranges = (ranges ∙ ap (λ (xs : List Item). range_count (view_items xs)) all) i;
       begin = (begin ∙ ap (λ (xs : List Item). begin_code texts scope (view_items xs)) all) i;
       reads = (reads ∙ ap (λ (xs : List Item). reads_records (view_items xs)) all) i;
       items = (each ∙ ap (λ (xs : List Item). items_code texts scope 0 (view_items xs)) all) i;
@@ -40,7 +39,7 @@ code_of_parts c r items texts all globals routines ranges begin reads each end =
 pub returns : goal.returns
 unfolding scope_of texts_of
 returns c =
-    code_of_parts (record { globals = c.in_ok-globals.globals; routines = c.in_ok-routines.routines; ranges = length c.as_slice-items.result.now; reads = c.reads_records.result; actions = c.in_ok-actions.actions })
+    code_of_parts (record { globals = c.in_ok-globals.globals; routines = c.in_ok-routines.routines; ranges = c.range_count.result; reads = c.reads_records.result; actions = c.in_ok-actions.actions })
     c.args.names.now.resolved.now c.as_slice-items.result.now (view_texts c.args.texts.now.keys) c.as_slice-items.ensures.value
     (c.in_ok-globals.ensures ∙ ap (λ (ns : List NameKind). map declared_code (view_name_kinds ns)) c.deref.ensures.value)
-    c.in_ok-routines.ensures refl c.in_ok-actions.ensures.begin c.reads_records.ensures c.in_ok-actions.ensures.each c.in_ok-actions.ensures.end
+    c.in_ok-routines.ensures c.range_count.ensures c.in_ok-actions.ensures.begin c.reads_records.ensures c.in_ok-actions.ensures.each c.in_ok-actions.ensures.end
