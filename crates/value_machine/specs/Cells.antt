@@ -91,6 +91,11 @@ abbrev pub iterators_in : List Cell → ℕ
 iterators_in [] = 0
 iterators_in (c ∷ cs) = cond (is_iterator c) (suc (iterators_in cs)) (iterators_in cs)
 
+-- arrays that are to be freed
+abbrev pub arrays_owned : List Cell → ℕ
+arrays_owned [] = 0
+arrays_owned (c ∷ cs) = cond (is_array c) (suc (arrays_owned cs)) (arrays_owned cs)
+
 -- the number of an unboxed name, beside which no text stands
 abbrev pub is_bare : Cell → Bool
 is_bare (Bits (I64 n)) = not (nat_eq n text_beside)
