@@ -26,6 +26,15 @@ fit_at [] (g ∷ fs) k f h e = absurd h
 fit_at (n ∷ ns) (g ∷ fs) zero f h e = subst (λ (z : Callee). calls_fit (limit_of z n) z.body ≡ true) (some_of g f e) h.0
 fit_at (n ∷ ns) (g ∷ fs) (suc k) f h e = fit_at ns fs k f h.1 e
 
+values_few : (limits : List ℕ) (p : Program) (rest : List (List (Option Sort))) (rs : List CallerForm) (h : CallersWait p rest rs) (few : AllFewPending limits p rest rs h) →
+    values_waiting p rest rs h ≤ values_within limits p rest rs h few
+values_few limits p [] rs h few = omega arith
+values_few limits p (os ∷ rest) [] h few = omega arith
+values_few limits p (os ∷ rest) (r ∷ rs) h few =
+    let x = few.0.few in
+    let y = values_few limits p rest rs h.1 few.1 in
+    omega (arith, x, y)
+
 module _ (p : Program) where
   all_fit : (ns : List ℕ) (m : ℕ) → RoutinesFew ns p.routines → PartsFew m p → AllFit (ns ++ m ∷ []) (all_callees p)
   all_fit ns m few parts = by ns p.routines few
@@ -52,19 +61,12 @@ module _ (p : Program) where
     callers_few (os ∷ rest) [] h = tt
     callers_few (os ∷ rest) (r ∷ rs) h = (caller_few os r h.0, callers_few rest rs h.1)
 
-    values_few : (rest : List (List (Option Sort))) (rs : List CallerForm) (h : CallersWait p rest rs) → values_waiting p rest rs h ≤ values_within limits p rest rs h (callers_few rest rs h)
-    values_few [] rs h = omega arith
-    values_few (os ∷ rest) [] h = omega arith
-    values_few (os ∷ rest) (r ∷ rs) h =
-        let x = (caller_few os r h.0).few in
-        let y = values_few rest rs h.1 in
-        omega (arith, x, y)
-
   -- WHERE A STATEMENT BEGINS callers have few operands pending, where the code of the program has few under each call
   pub few_alive : (ns : List ℕ) (m : ℕ) → RoutinesFew ns p.routines → PartsFew m p → (c : Conf) (s : HostState) (here : AtStatement p c s) → FewAlive (ns ++ m ∷ []) p c s here
   few_alive ns m few parts c s here =
       let fit = all_fit ns m few parts in
       let limits = ns ++ m ∷ [] in
       let v = here.few_values in
-      let w = values_few limits fit here.waiting c.callers here.waits in
-      record { pending = callers_few limits fit here.waiting c.callers here.waits; few_values = omega (arith, v, w) }
+      let pending = callers_few limits fit here.waiting c.callers here.waits in
+      let w = values_few limits p here.waiting c.callers here.waits pending in
+      record { pending = pending; few_values = omega (arith, v, w) }

@@ -345,6 +345,7 @@ routines_few texts script (f ∷ fs) = (steps_few (stmts_nodes f.body) texts (sc
 pub script_few : (script : Resolved) → RoutinesFew (map (λ (f : Function). stmts_nodes f.body) script.functions) (program_of script).routines × PartsFew (items_nodes script.items) (program_of script)
 script_few script =
     let m = items_nodes script.items in
-    let texts = texts_of_script script in
-    (routines_few texts script script.functions,
-    (begin_few m texts (top script) script.items (omega arith), (items_few m texts (top script) 0 script.items (omega arith), end_few m texts (top script) script.items (omega arith))))
+    let texts = texts_of_script script in (
+      routines_few texts script script.functions,
+      (begin_few m texts (top script) script.items (omega arith), (items_few m texts (top script) 0 script.items (omega arith), end_few m texts (top script) script.items (omega arith))),
+    )

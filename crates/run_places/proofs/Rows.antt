@@ -1,5 +1,5 @@
 -- Rows: what a caller that waits holds, marks, and assignments of the command line.
-use Rattle.std.proofs.Common.{◌≡◌, inl, inr, ℕ, zero, List, [], ◌∷◌, Option, Some, None, refl, ap, arith}
+use Rattle.std.proofs.Common.{◌≡◌, inl, inr, ℕ, zero, false, List, [], ◌∷◌, Option, Some, None, refl, ap, arith}
 use Rattle.std.specs.Fmt.{digits}
 use Rattle.std.specs.Prelude.{codes}
 use Rattle.awk_values.specs.declared.value.Value.{Value}
@@ -16,11 +16,14 @@ use Rattle.wasm_machine.specs.Runs.{Steps}
 use Rattle.host_step.specs.HostState.{HostState}
 use Rattle.host_step.specs.Starts.{state_at_start}
 use Rattle.world_core.specs.WorldState.{Outside, Source}
-use Rattle.mid_program.specs.Mid.{Boxed, Unboxed}
+use Rattle.awk_state.specs.declared.table.Primitive.TheVariants as row
+use Rattle.mid_program.specs.declared.mid.Operation.TheVariants.{Host}
+use Rattle.mid_program.specs.Mid.{Boxed, Unboxed, Code as MidCode, Do, Call, Get, Parameter, At, End}
 use Rattle.value_machine.specs.Small.{minus_one, text_beside}
 use Rattle.value_refined.specs.Refined.{table_meaning}
 use Rattle.run_places.specs.Assigned.{IsPending, IsWord, Somewhere}
 use Rattle.run_places.specs.Kept.{BareParameters, IsMarked, LocalsWait, count}
+use Rattle.run_places.proofs.Pending.{Few}
 
 -- a boxed and an unboxed parameter, the answer's local, one operand that is pending, and an iterator
 abbrev caller : List (Option Sort)
@@ -106,3 +109,20 @@ module _ (input : Source) (outside : Outside) where
 
   pub none_assigns : (i : ℕ) → IsWord no_words i emptied → ⊥
   none_assigns i h = elim h.2 [ inl q ↦ (let e = q.2 in cc) | inr q ↦ (let e = q.2 in cc) ]
+
+-- In the code of `a b f(c)` one operand is pending under the call.
+
+abbrev parameter : ℕ → MidCode
+parameter i = Get (Parameter false i)
+
+abbrev joined : MidCode → MidCode → MidCode
+joined a b = Do (Host row.Concat) (At a (At b End))
+
+abbrev calls : MidCode
+calls = joined (joined (parameter 0) (parameter 1)) (Call 0 (At (parameter 2) End))
+
+pub one_pending : Few 1 zero calls
+one_pending = ((tt, (tt, tt)), ((omega arith, (tt, tt)), tt))
+
+pub not_without : Few 0 zero calls → ⊥
+not_without h = omega (arith, h.1.0.0)
