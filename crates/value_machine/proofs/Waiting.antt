@@ -142,7 +142,8 @@ module _ (p : Program) (deepest : ℕ) (ks : List Kind) (F : List Frame) (b : Ba
       let e3 = pairs_without l.hand l.number b.temporaries (cells l.iterator b.iterators ++ yards) (λ i. hand_spare (l.hand i) (fit.hands i)) (λ i. unowned_spare (l.number i) (fit.numbers i)) in
       let e4 = first_arrays l.iterator b.iterators zero yards (λ i le. walk_spare (l.iterator i) (fit.walks i)) in
       let e5 = first_arrays l.array b.arrays w [] (λ i le. ap is_array (fit.spare i le)) in
-      omega (arith, e0, e1, e2, e3, e4, e5)
+      let e : arrays_owned (laid b l) ≡ arrays_owned (cells l.iterator b.iterators ++ (cells l.array b.arrays ++ [])) = e0 ∙ (e1 ∙ (e2 ∙ e3)) in
+      omega (arith, e, e4, e5)
 
   parameters_wait : (js : List Kind) (f : ℕ → Cell) (m x : ℕ) (rest : List Cell) → x ≡ suc (length js) + m → ((i : ℕ) (k : Kind) → has_kind js i k ≡ true → ParamLoose p deepest ks F k (f i)) → locals_wait (suc m) [] rest ≡ true → locals_wait x js (cells f (length js) ++ rest) ≡ true
   parameters_wait [] f m x rest e h r = let q : x ≡ suc m = omega (arith, e) in ap (λ z. locals_wait z [] rest) q ∙ r
