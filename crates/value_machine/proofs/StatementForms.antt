@@ -1,6 +1,6 @@
 -- The simulation of steps: what a step's code does beside what the step means. Where a step begins, the function holds its parameters and an iterator for each loop over keys around the step,
 -- and nothing else; where it ends in some way that does not leave the function, the same holds again.
-use Rattle.std.proofs.Common.{◌≡◌, ℕ, ◌+◌, ◌<◌, ◌≤◌, Bool, true, false, List, [], length, ◌∙◌, arith}
+use Rattle.std.proofs.Common.{◌≡◌, ℕ, ◌+◌, ◌<◌, ◌≤◌, Bool, true, false, List, [], length, ◌∙◌, refl, arith}
 use Rattle.wasm_types.specs.Syntax.{Instructions}
 use Rattle.mid_program.specs.Mid.{Kind, Program, Step, Eval, Block, If, Loop, Each, Break, Continue, Next, Exit, ExitWith, Return, Mark, Steps, NoStep, Then}
 use Rattle.mid_program.specs.MidMeaning.{stepped, all_stepped, mid_called}
