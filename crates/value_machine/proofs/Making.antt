@@ -5,7 +5,7 @@ use Rattle.awk_state.specs.declared.table.Primitive.TheVariants as row
 use Rattle.wasm_types.specs.Syntax.{Instructions}
 use Rattle.mid_program.specs.Mid.{Kind, Program, Unset, Codes, End, At, Fixed, Fresh, Form, Perhaps}
 use Rattle.mid_program.specs.MidMeaning.{Env, evaluated, all_evaluated}
-use Rattle.mid_program.specs.ScriptState.{State}
+use Rattle.mid_program.specs.ScriptState.{State, ◌>>=◌, give}
 use Rattle.mid_program.specs.Sorted.{Held as Standing, are_missing, sorted, all_sorted}
 use Rattle.value_machine.specs.Cells.{OwnedArray, is_owned}
 use Rattle.value_machine.specs.Emission.{emitted, all_emitted}
@@ -41,12 +41,12 @@ module _ (p : Program) (deepest : ℕ) (ks : List Kind) (F : List Frame) (b : Ba
       let Q = Away p deepest ks F b d K in
       let P = AllDone p deepest ks F b M n (At Unset es) fs env ts st t u w k K l σ in
       let P1 = Done p deepest ks F b M n false Unset fs env ts st t u w k1 K l σ in
-      then_on mach M (work_of Unset) (works_of es) (works_of (At Unset es)) σ.turns _ P1 P Q (meant p deepest ks F b M n fs env Unset σ) _ (omega arith)
+      then_on mach M (work_of Unset) (works_of es) (works_of (At Unset es)) σ.turns _ P1 P Q (meant p deepest ks F b M n fs env Unset σ) (λ v. all_meant p deepest ks F b M n fs env es >>= λ vs. give (v, vs)) (omega arith)
       (unset_there p deepest ks F b M n false fs env ts st t u w d k1 K l σ (omega (arith, rm)) below held fit)
       (λ v τ c1 le a.
       let P2 = AllDone p deepest ks F b M n es fs env ts st (suc t) u w k K a.next τ in
       first mach M 0 (works_of es) (works_of es) τ.turns c1 _ P Q _ (record { it = a.comes }) (omega arith)
-      (then_on mach M (works_of es) 0 (works_of es) τ.turns _ P2 P Q (all_meant p deepest ks F b M n fs env es τ) _ (omega arith)
+      (then_on mach M (works_of es) 0 (works_of es) τ.turns _ P2 P Q (all_meant p deepest ks F b M n fs env es τ) (λ vs. give (v, vs)) (omega arith)
       (missing_ok es m fs env ts st (suc t) u w d k K a.next τ (omega (arith, rm)) (omega (arith, ar)) (below_more t (suc t) ts (omega arith) below) a.kept a.fit)
       (λ vs τ1 c2 le2 a2. there mach M 0 0 _ _ (v, vs) τ1 P Q stays (omega arith)
       (record {
