@@ -238,6 +238,15 @@ stores_well fs s = keeps_well s && is_dropped (form_of (a_value ∷ fs) s)
 abbrev pub is_bound : List Form → ℕ → Bool
 is_bound fs i = nat_lt i (length fs)
 
+-- what stands for arguments that are missing: it calls nothing
+abbrev pub are_missing : Codes → Bool
+are_missing End = true
+are_missing (At Unset es) = are_missing es
+are_missing (At e es) = false
+are_missing (Fixed n es) = false
+are_missing (Fresh es) = are_missing es
+
+-- Once an array is made for a call, nothing else is called before that call.
 module _ (c : Context) where
   unfoldable mutual
     pub sorted : List Form → Code → Bool
@@ -265,7 +274,7 @@ module _ (c : Context) where
     all_sorted fs End = true
     all_sorted fs (At e es) = sorted fs e && all_sorted fs es
     all_sorted fs (Fixed n es) = all_sorted fs es
-    all_sorted fs (Fresh es) = all_sorted fs es
+    all_sorted fs (Fresh es) = are_missing es && all_sorted fs es
 
   abbrev pub test_sorted : Code → Bool
   test_sorted e = is_tested (form_of [] e) && sorted [] e

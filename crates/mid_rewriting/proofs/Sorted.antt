@@ -10,7 +10,7 @@ use Rattle.awk_state.specs.InTurn.{values_wanted}
 use Rattle.mid_program.specs.Names.{ArrayName}
 use Rattle.mid_program.specs.declared.mid.Operation.{Operation}
 use Rattle.mid_program.specs.Mid.{Kind, Boxed, Unboxed, Many, Slot, Global, Parameter, Code, Do, Over, Compare, Call, Ask, AskLine, FileLine, Replace, Number, Text, Unset, Get, Set, Array, IsOpen, Choose, Seq, Let, Bound, Codes, End, At, Fixed, Fresh, Step, Eval, Block, If, Loop, Each, Break, Continue, Next, Exit, ExitWith, Return, Mark, Steps, NoStep, Then, Form, Answered, Bare, Perhaps, a_value, read_form, slot_form, form_at, form_of, answer_by, arguments, parameters_at}
-use Rattle.mid_program.specs.Sorted.{Context, fits, is_number, is_tested, is_dropped, is_slot, takes, is_array_place, is_constant, fit_row, all_values, count_of, is_given, fit_call, Held, There, either_way, held_after, held_after_all, is_bound, is_well_used, keeps_well, stores_well, sorted, all_sorted, step_sorted, steps_sorted}
+use Rattle.mid_program.specs.Sorted.{Context, fits, is_number, is_tested, is_dropped, is_slot, takes, is_array_place, is_constant, fit_row, all_values, count_of, is_given, fit_call, Held, There, either_way, held_after, held_after_all, is_bound, is_well_used, keeps_well, stores_well, are_missing, sorted, all_sorted, step_sorted, steps_sorted}
 use Rattle.mid_rewriting.specs.Alike.{erased}
 use Rattle.mid_rewriting.specs.Rewriting.{code_in, codes_in, step_in, steps_in}
 use Rattle.mid_rewriting.specs.Stores.{Store, Into, Given, Every, stores, stores_in, stores_given, step_stores, steps_stores}
@@ -159,6 +159,13 @@ module _ (slots : Slot → Slot) (operation : Operation → Codes → Code) (K :
   keeps_same : (e : Code) → keeps_well (re e) ≡ keeps_well e
   keeps_same e = ap is_well_used (held_kept zero e There)
 
+  missing_kept : (es : Codes) → are_missing es ≡ true → are_missing (res es) ≡ true
+  missing_kept End h = refl
+  missing_kept (At Unset es) h = missing_kept es h
+  missing_kept (At e es) h = cc
+  missing_kept (Fixed n es) h = cc
+  missing_kept (Fresh es) h = missing_kept es h
+
   count_kept : (es : Codes) → count_of (res es) ≡ count_of es
   count_kept End = refl
   count_kept (At e es) = ap suc (count_kept es)
@@ -272,7 +279,7 @@ module _ (slots : Slot → Slot) (operation : Operation → Codes → Code) (K :
       all_kept fs hs k End h v = refl
       all_kept fs hs k (At e es) h v = let p = and_parts _ _ h in let w = every_parts P (stores fs e) (stores_in fs es) v in and_from _ _ (sorted_kept fs hs k e p.0 w.0) (all_kept fs hs k es p.1 w.1)
       all_kept fs hs k (Fixed n es) h v = all_kept fs hs k es h v
-      all_kept fs hs k (Fresh es) h v = all_kept fs hs k es h v
+      all_kept fs hs k (Fresh es) h v = let p = and_parts (are_missing es) _ h in and_from _ _ (missing_kept es p.0) (all_kept fs hs k es p.1 v)
 
       all_kept_given : (fs hs : List Form) → map erased fs ≡ map erased hs → (f i : ℕ) (es : Codes) → all_sorted c fs es ≡ true → Every P (stores_given f i fs es) → all_sorted d hs (res es) ≡ true
       all_kept_given fs hs k f i End h v = refl
@@ -280,7 +287,7 @@ module _ (slots : Slot → Slot) (operation : Operation → Codes → Code) (K :
           let p = and_parts _ _ h in let w = every_parts P (stores fs e) (Given f i (form_of fs e) ∷ stores_given f (suc i) fs es) v in
           and_from _ _ (sorted_kept fs hs k e p.0 w.0) (all_kept_given fs hs k f (suc i) es p.1 w.1.1)
       all_kept_given fs hs k f i (Fixed n es) h v = all_kept_given fs hs k f (suc i) es h v
-      all_kept_given fs hs k f i (Fresh es) h v = all_kept_given fs hs k f (suc i) es h v
+      all_kept_given fs hs k f i (Fresh es) h v = let p = and_parts (are_missing es) _ h in and_from _ _ (missing_kept es p.0) (all_kept_given fs hs k f (suc i) es p.1 v)
 
     -- statements keep nothing from one to the next
 

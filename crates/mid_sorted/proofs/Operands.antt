@@ -5,7 +5,7 @@ use Rattle.awk_state.specs.InTurn.{values_wanted}
 use Rattle.awk_state.specs.declared.table.Listed.{Listed}
 use Rattle.mid_program.specs.Names.{Name, ArrayName, Variable}
 use Rattle.mid_program.specs.Mid.{Kind, Boxed, Many, Code, Over, Call, Unset, Array, Codes, End, At, Fresh, Form, parameters_at}
-use Rattle.mid_program.specs.Sorted.{Context, Held, is_array_place, fit_call, all_values, count_of, held_after_all, sorted, all_sorted}
+use Rattle.mid_program.specs.Sorted.{Context, Held, is_array_place, fit_call, all_values, count_of, held_after_all, are_missing, sorted, all_sorted}
 use Rattle.mid_program.specs.Translation.{variable_code, fresh_codes, kind_of}
 use Rattle.mid_sorted.proofs.Good.{Good, is_known, as_value, variable_good}
 
@@ -39,14 +39,22 @@ module _ (c : Context) (fs : List Form) where
   none_handed = record { fit = refl; fine = refl; apart = λ i h. refl }
 
   -- where no argument is given
-  fresh_handed : (b : Bool) (ks : List Kind) (es : Codes) → Handed ks es → Handed ((if b then Many else Boxed) ∷ ks) (if b then Fresh es else At Unset es)
+  fresh_missing : (ps : List Name) → are_missing (fresh_codes ps) ≡ true
+  fresh_missing [] = refl
+  fresh_missing (p ∷ ps) = by p.is_array (fresh_missing ps)
+    where
+      by : (b : Bool) → are_missing (fresh_codes ps) ≡ true → are_missing (if b then Fresh (fresh_codes ps) else At Unset (fresh_codes ps)) ≡ true
+      by true h = h
+      by false h = h
+
+  fresh_handed : (b : Bool) (ks : List Kind) (es : Codes) → are_missing es ≡ true → Handed ks es → Handed ((if b then Many else Boxed) ∷ ks) (if b then Fresh es else At Unset es)
   unfolding sorted all_sorted
-  fresh_handed true ks es h = record { fit = h.fit; fine = h.fine; apart = h.apart }
-  fresh_handed false ks es h = record { fit = h.fit; fine = h.fine; apart = h.apart }
+  fresh_handed true ks es m h = record { fit = h.fit; fine = rw m h.fine; apart = h.apart }
+  fresh_handed false ks es m h = record { fit = h.fit; fine = h.fine; apart = h.apart }
 
   pub all_fresh : (ps : List Name) → Handed (map kind_of ps) (fresh_codes ps)
   all_fresh [] = none_handed
-  all_fresh (p ∷ ps) = fresh_handed p.is_array (map kind_of ps) (fresh_codes ps) (all_fresh ps)
+  all_fresh (p ∷ ps) = fresh_handed p.is_array (map kind_of ps) (fresh_codes ps) (fresh_missing ps) (all_fresh ps)
 
   -- a name for a parameter: b for an array, d an array's name, s a scalar's
   pub name_handed : (b d s : Bool) (a : ArrayName) (v : Variable) (ks : List Kind) (es : Codes) → (d || (not b && s)) ≡ true → (d ≡ true → is_array_place c a ≡ true) → (s ≡ true → is_known c v ≡ true) → Handed ks es →

@@ -1,5 +1,5 @@
 -- What places hold, and how much of it there is.
-use Rattle.std.proofs.Common.{◌≡◌, ◌⊎◌, inl, inr, ℕ, zero, suc, ◌+◌, ◌≤◌, Bool, true, not, ◌&&◌, cond, nat_eq, List, [], ◌∷◌, take, drop, Option, Some, None, refl, ap, ap₂, ◌∙◌, arith}
+use Rattle.std.proofs.Common.{◌≡◌, ◌⊎◌, inl, inr, ℕ, zero, suc, ◌+◌, ◌≤◌, Bool, true, false, not, ◌&&◌, cond, nat_eq, List, [], ◌∷◌, take, drop, Option, Some, None, refl, ap, ap₂, ◌∙◌, arith}
 use Rattle.std.proofs.lemmas.Bool.{and_parts}
 use Rattle.awk_state.specs.declared.sorts.Sort.{Sort}
 use Rattle.awk_state.specs.declared.sorts.Sort.TheVariants as sort
@@ -7,7 +7,7 @@ use Rattle.wasm_store.specs.declared.word.Word.{Word}
 use Rattle.wasm_store.specs.declared.word.Word.TheVariants.{I32, I64}
 use Rattle.wasm_machine.specs.Machines.{CallerForm}
 use Rattle.mid_program.specs.Mid.{Kind, Boxed, Unboxed, Many}
-use Rattle.value_machine.specs.Cells.{Cell, Bits, Held, IteratorOf, OwnedArray, LentArray, Gone, each_name, ended_name, globals_by, is_bare, is_owned, iterators_in, no_temporary, none_owned, tidy_locals, tidy_name}
+use Rattle.value_machine.specs.Cells.{Cell, Bits, Held, IteratorOf, OwnedArray, LentArray, Gone, arrays_owned, count_cells, each_name, ended_name, globals_by, is_array, is_bare, is_iterator, is_owned, iterators_in, no_temporary, none_owned, tidy_locals, tidy_name}
 use Rattle.value_machine.specs.Machine.{Frame, ending_name}
 use Rattle.value_refined.specs.Owners.{owners, owns_sort, waiting}
 use Rattle.run_places.specs.Kept.{GlobalsHold, LocalsHold, NameHolds, NameMayHold, NamesHold, OnlyIterators, arrays, boxed, count, holders, holders_waiting, holds, one, scalars}
@@ -325,11 +325,24 @@ local_values ks os h = locals_counted sort.Value refl ks os h ∙ boxed_of ks
 pub local_arrays : (ks : List Kind) (os : List (Option Sort)) → LocalsHold ks os → count sort.Array os ≡ 0
 local_arrays ks os h = locals_counted sort.Array refl ks os h ∙ none_of ks
 
+counted_cells : (t : Sort) (q : Cell → Bool) → ((c : Cell) → holds t (held_in c) ≡ q c) → (cs : List Cell) → count t (held cs) ≡ count_cells q cs
+counted_cells t q same [] = refl
+counted_cells t q same (c ∷ cs) = ap (λ b. cond b 1 0 + count t (held cs)) (same c) ∙ by (q c) (counted_cells t q same cs)
+  where
+    by : (b : Bool) → count t (held cs) ≡ count_cells q cs → cond b 1 0 + count t (held cs) ≡ cond b (suc (count_cells q cs)) (count_cells q cs)
+    by true r = omega (arith, r)
+    by false r = omega (arith, r)
+
+iterator_held : (c : Cell) → holds sort.Iterator (held_in c) ≡ is_iterator c
+iterator_held (Bits w) = refl
+iterator_held c = refl
+
+array_held : (c : Cell) → holds sort.Array (held_in c) ≡ is_array c
+array_held (Bits w) = refl
+array_held c = refl
+
 pub local_iterators : (cs : List Cell) → count sort.Iterator (held cs) ≡ iterators_in cs
-local_iterators [] = refl
-local_iterators (IteratorOf t ∷ cs) = let r = local_iterators cs in omega (arith, r)
-local_iterators (Held v ∷ cs) = let r = local_iterators cs in omega (arith, r)
-local_iterators (OwnedArray a ∷ cs) = let r = local_iterators cs in omega (arith, r)
-local_iterators (Bits w ∷ cs) = let r = local_iterators cs in omega (arith, r)
-local_iterators (LentArray a ∷ cs) = let r = local_iterators cs in omega (arith, r)
-local_iterators (Gone ∷ cs) = let r = local_iterators cs in omega (arith, r)
+local_iterators cs = counted_cells sort.Iterator is_iterator iterator_held cs
+
+pub owned_arrays : (cs : List Cell) → count sort.Array (held cs) ≡ arrays_owned cs
+owned_arrays cs = counted_cells sort.Array is_array array_held cs

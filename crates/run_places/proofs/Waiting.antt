@@ -1,6 +1,6 @@
 -- What a caller that waits holds, and the loops over keys that are walked.
-use Rattle.std.proofs.Common.{◌≡◌, ◌⊎◌, inl, inr, ℕ, zero, suc, ◌+◌, ◌-◌, ◌≤◌, Bool, true, false, not, ◌&&◌, ◌||◌, cond, nat_eq, nat_lt, List, [], ◌∷◌, length, get_or, slice_get, Option, Some, None, refl, sym, ap, ap₂, ◌∙◌, subst, arith}
-use Rattle.std.proofs.lemmas.Bool.{and_parts, eq-eqb, eqb-true, ltb-false, ltb-true, ne_eqb}
+use Rattle.std.proofs.Common.{◌≡◌, ◌⊎◌, inl, inr, ℕ, zero, suc, ◌+◌, ◌-◌, ◌≤◌, Bool, true, false, not, ◌&&◌, ◌||◌, cond, nat_eq, nat_le, nat_lt, List, [], ◌∷◌, length, get_or, slice_get, Option, Some, None, refl, sym, ap, ap₂, ◌∙◌, subst, arith}
+use Rattle.std.proofs.lemmas.Bool.{and_parts, eq-eqb, eqb-true, leb-true, ltb-false, ltb-true, ne_eqb}
 use Rattle.std.proofs.lemmas.List.{length-map}
 use Rattle.std.proofs.lemmas.Option.{slice_get-get_or, slice_get_past}
 use Rattle.awk_state.specs.declared.sorts.Sort.{Sort}
@@ -13,10 +13,10 @@ use Rattle.wasm_machine.specs.Frames.{LabelForm}
 use Rattle.wasm_machine.specs.Machines.{CallerForm}
 use Rattle.host_step.specs.HostState.{Names}
 use Rattle.mid_program.specs.Mid.{Kind, Boxed, Unboxed, Many, Program}
-use Rattle.value_machine.specs.Cells.{Cell, Bits, Held, IteratorOf, OwnedArray, LentArray, Gone, is_held, is_operand, is_owned, iterators_in, locals_wait, no_value, operands_wait}
+use Rattle.value_machine.specs.Cells.{Cell, Bits, Held, IteratorOf, OwnedArray, LentArray, Gone, arrays_owned, is_held, is_operand, is_owned, iterators_in, locals_wait, no_value, operands_wait}
 use Rattle.value_machine.specs.Emission.{function_number}
 use Rattle.value_machine.specs.Imports.{import_count, import_number, imports}
-use Rattle.value_machine.specs.Machine.{Code, Frame, Label, answers_to, is_walk, loops_walked}
+use Rattle.value_machine.specs.Machine.{Code, Frame, Label, answers_to, freed_next, is_walk, loops_walked}
 use Rattle.value_machine.specs.Modules.{all_callees, called_imports, calls_in, imports_of, new_number, renumbered, renumbered_simple}
 use Rattle.value_machine.specs.declared.import.Import.TheVariants.{Drop, Of}
 use Rattle.value_typed.proofs.Chosen.{functions_behind}
@@ -24,7 +24,7 @@ use Rattle.value_refined.specs.Refined.{AgainAs, FrameAs, FramesAs, LabelsAs}
 use Rattle.value_refined.proofs.Links.{number_there, stays}
 use Rattle.run_places.specs.Kept.{CallerWaits, CallersWait, LocalsWait, NoValues, OperandsHold, boxed, count, count_waiting, is_keys, is_next, numbers_of, one, values_waiting, walks, walks_waiting}
 use Rattle.run_places.proofs.Begun.{OfFunction}
-use Rattle.run_places.proofs.Counting.{held, held_in, held_waiting, local_iterators}
+use Rattle.run_places.proofs.Counting.{held, held_in, held_waiting, local_iterators, owned_arrays}
 use Rattle.std.specs.List.{Contains}
 use Rattle.run_places.proofs.Totals.{held_each}
 use Rattle.run_places.proofs.Fitting.{FrameFits, FramesFit}
@@ -210,7 +210,8 @@ module _ (p : Program) where
   module _ (u : Code) (instructions places globals : ℕ) (made : ℕ) (N : Names) where
     caller_waits : (f : Frame) (r : CallerForm) → FrameAs (stays p) bs made N f r → FrameFits u instructions places globals (OfFunction p) f → Waits u (Contains (all_callees p)) f.kinds f.rest f.labels → CallerWaits p (held f.locals) r
     caller_waits f r a b y =
-        let w = and_parts (locals_wait (answers_to f.rest) f.kinds f.locals) (nat_eq (iterators_in f.locals) (loops_walked f.labels)) b.waits in
+        let w = and_parts (locals_wait (answers_to f.rest) f.kinds f.locals) (nat_eq (iterators_in f.locals) (loops_walked f.labels) && nat_le (arrays_owned f.locals) (freed_next f.rest)) b.waits in
+        let v = and_parts (nat_eq (iterators_in f.locals) (loops_walked f.labels)) (nat_le (arrays_owned f.locals) (freed_next f.rest)) w.1 in
         let h = locals_hold (answers_to f.rest) f.kinds f.locals w.0 in
         record {
           function = y.function;
@@ -223,7 +224,8 @@ module _ (p : Program) where
           answer_to = ap answers_to a.rest.same ∙ (answers_same bs f.rest ∙ (h.1 ∙ ap (λ (ks : List Kind). suc (length ks) + (h.0 + h.0)) (sym y.kinds)));
           each = held_each made N f.locals r.frame.locals a.locals;
           locals_hold = subst (λ (ks : List Kind). LocalsWait h.0 ks (held f.locals)) (sym y.kinds) h.2;
-          walked = local_iterators f.locals ∙ (eqb-true (iterators_in f.locals) (loops_walked f.labels) w.1 ∙ sym (walks_same made N f.labels r.frame.labels a.labels));
+          walked = local_iterators f.locals ∙ (eqb-true (iterators_in f.locals) (loops_walked f.labels) v.0 ∙ sym (walks_same made N f.labels r.frame.labels a.labels));
+          fresh = (let e = owned_arrays f.locals in let le = leb-true (arrays_owned f.locals) (freed_next f.rest) v.1 in omega (arith, e, le));
         }
 
     pub callers_wait : (F : List Frame) (rs : List CallerForm) → FramesAs (stays p) bs made N F rs → FramesFit u instructions places globals (OfFunction p) F → FramesWork u (Contains (all_callees p)) F → CallersWait p (held_waiting F) rs

@@ -23,7 +23,7 @@ use Rattle.mid_program.specs.Sorted.{kinds_of}
 use Rattle.awk_state.specs.declared.table.Primitive.TheVariants as row
 use Rattle.value_machine.specs.Emission.{function_number}
 use Rattle.value_machine.specs.Imports.{import_number}
-use Rattle.value_machine.specs.Machine.{Callee, answers_to}
+use Rattle.value_machine.specs.Machine.{Callee, answers_to, freed_next}
 use Rattle.value_machine.specs.Modules.{all_callees, called_imports, imports_of, renumbered}
 use Rattle.value_machine.specs.Small.{minus_one, text_beside}
 use Rattle.value_machine.specs.declared.import.Import.TheVariants.{Of}
@@ -137,7 +137,7 @@ abbrev pub walks_waiting : List ℕ → List CallerForm → ℕ
 walks_waiting numbers [] = 0
 walks_waiting numbers (r ∷ rs) = walks numbers r.frame.labels + walks_waiting numbers rs
 
--- What the locals of a caller that waits hold: a boxed parameter its value; so many operands that are pending a value each, or nothing; behind them iterators and arrays.
+-- What the locals of a caller that waits hold: a boxed parameter its value; so many operands that are pending a value each, or nothing; after them iterators, and arrays that were made for this call.
 
 abbrev pub NoValues : List (Option Sort) → Type 0
 NoValues [] = Unit {0}
@@ -157,6 +157,7 @@ LocalsWait m (Unboxed ∷ ks) (o ∷ os) = (o ≡ None) × LocalsWait m ks os
 LocalsWait m (Many ∷ ks) (o ∷ os) = (o ≡ None) × LocalsWait m ks os
 
 -- A caller that waits for a call of a function in one of its expressions: what is left comes after that call, and the answer goes to the local of the operand after those that are pending.
+-- Arrays that it holds were made for that call, and are let go right after it.
 pub record CallerWaits (p : Program) (os : List (Option Sort)) (r : CallerForm) : Type 0 where
   pub function : Callee
   pub is_function : Contains (all_callees p) function
@@ -169,6 +170,7 @@ pub record CallerWaits (p : Program) (os : List (Option Sort)) (r : CallerForm) 
   pub each : length os ≡ length r.frame.locals
   pub locals_hold : LocalsWait operands function.kinds os
   pub walked : count sort.Iterator os ≡ walks (numbers_of p) r.frame.labels
+  pub fresh : count sort.Array os ≤ freed_next place
 
 -- outside of all callers stands the frame in which `main` is called, which holds nothing
 abbrev pub first_caller : CallerForm

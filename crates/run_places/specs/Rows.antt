@@ -15,7 +15,9 @@ use Rattle.awk_grammar.specs.Item.{Begin}
 use Rattle.mid_program.specs.Mid.{Kind, Boxed, Unboxed, Many}
 use Rattle.mid_program.specs.Names.{Resolved}
 use Rattle.value_machine.specs.Imports.{import_number}
-use Rattle.value_machine.specs.declared.import.Import.TheVariants.{Of}
+use Rattle.value_machine.specs.Machine.{freed_next}
+use Rattle.value_machine.specs.Small.{minus_one}
+use Rattle.value_machine.specs.declared.import.Import.TheVariants.{FreeArray, Of}
 use Rattle.run_places.specs.Kept.{arrays, begins_statement, boxed, holders, is_keys, scalars, walks}
 use Rattle.run_places.specs.Nodes.{nodes_of}
 use Rattle.run_places.specs.Places.{size}
@@ -78,6 +80,17 @@ label again = record { under = []; gives = None; again = again; rest = Done }
 
 pub one_walk : walks numbers (label None ∷ (label (next_key 1) ∷ (label (Some Done) ∷ []))) ≡ 1
 one_walk = refl
+
+-- After a call whose answer is kept two arrays are let go.
+
+abbrev let_go : ℕ → Instructions → Instructions
+let_go x code = Then (Plain (LocalGet x)) (Then (Plain (I32Const minus_one)) (Then (Plain (LocalSet x)) (Then (Plain (Call (import_number FreeArray))) code)))
+
+abbrev kept : Instructions → Instructions
+kept code = Then (Plain (LocalTee 1)) (Then (Plain (I32Const minus_one)) (Then (Plain Nop) (Then (Plain Nop) code)))
+
+pub two_arrays : freed_next (kept (let_go 4 (let_go 3 (Then (Plain Nop) (let_go 3 Done))))) ≡ 2
+two_arrays = refl
 
 -- `return a b f(c)` has six expressions, each part counted, and `print > f(1)` two; the second stands in no function
 

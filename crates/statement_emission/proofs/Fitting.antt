@@ -9,7 +9,7 @@ use Rattle.mid_program.specs.MidMeaning.{three_values}
 use Rattle.mid_program.specs.Mid as plain
 use Rattle.mid_program.specs.Names.{ArrayName, Numbered, Given}
 use Rattle.mid_program.specs.Mid.{Kind, Boxed, Unboxed, Many, Slot, Global, Parameter, Code, Do, Over, Compare, Call, Ask, AskLine, FileLine, Replace, Number, Text, Unset, Get, Set, Array, IsOpen, Choose, Seq, Let, Bound, Codes, End, At, Fixed, Fresh, Step, Eval, Block, If, Loop, Each, Break, Continue, Next, Exit, ExitWith, Return, Mark, Steps, NoStep, Then, a_value, arguments, form_of, parameters_at}
-use Rattle.mid_program.specs.Sorted.{Context, all_sorted, all_values, are_enough, fit_call, fit_row, fits, is_array_place, is_chosen, is_done_here, is_dropped, is_kept, is_slot, is_tested, keeps_well, scalar_kind, sorted, step_sorted, steps_sorted, stores_well, takes, test_sorted}
+use Rattle.mid_program.specs.Sorted.{Context, all_sorted, are_missing, all_values, are_enough, fit_call, fit_row, fits, is_array_place, is_chosen, is_done_here, is_dropped, is_kept, is_slot, is_tested, keeps_well, scalar_kind, sorted, step_sorted, steps_sorted, stores_well, takes, test_sorted}
 use Rattle.value_machine.proofs.Reading.{kind_below}
 use Rattle.value_machine.specs.Emission.{Layout}
 use Rattle.value_machine.specs.Places.{arrays_among, arrays_in, made_in, room, rooms, step_arrays, step_iterators, step_room, steps_arrays, steps_iterators, steps_room}
@@ -224,7 +224,7 @@ module _ {c : Context} {y : Layout} (n : Named c y) where
     codes_fit fs (Fixed m es) t w d s r = codes_fit fs es t w d s (record { places = r.places; arrays = r.arrays; labels = r.labels })
     codes_fit fs (Fresh es) t w d s r = (
       (omega (arith, r.places), (omega (arith, r.arrays), omega (arith, r.labels))),
-      codes_fit fs es t (suc w) d s (record { places = r.places; arrays = omega (arith, r.arrays); labels = r.labels }),
+      codes_fit fs es t (suc w) d (and_parts (are_missing es) (all_sorted c fs es) s).1 (record { places = r.places; arrays = omega (arith, r.arrays); labels = r.labels }),
     )
 
 -- labels of quick ways

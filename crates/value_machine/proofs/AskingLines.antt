@@ -101,5 +101,6 @@ module _ (p : Program) (deepest : Watch) (ks : List Kind) (F : List Frame) (b : 
         parameters = rd.parameters;
         plain = rd.plain;
         walking = walking_same p deepest ks F b M n (loops_walked K) u l g.next (λ x. g.same.iterators x) rd.walking;
+        none = rd.none;
       })
       g.holds g.line))))

@@ -37,7 +37,7 @@ use Rattle.value_machine.proofs.Setting.{number_of_form, number_boxed, number_he
 use Rattle.value_machine.proofs.Arguments.{Under, under_self, under_then, under_keeps, onto_reverse}
 use Rattle.value_machine.proofs.Operands.{all_held_same}
 use Rattle.value_machine.proofs.Simulation.{work_of, works_of, extra_of, past, made_past, past_from, made_from, past_room, layout, context, all_meant, Done, ExprOk, AllHeld, AllDone, CodesOk, walking_same}
-use Rattle.value_machine.proofs.Waiting.{waits_there}
+use Rattle.value_machine.proofs.Waiting.{freed_after, waits_there}
 
 -- what an unboxed parameter is given is a number, or nothing yet
 unboxed_given : (f : Form) (x : Holds f) (t : ℕ) (l : Locals) → is_given f Unboxed ≡ true → HoldsAt f t l x → (l.hand t ≡ empty) × (l.number t ≡ Bits (I64 (bare (boxed f x)))) × (beside (boxed f x) ≡ empty)
@@ -439,6 +439,8 @@ module _ (p : Program) (deepest : Watch) (ks : List Kind) (F : List Frame) (b : 
       let mw = made_is w es in
       let mm = made_enough es in
       let ex = extra_for_call es in
+      let none = rd.none in
+      let fb = freed_after lay w (made_in es) k in
       then_on mach M (works_of es) (26 + extra_of es) (work_of (Call f es)) σ.turns _ (AllDone p deepest ks F b M n es fs env ts st t u w k1 K l σ) P Q (all_meant p deepest ks F b M n fs env es σ) _ (omega arith)
       (oks fs env ts st t u w d k1 K l σ s2.1 us (omega (arith, rm)) ar rd)
       (λ vs τ c1 le a.
@@ -478,4 +480,4 @@ module _ (p : Program) (deepest : Watch) (ks : List Kind) (F : List Frame) (b : 
       })
       (left_onward 3 20 23 τ.turns _ (CameBack K (laid b z.next) k4 τ) (LeftCall K (laid b z.next) k4) Q (go_on (spent τ.turns τ) (λ x. noted_called deepest.notes p n f own)) (omega arith)
       (λ why τ1 c2 q. leaves_too t u (made_past w es) d k5 K z.next τ why τ1 c2 (omega (arith, rm)) z.fit q)
-      (calls f own z.words K (laid b z.next) k4 τ (omega (arith, fl, ln)) (waits_there p deepest ks F b M n t u (made_past w es) d k5 K z.next τ z.fit (walking_same p deepest ks F b M n (loops_walked K) u l z.next (λ x. z.under.iterators x ∙ (g.under.iterators x ∙ a.same.iterators x)) rd.walking) rd.parameters (omega (arith, rm))) (to_given pks K k4 g.next z.next pks own z.words z.under.arrays z.given) z.fit.sound (omega (arith, le, rd.turns))))))
+      (calls f own z.words K (laid b z.next) k4 τ (omega (arith, fl, ln)) (waits_there p deepest ks F b M n t u (made_past w es) d k5 K z.next τ z.fit (walking_same p deepest ks F b M n (loops_walked K) u l z.next (λ x. z.under.iterators x ∙ (g.under.iterators x ∙ a.same.iterators x)) rd.walking) rd.parameters (omega (arith, rm)) (omega (arith, mw, none, fb))) (to_given pks K k4 g.next z.next pks own z.words z.under.arrays z.given) z.fit.sound (omega (arith, le, rd.turns))))))

@@ -280,6 +280,7 @@ module _ (p : Program) (deepest : Watch) (ks : List Kind) (F : List Frame) (b : 
         parameters = rd.parameters;
         plain = rd.plain;
         walking = walking_same p deepest ks F b M n (loops_walked K) u l z.next (λ x. same.iterators x) rd.walking;
+        none = rd.none;
       } in
       let m1 : Doing (In s) = λ τ1. go_on (meant p deepest ks F b M n fs env a1 τ1) (λ x1. settled (converted (form_of fs a1) s x1)) in
       let m2 : Doing (In s) = λ τ1. go_on (meant p deepest ks F b M n fs env a2 τ1) (λ x1. settled (converted (form_of fs a2) s x1)) in

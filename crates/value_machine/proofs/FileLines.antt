@@ -113,5 +113,6 @@ module _ (p : Program) (deepest : Watch) (ks : List Kind) (F : List Frame) (b : 
         parameters = rd.parameters;
         plain = rd.plain;
         walking = walking_same p deepest ks F b M n (loops_walked K) u l put.next (λ x. sm.iterators x ∙ a.same.iterators x) rd.walking;
+        none = rd.none;
       })
       put.holds (line_after τ.shared (getline_line_file_row y τ.shared.outside τ.shared.inner) z (file_line_there y τ.shared.outside τ.shared.inner) er1))))))))

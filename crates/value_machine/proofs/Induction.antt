@@ -72,4 +72,4 @@ module _ (p : Program) (deepest : Watch) (ks : List Kind) (F : List Frame) (b : 
       codes_ok End = codes_end p deepest ks F b M n
       codes_ok (At e es) = codes_at p deepest ks F b M n e es (expr_ok e) (codes_ok es)
       codes_ok (Fixed m es) = codes_fixed p deepest ks F b M n m es (codes_ok es)
-      codes_ok (Fresh es) = codes_fresh p deepest ks F b M n es (codes_ok es)
+      codes_ok (Fresh es) = codes_fresh p deepest ks F b M n es

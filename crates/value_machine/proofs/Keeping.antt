@@ -127,7 +127,7 @@ module _ (p : Program) (deepest : Watch) (ks : List Kind) (F : List Frame) (b : 
       })
       (λ why τ1 c2 q. q)
       (okc false fs env ts st1 t u w d k K g.next τ s2.1 us (omega (arith, rm)) (omega (arith, ar))
-      (record { below = rd.below; kept = kept_same fs ts st1 h.next g.next env t rd.below (λ y lt. g.keeps.hands y (λ z. omega (arith, z, lt))) (λ y lt. g.keeps.numbers y (λ z. omega (arith, z, lt))) h.kept; fit = g.fit; turns = omega (arith, le, rd.turns); parameters = rd.parameters; plain = rd.plain; walking = walking_same p deepest ks F b M n (loops_walked K) u l g.next (λ x. g.keeps.iterators x ∙ h.same.iterators x) rd.walking }))))
+      (record { below = rd.below; kept = kept_same fs ts st1 h.next g.next env t rd.below (λ y lt. g.keeps.hands y (λ z. omega (arith, z, lt))) (λ y lt. g.keeps.numbers y (λ z. omega (arith, z, lt))) h.kept; fit = g.fit; turns = omega (arith, le, rd.turns); parameters = rd.parameters; plain = rd.plain; walking = walking_same p deepest ks F b M n (loops_walked K) u l g.next (λ x. g.keeps.iterators x ∙ h.same.iterators x) rd.walking; none = rd.none }))))
 
   -- Moves from one temporary to another.
 
@@ -307,7 +307,7 @@ module _ (p : Program) (deepest : Watch) (ks : List Kind) (F : List Frame) (b : 
         };
       })
       (okc false gs env2 (t ∷ ts) st2 (suc t) u w d k3 K h1.next τ s3.1 used (omega (arith, rm)) (omega (arith, ar))
-      (record { below = (omega arith, rd.below); kept = (still_stands a g t h1.next x h1.stands, h1.kept); fit = h1.fit; turns = omega (arith, le, rd.turns); parameters = rd.parameters; plain = all_plain fs g s1.0 rd.plain; walking = walking_same p deepest ks F b M n (loops_walked K) u l h1.next (λ x. h1.same.iterators x) rd.walking }))))
+      (record { below = (omega arith, rd.below); kept = (still_stands a g t h1.next x h1.stands, h1.kept); fit = h1.fit; turns = omega (arith, le, rd.turns); parameters = rd.parameters; plain = all_plain fs g s1.0 rd.plain; walking = walking_same p deepest ks F b M n (loops_walked K) u l h1.next (λ x. h1.same.iterators x) rd.walking; none = rd.none }))))
     where
       all_plain : (fs : List Form) (g : Form) → is_kept g ≡ true → ((i : ℕ) → NoArray (form_at fs i)) → (i : ℕ) → NoArray (form_at (g ∷ fs) i)
       all_plain fs g e q zero = kept_plain g e

@@ -160,6 +160,7 @@ module _ (p : Program) (deepest : Watch) (ks : List Kind) (F : List Frame) (b : 
           parameters = st.parameters;
           plain = plain_key;
           walking = record { loops = st.loops; few = st.walks; each = st.walked };
+          none = refl;
         })))
         (λ x τ c1 le a.
         let g = left_ok p deepest ks F b M n e (form_of (a_value ∷ []) e) x 1 (suc u) zero drop_code key_labels a.next τ (omega (arith, rm, one)) a.fit a.stands in

@@ -1,5 +1,5 @@
 -- Expressions without parts.
-use Rattle.std.proofs.Common.{ℕ, List, length, None, refl, sym, ap, ◌∙◌, arith, w64}
+use Rattle.std.proofs.Common.{ℕ, ◌<◌, Bool, List, [], length, None, refl, sym, ap, ◌∙◌, arith, w64}
 use Rattle.std.specs.Prelude.{ℤ}
 use Rattle.std.specs.Int.{cast_unsigned}
 use Rattle.std.proofs.lemmas.Bool.{ltb-true}
@@ -7,27 +7,28 @@ use Rattle.awk_state.specs.Constants.{flag_number}
 use Rattle.awk_state.specs.Numbers.{number_of}
 use Rattle.awk_state.specs.declared.sorts.Answer.TheVariants as answer
 use Rattle.awk_state.specs.declared.sorts.Sort.TheVariants as sort
+use Rattle.wasm_types.specs.Syntax.{Instructions}
 use Rattle.wasm_store.specs.declared.word.Word.TheVariants.{I32, I64}
-use Rattle.mid_program.specs.Mid.{Kind, Program, Answered, Perhaps, Number, Unset, Array, IsOpen}
-use Rattle.mid_program.specs.MidMeaning.{evaluated, all_evaluated, or_zero}
+use Rattle.mid_program.specs.Mid.{Kind, Program, Form, Answered, Perhaps, Number, Unset, Array, IsOpen}
+use Rattle.mid_program.specs.MidMeaning.{Env, evaluated, all_evaluated, or_zero}
 use Rattle.mid_program.specs.Names.{ArrayName, Numbered, Given}
-use Rattle.mid_program.specs.ScriptState.{local_array}
-use Rattle.mid_program.specs.Sorted.{sorted, all_sorted, kinds_of}
+use Rattle.mid_program.specs.ScriptState.{State, local_array}
+use Rattle.mid_program.specs.Sorted.{Held as Standing, sorted, all_sorted, kinds_of}
 use Rattle.value_machine.specs.Cells.{Bits}
 use Rattle.value_machine.specs.Emission.{emitted, all_emitted}
-use Rattle.value_machine.specs.Machine.{Frame}
+use Rattle.value_machine.specs.Machine.{Frame, Label, at}
 use Rattle.value_machine.specs.Places.{Bases}
 use Rattle.value_machine.specs.Small.{least}
 use Rattle.value_machine.proofs.Watch.{Watch}
 use Rattle.value_machine.proofs.Runs.{then_goes, stays, by_steps, there}
-use Rattle.value_machine.proofs.Locals.{Number as NumberAt}
+use Rattle.value_machine.proofs.Locals.{Locals, Number as NumberAt, laid}
 use Rattle.value_machine.proofs.Globals.{Range}
 use Rattle.value_machine.proofs.Steps.{set_ok}
 use Rattle.value_machine.proofs.GlobalSteps.{global_copied}
 use Rattle.value_machine.proofs.State.{cells_of}
-use Rattle.value_machine.proofs.Relation.{same_self, fit_more, Away}
-use Rattle.value_machine.proofs.Answers.{machine, put_word}
-use Rattle.value_machine.proofs.Simulation.{Done, ExprOk}
+use Rattle.value_machine.proofs.Relation.{Below, Fit, Kept, same_self, fit_more, Away}
+use Rattle.value_machine.proofs.Answers.{Reached, beside_state, machine, put_word}
+use Rattle.value_machine.proofs.Simulation.{Done, ExprOk, layout, meant, work_of}
 use Rattle.value_machine.proofs.Expressions.{constant_word, put_done}
 
 module _ (p : Program) (deepest : Watch) (ks : List Kind) (F : List Frame) (b : Bases) (M n : ℕ) where
@@ -40,13 +41,18 @@ module _ (p : Program) (deepest : Watch) (ks : List Kind) (F : List Frame) (b : 
       (put_done p deepest ks F b M n (Number z) v fs env ts st t u w k K l l σ σ (or_zero (number_of z)) _ rd.below (same_self ts t w l) (λ i h. refl) rd.kept refl tt
       (put_word p deepest ks F b M t u w (cast_unsigned w64 z) (Answered (answer.Of sort.Number)) k K l (or_zero (number_of z)) σ refl (λ c q. q ∙ ap (λ m. Bits (I64 m)) (sym e)) rd.fit))
 
-  pub unset_expr : ExprOk p deepest ks F b M n Unset
-  unfolding emitted all_emitted evaluated all_evaluated sorted all_sorted
-  unset_expr v fs env ts st t u w d k K l σ so us rm ar rd =
+  -- whatever arrays were made for calls
+  pub unset_there : (v : Bool) (fs : List Form) (env : Env fs) (ts : List ℕ) (st : ℕ → Standing) (t u w d : ℕ) (k : Instructions) (K : List Label) (l : Locals) (σ : State) → t < b.temporaries → Below t ts → Kept fs ts st l env → Fit p deepest ks F t u w l σ →
+      Reached p deepest ks F b M (work_of Unset) σ.turns (at ks [] K (laid b l) F (emitted (layout p deepest ks F b M n) v fs ts Unset t w d k) (beside_state p deepest ks F σ)) (Done p deepest ks F b M n v Unset fs env ts st t u w k K l σ) (Away p deepest ks F b d K) (meant p deepest ks F b M n fs env Unset σ)
+  unfolding emitted all_emitted evaluated all_evaluated
+  unset_there v fs env ts st t u w d k K l σ lt below held fit =
       there (machine p deepest ks F) M 1 1 _ _ None σ (Done p deepest ks F b M n v Unset fs env ts st t u w k K l σ) (Away p deepest ks F b d K)
-      (set_ok b l (NumberAt t) (Bits (I64 least)) (omega (arith, rm)) (rd.fit.numbers t)) (omega arith)
-      (put_done p deepest ks F b M n Unset v fs env ts st t u w k K l l σ σ None _ rd.below (same_self ts t w l) (λ i h. refl) rd.kept refl tt
-      (put_word p deepest ks F b M t u w least Perhaps k K l None σ refl (λ c q. q) rd.fit))
+      (set_ok b l (NumberAt t) (Bits (I64 least)) lt (fit.numbers t)) (omega arith)
+      (put_done p deepest ks F b M n Unset v fs env ts st t u w k K l l σ σ None _ below (same_self ts t w l) (λ i h. refl) held refl tt
+      (put_word p deepest ks F b M t u w least Perhaps k K l None σ refl (λ c q. q) fit))
+
+  pub unset_expr : ExprOk p deepest ks F b M n Unset
+  unset_expr v fs env ts st t u w d k K l σ so us rm ar rd = unset_there v fs env ts st t u w d k K l σ (omega (arith, rm)) rd.below rd.kept rd.fit
 
   pub open_expr : (i : ℕ) → ExprOk p deepest ks F b M n (IsOpen i)
   unfolding emitted all_emitted evaluated all_evaluated sorted all_sorted

@@ -125,7 +125,7 @@ module _ (p : Program) (deepest : Watch) (ks : List Kind) (F : List Frame) (b : 
       first mach M 0 (works_of es) (works_of es) τ.turns c1 _ P Q _ (record { it = a.comes }) (omega arith)
       (then_on mach M (works_of es) 0 (works_of es) τ.turns _ P2 P Q (all_meant p deepest ks F b M n fs env es τ) _ (omega arith)
       (oks fs env ts (λ i. held_after i e (st i)) (suc t) u w d k K a.next τ s.1 us (omega (arith, rm, r1)) (omega (arith, ar))
-      (record { below = below_more t (suc t) ts (omega arith) r.below; kept = a.kept; fit = a.fit; turns = omega (arith, le, r.turns); parameters = r.parameters; plain = r.plain; walking = walking_same p deepest ks F b M n (loops_walked K) u l a.next (λ x. a.same.iterators x) r.walking }))
+      (record { below = below_more t (suc t) ts (omega arith) r.below; kept = a.kept; fit = a.fit; turns = omega (arith, le, r.turns); parameters = r.parameters; plain = r.plain; walking = walking_same p deepest ks F b M n (loops_walked K) u l a.next (λ x. a.same.iterators x) r.walking; none = r.none }))
       (λ vs τ1 c2 le2 a2. there mach M 0 0 _ _ (v, vs) τ1 P Q stays (omega arith)
       (record {
         next = a2.next;

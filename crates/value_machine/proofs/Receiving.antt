@@ -72,6 +72,7 @@ module _ (p : Program) (deepest : Watch) (ks : List Kind) (F : List Frame) (b : 
     pub parameters : length ks ≡ b.parameters
     pub plain : (i : ℕ) → NoArray (form_at fs i)
     pub walking : Walking p deepest ks F b M n m u l
+    pub none : w ≡ 0
 
   -- once it is stored
   pub record TextDone (s : Code) (fs : List Form) (env : Env fs) (ts : List ℕ) (st : ℕ → Standing) (t u w : ℕ) (k : Instructions) (K : List Label) (l : Locals) (σ : State) (x : Unit {0}) (σ1 : State) (c : Conf) : Type 0 where
@@ -108,6 +109,7 @@ module _ (p : Program) (deepest : Watch) (ks : List Kind) (F : List Frame) (b : 
         parameters = g.parameters;
         plain = plain_more a_value fs tt g.plain;
         walking = walking_same p deepest ks F b M n (loops_walked K) u l l1 (λ x. refl) g.walking;
+        none = g.none;
       }))
       (λ x τ c1 le a.
       let z = left_ok p deepest ks F b M n s (form_of gs s) x (suc (suc t)) u w (let_go Drop (h b (suc t)) k) K a.next τ (room_there s q) a.fit a.stands in
@@ -212,6 +214,7 @@ module _ (p : Program) (deepest : Watch) (ks : List Kind) (F : List Frame) (b : 
     parameters = g.parameters;
     plain = g.plain;
     walking = g.walking;
+    none = g.none;
   }
 
   -- nothing was read

@@ -140,6 +140,7 @@ module _ (p : Program) (deepest : Watch) (ks : List Kind) (F : List Frame) (b : 
         parameters = rd.parameters;
         plain = rd.plain;
         walking = walking_same p deepest ks F b M n (loops_walked K) u l put.next (λ x. put.same.iterators x ∙ a.same.iterators x) rd.walking;
+        none = rd.none;
       })
       put.holds (text_after τ.shared (substitute_row r.0 r.1.0 r.1.1.0 all τ.shared.inner) z (text_there r.0 r.1.0 r.1.1.0 all τ.shared.inner) er))))))
 

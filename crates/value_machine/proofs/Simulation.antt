@@ -164,7 +164,7 @@ module _ (p : Program) (deepest : Watch) (ks : List Kind) (F : List Frame) (b : 
   pub walking_same : (m u : ℕ) (l l1 : Locals) → ((x : ℕ) → l1.iterator x ≡ l.iterator x) → Walking m u l → Walking m u l1
   walking_same m u l l1 same w = record { loops = w.loops; few = w.few; each = λ x lt. let q = w.each x lt in (q.0, same x ∙ q.1) }
 
-  -- before code: what is kept, and how it will be used; places enough; turns within the bound
+  -- before code: what is kept, and how it will be used; places enough; turns within the bound; no array is made for a call that is still to come
   pub record Ready (fs : List Form) (env : Env fs) (ts : List ℕ) (st : ℕ → Standing) (t u w m : ℕ) (l : Locals) (σ : State) : Type 0 where
     pub below : Below t ts
     pub kept : Kept fs ts st l env
@@ -173,6 +173,7 @@ module _ (p : Program) (deepest : Watch) (ks : List Kind) (F : List Frame) (b : 
     pub parameters : length ks ≡ b.parameters
     pub plain : (i : ℕ) → NoArray (form_at fs i)
     pub walking : Walking m u l
+    pub none : w ≡ 0
 
   abbrev pub WellUsed : List Form → (ℕ → Standing) → Type 0
   WellUsed fs st = (i : ℕ) → i < length fs → is_well_used (st i) ≡ true

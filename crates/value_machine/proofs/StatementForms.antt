@@ -1,6 +1,6 @@
 -- The simulation of steps: what a step's code does beside what the step means. Where a step begins, the function holds its parameters and an iterator for each loop over keys around the step,
 -- and nothing else; where it ends in some way that does not leave the function, the same holds again.
-use Rattle.std.proofs.Common.{◌≡◌, ℕ, ◌+◌, ◌<◌, ◌≤◌, Bool, true, false, List, [], length, ◌∙◌, arith}
+use Rattle.std.proofs.Common.{◌≡◌, ℕ, ◌+◌, ◌<◌, ◌≤◌, Bool, true, false, List, [], length, ◌∙◌, refl, arith}
 use Rattle.wasm_types.specs.Syntax.{Instructions}
 use Rattle.mid_program.specs.Mid.{Kind, Program, Step, Eval, Block, If, Loop, Each, Break, Continue, Next, Exit, ExitWith, Return, Mark, Steps, NoStep, Then}
 use Rattle.mid_program.specs.MidMeaning.{stepped}
@@ -83,7 +83,7 @@ module _ (p : Program) (deepest : Watch) (ks : List Kind) (F : List Frame) (b : 
 
   -- an expression of a step keeps nothing that was there before
   pub ready : (u : ℕ) (K : List Label) (l : Locals) (σ : State) → Starts u K l σ → Ready p deepest ks F b M n [] tt [] (λ i. There) 0 u 0 (loops_walked K) l σ
-  ready u K l σ s = record { below = tt; kept = tt; fit = s.fit; turns = s.turns; parameters = s.parameters; plain = λ i. tt; walking = record { loops = s.loops; few = s.walks; each = s.walked } }
+  ready u K l σ s = record { below = tt; kept = tt; fit = s.fit; turns = s.turns; parameters = s.parameters; plain = λ i. tt; walking = record { loops = s.loops; few = s.walks; each = s.walked }; none = refl }
 
   -- a step begins later, among labels with as many loops over keys
   pub starts_after : (u : ℕ) (K K1 : List Label) (l l1 : Locals) (σ σ1 : State) → Starts u K l σ → loops_walked K1 ≡ loops_walked K → σ1.turns ≤ σ.turns → ((x : ℕ) → l1.iterator x ≡ l.iterator x) → Fit p deepest ks F 0 u 0 l1 σ1 → Starts u K1 l1 σ1

@@ -1,13 +1,14 @@
 -- Where a function is called its caller holds parameters, operands that are pending, and iterators of the loops that are walked: the machine goes on.
 use Rattle.std.proofs.Common.{◌≡◌, inl, inr, ℕ, zero, suc, ◌+◌, ◌<◌, ◌≤◌, Bool, true, false, List, [], ◌∷◌, ◌++◌, length, refl, sym, ap, ap₂, ◌∙◌, arith}
-use Rattle.std.specs.Prelude.{not, ◌&&◌, ◌||◌, nat_eq}
-use Rattle.std.proofs.lemmas.Bool.{eq-eqb}
+use Rattle.std.specs.Prelude.{not, ◌&&◌, ◌||◌, cond, nat_eq, nat_le}
+use Rattle.std.proofs.lemmas.Bool.{eq-eqb, le-leb}
 use Rattle.wasm_types.specs.Syntax.{Instructions}
 use Rattle.mid_program.specs.Mid.{Kind, Boxed, Unboxed, Many, Program}
 use Rattle.mid_program.specs.ScriptState.{State}
 use Rattle.mid_program.specs.Sorted.{has_kind}
-use Rattle.value_machine.specs.Cells.{Cell, Bits, Held, IteratorOf, OwnedArray, LentArray, Gone, is_owned, is_held, is_iterator, iterators_in, is_operand, locals_wait, no_value, operands_wait}
-use Rattle.value_machine.specs.Machine.{Label, Frame, loops_walked, waits}
+use Rattle.value_machine.specs.Cells.{Cell, Bits, Held, IteratorOf, OwnedArray, LentArray, Gone, arrays_owned, is_array, is_owned, is_held, is_iterator, iterators_in, is_operand, locals_wait, no_value, operands_wait}
+use Rattle.value_machine.specs.Emission.{Layout, all_freed}
+use Rattle.value_machine.specs.Machine.{Label, Frame, arrays_freed, loops_walked, waits}
 use Rattle.value_machine.specs.Places.{Bases}
 use Rattle.value_machine.specs.Small.{kept_value}
 use Rattle.value_machine.proofs.Watch.{Watch}
@@ -16,7 +17,7 @@ use Rattle.value_machine.proofs.Locals.{Locals, temporaries_on, laid}
 use Rattle.value_machine.proofs.Steps.{empty}
 use Rattle.value_machine.proofs.Relation.{Fit, IsHand, IsWalk, IsYard, ParamLoose, fit_loose}
 use Rattle.value_machine.proofs.Simulation.{Walking}
-use Rattle.value_machine.proofs.Tidy.{loose_still, passed, same_self, still_cells, still_pairs, still_parameters, unowned_still, walked_cells}
+use Rattle.value_machine.proofs.Tidy.{passed, same_self, still_cells, still_pairs, still_parameters, unowned_still, walked_cells}
 
 -- cells that hold no value
 
@@ -67,7 +68,84 @@ operands_ok f g (suc n) (suc t) (suc (suc m)) rest e le h k free r =
     ap₂ (λ x y. x && y) (ap₂ (λ x y. x && not y) (hand_operand (f zero) (h zero)) (k zero))
     (operands_ok (λ i. f (suc i)) (λ i. g (suc i)) n t m rest (omega (arith, e)) (omega (arith, le)) (λ i. h (suc i)) (λ i. k (suc i)) (λ i li. free (suc i) (omega (arith, li))) r)
 
+-- Arrays that are to be freed: those that were made for calls, the first ones of their locals.
+
+unowned_spare : (c : Cell) → is_owned c ≡ false → is_array c ≡ false
+unowned_spare (Bits w) e = refl
+unowned_spare (Held v) e = refl
+unowned_spare (IteratorOf t) e = refl
+unowned_spare (OwnedArray a) e = cc
+unowned_spare (LentArray a) e = refl
+unowned_spare Gone e = refl
+
+hand_spare : (c : Cell) → IsHand c → is_array c ≡ false
+hand_spare c (inl e) = ap is_array e
+hand_spare c (inr q) = ap is_array q.1
+
+walk_spare : (c : Cell) → IsWalk c → is_array c ≡ false
+walk_spare c (inl e) = ap is_array e
+walk_spare c (inr q) = ap is_array q.1
+
+one_array : (c : Cell) (m : ℕ) → cond (is_array c) (suc m) m ≤ suc m
+one_array c m = by (is_array c)
+  where
+    by : (z : Bool) → cond z (suc m) m ≤ suc m
+    by true = omega arith
+    by false = omega arith
+
+no_array : (c : Cell) (m : ℕ) → is_array c ≡ false → cond (is_array c) (suc m) m ≡ m
+no_array c m e = ap (λ z. cond z (suc m) m) e
+
+first_arrays : (f : ℕ → Cell) (n w : ℕ) (rest : List Cell) → ((i : ℕ) → w ≤ i → is_array (f i) ≡ false) → arrays_owned (cells f n ++ rest) ≤ w + arrays_owned rest
+first_arrays f zero w rest h = omega arith
+first_arrays f (suc n) zero rest h =
+    let e = no_array (f zero) (arrays_owned (cells (λ i. f (suc i)) n ++ rest)) (h zero (omega arith)) in
+    let r = first_arrays (λ i. f (suc i)) n zero rest (λ i le. h (suc i) (omega arith)) in
+    omega (arith, e, r)
+first_arrays f (suc n) (suc w) rest h =
+    let e = one_array (f zero) (arrays_owned (cells (λ i. f (suc i)) n ++ rest)) in
+    let r = first_arrays (λ i. f (suc i)) n w rest (λ i le. h (suc i) (omega (arith, le))) in
+    omega (arith, e, r)
+
+pairs_without : (f g : ℕ → Cell) (n : ℕ) (rest : List Cell) → ((i : ℕ) → is_array (f i) ≡ false) → ((i : ℕ) → is_array (g i) ≡ false) → arrays_owned (pairs f g n ++ rest) ≡ arrays_owned rest
+pairs_without f g zero rest h k = refl
+pairs_without f g (suc n) rest h k =
+    no_array (f zero) (arrays_owned (g zero ∷ (pairs (λ i. f (suc i)) (λ i. g (suc i)) n ++ rest))) (h zero)
+    ∙ (no_array (g zero) (arrays_owned (pairs (λ i. f (suc i)) (λ i. g (suc i)) n ++ rest)) (k zero)
+    ∙ pairs_without (λ i. f (suc i)) (λ i. g (suc i)) n rest (λ i. h (suc i)) (λ i. k (suc i)))
+
+-- after a call so many arrays are let go
+pub freed_after : (y : Layout) (w i : ℕ) (k : Instructions) → i ≤ arrays_freed (all_freed y w i k)
+freed_after y w zero k = omega arith
+freed_after y w (suc i) k = let r = freed_after y w i k in omega (arith, r)
+
 module _ (p : Program) (deepest : Watch) (ks : List Kind) (F : List Frame) (b : Bases) (M n : ℕ) where
+  loose_spare : (k : Kind) (c : Cell) → ParamLoose p deepest ks F k c → is_array c ≡ false
+  loose_spare Boxed c h = ap is_array h.1
+  loose_spare Unboxed c h = unowned_spare c h
+  loose_spare Many c h = unowned_spare c h
+
+  parameters_without : (js : List Kind) (f : ℕ → Cell) (rest : List Cell) → ((i : ℕ) (k : Kind) → has_kind js i k ≡ true → ParamLoose p deepest ks F k (f i)) → arrays_owned (cells f (length js) ++ rest) ≡ arrays_owned rest
+  parameters_without [] f rest h = refl
+  parameters_without (k ∷ js) f rest h =
+      no_array (f zero) (arrays_owned (cells (λ i. f (suc i)) (length js) ++ rest)) (loose_spare k (f zero) (h zero k (same_self k)))
+      ∙ parameters_without js (λ i. f (suc i)) rest (λ i j e. h (suc i) j e)
+
+  -- no more than w arrays
+  few_arrays : (t u w : ℕ) (l : Locals) (σ : State) → Fit p deepest ks F t u w l σ → length ks ≡ b.parameters → arrays_owned (laid b l) ≤ w
+  few_arrays t u w l σ fit same =
+      let after = l.answer ∷ temporaries_on b l in
+      let yards = cells l.array b.arrays ++ [] in
+      let lo = fit_loose p deepest ks F t u w l σ fit in
+      let e0 : arrays_owned (laid b l) ≡ arrays_owned (cells l.param (length ks) ++ after) = ap (λ m. arrays_owned (cells l.param m ++ after)) (sym same) in
+      let e1 = parameters_without ks l.param after lo.params in
+      let e2 = no_array l.answer (arrays_owned (temporaries_on b l)) (ap is_array fit.answer) in
+      let e3 = pairs_without l.hand l.number b.temporaries (cells l.iterator b.iterators ++ yards) (λ i. hand_spare (l.hand i) (fit.hands i)) (λ i. unowned_spare (l.number i) (fit.numbers i)) in
+      let e4 = first_arrays l.iterator b.iterators zero yards (λ i le. walk_spare (l.iterator i) (fit.walks i)) in
+      let e5 = first_arrays l.array b.arrays w [] (λ i le. ap is_array (fit.spare i le)) in
+      let e : arrays_owned (laid b l) ≡ arrays_owned (cells l.iterator b.iterators ++ (cells l.array b.arrays ++ [])) = e0 ∙ (e1 ∙ (e2 ∙ e3)) in
+      omega (arith, e, e4, e5)
+
   parameters_wait : (js : List Kind) (f : ℕ → Cell) (m x : ℕ) (rest : List Cell) → x ≡ suc (length js) + m → ((i : ℕ) (k : Kind) → has_kind js i k ≡ true → ParamLoose p deepest ks F k (f i)) → locals_wait (suc m) [] rest ≡ true → locals_wait x js (cells f (length js) ++ rest) ≡ true
   parameters_wait [] f m x rest e h r = let q : x ≡ suc m = omega (arith, e) in ap (λ z. locals_wait z [] rest) q ∙ r
   parameters_wait (k ∷ js) f m zero rest e h r = absurd (omega (arith, e))
@@ -76,8 +154,8 @@ module _ (p : Program) (deepest : Watch) (ks : List Kind) (F : List Frame) (b : 
   parameters_wait (Many ∷ js) f m (suc x) rest e h r = ap₂ (λ x y. not x && y) (h zero Many refl) (parameters_wait js (λ i. f (suc i)) m x rest (omega (arith, e)) (λ i j q. h (suc i) j q) r)
 
   -- A CALLER WAITS
-  pub waits_there : (t u w d : ℕ) (k : Instructions) (K : List Label) (l : Locals) (σ : State) → Fit p deepest ks F t u w l σ → Walking p deepest ks F b M n (loops_walked K) u l → length ks ≡ b.parameters → t < b.temporaries → waits ks K (laid b l) (kept_value b true t d k) ≡ true
-  waits_there t u w d k K l σ fit walking same lt =
+  pub waits_there : (t u w d : ℕ) (k : Instructions) (K : List Label) (l : Locals) (σ : State) → Fit p deepest ks F t u w l σ → Walking p deepest ks F b M n (loops_walked K) u l → length ks ≡ b.parameters → t < b.temporaries → w ≤ arrays_freed k → waits ks K (laid b l) (kept_value b true t d k) ≡ true
+  waits_there t u w d k K l σ fit walking same lt freed =
       let lo = fit_loose p deepest ks F t u w l σ fit in
       let yards : no_value (cells l.array b.arrays ++ []) ≡ true = no_cells l.array b.arrays [] (λ i. yard_free (l.array i) (fit.yards i)) refl in
       let rest : no_value (cells l.iterator b.iterators ++ (cells l.array b.arrays ++ [])) ≡ true = no_cells l.iterator b.iterators (cells l.array b.arrays ++ []) (λ i. walk_free (l.iterator i) (fit.walks i)) yards in
@@ -96,4 +174,5 @@ module _ (p : Program) (deepest : Watch) (ks : List Kind) (F : List Frame) (b : 
       eq-eqb (iterators_in (laid b l)) (loops_walked K)
       (ap (λ m. iterators_in (cells l.param m ++ (l.answer ∷ temporaries_on b l))) (sym same)
       ∙ (still_parameters p deepest ks F b M n ks l.param (l.answer ∷ temporaries_on b l) lo.params ∙ (walked ∙ sym walking.loops))) in
-      ap₂ (λ x y. x && y) held count
+      let few : nat_le (arrays_owned (laid b l)) (arrays_freed k) ≡ true = le-leb (arrays_owned (laid b l)) (arrays_freed k) (let a = few_arrays t u w l σ fit same in omega (arith, a, freed)) in
+      ap₂ (λ x y. x && y) held (ap₂ (λ x y. x && y) count few)

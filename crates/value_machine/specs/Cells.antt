@@ -87,9 +87,16 @@ abbrev pub no_temporary : List Cell → Bool
 no_temporary [] = true
 no_temporary (c ∷ cs) = (not (is_held c) && not (is_array c)) && no_temporary cs
 
+abbrev pub count_cells : (Cell → Bool) → List Cell → ℕ
+count_cells q [] = 0
+count_cells q (c ∷ cs) = cond (q c) (suc (count_cells q cs)) (count_cells q cs)
+
 abbrev pub iterators_in : List Cell → ℕ
-iterators_in [] = 0
-iterators_in (c ∷ cs) = cond (is_iterator c) (suc (iterators_in cs)) (iterators_in cs)
+iterators_in cs = count_cells is_iterator cs
+
+-- arrays that are to be freed
+abbrev pub arrays_owned : List Cell → ℕ
+arrays_owned cs = count_cells is_array cs
 
 -- the number of an unboxed name, beside which no text stands
 abbrev pub is_bare : Cell → Bool

@@ -18,11 +18,11 @@ use Rattle.mid_program.specs.Mid.{Kind}
 use Rattle.awk_values.specs.declared.value.Value.{Value}
 use Rattle.world_core.specs.WorldState.{Action}
 use Rattle.mid_program.specs.ScriptRun.{Ending, Ended, FaultedBy, GoesOn, Exhausted}
-use Rattle.value_machine.specs.Cells.{Cell, Bits, Held, IteratorOf, OwnedArray, LentArray, Gone, is_owned, left_by, read_global, left_in_global, cell_at, has_room, none_owned, has_owner, iterators_in, tidy_locals, locals_wait, tidy_name, ended_name, globals_by, marks_fit, may_come}
+use Rattle.value_machine.specs.Cells.{Cell, Bits, Held, IteratorOf, OwnedArray, LentArray, Gone, is_owned, left_by, read_global, left_in_global, cell_at, has_room, none_owned, has_owner, arrays_owned, iterators_in, tidy_locals, locals_wait, tidy_name, ended_name, globals_by, marks_fit, may_come}
 use Rattle.value_machine.specs.Imports.{import_at, import_arguments, import_count, import_number, params_of}
 use Rattle.value_machine.specs.ImportCalls.{Host, call, look, carried_by}
 use Rattle.value_machine.specs.declared.import.Import.{Import}
-use Rattle.value_machine.specs.declared.import.Import.TheVariants.{Of}
+use Rattle.value_machine.specs.declared.import.Import.TheVariants.{FreeArray, Of}
 use Rattle.awk_state.specs.declared.table.Primitive.TheVariants as row
 
 pub record Label : Type 0 where
@@ -238,9 +238,19 @@ abbrev pub answers_to : Instructions → ℕ
 answers_to (Then (Plain (LocalTee x)) c) = x
 answers_to _ = 0
 
--- a caller that waits holds operands that are pending, and its iterators
+-- how many arrays are let go, one after another
+abbrev pub arrays_freed : Instructions → ℕ
+arrays_freed (Then (Plain (LocalGet x)) (Then (Plain (I32Const m)) (Then (Plain (LocalSet y)) (Then (Plain (Call n)) c)))) = cond (nat_eq n (import_number FreeArray)) (suc (arrays_freed c)) 0
+arrays_freed _ = 0
+
+-- after a call, once its answer is kept
+abbrev pub freed_next : Instructions → ℕ
+freed_next (Then (Plain (LocalTee x)) (Then i (Then j (Then g c)))) = arrays_freed c
+freed_next _ = 0
+
+-- a caller that waits holds operands that are pending, its iterators, and arrays that were made for this call, which are let go right after it
 abbrev pub waits : List Kind → List Label → List Cell → Instructions → Bool
-waits ks K L c = locals_wait (answers_to c) ks L && nat_eq (iterators_in L) (loops_walked K)
+waits ks K L c = locals_wait (answers_to c) ks L && (nat_eq (iterators_in L) (loops_walked K) && nat_le (arrays_owned L) (freed_next c))
 
 -- the arguments are the first locals; nothing that is owned waits on the stack of a caller
 abbrev pub enter : ℕ → Option Callee → List Kind → List Cell → List Label → List Cell → List Frame → Instructions → Store → Conf

@@ -11,7 +11,7 @@ use Rattle.mid_program.specs.declared.mid.Operation.{Operation}
 use Rattle.mid_program.specs.declared.mid.Operation.TheVariants.{Host, Inline, AsNumber, FieldNumber}
 use Rattle.mid_program.specs.MidMeaning.{three_values}
 use Rattle.mid_program.specs.Mid.{Kind, Program, Code, Do, Over, Compare, Call, Ask, AskLine, FileLine, Replace, Number, Text, Unset, Get, Set, Array, IsOpen, Choose, Seq, Let, Bound, Codes, End, At, Fixed, Fresh, Form, a_value, form_of, form_at, arguments, parameters_at}
-use Rattle.mid_program.specs.Sorted.{context_of, calls_of, fits, fit_row, fit_call, all_values, are_enough, count_of, is_slot, takes, is_chosen, is_tested, is_dropped, is_kept, is_done_here, keeps_well, stores_well, sorted, all_sorted}
+use Rattle.mid_program.specs.Sorted.{context_of, calls_of, fits, fit_row, fit_call, all_values, are_enough, count_of, is_slot, takes, is_chosen, is_tested, is_dropped, is_kept, is_done_here, keeps_well, stores_well, are_missing, sorted, all_sorted}
 use Rattle.value_machine.specs.Emission.{emitted, all_emitted, performed, left_over, text_let_go}
 use Rattle.value_machine.specs.Functions.{layout_of}
 use Rattle.value_machine.specs.Places.{Bases, room, rooms, arrays_in, arrays_among, made_in}
@@ -206,4 +206,4 @@ module _ {p : Program} {ks : List Kind} {b : Bases} {C : Context} (at : Stands p
         (codes_ok fs ts es (suc t) w d q s1.1 (omega (arith, h)) (omega (arith, g)) x r)
     codes_ok fs ts (Fixed m es) t w d q s h g x r = codes_ok fs ts es t w d q s h g x r
     codes_ok {ps = ps} fs ts (Fresh es) t w d q s h g x r =
-        called ps (at.imported (Of row.NewArray)) (put (at.array w (omega (arith, g))) (codes_ok fs ts es t (suc w) d q s h (omega (arith, g)) x r))
+        called ps (at.imported (Of row.NewArray)) (put (at.array w (omega (arith, g))) (codes_ok fs ts es t (suc w) d q (and_parts (are_missing es) (all_sorted (context_of p ks) fs es) s).1 h (omega (arith, g)) x r))

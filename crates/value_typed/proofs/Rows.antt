@@ -15,7 +15,7 @@ use Rattle.wasm_types.specs.Typing.{Context, CodeOk}
 use Rattle.wasm_types.specs.declared.types.ValType.TheVariants.{I32}
 use Rattle.mid_program.specs.declared.mid.Operation.TheVariants.{Inline}
 use Rattle.mid_program.specs.Mid.{Kind, Boxed, Unboxed, Many, Program, Code, Do, Over, Compare, Call, Ask, AskLine, FileLine, Replace, Number, Text, Unset, Get, Set, Array, IsOpen, Choose, Seq, Let, Bound, Codes, End, At, Fixed, Fresh, Form, Answered, Bare, form_of}
-use Rattle.mid_program.specs.Sorted.{context_of, is_array_place, fits, fit_row, is_given, fit_call, is_constant, is_kept, keeps_well, sorted, all_sorted, arrays_among as count_arrays}
+use Rattle.mid_program.specs.Sorted.{context_of, is_array_place, fits, fit_row, is_given, fit_call, is_constant, is_kept, keeps_well, are_missing, sorted, all_sorted, arrays_among as count_arrays}
 use Rattle.value_machine.specs.Emission.{array_meant, all_converted, one_pushed, all_pushed, all_boxed, all_appended, listed_asked, all_given, one_given, all_given_pushed, all_freed}
 use Rattle.value_machine.specs.Functions.{layout_of}
 use Rattle.value_machine.specs.Imports.{params_of, words_of}
@@ -96,7 +96,7 @@ module _ (p : Program) (ks : List Kind) where
 
   fresh_sorted : (fs : List Form) (es : Codes) → all_sorted (context_of p ks) fs (Fresh es) ≡ true → all_sorted (context_of p ks) fs es ≡ true
   unfolding sorted all_sorted
-  fresh_sorted fs es s = s
+  fresh_sorted fs es s = (and_parts (are_missing es) (all_sorted (context_of p ks) fs es) s).1
 
 module _ {p : Program} {ks : List Kind} {b : Bases} {C : Context} (at : Stands p ks b C) where
   module _ {L : Labels} {k : Instructions} {rs : Stack} where
