@@ -1,5 +1,5 @@
 -- Bytes, escapes and bracket expressions: how they are spelled, and how they are read from the front of a text.
-use Rattle.std.specs.Prelude.{◌≡◌, ℕ, zero, suc, ◌+◌, ◌-◌, ◌*◌, ◌%◌, Bool, true, false, ◌&&◌, ◌||◌, ◌==◌, nat_le, if◌then◌else◌, Option, Some, None, List, [], ◌∷◌, ◌++◌, length}
+use Rattle.std.specs.Prelude.{codes, ◌≡◌, ℕ, zero, suc, ◌+◌, ◌-◌, ◌*◌, ◌%◌, Bool, true, false, ◌&&◌, ◌||◌, ◌==◌, nat_le, if◌then◌else◌, Option, Some, None, List, [], ◌∷◌, ◌++◌, length}
 use Rattle.ere_syntax.specs.Reading.{◌>>=◌}
 use Rattle.ere_syntax.specs.declared.bracket.Front.{Front}
 use Rattle.ere_syntax.specs.declared.bracket.Front.TheVariants.{Closes, Names, Begins, Wrong}
@@ -86,18 +86,18 @@ one_at (c ∷ cs) = if c == 92 then (escape_at cs >>= λ x. Some (Escaped x.0, x
 
 -- with the `:]` behind it
 abbrev pub closed_name : Class → List ℕ
-closed_name Alnum = 97 ∷ 108 ∷ 110 ∷ 117 ∷ 109 ∷ 58 ∷ 93 ∷ []
-closed_name Alpha = 97 ∷ 108 ∷ 112 ∷ 104 ∷ 97 ∷ 58 ∷ 93 ∷ []
-closed_name Blank = 98 ∷ 108 ∷ 97 ∷ 110 ∷ 107 ∷ 58 ∷ 93 ∷ []
-closed_name Cntrl = 99 ∷ 110 ∷ 116 ∷ 114 ∷ 108 ∷ 58 ∷ 93 ∷ []
-closed_name Digit = 100 ∷ 105 ∷ 103 ∷ 105 ∷ 116 ∷ 58 ∷ 93 ∷ []
-closed_name Graph = 103 ∷ 114 ∷ 97 ∷ 112 ∷ 104 ∷ 58 ∷ 93 ∷ []
-closed_name Lower = 108 ∷ 111 ∷ 119 ∷ 101 ∷ 114 ∷ 58 ∷ 93 ∷ []
-closed_name Print = 112 ∷ 114 ∷ 105 ∷ 110 ∷ 116 ∷ 58 ∷ 93 ∷ []
-closed_name Punct = 112 ∷ 117 ∷ 110 ∷ 99 ∷ 116 ∷ 58 ∷ 93 ∷ []
-closed_name Space = 115 ∷ 112 ∷ 97 ∷ 99 ∷ 101 ∷ 58 ∷ 93 ∷ []
-closed_name Upper = 117 ∷ 112 ∷ 112 ∷ 101 ∷ 114 ∷ 58 ∷ 93 ∷ []
-closed_name Xdigit = 120 ∷ 100 ∷ 105 ∷ 103 ∷ 105 ∷ 116 ∷ 58 ∷ 93 ∷ []
+closed_name Alnum = codes "alnum:]"
+closed_name Alpha = codes "alpha:]"
+closed_name Blank = codes "blank:]"
+closed_name Cntrl = codes "cntrl:]"
+closed_name Digit = codes "digit:]"
+closed_name Graph = codes "graph:]"
+closed_name Lower = codes "lower:]"
+closed_name Print = codes "print:]"
+closed_name Punct = codes "punct:]"
+closed_name Space = codes "space:]"
+closed_name Upper = codes "upper:]"
+closed_name Xdigit = codes "xdigit:]"
 
 abbrev pub strip : List ℕ → List ℕ → Option (List ℕ)
 strip [] ts = Some ts
