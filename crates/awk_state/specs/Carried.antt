@@ -48,7 +48,8 @@ carried_taken on outside [] inner = on inner
 carried_taken on outside (c ∷ cs) inner = carried_operand on outside (c ∷ cs) (assignment_of (c ∷ cs)) inner
 
 abbrev pub carried_reached : (Inner → ℕ) → Outside → Inner → Result ℤ Fault → ℕ
-carried_reached on outside inner (Ok argc) = elim (is_below inner.main.next argc) [ true ↦ carried_taken on outside (operand_text inner.main.next inner) (passes_operand inner) | false ↦ 0 ]
+carried_reached on outside inner (Ok argc) =
+    elim (is_below inner.main.next argc) [ true ↦ carried_taken on outside (operand_text inner.main.next inner) (passes_operand inner) | false ↦ 0 ]
 carried_reached on outside inner (Err fault) = 0
 
 -- the next operand is reached, and those behind it; n may still be taken

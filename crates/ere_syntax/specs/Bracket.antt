@@ -1,10 +1,39 @@
 -- Bytes, escapes and bracket expressions: how they are spelled, and how they are read from the front of a text.
-use Rattle.std.specs.Prelude.{◌≡◌, ℕ, zero, suc, ◌+◌, ◌-◌, ◌*◌, ◌%◌, Bool, true, false, ◌&&◌, ◌||◌, ◌==◌, nat_le, if◌then◌else◌, Option, Some, None, List, [], ◌∷◌, ◌++◌, length}
+use Rattle.std.specs.Prelude.{codes, ◌≡◌, ℕ, zero, suc, ◌+◌, ◌-◌, ◌*◌, ◌%◌, Bool, true, false, ◌&&◌, ◌||◌, ◌==◌, nat_le, if◌then◌else◌, Option, Some, None, List, [], ◌∷◌, ◌++◌, length}
 use Rattle.ere_syntax.specs.Reading.{◌>>=◌}
 use Rattle.ere_syntax.specs.declared.bracket.Front.{Front}
 use Rattle.ere_syntax.specs.declared.bracket.Front.TheVariants.{Closes, Names, Begins, Wrong}
 use Rattle.ere_syntax.specs.declared.class.Class.{Class}
 use Rattle.ere_syntax.specs.declared.class.Class.TheVariants.{Alnum, Alpha, Blank, Cntrl, Digit, Graph, Lower, Print, Punct, Space, Upper, Xdigit}
+
+-- ---- bytes by name
+
+abbrev pub backslash : ℕ
+backslash = 92
+
+abbrev pub open_bracket : ℕ
+open_bracket = 91
+
+abbrev pub close_bracket : ℕ
+close_bracket = 93
+
+abbrev pub dash : ℕ
+dash = 45
+
+abbrev pub hat : ℕ
+hat = 94
+
+abbrev pub colon : ℕ
+colon = 58
+
+abbrev pub dot : ℕ
+dot = 46
+
+abbrev pub equals : ℕ
+equals = 61
+
+abbrev pub digit_zero : ℕ
+digit_zero = 48
 
 abbrev pub not : Bool → Bool
 not true = false
@@ -16,8 +45,9 @@ starts b (c ∷ cs) = c == b
 
 -- ---- escapes
 
+-- `0` to `7`
 abbrev pub is_octal : ℕ → Bool
-is_octal c = nat_le 48 c && nat_le c 55
+is_octal c = nat_le digit_zero c && nat_le c 55
 
 pub data Escape : Type 0 where
   Octal : ℕ → List ℕ → Escape
@@ -42,10 +72,18 @@ IsEscape (Letter c) rest = is_octal c ≡ false
 
 abbrev pub octal_value : ℕ → List ℕ → ℕ
 octal_value n [] = n % 256
-octal_value n (d ∷ ds) = octal_value (n * 8 + (d - 48)) ds
+octal_value n (d ∷ ds) = octal_value (n * 8 + (d - digit_zero)) ds
 
+-- the letters `a` (alert), `b` (backspace), `f` (form feed), `n` (newline), `r` (return), `t` (tab), `v` (vertical tab); any other byte is itself
 abbrev pub letter_value : ℕ → ℕ
-letter_value c = if c == 97 then 7 else if c == 98 then 8 else if c == 102 then 12 else if c == 110 then 10 else if c == 114 then 13 else if c == 116 then 9 else if c == 118 then 11 else c
+letter_value c =
+    if c == 97 then 7 else
+    if c == 98 then 8 else
+    if c == 102 then 12 else
+    if c == 110 then 10 else
+    if c == 114 then 13 else
+    if c == 116 then 9 else
+    if c == 118 then 11 else c
 
 abbrev pub escape_value : Escape → ℕ
 escape_value (Octal d ds) = octal_value 0 (d ∷ ds)
@@ -68,10 +106,10 @@ pub data One : Type 0 where
 
 abbrev pub spell_one : One → List ℕ
 spell_one (Raw c) = c ∷ []
-spell_one (Escaped e) = 92 ∷ spell_escape e
+spell_one (Escaped e) = backslash ∷ spell_escape e
 
 abbrev pub IsOne : One → List ℕ → Type 0
-IsOne (Raw c) rest = (c == 92) ≡ false
+IsOne (Raw c) rest = (c == backslash) ≡ false
 IsOne (Escaped e) rest = IsEscape e rest
 
 abbrev pub value : One → ℕ
@@ -80,24 +118,24 @@ value (Escaped e) = escape_value e
 
 abbrev pub one_at : List ℕ → Option (One × List ℕ)
 one_at [] = None
-one_at (c ∷ cs) = if c == 92 then (escape_at cs >>= λ x. Some (Escaped x.0, x.1)) else Some (Raw c, cs)
+one_at (c ∷ cs) = if c == backslash then (escape_at cs >>= λ x. Some (Escaped x.0, x.1)) else Some (Raw c, cs)
 
 -- ---- classes
 
--- with the `:]` behind it
+-- with the `:]` after it
 abbrev pub closed_name : Class → List ℕ
-closed_name Alnum = 97 ∷ 108 ∷ 110 ∷ 117 ∷ 109 ∷ 58 ∷ 93 ∷ []
-closed_name Alpha = 97 ∷ 108 ∷ 112 ∷ 104 ∷ 97 ∷ 58 ∷ 93 ∷ []
-closed_name Blank = 98 ∷ 108 ∷ 97 ∷ 110 ∷ 107 ∷ 58 ∷ 93 ∷ []
-closed_name Cntrl = 99 ∷ 110 ∷ 116 ∷ 114 ∷ 108 ∷ 58 ∷ 93 ∷ []
-closed_name Digit = 100 ∷ 105 ∷ 103 ∷ 105 ∷ 116 ∷ 58 ∷ 93 ∷ []
-closed_name Graph = 103 ∷ 114 ∷ 97 ∷ 112 ∷ 104 ∷ 58 ∷ 93 ∷ []
-closed_name Lower = 108 ∷ 111 ∷ 119 ∷ 101 ∷ 114 ∷ 58 ∷ 93 ∷ []
-closed_name Print = 112 ∷ 114 ∷ 105 ∷ 110 ∷ 116 ∷ 58 ∷ 93 ∷ []
-closed_name Punct = 112 ∷ 117 ∷ 110 ∷ 99 ∷ 116 ∷ 58 ∷ 93 ∷ []
-closed_name Space = 115 ∷ 112 ∷ 97 ∷ 99 ∷ 101 ∷ 58 ∷ 93 ∷ []
-closed_name Upper = 117 ∷ 112 ∷ 112 ∷ 101 ∷ 114 ∷ 58 ∷ 93 ∷ []
-closed_name Xdigit = 120 ∷ 100 ∷ 105 ∷ 103 ∷ 105 ∷ 116 ∷ 58 ∷ 93 ∷ []
+closed_name Alnum = codes "alnum:]"
+closed_name Alpha = codes "alpha:]"
+closed_name Blank = codes "blank:]"
+closed_name Cntrl = codes "cntrl:]"
+closed_name Digit = codes "digit:]"
+closed_name Graph = codes "graph:]"
+closed_name Lower = codes "lower:]"
+closed_name Print = codes "print:]"
+closed_name Punct = codes "punct:]"
+closed_name Space = codes "space:]"
+closed_name Upper = codes "upper:]"
+closed_name Xdigit = codes "xdigit:]"
 
 abbrev pub strip : List ℕ → List ℕ → Option (List ℕ)
 strip [] ts = Some ts
@@ -112,7 +150,9 @@ abbrev pub or_class : Class → List ℕ → Option (Class × List ℕ) → Opti
 or_class c ts other = class_or c (strip (closed_name c) ts) other
 
 abbrev pub class_at : List ℕ → Option (Class × List ℕ)
-class_at ts = or_class Alnum ts (or_class Alpha ts (or_class Blank ts (or_class Cntrl ts (or_class Digit ts (or_class Graph ts (or_class Lower ts (or_class Print ts (or_class Punct ts (or_class Space ts (or_class Upper ts (or_class Xdigit ts None)))))))))))
+class_at ts =
+    or_class Alnum ts (or_class Alpha ts (or_class Blank ts (or_class Cntrl ts (or_class Digit ts (or_class Graph ts
+    (or_class Lower ts (or_class Print ts (or_class Punct ts (or_class Space ts (or_class Upper ts (or_class Xdigit ts None)))))))))))
 
 -- ---- members
 
@@ -123,36 +163,45 @@ pub data Member : Type 0 where
 
 abbrev pub spell_member : Member → List ℕ
 spell_member (Single o) = spell_one o
-spell_member (Range l h) = spell_one l ++ (45 ∷ spell_one h)
-spell_member (Named c) = 91 ∷ (58 ∷ closed_name c)
+spell_member (Range l h) = spell_one l ++ (dash ∷ spell_one h)
+spell_member (Named c) = open_bracket ∷ (colon ∷ closed_name c)
 
--- behind a bracket, that it names a class or the like
+-- after a bracket, that it names a class or the like
 abbrev pub names : List ℕ → Bool
-names cs = starts 58 cs || (starts 46 cs || starts 61 cs)
+names cs = starts colon cs || (starts dot cs || starts equals cs)
 
 -- what stands at the front within brackets, where the first argument says that no member stands before it
 abbrev pub front : Bool → List ℕ → Front
 front first [] = Wrong
-front first (c ∷ cs) = if (c == 93) && not first then Closes else if (c == 91) && names cs then Names else if (c == 45) && (not first && not (starts 93 cs)) then Wrong else Begins
+front first (c ∷ cs) =
+    if (c == close_bracket) && not first then Closes else
+    if (c == open_bracket) && names cs then Names else
+    if (c == dash) && (not first && not (starts close_bracket cs)) then Wrong else Begins
 
 -- a dash that makes a range
 abbrev pub dash_at : List ℕ → Option (List ℕ)
 dash_at [] = None
 dash_at (c ∷ []) = None
-dash_at (c ∷ d ∷ cs) = if (c == 45) && not (d == 93) then Some (d ∷ cs) else None
+dash_at (c ∷ d ∷ cs) = if (c == dash) && not (d == close_bracket) then Some (d ∷ cs) else None
 
 -- the upper byte of a range is no class
 abbrev pub names_front : List ℕ → Bool
 names_front [] = false
-names_front (c ∷ cs) = (c == 91) && names cs
+names_front (c ∷ cs) = (c == open_bracket) && names cs
 
 abbrev pub IsMember : Bool → Member → List ℕ → Type 0
 IsMember first (Single o) rest = IsOne o rest × (front first (spell_one o ++ rest) ≡ Begins) × (dash_at rest ≡ None)
-IsMember first (Range l h) rest = IsOne l (45 ∷ (spell_one h ++ rest)) × (front first (spell_one l ++ (45 ∷ (spell_one h ++ rest))) ≡ Begins) × IsOne h rest × (starts 93 (spell_one h ++ rest) ≡ false) × (names_front (spell_one h ++ rest) ≡ false) × (nat_le (value l) (value h) ≡ true)
+IsMember first (Range l h) rest =
+    IsOne l (dash ∷ (spell_one h ++ rest))
+    × (front first (spell_one l ++ (dash ∷ (spell_one h ++ rest))) ≡ Begins)
+    × IsOne h rest
+    × (starts close_bracket (spell_one h ++ rest) ≡ false)
+    × (names_front (spell_one h ++ rest) ≡ false)
+    × (nat_le (value l) (value h) ≡ true)
 IsMember first (Named c) rest = Unit {0}
 
 abbrev pub spell_members : List Member → List ℕ
-spell_members [] = 93 ∷ []
+spell_members [] = close_bracket ∷ []
 spell_members (m ∷ ms) = spell_member m ++ spell_members ms
 
 abbrev pub AreMembers : Bool → List Member → List ℕ → Type 0
@@ -167,7 +216,7 @@ single_or l ts None = Some (Single l, ts)
 single_or l ts (Some us) = range_to l us
 
 abbrev pub named_at : List ℕ → Option (Member × List ℕ)
-named_at (c ∷ d ∷ cs) = if d == 58 then (class_at cs >>= λ x. Some (Named x.0, x.1)) else None
+named_at (c ∷ d ∷ cs) = if d == colon then (class_at cs >>= λ x. Some (Named x.0, x.1)) else None
 named_at _ = None
 
 abbrev pub member_at : List ℕ → Front → Option (Member × List ℕ)
@@ -188,24 +237,24 @@ abbrev pub members_at : ℕ → Bool → List ℕ → Option (List Member × Lis
 members_at zero first ts = None
 members_at (suc w) first ts = members_by (members_at w false) ts (front first ts)
 
--- ---- brackets, behind the `[`
+-- ---- brackets, after the `[`
 
 pub record Bracket : Type 0 where
   pub negated : Bool
   pub members : List Member
 
 abbrev pub spell_bracket : Bracket → List ℕ
-spell_bracket b = if b.negated then (94 ∷ spell_members b.members) else spell_members b.members
+spell_bracket b = if b.negated then (hat ∷ spell_members b.members) else spell_members b.members
 
 abbrev pub IsBracket : Bracket → List ℕ → Type 0
-IsBracket b rest = AreMembers true b.members rest × ((not b.negated && starts 94 (spell_members b.members ++ rest)) ≡ false)
+IsBracket b rest = AreMembers true b.members rest × ((not b.negated && starts hat (spell_members b.members ++ rest)) ≡ false)
 
 abbrev pub bracket_by : List ℕ → Bool → Option (Bracket × List ℕ)
 bracket_by ts true = members_at (length ts) true (behind ts) >>= λ x. Some (record { negated = true; members = x.0 }, x.1)
 bracket_by ts false = members_at (length ts) true ts >>= λ x. Some (record { negated = false; members = x.0 }, x.1)
 
 abbrev pub bracket_at : List ℕ → Option (Bracket × List ℕ)
-bracket_at ts = bracket_by ts (starts 94 ts)
+bracket_at ts = bracket_by ts (starts hat ts)
 
 abbrev pub byte_and : ℕ → List ℕ → ℕ × List ℕ
 byte_and c rest = (c, rest)

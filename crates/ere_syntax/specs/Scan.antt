@@ -2,7 +2,7 @@
 use Rattle.std.specs.Prelude.{◌≡◌, ℕ, zero, suc, ◌+◌, ◌-◌, ◌*◌, ◌≤◌, Bool, true, false, ◌&&◌, ◌||◌, ◌==◌, nat_le, if◌then◌else◌, Option, Some, None, List, [], ◌∷◌, ◌++◌, length}
 use Rattle.ere_syntax.specs.Tree.{Bytes, Token, Atom, Begin, Stop, Open, Close, Bar, Times, Tree, print, IsEre}
 use Rattle.ere_syntax.specs.Reading.{◌>>=◌, tree_of}
-use Rattle.ere_syntax.specs.Bracket.{not, starts, behind, Escape, spell_escape, IsEscape, escape_value, escape_at, value, Member, Single, Range, Named, Bracket, spell_bracket, IsBracket, bracket_at}
+use Rattle.ere_syntax.specs.Bracket.{backslash, digit_zero, dot, hat, open_bracket, not, starts, behind, Escape, spell_escape, IsEscape, escape_value, escape_at, value, Member, Single, Range, Named, Bracket, spell_bracket, IsBracket, bracket_at}
 use Rattle.ere_syntax.specs.declared.class.Class.{Class}
 use Rattle.ere_syntax.specs.declared.class.Class.TheVariants.{Alnum, Alpha, Blank, Cntrl, Digit, Graph, Lower, Print, Punct, Space, Upper, Xdigit}
 use Rattle.ere_syntax.specs.declared.sign.Sign.{Sign}
@@ -21,6 +21,7 @@ table p = table_by p 256 0
 abbrev pub between : ℕ → ℕ → ℕ → Bool
 between low high c = nat_le low c && nat_le c high
 
+-- digits are 48 to 57, capital letters 65 to 90, small ones 97 to 122; 32 is the blank, 9 the tab
 abbrev pub in_class : Class → ℕ → Bool
 in_class Alnum c = between 48 57 c || (between 65 90 c || between 97 122 c)
 in_class Alpha c = between 65 90 c || between 97 122 c
@@ -47,10 +48,20 @@ in_members (m ∷ ms) c = in_member m c || in_members ms c
 abbrev pub in_bracket : Bracket → ℕ → Bool
 in_bracket b c = if b.negated then not (in_members b.members c) else in_members b.members c
 
--- ---- intervals, behind the `{`
+-- ---- intervals, after the `{`
 
+abbrev pub open_brace : ℕ
+open_brace = 123
+
+abbrev pub close_brace : ℕ
+close_brace = 125
+
+abbrev pub comma : ℕ
+comma = 44
+
+-- `0` to `9`
 abbrev pub is_digit : ℕ → Bool
-is_digit c = nat_le 48 c && nat_le c 57
+is_digit c = nat_le digit_zero c && nat_le c 57
 
 abbrev pub digits_at : List ℕ → List ℕ × List ℕ
 digits_at [] = ([], [])
@@ -62,8 +73,8 @@ pub data Interval : Type 0 where
   Upto : List ℕ → List ℕ → Interval
 
 abbrev pub spell_interval : Interval → List ℕ
-spell_interval (Exact ds) = ds ++ (125 ∷ [])
-spell_interval (Upto ds es) = ds ++ (44 ∷ (es ++ (125 ∷ [])))
+spell_interval (Exact ds) = ds ++ (close_brace ∷ [])
+spell_interval (Upto ds es) = ds ++ (comma ∷ (es ++ (close_brace ∷ [])))
 
 abbrev pub AreDigits : List ℕ → Type 0
 AreDigits [] = Unit {0}
@@ -78,17 +89,20 @@ IsInterval (Exact ds) = AreDigits ds × (is_empty ds ≡ false)
 IsInterval (Upto ds es) = AreDigits ds × AreDigits es × (is_empty ds ≡ false)
 
 abbrev pub upto_by : List ℕ → List ℕ × List ℕ → Option (Interval × List ℕ)
-upto_by ds x = if starts 125 x.1 then Some (Upto ds x.0, behind x.1) else None
+upto_by ds x = if starts close_brace x.1 then Some (Upto ds x.0, behind x.1) else None
 
 abbrev pub interval_by : List ℕ × List ℕ → Option (Interval × List ℕ)
-interval_by x = if is_empty x.0 then None else if starts 125 x.1 then Some (Exact x.0, behind x.1) else if starts 44 x.1 then upto_by x.0 (digits_at (behind x.1)) else None
+interval_by x =
+    if is_empty x.0 then None else
+    if starts close_brace x.1 then Some (Exact x.0, behind x.1) else
+    if starts comma x.1 then upto_by x.0 (digits_at (behind x.1)) else None
 
 abbrev pub interval_at : List ℕ → Option (Interval × List ℕ)
 interval_at ts = interval_by (digits_at ts)
 
 abbrev pub number_after : ℕ → List ℕ → ℕ
 number_after n [] = n
-number_after n (d ∷ ds) = number_after (n * 10 + (d - 48)) ds
+number_after n (d ∷ ds) = number_after (n * 10 + (d - digit_zero)) ds
 
 abbrev pub low_of : Interval → ℕ
 low_of (Exact ds) = number_after 0 ds
@@ -108,9 +122,10 @@ fits i = counts_fit (low_of i) (high_of i)
 
 -- ---- tokens
 
+-- `.` `^` `$` `(` `)` `|` `*` `+` `?` `{` `[` and the backslash
 abbrev pub code : Sign → ℕ
-code Dot = 46
-code Hat = 94
+code Dot = dot
+code Hat = hat
 code Dollar = 36
 code OpenMark = 40
 code CloseMark = 41
@@ -118,15 +133,17 @@ code BarMark = 124
 code Star = 42
 code Plus = 43
 code Query = 63
-code Brace = 123
-code BracketMark = 91
-code Backslash = 92
+code Brace = open_brace
+code BracketMark = open_bracket
+code Backslash = backslash
 
 abbrev pub or_sign : Sign → ℕ → Option Sign → Option Sign
 or_sign s c other = if c == code s then Some s else other
 
 unfoldable pub sign_of : ℕ → Option Sign
-sign_of c = or_sign Dot c (or_sign Hat c (or_sign Dollar c (or_sign OpenMark c (or_sign CloseMark c (or_sign BarMark c (or_sign Star c (or_sign Plus c (or_sign Query c (or_sign Brace c (or_sign BracketMark c (or_sign Backslash c None)))))))))))
+sign_of c =
+    or_sign Dot c (or_sign Hat c (or_sign Dollar c (or_sign OpenMark c (or_sign CloseMark c (or_sign BarMark c
+    (or_sign Star c (or_sign Plus c (or_sign Query c (or_sign Brace c (or_sign BracketMark c (or_sign Backslash c None)))))))))))
 
 pub data Spelling : Type 0 where
   Ordinary : ℕ → Spelling
@@ -138,9 +155,9 @@ pub data Spelling : Type 0 where
 abbrev pub spell : Spelling → List ℕ
 spell (Ordinary c) = c ∷ []
 spell (Signed s) = code s ∷ []
-spell (Escapes e) = 92 ∷ spell_escape e
-spell (Bracketed b) = 91 ∷ spell_bracket b
-spell (Counted i) = 123 ∷ spell_interval i
+spell (Escapes e) = backslash ∷ spell_escape e
+spell (Bracketed b) = open_bracket ∷ spell_bracket b
+spell (Counted i) = open_brace ∷ spell_interval i
 
 -- a byte that is no sign, a `{` that begins no interval, a `)` where no group is groups
 abbrev pub IsOrdinary : ℕ → Option Sign → List ℕ → Type 0
@@ -182,7 +199,7 @@ token_of (Escapes e) = Atom (table (λ c. c == escape_value e))
 token_of (Bracketed b) = Atom (table (in_bracket b))
 token_of (Counted i) = Times (low_of i) (high_of i)
 
--- the groups that are groups behind it
+-- the groups that are groups after it
 abbrev pub opened : ℕ → Spelling → ℕ
 opened n (Signed OpenMark) = suc n
 opened n (Signed CloseMark) = n - 1
@@ -211,7 +228,7 @@ pub record IsEreOf (text : List ℕ) (t : Tree) : Type 0 where
 -- ---- reading
 
 abbrev pub counted_or : List ℕ → Option (Interval × List ℕ) → Option (Spelling × List ℕ)
-counted_or cs None = Some (Ordinary 123, cs)
+counted_or cs None = Some (Ordinary open_brace, cs)
 counted_or cs (Some x) = if fits x.0 then Some (Counted x.0, x.1) else None
 
 abbrev pub spelling_by : ℕ → ℕ → List ℕ → Option Sign → Option (Spelling × List ℕ)
@@ -219,7 +236,7 @@ spelling_by groups c cs None = Some (Ordinary c, cs)
 spelling_by groups c cs (Some Backslash) = escape_at cs >>= λ x. Some (Escapes x.0, x.1)
 spelling_by groups c cs (Some BracketMark) = bracket_at cs >>= λ x. Some (Bracketed x.0, x.1)
 spelling_by groups c cs (Some Brace) = counted_or cs (interval_at cs)
-spelling_by zero c cs (Some CloseMark) = Some (Ordinary 41, cs)
+spelling_by zero c cs (Some CloseMark) = Some (Ordinary (code CloseMark), cs)
 spelling_by groups c cs (Some s) = Some (Signed s, cs)
 
 abbrev pub spellings_at : ℕ → ℕ → List ℕ → Option (List Spelling)

@@ -201,7 +201,23 @@ module _ (scope : Scope) (n : ℕ) (calls : Calls) where
       checked ← settled (field_checked m)
       give (FieldAt checked)
     place_of (Var x) = give (Named (variable_of scope x))
-    place_of t = give (FieldAt zero_number)
+    -- what is no place stands where one is wanted in no well-formed tree
+    place_of (Leaf l) = give (FieldAt zero_number)
+    place_of Length = give (FieldAt zero_number)
+    place_of (Group t) = give (FieldAt zero_number)
+    place_of (Call f ts) = give (FieldAt zero_number)
+    place_of (Apply f ts) = give (FieldAt zero_number)
+    place_of (Unary s t) = give (FieldAt zero_number)
+    place_of (Pre s t) = give (FieldAt zero_number)
+    place_of (Post s t) = give (FieldAt zero_number)
+    place_of (Bin op a b) = give (FieldAt zero_number)
+    place_of (Has t x) = give (FieldAt zero_number)
+    place_of (HasList t ts x) = give (FieldAt zero_number)
+    place_of (Cond c a b) = give (FieldAt zero_number)
+    place_of Get = give (FieldAt zero_number)
+    place_of (GetInto v) = give (FieldAt zero_number)
+    place_of (GetFrom s) = give (FieldAt zero_number)
+    place_of (GetIntoFrom v s) = give (FieldAt zero_number)
 
     -- arguments for parameters: an array by its number, a value, and for what is missing something fresh
     pub passed : List Name → Trees → Doing (List Local)
@@ -283,4 +299,15 @@ module _ (scope : Scope) (n : ℕ) (calls : Calls) where
       x ← value_of t
       answer ← does row.Close (x, tt)
       give (numeric (close_number answer))
-    applied f ts = give value.Uninit
+    -- other arguments stand in no well-formed tree, and `sprintf` is met above
+    applied builtin.Substr ts = give value.Uninit
+    applied builtin.Index ts = give value.Uninit
+    applied builtin.Split ts = give value.Uninit
+    applied builtin.Sub ts = give value.Uninit
+    applied builtin.Gsub ts = give value.Uninit
+    applied builtin.Match ts = give value.Uninit
+    applied builtin.Sprintf ts = give value.Uninit
+    applied builtin.ToLower ts = give value.Uninit
+    applied builtin.ToUpper ts = give value.Uninit
+    applied builtin.Int ts = give value.Uninit
+    applied builtin.Close ts = give value.Uninit
