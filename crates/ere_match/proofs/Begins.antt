@@ -99,6 +99,12 @@ none_before test text at found place whole low high =
     let e : at + (place - at) ≡ place = omega (arith, low) in
     not_true (test (get_or text place 0)) (λ held. h.0.before (place - at) (omega arith) (omega (arith, low, high)) (ap test (get_or-drop at text (place - at) 0 ∙ ap (λ n. get_or text n 0) e) ∙ held))
 
+pub found_passes : (test : ℕ → Bool) (text : List ℕ) (at found : ℕ) → IsFirstByte test (take (length text - at) (drop at text)) (Some found) →
+    test (get_or text (at + found) 0) ≡ true
+found_passes test text at found whole =
+    let h = subst (λ xs. IsFirstByte test xs (Some found)) (rest_is text at) whole in
+    ap test (sym (get_or-drop at text found 0)) ∙ h.1
+
 pub none_after : (test : ℕ → Bool) (text : List ℕ) (at place : ℕ) → IsFirstByte test (take (length text - at) (drop at text)) None → at ≤ place → place < length text → test (get_or text place 0) ≡ false
 none_after test text at place whole low high =
     let h = subst (λ xs. IsFirstByte test xs None) (rest_is text at) whole in

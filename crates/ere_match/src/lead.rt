@@ -48,6 +48,7 @@ fn find_marked(marks: &[bool; 256], text: &[u8], at: usize) -> usize
     ensures after { at ≤ result }
     ensures inside { result ≤ length text.now }
     ensures none { (place : ℕ) → at ≤ place → place < result → get_or marks.now (get_or text.now place 0) false ≡ false }
+    ensures found { result < length text.now → get_or marks.now (get_or text.now result 0) false ≡ true }
 {
     for place in at..text.len() {
         if marks[usize::from(text[place])] {
@@ -130,6 +131,7 @@ impl Lead {
         ensures after { at ≤ result }
         ensures inside { result ≤ length text.now }
         ensures none { (place : ℕ) → at ≤ place → place < result → lead_has self.now (get_or text.now place 0) ≡ false }
+        ensures found { result < length text.now → lead_has self.now (get_or text.now result 0) ≡ true }
     {
         let rest = &text[at..];
         let found = match self {

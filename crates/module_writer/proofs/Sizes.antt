@@ -49,3 +49,8 @@ size_sum n m h = elim (cases_lt (n + m) 128) [
     ])
   ]
 ]
+
+-- a number takes a byte at least
+pub some_index : (n : ℕ) → 1 ≤ length (u32_text n)
+unfolding u32_text
+some_index n = some_bytes 4 n

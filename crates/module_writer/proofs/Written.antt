@@ -69,11 +69,11 @@ fewest m bytes h =
     let less = s.2 in
     record { text = s.0; is = subst (λ (p : Parts). FromTypes p s.0) same s.1; fewer = omega (arith, all, both, less); size = h.size }
 
-abbrev Settles : ModuleForm → Written → Type 0
+abbrev pub Settles : ModuleForm → Written → Type 0
 Settles m None = (other : List ℕ) → IsModule other m → ⊥
 Settles m (Some bytes) = IsModule bytes m × ((other : List ℕ) → IsModule other m → length bytes ≤ length other)
 
-settled : (m : ModuleForm) → Settles m (module_to m)
+pub settled : (m : ModuleForm) → Settles m (module_to m)
 settled m = by (from_types_to m header) (from_types_meets m header)
   where
     by : (r : Written) → Meets (FromTypes (parts_of m)) header r → Settles m (and_then r fit)

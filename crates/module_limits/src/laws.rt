@@ -1,0 +1,14 @@
+//! Laws on the bytes of modules, each the contract of a function that does nothing.
+ghost use Rattle.std.specs.Prelude.{◌≡◌, ◌⊎◌, ℕ, List, length};
+ghost use Rattle.wasm_types.specs.Syntax.{ModuleForm};
+ghost use Rattle.wasm_types.specs.ModuleGrammar.{IsModule};
+ghost use Rattle.wasm_types.specs.Typing.{ModuleOk};
+ghost use Rattle.module_limits.specs.Limits.{HoldsWords, PassesALimit};
+ghost use Rattle.module_limits.specs.Size.{module_size};
+
+/// A module that the rules type, whose constants have their widths and whose names are UTF-8, has bytes, as many as `module_size` counts; or else it passes a
+/// limit. So nothing else keeps it from being written.
+pub fn typed_modules_have_bytes()
+    ensures { (m : ModuleForm) → ModuleOk m → HoldsWords m
+        → ((bytes : List ℕ) × IsModule bytes m × (length bytes ≡ module_size m)) ⊎ PassesALimit m }
+{}

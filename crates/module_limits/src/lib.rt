@@ -1,0 +1,4 @@
+//! Which modules have bytes, as laws.
+#![tactic(auto)]
+
+pub mod laws;
