@@ -5,13 +5,13 @@ use Rattle.awk_values.specs.declared.fault.Fault.{Fault}
 use Rattle.awk_state.specs.Jobs.{JobForm}
 use Rattle.world_core.specs.WorldState.{Action, State}
 use Rattle.wasm_types.specs.Syntax.{ModuleForm}
-use Rattle.wasm_machine.specs.Links.{IsNew}
-use Rattle.wasm_machine.specs.Machines.{Conf}
-use Rattle.wasm_machine.specs.Runs.{Did, MachineForm, Ran}
-use Rattle.wasm_machine.specs.declared.machine.MachineEnd.{MachineEnd}
-use Rattle.wasm_machine.specs.declared.machine.MachineEnd.TheVariants as machine
-use Rattle.wasm_machine.specs.declared.state.RunEnd.{RunEnd as MachineRunEnd}
-use Rattle.wasm_machine.specs.declared.state.RunEnd.TheVariants as chain
+use Rattle.machine_model.specs.Links.{IsNew}
+use Rattle.machine_model.specs.Machines.{Conf}
+use Rattle.machine_model.specs.Runs.{Did, MachineForm, Ran}
+use Rattle.machine_model.specs.declared.ends.MachineEnd.{MachineEnd}
+use Rattle.machine_model.specs.declared.ends.MachineEnd.TheVariants as machine
+use Rattle.machine_model.specs.declared.ends.RunEnd.{RunEnd as MachineRunEnd}
+use Rattle.machine_model.specs.declared.ends.RunEnd.TheVariants as chain
 use Rattle.module_decoder.specs.Readers.{Fails}
 use Rattle.module_decoder.specs.Reading.{module_at}
 use Rattle.module_decoder.specs.declared.fault.DecodeFault.{DecodeFault}

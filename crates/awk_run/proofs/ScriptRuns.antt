@@ -9,11 +9,11 @@ use Rattle.mid_program.specs.ScriptRun.{Ending, resolved_run, run_of}
 use Rattle.wasm_types.specs.Syntax.{ModuleForm}
 use Rattle.wasm_types.specs.ModuleGrammar.{IsModule}
 use Rattle.wasm_types.specs.Typing.{ModuleOk}
-use Rattle.wasm_machine.specs.Links.{first_none}
-use Rattle.wasm_machine.specs.declared.link.LinkFault.{LinkFault}
-use Rattle.wasm_machine.specs.declared.link.LinkFault.TheVariants as link
-use Rattle.wasm_machine.specs.declared.machine.MachineEnd.{MachineEnd}
-use Rattle.wasm_machine.specs.declared.machine.MachineEnd.TheVariants as machine
+use Rattle.machine_model.specs.Links.{first_none}
+use Rattle.machine_model.specs.declared.fault.LinkFault.{LinkFault}
+use Rattle.machine_model.specs.declared.fault.LinkFault.TheVariants as link
+use Rattle.machine_model.specs.declared.ends.MachineEnd.{MachineEnd}
+use Rattle.machine_model.specs.declared.ends.MachineEnd.TheVariants as machine
 use Rattle.module_decoder.proofs.CompleteModule.{one_module}
 use Rattle.form_runs.specs.ToldRuns as told_runs
 use Rattle.form_runs.proofs.Agreeing.{does_so}

@@ -1,7 +1,7 @@
 -- What is told of a task: the line and the exit status where it is not done, and the status of each.
 use Rattle.std.specs.Prelude.{ℕ, List, Result, Ok, Err, codes}
 use Rattle.script_compiler.specs.Refusals.{IsNotCompiled}
-use Rattle.wasm_machine.specs.declared.link.LinkFault.TheVariants.{BadImport}
+use Rattle.machine_model.specs.declared.fault.LinkFault.TheVariants.{BadImport}
 use Rattle.module_imports.specs.Calls.{IsUnlisted}
 use Rattle.module_imports.specs.declared.imports.Unlisted.TheVariants as unlisted
 use Rattle.awk_run.specs.declared.end.Refusal.TheVariants.{Compile, Decode, Invalid, Link}

@@ -7,7 +7,7 @@ use awk_run::{Refusal, RunEnd};
 use host_step::Import;
 use module_imports::{Reads, Unlisted, Writes, imports_of, reads_of, writes_of};
 use std::alloc::{AllocError, Global};
-use wasm_machine::LinkFault;
+use machine_model::LinkFault;
 
 /// The imports of a module; else what is told of it, as where it is run.
 pub(crate) fn listed(alloc: Global, bytes: &[u8]) -> Result<Vec<Import>, RunEnd>

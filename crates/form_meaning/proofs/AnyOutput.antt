@@ -17,7 +17,7 @@ use Rattle.awk_state.specs.declared.table.Listed.{Listed}
 use Rattle.awk_state.specs.declared.table.Listed.TheVariants as listed
 use Rattle.awk_state.specs.declared.table.Primitive.{Primitive}
 use Rattle.awk_state.specs.declared.table.Primitive.TheVariants.{Num, Lit, Uninit, Dup, ToNum, IntOf, Truth, Compare, Concat, Pow, Fail, GetSpecial, SetSpecial, Field, SetField, NewArray, Elem, SetElem, Has, Delete, Join, Iter, IterNext, Length, Matches, Match, Sub, SubResult, Split, Substr, SubstrFrom, Index, Lower, Upper, NextMain, Getline, GetlineVar, GetlineFile, GetlineVarFile, Line, Declare, StartAssign, PendingName, PendingValue, BeginEnd, Close}
-use Rattle.wasm_machine.specs.declared.host.HostAnswer.{HostAnswer}
+use Rattle.machine_model.specs.declared.host.HostAnswer.{HostAnswer}
 use Rattle.wasm_store.specs.declared.trap.TrapKind.{TrapKind}
 use Rattle.wasm_store.specs.declared.word.Word.{Word}
 use Rattle.world_core.specs.WorldState.{Action, Named}

@@ -1,7 +1,7 @@
 -- At a fault it is enough that tables are told which share what is looked at then.
 use Rattle.std.proofs.Common.{◌≡◌, ℕ, List, ◌++◌, Option, Some, subst}
 use Rattle.awk_values.specs.declared.fault.Fault.{Fault}
-use Rattle.wasm_machine.specs.declared.host.HostAnswer.{HostAnswer}
+use Rattle.machine_model.specs.declared.host.HostAnswer.{HostAnswer}
 use Rattle.wasm_store.specs.declared.word.Word.{Word}
 use Rattle.world_core.specs.WorldState.{Action}
 use Rattle.host_step.specs.HostState.{HostState}

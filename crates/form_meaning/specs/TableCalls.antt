@@ -1,8 +1,8 @@
 -- A call on tables, as a machine is told of it.
 use Rattle.std.specs.Prelude.{◌≡◌, ℕ, List, Option, Some, Result, Ok, Err}
-use Rattle.wasm_machine.specs.Hosts.{type_if}
-use Rattle.wasm_machine.specs.declared.host.HostAnswer.{HostAnswer}
-use Rattle.wasm_machine.specs.declared.host.HostAnswer.TheVariants as told
+use Rattle.machine_model.specs.Hosts.{type_if}
+use Rattle.machine_model.specs.declared.host.HostAnswer.{HostAnswer}
+use Rattle.machine_model.specs.declared.host.HostAnswer.TheVariants as told
 use Rattle.wasm_store.specs.declared.word.Word.{Word}
 use Rattle.world_core.specs.WorldState.{Action}
 use Rattle.host_step.specs.Answers.{refusal}

@@ -1,8 +1,8 @@
 //! Laws of the definitions, each the contract of a function that does nothing.
 ghost use Rattle.std.specs.Prelude.{◌≡◌, false, [], List, ℕ, None, Ok, Option, Result, Some};
 ghost use Rattle.awk_values.specs.declared.fault.Fault.{Fault};
-ghost use Rattle.wasm_machine.specs.Hosts.{GoesOn, Typed};
-ghost use Rattle.wasm_machine.specs.declared.host.HostAnswer.{HostAnswer};
+ghost use Rattle.machine_model.specs.Hosts.{GoesOn, Typed};
+ghost use Rattle.machine_model.specs.declared.host.HostAnswer.{HostAnswer};
 ghost use Rattle.wasm_store.specs.Memories.{MemoryForm};
 ghost use Rattle.wasm_store.specs.declared.trap.TrapKind.{TrapKind};
 ghost use Rattle.wasm_store.specs.declared.word.Word.{Word};

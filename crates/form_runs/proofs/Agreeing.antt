@@ -4,8 +4,8 @@ use Rattle.awk_values.specs.declared.fault.Fault.{Fault}
 use Rattle.awk_state.specs.Jobs.{JobForm}
 use Rattle.world_core.specs.WorldState.{Action, Outside, Source}
 use Rattle.wasm_types.specs.Syntax.{ModuleForm}
-use Rattle.wasm_machine.specs.declared.machine.MachineEnd.{MachineEnd}
-use Rattle.wasm_machine.specs.declared.machine.MachineEnd.TheVariants as machine
+use Rattle.machine_model.specs.declared.ends.MachineEnd.{MachineEnd}
+use Rattle.machine_model.specs.declared.ends.MachineEnd.TheVariants as machine
 use Rattle.host_elements.specs.Forms.{HostForm}
 use Rattle.mid_program.specs.Kept.{Grows, output_of}
 use Rattle.mid_program.specs.ScriptRun.{Ending, Exhausted, GoesOn, Setting}

@@ -2,14 +2,14 @@
 use Rattle.std.proofs.Common.{◌≡◌, ◌≢◌, ℕ, zero, suc, List, [], ◌++◌, refl, sym, ap, ◌∙◌, subst, append-nil, append_assoc}
 use Rattle.wasm_store.specs.Memories.{MemoryForm}
 use Rattle.wasm_store.specs.declared.word.Word.{Word}
-use Rattle.wasm_machine.specs.Hosts.{Meaning}
-use Rattle.wasm_machine.specs.Machines.{Asks, Conf, Ends, Goes, ProgramForm, Turn, turn}
-use Rattle.wasm_machine.specs.Runs.{OverBy, Ran, Steps, TakenAs}
-use Rattle.wasm_machine.specs.declared.host.HostAnswer.{HostAnswer}
-use Rattle.wasm_machine.specs.declared.host.HostAnswer.TheVariants as told
-use Rattle.wasm_machine.specs.declared.state.End.{End}
-use Rattle.wasm_machine.specs.declared.state.RunEnd.{RunEnd}
-use Rattle.wasm_machine.specs.declared.state.RunEnd.TheVariants.{Ended, NoMemory, OutOfSteps}
+use Rattle.machine_model.specs.Hosts.{Meaning}
+use Rattle.machine_model.specs.Machines.{Asks, Conf, Ends, Goes, ProgramForm, Turn, turn}
+use Rattle.machine_model.specs.Runs.{OverBy, Ran, Steps, TakenAs}
+use Rattle.machine_model.specs.declared.host.HostAnswer.{HostAnswer}
+use Rattle.machine_model.specs.declared.host.HostAnswer.TheVariants as told
+use Rattle.machine_model.specs.declared.ends.End.{End}
+use Rattle.machine_model.specs.declared.ends.RunEnd.{RunEnd}
+use Rattle.machine_model.specs.declared.ends.RunEnd.TheVariants.{Ended, NoMemory, OutOfSteps}
 use Rattle.world_core.specs.WorldState.{Action}
 use Rattle.host_step.specs.HostState.{HostState}
 use Rattle.host_elements.specs.Forms.{HostForm}

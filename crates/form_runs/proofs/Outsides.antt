@@ -5,12 +5,12 @@ use Rattle.awk_state.specs.Sorts.{InAnswer}
 use Rattle.awk_state.specs.declared.sorts.Answer.{Answer}
 use Rattle.wasm_store.specs.Memories.{MemoryForm}
 use Rattle.wasm_store.specs.declared.word.Word.{Word}
-use Rattle.wasm_machine.specs.Machines.{Asks, Conf, Ends, Goes, ProgramForm, Turn, turn}
-use Rattle.wasm_machine.specs.Runs.{OverBy, Ran, RefusedAs, Steps, TakenAs}
-use Rattle.wasm_machine.specs.declared.host.HostAnswer.{HostAnswer}
-use Rattle.wasm_machine.specs.declared.state.End.{End}
-use Rattle.wasm_machine.specs.declared.state.RunEnd.{RunEnd}
-use Rattle.wasm_machine.specs.declared.state.RunEnd.TheVariants.{Ended, NoMemory, OutOfSteps}
+use Rattle.machine_model.specs.Machines.{Asks, Conf, Ends, Goes, ProgramForm, Turn, turn}
+use Rattle.machine_model.specs.Runs.{OverBy, Ran, RefusedAs, Steps, TakenAs}
+use Rattle.machine_model.specs.declared.host.HostAnswer.{HostAnswer}
+use Rattle.machine_model.specs.declared.ends.End.{End}
+use Rattle.machine_model.specs.declared.ends.RunEnd.{RunEnd}
+use Rattle.machine_model.specs.declared.ends.RunEnd.TheVariants.{Ended, NoMemory, OutOfSteps}
 use Rattle.world_core.specs.WorldState.{Action, Outside, after, step}
 use Rattle.host_step.specs.HostState.{HostState, Names}
 use Rattle.host_step.specs.HostStep.{Acts, Comes, Goes as Carried, Refuses, Settles, StepBy, StepIf, Traps, comes}

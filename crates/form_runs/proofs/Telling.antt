@@ -9,19 +9,19 @@ use Rattle.wasm_types.specs.Typing.{ModuleOk}
 use Rattle.wasm_store.specs.Memories.{MemoryForm}
 use Rattle.wasm_store.specs.declared.word.Word.{Word}
 use Rattle.wasm_store.specs.declared.word.Word.TheVariants.{I32, I64}
-use Rattle.wasm_machine.specs.Hosts.{Typed}
-use Rattle.wasm_machine.specs.Links.{IsNew, beginning}
-use Rattle.wasm_machine.specs.Machines.{Conf, ProgramForm}
-use Rattle.wasm_machine.specs.Runs.{Did, MachineForm, Ran, told_run}
-use Rattle.wasm_machine.specs.Typed.{SafeRun}
-use Rattle.wasm_machine.specs.declared.host.HostAnswer.{HostAnswer}
-use Rattle.wasm_machine.specs.declared.machine.MachineEnd.{MachineEnd}
-use Rattle.wasm_machine.specs.declared.machine.MachineEnd.TheVariants as machine
-use Rattle.wasm_machine.specs.declared.state.End.TheVariants as ends
-use Rattle.wasm_machine.specs.declared.state.RunEnd.{RunEnd}
-use Rattle.wasm_machine.specs.declared.state.RunEnd.TheVariants.{Ended, NoMemory, OutOfSteps}
-use Rattle.wasm_machine.proofs.Beginning.{begun_ok, linked_is, numbered}
-use Rattle.wasm_machine.proofs.Whole.{ran_safe}
+use Rattle.machine_model.specs.Hosts.{Typed}
+use Rattle.machine_model.specs.Links.{IsNew, beginning}
+use Rattle.machine_model.specs.Machines.{Conf, ProgramForm}
+use Rattle.machine_model.specs.Runs.{Did, MachineForm, Ran, told_run}
+use Rattle.machine_model.specs.Typed.{SafeRun}
+use Rattle.machine_model.specs.declared.host.HostAnswer.{HostAnswer}
+use Rattle.machine_model.specs.declared.ends.MachineEnd.{MachineEnd}
+use Rattle.machine_model.specs.declared.ends.MachineEnd.TheVariants as machine
+use Rattle.machine_model.specs.declared.ends.End.TheVariants as ends
+use Rattle.machine_model.specs.declared.ends.RunEnd.{RunEnd}
+use Rattle.machine_model.specs.declared.ends.RunEnd.TheVariants.{Ended, NoMemory, OutOfSteps}
+use Rattle.machine_model.proofs.Beginning.{begun_ok, linked_is, numbered}
+use Rattle.machine_model.proofs.Whole.{ran_safe}
 use Rattle.host_step.specs.HostLaws.{host_found, step_typed}
 use Rattle.host_step.specs.HostState.{HostState}
 use Rattle.host_step.specs.Imports.{host_finds, host_types, import_at}

@@ -2,14 +2,14 @@
 use Rattle.std.proofs.Common.{◌≡◌, ◌≢◌, ℕ, suc, ◌<◌, List, ◌++◌, Bool, true, false, refl, sym, ap, ◌∙◌, subst, append_assoc, arith}
 use Rattle.wasm_store.specs.Memories.{MemoryForm}
 use Rattle.wasm_store.specs.declared.word.Word.{Word}
-use Rattle.wasm_machine.specs.Hosts.{Meaning}
-use Rattle.wasm_machine.specs.Machines.{Asks, Conf, Ends, Goes, ProgramForm, Turn, turn}
-use Rattle.wasm_machine.specs.Runs.{HasMore, IsNoTrap, OverBy, Ran, RefusedAs, Steps}
-use Rattle.wasm_machine.specs.declared.host.HostAnswer.{HostAnswer}
-use Rattle.wasm_machine.specs.declared.host.HostAnswer.TheVariants as told
-use Rattle.wasm_machine.specs.declared.state.End.TheVariants as ends
-use Rattle.wasm_machine.specs.declared.state.RunEnd.TheVariants.{Ended, NoMemory}
-use Rattle.wasm_machine.proofs.Chains.{no_memory}
+use Rattle.machine_model.specs.Hosts.{Meaning}
+use Rattle.machine_model.specs.Machines.{Asks, Conf, Ends, Goes, ProgramForm, Turn, turn}
+use Rattle.machine_model.specs.Runs.{HasMore, IsNoTrap, OverBy, Ran, RefusedAs, Steps}
+use Rattle.machine_model.specs.declared.host.HostAnswer.{HostAnswer}
+use Rattle.machine_model.specs.declared.host.HostAnswer.TheVariants as told
+use Rattle.machine_model.specs.declared.ends.End.TheVariants as ends
+use Rattle.machine_model.specs.declared.ends.RunEnd.TheVariants.{Ended, NoMemory}
+use Rattle.machine_model.proofs.Chains.{no_memory}
 use Rattle.world_core.specs.WorldState.{Action, after as outside_after}
 use Rattle.host_step.specs.HostState.{HostState}
 use Rattle.host_step.specs.HostStep.{StepIf}

@@ -2,7 +2,7 @@
 use Rattle.std.specs.Prelude.{◌≡◌, pos, List, [], ◌++◌, Some, None, refl}
 use Rattle.awk_values.specs.declared.fault.Fault.TheVariants.{TextLimit}
 use Rattle.world_core.specs.WorldState.{Action}
-use Rattle.wasm_machine.specs.declared.machine.MachineEnd.TheVariants as machine
+use Rattle.machine_model.specs.declared.ends.MachineEnd.TheVariants as machine
 use Rattle.wasm_store.specs.declared.trap.TrapKind.TheVariants.{BadHandle}
 use Rattle.mid_program.specs.ScriptRun.{Ended, Exhausted, FaultedBy, GoesOn}
 use Rattle.form_runs.specs.ToldRuns.{Says}

@@ -4,11 +4,11 @@ use Rattle.awk_values.specs.declared.fault.Fault.{Fault}
 use Rattle.awk_state.specs.Jobs.{JobForm}
 use Rattle.world_core.specs.WorldState.{Action, Outside, Source, after as outside_after}
 use Rattle.wasm_types.specs.Syntax.{ModuleForm}
-use Rattle.wasm_machine.specs.Machines.{Conf, ProgramForm}
-use Rattle.wasm_machine.specs.Runs.{Ran}
-use Rattle.wasm_machine.specs.declared.state.RunEnd.{RunEnd}
-use Rattle.wasm_machine.specs.declared.machine.MachineEnd.{MachineEnd}
-use Rattle.wasm_machine.specs.declared.machine.MachineEnd.TheVariants as machine
+use Rattle.machine_model.specs.Machines.{Conf, ProgramForm}
+use Rattle.machine_model.specs.Runs.{Ran}
+use Rattle.machine_model.specs.declared.ends.RunEnd.{RunEnd}
+use Rattle.machine_model.specs.declared.ends.MachineEnd.{MachineEnd}
+use Rattle.machine_model.specs.declared.ends.MachineEnd.TheVariants as machine
 use Rattle.host_step.specs.HostState.{HostState}
 use Rattle.host_elements.specs.Forms.{HostForm}
 use Rattle.form_meaning.specs.Shown.{Shown}

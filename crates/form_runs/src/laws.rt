@@ -1,11 +1,11 @@
 //! Laws of the definitions, each the contract of a function that does nothing.
 ghost use Rattle.std.specs.Prelude.{◌≢◌, List, ℕ};
 ghost use Rattle.awk_state.specs.Jobs.{JobForm};
-ghost use Rattle.wasm_machine.specs.Links.{IsNew};
-ghost use Rattle.wasm_machine.specs.Machines.{Conf, ProgramForm};
-ghost use Rattle.wasm_machine.specs.Runs.{Did, MachineForm, Ran};
-ghost use Rattle.wasm_machine.specs.declared.machine.MachineEnd.{MachineEnd};
-ghost use Rattle.wasm_machine.specs.declared.state.RunEnd.{RunEnd};
+ghost use Rattle.machine_model.specs.Links.{IsNew};
+ghost use Rattle.machine_model.specs.Machines.{Conf, ProgramForm};
+ghost use Rattle.machine_model.specs.Runs.{Did, MachineForm, Ran};
+ghost use Rattle.machine_model.specs.declared.ends.MachineEnd.{MachineEnd};
+ghost use Rattle.machine_model.specs.declared.ends.RunEnd.{RunEnd};
 ghost use Rattle.wasm_types.specs.Syntax.{ModuleForm};
 ghost use Rattle.wasm_types.specs.Typing.{ModuleOk};
 ghost use Rattle.world_core.specs.WorldState.{Action, Outside, Source};

@@ -1,6 +1,6 @@
 -- From calls of the families to what a call of the host comes to.
 use Rattle.std.proofs.Common.{◌≡◌, ℕ, false, List, [], Option, Some, None, Result, Ok, Err, refl, subst, sym}
-use Rattle.wasm_machine.specs.declared.host.HostAnswer.{HostAnswer}
+use Rattle.machine_model.specs.declared.host.HostAnswer.{HostAnswer}
 use Rattle.awk_values.specs.declared.fault.Fault.{Fault}
 use Rattle.wasm_store.specs.declared.word.Word.{Word}
 use Rattle.world_core.specs.WorldState.{Action}

@@ -2,8 +2,8 @@
 use Rattle.std.proofs.Common.{◌≡◌, ℕ, true, List, [], ◌++◌, Option, Some, None, Result, Ok, Err, refl, sym, ap, subst, ◌∙◌}
 use Rattle.awk_values.specs.declared.fault.Fault.{Fault}
 use Rattle.awk_state.specs.declared.answers.InputAnswer.{InputAnswer}
-use Rattle.wasm_machine.specs.declared.host.HostAnswer.{HostAnswer}
-use Rattle.wasm_machine.specs.declared.host.HostAnswer.TheVariants as told
+use Rattle.machine_model.specs.declared.host.HostAnswer.{HostAnswer}
+use Rattle.machine_model.specs.declared.host.HostAnswer.TheVariants as told
 use Rattle.wasm_store.specs.declared.word.Word.{Word}
 use Rattle.world_core.specs.WorldState.{Outside}
 use Rattle.host_step.specs.Answers.{refusal}

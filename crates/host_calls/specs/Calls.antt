@@ -1,7 +1,7 @@
 -- The import of a call, and what a call comes to.
 use Rattle.std.specs.Prelude.{ℕ, List, Option, Some, Result}
 use Rattle.awk_state.specs.declared.table.Primitive.TheVariants as row
-use Rattle.wasm_machine.specs.declared.host.HostAnswer.{HostAnswer}
+use Rattle.machine_model.specs.declared.host.HostAnswer.{HostAnswer}
 use Rattle.wasm_store.specs.declared.word.Word.{Word}
 use Rattle.world_core.specs.WorldState.{Action}
 use Rattle.host_step.specs.declared.import.Import.{Import}

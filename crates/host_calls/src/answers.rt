@@ -14,7 +14,7 @@ use host_step::Import;
 use host_texts::TextPrimitive;
 use host_values::{Refusal, ValuePrimitive};
 use import_host::{TableCall, refusal, refuses, told};
-use wasm_machine::HostAnswer;
+use machine_model::HostAnswer;
 use wasm_store::Word;
 use world_core::World;
 

@@ -3,7 +3,7 @@ ghost use Rattle.std.specs.Prelude.{◌≡◌};
 
 use crate::host::Host;
 use host_step::Import;
-use wasm_machine::{HostAnswer, HostCalls};
+use machine_model::{HostAnswer, HostCalls};
 use wasm_store::{Memory, TrapKind, Word};
 use wasm_types::FuncType;
 use world_core::World;

@@ -5,7 +5,7 @@ use Rattle.awk_values.specs.Values.{text_of_value}
 use Rattle.awk_values.specs.declared.value.Value.{Value}
 use Rattle.awk_state.specs.Constants.{flag_number}
 use Rattle.awk_state.specs.declared.table.Primitive.TheVariants as row
-use Rattle.wasm_machine.specs.declared.host.HostAnswer.TheVariants as told
+use Rattle.machine_model.specs.declared.host.HostAnswer.TheVariants as told
 use Rattle.wasm_store.specs.declared.word.Word.{Word}
 use Rattle.wasm_store.specs.declared.word.Word.TheVariants.{I32}
 use Rattle.host_step.specs.Arguments.{no_more}

@@ -13,7 +13,7 @@ use Rattle.awk_values.specs.declared.value.Value.TheVariants.{Text}
 use Rattle.awk_state.specs.ArrayRows.{keys, visited}
 use Rattle.awk_state.specs.SharedState.{Inner}
 use Rattle.awk_state.specs.declared.table.Primitive.TheVariants as row
-use Rattle.wasm_machine.specs.declared.host.HostAnswer.TheVariants as told
+use Rattle.machine_model.specs.declared.host.HostAnswer.TheVariants as told
 use Rattle.wasm_store.specs.declared.trap.TrapKind.{TrapKind}
 use Rattle.wasm_store.specs.declared.trap.TrapKind.TheVariants.{BadArgument}
 use Rattle.wasm_store.specs.declared.word.Word.{Word}

@@ -6,7 +6,7 @@ use Rattle.awk_values.specs.declared.value.Value.{Value}
 use Rattle.awk_state.specs.SharedState.{changes}
 use Rattle.awk_state.specs.TextRows.{given}
 use Rattle.awk_state.specs.declared.table.Primitive.TheVariants as row
-use Rattle.wasm_machine.specs.declared.host.HostAnswer.TheVariants as told
+use Rattle.machine_model.specs.declared.host.HostAnswer.TheVariants as told
 use Rattle.wasm_store.specs.declared.trap.TrapKind.{TrapKind}
 use Rattle.wasm_store.specs.declared.trap.TrapKind.TheVariants.{BadArgument}
 use Rattle.wasm_store.specs.declared.word.Word.{Word}

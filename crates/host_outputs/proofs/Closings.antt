@@ -12,7 +12,7 @@ use Rattle.awk_state.specs.Texts.{same_text}
 use Rattle.awk_state.specs.declared.answers.CloseAnswer.{CloseAnswer}
 use Rattle.awk_state.specs.declared.answers.CloseAnswer.TheVariants.{Closed, NothingOpen}
 use Rattle.awk_state.specs.declared.table.Primitive.TheVariants as row
-use Rattle.wasm_machine.specs.declared.host.HostAnswer.TheVariants as told
+use Rattle.machine_model.specs.declared.host.HostAnswer.TheVariants as told
 use Rattle.wasm_store.specs.declared.trap.TrapKind.{TrapKind}
 use Rattle.wasm_store.specs.declared.word.Word.{Word}
 use Rattle.wasm_store.specs.declared.word.Word.TheVariants.{I32}

@@ -6,7 +6,7 @@ use Rattle.awk_values.specs.declared.value.Value.{Value}
 use Rattle.awk_state.specs.OutputRows.{file_name, formatted_values, operands_of, print_row, printed, printf_row}
 use Rattle.awk_state.specs.SharedState.{Shared}
 use Rattle.awk_state.specs.declared.constants.Destination.{Destination}
-use Rattle.wasm_machine.specs.declared.host.HostAnswer.TheVariants as told
+use Rattle.machine_model.specs.declared.host.HostAnswer.TheVariants as told
 use Rattle.wasm_store.specs.declared.trap.TrapKind.{TrapKind}
 use Rattle.wasm_store.specs.declared.word.Word.{Word}
 use Rattle.world_core.specs.WorldState.{Action, State}

@@ -7,8 +7,8 @@ use Rattle.awk_state.specs.SharedState.{Does}
 use Rattle.awk_state.specs.Sorts.{InAnswer, OrFault, Row}
 use Rattle.awk_state.specs.Table as table
 use Rattle.awk_state.specs.declared.table.Primitive.TheVariants as row
-use Rattle.wasm_machine.specs.declared.host.HostAnswer.{HostAnswer}
-use Rattle.wasm_machine.specs.declared.host.HostAnswer.TheVariants as told
+use Rattle.machine_model.specs.declared.host.HostAnswer.{HostAnswer}
+use Rattle.machine_model.specs.declared.host.HostAnswer.TheVariants as told
 use Rattle.wasm_store.specs.declared.trap.TrapKind.{TrapKind}
 use Rattle.wasm_store.specs.declared.word.Word.{Word}
 use Rattle.world_core.specs.WorldState.{Action}

@@ -8,8 +8,8 @@ use Rattle.awk_tokens.specs.Words.{keywords, builtins, left_out_words}
 use Rattle.awk_text.specs.Escapes.{unescaped}
 use Rattle.awk_state.specs.Jobs.{JobForm}
 use Rattle.awk_state.specs.declared.table.Primitive.TheVariants as row
-use Rattle.wasm_machine.specs.declared.host.HostAnswer.{HostAnswer}
-use Rattle.wasm_machine.specs.declared.host.HostAnswer.TheVariants.{Done, Trap}
+use Rattle.machine_model.specs.declared.host.HostAnswer.{HostAnswer}
+use Rattle.machine_model.specs.declared.host.HostAnswer.TheVariants.{Done, Trap}
 use Rattle.wasm_store.specs.declared.trap.TrapKind.TheVariants.{BadHandle, BadPointer, BadArgument}
 use Rattle.wasm_store.specs.declared.word.Word.TheVariants.{I32, I64}
 use Rattle.world_core.specs.WorldState.{Outside, Named, absent, replaced}

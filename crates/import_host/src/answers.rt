@@ -8,7 +8,7 @@ use awk_state::{Answer, Sort};
 use awk_values::Fault;
 use host_step::Import;
 use host_values::Refusal;
-use wasm_machine::HostAnswer;
+use machine_model::HostAnswer;
 use wasm_store::{TrapKind, Word};
 
 /// The word of 64 bits that stands for a fault.

@@ -2,7 +2,7 @@
 ghost use Rattle.std.specs.Prelude.{◌≡◌, ◌<◌, IfOk, IfSome, Some, map, option_copied, slice_get};
 ghost use Rattle.host_step.specs.Imports.{host_finds, host_types, import_type, module_name, number_named, params_of, result_of, same_name, with_type, words_of};
 ghost use Rattle.import_links.specs.Links.{signature_if};
-ghost use Rattle.wasm_machine.specs.Hosts.{found_as};
+ghost use Rattle.machine_model.specs.Hosts.{found_as};
 ghost use Rattle.wasm_types.specs.View.{signature_of};
 
 use awk_state::{Answer, Argument, Sort};

@@ -5,10 +5,10 @@ use Rattle.wasm_types.specs.declared.types.ValType.TheVariants as ty
 use Rattle.wasm_types.specs.Syntax.{Signature}
 use Rattle.wasm_store.specs.declared.word.Word.{Word}
 use Rattle.wasm_store.specs.Memories.{MemoryForm}
-use Rattle.wasm_machine.specs.declared.host.HostAnswer.{HostAnswer}
-use Rattle.wasm_machine.specs.declared.host.HostAnswer.TheVariants.{Trap, NoMemory}
+use Rattle.machine_model.specs.declared.host.HostAnswer.{HostAnswer}
+use Rattle.machine_model.specs.declared.host.HostAnswer.TheVariants.{Trap, NoMemory}
 use Rattle.wasm_store.specs.declared.trap.TrapKind.TheVariants.{BadArgument}
-use Rattle.wasm_machine.specs.Hosts.{GoesOn, Typed}
+use Rattle.machine_model.specs.Hosts.{GoesOn, Typed}
 
 abbrev pub takes : Signature
 takes = record { params = ty.I32 ∷ []; result = None }

@@ -7,7 +7,7 @@
 
 ghost use Rattle.std.specs.Prelude.{IfOk};
 ghost use Rattle.machine_runs.specs.Small.{small_types};
-ghost use Rattle.wasm_machine.specs.Typed.{Linked};
+ghost use Rattle.machine_model.specs.Typed.{Linked};
 
 mod small_host;
 

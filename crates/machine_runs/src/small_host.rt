@@ -5,7 +5,7 @@ ghost use Rattle.wasm_types.specs.View.{signature_of};
 
 use std::alloc::{AllocError, Global};
 use std::marker::Model;
-use wasm_machine::{HostAnswer, HostCalls};
+use machine_model::{HostAnswer, HostCalls};
 use wasm_store::{Memory, TrapKind, Word};
 use wasm_types::{FuncType, ValType};
 

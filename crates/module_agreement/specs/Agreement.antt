@@ -6,12 +6,12 @@ use Rattle.awk_state.specs.Jobs.{JobForm}
 use Rattle.world_core.specs.WorldState.{Action, Outside, Source}
 use Rattle.wasm_types.specs.Syntax.{ModuleForm}
 use Rattle.wasm_store.specs.declared.trap.TrapKind.{TrapKind}
-use Rattle.wasm_machine.specs.Links.{IsNew}
-use Rattle.wasm_machine.specs.Machines.{Conf}
-use Rattle.wasm_machine.specs.Runs.{MachineForm, Ran, told_run}
-use Rattle.wasm_machine.specs.declared.state.RunEnd.{RunEnd}
-use Rattle.wasm_machine.specs.declared.machine.MachineEnd.{MachineEnd}
-use Rattle.wasm_machine.specs.declared.machine.MachineEnd.TheVariants as machine
+use Rattle.machine_model.specs.Links.{IsNew}
+use Rattle.machine_model.specs.Machines.{Conf}
+use Rattle.machine_model.specs.Runs.{MachineForm, Ran, told_run}
+use Rattle.machine_model.specs.declared.ends.RunEnd.{RunEnd}
+use Rattle.machine_model.specs.declared.ends.MachineEnd.{MachineEnd}
+use Rattle.machine_model.specs.declared.ends.MachineEnd.TheVariants as machine
 use Rattle.host_step.specs.HostState.{HostState}
 use Rattle.host_step.specs.Imports.{host_finds}
 use Rattle.host_step.specs.Starts.{state_at_start}

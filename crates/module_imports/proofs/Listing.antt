@@ -4,10 +4,10 @@ use Rattle.std.specs.Prelude.{slice_get, ◌↔◌, IsTrue}
 use Rattle.std.proofs.lemmas.List.{map-append, take_all, take_more}
 use Rattle.wasm_types.specs.Syntax.{ImportForm, ModuleForm, Signature}
 use Rattle.wasm_types.specs.Typing.{typed_in}
-use Rattle.wasm_machine.specs.Links.{first_none, number_for}
-use Rattle.wasm_machine.specs.Machines.{Asks, Ends, Goes, Turn, agree}
-use Rattle.wasm_machine.proofs.Linking.{missing_at, number_is}
-use Rattle.wasm_machine.proofs.Types.{agree_is}
+use Rattle.machine_model.specs.Links.{first_none, number_for}
+use Rattle.machine_model.specs.Machines.{Asks, Ends, Goes, Turn, agree}
+use Rattle.machine_model.proofs.Linking.{missing_at, number_is}
+use Rattle.machine_model.proofs.Types.{agree_is}
 use Rattle.host_step.specs.HostLaws.{host_found}
 use Rattle.host_step.specs.Imports.{host_finds, import_at, type_if_there}
 use Rattle.host_step.specs.declared.import.Import.{Import}

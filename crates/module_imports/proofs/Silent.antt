@@ -12,10 +12,10 @@ use Rattle.wasm_types.specs.View.{view_import, view_module}
 use Rattle.wasm_types.specs.ModuleGrammar.{IsModule}
 use Rattle.module_decoder.proofs.CompleteModule.{one_module}
 use Rattle.wasm_store.specs.declared.word.Word.{Word}
-use Rattle.wasm_machine.specs.Links.{IsNew, first_none, number_for, numbers_for}
-use Rattle.wasm_machine.specs.Machines.{turn}
-use Rattle.wasm_machine.specs.Runs.{MachineForm}
-use Rattle.wasm_machine.specs.declared.host.HostAnswer.{HostAnswer}
+use Rattle.machine_model.specs.Links.{IsNew, first_none, number_for, numbers_for}
+use Rattle.machine_model.specs.Machines.{turn}
+use Rattle.machine_model.specs.Runs.{MachineForm}
+use Rattle.machine_model.specs.declared.host.HostAnswer.{HostAnswer}
 use Rattle.world_core.specs.WorldState.{Action}
 use Rattle.host_step.specs.HostState.{HostState}
 use Rattle.host_step.specs.HostStep.{HostStep, StepIf}

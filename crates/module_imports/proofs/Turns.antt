@@ -15,12 +15,11 @@ use Rattle.wasm_store.specs.declared.trap.TrapKind.{TrapKind}
 use Rattle.wasm_store.specs.declared.trap.TrapKind.TheVariants as trap
 use Rattle.wasm_store.specs.declared.word.Word.{Word}
 use Rattle.wasm_store.specs.declared.word.Word.TheVariants.{I32, I64}
-use Rattle.wasm_machine.specs.Callers.{CallerForm}
-use Rattle.wasm_machine.specs.Stacks.{taken}
-use Rattle.wasm_machine.specs.Frames.{FrameForm, LabelForm, Local, act, at_end, branch, branch_at, branch_if, branch_table, branch_to, called_through, chosen, dropped, jump, local_set, local_step, local_tee, next_at, of_one, of_two, of_two_or, pushed, pushed_or, selected, settled, simple, with_values}
-use Rattle.wasm_machine.specs.Frames as form
-use Rattle.wasm_machine.specs.Machines.{Asks, Conf, Ends, Goes, ProgramForm, Turn, agree, asked, asked_if, call_at, called, called_by, entered_if, global_set, memory_grow, memory_load, memory_store, returned_with, to_caller, turn, turn_by, with_frame, with_grown, with_loaded, with_operands, with_stored, with_value}
-use Rattle.wasm_machine.specs.declared.state.End.TheVariants as ends
+use Rattle.machine_model.specs.Machines.{CallerForm, Asks, Conf, Ends, Goes, ProgramForm, Turn, agree, asked, asked_if, call_at, called, called_by, entered_if, global_set, memory_grow, memory_load, memory_store, returned_with, to_caller, turn, turn_by, with_frame, with_grown, with_loaded, with_operands, with_stored, with_value}
+use Rattle.machine_model.specs.Stacks.{taken}
+use Rattle.machine_model.specs.Frames.{FrameForm, LabelForm, Local, act, at_end, branch, branch_at, branch_if, branch_table, branch_to, called_through, chosen, dropped, jump, local_set, local_step, local_tee, next_at, of_one, of_two, of_two_or, pushed, pushed_or, selected, settled, simple, with_values}
+use Rattle.machine_model.specs.Frames as form
+use Rattle.machine_model.specs.declared.ends.End.TheVariants as ends
 use Rattle.module_imports.specs.Calls.{IsOneOf}
 
 -- where a step asks the host, it asks for one of these numbers

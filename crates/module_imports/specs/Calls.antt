@@ -11,11 +11,11 @@ use Rattle.module_decoder.specs.declared.fault.DecodeFault.TheVariants as decodi
 use Rattle.module_validator.specs.Faults.{Refuses as Untypes}
 use Rattle.module_validator.specs.declared.valid.InvalidFault.{InvalidFault}
 use Rattle.module_validator.specs.declared.valid.InvalidFault.TheVariants as invalid
-use Rattle.wasm_machine.specs.Hosts.{Meaning}
-use Rattle.wasm_machine.specs.Links.{IsNew, first_none, numbers_for}
-use Rattle.wasm_machine.specs.Machines.{Asks, Conf, Turn, turn}
-use Rattle.wasm_machine.specs.Runs.{MachineForm, Ran}
-use Rattle.wasm_machine.specs.declared.state.RunEnd.{RunEnd}
+use Rattle.machine_model.specs.Hosts.{Meaning}
+use Rattle.machine_model.specs.Links.{IsNew, first_none, numbers_for}
+use Rattle.machine_model.specs.Machines.{Asks, Conf, Turn, turn}
+use Rattle.machine_model.specs.Runs.{MachineForm, Ran}
+use Rattle.machine_model.specs.declared.ends.RunEnd.{RunEnd}
 use Rattle.world_core.specs.WorldState.{Action}
 use Rattle.host_step.specs.HostState.{HostState}
 use Rattle.host_step.specs.HostStep.{HostStep}

@@ -3,7 +3,7 @@ ghost use Rattle.std.specs.Prelude.{◌≡◌, IfErr, IfOk, MatchOption, None, S
 ghost use Rattle.host_step.specs.Imports.{host_finds};
 ghost use Rattle.module_imports.specs.Calls.{AsksOnly, HasImports, IsImportOf, IsSilent, IsTyped, IsUnlisted, Lists, undecoded};
 ghost use Rattle.module_imports.specs.Powers.{writes_of};
-ghost use Rattle.wasm_machine.specs.Links.{number_for};
+ghost use Rattle.machine_model.specs.Links.{number_for};
 ghost use Rattle.wasm_types.specs.Typing.{typed_in};
 ghost use Rattle.wasm_types.specs.View.{signature_of, view_import, view_module};
 

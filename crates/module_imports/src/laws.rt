@@ -5,14 +5,14 @@ ghost use Rattle.host_step.specs.HostStep.{StepOf};
 ghost use Rattle.host_step.specs.declared.import.Import.{Import};
 ghost use Rattle.module_imports.specs.Calls.{IsOneOf, only};
 ghost use Rattle.module_imports.specs.Powers.{writes};
-ghost use Rattle.wasm_machine.specs.Machines.{Conf, ProgramForm};
-ghost use Rattle.wasm_machine.specs.Runs.{Ran};
-ghost use Rattle.wasm_machine.specs.declared.host.HostAnswer.{HostAnswer};
-ghost use Rattle.wasm_machine.specs.declared.state.RunEnd.{RunEnd};
+ghost use Rattle.machine_model.specs.Machines.{Conf, ProgramForm};
+ghost use Rattle.machine_model.specs.Runs.{Ran};
+ghost use Rattle.machine_model.specs.declared.host.HostAnswer.{HostAnswer};
+ghost use Rattle.machine_model.specs.declared.ends.RunEnd.{RunEnd};
 ghost use Rattle.wasm_store.specs.declared.word.Word.{Word};
 ghost use Rattle.world_core.specs.WorldState.{Action};
 
-use wasm_machine::HostCalls;
+use machine_model::HostCalls;
 
 /// A run makes no call but those that its module imports, whatever its host is: it is a run over the host without all others.
 pub fn runs_make_imported_calls<H: HostCalls>()

@@ -6,12 +6,12 @@ use Rattle.awk_values.specs.declared.fault.Fault.{Fault}
 use Rattle.wasm_types.specs.Syntax.{Plain, Instructions, Done, Then}
 use Rattle.wasm_types.specs.declared.instr.Simple.TheVariants as simple
 use Rattle.wasm_store.specs.declared.word.Word.TheVariants.{I32, I64}
-use Rattle.wasm_machine.specs.Frames.{next_at, settled, settled_code}
-use Rattle.wasm_machine.specs.Machines.{Ends, Goes, ProgramForm, Turn, turn, turn_by}
-use Rattle.wasm_machine.specs.Machines as real
-use Rattle.wasm_machine.specs.Runs.{MachineForm, OverBy, TakenAs, told_end}
-use Rattle.wasm_machine.specs.declared.machine.MachineEnd.{MachineEnd}
-use Rattle.wasm_machine.specs.declared.state.End.{End}
+use Rattle.machine_model.specs.Frames.{next_at, settled, settled_code}
+use Rattle.machine_model.specs.Machines.{Ends, Goes, ProgramForm, Turn, turn, turn_by}
+use Rattle.machine_model.specs.Machines as real
+use Rattle.machine_model.specs.Runs.{MachineForm, OverBy, TakenAs, told_end}
+use Rattle.machine_model.specs.declared.ends.MachineEnd.{MachineEnd}
+use Rattle.machine_model.specs.declared.ends.End.{End}
 use Rattle.host_step.specs.HostState.{HostState}
 use Rattle.host_step.specs.Starts.{state_at_start}
 use Rattle.host_step.specs.Worlds.{with_output}

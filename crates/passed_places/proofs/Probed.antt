@@ -6,11 +6,11 @@ use Rattle.wasm_types.specs.declared.types.ValType.TheVariants as ty
 use Rattle.wasm_types.specs.declared.instr.Simple.{Simple}
 use Rattle.wasm_types.specs.declared.instr.Simple.TheVariants as simple
 use Rattle.wasm_store.specs.Memories.{MemoryForm}
-use Rattle.wasm_machine.specs.Frames.{settled_code, settled_values}
-use Rattle.wasm_machine.specs.Machines.{Goes, Ends, Asks, ProgramForm, Turn, turn}
-use Rattle.wasm_machine.specs.Machines as real
-use Rattle.wasm_machine.specs.Runs.{TakenAs}
-use Rattle.wasm_machine.specs.declared.host.HostAnswer.TheVariants as told
+use Rattle.machine_model.specs.Frames.{settled_code, settled_values}
+use Rattle.machine_model.specs.Machines.{Goes, Ends, Asks, ProgramForm, Turn, turn}
+use Rattle.machine_model.specs.Machines as real
+use Rattle.machine_model.specs.Runs.{TakenAs}
+use Rattle.machine_model.specs.declared.host.HostAnswer.TheVariants as told
 use Rattle.host_step.specs.HostState.{HostState}
 use Rattle.host_step.specs.Imports.{import_at}
 use Rattle.host_step.specs.Worlds.{with_output}

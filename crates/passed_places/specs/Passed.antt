@@ -6,12 +6,12 @@ use Rattle.awk_state.specs.Jobs.{JobForm}
 use Rattle.world_core.specs.WorldState.{Action, Outside, Source}
 use Rattle.wasm_types.specs.Syntax.{Plain, Instructions, Then, ModuleForm}
 use Rattle.wasm_types.specs.declared.instr.Simple.TheVariants.{Nop}
-use Rattle.wasm_machine.specs.Frames.{settled_code}
-use Rattle.wasm_machine.specs.Links.{IsNew}
-use Rattle.wasm_machine.specs.Machines.{Conf, Ends, ProgramForm, turn}
-use Rattle.wasm_machine.specs.Runs.{MachineForm, TakenAs, told_end}
-use Rattle.wasm_machine.specs.declared.machine.MachineEnd.{MachineEnd}
-use Rattle.wasm_machine.specs.declared.state.End.{End}
+use Rattle.machine_model.specs.Frames.{settled_code}
+use Rattle.machine_model.specs.Links.{IsNew}
+use Rattle.machine_model.specs.Machines.{Conf, Ends, ProgramForm, turn}
+use Rattle.machine_model.specs.Runs.{MachineForm, TakenAs, told_end}
+use Rattle.machine_model.specs.declared.ends.MachineEnd.{MachineEnd}
+use Rattle.machine_model.specs.declared.ends.End.{End}
 use Rattle.host_step.specs.HostState.{HostState}
 use Rattle.host_step.specs.Imports.{host_finds}
 use Rattle.host_step.specs.Starts.{state_at_start}

@@ -2,7 +2,7 @@
 use Rattle.std.proofs.Common.{◌≡◌, ◌⊎◌, inl, inr, ℕ, zero, suc, ◌+◌, true, false, List, [], ◌∷◌, drop, length, slice_get, Some, refl, ap, ◌∙◌, arith}
 use Rattle.wasm_store.specs.declared.word.Word.{Word}
 use Rattle.wasm_store.specs.declared.word.Word.TheVariants.{I32}
-use Rattle.wasm_machine.specs.Machines.{Conf}
+use Rattle.machine_model.specs.Machines.{Conf}
 use Rattle.host_step.specs.HostState.{HostState}
 use Rattle.mid_program.specs.Mid.{Code, Global, Parameter, Program, Slot, Step, Then, Unboxed}
 use Rattle.mid_program.specs.Sorted.{has_kind, kinds_of}
@@ -12,7 +12,7 @@ use Rattle.value_machine.specs.Statements.{step_emitted, steps_emitted}
 use Rattle.value_machine.proofs.Reading.{kind_below}
 use Rattle.awk_state.specs.Jobs.{JobForm}
 use Rattle.world_core.specs.WorldState.{Outside, Source}
-use Rattle.wasm_machine.specs.Runs.{MachineForm}
+use Rattle.machine_model.specs.Runs.{MachineForm}
 use Rattle.wasm_types.specs.Typing.{ModuleOk}
 use Rattle.mid_program.specs.Sorted.{IsSorted}
 use Rattle.value_machine.specs.Modules.{module_of}

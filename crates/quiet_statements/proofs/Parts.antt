@@ -14,8 +14,8 @@ use Rattle.wasm_types.specs.declared.instr.Simple.TheVariants.{Br, Compare, I32C
 use Rattle.wasm_store.specs.declared.word.Word.{Word}
 use Rattle.wasm_store.specs.declared.word.Word.TheVariants.{I32, I64}
 use Rattle.wasm_store.specs.Words.{compare_of, flag}
-use Rattle.wasm_machine.specs.Frames.{LabelForm}
-use Rattle.wasm_machine.specs.Machines.{Conf, ProgramForm}
+use Rattle.machine_model.specs.Frames.{LabelForm}
+use Rattle.machine_model.specs.Machines.{Conf, ProgramForm}
 use Rattle.value_machine.specs.Arithmetic.{factors_differ, out_of_range, ranged, times, two_numbers}
 use Rattle.value_machine.specs.Small.{ask_row, does, fail_if, number_is, text_beside, when}
 use Rattle.quiet_statements.proofs.Flowing.{Flows, arrived, at, binary, branch, compare, const64, convert, ended, get, set, test}

@@ -3,8 +3,8 @@
 use Rattle.std.proofs.Common.{ℕ, zero, suc, Bool, List, [], ◌∷◌, Option, Some, None, ℤ, refl}
 use Rattle.wasm_types.specs.Syntax.{Instructions}
 use Rattle.wasm_store.specs.declared.word.Word.{Word}
-use Rattle.wasm_machine.specs.Frames.{LabelForm}
-use Rattle.wasm_machine.specs.Machines.{Conf, ProgramForm}
+use Rattle.machine_model.specs.Frames.{LabelForm}
+use Rattle.machine_model.specs.Machines.{Conf, ProgramForm}
 use Rattle.mid_program.specs.Mid.{Code, Eval, Set, Slot, Step, Steps, Then, form_of}
 use Rattle.value_machine.specs.Emission.{Layout, dropped, emitted, all_emitted}
 use Rattle.value_machine.specs.Quick.{Constant, Named, Source, Sum, all_unsure, joined, sum_in, sum_names}

@@ -9,8 +9,8 @@ use Rattle.wasm_types.specs.Syntax.{Instructions}
 use Rattle.wasm_types.specs.declared.instr.IBinOp.TheVariants.{Add, Sub}
 use Rattle.wasm_store.specs.declared.word.Word.{Word}
 use Rattle.wasm_store.specs.declared.word.Word.TheVariants.{I32, I64}
-use Rattle.wasm_machine.specs.Frames.{LabelForm}
-use Rattle.wasm_machine.specs.Machines.{Conf, ProgramForm}
+use Rattle.machine_model.specs.Frames.{LabelForm}
+use Rattle.machine_model.specs.Machines.{Conf, ProgramForm}
 use Rattle.mid_program.specs.declared.mid.Arithmetic.{Arithmetic}
 use Rattle.mid_program.specs.declared.mid.Arithmetic.TheVariants as inline
 use Rattle.mid_program.specs.Mid.{Answered, Bare, Code, Form, Global, Parameter, Slot, form_of}

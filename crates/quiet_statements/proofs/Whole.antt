@@ -4,16 +4,16 @@ use Rattle.awk_state.specs.Jobs.{JobForm}
 use Rattle.world_core.specs.WorldState.{Action, Outside, Source}
 use Rattle.wasm_types.specs.Syntax.{Instructions}
 use Rattle.wasm_types.specs.Typing.{ModuleOk}
-use Rattle.wasm_machine.specs.Links.{IsNew, numbers_for}
-use Rattle.wasm_machine.specs.Machines.{Asks, Conf, Ends, Goes, ProgramForm, Turn, turn}
-use Rattle.wasm_machine.specs.Runs.{MachineForm, OverBy, Steps, TakenAs}
-use Rattle.wasm_machine.specs.Typed.{ConfOk, IsSafeTurn, ProgramOk}
-use Rattle.wasm_machine.specs.declared.machine.MachineEnd.TheVariants as machine
-use Rattle.wasm_machine.specs.declared.state.End.TheVariants as ends
-use Rattle.wasm_machine.specs.declared.state.RunEnd.TheVariants.{Ended}
-use Rattle.wasm_machine.proofs.Beginning.{begun_ok, linked_is, numbered}
-use Rattle.wasm_machine.proofs.Chains.{steps_join}
-use Rattle.wasm_machine.proofs.Whole.{steps_ok, turn_safe}
+use Rattle.machine_model.specs.Links.{IsNew, numbers_for}
+use Rattle.machine_model.specs.Machines.{Asks, Conf, Ends, Goes, ProgramForm, Turn, turn}
+use Rattle.machine_model.specs.Runs.{MachineForm, OverBy, Steps, TakenAs}
+use Rattle.machine_model.specs.Typed.{ConfOk, IsSafeTurn, ProgramOk}
+use Rattle.machine_model.specs.declared.ends.MachineEnd.TheVariants as machine
+use Rattle.machine_model.specs.declared.ends.End.TheVariants as ends
+use Rattle.machine_model.specs.declared.ends.RunEnd.TheVariants.{Ended}
+use Rattle.machine_model.proofs.Beginning.{begun_ok, linked_is, numbered}
+use Rattle.machine_model.proofs.Chains.{steps_join}
+use Rattle.machine_model.proofs.Whole.{steps_ok, turn_safe}
 use Rattle.host_step.specs.HostLaws.{host_found, step_typed}
 use Rattle.host_step.specs.HostState.{HostState}
 use Rattle.host_step.specs.Imports.{host_finds, host_types, import_at}

@@ -1,7 +1,7 @@
 -- Statements `name = Expr` on names that are unboxed in the function at work: what they are, with no word of the machine.
 use Rattle.std.specs.Prelude.{◌≡◌, ℕ, true, false, List, [], length}
 use Rattle.wasm_types.specs.Syntax.{Instructions}
-use Rattle.wasm_machine.specs.Machines.{Conf}
+use Rattle.machine_model.specs.Machines.{Conf}
 use Rattle.host_step.specs.HostState.{HostState}
 use Rattle.awk_grammar.specs.Tree.{Tree}
 use Rattle.mid_program.specs.Mid.{Code, Eval, Global, Kind, Parameter, Program, Set, Slot, Step, Steps, Then, Unboxed}

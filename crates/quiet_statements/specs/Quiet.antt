@@ -1,6 +1,6 @@
 -- Runs that call no import.
 use Rattle.std.specs.Prelude.{ℕ, zero, suc, ◌≡◌, Option, Some, None}
-use Rattle.wasm_machine.specs.Machines.{Asks, Conf, Ends, Goes, ProgramForm, Turn, turn}
+use Rattle.machine_model.specs.Machines.{Asks, Conf, Ends, Goes, ProgramForm, Turn, turn}
 
 -- on, where a step neither asks the host nor ends the run
 abbrev pub where_it_goes : Turn → (Conf → Option Conf) → Option Conf

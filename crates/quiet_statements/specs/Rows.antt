@@ -11,7 +11,7 @@ use Rattle.wasm_types.specs.declared.instr.Simple.TheVariants.{Br, I32Const}
 use Rattle.wasm_store.specs.declared.word.Word.{Word}
 use Rattle.wasm_store.specs.declared.word.Word.TheVariants.{I32, I64}
 use Rattle.wasm_store.specs.Words.{zero_of}
-use Rattle.wasm_machine.specs.Machines.{Conf, ProgramForm}
+use Rattle.machine_model.specs.Machines.{Conf, ProgramForm}
 use Rattle.mid_program.specs.declared.mid.Arithmetic.TheVariants.{Plus}
 use Rattle.mid_program.specs.declared.mid.Operation.TheVariants.{Inline}
 use Rattle.mid_program.specs.Mid.{At, Boxed, Code, Do, End, Eval, Get, Global, Kind, NoStep, Number, Over, Program, Set, Steps, Then, Unboxed}

@@ -2,7 +2,7 @@
 use Rattle.std.proofs.Common.{◌≡◌, ℕ, zero, suc, ◌+◌, ◌≤◌, true, List, [], ◌∷◌, ◌++◌, length, map, get_or, slice_get, Option, Some, ap, ◌∙◌, subst, arith}
 use Rattle.std.proofs.lemmas.Option.{none-some, slice_get-get_or}
 use Rattle.awk_state.specs.declared.sorts.Sort.{Sort}
-use Rattle.wasm_machine.specs.Machines.{CallerForm, Conf}
+use Rattle.machine_model.specs.Machines.{CallerForm, Conf}
 use Rattle.host_step.specs.HostState.{HostState}
 use Rattle.mid_program.specs.Mid.{Program, Routine}
 use Rattle.value_machine.specs.Functions.{main_callee, routine_callee}

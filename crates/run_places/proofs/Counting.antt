@@ -5,7 +5,7 @@ use Rattle.awk_state.specs.declared.sorts.Sort.{Sort}
 use Rattle.awk_state.specs.declared.sorts.Sort.TheVariants as sort
 use Rattle.wasm_store.specs.declared.word.Word.{Word}
 use Rattle.wasm_store.specs.declared.word.Word.TheVariants.{I32, I64}
-use Rattle.wasm_machine.specs.Machines.{CallerForm}
+use Rattle.machine_model.specs.Machines.{CallerForm}
 use Rattle.mid_program.specs.Mid.{Kind, Boxed, Unboxed, Many}
 use Rattle.value_machine.specs.Cells.{Cell, Bits, Held, IteratorOf, OwnedArray, LentArray, Gone, arrays_owned, count_cells, each_name, ended_name, globals_by, is_array, is_bare, is_iterator, is_owned, iterators_in, no_temporary, none_owned, tidy_locals, tidy_name}
 use Rattle.value_machine.specs.Machine.{Frame, ending_name}

@@ -12,7 +12,7 @@ use Rattle.wasm_store.specs.declared.trap.TrapKind.{TrapKind}
 use Rattle.wasm_store.specs.declared.word.Word.{Word}
 use Rattle.wasm_store.specs.declared.word.Word.TheVariants.{I32}
 use Rattle.wasm_store.specs.Words.{binary_of, converted, test_of, zero_of}
-use Rattle.wasm_machine.specs.Frames.{constant_of}
+use Rattle.machine_model.specs.Frames.{constant_of}
 use Rattle.mid_program.specs.Mid.{Kind}
 use Rattle.value_machine.specs.Cells.{Cell, Bits, Held, LentArray, OwnedArray, IteratorOf, Gone, cell_at, globals_by, is_owned, left_by, left_in_global, none_owned}
 use Rattle.value_machine.specs.ImportCalls.{Host, call, look}

@@ -3,9 +3,9 @@ use Rattle.std.proofs.Common.{◌≡◌, ℕ, ◌+◌, ◌*◌, ◌^◌, ◌≤�
 use Rattle.std.proofs.Math.Nat.{mul-le-mul_right}
 use Rattle.wasm_types.specs.Syntax.{Instructions}
 use Rattle.wasm_store.specs.declared.word.Word.{Word}
-use Rattle.wasm_machine.specs.Frames.{settled_code, settled_values}
-use Rattle.wasm_machine.specs.Machines as real
-use Rattle.wasm_machine.specs.Machines.{CallerForm}
+use Rattle.machine_model.specs.Frames.{settled_code, settled_values}
+use Rattle.machine_model.specs.Machines as real
+use Rattle.machine_model.specs.Machines.{CallerForm}
 use Rattle.host_step.specs.HostState.{HostState, Names}
 use Rattle.host_step.specs.Starts.{state_at_start}
 use Rattle.mid_program.specs.Mid.{Kind, Program}

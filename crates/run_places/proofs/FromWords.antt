@@ -5,9 +5,9 @@ use Rattle.awk_state.specs.Jobs.{JobForm}
 use Rattle.awk_state.specs.declared.constants.NameKind.TheVariants.{Scalar}
 use Rattle.awk_values.specs.declared.value.Value.{Value}
 use Rattle.world_core.specs.WorldState.{Action, Outside, Source}
-use Rattle.wasm_machine.specs.Machines.{ProgramForm}
-use Rattle.wasm_machine.specs.Machines as real
-use Rattle.wasm_machine.specs.Runs.{MachineForm, Steps}
+use Rattle.machine_model.specs.Machines.{ProgramForm}
+use Rattle.machine_model.specs.Machines as real
+use Rattle.machine_model.specs.Runs.{MachineForm, Steps}
 use Rattle.host_step.specs.HostState.{HostState}
 use Rattle.host_step.specs.Starts.{state_at_start}
 use Rattle.mid_program.specs.Mid.{Program}

@@ -5,10 +5,10 @@ use Rattle.awk_state.specs.Jobs.{JobForm}
 use Rattle.world_core.specs.WorldState.{Action, Outside, Source}
 use Rattle.wasm_store.specs.declared.word.Word.{Word}
 use Rattle.wasm_store.specs.declared.word.Word.TheVariants.{I32, I64}
-use Rattle.wasm_machine.specs.Frames.{FrameForm}
-use Rattle.wasm_machine.specs.Machines.{ProgramForm}
-use Rattle.wasm_machine.specs.Machines as real
-use Rattle.wasm_machine.specs.Runs.{MachineForm, Steps}
+use Rattle.machine_model.specs.Frames.{FrameForm}
+use Rattle.machine_model.specs.Machines.{ProgramForm}
+use Rattle.machine_model.specs.Machines as real
+use Rattle.machine_model.specs.Runs.{MachineForm, Steps}
 use Rattle.host_step.specs.HostState.{HostState, Names}
 use Rattle.host_step.specs.Starts.{state_at_start}
 use Rattle.mid_program.specs.Mid.{Kind, Boxed, Unboxed, Many, Program}

@@ -11,11 +11,11 @@ use Rattle.wasm_types.specs.declared.instr.Simple.{Simple}
 use Rattle.wasm_types.specs.declared.instr.Simple.TheVariants as simple
 use Rattle.wasm_store.specs.declared.word.Word.{Word}
 use Rattle.wasm_store.specs.declared.word.Word.TheVariants.{I32}
-use Rattle.wasm_machine.specs.Frames.{FrameForm, settled_code, settled_values}
-use Rattle.wasm_machine.specs.Machines as real
-use Rattle.wasm_machine.specs.Machines.{Ends, Goes, ProgramForm, Turn, turn}
-use Rattle.wasm_machine.specs.Runs.{MachineForm, OverBy, Steps}
-use Rattle.wasm_machine.specs.declared.state.End.TheVariants as ends
+use Rattle.machine_model.specs.Frames.{FrameForm, settled_code, settled_values}
+use Rattle.machine_model.specs.Machines as real
+use Rattle.machine_model.specs.Machines.{Ends, Goes, ProgramForm, Turn, turn}
+use Rattle.machine_model.specs.Runs.{MachineForm, OverBy, Steps}
+use Rattle.machine_model.specs.declared.ends.End.TheVariants as ends
 use Rattle.host_step.specs.HostState.{HostState, Names}
 use Rattle.host_step.specs.Starts.{state_at_start}
 use Rattle.mid_program.specs.Mid.{Kind, Program}

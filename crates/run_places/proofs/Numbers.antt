@@ -18,9 +18,9 @@ use Rattle.world_core.specs.WorldState.{Action}
 use Rattle.wasm_store.specs.Memories.{MemoryForm}
 use Rattle.wasm_store.specs.declared.word.Word.{Word}
 use Rattle.wasm_store.specs.declared.word.Word.TheVariants.{I32, I64}
-use Rattle.wasm_machine.specs.Machines.{Asks, Conf, Ends, Goes as Goes_on, ProgramForm, Turn, turn}
-use Rattle.wasm_machine.specs.Runs.{Steps, TakenAs}
-use Rattle.wasm_machine.specs.declared.host.HostAnswer.{HostAnswer}
+use Rattle.machine_model.specs.Machines.{Asks, Conf, Ends, Goes as Goes_on, ProgramForm, Turn, turn}
+use Rattle.machine_model.specs.Runs.{Steps, TakenAs}
+use Rattle.machine_model.specs.declared.host.HostAnswer.{HostAnswer}
 use Rattle.host_step.specs.Answers.{FreeFor, encode}
 use Rattle.host_step.specs.Arguments.{removed_front, without_front}
 use Rattle.host_step.specs.HostState.{HostState, Names}

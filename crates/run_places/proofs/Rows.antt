@@ -11,8 +11,8 @@ use Rattle.awk_state.specs.declared.sorts.Sort.TheVariants as sort
 use Rattle.wasm_store.specs.declared.word.Word.TheVariants.{I32, I64}
 use Rattle.wasm_types.specs.Syntax.{Done, Instructions, Plain, Then}
 use Rattle.wasm_types.specs.declared.instr.Simple.TheVariants.{Nop}
-use Rattle.wasm_machine.specs.Machines.{Conf, ProgramForm}
-use Rattle.wasm_machine.specs.Runs.{Steps}
+use Rattle.machine_model.specs.Machines.{Conf, ProgramForm}
+use Rattle.machine_model.specs.Runs.{Steps}
 use Rattle.host_step.specs.HostState.{HostState}
 use Rattle.host_step.specs.Starts.{state_at_start}
 use Rattle.world_core.specs.WorldState.{Outside, Source}

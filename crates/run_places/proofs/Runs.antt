@@ -6,17 +6,17 @@ use Rattle.awk_state.specs.Jobs.{JobForm}
 use Rattle.world_core.specs.WorldState.{Action, Outside, Source}
 use Rattle.wasm_types.specs.Typing.{ModuleOk}
 use Rattle.wasm_store.specs.declared.word.Word.TheVariants.{I32, I64}
-use Rattle.wasm_machine.specs.Links.{IsNew, beginning}
-use Rattle.wasm_machine.specs.Machines.{Conf, Goes, ProgramForm, turn}
-use Rattle.wasm_machine.specs.Runs.{MachineForm, told_run}
-use Rattle.wasm_machine.specs.Typed.{ProgramOk, SafeRun}
-use Rattle.wasm_machine.specs.declared.machine.MachineEnd.{MachineEnd}
-use Rattle.wasm_machine.specs.declared.machine.MachineEnd.TheVariants as machine
-use Rattle.wasm_machine.specs.declared.state.End.TheVariants as ends
-use Rattle.wasm_machine.specs.declared.state.RunEnd.{RunEnd}
-use Rattle.wasm_machine.specs.declared.state.RunEnd.TheVariants.{Ended as HasEnded, NoMemory, OutOfSteps}
-use Rattle.wasm_machine.proofs.Beginning.{begun_ok, linked_is, numbered}
-use Rattle.wasm_machine.proofs.Whole.{ran_safe}
+use Rattle.machine_model.specs.Links.{IsNew, beginning}
+use Rattle.machine_model.specs.Machines.{Conf, Goes, ProgramForm, turn}
+use Rattle.machine_model.specs.Runs.{MachineForm, told_run}
+use Rattle.machine_model.specs.Typed.{ProgramOk, SafeRun}
+use Rattle.machine_model.specs.declared.ends.MachineEnd.{MachineEnd}
+use Rattle.machine_model.specs.declared.ends.MachineEnd.TheVariants as machine
+use Rattle.machine_model.specs.declared.ends.End.TheVariants as ends
+use Rattle.machine_model.specs.declared.ends.RunEnd.{RunEnd}
+use Rattle.machine_model.specs.declared.ends.RunEnd.TheVariants.{Ended as HasEnded, NoMemory, OutOfSteps}
+use Rattle.machine_model.proofs.Beginning.{begun_ok, linked_is, numbered}
+use Rattle.machine_model.proofs.Whole.{ran_safe}
 use Rattle.host_step.specs.HostLaws.{host_found, step_typed}
 use Rattle.host_step.specs.HostState.{HostState}
 use Rattle.host_step.specs.Imports.{host_finds, host_types, import_at}

@@ -9,8 +9,8 @@ use Rattle.awk_state.specs.declared.table.Primitive.TheVariants as row
 use Rattle.wasm_types.specs.Syntax.{BrTable, Block, Done, If, Instructions, Loop, Plain, Then}
 use Rattle.wasm_types.specs.declared.instr.Simple.{Simple}
 use Rattle.wasm_types.specs.declared.instr.Simple.TheVariants as simple
-use Rattle.wasm_machine.specs.Frames.{LabelForm}
-use Rattle.wasm_machine.specs.Machines.{CallerForm}
+use Rattle.machine_model.specs.Frames.{LabelForm}
+use Rattle.machine_model.specs.Machines.{CallerForm}
 use Rattle.host_step.specs.HostState.{Names}
 use Rattle.mid_program.specs.Mid.{Kind, Boxed, Unboxed, Many, Program}
 use Rattle.value_machine.specs.Cells.{Cell, Bits, Held, IteratorOf, OwnedArray, LentArray, Gone, arrays_owned, is_held, is_operand, is_owned, iterators_in, locals_wait, no_value, operands_wait}

@@ -11,10 +11,10 @@ use Rattle.wasm_types.specs.Syntax.{Done, Instructions, ModuleForm, Plain, Then}
 use Rattle.wasm_types.specs.declared.instr.Simple.TheVariants.{Call, LocalGet, LocalTee, Nop}
 use Rattle.wasm_store.specs.declared.word.Word.{Word}
 use Rattle.wasm_store.specs.declared.word.Word.TheVariants.{I32, I64}
-use Rattle.wasm_machine.specs.Frames.{LabelForm}
-use Rattle.wasm_machine.specs.Links.{IsNew}
-use Rattle.wasm_machine.specs.Machines.{CallerForm, Conf}
-use Rattle.wasm_machine.specs.Runs.{MachineForm, Steps}
+use Rattle.machine_model.specs.Frames.{LabelForm}
+use Rattle.machine_model.specs.Links.{IsNew}
+use Rattle.machine_model.specs.Machines.{CallerForm, Conf}
+use Rattle.machine_model.specs.Runs.{MachineForm, Steps}
 use Rattle.host_step.specs.HostState.{HostState, live_arrays, live_iterators, live_values}
 use Rattle.host_step.specs.Imports.{host_finds}
 use Rattle.host_step.specs.Starts.{state_at_start}

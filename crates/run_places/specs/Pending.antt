@@ -1,7 +1,7 @@
 -- How many operands callers that wait have pending: at most as many as limits say, one for each function by its number, and the last one for `main`.
 use Rattle.std.specs.Prelude.{ℕ, ◌+◌, ◌≡◌, ◌≤◌, List, [], ◌∷◌, Option, Some, get_or, slice_get}
 use Rattle.awk_state.specs.declared.sorts.Sort.{Sort}
-use Rattle.wasm_machine.specs.Machines.{CallerForm, Conf}
+use Rattle.machine_model.specs.Machines.{CallerForm, Conf}
 use Rattle.host_step.specs.HostState.{HostState, live_values}
 use Rattle.mid_program.specs.Mid.{Program}
 use Rattle.mid_program.specs.Sorted.{kinds_of}

@@ -7,7 +7,7 @@ use Rattle.wasm_types.specs.Syntax.{Done, If, Instructions, Loop, Plain, Then}
 use Rattle.wasm_types.specs.declared.instr.Simple.TheVariants.{Call, I32Const, LocalGet, LocalSet, LocalTee, Nop}
 use Rattle.wasm_store.specs.declared.word.Word.{Word}
 use Rattle.wasm_store.specs.declared.word.Word.TheVariants.{I32, I64}
-use Rattle.wasm_machine.specs.Frames.{LabelForm}
+use Rattle.machine_model.specs.Frames.{LabelForm}
 use Rattle.awk_grammar.specs.Token.{Number as Numeral}
 use Rattle.awk_grammar.specs.Tree.{Tree, Leaf, Var, Call as CallOf, Bin, Join, NoTree, Then as AndTree}
 use Rattle.awk_grammar.specs.Stmt.{Print, NoArgs, Written, Put, Return, Stmt, Simple, Leave, NoStmt, And}

@@ -11,7 +11,7 @@ use awk_tokens::{LeftOut, TokenFault};
 use ere_syntax::EreFault;
 use module_decoder::DecodeFault;
 use module_validator::InvalidFault;
-use wasm_machine::LinkFault;
+use machine_model::LinkFault;
 use wasm_store::TrapKind;
 
 fn token_words(fault: &TokenFault) -> Told<'_>

@@ -13,7 +13,7 @@ use awk_values::Fault;
 use ere_syntax::EreFault;
 use module_decoder::DecodeFault;
 use module_validator::InvalidFault;
-use wasm_machine::LinkFault;
+use machine_model::LinkFault;
 use wasm_store::TrapKind;
 
 /// Why a script is refused. Of an expression that is refused the name is that of a fault.

@@ -13,7 +13,7 @@ use Rattle.mid_program.specs.View.{view_mid}
 use Rattle.mid_program.specs.declared.program.Mid.{Mid}
 use Rattle.wasm_types.specs.ModuleGrammar.{IsModule}
 use Rattle.wasm_types.specs.Typing.{ModuleOk}
-use Rattle.wasm_machine.specs.Links.{SegmentsFit, main_of}
+use Rattle.machine_model.specs.Links.{SegmentsFit, main_of}
 use Rattle.value_machine.specs.Modules.{module_of}
 use Rattle.value_refined.proofs.Links.{numbers_are, program}
 use Rattle.module_agreement.specs.Agreement.{Agreement}

@@ -1,7 +1,7 @@
 -- Computing constant parts and unboxing names leaves the operands under each call as few as they were.
 use Rattle.std.proofs.Common.{◌≡◌, ℕ, zero, suc, List, [], ◌∷◌, ◌++◌, map, Option, Some, None, sym, subst}
 use Rattle.awk_state.specs.Numbers.{Number as AnyNumber}
-use Rattle.wasm_machine.specs.Machines.{Conf}
+use Rattle.machine_model.specs.Machines.{Conf}
 use Rattle.host_step.specs.HostState.{HostState}
 use Rattle.mid_program.specs.declared.mid.Operation.{Operation}
 use Rattle.mid_program.specs.Mid.{Kind, Slot, Code, Do, Over, Compare, Call, Ask, AskLine, FileLine, Replace, Number, Text, Unset, Get, Set, Array, IsOpen, Choose, Seq, Let, Bound, Codes, End, At, Fixed, Fresh, Step, Eval, Block, If, Loop, Each, Break, Continue, Next, Exit, ExitWith, Return, Mark, Steps, NoStep, Then, Program, Routine}

@@ -12,10 +12,10 @@ use Rattle.mid_program.specs.Translation.{program_of}
 use Rattle.wasm_types.specs.ModuleGrammar.{IsModule}
 use Rattle.wasm_types.specs.Syntax.{ModuleForm}
 use Rattle.wasm_types.specs.Typing.{ModuleOk}
-use Rattle.wasm_machine.specs.Links.{SegmentsFit, main_of, numbers_for}
-use Rattle.wasm_machine.specs.Machines.{Conf, Ends, turn}
-use Rattle.wasm_machine.specs.Runs.{MachineForm}
-use Rattle.wasm_machine.specs.declared.state.End.TheVariants as ends
+use Rattle.machine_model.specs.Links.{SegmentsFit, main_of, numbers_for}
+use Rattle.machine_model.specs.Machines.{Conf, Ends, turn}
+use Rattle.machine_model.specs.Runs.{MachineForm}
+use Rattle.machine_model.specs.declared.ends.End.TheVariants as ends
 use Rattle.wasm_store.specs.declared.word.Word.TheVariants.{I32}
 use Rattle.host_step.specs.HostState.{HostState}
 use Rattle.host_step.specs.Imports.{host_finds}

@@ -4,9 +4,9 @@ use Rattle.std.proofs.lemmas.Bool.{ltb-true}
 use Rattle.awk_state.specs.declared.sorts.Sort.{Sort}
 use Rattle.wasm_store.specs.Memories.{MemoryForm}
 use Rattle.wasm_store.specs.declared.word.Word.{Word}
-use Rattle.wasm_machine.specs.Frames.{with_values}
-use Rattle.wasm_machine.specs.Machines.{Asks, CallerForm, Ends, Turn, answered, asked, with_operands}
-use Rattle.wasm_machine.specs.Machines as real
+use Rattle.machine_model.specs.Frames.{with_values}
+use Rattle.machine_model.specs.Machines.{Asks, CallerForm, Ends, Turn, answered, asked, with_operands}
+use Rattle.machine_model.specs.Machines as real
 use Rattle.host_step.specs.HostState.{HostState, Names}
 use Rattle.host_step.specs.Tables.{look}
 use Rattle.value_machine.specs.Cells.{Cell, Bits, Held, IteratorOf, OwnedArray, LentArray, Gone, has_owner}

@@ -9,14 +9,14 @@ use Rattle.awk_state.specs.declared.sorts.Sort.{Sort}
 use Rattle.awk_state.specs.declared.sorts.Sort.TheVariants as sort
 use Rattle.wasm_types.specs.declared.types.ValType.{ValType}
 use Rattle.wasm_store.specs.Words.{zero_of}
-use Rattle.wasm_machine.specs.Links.{IsNew, beginning, value_of}
-use Rattle.wasm_machine.specs.Hosts.{Meaning}
-use Rattle.wasm_machine.specs.Machines.{Conf, Goes, ProgramForm, Turn, turn}
-use Rattle.wasm_machine.specs.Runs.{IsWithin, MachineForm, OverBy, Ran, Steps, TakenAs}
-use Rattle.wasm_machine.specs.declared.state.End.{End}
-use Rattle.wasm_machine.specs.declared.state.End.TheVariants as ends
-use Rattle.wasm_machine.specs.declared.state.RunEnd.{RunEnd}
-use Rattle.wasm_machine.specs.declared.state.RunEnd.TheVariants.{Ended, NoMemory, OutOfSteps}
+use Rattle.machine_model.specs.Links.{IsNew, beginning, value_of}
+use Rattle.machine_model.specs.Hosts.{Meaning}
+use Rattle.machine_model.specs.Machines.{Conf, Goes, ProgramForm, Turn, turn}
+use Rattle.machine_model.specs.Runs.{IsWithin, MachineForm, OverBy, Ran, Steps, TakenAs}
+use Rattle.machine_model.specs.declared.ends.End.{End}
+use Rattle.machine_model.specs.declared.ends.End.TheVariants as ends
+use Rattle.machine_model.specs.declared.ends.RunEnd.{RunEnd}
+use Rattle.machine_model.specs.declared.ends.RunEnd.TheVariants.{Ended, NoMemory, OutOfSteps}
 use Rattle.host_step.specs.HostState.{Names}
 use Rattle.host_step.specs.Imports.{host_finds}
 use Rattle.host_step.specs.Starts.{first_arrays, first_names, state_at_start}

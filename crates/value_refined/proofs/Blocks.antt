@@ -5,11 +5,11 @@ use Rattle.wasm_types.specs.Syntax.{Instructions}
 use Rattle.wasm_types.specs.declared.types.ValType.{ValType}
 use Rattle.wasm_store.specs.declared.word.Word.{Word}
 use Rattle.wasm_store.specs.declared.word.Word.TheVariants.{I32}
-use Rattle.wasm_machine.specs.Frames.{LabelForm, branch_at, branch_if, branch_to, chosen, entered, with_values}
-use Rattle.wasm_machine.specs.Frames as form
-use Rattle.wasm_machine.specs.Stacks.{taken}
-use Rattle.wasm_machine.specs.Machines.{Goes, ProgramForm, Turn, turn_by, with_frame}
-use Rattle.wasm_machine.specs.Machines as real
+use Rattle.machine_model.specs.Frames.{LabelForm, branch_at, branch_if, branch_to, chosen, entered, with_values}
+use Rattle.machine_model.specs.Frames as form
+use Rattle.machine_model.specs.Stacks.{taken}
+use Rattle.machine_model.specs.Machines.{Goes, ProgramForm, Turn, turn_by, with_frame}
+use Rattle.machine_model.specs.Machines as real
 use Rattle.mid_program.specs.Mid.{Kind}
 use Rattle.host_step.specs.HostState.{HostState}
 use Rattle.value_machine.specs.Cells.{Cell, Bits, none_owned}

@@ -6,10 +6,10 @@ use Rattle.awk_state.specs.declared.sorts.Sort.{Sort}
 use Rattle.wasm_types.specs.Syntax.{FuncForm, Instructions}
 use Rattle.wasm_types.specs.declared.types.ValType.{ValType}
 use Rattle.wasm_store.specs.Words.{zero_of}
-use Rattle.wasm_machine.specs.Frames.{with_values}
-use Rattle.wasm_machine.specs.Machines.{CallerForm, Ends, Goes, ProgramForm, Turn, called, entered_func, locals_for}
-use Rattle.wasm_machine.specs.Machines as real
-use Rattle.wasm_machine.specs.declared.state.End.TheVariants as ends
+use Rattle.machine_model.specs.Frames.{with_values}
+use Rattle.machine_model.specs.Machines.{CallerForm, Ends, Goes, ProgramForm, Turn, called, entered_func, locals_for}
+use Rattle.machine_model.specs.Machines as real
+use Rattle.machine_model.specs.declared.ends.End.TheVariants as ends
 use Rattle.mid_program.specs.Mid.{Kind}
 use Rattle.host_step.specs.HostState.{HostState, Names}
 use Rattle.value_machine.specs.Cells.{Cell, Bits, none_owned}

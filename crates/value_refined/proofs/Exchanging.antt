@@ -4,13 +4,13 @@ use Rattle.std.proofs.Common.{◌≡◌, ℕ, Bool, false, List, [], length, Opt
 use Rattle.wasm_types.specs.Syntax.{Instructions}
 use Rattle.wasm_store.specs.Memories.{MemoryForm}
 use Rattle.wasm_store.specs.declared.word.Word.{Word}
-use Rattle.wasm_machine.specs.Hosts.{Meaning}
-use Rattle.wasm_machine.specs.Machines.{Asks, Ends, Goes, Turn}
-use Rattle.wasm_machine.specs.Machines as real
-use Rattle.wasm_machine.specs.Runs.{OverBy, TakenAs}
-use Rattle.wasm_machine.specs.declared.host.HostAnswer.{HostAnswer}
-use Rattle.wasm_machine.specs.declared.host.HostAnswer.TheVariants as told
-use Rattle.wasm_machine.specs.declared.state.End.{End}
+use Rattle.machine_model.specs.Hosts.{Meaning}
+use Rattle.machine_model.specs.Machines.{Asks, Ends, Goes, Turn}
+use Rattle.machine_model.specs.Machines as real
+use Rattle.machine_model.specs.Runs.{OverBy, TakenAs}
+use Rattle.machine_model.specs.declared.host.HostAnswer.{HostAnswer}
+use Rattle.machine_model.specs.declared.host.HostAnswer.TheVariants as told
+use Rattle.machine_model.specs.declared.ends.End.{End}
 use Rattle.world_core.specs.WorldState.{Action}
 use Rattle.host_step.specs.HostState.{HostState, Names}
 use Rattle.host_step.specs.HostStep.{StepIf}

@@ -1,13 +1,13 @@
 -- While each table has a free number at every step, there is a run of each number of steps.
 use Rattle.std.proofs.Common.{◌≡◌, ◌≢◌, ◌⊎◌, inl, inr, ℕ, zero, suc, ◌+◌, List, [], ◌++◌, refl, sym, subst, arith, append-nil}
 use Rattle.world_core.specs.WorldState.{Action}
-use Rattle.wasm_machine.specs.Machines.{Asks, Conf, Ends, Goes, ProgramForm, Turn, turn}
-use Rattle.wasm_machine.specs.Runs.{IsStep, OverBy, Ran, Steps, TakenAs}
-use Rattle.wasm_machine.specs.declared.state.End.{End}
-use Rattle.wasm_machine.specs.declared.state.End.TheVariants as ends
-use Rattle.wasm_machine.specs.declared.state.RunEnd.{RunEnd}
-use Rattle.wasm_machine.specs.declared.state.RunEnd.TheVariants.{Ended, NoMemory, OutOfSteps}
-use Rattle.wasm_machine.proofs.Chains.{ran_on, within_less}
+use Rattle.machine_model.specs.Machines.{Asks, Conf, Ends, Goes, ProgramForm, Turn, turn}
+use Rattle.machine_model.specs.Runs.{IsStep, OverBy, Ran, Steps, TakenAs}
+use Rattle.machine_model.specs.declared.ends.End.{End}
+use Rattle.machine_model.specs.declared.ends.End.TheVariants as ends
+use Rattle.machine_model.specs.declared.ends.RunEnd.{RunEnd}
+use Rattle.machine_model.specs.declared.ends.RunEnd.TheVariants.{Ended, NoMemory, OutOfSteps}
+use Rattle.machine_model.proofs.Chains.{ran_on, within_less}
 use Rattle.host_step.specs.HostState.{HostState}
 use Rattle.value_refined.specs.Refined.{table_meaning}
 use Rattle.value_refined.proofs.Replying.{turns}

@@ -6,9 +6,9 @@ use Rattle.wasm_types.specs.Syntax.{Instructions}
 use Rattle.wasm_types.specs.declared.instr.Simple.TheVariants as simple
 use Rattle.wasm_store.specs.declared.word.Word.{Word}
 use Rattle.wasm_store.specs.declared.word.Word.TheVariants.{I32}
-use Rattle.wasm_machine.specs.Machines.{Ends, Goes, ProgramForm, Turn, global_set, turn_by, with_operands, with_value}
-use Rattle.wasm_machine.specs.declared.state.End.TheVariants as ends
-use Rattle.wasm_machine.specs.Machines as real
+use Rattle.machine_model.specs.Machines.{Ends, Goes, ProgramForm, Turn, global_set, turn_by, with_operands, with_value}
+use Rattle.machine_model.specs.declared.ends.End.TheVariants as ends
+use Rattle.machine_model.specs.Machines as real
 use Rattle.mid_program.specs.Mid.{Kind}
 use Rattle.host_step.specs.HostState.{HostState}
 use Rattle.value_machine.specs.Cells.{Cell, cell_at, has_room, left_in_global, may_come, read_global}

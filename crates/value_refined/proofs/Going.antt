@@ -2,11 +2,11 @@
 use Rattle.std.proofs.Common.{inl, inr, ℕ, Bool, List, Option, refl, sym, ap, subst}
 use Rattle.wasm_types.specs.Syntax.{Instructions}
 use Rattle.wasm_store.specs.declared.word.Word.{Word}
-use Rattle.wasm_machine.specs.Frames.{FrameForm}
-use Rattle.wasm_machine.specs.Machines.{Ends, Goes, Turn, with_frame}
-use Rattle.wasm_machine.specs.Machines as real
-use Rattle.wasm_machine.specs.Runs.{told_end}
-use Rattle.wasm_machine.specs.declared.state.End.TheVariants as ends
+use Rattle.machine_model.specs.Frames.{FrameForm}
+use Rattle.machine_model.specs.Machines.{Ends, Goes, Turn, with_frame}
+use Rattle.machine_model.specs.Machines as real
+use Rattle.machine_model.specs.Runs.{told_end}
+use Rattle.machine_model.specs.declared.ends.End.TheVariants as ends
 use Rattle.mid_program.specs.Mid.{Kind}
 use Rattle.host_step.specs.HostState.{HostState}
 use Rattle.value_machine.specs.Cells.{Cell}

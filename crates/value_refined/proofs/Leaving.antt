@@ -2,10 +2,10 @@
 use Rattle.std.proofs.Common.{◌≡◌, ℕ, Bool, true, false, not, ◌&&◌, List, [], ◌∷◌, Some, refl, sym, subst, arith}
 use Rattle.wasm_types.specs.declared.types.ValType.TheVariants as ty
 use Rattle.wasm_store.specs.declared.word.Word.{Word}
-use Rattle.wasm_machine.specs.Frames.{LabelForm, with_values}
-use Rattle.wasm_machine.specs.Frames as form
-use Rattle.wasm_machine.specs.Machines.{CallerForm, Goes, ProgramForm, Turn, returned_with, to_caller, turn_by}
-use Rattle.wasm_machine.specs.Machines as real
+use Rattle.machine_model.specs.Frames.{LabelForm, with_values}
+use Rattle.machine_model.specs.Frames as form
+use Rattle.machine_model.specs.Machines.{CallerForm, Goes, ProgramForm, Turn, returned_with, to_caller, turn_by}
+use Rattle.machine_model.specs.Machines as real
 use Rattle.mid_program.specs.Mid.{Kind}
 use Rattle.host_step.specs.HostState.{HostState}
 use Rattle.value_machine.specs.Cells.{Cell, globals_by, is_owned, none_owned}

@@ -8,9 +8,9 @@ use Rattle.std.proofs.lemmas.Option.{get_or_from_slice_get, none-some, slice_get
 use Rattle.std.proofs.lemmas.Simd.{map-map}
 use Rattle.std.proofs.Math.ListN.{get_or-append}
 use Rattle.wasm_types.specs.Syntax.{FuncForm, ImportForm, ModuleForm, Signature}
-use Rattle.wasm_machine.specs.Links.{IsNew, number_for, number_if, numbers_for}
-use Rattle.wasm_machine.specs.Machines.{Conf, ProgramForm, asked, asked_if, call_at, called, entered_func, entered_if}
-use Rattle.wasm_machine.specs.Runs.{MachineForm}
+use Rattle.machine_model.specs.Links.{IsNew, number_for, number_if, numbers_for}
+use Rattle.machine_model.specs.Machines.{Conf, ProgramForm, asked, asked_if, call_at, called, entered_func, entered_if}
+use Rattle.machine_model.specs.Runs.{MachineForm}
 use Rattle.host_step.specs.Imports.{host_finds}
 use Rattle.awk_state.specs.declared.table.Primitive.TheVariants as row
 use Rattle.mid_program.specs.Mid.{Program}

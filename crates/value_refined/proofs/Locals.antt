@@ -7,10 +7,10 @@ use Rattle.wasm_types.specs.Syntax.{Instructions}
 use Rattle.wasm_types.specs.declared.instr.Simple.TheVariants as simple
 use Rattle.wasm_store.specs.declared.word.Word.{Word}
 use Rattle.wasm_store.specs.declared.word.Word.TheVariants.{I32}
-use Rattle.wasm_machine.specs.Frames.{FrameForm, local_set, local_tee, pushed, with_values}
-use Rattle.wasm_machine.specs.Frames as form
-use Rattle.wasm_machine.specs.Machines.{Goes, ProgramForm, turn_by, with_frame}
-use Rattle.wasm_machine.specs.Machines as real
+use Rattle.machine_model.specs.Frames.{FrameForm, local_set, local_tee, pushed, with_values}
+use Rattle.machine_model.specs.Frames as form
+use Rattle.machine_model.specs.Machines.{Goes, ProgramForm, turn_by, with_frame}
+use Rattle.machine_model.specs.Machines as real
 use Rattle.mid_program.specs.Mid.{Kind}
 use Rattle.host_step.specs.HostState.{HostState}
 use Rattle.value_machine.specs.Cells.{Cell, Bits, Held, IteratorOf, OwnedArray, LentArray, Gone, cell_at, has_room, is_owned, left_by}

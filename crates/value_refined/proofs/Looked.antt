@@ -6,10 +6,10 @@ use Rattle.awk_values.specs.declared.fault.Fault.{Fault}
 use Rattle.world_core.specs.WorldState.{Action}
 use Rattle.wasm_types.specs.Syntax.{Instructions}
 use Rattle.wasm_store.specs.declared.word.Word.{Word}
-use Rattle.wasm_machine.specs.Machines.{Asks, Ends, Turn, answered, asked, with_operands}
-use Rattle.wasm_machine.specs.Machines as real
-use Rattle.wasm_machine.specs.declared.host.HostAnswer.{HostAnswer}
-use Rattle.wasm_machine.specs.declared.state.End.TheVariants as ends
+use Rattle.machine_model.specs.Machines.{Asks, Ends, Turn, answered, asked, with_operands}
+use Rattle.machine_model.specs.Machines as real
+use Rattle.machine_model.specs.declared.host.HostAnswer.{HostAnswer}
+use Rattle.machine_model.specs.declared.ends.End.TheVariants as ends
 use Rattle.mid_program.specs.Mid.{Kind}
 use Rattle.host_step.specs.HostState.{HostState}
 use Rattle.host_step.specs.HostStep.{HostStep}

@@ -14,10 +14,10 @@ use Rattle.wasm_store.specs.declared.trap.TrapKind.{TrapKind}
 use Rattle.wasm_store.specs.declared.word.Word.{Word}
 use Rattle.wasm_store.specs.declared.word.Word.TheVariants.{I32, I64}
 use Rattle.wasm_store.specs.Words.{binary_of, compare_of, converted, flag, test_of}
-use Rattle.wasm_machine.specs.Frames.{dropped, of_one, of_two, of_two_or, pushed, pushed_or, with_values}
-use Rattle.wasm_machine.specs.Frames as form
-use Rattle.wasm_machine.specs.Machines.{ProgramForm, turn_by}
-use Rattle.wasm_machine.specs.Machines as real
+use Rattle.machine_model.specs.Frames.{dropped, of_one, of_two, of_two_or, pushed, pushed_or, with_values}
+use Rattle.machine_model.specs.Frames as form
+use Rattle.machine_model.specs.Machines.{ProgramForm, turn_by}
+use Rattle.machine_model.specs.Machines as real
 use Rattle.mid_program.specs.Mid.{Kind}
 use Rattle.host_step.specs.HostState.{HostState, Names}
 use Rattle.value_machine.specs.Cells.{Cell, Bits, Held, IteratorOf, OwnedArray, LentArray, Gone, is_owned}

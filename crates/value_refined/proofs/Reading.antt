@@ -14,13 +14,13 @@ use Rattle.wasm_store.specs.Memories.{MemoryForm}
 use Rattle.wasm_store.specs.declared.trap.TrapKind.{TrapKind}
 use Rattle.wasm_store.specs.declared.word.Word.{Word}
 use Rattle.wasm_store.specs.declared.word.Word.TheVariants.{I32}
-use Rattle.wasm_machine.specs.Machines.{Asks, Ends, answered, asked, with_operands}
-use Rattle.wasm_machine.specs.Machines as real
-use Rattle.wasm_machine.specs.Runs.{OverBy, TakenAs}
-use Rattle.wasm_machine.specs.declared.state.End.{End}
-use Rattle.wasm_machine.specs.declared.host.HostAnswer.{HostAnswer}
-use Rattle.wasm_machine.specs.declared.host.HostAnswer.TheVariants as told
-use Rattle.wasm_machine.specs.declared.state.End.TheVariants as ends
+use Rattle.machine_model.specs.Machines.{Asks, Ends, answered, asked, with_operands}
+use Rattle.machine_model.specs.Machines as real
+use Rattle.machine_model.specs.Runs.{OverBy, TakenAs}
+use Rattle.machine_model.specs.declared.ends.End.{End}
+use Rattle.machine_model.specs.declared.host.HostAnswer.{HostAnswer}
+use Rattle.machine_model.specs.declared.host.HostAnswer.TheVariants as told
+use Rattle.machine_model.specs.declared.ends.End.TheVariants as ends
 use Rattle.mid_program.specs.Mid.{Kind}
 use Rattle.host_step.specs.Answers.{input_code, minus_one}
 use Rattle.host_step.specs.Arguments.{and_then, decode}

@@ -20,13 +20,13 @@ use Rattle.wasm_store.specs.declared.trap.TrapKind.TheVariants.{BadArgument}
 use Rattle.wasm_store.specs.declared.word.Word.{Word}
 use Rattle.wasm_store.specs.declared.word.Word.TheVariants.{I32, I64}
 use Rattle.wasm_types.specs.Syntax.{Instructions, Done, Then}
-use Rattle.wasm_machine.specs.Frames.{constant_of, settled_values}
-use Rattle.wasm_machine.specs.Machines.{Asks, Conf, Ends, Goes as Goes_on, Turn, answered}
-use Rattle.wasm_machine.specs.Runs.{OverBy, TakenAs}
-use Rattle.wasm_machine.specs.declared.host.HostAnswer.{HostAnswer}
-use Rattle.wasm_machine.specs.declared.host.HostAnswer.TheVariants as told
-use Rattle.wasm_machine.specs.declared.state.End.{End}
-use Rattle.wasm_machine.specs.declared.state.End.TheVariants as ends
+use Rattle.machine_model.specs.Frames.{constant_of, settled_values}
+use Rattle.machine_model.specs.Machines.{Asks, Conf, Ends, Goes as Goes_on, Turn, answered}
+use Rattle.machine_model.specs.Runs.{OverBy, TakenAs}
+use Rattle.machine_model.specs.declared.host.HostAnswer.{HostAnswer}
+use Rattle.machine_model.specs.declared.host.HostAnswer.TheVariants as told
+use Rattle.machine_model.specs.declared.ends.End.{End}
+use Rattle.machine_model.specs.declared.ends.End.TheVariants as ends
 use Rattle.host_step.specs.Answers.{FreeFor, IsFree}
 use Rattle.host_step.specs.Arguments.{and_then, decode, front, removed_front, spent_if, taken_front, without_front}
 use Rattle.host_step.specs.HostState.{HostState, Names}

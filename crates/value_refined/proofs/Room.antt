@@ -7,7 +7,7 @@ use Rattle.awk_state.specs.declared.sorts.Sort.{Sort}
 use Rattle.awk_state.specs.declared.sorts.Sort.TheVariants as sort
 use Rattle.wasm_store.specs.declared.word.Word.{Word}
 use Rattle.wasm_store.specs.declared.word.Word.TheVariants.{I32, I64}
-use Rattle.wasm_machine.specs.Machines.{CallerForm}
+use Rattle.machine_model.specs.Machines.{CallerForm}
 use Rattle.host_step.specs.Answers.{IsFree}
 use Rattle.host_step.specs.HostState.{Names}
 use Rattle.host_step.specs.Tables.{look}

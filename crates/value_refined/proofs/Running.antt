@@ -3,15 +3,15 @@ use Rattle.std.proofs.Common.{◌≡◌, ℕ, zero, suc, Bool, List, [], ◌∷�
 use Rattle.world_core.specs.WorldState.{Action}
 use Rattle.wasm_types.specs.Syntax.{Done}
 use Rattle.wasm_types.specs.declared.types.ValType.{ValType}
-use Rattle.wasm_machine.specs.Frames.{FrameForm}
-use Rattle.wasm_machine.specs.Frames as form
-use Rattle.wasm_machine.specs.Machines.{CallerForm, Ends, ProgramForm, Turn, returned_with, to_caller, turn, turn_by, with_frame}
-use Rattle.wasm_machine.specs.Machines as real
-use Rattle.wasm_machine.specs.Runs.{OverBy, Ran, Steps, TakenAs}
-use Rattle.wasm_machine.specs.declared.state.End.{End}
-use Rattle.wasm_machine.specs.declared.state.End.TheVariants as ends
-use Rattle.wasm_machine.specs.declared.state.RunEnd.{RunEnd}
-use Rattle.wasm_machine.specs.declared.state.RunEnd.TheVariants.{Ended, OutOfSteps, NoMemory}
+use Rattle.machine_model.specs.Frames.{FrameForm}
+use Rattle.machine_model.specs.Frames as form
+use Rattle.machine_model.specs.Machines.{CallerForm, Ends, ProgramForm, Turn, returned_with, to_caller, turn, turn_by, with_frame}
+use Rattle.machine_model.specs.Machines as real
+use Rattle.machine_model.specs.Runs.{OverBy, Ran, Steps, TakenAs}
+use Rattle.machine_model.specs.declared.ends.End.{End}
+use Rattle.machine_model.specs.declared.ends.End.TheVariants as ends
+use Rattle.machine_model.specs.declared.ends.RunEnd.{RunEnd}
+use Rattle.machine_model.specs.declared.ends.RunEnd.TheVariants.{Ended, OutOfSteps, NoMemory}
 use Rattle.host_step.specs.HostState.{HostState}
 use Rattle.value_machine.specs.Cells.{Cell}
 use Rattle.value_machine.specs.Machine.{Code, Conf, Deep, Look, Over, Run, Store, Stuck, go, step}

@@ -5,8 +5,8 @@ use Rattle.wasm_types.specs.Syntax.{Instruction, Plain, BrTable, Block, Loop, If
 use Rattle.wasm_types.specs.declared.instr.Simple.{Simple}
 use Rattle.wasm_types.specs.declared.instr.Simple.TheVariants.{Call}
 use Rattle.wasm_store.specs.declared.word.Word.{Word}
-use Rattle.wasm_machine.specs.Frames.{constant_of, settled_code, settled_values}
-use Rattle.wasm_machine.specs.Machines as real
+use Rattle.machine_model.specs.Frames.{constant_of, settled_code, settled_values}
+use Rattle.machine_model.specs.Machines as real
 use Rattle.mid_program.specs.Mid.{Kind}
 use Rattle.host_step.specs.HostState.{HostState}
 use Rattle.value_machine.specs.Cells.{Cell, Bits}

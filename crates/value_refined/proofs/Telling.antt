@@ -2,15 +2,15 @@
 use Rattle.std.proofs.Common.{◌≡◌, inl, inr, ℕ, zero, suc, ◌+◌, ◌-◌, ◌≤◌, Bool, List, Some, refl, sym, ap, ◌∙◌, subst, arith}
 use Rattle.std.proofs.lemmas.Option.{none-some}
 use Rattle.world_core.specs.WorldState.{Action}
-use Rattle.wasm_machine.specs.Machines.{ProgramForm, turn}
-use Rattle.wasm_machine.specs.Machines as real
-use Rattle.wasm_machine.specs.Runs.{Did, IsStep, IsWithin, Ran, told_end, told_run}
-use Rattle.wasm_machine.specs.declared.machine.MachineEnd.{MachineEnd}
-use Rattle.wasm_machine.specs.declared.machine.MachineEnd.TheVariants as told
-use Rattle.wasm_machine.specs.declared.state.End.{End}
-use Rattle.wasm_machine.specs.declared.state.End.TheVariants as ends
-use Rattle.wasm_machine.specs.declared.state.RunEnd.{RunEnd}
-use Rattle.wasm_machine.specs.declared.state.RunEnd.TheVariants.{Ended, OutOfSteps, NoMemory}
+use Rattle.machine_model.specs.Machines.{ProgramForm, turn}
+use Rattle.machine_model.specs.Machines as real
+use Rattle.machine_model.specs.Runs.{Did, IsStep, IsWithin, Ran, told_end, told_run}
+use Rattle.machine_model.specs.declared.ends.MachineEnd.{MachineEnd}
+use Rattle.machine_model.specs.declared.ends.MachineEnd.TheVariants as told
+use Rattle.machine_model.specs.declared.ends.End.{End}
+use Rattle.machine_model.specs.declared.ends.End.TheVariants as ends
+use Rattle.machine_model.specs.declared.ends.RunEnd.{RunEnd}
+use Rattle.machine_model.specs.declared.ends.RunEnd.TheVariants.{Ended, OutOfSteps, NoMemory}
 use Rattle.host_step.specs.HostState.{HostState}
 use Rattle.value_machine.specs.Machine.{Code, Conf, Deep, Look, Over, Run, Store, Stuck, go, step}
 use Rattle.value_machine.proofs.Runs.{go_add}

@@ -1,14 +1,14 @@
 -- A run of the module of a program, from its beginning over a host at its start: it is the run of the machine over values, whatever numbers the host gives out.
 use Rattle.std.proofs.Common.{◌≡◌, ◌≢◌, ℕ, suc, List, [], Some, sym, ap, ◌∙◌, subst}
 use Rattle.world_core.specs.WorldState.{Action}
-use Rattle.wasm_machine.specs.Links.{IsNew}
-use Rattle.wasm_machine.specs.Machines.{Conf, ProgramForm}
-use Rattle.wasm_machine.specs.Hosts.{Meaning}
-use Rattle.wasm_machine.specs.Runs.{Did, MachineForm, Ran, told_run}
-use Rattle.wasm_machine.specs.declared.machine.MachineEnd.{MachineEnd}
-use Rattle.wasm_machine.specs.declared.machine.MachineEnd.TheVariants as told
-use Rattle.wasm_machine.specs.declared.state.RunEnd.{RunEnd}
-use Rattle.wasm_machine.specs.declared.state.RunEnd.TheVariants.{NoMemory}
+use Rattle.machine_model.specs.Links.{IsNew}
+use Rattle.machine_model.specs.Machines.{Conf, ProgramForm}
+use Rattle.machine_model.specs.Hosts.{Meaning}
+use Rattle.machine_model.specs.Runs.{Did, MachineForm, Ran, told_run}
+use Rattle.machine_model.specs.declared.ends.MachineEnd.{MachineEnd}
+use Rattle.machine_model.specs.declared.ends.MachineEnd.TheVariants as told
+use Rattle.machine_model.specs.declared.ends.RunEnd.{RunEnd}
+use Rattle.machine_model.specs.declared.ends.RunEnd.TheVariants.{NoMemory}
 use Rattle.host_step.specs.HostState.{HostState}
 use Rattle.host_step.specs.Imports.{host_finds}
 use Rattle.host_step.specs.Worlds.{with_output}

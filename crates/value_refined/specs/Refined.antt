@@ -4,13 +4,13 @@ use Rattle.world_core.specs.WorldState.{Action}
 use Rattle.wasm_types.specs.Syntax.{Instructions, Done, FuncForm}
 use Rattle.wasm_types.specs.declared.types.ValType.TheVariants as ty
 use Rattle.wasm_store.specs.declared.word.Word.{Word}
-use Rattle.wasm_machine.specs.Frames.{LabelForm, settled_values, settled_code}
-use Rattle.wasm_machine.specs.Hosts.{Meaning}
-use Rattle.wasm_machine.specs.Machines.{CallerForm, ProgramForm, Turn, called, asked, entered_func}
-use Rattle.wasm_machine.specs.Machines as real
-use Rattle.wasm_machine.specs.Runs.{TakenAs, OverBy, told_end}
-use Rattle.wasm_machine.specs.declared.state.End.{End}
-use Rattle.wasm_machine.specs.declared.state.End.TheVariants as ends
+use Rattle.machine_model.specs.Frames.{LabelForm, settled_values, settled_code}
+use Rattle.machine_model.specs.Hosts.{Meaning}
+use Rattle.machine_model.specs.Machines.{CallerForm, ProgramForm, Turn, called, asked, entered_func}
+use Rattle.machine_model.specs.Machines as real
+use Rattle.machine_model.specs.Runs.{TakenAs, OverBy, told_end}
+use Rattle.machine_model.specs.declared.ends.End.{End}
+use Rattle.machine_model.specs.declared.ends.End.TheVariants as ends
 use Rattle.host_step.specs.HostState.{HostState, Names}
 use Rattle.host_step.specs.HostStep.{HostStep}
 use Rattle.value_machine.specs.Cells.{Cell, none_owned, is_owned}

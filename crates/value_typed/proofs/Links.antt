@@ -6,9 +6,9 @@ use Rattle.std.proofs.lemmas.List.Elements.{All-cons, All-nil}
 use Rattle.awk_state.specs.declared.table.Primitive.TheVariants as row
 use Rattle.wasm_types.specs.Syntax.{Signature}
 use Rattle.wasm_types.specs.Typing.{callee_in}
-use Rattle.wasm_machine.specs.Links.{main_of, main_type, number_if, number_for, numbers_for, SegmentsFit, ElemFits, DataFits}
-use Rattle.wasm_machine.specs.Machines.{agree, same_signature}
-use Rattle.wasm_machine.proofs.Types.{decided}
+use Rattle.machine_model.specs.Links.{main_of, main_type, number_if, number_for, numbers_for, SegmentsFit, ElemFits, DataFits}
+use Rattle.machine_model.specs.Machines.{agree, same_signature}
+use Rattle.machine_model.proofs.Types.{decided}
 use Rattle.mid_program.specs.Mid.{Routine, Program}
 use Rattle.value_machine.specs.Functions.{texts_of, routine_callee, main_callee}
 use Rattle.value_machine.specs.Imports.{import_number, import_name, import_type, module_name}

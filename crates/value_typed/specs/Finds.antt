@@ -1,7 +1,7 @@
 -- A host that has the imports of the table: the number and the type of each, by the names of its module and of itself.
 use Rattle.std.specs.Prelude.{ℕ, suc, List, [], ◌∷◌, Option, Some, None, if◌then◌else◌}
 use Rattle.wasm_types.specs.Syntax.{Signature}
-use Rattle.wasm_machine.specs.Hosts.{Finds}
+use Rattle.machine_model.specs.Hosts.{Finds}
 use Rattle.mid_program.specs.Names.{same_name}
 use Rattle.value_machine.specs.Imports.{imports, import_name, import_type, module_name}
 use Rattle.value_machine.specs.declared.import.Import.{Import}

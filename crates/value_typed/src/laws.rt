@@ -10,7 +10,7 @@ ghost use Rattle.value_machine.specs.Modules.{all_callees, any_calls, called_imp
 ghost use Rattle.value_machine.specs.declared.import.Import.{Import};
 ghost use Rattle.value_machine.specs.Places.{memory_of};
 ghost use Rattle.value_typed.specs.Finds.{table_finds};
-ghost use Rattle.wasm_machine.specs.Links.{SegmentsFit, main_of, numbers_for};
+ghost use Rattle.machine_model.specs.Links.{SegmentsFit, main_of, numbers_for};
 ghost use Rattle.wasm_types.specs.Typing.{ModuleOk};
 
 /// The typing rules allow the module of a program exactly if its texts, and the names that it announces, take at most 4 GiB.

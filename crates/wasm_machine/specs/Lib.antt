@@ -1,15 +1,6 @@
 pub mod Bursts
 pub mod Callers
 pub mod Codes
-pub mod Flat
-pub mod Frames
-pub mod Fusions
-pub mod Hosts
 pub mod Levels
-pub mod Links
-pub mod Machines
-pub mod Reductions
-pub mod Rows
-pub mod Runs
-pub mod Stacks
-pub mod Typed
+pub mod ViewConf
+pub mod ViewFrame

@@ -1,33 +1,11 @@
-//! Laws of the definitions.
+//! Laws of machines, and of what they mean.
 ghost use Rattle.std.specs.Prelude.{◌≡◌, ◌+◌, None};
-ghost use Rattle.wasm_machine.specs.Frames.{FrameForm, local_step};
-ghost use Rattle.wasm_machine.specs.Machines.{Conf, ProgramForm, turn};
-ghost use Rattle.wasm_machine.specs.Reductions.{IsStepReduced};
-ghost use Rattle.wasm_machine.specs.Runs.{Did, IsPrefix};
-ghost use Rattle.wasm_machine.specs.Typed.{Linked, ConfOk, FrameOk, IsSafe, IsSafeTurn, ProgramOk};
-ghost use Rattle.wasm_types.specs.Typing.{Context};
+ghost use Rattle.machine_model.specs.Runs.{Did, IsPrefix};
+ghost use Rattle.machine_model.specs.Typed.{Linked};
 
-use crate::host::HostCalls;
-use crate::machine::{Machine, MachineEnd};
-
-/// A well-typed frame takes a step that is safe: never stuck, and what it leads to is well typed.
-pub fn never_stuck()
-    ensures { (C : Context) (f : FrameForm) → FrameOk C f → IsSafe C (local_step f) }
-{}
-
-/// A well-typed configuration takes a turn that is safe: never stuck, and what it leads to is well typed.
-pub fn turn_safe()
-    ensures { (m : ProgramForm) → ProgramOk m → (c : Conf) → ConfOk m.whole c
-        → IsSafeTurn m (turn m c) }
-{}
-
-/// A step of a well-typed configuration is the specification's own reductions (Core 1.0, section 4.4) of its nested form, of which exactly
-/// one counts as a step, with any host; none does where the run is over. Where the machine is exhausted, which the specification does not
-/// know, a call stands next with 10,000 frames open besides the first.
-pub fn step_is_reduced<H: HostCalls>()
-    ensures { (m : ProgramForm) → ProgramOk m → (c : Conf) (h : H.State) → ConfOk m.whole c
-        → IsStepReduced H.meaning m (turn m c) c h }
-{}
+use crate::machine::Machine;
+pub use machine_model::laws::{never_stuck, step_is_reduced, turn_safe};
+use machine_model::{HostCalls, MachineEnd};
 
 /// Two runs, one after the other, are one run of all their steps.
 pub fn run_on<H: HostCalls>(

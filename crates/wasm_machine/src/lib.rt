@@ -1,13 +1,9 @@
 //! The machine that runs modules (Core 1.0, section 4), one reduction a step.
 #![tactic(auto)]
 
-mod access;
 mod burst;
 mod callers;
-mod code;
 mod frame;
-mod fused;
-mod host;
 pub mod laws;
 mod levels;
 mod link;
@@ -15,7 +11,5 @@ mod machine;
 mod operands;
 mod state;
 
-pub use host::{HostAnswer, HostCalls};
-pub use link::LinkFault;
-pub use machine::{Machine, MachineEnd};
-pub use state::{End, RunEnd};
+pub use machine::Machine;
+pub use machine_model::{End, HostAnswer, HostCalls, LinkFault, MachineEnd, RunEnd};

@@ -1,18 +1,19 @@
 //! Linking: from a module and a host to the beginning of a run (Core 1.0, section 4.5.4).
 ghost use Rattle.std.specs.List.{All};
 ghost use Rattle.std.specs.Prelude.{◌≡◌, ◌↔◌, ◌*◌, ◌≤◌, ◌^◌, IfErr, IfOk, IsTrue, None, OnErr, Some, length, map, MatchResult};
-ghost use Rattle.wasm_machine.specs.Flat.{code_at};
-ghost use Rattle.wasm_machine.specs.Frames.{IsConstantAt};
-ghost use Rattle.wasm_machine.specs.Links.{first_some, first_none, main_at, main_of, number_for, numbers_for, place_of, value_of, least, ElemFits, DataFits, SegmentsFit, filled, poured, limits_or_none, entry_code, beginning, Numbers, Refuses};
-ghost use Rattle.wasm_machine.specs.Machines.{agree, conf_of};
+ghost use Rattle.machine_code.specs.Flat.{code_at};
+ghost use Rattle.machine_model.specs.Frames.{IsConstantAt};
+ghost use Rattle.machine_model.specs.Links.{first_some, first_none, main_at, main_of, number_for, numbers_for, place_of, value_of, least, ElemFits, DataFits, SegmentsFit, filled, poured, limits_or_none, entry_code, beginning, Numbers, Refuses};
+ghost use Rattle.machine_model.specs.Machines.{agree};
+ghost use Rattle.wasm_machine.specs.ViewConf.{conf_of};
 ghost use Rattle.wasm_types.specs.Typing.{callee_in, typed_in};
 ghost use Rattle.wasm_types.specs.View.{signature_of, view_data, view_elem, view_export, view_import, view_module, views};
 
 use crate::callers::Callers;
-use crate::code::Code;
 use crate::frame::Frame;
-use crate::host::HostCalls;
 use crate::state::{State, callee, typed};
+use machine_code::Code;
+use machine_model::{HostCalls, LinkFault};
 use std::alloc::{AllocError, Global};
 use std::rc::Rc;
 use wasm_store::{Globals, Memory, Table, Word};
@@ -20,19 +21,6 @@ use wasm_types::{
     Data, Elem, Export, ExportDesc, Func, FuncType, Global as ModuleGlobal, Import, Instr, Limits,
     Module, Simple, ValType,
 };
-
-/// Why a module cannot run with a host.
-#[derive(Clone, Copy, Debug, PartialEq, Eq)]
-pub enum LinkFault {
-    /// It exports no function `main` without parameters and with a 32-bit result.
-    NoMain,
-    /// The host has no import of this name and type; imports are counted from 0.
-    BadImport(usize),
-    /// A segment does not lie within the table or the memory.
-    SegmentBounds,
-    /// Memory was wanting.
-    NoMemory,
-}
 
 /// The function that is exported as `main` here.
 fn main_at(whole: &Module, export: &Export) -> Option<u32>
@@ -161,7 +149,7 @@ trait Segment {
 }
 
 impl Segment for Elem {
-    ghost use Rattle.wasm_machine.specs.Links.{ElemFits};
+    ghost use Rattle.machine_model.specs.Links.{ElemFits, DataFits};
     ghost use Rattle.wasm_types.specs.View.{view_elem};
 
     ghost Fits = { λ size e. ElemFits size (view_elem e) };
@@ -173,7 +161,6 @@ impl Segment for Elem {
 }
 
 impl Segment for Data {
-    ghost use Rattle.wasm_machine.specs.Links.{DataFits};
     ghost use Rattle.wasm_types.specs.View.{view_data};
 
     ghost Fits = { λ size d. DataFits size (view_data d) };

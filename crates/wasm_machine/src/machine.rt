@@ -1,32 +1,18 @@
 //! Machines.
 ghost use Rattle.std.specs.Prelude.{◌≡◌, IfErr, IfOk, IfSome, None, Some};
-ghost use Rattle.wasm_machine.specs.Links.{IsNew, Refuses};
-ghost use Rattle.wasm_machine.specs.Reductions.{Reduced};
-ghost use Rattle.wasm_machine.specs.Runs.{Did, lasting, told_run};
-ghost use Rattle.wasm_machine.specs.Typed.{Linked, SafeRun};
+ghost use Rattle.machine_model.specs.Links.{IsNew, Refuses};
+ghost use Rattle.machine_model.specs.Reductions.{Reduced};
+ghost use Rattle.machine_model.specs.Runs.{Did, lasting, told_run};
+ghost use Rattle.machine_model.specs.Typed.{Linked, SafeRun};
 ghost use Rattle.wasm_types.specs.View.{view_module};
 
-use crate::host::HostCalls;
-use crate::link::{LinkFault, codes_of, first_state, link};
-use crate::state::{End, Program, RunEnd, State};
+use crate::link::{codes_of, first_state, link};
+use crate::state::{Program, State};
+use machine_model::{End, HostCalls, LinkFault, MachineEnd, RunEnd};
 use module_validator::ValidModule;
 use std::alloc::Global;
 use std::marker::Model;
 use wasm_store::{TrapKind, Word};
-
-/// How a run ends.
-#[derive(Clone, Copy, Debug, PartialEq, Eq)]
-pub enum MachineEnd {
-    /// `main` gave this.
-    Returned(i32),
-    Trapped(TrapKind),
-    /// The steps that were given are over. A further run goes on.
-    OutOfSteps,
-    /// A call found 10,000 frames open.
-    Exhausted,
-    /// Memory was wanting.
-    NoMemory,
-}
 
 /// What a machine tells of a run's end.
 fn tell(end: RunEnd) -> MachineEnd
@@ -54,9 +40,9 @@ pub struct Machine {
 impl Model for Machine {
     ghost use Rattle.std.specs.Coded.{codes};
     ghost use Rattle.wasm_machine.specs.Codes.{instructions_code};
-    ghost use Rattle.wasm_machine.specs.Machines.{HasCodes, conf_of, program_of};
-    ghost use Rattle.wasm_machine.specs.Runs.{MachineForm};
-    ghost use Rattle.wasm_machine.specs.Typed.{MachineOk};
+    ghost use Rattle.wasm_machine.specs.ViewConf.{HasCodes, conf_of, program_of};
+    ghost use Rattle.machine_model.specs.Runs.{MachineForm};
+    ghost use Rattle.machine_model.specs.Typed.{MachineOk};
 
     ghost Value = { MachineForm };
 

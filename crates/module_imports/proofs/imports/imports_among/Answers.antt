@@ -1,6 +1,6 @@
 use Rattle.std.proofs.Common.{rules, arith, ◌++◌, ◌∷◌, [], ◌≡◌, Option, subst}
 use Rattle.wasm_types.specs.View.{view_import, view_module}
-use Rattle.wasm_machine.specs.Links.{number_for}
+use Rattle.machine_model.specs.Links.{number_for}
 use Rattle.host_step.specs.Imports.{host_finds}
 use Rattle.host_step.specs.declared.import.Import.{Import}
 use Rattle.module_imports.specs.Calls.{IsImportOf}

@@ -1,6 +1,6 @@
 use Rattle.std.proofs.Common.{map, take}
 use Rattle.wasm_types.specs.View.{view_import, view_module}
-use Rattle.wasm_machine.specs.Links.{number_for}
+use Rattle.machine_model.specs.Links.{number_for}
 use Rattle.host_step.specs.Imports.{host_finds}
 use Rattle.module_imports.specs.Calls.{AreImportsOf}
 use Rattle.module_imports.proofs.imports.imports_among.Given as goal

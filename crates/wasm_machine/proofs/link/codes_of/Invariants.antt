@@ -1,6 +1,6 @@
 use Rattle.std.proofs.Common.{◌≡◌, map, take}
 use Rattle.wasm_types.specs.View.{views}
-use Rattle.wasm_machine.specs.Flat.{code_at}
+use Rattle.machine_code.specs.Flat.{code_at}
 use Rattle.wasm_machine.proofs.link.codes_of.Given as goal
 
 abbrev pub invariant-loop-func : goal.invariant-loop-func

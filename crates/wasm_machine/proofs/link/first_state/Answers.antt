@@ -10,12 +10,13 @@ use Rattle.wasm_types.specs.declared.module.Elem.{Elem}
 use Rattle.wasm_types.specs.declared.module.Global.{Global as ModuleGlobal}
 use Rattle.wasm_types.specs.View.{view_data, view_elem, view_global, view_module, views}
 use Rattle.wasm_store.specs.Memories.{MemoryForm, fresh}
-use Rattle.wasm_machine.specs.declared.code.Op.{Op}
-use Rattle.wasm_machine.specs.Flat.{code_at}
-use Rattle.wasm_machine.specs.Frames.{begun, frame_of}
-use Rattle.wasm_machine.specs.Links.{DataFits, ElemFits, filled, least, limits_or_none, poured, value_of}
-use Rattle.wasm_machine.proofs.Beginning.{least_is, beginning_is}
-use Rattle.wasm_machine.proofs.Linking.{all_of_map}
+use Rattle.machine_code.specs.declared.code.Op.{Op}
+use Rattle.machine_code.specs.Flat.{code_at}
+use Rattle.machine_model.specs.Frames.{begun}
+use Rattle.wasm_machine.specs.ViewFrame.{frame_of}
+use Rattle.machine_model.specs.Links.{DataFits, ElemFits, filled, least, limits_or_none, poured, value_of}
+use Rattle.machine_model.proofs.Beginning.{least_is, beginning_is}
+use Rattle.machine_model.proofs.Linking.{all_of_map}
 use Rattle.wasm_machine.proofs.link.first_state.Goals as goal
 
 pub pour-requires-clause-fit : goal.pour-requires-clause-fit

@@ -1,5 +1,5 @@
 use Rattle.std.proofs.Common.{[], Option, refl, subst}
-use Rattle.wasm_machine.specs.declared.host.HostAnswer.TheVariants.{Trap}
+use Rattle.machine_model.specs.declared.host.HostAnswer.TheVariants.{Trap}
 use Rattle.wasm_store.specs.declared.trap.TrapKind.TheVariants.{BadArgument}
 use Rattle.host_step.specs.declared.import.Import.{Import}
 use Rattle.form_meaning.specs.FormMeaning.{FormMeans}

@@ -1,5 +1,5 @@
 use Rattle.std.proofs.Common.{[], Option, ap, subst, sym, ◌∙◌}
-use Rattle.wasm_machine.specs.declared.host.HostAnswer.TheVariants as told
+use Rattle.machine_model.specs.declared.host.HostAnswer.TheVariants as told
 use Rattle.wasm_store.specs.declared.word.Word.{Word}
 use Rattle.host_step.specs.Answers.{refusal}
 use Rattle.host_step.specs.HostStep.{refuses}

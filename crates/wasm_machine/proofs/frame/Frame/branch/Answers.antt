@@ -1,6 +1,6 @@
 use Rattle.std.proofs.Common.{ap, ◌∙◌}
-use Rattle.wasm_machine.specs.Flat.{code_at}
-use Rattle.wasm_machine.specs.Frames.{Stuck}
+use Rattle.machine_code.specs.Flat.{code_at}
+use Rattle.machine_model.specs.Frames.{Stuck}
 use Rattle.wasm_machine.proofs.Branches.{branch_lands, landed}
 use Rattle.wasm_machine.proofs.frame.Frame.branch.Goals as goal
 

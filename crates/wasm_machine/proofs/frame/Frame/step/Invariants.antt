@@ -1,5 +1,6 @@
 use Rattle.std.proofs.Common.{◌≡◌, ◌-◌, ◌^◌}
-use Rattle.wasm_machine.specs.Frames.{frame_of, settled}
+use Rattle.wasm_machine.specs.ViewFrame.{frame_of}
+use Rattle.machine_model.specs.Frames.{settled}
 use Rattle.wasm_machine.proofs.frame.Frame.step.Given as goal
 
 abbrev pub invariant-loop-op : goal.invariant-loop-op

@@ -1,0 +1,12 @@
+pub mod Beginning
+pub mod Chains
+pub mod Cuts
+pub mod First
+pub mod Linking
+pub mod Nesting
+pub mod Operators
+pub mod Reduced
+pub mod Reducing
+pub mod Safe
+pub mod Types
+pub mod Whole
