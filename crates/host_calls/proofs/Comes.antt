@@ -1,5 +1,6 @@
 -- From calls of the families to what a call of the host comes to.
-use Rattle.std.proofs.Common.{◌≡◌, ℕ, false, List, [], Option, Some, None, Result, Ok, Err, refl}
+use Rattle.std.proofs.Common.{◌≡◌, ℕ, false, List, [], Option, Some, None, Result, Ok, Err, refl, subst, sym}
+use Rattle.wasm_machine.specs.declared.host.HostAnswer.{HostAnswer}
 use Rattle.awk_values.specs.declared.fault.Fault.{Fault}
 use Rattle.wasm_store.specs.declared.word.Word.{Word}
 use Rattle.world_core.specs.WorldState.{Action}
@@ -11,12 +12,13 @@ use Rattle.host_elements.specs.Calls.{IsTableCall}
 use Rattle.host_elements.specs.Forms.{HostForm}
 use Rattle.host_names.specs.Forms.{left_after}
 use Rattle.form_meaning.specs.Shown.{SharesTables, form_with_output}
-use Rattle.form_meaning.specs.TableCalls.{TableCalls, answer_of_call}
+use Rattle.form_meaning.specs.TableCalls.{TableCalls, answer_of_call, left_by_call}
 use Rattle.form_meaning.specs.WorldCalls.{IsCalled}
 use Rattle.form_meaning.proofs.Faults.{called_too}
 use Rattle.form_meaning.proofs.Means.{plain_calls}
+use Rattle.import_host.specs.Answers.{told_as}
 use Rattle.import_host.proofs.Tellings.{told_means, world_told}
-use Rattle.host_calls.specs.Calls.{ComesTo}
+use Rattle.host_calls.specs.Calls.{ComesTo, MeansSome}
 
 module _ (tells : Type 0) (i : Import) (words : List Word) (memory : List ℕ) where
   module _ (quiet : reads i ≡ false) where
@@ -56,3 +58,10 @@ module _ (tells : Type 0) (i : Import) (words : List Word) (memory : List ℕ) w
   pub world_comes : (before after-call : HostForm) (r : Result (Option Word) Refusal) → before.fault ≡ None → (output : List Action)
       → IsCalled tells i before words memory r after-call output → ComesTo tells i before words memory r after-call
   world_comes before after-call r none output calls = (output, world_told tells i words memory before none output after-call r calls)
+
+-- what is told of a call
+pub told_comes : (tells : Type 0) (i : Import) (before between after-call : HostForm) (words : List Word) (memory : List ℕ) (r : Result (Option Word) Refusal) (a : HostAnswer)
+    → a ≡ told_as i r → after-call ≡ left_by_call r between → ComesTo tells i before words memory r between → MeansSome tells i before words memory a after-call
+told_comes tells i before between after-call words memory r a told left comes =
+    subst (λ (b : HostAnswer). MeansSome tells i before words memory b after-call) (sym told)
+    (subst (λ (z : HostForm). MeansSome tells i before words memory (told_as i r) z) (sym left) comes)

@@ -1,5 +1,5 @@
 -- The host at the start of a job.
-use Rattle.std.proofs.Common.{◌≡◌, List, [], None, refl, sym, subst}
+use Rattle.std.proofs.Common.{◌≡◌, List, [], None, sym, subst}
 use Rattle.awk_state.specs.Jobs.{JobForm, shared_at_start}
 use Rattle.awk_state.specs.SharedState.{Inner, Pairs}
 use Rattle.world_core.specs.WorldState.{Outside, Source, State}

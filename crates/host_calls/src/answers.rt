@@ -3,12 +3,17 @@ ghost use Rattle.std.specs.Prelude.{◌≡◌, false};
 ghost use Rattle.host_calls.specs.Calls.{ComesTo, MeansSome, import_of};
 ghost use Rattle.host_calls.specs.Forms.{host_form};
 ghost use Rattle.host_step.specs.HostStep.{refuses};
+ghost use Rattle.form_meaning.specs.TableCalls.{left_by_call};
+ghost use Rattle.import_host.specs.Answers.{told_as};
+ghost use Rattle.import_host.specs.Calls.{import_of_table};
 
 use crate::dispatch::{Call, call_of};
 use crate::host::Host;
+use awk_state::Primitive;
 use host_step::Import;
-use host_values::Refusal;
-use import_host::{refusal, refuses, told};
+use host_texts::TextPrimitive;
+use host_values::{Refusal, ValuePrimitive};
+use import_host::{TableCall, refusal, refuses, told};
 use wasm_machine::HostAnswer;
 use wasm_store::Word;
 use world_core::World;
@@ -40,15 +45,82 @@ impl<W: World> Host<W> {
         }
     }
 
-    /// Answers a call of an import. Once a fault is kept every import but those that let something go only refuses.
+    /// Tells what a call came to, and keeps the fault that it met.
+    #[inline(always)]
+    fn tell(&mut self, import: Import, outcome: Result<Option<Word>, Refusal>) -> HostAnswer
+        ensures told { result ≡ told_as import outcome }
+        ensures kept { host_form W.state self.new ≡ left_by_call outcome (host_form W.state self.old) }
+    {
+        self.tables.keep(outcome);
+        told(import, outcome)
+    }
+
+    /// Answers a call on the tables that is not refused. Where it is known which import that is, so is the way to the table, and how it is told.
+    #[inline(always)]
+    fn on_known(
+        &mut self,
+        import: Import,
+        call: TableCall,
+        words: &[Word],
+        memory: &[u8],
+    ) -> HostAnswer
+        requires same { import_of_table call ≡ import }
+        requires goes { refuses import self.old.tables.fault ≡ false }
+        ensures { MeansSome W.tells import (host_form W.state self.old) words.now memory.now result (host_form W.state self.new) }
+    {
+        let outcome = self.on_tables(call, words, memory);
+        self.tell(import, outcome)
+    }
+
+    /// Answers a call that is not refused.
+    fn on_any(&mut self, import: Import, words: &[Word], memory: &[u8]) -> HostAnswer
+        requires { refuses import self.old.tables.fault ≡ false }
+        ensures { MeansSome W.tells import (host_form W.state self.old) words.now memory.now result (host_form W.state self.new) }
+    {
+        let outcome = self.outcome(call_of(import), words, memory);
+        self.tell(import, outcome)
+    }
+
+    /// Answers a call of an import. Once a fault is kept every import but those that let something go only refuses. The imports that scripts call most
+    /// have ways of their own.
     pub(crate) fn answer(&mut self, import: Import, words: &[Word], memory: &[u8]) -> HostAnswer
         ensures { MeansSome W.tells import (host_form W.state self.old) words.now memory.now result (host_form W.state self.new) }
     {
         if refuses(import, self.tables.fault()) {
             return HostAnswer::Done(refusal(import.answer()));
         }
-        let outcome = self.outcome(call_of(import), words, memory);
-        self.tables.keep(outcome);
-        told(import, outcome)
+        match import {
+            Import::Drop => self.on_known(import, TableCall::Drop, words, memory),
+            Import::Arg => self.on_known(import, TableCall::Arg, words, memory),
+            Import::Of(Primitive::Num) => {
+                let call = TableCall::Values(ValuePrimitive::Num);
+                self.on_known(import, call, words, memory)
+            }
+            Import::Of(Primitive::Dup) => {
+                let call = TableCall::Values(ValuePrimitive::Dup);
+                self.on_known(import, call, words, memory)
+            }
+            Import::Of(Primitive::ToNum) => {
+                let call = TableCall::Values(ValuePrimitive::ToNum);
+                self.on_known(import, call, words, memory)
+            }
+            Import::Of(Primitive::Truth) => {
+                let call = TableCall::Values(ValuePrimitive::Truth);
+                self.on_known(import, call, words, memory)
+            }
+            Import::Of(Primitive::Compare) => {
+                let call = TableCall::Values(ValuePrimitive::Compare);
+                self.on_known(import, call, words, memory)
+            }
+            Import::Of(Primitive::Field) => {
+                let call = TableCall::Texts(TextPrimitive::Field);
+                self.on_known(import, call, words, memory)
+            }
+            Import::Of(Primitive::Elem) => { self.on_known(import, TableCall::Elem, words, memory) }
+            Import::Of(Primitive::SetElem) => {
+                self.on_known(import, TableCall::SetElem, words, memory)
+            }
+            _ => self.on_any(import, words, memory),
+        }
     }
 }

@@ -17,7 +17,7 @@ pub struct Host<W: World> {
     pub(crate) links: Links,
     pub(crate) tables: Tables,
     pub(crate) input: Input,
-    /// What `print` puts together, kept for its memory.
+    /// What `print` and `printf` put together, kept for its memory.
     pub(crate) line: Vec<u8>,
     pub(crate) world: W,
     ghost held: { HoldsInput input (W.kinds world) } by { HoldsInput-prop input (W.kinds world) },

@@ -9,8 +9,9 @@ use Rattle.host_calls.proofs.host.Host.printf.Goals as goal
 
 pub invariant_of-self-2-clause-held : goal.invariant_of-self-2-clause-held
 invariant_of-self-2-clause-held g c =
-    holds_file c.args.self.now.input c.printf.new.streams (g.W.World.kinds c.args.self.now.world) (g.W.World.kinds c.printf.new.world)
-    c.args.self.now.held c.printf.ensures.keeps.held c.printf.ensures.keeps.others
+    let was = c.args.self.now in
+    holds_file was.input c.printf.new.streams (g.W.World.kinds was.world) (g.W.World.kinds c.printf.new.world)
+    was.held c.printf.ensures.keeps.held c.printf.ensures.keeps.others
 
 pub invariant_of-self-2-clause-goes : goal.invariant_of-self-2-clause-goes
 invariant_of-self-2-clause-goes g c = c.printf.ensures.keeps.goes
