@@ -1,10 +1,10 @@
 -- The bytes with which matches begin.
 use Rattle.std.proofs.Common.{◌≡◌, ℕ, zero, suc, ◌+◌, ◌-◌, ◌<◌, ◌≤◌, inl, inr, Bool, true, false, List, length, drop, take, Option, Some, None, refl, sym, ap, ◌∙◌, subst, arith, get_or}
-use Rattle.std.specs.Prelude.{slice_get}
-use Rattle.std.proofs.lemmas.Bool.{cases_Bool, cases_lt}
+use Rattle.std.specs.Prelude.{slice_get, nat_eq, ◌||◌}
+use Rattle.std.proofs.lemmas.Bool.{cases_Bool, cases_lt, eqb-true}
 use Rattle.std.proofs.lemmas.List.{get_or-drop, length-drop, take_all}
 use Rattle.std.proofs.lemmas.Option.{slice_get_within}
-use Rattle.memchr.specs.Find.{IsFirstByte}
+use Rattle.memchr.specs.Find.{IsFirstByte, is_byte3}
 use Rattle.ere_match.specs.declared.lead.Lead.{Lead}
 use Rattle.ere_match.specs.declared.lead.Lead.TheVariants as leads
 use Rattle.ere_match.specs.declared.node.Node.{Node}
@@ -21,19 +21,34 @@ Set = List (Option ℕ)
 -- ---- more bytes
 
 pub wider_self : (lead : Lead) → IsWider lead lead
-wider_self lead = record { has = λ byte h. h; many = λ e. e }
+wider_self lead = record { has = λ byte h. h; any = λ e. e }
 
 pub wider_then : (a b c : Lead) → IsWider a b → IsWider b c → IsWider a c
-wider_then a b c f g = record { has = λ byte h. g.has byte (f.has byte h); many = λ e. g.many (f.many e) }
+wider_then a b c f g = record { has = λ byte h. g.has byte (f.has byte h); any = λ e. g.any (f.any e) }
 
 pub wider_led : (old new : Lead) (o : Option Node) → IsWider old new → IsLedNode old o → IsLedNode new o
 wider_led old new None w h = tt
 wider_led old new (Some (nodes.Take f to)) w h = λ byte small is. w.has byte (h byte small is)
-wider_led old new (Some nodes.Accept) w h = w.many h
+wider_led old new (Some nodes.Accept) w h = w.any h
 wider_led old new (Some (nodes.Split a b)) w h = tt
 wider_led old new (Some (nodes.Start a)) w h = tt
 wider_led old new (Some (nodes.End a)) w h = tt
 wider_led old new (Some nodes.Never) w h = tt
+
+third : (x y z : Bool) → x ≡ false → y ≡ false → (x || y || z) ≡ true → z ≡ true
+third true y z e f h = absurd cc
+third false true z e f h = absurd cc
+third false false z e f h = h
+
+-- one of three bytes, each of which was marked in its turn
+pub marked_three : (a b c byte : ℕ) (one two three : List Bool) → get_or one a false ≡ true → ((k : ℕ) → get_or one k false ≡ true → get_or two k false ≡ true) → get_or two b false ≡ true → ((k : ℕ) → get_or two k false ≡ true → get_or three k false ≡ true) → get_or three c false ≡ true → is_byte3 a b c byte ≡ true → get_or three byte false ≡ true
+marked_three a b c byte one two three at-a to-two at-b to-three at-c held = elim (cases_Bool (nat_eq byte a)) [
+  | inl e ↦ to-three byte (to-two byte (subst (λ k. get_or one k false ≡ true) (sym (eqb-true byte a e)) at-a))
+  | inr not-a ↦ elim (cases_Bool (nat_eq byte b)) [
+    | inl e ↦ to-three byte (subst (λ k. get_or two k false ≡ true) (sym (eqb-true byte b e)) at-b)
+    | inr not-b ↦ subst (λ k. get_or three k false ≡ true) (sym (eqb-true byte c (third (nat_eq byte a) (nat_eq byte b) (nat_eq byte c) not-a not-b held))) at-c
+  ]
+]
 
 -- ---- where a match begins
 

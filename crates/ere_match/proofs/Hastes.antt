@@ -71,6 +71,10 @@ module _ (all : List Node) (text : List ℕ) (entry from : ℕ) where
     };
   }
 
+  pub leapt : (lead : Lead) (to new : ℕ) (classes : List ℕ) (u : Table) → from ≤ to → to ≤ length text → IsLead all entry lead → ((k : ℕ) → k < length text → get_or text k 0 < 256) → ((k : ℕ) → from ≤ k → k < to → lead_has lead (get_or text k 0) ≡ false) → IsTable all entry classes u → HasBegun all entry to u new → IsSearching all text entry from to new None u
+  leapt lead to new classes u after inside leads small none table begun =
+      widen to new u after (λ s j m low high run. lead_none lead from to leads inside small none s j m low high run) (search_begins all text entry to new classes u table begun)
+
   pub jumped : (lead : Lead) (i to old new : ℕ) (classes : List ℕ) (t u : Table) → from ≤ i → i ≤ to → to ≤ length text → IsLead all entry lead → ((k : ℕ) → k < length text → get_or text k 0 < 256) → ((k : ℕ) → i ≤ k → k < to → lead_has lead (get_or text k 0) ≡ false) → IsIdle t old i → IsSearching all text entry from i old None t → IsTable all entry classes u → HasBegun all entry to u new → IsSearching all text entry from to new None u
   jumped lead i to old new classes t u above after inside leads small none idle h table begun =
       widen to new u (omega (arith, above, after))

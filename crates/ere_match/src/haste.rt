@@ -23,14 +23,14 @@ fn jump(
     nodes: &[Node],
     entry: usize,
     classes: &[u8; 256],
-    lead: Lead,
+    lead: &Lead,
     table: &mut Table,
     text: &[u8],
     at: usize,
     state: usize,
 ) -> Result<(usize, usize), AllocError>
     requires inside { at ≤ length text.now }
-    requires lead { IsLead nodes.now entry lead }
+    requires lead { IsLead nodes.now entry lead.now }
     requires table { ∥ IsTable nodes.now entry classes.now table.old ∥₁ }
     requires idle { IsIdle table.old state at }
     ensures after { IfOk result (λ to. at ≤ to.0) }
@@ -97,14 +97,14 @@ pub(crate) fn hasten(
     nodes: &[Node],
     entry: usize,
     classes: &[u8; 256],
-    lead: Lead,
+    lead: &Lead,
     table: &mut Table,
     text: &[u8],
     at: usize,
     state: usize,
 ) -> Result<(usize, usize), AllocError>
     requires inside { at < length text.now }
-    requires lead { IsLead nodes.now entry lead }
+    requires lead { IsLead nodes.now entry lead.now }
     requires classes { AreClasses nodes.now classes.now }
     requires table { ∥ IsTable nodes.now entry classes.now table.old ∥₁ }
     requires state { state < length table.old.rows.items }
@@ -113,7 +113,7 @@ pub(crate) fn hasten(
     ensures search { (from : ℕ) → from ≤ at → ∥ IsSearching nodes.now text.now entry from at state None table.old ∥₁ → IfOk result (λ to. ∥ IsSearching nodes.now text.now entry from to.0 to.1 None table.new ∥₁) }
     ensures table { ∥ IsTable nodes.now entry classes.now table.new ∥₁ }
 {
-    if lead.are_few() && is_idle(table, state, at) {
+    if lead.are_told() && is_idle(table, state, at) {
         let to = jump(nodes, entry, classes, lead, table, text, at, state)?;
         return Ok(to);
     }

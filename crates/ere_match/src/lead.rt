@@ -1,7 +1,8 @@
-//! The bytes with which matches begin: where there are few, a search looks for the next of them by `memchr`.
+//! The bytes with which matches begin: a search looks for the next of them, where there are few by `memchr`.
 ghost use Rattle.std.specs.Prelude.{◌≡◌, ◌<◌, ◌≤◌, ℕ, Some, false, length, slice_get, true};
+ghost use Rattle.memchr.specs.Find.{is_byte3};
 ghost use Rattle.std.proofs.Common.{get_or};
-ghost use Rattle.ere_match.specs.Leads.{IsLead, IsLedNode, IsWider, are_few, lead_has};
+ghost use Rattle.ere_match.specs.Leads.{IsLead, IsLedNode, IsWider, are_told, lead_has};
 ghost use Rattle.ere_match.specs.Runs.{filter_set};
 
 use crate::node::{Filter, Node};
@@ -16,21 +17,58 @@ pub(crate) enum Lead {
     One(u8),
     Two(u8, u8),
     Three(u8, u8, u8),
-    /// There are more, or a match can be empty.
-    Many,
+    /// There are more: those that are marked.
+    More([bool; 256]),
+    /// A match can be empty.
+    Any,
+}
+
+/// These marks and that of one byte more.
+fn marked(marks: [bool; 256], byte: u8) -> [bool; 256]
+    ensures kept { (other : ℕ) → get_or marks other false ≡ true → get_or result other false ≡ true }
+    ensures here { get_or result byte false ≡ true }
+{
+    let mut marks = marks;
+    marks[usize::from(byte)] = true;
+    marks
+}
+
+/// The marks of these three bytes.
+fn marks_of(a: u8, b: u8, c: u8) -> [bool; 256]
+    ensures { (byte : ℕ) → is_byte3 a b c byte ≡ true → get_or result byte false ≡ true }
+{
+    let one = marked([false; 256], a);
+    let two = marked(one, b);
+    marked(two, c)
+}
+
+/// The first place not before `at` of a byte that is marked, or the end of the text.
+fn find_marked(marks: &[bool; 256], text: &[u8], at: usize) -> usize
+    requires { at ≤ length text.now }
+    ensures after { at ≤ result }
+    ensures inside { result ≤ length text.now }
+    ensures none { (place : ℕ) → at ≤ place → place < result → get_or marks.now (get_or text.now place 0) false ≡ false }
+{
+    for place in at..text.len() {
+        if marks[usize::from(text[place])] {
+            return place;
+        }
+    }
+    text.len()
 }
 
 impl Lead {
     /// Whether the byte is one of them.
-    fn has(self, byte: u8) -> bool
-        ensures { result ≡ lead_has self byte }
+    fn has(&self, byte: u8) -> bool
+        ensures { result ≡ lead_has self.now byte }
     {
         match self {
             Lead::Nothing => false,
-            Lead::One(a) => byte == a,
-            Lead::Two(a, b) => byte == a || byte == b,
-            Lead::Three(a, b, c) => byte == a || byte == b || byte == c,
-            Lead::Many => true,
+            Lead::One(a) => byte == *a,
+            Lead::Two(a, b) => byte == *a || byte == *b,
+            Lead::Three(a, b, c) => byte == *a || byte == *b || byte == *c,
+            Lead::More(marks) => marks[usize::from(byte)],
+            Lead::Any => true,
         }
     }
 
@@ -46,7 +84,9 @@ impl Lead {
             Lead::Nothing => Lead::One(byte),
             Lead::One(a) => Lead::Two(a, byte),
             Lead::Two(a, b) => Lead::Three(a, b, byte),
-            _ => Lead::Many,
+            Lead::Three(a, b, c) => Lead::More(marked(marks_of(a, b, c), byte)),
+            Lead::More(marks) => Lead::More(marked(marks, byte)),
+            Lead::Any => Lead::Any,
         }
     }
 
@@ -71,32 +111,34 @@ impl Lead {
     {
         match node {
             Node::Take(filter, _) => self.with_filter(filter),
-            Node::Accept => Lead::Many,
+            Node::Accept => Lead::Any,
             _ => self,
         }
     }
 
     /// Whether a search for them is of use.
-    pub(crate) fn are_few(self) -> bool
-        ensures { result ≡ are_few self }
+    #[inline(always)]
+    pub(crate) fn are_told(&self) -> bool
+        ensures { result ≡ are_told self.now }
     {
-        !matches!(self, Lead::Many)
+        !matches!(self, Lead::Any)
     }
 
     /// The first place not before `at` where a match can begin, or the end of the text.
-    pub(crate) fn find(self, text: &[u8], at: usize) -> usize
+    pub(crate) fn find(&self, text: &[u8], at: usize) -> usize
         requires { at ≤ length text.now }
         ensures after { at ≤ result }
         ensures inside { result ≤ length text.now }
-        ensures none { (place : ℕ) → at ≤ place → place < result → lead_has self (get_or text.now place 0) ≡ false }
+        ensures none { (place : ℕ) → at ≤ place → place < result → lead_has self.now (get_or text.now place 0) ≡ false }
     {
         let rest = &text[at..];
         let found = match self {
             Lead::Nothing => None,
-            Lead::One(a) => memchr(a, rest),
-            Lead::Two(a, b) => memchr2(a, b, rest),
-            Lead::Three(a, b, c) => memchr3(a, b, c, rest),
-            Lead::Many => return at,
+            Lead::One(a) => memchr(*a, rest),
+            Lead::Two(a, b) => memchr2(*a, *b, rest),
+            Lead::Three(a, b, c) => memchr3(*a, *b, *c, rest),
+            Lead::More(marks) => return find_marked(marks, text, at),
+            Lead::Any => return at,
         };
         match found {
             Some(place) => at + place,

@@ -61,7 +61,7 @@ pub fn first_match(
         &auto.nodes,
         auto.entry,
         &auto.classes,
-        auto.lead,
+        &auto.lead,
         &mut auto.table,
         text,
         from,

@@ -101,20 +101,20 @@ pub(crate) fn search(
     nodes: &[Node],
     entry: usize,
     classes: &[u8; 256],
-    lead: Lead,
+    lead: &Lead,
     table: &mut Table,
     text: &[u8],
     from: usize,
 ) -> Result<Option<(usize, usize)>, AllocError>
     requires inside { from ≤ length text.now }
-    requires lead { IsLead nodes.now entry lead }
+    requires lead { IsLead nodes.now entry lead.now }
     requires classes { AreClasses nodes.now classes.now }
     requires table { ∥ IsTable nodes.now entry classes.now table.old ∥₁ }
     ensures best { IfOk result (λ found. ∥ IsBest nodes.now text.now entry from (length text.now + 1) found ∥₁) }
     ensures table { ∥ IsTable nodes.now entry classes.now table.new ∥₁ }
 {
-    let mut at = from;
-    let mut state = begin(nodes, entry, classes, table, from)?;
+    let mut at = lead.find(text, from);
+    let mut state = begin(nodes, entry, classes, table, at)?;
     let mut best = None;
     let mut emptied = None;
     while at < text.len() {

@@ -4,17 +4,17 @@ use Rattle.std.proofs.Math.Logic.{∥∥₁_elim, ∥∥₁_map, ∥∥₁_map�
 use Rattle.std.proofs.lemmas.Option.{slice_get_within}
 use Rattle.ere_match.specs.Threads.{better_of}
 use Rattle.ere_match.specs.Rows.{IsSearching, started}
-use Rattle.ere_match.proofs.Hastes.{not_some}
-use Rattle.ere_match.proofs.Searches.{search_begins}
+use Rattle.ere_match.proofs.Hastes.{leapt, not_some}
 use Rattle.ere_match.proofs.Places.{end_at, ending_room, inside_room, over_at, search_moves}
 use Rattle.ere_match.proofs.search.search.Goals as goal
 
 pub loop-at-init : goal.loop-at-init
 loop-at-init c = record {
-  above = omega arith;
-  inside = c.requires.inside;
+  above = c.find-at.ensures.after;
+  inside = c.find-at.ensures.inside;
   table = c.begin.ensures.table;
-  search = ∥∥₁_map₂ c.begin.ensures.table c.in_ok-state.ensures.begun (λ t b. search_begins c.args.nodes.now c.args.text.now c.args.entry c.args.from c.in_ok-state.state c.args.classes.now c.begin.new.table t b);
+  search = ∥∥₁_map₂ c.begin.ensures.table c.in_ok-state.ensures.begun (λ t b.
+      leapt c.args.nodes.now c.args.text.now c.args.entry c.args.from c.args.lead.now c.find-at.result c.in_ok-state.state c.args.classes.now c.begin.new.table c.find-at.ensures.after c.find-at.ensures.inside c.requires.lead (λ k less. (c.type_inv.text k).fits) c.find-at.ensures.none t b);
 }
 
 pub index-row-requires : goal.index-row-requires
