@@ -92,6 +92,23 @@ fn fetch(
     Ok(())
 }
 
+/// Makes the matcher of a text the last one.
+#[inline(always)]
+fn recall(
+    last: &mut Option<Matcher>,
+    before: &mut LruCache<Bytes, Matcher>,
+    alloc: Global,
+    text: &Bytes,
+) -> Result<(), Stop>
+    ensures ok { OnOk result (last.new ≡ Some text.now) }
+    ensures err { IfErr result (IsStopOf (expression_of text.now)) }
+{
+    if is_last(last, text) {
+        return Ok(());
+    }
+    fetch(last, before, alloc, text)
+}
+
 impl Expressions {
     /// No expression was met yet.
     ///
@@ -114,9 +131,7 @@ impl Expressions {
         ensures ok { IfOk result (λ matcher. matcher.now ≡ text.now) }
         ensures err { IfErr result (IsStopOf (expression_of text.now)) }
     {
-        if !is_last(&self.last, text) {
-            fetch(&mut self.last, &mut self.before, alloc, text)?;
-        }
+        recall(&mut self.last, &mut self.before, alloc, text)?;
         Ok(lend(&mut self.last))
     }
 }
