@@ -1,5 +1,5 @@
 -- That what is held stands in its place: what it says of the pairs, and how it is kept.
-use Rattle.std.proofs.Common.{◌≡◌, ◌≢◌, ℕ, zero, suc, ◌+◌, ◌-◌, ◌<◌, ◌≤◌, List, [], ◌∷◌, ◌++◌, length, Option, Some, None, is_some, IsSome, get_or, set, filter, refl, sym, ap, ◌∙◌, arith, inl, inr, get_or-set_other, get_or-set_same}
+use Rattle.std.proofs.Common.{◌≡◌, ◌≢◌, ℕ, zero, suc, ◌+◌, ◌-◌, ◌<◌, ◌≤◌, List, [], ◌∷◌, ◌++◌, length, Option, Some, None, is_some, IsSome, get_or, set, filter, map, slice_get, refl, sym, ap, ◌∙◌, arith, inl, inr, get_or-set_other, get_or-set_same}
 use Rattle.std.proofs.lemmas.Bool.{cases_lt, cases_eq}
 use Rattle.std.proofs.lemmas.List.{get_or_append_left, get_or-append_right, get_or_past, get_or_push}
 use Rattle.std.proofs.lemmas.Option.{none-some, same_Some}
@@ -186,3 +186,18 @@ value_from_kept old new k same = value_of (new k) ∙ ap value_or_uninit same �
     value_of : (o : Option Held) → value_in o ≡ value_or_uninit (kept_value o)
     value_of None = refl
     value_of (Some h) = refl
+
+-- ---- an entry of the map by its place
+
+abbrev Entries : Type 0
+Entries = List (List ℕ × Held)
+
+pub value_there : (entries : Entries) (place : ℕ) (k : List ℕ) (h x : Held) → slice_get entries place ≡ Some (k, h) → slice_get (map (λ p. p.1) entries) place ≡ Some x → x ≡ h
+value_there [] place k h x at is = absurd (none-some (k, h) at)
+value_there (e ∷ rest) zero k h x at is = sym (same_Some e.1 x is) ∙ ap (λ (p : List ℕ × Held). p.1) (same_Some e (k, h) at)
+value_there (e ∷ rest) (suc n) k h x at is = value_there rest n k h x at is
+
+pub no_value_there : (entries : Entries) (place : ℕ) (k : List ℕ) (h : Held) → slice_get entries place ≡ Some (k, h) → slice_get (map (λ p. p.1) entries) place ≡ None → ⊥
+no_value_there [] place k h at none = none-some (k, h) at
+no_value_there (e ∷ rest) zero k h at none = none-some e.1 (sym none)
+no_value_there (e ∷ rest) (suc n) k h at none = no_value_there rest n k h at none

@@ -1,5 +1,5 @@
 -- How an array keeps its pairs: a map from keys to values, and the keys in order with holes between them.
-use Rattle.std.specs.Prelude.{◌≡◌, ◌≢◌, ℕ, ◌<◌, List, [], ◌∷◌, Option, Some, None, get_or, cond}
+use Rattle.std.specs.Prelude.{◌≡◌, ◌≢◌, ℕ, ◌<◌, List, [], ◌∷◌, Option, Some, None, get_or, slice_get, cond}
 use Rattle.std.specs.Map.{lookup}
 use Rattle.awk_values.specs.declared.value.Value.{Value}
 use Rattle.awk_values.specs.declared.value.Value.TheVariants.{Uninit}
@@ -42,6 +42,15 @@ pub record IsPlaced (held : Holds) (order : Order) : Type 0 where
 -- no key stands in two places
 abbrev pub IsOnce : Order → Type 0
 IsOnce order = (k : List ℕ) (i j : ℕ) → get_or order i None ≡ Some k → get_or order j None ≡ Some k → i ≡ j
+
+abbrev pub SpecHeld : Type 0
+SpecHeld = Held
+
+-- the key stands at this place of the map's entries, and is held there
+pub record StandsIn (entries : List (List ℕ × Held)) (place : ℕ) (k : List ℕ) : Type 0 where
+  pub held : Held
+  pub at : slice_get entries place ≡ Some (k, held)
+  pub is : held_in entries k ≡ Some held
 
 -- the second map has this at the key, and else what the first has
 abbrev pub Changes : Holds → Holds → List ℕ → Option Held → Type 0

@@ -1,8 +1,8 @@
 //! One array: its pairs in the order of insertion.
-ghost use Rattle.std.specs.Prelude.{◌≡◌, ℕ, List, [], Option, Some, None, get_or, is_some, option_copied, OnOk, OnErr, IfOk, IfErr, IsSome};
+ghost use Rattle.std.specs.Prelude.{◌≡◌, ℕ, List, [], Option, Some, None, get_or, is_some, option_copied, OnOk, OnErr, IfOk, IfErr, IsSome, slice_get, true};
 ghost use Rattle.std.specs.Map.{keys_of};
 ghost use Rattle.host_arrays.specs.Pairs.{get_pair, set_pair, delete_pair, created, value_or_uninit};
-ghost use Rattle.host_arrays.specs.Order.{IsOnce, held_in, kept_value, place_in};
+ghost use Rattle.host_arrays.specs.Order.{Changes, IsOnce, SpecHeld, StandsIn, held_in, kept_value, place_in};
 
 use awk_values::{Bytes, Value};
 use indexmap::IndexMap;
@@ -24,6 +24,8 @@ pub(crate) struct Held {
 pub(crate) struct Array {
     pairs: IndexMap<Bytes, Held, RandomState>,
     order: Vec<Option<Bytes>>,
+    /// Where in the map the key stands that was read last: most often that key is written next, and then it is not hashed again.
+    last: usize,
 }
 
 impl Model for Array {
@@ -46,6 +48,25 @@ fn copy_of(value: &Value) -> Result<Value, AllocError>
     ensures { IfOk result (λ copy. copy ≡ value.now) }
 {
     value.clone()
+}
+
+/// Whether a key stands at this place of the map.
+fn stands_in(pairs: &IndexMap<Bytes, Held, RandomState>, place: usize, key: &Bytes) -> bool
+    ensures { result ≡ true → StandsIn pairs.now.entries place key.now }
+{
+    match pairs.get_index(place) {
+        Some(entry) => *entry.0 == *key,
+        None => false,
+    }
+}
+
+/// Writes the value of the key at this place of the map.
+fn write_at(pairs: &mut IndexMap<Bytes, Held, RandomState>, place: usize, value: Value)
+    ensures { (k : List ℕ) (h : SpecHeld) → slice_get pairs.old.entries place ≡ Some (k, h) → Changes (held_in pairs.old.entries) (held_in pairs.new.entries) k (Some (record { value = value; place = h.place })) }
+{
+    if let Some(held) = pairs.get_index_mut(place) {
+        held.value = value;
+    }
 }
 
 /// Gives each key its place in an order without holes.
@@ -72,6 +93,7 @@ impl Array {
         Array {
             pairs: IndexMap::with_hasher(alloc, state),
             order: Vec::new(alloc),
+            last: 0,
         }
     }
 
@@ -125,6 +147,10 @@ impl Array {
         ensures refused { OnErr result (self.new ≡ self.old) }
         ensures handed_back { IfErr result (λ v. v ≡ value) }
     {
+        if stands_in(&self.pairs, self.last, key) {
+            write_at(&mut self.pairs, self.last, value);
+            return Ok(());
+        }
         if let Some(held) = self.pairs.get_mut(key) {
             held.value = value;
             return Ok(());
@@ -138,12 +164,16 @@ impl Array {
         ensures created { OnOk result (self.new ≡ created key.now self.old) }
         ensures refused { OnErr result (self.new ≡ self.old) }
     {
-        if let Some(held) = self.pairs.get(key) {
-            return Ok(copy_of(&held.value)?);
+        if let Some((place, _, held)) = self.pairs.get_full(key) {
+            let copy = copy_of(&held.value)?;
+            self.last = place;
+            return Ok(copy);
         }
+        let place = self.pairs.len();
         let Ok(()) = self.add(key, Value::Uninit) else {
             return Err(AllocError);
         };
+        self.last = place;
         Ok(Value::Uninit)
     }
 

@@ -13,12 +13,12 @@ ghost use Rattle.host_tables.specs.Families.{of_listed, of_texts, of_values};
 use awk_values::Value;
 use host_handles::Handles;
 use host_texts::{TextPrimitive, Texts};
-use host_values::{Refusal, ValuePrimitive};
+use host_values::{Literals, Refusal, ValuePrimitive};
 use smallvec::SmallVec;
 use std::alloc::Global;
 use wasm_store::Word;
 
-/// A call of a primitive on values, where no fault is kept.
+/// A call of a primitive on values, where no fault is kept. The texts of literals are kept; they change no answer.
 ///
 /// # Errors
 ///
@@ -26,6 +26,7 @@ use wasm_store::Word;
 #[inline(always)]
 pub fn on_values(
     alloc: Global,
+    literals: &mut Literals,
     primitive: ValuePrimitive,
     handles: &mut Handles,
     words: &[Word],
@@ -35,7 +36,7 @@ pub fn on_values(
     ensures step { (f : HostForm) → f.fault ≡ None → IsTableCall (Import.Of (primitive_of primitive)) (of_values handles.old f) words.now memory.now result (of_values handles.new f) }
     ensures spare { map.get handles.new spare ≡ None }
 {
-    host_values::call(alloc, primitive, handles, words, memory)
+    host_values::call(alloc, literals, primitive, handles, words, memory)
 }
 
 /// A call of a primitive on texts, where no fault is kept.

@@ -7,6 +7,7 @@ ghost use Rattle.host_values.specs.Calls.{Gives, IsCall, spare};
 ghost use Rattle.host_values.specs.Primitives.{primitive_of};
 
 use crate::evaluate::evaluate;
+use crate::literals::Literals;
 use crate::primitive::ValuePrimitive;
 use crate::reply::{Refusal, Reply};
 use host_handles::Handles;
@@ -34,7 +35,8 @@ pub fn give(handles: &mut Handles, reply: Reply) -> Result<Option<Word>, Refusal
     }
 }
 
-/// A call of a primitive on values, where no fault is kept: what it spends leaves the handles, and what is new gets a handle.
+/// A call of a primitive on values, where no fault is kept: what it spends leaves the handles, and what is new gets a handle. The texts of literals are kept;
+/// they change no answer.
 ///
 /// # Errors
 ///
@@ -42,6 +44,7 @@ pub fn give(handles: &mut Handles, reply: Reply) -> Result<Option<Word>, Refusal
 #[inline(always)]
 pub fn call(
     alloc: Global,
+    literals: &mut Literals,
     primitive: ValuePrimitive,
     handles: &mut Handles,
     words: &[Word],
@@ -51,7 +54,7 @@ pub fn call(
     ensures step { (s : HostState) → s.fault ≡ None → IsCall (Import.Of (primitive_of primitive)) s words.now memory.now handles.old result handles.new }
     ensures spare { map.get handles.new spare ≡ None }
 {
-    let evaluated = match evaluate(alloc, primitive, handles, words, memory) {
+    let evaluated = match evaluate(alloc, literals, primitive, handles, words, memory) {
         Ok(evaluated) => evaluated,
         Err(refusal) => return Err(refusal),
     };

@@ -7,6 +7,7 @@ ghost use Rattle.awk_text.specs.Number.{truncated_of_text};
 ghost use Rattle.host_values.specs.declared.spent.Spent.{Spent};
 ghost use Rattle.host_values.specs.Evaluations.{Evaluates, Values, evaluation, value_reply};
 
+use crate::literals::Literals;
 use crate::primitive::ValuePrimitive;
 use crate::reply::{Evaluated, Refusal, Reply, number_reply, truth_reply};
 use crate::spent::Spent;
@@ -42,12 +43,25 @@ fn num(words: &[Word]) -> Result<Evaluated, Refusal>
     Ok(unspent(Ok(Reply::Value(Value::Num(number)))))
 }
 
-fn lit(alloc: Global, words: &[Word], memory: &[u8]) -> Result<Evaluated, Refusal>
+/// The number of the first word, where there is one: the place of a literal.
+fn first_place(words: &[Word]) -> usize {
+    match words.first() {
+        Some(Word::I32(place)) => *place as usize,
+        _ => 0,
+    }
+}
+
+fn lit(
+    alloc: Global,
+    literals: &mut Literals,
+    words: &[Word],
+    memory: &[u8],
+) -> Result<Evaluated, Refusal>
     ensures { (values : Values) → Evaluates values result (evaluation ValuePrimitive.Lit values memory.now words.now) }
 {
     let (text, rest) = place_front(memory, words)?;
     ends(rest)?;
-    let text = Bytes::from_slice(alloc, text)?;
+    let text = literals.text(alloc, first_place(words), text)?;
     Ok(unspent(Ok(Reply::Value(Value::Text(text)))))
 }
 
@@ -231,6 +245,7 @@ fn fail(words: &[Word]) -> Result<Evaluated, Refusal>
 #[inline(always)]
 pub(crate) fn evaluate(
     alloc: Global,
+    literals: &mut Literals,
     primitive: ValuePrimitive,
     handles: &Handles,
     words: &[Word],
@@ -240,7 +255,7 @@ pub(crate) fn evaluate(
 {
     match primitive {
         ValuePrimitive::Num => num(words),
-        ValuePrimitive::Lit => lit(alloc, words, memory),
+        ValuePrimitive::Lit => lit(alloc, literals, words, memory),
         ValuePrimitive::Uninit => uninit(words),
         ValuePrimitive::Dup => dup(handles, words),
         ValuePrimitive::ToNum => to_num(handles, words),

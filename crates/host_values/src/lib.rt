@@ -3,6 +3,7 @@
 
 mod calls;
 mod evaluate;
+mod literals;
 mod primitive;
 mod reply;
 mod single;
@@ -11,6 +12,7 @@ mod words;
 
 pub use calls::{call, give};
 pub use evaluate::{push_text, text_len};
+pub use literals::Literals;
 pub use primitive::ValuePrimitive;
 pub use reply::{Refusal, Reply};
 pub use single::{append, release};

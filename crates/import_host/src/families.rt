@@ -28,7 +28,14 @@ impl Tables {
         requires { self.old.fault ≡ None }
         ensures { (f : HostForm) → IsTableCall (Import.Of (primitive_of primitive)) (of_tables self.old f) words.now memory.now result (of_tables self.new f) }
     {
-        on_values(self.alloc, primitive, &mut self.handles, words, memory)
+        on_values(
+            self.alloc,
+            &mut self.literals,
+            primitive,
+            &mut self.handles,
+            words,
+            memory,
+        )
     }
 
     /// A primitive on texts, special variables and the record.

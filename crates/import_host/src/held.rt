@@ -8,6 +8,7 @@ use host_arrays::Arrays;
 use host_elements::Iterators;
 use host_handles::Handles;
 use host_texts::Texts;
+use host_values::Literals;
 use smallvec::SmallVec;
 use std::alloc::Global;
 
@@ -22,6 +23,8 @@ pub struct Tables {
     pub texts: Texts,
     /// The argument list.
     pub arguments: SmallVec<Value, 8>,
+    /// The texts of literals that were asked for last.
+    pub literals: Literals,
     /// The fault that is kept.
     pub fault: Option<Fault>,
     ghost free_handle: { map.get handles spare ≡ None },

@@ -9,6 +9,7 @@ ghost use Rattle.import_host.specs.Forms.{of_tables_and_names};
 use crate::held::Tables;
 use host_names::Names;
 use host_tables::FirstTables;
+use host_values::Literals;
 use std::alloc::Global;
 
 impl Tables {
@@ -28,6 +29,7 @@ impl Tables {
             iterators: first.iterators,
             texts: first.texts,
             arguments: first.arguments,
+            literals: Literals::new(alloc),
             fault: first.fault,
         };
         (tables, first.names)

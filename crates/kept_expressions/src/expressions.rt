@@ -1,7 +1,5 @@
 //! The expressions that were met last.
-ghost use Rattle.std.specs.Prelude.{◌≡◌, IfErr, IfOk, Some, nat_eq, true};
-ghost use Rattle.std.specs.Map.{lookup};
-ghost use Rattle.std.specs.Cmp.Lexicographic.{pointwise};
+ghost use Rattle.std.specs.Prelude.{◌≡◌, IfErr, IfOk, IsSome, OnOk, Some, true};
 ghost use Rattle.awk_state.specs.FirstMatch.{expression_of};
 ghost use Rattle.host_format.specs.Outcomes.{IsStopOf};
 
@@ -10,17 +8,19 @@ use awk_values::{Bytes, Stop};
 use lru::LruCache;
 use std::alloc::{AllocError, Global};
 use std::marker::Model;
+use std::mem::replace;
 use std::num::NonZeroUsize;
 
-/// How many are kept.
-const MANY: usize = 64;
+/// How many are kept beside the last one.
+const MANY: usize = 63;
 
 /// The matchers of the last texts that were asked for. They change no answer, so a clause sees nothing of them.
 #[derive(Drop)]
 pub struct Expressions {
-    kept: LruCache<Bytes, Matcher>,
-    /// One for which the others had no room.
-    other: Option<Matcher>,
+    /// The one that was asked for last: a script asks for most again at once, and then no text is hashed.
+    last: Option<Matcher>,
+    /// Those that were asked for before it.
+    before: LruCache<Bytes, Matcher>,
 }
 
 impl Model for Expressions {
@@ -29,44 +29,84 @@ impl Model for Expressions {
     ghost view = { λ e. tt };
 }
 
-/// Whether the matcher of a text is kept.
-fn keeps(kept: &LruCache<Bytes, Matcher>, text: &Bytes) -> bool
-    ensures { result ≡ true → lookup (pointwise nat_eq text.now) kept.now.entries ≡ Some text.now }
+/// Whether a matcher is there, and is that of a text.
+fn is_last(last: &Option<Matcher>, text: &Bytes) -> bool
+    ensures { result ≡ true → last.now ≡ Some text.now }
 {
-    match kept.peek(text) {
+    match last {
         Some(matcher) => matcher.is_of(text),
         None => false,
     }
 }
 
-/// Lends a matcher, which takes the place of the other one.
-fn lend(other: &mut Option<Matcher>, matcher: Matcher) -> &mut Matcher
-    ensures { result.now ≡ matcher }
+/// Lends the matcher that is there.
+fn lend(last: &mut Option<Matcher>) -> &mut Matcher
+    requires { IsSome last.old }
+    ensures { last.old ≡ Some result.now }
 {
-    *other = Some(matcher);
-    match other {
+    match last {
         Some(matcher) => matcher,
         None => unreachable!(),
     }
 }
 
-/// Keeps a matcher, in place of the one that was asked for longest ago where there are enough, and lends it. Where there is no memory to keep
-/// it, it is the other one.
-fn keep<'a>(
-    kept: &'a mut LruCache<Bytes, Matcher>,
-    other: &'a mut Option<Matcher>,
+/// The matcher of a text: one that was kept, which is taken, or a new one.
+fn take_or_make(
+    before: &mut LruCache<Bytes, Matcher>,
+    alloc: Global,
     text: &Bytes,
-    key: Bytes,
-    matcher: Matcher,
-) -> &'a mut Matcher
-    requires { key ≡ text.now }
-    ensures { result.now ≡ matcher }
+) -> Result<Matcher, Stop>
+    ensures ok { IfOk result (λ matcher. matcher ≡ text.now) }
+    ensures err { IfErr result (IsStopOf (expression_of text.now)) }
 {
-    let (_key, matcher) = match kept.put(key, matcher) {
-        Ok(_old) => return kept.get_mut(text).unwrap(),
-        Err(failed) => failed.value,
-    };
-    lend(other, matcher)
+    if let Some(matcher) = before.pop(text) {
+        if matcher.is_of(text) {
+            return Ok(matcher);
+        }
+    }
+    Matcher::of(alloc, text.kept(alloc)?)
+}
+
+/// Keeps a matcher, in place of the one that was asked for longest ago where there are enough. Where there is no memory to keep it, it is let go.
+fn keep(before: &mut LruCache<Bytes, Matcher>, matcher: Matcher) {
+    if let Ok(text) = matcher.text() {
+        let _ = before.put(text, matcher);
+    }
+}
+
+/// Puts the matcher of a text in the place of the last one, which is kept. It stands apart for its large locals.
+#[inline(never)]
+fn fetch(
+    last: &mut Option<Matcher>,
+    before: &mut LruCache<Bytes, Matcher>,
+    alloc: Global,
+    text: &Bytes,
+) -> Result<(), Stop>
+    ensures ok { OnOk result (last.new ≡ Some text.now) }
+    ensures err { IfErr result (IsStopOf (expression_of text.now)) }
+{
+    let matcher = take_or_make(before, alloc, text)?;
+    if let Some(former) = replace(last, Some(matcher)) {
+        keep(before, former);
+    }
+    Ok(())
+}
+
+/// Makes the matcher of a text the last one.
+#[inline(always)]
+fn recall(
+    last: &mut Option<Matcher>,
+    before: &mut LruCache<Bytes, Matcher>,
+    alloc: Global,
+    text: &Bytes,
+) -> Result<(), Stop>
+    ensures ok { OnOk result (last.new ≡ Some text.now) }
+    ensures err { IfErr result (IsStopOf (expression_of text.now)) }
+{
+    if is_last(last, text) {
+        return Ok(());
+    }
+    fetch(last, before, alloc, text)
 }
 
 impl Expressions {
@@ -77,8 +117,8 @@ impl Expressions {
     /// There is no memory.
     pub fn new(alloc: Global) -> Result<Expressions, AllocError> {
         Ok(Expressions {
-            kept: LruCache::sparse(alloc, NonZeroUsize::new(MANY).unwrap())?,
-            other: None,
+            last: None,
+            before: LruCache::sparse(alloc, NonZeroUsize::new(MANY).unwrap())?,
         })
     }
 
@@ -91,11 +131,7 @@ impl Expressions {
         ensures ok { IfOk result (λ matcher. matcher.now ≡ text.now) }
         ensures err { IfErr result (IsStopOf (expression_of text.now)) }
     {
-        if keeps(&self.kept, text) {
-            return Ok(self.kept.get_mut(text).unwrap());
-        }
-        let key = text.kept(alloc)?;
-        let matcher = Matcher::of(alloc, key.clone()?)?;
-        Ok(keep(&mut self.kept, &mut self.other, text, key, matcher))
+        recall(&mut self.last, &mut self.before, alloc, text)?;
+        Ok(lend(&mut self.last))
     }
 }

@@ -46,6 +46,13 @@ impl Matcher {
         Ok(Matcher { text, auto })
     }
 
+    /// Its text, shared.
+    pub(crate) fn text(&self) -> Result<Bytes, AllocError>
+        ensures { IfOk result (λ text. text ≡ self.now) }
+    {
+        self.text.clone()
+    }
+
     /// Whether it is the matcher of a text.
     pub fn is_of(&self, text: &Bytes) -> bool
         ensures { IsTrue result ↔ (self.now ≡ text.now) }

@@ -10,13 +10,13 @@ pub returns-in-Some-clause-value : goal.returns-in-Some-clause-value
 returns-in-Some-clause-value c =
     let old = held_in c.self.inside.pairs.entries in
     let had : get_pair c.args.key.now c.args.self.now ≡ Some c.in-Some.held.now.value = ap (get_pair c.args.key.now) (sym c.self.view_is) ∙ get_pair-placed old c.self.inside.order.items c.args.key.now c.self.invariant ∙ ap kept_value (sym c.in-Some.ensures.value) in
-    c.in_ok-copy_of.ensures ∙ sym (ap value_or_uninit had)
+    c.in_ok-copy.ensures ∙ sym (ap value_or_uninit had)
 
 pub returns-in-Some-clause-created : goal.returns-in-Some-clause-created
 returns-in-Some-clause-created c =
     let old = held_in c.self.inside.pairs.entries in
     let had : get_pair c.args.key.now c.args.self.now ≡ Some c.in-Some.held.now.value = ap (get_pair c.args.key.now) (sym c.self.view_is) ∙ get_pair-placed old c.self.inside.order.items c.args.key.now c.self.invariant ∙ ap kept_value (sym c.in-Some.ensures.value) in
-    sym (ap (λ slot. created_by slot c.args.key.now c.args.self.now) had)
+    c.self.view_is ∙ sym (ap (λ slot. created_by slot c.args.key.now c.args.self.now) had)
 
 pub add-requires : goal.add-requires
 add-requires c =
@@ -31,4 +31,4 @@ returns-clause-value c =
 pub returns-clause-created : goal.returns-clause-created
 returns-clause-created c =
     let none = ap (get_pair c.args.key.now) (sym c.self.view_is) ∙ get_pair-placed (held_in c.self.inside.pairs.entries) c.self.inside.order.items c.args.key.now c.self.invariant ∙ ap kept_value (sym c.in_default.ensures.value) in
-    c.in-Ok.ensures.added ∙ set_pair-new c.args.key.now Uninit c.args.self.now none ∙ sym (ap (λ slot. created_by slot c.args.key.now c.args.self.now) none)
+    c.self-2.view_is ∙ c.in-Ok.ensures.added ∙ set_pair-new c.args.key.now Uninit c.args.self.now none ∙ sym (ap (λ slot. created_by slot c.args.key.now c.args.self.now) none)
