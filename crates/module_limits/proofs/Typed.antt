@@ -1,8 +1,8 @@
 -- In a module that the rules type every index is of something that there is, so it has its width where there are few things.
-use Rattle.std.proofs.Common.{◌≡◌, ◌⊎◌, inl, inr, ℕ, zero, suc, ◌+◌, ◌^◌, ◌<◌, ◌≤◌, Bool, true, false, List, [], ◌∷◌, ◌++◌, length, map, max, Option, Some, None, refl, subst, arith, length-append}
+use Rattle.std.proofs.Common.{◌≡◌, ◌⊎◌, inl, inr, ℕ, zero, suc, ◌+◌, ◌^◌, ◌<◌, ◌≤◌, Bool, true, false, List, [], ◌∷◌, length, map, Option, Some, None, refl, subst, arith, length-append}
 use Rattle.std.specs.Prelude.{reverse, slice_get}
 use Rattle.std.specs.Str.{IsUtf8}
-use Rattle.std.specs.List.{All, AllByRecursion, Contains}
+use Rattle.std.specs.List.{AllByRecursion, Contains}
 use Rattle.std.proofs.lemmas.Bool.{cases_lt}
 use Rattle.std.proofs.lemmas.List.{length-map}
 use Rattle.std.proofs.lemmas.List.Elements.{Contains-append_right, recursion_from_All}
@@ -10,7 +10,7 @@ use Rattle.std.proofs.lemmas.Option.{slice_get_within}
 use Rattle.wasm_types.specs.declared.types.GlobalType.{GlobalType}
 use Rattle.wasm_types.specs.declared.types.Limits.{Limits}
 use Rattle.wasm_types.specs.declared.types.ValType.{ValType}
-use Rattle.wasm_types.specs.declared.types.ValType.TheVariants.{I32, I64}
+use Rattle.wasm_types.specs.declared.types.ValType.TheVariants.{I32}
 use Rattle.wasm_types.specs.declared.module.ExportDesc.{ExportDesc}
 use Rattle.wasm_types.specs.declared.module.ExportDesc.TheVariants as export
 use Rattle.wasm_types.specs.declared.instr.Simple.{Simple}
@@ -19,9 +19,9 @@ use Rattle.wasm_types.specs.Syntax.{Instruction, Plain, BrTable, Block, Loop, If
 use Rattle.wasm_types.specs.Opcodes.{immediates}
 use Rattle.wasm_types.specs.Instructions.{depth, depths}
 use Rattle.wasm_types.specs.ModuleGrammar.{IsModule}
-use Rattle.wasm_types.specs.Typing.{CodeOk, Context, DataOk, DescOk, Effect, ElemOk, Fixed, FuncOk, GrowsTo, ImportOk, InstrOk, IsConstant, IsFunction, LimitsOk, ModuleOk, StartOk, block, callee_in, choice, constant_of, constant_type, context_in, done, effect_of, function_types, loop, more, over, set_effect, simple, table, typed_in}
+use Rattle.wasm_types.specs.Typing.{CodeOk, Context, DataOk, DescOk, Effect, ElemOk, Fixed, FuncOk, GrowsTo, ImportOk, InstrOk, IsConstant, IsFunction, LimitsOk, ModuleOk, StartOk, block, callee_in, choice, constant_of, context_in, effect_of, function_types, loop, more, over, set_effect, simple, table, typed_in}
 use Rattle.module_limits.specs.Limits.{CanBeSpelled, HasNumbers, HasWords, HaveNumbers, HaveWords, HoldsWords, IsDescribed, IsImportable, IsIndexed, IsMost, IsShallow, IsSpellable, IsWithinLimits, PassesALimit, WordFits, blocks, bytes, elements, locals, pages}
-use Rattle.module_limits.specs.Size.{code_size, each_size, global_size, import_size, module_size, signature_size, type_size, vec_section_size, vec_size}
+use Rattle.module_limits.specs.Size.{code_size, each_size, global_size, import_size, module_size, signature_size, type_size, vec_section_size}
 use Rattle.module_limits.proofs.Within.{each_most, has_bytes}
 
 -- ---- instructions without a body
@@ -93,7 +93,8 @@ module _ (C : Context) (few : IsBounded C) where
     code_numbers (Then i is) L ks ns (more ps rs under h e k) w low =
         (instr_numbers i L ps rs h w.0 (omega (arith, low)), code_numbers is L _ ns k w.1 (omega (arith, low)))
 
-    instr_numbers : (i : Instruction) (L : List (Option ValType)) (ps rs : List ValType) → InstrOk C L i ps rs → HasWords i → length L + depth i < 2 ^ 32 → HasNumbers i
+    instr_numbers : (i : Instruction) (L : List (Option ValType)) (ps rs : List ValType) → InstrOk C L i ps rs → HasWords i → length L + depth i < 2 ^ 32 →
+        HasNumbers i
     instr_numbers (Plain p) L ps rs (simple e h t) w low = simple_numbers C few L (omega (arith, low)) p e h w
     instr_numbers (BrTable ns n) L ps rs (table r h all t) w low =
         (labels_there C few L (omega (arith, low)) r ns (recursion_from_All (λ k. slice_get L k ≡ Some r) ns all), in_list L n r h (omega (arith, low)))
@@ -142,15 +143,15 @@ constant_numbers (Then i (Then j is)) k h w = absurd cc
 
 -- ---- modules
 
-section_most : {A : Type 0} (f : A → ℕ) → ((x : A) → 1 ≤ f x) → (xs : List A) → length xs ≤ vec_section_size f xs
+pub section_most : {A : Type 0} (f : A → ℕ) → ((x : A) → 1 ≤ f x) → (xs : List A) → length xs ≤ vec_section_size f xs
 section_most f some [] = omega arith
 section_most f some (x ∷ xs) = let m = each_most f some (x ∷ xs) in omega (arith, m)
 
-section_each : {A : Type 0} (f : A → ℕ) (xs : List A) → each_size f xs ≤ vec_section_size f xs
+pub section_each : {A : Type 0} (f : A → ℕ) (xs : List A) → each_size f xs ≤ vec_section_size f xs
 section_each f [] = omega arith
 section_each f (x ∷ xs) = omega arith
 
-one_of_each : {A : Type 0} (f : A → ℕ) (xs : List A) (n : ℕ) (x : A) → slice_get xs n ≡ Some x → f x ≤ each_size f xs
+pub one_of_each : {A : Type 0} (f : A → ℕ) (xs : List A) (n : ℕ) (x : A) → slice_get xs n ≡ Some x → f x ≤ each_size f xs
 one_of_each f [] n x e = absurd cc
 one_of_each f (y ∷ ys) zero x e = by e
   where
@@ -231,7 +232,8 @@ module _ (m : ModuleForm) (ok : ModuleOk m) (words : HoldsWords m) (size : modul
   memories_can [] h = tt
   memories_can (l ∷ ls) h = (grows_can l.min l.max h.0, memories_can ls h.1)
 
-  globals_can : (gs : List GlobalForm) → AllByRecursion (λ (g : GlobalForm). IsConstant g.init g.ty.value) gs → AllByRecursion (λ (g : GlobalForm). HaveWords g.init) gs →
+  globals_can : (gs : List GlobalForm) → AllByRecursion (λ (g : GlobalForm). IsConstant g.init g.ty.value) gs →
+      AllByRecursion (λ (g : GlobalForm). HaveWords g.init) gs →
       AllByRecursion (λ (g : GlobalForm). HaveNumbers g.init) gs × AllByRecursion (λ (g : GlobalForm). IsShallow g.init) gs
   globals_can [] h w = (tt, tt)
   globals_can (g ∷ gs) h w =
@@ -321,7 +323,7 @@ module _ (m : ModuleForm) (ok : ModuleOk m) (words : HoldsWords m) (size : modul
 
 -- ---- bytes, or a limit
 
-found : {X : Type 0} (f : X → ℕ) (most : ℕ) (xs : List X) → AllByRecursion (λ (x : X). f x ≤ most) xs ⊎ ((x : X) × Contains xs x × (most < f x))
+pub found : {X : Type 0} (f : X → ℕ) (most : ℕ) (xs : List X) → AllByRecursion (λ (x : X). f x ≤ most) xs ⊎ ((x : X) × Contains xs x × (most < f x))
 found f most [] = inl tt
 found f most (x ∷ xs) = by (cases_lt most (f x)) (found f most xs)
   where
@@ -336,7 +338,8 @@ HasBytes m = (text : List ℕ) × IsModule text m × (length text ≡ module_siz
 
 -- A TYPED MODULE HAS BYTES, OR IT PASSES A LIMIT
 pub bytes_or_limit : (m : ModuleForm) → ModuleOk m → HoldsWords m → HasBytes m ⊎ PassesALimit m
-bytes_or_limit m ok words = by (cases_lt (2 ^ 24) (module_size m)) (found (λ (f : FuncForm). length f.locals) 50000 m.funcs) (found (λ (f : FuncForm). depths f.body) 4000 m.funcs) (found (λ (l : Limits). l.min) 65536 m.tables) (found (λ (l : Limits). l.min) 256 m.memories)
+bytes_or_limit m ok words = by (cases_lt (2 ^ 24) (module_size m)) (found (λ (f : FuncForm). length f.locals) 50000 m.funcs)
+    (found (λ (f : FuncForm). depths f.body) 4000 m.funcs) (found (λ (l : Limits). l.min) 65536 m.tables) (found (λ (l : Limits). l.min) 256 m.memories)
   where
     by : (2 ^ 24 < module_size m) ⊎ (module_size m ≤ 2 ^ 24) →
         AllByRecursion (λ (f : FuncForm). length f.locals ≤ 50000) m.funcs ⊎ ((f : FuncForm) × Contains m.funcs f × (50000 < length f.locals)) →

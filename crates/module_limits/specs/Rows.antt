@@ -1,8 +1,8 @@
 -- Sizes of small modules, computed.
-use Rattle.std.specs.Prelude.{◌≡◌, ℕ, [], ◌∷◌, None, refl}
+use Rattle.std.specs.Prelude.{◌≡◌, [], ◌∷◌, None, refl}
 use Rattle.wasm_types.specs.declared.instr.Simple.TheVariants.{I32Const, LocalGet}
 use Rattle.wasm_types.specs.Leb128.{s32_text, u32_text}
-use Rattle.wasm_types.specs.Syntax.{Done, FuncForm, If, Instructions, ModuleForm, Plain, Signature, Then}
+use Rattle.wasm_types.specs.Syntax.{Done, FuncForm, If, ModuleForm, Plain, Signature, Then}
 use Rattle.module_limits.specs.Size.{index_size, instrs_size, module_size}
 
 -- a number below 128 takes a byte

@@ -1,0 +1,6 @@
+pub mod Fits
+pub mod Small
+pub mod Emitted
+pub mod Stepped
+pub mod Sorted
+pub mod Whole
