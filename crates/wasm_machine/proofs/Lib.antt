@@ -1,9 +1,3 @@
-pub mod Branches
-pub mod Bursting
 pub mod Calls
-pub mod Cuts
 pub mod Following
-pub mod Heights
-pub mod Hurrying
-pub mod Operating
 pub mod Refusals

@@ -1,14 +1,13 @@
 //! A frame and its steps.
 ghost use Rattle.std.specs.Prelude.{◌≡◌, ◌↔◌, IfOk, IsTrue, Some, slice_get, get_or};
-ghost use Rattle.wasm_machine.specs.Bursts.{Hurried};
+ghost use Rattle.machine_bursts.specs.Bursts.{Hurried};
 ghost use Rattle.machine_code.specs.Flat.{code_at};
 ghost use Rattle.wasm_machine.specs.ViewFrame.{frame_of, seen, event_of};
 ghost use Rattle.machine_model.specs.Frames.{begun, local_step, pushed, of_one, of_two, of_two_or, local_set, local_tee, dropped, selected, branch, jump, branch_if, called_through, at_end};
 ghost use Rattle.wasm_types.specs.Syntax.{Done};
 ghost use Rattle.wasm_store.specs.Words.{binary_of, compare_of, converted, test_of, unary_of};
 
-use crate::burst::hurry;
-use crate::levels::Levels;
+use machine_bursts::{Levels, hurry};
 use machine_code::{Code, Fused, Op};
 use machine_model::Access;
 use std::alloc::{AllocError, Global};

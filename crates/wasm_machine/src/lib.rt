@@ -1,14 +1,11 @@
 //! The machine that runs modules (Core 1.0, section 4), one reduction a step.
 #![tactic(auto)]
 
-mod burst;
 mod callers;
 mod frame;
 pub mod laws;
-mod levels;
 mod link;
 mod machine;
-mod operands;
 mod state;
 
 pub use machine::Machine;

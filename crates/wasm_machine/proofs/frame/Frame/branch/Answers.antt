@@ -1,7 +1,7 @@
 use Rattle.std.proofs.Common.{ap, ◌∙◌}
 use Rattle.machine_code.specs.Flat.{code_at}
 use Rattle.machine_model.specs.Frames.{Stuck}
-use Rattle.wasm_machine.proofs.Branches.{branch_lands, landed}
+use Rattle.machine_bursts.proofs.Branches.{branch_lands, landed}
 use Rattle.wasm_machine.proofs.frame.Frame.branch.Goals as goal
 
 pub returns-in_Some-at : goal.returns-in_Some-at
