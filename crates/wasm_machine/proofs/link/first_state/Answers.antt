@@ -1,10 +1,7 @@
-use Rattle.std.proofs.Common.{◌≡◌, ◌∙◌, ◌*◌, List, Option, None, ℕ, map, ap, sym, subst, reverse, replicate}
+use Rattle.std.proofs.Common.{◌≡◌, ◌∙◌, ◌*◌, List, Option, None, ℕ, map, ap, sym, subst, replicate}
 use Rattle.std.specs.List.{All}
-use Rattle.std.specs.declared.vec.Vec.{Vec}
-use Rattle.std.specs.declared.alloc.Global.{Global}
 use Rattle.std.proofs.lemmas.Simd.{map-map}
 use Rattle.wasm_types.specs.declared.types.Limits.{Limits}
-use Rattle.wasm_types.specs.declared.instr.Instr.{Instr}
 use Rattle.wasm_types.specs.declared.module.Data.{Data}
 use Rattle.wasm_types.specs.declared.module.Elem.{Elem}
 use Rattle.wasm_types.specs.declared.module.Global.{Global as ModuleGlobal}
