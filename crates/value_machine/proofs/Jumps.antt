@@ -26,7 +26,7 @@ use Rattle.value_machine.proofs.GlobalSteps.{global_set_ok, storing}
 use Rattle.value_machine.proofs.Locals.{Locals, Hand, Number as NumberAt, Answer, with_at, laid}
 use Rattle.value_machine.proofs.Steps.{empty, get_copied, set_ok, moved_out_ok}
 use Rattle.value_machine.proofs.State.{cells_of, host_of, gone}
-use Rattle.value_machine.proofs.Relation.{Fit, fit_hand, fit_loose, Away}
+use Rattle.value_machine.proofs.Relation.{Fit, fit_hand, fit_less, fit_loose, fit_holds_none, Away}
 use Rattle.value_machine.proofs.Answers.{machine, beside_state}
 use Rattle.value_machine.proofs.Converting.{Converted, converted_ok}
 use Rattle.value_machine.proofs.Simulation.{work_of, context, meant, Done, ExprOk, room_one, still_stands}
@@ -74,13 +74,13 @@ module _ (p : Program) (deepest : ℕ) (ks : List Kind) (F : List Frame) (b : Ba
   unfolding step_emitted steps_emitted stepped all_stepped step_sorted steps_sorted
   next_step r lo u d bk ct k K l σ so rm it ar wk s =
       left_in 4 3 σ.turns _ _ (Away p deepest ks F b d K Nexted σ) (then_goes (nop_ok p deepest ks F b M n u K l σ s) (leaves_by way_next d σ)) (omega arith)
-      (record { next = l; comes = refl; loose = fit_loose p deepest ks F 0 u 0 l σ s.fit; answer = s.fit.answer; after = s.fit.sound })
+      (record { next = l; comes = refl; loose = fit_loose p deepest ks F 0 u 0 l σ s.fit; answer = s.fit.answer; after = (s.fit.sound, fit_holds_none p deepest ks F u l σ s.fit) })
 
   pub exit_step : StepOk p deepest ks F b M n Exit
   unfolding step_emitted steps_emitted stepped all_stepped step_sorted steps_sorted
   exit_step r lo u d bk ct k K l σ so rm it ar wk s =
       left_in 4 3 σ.turns _ _ (Away p deepest ks F b d K Exited σ) (then_goes (nop_ok p deepest ks F b M n u K l σ s) (leaves_by way_exit d σ)) (omega arith)
-      (record { next = l; comes = refl; loose = fit_loose p deepest ks F 0 u 0 l σ s.fit; answer = s.fit.answer; after = s.fit.sound })
+      (record { next = l; comes = refl; loose = fit_loose p deepest ks F 0 u 0 l σ s.fit; answer = s.fit.answer; after = (s.fit.sound, fit_holds_none p deepest ks F u l σ s.fit) })
 
   -- the status is told too
   exits_with : {k : Instructions} {K : List Label} → (d : ℕ) (l : Locals) (m : Number) (σ : State) → zero < b.temporaries → l.number zero ≡ Bits (I64 (number_word m)) →
@@ -117,7 +117,7 @@ module _ (p : Program) (deepest : ℕ) (ks : List Kind) (F : List Frame) (b : Ba
         comes = refl;
         loose = fit_loose p deepest ks F 1 u zero a.next τ a.fit;
         answer = a.fit.answer;
-        after = record { room = a.fit.sound.room; names = a.fit.sound.names; calm = a.fit.sound.calm };
+        after = (record { room = a.fit.sound.room; names = a.fit.sound.names; calm = a.fit.sound.calm }, fit_holds_none p deepest ks F u a.next τ (fit_less p deepest ks F zero u zero a.next τ a.holds.0 a.fit));
       })))))
 
   pub return_step : (e : Code) → ExprOk p deepest ks F b M n e → StepOk p deepest ks F b M n (Return e)
