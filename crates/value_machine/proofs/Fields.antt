@@ -6,7 +6,7 @@ use Rattle.awk_values.specs.declared.fault.Fault.TheVariants.{FieldNumber}
 use Rattle.awk_values.specs.declared.value.Value.{Value}
 use Rattle.awk_state.specs.FieldRows.{field_number, field_of, field_row}
 use Rattle.awk_state.specs.Numbers.{Number as AnyNumber, number_of, number_word}
-use Rattle.awk_state.specs.SharedState.{gives, shared_after}
+use Rattle.awk_state.specs.SharedState.{gives, shared_after, ◌>>=◌}
 use Rattle.awk_state.specs.declared.sorts.Answer.TheVariants as answer
 use Rattle.awk_state.specs.declared.sorts.Argument.TheVariants as argument
 use Rattle.awk_state.specs.declared.sorts.Sort.TheVariants as sort
@@ -59,11 +59,8 @@ field_is _ es z e = cc
 
 field_there : (k : ℕ) (x : AnyNumber) (σ : State) → nat_le k (2 ^ 20) ≡ true → x.number ≡ pos k → field_row x σ.shared.inner ≡ Ok (field_of k σ.shared.inner)
 field_there k x σ is e =
-    ap (λ (z : ℤ). field_found (field_number z)) e ∙ ap (λ (t : Bool). field_found (if t then Ok k else Err FieldNumber)) is
-  where
-    abbrev field_found : Result ℕ Fault → Result Value Fault
-    field_found (Ok j) = Ok (field_of j σ.shared.inner)
-    field_found (Err f) = Err f
+    let found : Result ℕ Fault → Result Value Fault = λ r. r >>= λ j. Ok (field_of j σ.shared.inner) in
+    ap (λ (z : ℤ). found (field_number z)) e ∙ ap (λ (t : Bool). found (if t then Ok k else Err FieldNumber)) is
 
 module _ (p : Program) (deepest : ℕ) (ks : List Kind) (F : List Frame) (b : Bases) (M n : ℕ) where
   literal_field : (z : ℤ) → is_field_number z ≡ true → ExprOk p deepest ks F b M n (Do (Host row.Field) (At (Number z) End))
@@ -81,7 +78,6 @@ module _ (p : Program) (deepest : ℕ) (ks : List Kind) (F : List Frame) (b : Ba
       let after : Result Value Fault → State = λ r. record σ { shared = shared_after σ.shared (gives σ.shared r) } in
       let P = Done p deepest ks F b M n v e fs env ts st t u w k K l σ in
       let Q = Away p deepest ks F b d K in
-      let read = field_or y (Some (pos j)) t k in
       let whole = λ (o : Option ℤ). field_or y o t k (all_emitted y fs ts (At (Number (pos j)) End) t w d (all_converted y fs (argument.Of sort.Number ∷ []) (At (Number (pos j)) End) t d (performed y (Host row.Field) (At (Number (pos j)) End) t d k))) in
       let R = λ (o : Option ℤ) (r : Outcome Value). Reached p deepest ks F b M (work_of e) σ.turns (at ks [] K (laid b l) F (whole o) (beside_state p deepest ks F σ)) P Q r in
       let out : does row.Field (or_zero (number_of (pos j)), tt) σ ≡ Gives a σ =
