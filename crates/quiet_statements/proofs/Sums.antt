@@ -17,7 +17,7 @@ use Rattle.mid_program.specs.Mid.{Answered, Bare, Code, Form, Global, Parameter,
 use Rattle.value_machine.specs.Arithmetic.{calculated}
 use Rattle.value_machine.specs.Emission.{Layout, emitted, all_emitted, slot_read, slot_set}
 use Rattle.value_machine.specs.Places.{Bases, handle_local, number_global, number_local}
-use Rattle.value_machine.specs.Small.{least, text_beside, to_number, zeroed}
+use Rattle.value_machine.specs.Small.{text_beside, to_number}
 use Rattle.value_refined.proofs.Putting.{set_there}
 use Rattle.quiet_statements.specs.Sums.{HasNoText, IsSum, IsSumOperator, constant, itself, joined, name}
 use Rattle.quiet_statements.proofs.Flowing.{Flows, branch, const64, ended, get, get_global, set, set_global, tee}
