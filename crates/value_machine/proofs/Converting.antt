@@ -28,7 +28,7 @@ use Rattle.mid_program.specs.Sorted.{fits}
 use Rattle.mid_program.specs.Steps.{zero_number, one_number, minus_one, numeric, truth_number}
 use Rattle.mid_program.specs.ScriptState.{State, Faulted, Outcome, Gives, settled}
 use Rattle.value_machine.specs.Cells.{Cell, Bits, Held, is_owned}
-use Rattle.value_machine.specs.Machine.{Code, Conf, Label, Frame, at, br, label}
+use Rattle.value_machine.specs.Machine.{Code, Conf, Label, Frame, Store, at, br, label}
 use Rattle.value_machine.specs.Places.{Bases}
 use Rattle.value_machine.specs.Small.{does, ask_row, either, least, text_beside, moved_out, number_is, boxed_perhaps, number_of_value, number_made, unnumbered, kept_number, h, n}
 use Rattle.value_machine.specs.Small

@@ -62,10 +62,13 @@ field_there k x σ is e =
     let found : Result ℕ Fault → Result Value Fault = λ r. r >>= λ j. Ok (field_of j σ.shared.inner) in
     ap (λ (z : ℤ). found (field_number z)) e ∙ ap (λ (t : Bool). found (if t then Ok k else Err FieldNumber)) is
 
+no_negative : (j : ℕ) → is_field_number (negsuc j) ≡ true → ⊥
+no_negative j e = cc
+
 module _ (p : Program) (deepest : ℕ) (ks : List Kind) (F : List Frame) (b : Bases) (M n : ℕ) where
   literal_field : (z : ℤ) → is_field_number z ≡ true → ExprOk p deepest ks F b M n (Do (Host row.Field) (At (Number z) End))
   unfolding emitted all_emitted evaluated all_evaluated sorted all_sorted
-  literal_field (negsuc j) is v fs env ts st t u w d k K l σ so us rm ar rd = cc
+  literal_field (negsuc j) is v fs env ts st t u w d k K l σ so us rm ar rd = absurd (no_negative j is)
   literal_field (pos j) is v fs env ts st t u w d k K l σ so us rm ar rd =
       let mach = machine p deepest ks F in
       let y = layout p deepest ks F b M n in
