@@ -1,6 +1,6 @@
 -- A field whose number is a constant is read without a test: it is there, whatever the record.
-use Rattle.std.proofs.Common.{◌≡◌, ℕ, suc, ◌^◌, Bool, true, false, if◌then◌else◌, List, [], ◌∷◌, Option, Some, None, Result, Ok, Err, ℤ, pos, negsuc, refl, sym, ap, ◌∙◌, subst, arith, T, nat_le, unsigned_abs}
-use Rattle.std.proofs.lemmas.Bool.{leb-true, le-leb}
+use Rattle.std.proofs.Common.{◌≡◌, ℕ, suc, ◌^◌, Bool, true, false, if◌then◌else◌, List, [], ◌∷◌, Option, Some, None, Result, Ok, Err, ℤ, pos, negsuc, refl, sym, ap, ◌∙◌, subst, arith, T, nat_le, true≢false}
+use Rattle.std.proofs.lemmas.Bool.{leb-true, le-leb, ne_eqb}
 use Rattle.awk_values.specs.declared.fault.Fault.{Fault}
 use Rattle.awk_values.specs.declared.fault.Fault.TheVariants.{FieldNumber}
 use Rattle.awk_values.specs.declared.value.Value.{Value}
@@ -63,7 +63,7 @@ field_there k x σ is e =
     ap (λ (z : ℤ). found (field_number z)) e ∙ ap (λ (t : Bool). found (if t then Ok k else Err FieldNumber)) is
 
 no_negative : (j : ℕ) → is_field_number (negsuc j) ≡ true → ⊥
-no_negative j e = cc
+no_negative j e = true≢false (sym e ∙ ne_eqb (suc j) 0 (λ q. omega (arith, q)))
 
 module _ (p : Program) (deepest : ℕ) (ks : List Kind) (F : List Frame) (b : Bases) (M n : ℕ) where
   literal_field : (z : ℤ) → is_field_number z ≡ true → ExprOk p deepest ks F b M n (Do (Host row.Field) (At (Number z) End))
@@ -86,7 +86,7 @@ module _ (p : Program) (deepest : ℕ) (ks : List Kind) (F : List Frame) (b : Ba
       let out : does row.Field (or_zero (number_of (pos j)), tt) σ ≡ Gives a σ =
           ap (λ (x : AnyNumber). does row.Field (x, tt) σ) same
           ∙ ap (λ (r : Result Value Fault). settled r (after r)) found
-          ∙ ap (Gives a) (same_state σ (Ok a)) in
+          ∙ ap (Gives a) (same_state {A = Result Value Fault} σ (Ok a)) in
       subst (λ (o : Option ℤ). R o (does row.Field (or_zero (number_of (pos j)), tt) σ)) (sym (ap (λ (c : Bool). if c then Some (pos j) else None) is))
       (subst (λ (r : Outcome Value). R (Some (pos j)) r) (sym out)
       (there mach M (work_of e) 2 _ _ a σ P Q
@@ -95,7 +95,7 @@ module _ (p : Program) (deepest : ℕ) (ks : List Kind) (F : List Frame) (b : Ba
       (row_called p deepest ks F row.Field (x0, tt) (Bits (I64 (number_word x0)) ∷ []) [] σ refl refl refl
       (ap (λ o. with_some (and_rest o []) (λ i. with_some (row_in mach.memory [] i.1) (λ rest. Some (i.0, rest)))) (word_again x0)) refl)
       (ap (λ (r : Result Value Fault). at ks (reply (answer.Of sort.Value) r []) K (laid b l) F (then_does (LocalSet (h b t)) k) (after_reply p deepest ks F r (after r))) found
-      ∙ ap (λ τ. at ks (Held a ∷ []) K (laid b l) F (then_does (LocalSet (h b t)) k) (beside_state p deepest ks F τ)) (same_state σ (Ok a))))
+      ∙ ap (λ τ. at ks (Held a ∷ []) K (laid b l) F (then_does (LocalSet (h b t)) k) (beside_state p deepest ks F τ)) (same_state {A = Result Value Fault} σ (Ok a))))
       (set_ok b l (Hand t) (Held a) (omega (arith, rm)) (ap is_owned (rd.fit.free t (omega arith))))) (omega arith)
       (put_done p deepest ks F b M n e v fs env ts st t u w k K l l σ σ a _ rd.below (same_self ts t w l) (λ i q. refl) rd.kept refl tt (put_value p deepest ks F b M t u w k K l a σ rd.fit))))
 
