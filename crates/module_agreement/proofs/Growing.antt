@@ -2,6 +2,7 @@
 use Rattle.std.proofs.Common.{◌≡◌, ℕ, zero, suc, Bool, true, false, cond, nat_lt, ◌-◌, ◌^◌, ◌%◌, List, [], ◌++◌, Option, Some, None, Result, Ok, Err, sym, ap, subst, ◌∙◌, append-nil, append_assoc}
 use Rattle.awk_values.specs.declared.fault.Fault.{Fault}
 use Rattle.world_core.specs.WorldState.{Action}
+use Rattle.wasm_types.specs.Syntax.{Instructions}
 use Rattle.wasm_store.specs.declared.word.Word.TheVariants.{I32, I64}
 use Rattle.awk_state.specs.Sorts.{InAnswer, Row}
 use Rattle.awk_state.specs.declared.sorts.Answer.{Answer}
@@ -22,6 +23,10 @@ grows_more xs ys zs h = (h.0 ++ zs, ap (λ l. l ++ zs) h.1 ∙ append_assoc xs h
 
 pub grows_then : (xs ys zs : List Action) → Grows xs ys → Grows ys zs → Grows xs zs
 grows_then xs ys zs h i = (h.0 ++ i.0, i.1 ∙ ap (λ l. l ++ i.0) h.1 ∙ append_assoc xs h.0 i.0)
+
+-- what is noted is only added
+abbrev pub Adds : Code → Type 0
+Adds u = (code : Instructions) (output : List Action) → Grows output (u.notes code output)
 
 module _ (o : List Action) where
   abbrev Has : Host → Type 0
@@ -74,9 +79,10 @@ module _ (o : List Action) where
   put_if : (a : Option (Option Cell × Host)) (z : Option Cell × Host) → a ≡ Some z → HasIf a → Has z.1
   put_if a z e p = subst HasIf e p
 
-  leads : (u : Code) → Leads u (λ G. Has G.host) (λ G. Has G.host)
-  leads u = record {
+  leads : (u : Code) → Adds u → Leads u (λ G. Has G.host) (λ G. Has G.host)
+  leads u adds = record {
     same = λ G p. p;
+    noted = λ code G p. grows_then o G.host.shared.output (u.notes code G.host.shared.output) p (adds code G.host.shared.output);
     called = λ i cs a G e p. put_if (call u.memory i cs G.host) a e (call_put u.memory i cs G.host p);
     looked = λ i c a G e p. put_if (look i c G.host) a e (look_put i c G.host p);
     read = λ x G p. p;
@@ -84,9 +90,9 @@ module _ (o : List Action) where
   }
 
   -- a run has put out at least what it began with
-  pub go_put : (u : Code) (n : ℕ) (c : Conf) → HasPut c → HasPut (go u n c)
-  go_put u zero c p = p
-  go_put u (suc n) c p = go_put u n (step u c) (step_in u (λ G. Has G.host) (λ G. Has G.host) (leads u) c p)
+  pub go_put : (u : Code) → Adds u → (n : ℕ) (c : Conf) → HasPut c → HasPut (go u n c)
+  go_put u adds zero c p = p
+  go_put u adds (suc n) c p = go_put u adds n (step u c) (step_in u (λ G. Has G.host) (λ G. Has G.host) (leads u adds) c p)
 
 -- What a place shows, and what was put out there.
 
@@ -118,7 +124,7 @@ over_shows : (f : Option Fault) (v : Cell) (G : Store) (e : Ending) → elim f [
 over_shows None v G e eq = status_shows v G e eq
 over_shows (Some fault) v G e eq = sym (ap output_if eq)
 
-shows_put : (c : Conf) (e : Ending) → ending_at c ≡ Some e → output_of e ≡ put_at c
+pub shows_put : (c : Conf) (e : Ending) → ending_at c ≡ Some e → output_of e ≡ put_at c
 shows_put (Run ks vs K L F c G) e eq = sym (ap output_if eq)
 shows_put (Look x ks vs K L F c G) e eq = sym (ap output_if eq)
 shows_put (Over v G) e eq = over_shows G.host.fault v G e eq
@@ -140,8 +146,8 @@ put_shown o (Deep G) e eq h = h
 put_shown o Stuck e eq h = cc
 
 -- from one place to a later one
-pub shown_later : (u : Code) (n : ℕ) (c : Conf) (e g : Ending) → ending_at c ≡ Some e → ending_at (go u n c) ≡ Some g → Grows (output_of e) (output_of g)
-shown_later u n c e g was is =
+pub shown_later : (u : Code) → Adds u → (n : ℕ) (c : Conf) (e g : Ending) → ending_at c ≡ Some e → ending_at (go u n c) ≡ Some g → Grows (output_of e) (output_of g)
+shown_later u adds n c e g was is =
     let o = output_of e in
-    let h = go_put o u n c (subst (λ (x : List Action). HasPut x c) (sym (shows_put c e was)) (puts_its_own c)) in
+    let h = go_put o u adds n c (subst (λ (x : List Action). HasPut x c) (sym (shows_put c e was)) (puts_its_own c)) in
     subst (Grows o) (sym (shows_put (go u n c) g is)) (put_shown o (go u n c) g is h)

@@ -12,7 +12,7 @@ use Rattle.mid_program.specs.Mid.{Kind}
 use Rattle.value_machine.specs.Cells.{Cell, Bits, Held, LentArray, OwnedArray, IteratorOf, Gone, cell_at, globals_by, has_room, is_owned, left_in_global, may_come, none_owned}
 use Rattle.value_machine.specs.ImportCalls.{Host, call, look}
 use Rattle.value_machine.specs.Imports.{import_at, import_count}
-use Rattle.value_machine.specs.Machine.{Code, Callee, Conf, Run, Look, Over, Deep, Stuck, Frame, Label, Store, act, all_live, ask, ask_looking, assigning_after, assigning_then, at, br, br_if, call_number, choose, enter, guarded, label, leave, leave_function, operated, run_looking, set_global, set_local, step, takes_look, tee_local, teed, width, with_answer, with_operands, work, ending_name}
+use Rattle.value_machine.specs.Machine.{Code, Callee, Conf, Run, Look, Over, Deep, Stuck, Frame, Label, Store, act, all_live, ask, ask_looking, assigning_after, assigning_then, at, br, br_if, call_number, choose, enter, guarded, label, leave, leave_function, noted as noted_in, operated, run_looking, set_global, set_local, step, takes_look, tee_local, teed, width, with_answer, with_operands, work, ending_name}
 use Rattle.value_machine.specs.declared.import.Import.{Import}
 
 -- so it is of the store at this place
@@ -34,6 +34,7 @@ store_there R ks vs K L F (Then i is) G q = by (constant_of i) (λ w. store_ther
 -- where each change leads from stores of one kind to stores of another
 pub record Leads (u : Code) (P Q : Store → Type 0) : Type 0 where
   pub same : (G : Store) → P G → Q G
+  pub noted : (code : Instructions) (G : Store) → P G → Q (noted_in u code G)
   pub called : (i : Import) (cs : List Cell) (a : Option Cell × Host) (G : Store) → call u.memory i cs G.host ≡ Some a → P G → Q (record G { host = a.1; assigning = assigning_after i G })
   pub looked : (i : Import) (c : Cell) (a : Option Cell × Host) (G : Store) → look i c G.host ≡ Some a → P G → Q (record G { host = a.1 })
   pub read : (x : ℕ) (G : Store) → P G → Q (record G { globals = set G.globals x (left_in_global (cell_at G.globals x)) })
@@ -138,7 +139,7 @@ module _ (u : Code) (P Q : Store → Type 0) (leads : Leads u P Q) where
       by false = enter_in u.deepest _ ks vs K L F c G (leads.same G p)
 
   act_in : (i : Simple) (ks : List Kind) (vs : List Cell) (K : List Label) (L : List Cell) (F : List Frame) (c : Instructions) (G : Store) → P G → InStore Q (act u i ks vs K L F c G)
-  act_in simple.Nop ks vs K L F c G p = guarded_in _ _ (at_in ks vs K L F c G (leads.same G p))
+  act_in simple.Nop ks vs K L F c G p = guarded_in _ _ (at_in ks vs K L F c _ (leads.noted (Then (Plain simple.Nop) c) G p))
   act_in (simple.LocalGet x) ks vs K L F c G p = guarded_in _ _ (at_in ks _ K _ F c G (leads.same G p))
   act_in (simple.LocalSet x) ks vs K L F c G p = set_local_in x ks vs K L F c G (leads.same G p)
   act_in (simple.LocalTee x) ks vs K L F c G p = tee_local_in x ks vs K L F c G (leads.same G p)

@@ -125,6 +125,7 @@ module _ (u : Code) (T : ℕ → Type 0) where
   leads : Leads u Asks Told
   leads = record {
     same = λ G a. a.told;
+    noted = λ code G a. record { assigning = a.told.assigning; handles = a.told.handles };
     called = λ i cs r G e a. record { assigning = after_told i G a; handles = a.told.handles };
     looked = λ i c r G e a. record { assigning = a.told.assigning; handles = a.told.handles };
     read = λ x G a. record { assigning = a.told.assigning; handles = read_told x G a };

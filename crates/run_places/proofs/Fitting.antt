@@ -255,7 +255,7 @@ module _ (u : Code) (instructions places globals : ℕ) (Own : List Kind → Typ
 
     -- one operand more fits, in place of the instruction
     act_fits : (i : Simple) (ks : List Kind) (vs : List Cell) (K : List Label) (L : List Cell) (F : List Frame) (c : Instructions) (G : Store) → CodeFits (suc (length vs)) c K → RestFits ks K L F G → Fits (act u i ks vs K L F c G)
-    act_fits simple.Nop ks vs K L F c G h r = guarded_fits _ _ (at_fits ks vs K L F c G (omega (arith, h)) r)
+    act_fits simple.Nop ks vs K L F c G h r = guarded_fits _ _ (at_fits ks vs K L F c _ (omega (arith, h)) (with_host _ r))
     act_fits (simple.LocalGet x) ks vs K L F c G h r = guarded_fits _ _ (at_fits ks (cell_at L x ∷ vs) K (set L x (left_by (cell_at L x))) F c G h (with_local L x (left_by (cell_at L x)) r))
     act_fits (simple.LocalSet x) ks vs K L F c G h r = set_local_fits x ks vs K L F c G (omega (arith, h)) r
     act_fits (simple.LocalTee x) ks vs K L F c G h r = tee_local_fits x ks vs K L F c G (omega (arith, h)) r

@@ -66,6 +66,7 @@ module _ (u : Code) (job : JobForm) (W : ℕ → Type 0) where
   leads : Leads u Here Worded
   leads = record {
     same = λ G a. a.worded;
+    noted = λ code G a. record { pending = a.worded.pending; assigns = a.worded.assigns };
     called = λ i cs r G e a. after G (record G { host = r.1; assigning = assigning_after i G }) a (call_after G.host u.memory i cs r e);
     looked = λ i c r G e a. after G (record G { host = r.1 }) a (look_after G.host i c r e);
     read = λ x G a. record { pending = a.worded.pending; assigns = a.worded.assigns };

@@ -21,7 +21,7 @@ use Rattle.host_step.specs.Starts.{state_at_start}
 use Rattle.mid_program.specs.Mid.{Kind, Program}
 use Rattle.mid_program.specs.ScriptRun.{Setting}
 use Rattle.value_machine.specs.Cells.{Cell, globals_by, iterators_in, marks_fit, tidy_locals, tidy_name}
-use Rattle.value_machine.specs.Machine.{Code, Conf, Deep, Frame, Label, Look, Over, Run, Store, Stuck, at, ending_at, go, guarded, is_empty, loops_walked, step, tidy, ending_name}
+use Rattle.value_machine.specs.Machine.{Code, Conf, Deep, Frame, Label, Look, Over, Run, Store, Stuck, at, ending_at, go, guarded, is_empty, loops_walked, noted, step, tidy, ending_name}
 use Rattle.value_machine.specs.Modules.{all_callees, called_imports, globals_of, module_of, renumbered, renumbered_simple}
 use Rattle.value_machine.specs.Runs.{begun, code_of}
 use Rattle.value_machine.proofs.Runs.{go_add}
@@ -83,7 +83,7 @@ pub tidy_there : (u : Code) (ks : List Kind) (vs : List Cell) (K : List Label) (
 tidy_there u ks vs K L F Done G e alive = cc
 tidy_there u ks vs K L F (Then (Plain simple.Nop) k) G e alive = by (tidy u ks vs K L G) alive
   where
-    by : (b : Bool) → (guarded b (at ks vs K L F k G) ≡ Stuck → ⊥) → b ≡ true
+    by : (b : Bool) → (guarded b (at ks vs K L F k (noted u (Then (Plain simple.Nop) k) G)) ≡ Stuck → ⊥) → b ≡ true
     by true h = refl
     by false h = absurd (h refl)
 tidy_there u ks vs K L F (Then i k) G e alive = cc

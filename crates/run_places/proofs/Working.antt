@@ -164,7 +164,7 @@ module _ (u : Code) (Fun : Callee → Type 0) where
         by false = enter_stands (slice_get u.callees (n - import_count)) (bodies (n - import_count)) ks vs K L F c G w r
 
     act_stands : (i : Simple) (ks : List Kind) (vs : List Cell) (K : List Label) (L : List Cell) (F : List Frame) (c : Instructions) (G : Store) → Works ks c K → FramesWork F → Stands (act u i ks vs K L F c G)
-    act_stands simple.Nop ks vs K L F c G w r = guarded_stands _ _ (at_stands ks vs K L F c G w r)
+    act_stands simple.Nop ks vs K L F c G w r = guarded_stands _ _ (at_stands ks vs K L F c _ w r)
     act_stands (simple.LocalGet x) ks vs K L F c G w r = guarded_stands _ _ (at_stands ks (cell_at L x ∷ vs) K (set L x (left_by (cell_at L x))) F c G w r)
     act_stands (simple.LocalSet x) ks vs K L F c G w r = set_local_stands x ks vs K L F c G w r
     act_stands (simple.LocalTee x) ks vs K L F c G w r = tee_local_stands x ks vs K L F c G w r

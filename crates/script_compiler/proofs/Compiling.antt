@@ -18,6 +18,7 @@ use Rattle.value_machine.specs.Modules.{module_of}
 use Rattle.value_refined.proofs.Links.{numbers_are, program}
 use Rattle.module_agreement.specs.Agreement.{Agreement}
 use Rattle.module_agreement.proofs.Exchanged.{agreement_as}
+use Rattle.passed_places.specs.Passed.{Passes, probed_run}
 use Rattle.run_places.specs.Existence.{HasRuns}
 use Rattle.run_places.proofs.Parameters.{few_parameters}
 use Rattle.run_places.proofs.Spelled.{spelled_small}
@@ -50,8 +51,8 @@ texts_small p v m h = (spelled_small p v m h).texts
 pub compiled : (bytes v : List ℕ) (p : Program) (t : HasTokens bytes (λ tokens. IsCodeOf tokens p)) → IsModule v (module_of p) → Agreement (mid_run_in p) (module_of p) → ModuleOk (module_of p) →
     (main : ℕ) → main_of (module_of p) ≡ Some main → SegmentsFit (module_of p) →
     ((job : JobForm) (input : Source) (outside : Outside) → HasRuns (module_of p) job input outside) → KeepsNothing p (module_of p) →
-    IsQuiet p (module_of p) → ((script : Resolved) → UnboxesNumbers script (unboxed (program_of script))) → IsCompiled bytes v
-compiled bytes v p t m agreement typed main main_is segments runs keeps quiet unboxes =
+    IsQuiet p (module_of p) → Passes (probed_run p) (module_of p) → ((script : Resolved) → UnboxesNumbers script (unboxed (program_of script))) → IsCompiled bytes v
+compiled bytes v p t m agreement typed main main_is segments runs keeps quiet passes unboxes =
     let c = t.said in
     record {
       short = t.short;
@@ -70,6 +71,7 @@ compiled bytes v p t m agreement typed main main_is segments runs keeps quiet un
       whole_is = refl;
       keeps = keeps;
       quiet = quiet;
+      passes = passes;
       unboxed_names = subst (λ (code : Program). UnboxesNumbers (resolved c.script) code) (sym c.code) (unboxes (resolved c.script));
     }
 

@@ -34,6 +34,7 @@ use Rattle.value_machine.specs.Places.{Bases, place_of, memory_of, handle_global
 use Rattle.value_machine.specs.Small.{does as instruction}
 use Rattle.value_machine.specs.Statements.{declared, declared_kind, names_declared, routines_declared, names_made}
 use Rattle.value_machine.specs.declared.import.Import.TheVariants.{Of}
+use Rattle.value_machine.proofs.Watch.{Watch}
 use Rattle.value_machine.proofs.Runs.{Goes, goes_to, then_goes, stays}
 use Rattle.value_machine.proofs.Regions.{upd, upd_same, upd_other, behind_at}
 use Rattle.value_machine.proofs.Globals.{Globals, Hand, placed}
@@ -144,7 +145,7 @@ kind_read memory ArrayOrFunction = refl
 abbrev pub host_with : Shared → Host
 host_with sh = record { shared = sh; arguments = []; fault = None }
 
-module _ (p : Program) (deepest : ℕ) (b : Bases) (K : List Label) (L gs : List Cell) where
+module _ (p : Program) (deepest : Watch) (b : Bases) (K : List Label) (L gs : List Cell) where
   -- one name is told
   tell_ok : (i : ℕ) (t : Telling) (sh : Shared) (k : Instructions) → get_or (texts_of p) i [] ≡ t.0 → told_at 0 t.0 sh.inner.names ≡ None →
       Goes (machine p deepest [] []) 1 (at [] [] K L [] (declared (layout_of p b) t.1 i k) (storing gs (host_with sh))) (at [] [] K L [] k (storing gs (host_with (shared_after sh (meaning row.Declare (t.0, (t.1, tt)) sh)))))
@@ -202,7 +203,7 @@ abbrev pub make_work : List Kind → ℕ
 make_work [] = 0
 make_work (k ∷ ks) = 2 + make_work ks
 
-module _ (p : Program) (deepest : ℕ) (b : Bases) (K : List Label) (L : List Cell) where
+module _ (p : Program) (deepest : Watch) (b : Bases) (K : List Label) (L : List Cell) where
   abbrev pub kinds : List Kind
   kinds = kinds_of p.globals
 

@@ -29,9 +29,10 @@ use Rattle.value_machine.specs.ImportCalls.{Host, Acts, with_some, where_so, row
 use Rattle.value_machine.specs.ImportCalls
 use Rattle.value_machine.specs.Machine.{Code, Conf, Label, Frame, Store, at, br, all_live, assigning_after, onto, width}
 use Rattle.value_machine.specs.Places.{Bases}
-use Rattle.value_machine.specs.Runs.{code_of}
+use Rattle.value_machine.specs.Runs.{noting_code}
 use Rattle.value_machine.specs.Small.{ask_row, kept, least}
 use Rattle.value_machine.specs.declared.import.Import.TheVariants.{Of}
+use Rattle.value_machine.proofs.Watch.{Watch}
 use Rattle.value_machine.proofs.Runs.{Goes, goes_to, Arrives, there, faulted}
 use Rattle.value_machine.proofs.Locals.{Locals, Hand, Number as NumberAt, with_at, laid}
 use Rattle.value_machine.proofs.Regions.{upd_same}
@@ -72,9 +73,9 @@ abbrev pub reply : (a : Answer) → Result (InAnswer a) Fault → List Cell → 
 reply a (Ok x) vs = onto (cell_of a x) vs
 reply a (Err f) vs = onto (fault_cell a) vs
 
-module _ (p : Program) (deepest : ℕ) (ks : List Kind) (F : List Frame) where
+module _ (p : Program) (deepest : Watch) (ks : List Kind) (F : List Frame) where
   abbrev pub machine : Code
-  machine = code_of p deepest
+  machine = noting_code deepest.notes p deepest.callers
 
   abbrev pub beside_state : State → Store
   beside_state σ = store p.ranges (kinds_of p.globals) σ

@@ -27,6 +27,7 @@ use Rattle.value_machine.specs.ImportCalls.{with_some, and_rest, in_sort, row_in
 use Rattle.value_machine.specs.Imports.{params_of}
 use Rattle.value_machine.specs.Machine.{Conf, Label, Frame, at, all_live, live_if_lent}
 use Rattle.value_machine.specs.Places.{Bases}
+use Rattle.value_machine.proofs.Watch.{Watch}
 use Rattle.value_machine.proofs.Runs.{Goes, then_goes, stays, goes_to, there, first, then_both}
 use Rattle.value_machine.proofs.Regions.{upd_same}
 use Rattle.value_machine.proofs.Locals.{Locals, Hand, Number as NumberAt, with_at, laid}
@@ -77,7 +78,7 @@ no_iterator (Answered (answer.Of sort.Value)) e = cc
 no_iterator Bare e = cc
 no_iterator f e = cc
 
-module _ (p : Program) (deepest : ℕ) (ks : List Kind) (F : List Frame) (b : Bases) (M n : ℕ) where
+module _ (p : Program) (deepest : Watch) (ks : List Kind) (F : List Frame) (b : Bases) (M n : ℕ) where
   pub record RowDone (wanted : List Argument) (es : Codes) (t q i w : ℕ) (k : Instructions) (K : List Label) (l : Locals) (r : Row wanted) (σ : State) (c : Conf) : Type 0 where
     pub next : Locals
     pub comes : c ≡ at ks [] K (laid b next) F k (beside_state p deepest ks F σ)

@@ -15,6 +15,7 @@ use Rattle.value_machine.specs.Functions.{layout_of}
 use Rattle.value_machine.specs.ImportCalls.{in_sort}
 use Rattle.value_machine.specs.Machine.{Label, Frame, at, is_live, live_if_lent, owner_waits}
 use Rattle.value_machine.specs.Places.{Bases, array_name}
+use Rattle.value_machine.proofs.Watch.{Watch}
 use Rattle.value_machine.proofs.Runs.{Goes, stays}
 use Rattle.value_machine.proofs.Globals.{Hand, placed_at}
 use Rattle.value_machine.proofs.Locals.{Locals, Param, laid}
@@ -45,7 +46,7 @@ owner_at [] x a e = cc
 owner_at (c ∷ cs) zero a e = or_left (owns a c) (has_owner a cs) (ap (owns a) e ∙ eq-eqb a a refl)
 owner_at (c ∷ cs) (suc x) a e = or_right (owns a c) (has_owner a cs) (owner_at cs x a e)
 
-module _ (p : Program) (deepest : ℕ) (ks : List Kind) (F : List Frame) where
+module _ (p : Program) (deepest : Watch) (ks : List Kind) (F : List Frame) where
   -- the global of an array's name has the array
   array_owned : (i : ℕ) (σ : State) → i < arrays_among p.globals → (cells_of (kinds_of p.globals) 0 σ).hand (array_name (kinds_of p.globals) i) ≡ OwnedArray (suc (suc i))
   array_owned i σ h =

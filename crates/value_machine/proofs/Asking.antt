@@ -30,6 +30,7 @@ use Rattle.value_machine.specs.Places.{Bases}
 use Rattle.value_machine.specs.Small.{does, ask_row, when, number_is, kept_code}
 use Rattle.value_machine.specs.Small
 use Rattle.value_machine.specs.declared.import.Import.TheVariants.{Of}
+use Rattle.value_machine.proofs.Watch.{Watch}
 use Rattle.value_machine.proofs.Runs.{Goes, then_goes, goes_to, by_steps, there, faulted, turned, weaker}
 use Rattle.value_machine.proofs.Regions.{upd_same}
 use Rattle.value_machine.proofs.Locals.{Locals, Hand, Number as NumberAt, with_at, laid}
@@ -64,7 +65,7 @@ line_if : (t : Bool) (j : Inner) (x : InputAnswer) → LineIf t (Ok (j, x)) → 
 line_if true j x h = h
 line_if false j x h = h
 
-module _ (p : Program) (deepest : ℕ) (ks : List Kind) (F : List Frame) (b : Bases) (M n : ℕ) where
+module _ (p : Program) (deepest : Watch) (ks : List Kind) (F : List Frame) (b : Bases) (M n : ℕ) where
   -- The loop: a call is made until no assignment is pending.
 
   abbrev pub behind_call : (t d : ℕ) → Instructions

@@ -16,6 +16,7 @@ use Rattle.value_machine.specs.Machine.{Frame, loops_walked}
 use Rattle.value_machine.specs.Places.{Bases}
 use Rattle.value_machine.specs.Small.{number_is, when, code_number}
 use Rattle.value_machine.specs.Small
+use Rattle.value_machine.proofs.Watch.{Watch}
 use Rattle.value_machine.proofs.Runs.{by_steps, first, then_on, weaker, weaker_settled}
 use Rattle.value_machine.proofs.Relation.{kept_same, same_then, Away}
 use Rattle.value_machine.proofs.Answers.{machine}
@@ -26,7 +27,7 @@ use Rattle.value_machine.proofs.Asking.{assign_work, Asked, asked_ok, asks_recor
 use Rattle.value_machine.proofs.Receiving.{same_any, Received, storing_meant, received_ok}
 use Rattle.value_machine.proofs.Simulation.{work_of, layout, context, Done, ExprOk, walking_same}
 
-module _ (p : Program) (deepest : ℕ) (ks : List Kind) (F : List Frame) (b : Bases) (M n : ℕ) where
+module _ (p : Program) (deepest : Watch) (ks : List Kind) (F : List Frame) (b : Bases) (M n : ℕ) where
   pub ask_expr : assign_work p deepest ks F b M n ≤ M → ExprOk p deepest ks F b M n Ask
   unfolding emitted all_emitted evaluated all_evaluated sorted all_sorted
   ask_expr enough v fs env ts st t u w d k K l σ so us rm ar rd =

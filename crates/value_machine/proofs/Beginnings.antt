@@ -15,11 +15,12 @@ use Rattle.mid_program.specs.ScriptState.{State, Outcome, Gives, Stops, Doing, �
 use Rattle.mid_program.specs.Sorted.{kinds_of, all_differ, announced_names}
 use Rattle.value_machine.specs.Cells.{Cell, Bits}
 use Rattle.value_machine.specs.Functions.{layout_of}
-use Rattle.value_machine.specs.Machine.{Label, at}
+use Rattle.value_machine.specs.Machine.{Notes, Label, at}
 use Rattle.value_machine.specs.Places.{Bases}
 use Rattle.value_machine.specs.Runs.{first_globals, zero_ranges, empty_names}
 use Rattle.value_machine.specs.Small.{least}
 use Rattle.value_machine.specs.Statements.{declared, names_declared, routines_declared, names_made}
+use Rattle.value_machine.proofs.Watch.{watched}
 use Rattle.value_machine.proofs.Runs.{Goes, goes_to, goes_from, then_goes}
 use Rattle.value_machine.proofs.Regions.{cells, pairs, pairs_same}
 use Rattle.value_machine.proofs.Globals.{Globals, placed}
@@ -93,7 +94,7 @@ on_both : {A B C : Type 0} → (r : Outcome A) (m : Doing B) (f : B → Doing C)
 on_both (Gives a σ) m f = refl
 on_both (Stops why σ) m f = refl
 
-module _ (p : Program) (s : Setting) (b : Bases) (turns : ℕ) (differ : all_differ (announced_names p) ≡ true) where
+module _ (p : Program) (notes : Notes) (s : Setting) (b : Bases) (turns : ℕ) (differ : all_differ (announced_names p) ≡ true) where
   -- a script's state as it begins
   abbrev pub begins : State
   begins = start s (names_length (map global_name p.globals)) turns
@@ -128,11 +129,11 @@ module _ (p : Program) (s : Setting) (b : Bases) (turns : ℕ) (differ : all_dif
     pub last : Shared
     pub steps : ℕ
     pub few : steps ≤ tell_work globals_then + make_work (kinds_of p.globals)
-    pub goes : Goes (machine p s.deepest [] []) steps (at [] [] K L [] (naming k) (storing (placed p.ranges (length (kinds_of p.globals)) first_cells) (host_of begins None))) (at [] [] K L [] k (beside_state p s.deepest [] [] (record begins { shared = last })))
+    pub goes : Goes (machine p (watched notes s) [] []) steps (at [] [] K L [] (naming k) (storing (placed p.ranges (length (kinds_of p.globals)) first_cells) (host_of begins None))) (at [] [] K L [] k (beside_state p (watched notes s) [] [] (record begins { shared = last })))
     pub means : (rest : Doing (Unit {0})) → named_meant rest begins ≡ rest (record begins { shared = last })
     pub calm : Calm p last
 
-  made_store : (hands : ℕ → Cell) (last : Shared) → ((x : ℕ) → x < length (kinds_of p.globals) → hands x ≡ first_hand p s.deepest b [] [] x) →
+  made_store : (hands : ℕ → Cell) (last : Shared) → ((x : ℕ) → x < length (kinds_of p.globals) → hands x ≡ first_hand p (watched notes s) b [] [] x) →
       placed p.ranges (length (kinds_of p.globals)) (record first_cells { hand = hands }) ≡ placed p.ranges (length (kinds_of p.globals)) (cells_of (kinds_of p.globals) 0 (record begins { shared = last }))
   made_store hands last each =
       let ks = kinds_of p.globals in
@@ -149,10 +150,10 @@ module _ (p : Program) (s : Setting) (b : Bases) (turns : ℕ) (differ : all_dif
       let ks = kinds_of p.globals in
       let gs = placed p.ranges (length ks) first_cells in
       let after = names_made y zero ks k in
-      let told = tells_ok p s.deepest b K L gs globals_then (length p.texts) p.texts [] after begins (ap (λ r. p.texts ++ r) (names_alike ∙ sym (append-nil (names_in globals_then)))) refl
+      let told = tells_ok p (watched notes s) b K L gs globals_then (length p.texts) p.texts [] after begins (ap (λ r. p.texts ++ r) (names_alike ∙ sym (append-nil (names_in globals_then)))) refl
       (subst Differ names_alike (they_differ (announced_names p) differ)) (none_told (names_in globals_then)) in
       let σ1 : State = record begins { shared = told.last } in
-      let made = names_ok p s.deepest b K L ks zero zero k first_cells σ1 (record {
+      let made = names_ok p (watched notes s) b K L ks zero zero k first_cells σ1 (record {
         alike = λ x. let z : zero + x ≡ x = omega arith in ap (kind_here ks) z;
         counted = λ x. let z : zero + x ≡ x = omega arith in ap (arrays_before ks) z ∙ omega arith;
         size = omega arith;

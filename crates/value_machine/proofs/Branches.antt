@@ -6,16 +6,18 @@ use Rattle.awk_state.specs.Constants.{flag_number}
 use Rattle.wasm_types.specs.Syntax.{Instructions, Done as NoMore}
 use Rattle.wasm_store.specs.declared.word.Word.TheVariants.{I32}
 use Rattle.mid_program.specs.Mid.{Kind, Program, Code, Step, form_of}
-use Rattle.mid_program.specs.MidMeaning.{holds, mid_called, truth_in}
+use Rattle.mid_program.specs.MidMeaning.{holds, truth_in}
 use Rattle.mid_program.specs.ScriptState.{State, Stop, Doing}
 use Rattle.mid_program.specs.Sorted.{There, calls_of, sorted, is_tested, test_sorted, step_sorted}
 use Rattle.mid_program.specs.Statements.{Flow, Normal, Broke, Continued}
 use Rattle.value_machine.specs.Cells.{Cell, Bits}
 use Rattle.value_machine.specs.Emission.{tested}
 use Rattle.value_machine.specs.Machine.{Conf, Label, Frame, at, label}
+use Rattle.value_machine.specs.Noted.{noted_called}
 use Rattle.value_machine.specs.Places.{Bases, room, arrays_in, step_room, step_iterators, step_arrays}
 use Rattle.value_machine.specs.Small.{truth}
 use Rattle.value_machine.specs.Statements.{step_emitted}
+use Rattle.value_machine.proofs.Watch.{Watch}
 use Rattle.value_machine.proofs.Runs.{goes_from, then_on, there, within, Onward, stays}
 use Rattle.value_machine.proofs.Locals.{Locals, laid}
 use Rattle.value_machine.proofs.Relation.{Away}
@@ -27,7 +29,7 @@ use Rattle.value_machine.proofs.Choosing.{truth_ok}
 use Rattle.value_machine.proofs.StatementForms.{step_work, step_meant, Starts, ready, starts_after, starts_among, StepDone, StepOk}
 use Rattle.value_machine.proofs.Sequences.{done_before}
 
-module _ (p : Program) (deepest : ℕ) (ks : List Kind) (F : List Frame) (b : Bases) (M n : ℕ) where
+module _ (p : Program) (deepest : Watch) (ks : List Kind) (F : List Frame) (b : Bases) (M n : ℕ) where
   -- a truth is on the stack
   pub record TestDone (k : Instructions) (K : List Label) (u : ℕ) (l : Locals) (x : Bool) (σ : State) (c : Conf) : Type 0 where
     pub next : Locals
@@ -37,7 +39,7 @@ module _ (p : Program) (deepest : ℕ) (ks : List Kind) (F : List Frame) (b : Ba
 
   -- whether a test holds
   abbrev pub test_meant : Code → Doing Bool
-  test_meant e = holds p.texts (calls_of p) n (mid_called p n) e
+  test_meant e = holds p.texts (calls_of p) n (noted_called deepest.notes p n) e
 
   pub test_ok : (e : Code) → ExprOk p deepest ks F b M n e → (u d : ℕ) (k : Instructions) (K : List Label) (l : Locals) (σ : State) → test_sorted (context p deepest ks F b M n) e ≡ true → room e ≤ b.temporaries → arrays_in e ≤ b.arrays → Starts p deepest ks F b M n u K l σ →
       Reached p deepest ks F b M (work_of e + 14) σ.turns (at ks [] K (laid b l) F (tested (layout p deepest ks F b M n) [] [] e zero zero d k) (beside_state p deepest ks F σ)) (TestDone k K u l) (Away p deepest ks F b d K) (test_meant e σ)
@@ -91,11 +93,11 @@ module _ (p : Program) (deepest : ℕ) (ks : List Kind) (F : List Frame) (b : Ba
   -- a step in a block of its own
   pub inner_step : (x : Step) → StepOk p deepest ks F b M n x → (r lo : Bool) (u d bk ct w : ℕ) (k : Instructions) (K : List Label) (l l1 : Locals) (σ : State) →
       step_sorted (context p deepest ks F b M n) r lo x ≡ true → step_room x ≤ b.temporaries → u + step_iterators x ≤ b.iterators → step_arrays x ≤ b.arrays → step_work x ≤ M → step_work x + 1 ≤ w → ((y : ℕ) → l1.iterator y ≡ l.iterator y) → Starts p deepest ks F b M n u K l1 σ →
-      Reached p deepest ks F b M w σ.turns (at ks [] (label [] None k ∷ K) (laid b l1) F (step_emitted (layout p deepest ks F b M n) x u (suc d) (suc bk) (suc ct) NoMore) (beside_state p deepest ks F σ)) (StepDone p deepest ks F b M n lo u bk ct k K l) (Away p deepest ks F b d K) (step_meant p deepest ks F b M n x σ)
+      Reached p deepest ks F b M w σ.turns (at ks [] (label [] None k ∷ K) (laid b l1) F (step_emitted (layout p deepest ks F b M n) x u (suc d) (suc bk) (suc ct) NoMore) (beside_state p deepest ks F σ)) (StepDone p deepest ks F b M n lo u bk ct k K l) (Away p deepest ks F b d K) (step_meant p deepest ks F b M n x u (suc d) (suc bk) (suc ct) NoMore σ)
   inner_step x ok r lo u d bk ct w k K l l1 σ so rm it ar wk le same s =
       let K1 = label [] None k ∷ K in
-      within (machine p deepest ks F) M (step_work x + 1) w σ.turns _ (StepDone p deepest ks F b M n lo u bk ct k K l) (Away p deepest ks F b d K) (step_meant p deepest ks F b M n x σ) le
-      (done_before p deepest ks F b M n (step_work x + 1) σ.turns lo u bk ct k K l l1 _ (Away p deepest ks F b d K) (step_meant p deepest ks F b M n x σ) same
-      (blocked p deepest ks F b M (step_work x) σ.turns d k K _ (StepDone p deepest ks F b M n lo u (suc bk) (suc ct) NoMore K1 l1) (StepDone p deepest ks F b M n lo u bk ct k K l1) (step_meant p deepest ks F b M n x σ)
+      within (machine p deepest ks F) M (step_work x + 1) w σ.turns _ (StepDone p deepest ks F b M n lo u bk ct k K l) (Away p deepest ks F b d K) (step_meant p deepest ks F b M n x u (suc d) (suc bk) (suc ct) NoMore σ) le
+      (done_before p deepest ks F b M n (step_work x + 1) σ.turns lo u bk ct k K l l1 _ (Away p deepest ks F b d K) (step_meant p deepest ks F b M n x u (suc d) (suc bk) (suc ct) NoMore σ) same
+      (blocked p deepest ks F b M (step_work x) σ.turns d k K _ (StepDone p deepest ks F b M n lo u (suc bk) (suc ct) NoMore K1 l1) (StepDone p deepest ks F b M n lo u bk ct k K l1) (step_meant p deepest ks F b M n x u (suc d) (suc bk) (suc ct) NoMore σ)
       (λ f τ c1 h. block_ends lo u bk ct k K l1 f τ c1 h)
       (ok r lo u (suc d) (suc bk) (suc ct) NoMore K1 l1 σ so rm it ar wk (starts_among p deepest ks F b M n u K K1 l1 σ refl s))))

@@ -12,15 +12,17 @@ use Rattle.wasm_types.specs.Syntax.{Instructions}
 use Rattle.wasm_types.specs.declared.instr.Simple.TheVariants.{Call as CallOf}
 use Rattle.wasm_store.specs.declared.word.Word.TheVariants.{I64}
 use Rattle.mid_program.specs.Mid.{Kind, Boxed, Unboxed, Many, Program, Routine, Form, Answered, Bare, Perhaps, a_value, Code, Call, Codes, End, At, Fixed, Fresh, form_of, parameters_at}
-use Rattle.mid_program.specs.MidMeaning.{Holds, Values, evaluated, all_evaluated, boxed, array_in, locals_of, mid_called}
+use Rattle.mid_program.specs.MidMeaning.{Holds, Values, evaluated, all_evaluated, boxed, array_in, locals_of}
 use Rattle.mid_program.specs.Names.{ArrayName}
 use Rattle.mid_program.specs.ScriptState.{State, Stop, Faulted, OutOfTurns, TooDeep, Nexted, Exited, Returned, Outcome, Gives, Stops, Own, Local, Scalar, value_in_local, array_in_local, go_on, spent}
 use Rattle.mid_program.specs.Sorted.{sorted, all_sorted, held_after_all, fits, is_given, fit_call, is_array_place, context_of, calls_of}
 use Rattle.value_machine.specs.Cells.{Cell, Bits, Held, OwnedArray, LentArray, Gone, is_owned, has_owner}
 use Rattle.value_machine.specs.Emission.{array_meant, emitted, all_emitted, all_given, all_given_pushed, all_freed, function_number}
 use Rattle.value_machine.specs.Machine.{Conf, Deep, Label, Frame, at, br, owner_waits, loops_walked, waits}
+use Rattle.value_machine.specs.Noted.{noted_called}
 use Rattle.value_machine.specs.Places.{Bases, made_in, arrays_among as arrays_in_codes}
 use Rattle.value_machine.specs.Small.{does, kept_value, h}
+use Rattle.value_machine.proofs.Watch.{Watch}
 use Rattle.value_machine.proofs.Runs.{Goes, then_goes, goes_to, goes_from, stays, Arrives, Onward, reaches_on, first, then_on, then_step, within}
 use Rattle.value_machine.proofs.Regions.{upd_same, upd_other}
 use Rattle.value_machine.proofs.Locals.{Locals, Hand, Number as NumberAt, Array as Yard, local_of, with_at, has_with, laid, laid_at, laid_twice, laid_again}
@@ -77,7 +79,7 @@ made_is w (At e es) = made_is w es
 made_is w (Fixed m es) = made_is w es
 made_is w (Fresh es) = let r = made_is (suc w) es in omega (arith, r)
 
-module _ (p : Program) (deepest : ℕ) (ks : List Kind) (F : List Frame) (b : Bases) (M n : ℕ) where
+module _ (p : Program) (deepest : Watch) (ks : List Kind) (F : List Frame) (b : Bases) (M n : ℕ) where
   array_there : (f : Form) (x : Holds f) (a : ArrayName) (t : ℕ) (l : Locals) (σ : State) → fits f sort.Array ≡ true → HoldsAt f t l x → Meant p deepest ks F f x a σ → (l.hand t ≡ empty) × (array_at a σ ≡ array_in f x) × (is_array_place (context_of p ks) a ≡ true)
   array_there (Answered (answer.Of sort.Array)) x a t l σ e hd m = (hd.0, m.0, m.1)
   array_there f x a t l σ e hd m = absurd (true≢false (sym e))
@@ -343,7 +345,7 @@ module _ (p : Program) (deepest : ℕ) (ks : List Kind) (F : List Frame) (b : Ba
   abbrev pub CallsDo : Type 0
   CallsDo = (f : ℕ) (own : List Local) (words : List Cell) (K : List Label) (L : List Cell) (rest : Instructions) (σ : State) → f < length p.routines → waits ks K L rest ≡ true →
       GivenTo (parameters_at (calls_of p) f) (waiting K L rest ∷ F) (parameters_at (calls_of p) f) own words → Sound p deepest ks F σ → σ.turns ≤ n →
-      Arrives (machine p deepest ks F) M 20 σ.turns (at ks (reverse words ++ []) K L F (does (CallOf (function_number f)) rest) (beside_state p deepest ks F σ)) (CameBack K L rest σ) (LeftCall K L rest) (go_on (spent σ.turns σ) (λ x. mid_called p n f own))
+      Arrives (machine p deepest ks F) M 20 σ.turns (at ks (reverse words ++ []) K L F (does (CallOf (function_number f)) rest) (beside_state p deepest ks F σ)) (CameBack K L rest σ) (LeftCall K L rest) (go_on (spent σ.turns σ) (λ x. noted_called deepest.notes p n f own))
 
   lent_live : (kinds : List Kind) (K : List Label) (rest : Instructions) (l l1 : Locals) (a : ℕ) (c : Cell) → ((x : ℕ) → l1.array x ≡ l.array x) → LentFor l a c → IsArray p deepest kinds (waiting K (laid b l1) rest ∷ F) a c
   lent_live kinds K rest l l1 a c same (inl (inl q)) = inl q
@@ -455,7 +457,7 @@ module _ (p : Program) (deepest : ℕ) (ks : List Kind) (F : List Frame) (b : Ba
       let zf = z.few in
       let own = locals_of fs pks es vs in
       first mach M (g.steps + z.steps) (26 + 3 * made_in es) (26 + extra_of es) τ.turns c1 _ P Q _ (goes_from a.comes (then_goes g.goes z.goes)) (omega (arith, gf, zf, ex))
-      (then_step mach M (3 + 3 * made_in es) 23 (26 + 3 * made_in es) τ.turns _ (CameBack K (laid b z.next) k4 τ) P Q (go_on (spent τ.turns τ) (λ x. mid_called p n f own)) (omega arith)
+      (then_step mach M (3 + 3 * made_in es) 23 (26 + 3 * made_in es) τ.turns _ (CameBack K (laid b z.next) k4 τ) P Q (go_on (spent τ.turns τ) (λ x. noted_called deepest.notes p n f own)) (omega arith)
       (λ x τ1 c2 cb.
       let l3 = with_at z.next (Hand t) (Held x) in
       let f1 = fit_back t u (made_past w es) z.next τ τ1 cb.own cb.sound z.fit in
@@ -483,6 +485,6 @@ module _ (p : Program) (deepest : ℕ) (ks : List Kind) (F : List Frame) (b : Ba
           meant = tt;
         };
       })
-      (left_onward 3 20 23 τ.turns _ (CameBack K (laid b z.next) k4 τ) (LeftCall K (laid b z.next) k4) Q (go_on (spent τ.turns τ) (λ x. mid_called p n f own)) (omega arith)
+      (left_onward 3 20 23 τ.turns _ (CameBack K (laid b z.next) k4 τ) (LeftCall K (laid b z.next) k4) Q (go_on (spent τ.turns τ) (λ x. noted_called deepest.notes p n f own)) (omega arith)
       (λ why τ1 c2 q. leaves_too t u (made_past w es) d k5 K z.next τ why τ1 c2 (λ e. let none = ap length e in omega (arith, none, fl)) (omega (arith, rm)) z.fit q)
       (calls f own z.words K (laid b z.next) k4 τ (omega (arith, fl, ln)) (waits_there p deepest ks F b M n t u (made_past w es) d k5 K z.next τ z.fit (walking_same p deepest ks F b M n (loops_walked K) u l z.next (λ x. z.under.iterators x ∙ (g.under.iterators x ∙ a.same.iterators x)) rd.walking) rd.parameters (omega (arith, rm))) (to_given pks K k4 g.next z.next pks own z.words z.under.arrays z.given) z.fit.sound (omega (arith, le, rd.turns))))))

@@ -30,6 +30,7 @@ use Rattle.value_machine.specs.Machine.{Conf, Label, Frame, at, label, loops_wal
 use Rattle.value_machine.specs.Places.{Bases, room, arrays_in}
 use Rattle.value_machine.specs.Small.{does, ask_row, either, moved_out, number_is, not_zero, zeroed, truth, text_beside, least, h}
 use Rattle.value_machine.specs.Small
+use Rattle.value_machine.proofs.Watch.{Watch}
 use Rattle.value_machine.proofs.Runs.{Goes, then_goes, goes_to, goes_from, by_steps, first, then_on, step_settled, within, weaker}
 use Rattle.value_machine.proofs.Regions.{upd_same}
 use Rattle.value_machine.proofs.Locals.{Locals, Hand, Number as NumberAt, with_at, laid}
@@ -113,7 +114,7 @@ chosen_plain sort.Number e = tt
 chosen_plain sort.Array e = absurd cc
 chosen_plain sort.Iterator e = tt
 
-module _ (p : Program) (deepest : ℕ) (ks : List Kind) (F : List Frame) (b : Bases) (M n : ℕ) where
+module _ (p : Program) (deepest : Watch) (ks : List Kind) (F : List Frame) (b : Bases) (M n : ℕ) where
   -- a truth is on the stack, and the temporary is free
   pub record Tested (t u w : ℕ) (k : Instructions) (K : List Label) (l : Locals) (σ : State) (x : Bool) (c : Conf) : Type 0 where
     pub next : Locals

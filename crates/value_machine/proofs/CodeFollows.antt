@@ -1,12 +1,15 @@
--- The machine shows what a program does, for every well-sorted program.
-use Rattle.std.proofs.Common.{ℕ, ◌+◌, ◌*◌, length, refl, arith}
+-- The machine shows what a program does, for every well-sorted program: with notes, and so without.
+use Rattle.std.proofs.Common.{ℕ, ◌+◌, ◌*◌, length, refl, subst, arith}
 use Rattle.mid_program.specs.Mid.{Program}
+use Rattle.mid_program.specs.ScriptRun.{Ending}
 use Rattle.mid_program.specs.Sorted.{IsSorted, kinds_of}
-use Rattle.value_machine.specs.Follows.{EmissionFollows}
+use Rattle.value_machine.specs.Follows.{Shown, EmissionFollows, EmissionNotes}
 use Rattle.value_machine.specs.Functions.{main_bases}
+use Rattle.value_machine.specs.Machine.{no_notes}
 use Rattle.value_machine.proofs.Recursion.{exprs_do}
 use Rattle.value_machine.proofs.MainInput.{reading, starting}
-use Rattle.value_machine.proofs.Following.{Helped, emission_follows}
+use Rattle.value_machine.proofs.Following.{Helped, emission_notes}
+use Rattle.value_machine.proofs.Silent.{silent_run}
 
 helped : (p : Program) → Helped p
 helped p = record {
@@ -18,5 +21,10 @@ helped p = record {
   reading = λ M deepest n le. reading p deepest (main_bases p) M n refl (omega arith);
 }
 
+pub code_notes : EmissionNotes
+code_notes = emission_notes (λ p ok. helped p)
+
 pub code_follows : EmissionFollows
-code_follows = emission_follows (λ p ok. helped p)
+code_follows p ok =
+    let f = code_notes p ok in
+    record { bound = f.bound; shown = λ s turns. subst (λ (e : Ending). Shown p s turns (f.bound * (turns + 1)) e) (silent_run p s turns) (f.shown no_notes s turns) }

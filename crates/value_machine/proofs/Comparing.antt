@@ -34,6 +34,7 @@ use Rattle.value_machine.specs.Machine.{Conf, Label, Frame, at, label}
 use Rattle.value_machine.specs.Places.{Bases}
 use Rattle.value_machine.specs.Small.{does, ask_row, text_beside, moved_out, kept_code, to_value, h}
 use Rattle.value_machine.specs.Small
+use Rattle.value_machine.proofs.Watch.{Watch}
 use Rattle.value_machine.proofs.Runs.{Goes, then_goes, goes_to, goes_from, by_steps, stays, there, first, then_on, within, weaker, weaker_settled, Onward}
 use Rattle.value_machine.proofs.Regions.{upd_same, upd_other}
 use Rattle.value_machine.proofs.Locals.{Locals, Hand, Number as NumberAt, with_at, laid, laid_again}
@@ -77,7 +78,7 @@ no_text_there : (f : Form) (x : Holds f) → may_be_text f ≡ false → text_fl
 no_text_there Bare x e = cc
 no_text_there f x e = refl
 
-module _ (p : Program) (deepest : ℕ) (ks : List Kind) (F : List Frame) (b : Bases) (M n : ℕ) where
+module _ (p : Program) (deepest : Watch) (ks : List Kind) (F : List Frame) (b : Bases) (M n : ℕ) where
   -- at the end of a block what was put is there still
   pub put_closes : (t u w : ℕ) (f : Form) (k : Instructions) (K : List Label) (l : Locals) (x : Holds f) (σ : State) (c : Conf) → Put p deepest ks F b t u w f NoMore (label [] None k ∷ K) l x σ c → Onward (machine p deepest ks F) M 1 (Put p deepest ks F b t u w f k K l x σ) c
   put_closes t u w f k K l x σ c a = record {

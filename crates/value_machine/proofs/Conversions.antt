@@ -28,6 +28,7 @@ use Rattle.value_machine.specs.ImportCalls.{with_some, and_rest, row_in}
 use Rattle.value_machine.specs.Machine.{Label, Frame, at, go}
 use Rattle.value_machine.specs.Places.{Bases}
 use Rattle.value_machine.specs.Small.{does, ask_row, either, when, least, text_beside, boxed_number, boxed_perhaps, zeroed, code_number, h, n}
+use Rattle.value_machine.proofs.Watch.{Watch}
 use Rattle.value_machine.proofs.Runs.{Goes, then_goes, goes_to, by_steps}
 use Rattle.value_machine.proofs.Locals.{Locals, Hand, Number as NumberAt, with_at, laid, laid_again}
 use Rattle.value_machine.proofs.Steps.{empty, set_ok, get_copied}
@@ -60,7 +61,7 @@ bare_is (value.Num z) = by (number_of z) refl
 pub same_state : {A : Type 0} (σ : State) (a : A) → record σ { shared = shared_after σ.shared (gives σ.shared a) } ≡ σ
 same_state σ a = ap (λ o. record σ { shared = record { inner = σ.shared.inner; outside = σ.shared.outside; output = o } }) (append-nil σ.shared.output)
 
-module _ (p : Program) (deepest : ℕ) (ks : List Kind) (F : List Frame) where
+module _ (p : Program) (deepest : Watch) (ks : List Kind) (F : List Frame) where
   pub after_same : {A : Type 0} (L : List Cell) (K : List Label) (c : Instructions) (r : Result A Fault) (τ σ : State) → τ ≡ σ → (cs : List Cell) → at ks cs K L F c (after_reply p deepest ks F r τ) ≡ at ks cs K L F c (after_reply p deepest ks F r σ)
   after_same L K c (Ok x) τ σ e cs = ap (λ s. at ks cs K L F c (beside_state p deepest ks F s)) e
   after_same L K c (Err f) τ σ e cs = ap (λ s. at ks cs K L F c (left_beside p deepest ks F (Faulted f) s)) e

@@ -32,6 +32,7 @@ use Rattle.value_machine.specs.Machine.{Code, Conf, Label, Frame, Store, at, br,
 use Rattle.value_machine.specs.Places.{Bases}
 use Rattle.value_machine.specs.Small.{does, ask_row, either, least, text_beside, moved_out, number_is, boxed_perhaps, number_of_value, number_made, unnumbered, kept_number, h, n}
 use Rattle.value_machine.specs.Small
+use Rattle.value_machine.proofs.Watch.{Watch}
 use Rattle.value_machine.proofs.Runs.{Goes, by_steps, then_goes, goes_to, goes_from, stays, there, faulted, first, within, weaker, then_step, Onward}
 use Rattle.value_machine.proofs.Regions.{upd_same, upd_other}
 use Rattle.value_machine.proofs.Locals.{Locals, Hand, Number as NumberAt, with_at, laid}
@@ -65,7 +66,7 @@ pub flag_word : (x : Bool) → flag_number x ≡ number_word (truth_number x)
 flag_word true = refl
 flag_word false = refl
 
-module _ (p : Program) (deepest : ℕ) (ks : List Kind) (F : List Frame) (b : Bases) (M : ℕ) where
+module _ (p : Program) (deepest : Watch) (ks : List Kind) (F : List Frame) (b : Bases) (M : ℕ) where
   abbrev u : Code
   u = machine p deepest ks F
 

@@ -17,6 +17,7 @@ use Rattle.value_machine.specs.Machine.{Look, Label, Frame, Store, at, label, as
 use Rattle.value_machine.specs.Places.{Bases}
 use Rattle.value_machine.specs.Small.{does, ask_row, copied, copied_if_any, when, minus_one, h}
 use Rattle.value_machine.specs.declared.import.Import.TheVariants.{Of}
+use Rattle.value_machine.proofs.Watch.{Watch}
 use Rattle.value_machine.proofs.Runs.{Goes, then_goes, goes_to, by_steps}
 use Rattle.value_machine.proofs.Globals.{Global, global_of, IsGlobal, has_global, with_global_at, has_global_with, placed, placed_twice, placed_again}
 use Rattle.value_machine.proofs.Locals.{Locals, Place, Hand, local_of, IsPlace, has, with_at, has_with, laid, laid_at, laid_set, laid_twice, laid_again}
@@ -54,7 +55,7 @@ module _ (b : Bases) (l : Locals) (P Q : Place) (c d : Cell) (pp : IsPlace b P) 
       ∙ (ap (λ M. set M y d) (set-set L x c v ∙ (ap (set L x) (sym e ∙ sym (laid_at b l P pp)) ∙ set-get_or L x Gone))
       ∙ laid_set b l Q d qq))))
 
-module _ (p : Program) (deepest : ℕ) (ks : List Kind) (F : List Frame) (b : Bases) where
+module _ (p : Program) (deepest : Watch) (ks : List Kind) (F : List Frame) (b : Bases) where
   pub dup_ok : {vs : List Cell} {K : List Label} {c : Instructions} → (x : ℕ) (L gs : List Cell) (v : Value) (σ : State) → cell_at L x ≡ Held v →
       Goes (machine p deepest ks F) 1 (Look x ks vs K L F (ask_row row.Dup c) (storing gs (host_of σ None))) (at ks (Held v ∷ vs) K L F c (storing gs (host_of σ None)))
   dup_ok {vs = vs} {K = K} {c = c} x L gs v σ e = by_steps 1

@@ -16,14 +16,15 @@ use Rattle.mid_program.specs.ScriptRun.{Setting, Ended, ending}
 use Rattle.mid_program.specs.ScriptState.{State, Faulted, OutOfTurns, TooDeep, Nexted, Exited, Returned, Outcome, Gives, Stops}
 use Rattle.mid_program.specs.Sorted.{kinds_of}
 use Rattle.value_machine.specs.Cells.{Bits, is_owned, none_owned, ended_name, globals_by, tidy_name}
-use Rattle.value_machine.specs.Follows.{Shown}
+use Rattle.value_machine.specs.Follows.{ShownWith}
 use Rattle.value_machine.specs.Functions.{layout_of}
-use Rattle.value_machine.specs.Machine.{Conf, Over, Store, at, ending_at, ending_name, guarded}
+use Rattle.value_machine.specs.Machine.{Notes, Conf, Over, Store, at, ending_at, ending_name, guarded}
 use Rattle.value_machine.specs.ImportCalls.{Host}
 use Rattle.value_machine.specs.Places.{Bases, status_global}
-use Rattle.value_machine.specs.Runs.{code_of, begun}
+use Rattle.value_machine.specs.Runs.{noting_code, begun}
 use Rattle.value_machine.specs.Small.{does}
 use Rattle.value_machine.specs.Statements.{swept}
+use Rattle.value_machine.proofs.Watch.{Watch}
 use Rattle.value_machine.proofs.Runs.{Goes, then_goes, by_steps, Arrives}
 use Rattle.value_machine.proofs.Globals.{Globals, Status, placed}
 use Rattle.value_machine.proofs.GlobalSteps.{global_copied, storing}
@@ -57,7 +58,7 @@ name_ended Many a v = refl
 abbrev pub main_exit_work : Bases → ℕ
 main_exit_work b = 8 * (b.temporaries + (b.iterators + b.arrays)) + 3
 
-module _ (p : Program) (deepest : ℕ) (b : Bases) where
+module _ (p : Program) (deepest : Watch) (b : Bases) where
   abbrev pub main_exit : Instructions
   main_exit = swept (layout_of p b) (does (GlobalGet status_global) (does (Convert I32WrapI64) Done))
 
@@ -107,8 +108,8 @@ module _ (p : Program) (deepest : ℕ) (b : Bases) where
 abbrev pub EndsWell : Outcome (Unit {0}) → Conf → Type 0
 EndsWell r c = ending_at c ≡ Some (ending r)
 
-module _ (p : Program) (s : Setting) (M w turns : ℕ) (few : w ≤ M) where
-  pub shown : (r : Outcome (Unit {0})) → Arrives (code_of p s.deepest) M w turns (begun p s) (λ u σ. EndsWell (Gives u σ)) (λ why σ. EndsWell (Stops why σ)) r → Shown p s turns (M * (turns + 1)) (ending r)
+module _ (p : Program) (notes : Notes) (s : Setting) (M w turns : ℕ) (few : w ≤ M) where
+  pub shown : (r : Outcome (Unit {0})) → Arrives (noting_code notes p s.deepest) M w turns (begun p s) (λ u σ. EndsWell (Gives u σ)) (λ why σ. EndsWell (Stops why σ)) r → ShownWith notes p s turns (M * (turns + 1)) (ending r)
   shown (Gives u σ) h = (h.steps, (let q = h.cost.few in omega (arith, q, few)), ap ending_at h.goes ∙ h.holds)
   shown (Stops OutOfTurns σ) h = (h.steps, (let q = h.few in omega (arith, q, few)), h.enough, h.shows)
   shown (Stops (Faulted f) σ) h = (h.steps, (let q = h.cost.few in omega (arith, q, few)), ap ending_at h.goes ∙ h.holds)

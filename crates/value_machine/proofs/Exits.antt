@@ -15,6 +15,7 @@ use Rattle.value_machine.specs.Small.{does, emptied, let_go, h}
 use Rattle.value_machine.specs.Statements.{temporaries_emptied, iterators_emptied, arrays_emptied, temporaries_swept, iterators_swept, arrays_swept, swept, left_swept, has_functions, parameters_dropped}
 use Rattle.value_machine.specs.declared.import.Import.{Import}
 use Rattle.value_machine.specs.declared.import.Import.TheVariants.{Drop, IterFree, FreeArray}
+use Rattle.value_machine.proofs.Watch.{Watch}
 use Rattle.value_machine.proofs.Runs.{Goes, goes_from, then_goes, by_steps, stays}
 use Rattle.value_machine.proofs.Regions.{cells, upd_other}
 use Rattle.value_machine.proofs.Locals.{Locals, Place, Param, Answer, Hand, Number, Iterator, Array, local_of, has, with_at, has_with, temporaries_on, laid}
@@ -153,7 +154,7 @@ exit_work b = 8 * (b.temporaries + (b.iterators + b.arrays)) + (2 * b.parameters
 abbrev pub begin_work : Bases → ℕ
 begin_work b = 1 + 8 * (b.temporaries + (b.iterators + b.arrays))
 
-module _ (p : Program) (deepest : ℕ) (ks : List Kind) (F : List Frame) (b : Bases) where
+module _ (p : Program) (deepest : Watch) (ks : List Kind) (F : List Frame) (b : Bases) where
   abbrev y : Layout
   y = layout_of p b
 
@@ -301,7 +302,7 @@ module _ (p : Program) (deepest : ℕ) (ks : List Kind) (F : List Frame) (b : Ba
       (unowned_pairs l.hand l.number b.temporaries (cells l.iterator b.iterators ++ (cells l.array b.arrays ++ [])) oh (λ x lt. on x)
       (unowned_cells l.iterator b.iterators (cells l.array b.arrays ++ []) ow (unowned_cells l.array b.arrays [] oy refl))))
 
-module _ (p : Program) (deepest : ℕ) (ks : List Kind) (f : Frame) (F : List Frame) (b : Bases) where
+module _ (p : Program) (deepest : Watch) (ks : List Kind) (f : Frame) (F : List Frame) (b : Bases) where
   -- a function is left with what its answer has, and the caller goes on
   pub record Exits (G : Store) (l : Locals) : Type 0 where
     pub steps : ℕ

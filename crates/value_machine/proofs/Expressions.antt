@@ -17,6 +17,7 @@ use Rattle.value_machine.specs.Emission.{array_meant, emitted, all_emitted, all_
 use Rattle.value_machine.specs.Machine.{Conf, Label, Frame, at}
 use Rattle.value_machine.specs.Places.{Bases}
 use Rattle.value_machine.specs.Small.{kept}
+use Rattle.value_machine.proofs.Watch.{Watch}
 use Rattle.value_machine.proofs.Runs.{first, weaker_settled}
 use Rattle.value_machine.proofs.Locals.{Locals, laid}
 use Rattle.value_machine.proofs.Relation.{Meant, Kept, kept_same, Below, Same, same_then, SameOwn, Away}
@@ -29,7 +30,7 @@ use Rattle.value_machine.proofs.HostCalls.{operation_takes, operation_in_turn, o
 pub constant_word : (z : ℤ) → nat_le (unsigned_abs z) (2 ^ 53) ≡ true → number_word (or_zero (number_of z)) ≡ cast_unsigned w64 z
 constant_word z e = ap (λ o. number_word (or_zero o)) (number_again (record { number = z; in_range = subst T (sym e) tt }))
 
-module _ (p : Program) (deepest : ℕ) (ks : List Kind) (F : List Frame) (b : Bases) (M n : ℕ) where
+module _ (p : Program) (deepest : Watch) (ks : List Kind) (F : List Frame) (b : Bases) (M n : ℕ) where
   -- nothing but temporary t was touched
   pub put_done : (e : Code) (v : Bool) (fs : List Form) (env : Env fs) (ts : List ℕ) (st : ℕ → Standing) (t u w : ℕ) (k : Instructions) (K : List Label) (l0 l : Locals) (σ σ1 : State) (x : Holds (form_of fs e)) (c : Conf) →
       Below t ts → Same ts t w l0 l → SameOwn p deepest ks F σ σ1 → Kept fs ts (λ i. held_after i e (st i)) l env → gives_away e v ≡ false → Meant p deepest ks F (form_of fs e) x (array_meant e) σ1 → Put p deepest ks F b t u w (form_of fs e) k K l x σ1 c →

@@ -28,6 +28,7 @@ use Rattle.value_machine.specs.Machine.{Frame, at}
 use Rattle.value_machine.specs.Places.{Bases}
 use Rattle.value_machine.specs.Small.{h, does as then_does}
 use Rattle.wasm_types.specs.declared.instr.Simple.TheVariants.{LocalSet}
+use Rattle.value_machine.proofs.Watch.{Watch}
 use Rattle.value_machine.proofs.Runs.{goes_to, then_goes, there}
 use Rattle.value_machine.proofs.Locals.{Hand, laid}
 use Rattle.value_machine.proofs.Steps.{set_ok}
@@ -65,7 +66,7 @@ field_there k x σ is e =
 no_negative : (j : ℕ) → is_field_number (negsuc j) ≡ true → ⊥
 no_negative j e = true≢false (sym e ∙ ne_eqb (suc j) 0 (λ q. omega (arith, q)))
 
-module _ (p : Program) (deepest : ℕ) (ks : List Kind) (F : List Frame) (b : Bases) (M n : ℕ) where
+module _ (p : Program) (deepest : Watch) (ks : List Kind) (F : List Frame) (b : Bases) (M n : ℕ) where
   literal_field : (z : ℤ) → is_field_number z ≡ true → ExprOk p deepest ks F b M n (Do (Host row.Field) (At (Number z) End))
   unfolding emitted all_emitted evaluated all_evaluated sorted all_sorted
   literal_field (negsuc j) is v fs env ts st t u w d k K l σ so us rm ar rd = absurd (no_negative j is)

@@ -21,6 +21,7 @@ use Rattle.value_machine.specs.Machine.{Frame, loops_walked}
 use Rattle.value_machine.specs.Places.{Bases}
 use Rattle.value_machine.specs.Small.{ask_row, number_is, when, code_number, moved_out, kept_code, to_value, h}
 use Rattle.value_machine.specs.Small
+use Rattle.value_machine.proofs.Watch.{Watch}
 use Rattle.value_machine.proofs.Runs.{then_goes, goes_from, first, then_on, then_settled, weaker}
 use Rattle.value_machine.proofs.Regions.{upd_same}
 use Rattle.value_machine.proofs.Locals.{Hand, with_at}
@@ -44,7 +45,7 @@ line_after : (s : Shared) (r : Result (Inner × InputAnswer) Fault) (x : InputAn
 line_after s (Ok y) x h e = subst (LineAt y.0) (ap (ok_of x) e) h
 line_after s (Err f) x h e = cc
 
-module _ (p : Program) (deepest : ℕ) (ks : List Kind) (F : List Frame) (b : Bases) (M n : ℕ) where
+module _ (p : Program) (deepest : Watch) (ks : List Kind) (F : List Frame) (b : Bases) (M n : ℕ) where
   pub file_line_expr : (e s : Code) → ExprOk p deepest ks F b M n e → ExprOk p deepest ks F b M n s → ExprOk p deepest ks F b M n (FileLine e s)
   unfolding emitted all_emitted evaluated all_evaluated sorted all_sorted
   file_line_expr e s oke oks v fs env ts st t u w d k K l σ so us rm ar rd =

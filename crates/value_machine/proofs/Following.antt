@@ -7,10 +7,11 @@ use Rattle.mid_program.specs.Mid.{Kind, Program, Code}
 use Rattle.mid_program.specs.MidMeaning.{routine_at}
 use Rattle.mid_program.specs.ScriptRun.{unless}
 use Rattle.mid_program.specs.Sorted.{IsSorted, is_sorted, all_differ, announced_names, routines_sorted, parts_sorted, steps_sorted, context_of, kinds_of}
-use Rattle.value_machine.specs.Follows.{Follows, EmissionFollows}
+use Rattle.value_machine.specs.Follows.{FollowsNoted, EmissionNotes}
 use Rattle.value_machine.specs.Functions.{main_bases}
-use Rattle.value_machine.specs.Machine.{Frame}
+use Rattle.value_machine.specs.Machine.{Notes, Frame}
 use Rattle.value_machine.specs.Places.{Bases}
+use Rattle.value_machine.proofs.Watch.{Watch, watched}
 use Rattle.value_machine.proofs.Relation.{globals_told, routines_told}
 use Rattle.value_machine.proofs.Simulation.{ExprOk}
 use Rattle.value_machine.proofs.StatementForms.{steps_work}
@@ -34,9 +35,9 @@ pub record Helped (p : Program) : Type 1 where
   pub least : ℕ
   pub first_work : ℕ
   pub read_work : ℕ
-  pub exprs : (M deepest n : ℕ) → least ≤ M → CallsOk p deepest M n → (ks : List Kind) (F : List Frame) (b : Bases) (e : Code) → ExprOk p deepest ks F b M n e
-  pub starting : (M deepest n : ℕ) → least ≤ M → Starting p deepest (main_bases p) M n first_work
-  pub reading : (M deepest n : ℕ) → least ≤ M → Reading p deepest (main_bases p) M n read_work
+  pub exprs : (M : ℕ) (deepest : Watch) (n : ℕ) → least ≤ M → CallsOk p deepest M n → (ks : List Kind) (F : List Frame) (b : Bases) (e : Code) → ExprOk p deepest ks F b M n e
+  pub starting : (M : ℕ) (deepest : Watch) (n : ℕ) → least ≤ M → Starting p deepest (main_bases p) M n first_work
+  pub reading : (M : ℕ) (deepest : Watch) (n : ℕ) → least ≤ M → Reading p deepest (main_bases p) M n read_work
 
 module _ (p : Program) (ok : IsSorted p) (h : Helped p) where
   abbrev sorts : (all_differ (announced_names p) ≡ true) × (routines_sorted p p.routines && parts_sorted p (context_of p []) ≡ true)
@@ -68,25 +69,25 @@ module _ (p : Program) (ok : IsSorted p) (h : Helped p) where
   routines_few : (f : ℕ) → f < length p.routines → suc (routine_work (routine_at p.routines f)) ≤ bound
   routines_few f lt = let q = routine_within p.routines f lt in omega (arith, q)
 
-  exprs_of_main : (deepest n : ℕ) (e : Code) → ExprOk p deepest [] [] (main_bases p) bound n e
+  exprs_of_main : (deepest : Watch) (n : ℕ) (e : Code) → ExprOk p deepest [] [] (main_bases p) bound n e
   exprs_of_main deepest n e = h.exprs bound deepest n (omega arith) (calls_ok p deepest bound inner.0 routines_few (λ m. h.exprs bound deepest m (omega arith)) n) [] [] (main_bases p) e
 
-  -- the machine shows what the program does
-  pub follows : Follows p
+  -- the machine shows what the program does, whatever is noted
+  pub follows : FollowsNoted p
   follows = record {
     bound = bound;
-    shown = λ s turns.
+    shown = λ notes s turns.
         let b = main_bases p in
-        let d = s.deepest in
+        let d = watched notes s in
         let es = exprs_of_main d turns in
         let start = h.starting bound d turns (omega arith) in
         let read = h.reading bound d turns (omega arith) in
         let meant = main_meant p d b bound turns es begun_sorted.0 ended_sorted.0 ended_sorted.1 (omega arith) (omega arith) (omega arith) (omega arith) (omega arith) (omega arith) (omega arith) (omega arith) (omega arith) (omega arith) (omega arith) (omega arith) h.first_work h.read_work start read (omega arith) in
-        shown p s bound main_bound turns (omega arith) (unless (fault_of_job s.job) (named_meant p s b turns sorts.0 meant) (begins p s b turns sorts.0))
-        (whole_ok p s bound turns sorts.0 (omega arith) (parts_bound + (main_exit_work b + 1)) meant
+        shown p notes s bound main_bound turns (omega arith) (unless (fault_of_job s.job) (named_meant p notes s b turns sorts.0 meant) (begins p notes s b turns sorts.0))
+        (whole_ok p notes s bound turns sorts.0 (omega arith) (parts_bound + (main_exit_work b + 1)) meant
         (λ l σ st. ends_well p d b bound turns parts_bound σ.turns _ (meant σ) refl
         (main_ok p d b bound turns es begun_sorted.0 ended_sorted.0 ended_sorted.1 (omega arith) (omega arith) (omega arith) (omega arith) (omega arith) (omega arith) (omega arith) (omega arith) (omega arith) (omega arith) (omega arith) (omega arith) h.first_work h.read_work start read (omega arith) _ l σ st)));
   }
 
-pub emission_follows : ((p : Program) → IsSorted p → Helped p) → EmissionFollows
-emission_follows helped p ok = follows p ok (helped p ok)
+pub emission_notes : ((p : Program) → IsSorted p → Helped p) → EmissionNotes
+emission_notes helped p ok = follows p ok (helped p ok)

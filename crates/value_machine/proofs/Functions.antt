@@ -12,8 +12,8 @@ use Rattle.wasm_types.specs.declared.types.ValType.{ValType}
 use Rattle.wasm_types.specs.declared.instr.Simple.TheVariants.{Call, LocalGet, LocalSet}
 use Rattle.wasm_store.specs.declared.word.Word.TheVariants.{I32, I64}
 use Rattle.mid_program.specs.Mid.{Kind, Program, Routine, Code, Steps}
-use Rattle.mid_program.specs.MidMeaning.{mid_called, no_routine, routine_at, all_stepped}
-use Rattle.mid_program.specs.ScriptState.{State, Own, Local, Scalar, Stop, Faulted, OutOfTurns, TooDeep, Nexted, Exited, Returned, Outcome, Gives, Stops, ◌>>◌, spend}
+use Rattle.mid_program.specs.MidMeaning.{no_routine, routine_at}
+use Rattle.mid_program.specs.ScriptState.{State, Own, Local, Scalar, Stop, Faulted, OutOfTurns, TooDeep, Nexted, Exited, Returned, Outcome, Gives, Stops, Doing, ◌>>◌, spend}
 use Rattle.mid_program.specs.Sorted.{has_kind, calls_of, routines_sorted, steps_sorted, context_of}
 use Rattle.mid_program.specs.Statements.{Flow, Normal, Broke, Continued, returned, entered_with}
 use Rattle.value_machine.specs.Cells.{Cell, Bits, Held, Gone, is_owned, none_owned}
@@ -21,9 +21,11 @@ use Rattle.value_machine.specs.Emission.{function_number}
 use Rattle.value_machine.specs.Functions.{layout_of, routine_bases, routine_callee}
 use Rattle.value_machine.specs.Machine.{Conf, Deep, Label, Frame, Store, at, label, zeros, guarded, enter, waits, ask as asked}
 use Rattle.value_machine.specs.Imports.{import_at, import_count}
+use Rattle.value_machine.specs.Noted.{noted_called, steps_noted, routine_rest}
 use Rattle.value_machine.specs.Places.{Bases, answer_local, local_types, temporary_types, handle_types, steps_room, steps_iterators, steps_arrays}
 use Rattle.value_machine.specs.Small.{does, ask_row}
 use Rattle.value_machine.specs.Statements.{routine_body, swept, parameters_dropped, steps_emitted, block}
+use Rattle.value_machine.proofs.Watch.{Watch}
 use Rattle.value_machine.proofs.Runs.{Goes, goes_to, goes_from, then_goes, by_steps, stays, first, within, turned, Arrives, reaches_on, Onward}
 use Rattle.value_machine.proofs.Regions.{cells, pairs, cells_same, pairs_same}
 use Rattle.value_machine.proofs.Locals.{Locals, Answer, with_at, laid}
@@ -95,7 +97,7 @@ laid_begun b words l ep ea eh en ei ey =
 abbrev pub waiting : List Kind → List Label → List Cell → Instructions → Frame
 waiting ks K L k = record { kinds = ks; under = []; labels = K; locals = L; rest = k }
 
-module _ (p : Program) (deepest : ℕ) where
+module _ (p : Program) (deepest : Watch) where
   -- the words that a call pushes stand for what the function is given
   pub record GivenTo (js : List Kind) (F : List Frame) (words : List Cell) (os : List Local) : Type 0 where
     pub wide : length words ≡ length js
@@ -113,7 +115,7 @@ module _ (p : Program) (deepest : ℕ) where
     pub comes : c ≡ left_to why (at f.kinds (empty ∷ f.under) f.labels f.locals F f.rest (left_beside p deepest f.kinds F why σ)) (Deep (beside_state p deepest f.kinds F σ))
     pub after : StopSound p deepest f.kinds F why σ
 
-  module _ (M n : ℕ) (js : List Kind) (f : Frame) (F : List Frame) (b : Bases) (size : length js ≡ b.parameters) (own : Own) (room : length F + own.room ≡ deepest) where
+  module _ (M n : ℕ) (js : List Kind) (f : Frame) (F : List Frame) (b : Bases) (size : length js ≡ b.parameters) (own : Own) (room : length F + own.room ≡ deepest.callers) where
     abbrev exit_code : Instructions
     exit_code = swept (layout_of p b) (parameters_dropped (layout_of p b) zero js (does (LocalGet (answer_local b)) Done))
 
@@ -180,9 +182,9 @@ module _ (p : Program) (deepest : ℕ) where
 
     -- a function runs, from its beginning to its exit
     run_ok : (body : Steps) → StepsOk p deepest js (f ∷ F) b M n body → steps_sorted (context_of p js) true false body ≡ true → steps_room body ≤ b.temporaries → steps_iterators body ≤ b.iterators → steps_arrays body ≤ b.arrays → steps_work body ≤ M →
-        (words : List Cell) (os : List Local) (σ : State) (m : ℕ) → GivenTo js (f ∷ F) words os → length (f ∷ F) + m ≡ deepest → Sound p deepest f.kinds F σ → σ.turns ≤ n →
+        (words : List Cell) (os : List Local) (σ : State) (m : ℕ) → GivenTo js (f ∷ F) words os → length (f ∷ F) + m ≡ deepest.callers → Sound p deepest f.kinds F σ → σ.turns ≤ n →
         Arrives (machine p deepest js (f ∷ F)) M (begin_work b + (1 + (steps_work body + (exit_work b + 3)))) σ.turns (at js [] [] (words ++ zeros (local_types b)) (f ∷ F) (routine_body (layout_of p b) js body) (beside_state p deepest js (f ∷ F) σ)) (Back f F own) (Lost f F)
-        (returned own (steps_meant p deepest js (f ∷ F) b M n body (record σ { own = record { locals = os; room = m } })))
+        (returned own (steps_meant p deepest js (f ∷ F) b M n body zero zero zero zero end_code (record σ { own = record { locals = os; room = m } })))
     run_ok body oks so rm it ar wk words os σ m given deep s le =
         let mach = machine p deepest js (f ∷ F) in
         let G = beside_state p deepest js (f ∷ F) σ in
@@ -194,7 +196,7 @@ module _ (p : Program) (deepest : ℕ) where
         (goes_from (ap (λ L. at js [] [] L (f ∷ F) (routine_body (layout_of p b) js body) G) (laid_entry b words (given.wide ∙ size)))
         (then_goes (emptied_ok b (entry words) Answer tt refl)
         (then_goes a.goes (goes_to (by_steps 1 refl) (ap (λ L. at js [] body_labels L (f ∷ F) code G) e))))) (let q = a.few in omega (arith, q))
-        (came (steps_work body) σ.turns _ (begun words) (steps_meant p deepest js (f ∷ F) b M n body σ1)
+        (came (steps_work body) σ.turns _ (begun words) (steps_meant p deepest js (f ∷ F) b M n body zero zero zero zero end_code σ1)
         (oks true false zero zero zero zero end_code body_labels (begun words) σ1 so rm (omega (arith, it)) ar wk
         (record {
           fit = record {
@@ -223,7 +225,7 @@ module _ (p : Program) (deepest : ℕ) where
   abbrev pub CallOk : (M n f : ℕ) → Type 0
   CallOk M n f = (ks : List Kind) (F : List Frame) (K : List Label) (L : List Cell) (k : Instructions) (words : List Cell) (os : List Local) (σ : State) → waits ks K L k ≡ true →
       GivenTo (routine_at p.routines f).parameters (waiting ks K L k ∷ F) words os → Sound p deepest ks F σ → σ.turns ≤ n →
-      Arrives (machine p deepest ks F) M 0 σ.turns (at ks (reverse words ++ []) K L F (does (Call (function_number f)) k) (beside_state p deepest ks F σ)) (Back (waiting ks K L k) F σ.own) (Lost (waiting ks K L k) F) ((spend >> mid_called p n f os) σ)
+      Arrives (machine p deepest ks F) M 0 σ.turns (at ks (reverse words ++ []) K L F (does (Call (function_number f)) k) (beside_state p deepest ks F σ)) (Back (waiting ks K L k) F σ.own) (Lost (waiting ks K L k) F) ((spend >> noted_called deepest.notes p n f os) σ)
 
   abbrev pub CallsOk : (M n : ℕ) → Type 0
   CallsOk M n = (f : ℕ) → f < length p.routines → CallOk M n f
@@ -251,7 +253,7 @@ module _ (p : Program) (deepest : ℕ) where
   -- the frame is pushed, unless too many wait
   entered : (f : ℕ) (ks : List Kind) (F : List Frame) (K : List Label) (L : List Cell) (k : Instructions) (words : List Cell) (G : Store) → f < length p.routines → length words ≡ length (routine_at p.routines f).parameters → waits ks K L k ≡ true →
       Goes (machine p deepest ks F) 1 (at ks (reverse words ++ []) K L F (does (Call (function_number f)) k) G)
-      (cond (nat_lt (length F) deepest) (begins f ks F K L k words G) (Deep G))
+      (cond (nat_lt (length F) deepest.callers) (begins f ks F K L k words G) (Deep G))
   entered f ks F K L k words G lt wide wt =
       let r = routine_at p.routines f in
       let vs = reverse words ++ [] in
@@ -265,26 +267,32 @@ module _ (p : Program) (deepest : ℕ) where
       let enough : nat_le m (length vs) ≡ true = le-leb m (length vs) (omega (arith, whole, size)) in
       record {
         it =
-            ap (λ t. cond t (asked (machine p deepest ks F).memory (import_at (function_number f)) ks vs K L F k G) (enter deepest (slice_get (machine p deepest ks F).callees (function_number f - import_count)) ks vs K L F k G)) high
-            ∙ (ap (λ i. enter deepest (slice_get (machine p deepest ks F).callees i) ks vs K L F k G) index
-            ∙ (ap (λ o. enter deepest o ks vs K L F k G) (callee_found f lt)
-            ∙ (ap₂ (λ t z. guarded ((t && none_owned (drop m vs)) && z) (cond (nat_lt (length F) deepest) (at r.parameters [] [] (reverse (take m vs) ++ zeros (routine_callee p r).locals) (record { kinds = ks; under = drop m vs; labels = K; locals = L; rest = k } ∷ F) (routine_callee p r).body G) (Deep G))) enough wt
-            ∙ ap₂ (λ ws us. guarded ((true && none_owned us) && true) (cond (nat_lt (length F) deepest) (at r.parameters [] [] (ws ++ zeros (routine_callee p r).locals) (record { kinds = ks; under = us; labels = K; locals = L; rest = k } ∷ F) (routine_callee p r).body G) (Deep G))) front under)));
+            ap (λ t. cond t (asked (machine p deepest ks F).memory (import_at (function_number f)) ks vs K L F k G) (enter deepest.callers (slice_get (machine p deepest ks F).callees (function_number f - import_count)) ks vs K L F k G)) high
+            ∙ (ap (λ i. enter deepest.callers (slice_get (machine p deepest ks F).callees i) ks vs K L F k G) index
+            ∙ (ap (λ o. enter deepest.callers o ks vs K L F k G) (callee_found f lt)
+            ∙ (ap₂ (λ t z. guarded ((t && none_owned (drop m vs)) && z) (cond (nat_lt (length F) deepest.callers) (at r.parameters [] [] (reverse (take m vs) ++ zeros (routine_callee p r).locals) (record { kinds = ks; under = drop m vs; labels = K; locals = L; rest = k } ∷ F) (routine_callee p r).body G) (Deep G))) enough wt
+            ∙ ap₂ (λ ws us. guarded ((true && none_owned us) && true) (cond (nat_lt (length F) deepest.callers) (at r.parameters [] [] (ws ++ zeros (routine_callee p r).locals) (record { kinds = ks; under = us; labels = K; locals = L; rest = k } ∷ F) (routine_callee p r).body G) (Deep G))) front under)));
       }
 
   -- Every call does what it means, if expressions do where calls inside them do.
   module _ (M : ℕ) (sorted : routines_sorted p p.routines ≡ true) (few : (f : ℕ) → f < length p.routines → suc (routine_work (routine_at p.routines f)) ≤ M)
       (exprs : (n : ℕ) → CallsOk M n → (ks : List Kind) (F : List Frame) (b : Bases) (e : Code) → ExprOk p deepest ks F b M n e) where
+    -- what a function's body means
+    abbrev body_meant : (n f : ℕ) → Doing Flow
+    body_meant n f =
+        let r = routine_at p.routines f in
+        steps_noted deepest.notes (layout_of p (routine_bases r)) p.texts (calls_of p) n (noted_called deepest.notes p n) r.body zero zero zero zero (routine_rest (routine_bases r))
+
     -- the frame is pushed where one more call may be nested
     pushed : (n f : ℕ) (room : ℕ) → CallsOk M n → f < length p.routines → (ks : List Kind) (F : List Frame) (K : List Label) (L : List Cell) (k : Instructions) (words : List Cell) (os : List Local) (σ : State) →
         GivenTo (routine_at p.routines f).parameters (waiting ks K L k ∷ F) words os → Sound p deepest ks F σ → σ.turns ≤ n → σ.own.room ≡ room →
         Arrives (machine p deepest ks F) M (routine_work (routine_at p.routines f)) σ.turns
-        (cond (nat_lt (length F) deepest) (begins f ks F K L k words (beside_state p deepest ks F σ)) (Deep (beside_state p deepest ks F σ)))
+        (cond (nat_lt (length F) deepest.callers) (begins f ks F K L k words (beside_state p deepest ks F σ)) (Deep (beside_state p deepest ks F σ)))
         (Back (waiting ks K L k) F σ.own) (Lost (waiting ks K L k) F)
-        (entered_with room os (all_stepped p.texts (calls_of p) n (mid_called p n) (routine_at p.routines f).body) σ)
+        (entered_with room os (body_meant n f) σ)
     pushed n f zero calls lt ks F K L k words os σ given s le e =
         let full = s.room in
-        let deep : nat_lt (length F) deepest ≡ false = le-ltb (length F) deepest (omega (arith, full, e)) in
+        let deep : nat_lt (length F) deepest.callers ≡ false = le-ltb (length F) deepest.callers (omega (arith, full, e)) in
         record {
           conf = Deep (beside_state p deepest ks F σ);
           steps = 0;
@@ -298,16 +306,16 @@ module _ (p : Program) (deepest : ℕ) where
         let fr = waiting ks K L k in
         let full = s.room in
         let fw = few f lt in
-        let low : nat_lt (length F) deepest ≡ true = lt-ltb (length F) deepest (omega (arith, full, e)) in
+        let low : nat_lt (length F) deepest.callers ≡ true = lt-ltb (length F) deepest.callers (omega (arith, full, e)) in
         first (machine p deepest ks F) M 0 (routine_work r) (routine_work r) σ.turns _ (begins f ks F K L k words (beside_state p deepest ks F σ)) (Back fr F σ.own) (Lost fr F) _
         (record { it = ap (λ t. cond t (begins f ks F K L k words (beside_state p deepest ks F σ)) (Deep (beside_state p deepest ks F σ))) low }) (omega arith)
         (run_ok M n r.parameters fr F b refl σ.own s.room r.body (steps_ok p deepest r.parameters (fr ∷ F) b M n (λ x. exprs n calls r.parameters (fr ∷ F) b x) r.body) (routine_sorted p.routines f sorted lt) (omega arith) (omega arith) (omega arith) (omega (arith, fw)) words os σ room given (omega (arith, full, e)) s le)
 
     pub calls_ok : (n : ℕ) → CallsOk M n
-    unfolding mid_called
+    unfolding noted_called
     calls_ok zero f lt ks F K L k words os σ wt given s le =
-        turned (machine p deepest ks F) M σ.turns 0 0 0 σ _ _ (Back (waiting ks K L k) F σ.own) (Lost (waiting ks K L k) F) (mid_called p zero f os) refl (entered f ks F K L k words (beside_state p deepest ks F σ) lt given.wide wt) refl (let q = few f lt in omega (arith, q))
+        turned (machine p deepest ks F) M σ.turns 0 0 0 σ _ _ (Back (waiting ks K L k) F σ.own) (Lost (waiting ks K L k) F) (noted_called deepest.notes p zero f os) refl (entered f ks F K L k words (beside_state p deepest ks F σ) lt given.wide wt) refl (let q = few f lt in omega (arith, q))
         (λ m e. absurd (omega (arith, e, le)))
     calls_ok (suc n) f lt ks F K L k words os σ wt given s le =
-        turned (machine p deepest ks F) M σ.turns 0 (routine_work (routine_at p.routines f)) 0 σ _ _ (Back (waiting ks K L k) F σ.own) (Lost (waiting ks K L k) F) (mid_called p (suc n) f os) refl (entered f ks F K L k words (beside_state p deepest ks F σ) lt given.wide wt) refl (let q = few f lt in omega (arith, q))
+        turned (machine p deepest ks F) M σ.turns 0 (routine_work (routine_at p.routines f)) 0 σ _ _ (Back (waiting ks K L k) F σ.own) (Lost (waiting ks K L k) F) (noted_called deepest.notes p (suc n) f os) refl (entered f ks F K L k words (beside_state p deepest ks F σ) lt given.wide wt) refl (let q = few f lt in omega (arith, q))
         (λ m e. pushed n f σ.own.room (calls_ok n) lt ks F K L k words os (record σ { turns = m }) given (record { room = s.room; names = s.names; calm = s.calm }) (omega (arith, e, le)) refl)

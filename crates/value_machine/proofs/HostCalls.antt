@@ -22,6 +22,7 @@ use Rattle.value_machine.specs.Emission.{all_emitted, all_converted, all_pushed}
 use Rattle.value_machine.specs.Machine.{Conf, Label, Frame, at, loops_walked}
 use Rattle.value_machine.specs.Places.{Bases, rooms, arrays_among}
 use Rattle.value_machine.specs.Small.{ask_row, kept}
+use Rattle.value_machine.proofs.Watch.{Watch}
 use Rattle.value_machine.proofs.Runs.{then_goes, first, then_on, then_settled, weaker}
 use Rattle.value_machine.proofs.Locals.{Locals, laid}
 use Rattle.value_machine.proofs.HostLaws.{row_keeps, is_quiet}
@@ -86,7 +87,7 @@ extra_enough (At e es) = let r = extra_enough es in omega (arith, r)
 extra_enough (Fixed m es) = extra_enough es
 extra_enough (Fresh es) = let r = extra_enough es in omega (arith, r)
 
-module _ (p : Program) (deepest : ℕ) (ks : List Kind) (F : List Frame) (b : Bases) (M n : ℕ) where
+module _ (p : Program) (deepest : Watch) (ks : List Kind) (F : List Frame) (b : Bases) (M n : ℕ) where
   pub plain_meant : (a : Answer) (x : InAnswer a) (y : ArrayName) (σ : State) → IsPlain a → Meant p deepest ks F (Answered a) x y σ
   plain_meant (answer.Of sort.Array) x y σ h = absurd h
   plain_meant _ x y σ h = tt

@@ -5,6 +5,7 @@ use Rattle.mid_program.specs.declared.mid.Operation.TheVariants.{Host, Inline, A
 use Rattle.mid_program.specs.Mid.{Kind, Program, Global, Parameter, Code, Do, Over, Compare, Call, Ask, AskLine, FileLine, Replace, Number, Text, Unset, Get, Set, Array, IsOpen, Choose, Seq, Let, Bound, Codes, End, At, Fixed, Fresh}
 use Rattle.value_machine.specs.Machine.{Frame}
 use Rattle.value_machine.specs.Places.{Bases}
+use Rattle.value_machine.proofs.Watch.{Watch}
 use Rattle.value_machine.proofs.Simulation.{ExprOk, CodesOk}
 use Rattle.value_machine.proofs.Operands.{codes_end, codes_at, codes_fixed}
 use Rattle.value_machine.proofs.Making.{codes_fresh}
@@ -25,7 +26,7 @@ use Rattle.value_machine.proofs.Asking.{assign_work}
 use Rattle.value_machine.proofs.AskingLines.{ask_expr, ask_line_expr}
 use Rattle.value_machine.proofs.Replacing.{replace_expr}
 
-module _ (p : Program) (deepest : ℕ) (ks : List Kind) (F : List Frame) (b : Bases) (M n : ℕ) where
+module _ (p : Program) (deepest : Watch) (ks : List Kind) (F : List Frame) (b : Bases) (M n : ℕ) where
   abbrev pub Expr : Code → Type 0
   Expr e = ExprOk p deepest ks F b M n e
 

@@ -37,6 +37,7 @@ use Rattle.value_machine.specs.Machine.{Conf, Label, Frame, at, br, with_operand
 use Rattle.value_machine.specs.Places.{Bases}
 use Rattle.value_machine.specs.Small.{does, fail_if}
 use Rattle.value_machine.specs.Small
+use Rattle.value_machine.proofs.Watch.{Watch}
 use Rattle.value_machine.proofs.Runs.{Goes, then_goes, goes_to, by_steps, stays, there, faulted, first, within, weaker_settled}
 use Rattle.value_machine.proofs.Regions.{upd_same, upd_other}
 use Rattle.value_machine.proofs.Locals.{Locals, Number as NumberAt, with_at, laid}
@@ -105,7 +106,7 @@ module _ (m n : Number) (nz : is_zero n.number ≡ false) where
       ap₂ (λ x y. if nat_eq (number_word n) 0 then Err DivideByZero else Ok (word (int_rem x y))) (to_z-of_z w64 m.number (fits m.number (small m))) (to_z-of_z w64 n.number (fits n.number (small n)))
       ∙ ap (λ t. if t then Err DivideByZero else Ok (word (int_rem m.number n.number))) no_zero
 
-module _ (p : Program) (deepest : ℕ) (ks : List Kind) (F : List Frame) (b : Bases) (M n : ℕ) where
+module _ (p : Program) (deepest : Watch) (ks : List Kind) (F : List Frame) (b : Bases) (M n : ℕ) where
   abbrev two_wanted : List Argument
   two_wanted = argument.Of sort.Number ∷ (argument.Of sort.Number ∷ [])
 

@@ -10,15 +10,17 @@ use Rattle.wasm_types.specs.Syntax.{Instructions}
 use Rattle.wasm_types.specs.declared.instr.Simple.TheVariants.{Br, LocalGet, LocalSet, GlobalSet}
 use Rattle.wasm_store.specs.declared.word.Word.TheVariants.{I32, I64}
 use Rattle.mid_program.specs.Mid.{Kind, Program, Answered, Code, Break, Continue, Next, Exit, ExitWith, Return, Mark, form_of}
-use Rattle.mid_program.specs.MidMeaning.{stepped, all_stepped, numbered, converted}
+use Rattle.mid_program.specs.MidMeaning.{stepped, numbered, converted}
 use Rattle.mid_program.specs.ScriptState.{State, Nexted, Exited, Returned, go_on, settled, stop, changed, with_range}
 use Rattle.mid_program.specs.Sorted.{There, sorted, fits, kinds_of, step_sorted, steps_sorted}
 use Rattle.mid_program.specs.Statements.{Flow, Normal, Broke, Continued, with_status}
 use Rattle.value_machine.specs.Cells.{Cell, Bits, Held, is_owned}
 use Rattle.value_machine.specs.Machine.{Conf, Label, Frame, at, br}
+use Rattle.value_machine.specs.Noted.{step_noted, steps_noted}
 use Rattle.value_machine.specs.Places.{Bases, answer_local, status_global}
 use Rattle.value_machine.specs.Small.{does, moved_out, h, n as number_at, to_number, to_value}
 use Rattle.value_machine.specs.Statements.{way_next, way_exit, left_by, step_emitted, steps_emitted}
+use Rattle.value_machine.proofs.Watch.{Watch}
 use Rattle.value_machine.proofs.Runs.{Goes, goes_to, goes_from, then_goes, by_steps, first, then_on, then_settled, there, Reaches}
 use Rattle.value_machine.proofs.Regions.{upd, cells_same}
 use Rattle.value_machine.proofs.Globals.{Way, Status, Range, placed, names_on, with_global_at}
@@ -30,8 +32,8 @@ use Rattle.value_machine.proofs.Relation.{Fit, fit_hand, fit_less, fit_loose, fi
 use Rattle.value_machine.proofs.Answers.{machine, beside_state}
 use Rattle.value_machine.proofs.Converting.{Converted, converted_ok}
 use Rattle.value_machine.proofs.Simulation.{work_of, context, meant, Done, ExprOk, room_one, still_stands}
-use Rattle.value_machine.proofs.StatementForms.{FlowFits, flows_on, ready, StepDone, StepOk}
-use Rattle.value_machine.proofs.Tidy.{nop_ok}
+use Rattle.value_machine.proofs.StatementForms.{FlowFits, flows_on, ready, plain_meant, StepDone, StepOk}
+use Rattle.value_machine.proofs.Tidy.{begun_step}
 
 broke_fits : (lo : Bool) → lo ≡ true → FlowFits lo Broke
 broke_fits true e = tt
@@ -48,22 +50,26 @@ marked f zero c (suc j) = refl
 marked f (suc i) c zero = refl
 marked f (suc i) c (suc j) = marked (λ x. f (suc x)) i c j
 
-module _ (p : Program) (deepest : ℕ) (ks : List Kind) (F : List Frame) (b : Bases) (M n : ℕ) where
+module _ (p : Program) (deepest : Watch) (ks : List Kind) (F : List Frame) (b : Bases) (M n : ℕ) where
   -- some steps, and the function is left
   left_in : (w j m : ℕ) (c c1 : Conf) (P : Conf → Type 0) → Goes (machine p deepest ks F) j c c1 → j ≤ w → P c1 → Reaches (machine p deepest ks F) M w m c m P
   left_in w j m c c1 P g le q = record { conf = c1; steps = j; goes = g.it; cost = record { down = omega arith; paid = omega arith; few = omega (arith, le) }; holds = q }
 
   pub break_step : StepOk p deepest ks F b M n Break
-  unfolding step_emitted steps_emitted stepped all_stepped step_sorted steps_sorted
+  unfolding step_emitted steps_emitted step_noted steps_noted stepped step_sorted steps_sorted
   break_step r lo u d bk ct k K l σ so rm it ar wk s =
-      there (machine p deepest ks F) M 2 2 _ _ Broke σ (StepDone p deepest ks F b M n lo u bk ct k K l) (Away p deepest ks F b d K) (then_goes (nop_ok p deepest ks F b M n u K l σ s) (by_steps 1 refl)) (omega arith)
-      (record { next = l; comes = refl; starts = s; iterators = λ x. refl; flows = broke_fits lo so })
+      let P = StepDone p deepest ks F b M n lo u bk ct k K l in
+      let Q = Away p deepest ks F b d K in
+      begun_step p deepest ks F b M n _ 1 2 u K l σ P Q (plain_meant p deepest ks F b M n Break) (omega arith) s
+      (λ τ s1. there (machine p deepest ks F) M 1 1 _ _ Broke τ P Q (by_steps 1 refl) (omega arith) (record { next = l; comes = refl; starts = s1; iterators = λ x. refl; flows = broke_fits lo so }))
 
   pub continue_step : StepOk p deepest ks F b M n Continue
-  unfolding step_emitted steps_emitted stepped all_stepped step_sorted steps_sorted
+  unfolding step_emitted steps_emitted step_noted steps_noted stepped step_sorted steps_sorted
   continue_step r lo u d bk ct k K l σ so rm it ar wk s =
-      there (machine p deepest ks F) M 2 2 _ _ Continued σ (StepDone p deepest ks F b M n lo u bk ct k K l) (Away p deepest ks F b d K) (then_goes (nop_ok p deepest ks F b M n u K l σ s) (by_steps 1 refl)) (omega arith)
-      (record { next = l; comes = refl; starts = s; iterators = λ x. refl; flows = continued_fits lo so })
+      let P = StepDone p deepest ks F b M n lo u bk ct k K l in
+      let Q = Away p deepest ks F b d K in
+      begun_step p deepest ks F b M n _ 1 2 u K l σ P Q (plain_meant p deepest ks F b M n Continue) (omega arith) s
+      (λ τ s1. there (machine p deepest ks F) M 1 1 _ _ Continued τ P Q (by_steps 1 refl) (omega arith) (record { next = l; comes = refl; starts = s1; iterators = λ x. refl; flows = continued_fits lo so }))
 
   -- the way is told, and the function is left
   leaves_by : {k : Instructions} {K : List Label} {L : List Cell} → (way d : ℕ) (σ : State) →
@@ -71,16 +77,18 @@ module _ (p : Program) (deepest : ℕ) (ks : List Kind) (F : List Frame) (b : Ba
   leaves_by way d σ = then_goes (global_set_ok p.ranges (length (kinds_of p.globals)) (cells_of (kinds_of p.globals) 0 σ) Way (Bits (I32 way)) tt refl refl) (by_steps 1 refl)
 
   pub next_step : StepOk p deepest ks F b M n Next
-  unfolding step_emitted steps_emitted stepped all_stepped step_sorted steps_sorted
+  unfolding step_emitted steps_emitted step_noted steps_noted stepped step_sorted steps_sorted
   next_step r lo u d bk ct k K l σ so rm it ar wk s =
-      left_in 4 3 σ.turns _ _ (Away p deepest ks F b d K Nexted σ) (then_goes (nop_ok p deepest ks F b M n u K l σ s) (leaves_by way_next d σ)) (omega arith)
-      (record { next = l; comes = refl; loose = fit_loose p deepest ks F 0 u 0 l σ s.fit; answer = s.fit.answer; after = (s.fit.sound, fit_holds_none p deepest ks F u l σ s.fit) })
+      let Q = Away p deepest ks F b d K in
+      begun_step p deepest ks F b M n _ 3 4 u K l σ (StepDone p deepest ks F b M n lo u bk ct k K l) Q (plain_meant p deepest ks F b M n Next) (omega arith) s
+      (λ τ s1. left_in 3 2 τ.turns _ _ (Q Nexted τ) (leaves_by way_next d τ) (omega arith) (record { next = l; comes = refl; loose = fit_loose p deepest ks F 0 u 0 l τ s1.fit; answer = s1.fit.answer; after = (s1.fit.sound, fit_holds_none p deepest ks F u l τ s1.fit) }))
 
   pub exit_step : StepOk p deepest ks F b M n Exit
-  unfolding step_emitted steps_emitted stepped all_stepped step_sorted steps_sorted
+  unfolding step_emitted steps_emitted step_noted steps_noted stepped step_sorted steps_sorted
   exit_step r lo u d bk ct k K l σ so rm it ar wk s =
-      left_in 4 3 σ.turns _ _ (Away p deepest ks F b d K Exited σ) (then_goes (nop_ok p deepest ks F b M n u K l σ s) (leaves_by way_exit d σ)) (omega arith)
-      (record { next = l; comes = refl; loose = fit_loose p deepest ks F 0 u 0 l σ s.fit; answer = s.fit.answer; after = (s.fit.sound, fit_holds_none p deepest ks F u l σ s.fit) })
+      let Q = Away p deepest ks F b d K in
+      begun_step p deepest ks F b M n _ 3 4 u K l σ (StepDone p deepest ks F b M n lo u bk ct k K l) Q (plain_meant p deepest ks F b M n Exit) (omega arith) s
+      (λ τ s1. left_in 3 2 τ.turns _ _ (Q Exited τ) (leaves_by way_exit d τ) (omega arith) (record { next = l; comes = refl; loose = fit_loose p deepest ks F 0 u 0 l τ s1.fit; answer = s1.fit.answer; after = (s1.fit.sound, fit_holds_none p deepest ks F u l τ s1.fit) }))
 
   -- the status is told too
   exits_with : {k : Instructions} {K : List Label} → (d : ℕ) (l : Locals) (m : Number) (σ : State) → zero < b.temporaries → l.number zero ≡ Bits (I64 (number_word m)) →
@@ -91,8 +99,8 @@ module _ (p : Program) (deepest : ℕ) (ks : List Kind) (F : List Frame) (b : Ba
       (then_goes (global_set_ok p.ranges (length (kinds_of p.globals)) (cells_of (kinds_of p.globals) 0 σ) Status (Bits (I64 (number_word m))) tt refl refl) (leaves_by way_exit d (with_status m σ)))
 
   pub exit_with_step : (e : Code) → ExprOk p deepest ks F b M n e → StepOk p deepest ks F b M n (ExitWith e)
-  unfolding step_emitted steps_emitted stepped all_stepped step_sorted steps_sorted
-  exit_with_step e ok r lo u d bk ct k K l σ so rm it ar wk s =
+  unfolding step_emitted steps_emitted step_noted steps_noted stepped step_sorted steps_sorted
+  exit_with_step e ok r lo u d bk ct k K l σ0 so rm it ar wk s0 =
       let mach = machine p deepest ks F in
       let ctx = context p deepest ks F b M n in
       let Q = Away p deepest ks F b d K in
@@ -102,8 +110,8 @@ module _ (p : Program) (deepest : ℕ) (ks : List Kind) (F : List Frame) (b : Ba
       let k1 = to_number b f zero d k2 in
       let s1 = and_parts (fits f sort.Number) (sorted ctx [] e) so in
       let r1 = room_one e in
-      first mach M 1 (work_of e + 20) (30 + work_of e) σ.turns _ _ P Q _ (nop_ok p deepest ks F b M n u K l σ s) (omega arith)
-      (then_on mach M (work_of e) 20 (work_of e + 20) σ.turns _ (Done p deepest ks F b M n false e [] tt [] (λ i. There) zero u zero k1 K l σ) P Q (meant p deepest ks F b M n [] tt e σ) _ (omega arith)
+      begun_step p deepest ks F b M n _ (work_of e + 20) (30 + work_of e) u K l σ0 P Q (plain_meant p deepest ks F b M n (ExitWith e)) (omega arith) s0
+      (λ σ s. then_on mach M (work_of e) 20 (work_of e + 20) σ.turns _ (Done p deepest ks F b M n false e [] tt [] (λ i. There) zero u zero k1 K l σ) P Q (meant p deepest ks F b M n [] tt e σ) _ (omega arith)
       (ok false [] tt [] (λ i. There) zero u zero d k1 K l σ s1.1 (λ i lt. absurd (omega (arith, lt))) (omega (arith, rm)) (omega (arith, ar)) (ready p deepest ks F b M n u K l σ s))
       (λ x τ c1 le h.
       let C = Converted p deepest ks F b M 1 u zero zero (Answered (answer.Of sort.Number)) k2 K h.next in
@@ -121,8 +129,8 @@ module _ (p : Program) (deepest : ℕ) (ks : List Kind) (F : List Frame) (b : Ba
       })))))
 
   pub return_step : (e : Code) → ExprOk p deepest ks F b M n e → StepOk p deepest ks F b M n (Return e)
-  unfolding step_emitted steps_emitted stepped all_stepped step_sorted steps_sorted
-  return_step e ok r lo u d bk ct k K l σ so rm it ar wk s =
+  unfolding step_emitted steps_emitted step_noted steps_noted stepped step_sorted steps_sorted
+  return_step e ok r lo u d bk ct k K l σ0 so rm it ar wk st =
       let mach = machine p deepest ks F in
       let ctx = context p deepest ks F b M n in
       let Q = Away p deepest ks F b d K in
@@ -133,8 +141,8 @@ module _ (p : Program) (deepest : ℕ) (ks : List Kind) (F : List Frame) (b : Ba
       let s0 = and_parts r (fits f sort.Value && sorted ctx [] e) so in
       let s1 = and_parts (fits f sort.Value) (sorted ctx [] e) s0.1 in
       let r1 = room_one e in
-      first mach M 1 (work_of e + 20) (30 + work_of e) σ.turns _ _ P Q _ (nop_ok p deepest ks F b M n u K l σ s) (omega arith)
-      (then_on mach M (work_of e) 20 (work_of e + 20) σ.turns _ (Done p deepest ks F b M n false e [] tt [] (λ i. There) zero u zero k1 K l σ) P Q (meant p deepest ks F b M n [] tt e σ) _ (omega arith)
+      begun_step p deepest ks F b M n _ (work_of e + 20) (30 + work_of e) u K l σ0 P Q (plain_meant p deepest ks F b M n (Return e)) (omega arith) st
+      (λ σ s. then_on mach M (work_of e) 20 (work_of e + 20) σ.turns _ (Done p deepest ks F b M n false e [] tt [] (λ i. There) zero u zero k1 K l σ) P Q (meant p deepest ks F b M n [] tt e σ) _ (omega arith)
       (ok false [] tt [] (λ i. There) zero u zero d k1 K l σ s1.1 (λ i lt. absurd (omega (arith, lt))) (omega (arith, rm)) (omega (arith, ar)) (ready p deepest ks F b M n u K l σ s))
       (λ x τ c1 le h.
       let C = Converted p deepest ks F b M 1 u zero zero (Answered (answer.Of sort.Value)) k2 K h.next in
@@ -165,16 +173,18 @@ module _ (p : Program) (deepest : ℕ) (ks : List Kind) (F : List Frame) (b : Ba
       (cells_same (upd g.range i (Bits (I32 (flag_number c)))) (λ j. Bits (I32 (flag_number (changed σ.ranges i c j)))) p.ranges (λ j lt. marked σ.ranges i c j))
 
   pub mark_step : (i : ℕ) (c : Bool) → StepOk p deepest ks F b M n (Mark i c)
-  unfolding step_emitted steps_emitted stepped all_stepped step_sorted steps_sorted
-  mark_step i c r lo u d bk ct k K l σ so rm it ar wk s =
-      there (machine p deepest ks F) M 2 2 _ _ Normal (with_range i c σ) (StepDone p deepest ks F b M n lo u bk ct k K l) (Away p deepest ks F b d K)
-      (then_goes (nop_ok p deepest ks F b M n u K l σ s)
+  unfolding step_emitted steps_emitted step_noted steps_noted stepped step_sorted steps_sorted
+  mark_step i c r lo u d bk ct k K l σ0 so rm it ar wk s0 =
+      let P = StepDone p deepest ks F b M n lo u bk ct k K l in
+      let Q = Away p deepest ks F b d K in
+      begun_step p deepest ks F b M n _ 1 2 u K l σ0 P Q (plain_meant p deepest ks F b M n (Mark i c)) (omega arith) s0
+      (λ σ s. there (machine p deepest ks F) M 1 1 _ _ Normal (with_range i c σ) P Q
       (goes_to (global_set_ok p.ranges (length (kinds_of p.globals)) (cells_of (kinds_of p.globals) 0 σ) (Range i) (Bits (I32 (flag_number c))) (ltb-true i p.ranges so) refl refl)
-      (ap (λ m. at ks [] K (laid b l) F k (storing m (host_of σ None))) (range_written i c σ)))) (omega arith)
+      (ap (λ m. at ks [] K (laid b l) F k (storing m (host_of σ None))) (range_written i c σ))) (omega arith)
       (record {
         next = l;
         comes = refl;
         starts = record { fit = fit_range i c 0 u 0 l σ s.fit; walked = s.walked; walks = s.walks; loops = s.loops; turns = s.turns; parameters = s.parameters };
         iterators = λ x. refl;
         flows = flows_on lo;
-      })
+      }))

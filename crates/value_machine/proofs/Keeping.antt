@@ -15,7 +15,8 @@ use Rattle.value_machine.specs.Machine.{Conf, Label, Frame, at, loops_walked}
 use Rattle.value_machine.specs.Places.{Bases}
 use Rattle.value_machine.specs.Small.{unused, released, moved_from, number_copied, let_go, h, moved}
 use Rattle.value_machine.specs.declared.import.Import.TheVariants.{Drop}
-use Rattle.value_machine.proofs.Runs.{Goes, then_goes, stays, goes_from, first, then_on, then_step}
+use Rattle.value_machine.proofs.Watch.{Watch}
+use Rattle.value_machine.proofs.Runs.{Goes, then_goes, stays, goes_from, first, then_on, then_step, weaker}
 use Rattle.value_machine.proofs.Regions.{upd_same, upd_other}
 use Rattle.value_machine.proofs.Locals.{Locals, Hand, Number as NumberAt, with_at, laid}
 use Rattle.value_machine.proofs.Steps.{empty, set_ok, get_copied, moved_out_ok}
@@ -55,7 +56,7 @@ kept_left There f t l x q = hand_left f x (l.hand t) q.0
 kept_left Moved f t l x q = q
 kept_left Misused f t l x q = q
 
-module _ (p : Program) (deepest : ℕ) (ks : List Kind) (F : List Frame) (b : Bases) (M n : ℕ) where
+module _ (p : Program) (deepest : Watch) (ks : List Kind) (F : List Frame) (b : Bases) (M n : ℕ) where
   -- a temporary has no handle any more
   pub record Freed (t u w : ℕ) (most : ℕ) (c : Conf) (k : Instructions) (K : List Label) (l : Locals) (σ : State) : Type 0 where
     pub next : Locals

@@ -10,20 +10,22 @@ use Rattle.wasm_types.specs.declared.types.ValType.TheVariants.{I32}
 use Rattle.wasm_types.specs.declared.instr.Simple.TheVariants.{Br, BrIf, LocalGet, LocalSet, LocalTee, I32Const, Compare}
 use Rattle.wasm_types.specs.declared.instr.IRelOp.TheVariants.{Eq}
 use Rattle.mid_program.specs.Mid.{Kind, Program, Code, Step, Each, a_value, form_of, form_at}
-use Rattle.mid_program.specs.MidMeaning.{stepped, all_stepped, keyed, mid_called}
+use Rattle.mid_program.specs.MidMeaning.{keyed}
 use Rattle.mid_program.specs.Names.{ArrayName, Numbered, Given}
 use Rattle.mid_program.specs.ScriptState.{State, Stop, Gives, Doing, ◌>>=◌, does, go_on}
 use Rattle.mid_program.specs.Sorted.{There, calls_of, sorted, stores_well, keeps_well, is_dropped, is_well_used, held_after, is_array_place, step_sorted, steps_sorted}
 use Rattle.mid_program.specs.Statements.{Flow, Normal, Broke, Continued, at_key, after_round, over_keys}
 use Rattle.mid_program.specs.Steps.{array_number}
 use Rattle.value_machine.specs.Cells.{Cell, Bits, Held, IteratorOf, Gone, is_owned}
-use Rattle.value_machine.specs.Emission.{dropped, left_over}
+use Rattle.value_machine.specs.Emission.{array_pushed, dropped, left_over}
 use Rattle.value_machine.specs.ImportCalls.{key_or_end, end_word, with_some, and_rest, row_in}
 use Rattle.value_machine.specs.Machine.{Conf, Look, Label, Frame, at, label, ask_looking, with_operands, push_word, looked_compared, go}
+use Rattle.value_machine.specs.Noted.{noted_called, step_noted, steps_noted}
 use Rattle.value_machine.specs.Places.{Bases, room, arrays_in, iterator_local, step_room, step_iterators, step_arrays}
 use Rattle.value_machine.specs.Small.{does as instruction, ask_row, ask, let_go, moved_out, end_code, h}
 use Rattle.value_machine.specs.Statements.{block, again, key_stored, iterator_left, step_emitted, steps_emitted}
 use Rattle.value_machine.specs.declared.import.Import.TheVariants.{Of, Drop, IterFree}
+use Rattle.value_machine.proofs.Watch.{Watch}
 use Rattle.value_machine.proofs.Runs.{Goes, goes_to, goes_from, then_goes, by_steps, stays, first, then_on, then_step, there, turned, weaker, Onward}
 use Rattle.value_machine.proofs.Regions.{upd_same, upd_other, upd_all}
 use Rattle.value_machine.proofs.Locals.{Locals, Hand, Iterator, with_at, has_with, laid, laid_at, laid_twice, laid_again}
@@ -36,7 +38,7 @@ use Rattle.value_machine.proofs.HostCalls.{calm_after}
 use Rattle.value_machine.proofs.Simulation.{work_of, context, layout, meant, Done, ExprOk, NoArray, room_one}
 use Rattle.value_machine.proofs.Keeping.{left_ok}
 use Rattle.value_machine.proofs.StatementForms.{step_work, flows_on, step_meant, Starts, starts_after, starts_among, Here, StepDone, StepOk}
-use Rattle.value_machine.proofs.Tidy.{nop_ok}
+use Rattle.value_machine.proofs.Tidy.{begun_step}
 use Rattle.value_machine.proofs.Loops.{after_body, after_loop}
 
 plain_key : (i : ℕ) → NoArray (form_at (a_value ∷ []) i)
@@ -51,7 +53,7 @@ array_told : (a : ArrayName) (σ : State) → array_number a σ ≡ Gives (array
 array_told (Numbered i) σ = refl
 array_told (Given i) σ = refl
 
-module _ (p : Program) (deepest : ℕ) (ks : List Kind) (F : List Frame) (b : Bases) (M n : ℕ) where
+module _ (p : Program) (deepest : Watch) (ks : List Kind) (F : List Frame) (b : Bases) (M n : ℕ) where
   -- one iterator more is in use, or one less
   fit_walked : (i t u w : ℕ) (l : Locals) (σ : State) → Fit p deepest ks F t u w l σ → Fit p deepest ks F t (suc u) w (with_at l (Iterator u) (IteratorOf i)) σ
   fit_walked i t u w l σ f = record {
@@ -140,7 +142,7 @@ module _ (p : Program) (deepest : ℕ) (ks : List Kind) (F : List Frame) (b : Ba
     stored : ExprOk p deepest ks F b M n e → (key : Value) (σ : State) (l1 : Locals) → keeps_well e ≡ true → sorted (context p deepest ks F b M n) (a_value ∷ []) e ≡ true → suc (room e) ≤ b.temporaries → arrays_in e ≤ b.arrays → Starts p deepest ks F b M n (suc u) key_labels l1 σ →
         ((x : ℕ) → l1.iterator x ≡ walking.iterator x) →
         Reached p deepest ks F b M (work_of e + 16) σ.turns (at ks [] key_labels (laid b (with_at l1 (Hand zero) (Held key))) F (dropped (layout p deepest ks F b M n) (a_value ∷ []) (zero ∷ []) e 1 zero (suc (suc d)) drop_code) (beside_state p deepest ks F σ))
-        (λ x. At body_code) (Away p deepest ks F b d K) (keyed p.texts (calls_of p) n (mid_called p n) e key σ)
+        (λ x. At body_code) (Away p deepest ks F b d K) (keyed p.texts (calls_of p) n (noted_called deepest.notes p n) e key σ)
     stored ok key σ l1 kw so rm ar st same =
         let mach = machine p deepest ks F in
         let l2 = with_at l1 (Hand zero) (Held key) in
@@ -207,16 +209,16 @@ module _ (p : Program) (deepest : ℕ) (ks : List Kind) (F : List Frame) (b : Ba
     key_work = (work_of e + 16) + ((step_work s + 3) + 6)
 
     body_ok : StepOk p deepest ks F b M n s → (r : Bool) (σ : State) (c : Conf) → step_sorted (context p deepest ks F b M n) r true s ≡ true → step_room s ≤ b.temporaries → suc u + step_iterators s ≤ b.iterators → step_arrays s ≤ b.arrays → step_work s ≤ M → At body_code σ c →
-        Reached p deepest ks F b M (step_work s + 3) σ.turns c (after_body (At key_code) Passed) (Away p deepest ks F b d K) (step_meant p deepest ks F b M n s σ)
+        Reached p deepest ks F b M (step_work s + 3) σ.turns c (after_body (At key_code) Passed) (Away p deepest ks F b d K) (step_meant p deepest ks F b M n s (suc u) (suc (suc (suc d))) 2 zero NoMore σ)
     body_ok ok r σ c so rm it ar wk a =
         let mach = machine p deepest ks F in
         let inner = label [] None (instruction (Br zero) NoMore) in
         let K1 = inner ∷ key_labels in
         let D = StepDone p deepest ks F b M n true (suc u) 2 zero NoMore K1 a.next in
         let Q = Away p deepest ks F b d K in
-        first mach M 1 (step_work s + 2) (step_work s + 3) σ.turns c _ (after_body (At key_code) Passed) Q (step_meant p deepest ks F b M n s σ) (goes_from a.comes (by_steps 1 refl)) (omega arith)
-        (then_step mach M 2 (step_work s) (step_work s + 2) σ.turns _ D (after_body (At key_code) Passed) Q (step_meant p deepest ks F b M n s σ) (omega arith) (λ f τ c1 q. body_ends a.next f τ c1 a.iterators q)
-        (weaker mach M (step_work s) σ.turns _ D D (Away p deepest ks F b (suc (suc (suc d))) K1) Q (step_meant p deepest ks F b M n s σ) (λ f τ c1 q. q)
+        first mach M 1 (step_work s + 2) (step_work s + 3) σ.turns c _ (after_body (At key_code) Passed) Q (step_meant p deepest ks F b M n s (suc u) (suc (suc (suc d))) 2 zero NoMore σ) (goes_from a.comes (by_steps 1 refl)) (omega arith)
+        (then_step mach M 2 (step_work s) (step_work s + 2) σ.turns _ D (after_body (At key_code) Passed) Q (step_meant p deepest ks F b M n s (suc u) (suc (suc (suc d))) 2 zero NoMore σ) (omega arith) (λ f τ c1 q. body_ends a.next f τ c1 a.iterators q)
+        (weaker mach M (step_work s) σ.turns _ D D (Away p deepest ks F b (suc (suc (suc d))) K1) Q (step_meant p deepest ks F b M n s (suc u) (suc (suc (suc d))) 2 zero NoMore σ) (λ f τ c1 q. q)
         (λ why τ c1 q. away_keys why τ c1 (away_out p deepest ks F b (suc (suc d)) inner key_labels why τ c1 q))
         (ok r true (suc u) (suc (suc (suc d))) 2 zero NoMore K1 a.next σ so rm it ar wk (starts_among p deepest ks F b M n (suc u) key_labels K1 a.next σ refl a.starts))))
 
@@ -256,17 +258,17 @@ module _ (p : Program) (deepest : ℕ) (ks : List Kind) (F : List Frame) (b : Ba
 
     keys_ok : ExprOk p deepest ks F b M n e → StepOk p deepest ks F b M n s → (r : Bool) → keeps_well e ≡ true → sorted (context p deepest ks F b M n) (a_value ∷ []) e ≡ true → suc (room e) ≤ b.temporaries → arrays_in e ≤ b.arrays →
         step_sorted (context p deepest ks F b M n) r true s ≡ true → step_room s ≤ b.temporaries → suc u + step_iterators s ≤ b.iterators → step_arrays s ≤ b.arrays → 3 + key_work ≤ M →
-        (m : ℕ) (σ : State) (c : Conf) → σ.turns ≤ m → At key_code σ c → Reached p deepest ks F b M 6 σ.turns c (after_loop Passed) (Away p deepest ks F b d K) (over_keys m t (keyed p.texts (calls_of p) n (mid_called p n) e) (step_meant p deepest ks F b M n s) σ)
+        (m : ℕ) (σ : State) (c : Conf) → σ.turns ≤ m → At key_code σ c → Reached p deepest ks F b M 6 σ.turns c (after_loop Passed) (Away p deepest ks F b d K) (over_keys m t (keyed p.texts (calls_of p) n (noted_called deepest.notes p n) e) (step_meant p deepest ks F b M n s (suc u) (suc (suc (suc d))) 2 zero NoMore) σ)
     unfolding over_keys
     keys_ok oke oks r kw so rm ar so1 rm1 it1 ar1 wk zero σ c le a = keys_next 0 σ c _ (omega (arith, wk)) a (λ key τ l1 j q q1 st same. absurd (omega (arith, q, le)))
     keys_ok oke oks r kw so rm ar so1 rm1 it1 ar1 wk (suc m) σ c le a =
         let mach = machine p deepest ks F in
         let Q = Away p deepest ks F b d K in
         keys_next key_work σ c _ wk a (λ key τ l1 j q q1 st same.
-        then_on mach M (work_of e + 16) ((step_work s + 3) + 6) key_work τ.turns _ (λ x. At body_code) (after_loop Passed) Q (keyed p.texts (calls_of p) n (mid_called p n) e key τ) _ (omega arith) (stored oke key τ l1 kw so rm ar st same)
+        then_on mach M (work_of e + 16) ((step_work s + 3) + 6) key_work τ.turns _ (λ x. At body_code) (after_loop Passed) Q (keyed p.texts (calls_of p) n (noted_called deepest.notes p n) e key τ) _ (omega arith) (stored oke key τ l1 kw so rm ar st same)
         (λ x τ1 c1 le1 a1.
-        then_on mach M (step_work s + 3) 6 ((step_work s + 3) + 6) τ1.turns c1 (after_body (At key_code) Passed) (after_loop Passed) Q (step_meant p deepest ks F b M n s τ1) _ (omega arith) (body_ok oks r τ1 c1 so1 rm1 it1 ar1 (omega (arith, wk)) a1)
-        (λ f τ2 c2 le2 a2. flowed f τ2 c2 (over_keys m t (keyed p.texts (calls_of p) n (mid_called p n) e) (step_meant p deepest ks F b M n s)) a2
+        then_on mach M (step_work s + 3) 6 ((step_work s + 3) + 6) τ1.turns c1 (after_body (At key_code) Passed) (after_loop Passed) Q (step_meant p deepest ks F b M n s (suc u) (suc (suc (suc d))) 2 zero NoMore τ1) _ (omega arith) (body_ok oks r τ1 c1 so1 rm1 it1 ar1 (omega (arith, wk)) a1)
+        (λ f τ2 c2 le2 a2. flowed f τ2 c2 (over_keys m t (keyed p.texts (calls_of p) n (noted_called deepest.notes p n) e) (step_meant p deepest ks F b M n s (suc u) (suc (suc (suc d))) 2 zero NoMore)) a2
         (λ a3. keys_ok oke oks r kw so rm ar so1 rm1 it1 ar1 wk m τ2 c2 (omega (arith, le, q, q1, le1, le2)) a3))))
 
     -- the iterator is let go
@@ -308,9 +310,20 @@ module _ (p : Program) (deepest : ℕ) (ks : List Kind) (F : List Frame) (b : Ba
           | inr ne ↦ upd_other l1.iterator u x empty ne ∙ (same x ∙ upd_other l.iterator u x (IteratorOf t) ne)
         ]
 
-  pub each_step : (a : ArrayName) (e : Code) (s : Step) → ExprOk p deepest ks F b M n e → StepOk p deepest ks F b M n s → StepOk p deepest ks F b M n (Each a e s)
-  unfolding step_emitted steps_emitted stepped all_stepped step_sorted steps_sorted
-  each_step a e s oke oks r lo u d bk ct k K l σ so rm it ar wk st =
+  abbrev walk_code : ArrayName → Code → Step → (u d : ℕ) → Instructions → Instructions
+  walk_code a e s u d k =
+      array_pushed (layout p deepest ks F b M n) a (ask_row row.Iter (instruction (LocalSet (iterator_local b u)) (block (again (key_stored (layout p deepest ks F b M n) u e (suc (suc d))
+      (block (step_emitted (layout p deepest ks F b M n) s (suc u) (suc (suc (suc d))) 2 zero NoMore) (instruction (Br zero) NoMore))) NoMore) (iterator_left (layout p deepest ks F b M n) u k))))
+
+  -- what a loop over keys means once its place is noted
+  abbrev walk_meant : ArrayName → Code → Step → (u d : ℕ) → Doing Flow
+  walk_meant a e s u d = array_number a >>= λ m. does row.Iter (m, tt) >>= λ keys. over_keys n keys (keyed p.texts (calls_of p) n (noted_called deepest.notes p n) e) (step_meant p deepest ks F b M n s (suc u) (suc (suc (suc d))) 2 zero NoMore)
+
+  each_done : (a : ArrayName) (e : Code) (s : Step) → ExprOk p deepest ks F b M n e → StepOk p deepest ks F b M n s → (r lo : Bool) (u d bk ct : ℕ) (k : Instructions) (K : List Label) (l : Locals) (σ : State) →
+      step_sorted (context p deepest ks F b M n) r lo (Each a e s) ≡ true → step_room (Each a e s) ≤ b.temporaries → u + step_iterators (Each a e s) ≤ b.iterators → step_arrays (Each a e s) ≤ b.arrays → step_work (Each a e s) ≤ M → Starts p deepest ks F b M n u K l σ →
+      Reached p deepest ks F b M (59 + (work_of e + step_work s)) σ.turns (at ks [] K (laid b l) F (walk_code a e s u d k) (beside_state p deepest ks F σ)) (StepDone p deepest ks F b M n lo u bk ct k K l) (Away p deepest ks F b d K) (walk_meant a e s u d σ)
+  unfolding step_sorted steps_sorted
+  each_done a e s oke oks r lo u d bk ct k K l σ so rm it ar wk st =
       let mach = machine p deepest ks F in
       let ctx = context p deepest ks F b M n in
       let Q = Away p deepest ks F b d K in
@@ -335,12 +348,11 @@ module _ (p : Program) (deepest : ℕ) (ks : List Kind) (F : List Frame) (b : Ba
       let f0 = fit_shared p deepest ks F 0 u 0 l σ τ.shared (calm_after p row.Iter (x, tt) σ.shared refl st.fit.sound.calm) st.fit in
       let f1 = fit_walked i 0 u 0 l τ f0 in
       let decoded : row_in mach.memory (arguments_of row.Iter) (y.cell ∷ []) ≡ Some (x, tt) = ap (λ o. with_some (and_rest o []) (λ z. with_some (row_in mach.memory [] z.1) (λ rest. Some (z.0, rest)))) (array_in_sort p deepest ks F x y.cell y.array) in
-      first mach M (1 + (y.steps + 4)) 10 (60 + (work_of e + step_work s)) σ.turns _ (at ks [] Kl (laid b l1) F kc (beside_state p deepest ks F τ)) P Q _
-      (then_goes (nop_ok p deepest ks F b M n u K l σ st)
+      first mach M (y.steps + 4) 10 (59 + (work_of e + step_work s)) σ.turns _ (at ks [] Kl (laid b l1) F kc (beside_state p deepest ks F τ)) P Q _
       (then_goes y.goes
       (then_goes (row_called p deepest ks F row.Iter (x, tt) (y.cell ∷ []) [] σ refl refl (ap (λ q. q && true) (array_live p deepest ks F x y.cell (laid b l) σ y.array)) decoded refl)
-      (then_goes (set_ok b l (Iterator u) (IteratorOf i) lu (ap is_owned (st.fit.still u (omega arith)))) (by_steps 2 refl))))) (omega (arith, y.few))
-      (subst (λ o. Reached p deepest ks F b M 10 σ.turns (at ks [] Kl (laid b l1) F kc (beside_state p deepest ks F τ)) P Q (go_on o (λ m. does row.Iter (m, tt) >>= λ keys. over_keys n keys (keyed p.texts (calls_of p) n (mid_called p n) e) (step_meant p deepest ks F b M n s)))) (sym (array_told a σ))
+      (then_goes (set_ok b l (Iterator u) (IteratorOf i) lu (ap is_owned (st.fit.still u (omega arith)))) (by_steps 2 refl)))) (omega (arith, y.few))
+      (subst (λ o. Reached p deepest ks F b M 10 σ.turns (at ks [] Kl (laid b l1) F kc (beside_state p deepest ks F τ)) P Q (go_on o (λ m. does row.Iter (m, tt) >>= λ keys. over_keys n keys (keyed p.texts (calls_of p) n (noted_called deepest.notes p n) e) (step_meant p deepest ks F b M n s (suc u) (suc (suc (suc d))) 2 zero NoMore)))) (sym (array_told a σ))
       (then_step mach M 4 6 10 σ.turns _ (after_loop (Passed e s u d k K l i lt lu)) P Q _ (omega arith)
       (λ f τ1 c1 q. passed_ends e s u d k K l i lt lu lo bk ct σ f τ1 c1 st q)
       (keys_ok e s u d k K l i lt lu oke oks r s3.0 s4.0 (omega (arith, rm)) (omega (arith, ar)) s4.1 (omega (arith, rm)) (omega (arith, it)) (omega (arith, ar)) (omega (arith, wk)) n τ _ st.turns
@@ -360,3 +372,9 @@ module _ (p : Program) (deepest : ℕ) (ks : List Kind) (F : List Frame) (b : Ba
         };
         iterators = λ z. refl;
       }))))
+
+  pub each_step : (a : ArrayName) (e : Code) (s : Step) → ExprOk p deepest ks F b M n e → StepOk p deepest ks F b M n s → StepOk p deepest ks F b M n (Each a e s)
+  unfolding step_emitted steps_emitted step_noted steps_noted
+  each_step a e s oke oks r lo u d bk ct k K l σ so rm it ar wk st =
+      begun_step p deepest ks F b M n _ (59 + (work_of e + step_work s)) (60 + (work_of e + step_work s)) u K l σ (StepDone p deepest ks F b M n lo u bk ct k K l) (Away p deepest ks F b d K) (walk_meant a e s u d) (omega arith) st
+      (λ τ st1. each_done a e s oke oks r lo u d bk ct k K l τ so rm it ar wk st1)

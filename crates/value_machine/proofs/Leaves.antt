@@ -18,6 +18,7 @@ use Rattle.value_machine.specs.Emission.{emitted, all_emitted}
 use Rattle.value_machine.specs.Machine.{Frame}
 use Rattle.value_machine.specs.Places.{Bases}
 use Rattle.value_machine.specs.Small.{least}
+use Rattle.value_machine.proofs.Watch.{Watch}
 use Rattle.value_machine.proofs.Runs.{then_goes, stays, by_steps, there}
 use Rattle.value_machine.proofs.Locals.{Number as NumberAt}
 use Rattle.value_machine.proofs.Globals.{Range}
@@ -29,7 +30,7 @@ use Rattle.value_machine.proofs.Answers.{machine, put_word}
 use Rattle.value_machine.proofs.Simulation.{Done, ExprOk}
 use Rattle.value_machine.proofs.Expressions.{constant_word, put_done}
 
-module _ (p : Program) (deepest : ℕ) (ks : List Kind) (F : List Frame) (b : Bases) (M n : ℕ) where
+module _ (p : Program) (deepest : Watch) (ks : List Kind) (F : List Frame) (b : Bases) (M n : ℕ) where
   pub number_expr : (z : ℤ) → ExprOk p deepest ks F b M n (Number z)
   unfolding emitted all_emitted evaluated all_evaluated sorted all_sorted
   number_expr z v fs env ts st t u w d k K l σ so us rm ar rd =

@@ -33,6 +33,7 @@ use Rattle.value_machine.specs.Places.{Bases}
 use Rattle.value_machine.specs.Small.{ask, kept, to_value}
 use Rattle.value_machine.specs.declared.import.Import.TheVariants.{Over as OverLast, Arg}
 use Rattle.value_machine.specs.declared.import.Listing.TheVariants as last
+use Rattle.value_machine.proofs.Watch.{Watch}
 use Rattle.value_machine.proofs.Runs.{Goes, then_goes, goes_to, goes_from, stays, first, then_on, weaker_settled}
 use Rattle.value_machine.proofs.Regions.{upd_same, upd_other}
 use Rattle.value_machine.proofs.Locals.{Locals, Hand, with_at, laid}
@@ -85,7 +86,7 @@ all_taken n vs e = let z : length vs - n ≡ zero = omega (arith, e) in ap (λ m
 none_left : (n : ℕ) (vs : List Value) → n ≡ length vs → before_last_of n vs ≡ []
 none_left n vs e = let z : length vs - n ≡ zero = omega (arith, e) in ap (λ m. take m vs) z
 
-module _ (p : Program) (deepest : ℕ) (ks : List Kind) (F : List Frame) (b : Bases) (M n : ℕ) where
+module _ (p : Program) (deepest : Watch) (ks : List Kind) (F : List Frame) (b : Bases) (M n : ℕ) where
   -- the state with an argument list
   abbrev with_list : State → List Value → Host
   with_list σ vs = record { shared = σ.shared; arguments = vs; fault = None }

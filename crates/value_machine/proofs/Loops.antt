@@ -7,17 +7,18 @@ use Rattle.wasm_types.specs.declared.types.ValType.TheVariants.{I32}
 use Rattle.wasm_types.specs.declared.instr.Simple.TheVariants.{Nop, Br, BrIf, Test}
 use Rattle.wasm_types.specs.declared.instr.ITestOp.TheVariants.{Eqz}
 use Rattle.mid_program.specs.Mid.{Kind, Program, Code, Step, Block, Loop, NoStep}
-use Rattle.mid_program.specs.MidMeaning.{stepped, all_stepped}
 use Rattle.mid_program.specs.ScriptRun.{GoesOn}
-use Rattle.mid_program.specs.ScriptState.{State, Stop, Outcome, Doing, ◌>>◌, nothing, give, go_on}
+use Rattle.mid_program.specs.ScriptState.{State, Stop, Outcome, Doing, ◌>>=◌, ◌>>◌, nothing, give, go_on}
 use Rattle.mid_program.specs.Sorted.{test_sorted, step_sorted, steps_sorted}
 use Rattle.mid_program.specs.Statements.{Flow, Normal, Broke, Continued, after_round, loop}
 use Rattle.value_machine.specs.Emission.{tested}
+use Rattle.value_machine.specs.Noted.{noted, noting, step_noted, steps_noted}
 use Rattle.value_machine.specs.Quick.{Within, test_within, Pair, pair_in, pair_names, all_unsure, step_jumps, is_nothing}
 use Rattle.value_machine.specs.Machine.{Conf, Label, Frame, at, label, ending_at, is_walk, loops_walked}
 use Rattle.value_machine.specs.Places.{Bases, step_room, step_iterators, step_arrays}
 use Rattle.value_machine.specs.Small.{does}
 use Rattle.value_machine.specs.Statements.{block, again, left_unless, left_unless_pair, name_read, step_emitted, steps_emitted}
+use Rattle.value_machine.proofs.Watch.{Watch}
 use Rattle.value_machine.proofs.Runs.{Goes, goes_from, then_goes, by_steps, stays, first, then_on, then_step, there, turned, weaker, Onward}
 use Rattle.value_machine.proofs.Locals.{Locals, laid}
 use Rattle.value_machine.proofs.Relation.{Away, away_out, fit_turns}
@@ -25,7 +26,7 @@ use Rattle.value_machine.proofs.Pieces.{closes}
 use Rattle.value_machine.proofs.Answers.{machine, beside_state, Reached}
 use Rattle.value_machine.proofs.Simulation.{work_of, context, layout, ExprOk}
 use Rattle.value_machine.proofs.StatementForms.{step_work, flows_on, step_meant, Starts, starts_after, starts_among, Here, StepDone, StepOk}
-use Rattle.value_machine.proofs.Tidy.{nop_ok}
+use Rattle.value_machine.proofs.Tidy.{nop_ok, starts_noted, begun_step}
 use Rattle.value_machine.proofs.Branches.{TestDone, test_meant, test_ok}
 use Rattle.value_machine.proofs.Walks.{test_walks}
 use Rattle.value_machine.proofs.QuickSteps.{Left, left_unless_ok}
@@ -47,7 +48,7 @@ after_loop outside Normal σ c = outside σ c
 after_loop outside Broke σ c = ⊥
 after_loop outside Continued σ c = ⊥
 
-module _ (p : Program) (deepest : ℕ) (ks : List Kind) (F : List Frame) (b : Bases) (M n : ℕ) where
+module _ (p : Program) (deepest : Watch) (ks : List Kind) (F : List Frame) (b : Bases) (M n : ℕ) where
   -- a step before a test, which spends a turn
   pub record Turn (Test : State → Conf → Type 0) (σ : State) (c : Conf) : Type 0 where
     pub conf : Conf
@@ -141,14 +142,14 @@ module _ (p : Program) (deepest : ℕ) (ks : List Kind) (F : List Frame) (b : Ba
     pub body_ok : (x : Step) → StepOk p deepest ks F b M n x → (r : Bool) (cs : Instructions) (σ : State) (c : Conf) →
         step_sorted (context p deepest ks F b M n) r true x ≡ true → step_room x ≤ b.temporaries → u + step_iterators x ≤ b.iterators → step_arrays x ≤ b.arrays → step_work x ≤ M →
         At (block (step_emitted (layout p deepest ks F b M n) x u (suc (suc (suc d))) 2 zero NoMore) cs) σ c →
-        Reached p deepest ks F b M (step_work x + 2) σ.turns c (after_body (At cs) Out) (Away p deepest ks F b d K) (step_meant p deepest ks F b M n x σ)
+        Reached p deepest ks F b M (step_work x + 2) σ.turns c (after_body (At cs) Out) (Away p deepest ks F b d K) (step_meant p deepest ks F b M n x u (suc (suc (suc d))) 2 zero NoMore σ)
     body_ok x ok r cs σ c so rm it ar wk h =
         let mach = machine p deepest ks F in
         let K1 = label [] None cs ∷ inner in
-        first mach M 1 (step_work x + 1) (step_work x + 2) σ.turns c _ (after_body (At cs) Out) (Away p deepest ks F b d K) (step_meant p deepest ks F b M n x σ) (goes_from h.comes (by_steps 1 refl)) (omega arith)
-        (then_step mach M 1 (step_work x) (step_work x + 1) σ.turns _ (StepDone p deepest ks F b M n true u 2 zero NoMore K1 h.next) (after_body (At cs) Out) (Away p deepest ks F b d K) (step_meant p deepest ks F b M n x σ) (omega arith)
+        first mach M 1 (step_work x + 1) (step_work x + 2) σ.turns c _ (after_body (At cs) Out) (Away p deepest ks F b d K) (step_meant p deepest ks F b M n x u (suc (suc (suc d))) 2 zero NoMore σ) (goes_from h.comes (by_steps 1 refl)) (omega arith)
+        (then_step mach M 1 (step_work x) (step_work x + 1) σ.turns _ (StepDone p deepest ks F b M n true u 2 zero NoMore K1 h.next) (after_body (At cs) Out) (Away p deepest ks F b d K) (step_meant p deepest ks F b M n x u (suc (suc (suc d))) 2 zero NoMore σ) (omega arith)
         (λ f τ c1 q. body_ends cs h.next f τ c1 h.iterators q)
-        (weaker mach M (step_work x) σ.turns _ (StepDone p deepest ks F b M n true u 2 zero NoMore K1 h.next) (StepDone p deepest ks F b M n true u 2 zero NoMore K1 h.next) (Away p deepest ks F b (suc (suc (suc d))) K1) (Away p deepest ks F b d K) (step_meant p deepest ks F b M n x σ)
+        (weaker mach M (step_work x) σ.turns _ (StepDone p deepest ks F b M n true u 2 zero NoMore K1 h.next) (StepDone p deepest ks F b M n true u 2 zero NoMore K1 h.next) (Away p deepest ks F b (suc (suc (suc d))) K1) (Away p deepest ks F b d K) (step_meant p deepest ks F b M n x u (suc (suc (suc d))) 2 zero NoMore σ)
         (λ f τ c1 q. q) (λ why τ c1 q. away_loop d round k K why τ c1 (away_out p deepest ks F b (suc (suc d)) (label [] None cs) inner why τ c1 q))
         (ok r true u (suc (suc (suc d))) 2 zero NoMore K1 h.next σ so rm it ar wk (starts_among p deepest ks F b M n u inner K1 h.next σ refl h.starts))))
 
@@ -156,13 +157,13 @@ module _ (p : Program) (deepest : ℕ) (ks : List Kind) (F : List Frame) (b : Ba
     pub between_ok : (y : Step) → StepOk p deepest ks F b M n y → (r : Bool) (cs : Instructions) (σ : State) (c : Conf) (P : State → Conf → Type 0) →
         step_sorted (context p deepest ks F b M n) r false y ≡ true → step_room y ≤ b.temporaries → u + step_iterators y ≤ b.iterators → step_arrays y ≤ b.arrays → step_work y ≤ M → ((τ : State) (c1 : Conf) → At cs τ c1 → P τ c1) →
         At (step_emitted (layout p deepest ks F b M n) y u (suc (suc d)) 1 zero cs) σ c →
-        Reached p deepest ks F b M (step_work y) σ.turns c (λ x. P) (Away p deepest ks F b d K) ((step_meant p deepest ks F b M n y >> nothing) σ)
+        Reached p deepest ks F b M (step_work y) σ.turns c (λ x. P) (Away p deepest ks F b d K) ((step_meant p deepest ks F b M n y u (suc (suc d)) 1 zero cs >> nothing) σ)
     between_ok y ok r cs σ c P so rm it ar wk goal h =
         let mach = machine p deepest ks F in
         let D = StepDone p deepest ks F b M n false u 1 zero cs inner h.next in
         first mach M 0 (step_work y) (step_work y) σ.turns c _ (λ x. P) (Away p deepest ks F b d K) _ (record { it = h.comes }) (omega arith)
-        (then_on mach M (step_work y) 0 (step_work y) σ.turns _ D (λ x. P) (Away p deepest ks F b d K) (step_meant p deepest ks F b M n y σ) _ (omega arith)
-        (weaker mach M (step_work y) σ.turns _ D D (Away p deepest ks F b (suc (suc d)) inner) (Away p deepest ks F b d K) (step_meant p deepest ks F b M n y σ)
+        (then_on mach M (step_work y) 0 (step_work y) σ.turns _ D (λ x. P) (Away p deepest ks F b d K) (step_meant p deepest ks F b M n y u (suc (suc d)) 1 zero cs σ) _ (omega arith)
+        (weaker mach M (step_work y) σ.turns _ D D (Away p deepest ks F b (suc (suc d)) inner) (Away p deepest ks F b d K) (step_meant p deepest ks F b M n y u (suc (suc d)) 1 zero cs σ)
         (λ f τ c1 q. q) (λ why τ c1 q. away_loop d round k K why τ c1 q)
         (ok r false u (suc (suc d)) 1 zero cs inner h.next σ so rm it ar wk h.starts))
         (λ f τ c1 le q. on_only f τ c1 h.next q h.iterators (goal τ c1)))
@@ -206,6 +207,12 @@ module _ (p : Program) (deepest : ℕ) (ks : List Kind) (F : List Frame) (b : Ba
     abbrev first_body : Instructions
     first_body = body_code (step_jumps x)
 
+    abbrev body_meant : Bool → Doing Flow
+    body_meant j = if j then step_meant p deepest ks F b M n x u (suc (suc (suc d))) 2 zero NoMore else step_meant p deepest ks F b M n x u (suc (suc d)) 1 zero first_rest
+
+    abbrev between_meant : Bool → Doing (Unit {0})
+    between_meant j = if j then nothing else (step_meant p deepest ks F b M n y u (suc (suc d)) 1 zero back >> nothing)
+
     abbrev first_round : Instructions
     first_round = left_unless (layout p deepest ks F b M n) (test_within e) e (suc (suc d)) 1 first_body
 
@@ -233,14 +240,14 @@ module _ (p : Program) (deepest : ℕ) (ks : List Kind) (F : List Frame) (b : Ba
     plain_body : (okx : StepOk p deepest ks F b M n x) (r : Bool) (σ : State) (c : Conf) → step_jumps x ≡ false →
         step_sorted (context p deepest ks F b M n) r true x ≡ true → step_room x ≤ b.temporaries → u + step_iterators x ≤ b.iterators → step_arrays x ≤ b.arrays → step_work x ≤ M →
         Here p deepest ks F b M n (step_emitted (layout p deepest ks F b M n) x u (suc (suc d)) 1 zero first_rest) (loop_labels first_round k K) u l σ c →
-        Reached p deepest ks F b M (step_work x + 2) σ.turns c (after_body (Here p deepest ks F b M n first_rest (loop_labels first_round k K) u l) (Here p deepest ks F b M n k K u l)) (Away p deepest ks F b d K) (step_meant p deepest ks F b M n x σ)
+        Reached p deepest ks F b M (step_work x + 2) σ.turns c (after_body (Here p deepest ks F b M n first_rest (loop_labels first_round k K) u l) (Here p deepest ks F b M n k K u l)) (Away p deepest ks F b d K) (body_meant false σ)
     plain_body okx r σ c nj so rm it ar wk h =
         let mach = machine p deepest ks F in
         let Kl = loop_labels first_round k K in
         let D = StepDone p deepest ks F b M n false u 1 zero first_rest Kl h.next in
         let P = after_body (Here p deepest ks F b M n first_rest Kl u l) (Here p deepest ks F b M n k K u l) in
-        first mach M 0 (step_work x) (step_work x + 2) σ.turns c _ P (Away p deepest ks F b d K) (step_meant p deepest ks F b M n x σ) (record { it = h.comes }) (omega arith)
-        (weaker mach M (step_work x) σ.turns _ D P (Away p deepest ks F b (suc (suc d)) Kl) (Away p deepest ks F b d K) (step_meant p deepest ks F b M n x σ)
+        first mach M 0 (step_work x) (step_work x + 2) σ.turns c _ P (Away p deepest ks F b d K) (body_meant false σ) (record { it = h.comes }) (omega arith)
+        (weaker mach M (step_work x) σ.turns _ D P (Away p deepest ks F b (suc (suc d)) Kl) (Away p deepest ks F b d K) (body_meant false σ)
         (λ f τ c1 q. only f τ c1 q) (λ why τ c1 q. away_loop d first_round k K why τ c1 q)
         (okx r false u (suc (suc d)) 1 zero first_rest Kl h.next σ (sorted_anyway (context p deepest ks F b M n) r x so nj) rm it ar wk h.starts))
       where
@@ -252,22 +259,21 @@ module _ (p : Program) (deepest : ℕ) (ks : List Kind) (F : List Frame) (b : Ba
     first_bodies : (okx : StepOk p deepest ks F b M n x) (r : Bool) (σ : State) (c : Conf) →
         step_sorted (context p deepest ks F b M n) r true x ≡ true → step_room x ≤ b.temporaries → u + step_iterators x ≤ b.iterators → step_arrays x ≤ b.arrays → step_work x ≤ M →
         Here p deepest ks F b M n first_body (loop_labels first_round k K) u l σ c →
-        Reached p deepest ks F b M (step_work x + 2) σ.turns c (after_body (Here p deepest ks F b M n first_rest (loop_labels first_round k K) u l) (Here p deepest ks F b M n k K u l)) (Away p deepest ks F b d K) (step_meant p deepest ks F b M n x σ)
+        Reached p deepest ks F b M (step_work x + 2) σ.turns c (after_body (Here p deepest ks F b M n first_rest (loop_labels first_round k K) u l) (Here p deepest ks F b M n k K u l)) (Away p deepest ks F b d K) (body_meant (step_jumps x) σ)
     first_bodies okx r σ c so rm it ar wk h = by (step_jumps x) refl h
       where
         by : (j : Bool) → step_jumps x ≡ j → Here p deepest ks F b M n (body_code j) (loop_labels first_round k K) u l σ c →
-            Reached p deepest ks F b M (step_work x + 2) σ.turns c (after_body (Here p deepest ks F b M n first_rest (loop_labels first_round k K) u l) (Here p deepest ks F b M n k K u l)) (Away p deepest ks F b d K) (step_meant p deepest ks F b M n x σ)
+            Reached p deepest ks F b M (step_work x + 2) σ.turns c (after_body (Here p deepest ks F b M n first_rest (loop_labels first_round k K) u l) (Here p deepest ks F b M n k K u l)) (Away p deepest ks F b d K) (body_meant j σ)
         by true e1 h1 = body_ok u d k K l first_round first_plain x okx r first_rest σ c so rm it ar wk h1
         by false e1 h1 = plain_body okx r σ c e1 so rm it ar wk h1
 
-  nothing_meant : (y : Step) → is_nothing y ≡ true → (σ : State) → (step_meant p deepest ks F b M n y >> nothing) σ ≡ nothing σ
-  unfolding stepped all_stepped
-  nothing_meant (Block NoStep) e σ = refl
-  nothing_meant y e σ = cc
-
-  pub loop_first : (e : Code) (x y : Step) → ExprOk p deepest ks F b M n e → StepOk p deepest ks F b M n x → StepOk p deepest ks F b M n y → StepOk p deepest ks F b M n (Loop true e x y)
-  unfolding step_emitted steps_emitted stepped all_stepped step_sorted steps_sorted
-  loop_first e x y oke okx oky r lo u d bk ct k K l σ so rm it ar wk s =
+  -- what is done once its place is noted
+  first_done : (e : Code) (x y : Step) → ExprOk p deepest ks F b M n e → StepOk p deepest ks F b M n x → StepOk p deepest ks F b M n y → (r lo : Bool) (u d bk ct : ℕ) (k : Instructions) (K : List Label) (l : Locals) (σ : State) →
+      step_sorted (context p deepest ks F b M n) r lo (Loop true e x y) ≡ true → step_room (Loop true e x y) ≤ b.temporaries → u + step_iterators (Loop true e x y) ≤ b.iterators → step_arrays (Loop true e x y) ≤ b.arrays → step_work (Loop true e x y) ≤ M → Starts p deepest ks F b M n u K l σ →
+      Reached p deepest ks F b M (39 + (work_of e + (step_work x + step_work y))) σ.turns (at ks [] K (laid b l) F (block (again (first_round e x y u d k K l) NoMore) k) (beside_state p deepest ks F σ)) (StepDone p deepest ks F b M n lo u bk ct k K l) (Away p deepest ks F b d K)
+      (loop n (test_meant p deepest ks F b M n e) (body_meant e x y u d k K l (step_jumps x)) (between_meant e x y u d k K l (is_nothing y)) σ)
+  unfolding step_sorted steps_sorted
+  first_done e x y oke okx oky r lo u d bk ct k K l σ so rm it ar wk s =
       let mach = machine p deepest ks F in
       let ctx = context p deepest ks F b M n in
       let s1 = and_parts (test_sorted ctx e) (step_sorted ctx r true x && step_sorted ctx r false y) so in
@@ -287,10 +293,10 @@ module _ (p : Program) (deepest : ℕ) (ks : List Kind) (F : List Frame) (b : Ba
         shows = ap ending_at q.comes;
         tests = λ m eq. at_spent u d k K l round plain round τ1 q.next m q.starts q.iterators eq;
       } in
-      first mach M 2 0 (40 + (work_of e + (step_work x + step_work y))) σ.turns _ (at ks [] (label [] None k ∷ K) (laid b l) F (again round NoMore) (beside_state p deepest ks F σ)) (StepDone p deepest ks F b M n lo u bk ct k K l) Q _
-      (then_goes (nop_ok p deepest ks F b M n u K l σ s) (by_steps 1 refl)) (omega arith)
+      first mach M 1 0 (39 + (work_of e + (step_work x + step_work y))) σ.turns _ (at ks [] (label [] None k ∷ K) (laid b l) F (again round NoMore) (beside_state p deepest ks F σ)) (StepDone p deepest ks F b M n lo u bk ct k K l) Q _
+      (by_steps 1 refl) (omega arith)
       (loop_done lo u bk ct 0 σ.turns k K l _ Q _
-      (rounds_ok Q Tests Body Between End (work_of e + 24) (step_work x + 2) (step_work y) (test_meant p deepest ks F b M n e) (step_meant p deepest ks F b M n x) (step_meant p deepest ks F b M n y >> nothing) (omega (arith, wk))
+      (rounds_ok Q Tests Body Between End (work_of e + 24) (step_work x + 2) (step_work y) (test_meant p deepest ks F b M n e) (body_meant e x y u d k K l (step_jumps x)) (between_meant e x y u d k K l (is_nothing y)) (omega (arith, wk))
       (λ τ c h.
       first mach M 0 (work_of e + 24) (work_of e + 24) τ.turns c _ (after_test Body End) Q _ (record { it = h.comes }) (omega arith)
       (weaker mach M (work_of e + 24) τ.turns _ (Left p deepest ks F b M n 1 (first_body e x y u d k K l) Kl u h.next) (after_test Body End) (Away p deepest ks F b (suc (suc d)) Kl) Q (test_meant p deepest ks F b M n e τ)
@@ -306,18 +312,26 @@ module _ (p : Program) (deepest : ℕ) (ks : List Kind) (F : List Frame) (b : Ba
         tests = λ m eq. at_spent u d k K l round plain round σ l m s3 (λ z. refl) eq;
       })))
     where
+      meant_between : (u d : ℕ) (cs : Instructions) (y : Step) → Bool → Doing (Unit {0})
+      meant_between u d cs y j = if j then nothing else (step_meant p deepest ks F b M n y u (suc (suc d)) 1 zero cs >> nothing)
+
       between_or_not : (u d : ℕ) (k : Instructions) (K : List Label) (l : Locals) (round : Instructions) (plain : is_walk (Some round) ≡ false) (y : Step) → StepOk p deepest ks F b M n y → (r : Bool) (cs : Instructions) (σ : State) (c : Conf) (P : State → Conf → Type 0) →
           step_sorted (context p deepest ks F b M n) r false y ≡ true → step_room y ≤ b.temporaries → u + step_iterators y ≤ b.iterators → step_arrays y ≤ b.arrays → step_work y ≤ M → ((τ : State) (c1 : Conf) → Here p deepest ks F b M n cs (loop_labels round k K) u l τ c1 → P τ c1) →
           Here p deepest ks F b M n (if is_nothing y then cs else step_emitted (layout p deepest ks F b M n) y u (suc (suc d)) 1 zero cs) (loop_labels round k K) u l σ c →
-          Reached p deepest ks F b M (step_work y) σ.turns c (λ x. P) (Away p deepest ks F b d K) ((step_meant p deepest ks F b M n y >> nothing) σ)
+          Reached p deepest ks F b M (step_work y) σ.turns c (λ x. P) (Away p deepest ks F b d K) (meant_between u d cs y (is_nothing y) σ)
       between_or_not u d k K l round plain y oky r cs σ c P so rm it ar wk goal h = by (is_nothing y) refl h
         where
           by : (j : Bool) → is_nothing y ≡ j → Here p deepest ks F b M n (if j then cs else step_emitted (layout p deepest ks F b M n) y u (suc (suc d)) 1 zero cs) (loop_labels round k K) u l σ c →
-              Reached p deepest ks F b M (step_work y) σ.turns c (λ x. P) (Away p deepest ks F b d K) ((step_meant p deepest ks F b M n y >> nothing) σ)
-          by true e1 h1 =
-              subst (λ o. Reached p deepest ks F b M (step_work y) σ.turns c (λ x. P) (Away p deepest ks F b d K) o) (sym (nothing_meant y e1 σ))
-              (there (machine p deepest ks F) M (step_work y) 0 c c (tt {0}) σ (λ x. P) (Away p deepest ks F b d K) stays (omega arith) (goal σ c h1))
+              Reached p deepest ks F b M (step_work y) σ.turns c (λ x. P) (Away p deepest ks F b d K) (meant_between u d cs y j σ)
+          by true e1 h1 = there (machine p deepest ks F) M (step_work y) 0 c c (tt {0}) σ (λ x. P) (Away p deepest ks F b d K) stays (omega arith) (goal σ c h1)
           by false e1 h1 = between_ok u d k K l round plain y oky r cs σ c P so rm it ar wk goal h1
+
+  pub loop_first : (e : Code) (x y : Step) → ExprOk p deepest ks F b M n e → StepOk p deepest ks F b M n x → StepOk p deepest ks F b M n y → StepOk p deepest ks F b M n (Loop true e x y)
+  unfolding step_emitted steps_emitted step_noted steps_noted
+  loop_first e x y oke okx oky r lo u d bk ct k K l σ so rm it ar wk s =
+      begun_step p deepest ks F b M n _ (39 + (work_of e + (step_work x + step_work y))) (40 + (work_of e + (step_work x + step_work y))) u K l σ (StepDone p deepest ks F b M n lo u bk ct k K l) (Away p deepest ks F b d K)
+      (loop n (test_meant p deepest ks F b M n e) (body_meant e x y u d k K l (step_jumps x)) (between_meant e x y u d k K l (is_nothing y))) (omega arith) s
+      (λ τ s1. first_done e x y oke okx oky r lo u d bk ct k K l τ so rm it ar wk s1)
 
   -- A loop whose first round goes without the test.
   module _ (e : Code) (x y : Step) (u d : ℕ) (k : Instructions) (K : List Label) (l : Locals) where
@@ -329,6 +343,17 @@ module _ (p : Program) (deepest : ℕ) (ks : List Kind) (F : List Frame) (b : Ba
 
     abbrev last_round : Instructions
     last_round = block (step_emitted (layout p deepest ks F b M n) x u (suc (suc (suc d))) 2 zero NoMore) last_rest
+
+    abbrev last_tested : Doing Bool
+    last_tested = noted deepest.notes (does Nop last_test) >> test_meant p deepest ks F b M n e
+
+    abbrev last_between : Doing (Unit {0})
+    last_between = step_meant p deepest ks F b M n y u (suc (suc d)) 1 zero (does Nop last_test) >> nothing
+
+    abbrev last_meant : Doing Flow
+    last_meant =
+        step_meant p deepest ks F b M n x u (suc (suc (suc d))) 2 zero NoMore >>= λ flow.
+        after_round flow (last_between >> loop n last_tested (step_meant p deepest ks F b M n x u (suc (suc (suc d))) 2 zero NoMore) last_between)
 
     last_chosen : (l1 : Locals) (t : Bool) (σ : State) (c : Conf) → ((z : ℕ) → l1.iterator z ≡ l.iterator z) → TestDone p deepest ks F b M n (does (BrIf zero) NoMore) (loop_labels last_round k K) u l1 t σ c →
         Onward (machine p deepest ks F) M 3 (after_test (Here p deepest ks F b M n last_round (loop_labels last_round k K) u l) (Here p deepest ks F b M n k K u l) t σ) c
@@ -347,9 +372,12 @@ module _ (p : Program) (deepest : ℕ) (ks : List Kind) (F : List Frame) (b : Ba
       holds = record { next = h.next; comes = refl; starts = leaves u d k K l last_round refl h.next σ h.starts; iterators = λ z. h.iterators z ∙ same z };
     }
 
-  pub loop_last : (e : Code) (x y : Step) → ExprOk p deepest ks F b M n e → StepOk p deepest ks F b M n x → StepOk p deepest ks F b M n y → StepOk p deepest ks F b M n (Loop false e x y)
-  unfolding step_emitted steps_emitted stepped all_stepped step_sorted steps_sorted
-  loop_last e x y oke okx oky r lo u d bk ct k K l σ so rm it ar wk s =
+  -- what is done once its place is noted
+  last_done : (e : Code) (x y : Step) → ExprOk p deepest ks F b M n e → StepOk p deepest ks F b M n x → StepOk p deepest ks F b M n y → (r lo : Bool) (u d bk ct : ℕ) (k : Instructions) (K : List Label) (l : Locals) (σ : State) →
+      step_sorted (context p deepest ks F b M n) r lo (Loop false e x y) ≡ true → step_room (Loop false e x y) ≤ b.temporaries → u + step_iterators (Loop false e x y) ≤ b.iterators → step_arrays (Loop false e x y) ≤ b.arrays → step_work (Loop false e x y) ≤ M → Starts p deepest ks F b M n u K l σ →
+      Reached p deepest ks F b M (39 + (work_of e + (step_work x + step_work y))) σ.turns (at ks [] K (laid b l) F (block (again (last_round e x y u d k K l) NoMore) k) (beside_state p deepest ks F σ)) (StepDone p deepest ks F b M n lo u bk ct k K l) (Away p deepest ks F b d K) (last_meant e x y u d k K l σ)
+  unfolding step_sorted steps_sorted
+  last_done e x y oke okx oky r lo u d bk ct k K l σ so rm it ar wk s =
       let mach = machine p deepest ks F in
       let ctx = context p deepest ks F b M n in
       let s1 = and_parts (test_sorted ctx e) (step_sorted ctx r true x && step_sorted ctx r false y) so in
@@ -358,31 +386,39 @@ module _ (p : Program) (deepest : ℕ) (ks : List Kind) (F : List Frame) (b : Ba
       let test = last_test e x y u d k K l in
       let Kl = loop_labels round k K in
       let Q = Away p deepest ks F b d K in
-      let Tests = Here p deepest ks F b M n test Kl u l in
+      let place = does Nop test in
+      let Tests : State → Conf → Type 0 = λ τ c. Here p deepest ks F b M n test Kl u l (noting deepest.notes place τ) c in
       let End = Here p deepest ks F b M n k K u l in
       let Body = Here p deepest ks F b M n round Kl u l in
       let Between = Here p deepest ks F b M n (last_rest e x y u d k K l) Kl u l in
-      let tests : (τ : State) (c : Conf) → Tests τ c → Reached p deepest ks F b M (work_of e + 17) τ.turns c (after_test Body End) Q (test_meant p deepest ks F b M n e τ) = (λ τ c h.
+      let tests : (τ : State) (c : Conf) → Tests τ c → Reached p deepest ks F b M (work_of e + 17) τ.turns c (after_test Body End) Q ((noted deepest.notes place >> test_meant p deepest ks F b M n e) τ) = (λ τ0 c h.
+      let τ : State = noting deepest.notes place τ0 in
       first mach M 0 (work_of e + 17) (work_of e + 17) τ.turns c _ (after_test Body End) Q _ (record { it = h.comes }) (omega arith)
       (then_step mach M 3 (work_of e + 14) (work_of e + 17) τ.turns _ (TestDone p deepest ks F b M n (does (BrIf zero) NoMore) Kl u h.next) (after_test Body End) Q (test_meant p deepest ks F b M n e τ) (omega arith)
       (λ t τ1 c1 q. last_chosen e x y u d k K l h.next t τ1 c1 h.iterators q)
       (weaker mach M (work_of e + 14) τ.turns _ (TestDone p deepest ks F b M n (does (BrIf zero) NoMore) Kl u h.next) (TestDone p deepest ks F b M n (does (BrIf zero) NoMore) Kl u h.next) (Away p deepest ks F b (suc (suc d)) Kl) Q (test_meant p deepest ks F b M n e τ)
       (λ t τ1 c1 q. q) (λ why τ1 c1 q. away_loop d round k K why τ1 c1 q)
       (test_ok p deepest ks F b M n e oke u (suc (suc d)) (does (BrIf zero) NoMore) Kl h.next τ s1.0 (omega (arith, rm)) (omega (arith, ar)) h.starts)))) in
-      let bodies : (τ : State) (c : Conf) → Body τ c → Reached p deepest ks F b M (step_work x + 2) τ.turns c (after_body Between End) Q (step_meant p deepest ks F b M n x τ) =
+      let bodies : (τ : State) (c : Conf) → Body τ c → Reached p deepest ks F b M (step_work x + 2) τ.turns c (after_body Between End) Q (step_meant p deepest ks F b M n x u (suc (suc (suc d))) 2 zero NoMore τ) =
       (λ τ c h. body_ok u d k K l round refl x okx r (last_rest e x y u d k K l) τ c s2.0 (omega (arith, rm)) (omega (arith, it)) (omega (arith, ar)) (omega (arith, wk)) h) in
-      let betweens : (τ : State) (c : Conf) → Between τ c → Reached p deepest ks F b M (step_work y) τ.turns c (λ z. Turn Tests) Q ((step_meant p deepest ks F b M n y >> nothing) τ) =
+      let betweens : (τ : State) (c : Conf) → Between τ c → Reached p deepest ks F b M (step_work y) τ.turns c (λ z. Turn Tests) Q ((step_meant p deepest ks F b M n y u (suc (suc d)) 1 zero place >> nothing) τ) =
       (λ τ c h. between_ok u d k K l round refl y oky r (does Nop test) τ c (Turn Tests) s2.1 (omega (arith, rm)) (omega (arith, it)) (omega (arith, ar)) (omega (arith, wk))
       (λ τ1 c1 q. record {
-        conf = at ks [] Kl (laid b q.next) F test (beside_state p deepest ks F τ1);
+        conf = at ks [] Kl (laid b q.next) F test (beside_state p deepest ks F (noting deepest.notes place τ1));
         goes = goes_from q.comes (nop_ok p deepest ks F b M n u Kl q.next τ1 q.starts);
         shows = ap ending_at q.comes;
-        tests = λ m eq. at_spent u d k K l round refl test τ1 q.next m q.starts q.iterators eq;
+        tests = λ m eq. at_spent u d k K l round refl test (noting deepest.notes place τ1) q.next m (starts_noted p deepest ks F b M n place u Kl q.next τ1 q.starts) q.iterators eq;
       }) h) in
-      first mach M 3 ((step_work x + 2) + step_work y) (40 + (work_of e + (step_work x + step_work y))) σ.turns _ (at ks [] Kl (laid b l) F round (beside_state p deepest ks F σ)) (StepDone p deepest ks F b M n lo u bk ct k K l) Q _
-      (then_goes (nop_ok p deepest ks F b M n u K l σ s) (by_steps 2 refl)) (omega arith)
+      first mach M 2 ((step_work x + 2) + step_work y) (39 + (work_of e + (step_work x + step_work y))) σ.turns _ (at ks [] Kl (laid b l) F round (beside_state p deepest ks F σ)) (StepDone p deepest ks F b M n lo u bk ct k K l) Q _
+      (by_steps 2 refl) (omega arith)
       (loop_done lo u bk ct ((step_work x + 2) + step_work y) σ.turns k K l _ Q _
-      (round_ok Q Tests Body Between End (work_of e + 17) (step_work x + 2) (step_work y) (test_meant p deepest ks F b M n e) (step_meant p deepest ks F b M n x) (step_meant p deepest ks F b M n y >> nothing) (omega (arith, wk)) tests bodies betweens σ _
-      (loop n (test_meant p deepest ks F b M n e) (step_meant p deepest ks F b M n x) (step_meant p deepest ks F b M n y >> nothing))
+      (round_ok Q Tests Body Between End (work_of e + 17) (step_work x + 2) (step_work y) (noted deepest.notes place >> test_meant p deepest ks F b M n e) (step_meant p deepest ks F b M n x u (suc (suc (suc d))) 2 zero NoMore) (step_meant p deepest ks F b M n y u (suc (suc d)) 1 zero place >> nothing) (omega (arith, wk)) tests bodies betweens σ _
+      (loop n (noted deepest.notes place >> test_meant p deepest ks F b M n e) (step_meant p deepest ks F b M n x u (suc (suc (suc d))) 2 zero NoMore) (step_meant p deepest ks F b M n y u (suc (suc d)) 1 zero place >> nothing))
       (record { next = l; comes = refl; starts = enters u d k K l round refl l σ s; iterators = λ z. refl })
-      (λ τ c1 le t. let q = s.turns in rounds_ok Q Tests Body Between End (work_of e + 17) (step_work x + 2) (step_work y) (test_meant p deepest ks F b M n e) (step_meant p deepest ks F b M n x) (step_meant p deepest ks F b M n y >> nothing) (omega (arith, wk)) tests bodies betweens n τ c1 (omega (arith, le, q)) t)))
+      (λ τ c1 le t. let q = s.turns in rounds_ok Q Tests Body Between End (work_of e + 17) (step_work x + 2) (step_work y) (noted deepest.notes place >> test_meant p deepest ks F b M n e) (step_meant p deepest ks F b M n x u (suc (suc (suc d))) 2 zero NoMore) (step_meant p deepest ks F b M n y u (suc (suc d)) 1 zero place >> nothing) (omega (arith, wk)) tests bodies betweens n τ c1 (omega (arith, le, q)) t)))
+
+  pub loop_last : (e : Code) (x y : Step) → ExprOk p deepest ks F b M n e → StepOk p deepest ks F b M n x → StepOk p deepest ks F b M n y → StepOk p deepest ks F b M n (Loop false e x y)
+  unfolding step_emitted steps_emitted step_noted steps_noted
+  loop_last e x y oke okx oky r lo u d bk ct k K l σ so rm it ar wk s =
+      begun_step p deepest ks F b M n _ (39 + (work_of e + (step_work x + step_work y))) (40 + (work_of e + (step_work x + step_work y))) u K l σ (StepDone p deepest ks F b M n lo u bk ct k K l) (Away p deepest ks F b d K) (last_meant e x y u d k K l) (omega arith) s
+      (λ τ s1. last_done e x y oke okx oky r lo u d bk ct k K l τ so rm it ar wk s1)

@@ -28,6 +28,7 @@ use Rattle.value_machine.specs.Machine
 use Rattle.value_machine.specs.Places.{Bases}
 use Rattle.value_machine.specs.Small.{ask_row, kept_code}
 use Rattle.value_machine.specs.declared.import.Import.TheVariants.{Of}
+use Rattle.value_machine.proofs.Watch.{Watch}
 use Rattle.value_machine.proofs.Runs.{Arrives, Reaches, then_goes, stays, there, faulted, within, then_on}
 use Rattle.value_machine.proofs.Regions.{upd_same}
 use Rattle.value_machine.proofs.Locals.{Locals, Hand, Number as NumberAt, with_at, laid}
@@ -83,7 +84,7 @@ onward : {A : Type 0} → (r : Outcome A) → go_on r give ≡ r
 onward (Gives a σ) = refl
 onward (Stops why σ) = refl
 
-module _ (p : Program) (deepest : ℕ) (b : Bases) (M n : ℕ) (none : zero ≡ b.parameters) (two : suc zero < b.temporaries) where
+module _ (p : Program) (deepest : Watch) (b : Bases) (M n : ℕ) (none : zero ≡ b.parameters) (two : suc zero < b.temporaries) where
   abbrev mach : Machine.Code
   mach = machine p deepest [] []
 

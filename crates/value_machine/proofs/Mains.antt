@@ -5,16 +5,17 @@ use Rattle.awk_state.specs.declared.table.Primitive.TheVariants as row
 use Rattle.wasm_types.specs.Syntax.{Instructions, Done}
 use Rattle.wasm_types.specs.declared.instr.Simple.TheVariants.{Br}
 use Rattle.mid_program.specs.Mid.{Program, Code, Steps}
-use Rattle.mid_program.specs.MidMeaning.{mid_done, mid_called}
 use Rattle.mid_program.specs.ScriptRun.{first_assigned, records_done, part}
 use Rattle.mid_program.specs.ScriptState.{State, Stop, Faulted, OutOfTurns, TooDeep, Nexted, Exited, Returned, Outcome, Gives, Stops, Doing, ◌>>=◌, ◌>>◌, does, nothing}
 use Rattle.mid_program.specs.Sorted.{calls_of, context_of, steps_sorted}
 use Rattle.value_machine.specs.Emission.{asked}
 use Rattle.value_machine.specs.Functions.{layout_of}
 use Rattle.value_machine.specs.Machine.{Conf, Label, at, label, ending_at}
+use Rattle.value_machine.specs.Noted.{noted_called, noted_done, begin_rest, out_of_part}
 use Rattle.value_machine.specs.Places.{Bases, steps_room, steps_iterators, steps_arrays}
 use Rattle.value_machine.specs.Small.{does as instruction, ask_row}
 use Rattle.value_machine.specs.Statements.{part_done, first_part, last_part, records_read}
+use Rattle.value_machine.proofs.Watch.{Watch}
 use Rattle.value_machine.proofs.Runs.{goes_from, then_goes, stays, first, then_on, there, within, Arrives, reaches_on, Onward}
 use Rattle.value_machine.proofs.Locals.{Locals, laid}
 use Rattle.value_machine.proofs.Relation.{Away, fit_loose, fit_shared}
@@ -24,12 +25,12 @@ use Rattle.value_machine.proofs.HostCalls.{calm_after}
 use Rattle.value_machine.proofs.Simulation.{ExprOk}
 use Rattle.value_machine.proofs.StatementForms.{steps_work, Starts, StepsOk}
 use Rattle.value_machine.proofs.Stepping.{steps_ok}
-use Rattle.value_machine.proofs.Returning.{Plainly, then_plainly, nothing_plainly, steps_plainly, records_plainly, called_plainly}
+use Rattle.value_machine.proofs.Returning.{Plainly, then_plainly, nothing_plainly, noted_plainly, records_plainly, called_plainly}
 use Rattle.value_machine.proofs.Parts.{On, Left, part_work, part_ok, steps_done, record_work}
 use Rattle.value_machine.proofs.Endings.{main_exit, main_exit_work, main_ends, shows_ended, EndsWell}
 use Rattle.value_machine.proofs.Records.{Reading, reading_ok}
 
-module _ (p : Program) (deepest : ℕ) (b : Bases) (M n : ℕ) where
+module _ (p : Program) (deepest : Watch) (b : Bases) (M n : ℕ) where
   abbrev pub exit_labels : List Label
   exit_labels = label [] None (main_exit p deepest b) ∷ []
 
@@ -70,48 +71,49 @@ module _ (p : Program) (deepest : ℕ) (b : Bases) (M n : ℕ) where
       (items_room : steps_room p.items ≤ b.temporaries) (items_iterators : steps_iterators p.items ≤ b.iterators) (items_arrays : steps_arrays p.items ≤ b.arrays)
       (end_room : steps_room p.end ≤ b.temporaries) (end_iterators : steps_iterators p.end ≤ b.iterators) (end_arrays : steps_arrays p.end ≤ b.arrays) (one : suc zero ≤ b.temporaries)
       (begin_few : steps_work p.begin ≤ M) (end_few : steps_work p.end ≤ M) (first_work read_work : ℕ) (start : Starting first_work) (r : Reading p deepest b M n read_work) (items_few : (steps_work p.items + (record_work p deepest b M n + 3)) + (read_work + 30) ≤ M) where
-    done_plainly : (ss : Steps) → steps_sorted (context_of p []) false false ss ≡ true → Plainly (mid_done p n ss)
-    done_plainly ss so = then_plainly (steps_plainly p.texts (calls_of p) n (mid_called p n) (called_plainly p n) (context_of p []) false ss so) (λ f. nothing_plainly)
+    done_plainly : (ss : Steps) → steps_sorted (context_of p []) false false ss ≡ true → (k : Instructions) → Plainly (noted_done deepest.notes p b n ss k)
+    done_plainly ss so k =
+        then_plainly (noted_plainly p.texts (calls_of p) n (noted_called deepest.notes p n) (called_plainly deepest.notes p n) deepest.notes (layout_of p b) (context_of p []) false ss zero zero zero zero k so) (λ f. nothing_plainly)
 
     done_ok : (ss : Steps) → StepsOk p deepest [] [] b M n ss
     done_ok ss = steps_ok p deepest [] [] b M n exprs ss
 
     abbrev records_meant : Doing (Unit {0})
-    records_meant = if p.reads then records_done n (mid_done p n p.items) else nothing
+    records_meant = if p.reads then records_done n (noted_done deepest.notes p b n p.items out_of_part) else nothing
 
     -- records, if there are any to be read
-    read_plainly : (t : Bool) → Plainly (if t then records_done n (mid_done p n p.items) else nothing)
-    read_plainly true = records_plainly n (mid_done p n p.items) (done_plainly p.items items_sorted)
+    read_plainly : (t : Bool) → Plainly (if t then records_done n (noted_done deepest.notes p b n p.items out_of_part) else nothing)
+    read_plainly true = records_plainly n (noted_done deepest.notes p b n p.items out_of_part) (done_plainly p.items items_sorted out_of_part)
     read_plainly false = nothing_plainly
 
     records_or_not : (t : Bool) (K : List Label) (l : Locals) (σ : State) → Starts p deepest [] [] b M n 0 K l σ →
         Arrives (machine p deepest [] []) M 17 σ.turns (at [] [] K (laid b l) [] (if t then records_read (layout_of p b) p.items zero (instruction (Br 1) Done) else instruction (Br 1) Done) (beside_state p deepest [] [] σ)) (λ u. On p deepest b M n (instruction (Br 1) Done) K) (Away p deepest [] [] b zero K)
-        ((if t then records_done n (mid_done p n p.items) else nothing) σ)
-    records_or_not true K l σ s = reading_ok p deepest b M n read_work r p.items (done_ok p.items) (done_plainly p.items items_sorted) items_sorted items_room items_iterators items_arrays one items_few zero (instruction (Br 1) Done) K l σ s
+        ((if t then records_done n (noted_done deepest.notes p b n p.items out_of_part) else nothing) σ)
+    records_or_not true K l σ s = reading_ok p deepest b M n read_work r p.items (done_ok p.items) (done_plainly p.items items_sorted out_of_part) items_sorted items_room items_iterators items_arrays one items_few zero (instruction (Br 1) Done) K l σ s
     records_or_not false K l σ s = there (machine p deepest [] []) M 17 0 _ _ (tt {0}) σ (λ u. On p deepest b M n (instruction (Br 1) Done) K) (Away p deepest [] [] b zero K) stays (omega arith) (record { next = l; comes = refl; starts = s })
 
     -- BEGIN, and the records
     first_ok : (k : Instructions) (K : List Label) (l : Locals) (σ : State) → Starts p deepest [] [] b M n 0 K l σ →
         Arrives (machine p deepest [] []) M ((steps_work p.begin + 17) + (part_work p deepest b M n + 3)) σ.turns (at [] [] K (laid b l) [] (part_done (layout_of p b) (first_part (layout_of p b) p) zero k) (beside_state p deepest [] [] σ)) (λ u. On p deepest b M n k K) (Left p deepest b M n zero K)
-        (part (mid_done p n p.begin >> records_meant) σ)
+        (part (noted_done deepest.notes p b n p.begin (begin_rest p b) >> records_meant) σ)
     first_ok k K l σ s =
-        part_ok p deepest b M n (steps_work p.begin + 17) zero (first_part (layout_of p b) p) k K l σ (mid_done p n p.begin >> records_meant) (then_plainly (done_plainly p.begin begin_sorted) (λ u. read_plainly p.reads)) s
+        part_ok p deepest b M n (steps_work p.begin + 17) zero (first_part (layout_of p b) p) k K l σ (noted_done deepest.notes p b n p.begin (begin_rest p b) >> records_meant) (then_plainly (done_plainly p.begin begin_sorted (begin_rest p b)) (λ u. read_plainly p.reads)) s
         (λ K2 e s2.
-        then_on (machine p deepest [] []) M (steps_work p.begin) 17 (steps_work p.begin + 17) σ.turns _ (λ u. On p deepest b M n (if p.reads then records_read (layout_of p b) p.items zero (instruction (Br 1) Done) else instruction (Br 1) Done) K2) (λ u. On p deepest b M n (instruction (Br 1) Done) K2) (Away p deepest [] [] b zero K2) (mid_done p n p.begin σ) (λ u. records_meant) (omega arith)
+        then_on (machine p deepest [] []) M (steps_work p.begin) 17 (steps_work p.begin + 17) σ.turns _ (λ u. On p deepest b M n (if p.reads then records_read (layout_of p b) p.items zero (instruction (Br 1) Done) else instruction (Br 1) Done) K2) (λ u. On p deepest b M n (instruction (Br 1) Done) K2) (Away p deepest [] [] b zero K2) (noted_done deepest.notes p b n p.begin (begin_rest p b) σ) (λ u. records_meant) (omega arith)
         (steps_done p deepest b M n p.begin (done_ok p.begin) zero (if p.reads then records_read (layout_of p b) p.items zero (instruction (Br 1) Done) else instruction (Br 1) Done) K2 l σ begin_sorted begin_room begin_iterators begin_arrays begin_few s2)
         (λ u τ c le h.
         first (machine p deepest [] []) M 0 17 17 τ.turns c _ (λ u. On p deepest b M n (instruction (Br 1) Done) K2) (Away p deepest [] [] b zero K2) _ (record { it = h.comes }) (omega arith) (records_or_not p.reads K2 h.next τ h.starts)))
 
     -- END
     last_ok : (k : Instructions) (K : List Label) (l : Locals) (σ : State) → Starts p deepest [] [] b M n 0 K l σ →
-        Arrives (machine p deepest [] []) M (steps_work p.end + (part_work p deepest b M n + 3)) σ.turns (at [] [] K (laid b l) [] (part_done (layout_of p b) (last_part (layout_of p b) p) zero k) (beside_state p deepest [] [] σ)) (λ u. On p deepest b M n k K) (Left p deepest b M n zero K) (part (mid_done p n p.end) σ)
+        Arrives (machine p deepest [] []) M (steps_work p.end + (part_work p deepest b M n + 3)) σ.turns (at [] [] K (laid b l) [] (part_done (layout_of p b) (last_part (layout_of p b) p) zero k) (beside_state p deepest [] [] σ)) (λ u. On p deepest b M n k K) (Left p deepest b M n zero K) (part (noted_done deepest.notes p b n p.end out_of_part) σ)
     last_ok k K l σ s =
-        part_ok p deepest b M n (steps_work p.end) zero (last_part (layout_of p b) p) k K l σ (mid_done p n p.end) (done_plainly p.end end_sorted) s
+        part_ok p deepest b M n (steps_work p.end) zero (last_part (layout_of p b) p) k K l σ (noted_done deepest.notes p b n p.end out_of_part) (done_plainly p.end end_sorted out_of_part) s
         (λ K2 e s2. steps_done p deepest b M n p.end (done_ok p.end) zero (instruction (Br 1) Done) K2 l σ end_sorted end_room end_iterators end_arrays end_few s2)
 
     -- what a script does once its names are there
     abbrev pub main_meant : Doing (Unit {0})
-    main_meant = first_assigned n >>= λ d. part (mid_done p n p.begin >> records_meant) >>= λ e. does row.BeginEnd tt >>= λ f. part (mid_done p n p.end)
+    main_meant = first_assigned n >>= λ d. part (noted_done deepest.notes p b n p.begin (begin_rest p b) >> records_meant) >>= λ e. does row.BeginEnd tt >>= λ f. part (noted_done deepest.notes p b n p.end out_of_part)
 
     abbrev pub main_work : ℕ
     main_work = first_work + (((steps_work p.begin + 17) + (part_work p deepest b M n + 3)) + (1 + (steps_work p.end + (part_work p deepest b M n + 3))))
@@ -130,8 +132,8 @@ module _ (p : Program) (deepest : ℕ) (b : Bases) (M n : ℕ) where
         let k1 = part_done (layout_of p b) (first_part (layout_of p b) p) zero (ask_row row.BeginEnd last) in
         then_on mach M first_work (w1 + (1 + w2)) main_work σ.turns _ (λ u. On p deepest b M n k1 K) (λ u. On p deepest b M n Done K) Q (first_assigned n σ) _ (omega arith) (start.made k1 K l σ s)
         (λ u τ c le h.
-        then_on mach M w1 (1 + w2) (w1 + (1 + w2)) τ.turns c (λ u. On p deepest b M n (ask_row row.BeginEnd last) K) (λ u. On p deepest b M n Done K) Q (part (mid_done p n p.begin >> records_meant) τ) _ (omega arith)
-        (first mach M 0 w1 w1 τ.turns c _ (λ u. On p deepest b M n (ask_row row.BeginEnd last) K) Q (part (mid_done p n p.begin >> records_meant) τ) (record { it = h.comes }) (omega arith) (first_ok (ask_row row.BeginEnd last) K h.next τ h.starts))
+        then_on mach M w1 (1 + w2) (w1 + (1 + w2)) τ.turns c (λ u. On p deepest b M n (ask_row row.BeginEnd last) K) (λ u. On p deepest b M n Done K) Q (part (noted_done deepest.notes p b n p.begin (begin_rest p b) >> records_meant) τ) _ (omega arith)
+        (first mach M 0 w1 w1 τ.turns c _ (λ u. On p deepest b M n (ask_row row.BeginEnd last) K) Q (part (noted_done deepest.notes p b n p.begin (begin_rest p b) >> records_meant) τ) (record { it = h.comes }) (omega arith) (first_ok (ask_row row.BeginEnd last) K h.next τ h.starts))
         (λ u τ1 c1 le1 h1.
         let s1 = h1.starts in
         let τ2 = done_by p deepest [] [] row.BeginEnd tt τ1 in

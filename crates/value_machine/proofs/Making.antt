@@ -9,6 +9,7 @@ use Rattle.value_machine.specs.Cells.{OwnedArray, is_owned}
 use Rattle.value_machine.specs.Emission.{emitted, all_emitted}
 use Rattle.value_machine.specs.Machine.{Frame, loops_walked}
 use Rattle.value_machine.specs.Places.{Bases}
+use Rattle.value_machine.proofs.Watch.{Watch}
 use Rattle.value_machine.proofs.Runs.{then_goes, stays, there, first, then_on}
 use Rattle.value_machine.proofs.Regions.{upd_same, upd_other}
 use Rattle.value_machine.proofs.Locals.{Locals, Array, with_at}
@@ -18,7 +19,7 @@ use Rattle.value_machine.proofs.Answers.{machine, done_by, row_called}
 use Rattle.value_machine.proofs.HostCalls.{calm_after}
 use Rattle.value_machine.proofs.Simulation.{works_of, all_meant, AllDone, CodesOk, walking_same}
 
-module _ (p : Program) (deepest : ℕ) (ks : List Kind) (F : List Frame) (b : Bases) (M n : ℕ) where
+module _ (p : Program) (deepest : Watch) (ks : List Kind) (F : List Frame) (b : Bases) (M n : ℕ) where
   -- one more array is in use
   fit_made : (t u w : ℕ) (l : Locals) (σ : State) → Fit p deepest ks F t u w l σ → Fit p deepest ks F t u (suc w) l σ
   fit_made t u w l σ f = record { params = f.params; size = f.size; answer = f.answer; hands = f.hands; numbers = f.numbers; free = f.free; walks = f.walks; still = f.still; yards = f.yards; spare = λ x h. f.spare x (omega (arith, h)); sound = f.sound }

@@ -31,6 +31,7 @@ use Rattle.value_machine.specs.ImportCalls.{with_some, and_rest, row_in}
 use Rattle.value_machine.specs.Machine.{Conf, Label, Frame, at, br, label}
 use Rattle.value_machine.specs.Places.{Bases}
 use Rattle.value_machine.specs.Small.{does, ask_row, fail_if}
+use Rattle.value_machine.proofs.Watch.{Watch}
 use Rattle.value_machine.proofs.Runs.{Goes, then_goes, goes_to, goes_from, by_steps, stays, there, faulted, first}
 use Rattle.value_machine.proofs.Locals.{Locals, Number as NumberAt, laid}
 use Rattle.value_machine.proofs.Steps.{get_copied}
@@ -49,7 +50,7 @@ field_word x = by x.number (small x)
     by (pos k) e = ⊎_elim (λ l. lt-ltb (2 ^ 20) k l ∙ sym (ap not (lt-leb k (2 ^ 20) l))) (λ g. le-ltb (2 ^ 20) k g ∙ sym (ap not (le-leb k (2 ^ 20) g))) (cases_lt (2 ^ 20) k)
     by (negsuc k) e = lt-ltb (2 ^ 20) (2 ^ 64 - suc k) (omega (arith, e)) ∙ sym (ap not (ne_eqb (suc k) 0 (λ q. omega (arith, q))))
 
-module _ (p : Program) (deepest : ℕ) (ks : List Kind) (F : List Frame) (b : Bases) (M n : ℕ) where
+module _ (p : Program) (deepest : Watch) (ks : List Kind) (F : List Frame) (b : Bases) (M n : ℕ) where
   -- a fault is kept and the function is left
   pub fails_ok : {K : List Label} {L : List Cell} {k : Instructions} → (f : Fault) (d : ℕ) (σ : State) →
       Goes (machine p deepest ks F) 3 (at ks (Bits (flag true) ∷ []) K L F (fail_if f d k) (beside_state p deepest ks F σ)) (br d ks K L F (left_beside p deepest ks F (Faulted f) σ))

@@ -12,6 +12,7 @@ use Rattle.mid_program.specs.Sorted.{Held as Standing, There, Moved, Misused, us
 use Rattle.value_machine.specs.Emission.{array_meant, emitted, all_emitted}
 use Rattle.value_machine.specs.Machine.{Frame, loops_walked}
 use Rattle.value_machine.specs.Places.{Bases}
+use Rattle.value_machine.proofs.Watch.{Watch}
 use Rattle.value_machine.proofs.Runs.{stays, there, first, then_on, weaker}
 use Rattle.value_machine.proofs.Locals.{Locals}
 use Rattle.value_machine.proofs.Relation.{HoldsAt, Meant, WordIs, outside_below, below_more, same_self, same_then, SameOwn, Away}
@@ -70,7 +71,7 @@ well_before i e g h = not_misused g (held_after i e g) (λ q. ap (held_after i e
 pub all_well_before : (i : ℕ) (es : Codes) (g : Standing) → is_well_used (held_after_all i es g) ≡ true → is_well_used g ≡ true
 all_well_before i es g h = not_misused g (held_after_all i es g) (λ q. ap (held_after_all i es) q ∙ all_misused_stays i es) h
 
-module _ (p : Program) (deepest : ℕ) (ks : List Kind) (F : List Frame) (b : Bases) (M n : ℕ) where
+module _ (p : Program) (deepest : Watch) (ks : List Kind) (F : List Frame) (b : Bases) (M n : ℕ) where
   -- an array that a name stands for stays the same
   pub meant_same : (f : Form) (x : Holds f) (a : ArrayName) (σ σ1 : State) → SameOwn p deepest ks F σ σ1 → Meant p deepest ks F f x a σ → Meant p deepest ks F f x a σ1
   meant_same (Answered (answer.Of sort.Array)) x (Numbered i) σ σ1 s q = q

@@ -11,18 +11,19 @@ use Rattle.wasm_types.specs.declared.instr.IRelOp.TheVariants.{Eq, Ne}
 use Rattle.wasm_types.specs.declared.instr.ITestOp.TheVariants.{Eqz}
 use Rattle.wasm_store.specs.declared.word.Word.TheVariants as word
 use Rattle.mid_program.specs.Mid.{Program, Steps}
-use Rattle.mid_program.specs.MidMeaning.{mid_done}
 use Rattle.mid_program.specs.ScriptRun.{next_over, for_record, part_over, part}
-use Rattle.mid_program.specs.ScriptState.{State, Stop, Faulted, OutOfTurns, TooDeep, Nexted, Exited, Returned, Outcome, Gives, Stops, Doing}
+use Rattle.mid_program.specs.ScriptState.{State, Stop, Faulted, OutOfTurns, TooDeep, Nexted, Exited, Returned, Outcome, Gives, Stops, Doing, ◌>>◌, nothing}
 use Rattle.mid_program.specs.Sorted.{calls_of, context_of, kinds_of, steps_sorted}
 use Rattle.mid_program.specs.Statements.{Flow, Normal, Broke, Continued}
 use Rattle.value_machine.specs.Cells.{Cell, Bits, is_owned}
 use Rattle.value_machine.specs.Functions.{layout_of}
 use Rattle.value_machine.specs.Machine.{Conf, Deep, Label, at, br, label, loops_walked}
+use Rattle.value_machine.specs.Noted.{noted_done, out_of_part}
 use Rattle.value_machine.specs.Places.{Bases, way_global, steps_room, steps_iterators, steps_arrays}
 use Rattle.value_machine.specs.Small.{does, ask_row, when}
 use Rattle.value_machine.specs.Statements.{way_next, goes_on, record_done, part_done, steps_emitted}
 use Rattle.value_machine.specs.declared.import.Import.TheVariants.{Of}
+use Rattle.value_machine.proofs.Watch.{Watch}
 use Rattle.value_machine.proofs.Runs.{Goes, goes_to, goes_from, then_goes, by_steps, stays, first, then_on, then_step, there, within, Arrives, reaches_on}
 use Rattle.value_machine.proofs.Regions.{cells, cells_same, pairs_same}
 use Rattle.value_machine.proofs.Globals.{Way}
@@ -63,7 +64,7 @@ ForGood why = ⊥
 abbrev pub going_work : Bases → ℕ
 going_work b = 1 + 8 * (b.temporaries + (b.iterators + b.arrays))
 
-module _ (p : Program) (deepest : ℕ) (b : Bases) (M n : ℕ) where
+module _ (p : Program) (deepest : Watch) (b : Bases) (M n : ℕ) where
   -- after the items for a record, where they were left
   abbrev next_code : ℕ → Instructions
   next_code d = does (GlobalGet way_global) (does (I32Const way_next) (does (Compare I32 Ne) (does (BrIf (suc d)) (goes_on (layout_of p b) Done))))
@@ -124,10 +125,13 @@ module _ (p : Program) (deepest : ℕ) (b : Bases) (M n : ℕ) where
       }
 
   -- steps of `main`
+  abbrev pub steps_only : Steps → (d : ℕ) → Instructions → Doing (Unit {0})
+  steps_only ss d k = steps_meant p deepest [] [] b M n ss zero d zero zero k >> nothing
+
   pub steps_done : (ss : Steps) → StepsOk p deepest [] [] b M n ss → (d : ℕ) (k : Instructions) (K : List Label) (l : Locals) (σ : State) → steps_sorted (context_of p []) false false ss ≡ true → steps_room ss ≤ b.temporaries → steps_iterators ss ≤ b.iterators → steps_arrays ss ≤ b.arrays → steps_work ss ≤ M → Starts p deepest [] [] b M n 0 K l σ →
-      Arrives (machine p deepest [] []) M (steps_work ss) σ.turns (at [] [] K (laid b l) [] (steps_emitted (layout_of p b) ss zero d zero zero k) (beside_state p deepest [] [] σ)) (λ u. On k K) (Away p deepest [] [] b d K) (mid_done p n ss σ)
+      Arrives (machine p deepest [] []) M (steps_work ss) σ.turns (at [] [] K (laid b l) [] (steps_emitted (layout_of p b) ss zero d zero zero k) (beside_state p deepest [] [] σ)) (λ u. On k K) (Away p deepest [] [] b d K) (steps_only ss d k σ)
   steps_done ss ok d k K l σ so rm it ar wk s =
-      then_on (machine p deepest [] []) M (steps_work ss) 0 (steps_work ss) σ.turns _ (StepDone p deepest [] [] b M n false 0 zero zero k K l) (λ u. On k K) (Away p deepest [] [] b d K) (steps_meant p deepest [] [] b M n ss σ) _ (omega arith)
+      then_on (machine p deepest [] []) M (steps_work ss) 0 (steps_work ss) σ.turns _ (StepDone p deepest [] [] b M n false 0 zero zero k K l) (λ u. On k K) (Away p deepest [] [] b d K) (steps_meant p deepest [] [] b M n ss zero d zero zero k σ) _ (omega arith)
       (ok false false 0 d zero zero k K l σ so rm (omega (arith, it)) ar wk s)
       (λ f τ c le h. by f τ c h)
     where
@@ -194,15 +198,15 @@ module _ (p : Program) (deepest : ℕ) (b : Bases) (M n : ℕ) where
       }) h
 
   -- the items for a record
-  pub record_ok : (ss : Steps) → StepsOk p deepest [] [] b M n ss → (d : ℕ) (k : Instructions) (K : List Label) (l : Locals) (σ : State) → Plainly (mid_done p n ss) → steps_sorted (context_of p []) false false ss ≡ true → steps_room ss ≤ b.temporaries → steps_iterators ss ≤ b.iterators → steps_arrays ss ≤ b.arrays → steps_work ss ≤ M → Starts p deepest [] [] b M n 0 K l σ →
-      Arrives (machine p deepest [] []) M (steps_work ss + (record_work + 3)) σ.turns (at [] [] K (laid b l) [] (record_done (layout_of p b) ss d k) (beside_state p deepest [] [] σ)) (λ u. On k K) (Away p deepest [] [] b d K) (for_record (mid_done p n ss) σ)
+  pub record_ok : (ss : Steps) → StepsOk p deepest [] [] b M n ss → (d : ℕ) (k : Instructions) (K : List Label) (l : Locals) (σ : State) → Plainly (noted_done deepest.notes p b n ss out_of_part) → steps_sorted (context_of p []) false false ss ≡ true → steps_room ss ≤ b.temporaries → steps_iterators ss ≤ b.iterators → steps_arrays ss ≤ b.arrays → steps_work ss ≤ M → Starts p deepest [] [] b M n 0 K l σ →
+      Arrives (machine p deepest [] []) M (steps_work ss + (record_work + 3)) σ.turns (at [] [] K (laid b l) [] (record_done (layout_of p b) ss d k) (beside_state p deepest [] [] σ)) (λ u. On k K) (Away p deepest [] [] b d K) (for_record (noted_done deepest.notes p b n ss out_of_part) σ)
   record_ok ss ok d k K l σ plain so rm it ar wk s =
       let x = label [] None (next_code d) in
       let K2 = x ∷ (label [] None k ∷ K) in
       let body = steps_emitted (layout_of p b) ss zero zero zero zero (does (Br 1) Done) in
       first (machine p deepest [] []) M 2 (steps_work ss + 1 + record_work) (steps_work ss + (record_work + 3)) σ.turns _ (at [] [] K2 (laid b l) [] body (beside_state p deepest [] [] σ)) (λ u. On k K) (Away p deepest [] [] b d K) _ (by_steps 2 refl) (omega arith)
-      (nexted (steps_work ss + 1) σ.turns d _ k K (mid_done p n ss σ) s.parameters s.loops s.turns (plain.at σ) (plain.sized σ ∙ s.fit.size)
-      (out_of_two (steps_work ss) σ.turns _ x k K (Away p deepest [] [] b zero K2) (mid_done p n ss σ)
+      (nexted (steps_work ss + 1) σ.turns d _ k K (noted_done deepest.notes p b n ss out_of_part σ) s.parameters s.loops s.turns (plain.at σ) (plain.sized σ ∙ s.fit.size)
+      (out_of_two (steps_work ss) σ.turns _ x k K (Away p deepest [] [] b zero K2) (noted_done deepest.notes p b n ss out_of_part σ)
       (steps_done ss ok zero (does (Br 1) Done) K2 l σ so rm it ar wk (record { fit = s.fit; walked = s.walked; walks = s.walks; loops = s.loops; turns = s.turns; parameters = s.parameters })) s.loops))
 
   -- `exit` ends a part, and no more; what `next` would leave is not there

@@ -25,6 +25,7 @@ use Rattle.value_machine.specs.Machine.{Label, Frame, at, label, number_pending}
 use Rattle.value_machine.specs.Places.{Bases}
 use Rattle.value_machine.specs.Small.{does, ask_row, when, text_beside, moved_out, h}
 use Rattle.value_machine.specs.Small
+use Rattle.value_machine.proofs.Watch.{Watch}
 use Rattle.value_machine.proofs.Runs.{Goes, then_goes, goes_to, by_steps, stays}
 use Rattle.value_machine.proofs.Regions.{upd_same, upd_other}
 use Rattle.value_machine.proofs.Locals.{Locals, Hand, Number as NumberAt, with_at, laid}
@@ -89,7 +90,7 @@ told_name (d ∷ ds) rs i m name e = by (λ q. told_name ds rs (i + 1) m name q)
     by on true q = first_told d.kind ds d i m refl q
     by on false q = next_told ds d i m (on q)
 
-module _ (p : Program) (deepest : ℕ) (ks : List Kind) (F : List Frame) (b : Bases) (M n : ℕ) where
+module _ (p : Program) (deepest : Watch) (ks : List Kind) (F : List Frame) (b : Bases) (M n : ℕ) where
   -- code comes to the code after it, where the assignment to this name is made
   pub record Makes (most : ℕ) (code k : Instructions) (K : List Label) (l : Locals) (name : Option ℕ) (σ : State) (l1 : Locals) (σ1 : State) : Type 0 where
     pub steps : ℕ

@@ -12,6 +12,7 @@ use Rattle.std.specs.Ordering.{int_cmp}
 use Rattle.awk_state.specs.declared.sorts.Sort.TheVariants as sort
 use Rattle.wasm_store.specs.Integers.{compare_at, binary_at}
 use Rattle.value_machine.specs.Arithmetic.{relation}
+use Rattle.value_machine.proofs.Watch.{Watch}
 use Rattle.value_machine.proofs.Orders.{words_compared}
 use Rattle.awk_state.specs.Numbers.{Number as AnyNumber, number_of, number_word, outcome_of}
 use Rattle.awk_state.proofs.Words.{small}
@@ -25,14 +26,15 @@ use Rattle.wasm_store.specs.Words.{flag, given_by}
 use Rattle.mid_program.specs.declared.mid.Arithmetic.{Arithmetic}
 use Rattle.mid_program.specs.declared.mid.Operation.TheVariants.{Inline, AsNumber}
 use Rattle.mid_program.specs.Mid.{Kind, Unboxed, Program, Global, Code, Do, Compare, Number, Get, Set, Seq, Let, Bound, Codes, End, At, Eval, a_number, Form, form_of}
-use Rattle.mid_program.specs.MidMeaning.{evaluated, all_evaluated, stepped, all_stepped, or_zero, then_row, store_slot, arithmetic_of}
+use Rattle.mid_program.specs.MidMeaning.{evaluated, all_evaluated, stepped, or_zero, then_row, store_slot, arithmetic_of}
 use Rattle.mid_program.specs.ScriptState.{State, Gives, Outcome, go_on, settled, give, ◌>>◌, global_value, with_global}
 use Rattle.mid_program.specs.Sorted.{sorted, all_sorted, has_kind, kinds_of, fits as fits_sort, is_tested, is_dropped, is_kept, keeps_well, test_sorted, step_sorted, steps_sorted}
 use Rattle.mid_program.specs.Statements.{Flow, Normal}
 use Rattle.value_machine.specs.Cells.{Cell, Bits}
 use Rattle.value_machine.specs.Emission.{tested, dropped}
 use Rattle.value_machine.specs.Machine.{Conf, Label, Frame, Store, at, br, label, with_operands, push_result}
-use Rattle.value_machine.specs.Places.{Bases, number_global, room, arrays_in}
+use Rattle.value_machine.specs.Noted.{step_noted, steps_noted}
+use Rattle.value_machine.specs.Places.{Bases, number_global, room, arrays_in, step_room, step_arrays}
 use Rattle.value_machine.specs.Quick.{Within, unsure, name_in, constant_in, first_ones, compared_within, both_within, test_within, Source, Named, Constant, source_in, is_among, and_name, and_source, shifted, joined, all_unsure, Sum, sum_names, is_near, is_sum, sum_op, sum_of, two_sum, set_sum, kept_sum, update_sum, old_source, stored_name, new_sum, let_sum, sum_in, Pair, pair_names, pair_of, pair_in, contrary}
 use Rattle.value_machine.specs.Small.{does}
 use Rattle.value_machine.specs.Statements.{source_pushed, summed, quickly_dropped, pair_left, left_unless_pair, left_unless, step_emitted, steps_emitted}
@@ -50,14 +52,14 @@ use Rattle.value_machine.proofs.Products.{word}
 use Rattle.value_machine.proofs.Written.{fit_global, global_written}
 use Rattle.value_machine.proofs.Reading.{kind_below, kind_found}
 use Rattle.value_machine.proofs.Simulation.{work_of, context, layout, ExprOk}
-use Rattle.value_machine.proofs.StatementForms.{flows_on, step_meant, Starts, starts_after, starts_among, StepDone, StepOk}
-use Rattle.value_machine.proofs.Tidy.{nop_ok}
+use Rattle.value_machine.proofs.StatementForms.{flows_on, plain_meant, Starts, starts_after, starts_among, StepDone, StepOk}
+use Rattle.value_machine.proofs.Tidy.{begun_step}
 use Rattle.value_machine.proofs.Sequences.{dropped_ok}
 use Rattle.value_machine.proofs.Branches.{TestDone, test_meant, test_ok, block_ends}
 use Rattle.value_machine.proofs.Quick.{Sure, sure, shown_by, name_is, constant_is, shift_pos, shifted_less, shifted_most, less_holds, most_holds}
 use Rattle.value_machine.proofs.QuickNames.{num_of, word_of, val_of, source_steps, shift_word, joined_word, all_flag, joined_steps, all_steps, AllSure, StandsAmong, source_code, some_is, nought_number, all_sure, among_sure, name_among, source_among, source_still, source_beside, source_is, contrary_holds, pair_few, one_few, near_sum, stored_is, none_new, result_of, sum_few}
 
-module _ (p : Program) (deepest : ℕ) (ks : List Kind) (F : List Frame) (b : Bases) (M n : ℕ) where
+module _ (p : Program) (deepest : Watch) (ks : List Kind) (F : List Frame) (b : Bases) (M n : ℕ) where
   abbrev kinds : List Kind
   kinds = kinds_of p.globals
 
@@ -365,7 +367,7 @@ module _ (p : Program) (deepest : ℕ) (ks : List Kind) (F : List Frame) (b : Ba
     pub right : SourceFits (2 ^ 52) s.right
     pub sum : is_sum s.op ≡ true
     pub means : (σ : State) (m1 m2 y : AnyNumber) → num_of s.left σ ≡ Ok m1 → num_of s.right σ ≡ Ok m2 → outcome_of (arithmetic_of s.op m1.number m2.number) ≡ Ok y →
-        step_meant p deepest ks F b M n (Eval e) σ ≡ Gives Normal (with_global s.target (value.Num y.number) σ)
+        plain_meant p deepest ks F b M n (Eval e) σ ≡ Gives Normal (with_global s.target (value.Num y.number) σ)
 
   abbrev Two : Type 0
   Two = AnyNumber × (AnyNumber × Unit {0})
@@ -392,8 +394,8 @@ module _ (p : Program) (deepest : ℕ) (ks : List Kind) (F : List Frame) (b : Ba
   abbrev set_code : ℕ → Arithmetic → Code → Code → Code
   set_code i o x y = Set (Global true i) (Do (Inline o) (At x (At y End)))
 
-  set_means : (i : ℕ) (o : Arithmetic) (a e : Source) (σ : State) → step_meant p deepest ks F b M n (Eval (set_code i o (source_code a) (source_code e))) σ ≡ two_summed i o σ (num_of a σ) (num_of e σ)
-  unfolding evaluated all_evaluated stepped all_stepped
+  set_means : (i : ℕ) (o : Arithmetic) (a e : Source) (σ : State) → plain_meant p deepest ks F b M n (Eval (set_code i o (source_code a) (source_code e))) σ ≡ two_summed i o σ (num_of a σ) (num_of e σ)
+  unfolding evaluated all_evaluated stepped
   set_means i o (Named j) (Named k) σ = refl
   set_means i o (Named j) (Constant z) σ = refl
   set_means i o (Constant z) (Named j) σ = refl
@@ -434,8 +436,8 @@ module _ (p : Program) (deepest : ℕ) (ks : List Kind) (F : List Frame) (b : Ba
   abbrev update_code : ℕ → Arithmetic → Code → Code → Code
   update_code i o a x = Let a (set_code i o x (Bound true zero))
 
-  update_means : (i : ℕ) (o : Arithmetic) (a e : Source) (σ : State) → step_meant p deepest ks F b M n (Eval (update_code i o (source_code e) (source_code a))) σ ≡ two_summed i o σ (num_of a σ) (num_of e σ)
-  unfolding evaluated all_evaluated stepped all_stepped
+  update_means : (i : ℕ) (o : Arithmetic) (a e : Source) (σ : State) → plain_meant p deepest ks F b M n (Eval (update_code i o (source_code e) (source_code a))) σ ≡ two_summed i o σ (num_of a σ) (num_of e σ)
+  unfolding evaluated all_evaluated stepped
   update_means i o (Named j) (Named k) σ = refl
   update_means i o (Named j) (Constant z) σ = refl
   update_means i o (Constant z) (Named j) σ = refl
@@ -481,8 +483,8 @@ module _ (p : Program) (deepest : ℕ) (ks : List Kind) (F : List Frame) (b : Ba
   abbrev old_stored : ℕ → AnyNumber → State → Result AnyNumber Fault → Outcome Flow
   old_stored i x σ r = go_on (go_on (settled r σ) (λ y. (store_slot (Global true i) (value.Num y.number) >> give y) >> give x)) (λ y. give Normal)
 
-  old_means : (i : ℕ) (o : Arithmetic) (a : Source) (z : ℤ) (σ : State) → step_meant p deepest ks F b M n (Eval (old_code i o (source_code a) (Number z))) σ ≡ old_summed i o σ (num_of a σ) (num_of (Constant z) σ)
-  unfolding evaluated all_evaluated stepped all_stepped
+  old_means : (i : ℕ) (o : Arithmetic) (a : Source) (z : ℤ) (σ : State) → plain_meant p deepest ks F b M n (Eval (old_code i o (source_code a) (Number z))) σ ≡ old_summed i o σ (num_of a σ) (num_of (Constant z) σ)
+  unfolding evaluated all_evaluated stepped
   old_means i o (Named j) z σ = refl
   old_means i o (Constant y) z σ = refl
 
@@ -588,10 +590,12 @@ module _ (p : Program) (deepest : ℕ) (ks : List Kind) (F : List Frame) (b : Ba
   pub sum_unboxed : (e : Code) (s : Sum) → SumIs e s → AllUnboxed (sum_names s)
   sum_unboxed e s t = name_unboxed s.target (and_source s.left (and_source s.right [])) t.kind (source_unboxed (2 ^ 52) s.left (and_source s.right []) t.left (source_unboxed (2 ^ 52) s.right [] t.right tt))
 
-  pub eval_step : (e : Code) → ExprOk p deepest ks F b M n e → StepOk p deepest ks F b M n (Eval e)
-  unfolding step_emitted steps_emitted step_sorted steps_sorted
-  eval_step e ok r lo u d bk ct k K l σ so rm it ar wk s =
-      first (machine p deepest ks F) M 1 (work_of e + 20) (30 + work_of e) σ.turns _ _ (StepDone p deepest ks F b M n lo u bk ct k K l) (Away p deepest ks F b d K) (step_meant p deepest ks F b M n (Eval e) σ) (nop_ok p deepest ks F b M n u K l σ s) (omega arith) (by (sum_in e) refl)
+  -- what is done once its place is noted
+  eval_rest : (e : Code) → ExprOk p deepest ks F b M n e → (r lo : Bool) (u d bk ct : ℕ) (k : Instructions) (K : List Label) (l : Locals) (σ : State) →
+      step_sorted (context p deepest ks F b M n) r lo (Eval e) ≡ true → step_room (Eval e) ≤ b.temporaries → step_arrays (Eval e) ≤ b.arrays → Starts p deepest ks F b M n u K l σ →
+      Reached p deepest ks F b M (work_of e + 20) σ.turns (at ks [] K (laid b l) F (quickly_dropped (layout p deepest ks F b M n) (sum_in e) e d k) (beside_state p deepest ks F σ)) (StepDone p deepest ks F b M n lo u bk ct k K l) (Away p deepest ks F b d K) (plain_meant p deepest ks F b M n (Eval e) σ)
+  unfolding step_sorted steps_sorted
+  eval_rest e ok r lo u d bk ct k K l σ so rm ar s = by (sum_in e) refl
     where
       S : Store
       S = beside_state p deepest ks F σ
@@ -609,7 +613,7 @@ module _ (p : Program) (deepest : ℕ) (ks : List Kind) (F : List Frame) (b : Ba
       fast q = summed (layout p deepest ks F b M n) q NoMore
 
       sums : (q : Sum) → SumIs e q → AllSure σ (pos (2 ^ 52)) (2 ^ 53) (sum_names q) →
-          Reached p deepest ks F b M (work_of e + 10) σ.turns (at ks [] K1 (laid b l) F (fast q) S) (StepDone p deepest ks F b M n lo u bk ct k K l) (Away p deepest ks F b d K) (step_meant p deepest ks F b M n (Eval e) σ)
+          Reached p deepest ks F b M (work_of e + 10) σ.turns (at ks [] K1 (laid b l) F (fast q) S) (StepDone p deepest ks F b M n lo u bk ct k K l) (Away p deepest ks F b d K) (plain_meant p deepest ks F b M n (Eval e) σ)
       sums q t w =
           let is2 = and_source q.right [] in
           let is1 = and_source q.left is2 in
@@ -627,19 +631,25 @@ module _ (p : Program) (deepest : ℕ) (ks : List Kind) (F : List Frame) (b : Ba
           (record { next = l; comes = refl; starts = starts_after p deepest ks F b M n u K K l l σ σ1 s refl (omega arith) (λ x. refl) (fit_global p deepest ks F b M n q.target (value.Num y.number) 0 u 0 l σ s.fit); iterators = λ x. refl; flows = flows_on lo }))
 
       chosen : (a : Sum) → SumIs e a → (f : Bool) → all_flag σ (pos (2 ^ 52)) (2 ^ 53) (sum_names a) ≡ f →
-          Reached p deepest ks F b M (work_of e + 10) σ.turns (at ks [] K1 (laid b l) F (cond (nat_eq (if f then 1 else 0) 0) (fast a) slow) S) (StepDone p deepest ks F b M n lo u bk ct k K l) (Away p deepest ks F b d K) (step_meant p deepest ks F b M n (Eval e) σ)
+          Reached p deepest ks F b M (work_of e + 10) σ.turns (at ks [] K1 (laid b l) F (cond (nat_eq (if f then 1 else 0) 0) (fast a) slow) S) (StepDone p deepest ks F b M n lo u bk ct k K l) (Away p deepest ks F b d K) (plain_meant p deepest ks F b M n (Eval e) σ)
       chosen a t true eq =
-          within (machine p deepest ks F) M ((work_of e + 8) + 1) (work_of e + 10) σ.turns _ (StepDone p deepest ks F b M n lo u bk ct k K l) (Away p deepest ks F b d K) (step_meant p deepest ks F b M n (Eval e) σ) (omega arith)
-          (blocked p deepest ks F b M (work_of e + 8) σ.turns d k K _ (StepDone p deepest ks F b M n lo u (suc bk) (suc ct) NoMore K1 l) (StepDone p deepest ks F b M n lo u bk ct k K l) (step_meant p deepest ks F b M n (Eval e) σ) (λ f τ c h. block_ends p deepest ks F b M n lo u bk ct k K l f τ c h)
+          within (machine p deepest ks F) M ((work_of e + 8) + 1) (work_of e + 10) σ.turns _ (StepDone p deepest ks F b M n lo u bk ct k K l) (Away p deepest ks F b d K) (plain_meant p deepest ks F b M n (Eval e) σ) (omega arith)
+          (blocked p deepest ks F b M (work_of e + 8) σ.turns d k K _ (StepDone p deepest ks F b M n lo u (suc bk) (suc ct) NoMore K1 l) (StepDone p deepest ks F b M n lo u bk ct k K l) (plain_meant p deepest ks F b M n (Eval e) σ) (λ f τ c h. block_ends p deepest ks F b M n lo u bk ct k K l f τ c h)
           (dropped_ok p deepest ks F b M n e ok lo u (suc d) (suc bk) (suc ct) NoMore K1 l σ srt rm ar (starts_among p deepest ks F b M n u K K1 l σ refl s)))
       chosen a t false eq = sums a t (all_sure (sum_names a) (pos (2 ^ 52)) (2 ^ 53) σ (omega arith) (omega arith) eq)
 
-      by : (o : Option Sum) → sum_in e ≡ o → Reached p deepest ks F b M (work_of e + 20) σ.turns (at ks [] K (laid b l) F (quickly_dropped (layout p deepest ks F b M n) o e d k) S) (StepDone p deepest ks F b M n lo u bk ct k K l) (Away p deepest ks F b d K) (step_meant p deepest ks F b M n (Eval e) σ)
-      by None eq = within (machine p deepest ks F) M (work_of e + 8) (work_of e + 20) σ.turns _ (StepDone p deepest ks F b M n lo u bk ct k K l) (Away p deepest ks F b d K) (step_meant p deepest ks F b M n (Eval e) σ) (omega arith) (dropped_ok p deepest ks F b M n e ok lo u d bk ct k K l σ srt rm ar s)
+      by : (o : Option Sum) → sum_in e ≡ o → Reached p deepest ks F b M (work_of e + 20) σ.turns (at ks [] K (laid b l) F (quickly_dropped (layout p deepest ks F b M n) o e d k) S) (StepDone p deepest ks F b M n lo u bk ct k K l) (Away p deepest ks F b d K) (plain_meant p deepest ks F b M n (Eval e) σ)
+      by None eq = within (machine p deepest ks F) M (work_of e + 8) (work_of e + 20) σ.turns _ (StepDone p deepest ks F b M n lo u bk ct k K l) (Away p deepest ks F b d K) (plain_meant p deepest ks F b M n (Eval e) σ) (omega arith) (dropped_ok p deepest ks F b M n e ok lo u d bk ct k K l σ srt rm ar s)
       by (Some a) eq =
           let t = sum_is e a eq srt in
           let fw = sum_few a in
           let un = name_unboxed a.target (and_source a.left (and_source a.right [])) t.kind (source_unboxed (2 ^ 52) a.left (and_source a.right []) t.left (source_unboxed (2 ^ 52) a.right [] t.right tt)) in
-          first (machine p deepest ks F) M (all_steps (sum_names a) + 1) (work_of e + 10) (work_of e + 20) σ.turns _ _ (StepDone p deepest ks F b M n lo u bk ct k K l) (Away p deepest ks F b d K) (step_meant p deepest ks F b M n (Eval e) σ)
+          first (machine p deepest ks F) M (all_steps (sum_names a) + 1) (work_of e + 10) (work_of e + 20) σ.turns _ _ (StepDone p deepest ks F b M n lo u bk ct k K l) (Away p deepest ks F b d K) (plain_meant p deepest ks F b M n (Eval e) σ)
           (then_goes (all_unsure_ok _ _ (sum_names a) (pos (2 ^ 52)) (2 ^ 53) l σ un) (chooses slow (fast a) (if all_flag σ (pos (2 ^ 52)) (2 ^ 53) (sum_names a) then 1 else 0))) (omega (arith, fw))
           (chosen a t (all_flag σ (pos (2 ^ 52)) (2 ^ 53) (sum_names a)) refl)
+
+  pub eval_step : (e : Code) → ExprOk p deepest ks F b M n e → StepOk p deepest ks F b M n (Eval e)
+  unfolding step_emitted steps_emitted step_noted steps_noted
+  eval_step e ok r lo u d bk ct k K l σ so rm it ar wk s =
+      begun_step p deepest ks F b M n _ (work_of e + 20) (30 + work_of e) u K l σ (StepDone p deepest ks F b M n lo u bk ct k K l) (Away p deepest ks F b d K) (plain_meant p deepest ks F b M n (Eval e)) (omega arith) s
+      (λ τ s1. eval_rest e ok r lo u d bk ct k K l τ so rm ar s1)

@@ -16,6 +16,7 @@ use Rattle.value_machine.specs.Emission.{emitted, all_emitted}
 use Rattle.value_machine.specs.Machine.{Conf, Label, Frame, at, loops_walked}
 use Rattle.value_machine.specs.Places.{Bases}
 use Rattle.value_machine.specs.Small.{copied_from}
+use Rattle.value_machine.proofs.Watch.{Watch}
 use Rattle.value_machine.proofs.Runs.{Goes, then_goes, stays, there}
 use Rattle.value_machine.proofs.Regions.{upd_same, upd_other}
 use Rattle.value_machine.proofs.Locals.{Locals, Param, Hand, Number as NumberAt, local_of, with_at, laid}
@@ -108,7 +109,7 @@ same_true (suc i) = same_true i
 pub bound_there : (m : Bool) (i : ℕ) (h : Standing) → is_well_used (held_after i (Bound m i) h) ≡ true → h ≡ There
 bound_there m i h e = used_there m h (sym (ap (λ t. is_well_used (if t then used m h else h)) (same_true i)) ∙ e)
 
-module _ (p : Program) (deepest : ℕ) (ks : List Kind) (F : List Frame) (b : Bases) (M n : ℕ) where
+module _ (p : Program) (deepest : Watch) (ks : List Kind) (F : List Frame) (b : Bases) (M n : ℕ) where
   outside_one : (ts : List ℕ) (i x : ℕ) → Outside x ts → i < length ts → x ≢ get_or ts i zero
   outside_one [] i x o lt = absurd (omega (arith, lt))
   outside_one (s ∷ ts) zero x o lt = o.0

@@ -31,6 +31,7 @@ use Rattle.value_machine.specs.Places.{Bases, room, arrays_in}
 use Rattle.value_machine.specs.Small.{does, number_is, when, either, code_number, let_go, h}
 use Rattle.value_machine.specs.Small
 use Rattle.value_machine.specs.declared.import.Import.TheVariants.{Drop}
+use Rattle.value_machine.proofs.Watch.{Watch}
 use Rattle.value_machine.proofs.Runs.{Goes, then_goes, goes_to, goes_from, by_steps, stays, there, first, then_on, weaker_settled, within, Onward}
 use Rattle.value_machine.proofs.Regions.{upd_same, upd_other}
 use Rattle.value_machine.proofs.Locals.{Locals, Hand, Number as NumberAt, with_at, laid}
@@ -55,7 +56,7 @@ plain_more f fs e q (suc i) = q i
 pub same_any : (ts : List ℕ) (t w : ℕ) (l l1 : Locals) → Same [] t w l l1 → Same ts t w l l1
 same_any ts t w l l1 a = record { hands = λ x h o. a.hands x h tt; numbers = a.numbers; iterators = a.iterators; arrays = a.arrays }
 
-module _ (p : Program) (deepest : ℕ) (ks : List Kind) (F : List Frame) (b : Bases) (M n : ℕ) where
+module _ (p : Program) (deepest : Watch) (ks : List Kind) (F : List Frame) (b : Bases) (M n : ℕ) where
   -- what a text is kept for: what is kept beside it, and the code that stores it
   pub record Stores (s : Code) (fs : List Form) (env : Env fs) (ts : List ℕ) (st : ℕ → Standing) (t u w m : ℕ) (l : Locals) (σ : State) : Type 0 where
     pub ok : ExprOk p deepest ks F b M n s

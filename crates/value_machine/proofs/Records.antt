@@ -9,7 +9,6 @@ use Rattle.wasm_types.specs.Syntax.{Instructions, Done}
 use Rattle.wasm_types.specs.declared.instr.Simple.TheVariants.{Br}
 use Rattle.wasm_store.specs.declared.word.Word.TheVariants.{I64}
 use Rattle.mid_program.specs.Mid.{Program, Steps}
-use Rattle.mid_program.specs.MidMeaning.{mid_done}
 use Rattle.mid_program.specs.Meaning.{assign_pending}
 use Rattle.mid_program.specs.ScriptRun.{for_record, on_input, records_done}
 use Rattle.mid_program.specs.ScriptState.{State, OutOfTurns, Outcome, Doing, ◌>>◌, asks, nothing, stop}
@@ -19,9 +18,11 @@ use Rattle.value_machine.specs.Emission.{pending_assigned}
 use Rattle.value_machine.specs.Functions.{layout_of}
 use Rattle.value_machine.specs.ImportCalls.{input_code}
 use Rattle.value_machine.specs.Machine.{Conf, Label, at, label, ending_at, loops_walked}
+use Rattle.value_machine.specs.Noted.{noted_done, out_of_part}
 use Rattle.value_machine.specs.Places.{Bases, steps_room, steps_iterators, steps_arrays}
 use Rattle.value_machine.specs.Small.{does, ask_row, when, number_is, kept_code, n as number_at}
 use Rattle.value_machine.specs.Statements.{record_done, records_read}
+use Rattle.value_machine.proofs.Watch.{Watch}
 use Rattle.value_machine.proofs.Runs.{Goes, goes_from, goes_to, then_goes, by_steps, first, then_on, then_step, there, turned, weaker, Arrives}
 use Rattle.value_machine.proofs.Locals.{Locals, laid}
 use Rattle.value_machine.proofs.Relation.{Away, away_out, fit_turns}
@@ -31,7 +32,7 @@ use Rattle.value_machine.proofs.StatementForms.{steps_work, Starts, StepsOk}
 use Rattle.value_machine.proofs.Returning.{Plainly}
 use Rattle.value_machine.proofs.Parts.{On, record_work, record_ok}
 
-module _ (p : Program) (deepest : ℕ) (b : Bases) (M n : ℕ) where
+module _ (p : Program) (deepest : Watch) (b : Bases) (M n : ℕ) where
   -- what is there after the main input was asked: where an assignment is pending, as `Pends` says
   abbrev pub After : (Locals → State → Type 0) → InputAnswer → List Label → Locals → State → Type 0
   After Pends input.Pending K l σ = Pends l σ
@@ -55,7 +56,7 @@ module _ (p : Program) (deepest : ℕ) (b : Bases) (M n : ℕ) where
     pub assigned : (d : ℕ) (k : Instructions) (K : List Label) (l : Locals) (σ : State) → loops_walked K ≡ 0 → σ.turns ≤ n → Pends l σ →
         Arrives (machine p deepest [] []) M work σ.turns (at [] [] K (laid b l) [] (pending_assigned (layout_of p b) zero k) (beside_state p deepest [] [] σ)) (λ u. On p deepest b M n k K) (Away p deepest [] [] b d K) (assign_pending σ)
 
-  module _ (work : ℕ) (r : Reading work) (items : Steps) (ok : StepsOk p deepest [] [] b M n items) (plain : Plainly (mid_done p n items)) (so : steps_sorted (context_of p []) false false items ≡ true) (room : steps_room items ≤ b.temporaries) (iterators : steps_iterators items ≤ b.iterators)
+  module _ (work : ℕ) (r : Reading work) (items : Steps) (ok : StepsOk p deepest [] [] b M n items) (plain : Plainly (noted_done deepest.notes p b n items out_of_part)) (so : steps_sorted (context_of p []) false false items ≡ true) (room : steps_room items ≤ b.temporaries) (iterators : steps_iterators items ≤ b.iterators)
       (arrays : steps_arrays items ≤ b.arrays) (one : suc zero ≤ b.temporaries) (few : (steps_work items + (record_work p deepest b M n + 3)) + (work + 30) ≤ M) (d : ℕ) (k : Instructions) (K : List Label) where
     abbrev pending_code : Instructions
     pending_code = pending_assigned (layout_of p b) zero (does (Br 1) Done)
@@ -76,7 +77,7 @@ module _ (p : Program) (deepest : ℕ) (b : Bases) (M n : ℕ) where
     inside = label [] (Some read_code) k ∷ K
 
     abbrev rounds : ℕ → Doing (Unit {0})
-    rounds m = records_done m (mid_done p n items)
+    rounds m = records_done m (noted_done deepest.notes p b n items out_of_part)
 
     -- a round begins
     abbrev Round : State → Conf → Type 0
@@ -146,12 +147,12 @@ module _ (p : Program) (deepest : ℕ) (b : Bases) (M n : ℕ) where
         (λ a τ c1 le1 q. answered a 0 (stop OutOfTurns) (stop OutOfTurns) τ c1 (omega (arith, few)) walks q (omega (arith, le1, len)) (λ l j e s. absurd (omega (arith, e, le, le1))) (λ l j e s. absurd (omega (arith, e, le, le1)))))
     records_ok walks (suc m) σ c le len h =
         first (machine p deepest [] []) M 0 16 16 σ.turns c _ (λ u. On p deepest b M n k K) (Away p deepest [] [] b d K) _ (record { it = h.comes }) (omega arith)
-        (then_on (machine p deepest [] []) M 6 10 16 σ.turns _ (Answered r.Pends answer_code inside) (λ u. On p deepest b M n k K) (Away p deepest [] [] b d K) (asks row.NextMain tt σ) (on_input (for_record (mid_done p n items) >> rounds m) (assign_pending >> rounds m)) (omega arith)
+        (then_on (machine p deepest [] []) M 6 10 16 σ.turns _ (Answered r.Pends answer_code inside) (λ u. On p deepest b M n k K) (Away p deepest [] [] b d K) (asks row.NextMain tt σ) (on_input (for_record (noted_done deepest.notes p b n items out_of_part) >> rounds m) (assign_pending >> rounds m)) (omega arith)
         (weaker (machine p deepest [] []) M 6 σ.turns _ (Answered r.Pends answer_code inside) (Answered r.Pends answer_code inside) (Away p deepest [] [] b (suc d) inside) (Away p deepest [] [] b d K) (asks row.NextMain tt σ) (λ a τ c1 q. q)
         (λ why τ c1 q. away_out p deepest [] [] b d (label [] (Some read_code) k) K why τ c1 q) (r.asked (suc d) answer_code inside h.next σ h.starts))
-        (λ a τ c1 le1 q. answered a round_work (for_record (mid_done p n items) >> rounds m) (assign_pending >> rounds m) τ c1 (omega (arith, few)) walks q (omega (arith, le1, len))
+        (λ a τ c1 le1 q. answered a round_work (for_record (noted_done deepest.notes p b n items out_of_part) >> rounds m) (assign_pending >> rounds m) τ c1 (omega (arith, few)) walks q (omega (arith, le1, len))
         (λ l j e s.
-        then_on (machine p deepest [] []) M ((steps_work items + (record_work p deepest b M n + 3)) + 1) 16 round_work j _ (λ u. Round) (λ u. On p deepest b M n k K) (Away p deepest [] [] b d K) (for_record (mid_done p n items) (record τ { turns = j })) (λ u. rounds m) (omega arith)
+        then_on (machine p deepest [] []) M ((steps_work items + (record_work p deepest b M n + 3)) + 1) 16 round_work j _ (λ u. Round) (λ u. On p deepest b M n k K) (Away p deepest [] [] b d K) (for_record (noted_done deepest.notes p b n items out_of_part) (record τ { turns = j })) (λ u. rounds m) (omega arith)
         (again_from (label [] None else_code) m (steps_work items + (record_work p deepest b M n + 3)) (record τ { turns = j }) _ j _
         (record_ok p deepest b M n items ok (suc (suc d)) (does (Br 1) Done) (label [] None else_code ∷ inside) l (record τ { turns = j }) plain so room iterators arrays (omega (arith, few)) (record { fit = s.fit; walked = s.walked; walks = s.walks; loops = s.loops; turns = s.turns; parameters = s.parameters })) walks)
         (λ u τ1 c2 le2 h2. records_ok walks m τ1 c2 (omega (arith, le, le1, e, le2)) (omega (arith, len, le1, e, le2)) h2))
@@ -162,7 +163,7 @@ module _ (p : Program) (deepest : ℕ) (b : Bases) (M n : ℕ) where
 
     -- the records of the main input
     pub reading_ok : (l : Locals) (σ : State) → Starts p deepest [] [] b M n 0 K l σ →
-        Arrives (machine p deepest [] []) M 17 σ.turns (at [] [] K (laid b l) [] (records_read (layout_of p b) items d k) (beside_state p deepest [] [] σ)) (λ u. On p deepest b M n k K) (Away p deepest [] [] b d K) (records_done n (mid_done p n items) σ)
+        Arrives (machine p deepest [] []) M 17 σ.turns (at [] [] K (laid b l) [] (records_read (layout_of p b) items d k) (beside_state p deepest [] [] σ)) (λ u. On p deepest b M n k K) (Away p deepest [] [] b d K) (records_done n (noted_done deepest.notes p b n items out_of_part) σ)
     reading_ok l σ s =
         first (machine p deepest [] []) M 1 16 17 σ.turns _ (at [] [] inside (laid b l) [] read_code (beside_state p deepest [] [] σ)) (λ u. On p deepest b M n k K) (Away p deepest [] [] b d K) _ (by_steps 1 refl) (omega arith)
         (records_ok s.loops n σ _ s.turns s.turns (record { next = l; comes = refl; starts = record { fit = s.fit; walked = s.walked; walks = s.walks; loops = s.loops; turns = s.turns; parameters = s.parameters } }))

@@ -5,13 +5,16 @@ use Rattle.awk_values.specs.declared.value.Value.{Value}
 use Rattle.awk_values.specs.declared.value.Value.TheVariants.{Uninit}
 use Rattle.wasm_types.specs.Syntax.{Instructions}
 use Rattle.mid_program.specs.Mid.{Kind, Boxed, Unboxed, Many, Program, Routine, Code, parameters_at}
-use Rattle.mid_program.specs.MidMeaning.{mid_called, routine_at, all_stepped}
+use Rattle.mid_program.specs.MidMeaning.{routine_at}
 use Rattle.mid_program.specs.ScriptState.{State, Own, Local, Scalar, Stop, Faulted, OutOfTurns, TooDeep, Nexted, Exited, Returned, Outcome, Gives, Stops, Doing, go_on, spent}
 use Rattle.mid_program.specs.Sorted.{has_kind, same_kind, calls_of, kinds_of}
 use Rattle.mid_program.specs.Statements.{Flow, returned, entered_with}
 use Rattle.value_machine.specs.Cells.{Cell, Gone}
-use Rattle.value_machine.specs.Machine.{Conf, Label, Frame}
+use Rattle.value_machine.specs.Functions.{layout_of, routine_bases}
+use Rattle.value_machine.specs.Machine.{Notes, Conf, Label, Frame}
+use Rattle.value_machine.specs.Noted.{noted_called, steps_noted, routine_rest}
 use Rattle.value_machine.specs.Places.{Bases}
+use Rattle.value_machine.proofs.Watch.{Watch}
 use Rattle.value_machine.proofs.Runs.{Reaches, Arrives, within}
 use Rattle.value_machine.proofs.Relation.{ParamIs}
 use Rattle.value_machine.proofs.Answers.{machine}
@@ -41,14 +44,16 @@ entered_ends : (room : ℕ) (os : List Local) (body : Doing Flow) (σ : State) �
 entered_ends zero os body σ = tt
 entered_ends (suc room) os body σ = returned_ends σ.own (body (record σ { own = record { locals = os; room = room } }))
 
-called_ends : (p : Program) (n f : ℕ) (os : List Local) (σ : State) → Ends (mid_called p n f os σ)
-unfolding mid_called
-called_ends p zero f os σ = tt
-called_ends p (suc n) f os σ = entered_ends σ.own.room os (all_stepped p.texts (calls_of p) n (mid_called p n) (routine_at p.routines f).body) σ
+called_ends : (notes : Notes) (p : Program) (n f : ℕ) (os : List Local) (σ : State) → Ends (noted_called notes p n f os σ)
+unfolding noted_called
+called_ends notes p zero f os σ = tt
+called_ends notes p (suc n) f os σ =
+    let r = routine_at p.routines f in
+    entered_ends σ.own.room os (steps_noted notes (layout_of p (routine_bases r)) p.texts (calls_of p) n (noted_called notes p n) r.body zero zero zero zero (routine_rest (routine_bases r))) σ
 
-spent_ends : (p : Program) (n f : ℕ) (os : List Local) (m : ℕ) (σ : State) → Ends (go_on (spent m σ) (λ x. mid_called p n f os))
-spent_ends p n f os zero σ = tt
-spent_ends p n f os (suc m) σ = called_ends p n f os (record σ { turns = m })
+spent_ends : (notes : Notes) (p : Program) (n f : ℕ) (os : List Local) (m : ℕ) (σ : State) → Ends (go_on (spent m σ) (λ x. noted_called notes p n f os))
+spent_ends notes p n f os zero σ = tt
+spent_ends notes p n f os (suc m) σ = called_ends notes p n f os (record σ { turns = m })
 
 -- ---- kinds and parameters
 
@@ -68,7 +73,7 @@ parameters_of [] f = refl
 parameters_of (r ∷ rs) zero = refl
 parameters_of (r ∷ rs) (suc f) = parameters_of rs f
 
-module _ (p : Program) (deepest : ℕ) where
+module _ (p : Program) (deepest : Watch) where
   module _ (kinds : List Kind) (Fs : List Frame) where
     as_many_cells : (ks : List Kind) (F : List Frame) (b : Bases) (M n : ℕ) (pks : List Kind) (os : List Local) (cs : List Cell) → GivenTo p deepest ks F b M n kinds Fs pks os cs → length cs ≡ length pks
     as_many_cells ks F b M n [] [] [] g = refl
@@ -118,9 +123,9 @@ module _ (p : Program) (deepest : ℕ) where
 
     calls_do : CallsOk p deepest M n → CallsDo p deepest ks F b M n
     calls_do calls f own words K L rest σ lt wt g s le =
-        within (machine p deepest ks F) M 0 20 σ.turns _ (CameBack p deepest ks F b M n K L rest σ) (LeftCall p deepest ks F b M n K L rest) (go_on (spent σ.turns σ) (λ x. mid_called p n f own)) (omega arith)
-        (came_back K L rest σ 0 σ.turns _ (go_on (spent σ.turns σ) (λ x. mid_called p n f own)) (spent_ends p n f own σ.turns σ)
+        within (machine p deepest ks F) M 0 20 σ.turns _ (CameBack p deepest ks F b M n K L rest σ) (LeftCall p deepest ks F b M n K L rest) (go_on (spent σ.turns σ) (λ x. noted_called deepest.notes p n f own)) (omega arith)
+        (came_back K L rest σ 0 σ.turns _ (go_on (spent σ.turns σ) (λ x. noted_called deepest.notes p n f own)) (spent_ends deepest.notes p n f own σ.turns σ)
         (calls f lt ks F K L rest words own σ wt (given (routine_at p.routines f).parameters (parameters_at (calls_of p) f) (function.waiting ks K L rest ∷ F) own words (parameters_of p.routines f) g) s le))
 
-pub exprs_do : (p : Program) (M deepest n : ℕ) → 40 + 4 * length (kinds_of p.globals) ≤ M → CallsOk p deepest M n → (ks : List Kind) (F : List Frame) (b : Bases) (e : Code) → ExprOk p deepest ks F b M n e
+pub exprs_do : (p : Program) (M : ℕ) (deepest : Watch) (n : ℕ) → 40 + 4 * length (kinds_of p.globals) ≤ M → CallsOk p deepest M n → (ks : List Kind) (F : List Frame) (b : Bases) (e : Code) → ExprOk p deepest ks F b M n e
 exprs_do p M deepest n paid calls ks F b e = expr_ok p deepest ks F b M n (record { paid = paid; calls = calls_do p deepest ks F b M n calls }) e

@@ -22,6 +22,7 @@ use Rattle.value_machine.specs.Cells.{Cell, Bits, Held, IteratorOf, OwnedArray, 
 use Rattle.value_machine.specs.ImportCalls.{input_code, close_code}
 use Rattle.value_machine.specs.Machine.{Conf, Deep, Label, Frame, br, owner_waits}
 use Rattle.value_machine.specs.Places.{Bases}
+use Rattle.value_machine.proofs.Watch.{Watch}
 use Rattle.value_machine.proofs.Regions.{upd_other, upd_all}
 use Rattle.value_machine.proofs.Locals.{Locals, Hand, Number as NumberAt, Array, with_at, laid}
 use Rattle.value_machine.proofs.Steps.{empty}
@@ -168,7 +169,7 @@ left_to TooDeep away deep = deep
 left_to _ away deep = away
 
 -- In a function with parameters of kinds ks, where F wait.
-module _ (p : Program) (deepest : ℕ) (ks : List Kind) (F : List Frame) where
+module _ (p : Program) (deepest : Watch) (ks : List Kind) (F : List Frame) where
   -- an array of the program, or one that a caller owns
   abbrev pub Lives : ℕ → Type 0
   Lives a = (a < suc (suc (arrays_among p.globals))) ⊎ (owner_waits a F ≡ true)
@@ -201,7 +202,7 @@ module _ (p : Program) (deepest : ℕ) (ks : List Kind) (F : List Frame) where
 
   -- of the state, whatever the locals hold
   pub record Sound (σ : State) : Type 0 where
-    pub room : length F + σ.own.room ≡ deepest
+    pub room : length F + σ.own.room ≡ deepest.callers
     pub names : length σ.globals ≡ length p.globals
     pub calm : Calm p σ.shared
 

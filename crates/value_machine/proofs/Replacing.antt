@@ -27,6 +27,7 @@ use Rattle.value_machine.specs.Machine.{Frame, loops_walked}
 use Rattle.value_machine.specs.Places.{Bases}
 use Rattle.value_machine.specs.Small.{does as do_it, either, h}
 use Rattle.value_machine.specs.Small
+use Rattle.value_machine.proofs.Watch.{Watch}
 use Rattle.value_machine.proofs.Runs.{first, then_settled, weaker}
 use Rattle.value_machine.proofs.Relation.{kept_same, same_then, Away}
 use Rattle.value_machine.proofs.Answers.{machine, done_by, Put}
@@ -73,7 +74,7 @@ three_there fs End h = none_there h
 three_there fs (Fixed m es) h = none_there h
 three_there fs (Fresh es) h = none_there h
 
-module _ (p : Program) (deepest : ℕ) (ks : List Kind) (F : List Frame) (b : Bases) (M n : ℕ) where
+module _ (p : Program) (deepest : Watch) (ks : List Kind) (F : List Frame) (b : Bases) (M n : ℕ) where
   flag_constant : (all : Bool) → is_constant constant.Flag (flag_number all) ≡ true
   flag_constant true = refl
   flag_constant false = refl

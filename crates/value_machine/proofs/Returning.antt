@@ -1,6 +1,6 @@
 -- Nothing but a function's own steps stops by `return`: no expression does, no call, and no step that stands in no function. And whatever is done leaves as many parameters as there were.
 use Rattle.std.proofs.Common.{◌≡◌, ℕ, zero, suc, Bool, true, false, List, [], ◌∷◌, length, Some, None, Option, Result, Ok, Err, refl, ap, ◌∙◌}
-use Rattle.std.specs.Prelude.{if◌then◌else◌, ◌&&◌, get_or}
+use Rattle.std.specs.Prelude.{if◌then◌else◌, ◌&&◌, get_or, is_some}
 use Rattle.std.proofs.lemmas.Bool.{and_parts}
 use Rattle.std.proofs.lemmas.List.{length-set}
 use Rattle.awk_values.specs.Comparison.{comparison}
@@ -19,8 +19,8 @@ use Rattle.awk_state.specs.declared.table.Primitive.{Primitive}
 use Rattle.awk_state.specs.declared.table.Primitive.TheVariants as row
 use Rattle.mid_program.specs.declared.mid.Operation.{Operation}
 use Rattle.mid_program.specs.declared.mid.Operation.TheVariants.{Host, Inline, AsNumber, FieldNumber}
-use Rattle.mid_program.specs.Mid.{Kind, Program, Slot, Global, Parameter, Code, Do, Over, Compare, Call, Ask, AskLine, FileLine, Replace, Number, Text, Unset, Get, Set, Array, IsOpen, Choose, Seq, Let, Bound, Codes, End, At, Fixed, Fresh, Step, Eval, Block, If, Loop, Each, Break, Continue, Next, Exit, ExitWith, Return, Mark, Steps, NoStep, Then, Form, a_value, form_of, arguments, parameters_at}
-use Rattle.mid_program.specs.MidMeaning.{Env, evaluated, all_evaluated, stepped, all_stepped, mid_called, routine_at, holds, keyed, operated, locals_of, or_zero, held, read_as, read_slot, store_slot, listing, row_of, numbered, converted, truth_in, boxed, arithmetic_of, three_values, when_read, when_replaced}
+use Rattle.mid_program.specs.Mid.{Kind, Program, Routine, Slot, Global, Parameter, Code, Do, Over, Compare, Call, Ask, AskLine, FileLine, Replace, Number, Text, Unset, Get, Set, Array, IsOpen, Choose, Seq, Let, Bound, Codes, End, At, Fixed, Fresh, Step, Eval, Block, If, Loop, Each, Break, Continue, Next, Exit, ExitWith, Return, Mark, Steps, NoStep, Then, Form, a_value, form_of, arguments, parameters_at}
+use Rattle.mid_program.specs.MidMeaning.{Env, evaluated, all_evaluated, stepped, routine_at, holds, keyed, operated, locals_of, or_zero, held, read_as, read_slot, store_slot, listing, row_of, numbered, converted, truth_in, boxed, arithmetic_of, three_values, when_read, when_replaced}
 use Rattle.mid_program.specs.Names.{ArrayName, Numbered, Given}
 use Rattle.mid_program.specs.ScriptState.{State, Own, Local, Scalar, Stop, Faulted, OutOfTurns, TooDeep, Nexted, Exited, Returned, Outcome, Gives, Stops, Doing, ◌>>=◌, ◌>>◌, go_on, give, nothing, stop, settled, or_fault, perform, does, asks, look, change, local_array, global_value, local_value, with_global, with_local, with_range, spent, spend, spend_all}
 use Rattle.mid_program.specs.Sorted.{Context, calls_of, step_sorted, steps_sorted, test_sorted, is_array_place, stores_well, sorted}
@@ -29,6 +29,15 @@ use Rattle.mid_program.specs.Steps.{array_number, one_number, input_number, fiel
 use Rattle.mid_program.specs.Items.{range_open}
 use Rattle.mid_program.specs.ScriptRun.{next_over, for_record, on_input, records_done}
 use Rattle.mid_program.specs.Meaning.{Calls, unless_pending, asked, assign_pending}
+use Rattle.wasm_types.specs.Syntax.{Instructions, Done}
+use Rattle.wasm_types.specs.declared.instr.Simple.TheVariants.{Br}
+use Rattle.value_machine.specs.Emission.{Layout}
+use Rattle.value_machine.specs.Functions.{layout_of, routine_bases}
+use Rattle.value_machine.specs.Machine.{Notes}
+use Rattle.value_machine.specs.Noted.{noting, noted, test_place, step_noted, steps_noted, noted_called, routine_rest}
+use Rattle.value_machine.specs.Quick.{pair_in, step_jumps, is_nothing}
+use Rattle.value_machine.specs.Small.{does as instruction}
+use Rattle.value_machine.specs.Statements.{step_emitted, steps_emitted}
 
 abbrev pub NoReturn : {A : Type 0} → Outcome A → Type 0
 NoReturn (Gives a σ) = Unit {0}
@@ -229,48 +238,72 @@ module _ (texts : List (List ℕ)) (parameters : List (List Kind)) (n : ℕ) (ca
   test_plainly : (e : Code) → Plainly (holds texts parameters n calls e)
   test_plainly e = then_plainly (code_plainly [] tt e) (λ v. gives_plainly (truth_in (form_of [] e) v))
 
-  abbrev St : Step → Doing Flow
-  St s = stepped texts parameters n calls s
+  -- steps that stand in no function; the place of each is noted first
+  module _ (notes : Notes) (y : Layout) where
+    begun_plainly : {A : Type 0} {m : Doing A} → (place : Instructions) → Plainly m → Plainly (noted notes place >> m)
+    begun_plainly place h = then_plainly (changes_plainly (noting notes place) (λ σ. refl)) (λ u. h)
 
-  -- steps that stand in no function
-  mutual
-    unfolding stepped all_stepped step_sorted steps_sorted
+    abbrev St : Step → (u d bk ct : ℕ) → Instructions → Doing Flow
+    St s u d bk ct k = step_noted notes y texts parameters n calls s u d bk ct k
 
-    step_plainly : (c : Context) (lo : Bool) (s : Step) → step_sorted c false lo s ≡ true → Plainly (stepped texts parameters n calls s)
-    step_plainly c lo (Eval e) so = then_plainly (code_plainly [] tt e) (λ u. gives_plainly Normal)
-    step_plainly c lo (Block ss) so = steps_plainly c lo ss so
-    step_plainly c lo (If e a b) so =
-        let s1 = and_parts (test_sorted c e) (step_sorted c false lo a && step_sorted c false lo b) so in
-        let s2 = and_parts (step_sorted c false lo a) (step_sorted c false lo b) s1.1 in
-        then_plainly (test_plainly e) (λ t. either_plainly t (St a) (St b) (step_plainly c lo a s2.0) (step_plainly c lo b s2.1))
-    step_plainly c lo (Loop true e a b) so =
-        let s1 = and_parts (test_sorted c e) (step_sorted c false true a && step_sorted c false false b) so in
-        let s2 = and_parts (step_sorted c false true a) (step_sorted c false false b) s1.1 in
-        loop_plainly n (holds texts parameters n calls e) (St a) (St b >> nothing) (test_plainly e) (step_plainly c true a s2.0) (then_plainly (step_plainly c false b s2.1) (λ u. nothing_plainly))
-    step_plainly c lo (Loop false e a b) so =
-        let s1 = and_parts (test_sorted c e) (step_sorted c false true a && step_sorted c false false b) so in
-        let s2 = and_parts (step_sorted c false true a) (step_sorted c false false b) s1.1 in
-        let x = step_plainly c true a s2.0 in
-        let y = then_plainly (step_plainly c false b s2.1) (λ u. nothing_plainly) in
-        then_plainly x (λ f. round_plainly f ((St b >> nothing) >> loop n (holds texts parameters n calls e) (St a) (St b >> nothing)) (then_plainly y (λ u. loop_plainly n (holds texts parameters n calls e) (St a) (St b >> nothing) (test_plainly e) x y)))
-    step_plainly c lo (Each a e s) so =
-        let s1 = and_parts (is_array_place c a) (stores_well [] e && (sorted c (a_value ∷ []) e && step_sorted c false true s)) so in
-        let s2 = and_parts (stores_well [] e) (sorted c (a_value ∷ []) e && step_sorted c false true s) s1.1 in
-        let s3 = and_parts (sorted c (a_value ∷ []) e) (step_sorted c false true s) s2.1 in
-        then_plainly (array_plainly a) (λ i. then_plainly (does_plainly row.Iter (i, tt)) (λ keys. keys_plainly n keys (keyed texts parameters n calls e) (St s) (λ v. then_plainly (code_plainly (a_value ∷ []) (v, tt) e) (λ u. nothing_plainly)) (step_plainly c true s s3.1)))
-    step_plainly c lo Break so = gives_plainly Broke
-    step_plainly c lo Continue so = gives_plainly Continued
-    step_plainly c lo Next so = stops_plainly Nexted (λ σ. tt)
-    step_plainly c lo Exit so = stops_plainly Exited (λ σ. tt)
-    step_plainly c lo (ExitWith e) so = then_plainly (code_plainly [] tt e) (λ v. then_plainly (settled_plainly (numbered (form_of [] e) v)) (λ m. then_plainly (changes_plainly (with_status m) (λ σ. refl)) (λ u. stops_plainly Exited (λ σ. tt))))
-    step_plainly c lo (Return e) so = cc
-    step_plainly c lo (Mark i b) so = then_plainly (changes_plainly (with_range i b) (λ σ. refl)) (λ u. gives_plainly Normal)
+    mutual
+      unfolding step_noted steps_noted stepped step_sorted steps_sorted
 
-    pub steps_plainly : (c : Context) (lo : Bool) (ss : Steps) → steps_sorted c false lo ss ≡ true → Plainly (all_stepped texts parameters n calls ss)
-    steps_plainly c lo NoStep so = gives_plainly Normal
-    steps_plainly c lo (Then s ss) so =
-        let s1 = and_parts (step_sorted c false lo s) (steps_sorted c false lo ss) so in
-        then_plainly (step_plainly c lo s s1.0) (λ f. after_plainly f (all_stepped texts parameters n calls ss) (steps_plainly c lo ss s1.1))
+      step_plainly : (c : Context) (lo : Bool) (s : Step) (u d bk ct : ℕ) (k : Instructions) → step_sorted c false lo s ≡ true → Plainly (step_noted notes y texts parameters n calls s u d bk ct k)
+      step_plainly c lo (Eval e) u d bk ct k so = begun_plainly _ (then_plainly (code_plainly [] tt e) (λ x. gives_plainly Normal))
+      step_plainly c lo (Block ss) u d bk ct k so = begun_plainly _ (noted_plainly c lo ss u d bk ct k so)
+      step_plainly c lo (If e a b) u d bk ct k so =
+          let s1 = and_parts (test_sorted c e) (step_sorted c false lo a && step_sorted c false lo b) so in
+          let s2 = and_parts (step_sorted c false lo a) (step_sorted c false lo b) s1.1 in
+          let back = instruction (Br 1) Done in
+          let far = St a u (suc (suc d)) (suc (suc bk)) (suc (suc ct)) back in
+          let near = St a u (suc d) (suc bk) (suc ct) Done in
+          let other = St b u (suc d) (suc bk) (suc ct) Done in
+          begun_plainly _ (then_plainly (test_plainly e) (λ t. either_plainly t (if is_some (pair_in e) then far else near) other
+          (either_plainly (is_some (pair_in e)) far near (step_plainly c lo a u (suc (suc d)) (suc (suc bk)) (suc (suc ct)) back s2.0) (step_plainly c lo a u (suc d) (suc bk) (suc ct) Done s2.0))
+          (step_plainly c lo b u (suc d) (suc bk) (suc ct) Done s2.1)))
+      step_plainly c lo (Loop true e a b) u d bk ct k so =
+          let s1 = and_parts (test_sorted c e) (step_sorted c false true a && step_sorted c false false b) so in
+          let s2 = and_parts (step_sorted c false true a) (step_sorted c false false b) s1.1 in
+          let back = instruction (Br zero) Done in
+          let rest = if is_nothing b then back else step_emitted y b u (suc (suc d)) 1 zero back in
+          let far = St a u (suc (suc (suc d))) 2 zero Done in
+          let near = St a u (suc (suc d)) 1 zero rest in
+          let last = St b u (suc (suc d)) 1 zero back >> nothing in
+          begun_plainly _ (loop_plainly n (holds texts parameters n calls e) (if step_jumps a then far else near) (if is_nothing b then nothing else last) (test_plainly e)
+          (either_plainly (step_jumps a) far near (step_plainly c true a u (suc (suc (suc d))) 2 zero Done s2.0) (step_plainly c true a u (suc (suc d)) 1 zero rest s2.0))
+          (either_plainly (is_nothing b) nothing last nothing_plainly (then_plainly (step_plainly c false b u (suc (suc d)) 1 zero back s2.1) (λ x. nothing_plainly))))
+      step_plainly c lo (Loop false e a b) u d bk ct k so =
+          let s1 = and_parts (test_sorted c e) (step_sorted c false true a && step_sorted c false false b) so in
+          let s2 = and_parts (step_sorted c false true a) (step_sorted c false false b) s1.1 in
+          let place = test_place y e (suc (suc d)) in
+          let test = noted notes place >> holds texts parameters n calls e in
+          let body = St a u (suc (suc (suc d))) 2 zero Done in
+          let last = St b u (suc (suc d)) 1 zero place >> nothing in
+          let x = step_plainly c true a u (suc (suc (suc d))) 2 zero Done s2.0 in
+          let z : Plainly last = then_plainly (step_plainly c false b u (suc (suc d)) 1 zero place s2.1) (λ v. nothing_plainly) in
+          let t : Plainly test = begun_plainly place (test_plainly e) in
+          begun_plainly _ (then_plainly x (λ f. round_plainly f (last >> loop n test body last) (then_plainly z (λ v. loop_plainly n test body last t x z))))
+      step_plainly c lo (Each a e s) u d bk ct k so =
+          let s1 = and_parts (is_array_place c a) (stores_well [] e && (sorted c (a_value ∷ []) e && step_sorted c false true s)) so in
+          let s2 = and_parts (stores_well [] e) (sorted c (a_value ∷ []) e && step_sorted c false true s) s1.1 in
+          let s3 = and_parts (sorted c (a_value ∷ []) e) (step_sorted c false true s) s2.1 in
+          begun_plainly _ (then_plainly (array_plainly a) (λ i. then_plainly (does_plainly row.Iter (i, tt)) (λ keys. keys_plainly n keys (keyed texts parameters n calls e) (St s (suc u) (suc (suc (suc d))) 2 zero Done)
+          (λ v. then_plainly (code_plainly (a_value ∷ []) (v, tt) e) (λ x. nothing_plainly)) (step_plainly c true s (suc u) (suc (suc (suc d))) 2 zero Done s3.1))))
+      step_plainly c lo Break u d bk ct k so = begun_plainly _ (gives_plainly Broke)
+      step_plainly c lo Continue u d bk ct k so = begun_plainly _ (gives_plainly Continued)
+      step_plainly c lo Next u d bk ct k so = begun_plainly _ (stops_plainly Nexted (λ σ. tt))
+      step_plainly c lo Exit u d bk ct k so = begun_plainly _ (stops_plainly Exited (λ σ. tt))
+      step_plainly c lo (ExitWith e) u d bk ct k so =
+          begun_plainly _ (then_plainly (code_plainly [] tt e) (λ v. then_plainly (settled_plainly (numbered (form_of [] e) v)) (λ m. then_plainly (changes_plainly (with_status m) (λ σ. refl)) (λ x. stops_plainly Exited (λ σ. tt)))))
+      step_plainly c lo (Return e) u d bk ct k so = cc
+      step_plainly c lo (Mark i b) u d bk ct k so = begun_plainly _ (then_plainly (changes_plainly (with_range i b) (λ σ. refl)) (λ x. gives_plainly Normal))
+
+      pub noted_plainly : (c : Context) (lo : Bool) (ss : Steps) (u d bk ct : ℕ) (k : Instructions) → steps_sorted c false lo ss ≡ true → Plainly (steps_noted notes y texts parameters n calls ss u d bk ct k)
+      noted_plainly c lo NoStep u d bk ct k so = gives_plainly Normal
+      noted_plainly c lo (Then s ss) u d bk ct k so =
+          let s1 = and_parts (step_sorted c false lo s) (steps_sorted c false lo ss) so in
+          then_plainly (step_plainly c lo s u d bk ct (steps_emitted y ss u d bk ct k) s1.0) (λ f. after_plainly f (steps_noted notes y texts parameters n calls ss u d bk ct k) (noted_plainly c lo ss u d bk ct k s1.1))
 
 returned_plainly : (own : Own) (r : Outcome Flow) → NoReturn (returned own r)
 returned_plainly own (Gives f σ) = tt
@@ -298,13 +331,16 @@ entered_own : (room : ℕ) (os : List Local) (body : Doing Flow) (σ : State) �
 entered_own zero os body σ = refl
 entered_own (suc room) os body σ = returned_own σ.own (body (record σ { own = record { locals = os; room = room } }))
 
-pub called_plainly : (p : Program) (n f : ℕ) (os : List Local) → Plainly (mid_called p n f os)
-unfolding mid_called
-called_plainly p zero f os = stops_plainly OutOfTurns (λ σ. tt)
-called_plainly p (suc n) f os = record {
-  at = λ σ. entered_plainly σ.own.room os (all_stepped p.texts (calls_of p) n (mid_called p n) (routine_at p.routines f).body) σ;
-  sized = λ σ. ap (λ (o : Own). length o.locals) (entered_own σ.own.room os (all_stepped p.texts (calls_of p) n (mid_called p n) (routine_at p.routines f).body) σ);
-}
+pub called_plainly : (notes : Notes) (p : Program) (n f : ℕ) (os : List Local) → Plainly (noted_called notes p n f os)
+unfolding noted_called
+called_plainly notes p zero f os = stops_plainly OutOfTurns (λ σ. tt)
+called_plainly notes p (suc n) f os = record { at = λ σ. entered_plainly σ.own.room os body σ; sized = λ σ. ap (λ (o : Own). length o.locals) (entered_own σ.own.room os body σ) }
+  where
+    r : Routine
+    r = routine_at p.routines f
+
+    body : Doing Flow
+    body = steps_noted notes (layout_of p (routine_bases r)) p.texts (calls_of p) n (noted_called notes p n) r.body zero zero zero zero (routine_rest (routine_bases r))
 
 -- The records of the main input.
 

@@ -3,28 +3,30 @@ use Rattle.std.proofs.Common.{◌≡◌, ℕ, zero, ◌+◌, ◌≤◌, Bool, tr
 use Rattle.std.proofs.lemmas.Bool.{and_parts}
 use Rattle.wasm_types.specs.Syntax.{Instructions}
 use Rattle.mid_program.specs.Mid.{Kind, Program, Code, Step, Eval, Block, Steps, NoStep, Then, form_of}
-use Rattle.mid_program.specs.MidMeaning.{stepped, all_stepped}
+use Rattle.mid_program.specs.MidMeaning.{stepped}
 use Rattle.mid_program.specs.ScriptState.{State, Stop, Outcome, Doing}
 use Rattle.mid_program.specs.Sorted.{There, sorted, step_sorted, steps_sorted}
 use Rattle.mid_program.specs.Statements.{Flow, Normal, Broke, Continued, after}
 use Rattle.value_machine.specs.Emission.{left_over, dropped}
 use Rattle.value_machine.specs.Machine.{Conf, Label, Frame, at}
+use Rattle.value_machine.specs.Noted.{step_noted, steps_noted}
 use Rattle.value_machine.specs.Places.{Bases, room, arrays_in}
 use Rattle.value_machine.specs.Statements.{step_emitted, steps_emitted}
+use Rattle.value_machine.proofs.Watch.{Watch}
 use Rattle.value_machine.proofs.Runs.{stays, goes_from, first, then_on, there, weaker}
 use Rattle.value_machine.proofs.Locals.{Locals, laid}
 use Rattle.value_machine.proofs.Relation.{Away}
 use Rattle.value_machine.proofs.Answers.{machine, beside_state, Reached}
 use Rattle.value_machine.proofs.Simulation.{work_of, context, layout, meant, Done, ExprOk, room_one}
 use Rattle.value_machine.proofs.Keeping.{left_ok}
-use Rattle.value_machine.proofs.StatementForms.{step_work, steps_work, flows_on, step_meant, steps_meant, Starts, ready, starts_after, StepDone, StepOk, StepsOk}
-use Rattle.value_machine.proofs.Tidy.{nop_ok}
+use Rattle.value_machine.proofs.StatementForms.{step_work, steps_work, flows_on, step_meant, steps_meant, plain_meant, Starts, ready, starts_after, StepDone, StepOk, StepsOk}
+use Rattle.value_machine.proofs.Tidy.{begun_step}
 
-module _ (p : Program) (deepest : ℕ) (ks : List Kind) (F : List Frame) (b : Bases) (M n : ℕ) where
+module _ (p : Program) (deepest : Watch) (ks : List Kind) (F : List Frame) (b : Bases) (M n : ℕ) where
   -- an expression for what it does alone
   pub dropped_ok : (e : Code) → ExprOk p deepest ks F b M n e → (lo : Bool) (u d bk ct : ℕ) (k : Instructions) (K : List Label) (l : Locals) (σ : State) → sorted (context p deepest ks F b M n) [] e ≡ true → room e ≤ b.temporaries → arrays_in e ≤ b.arrays → Starts p deepest ks F b M n u K l σ →
-      Reached p deepest ks F b M (work_of e + 8) σ.turns (at ks [] K (laid b l) F (dropped (layout p deepest ks F b M n) [] [] e zero zero d k) (beside_state p deepest ks F σ)) (StepDone p deepest ks F b M n lo u bk ct k K l) (Away p deepest ks F b d K) (step_meant p deepest ks F b M n (Eval e) σ)
-  unfolding stepped all_stepped
+      Reached p deepest ks F b M (work_of e + 8) σ.turns (at ks [] K (laid b l) F (dropped (layout p deepest ks F b M n) [] [] e zero zero d k) (beside_state p deepest ks F σ)) (StepDone p deepest ks F b M n lo u bk ct k K l) (Away p deepest ks F b d K) (plain_meant p deepest ks F b M n (Eval e) σ)
+  unfolding stepped
   dropped_ok e ok lo u d bk ct k K l σ so rm ar s =
       let mach = machine p deepest ks F in
       let Q = Away p deepest ks F b d K in
@@ -57,13 +59,13 @@ module _ (p : Program) (deepest : ℕ) (ks : List Kind) (F : List Frame) (b : Ba
       there (machine p deepest ks F) M w 0 c c Continued σ (StepDone p deepest ks F b M n lo u bk ct k K l) Q stays (omega arith) (record { next = h.next; comes = h.comes; starts = h.starts; iterators = h.iterators; flows = h.flows })
 
   pub no_steps : StepsOk p deepest ks F b M n NoStep
-  unfolding step_emitted steps_emitted stepped all_stepped step_sorted steps_sorted
+  unfolding step_emitted steps_emitted step_noted steps_noted step_sorted steps_sorted
   no_steps r lo u d bk ct k K l σ so rm it ar wk s =
       there (machine p deepest ks F) M 0 0 _ _ Normal σ (StepDone p deepest ks F b M n lo u bk ct k K l) (Away p deepest ks F b d K) stays (omega arith)
       (record { next = l; comes = refl; starts = s; iterators = λ x. refl; flows = flows_on lo })
 
   pub then_steps : (x : Step) (ss : Steps) → StepOk p deepest ks F b M n x → StepsOk p deepest ks F b M n ss → StepsOk p deepest ks F b M n (Then x ss)
-  unfolding step_emitted steps_emitted stepped all_stepped step_sorted steps_sorted
+  unfolding step_emitted steps_emitted step_noted steps_noted step_sorted steps_sorted
   then_steps x ss okx oks r lo u d bk ct k K l σ so rm it ar wk s =
       let mach = machine p deepest ks F in
       let ctx = context p deepest ks F b M n in
@@ -71,15 +73,15 @@ module _ (p : Program) (deepest : ℕ) (ks : List Kind) (F : List Frame) (b : Ba
       let P = StepDone p deepest ks F b M n lo u bk ct k K l in
       let k1 = steps_emitted (layout p deepest ks F b M n) ss u d bk ct k in
       let s1 = and_parts (step_sorted ctx r lo x) (steps_sorted ctx r lo ss) so in
-      then_on mach M (step_work x) (steps_work ss) (step_work x + steps_work ss) σ.turns _ (StepDone p deepest ks F b M n lo u bk ct k1 K l) P Q (step_meant p deepest ks F b M n x σ) _ (omega arith)
+      then_on mach M (step_work x) (steps_work ss) (step_work x + steps_work ss) σ.turns _ (StepDone p deepest ks F b M n lo u bk ct k1 K l) P Q (step_meant p deepest ks F b M n x u d bk ct k1 σ) _ (omega arith)
       (okx r lo u d bk ct k1 K l σ s1.0 (omega (arith, rm)) (omega (arith, it)) (omega (arith, ar)) (omega (arith, wk)) s)
-      (λ f τ c1 le h. jumped (steps_work ss) lo u bk ct k1 k K l Q f τ c1 (steps_meant p deepest ks F b M n ss) h
+      (λ f τ c1 le h. jumped (steps_work ss) lo u bk ct k1 k K l Q f τ c1 (steps_meant p deepest ks F b M n ss u d bk ct k) h
       (λ l1 e s2 same. first mach M 0 (steps_work ss) (steps_work ss) τ.turns c1 _ P Q _ (record { it = e }) (omega arith)
       (done_before (steps_work ss) τ.turns lo u bk ct k K l l1 _ Q _ same
       (oks r lo u d bk ct k K l1 τ s1.1 (omega (arith, rm)) (omega (arith, it)) (omega (arith, ar)) (omega (arith, wk)) s2))))
 
   pub block_step : (ss : Steps) → StepsOk p deepest ks F b M n ss → StepOk p deepest ks F b M n (Block ss)
-  unfolding step_emitted steps_emitted stepped all_stepped step_sorted steps_sorted
+  unfolding step_emitted steps_emitted step_noted steps_noted step_sorted steps_sorted
   block_step ss oks r lo u d bk ct k K l σ so rm it ar wk s =
-      first (machine p deepest ks F) M 1 (steps_work ss) (1 + steps_work ss) σ.turns _ _ (StepDone p deepest ks F b M n lo u bk ct k K l) (Away p deepest ks F b d K) _ (nop_ok p deepest ks F b M n u K l σ s) (omega arith)
-      (oks r lo u d bk ct k K l σ so rm it ar (omega (arith, wk)) s)
+      begun_step p deepest ks F b M n _ (steps_work ss) (1 + steps_work ss) u K l σ (StepDone p deepest ks F b M n lo u bk ct k K l) (Away p deepest ks F b d K) (steps_meant p deepest ks F b M n ss u d bk ct k) (omega arith) s
+      (λ τ s1. oks r lo u d bk ct k K l τ so rm it ar (omega (arith, wk)) s1)

@@ -17,6 +17,7 @@ use Rattle.mid_program.specs.Sorted.{has_kind, is_number}
 use Rattle.value_machine.specs.Cells.{Cell, Bits}
 use Rattle.value_machine.specs.Machine.{Frame}
 use Rattle.value_machine.specs.Places.{Bases}
+use Rattle.value_machine.proofs.Watch.{Watch}
 use Rattle.value_machine.proofs.Regions.{upd_same, upd_other}
 use Rattle.value_machine.proofs.Locals.{Locals, Param, with_at}
 use Rattle.value_machine.proofs.Steps.{empty}
@@ -45,7 +46,7 @@ pub number_plain : (f : Form) → is_number f ≡ true → NoArray f
 number_plain (Answered (answer.Of sort.Array)) e = absurd cc
 number_plain f e = tt
 
-module _ (p : Program) (deepest : ℕ) (ks : List Kind) (F : List Frame) (b : Bases) (M n : ℕ) where
+module _ (p : Program) (deepest : Watch) (ks : List Kind) (F : List Frame) (b : Bases) (M n : ℕ) where
   -- a parameter has another value
   pub fit_param : (i : ℕ) (k : Kind) (v : Value) (c : Cell) (t u w : ℕ) (l : Locals) (σ : State) → has_kind ks i k ≡ true → ParamIs p deepest ks F k (Scalar v) c → Fit p deepest ks F t u w l σ → Fit p deepest ks F t u w (with_at l (Param i) c) (with_local i v σ)
   fit_param i k v c t u w l σ hk h f = record {

@@ -24,6 +24,7 @@ use Rattle.value_machine.specs.Machine.{Conf, Label, Frame, at}
 use Rattle.value_machine.specs.Places.{Bases}
 use Rattle.value_machine.specs.Small.{does, ask, when, minus_one, least, text_beside, moved_out, h}
 use Rattle.value_machine.specs.declared.import.Import.TheVariants.{Drop}
+use Rattle.value_machine.proofs.Watch.{Watch}
 use Rattle.value_machine.proofs.Runs.{Goes, then_goes, goes_to, goes_from, by_steps, there, then_on}
 use Rattle.value_machine.proofs.Locals.{Locals, Param, Hand, Number as NumberAt, local_of, with_at, has_with, laid, laid_at, laid_twice, laid_again}
 use Rattle.value_machine.proofs.Globals.{Globals, Hand as NameHand, Number as NameNumber, global_of, with_global_at, has_global_with, placed, placed_twice, placed_again}
@@ -49,7 +50,7 @@ handed_under : (o : Bool) (t w : ℕ) (l : Locals) → Same [] t w l (handed o t
 handed_under true t w l = same_hand [] t w t l empty (omega arith)
 handed_under false t w l = same_self [] t w l
 
-module _ (p : Program) (deepest : ℕ) (ks : List Kind) (F : List Frame) (b : Bases) (M n : ℕ) where
+module _ (p : Program) (deepest : Watch) (ks : List Kind) (F : List Frame) (b : Bases) (M n : ℕ) where
   -- a name took the value, and all else is as it was
   set_done : (x : Slot) (e : Code) (v : Bool) (fs : List Form) (env : Env fs) (ts : List ℕ) (st : ℕ → Standing) (t u w : ℕ) (k k1 : Instructions) (K : List Label) (l l1 : Locals) (σ τ τ1 : State) (y : Holds (form_of fs e)) (c1 c : Conf) →
       Below t ts → (a : Done p deepest ks F b M n false e fs env ts st t u w k1 K l σ y τ c1) → c ≡ at ks [] K (laid b l1) F k (beside_state p deepest ks F τ1) →

@@ -11,7 +11,7 @@ use Rattle.std.specs.Prelude.{Some}
 use Rattle.wasm_types.specs.Syntax.{Instructions}
 use Rattle.mid_program.specs.declared.mid.Operation.TheVariants.{Host, Inline, AsNumber, FieldNumber}
 use Rattle.mid_program.specs.Mid.{Kind, Program, Form, Answered, Code, Do, Over, Compare, Call, Ask, AskLine, FileLine, Replace, Number, Text, Unset, Get, Set, Array, IsOpen, Choose, Seq, Let, Bound, Codes, End, At, Fixed, Fresh, form_of, form_at}
-use Rattle.mid_program.specs.MidMeaning.{Holds, Env, Values, evaluated, all_evaluated, mid_called}
+use Rattle.mid_program.specs.MidMeaning.{Holds, Env, Values, evaluated, all_evaluated}
 use Rattle.mid_program.specs.Names.{ArrayName}
 use Rattle.mid_program.specs.ScriptState.{State, Doing}
 use Rattle.mid_program.specs.Sorted.{Held as Standing, Context, context_of, calls_of, sorted, all_sorted, held_after, held_after_all, is_well_used}
@@ -19,7 +19,9 @@ use Rattle.value_machine.specs.Cells.{IteratorOf, OwnedArray}
 use Rattle.value_machine.specs.Emission.{Layout, array_meant, emitted, all_emitted}
 use Rattle.value_machine.specs.Functions.{layout_of}
 use Rattle.value_machine.specs.Machine.{Conf, Label, Frame, at, loops_walked}
+use Rattle.value_machine.specs.Noted.{noted_called}
 use Rattle.value_machine.specs.Places.{Bases, room, rooms, arrays_in, arrays_among}
+use Rattle.value_machine.proofs.Watch.{Watch}
 use Rattle.value_machine.proofs.Locals.{Locals, laid}
 use Rattle.value_machine.proofs.Steps.{empty}
 use Rattle.value_machine.proofs.Relation.{HoldsAt, Meant, Kept, Below, Same, Fit, SameOwn, Away}
@@ -141,7 +143,7 @@ still_stands (Let a c) f t l x q = q
 still_stands (Bound m i) f t l x q = q
 still_stands _ f t l x q = q
 
-module _ (p : Program) (deepest : ℕ) (ks : List Kind) (F : List Frame) (b : Bases) (M n : ℕ) where
+module _ (p : Program) (deepest : Watch) (ks : List Kind) (F : List Frame) (b : Bases) (M n : ℕ) where
   abbrev pub context : Context
   context = context_of p ks
 
@@ -154,10 +156,10 @@ module _ (p : Program) (deepest : ℕ) (ks : List Kind) (F : List Frame) (b : Ba
 
   -- what code means, with n more calls inside one another
   abbrev pub meant : (fs : List Form) → Env fs → (e : Code) → Doing (Holds (form_of fs e))
-  meant fs env e = evaluated p.texts (calls_of p) n (mid_called p n) fs env e
+  meant fs env e = evaluated p.texts (calls_of p) n (noted_called deepest.notes p n) fs env e
 
   abbrev pub all_meant : (fs : List Form) → Env fs → (es : Codes) → Doing (Values fs es)
-  all_meant fs env es = all_evaluated p.texts (calls_of p) n (mid_called p n) fs env es
+  all_meant fs env es = all_evaluated p.texts (calls_of p) n (noted_called deepest.notes p n) fs env es
 
   -- u loops over keys are walked, m among the labels, and each has its iterator
   pub record Walking (m u : ℕ) (l : Locals) : Type 0 where

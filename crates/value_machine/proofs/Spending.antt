@@ -11,6 +11,7 @@ use Rattle.mid_program.specs.ScriptState.{State, Stop, OutOfTurns, Gives, Stops,
 use Rattle.mid_program.specs.ScriptRun.{GoesOn}
 use Rattle.value_machine.specs.Cells.{Cell}
 use Rattle.value_machine.specs.Machine.{Conf, Label, Frame, Store, at, carried_at, turns_within, ending_at}
+use Rattle.value_machine.proofs.Watch.{Watch}
 use Rattle.value_machine.proofs.Runs.{Goes, Arrives, arrives_after}
 use Rattle.value_machine.proofs.Answers.{machine, beside_state, reply, after_reply}
 
@@ -38,7 +39,7 @@ spending (suc n) σ = by (λ k. spending n (record σ { turns = k })) σ.turns r
     by on zero e = none_left n σ e
     by on (suc k) e = one_spent n k σ e (on k)
 
-module _ (p : Program) (deepest : ℕ) (ks : List Kind) (F : List Frame) (M : ℕ) where
+module _ (p : Program) (deepest : Watch) (ks : List Kind) (F : List Frame) (M : ℕ) where
   -- such a call: its code, how many assignments it carries out, what it gives
   pub record Asks (a : Answer) : Type 0 where
     pub code : Instructions → Instructions

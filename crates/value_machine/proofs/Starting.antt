@@ -21,6 +21,7 @@ use Rattle.value_machine.specs.Machine.{Conf, Label, Frame, at, carried_if}
 use Rattle.value_machine.specs.Places.{Bases}
 use Rattle.value_machine.specs.Small.{ask_row}
 use Rattle.value_machine.specs.declared.import.Import.TheVariants.{Of}
+use Rattle.value_machine.proofs.Watch.{Watch}
 use Rattle.value_machine.proofs.Runs.{by_steps, there, faulted, first, weaker}
 use Rattle.value_machine.proofs.Locals.{Locals, Number as NumberAt, with_at, laid}
 use Rattle.value_machine.proofs.Calls.{import_found}
@@ -32,7 +33,7 @@ use Rattle.value_machine.proofs.Spending.{Asks, state_after, conf_after, asking,
 use Rattle.value_machine.proofs.Asking.{behind_call, loop_at, came_out, fit_answered, fit_faulted, assign_work, pends_ok}
 use Rattle.value_machine.proofs.Simulation.{layout}
 
-module _ (p : Program) (deepest : ℕ) (ks : List Kind) (F : List Frame) (b : Bases) (M n : ℕ) where
+module _ (p : Program) (deepest : Watch) (ks : List Kind) (F : List Frame) (b : Bases) (M n : ℕ) where
   abbrev asks_start : Asks p deepest ks F M answer.Assign
   asks_start = record {
     code = ask_row row.StartAssign;

@@ -3,14 +3,17 @@
 use Rattle.std.proofs.Common.{◌≡◌, ℕ, ◌+◌, ◌<◌, ◌≤◌, Bool, true, false, List, [], length, ◌∙◌, arith}
 use Rattle.wasm_types.specs.Syntax.{Instructions}
 use Rattle.mid_program.specs.Mid.{Kind, Program, Step, Eval, Block, If, Loop, Each, Break, Continue, Next, Exit, ExitWith, Return, Mark, Steps, NoStep, Then}
-use Rattle.mid_program.specs.MidMeaning.{stepped, all_stepped, mid_called}
+use Rattle.mid_program.specs.MidMeaning.{stepped}
 use Rattle.mid_program.specs.ScriptState.{State, Doing}
 use Rattle.mid_program.specs.Sorted.{There, calls_of, step_sorted, steps_sorted}
 use Rattle.mid_program.specs.Statements.{Flow, Normal, Broke, Continued}
 use Rattle.value_machine.specs.Cells.{IteratorOf}
+use Rattle.value_machine.specs.Functions.{layout_of}
 use Rattle.value_machine.specs.Machine.{Conf, Label, Frame, at, br, loops_walked}
+use Rattle.value_machine.specs.Noted.{noted_called, step_noted, steps_noted}
 use Rattle.value_machine.specs.Places.{Bases, step_room, steps_room, step_iterators, steps_iterators, step_arrays, steps_arrays}
 use Rattle.value_machine.specs.Statements.{step_emitted, steps_emitted}
+use Rattle.value_machine.proofs.Watch.{Watch}
 use Rattle.value_machine.proofs.Locals.{Locals, laid}
 use Rattle.value_machine.proofs.Relation.{Fit, Away}
 use Rattle.value_machine.proofs.Answers.{beside_state, Reached}
@@ -53,13 +56,17 @@ flow_at Normal on broke continued = on
 flow_at Broke on broke continued = broke
 flow_at Continued on broke continued = continued
 
-module _ (p : Program) (deepest : ℕ) (ks : List Kind) (F : List Frame) (b : Bases) (M n : ℕ) where
+module _ (p : Program) (deepest : Watch) (ks : List Kind) (F : List Frame) (b : Bases) (M n : ℕ) where
   -- what steps mean, with n more calls inside one another
-  abbrev pub step_meant : Step → Doing Flow
-  step_meant s = stepped p.texts (calls_of p) n (mid_called p n) s
+  abbrev pub step_meant : Step → (u d bk ct : ℕ) → Instructions → Doing Flow
+  step_meant s u d bk ct k = step_noted deepest.notes (layout_of p b) p.texts (calls_of p) n (noted_called deepest.notes p n) s u d bk ct k
 
-  abbrev pub steps_meant : Steps → Doing Flow
-  steps_meant ss = all_stepped p.texts (calls_of p) n (mid_called p n) ss
+  abbrev pub steps_meant : Steps → (u d bk ct : ℕ) → Instructions → Doing Flow
+  steps_meant ss u d bk ct k = steps_noted deepest.notes (layout_of p b) p.texts (calls_of p) n (noted_called deepest.notes p n) ss u d bk ct k
+
+  -- what a step that has no others in it means once its place is noted
+  abbrev pub plain_meant : Step → Doing Flow
+  plain_meant s = stepped p.texts (calls_of p) n (noted_called deepest.notes p n) s
 
   -- u loops over keys are walked, and each has its iterator
   abbrev pub Walked : ℕ → Locals → Type 0
@@ -111,9 +118,9 @@ module _ (p : Program) (deepest : ℕ) (ks : List Kind) (F : List Frame) (b : Ba
   abbrev pub StepOk : Step → Type 0
   StepOk s = (returning looping : Bool) (u d bk ct : ℕ) (k : Instructions) (K : List Label) (l : Locals) (σ : State) →
       step_sorted (context p deepest ks F b M n) returning looping s ≡ true → step_room s ≤ b.temporaries → u + step_iterators s ≤ b.iterators → step_arrays s ≤ b.arrays → step_work s ≤ M → Starts u K l σ →
-      Reached p deepest ks F b M (step_work s) σ.turns (at ks [] K (laid b l) F (step_emitted (layout p deepest ks F b M n) s u d bk ct k) (beside_state p deepest ks F σ)) (StepDone looping u bk ct k K l) (Away p deepest ks F b d K) (step_meant s σ)
+      Reached p deepest ks F b M (step_work s) σ.turns (at ks [] K (laid b l) F (step_emitted (layout p deepest ks F b M n) s u d bk ct k) (beside_state p deepest ks F σ)) (StepDone looping u bk ct k K l) (Away p deepest ks F b d K) (step_meant s u d bk ct k σ)
 
   abbrev pub StepsOk : Steps → Type 0
   StepsOk ss = (returning looping : Bool) (u d bk ct : ℕ) (k : Instructions) (K : List Label) (l : Locals) (σ : State) →
       steps_sorted (context p deepest ks F b M n) returning looping ss ≡ true → steps_room ss ≤ b.temporaries → u + steps_iterators ss ≤ b.iterators → steps_arrays ss ≤ b.arrays → steps_work ss ≤ M → Starts u K l σ →
-      Reached p deepest ks F b M (steps_work ss) σ.turns (at ks [] K (laid b l) F (steps_emitted (layout p deepest ks F b M n) ss u d bk ct k) (beside_state p deepest ks F σ)) (StepDone looping u bk ct k K l) (Away p deepest ks F b d K) (steps_meant ss σ)
+      Reached p deepest ks F b M (steps_work ss) σ.turns (at ks [] K (laid b l) F (steps_emitted (layout p deepest ks F b M n) ss u d bk ct k) (beside_state p deepest ks F σ)) (StepDone looping u bk ct k K l) (Away p deepest ks F b d K) (steps_meant ss u d bk ct k σ)

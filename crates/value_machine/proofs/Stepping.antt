@@ -3,6 +3,7 @@ use Rattle.std.specs.Prelude.{ℕ, true, false, List}
 use Rattle.mid_program.specs.Mid.{Kind, Program, Code, Step, Eval, Block, If, Loop, Each, Break, Continue, Next, Exit, ExitWith, Return, Mark, Steps, NoStep, Then}
 use Rattle.value_machine.specs.Machine.{Frame}
 use Rattle.value_machine.specs.Places.{Bases}
+use Rattle.value_machine.proofs.Watch.{Watch}
 use Rattle.value_machine.proofs.Simulation.{ExprOk}
 use Rattle.value_machine.proofs.StatementForms.{StepOk, StepsOk}
 use Rattle.value_machine.proofs.QuickSteps.{eval_step}
@@ -12,7 +13,7 @@ use Rattle.value_machine.proofs.Loops.{loop_first, loop_last}
 use Rattle.value_machine.proofs.Keys.{each_step}
 use Rattle.value_machine.proofs.Jumps.{break_step, continue_step, next_step, exit_step, exit_with_step, return_step, mark_step}
 
-module _ (p : Program) (deepest : ℕ) (ks : List Kind) (F : List Frame) (b : Bases) (M n : ℕ) (exprs : (e : Code) → ExprOk p deepest ks F b M n e) where
+module _ (p : Program) (deepest : Watch) (ks : List Kind) (F : List Frame) (b : Bases) (M n : ℕ) (exprs : (e : Code) → ExprOk p deepest ks F b M n e) where
   mutual
     pub step_ok : (s : Step) → StepOk p deepest ks F b M n s
     step_ok (Eval e) = eval_step p deepest ks F b M n e (exprs e)

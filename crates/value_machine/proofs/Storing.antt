@@ -23,6 +23,7 @@ use Rattle.value_machine.specs.Machine.{Look, Label, Frame, Store, at, label}
 use Rattle.value_machine.specs.Places.{Bases}
 use Rattle.value_machine.specs.Small.{does, ask_row, either, least, text_beside, boxed_number, boxed_perhaps, h}
 use Rattle.value_machine.specs.declared.import.Import.TheVariants.{Of}
+use Rattle.value_machine.proofs.Watch.{Watch}
 use Rattle.value_machine.proofs.Runs.{Goes, then_goes, goes_to}
 use Rattle.value_machine.proofs.Regions.{upd_same}
 use Rattle.value_machine.proofs.Locals.{Locals, Hand, Number as NumberAt, with_at, has_with, laid, laid_at, laid_twice, laid_again}
@@ -51,7 +52,7 @@ pub handed_stands : (o : Bool) (f : Form) (t : ℕ) (l : Locals) (x : Holds f) �
 handed_stands true f t l x q = upd_same l.hand t empty
 handed_stands false f t l x q = q
 
-module _ (p : Program) (deepest : ℕ) (ks : List Kind) (F : List Frame) (b : Bases) (M n : ℕ) where
+module _ (p : Program) (deepest : Watch) (ks : List Kind) (F : List Frame) (b : Bases) (M n : ℕ) where
   pub handed_fit : (o : Bool) (t q u w : ℕ) (l : Locals) (σ : State) → t < q → Fit p deepest ks F q u w l σ → Fit p deepest ks F q u w (handed o t l) σ
   handed_fit true t q u w l σ lt f = fit_hand p deepest ks F t q u w l σ empty (inl refl) lt f
   handed_fit false t q u w l σ lt f = f

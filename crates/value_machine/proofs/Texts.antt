@@ -21,6 +21,7 @@ use Rattle.value_machine.specs.ImportCalls.{with_some, and_rest, row_in, text_at
 use Rattle.value_machine.specs.Machine.{Conf, Label, Frame, at}
 use Rattle.value_machine.specs.Places.{Bases, place_of, memory_of}
 use Rattle.value_machine.specs.Small.{does, when, copied, text_beside, h}
+use Rattle.value_machine.proofs.Watch.{Watch}
 use Rattle.value_machine.proofs.Runs.{Goes, then_goes, goes_to, by_steps, there}
 use Rattle.value_machine.proofs.Regions.{upd_same}
 use Rattle.value_machine.proofs.Locals.{Locals, Param, Hand, Number as NumberAt, with_at, laid}
@@ -56,7 +57,7 @@ text_placed ts i =
     ap (λ t. if t then Some (take (length (get_or ts i [])) (drop (place_of ts i) (memory_of ts))) else None) (le-leb (place_of ts i + length (get_or ts i [])) (length (memory_of ts)) (text_within ts i))
     ∙ ap Some (text_read ts i)
 
-module _ (p : Program) (deepest : ℕ) (ks : List Kind) (F : List Frame) (b : Bases) (M n : ℕ) where
+module _ (p : Program) (deepest : Watch) (ks : List Kind) (F : List Frame) (b : Bases) (M n : ℕ) where
   pub text_expr : (i : ℕ) → ExprOk p deepest ks F b M n (Text i)
   unfolding emitted all_emitted evaluated all_evaluated sorted all_sorted
   text_expr i v fs env ts st t u w d k K l σ so us rm ar rd =

@@ -9,21 +9,24 @@ use Rattle.wasm_types.specs.declared.instr.Simple.TheVariants.{Nop}
 use Rattle.mid_program.specs.Mid.{Kind, Boxed, Unboxed, Many, Program}
 use Rattle.awk_values.specs.declared.value.Value.TheVariants.{Uninit}
 use Rattle.wasm_store.specs.declared.word.Word.TheVariants.{I64}
-use Rattle.mid_program.specs.ScriptState.{State, Local, Scalar, global_value, value_in_local}
+use Rattle.mid_program.specs.ScriptState.{State, Stop, Doing, ◌>>◌, Local, Scalar, global_value, value_in_local}
+use Rattle.mid_program.specs.Statements.{Flow}
 use Rattle.mid_program.specs.Sorted.{has_kind, same_kind, kinds_of}
 use Rattle.value_machine.specs.Cells.{Cell, Bits, Held, IteratorOf, OwnedArray, LentArray, Gone, is_owned, none_owned, is_held, is_array, is_iterator, no_temporary, iterators_in, tidy_locals, tidy_name, each_name, globals_by, is_bare, mark_fits, marks_fit}
-use Rattle.value_machine.specs.Machine.{Label, Frame, at, guarded, tidy, loops_walked}
+use Rattle.value_machine.specs.Machine.{Conf, Label, Frame, at, guarded, tidy, loops_walked}
+use Rattle.value_machine.specs.Noted.{noted, noting}
 use Rattle.value_machine.specs.Places.{Bases}
 use Rattle.value_machine.specs.Small.{does}
-use Rattle.value_machine.proofs.Runs.{Goes}
+use Rattle.value_machine.proofs.Watch.{Watch}
+use Rattle.value_machine.proofs.Runs.{Goes, first}
 use Rattle.value_machine.proofs.Regions.{cells, pairs, cells_length}
 use Rattle.value_machine.proofs.Globals.{Globals, names_on, placed}
 use Rattle.value_machine.proofs.Locals.{Locals, temporaries_on, laid}
 use Rattle.value_machine.proofs.Steps.{empty}
 use Rattle.value_machine.proofs.State.{bare, beside, kind_here, arrays_before, name_hand, name_word, cells_of, word_not_beside}
-use Rattle.value_machine.proofs.Relation.{IsWalk, ParamIs, ParamLoose, fit_loose, param_loose}
+use Rattle.value_machine.proofs.Relation.{Fit, IsWalk, ParamIs, ParamLoose, fit_loose, param_loose}
 use Rattle.value_machine.proofs.Conversions.{BareIs, IsBeside, IsNone, IsNumber, bare_is}
-use Rattle.value_machine.proofs.Answers.{machine, beside_state}
+use Rattle.value_machine.proofs.Answers.{machine, beside_state, Reached}
 use Rattle.value_machine.proofs.StatementForms.{Starts}
 
 -- What holds no value and no array that is to be freed.
@@ -165,7 +168,7 @@ same_self Boxed = refl
 same_self Unboxed = refl
 same_self Many = refl
 
-module _ (p : Program) (deepest : ℕ) (ks : List Kind) (F : List Frame) (b : Bases) (M n : ℕ) where
+module _ (p : Program) (deepest : Watch) (ks : List Kind) (F : List Frame) (b : Bases) (M n : ℕ) where
   pub loose_still : (k : Kind) (c : Cell) → ParamLoose p deepest ks F k c → is_iterator c ≡ false
   loose_still Boxed c h = ap is_iterator h.1
   loose_still Unboxed c h = unowned_still c h
@@ -214,9 +217,23 @@ module _ (p : Program) (deepest : ℕ) (ks : List Kind) (F : List Frame) (b : Ba
 
   -- a `nop` where a step begins
   pub nop_ok : {k : Instructions} → (u : ℕ) (K : List Label) (l : Locals) (σ : State) → Starts p deepest ks F b M n u K l σ →
-      Goes (machine p deepest ks F) 1 (at ks [] K (laid b l) F (does Nop k) (beside_state p deepest ks F σ)) (at ks [] K (laid b l) F k (beside_state p deepest ks F σ))
+      Goes (machine p deepest ks F) 1 (at ks [] K (laid b l) F (does Nop k) (beside_state p deepest ks F σ)) (at ks [] K (laid b l) F k (beside_state p deepest ks F (noting deepest.notes (does Nop k) σ)))
   nop_ok {k = k} u K l σ s = record {
-    it = ap (λ t. guarded t (at ks [] K (laid b l) F k (beside_state p deepest ks F σ))) (
+    it = ap (λ t. guarded t (at ks [] K (laid b l) F k (beside_state p deepest ks F (noting deepest.notes (does Nop k) σ)))) (
         ap₂ (λ x y. (true && true) && (x && y)) (ap₂ (λ x y. x && y) (locals_tidy u K l σ s) (locals_walked u K l σ s)) (ap₂ (λ x y. x && y) (globals_fine p tidy_name 0 σ name_tidy) (marks_fine p 0 σ))
         );
   }
+
+  fit_noted : (c : Instructions) (t u w : ℕ) (l : Locals) (σ : State) → Fit p deepest ks F t u w l σ → Fit p deepest ks F t u w l (noting deepest.notes c σ)
+  fit_noted c t u w l σ f = record { params = f.params; size = f.size; answer = f.answer; hands = f.hands; numbers = f.numbers; free = f.free; walks = f.walks; still = f.still; yards = f.yards; spare = f.spare; sound = record { room = f.sound.room; names = f.sound.names; calm = record { pending = f.sound.calm.pending; names = f.sound.calm.names } } }
+
+  pub starts_noted : (c : Instructions) (u : ℕ) (K : List Label) (l : Locals) (σ : State) → Starts p deepest ks F b M n u K l σ → Starts p deepest ks F b M n u K l (noting deepest.notes c σ)
+  starts_noted c u K l σ s = record { fit = fit_noted c 0 u 0 l σ s.fit; walked = s.walked; walks = s.walks; loops = s.loops; turns = s.turns; parameters = s.parameters }
+
+  -- where a step begins its place is noted, and then it does what it means
+  pub begun_step : (k : Instructions) (w w1 u : ℕ) (K : List Label) (l : Locals) (σ : State) (P : Flow → State → Conf → Type 0) (Q : Stop → State → Conf → Type 0) (m : Doing Flow) → 1 + w ≤ w1 → Starts p deepest ks F b M n u K l σ →
+      ((τ : State) → Starts p deepest ks F b M n u K l τ → Reached p deepest ks F b M w τ.turns (at ks [] K (laid b l) F k (beside_state p deepest ks F τ)) P Q (m τ)) →
+      Reached p deepest ks F b M w1 σ.turns (at ks [] K (laid b l) F (does Nop k) (beside_state p deepest ks F σ)) P Q ((noted deepest.notes (does Nop k) >> m) σ)
+  begun_step k w w1 u K l σ P Q m le s next =
+      let c = does Nop k in
+      first (machine p deepest ks F) M 1 w w1 σ.turns _ _ P Q (m (noting deepest.notes c σ)) (nop_ok u K l σ s) le (next (noting deepest.notes c σ) (starts_noted c u K l σ s))

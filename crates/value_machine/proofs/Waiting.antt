@@ -10,6 +10,7 @@ use Rattle.value_machine.specs.Cells.{Cell, Bits, Held, IteratorOf, OwnedArray, 
 use Rattle.value_machine.specs.Machine.{Label, Frame, loops_walked, waits}
 use Rattle.value_machine.specs.Places.{Bases}
 use Rattle.value_machine.specs.Small.{kept_value}
+use Rattle.value_machine.proofs.Watch.{Watch}
 use Rattle.value_machine.proofs.Regions.{cells, pairs}
 use Rattle.value_machine.proofs.Locals.{Locals, temporaries_on, laid}
 use Rattle.value_machine.proofs.Steps.{empty}
@@ -66,7 +67,7 @@ operands_ok f g (suc n) (suc t) (suc (suc m)) rest e le h k free r =
     ap₂ (λ x y. x && y) (ap₂ (λ x y. x && not y) (hand_operand (f zero) (h zero)) (k zero))
     (operands_ok (λ i. f (suc i)) (λ i. g (suc i)) n t m rest (omega (arith, e)) (omega (arith, le)) (λ i. h (suc i)) (λ i. k (suc i)) (λ i li. free (suc i) (omega (arith, li))) r)
 
-module _ (p : Program) (deepest : ℕ) (ks : List Kind) (F : List Frame) (b : Bases) (M n : ℕ) where
+module _ (p : Program) (deepest : Watch) (ks : List Kind) (F : List Frame) (b : Bases) (M n : ℕ) where
   parameters_wait : (js : List Kind) (f : ℕ → Cell) (m x : ℕ) (rest : List Cell) → x ≡ suc (length js) + m → ((i : ℕ) (k : Kind) → has_kind js i k ≡ true → ParamLoose p deepest ks F k (f i)) → locals_wait (suc m) [] rest ≡ true → locals_wait x js (cells f (length js) ++ rest) ≡ true
   parameters_wait [] f m x rest e h r = let q : x ≡ suc m = omega (arith, e) in ap (λ z. locals_wait z [] rest) q ∙ r
   parameters_wait (k ∷ js) f m zero rest e h r = absurd (omega (arith, e))

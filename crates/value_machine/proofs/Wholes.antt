@@ -12,13 +12,14 @@ use Rattle.mid_program.specs.ScriptState.{State, Faulted, Doing, Stops, Gives}
 use Rattle.mid_program.specs.Sorted.{kinds_of, all_differ, announced_names}
 use Rattle.value_machine.specs.Cells.{Cell, Bits, is_owned, ended_name}
 use Rattle.value_machine.specs.Functions.{layout_of, main_bases, main_callee}
-use Rattle.value_machine.specs.Machine.{Label, at, label}
+use Rattle.value_machine.specs.Machine.{Notes, Label, at, label}
 use Rattle.value_machine.specs.Places.{Bases}
 use Rattle.value_machine.specs.Runs.{begun, first_globals, host_at_start}
 use Rattle.value_machine.specs.Small.{ask_row, kept_number, least}
 use Rattle.value_machine.specs.Statements.{block, started, part_done, first_part, last_part}
 use Rattle.value_machine.specs.Emission.{asked}
 use Rattle.value_machine.specs.declared.import.Import.TheVariants.{Of}
+use Rattle.value_machine.proofs.Watch.{watched}
 use Rattle.value_machine.proofs.Runs.{Goes, goes_to, goes_from, then_goes, by_steps, first, within, faulted, Arrives}
 use Rattle.value_machine.proofs.Regions.{upd_all}
 use Rattle.value_machine.proofs.Globals.{placed}
@@ -45,44 +46,44 @@ ended_empty Boxed = refl
 ended_empty Unboxed = refl
 ended_empty Many = refl
 
-module _ (p : Program) (s : Setting) (M turns : ℕ) (differ : all_differ (announced_names p) ≡ true) (one : suc zero ≤ (main_bases p).temporaries) where
+module _ (p : Program) (notes : Notes) (s : Setting) (M turns : ℕ) (differ : all_differ (announced_names p) ≡ true) (one : suc zero ≤ (main_bases p).temporaries) where
   abbrev bases : Bases
   bases = main_bases p
 
   abbrev exit : List Label
-  exit = label [] None (main_exit p s.deepest (main_bases p)) ∷ []
+  exit = label [] None (main_exit p (watched notes s) (main_bases p)) ∷ []
 
   abbrev globals_first : List Cell
   globals_first = placed p.ranges (length (kinds_of p.globals)) first_cells
 
   abbrev state_first : State
-  state_first = begins p s (main_bases p) turns differ
+  state_first = begins p notes s (main_bases p) turns differ
 
   -- `main` begins, and is at a piece of code within its exit's block
-  main_begins : (k : Instructions) → Goes (machine p s.deepest [] []) 1 (at [] [] [] (laid (main_bases p) (Functions.begun [])) [] (block k (main_exit p s.deepest (main_bases p))) (storing globals_first (host_at_start s))) (at [] [] exit (laid (main_bases p) (Functions.begun [])) [] k (storing globals_first (host_at_start s)))
+  main_begins : (k : Instructions) → Goes (machine p (watched notes s) [] []) 1 (at [] [] [] (laid (main_bases p) (Functions.begun [])) [] (block k (main_exit p (watched notes s) (main_bases p))) (storing globals_first (host_at_start s))) (at [] [] exit (laid (main_bases p) (Functions.begun [])) [] k (storing globals_first (host_at_start s)))
   main_begins k = by_steps 1 refl
 
   -- locals once a number was kept
   abbrev numbered : ℕ → Locals
   numbered m = with_at (Functions.begun []) (NumberAt zero) (Bits (I64 m))
 
-  numbered_loose : (m : ℕ) → Loose p s.deepest [] [] (numbered m)
+  numbered_loose : (m : ℕ) → Loose p (watched notes s) [] [] (numbered m)
   numbered_loose m = record { params = λ i k e. cc; hands = λ x. inl refl; numbers = upd_all (λ y d. is_owned d ≡ false) (Functions.begun []).number zero (Bits (I64 m)) refl (λ y ne. refl); walks = λ x. inl refl; yards = λ x. inl refl }
 
   -- a job with a fault ends at once
-  job_faulted : (f : Fault) (k : Instructions) → Arrives (machine p s.deepest [] []) M (main_exit_work (main_bases p) + 4) turns
+  job_faulted : (f : Fault) (k : Instructions) → Arrives (machine p (watched notes s) [] []) M (main_exit_work (main_bases p) + 4) turns
       (at [] [] exit (laid (main_bases p) (Functions.begun [])) [] (started (layout_of p (main_bases p)) k) (storing globals_first (host_of state_first (Some f)))) (λ u σ. EndsWell (Gives u σ)) (λ why σ. EndsWell (Stops why σ)) (Stops (Faulted f) state_first)
   job_faulted f k =
-      let mach = machine p s.deepest [] [] in
+      let mach = machine p (watched notes s) [] [] in
       let b = main_bases p in
       let G = storing globals_first (host_of state_first (Some f)) in
-      let e = main_ends_by p s.deepest b first_cells (host_of state_first (Some f)) 0 (numbered least) refl (numbered_loose least) refl refl (placed_fine p ended_name first_cells refl refl (λ i. refl) (λ i. ended_empty _) (λ i. refl)) in
+      let e = main_ends_by p (watched notes s) b first_cells (host_of state_first (Some f)) 0 (numbered least) refl (numbered_loose least) refl refl (placed_fine p ended_name first_cells refl refl (λ i. refl) (λ i. ended_empty _) (λ i. refl)) in
       faulted mach M {A = Unit {0}} (main_exit_work b + 4) (1 + (3 + e.steps)) _ _ f state_first (λ u σ. EndsWell (Gives u σ)) (λ why σ. EndsWell (Stops why σ))
       (then_goes (called (Of row.Pow) (Bits (I64 1) ∷ (Bits (I64 1) ∷ [])) [] G (Some (Bits (I64 least))) (host_of state_first (Some f)) refl refl refl)
       (then_goes (number_failed b (Functions.begun []) zero zero one refl) e.goes)) (let q = e.few in omega (arith, q)) refl
 
   -- else the first call answers 1
-  job_fine : (k : Instructions) → Goes (machine p s.deepest [] []) 4 (at [] [] exit (laid (main_bases p) (Functions.begun [])) [] (started (layout_of p (main_bases p)) k) (storing globals_first (host_of state_first None)))
+  job_fine : (k : Instructions) → Goes (machine p (watched notes s) [] []) 4 (at [] [] exit (laid (main_bases p) (Functions.begun [])) [] (started (layout_of p (main_bases p)) k) (storing globals_first (host_of state_first None)))
       (at [] [] exit (laid (main_bases p) (numbered 1)) [] k (storing globals_first (host_of state_first None)))
   job_fine k =
       let b = main_bases p in
@@ -99,20 +100,20 @@ module _ (p : Program) (s : Setting) (M turns : ℕ) (differ : all_differ (annou
       asked y row.StartAssign zero zero (part_done y (first_part y p) zero (ask_row row.BeginEnd (part_done y (last_part y p) zero Done)))
 
   abbrev named_code : Instructions
-  named_code = started (layout_of p (main_bases p)) (naming p s (main_bases p) turns differ script_code)
+  named_code = started (layout_of p (main_bases p)) (naming p notes s (main_bases p) turns differ script_code)
 
   pub record Begun : Type 0 where
     pub steps : ℕ
     pub few : steps ≤ begin_work (main_bases p) + 1
-    pub goes : Goes (machine p s.deepest [] []) steps (begun p s) (at [] [] exit (laid (main_bases p) (Functions.begun [])) [] named_code (storing globals_first (host_at_start s)))
+    pub goes : Goes (machine p (watched notes s) [] []) steps (begun p s) (at [] [] exit (laid (main_bases p) (Functions.begun [])) [] named_code (storing globals_first (host_at_start s)))
 
   begun_ok : Begun
   begun_ok =
       let b = main_bases p in
       let G = storing globals_first (host_at_start s) in
-      let code = block named_code (main_exit p s.deepest b) in
+      let code = block named_code (main_exit p (watched notes s) b) in
       let body = (main_callee p).body in
-      let a = begin_ok p s.deepest [] [] b [] G (entry []) code refl (λ x. refl) (λ x. refl) (λ x. refl) in
+      let a = begin_ok p (watched notes s) [] [] b [] G (entry []) code refl (λ x. refl) (λ x. refl) (λ x. refl) in
       let e = laid_begun b [] a.next a.params a.answer a.hands a.numbers a.iterators a.arrays in
       record {
         steps = 1 + (a.steps + 1);
@@ -123,25 +124,25 @@ module _ (p : Program) (s : Setting) (M turns : ℕ) (differ : all_differ (annou
 
   -- a run shows as the script's does, if what comes after the names does
   module _ (w : ℕ) (meant : Doing (Unit {0}))
-      (rest : (l : Locals) (σ : State) → Starts p s.deepest [] [] (main_bases p) M turns 0 exit l σ → Arrives (machine p s.deepest [] []) M w σ.turns (at [] [] exit (laid (main_bases p) l) [] script_code (beside_state p s.deepest [] [] σ)) (λ u τ. EndsWell (Gives u τ)) (λ why τ. EndsWell (Stops why τ)) (meant σ)) where
+      (rest : (l : Locals) (σ : State) → Starts p (watched notes s) [] [] (main_bases p) M turns 0 exit l σ → Arrives (machine p (watched notes s) [] []) M w σ.turns (at [] [] exit (laid (main_bases p) l) [] script_code (beside_state p (watched notes s) [] [] σ)) (λ u τ. EndsWell (Gives u τ)) (λ why τ. EndsWell (Stops why τ)) (meant σ)) where
     abbrev named_work : ℕ
-    named_work = tell_work (globals_then p s (main_bases p) turns differ) + make_work (kinds_of p.globals)
+    named_work = tell_work (globals_then p notes s (main_bases p) turns differ) + make_work (kinds_of p.globals)
 
     abbrev pub whole_work : ℕ
     whole_work = (begin_work (main_bases p) + 1) + ((main_exit_work (main_bases p) + 4) + (4 + (named_work + w)))
 
-    by_job : (fault : Option Fault) → Arrives (machine p s.deepest [] []) M ((main_exit_work (main_bases p) + 4) + (4 + (named_work + w))) turns
-        (at [] [] exit (laid (main_bases p) (Functions.begun [])) [] named_code (storing globals_first (host_of state_first fault))) (λ u τ. EndsWell (Gives u τ)) (λ why τ. EndsWell (Stops why τ)) (unless fault (named_meant p s (main_bases p) turns differ meant) state_first)
-    by_job (Some f) = within (machine p s.deepest [] []) M {A = Unit {0}} (main_exit_work (main_bases p) + 4) _ turns _ (λ u τ. EndsWell (Gives u τ)) (λ why τ. EndsWell (Stops why τ)) (Stops (Faulted f) state_first) (omega arith) (job_faulted f (naming p s (main_bases p) turns differ script_code))
+    by_job : (fault : Option Fault) → Arrives (machine p (watched notes s) [] []) M ((main_exit_work (main_bases p) + 4) + (4 + (named_work + w))) turns
+        (at [] [] exit (laid (main_bases p) (Functions.begun [])) [] named_code (storing globals_first (host_of state_first fault))) (λ u τ. EndsWell (Gives u τ)) (λ why τ. EndsWell (Stops why τ)) (unless fault (named_meant p notes s (main_bases p) turns differ meant) state_first)
+    by_job (Some f) = within (machine p (watched notes s) [] []) M {A = Unit {0}} (main_exit_work (main_bases p) + 4) _ turns _ (λ u τ. EndsWell (Gives u τ)) (λ why τ. EndsWell (Stops why τ)) (Stops (Faulted f) state_first) (omega arith) (job_faulted f (naming p notes s (main_bases p) turns differ script_code))
     by_job None =
         let b = main_bases p in
-        let mach = machine p s.deepest [] [] in
-        let h = named_ok p s b turns differ exit (laid b (numbered 1)) script_code in
+        let mach = machine p (watched notes s) [] [] in
+        let h = named_ok p notes s b turns differ exit (laid b (numbered 1)) script_code in
         let σ1 : State = record state_first { shared = h.last } in
-        let many = values_many p s b turns differ in
+        let many = values_many p notes s b turns differ in
         subst (λ o. Arrives mach M ((main_exit_work b + 4) + (4 + (named_work + w))) turns (at [] [] exit (laid b (Functions.begun [])) [] named_code (storing globals_first (host_of state_first None))) (λ u τ. EndsWell (Gives u τ)) (λ why τ. EndsWell (Stops why τ)) o) (sym (h.means meant))
-        (first mach M (4 + h.steps) w ((main_exit_work b + 4) + (4 + (named_work + w))) turns _ (at [] [] exit (laid b (numbered 1)) [] script_code (beside_state p s.deepest [] [] σ1)) (λ u τ. EndsWell (Gives u τ)) (λ why τ. EndsWell (Stops why τ)) (meant σ1)
-        (then_goes (job_fine (naming p s b turns differ script_code)) h.goes) (let q = h.few in omega (arith, q))
+        (first mach M (4 + h.steps) w ((main_exit_work b + 4) + (4 + (named_work + w))) turns _ (at [] [] exit (laid b (numbered 1)) [] script_code (beside_state p (watched notes s) [] [] σ1)) (λ u τ. EndsWell (Gives u τ)) (λ why τ. EndsWell (Stops why τ)) (meant σ1)
+        (then_goes (job_fine (naming p notes s b turns differ script_code)) h.goes) (let q = h.few in omega (arith, q))
         (rest (numbered 1) σ1 (record {
           fit = record {
             params = λ i k e. cc;
@@ -163,7 +164,7 @@ module _ (p : Program) (s : Setting) (M turns : ℕ) (differ : all_differ (annou
           parameters = refl;
         })))
 
-    pub whole_ok : Arrives (machine p s.deepest [] []) M whole_work turns (begun p s) (λ u τ. EndsWell (Gives u τ)) (λ why τ. EndsWell (Stops why τ)) (unless (fault_of_job s.job) (named_meant p s (main_bases p) turns differ meant) state_first)
+    pub whole_ok : Arrives (machine p (watched notes s) [] []) M whole_work turns (begun p s) (λ u τ. EndsWell (Gives u τ)) (λ why τ. EndsWell (Stops why τ)) (unless (fault_of_job s.job) (named_meant p notes s (main_bases p) turns differ meant) state_first)
     whole_ok =
         let g = begun_ok in
-        first (machine p s.deepest [] []) M g.steps ((main_exit_work (main_bases p) + 4) + (4 + (named_work + w))) whole_work turns _ _ (λ u τ. EndsWell (Gives u τ)) (λ why τ. EndsWell (Stops why τ)) _ g.goes (let q = g.few in omega (arith, q)) (by_job (fault_of_job s.job))
+        first (machine p (watched notes s) [] []) M g.steps ((main_exit_work (main_bases p) + 4) + (4 + (named_work + w))) whole_work turns _ _ (λ u τ. EndsWell (Gives u τ)) (λ why τ. EndsWell (Stops why τ)) _ g.goes (let q = g.few in omega (arith, q)) (by_job (fault_of_job s.job))

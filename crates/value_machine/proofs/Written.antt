@@ -11,13 +11,14 @@ use Rattle.mid_program.specs.Sorted.{kinds_of}
 use Rattle.value_machine.specs.Cells.{Cell, Bits}
 use Rattle.value_machine.specs.Machine.{Frame}
 use Rattle.value_machine.specs.Places.{Bases}
+use Rattle.value_machine.proofs.Watch.{Watch}
 use Rattle.value_machine.proofs.Regions.{upd, upd_same, upd_other, cells, pairs_same}
 use Rattle.value_machine.proofs.Globals.{placed}
 use Rattle.value_machine.proofs.Locals.{Locals}
 use Rattle.value_machine.proofs.State.{kind_here, arrays_before, name_hand, name_word, cells_of}
 use Rattle.value_machine.proofs.Relation.{Fit}
 
-module _ (p : Program) (deepest : ℕ) (ks : List Kind) (F : List Frame) (b : Bases) (M n : ℕ) where
+module _ (p : Program) (deepest : Watch) (ks : List Kind) (F : List Frame) (b : Bases) (M n : ℕ) where
   -- a global has another value
   pub fit_global : (i : ℕ) (v : Value) (t u w : ℕ) (l : Locals) (σ : State) → Fit p deepest ks F t u w l σ → Fit p deepest ks F t u w l (with_global i v σ)
   fit_global i v t u w l σ f = record { params = f.params; size = f.size; answer = f.answer; hands = f.hands; numbers = f.numbers; free = f.free; walks = f.walks; still = f.still; yards = f.yards; spare = f.spare; sound = record { room = f.sound.room; names = length-set σ.globals i v ∙ f.sound.names; calm = f.sound.calm } }

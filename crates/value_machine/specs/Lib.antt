@@ -11,5 +11,6 @@ pub mod Statements
 pub mod Boundaries
 pub mod Functions
 pub mod Runs
+pub mod Noted
 pub mod Follows
 pub mod Modules

@@ -16,6 +16,7 @@ use Rattle.wasm_store.specs.Words.{binary_of, test_of, compare_of, converted, fl
 use Rattle.wasm_machine.specs.Frames.{constant_of}
 use Rattle.mid_program.specs.Mid.{Kind}
 use Rattle.awk_values.specs.declared.value.Value.{Value}
+use Rattle.world_core.specs.WorldState.{Action}
 use Rattle.mid_program.specs.ScriptRun.{Ending, Ended, FaultedBy, GoesOn, Exhausted}
 use Rattle.value_machine.specs.Cells.{Cell, Bits, Held, IteratorOf, OwnedArray, LentArray, Gone, is_owned, left_by, read_global, left_in_global, cell_at, has_room, none_owned, has_owner, iterators_in, tidy_locals, locals_wait, tidy_name, ended_name, globals_by, marks_fit, may_come}
 use Rattle.value_machine.specs.Imports.{import_at, import_arguments, import_count, import_number, params_of}
@@ -49,13 +50,21 @@ pub record Callee : Type 0 where
   pub locals : List ValType
   pub body : Instructions
 
--- what the machine runs: its functions, the texts in memory, how many globals stand before those of the names, the names' kinds, and how many callers may wait
+-- What is noted in the output where a statement begins, by the code from its place on. A module notes nothing; a run with notes shows at which places it passes, and when.
+abbrev pub Notes : Type 0
+Notes = Instructions → List Action → List Action
+
+abbrev pub no_notes : Notes
+no_notes c output = output
+
+-- what the machine runs: its functions, the texts in memory, how many globals stand before those of the names, the names' kinds, how many callers may wait, and what is noted
 pub record Code : Type 0 where
   pub memory : List ℕ
   pub before : ℕ
   pub names : List Kind
   pub callees : List Callee
   pub deepest : ℕ
+  pub notes : Notes
 
 -- at work; at work where the topmost operand is a look at local x; ended with a word; a call too deep
 pub data Conf : Type 0 where
@@ -275,8 +284,11 @@ with_operands (Some vs) ks K L F c G = at ks vs K L F c G
 abbrev pub call_number : Code → ℕ → List Kind → List Cell → List Label → List Cell → List Frame → Instructions → Store → Conf
 call_number u n ks vs K L F c G = cond (nat_lt n import_count) (ask u.memory (import_at n) ks vs K L F c G) (enter u.deepest (slice_get u.callees (n - import_count)) ks vs K L F c G)
 
+abbrev pub noted : Code → Instructions → Store → Store
+noted u c G = record G { host = record G.host { shared = record G.host.shared { output = u.notes c G.host.shared.output } } }
+
 abbrev pub act : Code → Simple → List Kind → List Cell → List Label → List Cell → List Frame → Instructions → Store → Conf
-act u Nop ks vs K L F c G = guarded (tidy u ks vs K L G) (at ks vs K L F c G)
+act u Nop ks vs K L F c G = guarded (tidy u ks vs K L G) (at ks vs K L F c (noted u (Then (Plain Nop) c) G))
 act u (LocalGet x) ks vs K L F c G = guarded (nat_lt x (length L)) (at ks (cell_at L x ∷ vs) K (set L x (left_by (cell_at L x))) F c G)
 act u (LocalSet x) ks vs K L F c G = set_local x ks vs K L F c G
 act u (LocalTee x) ks vs K L F c G = tee_local x ks vs K L F c G

@@ -147,6 +147,7 @@ module _ (p : Program) where
         let all = front (map (routine_callee p) p.routines) (main_callee p ∷ []) k f e in
         (form k f all, refl, code_there k f all, function_there k f all (new_number bs (import_count + k)) c (functions_behind p k));
     deepest = refl;
+    silent = λ code output. refl;
   }
 
 -- A HOST OF THE TABLE finds all imports: a machine that is linked with it has this program.

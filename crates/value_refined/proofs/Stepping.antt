@@ -17,7 +17,7 @@ use Rattle.mid_program.specs.Mid.{Kind}
 use Rattle.host_step.specs.HostState.{HostState}
 use Rattle.value_machine.specs.Cells.{Cell, cell_at}
 use Rattle.value_machine.specs.Imports.{import_at, import_count}
-use Rattle.value_machine.specs.Machine.{Callee, Code, Conf, Deep, Frame, Label, Look, Over, Run, Store, Stuck, act, ask, ask_looking, at, call_number, enter, guarded, looked_compared, run, run_looking, step, tidy, work}
+use Rattle.value_machine.specs.Machine.{Callee, Code, Conf, Deep, Frame, Label, Look, Over, Run, Store, Stuck, act, ask, ask_looking, at, call_number, enter, guarded, looked_compared, noted, run, run_looking, step, tidy, work}
 use Rattle.value_machine.specs.Modules.{is_call, calls_by, calls_in, new_number, renumbered, renumbered_one, renumbered_simple}
 use Rattle.value_machine.specs.declared.import.Import.{Import}
 use Rattle.value_refined.specs.Growing.{ArraysGrow}
@@ -33,6 +33,10 @@ use Rattle.value_refined.proofs.Locals.{local_get_as, local_set_as, local_tee_as
 use Rattle.value_refined.proofs.Looked.{asked_looking_as}
 use Rattle.value_refined.proofs.Putting.{word_at}
 use Rattle.value_refined.proofs.Operators.{looked_word, operated_as, word_as}
+
+-- where nothing is noted a store stays as it is
+noted_nothing : (G : Store) (output : List Action) → output ≡ G.host.shared.output → record G { host = record G.host { shared = record G.host.shared { output = output } } } ≡ G
+noted_nothing G output e = ap (λ (o : List Action). record G { host = record G.host { shared = record G.host.shared { output = o } } }) e
 
 module _ {used : ℕ → Bool} {bs : List Bool} {u : Code} {m : ProgramForm} (linked : Linked used bs u m) (grow : ArraysGrow) where
   abbrev UsedOnly : Instructions → Type 0
@@ -71,11 +75,11 @@ module _ {used : ℕ → Bool} {bs : List Bool} {u : Code} {m : ProgramForm} (li
 
     -- a statement begins
     nop_as : (vs : List Cell) → WordsAs made s.names vs c.frame.values → Once rest vs c.frame.values L c.frame.locals → Next (act u simple.Nop ks vs K L F k G) (Goes (with_frame c c.frame))
-    nop_as vs a once = by (tidy u ks vs K L G)
+    nop_as vs a once = by (tidy u ks vs K L G) (noted u (Then (Plain simple.Nop) k) G) (noted_nothing G (u.notes (Then (Plain simple.Nop) k) G.host.shared.output) (linked.silent (Then (Plain simple.Nop) k) G.host.shared.output))
       where
-        by : (b : Bool) → Next (guarded b (at ks vs K L F k G)) (Goes (with_frame c c.frame))
-        by false = stuck_as c s (Goes (with_frame c c.frame))
-        by true = frame_as rest ks vs K L k c.frame rest.labels rest.locals a code-is once
+        by : (b : Bool) (H : Store) → H ≡ G → Next (guarded b (at ks vs K L F k H)) (Goes (with_frame c c.frame))
+        by false H e = stuck_as c s (Goes (with_frame c c.frame))
+        by true H e = subst (λ (x : Store). Next (at ks vs K L F k x) (Goes (with_frame c c.frame))) (sym e) (frame_as rest ks vs K L k c.frame rest.labels rest.locals a code-is once)
 
     act_as : (p : Simple) (vs : List Cell) → UsedOnly (Then (Plain p) k) → WordsAs made s.names vs c.frame.values → Once rest vs c.frame.values L c.frame.locals → Next (act u p ks vs K L F k G) (turn_by m c (form.simple c.frame (renumbered_simple bs p)))
     act_as (simple.LocalGet x) vs o a once = local_get_as m ks rest code-is x vs a once

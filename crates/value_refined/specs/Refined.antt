@@ -129,9 +129,10 @@ module _ (used : ℕ → Bool) (bs : List Bool) where
       pub taken : (c1 : real.Conf) (s1 : HostState) (output : List Action) → TakenAs table_meaning t s c.memory output c1 s1 → As p c1 s1
       pub over : (e : End) (s1 : HostState) (output : List Action) → OverBy table_meaning t s c.memory output e s1 → EndAs p e s s1 output
 
-    -- the module has the functions and the imports of the code, under their new numbers; at most 9,999 callers wait, beside the entry
+    -- the module has the functions and the imports of the code, under their new numbers; at most 9,999 callers wait, beside the entry; nothing is noted
     pub record Linked (m : ProgramForm) : Type 0 where
       pub imported : (n : ℕ) (i : Import) (c : real.Conf) → import_at n ≡ Some i → used n ≡ true → called m (new_number bs n) c ≡ asked n (import_type i) c
       pub entered : (k : ℕ) (f : Callee) (c : real.Conf) → slice_get u.callees k ≡ Some f →
           (g : FuncForm) × (g.locals ≡ f.locals) × CodeAs f.body g.body × (called m (new_number bs (import_count + k)) c ≡ entered_func (callee_type f) g c)
       pub deepest : u.deepest ≡ 9999
+    pub silent : (code : Instructions) (output : List Action) → u.notes code output ≡ output

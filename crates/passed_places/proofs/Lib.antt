@@ -1,0 +1,2 @@
+pub mod Probed
+pub mod Passing
