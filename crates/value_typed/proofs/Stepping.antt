@@ -14,7 +14,9 @@ use Rattle.value_machine.specs.Emission.{dropped, tested}
 use Rattle.value_machine.specs.Functions.{layout_of}
 use Rattle.value_machine.specs.Places.{Bases, room, arrays_in, step_room, steps_room, step_arrays, steps_arrays, step_iterators, steps_iterators}
 use Rattle.value_machine.specs.Quick.{Within, unsure, test_within, Source, Named, Constant, joined, all_unsure, Sum, sum_names, sum_in, Pair, pair_names, pair_in, step_jumps, is_nothing}
+use Rattle.value_machine.specs.Machine.{no_notes}
 use Rattle.value_machine.proofs.QuickSteps.{AllUnboxed, SourceFits, test_is, sum_is, sum_unboxed, pair_is, pair_unboxed}
+use Rattle.value_machine.proofs.Watch.{Watch}
 use Rattle.value_machine.specs.Statements.{name_read, source_pushed, quickly_dropped, left_unless_pair, left_unless, left_by, key_stored, iterator_left, step_emitted, steps_emitted}
 use Rattle.value_machine.specs.declared.import.Import.TheVariants.{Of, Drop, IterFree}
 use Rattle.value_typed.proofs.Singles.{Stack, Labels, Exit, inner, nearest, nothing, called, get, put, tee, read, write, word, long, binary, variable, compare, test, leave, leave_if, blocked, looped, branched}
@@ -23,6 +25,10 @@ use Rattle.value_typed.proofs.Pieces.{moved_out_ok, emptied_ok, let_go_ok, to_va
 use Rattle.value_typed.proofs.Slots.{array_pushed_ok}
 use Rattle.value_typed.proofs.Rows.{room_there}
 use Rattle.value_typed.proofs.Emitting.{AreBelow, one_more_below, none_below, left_over_ok, code_ok}
+
+-- it does not matter here how the machine is watched
+abbrev unwatched : Watch
+unwatched = record { callers = 0; notes = no_notes }
 
 module _ {p : Program} {ks : List Kind} {b : Bases} {C : Context} (at : Stands p ks b C) where
   module _ {L : Labels} {k : Instructions} {rs : Stack} where
@@ -47,7 +53,7 @@ module _ {p : Program} {ks : List Kind} {b : Bases} {C : Context} (at : Stands p
     unsure_ok : {ps : Stack} {x : ℕ} (q : ℤ) (w : ℕ) → slice_get C.globals x ≡ Some (variable I64) → CodeOk C L k (I32 ∷ ps) rs → CodeOk C L (unsure (GlobalGet x) q w k) ps rs
     unsure_ok q w e r = read e (long (binary (long (compare r))))
 
-    source_ok : {ps : Stack} (m : ℕ) (q : Source) → SourceFits p 0 ks [] b 0 0 m q → CodeOk C L k (I64 ∷ ps) rs → CodeOk C L (source_pushed (layout_of p b) q k) ps rs
+    source_ok : {ps : Stack} (m : ℕ) (q : Source) → SourceFits p unwatched ks [] b 0 0 m q → CodeOk C L k (I64 ∷ ps) rs → CodeOk C L (source_pushed (layout_of p b) q k) ps rs
     source_ok m (Named i) h r = read (at.name_number i (kind_below (kinds_of p.globals) i Unboxed h)) r
     source_ok m (Constant z) h r = long r
 
@@ -59,11 +65,11 @@ module _ {p : Program} {ks : List Kind} {b : Bases} {C : Context} (at : Stands p
 
   -- quick ways: the names that are read are there
   module _ {L : Labels} {rs : Stack} where
-    joined_ok : {k : Instructions} {ps : Stack} (is : List ℕ) (q : ℤ) → AllUnboxed p 0 ks [] b 0 0 is → CodeOk C L k (I64 ∷ ps) rs → CodeOk C L (joined (name_read (layout_of p b)) is q k) (I64 ∷ ps) rs
+    joined_ok : {k : Instructions} {ps : Stack} (is : List ℕ) (q : ℤ) → AllUnboxed p unwatched ks [] b 0 0 is → CodeOk C L k (I64 ∷ ps) rs → CodeOk C L (joined (name_read (layout_of p b)) is q k) (I64 ∷ ps) rs
     joined_ok [] q h r = r
     joined_ok (i ∷ is) q h r = read (at.name_number i (kind_below (kinds_of p.globals) i Unboxed h.0)) (long (binary (binary (joined_ok is q h.1 r))))
 
-    all_unsure_ok : {k : Instructions} {ps : Stack} (is : List ℕ) (q : ℤ) (w : ℕ) → AllUnboxed p 0 ks [] b 0 0 is → CodeOk C L k (I32 ∷ ps) rs → CodeOk C L (all_unsure (name_read (layout_of p b)) is q w k) ps rs
+    all_unsure_ok : {k : Instructions} {ps : Stack} (is : List ℕ) (q : ℤ) (w : ℕ) → AllUnboxed p unwatched ks [] b 0 0 is → CodeOk C L k (I32 ∷ ps) rs → CodeOk C L (all_unsure (name_read (layout_of p b)) is q w k) ps rs
     all_unsure_ok [] q w h r = word r
     all_unsure_ok (i ∷ is) q w h r = read (at.name_number i (kind_below (kinds_of p.globals) i Unboxed h.0)) (long (binary (joined_ok is q h.1 (long (compare r)))))
 
@@ -73,8 +79,8 @@ module _ {p : Program} {ks : List Kind} {b : Bases} {C : Context} (at : Stands p
     quickly_dropped_ok None e d eq s h g x r = let he = room_there e in dropped_ok [] [] e 0 0 d (none_below b.temporaries (omega (arith, h, he))) s (omega (arith, h)) (omega (arith, g)) x r
     quickly_dropped_ok (Some a) e d eq s h g x r =
         let he = room_there e in
-        let t = sum_is p 0 ks [] b 0 0 e a eq s in
-        all_unsure_ok (sum_names a) (pos (2 ^ 52)) (2 ^ 53) (sum_unboxed p 0 ks [] b 0 0 e a t)
+        let t = sum_is p unwatched ks [] b 0 0 e a eq s in
+        all_unsure_ok (sum_names a) (pos (2 ^ 52)) (2 ^ 53) (sum_unboxed p unwatched ks [] b 0 0 e a t)
         (branched (dropped_ok [] [] e 0 0 (suc d) (none_below b.temporaries (omega (arith, h, he))) s (omega (arith, h)) (omega (arith, g)) (inner x) done)
         (source_ok (2 ^ 52) a.left t.left (source_ok (2 ^ 52) a.right t.right (binary (write (at.name_number a.target (kind_below (kinds_of p.globals) a.target Unboxed t.kind)) done)))) r)
 
@@ -82,8 +88,8 @@ module _ {p : Program} {ks : List Kind} {b : Bases} {C : Context} (at : Stands p
         CodeOk C L k [] rs → CodeOk C L (left_unless_pair (layout_of p b) o e d out k) [] rs
     left_unless_pair_ok None e d out eq s h g x z r = tested_ok e s h g x (test (leave_if z r))
     left_unless_pair_ok (Some q) e d out eq s h g x z r =
-        let t = pair_is p 0 ks [] b 0 0 e q eq (and_parts (is_tested (form_of [] e)) (sorted (context_of p ks) [] e) s).1 in
-        all_unsure_ok (pair_names q) (pos (2 ^ 53)) (2 ^ 54) (pair_unboxed p 0 ks [] b 0 0 e q t)
+        let t = pair_is p unwatched ks [] b 0 0 e q eq (and_parts (is_tested (form_of [] e)) (sorted (context_of p ks) [] e) s).1 in
+        all_unsure_ok (pair_names q) (pos (2 ^ 53)) (2 ^ 54) (pair_unboxed p unwatched ks [] b 0 0 e q t)
         (branched (tested_ok e s h g (inner x) (test (leave_if (inner z) done)))
         (source_ok (2 ^ 53) q.left t.left (source_ok (2 ^ 53) q.right t.right (compare (leave_if (inner z) done)))) r)
 
@@ -91,7 +97,7 @@ module _ {p : Program} {ks : List Kind} {b : Bases} {C : Context} (at : Stands p
         CodeOk C L k [] rs → CodeOk C L (left_unless (layout_of p b) o e d out k) [] rs
     left_unless_ok None e d out eq s h g x z r = left_unless_pair_ok (pair_in e) e d out refl s h g x z r
     left_unless_ok (Some q) e d out eq s h g x z r =
-        let lt = kind_below (kinds_of p.globals) q.name Unboxed (test_is p 0 ks [] b 0 0 e q eq (and_parts (is_tested (form_of [] e)) (sorted (context_of p ks) [] e) s).1).kind in
+        let lt = kind_below (kinds_of p.globals) q.name Unboxed (test_is p unwatched ks [] b 0 0 e q eq (and_parts (is_tested (form_of [] e)) (sorted (context_of p ks) [] e) s).1).kind in
         unsure_ok q.shift q.width (at.name_number q.name lt) (branched (tested_ok e s h g (inner x) (test (leave_if (inner z) done))) done r)
 
   -- one of two codes
