@@ -28,11 +28,10 @@ use Rattle.value_machine.specs.Runs.{begun, code_of, noting_code, noting_run}
 use Rattle.value_machine.proofs.CodeFollows.{code_notes}
 use Rattle.value_machine.proofs.Runs.{go_add}
 use Rattle.value_refined.specs.Refined.{As, EndAs, table_meaning}
-use Rattle.value_refined.specs.Running.{EndedAs}
 use Rattle.value_refined.proofs.Beginning.{begins, begun_as, in_main}
 use Rattle.value_refined.proofs.Growing.{arrays_grow}
 use Rattle.value_refined.proofs.Links.{linked, program, program_is, stays}
-use Rattle.value_refined.proofs.Running.{over_as}
+use Rattle.value_refined.proofs.Stepping.{step_as}
 use Rattle.module_agreement.specs.Agreement.{setting_of}
 use Rattle.module_agreement.specs.ValueAgreement.{IsOver, AgreesWith}
 use Rattle.module_agreement.proofs.Agreeing.{agreement_with}
@@ -133,7 +132,7 @@ module _ (p : Program) (probe : Probe) (values : AgreesWith (notes_of p probe) p
 
   -- where a run ends
 
-  OverAt : List Action → Type 0
+  abbrev OverAt : List Action → Type 0
   OverAt o = (turns : ℕ) × IsOver (probed_run p probe s turns) × (output_of (probed_run p probe s turns) ≡ o)
 
   over_by : (n : ℕ) (e : Ending) (o : List Action) → IsOver e → noting_run (notes_of p probe) p s n ≡ Some e → output_of e ≡ o → OverAt o
@@ -170,11 +169,11 @@ module _ (p : Program) (probe : Probe) (values : AgreesWith (notes_of p probe) p
       let none = sym (ap ending_at at) ∙ g.1 in cc
   ends_at n (Look x ks vs K L F code G) c h o e t at a ends told =
       last n (Look x ks vs K L F code G) o c h e t at (looking_alike p probe x ks vs K L F code G)
-      (over_as (linked p) arrays_grow (Look x ks vs K L F code G) c (with_output o h) [] e (with_output o h) a (subst (λ (z : Turn). OverBy table_meaning z (with_output o h) c.memory [] e (with_output o h)) (sym ends) (refl, refl, refl))) told
+      ((step_as (linked p) arrays_grow (Look x ks vs K L F code G) c (with_output o h) tt a).over e (with_output o h) [] (subst (λ (z : Turn). OverBy table_meaning z (with_output o h) c.memory [] e (with_output o h)) (sym ends) (refl, refl, refl))) told
   ends_at n (Run ks vs K L F code G) c h o e t at a ends told = by code at a
     where
       over : (code : Instructions) → Rel (Run ks vs K L F code G) c (with_output o h) → EndAs (stays p) (called_imports p) (code_of p 9999) (step (code_of p 9999) (Run ks vs K L F code G)) e (with_output o h) (with_output o h) []
-      over code a = over_as (linked p) arrays_grow (Run ks vs K L F code G) c (with_output o h) [] e (with_output o h) a (subst (λ (z : Turn). OverBy table_meaning z (with_output o h) c.memory [] e (with_output o h)) (sym ends) (refl, refl, refl))
+      over code a = (step_as (linked p) arrays_grow (Run ks vs K L F code G) c (with_output o h) tt a).over e (with_output o h) [] (subst (λ (z : Turn). OverBy table_meaning z (with_output o h) c.memory [] e (with_output o h)) (sym ends) (refl, refl, refl))
 
       by : (code : Instructions) → place n ≡ Run ks vs K L F code G → Rel (Run ks vs K L F code G) c (with_output o h) → OverAt o
       by (Then (Plain simple.Nop) k) at a =

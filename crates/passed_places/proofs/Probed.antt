@@ -10,6 +10,7 @@ use Rattle.wasm_machine.specs.Frames.{settled_code, settled_values}
 use Rattle.wasm_machine.specs.Machines.{Goes, Ends, Asks, ProgramForm, Turn, turn}
 use Rattle.wasm_machine.specs.Machines as real
 use Rattle.wasm_machine.specs.Runs.{TakenAs}
+use Rattle.wasm_machine.specs.declared.host.HostAnswer.TheVariants as told
 use Rattle.host_step.specs.HostState.{HostState}
 use Rattle.host_step.specs.Imports.{import_at}
 use Rattle.host_step.specs.Worlds.{with_output}
@@ -33,7 +34,7 @@ same_output o out s s1 e n = ap₂ (λ (x : List Action) (z : HostState). with_o
 taken_free : (t : Turn) (mem : MemoryForm) (o out : List Action) (s : HostState) (c1 : real.Conf) (s1 : HostState) → TakenAs table_meaning t s mem out c1 s1 → TakenAs table_meaning t (with_output o s) mem out c1 (with_output (o ++ out) s1)
 taken_free (Goes c) mem o out s c1 s1 h = (h.0, same_output o out s s1 h.1 h.2, h.2)
 taken_free (Ends e) mem o out s c1 s1 h = absurd h
-taken_free (Asks i args c) mem o out s c1 s1 h = (h.0, (h.1.0, step_free o (import_at i) s args mem.bytes (asked h.0) s1 out h.1.1), h.2)
+taken_free (Asks i args c) mem o out s c1 s1 h = (h.0, (h.1.0, step_free o (import_at i) s args mem.bytes (told.Done h.0) s1 out h.1.1), h.2)
 
 module _ (p : Program) (probe : Probe) where
   abbrev bs : List Bool

@@ -1,6 +1,7 @@
 -- Every step of the machine over values is one of the real machine.
 use Rattle.std.proofs.Common.{◌≡◌, ℕ, ◌+◌, ◌-◌, Bool, true, false, ◌||◌, cond, nat_lt, List, ◌∷◌, Option, Some, None, refl, sym, ap, subst, arith, slice_get}
 use Rattle.std.proofs.lemmas.Bool.{eq-eqb, ltb-false, or_left, or_right}
+use Rattle.world_core.specs.WorldState.{Action}
 use Rattle.wasm_types.specs.Syntax.{Instruction, Plain, BrTable, Block, Loop, If, Instructions, Done, Then}
 use Rattle.wasm_types.specs.declared.types.ValType.TheVariants as ty
 use Rattle.wasm_types.specs.declared.instr.IRelOp.{IRelOp}

@@ -135,4 +135,4 @@ module _ (used : ℕ → Bool) (bs : List Bool) where
       pub entered : (k : ℕ) (f : Callee) (c : real.Conf) → slice_get u.callees k ≡ Some f →
           (g : FuncForm) × (g.locals ≡ f.locals) × CodeAs f.body g.body × (called m (new_number bs (import_count + k)) c ≡ entered_func (callee_type f) g c)
       pub deepest : u.deepest ≡ 9999
-    pub silent : (code : Instructions) (output : List Action) → u.notes code output ≡ output
+      pub silent : (code : Instructions) (output : List Action) → u.notes code output ≡ output
