@@ -12,7 +12,7 @@ use Rattle.wasm_store.specs.declared.word.Word.TheVariants.{I64}
 use Rattle.mid_program.specs.ScriptState.{State, Stop, Doing, ◌>>◌, Local, Scalar, global_value, value_in_local}
 use Rattle.mid_program.specs.Statements.{Flow}
 use Rattle.mid_program.specs.Sorted.{has_kind, same_kind, kinds_of}
-use Rattle.value_machine.specs.Cells.{Cell, Bits, Held, IteratorOf, OwnedArray, LentArray, Gone, is_owned, none_owned, is_held, is_array, is_iterator, no_temporary, iterators_in, tidy_locals, tidy_name, each_name, globals_by, is_bare, mark_fits, marks_fit}
+use Rattle.value_machine.specs.Cells.{Cell, Bits, Held, IteratorOf, OwnedArray, LentArray, Gone, is_owned, none_owned, is_held, is_array, is_iterator, no_temporary, count_cells, iterators_in, tidy_locals, tidy_name, each_name, globals_by, is_bare, mark_fits, marks_fit}
 use Rattle.value_machine.specs.Machine.{Conf, Label, Frame, at, guarded, tidy, loops_walked}
 use Rattle.value_machine.specs.Noted.{noted, noting}
 use Rattle.value_machine.specs.Places.{Bases}
@@ -63,24 +63,24 @@ fine_pairs f g zero rest h k r = r
 fine_pairs f g (suc n) rest h k r =
     ap₂ (λ x y. x && y) (h zero) (ap₂ (λ x y. x && y) (k zero) (fine_pairs (λ i. f (suc i)) (λ i. g (suc i)) n rest (λ i. h (suc i)) (λ i. k (suc i)) r))
 
--- Iterators are counted.
+-- Cells of a sort are counted: others add nothing.
 
-pub passed : (c : Cell) (m : ℕ) → is_iterator c ≡ false → cond (is_iterator c) (suc m) m ≡ m
-passed c m e = ap (λ t. cond t (suc m) m) e
+pub passed : (q : Cell → Bool) (c : Cell) (m : ℕ) → q c ≡ false → cond (q c) (suc m) m ≡ m
+passed q c m e = ap (λ t. cond t (suc m) m) e
 
-pub still_cells : (f : ℕ → Cell) (n : ℕ) (rest : List Cell) → ((i : ℕ) → is_iterator (f i) ≡ false) → iterators_in (cells f n ++ rest) ≡ iterators_in rest
-still_cells f zero rest h = refl
-still_cells f (suc n) rest h = passed (f zero) (iterators_in (cells (λ i. f (suc i)) n ++ rest)) (h zero) ∙ still_cells (λ i. f (suc i)) n rest (λ i. h (suc i))
+pub still_cells : (q : Cell → Bool) (f : ℕ → Cell) (n : ℕ) (rest : List Cell) → ((i : ℕ) → q (f i) ≡ false) → count_cells q (cells f n ++ rest) ≡ count_cells q rest
+still_cells q f zero rest h = refl
+still_cells q f (suc n) rest h = passed q (f zero) (count_cells q (cells (λ i. f (suc i)) n ++ rest)) (h zero) ∙ still_cells q (λ i. f (suc i)) n rest (λ i. h (suc i))
 
-pub still_pairs : (f g : ℕ → Cell) (n : ℕ) (rest : List Cell) → ((i : ℕ) → is_iterator (f i) ≡ false) → ((i : ℕ) → is_iterator (g i) ≡ false) → iterators_in (pairs f g n ++ rest) ≡ iterators_in rest
-still_pairs f g zero rest h k = refl
-still_pairs f g (suc n) rest h k =
-    passed (f zero) (iterators_in (g zero ∷ (pairs (λ i. f (suc i)) (λ i. g (suc i)) n ++ rest))) (h zero)
-    ∙ (passed (g zero) (iterators_in (pairs (λ i. f (suc i)) (λ i. g (suc i)) n ++ rest)) (k zero)
-    ∙ still_pairs (λ i. f (suc i)) (λ i. g (suc i)) n rest (λ i. h (suc i)) (λ i. k (suc i)))
+pub still_pairs : (q : Cell → Bool) (f g : ℕ → Cell) (n : ℕ) (rest : List Cell) → ((i : ℕ) → q (f i) ≡ false) → ((i : ℕ) → q (g i) ≡ false) → count_cells q (pairs f g n ++ rest) ≡ count_cells q rest
+still_pairs q f g zero rest h k = refl
+still_pairs q f g (suc n) rest h k =
+    passed q (f zero) (count_cells q (g zero ∷ (pairs (λ i. f (suc i)) (λ i. g (suc i)) n ++ rest))) (h zero)
+    ∙ (passed q (g zero) (count_cells q (pairs (λ i. f (suc i)) (λ i. g (suc i)) n ++ rest)) (k zero)
+    ∙ still_pairs q (λ i. f (suc i)) (λ i. g (suc i)) n rest (λ i. h (suc i)) (λ i. k (suc i)))
 
 pub walked_cells : (f : ℕ → Cell) (n u : ℕ) (rest : List Cell) → u ≤ n → ((x : ℕ) → x < u → (t : ℕ) × (f x ≡ IteratorOf t)) → ((x : ℕ) → u ≤ x → f x ≡ empty) → iterators_in (cells f n ++ rest) ≡ u + iterators_in rest
-walked_cells f n zero rest le h k = still_cells f n rest (λ i. ap is_iterator (k i (omega arith))) ∙ omega arith
+walked_cells f n zero rest le h k = still_cells is_iterator f n rest (λ i. ap is_iterator (k i (omega arith))) ∙ omega arith
 walked_cells f zero (suc u) rest le h k = absurd (omega (arith, le))
 walked_cells f (suc n) (suc u) rest le h k =
     let q = h zero (omega arith) in
@@ -169,16 +169,18 @@ same_self Unboxed = refl
 same_self Many = refl
 
 module _ (p : Program) (deepest : Watch) (ks : List Kind) (F : List Frame) (b : Bases) (M n : ℕ) where
-  pub loose_still : (k : Kind) (c : Cell) → ParamLoose p deepest ks F k c → is_iterator c ≡ false
-  loose_still Boxed c h = ap is_iterator h.1
-  loose_still Unboxed c h = unowned_still c h
-  loose_still Many c h = unowned_still c h
+  -- parameters hold values, and nothing else that is owned
+  module _ (q : Cell → Bool) (value : (v : Value) → q (Held v) ≡ false) (other : (c : Cell) → is_owned c ≡ false → q c ≡ false) where
+    loose_still : (k : Kind) (c : Cell) → ParamLoose p deepest ks F k c → q c ≡ false
+    loose_still Boxed c h = ap q h.1 ∙ value h.0
+    loose_still Unboxed c h = other c h
+    loose_still Many c h = other c h
 
-  pub still_parameters : (js : List Kind) (f : ℕ → Cell) (rest : List Cell) → ((i : ℕ) (k : Kind) → has_kind js i k ≡ true → ParamLoose p deepest ks F k (f i)) → iterators_in (cells f (length js) ++ rest) ≡ iterators_in rest
-  still_parameters [] f rest h = refl
-  still_parameters (k ∷ js) f rest h =
-      passed (f zero) (iterators_in (cells (λ i. f (suc i)) (length js) ++ rest)) (loose_still k (f zero) (h zero k (same_self k)))
-      ∙ still_parameters js (λ i. f (suc i)) rest (λ i j e. h (suc i) j e)
+    pub still_parameters : (js : List Kind) (f : ℕ → Cell) (rest : List Cell) → ((i : ℕ) (k : Kind) → has_kind js i k ≡ true → ParamLoose p deepest ks F k (f i)) → count_cells q (cells f (length js) ++ rest) ≡ count_cells q rest
+    still_parameters [] f rest h = refl
+    still_parameters (k ∷ js) f rest h =
+        passed q (f zero) (count_cells q (cells (λ i. f (suc i)) (length js) ++ rest)) (loose_still k (f zero) (h zero k (same_self k)))
+        ∙ still_parameters js (λ i. f (suc i)) rest (λ i j e. h (suc i) j e)
 
   tidy_parameters : (js : List Kind) (o : ℕ → Local) (f : ℕ → Cell) (rest : List Cell) → ((i : ℕ) (k : Kind) → has_kind js i k ≡ true → ParamIs p deepest ks F k (o i) (f i)) → no_temporary rest ≡ true → tidy_locals js (cells f (length js) ++ rest) ≡ true
   tidy_parameters [] o f rest h r = r
@@ -200,9 +202,9 @@ module _ (p : Program) (deepest : Watch) (ks : List Kind) (F : List Frame) (b : 
   behind_walked : (u : ℕ) (K : List Label) (l : Locals) (σ : State) → Starts p deepest ks F b M n u K l σ → iterators_in (behind l) ≡ u
   behind_walked u K l σ s =
       let e = walked_cells l.iterator b.iterators u (cells l.array b.arrays ++ []) s.walks s.walked (λ x le. s.fit.still x le) in
-      let a = still_cells l.array b.arrays [] (λ i. ap is_iterator (s.fit.spare i (omega arith))) in
-      passed l.answer (iterators_in (temporaries_on b l)) (ap is_iterator s.fit.answer)
-      ∙ (still_pairs l.hand l.number b.temporaries (cells l.iterator b.iterators ++ (cells l.array b.arrays ++ [])) (λ i. ap is_iterator (s.fit.free i (omega arith))) (λ i. unowned_still (l.number i) (s.fit.numbers i))
+      let a = still_cells is_iterator l.array b.arrays [] (λ i. ap is_iterator (s.fit.spare i (omega arith))) in
+      passed is_iterator l.answer (iterators_in (temporaries_on b l)) (ap is_iterator s.fit.answer)
+      ∙ (still_pairs is_iterator l.hand l.number b.temporaries (cells l.iterator b.iterators ++ (cells l.array b.arrays ++ [])) (λ i. ap is_iterator (s.fit.free i (omega arith))) (λ i. unowned_still (l.number i) (s.fit.numbers i))
       ∙ (e ∙ omega (arith, a)))
 
   locals_tidy : (u : ℕ) (K : List Label) (l : Locals) (σ : State) → Starts p deepest ks F b M n u K l σ → tidy_locals ks (laid b l) ≡ true
@@ -213,7 +215,7 @@ module _ (p : Program) (deepest : Watch) (ks : List Kind) (F : List Frame) (b : 
   locals_walked u K l σ s =
       let lo = fit_loose p deepest ks F 0 u 0 l σ s.fit in
       eq-eqb (iterators_in (laid b l)) (loops_walked K)
-      (ap (λ m. iterators_in (cells l.param m ++ behind l)) (sym s.parameters) ∙ (still_parameters ks l.param (behind l) lo.params ∙ (behind_walked u K l σ s ∙ sym s.loops)))
+      (ap (λ m. iterators_in (cells l.param m ++ behind l)) (sym s.parameters) ∙ (still_parameters is_iterator (λ v. refl) unowned_still ks l.param (behind l) lo.params ∙ (behind_walked u K l σ s ∙ sym s.loops)))
 
   -- a `nop` where a step begins
   pub nop_ok : {k : Instructions} → (u : ℕ) (K : List Label) (l : Locals) (σ : State) → Starts p deepest ks F b M n u K l σ →

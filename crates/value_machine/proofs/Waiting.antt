@@ -17,7 +17,7 @@ use Rattle.value_machine.proofs.Locals.{Locals, temporaries_on, laid}
 use Rattle.value_machine.proofs.Steps.{empty}
 use Rattle.value_machine.proofs.Relation.{Fit, IsHand, IsWalk, IsYard, ParamLoose, fit_loose}
 use Rattle.value_machine.proofs.Simulation.{Walking}
-use Rattle.value_machine.proofs.Tidy.{passed, same_self, still_cells, still_pairs, still_parameters, unowned_still, walked_cells}
+use Rattle.value_machine.proofs.Tidy.{passed, still_cells, still_pairs, still_parameters, unowned_still, walked_cells}
 
 -- cells that hold no value
 
@@ -93,26 +93,13 @@ one_array c m = by (is_array c)
     by true = omega arith
     by false = omega arith
 
-no_array : (c : Cell) (m : ℕ) → is_array c ≡ false → cond (is_array c) (suc m) m ≡ m
-no_array c m e = ap (λ z. cond z (suc m) m) e
-
 first_arrays : (f : ℕ → Cell) (n w : ℕ) (rest : List Cell) → ((i : ℕ) → w ≤ i → is_array (f i) ≡ false) → arrays_owned (cells f n ++ rest) ≤ w + arrays_owned rest
-first_arrays f zero w rest h = omega arith
-first_arrays f (suc n) zero rest h =
-    let e = no_array (f zero) (arrays_owned (cells (λ i. f (suc i)) n ++ rest)) (h zero (omega arith)) in
-    let r = first_arrays (λ i. f (suc i)) n zero rest (λ i le. h (suc i) (omega arith)) in
-    omega (arith, e, r)
+first_arrays f n zero rest h = let e = still_cells is_array f n rest (λ i. h i (omega arith)) in omega (arith, e)
+first_arrays f zero (suc w) rest h = omega arith
 first_arrays f (suc n) (suc w) rest h =
     let e = one_array (f zero) (arrays_owned (cells (λ i. f (suc i)) n ++ rest)) in
     let r = first_arrays (λ i. f (suc i)) n w rest (λ i le. h (suc i) (omega (arith, le))) in
     omega (arith, e, r)
-
-pairs_without : (f g : ℕ → Cell) (n : ℕ) (rest : List Cell) → ((i : ℕ) → is_array (f i) ≡ false) → ((i : ℕ) → is_array (g i) ≡ false) → arrays_owned (pairs f g n ++ rest) ≡ arrays_owned rest
-pairs_without f g zero rest h k = refl
-pairs_without f g (suc n) rest h k =
-    no_array (f zero) (arrays_owned (g zero ∷ (pairs (λ i. f (suc i)) (λ i. g (suc i)) n ++ rest))) (h zero)
-    ∙ (no_array (g zero) (arrays_owned (pairs (λ i. f (suc i)) (λ i. g (suc i)) n ++ rest)) (k zero)
-    ∙ pairs_without (λ i. f (suc i)) (λ i. g (suc i)) n rest (λ i. h (suc i)) (λ i. k (suc i)))
 
 -- after a call so many arrays are let go
 pub freed_after : (y : Layout) (w i : ℕ) (k : Instructions) → i ≤ arrays_freed (all_freed y w i k)
@@ -120,17 +107,6 @@ freed_after y w zero k = omega arith
 freed_after y w (suc i) k = let r = freed_after y w i k in omega (arith, r)
 
 module _ (p : Program) (deepest : Watch) (ks : List Kind) (F : List Frame) (b : Bases) (M n : ℕ) where
-  loose_spare : (k : Kind) (c : Cell) → ParamLoose p deepest ks F k c → is_array c ≡ false
-  loose_spare Boxed c h = ap is_array h.1
-  loose_spare Unboxed c h = unowned_spare c h
-  loose_spare Many c h = unowned_spare c h
-
-  parameters_without : (js : List Kind) (f : ℕ → Cell) (rest : List Cell) → ((i : ℕ) (k : Kind) → has_kind js i k ≡ true → ParamLoose p deepest ks F k (f i)) → arrays_owned (cells f (length js) ++ rest) ≡ arrays_owned rest
-  parameters_without [] f rest h = refl
-  parameters_without (k ∷ js) f rest h =
-      no_array (f zero) (arrays_owned (cells (λ i. f (suc i)) (length js) ++ rest)) (loose_spare k (f zero) (h zero k (same_self k)))
-      ∙ parameters_without js (λ i. f (suc i)) rest (λ i j e. h (suc i) j e)
-
   -- no more than w arrays
   few_arrays : (t u w : ℕ) (l : Locals) (σ : State) → Fit p deepest ks F t u w l σ → length ks ≡ b.parameters → arrays_owned (laid b l) ≤ w
   few_arrays t u w l σ fit same =
@@ -138,13 +114,13 @@ module _ (p : Program) (deepest : Watch) (ks : List Kind) (F : List Frame) (b : 
       let yards = cells l.array b.arrays ++ [] in
       let lo = fit_loose p deepest ks F t u w l σ fit in
       let e0 : arrays_owned (laid b l) ≡ arrays_owned (cells l.param (length ks) ++ after) = ap (λ m. arrays_owned (cells l.param m ++ after)) (sym same) in
-      let e1 = parameters_without ks l.param after lo.params in
-      let e2 = no_array l.answer (arrays_owned (temporaries_on b l)) (ap is_array fit.answer) in
-      let e3 = pairs_without l.hand l.number b.temporaries (cells l.iterator b.iterators ++ yards) (λ i. hand_spare (l.hand i) (fit.hands i)) (λ i. unowned_spare (l.number i) (fit.numbers i)) in
-      let e4 = first_arrays l.iterator b.iterators zero yards (λ i le. walk_spare (l.iterator i) (fit.walks i)) in
+      let e1 = still_parameters p deepest ks F b M n is_array (λ v. refl) unowned_spare ks l.param after lo.params in
+      let e2 = passed is_array l.answer (arrays_owned (temporaries_on b l)) (ap is_array fit.answer) in
+      let e3 = still_pairs is_array l.hand l.number b.temporaries (cells l.iterator b.iterators ++ yards) (λ i. hand_spare (l.hand i) (fit.hands i)) (λ i. unowned_spare (l.number i) (fit.numbers i)) in
+      let e4 = still_cells is_array l.iterator b.iterators yards (λ i. walk_spare (l.iterator i) (fit.walks i)) in
       let e5 = first_arrays l.array b.arrays w [] (λ i le. ap is_array (fit.spare i le)) in
-      let e : arrays_owned (laid b l) ≡ arrays_owned (cells l.iterator b.iterators ++ (cells l.array b.arrays ++ [])) = e0 ∙ (e1 ∙ (e2 ∙ e3)) in
-      omega (arith, e, e4, e5)
+      let e : arrays_owned (laid b l) ≡ arrays_owned (cells l.array b.arrays ++ []) = e0 ∙ (e1 ∙ (e2 ∙ (e3 ∙ e4))) in
+      omega (arith, e, e5)
 
   parameters_wait : (js : List Kind) (f : ℕ → Cell) (m x : ℕ) (rest : List Cell) → x ≡ suc (length js) + m → ((i : ℕ) (k : Kind) → has_kind js i k ≡ true → ParamLoose p deepest ks F k (f i)) → locals_wait (suc m) [] rest ≡ true → locals_wait x js (cells f (length js) ++ rest) ≡ true
   parameters_wait [] f m x rest e h r = let q : x ≡ suc m = omega (arith, e) in ap (λ z. locals_wait z [] rest) q ∙ r
@@ -165,14 +141,14 @@ module _ (p : Program) (deepest : Watch) (ks : List Kind) (F : List Frame) (b : 
       let held : locals_wait (suc b.parameters + (t + t)) ks (laid b l) ≡ true =
       ap (λ m. locals_wait (suc m + (t + t)) ks (cells l.param m ++ (l.answer ∷ temporaries_on b l))) (sym same) ∙ parameters_wait ks l.param (t + t) (suc (length ks) + (t + t)) (l.answer ∷ temporaries_on b l) refl lo.params behind in
       let e = walked_cells l.iterator b.iterators u (cells l.array b.arrays ++ []) walking.few walking.each (λ x le. fit.still x le) in
-      let a = still_cells l.array b.arrays [] (λ i. yard_still (l.array i) (fit.yards i)) in
+      let a = still_cells is_iterator l.array b.arrays [] (λ i. yard_still (l.array i) (fit.yards i)) in
       let walked : iterators_in (l.answer ∷ temporaries_on b l) ≡ u =
-      passed l.answer (iterators_in (temporaries_on b l)) (ap is_iterator fit.answer)
-      ∙ (still_pairs l.hand l.number b.temporaries (cells l.iterator b.iterators ++ (cells l.array b.arrays ++ [])) (λ i. hand_still (l.hand i) (fit.hands i)) (λ i. unowned_still (l.number i) (fit.numbers i))
+      passed is_iterator l.answer (iterators_in (temporaries_on b l)) (ap is_iterator fit.answer)
+      ∙ (still_pairs is_iterator l.hand l.number b.temporaries (cells l.iterator b.iterators ++ (cells l.array b.arrays ++ [])) (λ i. hand_still (l.hand i) (fit.hands i)) (λ i. unowned_still (l.number i) (fit.numbers i))
       ∙ (e ∙ omega (arith, a))) in
       let count : nat_eq (iterators_in (laid b l)) (loops_walked K) ≡ true =
       eq-eqb (iterators_in (laid b l)) (loops_walked K)
       (ap (λ m. iterators_in (cells l.param m ++ (l.answer ∷ temporaries_on b l))) (sym same)
-      ∙ (still_parameters p deepest ks F b M n ks l.param (l.answer ∷ temporaries_on b l) lo.params ∙ (walked ∙ sym walking.loops))) in
+      ∙ (still_parameters p deepest ks F b M n is_iterator (λ v. refl) unowned_still ks l.param (l.answer ∷ temporaries_on b l) lo.params ∙ (walked ∙ sym walking.loops))) in
       let few : nat_le (arrays_owned (laid b l)) (arrays_freed k) ≡ true = le-leb (arrays_owned (laid b l)) (arrays_freed k) (let a = few_arrays t u w l σ fit same in omega (arith, a, freed)) in
       ap₂ (λ x y. x && y) held (ap₂ (λ x y. x && y) count few)
