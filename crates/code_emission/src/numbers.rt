@@ -4,7 +4,7 @@ ghost use Rattle.awk_state.specs.declared.table.Primitive.TheVariants.{ToNum};
 ghost use Rattle.mid_program.specs.Mid.{Bare};
 ghost use Rattle.wasm_types.specs.Syntax.{Done};
 ghost use Rattle.wasm_types.specs.declared.instr.Simple.TheVariants.{I64Const, LocalSet};
-ghost use Rattle.value_machine.specs.Small.{code_number, converted, does, n, number_of_value, to_number, zeroed};
+ghost use Rattle.value_machine.specs.Small.{code_number, converted, does, n, number_made, number_of_value, to_number, zeroed};
 ghost use Rattle.code_emission.specs.Bounds.{most_labels, most_places};
 ghost use Rattle.code_emission.specs.Emits.{Emits};
 ghost use Rattle.code_emission.specs.Forms.{view_form};
@@ -19,7 +19,7 @@ use crate::handles::moved_out;
 use crate::keeping::{LEAST, kept_number};
 use awk_state::{Answer, Primitive, Sort};
 use std::alloc::{AllocError, Global};
-use wasm_types::{CvtOp, IBinOp, Instr, Simple, ValType};
+use wasm_types::{CvtOp, IBinOp, IRelOp, Instr, Simple, ValType};
 
 /// What puts 0 into a local.
 fn zero_put(alloc: Global, local: u32) -> Result<Vec<Instr>, AllocError>
@@ -66,14 +66,14 @@ fn number_of_value(b: &Bases, out: &mut Vec<Instr>, t: u32, exit: u32) -> Result
     kept_number(b, out, true, t, exit)
 }
 
-/// What asks for a value's number, from within one label more.
+/// What asks for a value's number, from within two labels more.
 fn value_number(alloc: Global, b: &Bases, t: u32, exit: u32) -> Result<Vec<Instr>, AllocError>
     requires places { t ≤ most_places }
     requires labels { exit ≤ most_labels }
-    ensures { IfOk result (λ v. Emits [] v.items (number_of_value b.now t (suc exit))) }
+    ensures { IfOk result (λ v. Emits [] v.items (number_of_value b.now t (suc (suc exit)))) }
 {
     let mut code = Vec::new(alloc);
-    number_of_value(b, &mut code, t, exit + 1)?;
+    number_of_value(b, &mut code, t, exit + 2)?;
     Ok(code)
 }
 
@@ -84,6 +84,20 @@ pub(crate) fn zeroed_code(alloc: Global, b: &Bases, t: u32) -> Result<Vec<Instr>
 {
     let mut code = Vec::new(alloc);
     zeroed(alloc, b, &mut code, t)?;
+    Ok(code)
+}
+
+/// What makes the number of a text beside, and 0 where there is no number yet, from within one label more.
+fn number_made(alloc: Global, b: &Bases, t: u32, exit: u32) -> Result<Vec<Instr>, AllocError>
+    requires places { t ≤ most_places }
+    requires labels { exit ≤ most_labels }
+    ensures { IfOk result (λ v. Emits [] v.items (number_made b.now t exit)) }
+{
+    let local = b.number(t);
+    let mut code = Vec::new(alloc);
+    number_is(&mut code, local, TEXT_BESIDE)?;
+    let some = value_number(alloc, b, t, exit)?;
+    either(alloc, &mut code, some, zero_put(alloc, local)?)?;
     Ok(code)
 }
 
@@ -99,9 +113,13 @@ fn bare_number(
     requires labels { exit ≤ most_labels }
     ensures { OnOk result (Emits out.old.items out.new.items (to_number b.now Bare t exit)) }
 {
-    number_is(out, b.number(t), TEXT_BESIDE)?;
-    let some = value_number(alloc, b, t, exit)?;
-    either(alloc, out, some, zeroed_code(alloc, b, t)?)
+    let all = [
+        Simple::LocalGet(b.number(t)),
+        Simple::I64Const(TEXT_BESIDE),
+        Simple::Compare(ValType::I64, IRelOp::LeS),
+    ];
+    does_all(out, &all)?;
+    when(alloc, out, number_made(alloc, b, t, exit)?)
 }
 
 /// Makes a number of what stands in a temporary.

@@ -1,6 +1,6 @@
 -- Code is nested as deep as what comes after it.
 use Rattle.std.proofs.Common.{◌≡◌, ◌≤◌, ℕ, zero, suc, Bool, true, false, ◌||◌, List, [], ◌∷◌, refl, arith}
-use Rattle.std.specs.Prelude.{if◌then◌else◌, get_or}
+use Rattle.std.specs.Prelude.{if◌then◌else◌, get_or, Option, Some, None, ℤ}
 use Rattle.awk_values.specs.declared.comparison.CompareOp.{CompareOp}
 use Rattle.awk_state.specs.Table.{arguments_of, answer_of, can_fault}
 use Rattle.awk_state.specs.declared.sorts.Answer.{Answer}
@@ -27,7 +27,7 @@ use Rattle.mid_program.specs.Sorted.{count_of}
 use Rattle.value_machine.specs.Arithmetic.{calculated, compared, field_checked, is_value, may_be_text, numbers_compared, texts_beside, values_compared, zeroed_if}
 use Rattle.value_machine.specs.Boundaries.{is_nop}
 use Rattle.wasm_types.specs.Instructions.{depths}
-use Rattle.value_machine.specs.Emission.{Layout, all_appended, all_boxed, all_converted, all_emitted, all_freed, all_given, all_given_pushed, all_pushed, array_meant, array_pushed, asked, assigned, assigned_by_number, dropped, emitted, handle_stored, left_over, listed_asked, one_given, one_pushed, pending_assigned, performed, slot_read, slot_set, tested, text_kept, text_let_go, value_stored}
+use Rattle.value_machine.specs.Emission.{Layout, all_appended, all_boxed, all_converted, all_emitted, all_freed, all_given, all_given_pushed, all_pushed, array_meant, array_pushed, asked, assigned, assigned_by_number, dropped, emitted, bound_read, field_in, field_or, handle_stored, keeping_closed, left_over, listed_asked, one_given, one_pushed, pending_assigned, performed, sequence_closed, slot_read, slot_set, tested, text_kept, text_let_go, value_stored}
 use Rattle.value_machine.specs.Places.{Bases, made_in}
 use Rattle.value_machine.specs.Small.{bound_from, code_number, converted, does, either, kept, kept_code, kept_done, kept_number, kept_value, moved_from, released, to_number, to_value, truth, unused}
 
@@ -258,7 +258,27 @@ module _ (y : Layout) where
   module _ {k : Instructions} {m : ℕ} where
     pub left_deep : (e : Code) (f : Form) (t : ℕ) → Deep k m → Deep (left_over y e f t k) m
     left_deep (Set x e) f t r = r
+    left_deep (Seq e c) f t r = r
+    left_deep (Let e c) f t r = r
+    left_deep (Bound i e) f t r = r
     left_deep e f t r = unused_deep b f t r
+
+    field_or_deep : {other : Instructions} (o : Option ℤ) (t : ℕ) → Deep k m → Deep other m → Deep (field_or y o t k other) m
+    field_or_deep (Some z) t r q = record { count = let h = r.count in omega (arith, h) }
+    field_or_deep None t r q = q
+
+    bound_read_deep : (v z : Bool) (f : Form) (s t : ℕ) → Deep k m → Deep (bound_read y v z f s t k) m
+    bound_read_deep true z f s t r = r
+    bound_read_deep false z f s t r = bound_deep b z f s t r
+
+  module _ {k : Instructions} {m : ℕ} where
+    sequence_deep : (v : Bool) (e : Code) (f : Form) (t : ℕ) → Deep k m → Deep (sequence_closed y v e f t k) m
+    sequence_deep true e f t r = left_deep e f t r
+    sequence_deep false e f t r = r
+
+    keeping_deep : (v : Bool) (e : Code) (g f : Form) (t : ℕ) → Deep k m → Deep (keeping_closed y v e g f t k) m
+    keeping_deep true e g f t r = left_deep e f (suc t) (released_deep b g t r)
+    keeping_deep false e g f t r = released_deep b g t (moved_deep b f (suc t) t r)
 
   module _ {k : Instructions} {m : ℕ} where
     text_deep : (fs : List Form) (s : Code) (t : ℕ) → Deep k m → Deep (text_let_go y fs s t k) m
@@ -273,7 +293,7 @@ module _ (y : Layout) where
     unfolding emitted all_emitted
 
     pub emitted_deep : {k : Instructions} {m : ℕ} (v : Bool) (fs : List Form) (ts : List ℕ) (e : Code) (t w d : ℕ) → Deep k m → Deep (emitted y v fs ts e t w d k) m
-    emitted_deep v fs ts (Do o es) t w d r = emits_deep fs ts es t w d (converts_deep fs (arguments o) es t d (performed_deep o es t d r))
+    emitted_deep v fs ts (Do o es) t w d r = field_or_deep (field_in o es) t r (emits_deep fs ts es t w d (converts_deep fs (arguments o) es t d (performed_deep o es t d r)))
     emitted_deep v fs ts (Over l es) t w d r = emits_deep fs ts es t w d (boxes_deep fs es t (appends_deep es t (listed_deep l (count_of es) t d r)))
     emitted_deep v fs ts (Compare c e f) t w d r = emitted_deep false fs ts e t w d (emitted_deep false fs ts f (suc t) w d (compared_deep b c (form_of fs e) (form_of fs f) t d r))
     emitted_deep v fs ts (Call f es) t w d r =
@@ -299,11 +319,10 @@ module _ (y : Layout) where
         emitted_deep false fs ts c t w d (truth_deep b (form_of fs c) t (choice
         (emitted_deep false fs ts e t w (suc d) (converted_deep b (form_of fs e) s t (suc d) none))
         (emitted_deep false fs ts f t w (suc d) (converted_deep b (form_of fs f) s t (suc d) none)) r))
-    emitted_deep v fs ts (Seq e f) t w d r = emitted_deep true fs ts e t w d (left_deep e (form_of fs e) t (emitted_deep false fs ts f t w d r))
+    emitted_deep v fs ts (Seq e f) t w d r = emitted_deep true fs ts e t w d (left_deep e (form_of fs e) t (emitted_deep v fs ts f t w d (sequence_deep v f (form_of fs f) t r)))
     emitted_deep v fs ts (Let e f) t w d r =
-        emitted_deep false fs ts e t w d (emitted_deep false (form_of fs e ∷ fs) (t ∷ ts) f (suc t) w d
-        (released_deep b (form_of fs e) t (moved_deep b (form_of (form_of fs e ∷ fs) f) (suc t) t r)))
-    emitted_deep v fs ts (Bound z i) t w d r = bound_deep b z (form_at fs i) (get_or ts i zero) t r
+        emitted_deep false fs ts e t w d (emitted_deep v (form_of fs e ∷ fs) (t ∷ ts) f (suc t) w d (keeping_deep v f (form_of fs e) (form_of (form_of fs e ∷ fs) f) t r))
+    emitted_deep v fs ts (Bound z i) t w d r = bound_read_deep v z (form_at fs i) (get_or ts i zero) t r
 
     pub emits_deep : {k : Instructions} {m : ℕ} (fs : List Form) (ts : List ℕ) (es : Codes) (t w d : ℕ) → Deep k m → Deep (all_emitted y fs ts es t w d k) m
     emits_deep fs ts End t w d r = r

@@ -1,5 +1,5 @@
 -- The code of an expression, from that of its parts.
-use Rattle.std.proofs.Common.{◌≡◌, ℕ, suc, Bool, true, false, List, [], ◌∷◌, ◌++◌, length, map, sym, ap, ◌∙◌}
+use Rattle.std.proofs.Common.{◌≡◌, ℕ, suc, Bool, true, false, List, [], ◌∷◌, ◌++◌, length, map, Option, Some, None, ℤ, sym, ap, ◌∙◌}
 use Rattle.std.proofs.lemmas.List.{append_assoc, append-nil, map-append}
 use Rattle.awk_state.specs.declared.table.Listed.{Listed}
 use Rattle.awk_state.specs.declared.sorts.Sort.{Sort}
@@ -16,9 +16,9 @@ use Rattle.mid_program.specs.ViewCode.{before, views}
 use Rattle.mid_program.specs.declared.code.Operand.{Operand}
 use Rattle.mid_program.specs.declared.mid.Operation.{Operation}
 use Rattle.value_machine.specs.Arithmetic.{compared}
-use Rattle.value_machine.specs.Emission.{Layout, all_appended, all_boxed, all_emitted, all_freed, all_given, all_given_pushed, asked, emitted, function_number, left_over, listed_asked, performed, slot_set}
+use Rattle.value_machine.specs.Emission.{Layout, all_appended, all_boxed, all_converted, all_emitted, all_freed, all_given, all_given_pushed, asked, emitted, field_in, field_or, field_read, function_number, keeping_closed, left_over, listed_asked, performed, sequence_closed, slot_set}
 use Rattle.value_machine.specs.Places.{made_in, array_local}
-use Rattle.value_machine.specs.Small.{ask_row, code_number, converted, does, either, h, kept_value, let_go, moved_from, released, truth}
+use Rattle.value_machine.specs.Small.{ask_row, code_number, converted, does, either, h, kept_value, let_go, truth}
 use Rattle.value_machine.specs.declared.import.Import.TheVariants.{Drop}
 use Rattle.code_emission.specs.Emits.{followed, Emits}
 use Rattle.code_emission.specs.Forms.{view_form}
@@ -67,12 +67,20 @@ form_added fs c es all f old mid new e added is q =
 
 -- Expressions with operands, of forms gs.
 
-pub operation_emitted : (y : Layout) (v : Bool) (fs gs : List plain.Form) (ts : List ℕ) (o : Operation) (es : Codes) (t w d : ℕ) (a b z : List Instr) → gs ≡ forms_in fs es
+pub field_emitted : (y : Layout) (v : Bool) (fs : List plain.Form) (ts : List ℕ) (o : Operation) (es : Codes) (n : ℤ) (t w d : ℕ) (a z : List Instr) → field_in o es ≡ Some n
+    → Emits a z (field_read y n t) → Emits a z (emitted y v fs ts (plain.Do o es) t w d)
+unfolding emitted all_emitted
+field_emitted y v fs ts o es n t w d a z e p k =
+    p k ∙ ap (λ (x : Option ℤ). followed a (field_or y x t k (all_emitted y fs ts es t w d (all_converted y fs (plain.arguments o) es t d (performed y o es t d k))))) (sym e)
+
+pub operation_emitted : (y : Layout) (v : Bool) (fs gs : List plain.Form) (ts : List ℕ) (o : Operation) (es : Codes) (t w d : ℕ) (a b z : List Instr) → field_in o es ≡ None → gs ≡ forms_in fs es
     → Emits a b (all_emitted y fs ts es t w d) → Emits b z (operated y gs o es t d) → Emits a z (emitted y v fs ts (plain.Do o es) t w d)
 unfolding emitted all_emitted
-operation_emitted y v fs gs ts o es t w d a b z e p q k =
+operation_emitted y v fs gs ts o es t w d a b z none e p q k =
+    let rest = all_converted y fs (plain.arguments o) es t d (performed y o es t d k) in
     q k ∙ ap (λ (x : List plain.Form). followed b (operated y x o es t d k)) e
-    ∙ ap (followed b) (converted_are y fs (plain.arguments o) es t d (performed y o es t d k)) ∙ p _
+    ∙ ap (followed b) (converted_are y fs (plain.arguments o) es t d (performed y o es t d k)) ∙ p rest
+    ∙ ap (λ (x : Option ℤ). followed a (field_or y x t k (all_emitted y fs ts es t w d rest))) (sym none)
 
 listed_are : (y : Layout) (fs : List plain.Form) (l : Listed) (es : Codes) (t d : ℕ) (k : Instructions) → AllCode es
     → listed_with y (forms_in fs es) l t d k ≡ all_boxed y fs es t (all_appended y es t (listed_asked y l (count_of es) t d k))
@@ -142,22 +150,24 @@ unfolding emitted all_emitted
 choice_emitted y v fs ts s e l r f t w d a b c z h p q u k =
     u k ∙ q _ ∙ ap (λ (g : plain.Form). followed b (truth y.bases g t (either (branch_with y fs ts s l t w d Done) (branch_with y fs ts s r t w d Done) k))) h ∙ p _
 
-pub sequence_emitted : (y : Layout) (v : Bool) (fs : List plain.Form) (ts : List ℕ) (l r : Code) (f : plain.Form) (t w d : ℕ) (a b c z : List Instr) → f ≡ form_of fs l
-    → Emits a b (emitted y true fs ts l t w d) → Emits b c (left_over y l f t) → Emits c z (emitted y false fs ts r t w d) → Emits a z (emitted y v fs ts (plain.Seq l r) t w d)
+pub sequence_emitted : (y : Layout) (v : Bool) (fs : List plain.Form) (ts : List ℕ) (l r : Code) (f g : plain.Form) (t w d : ℕ) (a b c i z : List Instr) → f ≡ form_of fs l → g ≡ form_of fs r
+    → Emits a b (emitted y true fs ts l t w d) → Emits b c (left_over y l f t) → Emits c i (emitted y v fs ts r t w d) → Emits i z (sequence_closed y v r g t) → Emits a z (emitted y v fs ts (plain.Seq l r) t w d)
 unfolding emitted all_emitted
-sequence_emitted y v fs ts l r f t w d a b c z h p q u k = u k ∙ q _ ∙ ap (λ (g : plain.Form). followed b (left_over y l g t (emitted y false fs ts r t w d k))) h ∙ p _
+sequence_emitted y v fs ts l r f g t w d a b c i z h j p q u x k =
+    let whole : plain.Form → plain.Form → Instructions = λ f1 g1. left_over y l f1 t (emitted y v fs ts r t w d (sequence_closed y v r g1 t k)) in
+    x k ∙ u _ ∙ q _ ∙ ap (λ (g1 : plain.Form). followed b (whole f g1)) j ∙ ap (λ (f1 : plain.Form). followed b (whole f1 (form_of fs r))) h ∙ p _
 
 pub kept_form : (fs : List plain.Form) (l r : Code) (f g : plain.Form) (m : Keeping) (t : ℕ) (ts : List ℕ) → f ≡ form_of fs l → m ≡ kept_more f t (record { forms = fs; temporaries = ts }) → g ≡ form_of m.forms r → g ≡ form_of fs (plain.Let l r)
 kept_form fs l r f g m t ts h e q = q ∙ ap (λ (x : Keeping). form_of x.forms r) e ∙ ap (λ (x : plain.Form). form_of (x ∷ fs) r) h
 
-pub keeping_emitted : (y : Layout) (v : Bool) (o m : Keeping) (l r : Code) (f g : plain.Form) (t w d : ℕ) (a b c i z : List Instr) → f ≡ form_of o.forms l → m ≡ kept_more f t o → g ≡ form_of m.forms r
-    → Emits a b (emitted y false o.forms o.temporaries l t w d) → Emits b c (emitted y false m.forms m.temporaries r (suc t) w d)
-    → Emits c i (released y.bases f t) → Emits i z (moved_from y.bases g (suc t) t) → Emits a z (emitted y v o.forms o.temporaries (plain.Let l r) t w d)
+pub keeping_emitted : (y : Layout) (v : Bool) (o m : Keeping) (l r : Code) (f g : plain.Form) (t w d : ℕ) (a b c z : List Instr) → f ≡ form_of o.forms l → m ≡ kept_more f t o → g ≡ form_of m.forms r
+    → Emits a b (emitted y false o.forms o.temporaries l t w d) → Emits b c (emitted y v m.forms m.temporaries r (suc t) w d)
+    → Emits c z (keeping_closed y v r f g t) → Emits a z (emitted y v o.forms o.temporaries (plain.Let l r) t w d)
 unfolding emitted all_emitted
-keeping_emitted y v o m l r f g t w d a b c i z h e j p q u x k =
-    let whole : plain.Form → plain.Form → Instructions = λ x1 x2. emitted y false (x1 ∷ o.forms) (t ∷ o.temporaries) r (suc t) w d (released y.bases x1 t (moved_from y.bases x2 (suc t) t k)) in
-    x k ∙ u _ ∙ q _
-    ∙ ap (λ (n : Keeping). followed b (emitted y false n.forms n.temporaries r (suc t) w d (released y.bases f t (moved_from y.bases g (suc t) t k)))) e
+keeping_emitted y v o m l r f g t w d a b c z h e j p q u k =
+    let whole : plain.Form → plain.Form → Instructions = λ x1 x2. emitted y v (x1 ∷ o.forms) (t ∷ o.temporaries) r (suc t) w d (keeping_closed y v r x1 x2 t k) in
+    u k ∙ q _
+    ∙ ap (λ (n : Keeping). followed b (emitted y v n.forms n.temporaries r (suc t) w d (keeping_closed y v r f g t k))) e
     ∙ ap (λ (x2 : plain.Form). followed b (whole f x2)) (j ∙ ap (λ (n : Keeping). form_of n.forms r) e)
     ∙ ap (λ (x1 : plain.Form). followed b (whole x1 (form_of (x1 ∷ o.forms) r))) h ∙ p _
 

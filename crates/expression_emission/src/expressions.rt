@@ -12,6 +12,7 @@ ghost use Rattle.expression_emission.specs.View.{view_layout};
 
 use crate::at::{At, after_array, inner_at, next, stored_at};
 use crate::calls::called;
+use crate::fields::{field_in, field_read};
 use crate::kept::Kept;
 use crate::layout::Layout;
 use crate::leaves::{bound, constant, is_open, line, text, unset, variable};
@@ -19,19 +20,21 @@ use crate::lists::listed;
 use crate::operands::{all_joined, operated, operation_form};
 use crate::pending::asked;
 use crate::slots::slot_set;
-use crate::storing::{array_made, file_asked, left_over, replaced, stored_when, text_kept};
+use crate::storing::{
+    array_made, file_asked, keeping_closed, left_over, replaced, sequence_closed, stored_when,
+    text_kept,
+};
 use awk_state::{Answer, Listed, Primitive, Sort};
 use awk_values::CompareOp;
-use code_emission::{
-    Form, code_number, compared, converted, either, let_go, moved_from, released, truth,
-};
+use code_emission::{Form, code_number, compared, converted, either, let_go, truth};
 use mid_program::{Code, Operand, Operation, Slot};
 use std::alloc::AllocError;
 use value_machine::Import;
 use wasm_types::Instr;
 
 #[tactic(auto, unfolding(value_machine::specs::Emission::emitted))]
-/// Adds the code of an expression, and gives the form of its answer. Where `only` what it does counts, an assignment moves its value.
+/// Adds the code of an expression, and gives the form of its answer. Where `only` what it does counts, an assignment moves its value, and no answer is brought to
+/// its place that would be dropped there.
 #[cycle(expressions)]
 pub fn expression(
     y: &Layout<'_>,
@@ -64,9 +67,9 @@ pub fn expression(
         Code::Array(_) => Ok(Form::Answered(Answer::Of(Sort::Array))),
         Code::IsOpen(item) => is_open(y, out, *item, at),
         Code::Choose(sort, test, yes, no) => choice(y, kept, out, *sort, test, yes, no, at),
-        Code::Seq(first, second) => sequence(y, kept, out, first, second, at),
-        Code::Let(value, rest) => keeping(y, kept, out, value, rest, at),
-        Code::Bound(moves, after) => bound(y, kept, out, *moves, *after, at),
+        Code::Seq(first, second) => sequence(y, kept, out, only, first, second, at),
+        Code::Let(value, rest) => keeping(y, kept, out, only, value, rest, at),
+        Code::Bound(moves, after) => bound(y, kept, out, only, *moves, *after, at),
     }
 }
 
@@ -117,6 +120,9 @@ fn operation(
     ensures emits { (v : Bool) → OnOk result (Emits out.old.items out.new.items (emitted (view_layout y.now) v kept.old.forms kept.old.temporaries (plain.Do what (views es.now)) at.temporary at.arrays at.exit)) }
     ensures kept { OnOk result (kept.new ≡ kept.old) }
 {
+    if let Some(number) = field_in(what, es) {
+        return field_read(y, out, number, at.temporary);
+    }
     let mut forms = Vec::new(y.alloc);
     operands(y, kept, out, &mut forms, es, at)?;
     operated(y, out, &forms, what, es, at.temporary, at.exit)?;
@@ -395,18 +401,21 @@ fn sequence(
     y: &Layout<'_>,
     kept: &mut Kept,
     out: &mut Vec<Instr>,
+    only: bool,
     first: &Code,
     second: &Code,
     at: At,
 ) -> Result<Form, AllocError>
     requires { Fits (view_layout y.now) (plain.Seq (view first.now) (view second.now)) at.temporary at.arrays at.exit }
     ensures form { IfOk result (λ form. view_form form ≡ form_of kept.old.forms (plain.Seq (view first.now) (view second.now))) }
-    ensures emits { (v : Bool) → OnOk result (Emits out.old.items out.new.items (emitted (view_layout y.now) v kept.old.forms kept.old.temporaries (plain.Seq (view first.now) (view second.now)) at.temporary at.arrays at.exit)) }
+    ensures emits { OnOk result (Emits out.old.items out.new.items (emitted (view_layout y.now) only kept.old.forms kept.old.temporaries (plain.Seq (view first.now) (view second.now)) at.temporary at.arrays at.exit)) }
     ensures kept { OnOk result (kept.new ≡ kept.old) }
 {
     let form = expression(y, kept, out, true, first, at)?;
     left_over(y, out, first, form, at.temporary)?;
-    expression(y, kept, out, false, second, at)
+    let answer = expression(y, kept, out, only, second, at)?;
+    sequence_closed(y, out, only, second, answer, at.temporary)?;
+    Ok(answer)
 }
 
 /// Adds an expression whose answer is kept while another one is evaluated.
@@ -415,20 +424,20 @@ fn keeping(
     y: &Layout<'_>,
     kept: &mut Kept,
     out: &mut Vec<Instr>,
+    only: bool,
     value: &Code,
     rest: &Code,
     at: At,
 ) -> Result<Form, AllocError>
     requires { Fits (view_layout y.now) (plain.Let (view value.now) (view rest.now)) at.temporary at.arrays at.exit }
     ensures form { IfOk result (λ form. view_form form ≡ form_of kept.old.forms (plain.Let (view value.now) (view rest.now))) }
-    ensures emits { (v : Bool) → OnOk result (Emits out.old.items out.new.items (emitted (view_layout y.now) v kept.old.forms kept.old.temporaries (plain.Let (view value.now) (view rest.now)) at.temporary at.arrays at.exit)) }
+    ensures emits { OnOk result (Emits out.old.items out.new.items (emitted (view_layout y.now) only kept.old.forms kept.old.temporaries (plain.Let (view value.now) (view rest.now)) at.temporary at.arrays at.exit)) }
     ensures kept { OnOk result (kept.new ≡ kept.old) }
 {
     let held = expression(y, kept, out, false, value, at)?;
     kept.push(held, at.temporary)?;
-    let form = expression(y, kept, out, false, rest, next(at))?;
+    let form = expression(y, kept, out, only, rest, next(at))?;
     kept.pop();
-    released(y.alloc, y.bases, out, held, at.temporary)?;
-    moved_from(y.bases, out, form, at.temporary + 1, at.temporary)?;
+    keeping_closed(y, out, only, rest, held, form, at.temporary)?;
     Ok(form)
 }

@@ -5,9 +5,9 @@ ghost use Rattle.wasm_types.specs.declared.instr.CvtOp.TheVariants.{I64ExtendI32
 ghost use Rattle.wasm_types.specs.declared.instr.Simple.TheVariants.{Convert, GlobalGet, I64Const, LocalSet};
 ghost use Rattle.mid_program.specs.Mid.{Answered, Perhaps, a_number, a_value, form_at, slot_form};
 ghost use Rattle.mid_program.specs.ViewCode.{view_slot};
-ghost use Rattle.value_machine.specs.Emission.{asked, slot_read, text_pushed};
+ghost use Rattle.value_machine.specs.Emission.{asked, bound_read, slot_read, text_pushed};
 ghost use Rattle.value_machine.specs.Places.{range_global};
-ghost use Rattle.value_machine.specs.Small.{ask_row, bound_from, code_number, does, h, least, n};
+ghost use Rattle.value_machine.specs.Small.{ask_row, code_number, does, h, least, n};
 ghost use Rattle.code_emission.specs.Bounds.{most_places};
 ghost use Rattle.code_emission.specs.Emits.{Emits};
 ghost use Rattle.code_emission.specs.Forms.{view_form};
@@ -119,20 +119,24 @@ pub(crate) fn is_open(
     Ok(Form::Answered(Answer::Truth))
 }
 
-/// Adds what was kept.
+/// Adds what was kept. Where `only` what is done counts, that is nothing.
 pub(crate) fn bound(
     y: &Layout<'_>,
     kept: &Kept,
     out: &mut Vec<Instr>,
+    only: bool,
     moves: bool,
     after: usize,
     at: At,
 ) -> Result<Form, AllocError>
     requires { Within at.temporary at.arrays at.exit }
     ensures form { IfOk result (λ form. view_form form ≡ form_at kept.now.forms after) }
-    ensures emits { OnOk result (Emits out.old.items out.new.items (bound_from y.now.bases.now moves (form_at kept.now.forms after) (get_or kept.now.temporaries after 0) at.temporary)) }
+    ensures emits { OnOk result (Emits out.old.items out.new.items (bound_read (view_layout y.now) only moves (form_at kept.now.forms after) (get_or kept.now.temporaries after 0) at.temporary)) }
 {
     let entry = kept.at(after);
+    if only {
+        return Ok(entry.form);
+    }
     let to = at.temporary;
     bound_from(
         y.alloc,

@@ -4,6 +4,7 @@
 mod at;
 mod calls;
 mod expressions;
+mod fields;
 mod kept;
 mod layout;
 mod leaves;

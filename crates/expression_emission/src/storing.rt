@@ -5,7 +5,7 @@ ghost use Rattle.wasm_types.specs.Syntax.{Done, Instructions};
 ghost use Rattle.wasm_types.specs.declared.instr.Simple.TheVariants.{LocalSet};
 ghost use Rattle.mid_program.specs.Sorted.{count_of};
 ghost use Rattle.mid_program.specs.ViewCode.{view, views};
-ghost use Rattle.value_machine.specs.Emission.{left_over};
+ghost use Rattle.value_machine.specs.Emission.{keeping_closed, left_over, sequence_closed};
 ghost use Rattle.value_machine.specs.Places.{array_local};
 ghost use Rattle.value_machine.specs.Small.{ask_row, does, h};
 ghost use Rattle.code_emission.specs.Bounds.{most_labels, most_places};
@@ -20,8 +20,8 @@ use crate::operands::all_pushed;
 use crate::walks::all_converted;
 use awk_state::{Answer, Argument, Primitive, Sort};
 use code_emission::{
-    Bases, Form, ask_row, does, does_all, kept, kept_code, moved_out, number_is, to_value, unused,
-    when,
+    Bases, Form, ask_row, does, does_all, kept, kept_code, moved_from, moved_out, number_is,
+    released, to_value, unused, when,
 };
 use mid_program::{Code, Operand};
 use std::alloc::AllocError;
@@ -50,7 +50,8 @@ pub(crate) fn text_kept(
     does(out, Simple::LocalSet(b.handle(t + 1)))
 }
 
-/// Drops what code left that was evaluated for what it does alone: an assignment has given its value away then.
+/// Drops what code left that was evaluated for what it does alone. An assignment has given its value away then, what was kept is dropped where it was kept, and
+/// code in which something comes last has dropped that.
 pub fn left_over(
     y: &Layout<'_>,
     out: &mut Vec<Instr>,
@@ -62,7 +63,7 @@ pub fn left_over(
     ensures { OnOk result (Emits out.old.items out.new.items (left_over (view_layout y.now) (view code.now) (view_form form) t)) }
 {
     match code {
-        Code::Set(_, _) => Ok(()),
+        Code::Set(_, _) | Code::Seq(_, _) | Code::Let(_, _) | Code::Bound(_, _) => Ok(()),
         Code::Do(_, _)
         | Code::Over(_, _)
         | Code::Compare(_, _, _)
@@ -78,10 +79,49 @@ pub fn left_over(
         | Code::Get(_)
         | Code::Array(_)
         | Code::IsOpen(_)
-        | Code::Choose(_, _, _, _)
-        | Code::Seq(_, _)
-        | Code::Let(_, _)
-        | Code::Bound(_, _) => unused(y.alloc, y.bases, out, form, t),
+        | Code::Choose(_, _, _, _) => unused(y.alloc, y.bases, out, form, t),
+    }
+}
+
+/// Adds the end of a sequence, whose last code is given, with the form of its answer. Where `only` what it does counts, the answer is dropped.
+pub(crate) fn sequence_closed(
+    y: &Layout<'_>,
+    out: &mut Vec<Instr>,
+    only: bool,
+    code: &Code,
+    form: Form,
+    t: u32,
+) -> Result<(), AllocError>
+    requires { t ≤ most_places }
+    ensures { OnOk result (Emits out.old.items out.new.items (sequence_closed (view_layout y.now) only (view code.now) (view_form form) t)) }
+{
+    if only {
+        left_over(y, out, code, form, t)
+    } else {
+        Ok(())
+    }
+}
+
+/// Adds the end of what is kept: it is dropped, unless it was moved away. The answer of the code that was evaluated meanwhile takes its place; where `only` what
+/// it does counts, the answer is dropped.
+pub(crate) fn keeping_closed(
+    y: &Layout<'_>,
+    out: &mut Vec<Instr>,
+    only: bool,
+    code: &Code,
+    held: Form,
+    form: Form,
+    t: u32,
+) -> Result<(), AllocError>
+    requires { suc t ≤ most_places }
+    ensures { OnOk result (Emits out.old.items out.new.items (keeping_closed (view_layout y.now) only (view code.now) (view_form held) (view_form form) t)) }
+{
+    if only {
+        left_over(y, out, code, form, t + 1)?;
+        released(y.alloc, y.bases, out, held, t)
+    } else {
+        released(y.alloc, y.bases, out, held, t)?;
+        moved_from(y.bases, out, form, t + 1, t)
     }
 }
 

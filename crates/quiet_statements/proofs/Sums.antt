@@ -17,7 +17,7 @@ use Rattle.mid_program.specs.Mid.{Answered, Bare, Code, Form, Global, Parameter,
 use Rattle.value_machine.specs.Arithmetic.{calculated}
 use Rattle.value_machine.specs.Emission.{Layout, emitted, all_emitted, slot_read, slot_set}
 use Rattle.value_machine.specs.Places.{Bases, handle_local, number_global, number_local}
-use Rattle.value_machine.specs.Small.{least, text_beside, to_number, zeroed}
+use Rattle.value_machine.specs.Small.{text_beside, to_number}
 use Rattle.value_refined.proofs.Putting.{set_there}
 use Rattle.quiet_statements.specs.Sums.{HasNoText, IsSum, IsSumOperator, constant, itself, joined, name}
 use Rattle.quiet_statements.proofs.Flowing.{Flows, branch, const64, ended, get, get_global, set, set_global, tee}
@@ -83,18 +83,15 @@ module _ (m : ProgramForm) (P : Conf → Type 0) (bs : List Bool) (base : Conf) 
   abbrev To : List LabelForm → List Word → List Word → Instructions → Type 0
   To K gs L code = Flows m P bs base K gs L [] code
 
-  zeroed_flows : {K : List LabelForm} {gs L : List Word} {k : Instructions} (t : ℕ) → To K gs L k → To K gs (slice_set L (number_local b t) (I64 0)) k →
-      To K gs L (zeroed b t k)
-  zeroed_flows t h g = number_is_flows m P bs base (number_local b t) least (λ w v e q. branch (λ j i z. const64 (set (λ f. ended g))) (λ j i z. ended h))
-
   to_number_flows : {K : List LabelForm} {gs : List Word} {k : Instructions} (f : Form) (t d : ℕ) (L : List Word) → Ready b f t L →
       ((M : List Word) → Others (number_local b t) L M → To K gs M k) → To K gs L (to_number b f t d k)
   to_number_flows (Answered (answer.Of sort.Number)) t d L r next = next L (others_same (number_local b t) L)
   to_number_flows Bare t d L r next =
-      number_is_flows m P bs base (number_local b t) text_beside (λ w v e q. branch
+      get (λ w v. const64 (compare (λ w1 v1. branch
+      (λ j1 i1 z1. number_is_flows m P bs base (number_local b t) text_beside (λ w v e q. branch
       (λ j i z. absurd (r (e ∙ ap Some (equal_word w v text_beside j q i z))))
-      (λ j i z. zeroed_flows t (ended (next L (others_same (number_local b t) L)))
-      (ended (next (slice_set L (number_local b t) (I64 0)) (others_set L (number_local b t) (I64 0))))))
+      (λ j i z. const64 (set (λ f. ended (ended (next (slice_set L (number_local b t) (I64 0)) (others_set L (number_local b t) (I64 0)))))))))
+      (λ j1 i1 z1. ended (next L (others_same (number_local b t) L))))))
   to_number_flows _ t d L r next = absurd r
 
   calculated_flows : {K : List LabelForm} {gs : List Word} {k : Instructions} (o : Arithmetic) (t d : ℕ) (L : List Word) → IsSumOperator o →

@@ -2,7 +2,7 @@
 use Rattle.std.proofs.Common.{◌≡◌, ℕ, zero, suc, ◌≤◌, Bool, true, false, ◌&&◌, ◌||◌, cond, nat_eq, nat_le, nat_lt, List, [], ◌∷◌, ◌++◌, refl, ap, ap₂, ◌∙◌, arith}
 use Rattle.std.proofs.lemmas.Bool.{and_from, le-leb, le-ltb, lt-ltb}
 use Rattle.std.proofs.lemmas.Option.{slice_get_within}
-use Rattle.std.specs.Prelude.{if◌then◌else◌, get_or}
+use Rattle.std.specs.Prelude.{if◌then◌else◌, get_or, Option, Some, None, ℤ}
 use Rattle.awk_values.specs.declared.comparison.CompareOp.{CompareOp}
 use Rattle.awk_state.specs.Table.{arguments_of, answer_of, can_fault}
 use Rattle.awk_state.specs.declared.sorts.Answer.{Answer}
@@ -28,7 +28,7 @@ use Rattle.mid_program.specs.Mid.{Kind, Boxed, Unboxed, Many, Slot, Global, Para
 use Rattle.mid_program.specs.Sorted.{count_of}
 use Rattle.value_machine.specs.Arithmetic.{calculated, compared, field_checked, is_value, may_be_text, numbers_compared, texts_beside, values_compared, zeroed_if}
 use Rattle.value_machine.specs.Boundaries.{is_nop}
-use Rattle.value_machine.specs.Emission.{Layout, all_appended, all_boxed, all_converted, all_emitted, all_freed, all_given, all_given_pushed, all_pushed, array_meant, array_pushed, asked, assigned, assigned_by_number, dropped, emitted, function_number, handle_stored, left_over, listed_asked, one_given, one_pushed, pending_assigned, performed, slot_read, slot_set, tested, text_kept, text_let_go, value_stored}
+use Rattle.value_machine.specs.Emission.{Layout, all_appended, all_boxed, all_converted, all_emitted, all_freed, all_given, all_given_pushed, all_pushed, array_meant, array_pushed, asked, assigned, assigned_by_number, bound_read, dropped, emitted, field_in, field_or, function_number, handle_stored, keeping_closed, left_over, listed_asked, one_given, one_pushed, pending_assigned, performed, sequence_closed, slot_read, slot_set, tested, text_kept, text_let_go, value_stored}
 use Rattle.value_machine.specs.Imports.{import_count, import_number, imports}
 use Rattle.value_machine.specs.Machine.{answers_to}
 use Rattle.value_machine.specs.Places.{Bases, made_in}
@@ -307,7 +307,27 @@ module _ (y : Layout) (asks : Bool) (most : ℕ) where
   module _ {k : Instructions} {m : List Instructions} where
     left_nops : (e : Code) (f : Form) (t : ℕ) → Nops l k m → Nops l (left_over y e f t k) m
     left_nops (Set x e) f t r = r
+    left_nops (Seq e c) f t r = r
+    left_nops (Let e c) f t r = r
+    left_nops (Bound i e) f t r = r
     left_nops e f t r = unused_nops b f t r
+
+    field_or_nops : {other : Instructions} (o : Option ℤ) (t : ℕ) → Nops l k m → Nops l other m → Nops l (field_or y o t k other) m
+    field_or_nops (Some z) t r q = record { are = r.are; calls = r.calls }
+    field_or_nops None t r q = q
+
+    bound_read_nops : (v z : Bool) (f : Form) (s t : ℕ) → Nops l k m → Nops l (bound_read y v z f s t k) m
+    bound_read_nops true z f s t r = r
+    bound_read_nops false z f s t r = bound_nops b z f s t r
+
+  module _ {k : Instructions} {m : List Instructions} where
+    sequence_nops : (v : Bool) (e : Code) (f : Form) (t : ℕ) → Nops l k m → Nops l (sequence_closed y v e f t k) m
+    sequence_nops true e f t r = left_nops e f t r
+    sequence_nops false e f t r = r
+
+    keeping_nops : (v : Bool) (e : Code) (g f : Form) (t : ℕ) → Nops l k m → Nops l (keeping_closed y v e g f t k) m
+    keeping_nops true e g f t r = left_nops e f (suc t) (released_nops b g t r)
+    keeping_nops false e g f t r = released_nops b g t (moved_nops b f (suc t) t r)
 
   module _ {k : Instructions} {m : List Instructions} where
     text_nops : (fs : List Form) (s : Code) (t : ℕ) → Nops l k m → Nops l (text_let_go y fs s t k) m
@@ -331,7 +351,7 @@ module _ (y : Layout) (asks : Bool) (most : ℕ) where
     unfolding emitted all_emitted
 
     pub emitted_nops : {k : Instructions} {m : List Instructions} (v : Bool) (fs : List Form) (ts : List ℕ) (e : Code) (t w d : ℕ) → (asks ≡ true → Few most t e) → Nops l k m → Nops l (emitted y v fs ts e t w d k) m
-    emitted_nops v fs ts (Do o es) t w d lo r = emits_nops fs ts es t w d lo (converts_nops fs (arguments o) es t d (performed_nops o es t d r))
+    emitted_nops v fs ts (Do o es) t w d lo r = field_or_nops (field_in o es) t r (emits_nops fs ts es t w d lo (converts_nops fs (arguments o) es t d (performed_nops o es t d r)))
     emitted_nops v fs ts (Over x es) t w d lo r = emits_nops fs ts es t w d lo (boxes_nops fs es t (appends_nops es t (listed_nops x (count_of es) t d r)))
     emitted_nops v fs ts (Compare c e f) t w d lo r =
         emitted_nops false fs ts e t w d (λ z. (lo z).0) (emitted_nops false fs ts f (suc t) w d (λ z. (lo z).1) (compared_nops b c (form_of fs e) (form_of fs f) t d r))
@@ -360,11 +380,11 @@ module _ (y : Layout) (asks : Bool) (most : ℕ) where
         emitted_nops false fs ts c t w d (λ z. (lo z).0) (truth_nops b (form_of fs c) t (choice
         (emitted_nops false fs ts e t w (suc d) (λ z. (lo z).1.0) (converted_nops b (form_of fs e) s t (suc d) none))
         (emitted_nops false fs ts f t w (suc d) (λ z. (lo z).1.1) (converted_nops b (form_of fs f) s t (suc d) none)) r))
-    emitted_nops v fs ts (Seq e f) t w d lo r = emitted_nops true fs ts e t w d (λ z. (lo z).0) (left_nops e (form_of fs e) t (emitted_nops false fs ts f t w d (λ z. (lo z).1) r))
+    emitted_nops v fs ts (Seq e f) t w d lo r = emitted_nops true fs ts e t w d (λ z. (lo z).0) (left_nops e (form_of fs e) t (emitted_nops v fs ts f t w d (λ z. (lo z).1) (sequence_nops v f (form_of fs f) t r)))
     emitted_nops v fs ts (Let e f) t w d lo r =
-        emitted_nops false fs ts e t w d (λ z. (lo z).0) (emitted_nops false (form_of fs e ∷ fs) (t ∷ ts) f (suc t) w d (λ z. (lo z).1)
-        (released_nops b (form_of fs e) t (moved_nops b (form_of (form_of fs e ∷ fs) f) (suc t) t r)))
-    emitted_nops v fs ts (Bound z i) t w d lo r = bound_nops b z (form_at fs i) (get_or ts i zero) t r
+        emitted_nops false fs ts e t w d (λ z. (lo z).0) (emitted_nops v (form_of fs e ∷ fs) (t ∷ ts) f (suc t) w d (λ z. (lo z).1)
+        (keeping_nops v f (form_of fs e) (form_of (form_of fs e ∷ fs) f) t r))
+    emitted_nops v fs ts (Bound z i) t w d lo r = bound_read_nops v z (form_at fs i) (get_or ts i zero) t r
 
     emits_nops : {k : Instructions} {m : List Instructions} (fs : List Form) (ts : List ℕ) (es : Codes) (t w d : ℕ) → (asks ≡ true → AllFew most t es) → Nops l k m → Nops l (all_emitted y fs ts es t w d k) m
     emits_nops fs ts End t w d lo r = r

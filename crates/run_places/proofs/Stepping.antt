@@ -13,7 +13,7 @@ use Rattle.value_machine.specs.Functions.{layout_of, main_bases, main_callee, ro
 use Rattle.value_machine.specs.Places.{Bases, answer_local}
 use Rattle.value_machine.specs.Quick.{Within, test_within, Source, Named, Constant, joined, all_unsure, Sum, sum_names, sum_in, Pair, pair_names, pair_in, step_jumps, is_nothing}
 use Rattle.value_machine.specs.Small.{ask_row, does, either}
-use Rattle.value_machine.specs.Statements.{name_read, source_pushed, quickly_dropped, left_unless_pair, left_unless, all_emptied, arrays_emptied, arrays_swept, before_parts, block, first_part, goes_on, iterator_left, iterators_emptied, iterators_swept, key_stored, left_by, main_body, names_declared, names_made, parameters_dropped, part_done, record_done, records_read, routine_body, routines_declared, started, step_emitted, steps_emitted, swept, temporaries_emptied, temporaries_swept}
+use Rattle.value_machine.specs.Statements.{name_read, source_pushed, quickly_dropped, left_unless_pair, left_unless, all_emptied, arrays_emptied, arrays_swept, before_parts, block, first_part, goes_on, has_functions, iterator_left, iterators_emptied, iterators_swept, key_stored, left_by, left_swept, main_body, names_declared, names_made, parameters_dropped, part_done, record_done, records_read, routine_body, routines_declared, started, step_emitted, steps_emitted, swept, temporaries_emptied, temporaries_swept}
 use Rattle.run_places.specs.Statements.{main_places, main_starts, routine_starts, starts_in, starts_of, step_starts, steps_starts}
 use Rattle.run_places.proofs.Nops.{Nops, array_nops, asked_nops, choice, dropped_nops, emitted_nops, kept_code_nops, kept_number_nops, none, pending_nops, plain, rounds, tested_nops, to_number_nops, to_value_nops}
 use Rattle.run_places.proofs.Pending.{Few, Limit, PartsFew, StepFew, StepsFew, calls_fit, limit_of}
@@ -164,6 +164,10 @@ module _ (y : Layout) (asks : Bool) (most : ℕ) where
   swept_nops : {k : Instructions} {m : List Instructions} → Nops l k m → Nops l (swept y k) m
   swept_nops r = temporaries_let_go zero b.temporaries (iterators_let_go zero b.iterators (arrays_let_go zero b.arrays r))
 
+  left_swept_nops : {k : Instructions} {m : List Instructions} (calls : Bool) → Nops l k m → Nops l (left_swept y calls k) m
+  left_swept_nops true r = swept_nops r
+  left_swept_nops false r = iterators_let_go zero b.iterators r
+
   parameters_nops : {k : Instructions} {m : List Instructions} (x : ℕ) (ks : List Kind) → Nops l k m → Nops l (parameters_dropped y x ks k) m
   parameters_nops x [] r = r
   parameters_nops x (Boxed ∷ ks) r = plain _ refl (plain _ refl (parameters_nops (suc x) ks r))
@@ -195,7 +199,7 @@ module _ (y : Layout) (asks : Bool) (most : ℕ) where
     started_nops r = plain _ refl (plain _ refl (plain _ refl (kept_number_nops b true zero zero r)))
 
     goes_nops : Nops l k m → Nops l (goes_on y k) m
-    goes_nops r = plain _ refl (plain _ refl (swept_nops r))
+    goes_nops r = plain _ refl (plain _ refl (left_swept_nops (has_functions y.calls) r))
 
   module _ {k : Instructions} {m : List Instructions} where
     record_nops : (items : Steps) (d : ℕ) → (asks ≡ true → StepsFew most items) → Nops l k m → Nops l (record_done y items d k) (steps_starts y items zero zero zero zero (does (Br 1) Done) ++ m)

@@ -1,10 +1,13 @@
 -- What a function holds is emptied and let go as the definitions say it, sort by sort.
-use Rattle.std.proofs.Common.{◌≡◌, ℕ, zero, suc, ◌+◌, ◌-◌, ◌<◌, refl, ap, ◌∙◌, arith}
+use Rattle.std.proofs.Common.{◌≡◌, ℕ, zero, suc, ◌+◌, ◌-◌, ◌<◌, Bool, true, false, not, nat_eq, List, [], ◌∷◌, length, map, refl, sym, ap, ◌∙◌, arith}
 use Rattle.wasm_types.specs.Syntax.{Instructions}
+use Rattle.mid_program.specs.Mid as plain
+use Rattle.mid_program.specs.View.{view_routine}
+use Rattle.mid_program.specs.declared.program.Routine.{Routine}
 use Rattle.value_machine.specs.Emission.{Layout}
 use Rattle.value_machine.specs.Places.{Bases, array_local, handle_local, iterator_local}
 use Rattle.value_machine.specs.Small.{emptied, let_go}
-use Rattle.value_machine.specs.Statements.{all_emptied, arrays_emptied, arrays_swept, iterators_emptied, iterators_swept, swept, temporaries_emptied, temporaries_swept}
+use Rattle.value_machine.specs.Statements.{all_emptied, arrays_emptied, arrays_swept, has_functions, iterators_emptied, iterators_swept, left_swept, swept, temporaries_emptied, temporaries_swept}
 use Rattle.value_machine.specs.declared.import.Import.TheVariants.{Drop, FreeArray, IterFree}
 use Rattle.statement_emission.specs.Holding.{held_emptied, held_import, held_local, held_swept}
 use Rattle.statement_emission.specs.declared.holding.Held.{Held}
@@ -63,3 +66,15 @@ pub held_emptied_all : (y : Layout) (k : Instructions) →
 held_emptied_all y k =
     ap (emptied y.bases.parameters) (temporaries_empty y zero y.bases.temporaries _
     ∙ ap (temporaries_emptied y zero y.bases.temporaries) (iterators_empty y zero y.bases.iterators _ ∙ ap (iterators_emptied y zero y.bases.iterators) (arrays_empty y zero y.bases.arrays k)))
+
+-- what `next` and `exit` left: all, or no more than iterators where there are no functions
+
+pub any_functions : (rs : List Routine) (none : Bool) → none ≡ nat_eq (length rs) 0 → has_functions (map (λ (r : plain.Routine). r.parameters) (map view_routine rs)) ≡ not none
+any_functions [] none e = ap not (sym e)
+any_functions (r ∷ rs) none e = ap not (sym e)
+
+pub iterators_left : (y : Layout) (calls : Bool) (k : Instructions) → calls ≡ false → held_swept Iterators y.bases zero y.bases.iterators k ≡ left_swept y calls k
+iterators_left y calls k e = iterators_sweep y zero y.bases.iterators k ∙ ap (λ (z : Bool). left_swept y z k) (sym e)
+
+pub all_left : (y : Layout) (calls : Bool) (k : Instructions) → calls ≡ true → swept y k ≡ left_swept y calls k
+all_left y calls k e = ap (λ (z : Bool). left_swept y z k) (sym e)

@@ -1,6 +1,6 @@
 //! What a function holds: emptied at its beginning, and let go on every way out.
 ghost use Rattle.std.specs.Prelude.{◌≡◌, ◌≤◌, OnOk};
-ghost use Rattle.value_machine.specs.Statements.{all_emptied, swept};
+ghost use Rattle.value_machine.specs.Statements.{all_emptied, has_functions, left_swept, swept};
 ghost use Rattle.code_emission.specs.Bounds.{most_places};
 ghost use Rattle.code_emission.specs.Emits.{Emits};
 ghost use Rattle.expression_emission.specs.View.{view_layout};
@@ -95,4 +95,15 @@ pub(crate) fn swept(y: &Layout<'_>, out: &mut Vec<Instr>) -> Result<(), AllocErr
     held_swept(y, out, Held::Temporaries)?;
     held_swept(y, out, Held::Iterators)?;
     held_swept(y, out, Held::Arrays)
+}
+
+/// Lets go of what `next` or `exit` left in `main`: where the script has no functions, that is no more than iterators.
+pub(crate) fn left_swept(y: &Layout<'_>, out: &mut Vec<Instr>) -> Result<(), AllocError>
+    ensures { OnOk result (Emits out.old.items out.new.items (left_swept (view_layout y.now) (has_functions (view_layout y.now).calls))) }
+{
+    if y.tables.routines().is_empty() {
+        held_swept(y, out, Held::Iterators)
+    } else {
+        swept(y, out)
+    }
 }

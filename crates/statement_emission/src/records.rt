@@ -9,7 +9,7 @@ ghost use Rattle.statement_emission.specs.Parts.{assignment_made, items_code, ne
 ghost use Rattle.statement_emission.specs.StepFits.{LoopFits, StepsFit};
 
 use crate::around::OUTERMOST;
-use crate::holding::swept;
+use crate::holding::left_swept;
 use crate::leaving::{WAY_NEXT, WAY_NONE};
 use crate::steps::statements;
 use awk_state::Primitive;
@@ -24,7 +24,7 @@ pub(crate) fn goes_on(y: &Layout<'_>, out: &mut Vec<Instr>) -> Result<(), AllocE
     ensures { OnOk result (Emits out.old.items out.new.items (goes_on (view_layout y.now))) }
 {
     does_all(out, &[Simple::I32Const(WAY_NONE), Simple::GlobalSet(0)])?;
-    swept(y, out)
+    left_swept(y, out)
 }
 
 /// Goes on after `next`; all else leads out.

@@ -28,7 +28,7 @@ use Rattle.value_machine.proofs.Regions.{upd_same, upd_other}
 use Rattle.value_machine.proofs.Locals.{Locals, Hand, Number as NumberAt, Array as Yard, local_of, with_at, has_with, laid, laid_at, laid_twice, laid_again}
 use Rattle.value_machine.proofs.Steps.{empty, get_moved, get_copied, tee_ok, moved_out_ok}
 use Rattle.value_machine.proofs.State.{bare, beside, bare_number, beside_number}
-use Rattle.value_machine.proofs.Relation.{HoldsAt, Meant, IsArray, ParamIs, array_at, kept_same, same_then, Sound, StopSound, left_to, answer_of, Fit, fit_loose, fit_hand, fit_array, fit_less, fit_more, Away}
+use Rattle.value_machine.proofs.Relation.{HoldsAt, Meant, IsArray, ParamIs, array_at, kept_same, same_then, Sound, StopSound, StopLeaves, left_to, answer_of, Fit, fit_loose, fit_hand, fit_array, fit_less, fit_more, Away}
 use Rattle.value_machine.proofs.Pieces.{free_array_ok, value_kept, value_failed}
 use Rattle.value_machine.proofs.Answers.{machine, beside_state, left_beside}
 use Rattle.value_machine.proofs.Arrays.{owner_at, array_pushed_ok}
@@ -373,8 +373,17 @@ module _ (p : Program) (deepest : Watch) (ks : List Kind) (F : List Frame) (b : 
   left_onward j w w' l c P Q1 Q (Stops (Returned v) σ) h f r = reaches_on (machine p deepest ks F) M j w w' l σ.turns c (Q1 (Returned v) σ) (Q (Returned v) σ) h (f (Returned v) σ) r
 
   -- what was not a value leaves the caller too
-  leaves_too : (t u y d : ℕ) (k : Instructions) (K : List Label) (l : Locals) (σ : State) (why : Stop) (σ1 : State) (c : Conf) → t < b.temporaries → Fit p deepest ks F t u y l σ → LeftCall K (laid b l) (kept_value b true t d k) why σ1 c → Onward (machine p deepest ks F) M 3 (Away p deepest ks F b d K why σ1) c
-  leaves_too t u y d k K l σ why σ1 c lt ft a = by why a
+  -- a script in which something is called has functions
+  stop_leaves : (why : Stop) (l : Locals) (σ : State) → (calls_of p ≡ [] → ⊥) → StopSound p deepest ks F why σ → StopLeaves p deepest ks F why l σ
+  stop_leaves Nexted l σ some h = (h, λ e. absurd (some e))
+  stop_leaves Exited l σ some h = (h, λ e. absurd (some e))
+  stop_leaves (Faulted f) l σ some h = h
+  stop_leaves (Returned v) l σ some h = h
+  stop_leaves OutOfTurns l σ some h = h
+  stop_leaves TooDeep l σ some h = h
+
+  leaves_too : (t u y d : ℕ) (k : Instructions) (K : List Label) (l : Locals) (σ : State) (why : Stop) (σ1 : State) (c : Conf) → (calls_of p ≡ [] → ⊥) → t < b.temporaries → Fit p deepest ks F t u y l σ → LeftCall K (laid b l) (kept_value b true t d k) why σ1 c → Onward (machine p deepest ks F) M 3 (Away p deepest ks F b d K why σ1) c
+  leaves_too t u y d k K l σ why σ1 c some lt ft a = by why a
     where
       l1 : Locals
       l1 = with_at l (Hand t) empty
@@ -390,7 +399,7 @@ module _ (p : Program) (deepest : Watch) (ks : List Kind) (F : List Frame) (b : 
           comes = sym (g _ _);
           loose = fit_loose p deepest ks F (suc t) u y l1 σ (fit_hand p deepest ks F t (suc t) u y l σ empty (inl refl) (omega arith) (fit_more p deepest ks F t u y l σ ft));
           answer = ft.answer ∙ sym e;
-          after = a.after;
+          after = stop_leaves why l1 σ1 some a.after;
         };
       }
 
@@ -479,5 +488,5 @@ module _ (p : Program) (deepest : Watch) (ks : List Kind) (F : List Frame) (b : 
         };
       })
       (left_onward 3 20 23 τ.turns _ (CameBack K (laid b z.next) k4 τ) (LeftCall K (laid b z.next) k4) Q (go_on (spent τ.turns τ) (λ x. noted_called deepest.notes p n f own)) (omega arith)
-      (λ why τ1 c2 q. leaves_too t u (made_past w es) d k5 K z.next τ why τ1 c2 (omega (arith, rm)) z.fit q)
+      (λ why τ1 c2 q. leaves_too t u (made_past w es) d k5 K z.next τ why τ1 c2 (λ e. let none = ap length e in omega (arith, none, fl)) (omega (arith, rm)) z.fit q)
       (calls f own z.words K (laid b z.next) k4 τ (omega (arith, fl, ln)) (waits_there p deepest ks F b M n t u (made_past w es) d k5 K z.next τ z.fit (walking_same p deepest ks F b M n (loops_walked K) u l z.next (λ x. z.under.iterators x ∙ (g.under.iterators x ∙ a.same.iterators x)) rd.walking) rd.parameters (omega (arith, rm)) (omega (arith, mw, none, fb))) (to_given pks K k4 g.next z.next pks own z.words z.under.arrays z.given) z.fit.sound (omega (arith, le, rd.turns))))))

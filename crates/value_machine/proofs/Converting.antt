@@ -1,6 +1,9 @@
 -- A temporary is converted in place, or the function is left; and the truth of a temporary.
-use Rattle.std.proofs.Common.{◌≡◌, ◌≢◌, inl, inr, ℕ, suc, ◌+◌, ◌<◌, Bool, true, false, List, [], ◌∷◌, Some, None, Option, Result, Ok, Err, refl, sym, ap, ◌∙◌, subst, arith}
-use Rattle.std.specs.Prelude.{◌^◌, ◌-◌}
+use Rattle.std.proofs.Common.{◌≡◌, ◌≢◌, inl, inr, ℕ, suc, ◌+◌, ◌<◌, ◌≤◌, Bool, true, false, List, [], ◌∷◌, Some, None, Option, Result, Ok, Err, ℤ, pos, negsuc, unsigned_abs, w64, refl, sym, ap, ◌∙◌, subst, arith}
+use Rattle.std.specs.Prelude.{◌^◌, ◌-◌, int_le}
+use Rattle.std.specs.Int.{cast_signed}
+use Rattle.std.proofs.lemmas.Bool.{lt-leb}
+use Rattle.std.proofs.lemmas.Int.{to_z-of_z}
 use Rattle.awk_values.specs.declared.fault.Fault.{Fault}
 use Rattle.awk_values.specs.declared.value.Value.{Value}
 use Rattle.awk_values.specs.declared.value.Value.TheVariants as value
@@ -12,9 +15,11 @@ use Rattle.awk_state.specs.declared.sorts.Sort.TheVariants as sort
 use Rattle.awk_state.specs.declared.sorts.Answer.TheVariants as answer
 use Rattle.awk_state.specs.declared.answers.InputAnswer.TheVariants as input
 use Rattle.awk_state.specs.declared.answers.CloseAnswer.TheVariants as close
-use Rattle.awk_state.proofs.Words.{number_again}
+use Rattle.awk_state.proofs.Words.{fits as word_fits, number_again, small}
 use Rattle.wasm_types.specs.Syntax.{Instructions, Done}
-use Rattle.wasm_types.specs.declared.instr.Simple.TheVariants.{LocalSet}
+use Rattle.wasm_types.specs.declared.instr.Simple.TheVariants.{I64Const, LocalSet}
+use Rattle.wasm_types.specs.declared.instr.IRelOp.TheVariants.{LeS}
+use Rattle.wasm_store.specs.Integers.{compare_at}
 use Rattle.wasm_store.specs.declared.word.Word.TheVariants.{I64}
 use Rattle.wasm_store.specs.Words.{flag}
 use Rattle.mid_program.specs.Mid.{Kind, Program, Form, Answered, Bare, Perhaps}
@@ -23,20 +28,20 @@ use Rattle.mid_program.specs.Sorted.{fits}
 use Rattle.mid_program.specs.Steps.{zero_number, one_number, minus_one, numeric, truth_number}
 use Rattle.mid_program.specs.ScriptState.{State, Faulted, Outcome, Gives, settled}
 use Rattle.value_machine.specs.Cells.{Cell, Bits, Held, is_owned}
-use Rattle.value_machine.specs.Machine.{Code, Conf, Label, Frame, at, br, label}
+use Rattle.value_machine.specs.Machine.{Code, Conf, Label, Frame, Store, at, br, label}
 use Rattle.value_machine.specs.Places.{Bases}
-use Rattle.value_machine.specs.Small.{does, ask_row, either, least, text_beside, moved_out, number_is, boxed_perhaps, zeroed, number_of_value, kept_number, h, n}
+use Rattle.value_machine.specs.Small.{does, ask_row, either, least, text_beside, moved_out, number_is, boxed_perhaps, number_of_value, number_made, unnumbered, kept_number, h, n}
 use Rattle.value_machine.specs.Small
 use Rattle.value_machine.proofs.Watch.{Watch}
-use Rattle.value_machine.proofs.Runs.{Goes, then_goes, goes_to, goes_from, stays, there, faulted, first, within, weaker, then_step, Onward}
+use Rattle.value_machine.proofs.Runs.{Goes, by_steps, then_goes, goes_to, goes_from, stays, there, faulted, first, within, weaker, then_step, Onward}
 use Rattle.value_machine.proofs.Regions.{upd_same, upd_other}
 use Rattle.value_machine.proofs.Locals.{Locals, Hand, Number as NumberAt, with_at, laid}
-use Rattle.value_machine.proofs.Steps.{empty, moved_out_ok}
+use Rattle.value_machine.proofs.Steps.{empty, get_copied, set_ok, moved_out_ok}
 use Rattle.value_machine.proofs.State.{bare, perhaps, word_not_least, word_not_beside}
 use Rattle.value_machine.proofs.Relation.{HoldsAt, Fit, fit_loose, fit_hand, fit_number, Away, away_out}
 use Rattle.value_machine.proofs.Pieces.{chooses, closes, number_is_ok, number_kept, number_failed}
 use Rattle.value_machine.proofs.Answers.{machine, beside_state, left_beside, reply, after_reply, Reached}
-use Rattle.value_machine.proofs.Conversions.{BareIs, IsBeside, IsNone, IsNumber, bare_is, ask_to_num, PerhapsIs, NoNumber, There, boxed_number_ok, boxed_perhaps_ok, Nought, Itself, zeroed_ok, code_number_ok}
+use Rattle.value_machine.proofs.Conversions.{BareIs, IsBeside, IsNone, IsNumber, bare_is, ask_to_num, PerhapsIs, NoNumber, There, boxed_number_ok, boxed_perhaps_ok, code_number_ok}
 
 -- the same but for one temporary
 pub record Keeps (t : ℕ) (l l1 : Locals) : Type 0 where
@@ -171,28 +176,51 @@ module _ (p : Program) (deepest : Watch) (ks : List Kind) (F : List Frame) (b : 
   pub own_number : (v : Value) (m : Number) → v ≡ value.Num m.number → number_of_row v ≡ Ok m
   own_number v m e = ap number_of_row e ∙ ap or_range (number_again m)
 
+  -- the words of numbers are above the two that are none
+  word_numbered : (x : Number) → compare_at w64 LeS (number_word x) text_beside ≡ false
+  word_numbered x = ap (λ z. int_le z (cast_signed w64 text_beside)) (to_z-of_z w64 x.number (word_fits x.number (small x))) ∙ by x.number (small x)
+    where
+      by : (z : ℤ) → unsigned_abs z ≤ 2 ^ 53 → int_le z (cast_signed w64 text_beside) ≡ false
+      by (pos k) e = refl
+      by (negsuc k) e = lt-leb (2 ^ 63 - 2) k (omega (arith, e))
+
+  unnumbered_ok : {K : List Label} {c : Instructions} {G : Store} → (l : Locals) (t m : ℕ) (f : Bool) → t < b.temporaries → l.number t ≡ Bits (I64 m) → compare_at w64 LeS m text_beside ≡ f →
+      Goes u 2 (at ks [] K (laid b l) F (unnumbered b t c) G) (at ks (Bits (flag f) ∷ []) K (laid b l) F c G)
+  unnumbered_ok {K = K} {c = c} {G = G} l t m f h e q =
+      then_goes (get_copied b l (NumberAt t) (Bits (I64 m)) h e refl) (goes_to (by_steps 1 refl) (ap (λ (o : Bool). at ks (Bits (flag o) ∷ []) K (laid b l) F c G) q))
+
   -- what an unboxed name has, as a number
   bare_numbered : (q i w t d : ℕ) (k : Instructions) (K : List Label) (l : Locals) (v : Value) (σ : State) → t < q → t < b.temporaries → Fit p deepest ks F q i w l σ → HoldsAt Bare t l v → BareIs v →
-      Reached p deepest ks F b M 10 σ.turns (at ks [] K (laid b l) F (Small.to_number b Bare t d k) (beside_state p deepest ks F σ)) (Converted q i w t (Answered (answer.Of sort.Number)) k K l) (Away p deepest ks F b d K) (settled (number_of_row v) σ)
+      Reached p deepest ks F b M 14 σ.turns (at ks [] K (laid b l) F (Small.to_number b Bare t d k) (beside_state p deepest ks F σ)) (Converted q i w t (Answered (answer.Of sort.Number)) k K l) (Away p deepest ks F b d K) (settled (number_of_row v) σ)
   bare_numbered q i w t d k K l v σ lq lt ft hd (IsBeside e e1) =
-      first u M 3 7 10 σ.turns _ _ (Converted q i w t (Answered (answer.Of sort.Number)) k K l) (Away p deepest ks F b d K) (settled (number_of_row v) σ)
-      (then_goes (number_is_ok b l t text_beside text_beside lt (hd.1 ∙ ap (λ m. Bits (I64 m)) e)) (chooses (number_of_value b t (suc d) Done) (zeroed b t Done) 1)) (omega arith)
-      (blocked 6 σ.turns d k K _ (Converted q i w t (Answered (answer.Of sort.Number)) Done (label [] None k ∷ K) l) (Converted q i w t (Answered (answer.Of sort.Number)) k K l) (settled (number_of_row v) σ)
-      (λ x τ c1 a. conv_closes q i w t (Answered (answer.Of sort.Number)) k K l x τ c1 a)
-      (value_numbered q i w t (suc d) Done (label [] None k ∷ K) l v σ lq lt ft (hd.0 ∙ e1)))
+      let K1 = label [] None k ∷ K in
+      let K2 = label [] None Done ∷ K1 in
+      let zero_put = does (I64Const 0) (does (LocalSet (n b t)) Done) in
+      let N = Answered (answer.Of sort.Number) in
+      let he = hd.1 ∙ ap (λ m. Bits (I64 m)) e in
+      first u M 6 8 14 σ.turns _ _ (Converted q i w t N k K l) (Away p deepest ks F b d K) (settled (number_of_row v) σ)
+      (then_goes (then_goes (unnumbered_ok l t text_beside true lt he refl) (chooses (number_made b t d Done) Done 1))
+      (then_goes (number_is_ok b l t text_beside text_beside lt he) (chooses (number_of_value b t (suc (suc d)) Done) zero_put 1))) (omega arith)
+      (blocked 7 σ.turns d k K _ (Converted q i w t N Done K1 l) (Converted q i w t N k K l) (settled (number_of_row v) σ)
+      (λ x τ c1 a. conv_closes q i w t N k K l x τ c1 a)
+      (blocked 6 σ.turns (suc d) Done K1 _ (Converted q i w t N Done K2 l) (Converted q i w t N Done K1 l) (settled (number_of_row v) σ)
+      (λ x τ c1 a. conv_closes q i w t N Done K1 l x τ c1 a)
+      (value_numbered q i w t (suc (suc d)) Done K2 l v σ lq lt ft (hd.0 ∙ e1))))
   bare_numbered q i w t d k K l v σ lq lt ft hd (IsNone e e1 e2) =
-      let x = zeroed_ok p deepest ks F b Done (label [] None k ∷ K) l t (bare v) σ zero_number lt hd.1 (Nought e1 refl) in
-      subst (λ r. Reached p deepest ks F b M 10 σ.turns (at ks [] K (laid b l) F (Small.to_number b Bare t d k) (beside_state p deepest ks F σ)) (Converted q i w t (Answered (answer.Of sort.Number)) k K l) (Away p deepest ks F b d K) (settled r σ)) (sym (none_number v e))
-      (there u M 10 (3 + (x.steps + 1)) _ _ zero_number σ (Converted q i w t (Answered (answer.Of sort.Number)) k K l) (Away p deepest ks F b d K)
-      (then_goes (then_goes (number_is_ok b l t least text_beside lt (hd.1 ∙ ap (λ m. Bits (I64 m)) e1)) (chooses (number_of_value b t (suc d) Done) (zeroed b t Done) 0)) (then_goes x.goes closes)) (omega (arith, x.few))
+      let zero_put = does (I64Const 0) (does (LocalSet (n b t)) Done) in
+      let he = hd.1 ∙ ap (λ m. Bits (I64 m)) e1 in
+      subst (λ r. Reached p deepest ks F b M 14 σ.turns (at ks [] K (laid b l) F (Small.to_number b Bare t d k) (beside_state p deepest ks F σ)) (Converted q i w t (Answered (answer.Of sort.Number)) k K l) (Away p deepest ks F b d K) (settled r σ)) (sym (none_number v e))
+      (there u M 14 9 _ _ zero_number σ (Converted q i w t (Answered (answer.Of sort.Number)) k K l) (Away p deepest ks F b d K)
+      (then_goes (then_goes (unnumbered_ok l t least true lt he refl) (chooses (number_made b t d Done) Done 1))
+      (then_goes (then_goes (number_is_ok b l t least text_beside lt he) (chooses (number_of_value b t (suc (suc d)) Done) zero_put 0))
+      (then_goes (set_ok b l (NumberAt t) (Bits (I64 0)) lt (ft.numbers t)) (then_goes closes closes)))) (omega arith)
       (conv_number q i w t k K l zero_number σ ft (hd.0 ∙ e2)))
   bare_numbered q i w t d k K l v σ lq lt ft hd (IsNumber m e e1 e2) =
-      let x = zeroed_ok p deepest ks F b Done (label [] None k ∷ K) l t (bare v) σ m lt hd.1 (Itself e1) in
-      subst (λ r. Reached p deepest ks F b M 10 σ.turns (at ks [] K (laid b l) F (Small.to_number b Bare t d k) (beside_state p deepest ks F σ)) (Converted q i w t (Answered (answer.Of sort.Number)) k K l) (Away p deepest ks F b d K) (settled r σ)) (sym (own_number v m e))
-      (there u M 10 (3 + (x.steps + 1)) _ _ m σ (Converted q i w t (Answered (answer.Of sort.Number)) k K l) (Away p deepest ks F b d K)
-      (then_goes (then_goes (goes_to (number_is_ok b l t (number_word m) text_beside lt (hd.1 ∙ ap (λ z. Bits (I64 z)) e1)) (ap (λ f. at ks (Bits (flag f) ∷ []) K (laid b l) F (either (number_of_value b t (suc d) Done) (zeroed b t Done) k) (beside_state p deepest ks F σ)) (word_not_beside m)))
-      (chooses (number_of_value b t (suc d) Done) (zeroed b t Done) 0)) (then_goes x.goes closes)) (omega (arith, x.few))
-      (conv_number q i w t k K l m σ ft (hd.0 ∙ e2)))
+      let he = hd.1 ∙ ap (λ z. Bits (I64 z)) e1 in
+      subst (λ r. Reached p deepest ks F b M 14 σ.turns (at ks [] K (laid b l) F (Small.to_number b Bare t d k) (beside_state p deepest ks F σ)) (Converted q i w t (Answered (answer.Of sort.Number)) k K l) (Away p deepest ks F b d K) (settled r σ)) (sym (own_number v m e))
+      (there u M 14 4 _ _ m σ (Converted q i w t (Answered (answer.Of sort.Number)) k K l) (Away p deepest ks F b d K)
+      (then_goes (unnumbered_ok l t (number_word m) false lt he (word_numbered m)) (then_goes (chooses (number_made b t d Done) Done 0) closes)) (omega arith)
+      (conv_self q i w t (Answered (answer.Of sort.Number)) k K l m σ ft (hd.0 ∙ e2, he)))
 
   coded : (q i w t d : ℕ) (k : Instructions) (K : List Label) (l : Locals) (x : Number) (σ : State) → Fit p deepest ks F q i w l σ → l.hand t ≡ empty →
       {c : Conf} → Goes u 7 c (at ks [] K (laid b (with_at l (NumberAt t) (Bits (I64 (number_word x))))) F k (beside_state p deepest ks F σ)) →
@@ -223,6 +251,6 @@ module _ (p : Program) (deepest : Watch) (ks : List Kind) (F : List Frame) (b : 
   converted_ok (Answered answer.Input) sort.Number input.Failed q i w t d k K l σ e lq lt ft hd = coded q i w t d k K l minus_one σ ft hd.0 (code_number_ok p deepest ks F b k K l t 3 (2 ^ 64 - 1) σ lt hd.1 (λ vs. refl))
   converted_ok (Answered answer.Close) sort.Number close.Closed q i w t d k K l σ e lq lt ft hd = coded q i w t d k K l zero_number σ ft hd.0 (code_number_ok p deepest ks F b k K l t 0 0 σ lt hd.1 (λ vs. refl))
   converted_ok (Answered answer.Close) sort.Number close.NothingOpen q i w t d k K l σ e lq lt ft hd = coded q i w t d k K l minus_one σ ft hd.0 (code_number_ok p deepest ks F b k K l t 3 (2 ^ 64 - 1) σ lt hd.1 (λ vs. refl))
-  converted_ok Bare sort.Number x q i w t d k K l σ e lq lt ft hd = within u M 10 16 σ.turns _ (Converted q i w t (Answered (answer.Of sort.Number)) k K l) (Away p deepest ks F b d K) (settled (number_of_row x) σ) (omega arith) (bare_numbered q i w t d k K l x σ lq lt ft hd (bare_is x))
+  converted_ok Bare sort.Number x q i w t d k K l σ e lq lt ft hd = within u M 14 16 σ.turns _ (Converted q i w t (Answered (answer.Of sort.Number)) k K l) (Away p deepest ks F b d K) (settled (number_of_row x) σ) (omega arith) (bare_numbered q i w t d k K l x σ lq lt ft hd (bare_is x))
   converted_ok (Answered (answer.Of sort.Array)) sort.Array x q i w t d k K l σ e lq lt ft hd = there u M 16 0 _ _ x σ (Converted q i w t (Answered (answer.Of sort.Array)) k K l) (Away p deepest ks F b d K) stays (omega arith) (conv_self q i w t (Answered (answer.Of sort.Array)) k K l x σ ft hd)
   converted_ok f s x q i w t d k K l σ e lq lt ft hd = cc

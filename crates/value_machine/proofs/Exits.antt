@@ -12,7 +12,7 @@ use Rattle.value_machine.specs.Functions.{layout_of}
 use Rattle.value_machine.specs.Machine.{Code, Label, Frame, Store, at, guarded, leave_function}
 use Rattle.value_machine.specs.Places.{Bases, answer_local, iterator_local, array_local}
 use Rattle.value_machine.specs.Small.{does, emptied, let_go, h}
-use Rattle.value_machine.specs.Statements.{temporaries_emptied, iterators_emptied, arrays_emptied, temporaries_swept, iterators_swept, arrays_swept, swept, parameters_dropped}
+use Rattle.value_machine.specs.Statements.{temporaries_emptied, iterators_emptied, arrays_emptied, temporaries_swept, iterators_swept, arrays_swept, swept, left_swept, has_functions, parameters_dropped}
 use Rattle.value_machine.specs.declared.import.Import.{Import}
 use Rattle.value_machine.specs.declared.import.Import.TheVariants.{Drop, IterFree, FreeArray}
 use Rattle.value_machine.proofs.Watch.{Watch}
@@ -209,6 +209,28 @@ module _ (p : Program) (deepest : Watch) (ks : List Kind) (F : List Frame) (b : 
       (λ x l1 k1 lt q. let_go_empties b K G IterFree (Iterator x) l1 k1 (let_go_walk b (Iterator x) K l1 k1 G lt q))
       (λ x l1 k1 lt q. let_go_empties b K G FreeArray (Array x) l1 k1 (let_go_yard b (Array x) K l1 k1 G lt q))
       lo.hands lo.walks lo.yards)
+
+  -- the same where no function is called, and temporaries and arrays hold nothing
+  pub left_sweep_ok : (cs : List (List Kind)) (K : List Label) (G : Store) (l : Locals) (k : Instructions) → Loose p deepest ks F l → (cs ≡ [] → ((x : ℕ) → l.hand x ≡ empty) × ((x : ℕ) → l.array x ≡ empty)) →
+      Cleared (machine p deepest ks F) ks F b K G (8 * (b.temporaries + (b.iterators + b.arrays))) l (left_swept y (has_functions cs) k) k
+  left_sweep_ok (c ∷ cs) K G l k lo none = sweep_ok K G l k lo
+  left_sweep_ok [] K G l k lo none =
+      let g : ℕ → Instructions → Instructions = λ x. let_go IterFree (iterator_local b x) in
+      let held = none refl in
+      let c = clear b K G Iterator iterator_one IsWalk (inl refl) g b.iterators (λ x l1 k1 lt q. let_go_empties b K G IterFree (Iterator x) l1 k1 (let_go_walk b (Iterator x) K l1 k1 G lt q)) zero b.iterators l k (omega arith) lo.walks in
+      cleared_by (8 * (b.temporaries + (b.iterators + b.arrays))) l (left_swept y false k) (in_order g zero b.iterators k) k (walks_swept zero b.iterators k)
+      (record {
+        next = c.next;
+        steps = c.steps;
+        few = let q = c.few in omega (arith, q);
+        goes = c.goes;
+        hands = λ x lt. c.others (Hand x) (λ z lz q. cc) ∙ held.0 x;
+        iterators = λ x lt. c.empties x (omega arith) (omega (arith, lt));
+        arrays = λ x lt. c.others (Array x) (λ z lz q. cc) ∙ held.1 x;
+        numbers = λ x. c.others (Number x) (λ z lz q. cc);
+        params = λ x. c.others (Param x) (λ z lz q. cc);
+        answer = c.others Answer (λ z lz q. cc);
+      })
 
   -- at a function's beginning they are emptied, and its answer too
   pub begin_ok : (K : List Label) (G : Store) (l : Locals) (k : Instructions) → is_owned l.answer ≡ false → ((x : ℕ) → is_owned (l.hand x) ≡ false) → ((x : ℕ) → is_owned (l.iterator x) ≡ false) → ((x : ℕ) → is_owned (l.array x) ≡ false) →

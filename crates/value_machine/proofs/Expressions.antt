@@ -1,5 +1,5 @@
 -- Expressions, construct by construct: each does what it means if its parts do.
-use Rattle.std.proofs.Common.{◌≡◌, ℕ, ◌+◌, ◌^◌, Bool, true, false, List, refl, sym, ap, subst, arith, w64, T, unsigned_abs, nat_le}
+use Rattle.std.proofs.Common.{◌≡◌, ℕ, ◌+◌, ◌^◌, Bool, true, false, List, [], Option, None, refl, sym, ap, subst, arith, w64, T, unsigned_abs, nat_le}
 use Rattle.std.specs.Prelude.{◌&&◌, ℤ}
 use Rattle.std.specs.Int.{cast_unsigned}
 use Rattle.std.proofs.lemmas.Bool.{and_parts}
@@ -13,16 +13,16 @@ use Rattle.mid_program.specs.Mid.{Kind, Program, Form, Answered, Code, Do, Codes
 use Rattle.mid_program.specs.MidMeaning.{Holds, Env, evaluated, all_evaluated, or_zero}
 use Rattle.mid_program.specs.ScriptState.{State, does, or_fault}
 use Rattle.mid_program.specs.Sorted.{Held as Standing, sorted, all_sorted, held_after, is_operation, fit_row}
-use Rattle.value_machine.specs.Emission.{array_meant, emitted, all_emitted}
-use Rattle.value_machine.specs.Machine.{Conf, Label, Frame}
+use Rattle.value_machine.specs.Emission.{array_meant, emitted, all_emitted, all_converted, performed, field_in, field_or}
+use Rattle.value_machine.specs.Machine.{Conf, Label, Frame, at}
 use Rattle.value_machine.specs.Places.{Bases}
 use Rattle.value_machine.specs.Small.{kept}
 use Rattle.value_machine.proofs.Watch.{Watch}
 use Rattle.value_machine.proofs.Runs.{first, weaker_settled}
-use Rattle.value_machine.proofs.Locals.{Locals}
+use Rattle.value_machine.proofs.Locals.{Locals, laid}
 use Rattle.value_machine.proofs.Relation.{Meant, Kept, kept_same, Below, Same, same_then, SameOwn, Away}
-use Rattle.value_machine.proofs.Answers.{machine, done_by, Put}
-use Rattle.value_machine.proofs.Simulation.{work_of, past_room, gives_away, StandsAt, context, Done, ExprOk, CodesOk}
+use Rattle.value_machine.proofs.Answers.{machine, beside_state, done_by, Put, Reached}
+use Rattle.value_machine.proofs.Simulation.{work_of, past_room, gives_away, StandsAt, context, layout, meant, Done, ExprOk, CodesOk}
 use Rattle.value_machine.proofs.Arguments.{push_work}
 use Rattle.value_machine.proofs.HostCalls.{operation_takes, operation_in_turn, operation_quiet, operation_plain, extra_enough, plain_meant, row_then, host_asked}
 
@@ -46,17 +46,23 @@ module _ (p : Program) (deepest : Watch) (ks : List Kind) (F : List Frame) (b : 
     meant = m;
   }
 
-  pub do_host : (q : Primitive) (es : Codes) → CodesOk p deepest ks F b M n es → ExprOk p deepest ks F b M n (Do (Host q) es)
+  -- an operation of the host, if it is not the reading of a field whose number is a constant
+  pub host_expr : (q : Primitive) (es : Codes) → CodesOk p deepest ks F b M n es → field_in (Host q) es ≡ None → ExprOk p deepest ks F b M n (Do (Host q) es)
   unfolding emitted all_emitted evaluated all_evaluated sorted all_sorted
-  do_host q es ok v fs env ts st t u w d k K l σ so us rm ar rd =
+  host_expr q es ok none v fs env ts st t u w d k K l σ so us rm ar rd =
+      let y = layout p deepest ks F b M n in
       let s1 = and_parts (is_operation q) (fit_row fs (arguments_of q) es && all_sorted (context p deepest ks F b M n) fs es) so in
       let s2 = and_parts (fit_row fs (arguments_of q) es) (all_sorted (context p deepest ks F b M n) fs es) s1.1 in
       let ee = extra_enough es in
       let pr = past_room t es in
-      row_then p deepest ks F b M n (arguments_of q) es ok fs env ts st t u w d _ K l σ (push_work es + 5) (work_of (Do (Host q) es)) (Done p deepest ks F b M n v (Do (Host q) es) fs env ts st t u w k K l σ) (λ r. does q r)
+      let P = Done p deepest ks F b M n v (Do (Host q) es) fs env ts st t u w k K l σ in
+      let Q = Away p deepest ks F b d K in
+      let A = all_emitted y fs ts es t w d (all_converted y fs (arguments_of q) es t d (performed y (Host q) es t d k)) in
+      subst (λ (o : Option ℤ). Reached p deepest ks F b M (work_of (Do (Host q) es)) σ.turns (at ks [] K (laid b l) F (field_or y o t k A) (beside_state p deepest ks F σ)) P Q (meant p deepest ks F b M n fs env (Do (Host q) es) σ)) (sym none)
+      (row_then p deepest ks F b M n (arguments_of q) es ok fs env ts st t u w d _ K l σ (push_work es + 5) (work_of (Do (Host q) es)) P (λ r. does q r)
       s2.0 s2.1 us (omega (arith, rm)) ar rd (omega (arith, ee))
       (λ r τ c le a.
-      first (machine p deepest ks F) M 0 (push_work es + 5) (push_work es + 5) τ.turns c _ (Done p deepest ks F b M n v (Do (Host q) es) fs env ts st t u w k K l σ) (Away p deepest ks F b d K) (does q r τ) (record { it = a.comes }) (omega arith)
-      (weaker_settled (machine p deepest ks F) M (push_work es + 5) _ (done_by p deepest ks F q r τ) (Put p deepest ks F b t u w (Answered (answer_of q)) k K a.next) (Done p deepest ks F b M n v (Do (Host q) es) fs env ts st t u w k K l σ) (Away p deepest ks F b d K) (or_fault (can_fault q) (meaning q r τ.shared).answer)
+      first (machine p deepest ks F) M 0 (push_work es + 5) (push_work es + 5) τ.turns c _ P Q (does q r τ) (record { it = a.comes }) (omega arith)
+      (weaker_settled (machine p deepest ks F) M (push_work es + 5) _ (done_by p deepest ks F q r τ) (Put p deepest ks F b t u w (Answered (answer_of q)) k K a.next) P Q (or_fault (can_fault q) (meaning q r τ.shared).answer)
       (λ x c1 put. put_done (Do (Host q) es) v fs env ts st t u w k K l a.next σ (done_by p deepest ks F q r τ) x c1 rd.below a.same a.own a.kept refl (plain_meant p deepest ks F b M n (answer_of q) x (array_meant (Do (Host q) es)) (done_by p deepest ks F q r τ) (operation_plain q s1.0)) put)
-      (host_asked p deepest ks F b M n q es fs t u w d k K a.next τ r (operation_takes q s1.0) (operation_in_turn q r τ.shared s1.0) (operation_quiet q s1.0) (operation_plain q s1.0) s2.0 rd.parameters (omega (arith, pr, rm)) (omega (arith, rm)) a.fit a.row)))
+      (host_asked p deepest ks F b M n q es fs t u w d k K a.next τ r (operation_takes q s1.0) (operation_in_turn q r τ.shared s1.0) (operation_quiet q s1.0) (operation_plain q s1.0) s2.0 rd.parameters (omega (arith, pr, rm)) (omega (arith, rm)) a.fit a.row))))

@@ -171,10 +171,10 @@ module _ (p : Program) (deepest : Watch) where
         (λ c1 q. exits (left_beside p deepest js (f ∷ F) (Faulted x) σ) q.next empty c1 (Lost f F (Faulted x) (record σ { own = own })) q.loose q.answer q.comes (record { comes = refl; after = tt })) h
     came w m c l0 (Stops Nexted σ) h =
         reaches_on (machine p deepest js (f ∷ F)) M (exit_work b) w (w + (exit_work b + 3)) m σ.turns c _ (Lost f F Nexted (record σ { own = own })) (omega arith)
-        (λ c1 q. exits (left_beside p deepest js (f ∷ F) Nexted σ) q.next empty c1 (Lost f F Nexted (record σ { own = own })) q.loose q.answer q.comes (record { comes = refl; after = sound_back σ q.after })) h
+        (λ c1 q. exits (left_beside p deepest js (f ∷ F) Nexted σ) q.next empty c1 (Lost f F Nexted (record σ { own = own })) q.loose q.answer q.comes (record { comes = refl; after = sound_back σ q.after.0 })) h
     came w m c l0 (Stops Exited σ) h =
         reaches_on (machine p deepest js (f ∷ F)) M (exit_work b) w (w + (exit_work b + 3)) m σ.turns c _ (Lost f F Exited (record σ { own = own })) (omega arith)
-        (λ c1 q. exits (left_beside p deepest js (f ∷ F) Exited σ) q.next empty c1 (Lost f F Exited (record σ { own = own })) q.loose q.answer q.comes (record { comes = refl; after = sound_back σ q.after })) h
+        (λ c1 q. exits (left_beside p deepest js (f ∷ F) Exited σ) q.next empty c1 (Lost f F Exited (record σ { own = own })) q.loose q.answer q.comes (record { comes = refl; after = sound_back σ q.after.0 })) h
     came w m c l0 (Stops TooDeep σ) h =
         reaches_on (machine p deepest js (f ∷ F)) M 0 w (w + (exit_work b + 3)) m σ.turns c _ (Lost f F TooDeep (record σ { own = own })) (omega arith)
         (λ c1 q. record { conf = c1; steps = 0; few = omega arith; goes = stays; holds = record { comes = q.comes; after = tt } }) h

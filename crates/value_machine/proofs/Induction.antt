@@ -9,7 +9,7 @@ use Rattle.value_machine.proofs.Watch.{Watch}
 use Rattle.value_machine.proofs.Simulation.{ExprOk, CodesOk}
 use Rattle.value_machine.proofs.Operands.{codes_end, codes_at, codes_fixed}
 use Rattle.value_machine.proofs.Making.{codes_fresh}
-use Rattle.value_machine.proofs.Expressions.{do_host}
+use Rattle.value_machine.proofs.Fields.{do_host}
 use Rattle.value_machine.proofs.Numbers.{do_as_number, do_field_number}
 use Rattle.value_machine.proofs.Leaves.{number_expr, unset_expr, open_expr, array_expr}
 use Rattle.value_machine.proofs.Texts.{text_expr, get_bare_global, get_bare_parameter}

@@ -28,7 +28,7 @@ use Rattle.value_machine.proofs.GlobalSteps.{global_set_ok, storing}
 use Rattle.value_machine.proofs.Locals.{Locals, Hand, Number as NumberAt, Answer, with_at, laid}
 use Rattle.value_machine.proofs.Steps.{empty, get_copied, set_ok, moved_out_ok}
 use Rattle.value_machine.proofs.State.{cells_of, host_of, gone}
-use Rattle.value_machine.proofs.Relation.{Fit, fit_hand, fit_loose, Away}
+use Rattle.value_machine.proofs.Relation.{Fit, fit_hand, fit_less, fit_loose, fit_holds_none, Away}
 use Rattle.value_machine.proofs.Answers.{machine, beside_state}
 use Rattle.value_machine.proofs.Converting.{Converted, converted_ok}
 use Rattle.value_machine.proofs.Simulation.{work_of, context, meant, Done, ExprOk, room_one, still_stands}
@@ -81,14 +81,14 @@ module _ (p : Program) (deepest : Watch) (ks : List Kind) (F : List Frame) (b : 
   next_step r lo u d bk ct k K l σ so rm it ar wk s =
       let Q = Away p deepest ks F b d K in
       begun_step p deepest ks F b M n _ 3 4 u K l σ (StepDone p deepest ks F b M n lo u bk ct k K l) Q (plain_meant p deepest ks F b M n Next) (omega arith) s
-      (λ τ s1. left_in 3 2 τ.turns _ _ (Q Nexted τ) (leaves_by way_next d τ) (omega arith) (record { next = l; comes = refl; loose = fit_loose p deepest ks F 0 u 0 l τ s1.fit; answer = s1.fit.answer; after = s1.fit.sound }))
+      (λ τ s1. left_in 3 2 τ.turns _ _ (Q Nexted τ) (leaves_by way_next d τ) (omega arith) (record { next = l; comes = refl; loose = fit_loose p deepest ks F 0 u 0 l τ s1.fit; answer = s1.fit.answer; after = (s1.fit.sound, fit_holds_none p deepest ks F u l τ s1.fit) }))
 
   pub exit_step : StepOk p deepest ks F b M n Exit
   unfolding step_emitted steps_emitted step_noted steps_noted stepped step_sorted steps_sorted
   exit_step r lo u d bk ct k K l σ so rm it ar wk s =
       let Q = Away p deepest ks F b d K in
       begun_step p deepest ks F b M n _ 3 4 u K l σ (StepDone p deepest ks F b M n lo u bk ct k K l) Q (plain_meant p deepest ks F b M n Exit) (omega arith) s
-      (λ τ s1. left_in 3 2 τ.turns _ _ (Q Exited τ) (leaves_by way_exit d τ) (omega arith) (record { next = l; comes = refl; loose = fit_loose p deepest ks F 0 u 0 l τ s1.fit; answer = s1.fit.answer; after = s1.fit.sound }))
+      (λ τ s1. left_in 3 2 τ.turns _ _ (Q Exited τ) (leaves_by way_exit d τ) (omega arith) (record { next = l; comes = refl; loose = fit_loose p deepest ks F 0 u 0 l τ s1.fit; answer = s1.fit.answer; after = (s1.fit.sound, fit_holds_none p deepest ks F u l τ s1.fit) }))
 
   -- the status is told too
   exits_with : {k : Instructions} {K : List Label} → (d : ℕ) (l : Locals) (m : Number) (σ : State) → zero < b.temporaries → l.number zero ≡ Bits (I64 (number_word m)) →
@@ -125,7 +125,7 @@ module _ (p : Program) (deepest : Watch) (ks : List Kind) (F : List Frame) (b : 
         comes = refl;
         loose = fit_loose p deepest ks F 1 u zero a.next τ a.fit;
         answer = a.fit.answer;
-        after = record { room = a.fit.sound.room; names = a.fit.sound.names; calm = a.fit.sound.calm };
+        after = (record { room = a.fit.sound.room; names = a.fit.sound.names; calm = a.fit.sound.calm }, fit_holds_none p deepest ks F u a.next τ (fit_less p deepest ks F zero u zero a.next τ a.holds.0 a.fit));
       })))))
 
   pub return_step : (e : Code) → ExprOk p deepest ks F b M n e → StepOk p deepest ks F b M n (Return e)

@@ -1,16 +1,16 @@
 -- What is evaluated first is dropped, or kept while something else is evaluated.
-use Rattle.std.proofs.Common.{◌≡◌, ◌≢◌, inl, ℕ, zero, suc, ◌+◌, ◌<◌, ◌≤◌, true, false, List, [], ◌∷◌, length, refl, sym, ap, ◌∙◌, subst, arith}
+use Rattle.std.proofs.Common.{◌≡◌, ◌≢◌, inl, ℕ, zero, suc, ◌+◌, ◌<◌, ◌≤◌, Bool, true, false, List, [], ◌∷◌, length, refl, sym, ap, ◌∙◌, subst, arith}
 use Rattle.std.specs.Prelude.{◌&&◌}
 use Rattle.std.proofs.lemmas.Bool.{and_parts}
 use Rattle.awk_state.specs.declared.sorts.Answer.TheVariants as answer
 use Rattle.awk_state.specs.declared.sorts.Sort.TheVariants as sort
 use Rattle.wasm_types.specs.Syntax.{Instructions}
-use Rattle.mid_program.specs.Mid.{Kind, Program, Form, Answered, Bare, Code, Set, Seq, Let, form_of, form_at}
+use Rattle.mid_program.specs.Mid.{Kind, Program, Form, Answered, Bare, Code, Set, Seq, Let, Bound, form_of, form_at}
 use Rattle.mid_program.specs.MidMeaning.{Holds, Env, evaluated, all_evaluated}
 use Rattle.mid_program.specs.ScriptState.{State}
 use Rattle.mid_program.specs.Sorted.{Held as Standing, There, Moved, Misused, sorted, all_sorted, held_after, is_well_used, is_dropped, is_kept, keeps_well}
 use Rattle.value_machine.specs.Cells.{Cell, Bits, Held, IteratorOf, OwnedArray, LentArray, Gone, is_owned, left_by}
-use Rattle.value_machine.specs.Emission.{emitted, all_emitted, left_over}
+use Rattle.value_machine.specs.Emission.{emitted, all_emitted, left_over, sequence_closed, keeping_closed}
 use Rattle.value_machine.specs.Machine.{Conf, Label, Frame, at, loops_walked}
 use Rattle.value_machine.specs.Places.{Bases}
 use Rattle.value_machine.specs.Small.{unused, released, moved_from, number_copied, let_go, h, moved}
@@ -20,12 +20,12 @@ use Rattle.value_machine.proofs.Runs.{Goes, then_goes, stays, goes_from, first, 
 use Rattle.value_machine.proofs.Regions.{upd_same, upd_other}
 use Rattle.value_machine.proofs.Locals.{Locals, Hand, Number as NumberAt, with_at, laid}
 use Rattle.value_machine.proofs.Steps.{empty, set_ok, get_copied, moved_out_ok}
-use Rattle.value_machine.proofs.Relation.{IsHand, HoldsAt, hand_of, WordIs, LeftBy, hand_left, KeptAs, kept_same, Same, same_then, Fit, fit_less, fit_hand, fit_number, Away}
+use Rattle.value_machine.proofs.Relation.{IsHand, HoldsAt, hand_of, WordIs, LeftBy, hand_left, KeptAs, kept_same, Same, same_then, Fit, fit_less, fit_more, fit_hand, fit_number, Away}
 use Rattle.value_machine.proofs.Pieces.{drop_ok, let_go_hand}
 use Rattle.value_machine.proofs.Answers.{machine, beside_state}
 use Rattle.value_machine.proofs.Simulation.{work_of, gives_away, StandsAt, still_stands, layout, context, meant, Done, ExprOk, room_one, NoArray, walking_same}
 use Rattle.value_machine.proofs.Operands.{holds_same, well_before}
-use Rattle.value_machine.proofs.Arguments.{Under, under_keeps, under_same}
+use Rattle.value_machine.proofs.Arguments.{Under, under_self, under_keeps, under_same}
 use Rattle.value_machine.proofs.Converting.{Keeps, keeps_self, keeps_hand}
 
 pub unowned_left : (c : Cell) → is_owned c ≡ false → left_by c ≡ c
@@ -94,7 +94,26 @@ module _ (p : Program) (deepest : Watch) (ks : List Kind) (F : List Frame) (b : 
 
   pub left_ok : (a : Code) (f : Form) (x : Holds f) (t u w : ℕ) (k : Instructions) (K : List Label) (l : Locals) (σ : State) → t < b.temporaries → Fit p deepest ks F (suc t) u w l σ → StandsAt (gives_away a true) f t l x → Freed t u w 8 (at ks [] K (laid b l) F (left_over (layout p deepest ks F b M n) a f t k) (beside_state p deepest ks F σ)) k K l σ
   left_ok (Set y e) f x t u w k K l σ lt ft q = freed_self t u w 8 k K l σ ft q
+  left_ok (Seq y e) f x t u w k K l σ lt ft q = freed_self t u w 8 k K l σ ft q
+  left_ok (Let y e) f x t u w k K l σ lt ft q = freed_self t u w 8 k K l σ ft q
+  left_ok (Bound y e) f x t u w k K l σ lt ft q = freed_self t u w 8 k K l σ ft q
   left_ok _ f x t u w k K l σ lt ft q = unused_ok f x t u w k K l σ lt ft q
+
+  -- the end of a sequence: its answer stays, or is dropped
+  record SequenceClosed (v : Bool) (c : Code) (f : Form) (x : Holds f) (t u w : ℕ) (k : Instructions) (K : List Label) (l : Locals) (σ : State) : Type 0 where
+    next : Locals
+    steps : ℕ
+    few : steps ≤ 8
+    goes : Goes (machine p deepest ks F) steps (at ks [] K (laid b l) F (sequence_closed (layout p deepest ks F b M n) v c f t k) (beside_state p deepest ks F σ)) (at ks [] K (laid b next) F k (beside_state p deepest ks F σ))
+    fit : Fit p deepest ks F (suc t) u w next σ
+    stands : StandsAt v f t next x
+    under : Under t l next
+
+  sequence_ends : (v : Bool) (c : Code) (f : Form) (x : Holds f) (t u w : ℕ) (k : Instructions) (K : List Label) (l : Locals) (σ : State) → t < b.temporaries → Fit p deepest ks F (suc t) u w l σ → StandsAt (gives_away c v) f t l x → SequenceClosed v c f x t u w k K l σ
+  sequence_ends true c f x t u w k K l σ lt ft q =
+      let g = left_ok c f x t u w k K l σ lt ft q in
+      record { next = g.next; steps = g.steps; few = g.few; goes = g.goes; fit = fit_more p deepest ks F t u w g.next σ g.fit; stands = g.hand; under = under_keeps t t l g.next (omega arith) g.keeps }
+  sequence_ends false c f x t u w k K l σ lt ft q = record { next = l; steps = 0; few = omega arith; goes = stays; fit = ft; stands = still_stands c f t l x q; under = under_self t l }
 
   pub seq_expr : (a c : Code) → ExprOk p deepest ks F b M n a → ExprOk p deepest ks F b M n c → ExprOk p deepest ks F b M n (Seq a c)
   unfolding emitted all_emitted evaluated all_evaluated sorted all_sorted
@@ -106,27 +125,35 @@ module _ (p : Program) (deepest : Watch) (ks : List Kind) (F : List Frame) (b : 
       let st1 : ℕ → Standing = λ i. held_after i a (st i) in
       let s1 = and_parts (is_dropped (form_of fs a)) (sorted ctx fs a && sorted ctx fs c) so in
       let s2 = and_parts (sorted ctx fs a) (sorted ctx fs c) s1.1 in
-      let k2 = emitted (layout p deepest ks F b M n) false fs ts c t w d k in
+      let k3 = sequence_closed (layout p deepest ks F b M n) v c (form_of fs c) t k in
+      let k2 = emitted (layout p deepest ks F b M n) v fs ts c t w d k3 in
       let k1 = left_over (layout p deepest ks F b M n) a (form_of fs a) t k2 in
       let r1 = room_one a in
-      then_on mach M (work_of a) (8 + work_of c) (work_of (Seq a c)) σ.turns _ (Done p deepest ks F b M n true a fs env ts st t u w k1 K l σ) P Q (meant p deepest ks F b M n fs env a σ) _ (omega arith)
+      then_on mach M (work_of a) (16 + work_of c) (work_of (Seq a c)) σ.turns _ (Done p deepest ks F b M n true a fs env ts st t u w k1 K l σ) P Q (meant p deepest ks F b M n fs env a σ) _ (omega arith)
       (oka true fs env ts st t u w d k1 K l σ s2.0 (λ i lt. well_before i c (st1 i) (us i lt)) (omega (arith, rm)) (omega (arith, ar)) rd)
       (λ x τ c1 le h.
       let g = left_ok a (form_of fs a) x t u w k2 K h.next τ (omega (arith, rm, r1)) h.fit h.stands in
-      first mach M g.steps (work_of c) (8 + work_of c) τ.turns c1 _ P Q _ (goes_from h.comes g.goes) (omega (arith, g.few))
-      (weaker mach M (work_of c) τ.turns _ (Done p deepest ks F b M n false c fs env ts st1 t u w k K g.next τ) P Q Q (meant p deepest ks F b M n fs env c τ)
-      (λ y τ1 c2 h2. record {
-        next = h2.next;
-        comes = h2.comes;
-        fit = h2.fit;
-        same = same_then ts t t w w l g.next h2.next (omega arith) (omega arith) (same_then ts t t w w l h.next g.next (omega arith) (omega arith) h.same (under_same ts t w h.next g.next (under_keeps t t h.next g.next (omega arith) g.keeps))) h2.same;
-        own = λ i q. h2.own i q ∙ h.own i q;
-        kept = h2.kept;
-        stands = still_stands c (form_of fs c) t h2.next y h2.stands;
-        meant = h2.meant;
+      first mach M g.steps (8 + work_of c) (16 + work_of c) τ.turns c1 _ P Q _ (goes_from h.comes g.goes) (omega (arith, g.few))
+      (then_step mach M 8 (work_of c) (8 + work_of c) τ.turns _ (Done p deepest ks F b M n v c fs env ts st1 t u w k3 K g.next τ) P Q (meant p deepest ks F b M n fs env c τ) (omega arith)
+      (λ y τ1 c2 h2.
+      let z = sequence_ends v c (form_of fs c) y t u w k K h2.next τ1 (omega (arith, rm, r1)) h2.fit h2.stands in
+      record {
+        conf = at ks [] K (laid b z.next) F k (beside_state p deepest ks F τ1);
+        steps = z.steps;
+        few = z.few;
+        goes = goes_from h2.comes z.goes;
+        holds = record {
+          next = z.next;
+          comes = refl;
+          fit = z.fit;
+          same = same_then ts t t w w l h2.next z.next (omega arith) (omega arith) (same_then ts t t w w l g.next h2.next (omega arith) (omega arith) (same_then ts t t w w l h.next g.next (omega arith) (omega arith) h.same (under_same ts t w h.next g.next (under_keeps t t h.next g.next (omega arith) g.keeps))) h2.same) (under_same ts t w h2.next z.next z.under);
+          own = λ i q. h2.own i q ∙ h.own i q;
+          kept = kept_same fs ts (λ i. held_after i c (st1 i)) h2.next z.next env t rd.below z.under.hands z.under.numbers h2.kept;
+          stands = z.stands;
+          meant = h2.meant;
+        };
       })
-      (λ why τ1 c2 q. q)
-      (okc false fs env ts st1 t u w d k K g.next τ s2.1 us (omega (arith, rm)) (omega (arith, ar))
+      (okc v fs env ts st1 t u w d k3 K g.next τ s2.1 us (omega (arith, rm)) (omega (arith, ar))
       (record { below = rd.below; kept = kept_same fs ts st1 h.next g.next env t rd.below (λ y lt. g.keeps.hands y (λ z. omega (arith, z, lt))) (λ y lt. g.keeps.numbers y (λ z. omega (arith, z, lt))) h.kept; fit = g.fit; turns = omega (arith, le, rd.turns); parameters = rd.parameters; plain = rd.plain; walking = walking_same p deepest ks F b M n (loops_walked K) u l g.next (λ x. g.keeps.iterators x ∙ h.same.iterators x) rd.walking; none = rd.none }))))
 
   -- Moves from one temporary to another.
@@ -230,19 +257,37 @@ module _ (p : Program) (deepest : Watch) (ks : List Kind) (F : List Frame) (b : 
   left_empty Bare x c d e q = q
   left_empty f x c d e q = q ∙ e
 
-  pub record Closed (g f : Form) (y : Holds f) (t u w : ℕ) (k : Instructions) (K : List Label) (l : Locals) (σ : State) : Type 0 where
+  pub record Closed (v : Bool) (c : Code) (g f : Form) (y : Holds f) (t u w : ℕ) (k : Instructions) (K : List Label) (l : Locals) (σ : State) : Type 0 where
     pub next : Locals
     pub steps : ℕ
-    pub few : steps ≤ 13
-    pub goes : Goes (machine p deepest ks F) steps (at ks [] K (laid b l) F (released b g t (moved_from b f (suc t) t k)) (beside_state p deepest ks F σ)) (at ks [] K (laid b next) F k (beside_state p deepest ks F σ))
+    pub few : steps ≤ 16
+    pub goes : Goes (machine p deepest ks F) steps (at ks [] K (laid b l) F (keeping_closed (layout p deepest ks F b M n) v c g f t k) (beside_state p deepest ks F σ)) (at ks [] K (laid b next) F k (beside_state p deepest ks F σ))
     pub fit : Fit p deepest ks F (suc t) u w next σ
-    pub holds : HoldsAt f t next y
+    pub stands : StandsAt v f t next y
     pub under : Under t l next
 
-  -- the end of what is kept: it is dropped, and the answer moves into its place
-  closed : (g f : Form) (y : Holds f) (t u w : ℕ) (k : Instructions) (K : List Label) (l : Locals) (σ : State) → suc t < b.temporaries → Fit p deepest ks F (suc (suc t)) u w l σ → LeftBy g (l.hand t) → HoldsAt f (suc t) l y →
-      Closed g f y t u w k K l σ
-  closed g f y t u w k K l σ lt ft lb hd =
+  -- the end of what is kept: it is dropped, and the answer is dropped before, or moves into its place
+  closed : (v : Bool) (c : Code) (g f : Form) (y : Holds f) (t u w : ℕ) (k : Instructions) (K : List Label) (l : Locals) (σ : State) → suc t < b.temporaries → Fit p deepest ks F (suc (suc t)) u w l σ → LeftBy g (l.hand t) → StandsAt (gives_away c v) f (suc t) l y →
+      Closed v c g f y t u w k K l σ
+  closed true c g f y t u w k K l σ lt ft lb st =
+      let a = left_ok c f y (suc t) u w (released b g t k) K l σ lt ft st in
+      let r = released_ok g t k K a.next σ (omega (arith, lt)) (a.fit.hands t) (subst (LeftBy g) (sym (a.keeps.hands t (λ z. omega (arith, z)))) lb) in
+      record {
+        next = r.next;
+        steps = a.steps + r.steps;
+        few = omega (arith, a.few, r.few);
+        goes = then_goes a.goes r.goes;
+        fit = r.fit (suc t) u w (omega arith) a.fit;
+        stands = r.hand;
+        under = record {
+          hands = λ z lz. r.keeps.hands z (λ e. omega (arith, e, lz)) ∙ a.keeps.hands z (λ e. omega (arith, e, lz));
+          numbers = λ z lz. r.keeps.numbers z (λ e. omega (arith, e, lz)) ∙ a.keeps.numbers z (λ e. omega (arith, e, lz));
+          iterators = λ z. r.keeps.iterators z ∙ a.keeps.iterators z;
+          arrays = λ z. r.keeps.arrays z ∙ a.keeps.arrays z;
+        };
+      }
+  closed false c g f y t u w k K l σ lt ft lb st =
+      let hd = still_stands c f (suc t) l y st in
       let r = released_ok g t (moved_from b f (suc t) t k) K l σ (omega (arith, lt)) (ft.hands t) lb in
       let f1 = r.fit (suc (suc t)) u w (omega arith) ft in
       let h1 = holds_same f (suc t) l r.next y (r.keeps.hands (suc t) (λ z. omega (arith, z))) (r.keeps.numbers (suc t) (λ z. omega (arith, z))) hd in
@@ -253,7 +298,7 @@ module _ (p : Program) (deepest : Watch) (ks : List Kind) (F : List Frame) (b : 
         few = omega (arith, r.few, m.few);
         goes = then_goes r.goes m.goes;
         fit = fit_less p deepest ks F (suc t) u w m.next σ (left_empty f y (r.next.hand (suc t)) (m.next.hand (suc t)) h1.0 m.hand) (m.fit (suc (suc t)) u w (omega arith) (omega arith) f1);
-        holds = m.holds;
+        stands = m.holds;
         under = record {
           hands = λ z lz. m.hands z (λ e. omega (arith, e, lz)) (λ e. omega (arith, e, lz)) ∙ r.keeps.hands z (λ e. omega (arith, e, lz));
           numbers = λ z lz. m.numbers z (λ e. omega (arith, e, lz)) ∙ r.keeps.numbers z (λ e. omega (arith, e, lz));
@@ -277,18 +322,18 @@ module _ (p : Program) (deepest : Watch) (ks : List Kind) (F : List Frame) (b : 
       let s1 = and_parts (is_kept g) (keeps_well c && (sorted ctx fs a && sorted ctx gs c)) so in
       let s2 = and_parts (keeps_well c) (sorted ctx fs a && sorted ctx gs c) s1.1 in
       let s3 = and_parts (sorted ctx fs a) (sorted ctx gs c) s2.1 in
-      let k3 = released b g t (moved_from b f (suc t) t k) in
-      let k1 = emitted (layout p deepest ks F b M n) false gs (t ∷ ts) c (suc t) w d k3 in
+      let k3 = keeping_closed (layout p deepest ks F b M n) v c g f t k in
+      let k1 = emitted (layout p deepest ks F b M n) v gs (t ∷ ts) c (suc t) w d k3 in
       let rc = room_one c in
-      then_on mach M (work_of a) (work_of c + 13) (work_of (Let a c)) σ.turns _ (Done p deepest ks F b M n false a fs env ts st t u w k1 K l σ) P Q (meant p deepest ks F b M n fs env a σ) _ (omega arith)
+      then_on mach M (work_of a) (work_of c + 16) (work_of (Let a c)) σ.turns _ (Done p deepest ks F b M n false a fs env ts st t u w k1 K l σ) P Q (meant p deepest ks F b M n fs env a σ) _ (omega arith)
       (oka false fs env ts st t u w d k1 K l σ s3.0 (λ i lt. well_before (suc i) c (st1 i) (us i lt)) (omega (arith, rm)) (omega (arith, ar)) rd)
       (λ x τ c1 le h1.
       let env2 : Env gs = (x, env) in
       let used : (i : ℕ) → i < length gs → is_well_used (held_after i c (st2 i)) ≡ true = all_used fs c st1 s2.0 us in
-      first mach M 0 (work_of c + 13) (work_of c + 13) τ.turns c1 _ P Q _ (record { it = h1.comes }) (omega arith)
-      (then_step mach M 13 (work_of c) (work_of c + 13) τ.turns _ (Done p deepest ks F b M n false c gs env2 (t ∷ ts) st2 (suc t) u w k3 K h1.next τ) P Q (meant p deepest ks F b M n gs env2 c τ) (omega arith)
+      first mach M 0 (work_of c + 16) (work_of c + 16) τ.turns c1 _ P Q _ (record { it = h1.comes }) (omega arith)
+      (then_step mach M 16 (work_of c) (work_of c + 16) τ.turns _ (Done p deepest ks F b M n v c gs env2 (t ∷ ts) st2 (suc t) u w k3 K h1.next τ) P Q (meant p deepest ks F b M n gs env2 c τ) (omega arith)
       (λ y τ1 c2 h2.
-      let z = closed g f y t u w k K h2.next τ1 (omega (arith, rm, rc)) h2.fit (kept_left (held_after zero c There) g t h2.next x h2.kept.0) (still_stands c f (suc t) h2.next y h2.stands) in
+      let z = closed v c g f y t u w k K h2.next τ1 (omega (arith, rm, rc)) h2.fit (kept_left (held_after zero c There) g t h2.next x h2.kept.0) h2.stands in
       let o = rd.below in
       record {
         conf = at ks [] K (laid b z.next) F k (beside_state p deepest ks F τ1);
@@ -302,11 +347,11 @@ module _ (p : Program) (deepest : Watch) (ks : List Kind) (F : List Frame) (b : 
           same = same_then ts t t w w l h1.next z.next (omega arith) (omega arith) h1.same (inner_same ts t w h1.next h2.next z.next h2.same z.under);
           own = λ i q. h2.own i q ∙ h1.own i q;
           kept = kept_same fs ts (λ i. held_after (suc i) c (st1 i)) h2.next z.next env t o (λ y1 lt. z.under.hands y1 lt) (λ y1 lt. z.under.numbers y1 lt) h2.kept.1;
-          stands = z.holds;
+          stands = z.stands;
           meant = h2.meant;
         };
       })
-      (okc false gs env2 (t ∷ ts) st2 (suc t) u w d k3 K h1.next τ s3.1 used (omega (arith, rm)) (omega (arith, ar))
+      (okc v gs env2 (t ∷ ts) st2 (suc t) u w d k3 K h1.next τ s3.1 used (omega (arith, rm)) (omega (arith, ar))
       (record { below = (omega arith, rd.below); kept = (still_stands a g t h1.next x h1.stands, h1.kept); fit = h1.fit; turns = omega (arith, le, rd.turns); parameters = rd.parameters; plain = all_plain fs g s1.0 rd.plain; walking = walking_same p deepest ks F b M n (loops_walked K) u l h1.next (λ x. h1.same.iterators x) rd.walking; none = rd.none }))))
     where
       all_plain : (fs : List Form) (g : Form) → is_kept g ≡ true → ((i : ℕ) → NoArray (form_at fs i)) → (i : ℕ) → NoArray (form_at (g ∷ fs) i)

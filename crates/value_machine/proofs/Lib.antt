@@ -18,6 +18,7 @@ pub mod Operands
 pub mod Arguments
 pub mod HostCalls
 pub mod Expressions
+pub mod Fields
 pub mod Leaves
 pub mod Keeping
 pub mod Copies

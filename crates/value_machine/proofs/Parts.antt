@@ -13,7 +13,7 @@ use Rattle.wasm_store.specs.declared.word.Word.TheVariants as word
 use Rattle.mid_program.specs.Mid.{Program, Steps}
 use Rattle.mid_program.specs.ScriptRun.{next_over, for_record, part_over, part}
 use Rattle.mid_program.specs.ScriptState.{State, Stop, Faulted, OutOfTurns, TooDeep, Nexted, Exited, Returned, Outcome, Gives, Stops, Doing, ◌>>◌, nothing}
-use Rattle.mid_program.specs.Sorted.{context_of, kinds_of, steps_sorted}
+use Rattle.mid_program.specs.Sorted.{calls_of, context_of, kinds_of, steps_sorted}
 use Rattle.mid_program.specs.Statements.{Flow, Normal, Broke, Continued}
 use Rattle.value_machine.specs.Cells.{Cell, Bits, is_owned}
 use Rattle.value_machine.specs.Functions.{layout_of}
@@ -32,12 +32,12 @@ use Rattle.value_machine.proofs.Locals.{Locals, laid}
 use Rattle.value_machine.proofs.Steps.{empty}
 use Rattle.value_machine.proofs.Calls.{called}
 use Rattle.value_machine.proofs.State.{cells_of, store_with}
-use Rattle.value_machine.proofs.Relation.{Loose, Sound, Away, left_to}
+use Rattle.value_machine.proofs.Relation.{Loose, Sound, HoldsNone, Away, left_to}
 use Rattle.value_machine.proofs.Pieces.{closes}
 use Rattle.value_machine.proofs.Conversions.{same_state}
 use Rattle.value_machine.proofs.Answers.{machine, beside_state, left_beside}
 use Rattle.value_machine.proofs.StatementForms.{steps_work, Starts, StepDone, StepsOk, steps_meant}
-use Rattle.value_machine.proofs.Exits.{sweep_ok}
+use Rattle.value_machine.proofs.Exits.{left_sweep_ok}
 use Rattle.value_machine.proofs.Returning.{NoReturn, Plainly, own_at}
 
 -- locals once what they held is let go
@@ -92,10 +92,10 @@ module _ (p : Program) (deepest : Watch) (b : Bases) (M n : ℕ) where
     pub goes : Goes (machine p deepest [] []) steps (at [] [] K (laid b l) [] (goes_on (layout_of p b) k) (store_with p.ranges (kinds_of p.globals) way None σ)) (at [] [] K (laid b next) [] k (beside_state p deepest [] [] σ))
     pub starts : Starts p deepest [] [] b M n 0 K next σ
 
-  going : (way : ℕ) (K : List Label) (k : Instructions) (l : Locals) (σ : State) → zero ≡ b.parameters → loops_walked K ≡ 0 → Loose p deepest [] [] l → l.answer ≡ empty → Sound p deepest [] [] σ → length σ.own.locals ≡ 0 → σ.turns ≤ n → Going way K k l σ
-  going way K k l σ none walks lo an s size le =
+  going : (way : ℕ) (K : List Label) (k : Instructions) (l : Locals) (σ : State) → zero ≡ b.parameters → loops_walked K ≡ 0 → Loose p deepest [] [] l → l.answer ≡ empty → Sound p deepest [] [] σ × HoldsNone p deepest [] [] l → length σ.own.locals ≡ 0 → σ.turns ≤ n → Going way K k l σ
+  going way K k l σ none walks lo an left size le =
       let G = beside_state p deepest [] [] σ in
-      let a = sweep_ok p deepest [] [] b K G l k lo in
+      let a = left_sweep_ok p deepest [] [] b (calls_of p) K G l k lo left.1 in
       record {
         next = cleaned a.next;
         steps = 1 + a.steps;
@@ -114,7 +114,7 @@ module _ (p : Program) (deepest : Watch) (b : Bases) (M n : ℕ) where
             still = λ x lx. refl;
             yards = λ x. inl refl;
             spare = λ x lx. refl;
-            sound = s;
+            sound = left.0;
           };
           walked = λ x lt. absurd (omega (arith, lt));
           walks = omega arith;

@@ -13,21 +13,21 @@ use Rattle.mid_program.specs.ScriptState.{State, global_value, local_value}
 use Rattle.mid_program.specs.Sorted.{Held as Standing, There, Moved, Misused, used, same_number, sorted, all_sorted, held_after, is_well_used, has_kind, same_kind, kinds_of}
 use Rattle.value_machine.specs.Cells.{Cell, Held, is_owned}
 use Rattle.value_machine.specs.Emission.{emitted, all_emitted}
-use Rattle.value_machine.specs.Machine.{Conf, Label, Frame, at}
+use Rattle.value_machine.specs.Machine.{Conf, Label, Frame, at, loops_walked}
 use Rattle.value_machine.specs.Places.{Bases}
 use Rattle.value_machine.specs.Small.{copied_from}
 use Rattle.value_machine.proofs.Watch.{Watch}
-use Rattle.value_machine.proofs.Runs.{Goes, then_goes, there}
+use Rattle.value_machine.proofs.Runs.{Goes, then_goes, stays, there}
 use Rattle.value_machine.proofs.Regions.{upd_same, upd_other}
 use Rattle.value_machine.proofs.Locals.{Locals, Param, Hand, Number as NumberAt, local_of, with_at, laid}
 use Rattle.value_machine.proofs.Globals.{Hand as NameHand}
 use Rattle.value_machine.proofs.Steps.{empty}
 use Rattle.value_machine.proofs.State.{beside, kind_here, name_hand, arrays_before}
-use Rattle.value_machine.proofs.Relation.{HoldsAt, hand_of, WordIs, LeftBy, KeptAs, Kept, kept_same, Below, Outside, same_self, Fit, fit_hand, fit_number, fit_more, Away}
+use Rattle.value_machine.proofs.Relation.{HoldsAt, hand_of, WordIs, LeftBy, hand_left, KeptAs, Kept, kept_same, Below, Outside, same_self, Fit, fit_hand, fit_number, fit_more, Away}
 use Rattle.value_machine.proofs.Answers.{machine, beside_state, put_value}
 use Rattle.value_machine.proofs.Conversions.{BareIs, IsBeside, IsNone, IsNumber, bare_is}
 use Rattle.value_machine.proofs.Copies.{copied_local, copied_global, if_any_local, if_none_local}
-use Rattle.value_machine.proofs.Simulation.{Done, ExprOk, plain_stands}
+use Rattle.value_machine.proofs.Simulation.{Done, ExprOk, Ready, plain_stands}
 use Rattle.value_machine.proofs.Expressions.{put_done}
 use Rattle.value_machine.proofs.Operands.{holds_same}
 use Rattle.value_machine.proofs.Keeping.{moved_from_ok, LeftHand, copied_ok}
@@ -126,10 +126,33 @@ module _ (p : Program) (deepest : Watch) (ks : List Kind) (F : List Frame) (b : 
   moved_left Bare x c d e q = tt
   moved_left f x c d e q = q ∙ e
 
+  -- where nobody asks for the answer nothing is done
+  left_alone : (m : Bool) (i : ℕ) (fs : List Form) (env : Env fs) (ts : List ℕ) (st : ℕ → Standing) (t u w : ℕ) (k : Instructions) (K : List Label) (l : Locals) (σ : State) → Ready p deepest ks F b M n fs env ts st t u w (loops_walked K) l σ →
+      Kept fs ts (λ j. held_after j (Bound m i) (st j)) l env → Done p deepest ks F b M n true (Bound m i) fs env ts st t u w k K l σ (held fs env i) σ (at ks [] K (laid b l) F k (beside_state p deepest ks F σ))
+  left_alone m i fs env ts st t u w k K l σ rd kept = record {
+    next = l;
+    comes = refl;
+    fit = fit_more p deepest ks F t u w l σ rd.fit;
+    same = same_self ts t w l;
+    own = λ j q. refl;
+    kept = kept;
+    stands = rd.fit.free t (omega arith);
+    meant = plain_stands p deepest ks F b M n (form_at fs i) (held fs env i) (Numbered zero) σ (rd.plain i);
+  }
+
   -- the last use moves it
   pub moves_expr : (i : ℕ) → ExprOk p deepest ks F b M n (Bound true i)
   unfolding emitted all_emitted evaluated all_evaluated sorted all_sorted
-  moves_expr i v fs env ts st t u w d k K l σ so us rm ar rd =
+  moves_expr i true fs env ts st t u w d k K l σ so us rm ar rd =
+      let lt = ltb-true i (length fs) so in
+      let s = get_or ts i zero in
+      let ka = kept_at fs ts st l env t i rd.below rd.kept lt in
+      let f = form_at fs i in
+      let x = held fs env i in
+      let hd : HoldsAt f s l x = subst (λ m. KeptAs m f s l x) (bound_there true i (st i) (us i lt)) ka.0 in
+      there (machine p deepest ks F) M 20 0 _ _ x σ (Done p deepest ks F b M n true (Bound true i) fs env ts st t u w k K l σ) (Away p deepest ks F b d K) stays (omega arith)
+      (left_alone true i fs env ts st t u w k K l σ rd (kept_moved fs ts st l l env t i rd.below lt (λ y ly ne. refl) (λ y ly. refl) (hand_left f x (l.hand s) hd.0) rd.kept))
+  moves_expr i false fs env ts st t u w d k K l σ so us rm ar rd =
       let lt = ltb-true i (length fs) so in
       let s = get_or ts i zero in
       let ka = kept_at fs ts st l env t i rd.below rd.kept lt in
@@ -139,7 +162,7 @@ module _ (p : Program) (deepest : Watch) (ks : List Kind) (F : List Frame) (b : 
       let fr = rd.fit.free t (omega arith) in
       let m = moved_from_ok p deepest ks F b M n f x s t u w t k K l σ (omega (arith, rm, ka.1)) (omega (arith, rm)) (λ e. omega (arith, e, ka.1)) rd.fit hd fr in
       let ln = kept_lengths fs ts st l env rd.kept in
-      there (machine p deepest ks F) M 20 m.steps _ _ x σ (Done p deepest ks F b M n v (Bound true i) fs env ts st t u w k K l σ) (Away p deepest ks F b d K) m.goes (omega (arith, m.few))
+      there (machine p deepest ks F) M 20 m.steps _ _ x σ (Done p deepest ks F b M n false (Bound true i) fs env ts st t u w k K l σ) (Away p deepest ks F b d K) m.goes (omega (arith, m.few))
       (record {
         next = m.next;
         comes = refl;
@@ -239,7 +262,10 @@ module _ (p : Program) (deepest : Watch) (ks : List Kind) (F : List Frame) (b : 
 
   pub copies_expr : (i : ℕ) → ExprOk p deepest ks F b M n (Bound false i)
   unfolding emitted all_emitted evaluated all_evaluated sorted all_sorted
-  copies_expr i v fs env ts st t u w d k K l σ so us rm ar rd =
+  copies_expr i true fs env ts st t u w d k K l σ so us rm ar rd =
+      there (machine p deepest ks F) M 20 0 _ _ (held fs env i) σ (Done p deepest ks F b M n true (Bound false i) fs env ts st t u w k K l σ) (Away p deepest ks F b d K) stays (omega arith)
+      (left_alone false i fs env ts st t u w k K l σ rd (kept_copied fs ts st l l env t i rd.below (ltb-true i (length fs) so) (λ y ly. refl) (λ y ly. refl) rd.kept))
+  copies_expr i false fs env ts st t u w d k K l σ so us rm ar rd =
       let lt = ltb-true i (length fs) so in
       let s = get_or ts i zero in
       let ka = kept_at fs ts st l env t i rd.below rd.kept lt in
@@ -247,7 +273,7 @@ module _ (p : Program) (deepest : Watch) (ks : List Kind) (F : List Frame) (b : 
       let x = held fs env i in
       let hd : HoldsAt f s l x = subst (λ m. KeptAs m f s l x) (bound_there false i (st i) (us i lt)) ka.0 in
       let m = copied_from_ok f x s t u w t k K l σ (omega (arith, rm, ka.1)) (omega (arith, rm)) (λ e. omega (arith, e, ka.1)) rd.fit hd (rd.fit.free t (omega arith)) in
-      there (machine p deepest ks F) M 20 m.steps _ _ x σ (Done p deepest ks F b M n v (Bound false i) fs env ts st t u w k K l σ) (Away p deepest ks F b d K) m.goes (omega (arith, m.few))
+      there (machine p deepest ks F) M 20 m.steps _ _ x σ (Done p deepest ks F b M n false (Bound false i) fs env ts st t u w k K l σ) (Away p deepest ks F b d K) m.goes (omega (arith, m.few))
       (record {
         next = m.next;
         comes = refl;

@@ -17,7 +17,7 @@ use Rattle.mid_program.specs.Mid.{Kind, Boxed, Unboxed, Many, Program, Declared,
 use Rattle.mid_program.specs.MidMeaning.{Holds, Env}
 use Rattle.mid_program.specs.Names.{ArrayName, Numbered, Given}
 use Rattle.mid_program.specs.ScriptState.{State, Stop, TooDeep, Nexted, Exited, Returned, Local, Scalar, value_in_local, array_in_local, local_array}
-use Rattle.mid_program.specs.Sorted.{Held as Standing, There, Moved, Misused, has_kind, kinds_of, arrays_among, context_of, is_array_place}
+use Rattle.mid_program.specs.Sorted.{Held as Standing, There, Moved, Misused, has_kind, calls_of, kinds_of, arrays_among, context_of, is_array_place}
 use Rattle.value_machine.specs.Cells.{Cell, Bits, Held, IteratorOf, OwnedArray, LentArray, is_owned}
 use Rattle.value_machine.specs.ImportCalls.{input_code, close_code}
 use Rattle.value_machine.specs.Machine.{Conf, Deep, Label, Frame, br, owner_waits}
@@ -338,6 +338,18 @@ module _ (p : Program) (deepest : Watch) (ks : List Kind) (F : List Frame) where
   StopSound (Returned v) σ = Sound σ
   StopSound why σ = Unit {0}
 
+  -- where no function is called, `next` and `exit` leave no more than iterators
+  abbrev pub HoldsNone : Locals → Type 0
+  HoldsNone l = calls_of p ≡ [] → ((x : ℕ) → l.hand x ≡ empty) × ((x : ℕ) → l.array x ≡ empty)
+
+  abbrev pub StopLeaves : Stop → Locals → State → Type 0
+  StopLeaves Nexted l σ = Sound σ × HoldsNone l
+  StopLeaves Exited l σ = Sound σ × HoldsNone l
+  StopLeaves why l σ = StopSound why σ
+
+  pub fit_holds_none : (u : ℕ) (l : Locals) (σ : State) → Fit zero u zero l σ → HoldsNone l
+  fit_holds_none u l σ f e = (λ x. f.free x (omega arith), λ x. f.spare x (omega arith))
+
   module _ (b : Bases) where
     -- a function is left: whatever is held is in locals that its exit looks at
     pub record Away (d : ℕ) (K : List Label) (why : Stop) (σ : State) (c : Conf) : Type 0 where
@@ -345,7 +357,7 @@ module _ (p : Program) (deepest : Watch) (ks : List Kind) (F : List Frame) where
       pub comes : c ≡ left_to why (br d ks K (laid b next) F (gone p.ranges (kinds_of p.globals) why σ)) (Deep (store p.ranges (kinds_of p.globals) σ))
       pub loose : Loose next
       pub answer : next.answer ≡ answer_of why
-      pub after : StopSound why σ
+      pub after : StopLeaves why next σ
 
     -- out of a block
     pub away_out : (d : ℕ) (x : Label) (K : List Label) (why : Stop) (σ : State) (c : Conf) → Away (suc d) (x ∷ K) why σ c → Away d K why σ c

@@ -53,7 +53,7 @@ abbrev mutual
   work_of (Array a) = 0
   work_of (IsOpen i) = 3
   work_of (Choose s c a b) = 80 + (work_of c + (work_of a + work_of b))
-  work_of (Seq a b) = 10 + (work_of a + work_of b)
+  work_of (Seq a b) = 20 + (work_of a + work_of b)
   work_of (Let a b) = 20 + (work_of a + work_of b)
   work_of (Bound m i) = 20
 
@@ -119,9 +119,12 @@ room_one (Seq a b) = let r = room_one a in omega (arith, r)
 room_one (Let a b) = let r = room_one a in omega (arith, r)
 room_one (Bound m i) = omega arith
 
--- whether the answer was given away: an assignment that is evaluated for what it does alone moves its value
+-- whether no answer is left: an assignment that is evaluated for what it does alone moves its value, and so it is where something comes last, or was kept
 abbrev pub gives_away : Code → Bool → Bool
 gives_away (Set x e) v = v
+gives_away (Seq a c) v = v
+gives_away (Let a c) v = v
+gives_away (Bound m i) v = v
 gives_away e v = false
 
 -- what is kept is no array
@@ -135,6 +138,9 @@ StandsAt false f t l x = HoldsAt f t l x
 
 pub still_stands : (e : Code) (f : Form) (t : ℕ) (l : Locals) (x : Holds f) → StandsAt (gives_away e false) f t l x → HoldsAt f t l x
 still_stands (Set y e) f t l x q = q
+still_stands (Seq a c) f t l x q = q
+still_stands (Let a c) f t l x q = q
+still_stands (Bound m i) f t l x q = q
 still_stands _ f t l x q = q
 
 module _ (p : Program) (deepest : Watch) (ks : List Kind) (F : List Frame) (b : Bases) (M n : ℕ) where

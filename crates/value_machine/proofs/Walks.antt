@@ -1,5 +1,5 @@
 -- A loop with a test does not begin as one over keys does: the code of no expression does.
-use Rattle.std.proofs.Common.{◌≡◌, ℕ, zero, suc, Bool, true, false, List, [], ◌∷◌, Some, refl}
+use Rattle.std.proofs.Common.{◌≡◌, ℕ, zero, suc, Bool, true, false, List, [], ◌∷◌, Option, Some, None, ℤ, refl}
 use Rattle.std.specs.Prelude.{if◌then◌else◌, ◌||◌}
 use Rattle.awk_values.specs.declared.comparison.CompareOp.{CompareOp}
 use Rattle.awk_state.specs.Table.{arguments_of}
@@ -21,7 +21,7 @@ use Rattle.mid_program.specs.MidMeaning.{three_values}
 use Rattle.mid_program.specs.Names.{ArrayName, Numbered, Given}
 use Rattle.mid_program.specs.Sorted.{count_of}
 use Rattle.value_machine.specs.Arithmetic.{calculated, compared, values_compared, numbers_compared, bare_compared, texts_beside, zeroed_if, is_value, may_be_text}
-use Rattle.value_machine.specs.Emission.{Layout, emitted, all_emitted, all_converted, all_pushed, array_pushed, performed, all_boxed, all_appended, listed_asked, all_given, all_given_pushed, slot_read, slot_set, left_over, tested}
+use Rattle.value_machine.specs.Emission.{Layout, emitted, all_emitted, all_converted, all_pushed, array_pushed, performed, all_boxed, all_appended, listed_asked, all_given, all_given_pushed, slot_read, slot_set, field_in, field_or, left_over, sequence_closed, keeping_closed, bound_read, tested}
 use Rattle.value_machine.specs.Machine.{is_walk}
 use Rattle.value_machine.specs.Places.{Bases, number_local}
 use Rattle.value_machine.specs.Small.{does, converted, to_value, to_number, truth, unused, released, moved_from, bound_from, copied_from}
@@ -189,13 +189,32 @@ module _ (y : Layout) where
 
   left_stern : (e : Code) (f : Form) (t : ℕ) (k : Instructions) → Stern k → Stern (left_over y e f t k)
   left_stern (Set x e) f t k h = h
+  left_stern (Seq e c) f t k h = h
+  left_stern (Let e c) f t k h = h
+  left_stern (Bound m i) f t k h = h
   left_stern e f t k h = unused_stern y.bases f t k h
+
+  field_stern : (o : Option ℤ) (t : ℕ) (k other : Instructions) → Stern other → Stern (field_or y o t k other)
+  field_stern (Some z) t k other h = (refl, refl)
+  field_stern None t k other h = h
+
+  sequence_stern : (v : Bool) (e : Code) (f : Form) (t : ℕ) (k : Instructions) → Stern k → Stern (sequence_closed y v e f t k)
+  sequence_stern true e f t k h = left_stern e f t k h
+  sequence_stern false e f t k h = h
+
+  keeping_stern : (v : Bool) (e : Code) (g f : Form) (t : ℕ) (k : Instructions) → Stern k → Stern (keeping_closed y v e g f t k)
+  keeping_stern true e g f t k h = left_stern e f (suc t) _ (released_stern y.bases g t k h)
+  keeping_stern false e g f t k h = released_stern y.bases g t _ (moved_stern y.bases f (suc t) t k)
+
+  bound_read_stern : (v m : Bool) (f : Form) (s t : ℕ) (k : Instructions) → Stern k → Stern (bound_read y v m f s t k)
+  bound_read_stern true m f s t k h = h
+  bound_read_stern false m f s t k h = bound_stern y.bases m f s t k
 
   mutual
     unfolding emitted all_emitted
 
     code_stern : (v : Bool) (fs : List Form) (ts : List ℕ) (e : Code) (t w d : ℕ) (k : Instructions) → Stern k → Stern (emitted y v fs ts e t w d k)
-    code_stern v fs ts (Do o es) t w d k h = codes_stern fs ts es t w d _ (λ m. all_converted_stern fs (arguments o) es t d _ (performed_stern o es t d k h))
+    code_stern v fs ts (Do o es) t w d k h = field_stern (field_in o es) t k _ (codes_stern fs ts es t w d _ (λ m. all_converted_stern fs (arguments o) es t d _ (performed_stern o es t d k h)))
     code_stern v fs ts (Over l es) t w d k h = codes_stern fs ts es t w d _ (λ m. boxed_stern fs es t _ (appended_stern es t _ (listed_stern l (count_of es) t d k)))
     code_stern v fs ts (Compare c e f) t w d k h = code_stern false fs ts e t w d _ (code_stern false fs ts f (suc t) w d _ (compared_stern y.bases c (form_of fs e) (form_of fs f) t d k))
     code_stern v fs ts (Call f es) t w d k h =
@@ -213,11 +232,11 @@ module _ (y : Layout) where
     code_stern v fs ts (Array a) t w d k h = h
     code_stern v fs ts (IsOpen i) t w d k h = (refl, refl)
     code_stern v fs ts (Choose s c e f) t w d k h = code_stern false fs ts c t w d _ (truth_stern y.bases (form_of fs c) t _)
-    code_stern v fs ts (Seq e f) t w d k h = code_stern true fs ts e t w d _ (left_stern e (form_of fs e) t _ (code_stern false fs ts f t w d k h))
+    code_stern v fs ts (Seq e f) t w d k h = code_stern true fs ts e t w d _ (left_stern e (form_of fs e) t _ (code_stern v fs ts f t w d _ (sequence_stern v f (form_of fs f) t k h)))
     code_stern v fs ts (Let e f) t w d k h =
         let g = form_of fs e in
-        code_stern false fs ts e t w d _ (code_stern false (g ∷ fs) (t ∷ ts) f (suc t) w d _ (released_stern y.bases g t _ (moved_stern y.bases (form_of (g ∷ fs) f) (suc t) t k)))
-    code_stern v fs ts (Bound m i) t w d k h = bound_stern y.bases m (form_at fs i) _ t k
+        code_stern false fs ts e t w d _ (code_stern v (g ∷ fs) (t ∷ ts) f (suc t) w d _ (keeping_stern v f g (form_of (g ∷ fs) f) t k h))
+    code_stern v fs ts (Bound m i) t w d k h = bound_read_stern v m (form_at fs i) _ t k h
 
     -- an array that is made comes before all that is pushed
     codes_stern : (fs : List Form) (ts : List ℕ) (es : Codes) (t w d : ℕ) (k : Instructions) → (makes es ≡ false → Stern k) → Stern (all_emitted y fs ts es t w d k)

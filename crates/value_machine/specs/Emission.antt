@@ -1,6 +1,6 @@
 -- The code of mid code, each part with the code after it. The value of code goes to temporary t, where those from t on are free; w arrays of calls are in use, and the function's exit is d labels further out.
 -- Between two parts of code nothing is on the stack.
-use Rattle.std.specs.Prelude.{ℕ, zero, suc, ◌+◌, ◌-◌, Bool, true, false, List, [], ◌∷◌, length, get_or, None}
+use Rattle.std.specs.Prelude.{ℕ, zero, suc, ◌+◌, ◌-◌, Bool, true, false, if◌then◌else◌, List, [], ◌∷◌, length, get_or, Option, Some, None, ℤ}
 use Rattle.std.specs.Int.{w64, cast_unsigned}
 use Rattle.awk_state.specs.Constants.{destination_number, flag_number}
 use Rattle.awk_state.specs.Table.{arguments_of, answer_of, can_fault}
@@ -25,6 +25,7 @@ use Rattle.mid_program.specs.declared.mid.Operation.{Operation}
 use Rattle.mid_program.specs.declared.mid.Operation.TheVariants.{Host, Inline, AsNumber, FieldNumber}
 use Rattle.mid_program.specs.MidMeaning.{three_values}
 use Rattle.mid_program.specs.Names.{ArrayName, Numbered, Given}
+use Rattle.mid_program.specs.Steps.{is_field_number}
 use Rattle.mid_program.specs.Mid.{Kind, Boxed, Unboxed, Many, Slot, Global, Parameter, Code, Do, Over, Compare, Call, Ask, AskLine, FileLine, Replace, Number, Text, Unset, Get, Set, Array, IsOpen, Choose, Seq, Let, Bound, Codes, End, At, Fixed, Fresh, Form, Answered, Bare, Perhaps, a_value, form_of, form_at, arguments, parameters_at}
 use Rattle.mid_program.specs.Sorted.{count_of}
 use Rattle.value_machine.specs.Imports.{import_count}
@@ -58,6 +59,20 @@ abbrev pub values_counted : Destination → ℕ → ℕ
 values_counted Standard count = count
 values_counted Emptied count = count - 1
 values_counted Appended count = count - 1
+
+-- A field whose number is a constant is there, whatever the record: the number that is read, if an operation does that.
+
+abbrev pub constant_field : Code → Option ℤ
+constant_field (Number z) = if is_field_number z then Some z else None
+constant_field e = None
+
+abbrev pub one_field : Codes → Option ℤ
+one_field (At e End) = constant_field e
+one_field es = None
+
+abbrev pub field_in : Operation → Codes → Option ℤ
+field_in (Host row.Field) es = one_field es
+field_in o es = None
 
 module _ (y : Layout) where
   abbrev pub b : Bases
@@ -205,19 +220,45 @@ module _ (y : Layout) where
   abbrev pub text_kept : Primitive → ℕ → Instructions → Instructions
   text_kept p t store = ask_row p (does (LocalSet (h b (suc t))) store)
 
-  -- What is evaluated for what it does alone leaves this to be dropped: an assignment has given its value away then.
+  -- such a field is read without a test for a fault
+  abbrev pub field_read : ℤ → ℕ → Instructions → Instructions
+  field_read z t k = does (I64Const (cast_unsigned w64 z)) (ask_row row.Field (does (LocalSet (h b t)) k))
+
+  abbrev pub field_or : Option ℤ → ℕ → (k other : Instructions) → Instructions
+  field_or (Some z) t k other = field_read z t k
+  field_or None t k other = other
+
+  -- What is evaluated for what it does alone leaves this to be dropped. An assignment has given its value away then, what was kept is dropped where it was kept, and code in which something comes last has dropped that.
   abbrev pub left_over : Code → Form → ℕ → Instructions → Instructions
   left_over (Set x e) f t k = k
+  left_over (Seq e c) f t k = k
+  left_over (Let e c) f t k = k
+  left_over (Bound m i) f t k = k
   left_over e f t k = unused b f t k
+
+  -- the end of a sequence, whose last code e has an answer of form f
+  abbrev pub sequence_closed : (only : Bool) → Code → Form → ℕ → Instructions → Instructions
+  sequence_closed true e f t k = left_over e f t k
+  sequence_closed false e f t k = k
+
+  -- the end of what is kept, of form g: it is dropped, unless it was moved away, and the answer of code e, of form f, takes its place, or is dropped too
+  abbrev pub keeping_closed : (only : Bool) → Code → (g f : Form) → ℕ → Instructions → Instructions
+  keeping_closed true e g f t k = left_over e f (suc t) (released b g t k)
+  keeping_closed false e g f t k = released b g t (moved_from b f (suc t) t k)
+
+  -- what was kept is nothing to do, where nobody asks for it
+  abbrev pub bound_read : (only m : Bool) → Form → ℕ → ℕ → Instructions → Instructions
+  bound_read true m f s t k = k
+  bound_read false m f s t k = bound_from b m f s t k
 
   -- after code that stored the text of the next temporary
   abbrev pub text_let_go : List Form → Code → ℕ → Instructions → Instructions
   text_let_go fs s t k = left_over s (form_of (a_value ∷ fs) s) (suc (suc t)) (let_go Drop (h b (suc t)) k)
 
-  -- Code. What is kept is of forms fs and stands in temporaries ts. Where code is evaluated for what it does alone, an assignment moves its value.
+  -- Code. What is kept is of forms fs and stands in temporaries ts. Where code is evaluated for what it does alone, an assignment moves its value, and no answer is brought to its place that would be dropped there.
   unfoldable mutual
     pub emitted : (only : Bool) → List Form → List ℕ → Code → (t w d : ℕ) → Instructions → Instructions
-    emitted v fs ts (Do o es) t w d k = all_emitted fs ts es t w d (all_converted fs (arguments o) es t d (performed o es t d k))
+    emitted v fs ts (Do o es) t w d k = field_or (field_in o es) t k (all_emitted fs ts es t w d (all_converted fs (arguments o) es t d (performed o es t d k)))
     emitted v fs ts (Over l es) t w d k = all_emitted fs ts es t w d (all_boxed fs es t (all_appended es t (listed_asked l (count_of es) t d k)))
     emitted v fs ts (Compare c e f) t w d k = emitted false fs ts e t w d (emitted false fs ts f (suc t) w d (compared b c (form_of fs e) (form_of fs f) t d k))
     emitted v fs ts (Call f es) t w d k =
@@ -248,12 +289,11 @@ module _ (y : Layout) where
         emitted false fs ts c t w d (truth b (form_of fs c) t (either
         (emitted false fs ts e t w (suc d) (converted b (form_of fs e) s t (suc d) Done))
         (emitted false fs ts f t w (suc d) (converted b (form_of fs f) s t (suc d) Done)) k))
-    emitted v fs ts (Seq e f) t w d k = emitted true fs ts e t w d (left_over e (form_of fs e) t (emitted false fs ts f t w d k))
+    emitted v fs ts (Seq e f) t w d k = emitted true fs ts e t w d (left_over e (form_of fs e) t (emitted v fs ts f t w d (sequence_closed v f (form_of fs f) t k)))
     emitted v fs ts (Let e f) t w d k =
         let g = form_of fs e in
-        emitted false fs ts e t w d (emitted false (g ∷ fs) (t ∷ ts) f (suc t) w d
-        (released b g t (moved_from b (form_of (g ∷ fs) f) (suc t) t k)))
-    emitted v fs ts (Bound m i) t w d k = bound_from b m (form_at fs i) (get_or ts i zero) t k
+        emitted false fs ts e t w d (emitted v (g ∷ fs) (t ∷ ts) f (suc t) w d (keeping_closed v f g (form_of (g ∷ fs) f) t k))
+    emitted v fs ts (Bound m i) t w d k = bound_read v m (form_at fs i) (get_or ts i zero) t k
 
     pub all_emitted : List Form → List ℕ → Codes → (t w d : ℕ) → Instructions → Instructions
     all_emitted fs ts End t w d k = k

@@ -14,7 +14,7 @@ use Rattle.wasm_types.specs.declared.types.ValType.TheVariants.{I32, I64}
 use Rattle.wasm_types.specs.declared.instr.Simple.{Simple}
 use Rattle.wasm_types.specs.declared.instr.Simple.TheVariants.{Br, BrIf, Call, Drop as Discard, LocalGet, LocalSet, LocalTee, I32Const, I64Const, Test, Compare, Binary, Convert}
 use Rattle.wasm_types.specs.declared.instr.IBinOp.TheVariants.{Sub}
-use Rattle.wasm_types.specs.declared.instr.IRelOp.TheVariants.{Eq, Ne}
+use Rattle.wasm_types.specs.declared.instr.IRelOp.TheVariants.{Eq, LeS, Ne}
 use Rattle.wasm_types.specs.declared.instr.ITestOp.TheVariants.{Eqz}
 use Rattle.wasm_types.specs.declared.instr.CvtOp.TheVariants.{I64ExtendI32S, I64ExtendI32U}
 use Rattle.mid_program.specs.Mid.{Form, Answered, Bare, Perhaps}
@@ -155,11 +155,19 @@ module _ (b : Bases) where
   abbrev pub number_of_value : ℕ → ℕ → Instructions → Instructions
   number_of_value t d k = moved_out (h t) (ask_row row.ToNum (kept_number true t d k))
 
+  -- whether an unboxed name has no number: the two words that are none are the least ones
+  abbrev pub unnumbered : ℕ → Instructions → Instructions
+  unnumbered t k = does (LocalGet (n t)) (does (I64Const text_beside) (does (Compare I64 LeS) k))
+
+  -- the number of a text beside, and 0 where there is none yet
+  abbrev pub number_made : ℕ → ℕ → Instructions → Instructions
+  number_made t d k = number_is (n t) text_beside (either (number_of_value t (suc (suc d)) Done) (does (I64Const 0) (does (LocalSet (n t)) Done)) k)
+
   abbrev pub to_number : Form → ℕ → ℕ → Instructions → Instructions
   to_number (Answered (answer.Of sort.Value)) t d k = number_of_value t d k
   to_number (Answered answer.Input) t d k = code_number t k
   to_number (Answered answer.Close) t d k = code_number t k
-  to_number Bare t d k = number_is (n t) text_beside (either (number_of_value t (suc d) Done) (zeroed t Done) k)
+  to_number Bare t d k = unnumbered t (when (number_made t d Done) k)
   to_number Perhaps t d k = zeroed t k
   to_number _ t d k = k
 

@@ -1,5 +1,5 @@
 -- The code of steps, of functions and of `main`. A statement's place is the `nop` that begins its code: there the function holds nothing, iterators aside.
-use Rattle.std.specs.Prelude.{ℕ, zero, suc, ◌+◌, ◌^◌, true, false, if◌then◌else◌, List, [], ◌∷◌, length, Option, Some, None, is_some, pos}
+use Rattle.std.specs.Prelude.{ℕ, zero, suc, ◌+◌, ◌^◌, Bool, true, false, if◌then◌else◌, List, [], ◌∷◌, length, Option, Some, None, is_some, pos}
 use Rattle.std.specs.Int.{w64, cast_unsigned}
 use Rattle.awk_values.specs.Faults.{fault_number}
 use Rattle.awk_values.specs.declared.fault.Fault.TheVariants.{NextOutside}
@@ -40,6 +40,10 @@ way_exit = 2
 
 abbrev pub left_by : ℕ → ℕ → Instructions → Instructions
 left_by way d k = does (I32Const way) (does (GlobalSet way_global) (does (Br d) k))
+
+abbrev pub has_functions : List (List Kind) → Bool
+has_functions [] = false
+has_functions (ks ∷ rest) = true
 
 module _ (y : Layout) where
   abbrev pub b : Bases
@@ -200,9 +204,14 @@ module _ (y : Layout) where
   names_made i (Unboxed ∷ ks) k = names_made (suc i) ks k
   names_made i (Many ∷ ks) k = ask_row row.NewArray (does (GlobalSet (handle_global y.ranges i)) (names_made (suc i) ks k))
 
+  -- what `next` or `exit` left held is let go: where no function may have been called it is no more than iterators
+  abbrev pub left_swept : (calls : Bool) → Instructions → Instructions
+  left_swept true k = swept k
+  left_swept false k = iterators_swept zero b.iterators k
+
   -- what was left by `next` or by `exit` goes on once what it held is let go
   abbrev pub goes_on : Instructions → Instructions
-  goes_on k = does (I32Const way_none) (does (GlobalSet way_global) (swept k))
+  goes_on k = does (I32Const way_none) (does (GlobalSet way_global) (left_swept (has_functions y.calls) k))
 
   -- the items for a record; d labels out is where all but `next` goes on to
   abbrev pub record_done : Steps → ℕ → Instructions → Instructions

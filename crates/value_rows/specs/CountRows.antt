@@ -117,6 +117,6 @@ unfolding emitted all_emitted step_emitted steps_emitted digits sorted all_sorte
 summed_to_ten = (refl, refl)
 
 -- 35 steps a round
-pub summing_rounds : (steps_of (summing 10) ≡ 509) × (steps_of (summing 20) ≡ 859)
+pub summing_rounds : (steps_of (summing 10) ≡ 503) × (steps_of (summing 20) ≡ 853)
 unfolding emitted all_emitted step_emitted steps_emitted digits
 summing_rounds = (refl, refl)

@@ -9,10 +9,10 @@ use Rattle.wasm_types.specs.Syntax.{Instructions}
 use Rattle.wasm_types.specs.Typing.{Context, CodeOk, done}
 use Rattle.wasm_types.specs.declared.types.ValType.TheVariants.{I32}
 use Rattle.mid_program.specs.Mid.{Kind, Boxed, Unboxed, Many, Program, Steps}
-use Rattle.mid_program.specs.Sorted.{context_of, kinds_of, has_kind, parts_sorted, steps_sorted}
+use Rattle.mid_program.specs.Sorted.{calls_of, context_of, kinds_of, has_kind, parts_sorted, steps_sorted}
 use Rattle.value_machine.specs.Functions.{layout_of}
 use Rattle.value_machine.specs.Places.{Bases, kind_type, steps_room, steps_iterators, steps_arrays}
-use Rattle.value_machine.specs.Statements.{steps_emitted, temporaries_emptied, iterators_emptied, arrays_emptied, all_emptied, temporaries_swept, iterators_swept, arrays_swept, swept, parameters_dropped, routine_body, started, declared, declared_kind, names_declared, routines_declared, names_made, goes_on, record_done, records_read, part_done, before_parts, main_body}
+use Rattle.value_machine.specs.Statements.{steps_emitted, temporaries_emptied, iterators_emptied, arrays_emptied, all_emptied, temporaries_swept, iterators_swept, arrays_swept, swept, left_swept, has_functions, parameters_dropped, routine_body, started, declared, declared_kind, names_declared, routines_declared, names_made, goes_on, record_done, records_read, part_done, before_parts, main_body}
 use Rattle.value_machine.specs.declared.import.Import.TheVariants.{Of, Drop, IterFree, FreeArray}
 use Rattle.value_typed.proofs.Singles.{Stack, Labels, Exit, inner, nearest, called, get, put, read, write, word, long, compare, test, convert, leave, leave_if, blocked, looped, branched}
 use Rattle.value_typed.proofs.Standing.{Stands}
@@ -86,6 +86,10 @@ module _ {p : Program} {ks : List Kind} {b : Bases} {C : Context} (at : Stands p
         temporaries_swept_ok 0 b.temporaries (omega arith)
         (iterators_swept_ok 0 b.iterators (omega arith) (arrays_swept_ok 0 b.arrays (omega arith) r))
 
+    left_swept_ok : (calls : Bool) → CodeOk C L k [] rs → CodeOk C L (left_swept (layout_of p b) calls k) [] rs
+    left_swept_ok true r = swept_ok r
+    left_swept_ok false r = iterators_swept_ok 0 b.iterators (omega arith) r
+
   -- a function's answer is a handle
   pub routine_body_ok : (body : Steps) → steps_sorted (context_of p ks) true false body ≡ true → Enough body b →
       CodeOk C (Some I32 ∷ []) (routine_body (layout_of p b) ks body) [] (I32 ∷ [])
@@ -110,7 +114,7 @@ module _ {p : Program} {ks : List Kind} {b : Bases} {C : Context} (at : Stands p
       declared_ok kind i r = word (word (word (called [] (at.imported (Of row.Declare)) r)))
 
       goes_on_ok : CodeOk C L k [] rs → CodeOk C L (goes_on (layout_of p b) k) [] rs
-      goes_on_ok r = word (write at.way (swept_ok r))
+      goes_on_ok r = word (write at.way (left_swept_ok (has_functions (calls_of p)) r))
 
     module _ {L : Labels} {k : Instructions} {rs : Stack} where
       names_declared_ok : (i : ℕ) (kinds : List Kind) → CodeOk C L k [] rs → CodeOk C L (names_declared (layout_of p b) i kinds k) [] rs

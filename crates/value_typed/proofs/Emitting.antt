@@ -1,5 +1,5 @@
 -- The code of mid code is typed before whatever follows it, on whatever stack.
-use Rattle.std.proofs.Common.{◌≡◌, ℕ, zero, suc, ◌+◌, ◌<◌, ◌≤◌, Bool, true, false, List, [], ◌∷◌, length, arith}
+use Rattle.std.proofs.Common.{◌≡◌, ℕ, zero, suc, ◌+◌, ◌<◌, ◌≤◌, Bool, true, false, List, [], ◌∷◌, length, Option, Some, None, ℤ, arith}
 use Rattle.std.specs.Prelude.{◌&&◌, get_or, nat_lt}
 use Rattle.std.proofs.lemmas.Bool.{and_parts, ltb-true}
 use Rattle.awk_state.specs.Table.{arguments_of, answer_of, can_fault}
@@ -12,7 +12,7 @@ use Rattle.mid_program.specs.declared.mid.Operation.TheVariants.{Host, Inline, A
 use Rattle.mid_program.specs.MidMeaning.{three_values}
 use Rattle.mid_program.specs.Mid.{Kind, Program, Code, Do, Over, Compare, Call, Ask, AskLine, FileLine, Replace, Number, Text, Unset, Get, Set, Array, IsOpen, Choose, Seq, Let, Bound, Codes, End, At, Fixed, Fresh, Form, a_value, form_of, form_at, arguments, parameters_at}
 use Rattle.mid_program.specs.Sorted.{context_of, calls_of, fits, fit_row, fit_call, all_values, are_enough, count_of, is_slot, takes, is_chosen, is_tested, is_dropped, is_kept, is_done_here, keeps_well, stores_well, are_missing, sorted, all_sorted}
-use Rattle.value_machine.specs.Emission.{emitted, all_emitted, performed, left_over, text_let_go}
+use Rattle.value_machine.specs.Emission.{emitted, all_emitted, performed, field_in, field_or, left_over, sequence_closed, keeping_closed, bound_read, text_let_go}
 use Rattle.value_machine.specs.Functions.{layout_of}
 use Rattle.value_machine.specs.Places.{Bases, room, rooms, arrays_in, arrays_among, made_in}
 use Rattle.value_machine.specs.declared.import.Import.TheVariants.{Of, Drop}
@@ -52,7 +52,27 @@ module _ {p : Program} {ks : List Kind} {b : Bases} {C : Context} (at : Stands p
 
     pub left_over_ok : (e : Code) (f : Form) {t : ℕ} → t < b.temporaries → CodeOk C L k ps rs → CodeOk C L (left_over (layout_of p b) e f t k) ps rs
     left_over_ok (Set x e) f lt r = r
+    left_over_ok (Seq e c) f lt r = r
+    left_over_ok (Let e c) f lt r = r
+    left_over_ok (Bound m i) f lt r = r
     left_over_ok e f lt r = unused_ok at f lt r
+
+    field_or_ok : {other : Instructions} {t : ℕ} (o : Option ℤ) → t < b.temporaries → CodeOk C L k ps rs → CodeOk C L other ps rs → CodeOk C L (field_or (layout_of p b) o t k other) ps rs
+    field_or_ok {t = t} (Some z) lt r q = long (called ps (at.imported (Of row.Field)) (put (at.handle t lt) r))
+    field_or_ok None lt r q = q
+
+    bound_read_ok : {s t : ℕ} (v m : Bool) (f : Form) → s < b.temporaries → t < b.temporaries → CodeOk C L k ps rs → CodeOk C L (bound_read (layout_of p b) v m f s t k) ps rs
+    bound_read_ok true m f ls lt r = r
+    bound_read_ok false m f ls lt r = bound_from_ok at m f ls lt r
+
+  module _ {L : Labels} {k : Instructions} {ps rs : Stack} where
+    sequence_closed_ok : (v : Bool) (e : Code) (f : Form) {t : ℕ} → t < b.temporaries → CodeOk C L k ps rs → CodeOk C L (sequence_closed (layout_of p b) v e f t k) ps rs
+    sequence_closed_ok true e f lt r = left_over_ok e f lt r
+    sequence_closed_ok false e f lt r = r
+
+    keeping_closed_ok : (v : Bool) (e : Code) (g f : Form) {t : ℕ} → suc t < b.temporaries → CodeOk C L k ps rs → CodeOk C L (keeping_closed (layout_of p b) v e g f t k) ps rs
+    keeping_closed_ok true e g f lt r = left_over_ok e f lt (released_ok at g (omega (arith, lt)) r)
+    keeping_closed_ok false e g f lt r = released_ok at g (omega (arith, lt)) (moved_from_ok at f lt (omega (arith, lt)) r)
 
   module _ {L : Labels} {k : Instructions} {ps rs : Stack} where
     text_let_go_ok : (fs : List Form) (s : Code) {t : ℕ} → suc (suc t) < b.temporaries → CodeOk C L k ps rs →
@@ -72,7 +92,9 @@ module _ {p : Program} {ks : List Kind} {b : Bases} {C : Context} (at : Stands p
         let s1 = and_parts (is_done_here o) (fit_row fs (arguments o) es && all_sorted (context_of p ks) fs es) s in
         let s2 = and_parts (fit_row fs (arguments o) es) (all_sorted (context_of p ks) fs es) s1.1 in
         let hs = operands_room o es t b.temporaries h in
-        codes_ok fs ts es t w d q s2.1 hs g x (all_converted_ok at fs (arguments o) es t hs x (performed_ok o fs es t s1.0 s2.0 s2.1 h x r))
+        let one = room_there (Do o es) in
+        field_or_ok (field_in o es) (omega (arith, h, one)) r
+        (codes_ok fs ts es t w d q s2.1 hs g x (all_converted_ok at fs (arguments o) es t hs x (performed_ok o fs es t s1.0 s2.0 s2.1 h x r)))
     code_ok v fs ts (Over l es) t w d q s h g x r =
         let s1 = and_parts (are_enough l es) (all_values fs es && all_sorted (context_of p ks) fs es) s in
         let s2 = and_parts (all_values fs es) (all_sorted (context_of p ks) fs es) s1.1 in
@@ -181,7 +203,8 @@ module _ {p : Program} {ks : List Kind} {b : Bases} {C : Context} (at : Stands p
         let s1 = and_parts a z (and_parts (is_dropped (form_of fs e)) (a && z) s).1 in
         let he = room_there e in
         code_ok true fs ts e t w d q s1.0 (omega (arith, h)) (omega (arith, g)) x
-        (left_over_ok e (form_of fs e) (omega (arith, h, he)) (code_ok false fs ts f t w d q s1.1 (omega (arith, h)) (omega (arith, g)) x r))
+        (left_over_ok e (form_of fs e) (omega (arith, h, he))
+        (code_ok v fs ts f t w d q s1.1 (omega (arith, h)) (omega (arith, g)) x (sequence_closed_ok v f (form_of fs f) (omega (arith, h, he)) r)))
     code_ok v fs ts (Let e f) t w d q s h g x r =
         let o = form_of fs e in
         let a = sorted (context_of p ks) fs e in
@@ -190,10 +213,10 @@ module _ {p : Program} {ks : List Kind} {b : Bases} {C : Context} (at : Stands p
         let he = room_there e in
         let hf = room_there f in
         code_ok false fs ts e t w d q s1.0 (omega (arith, h)) (omega (arith, g)) x
-        (code_ok false (o ∷ fs) (t ∷ ts) f (suc t) w d (one_more_below t b.temporaries ts (omega (arith, h, he)) q) s1.1 (omega (arith, h))
+        (code_ok v (o ∷ fs) (t ∷ ts) f (suc t) w d (one_more_below t b.temporaries ts (omega (arith, h, he)) q) s1.1 (omega (arith, h))
         (omega (arith, g)) x
-        (released_ok at o (omega (arith, h, he)) (moved_from_ok at (form_of (o ∷ fs) f) (omega (arith, h, hf)) (omega (arith, h, he)) r)))
-    code_ok v fs ts (Bound m i) t w d q s h g x r = bound_from_ok at m (form_at fs i) (q i) (omega (arith, h)) r
+        (keeping_closed_ok v f o (form_of (o ∷ fs) f) (omega (arith, h, hf)) r))
+    code_ok v fs ts (Bound m i) t w d q s h g x r = bound_read_ok v m (form_at fs i) (q i) (omega (arith, h)) r
 
     codes_ok : {L : Labels} {k : Instructions} {ps rs : Stack} (fs : List Form) (ts : List ℕ) (es : Codes) (t w d : ℕ) →
         AreBelow ts b.temporaries →

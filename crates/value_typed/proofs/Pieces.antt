@@ -129,7 +129,9 @@ module _ {p : Program} {ks : List Kind} {b : Bases} {C : Context} (at : Stands p
     to_number_ok (Answered (answer.Of sort.Value)) lt e r = number_of_value_ok lt e r
     to_number_ok (Answered answer.Input) lt e r = code_number_ok lt r
     to_number_ok (Answered answer.Close) lt e r = code_number_ok lt r
-    to_number_ok Bare {t = t} lt e r = number_is_ok (at.number t lt) (branched (number_of_value_ok lt (inner e) done) (zeroed_ok lt done) r)
+    to_number_ok Bare {t = t} lt e r =
+        get (at.number t lt) (long (compare (branched
+        (number_is_ok (at.number t lt) (branched (number_of_value_ok lt (inner (inner e)) done) (long (put (at.number t lt) done)) done)) done r)))
     to_number_ok Perhaps lt e r = zeroed_ok lt r
     to_number_ok f lt e r = r
 

@@ -8,7 +8,7 @@ use Rattle.mid_program.specs.ViewCode.{joined, view, view_slot, views}
 use Rattle.mid_program.specs.declared.code.Code.{Code}
 use Rattle.value_machine.specs.Emission.{emitted}
 use Rattle.value_machine.specs.Places.{handle_local}
-use Rattle.value_machine.specs.Small.{let_go, moved_from}
+use Rattle.value_machine.specs.Small.{let_go}
 use Rattle.value_machine.specs.declared.import.Import.TheVariants.{Drop}
 use Rattle.code_emission.specs.Emits.{followed, Emits}
 use Rattle.code_emission.specs.Forms.{view_form}
@@ -19,7 +19,7 @@ use Rattle.expression_emission.specs.Keeping.{Keeping, kept_but_one, kept_more}
 use Rattle.expression_emission.specs.Parts.{all_joined, branch_with, forms_in, stored_with}
 use Rattle.expression_emission.specs.View.{view_layout}
 use Rattle.expression_emission.specs.declared.at.At.{At}
-use Rattle.expression_emission.proofs.Arms.{assignment_emitted, branch_emitted, call_emitted, choice_emitted, code_emitted, comparison_emitted, file_line_emitted, fixed_emitted, form_added, fresh_emitted, keeping_emitted, kept_form, line_emitted, listing_emitted, next_operand, no_form, none_emitted, operation_emitted, replace_emitted, sequence_emitted, stored_emitted}
+use Rattle.expression_emission.proofs.Arms.{assignment_emitted, branch_emitted, call_emitted, choice_emitted, code_emitted, comparison_emitted, field_emitted, file_line_emitted, fixed_emitted, form_added, fresh_emitted, keeping_emitted, kept_form, line_emitted, listing_emitted, next_operand, no_form, none_emitted, operation_emitted, replace_emitted, sequence_emitted, stored_emitted}
 use Rattle.expression_emission.proofs.FitLemmas.{all_places, all_within, arrays_fit}
 use Rattle.expression_emission.proofs.FormLemmas.{forms_counted}
 use Rattle.expression_emission.proofs.Keys.{key_fits, key_weighs, subscript_emitted}
@@ -119,11 +119,11 @@ expression-returns-in-Choose-clause-emits t c = rw ((λ i. plain.Choose c.in-Cho
 
 pub expression-returns-in-Seq-clause-emits : goal.expression-returns-in-Seq-clause-emits
 expression-returns-in-Seq-clause-emits t c = rw ((λ i. plain.Seq (view (c.deref-in-Seq.ensures i)) (view (c.deref-in-Seq-2.ensures i))) ∙ sym (ap view
-    c.in-Seq.is)) at (c.sequence.ensures.emits c.args.only)
+    c.in-Seq.is)) at c.sequence.ensures.emits
 
 pub expression-returns-in-Let-clause-emits : goal.expression-returns-in-Let-clause-emits
 expression-returns-in-Let-clause-emits t c = rw ((λ i. plain.Let (view (c.deref-in-Let.ensures i)) (view (c.deref-in-Let-2.ensures i))) ∙ sym (ap view
-    c.in-Let.is)) at (c.keeping.ensures.emits c.args.only)
+    c.in-Let.is)) at c.keeping.ensures.emits
 
 -- keys
 
@@ -430,12 +430,24 @@ pub replacement-replaced-requires-clause-arrays : goal.replacement-replaced-requ
 replacement-replaced-requires-clause-arrays t c = arrays_fit (view_layout c.args.y.now) (views c.args.es.now) c.args.at.temporary c.args.at.arrays
     c.args.at.exit c.requires.1.0
 
+pub operation-field_read-requires : goal.operation-field_read-requires
+operation-field_read-requires t c =
+    let w = all_within (view_layout c.args.y.now) (views c.args.es.now) c.args.at.temporary c.args.at.arrays c.args.at.exit c.requires in
+    let l = w.0 in
+    omega (arith, l)
+
+pub operation-returns-in-Some-clause-emits : goal.operation-returns-in-Some-clause-emits
+operation-returns-in-Some-clause-emits t c =
+    λ v. on_ok_weaker c.field_read.result (field_emitted (view_layout c.args.y.now) v c.args.kept.now.forms c.args.kept.now.temporaries c.args.what
+    (views c.args.es.now) c.in-Some.number c.args.at.temporary c.args.at.arrays c.args.at.exit c.args.out.now.items c.field_read.new.out.items
+    (sym c.field_in.ensures ∙ c.in-Some.is)) c.field_read.ensures.emits
+
 pub operation-returns-clause-emits : goal.operation-returns-clause-emits
 operation-returns-clause-emits t c =
     let e = ap (map view_form) c.deref.ensures.value ∙ (rw c.new-forms.ensures.items at c.in_ok-operands.ensures.forms) in
     λ v. operation_emitted (view_layout c.args.y.now) v c.args.kept.now.forms (map view_form c.deref.result.now) c.args.kept.now.temporaries
     c.args.what (views c.args.es.now) c.args.at.temporary c.args.at.arrays c.args.at.exit c.args.out.now.items c.operands.new.out.items
-    c.operated.new.out.items e c.in_ok-operands.ensures.emits c.in_ok-operated.ensures
+    c.operated.new.out.items (sym c.field_in.ensures ∙ c.in-None.is) e c.in_ok-operands.ensures.emits c.in_ok-operated.ensures
 
 pub listing-returns-clause-emits : goal.listing-returns-clause-emits
 listing-returns-clause-emits t c =
@@ -685,14 +697,20 @@ sequence-left_over-requires t c =
 pub sequence-expression-requires-2 : goal.sequence-expression-requires-2
 sequence-expression-requires-2 t c = (omega (arith, c.decreases), c.requires.1.1)
 
+pub sequence-sequence_closed-requires : goal.sequence-sequence_closed-requires
+sequence-sequence_closed-requires t c =
+    let a = c.requires.0.0 in
+    omega (arith, a)
+
 pub sequence-returns-clause-form : goal.sequence-returns-clause-form
-sequence-returns-clause-form t c = rw c.in_ok-form.ensures.kept at c.expression-2.ensures.form
+sequence-returns-clause-form t c = rw c.in_ok-form.ensures.kept at c.in_ok-answer.ensures.form
 
 pub sequence-returns-clause-emits : goal.sequence-returns-clause-emits
-sequence-returns-clause-emits t c = λ v. on_ok_weaker c.expression-2.result (sequence_emitted (view_layout c.args.y.now) v c.args.kept.now.forms
-    c.args.kept.now.temporaries (view c.args.first.now) (view c.args.second.now) (view_form c.in_ok-form.form) c.args.at.temporary c.args.at.arrays
-    c.args.at.exit c.args.out.now.items c.expression.new.out.items c.left_over.new.out.items c.expression-2.new.out.items c.in_ok-form.ensures.form
-    c.in_ok-form.ensures.emits c.in_ok-left_over.ensures) (rw c.in_ok-form.ensures.kept at c.expression-2.ensures.emits)
+sequence-returns-clause-emits t c = sequence_emitted (view_layout c.args.y.now) c.args.only c.args.kept.now.forms
+    c.args.kept.now.temporaries (view c.args.first.now) (view c.args.second.now) (view_form c.in_ok-form.form) (view_form c.in_ok-answer.answer)
+    c.args.at.temporary c.args.at.arrays c.args.at.exit c.args.out.now.items c.expression.new.out.items c.left_over.new.out.items
+    c.expression-2.new.out.items c.sequence_closed.new.out.items c.in_ok-form.ensures.form (rw c.in_ok-form.ensures.kept at c.in_ok-answer.ensures.form)
+    c.in_ok-form.ensures.emits c.in_ok-left_over.ensures (rw c.in_ok-form.ensures.kept at c.in_ok-answer.ensures.emits) c.in_ok-sequence_closed.ensures
 
 -- what is kept
 
@@ -710,23 +728,8 @@ keeping-next-requires t c = c.requires.0
 pub keeping-expression-requires-2 : goal.keeping-expression-requires-2
 keeping-expression-requires-2 t c = (omega (arith, c.decreases), rw c.next.ensures c.requires.1.1)
 
-pub keeping-released-requires : goal.keeping-released-requires
-keeping-released-requires t c =
-    let a = c.requires.0.0 in
-    omega (arith, a)
-
-pub keeping-overflow_add-at : goal.keeping-overflow_add-at
-keeping-overflow_add-at t c =
-    let a = c.requires.0.0 in
-    omega (arith, a)
-
-pub keeping-moved_from-requires-clause-first : goal.keeping-moved_from-requires-clause-first
-keeping-moved_from-requires-clause-first t c =
-    let a = c.requires.0.0 in
-    omega (arith, a)
-
-pub keeping-moved_from-requires-clause-second : goal.keeping-moved_from-requires-clause-second
-keeping-moved_from-requires-clause-second t c =
+pub keeping-keeping_closed-requires : goal.keeping-keeping_closed-requires
+keeping-keeping_closed-requires t c =
     let a = c.requires.0.0 in
     omega (arith, a)
 
@@ -739,14 +742,10 @@ keeping-returns-clause-form t c =
 pub keeping-returns-clause-emits : goal.keeping-returns-clause-emits
 keeping-returns-clause-emits t c =
     let m = c.in_ok-push.ensures ∙ ap (kept_more (view_form c.in_ok-held.held) c.args.at.temporary) c.in_ok-held.ensures.kept in
-    let n : c.args.at.temporary + 1 ≡ suc c.args.at.temporary = omega arith in
-    λ v. keeping_emitted (view_layout c.args.y.now) v c.args.kept.now c.push.new.self (view c.args.value.now) (view c.args.rest.now) (view_form
+    keeping_emitted (view_layout c.args.y.now) c.args.only c.args.kept.now c.push.new.self (view c.args.value.now) (view c.args.rest.now) (view_form
     c.in_ok-held.held) (view_form c.in_ok-form.form) c.args.at.temporary c.args.at.arrays c.args.at.exit c.args.out.now.items
-    c.expression.new.out.items c.expression-2.new.out.items c.released.new.out.items c.moved_from.new.out.items c.in_ok-held.ensures.form m
-    c.in_ok-form.ensures.form
-    c.in_ok-held.ensures.emits (rw c.next.ensures at c.in_ok-form.ensures.emits) c.in_ok-released.ensures
-    (subst (λ (x : ℕ). Emits c.released.new.out.items c.moved_from.new.out.items (moved_from c.args.y.now.bases.now (view_form c.in_ok-form.form) x
-    c.args.at.temporary)) n c.in_ok-moved_from.ensures)
+    c.expression.new.out.items c.expression-2.new.out.items c.keeping_closed.new.out.items c.in_ok-held.ensures.form m c.in_ok-form.ensures.form
+    c.in_ok-held.ensures.emits (rw c.next.ensures at c.in_ok-form.ensures.emits) c.in_ok-keeping_closed.ensures
 
 pub keeping-returns-clause-kept : goal.keeping-returns-clause-kept
 keeping-returns-clause-kept t c =
