@@ -67,11 +67,12 @@ form_added fs c es all f old mid new e added is q =
 
 -- Expressions with operands, of forms gs.
 
-pub field_emitted : (y : Layout) (v : Bool) (fs : List plain.Form) (ts : List ℕ) (o : Operation) (es : Codes) (n : ℤ) (t w d : ℕ) (a z : List Instr) → field_in o es ≡ Some n
-    → Emits a z (field_read y n t) → Emits a z (emitted y v fs ts (plain.Do o es) t w d)
+pub field_emitted : (y : Layout) (v : Bool) (fs : List plain.Form) (ts : List ℕ) (o : Operation) (es : Codes) (m n : ℤ) (t w d : ℕ) (a z : List Instr) → field_in o es ≡ Some n → m ≡ n
+    → Emits a z (field_read y m t) → Emits a z (emitted y v fs ts (plain.Do o es) t w d)
 unfolding emitted all_emitted
-field_emitted y v fs ts o es n t w d a z e p k =
-    p k ∙ ap (λ (x : Option ℤ). followed a (field_or y x t k (all_emitted y fs ts es t w d (all_converted y fs (plain.arguments o) es t d (performed y o es t d k))))) (sym e)
+field_emitted y v fs ts o es m n t w d a z e h p k =
+    p k ∙ ap (λ (i : ℤ). followed a (field_read y i t k)) h
+    ∙ ap (λ (x : Option ℤ). followed a (field_or y x t k (all_emitted y fs ts es t w d (all_converted y fs (plain.arguments o) es t d (performed y o es t d k))))) (sym e)
 
 pub operation_emitted : (y : Layout) (v : Bool) (fs gs : List plain.Form) (ts : List ℕ) (o : Operation) (es : Codes) (t w d : ℕ) (a b z : List Instr) → field_in o es ≡ None → gs ≡ forms_in fs es
     → Emits a b (all_emitted y fs ts es t w d) → Emits b z (operated y gs o es t d) → Emits a z (emitted y v fs ts (plain.Do o es) t w d)

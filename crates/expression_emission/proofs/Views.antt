@@ -1,5 +1,5 @@
 -- The plain code of code with lists, from those of the lists.
-use Rattle.std.proofs.Common.{◌≡◌, ℕ, Bool, List, ◌∷◌, map, refl, sym, ap, ◌∙◌}
+use Rattle.std.proofs.Common.{◌≡◌, ℕ, ◌≤◌, Bool, List, [], ◌∷◌, length, map, None, refl, sym, ap, ◌∙◌, arith}
 use Rattle.std.specs.declared.vec.Vec.{Vec}
 use Rattle.std.specs.declared.boxed.Box.{Box}
 use Rattle.std.specs.declared.alloc.Global.{Global}
@@ -9,8 +9,10 @@ use Rattle.mid_program.specs.ViewCode.{before, joined, view, view_row, views}
 use Rattle.mid_program.proofs.Views.{view_joined}
 use Rattle.mid_program.specs.declared.mid.Operation.{Operation}
 use Rattle.mid_program.specs.declared.code.Operand.{Operand}
+use Rattle.mid_program.specs.declared.code.Operand.TheVariants as operand
 use Rattle.mid_program.specs.declared.code.Code.{Code, Do, Joined, Over, Call, Replace, Row_of-Operand, end_of-Operand, more_of-Operand, items-the_row-Operand, items_hidden-the_row-Operand-0}
 use Rattle.mid_program.specs.declared.code.Code.TheBlock.{hidden-the_row-Operand-0}
+use Rattle.value_machine.specs.Emission.{one_field}
 
 row_views : {n : _} (k : Row_of-Operand n) → view_row k ≡ views (items-the_row-Operand n k)
 row_views end_of-Operand = refl
@@ -36,3 +38,13 @@ replace_view c all v es b s is e f =
 pub key_view : (c : Code) (a : Box Code Global) (v : Vec Code Global) (z : Box Code Global) (first : Code) (others : List Code) (last : Code) → c ≡ Joined a v z → first ≡ a.value → others ≡ v.items → last ≡ z.value
     → joined (view first ∷ map view others) (view last) ≡ view c
 key_view c a v z first others last is e f g = (λ i. joined (view (e i) ∷ map view (f i)) (view (g i))) ∙ sym (ap view is ∙ view_joined a v z)
+
+-- two operands are not the number of a field
+pub no_field : (es : List Operand) → 2 ≤ length es → None ≡ one_field (views es)
+no_field [] h = absurd (omega arith)
+no_field (x ∷ []) h = absurd (omega arith)
+no_field (operand.Code e ∷ operand.Code f ∷ es) h = refl
+no_field (operand.Code e ∷ operand.Constant n ∷ es) h = refl
+no_field (operand.Code e ∷ operand.Fresh ∷ es) h = refl
+no_field (operand.Constant n ∷ x ∷ es) h = refl
+no_field (operand.Fresh ∷ x ∷ es) h = refl

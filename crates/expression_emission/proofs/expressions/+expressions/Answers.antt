@@ -1,6 +1,9 @@
-use Rattle.std.proofs.Common.{◌≡◌, ℕ, suc, ◌+◌, false, List, [], ◌∷◌, ◌++◌, length, map, sym, ap, ◌∙◌, subst, arith, length-append}
+use Rattle.std.proofs.Common.{rules, ◌≡◌, ℕ, suc, ◌+◌, false, List, [], ◌∷◌, ◌++◌, length, map, sym, ap, ◌∙◌, subst, arith, length-append}
+use Rattle.std.proofs.lemmas.Int.{to_z-of_z}
 use Rattle.std.proofs.lemmas.List.{length-map, map-append}
 use Rattle.std.proofs.lemmas.Result.{IfOk-weaker, on_ok_weaker}
+use Rattle.std.specs.Int.{w64}
+use Rattle.std.specs.Prelude.{FitsSigned}
 use Rattle.awk_state.specs.declared.table.Primitive.TheVariants as row
 use Rattle.mid_program.specs.Mid as plain
 use Rattle.mid_program.specs.Mid.{Codes, form_of}
@@ -438,16 +441,17 @@ operation-field_read-requires t c =
 
 pub operation-returns-in-Some-clause-emits : goal.operation-returns-in-Some-clause-emits
 operation-returns-in-Some-clause-emits t c =
+    let fits : FitsSigned w64 c.in-Some.number = search rules in
     λ v. on_ok_weaker c.field_read.result (field_emitted (view_layout c.args.y.now) v c.args.kept.now.forms c.args.kept.now.temporaries c.args.what
-    (views c.args.es.now) c.in-Some.number c.args.at.temporary c.args.at.arrays c.args.at.exit c.args.out.now.items c.field_read.new.out.items
-    (sym c.field_in.ensures ∙ c.in-Some.is)) c.field_read.ensures.emits
+    (views c.args.es.now) _ c.in-Some.number c.args.at.temporary c.args.at.arrays c.args.at.exit c.args.out.now.items c.field_read.new.out.items
+    (sym c.field_in.ensures ∙ c.in-Some.is) (to_z-of_z w64 c.in-Some.number fits)) c.field_read.ensures.emits
 
 pub operation-returns-clause-emits : goal.operation-returns-clause-emits
 operation-returns-clause-emits t c =
     let e = ap (map view_form) c.deref.ensures.value ∙ (rw c.new-forms.ensures.items at c.in_ok-operands.ensures.forms) in
     λ v. operation_emitted (view_layout c.args.y.now) v c.args.kept.now.forms (map view_form c.deref.result.now) c.args.kept.now.temporaries
     c.args.what (views c.args.es.now) c.args.at.temporary c.args.at.arrays c.args.at.exit c.args.out.now.items c.operands.new.out.items
-    c.operated.new.out.items (sym c.field_in.ensures ∙ c.in-None.is) e c.in_ok-operands.ensures.emits c.in_ok-operated.ensures
+    c.operated.new.out.items (sym c.field_in.ensures ∙ c.in_default.is) e c.in_ok-operands.ensures.emits c.in_ok-operated.ensures
 
 pub listing-returns-clause-emits : goal.listing-returns-clause-emits
 listing-returns-clause-emits t c =
