@@ -1,2 +1,3 @@
 pub mod Within
 pub mod Typed
+pub mod Exact
