@@ -16,7 +16,7 @@ use Rattle.mid_program.specs.declared.mid.Operation.{Operation}
 use Rattle.mid_program.specs.declared.mid.Operation.TheVariants.{Host, Inline, AsNumber, FieldNumber}
 use Rattle.mid_program.specs.MidMeaning.{three_values}
 use Rattle.mid_program.specs.Mid.{Kind, Boxed, Unboxed, Many, Code, Do, Over, Compare, Call, Ask, AskLine, FileLine, Replace, Number, Text, Unset, Get, Set, Array, IsOpen, Choose, Seq, Let, Bound, Codes, End, At, Fixed, Fresh, Step, Eval, Block, If, Loop, Each, Break, Continue, Next, Exit, ExitWith, Return, Mark, Steps, NoStep, Then, Form, a_value, arguments, form_of, parameters_at}
-use Rattle.mid_program.specs.Sorted.{Context, all_sorted, all_values, are_enough, count_of, fit_call, fit_row, fits, is_array_place, is_chosen, is_constant, is_done_here, is_dropped, is_given, is_kept, is_slot, is_tested, keeps_well, sorted, step_sorted, steps_sorted, stores_well, takes, test_sorted}
+use Rattle.mid_program.specs.Sorted.{Context, all_sorted, all_values, are_enough, are_missing, count_of, fit_call, fit_row, fits, is_array_place, is_chosen, is_constant, is_done_here, is_dropped, is_given, is_kept, is_slot, is_tested, keeps_well, sorted, step_sorted, steps_sorted, stores_well, takes, test_sorted}
 use Rattle.value_machine.specs.Places.{room, rooms, step_room, steps_room}
 use Rattle.code_words.proofs.Small.{AllSmall, Small, SmallStep, SmallSteps}
 
@@ -249,7 +249,7 @@ module _ (c : Context) where
         let s1 = and_parts (sorted c fs e) (all_sorted c fs es) s in
         (code_small fs e s1.0 (omega (arith, h)), codes_small fs es s1.1 f (omega (arith, h)))
     codes_small fs (Fixed n es) s f h = (f.0, codes_small fs es s f.1 h)
-    codes_small fs (Fresh es) s f h = codes_small fs es s f h
+    codes_small fs (Fresh es) s f h = codes_small fs es (and_parts (are_missing es) (all_sorted c fs es) s).1 f h
 
   tested_small : (e : Code) → test_sorted c e ≡ true → room e ≤ 50000 → Small e
   tested_small e s h = code_small [] e (and_parts (is_tested (form_of [] e)) (sorted c [] e) s).1 h

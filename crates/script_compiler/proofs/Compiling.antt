@@ -1,5 +1,5 @@
 -- From the parts of a compilation to what is said of the whole.
-use Rattle.std.proofs.Common.{◌≡◌, inl, inr, ℕ, ◌≤◌, ◌^◌, List, length, Option, Some, MatchOption, refl, ap, subst, sym}
+use Rattle.std.proofs.Common.{◌≡◌, ◌⊎◌, inl, inr, ℕ, ◌≤◌, ◌^◌, List, length, Option, Some, MatchOption, refl, ap, subst, sym}
 use Rattle.std.proofs.lemmas.List.Elements.{recursion_from_All}
 use Rattle.awk_state.specs.Jobs.{JobForm}
 use Rattle.world_core.specs.WorldState.{Outside, Source}
@@ -8,6 +8,7 @@ use Rattle.mid_program.specs.Mid.{Program}
 use Rattle.mid_program.specs.MidMeaning.{mid_run_in}
 use Rattle.mid_program.specs.ScriptRun.{resolved_run}
 use Rattle.mid_program.specs.Names.{Resolved}
+use Rattle.mid_program.specs.Sorted.{IsSorted}
 use Rattle.mid_program.specs.Translation.{program_of}
 use Rattle.mid_program.specs.View.{view_mid}
 use Rattle.mid_program.specs.declared.program.Mid.{Mid}
@@ -27,6 +28,8 @@ use Rattle.value_machine.specs.Places.{memory_of}
 use Rattle.expression_emission.specs.Spans.{IsSmall}
 use Rattle.expression_emission.specs.declared.tables.Tables.{Tables}
 use Rattle.number_names.specs.Unboxed.{UnboxesNumbers}
+use Rattle.module_limits.specs.Size.{module_size}
+use Rattle.code_words.specs.Past.{IsPast}
 use Rattle.script_code.specs.Coded.{HasTokens, IsCodeOf, unboxed}
 use Rattle.script_code.specs.Refusals.{IsNotCoded}
 use Rattle.script_code.specs.declared.fault.CompileFault.{CompileFault}
@@ -89,12 +92,22 @@ large : (p : Program) → FewParameters p.routines → ReadsItsItems p → HasNo
 large p few empty (inl past) = no_module p (recursion_from_All Few p.routines few) empty past
 large p few empty (inr none) = none
 
-pub no_bytes : (bytes : List ℕ) (p : Program) (fault : CompileFault) → HasTokens bytes (λ tokens. IsCodeOf tokens p) → HasNoBytes p fault → IsNotCompiled bytes fault
-no_bytes bytes p TooLarge t h =
+-- code of which no bytes are the module passes a limit
+abbrev HasBytes : Program → Type 0
+HasBytes p = (bytes : List ℕ) × IsModule bytes (module_of p) × (length bytes ≡ module_size (module_of p))
+
+past : (p : Program) → IsPastLimits p → HasBytes p ⊎ IsPast (module_of p) → IsPast (module_of p)
+past p none (inl has) = absurd (none has.0 has.1)
+past p none (inr over) = over
+
+pub no_bytes : ((p : Program) → IsSorted p → HasBytes p ⊎ IsPast (module_of p)) → (bytes : List ℕ) (p : Program) (fault : CompileFault) → HasTokens bytes (λ tokens. IsCodeOf tokens p) → HasNoBytes p fault → IsNotCompiled bytes fault
+no_bytes has bytes p TooLarge t h =
     let parameters = few t.tokens p t.said (few_parameters t.said.script t.said.sound.names) in
-    inr (record { short = t.short; tokens = t.tokens; cut = t.cut; said = record { code = p; is_code = t.said; large = large p parameters (reads t.tokens p t.said) h } })
-no_bytes bytes p (Token fault) t h = absurd h
-no_bytes bytes p (Parse fault) t h = absurd h
-no_bytes bytes p (Ere line fault) t h = absurd h
-no_bytes bytes p (Resolve fault) t h = absurd h
-no_bytes bytes p NoMemory t h = tt
+    let none = large p parameters (reads t.tokens p t.said) h in
+    let over = past p none (has p t.said.sorted) in
+    inr (record { short = t.short; tokens = t.tokens; cut = t.cut; said = record { code = p; is_code = t.said; large = none; past = over } })
+no_bytes has bytes p (Token fault) t h = absurd h
+no_bytes has bytes p (Parse fault) t h = absurd h
+no_bytes has bytes p (Ere line fault) t h = absurd h
+no_bytes has bytes p (Resolve fault) t h = absurd h
+no_bytes has bytes p NoMemory t h = tt

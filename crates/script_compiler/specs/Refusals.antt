@@ -4,6 +4,7 @@ use Rattle.awk_tokens.specs.Cutting.{Spelled}
 use Rattle.mid_program.specs.Mid.{Program}
 use Rattle.wasm_types.specs.ModuleGrammar.{IsModule}
 use Rattle.value_machine.specs.Modules.{module_of}
+use Rattle.code_words.specs.Past.{IsPast}
 use Rattle.expression_emission.specs.Spans.{IsSmall}
 use Rattle.module_emission.specs.Limits.{IsTooLarge}
 use Rattle.statement_emission.specs.Limits.{AreSmallEnough}
@@ -12,15 +13,17 @@ use Rattle.script_code.specs.Refusals.{IsNotCoded}
 use Rattle.script_code.specs.declared.fault.CompileFault.{CompileFault}
 use Rattle.script_code.specs.declared.fault.CompileFault.TheVariants.{TooLarge, NoMemory}
 
--- No bytes of the profile are its module: it passes 16 MiB, or a function of it 50,000 locals, or code 4,000 blocks in one another.
+-- no bytes of the profile are its module
 abbrev pub IsPastLimits : Program → Type 0
 IsPastLimits p = (bytes : List ℕ) → IsModule bytes (module_of p) → ⊥
 
--- the code of the script is past the limits
+-- No bytes are the module of the script's code, and why: it has more than 16 MiB of them, a function with more than 50,000 locals, or one with more than 4,000 blocks
+-- in one another. Nothing else makes it too large.
 pub record HasLargeCode (tokens : List Spelled) : Type 0 where
   pub code : Program
   pub is_code : IsCodeOf tokens code
   pub large : IsPastLimits code
+  pub past : IsPast (module_of code)
 
 abbrev pub IsNotCompiled : List ℕ → CompileFault → Type 0
 IsNotCompiled bytes TooLarge = (2 ^ 20 < length bytes) ⊎ HasTokens bytes HasLargeCode

@@ -7,6 +7,7 @@ ghost use Rattle.wasm_types.specs.ModuleGrammar.{IsModule};
 ghost use Rattle.script_compiler.specs.Compiled.{IsCompiled};
 ghost use Rattle.script_compiler.specs.Refusals.{HasNoBytes, IsNotCompiled};
 
+use code_words::laws::code_has_bytes;
 use expression_emission::Tables;
 use mid_program::Mid;
 use module_agreement::laws::modules_agree;
@@ -51,8 +52,8 @@ fn bytes_of(alloc: Global, mid: &Mid) -> Result<Vec<u8>, CompileFault>
 ///
 /// # Errors
 ///
-/// The first of these that there is: those of [`code_of`]; then [`CompileFault::TooLarge`] where no bytes of the profile are the module: it passes 16 MiB,
-/// 50,000 locals of a function, or 4,000 blocks in one another.
+/// The first of these that there is: those of [`code_of`]; then [`CompileFault::TooLarge`] where the module passes 16 MiB, 50,000 locals of a function, or 4,000
+/// blocks in one another, and nowhere else.
 /// [`CompileFault::NoMemory`] where memory was wanting, in place of any answer.
 pub fn compile(alloc: Global, script: &[u8]) -> Result<Vec<u8>, CompileFault>
     ensures compiled { IfOk result (λ v. IsCompiled script.now v.items) }
@@ -67,6 +68,7 @@ pub fn compile(alloc: Global, script: &[u8]) -> Result<Vec<u8>, CompileFault>
     statements_are_quiet();
     places_are_passed();
     names_of_numbers_are_unboxed();
+    code_has_bytes();
     let mid = code_of(alloc, script)?;
     let bytes = bytes_of(alloc, &mid)?;
     Ok(bytes)

@@ -21,4 +21,4 @@ returns-clause-compiled c =
 pub returns-in_err-bytes-clause-refused : goal.returns-in_err-bytes-clause-refused
 returns-in_err-bytes-clause-refused c =
     let p = err_from_is_err_and c.from_residual-in_err-bytes.result c.from_residual-in_err-bytes.ensures.1 in
-    rw (p.1, p.2) (no_bytes c.args.script.now (view_mid c.in_ok-mid.mid) c.in_err-bytes.field-0.0 c.in_ok-mid.ensures.coded c.in_err-bytes.ensures.err)
+    rw (p.1, p.2) (no_bytes c.code_has_bytes.ensures c.args.script.now (view_mid c.in_ok-mid.mid) c.in_err-bytes.field-0.0 c.in_ok-mid.ensures.coded c.in_err-bytes.ensures.err)
