@@ -20,7 +20,7 @@ use Rattle.value_machine.specs.Places.{Bases, handle_local, number_global, numbe
 use Rattle.value_machine.specs.Small.{text_beside, to_number}
 use Rattle.value_refined.proofs.Putting.{set_there}
 use Rattle.quiet_statements.specs.Sums.{HasNoText, IsSum, IsSumOperator, constant, itself, joined, name}
-use Rattle.quiet_statements.proofs.Flowing.{Flows, branch, const64, ended, get, get_global, set, set_global, tee}
+use Rattle.quiet_statements.proofs.Flowing.{Flows, branch, compare, const64, ended, get, get_global, set, set_global, tee}
 use Rattle.quiet_statements.proofs.Parts.{Faults, equal_word, no_mark_flows, number_is_flows, ranged_flows, times_flows}
 
 -- Locals that stay.
