@@ -48,7 +48,7 @@ module _ (c : Context) (texts : List (List ℕ)) (script : Resolved) where
     items_fine i [] f h l = refl
     items_fine i (item.Always ss ∷ is) f h l =
         let q = text_parts (item_texts (item.Always ss)) (items_texts is) h in
-        rw (body_fine None agrees ss f.0 q.0, items_fine i is f.1 q.1 l) refl
+        rw (body_fine None agrees ss f.0 q.0, items_fine i is f.1 q.1 (omega (arith, l))) refl
     items_fine i (item.When p ss ∷ is) f h l =
         let q = text_parts (item_texts (item.When p ss)) (items_texts is) h in
         let r = text_parts (pattern_texts p) (stmts_texts ss) q.0 in
@@ -56,7 +56,7 @@ module _ (c : Context) (texts : List (List ℕ)) (script : Resolved) where
     items_fine i (item.Lone p ∷ is) f h l =
         let q = text_parts (item_texts (item.Lone p)) (items_texts is) h in
         rw (where_fine i p (Block (steps_code texts scope print_record)) f.0 q.0 (omega (arith, l)) print_fine, items_fine (pattern_ranges p + i) is f.1 q.1 (omega (arith, l))) refl
-    items_fine i (it ∷ is) f h l = items_fine i is f.1 (text_parts (item_texts it) (items_texts is) h).1 l
+    items_fine i (it ∷ is) f h l = items_fine i is f.1 (text_parts (item_texts it) (items_texts is) h).1 (omega (arith, l))
 
     begin_fine : (is : List Item) → ItemsFit script is → AllWithin texts (items_texts is) → steps_sorted c false false (begin_code texts scope is) ≡ true
     unfolding step_sorted steps_sorted
