@@ -12,8 +12,8 @@ use Rattle.mid_code.proofs.StepParts.{chain_maybe}
 use Rattle.mid_code.proofs.Views.{chain, chain_end}
 use Rattle.mid_code.proofs.item.record_items.Goals as goal
 
-pub loop-item-preserved-code : goal.loop-item-preserved-code
-loop-item-preserved-code c =
+pub loop-item-preserved : goal.loop-item-preserved
+loop-item-preserved c =
     let item : Item = c.item-item.result in
     let items = c.args.items.now in
     let i = c.loop-item.item-index in
@@ -22,11 +22,15 @@ loop-item-preserved-code c =
     let code = items_code (texts_of c.args.scope.now) (scope_of c.args.scope.now) in
     let left = view_items (drop (i + 1) items) in
     let next = n + c.ranges_of.result in
-    ap (λ (ss : List Step). chain ss (code next left)) c.in_ok-push_found.ensures
-    ∙ chain_maybe found (unboxed c.in_ok-record_item.field-0) (code next left)
-    ∙ ap (chain found) (ap (λ (j : ℕ). maybe_then (unboxed c.in_ok-record_item.field-0) (code j left)) (omega (arith, c.ranges_of.ensures.is)) ∙ sym (c.in_ok-record_item.ensures left))
-    ∙ sym (ap (λ (xs : List Item). chain found (code n (view_items xs))) (drop_at items i item c.loop-item-test.true c.item-item.is))
-    ∙ c.loop-item.invariant.code
+    record {
+      code =
+          ap (λ (ss : List Step). chain ss (code next left)) c.in_ok-push_found.ensures
+          ∙ chain_maybe found (unboxed c.in_ok-record_item.field-0) (code next left)
+          ∙ ap (chain found) (ap (λ (j : ℕ). maybe_then (unboxed c.in_ok-record_item.field-0) (code j left)) (omega (arith, c.ranges_of.ensures.is)) ∙ sym (c.in_ok-record_item.ensures left))
+          ∙ sym (ap (λ (xs : List Item). chain found (code n (view_items xs))) (drop_at items i item c.loop-item-test.true c.item-item.is))
+          ∙ c.loop-item.invariant.code;
+      within = omega (arith, c.ranges_of.ensures.within, c.loop-item.invariant.within);
+    }
 
 pub returns : goal.returns
 returns c =
