@@ -13,7 +13,9 @@ use Rattle.value_machine.specs.Imports.{import_number}
 use Rattle.value_machine.specs.declared.import.Import.TheVariants.{Of}
 use Rattle.mid_program.specs.MidMeaning.{three_values}
 use Rattle.mid_program.specs.Mid.{Kind, Boxed, Unboxed, Many, Code, Do, Over, Compare, Call, Ask, AskLine, FileLine, Replace, Number, Text, Unset, Get, Set, Array, IsOpen, Choose, Seq, Let, Bound, Codes, End, At, Fixed, Fresh, Step, Eval, Block as Steps_, If as Either, Loop, Each, Break, Continue, Next, Exit, ExitWith, Return, Mark, Steps, NoStep, Then as AndThen, Program, Routine, Form, a_value, form_of}
-use Rattle.value_machine.specs.Emission.{Layout, all_emitted, emitted, text_kept}
+use Rattle.mid_program.specs.declared.mid.Operation.{Operation}
+use Rattle.mid_program.specs.declared.mid.Operation.TheVariants.{Host}
+use Rattle.value_machine.specs.Emission.{Layout, all_emitted, constant_field, emitted, field_in, field_or, one_field, text_kept}
 use Rattle.value_machine.specs.Functions.{layout_of, main_bases, main_callee, routine_bases, routine_callee}
 use Rattle.value_machine.specs.Places.{Bases}
 use Rattle.value_machine.specs.Quick.{Within, test_within, joined, all_unsure, Sum, sum_names, sum_in, Pair, pair_names, pair_in, step_jumps, is_nothing}
@@ -60,9 +62,34 @@ more_most : (j : Bool) (n : ℕ) → more_if j n ≤ suc n
 more_most true n = omega arith
 more_most false n = omega arith
 
+-- a field whose number is a constant has no label
+
+constant_labels : (e : Code) (z : ℤ) → constant_field e ≡ Some z → labels_in e ≡ 0
+constant_labels (Number x) z e = refl
+constant_labels _ z e = cc
+
+one_labels : (es : Codes) (z : ℤ) → one_field es ≡ Some z → labels_among es ≡ 0
+one_labels (At e End) z h = let n = constant_labels e z h in omega (arith, n)
+one_labels _ z h = cc
+
+host_labels : (p : Primitive) (es : Codes) (z : ℤ) → field_in (Host p) es ≡ Some z → labels_among es ≡ 0
+host_labels row.Field es z h = one_labels es z h
+host_labels _ es z h = cc
+
+field_labels : (o : Operation) (es : Codes) (z : ℤ) → field_in o es ≡ Some z → labels_among es ≡ 0
+field_labels (Host p) es z h = host_labels p es z h
+field_labels _ es z h = cc
+
 module _ (y : Layout) where
   abbrev b : Bases
   b = y.bases
+
+  field_labelled : {other : Instructions} (o : Operation) (es : Codes) (t : ℕ) (k : Instructions) → Deep other (labels_among es) → Deep (field_or y (field_in o es) t k other) (labels_among es)
+  field_labelled {other = other} o es t k r = by (field_in o es) refl
+    where
+      by : (x : Option ℤ) → field_in o es ≡ x → Deep (field_or y x t k other) (labels_among es)
+      by (Some z) e = at_least any (let n = field_labels o es z e in omega (arith, n))
+      by None e = r
 
   line_kept : {k : Instructions} {m : ℕ} (p : Primitive) (t : ℕ) → Deep k m → Deep (text_kept y p t k) m
   line_kept p t r = past _ (past _ r)
@@ -73,7 +100,7 @@ module _ (y : Layout) where
     unfolding emitted all_emitted
 
     pub labelled : (k : Instructions) (v : Bool) (fs : List Form) (ts : List ℕ) (e : Code) (t w d : ℕ) → Deep (emitted y v fs ts e t w d k) (labels_in e)
-    labelled k v fs ts (Do o es) t w d = all_labelled _ fs ts es t w d
+    labelled k v fs ts (Do o es) t w d = field_labelled o es t k (all_labelled _ fs ts es t w d)
     labelled k v fs ts (Over l es) t w d = all_labelled _ fs ts es t w d
     labelled k v fs ts (Compare c e f) t w d = both (labelled _ false fs ts e t w d) (emitted_deep y false fs ts e t w d (labelled _ false fs ts f (suc t) w d))
     labelled k v fs ts (Call f es) t w d = all_labelled _ fs ts es t w d
@@ -98,8 +125,8 @@ module _ (y : Layout) where
     labelled k v fs ts (Choose s c e f) t w d =
         both (labelled _ false fs ts c t w d)
         (emitted_deep y false fs ts c t w d (truth_deep b (form_of fs c) t (inside_either (labelled _ false fs ts e t w (suc d)) (labelled _ false fs ts f t w (suc d)))))
-    labelled k v fs ts (Seq e f) t w d = both (labelled _ true fs ts e t w d) (emitted_deep y true fs ts e t w d (left_deep y e (form_of fs e) t (labelled _ false fs ts f t w d)))
-    labelled k v fs ts (Let e f) t w d = both (labelled _ false fs ts e t w d) (emitted_deep y false fs ts e t w d (labelled _ false (form_of fs e ∷ fs) (t ∷ ts) f (suc t) w d))
+    labelled k v fs ts (Seq e f) t w d = both (labelled _ true fs ts e t w d) (emitted_deep y true fs ts e t w d (left_deep y e (form_of fs e) t (labelled _ v fs ts f t w d)))
+    labelled k v fs ts (Let e f) t w d = both (labelled _ false fs ts e t w d) (emitted_deep y false fs ts e t w d (labelled _ v (form_of fs e ∷ fs) (t ∷ ts) f (suc t) w d))
     labelled k v fs ts (Bound z i) t w d = any
 
     all_labelled : (k : Instructions) (fs : List Form) (ts : List ℕ) (es : Codes) (t w d : ℕ) → Deep (all_emitted y fs ts es t w d k) (labels_among es)
