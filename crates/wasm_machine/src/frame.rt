@@ -12,7 +12,7 @@ use machine_code::{Code, Fused, Op};
 use machine_model::Access;
 use std::alloc::{AllocError, Global};
 use std::rc::Rc;
-use wasm_store::{Globals, TrapKind, Word};
+use wasm_store::{Globals, Memory, TrapKind, Word};
 use wasm_types::{CvtOp, IBinOp, IRelOp, ITestOp, IUnOp, ValType};
 
 /// How a step within a frame went.
@@ -333,15 +333,21 @@ impl Frame {
 
     /// Several steps at once, as long as that is known how. One step at least is left.
     #[inline(never)]
-    fn several(&mut self, globals: &mut Globals, given: u64) -> Result<u64, AllocError>
-        ensures { IfOk result (λ left. Hurried given left (frame_of self.old) globals.old
-            (frame_of self.new) globals.new) }
+    fn several(
+        &mut self,
+        globals: &mut Globals,
+        memory: &mut Memory,
+        given: u64,
+    ) -> Result<u64, AllocError>
+        ensures { IfOk result (λ left. Hurried given left (frame_of self.old) globals.old memory.old
+            (frame_of self.new) globals.new memory.new) }
     {
         let reached = hurry(
             &self.code,
             &mut self.locals,
             &mut self.levels,
             globals,
+            memory,
             self.at,
             given,
         )?;
@@ -351,14 +357,21 @@ impl Frame {
 
     /// The same, where more begins here than one instruction of those that often stand alone.
     #[inline(always)]
-    pub(crate) fn burst(&mut self, globals: &mut Globals, given: u64) -> Result<u64, AllocError>
-        ensures { IfOk result (λ left. Hurried given left (frame_of self.old) globals.old
-            (frame_of self.new) globals.new) }
+    pub(crate) fn burst(
+        &mut self,
+        globals: &mut Globals,
+        memory: &mut Memory,
+        given: u64,
+    ) -> Result<u64, AllocError>
+        ensures { IfOk result (λ left. Hurried given left (frame_of self.old) globals.old memory.old
+            (frame_of self.new) globals.new memory.new) }
     {
         match self.code.fused(self.at) {
             None
             | Some(
                 Fused::Other
+                | Fused::I32(_)
+                | Fused::I64(_)
                 | Fused::Get(_)
                 | Fused::GetGlobal(_)
                 | Fused::Tee(_)
@@ -366,7 +379,7 @@ impl Frame {
                 | Fused::Br(_)
                 | Fused::BrIf(_),
             ) => Ok(given),
-            Some(_) => self.several(globals, given),
+            Some(_) => self.several(globals, memory, given),
         }
     }
 
