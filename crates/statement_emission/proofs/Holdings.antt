@@ -1,5 +1,5 @@
 -- What a function holds is emptied and let go as the definitions say it, sort by sort.
-use Rattle.std.proofs.Common.{◌≡◌, ℕ, zero, suc, ◌+◌, ◌-◌, ◌<◌, Bool, true, false, not, nat_eq, List, [], ◌∷◌, length, map, refl, sym, ap, ◌∙◌, arith}
+use Rattle.std.proofs.Common.{◌≡◌, ℕ, zero, suc, ◌+◌, ◌-◌, ◌<◌, Bool, true, false, List, [], ◌∷◌, length, map, refl, sym, ap, ◌∙◌, arith}
 use Rattle.wasm_types.specs.Syntax.{Instructions}
 use Rattle.mid_program.specs.Mid as plain
 use Rattle.mid_program.specs.View.{view_routine}
@@ -69,9 +69,13 @@ held_emptied_all y k =
 
 -- what `next` and `exit` left: all, or no more than iterators where there are no functions
 
-pub any_functions : (rs : List Routine) (none : Bool) → none ≡ nat_eq (length rs) 0 → has_functions (map (λ (r : plain.Routine). r.parameters) (map view_routine rs)) ≡ not none
-any_functions [] none e = ap not (sym e)
-any_functions (r ∷ rs) none e = ap not (sym e)
+pub no_functions : (rs : List Routine) → length rs ≡ 0 → has_functions (map (λ (r : plain.Routine). r.parameters) (map view_routine rs)) ≡ false
+no_functions [] e = refl
+no_functions (r ∷ rs) e = absurd (omega (arith, e))
+
+pub some_functions : (rs : List Routine) → 0 < length rs → has_functions (map (λ (r : plain.Routine). r.parameters) (map view_routine rs)) ≡ true
+some_functions [] lt = absurd (omega (arith, lt))
+some_functions (r ∷ rs) lt = refl
 
 pub iterators_left : (y : Layout) (calls : Bool) (k : Instructions) → calls ≡ false → held_swept Iterators y.bases zero y.bases.iterators k ≡ left_swept y calls k
 iterators_left y calls k e = iterators_sweep y zero y.bases.iterators k ∙ ap (λ (z : Bool). left_swept y z k) (sym e)
