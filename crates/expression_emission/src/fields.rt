@@ -68,10 +68,8 @@ pub(crate) fn field_in(operation: Operation, operands: &[Operand]) -> Option<i64
 {
     match operation {
         Operation::Host(Primitive::Field) => one_field(operands),
-        Operation::Host(_)
-        | Operation::Inline(_)
-        | Operation::AsNumber
-        | Operation::FieldNumber => None,
+        Operation::Host(_) | Operation::Inline(_) | Operation::AsNumber | Operation::FieldNumber =>
+            None,
     }
 }
 
