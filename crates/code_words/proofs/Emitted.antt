@@ -1,5 +1,5 @@
 -- The constants of emitted code have their widths, if those of what comes after it have.
-use Rattle.std.proofs.Common.{◌≡◌, ◌≤◌, ◌<◌, ◌+◌, ◌^◌, ℕ, zero, suc, Bool, true, false, ◌||◌, List, [], ◌∷◌, length, refl, arith}
+use Rattle.std.proofs.Common.{◌≡◌, ◌≤◌, ◌<◌, ◌+◌, ◌^◌, ℕ, zero, suc, Bool, true, false, ◌||◌, List, [], ◌∷◌, length, refl, arith, Option, Some, None, subst}
 use Rattle.std.specs.Int.{w64, cast_unsigned}
 use Rattle.std.specs.Prelude.{if◌then◌else◌, get_or, ℤ, pos, negsuc, unsigned_abs}
 use Rattle.awk_values.specs.declared.comparison.CompareOp.{CompareOp}
@@ -26,11 +26,12 @@ use Rattle.mid_program.specs.declared.mid.Arithmetic.TheVariants as inline
 use Rattle.mid_program.specs.declared.mid.Operation.{Operation}
 use Rattle.mid_program.specs.declared.mid.Operation.TheVariants.{Host, Inline, AsNumber, FieldNumber}
 use Rattle.mid_program.specs.MidMeaning.{three_values}
+use Rattle.mid_program.specs.Steps.{is_field_number}
 use Rattle.mid_program.specs.Names.{ArrayName, Numbered, Given}
 use Rattle.mid_program.specs.Mid.{Kind, Boxed, Unboxed, Many, Slot, Global, Parameter, Code, Do, Over, Compare, Call, Ask, AskLine, FileLine, Replace, Number, Text, Unset, Get, Set, Array, IsOpen, Choose, Seq, Let, Bound, Codes, End, At, Fixed, Fresh, Form, Answered, Bare, Perhaps, a_value, form_of, form_at, arguments, parameters_at}
 use Rattle.mid_program.specs.Sorted.{count_of}
 use Rattle.value_machine.specs.Arithmetic.{calculated, compared, field_checked, is_value, may_be_text, numbers_compared, texts_beside, values_compared, zeroed_if}
-use Rattle.value_machine.specs.Emission.{Layout, all_appended, all_boxed, all_converted, all_emitted, all_freed, all_given, all_given_pushed, all_pushed, array_meant, array_pushed, asked, assigned, assigned_by_number, dropped, emitted, handle_stored, left_over, listed_asked, one_given, one_pushed, pending_assigned, performed, slot_read, slot_set, tested, text_kept, text_let_go, text_pushed, value_stored, values_counted}
+use Rattle.value_machine.specs.Emission.{Layout, bound_read, constant_field, field_in, field_or, keeping_closed, sequence_closed, all_appended, all_boxed, all_converted, all_emitted, all_freed, all_given, all_given_pushed, all_pushed, array_meant, array_pushed, asked, assigned, assigned_by_number, dropped, emitted, handle_stored, left_over, listed_asked, one_given, one_pushed, pending_assigned, performed, slot_read, slot_set, tested, text_kept, text_let_go, text_pushed, value_stored, values_counted}
 use Rattle.value_machine.specs.Places.{Bases, made_in, memory_of, place_of}
 use Rattle.value_machine.specs.Small.{boxed_perhaps, bound_from, code_number, converted, kept, kept_code, kept_done, kept_number, kept_value, moved_from, released, to_number, to_value, truth, unused}
 use Rattle.code_words.proofs.Fits.{Fits, choice, fits_simple, in_loop, long_fits, none, place_within, plain, text_within, word_fits}
@@ -64,6 +65,19 @@ counted_few Appended count = omega arith
 pub number_small : (z : ℤ) → unsigned_abs z ≤ 2 ^ 53 → cast_unsigned w64 z < 2 ^ 64
 number_small (pos n) h = omega (arith, h)
 number_small (negsuc n) h = omega arith
+
+-- a field whose number is a constant
+read_small : (e : Code) (z : ℤ) → constant_field e ≡ Some z → Small e → unsigned_abs z ≤ 2 ^ 53
+read_small (Number y) z q s = by (is_field_number y) q
+  where
+    by : (c : Bool) → (if c then Some y else None) ≡ Some z → unsigned_abs z ≤ 2 ^ 53
+    by true e = let same : y ≡ z = cc in subst (λ (n : ℤ). unsigned_abs n ≤ 2 ^ 53) same s
+    by false e = absurd cc
+read_small e z q s = absurd cc
+
+field_small : (o : Operation) (es : Codes) (z : ℤ) → field_in o es ≡ Some z → AllSmall es → unsigned_abs z ≤ 2 ^ 53
+field_small (Host row.Field) (At e End) z q s = read_small e z q s.0
+field_small o es z q s = absurd cc
 
 -- ---- small pieces
 
@@ -312,6 +326,9 @@ module _ (y : Layout) (names : length y.names ≤ 2 ^ 24) (memory : length (memo
   module _ {k : Instructions} where
     pub left_fits : (e : Code) (f : Form) (t : ℕ) → Fits k → Fits (left_over y e f t k)
     left_fits (Set x e) f t r = r
+    left_fits (Seq e c) f t r = r
+    left_fits (Let e c) f t r = r
+    left_fits (Bound m i) f t r = r
     left_fits e f t r = unused_fits b f t r
 
   module _ {k : Instructions} where
@@ -321,6 +338,25 @@ module _ (y : Layout) (names : length y.names ≤ 2 ^ 24) (memory : length (memo
   line_fits : {k : Instructions} (p : Primitive) (t : ℕ) → Fits k → Fits (text_kept y p t k)
   line_fits p t r = plain _ refl (plain _ refl r)
 
+  module _ {k : Instructions} where
+    sequence_fits : (v : Bool) (e : Code) (f : Form) (t : ℕ) → Fits k → Fits (sequence_closed y v e f t k)
+    sequence_fits true e f t r = left_fits e f t r
+    sequence_fits false e f t r = r
+
+    keeping_fits : (v : Bool) (e : Code) (g f : Form) (t : ℕ) → Fits k → Fits (keeping_closed y v e g f t k)
+    keeping_fits true e g f t r = left_fits e f (suc t) (released_fits b g t r)
+    keeping_fits false e g f t r = released_fits b g t (moved_fits b f (suc t) t r)
+
+    read_bound_fits : (v m : Bool) (f : Form) (s t : ℕ) → Fits k → Fits (bound_read y v m f s t k)
+    read_bound_fits true m f s t r = r
+    read_bound_fits false m f s t r = bound_fits b m f s t r
+
+    field_or_fits : {other : Instructions} (o : Option ℤ) (t : ℕ) → ((z : ℤ) → o ≡ Some z → unsigned_abs z ≤ 2 ^ 53) → Fits k → Fits other →
+        Fits (field_or y o t k other)
+    field_or_fits (Some z) t h r q =
+        plain (I64Const (cast_unsigned w64 z)) (long_fits (cast_unsigned w64 z) (number_small z (h z refl))) (plain _ refl (plain _ refl r))
+    field_or_fits None t h r q = q
+
   -- Code.
 
   mutual
@@ -328,7 +364,9 @@ module _ (y : Layout) (names : length y.names ≤ 2 ^ 24) (memory : length (memo
 
     pub emitted_fits : {k : Instructions} (v : Bool) (fs : List Form) (ts : List ℕ) (e : Code) (t w d : ℕ) → Small e → Fits k →
         Fits (emitted y v fs ts e t w d k)
-    emitted_fits v fs ts (Do o es) t w d s r = emits_fits fs ts es t w d s (converts_fits fs (arguments o) es t d (performed_fits o es t d s r))
+    emitted_fits v fs ts (Do o es) t w d s r =
+        field_or_fits (field_in o es) t (λ z q. field_small o es z q s) r
+        (emits_fits fs ts es t w d s (converts_fits fs (arguments o) es t d (performed_fits o es t d s r)))
     emitted_fits v fs ts (Over l es) t w d s r = emits_fits fs ts es t w d s.1 (boxes_fits fs es t (appends_fits es t (listed_fits l (count_of es) t d s.0 r)))
     emitted_fits v fs ts (Compare c e f) t w d s r =
         emitted_fits false fs ts e t w d s.0 (emitted_fits false fs ts f (suc t) w d s.1 (compared_fits b c (form_of fs e) (form_of fs f) t d r))
@@ -361,11 +399,11 @@ module _ (y : Layout) (names : length y.names ≤ 2 ^ 24) (memory : length (memo
         (emitted_fits false fs ts e t w (suc d) s.1.0 (converted_fits b (form_of fs e) q t (suc d) none))
         (emitted_fits false fs ts f t w (suc d) s.1.1 (converted_fits b (form_of fs f) q t (suc d) none)) r))
     emitted_fits v fs ts (Seq e f) t w d s r =
-        emitted_fits true fs ts e t w d s.0 (left_fits e (form_of fs e) t (emitted_fits false fs ts f t w d s.1 r))
+        emitted_fits true fs ts e t w d s.0 (left_fits e (form_of fs e) t (emitted_fits v fs ts f t w d s.1 (sequence_fits v f (form_of fs f) t r)))
     emitted_fits v fs ts (Let e f) t w d s r =
-        emitted_fits false fs ts e t w d s.0 (emitted_fits false (form_of fs e ∷ fs) (t ∷ ts) f (suc t) w d s.1
-        (released_fits b (form_of fs e) t (moved_fits b (form_of (form_of fs e ∷ fs) f) (suc t) t r)))
-    emitted_fits v fs ts (Bound z i) t w d s r = bound_fits b z (form_at fs i) (get_or ts i zero) t r
+        emitted_fits false fs ts e t w d s.0 (emitted_fits v (form_of fs e ∷ fs) (t ∷ ts) f (suc t) w d s.1
+        (keeping_fits v f (form_of fs e) (form_of (form_of fs e ∷ fs) f) t r))
+    emitted_fits v fs ts (Bound z i) t w d s r = read_bound_fits v z (form_at fs i) (get_or ts i zero) t r
 
     pub emits_fits : {k : Instructions} (fs : List Form) (ts : List ℕ) (es : Codes) (t w d : ℕ) → AllSmall es → Fits k → Fits (all_emitted y fs ts es t w d k)
     emits_fits fs ts End t w d s r = r

@@ -1,5 +1,5 @@
 -- The constants of the code of steps, of functions and of `main` have their widths.
-use Rattle.std.proofs.Common.{◌≡◌, ◌≤◌, ◌<◌, ◌+◌, ◌^◌, ℕ, zero, suc, true, false, List, [], ◌∷◌, length, Option, Some, None, refl, subst, arith}
+use Rattle.std.proofs.Common.{Bool, true, false, ◌≡◌, ◌≤◌, ◌<◌, ◌+◌, ◌^◌, ℕ, zero, suc, List, [], ◌∷◌, length, Option, Some, None, refl, subst, arith}
 use Rattle.std.specs.Int.{w64, cast_unsigned}
 use Rattle.std.specs.Prelude.{is_some, ℤ, pos, ◌+ℤ◌, unsigned_abs}
 use Rattle.awk_values.specs.declared.comparison.CompareOp.{CompareOp}
@@ -16,7 +16,7 @@ use Rattle.mid_program.specs.Mid.{Kind, Boxed, Unboxed, Many, Global, Code, Do, 
 use Rattle.value_machine.specs.Emission.{Layout}
 use Rattle.value_machine.specs.Places.{Bases, memory_of}
 use Rattle.value_machine.specs.Quick.{Within, test_within, both_within, compared_within, constant_in, first_ones, name_in, joined, all_unsure, Source, Named, Constant, source_in, Sum, sum_names, sum_in, sum_of, two_sum, set_sum, kept_sum, update_sum, old_source, stored_name, new_sum, let_sum, is_near, Pair, pair_names, pair_in, pair_of, step_jumps, is_nothing}
-use Rattle.value_machine.specs.Statements.{name_read, source_pushed, summed, quickly_dropped, pair_left, left_unless_pair, left_unless, all_emptied, arrays_emptied, arrays_swept, before_parts, declared, goes_on, iterator_left, iterators_emptied, iterators_swept, key_stored, left_by, main_body, names_declared, names_made, parameters_dropped, part_done, record_done, records_read, routine_body, routines_declared, step_emitted, steps_emitted, swept, temporaries_emptied, temporaries_swept}
+use Rattle.value_machine.specs.Statements.{name_read, source_pushed, summed, quickly_dropped, pair_left, left_unless_pair, left_unless, all_emptied, arrays_emptied, arrays_swept, before_parts, declared, goes_on, has_functions, iterator_left, iterators_emptied, iterators_swept, key_stored, left_by, left_swept, main_body, names_declared, names_made, parameters_dropped, part_done, record_done, records_read, routine_body, routines_declared, step_emitted, steps_emitted, swept, temporaries_emptied, temporaries_swept}
 use Rattle.std.proofs.lemmas.Bool.{leb-true}
 use Rattle.value_machine.proofs.Quick.{constant_is, shift_pos}
 use Rattle.value_machine.proofs.QuickNames.{near_sum, some_is, source_code, source_is}
@@ -300,8 +300,12 @@ module _ (y : Layout) (names : length y.names ≤ 2 ^ 24) (memory : length (memo
       (names_fit (length p.texts) y.names (routines_fit (length p.texts + length p.globals) (length p.routines)
       (made_fit zero y.names (asked_fits y names memory row.StartAssign zero zero r)))))))
 
+  left_go : {k : Instructions} (calls : Bool) → Fits k → Fits (left_swept y calls k)
+  left_go true r = swept_fit r
+  left_go false r = iterators_go zero b.iterators r
+
   goes_fit : {k : Instructions} → Fits k → Fits (goes_on y k)
-  goes_fit r = plain _ refl (plain _ refl (swept_fit r))
+  goes_fit r = plain _ refl (plain _ refl (left_go (has_functions y.calls) r))
 
   record_fits : {k : Instructions} (items : Steps) (d : ℕ) → SmallSteps items → Fits k → Fits (record_done y items d k)
   record_fits items d s r =
