@@ -21,10 +21,10 @@ use Rattle.awk_state.specs.declared.constants.NameKind.TheVariants.{Scalar}
 -- -v FS=q -v nobody=3 -v v=1 -v OFS=-, where the script has v
 abbrev pub before_begin : Shared
 before_begin = after_call Declare (codes "v", (Scalar, tt)) (shared_at_start (record {
-      operands = [];
-      assigns = (codes "FS", codes "q") ∷ (codes "nobody", codes "3") ∷ (codes "v", codes "1") ∷ (codes "OFS", codes "-") ∷ [];
-      environment = [];
-    }) nothing empty)
+  operands = [];
+  assigns = (codes "FS", codes "q") ∷ (codes "nobody", codes "3") ∷ (codes "v", codes "1") ∷ (codes "OFS", codes "-") ∷ [];
+  environment = [];
+}) nothing empty)
 
 -- those before the one that is left pending
 pub two_carried : carried_out StartAssign before_begin ≡ 2

@@ -82,10 +82,12 @@ long_environment text long = ap (λ n. if false || (false || ((not (nat_le n (2 
 
 abbrev pub far : ℕ → Shared
 far next = after_call SetSpecial (Argc, (value.Num (pos (2 ^ 30)), tt))
-    (record at_start { inner = record at_start.inner {
-      arrays = ((codes "1048577", value.Text (codes "v=1")) ∷ []) ∷ ([] ∷ []);
-      main = record at_start.inner.main { next = next; operands = SomeFile };
-    } })
+    (record at_start {
+      inner = record at_start.inner {
+        arrays = ((codes "1048577", value.Text (codes "v=1")) ∷ []) ∷ ([] ∷ []);
+        main = record at_start.inner.main { next = next; operands = SomeFile };
+      };
+    })
 
 pub none_past_the_last : answered NextMain tt (far 1048577) ≡ Ok input.End
 unfolding digits

@@ -85,9 +85,9 @@ module _ (p : Program) (deepest : Watch) (ks : List Kind) (F : List Frame) (b : 
       let whole = λ (o : Option ℤ). field_or y o t k (all_emitted y fs ts (At (Number (pos j)) End) t w d (all_converted y fs (argument.Of sort.Number ∷ []) (At (Number (pos j)) End) t d (performed y (Host row.Field) (At (Number (pos j)) End) t d k))) in
       let R = λ (o : Option ℤ) (r : Outcome Value). Reached p deepest ks F b M (work_of e) σ.turns (at ks [] K (laid b l) F (whole o) (beside_state p deepest ks F σ)) P Q r in
       let out : does row.Field (or_zero (number_of (pos j)), tt) σ ≡ Gives a σ =
-          ap (λ (x : AnyNumber). does row.Field (x, tt) σ) same
-          ∙ ap (λ (r : Result Value Fault). settled r (after r)) found
-          ∙ ap (Gives a) (same_state {A = Result Value Fault} σ (Ok a)) in
+      ap (λ (x : AnyNumber). does row.Field (x, tt) σ) same
+      ∙ ap (λ (r : Result Value Fault). settled r (after r)) found
+      ∙ ap (Gives a) (same_state {A = Result Value Fault} σ (Ok a)) in
       subst (λ (o : Option ℤ). R o (does row.Field (or_zero (number_of (pos j)), tt) σ)) (sym (ap (λ (c : Bool). if c then Some (pos j) else None) is))
       (subst (λ (r : Outcome Value). R (Some (pos j)) r) (sym out)
       (there mach M (work_of e) 2 _ _ a σ P Q
