@@ -1,0 +1,5 @@
+pub mod Final
+pub mod Statements
+pub mod Items
+pub mod Scripts
+pub mod Silent

@@ -1,0 +1,3 @@
+pub mod Spots
+pub mod Marked
+pub mod Places
