@@ -42,15 +42,15 @@ module _ (slots : Slot → Slot) (same_slots : SameSlots slots) (texts : List (L
   pub does_so : DoesSo slots texts qs n calls scope
   does_so = record {
     tests = λ t f.
-      sym (rewritten.holds_same texts ps rs folds n calls same reduced folded.same_places (reduced_same texts rs n calls) (code_of texts scope t)
-      ∙ rewritten.holds_same texts rs qs applies n calls slots Do same_slots (operations_stay texts qs n calls) (code_in same reduced (code_of texts scope t)))
-      ∙ code.holds_same texts ps n calls scope heads t f;
+        sym (rewritten.holds_same texts ps rs folds n calls same reduced folded.same_places (reduced_same texts rs n calls) (code_of texts scope t)
+        ∙ rewritten.holds_same texts rs qs applies n calls slots Do same_slots (operations_stay texts qs n calls) (code_in same reduced (code_of texts scope t)))
+        ∙ code.holds_same texts ps n calls scope heads t f;
     keys = λ x.
-      sym (rewritten.keyed_same texts ps rs folds n calls same reduced folded.same_places (reduced_same texts rs n calls) (store_variable_code x (moved 0))
-      ∙ rewritten.keyed_same texts rs qs applies n calls slots Do same_slots (operations_stay texts qs n calls) (code_in same reduced (store_variable_code x (moved 0))))
-      ∙ code.keyed_same texts ps n calls scope heads x;
+        sym (rewritten.keyed_same texts ps rs folds n calls same reduced folded.same_places (reduced_same texts rs n calls) (store_variable_code x (moved 0))
+        ∙ rewritten.keyed_same texts rs qs applies n calls slots Do same_slots (operations_stay texts qs n calls) (code_in same reduced (store_variable_code x (moved 0))))
+        ∙ code.keyed_same texts ps n calls scope heads x;
     statements = λ s f.
-      sym (rewritten.step_same texts ps rs folds n calls same reduced folded.same_places (reduced_same texts rs n calls) (step_code texts scope s)
-      ∙ rewritten.step_same texts rs qs applies n calls slots Do same_slots (operations_stay texts qs n calls) (step_in same reduced (step_code texts scope s)))
-      ∙ code.step_same texts ps n calls scope heads s f;
+        sym (rewritten.step_same texts ps rs folds n calls same reduced folded.same_places (reduced_same texts rs n calls) (step_code texts scope s)
+        ∙ rewritten.step_same texts rs qs applies n calls slots Do same_slots (operations_stay texts qs n calls) (step_in same reduced (step_code texts scope s)))
+        ∙ code.step_same texts ps n calls scope heads s f;
   }

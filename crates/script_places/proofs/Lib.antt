@@ -3,3 +3,4 @@ pub mod Statements
 pub mod Items
 pub mod Scripts
 pub mod Silent
+pub mod Passing

@@ -90,7 +90,7 @@ module _ (notes : Notes) (script : Resolved) where
   body_so stand n f calls =
       ap (noted_body n f calls) (body_is f)
       ∙ steps_so notes (layout_at script (OfFunction f)) (slot_in (lanes_of script).globals (parameters f)) texts kinds n calls (scope_of f) (does_so_in (parameters f) n calls (scope_of f) (heads_of_program texts script))
-        (start_in script (OfFunction f)) (marks (OfFunction f)) (λ s part w. refl) (body_of f) (stands script.functions stand f) []
+      (start_in script (OfFunction f)) (marks (OfFunction f)) (λ s part w. refl) (body_of f) (stands script.functions stand f) []
 
   called_so : AllStand texts (functions_texts script.functions) → (n : ℕ) → noted_called notes (final_program script) n ≡ marked_called marks script n
   unfolding noted_called marked_called

@@ -137,7 +137,7 @@ module _ (notes : Notes) (y : Layout) (slots : Slot → Slot) (texts : List (Lis
         let rounds = loop n (maybe_test scope n calls c) (done_marked marks scope n calls s (Within whole ∷ w)) (between_marked marks scope n calls whole p w) in
         let before = mark (marks (Of whole First w)) >> maybe_done scope n calls i in
         (λ j. passes whole Whole w j >> (maybe_so i (first_part texts (maybe_plain_texts i) (maybe_texts c ++ (maybe_plain_texts p ++ stmt_texts s)) f) (record (at w) { after = step_at y slots texts scope (loop_of y slots texts scope c p s) (at w) }) j
-            >>= λ flow. after flow ((passes whole Looping w j >> loop n (maybe_tests slots texts parameters n calls scope so c (first_part texts (maybe_texts c) (maybe_plain_texts p ++ stmt_texts s) g) j) (body j) (between_so i c p s (first_part texts (maybe_plain_texts p) (stmt_texts s) h) w j)) >>= λ flow1. after flow1 (give Normal))))
+        >>= λ flow. after flow ((passes whole Looping w j >> loop n (maybe_tests slots texts parameters n calls scope so c (first_part texts (maybe_texts c) (maybe_plain_texts p ++ stmt_texts s) g) j) (body j) (between_so i c p s (first_part texts (maybe_plain_texts p) (stmt_texts s) h) w j)) >>= λ flow1. after flow1 (give Normal))))
         ∙ (λ j. mark (marks (Of whole Whole w)) >> ((passes whole First w j >> (maybe_done scope n calls i >> give Normal)) >>= λ flow. after flow (alone (mark (marks (Of whole Looping w)) >> rounds) j)))
         ∙ (λ j. mark (marks (Of whole Whole w)) >> plainly before (mark (marks (Of whole Looping w)) >> rounds) j)
     step_so (stmt.ForIn k a s) f w =
