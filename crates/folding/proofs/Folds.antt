@@ -20,7 +20,7 @@ pub calls_kept : (rs : List Routine) → map parameters_of (map folded_routine r
 calls_kept [] = refl
 calls_kept (r ∷ rs) = ap (λ (kss : List (List Kind)). r.parameters ∷ kss) (calls_kept rs)
 
-names_kept : (rs : List Routine) → map routine_name rs ≡ map routine_name (map folded_routine rs)
+pub names_kept : (rs : List Routine) → map routine_name rs ≡ map routine_name (map folded_routine rs)
 names_kept [] = refl
 names_kept (r ∷ rs) = ap (λ (ns : List Name). routine_name r ∷ ns) (names_kept rs)
 
@@ -29,8 +29,11 @@ bodies_kept [] f = refl
 bodies_kept (r ∷ rs) zero = refl
 bodies_kept (r ∷ rs) (suc f) = bodies_kept rs f
 
-same_places : SameSlots same
+pub same_places : SameSlots same
 same_places = record { reads = λ x s. like_self _ (λ a. refl) _; stores = λ x v. refl }
+
+pub heads_alike : (p : Program) (f : ℕ) → AlikeKinds (parameters_at (calls_of p) f) (parameters_at (calls_of (fold p)) f)
+heads_alike p f = subst (λ (kss : List (List Kind)). AlikeKinds (parameters_at (calls_of p) f) (parameters_at kss f)) (sym (calls_kept p.routines)) (alike_self (parameters_at (calls_of p) f))
 
 abbrev rewritten : (p : Program) → Rewritten p (fold p)
 rewritten p = record {
@@ -41,7 +44,7 @@ rewritten p = record {
   same_main = same_places;
   same_operations = reduced_same p.texts (calls_of (fold p));
   texts = refl;
-  heads = λ f. subst (λ (kss : List (List Kind)). AlikeKinds (parameters_at (calls_of p) f) (parameters_at kss f)) (sym (calls_kept p.routines)) (alike_self (parameters_at (calls_of p) f));
+  heads = heads_alike p;
   names = refl;
   functions = names_kept p.routines;
   bodies = bodies_kept p.routines;

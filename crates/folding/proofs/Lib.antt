@@ -1,6 +1,6 @@
 mod Constants
-mod Reduced
-mod Folds
+pub mod Reduced
+pub mod Folds
 mod Left
 mod Sorted
 mod Views

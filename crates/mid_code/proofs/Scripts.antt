@@ -130,7 +130,7 @@ heads_by texts script [] f = refl
 heads_by texts script (g ∷ fs) zero = refl
 heads_by texts script (g ∷ fs) (suc f) = heads_by texts script fs f
 
-heads_of_program : (texts : List (List ℕ)) (script : Resolved) → Heads (calls_of (program_with texts script)) (top script)
+pub heads_of_program : (texts : List (List ℕ)) (script : Resolved) → Heads (calls_of (program_with texts script)) (top script)
 heads_of_program texts script = heads_by texts script script.functions
 
 called_same : (texts : List (List ℕ)) (script : Resolved) → AllStand texts (functions_texts script.functions) → (n : ℕ) → mid_called (program_with texts script) n ≡ called script n
@@ -146,11 +146,11 @@ is_array_again : (b : Bool) → is_many (if b then Many else Boxed) ≡ b
 is_array_again true = refl
 is_array_again false = refl
 
-globals_again : (ns : List Name) → map global_name (map declared_code ns) ≡ ns
+pub globals_again : (ns : List Name) → map global_name (map declared_code ns) ≡ ns
 globals_again [] = refl
 globals_again (x ∷ ns) = λ i. record { name = x.name; is_array = is_array_again x.is_array i } ∷ globals_again ns i
 
-functions_again : (texts : List (List ℕ)) (script : Resolved) (fs : List Function) → map routine_name (map (routine_code texts script) fs) ≡ map as_name fs
+pub functions_again : (texts : List (List ℕ)) (script : Resolved) (fs : List Function) → map routine_name (map (routine_code texts script) fs) ≡ map as_name fs
 functions_again texts script [] = refl
 functions_again texts script (f ∷ fs) = λ i. as_name f ∷ functions_again texts script fs i
 

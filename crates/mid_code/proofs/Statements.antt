@@ -43,7 +43,7 @@ alone m = λ i state. alone_by (m state) i
 pub plainly : (m : Doing (Unit {0})) (rest : Doing Flow) → ((m >> give Normal) >>= λ flow. after flow rest) ≡ (m >> rest)
 plainly m rest = assoc m (λ u. give Normal) (λ flow. after flow rest)
 
-quietly : (m : Doing (Unit {0})) → ((m >> give Normal) >> nothing) ≡ m
+pub quietly : (m : Doing (Unit {0})) → ((m >> give Normal) >> nothing) ≡ m
 quietly m = assoc m (λ u. give Normal) (λ flow. nothing) ∙ given m
 
 -- the operands of a print statement, with its target
@@ -117,7 +117,7 @@ module _ (texts : List (List ℕ)) (parameters : List (List Kind)) (n : ℕ) (ca
   between_same : (p : Option stmt.Plain) → AllStand texts (maybe_plain_texts p) → (run (maybe_step texts scope p) >> nothing) ≡ maybe_done scope n calls p
   between_same p f = over (run (maybe_step texts scope p)) (maybe_done scope n calls p >> give Normal) (λ flow. nothing) (maybe_same p f) ∙ quietly (maybe_done scope n calls p)
 
-  keyed_same : (x : Variable) → keyed texts parameters n calls (store_variable_code x (moved 0)) ≡ store_variable x
+  pub keyed_same : (x : Variable) → keyed texts parameters n calls (store_variable_code x (moved 0)) ≡ store_variable x
   unfolding evaluated all_evaluated
   keyed_same (names.Global i) = refl
   keyed_same (names.Parameter i) = refl

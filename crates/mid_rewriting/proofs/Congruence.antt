@@ -176,11 +176,11 @@ module _ (texts : List (List ℕ)) (ps qs : List (List Kind)) (heads : (f : ℕ)
 
   -- Steps.
 
-  holds_same : (e : Code) → holds texts ps n calls e ≡ holds texts qs n calls (ex e)
+  pub holds_same : (e : Code) → holds texts ps n calls e ≡ holds texts qs n calls (ex e)
   holds_same e = λ i s. same_bind (Likes [] [] e) _ _ (λ v. give (truth_in (form_of [] e) v)) (λ v. give (truth_in (form_of [] (ex e)) v)) (code_like [] [] tt tt refl e s)
       (λ v w t k. λ j. Gives (truth_like (form_of [] e) (form_of [] (ex e)) v w k j) t) i
 
-  keyed_same : (e : Code) → keyed texts ps n calls e ≡ keyed texts qs n calls (ex e)
+  pub keyed_same : (e : Code) → keyed texts ps n calls e ≡ keyed texts qs n calls (ex e)
   keyed_same e = λ i key. store_by [] [] tt tt e (λ text t. code_like (a_value ∷ []) (a_value ∷ []) (text, tt) (text, tt) refl e t) i key
 
   mutual

@@ -19,7 +19,9 @@ use Rattle.value_machine.specs.Modules.{module_of}
 use Rattle.value_refined.proofs.Links.{numbers_are, program}
 use Rattle.module_agreement.specs.Agreement.{Agreement}
 use Rattle.module_agreement.proofs.Exchanged.{agreement_as}
-use Rattle.passed_places.specs.Passed.{Passes, probed_run}
+use Rattle.passed_places.specs.Passed.{Passes}
+use Rattle.script_places.specs.Places.{final_program}
+use Rattle.script_places.specs.Probed.{probed_script}
 use Rattle.run_places.specs.Existence.{HasRuns}
 use Rattle.run_places.proofs.Parameters.{few_parameters}
 use Rattle.run_places.proofs.Spelled.{spelled_small}
@@ -55,7 +57,7 @@ texts_small p v m h = (spelled_small p v m h).texts
 pub compiled : (bytes v : List ℕ) (p : Program) (t : HasTokens bytes (λ tokens. IsCodeOf tokens p)) → IsModule v (module_of p) → Agreement (mid_run_in p) (module_of p) → ModuleOk (module_of p) →
     (main : ℕ) → main_of (module_of p) ≡ Some main → SegmentsFit (module_of p) →
     ((job : JobForm) (input : Source) (outside : Outside) → HasRuns (module_of p) job input outside) → KeepsNothing p (module_of p) →
-    IsQuiet p (module_of p) → Passes (probed_run p) (module_of p) → ((script : Resolved) → UnboxesNumbers script (unboxed (program_of script))) → IsCompiled bytes v
+    IsQuiet p (module_of p) → ((script : Resolved) → IsSorted (final_program script) → Passes (probed_script script) (module_of (final_program script))) → ((script : Resolved) → UnboxesNumbers script (unboxed (program_of script))) → IsCompiled bytes v
 compiled bytes v p t m agreement typed main main_is segments runs keeps quiet passes unboxes =
     let c = t.said in
     record {
@@ -76,7 +78,7 @@ compiled bytes v p t m agreement typed main main_is segments runs keeps quiet pa
       keeps = keeps;
       few_operands = few_operands (resolved c.script) p c.code;
       quiet = quiet;
-      passes = passes;
+      passes = subst (λ (code : Program). Passes (probed_script (resolved c.script)) (module_of code)) (sym c.code) (passes (resolved c.script) (subst IsSorted c.code c.sorted));
       unboxed_names = subst (λ (code : Program). UnboxesNumbers (resolved c.script) code) (sym c.code) (unboxes (resolved c.script));
     }
 

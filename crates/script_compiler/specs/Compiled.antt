@@ -21,7 +21,8 @@ use Rattle.host_step.specs.HostState.{HostState}
 use Rattle.host_step.specs.Imports.{host_finds}
 use Rattle.value_machine.specs.Modules.{module_of}
 use Rattle.module_agreement.specs.Agreement.{Agreement}
-use Rattle.passed_places.specs.Passed.{Passes, probed_run}
+use Rattle.passed_places.specs.Passed.{Passes}
+use Rattle.script_places.specs.Probed.{probed_script}
 use Rattle.run_places.specs.Assigned.{IsAssigned}
 use Rattle.run_places.specs.Existence.{HasRuns}
 use Rattle.run_places.specs.Kept.{AtReturn, AtStatement, Reached, begins_statement}
@@ -62,7 +63,7 @@ abbrev pub HasFewOperands : Resolved → Program → Type 0
 HasFewOperands script code = (c : Conf) (s : HostState) (here : AtStatement code c s) → FewAlive (nodes_of script) code c s here
 
 -- THE MAIN THEOREM, of a script and the bytes that it is compiled to: they are a module, which the rules type, which links with the host, which has runs, which agrees with the script in every
--- job and world, and which keeps nothing, and whose runs pass the places of statements as the script's code executes them. It is the module of the script's code, so that a script has one module; in this code a scalar into which the script stores numbers alone is unboxed.
+-- job and world, and which keeps nothing, and whose runs pass the places of statements as the script executes them. It is the module of the script's code, so that a script has one module; in this code a scalar into which the script stores numbers alone is unboxed.
 pub record IsCompiled (bytes : List ℕ) (compiled : List ℕ) : Type 0 where
   pub short : length bytes ≤ 2 ^ 20
   pub tokens : List Spelled
@@ -81,5 +82,5 @@ pub record IsCompiled (bytes : List ℕ) (compiled : List ℕ) : Type 0 where
   pub keeps : KeepsNothing code whole
   pub few_operands : HasFewOperands (resolved script) code
   pub quiet : IsQuiet code whole
-  pub passes : Passes (probed_run code) whole
+  pub passes : Passes (probed_script (resolved script)) whole
   pub unboxed_names : UnboxesNumbers (resolved script) code

@@ -1,13 +1,14 @@
 -- A program with other lanes at its names runs as before.
 use Rattle.std.proofs.Common.{◌≡◌, ℕ, zero, suc, Bool, true, false, List, [], ◌∷◌, map, refl, ap}
 use Rattle.awk_values.specs.declared.value.Value.{Value}
+use Rattle.mid_program.specs.Meaning.{Calls}
 use Rattle.mid_program.specs.Mid.{Kind, Boxed, Unboxed, Many, Slot, Global, Parameter, Do, Declared, Routine, Program, read_form, slot_form, parameters_at}
 use Rattle.mid_program.specs.MidMeaning.{read_as, read_slot, store_slot, routine_at, global_name, routine_name}
 use Rattle.mid_program.specs.Names.{Name}
 use Rattle.mid_program.specs.ScriptState.{State, global_value, local_value}
-use Rattle.mid_program.specs.Sorted.{is_many}
+use Rattle.mid_program.specs.Sorted.{calls_of, is_many}
 use Rattle.mid_rewriting.specs.Alike.{Alike, AlikeKinds, LikeR}
-use Rattle.mid_rewriting.specs.Rewritten.{SameSlots, Rewritten}
+use Rattle.mid_rewriting.specs.Rewritten.{SameSlots, SameOperations, Rewritten}
 use Rattle.mid_rewriting.specs.SameRuns.{SameRuns}
 use Rattle.mid_rewriting.proofs.Outcomes.{like_self}
 use Rattle.mid_rewriting.proofs.Runs.{runs_same}
@@ -25,7 +26,7 @@ reads_alike : (gs ps : List Kind) (x : Slot) (s : State) → LikeR (Alike (slot_
 reads_alike gs ps (Global u i) s = (read_alike u (is_unboxed gs i) (global_value i s), refl)
 reads_alike gs ps (Parameter u i) s = (read_alike u (is_unboxed ps i) (local_value i s), refl)
 
-same_places : (gs ps : List Kind) → SameSlots (slot_in gs ps)
+pub same_places : (gs ps : List Kind) → SameSlots (slot_in gs ps)
 same_places gs ps = record { reads = reads_alike gs ps; stores = λ x v. stores_alike x v }
   where
     stores_alike : (x : Slot) (v : Value) → store_slot x v ≡ store_slot (slot_in gs ps x) v
@@ -43,17 +44,17 @@ kinds_alike : (u : ℕ → Bool) (ks : List Kind) → AlikeKinds ks (kinds_with 
 kinds_alike u [] = tt
 kinds_alike u (k ∷ ks) = (same_many (u zero) k, kinds_alike (λ i. u (suc i)) ks)
 
-heads_alike : (gs : List Kind) (ps : ℕ → List Kind) (rs : List Routine) (f : ℕ) →
+pub heads_alike : (gs : List Kind) (ps : ℕ → List Kind) (rs : List Routine) (f : ℕ) →
     AlikeKinds (parameters_at (map (λ (r : Routine). r.parameters) rs) f) (parameters_at (map (λ (r : Routine). r.parameters) (routines_with gs ps rs)) f)
 heads_alike gs ps [] f = tt
 heads_alike gs ps (r ∷ rs) zero = kinds_alike (is_unboxed (ps zero)) r.parameters
 heads_alike gs ps (r ∷ rs) (suc f) = heads_alike gs (λ i. ps (suc i)) rs f
 
-names_kept : (u : ℕ → Bool) (ds : List Declared) → map global_name ds ≡ map global_name (globals_with u ds)
+pub names_kept : (u : ℕ → Bool) (ds : List Declared) → map global_name ds ≡ map global_name (globals_with u ds)
 names_kept u [] = refl
 names_kept u (d ∷ ds) = λ i. record { name = d.name; is_array = same_many (u zero) d.kind i } ∷ names_kept (λ i. u (suc i)) ds i
 
-functions_kept : (gs : List Kind) (ps : ℕ → List Kind) (rs : List Routine) → map routine_name rs ≡ map routine_name (routines_with gs ps rs)
+pub functions_kept : (gs : List Kind) (ps : ℕ → List Kind) (rs : List Routine) → map routine_name rs ≡ map routine_name (routines_with gs ps rs)
 functions_kept gs ps [] = refl
 functions_kept gs ps (r ∷ rs) = ap (λ (ns : List Name). routine_name r ∷ ns) (functions_kept gs (λ f. ps (suc f)) rs)
 
@@ -62,6 +63,9 @@ bodies_kept gs ps [] f = refl
 bodies_kept gs ps (r ∷ rs) zero = refl
 bodies_kept gs ps (r ∷ rs) (suc f) = bodies_kept gs (λ i. ps (suc i)) rs f
 
+pub operations_stay : (texts : List (List ℕ)) (qs : List (List Kind)) (n : ℕ) (calls : Calls) → SameOperations texts qs n calls Do
+operations_stay texts qs n calls gs env o es s = like_self _ (λ a. refl) _
+
 abbrev rewritten : (l : Lanes) (p : Program) → Rewritten p (apply l p)
 rewritten l p = record {
   operation = Do;
@@ -69,7 +73,7 @@ rewritten l p = record {
   main_slots = slot_in l.globals [];
   same_slots = λ f. same_places l.globals (parameters_at l.parameters f);
   same_main = same_places l.globals [];
-  same_operations = λ n calls gs env o es s. like_self _ (λ a. refl) _;
+  same_operations = operations_stay p.texts (calls_of (apply l p));
   texts = refl;
   heads = heads_alike l.globals (parameters_at l.parameters) p.routines;
   names = names_kept (is_unboxed l.globals) p.globals;

@@ -1,4 +1,4 @@
-mod Applies
+pub mod Applies
 mod Views
 mod Finds
 mod Closed

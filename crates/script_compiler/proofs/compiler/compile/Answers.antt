@@ -16,7 +16,7 @@ returns-clause-compiled c =
     _ (c.links.ensures.main p) (c.links.ensures.segments p)
     (c.modules_run.ensures.spelled p sorted c.in_ok-bytes.bytes.items m parameters)
     (record { statement = c.nothing_kept.ensures.statement p sorted; returned = c.nothing_kept.ensures.returned p sorted })
-    (c.statements_are_quiet.ensures p sorted typed) (c.places_are_passed.ensures p sorted) c.names_of_numbers_are_unboxed.ensures
+    (c.statements_are_quiet.ensures p sorted typed) c.statements_are_passed.ensures c.names_of_numbers_are_unboxed.ensures
 
 pub returns-in_err-bytes-clause-refused : goal.returns-in_err-bytes-clause-refused
 returns-in_err-bytes-clause-refused c =

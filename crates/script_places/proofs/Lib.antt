@@ -1,0 +1,6 @@
+pub mod Final
+pub mod Statements
+pub mod Items
+pub mod Scripts
+pub mod Silent
+pub mod Passing
