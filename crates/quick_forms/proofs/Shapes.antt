@@ -1,6 +1,6 @@
 -- The parts of code and of steps as they stand in memory.
 use Rattle.std.proofs.Common.{◌≡◌, ℕ, zero, ◌≢◌, Bool, true, false, List, [], ◌∷◌, length, get_or, Option, Some, None, refl, sym, ap, ◌∙◌, arith}
-use Rattle.std.specs.Prelude.{nat_eq, ◌||◌}
+use Rattle.std.specs.Prelude.{cond, nat_eq, ◌||◌}
 use Rattle.std.specs.Bool.{◌==◌}
 use Rattle.std.proofs.lemmas.Bool.{eqb-true}
 use Rattle.std.proofs.lemmas.Bool.Decides.{nat_tests}
@@ -10,13 +10,16 @@ use Rattle.std.specs.declared.alloc.Global.{Global}
 use Rattle.mid_program.specs.Mid as plain
 use Rattle.mid_program.specs.ViewCode.{before, view, view_step, view_steps, views}
 use Rattle.mid_program.specs.declared.mid.Arithmetic.{Arithmetic}
+use Rattle.awk_state.specs.declared.table.Primitive.{Primitive}
+use Rattle.awk_state.specs.declared.table.Primitive.TheVariants as row
 use Rattle.mid_program.specs.declared.mid.Operation.{Operation}
+use Rattle.mid_program.specs.declared.mid.Operation.TheVariants.{Host}
 use Rattle.mid_program.specs.declared.code.Operand.{Operand}
 use Rattle.mid_program.specs.declared.code.Operand.TheVariants as operand
 use Rattle.mid_program.specs.declared.code.Code.{Code, Do}
 use Rattle.mid_program.specs.declared.step.Step.{Step, Block}
-use Rattle.value_machine.specs.Quick.{is_among, is_nothing, kept_sum, source_in, sum_of}
-use Rattle.quick_forms.specs.Operands.{is_bound, one_code, two_codes}
+use Rattle.value_machine.specs.Quick.{field_count, is_among, is_count, is_nothing, kept_sum, kept_update, name_in, source_in, sum_of, update_of}
+use Rattle.quick_forms.specs.Operands.{is_bound, one_code, reads_special, two_codes}
 use Rattle.quick_forms.proofs.Views.{view_block, view_do}
 
 pub do_view : (c : Code) (o : Operation) (v : Vec Operand Global) (es : List Operand) → c ≡ Do o v → es ≡ v.items → plain.Do o (views es) ≡ view c
@@ -26,6 +29,20 @@ pub block_view : (s : Step) (v : Vec Step Global) (ss : List Step) → s ≡ Blo
 block_view s v ss is e = ap (λ (xs : List Step). plain.Block (view_steps xs)) e ∙ sym (ap view_step is ∙ view_block v)
 
 -- how many operands there are
+
+pub no_count : (xs : List Operand) → length xs ≢ 1 → false ≡ is_count (views xs)
+no_count [] h = refl
+no_count (x ∷ []) h = absurd (h refl)
+no_count (operand.Code e ∷ y ∷ xs) h = refl
+no_count (operand.Constant n ∷ operand.Code e ∷ xs) h = refl
+no_count (operand.Constant n ∷ operand.Constant m ∷ xs) h = refl
+no_count (operand.Constant n ∷ operand.Fresh ∷ xs) h = refl
+no_count (operand.Fresh ∷ y ∷ xs) h = refl
+
+pub count_of : (xs : List Operand) (a : Operand) → length xs ≡ 1 → a ≡ get_or xs 0 a → is_count (before a plain.End) ≡ is_count (views xs)
+count_of [] a n h = absurd cc
+count_of (x ∷ []) a n h = ap (λ (y : Operand). is_count (before y plain.End)) h
+count_of (x ∷ y ∷ xs) a n h = absurd cc
 
 pub not_one : (xs : List Operand) → length xs ≢ 1 → None ≡ one_code (views xs)
 not_one [] h = refl
@@ -85,6 +102,9 @@ bound_is _ i _ h = absurd cc
 pub kept_is : (i : ℕ) (o : Arithmetic) (a : plain.Code) (es : plain.Codes) (x y : plain.Code) → Some (x, y) ≡ two_codes es → is_bound true zero y ≡ true → sum_of i o (source_in x) (source_in a) ≡ kept_sum i o a es
 kept_is i o a es x y h k = sym (ap (kept_sum i o a) (two_are es x y h ∙ ap (λ (e : plain.Code). plain.At x (plain.At e plain.End)) (bound_is true zero y k)))
 
+pub added_is : (i : ℕ) (o : Arithmetic) (a : plain.Code) (es : plain.Codes) (x y : plain.Code) → Some (x, y) ≡ two_codes es → is_bound true zero y ≡ true → update_of i o (name_in x) a ≡ kept_update i o a es
+added_is i o a es x y h k = sym (ap (kept_update i o a) (two_are es x y h ∙ ap (λ (e : plain.Code). plain.At x (plain.At e plain.End)) (bound_is true zero y k)))
+
 -- names
 
 same_test : (a b : ℕ) → nat_eq a b ≡ nat_eq b a
@@ -93,6 +113,12 @@ same_test a b = grind (arith, nat_tests)
 pub among_any : (i : ℕ) (js : List ℕ) → list_any (λ j. nat_eq j i) js ≡ is_among i js
 among_any i [] = refl
 among_any i (j ∷ js) = λ k. same_test j i k || among_any i js k
+
+-- how many fields there are
+
+pub count_is : (p : Primitive) (es : plain.Codes) → cond (reads_special p) (is_count es) false ≡ field_count (plain.Do (Host p) es)
+count_is row.GetSpecial es = refl
+count_is _ es = refl
 
 -- steps
 

@@ -1,5 +1,7 @@
 -- Parts of code.
 use Rattle.std.specs.Prelude.{ℕ, zero, Bool, true, false, nat_eq, Option, None, Some}
+use Rattle.awk_state.specs.declared.table.Primitive.{Primitive}
+use Rattle.awk_state.specs.declared.table.Primitive.TheVariants as row
 use Rattle.mid_program.specs.declared.mid.Arithmetic.{Arithmetic}
 use Rattle.mid_program.specs.declared.mid.Operation.TheVariants.{Inline, AsNumber}
 use Rattle.mid_program.specs.Mid.{Global, Code, Do, Set, Bound, Codes, End, At}
@@ -29,3 +31,7 @@ is_bound m i e = false
 abbrev pub set_last : Code → Option ℕ
 set_last (Set (Global true i) (Bound true zero)) = Some i
 set_last e = None
+
+abbrev pub reads_special : Primitive → Bool
+reads_special row.GetSpecial = true
+reads_special p = false

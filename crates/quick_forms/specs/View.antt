@@ -1,10 +1,13 @@
 -- The shapes that are found, as the definitions see them.
 use Rattle.std.specs.Prelude.{pos, ◌^◌}
 use Rattle.value_machine.specs.Quick as plain
+use Rattle.mid_program.specs.ViewCode.{view}
+use Rattle.quick_forms.specs.declared.counted.Counted.{Counted}
 use Rattle.quick_forms.specs.declared.source.Source.{Source}
 use Rattle.quick_forms.specs.declared.source.Source.TheVariants.{Named, Constant}
 use Rattle.quick_forms.specs.declared.sum.Sum.{Sum}
 use Rattle.quick_forms.specs.declared.pair.Pair.{Pair}
+use Rattle.quick_forms.specs.declared.update.Update.{Update}
 use Rattle.quick_forms.specs.declared.within.Within.{Within}
 
 abbrev pub view_source : Source → plain.Source
@@ -20,3 +23,9 @@ view_pair q = record { op = q.op; left = view_source q.left; right = view_source
 -- numbers from -2^53 on
 abbrev pub view_within : Within → plain.Within
 view_within w = record { name = w.name; shift = pos (2 ^ 53); width = w.width }
+
+abbrev pub view_counted : Counted → plain.Counted
+view_counted q = record { op = q.op; name = q.name }
+
+abbrev pub view_update : Update → plain.Update
+view_update u = record { target = u.target; op = u.op; name = u.name; added = view u.added.now }

@@ -19,7 +19,7 @@ pub struct Sum {
     pub right: Source,
 }
 
-fn is_sum(op: Arithmetic) -> bool
+pub(crate) fn is_sum(op: Arithmetic) -> bool
     ensures { result ≡ is_sum op }
 {
     matches!(op, Arithmetic::Plus | Arithmetic::Minus)

@@ -90,7 +90,7 @@ module _ (p : Program) (deepest : Watch) (ks : List Kind) (F : List Frame) (b : 
     holds = (upd_same l.hand t (Held v), tt);
   }
 
-  conv_number : (q i w t : ℕ) (k : Instructions) (K : List Label) (l : Locals) (x : Number) (σ : State) → Fit p deepest ks F q i w l σ → l.hand t ≡ empty → Converted q i w t (Answered (answer.Of sort.Number)) k K l x σ (at ks [] K (laid b (with_at l (NumberAt t) (Bits (I64 (number_word x))))) F k (beside_state p deepest ks F σ))
+  pub conv_number : (q i w t : ℕ) (k : Instructions) (K : List Label) (l : Locals) (x : Number) (σ : State) → Fit p deepest ks F q i w l σ → l.hand t ≡ empty → Converted q i w t (Answered (answer.Of sort.Number)) k K l x σ (at ks [] K (laid b (with_at l (NumberAt t) (Bits (I64 (number_word x))))) F k (beside_state p deepest ks F σ))
   conv_number q i w t k K l x σ ft e = record {
     next = with_at l (NumberAt t) (Bits (I64 (number_word x)));
     comes = refl;
@@ -126,7 +126,7 @@ module _ (p : Program) (deepest : Watch) (ks : List Kind) (F : List Frame) (b : 
   perhaps_is (Some x) = There x refl refl
 
   -- a value as a number
-  value_numbered : (q i w t d : ℕ) (k : Instructions) (K : List Label) (l : Locals) (v : Value) (σ : State) → t < q → t < b.temporaries → Fit p deepest ks F q i w l σ → l.hand t ≡ Held v →
+  pub value_numbered : (q i w t d : ℕ) (k : Instructions) (K : List Label) (l : Locals) (v : Value) (σ : State) → t < q → t < b.temporaries → Fit p deepest ks F q i w l σ → l.hand t ≡ Held v →
       Reached p deepest ks F b M 6 σ.turns (at ks [] K (laid b l) F (number_of_value b t d k) (beside_state p deepest ks F σ)) (Converted q i w t (Answered (answer.Of sort.Number)) k K l) (Away p deepest ks F b d K) (settled (number_of_row v) σ)
   value_numbered q i w t d k K l v σ lq lt ft e =
       let l1 = with_at l (Hand t) empty in
@@ -170,14 +170,14 @@ module _ (p : Program) (deepest : Watch) (ks : List Kind) (F : List Frame) (b : 
     holds = record { next = a.next; comes = refl; fit = a.fit; keeps = a.keeps; holds = a.holds };
   }
 
-  none_number : (v : Value) → v ≡ value.Uninit → number_of_row v ≡ Ok zero_number
+  pub none_number : (v : Value) → v ≡ value.Uninit → number_of_row v ≡ Ok zero_number
   none_number v e = ap number_of_row e ∙ ap or_range (number_again zero_number)
 
   pub own_number : (v : Value) (m : Number) → v ≡ value.Num m.number → number_of_row v ≡ Ok m
   own_number v m e = ap number_of_row e ∙ ap or_range (number_again m)
 
   -- the words of numbers are above the two that are none
-  word_numbered : (x : Number) → compare_at w64 LeS (number_word x) text_beside ≡ false
+  pub word_numbered : (x : Number) → compare_at w64 LeS (number_word x) text_beside ≡ false
   word_numbered x = ap (λ z. int_le z (cast_signed w64 text_beside)) (to_z-of_z w64 x.number (word_fits x.number (small x))) ∙ by x.number (small x)
     where
       by : (z : ℤ) → unsigned_abs z ≤ 2 ^ 53 → int_le z (cast_signed w64 text_beside) ≡ false

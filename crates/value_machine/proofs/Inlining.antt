@@ -156,7 +156,7 @@ module _ (p : Program) (deepest : Watch) (ks : List Kind) (F : List Frame) (b : 
   range_told l t m σ lt e = then_goes (get_copied b l (NumberAt t) (Bits (I64 m)) lt e refl) (by_steps 2 refl)
 
   -- the test of the range, once it is made
-  tested : (z : ℤ) (out : Bool) (t u w d q s : ℕ) (kk k : Instructions) (K : List Label) (l0 l l1 : Locals) (σ : State) → out ≡ not (nat_le (unsigned_abs z) (2 ^ 53)) → Fit p deepest ks F q u w l σ → s ≤ 2 →
+  pub tested : (z : ℤ) (out : Bool) (t u w d q s : ℕ) (kk k : Instructions) (K : List Label) (l0 l l1 : Locals) (σ : State) → out ≡ not (nat_le (unsigned_abs z) (2 ^ 53)) → Fit p deepest ks F q u w l σ → s ≤ 2 →
       Goes (machine p deepest ks F) s (at ks [] K (laid b l) F kk (beside_state p deepest ks F σ)) (at ks [] K (laid b l1) F k (beside_state p deepest ks F σ)) → Fit p deepest ks F (suc t) u w l1 σ → Same [] t w l0 l1 → l1.hand t ≡ empty → (nat_le (unsigned_abs z) (2 ^ 53) ≡ true → l1.number t ≡ Bits (I64 (word z))) →
       Reached p deepest ks F b M 4 σ.turns (at ks (Bits (flag out) ∷ []) K (laid b l) F (fail_if Range d kk) (beside_state p deepest ks F σ)) (Put p deepest ks F b t u w a_number k K l0) (Away p deepest ks F b d K) (settled (outcome_of (checked z)) σ)
   tested z out t u w d q s kk k K l0 l l1 σ e ft le g f1 sm he hn = by (nat_le (unsigned_abs z) (2 ^ 53)) refl
@@ -281,10 +281,10 @@ module _ (p : Program) (deepest : Watch) (ks : List Kind) (F : List Frame) (b : 
           (whole_ok bin.DivS x y (int_div x.number y.number) t u w d k K l0 l σ (quotient_small x y nz) (quotient_word x y nz) lt sm a)
       by false = faulted (machine p deepest ks F) M 7 3 _ _ Inexact σ (Put p deepest ks F b t u w a_number k K l0) (Away p deepest ks F b d K) (fails_ok p deepest ks F b M n Inexact d σ) (omega arith) (left_with (suc t) u w d K l σ Inexact a.fit)
 
-  sum_fits : (x y : Number) → FitsSigned w64 (x.number +ℤ y.number)
+  pub sum_fits : (x y : Number) → FitsSigned w64 (x.number +ℤ y.number)
   sum_fits x y = fits_signed_from_abs w64 (x.number +ℤ y.number) (let s = added_abs x.number y.number in let i = small x in let j = small y in omega (arith, s, i, j))
 
-  difference_fits : (x y : Number) → FitsSigned w64 (x.number +ℤ neg_ℤ y.number)
+  pub difference_fits : (x y : Number) → FitsSigned w64 (x.number +ℤ neg_ℤ y.number)
   difference_fits x y = fits_signed_from_abs w64 (x.number +ℤ neg_ℤ y.number) (let s = triangle x.number y.number in let i = small x in let j = small y in omega (arith, s, i, j))
 
   calculated_ok : (o : Arithmetic) (x y : Number) (t u w d : ℕ) (k : Instructions) (K : List Label) (l0 l : Locals) (σ : State) → suc (suc t) < b.temporaries → Same [] t w l0 l → Pair x y t u w l σ →

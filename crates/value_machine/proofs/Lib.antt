@@ -38,6 +38,8 @@ pub mod Sequences
 pub mod Branches
 pub mod Walks
 pub mod QuickNames
+pub mod Summing
+pub mod Updating
 pub mod QuickSteps
 pub mod QuickIfs
 pub mod Jumping

@@ -13,11 +13,11 @@ use Rattle.mid_program.specs.Sorted.{test_sorted, step_sorted, steps_sorted}
 use Rattle.mid_program.specs.Statements.{Flow, Normal, Broke, Continued, after_round, loop}
 use Rattle.value_machine.specs.Emission.{tested}
 use Rattle.value_machine.specs.Noted.{noted, noting, step_noted, steps_noted}
-use Rattle.value_machine.specs.Quick.{Within, test_within, Pair, pair_in, pair_names, all_unsure, step_jumps, is_nothing}
+use Rattle.value_machine.specs.Quick.{Within, test_within, Counted, counted_in, Pair, pair_in, pair_names, all_unsure, step_jumps, is_nothing}
 use Rattle.value_machine.specs.Machine.{Conf, Label, Frame, at, label, ending_at, is_walk, loops_walked}
 use Rattle.value_machine.specs.Places.{Bases, step_room, step_iterators, step_arrays}
 use Rattle.value_machine.specs.Small.{does}
-use Rattle.value_machine.specs.Statements.{block, again, left_unless, left_unless_pair, name_read, step_emitted, steps_emitted}
+use Rattle.value_machine.specs.Statements.{block, again, left_unless, left_unless_counted, left_unless_pair, name_read, step_emitted, steps_emitted}
 use Rattle.value_machine.proofs.Watch.{Watch}
 use Rattle.value_machine.proofs.Runs.{Goes, goes_from, then_goes, by_steps, stays, first, then_on, then_step, there, turned, weaker, Onward}
 use Rattle.value_machine.proofs.Locals.{Locals, laid}
@@ -223,8 +223,12 @@ module _ (p : Program) (deepest : Watch) (ks : List Kind) (F : List Frame) (b : 
         names [] k1 = refl
         names (i ∷ is) k1 = refl
 
+        counted : (o : Option Counted) → is_walk (Some (left_unless_counted (layout p deepest ks F b M n) o e (suc (suc d)) 1 first_body)) ≡ false
+        counted None = test_walks (layout p deepest ks F b M n) e (suc (suc d)) (does (Test I32 Eqz) (does (BrIf 1) first_body))
+        counted (Some q) = refl
+
         pair : (o : Option Pair) → is_walk (Some (left_unless_pair (layout p deepest ks F b M n) o e (suc (suc d)) 1 first_body)) ≡ false
-        pair None = test_walks (layout p deepest ks F b M n) e (suc (suc d)) (does (Test I32 Eqz) (does (BrIf 1) first_body))
+        pair None = counted (counted_in e)
         pair (Some q) = names (pair_names q) _
 
         by : (o : Option Within) → is_walk (Some (left_unless (layout p deepest ks F b M n) o e (suc (suc d)) 1 first_body)) ≡ false

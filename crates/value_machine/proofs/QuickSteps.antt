@@ -1,44 +1,52 @@
 -- Steps with a quick way: sums that go to a name, and tests of names and constants.
-use Rattle.std.proofs.Common.{◌≡◌, ℕ, zero, suc, ◌+◌, ◌^◌, ◌<◌, ◌≤◌, Bool, true, false, nat_eq, nat_le, List, [], ◌∷◌, length, Some, None, Option, Ok, Result, ℤ, pos, ◌+ℤ◌, unsigned_abs, w64, refl, sym, ap, ap₂, ◌∙◌, subst, arith, if◌then◌else◌}
+use Rattle.std.proofs.Common.{◌≡◌, ℕ, zero, suc, ◌+◌, ◌^◌, ◌<◌, ◌≤◌, Bool, true, false, nat_eq, nat_le, List, [], ◌∷◌, length, Some, None, Option, Ok, Err, Result, ℤ, pos, ◌+ℤ◌, unsigned_abs, w64, refl, sym, ap, ap₂, ◌∙◌, subst, arith, if◌then◌else◌}
 use Rattle.std.specs.Prelude.{◌&&◌, not, cond, bit_or}
+use Rattle.std.proofs.Common.{true≢false}
 use Rattle.std.proofs.lemmas.Int.{ints}
-use Rattle.std.proofs.lemmas.Bool.{and_parts, le-leb, leb-true}
+use Rattle.std.proofs.lemmas.Bool.{and_parts, eqb-true, le-leb, leb-true}
 use Rattle.awk_values.specs.declared.fault.Fault.{Fault}
 use Rattle.awk_values.specs.declared.value.Value.TheVariants as value
 use Rattle.awk_values.specs.Comparison.{comparison, numeric_side, order_by, held, holds}
 use Rattle.awk_values.specs.declared.comparison.CompareOp.{CompareOp}
 use Rattle.awk_values.specs.declared.comparison.CompareOp.TheVariants as op
 use Rattle.std.specs.Ordering.{int_cmp}
+use Rattle.awk_state.specs.Constants.{comparison_number, flag_number, special_number}
+use Rattle.awk_state.specs.declared.constants.Special.TheVariants.{Nf}
+use Rattle.awk_state.specs.declared.sorts.Argument.TheVariants as argument
+use Rattle.awk_state.specs.declared.sorts.Constant.TheVariants as constant
 use Rattle.awk_state.specs.declared.sorts.Sort.TheVariants as sort
+use Rattle.awk_state.specs.declared.table.Primitive.TheVariants as row
 use Rattle.wasm_store.specs.Integers.{compare_at, binary_at}
 use Rattle.value_machine.specs.Arithmetic.{relation}
 use Rattle.value_machine.proofs.Watch.{Watch}
 use Rattle.value_machine.proofs.Orders.{words_compared}
 use Rattle.awk_state.specs.Numbers.{Number as AnyNumber, number_of, number_word, outcome_of}
-use Rattle.awk_state.proofs.Words.{small}
+use Rattle.awk_state.proofs.Words.{small, constant_again}
 use Rattle.wasm_types.specs.Syntax.{Instructions, Done as NoMore}
 use Rattle.wasm_types.specs.declared.types.ValType.TheVariants.{I32}
 use Rattle.wasm_types.specs.declared.instr.Simple.{Simple}
-use Rattle.wasm_types.specs.declared.instr.Simple.TheVariants.{GlobalGet, GlobalSet, BrIf, Test}
+use Rattle.wasm_types.specs.declared.instr.Simple.TheVariants.{GlobalGet, GlobalSet, I32Const, BrIf, Test}
+use Rattle.wasm_types.specs.declared.instr.IRelOp.TheVariants.{LeS}
 use Rattle.wasm_types.specs.declared.instr.ITestOp.TheVariants.{Eqz}
 use Rattle.wasm_store.specs.declared.word.Word.TheVariants.{I64}
+use Rattle.wasm_store.specs.declared.word.Word.TheVariants as word
 use Rattle.wasm_store.specs.Words.{flag, given_by}
 use Rattle.mid_program.specs.declared.mid.Arithmetic.{Arithmetic}
-use Rattle.mid_program.specs.declared.mid.Operation.TheVariants.{Inline, AsNumber}
-use Rattle.mid_program.specs.Mid.{Kind, Unboxed, Program, Global, Code, Do, Compare, Number, Get, Set, Seq, Let, Bound, Codes, End, At, Eval, a_number, Form, form_of}
+use Rattle.mid_program.specs.declared.mid.Operation.TheVariants.{Host, Inline, AsNumber}
+use Rattle.mid_program.specs.Mid.{Kind, Unboxed, Program, Global, Code, Do, Compare, Number, Get, Set, Seq, Let, Bound, Codes, End, At, Fixed, Eval, a_number, Form, form_of}
 use Rattle.mid_program.specs.MidMeaning.{evaluated, all_evaluated, stepped, or_zero, then_row, store_slot, arithmetic_of}
 use Rattle.mid_program.specs.ScriptState.{State, Gives, Outcome, go_on, settled, give, ◌>>◌, global_value, with_global}
 use Rattle.mid_program.specs.Sorted.{sorted, all_sorted, has_kind, kinds_of, fits as fits_sort, is_tested, is_dropped, is_kept, keeps_well, test_sorted, step_sorted, steps_sorted}
 use Rattle.mid_program.specs.Statements.{Flow, Normal}
-use Rattle.value_machine.specs.Cells.{Cell, Bits}
-use Rattle.value_machine.specs.Emission.{tested, dropped}
+use Rattle.value_machine.specs.Cells.{Cell, Bits, Held}
+use Rattle.value_machine.specs.Emission.{tested}
 use Rattle.value_machine.specs.Machine.{Conf, Label, Frame, Store, at, br, label, with_operands, push_result}
 use Rattle.value_machine.specs.Noted.{step_noted, steps_noted}
 use Rattle.value_machine.specs.Places.{Bases, number_global, room, arrays_in, step_room, step_arrays}
-use Rattle.value_machine.specs.Quick.{Within, unsure, name_in, constant_in, first_ones, compared_within, both_within, test_within, Source, Named, Constant, source_in, is_among, and_name, and_source, shifted, joined, all_unsure, Sum, sum_names, is_near, is_sum, sum_op, sum_of, two_sum, set_sum, kept_sum, update_sum, old_source, stored_name, new_sum, let_sum, sum_in, Pair, pair_names, pair_of, pair_in, contrary}
-use Rattle.value_machine.specs.Small.{does}
-use Rattle.value_machine.specs.Statements.{source_pushed, summed, quickly_dropped, pair_left, left_unless_pair, left_unless, step_emitted, steps_emitted}
-use Rattle.value_machine.proofs.Runs.{Goes, goes_from, goes_to, then_goes, by_steps, stays, first, within, there, then_step, Onward}
+use Rattle.value_machine.specs.Quick.{Within, unsure, name_in, constant_in, first_ones, compared_within, both_within, test_within, Source, Named, Constant, source_in, is_among, and_name, and_source, shifted, joined, all_unsure, Sum, sum_names, Update, update_in, is_near, is_sum, sum_op, sum_of, two_sum, set_sum, kept_sum, update_sum, old_source, stored_name, new_sum, let_sum, sum_in, Counted, field_count, counted_of, counted_in, Pair, pair_names, pair_of, pair_in, contrary}
+use Rattle.value_machine.specs.Small.{does, ask_row, text_beside}
+use Rattle.value_machine.specs.Statements.{counted_left, left_unless_counted, source_pushed, summed, summed_anyway, updated, plainly_dropped, quickly_dropped, pair_left, left_unless_pair, left_unless, step_emitted, steps_emitted}
+use Rattle.value_machine.proofs.Runs.{Goes, goes_from, goes_to, then_goes, by_steps, stays, first, within, there, then_on, then_step, Onward}
 use Rattle.value_machine.proofs.Locals.{Locals, laid}
 use Rattle.value_machine.proofs.Globals.{Hand as NameHand, Number as NameNumber, with_global_at, placed_again}
 use Rattle.value_machine.proofs.GlobalSteps.{storing, global_copied, global_set_ok}
@@ -46,7 +54,9 @@ use Rattle.value_machine.proofs.Steps.{empty}
 use Rattle.value_machine.proofs.State.{bare, beside, bare_number, beside_number, cells_of, host_of, kind_here, arrays_before, name_hand, name_word}
 use Rattle.value_machine.proofs.Relation.{Away}
 use Rattle.value_machine.proofs.Pieces.{chooses, closes}
-use Rattle.value_machine.proofs.Answers.{machine, beside_state, Reached}
+use Rattle.value_machine.proofs.Answers.{machine, beside_state, row_called, Reached}
+use Rattle.value_machine.proofs.Conversions.{BareIs, IsBeside, IsNone, IsNumber, bare_is, same_state, ask_num}
+use Rattle.value_machine.specs.ImportCalls.{with_some, and_rest, row_in}
 use Rattle.value_machine.proofs.Converting.{blocked, own_number}
 use Rattle.value_machine.proofs.Products.{word}
 use Rattle.value_machine.proofs.Written.{fit_global, global_written}
@@ -58,6 +68,8 @@ use Rattle.value_machine.proofs.Sequences.{dropped_ok}
 use Rattle.value_machine.proofs.Branches.{TestDone, test_meant, test_ok, block_ends}
 use Rattle.value_machine.proofs.Quick.{Sure, sure, shown_by, name_is, constant_is, shift_pos, shifted_less, shifted_most, less_holds, most_holds}
 use Rattle.value_machine.proofs.QuickNames.{num_of, word_of, val_of, source_steps, shift_word, joined_word, all_flag, joined_steps, all_steps, AllSure, StandsAmong, source_code, some_is, nought_number, all_sure, among_sure, name_among, source_among, source_still, source_beside, source_is, contrary_holds, pair_few, one_few, near_sum, stored_is, none_new, result_of, sum_few}
+use Rattle.value_machine.proofs.Summing.{Summed, summed_in_turn, IsSource, anyway_ok}
+use Rattle.value_machine.proofs.Updating.{added_code, added_is, updated_ok}
 
 module _ (p : Program) (deepest : Watch) (ks : List Kind) (F : List Frame) (b : Bases) (M n : ℕ) where
   abbrev kinds : List Kind
@@ -268,6 +280,40 @@ module _ (p : Program) (deepest : Watch) (ks : List Kind) (F : List Frame) (b : 
   pub pair_unboxed : (e : Code) (q : Pair) → PairIs e q → AllUnboxed (pair_names q)
   pair_unboxed e q t = source_unboxed (2 ^ 53) q.left (and_source q.right []) t.left (source_unboxed (2 ^ 53) q.right [] t.right tt)
 
+  -- Comparisons with how many fields there are.
+
+  pub record CountedIs (e : Code) (q : Counted) : Type 0 where
+    pub kind : has_kind kinds q.name Unboxed ≡ true
+    pub means : (σ : State) (m : AnyNumber) → global_value q.name σ ≡ value.Num m.number → test_meant p deepest ks F b M n e σ ≡ Gives (holds q.op (int_cmp m.number (pos (length σ.shared.inner.fields)))) σ
+
+  abbrev count_code : CompareOp → ℕ → Code
+  count_code c i = Compare c (Get (Global true i)) (Do (Host row.GetSpecial) (Fixed (special_number Nf) End))
+
+  count_means : (c : CompareOp) (i : ℕ) (m : AnyNumber) (σ : State) → global_value i σ ≡ value.Num m.number → test_meant p deepest ks F b M n (count_code c i) σ ≡ Gives (holds c (int_cmp m.number (pos (length σ.shared.inner.fields)))) σ
+  unfolding evaluated all_evaluated
+  count_means c i m σ ev =
+      let v = value.Num (pos (length σ.shared.inner.fields)) in
+      ap (λ τ. go_on (settled (comparison (global_value i σ) v c) τ) (λ x. give x)) (same_state σ v)
+      ∙ ap (λ x. go_on (settled (comparison x v c) σ) (λ y. give y)) ev
+
+  count_of : (e : Code) → field_count e ≡ true → e ≡ Do (Host row.GetSpecial) (Fixed (special_number Nf) End)
+  count_of (Do (Host row.GetSpecial) (Fixed m End)) h = ap (λ (z : ℕ). Do (Host row.GetSpecial) (Fixed z End)) (eqb-true m (special_number Nf) h)
+  count_of e h = cc
+
+  pub counted_is : (e : Code) (q : Counted) → counted_in e ≡ Some q → sorted (context p deepest ks F b M n) [] e ≡ true → CountedIs e q
+  counted_is (Compare c x y) q eq so = by (name_in x) refl (field_count y) refl eq
+    where
+      by : (o : Option ℕ) → name_in x ≡ o → (t : Bool) → field_count y ≡ t → counted_of c o t ≡ Some q → CountedIs (Compare c x y) q
+      by (Some i) e1 true e2 eq =
+          subst (λ z. sorted (context p deepest ks F b M n) [] z ≡ true → CountedIs z q) (sym (ap₂ (λ a g. Compare c a g) (name_is x i e1) (count_of y e2)))
+          (λ so1.
+          let s = pair_sorted c (Get (Global true i)) (Do (Host row.GetSpecial) (Fixed (special_number Nf) End)) so1 in
+          subst (CountedIs (count_code c i)) (some_is _ q eq)
+          (record { kind = range_fits [] (Named i) s.0; means = λ σ m ev. count_means c i m σ ev })) so
+      by (Some i) e1 false e2 eq = cc
+      by None e1 t e2 eq = cc
+  counted_is e q eq so = cc
+
   -- both ways of a comparison
   module _ (e : Code) (ok : ExprOk p deepest ks F b M n e) (u d out : ℕ) (k : Instructions) (K : List Label) (l : Locals) (σ : State) (so : test_sorted (context p deepest ks F b M n) e ≡ true) (rm : room e ≤ b.temporaries) (ar : arrays_in e ≤ b.arrays) (s : Starts p deepest ks F b M n u K l σ) where
     abbrev PS : Store
@@ -309,6 +355,51 @@ module _ (p : Program) (deepest : Watch) (ks : List Kind) (F : List Frame) (b : 
         (then_goes (goes_to (by_steps 1 refl) (ap (λ x. at ks (Bits (flag x) ∷ []) PK (laid b l) F (does (BrIf (suc out)) NoMore) PS) f)) w.2))) (omega (arith, w1, f1, f2))
         (record { next = l; comes = refl; starts = s; iterators = λ y. refl }))
 
+    -- the host compares two numbers
+    count_way : (q : Counted) → CountedIs e q → (m : AnyNumber) → global_value q.name σ ≡ value.Num m.number →
+        Reached p deepest ks F b M (work_of e + 17) σ.turns (at ks [] PK (laid b l) F (counted_left (layout p deepest ks F b M n) q (suc out) NoMore) PS) (Left out k K u l) (Away p deepest ks F b d K) (test_meant p deepest ks F b M n e σ)
+    count_way q t m ev =
+        let mach = machine p deepest ks F in
+        let z = holds q.op (int_cmp m.number (pos (length σ.shared.inner.fields))) in
+        let v = value.Num (pos (length σ.shared.inner.fields)) in
+        let w = leaves_if z in
+        let w1 = w.1 in
+        let op = Bits (word.I32 (comparison_number q.op)) in
+        let r : comparison (value.Num m.number) v q.op ≡ Ok z = refl in
+        let k3 = does (Test I32 Eqz) (does (BrIf (suc out)) NoMore) in
+        let k2 = ask_row row.Compare k3 in
+        subst (λ o. Reached p deepest ks F b M (work_of e + 17) σ.turns (at ks [] PK (laid b l) F (counted_left (layout p deepest ks F b M n) q (suc out) NoMore) PS) (Left out k K u l) (Away p deepest ks F b d K) o) (sym (t.means σ m ev))
+        (there mach M (work_of e + 17) (1 + (1 + (1 + (1 + (1 + w.0))))) _ _ z σ (Left out k K u l) (Away p deepest ks F b d K)
+        (then_goes (goes_to (name_got q.name l σ t.kind) (ap (λ x. at ks (Bits (I64 x) ∷ (op ∷ [])) PK (laid b l) F (ask_row row.Num (does (I32Const (special_number Nf)) (ask_row row.GetSpecial k2))) PS) (ap bare ev ∙ bare_number m)))
+        (then_goes (ask_num p deepest ks F (op ∷ []) σ m)
+        (then_goes (goes_to (row_called p deepest ks F row.GetSpecial (Nf, tt) (Bits (word.I32 (special_number Nf)) ∷ []) (Held (value.Num m.number) ∷ (op ∷ [])) σ refl refl refl refl refl)
+        (ap (λ τ. at ks (Held v ∷ (Held (value.Num m.number) ∷ (op ∷ []))) PK (laid b l) F k2 (beside_state p deepest ks F τ)) (same_state σ v)))
+        (then_goes (goes_to (row_called p deepest ks F row.Compare (q.op, (value.Num m.number, (v, tt))) (op ∷ (Held (value.Num m.number) ∷ (Held v ∷ []))) [] σ refl refl refl
+        (ap (λ o. with_some (and_rest o (Held (value.Num m.number) ∷ (Held v ∷ []))) (λ x. with_some (row_in mach.memory (argument.Of sort.Value ∷ argument.Of sort.Value ∷ []) x.1) (λ rest. Some (x.0, rest)))) (constant_again constant.Comparison q.op)) refl)
+        (ap (λ τ. at ks (Bits (word.I32 (flag_number z)) ∷ []) PK (laid b l) F k3 (beside_state p deepest ks F τ)) (same_state {A = Result Bool Fault} σ (Ok z))))
+        (then_goes (eqz_goes z) w.2))))) (omega (arith, w1))
+        (record { next = l; comes = refl; starts = s; iterators = λ y. refl }))
+      where
+        eqz_goes : (z : Bool) → Goes (machine p deepest ks F) 1 (at ks (Bits (word.I32 (flag_number z)) ∷ []) PK (laid b l) F (does (Test I32 Eqz) (does (BrIf (suc out)) NoMore)) PS) (at ks (Bits (flag (not z)) ∷ []) PK (laid b l) F (does (BrIf (suc out)) NoMore) PS)
+        eqz_goes true = by_steps 1 refl
+        eqz_goes false = by_steps 1 refl
+
+    count_chosen : (q : Counted) → CountedIs e q → (f : Bool) → compare_at w64 LeS (bare (global_value q.name σ)) text_beside ≡ f → BareIs (global_value q.name σ) →
+        Reached p deepest ks F b M (work_of e + 17) σ.turns (at ks [] PK (laid b l) F (cond (nat_eq (if f then 1 else 0) 0) (counted_left (layout p deepest ks F b M n) q (suc out) NoMore) pair_slow) PS) (Left out k K u l) (Away p deepest ks F b d K) (test_meant p deepest ks F b M n e σ)
+    count_chosen q t true eq is = slow_way
+    count_chosen q t false eq (IsBeside eb eh) = absurd (true≢false (sym (ap (λ y. compare_at w64 LeS y text_beside) eb) ∙ eq))
+    count_chosen q t false eq (IsNone ev eb eh) = absurd (true≢false (sym (ap (λ y. compare_at w64 LeS y text_beside) eb) ∙ eq))
+    count_chosen q t false eq (IsNumber m ev eb eh) = count_way q t m ev
+
+    counted : (o : Option Counted) → counted_in e ≡ o → Reached p deepest ks F b M (work_of e + 24) σ.turns (at ks [] K (laid b l) F (left_unless_counted (layout p deepest ks F b M n) o e d out k) PS) (Left out k K u l) (Away p deepest ks F b d K) (test_meant p deepest ks F b M n e σ)
+    counted None eq = within (machine p deepest ks F) M (work_of e + 16) (work_of e + 24) σ.turns _ (Left out k K u l) (Away p deepest ks F b d K) (test_meant p deepest ks F b M n e σ) (omega arith) (plain_ok e ok u d out k K l σ so rm ar s)
+    counted (Some q) eq =
+        let t = counted_is e q eq (and_parts (is_tested (form_of [] e)) (sorted (context p deepest ks F b M n) [] e) so).1 in
+        let f = compare_at w64 LeS (bare (global_value q.name σ)) text_beside in
+        first (machine p deepest ks F) M 3 (work_of e + 17) (work_of e + 24) σ.turns _ _ (Left out k K u l) (Away p deepest ks F b d K) (test_meant p deepest ks F b M n e σ)
+        (then_goes (name_got q.name l σ t.kind) (then_goes (by_steps 1 refl) (chooses pair_slow (counted_left (layout p deepest ks F b M n) q (suc out) NoMore) (if f then 1 else 0)))) (omega arith)
+        (count_chosen q t f refl (bare_is (global_value q.name σ)))
+
     pub left_unless_pair_ok : Reached p deepest ks F b M (work_of e + 24) σ.turns (at ks [] K (laid b l) F (left_unless_pair (layout p deepest ks F b M n) (pair_in e) e d out k) PS) (Left out k K u l) (Away p deepest ks F b d K) (test_meant p deepest ks F b M n e σ)
     left_unless_pair_ok = by (pair_in e) refl
       where
@@ -318,7 +409,7 @@ module _ (p : Program) (deepest : Watch) (ks : List Kind) (F : List Frame) (b : 
         chosen q t false eq = fast_way q t (all_sure (pair_names q) (pos (2 ^ 53)) (2 ^ 54) σ (omega arith) (omega arith) eq)
 
         by : (o : Option Pair) → pair_in e ≡ o → Reached p deepest ks F b M (work_of e + 24) σ.turns (at ks [] K (laid b l) F (left_unless_pair (layout p deepest ks F b M n) o e d out k) PS) (Left out k K u l) (Away p deepest ks F b d K) (test_meant p deepest ks F b M n e σ)
-        by None eq = within (machine p deepest ks F) M (work_of e + 16) (work_of e + 24) σ.turns _ (Left out k K u l) (Away p deepest ks F b d K) (test_meant p deepest ks F b M n e σ) (omega arith) (plain_ok e ok u d out k K l σ so rm ar s)
+        by None eq = counted (counted_in e) refl
         by (Some q) eq =
             let t = pair_is e q eq (and_parts (is_tested (form_of [] e)) (sorted (context p deepest ks F b M n) [] e) so).1 in
             let un = source_unboxed (2 ^ 53) q.left (and_source q.right []) t.left (source_unboxed (2 ^ 53) q.right [] t.right tt) in
@@ -361,14 +452,6 @@ module _ (p : Program) (deepest : Watch) (ks : List Kind) (F : List Frame) (b : 
 
   -- Sums.
 
-  pub record SumIs (e : Code) (s : Sum) : Type 0 where
-    pub kind : has_kind kinds s.target Unboxed ≡ true
-    pub left : SourceFits (2 ^ 52) s.left
-    pub right : SourceFits (2 ^ 52) s.right
-    pub sum : is_sum s.op ≡ true
-    pub means : (σ : State) (m1 m2 y : AnyNumber) → num_of s.left σ ≡ Ok m1 → num_of s.right σ ≡ Ok m2 → outcome_of (arithmetic_of s.op m1.number m2.number) ≡ Ok y →
-        plain_meant p deepest ks F b M n (Eval e) σ ≡ Gives Normal (with_global s.target (value.Num y.number) σ)
-
   abbrev Two : Type 0
   Two = AnyNumber × (AnyNumber × Unit {0})
 
@@ -380,6 +463,16 @@ module _ (p : Program) (deepest : Watch) (ks : List Kind) (F : List Frame) (b : 
   two_summed i o σ r1 r2 =
       go_on (go_on (go_on {A = Two} {B = AnyNumber} (settled (then_row {A = AnyNumber} {B = Two} r1 (λ x. then_row {A = AnyNumber × Unit {0}} {B = Two} (then_row {A = AnyNumber} {B = AnyNumber × Unit {0}} r2 (λ z. Ok (z, tt))) (λ zs. Ok (x, zs)))) σ)
       (λ given. settled (outcome_of (arithmetic_of o given.0.number given.1.0.number)))) (λ y. store_slot (Global true i) (value.Num y.number) >> give y)) (λ y. give Normal)
+
+  pub record SumIs (e : Code) (s : Sum) : Type 0 where
+    pub kind : has_kind kinds s.target Unboxed ≡ true
+    pub left : SourceFits (2 ^ 52) s.left
+    pub right : SourceFits (2 ^ 52) s.right
+    pub sum : is_sum s.op ≡ true
+    pub means : (σ : State) (m1 m2 y : AnyNumber) → num_of s.left σ ≡ Ok m1 → num_of s.right σ ≡ Ok m2 → outcome_of (arithmetic_of s.op m1.number m2.number) ≡ Ok y →
+        plain_meant p deepest ks F b M n (Eval e) σ ≡ Gives Normal (with_global s.target (value.Num y.number) σ)
+    pub room : 2 ≤ room e
+    pub whole : (σ : State) → plain_meant p deepest ks F b M n (Eval e) σ ≡ two_summed s.target s.op σ (num_of s.left σ) (num_of s.right σ)
 
   summed_means : (i : ℕ) (o : Arithmetic) (σ : State) (r1 r2 : Result AnyNumber Fault) (m1 m2 y : AnyNumber) → r1 ≡ Ok m1 → r2 ≡ Ok m2 → outcome_of (arithmetic_of o m1.number m2.number) ≡ Ok y → two_summed i o σ r1 r2 ≡ Gives Normal (with_global i (value.Num y.number) σ)
   summed_means i o σ r1 r2 m1 m2 y e1 e2 e = ap₂ (two_summed i o σ) e1 e2 ∙ ap (sum_stored i σ) e
@@ -427,7 +520,7 @@ module _ (p : Program) (deepest : Watch) (ks : List Kind) (F : List Frame) (b : 
           let g = near_sum i o a e s eq in
           let h = set_sorted [] i o (source_code a) (source_code e) so1 in
           subst (SumIs (set_code i o (source_code a) (source_code e))) g.1
-          (record { kind = h.kind; left = near_fits [] a h.first_one g.0.1; right = near_fits [] e h.second g.0.2; sum = g.0.0; means = λ σ m1 m2 y z1 z2 z. set_means i o a e σ ∙ summed_means i o σ (num_of a σ) (num_of e σ) m1 m2 y z1 z2 z })) so
+          (record { kind = h.kind; left = near_fits [] a h.first_one g.0.1; right = near_fits [] e h.second g.0.2; sum = g.0.0; means = λ σ m1 m2 y z1 z2 z. set_means i o a e σ ∙ summed_means i o σ (num_of a σ) (num_of e σ) m1 m2 y z1 z2 z; room = omega arith; whole = λ σ. set_means i o a e σ })) so
       by (Some a) e1 None e2 eq = cc
       by None e1 r e2 eq = cc
 
@@ -465,7 +558,7 @@ module _ (p : Program) (deepest : Watch) (ks : List Kind) (F : List Frame) (b : 
           let g = near_sum i o l e s eq in
           let h = update_sorted i o (source_code e) (source_code l) so1 in
           subst (SumIs (update_code i o (source_code e) (source_code l))) g.1
-          (record { kind = h.kind; left = near_fits (form_of [] (source_code e) ∷ []) l h.first_one g.0.1; right = near_fits [] e h.second g.0.2; sum = g.0.0; means = λ σ m1 m2 y z1 z2 z. update_means i o l e σ ∙ summed_means i o σ (num_of l σ) (num_of e σ) m1 m2 y z1 z2 z })) so
+          (record { kind = h.kind; left = near_fits (form_of [] (source_code e) ∷ []) l h.first_one g.0.1; right = near_fits [] e h.second g.0.2; sum = g.0.0; means = λ σ m1 m2 y z1 z2 z. update_means i o l e σ ∙ summed_means i o σ (num_of l σ) (num_of e σ) m1 m2 y z1 z2 z; room = omega arith; whole = λ σ. update_means i o l e σ })) so
       by (Some l) e1 None e2 eq = cc
       by None e1 r e2 eq = cc
 
@@ -487,6 +580,15 @@ module _ (p : Program) (deepest : Watch) (ks : List Kind) (F : List Frame) (b : 
   unfolding evaluated all_evaluated stepped
   old_means i o (Named j) z σ = refl
   old_means i o (Constant y) z σ = refl
+
+  old_same : (i : ℕ) (o : Arithmetic) (σ : State) (r1 r2 : Result AnyNumber Fault) → old_summed i o σ r1 r2 ≡ two_summed i o σ r1 r2
+  old_same i o σ (Ok x) (Ok z) = by (outcome_of (arithmetic_of o x.number z.number))
+    where
+      by : (r : Result AnyNumber Fault) → old_stored i x σ r ≡ sum_stored i σ r
+      by (Ok y) = refl
+      by (Err f) = refl
+  old_same i o σ (Ok x) (Err f) = refl
+  old_same i o σ (Err f) r2 = refl
 
   old_sorted : (i : ℕ) (o : Arithmetic) (a z : Code) → sorted (context p deepest ks F b M n) [] (old_code i o a z) ≡ true → Parts i [] a (a_number ∷ []) z
   unfolding sorted all_sorted
@@ -517,7 +619,7 @@ module _ (p : Program) (deepest : Watch) (ks : List Kind) (F : List Frame) (b : 
           let g = near_sum i o l (Constant z) s eq in
           let h = old_sorted i o (source_code l) (Number z) so1 in
           subst (SumIs (old_code i o (source_code l) (Number z))) g.1
-          (record { kind = h.kind; left = near_fits [] l h.first_one g.0.1; right = near_fits (a_number ∷ []) (Constant z) h.second g.0.2; sum = g.0.0; means = λ σ m1 m2 y z1 z2 z0. old_means i o l z σ ∙ (ap₂ (old_summed i o σ) z1 z2 ∙ ap (old_stored i m1 σ) z0) })) so
+          (record { kind = h.kind; left = near_fits [] l h.first_one g.0.1; right = near_fits (a_number ∷ []) (Constant z) h.second g.0.2; sum = g.0.0; means = λ σ m1 m2 y z1 z2 z0. old_means i o l z σ ∙ (ap₂ (old_summed i o σ) z1 z2 ∙ ap (old_stored i m1 σ) z0); room = omega arith; whole = λ σ. old_means i o l z σ ∙ old_same i o σ (num_of l σ) (num_of (Constant z) σ) })) so
       by None e1 eq = cc
 
   -- Which code is such a step.
@@ -590,12 +692,22 @@ module _ (p : Program) (deepest : Watch) (ks : List Kind) (F : List Frame) (b : 
   pub sum_unboxed : (e : Code) (s : Sum) → SumIs e s → AllUnboxed (sum_names s)
   sum_unboxed e s t = name_unboxed s.target (and_source s.left (and_source s.right [])) t.kind (source_unboxed (2 ^ 52) s.left (and_source s.right []) t.left (source_unboxed (2 ^ 52) s.right [] t.right tt))
 
+  -- the same, one after the other
+  summed_again : (i : ℕ) (o : Arithmetic) (σ : State) (r1 r2 : Result AnyNumber Fault) → two_summed i o σ r1 r2 ≡ go_on (summed_in_turn p deepest ks F b M n i o r1 r2 σ) (λ y. give Normal)
+  summed_again i o σ (Ok x) (Ok z) = refl
+  summed_again i o σ (Ok x) (Err f) = refl
+  summed_again i o σ (Err f) r2 = refl
+
+  pub near_source : (s : Source) → SourceFits (2 ^ 52) s → IsSource p deepest ks F b M n s
+  near_source (Named i) h = h
+  near_source (Constant z) h = let le = leb-true (unsigned_abs z) (2 ^ 52) h in le-leb (unsigned_abs z) (2 ^ 53) (omega (arith, le))
+
   -- what is done once its place is noted
-  eval_rest : (e : Code) → ExprOk p deepest ks F b M n e → (r lo : Bool) (u d bk ct : ℕ) (k : Instructions) (K : List Label) (l : Locals) (σ : State) →
+  eval_rest : (exprs : (x : Code) → ExprOk p deepest ks F b M n x) (e : Code) (r lo : Bool) (u d bk ct : ℕ) (k : Instructions) (K : List Label) (l : Locals) (σ : State) →
       step_sorted (context p deepest ks F b M n) r lo (Eval e) ≡ true → step_room (Eval e) ≤ b.temporaries → step_arrays (Eval e) ≤ b.arrays → Starts p deepest ks F b M n u K l σ →
-      Reached p deepest ks F b M (work_of e + 20) σ.turns (at ks [] K (laid b l) F (quickly_dropped (layout p deepest ks F b M n) (sum_in e) e d k) (beside_state p deepest ks F σ)) (StepDone p deepest ks F b M n lo u bk ct k K l) (Away p deepest ks F b d K) (plain_meant p deepest ks F b M n (Eval e) σ)
+      Reached p deepest ks F b M (work_of e + 110) σ.turns (at ks [] K (laid b l) F (quickly_dropped (layout p deepest ks F b M n) (sum_in e) e d k) (beside_state p deepest ks F σ)) (StepDone p deepest ks F b M n lo u bk ct k K l) (Away p deepest ks F b d K) (plain_meant p deepest ks F b M n (Eval e) σ)
   unfolding step_sorted steps_sorted
-  eval_rest e ok r lo u d bk ct k K l σ so rm ar s = by (sum_in e) refl
+  eval_rest exprs e r lo u d bk ct k K l σ so rm ar s = by (sum_in e) refl
     where
       S : Store
       S = beside_state p deepest ks F σ
@@ -606,8 +718,8 @@ module _ (p : Program) (deepest : Watch) (ks : List Kind) (F : List Frame) (b : 
       srt : sorted (context p deepest ks F b M n) [] e ≡ true
       srt = (and_parts (is_dropped (form_of [] e)) (sorted (context p deepest ks F b M n) [] e) so).1
 
-      slow : Instructions
-      slow = dropped (layout p deepest ks F b M n) [] [] e zero zero (suc d) NoMore
+      slow : Sum → Instructions
+      slow q = summed_anyway (layout p deepest ks F b M n) q (suc d) NoMore
 
       fast : Sum → Instructions
       fast q = summed (layout p deepest ks F b M n) q NoMore
@@ -630,26 +742,54 @@ module _ (p : Program) (deepest : Watch) (ks : List Kind) (F : List Frame) (b : 
           (there (machine p deepest ks F) M (work_of e + 10) ((source_steps q.left + (source_steps q.right + 2)) + 1) _ _ Normal σ1 (StepDone p deepest ks F b M n lo u bk ct k K l) (Away p deepest ks F b d K) (then_goes g closes) (omega (arith, f1, f2))
           (record { next = l; comes = refl; starts = starts_after p deepest ks F b M n u K K l l σ σ1 s refl (omega arith) (λ x. refl) (fit_global p deepest ks F b M n q.target (value.Num y.number) 0 u 0 l σ s.fit); iterators = λ x. refl; flows = flows_on lo }))
 
-      chosen : (a : Sum) → SumIs e a → (f : Bool) → all_flag σ (pos (2 ^ 52)) (2 ^ 53) (sum_names a) ≡ f →
-          Reached p deepest ks F b M (work_of e + 10) σ.turns (at ks [] K1 (laid b l) F (cond (nat_eq (if f then 1 else 0) 0) (fast a) slow) S) (StepDone p deepest ks F b M n lo u bk ct k K l) (Away p deepest ks F b d K) (plain_meant p deepest ks F b M n (Eval e) σ)
-      chosen a t true eq =
-          within (machine p deepest ks F) M ((work_of e + 8) + 1) (work_of e + 10) σ.turns _ (StepDone p deepest ks F b M n lo u bk ct k K l) (Away p deepest ks F b d K) (plain_meant p deepest ks F b M n (Eval e) σ) (omega arith)
-          (blocked p deepest ks F b M (work_of e + 8) σ.turns d k K _ (StepDone p deepest ks F b M n lo u (suc bk) (suc ct) NoMore K1 l) (StepDone p deepest ks F b M n lo u bk ct k K l) (plain_meant p deepest ks F b M n (Eval e) σ) (λ f τ c h. block_ends p deepest ks F b M n lo u bk ct k K l f τ c h)
-          (dropped_ok p deepest ks F b M n e ok lo u (suc d) (suc bk) (suc ct) NoMore K1 l σ srt rm ar (starts_among p deepest ks F b M n u K K1 l σ refl s)))
-      chosen a t false eq = sums a t (all_sure (sum_names a) (pos (2 ^ 52)) (2 ^ 53) σ (omega arith) (omega arith) eq)
+      -- in all cases
+      anyway : (a : Sum) → SumIs e a → Reached p deepest ks F b M (work_of e + 90) σ.turns (at ks [] K1 (laid b l) F (slow a) S) (StepDone p deepest ks F b M n lo u bk ct k K l) (Away p deepest ks F b d K) (plain_meant p deepest ks F b M n (Eval e) σ)
+      anyway a t =
+          let Q1 = Away p deepest ks F b (suc d) K1 in
+          let P0 : AnyNumber → State → Conf → Type 0 = λ w. Summed p deepest ks F b M n u NoMore K1 l in
+          let P1 = StepDone p deepest ks F b M n lo u (suc bk) (suc ct) NoMore K1 l in
+          let whole = t.whole σ ∙ summed_again a.target a.op σ (num_of a.left σ) (num_of a.right σ) in
+          let few = t.room in
+          within (machine p deepest ks F) M (80 + 1) (work_of e + 90) σ.turns _ (StepDone p deepest ks F b M n lo u bk ct k K l) (Away p deepest ks F b d K) (plain_meant p deepest ks F b M n (Eval e) σ) (omega arith)
+          (blocked p deepest ks F b M 80 σ.turns d k K _ P1 (StepDone p deepest ks F b M n lo u bk ct k K l) (plain_meant p deepest ks F b M n (Eval e) σ) (λ f τ c h. block_ends p deepest ks F b M n lo u bk ct k K l f τ c h)
+          (subst (λ o. Reached p deepest ks F b M 80 σ.turns (at ks [] K1 (laid b l) F (slow a) S) P1 Q1 o) (sym whole)
+          (then_on (machine p deepest ks F) M 80 0 80 σ.turns _ P0 P1 Q1 (summed_in_turn p deepest ks F b M n a.target a.op (num_of a.left σ) (num_of a.right σ) σ) _ (omega arith)
+          (anyway_ok p deepest ks F b M n a u (suc d) NoMore K1 l σ t.sum t.kind (near_source a.left t.left) (near_source a.right t.right) (omega (arith, rm, few)) s.fit)
+          (λ w τ c le h.
+          there (machine p deepest ks F) M 0 0 c c Normal τ P1 Q1 stays (omega arith)
+          (record { next = h.next; comes = h.comes; starts = starts_after p deepest ks F b M n u K K1 l h.next σ τ s refl le h.iterators h.fit; iterators = h.iterators; flows = flows_on lo })))))
 
-      by : (o : Option Sum) → sum_in e ≡ o → Reached p deepest ks F b M (work_of e + 20) σ.turns (at ks [] K (laid b l) F (quickly_dropped (layout p deepest ks F b M n) o e d k) S) (StepDone p deepest ks F b M n lo u bk ct k K l) (Away p deepest ks F b d K) (plain_meant p deepest ks F b M n (Eval e) σ)
-      by None eq = within (machine p deepest ks F) M (work_of e + 8) (work_of e + 20) σ.turns _ (StepDone p deepest ks F b M n lo u bk ct k K l) (Away p deepest ks F b d K) (plain_meant p deepest ks F b M n (Eval e) σ) (omega arith) (dropped_ok p deepest ks F b M n e ok lo u d bk ct k K l σ srt rm ar s)
+      chosen : (a : Sum) → SumIs e a → (f : Bool) → all_flag σ (pos (2 ^ 52)) (2 ^ 53) (sum_names a) ≡ f →
+          Reached p deepest ks F b M (work_of e + 90) σ.turns (at ks [] K1 (laid b l) F (cond (nat_eq (if f then 1 else 0) 0) (fast a) (slow a)) S) (StepDone p deepest ks F b M n lo u bk ct k K l) (Away p deepest ks F b d K) (plain_meant p deepest ks F b M n (Eval e) σ)
+      chosen a t true eq = anyway a t
+      chosen a t false eq = within (machine p deepest ks F) M (work_of e + 10) (work_of e + 90) σ.turns _ (StepDone p deepest ks F b M n lo u bk ct k K l) (Away p deepest ks F b d K) (plain_meant p deepest ks F b M n (Eval e) σ) (omega arith) (sums a t (all_sure (sum_names a) (pos (2 ^ 52)) (2 ^ 53) σ (omega arith) (omega arith) eq))
+
+      -- no sum of sources
+      plainly : (o : Option Update) → update_in e ≡ o → Reached p deepest ks F b M (work_of e + 110) σ.turns (at ks [] K (laid b l) F (plainly_dropped (layout p deepest ks F b M n) o e d k) S) (StepDone p deepest ks F b M n lo u bk ct k K l) (Away p deepest ks F b d K) (plain_meant p deepest ks F b M n (Eval e) σ)
+      plainly None eq = within (machine p deepest ks F) M (work_of e + 8) (work_of e + 110) σ.turns _ (StepDone p deepest ks F b M n lo u bk ct k K l) (Away p deepest ks F b d K) (plain_meant p deepest ks F b M n (Eval e) σ) (omega arith) (dropped_ok p deepest ks F b M n e (exprs e) lo u d bk ct k K l σ srt rm ar s)
+      plainly (Some q) eq = let t = added_is e q eq in updates q t.0 t.1
+        where
+          updates : (q : Update) → e ≡ added_code q → is_sum q.op ≡ true → Reached p deepest ks F b M (work_of e + 110) σ.turns (at ks [] K (laid b l) F (updated (layout p deepest ks F b M n) q d k) S) (StepDone p deepest ks F b M n lo u bk ct k K l) (Away p deepest ks F b d K) (plain_meant p deepest ks F b M n (Eval e) σ)
+          updates q is sm =
+              let c = added_code q in
+              let R = λ (z : Code). (sorted (context p deepest ks F b M n) [] z ≡ true) → (room z ≤ b.temporaries) → (arrays_in z ≤ b.arrays) → Reached p deepest ks F b M (work_of z + 110) σ.turns (at ks [] K (laid b l) F (updated (layout p deepest ks F b M n) q d k) S) (StepDone p deepest ks F b M n lo u bk ct k K l) (Away p deepest ks F b d K) (plain_meant p deepest ks F b M n (Eval z) σ) in
+              subst R (sym is)
+              (λ so1 rm1 ar1. within (machine p deepest ks F) M (work_of q.added + 70) (work_of c + 110) σ.turns _ (StepDone p deepest ks F b M n lo u bk ct k K l) (Away p deepest ks F b d K) (plain_meant p deepest ks F b M n (Eval c) σ) (omega arith)
+              (updated_ok p deepest ks F b M n q (exprs q.added) lo u d bk ct k K l σ so1 sm rm1 ar1 s))
+              srt rm ar
+
+      by : (o : Option Sum) → sum_in e ≡ o → Reached p deepest ks F b M (work_of e + 110) σ.turns (at ks [] K (laid b l) F (quickly_dropped (layout p deepest ks F b M n) o e d k) S) (StepDone p deepest ks F b M n lo u bk ct k K l) (Away p deepest ks F b d K) (plain_meant p deepest ks F b M n (Eval e) σ)
+      by None eq = plainly (update_in e) refl
       by (Some a) eq =
           let t = sum_is e a eq srt in
           let fw = sum_few a in
           let un = name_unboxed a.target (and_source a.left (and_source a.right [])) t.kind (source_unboxed (2 ^ 52) a.left (and_source a.right []) t.left (source_unboxed (2 ^ 52) a.right [] t.right tt)) in
-          first (machine p deepest ks F) M (all_steps (sum_names a) + 1) (work_of e + 10) (work_of e + 20) σ.turns _ _ (StepDone p deepest ks F b M n lo u bk ct k K l) (Away p deepest ks F b d K) (plain_meant p deepest ks F b M n (Eval e) σ)
-          (then_goes (all_unsure_ok _ _ (sum_names a) (pos (2 ^ 52)) (2 ^ 53) l σ un) (chooses slow (fast a) (if all_flag σ (pos (2 ^ 52)) (2 ^ 53) (sum_names a) then 1 else 0))) (omega (arith, fw))
+          first (machine p deepest ks F) M (all_steps (sum_names a) + 1) (work_of e + 90) (work_of e + 110) σ.turns _ _ (StepDone p deepest ks F b M n lo u bk ct k K l) (Away p deepest ks F b d K) (plain_meant p deepest ks F b M n (Eval e) σ)
+          (then_goes (all_unsure_ok _ _ (sum_names a) (pos (2 ^ 52)) (2 ^ 53) l σ un) (chooses (slow a) (fast a) (if all_flag σ (pos (2 ^ 52)) (2 ^ 53) (sum_names a) then 1 else 0))) (omega (arith, fw))
           (chosen a t (all_flag σ (pos (2 ^ 52)) (2 ^ 53) (sum_names a)) refl)
 
-  pub eval_step : (e : Code) → ExprOk p deepest ks F b M n e → StepOk p deepest ks F b M n (Eval e)
+  pub eval_step : (exprs : (x : Code) → ExprOk p deepest ks F b M n x) (e : Code) → StepOk p deepest ks F b M n (Eval e)
   unfolding step_emitted steps_emitted step_noted steps_noted
-  eval_step e ok r lo u d bk ct k K l σ so rm it ar wk s =
-      begun_step p deepest ks F b M n _ (work_of e + 20) (30 + work_of e) u K l σ (StepDone p deepest ks F b M n lo u bk ct k K l) (Away p deepest ks F b d K) (plain_meant p deepest ks F b M n (Eval e)) (omega arith) s
-      (λ τ s1. eval_rest e ok r lo u d bk ct k K l τ so rm ar s1)
+  eval_step exprs e r lo u d bk ct k K l σ so rm it ar wk s =
+      begun_step p deepest ks F b M n _ (work_of e + 110) (120 + work_of e) u K l σ (StepDone p deepest ks F b M n lo u bk ct k K l) (Away p deepest ks F b d K) (plain_meant p deepest ks F b M n (Eval e)) (omega arith) s
+      (λ τ s1. eval_rest exprs e r lo u d bk ct k K l τ so rm ar s1)

@@ -188,7 +188,7 @@ module _ (p : Program) (deepest : Watch) (ks : List Kind) (F : List Frame) (b : 
   text_dropped_ok name i k K l σ hk (IsNone q eb eh) = no_text name i k K l σ hk (ap (λ m. nat_eq m text_beside) eb) eh
   text_dropped_ok name i k K l σ hk (IsNumber m q eb eh) = no_text name i k K l σ hk (ap (λ z. nat_eq z text_beside) eb ∙ word_not_beside m) eh
 
-  bare_global_set : (o : Bool) (f : Form) (i t : ℕ) (l : Locals) (y : Number) (σ : State) (K : List Label) (k : Instructions) → t < b.temporaries → l.hand t ≡ empty → l.number t ≡ Bits (I64 (number_word y)) → length σ.globals ≡ length p.globals → has_kind kinds i Unboxed ≡ true →
+  pub bare_global_set : (o : Bool) (f : Form) (i t : ℕ) (l : Locals) (y : Number) (σ : State) (K : List Label) (k : Instructions) → t < b.temporaries → l.hand t ≡ empty → l.number t ≡ Bits (I64 (number_word y)) → length σ.globals ≡ length p.globals → has_kind kinds i Unboxed ≡ true →
       TakesValue (slot_set (layout p deepest ks F b M n) o (Global true i) f t k) k K l σ l (with_global i (Num y.number) σ)
   bare_global_set o f i t l y σ K k lt e e1 sz hk =
       let nn = length kinds in

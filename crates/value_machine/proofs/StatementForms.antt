@@ -22,7 +22,7 @@ use Rattle.value_machine.proofs.Simulation.{work_of, context, layout, Ready}
 -- How many steps of the machine a step takes at most, beside those that turns pay.
 abbrev mutual
   pub step_work : Step → ℕ
-  step_work (Eval e) = 30 + work_of e
+  step_work (Eval e) = 120 + work_of e
   step_work (Block ss) = 1 + steps_work ss
   step_work (If e x y) = 30 + (work_of e + (step_work x + step_work y))
   step_work (Loop first e x y) = 40 + (work_of e + (step_work x + step_work y))

@@ -16,7 +16,7 @@ use Rattle.value_machine.proofs.Jumps.{break_step, continue_step, next_step, exi
 module _ (p : Program) (deepest : Watch) (ks : List Kind) (F : List Frame) (b : Bases) (M n : ℕ) (exprs : (e : Code) → ExprOk p deepest ks F b M n e) where
   mutual
     pub step_ok : (s : Step) → StepOk p deepest ks F b M n s
-    step_ok (Eval e) = eval_step p deepest ks F b M n e (exprs e)
+    step_ok (Eval e) = eval_step p deepest ks F b M n exprs e
     step_ok (Block ss) = block_step p deepest ks F b M n ss (steps_ok ss)
     step_ok (If e x y) = if_step p deepest ks F b M n e x y (exprs e) (step_ok x) (step_ok y)
     step_ok (Loop true e x y) = loop_first p deepest ks F b M n e x y (exprs e) (step_ok x) (step_ok y)

@@ -4,6 +4,9 @@ use Rattle.std.specs.Prelude.{ℕ, zero, suc, ◌^◌, Bool, true, false, ◌&&�
 use Rattle.std.specs.Int.{w64, cast_unsigned}
 use Rattle.awk_values.specs.declared.comparison.CompareOp.{CompareOp}
 use Rattle.awk_values.specs.declared.comparison.CompareOp.TheVariants as compare
+use Rattle.awk_state.specs.Constants.{special_number}
+use Rattle.awk_state.specs.declared.constants.Special.TheVariants.{Nf}
+use Rattle.awk_state.specs.declared.table.Primitive.TheVariants as row
 use Rattle.wasm_types.specs.Syntax.{Instructions}
 use Rattle.wasm_types.specs.declared.types.ValType.TheVariants.{I64}
 use Rattle.wasm_types.specs.declared.instr.Simple.{Simple}
@@ -13,8 +16,8 @@ use Rattle.wasm_types.specs.declared.instr.IBinOp.TheVariants.{Add, Sub, Or}
 use Rattle.wasm_types.specs.declared.instr.IRelOp.TheVariants.{GtU}
 use Rattle.mid_program.specs.declared.mid.Arithmetic.{Arithmetic}
 use Rattle.mid_program.specs.declared.mid.Arithmetic.TheVariants as inline
-use Rattle.mid_program.specs.declared.mid.Operation.TheVariants.{Inline, AsNumber}
-use Rattle.mid_program.specs.Mid.{Global, Code, Do, Compare, Number, Get, Set, Seq, Let, Bound, Codes, End, At, Step, Eval, Block, If, Loop, Each, Break, Continue, Next, Exit, ExitWith, Return, Mark, Steps, NoStep, Then}
+use Rattle.mid_program.specs.declared.mid.Operation.TheVariants.{Host, Inline, AsNumber}
+use Rattle.mid_program.specs.Mid.{Global, Code, Do, Compare, Number, Get, Set, Seq, Let, Bound, Codes, End, At, Fixed, Step, Eval, Block, If, Loop, Each, Break, Continue, Next, Exit, ExitWith, Return, Mark, Steps, NoStep, Then}
 use Rattle.value_machine.specs.Small.{does}
 
 -- Numbers of a name: those that are from 0 to a width once this is added to them.
@@ -161,6 +164,33 @@ sum_in (Set (Global true i) e) = set_sum i e
 sum_in (Let a e) = let_sum a e
 sum_in e = None
 
+-- `n += e` and `n -= e`, where e is no source: what is added is evaluated first.
+pub record Update : Type 0 where
+  pub target : ℕ
+  pub op : Arithmetic
+  pub name : ℕ
+  pub added : Code
+
+abbrev pub update_of : ℕ → Arithmetic → Option ℕ → Code → Option Update
+update_of i o (Some j) a = if is_sum o then Some (record { target = i; op = o; name = j; added = a }) else None
+update_of i o None a = None
+
+abbrev pub kept_update : ℕ → Arithmetic → Code → Codes → Option Update
+kept_update i o a (At x (At (Bound true zero) End)) = update_of i o (name_in x) a
+kept_update i o a es = None
+
+abbrev pub set_update : ℕ → Code → Code → Option Update
+set_update i a (Do (Inline o) es) = kept_update i o a es
+set_update i a e = None
+
+abbrev pub let_update : Code → Code → Option Update
+let_update a (Set (Global true i) e) = set_update i a e
+let_update a e = None
+
+abbrev pub update_in : Code → Option Update
+update_in (Let a e) = let_update a e
+update_in e = None
+
 -- Comparisons of sources: where all names are in range the module compares.
 pub record Pair : Type 0 where
   pub op : CompareOp
@@ -185,6 +215,27 @@ contrary compare.Equal = compare.NotEqual
 contrary compare.NotEqual = compare.Equal
 contrary compare.Greater = compare.LessOrEqual
 contrary compare.GreaterOrEqual = compare.Less
+
+-- Comparisons of a name with how many fields there are, which is always a number: no fault comes of them.
+pub record Counted : Type 0 where
+  pub op : CompareOp
+  pub name : ℕ
+
+abbrev pub is_count : Codes → Bool
+is_count (Fixed m End) = nat_eq m (special_number Nf)
+is_count es = false
+
+abbrev pub field_count : Code → Bool
+field_count (Do (Host row.GetSpecial) es) = is_count es
+field_count e = false
+
+abbrev pub counted_of : CompareOp → Option ℕ → Bool → Option Counted
+counted_of c (Some i) true = Some (record { op = c; name = i })
+counted_of c i t = None
+
+abbrev pub counted_in : Code → Option Counted
+counted_in (Compare c a e) = counted_of c (name_in a) (field_count e)
+counted_in e = None
 
 -- Whether a step's code leaves it by `break` or `continue` of the loop around it.
 abbrev mutual

@@ -2,24 +2,27 @@
 use Rattle.std.specs.Prelude.{ℕ, zero, suc, ◌+◌, ◌^◌, Bool, true, false, if◌then◌else◌, List, [], ◌∷◌, length, Option, Some, None, is_some, pos}
 use Rattle.std.specs.Int.{w64, cast_unsigned}
 use Rattle.awk_values.specs.Faults.{fault_number}
-use Rattle.awk_values.specs.declared.fault.Fault.TheVariants.{NextOutside}
-use Rattle.awk_state.specs.Constants.{flag_number, kind_number}
+use Rattle.awk_values.specs.declared.fault.Fault.TheVariants.{NextOutside, Range}
+use Rattle.awk_state.specs.Constants.{comparison_number, flag_number, kind_number, special_number}
 use Rattle.awk_state.specs.declared.constants.NameKind.{NameKind}
 use Rattle.awk_state.specs.declared.constants.NameKind.TheVariants.{Scalar, ArrayOrFunction}
+use Rattle.awk_state.specs.declared.constants.Special.TheVariants.{Nf}
 use Rattle.awk_state.specs.declared.table.Primitive.TheVariants as row
 use Rattle.wasm_types.specs.Syntax.{Block, Loop as Again, Instructions, Done, Then}
 use Rattle.wasm_types.specs.declared.types.ValType.TheVariants.{I32, I64}
 use Rattle.wasm_types.specs.declared.instr.Simple.{Simple}
 use Rattle.wasm_types.specs.declared.instr.Simple.TheVariants.{Nop, Br, BrIf, LocalGet, LocalSet, LocalTee, GlobalGet, GlobalSet, I32Const, I64Const, Test, Compare as Comparing, Binary, Convert}
-use Rattle.wasm_types.specs.declared.instr.IRelOp.TheVariants.{Eq, Ne}
+use Rattle.wasm_types.specs.declared.instr.IBinOp.{IBinOp}
+use Rattle.wasm_types.specs.declared.instr.IBinOp.TheVariants.{Add}
+use Rattle.wasm_types.specs.declared.instr.IRelOp.TheVariants.{Eq, GtU, LeS, Ne}
 use Rattle.wasm_types.specs.declared.instr.ITestOp.TheVariants.{Eqz}
 use Rattle.wasm_types.specs.declared.instr.CvtOp.TheVariants.{I32WrapI64}
 use Rattle.mid_program.specs.Mid.{Kind, Boxed, Unboxed, Many, Code, Step, Eval, Block as Steps_, If as Either, Loop, Each, Break, Continue, Next, Exit, ExitWith, Return, Mark, Steps, NoStep, Then as AndThen, Program, a_value, form_of}
 use Rattle.value_machine.specs.Places.{Bases, way_global, status_global, range_global, handle_global, number_global, answer_local, iterator_local, array_local}
-use Rattle.value_machine.specs.Small.{does, ask, ask_row, when, either, end_code, moved_out, emptied, let_go, number_is, h, n, kept_code, kept_number, to_value, to_number}
-use Rattle.value_machine.specs.Quick.{Within, unsure, test_within, Source, Named, Constant, all_unsure, Sum, sum_names, sum_op, sum_in, Pair, pair_names, pair_in, contrary, step_jumps, is_nothing}
+use Rattle.value_machine.specs.Small.{does, ask, ask_row, when, either, end_code, text_beside, copied, moved_out, emptied, let_go, fail_if, number_is, h, n, kept_code, kept_number, to_value, number_of_value, to_number}
+use Rattle.value_machine.specs.Quick.{Within, unsure, test_within, Source, Named, Constant, all_unsure, Sum, sum_names, sum_op, sum_in, Update, update_in, Counted, counted_in, Pair, pair_names, pair_in, contrary, step_jumps, is_nothing}
 use Rattle.value_machine.specs.Arithmetic.{relation}
-use Rattle.value_machine.specs.Emission.{Layout, array_pushed, text_pushed, pending_assigned, asked, emitted, dropped, tested}
+use Rattle.value_machine.specs.Emission.{Layout, array_pushed, text_pushed, pending_assigned, asked, text_dropped, emitted, dropped, tested}
 use Rattle.value_machine.specs.declared.import.Import.TheVariants.{Drop, IterFree, FreeArray}
 
 abbrev pub block : Instructions → Instructions → Instructions
@@ -74,16 +77,72 @@ module _ (y : Layout) where
   abbrev pub summed : Sum → Instructions → Instructions
   summed s k = source_pushed s.left (source_pushed s.right (does (Binary I64 (sum_op s.op)) (does (GlobalSet (name_number s.target)) k)))
 
+  -- Sums in all cases: where a name has no number it is 0, or that of the text beside.
+
+  -- of the text beside a name
+  abbrev pub number_there : ℕ → (t d : ℕ) → Instructions → Instructions
+  number_there i t d k = copied (GlobalGet (handle_global y.ranges i)) (GlobalSet (handle_global y.ranges i)) (h b t) (number_of_value b t d k)
+
+  -- of what a name has that has no number
+  abbrev pub number_found : ℕ → (t d : ℕ) → Instructions → Instructions
+  number_found i t d k = number_is (n b t) text_beside (either (number_there i t (suc (suc d)) Done) (does (I64Const 0) (does (LocalSet (n b t)) Done)) k)
+
+  -- a name's number in temporary t
+  abbrev pub name_numbered : ℕ → (t d : ℕ) → Instructions → Instructions
+  name_numbered i t d k =
+      does (name_read i) (does (LocalTee (n b t)) (does (I64Const text_beside) (does (Comparing I64 LeS)
+      (when (number_found i t d Done) k))))
+
+  abbrev pub source_numbered : Source → (t d : ℕ) → Instructions → Instructions
+  source_numbered (Named i) t d k = name_numbered i t d k
+  source_numbered s t d k = k
+
+  abbrev pub source_taken : Source → ℕ → Instructions → Instructions
+  source_taken (Constant z) t k = does (I64Const (cast_unsigned w64 z)) k
+  source_taken s t k = does (LocalGet (n b t)) k
+
+  -- two numbers are on the stack: what an operator gives of them is tested, and a name takes it
+  abbrev pub sum_taken : IBinOp → ℕ → (t d : ℕ) → Instructions → Instructions
+  sum_taken op i t d k =
+      does (Binary I64 op) (does (LocalTee (n b t)) (does (I64Const (2 ^ 53)) (does (Binary I64 Add) (does (I64Const (2 ^ 54)) (does (Comparing I64 GtU) (fail_if Range d
+      (text_dropped y i (does (LocalGet (n b t)) (does (GlobalSet (name_number i)) k)))))))))
+
+  abbrev pub summed_anyway : Sum → ℕ → Instructions → Instructions
+  summed_anyway s d k =
+      source_numbered s.left zero d (source_numbered s.right 1 d (source_taken s.left zero (source_taken s.right 1 (sum_taken (sum_op s.op) s.target zero d k))))
+
+  -- what is added stands in temporary 0, the name's number in the next one
+  abbrev pub updated : Update → ℕ → Instructions → Instructions
+  updated q d k =
+      emitted y false [] [] q.added zero zero d (name_numbered q.name 1 d (to_number b (form_of [] q.added) zero d
+      (does (LocalGet (n b 1)) (does (LocalGet (n b zero)) (sum_taken (sum_op q.op) q.target zero d k)))))
+
+  abbrev pub plainly_dropped : Option Update → Code → ℕ → Instructions → Instructions
+  plainly_dropped None e d k = dropped y [] [] e zero zero d k
+  plainly_dropped (Some q) e d k = updated q d k
+
   abbrev pub quickly_dropped : Option Sum → Code → ℕ → Instructions → Instructions
-  quickly_dropped None e d k = dropped y [] [] e zero zero d k
-  quickly_dropped (Some s) e d k = all_unsure name_read (sum_names s) (pos (2 ^ 52)) (2 ^ 53) (either (dropped y [] [] e zero zero (suc d) Done) (summed s Done) k)
+  quickly_dropped None e d k = plainly_dropped (update_in e) e d k
+  quickly_dropped (Some s) e d k = all_unsure name_read (sum_names s) (pos (2 ^ 52)) (2 ^ 53) (either (summed_anyway s (suc d) Done) (summed s Done) k)
 
   -- both ways of a comparison are quick
   abbrev pub pair_left : Pair → ℕ → Instructions → Instructions
   pair_left q out k = source_pushed q.left (source_pushed q.right (does (Comparing I64 (relation (contrary q.op))) (does (BrIf out) k)))
 
+  -- the host compares a name's number with that of the fields
+  abbrev pub counted_left : Counted → ℕ → Instructions → Instructions
+  counted_left q out k =
+      does (I32Const (comparison_number q.op)) (does (name_read q.name) (ask_row row.Num
+      (does (I32Const (special_number Nf)) (ask_row row.GetSpecial (ask_row row.Compare (does (Test I32 Eqz) (does (BrIf out) k)))))))
+
+  abbrev pub left_unless_counted : Option Counted → Code → (d out : ℕ) → Instructions → Instructions
+  left_unless_counted None e d out k = tested y [] [] e zero zero d (does (Test I32 Eqz) (does (BrIf out) k))
+  left_unless_counted (Some q) e d out k =
+      does (name_read q.name) (does (I64Const text_beside) (does (Comparing I64 LeS)
+      (either (tested y [] [] e zero zero (suc d) (does (Test I32 Eqz) (does (BrIf (suc out)) Done))) (counted_left q (suc out) Done) k)))
+
   abbrev pub left_unless_pair : Option Pair → Code → (d out : ℕ) → Instructions → Instructions
-  left_unless_pair None e d out k = tested y [] [] e zero zero d (does (Test I32 Eqz) (does (BrIf out) k))
+  left_unless_pair None e d out k = left_unless_counted (counted_in e) e d out k
   left_unless_pair (Some q) e d out k =
       all_unsure name_read (pair_names q) (pos (2 ^ 53)) (2 ^ 54) (either (tested y [] [] e zero zero (suc d) (does (Test I32 Eqz) (does (BrIf (suc out)) Done))) (pair_left q (suc out) Done) k)
 

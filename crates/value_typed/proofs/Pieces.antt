@@ -55,7 +55,7 @@ module _ {p : Program} {ks : List Kind} {b : Bases} {C : Context} (at : Stands p
           CodeOk C L (copied get_it set_it y k) ps rs
       copied_ok g s e r = gives g (tee e (called ps (at.imported (Of row.Dup)) (takes s r)))
 
-      fail_if_ok : {d : ℕ} → (f : Fault) → Exit L d → CodeOk C L k ps rs → CodeOk C L (fail_if f d k) (I32 ∷ ps) rs
+      pub fail_if_ok : {d : ℕ} → (f : Fault) → Exit L d → CodeOk C L k ps rs → CodeOk C L (fail_if f d k) (I32 ∷ ps) rs
       fail_if_ok f e r = branched (word (called [] (at.imported (Of row.Fail)) (leave (inner e) done))) done r
 
       pub number_is_ok : {x m : ℕ} → slice_get C.locals x ≡ Some I64 → CodeOk C L k (I32 ∷ ps) rs → CodeOk C L (number_is x m k) ps rs
@@ -113,7 +113,7 @@ module _ {p : Program} {ks : List Kind} {b : Bases} {C : Context} (at : Stands p
         number_is_ok (at.number t lt)
         (number_is_ok (at.number t lt) (binary (convert {op = I64ExtendI32S} (put (at.number t lt) r))))
 
-    number_of_value_ok : {t d : ℕ} → t < b.temporaries → Exit L d → CodeOk C L k ps rs → CodeOk C L (number_of_value b t d k) ps rs
+    pub number_of_value_ok : {t d : ℕ} → t < b.temporaries → Exit L d → CodeOk C L k ps rs → CodeOk C L (number_of_value b t d k) ps rs
     number_of_value_ok {t = t} lt e r = moved_out_ok (at.handle t lt) (called ps (at.imported (Of row.ToNum)) (kept_number_ok true lt e r))
 
   module _ {L : Labels} {k : Instructions} {ps rs : Stack} where

@@ -57,7 +57,7 @@ module _ {p : Program} {ks : List Kind} {b : Bases} {C : Context} (at : Stands p
     handle_stored_ok true {t = t} lt s r = moved_out_ok at (at.handle t lt) (takes s r)
     handle_stored_ok false {t = t} lt s r = get (at.handle t lt) (tee (at.handle t lt) (called ps (at.imported (Of row.Dup)) (takes s r)))
 
-    text_dropped_ok : {i : ℕ} → i < length (kinds_of p.globals) → CodeOk C L k ps rs → CodeOk C L (text_dropped (layout_of p b) i k) ps rs
+    pub text_dropped_ok : {i : ℕ} → i < length (kinds_of p.globals) → CodeOk C L k ps rs → CodeOk C L (text_dropped (layout_of p b) i k) ps rs
     text_dropped_ok {i = i} li r =
         read (at.name_number i li) (long (compare (branched (read (at.name_handle i li) (called [] (at.imported Drop) (word (write (at.name_handle i li) done)))) done r)))
 

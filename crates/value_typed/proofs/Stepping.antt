@@ -1,28 +1,32 @@
 -- The code of steps is typed: between two steps nothing is on the stack, and each way out is a label that wants nothing.
-use Rattle.std.proofs.Common.{◌≡◌, ℕ, zero, suc, ◌+◌, ◌<◌, ◌≤◌, ◌^◌, Bool, true, false, List, [], ◌∷◌, Some, None, Option, ℤ, pos, refl, arith, if◌then◌else◌}
+use Rattle.std.proofs.Common.{◌≡◌, ℕ, zero, suc, ◌+◌, ◌<◌, ◌≤◌, ◌^◌, Bool, true, false, List, [], ◌∷◌, Some, None, Option, ℤ, length, pos, refl, sym, subst, arith, if◌then◌else◌}
 use Rattle.std.specs.Prelude.{◌&&◌, slice_get, is_some}
 use Rattle.std.proofs.lemmas.Bool.{and_parts, ltb-true}
+use Rattle.awk_values.specs.declared.fault.Fault.TheVariants.{Range}
 use Rattle.awk_state.specs.declared.sorts.Sort.TheVariants as sort
 use Rattle.awk_state.specs.declared.table.Primitive.TheVariants as row
 use Rattle.wasm_types.specs.Syntax.{Instructions}
 use Rattle.wasm_types.specs.Typing.{Context, CodeOk, done}
 use Rattle.wasm_types.specs.declared.types.ValType.TheVariants.{I32, I64}
+use Rattle.wasm_types.specs.declared.instr.IBinOp.{IBinOp}
 use Rattle.wasm_types.specs.declared.instr.Simple.TheVariants.{GlobalGet}
 use Rattle.mid_program.specs.Mid.{Kind, Unboxed, Program, Code, Step, Eval, Block, If, Loop, Each, Break, Continue, Next, Exit as ExitStep, ExitWith, Return, Mark, Steps, NoStep, Then, Form, a_value, form_of}
 use Rattle.mid_program.specs.Sorted.{context_of, kinds_of, is_array_place, fits, is_tested, is_dropped, stores_well, sorted, test_sorted, step_sorted, steps_sorted}
 use Rattle.value_machine.specs.Emission.{dropped, tested}
 use Rattle.value_machine.specs.Functions.{layout_of}
 use Rattle.value_machine.specs.Places.{Bases, room, arrays_in, step_room, steps_room, step_arrays, steps_arrays, step_iterators, steps_iterators}
-use Rattle.value_machine.specs.Quick.{Within, unsure, test_within, Source, Named, Constant, joined, all_unsure, Sum, sum_names, sum_in, Pair, pair_names, pair_in, step_jumps, is_nothing}
+use Rattle.value_machine.specs.Quick.{Within, unsure, test_within, Source, Named, Constant, joined, all_unsure, Sum, sum_names, sum_op, sum_in, Update, update_in, Counted, counted_in, Pair, pair_names, pair_in, step_jumps, is_nothing}
 use Rattle.value_machine.specs.Machine.{no_notes}
-use Rattle.value_machine.proofs.QuickSteps.{AllUnboxed, SourceFits, test_is, sum_is, sum_unboxed, pair_is, pair_unboxed}
+use Rattle.value_machine.proofs.QuickSteps.{AllUnboxed, SourceFits, near_source, test_is, sum_is, sum_unboxed, pair_is, pair_unboxed, counted_is}
+use Rattle.value_machine.proofs.Summing.{IsSource}
+use Rattle.value_machine.proofs.Updating.{added_code, added_is, added_sorted}
 use Rattle.value_machine.proofs.Watch.{Watch}
-use Rattle.value_machine.specs.Statements.{name_read, source_pushed, quickly_dropped, left_unless_pair, left_unless, left_by, key_stored, iterator_left, step_emitted, steps_emitted}
+use Rattle.value_machine.specs.Statements.{name_read, source_pushed, name_numbered, source_numbered, source_taken, sum_taken, summed_anyway, updated, plainly_dropped, quickly_dropped, left_unless_counted, left_unless_pair, left_unless, left_by, key_stored, iterator_left, step_emitted, steps_emitted}
 use Rattle.value_machine.specs.declared.import.Import.TheVariants.{Of, Drop, IterFree}
-use Rattle.value_typed.proofs.Singles.{Stack, Labels, Exit, inner, nearest, nothing, called, get, put, tee, read, write, word, long, binary, variable, compare, test, leave, leave_if, blocked, looped, branched}
+use Rattle.value_typed.proofs.Singles.{Stack, Labels, Exit, inner, nearest, reads_global, writes_global, nothing, called, get, put, tee, read, write, word, long, binary, variable, compare, test, leave, leave_if, blocked, looped, branched}
 use Rattle.value_typed.proofs.Standing.{Stands, kind_below}
-use Rattle.value_typed.proofs.Pieces.{moved_out_ok, emptied_ok, let_go_ok, to_value_ok, to_number_ok, truth_ok}
-use Rattle.value_typed.proofs.Slots.{array_pushed_ok}
+use Rattle.value_typed.proofs.Pieces.{moved_out_ok, emptied_ok, copied_ok, let_go_ok, fail_if_ok, number_is_ok, number_of_value_ok, to_value_ok, to_number_ok, truth_ok}
+use Rattle.value_typed.proofs.Slots.{array_pushed_ok, text_dropped_ok}
 use Rattle.value_typed.proofs.Rows.{room_there}
 use Rattle.value_typed.proofs.Emitting.{AreBelow, one_more_below, none_below, left_over_ok, code_ok}
 
@@ -73,20 +77,74 @@ module _ {p : Program} {ks : List Kind} {b : Bases} {C : Context} (at : Stands p
     all_unsure_ok [] q w h r = word r
     all_unsure_ok (i ∷ is) q w h r = read (at.name_number i (kind_below (kinds_of p.globals) i Unboxed h.0)) (long (binary (joined_ok is q h.1 (long (compare r)))))
 
+  -- sums in all cases
   module _ {L : Labels} {k : Instructions} {rs : Stack} where
+    name_numbered_ok : {ps : Stack} {i t d : ℕ} → i < length (kinds_of p.globals) → t < b.temporaries → Exit L d → CodeOk C L k ps rs → CodeOk C L (name_numbered (layout_of p b) i t d k) ps rs
+    name_numbered_ok {i = i} {t = t} li lt x r =
+        let g = at.name_handle i li in
+        read (at.name_number i li) (tee (at.number t lt) (long (compare (branched
+        (number_is_ok at (at.number t lt) (branched
+        (copied_ok at (reads_global g) (writes_global g) (at.handle t lt) (number_of_value_ok at lt (inner (inner x)) done))
+        (long (put (at.number t lt) done)) done)) done r))))
+
+    source_numbered_ok : {ps : Stack} {t d : ℕ} (q : Source) → IsSource p unwatched ks [] b 0 0 q → t < b.temporaries → Exit L d → CodeOk C L k ps rs → CodeOk C L (source_numbered (layout_of p b) q t d k) ps rs
+    source_numbered_ok {t = t} (Named i) h lt x r = name_numbered_ok {t = t} (kind_below (kinds_of p.globals) i Unboxed h) lt x r
+    source_numbered_ok (Constant z) h lt x r = r
+
+    source_taken_ok : {ps : Stack} (q : Source) (t : ℕ) → t < b.temporaries → CodeOk C L k (I64 ∷ ps) rs → CodeOk C L (source_taken (layout_of p b) q t k) ps rs
+    source_taken_ok (Named i) t lt r = get (at.number t lt) r
+    source_taken_ok (Constant z) t lt r = long r
+
+    sum_taken_ok : {t d : ℕ} (op : IBinOp) (i : ℕ) → i < length (kinds_of p.globals) → t < b.temporaries → Exit L d → CodeOk C L k [] rs → CodeOk C L (sum_taken (layout_of p b) op i t d k) (I64 ∷ (I64 ∷ [])) rs
+    sum_taken_ok {t = t} op i li lt x r =
+        binary (tee (at.number t lt) (long (binary (long (compare (fail_if_ok at Range x (text_dropped_ok at li (get (at.number t lt) (write (at.name_number i li) r)))))))))
+
+  module _ {L : Labels} {k : Instructions} {rs : Stack} where
+    anyway_ok : {d : ℕ} (s : Sum) → IsSource p unwatched ks [] b 0 0 s.left → IsSource p unwatched ks [] b 0 0 s.right → s.target < length (kinds_of p.globals) → 1 < b.temporaries → Exit L d →
+        CodeOk C L k [] rs → CodeOk C L (summed_anyway (layout_of p b) s d k) [] rs
+    anyway_ok s hl hr li lt x r =
+        source_numbered_ok s.left hl (omega (arith, lt)) x (source_numbered_ok s.right hr lt x
+        (source_taken_ok s.left 0 (omega (arith, lt)) (source_taken_ok s.right 1 lt (sum_taken_ok {t = 0} (sum_op s.op) s.target li (omega (arith, lt)) x r))))
+
+    updated_ok : {d : ℕ} (q : Update) → sorted (context_of p ks) [] (added_code q) ≡ true → room (added_code q) ≤ b.temporaries →
+        arrays_in (added_code q) ≤ b.arrays → Exit L d → CodeOk C L k [] rs → CodeOk C L (updated (layout_of p b) q d k) [] rs
+    updated_ok {d = d} q s h g x r =
+        let he = room_there q.added in
+        let t = added_sorted p unwatched ks [] b 0 0 q s in
+        code_ok at false [] [] q.added 0 0 d (none_below b.temporaries (omega (arith, h, he))) t.added (omega (arith, h)) (omega (arith, g)) x
+        (name_numbered_ok {t = 1} (kind_below (kinds_of p.globals) q.name Unboxed t.name) (omega (arith, h, he)) x
+        (to_number_ok at (form_of [] q.added) (omega (arith, h, he)) x (get (at.number 1 (omega (arith, h, he))) (get (at.number 0 (omega (arith, h, he)))
+        (sum_taken_ok {t = 0} (sum_op q.op) q.target (kind_below (kinds_of p.globals) q.target Unboxed t.kind) (omega (arith, h, he)) x r)))))
+
+  module _ {L : Labels} {k : Instructions} {rs : Stack} where
+    plainly_dropped_ok : (o : Option Update) (e : Code) (d : ℕ) → update_in e ≡ o → sorted (context_of p ks) [] e ≡ true → room e ≤ b.temporaries → arrays_in e ≤ b.arrays → Exit L d →
+        CodeOk C L k [] rs → CodeOk C L (plainly_dropped (layout_of p b) o e d k) [] rs
+    plainly_dropped_ok None e d eq s h g x r = let he = room_there e in dropped_ok [] [] e 0 0 d (none_below b.temporaries (omega (arith, h, he))) s (omega (arith, h)) (omega (arith, g)) x r
+    plainly_dropped_ok (Some q) e d eq s h g x r =
+        subst (λ (c : Code). sorted (context_of p ks) [] c ≡ true → room c ≤ b.temporaries → arrays_in c ≤ b.arrays → CodeOk C L (updated (layout_of p b) q d k) [] rs) (sym (added_is e q eq).0)
+        (λ s1 h1 g1. updated_ok q s1 h1 g1 x r) s h g
+
     quickly_dropped_ok : (o : Option Sum) (e : Code) (d : ℕ) → sum_in e ≡ o → sorted (context_of p ks) [] e ≡ true → room e ≤ b.temporaries → arrays_in e ≤ b.arrays → Exit L d →
         CodeOk C L k [] rs → CodeOk C L (quickly_dropped (layout_of p b) o e d k) [] rs
-    quickly_dropped_ok None e d eq s h g x r = let he = room_there e in dropped_ok [] [] e 0 0 d (none_below b.temporaries (omega (arith, h, he))) s (omega (arith, h)) (omega (arith, g)) x r
+    quickly_dropped_ok None e d eq s h g x r = plainly_dropped_ok (update_in e) e d refl s h g x r
     quickly_dropped_ok (Some a) e d eq s h g x r =
-        let he = room_there e in
         let t = sum_is p unwatched ks [] b 0 0 e a eq s in
+        let few = t.room in
         all_unsure_ok (sum_names a) (pos (2 ^ 52)) (2 ^ 53) (sum_unboxed p unwatched ks [] b 0 0 e a t)
-        (branched (dropped_ok [] [] e 0 0 (suc d) (none_below b.temporaries (omega (arith, h, he))) s (omega (arith, h)) (omega (arith, g)) (inner x) done)
+        (branched (anyway_ok a (near_source p unwatched ks [] b 0 0 a.left t.left) (near_source p unwatched ks [] b 0 0 a.right t.right) (kind_below (kinds_of p.globals) a.target Unboxed t.kind) (omega (arith, h, few)) (inner x) done)
         (source_ok (2 ^ 52) a.left t.left (source_ok (2 ^ 52) a.right t.right (binary (write (at.name_number a.target (kind_below (kinds_of p.globals) a.target Unboxed t.kind)) done)))) r)
+
+    left_unless_counted_ok : (o : Option Counted) (e : Code) (d out : ℕ) → counted_in e ≡ o → test_sorted (context_of p ks) e ≡ true → room e ≤ b.temporaries → arrays_in e ≤ b.arrays → Exit L d → Exit L out →
+        CodeOk C L k [] rs → CodeOk C L (left_unless_counted (layout_of p b) o e d out k) [] rs
+    left_unless_counted_ok None e d out eq s h g x z r = tested_ok e s h g x (test (leave_if z r))
+    left_unless_counted_ok (Some q) e d out eq s h g x z r =
+        let g1 = at.name_number q.name (kind_below (kinds_of p.globals) q.name Unboxed (counted_is p unwatched ks [] b 0 0 e q eq (and_parts (is_tested (form_of [] e)) (sorted (context_of p ks) [] e) s).1).kind) in
+        read g1 (long (compare (branched (tested_ok e s h g (inner x) (test (leave_if (inner z) done)))
+        (word (read g1 (called (I32 ∷ []) (at.imported (Of row.Num)) (word (called (I32 ∷ (I32 ∷ [])) (at.imported (Of row.GetSpecial)) (called [] (at.imported (Of row.Compare)) (test (leave_if (inner z) done)))))))) r)))
 
     left_unless_pair_ok : (o : Option Pair) (e : Code) (d out : ℕ) → pair_in e ≡ o → test_sorted (context_of p ks) e ≡ true → room e ≤ b.temporaries → arrays_in e ≤ b.arrays → Exit L d → Exit L out →
         CodeOk C L k [] rs → CodeOk C L (left_unless_pair (layout_of p b) o e d out k) [] rs
-    left_unless_pair_ok None e d out eq s h g x z r = tested_ok e s h g x (test (leave_if z r))
+    left_unless_pair_ok None e d out eq s h g x z r = left_unless_counted_ok (counted_in e) e d out refl s h g x z r
     left_unless_pair_ok (Some q) e d out eq s h g x z r =
         let t = pair_is p unwatched ks [] b 0 0 e q eq (and_parts (is_tested (form_of [] e)) (sorted (context_of p ks) [] e) s).1 in
         all_unsure_ok (pair_names q) (pos (2 ^ 53)) (2 ^ 54) (pair_unboxed p unwatched ks [] b 0 0 e q t)
