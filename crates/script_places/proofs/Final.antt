@@ -9,7 +9,6 @@ use Rattle.mid_program.specs.Meaning.{Calls}
 use Rattle.mid_program.specs.Mid.{Kind, Slot, Do, parameters_at}
 use Rattle.mid_program.specs.MidMeaning.{evaluated, holds, keyed, stepped}
 use Rattle.mid_program.specs.Names.{Scope, Variable}
-use Rattle.mid_program.specs.ScriptState.{◌>>=◌}
 use Rattle.mid_program.specs.Statements.{test_of, maybe_test, done_by}
 use Rattle.mid_program.specs.Steps.{store_variable}
 use Rattle.mid_program.specs.Texts.{texts_in, maybe_texts, stmt_texts}

@@ -1,15 +1,15 @@
 -- The code of an action notes the places of the spots that its pattern and its statements pass.
-use Rattle.std.proofs.Common.{◌≡◌, ℕ, zero, suc, ◌+◌, Bool, true, false, List, [], ◌∷◌, ◌++◌, Option, Some, None, refl, sym, ap, ◌∙◌}
+use Rattle.std.proofs.Common.{◌≡◌, ℕ, Bool, true, false, List, [], Option, Some, refl, sym, ap, ◌∙◌}
 use Rattle.std.specs.Prelude.{if◌then◌else◌}
 use Rattle.world_core.specs.WorldState.{Action}
 use Rattle.wasm_types.specs.Syntax.{Instructions}
 use Rattle.awk_grammar.specs.Item as item
-use Rattle.awk_grammar.specs.Item.{Item, Pattern}
+use Rattle.awk_grammar.specs.Item.{Pattern}
 use Rattle.awk_grammar.specs.Stmt.{Stmt, Stmts, Block as Actions}
 use Rattle.awk_grammar.specs.Tree.{Tree}
-use Rattle.mid_program.specs.Items.{print_record, pattern_ranges, range_open, tested}
+use Rattle.mid_program.specs.Items.{range_open, tested}
 use Rattle.mid_program.specs.Meaning.{Calls}
-use Rattle.mid_program.specs.Mid.{Kind, Slot, Code, IsOpen, Mark, Step, Block, Steps, NoStep, Then, parameters_at}
+use Rattle.mid_program.specs.Mid.{Kind, Slot, Code, Mark, Step, Block, NoStep, Then}
 use Rattle.mid_program.specs.MidMeaning.{evaluated, stepped}
 use Rattle.mid_program.specs.Names.{Scope}
 use Rattle.mid_program.specs.ScriptState.{Doing, ◌>>=◌, ◌>>◌, give, look, change, with_range}
@@ -22,7 +22,7 @@ use Rattle.mid_code.proofs.Statements.{alone, plainly}
 use Rattle.value_machine.specs.Emission.{Layout}
 use Rattle.value_machine.specs.Machine.{Notes}
 use Rattle.value_machine.specs.Noted.{noted, step_noted, steps_noted}
-use Rattle.value_machine.specs.Statements.{step_emitted, steps_emitted}
+use Rattle.value_machine.specs.Statements.{steps_emitted}
 use Rattle.script_places.specs.Marked.{Marks, mark, action_marked, opens_marked, closes_marked, where_marked}
 use Rattle.script_places.specs.Places.{Position, aside, met, final, test_in, step_at, position, part_place, if_so, opening_step, closing_step, inside_step, after_pattern, pattern_place}
 use Rattle.script_places.specs.Spots.{Frame, Home, Part, PatternPart, Asked, Unmet, Opening, Already, FirstTest, Opens, StaysClosed, Inside, Entered, LastTest, Closes, StaysOpen, Of, OfPattern}

@@ -1,20 +1,20 @@
 -- The code of a script notes the places of the spots that the script passes.
-use Rattle.std.proofs.Common.{◌≡◌, ℕ, zero, suc, ◌+◌, Bool, List, [], ◌∷◌, ◌++◌, Option, Some, None, map, refl, sym, ap, ◌∙◌}
+use Rattle.std.proofs.Common.{◌≡◌, ℕ, zero, suc, ◌+◌, List, [], ◌∷◌, Some, None, map, refl, sym, ap, ◌∙◌}
 use Rattle.wasm_types.specs.Syntax.{Instructions}
 use Rattle.awk_grammar.specs.Item as item
 use Rattle.awk_grammar.specs.Item.{Item}
-use Rattle.awk_grammar.specs.Stmt.{Stmt, Stmts}
+use Rattle.awk_grammar.specs.Stmt.{Stmts}
 use Rattle.folding.proofs.Folds as folded
 use Rattle.folding.specs.Folding.{fold, folded_routine}
 use Rattle.mid_program.specs.Items.{print_record, pattern_ranges, reads_records, top}
 use Rattle.mid_program.specs.Meaning.{Calls}
 use Rattle.mid_program.specs.Mid.{Kind, Routine, Slot, Steps, parameters_at}
 use Rattle.mid_program.specs.MidMeaning.{global_name, routine_at, routine_name}
-use Rattle.mid_program.specs.Names.{Function, Name, Resolved, Scope, function_at}
-use Rattle.mid_program.specs.ScriptRun.{Parts, Setting, as_name, run_with}
-use Rattle.mid_program.specs.ScriptState.{Doing, Local, ◌>>=◌, ◌>>◌, give, nothing}
+use Rattle.mid_program.specs.Names.{Function, Resolved, Scope, function_at}
+use Rattle.mid_program.specs.ScriptRun.{Setting, as_name, run_with}
+use Rattle.mid_program.specs.ScriptState.{Doing, ◌>>=◌, ◌>>◌, nothing}
 use Rattle.mid_program.specs.Sorted.{calls_of}
-use Rattle.mid_program.specs.Statements.{Flow, Normal, after, entered, scope_in}
+use Rattle.mid_program.specs.Statements.{Flow, after, entered, scope_in}
 use Rattle.mid_program.specs.Texts.{texts_in, all_texts, pattern_texts, stmt_texts, stmts_texts, item_texts, items_texts, functions_texts, texts_of_script}
 use Rattle.mid_program.specs.Translation.{begin_code, end_code, items_code, program_of, routine_code, steps_code}
 use Rattle.mid_code.proofs.Scripts.{functions_again, globals_again, heads_of_program}
@@ -23,13 +23,13 @@ use Rattle.mid_code.proofs.Trees.{Heads}
 use Rattle.value_kinds.specs.Applied.{is_unboxed, routine_with, routines_with, slot_in}
 use Rattle.value_kinds.proofs.Applies as applied
 use Rattle.value_machine.specs.Emission.{Layout}
-use Rattle.value_machine.specs.Functions.{layout_of, main_bases, routine_bases}
+use Rattle.value_machine.specs.Functions.{layout_of, main_bases}
 use Rattle.value_machine.specs.Machine.{Notes}
-use Rattle.value_machine.specs.Noted.{begin_rest, noted_called, noted_done, noted_parts, noted_run_in, out_of_part, routine_rest, step_noted, steps_noted}
-use Rattle.value_machine.specs.Statements.{step_emitted, steps_emitted}
+use Rattle.value_machine.specs.Noted.{begin_rest, noted_called, noted_parts, noted_run_in, out_of_part, routine_rest, steps_noted}
+use Rattle.value_machine.specs.Statements.{steps_emitted}
 use Rattle.script_places.specs.Marked.{Marks, all_marked, marked_called, items_marked, begun_marked, ended_marked, marked_parts, marked_run}
-use Rattle.script_places.specs.Places.{bases_at, final_program, final_steps, lanes_of, layout_at, outermost_in, place_of, scope_at, slots_at, start_in}
-use Rattle.script_places.specs.Spots.{Home, OfBegin, OfEnd, OfFunction, OfRecord}
+use Rattle.script_places.specs.Places.{bases_at, final_program, final_steps, lanes_of, layout_at, outermost_in, place_of, start_in}
+use Rattle.script_places.specs.Spots.{OfBegin, OfEnd, OfFunction, OfRecord}
 use Rattle.script_places.proofs.Final.{DoesSo, does_so}
 use Rattle.script_places.proofs.Items.{action_so, where_so}
 use Rattle.script_places.proofs.Statements.{steps_so}

@@ -1,5 +1,5 @@
 -- The code of a statement notes the places of the spots that the statement passes.
-use Rattle.std.proofs.Common.{◌≡◌, ℕ, zero, suc, Bool, true, false, List, [], ◌∷◌, ◌++◌, Option, Some, None, refl, sym, ap, ◌∙◌}
+use Rattle.std.proofs.Common.{◌≡◌, ℕ, suc, Bool, true, false, List, ◌∷◌, ◌++◌, Option, Some, None, refl, sym, ap, ◌∙◌}
 use Rattle.std.specs.Prelude.{if◌then◌else◌, is_some}
 use Rattle.world_core.specs.WorldState.{Action}
 use Rattle.awk_state.specs.declared.table.Primitive.TheVariants as row
@@ -9,12 +9,11 @@ use Rattle.awk_grammar.specs.Tree.{Tree}
 use Rattle.wasm_types.specs.Syntax.{Instructions, Done}
 use Rattle.wasm_types.specs.declared.instr.Simple.TheVariants.{Br}
 use Rattle.mid_program.specs.Meaning.{Calls}
-use Rattle.mid_program.specs.Mid.{Kind, Slot, Code, Do, Step, Block, Steps, NoStep, Then, parameters_at}
-use Rattle.mid_program.specs.MidMeaning.{stepped}
-use Rattle.mid_program.specs.Names.{Scope, Variable, array_of, variable_of}
+use Rattle.mid_program.specs.Mid.{Kind, Slot, Code, Step, Block, Steps, NoStep}
+use Rattle.mid_program.specs.Names.{Scope, array_of, variable_of}
 use Rattle.mid_program.specs.ScriptState.{Doing, ◌>>=◌, ◌>>◌, give, nothing, does}
-use Rattle.mid_program.specs.Statements.{Flow, Normal, after, after_round, loop, over_keys, test_of, maybe_test, plain_done, maybe_done, done_by}
-use Rattle.mid_program.specs.Steps.{array_number, store_variable}
+use Rattle.mid_program.specs.Statements.{Flow, Normal, after, after_round, loop, over_keys, maybe_test, plain_done, maybe_done, done_by}
+use Rattle.mid_program.specs.Steps.{array_number}
 use Rattle.mid_program.specs.Texts.{texts_in, maybe_texts, maybe_plain_texts, plain_texts, stmt_texts, stmts_texts}
 use Rattle.mid_program.specs.Translation.{plain_step, maybe_step, step_code, steps_code}
 use Rattle.mid_code.proofs.Stands.{AllStand, first_part, second_part}
@@ -24,9 +23,9 @@ use Rattle.value_machine.specs.Machine.{Notes}
 use Rattle.value_machine.specs.Noted.{noted, step_noted, steps_noted}
 use Rattle.value_machine.specs.Quick.{is_nothing, pair_in, step_jumps}
 use Rattle.value_machine.specs.Small.{does as instruction}
-use Rattle.value_machine.specs.Statements.{step_emitted, steps_emitted}
+use Rattle.value_machine.specs.Statements.{steps_emitted}
 use Rattle.script_places.specs.Marked.{mark, between_marked, done_marked, all_marked}
-use Rattle.script_places.specs.Places.{Position, aside, met, at_end, in_block, final, final_steps, test_in, step_of, step_at, back, round, key_round, loop_of, position, part_place}
+use Rattle.script_places.specs.Places.{Position, aside, met, at_end, in_block, final, final_steps, test_in, step_of, step_at, back, round, loop_of, position, part_place}
 use Rattle.script_places.specs.Spots.{Frame, Before, Within, AfterElse, Part, Whole, First, Looping, Between, Testing, Unless, Spot, Of}
 use Rattle.script_places.proofs.Final.{DoesSo, maybe_tests}
 

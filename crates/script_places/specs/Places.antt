@@ -3,9 +3,9 @@
 use Rattle.std.specs.Prelude.{ℕ, zero, suc, ◌+◌, true, false, if◌then◌else◌, List, [], ◌∷◌, Option, Some, None, is_some}
 use Rattle.wasm_types.specs.Syntax.{Instructions, Done}
 use Rattle.wasm_types.specs.declared.instr.Simple.TheVariants.{Br}
-use Rattle.awk_grammar.specs.Item.{One, Between as Range, Item, Pattern}
+use Rattle.awk_grammar.specs.Item.{One, Between as Range, Pattern}
 use Rattle.awk_grammar.specs.Stmt as stmt
-use Rattle.awk_grammar.specs.Stmt.{Stmt, Stmts}
+use Rattle.awk_grammar.specs.Stmt.{Stmt}
 use Rattle.awk_grammar.specs.Tree.{Tree}
 use Rattle.folding.specs.Folding.{same, reduced, fold}
 use Rattle.mid_program.specs.Items.{top, pattern_ranges}
@@ -25,7 +25,7 @@ use Rattle.value_machine.specs.Places.{Bases}
 use Rattle.value_machine.specs.Quick.{is_nothing, pair_in, step_jumps}
 use Rattle.value_machine.specs.Small.{does as instruction}
 use Rattle.value_machine.specs.Statements.{step_emitted, steps_emitted}
-use Rattle.script_places.specs.Spots.{Frame, Before, Within, AfterElse, Home, OfBegin, OfEnd, OfRecord, OfFunction, Part, Whole, First, Looping, Between, Testing, Unless, PatternPart, Asked, Unmet, Opening, Already, FirstTest, Opens, StaysClosed, Inside, Entered, LastTest, Closes, StaysOpen, Spot, Of, OfPattern}
+use Rattle.script_places.specs.Spots.{Frame, Before, Within, AfterElse, Home, OfBegin, OfEnd, OfRecord, OfFunction, Part, First, Looping, Between, Testing, Unless, PatternPart, Asked, Unmet, Opening, Already, FirstTest, Opens, StaysClosed, Inside, Entered, LastTest, Closes, StaysOpen, Spot, Of, OfPattern}
 
 -- Where code stands in a function: so many iterators are in use, and so many labels are between it and the function's exit, the place where `break` goes, and the one where `continue` goes; then what
 -- comes after it in its block.

@@ -1,11 +1,11 @@
 -- Which spots runs of scripts pass, computed from the definition: a letter for each.
-use Rattle.std.specs.Prelude.{◌≡◌, ℕ, List, [], ◌∷◌, ◌++◌, codes, map, Some, None, refl}
+use Rattle.std.specs.Prelude.{◌≡◌, ℕ, List, [], ◌∷◌, ◌++◌, codes, Some, refl}
 use Rattle.std.specs.Fmt.{digits}
 use Rattle.awk_text.specs.Escapes.{unescaped, escaped, octal}
 use Rattle.awk_text.specs.Number.{numerator, denominator}
 use Rattle.awk_text.specs.Reading.{numeral_at, sign_at, fraction_at, exponent_at}
 use Rattle.ere_syntax.specs.Scan.{table, sign_of}
-use Rattle.world_core.specs.WorldState.{Action, Put, Standard, Outside, Source, absent, puts}
+use Rattle.world_core.specs.WorldState.{Standard, Outside, Source, absent, puts}
 use Rattle.world_core.specs.declared.world.Ending.TheVariants.{End}
 use Rattle.awk_state.specs.Jobs.{JobForm}
 use Rattle.awk_tokens.specs.Words.{keywords, builtins, left_out_words}
