@@ -35,7 +35,8 @@ pub fn relation(op: CompareOp) -> IRelOp
     }
 }
 
-fn comparison_number(op: CompareOp) -> u32
+/// The number of an operator, as modules give it.
+pub fn comparison_number(op: CompareOp) -> u32
     ensures { result ≡ comparison_number op }
 {
     match op {

@@ -1,5 +1,5 @@
 -- Code is nested as deep as its labels are counted.
-use Rattle.std.proofs.Common.{◌≡◌, ◌≤◌, ◌+◌, ℕ, zero, suc, Bool, true, false, List, [], ◌∷◌, length, max, refl, arith}
+use Rattle.std.proofs.Common.{◌≡◌, ◌≤◌, ◌+◌, ℕ, zero, suc, Bool, true, false, List, [], ◌∷◌, length, max, refl, ap, arith}
 use Rattle.std.specs.Prelude.{if◌then◌else◌, Option, Some, None, is_some, ℤ}
 use Rattle.awk_state.specs.declared.sorts.Answer.TheVariants as answer
 use Rattle.awk_state.specs.declared.sorts.Sort.TheVariants as sort
@@ -7,20 +7,23 @@ use Rattle.awk_state.specs.declared.table.Primitive.{Primitive}
 use Rattle.awk_state.specs.declared.table.Primitive.TheVariants as row
 use Rattle.wasm_types.specs.Instructions.{depths}
 use Rattle.wasm_types.specs.Syntax.{Instructions, Done}
+use Rattle.wasm_types.specs.declared.instr.IBinOp.{IBinOp}
 use Rattle.wasm_types.specs.declared.instr.Simple.{Simple}
 use Rattle.wasm_types.specs.declared.instr.Simple.TheVariants.{Br, Call as CallOf}
 use Rattle.value_machine.specs.Imports.{import_number}
 use Rattle.value_machine.specs.declared.import.Import.TheVariants.{Of}
 use Rattle.mid_program.specs.MidMeaning.{three_values}
-use Rattle.mid_program.specs.Mid.{Kind, Boxed, Unboxed, Many, Code, Do, Over, Compare, Call, Ask, AskLine, FileLine, Replace, Number, Text, Unset, Get, Set, Array, IsOpen, Choose, Seq, Let, Bound, Codes, End, At, Fixed, Fresh, Step, Eval, Block as Steps_, If as Either, Loop, Each, Break, Continue, Next, Exit, ExitWith, Return, Mark, Steps, NoStep, Then as AndThen, Program, Routine, Form, a_value, form_of}
+use Rattle.mid_program.specs.Mid.{Kind, Boxed, Unboxed, Many, Global, Code, Do, Over, Compare, Call, Ask, AskLine, FileLine, Replace, Number, Text, Unset, Get, Set, Array, IsOpen, Choose, Seq, Let, Bound, Codes, End, At, Fixed, Fresh, Step, Eval, Block as Steps_, If as Either, Loop, Each, Break, Continue, Next, Exit, ExitWith, Return, Mark, Steps, NoStep, Then as AndThen, Program, Routine, Form, a_value, form_of}
 use Rattle.mid_program.specs.declared.mid.Operation.{Operation}
-use Rattle.mid_program.specs.declared.mid.Operation.TheVariants.{Host}
+use Rattle.mid_program.specs.declared.mid.Arithmetic.{Arithmetic}
+use Rattle.mid_program.specs.declared.mid.Operation.TheVariants.{Host, Inline, AsNumber}
 use Rattle.value_machine.specs.Emission.{Layout, all_emitted, constant_field, emitted, field_in, field_or, one_field, text_kept}
 use Rattle.value_machine.specs.Functions.{layout_of, main_bases, main_callee, routine_bases, routine_callee}
 use Rattle.value_machine.specs.Places.{Bases}
-use Rattle.value_machine.specs.Quick.{Within, test_within, joined, all_unsure, Sum, sum_names, sum_in, Pair, pair_names, pair_in, step_jumps, is_nothing}
+use Rattle.value_machine.specs.Quick.{Within, test_within, joined, all_unsure, Source, source_in, Sum, sum_names, sum_op, sum_in, sum_of, two_sum, set_sum, kept_sum, update_sum, old_source, stored_name, new_sum, let_sum, Update, update_in, Counted, counted_in, Pair, pair_names, pair_in, step_jumps, is_nothing}
 use Rattle.value_machine.specs.Small.{does, either}
-use Rattle.value_machine.specs.Statements.{name_read, quickly_dropped, left_unless_pair, left_unless, again, all_emptied, arrays_emptied, before_parts, block, iterator_left, iterators_emptied, key_stored, left_by, names_declared, names_made, part_done, record_done, records_read, routines_declared, step_emitted, steps_emitted, temporaries_emptied}
+use Rattle.value_machine.specs.Statements.{name_read, name_numbered, sum_taken, plainly_dropped, quickly_dropped, left_unless_counted, left_unless_pair, left_unless, again, all_emptied, arrays_emptied, before_parts, block, iterator_left, iterators_emptied, key_stored, left_by, names_declared, names_made, part_done, record_done, records_read, routines_declared, step_emitted, steps_emitted, temporaries_emptied}
+use Rattle.value_machine.proofs.Updating.{added_is}
 use Rattle.code_needs.specs.Labels.{choice_labels, labels_among, labels_in, more_if, step_labels, steps_labels}
 use Rattle.code_needs.proofs.Depths.{Deep, array_deep, asked_deep, converts_deep, dropped_deep, emitted_deep, emits_deep, kept_code_deep, kept_deep, kept_number_deep, left_deep, pushes_deep, tested_deep, to_number_deep, to_value_deep, truth_deep}
 
@@ -79,6 +82,69 @@ host_labels _ es z h = cc
 field_labels : (o : Operation) (es : Codes) (z : ℤ) → field_in o es ≡ Some z → labels_among es ≡ 0
 field_labels (Host p) es z h = host_labels p es z h
 field_labels _ es z h = cc
+
+-- a sum of sources has none
+
+source_labels : (e : Code) (s : Source) → source_in e ≡ Some s → labels_in e ≡ 0
+source_labels (Get x) s h = refl
+source_labels (Number z) s h = refl
+source_labels e s h = cc
+
+maybe_labels : (e : Code) (o : Option Source) → source_in e ≡ o → is_some o ≡ true → labels_in e ≡ 0
+maybe_labels e (Some s) h t = source_labels e s h
+maybe_labels e None h t = cc
+
+both_labels : (i : ℕ) (o : Arithmetic) (a e : Code) (s : Sum) → sum_of i o (source_in a) (source_in e) ≡ Some s → (labels_in a ≡ 0) × (labels_in e ≡ 0)
+both_labels i o a e s h = by (source_in a) refl (source_in e) refl h
+  where
+    by : (x : Option Source) → source_in a ≡ x → (z : Option Source) → source_in e ≡ z → sum_of i o x z ≡ Some s → (labels_in a ≡ 0) × (labels_in e ≡ 0)
+    by (Some x) h1 (Some z) h2 q = (source_labels a x h1, source_labels e z h2)
+    by (Some x) h1 None h2 q = cc
+    by None h1 z h2 q = cc
+
+two_labels : (i : ℕ) (o : Arithmetic) (es : Codes) (s : Sum) → two_sum i o es ≡ Some s → labels_among es ≡ 0
+two_labels i o (At a (At e End)) s h = let n = both_labels i o a e s h in let x = n.0 in let z = n.1 in omega (arith, x, z)
+two_labels i o es s h = cc
+
+set_labels : (i : ℕ) (e : Code) (s : Sum) → set_sum i e ≡ Some s → labels_in e ≡ 0
+set_labels i (Do (Inline o) es) s h = two_labels i o es s h
+set_labels i e s h = cc
+
+kept_labels : (i : ℕ) (o : Arithmetic) (a : Code) (es : Codes) (s : Sum) → kept_sum i o a es ≡ Some s → max (labels_in a) (labels_among es) ≡ 0
+kept_labels i o a (At x (At (Bound true zero) End)) s h = let n = both_labels i o x a s h in let u = n.0 in let v = n.1 in omega (arith, u, v)
+kept_labels i o a es s h = cc
+
+update_labels : (i : ℕ) (a e : Code) (s : Sum) → update_sum i a e ≡ Some s → max (labels_in a) (labels_in e) ≡ 0
+update_labels i a (Do (Inline o) es) s h = kept_labels i o a es s h
+update_labels i a e s h = cc
+
+new_labels : (a : Option Source) (i : Option ℕ) (x : Code) (s : Sum) → new_sum a i x ≡ Some s → (is_some a ≡ true) × (is_some i ≡ true) × (labels_in x ≡ 0)
+new_labels (Some a) (Some i) (Do (Inline o) (At (Bound false zero) (At (Number z) End))) s h = (refl, refl, refl)
+new_labels None (Some i) (Do (Inline o) (At (Bound false zero) (At (Number z) End))) s h = cc
+new_labels a i x s h = cc
+
+old_labels : (a : Code) → is_some (old_source a) ≡ true → labels_in a ≡ 0
+old_labels (Do AsNumber (At a End)) h = let n = maybe_labels a (source_in a) refl h in omega (arith, n)
+old_labels a h = cc
+
+stored_labels : (c : Code) → is_some (stored_name c) ≡ true → labels_in c ≡ 0
+stored_labels (Seq (Set (Global true i) (Bound true zero)) (Bound true (suc zero))) h = refl
+stored_labels c h = cc
+
+let_labels : (a e : Code) (s : Sum) → let_sum a e ≡ Some s → max (labels_in a) (labels_in e) ≡ 0
+let_labels a (Set (Global true i) e) s h = update_labels i a e s h
+let_labels a (Let x z) s h =
+    let n = new_labels (old_source a) (stored_name z) x s h in
+    let u = old_labels a n.0 in
+    let v = stored_labels z n.1 in
+    let w = n.2 in
+    omega (arith, u, v, w)
+let_labels a e s h = cc
+
+sum_labels : (e : Code) (s : Sum) → sum_in e ≡ Some s → labels_in e ≡ 0
+sum_labels (Set (Global true i) e) s h = set_labels i e s h
+sum_labels (Let a e) s h = let_labels a e s h
+sum_labels e s h = cc
 
 module _ (y : Layout) where
   abbrev b : Bases
@@ -159,25 +225,49 @@ module _ (y : Layout) where
   all_deep [] q w r = past _ r
   all_deep (i ∷ is) q w r = past _ (past _ (past _ (joined_deep is q (past _ (past _ r)))))
 
+  name_deep : {k : Instructions} {m : ℕ} (i t d : ℕ) → Deep k m → Deep (name_numbered y i t d k) m
+  name_deep i t d r = past _ (past _ (past _ (past _ (behind_either r))))
+
+  taking_deep : {k : Instructions} {m : ℕ} (op : IBinOp) (i t d : ℕ) → Deep k m → Deep (sum_taken y op i t d k) m
+  taking_deep op i t d r = past _ (past _ (past _ (past _ (past _ (past _ (behind_either (past _ (past _ (past _ (behind_either (past _ (past _ r))))))))))))
+
+  module _ {k : Instructions} {m : ℕ} where
+    plainly_deep : (o : Option Update) (e : Code) (d : ℕ) → Deep k m → Deep (plainly_dropped y o e d k) m
+    plainly_deep None e d r = dropped_deep y [] [] e zero zero d r
+    plainly_deep (Some q) e d r =
+        emitted_deep y false [] [] q.added zero zero d (name_deep q.name 1 d (to_number_deep b (form_of [] q.added) zero d (past _ (past _ (taking_deep (sum_op q.op) q.target zero d r)))))
+
+    counted_deep : (o : Option Counted) (e : Code) (d out : ℕ) → Deep k m → Deep (left_unless_counted y o e d out k) m
+    counted_deep None e d out r = tested_deep y [] [] e zero zero d (past _ (past _ r))
+    counted_deep (Some q) e d out r = past _ (past _ (past _ (behind_either r)))
+
   module _ {k : Instructions} {m : ℕ} where
     quick_deep : (o : Option Sum) (e : Code) (d : ℕ) → Deep k m → Deep (quickly_dropped y o e d k) m
-    quick_deep None e d r = dropped_deep y [] [] e zero zero d r
+    quick_deep None e d r = plainly_deep (update_in e) e d r
     quick_deep (Some x) e d r = all_deep (sum_names x) _ _ (behind_either r)
 
     pair_deep : (o : Option Pair) (e : Code) (d out : ℕ) → Deep k m → Deep (left_unless_pair y o e d out k) m
-    pair_deep None e d out r = tested_deep y [] [] e zero zero d (past _ (past _ r))
+    pair_deep None e d out r = counted_deep (counted_in e) e d out r
     pair_deep (Some q) e d out r = all_deep (pair_names q) _ _ (behind_either r)
 
     unless_deep : (o : Option Within) (e : Code) (d out : ℕ) → Deep k m → Deep (left_unless y o e d out k) m
     unless_deep None e d out r = pair_deep (pair_in e) e d out r
     unless_deep (Some q) e d out r = past _ (past _ (past _ (past _ (past _ (behind_either r)))))
 
-  quick_labelled : (k : Instructions) (o : Option Sum) (e : Code) (d : ℕ) → Deep (quickly_dropped y o e d k) (more_if (is_some o) (labels_in e))
-  quick_labelled k None e d = labelled _ true [] [] e zero zero d
-  quick_labelled k (Some x) e d = all_deep (sum_names x) _ _ (at_least (inside_either (labelled _ true [] [] e zero zero (suc d)) any) (omega arith))
+  plainly_labelled : (k : Instructions) (o : Option Update) (e : Code) (d : ℕ) → update_in e ≡ o → Deep (plainly_dropped y o e d k) (labels_in e)
+  plainly_labelled k None e d h = labelled _ true [] [] e zero zero d
+  plainly_labelled k (Some q) e d h = at_least (labelled _ false [] [] q.added zero zero d) (let n = ap labels_in (added_is e q h).0 in omega (arith, n))
+
+  quick_labelled : (k : Instructions) (o : Option Sum) (e : Code) (d : ℕ) → sum_in e ≡ o → Deep (quickly_dropped y o e d k) (more_if (is_some o) (labels_in e))
+  quick_labelled k None e d h = plainly_labelled k (update_in e) e d refl
+  quick_labelled k (Some x) e d h = all_deep (sum_names x) _ _ (at_least (inside_either any any) (let n = sum_labels e x h in omega (arith, n)))
+
+  counted_labelled : (k : Instructions) (o : Option Counted) (e : Code) (d out : ℕ) → Deep (left_unless_counted y o e d out k) (labels_in e)
+  counted_labelled k None e d out = labelled _ false [] [] e zero zero d
+  counted_labelled k (Some q) e d out = past _ (past _ (past _ (at_least (inside_either (labelled _ false [] [] e zero zero (suc d)) any) (omega arith))))
 
   pair_labelled : (k : Instructions) (o : Option Pair) (e : Code) (d out : ℕ) → Deep (left_unless_pair y o e d out k) (more_if (is_some o) (labels_in e))
-  pair_labelled k None e d out = labelled _ false [] [] e zero zero d
+  pair_labelled k None e d out = counted_labelled k (counted_in e) e d out
   pair_labelled k (Some q) e d out = all_deep (pair_names q) _ _ (at_least (inside_either (labelled _ false [] [] e zero zero (suc d)) any) (omega arith))
 
   unless_labelled : (k : Instructions) (o : Option Within) (e : Code) (d out : ℕ) → Deep (left_unless y o e d out k) (more_if (is_some (pair_in e)) (labels_in e))
@@ -231,7 +321,7 @@ module _ (y : Layout) where
     unfolding step_emitted steps_emitted
 
     step_labelled : (k : Instructions) (s : Step) (u d bk ct : ℕ) → Deep (step_emitted y s u d bk ct k) (step_labels s)
-    step_labelled k (Eval e) u d bk ct = past _ (quick_labelled k (sum_in e) e d)
+    step_labelled k (Eval e) u d bk ct = past _ (quick_labelled k (sum_in e) e d refl)
     step_labelled k (Steps_ ss) u d bk ct = past _ (steps_labelled _ ss u d bk ct)
     step_labelled k (Either e a c) u d bk ct =
         past _ (choice_labelled k (pair_in e) e (suc (suc d)) (step_labelled _ a u (suc (suc d)) (suc (suc bk)) (suc (suc ct))) (step_labelled _ c u (suc d) (suc bk) (suc ct))

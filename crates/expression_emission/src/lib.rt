@@ -24,5 +24,6 @@ pub use kept::Kept;
 pub use layout::Layout;
 pub use pending::{asked, pending_assigned, pending_code};
 pub use places::{array_pushed, global_handle, global_number, text_pushed};
+pub use slots::text_dropped;
 pub use storing::left_over;
 pub use tables::{Span, Tables};

@@ -194,11 +194,7 @@ fn text_let_go(y: &Layout<'_>, name: usize) -> Result<Vec<Instr>, AllocError>
 }
 
 /// Drops the text beside an unboxed name, if its number says that there is one.
-pub(crate) fn text_dropped(
-    y: &Layout<'_>,
-    out: &mut Vec<Instr>,
-    name: usize,
-) -> Result<(), AllocError>
+pub fn text_dropped(y: &Layout<'_>, out: &mut Vec<Instr>, name: usize) -> Result<(), AllocError>
     requires { name ≤ most_places }
     ensures { OnOk result (Emits out.old.items out.new.items (text_dropped (view_layout y.now) name)) }
 {
