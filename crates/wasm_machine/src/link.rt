@@ -277,9 +277,11 @@ pub(crate) fn codes_of(alloc: Global, whole: &Module, main: u32) -> Result<Vec<C
 {
     let mut codes = Vec::new(alloc);
     for func in &whole.funcs {
-        codes.push(code_of(alloc, whole, func)?)?;
+        let code = code_of(alloc, whole, func)?;
+        codes.push(code)?;
     }
-    codes.push(first_code(alloc, whole, main)?)?;
+    let first = first_code(alloc, whole, main)?;
+    codes.push(first)?;
     Ok(codes)
 }
 
@@ -296,7 +298,11 @@ fn first_code(alloc: Global, whole: &Module, main: u32) -> Result<Code, AllocErr
 }
 
 /// The configuration in which a run begins, whose first frame has the last of these codes.
-pub(crate) fn first_state(alloc: Global, whole: &Module, codes: &[Code]) -> Result<State, AllocError>
+pub(crate) fn first_state(
+    alloc: Global,
+    whole: &Module,
+    codes: &[Code],
+) -> Result<State, AllocError>
     requires fit { SegmentsFit (view_module whole.now) }
     requires pages { (limits_or_none whole.now.memories.items).min ≤ 65536 }
     ensures begins { IfOk result (λ s. (main : ℕ) → Lays whole.now.funcs.items (entry_code whole.now.start main) codes.now
