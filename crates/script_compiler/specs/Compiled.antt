@@ -5,7 +5,7 @@ use Rattle.awk_tokens.specs.Cutting.{IsTokens, Spelled}
 use Rattle.awk_grammar.specs.Item.{Item}
 use Rattle.world_core.specs.WorldState.{Outside, Source}
 use Rattle.mid_program.specs.Kinds.{resolved}
-use Rattle.mid_program.specs.Mid.{Program, Then}
+use Rattle.mid_program.specs.Mid.{Program, Routine, Then}
 use Rattle.mid_program.specs.Names.{Resolved}
 use Rattle.mid_program.specs.ScriptRun.{resolved_run}
 use Rattle.mid_program.specs.Translation.{program_of}
@@ -19,6 +19,8 @@ use Rattle.machine_model.specs.declared.ends.End.TheVariants as ends
 use Rattle.wasm_store.specs.declared.word.Word.TheVariants.{I32}
 use Rattle.host_step.specs.HostState.{HostState}
 use Rattle.host_step.specs.Imports.{host_finds}
+use Rattle.value_machine.specs.Boundaries.{nops_in, steps_places}
+use Rattle.value_machine.specs.Functions.{main_callee, routine_callee}
 use Rattle.value_machine.specs.Modules.{module_of}
 use Rattle.module_agreement.specs.Agreement.{Agreement}
 use Rattle.passed_places.specs.Passed.{Passes}
@@ -28,6 +30,7 @@ use Rattle.run_places.specs.Existence.{HasRuns}
 use Rattle.run_places.specs.Kept.{AtReturn, AtStatement, Reached, begins_statement}
 use Rattle.run_places.specs.Nodes.{nodes_of}
 use Rattle.run_places.specs.Pending.{FewAlive}
+use Rattle.run_places.specs.Statements.{main_places}
 use Rattle.quiet_statements.specs.Laned.{AtNumeric, IsNext}
 use Rattle.quiet_statements.specs.Quiet.{Quietly}
 use Rattle.quiet_statements.specs.Sums.{AtFault}
@@ -62,6 +65,11 @@ IsQuiet code m = (job : JobForm) (input : Source) (outside : Outside) (a : Machi
 abbrev pub HasFewOperands : Resolved → Program → Type 0
 HasFewOperands script code = (c : Conf) (s : HostState) (here : AtStatement code c s) → FewAlive (nodes_of script) code c s here
 
+-- Each step of a function's code, and of `main`, has a place of its own in the module: a `nop` with which its code begins. There are no others, but for one before the test of a `do` loop, which counts too.
+pub record HasPlaces (code : Program) : Type 0 where
+  pub functions : (r : Routine) → nops_in (routine_callee code r).body ≡ steps_places r.body
+  pub main : nops_in (main_callee code).body ≡ main_places code
+
 -- THE MAIN THEOREM, of a script and the bytes that it is compiled to: they are a module, which the rules type, which links with the host, which has runs, which agrees with the script in every
 -- job and world, and which keeps nothing, and whose runs pass the places of statements as the script executes them. It is the module of the script's code, so that a script has one module; in this code a scalar into which the script stores numbers alone is unboxed.
 pub record IsCompiled (bytes : List ℕ) (compiled : List ℕ) : Type 0 where
@@ -79,6 +87,7 @@ pub record IsCompiled (bytes : List ℕ) (compiled : List ℕ) : Type 0 where
   pub code : Program
   pub code_is : code ≡ unboxed (program_of (resolved script))
   pub whole_is : whole ≡ module_of code
+  pub places : HasPlaces code
   pub keeps : KeepsNothing code whole
   pub few_operands : HasFewOperands (resolved script) code
   pub quiet : IsQuiet code whole

@@ -15,7 +15,7 @@ use module_emission::EmitFault;
 use module_writer::{WriteFault, write};
 use number_names::laws::names_of_numbers_are_unboxed;
 use quiet_statements::laws::statements_are_quiet;
-use run_places::laws::{few_parameters, modules_run, nothing_kept};
+use run_places::laws::{few_parameters, modules_run, nothing_kept, statements_have_places};
 use script_code::{CompileFault, code_of};
 use script_places::laws::statements_are_passed;
 use statement_emission::module;
@@ -48,7 +48,7 @@ fn bytes_of(alloc: Global, mid: &Mid) -> Result<Vec<u8>, CompileFault>
 /// The bytes of a module that does what a script does (POSIX.1-2017 awk, in the profile of this project), in every job, and in every world that tells
 /// what it holds, over a host of the table of imports. It keeps nothing from one statement to the next but what names, calls and loops over keys hold, and a
 /// statement on unboxed numbers calls no import. A run passes the place of a statement as often as the script executes the statement, and in the same
-/// order. A scalar into which the script stores numbers alone is unboxed.
+/// order, and each step of the script's code has a place of its own. A scalar into which the script stores numbers alone is unboxed.
 ///
 /// # Errors
 ///
@@ -64,6 +64,7 @@ pub fn compile(alloc: Global, script: &[u8]) -> Result<Vec<u8>, CompileFault>
     links();
     modules_run();
     few_parameters();
+    statements_have_places();
     nothing_kept();
     statements_are_quiet();
     statements_are_passed();

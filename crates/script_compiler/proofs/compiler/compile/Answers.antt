@@ -15,6 +15,7 @@ returns-clause-compiled c =
     compiled c.args.script.now c.in_ok-bytes.bytes.items p t m (c.modules_agree.ensures p sorted) typed
     _ (c.links.ensures.main p) (c.links.ensures.segments p)
     (c.modules_run.ensures.spelled p sorted c.in_ok-bytes.bytes.items m parameters)
+    (record { functions = c.statements_have_places.ensures.routines p; main = c.statements_have_places.ensures.main p })
     (record { statement = c.nothing_kept.ensures.statement p sorted; returned = c.nothing_kept.ensures.returned p sorted })
     (c.statements_are_quiet.ensures p sorted typed) c.statements_are_passed.ensures c.names_of_numbers_are_unboxed.ensures
 
