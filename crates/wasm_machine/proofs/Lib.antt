@@ -1,3 +1,6 @@
 pub mod Calls
 pub mod Following
+pub mod Laying
 pub mod Refusals
+pub mod Stretching
+pub mod Turning

@@ -1,4 +1,2 @@
-pub mod Callers
 pub mod Codes
 pub mod ViewConf
-pub mod ViewFrame

@@ -1,12 +1,12 @@
 //! The machine that runs modules (Core 1.0, section 4), one reduction a step.
 #![tactic(auto)]
 
-mod callers;
-mod frame;
 pub mod laws;
 mod link;
 mod machine;
-mod state;
+mod program;
+mod run;
+mod steps;
 
 pub use machine::Machine;
 pub use machine_model::{End, HostAnswer, HostCalls, LinkFault, MachineEnd, RunEnd};

@@ -1,21 +1,22 @@
 //! Linking: from a module and a host to the beginning of a run (Core 1.0, section 4.5.4).
 ghost use Rattle.std.specs.List.{All};
-ghost use Rattle.std.specs.Prelude.{◌≡◌, ◌↔◌, ◌*◌, ◌≤◌, ◌^◌, IfErr, IfOk, IsTrue, None, OnErr, Some, length, map, MatchResult};
-ghost use Rattle.machine_code.specs.Flat.{code_at};
+ghost use Rattle.std.specs.Prelude.{ℕ, ◌≡◌, ◌↔◌, ◌*◌, ◌≤◌, ◌^◌, IfErr, IfOk, IsTrue, None, OnErr, Some, length, map, MatchResult};
+ghost use Rattle.machine_registers.specs.Laid.{code_at};
 ghost use Rattle.machine_model.specs.Frames.{IsConstantAt};
 ghost use Rattle.machine_model.specs.Links.{first_some, first_none, main_at, main_of, number_for, numbers_for, place_of, value_of, least, ElemFits, DataFits, SegmentsFit, filled, poured, limits_or_none, entry_code, beginning, Numbers, Refuses};
 ghost use Rattle.machine_model.specs.Machines.{agree};
-ghost use Rattle.wasm_machine.specs.ViewConf.{conf_of};
+ghost use Rattle.machine_frames.specs.Standing.{Stand};
+ghost use Rattle.machine_states.specs.Confs.{conf_of};
+ghost use Rattle.wasm_machine.specs.ViewConf.{Begins, Lays};
 ghost use Rattle.wasm_types.specs.Typing.{callee_in, typed_in};
 ghost use Rattle.wasm_types.specs.View.{signature_of, view_data, view_elem, view_export, view_import, view_module, views};
 
-use crate::callers::Callers;
-use crate::frame::Frame;
-use crate::state::{State, callee, typed};
-use machine_code::Code;
+use crate::program::{callee, typed};
+use machine_frames::Frames;
+use machine_loader::Code;
 use machine_model::{HostCalls, LinkFault};
+use machine_states::State;
 use std::alloc::{AllocError, Global};
-use std::rc::Rc;
 use wasm_store::{Globals, Memory, Table, Word};
 use wasm_types::{
     Data, Elem, Export, ExportDesc, Func, FuncType, Global as ModuleGlobal, Import, Instr, Limits,
@@ -254,23 +255,60 @@ fn limits_of(memories: &[Limits]) -> Limits
     }
 }
 
-/// The code of each function, with its places.
-pub(crate) fn codes_of(alloc: Global, funcs: &[Func]) -> Result<Vec<Rc<Code>>, AllocError>
-    ensures { IfOk result
-        (λ v. map (λ c. code_at c.value 0) v.items ≡ map (λ f. views f.body.value.items) funcs.now) }
+/// The code of a function, which has so many locals.
+fn code_of(alloc: Global, whole: &Module, func: &Func) -> Result<Code, AllocError>
+    ensures body { IfOk result (λ c. code_at c 0 ≡ views func.now.body.value.items) }
+    ensures begins { IfOk result Begins }
+{
+    let Some(ty) = typed(whole, func.ty) else {
+        return Err(AllocError);
+    };
+    let Ok(locals) = u32::try_from(ty.params.len() + func.locals.len()) else {
+        return Err(AllocError);
+    };
+    let code = Code::new(alloc, whole, locals, &func.body)?;
+    let _layout = code.layout();
+    Ok(code)
+}
+
+/// The code of each function, and after them that of the first frame.
+pub(crate) fn codes_of(alloc: Global, whole: &Module, main: u32) -> Result<Vec<Code>, AllocError>
+    ensures codes { IfOk result (λ v. Lays (whole.now.funcs.items) (entry_code whole.now.start main) v.items) }
 {
     let mut codes = Vec::new(alloc);
-    for func in funcs {
-        codes.push(Rc::new(alloc, Code::new(alloc, &func.body)?)?)?;
+    for func in &whole.funcs {
+        let code = code_of(alloc, whole, func)?;
+        codes.push(code)?;
     }
+    let first = first_code(alloc, whole, main)?;
+    codes.push(first)?;
     Ok(codes)
 }
 
-/// The configuration in which a run begins.
-pub(crate) fn first_state(alloc: Global, whole: &Module, main: u32) -> Result<State, AllocError>
+/// The code of the first frame.
+fn first_code(alloc: Global, whole: &Module, main: u32) -> Result<Code, AllocError>
+    ensures body { IfOk result (λ c. code_at c 0 ≡ entry_code whole.now.start main) }
+    ensures begins { IfOk result Begins }
+    ensures locals { IfOk result (λ c. c.locals ≡ 0) }
+{
+    let calls = entry(alloc, whole.start, main)?;
+    let code = Code::new(alloc, whole, 0, &calls)?;
+    let _layout = code.layout();
+    Ok(code)
+}
+
+/// The configuration in which a run begins, whose first frame has the last of these codes.
+pub(crate) fn first_state(
+    alloc: Global,
+    whole: &Module,
+    codes: &[Code],
+) -> Result<State, AllocError>
     requires fit { SegmentsFit (view_module whole.now) }
     requires pages { (limits_or_none whole.now.memories.items).min ≤ 65536 }
-    ensures { IfOk result (λ s. conf_of s ≡ beginning (view_module whole.now) main) }
+    ensures begins { IfOk result (λ s. (main : ℕ) → Lays whole.now.funcs.items (entry_code whole.now.start main) codes.now
+        → conf_of codes.now s ≡ beginning (view_module whole.now) main) }
+    ensures stands { IfOk result (λ s. (main : ℕ) → Lays whole.now.funcs.items (entry_code whole.now.start main) codes.now
+        → Stand codes.now s.frames) }
 {
     let limits = limits_of(&whole.memories);
     let mut memory = Memory::new(alloc, limits)?;
@@ -279,15 +317,13 @@ pub(crate) fn first_state(alloc: Global, whole: &Module, main: u32) -> Result<St
     let mut table = Table::new(alloc, elements)?;
     fill(&mut table, elements as usize, &whole.elems);
     let globals = Globals::new(values_of(alloc, &whole.globals)?);
-    let calls = entry(alloc, whole.start, main)?;
-    let code = Code::new(alloc, &calls)?;
-    let frame = Frame::new(alloc, Rc::new(alloc, code)?);
-    let callers = Callers::new(alloc);
+    let first = whole.funcs.len();
+    let Some(code) = codes.get(first) else {
+        return Err(AllocError);
+    };
+    let frames = Frames::new(alloc, code.layout(), first, Some(ValType::I32))?;
     Ok(State {
-        alloc,
-        frame,
-        result: Some(ValType::I32),
-        callers,
+        frames,
         memory,
         table,
         globals,

@@ -7,8 +7,10 @@ ghost use Rattle.machine_model.specs.Typed.{Linked, SafeRun};
 ghost use Rattle.wasm_types.specs.View.{view_module};
 
 use crate::link::{codes_of, first_state, link};
-use crate::state::{Program, State};
+use crate::program::Program;
+use crate::run::run;
 use machine_model::{End, HostCalls, LinkFault, MachineEnd, RunEnd};
+use machine_states::State;
 use module_validator::ValidModule;
 use std::alloc::Global;
 use std::marker::Model;
@@ -40,7 +42,10 @@ pub struct Machine {
 impl Model for Machine {
     ghost use Rattle.std.specs.Coded.{codes};
     ghost use Rattle.wasm_machine.specs.Codes.{instructions_code};
-    ghost use Rattle.wasm_machine.specs.ViewConf.{HasCodes, conf_of, program_of};
+    ghost use Rattle.std.specs.Prelude.{◌≡◌, None};
+    ghost use Rattle.machine_frames.specs.Standing.{Stand};
+    ghost use Rattle.machine_states.specs.Confs.{conf_of};
+    ghost use Rattle.wasm_machine.specs.ViewConf.{HasCodes, program_of};
     ghost use Rattle.machine_model.specs.Runs.{MachineForm};
     ghost use Rattle.machine_model.specs.Typed.{MachineOk};
 
@@ -50,11 +55,12 @@ impl Model for Machine {
 
     ghost view = { λ a. record {
       program = program_of a.program;
-      conf = conf_of a.state;
+      conf = conf_of a.program.codes.items a.state;
       ended = a.ended;
     } };
 
-    ghost invariant = { λ a. HasCodes a.program × MachineOk (program_of a.program) (conf_of a.state) a.ended };
+    ghost invariant = { λ a. HasCodes a.program × (a.ended ≡ None → Stand a.program.codes.items a.state.frames)
+        × MachineOk (program_of a.program) (conf_of a.program.codes.items a.state) a.ended };
 }
 
 impl Machine {
@@ -77,13 +83,13 @@ impl Machine {
             Ok(linked) => linked,
             Err(fault) => return Err(fault),
         };
-        let Ok(state) = first_state(alloc, valid.get(), main) else {
+        let Ok(codes) = codes_of(alloc, valid.get(), main) else {
+            return Err(LinkFault::NoMemory);
+        };
+        let Ok(state) = first_state(alloc, valid.get(), &codes) else {
             return Err(LinkFault::NoMemory);
         };
         let whole = valid.into_module();
-        let Ok(codes) = codes_of(alloc, &whole.funcs) else {
-            return Err(LinkFault::NoMemory);
-        };
         let program = Program {
             whole,
             numbers,
@@ -119,7 +125,7 @@ impl Machine {
         if let Some(end) = self.ended {
             return end;
         }
-        let end = tell(self.state.run(&self.program, host, steps));
+        let end = tell(run(&mut self.state, &self.program, host, steps));
         if end != MachineEnd::OutOfSteps {
             self.ended = Some(end);
         }

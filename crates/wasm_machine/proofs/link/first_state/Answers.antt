@@ -1,19 +1,28 @@
-use Rattle.std.proofs.Common.{◌≡◌, ◌∙◌, ◌*◌, List, Option, None, ℕ, map, ap, sym, subst, replicate}
+use Rattle.std.proofs.Common.{◌≡◌, ◌∙◌, ◌*◌, ◌<◌, [], List, Option, Some, None, ℕ, drop, length, map, reverse, refl, ap, sym, subst, replicate, arith}
 use Rattle.std.specs.List.{All}
+use Rattle.std.specs.Prelude.{slice_get}
+use Rattle.std.proofs.lemmas.Option.{get_or_from_slice_get, slice_get_read, slice_get_within}
 use Rattle.std.proofs.lemmas.Simd.{map-map}
 use Rattle.wasm_types.specs.declared.types.Limits.{Limits}
+use Rattle.wasm_types.specs.declared.types.ValType.TheVariants as ty
 use Rattle.wasm_types.specs.declared.module.Data.{Data}
 use Rattle.wasm_types.specs.declared.module.Elem.{Elem}
+use Rattle.wasm_types.specs.declared.module.Func.{Func}
 use Rattle.wasm_types.specs.declared.module.Global.{Global as ModuleGlobal}
+use Rattle.wasm_types.specs.Syntax.{Instructions}
 use Rattle.wasm_types.specs.View.{view_data, view_elem, view_global, view_module, views}
+use Rattle.wasm_store.specs.declared.word.Word.{Word}
 use Rattle.wasm_store.specs.Memories.{MemoryForm, fresh}
-use Rattle.machine_code.specs.declared.code.Op.{Op}
-use Rattle.machine_code.specs.Flat.{code_at}
 use Rattle.machine_model.specs.Frames.{begun}
-use Rattle.wasm_machine.specs.ViewFrame.{frame_of}
-use Rattle.machine_model.specs.Links.{DataFits, ElemFits, filled, least, limits_or_none, poured, value_of}
+use Rattle.machine_model.specs.Links.{DataFits, ElemFits, entry_code, filled, least, limits_or_none, poured, value_of}
 use Rattle.machine_model.proofs.Beginning.{least_is, beginning_is}
 use Rattle.machine_model.proofs.Linking.{all_of_map}
+use Rattle.machine_registers.specs.Laid.{Laid, code_at}
+use Rattle.machine_registers.specs.Landings.{framed_at}
+use Rattle.machine_frames.specs.declared.frames.Frame.{Frame}
+use Rattle.machine_frames.specs.Standing.{code_of, code_with, nothing}
+use Rattle.machine_frames.proofs.Waiting.{conf_is}
+use Rattle.wasm_machine.proofs.Laying.{begin_of, begun_frame, entry_of}
 use Rattle.wasm_machine.proofs.link.first_state.Goals as goal
 
 pub pour-requires-clause-fit : goal.pour-requires-clause-fit
@@ -30,13 +39,48 @@ fill-requires-clause-fit c =
     subst (λ (es : List Elem). All (λ (x : Elem). ElemFits c.least-elements.result (view_elem x)) es) (sym c.deref-4.ensures.value)
     (subst (λ (n : ℕ). All (λ (x : Elem). ElemFits n (view_elem x)) m.elems.items) (sym (c.least-elements.ensures ∙ ap least c.deref-3.ensures.value)) (all_of_map (ElemFits (least m.tables.items)) view_elem m.elems.items c.requires.fit.0))
 
-pub returns : goal.returns
-returns c =
+pub returns-clause-begins : goal.returns-clause-begins
+returns-clause-begins c = λ main lays.
     let m = c.args.whole.now in
+    let codes = c.args.codes.now in
+    let funcs = m.funcs.items in
+    let entry = entry_code m.start main in
+    let n = c.len-first.result in
+    let code = c.in-Some.code.now in
+    let size : n ≡ length funcs = omega (arith, c.len-first.ensures) in
+    let found : slice_get codes n ≡ Some code = slice_get_read codes (length codes) n code refl c.in-Some.ensures.lookup.3.0 c.in-Some.ensures.lookup.1 in
+    let code_is : slice_get codes (length funcs) ≡ Some code = ap (slice_get codes) (sym size) ∙ found in
+    let frames = c.in_ok-frames.frames in
+    let now = c.in_ok-frames.ensures.first in
+    let with : code_with codes n ≡ code = get_or_from_slice_get codes n code nothing found in
     let limits = c.limits_of-limits.ensures ∙ ap limits_or_none c.deref.ensures.value in
-    beginning_is (view_module m) c.args.main (frame_of c.new-frame.result) c.new-globals.result c.new-callers.result c.pour.new.memory c.fill.new.table
-    (c.new-frame.ensures ∙ ap begun (ap (λ (x : List Op). code_at x 0) c.in_ok-new.ensures.ok ∙ (c.in_ok-code.ensures ∙ (ap views c.deref-6.ensures.value ∙ c.in_ok-calls.ensures))))
-    c.new-callers.ensures
+    let b = begin_of codes lays.begin n code found in
+    let w : Frame = record { function = n; at = 0; base = 0; gives = Some ty.I32 } in
+    let items = frames.words.items in
+    let frame : framed_at (code_with codes n) items 0 ≡ begun entry =
+    ap (λ (x : Laid). framed_at x items 0) with ∙ begun_frame code items entry b.1 b.2 (lays.first code code_is) (entry_of funcs entry codes lays code code_is) in
+    let table = c.fill.new.table in
+    let memory = c.pour.new.memory in
+    let globals = c.new-globals.result in
+    conf_is codes frames (record { frame = begun entry; result = None; callers = []; memory = memory; table = table; globals = globals }) w items [] now.0 refl (ap reverse now.1)
+    ∙ beginning_is (view_module m) main (framed_at (code_with codes n) items 0) globals [] memory table frame refl
     (c.pour.ensures ∙ (ap (λ (x : MemoryForm). poured x (map view_data c.deref-2.result.now)) (c.in_ok-memory.ensures ∙ ap fresh limits) ∙ ap (λ (ds : List Data). poured (fresh (limits_or_none m.memories.items)) (map view_data ds)) c.deref-2.ensures.value))
-    (c.fill.ensures ∙ (ap (λ (x : List (Option ℕ)). filled x (map view_elem c.deref-4.result.now)) (c.in_ok-table.ensures ∙ ap (λ (n : ℕ). replicate n None) (c.least-elements.ensures ∙ ap least c.deref-3.ensures.value)) ∙ ap (λ (es : List Elem). filled (replicate (least m.tables.items) None) (map view_elem es)) c.deref-4.ensures.value))
+    (c.fill.ensures ∙ (ap (λ (x : List (Option ℕ)). filled x (map view_elem c.deref-4.result.now)) (c.in_ok-table.ensures ∙ ap (λ (k : ℕ). replicate k None) (c.least-elements.ensures ∙ ap least c.deref-3.ensures.value)) ∙ ap (λ (es : List Elem). filled (replicate (least m.tables.items) None) (map view_elem es)) c.deref-4.ensures.value))
     (c.new-globals.ensures ∙ (c.in_ok-values_of.ensures ∙ (ap (λ (gs : List ModuleGlobal). map (λ g. value_of (views g.init.items)) gs) c.deref-5.ensures.value ∙ sym (map-map (λ g. value_of g.init) view_global m.globals.items))))
+
+pub returns-clause-stands : goal.returns-clause-stands
+returns-clause-stands c = λ main lays.
+    let m = c.args.whole.now in
+    let codes = c.args.codes.now in
+    let funcs = m.funcs.items in
+    let entry = entry_code m.start main in
+    let n = c.len-first.result in
+    let code = c.in-Some.code.now in
+    let size : n ≡ length funcs = omega (arith, c.len-first.ensures) in
+    let found : slice_get codes n ≡ Some code = slice_get_read codes (length codes) n code refl c.in-Some.ensures.lookup.3.0 c.in-Some.ensures.lookup.1 in
+    let code_is : slice_get codes (length funcs) ≡ Some code = ap (slice_get codes) (sym size) ∙ found in
+    let frames = c.in_ok-frames.frames in
+    let now = c.in_ok-frames.ensures.first in
+    let with : code_with codes n ≡ code = get_or_from_slice_get codes n code nothing found in
+    let is : code_of codes frames.current ≡ code = ap (λ (x : Frame). code_of codes x) now.0 ∙ with in
+    c.in_ok-frames.ensures.stands codes (is ∙ sym c.layout.ensures.same) (slice_get_within codes n code found)
