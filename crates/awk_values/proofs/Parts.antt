@@ -1,5 +1,6 @@
--- A part of a part.
-use Rattle.std.proofs.Common.{◌≡◌, ℕ, ◌+◌, ◌-◌, ◌≤◌, List, drop, take, length, slice_range, sym, ap, ◌∙◌, arith}
+-- A part of a part, and texts that are compared byte by byte.
+use Rattle.std.proofs.Common.{◌≡◌, ◌↔◌, IsTrue, ℕ, ◌+◌, ◌-◌, ◌≤◌, Bool, List, drop, take, length, slice_range, sym, ap, ◌∙◌, arith, rules, bytes_eq}
+use Rattle.std.proofs.lemmas.Slice.Eq.{bytes_eq-Decides}
 use Rattle.std.proofs.lemmas.List.{drop-drop, drop-take, take-take, length-take}
 
 pub part_of_part : (xs : List ℕ) (start end from to : ℕ) → from ≤ to → to ≤ length (slice_range xs start end) → slice_range xs (start + from) (start + to) ≡ slice_range (slice_range xs start end) from to
@@ -12,3 +13,6 @@ part_of_part xs start end from to order within =
     ∙ take-take (to - from) (end - start - from) (drop from (drop start xs)) fits
     ∙ ap (take (to - from)) (drop-drop from start xs)
     ∙ ap (λ n. take n (drop (start + from) xs)) (sym count))
+
+pub tested : (xs ys : List ℕ) (r : Bool) → IsTrue r ↔ (xs ≡ ys) → r ≡ bytes_eq xs ys
+tested xs ys r h = search (rules, bytes_eq-Decides)

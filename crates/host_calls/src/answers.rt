@@ -11,8 +11,7 @@ use crate::dispatch::{Call, call_of};
 use crate::host::Host;
 use awk_state::Primitive;
 use host_step::Import;
-use host_texts::TextPrimitive;
-use host_values::{Refusal, ValuePrimitive};
+use host_values::Refusal;
 use import_host::{TableCall, refusal, refuses, told};
 use machine_model::HostAnswer;
 use wasm_store::Word;
@@ -57,7 +56,7 @@ impl<W: World> Host<W> {
 
     /// Answers a call on the tables that is not refused. Where it is known which import that is, so is the way to the table, and how it is told.
     #[inline(always)]
-    fn on_known(
+    pub(crate) fn on_known(
         &mut self,
         import: Import,
         call: TableCall,
@@ -72,7 +71,8 @@ impl<W: World> Host<W> {
         self.tell(import, outcome)
     }
 
-    /// Answers a call that is not refused.
+    /// Answers a call that is not refused. It stands apart, so that the way to the others is short.
+    #[inline(never)]
     fn on_any(&mut self, import: Import, words: &[Word], memory: &[u8]) -> HostAnswer
         requires { refuses import self.old.tables.fault ≡ false }
         ensures { MeansSome W.tells import (host_form W.state self.old) words.now memory.now result (host_form W.state self.new) }
@@ -90,36 +90,24 @@ impl<W: World> Host<W> {
             return HostAnswer::Done(refusal(import.answer()));
         }
         match import {
-            Import::Drop => self.on_known(import, TableCall::Drop, words, memory),
-            Import::Arg => self.on_known(import, TableCall::Arg, words, memory),
-            Import::Of(Primitive::Num) => {
-                let call = TableCall::Values(ValuePrimitive::Num);
-                self.on_known(import, call, words, memory)
-            }
-            Import::Of(Primitive::Dup) => {
-                let call = TableCall::Values(ValuePrimitive::Dup);
-                self.on_known(import, call, words, memory)
-            }
-            Import::Of(Primitive::ToNum) => {
-                let call = TableCall::Values(ValuePrimitive::ToNum);
-                self.on_known(import, call, words, memory)
-            }
-            Import::Of(Primitive::Truth) => {
-                let call = TableCall::Values(ValuePrimitive::Truth);
-                self.on_known(import, call, words, memory)
-            }
-            Import::Of(Primitive::Compare) => {
-                let call = TableCall::Values(ValuePrimitive::Compare);
-                self.on_known(import, call, words, memory)
-            }
-            Import::Of(Primitive::Field) => {
-                let call = TableCall::Texts(TextPrimitive::Field);
-                self.on_known(import, call, words, memory)
-            }
-            Import::Of(Primitive::Elem) => { self.on_known(import, TableCall::Elem, words, memory) }
-            Import::Of(Primitive::SetElem) => {
-                self.on_known(import, TableCall::SetElem, words, memory)
-            }
+            Import::Drop => self.on_drop(words, memory),
+            Import::Arg => self.on_arg(words, memory),
+            Import::Of(Primitive::Num) => self.on_num(words, memory),
+            Import::Of(Primitive::Dup) => self.on_dup(words, memory),
+            Import::Of(Primitive::ToNum) => self.on_to_num(words, memory),
+            Import::Of(Primitive::Truth) => self.on_truth(words, memory),
+            Import::Of(Primitive::Compare) => self.on_compare(words, memory),
+            Import::Of(Primitive::Lit) => self.on_lit(words, memory),
+            Import::Of(Primitive::Concat) => self.on_concat(words, memory),
+            Import::Of(Primitive::Field) => self.on_field(words, memory),
+            Import::Of(Primitive::GetSpecial) => self.on_get_special(words, memory),
+            Import::Of(Primitive::SetField) => self.on_set_field(words, memory),
+            Import::Of(Primitive::Length) => self.on_length(words, memory),
+            Import::Of(Primitive::Matches) => self.on_matches(words, memory),
+            Import::Of(Primitive::Sub) => self.on_sub(words, memory),
+            Import::Of(Primitive::Elem) => self.on_elem(words, memory),
+            Import::Of(Primitive::SetElem) => self.on_set_elem(words, memory),
+            Import::Of(Primitive::Has) => self.on_has(words, memory),
             _ => self.on_any(import, words, memory),
         }
     }

@@ -9,6 +9,7 @@ mod host;
 mod inputs;
 mod outputs;
 mod start;
+mod ways;
 
 pub use host::Host;
 pub use host_names::NamedText;

@@ -11,6 +11,9 @@ use std::alloc::Global;
 /// The most bytes of a text.
 const LIMIT: usize = 1 << 26;
 
+/// The most bytes of a number's text.
+const NUMBER: usize = 20;
+
 /// Adds bytes to a text that is not whole yet.
 fn put(out: &mut Vec<u8>, bytes: &[u8]) -> Result<(), Stop>
     requires { length out.old.items ≤ 2 ^ 26 }
@@ -39,6 +42,24 @@ fn put_value(out: &mut Vec<u8>, value: &Value) -> Result<(), Stop>
     }
 }
 
+/// As many bytes as the text of a value has, or more.
+fn room_of(value: &Value) -> usize {
+    match value {
+        Value::Uninit => 0,
+        Value::Num(_) => NUMBER,
+        Value::Text(text) | Value::StrNum(text) => text.len(),
+    }
+}
+
+/// Room for the texts of values with another text between them, at most that of the longest text.
+fn room_for(values: &[Value], between: usize) -> usize {
+    let mut room = 0usize;
+    for value in values {
+        room = room.saturating_add(between).saturating_add(room_of(value));
+    }
+    room.min(LIMIT)
+}
+
 /// The texts of values with another text between them.
 ///
 /// # Errors
@@ -49,7 +70,7 @@ pub(crate) fn joined(alloc: Global, values: &[Value], between: &[u8]) -> Result<
     ensures within { IfOk result (λ text. length text ≤ 2 ^ 26) }
     ensures err { IfErr result (IsPast (joined between.now values.now)) }
 {
-    let mut out = Vec::new(alloc);
+    let mut out = Vec::with_capacity(alloc, room_for(values, between.len()))?;
     if let [first, rest @ ..] = values {
         put_value(&mut out, first)?;
         for value in rest {

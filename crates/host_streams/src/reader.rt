@@ -9,10 +9,14 @@ ghost use Rattle.host_streams.specs.Readers.{Answers, EndStays, Fills, GoesOn, H
 use crate::look::{Known, Look, seen};
 use awk_values::{Bytes, Fault, Stop};
 use std::alloc::{AllocError, Global};
+use std::mem::replace;
 use world_core::{World, WorldFault};
 
 /// How many bytes are asked for at once.
 const PIECE: usize = 65_536;
+
+/// The room of texts up to this length is taken again.
+const SHORT: usize = 4096;
 
 /// How far a reader is.
 #[derive(Clone, Copy, Drop)]
@@ -53,6 +57,48 @@ pub(crate) struct Reader {
     phase: Phase,
     /// What a read fills.
     piece: Vec<u8>,
+    /// The text of the last short record.
+    given: Option<Bytes>,
+    /// That of the one before it, whose room is taken again where nobody has it any more.
+    spare: Option<Bytes>,
+}
+
+/// A text of bytes, in the room of another that nobody has any more.
+fn text_in(alloc: Global, room: Option<Bytes>, bytes: &[u8]) -> Result<Bytes, AllocError>
+    ensures { IfOk result (λ text. text ≡ bytes.now) }
+{
+    match room {
+        Some(former) => former.refilled(alloc, bytes),
+        None => Bytes::from_slice(alloc, bytes),
+    }
+}
+
+/// The text of a record.
+fn record_text(
+    alloc: Global,
+    given: &mut Option<Bytes>,
+    spare: &mut Option<Bytes>,
+    bytes: &[u8],
+) -> Result<Bytes, AllocError>
+    ensures { IfOk result (λ text. text ≡ bytes.now) }
+{
+    if bytes.len() > SHORT {
+        return Bytes::from_slice(alloc, bytes);
+    }
+    let text = text_in(alloc, spare.take(), bytes)?;
+    *spare = replace(given, Some(text.clone()?));
+    Ok(text)
+}
+
+/// What of these bytes no record used.
+fn unread_of(kept: &[u8], start: usize) -> &[u8]
+    ensures { result.now ≡ drop start kept.now }
+{
+    if start <= kept.len() {
+        &kept[start..]
+    } else {
+        &[]
+    }
 }
 
 /// Gives a piece its bytes, where it has none yet.
@@ -113,6 +159,8 @@ impl Reader {
             start: 0,
             phase: Phase::Open,
             piece: Vec::new(alloc),
+            given: None,
+            spare: None,
         }
     }
 
@@ -120,11 +168,7 @@ impl Reader {
     fn unread(&self) -> &[u8]
         ensures { result.now ≡ unread self.now }
     {
-        if self.start <= self.kept.as_slice().len() {
-            &self.kept.as_slice()[self.start..]
-        } else {
-            &[]
-        }
+        unread_of(self.kept.as_slice(), self.start)
     }
 
     /// Gives up the bytes that records used.
@@ -195,7 +239,12 @@ impl Reader {
     {
         match seen(self.unread(), rs, known) {
             Look::Record(from, to, next) => {
-                let text = Bytes::from_slice(alloc, &self.unread()[from..to])?;
+                let text = record_text(
+                    alloc,
+                    &mut self.given,
+                    &mut self.spare,
+                    &unread_of(self.kept.as_slice(), self.start)[from..to],
+                )?;
                 self.start += next;
                 Ok(Turn::Answer(FileNext::Record(text)))
             }

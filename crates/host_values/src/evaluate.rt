@@ -1,5 +1,5 @@
 //! Primitives on values.
-ghost use Rattle.std.specs.Prelude.{◌≡◌, ◌+◌, ◌++◌, ◌^◌, [], IfOk, OnOk, length, nat_le};
+ghost use Rattle.std.specs.Prelude.{◌≡◌, ◌+◌, ◌++◌, ◌^◌, ◌≤◌, [], IfOk, OnOk, length, nat_le, true};
 ghost use Rattle.awk_state.specs.ValueRows.{truncated, within_limit};
 ghost use Rattle.host_values.specs.declared.primitive.ValuePrimitive.{ValuePrimitive};
 ghost use Rattle.awk_values.specs.Values.{as_fault, text_of_value};
@@ -181,11 +181,11 @@ pub fn push_text(out: &mut Vec<u8>, value: &Value) -> Result<(), AllocError>
     }
 }
 
-/// The texts of two values, one behind the other.
-fn joined(alloc: Global, left: &Value, right: &Value) -> Result<Bytes, AllocError>
+/// The texts of two values, one behind the other, in so much room to begin with.
+fn joined(alloc: Global, room: usize, left: &Value, right: &Value) -> Result<Bytes, AllocError>
     ensures { IfOk result (λ text. text ≡ text_of_value left.now ++ text_of_value right.now) }
 {
-    let mut text = Vec::new(alloc);
+    let mut text = Vec::with_capacity(alloc, room)?;
     push_text(&mut text, left)?;
     push_text(&mut text, right)?;
     Bytes::from_vec(text)
@@ -193,7 +193,8 @@ fn joined(alloc: Global, left: &Value, right: &Value) -> Result<Bytes, AllocErro
 
 /// Whether two texts are within the limit together.
 fn fits(left: usize, right: usize) -> bool
-    ensures { result ≡ nat_le (left + right) (2 ^ 26) }
+    ensures value { result ≡ nat_le (left + right) (2 ^ 26) }
+    ensures within { result ≡ true → left + right ≤ 2 ^ 26 }
 {
     left <= TEXT_LIMIT && right <= TEXT_LIMIT && left + right <= TEXT_LIMIT
 }
@@ -206,10 +207,13 @@ fn concatenation(
 ) -> Result<Result<Reply, Fault>, AllocError>
     ensures { IfOk result (λ outcome. outcome ≡ value_reply (within_limit (text_of_value left.now ++ text_of_value right.now))) }
 {
-    if !fits(text_len(left), text_len(right)) {
+    let first = text_len(left);
+    let second = text_len(right);
+    if !fits(first, second) {
         return Ok(Err(Fault::TextLimit));
     }
-    Ok(Ok(Reply::Value(Value::Text(joined(alloc, left, right)?))))
+    let text = joined(alloc, first + second, left, right)?;
+    Ok(Ok(Reply::Value(Value::Text(text))))
 }
 
 fn concat(alloc: Global, handles: &Handles, words: &[Word]) -> Result<Evaluated, Refusal>

@@ -1,5 +1,5 @@
 //! The texts of literals, which a script asks for again and again.
-ghost use Rattle.std.specs.Prelude.{◌≡◌, IfOk, true};
+ghost use Rattle.std.specs.Prelude.{◌≡◌, IfOk};
 
 use awk_values::Bytes;
 use std::alloc::{AllocError, Global};
@@ -19,13 +19,6 @@ impl Model for Literals {
     ghost Value = { Unit {0} };
 
     ghost view = { λ l. tt };
-}
-
-/// Whether a text is that of these bytes.
-fn is_of(text: &Bytes, bytes: &[u8]) -> bool
-    ensures { result ≡ true → text.now ≡ bytes.now }
-{
-    text.as_slice() == bytes
 }
 
 impl Literals {
@@ -57,7 +50,7 @@ impl Literals {
     {
         let slot = place % MANY;
         if let Some(Some(text)) = self.kept.get(slot) {
-            if is_of(text, bytes) {
+            if text.is(bytes) {
                 return text.clone();
             }
         }

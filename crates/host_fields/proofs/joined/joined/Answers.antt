@@ -7,7 +7,7 @@ pub loop-value-init : goal.loop-value-init
 loop-value-init c =
     let values = c.args.values.now in
     let first = c.first-item.result in
-    let begun = c.in_ok-put_value.ensures.ok ∙ ap (λ (out : List ℕ). out ++ text_of_value first) c.new-out.ensures.items in
+    let begun = c.in_ok-put_value.ensures.ok ∙ ap (λ (out : List ℕ). out ++ text_of_value first) c.in_ok-out.ensures.items in
     record {
       within = c.in_ok-put_value.ensures.within;
       texts = ap (λ (out : List ℕ). out ++ followed c.args.between.now (take (length values - 1) (drop 1 values))) begun

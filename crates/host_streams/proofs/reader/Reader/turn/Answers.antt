@@ -1,4 +1,4 @@
-use Rattle.std.proofs.Common.{◌≡◌, refl, sym, subst, List, ℕ, Bool, true, Ok}
+use Rattle.std.proofs.Common.{◌≡◌, ◌∙◌, ap, drop, refl, sym, subst, List, ℕ, Bool, true, Ok}
 use Rattle.std.proofs.lemmas.List.{drop-drop}
 use Rattle.world_core.specs.WorldState.{Source}
 use Rattle.host_streams.specs.Looks.{IsLong, IsOpen}
@@ -9,12 +9,12 @@ use Rattle.host_streams.proofs.reader.Reader.turn.Goals as goal
 
 pub returns-in_ok-text-in-Record-clause-told : goal.returns-in_ok-text-in-Record-clause-told
 returns-in_ok-text-in-Record-clause-told g c = λ tells.
-    first_left c.args.self.now.phase c.args.rs (unread c.args.self.now) _ _ c.in_ok-text-in-Record.text _ c.in-Record.from c.in-Record.to c.in-Record.next c.requires.live c.unread.ensures c.in-Record.ensures c.in_ok-text-in-Record.ensures c.unread-in-Record.ensures
+    first_left c.args.self.now.phase c.args.rs (unread c.args.self.now) _ _ c.in_ok-text-in-Record.text _ c.in-Record.from c.in-Record.to c.in-Record.next c.requires.live c.unread.ensures c.in-Record.ensures c.in_ok-text-in-Record.ensures (c.unread_of.ensures ∙ ap (drop c.args.self.now.start) c.as_slice.ensures.value)
     (sym (drop-drop c.in-Record.next c.args.self.now.start c.args.self.now.kept.items)) _
 
 pub returns-in_ok-text-in-Record-clause-handed : goal.returns-in_ok-text-in-Record-clause-handed
 returns-in_ok-text-in-Record-clause-handed g c = record_handed c.args.self.now.phase c.args.rs (unread c.args.self.now) _ c.in_ok-text-in-Record.text
-    (first_left c.args.self.now.phase c.args.rs (unread c.args.self.now) _ _ c.in_ok-text-in-Record.text _ c.in-Record.from c.in-Record.to c.in-Record.next c.requires.live c.unread.ensures c.in-Record.ensures c.in_ok-text-in-Record.ensures c.unread-in-Record.ensures
+    (first_left c.args.self.now.phase c.args.rs (unread c.args.self.now) _ _ c.in_ok-text-in-Record.text _ c.in-Record.from c.in-Record.to c.in-Record.next c.requires.live c.unread.ensures c.in-Record.ensures c.in_ok-text-in-Record.ensures (c.unread_of.ensures ∙ ap (drop c.args.self.now.start) c.as_slice.ensures.value)
     (sym (drop-drop c.in-Record.next c.args.self.now.start c.args.self.now.kept.items)))
 
 pub returns-in-Long-clause-told : goal.returns-in-Long-clause-told

@@ -1,0 +1,198 @@
+//! The imports that scripts call most, each in a way of its own.
+ghost use Rattle.std.specs.Prelude.{◌≡◌, false};
+ghost use Rattle.awk_state.specs.declared.table.Primitive.TheVariants as row;
+ghost use Rattle.host_calls.specs.Calls.{MeansSome};
+ghost use Rattle.host_calls.specs.Forms.{host_form};
+ghost use Rattle.host_step.specs.HostStep.{refuses};
+
+use crate::host::Host;
+use awk_state::Primitive;
+use host_step::Import;
+use host_texts::TextPrimitive;
+use host_values::ValuePrimitive;
+use import_host::TableCall;
+use machine_model::HostAnswer;
+use wasm_store::Word;
+use world_core::World;
+
+impl<W: World> Host<W> {
+    /// A value is let go.
+    #[inline(never)]
+    pub(crate) fn on_drop(&mut self, words: &[Word], memory: &[u8]) -> HostAnswer
+        requires { refuses Import.Drop self.old.tables.fault ≡ false }
+        ensures { MeansSome W.tells Import.Drop (host_form W.state self.old) words.now memory.now result (host_form W.state self.new) }
+    {
+        self.on_known(Import::Drop, TableCall::Drop, words, memory)
+    }
+
+    /// A value goes onto the argument list.
+    #[inline(never)]
+    pub(crate) fn on_arg(&mut self, words: &[Word], memory: &[u8]) -> HostAnswer
+        requires { refuses Import.Arg self.old.tables.fault ≡ false }
+        ensures { MeansSome W.tells Import.Arg (host_form W.state self.old) words.now memory.now result (host_form W.state self.new) }
+    {
+        self.on_known(Import::Arg, TableCall::Arg, words, memory)
+    }
+
+    /// A number as a value.
+    #[inline(never)]
+    pub(crate) fn on_num(&mut self, words: &[Word], memory: &[u8]) -> HostAnswer
+        requires { refuses (Import.Of row.Num) self.old.tables.fault ≡ false }
+        ensures { MeansSome W.tells (Import.Of row.Num) (host_form W.state self.old) words.now memory.now result (host_form W.state self.new) }
+    {
+        let call = TableCall::Values(ValuePrimitive::Num);
+        self.on_known(Import::Of(Primitive::Num), call, words, memory)
+    }
+
+    /// A value once more.
+    #[inline(never)]
+    pub(crate) fn on_dup(&mut self, words: &[Word], memory: &[u8]) -> HostAnswer
+        requires { refuses (Import.Of row.Dup) self.old.tables.fault ≡ false }
+        ensures { MeansSome W.tells (Import.Of row.Dup) (host_form W.state self.old) words.now memory.now result (host_form W.state self.new) }
+    {
+        let call = TableCall::Values(ValuePrimitive::Dup);
+        self.on_known(Import::Of(Primitive::Dup), call, words, memory)
+    }
+
+    /// The number of a value.
+    #[inline(never)]
+    pub(crate) fn on_to_num(&mut self, words: &[Word], memory: &[u8]) -> HostAnswer
+        requires { refuses (Import.Of row.ToNum) self.old.tables.fault ≡ false }
+        ensures { MeansSome W.tells (Import.Of row.ToNum) (host_form W.state self.old) words.now memory.now result (host_form W.state self.new) }
+    {
+        let call = TableCall::Values(ValuePrimitive::ToNum);
+        self.on_known(Import::Of(Primitive::ToNum), call, words, memory)
+    }
+
+    /// The truth of a value.
+    #[inline(never)]
+    pub(crate) fn on_truth(&mut self, words: &[Word], memory: &[u8]) -> HostAnswer
+        requires { refuses (Import.Of row.Truth) self.old.tables.fault ≡ false }
+        ensures { MeansSome W.tells (Import.Of row.Truth) (host_form W.state self.old) words.now memory.now result (host_form W.state self.new) }
+    {
+        let call = TableCall::Values(ValuePrimitive::Truth);
+        self.on_known(Import::Of(Primitive::Truth), call, words, memory)
+    }
+
+    /// Two values are compared.
+    #[inline(never)]
+    pub(crate) fn on_compare(&mut self, words: &[Word], memory: &[u8]) -> HostAnswer
+        requires { refuses (Import.Of row.Compare) self.old.tables.fault ≡ false }
+        ensures { MeansSome W.tells (Import.Of row.Compare) (host_form W.state self.old) words.now memory.now result (host_form W.state self.new) }
+    {
+        let call = TableCall::Values(ValuePrimitive::Compare);
+        self.on_known(Import::Of(Primitive::Compare), call, words, memory)
+    }
+
+    /// The value of a literal.
+    #[inline(never)]
+    pub(crate) fn on_lit(&mut self, words: &[Word], memory: &[u8]) -> HostAnswer
+        requires { refuses (Import.Of row.Lit) self.old.tables.fault ≡ false }
+        ensures { MeansSome W.tells (Import.Of row.Lit) (host_form W.state self.old) words.now memory.now result (host_form W.state self.new) }
+    {
+        let call = TableCall::Values(ValuePrimitive::Lit);
+        self.on_known(Import::Of(Primitive::Lit), call, words, memory)
+    }
+
+    /// The texts of two values as one.
+    #[inline(never)]
+    pub(crate) fn on_concat(&mut self, words: &[Word], memory: &[u8]) -> HostAnswer
+        requires { refuses (Import.Of row.Concat) self.old.tables.fault ≡ false }
+        ensures { MeansSome W.tells (Import.Of row.Concat) (host_form W.state self.old) words.now memory.now result (host_form W.state self.new) }
+    {
+        let call = TableCall::Values(ValuePrimitive::Concat);
+        self.on_known(Import::Of(Primitive::Concat), call, words, memory)
+    }
+
+    /// The value of a field.
+    #[inline(never)]
+    pub(crate) fn on_field(&mut self, words: &[Word], memory: &[u8]) -> HostAnswer
+        requires { refuses (Import.Of row.Field) self.old.tables.fault ≡ false }
+        ensures { MeansSome W.tells (Import.Of row.Field) (host_form W.state self.old) words.now memory.now result (host_form W.state self.new) }
+    {
+        let call = TableCall::Texts(TextPrimitive::Field);
+        self.on_known(Import::Of(Primitive::Field), call, words, memory)
+    }
+
+    /// The value of a special variable.
+    #[inline(never)]
+    pub(crate) fn on_get_special(&mut self, words: &[Word], memory: &[u8]) -> HostAnswer
+        requires { refuses (Import.Of row.GetSpecial) self.old.tables.fault ≡ false }
+        ensures { MeansSome W.tells (Import.Of row.GetSpecial) (host_form W.state self.old) words.now memory.now result (host_form W.state self.new) }
+    {
+        let call = TableCall::Texts(TextPrimitive::GetSpecial);
+        self.on_known(Import::Of(Primitive::GetSpecial), call, words, memory)
+    }
+
+    /// A field gets a value.
+    #[inline(never)]
+    pub(crate) fn on_set_field(&mut self, words: &[Word], memory: &[u8]) -> HostAnswer
+        requires { refuses (Import.Of row.SetField) self.old.tables.fault ≡ false }
+        ensures { MeansSome W.tells (Import.Of row.SetField) (host_form W.state self.old) words.now memory.now result (host_form W.state self.new) }
+    {
+        let call = TableCall::Texts(TextPrimitive::SetField);
+        self.on_known(Import::Of(Primitive::SetField), call, words, memory)
+    }
+
+    /// The length of a value's text.
+    #[inline(never)]
+    pub(crate) fn on_length(&mut self, words: &[Word], memory: &[u8]) -> HostAnswer
+        requires { refuses (Import.Of row.Length) self.old.tables.fault ≡ false }
+        ensures { MeansSome W.tells (Import.Of row.Length) (host_form W.state self.old) words.now memory.now result (host_form W.state self.new) }
+    {
+        let call = TableCall::Texts(TextPrimitive::Length);
+        self.on_known(Import::Of(Primitive::Length), call, words, memory)
+    }
+
+    /// Whether an expression matches.
+    #[inline(never)]
+    pub(crate) fn on_matches(&mut self, words: &[Word], memory: &[u8]) -> HostAnswer
+        requires { refuses (Import.Of row.Matches) self.old.tables.fault ≡ false }
+        ensures { MeansSome W.tells (Import.Of row.Matches) (host_form W.state self.old) words.now memory.now result (host_form W.state self.new) }
+    {
+        let call = TableCall::Texts(TextPrimitive::Matches);
+        self.on_known(Import::Of(Primitive::Matches), call, words, memory)
+    }
+
+    /// A substitution.
+    #[inline(never)]
+    pub(crate) fn on_sub(&mut self, words: &[Word], memory: &[u8]) -> HostAnswer
+        requires { refuses (Import.Of row.Sub) self.old.tables.fault ≡ false }
+        ensures { MeansSome W.tells (Import.Of row.Sub) (host_form W.state self.old) words.now memory.now result (host_form W.state self.new) }
+    {
+        let call = TableCall::Texts(TextPrimitive::Sub);
+        self.on_known(Import::Of(Primitive::Sub), call, words, memory)
+    }
+
+    /// The value of an element.
+    #[inline(never)]
+    pub(crate) fn on_elem(&mut self, words: &[Word], memory: &[u8]) -> HostAnswer
+        requires { refuses (Import.Of row.Elem) self.old.tables.fault ≡ false }
+        ensures { MeansSome W.tells (Import.Of row.Elem) (host_form W.state self.old) words.now memory.now result (host_form W.state self.new) }
+    {
+        self.on_known(Import::Of(Primitive::Elem), TableCall::Elem, words, memory)
+    }
+
+    /// An element gets a value.
+    #[inline(never)]
+    pub(crate) fn on_set_elem(&mut self, words: &[Word], memory: &[u8]) -> HostAnswer
+        requires { refuses (Import.Of row.SetElem) self.old.tables.fault ≡ false }
+        ensures { MeansSome W.tells (Import.Of row.SetElem) (host_form W.state self.old) words.now memory.now result (host_form W.state self.new) }
+    {
+        self.on_known(
+            Import::Of(Primitive::SetElem),
+            TableCall::SetElem,
+            words,
+            memory,
+        )
+    }
+
+    /// Whether there is an element.
+    #[inline(never)]
+    pub(crate) fn on_has(&mut self, words: &[Word], memory: &[u8]) -> HostAnswer
+        requires { refuses (Import.Of row.Has) self.old.tables.fault ≡ false }
+        ensures { MeansSome W.tells (Import.Of row.Has) (host_form W.state self.old) words.now memory.now result (host_form W.state self.new) }
+    {
+        self.on_known(Import::Of(Primitive::Has), TableCall::Has, words, memory)
+    }
+}
