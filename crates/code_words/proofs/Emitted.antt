@@ -39,7 +39,7 @@ use Rattle.code_words.proofs.Small.{AllSmall, Small}
 
 -- ---- constants
 
-comparison_fits : (c : CompareOp) → fits_simple (I32Const (comparison_number c)) ≡ true
+pub comparison_fits : (c : CompareOp) → fits_simple (I32Const (comparison_number c)) ≡ true
 comparison_fits op.Less = refl
 comparison_fits op.LessOrEqual = refl
 comparison_fits op.Equal = refl

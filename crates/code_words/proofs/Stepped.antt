@@ -4,23 +4,25 @@ use Rattle.std.specs.Int.{w64, cast_unsigned}
 use Rattle.std.specs.Prelude.{is_some, ℤ, pos, ◌+ℤ◌, unsigned_abs}
 use Rattle.awk_values.specs.declared.comparison.CompareOp.{CompareOp}
 use Rattle.awk_values.specs.declared.comparison.CompareOp.TheVariants as compare
-use Rattle.awk_state.specs.Constants.{flag_number, kind_number}
+use Rattle.awk_state.specs.Constants.{comparison_number, flag_number, kind_number}
 use Rattle.awk_state.specs.declared.constants.NameKind.{NameKind}
 use Rattle.awk_state.specs.declared.constants.NameKind.TheVariants.{Scalar, ArrayOrFunction}
 use Rattle.awk_state.specs.declared.table.Primitive.TheVariants as row
 use Rattle.wasm_types.specs.Syntax.{Instructions}
+use Rattle.wasm_types.specs.declared.instr.IBinOp.{IBinOp}
 use Rattle.wasm_types.specs.declared.instr.Simple.TheVariants.{Br, I32Const, I64Const}
 use Rattle.mid_program.specs.declared.mid.Arithmetic.{Arithmetic}
 use Rattle.mid_program.specs.declared.mid.Operation.TheVariants.{Inline}
 use Rattle.mid_program.specs.Mid.{Kind, Boxed, Unboxed, Many, Global, Code, Do, Compare, Number, Set, Let, Bound, Codes, End, At, Step, Eval, Block as Steps_, If as Either, Loop, Each, Break, Continue, Next, Exit, ExitWith, Return, Mark, Steps, NoStep, Then as AndThen, Program, a_value, form_of}
 use Rattle.value_machine.specs.Emission.{Layout}
 use Rattle.value_machine.specs.Places.{Bases, memory_of}
-use Rattle.value_machine.specs.Quick.{Within, test_within, both_within, compared_within, constant_in, first_ones, name_in, joined, all_unsure, Source, Named, Constant, source_in, Sum, sum_names, sum_in, sum_of, two_sum, set_sum, kept_sum, update_sum, old_source, stored_name, new_sum, let_sum, is_near, Pair, pair_names, pair_in, pair_of, step_jumps, is_nothing}
-use Rattle.value_machine.specs.Statements.{name_read, source_pushed, summed, quickly_dropped, pair_left, left_unless_pair, left_unless, all_emptied, arrays_emptied, arrays_swept, before_parts, declared, goes_on, iterator_left, iterators_emptied, iterators_swept, key_stored, left_by, main_body, names_declared, names_made, parameters_dropped, part_done, record_done, records_read, routine_body, routines_declared, step_emitted, steps_emitted, swept, temporaries_emptied, temporaries_swept, has_functions, left_swept}
+use Rattle.value_machine.specs.Quick.{Within, test_within, both_within, compared_within, constant_in, first_ones, name_in, joined, all_unsure, Source, Named, Constant, source_in, Sum, sum_names, sum_op, sum_in, Update, update_in, Counted, counted_in, sum_of, two_sum, set_sum, kept_sum, update_sum, old_source, stored_name, new_sum, let_sum, is_near, Pair, pair_names, pair_in, pair_of, step_jumps, is_nothing}
+use Rattle.value_machine.specs.Statements.{name_read, source_pushed, summed, name_numbered, source_numbered, source_taken, sum_taken, summed_anyway, plainly_dropped, quickly_dropped, left_unless_counted, pair_left, left_unless_pair, left_unless, all_emptied, arrays_emptied, arrays_swept, before_parts, declared, goes_on, iterator_left, iterators_emptied, iterators_swept, key_stored, left_by, main_body, names_declared, names_made, parameters_dropped, part_done, record_done, records_read, routine_body, routines_declared, step_emitted, steps_emitted, swept, temporaries_emptied, temporaries_swept, has_functions, left_swept}
 use Rattle.std.proofs.lemmas.Bool.{leb-true}
 use Rattle.value_machine.proofs.Quick.{constant_is, shift_pos}
 use Rattle.value_machine.proofs.QuickNames.{near_sum, some_is, source_code, source_is}
-use Rattle.code_words.proofs.Emitted.{array_fits, asked_fits, dropped_fits, emitted_fits, flag_fits, kept_code_fits, kept_number_fits, number_small, pending_fits, tested_fits, text_fits_there, to_number_fits, to_value_fits, whichever}
+use Rattle.value_machine.proofs.Updating.{added_is}
+use Rattle.code_words.proofs.Emitted.{array_fits, asked_fits, comparison_fits, dropped_fits, emitted_fits, flag_fits, kept_code_fits, kept_number_fits, number_small, pending_fits, tested_fits, text_fits_there, to_number_fits, to_value_fits, whichever}
 use Rattle.code_words.proofs.Fits.{Fits, choice, fits_simple, in_block, in_loop, long_fits, none, plain}
 use Rattle.code_words.proofs.Small.{Small, SmallStep, SmallSteps}
 
@@ -148,19 +150,48 @@ module _ (y : Layout) (names : length y.names ≤ 2 ^ 24) (memory : length (memo
       plain _ refl (plain (I64Const (cast_unsigned w64 z)) (long_fits (cast_unsigned w64 z) h) (plain _ refl
       (joined_fits is z h (plain (I64Const width) (long_fits width w) (plain _ refl r)))))
 
+  -- sums in all cases
+
+  name_fits : {k : Instructions} (i t d : ℕ) → Fits k → Fits (name_numbered y i t d k)
+  name_fits i t d r = record { has = r.has }
+
+  numbered_fits : {k : Instructions} (x : Source) (t d : ℕ) → Fits k → Fits (source_numbered y x t d k)
+  numbered_fits (Named i) t d r = name_fits i t d r
+  numbered_fits (Constant z) t d r = r
+
+  taken_fits : {k : Instructions} (x : Source) (t : ℕ) → SourceSmall x → Fits k → Fits (source_taken y x t k)
+  taken_fits (Named i) t s r = plain _ refl r
+  taken_fits (Constant z) t s r = plain (I64Const (cast_unsigned w64 z)) (long_fits (cast_unsigned w64 z) (number_small z s)) r
+
+  taking_fits : {k : Instructions} (op : IBinOp) (i t d : ℕ) → Fits k → Fits (sum_taken y op i t d k)
+  taking_fits op i t d r = record { has = r.has }
+
+  anyway_fits : {k : Instructions} (x : Sum) (d : ℕ) → SumSmall x → Fits k → Fits (summed_anyway y x d k)
+  anyway_fits x d h r = numbered_fits x.left zero d (numbered_fits x.right 1 d (taken_fits x.left zero h.0 (taken_fits x.right 1 h.1 (taking_fits (sum_op x.op) x.target zero d r))))
+
   module _ {k : Instructions} where
+    plainly_fits : (o : Option Update) (e : Code) (d : ℕ) → update_in e ≡ o → Small e → Fits k → Fits (plainly_dropped y o e d k)
+    plainly_fits None e d h s r = dropped_fits y names memory [] [] e zero zero d s r
+    plainly_fits (Some q) e d h s r =
+        emitted_fits y names memory false [] [] q.added zero zero d (subst Small (added_is e q h).0 s).0 (name_fits q.name 1 d (to_number_fits b (form_of [] q.added) zero d (plain _ refl (plain _ refl (taking_fits (sum_op q.op) q.target zero d r)))))
+
     quick_fits : (o : Option Sum) (e : Code) (d : ℕ) → sum_in e ≡ o → Small e → Fits k → Fits (quickly_dropped y o e d k)
-    quick_fits None e d q s r = dropped_fits y names memory [] [] e zero zero d s r
+    quick_fits None e d q s r = plainly_fits (update_in e) e d refl s r
     quick_fits (Some x) e d q s r =
         unsure_fits (sum_names x) (pos (2 ^ 52)) (2 ^ 53) (omega arith) (omega arith)
-        (choice (dropped_fits y names memory [] [] e zero zero (suc d) s none) (sum_fits x (sum_small e x q) none) r)
+        (choice (anyway_fits x (suc d) (sum_small e x q) none) (sum_fits x (sum_small e x q) none) r)
 
     pair_left_fits : (q : Pair) (out : ℕ) → PairSmall q → Fits k → Fits (pair_left y q out k)
     pair_left_fits q out s r = source_fits q.left s.0 (source_fits q.right s.1 (plain _ refl (plain _ refl r)))
 
   module _ {k : Instructions} where
+    counted_fits : (o : Option Counted) (e : Code) (d out : ℕ) → Small e → Fits k → Fits (left_unless_counted y o e d out k)
+    counted_fits None e d out s r = tested_fits y names memory [] [] e zero zero d s (plain _ refl (plain _ refl r))
+    counted_fits (Some q) e d out s r =
+        plain _ refl (plain _ refl (plain _ refl (choice (tested_fits y names memory [] [] e zero zero (suc d) s (plain _ refl (plain _ refl none))) (plain (I32Const (comparison_number q.op)) (comparison_fits q.op) (record { has = refl })) r)))
+
     pair_fits : (o : Option Pair) (e : Code) (d out : ℕ) → pair_in e ≡ o → Small e → Fits k → Fits (left_unless_pair y o e d out k)
-    pair_fits None e d out h s r = tested_fits y names memory [] [] e zero zero d s (plain _ refl (plain _ refl r))
+    pair_fits None e d out h s r = counted_fits (counted_in e) e d out s r
     pair_fits (Some q) e d out h s r =
         unsure_fits (pair_names q) (pos (2 ^ 53)) (2 ^ 54) (omega arith) (omega arith)
         (choice (tested_fits y names memory [] [] e zero zero (suc d) s (plain _ refl (plain _ refl none)))

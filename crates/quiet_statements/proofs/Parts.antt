@@ -41,7 +41,7 @@ module _ (m : ProgramForm) (P : Conf → Type 0) (bs : List Bool) (base : Conf) 
   Faults = (K : List LabelForm) (gs L : List Word) (k : Instructions) → P (at bs base K gs L [] (does (I32Const (fault_number Range)) (ask_row row.Fail k)))
 
   module _ {K : List LabelForm} {gs : List Word} {k : Instructions} where
-    failing : {L : List Word} {w : Word} (fault : Faults) (d : ℕ) → To K gs L [] k → To K gs L (w ∷ []) (fail_if Range d k)
+    pub failing : {L : List Word} {w : Word} (fault : Faults) (d : ℕ) → To K gs L [] k → To K gs L (w ∷ []) (fail_if Range d k)
     failing fault d h = branch (λ n e z. arrived (refl, fault _ _ _ (does (Br (suc d)) Done))) (λ n e z. ended h)
 
     range_tested : {L vs : List Word} (x : ℕ) → ((w : Word) → To K gs L (w ∷ vs) k) → To K gs L vs (out_of_range x k)

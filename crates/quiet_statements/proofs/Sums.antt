@@ -108,7 +108,7 @@ module _ (m : ProgramForm) (P : Conf → Type 0) (bs : List Bool) (base : Conf) 
   -- Names.
 
   -- what was put there is no such number
-  put_ready : (L : List Word) (x : ℕ) (w : Word) → nat_lt x (length L) ≡ true → (Some w ≡ Some (I64 text_beside) → ⊥) →
+  pub put_ready : (L : List Word) (x : ℕ) (w : Word) → nat_lt x (length L) ≡ true → (Some w ≡ Some (I64 text_beside) → ⊥) →
       slice_get (slice_set L x w) x ≢ Some (I64 text_beside)
   put_ready L x w e h q = h (sym (set_there L x w (ltb-true x (length L) e)) ∙ q)
 

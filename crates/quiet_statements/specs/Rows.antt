@@ -113,14 +113,14 @@ pub six_then : names_there (quiet (machine true) 9 (begun true minus_one 5)) ≡
 unfolding emitted all_emitted step_emitted steps_emitted
 six_then = refl
 
--- a sum out of range: by the code of all cases, after 23 steps the call that keeps the fault is next
-pub out_of_range : code_there (quiet (machine true) 23 (begun true minus_one (2 ^ 53))) ≡
+-- a sum out of range: by the code of all cases, after 16 steps the call that keeps the fault is next
+pub out_of_range : code_there (quiet (machine true) 16 (begun true minus_one (2 ^ 53))) ≡
     Some (renumbered (called_imports (script true)) (does (I32Const (fault_number Range)) (ask_row row.Fail (does (Br 2) Done))))
 unfolding emitted all_emitted step_emitted steps_emitted
 out_of_range = refl
 
 -- a text beside n, of handle 7: it is copied, which calls an import
-pub text_there : (is_some (quiet (machine true) 11 (begun true 7 text_beside)) ≡ true) × (is_none (quiet (machine true) 12 (begun true 7 text_beside)) ≡ true)
+pub text_there : (is_some (quiet (machine true) 14 (begun true 7 text_beside)) ≡ true) × (is_none (quiet (machine true) 15 (begun true 7 text_beside)) ≡ true)
 unfolding emitted all_emitted step_emitted steps_emitted
 text_there = (refl, refl)
 

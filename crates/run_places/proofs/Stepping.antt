@@ -1,9 +1,10 @@
 -- Where the places of functions are: one for each step, and one for the test of a `do` loop.
-use Rattle.std.proofs.Common.{◌≡◌, ℕ, zero, suc, ◌+◌, Bool, true, false, List, [], ◌∷◌, ◌++◌, length, refl, sym, ap, ap₂, ◌∙◌, arith}
+use Rattle.std.proofs.Common.{◌≡◌, ℕ, zero, suc, ◌+◌, Bool, true, false, List, [], ◌∷◌, ◌++◌, length, refl, sym, ap, ap₂, ◌∙◌, subst, arith}
 use Rattle.std.proofs.lemmas.List.{append_assoc, append-nil, length-append}
 use Rattle.std.specs.Prelude.{if◌then◌else◌, Option, Some, None, is_some, ℤ}
 use Rattle.awk_state.specs.declared.table.Primitive.TheVariants as row
 use Rattle.wasm_types.specs.Syntax.{Instruction, Plain, BrTable, Block, Loop as Again, If, Instructions, Done, Then}
+use Rattle.wasm_types.specs.declared.instr.IBinOp.{IBinOp}
 use Rattle.wasm_types.specs.declared.instr.Simple.{Simple}
 use Rattle.wasm_types.specs.declared.instr.Simple.TheVariants.{Br, BrIf, LocalSet, Nop}
 use Rattle.mid_program.specs.Mid.{Kind, Boxed, Unboxed, Many, Code, Step, Eval, Block as Steps_, If as Either, Loop, Each, Break, Continue, Next, Exit, ExitWith, Return, Mark, Steps, NoStep, Then as AndThen, Program, Routine, a_value, form_of}
@@ -11,9 +12,10 @@ use Rattle.value_machine.specs.Boundaries.{is_nop, nops_in, nops_of, step_places
 use Rattle.value_machine.specs.Emission.{Layout, tested}
 use Rattle.value_machine.specs.Functions.{layout_of, main_bases, main_callee, routine_bases, routine_callee}
 use Rattle.value_machine.specs.Places.{Bases, answer_local}
-use Rattle.value_machine.specs.Quick.{Within, test_within, Source, Named, Constant, joined, all_unsure, Sum, sum_names, sum_in, Pair, pair_names, pair_in, step_jumps, is_nothing}
+use Rattle.value_machine.specs.Quick.{Within, test_within, Source, Named, Constant, joined, all_unsure, Sum, sum_names, sum_op, sum_in, Update, update_in, Counted, counted_in, Pair, pair_names, pair_in, step_jumps, is_nothing}
 use Rattle.value_machine.specs.Small.{ask_row, does, either}
-use Rattle.value_machine.specs.Statements.{name_read, source_pushed, quickly_dropped, left_unless_pair, left_unless, all_emptied, arrays_emptied, arrays_swept, before_parts, block, first_part, goes_on, has_functions, iterator_left, iterators_emptied, iterators_swept, key_stored, left_by, left_swept, main_body, names_declared, names_made, parameters_dropped, part_done, record_done, records_read, routine_body, routines_declared, started, step_emitted, steps_emitted, swept, temporaries_emptied, temporaries_swept}
+use Rattle.value_machine.specs.Statements.{name_read, source_pushed, name_numbered, source_numbered, source_taken, sum_taken, summed_anyway, plainly_dropped, quickly_dropped, left_unless_counted, left_unless_pair, left_unless, all_emptied, arrays_emptied, arrays_swept, before_parts, block, first_part, goes_on, has_functions, iterator_left, iterators_emptied, iterators_swept, key_stored, left_by, left_swept, main_body, names_declared, names_made, parameters_dropped, part_done, record_done, records_read, routine_body, routines_declared, started, step_emitted, steps_emitted, swept, temporaries_emptied, temporaries_swept}
+use Rattle.value_machine.proofs.Updating.{added_is}
 use Rattle.run_places.specs.Statements.{main_places, main_starts, routine_starts, starts_in, starts_of, step_starts, steps_starts}
 use Rattle.run_places.proofs.Nops.{Nops, array_nops, asked_nops, choice, dropped_nops, emitted_nops, kept_code_nops, kept_number_nops, none, pending_nops, plain, rounds, tested_nops, to_number_nops, to_value_nops}
 use Rattle.run_places.proofs.Pending.{Few, Limit, PartsFew, StepFew, StepsFew, calls_fit, limit_of}
@@ -46,6 +48,10 @@ chosen_before false p q n m r s = s
 none_or : {l : Limit} (j : Bool) {a c : Instructions} {q : List Instructions} → Nops l a [] → Nops l c q → Nops l (if j then a else c) (if j then [] else q)
 none_or true r q = r
 none_or false r q = q
+
+-- what is added has no more operands under a call than the whole
+added_few : (most : ℕ) (e : Code) (q : Update) → update_in e ≡ Some q → Few most zero e → Few most zero q.added
+added_few most e q h lo = (subst (Few most zero) (added_is e q h).0 lo).0
 
 module _ (y : Layout) (asks : Bool) (most : ℕ) where
   abbrev b : Bases
@@ -80,14 +86,43 @@ module _ (y : Layout) (asks : Bool) (most : ℕ) where
   source_nops (Named i) r = plain _ refl r
   source_nops (Constant z) r = plain _ refl r
 
+  -- sums in all cases
+
+  name_nops : {k : Instructions} {m : List Instructions} (i t d : ℕ) → Nops l k m → Nops l (name_numbered y i t d k) m
+  name_nops i t d r = record { are = r.are; calls = r.calls }
+
+  numbered_nops : {k : Instructions} {m : List Instructions} (x : Source) (t d : ℕ) → Nops l k m → Nops l (source_numbered y x t d k) m
+  numbered_nops (Named i) t d r = name_nops i t d r
+  numbered_nops (Constant z) t d r = r
+
+  taken_nops : {k : Instructions} {m : List Instructions} (x : Source) (t : ℕ) → Nops l k m → Nops l (source_taken y x t k) m
+  taken_nops (Named i) t r = plain _ refl r
+  taken_nops (Constant z) t r = plain _ refl r
+
+  sum_nops : {k : Instructions} {m : List Instructions} (op : IBinOp) (i t d : ℕ) → Nops l k m → Nops l (sum_taken y op i t d k) m
+  sum_nops op i t d r = record { are = r.are; calls = r.calls }
+
+  anyway_nops : {k : Instructions} {m : List Instructions} (x : Sum) (d : ℕ) → Nops l k m → Nops l (summed_anyway y x d k) m
+  anyway_nops x d r = numbered_nops x.left zero d (numbered_nops x.right 1 d (taken_nops x.left zero (taken_nops x.right 1 (sum_nops (sum_op x.op) x.target zero d r))))
+
   module _ {k : Instructions} {m : List Instructions} where
+    plainly_nops : (o : Option Update) (e : Code) (d : ℕ) → update_in e ≡ o → (asks ≡ true → Few most zero e) → Nops l k m → Nops l (plainly_dropped y o e d k) m
+    plainly_nops None e d h lo r = dropped_nops y asks most [] [] e zero zero d lo r
+    plainly_nops (Some q) e d h lo r =
+        emitted_nops y asks most false [] [] q.added zero zero d (λ z. added_few most e q h (lo z)) (name_nops q.name 1 d (to_number_nops b (form_of [] q.added) zero d (plain _ refl (plain _ refl (sum_nops (sum_op q.op) q.target zero d r)))))
+
     quick_nops : (o : Option Sum) (e : Code) (d : ℕ) → (asks ≡ true → Few most zero e) → Nops l k m → Nops l (quickly_dropped y o e d k) m
-    quick_nops None e d lo r = dropped_nops y asks most [] [] e zero zero d lo r
+    quick_nops None e d lo r = plainly_nops (update_in e) e d refl lo r
     quick_nops (Some x) e d lo r =
-        all_nops (sum_names x) _ _ (choice (dropped_nops y asks most [] [] e zero zero (suc d) lo none) (source_nops x.left (source_nops x.right (plain _ refl (plain _ refl none)))) r)
+        all_nops (sum_names x) _ _ (choice (anyway_nops x (suc d) none) (source_nops x.left (source_nops x.right (plain _ refl (plain _ refl none)))) r)
+
+    counted_nops : (o : Option Counted) (e : Code) (d out : ℕ) → (asks ≡ true → Few most zero e) → Nops l k m → Nops l (left_unless_counted y o e d out k) m
+    counted_nops None e d out lo r = tested_nops y asks most [] [] e zero zero d lo (plain _ refl (plain _ refl r))
+    counted_nops (Some q) e d out lo r =
+        plain _ refl (plain _ refl (plain _ refl (choice (tested_nops y asks most [] [] e zero zero (suc d) lo (plain _ refl (plain _ refl none))) (record { are = refl; calls = λ z. refl }) r)))
 
     pair_nops : (o : Option Pair) (e : Code) (d out : ℕ) → (asks ≡ true → Few most zero e) → Nops l k m → Nops l (left_unless_pair y o e d out k) m
-    pair_nops None e d out lo r = tested_nops y asks most [] [] e zero zero d lo (plain _ refl (plain _ refl r))
+    pair_nops None e d out lo r = counted_nops (counted_in e) e d out lo r
     pair_nops (Some q) e d out lo r =
         all_nops (pair_names q) _ _ (choice (tested_nops y asks most [] [] e zero zero (suc d) lo (plain _ refl (plain _ refl none))) (source_nops q.left (source_nops q.right (plain _ refl (plain _ refl none)))) r)
 

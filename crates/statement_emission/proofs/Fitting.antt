@@ -275,7 +275,7 @@ module _ {c : Context} {y : Layout} (n : Named c y) where
     step_fits o l (Eval e) u d s r =
         let more = more_least (is_some (sum_in e)) (labels_in e) in (
           omega (arith, r.labels),
-          test_fits e d (and_parts (is_dropped (form_of [] e)) (sorted c [] e) s).1 (record { places = omega (arith, r.places); arrays = omega (arith, r.arrays); labels = omega (arith, r.labels, more) }),
+          code_fits n [] e 0 0 d (and_parts (is_dropped (form_of [] e)) (sorted c [] e) s).1 (record { places = omega (arith, r.places); arrays = omega (arith, r.arrays); labels = omega (arith, r.labels, more) }),
         )
     step_fits o l (Block ss) u d s r = steps_fit o l ss u d s (record { places = r.places; arrays = r.arrays; iterators = r.iterators; labels = r.labels })
     step_fits o l (If e a b) u d s r =

@@ -9,8 +9,9 @@ use Rattle.mid_program.specs.declared.mid.Arithmetic.{Arithmetic}
 use Rattle.mid_program.specs.declared.mid.Operation.TheVariants.{Inline, AsNumber}
 use Rattle.mid_program.specs.Mid.{Global, Code, Do, Compare, Number, Set, Let, Bound, Codes, End, At}
 use Rattle.value_machine.specs.Emission.{Layout}
-use Rattle.value_machine.specs.Quick.{Source, Named, Constant, Sum, Pair, Within, all_unsure, joined, shifted, and_name, and_source, both_within, compared_within, constant_in, first_ones, is_among, kept_sum, let_sum, name_in, new_sum, old_source, pair_in, pair_names, pair_of, set_sum, source_in, stored_name, sum_in, sum_names, sum_of, test_within, two_sum, update_sum}
+use Rattle.value_machine.specs.Quick.{Source, Named, Constant, Sum, Update, update_in, Counted, counted_of, counted_in, field_count, Pair, Within, all_unsure, joined, shifted, and_name, and_source, both_within, compared_within, constant_in, first_ones, is_among, kept_sum, let_sum, name_in, new_sum, old_source, pair_in, pair_names, pair_of, set_sum, source_in, stored_name, sum_in, sum_names, sum_of, test_within, two_sum, update_sum}
 use Rattle.value_machine.proofs.Quick.{name_is}
+use Rattle.value_machine.proofs.Updating.{added_is}
 use Rattle.value_machine.proofs.QuickNames.{near_sum, some_is, source_code, source_is, stored_is}
 use Rattle.code_emission.specs.Bounds.{most_places}
 use Rattle.expression_emission.specs.Fits.{AllFit, Fits}
@@ -135,3 +136,19 @@ module _ (y : Layout) where
   pub within_fits : (e : Code) (q : Within) (t w d : ℕ) → test_within e ≡ Some q → Fits y e t w d → q.name ≤ most_places
   within_fits (Compare c a b) q t w d h f = both_fits c a (name_in a) (constant_in b) q t w d refl h f.1.0
   within_fits e q t w d h f = cc
+
+  -- a sum with what is evaluated first
+  pub update_fits_all : (e : Code) (q : Update) (t w d : ℕ) → update_in e ≡ Some q → Fits y e t w d → (q.target ≤ most_places) × (q.name ≤ most_places) × Fits y q.added t w d
+  update_fits_all e q t w d h f =
+      let g = subst (λ (x : Code). Fits y x t w d) (added_is e q h).0 f in
+      (g.1.1.1.0, g.1.1.1.1.1.0.1, g.1.0)
+
+  -- a comparison with how many fields there are
+  counted_of_fits : (c : CompareOp) (a : Code) (i : Option ℕ) (j : Bool) (q : Counted) (t w d : ℕ) → name_in a ≡ i → counted_of c i j ≡ Some q → Fits y a t w d → q.name ≤ most_places
+  counted_of_fits c a (Some i) true q t w d e h f = subst (λ (j : ℕ). j ≤ most_places) (ap (λ (r : Counted). r.name) (some_is (record { op = c; name = i }) q h)) (subst (λ (x : Code). Fits y x t w d) (name_is a i e) f).1
+  counted_of_fits c a (Some i) false q t w d e h f = cc
+  counted_of_fits c a None j q t w d e h f = cc
+
+  pub counted_fits : (e : Code) (q : Counted) (t w d : ℕ) → counted_in e ≡ Some q → Fits y e t w d → q.name ≤ most_places
+  counted_fits (Compare c a b) q t w d h f = counted_of_fits c a (name_in a) (field_count b) q t w d refl h f.1.0
+  counted_fits e q t w d h f = cc

@@ -1,20 +1,22 @@
 -- Parts of the definitions, which are added by functions of their own.
-use Rattle.std.specs.Prelude.{ℕ, zero, suc, ◌+◌, Bool, true, false, if◌then◌else◌, List, [], length, Some, is_some}
-use Rattle.awk_values.specs.declared.fault.Fault.TheVariants.{NextOutside}
+use Rattle.std.specs.Prelude.{ℕ, zero, suc, ◌+◌, Bool, true, false, if◌then◌else◌, List, [], length, Some, is_some, pos, ◌^◌}
+use Rattle.awk_values.specs.declared.fault.Fault.TheVariants.{NextOutside, Range}
 use Rattle.awk_state.specs.declared.table.Primitive.TheVariants as row
 use Rattle.wasm_types.specs.Syntax.{Instructions, Done}
 use Rattle.wasm_types.specs.declared.types.ValType.TheVariants.{I32, I64}
 use Rattle.wasm_types.specs.declared.instr.CvtOp.TheVariants.{I32WrapI64}
-use Rattle.wasm_types.specs.declared.instr.IRelOp.TheVariants.{Eq, GtU, Ne}
+use Rattle.wasm_types.specs.declared.instr.IBinOp.{IBinOp}
+use Rattle.wasm_types.specs.declared.instr.IBinOp.TheVariants.{Add}
+use Rattle.wasm_types.specs.declared.instr.IRelOp.TheVariants.{Eq, GtU, LeS, Ne}
 use Rattle.wasm_types.specs.declared.instr.ITestOp.TheVariants.{Eqz}
-use Rattle.wasm_types.specs.declared.instr.Simple.TheVariants.{Nop, Br, BrIf, LocalGet, LocalSet, LocalTee, GlobalGet, GlobalSet, I32Const, I64Const, Test, Compare as Comparing, Convert}
+use Rattle.wasm_types.specs.declared.instr.Simple.TheVariants.{Nop, Br, BrIf, LocalGet, LocalSet, LocalTee, GlobalGet, GlobalSet, I32Const, I64Const, Test, Compare as Comparing, Binary, Convert}
 use Rattle.mid_program.specs.Names.{ArrayName}
 use Rattle.mid_program.specs.Mid.{Kind, Boxed, Unboxed, Many, Code, Form, Step, Steps, Program}
 use Rattle.value_machine.specs.Emission.{Layout, array_pushed, pending_assigned, tested}
-use Rattle.value_machine.specs.Quick.{Pair, Sum, Within, is_nothing, pair_in, step_jumps, test_within}
+use Rattle.value_machine.specs.Quick.{Counted, Pair, Sum, all_unsure, sum_names, Within, is_nothing, pair_in, step_jumps, test_within}
 use Rattle.value_machine.specs.Places.{Bases, answer_local, handle_global, iterator_local, status_global, way_global}
-use Rattle.value_machine.specs.Small.{ask, ask_row, does, either, end_code, fail_if, h, kept_code, moved_out, n, number_is, to_number, to_value, when}
-use Rattle.value_machine.specs.Statements.{again, all_emptied, before_parts, block, first_part, goes_on, iterator_left, key_stored, last_part, left_by, left_unless, left_unless_pair, names_declared, parameters_dropped, part_done, quickly_dropped, record_done, records_read, routines_declared, step_emitted, steps_emitted, swept, way_exit, way_next}
+use Rattle.value_machine.specs.Small.{ask, ask_row, does, either, end_code, fail_if, h, kept_code, moved_out, n, number_is, text_beside, to_number, to_value, when}
+use Rattle.value_machine.specs.Statements.{again, all_emptied, before_parts, block, first_part, goes_on, iterator_left, key_stored, last_part, left_by, left_unless, left_unless_counted, left_unless_pair, name_numbered, name_read, names_declared, parameters_dropped, part_done, record_done, records_read, routines_declared, step_emitted, steps_emitted, summed, summed_anyway, swept, way_exit, way_next}
 use Rattle.value_machine.specs.declared.import.Import.TheVariants.{Drop}
 use Rattle.statement_emission.specs.declared.around.Around.{Around}
 
@@ -48,9 +50,30 @@ pair_tested y q e d out k = left_unless_pair y (Some q) e d out k
 abbrev pub within_tested : Layout → Within → Code → (d out : ℕ) → Instructions → Instructions
 within_tested y q e d out k = left_unless y (Some q) e d out k
 
--- a sum that a name takes
-abbrev pub sum_done : Layout → Sum → Code → ℕ → Instructions → Instructions
-sum_done y s e d k = quickly_dropped y (Some s) e d k
+-- a sum that a name takes: quickly where all numbers are near
+abbrev pub sum_done : Layout → Sum → ℕ → Instructions → Instructions
+sum_done y s d k = all_unsure (name_read y) (sum_names s) (pos (2 ^ 52)) (2 ^ 53) (either (summed_anyway y s (suc d) Done) (summed y s Done) k)
+
+-- whether a name has no number
+abbrev pub unnumbered : Layout → ℕ → Instructions → Instructions
+unnumbered y i k = does (name_read y i) (does (I64Const text_beside) (does (Comparing I64 LeS) k))
+
+-- a comparison of a name with how many fields there are
+abbrev pub counted_tested : Layout → Counted → Code → (d out : ℕ) → Instructions → Instructions
+counted_tested y q e d out k = left_unless_counted y (Some q) e d out k
+
+-- 0 where there is no number yet
+abbrev pub zero_put : Bases → ℕ → Instructions → Instructions
+zero_put b t k = does (I64Const 0) (does (LocalSet (n b t)) k)
+
+-- what an operator gives of two numbers, and the test whether it is in range
+abbrev pub sum_tested : Bases → IBinOp → (t d : ℕ) → Instructions → Instructions
+sum_tested b op t d k =
+    does (Binary I64 op) (does (LocalTee (n b t)) (does (I64Const (2 ^ 53)) (does (Binary I64 Add) (does (I64Const (2 ^ 54)) (does (Comparing I64 GtU) (fail_if Range d k))))))
+
+-- the numbers of a name and of what is added, on the stack
+abbrev pub number_asked : Layout → ℕ → Form → ℕ → Instructions → Instructions
+number_asked y i f d k = name_numbered y i 1 d (to_number y.bases f zero d (does (LocalGet (n y.bases 1)) (does (LocalGet (n y.bases zero)) k)))
 
 -- a turn begins again where the test holds
 abbrev pub tested_on : Layout → Code → ℕ → Instructions → Instructions

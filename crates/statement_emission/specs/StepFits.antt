@@ -27,7 +27,7 @@ has_block false a = true
 -- with u iterators in use and d labels around
 abbrev mutual
   pub StepFits : Layout → Step → (u d : ℕ) → Type 0
-  StepFits y (Eval e) u d = (suc d ≤ most_labels) × TestFits y e d
+  StepFits y (Eval e) u d = (suc (suc (suc d)) ≤ most_labels) × Fits y e zero zero d
   StepFits y (Block ss) u d = StepsFit y ss u d
   StepFits y (If e a b) u d = ChoiceFits y e d × (StepFits y a u (suc (more_if (is_some (pair_in e)) d)) × StepFits y b u (suc d))
   StepFits y (Loop first e a b) u d =

@@ -3,8 +3,8 @@ ghost use Rattle.std.specs.Prelude.{[], ◌∷◌, ◌≡◌, ◌≤◌, IfOk, O
 ghost use Rattle.mid_program.specs.Mid.{form_of};
 ghost use Rattle.mid_program.specs.ViewCode.{view};
 ghost use Rattle.value_machine.specs.Emission.{dropped, emitted, tested};
-ghost use Rattle.value_machine.specs.Quick.{sum_in};
-ghost use Rattle.value_machine.specs.Statements.{quickly_dropped};
+ghost use Rattle.value_machine.specs.Quick.{sum_in, update_in};
+ghost use Rattle.value_machine.specs.Statements.{plainly_dropped, quickly_dropped};
 ghost use Rattle.code_emission.specs.Bounds.{most_labels, most_places};
 ghost use Rattle.code_emission.specs.Emits.{Emits};
 ghost use Rattle.code_emission.specs.Forms.{view_form};
@@ -13,14 +13,14 @@ ghost use Rattle.expression_emission.specs.View.{view_layout};
 ghost use Rattle.quick_forms.specs.View.{view_sum};
 ghost use Rattle.statement_emission.specs.Parts.{answer_left, status_left, sum_done};
 ghost use Rattle.statement_emission.specs.QuickFits.{SumFits};
-ghost use Rattle.statement_emission.specs.StepFits.{TestFits};
 
 use crate::leaving::{WAY_EXIT, left_by};
 use crate::quick::{all_unsure, sum_code};
+use crate::summing::{anyway_code, updated};
 use code_emission::{Bases, Form, does_all, either, moved_out, to_number, to_value, truth};
 use expression_emission::{At, Kept, Layout, expression, left_over};
 use mid_program::Code;
-use quick_forms::{Sum, sum_in, sum_names};
+use quick_forms::{Sum, sum_in, sum_names, update_in};
 use std::alloc::{AllocError, Global};
 use wasm_types::{Instr, Simple};
 
@@ -65,35 +65,34 @@ fn done_alone(
     dropped(y, &mut kept, out, code, at_first(exit))
 }
 
-/// The same in a list of its own, from within one label more.
-fn done_code(y: &Layout<'_>, code: &Code, exit: u32) -> Result<Vec<Instr>, AllocError>
-    requires labels { suc exit ≤ most_labels }
-    requires fit { Fits (view_layout y.now) (view code.now) 0 0 (suc exit) }
-    ensures { IfOk result (λ v. Emits [] v.items (dropped (view_layout y.now) [] [] (view code.now) 0 0 (suc exit))) }
-{
-    let mut out = Vec::new(y.alloc);
-    done_alone(y, &mut out, code, exit + 1)?;
-    Ok(out)
-}
-
 /// Adds a sum that a name takes: by the module itself where all numbers are near.
-fn sum_done(
-    y: &Layout<'_>,
-    out: &mut Vec<Instr>,
-    sum: Sum,
-    code: &Code,
-    exit: u32,
-) -> Result<(), AllocError>
-    requires labels { suc exit ≤ most_labels }
+fn sum_done(y: &Layout<'_>, out: &mut Vec<Instr>, sum: Sum, exit: u32) -> Result<(), AllocError>
+    requires labels { suc (suc (suc exit)) ≤ most_labels }
     requires sum { SumFits (view_sum sum) }
-    requires fit { Fits (view_layout y.now) (view code.now) 0 0 (suc exit) }
-    ensures { OnOk result (Emits out.old.items out.new.items (sum_done (view_layout y.now) (view_sum sum) (view code.now) exit)) }
+    ensures { OnOk result (Emits out.old.items out.new.items (sum_done (view_layout y.now) (view_sum sum) exit)) }
 {
     let names = sum_names(y.alloc, sum)?;
     all_unsure(y, out, &names, 1 << 52, 1 << 53)?;
-    let all_cases = done_code(y, code, exit)?;
+    let all_cases = anyway_code(y, sum, exit + 1)?;
     let quick = sum_code(y, sum)?;
     either(y.alloc, out, all_cases, quick)
+}
+
+/// Adds code for what it does alone that is no sum of sources.
+fn plainly_done(
+    y: &Layout<'_>,
+    out: &mut Vec<Instr>,
+    code: &Code,
+    exit: u32,
+) -> Result<(), AllocError>
+    requires labels { suc (suc exit) ≤ most_labels }
+    requires fit { Fits (view_layout y.now) (view code.now) 0 0 exit }
+    ensures { OnOk result (Emits out.old.items out.new.items (plainly_dropped (view_layout y.now) (update_in (view code.now)) (view code.now) exit)) }
+{
+    match update_in(code) {
+        Some(update) => updated(y, out, update, exit),
+        None => done_alone(y, out, code, exit),
+    }
 }
 
 /// Adds code for what it does alone, where nothing is kept.
@@ -103,18 +102,18 @@ pub(crate) fn done(
     code: &Code,
     exit: u32,
 ) -> Result<(), AllocError>
-    requires labels { suc exit ≤ most_labels }
-    requires fit { TestFits (view_layout y.now) (view code.now) exit }
+    requires labels { suc (suc (suc exit)) ≤ most_labels }
+    requires fit { Fits (view_layout y.now) (view code.now) 0 0 exit }
     ensures { OnOk result (Emits out.old.items out.new.items (quickly_dropped (view_layout y.now) (sum_in (view code.now)) (view code.now) exit)) }
 {
     match sum_in(code) {
-        Some(sum) => sum_done(y, out, sum, code, exit),
-        None => done_alone(y, out, code, exit),
+        Some(sum) => sum_done(y, out, sum, exit),
+        None => plainly_done(y, out, code, exit),
     }
 }
 
 /// Adds code whose answer goes to the first temporary, where nothing is kept.
-fn answered(
+pub(crate) fn answered(
     y: &Layout<'_>,
     out: &mut Vec<Instr>,
     code: &Code,

@@ -14,6 +14,7 @@ mod records;
 mod routines;
 mod script;
 mod steps;
+mod summing;
 mod testing;
 
 pub use script::{functions, module};

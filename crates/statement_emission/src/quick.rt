@@ -2,20 +2,21 @@
 ghost use Rattle.std.specs.Prelude.{[], ◌≡◌, ◌≤◌, ◌^◌, IfOk, OnOk, pos, suc};
 ghost use Rattle.wasm_types.specs.Syntax.{Done};
 ghost use Rattle.value_machine.specs.Quick.{all_unsure, joined, shifted, sum_op, unsure};
-ghost use Rattle.value_machine.specs.Statements.{name_read, pair_left, source_pushed, summed};
+ghost use Rattle.value_machine.specs.Statements.{counted_left, name_read, pair_left, source_pushed, summed};
 ghost use Rattle.code_emission.specs.Bounds.{most_labels, most_places};
 ghost use Rattle.code_emission.specs.Emits.{Emits};
 ghost use Rattle.expression_emission.specs.View.{view_layout};
-ghost use Rattle.quick_forms.specs.View.{view_pair, view_source, view_sum};
-ghost use Rattle.statement_emission.specs.Parts.{past};
+ghost use Rattle.quick_forms.specs.View.{view_counted, view_pair, view_source, view_sum};
+ghost use Rattle.statement_emission.specs.Parts.{past, unnumbered};
 ghost use Rattle.statement_emission.specs.QuickFits.{NamesFit, PairFits, SourceFits, SumFits};
 
-use code_emission::{does, does_all, relation};
+use awk_state::{Primitive, Special};
+use code_emission::{TEXT_BESIDE, ask_row, comparison_number, does, does_all, relation};
 use expression_emission::{Layout, global_number};
 use mid_program::Arithmetic;
-use quick_forms::{Pair, Source, Sum, Within, contrary};
+use quick_forms::{Counted, Pair, Source, Sum, Within, contrary};
 use std::alloc::AllocError;
-use wasm_types::{IBinOp, IRelOp, Instr, Simple, ValType};
+use wasm_types::{IBinOp, IRelOp, ITestOp, Instr, Simple, ValType};
 
 /// What reads an unboxed name's number.
 fn name_read(y: &Layout<'_>, name: usize) -> Simple
@@ -104,7 +105,7 @@ fn source_pushed(y: &Layout<'_>, out: &mut Vec<Instr>, source: Source) -> Result
     }
 }
 
-fn sum_op(op: Arithmetic) -> IBinOp
+pub(crate) fn sum_op(op: Arithmetic) -> IBinOp
     ensures { result ≡ sum_op op }
 {
     match op {
@@ -164,4 +165,59 @@ pub(crate) fn pair_code(y: &Layout<'_>, pair: Pair, label: u32) -> Result<Vec<In
     let mut code = Vec::new(y.alloc);
     pair_left(y, &mut code, pair, label + 1)?;
     Ok(code)
+}
+
+/// Adds a comparison of a name's number with how many fields there are, by the host, and leaves to a label where it does not hold.
+fn counted_left(
+    y: &Layout<'_>,
+    out: &mut Vec<Instr>,
+    counted: Counted,
+    label: u32,
+) -> Result<(), AllocError>
+    requires { counted.name ≤ most_places }
+    ensures { OnOk result (Emits out.old.items out.new.items (counted_left (view_layout y.now) (view_counted counted) label)) }
+{
+    does(out, Simple::I32Const(comparison_number(counted.op)))?;
+    does(out, name_read(y, counted.name))?;
+    ask_row(out, Primitive::Num)?;
+    does(out, Simple::I32Const(u32::from(Special::Nf.number())))?;
+    ask_row(out, Primitive::GetSpecial)?;
+    ask_row(out, Primitive::Compare)?;
+    let all = [
+        Simple::Test(ValType::I32, ITestOp::Eqz),
+        Simple::BrIf(label),
+    ];
+    does_all(out, &all)
+}
+
+/// The same in a list of its own, from within one label more.
+pub(crate) fn counted_code(
+    y: &Layout<'_>,
+    counted: Counted,
+    label: u32,
+) -> Result<Vec<Instr>, AllocError>
+    requires label { label ≤ most_labels }
+    requires name { counted.name ≤ most_places }
+    ensures { IfOk result (λ v. Emits [] v.items (counted_left (view_layout y.now) (view_counted counted) (suc label))) }
+{
+    let mut code = Vec::new(y.alloc);
+    counted_left(y, &mut code, counted, label + 1)?;
+    Ok(code)
+}
+
+/// Adds the test whether a name has no number.
+pub(crate) fn unnumbered(
+    y: &Layout<'_>,
+    out: &mut Vec<Instr>,
+    name: usize,
+) -> Result<(), AllocError>
+    requires { name ≤ most_places }
+    ensures { OnOk result (Emits out.old.items out.new.items (unnumbered (view_layout y.now) name)) }
+{
+    let all = [
+        name_read(y, name),
+        Simple::I64Const(TEXT_BESIDE),
+        Simple::Compare(ValType::I64, IRelOp::LeS),
+    ];
+    does_all(out, &all)
 }

@@ -2,23 +2,23 @@
 ghost use Rattle.std.specs.Prelude.{[], ◌≤◌, IfOk, OnOk, suc};
 ghost use Rattle.wasm_types.specs.Syntax.{Done};
 ghost use Rattle.mid_program.specs.ViewCode.{view};
-ghost use Rattle.value_machine.specs.Quick.{pair_in, test_within};
-ghost use Rattle.value_machine.specs.Statements.{left_unless, left_unless_pair};
+ghost use Rattle.value_machine.specs.Quick.{counted_in, pair_in, test_within};
+ghost use Rattle.value_machine.specs.Statements.{left_unless, left_unless_counted, left_unless_pair};
 ghost use Rattle.code_emission.specs.Bounds.{most_labels, most_places};
 ghost use Rattle.code_emission.specs.Emits.{Emits};
 ghost use Rattle.expression_emission.specs.Fits.{Fits};
 ghost use Rattle.expression_emission.specs.View.{view_layout};
-ghost use Rattle.quick_forms.specs.View.{view_pair, view_within};
-ghost use Rattle.statement_emission.specs.Parts.{pair_tested, test_left, within_tested};
+ghost use Rattle.quick_forms.specs.View.{view_counted, view_pair, view_within};
+ghost use Rattle.statement_emission.specs.Parts.{counted_tested, pair_tested, test_left, within_tested};
 ghost use Rattle.statement_emission.specs.QuickFits.{PairFits};
 ghost use Rattle.statement_emission.specs.StepFits.{TestFits};
 
 use crate::evaluating::tested;
-use crate::quick::{all_unsure, pair_code, unsure};
+use crate::quick::{all_unsure, counted_code, pair_code, unnumbered, unsure};
 use code_emission::{does_all, either, when};
 use expression_emission::Layout;
 use mid_program::Code;
-use quick_forms::{Pair, Within, pair_in, pair_names, test_within};
+use quick_forms::{Counted, Pair, Within, counted_in, pair_in, pair_names, test_within};
 use std::alloc::AllocError;
 use wasm_types::{ITestOp, Instr, Simple, ValType};
 
@@ -75,6 +75,46 @@ fn pair_tested(
     either(y.alloc, out, all_cases, quick)
 }
 
+/// Adds a comparison of a name with how many fields there are: of two numbers where the name has one.
+fn counted_tested(
+    y: &Layout<'_>,
+    out: &mut Vec<Instr>,
+    counted: Counted,
+    test: &Code,
+    exit: u32,
+    label: u32,
+) -> Result<(), AllocError>
+    requires labels { suc exit ≤ most_labels }
+    requires label { label ≤ exit }
+    requires name { counted.name ≤ most_places }
+    requires fit { Fits (view_layout y.now) (view test.now) 0 0 (suc exit) }
+    ensures { OnOk result (Emits out.old.items out.new.items (counted_tested (view_layout y.now) (view_counted counted) (view test.now) exit label)) }
+{
+    unnumbered(y, out, counted.name)?;
+    let all_cases = test_code(y, test, exit, label)?;
+    let quick = counted_code(y, counted, label)?;
+    either(y.alloc, out, all_cases, quick)
+}
+
+/// Adds a test that may compare a name with how many fields there are, and leaves to a label where it does not hold.
+fn left_unless_counted(
+    y: &Layout<'_>,
+    out: &mut Vec<Instr>,
+    test: &Code,
+    exit: u32,
+    label: u32,
+) -> Result<(), AllocError>
+    requires labels { suc exit ≤ most_labels }
+    requires label { label ≤ exit }
+    requires fit { TestFits (view_layout y.now) (view test.now) exit }
+    ensures { OnOk result (Emits out.old.items out.new.items (left_unless_counted (view_layout y.now) (counted_in (view test.now)) (view test.now) exit label)) }
+{
+    match counted_in(test) {
+        Some(counted) => counted_tested(y, out, counted, test, exit, label),
+        None => test_left(y, out, test, exit, label),
+    }
+}
+
 /// Adds a test that may compare sources, and leaves to a label where it does not hold.
 pub(crate) fn left_unless_pair(
     y: &Layout<'_>,
@@ -90,7 +130,7 @@ pub(crate) fn left_unless_pair(
 {
     match pair_in(test) {
         Some(pair) => pair_tested(y, out, pair, test, exit, label),
-        None => test_left(y, out, test, exit, label),
+        None => left_unless_counted(y, out, test, exit, label),
     }
 }
 

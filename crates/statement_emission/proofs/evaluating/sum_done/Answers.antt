@@ -1,11 +1,10 @@
-use Rattle.std.proofs.Common.{[], suc, pos, ◌^◌, ◌∙◌, sym, subst}
+use Rattle.std.proofs.Common.{ℕ, [], suc, pos, arith, ◌^◌, ◌∙◌, sym, subst}
 use Rattle.std.proofs.lemmas.Result.{on_ok_weaker}
 use Rattle.wasm_types.specs.Syntax.{Instructions, Done}
-use Rattle.mid_program.specs.ViewCode.{view}
-use Rattle.value_machine.specs.Emission.{dropped}
 use Rattle.value_machine.specs.Quick.{all_unsure, sum_names}
 use Rattle.value_machine.specs.Small.{either}
-use Rattle.value_machine.specs.Statements.{name_read, summed}
+use Rattle.value_machine.specs.Statements.{name_read, summed, summed_anyway}
+use Rattle.code_emission.specs.Emits.{Emits}
 use Rattle.code_emission.proofs.Appended.{emits_then}
 use Rattle.expression_emission.specs.View.{view_layout}
 use Rattle.quick_forms.specs.View.{view_sum}
@@ -19,9 +18,10 @@ all_unsure-requires c = subst NamesFit (sym (c.deref.ensures.value ∙ c.in_ok-n
 pub returns : goal.returns
 returns c =
     let y = view_layout c.args.y.now in
-    let slow : Instructions → Instructions = dropped y [] [] (view c.args.code.now) 0 0 (suc c.args.exit) in
+    let slow : Instructions → Instructions = summed_anyway y (view_sum c.args.sum) (suc c.args.exit) in
     let quick : Instructions → Instructions = summed y (view_sum c.args.sum) in
     on_ok_weaker c.either.result
     (emits_then (all_unsure (name_read y) (sum_names (view_sum c.args.sum)) (pos (2 ^ 52)) (2 ^ 53)) (either (slow Done) (quick Done)) _ _ _
     (rw (c.deref.ensures.value ∙ c.in_ok-names.ensures) at c.in_ok-all_unsure.ensures))
-    (c.either.ensures slow quick c.in_ok-all_cases.ensures c.in_ok-quick.ensures)
+    (c.either.ensures slow quick
+    (subst (λ (d : ℕ). Emits [] c.in_ok-all_cases.all_cases.items (summed_anyway y (view_sum c.args.sum) d)) (omega arith) c.in_ok-all_cases.ensures) c.in_ok-quick.ensures)

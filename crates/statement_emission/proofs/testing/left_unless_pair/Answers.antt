@@ -18,5 +18,5 @@ returns-in-Some c =
 
 pub returns-in-None : goal.returns-in-None
 returns-in-None c =
-    subst (λ (o : Option Pair). OnOk c.test_left.result (Emits c.args.out.now.items c.test_left.new.out.items (left_unless_pair (view_layout c.args.y.now) o (view c.args.test.now) c.args.exit c.args.label))) c.in-None.ensures
-    c.test_left.ensures
+    subst (λ (o : Option Pair). OnOk c.left_unless_counted.result (Emits c.args.out.now.items c.left_unless_counted.new.out.items (left_unless_pair (view_layout c.args.y.now) o (view c.args.test.now) c.args.exit c.args.label))) c.in-None.ensures
+    c.left_unless_counted.ensures
