@@ -77,7 +77,7 @@ unfolding emitted all_emitted step_emitted steps_emitted digits
 kept_from_the_start = refl
 
 -- 15 steps a round and no import; boxed, 49 steps and 7 imports
-pub unboxed_rounds : (steps_of (counting true 10) ≡ 303) × ((steps_of (counting true 20) ≡ 453) × (imports_of (counting true 10) ≡ 7))
+pub unboxed_rounds : (steps_of (counting true 10) ≡ 296) × ((steps_of (counting true 20) ≡ 446) × (imports_of (counting true 10) ≡ 7))
 unfolding emitted all_emitted step_emitted steps_emitted digits
 unboxed_rounds = (refl, (refl, refl))
 
@@ -117,6 +117,6 @@ unfolding emitted all_emitted step_emitted steps_emitted digits sorted all_sorte
 summed_to_ten = (refl, refl)
 
 -- 35 steps a round
-pub summing_rounds : (steps_of (summing 10) ≡ 503) × (steps_of (summing 20) ≡ 853)
+pub summing_rounds : (steps_of (summing 10) ≡ 484) × (steps_of (summing 20) ≡ 834)
 unfolding emitted all_emitted step_emitted steps_emitted digits
 summing_rounds = (refl, refl)

@@ -1,12 +1,13 @@
 -- Which statements and tests have a quick way, and between which bounds.
 use Rattle.std.specs.Prelude.{◌≡◌, ℕ, ◌+◌, ◌-◌, ◌^◌, Bool, true, false, List, [], ◌∷◌, Some, None, ℤ, pos, negsuc, refl}
 use Rattle.awk_values.specs.declared.comparison.CompareOp.TheVariants.{Equal, Less, LessOrEqual}
+use Rattle.awk_state.specs.declared.table.Primitive.TheVariants.{GetSpecial}
 use Rattle.mid_program.specs.declared.mid.Arithmetic.{Arithmetic}
 use Rattle.mid_program.specs.declared.mid.Arithmetic.TheVariants.{Minus, Plus, Times}
-use Rattle.mid_program.specs.declared.mid.Operation.TheVariants.{AsNumber, Inline}
-use Rattle.mid_program.specs.Mid.{At, Block, Bound, Break, Code, Compare, Continue, Do, Each, End, Eval, Get, Global, If, Let, Loop, NoStep, Number, Parameter, Seq, Set, Step, Then}
+use Rattle.mid_program.specs.declared.mid.Operation.TheVariants.{AsNumber, Host, Inline}
+use Rattle.mid_program.specs.Mid.{At, Block, Bound, Break, Code, Compare, Continue, Do, Each, End, Eval, Fixed, Get, Global, If, Let, Loop, NoStep, Number, Parameter, Seq, Set, Step, Then}
 use Rattle.mid_program.specs.Names.{Numbered}
-use Rattle.value_machine.specs.Quick.{Constant, Named, is_nothing, pair_in, step_jumps, sum_in, sum_names, test_within}
+use Rattle.value_machine.specs.Quick.{Constant, Named, counted_in, is_nothing, pair_in, step_jumps, sum_in, sum_names, test_within, update_in}
 
 -- unboxed names
 abbrev name : ℕ → Code
@@ -38,6 +39,18 @@ pub no_sums : (sum_in (assigned 7 (joined Times (name 7) (Number (pos 2)))) ≡ 
     × ((sum_in (assigned 7 (joined Plus (name 7) (Number (pos (2 ^ 52 + 1))))) ≡ None)
     × (sum_in (assigned 7 (joined Plus (joined Plus (name 5) (name 6)) (Number (pos 1)))) ≡ None))))
 no_sums = (refl, (refl, (refl, (refl, refl))))
+
+-- what is added is no source, and is evaluated first; a product has no such way
+pub updates : (update_in (updated 7 Minus (Get (Global false 5))) ≡ Some (record { target = 7; op = Minus; name = 7; added = Get (Global false 5) }))
+    × ((update_in (updated 7 Times (Get (Global false 5))) ≡ None)
+    × (update_in (assigned 7 (joined Plus (name 7) (Get (Global false 5)))) ≡ None))
+updates = (refl, (refl, refl))
+
+-- NF has the number 5
+pub counts : (counted_in (Compare LessOrEqual (name 7) (Do (Host GetSpecial) (Fixed 5 End))) ≡ Some (record { op = LessOrEqual; name = 7 }))
+    × ((counted_in (Compare LessOrEqual (name 7) (Do (Host GetSpecial) (Fixed 6 End))) ≡ None)
+    × (counted_in (Compare LessOrEqual (Get (Global false 7)) (Do (Host GetSpecial) (Fixed 5 End))) ≡ None))
+counts = (refl, (refl, refl))
 
 -- the target is asked too, and each name once
 pub asked_once : (sum_names (record { target = 7; op = Plus; left = Named 7; right = Named 7 }) ≡ 7 ∷ [])

@@ -28,8 +28,8 @@ pub boxed_counts : size_of Boxed 20 (counts false) - size_of Boxed 10 (counts fa
 unfolding emitted all_emitted step_emitted steps_emitted
 boxed_counts = refl
 
--- 199 bytes for each: the code of all cases, and the quick way beside it
-pub unboxed_counts : size_of Unboxed 20 (counts true) - size_of Unboxed 10 (counts true) ≡ 1990
+-- 175 bytes for each: the code of all cases, and the quick way beside it
+pub unboxed_counts : size_of Unboxed 20 (counts true) - size_of Unboxed 10 (counts true) ≡ 1750
 unfolding emitted all_emitted step_emitted steps_emitted
 unboxed_counts = refl
 
