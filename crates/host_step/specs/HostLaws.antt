@@ -54,7 +54,7 @@ answer_typed q names answer.Truth x = refl
 answer_typed q names answer.Done x = refl
 answer_typed q names answer.Input x = refl
 answer_typed q names answer.Assign x = refl
-answer_typed q names answer.Close x = refl
+answer_typed q names answer.Stream x = refl
 answer_typed q names answer.ValueOrEnd x = option_typed q names x
 answer_typed q names answer.Name x = refl
 
@@ -68,7 +68,7 @@ refusal_typed answer.Truth = refl
 refusal_typed answer.Done = refl
 refusal_typed answer.Input = refl
 refusal_typed answer.Assign = refl
-refusal_typed answer.Close = refl
+refusal_typed answer.Stream = refl
 refusal_typed answer.ValueOrEnd = refl
 refusal_typed answer.Name = refl
 
