@@ -2,7 +2,7 @@
 ghost use Rattle.std.specs.Prelude.{◌≡◌, List, [], ℕ, None};
 ghost use Rattle.std.specs.FinMap as map;
 ghost use Rattle.awk_state.specs.declared.table.Primitive.TheVariants as row;
-ghost use Rattle.host_step.specs.Answers.{close_code};
+ghost use Rattle.host_step.specs.Answers.{stream_code};
 ghost use Rattle.host_step.specs.declared.import.Import.{Import};
 ghost use Rattle.host_elements.specs.Forms.{HostForm};
 ghost use Rattle.host_streams.specs.OpenFiles.{HoldsOpen, OthersKeep, OthersStay, WritersGo, readers_beside};
