@@ -109,11 +109,7 @@ fn is_jump(kind: TokenKind) -> bool
     matches!(
         kind,
         TokenKind::Keyword(
-            Keyword::Break
-                | Keyword::Continue
-                | Keyword::Next
-                | Keyword::NextFile
-                | Keyword::Return
+            Keyword::Break | Keyword::Continue | Keyword::Next | Keyword::NextFile | Keyword::Return
         )
     )
 }

@@ -188,7 +188,10 @@ fn deleted<'a>(
             behind @ ..,
         ] => {
             let (array, subscripts) = beside(array, list(alloc, limit, true, behind))?;
-            let ((array, trees), rest) = beside((array, subscripts.trees), close_bracket(subscripts.rest))?;
+            let ((array, trees), rest) = beside(
+                (array, subscripts.trees),
+                close_bracket(subscripts.rest),
+            )?;
             Ok((SimpleStmt::Delete(array, trees), rest))
         }
         _ => Ok((SimpleStmt::Clear(array), tokens)),
