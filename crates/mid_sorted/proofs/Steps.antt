@@ -16,7 +16,7 @@ use Rattle.mid_program.specs.Names.{Resolved, Scope, variable_of, array_of}
 use Rattle.mid_program.specs.Statements.{operands_of, with_last, with_target, destination_of, listed_of}
 use Rattle.mid_program.specs.Texts.{texts_in, all_texts, args_texts, target_texts, plain_texts, maybe_texts, maybe_plain_texts, stmt_texts, stmts_texts}
 use Rattle.mid_program.specs.Mid.{Form, Answered, form_of}
-use Rattle.mid_program.specs.Sorted.{Context, is_dropped, sorted, test_sorted, step_sorted, steps_sorted}
+use Rattle.mid_program.specs.Sorted.{Context, is_dropped, sorted, all_sorted, test_sorted, step_sorted, steps_sorted}
 use Rattle.mid_program.specs.Translation.{code_of, codes_of, key_code, test_code, plain_step, maybe_step, step_code, steps_code}
 use Rattle.mid_sorted.specs.Fits.{scope_at, is_met, is_placed, are_placed, AreMet}
 use Rattle.mid_sorted.proofs.Good.{Good, is_within, as_value, as_number, tested_dropped, array_operand, array_alone, one_good}
@@ -112,7 +112,7 @@ module _ (c : Context) (texts : List (List ℕ)) (script : Resolved) (place : Op
   maybe_test_fine (Some t) w b = test_fine t w b
 
   mutual
-    unfolding sorted step_sorted steps_sorted step_code steps_code stmt_texts stmts_texts
+    unfolding sorted all_sorted step_sorted steps_sorted step_code steps_code stmt_texts stmts_texts
 
     step_fine : (s : Stmt) (r l : Bool) → IsStmt s → IsTrue (is_placed r l s) → Both (stmt_marks place s) (stmt_texts s) → step_sorted c r l (step_code texts scope s) ≡ true
     step_fine (stmt.Block ss) r l w p b = steps_fine ss r l w p b
