@@ -187,12 +187,9 @@ fn deleted<'a>(
             },
             behind @ ..,
         ] => {
-            let (array, subscripts) = beside(array, list(alloc, limit, true, behind))?;
-            let ((array, trees), rest) = beside(
-                (array, subscripts.trees),
-                close_bracket(subscripts.rest),
-            )?;
-            Ok((SimpleStmt::Delete(array, trees), rest))
+            let subscripts = list(alloc, limit, true, behind)?;
+            let rest = close_bracket(subscripts.rest)?;
+            Ok((SimpleStmt::Delete(array, subscripts.trees), rest))
         }
         _ => Ok((SimpleStmt::Clear(array), tokens)),
     }
