@@ -318,6 +318,16 @@ module _ (texts : List (List ℕ)) (parameters : List (List Kind)) (n : ℕ) (ca
         ∙ one_operand texts parameters n calls fs env a m p (λ vs. (settled (row_of fs (arguments_of row.Close) (one a) vs) >>= λ g. does row.Close g) >>= λ v. give (numeric (stream_number v))) (λ x. does row.Close (x, tt) >>= λ v. give (numeric (stream_number v))) (λ v. refl);
   }
 
+  pub flush_is : (a : Code) (m : Doing Value) → Means a m → Means (Do AsNumber (one (host row.Flush (one a)))) (m >>= λ x. does row.Flush (x, tt) >>= λ v. give (numeric (stream_number v)))
+  unfolding evaluated all_evaluated
+  flush_is a m p = record {
+    valued = tt;
+    means =
+        as_coded (host row.Flush (one a)) stream_number (λ v. refl)
+        ∙ assoc (All (one a)) (λ vs. settled (row_of fs (arguments_of row.Flush) (one a) vs) >>= λ g. does row.Flush g) (λ v. give (numeric (stream_number v)))
+        ∙ one_operand texts parameters n calls fs env a m p (λ vs. (settled (row_of fs (arguments_of row.Flush) (one a) vs) >>= λ g. does row.Flush g) >>= λ v. give (numeric (stream_number v))) (λ x. does row.Flush (x, tt) >>= λ v. give (numeric (stream_number v))) (λ v. refl);
+  }
+
   pub get_from_is : (a : Code) (m : Doing Value) → Means a m → Means (Do AsNumber (one (host row.GetlineFile (one a)))) (m >>= λ x. does row.GetlineFile (x, tt) >>= λ v. give (numeric (input_number v)))
   unfolding evaluated all_evaluated
   get_from_is a m p = record {

@@ -299,6 +299,11 @@ module _ (scope : Scope) (n : ℕ) (calls : Calls) where
       x ← value_of t
       answer ← does row.Close (x, tt)
       give (numeric (stream_number answer))
+    applied builtin.Fflush NoTree = give (numeric zero_number)
+    applied builtin.Fflush (Then t ts) = do
+      x ← value_of t
+      answer ← does row.Flush (x, tt)
+      give (numeric (stream_number answer))
     -- other arguments stand in no well-formed tree, and `sprintf` is met above
     applied builtin.Substr ts = give value.Uninit
     applied builtin.Index ts = give value.Uninit
