@@ -21,7 +21,10 @@ use wasm_store::{TrapKind, Word};
 use world_core::World;
 
 /// The one value that words name, with its handle.
-pub(crate) fn only_value<'a>(handles: &'a Handles, words: &[Word]) -> Result<(i32, &'a Value), TrapKind>
+pub(crate) fn only_value<'a>(
+    handles: &'a Handles,
+    words: &[Word],
+) -> Result<(i32, &'a Value), TrapKind>
     ensures { lent_only result ≡ only_handle handles.now words.now }
 {
     let (handle, value, rest) = value_front(handles, words)?;
