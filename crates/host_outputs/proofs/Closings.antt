@@ -64,7 +64,7 @@ reading_named : (name : List ℕ) (rs : List NamedReader) (state : State) → is
 reading_named name [] state = refl
 reading_named name (r ∷ rs) state = reading_first name (same_text name r.name) _ (reader_named name (readers_in rs state)) _ (reading_named name rs state)
 
-code_by : (b : Bool) → I32 (stream_code (if b then stream.Done else stream.NotOpen)) ≡ closed_code b
+pub code_by : (b : Bool) → I32 (stream_code (if b then stream.Done else stream.NotOpen)) ≡ closed_code b
 code_by true = refl
 code_by false = refl
 

@@ -281,10 +281,7 @@ impl Import {
         !matches!(
             self,
             Import::Of(
-                Primitive::Uninit
-                | Primitive::NewArray
-                | Primitive::BeginEnd
-                | Primitive::NextFile
+                Primitive::Uninit | Primitive::NewArray | Primitive::BeginEnd | Primitive::NextFile
             )
         )
     }
