@@ -39,6 +39,10 @@ skip_trapped tells f words memory k none ends = silent_trap tells (Of row.NextFi
     let s = state_of (form_output o f) p in
     ap (λ (r : Result (Unit {0}) TrapKind). carry (Of row.NextFile) s (and_then r (λ end. Ok (end, s.names)))) ends)
 
+-- the same, with the state by another name
+pub given_as : (a b c : Inner) → next_file_row a ≡ (b, tt) → b ≡ c → next_file_row a ≡ (c, tt)
+given_as a b c row same = subst (λ (i : Inner). next_file_row a ≡ (i, tt)) same row
+
 -- What only the world knows is not seen: the names alone of files that are read, and of the main input what is its own.
 
 abbrev names_alone : List (List ℕ × Source) → List (List ℕ × Source)

@@ -31,14 +31,17 @@ skips_none (reading.File f) old new other same = same
 nothing_left : (r : Reader) (source : Source) → r.phase ≡ Ended → unread r ≡ [] → left r source ≡ record { rest = []; ending = End }
 nothing_left r source ended none = ap (λ p. left_in p (unread r) source) ended ∙ ap (λ (k : List ℕ). record { rest = k; ending = End }) none
 
+abbrev done_with : Inner → Inner × Unit {0}
+done_with i = (i, tt)
+
 -- the standard input, whose reader is at its end now
 pub skipped_standard : (m new : Mains) (s : Reader) (state later : State) (inner : Inner) → m.reading ≡ reading.Standard → s.phase ≡ Ended → unread s ≡ []
     → main_of new later ≡ idle (main_of (record m { standard = s }) state)
     → next_file_row (with_main (main_of m state) inner) ≡ (with_main (main_of new later) inner, tt)
 skipped_standard m new s state later inner e ended none told =
-    ap (λ r. (gives_up r (with_main (main_of m state) inner), tt)) (ap (λ r. reading_of r state) e)
-    ∙ ap (λ (x : Source). (with_main (idle (left_main Standard x (main_of m state))) inner, tt)) (sym (nothing_left s (state.readers s.id) ended none))
-    ∙ ap (λ (x : MainInput). (with_main x inner, tt)) (sym told)
+    ap (λ r. done_with (gives_up r (with_main (main_of m state) inner))) (ap (λ r. reading_of r state) e)
+    ∙ ap (λ (x : Source). done_with (with_main (idle (left_main Standard x (main_of m state))) inner)) (sym (nothing_left s (state.readers s.id) ended none))
+    ∙ ap (λ (x : MainInput). done_with (with_main x inner)) (sym told)
 
 given_up : (m : Mains) (state : State) (inner : Inner) (r : Reading) → m.reading ≡ r → r ≢ reading.Standard
     → gives_up (reading_of r state) (with_main (main_of m state) inner) ≡ with_main (idle (main_of m state)) inner
@@ -50,4 +53,4 @@ given_up m state inner (reading.File f) e other = refl
 pub skipped_file : (m new : Mains) (state later : State) (inner : Inner) → m.reading ≢ reading.Standard → main_of new later ≡ idle (main_of m state)
     → next_file_row (with_main (main_of m state) inner) ≡ (with_main (main_of new later) inner, tt)
 skipped_file m new state later inner other told =
-    ap (λ (i : Inner). (i, tt)) (given_up m state inner m.reading refl other) ∙ ap (λ (x : MainInput). (with_main x inner, tt)) (sym told)
+    ap done_with (given_up m state inner m.reading refl other) ∙ ap (λ (x : MainInput). done_with (with_main x inner)) (sym told)

@@ -1,6 +1,6 @@
 //! Finding imports.
 ghost use Rattle.std.specs.Prelude.{◌≡◌, ◌<◌, IfOk, IfSome, Some, map, option_copied, slice_get};
-ghost use Rattle.host_step.specs.Imports.{host_finds, host_types, import_type, number_named, params_of, result_of, with_type, words_of};
+ghost use Rattle.host_step.specs.Imports.{host_finds, host_types, import_type, imports_in, number_below, number_named, params_of, result_of, with_type, words_of};
 ghost use Rattle.import_links.specs.Links.{signature_if};
 ghost use Rattle.machine_model.specs.Hosts.{found_as};
 ghost use Rattle.wasm_types.specs.View.{signature_of};
@@ -82,6 +82,19 @@ fn place_named(name: &[u8]) -> Option<usize>
         .position(|import| import.name().as_bytes() == name)
 }
 
+/// The same, where a module of this name has that import.
+fn place_in(from: &[u8], name: &[u8]) -> Option<usize>
+    ensures among { result ≡ number_below (imports_in from.now) (number_named name.now) }
+    ensures within { IfSome result (λ place. place < 56) }
+{
+    let place = place_named(name)?;
+    if place < imports_in(from) {
+        Some(place)
+    } else {
+        None
+    }
+}
+
 fn type_in(types: &[FuncType], number: usize) -> Option<&FuncType>
     ensures { option_copied result ≡ slice_get types.now number }
 {
@@ -126,10 +139,6 @@ impl Links {
     pub fn find(&self, from: &[u8], name: &[u8]) -> Option<(u32, &FuncType)>
         ensures { found_as result ≡ host_finds from.now name.now }
     {
-        let place = place_named(name)?;
-        if place >= imports_in(from) {
-            return None;
-        }
-        self.at(place)
+        self.at(place_in(from, name)?)
     }
 }
