@@ -159,7 +159,7 @@ export class Module {
 
   addImports(wanted) {
     for (const [name, type] of Object.entries(wanted)) {
-      if (!this.imports.some((it) => it.name === name)) this.imports.push({ from: "awk1", name, kind: 0, type: this.types.push(type) - 1 });
+      if (!this.imports.some((it) => it.name === name)) this.imports.push({ from: "awk2", name, kind: 0, type: this.types.push(type) - 1 });
     }
     const added = this.imports.length - this.own;
     this.renumber((place) => (place < this.own ? place : place + added));

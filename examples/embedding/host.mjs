@@ -1,4 +1,4 @@
-// A small host for modules that awkwasm compiled: the 53 imports of module `awk1`, over the files of the machine.
+// A small host for modules that awkwasm compiled: the imports of the modules `awk1` (53) and `awk2` (56), over the files of the machine.
 //
 //     node host.mjs [-v NAME=TEXT].. MODULE WORDS..
 //
@@ -311,6 +311,12 @@ export class Host {
     return wasOpen ? 0 : 3;
   }
 
+  /** All that was printed is out by now; the empty text names all files. */
+  flush(value) {
+    const name = textOf(value);
+    return name === "" || this.writers.has(name) ? 0 : 3;
+  }
+
   // Names.
 
   declare(name, kind) {
@@ -407,6 +413,9 @@ export class Host {
       drop: ["h", "-", () => {}],
       iter_free: ["r", "-", (t) => { this.iterators.take(t); }],
       free_array: ["r", "-", (a) => this.freeArray(a)],
+      next_file: ["", "c", () => this.main.skip()],
+      clear: ["a", "c", (a) => a.clear()],
+      flush: ["h", "i", (v) => this.flush(v)],
     };
   }
 
@@ -470,8 +479,11 @@ export class Host {
     }
   }
 
+  /** The imports by the names of their modules: `awk1` has all but those that came later. */
   imports() {
-    return Object.fromEntries(Object.entries(this.table()).map(([name, row]) => [name, (...words) => this.call(name, row, words)]));
+    const awk2 = Object.fromEntries(Object.entries(this.table()).map(([name, row]) => [name, (...words) => this.call(name, row, words)]));
+    const { next_file: _skip, clear: _clear, flush: _flush, ...awk1 } = awk2;
+    return { awk1, awk2 };
   }
 }
 
@@ -534,7 +546,7 @@ function endOf(error) {
  */
 export function runModule(bytes, job, io, host = new Host(job, io)) {
   const module = bytes instanceof WebAssembly.Module ? bytes : moduleOf(bytes);
-  const instance = new WebAssembly.Instance(module, { awk1: host.imports() });
+  const instance = new WebAssembly.Instance(module, host.imports());
   host.memory = instance.exports.memory;
   let result;
   try {

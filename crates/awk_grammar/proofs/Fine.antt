@@ -7,7 +7,7 @@ use Rattle.awk_grammar.specs.Token.{Not, Signed, Less as LessMark, LessEqual, Eq
 use Rattle.awk_grammar.specs.Tree.{Op, Join, Add, Other as Infixed, Tree, Leaf, Length, Var, Index, Field, Group, Call, Apply, Unary, Pre, Post, Bin, Has, HasList, Cond, Get, GetInto, GetFrom, GetIntoFrom, Trees, NoTree, Then, op_tokens, print, op_left, op_right, op_allowed, level, edge, is_field, fits, class_at, takes, suits, StartsOperand, MayJoin, IsSome, IsWellFormed, AreWellFormed}
 use Rattle.awk_grammar.specs.Shape.{view_next, head_of, behind, is_sign, may_join}
 use Rattle.awk_grammar.specs.WellFormed.{joins, is_some_tree, well_formed, all_well_formed, are_args, is_target, is_plain, is_maybe, is_maybe_plain, is_stmt, are_stmts, is_pattern, is_item, is_script}
-use Rattle.awk_grammar.specs.Stmt.{Printing, Print, Printf, Args, NoArgs, Listed, Enclosed, Target, NoTarget, Written, Appended, Plain, Eval, Put, Delete, Stmt, Block, Empty, Simple, If, IfElse, While, Do, For, ForIn, Jumping, Leave, Stmts, NoStmt, And, IsArgs, IsTarget, IsPlain, IsMaybe, IsMaybePlain, dangles, IsStmt, AreStmts}
+use Rattle.awk_grammar.specs.Stmt.{Printing, Print, Printf, Args, NoArgs, Listed, Enclosed, Target, NoTarget, Written, Appended, Plain, Eval, Put, Delete, Clear, Stmt, Block, Empty, Simple, If, IfElse, While, Do, For, ForIn, Jumping, Leave, Stmts, NoStmt, And, IsArgs, IsTarget, IsPlain, IsMaybe, IsMaybePlain, dangles, IsStmt, AreStmts}
 use Rattle.awk_grammar.specs.Item.{Pattern, One, Between, Item, Function, Begin, End, Always, When, Lone, Nothing, IsPattern, IsItem, IsScript}
 use Rattle.awk_grammar.specs.declared.shape.Next.{Next}
 
@@ -213,11 +213,13 @@ plain_fine : (p : Plain) → is_plain p ≡ true → IsPlain p
 plain_fine (Eval t) e = fine true t e
 plain_fine (Put p a t) e = let h = both (are_args p a) (is_target t) e in (args_fine p a h.0, target_fine t h.1)
 plain_fine (Delete n ts) e = let h = both (is_some_tree ts) (all_well_formed true ts) e in (all_fine true ts h.1, some_fine ts h.0)
+plain_fine (Clear n) e = tt
 
 plain_test : (p : Plain) → IsPlain p → is_plain p ≡ true
 plain_test (Eval t) h = test true t h
 plain_test (Put p a t) h = and_yes (are_args p a) (is_target t) (args_test p a h.0) (target_test t h.1)
 plain_test (Delete n ts) h = and_yes (is_some_tree ts) (all_well_formed true ts) (some_test ts h.1) (all_test true ts h.0)
+plain_test (Clear n) h = refl
 
 maybe_fine : (o : Option Tree) → is_maybe o ≡ true → IsMaybe o
 maybe_fine None e = tt

@@ -1,10 +1,10 @@
 -- Statements that are well formed and not too deep are read.
 use Rattle.std.proofs.Common.{◌≡◌, ℕ, zero, suc, ◌<◌, ◌≤◌, max, Bool, true, false, cond, List, [], ◌∷◌, ◌++◌, length, Option, Some, None, Result, Ok, Err, refl, sym, ap, ◌∙◌, append_assoc, arith, length-append}
-use Rattle.awk_grammar.specs.Token.{Not, Signed, IfWord, ElseWord, WhileWord, ForWord, DoWord, BreakWord, ContinueWord, NextWord, ExitWord, ReturnWord, Token, Name, InWord, Open, Close, CloseBracket, OpenBrace, CloseBrace, Comma, Semicolon, Question, Colon, StepMark, Key, Fault, Syntax}
+use Rattle.awk_grammar.specs.Token.{Not, Signed, IfWord, ElseWord, WhileWord, ForWord, DoWord, BreakWord, ContinueWord, NextWord, NextFileWord, ExitWord, ReturnWord, Token, Name, InWord, Open, Close, CloseBracket, OpenBrace, CloseBrace, Comma, Semicolon, Question, Colon, StepMark, Key, Fault, Syntax}
 use Rattle.awk_grammar.specs.Tree.{Tree, Var, Group, Unary, Post, Bin, Has, HasList, Cond, Trees, NoTree, Then, op_tokens, print, print_list, print_more, Whole, AfterCompare, fits, takes, IsWellFormed, depth}
 use Rattle.awk_grammar.specs.Reading.{◌>>=◌, Reader, close_at, bracket_at, comma_at, list_at, expr_at}
-use Rattle.awk_grammar.specs.Stmt.{Printing, Print, Printf, Args, NoArgs, Listed, Enclosed, Target, NoTarget, Written, Appended, Plain, Eval, Put, Delete, Jump, Break, Continue, Next, Leaving, Exit, Return, Stmt, Block, Empty, Simple, If, IfElse, While, Do, For, ForIn, Jumping, Leave, Stmts, NoStmt, And, print_args, print_target, print_plain, print_maybe, print_maybe_plain, print_stmt, print_stmts, IsArgs, IsTarget, IsPlain, IsMaybe, IsMaybePlain, dangles, IsStmt, AreStmts, args_depth, target_depth, plain_depth, maybe_depth, maybe_plain_depth, stmt_depth, stmts_depth}
-use Rattle.awk_grammar.specs.ReadStmt.{Read, semicolon_at, while_at, else_at, brace_at, is_in, starts_expr, starts_plain, enclosed_at, listed_at, args_by, no_args, args_at, target_at, put_at, eval_at, plain_at, maybe_at, maybe_plain_at, StmtReader, stmts_by, stmts_at, condition_at, else_by, if_at, loop_at, do_at, keys_at, for_by, leave_at, simple_at, block_at, one_at, stmt_at}
+use Rattle.awk_grammar.specs.Stmt.{Printing, Print, Printf, Args, NoArgs, Listed, Enclosed, Target, NoTarget, Written, Appended, Plain, Eval, Put, Delete, Clear, Jump, Break, Continue, Next, NextFile, Leaving, Exit, Return, Stmt, Block, Empty, Simple, If, IfElse, While, Do, For, ForIn, Jumping, Leave, Stmts, NoStmt, And, print_args, print_target, print_plain, print_maybe, print_maybe_plain, print_stmt, print_stmts, IsArgs, IsTarget, IsPlain, IsMaybe, IsMaybePlain, dangles, IsStmt, AreStmts, args_depth, target_depth, plain_depth, maybe_depth, maybe_plain_depth, stmt_depth, stmts_depth}
+use Rattle.awk_grammar.specs.ReadStmt.{Read, semicolon_at, while_at, else_at, brace_at, is_in, starts_expr, starts_plain, enclosed_at, listed_at, args_by, no_args, args_at, target_at, put_at, delete_by, eval_at, plain_at, maybe_at, maybe_plain_at, StmtReader, stmts_by, stmts_at, condition_at, else_by, if_at, loop_at, do_at, keys_at, for_by, leave_at, simple_at, block_at, one_at, stmt_at}
 use Rattle.awk_grammar.proofs.Complete.{Closing, reads, reads_whole, again, again_list, some_not_none, takes_free}
 
 -- ---- beginnings
@@ -37,6 +37,7 @@ is_simple expr stmt (Key ForWord ∷ ts) h = absurd cc
 is_simple expr stmt (Key BreakWord ∷ ts) h = absurd cc
 is_simple expr stmt (Key ContinueWord ∷ ts) h = absurd cc
 is_simple expr stmt (Key NextWord ∷ ts) h = absurd cc
+is_simple expr stmt (Key NextFileWord ∷ ts) h = absurd cc
 is_simple expr stmt (Key ExitWord ∷ ts) h = absurd cc
 is_simple expr stmt (Key ReturnWord ∷ ts) h = absurd cc
 is_simple expr stmt _ h = refl
@@ -54,12 +55,13 @@ pub record PlainEnd (rest : List Token) : Type 0 where
   pub plain : starts_plain rest ≡ false
   pub not_in : is_in rest ≡ false
   pub target : (expr : Reader) → target_at expr rest ≡ Ok (NoTarget, rest)
+  pub whole : (expr : Reader) (n : List ℕ) → delete_by expr n rest ≡ Ok (Clear n, rest)
 
 pub semicolon_end : (r : List Token) → PlainEnd (Semicolon ∷ r)
-semicolon_end r = record { wide = record { none = refl; free = refl }; narrow = record { none = refl; free = refl }; comma = refl; starts = refl; plain = refl; not_in = refl; target = λ e. refl }
+semicolon_end r = record { wide = record { none = refl; free = refl }; narrow = record { none = refl; free = refl }; comma = refl; starts = refl; plain = refl; not_in = refl; target = λ e. refl; whole = λ e n. refl }
 
 close_end : (r : List Token) → PlainEnd (Close ∷ r)
-close_end r = record { wide = record { none = refl; free = refl }; narrow = record { none = refl; free = refl }; comma = refl; starts = refl; plain = refl; not_in = refl; target = λ e. refl }
+close_end r = record { wide = record { none = refl; free = refl }; narrow = record { none = refl; free = refl }; comma = refl; starts = refl; plain = refl; not_in = refl; target = λ e. refl; whole = λ e n. refl }
 
 -- ---- print
 
@@ -149,13 +151,15 @@ plain_again (Put Printf a t) d rest f s e = put_again Printf a t d rest f.0 f.1 
 plain_again (Delete n ts) d rest f s e =
     let one : list_at (expr_at d) true (print_list ts ++ (CloseBracket ∷ rest)) ≡ Ok (ts, CloseBracket ∷ rest) = again_list ts f.1 d true (CloseBracket ∷ rest) f.0 (omega arith) (record { none = refl; free = refl }) refl in
     let all : list_at (expr_at d) true ((print_list ts ++ (CloseBracket ∷ [])) ++ rest) ≡ Ok (ts, CloseBracket ∷ rest) = rw append_assoc one in
-    ap (λ (q : Read Trees). q >>= λ x. bracket_at x.1 >>= λ vs. Ok (Delete n x.0, vs)) all
+    ap (λ (q : Read Trees). q >>= λ x. bracket_at x.1 >>= λ us. Ok (Delete n x.0, us)) all
+plain_again (Clear n) d rest f s e = e.whole (expr_at d) n
 
 starts_plain_print : (p : Plain) (r : List Token) → starts_plain (print_plain p ++ r) ≡ true
 starts_plain_print (Eval t) r = expr_plain (print t ++ r) (starts_print t r)
 starts_plain_print (Put Print a t) r = refl
 starts_plain_print (Put Printf a t) r = refl
 starts_plain_print (Delete n ts) r = refl
+starts_plain_print (Clear n) r = refl
 
 maybe_again : (e : Option Tree) (d : ℕ) (rest : List Token) → IsMaybe e → maybe_depth e ≤ d → PlainEnd rest → maybe_at (expr_at d) (print_maybe e ++ rest) ≡ Ok (e, rest)
 maybe_again None d rest f s e = rw e.starts refl
@@ -204,6 +208,7 @@ keys_none (Some (Eval t)) r f = keys_eval t r f
 keys_none (Some (Put Print a t)) r f = refl
 keys_none (Some (Put Printf a t)) r f = refl
 keys_none (Some (Delete n ts)) r f = refl
+keys_none (Some (Clear n)) r f = refl
 
 -- ---- statements
 
@@ -247,6 +252,7 @@ stmt_jump : (j : Jump) → AgainBelow (Jumping j)
 stmt_jump Break d rest f m e = refl
 stmt_jump Continue d rest f m e = refl
 stmt_jump Next d rest f m e = refl
+stmt_jump NextFile d rest f m e = refl
 
 leave_again : (l : Leaving) (x : Option Tree) (d : ℕ) (rest : List Token) → IsMaybe x → maybe_depth x ≤ d → leave_at (expr_at d) l ((print_maybe x ++ (Semicolon ∷ [])) ++ rest) ≡ Ok (Leave l x, rest)
 leave_again l x d rest f m =
@@ -342,6 +348,7 @@ stmt_no_brace (Simple p) r = ap brace_at (append_assoc (print_plain p) (Semicolo
 stmt_no_brace (Jumping Break) r = refl
 stmt_no_brace (Jumping Continue) r = refl
 stmt_no_brace (Jumping Next) r = refl
+stmt_no_brace (Jumping NextFile) r = refl
 stmt_no_brace (Leave Exit e) r = refl
 stmt_no_brace (Leave Return e) r = refl
 stmt_no_brace _ r = refl
@@ -355,6 +362,7 @@ stmt_no_else (Simple p) r = ap else_at (append_assoc (print_plain p) (Semicolon 
 stmt_no_else (Jumping Break) r = refl
 stmt_no_else (Jumping Continue) r = refl
 stmt_no_else (Jumping Next) r = refl
+stmt_no_else (Jumping NextFile) r = refl
 stmt_no_else (Leave Exit e) r = refl
 stmt_no_else (Leave Return e) r = refl
 stmt_no_else _ r = refl

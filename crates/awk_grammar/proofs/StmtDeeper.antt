@@ -1,11 +1,11 @@
 -- With more depth allowed, only what was too deep is read otherwise: statements and scripts.
 use Rattle.std.proofs.Common.{◌≡◌, ℕ, zero, suc, ◌+◌, ◌≤◌, max, Bool, true, false, List, [], ◌∷◌, length, Option, Some, None, Result, Ok, Err, inl, inr, refl, arith}
 use Rattle.std.specs.Prelude.{if◌then◌else◌}
-use Rattle.awk_grammar.specs.Token.{Greater, Compare, BeginWord, EndWord, FunctionWord, IfWord, WhileWord, ForWord, DoWord, BreakWord, ContinueWord, NextWord, ExitWord, ReturnWord, DeleteWord, PrintWord, PrintfWord, Token, Name, OpenBrace, Semicolon, Infix, Append, Key, Fault, Syntax, TooDeep}
+use Rattle.awk_grammar.specs.Token.{Greater, Compare, BeginWord, EndWord, FunctionWord, IfWord, WhileWord, ForWord, DoWord, BreakWord, ContinueWord, NextWord, NextFileWord, ExitWord, ReturnWord, DeleteWord, PrintWord, PrintfWord, Token, Name, OpenBracket, OpenBrace, Semicolon, Infix, Append, Key, Fault, Syntax, TooDeep}
 use Rattle.awk_grammar.specs.Tree.{Tree, Trees, Whole, AfterCompare}
 use Rattle.awk_grammar.specs.Reading.{◌>>=◌, Reader, close_at, bracket_at, name_at, comma_at, list_at, expr_at}
 use Rattle.awk_grammar.specs.Stmt.{Printing, Print, Printf, Listed, Written, Appended, Eval, Put, Delete, Leaving, Exit, Return, Stmt, Block, Simple, IfElse, While, Do, For, ForIn, Leave, And}
-use Rattle.awk_grammar.specs.ReadStmt.{Read, open_here, bracket_here, comma_here, semicolon_at, while_at, else_at, brace_at, is_in, starts_expr, starts_plain, enclosed_at, listed_at, args_by, no_args, args_at, target_at, put_at, delete_at, eval_at, plain_at, maybe_at, maybe_plain_at, StmtReader, stmts_by, stmts_at, condition_at, else_by, if_at, loop_at, do_at, keys_at, for_by, for_at, leave_at, simple_at, one_at, stmt_at}
+use Rattle.awk_grammar.specs.ReadStmt.{Read, open_here, comma_here, semicolon_at, while_at, else_at, brace_at, is_in, starts_expr, starts_plain, enclosed_at, listed_at, args_by, no_args, args_at, target_at, put_at, delete_by, delete_at, eval_at, plain_at, maybe_at, maybe_plain_at, StmtReader, stmts_by, stmts_at, condition_at, else_by, if_at, loop_at, do_at, keys_at, for_by, for_at, leave_at, simple_at, one_at, stmt_at}
 use Rattle.awk_grammar.specs.Item.{Pattern, Between, Item, Function, Begin, End, Always, When, IsScript, print_script, script_depth}
 use Rattle.awk_grammar.specs.ReadItem.{body_at, params_at, function_by, function_at, pattern_by, pattern_at, action_at, rule_at, item_at, items_at, script_at}
 use Rattle.awk_grammar.proofs.Deeper.{Below, AreBelow, bind_below, then_below, list_below, expr_below}
@@ -41,8 +41,12 @@ target_below e f h ts = inr refl
 put_below : (e f : Reader) → AreBelow e f → (p : Printing) (ts : List Token) → Below (put_at e p ts) (put_at f p ts)
 put_below e f h p ts = bind_below (args_at e p ts) (args_at f p ts) (λ x. target_at e x.1 >>= λ y. Ok (Put p x.0 y.0, y.1)) (λ x. target_at f x.1 >>= λ y. Ok (Put p x.0 y.0, y.1)) (args_below e f h p ts) (λ x. then_below (target_at e x.1) (target_at f x.1) (λ y. Ok (Put p x.0 y.0, y.1)) (target_below e f h x.1))
 
+delete_by_below : (e f : Reader) → AreBelow e f → (n : List ℕ) (ts : List Token) → Below (delete_by e n ts) (delete_by f n ts)
+delete_by_below e f h n (OpenBracket ∷ ts) = then_below (list_at e true ts) (list_at f true ts) (λ x. bracket_at x.1 >>= λ us. Ok (Delete n x.0, us)) (list_below e f h true ts)
+delete_by_below e f h n ts = inr refl
+
 delete_below : (e f : Reader) → AreBelow e f → (ts : List Token) → Below (delete_at e ts) (delete_at f ts)
-delete_below e f h ts = bind_below (name_at ts) (name_at ts) (λ n. bracket_here n.1 >>= λ us. list_at e true us >>= λ x. bracket_at x.1 >>= λ vs. Ok (Delete n.0 x.0, vs)) (λ n. bracket_here n.1 >>= λ us. list_at f true us >>= λ x. bracket_at x.1 >>= λ vs. Ok (Delete n.0 x.0, vs)) (inr refl) (λ n. bind_below (bracket_here n.1) (bracket_here n.1) (λ us. list_at e true us >>= λ x. bracket_at x.1 >>= λ vs. Ok (Delete n.0 x.0, vs)) (λ us. list_at f true us >>= λ x. bracket_at x.1 >>= λ vs. Ok (Delete n.0 x.0, vs)) (inr refl) (λ us. then_below (list_at e true us) (list_at f true us) (λ x. bracket_at x.1 >>= λ vs. Ok (Delete n.0 x.0, vs)) (list_below e f h true us)))
+delete_below e f h ts = bind_below (name_at ts) (name_at ts) (λ n. delete_by e n.0 n.1) (λ n. delete_by f n.0 n.1) (inr refl) (λ n. delete_by_below e f h n.0 n.1)
 
 eval_below : (e f : Reader) → AreBelow e f → (ts : List Token) → Below (eval_at e ts) (eval_at f ts)
 eval_below e f h ts = then_below (e true Whole ts) (f true Whole ts) (λ x. Ok (Eval x.0, x.1)) (h true Whole ts)
@@ -106,6 +110,7 @@ one_below e f h s t k (Key ForWord ∷ ts) = for_below e f h s t k ts
 one_below e f h s t k (Key BreakWord ∷ ts) = inr refl
 one_below e f h s t k (Key ContinueWord ∷ ts) = inr refl
 one_below e f h s t k (Key NextWord ∷ ts) = inr refl
+one_below e f h s t k (Key NextFileWord ∷ ts) = inr refl
 one_below e f h s t k (Key ExitWord ∷ ts) = leave_below e f h Exit ts
 one_below e f h s t k (Key ReturnWord ∷ ts) = leave_below e f h Return ts
 one_below e f h s t k ts = simple_below e f h ts

@@ -1,10 +1,10 @@
 -- What is read is a well formed statement, and printed so.
 use Rattle.std.proofs.Common.{◌≡◌, ℕ, zero, suc, ◌+◌, ◌≤◌, max, Bool, true, false, cond, List, [], ◌∷◌, ◌++◌, length, Option, Some, None, Ok, Err, refl, sym, ap, subst, ◌∙◌, append_assoc, arith}
-use Rattle.awk_grammar.specs.Token.{Greater, Compare, IfWord, ElseWord, WhileWord, ForWord, DoWord, BreakWord, ContinueWord, NextWord, ExitWord, ReturnWord, DeleteWord, PrintWord, PrintfWord, Token, Name, InWord, Open, Close, OpenBracket, CloseBracket, OpenBrace, CloseBrace, Comma, Semicolon, Infix, Append, Key, Syntax, TooDeep}
+use Rattle.awk_grammar.specs.Token.{Greater, Compare, IfWord, ElseWord, WhileWord, ForWord, DoWord, BreakWord, ContinueWord, NextWord, NextFileWord, ExitWord, ReturnWord, DeleteWord, PrintWord, PrintfWord, Token, Name, InWord, Open, Close, OpenBracket, CloseBracket, OpenBrace, CloseBrace, Comma, Semicolon, Infix, Append, Key, Syntax, TooDeep}
 use Rattle.awk_grammar.specs.Tree.{Tree, Trees, print, print_list, Whole, AfterCompare, IsSome, IsWellFormed, AreWellFormed, depth, depths}
 use Rattle.awk_grammar.specs.Reading.{◌>>=◌, Reader, close_at, bracket_at, name_at, list_at, expr_at}
-use Rattle.awk_grammar.specs.Stmt.{Printing, Print, Printf, Args, NoArgs, Listed, Enclosed, Target, NoTarget, Written, Appended, Plain, Eval, Put, Delete, Jump, Break, Continue, Next, Leaving, Exit, Return, Stmt, Block, Empty, Simple, If, IfElse, While, Do, For, ForIn, Jumping, Leave, Stmts, NoStmt, And, printing_token, print_args, print_target, print_plain, print_maybe, print_maybe_plain, jump_token, leaving_token, print_stmt, print_stmts, IsArgs, IsTarget, IsPlain, IsMaybe, IsMaybePlain, dangles, IsStmt, AreStmts, args_depth, target_depth, plain_depth, maybe_depth, maybe_plain_depth, stmt_depth, stmts_depth}
-use Rattle.awk_grammar.specs.ReadStmt.{Read, open_here, bracket_here, comma_here, semicolon_at, while_at, else_at, brace_at, is_in, starts_expr, starts_plain, enclosed_at, listed_at, args_by, no_args, args_at, target_at, put_at, delete_at, eval_at, plain_at, maybe_at, maybe_plain_at, StmtReader, stmts_by, stmts_at, condition_at, else_by, if_at, loop_at, do_at, keys_at, for_by, for_at, leave_at, jump_at, simple_at, block_at, one_at, stmt_at}
+use Rattle.awk_grammar.specs.Stmt.{Printing, Print, Printf, Args, NoArgs, Listed, Enclosed, Target, NoTarget, Written, Appended, Plain, Eval, Put, Delete, Clear, Jump, Break, Continue, Next, NextFile, Leaving, Exit, Return, Stmt, Block, Empty, Simple, If, IfElse, While, Do, For, ForIn, Jumping, Leave, Stmts, NoStmt, And, printing_token, print_args, print_target, print_plain, print_maybe, print_maybe_plain, jump_token, leaving_token, print_stmt, print_stmts, IsArgs, IsTarget, IsPlain, IsMaybe, IsMaybePlain, dangles, IsStmt, AreStmts, args_depth, target_depth, plain_depth, maybe_depth, maybe_plain_depth, stmt_depth, stmts_depth}
+use Rattle.awk_grammar.specs.ReadStmt.{Read, open_here, comma_here, semicolon_at, while_at, else_at, brace_at, is_in, starts_expr, starts_plain, enclosed_at, listed_at, args_by, no_args, args_at, target_at, put_at, delete_by, delete_at, eval_at, plain_at, maybe_at, maybe_plain_at, StmtReader, stmts_by, stmts_at, condition_at, else_by, if_at, loop_at, do_at, keys_at, for_by, for_at, leave_at, jump_at, simple_at, block_at, one_at, stmt_at}
 use Rattle.awk_grammar.proofs.Sound.{bind_ok, guard_ok, IsSound, IsOk, ok_is, that_is, cons, close_ok, bracket_ok, name_ok, list_sound, expr_sound, regroup2}
 use Rattle.awk_grammar.proofs.StmtComplete.{keys_ok}
 
@@ -17,10 +17,6 @@ pub record Told {A : Type 0} (size : A → ℕ) (d : ℕ) (printed : A → List 
 pub open_here_ok : (ts us : List Token) → open_here ts ≡ Ok us → ts ≡ Open ∷ us
 open_here_ok (Open ∷ ts) us e = ap (cons Open) (ok_is ts us e)
 open_here_ok _ us e = absurd cc
-
-bracket_here_ok : (ts us : List Token) → bracket_here ts ≡ Ok us → ts ≡ OpenBracket ∷ us
-bracket_here_ok (OpenBracket ∷ ts) us e = ap (cons OpenBracket) (ok_is ts us e)
-bracket_here_ok _ us e = absurd cc
 
 comma_here_ok : (ts us : List Token) → comma_here ts ≡ Ok us → ts ≡ Comma ∷ us
 comma_here_ok (Comma ∷ ts) us e = ap (cons Comma) (ok_is ts us e)
@@ -116,15 +112,22 @@ put_sound d expr h p ts x e =
     let q : printing_token p ∷ ts ≡ print_plain (Put p a.0.0 b.0.0) ++ b.0.1 = ap (cons (printing_token p)) (s.parts ∙ ap (λ (u : List Token). print_args a.0.0 ++ u) t.parts ∙ regroup2 (print_args a.0.0) (print_target b.0.0) b.0.1) in
     subst (Told plain_depth d print_plain IsPlain (printing_token p ∷ ts)) (ok_is (Put p a.0.0 b.0.0, b.0.1) x b.2) (record { parts = q; fine = (s.fine, t.fine); small = omega arith })
 
+clear_told : (d : ℕ) (n : List ℕ) (ts : List Token) (x : Plain × List Token) → IsOk (Clear n, ts) ≡ Ok x → Told plain_depth d print_plain IsPlain (Key DeleteWord ∷ (Name n ∷ ts)) x
+clear_told d n ts x e = subst (Told plain_depth d print_plain IsPlain (Key DeleteWord ∷ (Name n ∷ ts))) (ok_is (Clear n, ts) x e) (record { parts = refl; fine = tt; small = omega arith })
+
+delete_by_sound : (d : ℕ) (expr : Reader) → IsSound d expr → (n : List ℕ) (ts : List Token) (x : Plain × List Token) → delete_by expr n ts ≡ Ok x → Told plain_depth d print_plain IsPlain (Key DeleteWord ∷ (Name n ∷ ts)) x
+delete_by_sound d expr h n (OpenBracket ∷ ts) x e =
+    let l = bind_ok (list_at expr true ts) (λ x. bracket_at x.1 >>= λ us. Ok (Delete n x.0, us)) x e in
+    let b = bind_ok (bracket_at l.0.1) (λ us. Ok (Delete n l.0.0, us)) x l.2 in
+    let m = list_sound d expr h true ts l.0 l.1 in
+    let q : Key DeleteWord ∷ (Name n ∷ (OpenBracket ∷ ts)) ≡ print_plain (Delete n l.0.0) ++ b.0 = ap (λ (u : List Token). Key DeleteWord ∷ (Name n ∷ (OpenBracket ∷ u))) (m.parts ∙ ap (λ (u : List Token). print_list l.0.0 ++ u) (bracket_ok l.0.1 b.0 b.1) ∙ regroup2 (print_list l.0.0) (CloseBracket ∷ []) b.0) in
+    subst (Told plain_depth d print_plain IsPlain (Key DeleteWord ∷ (Name n ∷ (OpenBracket ∷ ts)))) (ok_is (Delete n l.0.0, b.0) x b.2) (record { parts = q; fine = (m.fine, m.some); small = omega arith })
+delete_by_sound d expr h n ts x e = clear_told d n ts x e
+
 delete_sound : (d : ℕ) (expr : Reader) → IsSound d expr → (ts : List Token) (x : Plain × List Token) → delete_at expr ts ≡ Ok x → Told plain_depth d print_plain IsPlain (Key DeleteWord ∷ ts) x
 delete_sound d expr h ts x e =
-    let n = bind_ok (name_at ts) (λ n. bracket_here n.1 >>= λ us. list_at expr true us >>= λ x. bracket_at x.1 >>= λ vs. Ok (Delete n.0 x.0, vs)) x e in
-    let a = bind_ok (bracket_here n.0.1) (λ us. list_at expr true us >>= λ x. bracket_at x.1 >>= λ vs. Ok (Delete n.0.0 x.0, vs)) x n.2 in
-    let l = bind_ok (list_at expr true a.0) (λ x. bracket_at x.1 >>= λ vs. Ok (Delete n.0.0 x.0, vs)) x a.2 in
-    let b = bind_ok (bracket_at l.0.1) (λ vs. Ok (Delete n.0.0 l.0.0, vs)) x l.2 in
-    let m = list_sound d expr h true a.0 l.0 l.1 in
-    let q : Key DeleteWord ∷ ts ≡ print_plain (Delete n.0.0 l.0.0) ++ b.0 = ap (cons (Key DeleteWord)) (name_ok ts n.0 n.1 ∙ ap (cons (Name n.0.0)) (bracket_here_ok n.0.1 a.0 a.1 ∙ ap (cons OpenBracket) (m.parts ∙ ap (λ (u : List Token). print_list l.0.0 ++ u) (bracket_ok l.0.1 b.0 b.1) ∙ regroup2 (print_list l.0.0) (CloseBracket ∷ []) b.0))) in
-    subst (Told plain_depth d print_plain IsPlain (Key DeleteWord ∷ ts)) (ok_is (Delete n.0.0 l.0.0, b.0) x b.2) (record { parts = q; fine = (m.fine, m.some); small = omega arith })
+    let n = bind_ok (name_at ts) (λ n. delete_by expr n.0 n.1) x e in
+    subst (λ (u : List Token). Told plain_depth d print_plain IsPlain (Key DeleteWord ∷ u) x) (sym (name_ok ts n.0 n.1)) (delete_by_sound d expr h n.0.0 n.0.1 x n.2)
 
 eval_sound : (d : ℕ) (expr : Reader) → IsSound d expr → (ts : List Token) (x : Plain × List Token) → eval_at expr ts ≡ Ok x → Told plain_depth d print_plain IsPlain ts x
 eval_sound d expr h ts x e =
@@ -367,6 +370,7 @@ one_sound d expr stmt h k (Key ForWord ∷ ts) x e = for_sound d expr stmt h k t
 one_sound d expr stmt h k (Key BreakWord ∷ ts) x e = jump_sound d Break ts x e
 one_sound d expr stmt h k (Key ContinueWord ∷ ts) x e = jump_sound d Continue ts x e
 one_sound d expr stmt h k (Key NextWord ∷ ts) x e = jump_sound d Next ts x e
+one_sound d expr stmt h k (Key NextFileWord ∷ ts) x e = jump_sound d NextFile ts x e
 one_sound d expr stmt h k (Key ExitWord ∷ ts) x e = leave_sound d expr h Exit ts x e
 one_sound d expr stmt h k (Key ReturnWord ∷ ts) x e = leave_sound d expr h Return ts x e
 one_sound d expr stmt h k ts x e = simple_sound d expr h ts x e

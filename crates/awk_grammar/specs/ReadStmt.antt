@@ -1,9 +1,9 @@
 -- Reading statements from the front of the tokens.
 use Rattle.std.specs.Prelude.{ℕ, zero, suc, List, ◌∷◌, length, Option, Some, None, Result, Ok, Err, Bool, true, false, if◌then◌else◌}
-use Rattle.awk_grammar.specs.Token.{Greater, Compare, IfWord, ElseWord, WhileWord, ForWord, DoWord, BreakWord, ContinueWord, NextWord, ExitWord, ReturnWord, DeleteWord, PrintWord, PrintfWord, Token, Lit, Name, FuncName, Word, GetlineWord, InWord, Dollar, Open, Close, OpenBracket, OpenBrace, CloseBrace, Comma, Semicolon, SignMark, NotMark, StepMark, Infix, Append, Key, Fault, Syntax, TooDeep}
+use Rattle.awk_grammar.specs.Token.{Greater, Compare, IfWord, ElseWord, WhileWord, ForWord, DoWord, BreakWord, ContinueWord, NextWord, NextFileWord, ExitWord, ReturnWord, DeleteWord, PrintWord, PrintfWord, Token, Lit, Name, FuncName, Word, GetlineWord, InWord, Dollar, Open, Close, OpenBracket, OpenBrace, CloseBrace, Comma, Semicolon, SignMark, NotMark, StepMark, Infix, Append, Key, Fault, Syntax, TooDeep}
 use Rattle.awk_grammar.specs.Tree.{Tree, Trees, Whole, AfterCompare}
 use Rattle.awk_grammar.specs.Reading.{◌>>=◌, Reader, close_at, bracket_at, name_at, list_at, expr_at}
-use Rattle.awk_grammar.specs.Stmt.{Printing, Print, Printf, Args, NoArgs, Listed, Enclosed, Target, NoTarget, Written, Appended, Plain, Eval, Put, Delete, Jump, Break, Continue, Next, Leaving, Exit, Return, Stmt, Block, Empty, Simple, If, IfElse, While, Do, For, ForIn, Jumping, Leave, Stmts, NoStmt, And}
+use Rattle.awk_grammar.specs.Stmt.{Printing, Print, Printf, Args, NoArgs, Listed, Enclosed, Target, NoTarget, Written, Appended, Plain, Eval, Put, Delete, Clear, Jump, Break, Continue, Next, NextFile, Leaving, Exit, Return, Stmt, Block, Empty, Simple, If, IfElse, While, Do, For, ForIn, Jumping, Leave, Stmts, NoStmt, And}
 
 abbrev pub Read : Type 0 → Type 0
 Read A = Result (A × List Token) Fault
@@ -13,10 +13,6 @@ Read A = Result (A × List Token) Fault
 abbrev pub open_here : List Token → Result (List Token) Fault
 open_here (Open ∷ ts) = Ok ts
 open_here _ = Err Syntax
-
-abbrev pub bracket_here : List Token → Result (List Token) Fault
-bracket_here (OpenBracket ∷ ts) = Ok ts
-bracket_here _ = Err Syntax
 
 abbrev pub comma_here : List Token → Result (List Token) Fault
 comma_here (Comma ∷ ts) = Ok ts
@@ -91,8 +87,13 @@ target_at expr ts = Ok (NoTarget, ts)
 abbrev pub put_at : Reader → Printing → List Token → Read Plain
 put_at expr p ts = args_at expr p ts >>= λ x. target_at expr x.1 >>= λ y. Ok (Put p x.0 y.0, y.1)
 
+-- without subscripts all elements are deleted
+abbrev pub delete_by : Reader → List ℕ → List Token → Read Plain
+delete_by expr n (OpenBracket ∷ ts) = list_at expr true ts >>= λ x. bracket_at x.1 >>= λ us. Ok (Delete n x.0, us)
+delete_by expr n ts = Ok (Clear n, ts)
+
 abbrev pub delete_at : Reader → List Token → Read Plain
-delete_at expr ts = name_at ts >>= λ n. bracket_here n.1 >>= λ us. list_at expr true us >>= λ x. bracket_at x.1 >>= λ vs. Ok (Delete n.0 x.0, vs)
+delete_at expr ts = name_at ts >>= λ n. delete_by expr n.0 n.1
 
 abbrev pub eval_at : Reader → List Token → Read Plain
 eval_at expr ts = expr true Whole ts >>= λ x. Ok (Eval x.0, x.1)
@@ -174,6 +175,7 @@ one_at expr stmt (Key ForWord ∷ ts) = for_at expr stmt ts
 one_at expr stmt (Key BreakWord ∷ ts) = jump_at Break ts
 one_at expr stmt (Key ContinueWord ∷ ts) = jump_at Continue ts
 one_at expr stmt (Key NextWord ∷ ts) = jump_at Next ts
+one_at expr stmt (Key NextFileWord ∷ ts) = jump_at NextFile ts
 one_at expr stmt (Key ExitWord ∷ ts) = leave_at expr Exit ts
 one_at expr stmt (Key ReturnWord ∷ ts) = leave_at expr Return ts
 one_at expr stmt ts = simple_at expr ts

@@ -1,6 +1,6 @@
 -- Statements and items, their tokens, and which are well formed.
 use Rattle.std.specs.Prelude.{◌≡◌, ℕ, ◌+◌, max, Bool, true, false, Option, Some, None, List, [], ◌∷◌, ◌++◌}
-use Rattle.awk_grammar.specs.Token.{Greater, Compare, IfWord, ElseWord, WhileWord, ForWord, DoWord, BreakWord, ContinueWord, NextWord, ExitWord, ReturnWord, DeleteWord, PrintWord, PrintfWord, Token, Name, InWord, Open, Close, OpenBracket, CloseBracket, OpenBrace, CloseBrace, Comma, Semicolon, Infix, Append, Key}
+use Rattle.awk_grammar.specs.Token.{Greater, Compare, IfWord, ElseWord, WhileWord, ForWord, DoWord, BreakWord, ContinueWord, NextWord, NextFileWord, ExitWord, ReturnWord, DeleteWord, PrintWord, PrintfWord, Token, Name, InWord, Open, Close, OpenBracket, CloseBracket, OpenBrace, CloseBrace, Comma, Semicolon, Infix, Append, Key}
 use Rattle.awk_grammar.specs.Tree.{Tree, Trees, print, print_list, AfterCompare, fits, IsSome, IsWellFormed, AreWellFormed, depth, depths}
 
 pub data Printing : Type 0 where
@@ -22,11 +22,13 @@ pub data Plain : Type 0 where
   Eval : Tree → Plain
   Put : Printing → Args → Target → Plain
   Delete : List ℕ → Trees → Plain
+  Clear : List ℕ → Plain
 
 pub data Jump : Type 0 where
   Break : Jump
   Continue : Jump
   Next : Jump
+  NextFile : Jump
 
 pub data Leaving : Type 0 where
   Exit : Leaving
@@ -70,6 +72,7 @@ abbrev pub print_plain : Plain → List Token
 print_plain (Eval t) = print t
 print_plain (Put p a t) = printing_token p ∷ (print_args a ++ print_target t)
 print_plain (Delete n ts) = Key DeleteWord ∷ (Name n ∷ (OpenBracket ∷ (print_list ts ++ (CloseBracket ∷ []))))
+print_plain (Clear n) = Key DeleteWord ∷ (Name n ∷ [])
 
 abbrev pub print_maybe : Option Tree → List Token
 print_maybe None = []
@@ -83,6 +86,7 @@ abbrev pub jump_token : Jump → Token
 jump_token Break = Key BreakWord
 jump_token Continue = Key ContinueWord
 jump_token Next = Key NextWord
+jump_token NextFile = Key NextFileWord
 
 abbrev pub leaving_token : Leaving → Token
 leaving_token Exit = Key ExitWord
@@ -126,6 +130,7 @@ abbrev pub IsPlain : Plain → Type 0
 IsPlain (Eval t) = IsWellFormed true t
 IsPlain (Put p a t) = IsArgs p a × IsTarget t
 IsPlain (Delete n ts) = AreWellFormed true ts × IsSome ts
+IsPlain (Clear n) = Unit {0}
 
 abbrev pub IsMaybe : Option Tree → Type 0
 IsMaybe None = Unit {0}
@@ -178,6 +183,7 @@ abbrev pub plain_depth : Plain → ℕ
 plain_depth (Eval t) = depth t
 plain_depth (Put p a t) = max (args_depth a) (target_depth t)
 plain_depth (Delete n ts) = depths ts
+plain_depth (Clear n) = 0
 
 abbrev pub maybe_depth : Option Tree → ℕ
 maybe_depth None = 0

@@ -64,6 +64,7 @@ pub data Keyword : Type 0 where
   BreakWord : Keyword
   ContinueWord : Keyword
   NextWord : Keyword
+  NextFileWord : Keyword
   ExitWord : Keyword
   ReturnWord : Keyword
   DeleteWord : Keyword

@@ -2,7 +2,7 @@
 use Rattle.std.specs.Prelude.{◌≡◌, ℕ, ◌+◌, ◌≤◌, min, max, Bool, true, false, ◌||◌, ◌&&◌, nat_le, List, [], ◌∷◌, ◌++◌}
 use Rattle.awk_grammar.specs.Token.{Sign, Prefix, Not, Signed, Step, Less, Greater, Symbol, Assign, Or, And, Match, Compare, Mul, Pow, Literal, Token, Lit, Name, FuncName, Word, GetlineWord, InWord, Dollar, Open, Close, OpenBracket, CloseBracket, Comma, Question, Colon, SignMark, NotMark, StepMark, Infix}
 use Rattle.awk_tokens.specs.declared.words.Builtin.{Builtin}
-use Rattle.awk_tokens.specs.declared.words.Builtin.TheVariants.{Length as LengthOf, Substr, Index as IndexOf, Split, Sub, Gsub, Match as MatchOf, Sprintf, ToLower, ToUpper, Int as IntOf, Close as CloseOf}
+use Rattle.awk_tokens.specs.declared.words.Builtin.TheVariants.{Length as LengthOf, Substr, Index as IndexOf, Split, Sub, Gsub, Match as MatchOf, Sprintf, ToLower, ToUpper, Int as IntOf, Close as CloseOf, Fflush as FflushOf}
 
 -- what joins two expressions
 pub data Op : Type 0 where
@@ -328,6 +328,7 @@ suits ToLower ts = within 1 1 ts
 suits ToUpper ts = within 1 1 ts
 suits IntOf ts = within 1 1 ts
 suits CloseOf ts = within 1 1 ts
+suits FflushOf ts = within 0 1 ts
 
 abbrev pub IsSome : Trees → Type 0
 IsSome NoTree = ⊥

@@ -2,7 +2,7 @@
 use Rattle.std.specs.Prelude.{ℕ, List, [], ◌∷◌, map, Option, Some, None}
 use Rattle.std.specs.Global.{Vec}
 use Rattle.awk_grammar.specs.Tree.{Tree}
-use Rattle.awk_grammar.specs.Stmt.{Printing, Print as Printed, Printf as Formatted, Args, NoArgs, Listed as ListArgs, Enclosed as EnclosedArgs, Target, NoTarget, Written, Appended, Plain, Eval as EvalPlain, Put, Delete as DeletePlain, Jump as PlainJump, Break as BreakJump, Continue as ContinueJump, Next as NextJump, Leaving as PlainLeaving, Exit as ExitLeaving, Return as ReturnLeaving, Stmt as PlainStmt, Block, Empty as EmptyStmt, Simple as SimpleOne, If, IfElse, While, Do, For, ForIn, Jumping, Leave as LeaveStmt, Stmts, NoStmt, And}
+use Rattle.awk_grammar.specs.Stmt.{Printing, Print as Printed, Printf as Formatted, Args, NoArgs, Listed as ListArgs, Enclosed as EnclosedArgs, Target, NoTarget, Written, Appended, Plain, Eval as EvalPlain, Put, Delete as DeletePlain, Clear as ClearPlain, Jump as PlainJump, Break as BreakJump, Continue as ContinueJump, Next as NextJump, NextFile as NextFileJump, Leaving as PlainLeaving, Exit as ExitLeaving, Return as ReturnLeaving, Stmt as PlainStmt, Block, Empty as EmptyStmt, Simple as SimpleOne, If, IfElse, While, Do, For, ForIn, Jumping, Leave as LeaveStmt, Stmts, NoStmt, And}
 use Rattle.awk_grammar.specs.Item.{Pattern as PlainPattern, One as OnePattern, Between, Item as PlainItem, Function as FunctionItem, Begin as BeginItem, End as EndItem, Always, When, Lone, Nothing}
 use Rattle.awk_grammar.specs.View.{view, views}
 use Rattle.awk_grammar.specs.declared.tree.Expr.{Expr}
@@ -13,9 +13,9 @@ use Rattle.awk_grammar.specs.declared.tree.PrintArgs.TheVariants.{Bare, Listed, 
 use Rattle.awk_grammar.specs.declared.tree.PrintTarget.{PrintTarget}
 use Rattle.awk_grammar.specs.declared.tree.PrintTarget.TheVariants.{Output, File, FileEnd}
 use Rattle.awk_grammar.specs.declared.tree.SimpleStmt.{SimpleStmt}
-use Rattle.awk_grammar.specs.declared.tree.SimpleStmt.TheVariants.{Eval, Print as PrintStmt, Delete}
+use Rattle.awk_grammar.specs.declared.tree.SimpleStmt.TheVariants.{Eval, Print as PrintStmt, Delete, Clear}
 use Rattle.awk_grammar.specs.declared.tree.Jump.{Jump}
-use Rattle.awk_grammar.specs.declared.tree.Jump.TheVariants.{Break, Continue, Next}
+use Rattle.awk_grammar.specs.declared.tree.Jump.TheVariants.{Break, Continue, Next, NextFile}
 use Rattle.awk_grammar.specs.declared.tree.Leaving.{Leaving}
 use Rattle.awk_grammar.specs.declared.tree.Leaving.TheVariants.{Exit, Return}
 use Rattle.awk_grammar.specs.declared.tree.Stmt.{Stmt, Row_of-Stmt, end_of-Stmt, more_of-Stmt}
@@ -44,6 +44,7 @@ abbrev pub view_simple : SimpleStmt → Plain
 view_simple (Eval e) = EvalPlain (view e)
 view_simple (PrintStmt w a t) = Put (view_word w) (view_args a) (view_target t)
 view_simple (Delete n es) = DeletePlain n.items (views es.items)
+view_simple (Clear n) = ClearPlain n.items
 
 abbrev pub view_maybe : Option Expr → Option Tree
 view_maybe None = None
@@ -57,6 +58,7 @@ abbrev pub view_jump : Jump → PlainJump
 view_jump Break = BreakJump
 view_jump Continue = ContinueJump
 view_jump Next = NextJump
+view_jump NextFile = NextFileJump
 
 abbrev pub view_leaving : Leaving → PlainLeaving
 view_leaving Exit = ExitLeaving

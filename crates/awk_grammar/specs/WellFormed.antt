@@ -2,7 +2,7 @@
 use Rattle.std.specs.Prelude.{Bool, true, false, ◌&&◌, not, nat_le, List, [], ◌∷◌, Option, Some, None}
 use Rattle.awk_grammar.specs.Tree.{Op, Tree, Leaf, Length, Var, Index, Field, Group, Call, Apply, Unary, Pre, Post, Bin, Has, HasList, Cond, Get, GetInto, GetFrom, GetIntoFrom, Trees, NoTree, Then, op_left, op_right, op_allowed, level, edge, is_field, fits, takes, suits}
 use Rattle.awk_grammar.specs.Shape.{view_next, head_of, behind, may_join}
-use Rattle.awk_grammar.specs.Stmt.{Printing, Print, Printf, Args, NoArgs, Listed, Enclosed, Target, NoTarget, Written, Appended, Plain, Eval, Put, Delete, Stmt, Block, Empty, Simple, If, IfElse, While, Do, For, ForIn, Jumping, Leave, Stmts, NoStmt, And, dangles}
+use Rattle.awk_grammar.specs.Stmt.{Printing, Print, Printf, Args, NoArgs, Listed, Enclosed, Target, NoTarget, Written, Appended, Plain, Eval, Put, Delete, Clear, Stmt, Block, Empty, Simple, If, IfElse, While, Do, For, ForIn, Jumping, Leave, Stmts, NoStmt, And, dangles}
 use Rattle.awk_grammar.specs.Item.{Pattern, One, Between, Item, Function, Begin, End, Always, When, Lone, Nothing}
 
 -- whether the operator may stand between the operands
@@ -64,6 +64,7 @@ abbrev pub is_plain : Plain → Bool
 is_plain (Eval t) = well_formed true t
 is_plain (Put p a t) = are_args p a && is_target t
 is_plain (Delete n ts) = is_some_tree ts && all_well_formed true ts
+is_plain (Clear n) = true
 
 abbrev pub is_maybe : Option Tree → Bool
 is_maybe None = true

@@ -268,7 +268,7 @@ pub fn suits(function: Builtin, arguments: &[Expr]) -> bool
     ensures { result ≡ suits function (views arguments.now) }
 {
     match function {
-        Builtin::Length => are_within(0, 1, arguments),
+        Builtin::Length | Builtin::Fflush => are_within(0, 1, arguments),
         Builtin::Substr => are_within(2, 3, arguments),
         Builtin::Index | Builtin::Match => are_within(2, 2, arguments),
         Builtin::Split => are_within(2, 3, arguments) && second_is_name(arguments),

@@ -122,6 +122,8 @@ pub enum SimpleStmt {
     Print(PrintWord, PrintArgs, PrintTarget),
     /// `delete name [ subscripts ]`.
     Delete(Vec<u8>, Vec<Expr>),
+    /// `delete name`, which empties the array.
+    Clear(Vec<u8>),
 }
 
 #[derive(Clone, Copy, Debug, PartialEq, Eq)]
@@ -129,6 +131,7 @@ pub enum Jump {
     Break,
     Continue,
     Next,
+    NextFile,
 }
 
 #[derive(Clone, Copy, Debug, PartialEq, Eq)]

@@ -7,9 +7,9 @@ use Rattle.awk_tokens.specs.declared.token.Punctuator.{Punctuator}
 use Rattle.awk_tokens.specs.declared.token.Punctuator.TheVariants as marks
 use Rattle.awk_tokens.specs.declared.token.TokenKind.{TokenKind}
 use Rattle.awk_tokens.specs.declared.token.TokenKind.TheVariants as kinds
-use Rattle.awk_grammar.specs.Token.{Prefix, Not, Signed, Token, Name, Comma, Semicolon, Open, Close, CloseBrace, CloseBracket, Question, Colon, StepMark, Infix, Compare, Less, InWord, Key, ElseWord, WhileWord, BreakWord, ContinueWord, NextWord, ReturnWord}
+use Rattle.awk_grammar.specs.Token.{Prefix, Not, Signed, Token, Name, Comma, Semicolon, Open, Close, CloseBrace, CloseBracket, Question, Colon, StepMark, Infix, Compare, Less, InWord, Key, ElseWord, WhileWord, BreakWord, ContinueWord, NextWord, NextFileWord, ReturnWord}
 use Rattle.awk_grammar.specs.Tree.{Tree, Leaf, Length, Var, Index, Field, Group, Call, Apply, Unary, Pre, Post, Bin, Has, HasList, Cond, Get, GetInto, GetFrom, GetIntoFrom, Trees, NoTree, Then, Op, Join, Add, Other, op_tokens, prefix_token, print, print_list, print_more}
-use Rattle.awk_grammar.specs.Stmt.{Printing, Args, NoArgs, Listed, Enclosed, Target, NoTarget, Written, Appended, Plain, Eval, Put, Print, Printf, Delete, Jump, Break, Continue, Next, Leaving, Exit, Return, Stmt, Block, Empty, Simple, If, IfElse, While, Do, For, ForIn, Jumping, Leave, Stmts, NoStmt, And, print_args, print_target, print_plain, print_maybe, print_maybe_plain, print_stmt, print_stmts}
+use Rattle.awk_grammar.specs.Stmt.{Printing, Args, NoArgs, Listed, Enclosed, Target, NoTarget, Written, Appended, Plain, Eval, Put, Print, Printf, Delete, Clear, Jump, Break, Continue, Next, NextFile, Leaving, Exit, Return, Stmt, Block, Empty, Simple, If, IfElse, While, Do, For, ForIn, Jumping, Leave, Stmts, NoStmt, And, print_args, print_target, print_plain, print_maybe, print_maybe_plain, print_stmt, print_stmts}
 use Rattle.awk_grammar.specs.Item.{Pattern, One, Between, Item, Function, Begin, End, Always, When, Lone, Nothing, print_body, print_names, print_params, print_pattern, print_item, print_script}
 use Rattle.awk_grammar.specs.Lexeme.{keyword_lexeme, mark_lexeme, spoken_as, spoken_after, is_function as is_function_word}
 use Rattle.awk_grammar.specs.TreeOf.{IsTreeOf}
@@ -22,6 +22,7 @@ abbrev pub jumps_by : Token → Bool
 jumps_by (Key BreakWord) = true
 jumps_by (Key ContinueWord) = true
 jumps_by (Key NextWord) = true
+jumps_by (Key NextFileWord) = true
 jumps_by (Key ReturnWord) = true
 jumps_by _ = false
 
@@ -110,6 +111,7 @@ no_words_plain (Eval t) = no_words t
 no_words_plain (Put Print a t) = both (print_args a) (print_target t) (no_words_args a) (no_words_target t)
 no_words_plain (Put Printf a t) = both (print_args a) (print_target t) (no_words_args a) (no_words_target t)
 no_words_plain (Delete n ts) = both (print_list ts) (CloseBracket ∷ []) (no_words_listed ts) refl
+no_words_plain (Clear n) = refl
 
 no_words_maybe : (o : Option Tree) → words (print_maybe o) ≡ 0
 no_words_maybe None = refl
@@ -127,6 +129,7 @@ jump_word : (p : Place) (j : Jump) (looped : Bool) → words (print_stmt (Jumpin
 jump_word p Break looped = refl
 jump_word p Continue looped = refl
 jump_word p Next looped = refl
+jump_word p NextFile looped = refl
 
 module _ (p : Place) where
   mutual
@@ -230,6 +233,7 @@ same_word words_of.Do = refl
 same_word words_of.Break = refl
 same_word words_of.Continue = refl
 same_word words_of.Next = refl
+same_word words_of.NextFile = refl
 same_word words_of.Exit = refl
 same_word words_of.Return = refl
 same_word words_of.Delete = refl

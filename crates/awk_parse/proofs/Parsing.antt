@@ -1,13 +1,12 @@
 -- What the parser answers, from what it read.
-use Rattle.std.proofs.Common.{◌≡◌, ℕ, Bool, true, false, cond, Option, Some, None, List, [], ◌∷◌, Result, Ok, Err, ℤ, refl, sym, ap, ◌∙◌, arith}
+use Rattle.std.proofs.Common.{◌≡◌, ℕ, Bool, true, false, Option, Some, None, List, [], ◌∷◌, Result, Ok, Err, ℤ, refl, sym, ap, ◌∙◌, arith}
 use Rattle.awk_text.specs.declared.number.NumberFault.{NumberFault}
 use Rattle.awk_text.specs.declared.number.NumberFault.TheVariants.{Range, Fraction}
 use Rattle.awk_text.specs.Number.{number_of_text}
 use Rattle.awk_tokens.specs.Cutting.{Spelled}
-use Rattle.awk_tokens.specs.declared.words.Keyword.TheVariants.{Delete}
 use Rattle.awk_tokens.specs.declared.token.Punctuator.TheVariants.{Pipe}
 use Rattle.awk_tokens.specs.declared.token.TokenKind.{TokenKind}
-use Rattle.awk_tokens.specs.declared.token.TokenKind.TheVariants.{Number, Keyword, LeftOut as LeftOutWord, Punctuator}
+use Rattle.awk_tokens.specs.declared.token.TokenKind.TheVariants.{Number, LeftOut as LeftOutWord, Punctuator}
 use Rattle.awk_grammar.specs.Token.{Token, Fault, Syntax as SyntaxFault, TooDeep as TooDeepFault}
 use Rattle.awk_grammar.specs.Item.{Item, IsScript, print_script, script_depth}
 use Rattle.awk_grammar.specs.Lexeme.{spoken}
@@ -17,9 +16,9 @@ use Rattle.awk_grammar.proofs.Sound.{that_is}
 use Rattle.awk_grammar.proofs.ItemSound.{script_sound}
 use Rattle.awk_grammar.proofs.ItemComplete.{script_again}
 use Rattle.awk_grammar.proofs.StmtDeeper.{script_syntax_only}
-use Rattle.awk_parse.specs.Scan.{deletes_whole, number_fault, kind_fault, or_else, scan}
+use Rattle.awk_parse.specs.Scan.{number_fault, kind_fault, or_else, scan}
 use Rattle.awk_parse.specs.Parsing.{IsRead, IsParsed, HasNoTree, HasNoSmallTree, IsMisplaced, IsRefused, misplaced}
-use Rattle.awk_parse.specs.declared.fault.Feature.TheVariants.{Word, Pipe as PipeFeature, Delete as DeleteFeature}
+use Rattle.awk_parse.specs.declared.fault.Feature.TheVariants.{Word, Pipe as PipeFeature}
 use Rattle.awk_parse.specs.declared.fault.ParseFault.{ParseFault}
 use Rattle.awk_parse.specs.declared.fault.ParseFault.TheVariants.{LeftOut, NotWhole, ConstantRange, Syntax, TooDeep, Misplaced, NoMemory}
 
@@ -36,16 +35,11 @@ number_scanned line (Ok n) f e = absurd cc
 number_scanned line (Err Fraction) f e = sym (ap is_scanned (that_is (NotWhole line) f e))
 number_scanned line (Err Range) f e = sym (ap is_scanned (that_is (ConstantRange line) f e))
 
-delete_scanned : (b : Bool) (line : ℕ) (f : ParseFault) → cond {A = Option ParseFault} b (Some (LeftOut line DeleteFeature)) None ≡ Some f → is_scanned f ≡ true
-delete_scanned true line f e = sym (ap is_scanned (that_is (LeftOut line DeleteFeature) f e))
-delete_scanned false line f e = absurd cc
-
-kind_scanned : (k : TokenKind) (line : ℕ) (text : List ℕ) (ts : List Spelled) (f : ParseFault) → kind_fault k line text ts ≡ Some f → is_scanned f ≡ true
-kind_scanned Number line text ts f e = number_scanned line (number_of_text text) f e
-kind_scanned (LeftOutWord w) line text ts f e = sym (ap is_scanned (that_is (LeftOut line (Word w)) f e))
-kind_scanned (Punctuator Pipe) line text ts f e = sym (ap is_scanned (that_is (LeftOut line PipeFeature) f e))
-kind_scanned (Keyword Delete) line text ts f e = delete_scanned (deletes_whole ts) line f e
-kind_scanned _ line text ts f e = absurd cc
+kind_scanned : (k : TokenKind) (line : ℕ) (text : List ℕ) (f : ParseFault) → kind_fault k line text ≡ Some f → is_scanned f ≡ true
+kind_scanned Number line text f e = number_scanned line (number_of_text text) f e
+kind_scanned (LeftOutWord w) line text f e = sym (ap is_scanned (that_is (LeftOut line (Word w)) f e))
+kind_scanned (Punctuator Pipe) line text f e = sym (ap is_scanned (that_is (LeftOut line PipeFeature) f e))
+kind_scanned _ line text f e = absurd cc
 
 first_scanned : (o : Option ParseFault) (later : Option ParseFault) (f : ParseFault) → ((g : ParseFault) → o ≡ Some g → is_scanned g ≡ true) → (later ≡ Some f → is_scanned f ≡ true) → or_else o later ≡ Some f → is_scanned f ≡ true
 first_scanned None later f a b e = b e
@@ -53,7 +47,7 @@ first_scanned (Some g) later f a b e = sym (ap is_scanned (that_is g f e)) ∙ a
 
 scan_scanned : (ts : List Spelled) (f : ParseFault) → scan ts ≡ Some f → is_scanned f ≡ true
 scan_scanned [] f e = absurd cc
-scan_scanned (t ∷ ts) f e = first_scanned (kind_fault t.kind t.line t.text ts) (scan ts) f (λ g q. kind_scanned t.kind t.line t.text ts g q) (λ q. scan_scanned ts f q) e
+scan_scanned (t ∷ ts) f e = first_scanned (kind_fault t.kind t.line t.text) (scan ts) f (λ g q. kind_scanned t.kind t.line t.text g q) (λ q. scan_scanned ts f q) e
 
 abbrev pub said : Bool → Bool
 said b = b

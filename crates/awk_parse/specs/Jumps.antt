@@ -1,10 +1,10 @@
--- Where `next`, `break`, `continue` and `return` may stand.
+-- Where `next`, `nextfile`, `break`, `continue` and `return` may stand.
 use Rattle.std.specs.Prelude.{ℕ, Bool, true, false, not, Option, Some, None, List, [], ◌∷◌, ◌++◌}
 use Rattle.awk_tokens.specs.Cutting.{Spelled}
-use Rattle.awk_tokens.specs.declared.words.Keyword.TheVariants.{Break as BreakWord, Continue as ContinueWord, Next as NextWord, Return as ReturnWord}
+use Rattle.awk_tokens.specs.declared.words.Keyword.TheVariants.{Break as BreakWord, Continue as ContinueWord, Next as NextWord, NextFile as NextFileWord, Return as ReturnWord}
 use Rattle.awk_tokens.specs.declared.token.TokenKind.{TokenKind}
 use Rattle.awk_tokens.specs.declared.token.TokenKind.TheVariants.{Keyword}
-use Rattle.awk_grammar.specs.Stmt.{Jump, Break, Continue, Next, Leaving, Exit, Return, Stmt, Block, Empty, Simple, If, IfElse, While, Do, For, ForIn, Jumping, Leave, Stmts, NoStmt, And}
+use Rattle.awk_grammar.specs.Stmt.{Jump, Break, Continue, Next, NextFile, Leaving, Exit, Return, Stmt, Block, Empty, Simple, If, IfElse, While, Do, For, ForIn, Jumping, Leave, Stmts, NoStmt, And}
 use Rattle.awk_grammar.specs.Item.{Item, Function, Begin, End, Always, When, Lone, Nothing}
 use Rattle.awk_parse.specs.declared.placed.Place.{Place}
 use Rattle.awk_parse.specs.declared.placed.Place.TheVariants.{InFunction, InBeginOrEnd, InRule}
@@ -22,12 +22,13 @@ abbrev pub jump_fits : Place → Bool → Jump → Bool
 jump_fits place looped Break = looped
 jump_fits place looped Continue = looped
 jump_fits place looped Next = not (is_begin_or_end place)
+jump_fits place looped NextFile = not (is_begin_or_end place)
 
 abbrev pub leave_fits : Place → Leaving → List Bool
 leave_fits place Exit = []
 leave_fits place Return = is_function place ∷ []
 
--- of each `next`, `break`, `continue` and `return`, in the order of the script, whether it may stand where it does
+-- of each `next`, `nextfile`, `break`, `continue` and `return`, in the order of the script, whether it may stand where it does
 abbrev mutual
   pub jumps : Place → Bool → Stmt → List Bool
   jumps place looped (Block ss) = all_jumps place looped ss
@@ -63,6 +64,7 @@ abbrev pub is_jump : TokenKind → Bool
 is_jump (Keyword BreakWord) = true
 is_jump (Keyword ContinueWord) = true
 is_jump (Keyword NextWord) = true
+is_jump (Keyword NextFileWord) = true
 is_jump (Keyword ReturnWord) = true
 is_jump _ = false
 

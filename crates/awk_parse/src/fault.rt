@@ -9,8 +9,6 @@ pub enum Feature {
     Word(LeftOut),
     /// `|`.
     Pipe,
-    /// `delete` of a whole array.
-    Delete,
 }
 
 /// Why tokens have no script. Lines count from 1.
@@ -26,7 +24,7 @@ pub enum ParseFault {
     Syntax(usize),
     /// The tokens are those of no script of depth 1,000 or less; the line is that of the token at which reading stopped, or of the last.
     TooDeep(usize),
-    /// `next`, `break`, `continue` or `return` on this line stands where it has no meaning.
+    /// `next`, `nextfile`, `break`, `continue` or `return` on this line stands where it has no meaning.
     Misplaced(usize),
     /// Memory was refused.
     NoMemory,

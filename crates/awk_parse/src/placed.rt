@@ -1,4 +1,4 @@
-//! Where `next`, `break`, `continue` and `return` may stand.
+//! Where `next`, `nextfile`, `break`, `continue` and `return` may stand.
 
 ghost use Rattle.std.specs.Prelude.{◌≡◌, ◌++◌, ◌∷◌, [], OnOk, IfOk, map};
 ghost use Rattle.awk_tokens.specs.Views.{spelled};
@@ -23,7 +23,7 @@ fn jump_fits(place: Place, looped: bool, jump: Jump) -> bool
 {
     match jump {
         Jump::Break | Jump::Continue => looped,
-        Jump::Next => !matches!(place, Place::InBeginOrEnd),
+        Jump::Next | Jump::NextFile => !matches!(place, Place::InBeginOrEnd),
     }
 }
 
@@ -108,7 +108,9 @@ fn is_jump(kind: TokenKind) -> bool
 {
     matches!(
         kind,
-        TokenKind::Keyword(Keyword::Break | Keyword::Continue | Keyword::Next | Keyword::Return)
+        TokenKind::Keyword(
+            Keyword::Break | Keyword::Continue | Keyword::Next | Keyword::NextFile | Keyword::Return
+        )
     )
 }
 

@@ -3,31 +3,11 @@
 ghost use Rattle.std.specs.Prelude.{◌≡◌, map};
 ghost use Rattle.awk_tokens.specs.Views.{spelled};
 ghost use Rattle.awk_text.specs.Number.{number_of_text};
-ghost use Rattle.awk_parse.specs.Scan.{begins_index, deletes_whole, number_fault, kind_fault, scan};
+ghost use Rattle.awk_parse.specs.Scan.{number_fault, kind_fault, scan};
 
 use crate::fault::{Feature, ParseFault};
 use awk_text::{NumberFault, number_of};
-use awk_tokens::{Keyword, Punctuator, Token, TokenKind};
-
-/// Whether `[` comes first.
-fn begins_index(tokens: &[Token<'_>]) -> bool
-    ensures { result ≡ begins_index (map spelled tokens.now) }
-{
-    match tokens {
-        [] => false,
-        [first, ..] => matches!(first.kind, TokenKind::Punctuator(Punctuator::OpenBracket)),
-    }
-}
-
-/// Whether `delete` in front of these deletes a whole array.
-fn deletes_whole(tokens: &[Token<'_>]) -> bool
-    ensures { result ≡ deletes_whole (map spelled tokens.now) }
-{
-    match tokens {
-        [] => false,
-        [first, rest @ ..] => matches!(first.kind, TokenKind::Name) && !begins_index(rest),
-    }
-}
+use awk_tokens::{Punctuator, Token, TokenKind};
 
 /// What is wrong with a number.
 fn number_fault(line: usize, text: &[u8]) -> Option<ParseFault>
@@ -40,21 +20,15 @@ fn number_fault(line: usize, text: &[u8]) -> Option<ParseFault>
     }
 }
 
-/// What is wrong with a token in front of these.
-fn token_fault(token: &Token<'_>, behind: &[Token<'_>]) -> Option<ParseFault>
-    ensures { result ≡ kind_fault token.now.kind token.now.line token.now.text.now (map spelled behind.now) }
+/// What is wrong with a token.
+fn token_fault(token: &Token<'_>) -> Option<ParseFault>
+    ensures { result ≡ kind_fault token.now.kind token.now.line token.now.text.now }
 {
     match token.kind {
         TokenKind::Number => number_fault(token.line, token.text),
         TokenKind::LeftOut(word) => Some(ParseFault::LeftOut(token.line, Feature::Word(word))),
         TokenKind::Punctuator(Punctuator::Pipe) => {
             Some(ParseFault::LeftOut(token.line, Feature::Pipe))
-        }
-        TokenKind::Keyword(Keyword::Delete) => {
-            if !deletes_whole(behind) {
-                return None;
-            }
-            Some(ParseFault::LeftOut(token.line, Feature::Delete))
         }
         _ => None,
     }
@@ -64,8 +38,8 @@ fn token_fault(token: &Token<'_>, behind: &[Token<'_>]) -> Option<ParseFault>
 pub(crate) fn scan(tokens: &[Token<'_>]) -> Option<ParseFault>
     ensures { result ≡ scan (map spelled tokens.now) }
 {
-    for (index, token) in tokens.iter().enumerate() {
-        if let Some(fault) = token_fault(token, &tokens[index + 1..]) {
+    for token in tokens {
+        if let Some(fault) = token_fault(token) {
             return Some(fault);
         }
     }

@@ -69,6 +69,10 @@ fn push_simple<'a>(out: &mut Vec<Printed<'a>>, simple: &'a SimpleStmt) -> Result
             word(out, Keyword::Delete)?;
             push_element(out, name, subscripts)
         }
+        SimpleStmt::Clear(name) => {
+            word(out, Keyword::Delete)?;
+            put(out, Printed::Name(name))
+        }
     }
 }
 
@@ -127,6 +131,7 @@ fn push_jump(out: &mut Vec<Printed>, jump: Jump) -> Result<(), AllocError>
         Jump::Break => word(out, Keyword::Break),
         Jump::Continue => word(out, Keyword::Continue),
         Jump::Next => word(out, Keyword::Next),
+        Jump::NextFile => word(out, Keyword::NextFile),
     }
 }
 

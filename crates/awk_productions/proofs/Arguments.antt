@@ -6,7 +6,7 @@ use Rattle.awk_tokens.specs.declared.words.Builtin.{Builtin}
 use Rattle.awk_tokens.specs.declared.words.Builtin.TheVariants as function
 use Rattle.awk_grammar.specs.Tree.{Tree, Var, Index, Field, Bin, Trees, NoTree, Then, count, within, is_var, second_is_var, third_is_lvalue, suits, level}
 use Rattle.awk_productions.specs.Ends.{IsVariable}
-use Rattle.awk_productions.specs.Expressions.{Takes, length_0, length_1, substr_2, substr_3, index, match, split_2, split_3, sub_2, sub_3, gsub_2, gsub_3, sprintf, tolower, toupper, int, close}
+use Rattle.awk_productions.specs.Expressions.{Takes, length_0, length_1, substr_2, substr_3, index, match, split_2, split_3, sub_2, sub_3, gsub_2, gsub_3, sprintf, tolower, toupper, int, close, fflush_0, fflush_1}
 use Rattle.awk_productions.proofs.Levels.{op_low}
 
 both : (a b : Bool) → (a && b) ≡ true → (a ≡ true) × (b ≡ true)
@@ -44,6 +44,8 @@ suited tolower = refl
 suited toupper = refl
 suited int = refl
 suited close = refl
+suited fflush_0 = refl
+suited fflush_1 = refl
 
 bounds : (least most : ℕ) (ts : Trees) → within least most ts ≡ true → (least ≤ count ts) × (count ts ≤ most)
 bounds least most ts h =
@@ -98,3 +100,6 @@ takes_suited function.ToLower ts h = one_of (Takes function.ToLower) (λ a. tolo
 takes_suited function.ToUpper ts h = one_of (Takes function.ToUpper) (λ a. toupper) ts h
 takes_suited function.Int ts h = one_of (Takes function.Int) (λ a. int) ts h
 takes_suited function.Close ts h = one_of (Takes function.Close) (λ a. close) ts h
+takes_suited function.Fflush NoTree h = fflush_0
+takes_suited function.Fflush (Then a NoTree) h = fflush_1
+takes_suited function.Fflush (Then a (Then b ts)) h = absurd (omega (arith, (bounds 0 1 (Then a (Then b ts)) h).1))

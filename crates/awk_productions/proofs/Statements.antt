@@ -2,9 +2,9 @@
 use Rattle.std.proofs.Common.{◌≡◌, true, false, Option, Some, None, List, [], ◌∷◌, ◌++◌, refl, ap}
 use Rattle.awk_grammar.specs.Token.{Token, Semicolon}
 use Rattle.awk_grammar.specs.Tree.{Tree}
-use Rattle.awk_grammar.specs.Stmt.{Printing, Print, Printf, Args, NoArgs, Listed, Enclosed, Target, NoTarget, Written, Appended, Plain, Eval, Put, Delete, Stmt, Block, Empty, Simple, If, IfElse, While, Do, For, ForIn, Jumping, Leave, Stmts, NoStmt, And, print_args, print_target, print_plain, print_maybe, print_maybe_plain, print_stmt, print_stmts, IsArgs, IsTarget, IsPlain, IsMaybe, IsMaybePlain, dangles, IsStmt, AreStmts}
+use Rattle.awk_grammar.specs.Stmt.{Printing, Print, Printf, Args, NoArgs, Listed, Enclosed, Target, NoTarget, Written, Appended, Plain, Eval, Put, Delete, Clear, Stmt, Block, Empty, Simple, If, IfElse, While, Do, For, ForIn, Jumping, Leave, Stmts, NoStmt, And, print_args, print_target, print_plain, print_maybe, print_maybe_plain, print_stmt, print_stmts, IsArgs, IsTarget, IsPlain, IsMaybe, IsMaybePlain, dangles, IsStmt, AreStmts}
 use Rattle.awk_grammar.specs.Item.{print_body}
-use Rattle.awk_productions.specs.Statements.{PrintListOf, listed as listed_args, enclosed, OutputOf, no_output, written, appended, PlainOf, eval, bare_print, print, printf, delete, MaybeExprOf, no_expr, some_expr, MaybePlainOf, no_plain, some_plain, SimpleOf, plain, jumping, leave, EndsInIf, bare, in_else, in_while, in_for, in_for_in, StmtOf, block, empty, simple, if_then, if_else, while, do_while, for_loop, for_in, BlockOf, braces, StmtsOf, no_more, one_more}
+use Rattle.awk_productions.specs.Statements.{PrintListOf, listed as listed_args, enclosed, OutputOf, no_output, written, appended, PlainOf, eval, bare_print, print, printf, delete, delete_all, MaybeExprOf, no_expr, some_expr, MaybePlainOf, no_plain, some_plain, SimpleOf, plain, jumping, leave, EndsInIf, bare, in_else, in_while, in_for, in_for_in, StmtOf, block, empty, simple, if_then, if_else, while, do_while, for_loop, for_in, BlockOf, braces, StmtsOf, no_more, one_more}
 use Rattle.awk_productions.proofs.Ends.{not_both}
 use Rattle.awk_productions.proofs.Derived.{derived, listed, high}
 use Rattle.awk_productions.proofs.Deriving.{deriving_of, found_list, concat_of}
@@ -44,6 +44,7 @@ plainly (printf a o) =
     let y = output o in
     record { parts = rw (x.parts, y.parts) refl; fine = (x.fine, y.fine) }
 plainly (delete l) = let x = listed l in record { parts = rw x.parts refl; fine = (x.fine, x.some) }
+plainly delete_all = record { parts = refl; fine = tt }
 
 maybe : {e : Option Tree} {ts : List Token} → MaybeExprOf e ts → Is print_maybe IsMaybe e ts
 maybe no_expr = record { parts = refl; fine = tt }
@@ -132,6 +133,7 @@ plain_of : (p : Plain) → IsPlain p → PlainOf p (print_plain p)
 plain_of (Eval t) h = eval (deriving_of true t h)
 plain_of (Put p a o) h = print_of p a o h.0 (output_of o h.1)
 plain_of (Delete n xs) h = delete (found_list true xs h.0 h.1)
+plain_of (Clear n) h = delete_all
 
 maybe_of : (e : Option Tree) → IsMaybe e → MaybeExprOf e (print_maybe e)
 maybe_of None h = no_expr

@@ -59,6 +59,8 @@ pub data Takes : Builtin → Trees → Type 0 where
   toupper : {a : Tree} → Takes function.ToUpper (Then a NoTree)
   int : {a : Tree} → Takes function.Int (Then a NoTree)
   close : {a : Tree} → Takes function.Close (Then a NoTree)
+  fflush_0 : Takes function.Fflush NoTree
+  fflush_1 : {a : Tree} → Takes function.Fflush (Then a NoTree)
 
 mutual
   pub data Derives : Bool → Nonterminal → Tree → List Token → Type 0 where

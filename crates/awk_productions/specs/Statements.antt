@@ -2,7 +2,7 @@
 use Rattle.std.specs.Prelude.{ℕ, true, false, Option, Some, None, List, [], ◌∷◌, ◌++◌}
 use Rattle.awk_grammar.specs.Token.{Greater, Compare, IfWord, ElseWord, WhileWord, ForWord, DoWord, DeleteWord, PrintWord, PrintfWord, Token, Name, InWord, Open, Close, OpenBracket, CloseBracket, OpenBrace, CloseBrace, Comma, Semicolon, Infix, Append, Key}
 use Rattle.awk_grammar.specs.Tree.{Tree, Trees}
-use Rattle.awk_grammar.specs.Stmt.{Print, Printf, Args, NoArgs, Listed, Enclosed, Target, NoTarget, Written, Appended, Plain, Eval, Put, Delete, Jump, Leaving, Stmt, Block, Empty, Simple, If, IfElse, While, Do, For, ForIn, Jumping, Leave, Stmts, NoStmt, And, jump_token, leaving_token}
+use Rattle.awk_grammar.specs.Stmt.{Print, Printf, Args, NoArgs, Listed, Enclosed, Target, NoTarget, Written, Appended, Plain, Eval, Put, Delete, Clear, Jump, Leaving, Stmt, Block, Empty, Simple, If, IfElse, While, Do, For, ForIn, Jumping, Leave, Stmts, NoStmt, And, jump_token, leaving_token}
 use Rattle.awk_productions.specs.Expressions.{Expr, ConcatExpr, Derives, ListOf}
 
 pub data PrintListOf : Args → List Token → Type 0 where
@@ -32,6 +32,8 @@ pub data PlainOf : Plain → List Token → Type 0 where
   -- Plain := 'delete' name '[' List ']'
   delete : {n : List ℕ} {xs : Trees} {ts : List Token} →
       ListOf true xs ts → PlainOf (Delete n xs) (Key DeleteWord ∷ (Name n ∷ (OpenBracket ∷ (ts ++ (CloseBracket ∷ [])))))
+  -- Plain := 'delete' name
+  delete_all : {n : List ℕ} → PlainOf (Clear n) (Key DeleteWord ∷ (Name n ∷ []))
 
 pub data MaybeExprOf : Option Tree → List Token → Type 0 where
   -- [Expr]
@@ -46,7 +48,7 @@ pub data MaybePlainOf : Option Plain → List Token → Type 0 where
 pub data SimpleOf : Stmt → List Token → Type 0 where
   -- Simple := Plain
   plain : {p : Plain} {ts : List Token} → PlainOf p ts → SimpleOf (Simple p) ts
-  -- Simple := 'break' | 'continue' | 'next'
+  -- Simple := 'break' | 'continue' | 'next' | 'nextfile'
   jumping : {j : Jump} → SimpleOf (Jumping j) (jump_token j ∷ [])
   -- Simple := ('exit' | 'return') [Expr]
   leave : {l : Leaving} {e : Option Tree} {ts : List Token} → MaybeExprOf e ts → SimpleOf (Leave l e) (leaving_token l ∷ ts)

@@ -54,6 +54,7 @@ fn push_simple<'a>(
             push_target(out, place, target)
         }
         SimpleStmt::Delete(name, subscripts) => push_element(out, place, name, subscripts),
+        SimpleStmt::Clear(name) => put(out, Mark::Used(Kind::Array, place, name)),
     }
 }
 

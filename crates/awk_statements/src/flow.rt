@@ -63,6 +63,7 @@ fn one<'a>(
         TokenKind::Keyword(Keyword::Break) => jump(alloc, Jump::Break, rest),
         TokenKind::Keyword(Keyword::Continue) => jump(alloc, Jump::Continue, rest),
         TokenKind::Keyword(Keyword::Next) => jump(alloc, Jump::Next, rest),
+        TokenKind::Keyword(Keyword::NextFile) => jump(alloc, Jump::NextFile, rest),
         TokenKind::Keyword(Keyword::Exit) => leave(alloc, limit, Leaving::Exit, rest),
         TokenKind::Keyword(Keyword::Return) => leave(alloc, limit, Leaving::Return, rest),
         _ => simple_statement(alloc, limit, tokens),

@@ -3,7 +3,7 @@
 ghost use Rattle.std.specs.Prelude.{◌≡◌, MatchOption, None, Some, Ok, Err};
 ghost use Rattle.awk_grammar.specs.Token.{Syntax as SyntaxFault};
 ghost use Rattle.awk_grammar.specs.Reading.{in_at, name_at};
-ghost use Rattle.awk_grammar.specs.ReadStmt.{open_here, bracket_here, comma_here, semicolon_at, while_at, else_at, brace_at, keys_at, is_in};
+ghost use Rattle.awk_grammar.specs.ReadStmt.{open_here, comma_here, semicolon_at, while_at, else_at, brace_at, keys_at, is_in};
 ghost use Rattle.awk_expressions.specs.Seen.{seen, Gives};
 
 use awk_expressions::{Refusal, after_close, stopped};
@@ -17,22 +17,6 @@ pub(crate) fn open<'a>(tokens: &'a [Token<'a>]) -> Result<&'a [Token<'a>], Refus
         [
             Token {
                 kind: TokenKind::Punctuator(Punctuator::OpenParen),
-                ..
-            },
-            rest @ ..,
-        ] => Ok(rest),
-        _ => Err(stopped(tokens)),
-    }
-}
-
-/// The tokens behind `[`, which must come first.
-pub(crate) fn open_bracket<'a>(tokens: &'a [Token<'a>]) -> Result<&'a [Token<'a>], Refusal>
-    ensures { Gives (λ r. seen r.now) result (bracket_here (seen tokens.now)) }
-{
-    match tokens {
-        [
-            Token {
-                kind: TokenKind::Punctuator(Punctuator::OpenBracket),
                 ..
             },
             rest @ ..,

@@ -2,7 +2,7 @@
 
 ghost use Rattle.std.specs.Prelude.{◌≡◌, ◌<◌, MatchResult, true, false, map};
 ghost use Rattle.awk_grammar.specs.Reading.{expr_at};
-ghost use Rattle.awk_grammar.specs.ReadStmt.{is_in, enclosed_at, listed_at, no_args, args_at, target_at, put_at, delete_at, eval_at, plain_at, maybe_at, maybe_plain_at, condition_at, starts_plain};
+ghost use Rattle.awk_grammar.specs.ReadStmt.{is_in, enclosed_at, listed_at, no_args, args_at, target_at, put_at, delete_by, delete_at, eval_at, plain_at, maybe_at, maybe_plain_at, condition_at, starts_plain};
 ghost use Rattle.awk_grammar.specs.ViewStmt.{view_word, view_args, view_target, view_simple, view_maybe, view_maybe_simple};
 ghost use Rattle.awk_grammar.specs.View.{view, views};
 ghost use Rattle.awk_expressions.specs.Seen.{seen, first_line, Gives};
@@ -11,7 +11,7 @@ ghost use Rattle.awk_tokens.specs.Views.{spelled};
 ghost use Rattle.awk_statements.specs.Bodies.{others_at, ended_at};
 
 use crate::held::beside;
-use crate::peek::{comma, is_in, open, open_bracket};
+use crate::peek::{comma, is_in, open};
 use awk_expressions::{
     Mode, Refusal, begins_expr, close, close_bracket, expression, list, name, stopped,
 };
@@ -168,6 +168,33 @@ fn printing<'a>(
     Ok((SimpleStmt::Print(word, args, target), rest))
 }
 
+/// What stands behind the name that `delete` has: the subscripts of an element, or nothing where all elements are deleted.
+#[tactic(auto, using(awk_expressions::proofs::Binds::fails_bind))]
+fn deleted<'a>(
+    alloc: Global,
+    limit: u32,
+    array: Vec<u8>,
+    tokens: &'a [Token<'a>],
+) -> Result<(SimpleStmt, &'a [Token<'a>]), Refusal>
+    requires room { limit < 4294967295 }
+    ensures { Gives (λ x. (view_simple x.0, seen x.1.now)) result (delete_by (expr_at limit) array.items (seen tokens.now)) }
+{
+    match tokens {
+        [
+            Token {
+                kind: TokenKind::Punctuator(Punctuator::OpenBracket),
+                ..
+            },
+            behind @ ..,
+        ] => {
+            let subscripts = list(alloc, limit, true, behind)?;
+            let rest = close_bracket(subscripts.rest)?;
+            Ok((SimpleStmt::Delete(array, subscripts.trees), rest))
+        }
+        _ => Ok((SimpleStmt::Clear(array), tokens)),
+    }
+}
+
 /// What stands behind `delete`.
 fn deletion<'a>(
     alloc: Global,
@@ -178,10 +205,7 @@ fn deletion<'a>(
     ensures { Gives (λ x. (view_simple x.0, seen x.1.now)) result (delete_at (expr_at limit) (seen tokens.now)) }
 {
     let (array, behind) = name(alloc, tokens)?;
-    let behind = open_bracket(behind)?;
-    let subscripts = list(alloc, limit, true, behind)?;
-    let rest = close_bracket(subscripts.rest)?;
-    Ok((SimpleStmt::Delete(array, subscripts.trees), rest))
+    deleted(alloc, limit, array, behind)
 }
 
 fn evaluation<'a>(

@@ -2,11 +2,11 @@
 use Rattle.std.specs.Prelude.{ℕ, ◌==◌, if◌then◌else◌, Option, Some, None, List, [], ◌∷◌, codes}
 use Rattle.std.specs.Cmp.Lexicographic.{pointwise}
 use Rattle.awk_tokens.specs.declared.words.Keyword.{Keyword as AnyKeyword}
-use Rattle.awk_tokens.specs.declared.words.Keyword.TheVariants.{Begin, End, Function, If, Else, While, For, Do, Break, Continue, Next, Exit, Return, Delete, In, Getline, Print, Printf}
+use Rattle.awk_tokens.specs.declared.words.Keyword.TheVariants.{Begin, End, Function, If, Else, While, For, Do, Break, Continue, Next, NextFile, Exit, Return, Delete, In, Getline, Print, Printf}
 use Rattle.awk_tokens.specs.declared.words.Builtin.{Builtin as AnyBuiltin}
-use Rattle.awk_tokens.specs.declared.words.Builtin.TheVariants.{Length, Substr, Index, Split, Sub, Gsub, Match, Sprintf, ToLower, ToUpper, Int, Close}
+use Rattle.awk_tokens.specs.declared.words.Builtin.TheVariants.{Length, Substr, Index, Split, Sub, Gsub, Match, Sprintf, ToLower, ToUpper, Int, Close, Fflush}
 use Rattle.awk_tokens.specs.declared.words.LeftOut.{LeftOut as AnyLeftOut}
-use Rattle.awk_tokens.specs.declared.words.LeftOut.TheVariants.{Atan2, Cos, Sin, Exp, Log, Sqrt, Rand, Srand, System, Func, Nextfile, Fflush}
+use Rattle.awk_tokens.specs.declared.words.LeftOut.TheVariants.{Atan2, Cos, Sin, Exp, Log, Sqrt, Rand, Srand, System, Func}
 use Rattle.awk_tokens.specs.declared.words.ReservedWord.{ReservedWord}
 use Rattle.awk_tokens.specs.declared.words.ReservedWord.TheVariants.{Keyword, Builtin, LeftOut}
 
@@ -28,6 +28,7 @@ keywords =
     ∷ (codes "break", Break)
     ∷ (codes "continue", Continue)
     ∷ (codes "next", Next)
+    ∷ (codes "nextfile", NextFile)
     ∷ (codes "exit", Exit)
     ∷ (codes "return", Return)
     ∷ (codes "delete", Delete)
@@ -51,6 +52,7 @@ builtins =
     ∷ (codes "toupper", ToUpper)
     ∷ (codes "int", Int)
     ∷ (codes "close", Close)
+    ∷ (codes "fflush", Fflush)
     ∷ []
 
 -- what awk, or a common extension, has and this language leaves out
@@ -66,8 +68,6 @@ left_out_words =
     ∷ (codes "srand", Srand)
     ∷ (codes "system", System)
     ∷ (codes "func", Func)
-    ∷ (codes "nextfile", Nextfile)
-    ∷ (codes "fflush", Fflush)
     ∷ []
 
 abbrev pub left_out_or : Option AnyLeftOut → Option ReservedWord

@@ -17,6 +17,7 @@ pub enum Keyword {
     Break,
     Continue,
     Next,
+    NextFile,
     Exit,
     Return,
     Delete,
@@ -41,6 +42,7 @@ pub enum Builtin {
     ToUpper,
     Int,
     Close,
+    Fflush,
 }
 
 /// A word of awk, or of a common extension, that this language leaves out.
@@ -56,8 +58,6 @@ pub enum LeftOut {
     Srand,
     System,
     Func,
-    Nextfile,
-    Fflush,
 }
 
 /// A word that is no name.
@@ -94,6 +94,8 @@ fn keyword_of(text: &[u8]) -> Option<Keyword>
         Some(Keyword::Continue)
     } else if text == b"next".as_slice() {
         Some(Keyword::Next)
+    } else if text == b"nextfile".as_slice() {
+        Some(Keyword::NextFile)
     } else if text == b"exit".as_slice() {
         Some(Keyword::Exit)
     } else if text == b"return".as_slice() {
@@ -141,6 +143,8 @@ fn builtin_of(text: &[u8]) -> Option<Builtin>
         Some(Builtin::Int)
     } else if text == b"close".as_slice() {
         Some(Builtin::Close)
+    } else if text == b"fflush".as_slice() {
+        Some(Builtin::Fflush)
     } else {
         None
     }
@@ -170,10 +174,6 @@ fn left_out_of(text: &[u8]) -> Option<LeftOut>
         Some(LeftOut::System)
     } else if text == b"func".as_slice() {
         Some(LeftOut::Func)
-    } else if text == b"nextfile".as_slice() {
-        Some(LeftOut::Nextfile)
-    } else if text == b"fflush".as_slice() {
-        Some(LeftOut::Fflush)
     } else {
         None
     }

@@ -40,6 +40,7 @@ fn is_simple(simple: &SimpleStmt) -> bool
             are_print_args(*word, args) && is_print_target(target)
         }
         SimpleStmt::Delete(_, subscripts) => are_subscripts(subscripts),
+        SimpleStmt::Clear(_) => true,
     }
 }
 

@@ -56,6 +56,9 @@ fn primitive_number(primitive: Primitive) -> u32
         Primitive::PendingValue => 43,
         Primitive::BeginEnd => 44,
         Primitive::Close => 45,
+        Primitive::NextFile => 53,
+        Primitive::Clear => 54,
+        Primitive::Flush => 55,
     }
 }
 

@@ -126,7 +126,7 @@ pub fn kept(
     match answer {
         Answer::Of(Sort::Value) => kept_value(b, out, faults, t, exit),
         Answer::Of(Sort::Number) => kept_number(b, out, faults, t, exit),
-        Answer::Truth | Answer::Input | Answer::Assign | Answer::Close => {
+        Answer::Truth | Answer::Input | Answer::Assign | Answer::Stream => {
             kept_code(b, out, faults, t, exit)
         }
         Answer::Done => kept_done(out, faults, exit),

@@ -137,7 +137,7 @@ pub fn to_number(
 {
     match form {
         Form::Answered(Answer::Of(Sort::Value)) => number_of_value(b, out, t, exit),
-        Form::Answered(Answer::Input | Answer::Close) => code_number(b, out, t),
+        Form::Answered(Answer::Input | Answer::Stream) => code_number(b, out, t),
         Form::Bare => bare_number(alloc, b, out, t, exit),
         Form::Perhaps => zeroed(alloc, b, out, t),
         Form::Answered(_) => Ok(()),

@@ -71,7 +71,7 @@ module _ (b : Bases) {k : Instructions} {m : ℕ} where
   kept_deep f answer.Truth t d r = kept_code_deep f t d r
   kept_deep f answer.Input t d r = kept_code_deep f t d r
   kept_deep f answer.Assign t d r = kept_code_deep f t d r
-  kept_deep f answer.Close t d r = kept_code_deep f t d r
+  kept_deep f answer.Stream t d r = kept_code_deep f t d r
   kept_deep f answer.Done t d r = kept_done_deep f d r
   kept_deep f a t d r = r
 

@@ -117,7 +117,7 @@ module _ (b : Bases) {k : Instructions} where
   kept_fits f answer.Truth t d r = kept_code_fits f t d r
   kept_fits f answer.Input t d r = kept_code_fits f t d r
   kept_fits f answer.Assign t d r = kept_code_fits f t d r
-  kept_fits f answer.Close t d r = kept_code_fits f t d r
+  kept_fits f answer.Stream t d r = kept_code_fits f t d r
   kept_fits f answer.Done t d r = kept_done_fits f d r
   kept_fits f a t d r = r
 

@@ -75,6 +75,9 @@ primitive_counts row.PendingName = refl
 primitive_counts row.PendingValue = refl
 primitive_counts row.BeginEnd = refl
 primitive_counts row.Close = refl
+primitive_counts row.NextFile = refl
+primitive_counts row.Clear = refl
+primitive_counts row.Flush = refl
 
 operation_counts : (o : Operation) → counts_nothing (arguments o) ≡ true
 operation_counts (Host p) = primitive_counts p

@@ -90,6 +90,9 @@ primitive_text row.PendingName = refl
 primitive_text row.PendingValue = refl
 primitive_text row.BeginEnd = refl
 primitive_text row.Close = refl
+primitive_text row.NextFile = refl
+primitive_text row.Clear = refl
+primitive_text row.Flush = refl
 
 import_text : (i : Import) → all_ascii (import_name i) ≡ true
 import_text (Of p) = primitive_text p

@@ -117,7 +117,7 @@ fn entered(
     requires places { t ≤ most_places }
     ensures { OnOk result (Emits out.old.items out.new.items (entered b.now function t exit)) }
 {
-    does(out, Simple::Call(function as u32 + 53))?;
+    does(out, Simple::Call(function as u32 + 56))?;
     kept_value(b, out, true, t, exit)
 }
 

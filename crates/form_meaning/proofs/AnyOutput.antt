@@ -16,7 +16,7 @@ use Rattle.awk_state.specs.declared.sorts.Answer.{Answer}
 use Rattle.awk_state.specs.declared.table.Listed.{Listed}
 use Rattle.awk_state.specs.declared.table.Listed.TheVariants as listed
 use Rattle.awk_state.specs.declared.table.Primitive.{Primitive}
-use Rattle.awk_state.specs.declared.table.Primitive.TheVariants.{Num, Lit, Uninit, Dup, ToNum, IntOf, Truth, Compare, Concat, Pow, Fail, GetSpecial, SetSpecial, Field, SetField, NewArray, Elem, SetElem, Has, Delete, Join, Iter, IterNext, Length, Matches, Match, Sub, SubResult, Split, Substr, SubstrFrom, Index, Lower, Upper, NextMain, Getline, GetlineVar, GetlineFile, GetlineVarFile, Line, Declare, StartAssign, PendingName, PendingValue, BeginEnd, Close}
+use Rattle.awk_state.specs.declared.table.Primitive.TheVariants.{Num, Lit, Uninit, Dup, ToNum, IntOf, Truth, Compare, Concat, Pow, Fail, GetSpecial, SetSpecial, Field, SetField, NewArray, Elem, SetElem, Has, Delete, Join, Iter, IterNext, Length, Matches, Match, Sub, SubResult, Split, Substr, SubstrFrom, Index, Lower, Upper, NextMain, Getline, GetlineVar, GetlineFile, GetlineVarFile, Line, Declare, StartAssign, PendingName, PendingValue, BeginEnd, Close, NextFile, Clear, Flush}
 use Rattle.machine_model.specs.declared.host.HostAnswer.{HostAnswer}
 use Rattle.wasm_store.specs.declared.trap.TrapKind.{TrapKind}
 use Rattle.wasm_store.specs.declared.word.Word.{Word}
@@ -86,6 +86,9 @@ meaning_same o PendingName row state = refl
 meaning_same o PendingValue row state = refl
 meaning_same o BeginEnd row state = refl
 meaning_same o Close row state = refl
+meaning_same o NextFile row state = refl
+meaning_same o Clear row state = refl
+meaning_same o Flush row state = refl
 
 -- when one is in turn
 turn_same : (o : List Action) (p : Primitive) (row : Row (arguments_of p)) (state : Shared) → in_turn p row (shared_with o state) ≡ in_turn p row state
@@ -135,6 +138,9 @@ turn_same o PendingName row state = refl
 turn_same o PendingValue row state = refl
 turn_same o BeginEnd row state = refl
 turn_same o Close row state = refl
+turn_same o NextFile row state = refl
+turn_same o Clear row state = refl
+turn_same o Flush row state = refl
 
 -- What is put out.
 

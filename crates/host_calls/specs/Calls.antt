@@ -15,13 +15,14 @@ use Rattle.form_meaning.specs.TableCalls.{left_by_call}
 use Rattle.import_host.specs.Answers.{told_as}
 use Rattle.import_host.specs.Calls.{import_of_table}
 use Rattle.host_calls.specs.declared.dispatch.Call.{Call}
-use Rattle.host_calls.specs.declared.dispatch.Call.TheVariants.{Table, Print, Printf, Close, Main, File, Line, Declare, StartAssign, PendingName, PendingValue, BeginEnd}
+use Rattle.host_calls.specs.declared.dispatch.Call.TheVariants.{Table, Print, Printf, Close, Flush, Main, File, Line, Declare, StartAssign, PendingName, PendingValue, BeginEnd, NextFile}
 
 abbrev pub import_of : Call → Import
 import_of (Table call) = import_of_table call
 import_of Print = import.Over listing.Print
 import_of Printf = import.Over listing.Printf
 import_of Close = import.Of row.Close
+import_of Flush = import.Of row.Flush
 import_of (Main how) = import.Of (main_primitive how)
 import_of (File to) = import.Of (file_primitive to)
 import_of Line = import.Of row.Line
@@ -30,6 +31,7 @@ import_of StartAssign = import.Of row.StartAssign
 import_of PendingName = import.Of row.PendingName
 import_of PendingValue = import.Of row.PendingValue
 import_of BeginEnd = import.Of row.BeginEnd
+import_of NextFile = import.Of row.NextFile
 
 -- the call means this answer, with some output
 abbrev pub MeansSome : Type 0 → Import → HostForm → List Word → List ℕ → HostAnswer → HostForm → Type 0

@@ -33,6 +33,7 @@ impl<W: World> Host<W> {
             Call::Print => self.print(words),
             Call::Printf => self.printf(words),
             Call::Close => self.close(words),
+            Call::Flush => self.flush(words),
             Call::Main(how) => self.read_main(how, words),
             Call::File(to) => self.read_file(to, words),
             Call::Line => self.line(words),
@@ -41,6 +42,7 @@ impl<W: World> Host<W> {
             Call::PendingName => self.pending_name(words),
             Call::PendingValue => self.pending_value(words),
             Call::BeginEnd => self.begin_end(words),
+            Call::NextFile => self.next_file(words),
         }
     }
 

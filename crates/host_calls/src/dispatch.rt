@@ -18,6 +18,7 @@ pub(crate) enum Call {
     Print,
     Printf,
     Close,
+    Flush,
     /// The main input is read.
     Main(MainRead),
     /// A file is read.
@@ -28,6 +29,7 @@ pub(crate) enum Call {
     PendingName,
     PendingValue,
     BeginEnd,
+    NextFile,
 }
 
 /// The call of a primitive.
@@ -82,6 +84,9 @@ fn call_of_row(primitive: Primitive) -> Call
         Primitive::PendingValue => Call::PendingValue,
         Primitive::BeginEnd => Call::BeginEnd,
         Primitive::Close => Call::Close,
+        Primitive::NextFile => Call::NextFile,
+        Primitive::Clear => Call::Table(TableCall::Clear),
+        Primitive::Flush => Call::Flush,
     }
 }
 

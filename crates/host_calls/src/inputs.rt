@@ -1,5 +1,6 @@
 //! What is read: the main input, and files by their names.
 ghost use Rattle.std.specs.Prelude.{◌≡◌, List, ℕ, None};
+ghost use Rattle.awk_state.specs.declared.table.Primitive.TheVariants as row;
 ghost use Rattle.host_inputs.specs.Givens.{file_primitive, main_primitive};
 ghost use Rattle.host_step.specs.declared.import.Import.{Import};
 ghost use Rattle.host_calls.specs.Calls.{ComesTo};
@@ -46,5 +47,13 @@ impl<W: World> Host<W> {
             to,
             words,
         )
+    }
+
+    /// Gives up the rest of what the main input reads (`next_file`), where no fault is kept.
+    pub(crate) fn next_file(&mut self, words: &[Word]) -> Result<Option<Word>, Refusal>
+        requires { self.old.tables.fault ≡ None }
+        ensures { (memory : List ℕ) → ComesTo W.tells (Import.Of row.NextFile) (host_form W.state self.old) words.now memory result (host_form W.state self.new) }
+    {
+        host_inputs::next_file(&mut self.world, &mut self.input, words)
     }
 }

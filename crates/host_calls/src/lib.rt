@@ -1,4 +1,4 @@
-//! The host of modules that awkwasm compiles: every import of the module `awk1`, over a world.
+//! The host of modules that awkwasm compiles: every import of the modules `awk1` and `awk2`, over a world.
 #![tactic(auto)]
 
 mod answers;

@@ -1,4 +1,4 @@
-//! Calls that write, and that close files.
+//! Calls that write, and that close and flush files.
 ghost use Rattle.std.specs.Prelude.{◌≡◌, List, ℕ, None};
 ghost use Rattle.awk_state.specs.declared.table.Primitive.TheVariants as row;
 ghost use Rattle.host_calls.specs.Calls.{ComesTo};
@@ -7,7 +7,7 @@ ghost use Rattle.host_step.specs.declared.import.Import.{Import};
 ghost use Rattle.host_step.specs.declared.import.Listing.{Listing};
 
 use crate::host::Host;
-use host_outputs::{close, print, printf};
+use host_outputs::{close, flush, print, printf};
 use host_values::Refusal;
 use wasm_store::Word;
 use world_core::World;
@@ -54,6 +54,19 @@ impl<W: World> Host<W> {
             &mut self.tables.handles,
             &mut self.input.files,
             &mut self.world,
+            words,
+        )
+    }
+
+    /// Whether the file of a name is open for writing: then all that was printed to it is out.
+    pub(crate) fn flush(&mut self, words: &[Word]) -> Result<Option<Word>, Refusal>
+        requires { self.old.tables.fault ≡ None }
+        ensures { (memory : List ℕ) → ComesTo W.tells (Import.Of row.Flush) (host_form W.state self.old) words.now memory result (host_form W.state self.new) }
+    {
+        flush(
+            self.alloc,
+            &mut self.tables.handles,
+            &self.input.files,
             words,
         )
     }

@@ -19,8 +19,8 @@ use Rattle.host_values.proofs.Spare.{spare_removed}
 use Rattle.host_arrays.specs.Pairs.{created, delete_pair, get_pair, pairs_at, set_pair, value_or_uninit}
 use Rattle.host_elements.specs.Calls.{IsNumbered, IsPut, IsTableCall, with_arrays}
 use Rattle.host_elements.specs.Forms.{Arrays, HostForm}
-use Rattle.host_elements.specs.Reads.{array_and_two, array_and_value}
-use Rattle.host_elements.proofs.ArraySteps.{delete_goes, elem_goes, has_goes, new_goes, set_goes}
+use Rattle.host_elements.specs.Reads.{array_and_two, array_and_value, only_number}
+use Rattle.host_elements.proofs.ArraySteps.{clear_goes, delete_goes, elem_goes, has_goes, new_goes, set_goes}
 use Rattle.host_elements.proofs.Steps.{leads, wanted}
 
 pub below_limit : 2147483647 < 2 ^ 31
@@ -37,6 +37,13 @@ new_call f arrays words memory (Err why.NoMemory) none ends free same =
     (λ p past. new_goes f p words memory 2147483647 none ends below_limit free past)
 new_call f arrays words memory (Err (why.Trap k)) none ends free g = absurd g
 new_call f arrays words memory (Err (why.Fault fault)) none ends free g = absurd g
+
+-- an array alone
+pub clear_call : (f : HostForm) (arrays : Arrays) (words : List Word) (memory : List ℕ) (a : ℤ) → f.fault ≡ None → only_number f.arrays words ≡ Ok a
+    → map.contains_key f.arrays a ≡ true → arrays ≡ map.insert f.arrays a [] → IsTableCall (Of row.Clear) f words memory (Ok (Some (I32 0))) (with_arrays f.values arrays f)
+clear_call f arrays words memory a none reads there cleared =
+    subst (λ (m : Arrays). IsTableCall (Of row.Clear) f words memory (Ok (Some (I32 0))) (with_arrays f.values m f)) (sym cleared)
+    (leads (Of row.Clear) f words memory (told.Done (Some (I32 0))) _ (λ p past. clear_goes f p words memory a none reads there past))
 
 -- an array, and the value of a key with its handle
 module _ (f : HostForm) (words : List Word) (memory : List ℕ) (none : f.fault ≡ None) (a h : ℤ) (v : Value) (reads : array_and_value f.arrays f.values words ≡ Ok (a, h, v)) (there : map.contains_key f.arrays a ≡ true) where

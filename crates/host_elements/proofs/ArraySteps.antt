@@ -32,10 +32,10 @@ use Rattle.host_values.proofs.Entries.{entries_insert, look_entries}
 use Rattle.host_arrays.specs.Pairs.{created, delete_pair, get_pair, pairs_at, pairs_or_none, set_pair, value_or_uninit}
 use Rattle.host_elements.specs.Calls.{IsTableCall, with_arrays}
 use Rattle.host_elements.specs.Forms.{Arrays, HostForm, IsHeld, Past, inner_of, state_of}
-use Rattle.host_elements.specs.Reads.{array_and_two, array_and_value}
+use Rattle.host_elements.specs.Reads.{array_and_two, array_and_value, only_number}
 use Rattle.host_elements.proofs.Elements.{at_place, created_new, created_old, element-get_pair, stored-set_pair}
 use Rattle.host_elements.proofs.Places.{HasPlace, a_place, added, changed, insert_held, inserted, no_place}
-use Rattle.host_elements.proofs.Reading.{both_decoded, both_row, key_decoded, key_row, place_at}
+use Rattle.host_elements.proofs.Reading.{array_alone, both_decoded, both_row, key_decoded, key_row, number_row, place_at}
 use Rattle.host_elements.proofs.Steps.{GoesOn, IsPast, acts_of, goes, state_with, trapped, unrefused}
 
 -- what an import comes to with the arguments that were decoded
@@ -135,6 +135,18 @@ delete_goes f p words memory a h v none reads there past =
           tt refl refl;
     }
 
+pub clear_goes : (f : HostForm) (p : Past) (words : List Word) (memory : List ℕ) (a : ℤ) → f.fault ≡ None → only_number f.arrays words ≡ Ok a
+    → map.contains_key f.arrays a ≡ true → IsPast f p → GoesOn (Of row.Clear) f p words memory (told.Done (Some (I32 0))) (with_arrays f.values (map.insert f.arrays a []) f)
+clear_goes f p words memory a none reads there past =
+    let now : Past = record p { arrays = slice_set p.arrays (place_at p.array_places a) [] } in
+    record {
+      now = now;
+      is = changed_past f p f.values a [] past there;
+      step = goes (Of row.Clear) f p (state_of (with_arrays f.values (map.insert f.arrays a []) f) now) words memory (state_of f p).names (inner_of f.shared.inner (slice_set p.arrays (place_at p.array_places a) []) p.iterators) tt 0 (Some (I32 0)) (unrefused (Of row.Clear) f.fault none)
+          (ap (carry (Of row.Clear) (state_of f p)) (array_alone f p (spends (Of row.Clear)) refl memory words past.arrays ∙ ap (λ r. number_row p.array_places r (state_of f p).names) reads))
+          tt refl refl;
+    }
+
 pub has_goes : (f : HostForm) (p : Past) (words : List Word) (memory : List ℕ) (a h : ℤ) (v : Value) → f.fault ≡ None → array_and_value f.arrays f.values words
     ≡ Ok (a, h, v) → map.contains_key f.arrays a ≡ true → IsPast f p → GoesOn (Of row.Has) f p words memory
     (told.Done (Some (I32 (flag_number (is_some (get_pair (text_of_value v) (pairs_at f.arrays a))))))) (with_arrays (map.remove f.values h) f.arrays f)
@@ -218,6 +230,12 @@ pub delete_traps : (f : HostForm) (words : List Word) (memory : List ℕ) (k : T
 delete_traps f words memory k none reads =
     trapped (Of row.Delete) f words memory k (unrefused (Of row.Delete) f.fault none)
     (λ p past. ap (carry (Of row.Delete) (state_of f p)) (key_decoded f p (spends (Of row.Delete)) refl refl memory past.arrays words ∙ ap (key_row f p (spends (Of row.Delete)) refl refl memory past.arrays) reads))
+
+pub clear_traps : (f : HostForm) (words : List Word) (memory : List ℕ) (k : TrapKind) → f.fault ≡ None → only_number f.arrays words ≡ Err k
+    → IsTableCall (Of row.Clear) f words memory (Err (why.Trap k)) f
+clear_traps f words memory k none reads =
+    trapped (Of row.Clear) f words memory k (unrefused (Of row.Clear) f.fault none)
+    (λ p past. ap (carry (Of row.Clear) (state_of f p)) (array_alone f p (spends (Of row.Clear)) refl memory words past.arrays ∙ ap (λ r. number_row p.array_places r (state_of f p).names) reads))
 
 pub set_traps : (f : HostForm) (words : List Word) (memory : List ℕ) (k : TrapKind) → f.fault ≡ None → array_and_two f.arrays f.values words ≡ Err k
     → IsTableCall (Of row.SetElem) f words memory (Err (why.Trap k)) f

@@ -172,6 +172,23 @@ pub fn delete(
     Ok(Some(DONE))
 }
 
+/// Takes all elements away. The array stays, and what is left to visit of its keys. It takes no memory.
+///
+/// # Errors
+///
+/// A trap, which changes nothing.
+pub fn clear(arrays: &mut Arrays, words: &[Word]) -> Result<Option<Word>, Refusal>
+    ensures step { (f : HostForm) (memory : List ℕ) → f.fault ≡ None → IsTableCall (Import.Of row.Clear) (with_arrays f.values arrays.old f) words.now memory result (with_arrays f.values arrays.new f) }
+    ensures spare { map.get arrays.old spare ≡ None → map.get arrays.new spare ≡ None }
+{
+    let number = match only_array(arrays, words) {
+        Ok(number) => number,
+        Err(kind) => return Err(Refusal::Trap(kind)),
+    };
+    arrays.clear(number);
+    Ok(Some(DONE))
+}
+
 /// Gives an array up, also where a fault is kept. ARGV and ENVIRON stay.
 ///
 /// # Errors

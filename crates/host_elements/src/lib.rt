@@ -6,7 +6,7 @@ mod iterators;
 mod keys;
 mod words;
 
-pub use arrays::{delete, elem, free_array, has, new_array, set_elem};
+pub use arrays::{clear, delete, elem, free_array, has, new_array, set_elem};
 pub use iterators::Iterators;
 pub use keys::{iter, iter_free, iter_next};
 pub use words::array_front;

@@ -26,7 +26,7 @@ use Rattle.host_values.specs.declared.reply.Reply.TheVariants as reply
 use Rattle.host_values.proofs.Entries.{entries_insert, look_entries}
 use Rattle.host_elements.specs.Forms.{HostForm, Past, inner_of, state_of}
 use Rattle.host_elements.proofs.ArrayCalls.{below_limit}
-use Rattle.host_elements.proofs.Steps.{done_is_some, goes, state_with, traps, unrefused}
+use Rattle.host_elements.proofs.Steps.{done_is_some, goes, state_with, unrefused}
 use Rattle.form_meaning.specs.WorldCalls.{IsCalled}
 use Rattle.host_inputs.specs.Calls.{with_values}
 use Rattle.host_inputs.specs.Keeps.{with_line}
@@ -34,6 +34,7 @@ use Rattle.host_inputs.specs.States.{over_world, with_tables}
 use Rattle.host_inputs.specs.declared.input.Input.{Input}
 use Rattle.host_inputs.proofs.MainCalls.{no_words}
 use Rattle.host_inputs.proofs.ReadSteps.{form_output, leads_in}
+use Rattle.host_inputs.proofs.Silent.{silent_trap}
 
 module _ (tells : Type 0) (f : HostForm) (memory : List ℕ) (none : f.fault ≡ None) (t : Texts) (s : State) where
   abbrev form : Values → Input → HostForm
@@ -42,12 +43,7 @@ module _ (tells : Type 0) (f : HostForm) (memory : List ℕ) (none : f.fault ≡
   -- a trap changes nothing
   trap_called : (m : Values) (i : Input) (words : List Word) (k : TrapKind) → ((o : List Action) (p : Past) → carried (Of row.Line) words memory (state_of (form_output o (form m i)) p) ≡ Err k)
       → IsCalled tells (Of row.Line) (form m i) words memory (Err (why.Trap k)) (form m i) []
-  trap_called m i words k e = leads_in tells (Of row.Line) (form m i) (form m i) words memory (told.Trap k) refl refl (λ p past. record {
-    typed = tt;
-    step = λ y o. subst (λ q. StepOf (Of row.Line) (state_of (form_output o (form m i)) p) words memory (told.Trap k) (with_output q (state_of (form m i) p)) []) (sym (append-nil o))
-        (traps (Of row.Line) (form_output o (form m i)) p words memory k (unrefused (Of row.Line) f.fault none) (e o p));
-    anyhow = record { old = state_of (form m i) p; new = state_of (form m i) p; output = []; same_before = refl; same_after = refl; step = traps (Of row.Line) (form m i) p words memory k (unrefused (Of row.Line) f.fault none) (e f.shared.output p) };
-  })
+  trap_called m i words k e = silent_trap tells (Of row.Line) (form m i) words memory k refl none e
 
   same_kind : (k : TrapKind) → ◌≡◌ {A = Result (Unit {0}) TrapKind} (Err BadArgument) (Err k) → BadArgument ≡ k
   same_kind k e = cc

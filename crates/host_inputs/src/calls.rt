@@ -13,7 +13,7 @@ ghost use Rattle.host_elements.specs.Calls.{IsTableCall};
 ghost use Rattle.host_elements.specs.Forms.{HostForm};
 ghost use Rattle.form_meaning.specs.WorldCalls.{IsCalled};
 ghost use Rattle.host_inputs.specs.Calls.{answered_by, shown_after, with_values};
-ghost use Rattle.host_inputs.specs.Keeps.{IsMovedOn, IsReadOn, with_end, with_line};
+ghost use Rattle.host_inputs.specs.Keeps.{IsMovedOn, IsReadOn, with_end, with_line, with_main_input};
 ghost use Rattle.host_inputs.specs.Givens.{file_primitive, main_primitive};
 ghost use Rattle.host_inputs.specs.States.{HoldsInput, over_world};
 
@@ -29,6 +29,9 @@ use host_values::{Refusal, Reply, ends, give, value_front};
 use std::alloc::Global;
 use wasm_store::{TrapKind, Word};
 use world_core::World;
+
+/// What is answered where nothing else is to be said.
+const DONE: Word = Word::I32(0);
 
 /// The word of an answer.
 fn input_code(answer: InputAnswer) -> u32
@@ -167,4 +170,29 @@ pub fn begin_end(input: &mut Input, words: &[Word]) -> Result<Option<Word>, Refu
     }
     input.in_end = true;
     Ok(None)
+}
+
+/// Gives up the rest of what the main input reads (`next_file`), where no fault is kept. It takes no memory.
+///
+/// # Errors
+///
+/// A trap where there are words, which changes nothing.
+pub fn next_file<W: World>(
+    world: &mut W,
+    input: &mut Input,
+    words: &[Word],
+) -> Result<Option<Word>, Refusal>
+    requires held { HoldsInput input.old (W.kinds world.old) }
+    requires goes { W.tells → WritersGo input.old.files.writers.items (W.state world.old) }
+    ensures held { HoldsInput input.new (W.kinds world.new) }
+    ensures goes { W.tells → WritersGo input.new.files.writers.items (W.state world.new) }
+    ensures outside { W.tells → (W.state world.new).outside ≡ (W.state world.old).outside }
+    ensures rest { input.new ≡ with_main_input input.new.main input.old }
+    ensures called { (f : HostForm) (memory : List ℕ) (texts : AnyTexts) → f.fault ≡ None → IsCalled W.tells (Import.Of row.NextFile) (over_world texts input.old (W.state world.old) f) words.now memory result (over_world texts input.new (W.state world.new) f) [] }
+{
+    if let Err(kind) = ends(words) {
+        return Err(Refusal::Trap(kind));
+    }
+    input.main.skip(world);
+    Ok(Some(DONE))
 }

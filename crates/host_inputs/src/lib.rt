@@ -9,5 +9,5 @@ mod main_record;
 mod record;
 mod turn;
 
-pub use calls::{begin_end, line, read_file, read_main};
+pub use calls::{begin_end, line, next_file, read_file, read_main};
 pub use input::{Input, Keep, MainRead};

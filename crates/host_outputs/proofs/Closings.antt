@@ -9,15 +9,15 @@ use Rattle.awk_state.specs.InputRows.{close_row, is_open, is_reading, reader_nam
 use Rattle.awk_state.specs.OutputRows.{is_writing}
 use Rattle.awk_state.specs.SharedState.{Inner, Shared}
 use Rattle.awk_state.specs.Texts.{same_text}
-use Rattle.awk_state.specs.declared.answers.CloseAnswer.{CloseAnswer}
-use Rattle.awk_state.specs.declared.answers.CloseAnswer.TheVariants.{Closed, NothingOpen}
+use Rattle.awk_state.specs.declared.answers.StreamAnswer.{StreamAnswer}
+use Rattle.awk_state.specs.declared.answers.StreamAnswer.TheVariants as stream
 use Rattle.awk_state.specs.declared.table.Primitive.TheVariants as row
 use Rattle.machine_model.specs.declared.host.HostAnswer.TheVariants as told
 use Rattle.wasm_store.specs.declared.trap.TrapKind.{TrapKind}
 use Rattle.wasm_store.specs.declared.word.Word.{Word}
 use Rattle.wasm_store.specs.declared.word.Word.TheVariants.{I32}
 use Rattle.world_core.specs.WorldState.{Action, Outside, Source, State}
-use Rattle.host_step.specs.Answers.{close_code}
+use Rattle.host_step.specs.Answers.{stream_code}
 use Rattle.host_step.specs.HostState.{HostState}
 use Rattle.host_step.specs.HostStep.{StepOf, acts, carried}
 use Rattle.host_step.specs.Arguments.{and_then}
@@ -64,14 +64,14 @@ reading_named : (name : List ℕ) (rs : List NamedReader) (state : State) → is
 reading_named name [] state = refl
 reading_named name (r ∷ rs) state = reading_first name (same_text name r.name) _ (reader_named name (readers_in rs state)) _ (reading_named name rs state)
 
-code_by : (b : Bool) → I32 (close_code (if b then Closed else NothingOpen)) ≡ closed_code b
+pub code_by : (b : Bool) → I32 (stream_code (if b then stream.Done else stream.NotOpen)) ≡ closed_code b
 code_by true = refl
 code_by false = refl
 
 -- The step.
 
 module _ (f : HostForm) (p : Past) (words : List Word) (memory : List ℕ) where
-  abbrev closes : Value → Inner × CloseAnswer
+  abbrev closes : Value → Inner × StreamAnswer
   closes v = close_row v (state_of f p).shared.inner
 
   close_carried : (h : ℤ) (v : Value) → only_handle f.values words ≡ Ok (h, v)
@@ -86,7 +86,7 @@ module _ (f : HostForm) (p : Past) (words : List Word) (memory : List ℕ) where
       (decoded (spends (Of row.Close)) refl (state_of f p) f.values memory words ∙ ap (as_row (state_of f p) f.values) is)
 
   close_step : (h : ℤ) (v : Value) → f.fault ≡ None → only_handle f.values words ≡ Ok (h, v)
-      → StepOf (Of row.Close) (state_of f p) words memory (told.Done (Some (I32 (close_code (closes v).1)))) (state_with (names_with (table.remove f.values h) (state_of f p)) (closes v).0 f) []
+      → StepOf (Of row.Close) (state_of f p) words memory (told.Done (Some (I32 (stream_code (closes v).1)))) (state_with (names_with (table.remove f.values h) (state_of f p)) (closes v).0 f) []
   close_step h v none is =
       goes (Of row.Close) f p _ words memory (names_with (table.remove f.values h) (state_of f p)) (closes v).0 (closes v).1 0 _ (unrefused (Of row.Close) f.fault none) (close_carried h v is) tt refl refl
 
@@ -115,7 +115,7 @@ module _ (tells : Type 0) (f : HostForm) (words : List Word) (memory : List ℕ)
     ap (λ (x : HostState). x.shared.outside) st.state,
     subst (λ (x : HostState). Wanted (Some (Of row.Close)) x words memory x []) (sym st.state) (record {
       outside = refl;
-      answer = told.Done (Some (I32 (close_code (closes at_first st.past words memory v).1)));
+      answer = told.Done (Some (I32 (stream_code (closes at_first st.past words memory v).1)));
       answered = λ e. cc;
       state = state_with (names_with (table.remove values h) (state_of at_first st.past)) (closes at_first st.past words memory v).0 at_first;
       rest = [];
@@ -132,7 +132,7 @@ module _ (tells : Type 0) (f : HostForm) (words : List Word) (memory : List ℕ)
     abbrev at_last : HostForm
     at_last = closing values' streams' state' f
 
-    code_is : (p : Past) → I32 (close_code (closes at_first p words memory v).1) ≡ closed_code closed
+    code_is : (p : Past) → I32 (stream_code (closes at_first p words memory v).1) ≡ closed_code closed
     code_is p =
         code_by (is_open (text_of_value v) (state_of at_first p).shared.inner)
         ∙ ap (λ n. closed_code (is_open n (state_of at_first p).shared.inner)) (sym text)

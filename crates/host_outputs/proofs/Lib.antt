@@ -10,3 +10,4 @@ pub mod Faults
 pub mod Tables
 pub mod Printed
 pub mod Closings
+pub mod Flushes

@@ -2,11 +2,11 @@
 use Rattle.std.specs.Prelude.{Bool, true, false, List}
 use Rattle.awk_values.specs.declared.value.Value.{Value}
 use Rattle.awk_state.specs.SharedState.{Inner, Shared}
-use Rattle.awk_state.specs.declared.answers.CloseAnswer.TheVariants.{Closed, NothingOpen}
+use Rattle.awk_state.specs.declared.answers.StreamAnswer.TheVariants as stream
 use Rattle.wasm_store.specs.declared.word.Word.{Word}
 use Rattle.wasm_store.specs.declared.word.Word.TheVariants.{I32}
 use Rattle.world_core.specs.WorldState.{State}
-use Rattle.host_step.specs.Answers.{close_code}
+use Rattle.host_step.specs.Answers.{stream_code}
 use Rattle.host_streams.specs.OpenFiles.{names_of, readers_in}
 use Rattle.host_streams.specs.declared.streams.Streams.{Streams}
 use Rattle.host_texts.specs.States.{specials_of}
@@ -53,5 +53,5 @@ abbrev pub closing : Values → Streams → State → HostForm → HostForm
 closing values streams state f = with_values values (with_streams streams state f)
 
 abbrev pub closed_code : Bool → Word
-closed_code true = I32 (close_code Closed)
-closed_code false = I32 (close_code NothingOpen)
+closed_code true = I32 (stream_code stream.Done)
+closed_code false = I32 (stream_code stream.NotOpen)

@@ -2,7 +2,7 @@
 ghost use Rattle.std.specs.Prelude.{◌≡◌, List, [], ℕ, None};
 ghost use Rattle.std.specs.FinMap as map;
 ghost use Rattle.awk_state.specs.declared.table.Primitive.TheVariants as row;
-ghost use Rattle.host_step.specs.Answers.{close_code};
+ghost use Rattle.host_step.specs.Answers.{stream_code};
 ghost use Rattle.host_step.specs.declared.import.Import.{Import};
 ghost use Rattle.host_elements.specs.Forms.{HostForm};
 ghost use Rattle.host_streams.specs.OpenFiles.{HoldsOpen, OthersKeep, OthersStay, WritersGo, readers_beside};
@@ -21,7 +21,10 @@ use wasm_store::{TrapKind, Word};
 use world_core::World;
 
 /// The one value that words name, with its handle.
-fn only_value<'a>(handles: &'a Handles, words: &[Word]) -> Result<(i32, &'a Value), TrapKind>
+pub(crate) fn only_value<'a>(
+    handles: &'a Handles,
+    words: &[Word],
+) -> Result<(i32, &'a Value), TrapKind>
     ensures { lent_only result ≡ only_handle handles.now words.now }
 {
     let (handle, value, rest) = value_front(handles, words)?;
@@ -29,11 +32,11 @@ fn only_value<'a>(handles: &'a Handles, words: &[Word]) -> Result<(i32, &'a Valu
     Ok((handle, value))
 }
 
-/// The answer by whether a file was open.
-fn code(closed: bool) -> Word
-    ensures { result ≡ closed_code closed }
+/// The answer by whether there was a file to close, or to flush.
+pub(crate) fn code(done: bool) -> Word
+    ensures { result ≡ closed_code done }
 {
-    Word::I32(if closed { 0 } else { 3 })
+    Word::I32(if done { 0 } else { 3 })
 }
 
 /// Closes the file that a value names, for reading and for writing, where no fault is kept, and answers whether it was open.

@@ -89,4 +89,5 @@ pub no_trap : (i : Import) (before : HostState) (memory : List ℕ) (a : HostAns
 no_trap (Of row.Uninit) before memory a after out kind h s = refused_or (Of row.Uninit) (refuses (Of row.Uninit) before.fault) before after before.names _ _ a out kind refl s
 no_trap (Of row.NewArray) before memory a after out kind h s = refused_or (Of row.NewArray) (refuses (Of row.NewArray) before.fault) before after before.names _ _ a out kind refl s
 no_trap (Of row.BeginEnd) before memory a after out kind h s = refused_or (Of row.BeginEnd) (refuses (Of row.BeginEnd) before.fault) before after before.names _ _ a out kind refl s
+no_trap (Of row.NextFile) before memory a after out kind h s = refused_or (Of row.NextFile) (refuses (Of row.NextFile) before.fault) before after before.names _ _ a out kind refl s
 no_trap _ before memory a after out kind h s = cc

@@ -8,8 +8,8 @@ use Rattle.awk_state.specs.declared.answers.InputAnswer.{InputAnswer}
 use Rattle.awk_state.specs.declared.answers.InputAnswer.TheVariants as input
 use Rattle.awk_state.specs.declared.answers.AssignAnswer.{AssignAnswer}
 use Rattle.awk_state.specs.declared.answers.AssignAnswer.TheVariants as assign
-use Rattle.awk_state.specs.declared.answers.CloseAnswer.{CloseAnswer}
-use Rattle.awk_state.specs.declared.answers.CloseAnswer.TheVariants as close
+use Rattle.awk_state.specs.declared.answers.StreamAnswer.{StreamAnswer}
+use Rattle.awk_state.specs.declared.answers.StreamAnswer.TheVariants as stream
 use Rattle.awk_state.specs.declared.sorts.Sort.{Sort}
 use Rattle.awk_state.specs.declared.sorts.Sort.TheVariants.{Value, Number, Array, Iterator}
 use Rattle.awk_state.specs.declared.sorts.Answer.{Answer}
@@ -29,9 +29,9 @@ abbrev pub assign_code : AssignAnswer → ℕ
 assign_code assign.NoneLeft = 0
 assign_code assign.Pending = 2
 
-abbrev pub close_code : CloseAnswer → ℕ
-close_code close.Closed = 0
-close_code close.NothingOpen = 3
+abbrev pub stream_code : StreamAnswer → ℕ
+stream_code stream.Done = 0
+stream_code stream.NotOpen = 3
 
 -- -1
 abbrev pub minus_one : Word
@@ -70,7 +70,7 @@ encode q names answer.Truth b = (Some (I32 (flag_number b)), names)
 encode q names answer.Done x = (Some (I32 0), names)
 encode q names answer.Input x = (Some (I32 (input_code x)), names)
 encode q names answer.Assign x = (Some (I32 (assign_code x)), names)
-encode q names answer.Close x = (Some (I32 (close_code x)), names)
+encode q names answer.Stream x = (Some (I32 (stream_code x)), names)
 encode q names answer.ValueOrEnd x = encode_option q names x
 encode q names answer.Name n = (Some (I32 n), names)
 

@@ -83,6 +83,13 @@ pub arrays_apart : answers [] (holding (Text (codes "k") ∷ Text (codes "k") �
     ∷ new 4 (Of row.Elem) (I32 2 ∷ I32 0 ∷ []) ∷ call (Of row.Has) (I32 3 ∷ I32 1 ∷ []) ∷ []) ≡ gives 2 ∷ gives 3 ∷ gives 4 ∷ gives 0 ∷ []
 arrays_apart = refl
 
+-- an array that is emptied is there all the same, by its number; its number is not spent
+pub cleared : answers [] (holding (Text (codes "k") ∷ Text (codes "k") ∷ Text (codes "k") ∷ [])) (new 2 (Of row.NewArray) []
+    ∷ new 4 (Of row.Elem) (I32 2 ∷ I32 0 ∷ []) ∷ new 0 (Of row.Iter) (I32 2 ∷ []) ∷ call (Of row.Clear) (I32 2 ∷ []) ∷ call (Of row.Has) (I32 2 ∷ I32 1 ∷ [])
+    ∷ new 5 (Of row.IterNext) (I32 0 ∷ []) ∷ new 6 (Of row.Elem) (I32 2 ∷ I32 2 ∷ []) ∷ call (Of row.Clear) (I32 3 ∷ []) ∷ [])
+    ≡ gives 2 ∷ gives 4 ∷ gives 0 ∷ gives 0 ∷ gives 0 ∷ gives 5 ∷ gives 6 ∷ Trap BadHandle ∷ []
+cleared = refl
+
 -- Texts.
 
 pub index_found : answers [] (holding (Text (codes "hello") ∷ Text (codes "l") ∷ [])) (call (Of row.Index) (I32 0 ∷ I32 1 ∷ []) ∷ []) ≡ counts 3 ∷ []
@@ -148,6 +155,12 @@ pub print_to_a_file : (after [] (listed (Text (codes "a") ∷ Text (codes "f") �
     (call (Over Print) (I32 1 ∷ I32 1 ∷ []) ∷ call (Over Print) (I32 1 ∷ I32 1 ∷ []) ∷ [])).shared.output
     ≡ Open (codes "f") false ∷ puts (Named (codes "f")) (codes "b" ++ 10 ∷ codes "a" ++ 10 ∷ [])
 print_to_a_file = refl
+
+-- a flush tells whether the name is written to, and the empty text names all; its argument is spent
+pub flushed : answers [] (record (holding (Text (codes "f") ∷ Text (codes "g") ∷ Text [] ∷ [])) { arguments = Text (codes "a") ∷ Text (codes "f") ∷ [] })
+    (call (Over Print) (I32 1 ∷ I32 1 ∷ []) ∷ call (Of row.Flush) (I32 0 ∷ []) ∷ call (Of row.Flush) (I32 1 ∷ []) ∷ call (Of row.Flush) (I32 2 ∷ [])
+    ∷ call (Of row.Flush) (I32 2 ∷ []) ∷ []) ≡ gives 0 ∷ gives 0 ∷ gives 3 ∷ gives 0 ∷ Trap BadHandle ∷ []
+flushed = refl
 
 -- the standard output has room for two bytes: what fits goes out, the values are taken all the same, and the fault is kept
 abbrev full : HostState

@@ -13,7 +13,7 @@ use Rattle.machine_model.specs.declared.host.HostAnswer.{HostAnswer}
 use Rattle.machine_model.specs.declared.host.HostAnswer.TheVariants as told
 use Rattle.wasm_store.specs.declared.word.Word.{Word}
 use Rattle.world_core.specs.WorldState.{Action}
-use Rattle.host_step.specs.Imports.{host_finds, host_types, import_answer, import_at, import_type, module_name, number_named, numbered, result_of, same_name, type_if_there, with_type}
+use Rattle.host_step.specs.Imports.{host_finds, host_types, import_answer, import_at, import_type, imports_in, number_below, number_named, numbered, result_of, type_if_there, with_type}
 use Rattle.host_step.specs.HostState.{HostState, Names}
 use Rattle.host_step.specs.Answers.{encode, refusal}
 use Rattle.host_step.specs.HostStep.{Acts, Comes, Goes, Given, HostStep, IsGiven, Refuses, Settles, StepBy, StepIf, Traps, comes}
@@ -29,13 +29,9 @@ found_typed : (o : Option ℕ) (r : ℕ × Signature) → with_type o ≡ Some r
 found_typed None r h = cc
 found_typed (Some n) r h = found_numbered n (host_types n) r refl h
 
-found_by : (b : Bool) (o : Option ℕ) (r : ℕ × Signature) → cond b (with_type o) None ≡ Some r → host_types r.0 ≡ Some r.1
-found_by true o r h = found_typed o r h
-found_by false o r h = cc
-
 -- an import that is found has this type
 pub host_found : (from name : List ℕ) (r : ℕ × Signature) → host_finds from name ≡ Some r → host_types r.0 ≡ Some r.1
-host_found from name r h = found_by (same_name from module_name) (number_named name) r h
+host_found from name r h = found_typed (number_below (imports_in from) (number_named name)) r h
 
 option_typed : (q : ℕ) (names : Names) (x : InAnswer answer.ValueOrEnd) → type_if (encode q names answer.ValueOrEnd x).0 ≡ result_of answer.ValueOrEnd
 option_typed q names None = refl
@@ -54,7 +50,7 @@ answer_typed q names answer.Truth x = refl
 answer_typed q names answer.Done x = refl
 answer_typed q names answer.Input x = refl
 answer_typed q names answer.Assign x = refl
-answer_typed q names answer.Close x = refl
+answer_typed q names answer.Stream x = refl
 answer_typed q names answer.ValueOrEnd x = option_typed q names x
 answer_typed q names answer.Name x = refl
 
@@ -68,7 +64,7 @@ refusal_typed answer.Truth = refl
 refusal_typed answer.Done = refl
 refusal_typed answer.Input = refl
 refusal_typed answer.Assign = refl
-refusal_typed answer.Close = refl
+refusal_typed answer.Stream = refl
 refusal_typed answer.ValueOrEnd = refl
 refusal_typed answer.Name = refl
 

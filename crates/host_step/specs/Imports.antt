@@ -1,7 +1,7 @@
--- The table of imports of the module `awk1`: number, name, arguments and answer of each, what it spends, whether it may trap or fault.
+-- The table of imports of the modules `awk1` and `awk2`: number, name, arguments and answer of each, what it spends, whether it may trap or fault.
 use Rattle.std.specs.List.{position}
 use Rattle.std.specs.Cmp.Lexicographic.{pointwise}
-use Rattle.std.specs.Prelude.{ℕ, ◌==◌, Bool, true, false, List, [], ◌∷◌, ◌++◌, codes, Option, Some, None, slice_get, map, cond}
+use Rattle.std.specs.Prelude.{ℕ, ◌==◌, nat_lt, Bool, true, false, List, [], ◌∷◌, ◌++◌, codes, Option, Some, None, slice_get, map, cond}
 use Rattle.wasm_types.specs.Syntax.{Signature}
 use Rattle.wasm_types.specs.declared.types.ValType.{ValType}
 use Rattle.wasm_types.specs.declared.types.ValType.TheVariants.{I32, I64}
@@ -68,6 +68,9 @@ primitive_name row.PendingName = codes "pending_name"
 primitive_name row.PendingValue = codes "pending_value"
 primitive_name row.BeginEnd = codes "begin_end"
 primitive_name row.Close = codes "close"
+primitive_name row.NextFile = codes "next_file"
+primitive_name row.Clear = codes "clear"
+primitive_name row.Flush = codes "flush"
 
 abbrev pub listing_name : Listing → List ℕ
 listing_name Sprintf = codes "sprintf"
@@ -82,9 +85,6 @@ import_name Drop = codes "drop"
 import_name IterFree = codes "iter_free"
 import_name FreeArray = codes "free_array"
 
-abbrev pub module_name : List ℕ
-module_name = codes "awk1"
-
 -- in the order of their numbers
 abbrev pub imports : List Import
 imports = Of row.Num ∷ Of row.Lit ∷ Of row.Uninit ∷ Of row.Dup ∷ Of row.ToNum ∷ Of row.IntOf ∷ Of row.Truth ∷ Of row.Compare ∷ Of row.Concat
@@ -93,14 +93,14 @@ imports = Of row.Num ∷ Of row.Lit ∷ Of row.Uninit ∷ Of row.Dup ∷ Of row.
     ∷ Of row.Sub ∷ Of row.SubResult ∷ Of row.Split ∷ Of row.Substr ∷ Of row.SubstrFrom ∷ Of row.Index ∷ Of row.Lower ∷ Of row.Upper
     ∷ Of row.NextMain ∷ Of row.Getline ∷ Of row.GetlineVar ∷ Of row.GetlineFile ∷ Of row.GetlineVarFile ∷ Of row.Line ∷ Of row.Declare
     ∷ Of row.StartAssign ∷ Of row.PendingName ∷ Of row.PendingValue ∷ Of row.BeginEnd ∷ Of row.Close ∷ Arg ∷ Over Sprintf ∷ Over Print
-    ∷ Over Printf ∷ Drop ∷ IterFree ∷ FreeArray ∷ []
+    ∷ Over Printf ∷ Drop ∷ IterFree ∷ FreeArray ∷ Of row.NextFile ∷ Of row.Clear ∷ Of row.Flush ∷ []
 
 abbrev pub import_at : ℕ → Option Import
 import_at n = slice_get imports n
 
 -- how many there are; the functions of a module come after them
 abbrev pub import_count : ℕ
-import_count = 53
+import_count = 56
 
 abbrev pub primitive_number : Primitive → ℕ
 primitive_number row.Num = 0
@@ -149,6 +149,9 @@ primitive_number row.PendingName = 42
 primitive_number row.PendingValue = 43
 primitive_number row.BeginEnd = 44
 primitive_number row.Close = 45
+primitive_number row.NextFile = 53
+primitive_number row.Clear = 54
+primitive_number row.Flush = 55
 
 abbrev pub listing_number : Listing → ℕ
 listing_number Sprintf = 47
@@ -230,6 +233,7 @@ abbrev pub can_trap : Import → Bool
 can_trap (Of row.Uninit) = false
 can_trap (Of row.NewArray) = false
 can_trap (Of row.BeginEnd) = false
+can_trap (Of row.NextFile) = false
 can_trap _ = true
 
 -- Types.
@@ -279,6 +283,14 @@ abbrev pub with_type : Option ℕ → Option (ℕ × Signature)
 with_type None = None
 with_type (Some n) = numbered n (host_types n)
 
+-- how many of the imports a module of this name has, by the same numbers: `awk1` the first 53, `awk2` all
+abbrev pub imports_in : List ℕ → ℕ
+imports_in from = cond (same_name from (codes "awk1")) 53 (cond (same_name from (codes "awk2")) import_count 0)
+
+abbrev pub number_below : ℕ → Option ℕ → Option ℕ
+number_below count None = None
+number_below count (Some n) = cond (nat_lt n count) (Some n) None
+
 -- the number and the type of an import, by the names of its module and of itself
 abbrev pub host_finds : List ℕ → List ℕ → Option (ℕ × Signature)
-host_finds from name = cond (same_name from module_name) (with_type (number_named name)) None
+host_finds from name = with_type (number_below (imports_in from) (number_named name))

@@ -98,6 +98,11 @@ pub records_read : answers [] (reading (codes "a" ++ 10 ∷ codes "b")) (call (O
     ∷ call (Of row.NextMain) [] ∷ call (Of row.Getline) [] ∷ []) ≡ gives 1 ∷ gives 1 ∷ gives 0 ∷ gives 0 ∷ []
 records_read = refl
 
+-- the rest of the input is given up; where nothing is being read nothing is
+pub rest_given_up : answers [] (reading (codes "a" ++ 10 ∷ codes "b")) (call (Of row.NextFile) [] ∷ call (Of row.NextMain) [] ∷ call (Of row.NextFile) []
+    ∷ call (Of row.NextMain) [] ∷ []) ≡ gives 0 ∷ gives 1 ∷ gives 0 ∷ gives 0 ∷ []
+rest_given_up = refl
+
 -- a line for a variable is given once, and there is none before
 pub line_once : answers [] (reading (codes "a" ++ 10 ∷ [])) (call (Of row.Line) [] ∷ call (Of row.GetlineVar) [] ∷ new 3 (Of row.Line) []
     ∷ call (Of row.Line) [] ∷ []) ≡ Trap BadArgument ∷ gives 1 ∷ gives 3 ∷ Trap BadArgument ∷ []

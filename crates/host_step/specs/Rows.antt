@@ -32,7 +32,7 @@ with_numbers (i ∷ is) = (import_number i, i) ∷ with_numbers is
 pub numbers_are_places : with_numbers imports ≡ numbered_from 0 imports
 numbers_are_places = refl
 
-pub none_past_the_last : import_at 53 ≡ None
+pub none_past_the_last : import_at 56 ≡ None
 none_past_the_last = refl
 
 pub found_pow : host_finds (codes "awk1") (codes "pow") ≡ Some (9, record { params = ty.I64 ∷ ty.I64 ∷ []; result = Some ty.I64 })
@@ -47,8 +47,22 @@ found_free_array = refl
 pub found_substr : host_finds (codes "awk1") (codes "substr") ≡ Some (29, record { params = ty.I32 ∷ ty.I64 ∷ ty.I64 ∷ []; result = Some ty.I32 })
 found_substr = refl
 
-pub not_found : host_finds (codes "awk2") (codes "pow") ≡ None
-not_found = refl
+-- `awk2` has them too, by the same numbers, and three more
+pub found_in_second : host_finds (codes "awk2") (codes "pow") ≡ host_finds (codes "awk1") (codes "pow")
+found_in_second = refl
+
+pub found_next_file : host_finds (codes "awk2") (codes "next_file") ≡ Some (53, record { params = []; result = Some ty.I32 })
+found_next_file = refl
+
+pub found_flush : host_finds (codes "awk2") (codes "flush") ≡ Some (55, record { params = ty.I32 ∷ []; result = Some ty.I32 })
+found_flush = refl
+
+pub not_in_first : host_finds (codes "awk1") (codes "next_file") ∷ host_finds (codes "awk1") (codes "clear") ∷ host_finds (codes "awk1") (codes "flush") ∷ []
+    ≡ None ∷ None ∷ None ∷ []
+not_in_first = refl
+
+pub no_such_module : host_finds (codes "awk3") (codes "pow") ≡ None
+no_such_module = refl
 
 -- Unfit words.
 

@@ -1,6 +1,6 @@
-//! The imports of the module `awk1`.
+//! The imports of the modules `awk1` and `awk2`.
 ghost use Rattle.std.specs.Prelude.{◌≡◌, slice_get};
-ghost use Rattle.host_step.specs.Imports.{can_fault, can_trap, import_answer, import_arguments, import_at, import_name, lets_go, spends};
+ghost use Rattle.host_step.specs.Imports.{can_fault, can_trap, import_answer, import_arguments, import_at, import_name, imports_in, lets_go, spends};
 
 use awk_state::{Answer, Argument, Constant, Primitive, Sort};
 
@@ -28,7 +28,7 @@ pub enum Import {
 }
 
 /// The imports in the order of their numbers, from 0 on.
-pub const IMPORTS: [Import; 53] = [
+pub const IMPORTS: [Import; 56] = [
     Import::Of(Primitive::Num),
     Import::Of(Primitive::Lit),
     Import::Of(Primitive::Uninit),
@@ -82,7 +82,23 @@ pub const IMPORTS: [Import; 53] = [
     Import::Drop,
     Import::IterFree,
     Import::FreeArray,
+    Import::Of(Primitive::NextFile),
+    Import::Of(Primitive::Clear),
+    Import::Of(Primitive::Flush),
 ];
+
+/// How many of the imports, from the first on, a module of this name has.
+pub fn imports_in(from: &[u8]) -> usize
+    ensures { result ≡ imports_in from.now }
+{
+    if from == b"awk1".as_slice() {
+        53
+    } else if from == b"awk2".as_slice() {
+        56
+    } else {
+        0
+    }
+}
 
 fn primitive_name(primitive: Primitive) -> &'static str
     ensures { result.now ≡ import_name (Import.Of primitive) }
@@ -134,6 +150,9 @@ fn primitive_name(primitive: Primitive) -> &'static str
         Primitive::PendingValue => "pending_value",
         Primitive::BeginEnd => "begin_end",
         Primitive::Close => "close",
+        Primitive::NextFile => "next_file",
+        Primitive::Clear => "clear",
+        Primitive::Flush => "flush",
     }
 }
 
@@ -261,7 +280,9 @@ impl Import {
     {
         !matches!(
             self,
-            Import::Of(Primitive::Uninit | Primitive::NewArray | Primitive::BeginEnd)
+            Import::Of(
+                Primitive::Uninit | Primitive::NewArray | Primitive::BeginEnd | Primitive::NextFile
+            )
         )
     }
 }

@@ -5,4 +5,4 @@
 mod import;
 pub mod laws;
 
-pub use import::{IMPORTS, Import, Listing};
+pub use import::{IMPORTS, Import, Listing, imports_in};

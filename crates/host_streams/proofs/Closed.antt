@@ -10,7 +10,7 @@ use Rattle.awk_state.specs.Texts.{same_text}
 use Rattle.awk_state.specs.InputRows.{close_row, is_reading, reader_named, without_reader, without_writer}
 use Rattle.awk_state.specs.OutputRows.{is_writing}
 use Rattle.awk_state.specs.SharedState.{Shared}
-use Rattle.awk_state.specs.declared.answers.CloseAnswer.TheVariants.{Closed as IsClosed, NothingOpen}
+use Rattle.awk_state.specs.declared.answers.StreamAnswer.TheVariants as stream
 use Rattle.host_streams.specs.declared.streams.NamedReader.{NamedReader}
 use Rattle.host_streams.specs.declared.streams.NamedWriter.{NamedWriter}
 use Rattle.host_streams.specs.declared.streams.Streams.{Streams}
@@ -326,7 +326,7 @@ pub closes_both : (name : List ℕ) (old new : Streams) (s t : State) (shared : 
 closes_both name old new s t shared reading writing is r w in_new out_new = record {
   readers = in_new ∙ ap (without_reader name) (sym is.readers);
   writers = out_new ∙ ap (without_writer name) (sym is.writers);
-  answer = ap (λ b. if b then IsClosed else NothingOpen) (
+  answer = ap (λ b. if b then stream.Done else stream.NotOpen) (
       ap (λ b. b || writing) (r ∙ sym (named_reading name old.readers.items s) ∙ ap (λ rs. is_reading (reader_named name rs)) (sym is.readers))
       ∙ ap (λ b. is_reading (reader_named name shared.inner.readers) || b) (w ∙ ap (is_writing name) (sym is.writers)));
 }

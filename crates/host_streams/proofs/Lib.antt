@@ -10,3 +10,4 @@ pub mod Begun
 pub mod Closed
 pub mod MainSteps
 pub mod Passed
+pub mod Skipped

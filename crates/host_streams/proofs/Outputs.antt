@@ -1,5 +1,5 @@
 -- Files that are written to, and the definition of printing.
-use Rattle.std.proofs.Common.{◌≡◌, ◌≢◌, ℕ, suc, ◌<◌, List, [], ◌∷◌, ◌++◌, map, get_or, take, Some, None, Result, Ok, Err, OnErr, OnOk, cond, if◌then◌else◌, Bool, true, false, refl, sym, ap, ◌∙◌, subst}
+use Rattle.std.proofs.Common.{◌≡◌, ◌≢◌, ℕ, suc, ◌<◌, List, [], ◌∷◌, ◌++◌, map, get_or, take, Option, Some, None, is_some, Result, Ok, Err, OnErr, OnOk, cond, if◌then◌else◌, Bool, true, false, refl, sym, ap, ◌∙◌, subst}
 use Rattle.std.proofs.lemmas.Bool.{eq-eqb, ne_eqb}
 use Rattle.awk_values.specs.declared.fault.Fault.{Fault}
 use Rattle.awk_values.specs.declared.fault.Stop.{Stop}
@@ -7,7 +7,7 @@ use Rattle.awk_values.specs.declared.fault.Stop.TheVariants.{Fault as IsFault, N
 use Rattle.world_core.specs.WorldState.{State, Named, Standard, Open, Outside, Target, after}
 use Rattle.world_core.specs.Calls.{Kind, Closed, Reading, Writing, Opens, OpensWriter, set_kind}
 use Rattle.awk_state.specs.SharedState.{Shared, Does, Inner}
-use Rattle.awk_state.specs.OutputRows.{has_room, is_writing, kept_open, opened_if, then_written, written, written_by}
+use Rattle.awk_state.specs.OutputRows.{all_out, has_room, is_writing, kept_open, opened_if, then_written, written, written_by}
 use Rattle.host_streams.specs.declared.streams.NamedWriter.{NamedWriter}
 use Rattle.host_streams.specs.OpenFiles.{writer_handle, IsApart, IsNone, AreOpen, WritersGo, names_of, is_writer, writer_place}
 use Rattle.host_streams.specs.Puts.{PutsBy, Spares}
@@ -57,6 +57,21 @@ pub writer_named : (name : List ℕ) (ws : List NamedWriter) (at : ℕ) → writ
 writer_named name ws at found =
     let spot : First (is_writer name) at ws = first (is_writer name) ws at found in
     ap (λ ys. is_writing name (names_of ys)) spot.is ∙ writing_at name spot.front spot.item spot.back spot.none spot.passes
+
+-- whether all that was put to a name is out
+pub out_empty : (name : List ℕ) (ws : List NamedWriter) → name ≡ [] → all_out name (names_of ws) ≡ true
+out_empty name ws e = ap (λ n. all_out n (names_of ws)) e
+
+out_named : (name : List ℕ) (ws : List NamedWriter) → name ≢ [] → all_out name (names_of ws) ≡ is_writing name (names_of ws)
+out_named [] ws other = absurd (other refl)
+out_named (c ∷ cs) ws other = refl
+
+place_out : (name : List ℕ) (ws : List NamedWriter) (o : Option ℕ) → writer_place name ws ≡ o → is_some o ≡ is_writing name (names_of ws)
+place_out name ws None e = sym (writer_missing name ws e)
+place_out name ws (Some at) e = sym (writer_named name ws at e)
+
+pub out_there : (name : List ℕ) (ws : List NamedWriter) → name ≢ [] → is_some (writer_place name ws) ≡ all_out name (names_of ws)
+out_there name ws other = place_out name ws (writer_place name ws) refl ∙ sym (out_named name ws other)
 
 pub with_named : (name : List ℕ) (names : List (List ℕ)) → is_writing name names ≡ true → names ≡ with_writer name names
 with_named name names is = sym (ap (λ b. if b then names else names ++ (name ∷ [])) is)

@@ -2,13 +2,13 @@
 use Rattle.std.specs.Prelude.{◌≡◌, Bool, if◌then◌else◌}
 use Rattle.world_core.specs.WorldState.{State}
 use Rattle.awk_state.specs.SharedState.{Inner}
-use Rattle.awk_state.specs.declared.answers.CloseAnswer.{CloseAnswer}
-use Rattle.awk_state.specs.declared.answers.CloseAnswer.TheVariants.{Closed, NothingOpen}
+use Rattle.awk_state.specs.declared.answers.StreamAnswer.{StreamAnswer}
+use Rattle.awk_state.specs.declared.answers.StreamAnswer.TheVariants as stream
 use Rattle.host_streams.specs.declared.streams.Streams.{Streams}
 use Rattle.host_streams.specs.OpenFiles.{names_of, readers_in}
 
 -- these files are open now, and this was to be answered
-pub record ClosesBy (x : Inner × CloseAnswer) (closed : Bool) (s : Streams) (state : State) : Type 0 where
+pub record ClosesBy (x : Inner × StreamAnswer) (closed : Bool) (s : Streams) (state : State) : Type 0 where
   pub readers : readers_in s.readers.items state ≡ x.0.readers
   pub writers : names_of s.writers.items ≡ x.0.writers
-  pub answer : (if closed then Closed else NothingOpen) ≡ x.1
+  pub answer : (if closed then stream.Done else stream.NotOpen) ≡ x.1

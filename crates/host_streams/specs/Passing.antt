@@ -15,6 +15,7 @@ use Rattle.host_streams.specs.declared.main_input.Reading.TheVariants as reading
 use Rattle.host_streams.specs.declared.reader.FileNext.{FileNext}
 use Rattle.host_streams.specs.declared.reader.FileNext.TheVariants as file
 use Rattle.host_streams.specs.declared.reader.Phase.{Phase}
+use Rattle.host_streams.specs.declared.reader.Phase.TheVariants.{Ended}
 use Rattle.host_streams.specs.declared.reader.Reader.{Reader}
 use Rattle.host_streams.specs.Mains.{has_operand, phase_at}
 use Rattle.host_streams.specs.Readers.{HandsOver, unread}
@@ -33,6 +34,11 @@ HandsAt rs was standard answer is standard' = HandsOver rs (phase_at was standar
 abbrev pub StandardStays : Reading → Reader → Reader → Type 0
 StandardStays reading.Standard old new = Unit {0}
 StandardStays r old new = new ≡ old
+
+-- it is at its end where it was read, and else stays as it was
+abbrev pub StandardSkips : Reading → Reader → Reader → Type 0
+StandardSkips reading.Standard old new = (new.id ≡ old.id) × (new.phase ≡ Ended) × (unread new ≡ [])
+StandardSkips r old new = new ≡ old
 
 -- the reader at hand has no record left
 abbrev pub IsAtEnd : Option ℕ → Reading → Reader → Reader → Type 0

@@ -5,13 +5,13 @@ ghost use Rattle.world_core.specs.WorldState.{State};
 ghost use Rattle.world_core.specs.Calls.{Kind};
 ghost use Rattle.awk_values.specs.Values.{number_of_value};
 ghost use Rattle.awk_state.specs.Assignments.{assignment_of, continues_name};
-ghost use Rattle.awk_state.specs.InputRows.{follows, main_input, reader_of, taken};
+ghost use Rattle.awk_state.specs.InputRows.{follows, main_input, next_file_row, reader_of, taken};
 ghost use Rattle.awk_state.specs.Records.{record_separator};
 ghost use Rattle.awk_state.specs.SharedState.{Inner};
 ghost use Rattle.host_streams.specs.declared.reader.Phase.TheVariants.{Broken, Open};
 ghost use Rattle.host_streams.specs.Readers.{NextCounts, NextPhase, OnlyLimit};
 ghost use Rattle.host_streams.specs.Mains.{AnswerIs, FileIsOpen, GivenIs, GoesOn, HoldsMain, IsApartFrom, IsAsked, IsFresh, IsOfNumber, IsOffered, MainCounts, MainEnds, MainPhase, NameLen, OperandCounts, ReadsMain, SparesKinds, SparesPlaces, StandardIs, StepEnds, begins, has_operand, idle, is_equals, main_at_start, main_of, main_phase, passed, phase_at, reading_of, rest_of, with_main};
-ghost use Rattle.host_streams.specs.Passing.{AreThere, FollowsAll, HandsAt, HandsMain, HandsStep, IdleAfter, IsOfOperands, IsOfReader, IsOne, NoneMore, Passes, RestsAfter, StandardStays, StepNoneMore, StepPasses, StepRests};
+ghost use Rattle.host_streams.specs.Passing.{AreThere, FollowsAll, HandsAt, HandsMain, HandsStep, IdleAfter, IsOfOperands, IsOfReader, IsOne, NoneMore, Passes, RestsAfter, StandardSkips, StandardStays, StepNoneMore, StepPasses, StepRests};
 
 use crate::reader::{FileNext, Reader};
 use crate::streams::first_byte;
@@ -470,6 +470,29 @@ impl MainInput {
             return self.reach(world, operands, argc);
         }
         self.read_on(world, rs)
+    }
+
+    /// Gives up the rest of what is being read, also where it fails: of the standard input nothing is left, and a file is closed. Where nothing is
+    /// being read nothing changes. It takes no memory.
+    pub fn skip<W: World>(&mut self, world: &mut W)
+        requires held { HoldsMain self.old (W.kinds world.old) }
+        ensures held { HoldsMain self.new (W.kinds world.new) }
+        ensures told { W.tells → (inner : Inner) → next_file_row (with_main (main_of self.old (W.state world.old)) inner) ≡ (with_main (main_of self.new (W.state world.new)) inner, tt) }
+        ensures nothing { self.new.reading ≡ Reading.Nothing }
+        ensures standard { StandardSkips self.old.reading self.old.standard self.new.standard }
+        ensures next { self.new.next ≡ self.old.next }
+        ensures found { self.new.found ≡ self.old.found }
+        ensures ended { self.new.ended ≡ self.old.ended }
+        ensures count { W.count world.new ≡ W.count world.old }
+        ensures spares { SparesKinds self.old.reading self.new.reading (W.kinds world.old) (W.kinds world.new) }
+        ensures no_others { SparesKinds self.new.reading self.old.reading (W.kinds world.new) (W.kinds world.old) }
+        ensures places { W.tells → SparesPlaces self.old.reading (W.kinds world.old) (W.state world.old) (W.state world.new) }
+        ensures outside { W.tells → (W.state world.new).outside ≡ (W.state world.old).outside }
+    {
+        if let Reading::Standard = &self.reading {
+            self.standard.skip();
+        }
+        self.stop_reading(world);
     }
 
     /// What the main input gives next. The first byte of `rs` ends a record; where `rs` is empty, empty lines do. Operands are taken when they are

@@ -3,7 +3,7 @@ ghost use Rattle.std.specs.Prelude.{◌≡◌, [], None, true, false, take, vec_
 ghost use Rattle.world_core.specs.WorldState.{Named};
 ghost use Rattle.world_core.specs.Calls.{Opens, Writing};
 ghost use Rattle.awk_state.specs.SharedState.{Shared};
-ghost use Rattle.awk_state.specs.OutputRows.{is_writing, opened_if, put_text, written_by};
+ghost use Rattle.awk_state.specs.OutputRows.{all_out, is_writing, opened_if, put_text, written_by};
 ghost use Rattle.host_streams.specs.OpenFiles.{HoldsOpen, OthersStay, WritersGo, has_room, names_of, writer_place};
 ghost use Rattle.host_streams.specs.Outputs.{IsOf, PutsIs, destination_of, name_of, open_before, writers_to, with_writer};
 ghost use Rattle.host_streams.specs.Puts.{BeginsBy, EndsPut, IsOver, OpensOr, PutCounts, PutsBy, Spares};
@@ -68,6 +68,17 @@ fn put_new<W: World>(world: &mut W, name: &[u8], append: bool, text: &[u8]) -> R
 }
 
 impl Streams {
+    /// Whether all that was put to a file is out (`fflush`): where the file is open for writing it is, since each text goes out at once. The empty name
+    /// says all files.
+    pub fn is_out(&self, name: &[u8]) -> bool
+        ensures { result ≡ all_out name.now (names_of self.now.writers.items) }
+    {
+        if name.is_empty() {
+            return true;
+        }
+        find_writer(self.writers.as_slice(), name).is_some()
+    }
+
     /// Puts a text to a file that is not open for writing.
     fn put_first<W: World>(
         &mut self,

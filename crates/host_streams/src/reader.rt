@@ -1,5 +1,5 @@
 //! Records of an open stream.
-ghost use Rattle.std.specs.Prelude.{◌≡◌, ◌≢◌, ◌+◌, ◌<◌, ◌≤◌, ◌^◌, ◌++◌, length, take, drop, IfOk, OnErr, OnOk, IsTrue, IsFalse, slice_range, vec_capacity, vec_len};
+ghost use Rattle.std.specs.Prelude.{◌≡◌, ◌≢◌, ◌+◌, ◌<◌, ◌≤◌, ◌^◌, ◌++◌, [], length, take, drop, IfOk, OnErr, OnOk, IsTrue, IsFalse, slice_range, vec_capacity, vec_len};
 ghost use Rattle.awk_values.specs.declared.fault.Stop.TheVariants.{NoMemory};
 ghost use Rattle.awk_state.specs.Records.{record_separator};
 ghost use Rattle.world_core.specs.Calls.{Reading, next_count};
@@ -280,6 +280,16 @@ impl Reader {
         let text = Bytes::from_slice(alloc, &self.unread()[from..to])?;
         self.kept.clear();
         Ok(Turn::Answer(FileNext::Record(text)))
+    }
+
+    /// Nothing is left of it: it is at its end, whatever its stream has.
+    pub(crate) fn skip(&mut self)
+        ensures id { self.new.id ≡ self.old.id }
+        ensures ended { self.new.phase ≡ Phase.Ended }
+        ensures none { unread self.new ≡ [] }
+    {
+        self.kept.clear();
+        self.phase = Phase::Ended;
     }
 
     /// The next record. Where a read has failed, it keeps failing.

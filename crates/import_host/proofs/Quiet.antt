@@ -10,7 +10,7 @@ use Rattle.host_values.specs.declared.primitive.ValuePrimitive.{ValuePrimitive}
 use Rattle.host_values.specs.declared.primitive.ValuePrimitive.TheVariants as value
 use Rattle.import_host.specs.Calls.{import_of_table}
 use Rattle.import_host.specs.declared.table_call.TableCall.{TableCall}
-use Rattle.import_host.specs.declared.table_call.TableCall.TheVariants.{Values, Texts, Sprintf, Arg, Drop, Split, NewArray, Elem, SetElem, Has, Delete, Iter, IterNext, IterFree, FreeArray}
+use Rattle.import_host.specs.declared.table_call.TableCall.TheVariants.{Values, Texts, Sprintf, Arg, Drop, Split, NewArray, Elem, SetElem, Has, Delete, Clear, Iter, IterNext, IterFree, FreeArray}
 
 quiet_values : (p : ValuePrimitive) → reads (Of (primitive_of p)) ≡ false
 quiet_values value.Num = refl
@@ -54,6 +54,7 @@ quiet Elem = refl
 quiet SetElem = refl
 quiet Has = refl
 quiet Delete = refl
+quiet Clear = refl
 quiet Iter = refl
 quiet IterNext = refl
 quiet IterFree = refl

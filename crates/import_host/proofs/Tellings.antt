@@ -55,7 +55,7 @@ fits_so answer.Truth w = narrow_fits answer.Truth w refl refl
 fits_so answer.Done w = narrow_fits answer.Done w refl refl
 fits_so answer.Input w = narrow_fits answer.Input w refl refl
 fits_so answer.Assign w = narrow_fits answer.Assign w refl refl
-fits_so answer.Close w = narrow_fits answer.Close w refl refl
+fits_so answer.Stream w = narrow_fits answer.Stream w refl refl
 fits_so answer.ValueOrEnd w = narrow_fits answer.ValueOrEnd w refl refl
 fits_so answer.Name w = narrow_fits answer.Name w refl refl
 

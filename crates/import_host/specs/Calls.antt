@@ -6,7 +6,7 @@ use Rattle.host_step.specs.declared.import.Listing.TheVariants as listing
 use Rattle.host_texts.specs.Primitives.{row_of}
 use Rattle.host_values.specs.Primitives.{primitive_of}
 use Rattle.import_host.specs.declared.table_call.TableCall.{TableCall}
-use Rattle.import_host.specs.declared.table_call.TableCall.TheVariants.{Values, Texts, Sprintf, Arg, Drop, Split, NewArray, Elem, SetElem, Has, Delete, Iter, IterNext, IterFree, FreeArray}
+use Rattle.import_host.specs.declared.table_call.TableCall.TheVariants.{Values, Texts, Sprintf, Arg, Drop, Split, NewArray, Elem, SetElem, Has, Delete, Clear, Iter, IterNext, IterFree, FreeArray}
 
 abbrev pub import_of_table : TableCall → Import
 import_of_table (Values p) = import.Of (primitive_of p)
@@ -20,6 +20,7 @@ import_of_table Elem = import.Of row.Elem
 import_of_table SetElem = import.Of row.SetElem
 import_of_table Has = import.Of row.Has
 import_of_table Delete = import.Of row.Delete
+import_of_table Clear = import.Of row.Clear
 import_of_table Iter = import.Of row.Iter
 import_of_table IterNext = import.Of row.IterNext
 import_of_table IterFree = import.IterFree

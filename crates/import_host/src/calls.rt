@@ -40,6 +40,7 @@ impl Tables {
             TableCall::SetElem => self.set_elem(words),
             TableCall::Has => self.has(words),
             TableCall::Delete => self.delete(words),
+            TableCall::Clear => self.clear(words),
             TableCall::Iter => self.iter(words),
             TableCall::IterNext => self.iter_next(words),
             TableCall::IterFree => self.iter_free(words),

@@ -8,7 +8,7 @@ ghost use Rattle.import_host.specs.Forms.{of_tables};
 
 use crate::held::Tables;
 use host_elements::{
-    delete, elem, free_array, has, iter, iter_free, iter_next, new_array, set_elem,
+    clear, delete, elem, free_array, has, iter, iter_free, iter_next, new_array, set_elem,
 };
 use host_values::Refusal;
 use wasm_store::Word;
@@ -55,6 +55,14 @@ impl Tables {
         ensures { (f : HostForm) (memory : List ℕ) → IsTableCall (Import.Of row.Delete) (of_tables self.old f) words.now memory result (of_tables self.new f) }
     {
         delete(self.alloc, &mut self.arrays, &mut self.handles, words)
+    }
+
+    /// Takes all elements away.
+    pub(crate) fn clear(&mut self, words: &[Word]) -> Result<Option<Word>, Refusal>
+        requires { self.old.fault ≡ None }
+        ensures { (f : HostForm) (memory : List ℕ) → IsTableCall (Import.Of row.Clear) (of_tables self.old f) words.now memory result (of_tables self.new f) }
+    {
+        clear(&mut self.arrays, words)
     }
 
     /// Starts to visit the keys of an array.

@@ -1,4 +1,4 @@
-//! The tables of the host of all imports of the module `awk1`, and the calls on them.
+//! The tables of the host of all imports of the modules `awk1` and `awk2`, and the calls on them.
 #![tactic(auto)]
 
 mod answers;

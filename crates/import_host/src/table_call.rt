@@ -21,6 +21,7 @@ pub enum TableCall {
     SetElem,
     Has,
     Delete,
+    Clear,
     Iter,
     IterNext,
     /// An iterator is let go.

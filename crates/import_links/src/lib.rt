@@ -1,4 +1,4 @@
-//! Finding the imports of the module `awk1` by their names, and their types.
+//! Finding the imports of the modules `awk1` and `awk2` by their names, and their types.
 #![tactic(auto)]
 
 mod links;

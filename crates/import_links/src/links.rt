@@ -1,12 +1,12 @@
 //! Finding imports.
 ghost use Rattle.std.specs.Prelude.{◌≡◌, ◌<◌, IfOk, IfSome, Some, map, option_copied, slice_get};
-ghost use Rattle.host_step.specs.Imports.{host_finds, host_types, import_type, module_name, number_named, params_of, result_of, same_name, with_type, words_of};
+ghost use Rattle.host_step.specs.Imports.{host_finds, host_types, import_type, imports_in, number_below, number_named, params_of, result_of, with_type, words_of};
 ghost use Rattle.import_links.specs.Links.{signature_if};
 ghost use Rattle.machine_model.specs.Hosts.{found_as};
 ghost use Rattle.wasm_types.specs.View.{signature_of};
 
 use awk_state::{Answer, Argument, Sort};
-use host_step::{IMPORTS, Import};
+use host_step::{IMPORTS, Import, imports_in};
 use std::alloc::{AllocError, Global};
 use std::marker::Model;
 use wasm_types::{FuncType, ValType};
@@ -75,24 +75,30 @@ pub fn type_of(alloc: Global, import: Import) -> Result<FuncType, AllocError>
 /// The place of the import of a name.
 fn place_named(name: &[u8]) -> Option<usize>
     ensures named { result ≡ number_named name.now }
-    ensures within { IfSome result (λ place. place < 53) }
+    ensures within { IfSome result (λ place. place < 56) }
 {
     IMPORTS
         .iter()
         .position(|import| import.name().as_bytes() == name)
 }
 
+/// The same, where a module of this name has that import.
+fn place_in(from: &[u8], name: &[u8]) -> Option<usize>
+    ensures among { result ≡ number_below (imports_in from.now) (number_named name.now) }
+    ensures within { IfSome result (λ place. place < 56) }
+{
+    let place = place_named(name)?;
+    if place < imports_in(from) {
+        Some(place)
+    } else {
+        None
+    }
+}
+
 fn type_in(types: &[FuncType], number: usize) -> Option<&FuncType>
     ensures { option_copied result ≡ slice_get types.now number }
 {
     types.get(number)
-}
-
-/// Whether it is the module of these imports.
-fn is_own(from: &[u8]) -> bool
-    ensures { result ≡ same_name from.now module_name }
-{
-    from == b"awk1".as_slice()
 }
 
 #[tactic(auto, using(crate::proofs::Numbers::types_next))]
@@ -122,7 +128,7 @@ impl Links {
 
     /// The number of a place, where an import has it, and its type.
     fn at(&self, place: usize) -> Option<(u32, &FuncType)>
-        requires { place < 53 }
+        requires { place < 56 }
         ensures { found_as result ≡ with_type (Some place) }
     {
         let ty = self.type_at(place)?;
@@ -133,9 +139,6 @@ impl Links {
     pub fn find(&self, from: &[u8], name: &[u8]) -> Option<(u32, &FuncType)>
         ensures { found_as result ≡ host_finds from.now name.now }
     {
-        if !is_own(from) {
-            return None;
-        }
-        self.at(place_named(name)?)
+        self.at(place_in(from, name)?)
     }
 }

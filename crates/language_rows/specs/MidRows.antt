@@ -21,7 +21,7 @@ use Rattle.mid_program.specs.MidMeaning.{evaluated, all_evaluated, stepped, all_
 use Rattle.mid_program.specs.Texts.{texts_in, all_texts, stmt_texts, stmts_texts}
 use Rattle.mid_program.specs.Translation.{code_of, codes_of, key_code, kept_code, argument_codes, truncated_code, applied_code, step_code, steps_code, program_of}
 use Rattle.language_rows.specs.Scripts as scripts
-use Rattle.language_rows.specs.Settings.{no_job, no_input, empty, with_file, with_room}
+use Rattle.language_rows.specs.Settings.{no_job, no_input, empty, with_file, with_room, two_files}
 
 -- function f() { x = 5; return 1 } BEGIN { x = 1; print x + f(), x; x = 1; print x f() x; x = 1; x += f(); print x }
 pub name_read_when_met : mid_run_in (program_of (resolved scripts.name_read_when_met)) (setting_of no_job no_input empty) 40 ≡ Ended 0 (puts Standard (codes "2 5\n115\n6\n"))
@@ -432,3 +432,73 @@ do_while_counts = refl
 pub fraction_from_command_line : mid_run_in (program_of (resolved scripts.fraction_from_command_line)) (setting_of (record { operands = []; assigns = (((codes "n"), (codes "0.5")) ∷ []); environment = [] }) no_input empty) 40 ≡ FaultedBy Fraction (puts Standard (codes "0.5\n"))
 unfolding special_arrays special_scalars spend_all asked loop over_keys first_assigned records_done evaluated all_evaluated stepped all_stepped mid_called texts_in all_texts stmt_texts stmts_texts code_of codes_of key_code kept_code argument_codes truncated_code applied_code step_code steps_code numeral_at sign_at fraction_at exponent_at numerator denominator digits unescaped escaped octal keywords builtins left_out_words table sign_of
 fraction_from_command_line = refl
+
+-- FNR == 2 { nextfile } { print FILENAME, $0 }
+pub rest_of_a_file : mid_run_in (program_of (resolved scripts.rest_of_a_file)) (setting_of (record { operands = ((codes "f") ∷ (codes "g") ∷ []); assigns = []; environment = [] }) no_input two_files) 40 ≡ Ended 0 (puts Standard (codes "f p\ng s\n"))
+unfolding special_arrays special_scalars spend_all asked loop over_keys first_assigned records_done evaluated all_evaluated stepped all_stepped mid_called texts_in all_texts stmt_texts stmts_texts code_of codes_of key_code kept_code argument_codes truncated_code applied_code step_code steps_code numeral_at sign_at fraction_at exponent_at numerator denominator digits unescaped escaped octal keywords builtins left_out_words table sign_of
+rest_of_a_file = refl
+
+-- function h(x) { if (x == "q") nextfile; return x } { print FNR, h($0), NR }
+pub file_left_among_operands : mid_run_in (program_of (resolved scripts.file_left_among_operands)) (setting_of (record { operands = ((codes "f") ∷ (codes "g") ∷ []); assigns = []; environment = [] }) no_input two_files) 40 ≡ Ended 0 (puts Standard (codes "1 p 1\n1 s 3\n"))
+unfolding special_arrays special_scalars spend_all asked loop over_keys first_assigned records_done evaluated all_evaluated stepped all_stepped mid_called texts_in all_texts stmt_texts stmts_texts code_of codes_of key_code kept_code argument_codes truncated_code applied_code step_code steps_code numeral_at sign_at fraction_at exponent_at numerator denominator digits unescaped escaped octal keywords builtins left_out_words table sign_of
+file_left_among_operands = refl
+
+-- { print; while (1) { n++; if (n > 2) nextfile } } END { print n, NR }
+pub file_left_in_a_loop : mid_run_in (program_of (resolved scripts.file_left_in_a_loop)) (setting_of (record { operands = ((codes "f") ∷ (codes "g") ∷ []); assigns = []; environment = [] }) no_input two_files) 40 ≡ Ended 0 (puts Standard (codes "p\ns\n4 2\n"))
+unfolding special_arrays special_scalars spend_all asked loop over_keys first_assigned records_done evaluated all_evaluated stepped all_stepped mid_called texts_in all_texts stmt_texts stmts_texts code_of codes_of key_code kept_code argument_codes truncated_code applied_code step_code steps_code numeral_at sign_at fraction_at exponent_at numerator denominator digits unescaped escaped octal keywords builtins left_out_words table sign_of
+file_left_in_a_loop = refl
+
+-- BEGIN { a[1]; a[2]; a[3] } { for (k in a) { n++; if (k > 1) nextfile } } END { print n, NR }
+pub file_left_in_a_walk : mid_run_in (program_of (resolved scripts.file_left_in_a_walk)) (setting_of (record { operands = ((codes "f") ∷ (codes "g") ∷ []); assigns = []; environment = [] }) no_input two_files) 40 ≡ Ended 0 (puts Standard (codes "4 2\n"))
+unfolding special_arrays special_scalars spend_all asked loop over_keys first_assigned records_done evaluated all_evaluated stepped all_stepped mid_called texts_in all_texts stmt_texts stmts_texts code_of codes_of key_code kept_code argument_codes truncated_code applied_code step_code steps_code numeral_at sign_at fraction_at exponent_at numerator denominator digits unescaped escaped octal keywords builtins left_out_words table sign_of
+file_left_in_a_walk = refl
+
+-- /q/, /s/ { print "r", $0; nextfile } { print $0 }
+pub file_left_in_a_range : mid_run_in (program_of (resolved scripts.file_left_in_a_range)) (setting_of (record { operands = ((codes "f") ∷ (codes "g") ∷ []); assigns = []; environment = [] }) no_input two_files) 40 ≡ Ended 0 (puts Standard (codes "p\nr q\nr s\n"))
+unfolding special_arrays special_scalars spend_all asked loop over_keys first_assigned records_done evaluated all_evaluated stepped all_stepped mid_called texts_in all_texts stmt_texts stmts_texts code_of codes_of key_code kept_code argument_codes truncated_code applied_code step_code steps_code numeral_at sign_at fraction_at exponent_at numerator denominator digits unescaped escaped octal keywords builtins left_out_words table sign_of
+file_left_in_a_range = refl
+
+-- function h() { nextfile } BEGIN { h() }
+pub nextfile_outside : mid_run_in (program_of (resolved scripts.nextfile_outside)) (setting_of no_job no_input empty) 40 ≡ FaultedBy NextOutside []
+unfolding special_arrays special_scalars spend_all asked loop over_keys first_assigned records_done evaluated all_evaluated stepped all_stepped mid_called texts_in all_texts stmt_texts stmts_texts code_of codes_of key_code kept_code argument_codes truncated_code applied_code step_code steps_code numeral_at sign_at fraction_at exponent_at numerator denominator digits unescaped escaped octal keywords builtins left_out_words table sign_of
+nextfile_outside = refl
+
+-- { nextfile }
+pub failing_rest_given_up : mid_run_in (program_of (resolved scripts.failing_rest_given_up)) (setting_of no_job (record { rest = (codes "a\n"); ending = Fails }) empty) 40 ≡ Ended 0 []
+unfolding special_arrays special_scalars spend_all asked loop over_keys first_assigned records_done evaluated all_evaluated stepped all_stepped mid_called texts_in all_texts stmt_texts stmts_texts code_of codes_of key_code kept_code argument_codes truncated_code applied_code step_code steps_code numeral_at sign_at fraction_at exponent_at numerator denominator digits unescaped escaped octal keywords builtins left_out_words table sign_of
+failing_rest_given_up = refl
+
+-- NR == 2 { nextfile } { print FILENAME $0 }
+pub standard_input_given_up : mid_run_in (program_of (resolved scripts.standard_input_given_up)) (setting_of (record { operands = ((codes "-") ∷ (codes "-") ∷ (codes "g") ∷ []); assigns = []; environment = [] }) (record { rest = (codes "a\nb\nc\n"); ending = Fails }) two_files) 40 ≡ Ended 0 (puts Standard (codes "-a\ngs\n"))
+unfolding special_arrays special_scalars spend_all asked loop over_keys first_assigned records_done evaluated all_evaluated stepped all_stepped mid_called texts_in all_texts stmt_texts stmts_texts code_of codes_of key_code kept_code argument_codes truncated_code applied_code step_code steps_code numeral_at sign_at fraction_at exponent_at numerator denominator digits unescaped escaped octal keywords builtins left_out_words table sign_of
+standard_input_given_up = refl
+
+-- BEGIN { a["x"]; a["y"]; for (k in a) { delete a; n++ }; print n, ("x" in a) }
+pub emptied_in_a_walk : mid_run_in (program_of (resolved scripts.emptied_in_a_walk)) (setting_of no_job no_input empty) 40 ≡ Ended 0 (puts Standard (codes "2 0\n"))
+unfolding special_arrays special_scalars spend_all asked loop over_keys first_assigned records_done evaluated all_evaluated stepped all_stepped mid_called texts_in all_texts stmt_texts stmts_texts code_of codes_of key_code kept_code argument_codes truncated_code applied_code step_code steps_code numeral_at sign_at fraction_at exponent_at numerator denominator digits unescaped escaped octal keywords builtins left_out_words table sign_of
+emptied_in_a_walk = refl
+
+-- BEGIN { a["x"] = 1; a["y"] = 2; for (k in a) { s = s k; delete a; a["w" k] = k }; for (k in a) t = t k; print s, t, a["x"] "." }
+pub emptied_and_refilled : mid_run_in (program_of (resolved scripts.emptied_and_refilled)) (setting_of no_job no_input empty) 40 ≡ Ended 0 (puts Standard (codes "xy wy .\n"))
+unfolding special_arrays special_scalars spend_all asked loop over_keys first_assigned records_done evaluated all_evaluated stepped all_stepped mid_called texts_in all_texts stmt_texts stmts_texts code_of codes_of key_code kept_code argument_codes truncated_code applied_code step_code steps_code numeral_at sign_at fraction_at exponent_at numerator denominator digits unescaped escaped octal keywords builtins left_out_words table sign_of
+emptied_and_refilled = refl
+
+-- function e(p) { delete p; p["n"] = 1 } BEGIN { a["x"] = 1; b["x"] = 2; e(a); for (k in a) print k, a[k]; print ("x" in a), b["x"] }
+pub emptied_parameter : mid_run_in (program_of (resolved scripts.emptied_parameter)) (setting_of no_job no_input empty) 40 ≡ Ended 0 (puts Standard (codes "n 1\n0 2\n"))
+unfolding special_arrays special_scalars spend_all asked loop over_keys first_assigned records_done evaluated all_evaluated stepped all_stepped mid_called texts_in all_texts stmt_texts stmts_texts code_of codes_of key_code kept_code argument_codes truncated_code applied_code step_code steps_code numeral_at sign_at fraction_at exponent_at numerator denominator digits unescaped escaped octal keywords builtins left_out_words table sign_of
+emptied_parameter = refl
+
+-- FNR == 1 { delete ARGV; ARGV[2] = "g" } { print FILENAME $0 }
+pub emptied_operands : mid_run_in (program_of (resolved scripts.emptied_operands)) (setting_of (record { operands = ((codes "f") ∷ (codes "h") ∷ []); assigns = []; environment = [] }) no_input two_files) 40 ≡ Ended 0 (puts Standard (codes "fp\nfq\nfr\ngs\n"))
+unfolding special_arrays special_scalars spend_all asked loop over_keys first_assigned records_done evaluated all_evaluated stepped all_stepped mid_called texts_in all_texts stmt_texts stmts_texts code_of codes_of key_code kept_code argument_codes truncated_code applied_code step_code steps_code numeral_at sign_at fraction_at exponent_at numerator denominator digits unescaped escaped octal keywords builtins left_out_words table sign_of
+emptied_operands = refl
+
+-- BEGIN { print "x" > "f"; print fflush("f"), fflush("g"), fflush() }
+pub flushed : mid_run_in (program_of (resolved scripts.flushed)) (setting_of no_job no_input empty) 40 ≡ Ended 0 ((Open (codes "f") false ∷ []) ++ (puts (Named (codes "f")) (codes "x\n") ++ (puts Standard (codes "0 -1 0\n"))))
+unfolding special_arrays special_scalars spend_all asked loop over_keys first_assigned records_done evaluated all_evaluated stepped all_stepped mid_called texts_in all_texts stmt_texts stmts_texts code_of codes_of key_code kept_code argument_codes truncated_code applied_code step_code steps_code numeral_at sign_at fraction_at exponent_at numerator denominator digits unescaped escaped octal keywords builtins left_out_words table sign_of
+flushed = refl
+
+-- BEGIN { print (getline x < "f"), fflush("f"); print x >> "f"; print fflush("f"), close("f"), fflush("f"), fflush("") }
+pub reader_not_flushed : mid_run_in (program_of (resolved scripts.reader_not_flushed)) (setting_of no_job no_input (with_file (codes "f") (codes "a\n") End empty)) 40 ≡ Ended 0 (puts Standard (codes "1 -1\n") ++ ((Open (codes "f") true ∷ []) ++ (puts (Named (codes "f")) (codes "a\n") ++ (puts Standard (codes "0 0 -1 0\n")))))
+unfolding special_arrays special_scalars spend_all asked loop over_keys first_assigned records_done evaluated all_evaluated stepped all_stepped mid_called texts_in all_texts stmt_texts stmts_texts code_of codes_of key_code kept_code argument_codes truncated_code applied_code step_code steps_code numeral_at sign_at fraction_at exponent_at numerator denominator digits unescaped escaped octal keywords builtins left_out_words table sign_of
+reader_not_flushed = refl

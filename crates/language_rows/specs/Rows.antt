@@ -17,7 +17,7 @@ use Rattle.mid_program.specs.Statements.{loop, over_keys, plain_done, done_by, a
 use Rattle.mid_program.specs.Items.{items_done, begun, ended}
 use Rattle.mid_program.specs.ScriptRun.{first_assigned, records_done, Ended, FaultedBy, GoesOn, run_of}
 use Rattle.language_rows.specs.Scripts as scripts
-use Rattle.language_rows.specs.Settings.{no_job, no_input, empty, with_file, with_room}
+use Rattle.language_rows.specs.Settings.{no_job, no_input, empty, with_file, with_room, two_files}
 
 -- function f() { x = 5; return 1 } BEGIN { x = 1; print x + f(), x; x = 1; print x f() x; x = 1; x += f(); print x }
 pub name_read_when_met : run_of scripts.name_read_when_met no_job no_input empty 40 ≡ Ended 0 (puts Standard (codes "2 5\n115\n6\n"))
@@ -468,3 +468,73 @@ numbers_in_names = refl
 pub text_in_a_number : run_of scripts.text_in_a_number (record { operands = []; assigns = (((codes "n"), (codes "9")) ∷ []); environment = [] }) no_input empty 40 ≡ Ended 0 (puts Standard (codes "1 0 1\n0\n"))
 unfolding special_arrays special_scalars spend_all asked value_of values_of key_of place_of passed truncated_of applied loop over_keys plain_done done_by all_done called items_done begun ended first_assigned records_done numeral_at sign_at fraction_at exponent_at numerator denominator digits unescaped escaped octal keywords builtins left_out_words table sign_of
 text_in_a_number = refl
+
+-- FNR == 2 { nextfile } { print FILENAME, $0 }
+pub rest_of_a_file : run_of scripts.rest_of_a_file (record { operands = ((codes "f") ∷ (codes "g") ∷ []); assigns = []; environment = [] }) no_input two_files 40 ≡ Ended 0 (puts Standard (codes "f p\ng s\n"))
+unfolding special_arrays special_scalars spend_all asked value_of values_of key_of place_of passed truncated_of applied loop over_keys plain_done done_by all_done called items_done begun ended first_assigned records_done numeral_at sign_at fraction_at exponent_at numerator denominator digits unescaped escaped octal keywords builtins left_out_words table sign_of
+rest_of_a_file = refl
+
+-- function h(x) { if (x == "q") nextfile; return x } { print FNR, h($0), NR }
+pub file_left_among_operands : run_of scripts.file_left_among_operands (record { operands = ((codes "f") ∷ (codes "g") ∷ []); assigns = []; environment = [] }) no_input two_files 40 ≡ Ended 0 (puts Standard (codes "1 p 1\n1 s 3\n"))
+unfolding special_arrays special_scalars spend_all asked value_of values_of key_of place_of passed truncated_of applied loop over_keys plain_done done_by all_done called items_done begun ended first_assigned records_done numeral_at sign_at fraction_at exponent_at numerator denominator digits unescaped escaped octal keywords builtins left_out_words table sign_of
+file_left_among_operands = refl
+
+-- { print; while (1) { n++; if (n > 2) nextfile } } END { print n, NR }
+pub file_left_in_a_loop : run_of scripts.file_left_in_a_loop (record { operands = ((codes "f") ∷ (codes "g") ∷ []); assigns = []; environment = [] }) no_input two_files 40 ≡ Ended 0 (puts Standard (codes "p\ns\n4 2\n"))
+unfolding special_arrays special_scalars spend_all asked value_of values_of key_of place_of passed truncated_of applied loop over_keys plain_done done_by all_done called items_done begun ended first_assigned records_done numeral_at sign_at fraction_at exponent_at numerator denominator digits unescaped escaped octal keywords builtins left_out_words table sign_of
+file_left_in_a_loop = refl
+
+-- BEGIN { a[1]; a[2]; a[3] } { for (k in a) { n++; if (k > 1) nextfile } } END { print n, NR }
+pub file_left_in_a_walk : run_of scripts.file_left_in_a_walk (record { operands = ((codes "f") ∷ (codes "g") ∷ []); assigns = []; environment = [] }) no_input two_files 40 ≡ Ended 0 (puts Standard (codes "4 2\n"))
+unfolding special_arrays special_scalars spend_all asked value_of values_of key_of place_of passed truncated_of applied loop over_keys plain_done done_by all_done called items_done begun ended first_assigned records_done numeral_at sign_at fraction_at exponent_at numerator denominator digits unescaped escaped octal keywords builtins left_out_words table sign_of
+file_left_in_a_walk = refl
+
+-- /q/, /s/ { print "r", $0; nextfile } { print $0 }
+pub file_left_in_a_range : run_of scripts.file_left_in_a_range (record { operands = ((codes "f") ∷ (codes "g") ∷ []); assigns = []; environment = [] }) no_input two_files 40 ≡ Ended 0 (puts Standard (codes "p\nr q\nr s\n"))
+unfolding special_arrays special_scalars spend_all asked value_of values_of key_of place_of passed truncated_of applied loop over_keys plain_done done_by all_done called items_done begun ended first_assigned records_done numeral_at sign_at fraction_at exponent_at numerator denominator digits unescaped escaped octal keywords builtins left_out_words table sign_of
+file_left_in_a_range = refl
+
+-- function h() { nextfile } BEGIN { h() }
+pub nextfile_outside : run_of scripts.nextfile_outside no_job no_input empty 40 ≡ FaultedBy NextOutside []
+unfolding special_arrays special_scalars spend_all asked value_of values_of key_of place_of passed truncated_of applied loop over_keys plain_done done_by all_done called items_done begun ended first_assigned records_done numeral_at sign_at fraction_at exponent_at numerator denominator digits unescaped escaped octal keywords builtins left_out_words table sign_of
+nextfile_outside = refl
+
+-- { nextfile }
+pub failing_rest_given_up : run_of scripts.failing_rest_given_up no_job (record { rest = (codes "a\n"); ending = Fails }) empty 40 ≡ Ended 0 []
+unfolding special_arrays special_scalars spend_all asked value_of values_of key_of place_of passed truncated_of applied loop over_keys plain_done done_by all_done called items_done begun ended first_assigned records_done numeral_at sign_at fraction_at exponent_at numerator denominator digits unescaped escaped octal keywords builtins left_out_words table sign_of
+failing_rest_given_up = refl
+
+-- NR == 2 { nextfile } { print FILENAME $0 }
+pub standard_input_given_up : run_of scripts.standard_input_given_up (record { operands = ((codes "-") ∷ (codes "-") ∷ (codes "g") ∷ []); assigns = []; environment = [] }) (record { rest = (codes "a\nb\nc\n"); ending = Fails }) two_files 40 ≡ Ended 0 (puts Standard (codes "-a\ngs\n"))
+unfolding special_arrays special_scalars spend_all asked value_of values_of key_of place_of passed truncated_of applied loop over_keys plain_done done_by all_done called items_done begun ended first_assigned records_done numeral_at sign_at fraction_at exponent_at numerator denominator digits unescaped escaped octal keywords builtins left_out_words table sign_of
+standard_input_given_up = refl
+
+-- BEGIN { a["x"]; a["y"]; for (k in a) { delete a; n++ }; print n, ("x" in a) }
+pub emptied_in_a_walk : run_of scripts.emptied_in_a_walk no_job no_input empty 40 ≡ Ended 0 (puts Standard (codes "2 0\n"))
+unfolding special_arrays special_scalars spend_all asked value_of values_of key_of place_of passed truncated_of applied loop over_keys plain_done done_by all_done called items_done begun ended first_assigned records_done numeral_at sign_at fraction_at exponent_at numerator denominator digits unescaped escaped octal keywords builtins left_out_words table sign_of
+emptied_in_a_walk = refl
+
+-- BEGIN { a["x"] = 1; a["y"] = 2; for (k in a) { s = s k; delete a; a["w" k] = k }; for (k in a) t = t k; print s, t, a["x"] "." }
+pub emptied_and_refilled : run_of scripts.emptied_and_refilled no_job no_input empty 40 ≡ Ended 0 (puts Standard (codes "xy wy .\n"))
+unfolding special_arrays special_scalars spend_all asked value_of values_of key_of place_of passed truncated_of applied loop over_keys plain_done done_by all_done called items_done begun ended first_assigned records_done numeral_at sign_at fraction_at exponent_at numerator denominator digits unescaped escaped octal keywords builtins left_out_words table sign_of
+emptied_and_refilled = refl
+
+-- function e(p) { delete p; p["n"] = 1 } BEGIN { a["x"] = 1; b["x"] = 2; e(a); for (k in a) print k, a[k]; print ("x" in a), b["x"] }
+pub emptied_parameter : run_of scripts.emptied_parameter no_job no_input empty 40 ≡ Ended 0 (puts Standard (codes "n 1\n0 2\n"))
+unfolding special_arrays special_scalars spend_all asked value_of values_of key_of place_of passed truncated_of applied loop over_keys plain_done done_by all_done called items_done begun ended first_assigned records_done numeral_at sign_at fraction_at exponent_at numerator denominator digits unescaped escaped octal keywords builtins left_out_words table sign_of
+emptied_parameter = refl
+
+-- FNR == 1 { delete ARGV; ARGV[2] = "g" } { print FILENAME $0 }
+pub emptied_operands : run_of scripts.emptied_operands (record { operands = ((codes "f") ∷ (codes "h") ∷ []); assigns = []; environment = [] }) no_input two_files 40 ≡ Ended 0 (puts Standard (codes "fp\nfq\nfr\ngs\n"))
+unfolding special_arrays special_scalars spend_all asked value_of values_of key_of place_of passed truncated_of applied loop over_keys plain_done done_by all_done called items_done begun ended first_assigned records_done numeral_at sign_at fraction_at exponent_at numerator denominator digits unescaped escaped octal keywords builtins left_out_words table sign_of
+emptied_operands = refl
+
+-- BEGIN { print "x" > "f"; print fflush("f"), fflush("g"), fflush() }
+pub flushed : run_of scripts.flushed no_job no_input empty 40 ≡ Ended 0 ((Open (codes "f") false ∷ []) ++ (puts (Named (codes "f")) (codes "x\n") ++ (puts Standard (codes "0 -1 0\n"))))
+unfolding special_arrays special_scalars spend_all asked value_of values_of key_of place_of passed truncated_of applied loop over_keys plain_done done_by all_done called items_done begun ended first_assigned records_done numeral_at sign_at fraction_at exponent_at numerator denominator digits unescaped escaped octal keywords builtins left_out_words table sign_of
+flushed = refl
+
+-- BEGIN { print (getline x < "f"), fflush("f"); print x >> "f"; print fflush("f"), close("f"), fflush("f"), fflush("") }
+pub reader_not_flushed : run_of scripts.reader_not_flushed no_job no_input (with_file (codes "f") (codes "a\n") End empty) 40 ≡ Ended 0 (puts Standard (codes "1 -1\n") ++ ((Open (codes "f") true ∷ []) ++ (puts (Named (codes "f")) (codes "a\n") ++ (puts Standard (codes "0 0 -1 0\n")))))
+unfolding special_arrays special_scalars spend_all asked value_of values_of key_of place_of passed truncated_of applied loop over_keys plain_done done_by all_done called items_done begun ended first_assigned records_done numeral_at sign_at fraction_at exponent_at numerator denominator digits unescaped escaped octal keywords builtins left_out_words table sign_of
+reader_not_flushed = refl

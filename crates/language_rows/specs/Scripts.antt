@@ -366,3 +366,59 @@ numbers_in_names = (item.Function (codes "f") ((codes "x") ∷ (codes "y") ∷ [
 -- BEGIN { print n < 10, n < "10", n == 9; n = n + 1; print n < 10 }
 abbrev pub text_in_a_number : List Item
 text_in_a_number = (item.Begin (stmt.And (stmt.Simple (stmt.Put stmt.Print (stmt.Listed (tree.Then (tree.Bin (tree.Other (token.Compare token.Less)) (tree.Var (codes "n")) (tree.Leaf (token.Number (codes "10")))) (tree.Then (tree.Bin (tree.Other (token.Compare token.Less)) (tree.Var (codes "n")) (tree.Leaf (token.Quoted (34 ∷ 49 ∷ 48 ∷ 34 ∷ [])))) (tree.Then (tree.Bin (tree.Other (token.Compare token.Equal)) (tree.Var (codes "n")) (tree.Leaf (token.Number (codes "9")))) tree.NoTree)))) stmt.NoTarget)) (stmt.And (stmt.Simple (stmt.Eval (tree.Bin (tree.Other (token.Assign token.Set)) (tree.Var (codes "n")) (tree.Bin (tree.Add token.Plus) (tree.Var (codes "n")) (tree.Leaf (token.Number (codes "1"))))))) (stmt.And (stmt.Simple (stmt.Put stmt.Print (stmt.Listed (tree.Then (tree.Bin (tree.Other (token.Compare token.Less)) (tree.Var (codes "n")) (tree.Leaf (token.Number (codes "10")))) tree.NoTree)) stmt.NoTarget)) stmt.NoStmt)))) ∷ []
+
+-- FNR == 2 { nextfile } { print FILENAME, $0 }
+abbrev pub rest_of_a_file : List Item
+rest_of_a_file = (item.When (item.One (tree.Bin (tree.Other (token.Compare token.Equal)) (tree.Var (codes "FNR")) (tree.Leaf (token.Number (codes "2"))))) (stmt.And (stmt.Jumping stmt.NextFile) stmt.NoStmt)) ∷ (item.Always (stmt.And (stmt.Simple (stmt.Put stmt.Print (stmt.Listed (tree.Then (tree.Var (codes "FILENAME")) (tree.Then (tree.Field (tree.Leaf (token.Number (codes "0")))) tree.NoTree))) stmt.NoTarget)) stmt.NoStmt)) ∷ []
+
+-- function h(x) { if (x == "q") nextfile; return x } { print FNR, h($0), NR }
+abbrev pub file_left_among_operands : List Item
+file_left_among_operands = (item.Function (codes "h") ((codes "x") ∷ []) (stmt.And (stmt.If (tree.Bin (tree.Other (token.Compare token.Equal)) (tree.Var (codes "x")) (tree.Leaf (token.Quoted (34 ∷ 113 ∷ 34 ∷ [])))) (stmt.Jumping stmt.NextFile)) (stmt.And (stmt.Leave stmt.Return (Some (tree.Var (codes "x")))) stmt.NoStmt))) ∷ (item.Always (stmt.And (stmt.Simple (stmt.Put stmt.Print (stmt.Listed (tree.Then (tree.Var (codes "FNR")) (tree.Then (tree.Call (codes "h") (tree.Then (tree.Field (tree.Leaf (token.Number (codes "0")))) tree.NoTree)) (tree.Then (tree.Var (codes "NR")) tree.NoTree)))) stmt.NoTarget)) stmt.NoStmt)) ∷ []
+
+-- { print; while (1) { n++; if (n > 2) nextfile } } END { print n, NR }
+abbrev pub file_left_in_a_loop : List Item
+file_left_in_a_loop = (item.Always (stmt.And (stmt.Simple (stmt.Put stmt.Print stmt.NoArgs stmt.NoTarget)) (stmt.And (stmt.While (tree.Leaf (token.Number (codes "1"))) (stmt.Block (stmt.And (stmt.Simple (stmt.Eval (tree.Post token.Increment (tree.Var (codes "n"))))) (stmt.And (stmt.If (tree.Bin (tree.Other (token.Compare token.Greater)) (tree.Var (codes "n")) (tree.Leaf (token.Number (codes "2")))) (stmt.Jumping stmt.NextFile)) stmt.NoStmt)))) stmt.NoStmt))) ∷ (item.End (stmt.And (stmt.Simple (stmt.Put stmt.Print (stmt.Listed (tree.Then (tree.Var (codes "n")) (tree.Then (tree.Var (codes "NR")) tree.NoTree))) stmt.NoTarget)) stmt.NoStmt)) ∷ []
+
+-- BEGIN { a[1]; a[2]; a[3] } { for (k in a) { n++; if (k > 1) nextfile } } END { print n, NR }
+abbrev pub file_left_in_a_walk : List Item
+file_left_in_a_walk = (item.Begin (stmt.And (stmt.Simple (stmt.Eval (tree.Index (codes "a") (tree.Then (tree.Leaf (token.Number (codes "1"))) tree.NoTree)))) (stmt.And (stmt.Simple (stmt.Eval (tree.Index (codes "a") (tree.Then (tree.Leaf (token.Number (codes "2"))) tree.NoTree)))) (stmt.And (stmt.Simple (stmt.Eval (tree.Index (codes "a") (tree.Then (tree.Leaf (token.Number (codes "3"))) tree.NoTree)))) stmt.NoStmt)))) ∷ (item.Always (stmt.And (stmt.ForIn (codes "k") (codes "a") (stmt.Block (stmt.And (stmt.Simple (stmt.Eval (tree.Post token.Increment (tree.Var (codes "n"))))) (stmt.And (stmt.If (tree.Bin (tree.Other (token.Compare token.Greater)) (tree.Var (codes "k")) (tree.Leaf (token.Number (codes "1")))) (stmt.Jumping stmt.NextFile)) stmt.NoStmt)))) stmt.NoStmt)) ∷ (item.End (stmt.And (stmt.Simple (stmt.Put stmt.Print (stmt.Listed (tree.Then (tree.Var (codes "n")) (tree.Then (tree.Var (codes "NR")) tree.NoTree))) stmt.NoTarget)) stmt.NoStmt)) ∷ []
+
+-- /q/, /s/ { print "r", $0; nextfile } { print $0 }
+abbrev pub file_left_in_a_range : List Item
+file_left_in_a_range = (item.When (item.Between (tree.Leaf (token.Ere (codes "/q/"))) (tree.Leaf (token.Ere (codes "/s/")))) (stmt.And (stmt.Simple (stmt.Put stmt.Print (stmt.Listed (tree.Then (tree.Leaf (token.Quoted (34 ∷ 114 ∷ 34 ∷ []))) (tree.Then (tree.Field (tree.Leaf (token.Number (codes "0")))) tree.NoTree))) stmt.NoTarget)) (stmt.And (stmt.Jumping stmt.NextFile) stmt.NoStmt))) ∷ (item.Always (stmt.And (stmt.Simple (stmt.Put stmt.Print (stmt.Listed (tree.Then (tree.Field (tree.Leaf (token.Number (codes "0")))) tree.NoTree)) stmt.NoTarget)) stmt.NoStmt)) ∷ []
+
+-- function h() { nextfile } BEGIN { h() }
+abbrev pub nextfile_outside : List Item
+nextfile_outside = (item.Function (codes "h") [] (stmt.And (stmt.Jumping stmt.NextFile) stmt.NoStmt)) ∷ (item.Begin (stmt.And (stmt.Simple (stmt.Eval (tree.Call (codes "h") tree.NoTree))) stmt.NoStmt)) ∷ []
+
+-- { nextfile }
+abbrev pub failing_rest_given_up : List Item
+failing_rest_given_up = (item.Always (stmt.And (stmt.Jumping stmt.NextFile) stmt.NoStmt)) ∷ []
+
+-- NR == 2 { nextfile } { print FILENAME $0 }
+abbrev pub standard_input_given_up : List Item
+standard_input_given_up = (item.When (item.One (tree.Bin (tree.Other (token.Compare token.Equal)) (tree.Var (codes "NR")) (tree.Leaf (token.Number (codes "2"))))) (stmt.And (stmt.Jumping stmt.NextFile) stmt.NoStmt)) ∷ (item.Always (stmt.And (stmt.Simple (stmt.Put stmt.Print (stmt.Listed (tree.Then (tree.Bin tree.Join (tree.Var (codes "FILENAME")) (tree.Field (tree.Leaf (token.Number (codes "0"))))) tree.NoTree)) stmt.NoTarget)) stmt.NoStmt)) ∷ []
+
+-- BEGIN { a["x"]; a["y"]; for (k in a) { delete a; n++ }; print n, ("x" in a) }
+abbrev pub emptied_in_a_walk : List Item
+emptied_in_a_walk = (item.Begin (stmt.And (stmt.Simple (stmt.Eval (tree.Index (codes "a") (tree.Then (tree.Leaf (token.Quoted (34 ∷ 120 ∷ 34 ∷ []))) tree.NoTree)))) (stmt.And (stmt.Simple (stmt.Eval (tree.Index (codes "a") (tree.Then (tree.Leaf (token.Quoted (34 ∷ 121 ∷ 34 ∷ []))) tree.NoTree)))) (stmt.And (stmt.ForIn (codes "k") (codes "a") (stmt.Block (stmt.And (stmt.Simple (stmt.Clear (codes "a"))) (stmt.And (stmt.Simple (stmt.Eval (tree.Post token.Increment (tree.Var (codes "n"))))) stmt.NoStmt)))) (stmt.And stmt.Empty (stmt.And (stmt.Simple (stmt.Put stmt.Print (stmt.Listed (tree.Then (tree.Var (codes "n")) (tree.Then (tree.Group (tree.Has (tree.Leaf (token.Quoted (34 ∷ 120 ∷ 34 ∷ []))) (codes "a"))) tree.NoTree))) stmt.NoTarget)) stmt.NoStmt)))))) ∷ []
+
+-- BEGIN { a["x"] = 1; a["y"] = 2; for (k in a) { s = s k; delete a; a["w" k] = k }; for (k in a) t = t k; print s, t, a["x"] "." }
+abbrev pub emptied_and_refilled : List Item
+emptied_and_refilled = (item.Begin (stmt.And (stmt.Simple (stmt.Eval (tree.Bin (tree.Other (token.Assign token.Set)) (tree.Index (codes "a") (tree.Then (tree.Leaf (token.Quoted (34 ∷ 120 ∷ 34 ∷ []))) tree.NoTree)) (tree.Leaf (token.Number (codes "1")))))) (stmt.And (stmt.Simple (stmt.Eval (tree.Bin (tree.Other (token.Assign token.Set)) (tree.Index (codes "a") (tree.Then (tree.Leaf (token.Quoted (34 ∷ 121 ∷ 34 ∷ []))) tree.NoTree)) (tree.Leaf (token.Number (codes "2")))))) (stmt.And (stmt.ForIn (codes "k") (codes "a") (stmt.Block (stmt.And (stmt.Simple (stmt.Eval (tree.Bin (tree.Other (token.Assign token.Set)) (tree.Var (codes "s")) (tree.Bin tree.Join (tree.Var (codes "s")) (tree.Var (codes "k")))))) (stmt.And (stmt.Simple (stmt.Clear (codes "a"))) (stmt.And (stmt.Simple (stmt.Eval (tree.Bin (tree.Other (token.Assign token.Set)) (tree.Index (codes "a") (tree.Then (tree.Bin tree.Join (tree.Leaf (token.Quoted (34 ∷ 119 ∷ 34 ∷ []))) (tree.Var (codes "k"))) tree.NoTree)) (tree.Var (codes "k"))))) stmt.NoStmt))))) (stmt.And stmt.Empty (stmt.And (stmt.ForIn (codes "k") (codes "a") (stmt.Simple (stmt.Eval (tree.Bin (tree.Other (token.Assign token.Set)) (tree.Var (codes "t")) (tree.Bin tree.Join (tree.Var (codes "t")) (tree.Var (codes "k"))))))) (stmt.And (stmt.Simple (stmt.Put stmt.Print (stmt.Listed (tree.Then (tree.Var (codes "s")) (tree.Then (tree.Var (codes "t")) (tree.Then (tree.Bin tree.Join (tree.Index (codes "a") (tree.Then (tree.Leaf (token.Quoted (34 ∷ 120 ∷ 34 ∷ []))) tree.NoTree)) (tree.Leaf (token.Quoted (34 ∷ 46 ∷ 34 ∷ [])))) tree.NoTree)))) stmt.NoTarget)) stmt.NoStmt))))))) ∷ []
+
+-- function e(p) { delete p; p["n"] = 1 } BEGIN { a["x"] = 1; b["x"] = 2; e(a); for (k in a) print k, a[k]; print ("x" in a), b["x"] }
+abbrev pub emptied_parameter : List Item
+emptied_parameter = (item.Function (codes "e") ((codes "p") ∷ []) (stmt.And (stmt.Simple (stmt.Clear (codes "p"))) (stmt.And (stmt.Simple (stmt.Eval (tree.Bin (tree.Other (token.Assign token.Set)) (tree.Index (codes "p") (tree.Then (tree.Leaf (token.Quoted (34 ∷ 110 ∷ 34 ∷ []))) tree.NoTree)) (tree.Leaf (token.Number (codes "1")))))) stmt.NoStmt))) ∷ (item.Begin (stmt.And (stmt.Simple (stmt.Eval (tree.Bin (tree.Other (token.Assign token.Set)) (tree.Index (codes "a") (tree.Then (tree.Leaf (token.Quoted (34 ∷ 120 ∷ 34 ∷ []))) tree.NoTree)) (tree.Leaf (token.Number (codes "1")))))) (stmt.And (stmt.Simple (stmt.Eval (tree.Bin (tree.Other (token.Assign token.Set)) (tree.Index (codes "b") (tree.Then (tree.Leaf (token.Quoted (34 ∷ 120 ∷ 34 ∷ []))) tree.NoTree)) (tree.Leaf (token.Number (codes "2")))))) (stmt.And (stmt.Simple (stmt.Eval (tree.Call (codes "e") (tree.Then (tree.Var (codes "a")) tree.NoTree)))) (stmt.And (stmt.ForIn (codes "k") (codes "a") (stmt.Simple (stmt.Put stmt.Print (stmt.Listed (tree.Then (tree.Var (codes "k")) (tree.Then (tree.Index (codes "a") (tree.Then (tree.Var (codes "k")) tree.NoTree)) tree.NoTree))) stmt.NoTarget))) (stmt.And (stmt.Simple (stmt.Put stmt.Print (stmt.Listed (tree.Then (tree.Group (tree.Has (tree.Leaf (token.Quoted (34 ∷ 120 ∷ 34 ∷ []))) (codes "a"))) (tree.Then (tree.Index (codes "b") (tree.Then (tree.Leaf (token.Quoted (34 ∷ 120 ∷ 34 ∷ []))) tree.NoTree)) tree.NoTree))) stmt.NoTarget)) stmt.NoStmt)))))) ∷ []
+
+-- FNR == 1 { delete ARGV; ARGV[2] = "g" } { print FILENAME $0 }
+abbrev pub emptied_operands : List Item
+emptied_operands = (item.When (item.One (tree.Bin (tree.Other (token.Compare token.Equal)) (tree.Var (codes "FNR")) (tree.Leaf (token.Number (codes "1"))))) (stmt.And (stmt.Simple (stmt.Clear (codes "ARGV"))) (stmt.And (stmt.Simple (stmt.Eval (tree.Bin (tree.Other (token.Assign token.Set)) (tree.Index (codes "ARGV") (tree.Then (tree.Leaf (token.Number (codes "2"))) tree.NoTree)) (tree.Leaf (token.Quoted (34 ∷ 103 ∷ 34 ∷ [])))))) stmt.NoStmt))) ∷ (item.Always (stmt.And (stmt.Simple (stmt.Put stmt.Print (stmt.Listed (tree.Then (tree.Bin tree.Join (tree.Var (codes "FILENAME")) (tree.Field (tree.Leaf (token.Number (codes "0"))))) tree.NoTree)) stmt.NoTarget)) stmt.NoStmt)) ∷ []
+
+-- BEGIN { print "x" > "f"; print fflush("f"), fflush("g"), fflush() }
+abbrev pub flushed : List Item
+flushed = (item.Begin (stmt.And (stmt.Simple (stmt.Put stmt.Print (stmt.Listed (tree.Then (tree.Leaf (token.Quoted (34 ∷ 120 ∷ 34 ∷ []))) tree.NoTree)) (stmt.Written (tree.Leaf (token.Quoted (34 ∷ 102 ∷ 34 ∷ [])))))) (stmt.And (stmt.Simple (stmt.Put stmt.Print (stmt.Listed (tree.Then (tree.Apply builtin.Fflush (tree.Then (tree.Leaf (token.Quoted (34 ∷ 102 ∷ 34 ∷ []))) tree.NoTree)) (tree.Then (tree.Apply builtin.Fflush (tree.Then (tree.Leaf (token.Quoted (34 ∷ 103 ∷ 34 ∷ []))) tree.NoTree)) (tree.Then (tree.Apply builtin.Fflush tree.NoTree) tree.NoTree)))) stmt.NoTarget)) stmt.NoStmt))) ∷ []
+
+-- BEGIN { print (getline x < "f"), fflush("f"); print x >> "f"; print fflush("f"), close("f"), fflush("f"), fflush("") }
+abbrev pub reader_not_flushed : List Item
+reader_not_flushed = (item.Begin (stmt.And (stmt.Simple (stmt.Put stmt.Print (stmt.Listed (tree.Then (tree.Group (tree.GetIntoFrom (tree.Var (codes "x")) (tree.Leaf (token.Quoted (34 ∷ 102 ∷ 34 ∷ []))))) (tree.Then (tree.Apply builtin.Fflush (tree.Then (tree.Leaf (token.Quoted (34 ∷ 102 ∷ 34 ∷ []))) tree.NoTree)) tree.NoTree))) stmt.NoTarget)) (stmt.And (stmt.Simple (stmt.Put stmt.Print (stmt.Listed (tree.Then (tree.Var (codes "x")) tree.NoTree)) (stmt.Appended (tree.Leaf (token.Quoted (34 ∷ 102 ∷ 34 ∷ [])))))) (stmt.And (stmt.Simple (stmt.Put stmt.Print (stmt.Listed (tree.Then (tree.Apply builtin.Fflush (tree.Then (tree.Leaf (token.Quoted (34 ∷ 102 ∷ 34 ∷ []))) tree.NoTree)) (tree.Then (tree.Apply builtin.Close (tree.Then (tree.Leaf (token.Quoted (34 ∷ 102 ∷ 34 ∷ []))) tree.NoTree)) (tree.Then (tree.Apply builtin.Fflush (tree.Then (tree.Leaf (token.Quoted (34 ∷ 102 ∷ 34 ∷ []))) tree.NoTree)) (tree.Then (tree.Apply builtin.Fflush (tree.Then (tree.Leaf (token.Quoted (34 ∷ 34 ∷ []))) tree.NoTree)) tree.NoTree))))) stmt.NoTarget)) stmt.NoStmt)))) ∷ []

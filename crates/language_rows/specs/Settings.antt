@@ -1,5 +1,5 @@
 -- The jobs, inputs and worlds of the rows.
-use Rattle.std.specs.Prelude.{ℕ, true, false, List, [], Some, None}
+use Rattle.std.specs.Prelude.{ℕ, true, false, List, [], codes, Some, None}
 use Rattle.world_core.specs.WorldState.{Standard, Named, Outside, Source, absent, replaced}
 use Rattle.world_core.specs.declared.world.Ending.{Ending}
 use Rattle.world_core.specs.declared.world.Ending.TheVariants.{End}
@@ -24,6 +24,10 @@ with_file name bytes ending outside = replaced (Named name) (record { bytes = So
 -- where a name holds bytes and has room for so many
 abbrev pub with_room : List ℕ → List ℕ → ℕ → Outside → Outside
 with_room name bytes room outside = replaced (Named name) (record { bytes = Some bytes; ending = End; room = Some room; opens = true }) outside
+
+-- two files, of three lines and of one
+abbrev pub two_files : Outside
+two_files = with_file (codes "f") (codes "p\nq\nr\n") End (with_file (codes "g") (codes "s\n") End empty)
 
 abbrev pub without_opening : List ℕ → Outside → Outside
 without_opening name outside = replaced (Named name) (record { bytes = Some []; ending = End; room = None; opens = false }) outside

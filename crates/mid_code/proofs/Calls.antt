@@ -36,7 +36,7 @@ no_array (Answered answer.Nothing) p v = absurd p
 no_array (Answered answer.Done) p v = absurd p
 no_array (Answered answer.Input) p v = absurd p
 no_array (Answered answer.Assign) p v = absurd p
-no_array (Answered answer.Close) p v = absurd p
+no_array (Answered answer.Stream) p v = absurd p
 no_array (Answered answer.ValueOrEnd) p v = absurd p
 no_array (Answered answer.Name) p v = absurd p
 

@@ -304,6 +304,7 @@ module _ (texts : List (List ℕ)) (scope : Scope) where
   other_code builtin.ToUpper ts other = refl
   other_code builtin.Int ts other = refl
   other_code builtin.Close ts other = refl
+  other_code builtin.Fflush ts other = refl
 
   pub length_more : (f : Builtin) (es : List Expr) → 2 ≤ length es → f ≡ builtin.Length →
       host row.Length (one record_code) ≡ applied_code texts scope f (trees es)

@@ -20,7 +20,7 @@ use Rattle.mid_program.specs.declared.mid.Arithmetic.{Arithmetic}
 use Rattle.mid_program.specs.Names.{ArrayName, Scope, Variable, Reserved, variable_of, array_of}
 use Rattle.mid_program.specs.Names as names
 use Rattle.mid_program.specs.ScriptState.{Doing, ◌>>=◌, give, settled, does, asks}
-use Rattle.mid_program.specs.Steps.{compared, close_number, input_number, numeric, zero_number, one_number, truth_value, number_in, computed, power_operator, array_number, read_variable}
+use Rattle.mid_program.specs.Steps.{compared, stream_number, input_number, numeric, zero_number, one_number, truth_value, number_in, computed, power_operator, array_number, read_variable}
 use Rattle.mid_program.specs.Meaning.{Calls, asked}
 use Rattle.mid_program.specs.Mid.{Kind, Code, Do, Compare, Ask, Number, Text, Unset, Array, Choose, Codes, End, At, Fixed, Form, form_of}
 use Rattle.mid_program.specs.MidMeaning.{Env, Holds, Values, all_evaluated, boxed, evaluated, numbered, or_constant, or_zero, row_of, then_row, truth_in, operated}
@@ -308,14 +308,24 @@ module _ (texts : List (List ℕ)) (parameters : List (List Kind)) (n : ℕ) (ca
       ∙ under (Eval c) (λ v. (settled (then_row (numbered (form_of fs c) v) (λ m. Ok (m, tt))) >>= λ g. operated AsNumber g) >>= λ z. give (numeric z)) (λ v. give (numeric (N v)))
       (λ v i. (settled (then_row (h v i) (λ m. Ok (m, tt))) >>= λ g. operated AsNumber g) >>= λ z. give (numeric z))
 
-  pub close_is : (a : Code) (m : Doing Value) → Means a m → Means (Do AsNumber (one (host row.Close (one a)))) (m >>= λ x. does row.Close (x, tt) >>= λ v. give (numeric (close_number v)))
+  pub close_is : (a : Code) (m : Doing Value) → Means a m → Means (Do AsNumber (one (host row.Close (one a)))) (m >>= λ x. does row.Close (x, tt) >>= λ v. give (numeric (stream_number v)))
   unfolding evaluated all_evaluated
   close_is a m p = record {
     valued = tt;
     means =
-        as_coded (host row.Close (one a)) close_number (λ v. refl)
-        ∙ assoc (All (one a)) (λ vs. settled (row_of fs (arguments_of row.Close) (one a) vs) >>= λ g. does row.Close g) (λ v. give (numeric (close_number v)))
-        ∙ one_operand texts parameters n calls fs env a m p (λ vs. (settled (row_of fs (arguments_of row.Close) (one a) vs) >>= λ g. does row.Close g) >>= λ v. give (numeric (close_number v))) (λ x. does row.Close (x, tt) >>= λ v. give (numeric (close_number v))) (λ v. refl);
+        as_coded (host row.Close (one a)) stream_number (λ v. refl)
+        ∙ assoc (All (one a)) (λ vs. settled (row_of fs (arguments_of row.Close) (one a) vs) >>= λ g. does row.Close g) (λ v. give (numeric (stream_number v)))
+        ∙ one_operand texts parameters n calls fs env a m p (λ vs. (settled (row_of fs (arguments_of row.Close) (one a) vs) >>= λ g. does row.Close g) >>= λ v. give (numeric (stream_number v))) (λ x. does row.Close (x, tt) >>= λ v. give (numeric (stream_number v))) (λ v. refl);
+  }
+
+  pub flush_is : (a : Code) (m : Doing Value) → Means a m → Means (Do AsNumber (one (host row.Flush (one a)))) (m >>= λ x. does row.Flush (x, tt) >>= λ v. give (numeric (stream_number v)))
+  unfolding evaluated all_evaluated
+  flush_is a m p = record {
+    valued = tt;
+    means =
+        as_coded (host row.Flush (one a)) stream_number (λ v. refl)
+        ∙ assoc (All (one a)) (λ vs. settled (row_of fs (arguments_of row.Flush) (one a) vs) >>= λ g. does row.Flush g) (λ v. give (numeric (stream_number v)))
+        ∙ one_operand texts parameters n calls fs env a m p (λ vs. (settled (row_of fs (arguments_of row.Flush) (one a) vs) >>= λ g. does row.Flush g) >>= λ v. give (numeric (stream_number v))) (λ x. does row.Flush (x, tt) >>= λ v. give (numeric (stream_number v))) (λ v. refl);
   }
 
   pub get_from_is : (a : Code) (m : Doing Value) → Means a m → Means (Do AsNumber (one (host row.GetlineFile (one a)))) (m >>= λ x. does row.GetlineFile (x, tt) >>= λ v. give (numeric (input_number v)))

@@ -37,7 +37,7 @@ numbered_boxed (Answered answer.Nothing) v x = absurd v
 numbered_boxed (Answered answer.Done) v x = absurd v
 numbered_boxed (Answered answer.Input) v x = absurd v
 numbered_boxed (Answered answer.Assign) v x = absurd v
-numbered_boxed (Answered answer.Close) v x = absurd v
+numbered_boxed (Answered answer.Stream) v x = absurd v
 numbered_boxed (Answered answer.ValueOrEnd) v x = absurd v
 numbered_boxed (Answered answer.Name) v x = absurd v
 
@@ -57,7 +57,7 @@ truth_boxed (Answered answer.Nothing) v x = absurd v
 truth_boxed (Answered answer.Done) v x = absurd v
 truth_boxed (Answered answer.Input) v x = absurd v
 truth_boxed (Answered answer.Assign) v x = absurd v
-truth_boxed (Answered answer.Close) v x = absurd v
+truth_boxed (Answered answer.Stream) v x = absurd v
 truth_boxed (Answered answer.ValueOrEnd) v x = absurd v
 truth_boxed (Answered answer.Name) v x = absurd v
 

@@ -41,7 +41,7 @@ some_value (Answered answer.Nothing) v = absurd v
 some_value (Answered answer.Done) v = absurd v
 some_value (Answered answer.Input) v = absurd v
 some_value (Answered answer.Assign) v = absurd v
-some_value (Answered answer.Close) v = absurd v
+some_value (Answered answer.Stream) v = absurd v
 some_value (Answered answer.ValueOrEnd) v = absurd v
 some_value (Answered answer.Name) v = absurd v
 

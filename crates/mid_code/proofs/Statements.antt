@@ -13,16 +13,16 @@ use Rattle.awk_grammar.specs.Tree as tree
 use Rattle.awk_grammar.specs.Tree.{Tree, Trees, NoTree}
 use Rattle.awk_grammar.specs.Stmt as stmt
 use Rattle.awk_grammar.specs.Stmt.{Stmt, Stmts, NoStmt, And, Args, Target, Printing}
-use Rattle.mid_program.specs.Names.{Scope, Variable, Reserved, array_of, variable_of}
+use Rattle.mid_program.specs.Names.{Scope, Variable, Reserved, ArrayName, array_of, variable_of}
 use Rattle.mid_program.specs.Names as names
-use Rattle.mid_program.specs.ScriptState.{Outcome, Gives, Stops, Doing, go_on, ◌>>=◌, ◌>>◌, give, nothing, settled, stop, change, does, does_listed, Exited, Returned}
+use Rattle.mid_program.specs.ScriptState.{Outcome, Gives, Stops, Doing, go_on, ◌>>=◌, ◌>>◌, give, nothing, settled, stop, change, does, does_listed, Nexted, Exited, Returned}
 use Rattle.mid_program.specs.Steps.{number_in, array_number, store_variable}
 use Rattle.mid_program.specs.Meaning.{Calls, value_of, values_of, key_of}
 use Rattle.mid_program.specs.Statements.{Flow, Normal, Broke, Continued, after, after_round, loop, over_keys, operands_of, with_last, with_target, destination_of, listed_of, put, with_status, test_of, maybe_test, plain_done, maybe_done, done_by, all_done}
-use Rattle.mid_program.specs.Mid.{Kind, Code, Over, Codes, form_of, Step, Eval as EvalStep}
+use Rattle.mid_program.specs.Mid.{Kind, Code, Over, Array, Codes, form_of, Step, Eval as EvalStep}
 use Rattle.mid_program.specs.MidMeaning.{Holds, Values, all_evaluated, boxed, evaluated, holds, keyed, listing, numbered, or_constant, row_of, stepped, all_stepped, truth_in}
 use Rattle.mid_program.specs.Texts.{texts_in, all_texts, target_texts, args_texts, plain_texts, maybe_texts, maybe_plain_texts, stmt_texts, stmts_texts}
-use Rattle.mid_program.specs.Translation.{two, moved, store_variable_code, array_code, code_of, codes_of, key_code, plain_step, maybe_step, test_code, step_code, steps_code}
+use Rattle.mid_program.specs.Translation.{host, one, two, moved, store_variable_code, array_code, code_of, codes_of, key_code, plain_step, maybe_step, test_code, step_code, steps_code}
 use Rattle.mid_code.proofs.Binding.{assoc, bind_as, flat, given, over}
 use Rattle.mid_code.proofs.Expressions.{special_again, on_array}
 use Rattle.mid_code.proofs.Operands.{numbered_boxed, truth_boxed}
@@ -99,6 +99,11 @@ module _ (texts : List (List ℕ)) (parameters : List (List Kind)) (n : ℕ) (ca
       over (All (codes_of texts scope ts) >>= λ vs. does_listed (listed.Printf d) (listing [] (codes_of texts scope ts) vs)) (values_of scope n calls ts >>= put (listed.Printf d)) (λ v. give Normal)
       (bind_as (listing [] (codes_of texts scope ts)) (All (codes_of texts scope ts)) (values_of scope n calls ts) (λ vs. does_listed (listed.Printf d) (listing [] (codes_of texts scope ts) vs)) (put (listed.Printf d)) (values_same texts parameters n calls scope heads ts f [] tt) (λ vs. refl))
 
+  clear_same : (a : ArrayName) → run (EvalStep (host row.Clear (one (Array a)))) ≡ ((array_number a >>= λ i. does row.Clear (i, tt)) >> give Normal)
+  unfolding evaluated all_evaluated stepped
+  clear_same (names.Numbered i) = refl
+  clear_same (names.Given i) = refl
+
   plain_same : (p : stmt.Plain) → AllStand texts (plain_texts p) → run (plain_step texts scope p) ≡ (plain_done scope n calls p >> give Normal)
   unfolding evaluated all_evaluated stepped plain_done
   plain_same (stmt.Eval t) f = let p = same texts parameters n calls scope heads t f [] tt in
@@ -108,6 +113,7 @@ module _ (texts : List (List ℕ)) (parameters : List (List Kind)) (n : ℕ) (ca
       on_array texts parameters n calls [] tt (array_of scope a) (key_code texts scope ts) (key_of scope n calls ts) (same_key texts parameters n calls scope heads ts f [] tt) (λ vs. settled (row_of [] (arguments_of row.Delete) (two (array_code texts scope a) (key_code texts scope ts)) vs) >>= λ g. does row.Delete g) (λ z. give Normal)
       (λ i key. does row.Delete (i, (key, tt)) >> give Normal) (λ i v. refl)
       ∙ sym (flat (array_number (array_of scope a)) (λ i. key_of scope n calls ts) (λ i key. does row.Delete (i, (key, tt))) (λ u. give Normal))
+  plain_same (stmt.Clear a) f = clear_same (array_of scope a)
 
   maybe_same : (p : Option stmt.Plain) → AllStand texts (maybe_plain_texts p) → run (maybe_step texts scope p) ≡ (maybe_done scope n calls p >> give Normal)
   unfolding stepped
@@ -151,6 +157,7 @@ module _ (texts : List (List ℕ)) (parameters : List (List Kind)) (n : ℕ) (ca
     step_same (stmt.Jumping stmt.Break) f = refl
     step_same (stmt.Jumping stmt.Continue) f = refl
     step_same (stmt.Jumping stmt.Next) f = refl
+    step_same (stmt.Jumping stmt.NextFile) f = plainly (does row.NextFile tt) (stop Nexted)
     step_same (stmt.Leave stmt.Exit None) f = refl
     step_same (stmt.Leave stmt.Exit (Some t)) f = exit_same t f
     step_same (stmt.Leave stmt.Return None) f = refl

@@ -27,7 +27,7 @@ use Rattle.mid_program.specs.MidMeaning.{Env, Holds, all_evaluated, boxed, evalu
 use Rattle.mid_program.specs.Texts.{texts_in, all_texts, text_place}
 use Rattle.mid_program.specs.Translation.{host, one, two, zero_code, untruth_code, record_code, special_code, matching_code, ere_code, sign_of, product_of, moved, store_at, stored_at, stepped_at, step_after_at, updated_at, substituted_at, target_in, keeping, replacing_code, code_of, codes_of, key_code, kept_code, argument_codes, passed_code, kind_of, truncated_code, applied_code}
 use Rattle.mid_code.proofs.Binding.{As, assoc, bind_as, flat, given, over, under}
-use Rattle.mid_code.proofs.Expressions.{number_is, text_is, variable_is, concat_is, join_is, matches_is, compare_is, length_is, inline_is, power_is, as_number_is, field_is, and_is, or_is, not_is, cond_is, element_is, has_is, unset_is, whole_is, index_is, match_is, lower_is, upper_is, int_is, close_is, get_is, get_from_is, substr_from_is, substr_is, split_is}
+use Rattle.mid_code.proofs.Expressions.{number_is, text_is, variable_is, concat_is, join_is, matches_is, compare_is, length_is, inline_is, power_is, as_number_is, field_is, and_is, or_is, not_is, cond_is, element_is, has_is, unset_is, whole_is, index_is, match_is, lower_is, upper_is, int_is, close_is, flush_is, get_is, get_from_is, substr_from_is, substr_is, split_is}
 use Rattle.mid_code.proofs.Operands.{Is, Valued, first_operand, number_row, one_operand, truth_of_truth}
 use Rattle.mid_code.proofs.Places.{Placed, let_in, retold, stored_is, updated_is, stepped_is, step_after_is, line_is, file_line_is, substituted_is}
 use Rattle.mid_code.proofs.Calls.{Handed, argument_step, fresh_same, named_as, value_as}
@@ -247,5 +247,7 @@ module _ (texts : List (List ℕ)) (parameters : List (List Kind)) (n : ℕ) (ca
     applied_same builtin.ToLower (tree.Then t ts) f fs env = lower_is texts parameters n calls fs env (code t) (meaning t) (same t (first_part texts (texts_in t) (all_texts ts) (f)) fs env)
     applied_same builtin.ToUpper (tree.Then t ts) f fs env = upper_is texts parameters n calls fs env (code t) (meaning t) (same t (first_part texts (texts_in t) (all_texts ts) (f)) fs env)
     applied_same builtin.Close (tree.Then t ts) f fs env = close_is texts parameters n calls fs env (code t) (meaning t) (same t (first_part texts (texts_in t) (all_texts ts) (f)) fs env)
+    applied_same builtin.Fflush NoTree f fs env = number_is texts parameters n calls fs env zero_number
+    applied_same builtin.Fflush (tree.Then t ts) f fs env = flush_is texts parameters n calls fs env (code t) (meaning t) (same t (first_part texts (texts_in t) (all_texts ts) (f)) fs env)
     applied_same builtin.Int (tree.Then t ts) f fs env = truncated_same t (first_part texts (texts_in t) (all_texts ts) (f)) fs env (code t) (meaning t) (same t (first_part texts (texts_in t) (all_texts ts) (f)) fs env)
     applied_same g ts f fs env = unset_is texts parameters n calls fs env

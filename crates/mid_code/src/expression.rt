@@ -318,6 +318,7 @@ fn apply_one(scope: &Scope<'_>, function: Builtin, e: &Expr) -> Result<Code, All
         Builtin::ToLower => host_of(scope, Primitive::Lower, e),
         Builtin::ToUpper => host_of(scope, Primitive::Upper, e),
         Builtin::Close => host_number_of(scope, Primitive::Close, e),
+        Builtin::Fflush => host_number_of(scope, Primitive::Flush, e),
         Builtin::Int => truncated(scope, e),
         Builtin::Substr
         | Builtin::Index
@@ -342,6 +343,7 @@ fn apply_more(scope: &Scope<'_>, function: Builtin, es: &[Expr]) -> Result<Code,
         Builtin::ToLower => host_of(scope, Primitive::Lower, &es[0]),
         Builtin::ToUpper => host_of(scope, Primitive::Upper, &es[0]),
         Builtin::Close => host_number_of(scope, Primitive::Close, &es[0]),
+        Builtin::Fflush => host_number_of(scope, Primitive::Flush, &es[0]),
         Builtin::Int => truncated(scope, &es[0]),
         Builtin::Index => {
             let text = boxed_code(scope, &es[0])?;

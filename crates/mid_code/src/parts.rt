@@ -94,6 +94,18 @@ pub(crate) fn host_number(
     unary(alloc, Operation::AsNumber, answer)
 }
 
+/// What the host does with an array.
+pub(crate) fn host_whole(
+    scope: &Scope<'_>,
+    primitive: Primitive,
+    name: &[u8],
+) -> Result<Code, AllocError>
+    ensures { IfOk result (λ code. view code ≡ plain.Do (Operation.Host primitive) (one (plain.Array
+        (array_of (scope_of scope.now) name.now)))) }
+{
+    host_one(scope.alloc, primitive, Code::Array(scope.array(name)))
+}
+
 /// What the host does with an array and a key.
 pub(crate) fn host_array(
     scope: &Scope<'_>,
@@ -259,6 +271,7 @@ pub(crate) fn apply_none(alloc: Global, function: Builtin) -> Result<Code, Alloc
 {
     match function {
         Builtin::Length => record_length(alloc),
+        Builtin::Fflush => Ok(Code::Number(0)),
         Builtin::Substr
         | Builtin::Index
         | Builtin::Split

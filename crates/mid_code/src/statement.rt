@@ -4,6 +4,7 @@ ghost use Rattle.std.specs.Prelude.{◌≡◌, ℕ, List, [], ◌∷◌, ◌++�
 ghost use Rattle.awk_grammar.specs.View.{view as tree};
 ghost use Rattle.awk_grammar.specs.ViewStmt.{view_args, view_jump, view_leaving, view_maybe, view_maybe_simple, view_simple, view_stmt as tree_stmt, view_stmts as tree_stmts, view_target as tree_target, view_word};
 ghost use Rattle.awk_grammar.specs.Stmt.{Jumping, Leave};
+ghost use Rattle.awk_state.specs.declared.table.Primitive.TheVariants as row;
 ghost use Rattle.mid_program.specs.Mid as plain;
 ghost use Rattle.mid_program.specs.Names as names;
 ghost use Rattle.mid_program.specs.Names.{array_of, variable_of};
@@ -12,13 +13,13 @@ ghost use Rattle.mid_program.specs.Translation.{code_of, codes_of, maybe_step, m
 ghost use Rattle.mid_program.specs.ViewCode.{view, view_array, view_step, view_steps, views};
 ghost use Rattle.mid_code.specs.ViewScope.{scope_of, texts_of};
 
-use crate::build::{over, record, store_variable};
+use crate::build::{applied, over, record, store_variable};
 use crate::expression::{code, key, push_operands};
-use crate::parts::host_array;
+use crate::parts::{host_array, host_whole};
 use crate::scope::Scope;
 use awk_grammar::{Expr, Jump, Leaving, PrintArgs, PrintTarget, PrintWord, SimpleStmt, Stmt};
 use awk_state::{Destination, Listed, Primitive};
-use mid_program::{ArrayName, Code, Operand, Step};
+use mid_program::{ArrayName, Code, Operand, Operation, Step};
 use std::alloc::{AllocError, Global};
 
 /// Where a print statement writes to.
@@ -116,6 +117,9 @@ fn simple(scope: &Scope<'_>, s: &SimpleStmt) -> Result<Box<Step>, AllocError>
             let key = key(scope, subscripts)?;
             let deletion = host_array(scope, Primitive::Delete, name, key)?;
             evaluated(scope.alloc, deletion)
+        }
+        SimpleStmt::Clear(name) => {
+            evaluated(scope.alloc, host_whole(scope, Primitive::Clear, name)?)
         }
     }
 }
@@ -264,6 +268,17 @@ fn for_each(
     boxed(alloc, Step::Each(array, store, body))
 }
 
+/// The rest of what is being read is given up, and then the record is left.
+fn next_file(alloc: Global) -> Result<Box<Step>, AllocError>
+    ensures { IfOk result (λ step. view_step step.value ≡ plain.Block (plain.Then (plain.Eval (plain.Do
+        (Operation.Host row.NextFile) plain.End)) (plain.Then plain.Next plain.NoStep))) }
+{
+    let rest = applied(Operation::Host(Primitive::NextFile), Vec::new(alloc));
+    let given_up = evaluated(alloc, rest)?;
+    let left = boxed(alloc, Step::Next)?;
+    in_turn(alloc, given_up, left)
+}
+
 #[tactic(auto, unfolding(mid_program::specs::Translation::step_code))]
 fn jump(alloc: Global, jump: Jump) -> Result<Box<Step>, AllocError>
     ensures { (texts : List (List ℕ)) (scope : names.Scope)
@@ -274,6 +289,7 @@ fn jump(alloc: Global, jump: Jump) -> Result<Box<Step>, AllocError>
         Jump::Break => boxed(alloc, Step::Break),
         Jump::Continue => boxed(alloc, Step::Continue),
         Jump::Next => boxed(alloc, Step::Next),
+        Jump::NextFile => next_file(alloc),
     }
 }
 

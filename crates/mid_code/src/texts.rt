@@ -118,6 +118,7 @@ fn put_simple(alloc: Global, texts: &mut Texts, simple: &SimpleStmt) -> Result<(
             put_target(alloc, texts, target)
         }
         SimpleStmt::Delete(_, subscripts) => put_all(alloc, texts, subscripts),
+        SimpleStmt::Clear(_) => Ok(()),
     }
 }
 

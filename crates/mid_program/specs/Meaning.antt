@@ -18,7 +18,7 @@ use Rattle.awk_grammar.specs.Token.{Plus, Minus, Not, Signed, Set, SetSum, SetPr
 use Rattle.awk_grammar.specs.Tree.{Tree, Leaf, Length, Var, Index, Field, Group, Call, Apply, Unary, Pre, Post, Bin, Join, Add, Other, Has, HasList, Cond, Get, GetInto, GetFrom, GetIntoFrom, Trees, NoTree, Then}
 use Rattle.mid_program.specs.Names.{Name, Scope, function_number, function_at, variable_of, array_of, is_array}
 use Rattle.mid_program.specs.ScriptState.{Local, Scalar, Array, OutOfTurns, Doing, ◌>>=◌, ◌>>◌, give, stop, change, settled, does, does_listed, asks, spend, with_global}
-use Rattle.mid_program.specs.Steps.{constant, or_nought, given_value, numeric, zero_number, one_number, truth_value, number_in, arithmetic, sign_operator, product_operator, power_operator, step_operator, computed, comparison_of, compared, array_number, read_variable, field_checked, Place, Named, Element, FieldAt, read_place, store_place, stored, ere_text, ere_in, ere_or, is_ere, input_number, close_number, received, fresh_all, updated, substituted}
+use Rattle.mid_program.specs.Steps.{constant, or_nought, given_value, numeric, zero_number, one_number, truth_value, number_in, arithmetic, sign_operator, product_operator, power_operator, step_operator, computed, comparison_of, compared, array_number, read_variable, field_checked, Place, Named, Element, FieldAt, read_place, store_place, stored, ere_text, ere_in, ere_or, is_ere, input_number, stream_number, received, fresh_all, updated, substituted}
 
 -- what a call of a function does, by its number
 abbrev pub Calls : Type 0
@@ -298,7 +298,12 @@ module _ (scope : Scope) (n : ℕ) (calls : Calls) where
     applied builtin.Close (Then t ts) = do
       x ← value_of t
       answer ← does row.Close (x, tt)
-      give (numeric (close_number answer))
+      give (numeric (stream_number answer))
+    applied builtin.Fflush NoTree = give (numeric zero_number)
+    applied builtin.Fflush (Then t ts) = do
+      x ← value_of t
+      answer ← does row.Flush (x, tt)
+      give (numeric (stream_number answer))
     -- other arguments stand in no well-formed tree, and `sprintf` is met above
     applied builtin.Substr ts = give value.Uninit
     applied builtin.Index ts = give value.Uninit

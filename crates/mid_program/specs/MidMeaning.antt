@@ -32,7 +32,7 @@ use Rattle.mid_program.specs.declared.mid.Arithmetic.TheVariants as inline
 use Rattle.mid_program.specs.declared.mid.Operation.{Operation}
 use Rattle.mid_program.specs.declared.mid.Operation.TheVariants.{Host, Inline, AsNumber, FieldNumber}
 use Rattle.mid_program.specs.ScriptState.{Local, Scalar, Array as ArrayOf, Nexted, Exited, Returned, OutOfTurns, Doing, ◌>>=◌, ◌>>◌, give, nothing, stop, look, change, settled, does, does_listed, asks, spend, global_value, local_value, with_global, with_local, with_range}
-use Rattle.mid_program.specs.Steps.{numeric, zero_number, one_number, truth_number, truth_value, input_number, close_number, field_checked, array_number, compared}
+use Rattle.mid_program.specs.Steps.{numeric, zero_number, one_number, truth_number, truth_value, input_number, stream_number, field_checked, array_number, compared}
 use Rattle.mid_program.specs.Meaning.{Calls, asked}
 use Rattle.mid_program.specs.Statements.{Flow, Normal, Broke, Continued, after, after_round, loop, over_keys, with_status, entered}
 use Rattle.mid_program.specs.Items.{range_open}
@@ -112,7 +112,7 @@ numbered_answer (answer.Of sort.Value) x = number_of_row x
 numbered_answer (answer.Of sort.Number) x = Ok x
 numbered_answer answer.Truth x = Ok (truth_number x)
 numbered_answer answer.Input x = Ok (input_number x)
-numbered_answer answer.Close x = Ok (close_number x)
+numbered_answer answer.Stream x = Ok (stream_number x)
 numbered_answer _ x = Ok zero_number
 
 abbrev pub numbered : (have : Form) → Holds have → Result AnyNumber Fault

@@ -10,7 +10,7 @@ use Rattle.awk_state.specs.declared.sorts.Answer.TheVariants as answer
 use Rattle.awk_state.specs.InTurn.{values_wanted}
 use Rattle.awk_state.specs.declared.table.Listed.{Listed}
 use Rattle.awk_state.specs.declared.table.Primitive.{Primitive}
-use Rattle.awk_state.specs.declared.table.Primitive.TheVariants.{IntOf, Concat, Pow, GetSpecial, SetSpecial, Field, SetField, Elem, SetElem, Has, Delete, Join, Length, Matches, Match, Split, Substr, SubstrFrom, Index, Lower, Upper, GetlineFile, Close}
+use Rattle.awk_state.specs.declared.table.Primitive.TheVariants.{IntOf, Concat, Pow, GetSpecial, SetSpecial, Field, SetField, Elem, SetElem, Has, Delete, Join, Length, Matches, Match, Split, Substr, SubstrFrom, Index, Lower, Upper, GetlineFile, Close, NextFile, Clear, Flush}
 use Rattle.mid_program.specs.declared.mid.Operation.{Operation}
 use Rattle.mid_program.specs.declared.mid.Operation.TheVariants.{Host}
 use Rattle.mid_program.specs.Names.{ArrayName, Numbered, Given, same_name}
@@ -42,6 +42,9 @@ is_operation Lower = true
 is_operation Upper = true
 is_operation GetlineFile = true
 is_operation Close = true
+is_operation NextFile = true
+is_operation Clear = true
+is_operation Flush = true
 is_operation p = false
 
 abbrev pub is_done_here : Operation → Bool
@@ -59,7 +62,7 @@ fits (Answered (answer.Of sort.Value)) sort.Number = true
 fits (Answered (answer.Of sort.Number)) sort.Number = true
 fits (Answered answer.Truth) sort.Number = true
 fits (Answered answer.Input) sort.Number = true
-fits (Answered answer.Close) sort.Number = true
+fits (Answered answer.Stream) sort.Number = true
 fits Bare sort.Number = true
 fits (Answered (answer.Of sort.Array)) sort.Array = true
 fits _ _ = false

@@ -11,7 +11,7 @@ use Rattle.awk_state.specs.declared.table.Listed.{Listed}
 use Rattle.awk_state.specs.declared.table.Listed.TheVariants as listed
 use Rattle.awk_grammar.specs.Token.{Number}
 use Rattle.awk_grammar.specs.Tree.{Tree, Leaf, Field, Trees, NoTree, Then}
-use Rattle.awk_grammar.specs.Stmt.{Printing, Print, Printf, Args, NoArgs, Listed as Operands, Enclosed, Target, NoTarget, Written, Appended, Plain, Eval, Put, Delete, Break, Continue, Next, Exit, Return, Stmt, Block, Empty, Simple, If, IfElse, While, Do, For, ForIn, Jumping, Leave, Stmts, NoStmt, And}
+use Rattle.awk_grammar.specs.Stmt.{Printing, Print, Printf, Args, NoArgs, Listed as Operands, Enclosed, Target, NoTarget, Written, Appended, Plain, Eval, Put, Delete, Clear, Break, Continue, Next, NextFile, Exit, Return, Stmt, Block, Empty, Simple, If, IfElse, While, Do, For, ForIn, Jumping, Leave, Stmts, NoStmt, And}
 use Rattle.mid_program.specs.Names.{Function, Resolved, Scope, function_at, variable_of, array_of}
 use Rattle.mid_program.specs.ScriptState.{Local, State, Own, Faulted, OutOfTurns, TooDeep, Nexted, Exited, Returned, Outcome, Gives, Stops, Doing, ◌>>=◌, ◌>>◌, give, nothing, stop, change, does, does_listed, spend}
 use Rattle.mid_program.specs.Steps.{number_in, array_number, store_variable}
@@ -104,6 +104,9 @@ module _ (scope : Scope) (n : ℕ) (calls : Calls) where
     i ← array_number (array_of scope a)
     key ← key_of scope n calls ts
     does row.Delete (i, (key, tt))
+  plain_done (Clear a) = do
+    i ← array_number (array_of scope a)
+    does row.Clear (i, tt)
 
   abbrev pub maybe_done : Option Plain → Doing (Unit {0})
   maybe_done None = nothing
@@ -126,6 +129,8 @@ module _ (scope : Scope) (n : ℕ) (calls : Calls) where
     done_by (Jumping Break) = give Broke
     done_by (Jumping Continue) = give Continued
     done_by (Jumping Next) = stop Nexted
+    -- the rest of what is being read is given up, and then the record is left
+    done_by (Jumping NextFile) = does row.NextFile tt >> stop Nexted
     done_by (Leave Exit None) = stop Exited
     done_by (Leave Exit (Some t)) = do
       x ← value_of scope n calls t

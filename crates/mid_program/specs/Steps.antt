@@ -15,8 +15,8 @@ use Rattle.awk_state.specs.Numbers.{Number, outcome_of}
 use Rattle.awk_state.specs.ValueRows.{number_of_row}
 use Rattle.awk_state.specs.declared.answers.InputAnswer.{InputAnswer}
 use Rattle.awk_state.specs.declared.answers.InputAnswer.TheVariants as input
-use Rattle.awk_state.specs.declared.answers.CloseAnswer.{CloseAnswer}
-use Rattle.awk_state.specs.declared.answers.CloseAnswer.TheVariants as close
+use Rattle.awk_state.specs.declared.answers.StreamAnswer.{StreamAnswer}
+use Rattle.awk_state.specs.declared.answers.StreamAnswer.TheVariants as stream
 use Rattle.awk_state.specs.declared.table.Primitive.TheVariants.{Pow, GetSpecial, SetSpecial, Field, SetField, NewArray, Elem, SetElem, Sub, SubResult, Line}
 use Rattle.awk_grammar.specs.Token.{Sign, Plus, Minus, Step, Increment, Decrement, Comparison, Less, LessEqual, Equal, NotEqual, Greater, GreaterEqual, Product, Times, Over, Modulo, Literal, Ere}
 use Rattle.awk_grammar.specs.Tree.{Tree, Leaf, Group}
@@ -175,9 +175,9 @@ input_number input.Read = one_number
 input_number input.Pending = zero_number
 input_number input.Failed = minus_one
 
-abbrev pub close_number : CloseAnswer → Number
-close_number close.Closed = zero_number
-close_number close.NothingOpen = minus_one
+abbrev pub stream_number : StreamAnswer → Number
+stream_number stream.Done = zero_number
+stream_number stream.NotOpen = minus_one
 
 -- the text that was read goes into a variable
 abbrev pub received : Place → InputAnswer → Doing Value

@@ -3,7 +3,7 @@ use Rattle.std.specs.Prelude.{ℕ, suc, Bool, true, false, if◌then◌else◌, 
 use Rattle.awk_text.specs.Escapes.{string_text}
 use Rattle.awk_grammar.specs.Token.{Literal, Number, Quoted, Ere}
 use Rattle.awk_grammar.specs.Tree.{Tree, Leaf, Length, Var, Index, Field, Group, Call, Apply, Unary, Pre, Post, Bin, Has, HasList, Cond, Get, GetInto, GetFrom, GetIntoFrom, Trees, NoTree, Then}
-use Rattle.awk_grammar.specs.Stmt.{Args, NoArgs, Listed, Enclosed, Target, NoTarget, Written, Appended, Plain, Eval, Put, Delete, Stmt, Block, Empty, Simple, If, IfElse, While, Do, For, ForIn, Jumping, Leave, Stmts, NoStmt, And}
+use Rattle.awk_grammar.specs.Stmt.{Args, NoArgs, Listed, Enclosed, Target, NoTarget, Written, Appended, Plain, Eval, Put, Delete, Clear, Stmt, Block, Empty, Simple, If, IfElse, While, Do, For, ForIn, Jumping, Leave, Stmts, NoStmt, And}
 use Rattle.awk_grammar.specs.Item.{Pattern, One, Between, Item, Function, Begin, End, Always, When, Lone, Nothing}
 use Rattle.mid_program.specs.Names.{Function as Defined, Resolved, same_name}
 use Rattle.mid_program.specs.Steps.{ere_text}
@@ -53,6 +53,7 @@ abbrev pub plain_texts : Plain → List (List ℕ)
 plain_texts (Eval t) = texts_in t
 plain_texts (Put p args target) = args_texts args ++ target_texts target
 plain_texts (Delete a ts) = all_texts ts
+plain_texts (Clear a) = []
 
 abbrev pub maybe_texts : Option Tree → List (List ℕ)
 maybe_texts None = []

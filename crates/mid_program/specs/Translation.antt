@@ -295,6 +295,8 @@ module _ (texts : List (List ℕ)) (scope : Scope) where
     applied_code builtin.ToUpper (tree.Then t ts) = host row.Upper (one (code_of t))
     applied_code builtin.Int (tree.Then t ts) = truncated_code t (code_of t)
     applied_code builtin.Close (tree.Then t ts) = Do AsNumber (one (host row.Close (one (code_of t))))
+    applied_code builtin.Fflush NoTree = zero_code
+    applied_code builtin.Fflush (tree.Then t ts) = Do AsNumber (one (host row.Flush (one (code_of t))))
     applied_code f ts = Unset
 
   -- Statements.
@@ -303,6 +305,7 @@ module _ (texts : List (List ℕ)) (scope : Scope) where
   plain_step (stmt.Eval t) = Eval (code_of t)
   plain_step (stmt.Put p args target) = Eval (Over (listed_of p (destination_of target)) (codes_of (with_target (operands_of args) target)))
   plain_step (stmt.Delete a ts) = Eval (host row.Delete (two (array_code a) (key_code ts)))
+  plain_step (stmt.Clear a) = Eval (host row.Clear (one (array_code a)))
 
   abbrev pub maybe_step : Option stmt.Plain → Step
   maybe_step None = Block NoStep
@@ -326,6 +329,7 @@ module _ (texts : List (List ℕ)) (scope : Scope) where
     step_code (stmt.Jumping stmt.Break) = Break
     step_code (stmt.Jumping stmt.Continue) = Continue
     step_code (stmt.Jumping stmt.Next) = Next
+    step_code (stmt.Jumping stmt.NextFile) = Block (Then (Eval (host row.NextFile End)) (Then Next NoStep))
     step_code (stmt.Leave stmt.Exit None) = Exit
     step_code (stmt.Leave stmt.Exit (Some t)) = ExitWith (code_of t)
     step_code (stmt.Leave stmt.Return None) = Return Unset

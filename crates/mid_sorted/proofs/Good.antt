@@ -142,6 +142,11 @@ module _ (c : Context) where
     unfolding sorted all_sorted
     array_operand o a k d r p g = rw (d, r, p, as_value k g, g.fine) refl
 
+    -- an operation on an array alone
+    pub array_alone : (o : Operation) (a : ArrayName) → is_done_here o ≡ true → arguments o ≡ argument.Of sort.Array ∷ [] → is_array_place c a ≡ true → sorted c fs (Do o (one (Array a))) ≡ true
+    unfolding sorted all_sorted
+    array_alone o a d r p = rw (d, r, p) refl
+
     pub element_good : (a : ArrayName) (k : Code) → is_array_place c a ≡ true → Good fs k → Good fs (host row.Elem (two (Array a) k))
     element_good a k p g = record { tested = refl; fine = array_operand (Host row.Elem) a k refl refl p g; apart = g.apart }
 

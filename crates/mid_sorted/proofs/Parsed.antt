@@ -3,7 +3,7 @@ use Rattle.std.specs.List.{list_all}
 use Rattle.std.proofs.Common.{◌≡◌, ℕ, Bool, true, false, ◌&&◌, None, List, [], ◌∷◌, length, arith, refl, sym, ◌∙◌, true≢false}
 use Rattle.std.proofs.lemmas.Bool.{and_parts}
 use Rattle.awk_tokens.specs.Cutting.{Spelled}
-use Rattle.awk_grammar.specs.Stmt.{Break, Continue, Next, Exit, Return, Stmt, Block, Empty, Simple, If, IfElse, While, Do, For, ForIn, Jumping, Leave, Stmts, NoStmt, And}
+use Rattle.awk_grammar.specs.Stmt.{Break, Continue, Next, NextFile, Exit, Return, Stmt, Block, Empty, Simple, If, IfElse, While, Do, For, ForIn, Jumping, Leave, Stmts, NoStmt, And}
 use Rattle.awk_grammar.specs.Item.{Item, Function, Begin, End, Always, When, Lone, Nothing}
 use Rattle.awk_parse.specs.Jumps.{is_function, jumps, all_jumps, item_jumps, script_jumps, jump_lines, first_misplaced}
 use Rattle.awk_parse.specs.Parsing.{IsParsed}
@@ -42,6 +42,7 @@ mutual
   stmt_placed p l (Jumping Break) h = (and_parts l true h).0
   stmt_placed p l (Jumping Continue) h = (and_parts l true h).0
   stmt_placed p l (Jumping Next) h = refl
+  stmt_placed p l (Jumping NextFile) h = refl
   stmt_placed p l (Leave Exit e) h = refl
   stmt_placed p l (Leave Return e) h = (and_parts (is_function p) true h).0
 

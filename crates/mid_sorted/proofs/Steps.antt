@@ -16,10 +16,10 @@ use Rattle.mid_program.specs.Names.{Resolved, Scope, variable_of, array_of}
 use Rattle.mid_program.specs.Statements.{operands_of, with_last, with_target, destination_of, listed_of}
 use Rattle.mid_program.specs.Texts.{texts_in, all_texts, args_texts, target_texts, plain_texts, maybe_texts, maybe_plain_texts, stmt_texts, stmts_texts}
 use Rattle.mid_program.specs.Mid.{Form, Answered, form_of}
-use Rattle.mid_program.specs.Sorted.{Context, is_dropped, sorted, test_sorted, step_sorted, steps_sorted}
+use Rattle.mid_program.specs.Sorted.{Context, is_dropped, sorted, all_sorted, test_sorted, step_sorted, steps_sorted}
 use Rattle.mid_program.specs.Translation.{code_of, codes_of, key_code, test_code, plain_step, maybe_step, step_code, steps_code}
 use Rattle.mid_sorted.specs.Fits.{scope_at, is_met, is_placed, are_placed, AreMet}
-use Rattle.mid_sorted.proofs.Good.{Good, is_within, as_value, as_number, tested_dropped, array_operand, one_good}
+use Rattle.mid_sorted.proofs.Good.{Good, is_within, as_value, as_number, tested_dropped, array_operand, array_alone, one_good}
 use Rattle.mid_sorted.proofs.Variables.{stores_into, moved_into}
 use Rattle.mid_sorted.proofs.Operands.{over_good}
 use Rattle.mid_sorted.proofs.Sound.{Sound, AllSound, AllWithin, parts, sound, all_sound}
@@ -98,6 +98,9 @@ module _ (c : Context) (texts : List (List ℕ)) (script : Resolved) (place : Op
   plain_fine (stmt.Delete a ts) r l w b =
       let h = one_met (Used Array place a) (all_marks place ts) b.0 in
       array_operand c [] (Host row.Delete) (array_of scope a) (key_code texts scope ts) refl refl (agrees.array a h.0) (key_good c texts scope agrees ts w.1 (all_sound texts script place ts true w.0 h.1 b.1) [])
+  plain_fine (stmt.Clear a) r l w b =
+      let h = one_met (Used Array place a) [] b.0 in
+      array_alone c [] (Host row.Clear) (array_of scope a) refl refl (agrees.array a h.0)
 
   maybe_plain_fine : (p : Option Plain) (r l : Bool) → IsMaybePlain p → Both (maybe_plain_marks place p) (maybe_plain_texts p) → step_sorted c r l (maybe_step texts scope p) ≡ true
   unfolding step_sorted steps_sorted
@@ -109,7 +112,7 @@ module _ (c : Context) (texts : List (List ℕ)) (script : Resolved) (place : Op
   maybe_test_fine (Some t) w b = test_fine t w b
 
   mutual
-    unfolding sorted step_sorted steps_sorted step_code steps_code stmt_texts stmts_texts
+    unfolding sorted all_sorted step_sorted steps_sorted step_code steps_code stmt_texts stmts_texts
 
     step_fine : (s : Stmt) (r l : Bool) → IsStmt s → IsTrue (is_placed r l s) → Both (stmt_marks place s) (stmt_texts s) → step_sorted c r l (step_code texts scope s) ≡ true
     step_fine (stmt.Block ss) r l w p b = steps_fine ss r l w p b
@@ -135,6 +138,7 @@ module _ (c : Context) (texts : List (List ℕ)) (script : Resolved) (place : Op
     step_fine (stmt.Jumping stmt.Break) r l w p b = p
     step_fine (stmt.Jumping stmt.Continue) r l w p b = p
     step_fine (stmt.Jumping stmt.Next) r l w p b = refl
+    step_fine (stmt.Jumping stmt.NextFile) r l w p b = refl
     step_fine (stmt.Leave stmt.Exit None) r l w p b = refl
     step_fine (stmt.Leave stmt.Exit (Some t)) r l w p b = let g = tree_good t true w b [] in rw (as_number c [] (code_of texts scope t) g, g.fine) refl
     step_fine (stmt.Leave stmt.Return None) r l w p b = rw p refl

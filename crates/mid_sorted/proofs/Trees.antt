@@ -190,3 +190,5 @@ module _ (c : Context) (texts : List (List ℕ)) (scope : Scope) (agrees : Agree
     applied_good builtin.Int NoTree s fs = absurd (true≢false (sym s))
     applied_good builtin.Close (tree.Then t ts) s fs = answer_number_good c fs row.Close (code t) refl refl refl (code_good t s.1 fs)
     applied_good builtin.Close NoTree s fs = absurd (true≢false (sym s))
+    applied_good builtin.Fflush NoTree s fs = zero_good c fs
+    applied_good builtin.Fflush (tree.Then t ts) s fs = answer_number_good c fs row.Flush (code t) refl refl refl (code_good t s.1 fs)

@@ -6,7 +6,7 @@ use awk_state::Primitive;
 use value_machine::{Import, Listing};
 
 /// How many imports there are.
-pub(crate) const COUNT: usize = 53;
+pub(crate) const COUNT: usize = 56;
 
 /// The imports, in the order of their numbers.
 pub(crate) const IMPORTS: [Import; COUNT] = [
@@ -63,6 +63,9 @@ pub(crate) const IMPORTS: [Import; COUNT] = [
     Import::Drop,
     Import::IterFree,
     Import::FreeArray,
+    Import::Of(Primitive::NextFile),
+    Import::Of(Primitive::Clear),
+    Import::Of(Primitive::Flush),
 ];
 
 fn primitive_name(primitive: Primitive) -> &'static str
@@ -115,6 +118,9 @@ fn primitive_name(primitive: Primitive) -> &'static str
         Primitive::PendingValue => "pending_value",
         Primitive::BeginEnd => "begin_end",
         Primitive::Close => "close",
+        Primitive::NextFile => "next_file",
+        Primitive::Clear => "clear",
+        Primitive::Flush => "flush",
     }
 }
 

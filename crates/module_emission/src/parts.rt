@@ -27,7 +27,7 @@ fn import_form(alloc: Global, import: Import, ty: u32) -> Result<wasm_types::Imp
     ensures { IfOk result (λ i. view_import i ≡ record { from = module_name; name = import_name import; ty = ty }) }
 {
     Ok(wasm_types::Import {
-        module: String::from_str(alloc, "awk1")?,
+        module: String::from_str(alloc, "awk2")?,
         name: String::from_str(alloc, import_name(import))?,
         ty,
     })

@@ -74,6 +74,9 @@ primitive_none row.PendingName r state = refl
 primitive_none row.PendingValue r state = refl
 primitive_none row.BeginEnd r state = refl
 primitive_none row.Close r state = refl
+primitive_none row.NextFile r state = refl
+primitive_none row.Clear r state = refl
+primitive_none row.Flush r state = refl
 
 -- what a call does puts nothing out
 abbrev ActsQuietly : {A : Type 0} → Result (Acts A) TrapKind → Type 0

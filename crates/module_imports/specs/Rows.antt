@@ -31,3 +31,10 @@ elements_alone = refl
 
 pub sprintf_writes_nothing : writes_of (Arg ∷ Over Sprintf ∷ Of row.Close ∷ []) ≡ writing.Nothing
 sprintf_writes_nothing = refl
+
+-- a flush puts nothing out, and what is given up is not read
+pub flush_writes_nothing : writes_of (Of row.NextFile ∷ Of row.Clear ∷ Of row.Flush ∷ []) ≡ writing.Nothing
+flush_writes_nothing = refl
+
+pub next_file_reads_nothing : reads_of (Of row.NextFile ∷ Of row.Clear ∷ Of row.Flush ∷ []) ≡ reading.Nothing
+next_file_reads_nothing = refl

@@ -315,4 +315,5 @@ module _ (x : Scalar) where
         applied_fit builtin.ToUpper (Then t ts) h k fs = alone (code.stores fs (C t)) (code_fit t (first (S t) (Ss ts) h) fs)
         applied_fit builtin.Int (Then t ts) h k fs = truncated_fit t (C t) (first (S t) (Ss ts) h) fs (code_fit t (first (S t) (Ss ts) h) fs)
         applied_fit builtin.Close (Then t ts) h k fs = alone (code.stores fs (C t) ++ []) (alone (code.stores fs (C t)) (code_fit t (first (S t) (Ss ts) h) fs))
+        applied_fit builtin.Fflush (Then t ts) h k fs = alone (code.stores fs (C t) ++ []) (alone (code.stores fs (C t)) (code_fit t (first (S t) (Ss ts) h) fs))
         applied_fit f ts h k fs = tt

@@ -100,6 +100,8 @@ module _ (texts : List (List ℕ)) (scope : Scope) where
   applied_number builtin.Int (Then t ts) n s fs = truncated_number t (C t) fs
   applied_number builtin.Close NoTree n s fs = clash s
   applied_number builtin.Close (Then t ts) n s fs = refl
+  applied_number builtin.Fflush NoTree n s fs = refl
+  applied_number builtin.Fflush (Then t ts) n s fs = refl
   applied_number builtin.Substr ts n s fs = clash n
   applied_number builtin.Sprintf ts n s fs = clash n
   applied_number builtin.ToLower ts n s fs = clash n

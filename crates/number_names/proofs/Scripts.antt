@@ -1,7 +1,7 @@
 -- What a script's code stores is what the script stores, of statements, items and functions.
 use Rattle.std.proofs.Common.{◌≡◌, ℕ, suc, ◌+◌, List, [], ◌∷◌, ◌++◌, Option, Some, None, map, refl, sym, ap, subst}
 use Rattle.awk_grammar.specs.Tree.{Tree, Var}
-use Rattle.awk_grammar.specs.Stmt.{And, Delete, Eval, NoStmt, Plain, Put, Stmt, Stmts}
+use Rattle.awk_grammar.specs.Stmt.{And, Clear, Delete, Eval, NoStmt, Plain, Put, Stmt, Stmts}
 use Rattle.awk_grammar.specs.Stmt as stmt
 use Rattle.awk_grammar.specs.Item.{Item, Pattern}
 use Rattle.awk_grammar.specs.Item as item
@@ -41,6 +41,7 @@ module _ (x : Scalar) (g : ℕ) (texts : List (List ℕ)) (scope : Scope) where
   plain_fit (Eval t) h = tree_fit t h []
   plain_fit (Put p args target) h = codes_fit x g texts scope (with_target (operands_of args) target) h []
   plain_fit (Delete a ts) h = alone x g _ (key_fit x g texts scope ts h [])
+  plain_fit (Clear a) h = tt
 
   maybe_plain_fit : (p : Option Plain) → Ok (maybe_plain_stores g scope p) → StepFits (maybe_step texts scope p)
   maybe_plain_fit None h = tt
@@ -84,6 +85,7 @@ module _ (x : Scalar) (g : ℕ) (texts : List (List ℕ)) (scope : Scope) where
     step_fit (stmt.Jumping stmt.Break) h = tt
     step_fit (stmt.Jumping stmt.Continue) h = tt
     step_fit (stmt.Jumping stmt.Next) h = tt
+    step_fit (stmt.Jumping stmt.NextFile) h = tt
     step_fit (stmt.Leave stmt.Exit None) h = tt
     step_fit (stmt.Leave stmt.Exit (Some t)) h = tree_fit t h []
     step_fit (stmt.Leave stmt.Return None) h = tt

@@ -5,7 +5,7 @@ use Rattle.awk_tokens.specs.declared.words.Builtin.TheVariants as builtin
 use Rattle.awk_grammar.specs.Token.{Assign, Assigning, Ere, Number, Quoted, Set}
 use Rattle.awk_grammar.specs.Tree.{Bin, Call, Cond, Field, Get, GetFrom, GetInto, GetIntoFrom, Group, Has, HasList, Index, Join, Leaf, Length, NoTree, Other, Post, Pre, Then, Tree, Trees, Unary, Var, suits}
 use Rattle.awk_grammar.specs.Tree as tree
-use Rattle.awk_grammar.specs.Stmt.{And, Delete, Eval, NoStmt, Plain, Put, Stmt, Stmts}
+use Rattle.awk_grammar.specs.Stmt.{And, Clear, Delete, Eval, NoStmt, Plain, Put, Stmt, Stmts}
 use Rattle.awk_grammar.specs.Stmt as stmt
 use Rattle.awk_grammar.specs.Item.{Item, Pattern}
 use Rattle.awk_grammar.specs.Item as item
@@ -44,6 +44,7 @@ answers_number builtin.Gsub = true
 answers_number builtin.Match = true
 answers_number builtin.Int = true
 answers_number builtin.Close = true
+answers_number builtin.Fflush = true
 answers_number builtin.Substr = false
 answers_number builtin.Sprintf = false
 answers_number builtin.ToLower = false
@@ -150,6 +151,7 @@ module _ (g : ℕ) (scope : Scope) where
   plain_stores (Eval t) = stores t
   plain_stores (Put p args target) = all_stores (with_target (operands_of args) target)
   plain_stores (Delete a ts) = all_stores ts
+  plain_stores (Clear a) = []
 
   abbrev pub maybe_stores : Option Tree → List Store
   maybe_stores None = []

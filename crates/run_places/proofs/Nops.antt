@@ -108,7 +108,7 @@ module _ {l : Limit} (b : Bases) {k : Instructions} {m : List Instructions} wher
   kept_nops f answer.Truth t d r = kept_code_nops f t d r
   kept_nops f answer.Input t d r = kept_code_nops f t d r
   kept_nops f answer.Assign t d r = kept_code_nops f t d r
-  kept_nops f answer.Close t d r = kept_code_nops f t d r
+  kept_nops f answer.Stream t d r = kept_code_nops f t d r
   kept_nops f answer.Done t d r = kept_done_nops f d r
   kept_nops f a t d r = r
 

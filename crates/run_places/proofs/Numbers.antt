@@ -115,7 +115,7 @@ encoded_tables q N answer.Truth x f h = h
 encoded_tables q N answer.Done x f h = h
 encoded_tables q N answer.Input x f h = h
 encoded_tables q N answer.Assign x f h = h
-encoded_tables q N answer.Close x f h = h
+encoded_tables q N answer.Stream x f h = h
 encoded_tables q N answer.Name x f h = h
 
 -- A step of the host keeps them.

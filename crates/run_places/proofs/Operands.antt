@@ -8,7 +8,7 @@ use Rattle.awk_grammar.specs.Token as token
 use Rattle.awk_grammar.specs.Tree as tree
 use Rattle.awk_grammar.specs.Tree.{Tree, Leaf, Length, Var, Index, Field, Group, Apply, Unary, Pre, Post, Bin, Join, Add, Other, Has, HasList, Cond, GetInto, GetFrom, GetIntoFrom, Trees, NoTree}
 use Rattle.awk_grammar.specs.Stmt as stmt
-use Rattle.awk_grammar.specs.Stmt.{Args, NoArgs, Listed, Enclosed, Target, NoTarget, Written, Appended, Plain, Eval, Put, Delete, Stmt, Stmts, NoStmt, And}
+use Rattle.awk_grammar.specs.Stmt.{Args, NoArgs, Listed, Enclosed, Target, NoTarget, Written, Appended, Plain, Eval, Put, Delete, Clear, Stmt, Stmts, NoStmt, And}
 use Rattle.awk_grammar.specs.Item as item
 use Rattle.awk_grammar.specs.Item.{Item, Pattern, One, Between}
 use Rattle.mid_program.specs.declared.mid.Operation.{Operation}
@@ -245,6 +245,8 @@ module _ (m : ℕ) (texts : List (List ℕ)) (scope : Scope) where
     applied_few builtin.Int NoTree t h = tt
     applied_few builtin.Close (tree.Then x ts) t h = ((code_few x t (omega (arith, h)), tt), tt)
     applied_few builtin.Close NoTree t h = tt
+    applied_few builtin.Fflush (tree.Then x ts) t h = ((code_few x t (omega (arith, h)), tt), tt)
+    applied_few builtin.Fflush NoTree t h = tt
 
   -- Statements.
 
@@ -261,6 +263,7 @@ module _ (m : ℕ) (texts : List (List ℕ)) (scope : Scope) where
   plain_few (Eval x) h = code_few x zero (omega (arith, h))
   plain_few (Put p args to) h = put_few args to h
   plain_few (Delete a ts) h = (tt, (key_few ts 1 (omega (arith, h)), tt))
+  plain_few (Clear a) h = (tt, tt)
 
   maybe_plain_few : (p : Option Plain) → maybe_plain_nodes p ≤ m → StepFew m (maybe_step texts scope p)
   maybe_plain_few None h = tt
@@ -287,6 +290,7 @@ module _ (m : ℕ) (texts : List (List ℕ)) (scope : Scope) where
     step_few (stmt.Jumping stmt.Break) h = tt
     step_few (stmt.Jumping stmt.Continue) h = tt
     step_few (stmt.Jumping stmt.Next) h = tt
+    step_few (stmt.Jumping stmt.NextFile) h = (tt, (tt, tt))
     step_few (stmt.Leave stmt.Exit None) h = tt
     step_few (stmt.Leave stmt.Exit (Some x)) h = code_few x zero (omega (arith, h))
     step_few (stmt.Leave stmt.Return None) h = tt

@@ -2,7 +2,7 @@
 use Rattle.std.specs.Prelude.{ℕ, suc, ◌+◌, List, [], ◌∷◌, ◌++◌, map, Option, Some, None}
 use Rattle.awk_grammar.specs.Tree.{Tree, Leaf, Length, Var, Index, Field, Group, Call, Apply, Unary, Pre, Post, Bin, Has, HasList, Cond, Get, GetInto, GetFrom, GetIntoFrom, Trees, NoTree, Then}
 use Rattle.awk_grammar.specs.Stmt as stmt
-use Rattle.awk_grammar.specs.Stmt.{Args, NoArgs, Listed, Enclosed, Target, NoTarget, Written, Appended, Plain, Eval, Put, Delete, Stmt, Stmts, NoStmt, And}
+use Rattle.awk_grammar.specs.Stmt.{Args, NoArgs, Listed, Enclosed, Target, NoTarget, Written, Appended, Plain, Eval, Put, Delete, Clear, Stmt, Stmts, NoStmt, And}
 use Rattle.awk_grammar.specs.Item as item
 use Rattle.awk_grammar.specs.Item.{Pattern, One, Between, Item}
 use Rattle.mid_program.specs.Names.{Function, Resolved}
@@ -47,6 +47,7 @@ abbrev pub plain_nodes : Plain → ℕ
 plain_nodes (Eval t) = nodes t
 plain_nodes (Put p args target) = args_nodes args + target_nodes target
 plain_nodes (Delete a ts) = all_nodes ts
+plain_nodes (Clear a) = 0
 
 abbrev pub maybe_nodes : Option Tree → ℕ
 maybe_nodes None = 0

@@ -1,7 +1,7 @@
 -- What is told of a run's end and of a file: the exit status, and a line with the innermost name and what it carries.
 use Rattle.std.specs.Prelude.{ℕ, List, [], ◌∷◌, ◌++◌, Option, Some, None, codes, decimal}
 use Rattle.awk_parse.specs.declared.fault.Feature.{Feature}
-use Rattle.awk_parse.specs.declared.fault.Feature.TheVariants.{Delete, Pipe, Word}
+use Rattle.awk_parse.specs.declared.fault.Feature.TheVariants.{Pipe, Word}
 use Rattle.awk_parse.specs.declared.fault.ParseFault.{ParseFault}
 use Rattle.awk_parse.specs.declared.fault.ParseFault.TheVariants as parsing
 use Rattle.awk_resolve.specs.declared.fault.ResolveFault.{ResolveFault}
@@ -15,7 +15,7 @@ use Rattle.awk_run.specs.declared.end.RunEnd.TheVariants.{Ended, Exhausted, Faul
 use Rattle.awk_tokens.specs.declared.token.TokenFault.{TokenFault}
 use Rattle.awk_tokens.specs.declared.token.TokenFault.TheVariants as cutting
 use Rattle.awk_tokens.specs.declared.words.LeftOut.{LeftOut}
-use Rattle.awk_tokens.specs.declared.words.LeftOut.TheVariants.{Atan2, Cos, Exp, Fflush, Func, Log, Nextfile, Rand, Sin, Sqrt, Srand, System}
+use Rattle.awk_tokens.specs.declared.words.LeftOut.TheVariants.{Atan2, Cos, Exp, Func, Log, Rand, Sin, Sqrt, Srand, System}
 use Rattle.awk_values.specs.Faults.{fault_name}
 use Rattle.ere_syntax.specs.declared.fault.EreFault.{EreFault}
 use Rattle.ere_syntax.specs.declared.fault.EreFault.TheVariants as expressions
@@ -62,13 +62,10 @@ left_out_word Rand = codes "rand"
 left_out_word Srand = codes "srand"
 left_out_word System = codes "system"
 left_out_word Func = codes "func"
-left_out_word Nextfile = codes "nextfile"
-left_out_word Fflush = codes "fflush"
 
 abbrev pub feature_word : Feature → List ℕ
 feature_word (Word word) = left_out_word word
 feature_word Pipe = codes "pipe"
-feature_word Delete = codes "delete"
 
 abbrev pub parse_words : ParseFault → List (List ℕ)
 parse_words (parsing.LeftOut line feature) = codes "LeftOut" ∷ decimal line ∷ feature_word feature ∷ []

@@ -9,7 +9,7 @@ use Rattle.awk_resolve.specs.declared.fault.ResolveFault.TheVariants.{KindClash,
 use Rattle.awk_tokens.specs.Words.{entry, left_out_words}
 use Rattle.awk_tokens.specs.declared.token.TokenFault.TheVariants.{BadByte, OpenString}
 use Rattle.awk_tokens.specs.declared.words.LeftOut.{LeftOut}
-use Rattle.awk_tokens.specs.declared.words.LeftOut.TheVariants.{Atan2, Cos, Exp, Fflush, Func, Log, Nextfile, Rand, Sin, Sqrt, Srand, System}
+use Rattle.awk_tokens.specs.declared.words.LeftOut.TheVariants.{Atan2, Cos, Exp, Func, Log, Rand, Sin, Sqrt, Srand, System}
 use Rattle.ere_syntax.specs.declared.fault.EreFault.TheVariants.{BadEre, EreTooLarge}
 use Rattle.awk_run.specs.declared.end.RunEnd.TheVariants.{Ended, Exhausted, Faulted, NoMemory, OutOfSteps, Refused, Trapped}
 use Rattle.awk_values.specs.declared.fault.Fault.TheVariants.{Range}
@@ -110,8 +110,6 @@ left_out_words_are Rand = refl
 left_out_words_are Srand = refl
 left_out_words_are System = refl
 left_out_words_are Func = refl
-left_out_words_are Nextfile = refl
-left_out_words_are Fflush = refl
 
 pub no_main_line : end_text (Refused (Link NoMain)) ≡ codes "awkwasm: NoMain\n"
 unfolding line_of

@@ -39,8 +39,6 @@ fn left_out_word(word: LeftOut) -> &'static str
         LeftOut::Srand => "srand",
         LeftOut::System => "system",
         LeftOut::Func => "func",
-        LeftOut::Nextfile => "nextfile",
-        LeftOut::Fflush => "fflush",
     }
 }
 
@@ -50,7 +48,6 @@ fn feature_word(feature: &Feature) -> &'static str
     match feature {
         Feature::Word(word) => left_out_word(*word),
         Feature::Pipe => "pipe",
-        Feature::Delete => "delete",
     }
 }
 

@@ -15,6 +15,7 @@ fn keyword_text(x: Keyword) -> &'static str {
         Keyword::Break => "break",
         Keyword::Continue => "continue",
         Keyword::Next => "next",
+        Keyword::NextFile => "nextfile",
         Keyword::Exit => "exit",
         Keyword::Return => "return",
         Keyword::Delete => "delete",
@@ -39,6 +40,7 @@ fn builtin_text(x: Builtin) -> &'static str {
         Builtin::ToUpper => "toupper",
         Builtin::Int => "int",
         Builtin::Close => "close",
+        Builtin::Fflush => "fflush",
     }
 }
 
@@ -55,8 +57,6 @@ pub(crate) fn left_out_text(x: LeftOut) -> &'static str {
         LeftOut::Srand => "srand",
         LeftOut::System => "system",
         LeftOut::Func => "func",
-        LeftOut::Nextfile => "nextfile",
-        LeftOut::Fflush => "fflush",
     }
 }
 

@@ -14,7 +14,6 @@ fn feature_name(feature: Feature) -> &'static str {
     match feature {
         Feature::Word(left_out) => left_out_text(left_out),
         Feature::Pipe => "pipe",
-        Feature::Delete => "delete",
     }
 }
 

@@ -5,8 +5,8 @@ use Rattle.world_core.specs.WorldState.{Standard, Named, Open, puts}
 use Rattle.world_core.specs.declared.world.Ending.TheVariants.{End, Fails}
 use Rattle.mid_program.specs.ScriptRun.{Ended, FaultedBy, GoesOn}
 use Rattle.language_rows.specs.Scripts as scripts
-use Rattle.language_rows.specs.Settings.{no_job, no_input, empty, with_file, with_room}
-use Rattle.source_rows.specs.Jobs.{input, operands, assigns}
+use Rattle.language_rows.specs.Settings.{no_job, no_input, empty, with_file, with_room, two_files}
+use Rattle.source_rows.specs.Jobs.{input, failing, operands, assigns}
 use Rattle.source_rows.specs.Sources.{RunsAs, computed}
 
 pub name_read_when_met : RunsAs scripts.name_read_when_met
@@ -567,3 +567,92 @@ pub text_in_a_number : RunsAs scripts.text_in_a_number
     (assigns ((codes "n", codes "9") ∷ [])) no_input empty 40 (Ended 0 (puts Standard (codes "1 0 1\n0\n")))
 unfolding computed
 text_in_a_number = (refl, refl)
+
+pub rest_of_a_file : RunsAs scripts.rest_of_a_file
+    (codes "FNR == 2 { nextfile } { print FILENAME, $0 }")
+    (operands (codes "f" ∷ codes "g" ∷ [])) no_input two_files 40 (Ended 0 (puts Standard (codes "f p\ng s\n")))
+unfolding computed
+rest_of_a_file = (refl, refl)
+
+pub file_left_among_operands : RunsAs scripts.file_left_among_operands
+    (codes "function h(x) { if (x == \"q\") nextfile; return x } { print FNR, h($0), NR }")
+    (operands (codes "f" ∷ codes "g" ∷ [])) no_input two_files 40 (Ended 0 (puts Standard (codes "1 p 1\n1 s 3\n")))
+unfolding computed
+file_left_among_operands = (refl, refl)
+
+pub file_left_in_a_loop : RunsAs scripts.file_left_in_a_loop
+    (codes "{ print; while (1) { n++; if (n > 2) nextfile } } END { print n, NR }")
+    (operands (codes "f" ∷ codes "g" ∷ [])) no_input two_files 40 (Ended 0 (puts Standard (codes "p\ns\n4 2\n")))
+unfolding computed
+file_left_in_a_loop = (refl, refl)
+
+pub file_left_in_a_walk : RunsAs scripts.file_left_in_a_walk
+    (codes "BEGIN { a[1]; a[2]; a[3] } { for (k in a) { n++; if (k > 1) nextfile } } END { print n, NR }")
+    (operands (codes "f" ∷ codes "g" ∷ [])) no_input two_files 40 (Ended 0 (puts Standard (codes "4 2\n")))
+unfolding computed
+file_left_in_a_walk = (refl, refl)
+
+pub file_left_in_a_range : RunsAs scripts.file_left_in_a_range
+    (codes "/q/, /s/ { print \"r\", $0; nextfile } { print $0 }")
+    (operands (codes "f" ∷ codes "g" ∷ [])) no_input two_files 40 (Ended 0 (puts Standard (codes "p\nr q\nr s\n")))
+unfolding computed
+file_left_in_a_range = (refl, refl)
+
+pub nextfile_outside : RunsAs scripts.nextfile_outside
+    (codes "function h() { nextfile } BEGIN { h() }")
+    no_job no_input empty 40 (FaultedBy NextOutside [])
+unfolding computed
+nextfile_outside = (refl, refl)
+
+pub failing_rest_given_up : RunsAs scripts.failing_rest_given_up
+    (codes "{ nextfile }")
+    no_job (failing (codes "a\n")) empty 40 (Ended 0 [])
+unfolding computed
+failing_rest_given_up = (refl, refl)
+
+pub standard_input_given_up : RunsAs scripts.standard_input_given_up
+    (codes "NR == 2 { nextfile } { print FILENAME $0 }")
+    (operands (codes "-" ∷ codes "-" ∷ codes "g" ∷ [])) (failing (codes "a\nb\nc\n")) two_files 40
+    (Ended 0 (puts Standard (codes "-a\ngs\n")))
+unfolding computed
+standard_input_given_up = (refl, refl)
+
+pub emptied_in_a_walk : RunsAs scripts.emptied_in_a_walk
+    (codes "BEGIN { a[\"x\"]; a[\"y\"]; for (k in a) { delete a; n++ }; print n, (\"x\" in a) }")
+    no_job no_input empty 40 (Ended 0 (puts Standard (codes "2 0\n")))
+unfolding computed
+emptied_in_a_walk = (refl, refl)
+
+pub emptied_and_refilled : RunsAs scripts.emptied_and_refilled
+    (codes "BEGIN { a[\"x\"] = 1; a[\"y\"] = 2; for (k in a) { s = s k; delete a; a[\"w\" k] = k }; for (k in a) t = " ++
+    codes "t k; print s, t, a[\"x\"] \".\" }")
+    no_job no_input empty 40 (Ended 0 (puts Standard (codes "xy wy .\n")))
+unfolding computed
+emptied_and_refilled = (refl, refl)
+
+pub emptied_parameter : RunsAs scripts.emptied_parameter
+    (codes "function e(p) { delete p; p[\"n\"] = 1 } BEGIN { a[\"x\"] = 1; b[\"x\"] = 2; e(a); for (k in a) print k, " ++
+    codes "a[k]; print (\"x\" in a), b[\"x\"] }")
+    no_job no_input empty 40 (Ended 0 (puts Standard (codes "n 1\n0 2\n")))
+unfolding computed
+emptied_parameter = (refl, refl)
+
+pub emptied_operands : RunsAs scripts.emptied_operands
+    (codes "FNR == 1 { delete ARGV; ARGV[2] = \"g\" } { print FILENAME $0 }")
+    (operands (codes "f" ∷ codes "h" ∷ [])) no_input two_files 40 (Ended 0 (puts Standard (codes "fp\nfq\nfr\ngs\n")))
+unfolding computed
+emptied_operands = (refl, refl)
+
+pub flushed : RunsAs scripts.flushed
+    (codes "BEGIN { print \"x\" > \"f\"; print fflush(\"f\"), fflush(\"g\"), fflush() }")
+    no_job no_input empty 40 (Ended 0 ((Open (codes "f") false ∷ []) ++ (puts (Named (codes "f")) (codes "x\n") ++ (puts Standard (codes "0 -1 0\n")))))
+unfolding computed
+flushed = (refl, refl)
+
+pub reader_not_flushed : RunsAs scripts.reader_not_flushed
+    (codes "BEGIN { print (getline x < \"f\"), fflush(\"f\"); print x >> \"f\"; print fflush(\"f\"), close(\"f\"), " ++
+    codes "fflush(\"f\"), fflush(\"\") }")
+    no_job no_input (with_file (codes "f") (codes "a\n") End empty) 40
+    (Ended 0 (puts Standard (codes "1 -1\n") ++ ((Open (codes "f") true ∷ []) ++ (puts (Named (codes "f")) (codes "a\n") ++ (puts Standard (codes "0 0 -1 0\n"))))))
+unfolding computed
+reader_not_flushed = (refl, refl)

@@ -51,6 +51,18 @@ pub break_outside_loops : IsRefused (codes "{\n  break\n}") (OutOfPlace 2)
 unfolding computed
 break_outside_loops = refl
 
+pub nextfile_in_end : IsRefused (codes "{ print }\nEND { nextfile }") (OutOfPlace 2)
+unfolding computed
+nextfile_in_end = refl
+
+pub flush_without_parentheses : IsRefused (codes "BEGIN { fflush }") NoTree
+unfolding computed
+flush_without_parentheses = refl
+
+pub name_after_a_deletion : IsRefused (codes "{ delete a b }") NoTree
+unfolding computed
+name_after_a_deletion = refl
+
 pub unknown_function : IsRefused (codes "BEGIN { f(1) }") (BadName (UnknownFunction (codes "f")))
 unfolding computed
 unknown_function = refl
@@ -62,6 +74,10 @@ too_many_arguments = refl
 pub parameter_named_twice : IsRefused (codes "function f(a, a) { }") (BadName (DuplicateName (codes "a")))
 unfolding computed
 parameter_named_twice = refl
+
+pub scalar_that_is_emptied : IsRefused (codes "BEGIN { a = 1; delete a }") (BadName (KindClash (codes "a")))
+unfolding computed
+scalar_that_is_emptied = refl
 
 pub scalar_and_array : IsRefused (codes "BEGIN { a = 1; a[1] = 2 }") (BadName (KindClash (codes "a")))
 unfolding computed

@@ -32,7 +32,7 @@ fn is_number(answer: Answer) -> bool
         | Answer::Done
         | Answer::Input
         | Answer::Assign
-        | Answer::Close
+        | Answer::Stream
         | Answer::ValueOrEnd
         | Answer::Name => false,
     }

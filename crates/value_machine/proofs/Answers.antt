@@ -14,8 +14,8 @@ use Rattle.awk_state.specs.declared.sorts.Answer.TheVariants as answer
 use Rattle.awk_state.specs.declared.sorts.Sort.TheVariants as sort
 use Rattle.awk_state.specs.declared.answers.InputAnswer.{InputAnswer}
 use Rattle.awk_state.specs.declared.answers.InputAnswer.TheVariants as input
-use Rattle.awk_state.specs.declared.answers.CloseAnswer.{CloseAnswer}
-use Rattle.awk_state.specs.declared.answers.CloseAnswer.TheVariants as close
+use Rattle.awk_state.specs.declared.answers.StreamAnswer.{StreamAnswer}
+use Rattle.awk_state.specs.declared.answers.StreamAnswer.TheVariants as stream
 use Rattle.awk_state.specs.declared.table.Primitive.{Primitive}
 use Rattle.awk_state.specs.declared.table.Primitive.TheVariants as row
 use Rattle.wasm_types.specs.Syntax.{Instructions}
@@ -25,7 +25,7 @@ use Rattle.mid_program.specs.MidMeaning.{Holds}
 use Rattle.mid_program.specs.ScriptState.{State, Stop, Faulted, Outcome, settled, or_fault}
 use Rattle.mid_program.specs.Sorted.{kinds_of}
 use Rattle.value_machine.specs.Cells.{Cell, Bits, Held, is_owned}
-use Rattle.value_machine.specs.ImportCalls.{Host, Acts, with_some, where_so, row_in, taken, acts, acted, replied, call, primitive_acts, cell_of, fault_cell, input_code, close_code}
+use Rattle.value_machine.specs.ImportCalls.{Host, Acts, with_some, where_so, row_in, taken, acts, acted, replied, call, primitive_acts, cell_of, fault_cell, input_code, stream_code}
 use Rattle.value_machine.specs.ImportCalls
 use Rattle.value_machine.specs.Machine.{Code, Conf, Label, Frame, Store, at, br, all_live, assigning_after, onto, width}
 use Rattle.value_machine.specs.Places.{Bases}
@@ -65,7 +65,7 @@ IsPlain (answer.Of sort.Value) = Unit {0}
 IsPlain (answer.Of sort.Number) = Unit {0}
 IsPlain answer.Truth = Unit {0}
 IsPlain answer.Input = Unit {0}
-IsPlain answer.Close = Unit {0}
+IsPlain answer.Stream = Unit {0}
 IsPlain answer.Done = Unit {0}
 IsPlain _ = ⊥
 
@@ -226,14 +226,14 @@ module _ (p : Program) (deepest : Watch) (ks : List Kind) (F : List Frame) where
         input_kept input.Failed = code_kept b l t d 3 lt (ft.numbers t) refl refl
     kept_ok true answer.Input (Err f) t u w d k K l σ pl lt ft =
         faulted machine M 4 4 _ _ f σ (Put b t u w (Answered answer.Input) k K l) (Away p deepest ks F b d K) (code_failed b l t d lt (ft.numbers t)) (omega arith) (away_with t u w d (2 ^ 64 - 1) K l σ f ft)
-    kept_ok true answer.Close (Ok v) t u w d k K l σ pl lt ft =
-        there machine M 4 4 _ _ v σ (Put b t u w (Answered answer.Close) k K l) (Away p deepest ks F b d K) (close_kept v) (omega arith) (put_word t u w (close_code v) (Answered answer.Close) k K l v σ refl (λ c e. e) ft)
+    kept_ok true answer.Stream (Ok v) t u w d k K l σ pl lt ft =
+        there machine M 4 4 _ _ v σ (Put b t u w (Answered answer.Stream) k K l) (Away p deepest ks F b d K) (stream_kept v) (omega arith) (put_word t u w (stream_code v) (Answered answer.Stream) k K l v σ refl (λ c e. e) ft)
       where
-        close_kept : (v : CloseAnswer) → Goes machine 4 (at ks (Bits (I32 (close_code v)) ∷ []) K (laid b l) F (kept b true answer.Close t d k) (beside_state σ)) (at ks [] K (laid b (with_at l (NumberAt t) (Bits (I64 (close_code v))))) F k (beside_state σ))
-        close_kept close.Closed = code_kept b l t d 0 lt (ft.numbers t) refl refl
-        close_kept close.NothingOpen = code_kept b l t d 3 lt (ft.numbers t) refl refl
-    kept_ok true answer.Close (Err f) t u w d k K l σ pl lt ft =
-        faulted machine M 4 4 _ _ f σ (Put b t u w (Answered answer.Close) k K l) (Away p deepest ks F b d K) (code_failed b l t d lt (ft.numbers t)) (omega arith) (away_with t u w d (2 ^ 64 - 1) K l σ f ft)
+        stream_kept : (v : StreamAnswer) → Goes machine 4 (at ks (Bits (I32 (stream_code v)) ∷ []) K (laid b l) F (kept b true answer.Stream t d k) (beside_state σ)) (at ks [] K (laid b (with_at l (NumberAt t) (Bits (I64 (stream_code v))))) F k (beside_state σ))
+        stream_kept stream.Done = code_kept b l t d 0 lt (ft.numbers t) refl refl
+        stream_kept stream.NotOpen = code_kept b l t d 3 lt (ft.numbers t) refl refl
+    kept_ok true answer.Stream (Err f) t u w d k K l σ pl lt ft =
+        faulted machine M 4 4 _ _ f σ (Put b t u w (Answered answer.Stream) k K l) (Away p deepest ks F b d K) (code_failed b l t d lt (ft.numbers t)) (omega arith) (away_with t u w d (2 ^ 64 - 1) K l σ f ft)
     kept_ok true answer.Done (Ok v) t u w d k K l σ pl lt ft =
         there machine M 4 2 _ _ v σ (Put b t u w (Answered answer.Done) k K l) (Away p deepest ks F b d K) (done_kept b d) (omega arith)
         (record { next = l; comes = refl; fit = fit_more p deepest ks F t u w l σ ft; same = same_self [] t w l; holds = (ft.free t (omega arith), tt) })
@@ -248,8 +248,8 @@ module _ (p : Program) (deepest : Watch) (ks : List Kind) (F : List Frame) where
         there machine M 4 2 _ _ v σ (Put b t u w (Answered answer.Truth) k K l) (Away p deepest ks F b d K) (code_stored b l t d (flag_number v) lt (ft.numbers t)) (omega arith) (put_word t u w (flag_number v) (Answered answer.Truth) k K l v σ refl (λ c e. e) ft)
     kept_ok false answer.Input v t u w d k K l σ pl lt ft =
         there machine M 4 2 _ _ v σ (Put b t u w (Answered answer.Input) k K l) (Away p deepest ks F b d K) (code_stored b l t d (input_code v) lt (ft.numbers t)) (omega arith) (put_word t u w (input_code v) (Answered answer.Input) k K l v σ refl (λ c e. e) ft)
-    kept_ok false answer.Close v t u w d k K l σ pl lt ft =
-        there machine M 4 2 _ _ v σ (Put b t u w (Answered answer.Close) k K l) (Away p deepest ks F b d K) (code_stored b l t d (close_code v) lt (ft.numbers t)) (omega arith) (put_word t u w (close_code v) (Answered answer.Close) k K l v σ refl (λ c e. e) ft)
+    kept_ok false answer.Stream v t u w d k K l σ pl lt ft =
+        there machine M 4 2 _ _ v σ (Put b t u w (Answered answer.Stream) k K l) (Away p deepest ks F b d K) (code_stored b l t d (stream_code v) lt (ft.numbers t)) (omega arith) (put_word t u w (stream_code v) (Answered answer.Stream) k K l v σ refl (λ c e. e) ft)
     kept_ok false answer.Done v t u w d k K l σ pl lt ft =
         there machine M 4 1 _ _ v σ (Put b t u w (Answered answer.Done) k K l) (Away p deepest ks F b d K) (done_dropped b d) (omega arith)
         (record { next = l; comes = refl; fit = fit_more p deepest ks F t u w l σ ft; same = same_self [] t w l; holds = (ft.free t (omega arith), tt) })

@@ -7,7 +7,7 @@ use Rattle.awk_values.specs.declared.fault.Fault.TheVariants.{TooManyStreams}
 use Rattle.awk_values.specs.declared.value.Value.{Value}
 use Rattle.awk_values.specs.declared.value.Value.TheVariants.{StrNum, Text}
 use Rattle.world_core.specs.WorldState.{Outside, Source, Named}
-use Rattle.awk_state.specs.SharedState.{Inner, Shared, ◌>>=◌, settles}
+use Rattle.awk_state.specs.SharedState.{Inner, MainReader, Standard, File, Shared, ◌>>=◌, settles}
 use Rattle.ere_syntax.specs.Tree.{Tree}
 use Rattle.awk_state.specs.Numbers.{Number}
 use Rattle.awk_state.specs.Sorts.{Row}
@@ -18,7 +18,7 @@ use Rattle.awk_state.specs.FieldRows.{with_record, with_fields, with_field, fiel
 use Rattle.awk_state.specs.ArrayRows.{found, visited, with_array, numbered}
 use Rattle.awk_state.specs.TextRows.{match_row, match_start, with_match, substitute_row, substituted_by, replaced, places_of, split_row, splits_at}
 use Rattle.awk_state.specs.FirstMatch.{expression_of, first_match}
-use Rattle.awk_state.specs.InputRows.{next_record, as_record, as_line, got_file, read_file, opened_file, open_or_read, getline_file_by, source_of, reader_named}
+use Rattle.awk_state.specs.InputRows.{next_record, as_record, as_line, got_file, read_file, opened_file, open_or_read, getline_file_by, gives_up, source_of, reader_named}
 use Rattle.awk_state.specs.OutputRows.{kept_open, opened_if, written_by, put_text, printf_by, has_room, is_writing, formatted_values, operands_of, file_name, printed}
 use Rattle.awk_state.specs.Table.{arguments_of, meaning, listed_meaning}
 use Rattle.awk_state.specs.declared.answers.InputAnswer.{InputAnswer}
@@ -117,6 +117,11 @@ visited_keeps : (t : ℕ) (i : Inner) (rest : List (List ℕ)) → Keeps i (visi
 visited_keeps t i [] = keeps_same i
 visited_keeps t i (key ∷ rest) = record { pending = refl; names = refl; assigns = refl }
 
+given_up_keeps : (o : Option MainReader) (i : Inner) → Keeps i (gives_up o i)
+given_up_keeps None i = keeps_same i
+given_up_keeps (Some Standard) i = record { pending = refl; names = refl; assigns = refl }
+given_up_keeps (Some (File source)) i = record { pending = refl; names = refl; assigns = refl }
+
 -- Reading a file by its name.
 
 as_record_good : (text : List ℕ) (i j : Inner) → Keeps i j → Good (λ x. x.0) i (as_record text j)
@@ -202,6 +207,8 @@ row_keeps row.SubResult r s e = record { pending = refl; names = refl; assigns =
 row_keeps row.Line r s e = record { pending = refl; names = refl; assigns = refl }
 row_keeps row.BeginEnd r s e = record { pending = refl; names = refl; assigns = refl }
 row_keeps row.Close r s e = record { pending = refl; names = refl; assigns = refl }
+row_keeps row.NextFile r s e = given_up_keeps s.inner.main.reading s.inner
+row_keeps row.Clear r s e = record { pending = refl; names = refl; assigns = refl }
 row_keeps row.Match r s e = settled_keeps s (match_row r.0 r.1.0 s.inner) (match_good r.0 r.1.0 s.inner)
 row_keeps row.Sub r s e = settled_keeps s (substitute_row r.0 r.1.0 r.1.1.0 r.1.1.1.0 s.inner) (substitute_good r.0 r.1.0 r.1.1.0 r.1.1.1.0 s.inner)
 row_keeps row.Split r s e = settled_keeps s (split_row r.0 r.1.0 r.1.1.0 r.1.1.1.0 s.inner) (split_good r.0 r.1.0 r.1.1.0 r.1.1.1.0 s.inner)

@@ -19,7 +19,7 @@ use Rattle.mid_program.specs.Names.{ArrayName, Numbered, Given}
 use Rattle.mid_program.specs.ScriptState.{State, Stop, TooDeep, Nexted, Exited, Returned, Local, Scalar, value_in_local, array_in_local, local_array}
 use Rattle.mid_program.specs.Sorted.{Held as Standing, There, Moved, Misused, has_kind, calls_of, kinds_of, arrays_among, context_of, is_array_place}
 use Rattle.value_machine.specs.Cells.{Cell, Bits, Held, IteratorOf, OwnedArray, LentArray, is_owned}
-use Rattle.value_machine.specs.ImportCalls.{input_code, close_code}
+use Rattle.value_machine.specs.ImportCalls.{input_code, stream_code}
 use Rattle.value_machine.specs.Machine.{Conf, Deep, Label, Frame, br, owner_waits}
 use Rattle.value_machine.specs.Places.{Bases}
 use Rattle.value_machine.proofs.Watch.{Watch}
@@ -50,7 +50,7 @@ abbrev pub WordIs : (f : Form) → Holds f → Cell → Type 0
 WordIs (Answered (answer.Of sort.Number)) x c = c ≡ Bits (I64 (number_word x))
 WordIs (Answered answer.Truth) x c = c ≡ Bits (I64 (flag_number x))
 WordIs (Answered answer.Input) x c = c ≡ Bits (I64 (input_code x))
-WordIs (Answered answer.Close) x c = c ≡ Bits (I64 (close_code x))
+WordIs (Answered answer.Stream) x c = c ≡ Bits (I64 (stream_code x))
 WordIs Bare x c = c ≡ Bits (I64 (bare x))
 WordIs Perhaps x c = c ≡ Bits (I64 (perhaps x))
 WordIs f x c = Unit {0}

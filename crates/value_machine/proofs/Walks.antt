@@ -53,7 +53,7 @@ value_stern b f t k h = (refl, refl)
 number_stern : (b : Bases) (f : Form) (t d : ℕ) (k : Instructions) → Stern k → Stern (to_number b f t d k)
 number_stern b (Answered (answer.Of sort.Value)) t d k h = (refl, refl)
 number_stern b (Answered answer.Input) t d k h = (refl, refl)
-number_stern b (Answered answer.Close) t d k h = (refl, refl)
+number_stern b (Answered answer.Stream) t d k h = (refl, refl)
 number_stern b Bare t d k h = (refl, refl)
 number_stern b Perhaps t d k h = (refl, refl)
 number_stern b f t d k h = h

@@ -13,8 +13,8 @@ use Rattle.awk_state.specs.declared.answers.InputAnswer.{InputAnswer}
 use Rattle.awk_state.specs.declared.answers.InputAnswer.TheVariants as input
 use Rattle.awk_state.specs.declared.answers.AssignAnswer.{AssignAnswer}
 use Rattle.awk_state.specs.declared.answers.AssignAnswer.TheVariants as assign
-use Rattle.awk_state.specs.declared.answers.CloseAnswer.{CloseAnswer}
-use Rattle.awk_state.specs.declared.answers.CloseAnswer.TheVariants as close
+use Rattle.awk_state.specs.declared.answers.StreamAnswer.{StreamAnswer}
+use Rattle.awk_state.specs.declared.answers.StreamAnswer.TheVariants as stream
 use Rattle.awk_state.specs.declared.sorts.Sort.{Sort}
 use Rattle.awk_state.specs.declared.sorts.Sort.TheVariants as sort
 use Rattle.awk_state.specs.declared.sorts.Constant.{Constant}
@@ -114,9 +114,9 @@ abbrev pub assign_code : AssignAnswer → ℕ
 assign_code assign.NoneLeft = 0
 assign_code assign.Pending = 2
 
-abbrev pub close_code : CloseAnswer → ℕ
-close_code close.Closed = 0
-close_code close.NothingOpen = 3
+abbrev pub stream_code : StreamAnswer → ℕ
+stream_code stream.Done = 0
+stream_code stream.NotOpen = 3
 
 -- that no key is left
 abbrev pub end_word : Word
@@ -139,7 +139,7 @@ cell_of answer.Truth b = Some (Bits (I32 (flag_number b)))
 cell_of answer.Done x = Some (Bits (I32 0))
 cell_of answer.Input x = Some (Bits (I32 (input_code x)))
 cell_of answer.Assign x = Some (Bits (I32 (assign_code x)))
-cell_of answer.Close x = Some (Bits (I32 (close_code x)))
+cell_of answer.Stream x = Some (Bits (I32 (stream_code x)))
 cell_of answer.ValueOrEnd x = Some (key_or_end x)
 cell_of answer.Name n = Some (Bits (I32 n))
 

@@ -64,6 +64,9 @@ primitive_name row.PendingName = codes "pending_name"
 primitive_name row.PendingValue = codes "pending_value"
 primitive_name row.BeginEnd = codes "begin_end"
 primitive_name row.Close = codes "close"
+primitive_name row.NextFile = codes "next_file"
+primitive_name row.Clear = codes "clear"
+primitive_name row.Flush = codes "flush"
 
 abbrev pub listing_name : Listing → List ℕ
 listing_name Sprintf = codes "sprintf"
@@ -79,21 +82,21 @@ import_name IterFree = codes "iter_free"
 import_name FreeArray = codes "free_array"
 
 abbrev pub module_name : List ℕ
-module_name = codes "awk1"
+module_name = codes "awk2"
 
--- in the order of their numbers
-abbrev pub primitives : List Primitive
-primitives = row.Num ∷ row.Lit ∷ row.Uninit ∷ row.Dup ∷ row.ToNum ∷ row.IntOf ∷ row.Truth ∷ row.Compare ∷ row.Concat ∷ row.Pow ∷ row.Fail ∷ row.GetSpecial ∷ row.SetSpecial ∷ row.Field ∷ row.SetField ∷ row.NewArray ∷ row.Elem ∷ row.SetElem ∷ row.Has ∷ row.Delete ∷ row.Join ∷ row.Iter ∷ row.IterNext ∷ row.Length ∷ row.Matches ∷ row.Match ∷ row.Sub ∷ row.SubResult ∷ row.Split ∷ row.Substr ∷ row.SubstrFrom ∷ row.Index ∷ row.Lower ∷ row.Upper ∷ row.NextMain ∷ row.Getline ∷ row.GetlineVar ∷ row.GetlineFile ∷ row.GetlineVarFile ∷ row.Line ∷ row.Declare ∷ row.StartAssign ∷ row.PendingName ∷ row.PendingValue ∷ row.BeginEnd ∷ row.Close ∷ []
+-- in the order of their numbers; those that `awk1` does not have come last
+abbrev pub first_primitives : List Primitive
+first_primitives = row.Num ∷ row.Lit ∷ row.Uninit ∷ row.Dup ∷ row.ToNum ∷ row.IntOf ∷ row.Truth ∷ row.Compare ∷ row.Concat ∷ row.Pow ∷ row.Fail ∷ row.GetSpecial ∷ row.SetSpecial ∷ row.Field ∷ row.SetField ∷ row.NewArray ∷ row.Elem ∷ row.SetElem ∷ row.Has ∷ row.Delete ∷ row.Join ∷ row.Iter ∷ row.IterNext ∷ row.Length ∷ row.Matches ∷ row.Match ∷ row.Sub ∷ row.SubResult ∷ row.Split ∷ row.Substr ∷ row.SubstrFrom ∷ row.Index ∷ row.Lower ∷ row.Upper ∷ row.NextMain ∷ row.Getline ∷ row.GetlineVar ∷ row.GetlineFile ∷ row.GetlineVarFile ∷ row.Line ∷ row.Declare ∷ row.StartAssign ∷ row.PendingName ∷ row.PendingValue ∷ row.BeginEnd ∷ row.Close ∷ []
 
 abbrev pub imports : List Import
-imports = map Of primitives ++ (Arg ∷ Over Sprintf ∷ Over Print ∷ Over Printf ∷ Drop ∷ IterFree ∷ FreeArray ∷ [])
+imports = map Of first_primitives ++ (Arg ∷ Over Sprintf ∷ Over Print ∷ Over Printf ∷ Drop ∷ IterFree ∷ FreeArray ∷ Of row.NextFile ∷ Of row.Clear ∷ Of row.Flush ∷ [])
 
 abbrev pub import_at : ℕ → Option Import
 import_at n = slice_get imports n
 
 -- how many there are; the functions of a module come after them
 abbrev pub import_count : ℕ
-import_count = 53
+import_count = 56
 
 abbrev pub primitive_number : Primitive → ℕ
 primitive_number row.Num = 0
@@ -142,6 +145,9 @@ primitive_number row.PendingName = 42
 primitive_number row.PendingValue = 43
 primitive_number row.BeginEnd = 44
 primitive_number row.Close = 45
+primitive_number row.NextFile = 53
+primitive_number row.Clear = 54
+primitive_number row.Flush = 55
 
 abbrev pub listing_number : Listing → ℕ
 listing_number Sprintf = 47

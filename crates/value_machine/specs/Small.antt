@@ -123,7 +123,7 @@ module _ (b : Bases) where
   kept f answer.Truth t d k = kept_code f t d k
   kept f answer.Input t d k = kept_code f t d k
   kept f answer.Assign t d k = kept_code f t d k
-  kept f answer.Close t d k = kept_code f t d k
+  kept f answer.Stream t d k = kept_code f t d k
   kept f answer.Done t d k = kept_done f d k
   kept f _ t d k = k
 
@@ -166,7 +166,7 @@ module _ (b : Bases) where
   abbrev pub to_number : Form → ℕ → ℕ → Instructions → Instructions
   to_number (Answered (answer.Of sort.Value)) t d k = number_of_value t d k
   to_number (Answered answer.Input) t d k = code_number t k
-  to_number (Answered answer.Close) t d k = code_number t k
+  to_number (Answered answer.Stream) t d k = code_number t k
   to_number Bare t d k = unnumbered t (when (number_made t d Done) k)
   to_number Perhaps t d k = zeroed t k
   to_number _ t d k = k

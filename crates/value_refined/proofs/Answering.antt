@@ -180,7 +180,7 @@ module _ (made made1 : ℕ) (others : Sort → ℕ → ℕ) (N : Names) (once : 
   encode_as q answer.Done x f n = bits_told _
   encode_as q answer.Input x f n = bits_told _
   encode_as q answer.Assign x f n = bits_told _
-  encode_as q answer.Close x f n = bits_told _
+  encode_as q answer.Stream x f n = bits_told _
   encode_as q answer.ValueOrEnd None f n = bits_told _
   encode_as q answer.ValueOrEnd (Some v) f n = value_told q v f
   encode_as q answer.Name x f n = bits_told _
@@ -195,6 +195,6 @@ module _ (made made1 : ℕ) (others : Sort → ℕ → ℕ) (N : Names) (once : 
   refusal_as answer.Done = bits_told _
   refusal_as answer.Input = bits_told _
   refusal_as answer.Assign = bits_told _
-  refusal_as answer.Close = bits_told _
+  refusal_as answer.Stream = bits_told _
   refusal_as answer.ValueOrEnd = bits_told _
   refusal_as answer.Name = bits_told _

@@ -125,6 +125,9 @@ taking row.PendingName = inr (tt, λ mem cs. refl)
 taking row.PendingValue = inr (tt, λ mem cs. refl)
 taking row.BeginEnd = inr (tt, λ mem cs. refl)
 taking row.Close = inr ((refl, tt), λ mem cs. refl)
+taking row.NextFile = inr (tt, λ mem cs. refl)
+taking row.Clear = inr ((refl, tt), λ mem cs. refl)
+taking row.Flush = inr ((refl, tt), λ mem cs. refl)
 
 -- The same acts.
 

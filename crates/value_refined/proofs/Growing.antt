@@ -22,7 +22,7 @@ use Rattle.value_machine.specs.declared.import.Listing.TheVariants.{Sprintf, Pri
 use Rattle.value_machine.specs.declared.import.Import.TheVariants.{Of, Over, Arg, Drop, IterFree, FreeArray}
 use Rattle.value_refined.specs.Growing.{ArraysGrow, GrowsBy, NewIn}
 use Rattle.value_refined.specs.Words.{arrays_made}
-use Rattle.value_refined.proofs.GrowingRows.{Has, array_good, found_good, getline_file_good, getline_good, getline_line_file_good, getline_line_good}
+use Rattle.value_refined.proofs.GrowingRows.{Has, array_good, found_good, getline_file_good, getline_good, getline_line_file_good, getline_line_good, given_up_good}
 use Rattle.value_refined.proofs.GrowingRows.{listed_kept, match_good, next_main_good, set_field_good, set_special_good, settled, split_good, start_good}
 use Rattle.value_refined.proofs.GrowingRows.{substitute_good, visited_good}
 
@@ -38,6 +38,8 @@ row_keeps n row.SetField r s a e = settled n s (set_field_row r.0 r.1.0 s.inner)
 row_keeps n row.Elem r s a e = found_good n r.0 (text_of_value r.1.0) s.inner _ e
 row_keeps n row.SetElem r s a e = array_good n r.0 _ s.inner e
 row_keeps n row.Delete r s a e = array_good n r.0 _ s.inner e
+row_keeps n row.Clear r s a e = array_good n r.0 [] s.inner e
+row_keeps n row.NextFile r s a e = given_up_good n s.inner.main.reading s.inner e
 row_keeps n row.IterNext r s a e = visited_good n r.0 s.inner _ e
 row_keeps n row.Match r s a e = settled n s (match_row r.0 r.1.0 s.inner) e (match_good n r.0 r.1.0 s.inner e)
 row_keeps n row.Sub r s a e = settled n s (substitute_row r.0 r.1.0 r.1.1.0 r.1.1.1.0 s.inner) e (substitute_good n r.0 r.1.0 r.1.1.0 r.1.1.1.0 s.inner e)

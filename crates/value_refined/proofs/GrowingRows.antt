@@ -21,7 +21,7 @@ use Rattle.awk_state.specs.FirstMatch.{expression_of, first_match}
 use Rattle.awk_state.specs.InputRows.{Main, Taken, Over, Pending, NotOpened, Failed, as_line, as_record, begins_reading, counted_by, counted_record}
 use Rattle.awk_state.specs.InputRows.{file_or_assignment, follows}
 use Rattle.awk_state.specs.InputRows.{getline_by, getline_file_row, getline_line_file_row, getline_line_row, getline_of, getline_row, go_on, got_file, got_main}
-use Rattle.awk_state.specs.InputRows.{is_below, leaves, made, main_input}
+use Rattle.awk_state.specs.InputRows.{gives_up, is_below, leaves, made, main_input}
 use Rattle.awk_state.specs.InputRows.{next_main_row, next_of, next_operand, next_record, open_or_read, opened, opened_file, operand_text, over, passes_operand}
 use Rattle.awk_state.specs.InputRows.{reach, reach_by, reached, read_file}
 use Rattle.awk_state.specs.InputRows.{read_main, reader_named, reader_of, reader_source, source_of, start_by, start_from, stops_reading, taken, with_operands}
@@ -178,6 +178,11 @@ module _ (n : ℕ) where
   leaves_good : (reader : MainReader) (left : Source) (i : Inner) → Has i → Has (leaves reader left i)
   leaves_good Standard left i e = e
   leaves_good (File s) left i e = e
+
+  pub given_up_good : (o : Option MainReader) (i : Inner) → Has i → Has (gives_up o i)
+  given_up_good None i e = e
+  given_up_good (Some Standard) i e = e
+  given_up_good (Some (File source)) i e = e
 
   -- where the rest of the input is good
   module _ (on : Inner → Result (Inner × Main) Fault) (good : (i : Inner) → Has i → GoodRow (on i)) where

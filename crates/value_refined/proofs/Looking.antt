@@ -79,6 +79,9 @@ looking row.PendingName = inr (λ c. refl)
 looking row.PendingValue = inr (λ c. refl)
 looking row.BeginEnd = inr (λ c. refl)
 looking row.Close = inr (λ c. refl)
+looking row.NextFile = inr (λ c. refl)
+looking row.Clear = inr (λ c. refl)
+looking row.Flush = inr (λ c. refl)
 
 module _ (bytes : List ℕ) (grow : ArraysGrow) (N : Names) (h : Host) (others : Sort → ℕ → ℕ) (fit : ArraysFit (arrays_made h) N.arrays) (once : (s : Sort) (q : ℕ) → others s q ≡ wanted N s q) where
   unspent : Spent (arrays_made h) N N others

@@ -84,7 +84,7 @@ module _ {p : Program} {ks : List Kind} {b : Bases} {C : Context} (at : Stands p
     kept_ok f (answer.Of sort.Number) ps i lt e r = kept_number_ok f lt e r
     kept_ok f answer.Truth ps i lt e r = kept_code_ok f lt e r
     kept_ok f answer.Input ps i lt e r = kept_code_ok f lt e r
-    kept_ok f answer.Close ps i lt e r = kept_code_ok f lt e r
+    kept_ok f answer.Stream ps i lt e r = kept_code_ok f lt e r
     kept_ok f answer.Done ps i lt e r = kept_done_ok f e r
     kept_ok f a ps i lt e r = absurd i
 
@@ -128,7 +128,7 @@ module _ {p : Program} {ks : List Kind} {b : Bases} {C : Context} (at : Stands p
     pub to_number_ok : (f : Form) {t d : ℕ} → t < b.temporaries → Exit L d → CodeOk C L k ps rs → CodeOk C L (to_number b f t d k) ps rs
     to_number_ok (Answered (answer.Of sort.Value)) lt e r = number_of_value_ok lt e r
     to_number_ok (Answered answer.Input) lt e r = code_number_ok lt r
-    to_number_ok (Answered answer.Close) lt e r = code_number_ok lt r
+    to_number_ok (Answered answer.Stream) lt e r = code_number_ok lt r
     to_number_ok Bare {t = t} lt e r =
         get (at.number t lt) (long (compare (branched
         (number_is_ok (at.number t lt) (branched (number_of_value_ok lt (inner (inner e)) done) (long (put (at.number t lt) done)) done)) done r)))

@@ -3,17 +3,17 @@ use Rattle.std.specs.Prelude.{◌≡◌, [], ◌∷◌, codes, Some, None, refl}
 use Rattle.wasm_types.specs.declared.types.ValType.TheVariants.{I32, I64}
 use Rattle.value_typed.specs.Finds.{table_finds}
 
-pub first_found : table_finds (codes "awk1") (codes "num") ≡ Some (0, record { params = I64 ∷ []; result = Some I32 })
+pub first_found : table_finds (codes "awk2") (codes "num") ≡ Some (0, record { params = I64 ∷ []; result = Some I32 })
 first_found = refl
 
-pub last_found : table_finds (codes "awk1") (codes "free_array") ≡ Some (52, record { params = I32 ∷ []; result = None })
+pub last_found : table_finds (codes "awk2") (codes "flush") ≡ Some (55, record { params = I32 ∷ []; result = Some I32 })
 last_found = refl
 
-pub print_found : table_finds (codes "awk1") (codes "print") ≡ Some (48, record { params = I32 ∷ I32 ∷ []; result = Some I32 })
+pub print_found : table_finds (codes "awk2") (codes "print") ≡ Some (48, record { params = I32 ∷ I32 ∷ []; result = Some I32 })
 print_found = refl
 
-pub unknown_name : table_finds (codes "awk1") (codes "nums") ≡ None
+pub unknown_name : table_finds (codes "awk2") (codes "nums") ≡ None
 unknown_name = refl
 
-pub unknown_module : table_finds (codes "awk") (codes "num") ≡ None
+pub unknown_module : table_finds (codes "awk1") (codes "num") ≡ None
 unknown_module = refl

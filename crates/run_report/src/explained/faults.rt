@@ -101,10 +101,10 @@ const TOO_MANY_STREAMS: Explanation = Explanation {
 };
 
 const NEXT_OUTSIDE: Explanation = Explanation {
-    meaning: "next was run where no record is processed, in a function that BEGIN or END called.",
+    meaning: "next or nextfile was run where no record is processed, in a function that BEGIN or END called.",
     command: "awkwasm run 'function f() { next } BEGIN { f() }'",
     shown: "awkwasm: NextOutside",
-    advice: "Leave the function by return, and call next in the actions of patterns.",
+    advice: "Leave the function by return, and run next and nextfile in the actions of patterns.",
 };
 
 const BAD_ASSIGNMENT: Explanation = Explanation {

@@ -34,7 +34,7 @@ const LEFT_OUT: Explanation = Explanation {
     meaning: "The script uses what this awk leaves out. After the line stands what.",
     command: "awkwasm run 'BEGIN { system(\"ls\") }'",
     shown: "awkwasm: LeftOut 1 system",
-    advice: "system, pipe: run the program before, and give what it says as the standard input. delete: split(\"\", a) empties an array. func: write function. atan2, cos, sin, exp, log, sqrt, rand, srand: numbers are whole. nextfile, fflush: leave them out.",
+    advice: "system, pipe: run the program before, and give what it says as the standard input. func: write function. atan2, cos, sin, exp, log, sqrt, rand, srand: numbers are whole.",
 };
 
 const NOT_WHOLE: Explanation = Explanation {
@@ -66,10 +66,10 @@ const TOO_DEEP: Explanation = Explanation {
 };
 
 const MISPLACED: Explanation = Explanation {
-    meaning: "next, break, continue or return stands where it means nothing. The number is the line.",
+    meaning: "next, nextfile, break, continue or return stands where it means nothing. The number is the line.",
     command: "awkwasm run 'BEGIN { next }'",
     shown: "awkwasm: Misplaced 1",
-    advice: "next belongs into the action of a pattern or into a function, break and continue into a loop, return into a function.",
+    advice: "next and nextfile belong into the action of a pattern or into a function, break and continue into a loop, return into a function.",
 };
 
 const TOO_MANY: Explanation = Explanation {

@@ -3,5 +3,5 @@ use Rattle.awk_tokens.specs.Views.{spelled}
 use Rattle.awk_parse.specs.Scan.{scan}
 use Rattle.awk_parse.proofs.scan.scan.Given as goal
 
-abbrev pub invariant-loop-index : goal.invariant-loop-index
-invariant-loop-index l = scan (map spelled (drop l.index l.tokens)) ≡ scan (map spelled l.tokens)
+abbrev pub invariant-loop-token : goal.invariant-loop-token
+invariant-loop-token l = scan (map spelled (drop l.token-index l.tokens)) ≡ scan (map spelled l.tokens)

@@ -53,3 +53,13 @@ pub returns-in-BeginEnd : goal.returns-in-BeginEnd
 returns-in-BeginEnd g c =
     chosen g.W.World.tells c.args.call call.BeginEnd (host_form g.W.World.state c.args.self.now) c.args.words.now c.args.memory.now c.begin_end.result (host_form g.W.World.state c.begin_end.new.self)
     (search rules) (c.begin_end.ensures c.args.memory.now)
+
+pub returns-in-Flush : goal.returns-in-Flush
+returns-in-Flush g c =
+    chosen g.W.World.tells c.args.call call.Flush (host_form g.W.World.state c.args.self.now) c.args.words.now c.args.memory.now c.flush.result (host_form g.W.World.state c.flush.new.self)
+    (search rules) (c.flush.ensures c.args.memory.now)
+
+pub returns-in-NextFile : goal.returns-in-NextFile
+returns-in-NextFile g c =
+    chosen g.W.World.tells c.args.call call.NextFile (host_form g.W.World.state c.args.self.now) c.args.words.now c.args.memory.now c.next_file.result (host_form g.W.World.state c.next_file.new.self)
+    (search rules) (c.next_file.ensures c.args.memory.now)

@@ -38,6 +38,9 @@ returns-in-Has c f = chosen_plain c.args.call call.Has c.args.words.now c.args.m
 pub returns-in-Delete : goal.returns-in-Delete
 returns-in-Delete c f = chosen_plain c.args.call call.Delete c.args.words.now c.args.memory.now c.delete.result (search rules) c.args.self.now c.delete.new.self f (search rules) (λ g. c.delete.ensures g c.args.memory.now)
 
+pub returns-in-Clear : goal.returns-in-Clear
+returns-in-Clear c f = chosen_plain c.args.call call.Clear c.args.words.now c.args.memory.now c.clear.result (search rules) c.args.self.now c.clear.new.self f (search rules) (λ g. c.clear.ensures g c.args.memory.now)
+
 pub returns-in-Iter : goal.returns-in-Iter
 returns-in-Iter c f = chosen_plain c.args.call call.Iter c.args.words.now c.args.memory.now c.iter.result (search rules) c.args.self.now c.iter.new.self f (search rules) (λ g. c.iter.ensures g c.args.memory.now)
 

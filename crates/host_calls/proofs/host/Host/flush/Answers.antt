@@ -1,0 +1,17 @@
+use Rattle.std.proofs.Common.{refl}
+use Rattle.awk_state.specs.declared.table.Primitive.TheVariants as row
+use Rattle.host_step.specs.declared.import.Import.TheVariants.{Of}
+use Rattle.form_meaning.specs.Shown.{form_with_output}
+use Rattle.host_outputs.specs.Forms.{closing}
+use Rattle.host_calls.specs.Forms.{form_in}
+use Rattle.host_calls.proofs.Comes.{plain_comes}
+use Rattle.host_calls.proofs.host.Host.flush.Goals as goal
+
+pub returns : goal.returns
+returns g c memory =
+    let host = c.args.self.now in
+    let state = g.W.World.state host.world in
+    let before = form_in host.tables host.input state in
+    let after = closing c.flush.new.handles host.input.files state before in
+    plain_comes g.W.World.tells (Of row.Flush) c.args.words.now memory refl before after c.flush.result c.requires refl refl
+    (λ so_far. c.flush.ensures.step (form_with_output so_far before) memory state c.requires)

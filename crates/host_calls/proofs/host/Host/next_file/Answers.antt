@@ -1,0 +1,15 @@
+use Rattle.std.proofs.Common.{[]}
+use Rattle.awk_state.specs.declared.table.Primitive.TheVariants as row
+use Rattle.host_step.specs.declared.import.Import.TheVariants.{Of}
+use Rattle.host_inputs.specs.States.{over_world}
+use Rattle.host_calls.specs.Forms.{host_form}
+use Rattle.host_calls.proofs.Comes.{world_comes}
+use Rattle.host_calls.proofs.host.Host.next_file.Goals as goal
+
+pub returns : goal.returns
+returns g c = λ memory.
+    let host = c.args.self.now in
+    let before = host_form g.W.World.state host in
+    let after = over_world host.tables.texts c.next_file.new.input (g.W.World.state c.next_file.new.world) before in
+    world_comes g.W.World.tells (Of row.NextFile) c.args.words.now memory before after c.next_file.result c.requires []
+    (c.next_file.ensures.called before memory host.tables.texts c.requires)

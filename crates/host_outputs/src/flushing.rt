@@ -1,0 +1,44 @@
+//! `flush`.
+ghost use Rattle.std.specs.Prelude.{◌≡◌, List, ℕ, None};
+ghost use Rattle.std.specs.FinMap as map;
+ghost use Rattle.world_core.specs.WorldState.{State};
+ghost use Rattle.awk_state.specs.declared.table.Primitive.TheVariants as row;
+ghost use Rattle.host_step.specs.declared.import.Import.{Import};
+ghost use Rattle.host_elements.specs.Calls.{IsTableCall};
+ghost use Rattle.host_elements.specs.Forms.{HostForm};
+ghost use Rattle.host_values.specs.Calls.{spare};
+ghost use Rattle.host_outputs.specs.Forms.{closing};
+
+use crate::closing::{code, only_value};
+use awk_values::to_text;
+use host_handles::Handles;
+use host_streams::Streams;
+use host_values::Refusal;
+use std::alloc::Global;
+use wasm_store::Word;
+
+/// Answers whether the file that a value names is open for writing, where no fault is kept. All that was printed to it is out by then. The empty text
+/// names all files.
+///
+/// # Errors
+///
+/// A trap, which changes nothing, or want of memory.
+pub fn flush(
+    alloc: Global,
+    handles: &mut Handles,
+    streams: &Streams,
+    words: &[Word],
+) -> Result<Option<Word>, Refusal>
+    ensures step { (f : HostForm) (memory : List ℕ) (state : State) → f.fault ≡ None → IsTableCall (Import.Of row.Flush) (closing handles.old streams.now state f) words.now memory result (closing handles.new streams.now state f) }
+    ensures spare { map.get handles.old spare ≡ None → map.get handles.new spare ≡ None }
+{
+    let (handle, value) = match only_value(handles, words) {
+        Ok(read) => read,
+        Err(kind) => return Err(Refusal::Trap(kind)),
+    };
+    let Ok(name) = to_text(alloc, value) else {
+        return Err(Refusal::NoMemory);
+    };
+    handles.take(handle);
+    Ok(Some(code(streams.is_out(name.as_slice()))))
+}

@@ -1,0 +1,56 @@
+-- The rest of what is being read is given up.
+use Rattle.std.proofs.Common.{◌≡◌, ◌≢◌, List, [], ℕ, Some, None, refl, sym, ap, subst, ◌∙◌}
+use Rattle.world_core.specs.declared.world.Ending.TheVariants.{End}
+use Rattle.world_core.specs.WorldState.{Source, State}
+use Rattle.awk_state.specs.InputRows.{gives_up, next_file_row}
+use Rattle.awk_state.specs.SharedState.{Inner, MainInput, Standard}
+use Rattle.host_streams.specs.declared.main_input.MainInput.{MainInput as Mains}
+use Rattle.host_streams.specs.declared.main_input.Reading.{Reading}
+use Rattle.host_streams.specs.declared.main_input.Reading.TheVariants as reading
+use Rattle.host_streams.specs.declared.reader.Phase.{Phase}
+use Rattle.host_streams.specs.declared.reader.Phase.TheVariants.{Broken, Ended}
+use Rattle.host_streams.specs.declared.reader.Reader.{Reader}
+use Rattle.host_streams.specs.Mains.{StandardIs, idle, left_main, main_of, reading_of, with_main}
+use Rattle.host_streams.specs.Passing.{StandardSkips}
+use Rattle.host_streams.specs.Readers.{left, left_in, unread}
+
+-- the standard input has failed only where it is read
+pub not_read : (r : Reading) (p : Phase) → StandardIs r p → r ≢ reading.Standard → p ≢ Broken
+not_read reading.Nothing p is other = is
+not_read reading.Standard p is other = absurd (other refl)
+not_read (reading.File f) p is other = is
+
+pub skips_standard : (r : Reading) (old new : Reader) → r ≡ reading.Standard → new.id ≡ old.id → new.phase ≡ Ended → unread new ≡ [] → StandardSkips r old new
+skips_standard r old new e id ended none = subst (λ (x : Reading). StandardSkips x old new) (sym e) (id, ended, none)
+
+pub skips_none : (r : Reading) (old new : Reader) → r ≢ reading.Standard → new ≡ old → StandardSkips r old new
+skips_none reading.Nothing old new other same = same
+skips_none reading.Standard old new other same = absurd (other refl)
+skips_none (reading.File f) old new other same = same
+
+nothing_left : (r : Reader) (source : Source) → r.phase ≡ Ended → unread r ≡ [] → left r source ≡ record { rest = []; ending = End }
+nothing_left r source ended none = ap (λ p. left_in p (unread r) source) ended ∙ ap (λ (k : List ℕ). record { rest = k; ending = End }) none
+
+abbrev done_with : Inner → Inner × Unit {0}
+done_with i = (i, tt)
+
+-- the standard input, whose reader is at its end now
+pub skipped_standard : (m new : Mains) (s : Reader) (state later : State) (inner : Inner) → m.reading ≡ reading.Standard → s.phase ≡ Ended → unread s ≡ []
+    → main_of new later ≡ idle (main_of (record m { standard = s }) state)
+    → next_file_row (with_main (main_of m state) inner) ≡ (with_main (main_of new later) inner, tt)
+skipped_standard m new s state later inner e ended none told =
+    ap (λ r. done_with (gives_up r (with_main (main_of m state) inner))) (ap (λ r. reading_of r state) e)
+    ∙ ap (λ (x : Source). done_with (with_main (idle (left_main Standard x (main_of m state))) inner)) (sym (nothing_left s (state.readers s.id) ended none))
+    ∙ ap (λ (x : MainInput). done_with (with_main x inner)) (sym told)
+
+given_up : (m : Mains) (state : State) (inner : Inner) (r : Reading) → m.reading ≡ r → r ≢ reading.Standard
+    → gives_up (reading_of r state) (with_main (main_of m state) inner) ≡ with_main (idle (main_of m state)) inner
+given_up m state inner reading.Nothing e other = ap (λ r. with_main (record (main_of m state) { reading = reading_of r state }) inner) e
+given_up m state inner reading.Standard e other = absurd (other refl)
+given_up m state inner (reading.File f) e other = refl
+
+-- a file, or nothing
+pub skipped_file : (m new : Mains) (state later : State) (inner : Inner) → m.reading ≢ reading.Standard → main_of new later ≡ idle (main_of m state)
+    → next_file_row (with_main (main_of m state) inner) ≡ (with_main (main_of new later) inner, tt)
+skipped_file m new state later inner other told =
+    ap done_with (given_up m state inner m.reading refl other) ∙ ap (λ (x : MainInput). done_with (with_main x inner)) (sym told)
