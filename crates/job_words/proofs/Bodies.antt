@@ -1,5 +1,5 @@
 -- So the functions of a program that does not name ARGV.
-use Rattle.std.proofs.Common.{◌≡◌, ℕ, zero, suc, ◌+◌, ◌≤◌, ◌<◌, Bool, true, false, not, ◌&&◌, ◌||◌, nat_eq, nat_le, nat_lt, List, [], ◌∷◌, ◌++◌, length, map, Option, Some, None, refl, sym, ap, ◌∙◌, subst, arith, slice_get}
+use Rattle.std.proofs.Common.{◌≡◌, ℕ, zero, suc, ◌+◌, ◌<◌, Bool, true, false, not, ◌&&◌, ◌||◌, nat_eq, nat_lt, List, [], ◌∷◌, ◌++◌, length, Option, Some, None, refl, subst, arith}
 use Rattle.std.proofs.lemmas.Bool.{and_parts, eq-eqb, lt-leb, ltb-true}
 use Rattle.std.specs.Prelude.{if◌then◌else◌, is_some, ℤ}
 use Rattle.awk_state.specs.Constants.{flag_number}
@@ -12,8 +12,7 @@ use Rattle.wasm_types.specs.declared.instr.IRelOp.TheVariants.{GtU, Ne}
 use Rattle.wasm_types.specs.declared.instr.ITestOp.TheVariants.{Eqz}
 use Rattle.wasm_types.specs.declared.instr.Simple.TheVariants.{Br, BrIf, Compare, Convert, GlobalGet, GlobalSet, I32Const, I64Const, LocalGet, LocalSet, Nop, Test}
 use Rattle.wasm_types.specs.declared.types.ValType.TheVariants as ty
-use Rattle.mid_program.specs.Names.{ArrayName}
-use Rattle.mid_program.specs.Mid.{Kind, Boxed, Unboxed, Many, Code, Let, Set, Global, Step, Eval, Block as Steps_, If as Either, Loop, Each, Break, Continue, Next, Exit, ExitWith, Return, Mark, Steps, NoStep, Then as AndThen, Program, Routine, a_value, form_of, parameters_at}
+use Rattle.mid_program.specs.Mid.{Kind, Boxed, Unboxed, Many, Code, Let, Step, Eval, Block as Steps_, If as Either, Loop, Each, Break, Continue, Next, Exit, ExitWith, Return, Mark, Steps, NoStep, Then as AndThen, Program, a_value, form_of, parameters_at}
 use Rattle.mid_program.specs.Sorted.{Context, all_sorted, fits, is_array_place, is_dropped, is_kept, is_tested, keeps_well, sorted, step_sorted, steps_sorted, stores_well, test_sorted}
 use Rattle.value_machine.specs.Cells.{cell_at}
 use Rattle.value_machine.specs.Emission.{Layout, tested}
@@ -22,7 +21,7 @@ use Rattle.wasm_types.specs.declared.types.ValType.{ValType}
 use Rattle.value_machine.specs.Places.{Bases, answer_local, array_local, handle_local, handle_types, iterator_local, local_types, number_global, number_local, status_global, temporary_types, way_global}
 use Rattle.value_machine.specs.Quick.{Within, test_within, Source, Named, Constant, joined, all_unsure, Sum, sum_names, sum_op, sum_in, Update, update_in, Counted, counted_in, Pair, pair_names, pair_in, step_jumps, is_nothing}
 use Rattle.value_machine.specs.Small.{ask_row, does, either, moved_out}
-use Rattle.value_machine.specs.Statements.{again, left_by, pair_left, summed, way_exit, way_next, name_read, source_pushed, name_numbered, source_numbered, source_taken, sum_taken, summed_anyway, plainly_dropped, quickly_dropped, left_unless_counted, left_unless_pair, left_unless, all_emptied, arrays_emptied, arrays_swept, before_parts, block, first_part, goes_on, has_functions, iterator_left, iterators_emptied, iterators_swept, key_stored, last_part, left_swept, main_body, names_declared, names_made, parameters_dropped, part_done, record_done, records_read, routine_body, routines_declared, started, step_emitted, steps_emitted, swept, temporaries_emptied, temporaries_swept}
+use Rattle.value_machine.specs.Statements.{again, left_by, pair_left, summed, way_exit, way_next, name_read, source_pushed, name_numbered, source_numbered, source_taken, sum_taken, summed_anyway, plainly_dropped, quickly_dropped, left_unless_counted, left_unless_pair, left_unless, all_emptied, arrays_emptied, arrays_swept, before_parts, block, goes_on, has_functions, iterator_left, iterators_emptied, iterators_swept, key_stored, last_part, left_swept, main_body, names_declared, names_made, parameters_dropped, part_done, record_done, records_read, routine_body, routines_declared, step_emitted, steps_emitted, swept, temporaries_emptied, temporaries_swept}
 use Rattle.value_machine.proofs.Updating.{added_code, added_is}
 use Rattle.job_words.specs.Naming.{is_argv, names_argv, step_names, steps_name}
 use Rattle.job_words.proofs.Emitting.{Always, S, array_spares, dropped_spares, dropped_text, emitted_spares, named, none, none_kept, numbered, one_kept, or_none, pending_spares, start_asked, tested_spares, to_number_spares, to_value_spares}

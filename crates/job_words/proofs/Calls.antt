@@ -1,5 +1,5 @@
 -- A call of an import that is not given ARGV's number, where a row would change it, leaves ARGV's elements as they are; and its answer is as its tag says.
-use Rattle.std.proofs.Common.{◌≡◌, ℕ, zero, suc, ◌≤◌, Bool, true, false, not, ◌&&◌, ◌++◌, cond, nat_eq, nat_le, nat_lt, List, [], ◌∷◌, length, take, drop, reverse, set, slice_get, Option, Some, None, Result, Ok, Err, refl, sym, ap, ◌∙◌, subst, arith}
+use Rattle.std.proofs.Common.{◌≡◌, ℕ, zero, suc, ◌≤◌, Bool, true, false, not, ◌&&◌, ◌++◌, cond, nat_eq, nat_le, nat_lt, List, [], ◌∷◌, length, take, drop, reverse, slice_get, Option, Some, None, Result, Ok, Err, refl, sym, ap, ◌∙◌, subst, arith}
 use Rattle.std.specs.Prelude.{slice_set}
 use Rattle.std.proofs.lemmas.Bool.{eqb-true}
 use Rattle.awk_values.specs.declared.fault.Fault.{Fault}
@@ -20,14 +20,14 @@ use Rattle.awk_state.specs.declared.table.Primitive.{Primitive}
 use Rattle.awk_state.specs.declared.table.Primitive.TheVariants as row
 use Rattle.wasm_store.specs.declared.word.Word.TheVariants.{I32, I64}
 use Rattle.value_machine.specs.Cells.{Cell, Bits, Held, IteratorOf, OwnedArray, LentArray, Gone, none_owned}
-use Rattle.value_machine.specs.ImportCalls.{Acts, Host, acted, and_rest, acts, after_fault, array_of_word, call, cell_of, fault_cell, first_argument, in_sort, last_of, lets_go, listed_acts, look, looked_at, primitive_acts, replied, row_in, taken, where_so, with_some}
+use Rattle.value_machine.specs.ImportCalls.{Acts, Host, acted, and_rest, acts, after_fault, call, cell_of, fault_cell, in_sort, last_of, lets_go, listed_acts, look, looked_at, primitive_acts, replied, row_in, taken, where_so, with_some}
 use Rattle.value_machine.specs.Imports.{import_answer, import_arguments}
 use Rattle.value_machine.specs.Machine.{onto, width}
 use Rattle.value_machine.specs.declared.import.Import.{Import}
 use Rattle.value_machine.specs.declared.import.Import.TheVariants.{Arg, Drop, FreeArray, IterFree, Of, Over}
 use Rattle.value_machine.specs.declared.import.Listing.TheVariants.{Print, Printf, Sprintf}
 use Rattle.job_words.proofs.Rows.{SparedIf, array_changed, listed_kept, row_kept}
-use Rattle.job_words.proofs.Tags.{Tags, answered, is_other, popped, first_of, spares}
+use Rattle.job_words.proofs.Tags.{Tags, answered, is_other, popped, spares}
 
 -- the tags say of a stack what they say
 abbrev pub Matches : Tags → List Cell → Type 0

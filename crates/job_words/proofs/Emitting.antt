@@ -1,5 +1,5 @@
 -- The code of mid code that does not name ARGV gives its number to no row that changes arrays.
-use Rattle.std.proofs.Common.{◌≡◌, ℕ, zero, suc, ◌+◌, ◌-◌, ◌≤◌, Bool, true, false, not, ◌&&◌, ◌||◌, cond, nat_eq, nat_le, nat_lt, List, [], ◌∷◌, length, drop, Option, Some, None, refl, sym, ap, ◌∙◌, subst, arith}
+use Rattle.std.proofs.Common.{◌≡◌, ℕ, zero, suc, ◌-◌, Bool, true, false, not, ◌&&◌, ◌||◌, cond, nat_eq, nat_lt, List, [], ◌∷◌, length, drop, Option, Some, None, refl, sym, ap, ◌∙◌, subst, arith}
 use Rattle.std.proofs.lemmas.Bool.{and_parts, le-leb, le-ltb, lt-ltb}
 use Rattle.std.proofs.lemmas.Option.{slice_get_within}
 use Rattle.std.specs.Prelude.{if◌then◌else◌, get_or, ℤ}
@@ -27,16 +27,16 @@ use Rattle.mid_program.specs.Names.{ArrayName, Numbered, Given}
 use Rattle.mid_program.specs.Mid.{Kind, Boxed, Unboxed, Many, Slot, Global, Parameter, Code, Do, Over, Compare, Call, Ask, AskLine, FileLine, Replace, Number, Text, Unset, Get, Set, Array, IsOpen, Choose, Seq, Let, Bound, Codes, End, At, Fixed, Fresh, Form, Answered, Bare, Perhaps, a_value, arguments, form_at, form_of, parameters_at}
 use Rattle.mid_program.specs.Sorted.{Context, all_sorted, all_values, are_enough, are_missing, count_of, fit_call, fit_row, fits, is_chosen, is_constant, is_done_here, is_dropped, is_given, is_kept, is_number, is_operation, is_slot, is_tested, keeps_well, sorted, stores_well, takes}
 use Rattle.value_machine.specs.Arithmetic.{calculated, compared, field_checked, is_value, may_be_text, numbers_compared, texts_beside, values_compared, zeroed_if}
-use Rattle.value_machine.specs.Emission.{Layout, all_appended, all_boxed, all_converted, all_emitted, all_freed, all_given, all_given_pushed, all_pushed, array_meant, array_pushed, asked as asked_until, assigned, assigned_by_number, bound_read, dropped, emitted, field_in, field_or, function_number, handle_stored, keeping_closed, left_over, listed_asked, one_given, one_pushed, pending_assigned, performed, sequence_closed, slot_read, slot_set, tested, text_dropped, text_kept, text_let_go, value_stored}
+use Rattle.value_machine.specs.Emission.{Layout, all_appended, all_boxed, all_converted, all_emitted, all_freed, all_given, all_given_pushed, all_pushed, array_meant, array_pushed, asked as asked_until, assigned, assigned_by_number, bound_read, dropped, emitted, field_in, field_or, function_number, handle_stored, keeping_closed, left_over, listed_asked, pending_assigned, performed, sequence_closed, slot_read, slot_set, tested, text_dropped, text_let_go, value_stored}
 use Rattle.value_machine.specs.Imports.{import_answer, import_at, import_count, import_number, imports}
 use Rattle.value_machine.specs.Machine.{width}
-use Rattle.value_machine.specs.Places.{Bases, array_name, handle_global, handle_local, made_in, number_global}
-use Rattle.value_machine.specs.Small.{ask, ask_row, bound_from, boxed_perhaps, code_number, converted, does, either, kept, kept_code, kept_done, kept_number, kept_value, moved_from, number_is, released, to_number, to_value, truth, unused, when}
+use Rattle.value_machine.specs.Places.{Bases, array_name, handle_global, made_in, number_global}
+use Rattle.value_machine.specs.Small.{ask, ask_row, bound_from, boxed_perhaps, code_number, converted, does, either, kept, kept_code, kept_done, kept_number, kept_value, moved_from, released, to_number, to_value, truth, unused}
 use Rattle.value_machine.specs.declared.import.Import.{Import}
 use Rattle.value_machine.specs.declared.import.Import.TheVariants.{Of}
 use Rattle.value_machine.proofs.Calls.{import_found}
 use Rattle.job_words.specs.Naming.{any_argv, is_argv, names_argv}
-use Rattle.job_words.proofs.Tags.{Spares, Tags, all_other, answered, asked, asks_well, called, calls_well, entered, enters_well, first_of, is_name, popped, spares, third_of_four}
+use Rattle.job_words.proofs.Tags.{Spares, Tags, all_other, answered, asked, asks_well, entered, enters_well, first_of, is_name, popped, spares, third_of_four}
 
 import_low : (i : Import) → nat_lt (import_number i) import_count ≡ true
 import_low i = lt-ltb (import_number i) import_count (slice_get_within imports (import_number i) i (import_found i))
@@ -623,8 +623,10 @@ module _ (y : Layout) (sizes : ℕ → Option ℕ) where
           let s2 = and_parts a (stores_well fs e && z) s1.1 in
           let s3 = and_parts (stores_well fs e) z s2.1 in
           let p = or_none (any_argv es) (names_argv e) q in
-          emits_spares (converts_spares (record { so = λ A. pushes_spares _ _ three_values es t A (operands_other c fs three_values es n s1.0 s2.0 p.0)
-          (refl, (tt, ((refl, (emitted_spares (text_spares none fs e t) true (a_value ∷ fs) (suc t ∷ ts) e (suc (suc t)) w (suc d) (one_kept a_value fs refl n) s3.1 p.1).so []), r.so []))) }) fs three_values es t d) fs ts es t w d n s2.0 p.0
+          emits_spares (converts_spares (record {
+            so = λ A. pushes_spares _ _ three_values es t A (operands_other c fs three_values es n s1.0 s2.0 p.0)
+                (refl, (tt, ((refl, (emitted_spares (text_spares none fs e t) true (a_value ∷ fs) (suc t ∷ ts) e (suc (suc t)) w (suc d) (one_kept a_value fs refl n) s3.1 p.1).so []), r.so [])));
+          }) fs three_values es t d) fs ts es t w d n s2.0 p.0
       emitted_spares r v fs ts (Number z) t w d n s q = record { so = λ A. r.so A }
       emitted_spares r v fs ts (Text i) t w d n s q = record { so = λ A. (refl, r.so A) }
       emitted_spares r v fs ts Unset t w d n s q = record { so = λ A. r.so A }
@@ -642,9 +644,15 @@ module _ (y : Layout) (sizes : ℕ → Option ℕ) where
           let s4 = and_parts g z s3.1 in
           let p = or_none (names_argv a) (names_argv e || names_argv f) q in
           let p1 = or_none (names_argv e) (names_argv f) p.1 in
-          emitted_spares (truth_spares (record { so = λ A. (
-          (emitted_spares (converted_spares none (form_of fs e) o t (suc d)) false fs ts e t w (suc d) n s4.0 p1.0).so [], (
-          (emitted_spares (converted_spares none (form_of fs f) o t (suc d)) false fs ts f t w (suc d) n s4.1 p1.1).so [], r.so [])) }) (form_of fs a) t) false fs ts a t w d n s3.0 p.0
+          emitted_spares (truth_spares (record {
+            so = λ A. (
+              (emitted_spares (converted_spares none (form_of fs e) o t (suc d)) false fs ts e t w (suc d) n s4.0 p1.0).so [],
+              (
+                (emitted_spares (converted_spares none (form_of fs f) o t (suc d)) false fs ts f t w (suc d) n s4.1 p1.1).so [],
+                r.so [],
+              ),
+            );
+          }) (form_of fs a) t) false fs ts a t w d n s3.0 p.0
       emitted_spares r v fs ts (Seq e f) t w d n s q =
           let a = sorted c fs e in
           let z = sorted c fs f in

@@ -12,19 +12,19 @@ use Rattle.quiet_statements.specs.Laned.{AtNumeric, IsLaned}
 use Rattle.quiet_statements.specs.Statements.{IsNumeric, IsSo, added, constant, group, multiplied, name, signed}
 
 module _ (p : Program) (kinds : List Kind) (A B : ℕ → Type 0) (less : (i : ℕ) → B i → A i) where
-  laned_so : (x : Slot) → IsLaned p kinds A x → IsLaned p kinds B x
+  pub laned_so : (x : Slot) → IsLaned p kinds A x → IsLaned p kinds B x
   laned_so (Global true i) h = (h.0, λ q. h.1 (less i q))
   laned_so (Parameter true i) h = h
   laned_so (Global false i) h = absurd h
   laned_so (Parameter false i) h = absurd h
 
   module _ (gs ps : List Kind) where
-    name_so : (x : Variable) → IsSo (IsLaned p kinds A) gs ps x → IsSo (IsLaned p kinds B) gs ps x
+    pub name_so : (x : Variable) → IsSo (IsLaned p kinds A) gs ps x → IsSo (IsLaned p kinds B) gs ps x
     name_so (names.Global i) h = laned_so (slot_in gs ps (Global false i)) h
     name_so (names.Parameter i) h = laned_so (slot_in gs ps (Parameter false i)) h
     name_so (Reserved s) h = absurd h
 
-    numeric_so : (scope : Scope) (t : Tree) → IsNumeric (IsSo (IsLaned p kinds A) gs ps) scope t → IsNumeric (IsSo (IsLaned p kinds B) gs ps) scope t
+    pub numeric_so : (scope : Scope) (t : Tree) → IsNumeric (IsSo (IsLaned p kinds A) gs ps) scope t → IsNumeric (IsSo (IsLaned p kinds B) gs ps) scope t
     numeric_so scope _ (constant text) = constant text
     numeric_so scope _ (name x h) = name x (name_so _ h)
     numeric_so scope _ (group t q) = group t (numeric_so scope t q)
@@ -32,7 +32,7 @@ module _ (p : Program) (kinds : List Kind) (A B : ℕ → Type 0) (less : (i : �
     numeric_so scope _ (added s a b q r) = added s a b (numeric_so scope a q) (numeric_so scope b r)
     numeric_so scope _ (multiplied a b q r) = multiplied a b (numeric_so scope a q) (numeric_so scope b r)
 
-pub at_numeric : (p : Program) (c : Conf) (s : HostState) (here : AtStatement p c s) (A B : ℕ → Type 0) → ((i : ℕ) → B i → A i) → AtNumeric p c s here A → AtNumeric p c s here B
+abbrev pub at_numeric : (p : Program) (c : Conf) (s : HostState) (here : AtStatement p c s) (A B : ℕ → Type 0) → ((i : ℕ) → B i → A i) → AtNumeric p c s here A → AtNumeric p c s here B
 at_numeric p c s here A B less a = record {
   bases = a.bases;
   parameters = a.parameters;

@@ -1,5 +1,5 @@
 -- What a row leaves of a fact on the arrays: rows that are given no array leave them as they are, and `new_array` puts an empty one behind them.
-use Rattle.std.proofs.Common.{◌≡◌, ℕ, zero, suc, Bool, true, false, List, [], ◌∷◌, Some, None, Option, Result, Ok, Err, ◌∙◌}
+use Rattle.std.proofs.Common.{ℕ, zero, suc, Bool, true, false, List, [], ◌∷◌, Some, None, Option, Result, Ok, Err}
 use Rattle.std.specs.Prelude.{ℤ, ◌-◌, ◌+◌, ◌^◌, ◌++◌, length, map, pos, slice_set}
 use Rattle.awk_text.specs.Escapes.{unescaped}
 use Rattle.awk_values.specs.Operators.{sum}

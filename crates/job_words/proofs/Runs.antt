@@ -1,5 +1,5 @@
 -- SO ON A RUN: where a program does not name ARGV, ARGV has the job's operands wherever a run of its module may come to, and each assignment comes from a word of the job.
-use Rattle.std.proofs.Common.{◌≡◌, ◌⊎◌, inl, inr, ℕ, zero, suc, ◌+◌, ◌≤◌, ◌<◌, Bool, true, false, ◌&&◌, ◌||◌, nat_le, nat_lt, List, [], ◌∷◌, ◌++◌, length, map, Option, Some, None, refl, sym, ap, ◌∙◌, subst, arith, slice_get}
+use Rattle.std.proofs.Common.{◌≡◌, inl, inr, ℕ, zero, suc, ◌+◌, ◌≤◌, ◌<◌, Bool, true, false, ◌&&◌, ◌||◌, nat_lt, List, [], ◌∷◌, ◌++◌, length, map, Option, Some, None, refl, sym, ap, ◌∙◌, subst, arith, slice_get}
 use Rattle.std.specs.List.{Contains}
 use Rattle.std.specs.Prelude.{codes, decimal, if◌then◌else◌, T}
 use Rattle.std.proofs.lemmas.Bool.{and_parts, leb-true, ltb-true}
@@ -112,11 +112,11 @@ later_operand text texts h = (h.0, h.1, Contains-append_right (text ∷ []) text
 
 element_assigns : (key : List ℕ) (n : ℕ) (texts : List (List ℕ)) (name text : List ℕ) → assignment_of (text_or_none (element key (arguments_from n texts))) ≡ Some (name, text) → (o : List ℕ) × (t : List ℕ) × Contains texts o × (assignment_of o ≡ Some (name, t))
 element_assigns key n [] name text e = cc
-element_assigns key n (first ∷ texts) name text e = by (same_text key (decimal n)) e
+element_assigns key n (first ∷ texts) name text e = by (same_text key (decimal n)) (λ q. element_assigns key (n + 1) texts name text q) e
   where
-    by : (b : Bool) → assignment_of (text_or_none (if b then Some (StrNum first) else element key (arguments_from (n + 1) texts))) ≡ Some (name, text) → (o : List ℕ) × (t : List ℕ) × Contains (first ∷ texts) o × (assignment_of o ≡ Some (name, t))
-    by true q = (first, text, (zero, omega arith, refl), q)
-    by false q = later_operand first texts (element_assigns key (n + 1) texts name text q)
+    by : (b : Bool) → (assignment_of (text_or_none (element key (arguments_from (n + 1) texts))) ≡ Some (name, text) → (o : List ℕ) × (t : List ℕ) × Contains texts o × (assignment_of o ≡ Some (name, t))) → assignment_of (text_or_none (if b then Some (StrNum first) else element key (arguments_from (n + 1) texts))) ≡ Some (name, text) → (o : List ℕ) × (t : List ℕ) × Contains (first ∷ texts) o × (assignment_of o ≡ Some (name, t))
+    by true later q = (first, text, (zero, omega arith, refl), q)
+    by false later q = later_operand first texts (later q)
 
 awk_assigns_not : assignment_of (codes "awk") ≡ None
 awk_assigns_not = refl
@@ -128,7 +128,7 @@ operand_assigns : (job : JobForm) (key name text : List ℕ) → assignment_of (
 operand_assigns job key name text e = by (same_text key (decimal 0)) e
   where
     by : (b : Bool) → assignment_of (text_or_none (if b then Some (StrNum (codes "awk")) else element key (arguments_from (0 + 1) job.operands))) ≡ Some (name, text) → IsArgument job name
-    by true q = let h : None ≡ Some (name, text) = sym awk_assigns_not ∙ q in cc
+    by true q = let h = sym awk_assigns_not ∙ q in cc
     by false q = element_assigns key (0 + 1) job.operands name text q
 
 -- Places of a run.
@@ -146,21 +146,20 @@ place_of P m (suc n) c s out c1 s1 way (inr h) =
     let r = place_of P m n way.0 way.1 way.3 c1 s1 way.5 h in
     (suc r.0, way.2 ++ r.1, r.2, r.3, (way.0, way.1, way.2, r.1, way.4, r.4, refl), r.5)
 
+in_state : (argv : Pairs) (G : Store) (s : HostState) → s ≡ state_with s.names G.host → HasArgv argv G.host.shared.inner.arrays → HasArgv argv s.shared.inner.arrays
+in_state argv G s e h = ap (λ (z : HostState). slice_get z.shared.inner.arrays 0) e ∙ h
+
 module _ (u : Code) (argv : Pairs) (sizes : ℕ → Option ℕ) (each : (k : ℕ) (f : Callee) → slice_get u.callees k ≡ Some f → (sizes k ≡ Some (length f.kinds)) × BodySpares u argv sizes f) where
   go_good : (n : ℕ) (P : Conf) → Good u argv sizes P → Good u argv sizes (go u n P)
   go_good zero P h = h
   go_good (suc n) P h = go_good n (step u P) (step_good u argv sizes each P h)
 
-  module _ {used : ℕ → Bool} {bs : List Bool} where
-    in_state : (G : Store) (s : HostState) → s ≡ state_with s.names G.host → HasArgv argv G.host.shared.inner.arrays → HasArgv argv s.shared.inner.arrays
-    in_state G s e h = ap (λ (z : HostState). slice_get z.shared.inner.arrays 0) e ∙ h
-
-    argv_in : (P : Conf) (c : real.Conf) (s : HostState) → As used bs u P c s → Good u argv sizes P → (P ≡ Stuck → ⊥) → HasArgv argv s.shared.inner.arrays
-    argv_in (Run ks vs K L F code G) c s a h alive = in_state G s a.rest.host h.store.1
-    argv_in (Look x ks vs K L F code G) c s a h alive = in_state G s a.run.rest.host h.store.1
-    argv_in (Over v G) c s a h alive = in_state G s a.host h.1
-    argv_in (Deep G) c s a h alive = absurd a
-    argv_in Stuck c s a h alive = absurd (alive refl)
+  argv_in : (used : ℕ → Bool) (bs : List Bool) (P : Conf) (c : real.Conf) (s : HostState) → As used bs u P c s → Good u argv sizes P → (P ≡ Stuck → ⊥) → HasArgv argv s.shared.inner.arrays
+  argv_in used bs (Run ks vs K L F code G) c s a h alive = in_state argv G s a.rest.host h.store.1
+  argv_in used bs (Look x ks vs K L F code G) c s a h alive = in_state argv G s a.run.rest.host h.store.1
+  argv_in used bs (Over v G) c s a h alive = in_state argv G s a.host h.1
+  argv_in used bs (Deep G) c s a h alive = absurd a
+  argv_in used bs Stuck c s a h alive = absurd (alive refl)
 
 module _ (p : Program) (is : IsSorted p) (names : program_names p ≡ false) (agree : ValueAgreement p) (job : JobForm) (input : Source) (outside : Outside) where
   abbrev start : HostState
@@ -218,7 +217,7 @@ module _ (p : Program) (is : IsSorted p) (names : program_names p ≡ false) (ag
           let links = subst (λ (z : ProgramForm). Linked (stays p) (called_imports p) (code_of p 9999) z) (sym (program_is p m reached.is_new)) (linked p) in
           let at_first = subst (λ (z : real.Conf). As (stays p) (called_imports p) (code_of p 9999) (begun p set) z way.1) (sym first.0)
           (subst (λ (z : HostState). As (stays p) (called_imports p) (code_of p 9999) (begun p set) (in_main p) z) (sym first.1) (begun_as p set 9999)) in
-          argv_in (code_of p 9999) argv (sizes p argv) each (go (code_of p 9999) n (begun p set)) c s (steps_as links arrays_grow n (begun p set) way.0 way.1 way.3 c s at_first way.5)
+          argv_in (code_of p 9999) argv (sizes p argv) each (stays p) (called_imports p) (go (code_of p 9999) n (begun p set)) c s (steps_as links arrays_grow n (begun p set) way.0 way.1 way.3 c s at_first way.5)
           (go_good (code_of p 9999) argv (sizes p argv) each n (begun p set) first_good) (not_stuck n)
 
   -- a word by which a name is assigned there is one of the job

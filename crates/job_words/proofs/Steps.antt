@@ -1,5 +1,5 @@
 -- A step of the machine over values, where its code gives ARGV's number to no row that changes arrays: so it is again, and ARGV's elements are what they were.
-use Rattle.std.proofs.Common.{◌≡◌, ◌⊎◌, inl, inr, ℕ, zero, suc, ◌-◌, Bool, true, false, not, ◌&&◌, ◌||◌, cond, nat_eq, nat_le, nat_lt, ◌+◌, List, [], ◌∷◌, ◌++◌, length, take, drop, reverse, set, slice_get, Option, Some, None, Result, Ok, Err, refl, sym, ap, ◌∙◌, subst, arith}
+use Rattle.std.proofs.Common.{◌≡◌, ◌⊎◌, inl, inr, ℕ, zero, suc, ◌-◌, Bool, true, false, not, ◌&&◌, ◌||◌, cond, nat_eq, nat_lt, ◌+◌, List, [], ◌∷◌, ◌++◌, length, take, drop, reverse, set, slice_get, Option, Some, None, Result, Ok, Err, refl, sym, ap, ◌∙◌, subst, arith}
 use Rattle.std.proofs.lemmas.Bool.{and_parts, cases_eq, eqb-true, ltb-false}
 use Rattle.std.proofs.lemmas.Option.{slice_get_past}
 use Rattle.std.proofs.lemmas.Grind.{reverse_onto}
@@ -7,7 +7,7 @@ use Rattle.std.proofs.lemmas.List.{get_or-set_other, length-reverse}
 use Rattle.awk_values.specs.declared.fault.Fault.{Fault}
 use Rattle.awk_state.specs.SharedState.{Pairs}
 use Rattle.awk_state.specs.declared.table.Primitive.TheVariants as row
-use Rattle.wasm_types.specs.Syntax.{Instruction, Plain, BrTable, Block, Loop, If, Instructions, Done, Then}
+use Rattle.wasm_types.specs.Syntax.{Instruction, Plain, Block, Loop, If, Instructions, Done, Then}
 use Rattle.wasm_types.specs.declared.instr.CvtOp.{CvtOp}
 use Rattle.wasm_types.specs.declared.instr.CvtOp.TheVariants as convert
 use Rattle.wasm_types.specs.declared.instr.IBinOp.{IBinOp}
@@ -22,15 +22,14 @@ use Rattle.wasm_store.specs.declared.word.Word.{Word}
 use Rattle.wasm_store.specs.declared.word.Word.TheVariants.{I32, I64}
 use Rattle.wasm_store.specs.Words.{binary_of, converted, given_by, test_of}
 use Rattle.mid_program.specs.Mid.{Kind}
-use Rattle.value_machine.specs.Cells.{Cell, Bits, Held, LentArray, OwnedArray, IteratorOf, Gone, cell_at, globals_by, has_room, is_owned, left_by, left_in_global, may_come, none_owned, read_global}
+use Rattle.value_machine.specs.Cells.{Cell, Bits, Held, LentArray, OwnedArray, IteratorOf, Gone, cell_at, globals_by, has_room, is_owned, left_by, left_in_global, none_owned, read_global}
 use Rattle.value_machine.specs.ImportCalls.{Host, call, look}
-use Rattle.value_machine.specs.Imports.{import_answer, import_at, import_count, imports}
-use Rattle.value_machine.specs.Machine.{Code, Callee, Conf, Run, Look, Over, Deep, Stuck, Frame, Label, Store, act, all_live, ask, ask_looking, assigning_after, assigning_then, at, br, br_if, call_number, choose, compared, ending_name, enter, go, guarded, label, leave, leave_function, onto, operated, push_result, push_word, run_looking, set_global, set_local, step, takes_look, tee_local, teed, width, with_answer, with_operands, work, zeros}
-use Rattle.value_machine.specs.Machine.{noted}
+use Rattle.value_machine.specs.Imports.{import_at, import_count, imports}
+use Rattle.value_machine.specs.Machine.{Code, Callee, Conf, Run, Look, Over, Deep, Stuck, Frame, Label, Store, act, all_live, ask, ask_looking, assigning_after, at, br, br_if, call_number, choose, compared, ending_name, enter, guarded, label, leave, leave_function, onto, operated, push_result, push_word, run_looking, set_global, set_local, step, takes_look, tee_local, teed, width, with_answer, with_operands, work, zeros}
 use Rattle.value_machine.specs.declared.import.Import.{Import}
 use Rattle.value_machine.specs.declared.import.Import.TheVariants.{Of}
-use Rattle.job_words.proofs.Calls.{HasArgv, InHost, Fits, Matches, call_fits, drop_match, look_fits, popped_match, taken_other}
-use Rattle.job_words.proofs.Tags.{Spares, Tags, all_other, answered, asked, asks_well, called, calls_well, entered, enters_well, first_of, is_long, is_name, is_other, is_set, makes_long, popped, spares}
+use Rattle.job_words.proofs.Calls.{InHost, Matches, call_fits, drop_match, look_fits, popped_match, taken_other}
+use Rattle.job_words.proofs.Tags.{Spares, Tags, all_other, asked, asks_well, called, calls_well, entered, enters_well, first_of, is_long, is_name, is_other, is_set, makes_long, popped}
 
 -- Cells of a list, each of which is another.
 

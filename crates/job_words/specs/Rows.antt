@@ -1,6 +1,6 @@
 -- Rows: what names ARGV, and which words of a job are assignments.
-use Rattle.std.specs.Prelude.{◌≡◌, ◌⊎◌, inl, inr, zero, true, false, [], ◌∷◌, None, codes, refl}
-use Rattle.std.proofs.Common.{arith}
+use Rattle.std.specs.Prelude.{◌≡◌, zero, true, false, [], ◌∷◌, None, codes, refl}
+use Rattle.std.proofs.Common.{arith, inl, inr}
 use Rattle.awk_state.specs.Assignments.{assignment_of}
 use Rattle.awk_state.specs.Jobs.{JobForm}
 use Rattle.awk_state.specs.declared.table.Primitive.TheVariants as row
