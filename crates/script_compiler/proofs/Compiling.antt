@@ -36,7 +36,7 @@ use Rattle.script_code.specs.Coded.{HasTokens, IsCodeOf, unboxed}
 use Rattle.script_code.specs.Refusals.{IsNotCoded}
 use Rattle.script_code.specs.declared.fault.CompileFault.{CompileFault}
 use Rattle.script_code.specs.declared.fault.CompileFault.TheVariants.{TooLarge, Token, Parse, Ere, Resolve, NoMemory}
-use Rattle.script_compiler.specs.Compiled.{HasPlaces, IsCompiled, IsQuiet, KeepsNothing}
+use Rattle.script_compiler.specs.Compiled.{HasPlaces, IsCompiled, IsQuiet, IsQuietByWords, KeepsNothing}
 use Rattle.script_compiler.specs.Refusals.{HasNoBytes, IsNotCompiled, IsPastLimits}
 use Rattle.script_compiler.proofs.Operands.{few_operands}
 use Rattle.script_compiler.proofs.Limits.{Few, FewParameters, ReadsItsItems, few, no_module, reads}
@@ -57,8 +57,8 @@ texts_small p v m h = (spelled_small p v m h).texts
 pub compiled : (bytes v : List ℕ) (p : Program) (t : HasTokens bytes (λ tokens. IsCodeOf tokens p)) → IsModule v (module_of p) → Agreement (mid_run_in p) (module_of p) → ModuleOk (module_of p) →
     (main : ℕ) → main_of (module_of p) ≡ Some main → SegmentsFit (module_of p) →
     ((job : JobForm) (input : Source) (outside : Outside) → HasRuns (module_of p) job input outside) → HasPlaces p → KeepsNothing p (module_of p) →
-    IsQuiet p (module_of p) → ((script : Resolved) → IsSorted (final_program script) → Passes (probed_script script) (module_of (final_program script))) → ((script : Resolved) → UnboxesNumbers script (unboxed (program_of script))) → IsCompiled bytes v
-compiled bytes v p t m agreement typed main main_is segments runs places keeps quiet passes unboxes =
+    IsQuiet p (module_of p) → IsQuietByWords p (module_of p) → ((script : Resolved) → IsSorted (final_program script) → Passes (probed_script script) (module_of (final_program script))) → ((script : Resolved) → UnboxesNumbers script (unboxed (program_of script))) → IsCompiled bytes v
+compiled bytes v p t m agreement typed main main_is segments runs places keeps quiet quiet_by_words passes unboxes =
     let c = t.said in
     record {
       short = t.short;
@@ -79,6 +79,7 @@ compiled bytes v p t m agreement typed main main_is segments runs places keeps q
       keeps = keeps;
       few_operands = few_operands (resolved c.script) p c.code;
       quiet = quiet;
+      quiet_by_words = quiet_by_words;
       passes = subst (λ (code : Program). Passes (probed_script (resolved c.script)) (module_of code)) (sym c.code) (passes (resolved c.script) (subst IsSorted c.code c.sorted));
       unboxed_names = subst (λ (code : Program). UnboxesNumbers (resolved c.script) code) (sym c.code) (unboxes (resolved c.script));
     }

@@ -1,5 +1,5 @@
 -- What a script is compiled to, whichever it is.
-use Rattle.std.specs.Prelude.{◌≡◌, ◌⊎◌, ◌≤◌, ◌^◌, ℕ, List, Ok, Some, length, map, true}
+use Rattle.std.specs.Prelude.{◌≡◌, ◌⊎◌, ◌≤◌, ◌^◌, ℕ, List, Ok, Some, false, length, map, true}
 use Rattle.awk_state.specs.Jobs.{JobForm}
 use Rattle.awk_tokens.specs.Cutting.{IsTokens, Spelled}
 use Rattle.awk_grammar.specs.Item.{Item}
@@ -34,6 +34,8 @@ use Rattle.run_places.specs.Statements.{main_places}
 use Rattle.quiet_statements.specs.Laned.{AtNumeric, IsNext}
 use Rattle.quiet_statements.specs.Quiet.{Quietly}
 use Rattle.quiet_statements.specs.Sums.{AtFault}
+use Rattle.job_words.specs.Naming.{program_names}
+use Rattle.job_words.specs.Words.{AssignsAny}
 use Rattle.number_names.specs.Unboxed.{UnboxesNumbers}
 use Rattle.script_code.specs.Coded.{IsSound, unboxed}
 
@@ -58,6 +60,13 @@ pub record KeepsNothing (code : Program) (m : ModuleForm) : Type 0 where
 abbrev pub IsQuiet : Program → ModuleForm → Type 0
 IsQuiet code m = (job : JobForm) (input : Source) (outside : Outside) (a : MachineForm) (c : Conf) (s : HostState)
     → (reached : Reached m job input outside a c s) → (here : AtStatement code c s) → (on : AtNumeric code c s here (IsAssigned reached))
+    → Quietly a.program c (λ there. IsNext code c on.bases (Then on.next on.further) on.iterators on.out on.breaking on.continuing on.after there ⊎ AtFault code c there)
+
+-- The same, said of the script and the job alone. Where the script's code does not name ARGV, a statement on numbers whose names are all unboxed is so quiet in each job of which no word is an
+-- assignment: neither a `-v` nor an operand.
+abbrev pub IsQuietByWords : Program → ModuleForm → Type 0
+IsQuietByWords code m = program_names code ≡ false → (job : JobForm) (input : Source) (outside : Outside) (a : MachineForm) (c : Conf) (s : HostState)
+    → (reached : Reached m job input outside a c s) → (here : AtStatement code c s) → (on : AtNumeric code c s here (λ i. AssignsAny job))
     → Quietly a.program c (λ there. IsNext code c on.bases (Then on.next on.further) on.iterators on.out on.breaking on.continuing on.after there ⊎ AtFault code c there)
 
 -- Where a statement begins each caller that waits has at most as many operands pending as its function has expressions in the script, each part of one counted too; `main` as many as stand in no
@@ -91,5 +100,6 @@ pub record IsCompiled (bytes : List ℕ) (compiled : List ℕ) : Type 0 where
   pub keeps : KeepsNothing code whole
   pub few_operands : HasFewOperands (resolved script) code
   pub quiet : IsQuiet code whole
+  pub quiet_by_words : IsQuietByWords code whole
   pub passes : Passes (probed_script (resolved script)) whole
   pub unboxed_names : UnboxesNumbers (resolved script) code

@@ -1,0 +1,233 @@
+-- SO ON A RUN: where a program does not name ARGV, ARGV has the job's operands wherever a run of its module may come to, and each assignment comes from a word of the job.
+use Rattle.std.proofs.Common.{◌≡◌, inl, inr, ℕ, zero, suc, ◌+◌, ◌≤◌, ◌<◌, Bool, true, false, ◌&&◌, ◌||◌, nat_lt, List, [], ◌∷◌, ◌++◌, length, map, Option, Some, None, refl, sym, ap, ◌∙◌, subst, arith, slice_get}
+use Rattle.std.specs.List.{Contains}
+use Rattle.std.specs.Prelude.{codes, decimal, if◌then◌else◌, T}
+use Rattle.std.proofs.lemmas.Bool.{and_parts, leb-true, ltb-true}
+use Rattle.std.proofs.lemmas.List.Elements.{Contains-append_right}
+use Rattle.std.proofs.lemmas.Option.{get_or_from_slice_get}
+use Rattle.awk_values.specs.declared.value.Value.TheVariants.{StrNum}
+use Rattle.awk_state.specs.ArrayRows.{element}
+use Rattle.awk_state.specs.Assignments.{assignment_of}
+use Rattle.awk_state.specs.InputRows.{text_or_none}
+use Rattle.awk_state.specs.Jobs.{JobForm, arguments_from}
+use Rattle.awk_state.specs.SharedState.{Pairs}
+use Rattle.awk_state.specs.Texts.{same_text}
+use Rattle.world_core.specs.WorldState.{Action, Outside, Source}
+use Rattle.machine_model.specs.Machines.{ProgramForm}
+use Rattle.machine_model.specs.Machines as real
+use Rattle.machine_model.specs.Runs.{MachineForm, Steps}
+use Rattle.host_step.specs.HostState.{HostState}
+use Rattle.host_step.specs.Starts.{state_at_start}
+use Rattle.mid_program.specs.Mid.{Kind, Program, Routine, parameters_at}
+use Rattle.mid_program.specs.ScriptRun.{Setting}
+use Rattle.mid_program.specs.Sorted.{Context, IsSorted, all_differ, announced_names, context_of, is_sorted, kinds_of, parts_sorted, routines_sorted, steps_sorted}
+use Rattle.value_machine.specs.Cells.{cell_at}
+use Rattle.value_machine.specs.Functions.{layout_of, main_bases, main_callee, routine_bases, routine_callee}
+use Rattle.value_machine.specs.Machine.{Callee, Code, Conf, Deep, Look, Over, Run, Store, Stuck, ending_at, go, step, zeros}
+use Rattle.value_machine.specs.Modules.{called_imports, module_of}
+use Rattle.value_machine.specs.Runs.{begun, code_of, empty_names, first_globals, host_at_start, zero_ranges}
+use Rattle.value_refined.specs.Refined.{As, Linked, table_meaning}
+use Rattle.value_refined.specs.Words.{state_with}
+use Rattle.value_refined.proofs.Answering.{some_of}
+use Rattle.value_refined.proofs.Beginning.{begins, begun_as, in_main, taken_first}
+use Rattle.value_refined.proofs.Growing.{arrays_grow}
+use Rattle.value_refined.proofs.Links.{linked, program_is, stays}
+use Rattle.value_refined.proofs.Running.{steps_as}
+use Rattle.module_agreement.specs.Agreement.{setting_of}
+use Rattle.module_agreement.specs.ValueAgreement.{ValueAgreement}
+use Rattle.run_places.specs.Assigned.{IsAssigned, IsWord, Somewhere}
+use Rattle.run_places.specs.Kept.{Reached}
+use Rattle.run_places.proofs.FromWords.{from_words}
+use Rattle.job_words.specs.Naming.{program_names, routines_name, steps_name}
+use Rattle.job_words.specs.Words.{AssignsAny, IsArgument}
+use Rattle.job_words.proofs.Bodies.{locals_set, main_spares, routine_spares}
+use Rattle.job_words.proofs.Calls.{HasArgv}
+use Rattle.job_words.proofs.Emitting.{or_none}
+use Rattle.job_words.proofs.Steps.{BodySpares, Good, at_good, step_good}
+use Rattle.job_words.proofs.Tags.{is_name, is_other, is_set}
+
+-- The functions of a program.
+
+abbrev size_in : List Routine → ℕ → Option ℕ
+size_in [] k = None
+size_in (r ∷ rs) zero = Some (length r.parameters)
+size_in (r ∷ rs) (suc k) = size_in rs k
+
+abbrev calls_in : List Routine → List (List Kind)
+calls_in rs = map (λ (r : Routine). r.parameters) rs
+
+sized_in : (rs : List Routine) (f : ℕ) → f < length (calls_in rs) → size_in rs f ≡ Some (length (parameters_at (calls_in rs) f))
+sized_in [] f l = absurd (omega (arith, l))
+sized_in (r ∷ rs) zero l = refl
+sized_in (r ∷ rs) (suc f) l = sized_in rs f (omega (arith, l))
+
+sized : (p : Program) (f : ℕ) → nat_lt f (length (calls_in p.routines)) ≡ true → size_in p.routines f ≡ Some (length (parameters_at (calls_in p.routines) f))
+sized p f e = sized_in p.routines f (ltb-true f (length (calls_in p.routines)) e)
+
+names_other : (ks : List Kind) (x : ℕ) → is_other (cell_at (empty_names ks) x) ≡ true
+names_other [] x = refl
+names_other (k ∷ ks) zero = refl
+names_other (k ∷ ks) (suc zero) = refl
+names_other (k ∷ ks) (suc (suc x)) = names_other ks x
+
+behind_ranges : (r : ℕ) (ks : List Kind) (x : ℕ) → r ≤ x → is_other (cell_at (zero_ranges r ++ empty_names ks) x) ≡ true
+behind_ranges zero ks x l = names_other ks x
+behind_ranges (suc r) ks zero l = absurd (omega (arith, l))
+behind_ranges (suc r) ks (suc x) l = behind_ranges r ks x (omega (arith, l))
+
+module _ (p : Program) (argv : Pairs) where
+  abbrev u : Code
+  u = code_of p 9999
+
+  abbrev sizes : ℕ → Option ℕ
+  sizes f = size_in p.routines f
+
+  globals_other : (x : ℕ) → is_name u.before x ≡ true → is_other (cell_at (first_globals p) x) ≡ true
+  globals_other x e = by x (leb-true u.before x e)
+    where
+      by : (x : ℕ) → suc (suc p.ranges) ≤ x → is_other (cell_at (first_globals p) x) ≡ true
+      by zero l = absurd (omega (arith, l))
+      by (suc zero) l = absurd (omega (arith, l))
+      by (suc (suc x)) l = behind_ranges p.ranges (kinds_of p.globals) x (omega (arith, l))
+
+  body_spares : (r : Routine) → steps_sorted (context_of p r.parameters) true false r.body ≡ true → steps_name r.body ≡ false → BodySpares u argv sizes (routine_callee p r)
+  body_spares r s n =
+      let y = layout_of p (routine_bases r) in
+      let c = context_of p r.parameters in
+      ((routine_spares y sizes c (sized p) refl refl r.parameters r.body s n).so [], locals_set y sizes c (sized p) refl refl _)
+
+  bodies : (rs : List Routine) (k : ℕ) (f : Callee) → slice_get (map (routine_callee p) rs) k ≡ Some f → routines_sorted p rs ≡ true → routines_name rs ≡ false → (size_in rs k ≡ Some (length f.kinds)) × BodySpares u argv sizes f
+  bodies [] k f e s n = cc
+  bodies (r ∷ rs) zero f e s n =
+      let s1 = and_parts (steps_sorted (context_of p r.parameters) true false r.body) (routines_sorted p rs) s in
+      let n1 = or_none (steps_name r.body) (routines_name rs) n in
+      subst (λ g. (Some (length r.parameters) ≡ Some (length g.kinds)) × BodySpares u argv sizes g) (some_of (routine_callee p r) f e) (refl, body_spares r s1.0 n1.0)
+  bodies (r ∷ rs) (suc k) f e s n =
+      bodies rs k f e (and_parts (steps_sorted (context_of p r.parameters) true false r.body) (routines_sorted p rs) s).1 (or_none (steps_name r.body) (routines_name rs) n).1
+
+-- An element of ARGV, as the job made it, that is an assignment is an operand of the job: the first one is `awk`.
+
+later_operand : {name : List ℕ} (text : List ℕ) (texts : List (List ℕ)) → (o : List ℕ) × (t : List ℕ) × Contains texts o × (assignment_of o ≡ Some (name, t)) → (o : List ℕ) × (t : List ℕ) × Contains (text ∷ texts) o × (assignment_of o ≡ Some (name, t))
+later_operand text texts h = (h.0, h.1, Contains-append_right (text ∷ []) texts h.0 h.2, h.3)
+
+element_assigns : (key : List ℕ) (n : ℕ) (texts : List (List ℕ)) (name text : List ℕ) → assignment_of (text_or_none (element key (arguments_from n texts))) ≡ Some (name, text) → (o : List ℕ) × (t : List ℕ) × Contains texts o × (assignment_of o ≡ Some (name, t))
+element_assigns key n [] name text e = cc
+element_assigns key n (first ∷ texts) name text e = by (same_text key (decimal n)) (λ q. element_assigns key (n + 1) texts name text q) e
+  where
+    by : (b : Bool) → (assignment_of (text_or_none (element key (arguments_from (n + 1) texts))) ≡ Some (name, text) → (o : List ℕ) × (t : List ℕ) × Contains texts o × (assignment_of o ≡ Some (name, t))) → assignment_of (text_or_none (if b then Some (StrNum first) else element key (arguments_from (n + 1) texts))) ≡ Some (name, text) → (o : List ℕ) × (t : List ℕ) × Contains (first ∷ texts) o × (assignment_of o ≡ Some (name, t))
+    by true later q = (first, text, (zero, omega arith, refl), q)
+    by false later q = later_operand first texts (later q)
+
+awk_assigns_not : assignment_of (codes "awk") ≡ None
+awk_assigns_not = refl
+
+abbrev first_argv : JobForm → Pairs
+first_argv job = arguments_from 0 (codes "awk" ∷ job.operands)
+
+operand_assigns : (job : JobForm) (key name text : List ℕ) → assignment_of (text_or_none (element key (first_argv job))) ≡ Some (name, text) → IsArgument job name
+operand_assigns job key name text e = by (same_text key (decimal 0)) e
+  where
+    by : (b : Bool) → assignment_of (text_or_none (if b then Some (StrNum (codes "awk")) else element key (arguments_from (0 + 1) job.operands))) ≡ Some (name, text) → IsArgument job name
+    by true q = let h = sym awk_assigns_not ∙ q in cc
+    by false q = element_assigns key (0 + 1) job.operands name text q
+
+-- Places of a run.
+
+from_T : (b : Bool) → T b → b ≡ true
+from_T true t = refl
+from_T false t = absurd t
+
+-- where it was so a run had come to
+place_of : (P : HostState → Type 0) (m : ProgramForm) (n : ℕ) (c : real.Conf) (s : HostState) (out : List Action) (c1 : real.Conf) (s1 : HostState) (way : Steps table_meaning m n c s out c1 s1) → Somewhere P m n c s out c1 s1 way →
+    (k : ℕ) × (o : List Action) × (d : real.Conf) × (t : HostState) × Steps table_meaning m k c s o d t × P t
+place_of P m zero c s out c1 s1 way h = (zero, [], c, s, (refl, refl, refl), h)
+place_of P m (suc n) c s out c1 s1 way (inl h) = (zero, [], c, s, (refl, refl, refl), h)
+place_of P m (suc n) c s out c1 s1 way (inr h) =
+    let r = place_of P m n way.0 way.1 way.3 c1 s1 way.5 h in
+    (suc r.0, way.2 ++ r.1, r.2, r.3, (way.0, way.1, way.2, r.1, way.4, r.4, refl), r.5)
+
+in_state : (argv : Pairs) (G : Store) (s : HostState) → s ≡ state_with s.names G.host → HasArgv argv G.host.shared.inner.arrays → HasArgv argv s.shared.inner.arrays
+in_state argv G s e h = ap (λ (z : HostState). slice_get z.shared.inner.arrays 0) e ∙ h
+
+module _ (u : Code) (argv : Pairs) (sizes : ℕ → Option ℕ) (each : (k : ℕ) (f : Callee) → slice_get u.callees k ≡ Some f → (sizes k ≡ Some (length f.kinds)) × BodySpares u argv sizes f) where
+  go_good : (n : ℕ) (P : Conf) → Good u argv sizes P → Good u argv sizes (go u n P)
+  go_good zero P h = h
+  go_good (suc n) P h = go_good n (step u P) (step_good u argv sizes each P h)
+
+  argv_in : (used : ℕ → Bool) (bs : List Bool) (P : Conf) (c : real.Conf) (s : HostState) → As used bs u P c s → Good u argv sizes P → (P ≡ Stuck → ⊥) → HasArgv argv s.shared.inner.arrays
+  argv_in used bs (Run ks vs K L F code G) c s a h alive = in_state argv G s a.rest.host h.store.1
+  argv_in used bs (Look x ks vs K L F code G) c s a h alive = in_state argv G s a.run.rest.host h.store.1
+  argv_in used bs (Over v G) c s a h alive = in_state argv G s a.host h.1
+  argv_in used bs (Deep G) c s a h alive = absurd a
+  argv_in used bs Stuck c s a h alive = absurd (alive refl)
+
+module _ (p : Program) (is : IsSorted p) (names : program_names p ≡ false) (agree : ValueAgreement p) (job : JobForm) (input : Source) (outside : Outside) where
+  abbrev start : HostState
+  start = state_at_start job input outside
+
+  abbrev argv : Pairs
+  argv = first_argv job
+
+  abbrev set : Setting
+  set = setting_of job input outside
+
+  abbrev c0 : Context
+  c0 = context_of p []
+
+  s1 : (routines_sorted p p.routines ≡ true) × (parts_sorted p c0 ≡ true)
+  s1 = and_parts (routines_sorted p p.routines) (parts_sorted p c0) (and_parts (all_differ (announced_names p)) (routines_sorted p p.routines && parts_sorted p c0) (from_T (is_sorted p) is)).1
+
+  s2 : (steps_sorted c0 false false p.begin ≡ true) × ((steps_sorted c0 false false p.items && steps_sorted c0 false false p.end) ≡ true)
+  s2 = and_parts (steps_sorted c0 false false p.begin) (steps_sorted c0 false false p.items && steps_sorted c0 false false p.end) s1.1
+
+  s3 : (steps_sorted c0 false false p.items ≡ true) × (steps_sorted c0 false false p.end ≡ true)
+  s3 = and_parts (steps_sorted c0 false false p.items) (steps_sorted c0 false false p.end) s2.1
+
+  n1 : (routines_name p.routines ≡ false) × ((steps_name p.begin || (steps_name p.items || steps_name p.end)) ≡ false)
+  n1 = or_none (routines_name p.routines) (steps_name p.begin || (steps_name p.items || steps_name p.end)) names
+
+  n2 : (steps_name p.begin ≡ false) × ((steps_name p.items || steps_name p.end) ≡ false)
+  n2 = or_none (steps_name p.begin) (steps_name p.items || steps_name p.end) n1.1
+
+  n3 : (steps_name p.items ≡ false) × (steps_name p.end ≡ false)
+  n3 = or_none (steps_name p.items) (steps_name p.end) n2.1
+
+  each : (k : ℕ) (f : Callee) → slice_get (map (routine_callee p) p.routines) k ≡ Some f → (sizes p argv k ≡ Some (length f.kinds)) × BodySpares (code_of p 9999) argv (sizes p argv) f
+  each k f e = bodies p argv p.routines k f e s1.0 n1.0
+
+  not_stuck : (n : ℕ) → go (code_of p 9999) n (begun p set) ≡ Stuck → ⊥
+  not_stuck n h = let shows = agree.never_stuck set n in let q = sym (ap ending_at h) ∙ shows.1 in cc
+
+  first_good : Good (code_of p 9999) argv (sizes p argv) (begun p set)
+  first_good =
+      let f = main_callee p in
+      let y = layout_of p (main_bases p) in
+      at_good (code_of p 9999) argv (sizes p argv) false [] [] [] [] (zeros f.locals) [] f.body (record { globals = first_globals p; host = host_at_start set; assigning = None }) tt
+      ((main_spares y (sizes p argv) c0 (sized p) refl refl p s2.0 s3.0 s3.1 n2.0 n3.0 n3.1).so []) tt
+      (λ x q. locals_set y (sizes p argv) c0 (sized p) refl refl _ x (subst (λ z. is_set f.body z ≡ false) (let h : x ≡ 0 + x = omega arith in h) q)) tt (globals_other p argv, refl)
+
+  -- ARGV IS WHAT THE JOB MADE OF IT, wherever a run may come to
+  pub argv_there : (m : MachineForm) (c : real.Conf) (s : HostState) → Reached (module_of p) job input outside m c s → HasArgv argv s.shared.inner.arrays
+  argv_there m c s reached = by reached.steps reached.taken
+    where
+      by : (n : ℕ) → Steps table_meaning m.program n m.conf start reached.output c s → HasArgv argv s.shared.inner.arrays
+      by zero way = ap (λ (z : HostState). slice_get z.shared.inner.arrays 0) way.1
+      by (suc n) way =
+          let first = taken_first table_meaning m.program m.conf (in_main p) (begins p m reached.is_new) start way.2 way.0 way.1 way.4 in
+          let links = subst (λ (z : ProgramForm). Linked (stays p) (called_imports p) (code_of p 9999) z) (sym (program_is p m reached.is_new)) (linked p) in
+          let at_first = subst (λ (z : real.Conf). As (stays p) (called_imports p) (code_of p 9999) (begun p set) z way.1) (sym first.0)
+          (subst (λ (z : HostState). As (stays p) (called_imports p) (code_of p 9999) (begun p set) (in_main p) z) (sym first.1) (begun_as p set 9999)) in
+          argv_in (code_of p 9999) argv (sizes p argv) each (stays p) (called_imports p) (go (code_of p 9999) n (begun p set)) c s (steps_as links arrays_grow n (begun p set) way.0 way.1 way.3 c s at_first way.5)
+          (go_good (code_of p 9999) argv (sizes p argv) each n (begun p set) first_good) (not_stuck n)
+
+  -- a word by which a name is assigned there is one of the job
+  word_there : (i : ℕ) (s : HostState) → HasArgv argv s.shared.inner.arrays → IsWord job i s → AssignsAny job
+  word_there i s h (name, told, inl q) = (name, inl q)
+  word_there i s h (name, told, inr q) =
+      (name, inr (operand_assigns job (decimal q.0) name q.1 (ap (λ (z : Pairs). assignment_of (text_or_none (element (decimal q.0) z))) (sym (get_or_from_slice_get s.shared.inner.arrays 0 argv [] h)) ∙ q.2)))
+
+  -- EACH ASSIGNMENT of a run comes from a word of the job
+  pub assigned_by_job : (m : MachineForm) (c : real.Conf) (s : HostState) (reached : Reached (module_of p) job input outside m c s) → (i : ℕ) → IsAssigned reached i → AssignsAny job
+  assigned_by_job m c s reached i assigned =
+      let r = place_of (IsWord job i) m.program reached.steps m.conf start reached.output c s reached.taken (from_words p agree job input outside m c s reached i assigned) in
+      word_there i r.3 (argv_there m r.2 r.3 (record { is_new = reached.is_new; steps = r.0; output = r.1; taken = r.4 })) r.5

@@ -1,0 +1,4 @@
+//! What the command line assigns, said of the job's own words.
+#![tactic(auto)]
+
+pub mod laws;
