@@ -18,8 +18,9 @@ use Rattle.mid_program.specs.declared.code.Operand.{Operand}
 use Rattle.mid_program.specs.declared.code.Operand.TheVariants as operand
 use Rattle.mid_program.specs.declared.code.Code.{Code, Do}
 use Rattle.mid_program.specs.declared.step.Step.{Step, Block}
-use Rattle.value_machine.specs.Quick.{field_count, is_among, is_count, is_nothing, kept_sum, kept_update, name_in, source_in, sum_of, update_of}
-use Rattle.quick_forms.specs.Operands.{is_bound, one_code, reads_special, two_codes}
+use Rattle.value_machine.specs.Quick.{element_at, element_read, element_set, field_count, is_among, is_bound, is_count, is_nothing, kept_sum, kept_update, name_in, source_in, sum_of, taker_at, update_of}
+use Rattle.value_machine.proofs.Tallies.{bound_is}
+use Rattle.quick_forms.specs.Operands.{is_elem, is_set_elem, one_code, reads_special, two_codes}
 use Rattle.quick_forms.proofs.Views.{view_block, view_do}
 
 pub do_view : (c : Code) (o : Operation) (v : Vec Operand Global) (es : List Operand) → c ≡ Do o v → es ≡ v.items → plain.Do o (views es) ≡ view c
@@ -94,16 +95,21 @@ two_are (plain.At a (plain.At b plain.End)) x y h = λ i. plain.At (first (sym h
     second None = b
 two_are _ x y h = absurd cc
 
-bound_is : (m : Bool) (i : ℕ) (e : plain.Code) → is_bound m i e ≡ true → e ≡ plain.Bound m i
-bound_is true i (plain.Bound true j) h = ap (plain.Bound true) (eqb-true j i h)
-bound_is false i (plain.Bound false j) h = ap (plain.Bound false) (eqb-true j i h)
-bound_is _ i _ h = absurd cc
-
 pub kept_is : (i : ℕ) (o : Arithmetic) (a : plain.Code) (es : plain.Codes) (x y : plain.Code) → Some (x, y) ≡ two_codes es → is_bound true zero y ≡ true → sum_of i o (source_in x) (source_in a) ≡ kept_sum i o a es
 kept_is i o a es x y h k = sym (ap (kept_sum i o a) (two_are es x y h ∙ ap (λ (e : plain.Code). plain.At x (plain.At e plain.End)) (bound_is true zero y k)))
 
 pub added_is : (i : ℕ) (o : Arithmetic) (a : plain.Code) (es : plain.Codes) (x y : plain.Code) → Some (x, y) ≡ two_codes es → is_bound true zero y ≡ true → update_of i o (name_in x) a ≡ kept_update i o a es
 added_is i o a es x y h k = sym (ap (kept_update i o a) (two_are es x y h ∙ ap (λ (e : plain.Code). plain.At x (plain.At e plain.End)) (bound_is true zero y k)))
+
+-- elements of arrays
+
+pub elem_is : (p : Primitive) (i : ℕ) (es : plain.Codes) → cond (is_elem p) (element_at i es) None ≡ element_read i (plain.Do (Host p) es)
+elem_is row.Elem i es = refl
+elem_is _ i es = refl
+
+pub set_elem_is : (p : Primitive) (m : Bool) (i : ℕ) (es : plain.Codes) → cond (is_set_elem p) (taker_at m i es) None ≡ element_set m i (plain.Do (Host p) es)
+set_elem_is row.SetElem m i es = refl
+set_elem_is _ m i es = refl
 
 -- names
 

@@ -1,5 +1,5 @@
 -- Parts of code.
-use Rattle.std.specs.Prelude.{ℕ, zero, Bool, true, false, nat_eq, Option, None, Some}
+use Rattle.std.specs.Prelude.{ℕ, zero, Bool, true, false, Option, None, Some}
 use Rattle.awk_state.specs.declared.table.Primitive.{Primitive}
 use Rattle.awk_state.specs.declared.table.Primitive.TheVariants as row
 use Rattle.mid_program.specs.declared.mid.Arithmetic.{Arithmetic}
@@ -9,6 +9,11 @@ use Rattle.mid_program.specs.Mid.{Global, Code, Do, Set, Bound, Codes, End, At}
 abbrev pub one_code : Codes → Option Code
 one_code (At e End) = Some e
 one_code es = None
+
+-- code, and the operands after it
+abbrev pub first_code : Codes → Option (Code × Codes)
+first_code (At e es) = Some (e, es)
+first_code es = None
 
 abbrev pub two_codes : Codes → Option (Code × Code)
 two_codes (At a (At e End)) = Some (a, e)
@@ -22,11 +27,6 @@ abbrev pub number_of : Code → Option Codes
 number_of (Do AsNumber es) = Some es
 number_of e = None
 
-abbrev pub is_bound : (moves : Bool) → ℕ → Code → Bool
-is_bound true i (Bound true j) = nat_eq j i
-is_bound false i (Bound false j) = nat_eq j i
-is_bound m i e = false
-
 -- the unboxed name that takes what was kept last
 abbrev pub set_last : Code → Option ℕ
 set_last (Set (Global true i) (Bound true zero)) = Some i
@@ -35,3 +35,11 @@ set_last e = None
 abbrev pub reads_special : Primitive → Bool
 reads_special row.GetSpecial = true
 reads_special p = false
+
+abbrev pub is_elem : Primitive → Bool
+is_elem row.Elem = true
+is_elem p = false
+
+abbrev pub is_set_elem : Primitive → Bool
+is_set_elem row.SetElem = true
+is_set_elem p = false

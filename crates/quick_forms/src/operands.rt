@@ -3,7 +3,8 @@ ghost use Rattle.std.specs.Option.{option_map};
 ghost use Rattle.std.specs.Prelude.{◌≡◌};
 ghost use Rattle.mid_program.specs.Mid.{End};
 ghost use Rattle.mid_program.specs.ViewCode.{before, view, views};
-ghost use Rattle.quick_forms.specs.Operands.{calculated_in, is_bound, number_of, one_code, two_codes};
+ghost use Rattle.quick_forms.specs.Operands.{calculated_in, first_code, number_of, one_code, two_codes};
+ghost use Rattle.value_machine.specs.Quick.{is_bound};
 
 use mid_program::{Arithmetic, Code, Operand, Operation};
 
@@ -35,6 +36,17 @@ pub(crate) fn one_code(operands: &[Operand]) -> Option<&Code>
         return None;
     }
     code_in(&operands[0])
+}
+
+/// The first operand, where it is code, and those after it.
+pub(crate) fn first_code(operands: &[Operand]) -> Option<(&Code, &[Operand])>
+    ensures { option_map (λ p. (view p.0.now, views p.1.now)) result ≡ first_code (views operands.now) }
+{
+    if operands.is_empty() {
+        return None;
+    }
+    let code = code_in(&operands[0])?;
+    Some((code, &operands[1..]))
 }
 
 /// The operands, where there are two and both are code.
