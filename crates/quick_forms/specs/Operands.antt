@@ -4,20 +4,23 @@ use Rattle.awk_state.specs.declared.table.Primitive.{Primitive}
 use Rattle.awk_state.specs.declared.table.Primitive.TheVariants as row
 use Rattle.mid_program.specs.declared.mid.Arithmetic.{Arithmetic}
 use Rattle.mid_program.specs.declared.mid.Operation.TheVariants.{Inline, AsNumber}
-use Rattle.mid_program.specs.Mid.{Global, Code, Do, Set, Bound, Codes, End, At}
+use Rattle.mid_program.specs.Mid.{Global, Code, Do, Set, Let, Bound, Codes, End, At}
 
 abbrev pub one_code : Codes → Option Code
 one_code (At e End) = Some e
 one_code es = None
 
--- code, and the operands after it
-abbrev pub first_code : Codes → Option (Code × Codes)
-first_code (At e es) = Some (e, es)
-first_code es = None
-
 abbrev pub two_codes : Codes → Option (Code × Code)
 two_codes (At a (At e End)) = Some (a, e)
 two_codes es = None
+
+abbrev pub three_codes : Codes → Option (Code × Code × Code)
+three_codes (At a (At e (At f End))) = Some (a, e, f)
+three_codes es = None
+
+abbrev pub let_in : Code → Option (Code × Code)
+let_in (Let a e) = Some (a, e)
+let_in e = None
 
 abbrev pub calculated_in : Code → Option (Arithmetic × Codes)
 calculated_in (Do (Inline o) es) = Some (o, es)

@@ -6,7 +6,9 @@ ghost use Rattle.quick_forms.specs.Operands.{is_elem, is_set_elem};
 ghost use Rattle.quick_forms.specs.View.{view_tally};
 ghost use Rattle.value_machine.specs.Quick.{array_here, array_where, element_at, element_last, element_read, element_set, first_sum, first_two, is_bound, number_read, taker_at, tally_after, tally_by, tally_first, tally_in, tally_kept, tally_of, tally_sum, tally_two};
 
-use crate::operands::{calculated_in, first_code, is_bound, number_of, one_code, two_codes};
+use crate::operands::{
+    calculated_in, is_bound, let_in, number_of, one_code, three_codes, two_codes,
+};
 use crate::sum::is_sum;
 use awk_state::Primitive;
 use mid_program::{Arithmetic, ArrayName, Code, Operand, Operation};
@@ -86,8 +88,7 @@ fn number_read(code: &Code) -> Option<ArrayName>
 fn taker_at(operands: &[Operand], moves: bool, after: usize) -> Option<ArrayName>
     ensures { option_map view_array result ≡ taker_at moves after (views operands.now) }
 {
-    let (array, rest) = first_code(operands)?;
-    let (key, value) = two_codes(rest)?;
+    let (array, key, value) = three_codes(operands)?;
     if is_bound(key, true, after) && is_bound(value, moves, 0) {
         array_here(array)
     } else {
@@ -215,12 +216,7 @@ fn tally_two<'a>(
 }
 
 /// The same, of the sum.
-fn tally_sum<'a>(
-    key: &'a Code,
-    kept: &'a Code,
-    sum: &'a Code,
-    last: &Code,
-) -> Option<Tally<'a>>
+fn tally_sum<'a>(key: &'a Code, kept: &'a Code, sum: &'a Code, last: &Code) -> Option<Tally<'a>>
     ensures { option_map view_tally result ≡ tally_sum (view key.now) (view kept.now) (view sum.now) (view last.now) }
 {
     let (op, operands) = calculated_in(sum)?;
@@ -281,18 +277,14 @@ fn tally_after<'a>(key: &'a Code, kept: &'a Code, body: &'a Code) -> Option<Tall
 fn tally_kept<'a>(key: &'a Code, body: &'a Code) -> Option<Tally<'a>>
     ensures { option_map view_tally result ≡ tally_kept (view key.now) (view body.now) }
 {
-    match body {
-        Code::Let(kept, rest) => tally_after(key, kept, rest),
-        _ => None,
-    }
+    let (kept, rest) = let_in(body)?;
+    tally_after(key, kept, rest)
 }
 
 /// The counter that code is, if it is one.
 pub fn tally_in(code: &Code) -> Option<Tally<'_>>
     ensures { option_map view_tally result ≡ tally_in (view code.now) }
 {
-    match code {
-        Code::Let(key, body) => tally_kept(key, body),
-        _ => None,
-    }
+    let (key, body) = let_in(code)?;
+    tally_kept(key, body)
 }

@@ -74,11 +74,7 @@ fn element_numbered(
 }
 
 /// Gives the number of the third temporary to an element, and the key with it.
-fn element_given(
-    y: &Layout<'_>,
-    out: &mut Vec<Instr>,
-    array: ArrayName,
-) -> Result<(), AllocError>
+fn element_given(y: &Layout<'_>, out: &mut Vec<Instr>, array: ArrayName) -> Result<(), AllocError>
     requires { ArrayFits (view_array array) }
     ensures { OnOk result (Emits out.old.items out.new.items (element_given (view_layout y.now) (view_array array))) }
 {
