@@ -1,15 +1,13 @@
 -- Parts of the definitions, which are added by functions of their own.
-use Rattle.std.specs.Prelude.{ℕ, zero, suc, ◌+◌, Bool, true, false, if◌then◌else◌, List, [], length, Some, is_some, pos, ◌^◌}
-use Rattle.awk_values.specs.declared.fault.Fault.TheVariants.{NextOutside, Range}
+use Rattle.std.specs.Prelude.{ℕ, zero, suc, ◌+◌, Bool, true, false, if◌then◌else◌, List, [], ◌∷◌, length, Some, is_some, pos, ◌^◌}
+use Rattle.awk_values.specs.declared.fault.Fault.TheVariants.{NextOutside}
 use Rattle.awk_state.specs.declared.table.Primitive.TheVariants as row
 use Rattle.wasm_types.specs.Syntax.{Instructions, Done}
 use Rattle.wasm_types.specs.declared.types.ValType.TheVariants.{I32, I64}
 use Rattle.wasm_types.specs.declared.instr.CvtOp.TheVariants.{I32WrapI64}
-use Rattle.wasm_types.specs.declared.instr.IBinOp.{IBinOp}
-use Rattle.wasm_types.specs.declared.instr.IBinOp.TheVariants.{Add}
 use Rattle.wasm_types.specs.declared.instr.IRelOp.TheVariants.{Eq, GtU, LeS, Ne}
 use Rattle.wasm_types.specs.declared.instr.ITestOp.TheVariants.{Eqz}
-use Rattle.wasm_types.specs.declared.instr.Simple.TheVariants.{Nop, Br, BrIf, LocalGet, LocalSet, LocalTee, GlobalGet, GlobalSet, I32Const, I64Const, Test, Compare as Comparing, Binary, Convert}
+use Rattle.wasm_types.specs.declared.instr.Simple.TheVariants.{Nop, Br, BrIf, LocalGet, LocalSet, LocalTee, GlobalGet, GlobalSet, I32Const, I64Const, Test, Compare as Comparing, Convert, Drop as Discard}
 use Rattle.mid_program.specs.Names.{ArrayName}
 use Rattle.mid_program.specs.Mid.{Kind, Boxed, Unboxed, Many, Code, Form, Step, Steps, Program, form_of}
 use Rattle.value_machine.specs.Emission.{Layout, array_pushed, emitted, pending_assigned, tested}
@@ -77,6 +75,10 @@ tally_evaluated y q d k = emitted y false [] [] q.key zero zero d (emitted y fal
 -- a second handle of the key asks for the element's number
 abbrev pub element_asked : Bases → Instructions → Instructions
 element_asked b k = does (LocalGet (h b zero)) (does (LocalTee (h b zero)) (ask_row row.Dup (ask_row row.Elem (ask_row row.ToNum k))))
+
+-- the number of the third temporary goes to an element, whose array and key are on the stack
+abbrev pub number_given : Bases → Instructions → Instructions
+number_given b k = does (LocalGet (n b 2)) (ask_row row.Num (ask_row row.SetElem (does Discard k)))
 
 -- an element takes the sum
 abbrev pub sum_given : Layout → Tally → ℕ → Instructions → Instructions

@@ -9,7 +9,7 @@ ghost use Rattle.code_emission.specs.Forms.{view_form};
 ghost use Rattle.expression_emission.specs.Fits.{ArrayFits};
 ghost use Rattle.expression_emission.specs.View.{view_layout};
 ghost use Rattle.quick_forms.specs.View.{view_tally};
-ghost use Rattle.statement_emission.specs.Parts.{element_asked, sum_given, tally_evaluated};
+ghost use Rattle.statement_emission.specs.Parts.{element_asked, number_given, sum_given, tally_evaluated};
 ghost use Rattle.statement_emission.specs.QuickFits.{TallyFits};
 
 use crate::evaluating::at_first;
@@ -31,9 +31,9 @@ fn tally_evaluated(
     exit: u32,
 ) -> Result<(Form, Form), AllocError>
     requires { TallyFits (view_layout y.now) (view_tally tally) exit }
-    ensures key { IfOk result (λ forms. view_form forms.0 ≡ form_of [] (view tally.key.now)) }
-    ensures added { IfOk result (λ forms. view_form forms.1 ≡ form_of (form_of [] (view tally.key.now) ∷ []) (view tally.added.now)) }
-    ensures emits { OnOk result (Emits out.old.items out.new.items (tally_evaluated (view_layout y.now) (view_tally tally) exit)) }
+    ensures key { IfOk result (λ forms. view_form forms.0 ≡ form_of [] (view tally.entry.key.now)) }
+    ensures added { IfOk result (λ forms. view_form forms.1 ≡ form_of (form_of [] (view tally.entry.key.now) ∷ []) (view tally.entry.added.now)) }
+    ensures emits { OnOk result (Emits out.old.items out.new.items (tally_evaluated (view_layout y.now) (view_tally tally.entry) exit)) }
 {
     let mut kept = Kept::none(y.alloc);
     let key = expression(y, &mut kept, out, false, tally.key, at_first(exit))?;
@@ -73,6 +73,16 @@ fn element_numbered(
     kept_number(y.bases, out, true, 2, exit)
 }
 
+/// Gives the number of the third temporary to an element, whose array and key are on the stack.
+fn number_given(y: &Layout<'_>, out: &mut Vec<Instr>) -> Result<(), AllocError>
+    ensures { OnOk result (Emits out.old.items out.new.items (number_given y.now.bases.now)) }
+{
+    does(out, Simple::LocalGet(y.bases.number(2)))?;
+    ask_row(out, Primitive::Num)?;
+    ask_row(out, Primitive::SetElem)?;
+    does(out, Simple::Drop)
+}
+
 /// Gives the number of the third temporary to an element, and the key with it.
 fn element_given(y: &Layout<'_>, out: &mut Vec<Instr>, array: ArrayName) -> Result<(), AllocError>
     requires { ArrayFits (view_array array) }
@@ -80,10 +90,7 @@ fn element_given(y: &Layout<'_>, out: &mut Vec<Instr>, array: ArrayName) -> Resu
 {
     array_pushed(y, out, array)?;
     moved_out(out, y.bases.handle(0))?;
-    does(out, Simple::LocalGet(y.bases.number(2)))?;
-    ask_row(out, Primitive::Num)?;
-    ask_row(out, Primitive::SetElem)?;
-    does(out, Simple::Drop)
+    number_given(y, out)
 }
 
 /// Adds the sum of the element's number and what is added, and gives it to an element.
@@ -95,7 +102,7 @@ fn sum_given(
 ) -> Result<(), AllocError>
     requires array { ArrayFits (view_array tally.written) }
     requires labels { exit ≤ most_labels }
-    ensures { OnOk result (Emits out.old.items out.new.items (sum_given (view_layout y.now) (view_tally tally) exit)) }
+    ensures { OnOk result (Emits out.old.items out.new.items (sum_given (view_layout y.now) (view_tally tally.entry) exit)) }
 {
     let all = [
         Simple::LocalGet(y.bases.number(2)),
@@ -115,7 +122,7 @@ pub(crate) fn tallied(
 ) -> Result<(), AllocError>
     requires fit { TallyFits (view_layout y.now) (view_tally tally) exit }
     requires labels { suc (suc exit) ≤ most_labels }
-    ensures { OnOk result (Emits out.old.items out.new.items (tallied (view_layout y.now) (view_tally tally) exit)) }
+    ensures { OnOk result (Emits out.old.items out.new.items (tallied (view_layout y.now) (view_tally tally.entry) exit)) }
 {
     let (key, added) = tally_evaluated(y, out, tally, exit)?;
     to_value(y.alloc, y.bases, out, key, 0)?;
