@@ -141,7 +141,7 @@ tallying k = record {
   end = NoStep;
 }
 
--- 45 steps a round, 29 of them and all 6 imports for the counter
-pub tallying_rounds : (steps_of (tallying 20) ≡ steps_of (tallying 10) + 450) × (imports_of (tallying 20) ≡ imports_of (tallying 10) + 60)
+-- 44 steps a round, 28 of them and all 6 imports for the counter
+pub tallying_rounds : (steps_of (tallying 20) ≡ steps_of (tallying 10) + 440) × (imports_of (tallying 20) ≡ imports_of (tallying 10) + 60)
 unfolding emitted all_emitted step_emitted steps_emitted digits
 tallying_rounds = (refl, refl)
