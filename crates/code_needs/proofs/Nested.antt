@@ -17,12 +17,14 @@ use Rattle.mid_program.specs.Mid.{Kind, Boxed, Unboxed, Many, Global, Code, Do, 
 use Rattle.mid_program.specs.declared.mid.Operation.{Operation}
 use Rattle.mid_program.specs.declared.mid.Arithmetic.{Arithmetic}
 use Rattle.mid_program.specs.declared.mid.Operation.TheVariants.{Host, Inline, AsNumber}
+use Rattle.mid_program.specs.Names.{ArrayName}
 use Rattle.value_machine.specs.Emission.{Layout, all_emitted, constant_field, emitted, field_in, field_or, one_field, text_kept}
 use Rattle.value_machine.specs.Functions.{layout_of, main_bases, main_callee, routine_bases, routine_callee}
 use Rattle.value_machine.specs.Places.{Bases}
-use Rattle.value_machine.specs.Quick.{Within, test_within, joined, all_unsure, Source, source_in, Sum, sum_names, sum_op, sum_in, sum_of, two_sum, set_sum, kept_sum, update_sum, old_source, stored_name, new_sum, let_sum, Update, update_in, Counted, counted_in, Pair, pair_names, pair_in, step_jumps, is_nothing}
+use Rattle.value_machine.specs.Quick.{Within, test_within, joined, all_unsure, Source, source_in, Sum, sum_names, sum_op, sum_in, sum_of, two_sum, set_sum, kept_sum, update_sum, old_source, stored_name, new_sum, let_sum, Update, update_in, Tally, tally_in, Counted, counted_in, Pair, pair_names, pair_in, step_jumps, is_nothing}
 use Rattle.value_machine.specs.Small.{does, either}
-use Rattle.value_machine.specs.Statements.{name_read, name_numbered, sum_taken, plainly_dropped, quickly_dropped, left_unless_counted, left_unless_pair, left_unless, again, all_emptied, arrays_emptied, before_parts, block, iterator_left, iterators_emptied, key_stored, left_by, names_declared, names_made, part_done, record_done, records_read, routines_declared, step_emitted, steps_emitted, temporaries_emptied}
+use Rattle.value_machine.specs.Statements.{name_read, name_numbered, sum_kept, sum_taken, element_numbered, element_given, barely_dropped, plainly_dropped, quickly_dropped, left_unless_counted, left_unless_pair, left_unless, again, all_emptied, arrays_emptied, before_parts, block, iterator_left, iterators_emptied, key_stored, left_by, names_declared, names_made, part_done, record_done, records_read, routines_declared, step_emitted, steps_emitted, temporaries_emptied}
+use Rattle.value_machine.proofs.Tallies.{Shape, Updating, Following, Leading, tally_code, tally_is}
 use Rattle.value_machine.proofs.Updating.{added_is}
 use Rattle.code_needs.specs.Labels.{choice_labels, labels_among, labels_in, more_if, step_labels, steps_labels}
 use Rattle.code_needs.proofs.Depths.{Deep, array_deep, asked_deep, converts_deep, dropped_deep, emitted_deep, emits_deep, kept_code_deep, kept_deep, kept_number_deep, left_deep, pushes_deep, tested_deep, to_number_deep, to_value_deep, truth_deep}
@@ -146,6 +148,12 @@ sum_labels (Set (Global true i) e) s h = set_labels i e s h
 sum_labels (Let a e) s h = let_labels a e s h
 sum_labels e s h = cc
 
+-- a counter has those of its key, and of what is added
+tally_labels : (i : Shape) (q : Tally) → labels_in (tally_code i q) ≤ max (labels_in q.key) (labels_in q.added)
+tally_labels Updating q = omega arith
+tally_labels Following q = omega arith
+tally_labels Leading q = omega arith
+
 module _ (y : Layout) where
   abbrev b : Bases
   b = y.bases
@@ -231,9 +239,26 @@ module _ (y : Layout) where
   taking_deep : {k : Instructions} {m : ℕ} (op : IBinOp) (i t d : ℕ) → Deep k m → Deep (sum_taken y op i t d k) m
   taking_deep op i t d r = past _ (past _ (past _ (past _ (past _ (past _ (behind_either (past _ (past _ (past _ (behind_either (past _ (past _ r))))))))))))
 
+  kept_sum_deep : {k : Instructions} {m : ℕ} (op : IBinOp) (t d : ℕ) → Deep k m → Deep (sum_kept y op t d k) m
+  kept_sum_deep op t d r = past _ (past _ (past _ (past _ (past _ (past _ (behind_either r))))))
+
+  element_deep : {k : Instructions} {m : ℕ} (a : ArrayName) (d : ℕ) → Deep k m → Deep (element_numbered y a d k) m
+  element_deep a d r = array_deep y a (past _ (past _ (past _ (past _ (past _ (kept_number_deep b true 2 d r))))))
+
+  given_deep : {k : Instructions} {m : ℕ} (a : ArrayName) → Deep k m → Deep (element_given y a k) m
+  given_deep a r = array_deep y a (past _ (past _ (past _ (past _ (past _ (past _ (past _ r)))))))
+
+  module _ {k : Instructions} {m : ℕ} where
+    barely_deep : (o : Option Tally) (e : Code) (d : ℕ) → Deep k m → Deep (barely_dropped y o e d k) m
+    barely_deep None e d r = dropped_deep y [] [] e zero zero d r
+    barely_deep (Some q) e d r =
+        let f = form_of [] q.key in
+        emitted_deep y false [] [] q.key zero zero d (emitted_deep y false (f ∷ []) (zero ∷ []) q.added 1 zero d
+        (to_value_deep b f zero (element_deep q.read d (to_number_deep b (form_of (f ∷ []) q.added) 1 d (past _ (past _ (kept_sum_deep (sum_op q.op) 2 d (given_deep q.written r))))))))
+
   module _ {k : Instructions} {m : ℕ} where
     plainly_deep : (o : Option Update) (e : Code) (d : ℕ) → Deep k m → Deep (plainly_dropped y o e d k) m
-    plainly_deep None e d r = dropped_deep y [] [] e zero zero d r
+    plainly_deep None e d r = barely_deep (tally_in e) e d r
     plainly_deep (Some q) e d r =
         emitted_deep y false [] [] q.added zero zero d (name_deep q.name 1 d (to_number_deep b (form_of [] q.added) zero d (past _ (past _ (taking_deep (sum_op q.op) q.target zero d r)))))
 
@@ -254,8 +279,15 @@ module _ (y : Layout) where
     unless_deep None e d out r = pair_deep (pair_in e) e d out r
     unless_deep (Some q) e d out r = past _ (past _ (past _ (past _ (past _ (behind_either r)))))
 
+  barely_labelled : (k : Instructions) (o : Option Tally) (e : Code) (d : ℕ) → tally_in e ≡ o → Deep (barely_dropped y o e d k) (labels_in e)
+  barely_labelled k None e d h = labelled _ true [] [] e zero zero d
+  barely_labelled k (Some q) e d h =
+      let t = tally_is e q h in
+      at_least (both (labelled _ false [] [] q.key zero zero d) (emitted_deep y false [] [] q.key zero zero d (labelled _ false (form_of [] q.key ∷ []) (zero ∷ []) q.added 1 zero d)))
+      (let n = ap labels_in t.code in let s = tally_labels t.shape q in omega (arith, n, s))
+
   plainly_labelled : (k : Instructions) (o : Option Update) (e : Code) (d : ℕ) → update_in e ≡ o → Deep (plainly_dropped y o e d k) (labels_in e)
-  plainly_labelled k None e d h = labelled _ true [] [] e zero zero d
+  plainly_labelled k None e d h = barely_labelled k (tally_in e) e d refl
   plainly_labelled k (Some q) e d h = at_least (labelled _ false [] [] q.added zero zero d) (let n = ap labels_in (added_is e q h).0 in omega (arith, n))
 
   quick_labelled : (k : Instructions) (o : Option Sum) (e : Code) (d : ℕ) → sum_in e ≡ o → Deep (quickly_dropped y o e d k) (more_if (is_some o) (labels_in e))

@@ -14,13 +14,15 @@ use Rattle.wasm_types.specs.declared.instr.Simple.TheVariants.{Br, I32Const, I64
 use Rattle.mid_program.specs.declared.mid.Arithmetic.{Arithmetic}
 use Rattle.mid_program.specs.declared.mid.Operation.TheVariants.{Inline}
 use Rattle.mid_program.specs.Mid.{Kind, Boxed, Unboxed, Many, Global, Code, Do, Compare, Number, Set, Let, Bound, Codes, End, At, Step, Eval, Block as Steps_, If as Either, Loop, Each, Break, Continue, Next, Exit, ExitWith, Return, Mark, Steps, NoStep, Then as AndThen, Program, a_value, form_of}
+use Rattle.mid_program.specs.Names.{ArrayName}
 use Rattle.value_machine.specs.Emission.{Layout}
 use Rattle.value_machine.specs.Places.{Bases, memory_of}
-use Rattle.value_machine.specs.Quick.{Within, test_within, both_within, compared_within, constant_in, first_ones, name_in, joined, all_unsure, Source, Named, Constant, source_in, Sum, sum_names, sum_op, sum_in, Update, update_in, Counted, counted_in, sum_of, two_sum, set_sum, kept_sum, update_sum, old_source, stored_name, new_sum, let_sum, is_near, Pair, pair_names, pair_in, pair_of, step_jumps, is_nothing}
-use Rattle.value_machine.specs.Statements.{name_read, source_pushed, summed, name_numbered, source_numbered, source_taken, sum_taken, summed_anyway, plainly_dropped, quickly_dropped, left_unless_counted, pair_left, left_unless_pair, left_unless, all_emptied, arrays_emptied, arrays_swept, before_parts, declared, goes_on, iterator_left, iterators_emptied, iterators_swept, key_stored, left_by, main_body, names_declared, names_made, parameters_dropped, part_done, record_done, records_read, routine_body, routines_declared, step_emitted, steps_emitted, swept, temporaries_emptied, temporaries_swept, has_functions, left_swept}
+use Rattle.value_machine.specs.Quick.{Within, test_within, both_within, compared_within, constant_in, first_ones, name_in, joined, all_unsure, Source, Named, Constant, source_in, Sum, sum_names, sum_op, sum_in, Update, update_in, Tally, tally_in, Counted, counted_in, sum_of, two_sum, set_sum, kept_sum, update_sum, old_source, stored_name, new_sum, let_sum, is_near, Pair, pair_names, pair_in, pair_of, step_jumps, is_nothing}
+use Rattle.value_machine.specs.Statements.{name_read, source_pushed, summed, name_numbered, source_numbered, source_taken, sum_kept, sum_taken, summed_anyway, element_numbered, element_given, barely_dropped, plainly_dropped, quickly_dropped, left_unless_counted, pair_left, left_unless_pair, left_unless, all_emptied, arrays_emptied, arrays_swept, before_parts, declared, goes_on, iterator_left, iterators_emptied, iterators_swept, key_stored, left_by, main_body, names_declared, names_made, parameters_dropped, part_done, record_done, records_read, routine_body, routines_declared, step_emitted, steps_emitted, swept, temporaries_emptied, temporaries_swept, has_functions, left_swept}
 use Rattle.std.proofs.lemmas.Bool.{leb-true}
 use Rattle.value_machine.proofs.Quick.{constant_is, shift_pos}
 use Rattle.value_machine.proofs.QuickNames.{near_sum, some_is, source_code, source_is}
+use Rattle.value_machine.proofs.Tallies.{Shape, Updating, Following, Leading, tally_code, tally_is}
 use Rattle.value_machine.proofs.Updating.{added_is}
 use Rattle.code_words.proofs.Emitted.{array_fits, asked_fits, comparison_fits, dropped_fits, emitted_fits, flag_fits, kept_code_fits, kept_number_fits, number_small, pending_fits, tested_fits, text_fits_there, to_number_fits, to_value_fits, whichever}
 use Rattle.code_words.proofs.Fits.{Fits, choice, fits_simple, in_block, in_loop, long_fits, none, plain}
@@ -125,6 +127,12 @@ within_small : (e : Code) (q : Within) → test_within e ≡ Some q → Small e 
 within_small (Compare c a e) q h s = both_small c e (name_in a) (constant_in e) q refl h s.1
 within_small e q h s = cc
 
+-- a counter's key, and what is added
+tally_small : (i : Shape) (q : Tally) → Small (tally_code i q) → Small q.key × Small q.added
+tally_small Updating q s = (s.0, s.1.0)
+tally_small Following q s = (s.0, s.1.1.0.1.0)
+tally_small Leading q s = (s.0, s.1.0.1.0)
+
 -- ---- steps
 
 module _ (y : Layout) (names : length y.names ≤ 2 ^ 24) (memory : length (memory_of y.texts) ≤ 2 ^ 24) where
@@ -169,9 +177,30 @@ module _ (y : Layout) (names : length y.names ≤ 2 ^ 24) (memory : length (memo
   anyway_fits : {k : Instructions} (x : Sum) (d : ℕ) → SumSmall x → Fits k → Fits (summed_anyway y x d k)
   anyway_fits x d h r = numbered_fits x.left zero d (numbered_fits x.right 1 d (taken_fits x.left zero h.0 (taken_fits x.right 1 h.1 (taking_fits (sum_op x.op) x.target zero d r))))
 
+  -- counters in arrays
+
+  kept_fits : {k : Instructions} (op : IBinOp) (t d : ℕ) → Fits k → Fits (sum_kept y op t d k)
+  kept_fits op t d r = record { has = r.has }
+
+  element_fits : {k : Instructions} (a : ArrayName) (d : ℕ) → Fits k → Fits (element_numbered y a d k)
+  element_fits a d r = array_fits y names memory a (record { has = r.has })
+
+  given_fits : {k : Instructions} (a : ArrayName) → Fits k → Fits (element_given y a k)
+  given_fits a r = array_fits y names memory a (record { has = r.has })
+
+  module _ {k : Instructions} where
+    barely_fits : (o : Option Tally) (e : Code) (d : ℕ) → tally_in e ≡ o → Small e → Fits k → Fits (barely_dropped y o e d k)
+    barely_fits None e d h s r = dropped_fits y names memory [] [] e zero zero d s r
+    barely_fits (Some q) e d h s r =
+        let t = tally_is e q h in
+        let m = tally_small t.shape q (subst Small t.code s) in
+        let f = form_of [] q.key in
+        emitted_fits y names memory false [] [] q.key zero zero d m.0 (emitted_fits y names memory false (f ∷ []) (zero ∷ []) q.added 1 zero d m.1
+        (to_value_fits b f zero (element_fits q.read d (to_number_fits b (form_of (f ∷ []) q.added) 1 d (plain _ refl (plain _ refl (kept_fits (sum_op q.op) 2 d (given_fits q.written r))))))))
+
   module _ {k : Instructions} where
     plainly_fits : (o : Option Update) (e : Code) (d : ℕ) → update_in e ≡ o → Small e → Fits k → Fits (plainly_dropped y o e d k)
-    plainly_fits None e d h s r = dropped_fits y names memory [] [] e zero zero d s r
+    plainly_fits None e d h s r = barely_fits (tally_in e) e d refl s r
     plainly_fits (Some q) e d h s r =
         emitted_fits y names memory false [] [] q.added zero zero d (subst Small (added_is e q h).0 s).0 (name_fits q.name 1 d (to_number_fits b (form_of [] q.added) zero d (plain _ refl (plain _ refl (taking_fits (sum_op q.op) q.target zero d r)))))
 

@@ -1,3 +1,4 @@
 mod Joins
 mod Splitting
 mod Edits
+mod Later

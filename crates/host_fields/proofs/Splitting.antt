@@ -1,19 +1,23 @@
 -- A record that is split, from its parts to the state.
-use Rattle.std.proofs.Common.{◌≡◌, ℕ, ◌^◌, ◌<◌, ◌≤◌, Bool, false, List, [], ◌∷◌, map, length, Result, Ok, Err, refl, sym, ap, subst, ◌∙◌, arith, le-leb, pos}
-use Rattle.std.specs.Prelude.{◌&&◌, not, nat_le, if◌then◌else◌}
+use Rattle.std.proofs.Common.{◌≡◌, ℕ, suc, ◌^◌, ◌<◌, ◌≤◌, Bool, true, false, List, [], ◌∷◌, map, length, Result, Ok, Err, refl, sym, ap, subst, ◌∙◌, arith, le-leb, pos}
+use Rattle.std.specs.Prelude.{◌&&◌, ◌==◌, ◌||◌, not, nat_le, if◌then◌else◌}
+use Rattle.std.specs.List.{filter}
 use Rattle.std.proofs.lemmas.Bool.Decides.{nat_tests}
 use Rattle.std.proofs.lemmas.List.{length-map}
+use Rattle.std.proofs.lemmas.List.Filters.{length-filter_both}
 use Rattle.awk_values.specs.declared.fault.Fault.{Fault}
 use Rattle.awk_values.specs.declared.fault.Fault.TheVariants.{FieldNumber}
 use Rattle.awk_values.specs.declared.value.Value.TheVariants.{StrNum}
 use Rattle.awk_state.specs.Texts.{is_empty}
 use Rattle.awk_state.specs.SharedState.{Inner, ◌>>=◌}
-use Rattle.awk_state.specs.Fields.{Separator, fields_of, pieces_of, separator_of}
+use Rattle.awk_state.specs.Fields.{Separator, behind, fields_of, is_blank, parted, pieces_of, separator_of}
 use Rattle.awk_state.specs.FieldRows.{field_number, special_text, with_record}
 use Rattle.awk_state.specs.declared.constants.Special.TheVariants.{Fs, Rs}
 use Rattle.host_format.specs.Spans.{span_text}
 use Rattle.host_format.specs.declared.span.Span.{Span}
-use Rattle.host_fields.specs.Held.{field_at, with_held}
+use Rattle.host_fields.specs.Held.{field_at, separator_by, with_held}
+use Rattle.host_fields.specs.declared.fields.Plain.{Plain}
+use Rattle.host_fields.specs.declared.fields.Plain.TheVariants.{Blanks, Byte}
 use Rattle.host_fields.specs.Splits.{AreFields}
 
 pub number_within : (n : ℕ) → n ≤ 2 ^ 20 → field_number (pos n) ≡ Ok n
@@ -25,7 +29,7 @@ past_most n h = grind (arith, nat_tests)
 number_past : (n : ℕ) → 2 ^ 20 < n → field_number (pos n) ≡ Err FieldNumber
 number_past n h = ap (λ b. if b then Ok n else Err FieldNumber) (past_most n h)
 
-fields_are : (text : List ℕ) (spans : List Span) → map StrNum (map (span_text text) spans) ≡ map (field_at text) spans
+pub fields_are : (text : List ℕ) (spans : List Span) → map StrNum (map (span_text text) spans) ≡ map (field_at text) spans
 fields_are text [] = refl
 fields_are text (span ∷ spans) = ap (λ vs. field_at text span ∷ vs) (fields_are text spans)
 
@@ -63,3 +67,32 @@ split_past inner fs rs text newlines spans same p q are many =
     split_texts inner fs rs text newlines spans same p q are
     ∙ ap (λ r. r >>= λ n. Ok (record inner { whole = StrNum text; fields = map StrNum (map (span_text text) spans) }))
     (number_past (length (map (span_text text) spans)) (subst (λ n. 2 ^ 20 < n) (sym (length-map spans (span_text text))) many))
+
+-- A record that is to be split later.
+
+behind_few : (b : Bool) (c : ℕ) (pieces : List (List ℕ)) (n : ℕ) → length pieces ≤ n → length (behind b c pieces) ≤ suc n
+behind_few true c pieces n h = omega (arith, h)
+behind_few false c [] n h = omega arith
+behind_few false c (piece ∷ pieces) n h = omega (arith, h)
+
+parted_few : (test : ℕ → Bool) (text : List ℕ) → length (parted test text) ≤ suc (length text)
+parted_few test [] = omega arith
+parted_few test (c ∷ cs) = behind_few (test c) c (parted test cs) (suc (length cs)) (parted_few test cs)
+
+kept_few : (test : List ℕ → Bool) (pieces : List (List ℕ)) → length (filter test pieces) ≤ length pieces
+kept_few test pieces = omega (arith, length-filter_both test (λ p. not (test p)) (λ p. refl) pieces)
+
+-- a text has at most one piece more than bytes
+pieces_few : (by : Plain) (newlines : Bool) (text : List ℕ) → length (pieces_of (separator_by by) newlines text) ≤ suc (length text)
+pieces_few by newlines [] = omega arith
+pieces_few Blanks newlines (c ∷ cs) =
+    omega (arith, parted_few is_blank (c ∷ cs), kept_few (λ piece. not (is_empty piece)) (parted is_blank (c ∷ cs)))
+pieces_few (Byte b) newlines (c ∷ cs) = parted_few (λ d. (d == b) || (newlines && (d == 10))) (c ∷ cs)
+
+pub later_is : (inner : Inner) (fs rs text : List ℕ) (newlines : Bool) (by : Plain) → SaysNewlines newlines fs rs → special_text Fs inner ≡ fs → special_text Rs inner ≡ rs → separator_of fs ≡ Ok (separator_by by) → length text < 2 ^ 20 → with_record text inner ≡ Ok (with_held (record { whole = StrNum text; fields = map StrNum (pieces_of (separator_by by) newlines text) }) inner)
+later_is inner fs rs text newlines by same p q means short =
+    let texts = pieces_of (separator_by by) newlines text in
+    record_of inner fs rs text p q
+    ∙ ap (λ r. r >>= with_texts text inner) (texts_of fs rs text newlines (separator_by by) same means)
+    ∙ ap (λ r. r >>= λ n. Ok (record inner { whole = StrNum text; fields = map StrNum texts }))
+    (number_within (length texts) (omega (arith, short, pieces_few by newlines text)))

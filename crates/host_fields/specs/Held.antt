@@ -7,10 +7,14 @@ use Rattle.awk_values.specs.declared.value.Value.{Value}
 use Rattle.awk_values.specs.declared.value.Value.TheVariants.{StrNum}
 use Rattle.awk_state.specs.SharedState.{Inner}
 use Rattle.awk_values.specs.Values.{text_of_value}
+use Rattle.awk_state.specs.Fields.{Separator, pieces_of}
+use Rattle.awk_state.specs.Fields as separators
 use Rattle.host_format.specs.Spans.{IsInside, span_text}
 use Rattle.host_format.specs.declared.span.Span.{Span}
 use Rattle.host_fields.specs.declared.fields.Form.{Form}
-use Rattle.host_fields.specs.declared.fields.Form.TheVariants.{Own, Parts}
+use Rattle.host_fields.specs.declared.fields.Form.TheVariants.{Later, Own, Parts}
+use Rattle.host_fields.specs.declared.fields.Plain.{Plain}
+use Rattle.host_fields.specs.declared.fields.Plain.TheVariants.{Blanks, Byte}
 
 -- `$0`, and the fields from `$1` on
 pub record Held : Type 0 where
@@ -34,12 +38,30 @@ abbrev pub IsPartOf : (whole : Value) → Span → Type 0
 IsPartOf (StrNum text) span = IsInside text span
 IsPartOf whole span = ⊥
 
--- the fields: parts of `$0`, or values of their own
+-- `$0` is a numeric string, as one that was read or set is
+abbrev pub IsNumericText : Value → Type 0
+IsNumericText (StrNum text) = Unit {0}
+IsNumericText whole = ⊥
+
+-- what separates fields
+abbrev pub separator_by : Plain → Separator
+separator_by Blanks = separators.Blanks
+separator_by (Byte b) = separators.Byte b
+
+-- the fields: those that `$0` is to be split into, parts of `$0`, or values of their own
 abbrev pub fields_in : Form → (whole : Value) → List Span → List Value → List Value
+fields_in (Later by newlines) whole spans own = map StrNum (pieces_of (separator_by by) newlines (text_of_value whole))
 fields_in Parts whole spans own = map (field_at (text_of_value whole)) spans
 fields_in Own whole spans own = own
 
--- fields that are parts of `$0` are so each
+-- fields that are parts of `$0` are so each; what is to be split can be
 abbrev pub AreHeld : Form → (whole : Value) → List Span → Type 0
+AreHeld (Later by newlines) whole spans = IsNumericText whole
 AreHeld Parts whole spans = All (IsPartOf whole) spans
 AreHeld Own whole spans = Unit {0}
+
+-- no split is put off
+abbrev pub IsSplit : Form → Type 0
+IsSplit (Later by newlines) = ⊥
+IsSplit Parts = Unit {0}
+IsSplit Own = Unit {0}

@@ -1,20 +1,63 @@
 //! Where the fields of a record stand.
-ghost use Rattle.std.specs.Prelude.{◌≡◌, IfOk, OnErr, OnOk};
+ghost use Rattle.std.specs.Prelude.{◌≡◌, IfOk, IfSome, List, Ok, OnOk};
 ghost use Rattle.awk_values.specs.Values.{text_of_value};
-ghost use Rattle.host_fields.specs.Held.{AreHeld, IsPartOf, field_at, fields_in};
+ghost use Rattle.awk_values.specs.declared.value.Value.{Value as AnyValue};
+ghost use Rattle.awk_state.specs.Fields.{pieces_of, separator_of};
+ghost use Rattle.host_format.specs.Separators.{IsSep};
+ghost use Rattle.host_format.specs.Spans.{AreSpans};
+ghost use Rattle.host_fields.specs.Held.{AreHeld, IsNumericText, IsPartOf, IsSplit, field_at, fields_in, separator_by};
 ghost use Rattle.host_fields.specs.declared.fields.Form.TheVariants.{Own, Parts};
 
 use awk_values::Value;
-use host_format::Span;
+use host_format::{Sep, Span, split_into};
 use std::alloc::AllocError;
 
+/// What separates fields where that is no expression, and where it cannot fail to be one.
+#[derive(Clone, Copy, Debug, Drop)]
+pub(crate) enum Plain {
+    /// Runs of spaces, tabs and newlines.
+    Blanks,
+    /// Each of these bytes.
+    Byte(u8),
+}
+
 /// Where fields stand.
-#[derive(Clone, Copy, Debug, PartialEq, Eq, Drop)]
+#[derive(Clone, Copy, Debug, Drop)]
 pub(crate) enum Form {
+    /// `$0` is not split yet. It is to be split by this, and by newlines where the flag says so, whatever FS and RS are by then.
+    Later(Plain, bool),
     /// They are parts of `$0`, which was split.
     Parts,
     /// They are values of their own.
     Own,
+}
+
+impl Plain {
+    /// What an FS means, where it has one byte.
+    pub(crate) fn of(fs: &[u8]) -> Option<Plain>
+        ensures { IfSome result (λ by. separator_of fs.now ≡ Ok (separator_by by)) }
+    {
+        match fs {
+            [byte] => {
+                if *byte == b' ' {
+                    Some(Plain::Blanks)
+                } else {
+                    Some(Plain::Byte(*byte))
+                }
+            }
+            _ => None,
+        }
+    }
+
+    /// The same as a separator.
+    fn sep(self) -> Sep
+        ensures { IsSep result (separator_by self) }
+    {
+        match self {
+            Plain::Blanks => Sep::Blanks,
+            Plain::Byte(byte) => Sep::Byte(byte),
+        }
+    }
 }
 
 /// A part of `$0`, as a field that shares its text.
@@ -40,20 +83,61 @@ fn fill(own: &mut Vec<Value>, whole: &Value, spans: &[Span]) -> Result<(), Alloc
     Ok(())
 }
 
+/// Puts the parts of `$0` that are its fields in the place of these parts.
+#[inline(never)]
+fn split_whole(
+    spans: &mut Vec<Span>,
+    whole: &Value,
+    by: Plain,
+    newlines: bool,
+) -> Result<(), AllocError>
+    requires { IsNumericText whole.now }
+    ensures { OnOk result (AreSpans (text_of_value whole.now) spans.new.items (pieces_of (separator_by by) newlines (text_of_value whole.now))) }
+{
+    let Value::StrNum(text) = whole else {
+        unreachable!();
+    };
+    let mut sep = by.sep();
+    match split_into(spans, text.as_slice(), &mut sep, newlines) {
+        Ok(()) => Ok(()),
+        Err(_) => Err(AllocError),
+    }
+}
+
+/// Splits `$0`, if that was put off.
+#[inline(always)]
+pub(crate) fn to_split(
+    form: &mut Form,
+    whole: &Value,
+    spans: &mut Vec<Span>,
+) -> Result<(), AllocError>
+    requires { AreHeld form.old whole.now spans.old.items }
+    ensures held { AreHeld form.new whole.now spans.new.items }
+    ensures same { (own : List AnyValue) → fields_in form.new whole.now spans.new.items own ≡ fields_in form.old whole.now spans.old.items own }
+    ensures ok { OnOk result (IsSplit form.new) }
+{
+    if let Form::Later(by, newlines) = *form {
+        split_whole(spans, whole, by, newlines)?;
+        *form = Form::Parts;
+    }
+    Ok(())
+}
+
 /// The fields become values of their own.
 pub(crate) fn to_own(
     form: &mut Form,
     own: &mut Vec<Value>,
     whole: &Value,
-    spans: &[Span],
+    spans: &mut Vec<Span>,
 ) -> Result<(), AllocError>
-    requires { AreHeld form.old whole.now spans.now }
-    ensures same { fields_in form.new whole.now spans.now own.new.items ≡ fields_in form.old whole.now spans.now own.old.items }
+    requires { AreHeld form.old whole.now spans.old.items }
+    ensures held { AreHeld form.new whole.now spans.new.items }
+    ensures same { fields_in form.new whole.now spans.new.items own.new.items ≡ fields_in form.old whole.now spans.old.items own.old.items }
     ensures ok { OnOk result (form.new ≡ Own) }
-    ensures err { OnErr result (form.new ≡ form.old) }
 {
-    if *form == Form::Parts {
-        fill(own, whole, spans)?;
+    to_split(form, whole, spans)?;
+    if let Form::Parts = *form {
+        fill(own, whole, spans.as_slice())?;
         *form = Form::Own;
     }
     Ok(())

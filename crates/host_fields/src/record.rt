@@ -6,7 +6,7 @@ ghost use Rattle.awk_state.specs.FieldRows.{at_least, field_number};
 ghost use Rattle.host_format.specs.Outcomes.{IsStopOf};
 ghost use Rattle.host_fields.specs.Calls.{IsRecordOf, IsStopOfChange, IsStopOfRecord, Makes, Reads, count_set, field_set};
 
-use crate::fields::{Form, part_of, to_own};
+use crate::fields::{Form, Plain, part_of, to_own, to_split};
 use crate::joined::joined;
 use crate::number::{MOST, field_number};
 use crate::splitter::{LastSep, split};
@@ -29,7 +29,8 @@ fn extend(fields: &mut Vec<Value>, count: usize) -> Result<(), AllocError>
 
 /// The record and its fields (POSIX.1-2017 awk, "Variables and Special Variables"). Contracts see `$0`, and the fields from `$1` on.
 ///
-/// Fields that are split off are parts of the record's text, until a field or NF is set. What the lists take is kept from record to record.
+/// Fields that are split off are parts of the record's text, until a field or NF is set. Mostly they are split off when one of them, or NF, is first
+/// asked for. What the lists take is kept from record to record.
 #[derive(Drop)]
 pub struct Record {
     whole: Value,
@@ -78,7 +79,7 @@ impl Record {
         }
     }
 
-    /// Sets `$0`, and splits it at once.
+    /// Sets `$0`. What separates its fields is that which FS and RS mean now. Where no fault can come of it, `$0` is split when a field or NF is asked for.
     ///
     /// # Errors
     ///
@@ -90,6 +91,14 @@ impl Record {
         ensures refused { OnErr result (self.new ≡ self.old) }
     {
         let newlines = do_newlines_separate(fs, rs);
+        if let Some(by) = Plain::of(fs) {
+            if text.len() < MOST {
+                self.own.clear();
+                self.form = Form::Later(by, newlines);
+                self.whole = Value::StrNum(text);
+                return Ok(());
+            }
+        }
         split(
             &mut self.spare,
             &mut self.last,
@@ -120,12 +129,7 @@ impl Record {
     {
         let alloc = *self.own.allocator();
         let number = field_number(n)?;
-        to_own(
-            &mut self.form,
-            &mut self.own,
-            &self.whole,
-            self.spans.as_slice(),
-        )?;
+        to_own(&mut self.form, &mut self.own, &self.whole, &mut self.spans)?;
         let former = self.own.len();
         extend(&mut self.own, number)?;
         let old = replace(&mut self.own[number - 1], value);
@@ -154,12 +158,7 @@ impl Record {
     {
         let alloc = *self.own.allocator();
         let count = field_number(n)?;
-        to_own(
-            &mut self.form,
-            &mut self.own,
-            &self.whole,
-            self.spans.as_slice(),
-        )?;
+        to_own(&mut self.form, &mut self.own, &self.whole, &mut self.spans)?;
         let former = self.own.len();
         extend(&mut self.own, count)?;
         match joined(alloc, &self.own[..count], ofs) {
@@ -176,9 +175,12 @@ impl Record {
     }
 
     /// A field from `$1` on, where `number` counts from 0. Past NF it has no value.
-    fn own_or_part(&self, number: usize) -> Result<Value, AllocError>
-        ensures { IfOk result (λ value. value ≡ get_or self.now.fields number Uninit) }
+    #[inline(always)]
+    fn own_or_part(&mut self, number: usize) -> Result<Value, AllocError>
+        ensures value { IfOk result (λ value. value ≡ get_or self.old.fields number Uninit) }
+        ensures same { self.new ≡ self.old }
     {
+        to_split(&mut self.form, &self.whole, &mut self.spans)?;
         match self.form {
             Form::Own => match self.own.get(number) {
                 Some(value) => value.clone(),
@@ -188,6 +190,7 @@ impl Record {
                 Some(span) => part_of(&self.whole, *span),
                 None => Ok(Value::Uninit),
             },
+            Form::Later(..) => unreachable!(),
         }
     }
 
@@ -195,10 +198,11 @@ impl Record {
     ///
     /// # Errors
     ///
-    /// `FieldNumber` where the number is below 0 or above 1,048,576; [`Stop::NoMemory`] where the count of those who share the text is full.
-    pub fn field(&self, n: i64) -> Result<Value, Stop>
-        ensures ok { IfOk result (Reads n self.now) }
+    /// `FieldNumber` where the number is below 0 or above 1,048,576; [`Stop::NoMemory`], also where the count of those who share the text is full.
+    pub fn field(&mut self, n: i64) -> Result<Value, Stop>
+        ensures ok { IfOk result (Reads n self.old) }
         ensures err { IfErr result (IsStopOf (field_number n)) }
+        ensures same { self.new ≡ self.old }
     {
         let number = field_number(n)?;
         if number == 0 {
@@ -214,13 +218,20 @@ impl Record {
         &self.whole
     }
 
-    /// NF, the number of fields. It takes no memory.
-    pub fn count(&self) -> usize
-        ensures { result ≡ length self.now.fields }
+    /// NF, the number of fields. Nothing changes.
+    ///
+    /// # Errors
+    ///
+    /// There is no memory.
+    pub fn count(&mut self) -> Result<usize, AllocError>
+        ensures count { IfOk result (λ count. count ≡ length self.old.fields) }
+        ensures same { self.new ≡ self.old }
     {
+        to_split(&mut self.form, &self.whole, &mut self.spans)?;
         match self.form {
-            Form::Own => self.own.len(),
-            Form::Parts => self.spans.len(),
+            Form::Own => Ok(self.own.len()),
+            Form::Parts => Ok(self.spans.len()),
+            Form::Later(..) => unreachable!(),
         }
     }
 }

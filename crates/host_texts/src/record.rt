@@ -24,13 +24,14 @@ use wasm_store::Word;
 
 /// The value of a special variable.
 #[inline(always)]
-fn special_value(texts: &Texts, special: Special) -> Result<Value, AllocError>
-    ensures { IfOk result (λ value. (inner : Inner) → value ≡ special_of (with_texts texts.now inner) special) }
+fn special_value(texts: &mut Texts, special: Special) -> Result<Value, AllocError>
+    ensures value { IfOk result (λ value. (inner : Inner) → value ≡ special_of (with_texts texts.old inner) special) }
+    ensures same { texts.new ≡ texts.old }
 {
     if special != Special::Nf {
         return texts.specials.get(special).clone();
     }
-    match i64::try_from(texts.held.count()) {
+    match i64::try_from(texts.held.count()?) {
         Ok(count) => Ok(Value::Num(count)),
         Err(_) => Err(AllocError),
     }
@@ -39,10 +40,10 @@ fn special_value(texts: &Texts, special: Special) -> Result<Value, AllocError>
 #[inline(always)]
 pub(crate) fn get_special(
     handles: &Handles,
-    texts: &Texts,
+    texts: &mut Texts,
     words: &[Word],
 ) -> Result<Evaluated, Refusal>
-    ensures { (s : HostState) → Evaluates handles.now (holding texts.now s) result (holding texts.now s) (evaluation TextPrimitive.GetSpecial handles.now (holding texts.now s) words.now) }
+    ensures { (s : HostState) → Evaluates handles.now (holding texts.old s) result (holding texts.new s) (evaluation TextPrimitive.GetSpecial handles.now (holding texts.old s) words.now) }
 {
     let (special, rest) = special_front(words)?;
     ends(rest)?;
@@ -130,8 +131,9 @@ fn copied(value: &Value) -> Result<Value, AllocError>
 
 /// What reading a field comes to.
 #[inline(always)]
-fn read_outcome(texts: &Texts, number: i64) -> Result<Result<Reply, Fault>, AllocError>
-    ensures { IfOk result (λ outcome. (inner : Inner) → replied Reply.Value (field_read number (with_texts texts.now inner)) ≡ outcome) }
+fn read_outcome(texts: &mut Texts, number: i64) -> Result<Result<Reply, Fault>, AllocError>
+    ensures outcome { IfOk result (λ outcome. (inner : Inner) → replied Reply.Value (field_read number (with_texts texts.old inner)) ≡ outcome) }
+    ensures same { texts.new ≡ texts.old }
 {
     match texts.held.field(number) {
         Ok(value) => Ok(Ok(Reply::Value(value))),
@@ -141,8 +143,12 @@ fn read_outcome(texts: &Texts, number: i64) -> Result<Result<Reply, Fault>, Allo
 }
 
 #[inline(always)]
-pub(crate) fn field(handles: &Handles, texts: &Texts, words: &[Word]) -> Result<Evaluated, Refusal>
-    ensures { (s : HostState) → Evaluates handles.now (holding texts.now s) result (holding texts.now s) (evaluation TextPrimitive.Field handles.now (holding texts.now s) words.now) }
+pub(crate) fn field(
+    handles: &Handles,
+    texts: &mut Texts,
+    words: &[Word],
+) -> Result<Evaluated, Refusal>
+    ensures { (s : HostState) → Evaluates handles.now (holding texts.old s) result (holding texts.new s) (evaluation TextPrimitive.Field handles.now (holding texts.old s) words.now) }
 {
     let (number, rest) = number_front(words)?;
     ends(rest)?;

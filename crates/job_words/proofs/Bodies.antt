@@ -12,19 +12,21 @@ use Rattle.wasm_types.specs.declared.instr.IRelOp.TheVariants.{GtU, Ne}
 use Rattle.wasm_types.specs.declared.instr.ITestOp.TheVariants.{Eqz}
 use Rattle.wasm_types.specs.declared.instr.Simple.TheVariants.{Br, BrIf, Compare, Convert, GlobalGet, GlobalSet, I32Const, I64Const, LocalGet, LocalSet, Nop, Test}
 use Rattle.wasm_types.specs.declared.types.ValType.TheVariants as ty
+use Rattle.mid_program.specs.Names.{ArrayName}
 use Rattle.mid_program.specs.Mid.{Kind, Boxed, Unboxed, Many, Code, Let, Step, Eval, Block as Steps_, If as Either, Loop, Each, Break, Continue, Next, Exit, ExitWith, Return, Mark, Steps, NoStep, Then as AndThen, Program, a_value, form_of, parameters_at}
-use Rattle.mid_program.specs.Sorted.{Context, all_sorted, fits, is_array_place, is_dropped, is_kept, is_tested, keeps_well, sorted, step_sorted, steps_sorted, stores_well, test_sorted}
+use Rattle.mid_program.specs.Sorted.{Context, all_sorted, calls_of, context_of, fits, is_array_place, is_dropped, is_kept, is_tested, keeps_well, sorted, step_sorted, steps_sorted, stores_well, test_sorted}
 use Rattle.value_machine.specs.Cells.{cell_at}
 use Rattle.value_machine.specs.Emission.{Layout, tested}
 use Rattle.value_machine.specs.Machine.{zeros}
 use Rattle.wasm_types.specs.declared.types.ValType.{ValType}
 use Rattle.value_machine.specs.Places.{Bases, answer_local, array_local, handle_local, handle_types, iterator_local, local_types, number_global, number_local, status_global, temporary_types, way_global}
-use Rattle.value_machine.specs.Quick.{Within, test_within, Source, Named, Constant, joined, all_unsure, Sum, sum_names, sum_op, sum_in, Update, update_in, Counted, counted_in, Pair, pair_names, pair_in, step_jumps, is_nothing}
+use Rattle.value_machine.specs.Quick.{Within, test_within, Source, Named, Constant, joined, all_unsure, Sum, sum_names, sum_op, sum_in, Update, update_in, Tally, tally_in, Counted, counted_in, Pair, pair_names, pair_in, step_jumps, is_nothing}
 use Rattle.value_machine.specs.Small.{ask_row, does, either, moved_out}
-use Rattle.value_machine.specs.Statements.{again, left_by, pair_left, summed, way_exit, way_next, name_read, source_pushed, name_numbered, source_numbered, source_taken, sum_taken, summed_anyway, plainly_dropped, quickly_dropped, left_unless_counted, left_unless_pair, left_unless, all_emptied, arrays_emptied, arrays_swept, before_parts, block, goes_on, has_functions, iterator_left, iterators_emptied, iterators_swept, key_stored, last_part, left_swept, main_body, names_declared, names_made, parameters_dropped, part_done, record_done, records_read, routine_body, routines_declared, step_emitted, steps_emitted, swept, temporaries_emptied, temporaries_swept}
+use Rattle.value_machine.specs.Statements.{again, left_by, pair_left, summed, way_exit, way_next, name_read, source_pushed, name_numbered, source_numbered, source_taken, sum_kept, sum_taken, summed_anyway, element_numbered, element_given, barely_dropped, plainly_dropped, quickly_dropped, left_unless_counted, left_unless_pair, left_unless, all_emptied, arrays_emptied, arrays_swept, before_parts, block, goes_on, has_functions, iterator_left, iterators_emptied, iterators_swept, key_stored, last_part, left_swept, main_body, names_declared, names_made, parameters_dropped, part_done, record_done, records_read, routine_body, routines_declared, step_emitted, steps_emitted, swept, temporaries_emptied, temporaries_swept}
+use Rattle.value_machine.proofs.Tallies.{Shape, Updating, Following, Leading, tally_code, tally_is, tally_sorted}
 use Rattle.value_machine.proofs.Updating.{added_code, added_is}
 use Rattle.job_words.specs.Naming.{is_argv, names_argv, step_names, steps_name}
-use Rattle.job_words.proofs.Emitting.{Always, S, array_spares, dropped_spares, dropped_text, emitted_spares, named, none, none_kept, numbered, one_kept, or_none, pending_spares, start_asked, tested_spares, to_number_spares, to_value_spares}
+use Rattle.job_words.proofs.Emitting.{Always, S, tested_no_array, array_spares, dropped_spares, dropped_text, emitted_spares, named, none, none_kept, numbered, one_kept, or_none, pending_spares, start_asked, tested_spares, to_number_spares, to_value_spares}
 use Rattle.job_words.proofs.Tags.{Tags, is_name, is_other, is_set, popped}
 
 -- what is kept first is sorted
@@ -35,12 +37,33 @@ let_sorted c a e s =
     let z = sorted c (form_of [] a ∷ []) e in
     (and_parts x z (and_parts (keeps_well e) (x && z) (and_parts (is_kept (form_of [] a)) (keeps_well e && (x && z)) s).1).1).0
 
+-- a counter's key, what is added, and its arrays are not ARGV
+tally_names : (i : Shape) (q : Tally) → names_argv (tally_code i q) ≡ false → (names_argv q.key ≡ false) × (names_argv q.added ≡ false) × (is_argv q.read ≡ false) × (is_argv q.written ≡ false)
+tally_names Updating q h =
+    let a = or_none _ _ h in
+    let b = or_none _ _ a.1 in
+    let d = or_none _ _ b.1 in
+    (a.0, b.0, (or_none _ _ (or_none _ _ d.0).0).0, (or_none _ _ (or_none _ _ d.1).0).0)
+tally_names Following q h =
+    let a = or_none _ _ h in
+    let b = or_none _ _ a.1 in
+    let d = or_none _ _ b.1 in
+    (a.0, (or_none _ _ d.0).0, (or_none _ _ (or_none _ _ b.0).0).0, (or_none _ _ (or_none _ _ d.1).0).0)
+tally_names Leading q h =
+    let a = or_none _ _ h in
+    let b = or_none _ _ a.1 in
+    let d = or_none _ _ b.0 in
+    (a.0, (or_none _ _ d.1).0, (or_none _ _ d.0).0, (or_none _ _ (or_none _ _ b.1).0).0)
+
 either_so : (a n : Bool) → n ≡ false → (a || not n) ≡ true
 either_so true n e = refl
 either_so false true e = cc
 either_so false false e = refl
 
-module _ (y : Layout) (sizes : ℕ → Option ℕ) (c : Context) (sized : (f : ℕ) → nat_lt f (length c.calls) ≡ true → sizes f ≡ Some (length (parameters_at y.calls f))) (same : c.calls ≡ y.calls) (ranged : c.ranges ≡ y.ranges) where
+module _ (y : Layout) (sizes : ℕ → Option ℕ) (whole : Program) (own : List Kind) (sized : (f : ℕ) → nat_lt f (length (calls_of whole)) ≡ true → sizes f ≡ Some (length (parameters_at y.calls f))) (same : calls_of whole ≡ y.calls) (ranged : whole.ranges ≡ y.ranges) where
+  abbrev c : Context
+  c = context_of whole own
+
   abbrev b : Bases
   b = y.bases
 
@@ -105,8 +128,19 @@ module _ (y : Layout) (sizes : ℕ → Option ℕ) (c : Context) (sized : (f : �
     taken_spares (Named i) t = record { so = λ A. r.so (true ∷ A) }
     taken_spares (Constant z) t = record { so = λ A. r.so (true ∷ A) }
 
+    kept_spares : (op : IBinOp) (t d : ℕ) → So e (sum_kept y op t d k)
+    kept_spares op t d = record { so = λ A. ((refl, tt), (tt, r.so [])) }
+
+    -- counters in arrays
+    element_spares : (a : ArrayName) (d : ℕ) → is_argv a ≡ false → So e (element_numbered y a d k)
+    element_spares a d n = record { so = λ A. array_spares y sizes _ _ _ a n (refl, (refl, (refl, r.so A))) }
+
+    given_spares : (a : ArrayName) → is_argv a ≡ false → So e (element_given y a k)
+    given_spares a n = record { so = λ A. array_spares y sizes _ _ _ a n (refl, (refl, r.so A)) }
+
+  module _ {e : Bool} {k : Instructions} (r : So e k) where
     sum_spares : (op : IBinOp) (i t d : ℕ) → So e (sum_taken y op i t d k)
-    sum_spares op i t d = record { so = λ A. ((refl, tt), (tt, (dropped_text y sizes stored i).so [])) }
+    sum_spares op i t d = kept_spares (dropped_text y sizes stored i) op t d
       where
         stored : So e (does (LocalGet (number_local b t)) (does (GlobalSet (number_global y.ranges i)) k))
         stored = record { so = λ A. (refl, r.so A) }
@@ -115,8 +149,23 @@ module _ (y : Layout) (sizes : ℕ → Option ℕ) (c : Context) (sized : (f : �
     anyway_spares : (x : Sum) (d : ℕ) → So e (summed_anyway y x d k)
     anyway_spares x d = numbered_spares (numbered_spares (taken_spares (taken_spares (sum_spares r (sum_op x.op) x.target zero d) x.right 1) x.left zero) x.right 1 d) x.left zero d
 
+    barely_spares : (o : Option Tally) (s : Code) (d : ℕ) → tally_in s ≡ o → sorted c [] s ≡ true → names_argv s ≡ false → So e (barely_dropped y o s d k)
+    barely_spares None s d h o q = dropped_spares y sizes c sized same r [] [] s zero zero d none_kept o q
+    barely_spares (Some x) s d h o q =
+        let i = tally_is s x h in
+        let t = tally_sorted whole own i.shape x i.added (subst (λ z. sorted c [] z ≡ true) i.code o) in
+        let n = tally_names i.shape x (subst (λ z. names_argv z ≡ false) i.code q) in
+        let f = form_of [] x.key in
+        emitted_spares y sizes c sized same
+        (emitted_spares y sizes c sized same (to_value_spares y sizes (element_spares (to_number_spares y sizes (summed x n.3) (form_of (f ∷ []) x.added) 1 d) x.read d n.2) f zero)
+        false (f ∷ []) (zero ∷ []) x.added 1 zero d (one_kept f [] (tested_no_array f t.kept) none_kept) t.added n.1)
+        false [] [] x.key zero zero d none_kept t.key n.0
+      where
+        summed : (x : Tally) → is_argv x.written ≡ false → So e (does (LocalGet (number_local b 2)) (does (LocalGet (number_local b 1)) (sum_kept y (sum_op x.op) 2 d (element_given y x.written k))))
+        summed x n = record { so = λ A. (kept_spares (given_spares r x.written n) (sum_op x.op) 2 d).so (true ∷ (true ∷ A)) }
+
     plainly_spares : (o : Option Update) (s : Code) (d : ℕ) → update_in s ≡ o → sorted c [] s ≡ true → names_argv s ≡ false → So e (plainly_dropped y o s d k)
-    plainly_spares None s d h o q = dropped_spares y sizes c sized same r [] [] s zero zero d none_kept o q
+    plainly_spares None s d h o q = barely_spares (tally_in s) s d refl o q
     plainly_spares (Some x) s d h o q =
         let e1 : s ≡ added_code x = (added_is s x h).0 in
         let a1 = let_sorted c x.added _ (subst (λ z. sorted c [] z ≡ true) e1 o) in

@@ -72,7 +72,7 @@ number_no_array (Answered (answer.Of sort.Number)) e = refl
 number_no_array (Answered answer.Truth) e = refl
 number_no_array f e = cc
 
-tested_no_array : (f : Form) → is_tested f ≡ true → fits f sort.Array ≡ false
+pub tested_no_array : (f : Form) → is_tested f ≡ true → fits f sort.Array ≡ false
 tested_no_array (Answered (answer.Of sort.Value)) e = refl
 tested_no_array (Answered (answer.Of sort.Number)) e = refl
 tested_no_array (Answered answer.Truth) e = refl

@@ -93,8 +93,7 @@ module _ (p : Program) (argv : Pairs) where
   body_spares : (r : Routine) → steps_sorted (context_of p r.parameters) true false r.body ≡ true → steps_name r.body ≡ false → BodySpares u argv sizes (routine_callee p r)
   body_spares r s n =
       let y = layout_of p (routine_bases r) in
-      let c = context_of p r.parameters in
-      ((routine_spares y sizes c (sized p) refl refl r.parameters r.body s n).so [], locals_set y sizes c (sized p) refl refl _)
+      ((routine_spares y sizes p r.parameters (sized p) refl refl r.parameters r.body s n).so [], locals_set y sizes p r.parameters (sized p) refl refl _)
 
   bodies : (rs : List Routine) (k : ℕ) (f : Callee) → slice_get (map (routine_callee p) rs) k ≡ Some f → routines_sorted p rs ≡ true → routines_name rs ≡ false → (size_in rs k ≡ Some (length f.kinds)) × BodySpares u argv sizes f
   bodies [] k f e s n = cc
@@ -203,8 +202,8 @@ module _ (p : Program) (is : IsSorted p) (names : program_names p ≡ false) (ag
       let f = main_callee p in
       let y = layout_of p (main_bases p) in
       at_good (code_of p 9999) argv (sizes p argv) false [] [] [] [] (zeros f.locals) [] f.body (record { globals = first_globals p; host = host_at_start set; assigning = None }) tt
-      ((main_spares y (sizes p argv) c0 (sized p) refl refl p s2.0 s3.0 s3.1 n2.0 n3.0 n3.1).so []) tt
-      (λ x q. locals_set y (sizes p argv) c0 (sized p) refl refl _ x (subst (λ z. is_set f.body z ≡ false) (let h : x ≡ 0 + x = omega arith in h) q)) tt (globals_other p argv, refl)
+      ((main_spares y (sizes p argv) p [] (sized p) refl refl p s2.0 s3.0 s3.1 n2.0 n3.0 n3.1).so []) tt
+      (λ x q. locals_set y (sizes p argv) p [] (sized p) refl refl _ x (subst (λ z. is_set f.body z ≡ false) (let h : x ≡ 0 + x = omega arith in h) q)) tt (globals_other p argv, refl)
 
   -- ARGV IS WHAT THE JOB MADE OF IT, wherever a run may come to
   pub argv_there : (m : MachineForm) (c : real.Conf) (s : HostState) → Reached (module_of p) job input outside m c s → HasArgv argv s.shared.inner.arrays

@@ -1,12 +1,13 @@
 -- The shapes that are found, as the definitions see them.
 use Rattle.std.specs.Prelude.{pos, ◌^◌}
 use Rattle.value_machine.specs.Quick as plain
-use Rattle.mid_program.specs.ViewCode.{view}
+use Rattle.mid_program.specs.ViewCode.{view, view_array}
 use Rattle.quick_forms.specs.declared.counted.Counted.{Counted}
 use Rattle.quick_forms.specs.declared.source.Source.{Source}
 use Rattle.quick_forms.specs.declared.source.Source.TheVariants.{Named, Constant}
 use Rattle.quick_forms.specs.declared.sum.Sum.{Sum}
 use Rattle.quick_forms.specs.declared.pair.Pair.{Pair}
+use Rattle.quick_forms.specs.declared.tally.Tally.{Tally}
 use Rattle.quick_forms.specs.declared.update.Update.{Update}
 use Rattle.quick_forms.specs.declared.within.Within.{Within}
 
@@ -29,3 +30,6 @@ view_counted q = record { op = q.op; name = q.name }
 
 abbrev pub view_update : Update → plain.Update
 view_update u = record { target = u.target; op = u.op; name = u.name; added = view u.added.now }
+
+abbrev pub view_tally : Tally → plain.Tally
+view_tally t = record { read = view_array t.read; written = view_array t.written; key = view t.key.now; op = t.op; added = view t.added.now }

@@ -8,6 +8,7 @@ mod operands;
 mod pair;
 mod source;
 mod sum;
+mod tally;
 mod update;
 mod within;
 
@@ -17,5 +18,6 @@ pub use names::{pair_names, sum_names};
 pub use pair::{Pair, contrary, pair_in};
 pub use source::Source;
 pub use sum::{Sum, sum_in};
+pub use tally::{Tally, tally_in};
 pub use update::{Update, update_in};
 pub use within::{Within, test_within};

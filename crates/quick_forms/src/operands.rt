@@ -3,7 +3,8 @@ ghost use Rattle.std.specs.Option.{option_map};
 ghost use Rattle.std.specs.Prelude.{◌≡◌};
 ghost use Rattle.mid_program.specs.Mid.{End};
 ghost use Rattle.mid_program.specs.ViewCode.{before, view, views};
-ghost use Rattle.quick_forms.specs.Operands.{calculated_in, is_bound, number_of, one_code, two_codes};
+ghost use Rattle.quick_forms.specs.Operands.{calculated_in, let_in, number_of, one_code, three_codes, two_codes};
+ghost use Rattle.value_machine.specs.Quick.{is_bound};
 
 use mid_program::{Arithmetic, Code, Operand, Operation};
 
@@ -27,6 +28,22 @@ fn codes_in<'a>(left: &'a Operand, right: &'a Operand) -> Option<(&'a Code, &'a 
     }
 }
 
+/// The code that three operands are.
+fn codes_of<'a>(
+    first: &'a Operand,
+    second: &'a Operand,
+    third: &'a Operand,
+) -> Option<(&'a Code, &'a Code, &'a Code)>
+    ensures { option_map (λ p. (view p.0.now, view p.1.now, view p.2.now)) result ≡ three_codes (before first.now (before second.now (before third.now End))) }
+{
+    match (first, second, third) {
+        (Operand::Code(first), Operand::Code(second), Operand::Code(third)) => {
+            Some((first, second, third))
+        }
+        _ => None,
+    }
+}
+
 /// The operand, where there is one and it is code.
 pub(crate) fn one_code(operands: &[Operand]) -> Option<&Code>
     ensures { option_map (λ e. view e.now) result ≡ one_code (views operands.now) }
@@ -45,6 +62,26 @@ pub(crate) fn two_codes(operands: &[Operand]) -> Option<(&Code, &Code)>
         return None;
     }
     codes_in(&operands[0], &operands[1])
+}
+
+/// The operands, where there are three and all are code.
+pub(crate) fn three_codes(operands: &[Operand]) -> Option<(&Code, &Code, &Code)>
+    ensures { option_map (λ p. (view p.0.now, view p.1.now, view p.2.now)) result ≡ three_codes (views operands.now) }
+{
+    if operands.len() != 3 {
+        return None;
+    }
+    codes_of(&operands[0], &operands[1], &operands[2])
+}
+
+/// What is kept, and the code after it.
+pub(crate) fn let_in(code: &Code) -> Option<(&Code, &Code)>
+    ensures { option_map (λ p. (view p.0.now, view p.1.now)) result ≡ let_in (view code.now) }
+{
+    match code {
+        Code::Let(kept, body) => Some((kept, body)),
+        _ => None,
+    }
 }
 
 /// The operator and the operands of arithmetic that the module carries out.

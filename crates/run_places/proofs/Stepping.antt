@@ -8,13 +8,15 @@ use Rattle.wasm_types.specs.declared.instr.IBinOp.{IBinOp}
 use Rattle.wasm_types.specs.declared.instr.Simple.{Simple}
 use Rattle.wasm_types.specs.declared.instr.Simple.TheVariants.{Br, BrIf, LocalSet, Nop}
 use Rattle.mid_program.specs.Mid.{Kind, Boxed, Unboxed, Many, Code, Step, Eval, Block as Steps_, If as Either, Loop, Each, Break, Continue, Next, Exit, ExitWith, Return, Mark, Steps, NoStep, Then as AndThen, Program, Routine, a_value, form_of}
+use Rattle.mid_program.specs.Names.{ArrayName}
 use Rattle.value_machine.specs.Boundaries.{is_nop, nops_in, nops_of, step_places, steps_places}
 use Rattle.value_machine.specs.Emission.{Layout, tested}
 use Rattle.value_machine.specs.Functions.{layout_of, main_bases, main_callee, routine_bases, routine_callee}
 use Rattle.value_machine.specs.Places.{Bases, answer_local}
-use Rattle.value_machine.specs.Quick.{Within, test_within, Source, Named, Constant, joined, all_unsure, Sum, sum_names, sum_op, sum_in, Update, update_in, Counted, counted_in, Pair, pair_names, pair_in, step_jumps, is_nothing}
+use Rattle.value_machine.specs.Quick.{Within, test_within, Source, Named, Constant, joined, all_unsure, Sum, sum_names, sum_op, sum_in, Update, update_in, Tally, tally_in, Counted, counted_in, Pair, pair_names, pair_in, step_jumps, is_nothing}
 use Rattle.value_machine.specs.Small.{ask_row, does, either}
-use Rattle.value_machine.specs.Statements.{name_read, source_pushed, name_numbered, source_numbered, source_taken, sum_taken, summed_anyway, plainly_dropped, quickly_dropped, left_unless_counted, left_unless_pair, left_unless, all_emptied, arrays_emptied, arrays_swept, before_parts, block, first_part, goes_on, has_functions, iterator_left, iterators_emptied, iterators_swept, key_stored, left_by, left_swept, main_body, names_declared, names_made, parameters_dropped, part_done, record_done, records_read, routine_body, routines_declared, started, step_emitted, steps_emitted, swept, temporaries_emptied, temporaries_swept}
+use Rattle.value_machine.specs.Statements.{name_read, source_pushed, name_numbered, source_numbered, source_taken, sum_kept, sum_taken, summed_anyway, element_numbered, element_given, barely_dropped, plainly_dropped, quickly_dropped, left_unless_counted, left_unless_pair, left_unless, all_emptied, arrays_emptied, arrays_swept, before_parts, block, first_part, goes_on, has_functions, iterator_left, iterators_emptied, iterators_swept, key_stored, left_by, left_swept, main_body, names_declared, names_made, parameters_dropped, part_done, record_done, records_read, routine_body, routines_declared, started, step_emitted, steps_emitted, swept, temporaries_emptied, temporaries_swept}
+use Rattle.value_machine.proofs.Tallies.{Shape, Updating, Following, Leading, tally_code, IsAdded, tally_is}
 use Rattle.value_machine.proofs.Updating.{added_is}
 use Rattle.run_places.specs.Statements.{main_places, main_starts, routine_starts, starts_in, starts_of, step_starts, steps_starts}
 use Rattle.run_places.proofs.Nops.{Nops, array_nops, asked_nops, choice, dropped_nops, emitted_nops, kept_code_nops, kept_number_nops, none, pending_nops, plain, rounds, tested_nops, to_number_nops, to_value_nops}
@@ -52,6 +54,15 @@ none_or false r q = q
 -- what is added has no more operands under a call than the whole
 added_few : (most : ℕ) (e : Code) (q : Update) → update_in e ≡ Some q → Few most zero e → Few most zero q.added
 added_few most e q h lo = (subst (Few most zero) (added_is e q h).0 lo).0
+
+-- nor has a counter's key, and what is added after it
+tally_few : (most : ℕ) (i : Shape) (q : Tally) → IsAdded i q.added → Few most zero (tally_code i q) → Few most zero q.key × Few most 1 q.added
+tally_few most Updating q a lo = (lo.0, lo.1.0)
+tally_few most Following q a lo = (lo.0, subst (Few most 1) (sym a.1) tt)
+tally_few most Leading q a lo = (lo.0, subst (Few most 1) (sym a.1) tt)
+
+counter_few : (most : ℕ) (e : Code) (q : Tally) → tally_in e ≡ Some q → Few most zero e → Few most zero q.key × Few most 1 q.added
+counter_few most e q h lo = let t = tally_is e q h in tally_few most t.shape q t.added (subst (Few most zero) t.code lo)
 
 module _ (y : Layout) (asks : Bool) (most : ℕ) where
   abbrev b : Bases
@@ -105,9 +116,29 @@ module _ (y : Layout) (asks : Bool) (most : ℕ) where
   anyway_nops : {k : Instructions} {m : List Instructions} (x : Sum) (d : ℕ) → Nops l k m → Nops l (summed_anyway y x d k) m
   anyway_nops x d r = numbered_nops x.left zero d (numbered_nops x.right 1 d (taken_nops x.left zero (taken_nops x.right 1 (sum_nops (sum_op x.op) x.target zero d r))))
 
+  -- counters in arrays
+
+  kept_nops : {k : Instructions} {m : List Instructions} (op : IBinOp) (t d : ℕ) → Nops l k m → Nops l (sum_kept y op t d k) m
+  kept_nops op t d r = record { are = r.are; calls = r.calls }
+
+  element_nops : {k : Instructions} {m : List Instructions} (a : ArrayName) (d : ℕ) → Nops l k m → Nops l (element_numbered y a d k) m
+  element_nops a d r = array_nops y asks most a (record { are = r.are; calls = r.calls })
+
+  given_nops : {k : Instructions} {m : List Instructions} (a : ArrayName) → Nops l k m → Nops l (element_given y a k) m
+  given_nops a r = array_nops y asks most a (record { are = r.are; calls = r.calls })
+
+  module _ {k : Instructions} {m : List Instructions} where
+    barely_nops : (o : Option Tally) (e : Code) (d : ℕ) → tally_in e ≡ o → (asks ≡ true → Few most zero e) → Nops l k m → Nops l (barely_dropped y o e d k) m
+    barely_nops None e d h lo r = dropped_nops y asks most [] [] e zero zero d lo r
+    barely_nops (Some q) e d h lo r =
+        let f = form_of [] q.key in
+        emitted_nops y asks most false [] [] q.key zero zero d (λ z. (counter_few most e q h (lo z)).0)
+        (emitted_nops y asks most false (f ∷ []) (zero ∷ []) q.added 1 zero d (λ z. (counter_few most e q h (lo z)).1)
+        (to_value_nops b f zero (element_nops q.read d (to_number_nops b (form_of (f ∷ []) q.added) 1 d (plain _ refl (plain _ refl (kept_nops (sum_op q.op) 2 d (given_nops q.written r))))))))
+
   module _ {k : Instructions} {m : List Instructions} where
     plainly_nops : (o : Option Update) (e : Code) (d : ℕ) → update_in e ≡ o → (asks ≡ true → Few most zero e) → Nops l k m → Nops l (plainly_dropped y o e d k) m
-    plainly_nops None e d h lo r = dropped_nops y asks most [] [] e zero zero d lo r
+    plainly_nops None e d h lo r = barely_nops (tally_in e) e d refl lo r
     plainly_nops (Some q) e d h lo r =
         emitted_nops y asks most false [] [] q.added zero zero d (λ z. added_few most e q h (lo z)) (name_nops q.name 1 d (to_number_nops b (form_of [] q.added) zero d (plain _ refl (plain _ refl (sum_nops (sum_op q.op) q.target zero d r)))))
 

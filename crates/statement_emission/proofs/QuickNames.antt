@@ -9,14 +9,15 @@ use Rattle.mid_program.specs.declared.mid.Arithmetic.{Arithmetic}
 use Rattle.mid_program.specs.declared.mid.Operation.TheVariants.{Inline, AsNumber}
 use Rattle.mid_program.specs.Mid.{Global, Code, Do, Compare, Number, Set, Let, Bound, Codes, End, At}
 use Rattle.value_machine.specs.Emission.{Layout}
-use Rattle.value_machine.specs.Quick.{Source, Named, Constant, Sum, Update, update_in, Counted, counted_of, counted_in, field_count, Pair, Within, all_unsure, joined, shifted, and_name, and_source, both_within, compared_within, constant_in, first_ones, is_among, kept_sum, let_sum, name_in, new_sum, old_source, pair_in, pair_names, pair_of, set_sum, source_in, stored_name, sum_in, sum_names, sum_of, test_within, two_sum, update_sum}
+use Rattle.value_machine.specs.Quick.{Source, Named, Constant, Sum, Update, update_in, Tally, tally_in, Counted, counted_of, counted_in, field_count, Pair, Within, all_unsure, joined, shifted, and_name, and_source, both_within, compared_within, constant_in, first_ones, is_among, kept_sum, let_sum, name_in, new_sum, old_source, pair_in, pair_names, pair_of, set_sum, source_in, stored_name, sum_in, sum_names, sum_of, test_within, two_sum, update_sum}
 use Rattle.value_machine.proofs.Quick.{name_is}
+use Rattle.value_machine.proofs.Tallies.{Shape, Updating, Following, Leading, tally_code, IsAdded, tally_is}
 use Rattle.value_machine.proofs.Updating.{added_is}
 use Rattle.value_machine.proofs.QuickNames.{near_sum, some_is, source_code, source_is, stored_is}
 use Rattle.code_emission.specs.Bounds.{most_places}
 use Rattle.expression_emission.specs.Fits.{AllFit, Fits}
 use Rattle.statement_emission.specs.Parts.{past}
-use Rattle.statement_emission.specs.QuickFits.{NamesFit, PairFits, SourceFits, SumFits}
+use Rattle.statement_emission.specs.QuickFits.{NamesFit, PairFits, SourceFits, SumFits, TallyFits}
 
 -- lists of names
 
@@ -142,6 +143,15 @@ module _ (y : Layout) where
   update_fits_all e q t w d h f =
       let g = subst (λ (x : Code). Fits y x t w d) (added_is e q h).0 f in
       (g.1.1.1.0, g.1.1.1.1.1.0.1, g.1.0)
+
+  -- a counter in an array
+  counter_fits : (i : Shape) (q : Tally) (d : ℕ) → IsAdded i q.added → Fits y (tally_code i q) 0 0 d → TallyFits y q d
+  counter_fits Updating q d a f = (f.1.0, (f.1.1.1.0, (f.1.1.1.1.1.0.1.0.1.0, f.1.1.1.1.1.1.1.0.1.0)))
+  counter_fits Following q d a f = (f.1.0, (subst (λ (e : Code). Fits y e 1 0 d) (sym a.1) f.1.1.0, (f.1.1.1.0.1.0.1.0, f.1.1.1.1.1.1.1.0.1.0)))
+  counter_fits Leading q d a f = (f.1.0, (subst (λ (e : Code). Fits y e 1 0 d) (sym a.1) f.1.1.0, (f.1.1.1.0.1.0.1.0, f.1.1.1.1.1.0.1.0)))
+
+  pub tally_fits : (e : Code) (q : Tally) (d : ℕ) → tally_in e ≡ Some q → Fits y e 0 0 d → TallyFits y q d
+  tally_fits e q d h f = let t = tally_is e q h in counter_fits t.shape q d t.added (subst (λ (x : Code). Fits y x 0 0 d) t.code f)
 
   -- a comparison with how many fields there are
   counted_of_fits : (c : CompareOp) (a : Code) (i : Option ℕ) (j : Bool) (q : Counted) (t w d : ℕ) → name_in a ≡ i → counted_of c i j ≡ Some q → Fits y a t w d → q.name ≤ most_places

@@ -1,22 +1,20 @@
 -- Parts of the definitions, which are added by functions of their own.
-use Rattle.std.specs.Prelude.{ℕ, zero, suc, ◌+◌, Bool, true, false, if◌then◌else◌, List, [], length, Some, is_some, pos, ◌^◌}
-use Rattle.awk_values.specs.declared.fault.Fault.TheVariants.{NextOutside, Range}
+use Rattle.std.specs.Prelude.{ℕ, zero, suc, ◌+◌, Bool, true, false, if◌then◌else◌, List, [], ◌∷◌, length, Some, is_some, pos, ◌^◌}
+use Rattle.awk_values.specs.declared.fault.Fault.TheVariants.{NextOutside}
 use Rattle.awk_state.specs.declared.table.Primitive.TheVariants as row
 use Rattle.wasm_types.specs.Syntax.{Instructions, Done}
 use Rattle.wasm_types.specs.declared.types.ValType.TheVariants.{I32, I64}
 use Rattle.wasm_types.specs.declared.instr.CvtOp.TheVariants.{I32WrapI64}
-use Rattle.wasm_types.specs.declared.instr.IBinOp.{IBinOp}
-use Rattle.wasm_types.specs.declared.instr.IBinOp.TheVariants.{Add}
 use Rattle.wasm_types.specs.declared.instr.IRelOp.TheVariants.{Eq, GtU, LeS, Ne}
 use Rattle.wasm_types.specs.declared.instr.ITestOp.TheVariants.{Eqz}
-use Rattle.wasm_types.specs.declared.instr.Simple.TheVariants.{Nop, Br, BrIf, LocalGet, LocalSet, LocalTee, GlobalGet, GlobalSet, I32Const, I64Const, Test, Compare as Comparing, Binary, Convert}
+use Rattle.wasm_types.specs.declared.instr.Simple.TheVariants.{Nop, Br, BrIf, LocalGet, LocalSet, LocalTee, GlobalGet, GlobalSet, I32Const, I64Const, Test, Compare as Comparing, Convert, Drop as Discard}
 use Rattle.mid_program.specs.Names.{ArrayName}
-use Rattle.mid_program.specs.Mid.{Kind, Boxed, Unboxed, Many, Code, Form, Step, Steps, Program}
-use Rattle.value_machine.specs.Emission.{Layout, array_pushed, pending_assigned, tested}
-use Rattle.value_machine.specs.Quick.{Counted, Pair, Sum, all_unsure, sum_names, Within, is_nothing, pair_in, step_jumps, test_within}
+use Rattle.mid_program.specs.Mid.{Kind, Boxed, Unboxed, Many, Code, Form, Step, Steps, Program, form_of}
+use Rattle.value_machine.specs.Emission.{Layout, array_pushed, emitted, pending_assigned, tested}
+use Rattle.value_machine.specs.Quick.{Counted, Pair, Sum, all_unsure, sum_names, sum_op, Tally, Within, is_nothing, pair_in, step_jumps, test_within}
 use Rattle.value_machine.specs.Places.{Bases, answer_local, handle_global, iterator_local, status_global, way_global}
 use Rattle.value_machine.specs.Small.{ask, ask_row, does, either, end_code, fail_if, h, kept_code, moved_out, n, number_is, text_beside, to_number, to_value, when}
-use Rattle.value_machine.specs.Statements.{again, all_emptied, before_parts, block, first_part, goes_on, iterator_left, key_stored, last_part, left_by, left_unless, left_unless_counted, left_unless_pair, name_numbered, name_read, names_declared, parameters_dropped, part_done, record_done, records_read, routines_declared, step_emitted, steps_emitted, summed, summed_anyway, swept, way_exit, way_next}
+use Rattle.value_machine.specs.Statements.{again, all_emptied, before_parts, block, first_part, goes_on, iterator_left, key_stored, last_part, left_by, left_unless, left_unless_counted, left_unless_pair, name_numbered, name_read, names_declared, parameters_dropped, part_done, record_done, records_read, routines_declared, step_emitted, steps_emitted, sum_kept, element_given, summed, summed_anyway, swept, way_exit, way_next}
 use Rattle.value_machine.specs.declared.import.Import.TheVariants.{Drop}
 use Rattle.statement_emission.specs.declared.around.Around.{Around}
 
@@ -66,14 +64,25 @@ counted_tested y q e d out k = left_unless_counted y (Some q) e d out k
 abbrev pub zero_put : Bases → ℕ → Instructions → Instructions
 zero_put b t k = does (I64Const 0) (does (LocalSet (n b t)) k)
 
--- what an operator gives of two numbers, and the test whether it is in range
-abbrev pub sum_tested : Bases → IBinOp → (t d : ℕ) → Instructions → Instructions
-sum_tested b op t d k =
-    does (Binary I64 op) (does (LocalTee (n b t)) (does (I64Const (2 ^ 53)) (does (Binary I64 Add) (does (I64Const (2 ^ 54)) (does (Comparing I64 GtU) (fail_if Range d k))))))
-
 -- the numbers of a name and of what is added, on the stack
 abbrev pub number_asked : Layout → ℕ → Form → ℕ → Instructions → Instructions
 number_asked y i f d k = name_numbered y i 1 d (to_number y.bases f zero d (does (LocalGet (n y.bases 1)) (does (LocalGet (n y.bases zero)) k)))
+
+-- a counter's key, and what is added
+abbrev pub tally_evaluated : Layout → Tally → ℕ → Instructions → Instructions
+tally_evaluated y q d k = emitted y false [] [] q.key zero zero d (emitted y false (form_of [] q.key ∷ []) (zero ∷ []) q.added 1 zero d k)
+
+-- a second handle of the key asks for the element's number
+abbrev pub element_asked : Bases → Instructions → Instructions
+element_asked b k = does (LocalGet (h b zero)) (does (LocalTee (h b zero)) (ask_row row.Dup (ask_row row.Elem (ask_row row.ToNum k))))
+
+-- the number of the third temporary goes to an element, whose array and key are on the stack
+abbrev pub number_given : Bases → Instructions → Instructions
+number_given b k = does (LocalGet (n b 2)) (ask_row row.Num (ask_row row.SetElem (does Discard k)))
+
+-- an element takes the sum
+abbrev pub sum_given : Layout → Tally → ℕ → Instructions → Instructions
+sum_given y q d k = does (LocalGet (n y.bases 2)) (does (LocalGet (n y.bases 1)) (sum_kept y (sum_op q.op) 2 d (element_given y q.written k)))
 
 -- a turn begins again where the test holds
 abbrev pub tested_on : Layout → Code → ℕ → Instructions → Instructions

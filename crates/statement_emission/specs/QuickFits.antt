@@ -1,7 +1,9 @@
--- Which quick ways can be emitted: the names in them are numbers of globals.
+-- Which quick ways can be emitted: the names in them are numbers of globals, and their code fits.
 use Rattle.std.specs.Prelude.{ℕ, ◌≤◌, List, [], ◌∷◌}
-use Rattle.value_machine.specs.Quick.{Source, Named, Constant, Sum, Pair}
+use Rattle.value_machine.specs.Emission.{Layout}
+use Rattle.value_machine.specs.Quick.{Source, Named, Constant, Sum, Tally, Pair}
 use Rattle.code_emission.specs.Bounds.{most_places}
+use Rattle.expression_emission.specs.Fits.{ArrayFits, Fits}
 
 abbrev pub NamesFit : List ℕ → Type 0
 NamesFit [] = Unit {0}
@@ -16,3 +18,7 @@ SumFits s = (s.target ≤ most_places) × (SourceFits s.left × SourceFits s.rig
 
 abbrev pub PairFits : Pair → Type 0
 PairFits q = SourceFits q.left × SourceFits q.right
+
+-- a counter's key in temporary 0, and what is added in the next one
+abbrev pub TallyFits : Layout → Tally → ℕ → Type 0
+TallyFits y q d = Fits y q.key 0 0 d × (Fits y q.added 1 0 d × (ArrayFits q.read × ArrayFits q.written))

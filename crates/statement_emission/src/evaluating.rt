@@ -3,8 +3,8 @@ ghost use Rattle.std.specs.Prelude.{[], ◌∷◌, ◌≡◌, ◌≤◌, IfOk, O
 ghost use Rattle.mid_program.specs.Mid.{form_of};
 ghost use Rattle.mid_program.specs.ViewCode.{view};
 ghost use Rattle.value_machine.specs.Emission.{dropped, emitted, tested};
-ghost use Rattle.value_machine.specs.Quick.{sum_in, update_in};
-ghost use Rattle.value_machine.specs.Statements.{plainly_dropped, quickly_dropped};
+ghost use Rattle.value_machine.specs.Quick.{sum_in, tally_in, update_in};
+ghost use Rattle.value_machine.specs.Statements.{barely_dropped, plainly_dropped, quickly_dropped};
 ghost use Rattle.code_emission.specs.Bounds.{most_labels, most_places};
 ghost use Rattle.code_emission.specs.Emits.{Emits};
 ghost use Rattle.code_emission.specs.Forms.{view_form};
@@ -17,10 +17,11 @@ ghost use Rattle.statement_emission.specs.QuickFits.{SumFits};
 use crate::leaving::{WAY_EXIT, left_by};
 use crate::quick::{all_unsure, sum_code};
 use crate::summing::{anyway_code, updated};
+use crate::tallying::tallied;
 use code_emission::{Bases, Form, does_all, either, moved_out, to_number, to_value, truth};
 use expression_emission::{At, Kept, Layout, expression, left_over};
 use mid_program::Code;
-use quick_forms::{Sum, sum_in, sum_names, update_in};
+use quick_forms::{Sum, sum_in, sum_names, tally_in, update_in};
 use std::alloc::{AllocError, Global};
 use wasm_types::{Instr, Simple};
 
@@ -41,7 +42,7 @@ pub(crate) fn dropped(
 }
 
 /// Where a statement's code is evaluated.
-fn at_first(exit: u32) -> At
+pub(crate) fn at_first(exit: u32) -> At
     ensures { result ≡ record { temporary = 0; arrays = 0; exit = exit } }
 {
     At {
@@ -78,6 +79,23 @@ fn sum_done(y: &Layout<'_>, out: &mut Vec<Instr>, sum: Sum, exit: u32) -> Result
     either(y.alloc, out, all_cases, quick)
 }
 
+/// Adds code for what it does alone that is no sum for a name.
+fn barely_done(
+    y: &Layout<'_>,
+    out: &mut Vec<Instr>,
+    code: &Code,
+    exit: u32,
+) -> Result<(), AllocError>
+    requires labels { suc (suc exit) ≤ most_labels }
+    requires fit { Fits (view_layout y.now) (view code.now) 0 0 exit }
+    ensures { OnOk result (Emits out.old.items out.new.items (barely_dropped (view_layout y.now) (tally_in (view code.now)) (view code.now) exit)) }
+{
+    match tally_in(code) {
+        Some(tally) => tallied(y, out, tally, exit),
+        None => done_alone(y, out, code, exit),
+    }
+}
+
 /// Adds code for what it does alone that is no sum of sources.
 fn plainly_done(
     y: &Layout<'_>,
@@ -91,7 +109,7 @@ fn plainly_done(
 {
     match update_in(code) {
         Some(update) => updated(y, out, update, exit),
-        None => done_alone(y, out, code, exit),
+        None => barely_done(y, out, code, exit),
     }
 }
 

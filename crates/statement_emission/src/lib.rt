@@ -15,6 +15,7 @@ mod routines;
 mod script;
 mod steps;
 mod summing;
+mod tallying;
 mod testing;
 
 pub use script::{functions, module};

@@ -3,14 +3,14 @@ ghost use Rattle.std.specs.Prelude.{[], ◌≤◌, IfOk, OnOk, suc};
 ghost use Rattle.mid_program.specs.Mid.{form_of};
 ghost use Rattle.mid_program.specs.ViewCode.{view};
 ghost use Rattle.value_machine.specs.Quick.{sum_op};
-ghost use Rattle.value_machine.specs.Statements.{name_numbered, number_found, number_there, source_numbered, source_taken, sum_taken, summed_anyway, updated};
+ghost use Rattle.value_machine.specs.Statements.{name_numbered, number_found, number_there, source_numbered, source_taken, sum_kept, sum_taken, summed_anyway, updated};
 ghost use Rattle.code_emission.specs.Bounds.{most_labels, most_places};
 ghost use Rattle.code_emission.specs.Emits.{Emits};
 ghost use Rattle.code_emission.specs.Forms.{view_form};
 ghost use Rattle.expression_emission.specs.Fits.{Fits};
 ghost use Rattle.expression_emission.specs.View.{view_layout};
 ghost use Rattle.quick_forms.specs.View.{view_source, view_sum, view_update};
-ghost use Rattle.statement_emission.specs.Parts.{number_asked, sum_tested, zero_put};
+ghost use Rattle.statement_emission.specs.Parts.{number_asked, zero_put};
 ghost use Rattle.statement_emission.specs.QuickFits.{SourceFits, SumFits};
 
 use crate::evaluating::answered;
@@ -126,8 +126,8 @@ fn source_taken(
     }
 }
 
-/// Tests what an operator gives of two numbers on the stack.
-fn sum_tested(
+/// Puts what an operator gives of two numbers on the stack into a temporary, and tests it.
+pub(crate) fn sum_kept(
     y: &Layout<'_>,
     out: &mut Vec<Instr>,
     op: IBinOp,
@@ -136,7 +136,7 @@ fn sum_tested(
 ) -> Result<(), AllocError>
     requires places { t ≤ most_places }
     requires labels { exit ≤ most_labels }
-    ensures { OnOk result (Emits out.old.items out.new.items (sum_tested y.now.bases.now op t exit)) }
+    ensures { OnOk result (Emits out.old.items out.new.items (sum_kept (view_layout y.now) op t exit)) }
 {
     let all = [
         Simple::Binary(ValType::I64, op),
@@ -162,7 +162,7 @@ fn sum_taken(
     requires labels { exit ≤ most_labels }
     ensures { OnOk result (Emits out.old.items out.new.items (sum_taken (view_layout y.now) op name 0 exit)) }
 {
-    sum_tested(y, out, op, 0, exit)?;
+    sum_kept(y, out, op, 0, exit)?;
     text_dropped(y, out, name)?;
     let all = [
         Simple::LocalGet(y.bases.number(0)),

@@ -42,7 +42,7 @@ LeftHand (Answered (answer.Of sort.Value)) c = empty
 LeftHand Bare c = empty
 LeftHand f c = c
 
-kept_plain : (g : Form) → is_kept g ≡ true → NoArray g
+pub kept_plain : (g : Form) → is_kept g ≡ true → NoArray g
 kept_plain (Answered (answer.Of sort.Array)) e = absurd cc
 kept_plain g e = tt
 

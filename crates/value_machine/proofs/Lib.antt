@@ -40,6 +40,9 @@ pub mod Walks
 pub mod QuickNames
 pub mod Summing
 pub mod Updating
+pub mod Tallies
+pub mod Tallying
+pub mod Evaluating
 pub mod QuickSteps
 pub mod QuickIfs
 pub mod Jumping

@@ -43,9 +43,9 @@ use Rattle.value_machine.specs.Emission.{tested}
 use Rattle.value_machine.specs.Machine.{Conf, Label, Frame, Store, at, br, label, with_operands, push_result}
 use Rattle.value_machine.specs.Noted.{step_noted, steps_noted}
 use Rattle.value_machine.specs.Places.{Bases, number_global, room, arrays_in, step_room, step_arrays}
-use Rattle.value_machine.specs.Quick.{Within, unsure, name_in, constant_in, first_ones, compared_within, both_within, test_within, Source, Named, Constant, source_in, is_among, and_name, and_source, shifted, joined, all_unsure, Sum, sum_names, Update, update_in, is_near, is_sum, sum_op, sum_of, two_sum, set_sum, kept_sum, update_sum, old_source, stored_name, new_sum, let_sum, sum_in, Counted, field_count, counted_of, counted_in, Pair, pair_names, pair_of, pair_in, contrary}
+use Rattle.value_machine.specs.Quick.{Within, unsure, name_in, constant_in, first_ones, compared_within, both_within, test_within, Source, Named, Constant, source_in, is_among, and_name, and_source, shifted, joined, all_unsure, Sum, sum_names, update_in, is_near, is_sum, sum_op, sum_of, two_sum, set_sum, kept_sum, update_sum, old_source, stored_name, new_sum, let_sum, sum_in, Counted, field_count, counted_of, counted_in, Pair, pair_names, pair_of, pair_in, contrary}
 use Rattle.value_machine.specs.Small.{does, ask_row, text_beside}
-use Rattle.value_machine.specs.Statements.{counted_left, left_unless_counted, source_pushed, summed, summed_anyway, updated, plainly_dropped, quickly_dropped, pair_left, left_unless_pair, left_unless, step_emitted, steps_emitted}
+use Rattle.value_machine.specs.Statements.{counted_left, left_unless_counted, source_pushed, summed, summed_anyway, quickly_dropped, pair_left, left_unless_pair, left_unless, step_emitted, steps_emitted}
 use Rattle.value_machine.proofs.Runs.{Goes, goes_from, goes_to, then_goes, by_steps, stays, first, within, there, then_on, then_step, Onward}
 use Rattle.value_machine.proofs.Locals.{Locals, laid}
 use Rattle.value_machine.proofs.Globals.{Hand as NameHand, Number as NameNumber, with_global_at, placed_again}
@@ -64,12 +64,11 @@ use Rattle.value_machine.proofs.Reading.{kind_below, kind_found}
 use Rattle.value_machine.proofs.Simulation.{work_of, context, layout, ExprOk}
 use Rattle.value_machine.proofs.StatementForms.{flows_on, plain_meant, Starts, starts_after, starts_among, StepDone, StepOk}
 use Rattle.value_machine.proofs.Tidy.{begun_step}
-use Rattle.value_machine.proofs.Sequences.{dropped_ok}
 use Rattle.value_machine.proofs.Branches.{TestDone, test_meant, test_ok, block_ends}
 use Rattle.value_machine.proofs.Quick.{Sure, sure, shown_by, name_is, constant_is, shift_pos, shifted_less, shifted_most, less_holds, most_holds}
 use Rattle.value_machine.proofs.QuickNames.{num_of, word_of, val_of, source_steps, shift_word, joined_word, all_flag, joined_steps, all_steps, AllSure, StandsAmong, source_code, some_is, nought_number, all_sure, among_sure, name_among, source_among, source_still, source_beside, source_is, contrary_holds, pair_few, one_few, near_sum, stored_is, none_new, result_of, sum_few}
 use Rattle.value_machine.proofs.Summing.{Summed, summed_in_turn, IsSource, anyway_ok}
-use Rattle.value_machine.proofs.Updating.{added_code, added_is, updated_ok}
+use Rattle.value_machine.proofs.Evaluating.{plainly_ok}
 
 module _ (p : Program) (deepest : Watch) (ks : List Kind) (F : List Frame) (b : Bases) (M n : ℕ) where
   abbrev kinds : List Kind
@@ -764,22 +763,8 @@ module _ (p : Program) (deepest : Watch) (ks : List Kind) (F : List Frame) (b : 
       chosen a t true eq = anyway a t
       chosen a t false eq = within (machine p deepest ks F) M (work_of e + 10) (work_of e + 90) σ.turns _ (StepDone p deepest ks F b M n lo u bk ct k K l) (Away p deepest ks F b d K) (plain_meant p deepest ks F b M n (Eval e) σ) (omega arith) (sums a t (all_sure (sum_names a) (pos (2 ^ 52)) (2 ^ 53) σ (omega arith) (omega arith) eq))
 
-      -- no sum of sources
-      plainly : (o : Option Update) → update_in e ≡ o → Reached p deepest ks F b M (work_of e + 110) σ.turns (at ks [] K (laid b l) F (plainly_dropped (layout p deepest ks F b M n) o e d k) S) (StepDone p deepest ks F b M n lo u bk ct k K l) (Away p deepest ks F b d K) (plain_meant p deepest ks F b M n (Eval e) σ)
-      plainly None eq = within (machine p deepest ks F) M (work_of e + 8) (work_of e + 110) σ.turns _ (StepDone p deepest ks F b M n lo u bk ct k K l) (Away p deepest ks F b d K) (plain_meant p deepest ks F b M n (Eval e) σ) (omega arith) (dropped_ok p deepest ks F b M n e (exprs e) lo u d bk ct k K l σ srt rm ar s)
-      plainly (Some q) eq = let t = added_is e q eq in updates q t.0 t.1
-        where
-          updates : (q : Update) → e ≡ added_code q → is_sum q.op ≡ true → Reached p deepest ks F b M (work_of e + 110) σ.turns (at ks [] K (laid b l) F (updated (layout p deepest ks F b M n) q d k) S) (StepDone p deepest ks F b M n lo u bk ct k K l) (Away p deepest ks F b d K) (plain_meant p deepest ks F b M n (Eval e) σ)
-          updates q is sm =
-              let c = added_code q in
-              let R = λ (z : Code). (sorted (context p deepest ks F b M n) [] z ≡ true) → (room z ≤ b.temporaries) → (arrays_in z ≤ b.arrays) → Reached p deepest ks F b M (work_of z + 110) σ.turns (at ks [] K (laid b l) F (updated (layout p deepest ks F b M n) q d k) S) (StepDone p deepest ks F b M n lo u bk ct k K l) (Away p deepest ks F b d K) (plain_meant p deepest ks F b M n (Eval z) σ) in
-              subst R (sym is)
-              (λ so1 rm1 ar1. within (machine p deepest ks F) M (work_of q.added + 70) (work_of c + 110) σ.turns _ (StepDone p deepest ks F b M n lo u bk ct k K l) (Away p deepest ks F b d K) (plain_meant p deepest ks F b M n (Eval c) σ) (omega arith)
-              (updated_ok p deepest ks F b M n q (exprs q.added) lo u d bk ct k K l σ so1 sm rm1 ar1 s))
-              srt rm ar
-
       by : (o : Option Sum) → sum_in e ≡ o → Reached p deepest ks F b M (work_of e + 110) σ.turns (at ks [] K (laid b l) F (quickly_dropped (layout p deepest ks F b M n) o e d k) S) (StepDone p deepest ks F b M n lo u bk ct k K l) (Away p deepest ks F b d K) (plain_meant p deepest ks F b M n (Eval e) σ)
-      by None eq = plainly (update_in e) refl
+      by None eq = plainly_ok p deepest ks F b M n exprs lo u d bk ct k K l σ s (update_in e) e refl srt rm ar
       by (Some a) eq =
           let t = sum_is e a eq srt in
           let fw = sum_few a in

@@ -34,7 +34,7 @@ use Rattle.value_machine.specs.Places.{Bases}
 use Rattle.value_machine.specs.Quick.{Source, Named, Constant, Sum, is_sum, sum_op}
 use Rattle.value_machine.specs.Small.{does, fail_if, when, either, number_is, least, text_beside}
 use Rattle.value_machine.specs.Small
-use Rattle.value_machine.specs.Statements.{number_there, name_numbered, source_numbered, source_taken, sum_taken, summed_anyway}
+use Rattle.value_machine.specs.Statements.{number_there, name_numbered, source_numbered, source_taken, sum_kept, sum_taken, summed_anyway}
 use Rattle.value_machine.proofs.Watch.{Watch}
 use Rattle.value_machine.proofs.Runs.{Goes, then_goes, goes_to, goes_from, same_goes, by_steps, stays, there, first, within, weaker, then_settled}
 use Rattle.value_machine.proofs.Regions.{upd_same, upd_other}
@@ -178,30 +178,35 @@ module _ (p : Program) (deepest : Watch) (ks : List Kind) (F : List Frame) (b : 
     pub fit : Fit p deepest ks F 0 u 0 next σ
     pub iterators : (y : ℕ) → next.iterator y ≡ l.iterator y
 
-  -- the sum of two numbers on the stack
+  -- the sum of two numbers on the stack goes to a temporary, and is tested
+  pub sum_kept_ok : (op : IBinOp) (x y : AnyNumber) (z : ℤ) (t u d : ℕ) (k : Instructions) (K : List Label) (l : Locals) (σ : State) → FitsSigned w64 z → binary_at w64 op (number_word x) (number_word y) ≡ Ok (word z) → t < b.temporaries → Fit p deepest ks F (suc t) u 0 l σ → l.hand t ≡ empty →
+      Reached p deepest ks F b M 8 σ.turns (at ks (Bits (I64 (number_word y)) ∷ (Bits (I64 (number_word x)) ∷ [])) K (laid b l) F (sum_kept (layout p deepest ks F b M n) op t d k) (beside_state p deepest ks F σ)) (Put p deepest ks F b t u 0 a_number k K l) (Away p deepest ks F b d K) (settled (outcome_of (checked z)) σ)
+  sum_kept_ok op x y z t u d k K l σ fz e lt ft he =
+      let S = beside_state p deepest ks F σ in
+      let c = Bits (I64 (word z)) in
+      let l1 = with_at l (NumberAt t) c in
+      let f1 = fit_number p deepest ks F t (suc t) u 0 l σ c refl ft in
+      first (machine p deepest ks F) M 4 4 8 σ.turns _ _ (Put p deepest ks F b t u 0 a_number k K l) (Away p deepest ks F b d K) (settled (outcome_of (checked z)) σ)
+      (then_goes (by_steps 1 (ap (λ o. with_operands (push_result [] (Some (given_by I64 o))) ks K (laid b l) F (does (LocalTee (Small.n b t)) (does (I64Const (2 ^ 53)) (does (Binary ty.I64 Add) (does (I64Const (2 ^ 54)) (does (Compare ty.I64 GtU) (fail_if Range d k)))))) S) e))
+      (then_goes (tee_ok b l (NumberAt t) c lt (ft.numbers t)) (by_steps 2 refl))) (omega arith)
+      (tested p deepest ks F b M n z (is_out (word z)) t u 0 d (suc t) 0 k k K l l1 l1 σ (out_word z fz) f1 (omega arith) stays f1 (same_number [] t 0 t l c (omega arith)) he (λ q. upd_same l.number t c))
+
+  -- a name takes it
   pub sum_taken_ok : (op : IBinOp) (i : ℕ) (x y : AnyNumber) (z : ℤ) (u d : ℕ) (k : Instructions) (K : List Label) (l : Locals) (σ : State) → has_kind kinds i Unboxed ≡ true → FitsSigned w64 z → binary_at w64 op (number_word x) (number_word y) ≡ Ok (word z) →
       0 < b.temporaries → Fit p deepest ks F 1 u 0 l σ → l.hand 0 ≡ empty →
       Reached p deepest ks F b M 30 σ.turns (at ks (Bits (I64 (number_word y)) ∷ (Bits (I64 (number_word x)) ∷ [])) K (laid b l) F (sum_taken (layout p deepest ks F b M n) op i zero d k) (beside_state p deepest ks F σ)) (λ a. Summed u k K l) (Away p deepest ks F b d K) (sum_given i σ (outcome_of (checked z)))
   sum_taken_ok op i x y z u d k K l σ hk fz e lt ft he =
       let mach = machine p deepest ks F in
-      let S = beside_state p deepest ks F σ in
-      let c = Bits (I64 (word z)) in
-      let l1 = with_at l (NumberAt 0) c in
-      let f1 = fit_number p deepest ks F 0 1 u 0 l σ c refl ft in
       let k1 = slot_set (layout p deepest ks F b M n) true (Global true i) a_number zero k in
       let Q = Away p deepest ks F b d K in
       let P1 : AnyNumber → State → Conf → Type 0 = λ a. Summed u k K l in
-      let r = sum_given i σ (outcome_of (checked z)) in
-      first mach M 4 20 30 σ.turns _ _ P1 Q r
-      (then_goes (by_steps 1 (ap (λ o. with_operands (push_result [] (Some (given_by I64 o))) ks K (laid b l) F (does (LocalTee (Small.n b 0)) (does (I64Const (2 ^ 53)) (does (Binary ty.I64 Add) (does (I64Const (2 ^ 54)) (does (Compare ty.I64 GtU) (fail_if Range d k1)))))) S) e))
-      (then_goes (tee_ok b l (NumberAt 0) c lt (ft.numbers 0)) (by_steps 2 refl))) (omega arith)
-      (then_settled mach M 4 16 20 _ σ (Put p deepest ks F b 0 u 0 a_number k1 K l1) P1 Q (outcome_of (checked z)) (λ m. store_slot (Global true i) (value.Num m.number) >> give m) (omega arith)
-      (tested p deepest ks F b M n z (is_out (word z)) 0 u 0 d 1 0 k1 k1 K l1 l1 l1 σ (out_word z fz) f1 (omega arith) stays f1 (same_self [] 0 0 l1) he (λ q. upd_same l.number 0 c))
+      then_settled mach M 8 16 30 _ σ (Put p deepest ks F b 0 u 0 a_number k1 K l) P1 Q (outcome_of (checked z)) (λ m. store_slot (Global true i) (value.Num m.number) >> give m) (omega arith)
+      (sum_kept_ok op x y z 0 u d k1 K l σ fz e lt ft he)
       (λ m c1 em a.
       let f0 = fit_less p deepest ks F 0 u 0 a.next σ a.holds.0 a.fit in
       let g = bare_global_set p deepest ks F b M n true a_number i 0 a.next m σ K k lt a.holds.0 a.holds.1 ft.sound.names hk in
       there mach M 16 g.steps c1 _ m (with_global i (value.Num m.number) σ) P1 Q (goes_from a.comes g.goes) (let q = g.few in omega (arith, q))
-      (record { next = a.next; comes = refl; fit = fit_global p deepest ks F b M n i (value.Num m.number) 0 u 0 a.next σ f0; iterators = a.same.iterators })))
+      (record { next = a.next; comes = refl; fit = fit_global p deepest ks F b M n i (value.Num m.number) 0 u 0 a.next σ f0; iterators = a.same.iterators }))
 
   -- Both are there as numbers, and the sum goes to a name.
 

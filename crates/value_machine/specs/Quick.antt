@@ -17,7 +17,8 @@ use Rattle.wasm_types.specs.declared.instr.IRelOp.TheVariants.{GtU}
 use Rattle.mid_program.specs.declared.mid.Arithmetic.{Arithmetic}
 use Rattle.mid_program.specs.declared.mid.Arithmetic.TheVariants as inline
 use Rattle.mid_program.specs.declared.mid.Operation.TheVariants.{Host, Inline, AsNumber}
-use Rattle.mid_program.specs.Mid.{Global, Code, Do, Compare, Number, Get, Set, Seq, Let, Bound, Codes, End, At, Fixed, Step, Eval, Block, If, Loop, Each, Break, Continue, Next, Exit, ExitWith, Return, Mark, Steps, NoStep, Then}
+use Rattle.mid_program.specs.Mid.{Global, Code, Do, Compare, Number, Get, Set, Array, Seq, Let, Bound, Codes, End, At, Fixed, Step, Eval, Block, If, Loop, Each, Break, Continue, Next, Exit, ExitWith, Return, Mark, Steps, NoStep, Then}
+use Rattle.mid_program.specs.Names.{ArrayName}
 use Rattle.value_machine.specs.Small.{does}
 
 -- Numbers of a name: those that are from 0 to a width once this is added to them.
@@ -190,6 +191,101 @@ let_update a e = None
 abbrev pub update_in : Code → Option Update
 update_in (Let a e) = let_update a e
 update_in e = None
+
+-- Counters in arrays, `a[k]++`, `a[k] += e` and their like: the key is kept, what is added is evaluated after it, and an element takes the sum of its number and that. Nobody asks for an answer.
+pub record Tally : Type 0 where
+  pub read : ArrayName
+  pub written : ArrayName
+  pub key : Code
+  pub op : Arithmetic
+  pub added : Code
+
+abbrev pub is_bound : (moves : Bool) → ℕ → Code → Bool
+is_bound true i (Bound true j) = nat_eq j i
+is_bound false i (Bound false j) = nat_eq j i
+is_bound m i e = false
+
+abbrev pub array_here : Code → Option ArrayName
+array_here (Array a) = Some a
+array_here e = None
+
+abbrev pub array_where : Bool → Option ArrayName → Option ArrayName
+array_where t a = if t then a else None
+
+-- `a[k]`, where i others were kept after the key
+abbrev pub element_at : ℕ → Codes → Option ArrayName
+element_at i (At x (At k End)) = array_where (is_bound false i k) (array_here x)
+element_at i es = None
+
+abbrev pub element_read : ℕ → Code → Option ArrayName
+element_read i (Do (Host row.Elem) es) = element_at i es
+element_read i e = None
+
+abbrev pub number_at : Codes → Option ArrayName
+number_at (At e End) = element_read zero e
+number_at es = None
+
+-- its number, where the key was kept last
+abbrev pub number_read : Code → Option ArrayName
+number_read (Do AsNumber es) = number_at es
+number_read e = None
+
+-- `a[k] = v`, where v was kept last, and i others after the key
+abbrev pub taker_at : (moves : Bool) → ℕ → Codes → Option ArrayName
+taker_at m i (At x (At k (At v End))) = array_where (is_bound true i k && is_bound m zero v) (array_here x)
+taker_at m i es = None
+
+abbrev pub element_set : (moves : Bool) → ℕ → Code → Option ArrayName
+element_set m i (Do (Host row.SetElem) es) = taker_at m i es
+element_set m i e = None
+
+-- the same, and the answer is what was kept with j others after it
+abbrev pub element_last : (moves : Bool) → (i j : ℕ) → Code → Option ArrayName
+element_last m i j (Seq s e) = array_where (is_bound true j e) (element_set m i s)
+element_last m i j e = None
+
+abbrev pub tally_of : Arithmetic → Code → Code → Option ArrayName → Option ArrayName → Option Tally
+tally_of o k e (Some a) (Some s) = if is_sum o then Some (record { read = a; written = s; key = k; op = o; added = e }) else None
+tally_of o k e a s = None
+
+-- an operator with operands y and z, where x was kept after the key: `a[k] += x`, or `a[k]++`, whose number before is x
+abbrev pub tally_by : Arithmetic → (k x y z c : Code) → Option Tally
+tally_by o k x y (Bound true zero) c = tally_of o k x (element_read 1 y) (element_last false 2 zero c)
+tally_by o k x y (Number z) c = tally_of o k (Number z) (array_where (is_bound false zero y) (number_read x)) (element_last true 2 1 c)
+tally_by o k x y z c = None
+
+abbrev pub tally_two : Arithmetic → (k x : Code) → Codes → Code → Option Tally
+tally_two o k x (At y (At z End)) c = tally_by o k x y z c
+tally_two o k x es c = None
+
+abbrev pub tally_sum : (k x e c : Code) → Option Tally
+tally_sum k x (Do (Inline o) es) c = tally_two o k x es c
+tally_sum k x e c = None
+
+-- `++a[k]`
+abbrev pub tally_first : Arithmetic → (k y z c : Code) → Option Tally
+tally_first o k y (Number z) c = tally_of o k (Number z) (element_read zero y) (element_last false 1 zero c)
+tally_first o k y z c = None
+
+abbrev pub first_two : Arithmetic → Code → Codes → Code → Option Tally
+first_two o k (At y (At z End)) c = tally_first o k y z c
+first_two o k es c = None
+
+abbrev pub first_sum : (k e c : Code) → Option Tally
+first_sum k (Do (Inline o) es) c = first_two o k es c
+first_sum k e c = None
+
+abbrev pub tally_after : (k x c : Code) → Option Tally
+tally_after k x (Let e c) = tally_sum k x e c
+tally_after k x c = first_sum k x c
+
+abbrev pub tally_kept : (k c : Code) → Option Tally
+tally_kept k (Let x c) = tally_after k x c
+tally_kept k c = None
+
+abbrev pub tally_in : Code → Option Tally
+tally_in (Let k c) = tally_kept k c
+tally_in e = None
 
 -- Comparisons of sources: where all names are in range the module compares.
 pub record Pair : Type 0 where

@@ -17,10 +17,11 @@ use Rattle.wasm_types.specs.declared.instr.IBinOp.TheVariants.{Add}
 use Rattle.wasm_types.specs.declared.instr.IRelOp.TheVariants.{Eq, GtU, LeS, Ne}
 use Rattle.wasm_types.specs.declared.instr.ITestOp.TheVariants.{Eqz}
 use Rattle.wasm_types.specs.declared.instr.CvtOp.TheVariants.{I32WrapI64}
+use Rattle.mid_program.specs.Names.{ArrayName}
 use Rattle.mid_program.specs.Mid.{Kind, Boxed, Unboxed, Many, Code, Step, Eval, Block as Steps_, If as Either, Loop, Each, Break, Continue, Next, Exit, ExitWith, Return, Mark, Steps, NoStep, Then as AndThen, Program, a_value, form_of}
 use Rattle.value_machine.specs.Places.{Bases, way_global, status_global, range_global, handle_global, number_global, answer_local, iterator_local, array_local}
-use Rattle.value_machine.specs.Small.{does, ask, ask_row, when, either, end_code, text_beside, copied, moved_out, emptied, let_go, fail_if, number_is, h, n, kept_code, kept_number, to_value, number_of_value, to_number}
-use Rattle.value_machine.specs.Quick.{Within, unsure, test_within, Source, Named, Constant, all_unsure, Sum, sum_names, sum_op, sum_in, Update, update_in, Counted, counted_in, Pair, pair_names, pair_in, contrary, step_jumps, is_nothing}
+use Rattle.value_machine.specs.Small.{does, ask, ask_row, when, either, end_code, text_beside, copied, moved_out, emptied, let_go, fail_if, number_is, h, n, kept_code, kept_number, kept_done, to_value, number_of_value, to_number}
+use Rattle.value_machine.specs.Quick.{Within, unsure, test_within, Source, Named, Constant, all_unsure, Sum, sum_names, sum_op, sum_in, Update, update_in, Tally, tally_in, Counted, counted_in, Pair, pair_names, pair_in, contrary, step_jumps, is_nothing}
 use Rattle.value_machine.specs.Arithmetic.{relation}
 use Rattle.value_machine.specs.Emission.{Layout, array_pushed, text_pushed, pending_assigned, asked, text_dropped, emitted, dropped, tested}
 use Rattle.value_machine.specs.declared.import.Import.TheVariants.{Drop, IterFree, FreeArray}
@@ -101,11 +102,13 @@ module _ (y : Layout) where
   source_taken (Constant z) t k = does (I64Const (cast_unsigned w64 z)) k
   source_taken s t k = does (LocalGet (n b t)) k
 
-  -- two numbers are on the stack: what an operator gives of them is tested, and a name takes it
+  -- two numbers are on the stack: what an operator gives of them goes to temporary t, and is tested
+  abbrev pub sum_kept : IBinOp → (t d : ℕ) → Instructions → Instructions
+  sum_kept op t d k = does (Binary I64 op) (does (LocalTee (n b t)) (does (I64Const (2 ^ 53)) (does (Binary I64 Add) (does (I64Const (2 ^ 54)) (does (Comparing I64 GtU) (fail_if Range d k))))))
+
+  -- the same, and a name takes it
   abbrev pub sum_taken : IBinOp → ℕ → (t d : ℕ) → Instructions → Instructions
-  sum_taken op i t d k =
-      does (Binary I64 op) (does (LocalTee (n b t)) (does (I64Const (2 ^ 53)) (does (Binary I64 Add) (does (I64Const (2 ^ 54)) (does (Comparing I64 GtU) (fail_if Range d
-      (text_dropped y i (does (LocalGet (n b t)) (does (GlobalSet (name_number i)) k)))))))))
+  sum_taken op i t d k = sum_kept op t d (text_dropped y i (does (LocalGet (n b t)) (does (GlobalSet (name_number i)) k)))
 
   abbrev pub summed_anyway : Sum → ℕ → Instructions → Instructions
   summed_anyway s d k =
@@ -117,8 +120,30 @@ module _ (y : Layout) where
       emitted y false [] [] q.added zero zero d (name_numbered q.name 1 d (to_number b (form_of [] q.added) zero d
       (does (LocalGet (n b 1)) (does (LocalGet (n b zero)) (sum_taken (sum_op q.op) q.target zero d k)))))
 
+  -- Counters in arrays: the key stands in temporary 0, what is added in the next one, and the element's number comes to the one after.
+
+  -- the number of the element, whose key stays where it is
+  abbrev pub element_numbered : ArrayName → ℕ → Instructions → Instructions
+  element_numbered a d k =
+      array_pushed y a (does (LocalGet (h b zero)) (does (LocalTee (h b zero)) (ask_row row.Dup (ask_row row.Elem (ask_row row.ToNum (kept_number b true 2 d k))))))
+
+  -- the element takes that number, and the key is given away
+  abbrev pub element_given : ArrayName → Instructions → Instructions
+  element_given a k = array_pushed y a (moved_out (h b zero) (does (LocalGet (n b 2)) (ask_row row.Num (ask_row row.SetElem (kept_done b false zero k)))))
+
+  abbrev pub tallied : Tally → ℕ → Instructions → Instructions
+  tallied q d k =
+      let g = form_of [] q.key in
+      emitted y false [] [] q.key zero zero d (emitted y false (g ∷ []) (zero ∷ []) q.added 1 zero d
+      (to_value b g zero (element_numbered q.read d (to_number b (form_of (g ∷ []) q.added) 1 d
+      (does (LocalGet (n b 2)) (does (LocalGet (n b 1)) (sum_kept (sum_op q.op) 2 d (element_given q.written k))))))))
+
+  abbrev pub barely_dropped : Option Tally → Code → ℕ → Instructions → Instructions
+  barely_dropped None e d k = dropped y [] [] e zero zero d k
+  barely_dropped (Some q) e d k = tallied q d k
+
   abbrev pub plainly_dropped : Option Update → Code → ℕ → Instructions → Instructions
-  plainly_dropped None e d k = dropped y [] [] e zero zero d k
+  plainly_dropped None e d k = barely_dropped (tally_in e) e d k
   plainly_dropped (Some q) e d k = updated q d k
 
   abbrev pub quickly_dropped : Option Sum → Code → ℕ → Instructions → Instructions

@@ -1,16 +1,18 @@
 -- What runs take: `n` is unboxed, and no import is called where it counts.
-use Rattle.std.specs.Prelude.{◌≡◌, ℕ, Bool, true, false, List, [], ◌∷◌, codes, None, Some, pos, refl}
+use Rattle.std.specs.Prelude.{◌≡◌, ℕ, ◌+◌, Bool, true, false, List, [], ◌∷◌, codes, None, Some, pos, refl}
 use Rattle.std.specs.Fmt.{digits}
 use Rattle.awk_values.specs.declared.comparison.CompareOp.TheVariants.{Less, LessOrEqual}
 use Rattle.awk_values.specs.declared.fault.Fault.TheVariants.{TextLimit}
 use Rattle.world_core.specs.WorldState.{Standard, absent, puts}
 use Rattle.world_core.specs.declared.world.Ending.TheVariants as outside
 use Rattle.awk_state.specs.declared.constants.Destination.TheVariants as to
+use Rattle.awk_state.specs.declared.table.Primitive.TheVariants.{Elem, SetElem}
 use Rattle.awk_state.specs.declared.table.Listed.TheVariants.{Print}
 use Rattle.mid_program.specs.ScriptRun.{Setting, Ended, FaultedBy, setting_of}
 use Rattle.mid_program.specs.declared.mid.Arithmetic.TheVariants.{Plus}
-use Rattle.mid_program.specs.declared.mid.Operation.TheVariants.{AsNumber, Inline}
-use Rattle.mid_program.specs.Mid.{Kind, Boxed, Unboxed, Global, Code, Do, Over, Compare, Number, Get, Set, Seq, Let, Bound, End, At, Declared, Step, Eval, Block, Loop, Steps, NoStep, Then, Program}
+use Rattle.mid_program.specs.declared.mid.Operation.TheVariants.{AsNumber, Host, Inline}
+use Rattle.mid_program.specs.Names.{Numbered}
+use Rattle.mid_program.specs.Mid.{Kind, Boxed, Unboxed, Many, Global, Code, Do, Over, Compare, Number, Text, Array, Get, Set, Seq, Let, Bound, End, At, Declared, Step, Eval, Block, Loop, Steps, NoStep, Then, Program}
 use Rattle.mid_program.specs.Sorted.{sorted, all_sorted, step_sorted, steps_sorted, is_sorted}
 use Rattle.value_machine.specs.Emission.{emitted, all_emitted}
 use Rattle.value_machine.specs.Statements.{step_emitted, steps_emitted}
@@ -120,3 +122,26 @@ summed_to_ten = (refl, refl)
 pub summing_rounds : (steps_of (summing 10) ≡ 484) × (steps_of (summing 20) ≡ 834)
 unfolding emitted all_emitted step_emitted steps_emitted digits
 summing_rounds = (refl, refl)
+
+-- BEGIN { while (n < k) { n = n + 1; c["x"]++ } }
+abbrev counter : Code
+counter =
+    Let (Text 0) (Let (Do AsNumber (At (Do (Host Elem) (At (Array (Numbered 2)) (At (Bound false 0) End))) End))
+    (Let (Do (Inline Plus) (At (Bound false 0) (At (Number (pos 1)) End))) (Seq (Do (Host SetElem) (At (Array (Numbered 2)) (At (Bound true 2) (At (Bound true 0) End)))) (Bound true 1))))
+
+abbrev tallying : ℕ → Program
+tallying k = record {
+  texts = codes "x" ∷ [];
+  globals = unboxed_name (codes "n") ∷ ((record { name = codes "c"; kind = Many }) ∷ []);
+  routines = [];
+  ranges = 1;
+  begin = Then (Loop true (Compare Less (n_of true) (Number (pos k))) (Block (Then (n_plus_one true) (Then (Eval counter) NoStep))) (Block NoStep)) NoStep;
+  reads = false;
+  items = NoStep;
+  end = NoStep;
+}
+
+-- 44 steps a round, 28 of them and all 6 imports for the counter
+pub tallying_rounds : (steps_of (tallying 20) ≡ steps_of (tallying 10) + 440) × (imports_of (tallying 20) ≡ imports_of (tallying 10) + 60)
+unfolding emitted all_emitted step_emitted steps_emitted digits
+tallying_rounds = (refl, refl)

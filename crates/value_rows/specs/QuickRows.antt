@@ -1,13 +1,13 @@
 -- Which statements and tests have a quick way, and between which bounds.
 use Rattle.std.specs.Prelude.{◌≡◌, ℕ, ◌+◌, ◌-◌, ◌^◌, Bool, true, false, List, [], ◌∷◌, Some, None, ℤ, pos, negsuc, refl}
 use Rattle.awk_values.specs.declared.comparison.CompareOp.TheVariants.{Equal, Less, LessOrEqual}
-use Rattle.awk_state.specs.declared.table.Primitive.TheVariants.{GetSpecial}
+use Rattle.awk_state.specs.declared.table.Primitive.TheVariants.{Elem, Field, GetSpecial, SetElem}
 use Rattle.mid_program.specs.declared.mid.Arithmetic.{Arithmetic}
 use Rattle.mid_program.specs.declared.mid.Arithmetic.TheVariants.{Minus, Plus, Times}
 use Rattle.mid_program.specs.declared.mid.Operation.TheVariants.{AsNumber, Host, Inline}
-use Rattle.mid_program.specs.Mid.{At, Block, Bound, Break, Code, Compare, Continue, Do, Each, End, Eval, Fixed, Get, Global, If, Let, Loop, NoStep, Number, Parameter, Seq, Set, Step, Then}
+use Rattle.mid_program.specs.Mid.{Array, At, Block, Bound, Break, Code, Compare, Continue, Do, Each, End, Eval, Fixed, Get, Global, If, Let, Loop, NoStep, Number, Parameter, Seq, Set, Step, Then}
 use Rattle.mid_program.specs.Names.{Numbered}
-use Rattle.value_machine.specs.Quick.{Constant, Named, counted_in, is_nothing, pair_in, step_jumps, sum_in, sum_names, test_within, update_in}
+use Rattle.value_machine.specs.Quick.{Constant, Named, counted_in, is_nothing, pair_in, step_jumps, sum_in, sum_names, tally_in, test_within, update_in}
 
 -- unboxed names
 abbrev name : ℕ → Code
@@ -45,6 +45,37 @@ pub updates : (update_in (updated 7 Minus (Get (Global false 5))) ≡ Some (reco
     × ((update_in (updated 7 Times (Get (Global false 5))) ≡ None)
     × (update_in (assigned 7 (joined Plus (name 7) (Get (Global false 5)))) ≡ None))
 updates = (refl, (refl, refl))
+
+-- `a[$1]++`, `a[$1] += e` and `++a[$1]`, for the array 2 and `$1`
+
+abbrev first_field : Code
+first_field = Do (Host Field) (At (Number (pos 1)) End)
+
+abbrev element : ℕ → Code
+element i = Do (Host Elem) (At (Array (Numbered 2)) (At (Bound false i) End))
+
+abbrev set_element : Bool → ℕ → Code
+set_element m i = Do (Host SetElem) (At (Array (Numbered 2)) (At (Bound true i) (At (Bound m 0) End)))
+
+abbrev stepped_after : Arithmetic → Code
+stepped_after o = Let first_field (Let (Do AsNumber (At (element 0) End)) (Let (joined o (Bound false 0) (Number (pos 1))) (Seq (set_element true 2) (Bound true 1))))
+
+abbrev added_to : Arithmetic → Code → Code
+added_to o e = Let first_field (Let e (Let (joined o (element 1) (Bound true 0)) (Seq (set_element false 2) (Bound true 0))))
+
+abbrev stepped_before : Arithmetic → Code
+stepped_before o = Let first_field (Let (joined o (element 0) (Number (pos 1))) (Seq (set_element false 1) (Bound true 0)))
+
+pub counters : (tally_in (stepped_after Minus) ≡ Some (record { read = Numbered 2; written = Numbered 2; key = first_field; op = Minus; added = Number (pos 1) }))
+    × ((tally_in (added_to Plus first_field) ≡ Some (record { read = Numbered 2; written = Numbered 2; key = first_field; op = Plus; added = first_field }))
+    × (tally_in (stepped_before Plus) ≡ Some (record { read = Numbered 2; written = Numbered 2; key = first_field; op = Plus; added = Number (pos 1) })))
+counters = (refl, (refl, refl))
+
+-- a product, a sum that is not stored, the element of what was kept before the key
+pub no_counters : (tally_in (added_to Times first_field) ≡ None)
+    × ((tally_in (Let first_field (Let first_field (joined Plus (element 1) (Bound true 0)))) ≡ None)
+    × (tally_in (Let first_field (Let first_field (Let (joined Plus (element 2) (Bound true 0)) (Seq (set_element false 2) (Bound true 0))))) ≡ None))
+no_counters = (refl, (refl, refl))
 
 -- NF has the number 5
 pub counts : (counted_in (Compare LessOrEqual (name 7) (Do (Host GetSpecial) (Fixed 5 End))) ≡ Some (record { op = LessOrEqual; name = 7 }))

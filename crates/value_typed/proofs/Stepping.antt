@@ -11,21 +11,23 @@ use Rattle.wasm_types.specs.declared.types.ValType.TheVariants.{I32, I64}
 use Rattle.wasm_types.specs.declared.instr.IBinOp.{IBinOp}
 use Rattle.wasm_types.specs.declared.instr.Simple.TheVariants.{GlobalGet}
 use Rattle.mid_program.specs.Mid.{Kind, Unboxed, Program, Code, Step, Eval, Block, If, Loop, Each, Break, Continue, Next, Exit as ExitStep, ExitWith, Return, Mark, Steps, NoStep, Then, Form, a_value, form_of}
+use Rattle.mid_program.specs.Names.{ArrayName}
 use Rattle.mid_program.specs.Sorted.{context_of, kinds_of, is_array_place, fits, is_tested, is_dropped, stores_well, sorted, test_sorted, step_sorted, steps_sorted}
 use Rattle.value_machine.specs.Emission.{dropped, tested}
 use Rattle.value_machine.specs.Functions.{layout_of}
 use Rattle.value_machine.specs.Places.{Bases, room, arrays_in, step_room, steps_room, step_arrays, steps_arrays, step_iterators, steps_iterators}
-use Rattle.value_machine.specs.Quick.{Within, unsure, test_within, Source, Named, Constant, joined, all_unsure, Sum, sum_names, sum_op, sum_in, Update, update_in, Counted, counted_in, Pair, pair_names, pair_in, step_jumps, is_nothing}
+use Rattle.value_machine.specs.Quick.{Within, unsure, test_within, Source, Named, Constant, joined, all_unsure, Sum, sum_names, sum_op, sum_in, Update, update_in, Tally, tally_in, Counted, counted_in, Pair, pair_names, pair_in, step_jumps, is_nothing}
 use Rattle.value_machine.specs.Machine.{no_notes}
 use Rattle.value_machine.proofs.QuickSteps.{AllUnboxed, SourceFits, near_source, test_is, sum_is, sum_unboxed, pair_is, pair_unboxed, counted_is}
 use Rattle.value_machine.proofs.Summing.{IsSource}
+use Rattle.value_machine.proofs.Tallies.{Shape, tally_code, IsAdded, tally_is, tally_room, tally_sorted}
 use Rattle.value_machine.proofs.Updating.{added_code, added_is, added_sorted}
 use Rattle.value_machine.proofs.Watch.{Watch}
-use Rattle.value_machine.specs.Statements.{name_read, source_pushed, name_numbered, source_numbered, source_taken, sum_taken, summed_anyway, updated, plainly_dropped, quickly_dropped, left_unless_counted, left_unless_pair, left_unless, left_by, key_stored, iterator_left, step_emitted, steps_emitted}
+use Rattle.value_machine.specs.Statements.{name_read, source_pushed, name_numbered, source_numbered, source_taken, sum_kept, sum_taken, summed_anyway, updated, element_numbered, element_given, tallied, barely_dropped, plainly_dropped, quickly_dropped, left_unless_counted, left_unless_pair, left_unless, left_by, key_stored, iterator_left, step_emitted, steps_emitted}
 use Rattle.value_machine.specs.declared.import.Import.TheVariants.{Of, Drop, IterFree}
-use Rattle.value_typed.proofs.Singles.{Stack, Labels, Exit, inner, nearest, reads_global, writes_global, nothing, called, get, put, tee, read, write, word, long, binary, variable, compare, test, leave, leave_if, blocked, looped, branched}
+use Rattle.value_typed.proofs.Singles.{Stack, Labels, Exit, inner, nearest, reads_global, writes_global, nothing, called, get, put, tee, read, write, word, long, binary, variable, compare, test, discard, leave, leave_if, blocked, looped, branched}
 use Rattle.value_typed.proofs.Standing.{Stands, kind_below}
-use Rattle.value_typed.proofs.Pieces.{moved_out_ok, emptied_ok, copied_ok, let_go_ok, fail_if_ok, number_is_ok, number_of_value_ok, to_value_ok, to_number_ok, truth_ok}
+use Rattle.value_typed.proofs.Pieces.{moved_out_ok, emptied_ok, copied_ok, let_go_ok, fail_if_ok, number_is_ok, kept_number_ok, number_of_value_ok, to_value_ok, to_number_ok, truth_ok}
 use Rattle.value_typed.proofs.Slots.{array_pushed_ok, text_dropped_ok}
 use Rattle.value_typed.proofs.Rows.{room_there}
 use Rattle.value_typed.proofs.Emitting.{AreBelow, one_more_below, none_below, left_over_ok, code_ok}
@@ -95,9 +97,12 @@ module _ {p : Program} {ks : List Kind} {b : Bases} {C : Context} (at : Stands p
     source_taken_ok (Named i) t lt r = get (at.number t lt) r
     source_taken_ok (Constant z) t lt r = long r
 
+    sum_kept_ok : {t d : ℕ} (op : IBinOp) → t < b.temporaries → Exit L d → CodeOk C L k [] rs → CodeOk C L (sum_kept (layout_of p b) op t d k) (I64 ∷ (I64 ∷ [])) rs
+    sum_kept_ok {t = t} op lt x r = binary (tee (at.number t lt) (long (binary (long (compare (fail_if_ok at Range x r))))))
+
+  module _ {L : Labels} {k : Instructions} {rs : Stack} where
     sum_taken_ok : {t d : ℕ} (op : IBinOp) (i : ℕ) → i < length (kinds_of p.globals) → t < b.temporaries → Exit L d → CodeOk C L k [] rs → CodeOk C L (sum_taken (layout_of p b) op i t d k) (I64 ∷ (I64 ∷ [])) rs
-    sum_taken_ok {t = t} op i li lt x r =
-        binary (tee (at.number t lt) (long (binary (long (compare (fail_if_ok at Range x (text_dropped_ok at li (get (at.number t lt) (write (at.name_number i li) r)))))))))
+    sum_taken_ok {t = t} op i li lt x r = sum_kept_ok {t = t} op lt x (text_dropped_ok at li (get (at.number t lt) (write (at.name_number i li) r)))
 
   module _ {L : Labels} {k : Instructions} {rs : Stack} where
     anyway_ok : {d : ℕ} (s : Sum) → IsSource p unwatched ks [] b 0 0 s.left → IsSource p unwatched ks [] b 0 0 s.right → s.target < length (kinds_of p.globals) → 1 < b.temporaries → Exit L d →
@@ -116,10 +121,45 @@ module _ {p : Program} {ks : List Kind} {b : Bases} {C : Context} (at : Stands p
         (to_number_ok at (form_of [] q.added) (omega (arith, h, he)) x (get (at.number 1 (omega (arith, h, he))) (get (at.number 0 (omega (arith, h, he)))
         (sum_taken_ok {t = 0} (sum_op q.op) q.target (kind_below (kinds_of p.globals) q.target Unboxed t.kind) (omega (arith, h, he)) x r)))))
 
+  -- counters in arrays
+  module _ {L : Labels} {k : Instructions} {rs : Stack} where
+    element_numbered_ok : {d : ℕ} (a : ArrayName) → is_array_place (context_of p ks) a ≡ true → 2 < b.temporaries → Exit L d → CodeOk C L k [] rs → CodeOk C L (element_numbered (layout_of p b) a d k) [] rs
+    element_numbered_ok a h lt x r =
+        let lh : 0 < b.temporaries = omega (arith, lt) in
+        array_pushed_ok at a h (get (at.handle 0 lh) (tee (at.handle 0 lh) (called (I32 ∷ []) (at.imported (Of row.Dup)) (called [] (at.imported (Of row.Elem)) (called [] (at.imported (Of row.ToNum)) (kept_number_ok at true lt x r))))))
+
+    element_given_ok : (a : ArrayName) → is_array_place (context_of p ks) a ≡ true → 2 < b.temporaries → CodeOk C L k [] rs → CodeOk C L (element_given (layout_of p b) a k) [] rs
+    element_given_ok a h lt r =
+        let lh : 0 < b.temporaries = omega (arith, lt) in
+        array_pushed_ok at a h (moved_out_ok at (at.handle 0 lh) (get (at.number 2 lt) (called (I32 ∷ (I32 ∷ [])) (at.imported (Of row.Num)) (called [] (at.imported (Of row.SetElem)) (discard r)))))
+
+  module _ {L : Labels} {k : Instructions} {rs : Stack} where
+    tallied_ok : {d : ℕ} (q : Tally) (i : Shape) → IsAdded i q.added → sorted (context_of p ks) [] (tally_code i q) ≡ true → room (tally_code i q) ≤ b.temporaries → arrays_in (tally_code i q) ≤ b.arrays → Exit L d →
+        CodeOk C L k [] rs → CodeOk C L (tallied (layout_of p b) q d k) [] rs
+    tallied_ok {d = d} q i added s h g x r =
+        let t = tally_sorted p ks i q added s in
+        let m = tally_room i q in
+        let f = form_of [] q.key in
+        let lt : 2 < b.temporaries = omega (arith, h, m.three) in
+        let l1 : 1 < b.temporaries = omega (arith, lt) in
+        let l0 : 0 < b.temporaries = omega (arith, lt) in
+        code_ok at false [] [] q.key 0 0 d (none_below b.temporaries l0) t.key (omega (arith, h, m.key)) (omega (arith, g, m.key_arrays)) x
+        (code_ok at false (f ∷ []) (0 ∷ []) q.added 1 0 d (one_more_below 0 b.temporaries [] l0 (none_below b.temporaries l0)) t.added (omega (arith, h, m.added)) (omega (arith, g, m.added_arrays)) x
+        (to_value_ok at f l0 (element_numbered_ok q.read t.reads lt x (to_number_ok at (form_of (f ∷ []) q.added) l1 x (get (at.number 2 lt) (get (at.number 1 l1)
+        (sum_kept_ok {t = 2} (sum_op q.op) lt x (element_given_ok q.written t.writes lt r))))))))
+
+    barely_dropped_ok : (o : Option Tally) (e : Code) (d : ℕ) → tally_in e ≡ o → sorted (context_of p ks) [] e ≡ true → room e ≤ b.temporaries → arrays_in e ≤ b.arrays → Exit L d →
+        CodeOk C L k [] rs → CodeOk C L (barely_dropped (layout_of p b) o e d k) [] rs
+    barely_dropped_ok None e d eq s h g x r = let he = room_there e in dropped_ok [] [] e 0 0 d (none_below b.temporaries (omega (arith, h, he))) s (omega (arith, h)) (omega (arith, g)) x r
+    barely_dropped_ok (Some q) e d eq s h g x r =
+        let t = tally_is e q eq in
+        subst (λ (c : Code). sorted (context_of p ks) [] c ≡ true → room c ≤ b.temporaries → arrays_in c ≤ b.arrays → CodeOk C L (tallied (layout_of p b) q d k) [] rs) (sym t.code)
+        (λ s1 h1 g1. tallied_ok q t.shape t.added s1 h1 g1 x r) s h g
+
   module _ {L : Labels} {k : Instructions} {rs : Stack} where
     plainly_dropped_ok : (o : Option Update) (e : Code) (d : ℕ) → update_in e ≡ o → sorted (context_of p ks) [] e ≡ true → room e ≤ b.temporaries → arrays_in e ≤ b.arrays → Exit L d →
         CodeOk C L k [] rs → CodeOk C L (plainly_dropped (layout_of p b) o e d k) [] rs
-    plainly_dropped_ok None e d eq s h g x r = let he = room_there e in dropped_ok [] [] e 0 0 d (none_below b.temporaries (omega (arith, h, he))) s (omega (arith, h)) (omega (arith, g)) x r
+    plainly_dropped_ok None e d eq s h g x r = barely_dropped_ok (tally_in e) e d refl s h g x r
     plainly_dropped_ok (Some q) e d eq s h g x r =
         subst (λ (c : Code). sorted (context_of p ks) [] c ≡ true → room c ≤ b.temporaries → arrays_in c ≤ b.arrays → CodeOk C L (updated (layout_of p b) q d k) [] rs) (sym (added_is e q eq).0)
         (λ s1 h1 g1. updated_ok q s1 h1 g1 x r) s h g

@@ -1,0 +1,17 @@
+-- A record that was split when it was asked for has the fields that it had.
+use Rattle.std.proofs.Common.{◌≡◌, Bool, List, map, ap, sym, ◌∙◌}
+use Rattle.awk_values.specs.Values.{text_of_value}
+use Rattle.awk_values.specs.declared.value.Value.{Value}
+use Rattle.awk_values.specs.declared.value.Value.TheVariants.{StrNum}
+use Rattle.awk_state.specs.Fields.{pieces_of}
+use Rattle.host_format.specs.Spans.{AreSpans}
+use Rattle.host_format.specs.declared.span.Span.{Span}
+use Rattle.host_fields.specs.Held.{fields_in, separator_by}
+use Rattle.host_fields.specs.declared.fields.Form.{Form}
+use Rattle.host_fields.specs.declared.fields.Form.TheVariants.{Later, Parts}
+use Rattle.host_fields.specs.declared.fields.Plain.{Plain}
+use Rattle.host_fields.proofs.Splitting.{fields_are}
+
+pub same_fields : (form : Form) (by : Plain) (newlines : Bool) (whole : Value) (before spans : List Span) (own : List Value) → form ≡ Later by newlines → AreSpans (text_of_value whole) spans (pieces_of (separator_by by) newlines (text_of_value whole)) → fields_in Parts whole spans own ≡ fields_in form whole before own
+same_fields form by newlines whole before spans own is are =
+    sym (fields_are (text_of_value whole) spans) ∙ ap (λ texts. map StrNum texts) are.texts ∙ ap (λ f. fields_in f whole before own) (sym is)
