@@ -16,13 +16,13 @@ use Rattle.mid_program.specs.Names.{ArrayName}
 use Rattle.mid_program.specs.Mid.{Kind, Boxed, Unboxed, Many, Code, Let, Step, Eval, Block as Steps_, If as Either, Loop, Each, Break, Continue, Next, Exit, ExitWith, Return, Mark, Steps, NoStep, Then as AndThen, Program, a_value, form_of, parameters_at}
 use Rattle.mid_program.specs.Sorted.{Context, all_sorted, calls_of, context_of, fits, is_array_place, is_dropped, is_kept, is_tested, keeps_well, sorted, step_sorted, steps_sorted, stores_well, test_sorted}
 use Rattle.value_machine.specs.Cells.{cell_at}
-use Rattle.value_machine.specs.Emission.{Layout, tested}
+use Rattle.value_machine.specs.Emission.{Layout, asked, tested}
 use Rattle.value_machine.specs.Machine.{zeros}
 use Rattle.wasm_types.specs.declared.types.ValType.{ValType}
 use Rattle.value_machine.specs.Places.{Bases, answer_local, array_local, handle_local, handle_types, iterator_local, local_types, number_global, number_local, status_global, temporary_types, way_global}
 use Rattle.value_machine.specs.Quick.{Within, test_within, Source, Named, Constant, joined, all_unsure, Sum, sum_names, sum_op, sum_in, Update, update_in, Tally, tally_in, Counted, counted_in, Pair, pair_names, pair_in, step_jumps, is_nothing}
 use Rattle.value_machine.specs.Small.{ask_row, does, either, moved_out}
-use Rattle.value_machine.specs.Statements.{again, left_by, pair_left, summed, way_exit, way_next, name_read, source_pushed, name_numbered, source_numbered, source_taken, sum_kept, sum_taken, summed_anyway, element_numbered, element_given, barely_dropped, plainly_dropped, quickly_dropped, left_unless_counted, left_unless_pair, left_unless, all_emptied, arrays_emptied, arrays_swept, before_parts, block, goes_on, has_functions, iterator_left, iterators_emptied, iterators_swept, key_stored, last_part, left_swept, main_body, names_declared, names_made, parameters_dropped, part_done, record_done, records_read, routine_body, routines_declared, step_emitted, steps_emitted, swept, temporaries_emptied, temporaries_swept}
+use Rattle.value_machine.specs.Statements.{again, left_by, pair_left, summed, way_exit, way_next, name_read, source_pushed, name_numbered, source_numbered, source_taken, sum_kept, sum_taken, summed_anyway, element_numbered, element_given, barely_dropped, plainly_dropped, quickly_dropped, left_unless_counted, left_unless_pair, left_unless, all_emptied, arrays_emptied, arrays_swept, block, first_part, goes_on, has_functions, iterator_left, iterators_emptied, iterators_swept, key_stored, last_part, left_swept, main_body, names_declared, names_made, parameters_dropped, part_done, record_done, records_read, routine_body, routines_declared, step_emitted, steps_emitted, swept, temporaries_emptied, temporaries_swept}
 use Rattle.value_machine.proofs.Tallies.{Shape, Updating, Following, Leading, tally_code, tally_is, tally_sorted}
 use Rattle.value_machine.proofs.Updating.{added_code, added_is}
 use Rattle.job_words.specs.Naming.{is_argv, names_argv, step_names, steps_name}
@@ -60,7 +60,7 @@ either_so true n e = refl
 either_so false true e = cc
 either_so false false e = refl
 
-module _ (y : Layout) (sizes : ℕ → Option ℕ) (whole : Program) (own : List Kind) (sized : (f : ℕ) → nat_lt f (length (calls_of whole)) ≡ true → sizes f ≡ Some (length (parameters_at y.calls f))) (same : calls_of whole ≡ y.calls) (ranged : whole.ranges ≡ y.ranges) where
+module _ (tells : Bool) (y : Layout) (sizes : ℕ → Option ℕ) (whole : Program) (own : List Kind) (sized : (f : ℕ) → nat_lt f (length (calls_of whole)) ≡ true → sizes f ≡ Some (length (parameters_at y.calls f))) (same : calls_of whole ≡ y.calls) (ranged : whole.ranges ≡ y.ranges) where
   abbrev c : Context
   c = context_of whole own
 
@@ -68,13 +68,13 @@ module _ (y : Layout) (sizes : ℕ → Option ℕ) (whole : Program) (own : List
   b = y.bases
 
   abbrev So : Bool → Instructions → Type 0
-  So e k = Always y sizes e k
+  So e k = Always tells y sizes e k
 
   abbrev At : Bool → Instructions → Tags → Type 0
-  At e k A = S y sizes e k A
+  At e k A = S tells y sizes e k A
 
   done : So false Done
-  done = none y sizes
+  done = none tells y sizes
 
   -- a jump: what comes after it is not reached from there
   jumps : {d : ℕ} → So false (does (Br d) Done)
@@ -93,7 +93,7 @@ module _ (y : Layout) (sizes : ℕ → Option ℕ) (whole : Program) (own : List
     out_if out = record { so = λ A. r.so (popped A) }
 
     key_spares : (u : ℕ) (s : Code) (d : ℕ) → sorted c (a_value ∷ []) s ≡ true → names_argv s ≡ false → So e (key_stored y u s d k)
-    key_spares u s d o q = record { so = λ A. (refl, (dropped_spares y sizes c sized same (record { so = λ B. ((refl, tt), (tt, r.so [])) }) (a_value ∷ []) (zero ∷ []) s 1 zero d (one_kept a_value [] refl none_kept) o q).so A) }
+    key_spares u s d o q = record { so = λ A. (refl, (dropped_spares tells y sizes c sized same (record { so = λ B. ((refl, tt), (tt, r.so [])) }) (a_value ∷ []) (zero ∷ []) s 1 zero d (one_kept a_value [] refl none_kept) o q).so A) }
 
     iterator_spares : (u : ℕ) → So e (iterator_left y u k)
     iterator_spares u = record { so = λ A. (refl, r.so A) }
@@ -113,12 +113,12 @@ module _ (y : Layout) (sizes : ℕ → Option ℕ) (whole : Program) (own : List
         compared = record { so = λ A. r.so (false ∷ popped A) }
 
   source_spares : (e : Bool) (k : Instructions) (x : Source) (A : Tags) → At e k (true ∷ A) → At e (source_pushed y x k) A
-  source_spares e k (Named i) A r = (true, (λ q. numbered y sizes i), r)
+  source_spares e k (Named i) A r = (true, (λ q. numbered tells y sizes i), r)
   source_spares e k (Constant z) A r = r
 
   module _ {e : Bool} {k : Instructions} (r : So e k) where
     name_spares : (i t d : ℕ) → So e (name_numbered y i t d k)
-    name_spares i t d = record { so = λ A. (true, (λ q. numbered y sizes i), (((true, (λ q. named y sizes i), (refl, (refl, (refl, tt)))), (tt, tt)), (tt, r.so []))) }
+    name_spares i t d = record { so = λ A. (true, (λ q. numbered tells y sizes i), (((true, (λ q. named tells y sizes i), (refl, (refl, (refl, tt)))), (tt, tt)), (tt, r.so []))) }
 
     numbered_spares : (x : Source) (t d : ℕ) → So e (source_numbered y x t d k)
     numbered_spares (Named i) t d = name_spares i t d
@@ -133,14 +133,14 @@ module _ (y : Layout) (sizes : ℕ → Option ℕ) (whole : Program) (own : List
 
     -- counters in arrays
     element_spares : (a : ArrayName) (d : ℕ) → is_argv a ≡ false → So e (element_numbered y a d k)
-    element_spares a d n = record { so = λ A. array_spares y sizes _ _ _ a n (refl, (refl, (refl, r.so A))) }
+    element_spares a d n = record { so = λ A. array_spares tells y sizes _ _ _ a n (refl, (refl, (refl, r.so A))) }
 
     given_spares : (a : ArrayName) → is_argv a ≡ false → So e (element_given y a k)
-    given_spares a n = record { so = λ A. array_spares y sizes _ _ _ a n (refl, (refl, r.so A)) }
+    given_spares a n = record { so = λ A. array_spares tells y sizes _ _ _ a n (refl, (refl, r.so A)) }
 
   module _ {e : Bool} {k : Instructions} (r : So e k) where
     sum_spares : (op : IBinOp) (i t d : ℕ) → So e (sum_taken y op i t d k)
-    sum_spares op i t d = kept_spares (dropped_text y sizes stored i) op t d
+    sum_spares op i t d = kept_spares (dropped_text tells y sizes stored i) op t d
       where
         stored : So e (does (LocalGet (number_local b t)) (does (GlobalSet (number_global y.ranges i)) k))
         stored = record { so = λ A. (refl, r.so A) }
@@ -150,14 +150,14 @@ module _ (y : Layout) (sizes : ℕ → Option ℕ) (whole : Program) (own : List
     anyway_spares x d = numbered_spares (numbered_spares (taken_spares (taken_spares (sum_spares r (sum_op x.op) x.target zero d) x.right 1) x.left zero) x.right 1 d) x.left zero d
 
     barely_spares : (o : Option Tally) (s : Code) (d : ℕ) → tally_in s ≡ o → sorted c [] s ≡ true → names_argv s ≡ false → So e (barely_dropped y o s d k)
-    barely_spares None s d h o q = dropped_spares y sizes c sized same r [] [] s zero zero d none_kept o q
+    barely_spares None s d h o q = dropped_spares tells y sizes c sized same r [] [] s zero zero d none_kept o q
     barely_spares (Some x) s d h o q =
         let i = tally_is s x h in
         let t = tally_sorted whole own i.shape x i.added (subst (λ z. sorted c [] z ≡ true) i.code o) in
         let n = tally_names i.shape x (subst (λ z. names_argv z ≡ false) i.code q) in
         let f = form_of [] x.key in
-        emitted_spares y sizes c sized same
-        (emitted_spares y sizes c sized same (to_value_spares y sizes (element_spares (to_number_spares y sizes (summed x n.3) (form_of (f ∷ []) x.added) 1 d) x.read d n.2) f zero)
+        emitted_spares tells y sizes c sized same
+        (emitted_spares tells y sizes c sized same (to_value_spares tells y sizes (element_spares (to_number_spares tells y sizes (summed x n.3) (form_of (f ∷ []) x.added) 1 d) x.read d n.2) f zero)
         false (f ∷ []) (zero ∷ []) x.added 1 zero d (one_kept f [] (tested_no_array f t.kept) none_kept) t.added n.1)
         false [] [] x.key zero zero d none_kept t.key n.0
       where
@@ -170,7 +170,7 @@ module _ (y : Layout) (sizes : ℕ → Option ℕ) (whole : Program) (own : List
         let e1 : s ≡ added_code x = (added_is s x h).0 in
         let a1 = let_sorted c x.added _ (subst (λ z. sorted c [] z ≡ true) e1 o) in
         let a2 = (or_none (names_argv x.added) false (subst (λ z. names_argv z ≡ false) e1 q)).0 in
-        emitted_spares y sizes c sized same (name_spares (to_number_spares y sizes added (form_of [] x.added) zero d) x.name 1 d) false [] [] x.added zero zero d none_kept a1 a2
+        emitted_spares tells y sizes c sized same (name_spares (to_number_spares tells y sizes added (form_of [] x.added) zero d) x.name 1 d) false [] [] x.added zero zero d none_kept a1 a2
       where
         added : So e (does (LocalGet (number_local b 1)) (does (LocalGet (number_local b zero)) (sum_taken y (sum_op x.op) x.target zero d k)))
         added = record { so = λ A. (sum_spares r (sum_op x.op) x.target zero d).so (true ∷ (true ∷ A)) }
@@ -185,10 +185,10 @@ module _ (y : Layout) (sizes : ℕ → Option ℕ) (whole : Program) (own : List
 
     -- where it is not so this code goes on
     tested_out : (s : Code) (d out : ℕ) → sorted c [] s ≡ true → names_argv s ≡ false → So false (tested y [] [] s zero zero (suc d) (does (Test ty.I32 Eqz) (does (BrIf (suc out)) Done)))
-    tested_out s d out o q = tested_spares y sizes c sized same (out_if done (suc out)) [] [] s zero zero (suc d) none_kept o q
+    tested_out s d out o q = tested_spares tells y sizes c sized same (out_if done (suc out)) [] [] s zero zero (suc d) none_kept o q
 
     counted_spares : (o : Option Counted) (s : Code) (d out : ℕ) → sorted c [] s ≡ true → names_argv s ≡ false → So e (left_unless_counted y o s d out k)
-    counted_spares None s d out o q = tested_spares y sizes c sized same (out_if r out) [] [] s zero zero d none_kept o q
+    counted_spares None s d out o q = tested_spares tells y sizes c sized same (out_if r out) [] [] s zero zero d none_kept o q
     counted_spares (Some x) s d out o q = record { so = λ A. (false, (λ z. cc), ((tested_out s d out o q).so [], ((false, (λ z. cc), (refl, (refl, (refl, tt)))), r.so []))) }
 
     pair_spares : (o : Option Pair) (s : Code) (d out : ℕ) → sorted c [] s ≡ true → names_argv s ≡ false → So e (left_unless_pair y o s d out k)
@@ -238,7 +238,7 @@ module _ (y : Layout) (sizes : ℕ → Option ℕ) (whole : Program) (own : List
         let last = step_spares done z u (suc d) (suc bk) (suc ct) g l o2.1 p1.1 in
         begun (chosen_code (is_some (pair_in x))
         (block_spares (block_spares (pair_spares (step_spares jumps a u (suc (suc d)) (suc (suc bk)) (suc (suc ct)) g l o2.0 p1.0) (pair_in x) x (suc (suc d)) zero t p.0) last) r)
-        (tested_spares y sizes c sized same (either_spares (step_spares done a u (suc d) (suc bk) (suc ct) g l o2.0 p1.0) last r) [] [] x zero zero d none_kept t p.0))
+        (tested_spares tells y sizes c sized same (either_spares (step_spares done a u (suc d) (suc bk) (suc ct) g l o2.0 p1.0) last r) [] [] x zero zero d none_kept t p.0))
     step_spares r (Loop true x a z) u d bk ct g l o q =
         let o1 = and_parts (test_sorted c x) (step_sorted c g true a && step_sorted c g false z) o in
         let o2 = and_parts (step_sorted c g true a) (step_sorted c g false z) o1.1 in
@@ -255,25 +255,25 @@ module _ (y : Layout) (sizes : ℕ → Option ℕ) (whole : Program) (own : List
         let p = or_none (names_argv x) (step_names a || step_names z) q in
         let p1 = or_none (step_names a) (step_names z) p.1 in
         begun (block_spares (rounds_spare (block_spares (step_spares done a u (suc (suc (suc d))) 2 zero g true o2.0 p1.0)
-        (step_spares (begun (tested_spares y sizes c sized same leaves_if [] [] x zero zero (suc (suc d)) none_kept t p.0)) z u (suc (suc d)) 1 zero g false o2.1 p1.1)) done) r)
+        (step_spares (begun (tested_spares tells y sizes c sized same leaves_if [] [] x zero zero (suc (suc d)) none_kept t p.0)) z u (suc (suc d)) 1 zero g false o2.1 p1.1)) done) r)
     step_spares r (Each a x s) u d bk ct g l o q =
         let o1 = and_parts (is_array_place c a) (stores_well [] x && (sorted c (a_value ∷ []) x && step_sorted c g true s)) o in
         let o2 = and_parts (sorted c (a_value ∷ []) x) (step_sorted c g true s) (and_parts (stores_well [] x) (sorted c (a_value ∷ []) x && step_sorted c g true s) o1.1).1 in
         let p = or_none (is_argv a) (names_argv x || step_names s) q in
         let p1 = or_none (names_argv x) (step_names s) p.1 in
         let inner = rounds_spare (key_spares (block_spares (step_spares done s (suc u) (suc (suc (suc d))) 2 zero g true o2.1 p1.1) jumps) u x (suc (suc d)) o2.0 p1.0) done in
-        record { so = λ A. array_spares y sizes _ _ _ a p.0 (refl, (inner.so [], (iterator_spares r u).so [])) }
+        record { so = λ A. array_spares tells y sizes _ _ _ a p.0 (refl, (inner.so [], (iterator_spares r u).so [])) }
     step_spares r Break u d bk ct g l o q = begun left_on
     step_spares r Continue u d bk ct g l o q = begun left_on
     step_spares r Next u d bk ct g l o q = record { so = λ A. (refl, tt) }
     step_spares r Exit u d bk ct g l o q = record { so = λ A. (refl, tt) }
     step_spares {e = e} {k = k} r (ExitWith x) u d bk ct g l o q =
-        begun (emitted_spares y sizes c sized same (to_number_spares y sizes status (form_of [] x) zero d) false [] [] x zero zero d none_kept (and_parts (fits (form_of [] x) sort.Number) (sorted c [] x) o).1 q)
+        begun (emitted_spares tells y sizes c sized same (to_number_spares tells y sizes status (form_of [] x) zero d) false [] [] x zero zero d none_kept (and_parts (fits (form_of [] x) sort.Number) (sorted c [] x) o).1 q)
       where
         status : So e (does (LocalGet (number_local b zero)) (does (GlobalSet status_global) (left_by way_exit d k)))
         status = record { so = λ A. (refl, (refl, tt)) }
     step_spares {e = e} {k = k} r (Return x) u d bk ct g l o q =
-        begun (emitted_spares y sizes c sized same (to_value_spares y sizes answers (form_of [] x) zero) false [] [] x zero zero d none_kept (and_parts (fits (form_of [] x) sort.Value) (sorted c [] x) (and_parts g (fits (form_of [] x) sort.Value && sorted c [] x) o).1).1 q)
+        begun (emitted_spares tells y sizes c sized same (to_value_spares tells y sizes answers (form_of [] x) zero) false [] [] x zero zero d none_kept (and_parts (fits (form_of [] x) sort.Value) (sorted c [] x) (and_parts g (fits (form_of [] x) sort.Value && sorted c [] x) o).1).1 q)
       where
         answers : So e (moved_out (handle_local b zero) (does (LocalSet (answer_local b)) (does (Br d) k)))
         answers = record { so = λ A. tt }
@@ -341,13 +341,14 @@ module _ (y : Layout) (sizes : ℕ → Option ℕ) (whole : Program) (own : List
 
   -- `main`.
 
-  declared_spares : {e : Bool} {k : Instructions} → So e k → (i : ℕ) (ks : List Kind) → So e (names_declared y i ks k)
-  declared_spares r i [] = r
-  declared_spares r i (kind ∷ ks) = record { so = λ A. (refl, (declared_spares r (suc i) ks).so A) }
+  -- only this code announces names
+  declared_spares : {e : Bool} {k : Instructions} → tells ≡ true → So e k → (i : ℕ) (ks : List Kind) → So e (names_declared y i ks k)
+  declared_spares t r i [] = r
+  declared_spares t r i (kind ∷ ks) = record { so = λ A. (t, (declared_spares t r (suc i) ks).so A) }
 
-  routines_spare : {e : Bool} {k : Instructions} → So e k → (i n : ℕ) → So e (routines_declared y i n k)
-  routines_spare r i zero = r
-  routines_spare r i (suc n) = record { so = λ A. (refl, (routines_spare r (suc i) n).so A) }
+  routines_spare : {e : Bool} {k : Instructions} → tells ≡ true → So e k → (i n : ℕ) → So e (routines_declared y i n k)
+  routines_spare t r i zero = r
+  routines_spare t r i (suc n) = record { so = λ A. (t, (routines_spare t r (suc i) n).so A) }
 
   made_spares : {e : Bool} {k : Instructions} → So e k → (i : ℕ) (ks : List Kind) → So e (names_made y i ks k)
   made_spares r i [] = r
@@ -372,15 +373,14 @@ module _ (y : Layout) (sizes : ℕ → Option ℕ) (whole : Program) (own : List
   module _ {e : Bool} {k : Instructions} (r : So e k) where
     records_spares : (items : Steps) (d : ℕ) → steps_sorted c false false items ≡ true → steps_name items ≡ false → So e (records_read y items d k)
     records_spares items d o q =
-        record { so = λ A. ((refl, ((record_spares (jumps {d = 1}) items (suc (suc d)) o q).so [], (tt, ((pending_spares y sizes (jumps {d = 1}) zero).so [], (tt, tt))))), r.so []) }
+        record { so = λ A. ((refl, ((record_spares (jumps {d = 1}) items (suc (suc d)) o q).so [], (tt, ((pending_spares tells y sizes (jumps {d = 1}) zero).so [], (tt, tt))))), r.so []) }
 
-    before_spares : (p : Program) → So e (before_parts y p k)
-    before_spares p = record {
-      so = λ A. (refl, (declared_spares (routines_spare (made_spares (start_asked y sizes r zero zero) zero y.names) (length p.texts + length p.globals) (length p.routines)) (length p.texts) y.names).so A);
-    }
+  -- what comes after the names, and the exit
+  abbrev pub script_code : Program → Instructions
+  script_code p = asked y row.StartAssign zero zero (part_done y (first_part y p) zero (ask_row row.BeginEnd (part_done y (last_part y p) zero Done)))
 
-  pub main_spares : (p : Program) → steps_sorted c false false p.begin ≡ true → steps_sorted c false false p.items ≡ true → steps_sorted c false false p.end ≡ true → steps_name p.begin ≡ false → steps_name p.items ≡ false → steps_name p.end ≡ false → So false (main_body y p)
-  main_spares p o1 o2 o3 q1 q2 q3 = emptied_spares (block_spares (before_spares (part_spares ends zero (steps_spares (by p.reads) p.begin zero zero zero zero false false o1 q1)) p) (swept_spares status))
+  pub script_spares : (p : Program) → steps_sorted c false false p.begin ≡ true → steps_sorted c false false p.items ≡ true → steps_sorted c false false p.end ≡ true → steps_name p.begin ≡ false → steps_name p.items ≡ false → steps_name p.end ≡ false → So false (script_code p)
+  script_spares p o1 o2 o3 q1 q2 q3 = start_asked tells y sizes (part_spares ends zero (steps_spares (by p.reads) p.begin zero zero zero zero false false o1 q1)) zero zero
     where
       by : (z : Bool) → So false (if z then records_read y p.items zero (does (Br 1) Done) else does (Br 1) Done)
       by true = records_spares jumps p.items zero o2 q2
@@ -389,8 +389,14 @@ module _ (y : Layout) (sizes : ℕ → Option ℕ) (whole : Program) (own : List
       ends : So false (ask_row row.BeginEnd (part_done y (last_part y p) zero Done))
       ends = record { so = λ A. (refl, (part_spares done zero (steps_spares jumps p.end zero zero zero zero false false o3 q3)).so A) }
 
-      status : So false (does (GlobalGet status_global) (does (Convert I32WrapI64) Done))
-      status = record { so = λ A. (false, (λ z. cc), tt) }
+  pub exit_spares : So false (swept y (does (GlobalGet status_global) (does (Convert I32WrapI64) Done)))
+  exit_spares = swept_spares (record { so = λ A. (false, (λ z. cc), tt) })
+
+  pub main_spares : (p : Program) → tells ≡ true → So false (script_code p) → So false (main_body y p)
+  main_spares p t r = emptied_spares (block_spares (record { so = λ A. (refl, told.so A) }) exit_spares)
+    where
+      told : So false (names_declared y (length p.texts) y.names (routines_declared y (length p.texts + length p.globals) (length p.routines) (names_made y zero y.names (script_code p))))
+      told = declared_spares t (routines_spare t (made_spares r zero y.names) (length p.texts + length p.globals) (length p.routines)) (length p.texts) y.names
 
   -- At its beginning a function sets each local that could have ARGV's number.
 

@@ -160,7 +160,7 @@ module _ (c : Context) where
 
 -- CODE, before code that may follow whatever lies on the stack.
 
-module _ (y : Layout) (sizes : ℕ → Option ℕ) where
+module _ (tells : Bool) (y : Layout) (sizes : ℕ → Option ℕ) where
   abbrev b : Bases
   b = y.bases
 
@@ -168,7 +168,7 @@ module _ (y : Layout) (sizes : ℕ → Option ℕ) where
   before = suc (suc y.ranges)
 
   abbrev pub S : Bool → Instructions → Tags → Type 0
-  S e k A = Spares before sizes e k A
+  S e k A = Spares tells before sizes e k A
 
   pub record Always (e : Bool) (k : Instructions) : Type 0 where
     pub so : (A : Tags) → S e k A
@@ -182,9 +182,9 @@ module _ (y : Layout) (sizes : ℕ → Option ℕ) where
   pub numbered : (i : ℕ) → is_name before (number_global y.ranges i) ≡ true
   numbered i = le-leb before (number_global y.ranges i) (omega arith)
 
-  asks : (e : Bool) (k : Instructions) (A : Tags) (i : Import) → spares i A ≡ true → S e k (answered (import_answer i) (drop (width i) A)) → S e (ask i k) A
+  asks : (e : Bool) (k : Instructions) (A : Tags) (i : Import) → spares tells i A ≡ true → S e k (answered (import_answer i) (drop (width i) A)) → S e (ask i k) A
   asks e k A i w r = (
-    ap (λ t. cond t (asks_well (import_at n) A) (enters_well (sizes (n - import_count)) A)) (import_low i) ∙ (ap (λ o. asks_well o A) (import_found i) ∙ w),
+    ap (λ t. cond t (asks_well tells (import_at n) A) (enters_well (sizes (n - import_count)) A)) (import_low i) ∙ (ap (λ o. asks_well tells o A) (import_found i) ∙ w),
     subst (S e k) (sym (ap (λ t. cond t (asked (import_at n) A) (entered (sizes (n - import_count)) A)) (import_low i) ∙ ap (λ o. asked o A) (import_found i))) r,
   )
     where
@@ -440,13 +440,14 @@ module _ (y : Layout) (sizes : ℕ → Option ℕ) where
   like fs given es A f = cc
 
   -- a row that changes an array has it in its place
-  array_placed : (p : Primitive) (fs : List Form) (es : Codes) (A : Tags) → fit_row fs (arguments_of p) es ≡ true → spares (Of p) (all_tags (arguments_of p) es A) ≡ true
-  array_placed row.Elem fs es A f = ap (λ T. first_of (popped T)) (like fs (arguments_of row.Elem) es A f)
-  array_placed row.SetElem fs es A f = ap (λ T. first_of (popped (popped T))) (like fs (arguments_of row.SetElem) es A f)
-  array_placed row.Delete fs es A f = ap (λ T. first_of (popped T)) (like fs (arguments_of row.Delete) es A f)
-  array_placed row.Clear fs es A f = ap first_of (like fs (arguments_of row.Clear) es A f)
-  array_placed row.Split fs es A f = let h = like fs (arguments_of row.Split) es A f in ap third_of_four h.1
-  array_placed _ fs es A f = refl
+  array_placed : (p : Primitive) (fs : List Form) (es : Codes) (A : Tags) → is_operation p ≡ true → fit_row fs (arguments_of p) es ≡ true → spares tells (Of p) (all_tags (arguments_of p) es A) ≡ true
+  array_placed row.Elem fs es A w f = ap (λ T. first_of (popped T)) (like fs (arguments_of row.Elem) es A f)
+  array_placed row.SetElem fs es A w f = ap (λ T. first_of (popped (popped T))) (like fs (arguments_of row.SetElem) es A f)
+  array_placed row.Delete fs es A w f = ap (λ T. first_of (popped T)) (like fs (arguments_of row.Delete) es A f)
+  array_placed row.Clear fs es A w f = ap first_of (like fs (arguments_of row.Clear) es A f)
+  array_placed row.Split fs es A w f = let h = like fs (arguments_of row.Split) es A f in ap third_of_four h.1
+  array_placed row.Declare fs es A w f = cc
+  array_placed _ fs es A w f = refl
 
   operands_other : (c : Context) (fs : List Form) (given : List Argument) (es : Codes) → NoArrays fs → fit_row fs given es ≡ true → all_sorted c fs es ≡ true → any_argv es ≡ false → OperandsOther es given
   unfolding sorted all_sorted
@@ -466,15 +467,15 @@ module _ (y : Layout) (sizes : ℕ → Option ℕ) where
   operands_other c fs given es n f s q = cc
 
   module _ {e : Bool} {k : Instructions} (r : Always e k) where
-    performed_spares : (c : Context) (o : Operation) (fs : List Form) (es : Codes) (t d : ℕ) → NoArrays fs → fit_row fs (arguments o) es ≡ true → all_sorted c fs es ≡ true → any_argv es ≡ false → Always e (performed y o es t d k)
-    performed_spares c (Host p) fs es t d n f s q = record {
+    performed_spares : (c : Context) (o : Operation) (fs : List Form) (es : Codes) (t d : ℕ) → NoArrays fs → is_done_here o ≡ true → fit_row fs (arguments o) es ≡ true → all_sorted c fs es ≡ true → any_argv es ≡ false → Always e (performed y o es t d k)
+    performed_spares c (Host p) fs es t d n w f s q = record {
       so = λ A.
           pushes_spares e (ask_row p (kept b (can_fault p) (answer_of p) t d k)) (arguments_of p) es t A (operands_other c fs (arguments_of p) es n f s q)
-          (asks e (kept b (can_fault p) (answer_of p) t d k) (all_tags (arguments_of p) es A) (Of p) (array_placed p fs es A f) (kept_spares r (can_fault p) (answer_of p) t d (drop (width (Of p)) (all_tags (arguments_of p) es A))));
+          (asks e (kept b (can_fault p) (answer_of p) t d k) (all_tags (arguments_of p) es A) (Of p) (array_placed p fs es A w f) (kept_spares r (can_fault p) (answer_of p) t d (drop (width (Of p)) (all_tags (arguments_of p) es A))));
     }
-    performed_spares c (Inline a) fs es t d n f s q = calculated_spares r a t d
-    performed_spares c AsNumber fs es t d n f s q = r
-    performed_spares c FieldNumber fs es t d n f s q = field_spares r t d
+    performed_spares c (Inline a) fs es t d n w f s q = calculated_spares r a t d
+    performed_spares c AsNumber fs es t d n w f s q = r
+    performed_spares c FieldNumber fs es t d n w f s q = field_spares r t d
 
   boxes_spares : {e : Bool} {k : Instructions} → Always e k → (fs : List Form) (es : Codes) (t : ℕ) → Always e (all_boxed y fs es t k)
   boxes_spares r fs (At e es) t = to_value_spares (boxes_spares r fs es (suc t)) (form_of fs e) t
@@ -567,7 +568,7 @@ module _ (y : Layout) (sizes : ℕ → Option ℕ) where
   -- a function is called
   function_spares : (e : Bool) (k : Instructions) (f : ℕ) (ks : List Kind) (A : Tags) → sizes f ≡ Some (length ks) → ((B : Tags) → S e k (true ∷ B)) → S e (does (CallOf (function_number f)) k) (so_many (length ks) A)
   function_spares e k f ks A n r = (
-    ap (λ t. cond t (asks_well (import_at (function_number f)) B) (enters_well (sizes (function_number f - import_count)) B)) high ∙ (ap (λ o. enters_well o B) size ∙ all_so (length ks) A),
+    ap (λ t. cond t (asks_well tells (import_at (function_number f)) B) (enters_well (sizes (function_number f - import_count)) B)) high ∙ (ap (λ o. enters_well o B) size ∙ all_so (length ks) A),
     subst (S e k) (sym (ap (λ t. cond t (asked (import_at (function_number f)) B) (entered (sizes (function_number f - import_count)) B)) high ∙ ap (λ o. entered o B) size)) (r (drop (length ks) B)),
   )
     where
@@ -588,7 +589,7 @@ module _ (y : Layout) (sizes : ℕ → Option ℕ) where
       emitted_spares r v fs ts (Do o es) t w d n s q =
           let s1 = and_parts (is_done_here o) (fit_row fs (arguments o) es && all_sorted c fs es) s in
           let s2 = and_parts (fit_row fs (arguments o) es) (all_sorted c fs es) s1.1 in
-          field_spares_or r (field_in o es) t (emits_spares (converts_spares (performed_spares r c o fs es t d n s2.0 s2.1 q) fs (arguments o) es t d) fs ts es t w d n s2.1 q)
+          field_spares_or r (field_in o es) t (emits_spares (converts_spares (performed_spares r c o fs es t d n s1.0 s2.0 s2.1 q) fs (arguments o) es t d) fs ts es t w d n s2.1 q)
       emitted_spares r v fs ts (Over x es) t w d n s q =
           let s2 = and_parts (all_values fs es) (all_sorted c fs es) (and_parts (are_enough x es) (all_values fs es && all_sorted c fs es) s).1 in
           emits_spares (boxes_spares (appends_spares (listed_spares r x (count_of es) t d) es t) fs es t) fs ts es t w d n s2.1 q

@@ -1,5 +1,8 @@
 pub mod Rows
 pub mod Tags
+pub mod Names
+pub mod Told
+pub mod Begun
 pub mod Calls
 pub mod Steps
 pub mod Emitting

@@ -6,6 +6,7 @@ use Rattle.std.proofs.lemmas.Grind.{reverse_onto}
 use Rattle.std.proofs.lemmas.List.{get_or-set_other, length-reverse}
 use Rattle.awk_values.specs.declared.fault.Fault.{Fault}
 use Rattle.awk_state.specs.SharedState.{Pairs}
+use Rattle.awk_state.specs.declared.constants.NameKind.{NameKind}
 use Rattle.awk_state.specs.declared.table.Primitive.TheVariants as row
 use Rattle.wasm_types.specs.Syntax.{Instruction, Plain, Block, Loop, If, Instructions, Done, Then}
 use Rattle.wasm_types.specs.declared.instr.CvtOp.{CvtOp}
@@ -29,7 +30,8 @@ use Rattle.value_machine.specs.Machine.{Code, Callee, Conf, Run, Look, Over, Dee
 use Rattle.value_machine.specs.declared.import.Import.{Import}
 use Rattle.value_machine.specs.declared.import.Import.TheVariants.{Of}
 use Rattle.job_words.proofs.Calls.{InHost, Matches, call_fits, drop_match, look_fits, popped_match, taken_other}
-use Rattle.job_words.proofs.Tags.{Spares, Tags, all_other, asked, asks_well, called, calls_well, entered, enters_well, first_of, is_long, is_name, is_other, is_set, makes_long, popped}
+use Rattle.job_words.proofs.Names.{is_telling, looked_kept, names_kept}
+use Rattle.job_words.proofs.Tags.{Spares, Tags, all_other, asked, asks_well, called, calls_well, entered, enters_well, first_of, is_long, is_name, is_other, is_set, makes_long, popped, spares}
 
 -- Cells of a list, each of which is another.
 
@@ -218,13 +220,18 @@ nothing : (f : Option Fault) (a : Option Cell × Host) → elim f [ None ↦ Non
 nothing None a q = cc
 nothing (Some x) a q = cc
 
+-- an import that such code asks announces no name
+quiet_so : {tells : Bool} (i : Import) (A : Tags) → tells ≡ false → spares tells i A ≡ true → is_telling i ≡ false
+quiet_so (Of row.Declare) A t w = sym w ∙ t
+quiet_so _ A t w = refl
+
 first_other : (A : Tags) (v : Cell) (vs : List Cell) → Matches A (v ∷ vs) → first_of A ≡ true → is_other v ≡ true
 first_other [] v vs m e = cc
 first_other (a ∷ A) v vs m e = m.0 e
 
-module _ (u : Code) (argv : Pairs) (sizes : ℕ → Option ℕ) where
+module _ (tells : Bool) (u : Code) (argv : Pairs) (names : List (List ℕ × NameKind)) (sizes : ℕ → Option ℕ) where
   abbrev pub S : Bool → Instructions → Tags → Type 0
-  S e c A = Spares u.before sizes e c A
+  S e c A = Spares tells u.before sizes e c A
 
   -- What is so of each place: the code that is left, that under the labels, and that of callers.
 
@@ -255,8 +262,12 @@ module _ (u : Code) (argv : Pairs) (sizes : ℕ → Option ℕ) where
   abbrev GlobalsOther : List Cell → Type 0
   GlobalsOther gs = (x : ℕ) → is_name u.before x ≡ true → is_other (cell_at gs x) ≡ true
 
+  -- where code announces no name, the host has these
+  abbrev Keeps : Host → Type 0
+  Keeps h = InHost argv h × (tells ≡ false → h.shared.inner.names ≡ names)
+
   abbrev pub InStore : Store → Type 0
-  InStore G = GlobalsOther G.globals × InHost argv G.host
+  InStore G = GlobalsOther G.globals × Keeps G.host
 
   -- locals that the code does not set first
   abbrev pub Opens : List Cell → Instructions → Type 0
@@ -374,27 +385,28 @@ module _ (u : Code) (argv : Pairs) (sizes : ℕ → Option ℕ) where
         tagged false false p h = cc
 
     answer_good : (B : Tags) (o : Option (Option Cell × Host)) (vs : List Cell) (K : List Label) (L : List Cell) (F : List Frame) (c : Instructions) (G : Store) →
-        ((a : Option Cell × Host) → o ≡ Some a → Matches B (onto a.0 vs) × InHost argv a.1) → S (ending K e) c B → LabelsSpare e K → AllOther L → FramesSpare e F → InStore G → Good (with_answer o ks vs K L F c G)
+        ((a : Option Cell × Host) → o ≡ Some a → Matches B (onto a.0 vs) × Keeps a.1) → S (ending K e) c B → LabelsSpare e K → AllOther L → FramesSpare e F → InStore G → Good (with_answer o ks vs K L F c G)
     answer_good B None vs K L F c G f s k l r g = tt
     answer_good B (Some a) vs K L F c G f s k l r g = let h = f a refl in at_good e B ks (onto a.0 vs) K L F c (record G { host = a.1 }) h.0 s k (λ x q. l x) r (g.0, h.1)
 
     ask_good : (i : Option Import) (A : Tags) (vs : List Cell) (K : List Label) (L : List Cell) (F : List Frame) (c : Instructions) (G : Store) →
-        Matches A vs → asks_well i A ≡ true → S (ending K e) c (asked i A) → LabelsSpare e K → AllOther L → FramesSpare e F → InStore G → Good (ask u.memory i ks vs K L F c G)
+        Matches A vs → asks_well tells i A ≡ true → S (ending K e) c (asked i A) → LabelsSpare e K → AllOther L → FramesSpare e F → InStore G → Good (ask u.memory i ks vs K L F c G)
     ask_good None A vs K L F c G m w s k l r g = tt
     ask_good (Some i) A vs K L F c G m w s k l r g =
         let given = reverse (take (width i) vs) in
         let named = record G { assigning = assigning_after i G } in
         guarded_good (all_live L F G.globals given) _ (answer_good (asked (Some i) A) (call u.memory i given G.host) (drop (width i) vs) K L F c named
-        (λ a q. let h = call_fits argv G.host g.1 (drop (width i) A) (drop (width i) vs) (drop_match (width i) A vs m) u.memory i given a (taken_other argv u.memory i A vs m w) q in (h.stack, h.kept)) s k l r g)
+        (λ a q. let h = call_fits argv G.host g.1.0 (drop (width i) A) (drop (width i) vs) (drop_match (width i) A vs m) u.memory i given a (taken_other tells argv u.memory i A vs m w) q in
+        (h.stack, (h.kept, λ t. names_kept G.host u.memory i given a q (quiet_so i A t w) ∙ g.1.1 t))) s k l r g)
 
     -- only what looks is asked so, and it takes one cell
     looking_good : (i : Option Import) (v : Cell) (A : Tags) (vs : List Cell) (K : List Label) (L : List Cell) (F : List Frame) (c : Instructions) (G : Store) →
         Matches A vs → S (ending K e) c (asked i (true ∷ A)) → LabelsSpare e K → AllOther L → FramesSpare e F → InStore G → Good (ask_looking i v ks vs K L F c G)
     looking_good None v A vs K L F c G m s k l r g = tt
     looking_good (Some (Of row.Dup)) v A vs K L F c G m s k l r g =
-        answer_good (true ∷ A) (look (Of row.Dup) v G.host) vs K L F c G (λ a q. let h = look_fits argv G.host g.1 A vs m (Of row.Dup) v a q in (h.stack, h.kept)) s k l r g
+        answer_good (true ∷ A) (look (Of row.Dup) v G.host) vs K L F c G (λ a q. let h = look_fits argv G.host g.1.0 A vs m (Of row.Dup) v a q in (h.stack, (h.kept, λ t. looked_kept G.host (Of row.Dup) v a q refl ∙ g.1.1 t))) s k l r g
     looking_good (Some (Of row.IterNext)) v A vs K L F c G m s k l r g =
-        answer_good (true ∷ A) (look (Of row.IterNext) v G.host) vs K L F c G (λ a q. let h = look_fits argv G.host g.1 A vs m (Of row.IterNext) v a q in (h.stack, h.kept)) s k l r g
+        answer_good (true ∷ A) (look (Of row.IterNext) v G.host) vs K L F c G (λ a q. let h = look_fits argv G.host g.1.0 A vs m (Of row.IterNext) v a q in (h.stack, (h.kept, λ t. looked_kept G.host (Of row.IterNext) v a q refl ∙ g.1.1 t))) s k l r g
     looking_good (Some (Of p)) v A vs K L F c G m s k l r g = answer_good (asked (Some (Of p)) (true ∷ A)) (look (Of p) v G.host) vs K L F c G (λ a q. absurd (nothing G.host.fault a q)) s k l r g
     looking_good (Some i) v A vs K L F c G m s k l r g = answer_good (asked (Some i) (true ∷ A)) (look i v G.host) vs K L F c G (λ a q. absurd (nothing G.host.fault a q)) s k l r g
 
@@ -447,10 +459,10 @@ module _ (u : Code) (argv : Pairs) (sizes : ℕ → Option ℕ) where
 
   module _ (bodies : (k : ℕ) (f : Callee) → slice_get u.callees k ≡ Some f → (sizes k ≡ Some (length f.kinds)) × BodySpares f) where
     call_good : (e : Bool) (n : ℕ) (A : Tags) (ks : List Kind) (vs : List Cell) (K : List Label) (L : List Cell) (F : List Frame) (c : Instructions) (G : Store) →
-        Matches A vs → calls_well u.before sizes n A ≡ true → S (ending K e) c (called u.before sizes n A) → LabelsSpare e K → AllOther L → FramesSpare e F → InStore G → Good (call_number u n ks vs K L F c G)
+        Matches A vs → calls_well tells u.before sizes n A ≡ true → S (ending K e) c (called tells u.before sizes n A) → LabelsSpare e K → AllOther L → FramesSpare e F → InStore G → Good (call_number u n ks vs K L F c G)
     call_good e n A ks vs K L F c G m w s k l r g = by (nat_lt n import_count) w s
       where
-        by : (b : Bool) → cond b (asks_well (import_at n) A) (enters_well (sizes (n - import_count)) A) ≡ true → S (ending K e) c (cond b (asked (import_at n) A) (entered (sizes (n - import_count)) A)) →
+        by : (b : Bool) → cond b (asks_well tells (import_at n) A) (enters_well (sizes (n - import_count)) A) ≡ true → S (ending K e) c (cond b (asked (import_at n) A) (entered (sizes (n - import_count)) A)) →
             Good (cond b (ask u.memory (import_at n) ks vs K L F c G) (enter u.deepest (slice_get u.callees (n - import_count)) ks vs K L F c G))
         by true w s = ask_good e ks (import_at n) A vs K L F c G m w s k l r g
         by false w s = enter_good e ks (sizes (n - import_count)) (slice_get u.callees (n - import_count)) (bodies (n - import_count)) A vs K L F c G m w s k l r g

@@ -41,14 +41,15 @@ abbrev pub third_of_four : Tags → Bool
 third_of_four (f ∷ (s ∷ (a ∷ (t ∷ A)))) = a
 third_of_four A = false
 
--- What an import wants: the rows that change an array, of that array.
-abbrev pub spares : Import → Tags → Bool
-spares (Of row.Elem) A = first_of (popped A)
-spares (Of row.SetElem) A = first_of (popped (popped A))
-spares (Of row.Delete) A = first_of (popped A)
-spares (Of row.Clear) A = first_of A
-spares (Of row.Split) A = third_of_four A
-spares i A = true
+-- What an import wants: the rows that change an array, of that array; and code may announce names, or may not.
+abbrev pub spares : (tells : Bool) → Import → Tags → Bool
+spares tells (Of row.Declare) A = tells
+spares tells (Of row.Elem) A = first_of (popped A)
+spares tells (Of row.SetElem) A = first_of (popped (popped A))
+spares tells (Of row.Delete) A = first_of (popped A)
+spares tells (Of row.Clear) A = first_of A
+spares tells (Of row.Split) A = third_of_four A
+spares tells i A = true
 
 -- an array that is answered is a new one
 abbrev pub answered : Answer → Tags → Tags
@@ -57,9 +58,9 @@ answered (answer.Of s) A = true ∷ A
 answered answer.ValueOrEnd A = true ∷ A
 answered a A = false ∷ A
 
-abbrev pub asks_well : Option Import → Tags → Bool
-asks_well None A = true
-asks_well (Some i) A = spares i A
+abbrev pub asks_well : Bool → Option Import → Tags → Bool
+asks_well tells None A = true
+asks_well tells (Some i) A = spares tells i A
 
 abbrev pub asked : Option Import → Tags → Tags
 asked None A = []
@@ -97,10 +98,10 @@ EndsWell true A = first_of A ≡ true
 abbrev pub is_name : (before : ℕ) → ℕ → Bool
 is_name before x = nat_le before x
 
--- so many globals stand before those of names; and how many parameters each function has
-module _ (before : ℕ) (sizes : ℕ → Option ℕ) where
+-- whether it may announce names; so many globals stand before those of names; and how many parameters each function has
+module _ (tells : Bool) (before : ℕ) (sizes : ℕ → Option ℕ) where
   abbrev pub calls_well : ℕ → Tags → Bool
-  calls_well n A = cond (nat_lt n import_count) (asks_well (import_at n) A) (enters_well (sizes (n - import_count)) A)
+  calls_well n A = cond (nat_lt n import_count) (asks_well tells (import_at n) A) (enters_well (sizes (n - import_count)) A)
 
   abbrev pub called : ℕ → Tags → Tags
   called n A = cond (nat_lt n import_count) (asked (import_at n) A) (entered (sizes (n - import_count)) A)

@@ -1,14 +1,15 @@
 -- Rows: what names ARGV, and which words of a job are assignments.
-use Rattle.std.specs.Prelude.{◌≡◌, zero, true, false, [], ◌∷◌, None, codes, refl}
-use Rattle.std.proofs.Common.{arith, inl, inr}
+use Rattle.std.specs.Prelude.{◌≡◌, ℕ, zero, suc, Bool, true, false, List, [], ◌∷◌, Option, None, Some, codes, refl}
+use Rattle.std.proofs.Common.{arith, ap, inl, inr, subst, sym, ◌∙◌}
 use Rattle.awk_state.specs.Assignments.{assignment_of}
 use Rattle.awk_state.specs.Jobs.{JobForm}
+use Rattle.awk_state.specs.Texts.{same_text}
 use Rattle.awk_state.specs.declared.table.Primitive.TheVariants as row
 use Rattle.mid_program.specs.declared.mid.Operation.TheVariants.{Host}
 use Rattle.mid_program.specs.Names.{ArrayName, Given, Numbered}
-use Rattle.mid_program.specs.Mid.{Array, At, Break, Call, Code, Do, Each, End, Get, Global, Text}
+use Rattle.mid_program.specs.Mid.{Array, At, Break, Call, Code, Declared, Do, Each, End, Get, Global, NoStep, Program, Text, Unboxed}
 use Rattle.job_words.specs.Naming.{names_argv, step_names}
-use Rattle.job_words.specs.Words.{AssignsAny}
+use Rattle.job_words.specs.Words.{Assigns, AssignsName}
 
 -- a["x"] = "x", for an array a
 abbrev stores : ArrayName → Code
@@ -28,15 +29,51 @@ given_to_a_function = refl
 pub walked : step_names (Each (Numbered 0) (Get (Global false 0)) Break) ≡ true
 walked = refl
 
--- the job `-v B=2` with the operand "A=1" has two assignments, and `file` is none
+-- a script whose names are A, B and C, and a function f
+abbrev script : Program
+script = record {
+  texts = [];
+  globals = record { name = codes "A"; kind = Unboxed } ∷ (record { name = codes "B"; kind = Unboxed } ∷ (record { name = codes "C"; kind = Unboxed } ∷ []));
+  routines = record { name = codes "f"; parameters = []; body = NoStep } ∷ [];
+  ranges = 0;
+  begin = NoStep;
+  reads = false;
+  items = NoStep;
+  end = NoStep;
+}
+
+-- the job `-v B=2` with the operands "A=1" and `file` assigns to A and to B
 abbrev job : JobForm
-job = record { operands = codes "A=1" ∷ []; assigns = (codes "B", codes "2") ∷ []; environment = [] }
+job = record { operands = codes "A=1" ∷ (codes "file" ∷ []); assigns = (codes "B", codes "2") ∷ []; environment = [] }
 
-pub by_operand : AssignsAny job
-by_operand = (codes "A", inr (codes "A=1", codes "1", (zero, omega arith, refl), refl))
+pub by_operand : AssignsName script job 0
+by_operand = (record { name = codes "A"; kind = Unboxed }, refl, inr (codes "A=1", codes "1", (zero, omega arith, refl), refl))
 
-pub by_option : AssignsAny job
-by_option = (codes "B", inl (zero, codes "2", refl))
+pub by_option : AssignsName script job 1
+by_option = (record { name = codes "B"; kind = Unboxed }, refl, inl (zero, codes "2", refl))
 
 pub no_assignment : assignment_of (codes "file") ≡ None
 no_assignment = refl
+
+-- but no word of it assigns to C
+abbrev name_in : Option (List ℕ × List ℕ) → List ℕ
+name_in None = []
+name_in (Some pair) = pair.0
+
+-- whether it is C
+abbrev is_c : Option (List ℕ × List ℕ) → Bool
+is_c o = same_text (name_in o) (codes "C")
+
+abbrev name_of : Option Declared → List ℕ
+name_of None = []
+name_of (Some named) = named.name
+
+not_to_c : Assigns job (codes "C") → ⊥
+not_to_c (inl (zero, text, e)) = let other : false ≡ true = ap is_c e in cc
+not_to_c (inl (suc n, text, e)) = cc
+not_to_c (inr (operand, text, (zero, l, e), q)) = let other : false ≡ true = ap is_c (ap assignment_of e ∙ q) in cc
+not_to_c (inr (operand, text, (suc zero, l, e), q)) = let other = ap assignment_of e ∙ q in cc
+not_to_c (inr (operand, text, (suc (suc n), l, e), q)) = absurd (omega (arith, l))
+
+pub by_no_word : AssignsName script job 2 → ⊥
+by_no_word (named, e, word) = not_to_c (subst (Assigns job) (sym (ap name_of e)) word)

@@ -1,8 +1,9 @@
--- What the words of a job assign, and to which names the command line has assigned in a run of a script that does not name ARGV.
+-- What the words of a job assign, and to which of a script's names.
 use Rattle.std.specs.List.{Contains}
-use Rattle.std.specs.Prelude.{ℕ, ◌≡◌, ◌⊎◌, List, Some}
+use Rattle.std.specs.Prelude.{ℕ, ◌≡◌, ◌⊎◌, List, Some, slice_get}
 use Rattle.awk_state.specs.Assignments.{assignment_of}
 use Rattle.awk_state.specs.Jobs.{JobForm}
+use Rattle.mid_program.specs.Mid.{Declared, Program}
 use Rattle.run_places.specs.Assigned.{IsOption}
 
 -- an operand of the job is an assignment to this name
@@ -13,6 +14,6 @@ IsArgument job name = (operand : List ℕ) × (text : List ℕ) × Contains job.
 abbrev pub Assigns : JobForm → List ℕ → Type 0
 Assigns job name = IsOption job name ⊎ IsArgument job name
 
--- some word of the job is an assignment
-abbrev pub AssignsAny : JobForm → Type 0
-AssignsAny job = (name : List ℕ) × Assigns job name
+-- some word of the job assigns to the name of this number among the script's
+abbrev pub AssignsName : Program → JobForm → ℕ → Type 0
+AssignsName p job i = (named : Declared) × (slice_get p.globals i ≡ Some named) × Assigns job named.name

@@ -35,7 +35,7 @@ use Rattle.quiet_statements.specs.Laned.{AtNumeric, IsNext}
 use Rattle.quiet_statements.specs.Quiet.{Quietly}
 use Rattle.quiet_statements.specs.Sums.{AtFault}
 use Rattle.job_words.specs.Naming.{program_names}
-use Rattle.job_words.specs.Words.{AssignsAny}
+use Rattle.job_words.specs.Words.{AssignsName}
 use Rattle.number_names.specs.Unboxed.{UnboxesNumbers}
 use Rattle.script_code.specs.Coded.{IsSound, unboxed}
 
@@ -62,11 +62,11 @@ IsQuiet code m = (job : JobForm) (input : Source) (outside : Outside) (a : Machi
     → (reached : Reached m job input outside a c s) → (here : AtStatement code c s) → (on : AtNumeric code c s here (IsAssigned reached))
     → Quietly a.program c (λ there. IsNext code c on.bases (Then on.next on.further) on.iterators on.out on.breaking on.continuing on.after there ⊎ AtFault code c there)
 
--- The same, said of the script and the job alone. Where the script's code does not name ARGV, a statement on numbers whose names are all unboxed is so quiet in each job of which no word is an
--- assignment: neither a `-v` nor an operand.
+-- The same, said of the script and the job alone. Where the script's code does not name ARGV, a statement on numbers whose names are all unboxed is so quiet in each job of which no word, a `-v` or an
+-- operand, assigns to one of these names.
 abbrev pub IsQuietByWords : Program → ModuleForm → Type 0
 IsQuietByWords code m = program_names code ≡ false → (job : JobForm) (input : Source) (outside : Outside) (a : MachineForm) (c : Conf) (s : HostState)
-    → (reached : Reached m job input outside a c s) → (here : AtStatement code c s) → (on : AtNumeric code c s here (λ i. AssignsAny job))
+    → (reached : Reached m job input outside a c s) → (here : AtStatement code c s) → (on : AtNumeric code c s here (λ i. AssignsName code job i))
     → Quietly a.program c (λ there. IsNext code c on.bases (Then on.next on.further) on.iterators on.out on.breaking on.continuing on.after there ⊎ AtFault code c there)
 
 -- Where a statement begins each caller that waits has at most as many operands pending as its function has expressions in the script, each part of one counted too; `main` as many as stand in no

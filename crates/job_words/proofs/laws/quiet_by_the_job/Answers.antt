@@ -1,7 +1,7 @@
 use Rattle.value_machine.proofs.CodeFollows.{code_follows}
 use Rattle.module_agreement.proofs.Agreeing.{agreement}
 use Rattle.run_places.specs.Assigned.{IsAssigned}
-use Rattle.job_words.specs.Words.{AssignsAny}
+use Rattle.job_words.specs.Words.{AssignsName}
 use Rattle.job_words.proofs.Quiet.{at_numeric}
 use Rattle.job_words.proofs.Runs.{assigned_by_job}
 use Rattle.job_words.proofs.laws.quiet_by_the_job.Goals as goal
@@ -9,4 +9,4 @@ use Rattle.job_words.proofs.laws.quiet_by_the_job.Goals as goal
 pub returns : goal.returns
 returns c = λ p sorted typed names job input outside m d s reached here a.
     c.statements_are_quiet.ensures p sorted typed job input outside m d s reached here
-    (at_numeric p d s here (λ i. AssignsAny job) (IsAssigned reached) (assigned_by_job p sorted names (agreement p (code_follows p sorted)) job input outside m d s reached) a)
+    (at_numeric p d s here (λ i. AssignsName p job i) (IsAssigned reached) (assigned_by_job p sorted names (agreement p (code_follows p sorted)) job input outside m d s reached) a)
