@@ -1,4 +1,5 @@
 mod Joins
+mod Counting
 mod Splitting
 mod Edits
 mod Later

@@ -1,5 +1,5 @@
 -- A record that is split, from its parts to the state.
-use Rattle.std.proofs.Common.{◌≡◌, ℕ, suc, ◌^◌, ◌<◌, ◌≤◌, Bool, true, false, List, [], ◌∷◌, map, length, Result, Ok, Err, refl, sym, ap, subst, ◌∙◌, arith, le-leb, pos}
+use Rattle.std.proofs.Common.{◌≡◌, ℕ, suc, ◌^◌, ◌<◌, ◌≤◌, Bool, false, List, [], ◌∷◌, map, length, Result, Ok, Err, refl, sym, ap, subst, ◌∙◌, arith, le-leb, pos}
 use Rattle.std.specs.Prelude.{◌&&◌, ◌==◌, ◌||◌, not, nat_le, if◌then◌else◌}
 use Rattle.std.specs.List.{filter}
 use Rattle.std.proofs.lemmas.Bool.Decides.{nat_tests}
@@ -10,7 +10,7 @@ use Rattle.awk_values.specs.declared.fault.Fault.TheVariants.{FieldNumber}
 use Rattle.awk_values.specs.declared.value.Value.TheVariants.{StrNum}
 use Rattle.awk_state.specs.Texts.{is_empty}
 use Rattle.awk_state.specs.SharedState.{Inner, ◌>>=◌}
-use Rattle.awk_state.specs.Fields.{Separator, behind, fields_of, is_blank, parted, pieces_of, separator_of}
+use Rattle.awk_state.specs.Fields.{Separator, fields_of, is_blank, parted, pieces_of, separator_of}
 use Rattle.awk_state.specs.FieldRows.{field_number, special_text, with_record}
 use Rattle.awk_state.specs.declared.constants.Special.TheVariants.{Fs, Rs}
 use Rattle.host_format.specs.Spans.{span_text}
@@ -19,6 +19,7 @@ use Rattle.host_fields.specs.Held.{field_at, separator_by, with_held}
 use Rattle.host_fields.specs.declared.fields.Plain.{Plain}
 use Rattle.host_fields.specs.declared.fields.Plain.TheVariants.{Blanks, Byte}
 use Rattle.host_fields.specs.Splits.{AreFields}
+use Rattle.host_fields.proofs.Counting.{parted_length}
 
 pub number_within : (n : ℕ) → n ≤ 2 ^ 20 → field_number (pos n) ≡ Ok n
 number_within n h = ap (λ b. if b then Ok n else Err FieldNumber) (le-leb n (2 ^ 20) h)
@@ -70,17 +71,11 @@ split_past inner fs rs text newlines spans same p q are many =
 
 -- A record that is to be split later.
 
-behind_few : (b : Bool) (c : ℕ) (pieces : List (List ℕ)) (n : ℕ) → length pieces ≤ n → length (behind b c pieces) ≤ suc n
-behind_few true c pieces n h = omega (arith, h)
-behind_few false c [] n h = omega arith
-behind_few false c (piece ∷ pieces) n h = omega (arith, h)
+kept_few : {X : Type 0} (test : X → Bool) (xs : List X) → length (filter test xs) ≤ length xs
+kept_few test xs = omega (arith, length-filter_both test (λ x. not (test x)) (λ x. refl) xs)
 
 parted_few : (test : ℕ → Bool) (text : List ℕ) → length (parted test text) ≤ suc (length text)
-parted_few test [] = omega arith
-parted_few test (c ∷ cs) = behind_few (test c) c (parted test cs) (suc (length cs)) (parted_few test cs)
-
-kept_few : (test : List ℕ → Bool) (pieces : List (List ℕ)) → length (filter test pieces) ≤ length pieces
-kept_few test pieces = omega (arith, length-filter_both test (λ p. not (test p)) (λ p. refl) pieces)
+parted_few test text = omega (arith, parted_length test text, kept_few test text)
 
 -- a text has at most one piece more than bytes
 pieces_few : (by : Plain) (newlines : Bool) (text : List ℕ) → length (pieces_of (separator_by by) newlines text) ≤ suc (length text)

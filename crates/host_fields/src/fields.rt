@@ -1,5 +1,5 @@
 //! Where the fields of a record stand.
-ghost use Rattle.std.specs.Prelude.{◌≡◌, IfOk, IfSome, List, Ok, OnOk};
+ghost use Rattle.std.specs.Prelude.{◌≡◌, IfOk, IfSome, List, Ok, OnOk, length};
 ghost use Rattle.awk_values.specs.Values.{text_of_value};
 ghost use Rattle.awk_values.specs.declared.value.Value.{Value as AnyValue};
 ghost use Rattle.awk_state.specs.Fields.{pieces_of, separator_of};
@@ -8,6 +8,7 @@ ghost use Rattle.host_format.specs.Spans.{AreSpans};
 ghost use Rattle.host_fields.specs.Held.{AreHeld, IsNumericText, IsPartOf, IsSplit, field_at, fields_in, separator_by};
 ghost use Rattle.host_fields.specs.declared.fields.Form.TheVariants.{Own, Parts};
 
+use crate::counted::count_pieces;
 use awk_values::Value;
 use host_format::{Sep, Span, split_into};
 use std::alloc::AllocError;
@@ -121,6 +122,17 @@ pub(crate) fn to_split(
         *form = Form::Parts;
     }
     Ok(())
+}
+
+/// How many fields `$0` has that is to be split.
+pub(crate) fn count_fields(whole: &Value, by: Plain, newlines: bool) -> usize
+    requires { IsNumericText whole.now }
+    ensures { result ≡ length (pieces_of (separator_by by) newlines (text_of_value whole.now)) }
+{
+    match whole {
+        Value::StrNum(text) => count_pieces(text.as_slice(), by, newlines),
+        _ => unreachable!(),
+    }
 }
 
 /// The fields become values of their own.

@@ -1,6 +1,7 @@
 //! The record that a script reads, and its fields (POSIX.1-2017 awk, "Variables and Special Variables", "Regular Expressions", the use of FS).
 #![tactic(auto)]
 
+mod counted;
 mod fields;
 mod joined;
 mod number;

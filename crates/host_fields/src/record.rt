@@ -6,7 +6,7 @@ ghost use Rattle.awk_state.specs.FieldRows.{at_least, field_number};
 ghost use Rattle.host_format.specs.Outcomes.{IsStopOf};
 ghost use Rattle.host_fields.specs.Calls.{IsRecordOf, IsStopOfChange, IsStopOfRecord, Makes, Reads, count_set, field_set};
 
-use crate::fields::{Form, Plain, part_of, to_own, to_split};
+use crate::fields::{Form, Plain, count_fields, part_of, to_own, to_split};
 use crate::joined::joined;
 use crate::number::{MOST, field_number};
 use crate::splitter::{LastSep, split};
@@ -218,20 +218,17 @@ impl Record {
         &self.whole
     }
 
-    /// NF, the number of fields. Nothing changes.
-    ///
-    /// # Errors
-    ///
-    /// There is no memory.
-    pub fn count(&mut self) -> Result<usize, AllocError>
-        ensures count { IfOk result (λ count. count ≡ length self.old.fields) }
+    /// NF, the number of fields. Nothing changes. It always succeeds, and needs no memory: where there is none for the places of fields that are still to
+    /// be split off, they are only counted.
+    pub fn count(&mut self) -> usize
+        ensures count { result ≡ length self.old.fields }
         ensures same { self.new ≡ self.old }
     {
-        to_split(&mut self.form, &self.whole, &mut self.spans)?;
+        let _ = to_split(&mut self.form, &self.whole, &mut self.spans);
         match self.form {
-            Form::Own => Ok(self.own.len()),
-            Form::Parts => Ok(self.spans.len()),
-            Form::Later(..) => unreachable!(),
+            Form::Own => self.own.len(),
+            Form::Parts => self.spans.len(),
+            Form::Later(by, newlines) => count_fields(&self.whole, by, newlines),
         }
     }
 }

@@ -31,7 +31,7 @@ fn special_value(texts: &mut Texts, special: Special) -> Result<Value, AllocErro
     if special != Special::Nf {
         return texts.specials.get(special).clone();
     }
-    match i64::try_from(texts.held.count()?) {
+    match i64::try_from(texts.held.count()) {
         Ok(count) => Ok(Value::Num(count)),
         Err(_) => Err(AllocError),
     }
