@@ -7,7 +7,7 @@ use Rattle.awk_values.specs.declared.value.Value.{Value}
 use Rattle.awk_state.specs.InTurn.{in_turn, listed_in_turn, values_taken}
 use Rattle.awk_state.specs.SharedState.{Inner, Pairs}
 use Rattle.awk_state.specs.Sorts.{InAnswer, Row}
-use Rattle.awk_state.specs.Table.{answer_of, arguments_of, can_fault, listed_answer, listed_meaning, meaning}
+use Rattle.awk_state.specs.Table.{can_fault, meaning}
 use Rattle.awk_state.specs.declared.sorts.Answer.{Answer}
 use Rattle.awk_state.specs.declared.sorts.Answer.TheVariants as answer
 use Rattle.awk_state.specs.declared.sorts.Argument.{Argument}
@@ -16,7 +16,6 @@ use Rattle.awk_state.specs.declared.sorts.Constant.TheVariants as constant
 use Rattle.awk_state.specs.declared.sorts.Sort.TheVariants as sort
 use Rattle.awk_state.specs.declared.table.Listed.{Listed}
 use Rattle.awk_state.specs.declared.table.Listed.TheVariants as listed
-use Rattle.awk_state.specs.declared.table.Primitive.{Primitive}
 use Rattle.awk_state.specs.declared.table.Primitive.TheVariants as row
 use Rattle.wasm_store.specs.declared.word.Word.TheVariants.{I32, I64}
 use Rattle.value_machine.specs.Cells.{Cell, Bits, Held, IteratorOf, OwnedArray, LentArray, Gone, none_owned}
@@ -26,7 +25,10 @@ use Rattle.value_machine.specs.Machine.{onto, width}
 use Rattle.value_machine.specs.declared.import.Import.{Import}
 use Rattle.value_machine.specs.declared.import.Import.TheVariants.{Arg, Drop, FreeArray, IterFree, Of, Over}
 use Rattle.value_machine.specs.declared.import.Listing.TheVariants.{Print, Printf, Sprintf}
-use Rattle.job_words.proofs.Rows.{SparedIf, array_changed, listed_kept, row_kept}
+use Rattle.value_refined.specs.Growing.{NewIn}
+use Rattle.value_refined.specs.Words.{arrays_made}
+use Rattle.value_refined.proofs.ArrayRows.{SparedIf, array_changed, listed_kept, row_kept}
+use Rattle.value_refined.proofs.Growing.{arrays_grow}
 use Rattle.job_words.proofs.Tags.{Tags, answered, is_other, popped, spares}
 
 -- the tags say of a stack what they say
@@ -94,7 +96,7 @@ module _ (argv : Pairs) where
     listed_acts_kept l n = where_kept (nat_le n (length h.arguments) && listed_in_turn l (last_of n h.arguments)) _ (listed_kept HasArgv l (last_of n h.arguments) h.shared e)
 
     acts_kept : (i : Import) (r : Row (import_arguments i)) → GivenOther i r → ActsKept (acts i r h)
-    acts_kept (Of p) r g = where_kept (in_turn p r h.shared) (primitive_acts h.arguments (can_fault p) (meaning p r h.shared)) (row_kept HasArgv one_more p r h.shared (spared (array_changed p r) h.shared.inner g e) e)
+    acts_kept (Of p) r g = where_kept (in_turn p r h.shared) (primitive_acts h.arguments (can_fault p) (meaning p r h.shared)) (row_kept HasArgv p r h.shared (λ q. one_more) (spared (array_changed p r) h.shared.inner g e) e)
     acts_kept (Over Sprintf) r g = listed_acts_kept listed.Sprintf (values_taken listed.Sprintf r.0)
     acts_kept (Over Print) r g = listed_acts_kept (listed.Print r.1.0) (values_taken (listed.Print r.1.0) r.0)
     acts_kept (Over Printf) r g = listed_acts_kept (listed.Printf r.1.0) (values_taken (listed.Printf r.1.0) r.0)
@@ -120,43 +122,10 @@ module _ (argv : Pairs) where
         by false e = refl
         by true e = let z = eqb-true x 0 e in absurd (omega (arith, l, z))
 
-    abbrev makes_array : Answer → Bool
-    makes_array (answer.Of sort.Array) = true
-    makes_array a = false
-
-    none_new : (a : Answer) (x : Result (InAnswer a) Fault) → makes_array a ≡ false → NewIf a x
-    none_new a (Err f) q = tt
-    none_new a (Ok x) q = by a x q
-      where
-        by : (a : Answer) (x : InAnswer a) → makes_array a ≡ false → IsNew a x
-        by (answer.Of sort.Array) x q = cc
-        by a x q = tt
-
-    abbrev ActsNew : (a : Answer) → Option (Acts (InAnswer a)) → Type 0
-    ActsNew a None = Unit {0}
-    ActsNew a (Some d) = NewIf a d.does.answer
-
-    where_new : (a : Answer) (b : Bool) (d : Acts (InAnswer a)) → NewIf a d.does.answer → ActsNew a (where_so b (Some d))
-    where_new a true d n = n
-    where_new a false d n = tt
-
-    row_new : (p : Primitive) (r : Row (arguments_of p)) (b : Bool) → makes_array (answer_of p) ≡ b → NewIf (answer_of p) (primitive_acts h.arguments (can_fault p) (meaning p r h.shared)).does.answer
-    row_new p r false q = none_new (answer_of p) (primitive_acts h.arguments (can_fault p) (meaning p r h.shared)).does.answer q
-    row_new row.NewArray r true q = not_first h.shared.inner.arrays (length h.shared.inner.arrays) e (omega arith)
-    row_new _ r true q = cc
-
-    listed_new : (l : Listed) (n : ℕ) → makes_array (listed_answer l) ≡ false → ActsNew (listed_answer l) (listed_acts l n h)
-    listed_new l n q = where_new (listed_answer l) (nat_le n (length h.arguments) && listed_in_turn l (last_of n h.arguments)) _ (none_new (listed_answer l) (listed_meaning l (last_of n h.arguments) h.shared).answer q)
-
-    acts_new : (i : Import) (r : Row (import_arguments i)) → ActsNew (import_answer i) (acts i r h)
-    acts_new (Of p) r = where_new (answer_of p) (in_turn p r h.shared) (primitive_acts h.arguments (can_fault p) (meaning p r h.shared)) (row_new p r (makes_array (answer_of p)) refl)
-    acts_new (Over Sprintf) r = listed_new listed.Sprintf (values_taken listed.Sprintf r.0) refl
-    acts_new (Over Print) r = listed_new (listed.Print r.1.0) (values_taken (listed.Print r.1.0) r.0) refl
-    acts_new (Over Printf) r = listed_new (listed.Printf r.1.0) (values_taken (listed.Printf r.1.0) r.0) refl
-    acts_new Arg r = tt
-    acts_new Drop r = tt
-    acts_new IterFree r = tt
-    acts_new FreeArray r = tt
+    new_by : (made : ℕ) (a : Answer) (x : Result (InAnswer a) Fault) → NewIn (arrays_made h) made a x → NewIf a x
+    new_by made (answer.Of sort.Array) (Ok x) n = not_first h.shared.inner.arrays x e n.0
+    new_by made a (Err f) n = tt
+    new_by made a (Ok x) n = tt
 
     -- The answer's cell.
 
@@ -208,11 +177,11 @@ module _ (argv : Pairs) where
 
       acted_fits : (i : Import) (given : Option (Row (import_arguments i))) → GivenIf i given → FitsIf i (acted i h given)
       acted_fits i None g = tt
-      acted_fits i (Some r) g = by (acts i r h) (acts_kept i r g) (acts_new i r)
+      acted_fits i (Some r) g = by (acts i r h) refl (acts_kept i r g)
         where
-          by : (o : Option (Acts (InAnswer (import_answer i)))) → ActsKept o → ActsNew (import_answer i) o → FitsIf i (with_some o (λ d. Some (replied (import_answer i) h d d.does.answer)))
-          by None k n = tt
-          by (Some d) k n = replied_fits i d d.does.answer k n
+          by : (o : Option (Acts (InAnswer (import_answer i)))) → acts i r h ≡ o → ActsKept o → FitsIf i (with_some o (λ d. Some (replied (import_answer i) h d d.does.answer)))
+          by None q k = tt
+          by (Some d) q k = replied_fits i d d.does.answer k (new_by (length d.does.inner.arrays) (import_answer i) d.does.answer (arrays_grow i r h d q).fresh)
 
       fault_kept_fits : (memory : List ℕ) (i : Import) (cs : List Cell) → GivenIf i (taken memory i cs) → FitsIf i (after_fault memory i cs h)
       fault_kept_fits memory i cs g = by (lets_go i) (none_owned cs)

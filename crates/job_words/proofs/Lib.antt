@@ -1,4 +1,3 @@
-pub mod Rows
 pub mod Tags
 pub mod Names
 pub mod Told

@@ -1,15 +1,11 @@
 -- No call gives up an array's number in the shared state, and only `new_array` gives one out.
-use Rattle.std.proofs.Common.{◌≡◌, ℕ, ◌+◌, ◌&&◌, ◌++◌, Bool, true, false, [], ◌∷◌, length, nat_le, Some, Result, refl, subst, arith}
-use Rattle.std.proofs.lemmas.List.{length-append}
+use Rattle.std.proofs.Common.{◌≡◌, ℕ, ◌+◌, ◌&&◌, ◌++◌, Bool, true, false, List, [], ◌∷◌, length, nat_le, Option, Some, None, Result, refl, sym, ap, ◌∙◌, subst, arith, true≢false}
+use Rattle.std.proofs.lemmas.List.{length-append, length-set}
 use Rattle.awk_values.specs.declared.fault.Fault.{Fault}
-use Rattle.awk_values.specs.Values.{text_of_value}
-use Rattle.awk_state.specs.FieldRows.{set_field_row, set_special_row}
 use Rattle.awk_state.specs.InTurn.{in_turn, listed_in_turn, values_taken}
-use Rattle.awk_state.specs.InputRows.{getline_file_row, getline_line_file_row, getline_line_row, getline_row, next_main_row, start_assign_row}
-use Rattle.awk_state.specs.SharedState.{Does, Shared}
+use Rattle.awk_state.specs.SharedState.{Does, Inner, Pairs, Shared}
 use Rattle.awk_state.specs.Sorts.{InAnswer, Row}
 use Rattle.awk_state.specs.Table.{answer_of, arguments_of, can_fault, listed_answer, meaning}
-use Rattle.awk_state.specs.TextRows.{match_row, split_row, substitute_row}
 use Rattle.awk_state.specs.declared.sorts.Answer.{Answer}
 use Rattle.awk_state.specs.declared.sorts.Answer.TheVariants as answer
 use Rattle.awk_state.specs.declared.sorts.Sort.TheVariants as sort
@@ -22,35 +18,26 @@ use Rattle.value_machine.specs.declared.import.Listing.TheVariants.{Sprintf, Pri
 use Rattle.value_machine.specs.declared.import.Import.TheVariants.{Of, Over, Arg, Drop, IterFree, FreeArray}
 use Rattle.value_refined.specs.Growing.{ArraysGrow, GrowsBy, NewIn}
 use Rattle.value_refined.specs.Words.{arrays_made}
-use Rattle.value_refined.proofs.GrowingRows.{Has, array_good, found_good, getline_file_good, getline_good, getline_line_file_good, getline_line_good, given_up_good}
-use Rattle.value_refined.proofs.GrowingRows.{listed_kept, match_good, next_main_good, set_field_good, set_special_good, settled, split_good, start_good}
-use Rattle.value_refined.proofs.GrowingRows.{substitute_good, visited_good}
+use Rattle.value_refined.proofs.ArrayRows.{SparedIf, array_changed, listed_kept, row_kept}
 
 abbrev makes_array : Answer → Bool
 makes_array (answer.Of sort.Array) = true
 makes_array _ = false
 
+abbrev So : ℕ → List Pairs → Type 0
+So n arrays = length arrays ≡ n
+
+abbrev Has : ℕ → Inner → Type 0
+Has n i = So n i.arrays
+
+spared : (n : ℕ) (o : Option ℕ) (i : Inner) → Has n i → SparedIf (So n) o i
+spared n None i e = tt
+spared n (Some a) i e = λ ps. length-set i.arrays a ps ∙ e
+
 -- all rows but `new_array` leave as many arrays as there were
 row_keeps : (n : ℕ) (p : Primitive) (r : Row (arguments_of p)) (s : Shared) → makes_array (answer_of p) ≡ false → Has n s.inner → Has n (meaning p r s).inner
-row_keeps n row.NewArray r s a e = cc
-row_keeps n row.SetSpecial r s a e = settled n s (set_special_row r.0 r.1.0 s.inner) e (set_special_good n r.0 r.1.0 s.inner e)
-row_keeps n row.SetField r s a e = settled n s (set_field_row r.0 r.1.0 s.inner) e (set_field_good n r.0 r.1.0 s.inner e)
-row_keeps n row.Elem r s a e = found_good n r.0 (text_of_value r.1.0) s.inner _ e
-row_keeps n row.SetElem r s a e = array_good n r.0 _ s.inner e
-row_keeps n row.Delete r s a e = array_good n r.0 _ s.inner e
-row_keeps n row.Clear r s a e = array_good n r.0 [] s.inner e
-row_keeps n row.NextFile r s a e = given_up_good n s.inner.main.reading s.inner e
-row_keeps n row.IterNext r s a e = visited_good n r.0 s.inner _ e
-row_keeps n row.Match r s a e = settled n s (match_row r.0 r.1.0 s.inner) e (match_good n r.0 r.1.0 s.inner e)
-row_keeps n row.Sub r s a e = settled n s (substitute_row r.0 r.1.0 r.1.1.0 r.1.1.1.0 s.inner) e (substitute_good n r.0 r.1.0 r.1.1.0 r.1.1.1.0 s.inner e)
-row_keeps n row.Split r s a e = settled n s (split_row r.0 r.1.0 r.1.1.0 r.1.1.1.0 s.inner) e (split_good n r.0 r.1.0 r.1.1.0 r.1.1.1.0 s.inner e)
-row_keeps n row.NextMain r s a e = settled n s (next_main_row s.outside s.inner) e (next_main_good n s.outside s.inner e)
-row_keeps n row.Getline r s a e = settled n s (getline_row s.outside s.inner) e (getline_good n s.outside s.inner e)
-row_keeps n row.GetlineVar r s a e = settled n s (getline_line_row s.outside s.inner) e (getline_line_good n s.outside s.inner e)
-row_keeps n row.GetlineFile r s a e = settled n s (getline_file_row r.0 s.outside s.inner) e (getline_file_good n r.0 s.outside s.inner e)
-row_keeps n row.GetlineVarFile r s a e = settled n s (getline_line_file_row r.0 s.outside s.inner) e (getline_line_file_good n r.0 s.outside s.inner e)
-row_keeps n row.StartAssign r s a e = settled n s (start_assign_row s.inner) e (start_good n s.inner.assigns s.inner e)
-row_keeps n _ r s a e = e
+row_keeps n p r s a e =
+    row_kept (So n) p r s (λ q. let h = sym a ∙ ap (λ (z : Primitive). makes_array (answer_of z)) q in absurd (true≢false (sym h))) (spared n (array_changed p r) s.inner e) e
 
 none_new : (made made1 : ℕ) (a : Answer) (x : Result (InAnswer a) Fault) → makes_array a ≡ false → NewIn made made1 a x
 none_new made made1 (answer.Of sort.Array) x e = cc
@@ -78,7 +65,7 @@ listed_grows : (l : Listed) (n : ℕ) (h : Host) (d : Acts (InAnswer (listed_ans
 listed_grows l n h d e a =
     subst (λ (x : Acts (InAnswer (listed_answer l))). GrowsBy (arrays_made h) (listed_answer l) x.does)
     (in_turn_does (nat_le n (length h.arguments) && listed_in_turn l (last_of n h.arguments)) _ d e)
-    (as_many (arrays_made h) (listed_answer l) _ a (listed_kept (arrays_made h) l (last_of n h.arguments) h.shared refl))
+    (as_many (arrays_made h) (listed_answer l) _ a (listed_kept (So (arrays_made h)) l (last_of n h.arguments) h.shared refl))
 
 only_answered : (h : Host) (x d : Acts (Unit {0})) → Some x ≡ Some d → Has (arrays_made h) x.does.inner → GrowsBy (arrays_made h) answer.Nothing d.does
 only_answered h x d e k = subst (λ (y : Acts (Unit {0})). GrowsBy (arrays_made h) answer.Nothing y.does) (in_turn_does true x d e)

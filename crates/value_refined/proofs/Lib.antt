@@ -11,7 +11,7 @@ pub mod Settling
 pub mod Asking
 pub mod Answered
 pub mod Asked
-mod GrowingRows
+pub mod ArrayRows
 pub mod Growing
 pub mod Outputs
 pub mod Links

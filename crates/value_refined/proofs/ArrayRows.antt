@@ -1,7 +1,6 @@
--- No row but `new_array` changes how many arrays there are: what each leaves of a state that has n.
-use Rattle.std.proofs.Common.{◌≡◌, ℕ, zero, suc, Bool, true, false, List, [], ◌∷◌, Some, None, Option, Result, Ok, Err, ◌∙◌}
-use Rattle.std.specs.Prelude.{ℤ, ◌-◌, ◌+◌, ◌^◌, length, map, pos, slice_set}
-use Rattle.std.proofs.lemmas.List.{length-set}
+-- What a row leaves of a fact on the arrays: rows that are given no array leave them as they are, and `new_array` puts an empty one behind them.
+use Rattle.std.proofs.Common.{◌≡◌, ℕ, zero, suc, Bool, true, false, List, [], ◌∷◌, Some, None, Option, Result, Ok, Err, refl}
+use Rattle.std.specs.Prelude.{ℤ, ◌-◌, ◌+◌, ◌^◌, ◌++◌, length, map, pos, slice_set}
 use Rattle.awk_text.specs.Escapes.{unescaped}
 use Rattle.awk_values.specs.Operators.{sum}
 use Rattle.awk_values.specs.Values.{number_of_value, text_of_value}
@@ -23,16 +22,19 @@ use Rattle.awk_state.specs.InputRows.{file_or_assignment, follows}
 use Rattle.awk_state.specs.InputRows.{getline_by, getline_file_row, getline_line_file_row, getline_line_row, getline_of, getline_row, go_on, got_file, got_main}
 use Rattle.awk_state.specs.InputRows.{gives_up, is_below, leaves, made, main_input}
 use Rattle.awk_state.specs.InputRows.{next_main_row, next_of, next_operand, next_record, open_or_read, opened, opened_file, operand_text, over, passes_operand}
-use Rattle.awk_state.specs.InputRows.{reach, reach_by, reached, read_file}
+use Rattle.awk_state.specs.InputRows.{reach, reach_by, reached, read_file, start_assign_row}
 use Rattle.awk_state.specs.InputRows.{read_main, reader_named, reader_of, reader_source, source_of, start_by, start_from, stops_reading, taken, with_operands}
 use Rattle.awk_state.specs.InputRows.{with_reader}
 use Rattle.awk_state.specs.Numbers.{Number}
 use Rattle.awk_state.specs.OutputRows.{file_name, formatted_values, has_room, is_writing, kept_open, opened_if, operands_of, printed, printf_by, put_text}
 use Rattle.awk_state.specs.OutputRows.{written_by}
 use Rattle.awk_state.specs.Records.{Got, Record, AtEnd, Broken}
-use Rattle.awk_state.specs.SharedState.{Inner, MainReader, Standard, File, Operands, NoFile, SomeFile, NoneLeft, Shared, ◌>>=◌, settles, special_of}
+use Rattle.awk_state.specs.SharedState.{Inner, Pairs, MainReader, Standard, File, Operands, NoFile, SomeFile, NoneLeft, Shared, ◌>>=◌, settles, special_of}
 use Rattle.awk_state.specs.SharedState.{with_special}
-use Rattle.awk_state.specs.Table.{listed_meaning}
+use Rattle.awk_state.specs.Sorts.{Row}
+use Rattle.awk_state.specs.Table.{arguments_of, listed_meaning, meaning}
+use Rattle.awk_state.specs.declared.table.Primitive.{Primitive}
+use Rattle.awk_state.specs.declared.table.Primitive.TheVariants as row
 use Rattle.awk_state.specs.TextRows.{match_row, match_start, places_of, replaced, split_row, splits_at, substitute_row, substituted_by, with_match}
 use Rattle.awk_state.specs.Texts.{counted, limited}
 use Rattle.awk_state.specs.declared.answers.AssignAnswer.{AssignAnswer}
@@ -47,9 +49,22 @@ use Rattle.awk_state.specs.declared.constants.Special.TheVariants.{Argc, Fnr, Fs
 use Rattle.awk_state.specs.declared.table.Listed.{Listed}
 use Rattle.awk_state.specs.declared.table.Listed.TheVariants as listed
 
-module _ (n : ℕ) where
+-- the array that a row may change, by the arguments that it is given
+abbrev pub array_changed : (p : Primitive) → Row (arguments_of p) → Option ℕ
+array_changed row.Elem r = Some r.0
+array_changed row.SetElem r = Some r.0
+array_changed row.Delete r = Some r.0
+array_changed row.Clear r = Some r.0
+array_changed row.Split r = Some r.1.0
+array_changed p r = None
+
+module _ (P : List Pairs → Type 0) where
   abbrev pub Has : Inner → Type 0
-  Has i = length i.arrays ≡ n
+  Has i = P i.arrays
+
+  -- whatever one array becomes
+  abbrev pub Spared : ℕ → Inner → Type 0
+  Spared a i = (ps : Pairs) → P (slice_set i.arrays a ps)
 
   -- where there is an answer, its state has as many
   abbrev pub Good : {B : Type 0} → (B → Inner) → Result B Fault → Type 0
@@ -72,7 +87,7 @@ module _ (n : ℕ) where
   bound_on g g1 (Ok a) f r h = h a r
   bound_on g g1 (Err e) f r h = tt
 
-  pub settled : {A : Type 0} → (s : Shared) (r : Result (Inner × A) Fault) → Has s.inner → GoodRow r → Has (settles s r).inner
+  settled : {A : Type 0} → (s : Shared) (r : Result (Inner × A) Fault) → Has s.inner → GoodRow r → Has (settles s r).inner
   settled s (Ok x) e h = h
   settled s (Err f) e h = e
 
@@ -102,24 +117,21 @@ module _ (n : ℕ) where
   done_good (Ok j) h = h
   done_good (Err f) h = tt
 
-  pub set_special_good : (s : Special) (v : Value) (i : Inner) → Has i → GoodRow (set_special_row s v i)
+  set_special_good : (s : Special) (v : Value) (i : Inner) → Has i → GoodRow (set_special_row s v i)
   set_special_good s v i e = done_good (set_special s v i) (special_good s v i e)
 
-  pub set_field_good : (k : Number) (v : Value) (i : Inner) → Has i → GoodRow (set_field_row k v i)
+  set_field_good : (k : Number) (v : Value) (i : Inner) → Has i → GoodRow (set_field_row k v i)
   set_field_good k v i e = bound (λ x. x.0) (field_number k.number) (λ m. done (with_field m v i)) (λ m. done_good (with_field m v i) (field_good m v i e))
 
-  pub array_good : (a : ℕ) (ps : List (List ℕ × Value)) (i : Inner) → Has i → Has (with_array a ps i)
-  array_good a ps i e = length-set i.arrays a ps ∙ e
+  found_good : (a : ℕ) (key : List ℕ) (i : Inner) (o : Option Value) → Spared a i → Has i → Has (found a key i o).0
+  found_good a key i (Some v) f e = e
+  found_good a key i None f e = f (stored key Uninit (array a i))
 
-  pub found_good : (a : ℕ) (key : List ℕ) (i : Inner) (o : Option Value) → Has i → Has (found a key i o).0
-  found_good a key i (Some v) e = e
-  found_good a key i None e = array_good a (stored key Uninit (array a i)) i e
-
-  pub visited_good : (t : ℕ) (i : Inner) (rest : List (List ℕ)) → Has i → Has (visited t i rest).0
+  visited_good : (t : ℕ) (i : Inner) (rest : List (List ℕ)) → Has i → Has (visited t i rest).0
   visited_good t i [] e = e
   visited_good t i (key ∷ rest) e = e
 
-  pub match_good : (v ere : Value) (i : Inner) → Has i → GoodRow (match_row v ere i)
+  match_good : (v ere : Value) (i : Inner) → Has i → GoodRow (match_row v ere i)
   match_good v ere i e =
       let m : Tree → Option (ℕ × ℕ) = λ t. first_match t (text_of_value v) 0 in
       bound (λ x. x.0) (expression_of (text_of_value ere)) (λ t. Ok (with_match (m t) i, counted (match_start (m t)))) (λ t. e)
@@ -128,17 +140,17 @@ module _ (n : ℕ) where
   substituted_good ps by text i e = bound (λ x. x.0) (limited (replaced text by 0 ps))
       (λ new. Ok (record i { substituted = Some (Text new) }, counted (length ps))) (λ new. e)
 
-  pub substitute_good : (ere by target : Value) (all : Bool) (i : Inner) → Has i → GoodRow (substitute_row ere by target all i)
+  substitute_good : (ere by target : Value) (all : Bool) (i : Inner) → Has i → GoodRow (substitute_row ere by target all i)
   substitute_good ere by target all i e =
       bound (λ x. x.0) (expression_of (text_of_value ere)) (λ t. substituted_by (places_of t (text_of_value target) all) (text_of_value by)
       (text_of_value target) i)
       (λ t. substituted_good (places_of t (text_of_value target) all) (text_of_value by) (text_of_value target) i e)
 
-  pub split_good : (v : Value) (a : ℕ) (separator : Value) (is_ere : Bool) (i : Inner) → Has i → GoodRow (split_row v a separator is_ere i)
-  split_good v a separator is_ere i e =
+  split_good : (v : Value) (a : ℕ) (separator : Value) (is_ere : Bool) (i : Inner) → Spared a i → GoodRow (split_row v a separator is_ere i)
+  split_good v a separator is_ere i f =
       let pieces : Separator → List (List ℕ) = λ s. pieces_of s false (text_of_value v) in
       bound (λ x. x.0) (splits_at is_ere (text_of_value separator)) (λ s. Ok (with_array a (numbered 1 (pieces s)) i, counted (length (pieces s))))
-      (λ s. array_good a (numbered 1 (pieces s)) i e)
+      (λ s. f (numbered 1 (pieces s)))
 
   -- Assignments of the command line.
 
@@ -167,7 +179,7 @@ module _ (n : ℕ) where
   start_by_good on good (j, true) e = e
   start_by_good on good (j, false) e = good j e
 
-  pub start_good : (pairs : List (List ℕ × List ℕ)) (i : Inner) → Has i → GoodRow (start_from pairs i)
+  start_good : (pairs : List (List ℕ × List ℕ)) (i : Inner) → Has i → GoodRow (start_from pairs i)
   start_good [] i e = e
   start_good (pair ∷ rest) i e =
       bound_on (λ x. x.0) (λ x. x.0) (assigned pair.0 pair.1 (record i { assigns = rest })) (λ x. start_by (start_from rest) x)
@@ -179,7 +191,7 @@ module _ (n : ℕ) where
   leaves_good Standard left i e = e
   leaves_good (File s) left i e = e
 
-  pub given_up_good : (o : Option MainReader) (i : Inner) → Has i → Has (gives_up o i)
+  given_up_good : (o : Option MainReader) (i : Inner) → Has i → Has (gives_up o i)
   given_up_good None i e = e
   given_up_good (Some Standard) i e = e
   given_up_good (Some (File source)) i e = e
@@ -270,7 +282,7 @@ module _ (n : ℕ) where
   next_of_good (i, NotOpened) e = tt
   next_of_good (i, Failed) e = tt
 
-  pub next_main_good : (o : Outside) (i : Inner) → Has i → GoodRow (next_main_row o i)
+  next_main_good : (o : Outside) (i : Inner) → Has i → GoodRow (next_main_row o i)
   next_main_good o i e = bound_on (λ x. x.0) (λ x. x.0) (main_input o i) (λ x. next_of x) (main_good o i e) next_of_good
 
   module _ (keep : List ℕ → Inner → Result (Inner × InputAnswer) Fault) (good : (text : List ℕ) (i : Inner) → Has i → GoodRow (keep text i)) where
@@ -308,16 +320,16 @@ module _ (n : ℕ) where
         by true = opened_file_good name (source_of (o (Named name))) i e
         by false = tt
 
-  pub getline_good : (o : Outside) (i : Inner) → Has i → GoodRow (getline_row o i)
+  getline_good : (o : Outside) (i : Inner) → Has i → GoodRow (getline_row o i)
   getline_good o i e = getline_good_by as_record as_record_good i.in_end o i e
 
-  pub getline_line_good : (o : Outside) (i : Inner) → Has i → GoodRow (getline_line_row o i)
+  getline_line_good : (o : Outside) (i : Inner) → Has i → GoodRow (getline_line_row o i)
   getline_line_good o i e = getline_good_by as_line as_line_good i.in_end o i e
 
-  pub getline_file_good : (name : Value) (o : Outside) (i : Inner) → Has i → GoodRow (getline_file_row name o i)
+  getline_file_good : (name : Value) (o : Outside) (i : Inner) → Has i → GoodRow (getline_file_row name o i)
   getline_file_good name o i e = open_good as_record as_record_good (text_of_value name) o (reader_named (text_of_value name) i.readers) i e
 
-  pub getline_line_file_good : (name : Value) (o : Outside) (i : Inner) → Has i → GoodRow (getline_line_file_row name o i)
+  getline_line_file_good : (name : Value) (o : Outside) (i : Inner) → Has i → GoodRow (getline_line_file_row name o i)
   getline_line_file_good name o i e = open_good as_line as_line_good (text_of_value name) o (reader_named (text_of_value name) i.readers) i e
 
   -- Printing.
@@ -349,3 +361,30 @@ module _ (n : ℕ) where
   listed_kept listed.Sprintf values s e = e
   listed_kept (listed.Print to) values s e = put_kept to (file_name to values) (printed s.inner (operands_of to values)) s e
   listed_kept (listed.Printf to) values s e = printf_kept (formatted_values (operands_of to values)) to (file_name to values) s e
+
+  -- ALL ROWS. An array that a row may change is one whose change does no harm; and an empty array more does none.
+
+  abbrev pub SparedIf : Option ℕ → Inner → Type 0
+  SparedIf None i = Unit {0}
+  SparedIf (Some a) i = Spared a i
+
+  pub row_kept : (p : Primitive) (r : Row (arguments_of p)) (s : Shared) → (p ≡ row.NewArray → (arrays : List Pairs) → P arrays → P (arrays ++ [] ∷ [])) → SparedIf (array_changed p r) s.inner → Has s.inner → Has (meaning p r s).inner
+  row_kept row.NewArray r s more f e = more refl s.inner.arrays e
+  row_kept row.SetSpecial r s more f e = settled s (set_special_row r.0 r.1.0 s.inner) e (set_special_good r.0 r.1.0 s.inner e)
+  row_kept row.SetField r s more f e = settled s (set_field_row r.0 r.1.0 s.inner) e (set_field_good r.0 r.1.0 s.inner e)
+  row_kept row.Elem r s more f e = found_good r.0 (text_of_value r.1.0) s.inner _ f e
+  row_kept row.SetElem r s more f e = f _
+  row_kept row.Delete r s more f e = f _
+  row_kept row.Clear r s more f e = f []
+  row_kept row.NextFile r s more f e = given_up_good s.inner.main.reading s.inner e
+  row_kept row.IterNext r s more f e = visited_good r.0 s.inner _ e
+  row_kept row.Match r s more f e = settled s (match_row r.0 r.1.0 s.inner) e (match_good r.0 r.1.0 s.inner e)
+  row_kept row.Sub r s more f e = settled s (substitute_row r.0 r.1.0 r.1.1.0 r.1.1.1.0 s.inner) e (substitute_good r.0 r.1.0 r.1.1.0 r.1.1.1.0 s.inner e)
+  row_kept row.Split r s more f e = settled s (split_row r.0 r.1.0 r.1.1.0 r.1.1.1.0 s.inner) e (split_good r.0 r.1.0 r.1.1.0 r.1.1.1.0 s.inner f)
+  row_kept row.NextMain r s more f e = settled s (next_main_row s.outside s.inner) e (next_main_good s.outside s.inner e)
+  row_kept row.Getline r s more f e = settled s (getline_row s.outside s.inner) e (getline_good s.outside s.inner e)
+  row_kept row.GetlineVar r s more f e = settled s (getline_line_row s.outside s.inner) e (getline_line_good s.outside s.inner e)
+  row_kept row.GetlineFile r s more f e = settled s (getline_file_row r.0 s.outside s.inner) e (getline_file_good r.0 s.outside s.inner e)
+  row_kept row.GetlineVarFile r s more f e = settled s (getline_line_file_row r.0 s.outside s.inner) e (getline_line_file_good r.0 s.outside s.inner e)
+  row_kept row.StartAssign r s more f e = settled s (start_assign_row s.inner) e (start_good s.inner.assigns s.inner e)
+  row_kept _ r s more f e = e
