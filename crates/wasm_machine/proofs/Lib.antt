@@ -1,5 +1,6 @@
 pub mod Calls
 pub mod Following
+pub mod KnownTurns
 pub mod Laying
 pub mod Placing
 pub mod Refusals
