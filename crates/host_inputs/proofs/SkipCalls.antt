@@ -104,7 +104,7 @@ module _ (t : Texts) (i : Input) (m : Mains) (old new : State) (nothing : m.read
         (ap (λ (u : Outside). record at_last { shared = record at_last.shared { outside = u; output = o } }) (sym (outside y)) ∙ ap (λ (q : List Action). with_output q at_last) (sym (append-nil o)))
 
     -- in some world the definition's own step
-    given_state : Past → HostState
+    abbrev given_state : Past → HostState
     given_state p = state_with (state_of before p).names (next_file_row (state_of before p).shared.inner).0 before
 
     skip_anyhow : (p : Past) → IsStepInSomeWorld (Of row.NextFile) (state_of before p) [] memory (told.Done (Some (I32 0))) (state_of later p)

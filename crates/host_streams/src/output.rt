@@ -70,6 +70,7 @@ fn put_new<W: World>(world: &mut W, name: &[u8], append: bool, text: &[u8]) -> R
 impl Streams {
     /// Whether all that was put to a file is out (`fflush`): where the file is open for writing it is, since each text goes out at once. The empty name
     /// says all files.
+    #[tactic(auto, using(crate::proofs::Outputs::out_there))]
     pub fn is_out(&self, name: &[u8]) -> bool
         ensures { result ≡ all_out name.now (names_of self.now.writers.items) }
     {

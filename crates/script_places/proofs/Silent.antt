@@ -39,7 +39,10 @@ module _ (home : Home) (scope : Scope) (n : ℕ) (calls : Calls) where
         λ j. maybe_done scope n calls i >> loop n (maybe_test scope n calls c) (silent_statement s (Within (stmt.For i c p s) ∷ w) j) (silent_between (stmt.For i c p s) p w j)
     silent_statement (stmt.ForIn k a s) w =
         λ j. array_number (array_of scope a) >>= λ i. does row.Iter (i, tt) >>= λ keys. over_keys n keys (store_variable (variable_of scope k)) (silent_statement s (Within (stmt.ForIn k a s) ∷ w) j)
-    silent_statement (stmt.Jumping j) w = refl
+    silent_statement (stmt.Jumping stmt.Break) w = refl
+    silent_statement (stmt.Jumping stmt.Continue) w = refl
+    silent_statement (stmt.Jumping stmt.Next) w = refl
+    silent_statement (stmt.Jumping stmt.NextFile) w = refl
     silent_statement (stmt.Leave l t) w = refl
 
     silent_statements : (ss : Stmts) (w : List Frame) → all_marked (no_marks home) scope n calls ss w ≡ all_done scope n calls ss

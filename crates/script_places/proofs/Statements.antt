@@ -9,13 +9,14 @@ use Rattle.awk_grammar.specs.Tree.{Tree}
 use Rattle.wasm_types.specs.Syntax.{Instructions, Done}
 use Rattle.wasm_types.specs.declared.instr.Simple.TheVariants.{Br}
 use Rattle.mid_program.specs.Meaning.{Calls}
-use Rattle.mid_program.specs.Mid.{Kind, Slot, Code, Step, Block, Steps, NoStep}
+use Rattle.mid_program.specs.Mid.{Kind, Slot, Code, End, Step, Eval, Block, Steps, NoStep}
+use Rattle.mid_program.specs.MidMeaning.{all_evaluated, evaluated, stepped}
 use Rattle.mid_program.specs.Names.{Scope, array_of, variable_of}
-use Rattle.mid_program.specs.ScriptState.{Doing, ◌>>=◌, ◌>>◌, give, nothing, does}
+use Rattle.mid_program.specs.ScriptState.{Doing, ◌>>=◌, ◌>>◌, give, nothing, stop, Nexted, does}
 use Rattle.mid_program.specs.Statements.{Flow, Normal, after, after_round, loop, over_keys, maybe_test, plain_done, maybe_done, done_by}
 use Rattle.mid_program.specs.Steps.{array_number}
 use Rattle.mid_program.specs.Texts.{texts_in, maybe_texts, maybe_plain_texts, plain_texts, stmt_texts, stmts_texts}
-use Rattle.mid_program.specs.Translation.{plain_step, maybe_step, step_code, steps_code}
+use Rattle.mid_program.specs.Translation.{host, plain_step, maybe_step, step_code, steps_code}
 use Rattle.mid_code.proofs.Stands.{AllStand, first_part, second_part}
 use Rattle.mid_code.proofs.Statements.{alone, plainly, quietly}
 use Rattle.value_machine.specs.Emission.{Layout}
@@ -26,7 +27,7 @@ use Rattle.value_machine.specs.Small.{does as instruction}
 use Rattle.value_machine.specs.Statements.{steps_emitted}
 use Rattle.script_places.specs.Marked.{mark, between_marked, done_marked, all_marked}
 use Rattle.script_places.specs.Places.{Position, aside, met, at_end, in_block, final, final_steps, test_in, step_of, step_at, back, round, loop_of, position, part_place}
-use Rattle.script_places.specs.Spots.{Frame, Before, Within, AfterElse, Part, Whole, First, Looping, Between, Testing, Unless, Spot, Of}
+use Rattle.script_places.specs.Spots.{Frame, Before, Within, AfterElse, Part, Whole, First, Looping, Between, Testing, Unless, GivesUp, Leaves, Spot, Of}
 use Rattle.script_places.proofs.Final.{DoesSo, maybe_tests}
 
 -- at one of two positions
@@ -39,6 +40,13 @@ module _ (y : Layout) (slots : Slot → Slot) (texts : List (List ℕ)) (scope :
   something (stmt.Eval t) = refl
   something (stmt.Put p args t) = refl
   something (stmt.Delete a ts) = refl
+  something (stmt.Clear a) = refl
+
+-- what gives up the rest of the main input
+given_up : (slots : Slot → Slot) (texts : List (List ℕ)) (parameters : List (List Kind)) (n : ℕ) (calls : Calls) →
+    stepped texts parameters n calls (final slots (Eval (host row.NextFile End))) ≡ (does row.NextFile tt >> give Normal)
+unfolding evaluated all_evaluated stepped
+given_up slots texts parameters n calls = refl
 
 module _ (notes : Notes) (y : Layout) (texts : List (List ℕ)) (parameters : List (List Kind)) (n : ℕ) (calls : Calls) where
   -- a step with notes, at a position
@@ -85,6 +93,7 @@ module _ (notes : Notes) (y : Layout) (slots : Slot → Slot) (texts : List (Lis
   plain_so (stmt.Eval t) f q = λ i. noted notes (step_at y slots texts scope (final slots (plain_step texts scope (stmt.Eval t))) q) >> so.statements (stmt.Simple (stmt.Eval t)) f i
   plain_so (stmt.Put p args t) f q = λ i. noted notes (step_at y slots texts scope (final slots (plain_step texts scope (stmt.Put p args t))) q) >> so.statements (stmt.Simple (stmt.Put p args t)) f i
   plain_so (stmt.Delete a ts) f q = λ i. noted notes (step_at y slots texts scope (final slots (plain_step texts scope (stmt.Delete a ts))) q) >> so.statements (stmt.Simple (stmt.Delete a ts)) f i
+  plain_so (stmt.Clear a) f q = λ i. noted notes (step_at y slots texts scope (final slots (plain_step texts scope (stmt.Clear a))) q) >> so.statements (stmt.Simple (stmt.Clear a)) f i
 
   maybe_so : (p : Option stmt.Plain) → AllStand texts (maybe_plain_texts p) → (q : Position) →
       noting (final slots (maybe_step texts scope p)) q ≡ (noted notes (step_at y slots texts scope (final slots (maybe_step texts scope p)) q) >> (maybe_done scope n calls p >> give Normal))
@@ -144,6 +153,13 @@ module _ (notes : Notes) (y : Layout) (slots : Slot → Slot) (texts : List (Lis
     step_so (stmt.Jumping stmt.Break) f w = λ j. passes (stmt.Jumping stmt.Break) Whole w j >> so.statements (stmt.Jumping stmt.Break) f j
     step_so (stmt.Jumping stmt.Continue) f w = λ j. passes (stmt.Jumping stmt.Continue) Whole w j >> so.statements (stmt.Jumping stmt.Continue) f j
     step_so (stmt.Jumping stmt.Next) f w = λ j. passes (stmt.Jumping stmt.Next) Whole w j >> so.statements (stmt.Jumping stmt.Next) f j
+    step_so (stmt.Jumping stmt.NextFile) f w =
+        let s = stmt.Jumping stmt.NextFile in
+        let gives = mark (marks (Of s GivesUp w)) >> does row.NextFile tt in
+        let leaves = mark (marks (Of s Leaves w)) >> stop Nexted in
+        (λ j. passes s Whole w j >> ((passes s GivesUp w j >> given_up slots texts parameters n calls j) >>= λ flow. after flow ((passes s Leaves w j >> so.statements (stmt.Jumping stmt.Next) f j) >>= λ flow1. after flow1 (give Normal))))
+        ∙ (λ j. mark (marks (Of s Whole w)) >> ((mark (marks (Of s GivesUp w)) >> (does row.NextFile tt >> give Normal)) >>= λ flow. after flow (alone leaves j)))
+        ∙ (λ j. mark (marks (Of s Whole w)) >> plainly gives leaves j)
     step_so (stmt.Leave stmt.Exit None) f w = λ j. passes (stmt.Leave stmt.Exit None) Whole w j >> so.statements (stmt.Leave stmt.Exit None) f j
     step_so (stmt.Leave stmt.Exit (Some t)) f w = λ j. passes (stmt.Leave stmt.Exit (Some t)) Whole w j >> so.statements (stmt.Leave stmt.Exit (Some t)) f j
     step_so (stmt.Leave stmt.Return None) f w = λ j. passes (stmt.Leave stmt.Return None) Whole w j >> so.statements (stmt.Leave stmt.Return None) f j

@@ -4,16 +4,16 @@ use Rattle.std.specs.Prelude.{ℕ, zero, suc, ◌+◌, true, false, if◌then◌
 use Rattle.world_core.specs.WorldState.{Action}
 use Rattle.awk_state.specs.declared.table.Primitive.TheVariants as row
 use Rattle.awk_grammar.specs.Item.{One, Between as Range, Item, Begin, End, Always, When, Lone, Pattern}
-use Rattle.awk_grammar.specs.Stmt.{Plain, Stmt, Block, Empty, Simple, If, IfElse, While, Do, For, ForIn, Jumping, Leave, Stmts, NoStmt, And}
+use Rattle.awk_grammar.specs.Stmt.{Plain, NextFile, Stmt, Block, Empty, Simple, If, IfElse, While, Do, For, ForIn, Jumping, Leave, Stmts, NoStmt, And}
 use Rattle.awk_grammar.specs.Tree.{Tree}
 use Rattle.mid_program.specs.Items.{top, print_record, pattern_ranges, range_open, tested, reads_records}
 use Rattle.mid_program.specs.Meaning.{Calls}
 use Rattle.mid_program.specs.Names.{Resolved, Scope, function_at, variable_of, array_of}
 use Rattle.mid_program.specs.ScriptRun.{Ending, Parts, Setting, as_name, run_with}
-use Rattle.mid_program.specs.ScriptState.{State, Doing, ◌>>=◌, ◌>>◌, give, nothing, stop, look, change, OutOfTurns, does, with_range}
+use Rattle.mid_program.specs.ScriptState.{State, Doing, ◌>>=◌, ◌>>◌, give, nothing, stop, look, change, Nexted, OutOfTurns, does, with_range}
 use Rattle.mid_program.specs.Statements.{Flow, Normal, after, after_round, loop, over_keys, test_of, maybe_test, plain_done, maybe_done, done_by, entered, scope_in}
 use Rattle.mid_program.specs.Steps.{array_number, store_variable}
-use Rattle.script_places.specs.Spots.{Frame, Before, Within, AfterElse, Home, OfBegin, OfEnd, OfRecord, OfFunction, Part, Whole, First, Looping, Between, Testing, Unless, PatternPart, Asked, Unmet, Opening, Already, FirstTest, Opens, StaysClosed, Inside, Entered, LastTest, Closes, StaysOpen, Spot, Of, OfPattern}
+use Rattle.script_places.specs.Spots.{Frame, Before, Within, AfterElse, Home, OfBegin, OfEnd, OfRecord, OfFunction, Part, Whole, First, Looping, Between, Testing, Unless, GivesUp, Leaves, PatternPart, Asked, Unmet, Opening, Already, FirstTest, Opens, StaysClosed, Inside, Entered, LastTest, Closes, StaysOpen, Spot, Of, OfPattern}
 
 -- what is done to the output at each spot of an action or a function
 abbrev pub Marks : Type 0
@@ -68,6 +68,9 @@ module _ (marks : Spot → List Action → List Action) (scope : Scope) (n : ℕ
     done_marked (ForIn k a s) w =
         passing (ForIn k a s) Whole w >> array_number (array_of scope a) >>= λ i. does row.Iter (i, tt) >>= λ keys.
         over_keys n keys (store_variable (variable_of scope k)) (done_marked s (Within (ForIn k a s) ∷ w))
+    done_marked (Jumping NextFile) w =
+        let s = Jumping NextFile in
+        passing s Whole w >> passing s GivesUp w >> does row.NextFile tt >> passing s Leaves w >> stop Nexted
     done_marked (Jumping j) w = alone (Jumping j) w
     done_marked (Leave l t) w = alone (Leave l t) w
 

@@ -3,18 +3,19 @@
 use Rattle.std.specs.Prelude.{ℕ, zero, suc, ◌+◌, true, false, if◌then◌else◌, List, [], ◌∷◌, Option, Some, None, is_some}
 use Rattle.wasm_types.specs.Syntax.{Instructions, Done}
 use Rattle.wasm_types.specs.declared.instr.Simple.TheVariants.{Br}
+use Rattle.awk_state.specs.declared.table.Primitive.TheVariants as row
 use Rattle.awk_grammar.specs.Item.{One, Between as Range, Pattern}
 use Rattle.awk_grammar.specs.Stmt as stmt
 use Rattle.awk_grammar.specs.Stmt.{Stmt}
 use Rattle.awk_grammar.specs.Tree.{Tree}
 use Rattle.folding.specs.Folding.{same, reduced, fold}
 use Rattle.mid_program.specs.Items.{top, pattern_ranges}
-use Rattle.mid_program.specs.Mid.{Code, Do, IsOpen, Mark, Program, Slot, Step, Block, If, Loop, Steps, NoStep, Then, parameters_at}
+use Rattle.mid_program.specs.Mid.{Code, Do, End, Eval, IsOpen, Mark, Next, Program, Slot, Step, Block, If, Loop, Steps, NoStep, Then, parameters_at}
 use Rattle.mid_program.specs.MidMeaning.{routine_at}
 use Rattle.mid_program.specs.Names.{Resolved, Scope, function_at}
 use Rattle.mid_program.specs.Statements.{scope_in}
 use Rattle.mid_program.specs.Texts.{texts_of_script}
-use Rattle.mid_program.specs.Translation.{code_of, test_code, maybe_step, step_code, steps_code, items_code, begin_code, end_code, program_of}
+use Rattle.mid_program.specs.Translation.{host, code_of, test_code, maybe_step, step_code, steps_code, items_code, begin_code, end_code, program_of}
 use Rattle.mid_rewriting.specs.Rewriting.{code_in, step_in, steps_in}
 use Rattle.value_kinds.specs.Applied.{apply, slot_in}
 use Rattle.value_kinds.specs.Lanes.{Lanes, infer}
@@ -25,7 +26,7 @@ use Rattle.value_machine.specs.Places.{Bases}
 use Rattle.value_machine.specs.Quick.{is_nothing, pair_in, step_jumps}
 use Rattle.value_machine.specs.Small.{does as instruction}
 use Rattle.value_machine.specs.Statements.{step_emitted, steps_emitted}
-use Rattle.script_places.specs.Spots.{Frame, Before, Within, AfterElse, Home, OfBegin, OfEnd, OfRecord, OfFunction, Part, First, Looping, Between, Testing, Unless, PatternPart, Asked, Unmet, Opening, Already, FirstTest, Opens, StaysClosed, Inside, Entered, LastTest, Closes, StaysOpen, Spot, Of, OfPattern}
+use Rattle.script_places.specs.Spots.{Frame, Before, Within, AfterElse, Home, OfBegin, OfEnd, OfRecord, OfFunction, Part, First, Looping, Between, Testing, Unless, GivesUp, Leaves, PatternPart, Asked, Unmet, Opening, Already, FirstTest, Opens, StaysClosed, Inside, Entered, LastTest, Closes, StaysOpen, Spot, Of, OfPattern}
 
 -- Where code stands in a function: so many iterators are in use, and so many labels are between it and the function's exit, the place where `break` goes, and the one where `continue` goes; then what
 -- comes after it in its block.
@@ -108,6 +109,10 @@ module _ (y : Layout) (slots : Slot → Slot) (texts : List (List ℕ)) (scope :
   abbrev pub loop_of : Option Tree → Option stmt.Plain → Stmt → Step
   loop_of c q s = final slots (Loop true (test_code texts scope c) (step_code texts scope s) (maybe_step texts scope q))
 
+  -- of a `nextfile`, what gives up the rest of the main input
+  abbrev pub giving_up : Step
+  giving_up = final slots (Eval (host row.NextFile End))
+
   -- where a statement stands that stands in this
   abbrev pub in_frame : Frame → Position → Position
   in_frame (Before ss) p = record p { after = steps_at (final_steps slots (steps_code texts scope ss)) p }
@@ -133,6 +138,8 @@ module _ (y : Layout) (slots : Slot → Slot) (texts : List (List ℕ)) (scope :
   part_place (stmt.For i c q s) First p = step_at (final slots (maybe_step texts scope i)) (record p { after = step_at (loop_of c q s) p })
   part_place (stmt.For i c q s) Looping p = step_at (loop_of c q s) p
   part_place (stmt.For i c q s) Between p = step_at (final slots (maybe_step texts scope q)) (at_end back p)
+  part_place (stmt.Jumping stmt.NextFile) GivesUp p = step_at giving_up (record p { after = step_at Next p })
+  part_place (stmt.Jumping stmt.NextFile) Leaves p = step_at Next p
   part_place s part p = step_at (step_of s) p
 
   -- Actions.

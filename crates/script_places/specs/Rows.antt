@@ -22,9 +22,9 @@ use Rattle.mid_program.specs.ScriptRun.{first_assigned, records_done, Ended, set
 use Rattle.mid_program.specs.ScriptState.{spend_all}
 use Rattle.mid_program.specs.Statements.{loop, over_keys, plain_done, done_by}
 use Rattle.script_places.specs.Marked.{Marks, done_marked, all_marked, marked_called, items_marked, begun_marked, ended_marked, marked_run}
-use Rattle.script_places.specs.Spots.{Part, Whole, First, Looping, Between, Testing, Unless, PatternPart, Asked, Unmet, Opening, Already, FirstTest, Opens, StaysClosed, Inside, Entered, LastTest, Closes, StaysOpen, Spot, Of, OfPattern}
+use Rattle.script_places.specs.Spots.{Part, Whole, First, Looping, Between, Testing, Unless, GivesUp, Leaves, PatternPart, Asked, Unmet, Opening, Already, FirstTest, Opens, StaysClosed, Inside, Entered, LastTest, Closes, StaysOpen, Spot, Of, OfPattern}
 
--- B: block, E: empty, S: plain, I: `if`, W: `while`, D: `do`, F: `for`, K: `for` over keys, J: `break`, `continue` and `next`, R: `return` and `exit`
+-- B: block, E: empty, S: plain, I: `if`, W: `while`, D: `do`, F: `for`, K: `for` over keys, J: `break`, `continue`, `next` and `nextfile`, R: `return` and `exit`
 abbrev statement_letter : Stmt → List ℕ
 statement_letter (stmt.Block ss) = codes "B"
 statement_letter stmt.Empty = codes "E"
@@ -45,6 +45,8 @@ part_letter s Looping = codes "2"
 part_letter s Between = codes "+"
 part_letter s Testing = codes "?"
 part_letter s Unless = codes "-"
+part_letter s GivesUp = codes "/"
+part_letter s Leaves = codes ">"
 
 abbrev pattern_letter : PatternPart → List ℕ
 pattern_letter Asked = codes "p"
@@ -114,3 +116,13 @@ ranges =
 pub in_ranges : marked_run letters (resolved ranges) (setting_of no_job (reading (codes "a\nb\nc\na\n")) empty) 40 ≡ Ended 0 (puts Standard (codes "pofxi-BSpof(ielyBJpoaiel)BJpofxi-BS"))
 unfolding special_arrays special_scalars spend_all asked value_of values_of key_of place_of passed truncated_of applied loop over_keys plain_done done_by done_marked all_marked marked_called items_marked begun_marked ended_marked first_assigned records_done numeral_at sign_at fraction_at exponent_at numerator denominator digits unescaped escaped octal keywords builtins left_out_words table sign_of
 in_ranges = refl
+
+-- { n++; nextfile; n = 0 }, on two records: the second is given up
+abbrev next_files : List Item
+next_files =
+    item.Always (stmt.And (stmt.Simple (stmt.Eval (tree.Post token.Increment (name (codes "n"))))) (stmt.And (stmt.Jumping stmt.NextFile) (stmt.And (stmt.Simple (set (codes "n") (number (codes "0")))) stmt.NoStmt)))
+    ∷ []
+
+pub in_next_files : marked_run letters (resolved next_files) (setting_of no_job (reading (codes "a\nb\n")) empty) 40 ≡ Ended 0 (puts Standard (codes "BSJ/>"))
+unfolding special_arrays special_scalars spend_all asked value_of values_of key_of place_of passed truncated_of applied loop over_keys plain_done done_by done_marked all_marked marked_called items_marked begun_marked ended_marked first_assigned records_done numeral_at sign_at fraction_at exponent_at numerator denominator digits unescaped escaped octal keywords builtins left_out_words table sign_of
+in_next_files = refl

@@ -34,6 +34,9 @@ pub data Part : Type 0 where
   Testing : Part
   -- an `if` without `else` whose test does not hold
   Unless : Part
+  -- of a `nextfile`: what gives up the rest of the main input, and what leaves the record after it
+  GivesUp : Part
+  Leaves : Part
 
 -- A pattern, and what it does by itself.
 pub data PatternPart : Type 0 where
