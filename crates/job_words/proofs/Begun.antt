@@ -41,6 +41,10 @@ use Rattle.value_machine.proofs.Watch.{Watch, watched}
 abbrev pub all_names : Program → List Telling
 all_names p = globals_told p.globals (routines_told p.routines)
 
+-- the code of a script, once its names are told
+abbrev pub script_code : Layout → Program → Instructions
+script_code y p = asked y row.StartAssign zero zero (part_done y (first_part y p) zero (ask_row row.BeginEnd (part_done y (last_part y p) zero Done)))
+
 module _ (p : Program) (s : Setting) (differ : all_differ (announced_names p) ≡ true) (fine : fault_of_job s.job ≡ None) where
   abbrev b : Bases
   b = main_bases p
@@ -54,10 +58,6 @@ module _ (p : Program) (s : Setting) (differ : all_differ (announced_names p) �
   abbrev u : Code
   u = machine p (watched no_notes s) [] []
 
-  -- what is still to come there
-  abbrev pub to_come : Instructions
-  to_come = asked y row.StartAssign zero zero (part_done y (first_part y p) zero (ask_row row.BeginEnd (part_done y (last_part y p) zero Done)))
-
   abbrev pub exit : List Label
   exit = label [] None (main_exit p w b) ∷ []
 
@@ -68,7 +68,7 @@ module _ (p : Program) (s : Setting) (differ : all_differ (announced_names p) �
   first_state = begins p no_notes s b zero differ
 
   abbrev told_code : Instructions
-  told_code = naming p no_notes s b zero differ to_come
+  told_code = naming p no_notes s b zero differ (script_code y p)
 
   abbrev one : Locals
   one = with_at (functions.begun []) (NumberAt zero) (Bits (I64 1))
@@ -106,12 +106,12 @@ module _ (p : Program) (s : Setting) (differ : all_differ (announced_names p) �
     pub steps : ℕ
     pub locals : List Cell
     pub store : Store
-    pub goes : go (code_of p s.deepest) steps (begun p s) ≡ at [] [] exit locals [] to_come store
+    pub goes : go (code_of p s.deepest) steps (begun p s) ≡ at [] [] exit locals [] (script_code y p) store
     pub names : store.host.shared.inner.names ≡ all_names p
 
   pub all_told : AllTold
   all_told =
-      let h = named_ok p no_notes s b zero differ exit (laid b one) to_come in
+      let h = named_ok p no_notes s b zero differ exit (laid b one) (script_code y p) in
       record {
         steps = entered.steps + (4 + h.steps);
         locals = laid b one;

@@ -26,6 +26,7 @@ use Rattle.value_machine.specs.Statements.{again, left_by, pair_left, summed, wa
 use Rattle.value_machine.proofs.Tallies.{Shape, Updating, Following, Leading, tally_code, tally_is, tally_sorted}
 use Rattle.value_machine.proofs.Updating.{added_code, added_is}
 use Rattle.job_words.specs.Naming.{is_argv, names_argv, step_names, steps_name}
+use Rattle.job_words.proofs.Begun.{script_code}
 use Rattle.job_words.proofs.Emitting.{Always, S, tested_no_array, array_spares, dropped_spares, dropped_text, emitted_spares, named, none, none_kept, numbered, one_kept, or_none, pending_spares, start_asked, tested_spares, to_number_spares, to_value_spares}
 use Rattle.job_words.proofs.Tags.{Tags, is_name, is_other, is_set, popped}
 
@@ -376,10 +377,7 @@ module _ (tells : Bool) (y : Layout) (sizes : ℕ → Option ℕ) (whole : Progr
         record { so = λ A. ((refl, ((record_spares (jumps {d = 1}) items (suc (suc d)) o q).so [], (tt, ((pending_spares tells y sizes (jumps {d = 1}) zero).so [], (tt, tt))))), r.so []) }
 
   -- what comes after the names, and the exit
-  abbrev pub script_code : Program → Instructions
-  script_code p = asked y row.StartAssign zero zero (part_done y (first_part y p) zero (ask_row row.BeginEnd (part_done y (last_part y p) zero Done)))
-
-  pub script_spares : (p : Program) → steps_sorted c false false p.begin ≡ true → steps_sorted c false false p.items ≡ true → steps_sorted c false false p.end ≡ true → steps_name p.begin ≡ false → steps_name p.items ≡ false → steps_name p.end ≡ false → So false (script_code p)
+  pub script_spares : (p : Program) → steps_sorted c false false p.begin ≡ true → steps_sorted c false false p.items ≡ true → steps_sorted c false false p.end ≡ true → steps_name p.begin ≡ false → steps_name p.items ≡ false → steps_name p.end ≡ false → So false (script_code y p)
   script_spares p o1 o2 o3 q1 q2 q3 = start_asked tells y sizes (part_spares ends zero (steps_spares (by p.reads) p.begin zero zero zero zero false false o1 q1)) zero zero
     where
       by : (z : Bool) → So false (if z then records_read y p.items zero (does (Br 1) Done) else does (Br 1) Done)
@@ -392,10 +390,10 @@ module _ (tells : Bool) (y : Layout) (sizes : ℕ → Option ℕ) (whole : Progr
   pub exit_spares : So false (swept y (does (GlobalGet status_global) (does (Convert I32WrapI64) Done)))
   exit_spares = swept_spares (record { so = λ A. (false, (λ z. cc), tt) })
 
-  pub main_spares : (p : Program) → tells ≡ true → So false (script_code p) → So false (main_body y p)
+  pub main_spares : (p : Program) → tells ≡ true → So false (script_code y p) → So false (main_body y p)
   main_spares p t r = emptied_spares (block_spares (record { so = λ A. (refl, told.so A) }) exit_spares)
     where
-      told : So false (names_declared y (length p.texts) y.names (routines_declared y (length p.texts + length p.globals) (length p.routines) (names_made y zero y.names (script_code p))))
+      told : So false (names_declared y (length p.texts) y.names (routines_declared y (length p.texts + length p.globals) (length p.routines) (names_made y zero y.names (script_code y p))))
       told = declared_spares t (routines_spare t (made_spares r zero y.names) (length p.texts + length p.globals) (length p.routines)) (length p.texts) y.names
 
   -- At its beginning a function sets each local that could have ARGV's number.

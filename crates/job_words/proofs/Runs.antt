@@ -49,8 +49,8 @@ use Rattle.run_places.specs.Kept.{Reached}
 use Rattle.run_places.proofs.FromWords.{from_words}
 use Rattle.job_words.specs.Naming.{program_names, routines_name, steps_name}
 use Rattle.job_words.specs.Words.{Assigns, AssignsName, IsArgument}
-use Rattle.job_words.proofs.Begun.{AllTold, all_names, all_told, exit, to_come}
-use Rattle.job_words.proofs.Bodies.{exit_spares, locals_set, main_spares, routine_spares, script_code, script_spares}
+use Rattle.job_words.proofs.Begun.{AllTold, all_names, all_told, exit, script_code}
+use Rattle.job_words.proofs.Bodies.{exit_spares, locals_set, main_spares, routine_spares, script_spares}
 use Rattle.job_words.proofs.Calls.{HasArgv}
 use Rattle.job_words.proofs.Emitting.{Always, or_none}
 use Rattle.job_words.proofs.Steps.{BodySpares, Good, at_good, step_good}
@@ -216,32 +216,32 @@ module _ (p : Program) (is : IsSorted p) (names : program_names p ≡ false) (ag
   n3 : (steps_name p.items ≡ false) × (steps_name p.end ≡ false)
   n3 = or_none (steps_name p.items) (steps_name p.end) n2.1
 
-  abbrev u9 : Code
-  u9 = code_of p 9999
+  abbrev at_work : Code
+  at_work = code_of p 9999
 
   abbrev all : List Telling
   all = all_names p
 
   abbrev Fine : Bool → Conf → Type 0
-  Fine tells P = Good tells u9 argv all (sizes_of p) P
+  Fine tells P = Good tells at_work argv all (sizes_of p) P
 
-  fine_on : (tells : Bool) (n : ℕ) (P : Conf) → Fine tells P → Fine tells (go u9 n P)
-  fine_on tells n P h = go_good tells u9 argv all (sizes_of p) (λ k f e. bodies tells p argv all p.routines k f e s1.0 n1.0) n P h
+  fine_on : (tells : Bool) (n : ℕ) (P : Conf) → Fine tells P → Fine tells (go at_work n P)
+  fine_on tells n P h = go_good tells at_work argv all (sizes_of p) (λ k f e. bodies tells p argv all p.routines k f e s1.0 n1.0) n P h
 
-  not_stuck : (n : ℕ) → go u9 n (begun p set) ≡ Stuck → ⊥
+  not_stuck : (n : ℕ) → go at_work n (begun p set) ≡ Stuck → ⊥
   not_stuck n h = let shows = agree.never_stuck set n in let q = sym (ap ending_at h) ∙ shows.1 in cc
 
   abbrev main_layout : Layout
   main_layout = layout_of p (main_bases p)
 
   -- the script's code, once its names are told
-  script_spared : (tells : Bool) → Always tells main_layout (sizes_of p) false (script_code tells main_layout (sizes_of p) p [] (sized p) refl refl p)
+  script_spared : (tells : Bool) → Always tells main_layout (sizes_of p) false (script_code main_layout p)
   script_spared tells = script_spares tells main_layout (sizes_of p) p [] (sized p) refl refl p s2.0 s3.0 s3.1 n2.0 n3.0 n3.1
 
   first_good : Fine true (begun p set)
   first_good =
       let f = main_callee p in
-      at_good true u9 argv all (sizes_of p) false [] [] [] [] (zeros f.locals) [] f.body (record { globals = first_globals p; host = host_at_start set; assigning = None }) tt
+      at_good true at_work argv all (sizes_of p) false [] [] [] [] (zeros f.locals) [] f.body (record { globals = first_globals p; host = host_at_start set; assigning = None }) tt
       ((main_spares true main_layout (sizes_of p) p [] (sized p) refl refl p refl (script_spared true)).so []) tt
       (λ x q. locals_set true main_layout (sizes_of p) p [] (sized p) refl refl _ x (subst (λ z. is_set f.body z ≡ false) (let h : x ≡ 0 + x = omega arith in h) q)) tt (globals_other p, (refl, λ t. cc))
 
@@ -262,55 +262,55 @@ module _ (p : Program) (is : IsSorted p) (names : program_names p ≡ false) (ag
   early_front f Stuck h = tt
 
   module _ (fine : fault_of_job job ≡ None) where
-    t : AllTold p set s0.0 fine
-    t = all_told p set s0.0 fine
+    told : AllTold p set s0.0 fine
+    told = all_told p set s0.0 fine
 
     abbrev there : Conf
-    there = at [] [] (exit p set s0.0 fine) t.locals [] (to_come p set s0.0 fine) t.store
+    there = at [] [] (exit p set s0.0 fine) told.locals [] (script_code main_layout p) told.store
 
     all_there : InStore (HasFront all) there
-    all_there = store_there (HasFront all) [] [] (exit p set s0.0 fine) t.locals [] (to_come p set s0.0 fine) t.store ([], append-nil t.store.host.shared.inner.names ∙ t.names)
+    all_there = store_there (HasFront all) [] [] (exit p set s0.0 fine) told.locals [] (script_code main_layout p) told.store ([], append-nil told.store.host.shared.inner.names ∙ told.names)
 
     none_left : Fine true there → Fine false there
-    none_left h = at_good false u9 argv all (sizes_of p) false [] [] [] (exit p set s0.0 fine) t.locals [] (to_come p set s0.0 fine) t.store tt ((script_spared false).so [])
-        ((tt, (exit_spares false main_layout (sizes_of p) p [] (sized p) refl refl).so []), tt) (λ x q. h.locals x refl) tt (h.store.0, (h.store.1.0, λ e. t.names))
+    none_left h = at_good false at_work argv all (sizes_of p) false [] [] [] (exit p set s0.0 fine) told.locals [] (script_code main_layout p) told.store tt ((script_spared false).so [])
+        ((tt, (exit_spares false main_layout (sizes_of p) p [] (sized p) refl refl).so []), tt) (λ x q. h.locals x refl) tt (h.store.0, (h.store.1.0, λ e. told.names))
 
     fine_there : Fine false there
-    fine_there = none_left (subst (Fine true) t.goes (fine_on true t.steps (begun p set) first_good))
+    fine_there = none_left (subst (Fine true) told.goes (fine_on true told.steps (begun p set) first_good))
 
-    names_on : (n : ℕ) → InStore (HasFront all) (go u9 n (begun p set))
-    names_on n = by (nat_le n t.steps) refl
+    names_on : (n : ℕ) → InStore (HasFront all) (go at_work n (begun p set))
+    names_on n = by (nat_le n told.steps) refl
       where
-        by : (z : Bool) → nat_le n t.steps ≡ z → InStore (HasFront all) (go u9 n (begun p set))
+        by : (z : Bool) → nat_le n told.steps ≡ z → InStore (HasFront all) (go at_work n (begun p set))
         by true q =
-            let j = t.steps - n in
-            let l = leb-true n t.steps q in
-            let m : n + j ≡ t.steps = omega (arith, l) in
-            let e : go u9 j (go u9 n (begun p set)) ≡ there = sym (go_add u9 n j (begun p set)) ∙ (ap (λ i. go u9 i (begun p set)) m ∙ t.goes) in
-            front_before u9 all j (go u9 n (begun p set)) (subst (InStore (HasFront all)) (sym e) all_there) (λ h. not_stuck (n + j) (go_add u9 n j (begun p set) ∙ h))
+            let j = told.steps - n in
+            let l = leb-true n told.steps q in
+            let m : n + j ≡ told.steps = omega (arith, l) in
+            let e : go at_work j (go at_work n (begun p set)) ≡ there = sym (go_add at_work n j (begun p set)) ∙ (ap (λ i. go at_work i (begun p set)) m ∙ told.goes) in
+            front_before at_work all j (go at_work n (begun p set)) (subst (InStore (HasFront all)) (sym e) all_there) (λ h. not_stuck (n + j) (go_add at_work n j (begun p set) ∙ h))
         by false q =
-            let j = n - t.steps in
-            let l = leb-false n t.steps q in
-            let m : t.steps + j ≡ n = omega (arith, l) in
-            let e : go u9 j there ≡ go u9 n (begun p set) = ap (go u9 j) (sym t.goes) ∙ (sym (go_add u9 t.steps j (begun p set)) ∙ ap (λ i. go u9 i (begun p set)) m) in
-            subst (InStore (HasFront all)) e (fine_front (go u9 j there) (fine_on false j there fine_there))
+            let j = n - told.steps in
+            let l = leb-false n told.steps q in
+            let m : told.steps + j ≡ n = omega (arith, l) in
+            let e : go at_work j there ≡ go at_work n (begun p set) = ap (go at_work j) (sym told.goes) ∙ (sym (go_add at_work told.steps j (begun p set)) ∙ ap (λ i. go at_work i (begun p set)) m) in
+            subst (InStore (HasFront all)) e (fine_front (go at_work j there) (fine_on false j there fine_there))
 
-  front_on : (n : ℕ) → InStore (HasFront all) (go u9 n (begun p set))
+  front_on : (n : ℕ) → InStore (HasFront all) (go at_work n (begun p set))
   front_on n = by (fault_of_job job) refl
     where
-      by : (o : Option Fault) → fault_of_job job ≡ o → InStore (HasFront all) (go u9 n (begun p set))
+      by : (o : Option Fault) → fault_of_job job ≡ o → InStore (HasFront all) (go at_work n (begun p set))
       by None e = names_on e n
       by (Some f) e =
           let g = main_callee p in
-          early_front f (go u9 n (begun p set)) (early_on u9 f n (begun p set) (store_there (EndsEarly f) [] [] [] (zeros g.locals) [] g.body (record { globals = first_globals p; host = host_at_start set; assigning = None }) (e, refl)))
+          early_front f (go at_work n (begun p set)) (early_on at_work f n (begun p set) (store_there (EndsEarly f) [] [] [] (zeros g.locals) [] g.body (record { globals = first_globals p; host = host_at_start set; assigning = None }) (e, refl)))
 
   -- where the machine over values is after so many steps, and one more of the module's
-  as_there : (m : MachineForm) → IsNew host_finds (module_of p) m → (n : ℕ) (out : List Action) (c : real.Conf) (s : HostState) → Steps table_meaning m.program (suc n) m.conf start out c s → As (stays p) (called_imports p) u9 (go u9 n (begun p set)) c s
+  as_there : (m : MachineForm) → IsNew host_finds (module_of p) m → (n : ℕ) (out : List Action) (c : real.Conf) (s : HostState) → Steps table_meaning m.program (suc n) m.conf start out c s → As (stays p) (called_imports p) at_work (go at_work n (begun p set)) c s
   as_there m new n out c s way =
       let first = taken_first table_meaning m.program m.conf (in_main p) (begins p m new) start way.2 way.0 way.1 way.4 in
-      let links = subst (λ (z : ProgramForm). Linked (stays p) (called_imports p) u9 z) (sym (program_is p m new)) (linked p) in
-      let at_first = subst (λ (z : real.Conf). As (stays p) (called_imports p) u9 (begun p set) z way.1) (sym first.0)
-      (subst (λ (z : HostState). As (stays p) (called_imports p) u9 (begun p set) (in_main p) z) (sym first.1) (begun_as p set 9999)) in
+      let links = subst (λ (z : ProgramForm). Linked (stays p) (called_imports p) at_work z) (sym (program_is p m new)) (linked p) in
+      let at_first = subst (λ (z : real.Conf). As (stays p) (called_imports p) at_work (begun p set) z way.1) (sym first.0)
+      (subst (λ (z : HostState). As (stays p) (called_imports p) at_work (begun p set) (in_main p) z) (sym first.1) (begun_as p set 9999)) in
       steps_as links arrays_grow n (begun p set) way.0 way.1 way.3 c s at_first way.5
 
   -- ARGV IS WHAT THE JOB MADE OF IT, wherever a run may come to
@@ -319,7 +319,7 @@ module _ (p : Program) (is : IsSorted p) (names : program_names p ≡ false) (ag
     where
       by : (n : ℕ) → Steps table_meaning m.program n m.conf start reached.output c s → HasArgv argv s.shared.inner.arrays
       by zero way = ap (λ (z : HostState). slice_get z.shared.inner.arrays 0) way.1
-      by (suc n) way = argv_in true u9 argv all (sizes_of p) (λ k f e. bodies true p argv all p.routines k f e s1.0 n1.0) (stays p) (called_imports p) (go u9 n (begun p set)) c s
+      by (suc n) way = argv_in true at_work argv all (sizes_of p) (λ k f e. bodies true p argv all p.routines k f e s1.0 n1.0) (stays p) (called_imports p) (go at_work n (begun p set)) c s
           (as_there m reached.is_new n reached.output c s way) (fine_on true n (begun p set) first_good) (not_stuck n)
 
   -- THE HOST HAS A FRONT OF THE SCRIPT'S NAMES there
@@ -328,7 +328,7 @@ module _ (p : Program) (is : IsSorted p) (names : program_names p ≡ false) (ag
     where
       by : (n : ℕ) → Steps table_meaning m.program n m.conf start reached.output c s → IsFront all s.shared.inner.names
       by zero way = (all, ap (λ (z : HostState). z.shared.inner.names ++ all) way.1)
-      by (suc n) way = front_in all u9 (stays p) (called_imports p) (go u9 n (begun p set)) c s (as_there m reached.is_new n reached.output c s way) (front_on n) (not_stuck n)
+      by (suc n) way = front_in all at_work (stays p) (called_imports p) (go at_work n (begun p set)) c s (as_there m reached.is_new n reached.output c s way) (front_on n) (not_stuck n)
 
   -- a word by which a name is assigned there is one of the job
   job_word : (name : List ℕ) (s : HostState) → HasArgv argv s.shared.inner.arrays → IsOption job name ⊎ IsOperand name s → Assigns job name

@@ -98,7 +98,7 @@ EndsWell true A = first_of A ≡ true
 abbrev pub is_name : (before : ℕ) → ℕ → Bool
 is_name before x = nat_le before x
 
--- whether it may announce names; so many globals stand before those of names; and how many parameters each function has
+-- whether code may announce names, how many globals stand before those of names, and how many parameters each function has
 module _ (tells : Bool) (before : ℕ) (sizes : ℕ → Option ℕ) where
   abbrev pub calls_well : ℕ → Tags → Bool
   calls_well n A = cond (nat_lt n import_count) (asks_well tells (import_at n) A) (enters_well (sizes (n - import_count)) A)
