@@ -1,4 +1,4 @@
-// The rows of script_runs that run instrumented modules: what would else need a host around the host is told by the module itself. The module that awkwasm
+// The rows of test_scripts that run instrumented modules: what would else need a host around the host is told by the module itself. The module that awkwasm
 // makes of a script is written with a `main` that calls the script's own one, in one of three ways:
 //
 // - numbers: before the script begins, values, arrays and iterators are made and some are let go, so that the script's have the numbers 1000, 1007, 1014, ..
@@ -9,9 +9,9 @@
 // - alive: after the script's end 64 values are made. As fewer numbers than that are free again, the last one is 63 more than the values that were alive. The
 //   same is done with arrays and iterators, and the three counts are printed.
 //
-//     node instrumented.mjs [PROGRAM]            compares the rows with crates/script_runs: they must stand there side by side, and so must their answers
-//     node instrumented.mjs rows [PROGRAM]       prints the rows, for crates/script_runs/stdin
-//     node instrumented.mjs answers [PROGRAM]    prints their answers, for crates/script_runs/stdout
+//     node instrumented.mjs [PROGRAM]            compares the rows with crates/test_scripts: they must stand there side by side, and so must their answers
+//     node instrumented.mjs rows [PROGRAM]       prints the rows, for crates/test_scripts/stdin
+//     node instrumented.mjs answers [PROGRAM]    prints their answers, for crates/test_scripts/stdout
 //
 // PROGRAM is awkwasm, which compiles the scripts, and finds N; without it ../awkwasm is taken. Each instrumented module is run here over the host of
 // examples/embedding too. The gate runs the rows alone.
@@ -228,8 +228,8 @@ const what = ["rows", "answers"].includes(words[0]) ? words.shift() : "compare";
 const rows = CASES.flatMap((it) => rowsOf(words[0] ?? `${top}awkwasm`, it));
 const [asked, answered] = [0, 1].map((n) => rows.map((row) => `${row[n]}\n`).join(""));
 if (what === "compare") {
-  const stand = [["stdin", asked], ["stdout", answered]].every(([file, text]) => readFileSync(`${top}crates/script_runs/${file}`, "latin1").includes(text));
-  console.log(`${rows.length} rows; they ${stand ? "stand" : "do NOT stand"} in crates/script_runs`);
+  const stand = [["stdin", asked], ["stdout", answered]].every(([file, text]) => readFileSync(`${top}crates/test_scripts/${file}`, "latin1").includes(text));
+  console.log(`${rows.length} rows; they ${stand ? "stand" : "do NOT stand"} in crates/test_scripts`);
   exit(stand ? 0 : 1);
 }
 process.stdout.write(what === "rows" ? asked : answered);

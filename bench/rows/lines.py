@@ -1,4 +1,4 @@
-"""Lines of crates/script_runs/stdin: a script, its standard input, and fields after them (its src/main.rt says which)."""
+"""Lines of crates/test_scripts/stdin: a script, its standard input, and fields after them (its src/main.rt says which)."""
 
 
 def escaped(text):

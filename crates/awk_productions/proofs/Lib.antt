@@ -5,4 +5,4 @@ mod Derived
 mod Deriving
 mod Statements
 mod Scripts
-mod Rows
+mod Examples

@@ -1,14 +1,14 @@
 pub mod Marks
 pub mod Least
 pub mod Kinds
-pub mod Rows
+pub mod Examples
 pub mod View
 pub mod ViewNames
 pub mod Marked
 pub mod Waiting
 pub mod Numbered
 pub mod Places
-pub mod PlaceRows
+pub mod PlaceExamples
 pub mod ViewKinds
 pub mod ViewFunctions
 pub mod ViewResolved

@@ -2,16 +2,16 @@
 use Rattle.std.proofs.Common.{◌≡◌, ◌≢◌, ℕ, Option, Some, None, List, Err, true≢false, inl, inr, refl, sym, ap, ◌∙◌}
 use Rattle.std.specs.Result.{is_ok}
 use Rattle.awk_values.specs.declared.fault.Fault.{Fault}
-use Rattle.awk_state.specs.Jobs.{JobForm}
+use Rattle.sem_primitives.specs.Jobs.{JobForm}
 use Rattle.world_core.specs.WorldState.{Action, State}
 use Rattle.wasm_types.specs.Syntax.{ModuleForm}
-use Rattle.machine_model.specs.Links.{IsNew}
-use Rattle.machine_model.specs.Machines.{Conf}
-use Rattle.machine_model.specs.Runs.{Did, MachineForm, Ran}
-use Rattle.machine_model.specs.declared.ends.MachineEnd.{MachineEnd}
-use Rattle.machine_model.specs.declared.ends.MachineEnd.TheVariants as machine
-use Rattle.machine_model.specs.declared.ends.RunEnd.{RunEnd as MachineRunEnd}
-use Rattle.machine_model.specs.declared.ends.RunEnd.TheVariants as chain
+use Rattle.wasm_model.specs.Links.{IsNew}
+use Rattle.wasm_model.specs.Machines.{Conf}
+use Rattle.wasm_model.specs.Runs.{Did, MachineForm, Ran}
+use Rattle.wasm_model.specs.declared.ends.MachineEnd.{MachineEnd}
+use Rattle.wasm_model.specs.declared.ends.MachineEnd.TheVariants as machine
+use Rattle.wasm_model.specs.declared.ends.RunEnd.{RunEnd as MachineRunEnd}
+use Rattle.wasm_model.specs.declared.ends.RunEnd.TheVariants as chain
 use Rattle.module_decoder.specs.Readers.{Fails}
 use Rattle.module_decoder.specs.Reading.{module_at}
 use Rattle.module_decoder.specs.declared.fault.DecodeFault.{DecodeFault}
@@ -21,9 +21,9 @@ use Rattle.host_step.specs.HostState.{HostState}
 use Rattle.host_step.specs.Imports.{host_finds}
 use Rattle.host_step.specs.Starts.{state_at_start}
 use Rattle.host_elements.specs.Forms.{HostForm}
-use Rattle.form_meaning.specs.FormMeaning.{Told, form_meaning}
-use Rattle.form_meaning.specs.Shown.{Shown}
-use Rattle.form_runs.specs.ToldRuns.{AnyhowRun, ToldRun}
+use Rattle.host_meaning.specs.FormMeaning.{Told, form_meaning}
+use Rattle.host_meaning.specs.Shown.{Shown}
+use Rattle.agree_runs.specs.ToldRuns.{AnyhowRun, ToldRun}
 use Rattle.awk_run.specs.ModuleRun.{run_end, undecoded, IsRefused, IsRunOf, RunAnswers, Answers, IsTyped, Unread}
 use Rattle.awk_run.specs.declared.end.Refusal.TheVariants.{Compile, Decode, Invalid, Link}
 use Rattle.awk_run.specs.declared.end.RunEnd.{RunEnd}

@@ -1,22 +1,22 @@
 -- What the module of a script did is what the script does.
 use Rattle.std.proofs.Common.{◌≡◌, inl, inr, ℕ, ◌+◌, List, [], ◌∷◌, map, Option, Some, None, refl, sym, ap, ◌∙◌, subst}
 use Rattle.awk_values.specs.declared.fault.Fault.{Fault}
-use Rattle.awk_state.specs.Jobs.{JobForm}
+use Rattle.sem_primitives.specs.Jobs.{JobForm}
 use Rattle.world_core.specs.WorldState.{Action, State}
-use Rattle.mid_program.specs.Kept.{output_of}
-use Rattle.mid_program.specs.Kinds.{resolved}
-use Rattle.mid_program.specs.ScriptRun.{Ending, resolved_run, run_of}
+use Rattle.sem_scripts.specs.Kept.{output_of}
+use Rattle.sem_scripts.specs.Kinds.{resolved}
+use Rattle.sem_scripts.specs.ScriptRun.{Ending, resolved_run, run_of}
 use Rattle.wasm_types.specs.Syntax.{ModuleForm}
 use Rattle.wasm_types.specs.ModuleGrammar.{IsModule}
 use Rattle.wasm_types.specs.Typing.{ModuleOk}
-use Rattle.machine_model.specs.Links.{first_none}
-use Rattle.machine_model.specs.declared.fault.LinkFault.{LinkFault}
-use Rattle.machine_model.specs.declared.fault.LinkFault.TheVariants as link
-use Rattle.machine_model.specs.declared.ends.MachineEnd.{MachineEnd}
-use Rattle.machine_model.specs.declared.ends.MachineEnd.TheVariants as machine
+use Rattle.wasm_model.specs.Links.{first_none}
+use Rattle.wasm_model.specs.declared.fault.LinkFault.{LinkFault}
+use Rattle.wasm_model.specs.declared.fault.LinkFault.TheVariants as link
+use Rattle.wasm_model.specs.declared.ends.MachineEnd.{MachineEnd}
+use Rattle.wasm_model.specs.declared.ends.MachineEnd.TheVariants as machine
 use Rattle.module_decoder.proofs.CompleteModule.{one_module}
-use Rattle.form_runs.specs.ToldRuns as told_runs
-use Rattle.form_runs.proofs.Agreeing.{does_so}
+use Rattle.agree_runs.specs.ToldRuns as told_runs
+use Rattle.agree_runs.proofs.Agreeing.{does_so}
 use Rattle.script_compiler.specs.Compiled.{IsCompiled, Links}
 use Rattle.awk_run.specs.ModuleRun.{Answers, HasRun, IsRunOf, IsUnlinked, RunAnswers, run_end}
 use Rattle.awk_run.specs.ScriptRuns.{DoesSo, IsScriptRun, Says, ScriptAnswers}

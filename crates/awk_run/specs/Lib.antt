@@ -1,3 +1,3 @@
 pub mod ModuleRun
 pub mod ScriptRuns
-pub mod Rows
+pub mod Examples

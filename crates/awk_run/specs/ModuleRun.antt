@@ -12,22 +12,22 @@ use Rattle.module_decoder.specs.declared.fault.DecodeFault.TheVariants as decodi
 use Rattle.module_validator.specs.Faults.{Refuses as Untypes}
 use Rattle.module_validator.specs.declared.valid.InvalidFault.{InvalidFault}
 use Rattle.module_validator.specs.declared.valid.InvalidFault.TheVariants as invalid
-use Rattle.machine_model.specs.Links.{IsNew, Refuses as Unlinks}
-use Rattle.machine_model.specs.Machines.{Conf}
-use Rattle.machine_model.specs.Runs.{MachineForm, Ran, told_run}
-use Rattle.machine_model.specs.declared.fault.LinkFault.{LinkFault}
-use Rattle.machine_model.specs.declared.fault.LinkFault.TheVariants as link
-use Rattle.machine_model.specs.declared.ends.RunEnd.{RunEnd as MachineRunEnd}
-use Rattle.machine_model.specs.declared.ends.RunEnd.TheVariants as chain
-use Rattle.machine_model.specs.declared.ends.MachineEnd.{MachineEnd}
-use Rattle.machine_model.specs.declared.ends.MachineEnd.TheVariants as machine
-use Rattle.awk_state.specs.Jobs.{JobForm}
+use Rattle.wasm_model.specs.Links.{IsNew, Refuses as Unlinks}
+use Rattle.wasm_model.specs.Machines.{Conf}
+use Rattle.wasm_model.specs.Runs.{MachineForm, Ran, told_run}
+use Rattle.wasm_model.specs.declared.fault.LinkFault.{LinkFault}
+use Rattle.wasm_model.specs.declared.fault.LinkFault.TheVariants as link
+use Rattle.wasm_model.specs.declared.ends.RunEnd.{RunEnd as MachineRunEnd}
+use Rattle.wasm_model.specs.declared.ends.RunEnd.TheVariants as chain
+use Rattle.wasm_model.specs.declared.ends.MachineEnd.{MachineEnd}
+use Rattle.wasm_model.specs.declared.ends.MachineEnd.TheVariants as machine
+use Rattle.sem_primitives.specs.Jobs.{JobForm}
 use Rattle.host_step.specs.Imports.{host_finds}
 use Rattle.host_step.specs.Starts.{state_at_start}
 use Rattle.host_elements.specs.Forms.{HostForm}
-use Rattle.form_meaning.specs.FormMeaning.{Told, form_meaning}
-use Rattle.form_meaning.specs.Shown.{Shown}
-use Rattle.form_runs.specs.ToldRuns.{AnyhowRun, ToldRun}
+use Rattle.host_meaning.specs.FormMeaning.{Told, form_meaning}
+use Rattle.host_meaning.specs.Shown.{Shown}
+use Rattle.agree_runs.specs.ToldRuns.{AnyhowRun, ToldRun}
 use Rattle.awk_run.specs.declared.end.Refusal.{Refusal}
 use Rattle.awk_run.specs.declared.end.Refusal.TheVariants.{Decode, Invalid, Link}
 use Rattle.awk_run.specs.declared.end.RunEnd.{RunEnd}

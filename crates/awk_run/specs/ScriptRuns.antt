@@ -1,10 +1,10 @@
 -- What running a script answers: why it is not run, or what it did.
 use Rattle.std.specs.Prelude.{◌≡◌, ◌≢◌, ◌⊎◌, ℕ, List}
-use Rattle.awk_state.specs.Jobs.{JobForm}
+use Rattle.sem_primitives.specs.Jobs.{JobForm}
 use Rattle.awk_grammar.specs.Item.{Item}
 use Rattle.world_core.specs.WorldState.{Action, State, after as outside_after}
-use Rattle.mid_program.specs.Kept.{Grows, output_of}
-use Rattle.mid_program.specs.ScriptRun.{Ending, Ended, FaultedBy, Exhausted, run_of}
+use Rattle.sem_scripts.specs.Kept.{Grows, output_of}
+use Rattle.sem_scripts.specs.ScriptRun.{Ending, Ended, FaultedBy, Exhausted, run_of}
 use Rattle.script_code.specs.declared.fault.CompileFault.TheVariants as compile
 use Rattle.script_compiler.specs.Compiled.{IsCompiled}
 use Rattle.script_compiler.specs.Refusals.{IsNotCompiled}

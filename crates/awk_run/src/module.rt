@@ -1,8 +1,8 @@
 //! Modules in the sandbox.
 ghost use Rattle.std.specs.Prelude.{◌≡◌, IfOk, IfErr};
 ghost use Rattle.awk_run.specs.ModuleRun.{undecoded, Answers, IsTyped, RunAnswers, Unread};
-ghost use Rattle.awk_state.specs.Jobs.{JobForm};
-ghost use Rattle.form_meaning.specs.Shown.{Shown};
+ghost use Rattle.sem_primitives.specs.Jobs.{JobForm};
+ghost use Rattle.host_meaning.specs.Shown.{Shown};
 ghost use Rattle.host_calls.specs.Forms.{host_form};
 ghost use Rattle.host_step.specs.Starts.{state_at_start};
 ghost use Rattle.host_tables.specs.Starts.{job_of};

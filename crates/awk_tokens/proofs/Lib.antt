@@ -6,4 +6,4 @@ pub mod Whole
 pub mod Fronts
 pub mod States
 pub mod Steps
-pub mod Rows
+pub mod Examples

@@ -1,8 +1,8 @@
 -- What a script or a module is run with, as the words of the command line say it.
 use Rattle.std.specs.Prelude.{ℕ, Bool, ◌==◌, List, [], ◌++◌, if◌then◌else◌, codes, map, Some, None}
 use Rattle.std.specs.List.{list_any, before_first, after_first}
-use Rattle.awk_state.specs.Jobs.{JobForm}
-use Rattle.fenced_world.specs.Fences.{FenceForm}
+use Rattle.sem_primitives.specs.Jobs.{JobForm}
+use Rattle.world_fenced.specs.Fences.{FenceForm}
 use Rattle.command_line.specs.Request.{texts}
 use Rattle.command_line.specs.declared.Task.{Task}
 

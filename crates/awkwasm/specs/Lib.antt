@@ -1,3 +1,3 @@
 pub mod Jobs
-pub mod Rows
+pub mod Examples
 pub mod Tasks

@@ -1,9 +1,9 @@
 -- What is told of a task: the line and the exit status where it is not done, and the status of each.
 use Rattle.std.specs.Prelude.{ℕ, List, Result, Ok, Err, codes}
 use Rattle.script_compiler.specs.Refusals.{IsNotCompiled}
-use Rattle.machine_model.specs.declared.fault.LinkFault.TheVariants.{BadImport}
-use Rattle.module_imports.specs.Calls.{IsUnlisted}
-use Rattle.module_imports.specs.declared.imports.Unlisted.TheVariants as unlisted
+use Rattle.wasm_model.specs.declared.fault.LinkFault.TheVariants.{BadImport}
+use Rattle.run_imports.specs.Calls.{IsUnlisted}
+use Rattle.run_imports.specs.declared.imports.Unlisted.TheVariants as unlisted
 use Rattle.awk_run.specs.declared.end.Refusal.TheVariants.{Compile, Decode, Invalid, Link}
 use Rattle.awk_run.specs.declared.end.RunEnd.{RunEnd}
 use Rattle.awk_run.specs.declared.end.RunEnd.TheVariants.{Refused}

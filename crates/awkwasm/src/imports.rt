@@ -1,12 +1,12 @@
 //! What `imports` prints.
 ghost use Rattle.std.specs.Prelude.{IfErr, IfOk};
 ghost use Rattle.awkwasm.specs.Tasks.{IsUnreadable};
-ghost use Rattle.module_imports.specs.Calls.{AsksOnly, HasImports};
+ghost use Rattle.run_imports.specs.Calls.{AsksOnly, HasImports};
 
 use awk_run::{Refusal, RunEnd};
 use host_step::Import;
-use machine_model::LinkFault;
-use module_imports::{Reads, Unlisted, Writes, imports_of, reads_of, writes_of};
+use wasm_model::LinkFault;
+use run_imports::{Reads, Unlisted, Writes, imports_of, reads_of, writes_of};
 use std::alloc::{AllocError, Global};
 
 /// The imports of a module; else what is told of it, as where it is run.

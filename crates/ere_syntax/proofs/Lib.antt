@@ -15,4 +15,4 @@ pub mod Texts
 pub mod Lexed
 pub mod Stepping
 pub mod Wholes
-pub mod Rows
+pub mod Examples

@@ -2,7 +2,7 @@
 use Rattle.std.proofs.Common.{◌≡◌, Bool, true, false, Option, Some, None, Result, Ok, Err, refl, ap, sym, ℤ}
 use Rattle.std.specs.Prelude.{◌^◌, nat_le, unsigned_abs}
 use Rattle.awk_values.specs.declared.fault.Fault.{Fault}
-use Rattle.awk_state.specs.Numbers.{Number as AnyNumber, number_by, number_of}
+use Rattle.sem_primitives.specs.Numbers.{Number as AnyNumber, number_by, number_of}
 use Rattle.mid_program.specs.Mid.{Code, Number}
 use Rattle.folding.specs.Folding.{constant, unless_fault}
 

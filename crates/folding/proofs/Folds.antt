@@ -2,7 +2,7 @@
 use Rattle.std.proofs.Common.{◌≡◌, ℕ, zero, suc, List, [], ◌∷◌, map, refl, ap, sym, subst}
 use Rattle.mid_program.specs.Mid.{Kind, Routine, Program, parameters_at}
 use Rattle.mid_program.specs.MidMeaning.{routine_at, routine_name}
-use Rattle.mid_program.specs.Names.{Name}
+use Rattle.sem_scripts.specs.Names.{Name}
 use Rattle.mid_program.specs.Sorted.{calls_of}
 use Rattle.mid_rewriting.specs.Alike.{AlikeKinds}
 use Rattle.mid_rewriting.specs.Rewritten.{SameSlots, Rewritten}

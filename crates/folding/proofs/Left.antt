@@ -1,10 +1,10 @@
 -- No operator on two number constants is left that does not fault.
 use Rattle.std.proofs.Common.{◌≡◌, List, [], ◌∷◌, map, Option, Some, None, Result, Ok, Err, refl, ap, sym, ◌∙◌}
 use Rattle.awk_values.specs.declared.fault.Fault.{Fault}
-use Rattle.awk_state.specs.Numbers.{Number as AnyNumber, outcome_of}
-use Rattle.awk_state.specs.ValueRows.{power_row}
-use Rattle.awk_state.specs.declared.table.Primitive.TheVariants.{Pow}
-use Rattle.awk_state.proofs.Words.{number_again}
+use Rattle.sem_primitives.specs.Numbers.{Number as AnyNumber, outcome_of}
+use Rattle.sem_primitives.specs.ValueMeaning.{power_row}
+use Rattle.sem_primitives.specs.declared.table.Primitive.TheVariants.{Pow}
+use Rattle.sem_primitives.proofs.Words.{number_again}
 use Rattle.mid_program.specs.declared.mid.Operation.{Operation}
 use Rattle.mid_program.specs.declared.mid.Operation.TheVariants.{Host, Inline}
 use Rattle.mid_program.specs.Mid.{Code, Do, Over, Compare, Call, Ask, AskLine, FileLine, Replace, Number, Text, Unset, Get, Set, Array, IsOpen, Choose, Seq, Let, Bound, Codes, End, At, Fixed, Fresh, Step, Eval, Block, If, Loop, Each, Break, Continue, Next, Exit, ExitWith, Return, Mark, Steps, NoStep, Then, Routine, Program}

@@ -1,15 +1,15 @@
 -- An operation on constants does what its number does.
 use Rattle.std.proofs.Common.{◌≡◌, ℕ, List, Option, Some, None, Ok, refl, sym, subst, ◌∙◌, append-nil}
-use Rattle.awk_state.specs.Numbers.{Number as AnyNumber, outcome_of}
-use Rattle.awk_state.specs.ValueRows.{power_row}
-use Rattle.awk_state.specs.declared.table.Primitive.TheVariants.{Pow}
-use Rattle.awk_state.proofs.Words.{number_again}
+use Rattle.sem_primitives.specs.Numbers.{Number as AnyNumber, outcome_of}
+use Rattle.sem_primitives.specs.ValueMeaning.{power_row}
+use Rattle.sem_primitives.specs.declared.table.Primitive.TheVariants.{Pow}
+use Rattle.sem_primitives.proofs.Words.{number_again}
 use Rattle.mid_program.specs.declared.mid.Arithmetic.{Arithmetic}
 use Rattle.mid_program.specs.declared.mid.Operation.{Operation}
 use Rattle.mid_program.specs.declared.mid.Operation.TheVariants.{Host, Inline, AsNumber, FieldNumber}
-use Rattle.mid_program.specs.Meaning.{Calls}
-use Rattle.mid_program.specs.ScriptState.{State, Outcome, Gives, settled}
-use Rattle.mid_program.specs.Steps.{field_checked}
+use Rattle.sem_scripts.specs.Meaning.{Calls}
+use Rattle.sem_scripts.specs.ScriptState.{State, Outcome, Gives, settled}
+use Rattle.sem_scripts.specs.Steps.{field_checked}
 use Rattle.mid_program.specs.Mid.{Kind, Code, Do, Number, Codes, End, At, Form, Answered, a_number, answer_by, form_of}
 use Rattle.mid_program.specs.MidMeaning.{Env, Holds, arithmetic_of, or_zero, evaluated, all_evaluated}
 use Rattle.mid_rewriting.specs.Alike.{Alike, LikeR}

@@ -2,8 +2,8 @@
 use Rattle.std.proofs.Common.{◌≡◌, ℕ, ◌^◌, Bool, true, false, ◌&&◌, nat_le, unsigned_abs, List, [], ◌∷◌, ◌++◌, map, Option, Some, None, refl, sym, ap, ◌∙◌, subst}
 use Rattle.std.proofs.lemmas.Bool.{and_parts, and_from}
 use Rattle.std.proofs.lemmas.Float.{T_from_true}
-use Rattle.awk_state.specs.Numbers.{Number as AnyNumber}
-use Rattle.awk_state.specs.declared.table.Primitive.TheVariants.{Pow}
+use Rattle.sem_primitives.specs.Numbers.{Number as AnyNumber}
+use Rattle.sem_primitives.specs.declared.table.Primitive.TheVariants.{Pow}
 use Rattle.mid_program.specs.declared.mid.Operation.{Operation}
 use Rattle.mid_program.specs.declared.mid.Operation.TheVariants.{Host, Inline, AsNumber, FieldNumber}
 use Rattle.mid_program.specs.Mid.{Kind, Code, Do, Codes, End, At, Steps, Declared, Routine, Program, Form, Answered, a_number, answer_by, form_of}

@@ -4,7 +4,7 @@ use Rattle.std.proofs.Math.Seq.{take-append_seam}
 use Rattle.std.specs.declared.vec.Vec.{Vec}
 use Rattle.std.specs.declared.boxed.Box.{Box}
 use Rattle.std.specs.declared.alloc.Global.{Global}
-use Rattle.awk_state.specs.declared.table.Listed.{Listed}
+use Rattle.sem_primitives.specs.declared.table.Listed.{Listed}
 use Rattle.mid_program.specs.Mid as plain
 use Rattle.mid_program.specs.ViewCode.{before, view, view_row, view_step, view_step_row, view_steps, views}
 use Rattle.mid_program.specs.declared.mid.Operation.{Operation}
@@ -14,8 +14,8 @@ use Rattle.mid_program.specs.declared.code.Code.{Code, Do, Over, Call, Replace, 
 use Rattle.mid_program.specs.declared.code.Code.TheBlock.{hidden-the_row-Operand-0}
 use Rattle.mid_program.specs.declared.step.Step.{Step, Block, Row_of-Step, end_of-Step, more_of-Step, items-the_row-Step, items_hidden-the_row-Step-0}
 use Rattle.mid_program.specs.declared.step.Step.TheBlock.{hidden-the_row-Step-0}
-use Rattle.awk_state.specs.Numbers.{Number}
-use Rattle.awk_state.proofs.Words.{fits, small}
+use Rattle.sem_primitives.specs.Numbers.{Number}
+use Rattle.sem_primitives.proofs.Words.{fits, small}
 use Rattle.mid_program.specs.View.{view_routine}
 use Rattle.mid_program.specs.declared.program.Routine.{Routine}
 use Rattle.folding.specs.Folding.{folded, folded_routine, folded_steps, reduced, reduced_to, same, value_of}

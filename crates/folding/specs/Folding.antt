@@ -1,14 +1,14 @@
 -- Folding: an operation on number constants is its number, unless it faults.
 use Rattle.std.specs.Prelude.{map, Option, Some, None, Result, Ok, Err}
 use Rattle.awk_values.specs.declared.fault.Fault.{Fault}
-use Rattle.awk_state.specs.Numbers.{Number as AnyNumber, number_of, outcome_of}
-use Rattle.awk_state.specs.ValueRows.{power_row}
-use Rattle.awk_state.specs.declared.table.Primitive.TheVariants.{Pow}
+use Rattle.sem_primitives.specs.Numbers.{Number as AnyNumber, number_of, outcome_of}
+use Rattle.sem_primitives.specs.ValueMeaning.{power_row}
+use Rattle.sem_primitives.specs.declared.table.Primitive.TheVariants.{Pow}
 use Rattle.mid_program.specs.declared.mid.Operation.{Operation}
 use Rattle.mid_program.specs.declared.mid.Operation.TheVariants.{Host, Inline, AsNumber, FieldNumber}
 use Rattle.mid_program.specs.Mid.{Slot, Code, Do, Number, Codes, End, At, Steps, Routine, Program}
 use Rattle.mid_program.specs.MidMeaning.{arithmetic_of}
-use Rattle.mid_program.specs.Steps.{field_checked}
+use Rattle.sem_scripts.specs.Steps.{field_checked}
 use Rattle.mid_rewriting.specs.Rewriting.{code_in, steps_in}
 
 -- the number that a constant stands for

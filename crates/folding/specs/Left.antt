@@ -1,9 +1,9 @@
 -- What folding leaves.
 use Rattle.std.specs.Prelude.{◌≡◌, List, [], ◌∷◌, Result, Ok, Err}
 use Rattle.awk_values.specs.declared.fault.Fault.{Fault}
-use Rattle.awk_state.specs.Numbers.{Number as AnyNumber, outcome_of}
-use Rattle.awk_state.specs.ValueRows.{power_row}
-use Rattle.awk_state.specs.declared.table.Primitive.TheVariants.{Pow}
+use Rattle.sem_primitives.specs.Numbers.{Number as AnyNumber, outcome_of}
+use Rattle.sem_primitives.specs.ValueMeaning.{power_row}
+use Rattle.sem_primitives.specs.declared.table.Primitive.TheVariants.{Pow}
 use Rattle.mid_program.specs.declared.mid.Operation.{Operation}
 use Rattle.mid_program.specs.declared.mid.Operation.TheVariants.{Host, Inline}
 use Rattle.mid_program.specs.Mid.{Code, Do, Over, Compare, Call, Ask, AskLine, FileLine, Replace, Number, Text, Unset, Get, Set, Array, IsOpen, Choose, Seq, Let, Bound, Codes, End, At, Fixed, Fresh, Step, Eval, Block, If, Loop, Each, Break, Continue, Next, Exit, ExitWith, Return, Mark, Steps, NoStep, Then, Routine, Program}

@@ -1,4 +1,4 @@
 pub mod Folding
 pub mod Left
 pub mod View
-pub mod Rows
+pub mod Examples

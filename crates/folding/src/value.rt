@@ -2,13 +2,13 @@
 
 ghost use Rattle.std.specs.Prelude.{◌≡◌, ◌≤◌, ◌^◌, unsigned_abs};
 ghost use Rattle.awk_text.specs.NumberText.{InRange};
-ghost use Rattle.awk_state.specs.Numbers.{Number, number_of};
+ghost use Rattle.sem_primitives.specs.Numbers.{Number, number_of};
 ghost use Rattle.folding.specs.Folding.{constant, of_one, of_two, value_of};
 ghost use Rattle.folding.specs.View.{numeral};
 ghost use Rattle.mid_program.specs.MidMeaning.{arithmetic_of};
 ghost use Rattle.mid_program.specs.ViewCode.{view, views};
 
-use awk_state::Primitive;
+use sem_primitives::Primitive;
 use awk_values::{Fault, add, div, int_div, mul, pow, rem, sub};
 use mid_program::{Arithmetic, Code, Operand, Operation};
 

@@ -31,7 +31,7 @@ impl Model for Arrays {
     ghost use Rattle.std.specs.Coded.{coded_ℤ};
     ghost use Rattle.host_arrays.specs.Pairs.{Pairs};
     ghost use Rattle.host_arrays.specs.contracts.array.Array as stored;
-    ghost use Rattle.tables.specs.Tables.{table};
+    ghost use Rattle.host_slots.specs.Tables.{table};
 
     ghost Value = { map.FinMap int_cmp Pairs };
 

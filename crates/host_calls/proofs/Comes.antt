@@ -1,6 +1,6 @@
 -- From calls of the families to what a call of the host comes to.
 use Rattle.std.proofs.Common.{◌≡◌, ℕ, false, List, [], Option, Some, None, Result, Ok, Err, refl, subst, sym}
-use Rattle.machine_model.specs.declared.host.HostAnswer.{HostAnswer}
+use Rattle.wasm_model.specs.declared.host.HostAnswer.{HostAnswer}
 use Rattle.awk_values.specs.declared.fault.Fault.{Fault}
 use Rattle.wasm_store.specs.declared.word.Word.{Word}
 use Rattle.world_core.specs.WorldState.{Action}
@@ -11,13 +11,13 @@ use Rattle.host_values.specs.declared.reply.Refusal.TheVariants as why
 use Rattle.host_elements.specs.Calls.{IsTableCall}
 use Rattle.host_elements.specs.Forms.{HostForm}
 use Rattle.host_names.specs.Forms.{left_after}
-use Rattle.form_meaning.specs.Shown.{SharesTables, form_with_output}
-use Rattle.form_meaning.specs.TableCalls.{TableCalls, answer_of_call, left_by_call}
-use Rattle.form_meaning.specs.WorldCalls.{IsCalled}
-use Rattle.form_meaning.proofs.Faults.{called_too}
-use Rattle.form_meaning.proofs.Means.{plain_calls}
-use Rattle.import_host.specs.Answers.{told_as}
-use Rattle.import_host.proofs.Tellings.{told_means, world_told}
+use Rattle.host_meaning.specs.Shown.{SharesTables, form_with_output}
+use Rattle.host_meaning.specs.TableCalls.{TableCalls, answer_of_call, left_by_call}
+use Rattle.host_meaning.specs.WorldCalls.{IsCalled}
+use Rattle.host_meaning.proofs.Faults.{called_too}
+use Rattle.host_meaning.proofs.Means.{plain_calls}
+use Rattle.host_table_calls.specs.Answers.{told_as}
+use Rattle.host_table_calls.proofs.Tellings.{told_means, world_told}
 use Rattle.host_calls.specs.Calls.{ComesTo, MeansSome}
 
 module _ (tells : Type 0) (i : Import) (words : List Word) (memory : List ℕ) where

@@ -1,9 +1,9 @@
 -- At a fault a read tells the tables as they were before it, but for what it spends. A host that keeps the fault looks at nothing else any more.
 use Rattle.std.proofs.Common.{◌≡◌, ℕ, true, List, [], ◌++◌, Option, Some, None, Result, Ok, Err, refl, sym, ap, subst, ◌∙◌}
 use Rattle.awk_values.specs.declared.fault.Fault.{Fault}
-use Rattle.awk_state.specs.declared.answers.InputAnswer.{InputAnswer}
-use Rattle.machine_model.specs.declared.host.HostAnswer.{HostAnswer}
-use Rattle.machine_model.specs.declared.host.HostAnswer.TheVariants as told
+use Rattle.sem_primitives.specs.declared.answers.InputAnswer.{InputAnswer}
+use Rattle.wasm_model.specs.declared.host.HostAnswer.{HostAnswer}
+use Rattle.wasm_model.specs.declared.host.HostAnswer.TheVariants as told
 use Rattle.wasm_store.specs.declared.word.Word.{Word}
 use Rattle.world_core.specs.WorldState.{Outside}
 use Rattle.host_step.specs.Answers.{refusal}
@@ -16,11 +16,11 @@ use Rattle.host_step.specs.declared.import.Import.TheVariants.{Of}
 use Rattle.host_values.specs.declared.reply.Refusal.{Refusal}
 use Rattle.host_values.specs.declared.reply.Refusal.TheVariants as why
 use Rattle.host_elements.specs.Forms.{HostForm, state_of}
-use Rattle.form_meaning.specs.FormMeaning.{FormMeans}
-use Rattle.form_meaning.specs.TableCalls.{left_by_call}
-use Rattle.form_meaning.specs.WorldCalls.{IsCalled, LeadsIn}
-use Rattle.import_host.proofs.Tellings.{faulted_told, world_told}
-use Rattle.import_host.specs.Answers.{told_as}
+use Rattle.host_meaning.specs.FormMeaning.{FormMeans}
+use Rattle.host_meaning.specs.TableCalls.{left_by_call}
+use Rattle.host_meaning.specs.WorldCalls.{IsCalled, LeadsIn}
+use Rattle.host_table_calls.proofs.Tellings.{faulted_told, world_told}
+use Rattle.host_table_calls.specs.Answers.{told_as}
 use Rattle.host_inputs.specs.Calls.{shown_after}
 use Rattle.host_inputs.specs.Givens.{file_primitive, main_primitive}
 use Rattle.host_inputs.specs.declared.input.Keep.{Keep}

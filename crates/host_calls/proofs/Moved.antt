@@ -1,9 +1,9 @@
 -- Where a call writes, what is left of the main input stays as it was; in a world that does not tell its state, nobody sees whether it does.
 use Rattle.std.proofs.Common.{◌≡◌, ℕ, List, ◌++◌, Option, Some, None, Result, Ok, Err, false, refl, sym, ap, ◌∙◌, subst}
 use Rattle.awk_values.specs.declared.fault.Fault.{Fault}
-use Rattle.awk_state.specs.SharedState.{MainInput}
-use Rattle.machine_model.specs.declared.host.HostAnswer.{HostAnswer}
-use Rattle.machine_model.specs.declared.host.HostAnswer.TheVariants as told
+use Rattle.sem_primitives.specs.SharedState.{MainInput}
+use Rattle.wasm_model.specs.declared.host.HostAnswer.{HostAnswer}
+use Rattle.wasm_model.specs.declared.host.HostAnswer.TheVariants as told
 use Rattle.wasm_store.specs.declared.word.Word.{Word}
 use Rattle.world_core.specs.WorldState.{Action, State}
 use Rattle.host_step.specs.HostState.{HostState}
@@ -16,12 +16,12 @@ use Rattle.host_streams.specs.Mains.{main_of, reading_of}
 use Rattle.host_streams.specs.declared.main_input.MainInput.{MainInput as Mains}
 use Rattle.host_streams.specs.declared.main_input.Reading.{Reading}
 use Rattle.host_streams.specs.declared.main_input.Reading.TheVariants as reading
-use Rattle.form_meaning.specs.FormMeaning.{AnyhowShown, FormCalled, FormMeans, StepShown}
-use Rattle.form_meaning.specs.Shown.{SharesBy, form_with_output}
-use Rattle.form_meaning.specs.TableCalls.{left_by_call}
-use Rattle.form_meaning.specs.WorldCalls.{IsCalled}
-use Rattle.import_host.specs.Answers.{told_as}
-use Rattle.import_host.proofs.Tellings.{world_told}
+use Rattle.host_meaning.specs.FormMeaning.{AnyhowShown, FormCalled, FormMeans, StepShown}
+use Rattle.host_meaning.specs.Shown.{SharesBy, form_with_output}
+use Rattle.host_meaning.specs.TableCalls.{left_by_call}
+use Rattle.host_meaning.specs.WorldCalls.{IsCalled}
+use Rattle.host_table_calls.specs.Answers.{told_as}
+use Rattle.host_table_calls.proofs.Tellings.{world_told}
 use Rattle.host_calls.specs.Calls.{ComesTo}
 
 -- with this main input

@@ -1,7 +1,7 @@
 -- The host at the start of a job.
 use Rattle.std.proofs.Common.{◌≡◌, List, [], None, sym, subst}
-use Rattle.awk_state.specs.Jobs.{JobForm, shared_at_start}
-use Rattle.awk_state.specs.SharedState.{Inner, Pairs}
+use Rattle.sem_primitives.specs.Jobs.{JobForm, shared_at_start}
+use Rattle.sem_primitives.specs.SharedState.{Inner, Pairs}
 use Rattle.world_core.specs.WorldState.{Outside, Source, State}
 use Rattle.host_step.specs.HostState.{HostState}
 use Rattle.host_step.specs.Starts.{state_at_start}
@@ -11,10 +11,10 @@ use Rattle.host_inputs.specs.declared.input.Input.{Input}
 use Rattle.host_names.specs.declared.names.Names.{Names}
 use Rattle.host_tables.specs.Starts.{form_of}
 use Rattle.host_tables.specs.declared.start.FirstTables.{FirstTables}
-use Rattle.form_meaning.specs.Shown.{Shown}
-use Rattle.form_meaning.proofs.Showing.{shown_of}
-use Rattle.import_host.specs.Forms.{of_tables_and_names}
-use Rattle.import_host.specs.declared.held.Tables.{Tables}
+use Rattle.host_meaning.specs.Shown.{Shown}
+use Rattle.host_meaning.proofs.Showing.{shown_of}
+use Rattle.host_table_calls.specs.Forms.{of_tables_and_names}
+use Rattle.host_table_calls.specs.declared.held.Tables.{Tables}
 use Rattle.host_calls.specs.Forms.{form_in, form_over, nothing}
 
 -- the lists of arrays and iterators that the form itself has are not looked at

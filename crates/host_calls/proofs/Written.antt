@@ -13,7 +13,7 @@ use Rattle.host_streams.specs.Puts.{Spares}
 use Rattle.host_inputs.specs.States.{HoldsInput}
 use Rattle.host_inputs.specs.declared.input.Input.{Input}
 use Rattle.host_inputs.proofs.Apart.{main_stays}
-use Rattle.form_meaning.specs.WorldCalls.{IsCalled}
+use Rattle.host_meaning.specs.WorldCalls.{IsCalled}
 use Rattle.host_calls.specs.Calls.{ComesTo}
 use Rattle.host_calls.proofs.Moved.{unseen_of, with_main, wrote_comes}
 

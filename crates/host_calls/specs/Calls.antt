@@ -1,7 +1,7 @@
 -- The import of a call, and what a call comes to.
 use Rattle.std.specs.Prelude.{ℕ, List, Option, Some, Result}
-use Rattle.awk_state.specs.declared.table.Primitive.TheVariants as row
-use Rattle.machine_model.specs.declared.host.HostAnswer.{HostAnswer}
+use Rattle.sem_primitives.specs.declared.table.Primitive.TheVariants as row
+use Rattle.wasm_model.specs.declared.host.HostAnswer.{HostAnswer}
 use Rattle.wasm_store.specs.declared.word.Word.{Word}
 use Rattle.world_core.specs.WorldState.{Action}
 use Rattle.host_step.specs.declared.import.Import.{Import}
@@ -10,10 +10,10 @@ use Rattle.host_step.specs.declared.import.Listing.TheVariants as listing
 use Rattle.host_values.specs.declared.reply.Refusal.{Refusal}
 use Rattle.host_elements.specs.Forms.{HostForm}
 use Rattle.host_inputs.specs.Givens.{file_primitive, main_primitive}
-use Rattle.form_meaning.specs.FormMeaning.{FormMeans}
-use Rattle.form_meaning.specs.TableCalls.{left_by_call}
-use Rattle.import_host.specs.Answers.{told_as}
-use Rattle.import_host.specs.Calls.{import_of_table}
+use Rattle.host_meaning.specs.FormMeaning.{FormMeans}
+use Rattle.host_meaning.specs.TableCalls.{left_by_call}
+use Rattle.host_table_calls.specs.Answers.{told_as}
+use Rattle.host_table_calls.specs.Calls.{import_of_table}
 use Rattle.host_calls.specs.declared.dispatch.Call.{Call}
 use Rattle.host_calls.specs.declared.dispatch.Call.TheVariants.{Table, Print, Printf, Close, Flush, Main, File, Line, Declare, StartAssign, PendingName, PendingValue, BeginEnd, NextFile}
 

@@ -3,17 +3,17 @@ ghost use Rattle.std.specs.Prelude.{◌≡◌, false};
 ghost use Rattle.host_calls.specs.Calls.{ComesTo, MeansSome, import_of};
 ghost use Rattle.host_calls.specs.Forms.{host_form};
 ghost use Rattle.host_step.specs.HostStep.{refuses};
-ghost use Rattle.form_meaning.specs.TableCalls.{left_by_call};
-ghost use Rattle.import_host.specs.Answers.{told_as};
-ghost use Rattle.import_host.specs.Calls.{import_of_table};
+ghost use Rattle.host_meaning.specs.TableCalls.{left_by_call};
+ghost use Rattle.host_table_calls.specs.Answers.{told_as};
+ghost use Rattle.host_table_calls.specs.Calls.{import_of_table};
 
 use crate::dispatch::{Call, call_of};
 use crate::host::Host;
-use awk_state::Primitive;
+use sem_primitives::Primitive;
 use host_step::Import;
 use host_values::Refusal;
-use import_host::{TableCall, refusal, refuses, told};
-use machine_model::HostAnswer;
+use host_table_calls::{TableCall, refusal, refuses, told};
+use wasm_model::HostAnswer;
 use wasm_store::Word;
 use world_core::World;
 

@@ -3,14 +3,14 @@ ghost use Rattle.std.specs.Prelude.{◌≡◌};
 
 use crate::host::Host;
 use host_step::Import;
-use machine_model::{HostAnswer, HostCalls};
+use wasm_model::{HostAnswer, HostCalls};
 use wasm_store::{Memory, TrapKind, Word};
 use wasm_types::FuncType;
 use world_core::World;
 
 impl<W: World> HostCalls for Host<W> {
-    ghost use Rattle.form_meaning.specs.FormLaws.{form_refused, form_typed};
-    ghost use Rattle.form_meaning.specs.FormMeaning.{FormState, Told, form_meaning};
+    ghost use Rattle.host_meaning.specs.FormLaws.{form_refused, form_typed};
+    ghost use Rattle.host_meaning.specs.FormMeaning.{FormState, Told, form_meaning};
     ghost use Rattle.host_calls.specs.Forms.{host_form};
     ghost use Rattle.host_step.specs.HostLaws.{host_found};
     ghost use Rattle.host_step.specs.Imports.{host_finds, host_types};

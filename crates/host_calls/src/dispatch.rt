@@ -3,12 +3,12 @@ ghost use Rattle.std.specs.Prelude.{◌≡◌};
 ghost use Rattle.host_calls.specs.Calls.{import_of};
 ghost use Rattle.host_step.specs.declared.import.Import.{Import};
 
-use awk_state::Primitive;
+use sem_primitives::Primitive;
 use host_inputs::{Keep, MainRead};
 use host_step::{Import, Listing};
 use host_texts::TextPrimitive;
 use host_values::ValuePrimitive;
-use import_host::TableCall;
+use host_table_calls::TableCall;
 
 /// A call, by the family that answers it.
 #[derive(Clone, Copy, Debug, PartialEq, Eq, Drop)]

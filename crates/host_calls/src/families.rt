@@ -1,17 +1,17 @@
 //! Calls on the tables, on names and assignments, and on what was read.
 ghost use Rattle.std.specs.Prelude.{◌≡◌, List, ℕ, None, false};
-ghost use Rattle.awk_state.specs.declared.table.Primitive.TheVariants as row;
+ghost use Rattle.sem_primitives.specs.declared.table.Primitive.TheVariants as row;
 ghost use Rattle.host_calls.specs.Calls.{ComesTo};
 ghost use Rattle.host_calls.specs.Forms.{host_form};
 ghost use Rattle.host_step.specs.HostStep.{refuses};
 ghost use Rattle.host_step.specs.declared.import.Import.{Import};
-ghost use Rattle.import_host.specs.Calls.{import_of_table};
+ghost use Rattle.host_table_calls.specs.Calls.{import_of_table};
 
 use crate::host::Host;
 use host_inputs::{begin_end, line};
 use host_names::{declare, pending_name, pending_value, start_assign};
 use host_values::Refusal;
-use import_host::TableCall;
+use host_table_calls::TableCall;
 use wasm_store::Word;
 use world_core::World;
 

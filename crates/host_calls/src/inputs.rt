@@ -1,6 +1,6 @@
 //! What is read: the main input, and files by their names.
 ghost use Rattle.std.specs.Prelude.{◌≡◌, List, ℕ, None};
-ghost use Rattle.awk_state.specs.declared.table.Primitive.TheVariants as row;
+ghost use Rattle.sem_primitives.specs.declared.table.Primitive.TheVariants as row;
 ghost use Rattle.host_inputs.specs.Givens.{file_primitive, main_primitive};
 ghost use Rattle.host_step.specs.declared.import.Import.{Import};
 ghost use Rattle.host_calls.specs.Calls.{ComesTo};

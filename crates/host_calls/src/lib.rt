@@ -15,4 +15,4 @@ pub use host::Host;
 pub use host_names::NamedText;
 pub use host_step::{IMPORTS, Import, Listing};
 pub use host_tables::Job;
-pub use import_links::type_of;
+pub use host_links::type_of;

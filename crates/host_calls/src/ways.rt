@@ -1,17 +1,17 @@
 //! The imports that scripts call most, each in a way of its own.
 ghost use Rattle.std.specs.Prelude.{◌≡◌, false};
-ghost use Rattle.awk_state.specs.declared.table.Primitive.TheVariants as row;
+ghost use Rattle.sem_primitives.specs.declared.table.Primitive.TheVariants as row;
 ghost use Rattle.host_calls.specs.Calls.{MeansSome};
 ghost use Rattle.host_calls.specs.Forms.{host_form};
 ghost use Rattle.host_step.specs.HostStep.{refuses};
 
 use crate::host::Host;
-use awk_state::Primitive;
+use sem_primitives::Primitive;
 use host_step::Import;
 use host_texts::TextPrimitive;
 use host_values::ValuePrimitive;
-use import_host::TableCall;
-use machine_model::HostAnswer;
+use host_table_calls::TableCall;
+use wasm_model::HostAnswer;
 use wasm_store::Word;
 use world_core::World;
 

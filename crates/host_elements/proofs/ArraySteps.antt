@@ -9,12 +9,12 @@ use Rattle.std.proofs.lemmas.Option.{get_or_from_slice_get}
 use Rattle.awk_values.specs.Values.{text_of_value}
 use Rattle.awk_values.specs.declared.value.Value.{Value}
 use Rattle.awk_values.specs.declared.value.Value.TheVariants.{Uninit}
-use Rattle.awk_state.specs.ArrayRows.{array, found, stored}
-use Rattle.awk_state.specs.Constants.{flag_number}
-use Rattle.awk_state.specs.SharedState.{Inner, Pairs}
-use Rattle.awk_state.specs.Sorts.{InAnswer, Row}
-use Rattle.awk_state.specs.declared.table.Primitive.TheVariants as row
-use Rattle.machine_model.specs.declared.host.HostAnswer.TheVariants as told
+use Rattle.sem_primitives.specs.ArrayMeaning.{array, found, stored}
+use Rattle.sem_primitives.specs.Constants.{flag_number}
+use Rattle.sem_primitives.specs.SharedState.{Inner, Pairs}
+use Rattle.sem_primitives.specs.Sorts.{InAnswer, Row}
+use Rattle.sem_primitives.specs.declared.table.Primitive.TheVariants as row
+use Rattle.wasm_model.specs.declared.host.HostAnswer.TheVariants as told
 use Rattle.wasm_store.specs.declared.trap.TrapKind.{TrapKind}
 use Rattle.wasm_store.specs.declared.word.Word.{Word}
 use Rattle.wasm_store.specs.declared.word.Word.TheVariants.{I32}

@@ -5,7 +5,7 @@ use Rattle.std.specs.FinMap as map
 use Rattle.std.specs.FinMap.{FinMap}
 use Rattle.awk_values.specs.declared.value.Value.{Value}
 use Rattle.awk_values.specs.declared.value.Value.TheVariants.{Uninit}
-use Rattle.awk_state.specs.ArrayRows.{element, stored}
+use Rattle.sem_primitives.specs.ArrayMeaning.{element, stored}
 use Rattle.host_arrays.specs.Pairs.{Pairs, created, created_by, get_pair, is_key, set_pair}
 use Rattle.host_arrays.proofs.PairLemmas.{cases_key, set_pair-new}
 use Rattle.host_elements.proofs.Reading.{place_at, place_or_first}

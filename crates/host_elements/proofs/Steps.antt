@@ -1,10 +1,10 @@
 -- From what an import comes to, where tables show the state, to its step.
 use Rattle.std.proofs.Common.{◌≡◌, ◌≢◌, ℕ, Bool, false, cond, List, [], Option, Some, None, Result, Ok, Err, refl, sym, ap, subst, ◌∙◌}
 use Rattle.awk_values.specs.declared.fault.Fault.{Fault}
-use Rattle.awk_state.specs.SharedState.{Inner}
-use Rattle.awk_state.specs.Sorts.{InAnswer}
-use Rattle.machine_model.specs.declared.host.HostAnswer.{HostAnswer}
-use Rattle.machine_model.specs.declared.host.HostAnswer.TheVariants as told
+use Rattle.sem_primitives.specs.SharedState.{Inner}
+use Rattle.sem_primitives.specs.Sorts.{InAnswer}
+use Rattle.wasm_model.specs.declared.host.HostAnswer.{HostAnswer}
+use Rattle.wasm_model.specs.declared.host.HostAnswer.TheVariants as told
 use Rattle.wasm_store.specs.declared.trap.TrapKind.{TrapKind}
 use Rattle.wasm_store.specs.declared.word.Word.{Word}
 use Rattle.host_step.specs.Answers.{FreeFor, encode, refusal}

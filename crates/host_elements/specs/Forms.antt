@@ -6,7 +6,7 @@ use Rattle.std.specs.FinMap as map
 use Rattle.std.specs.FinMap.{FinMap}
 use Rattle.awk_values.specs.declared.fault.Fault.{Fault}
 use Rattle.awk_values.specs.declared.value.Value.{Value}
-use Rattle.awk_state.specs.SharedState.{Pairs, Shared, Inner}
+use Rattle.sem_primitives.specs.SharedState.{Pairs, Shared, Inner}
 use Rattle.host_step.specs.HostState.{HostState}
 use Rattle.host_values.specs.Evaluations.{Values}
 

@@ -2,4 +2,4 @@ pub mod Forms
 pub mod Turns
 pub mod Reads
 pub mod Calls
-pub mod Rows
+pub mod Examples

@@ -54,7 +54,7 @@ impl Model for Iterators {
     ghost use Rattle.std.specs.Ordering.{int_cmp};
     ghost use Rattle.std.specs.FinMap as map;
     ghost use Rattle.std.specs.Coded.{coded_ℤ, coded_list, coded_ℕ};
-    ghost use Rattle.tables.specs.Tables.{table};
+    ghost use Rattle.host_slots.specs.Tables.{table};
 
     ghost Value = { map.FinMap int_cmp (List (List ℕ)) };
 

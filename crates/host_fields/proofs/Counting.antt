@@ -2,8 +2,8 @@
 use Rattle.std.proofs.Common.{◌≡◌, ◌≢◌, ℕ, suc, ◌+◌, ◌<◌, ◌≤◌, Bool, true, false, List, [], ◌∷◌, length, drop, get_or, drop-cons, drop_of_length-le, add-one, refl, ap, arith}
 use Rattle.std.specs.Prelude.{◌&&◌, ◌==◌, ◌||◌, not, cond, if◌then◌else◌}
 use Rattle.std.specs.List.{filter}
-use Rattle.awk_state.specs.Texts.{is_empty}
-use Rattle.awk_state.specs.Fields.{Blanks, Byte, behind, is_blank, parted, pieces_of}
+use Rattle.sem_primitives.specs.Texts.{is_empty}
+use Rattle.sem_primitives.specs.Fields.{Blanks, Byte, behind, is_blank, parted, pieces_of}
 
 -- how many words begin in a text that comes after a byte of a word, or not
 abbrev pub words : Bool → List ℕ → ℕ

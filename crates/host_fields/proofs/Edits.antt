@@ -5,7 +5,7 @@ use Rattle.std.proofs.lemmas.List.{length-append, set-get_or, set-set, take-appe
 use Rattle.awk_values.specs.contracts.value.ValueClone.TheImpl.{by_variants}
 use Rattle.awk_values.specs.declared.value.Value.{Value}
 use Rattle.awk_values.specs.declared.value.Value.TheVariants.{Num, StrNum, Text, Uninit}
-use Rattle.awk_state.specs.FieldRows.{at_least}
+use Rattle.sem_primitives.specs.FieldMeaning.{at_least}
 
 uninit_clone : (y : Value) → (y ≡ Uninit) ⊎ by_variants Uninit y → y ≡ Uninit
 uninit_clone Uninit c = refl

@@ -5,7 +5,7 @@ use Rattle.awk_values.specs.Values.{text_of_value}
 use Rattle.awk_values.specs.declared.fault.Stop.{Stop}
 use Rattle.awk_values.specs.declared.fault.Stop.TheVariants as stops
 use Rattle.awk_values.specs.declared.value.Value.{Value}
-use Rattle.awk_state.specs.FieldRows.{joined}
+use Rattle.sem_primitives.specs.FieldMeaning.{joined}
 use Rattle.host_format.specs.Outcomes.{IsPast}
 
 -- the texts of the fields behind the first, each with the text before it

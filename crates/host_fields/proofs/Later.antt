@@ -3,7 +3,7 @@ use Rattle.std.proofs.Common.{◌≡◌, Bool, List, map, ap, sym, ◌∙◌}
 use Rattle.awk_values.specs.Values.{text_of_value}
 use Rattle.awk_values.specs.declared.value.Value.{Value}
 use Rattle.awk_values.specs.declared.value.Value.TheVariants.{StrNum}
-use Rattle.awk_state.specs.Fields.{pieces_of}
+use Rattle.sem_primitives.specs.Fields.{pieces_of}
 use Rattle.host_format.specs.Spans.{AreSpans}
 use Rattle.host_format.specs.declared.span.Span.{Span}
 use Rattle.host_fields.specs.Held.{fields_in, separator_by}

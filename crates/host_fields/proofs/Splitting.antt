@@ -8,11 +8,11 @@ use Rattle.std.proofs.lemmas.List.Filters.{length-filter_both}
 use Rattle.awk_values.specs.declared.fault.Fault.{Fault}
 use Rattle.awk_values.specs.declared.fault.Fault.TheVariants.{FieldNumber}
 use Rattle.awk_values.specs.declared.value.Value.TheVariants.{StrNum}
-use Rattle.awk_state.specs.Texts.{is_empty}
-use Rattle.awk_state.specs.SharedState.{Inner, ◌>>=◌}
-use Rattle.awk_state.specs.Fields.{Separator, fields_of, is_blank, parted, pieces_of, separator_of}
-use Rattle.awk_state.specs.FieldRows.{field_number, special_text, with_record}
-use Rattle.awk_state.specs.declared.constants.Special.TheVariants.{Fs, Rs}
+use Rattle.sem_primitives.specs.Texts.{is_empty}
+use Rattle.sem_primitives.specs.SharedState.{Inner, ◌>>=◌}
+use Rattle.sem_primitives.specs.Fields.{Separator, fields_of, is_blank, parted, pieces_of, separator_of}
+use Rattle.sem_primitives.specs.FieldMeaning.{field_number, special_text, with_record}
+use Rattle.sem_primitives.specs.declared.constants.Special.TheVariants.{Fs, Rs}
 use Rattle.host_format.specs.Spans.{span_text}
 use Rattle.host_format.specs.declared.span.Span.{Span}
 use Rattle.host_fields.specs.Held.{field_at, separator_by, with_held}

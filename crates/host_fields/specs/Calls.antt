@@ -3,9 +3,9 @@ use Rattle.std.specs.Prelude.{◌≡◌, ℕ, List, Result, Ok, ℤ}
 use Rattle.awk_values.specs.declared.fault.Fault.{Fault}
 use Rattle.awk_values.specs.declared.fault.Stop.{Stop}
 use Rattle.awk_values.specs.declared.value.Value.{Value}
-use Rattle.awk_state.specs.SharedState.{Inner, ◌>>=◌}
-use Rattle.awk_state.specs.FieldRows.{field_number, field_of, special_text, with_count, with_field, with_record}
-use Rattle.awk_state.specs.declared.constants.Special.TheVariants.{Fs, Ofs, Rs}
+use Rattle.sem_primitives.specs.SharedState.{Inner, ◌>>=◌}
+use Rattle.sem_primitives.specs.FieldMeaning.{field_number, field_of, special_text, with_count, with_field, with_record}
+use Rattle.sem_primitives.specs.declared.constants.Special.TheVariants.{Fs, Ofs, Rs}
 use Rattle.host_format.specs.Outcomes.{IsStopOf}
 use Rattle.host_fields.specs.Held.{Held, with_held}
 

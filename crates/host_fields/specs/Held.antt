@@ -5,10 +5,10 @@ use Rattle.std.specs.List.{All}
 use Rattle.awk_values.specs.contracts.value.Value as stored
 use Rattle.awk_values.specs.declared.value.Value.{Value}
 use Rattle.awk_values.specs.declared.value.Value.TheVariants.{StrNum}
-use Rattle.awk_state.specs.SharedState.{Inner}
+use Rattle.sem_primitives.specs.SharedState.{Inner}
 use Rattle.awk_values.specs.Values.{text_of_value}
-use Rattle.awk_state.specs.Fields.{Separator, pieces_of}
-use Rattle.awk_state.specs.Fields as separators
+use Rattle.sem_primitives.specs.Fields.{Separator, pieces_of}
+use Rattle.sem_primitives.specs.Fields as separators
 use Rattle.host_format.specs.Spans.{IsInside, span_text}
 use Rattle.host_format.specs.declared.span.Span.{Span}
 use Rattle.host_fields.specs.declared.fields.Form.{Form}

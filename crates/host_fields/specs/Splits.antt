@@ -1,6 +1,6 @@
 -- The fields of a text as parts of it, and the separator that is kept.
 use Rattle.std.specs.Prelude.{◌≡◌, ℕ, Bool, List, Option, Some, None, Ok}
-use Rattle.awk_state.specs.Fields.{Separator, pieces_of, separator_of}
+use Rattle.sem_primitives.specs.Fields.{Separator, pieces_of, separator_of}
 use Rattle.host_format.specs.Separators.{Separates}
 use Rattle.host_format.specs.Spans.{AreSpans}
 use Rattle.host_format.specs.declared.span.Span.{Span}

@@ -1,6 +1,6 @@
 //! How many fields a text has, where memory for their places is not to be taken.
 ghost use Rattle.std.specs.Prelude.{◌≡◌, ◌≢◌, ◌≤◌, ◌==◌, ◌||◌, ◌&&◌, Bool, [], filter, length};
-ghost use Rattle.awk_state.specs.Fields.{Blanks, Byte, is_blank, pieces_of};
+ghost use Rattle.sem_primitives.specs.Fields.{Blanks, Byte, is_blank, pieces_of};
 ghost use Rattle.host_fields.specs.Held.{separator_by};
 
 use crate::fields::Plain;

@@ -2,7 +2,7 @@
 ghost use Rattle.std.specs.Prelude.{◌≡◌, IfOk, IfSome, List, Ok, OnOk, length};
 ghost use Rattle.awk_values.specs.Values.{text_of_value};
 ghost use Rattle.awk_values.specs.declared.value.Value.{Value as AnyValue};
-ghost use Rattle.awk_state.specs.Fields.{pieces_of, separator_of};
+ghost use Rattle.sem_primitives.specs.Fields.{pieces_of, separator_of};
 ghost use Rattle.host_format.specs.Separators.{IsSep};
 ghost use Rattle.host_format.specs.Spans.{AreSpans};
 ghost use Rattle.host_fields.specs.Held.{AreHeld, IsNumericText, IsPartOf, IsSplit, field_at, fields_in, separator_by};

@@ -1,7 +1,7 @@
 //! The text of a record that is made of its fields.
 ghost use Rattle.std.specs.Prelude.{◌≡◌, ◌++◌, ◌^◌, ◌≤◌, IfErr, IfOk, OnOk, length};
 ghost use Rattle.awk_values.specs.Values.{text_of_value};
-ghost use Rattle.awk_state.specs.FieldRows.{joined};
+ghost use Rattle.sem_primitives.specs.FieldMeaning.{joined};
 ghost use Rattle.host_format.specs.Outcomes.{IsPast};
 
 use awk_text::text_of;

@@ -1,6 +1,6 @@
 //! Numbers of fields.
 ghost use Rattle.std.specs.Prelude.{◌≡◌};
-ghost use Rattle.awk_state.specs.FieldRows.{field_number};
+ghost use Rattle.sem_primitives.specs.FieldMeaning.{field_number};
 
 use awk_values::Fault;
 

@@ -1,8 +1,8 @@
 //! The record.
 ghost use Rattle.std.specs.Prelude.{◌≡◌, ◌≢◌, ◌&&◌, not, [], IfErr, IfOk, OnErr, OnOk, get_or, length, pos};
 ghost use Rattle.awk_values.specs.declared.value.Value.TheVariants.{Uninit};
-ghost use Rattle.awk_state.specs.Texts.{is_empty};
-ghost use Rattle.awk_state.specs.FieldRows.{at_least, field_number};
+ghost use Rattle.sem_primitives.specs.Texts.{is_empty};
+ghost use Rattle.sem_primitives.specs.FieldMeaning.{at_least, field_number};
 ghost use Rattle.host_format.specs.Outcomes.{IsStopOf};
 ghost use Rattle.host_fields.specs.Calls.{IsRecordOf, IsStopOfChange, IsStopOfRecord, Makes, Reads, count_set, field_set};
 

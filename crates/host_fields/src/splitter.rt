@@ -1,6 +1,6 @@
 //! What separates fields, kept from one record to the next.
 ghost use Rattle.std.specs.Prelude.{◌≡◌, IfErr, IfOk, OnOk};
-ghost use Rattle.awk_state.specs.Fields.{separator_of};
+ghost use Rattle.sem_primitives.specs.Fields.{separator_of};
 ghost use Rattle.host_format.specs.Outcomes.{IsStopOf};
 ghost use Rattle.host_format.specs.Separators.{Separates};
 ghost use Rattle.host_fields.specs.Splits.{AreFields, IsKept};

@@ -5,7 +5,7 @@ use Rattle.std.specs.Prelude.{◌&&◌, not, negsuc, nat_le, Option, Some, None,
 use Rattle.std.proofs.lemmas.Bool.{false≢true}
 use Rattle.std.proofs.lemmas.Bool.Decides.{nat_tests}
 use Rattle.host_format.specs.Parts.{is_before_end, is_in_part, part}
-use Rattle.awk_state.specs.TextRows.{chosen, kept_if}
+use Rattle.sem_primitives.specs.TextMeaning.{chosen, kept_if}
 
 -- a test that passes exactly from a on and before b, where places are counted from p on
 pub record TellsRange (test : ℕ → Bool) (p a b n : ℕ) : Type 0 where

@@ -3,8 +3,8 @@ use Rattle.std.proofs.Common.{◌≡◌, ℕ, Bool, true, false, List, [], ◌�
 use Rattle.std.specs.Prelude.{◌==◌, ◌||◌, ◌&&◌, if◌then◌else◌}
 use Rattle.std.specs.List.{list_any}
 use Rattle.std.proofs.lemmas.Bool.Decides.{nat_tests}
-use Rattle.awk_state.specs.Texts.{has}
-use Rattle.awk_state.specs.Formats.{Converts, Malformed, Specifier, conversion, is_narrow, specified}
+use Rattle.sem_primitives.specs.Texts.{has}
+use Rattle.sem_primitives.specs.Formats.{Converts, Malformed, Specifier, conversion, is_narrow, specified}
 
 same_test : (a b : ℕ) → (a == b) ≡ (b == a)
 same_test a b = grind (arith, nat_tests)

@@ -5,8 +5,8 @@ use Rattle.std.proofs.lemmas.Bool.{false≢true}
 use Rattle.ere_match.specs.declared.automaton.Auto.{Auto}
 use Rattle.ere_syntax.specs.Tree.{Tree}
 use Rattle.ere_match.specs.Autos.{IsAutoOf}
-use Rattle.awk_state.specs.Fields.{Separator, Blanks, Nothing, Byte, Expression, is_blank, parted, pieces, pieces_of}
-use Rattle.awk_state.specs.Texts.{is_empty}
+use Rattle.sem_primitives.specs.Fields.{Separator, Blanks, Nothing, Byte, Expression, is_blank, parted, pieces, pieces_of}
+use Rattle.sem_primitives.specs.Texts.{is_empty}
 use Rattle.host_format.specs.Marks.{is_mark, pieces_by}
 use Rattle.host_format.specs.Separators.{IsSep}
 use Rattle.host_format.specs.Spans.{AreSpans}

@@ -4,8 +4,8 @@ use Rattle.std.specs.Prelude.{◌==◌, ◌&&◌, if◌then◌else◌}
 use Rattle.std.proofs.lemmas.Bool.{eqb-true, eq-eqb, false≢true, cases_Bool}
 use Rattle.std.proofs.lemmas.List.{get_or-drop, length-drop}
 use Rattle.memchr.specs.Find.{OccursAt, FindsNeedle}
-use Rattle.awk_state.specs.Texts.{begins_with}
-use Rattle.awk_state.specs.TextRows.{place_of, place_from}
+use Rattle.sem_primitives.specs.Texts.{begins_with}
+use Rattle.sem_primitives.specs.TextMeaning.{place_of, place_from}
 
 -- one text begins another where each byte is there
 begins : (wanted text : List ℕ) → length wanted ≤ length text → ((j : ℕ) → j < length wanted → get_or text j 0 ≡ get_or wanted j 0) → begins_with wanted text ≡ true

@@ -7,8 +7,8 @@ use Rattle.ere_syntax.specs.Matches.{Matches}
 use Rattle.ere_syntax.specs.Tree.{Tree}
 use Rattle.ere_syntax.proofs.Meaning.{matches_inside}
 use Rattle.ere_match.specs.FirstMatch.{IsFirst, IsFirstMatch}
-use Rattle.awk_state.specs.FirstMatch.{first_by, first_match, longest, or_next}
-use Rattle.awk_state.proofs.Firsts.{first_match_is}
+use Rattle.sem_primitives.specs.FirstMatch.{first_by, first_match, longest, or_next}
+use Rattle.sem_primitives.proofs.Firsts.{first_match_is}
 use Rattle.host_format.specs.Expressions.{IsFirstAt, IsFirstBy, not_empty, unless_empty}
 
 same_pair : (p q : ℕ × ℕ) → p.0 ≡ q.0 → p.1 ≡ q.1 → p ≡ q

@@ -5,10 +5,10 @@ use Rattle.awk_values.specs.declared.fault.Fault.{Fault}
 use Rattle.awk_values.specs.declared.fault.Fault.TheVariants.{TextLimit}
 use Rattle.awk_values.specs.declared.fault.Stop.{Stop}
 use Rattle.ere_syntax.specs.Tree.{Tree}
-use Rattle.awk_state.specs.FirstMatch.{first_match}
-use Rattle.awk_state.specs.SharedState.{◌>>=◌}
-use Rattle.awk_state.specs.Texts.{limited}
-use Rattle.awk_state.specs.TextRows.{behind, places, places_of, replaced, replacement}
+use Rattle.sem_primitives.specs.FirstMatch.{first_match}
+use Rattle.sem_primitives.specs.SharedState.{◌>>=◌}
+use Rattle.sem_primitives.specs.Texts.{limited}
+use Rattle.sem_primitives.specs.TextMeaning.{behind, places, places_of, replaced, replacement}
 use Rattle.host_format.specs.Outcomes.{IsPast, IsStopOf}
 use Rattle.host_format.specs.Substitutions.{IsNextPlace, IsReplaced, substitution}
 use Rattle.host_format.proofs.Pieces.{rest_of}

@@ -5,8 +5,8 @@ use Rattle.std.proofs.lemmas.Bool.{true≢false, cases_Bool, cases_lt}
 use Rattle.std.proofs.lemmas.List.{get_or-drop, get_or-take, length-take}
 use Rattle.memchr.specs.Find.{IsFirstByte, is_byte}
 use Rattle.ere_syntax.specs.Tree.{Tree}
-use Rattle.awk_state.specs.FirstMatch.{first_by, longest, or_next}
-use Rattle.awk_state.specs.Fields.{Expression, between, end_or_newline, newline_end, pieces, separators}
+use Rattle.sem_primitives.specs.FirstMatch.{first_by, longest, or_next}
+use Rattle.sem_primitives.specs.Fields.{Expression, between, end_or_newline, newline_end, pieces, separators}
 use Rattle.host_format.specs.Between.{IsOpen, separator_end}
 use Rattle.host_format.specs.Expressions.{IsFirstAt, IsFirstBy, not_empty, unless_empty}
 use Rattle.host_format.specs.Spans.{IsSoFar}

@@ -1,7 +1,7 @@
 -- Zeros that fill a width.
 use Rattle.std.proofs.Common.{◌≡◌, ℕ, ◌+◌, ◌-◌, max, List, ◌++◌, length, sym, ap, ◌∙◌, append_assoc, arith}
 use Rattle.std.proofs.lemmas.List.{length-append, length-replicate, replicate-append-replicate}
-use Rattle.awk_state.specs.Formats.{filled, zeros}
+use Rattle.sem_primitives.specs.Formats.{filled, zeros}
 
 gap_is : (width z low front rest : ℕ) → low ≡ width - (front + (0 + rest)) → max z low ≡ (width - front - (z + rest)) + z
 gap_is width z low front rest e = omega arith

@@ -5,7 +5,7 @@ use Rattle.std.proofs.lemmas.Bool.{false≢true, cases_Bool}
 use Rattle.std.proofs.lemmas.List.{length-drop, length-take, drop-drop, drop_more, take_all}
 use Rattle.std.proofs.lemmas.List.Elements.{All-nil}
 use Rattle.memchr.specs.Find.{IsFirstByte}
-use Rattle.awk_state.specs.Fields.{behind, parted}
+use Rattle.sem_primitives.specs.Fields.{behind, parted}
 use Rattle.host_format.specs.Marks.{kept}
 use Rattle.host_format.specs.Spans.{AreSpans, IsInside, IsSoFar, span_text}
 use Rattle.host_format.specs.declared.span.Span.{Span}

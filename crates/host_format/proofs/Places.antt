@@ -3,8 +3,8 @@ use Rattle.std.proofs.Common.{◌≡◌, inl, inr, ℕ, zero, suc, ◌+◌, ◌-
 use Rattle.std.specs.Prelude.{◌==◌, ◌&&◌, if◌then◌else◌, IfSome}
 use Rattle.std.proofs.lemmas.Bool.{cases_Bool, false≢true}
 use Rattle.ere_syntax.specs.Tree.{Tree}
-use Rattle.awk_state.specs.FirstMatch.{first_by, first_match, longest}
-use Rattle.awk_state.specs.TextRows.{behind, is_at, is_empty_at, places}
+use Rattle.sem_primitives.specs.FirstMatch.{first_by, first_match, longest}
+use Rattle.sem_primitives.specs.TextMeaning.{behind, is_at, is_empty_at, places}
 use Rattle.host_format.specs.Substitutions.{IsNextPlace}
 
 abbrev First : Type 0

@@ -8,9 +8,9 @@ use Rattle.ere_syntax.specs.Tree.{IsWithinLimits, Tree, nesting, positions}
 use Rattle.ere_syntax.specs.declared.fault.EreFault.{EreFault}
 use Rattle.ere_syntax.specs.declared.fault.EreFault.TheVariants.{BadEre, EreTooLarge, NoMemory}
 use Rattle.ere_syntax.proofs.Scans.{text_again, text_sound}
-use Rattle.awk_state.specs.FirstMatch.{expression_of, or_bad, within_limits}
-use Rattle.awk_state.specs.Fields.{Blanks, Byte, Expression}
-use Rattle.awk_state.specs.SharedState.{◌>>=◌}
+use Rattle.sem_primitives.specs.FirstMatch.{expression_of, or_bad, within_limits}
+use Rattle.sem_primitives.specs.Fields.{Blanks, Byte, Expression}
+use Rattle.sem_primitives.specs.SharedState.{◌>>=◌}
 use Rattle.ere_match.specs.declared.automaton.Auto.{Auto}
 use Rattle.std.proofs.lemmas.Bool.{cases_Bool}
 use Rattle.host_format.specs.Expressions.{IsExpression, is_stop_of_ere}

@@ -9,9 +9,9 @@ use Rattle.awk_values.specs.declared.fault.Fault.{Fault}
 use Rattle.awk_values.specs.declared.fault.Fault.TheVariants.{TextLimit}
 use Rattle.awk_values.specs.declared.fault.Stop.{Stop}
 use Rattle.awk_values.specs.declared.fault.Stop.TheVariants as stops
-use Rattle.awk_state.specs.SharedState.{◌>>=◌}
-use Rattle.awk_state.specs.Texts.{limited}
-use Rattle.awk_state.specs.TextRows.{escaped, replacement}
+use Rattle.sem_primitives.specs.SharedState.{◌>>=◌}
+use Rattle.sem_primitives.specs.Texts.{limited}
+use Rattle.sem_primitives.specs.TextMeaning.{escaped, replacement}
 use Rattle.host_format.specs.Outcomes.{IsPast, IsStopOf}
 
 -- a longer text is past the limit too

@@ -10,8 +10,8 @@ use Rattle.awk_values.specs.declared.fault.Fault.TheVariants.{Format, TextLimit}
 use Rattle.awk_values.specs.declared.fault.Stop.{Stop}
 use Rattle.awk_values.specs.declared.fault.Stop.TheVariants as stops
 use Rattle.awk_values.specs.declared.value.Value.{Value}
-use Rattle.awk_state.specs.SharedState.{◌>>=◌}
-use Rattle.awk_state.specs.Formats.{Piece, Ordinary, Converts, Malformed, Conversion, conversion_at, converted, formatted, formatted_from, pieces_from, sized, then_text}
+use Rattle.sem_primitives.specs.SharedState.{◌>>=◌}
+use Rattle.sem_primitives.specs.Formats.{Piece, Ordinary, Converts, Malformed, Conversion, conversion_at, converted, formatted, formatted_from, pieces_from, sized, then_text}
 use Rattle.host_format.specs.Outcomes.{IsPast, IsStopAfter, IsStopOf}
 use Rattle.host_format.specs.Steps.{AddsStep, IsLeftOf, behind_text, step, text_of_step}
 

@@ -1,8 +1,8 @@
 -- The pieces between matches and newlines, on the way.
 use Rattle.std.specs.Prelude.{ℕ, ◌+◌, ◌≤◌, Bool, List, length, Option}
 use Rattle.ere_syntax.specs.Tree.{Tree}
-use Rattle.awk_state.specs.FirstMatch.{longest}
-use Rattle.awk_state.specs.Fields.{between, end_or_newline, separators}
+use Rattle.sem_primitives.specs.FirstMatch.{longest}
+use Rattle.sem_primitives.specs.Fields.{between, end_or_newline, separators}
 use Rattle.host_format.specs.Spans.{IsSoFar}
 use Rattle.host_format.specs.declared.span.Span.{Span}
 

@@ -1,7 +1,7 @@
 -- What conversions stand for, and their text in parts.
 use Rattle.std.specs.Prelude.{ℕ, List, [], ◌∷◌, ◌++◌, length, drop, take_while, Option, Some, None}
 use Rattle.awk_text.specs.Reading.{digits_at}
-use Rattle.awk_state.specs.Formats.{Conversion, Specifier, Signed, Octal, Unsigned, LowerHex, UpperHex, Fixed, String, Char, Piece, Ordinary, Converts, is_flag, wide, zeros}
+use Rattle.sem_primitives.specs.Formats.{Conversion, Specifier, Signed, Octal, Unsigned, LowerHex, UpperHex, Fixed, String, Char, Piece, Ordinary, Converts, is_flag, wide, zeros}
 use Rattle.host_format.specs.declared.conversion.Specifier.{Specifier as Letter}
 use Rattle.host_format.specs.declared.conversion.Specifier.TheVariants as letters
 use Rattle.host_format.specs.declared.conversion.Conversion.{Conversion as Read}

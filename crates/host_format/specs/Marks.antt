@@ -1,7 +1,7 @@
 -- Bytes that stand between fields, and the pieces between them.
 use Rattle.std.specs.Prelude.{ℕ, ◌==◌, ◌||◌, not, Bool, true, false, List, filter}
-use Rattle.awk_state.specs.Fields.{is_blank, parted}
-use Rattle.awk_state.specs.Texts.{is_empty}
+use Rattle.sem_primitives.specs.Fields.{is_blank, parted}
+use Rattle.sem_primitives.specs.Texts.{is_empty}
 use Rattle.host_format.specs.declared.marks.Marks.{Marks}
 use Rattle.host_format.specs.declared.marks.Marks.TheVariants.{Byte, ByteOrNewline, Blanks}
 

@@ -1,6 +1,6 @@
 -- A part of a text by places (POSIX.1-2017 awk, "String Functions", substr).
 use Rattle.std.specs.Prelude.{ℕ, ◌&&◌, Bool, true, List, Option, Some, None, ℤ, pos, ◌+ℤ◌, int_le, int_lt}
-use Rattle.awk_state.specs.TextRows.{chosen}
+use Rattle.sem_primitives.specs.TextMeaning.{chosen}
 
 -- whether a place lies before m + n, where there is an n
 abbrev pub is_before_end : ℤ → Option ℤ → ℕ → Bool

@@ -1,9 +1,9 @@
 -- What the type of separators stands for.
 use Rattle.std.specs.Prelude.{◌≡◌, ℕ, List, Ok}
 use Rattle.ere_match.specs.Autos.{IsAutoOf}
-use Rattle.awk_state.specs.Fields.{Separator, Blanks, Nothing, Byte, Expression, separator_of}
-use Rattle.awk_state.specs.FirstMatch.{expression_of}
-use Rattle.awk_state.specs.SharedState.{◌>>=◌}
+use Rattle.sem_primitives.specs.Fields.{Separator, Blanks, Nothing, Byte, Expression, separator_of}
+use Rattle.sem_primitives.specs.FirstMatch.{expression_of}
+use Rattle.sem_primitives.specs.SharedState.{◌>>=◌}
 use Rattle.host_format.specs.declared.sep.Sep.{Sep}
 use Rattle.host_format.specs.declared.sep.Sep.TheVariants as seps
 

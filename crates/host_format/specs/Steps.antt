@@ -3,8 +3,8 @@ use Rattle.std.specs.Prelude.{◌≡◌, ℕ, ◌≤◌, List, [], ◌∷◌, �
 use Rattle.awk_values.specs.declared.fault.Fault.{Fault}
 use Rattle.awk_values.specs.declared.fault.Fault.TheVariants.{Format}
 use Rattle.awk_values.specs.declared.value.Value.{Value}
-use Rattle.awk_state.specs.SharedState.{◌>>=◌}
-use Rattle.awk_state.specs.Formats.{Piece, Ordinary, Converts, Malformed, converted, formatted, formatted_from, pieces_from}
+use Rattle.sem_primitives.specs.SharedState.{◌>>=◌}
+use Rattle.sem_primitives.specs.Formats.{Piece, Ordinary, Converts, Malformed, converted, formatted, formatted_from, pieces_from}
 use Rattle.host_format.specs.Outcomes.{Adds}
 
 -- the text of a piece, and the values after it

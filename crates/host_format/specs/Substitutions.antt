@@ -2,10 +2,10 @@
 use Rattle.std.specs.Prelude.{◌≡◌, ℕ, ◌+◌, ◌^◌, ◌≤◌, Bool, List, [], ◌∷◌, Option, Some, None, Result, Ok, length}
 use Rattle.awk_values.specs.declared.fault.Fault.{Fault}
 use Rattle.ere_syntax.specs.Tree.{Tree}
-use Rattle.awk_state.specs.FirstMatch.{first_match}
-use Rattle.awk_state.specs.SharedState.{◌>>=◌}
-use Rattle.awk_state.specs.Texts.{limited}
-use Rattle.awk_state.specs.TextRows.{behind, places, places_of, replaced}
+use Rattle.sem_primitives.specs.FirstMatch.{first_match}
+use Rattle.sem_primitives.specs.SharedState.{◌>>=◌}
+use Rattle.sem_primitives.specs.Texts.{limited}
+use Rattle.sem_primitives.specs.TextMeaning.{behind, places, places_of, replaced}
 
 -- how many matches are replaced, and the new text
 abbrev pub substitution : Tree → List ℕ → List ℕ → Bool → Result (ℕ × List ℕ) Fault

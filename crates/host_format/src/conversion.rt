@@ -2,7 +2,7 @@
 ghost use Rattle.std.specs.Prelude.{◌≡◌, ◌^◌, ◌≤◌, IfSome, MatchOption, Some, false, length, min, option_map, take_while, true, drop};
 ghost use Rattle.awk_text.specs.Number.{value_after};
 ghost use Rattle.awk_text.specs.Reading.{digits_at, is_digit};
-ghost use Rattle.awk_state.specs.Formats.{Converts, Malformed, conversion_at, has_flag, is_flag, is_narrow, precision_at, specifier_of};
+ghost use Rattle.sem_primitives.specs.Formats.{Converts, Malformed, conversion_at, has_flag, is_flag, is_narrow, precision_at, specifier_of};
 ghost use Rattle.host_format.specs.Conversions.{conversion_is, piece_is, specifier_is, wide_at};
 
 /// What the letter of a conversion asks for.

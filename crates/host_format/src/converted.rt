@@ -3,8 +3,8 @@ ghost use Rattle.std.specs.Prelude.{◌≡◌, ◌%◌, ◌++◌, [], IfErr, Ok,
 ghost use Rattle.std.specs.Fmt.{digits};
 ghost use Rattle.awk_text.specs.Number.{truncated_of_text};
 ghost use Rattle.awk_values.specs.Values.{as_fault, text_of_value};
-ghost use Rattle.awk_state.specs.ValueRows.{truncated};
-ghost use Rattle.awk_state.specs.Formats.{char_of, converted, first_bytes, fraction_text, hex_mark, integer_text, number_text, octal_mark, padded, sign_of, unsigned, with_precision};
+ghost use Rattle.sem_primitives.specs.ValueMeaning.{truncated};
+ghost use Rattle.sem_primitives.specs.Formats.{char_of, converted, first_bytes, fraction_text, hex_mark, integer_text, number_text, octal_mark, padded, sign_of, unsigned, with_precision};
 ghost use Rattle.host_format.specs.Conversions.{body_text, conversion_is, places_text};
 ghost use Rattle.host_format.specs.Outcomes.{Adds, AddsOutcome, IsPast, IsStopAfter};
 

@@ -2,7 +2,7 @@
 ghost use Rattle.std.specs.Prelude.{◌≡◌, ◌+◌, ◌≤◌, ℕ, IfErr, IfOk, IfSome, length};
 ghost use Rattle.ere_syntax.specs.Tree.{Tree};
 ghost use Rattle.ere_match.specs.Autos.{IsAutoOf};
-ghost use Rattle.awk_state.specs.FirstMatch.{expression_of, first_match, longest};
+ghost use Rattle.sem_primitives.specs.FirstMatch.{expression_of, first_match, longest};
 ghost use Rattle.host_format.specs.Outcomes.{IsStopOf};
 ghost use Rattle.host_format.specs.Expressions.{IsAuto, IsExpression, IsFirstBy, is_stop_of_ere, not_empty};
 

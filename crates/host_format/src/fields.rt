@@ -3,7 +3,7 @@ ghost use Rattle.std.specs.Prelude.{◌≡◌, ℕ, zero, ◌+◌, ◌<◌, ◌�
 ghost use Rattle.ere_syntax.specs.Tree.{Tree};
 ghost use Rattle.ere_match.specs.Autos.{IsAutoOf};
 ghost use Rattle.awk_values.specs.declared.fault.Stop.TheVariants as stops;
-ghost use Rattle.awk_state.specs.Fields.{Expression, Nothing, Separator, newline_end, pieces, pieces_of};
+ghost use Rattle.sem_primitives.specs.Fields.{Expression, Nothing, Separator, newline_end, pieces, pieces_of};
 ghost use Rattle.host_format.specs.Between.{IsOpen, separator_end};
 ghost use Rattle.host_format.specs.Expressions.{IsAuto};
 ghost use Rattle.host_format.specs.Marks.{kept, pieces_by, skips_empty};

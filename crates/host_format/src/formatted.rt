@@ -1,6 +1,6 @@
 //! Formatting.
 ghost use Rattle.std.specs.Prelude.{◌≡◌, IfErr, IfOk, Ok, OnOk, []};
-ghost use Rattle.awk_state.specs.Formats.{formatted};
+ghost use Rattle.sem_primitives.specs.Formats.{formatted};
 ghost use Rattle.host_format.specs.Conversions.{piece_is};
 ghost use Rattle.host_format.specs.Outcomes.{IsStopAfter, IsStopOf};
 ghost use Rattle.host_format.specs.Steps.{AddsStep, step, text_of_step};

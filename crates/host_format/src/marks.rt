@@ -1,6 +1,6 @@
 //! Bytes that stand between fields.
 ghost use Rattle.std.specs.Prelude.{◌≡◌};
-ghost use Rattle.awk_state.specs.Fields.{is_blank};
+ghost use Rattle.sem_primitives.specs.Fields.{is_blank};
 ghost use Rattle.memchr.specs.Find.{IsFirstByte};
 ghost use Rattle.host_format.specs.Marks.{is_mark, skips_empty};
 

@@ -1,6 +1,6 @@
 //! Texts of conversions, and how they fill their width.
 ghost use Rattle.std.specs.Prelude.{◌≡◌, ◌-◌, ◌++◌, IfErr, OnOk, length};
-ghost use Rattle.awk_state.specs.Formats.{filled, number_text, padded, with_precision};
+ghost use Rattle.sem_primitives.specs.Formats.{filled, number_text, padded, with_precision};
 ghost use Rattle.host_format.specs.Conversions.{body_text, conversion_is, parts_text, places_text};
 ghost use Rattle.host_format.specs.Outcomes.{Adds, IsPast};
 

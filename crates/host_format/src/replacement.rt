@@ -1,6 +1,6 @@
 //! What a replacement stands for.
 ghost use Rattle.std.specs.Prelude.{◌≡◌, ℕ, ◌+◌, ◌^◌, ◌++◌, ◌≤◌, IfErr, IfOk, IfSome, List, OnOk, length};
-ghost use Rattle.awk_state.specs.TextRows.{escaped, replacement};
+ghost use Rattle.sem_primitives.specs.TextMeaning.{escaped, replacement};
 ghost use Rattle.host_format.specs.Outcomes.{IsPast};
 
 use crate::put::put;

@@ -1,6 +1,6 @@
 //! What stands between fields.
 ghost use Rattle.std.specs.Prelude.{IfErr, IfNone, IfOk, IfSome};
-ghost use Rattle.awk_state.specs.Fields.{separator_of};
+ghost use Rattle.sem_primitives.specs.Fields.{separator_of};
 ghost use Rattle.host_format.specs.Outcomes.{IsStopOf};
 ghost use Rattle.host_format.specs.Separators.{IsAnySep, IsLong, Separates};
 

@@ -2,7 +2,7 @@
 ghost use Rattle.std.specs.Prelude.{◌≡◌, ℕ, ◌+◌, ◌^◌, ◌<◌, ◌≤◌, ◌++◌, [], true, false, IfErr, IfOk, IfSome, List, None, Ok, OnOk, Option, Some, length, slice_range};
 ghost use Rattle.ere_syntax.specs.Tree.{Tree};
 ghost use Rattle.ere_match.specs.Autos.{IsAutoOf};
-ghost use Rattle.awk_state.specs.TextRows.{behind, is_empty_at, places_of, replaced, replacement};
+ghost use Rattle.sem_primitives.specs.TextMeaning.{behind, is_empty_at, places_of, replaced, replacement};
 ghost use Rattle.host_format.specs.Expressions.{IsAuto};
 ghost use Rattle.host_format.specs.Outcomes.{IsPast, IsStopOf};
 ghost use Rattle.host_format.specs.Substitutions.{IsNextPlace, IsReplaced, substitution};

@@ -1,6 +1,6 @@
 //! Parts of texts, places in them, and letters.
 ghost use Rattle.std.specs.Prelude.{◌≡◌, ◌≤◌, ℕ, IfErr, IfOk, int_lt, length, map, nat_le, pos};
-ghost use Rattle.awk_state.specs.TextRows.{lower, place_of, upper};
+ghost use Rattle.sem_primitives.specs.TextMeaning.{lower, place_of, upper};
 ghost use Rattle.awk_values.specs.declared.fault.Stop.TheVariants as stops;
 ghost use Rattle.host_format.specs.Parts.{is_before_end, part};
 

@@ -22,7 +22,7 @@ impl Model for Handles {
     ghost use Rattle.std.specs.Ordering.{int_cmp};
     ghost use Rattle.awk_values.specs.contracts.value.Value as stored;
     ghost use Rattle.awk_values.specs.declared.value.Value.{Value as AnyValue};
-    ghost use Rattle.tables.specs.Tables.{table};
+    ghost use Rattle.host_slots.specs.Tables.{table};
 
     ghost Value = { map.FinMap int_cmp AnyValue };
 

@@ -2,7 +2,7 @@
 use Rattle.std.proofs.Common.{◌≡◌, ◌≢◌, ℕ, List, [], ◌∷◌, map, Some, None, false, refl, subst, sym, ap, ◌∙◌, arith}
 use Rattle.world_core.specs.WorldState.{State}
 use Rattle.world_core.specs.Calls.{Kind, Closed, Reading as IsReading, Writing}
-use Rattle.awk_state.specs.SharedState.{Inner, File}
+use Rattle.sem_primitives.specs.SharedState.{Inner, File}
 use Rattle.host_streams.specs.Mains.{FileIsOpen, HoldsMain, IsApartFrom, SparesKinds, SparesPlaces, main_at_start, main_of, reading_of, with_main}
 use Rattle.host_streams.specs.OpenFiles.{AreOpen, HoldsOpen, IsMissing, IsNone, IsNoneOf, OthersKeep, OthersStay, WritersGo, names_of, reader_handle, readers_in, writer_handle}
 use Rattle.host_streams.specs.Readers.{left}

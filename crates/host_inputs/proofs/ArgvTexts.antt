@@ -2,7 +2,7 @@
 use Rattle.std.proofs.Common.{◌≡◌, ℕ, pos, List, Option, sym, ap, ◌∙◌}
 use Rattle.std.specs.Prelude.{decimal}
 use Rattle.awk_values.specs.declared.value.Value.{Value}
-use Rattle.awk_state.specs.InputRows.{text_or_none}
+use Rattle.sem_primitives.specs.InputMeaning.{text_or_none}
 use Rattle.host_arrays.specs.Pairs.{get_pair, pairs_at}
 use Rattle.host_elements.specs.Forms.{Arrays}
 use Rattle.host_elements.proofs.Elements.{element-get_pair}

@@ -4,13 +4,13 @@ use Rattle.std.specs.FinMap as map
 use Rattle.awk_values.specs.declared.fault.Stop.{Stop}
 use Rattle.awk_values.specs.declared.fault.Stop.TheVariants.{Fault as IsFault, NoMemory}
 use Rattle.awk_values.specs.declared.value.Value.{Value}
-use Rattle.awk_state.specs.SharedState.{Inner}
-use Rattle.awk_state.specs.Sorts.{Row}
-use Rattle.awk_state.specs.declared.answers.InputAnswer.{InputAnswer}
-use Rattle.awk_state.specs.declared.answers.InputAnswer.TheVariants as input
-use Rattle.awk_state.specs.declared.sorts.Argument.TheVariants as argument
-use Rattle.awk_state.specs.declared.sorts.Sort.TheVariants as sort
-use Rattle.machine_model.specs.declared.host.HostAnswer.TheVariants as told
+use Rattle.sem_primitives.specs.SharedState.{Inner}
+use Rattle.sem_primitives.specs.Sorts.{Row}
+use Rattle.sem_primitives.specs.declared.answers.InputAnswer.{InputAnswer}
+use Rattle.sem_primitives.specs.declared.answers.InputAnswer.TheVariants as input
+use Rattle.sem_primitives.specs.declared.sorts.Argument.TheVariants as argument
+use Rattle.sem_primitives.specs.declared.sorts.Sort.TheVariants as sort
+use Rattle.wasm_model.specs.declared.host.HostAnswer.TheVariants as told
 use Rattle.wasm_store.specs.declared.trap.TrapKind.{TrapKind}
 use Rattle.wasm_store.specs.declared.word.Word.{Word}
 use Rattle.wasm_store.specs.declared.word.Word.TheVariants.{I32}
@@ -32,7 +32,7 @@ use Rattle.host_values.proofs.OneHandle.{as_row, decoded}
 use Rattle.host_elements.specs.Forms.{HostForm, Past, inner_of, state_of}
 use Rattle.host_elements.proofs.Steps.{state_with}
 use Rattle.host_names.specs.Forms.{announced, left_of}
-use Rattle.form_meaning.specs.WorldCalls.{IsCalled}
+use Rattle.host_meaning.specs.WorldCalls.{IsCalled}
 use Rattle.host_inputs.specs.Calls.{answered_by, shown_after, with_values}
 use Rattle.host_inputs.specs.Givens.{RowGives, file_primitive, file_row}
 use Rattle.host_inputs.specs.Keeps.{AnswerLine, IsReadOn, KeepsSubstituted}

@@ -10,15 +10,15 @@ use Rattle.awk_values.specs.declared.fault.Fault.TheVariants.{TooManyStreams}
 use Rattle.awk_values.specs.declared.fault.Stop.{Stop}
 use Rattle.awk_values.specs.declared.fault.Stop.TheVariants.{Fault as IsFault, NoMemory}
 use Rattle.world_core.specs.WorldState.{Outside, Named, Source, State}
-use Rattle.awk_state.specs.FieldRows.{special_text}
-use Rattle.awk_state.specs.InputRows.{getline_file_by, got_file, open_or_read, opened_file, read_file, reader_named, source_of, with_reader}
-use Rattle.awk_state.specs.OutputRows.{has_room}
-use Rattle.awk_state.specs.Records.{Got, first_record, record_separator}
-use Rattle.awk_state.specs.SharedState.{Inner, ◌>>=◌}
-use Rattle.awk_state.specs.Texts.{same_text}
-use Rattle.awk_state.specs.declared.answers.InputAnswer.{InputAnswer}
-use Rattle.awk_state.specs.declared.answers.InputAnswer.TheVariants as input
-use Rattle.awk_state.specs.declared.constants.Special.TheVariants.{Rs}
+use Rattle.sem_primitives.specs.FieldMeaning.{special_text}
+use Rattle.sem_primitives.specs.InputMeaning.{getline_file_by, got_file, open_or_read, opened_file, read_file, reader_named, source_of, with_reader}
+use Rattle.sem_primitives.specs.OutputMeaning.{has_room}
+use Rattle.sem_primitives.specs.Records.{Got, first_record, record_separator}
+use Rattle.sem_primitives.specs.SharedState.{Inner, ◌>>=◌}
+use Rattle.sem_primitives.specs.Texts.{same_text}
+use Rattle.sem_primitives.specs.declared.answers.InputAnswer.{InputAnswer}
+use Rattle.sem_primitives.specs.declared.answers.InputAnswer.TheVariants as input
+use Rattle.sem_primitives.specs.declared.constants.Special.TheVariants.{Rs}
 use Rattle.host_streams.specs.OpenFiles.{FileNextBy, FileNextIs, ReadsFile, StartsFile, has_room as open_room, names_of, readers_in}
 use Rattle.host_streams.specs.Readers.{Answers, left}
 use Rattle.host_streams.specs.declared.streams.NamedReader.{NamedReader}

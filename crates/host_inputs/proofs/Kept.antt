@@ -4,10 +4,10 @@ use Rattle.awk_values.specs.declared.fault.Fault.{Fault}
 use Rattle.awk_values.specs.declared.fault.Stop.{Stop}
 use Rattle.awk_values.specs.declared.fault.Stop.TheVariants.{Fault as IsFault, NoMemory}
 use Rattle.world_core.specs.WorldState.{Outside}
-use Rattle.awk_state.specs.InputRows.{Taken, counted_record, getline_by, main_input}
-use Rattle.awk_state.specs.SharedState.{Inner, ◌>>=◌}
-use Rattle.awk_state.specs.declared.answers.InputAnswer.{InputAnswer}
-use Rattle.awk_state.specs.declared.answers.InputAnswer.TheVariants.{Read}
+use Rattle.sem_primitives.specs.InputMeaning.{Taken, counted_record, getline_by, main_input}
+use Rattle.sem_primitives.specs.SharedState.{Inner, ◌>>=◌}
+use Rattle.sem_primitives.specs.declared.answers.InputAnswer.{InputAnswer}
+use Rattle.sem_primitives.specs.declared.answers.InputAnswer.TheVariants.{Read}
 use Rattle.host_format.specs.Outcomes.{IsStopOf}
 use Rattle.host_inputs.specs.Givens.{GivesMain, RowGives, answer_of, is_over, kept_by, main_of_given, main_row}
 use Rattle.host_inputs.specs.Keeps.{keep_of}

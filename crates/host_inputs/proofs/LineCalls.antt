@@ -3,10 +3,10 @@ use Rattle.std.proofs.Common.{◌≡◌, ◌<◌, ◌^◌, ℕ, pos, false, List
 use Rattle.std.specs.FinMap as map
 use Rattle.std.proofs.lemmas.List.{append-nil}
 use Rattle.awk_values.specs.declared.value.Value.{Value}
-use Rattle.awk_state.specs.SharedState.{changes}
-use Rattle.awk_state.specs.TextRows.{given}
-use Rattle.awk_state.specs.declared.table.Primitive.TheVariants as row
-use Rattle.machine_model.specs.declared.host.HostAnswer.TheVariants as told
+use Rattle.sem_primitives.specs.SharedState.{changes}
+use Rattle.sem_primitives.specs.TextMeaning.{given}
+use Rattle.sem_primitives.specs.declared.table.Primitive.TheVariants as row
+use Rattle.wasm_model.specs.declared.host.HostAnswer.TheVariants as told
 use Rattle.wasm_store.specs.declared.trap.TrapKind.{TrapKind}
 use Rattle.wasm_store.specs.declared.trap.TrapKind.TheVariants.{BadArgument}
 use Rattle.wasm_store.specs.declared.word.Word.{Word}
@@ -27,7 +27,7 @@ use Rattle.host_values.proofs.Entries.{entries_insert, look_entries}
 use Rattle.host_elements.specs.Forms.{HostForm, Past, inner_of, state_of}
 use Rattle.host_elements.proofs.ArrayCalls.{below_limit}
 use Rattle.host_elements.proofs.Steps.{done_is_some, goes, state_with, unrefused}
-use Rattle.form_meaning.specs.WorldCalls.{IsCalled}
+use Rattle.host_meaning.specs.WorldCalls.{IsCalled}
 use Rattle.host_inputs.specs.Calls.{with_values}
 use Rattle.host_inputs.specs.Keeps.{with_line}
 use Rattle.host_inputs.specs.States.{over_world, with_tables}

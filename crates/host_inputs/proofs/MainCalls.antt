@@ -6,12 +6,12 @@ use Rattle.std.proofs.lemmas.Option.{get_or_from_slice_get}
 use Rattle.awk_values.specs.declared.fault.Stop.{Stop}
 use Rattle.awk_values.specs.declared.fault.Stop.TheVariants.{Fault as IsFault, NoMemory}
 use Rattle.awk_values.specs.declared.fault.Fault.{Fault}
-use Rattle.awk_state.specs.ArrayRows.{element}
-use Rattle.awk_state.specs.InputRows.{text_or_none}
-use Rattle.awk_state.specs.SharedState.{Inner, Pairs, settles}
-use Rattle.awk_state.specs.declared.answers.InputAnswer.{InputAnswer}
-use Rattle.awk_state.specs.declared.answers.InputAnswer.TheVariants as input
-use Rattle.machine_model.specs.declared.host.HostAnswer.TheVariants as told
+use Rattle.sem_primitives.specs.ArrayMeaning.{element}
+use Rattle.sem_primitives.specs.InputMeaning.{text_or_none}
+use Rattle.sem_primitives.specs.SharedState.{Inner, Pairs, settles}
+use Rattle.sem_primitives.specs.declared.answers.InputAnswer.{InputAnswer}
+use Rattle.sem_primitives.specs.declared.answers.InputAnswer.TheVariants as input
+use Rattle.wasm_model.specs.declared.host.HostAnswer.TheVariants as told
 use Rattle.wasm_store.specs.declared.trap.TrapKind.{TrapKind}
 use Rattle.wasm_store.specs.declared.trap.TrapKind.TheVariants.{BadArgument}
 use Rattle.wasm_store.specs.declared.word.Word.{Word}
@@ -31,7 +31,7 @@ use Rattle.host_names.specs.Forms.{announced, left_of}
 use Rattle.host_values.specs.declared.reply.Refusal.TheVariants as why
 use Rattle.host_elements.specs.Forms.{Arrays, HostForm, Past, Shows, inner_of, state_of}
 use Rattle.host_elements.proofs.Steps.{IsPast, state_with}
-use Rattle.form_meaning.specs.WorldCalls.{IsCalled}
+use Rattle.host_meaning.specs.WorldCalls.{IsCalled}
 use Rattle.host_inputs.specs.Calls.{answered_by, shown_after}
 use Rattle.host_inputs.specs.Givens.{OffersTexts, RowGives, main_primitive, main_row}
 use Rattle.host_inputs.specs.Keeps.{AnswerLine, AnswerPends, IsMovedOn, KeepsSubstituted, keep_of}

@@ -2,13 +2,13 @@
 use Rattle.std.proofs.Common.{◌≡◌, ◌≢◌, ℕ, true, cond, List, [], ◌++◌, ◌^◌, ◌-◌, Some, None, Result, Ok, Err, refl, sym, ap, subst, ◌∙◌}
 use Rattle.std.proofs.lemmas.List.{append-nil}
 use Rattle.awk_values.specs.declared.fault.Fault.{Fault}
-use Rattle.awk_state.specs.SharedState.{Inner}
-use Rattle.awk_state.specs.Sorts.{InAnswer}
-use Rattle.awk_state.specs.declared.answers.InputAnswer.{InputAnswer}
-use Rattle.awk_state.specs.declared.sorts.Answer.TheVariants as answer
-use Rattle.machine_model.specs.Hosts.{type_if}
-use Rattle.machine_model.specs.declared.host.HostAnswer.{HostAnswer}
-use Rattle.machine_model.specs.declared.host.HostAnswer.TheVariants as told
+use Rattle.sem_primitives.specs.SharedState.{Inner}
+use Rattle.sem_primitives.specs.Sorts.{InAnswer}
+use Rattle.sem_primitives.specs.declared.answers.InputAnswer.{InputAnswer}
+use Rattle.sem_primitives.specs.declared.sorts.Answer.TheVariants as answer
+use Rattle.wasm_model.specs.Hosts.{type_if}
+use Rattle.wasm_model.specs.declared.host.HostAnswer.{HostAnswer}
+use Rattle.wasm_model.specs.declared.host.HostAnswer.TheVariants as told
 use Rattle.wasm_store.specs.declared.trap.TrapKind.{TrapKind}
 use Rattle.wasm_store.specs.declared.word.Word.{Word}
 use Rattle.wasm_store.specs.declared.word.Word.TheVariants.{I32}
@@ -21,7 +21,7 @@ use Rattle.host_step.specs.Worlds.{Anyhow, AnyhowIf, Called, IsRead, ReadBy, Wan
 use Rattle.host_step.specs.declared.import.Import.{Import}
 use Rattle.host_elements.specs.Forms.{HostForm, IsHeld, Past, state_of}
 use Rattle.host_elements.proofs.Steps.{IsPast, acts_of, done_is_some, faults_of, goes, keeps_fault, state_with, traps, unrefused}
-use Rattle.form_meaning.specs.WorldCalls.{LeadsIn}
+use Rattle.host_meaning.specs.WorldCalls.{LeadsIn}
 
 -- the form with this output so far
 abbrev pub form_output : List Action → HostForm → HostForm

@@ -1,7 +1,7 @@
 -- A trap of an import that reads nothing, over a world.
 use Rattle.std.proofs.Common.{◌≡◌, ℕ, Bool, false, List, [], None, Err, refl, sym, subst}
 use Rattle.std.proofs.lemmas.List.{append-nil}
-use Rattle.machine_model.specs.declared.host.HostAnswer.TheVariants as told
+use Rattle.wasm_model.specs.declared.host.HostAnswer.TheVariants as told
 use Rattle.wasm_store.specs.declared.trap.TrapKind.{TrapKind}
 use Rattle.wasm_store.specs.declared.word.Word.{Word}
 use Rattle.world_core.specs.WorldState.{Action}
@@ -11,7 +11,7 @@ use Rattle.host_step.specs.declared.import.Import.{Import}
 use Rattle.host_values.specs.declared.reply.Refusal.TheVariants as why
 use Rattle.host_elements.specs.Forms.{HostForm, Past, state_of}
 use Rattle.host_elements.proofs.Steps.{traps, unrefused}
-use Rattle.form_meaning.specs.WorldCalls.{IsCalled}
+use Rattle.host_meaning.specs.WorldCalls.{IsCalled}
 use Rattle.host_inputs.proofs.ReadSteps.{form_output, leads_in}
 
 pub silent_trap : (tells : Type 0) (i : Import) (f : HostForm) (words : List Word) (memory : List ℕ) (k : TrapKind) → reads i ≡ false → f.fault ≡ None

@@ -1,10 +1,10 @@
 -- Giving up what the main input reads is a call.
 use Rattle.std.proofs.Common.{◌≡◌, ℕ, Bool, false, List, [], ◌∷◌, ◌++◌, map, Option, Some, None, Result, Ok, Err, refl, sym, ap, subst, ◌∙◌}
 use Rattle.std.proofs.lemmas.List.{append-nil}
-use Rattle.awk_state.specs.InputRows.{gives_up, next_file_row}
-use Rattle.awk_state.specs.SharedState.{Inner, MainInput, changes}
-use Rattle.awk_state.specs.declared.table.Primitive.TheVariants as row
-use Rattle.machine_model.specs.declared.host.HostAnswer.TheVariants as told
+use Rattle.sem_primitives.specs.InputMeaning.{gives_up, next_file_row}
+use Rattle.sem_primitives.specs.SharedState.{Inner, MainInput, changes}
+use Rattle.sem_primitives.specs.declared.table.Primitive.TheVariants as row
+use Rattle.wasm_model.specs.declared.host.HostAnswer.TheVariants as told
 use Rattle.wasm_store.specs.declared.trap.TrapKind.{TrapKind}
 use Rattle.wasm_store.specs.declared.word.Word.{Word}
 use Rattle.wasm_store.specs.declared.word.Word.TheVariants.{I32}
@@ -26,7 +26,7 @@ use Rattle.host_values.specs.declared.reply.Refusal.TheVariants as why
 use Rattle.host_elements.specs.Forms.{HostForm, Past, inner_of, state_of}
 use Rattle.host_elements.proofs.ArraySteps.{carry, no_word}
 use Rattle.host_elements.proofs.Steps.{acts_of, goes, state_with, unrefused}
-use Rattle.form_meaning.specs.WorldCalls.{IsCalled}
+use Rattle.host_meaning.specs.WorldCalls.{IsCalled}
 use Rattle.host_inputs.specs.Keeps.{with_main_input}
 use Rattle.host_inputs.specs.States.{over_world, with_tables}
 use Rattle.host_inputs.specs.declared.input.Input.{Input}

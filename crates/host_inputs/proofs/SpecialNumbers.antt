@@ -7,11 +7,11 @@ use Rattle.awk_values.specs.Values.{number_of_value}
 use Rattle.awk_values.specs.declared.fault.Fault.{Fault}
 use Rattle.awk_values.specs.declared.value.Value.{Value}
 use Rattle.awk_values.specs.declared.value.Value.TheVariants.{Num, Uninit}
-use Rattle.awk_state.specs.Constants.{special_number}
-use Rattle.awk_state.specs.InputRows.{counted_by}
-use Rattle.awk_state.specs.SharedState.{Inner, ◌>>=◌, special_of, with_special}
-use Rattle.awk_state.specs.declared.constants.Special.{Special}
-use Rattle.awk_state.specs.declared.constants.Special.TheVariants.{Argc, Convfmt, Filename, Fnr, Fs, Nf, Nr, Ofmt, Ofs, Ors, Rlength, Rs, Rstart, Subsep}
+use Rattle.sem_primitives.specs.Constants.{special_number}
+use Rattle.sem_primitives.specs.InputMeaning.{counted_by}
+use Rattle.sem_primitives.specs.SharedState.{Inner, ◌>>=◌, special_of, with_special}
+use Rattle.sem_primitives.specs.declared.constants.Special.{Special}
+use Rattle.sem_primitives.specs.declared.constants.Special.TheVariants.{Argc, Convfmt, Filename, Fnr, Fs, Nf, Nr, Ofmt, Ofs, Ors, Rlength, Rs, Rstart, Subsep}
 use Rattle.host_texts.specs.States.{specials_of}
 use Rattle.host_inputs.specs.Counts.{next_count}
 

@@ -7,10 +7,10 @@ use Rattle.awk_values.specs.declared.fault.Fault.TheVariants.{Range, Fraction, D
 use Rattle.awk_values.specs.declared.fault.Stop.{Stop}
 use Rattle.awk_values.specs.declared.fault.Stop.TheVariants.{Fault as IsFault, NoMemory}
 use Rattle.world_core.specs.WorldState.{Outside, State}
-use Rattle.awk_state.specs.Assignments.{assigned}
-use Rattle.awk_state.specs.InputRows.{Main, go_on, made, main_input, next_operand, reach, reach_by}
-use Rattle.awk_state.specs.InputRows.{Pending as IsPending}
-use Rattle.awk_state.specs.SharedState.{Inner, ◌>>=◌}
+use Rattle.sem_primitives.specs.Assignments.{assigned}
+use Rattle.sem_primitives.specs.InputMeaning.{Main, go_on, made, main_input, next_operand, reach, reach_by}
+use Rattle.sem_primitives.specs.InputMeaning.{Pending as IsPending}
+use Rattle.sem_primitives.specs.SharedState.{Inner, ◌>>=◌}
 use Rattle.host_format.specs.Outcomes.{IsStopOf}
 use Rattle.host_streams.specs.Mains.{AnswerIs, FaultIs, MainEnds, has_operand, main_of, operands_of, reading_of, rest_of}
 use Rattle.host_streams.specs.Passing.{AreThere, Passes, RestsAfter, Takes}

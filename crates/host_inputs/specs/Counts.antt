@@ -5,7 +5,7 @@ use Rattle.awk_values.specs.Values.{number_of_value}
 use Rattle.awk_values.specs.declared.fault.Fault.{Fault}
 use Rattle.awk_values.specs.declared.value.Value.{Value}
 use Rattle.awk_values.specs.declared.value.Value.TheVariants.{Num}
-use Rattle.awk_state.specs.SharedState.{◌>>=◌}
+use Rattle.sem_primitives.specs.SharedState.{◌>>=◌}
 
 -- the count after the one that a value holds
 abbrev pub count_after : Value → Result ℤ Fault

@@ -5,13 +5,13 @@ use Rattle.awk_values.specs.declared.fault.Fault.TheVariants.{OpenInput, ReadFai
 use Rattle.awk_values.specs.declared.fault.Stop.{Stop}
 use Rattle.awk_values.specs.declared.fault.Stop.TheVariants.{Fault as IsFault, NoMemory}
 use Rattle.world_core.specs.WorldState.{Outside}
-use Rattle.awk_state.specs.InputRows.{Main, as_line, as_record, getline_line_file_row, getline_file_row, getline_line_row, getline_of, getline_row, main_input, next_main_row, next_of, operand_text}
-use Rattle.awk_state.specs.InputRows as definition
-use Rattle.awk_state.specs.SharedState.{Inner}
-use Rattle.awk_state.specs.declared.answers.InputAnswer.{InputAnswer}
-use Rattle.awk_state.specs.declared.answers.InputAnswer.TheVariants as input
-use Rattle.awk_state.specs.declared.table.Primitive.{Primitive}
-use Rattle.awk_state.specs.declared.table.Primitive.TheVariants as row
+use Rattle.sem_primitives.specs.InputMeaning.{Main, as_line, as_record, getline_line_file_row, getline_file_row, getline_line_row, getline_of, getline_row, main_input, next_main_row, next_of, operand_text}
+use Rattle.sem_primitives.specs.InputMeaning as definition
+use Rattle.sem_primitives.specs.SharedState.{Inner}
+use Rattle.sem_primitives.specs.declared.answers.InputAnswer.{InputAnswer}
+use Rattle.sem_primitives.specs.declared.answers.InputAnswer.TheVariants as input
+use Rattle.sem_primitives.specs.declared.table.Primitive.{Primitive}
+use Rattle.sem_primitives.specs.declared.table.Primitive.TheVariants as row
 use Rattle.awk_values.specs.declared.value.Value.{Value}
 use Rattle.host_streams.specs.declared.reader.FileNext.{FileNext}
 use Rattle.host_streams.specs.declared.reader.FileNext.TheVariants as file

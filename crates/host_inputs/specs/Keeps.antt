@@ -2,8 +2,8 @@
 use Rattle.std.specs.Prelude.{◌≡◌, ℕ, Bool, Option, Some, None, IsSome, Result, Ok, Err}
 use Rattle.awk_values.specs.declared.fault.Stop.{Stop}
 use Rattle.awk_values.specs.declared.value.Value.{Value}
-use Rattle.awk_state.specs.declared.answers.InputAnswer.{InputAnswer}
-use Rattle.awk_state.specs.declared.answers.InputAnswer.TheVariants.{Read, Pending}
+use Rattle.sem_primitives.specs.declared.answers.InputAnswer.{InputAnswer}
+use Rattle.sem_primitives.specs.declared.answers.InputAnswer.TheVariants.{Read, Pending}
 use Rattle.host_streams.specs.declared.main_input.MainInput.{MainInput}
 use Rattle.host_streams.specs.declared.streams.Streams.{Streams}
 use Rattle.host_texts.specs.declared.texts.Texts.{Texts}

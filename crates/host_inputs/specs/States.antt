@@ -2,9 +2,9 @@
 use Rattle.std.specs.Prelude.{ℕ, pos, List, [], ◌∷◌, false, map, None, decimal}
 use Rattle.world_core.specs.WorldState.{State}
 use Rattle.world_core.specs.Calls.{Kind}
-use Rattle.awk_state.specs.ArrayRows.{element}
-use Rattle.awk_state.specs.InputRows.{text_or_none}
-use Rattle.awk_state.specs.SharedState.{Inner}
+use Rattle.sem_primitives.specs.ArrayMeaning.{element}
+use Rattle.sem_primitives.specs.InputMeaning.{text_or_none}
+use Rattle.sem_primitives.specs.SharedState.{Inner}
 use Rattle.host_arrays.specs.Pairs.{pairs_at}
 use Rattle.host_streams.specs.Mains.{HoldsMain, IsApartFrom, main_at_start, main_of}
 use Rattle.host_streams.specs.OpenFiles.{HoldsOpen, names_of, reader_handle, readers_in, writer_handle}

@@ -3,9 +3,9 @@ ghost use Rattle.std.specs.Prelude.{◌≡◌, ◌≢◌, ℕ, List, Ok, Result}
 ghost use Rattle.awk_values.specs.Values.{text_of_value};
 ghost use Rattle.awk_values.specs.declared.fault.Fault.{Fault as AnyFault};
 ghost use Rattle.awk_values.specs.declared.value.Value.{Value as AnyValue};
-ghost use Rattle.awk_state.specs.InputRows.{getline_file_by};
-ghost use Rattle.awk_state.specs.SharedState.{Inner};
-ghost use Rattle.awk_state.specs.declared.answers.InputAnswer.{InputAnswer as AnyAnswer};
+ghost use Rattle.sem_primitives.specs.InputMeaning.{getline_file_by};
+ghost use Rattle.sem_primitives.specs.SharedState.{Inner};
+ghost use Rattle.sem_primitives.specs.declared.answers.InputAnswer.{InputAnswer as AnyAnswer};
 ghost use Rattle.host_streams.specs.OpenFiles.{WritersGo};
 ghost use Rattle.host_inputs.specs.Givens.{FileGives, RowGives, file_row};
 ghost use Rattle.host_inputs.specs.Keeps.{AnswerLine, IsReadOn, KeepsSubstituted, with_files};
@@ -13,7 +13,7 @@ ghost use Rattle.host_inputs.specs.States.{HoldsInput, with_tables};
 
 use crate::input::{Input, Keep};
 use crate::main_record::keep;
-use awk_state::{InputAnswer, Special};
+use sem_primitives::{InputAnswer, Special};
 use awk_values::{Stop, to_text};
 use host_streams::FileNext;
 use host_texts::Texts;

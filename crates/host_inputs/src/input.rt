@@ -2,7 +2,7 @@
 ghost use Rattle.std.specs.Prelude.{◌≡◌, ℕ};
 ghost use Rattle.world_core.specs.WorldState.{State};
 ghost use Rattle.world_core.specs.Calls.{Kind};
-ghost use Rattle.awk_state.specs.SharedState.{Inner};
+ghost use Rattle.sem_primitives.specs.SharedState.{Inner};
 ghost use Rattle.host_streams.specs.OpenFiles.{WritersGo};
 ghost use Rattle.host_inputs.specs.States.{HoldsInput, input_at_start, with_input};
 

@@ -1,8 +1,8 @@
 //! The next record of the main input, as an import asks for it.
 ghost use Rattle.std.specs.Prelude.{◌≡◌, IfErr, IfOk, Ok, OnOk};
 ghost use Rattle.world_core.specs.WorldState.{State};
-ghost use Rattle.awk_state.specs.InputRows.{main_input};
-ghost use Rattle.awk_state.specs.SharedState.{Inner};
+ghost use Rattle.sem_primitives.specs.InputMeaning.{main_input};
+ghost use Rattle.sem_primitives.specs.SharedState.{Inner};
 ghost use Rattle.host_format.specs.Outcomes.{IsStopOf};
 ghost use Rattle.host_streams.specs.OpenFiles.{WritersGo};
 ghost use Rattle.host_inputs.specs.Givens.{AnswerTells, GivesMain, OffersTexts, RowGives, answer_of, failed_by, is_over, kept_by, main_of_given, main_row};
@@ -12,7 +12,7 @@ ghost use Rattle.host_inputs.specs.States.{HoldsInput, with_tables};
 use crate::input::{Given, Input, Keep, MainRead};
 use crate::record::{count_record, set_record};
 use crate::turn::turn;
-use awk_state::InputAnswer;
+use sem_primitives::InputAnswer;
 use awk_values::{Bytes, Fault, Stop, Value};
 use host_streams::Operands;
 use host_texts::Texts;

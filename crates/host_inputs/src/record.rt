@@ -1,16 +1,16 @@
 //! The record, and the special variables that count and hold.
 ghost use Rattle.std.specs.Prelude.{◌≡◌, ◌≢◌, ◌==◌, cond, Err, IfErr, IfOk, Ok, OnErr, OnOk, pos};
 ghost use Rattle.awk_values.specs.Operators.{sum};
-ghost use Rattle.awk_state.specs.FieldRows.{with_record};
-ghost use Rattle.awk_state.specs.InputRows.{counted_by, counted_record};
-ghost use Rattle.awk_state.specs.SharedState.{Inner, with_special};
+ghost use Rattle.sem_primitives.specs.FieldMeaning.{with_record};
+ghost use Rattle.sem_primitives.specs.InputMeaning.{counted_by, counted_record};
+ghost use Rattle.sem_primitives.specs.SharedState.{Inner, with_special};
 ghost use Rattle.host_inputs.specs.Counts.{count_after, next_count};
-ghost use Rattle.awk_state.specs.Constants.{special_number};
+ghost use Rattle.sem_primitives.specs.Constants.{special_number};
 ghost use Rattle.host_format.specs.Outcomes.{IsStopOf};
 ghost use Rattle.host_texts.specs.States.{specials_of, with_texts};
 ghost use Rattle.host_inputs.specs.Keeps.{KeepsSubstituted};
 
-use awk_state::Special;
+use sem_primitives::Special;
 use awk_values::{Bytes, Fault, Stop, Value, to_number, to_text};
 use host_texts::Texts;
 use std::alloc::Global;

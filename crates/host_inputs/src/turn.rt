@@ -1,9 +1,9 @@
 //! What the main input gives once, with what it is told of an operand.
 ghost use Rattle.std.specs.Prelude.{◌≡◌, Err, IfErr, IfOk, Ok, pos};
 ghost use Rattle.world_core.specs.WorldState.{State};
-ghost use Rattle.awk_state.specs.InputRows.{main_input};
-ghost use Rattle.awk_state.specs.SharedState.{Inner, with_special};
-ghost use Rattle.awk_state.specs.declared.constants.Special.{Special as AnySpecial};
+ghost use Rattle.sem_primitives.specs.InputMeaning.{main_input};
+ghost use Rattle.sem_primitives.specs.SharedState.{Inner, with_special};
+ghost use Rattle.sem_primitives.specs.declared.constants.Special.{Special as AnySpecial};
 ghost use Rattle.awk_values.specs.declared.value.Value.{Value as AnyValue};
 ghost use Rattle.host_streams.specs.Mains.{AnswerIs};
 ghost use Rattle.host_streams.specs.Passing.{RestsAfter};
@@ -15,7 +15,7 @@ ghost use Rattle.host_inputs.specs.States.{HoldsInput, with_tables};
 
 use crate::input::{Given, Input};
 use crate::record::give;
-use awk_state::Special;
+use sem_primitives::Special;
 use awk_values::{Bytes, Fault, Stop, Value, to_text};
 use host_names::assign;
 use host_streams::{MainNext, Operands};

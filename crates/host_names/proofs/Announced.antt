@@ -4,9 +4,9 @@ use Rattle.std.specs.List.{position_from}
 use Rattle.std.specs.Map.{keys_of, lookup}
 use Rattle.std.specs.Option.{option_map}
 use Rattle.std.proofs.lemmas.Iterator.Adapters.{position_from-zero}
-use Rattle.awk_state.specs.Assignments.{declared}
-use Rattle.awk_state.specs.Texts.{same_text}
-use Rattle.awk_state.specs.declared.constants.NameKind.{NameKind}
+use Rattle.sem_primitives.specs.Assignments.{declared}
+use Rattle.sem_primitives.specs.Texts.{same_text}
+use Rattle.sem_primitives.specs.declared.constants.NameKind.{NameKind}
 
 abbrev Found : Type 0
 Found = Option (ℕ × NameKind)

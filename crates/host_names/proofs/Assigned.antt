@@ -5,13 +5,13 @@ use Rattle.awk_values.specs.declared.fault.Fault.{Fault}
 use Rattle.awk_values.specs.declared.fault.Fault.TheVariants.{BadAssignment}
 use Rattle.awk_values.specs.declared.fault.Stop.{Stop}
 use Rattle.awk_values.specs.declared.fault.Stop.TheVariants as stops
-use Rattle.awk_state.specs.Assignments.{assigned, assigned_by, made_here as here, named, takes_none}
-use Rattle.awk_state.specs.Constants.{specials}
-use Rattle.awk_state.specs.InputRows.{start_by, start_from}
-use Rattle.awk_state.specs.SharedState.{Inner, ◌>>=◌}
-use Rattle.awk_state.specs.declared.constants.Special.{Special}
-use Rattle.awk_state.specs.declared.answers.AssignAnswer.{AssignAnswer}
-use Rattle.awk_state.specs.declared.answers.AssignAnswer.TheVariants.{NoneLeft, Pending}
+use Rattle.sem_primitives.specs.Assignments.{assigned, assigned_by, made_here as here, named, takes_none}
+use Rattle.sem_primitives.specs.Constants.{specials}
+use Rattle.sem_primitives.specs.InputMeaning.{start_by, start_from}
+use Rattle.sem_primitives.specs.SharedState.{Inner, ◌>>=◌}
+use Rattle.sem_primitives.specs.declared.constants.Special.{Special}
+use Rattle.sem_primitives.specs.declared.answers.AssignAnswer.{AssignAnswer}
+use Rattle.sem_primitives.specs.declared.answers.AssignAnswer.TheVariants.{NoneLeft, Pending}
 use Rattle.host_format.specs.Outcomes.{IsStopOf}
 use Rattle.host_texts.specs.States.{with_texts}
 use Rattle.host_texts.specs.declared.texts.Texts.{Texts}

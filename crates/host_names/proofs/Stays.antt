@@ -5,11 +5,11 @@ use Rattle.awk_values.specs.declared.fault.Fault.{Fault}
 use Rattle.awk_values.specs.declared.value.Value.{Value}
 use Rattle.awk_values.specs.declared.value.Value.TheVariants.{StrNum, Uninit}
 use Rattle.world_core.specs.declared.world.Ending.TheVariants.{End}
-use Rattle.awk_state.specs.FieldRows.{field_number, joined, resized, set_special, special_text, with_count}
-use Rattle.awk_state.specs.SharedState.{Inner, NoFile, ◌>>=◌}
-use Rattle.awk_state.specs.Texts.{limited}
-use Rattle.awk_state.specs.declared.constants.Special.{Special}
-use Rattle.awk_state.specs.declared.constants.Special.TheVariants.{Argc, Convfmt, Filename, Fnr, Fs, Nf, Nr, Ofmt, Ofs, Ors, Rlength, Rs, Rstart, Subsep}
+use Rattle.sem_primitives.specs.FieldMeaning.{field_number, joined, resized, set_special, special_text, with_count}
+use Rattle.sem_primitives.specs.SharedState.{Inner, NoFile, ◌>>=◌}
+use Rattle.sem_primitives.specs.Texts.{limited}
+use Rattle.sem_primitives.specs.declared.constants.Special.{Special}
+use Rattle.sem_primitives.specs.declared.constants.Special.TheVariants.{Argc, Convfmt, Filename, Fnr, Fs, Nf, Nr, Ofmt, Ofs, Ors, Rlength, Rs, Rstart, Subsep}
 use Rattle.host_texts.specs.States.{with_texts}
 use Rattle.host_texts.specs.declared.texts.Texts.{Texts}
 

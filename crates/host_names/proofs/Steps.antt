@@ -3,15 +3,15 @@ use Rattle.std.proofs.Common.{◌≡◌, ◌≢◌, ◌<◌, ◌^◌, ℕ, pos, 
 use Rattle.std.specs.FinMap as map
 use Rattle.awk_values.specs.declared.fault.Fault.{Fault}
 use Rattle.awk_values.specs.declared.value.Value.{Value}
-use Rattle.awk_state.specs.Assignments.{declared}
-use Rattle.awk_state.specs.InputRows.{name_of as number_of, start_assign_row, value_of}
-use Rattle.awk_state.specs.SharedState.{Inner, settles}
-use Rattle.awk_state.specs.TextRows.{given}
-use Rattle.awk_state.specs.declared.answers.AssignAnswer.{AssignAnswer}
-use Rattle.awk_state.specs.declared.constants.NameKind.{NameKind}
-use Rattle.awk_state.specs.declared.table.Primitive.TheVariants as row
-use Rattle.machine_model.specs.declared.host.HostAnswer.{HostAnswer}
-use Rattle.machine_model.specs.declared.host.HostAnswer.TheVariants as told
+use Rattle.sem_primitives.specs.Assignments.{declared}
+use Rattle.sem_primitives.specs.InputMeaning.{name_of as number_of, start_assign_row, value_of}
+use Rattle.sem_primitives.specs.SharedState.{Inner, settles}
+use Rattle.sem_primitives.specs.TextMeaning.{given}
+use Rattle.sem_primitives.specs.declared.answers.AssignAnswer.{AssignAnswer}
+use Rattle.sem_primitives.specs.declared.constants.NameKind.{NameKind}
+use Rattle.sem_primitives.specs.declared.table.Primitive.TheVariants as row
+use Rattle.wasm_model.specs.declared.host.HostAnswer.{HostAnswer}
+use Rattle.wasm_model.specs.declared.host.HostAnswer.TheVariants as told
 use Rattle.wasm_store.specs.declared.trap.TrapKind.{TrapKind}
 use Rattle.wasm_store.specs.declared.trap.TrapKind.TheVariants.{BadArgument}
 use Rattle.wasm_store.specs.declared.word.Word.{Word}

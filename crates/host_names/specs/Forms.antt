@@ -1,7 +1,7 @@
 -- The shared state, and forms of the host, with the names and the assignments that are kept.
 use Rattle.std.specs.Prelude.{◌≡◌, ℕ, Bool, true, false, List, [], ◌∷◌, drop, map, Option, Some, None, IsSome, Result, Err}
-use Rattle.awk_state.specs.SharedState.{Inner}
-use Rattle.awk_state.specs.declared.constants.NameKind.{NameKind}
+use Rattle.sem_primitives.specs.SharedState.{Inner}
+use Rattle.sem_primitives.specs.declared.constants.NameKind.{NameKind}
 use Rattle.awk_values.specs.declared.value.Value.{Value}
 use Rattle.wasm_store.specs.declared.word.Word.{Word}
 use Rattle.host_values.specs.Evaluations.{Values}

@@ -1,7 +1,7 @@
 //! Calls on names and on assignments of the command line.
 ghost use Rattle.std.specs.Prelude.{◌≡◌, List, ℕ, None};
 ghost use Rattle.std.specs.FinMap as map;
-ghost use Rattle.awk_state.specs.declared.table.Primitive.TheVariants as row;
+ghost use Rattle.sem_primitives.specs.declared.table.Primitive.TheVariants as row;
 ghost use Rattle.host_step.specs.Answers.{assign_code};
 ghost use Rattle.host_step.specs.declared.import.Import.{Import};
 ghost use Rattle.host_values.specs.Calls.{spare};
@@ -12,7 +12,7 @@ ghost use Rattle.host_names.specs.Forms.{left_after, of_all, of_names};
 use crate::making::make_left;
 use crate::names::Names;
 use crate::words::declare_front;
-use awk_state::{AssignAnswer, NameKind};
+use sem_primitives::{AssignAnswer, NameKind};
 use awk_values::{Bytes, Stop};
 use host_handles::Handles;
 use host_texts::Texts;

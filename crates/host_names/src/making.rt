@@ -1,14 +1,14 @@
 //! An assignment of the command line is made.
 ghost use Rattle.std.specs.Prelude.{◌≡◌, IfErr, IfOk, Ok};
-ghost use Rattle.awk_state.specs.Assignments.{assigned, assigned_by};
-ghost use Rattle.awk_state.specs.InputRows.{start_assign_row};
-ghost use Rattle.awk_state.specs.SharedState.{Inner};
+ghost use Rattle.sem_primitives.specs.Assignments.{assigned, assigned_by};
+ghost use Rattle.sem_primitives.specs.InputMeaning.{start_assign_row};
+ghost use Rattle.sem_primitives.specs.SharedState.{Inner};
 ghost use Rattle.host_format.specs.Outcomes.{IsStopOf};
 ghost use Rattle.host_names.specs.Forms.{PendsBy, with_all, with_pending};
 
 use crate::name::{special_named, takes_none};
 use crate::names::Names;
-use awk_state::{AssignAnswer, Special};
+use sem_primitives::{AssignAnswer, Special};
 use awk_text::unescape;
 use awk_values::{Bytes, Fault, Stop, Value};
 use host_texts::{Texts, put_special};

@@ -1,10 +1,10 @@
 //! Which names take an assignment (POSIX.1-2017 awk, "OPTIONS", -v; "OPERANDS", assignment).
 ghost use Rattle.std.specs.Prelude.{◌≡◌, codes, drop, length, take_while};
-ghost use Rattle.awk_state.specs.Assignments.{begins_name, continues_name, is_name, named, takes_none};
-ghost use Rattle.awk_state.specs.Constants.{specials};
-ghost use Rattle.awk_state.specs.Texts.{is_empty};
+ghost use Rattle.sem_primitives.specs.Assignments.{begins_name, continues_name, is_name, named, takes_none};
+ghost use Rattle.sem_primitives.specs.Constants.{specials};
+ghost use Rattle.sem_primitives.specs.Texts.{is_empty};
 
-use awk_state::Special;
+use sem_primitives::Special;
 use awk_tokens::reserved_word;
 
 /// Whether a name may begin with this byte.

@@ -1,11 +1,11 @@
 //! The names that a script announced, and the assignments of the command line that are to be made.
 ghost use Rattle.std.specs.Prelude.{◌≡◌, [], ◌∷◌, ◌++◌, IfErr, IfOk, None, Ok, OnErr, OnOk, false, is_some, map};
-ghost use Rattle.awk_state.specs.Assignments.{assigned_global, declared};
-ghost use Rattle.awk_state.specs.SharedState.{Inner};
+ghost use Rattle.sem_primitives.specs.Assignments.{assigned_global, declared};
+ghost use Rattle.sem_primitives.specs.SharedState.{Inner};
 ghost use Rattle.host_format.specs.Outcomes.{IsStopOf};
 ghost use Rattle.host_names.specs.Forms.{PendsBy, Takes, announced, left_of, pair_of, with_names, with_pending};
 
-use awk_state::NameKind;
+use sem_primitives::NameKind;
 use awk_values::{Bytes, Fault, Stop, Value};
 use indexmap::IndexMap;
 use std::alloc::{AllocError, Global};

@@ -1,12 +1,12 @@
 //! What the words of an announcement say.
 ghost use Rattle.std.specs.Prelude.{◌≡◌, option_copied};
-ghost use Rattle.awk_state.specs.Constants.{kind_at};
-ghost use Rattle.awk_state.specs.declared.sorts.Constant.{Constant};
+ghost use Rattle.sem_primitives.specs.Constants.{kind_at};
+ghost use Rattle.sem_primitives.specs.declared.sorts.Constant.{Constant};
 ghost use Rattle.host_names.specs.Words.{declare_front, lent_declare};
 ghost use Rattle.host_step.specs.Arguments.{constant_front, place_front, text_at};
 ghost use Rattle.host_values.specs.Fronts.{lent, owned};
 
-use awk_state::NameKind;
+use sem_primitives::NameKind;
 use host_values::ends;
 use wasm_store::{TrapKind, Word};
 

@@ -5,14 +5,14 @@ use Rattle.std.specs.FinMap as table
 use Rattle.awk_values.specs.Values.{text_of_value}
 use Rattle.awk_values.specs.declared.value.Value.{Value}
 use Rattle.awk_values.specs.declared.value.Value.TheVariants.{Text}
-use Rattle.awk_state.specs.InputRows.{close_row, is_open, is_reading, reader_named, without_reader, without_writer}
-use Rattle.awk_state.specs.OutputRows.{is_writing}
-use Rattle.awk_state.specs.SharedState.{Inner, Shared}
-use Rattle.awk_state.specs.Texts.{same_text}
-use Rattle.awk_state.specs.declared.answers.StreamAnswer.{StreamAnswer}
-use Rattle.awk_state.specs.declared.answers.StreamAnswer.TheVariants as stream
-use Rattle.awk_state.specs.declared.table.Primitive.TheVariants as row
-use Rattle.machine_model.specs.declared.host.HostAnswer.TheVariants as told
+use Rattle.sem_primitives.specs.InputMeaning.{close_row, is_open, is_reading, reader_named, without_reader, without_writer}
+use Rattle.sem_primitives.specs.OutputMeaning.{is_writing}
+use Rattle.sem_primitives.specs.SharedState.{Inner, Shared}
+use Rattle.sem_primitives.specs.Texts.{same_text}
+use Rattle.sem_primitives.specs.declared.answers.StreamAnswer.{StreamAnswer}
+use Rattle.sem_primitives.specs.declared.answers.StreamAnswer.TheVariants as stream
+use Rattle.sem_primitives.specs.declared.table.Primitive.TheVariants as row
+use Rattle.wasm_model.specs.declared.host.HostAnswer.TheVariants as told
 use Rattle.wasm_store.specs.declared.trap.TrapKind.{TrapKind}
 use Rattle.wasm_store.specs.declared.word.Word.{Word}
 use Rattle.wasm_store.specs.declared.word.Word.TheVariants.{I32}
@@ -36,7 +36,7 @@ use Rattle.host_streams.specs.OpenFiles.{names_of, reader_names, readers_in}
 use Rattle.host_streams.specs.Outputs.{IsOf}
 use Rattle.host_streams.specs.declared.streams.NamedReader.{NamedReader}
 use Rattle.host_streams.specs.declared.streams.Streams.{Streams}
-use Rattle.form_meaning.specs.WorldCalls.{IsCalled}
+use Rattle.host_meaning.specs.WorldCalls.{IsCalled}
 use Rattle.host_outputs.specs.Forms.{closed_code, closing}
 use Rattle.host_outputs.proofs.Names.{as_reader, name_alone, names_only}
 use Rattle.host_outputs.proofs.Worlds.{silent_called, trap_called}

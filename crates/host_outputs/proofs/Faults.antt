@@ -10,10 +10,10 @@ use Rattle.awk_values.specs.declared.fault.Stop.{Stop}
 use Rattle.awk_values.specs.declared.fault.Stop.TheVariants as stop
 use Rattle.awk_values.specs.declared.value.Value.{Value}
 use Rattle.awk_values.specs.declared.value.Value.TheVariants.{Num, StrNum, Text, Uninit}
-use Rattle.awk_state.specs.Formats.{Conversion, Converts, Fixed, Char, Specifier, Signed, String, LowerHex, Malformed, Octal, Ordinary, Piece, Unsigned, UpperHex, byte_of_number, char_of, converted, formatted_from, pieces_of, sized, then_text}
-use Rattle.awk_state.specs.OutputRows.{formatted_values}
-use Rattle.awk_state.specs.SharedState.{◌>>=◌}
-use Rattle.awk_state.specs.ValueRows.{truncated}
+use Rattle.sem_primitives.specs.Formats.{Conversion, Converts, Fixed, Char, Specifier, Signed, String, LowerHex, Malformed, Octal, Ordinary, Piece, Unsigned, UpperHex, byte_of_number, char_of, converted, formatted_from, pieces_of, sized, then_text}
+use Rattle.sem_primitives.specs.OutputMeaning.{formatted_values}
+use Rattle.sem_primitives.specs.SharedState.{◌>>=◌}
+use Rattle.sem_primitives.specs.ValueMeaning.{truncated}
 use Rattle.host_format.specs.Outcomes.{IsStopOf}
 use Rattle.host_streams.specs.Puts.{PutCounts}
 use Rattle.host_outputs.specs.Calls.{FailsBy, answer_of}

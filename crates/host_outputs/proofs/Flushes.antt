@@ -3,9 +3,9 @@ use Rattle.std.proofs.Common.{◌≡◌, ℕ, ℤ, Bool, List, Option, Some, Non
 use Rattle.std.specs.FinMap as table
 use Rattle.awk_values.specs.Values.{text_of_value}
 use Rattle.awk_values.specs.declared.value.Value.{Value}
-use Rattle.awk_state.specs.OutputRows.{all_out, flush_row}
-use Rattle.awk_state.specs.declared.table.Primitive.TheVariants as row
-use Rattle.machine_model.specs.declared.host.HostAnswer.TheVariants as told
+use Rattle.sem_primitives.specs.OutputMeaning.{all_out, flush_row}
+use Rattle.sem_primitives.specs.declared.table.Primitive.TheVariants as row
+use Rattle.wasm_model.specs.declared.host.HostAnswer.TheVariants as told
 use Rattle.wasm_store.specs.declared.trap.TrapKind.{TrapKind}
 use Rattle.wasm_store.specs.declared.word.Word.{Word}
 use Rattle.wasm_store.specs.declared.word.Word.TheVariants.{I32}

@@ -4,7 +4,7 @@ use Rattle.std.proofs.Math.Seq.{take-suc}
 use Rattle.std.proofs.lemmas.List.{append-nil}
 use Rattle.awk_values.specs.Values.{text_of_value}
 use Rattle.awk_values.specs.declared.value.Value.{Value}
-use Rattle.awk_state.specs.FieldRows.{joined}
+use Rattle.sem_primitives.specs.FieldMeaning.{joined}
 use Rattle.host_outputs.specs.Lines.{followed}
 
 followed-push : (between : List ℕ) (xs : List Value) (y : Value) → followed between (xs ++ y ∷ []) ≡ followed between xs ++ (between ++ text_of_value y)

@@ -5,10 +5,10 @@ use Rattle.std.proofs.lemmas.Bool.Decides.{nat_tests}
 use Rattle.std.proofs.lemmas.List.{length-drop, take_rest}
 use Rattle.awk_values.specs.Values.{text_of_value}
 use Rattle.awk_values.specs.declared.value.Value.{Value}
-use Rattle.awk_state.specs.InTurn.{with_name}
-use Rattle.awk_state.specs.OutputRows.{but_last, last_text, operands_of}
-use Rattle.awk_state.specs.declared.constants.Destination.{Destination}
-use Rattle.awk_state.specs.declared.constants.Destination.TheVariants.{Standard, Emptied, Appended}
+use Rattle.sem_primitives.specs.InTurn.{with_name}
+use Rattle.sem_primitives.specs.OutputMeaning.{but_last, last_text, operands_of}
+use Rattle.sem_primitives.specs.declared.constants.Destination.{Destination}
+use Rattle.sem_primitives.specs.declared.constants.Destination.TheVariants.{Standard, Emptied, Appended}
 use Rattle.host_step.specs.HostStep.{last_of}
 use Rattle.host_outputs.specs.Lists.{enough}
 

@@ -6,8 +6,8 @@ use Rattle.awk_values.specs.declared.fault.Fault.{Fault}
 use Rattle.awk_values.specs.declared.fault.Fault.TheVariants.{OpenOutput, TooManyStreams, WriteFailed}
 use Rattle.awk_values.specs.declared.fault.Stop.{Stop}
 use Rattle.awk_values.specs.declared.fault.Stop.TheVariants as stop
-use Rattle.awk_state.specs.OutputRows.{all_fits, has_room, is_writing, kept_open, opened_if, written, written_by}
-use Rattle.awk_state.specs.SharedState.{Inner, Shared}
+use Rattle.sem_primitives.specs.OutputMeaning.{all_fits, has_room, is_writing, kept_open, opened_if, written, written_by}
+use Rattle.sem_primitives.specs.SharedState.{Inner, Shared}
 use Rattle.world_core.specs.WorldState.{Named, Outside, Standard, Target, absent, free, opened, same_target}
 use Rattle.host_streams.specs.OpenFiles as files
 use Rattle.host_streams.specs.OpenFiles.{names_of}

@@ -3,10 +3,10 @@ use Rattle.std.proofs.Common.{◌≡◌, ℕ, List, [], Some, None, Result, Ok, 
 use Rattle.std.proofs.lemmas.List.{length-map}
 use Rattle.awk_values.specs.declared.fault.Stop.{Stop}
 use Rattle.awk_values.specs.declared.value.Value.{Value}
-use Rattle.awk_state.specs.OutputRows.{file_name, formatted_values, operands_of, print_row, printed, printf_row}
-use Rattle.awk_state.specs.SharedState.{Shared}
-use Rattle.awk_state.specs.declared.constants.Destination.{Destination}
-use Rattle.machine_model.specs.declared.host.HostAnswer.TheVariants as told
+use Rattle.sem_primitives.specs.OutputMeaning.{file_name, formatted_values, operands_of, print_row, printed, printf_row}
+use Rattle.sem_primitives.specs.SharedState.{Shared}
+use Rattle.sem_primitives.specs.declared.constants.Destination.{Destination}
+use Rattle.wasm_model.specs.declared.host.HostAnswer.TheVariants as told
 use Rattle.wasm_store.specs.declared.trap.TrapKind.{TrapKind}
 use Rattle.wasm_store.specs.declared.word.Word.{Word}
 use Rattle.world_core.specs.WorldState.{Action, State}
@@ -22,7 +22,7 @@ use Rattle.host_streams.specs.OpenFiles.{names_of, readers_in}
 use Rattle.host_streams.specs.Outputs.{IsOf, PutsIs}
 use Rattle.host_streams.specs.Puts.{BeginsBy}
 use Rattle.host_streams.specs.declared.streams.Streams.{Streams}
-use Rattle.form_meaning.specs.WorldCalls.{IsCalled}
+use Rattle.host_meaning.specs.WorldCalls.{IsCalled}
 use Rattle.host_outputs.specs.Calls.{Could, answer_of}
 use Rattle.host_outputs.specs.Forms.{printing, shared_with, writing}
 use Rattle.host_outputs.specs.Lists.{listed}

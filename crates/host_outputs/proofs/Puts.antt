@@ -1,10 +1,10 @@
 -- What putting a text out leaves alone.
 use Rattle.std.proofs.Common.{◌≡◌, ℕ, Bool, true, false, List, Result, Ok, Err, refl}
 use Rattle.awk_values.specs.declared.fault.Fault.{Fault}
-use Rattle.awk_state.specs.OutputRows.{has_room, is_writing, kept_open, opened_if, printf_by, put_text, written_by}
-use Rattle.awk_state.specs.SharedState.{Does, Inner, Pairs, Shared}
-use Rattle.awk_state.specs.declared.constants.Destination.{Destination}
-use Rattle.awk_state.specs.declared.constants.Destination.TheVariants.{Standard, Emptied, Appended}
+use Rattle.sem_primitives.specs.OutputMeaning.{has_room, is_writing, kept_open, opened_if, printf_by, put_text, written_by}
+use Rattle.sem_primitives.specs.SharedState.{Does, Inner, Pairs, Shared}
+use Rattle.sem_primitives.specs.declared.constants.Destination.{Destination}
+use Rattle.sem_primitives.specs.declared.constants.Destination.TheVariants.{Standard, Emptied, Appended}
 use Rattle.world_core.specs.WorldState.{Action, Named}
 use Rattle.host_elements.specs.Forms.{Keys, inner_of}
 

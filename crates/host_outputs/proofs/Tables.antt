@@ -4,10 +4,10 @@ use Rattle.awk_values.specs.declared.fault.Fault.{Fault}
 use Rattle.awk_values.specs.declared.fault.Stop.{Stop}
 use Rattle.awk_values.specs.declared.fault.Stop.TheVariants as stop
 use Rattle.awk_values.specs.declared.value.Value.{Value}
-use Rattle.awk_state.specs.SharedState.{Inner, Shared}
-use Rattle.awk_state.specs.declared.sorts.Answer.TheVariants as answer
-use Rattle.machine_model.specs.declared.host.HostAnswer.{HostAnswer}
-use Rattle.machine_model.specs.declared.host.HostAnswer.TheVariants as told
+use Rattle.sem_primitives.specs.SharedState.{Inner, Shared}
+use Rattle.sem_primitives.specs.declared.sorts.Answer.TheVariants as answer
+use Rattle.wasm_model.specs.declared.host.HostAnswer.{HostAnswer}
+use Rattle.wasm_model.specs.declared.host.HostAnswer.TheVariants as told
 use Rattle.wasm_store.specs.declared.word.Word.{Word}
 use Rattle.wasm_store.specs.declared.word.Word.TheVariants.{I32}
 use Rattle.world_core.specs.Calls.{Kind, Reading}
@@ -26,7 +26,7 @@ use Rattle.host_streams.specs.Puts.{BeginsBy, HasDone, Spares}
 use Rattle.host_streams.specs.Readers.{left}
 use Rattle.host_streams.specs.declared.streams.NamedReader.{NamedReader}
 use Rattle.host_streams.specs.declared.streams.Streams.{Streams}
-use Rattle.form_meaning.specs.WorldCalls.{IsCalled, LeadsIn}
+use Rattle.host_meaning.specs.WorldCalls.{IsCalled, LeadsIn}
 use Rattle.host_outputs.specs.Calls.{Could, HasFiles, answer_of, over}
 use Rattle.host_outputs.specs.Forms.{writing}
 use Rattle.host_outputs.proofs.Names.{name_alone, names_stay}

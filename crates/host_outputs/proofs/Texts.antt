@@ -4,9 +4,9 @@ use Rattle.awk_values.specs.declared.fault.Fault.{Fault}
 use Rattle.awk_values.specs.declared.fault.Stop.{Stop}
 use Rattle.awk_values.specs.declared.fault.Stop.TheVariants as stop
 use Rattle.awk_values.specs.declared.value.Value.{Value}
-use Rattle.awk_state.specs.OutputRows.{file_name, formatted_values, operands_of, print_row, printed, printf_by, printf_row, put_text}
-use Rattle.awk_state.specs.SharedState.{Inner, Shared}
-use Rattle.awk_state.specs.declared.constants.Destination.{Destination}
+use Rattle.sem_primitives.specs.OutputMeaning.{file_name, formatted_values, operands_of, print_row, printed, printf_by, printf_row, put_text}
+use Rattle.sem_primitives.specs.SharedState.{Inner, Shared}
+use Rattle.sem_primitives.specs.declared.constants.Destination.{Destination}
 use Rattle.world_core.specs.WorldState.{State, after}
 use Rattle.host_format.specs.Outcomes.{IsStopOf}
 use Rattle.host_texts.specs.declared.specials.Specials.{Specials}

@@ -5,7 +5,7 @@ use Rattle.awk_values.specs.declared.fault.Stop.TheVariants as stop
 use Rattle.awk_values.specs.declared.fault.Fault.{Fault}
 use Rattle.awk_values.specs.declared.fault.Fault.TheVariants.{OpenOutput, WriteFailed}
 use Rattle.world_core.specs.Calls.{Kind}
-use Rattle.awk_state.specs.SharedState.{Does, Shared}
+use Rattle.sem_primitives.specs.SharedState.{Does, Shared}
 use Rattle.world_core.specs.WorldState.{Outside, State}
 use Rattle.wasm_store.specs.declared.word.Word.{Word}
 use Rattle.wasm_store.specs.declared.word.Word.TheVariants.{I32}

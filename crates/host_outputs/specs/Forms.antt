@@ -1,8 +1,8 @@
 -- The host's form with what the imports that write look at and change.
 use Rattle.std.specs.Prelude.{Bool, true, false, List}
 use Rattle.awk_values.specs.declared.value.Value.{Value}
-use Rattle.awk_state.specs.SharedState.{Inner, Shared}
-use Rattle.awk_state.specs.declared.answers.StreamAnswer.TheVariants as stream
+use Rattle.sem_primitives.specs.SharedState.{Inner, Shared}
+use Rattle.sem_primitives.specs.declared.answers.StreamAnswer.TheVariants as stream
 use Rattle.wasm_store.specs.declared.word.Word.{Word}
 use Rattle.wasm_store.specs.declared.word.Word.TheVariants.{I32}
 use Rattle.world_core.specs.WorldState.{State}

@@ -1,9 +1,9 @@
 -- What the words of print and printf take of the argument list.
 use Rattle.std.specs.Prelude.{ℕ, ◌&&◌, nat_le, Bool, List, length, Result, Ok}
 use Rattle.awk_values.specs.declared.value.Value.{Value}
-use Rattle.awk_state.specs.InTurn.{with_name}
-use Rattle.awk_state.specs.declared.constants.Destination.{Destination}
-use Rattle.awk_state.specs.declared.sorts.Constant.TheVariants as constant
+use Rattle.sem_primitives.specs.InTurn.{with_name}
+use Rattle.sem_primitives.specs.declared.constants.Destination.{Destination}
+use Rattle.sem_primitives.specs.declared.sorts.Constant.TheVariants as constant
 use Rattle.wasm_store.specs.declared.trap.TrapKind.{TrapKind}
 use Rattle.wasm_store.specs.declared.word.Word.{Word}
 use Rattle.host_step.specs.Arguments.{and_then, constant_front, no_more}

@@ -1,7 +1,7 @@
 //! `close`.
 ghost use Rattle.std.specs.Prelude.{◌≡◌, List, [], ℕ, None};
 ghost use Rattle.std.specs.FinMap as map;
-ghost use Rattle.awk_state.specs.declared.table.Primitive.TheVariants as row;
+ghost use Rattle.sem_primitives.specs.declared.table.Primitive.TheVariants as row;
 ghost use Rattle.host_step.specs.Answers.{stream_code};
 ghost use Rattle.host_step.specs.declared.import.Import.{Import};
 ghost use Rattle.host_elements.specs.Forms.{HostForm};
@@ -9,7 +9,7 @@ ghost use Rattle.host_streams.specs.OpenFiles.{HoldsOpen, OthersKeep, OthersStay
 ghost use Rattle.host_values.specs.Calls.{spare};
 ghost use Rattle.host_values.specs.Fronts.{lent_handle};
 ghost use Rattle.host_values.specs.Singles.{lent_only, only_handle};
-ghost use Rattle.form_meaning.specs.WorldCalls.{IsCalled};
+ghost use Rattle.host_meaning.specs.WorldCalls.{IsCalled};
 ghost use Rattle.host_outputs.specs.Forms.{closing, closed_code};
 
 use awk_values::{Value, to_text};

@@ -1,13 +1,13 @@
 //! The line that print puts out.
 ghost use Rattle.std.specs.Prelude.{◌≡◌, ◌++◌, OnOk, []};
 ghost use Rattle.awk_values.specs.Values.{text_of_value};
-ghost use Rattle.awk_state.specs.FieldRows.{joined};
-ghost use Rattle.awk_state.specs.OutputRows.{printed};
-ghost use Rattle.awk_state.specs.SharedState.{Inner};
+ghost use Rattle.sem_primitives.specs.FieldMeaning.{joined};
+ghost use Rattle.sem_primitives.specs.OutputMeaning.{printed};
+ghost use Rattle.sem_primitives.specs.SharedState.{Inner};
 ghost use Rattle.host_outputs.specs.Forms.{inner_with};
 ghost use Rattle.host_outputs.specs.Lines.{followed};
 
-use awk_state::Special;
+use sem_primitives::Special;
 use awk_values::Value;
 use host_texts::Specials;
 use host_values::push_text;

@@ -1,14 +1,14 @@
 //! Texts that go where a call says.
 ghost use Rattle.std.specs.Prelude.{◌≡◌, ◌≤◌, IfOk, Ok, length};
-ghost use Rattle.awk_state.specs.InTurn.{with_name};
-ghost use Rattle.awk_state.specs.OutputRows.{file_name, last_text, put_text};
-ghost use Rattle.awk_state.specs.SharedState.{Shared};
+ghost use Rattle.sem_primitives.specs.InTurn.{with_name};
+ghost use Rattle.sem_primitives.specs.OutputMeaning.{file_name, last_text, put_text};
+ghost use Rattle.sem_primitives.specs.SharedState.{Shared};
 ghost use Rattle.host_streams.specs.OpenFiles.{HoldsOpen, WritersGo, names_of};
 ghost use Rattle.host_streams.specs.Outputs.{IsOf, PutsIs};
 ghost use Rattle.host_streams.specs.Puts.{BeginsBy, PutCounts};
 ghost use Rattle.host_outputs.specs.Calls.{Could, Keeps};
 
-use awk_state::Destination;
+use sem_primitives::Destination;
 use awk_values::{Bytes, Stop, Value, to_text};
 use host_streams::{Streams, Target};
 use std::alloc::{AllocError, Global};

@@ -1,8 +1,8 @@
 //! `print` and `printf`.
 ghost use Rattle.std.specs.Prelude.{◌≡◌, ◌≤◌, IfErr, List, None, Ok, OnOk, ℕ, length};
-ghost use Rattle.awk_state.specs.InTurn.{with_name};
-ghost use Rattle.awk_state.specs.OutputRows.{formatted_values, operands_of, print_row, printf_row};
-ghost use Rattle.awk_state.specs.SharedState.{Shared};
+ghost use Rattle.sem_primitives.specs.InTurn.{with_name};
+ghost use Rattle.sem_primitives.specs.OutputMeaning.{formatted_values, operands_of, print_row, printf_row};
+ghost use Rattle.sem_primitives.specs.SharedState.{Shared};
 ghost use Rattle.world_core.specs.WorldState.{Action};
 ghost use Rattle.host_step.specs.declared.import.Import.{Import};
 ghost use Rattle.host_step.specs.declared.import.Listing.{Listing};
@@ -11,14 +11,14 @@ ghost use Rattle.host_format.specs.Outcomes.{IsStopOf};
 ghost use Rattle.host_streams.specs.OpenFiles.{HoldsOpen, WritersGo, names_of};
 ghost use Rattle.host_streams.specs.Outputs.{IsOf, PutsIs};
 ghost use Rattle.host_streams.specs.Puts.{BeginsBy, PutCounts};
-ghost use Rattle.form_meaning.specs.WorldCalls.{IsCalled};
+ghost use Rattle.host_meaning.specs.WorldCalls.{IsCalled};
 ghost use Rattle.host_outputs.specs.Calls.{Could, FailsBy, Keeps, answer_of};
 ghost use Rattle.host_outputs.specs.Forms.{printing, shared_with, writing};
 
 use crate::line::fill;
 use crate::outlets::put_out;
 use crate::taken::{operands, taken};
-use awk_state::Destination;
+use sem_primitives::Destination;
 use awk_values::{Stop, Value, to_text};
 use host_format::format_into;
 use host_streams::Streams;

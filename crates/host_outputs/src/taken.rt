@@ -1,15 +1,15 @@
 //! What a call takes of the argument list.
 ghost use Rattle.std.specs.Prelude.{◌≡◌, ◌≤◌, ◌&&◌, IfOk, length, nat_le};
-ghost use Rattle.awk_state.specs.Constants.{destination_at};
-ghost use Rattle.awk_state.specs.InTurn.{with_name};
-ghost use Rattle.awk_state.specs.OutputRows.{but_last, operands_of};
-ghost use Rattle.awk_state.specs.declared.sorts.Constant.{Constant};
+ghost use Rattle.sem_primitives.specs.Constants.{destination_at};
+ghost use Rattle.sem_primitives.specs.InTurn.{with_name};
+ghost use Rattle.sem_primitives.specs.OutputMeaning.{but_last, operands_of};
+ghost use Rattle.sem_primitives.specs.declared.sorts.Constant.{Constant};
 ghost use Rattle.host_step.specs.Arguments.{constant_front};
 ghost use Rattle.host_step.specs.HostStep.{last_of};
 ghost use Rattle.host_values.specs.Fronts.{owned};
 ghost use Rattle.host_outputs.specs.Lists.{enough, listed, listing_words};
 
-use awk_state::Destination;
+use sem_primitives::Destination;
 use awk_values::Value;
 use host_values::ends;
 use wasm_store::{TrapKind, Word};

@@ -1,19 +1,19 @@
 -- Answers as words.
 use Rattle.std.specs.Prelude.{ℕ, ◌-◌, ◌^◌, ◌<◌, ◌≡◌, pos, Option, Some, None}
 use Rattle.awk_values.specs.declared.value.Value.{Value as AnyValue}
-use Rattle.awk_state.specs.Constants.{flag_number}
-use Rattle.awk_state.specs.Numbers.{faulted_word, number_word}
-use Rattle.awk_state.specs.Sorts.{In, InAnswer}
-use Rattle.awk_state.specs.declared.answers.InputAnswer.{InputAnswer}
-use Rattle.awk_state.specs.declared.answers.InputAnswer.TheVariants as input
-use Rattle.awk_state.specs.declared.answers.AssignAnswer.{AssignAnswer}
-use Rattle.awk_state.specs.declared.answers.AssignAnswer.TheVariants as assign
-use Rattle.awk_state.specs.declared.answers.StreamAnswer.{StreamAnswer}
-use Rattle.awk_state.specs.declared.answers.StreamAnswer.TheVariants as stream
-use Rattle.awk_state.specs.declared.sorts.Sort.{Sort}
-use Rattle.awk_state.specs.declared.sorts.Sort.TheVariants.{Value, Number, Array, Iterator}
-use Rattle.awk_state.specs.declared.sorts.Answer.{Answer}
-use Rattle.awk_state.specs.declared.sorts.Answer.TheVariants as answer
+use Rattle.sem_primitives.specs.Constants.{flag_number}
+use Rattle.sem_primitives.specs.Numbers.{faulted_word, number_word}
+use Rattle.sem_primitives.specs.Sorts.{In, InAnswer}
+use Rattle.sem_primitives.specs.declared.answers.InputAnswer.{InputAnswer}
+use Rattle.sem_primitives.specs.declared.answers.InputAnswer.TheVariants as input
+use Rattle.sem_primitives.specs.declared.answers.AssignAnswer.{AssignAnswer}
+use Rattle.sem_primitives.specs.declared.answers.AssignAnswer.TheVariants as assign
+use Rattle.sem_primitives.specs.declared.answers.StreamAnswer.{StreamAnswer}
+use Rattle.sem_primitives.specs.declared.answers.StreamAnswer.TheVariants as stream
+use Rattle.sem_primitives.specs.declared.sorts.Sort.{Sort}
+use Rattle.sem_primitives.specs.declared.sorts.Sort.TheVariants.{Value, Number, Array, Iterator}
+use Rattle.sem_primitives.specs.declared.sorts.Answer.{Answer}
+use Rattle.sem_primitives.specs.declared.sorts.Answer.TheVariants as answer
 use Rattle.wasm_store.specs.declared.word.Word.{Word}
 use Rattle.wasm_store.specs.declared.word.Word.TheVariants.{I32, I64}
 use Rattle.host_step.specs.HostState.{Names}

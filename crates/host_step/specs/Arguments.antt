@@ -4,14 +4,14 @@
 use Rattle.std.specs.Prelude.{ℕ, ◌+◌, pos, nat_le, Bool, true, false, List, [], ◌∷◌, length, take, drop, Option, Some, None, Result, Ok, Err, if◌then◌else◌}
 use Rattle.std.specs.Int.{w32, cast_signed}
 use Rattle.awk_values.specs.declared.value.Value.{Value as AnyValue}
-use Rattle.awk_state.specs.Constants.{InConstant, constant_at}
-use Rattle.awk_state.specs.Numbers.{number_of_word}
-use Rattle.awk_state.specs.Sorts.{In, InArgument, Row}
-use Rattle.awk_state.specs.declared.sorts.Sort.{Sort}
-use Rattle.awk_state.specs.declared.sorts.Sort.TheVariants.{Value, Number, Array, Iterator}
-use Rattle.awk_state.specs.declared.sorts.Constant.{Constant}
-use Rattle.awk_state.specs.declared.sorts.Argument.{Argument}
-use Rattle.awk_state.specs.declared.sorts.Argument.TheVariants as argument
+use Rattle.sem_primitives.specs.Constants.{InConstant, constant_at}
+use Rattle.sem_primitives.specs.Numbers.{number_of_word}
+use Rattle.sem_primitives.specs.Sorts.{In, InArgument, Row}
+use Rattle.sem_primitives.specs.declared.sorts.Sort.{Sort}
+use Rattle.sem_primitives.specs.declared.sorts.Sort.TheVariants.{Value, Number, Array, Iterator}
+use Rattle.sem_primitives.specs.declared.sorts.Constant.{Constant}
+use Rattle.sem_primitives.specs.declared.sorts.Argument.{Argument}
+use Rattle.sem_primitives.specs.declared.sorts.Argument.TheVariants as argument
 use Rattle.wasm_store.specs.declared.trap.TrapKind.{TrapKind}
 use Rattle.wasm_store.specs.declared.trap.TrapKind.TheVariants.{BadHandle, BadPointer, BadArgument}
 use Rattle.wasm_store.specs.declared.word.Word.{Word}

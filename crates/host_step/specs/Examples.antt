@@ -2,10 +2,10 @@
 use Rattle.std.specs.Prelude.{ℕ, suc, pos, List, [], ◌∷◌, codes, Option, Some, None, Result, Ok, Err}
 use Rattle.awk_values.specs.declared.fault.Fault.{Fault}
 use Rattle.awk_values.specs.declared.value.Value.{Value}
-use Rattle.awk_state.specs.Jobs.{JobForm}
-use Rattle.awk_state.specs.declared.table.Primitive.{Primitive}
-use Rattle.machine_model.specs.declared.host.HostAnswer.{HostAnswer}
-use Rattle.machine_model.specs.declared.host.HostAnswer.TheVariants.{Done, Trap}
+use Rattle.sem_primitives.specs.Jobs.{JobForm}
+use Rattle.sem_primitives.specs.declared.table.Primitive.{Primitive}
+use Rattle.wasm_model.specs.declared.host.HostAnswer.{HostAnswer}
+use Rattle.wasm_model.specs.declared.host.HostAnswer.TheVariants.{Done, Trap}
 use Rattle.wasm_store.specs.declared.trap.TrapKind.{TrapKind}
 use Rattle.wasm_store.specs.declared.word.Word.{Word}
 use Rattle.wasm_store.specs.declared.word.Word.TheVariants.{I32, I64}

@@ -3,14 +3,14 @@ use Rattle.std.specs.Prelude.{ℕ, ◌≡◌, List, Option, Some, None, Bool, tr
 use Rattle.std.proofs.Common.{refl, sym, subst, ap, ◌∙◌}
 use Rattle.wasm_types.specs.Syntax.{Signature}
 use Rattle.awk_values.specs.declared.fault.Fault.{Fault}
-use Rattle.awk_state.specs.Sorts.{In, InAnswer}
-use Rattle.awk_state.specs.declared.sorts.Sort.{Sort}
-use Rattle.awk_state.specs.declared.sorts.Sort.TheVariants.{Value, Number, Array, Iterator}
-use Rattle.awk_state.specs.declared.sorts.Answer.{Answer}
-use Rattle.awk_state.specs.declared.sorts.Answer.TheVariants as answer
-use Rattle.machine_model.specs.Hosts.{Typed, type_if}
-use Rattle.machine_model.specs.declared.host.HostAnswer.{HostAnswer}
-use Rattle.machine_model.specs.declared.host.HostAnswer.TheVariants as told
+use Rattle.sem_primitives.specs.Sorts.{In, InAnswer}
+use Rattle.sem_primitives.specs.declared.sorts.Sort.{Sort}
+use Rattle.sem_primitives.specs.declared.sorts.Sort.TheVariants.{Value, Number, Array, Iterator}
+use Rattle.sem_primitives.specs.declared.sorts.Answer.{Answer}
+use Rattle.sem_primitives.specs.declared.sorts.Answer.TheVariants as answer
+use Rattle.wasm_model.specs.Hosts.{Typed, type_if}
+use Rattle.wasm_model.specs.declared.host.HostAnswer.{HostAnswer}
+use Rattle.wasm_model.specs.declared.host.HostAnswer.TheVariants as told
 use Rattle.wasm_store.specs.declared.word.Word.{Word}
 use Rattle.world_core.specs.WorldState.{Action}
 use Rattle.host_step.specs.Imports.{host_finds, host_types, import_answer, import_at, import_type, imports_in, number_below, number_named, numbered, result_of, type_if_there, with_type}

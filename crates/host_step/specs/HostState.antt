@@ -2,7 +2,7 @@
 use Rattle.std.specs.Prelude.{ℕ, List, Option}
 use Rattle.awk_values.specs.declared.fault.Fault.{Fault}
 use Rattle.awk_values.specs.declared.value.Value.{Value}
-use Rattle.awk_state.specs.SharedState.{Shared}
+use Rattle.sem_primitives.specs.SharedState.{Shared}
 use Rattle.host_step.specs.Tables.{Table, size}
 
 -- What the numbers that the host gave out stand for: handles for values; an array's and an iterator's number for its number in the shared state,

@@ -2,16 +2,16 @@
 use Rattle.std.specs.Prelude.{ℕ, ◌-◌, ◌≡◌, nat_le, Bool, true, false, ◌&&◌, not, cond, List, [], ◌∷◌, ◌++◌, length, take, drop, is_some, Option, Some, None, Result, Ok, Err}
 use Rattle.awk_values.specs.declared.fault.Fault.{Fault}
 use Rattle.awk_values.specs.declared.value.Value.{Value as AnyValue}
-use Rattle.awk_state.specs.InTurn.{in_turn, values_taken, listed_in_turn}
-use Rattle.awk_state.specs.SharedState.{Shared, Does, gives, shared_after}
-use Rattle.awk_state.specs.Sorts.{InAnswer, OrFault, Row}
-use Rattle.awk_state.specs.Table.{meaning, listed_answer, listed_meaning}
-use Rattle.awk_state.specs.Table as table
-use Rattle.awk_state.specs.declared.sorts.Answer.{Answer}
-use Rattle.awk_state.specs.declared.table.Listed.{Listed}
-use Rattle.awk_state.specs.declared.table.Listed.TheVariants as listed
-use Rattle.machine_model.specs.declared.host.HostAnswer.{HostAnswer}
-use Rattle.machine_model.specs.declared.host.HostAnswer.TheVariants as told
+use Rattle.sem_primitives.specs.InTurn.{in_turn, values_taken, listed_in_turn}
+use Rattle.sem_primitives.specs.SharedState.{Shared, Does, gives, shared_after}
+use Rattle.sem_primitives.specs.Sorts.{InAnswer, OrFault, Row}
+use Rattle.sem_primitives.specs.Table.{meaning, listed_answer, listed_meaning}
+use Rattle.sem_primitives.specs.Table as table
+use Rattle.sem_primitives.specs.declared.sorts.Answer.{Answer}
+use Rattle.sem_primitives.specs.declared.table.Listed.{Listed}
+use Rattle.sem_primitives.specs.declared.table.Listed.TheVariants as listed
+use Rattle.wasm_model.specs.declared.host.HostAnswer.{HostAnswer}
+use Rattle.wasm_model.specs.declared.host.HostAnswer.TheVariants as told
 use Rattle.wasm_store.specs.declared.trap.TrapKind.{TrapKind}
 use Rattle.wasm_store.specs.declared.trap.TrapKind.TheVariants.{BadArgument}
 use Rattle.wasm_store.specs.declared.word.Word.{Word}

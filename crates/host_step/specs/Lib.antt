@@ -8,6 +8,6 @@ pub mod Starts
 pub mod Worlds
 pub mod HostLaws
 pub mod Examples
-pub mod Rows
-pub mod FamilyRows
-pub mod InputRows
+pub mod CallExamples
+pub mod FamilyExamples
+pub mod InputExamples

@@ -1,7 +1,7 @@
 -- The state at the start of a job.
 use Rattle.std.specs.Prelude.{ℕ, pos, [], ◌∷◌}
 use Rattle.world_core.specs.WorldState.{Outside, Source}
-use Rattle.awk_state.specs.Jobs.{JobForm, fault_of_job, shared_at_start}
+use Rattle.sem_primitives.specs.Jobs.{JobForm, fault_of_job, shared_at_start}
 use Rattle.host_step.specs.HostState.{HostState, Names}
 use Rattle.host_step.specs.Tables.{Table}
 

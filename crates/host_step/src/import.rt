@@ -2,7 +2,7 @@
 ghost use Rattle.std.specs.Prelude.{◌≡◌, slice_get};
 ghost use Rattle.host_step.specs.Imports.{can_fault, can_trap, import_answer, import_arguments, import_at, import_name, imports_in, lets_go, spends};
 
-use awk_state::{Answer, Argument, Constant, Primitive, Sort};
+use sem_primitives::{Answer, Argument, Constant, Primitive, Sort};
 
 /// What is made of the last values of the argument list.
 #[derive(Clone, Copy, Debug, PartialEq, Eq, Drop)]

@@ -1,7 +1,7 @@
 //! Laws of the definition, each the contract of a function that does nothing.
 ghost use Rattle.std.specs.Prelude.{◌≡◌, ◌≢◌, false, ℕ, [], List, None, Option, Some};
-ghost use Rattle.machine_model.specs.Hosts.{Typed};
-ghost use Rattle.machine_model.specs.declared.host.HostAnswer.{HostAnswer};
+ghost use Rattle.wasm_model.specs.Hosts.{Typed};
+ghost use Rattle.wasm_model.specs.declared.host.HostAnswer.{HostAnswer};
 ghost use Rattle.wasm_store.specs.declared.trap.TrapKind.{TrapKind};
 ghost use Rattle.wasm_store.specs.declared.word.Word.{Word};
 ghost use Rattle.wasm_types.specs.Syntax.{Signature};

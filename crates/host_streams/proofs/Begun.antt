@@ -10,8 +10,8 @@ use Rattle.world_core.specs.declared.world.WorldFault.{WorldFault}
 use Rattle.world_core.specs.declared.world.WorldFault.TheVariants.{Failed, NoMemory}
 use Rattle.world_core.specs.WorldState.{Action, Named, Open, Outside, State, Target, after, free, puts}
 use Rattle.world_core.specs.Calls.{Does, Fits, OpensWriter, Writes}
-use Rattle.awk_state.specs.SharedState.{Does as Doing, Shared}
-use Rattle.awk_state.specs.OutputRows.{has_room, opened_if, what_fits, written}
+use Rattle.sem_primitives.specs.SharedState.{Does as Doing, Shared}
+use Rattle.sem_primitives.specs.OutputMeaning.{has_room, opened_if, what_fits, written}
 use Rattle.host_streams.specs.OpenFiles.{names_of, readers_in}
 use Rattle.host_streams.specs.Outputs.{IsOf}
 use Rattle.host_streams.specs.Puts.{BeginsBy, BeginsText, EndsPut, IsOver, PutFault, PutsPart}

@@ -6,11 +6,11 @@ use Rattle.std.specs.List.{remove}
 use Rattle.awk_values.specs.declared.value.Value.TheVariants.{Text}
 use Rattle.world_core.specs.WorldState.{State, Source}
 use Rattle.world_core.specs.Calls.{Kind, Closed, Closes, Reading, Writing, set_kind}
-use Rattle.awk_state.specs.Texts.{same_text}
-use Rattle.awk_state.specs.InputRows.{close_row, is_reading, reader_named, without_reader, without_writer}
-use Rattle.awk_state.specs.OutputRows.{is_writing}
-use Rattle.awk_state.specs.SharedState.{Shared}
-use Rattle.awk_state.specs.declared.answers.StreamAnswer.TheVariants as stream
+use Rattle.sem_primitives.specs.Texts.{same_text}
+use Rattle.sem_primitives.specs.InputMeaning.{close_row, is_reading, reader_named, without_reader, without_writer}
+use Rattle.sem_primitives.specs.OutputMeaning.{is_writing}
+use Rattle.sem_primitives.specs.SharedState.{Shared}
+use Rattle.sem_primitives.specs.declared.answers.StreamAnswer.TheVariants as stream
 use Rattle.host_streams.specs.declared.streams.NamedReader.{NamedReader}
 use Rattle.host_streams.specs.declared.streams.NamedWriter.{NamedWriter}
 use Rattle.host_streams.specs.declared.streams.Streams.{Streams}

@@ -8,7 +8,7 @@ use Rattle.awk_values.specs.declared.fault.Fault.{Fault}
 use Rattle.awk_values.specs.declared.fault.Fault.TheVariants.{TextLimit}
 use Rattle.world_core.specs.declared.world.Ending.{Ending}
 use Rattle.world_core.specs.WorldState.{Source}
-use Rattle.awk_state.specs.Records.{is_newline, begins, width, onto, cut, skipped, without_last, trimmed, Got, Record, of_rest, of_cut, first_record}
+use Rattle.sem_primitives.specs.Records.{is_newline, begins, width, onto, cut, skipped, without_last, trimmed, Got, Record, of_rest, of_cut, first_record}
 use Rattle.host_streams.specs.declared.look.Known.{Known}
 use Rattle.host_streams.specs.Looks.{before, HasNoneBefore, all_but_one, searched, IsScanned, IsThere, IsLong, IsOpen}
 

@@ -4,7 +4,7 @@ use Rattle.std.proofs.Math.Seq.{drop-cons}
 use Rattle.std.proofs.lemmas.List.{get_or-drop, take_all}
 use Rattle.std.proofs.lemmas.Bool.{ne_eqb}
 use Rattle.memchr.specs.Find.{IsFirstByte, is_byte}
-use Rattle.awk_state.specs.Records.{is_newline, begins, cut, skipped}
+use Rattle.sem_primitives.specs.Records.{is_newline, begins, cut, skipped}
 use Rattle.host_streams.specs.declared.look.Known.{Known}
 use Rattle.host_streams.specs.Looks.{before, HasNoneBefore, IsScanned, FindsCut}
 use Rattle.host_streams.proofs.Cuts.{begins_byte, cut_here, none_at_all, none_between}

@@ -9,14 +9,14 @@ use Rattle.awk_values.specs.declared.fault.Fault.TheVariants.{ReadFailed, TextLi
 use Rattle.awk_values.specs.declared.fault.Stop.{Stop}
 use Rattle.awk_values.specs.declared.fault.Stop.TheVariants.{Fault as IsFault, NoMemory}
 use Rattle.world_core.specs.WorldState.{Outside, Source, State}
-use Rattle.awk_state.specs.Assignments.{assigned, assignment_of, behind_name, begins_name, continues_name, is_name}
-use Rattle.awk_state.specs.FieldRows.{special_text}
-use Rattle.awk_state.specs.InputRows.{Main, Taken, main_input, go_on, got_main, leaves, next_operand, over, reach, stops_reading, follows, is_below, made, operand_text, reached, taken, file_or_assignment, opened, reader_of, with_operands}
-use Rattle.awk_state.specs.InputRows.{Failed as ReadingFailed, Over, NotOpened}
-use Rattle.awk_state.specs.Records.{Got, Record, AtEnd, Broken, record_separator, first_record}
-use Rattle.awk_state.specs.SharedState.{Inner, MainInput, MainReader, Standard, File, Operands, NoFile, SomeFile, NoneLeft, ◌>>=◌}
-use Rattle.awk_state.specs.Texts.{is_empty}
-use Rattle.awk_state.specs.declared.constants.Special.TheVariants.{Argc, Rs}
+use Rattle.sem_primitives.specs.Assignments.{assigned, assignment_of, behind_name, begins_name, continues_name, is_name}
+use Rattle.sem_primitives.specs.FieldMeaning.{special_text}
+use Rattle.sem_primitives.specs.InputMeaning.{Main, Taken, main_input, go_on, got_main, leaves, next_operand, over, reach, stops_reading, follows, is_below, made, operand_text, reached, taken, file_or_assignment, opened, reader_of, with_operands}
+use Rattle.sem_primitives.specs.InputMeaning.{Failed as ReadingFailed, Over, NotOpened}
+use Rattle.sem_primitives.specs.Records.{Got, Record, AtEnd, Broken, record_separator, first_record}
+use Rattle.sem_primitives.specs.SharedState.{Inner, MainInput, MainReader, Standard, File, Operands, NoFile, SomeFile, NoneLeft, ◌>>=◌}
+use Rattle.sem_primitives.specs.Texts.{is_empty}
+use Rattle.sem_primitives.specs.declared.constants.Special.TheVariants.{Argc, Rs}
 use Rattle.host_streams.specs.declared.main_input.Found.{Found}
 use Rattle.host_streams.specs.declared.main_input.Found.TheVariants as found
 use Rattle.host_streams.specs.declared.main_input.MainInput.{MainInput as Mains}

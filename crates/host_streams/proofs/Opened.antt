@@ -4,8 +4,8 @@ use Rattle.std.proofs.lemmas.Bool.{false≢true}
 use Rattle.std.proofs.lemmas.List.{map-append}
 use Rattle.awk_values.specs.declared.fault.Stop.{Stop}
 use Rattle.awk_values.specs.declared.fault.Stop.TheVariants.{Fault as IsFault, NoMemory}
-use Rattle.awk_state.specs.Texts.{same_text}
-use Rattle.awk_state.specs.OutputRows.{is_writing}
+use Rattle.sem_primitives.specs.Texts.{same_text}
+use Rattle.sem_primitives.specs.OutputMeaning.{is_writing}
 use Rattle.host_streams.specs.declared.streams.NamedReader.{NamedReader}
 use Rattle.host_streams.specs.OpenFiles.{IsAdded, IsNone, OpensReader, is_reader, reader_handle, reader_names, reader_place, readers_beside}
 use Rattle.host_streams.proofs.Places.{AllFail, First, all_fail, first, first_item, first_set}

@@ -6,8 +6,8 @@ use Rattle.awk_values.specs.declared.fault.Stop.{Stop}
 use Rattle.awk_values.specs.declared.fault.Stop.TheVariants.{Fault as IsFault, NoMemory}
 use Rattle.world_core.specs.WorldState.{State, Named, Standard, Open, Outside, Target, after}
 use Rattle.world_core.specs.Calls.{Kind, Closed, Reading, Writing, Opens, OpensWriter, set_kind}
-use Rattle.awk_state.specs.SharedState.{Shared, Does, Inner}
-use Rattle.awk_state.specs.OutputRows.{all_out, has_room, is_writing, kept_open, opened_if, then_written, written, written_by}
+use Rattle.sem_primitives.specs.SharedState.{Shared, Does, Inner}
+use Rattle.sem_primitives.specs.OutputMeaning.{all_out, has_room, is_writing, kept_open, opened_if, then_written, written, written_by}
 use Rattle.host_streams.specs.declared.streams.NamedWriter.{NamedWriter}
 use Rattle.host_streams.specs.OpenFiles.{writer_handle, IsApart, IsNone, AreOpen, WritersGo, names_of, is_writer, writer_place}
 use Rattle.host_streams.specs.Puts.{PutsBy, Spares}

@@ -2,8 +2,8 @@
 use Rattle.std.proofs.Common.{◌≡◌, ◌≢◌, List, [], ℕ, Some, None, refl, sym, ap, subst, ◌∙◌}
 use Rattle.world_core.specs.declared.world.Ending.TheVariants.{End}
 use Rattle.world_core.specs.WorldState.{Source, State}
-use Rattle.awk_state.specs.InputRows.{gives_up, next_file_row}
-use Rattle.awk_state.specs.SharedState.{Inner, MainInput, Standard}
+use Rattle.sem_primitives.specs.InputMeaning.{gives_up, next_file_row}
+use Rattle.sem_primitives.specs.SharedState.{Inner, MainInput, Standard}
 use Rattle.host_streams.specs.declared.main_input.MainInput.{MainInput as Mains}
 use Rattle.host_streams.specs.declared.main_input.Reading.{Reading}
 use Rattle.host_streams.specs.declared.main_input.Reading.TheVariants as reading

@@ -4,8 +4,8 @@ use Rattle.std.proofs.lemmas.List.{take-append-drop}
 use Rattle.awk_values.specs.declared.fault.Fault.TheVariants.{TextLimit}
 use Rattle.world_core.specs.declared.world.Ending.TheVariants.{End as IsEnd}
 use Rattle.world_core.specs.WorldState.{Source, State}
-use Rattle.awk_state.specs.Records.{first_record}
-use Rattle.awk_state.specs.Records.{Record as GotRecord}
+use Rattle.sem_primitives.specs.Records.{first_record}
+use Rattle.sem_primitives.specs.Records.{Record as GotRecord}
 use Rattle.host_streams.specs.declared.reader.Phase.{Phase}
 use Rattle.host_streams.specs.declared.reader.Phase.TheVariants.{Open, Ended, Broken}
 use Rattle.host_streams.specs.Looks.{IsThere, IsLong}

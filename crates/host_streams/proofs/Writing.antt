@@ -5,7 +5,7 @@ use Rattle.std.proofs.Common.{zero, suc, length-take}
 use Rattle.std.proofs.lemmas.List.{take_all}
 use Rattle.std.proofs.Common.{take-add, length-drop}
 use Rattle.host_streams.specs.Puts.{PutsText}
-use Rattle.awk_state.specs.OutputRows.{all_fits, what_fits}
+use Rattle.sem_primitives.specs.OutputMeaning.{all_fits, what_fits}
 use Rattle.std.proofs.lemmas.Bool.{le-leb, lt-leb}
 use Rattle.std.proofs.lemmas.List.{take-take}
 use Rattle.world_core.specs.WorldState.{Target, Standard, Named, same_target, Entry, bytes_of, left_of, free, Outside, State, Action, Put, acted, step, after, puts}

@@ -1,9 +1,9 @@
 -- Files that are closed, as the definition has it.
 use Rattle.std.specs.Prelude.{◌≡◌, Bool, if◌then◌else◌}
 use Rattle.world_core.specs.WorldState.{State}
-use Rattle.awk_state.specs.SharedState.{Inner}
-use Rattle.awk_state.specs.declared.answers.StreamAnswer.{StreamAnswer}
-use Rattle.awk_state.specs.declared.answers.StreamAnswer.TheVariants as stream
+use Rattle.sem_primitives.specs.SharedState.{Inner}
+use Rattle.sem_primitives.specs.declared.answers.StreamAnswer.{StreamAnswer}
+use Rattle.sem_primitives.specs.declared.answers.StreamAnswer.TheVariants as stream
 use Rattle.host_streams.specs.declared.streams.Streams.{Streams}
 use Rattle.host_streams.specs.OpenFiles.{names_of, readers_in}
 

@@ -2,8 +2,8 @@
 use Rattle.std.specs.Prelude.{◌≡◌, ℕ, suc, ◌+◌, ◌^◌, ◌==◌, ◌≤◌, List, [], ◌∷◌, ◌++◌, length, take, drop, cond, Option, Some, None, Ok, Err, slice_range}
 use Rattle.awk_values.specs.declared.fault.Fault.TheVariants.{TextLimit}
 use Rattle.world_core.specs.declared.world.Ending.{Ending}
-use Rattle.awk_state.specs.Records.{first_record, of_rest, cut, width, skipped}
-use Rattle.awk_state.specs.Records.{Record as IsRecord}
+use Rattle.sem_primitives.specs.Records.{first_record, of_rest, cut, width, skipped}
+use Rattle.sem_primitives.specs.Records.{Record as IsRecord}
 use Rattle.host_streams.specs.declared.look.Known.{Known}
 use Rattle.host_streams.specs.declared.look.Look.{Look}
 use Rattle.host_streams.specs.declared.look.Look.TheVariants.{Record, Long, More}

@@ -8,12 +8,12 @@ use Rattle.awk_values.specs.declared.value.Value.{Value}
 use Rattle.awk_values.specs.declared.value.Value.TheVariants.{Num, StrNum}
 use Rattle.world_core.specs.WorldState.{Outside, Source, State}
 use Rattle.world_core.specs.Calls.{Kind, Closed, Reading as IsReading}
-use Rattle.awk_state.specs.Assignments.{assigned, assignment_of, begins_name}
-use Rattle.awk_state.specs.FieldRows.{special_text}
-use Rattle.awk_state.specs.InputRows.{Main, Taken, Over, NotOpened, Failed as ReadingFailed, main_input, is_below, made, operand_text, reach}
-use Rattle.awk_state.specs.Records.{record_separator}
-use Rattle.awk_state.specs.SharedState.{Inner, MainInput, MainReader, Standard, File, Operands, NoFile, SomeFile, NoneLeft, ◌>>=◌, with_special}
-use Rattle.awk_state.specs.declared.constants.Special.TheVariants.{Argc, Filename, Fnr, Rs}
+use Rattle.sem_primitives.specs.Assignments.{assigned, assignment_of, begins_name}
+use Rattle.sem_primitives.specs.FieldMeaning.{special_text}
+use Rattle.sem_primitives.specs.InputMeaning.{Main, Taken, Over, NotOpened, Failed as ReadingFailed, main_input, is_below, made, operand_text, reach}
+use Rattle.sem_primitives.specs.Records.{record_separator}
+use Rattle.sem_primitives.specs.SharedState.{Inner, MainInput, MainReader, Standard, File, Operands, NoFile, SomeFile, NoneLeft, ◌>>=◌, with_special}
+use Rattle.sem_primitives.specs.declared.constants.Special.TheVariants.{Argc, Filename, Fnr, Rs}
 use Rattle.host_streams.specs.declared.main_input.Found.{Found}
 use Rattle.host_streams.specs.declared.main_input.Found.TheVariants as found
 use Rattle.host_streams.specs.declared.main_input.MainNext.{MainNext}

@@ -5,8 +5,8 @@ use Rattle.awk_values.specs.declared.fault.Stop.{Stop}
 use Rattle.awk_values.specs.declared.fault.Stop.TheVariants.{Fault as IsFault, NoMemory}
 use Rattle.world_core.specs.WorldState.{State, Source, Named, Entry}
 use Rattle.world_core.specs.Calls.{Kind, Closed, Reading, Writing}
-use Rattle.awk_state.specs.Texts.{same_text}
-use Rattle.awk_state.specs.InputRows.{reader_named, with_reader, source_of}
+use Rattle.sem_primitives.specs.Texts.{same_text}
+use Rattle.sem_primitives.specs.InputMeaning.{reader_named, with_reader, source_of}
 use Rattle.host_streams.specs.declared.reader.Phase.{Phase}
 use Rattle.host_streams.specs.declared.reader.Phase.TheVariants.{Open, Broken}
 use Rattle.host_streams.specs.declared.reader.FileNext.{FileNext}

@@ -4,10 +4,10 @@ use Rattle.awk_values.specs.declared.fault.Fault.{Fault}
 use Rattle.awk_values.specs.declared.fault.Stop.{Stop}
 use Rattle.awk_values.specs.declared.fault.Stop.TheVariants.{Fault as IsFault, NoMemory}
 use Rattle.world_core.specs.WorldState.{State}
-use Rattle.awk_state.specs.SharedState.{Shared, Does}
-use Rattle.awk_state.specs.OutputRows.{is_writing}
-use Rattle.awk_state.specs.declared.constants.Destination.{Destination}
-use Rattle.awk_state.specs.declared.constants.Destination.TheVariants as destination
+use Rattle.sem_primitives.specs.SharedState.{Shared, Does}
+use Rattle.sem_primitives.specs.OutputMeaning.{is_writing}
+use Rattle.sem_primitives.specs.declared.constants.Destination.{Destination}
+use Rattle.sem_primitives.specs.declared.constants.Destination.TheVariants as destination
 use Rattle.host_streams.specs.declared.output.Target.{Target}
 use Rattle.host_streams.specs.declared.output.Target.TheVariants.{Standard, Emptied, Appended}
 use Rattle.host_streams.specs.declared.streams.Streams.{Streams}

@@ -4,7 +4,7 @@ use Rattle.awk_values.specs.declared.fault.Fault.{Fault}
 use Rattle.awk_values.specs.declared.fault.Fault.TheVariants.{Fraction, OpenInput, Range, ReadFailed, TextLimit}
 use Rattle.awk_values.specs.declared.fault.Stop.{Stop}
 use Rattle.awk_values.specs.declared.fault.Stop.TheVariants.{Fault as IsFault, NoMemory}
-use Rattle.awk_state.specs.Assignments.{assignment_of}
+use Rattle.sem_primitives.specs.Assignments.{assignment_of}
 use Rattle.host_streams.specs.declared.main_input.Found.{Found}
 use Rattle.host_streams.specs.declared.main_input.Found.TheVariants.{NoFile, SomeFile, NoneLeft}
 use Rattle.host_streams.specs.declared.main_input.MainNext.{MainNext}

@@ -8,8 +8,8 @@ use Rattle.world_core.specs.declared.world.WorldFault.{WorldFault}
 use Rattle.world_core.specs.declared.world.WorldFault.TheVariants.{Failed, NoMemory}
 use Rattle.world_core.specs.WorldState.{Action, Entry, Named, State, after, free, puts}
 use Rattle.world_core.specs.Calls.{Does, Kind, Closed, OpensWriter}
-use Rattle.awk_state.specs.SharedState.{Shared, Does as Doing}
-use Rattle.awk_state.specs.OutputRows.{all_fits, what_fits}
+use Rattle.sem_primitives.specs.SharedState.{Shared, Does as Doing}
+use Rattle.sem_primitives.specs.OutputMeaning.{all_fits, what_fits}
 
 -- what a stream writes to holds
 abbrev pub entry_written : ℕ → State → Entry

@@ -7,8 +7,8 @@ use Rattle.world_core.specs.declared.world.Ending.TheVariants.{End as IsEnd, Fai
 use Rattle.world_core.specs.declared.world.WorldFault.{WorldFault}
 use Rattle.world_core.specs.declared.world.WorldFault.TheVariants.{Failed as DeviceFailed, NoMemory}
 use Rattle.world_core.specs.WorldState.{State, Source}
-use Rattle.awk_state.specs.Records.{first_record}
-use Rattle.awk_state.specs.Records.{Record as GotRecord, AtEnd as GotEnd, Broken as GotFailure}
+use Rattle.sem_primitives.specs.Records.{first_record}
+use Rattle.sem_primitives.specs.Records.{Record as GotRecord, AtEnd as GotEnd, Broken as GotFailure}
 use Rattle.host_streams.specs.Looks.{IsScanned}
 use Rattle.host_streams.specs.declared.reader.Phase.{Phase}
 use Rattle.host_streams.specs.declared.reader.Phase.TheVariants.{Open, Ended, Broken}

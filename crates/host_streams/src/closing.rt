@@ -1,8 +1,8 @@
 //! Files that are closed.
 ghost use Rattle.std.specs.Prelude.{◌≡◌, ◌||◌};
-ghost use Rattle.awk_state.specs.InputRows.{close_row, without_reader, without_writer};
-ghost use Rattle.awk_state.specs.OutputRows.{is_writing};
-ghost use Rattle.awk_state.specs.SharedState.{Shared};
+ghost use Rattle.sem_primitives.specs.InputMeaning.{close_row, without_reader, without_writer};
+ghost use Rattle.sem_primitives.specs.OutputMeaning.{is_writing};
+ghost use Rattle.sem_primitives.specs.SharedState.{Shared};
 ghost use Rattle.awk_values.specs.declared.value.Value.TheVariants.{Text};
 ghost use Rattle.host_streams.specs.Closing.{ClosesBy};
 ghost use Rattle.host_streams.specs.OpenFiles.{HoldsOpen, OthersKeep, OthersStay, WritersGo, names_of, reader_names, readers_beside, readers_in, writers_beside};

@@ -1,7 +1,7 @@
 //! What the bytes read so far tell of the first record.
 ghost use Rattle.std.specs.Prelude.{◌≡◌, ◌+◌, ◌≤◌, length, drop};
 ghost use Rattle.std.specs.List.{prefix_len};
-ghost use Rattle.awk_state.specs.Records.{begins, is_newline, skipped, trimmed, without_last, width};
+ghost use Rattle.sem_primitives.specs.Records.{begins, is_newline, skipped, trimmed, without_last, width};
 ghost use Rattle.host_streams.specs.Looks.{FindsCut, HasNoneBefore, IsScanned, Looks, searched};
 
 use memchr::memchr;

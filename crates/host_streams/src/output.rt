@@ -2,8 +2,8 @@
 ghost use Rattle.std.specs.Prelude.{◌≡◌, [], None, true, false, take, vec_len, IfOk, OnErr, OnOk};
 ghost use Rattle.world_core.specs.WorldState.{Named};
 ghost use Rattle.world_core.specs.Calls.{Opens, Writing};
-ghost use Rattle.awk_state.specs.SharedState.{Shared};
-ghost use Rattle.awk_state.specs.OutputRows.{all_out, is_writing, opened_if, put_text, written_by};
+ghost use Rattle.sem_primitives.specs.SharedState.{Shared};
+ghost use Rattle.sem_primitives.specs.OutputMeaning.{all_out, is_writing, opened_if, put_text, written_by};
 ghost use Rattle.host_streams.specs.OpenFiles.{HoldsOpen, OthersStay, WritersGo, has_room, names_of, writer_place};
 ghost use Rattle.host_streams.specs.Outputs.{IsOf, PutsIs, destination_of, name_of, open_before, writers_to, with_writer};
 ghost use Rattle.host_streams.specs.Puts.{BeginsBy, EndsPut, IsOver, OpensOr, PutCounts, PutsBy, Spares};

@@ -2,8 +2,8 @@
 ghost use Rattle.std.specs.Prelude.{◌≡◌, ◌<◌, OnErr, length, true};
 ghost use Rattle.world_core.specs.WorldState.{Target};
 ghost use Rattle.world_core.specs.Calls.{Writing, next_count};
-ghost use Rattle.awk_state.specs.SharedState.{Shared};
-ghost use Rattle.awk_state.specs.OutputRows.{written};
+ghost use Rattle.sem_primitives.specs.SharedState.{Shared};
+ghost use Rattle.sem_primitives.specs.OutputMeaning.{written};
 ghost use Rattle.host_streams.specs.Puts.{BeginsBy, BeginsText, EndsPut, IsOver, PutCounts, PutsBy, PutsText};
 
 use awk_values::{Fault, Stop};

@@ -1,7 +1,7 @@
 //! Records of an open stream.
 ghost use Rattle.std.specs.Prelude.{◌≡◌, ◌≢◌, ◌+◌, ◌<◌, ◌≤◌, ◌^◌, ◌++◌, [], length, take, drop, IfOk, OnErr, OnOk, IsTrue, IsFalse, slice_range, vec_capacity, vec_len};
 ghost use Rattle.awk_values.specs.declared.fault.Stop.TheVariants.{NoMemory};
-ghost use Rattle.awk_state.specs.Records.{record_separator};
+ghost use Rattle.sem_primitives.specs.Records.{record_separator};
 ghost use Rattle.world_core.specs.Calls.{Reading, next_count};
 ghost use Rattle.host_streams.specs.Looks.{IsOpen, IsScanned};
 ghost use Rattle.host_streams.specs.Readers.{Answers, EndStays, Fills, GoesOn, HandsMore, HandsOver, HandsTurn, IsLast, MoreCounts, MoreIs, MoreKeeps, NextCounts, NextPhase, OnlyLimit, OnlyReads, ScannedAgain, TurnCounts, TurnPhase, Turns, fresh, left, unread, work};

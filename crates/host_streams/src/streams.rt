@@ -2,9 +2,9 @@
 ghost use Rattle.std.specs.Prelude.{◌≡◌, ℕ, [], None, Some, Ok, IfOk, IfSome, false, map, true};
 ghost use Rattle.world_core.specs.WorldState.{Named, State};
 ghost use Rattle.world_core.specs.Calls.{Kind};
-ghost use Rattle.awk_state.specs.InputRows.{source_of};
-ghost use Rattle.awk_state.specs.OutputRows.{is_writing};
-ghost use Rattle.awk_state.specs.Records.{record_separator};
+ghost use Rattle.sem_primitives.specs.InputMeaning.{source_of};
+ghost use Rattle.sem_primitives.specs.OutputMeaning.{is_writing};
+ghost use Rattle.sem_primitives.specs.Records.{record_separator};
 ghost use Rattle.host_streams.specs.declared.reader.Phase.TheVariants.{Broken, Open};
 ghost use Rattle.host_streams.specs.declared.reader.FileNext.TheVariants.{Failed};
 ghost use Rattle.host_streams.specs.OpenFiles.{FileNextIs, HandsFile, HoldsOpen, IsMissing, OpensFile, OpensReader, OpenCounts, OthersKeep, OthersStay, ReadersAfter, ReadsFile, StartsFile, WritersGo, has_room, kept_named, phase_named, reader_handle, reader_names, reader_place, readers_beside, readers_in};

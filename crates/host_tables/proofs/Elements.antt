@@ -3,9 +3,9 @@ use Rattle.std.proofs.Common.{◌≡◌, ℕ, ◌+◌, ◌<◌, ◌^◌, pos, Li
 use Rattle.std.specs.FinMap as map
 use Rattle.std.proofs.lemmas.List.{length-take-le, map_more, take_more}
 use Rattle.awk_values.specs.declared.value.Value.TheVariants.{StrNum}
-use Rattle.awk_state.specs.ArrayRows.{numbered, stored}
-use Rattle.awk_state.specs.Jobs.{arguments_from, environment_in}
-use Rattle.awk_state.specs.SharedState.{Pairs}
+use Rattle.sem_primitives.specs.ArrayMeaning.{numbered, stored}
+use Rattle.sem_primitives.specs.Jobs.{arguments_from, environment_in}
+use Rattle.sem_primitives.specs.SharedState.{Pairs}
 use Rattle.host_arrays.specs.Pairs.{pairs_at, set_pair}
 use Rattle.host_elements.specs.Forms.{Arrays}
 use Rattle.host_elements.proofs.Elements.{stored-set_pair}

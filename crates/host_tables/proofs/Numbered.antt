@@ -8,7 +8,7 @@ use Rattle.std.proofs.lemmas.Fmt.{decimal_is_IsNumeral}
 use Rattle.std.proofs.lemmas.List.{length-map, length-take-le, map_more}
 use Rattle.std.specs.Str.Parse.{digits_value}
 use Rattle.awk_values.specs.declared.value.Value.TheVariants.{StrNum}
-use Rattle.awk_state.specs.ArrayRows.{numbered}
+use Rattle.sem_primitives.specs.ArrayMeaning.{numbered}
 use Rattle.host_arrays.specs.Pairs.{Pairs, get_pair, is_key, pairs_at, pairs_or_none, set_pair}
 use Rattle.host_arrays.proofs.PairLemmas.{cases_key, set_pair-new}
 use Rattle.host_elements.specs.Forms.{Arrays}

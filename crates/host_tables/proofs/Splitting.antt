@@ -5,14 +5,14 @@ use Rattle.std.specs.FinMap as map
 use Rattle.std.proofs.lemmas.List.{length-map}
 use Rattle.awk_values.specs.Values.{text_of_value}
 use Rattle.awk_values.specs.declared.fault.Fault.{Fault}
-use Rattle.awk_state.specs.ArrayRows.{numbered, with_array}
-use Rattle.awk_state.specs.Fields.{Separator, pieces_of}
-use Rattle.awk_state.specs.Numbers.{number_word}
-use Rattle.awk_state.specs.SharedState.{◌>>=◌, settles}
-use Rattle.awk_state.specs.TextRows.{splits_at}
-use Rattle.awk_state.specs.Texts.{counted}
-use Rattle.awk_state.specs.declared.table.Primitive.TheVariants as row
-use Rattle.machine_model.specs.declared.host.HostAnswer.TheVariants as told
+use Rattle.sem_primitives.specs.ArrayMeaning.{numbered, with_array}
+use Rattle.sem_primitives.specs.Fields.{Separator, pieces_of}
+use Rattle.sem_primitives.specs.Numbers.{number_word}
+use Rattle.sem_primitives.specs.SharedState.{◌>>=◌, settles}
+use Rattle.sem_primitives.specs.TextMeaning.{splits_at}
+use Rattle.sem_primitives.specs.Texts.{counted}
+use Rattle.sem_primitives.specs.declared.table.Primitive.TheVariants as row
+use Rattle.wasm_model.specs.declared.host.HostAnswer.TheVariants as told
 use Rattle.wasm_store.specs.declared.trap.TrapKind.{TrapKind}
 use Rattle.wasm_store.specs.declared.word.Word.{Word}
 use Rattle.wasm_store.specs.declared.word.Word.TheVariants.{I64}

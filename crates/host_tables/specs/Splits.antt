@@ -5,10 +5,10 @@ use Rattle.std.specs.declared.alloc.Global.{Global}
 use Rattle.std.specs.FinMap as map
 use Rattle.awk_values.specs.declared.fault.Fault.{Fault}
 use Rattle.awk_values.specs.declared.value.Value.{Value}
-use Rattle.awk_state.specs.Fields.{Separator, pieces_of}
-use Rattle.awk_state.specs.Numbers.{number_word}
-use Rattle.awk_state.specs.Texts.{counted}
-use Rattle.awk_state.specs.declared.sorts.Constant.TheVariants as constant
+use Rattle.sem_primitives.specs.Fields.{Separator, pieces_of}
+use Rattle.sem_primitives.specs.Numbers.{number_word}
+use Rattle.sem_primitives.specs.Texts.{counted}
+use Rattle.sem_primitives.specs.declared.sorts.Constant.TheVariants as constant
 use Rattle.wasm_store.specs.declared.trap.TrapKind.{TrapKind}
 use Rattle.wasm_store.specs.declared.word.Word.{Word}
 use Rattle.wasm_store.specs.declared.word.Word.TheVariants.{I64}

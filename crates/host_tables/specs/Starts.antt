@@ -1,8 +1,8 @@
 -- All tables but those of files and the main input, as a form of the host; what a run is started with.
 use Rattle.std.specs.Prelude.{◌||◌, Bool, [], ◌∷◌, codes, map as map_list, pos}
 use Rattle.std.specs.FinMap as map
-use Rattle.awk_state.specs.Jobs.{JobForm, is_long, arguments_from, environment_in}
-use Rattle.awk_state.specs.SharedState.{Shared}
+use Rattle.sem_primitives.specs.Jobs.{JobForm, is_long, arguments_from, environment_in}
+use Rattle.sem_primitives.specs.SharedState.{Shared}
 use Rattle.host_elements.specs.Forms.{Arrays, HostForm}
 use Rattle.host_names.specs.Forms.{pair_of, with_all}
 use Rattle.host_names.specs.declared.names.NamedText.{NamedText}

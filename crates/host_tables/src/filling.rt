@@ -2,7 +2,7 @@
 ghost use Rattle.std.specs.Prelude.{◌≡◌, ◌+◌, None, OnErr, OnOk, decimal, map, true};
 ghost use Rattle.std.specs.FinMap as maps;
 ghost use Rattle.std.specs.List.{All};
-ghost use Rattle.awk_state.specs.ArrayRows.{numbered};
+ghost use Rattle.sem_primitives.specs.ArrayMeaning.{numbered};
 ghost use Rattle.awk_values.specs.declared.value.Value.{Value as AnyValue};
 ghost use Rattle.host_arrays.specs.Pairs.{pairs_at, set_pair};
 ghost use Rattle.host_format.specs.Spans.{IsInside, span_text};

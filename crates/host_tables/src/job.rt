@@ -1,7 +1,7 @@
 //! What a run is started with.
 ghost use Rattle.std.specs.List.{list_any};
 ghost use Rattle.std.specs.Prelude.{◌≡◌, ◌||◌};
-ghost use Rattle.awk_state.specs.Jobs.{fault_of_job, is_long};
+ghost use Rattle.sem_primitives.specs.Jobs.{fault_of_job, is_long};
 ghost use Rattle.host_tables.specs.Starts.{empty_job, is_long_pair, job_of};
 
 use awk_values::{Bytes, Fault};

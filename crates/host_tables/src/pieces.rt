@@ -2,8 +2,8 @@
 ghost use Rattle.std.specs.Prelude.{◌≡◌, IfErr, IfNone, IfOk, IfSome, false, true};
 ghost use Rattle.awk_values.specs.Values.{text_of_value};
 ghost use Rattle.awk_values.specs.declared.fault.Stop.TheVariants as stops;
-ghost use Rattle.awk_state.specs.Fields.{Separator, pieces_of};
-ghost use Rattle.awk_state.specs.TextRows.{splits_at};
+ghost use Rattle.sem_primitives.specs.Fields.{Separator, pieces_of};
+ghost use Rattle.sem_primitives.specs.TextMeaning.{splits_at};
 ghost use Rattle.host_format.specs.Outcomes.{IsStopOf};
 ghost use Rattle.host_format.specs.Separators.{IsAnySep, IsSep};
 ghost use Rattle.host_format.specs.Spans.{AreSpans};
@@ -11,7 +11,7 @@ ghost use Rattle.host_tables.specs.Splits.{ArePieces, IsFound, Parts};
 
 use awk_values::{Bytes, Fault, Stop, Value, to_text};
 use host_format::{Sep, Span, split_text};
-use kept_expressions::Expressions;
+use host_expressions::Expressions;
 use std::alloc::{AllocError, Global};
 
 /// The pieces of a text at a separator.

@@ -2,8 +2,8 @@
 ghost use Rattle.std.specs.Prelude.{◌≡◌, List, ℕ, None, length, map, true};
 ghost use Rattle.std.specs.FinMap as maps;
 ghost use Rattle.std.specs.List.{All};
-ghost use Rattle.awk_state.specs.ArrayRows.{numbered};
-ghost use Rattle.awk_state.specs.declared.table.Primitive.TheVariants as row;
+ghost use Rattle.sem_primitives.specs.ArrayMeaning.{numbered};
+ghost use Rattle.sem_primitives.specs.declared.table.Primitive.TheVariants as row;
 ghost use Rattle.host_format.specs.Spans.{IsInside, span_text};
 ghost use Rattle.host_step.specs.declared.import.Import.{Import};
 ghost use Rattle.host_values.specs.Calls.{spare};
@@ -20,7 +20,7 @@ use host_format::Span;
 use host_handles::Handles;
 use host_texts::counted;
 use host_values::Refusal;
-use kept_expressions::Expressions;
+use host_expressions::Expressions;
 use std::alloc::Global;
 use wasm_store::Word;
 

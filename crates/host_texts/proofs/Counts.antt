@@ -1,8 +1,8 @@
 -- A count as a number.
 use Rattle.std.proofs.Common.{◌≡◌, ◌<◌, ◌≤◌, ◌^◌, ℕ, ℤ, pos, nat_le, unsigned_abs, Bool, true, false, if◌then◌else◌, refl, ap, ◌∙◌, arith}
 use Rattle.std.proofs.lemmas.Bool.Decides.{nat_tests}
-use Rattle.awk_state.specs.Numbers.{number_by}
-use Rattle.awk_state.specs.Texts.{counted, or_largest}
+use Rattle.sem_primitives.specs.Numbers.{number_by}
+use Rattle.sem_primitives.specs.Texts.{counted, or_largest}
 
 by_test : (z : ℤ) (b : Bool) (e : nat_le (unsigned_abs z) (2 ^ 53) ≡ b) → (or_largest (number_by z b e)).number ≡ (if b then z else pos (2 ^ 53))
 by_test z true e = refl

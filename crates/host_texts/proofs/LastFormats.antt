@@ -4,14 +4,14 @@ use Rattle.std.specs.Prelude.{◌&&◌}
 use Rattle.std.specs.FinMap as map
 use Rattle.awk_values.specs.declared.fault.Fault.{Fault}
 use Rattle.awk_values.specs.declared.value.Value.{Value}
-use Rattle.awk_state.specs.InTurn.{listed_in_turn}
-use Rattle.awk_state.specs.OutputRows.{sprintf_row}
-use Rattle.awk_state.specs.Table.{listed_meaning}
-use Rattle.awk_state.specs.declared.sorts.Answer.{Answer}
-use Rattle.awk_state.specs.declared.sorts.Answer.TheVariants as answer
-use Rattle.awk_state.specs.declared.sorts.Constant.TheVariants as constant
-use Rattle.awk_state.specs.declared.sorts.Sort.TheVariants as sort
-use Rattle.awk_state.specs.declared.table.Listed.TheVariants as listed
+use Rattle.sem_primitives.specs.InTurn.{listed_in_turn}
+use Rattle.sem_primitives.specs.OutputMeaning.{sprintf_row}
+use Rattle.sem_primitives.specs.Table.{listed_meaning}
+use Rattle.sem_primitives.specs.declared.sorts.Answer.{Answer}
+use Rattle.sem_primitives.specs.declared.sorts.Answer.TheVariants as answer
+use Rattle.sem_primitives.specs.declared.sorts.Constant.TheVariants as constant
+use Rattle.sem_primitives.specs.declared.sorts.Sort.TheVariants as sort
+use Rattle.sem_primitives.specs.declared.table.Listed.TheVariants as listed
 use Rattle.wasm_store.specs.declared.word.Word.{Word}
 use Rattle.host_step.specs.Arguments.{and_then, constant_front, decode, no_more}
 use Rattle.host_step.specs.HostState.{HostState}

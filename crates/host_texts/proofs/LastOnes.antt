@@ -4,8 +4,8 @@ use Rattle.std.specs.Prelude.{◌&&◌}
 use Rattle.std.proofs.lemmas.Bool.Decides.{nat_tests}
 use Rattle.std.proofs.lemmas.List.{length-drop}
 use Rattle.awk_values.specs.declared.value.Value.{Value}
-use Rattle.awk_state.specs.InTurn.{listed_in_turn}
-use Rattle.awk_state.specs.declared.table.Listed.TheVariants.{Sprintf}
+use Rattle.sem_primitives.specs.InTurn.{listed_in_turn}
+use Rattle.sem_primitives.specs.declared.table.Listed.TheVariants.{Sprintf}
 use Rattle.host_step.specs.HostStep.{last_of}
 
 less_twice : (a n : ℕ) → n ≤ a → a - (a - n) ≡ n

@@ -4,20 +4,20 @@ use Rattle.std.specs.Prelude.{is_some}
 use Rattle.awk_values.specs.declared.fault.Fault.{Fault}
 use Rattle.awk_values.specs.Values.{text_of_value}
 use Rattle.awk_values.specs.declared.value.Value.{Value as AnyValue}
-use Rattle.awk_state.specs.ArrayRows.{join_row}
-use Rattle.awk_state.specs.FieldRows.{done, field_number, field_row, set_field_row, set_special_row, with_field}
-use Rattle.awk_state.specs.Numbers.{Number}
-use Rattle.awk_state.specs.SharedState.{Inner, ◌>>=◌, settles, special_of}
-use Rattle.awk_state.specs.Sorts.{InAnswer, Row}
-use Rattle.awk_state.specs.Table.{answer_of}
-use Rattle.awk_state.specs.TextRows.{index_row, length_row, lower_row, match_row, matches_row, substitute_row, substituted_row, upper_row}
-use Rattle.awk_state.specs.declared.sorts.Answer.{Answer}
-use Rattle.awk_state.specs.declared.sorts.Answer.TheVariants as answer
-use Rattle.awk_state.specs.declared.sorts.Argument.{Argument}
-use Rattle.awk_state.specs.declared.sorts.Argument.TheVariants as argument
-use Rattle.awk_state.specs.declared.sorts.Constant.TheVariants as constant
-use Rattle.awk_state.specs.declared.sorts.Sort.TheVariants as sort
-use Rattle.awk_state.specs.declared.table.Primitive.TheVariants as row
+use Rattle.sem_primitives.specs.ArrayMeaning.{join_row}
+use Rattle.sem_primitives.specs.FieldMeaning.{done, field_number, field_row, set_field_row, set_special_row, with_field}
+use Rattle.sem_primitives.specs.Numbers.{Number}
+use Rattle.sem_primitives.specs.SharedState.{Inner, ◌>>=◌, settles, special_of}
+use Rattle.sem_primitives.specs.Sorts.{InAnswer, Row}
+use Rattle.sem_primitives.specs.Table.{answer_of}
+use Rattle.sem_primitives.specs.TextMeaning.{index_row, length_row, lower_row, match_row, matches_row, substitute_row, substituted_row, upper_row}
+use Rattle.sem_primitives.specs.declared.sorts.Answer.{Answer}
+use Rattle.sem_primitives.specs.declared.sorts.Answer.TheVariants as answer
+use Rattle.sem_primitives.specs.declared.sorts.Argument.{Argument}
+use Rattle.sem_primitives.specs.declared.sorts.Argument.TheVariants as argument
+use Rattle.sem_primitives.specs.declared.sorts.Constant.TheVariants as constant
+use Rattle.sem_primitives.specs.declared.sorts.Sort.TheVariants as sort
+use Rattle.sem_primitives.specs.declared.table.Primitive.TheVariants as row
 use Rattle.wasm_store.specs.declared.trap.TrapKind.{TrapKind}
 use Rattle.wasm_store.specs.declared.word.Word.{Word}
 use Rattle.host_step.specs.Arguments.{and_then, constant_front, decode, no_more, number_front}

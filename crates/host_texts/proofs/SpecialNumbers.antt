@@ -1,8 +1,8 @@
 -- Special variables by their numbers.
 use Rattle.std.proofs.Common.{◌<◌, lit<}
-use Rattle.awk_state.specs.Constants.{special_number}
-use Rattle.awk_state.specs.declared.constants.Special.{Special}
-use Rattle.awk_state.specs.declared.constants.Special.TheVariants.{Argc, Convfmt, Filename, Fnr, Fs, Nf, Nr, Ofmt, Ofs, Ors, Rlength, Rs, Rstart, Subsep}
+use Rattle.sem_primitives.specs.Constants.{special_number}
+use Rattle.sem_primitives.specs.declared.constants.Special.{Special}
+use Rattle.sem_primitives.specs.declared.constants.Special.TheVariants.{Argc, Convfmt, Filename, Fnr, Fs, Nf, Nr, Ofmt, Ofs, Ors, Rlength, Rs, Rstart, Subsep}
 
 pub number_below : (s : Special) → special_number s < 14
 number_below Argc = lit< tt

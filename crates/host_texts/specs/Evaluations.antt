@@ -6,14 +6,14 @@ use Rattle.awk_values.specs.declared.fault.Fault.{Fault}
 use Rattle.awk_values.specs.Values.{text_of_value}
 use Rattle.awk_values.specs.declared.value.Value.{Value as AnyValue}
 use Rattle.awk_values.specs.declared.value.Value.TheVariants as value
-use Rattle.awk_state.specs.ArrayRows.{join_row}
-use Rattle.awk_state.specs.Constants.{InConstant}
-use Rattle.awk_state.specs.FieldRows.{done, set_special_row}
-use Rattle.awk_state.specs.Numbers.{Number}
-use Rattle.awk_state.specs.SharedState.{Inner, special_of}
-use Rattle.awk_state.specs.TextRows.{index_row, length_row, lower_row, match_row, matches_row, substitute_row, substituted_row, upper_row}
-use Rattle.awk_state.specs.declared.sorts.Constant.{Constant}
-use Rattle.awk_state.specs.declared.sorts.Constant.TheVariants as constant
+use Rattle.sem_primitives.specs.ArrayMeaning.{join_row}
+use Rattle.sem_primitives.specs.Constants.{InConstant}
+use Rattle.sem_primitives.specs.FieldMeaning.{done, set_special_row}
+use Rattle.sem_primitives.specs.Numbers.{Number}
+use Rattle.sem_primitives.specs.SharedState.{Inner, special_of}
+use Rattle.sem_primitives.specs.TextMeaning.{index_row, length_row, lower_row, match_row, matches_row, substitute_row, substituted_row, upper_row}
+use Rattle.sem_primitives.specs.declared.sorts.Constant.{Constant}
+use Rattle.sem_primitives.specs.declared.sorts.Constant.TheVariants as constant
 use Rattle.wasm_store.specs.declared.trap.TrapKind.{TrapKind}
 use Rattle.wasm_store.specs.declared.word.Word.{Word}
 use Rattle.host_step.specs.Arguments.{constant_front, no_more, number_front}

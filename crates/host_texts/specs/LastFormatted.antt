@@ -1,10 +1,10 @@
 -- What formatting the last values of the argument list comes to.
 use Rattle.std.specs.Prelude.{◌≡◌, ◌&&◌, ℕ, nat_le, List, length, Result, Ok, Err}
 use Rattle.awk_values.specs.declared.fault.Fault.{Fault}
-use Rattle.awk_state.specs.InTurn.{listed_in_turn}
-use Rattle.awk_state.specs.OutputRows.{sprintf_row}
-use Rattle.awk_state.specs.declared.sorts.Constant.TheVariants as constant
-use Rattle.awk_state.specs.declared.table.Listed.TheVariants.{Sprintf}
+use Rattle.sem_primitives.specs.InTurn.{listed_in_turn}
+use Rattle.sem_primitives.specs.OutputMeaning.{sprintf_row}
+use Rattle.sem_primitives.specs.declared.sorts.Constant.TheVariants as constant
+use Rattle.sem_primitives.specs.declared.table.Listed.TheVariants.{Sprintf}
 use Rattle.wasm_store.specs.declared.word.Word.{Word}
 use Rattle.host_step.specs.Arguments.{no_more}
 use Rattle.host_step.specs.HostState.{HostState}

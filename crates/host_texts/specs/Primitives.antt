@@ -1,7 +1,7 @@
 -- The primitives on texts, special variables and the record.
 use Rattle.std.specs.Prelude.{Option, Some, None}
-use Rattle.awk_state.specs.declared.table.Primitive.{Primitive}
-use Rattle.awk_state.specs.declared.table.Primitive.TheVariants as row
+use Rattle.sem_primitives.specs.declared.table.Primitive.{Primitive}
+use Rattle.sem_primitives.specs.declared.table.Primitive.TheVariants as row
 use Rattle.host_texts.specs.declared.primitive.TextPrimitive.{TextPrimitive}
 use Rattle.host_texts.specs.declared.primitive.TextPrimitive.TheVariants.{GetSpecial, SetSpecial, Field, SetField, Length, Matches, Match, Sub, SubResult, Substr, SubstrFrom, Index, Lower, Upper, Join}
 

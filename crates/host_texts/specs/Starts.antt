@@ -2,9 +2,9 @@
 use Rattle.std.specs.Prelude.{ℕ, List, [], ◌∷◌, codes, slice_set}
 use Rattle.awk_values.specs.declared.value.Value.{Value}
 use Rattle.awk_values.specs.declared.value.Value.TheVariants.{Text}
-use Rattle.awk_state.specs.Constants.{special_number}
-use Rattle.awk_state.specs.declared.constants.Special.{Special}
-use Rattle.awk_state.specs.declared.constants.Special.TheVariants.{Convfmt, Fs, Ofmt, Ofs, Ors, Rs, Subsep}
+use Rattle.sem_primitives.specs.Constants.{special_number}
+use Rattle.sem_primitives.specs.declared.constants.Special.{Special}
+use Rattle.sem_primitives.specs.declared.constants.Special.TheVariants.{Convfmt, Fs, Ofmt, Ofs, Ors, Rs, Subsep}
 
 abbrev pub with_text : Special → List ℕ → List Value → List Value
 with_text s text values = slice_set values (special_number s) (Text text)

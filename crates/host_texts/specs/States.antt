@@ -2,9 +2,9 @@
 use Rattle.std.specs.Prelude.{List, [], get_or}
 use Rattle.awk_values.specs.declared.value.Value.{Value}
 use Rattle.awk_values.specs.declared.value.Value.TheVariants.{Uninit}
-use Rattle.awk_state.specs.Constants.{special_number}
-use Rattle.awk_state.specs.SharedState.{Inner}
-use Rattle.awk_state.specs.declared.constants.Special.{Special}
+use Rattle.sem_primitives.specs.Constants.{special_number}
+use Rattle.sem_primitives.specs.SharedState.{Inner}
+use Rattle.sem_primitives.specs.declared.constants.Special.{Special}
 use Rattle.host_step.specs.HostState.{HostState}
 use Rattle.host_fields.specs.Held.{Held}
 use Rattle.host_texts.specs.declared.texts.Texts.{Texts}

@@ -1,9 +1,9 @@
 //! Primitives that change special variables, or the text of a substitution.
 ghost use Rattle.std.specs.Prelude.{◌≡◌, ◌<◌, ◌≤◌, ◌^◌, IfErr, IfOk, IfSome, OnErr, pos};
-ghost use Rattle.awk_state.specs.SharedState.{Inner, with_special};
-ghost use Rattle.awk_state.specs.declared.constants.Special.{Special as AnySpecial};
-ghost use Rattle.awk_state.specs.TextRows.{match_length, match_row, match_start, substitute_row, with_match};
-ghost use Rattle.awk_state.specs.Texts.{counted};
+ghost use Rattle.sem_primitives.specs.SharedState.{Inner, with_special};
+ghost use Rattle.sem_primitives.specs.declared.constants.Special.{Special as AnySpecial};
+ghost use Rattle.sem_primitives.specs.TextMeaning.{match_length, match_row, match_start, substitute_row, with_match};
+ghost use Rattle.sem_primitives.specs.Texts.{counted};
 ghost use Rattle.host_step.specs.HostState.{HostState};
 ghost use Rattle.host_format.specs.Outcomes.{IsStopOf};
 ghost use Rattle.host_texts.specs.Evaluations.{Evaluates, evaluation, number_reply, settled};
@@ -16,11 +16,11 @@ use crate::reply::{Evaluated, Reply, counted};
 use crate::spent::Spent;
 use crate::texts::Texts;
 use crate::words::{flag_front, value_third};
-use awk_state::Special;
+use sem_primitives::Special;
 use awk_values::{Fault, Stop, Value};
 use host_handles::Handles;
 use host_values::{Refusal, ends, value_after, value_front};
-use kept_expressions::Expressions;
+use host_expressions::Expressions;
 use std::alloc::{AllocError, Global};
 use wasm_store::{TrapKind, Word};
 

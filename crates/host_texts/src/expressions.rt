@@ -3,8 +3,8 @@ ghost use Rattle.std.specs.Prelude.{◌≡◌, ◌<◌, ◌≤◌, ◌^◌, IfEr
 ghost use Rattle.awk_values.specs.Values.{text_of_value};
 ghost use Rattle.awk_values.specs.declared.fault.Stop.TheVariants as stops;
 ghost use Rattle.ere_syntax.specs.Tree.{Tree};
-ghost use Rattle.awk_state.specs.FirstMatch.{expression_of, first_match};
-ghost use Rattle.awk_state.specs.TextRows.{matches_row};
+ghost use Rattle.sem_primitives.specs.FirstMatch.{expression_of, first_match};
+ghost use Rattle.sem_primitives.specs.TextMeaning.{matches_row};
 ghost use Rattle.host_step.specs.HostState.{HostState};
 ghost use Rattle.host_format.specs.Outcomes.{IsStopOf};
 ghost use Rattle.host_texts.specs.Evaluations.{Evaluates, evaluation, replied};
@@ -16,7 +16,7 @@ use crate::spent::Spent;
 use awk_values::{Fault, Stop, Value};
 use host_handles::Handles;
 use host_values::{Refusal, ends, value_after, value_front};
-use kept_expressions::{Expressions, Matcher};
+use host_expressions::{Expressions, Matcher};
 use std::alloc::{AllocError, Global};
 use wasm_store::Word;
 

@@ -1,7 +1,7 @@
 //! Two parts of a key.
 ghost use Rattle.std.specs.Prelude.{◌≡◌, ◌+◌, ◌++◌, ◌^◌, IfOk, nat_le};
-ghost use Rattle.awk_state.specs.ValueRows.{within_limit};
-ghost use Rattle.awk_state.specs.declared.constants.Special.{Special as AnySpecial};
+ghost use Rattle.sem_primitives.specs.ValueMeaning.{within_limit};
+ghost use Rattle.sem_primitives.specs.declared.constants.Special.{Special as AnySpecial};
 ghost use Rattle.awk_values.specs.Values.{text_of_value};
 ghost use Rattle.host_step.specs.HostState.{HostState};
 ghost use Rattle.host_texts.specs.Evaluations.{Evaluates, evaluation, replied};
@@ -11,7 +11,7 @@ ghost use Rattle.host_texts.specs.declared.primitive.TextPrimitive.{TextPrimitiv
 use crate::reply::{Evaluated, Reply};
 use crate::spent::Spent;
 use crate::texts::Texts;
-use awk_state::Special;
+use sem_primitives::Special;
 use awk_values::{Bytes, Fault, Value};
 use host_handles::Handles;
 use host_values::{Refusal, ends, push_text, text_len, value_after, value_front};

@@ -1,10 +1,10 @@
 //! The formatted text of the last values of the argument list.
 ghost use Rattle.std.specs.Prelude.{◌≡◌, ◌≤◌, ◌&&◌, IfErr, IfOk, List, ℕ, None, length, nat_le};
 ghost use Rattle.std.specs.FinMap as map;
-ghost use Rattle.awk_state.specs.InTurn.{listed_in_turn};
-ghost use Rattle.awk_state.specs.OutputRows.{sprintf_row};
-ghost use Rattle.awk_state.specs.declared.sorts.Constant.{Constant};
-ghost use Rattle.awk_state.specs.declared.table.Listed.{Listed as AnyListed};
+ghost use Rattle.sem_primitives.specs.InTurn.{listed_in_turn};
+ghost use Rattle.sem_primitives.specs.OutputMeaning.{sprintf_row};
+ghost use Rattle.sem_primitives.specs.declared.sorts.Constant.{Constant};
+ghost use Rattle.sem_primitives.specs.declared.table.Listed.{Listed as AnyListed};
 ghost use Rattle.host_step.specs.Arguments.{constant_front};
 ghost use Rattle.host_step.specs.HostState.{HostState};
 ghost use Rattle.host_step.specs.HostStep.{last_of};

@@ -2,7 +2,7 @@
 ghost use Rattle.std.specs.Prelude.{◌≡◌};
 ghost use Rattle.host_texts.specs.Primitives.{text_primitive};
 
-use awk_state::Primitive;
+use sem_primitives::Primitive;
 
 /// A primitive that looks at values, at special variables, and at the record and its fields, and at nothing else.
 #[derive(Clone, Copy, Debug, PartialEq, Eq, Drop)]

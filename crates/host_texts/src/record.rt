@@ -1,8 +1,8 @@
 //! Primitives on special variables, the record and its fields.
 ghost use Rattle.std.specs.Prelude.{◌≡◌, ◌≢◌, pos, IfErr, IfOk, OnErr, OnOk};
 ghost use Rattle.awk_values.specs.Values.{text_of_value};
-ghost use Rattle.awk_state.specs.FieldRows.{done, set_special, set_special_row, with_record};
-ghost use Rattle.awk_state.specs.SharedState.{Inner, special_of};
+ghost use Rattle.sem_primitives.specs.FieldMeaning.{done, set_special, set_special_row, with_record};
+ghost use Rattle.sem_primitives.specs.SharedState.{Inner, special_of};
 ghost use Rattle.host_step.specs.HostState.{HostState};
 ghost use Rattle.host_format.specs.Outcomes.{IsStopOf};
 ghost use Rattle.host_fields.specs.Calls.{count_set, field_read, field_set};
@@ -15,7 +15,7 @@ use crate::reply::{Evaluated, Reply};
 use crate::spent::Spent;
 use crate::texts::Texts;
 use crate::words::special_front;
-use awk_state::Special;
+use sem_primitives::Special;
 use awk_values::{Fault, Stop, Value, to_number};
 use host_handles::Handles;
 use host_values::{Refusal, ends, number_front, value_front};

@@ -1,6 +1,6 @@
 //! What calls answer.
 ghost use Rattle.std.specs.Prelude.{◌≡◌};
-ghost use Rattle.awk_state.specs.Texts.{counted};
+ghost use Rattle.sem_primitives.specs.Texts.{counted};
 
 use crate::spent::Spent;
 use awk_values::{Fault, Value};

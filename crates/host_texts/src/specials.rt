@@ -1,12 +1,12 @@
 //! The special variables.
 ghost use Rattle.std.specs.Prelude.{◌≡◌, ◌<◌, ◌^◌, IfOk, OnOk, slice_set};
-ghost use Rattle.awk_state.specs.Constants.{special_number};
-ghost use Rattle.awk_state.specs.SharedState.{specials_at_start};
-ghost use Rattle.awk_state.specs.declared.constants.Special.{Special as AnySpecial};
+ghost use Rattle.sem_primitives.specs.Constants.{special_number};
+ghost use Rattle.sem_primitives.specs.SharedState.{specials_at_start};
+ghost use Rattle.sem_primitives.specs.declared.constants.Special.{Special as AnySpecial};
 ghost use Rattle.host_texts.specs.Starts.{with_blanks, with_ends, with_formats, with_text};
 ghost use Rattle.host_texts.specs.States.{specials_of};
 
-use awk_state::Special;
+use sem_primitives::Special;
 use awk_values::{Bytes, Value};
 use std::alloc::{AllocError, Global};
 

@@ -1,13 +1,13 @@
 //! What these imports read and change.
 ghost use Rattle.std.specs.Prelude.{◌≡◌, None, IfOk};
-ghost use Rattle.awk_state.specs.SharedState.{specials_at_start};
-ghost use Rattle.awk_state.specs.declared.constants.Special.{Special as AnySpecial};
+ghost use Rattle.sem_primitives.specs.SharedState.{specials_at_start};
+ghost use Rattle.sem_primitives.specs.declared.constants.Special.{Special as AnySpecial};
 ghost use Rattle.host_texts.specs.States.{no_record, specials_of};
 
 use crate::specials::Specials;
 use awk_values::Value;
 use host_fields::Record;
-use kept_expressions::Expressions;
+use host_expressions::Expressions;
 use std::alloc::{AllocError, Global};
 
 /// What these imports read and change of the state that a script and its host share.

@@ -1,12 +1,12 @@
 //! What the words of a call say, beside what `host_values` reads.
 ghost use Rattle.std.specs.Prelude.{◌≡◌};
 ghost use Rattle.std.specs.FinMap as map;
-ghost use Rattle.awk_state.specs.Constants.{flag_at};
-ghost use Rattle.awk_state.specs.declared.sorts.Constant.{Constant};
+ghost use Rattle.sem_primitives.specs.Constants.{flag_at};
+ghost use Rattle.sem_primitives.specs.declared.sorts.Constant.{Constant};
 ghost use Rattle.host_step.specs.Arguments.{constant_front};
 ghost use Rattle.host_values.specs.Fronts.{handle_front, lent_handle, owned};
 
-use awk_state::Special;
+use sem_primitives::Special;
 use awk_values::Value;
 use host_handles::Handles;
 use wasm_store::{TrapKind, Word};

@@ -5,7 +5,7 @@ use Rattle.std.specs.Ordering.{int_cmp, int_eq}
 use Rattle.std.specs.Cmp.{int_cmp_total, signed_Decides}
 use Rattle.std.specs.FinMap as map
 use Rattle.std.specs.FinMap.{FinMap}
-use Rattle.awk_state.specs.Constants.{fault_at, faults}
+use Rattle.sem_primitives.specs.Constants.{fault_at, faults}
 
 -- the numbers of faults count from 1
 pub fault_from_one : (n : ℕ) → n ≢ 0 → slice_get faults (n - 1) ≡ fault_at n

@@ -3,9 +3,9 @@ use Rattle.std.specs.Prelude.{ℕ, ◌≡◌, ◌≢◌, ◌<◌, ◌^◌, pos, 
 use Rattle.std.specs.Int.{w64, cast_unsigned}
 use Rattle.std.specs.FinMap as map
 use Rattle.awk_values.specs.declared.value.Value.{Value as AnyValue}
-use Rattle.awk_state.specs.Constants.{flag_number}
-use Rattle.machine_model.specs.declared.host.HostAnswer.{HostAnswer}
-use Rattle.machine_model.specs.declared.host.HostAnswer.TheVariants as told
+use Rattle.sem_primitives.specs.Constants.{flag_number}
+use Rattle.wasm_model.specs.declared.host.HostAnswer.{HostAnswer}
+use Rattle.wasm_model.specs.declared.host.HostAnswer.TheVariants as told
 use Rattle.wasm_store.specs.declared.word.Word.{Word}
 use Rattle.wasm_store.specs.declared.word.Word.TheVariants.{I32, I64}
 use Rattle.host_step.specs.Answers.{refusal}

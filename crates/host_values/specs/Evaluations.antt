@@ -9,10 +9,10 @@ use Rattle.awk_values.specs.Values.{number_of_value, text_of_value, truth_of_val
 use Rattle.awk_values.specs.declared.fault.Fault.{Fault}
 use Rattle.awk_values.specs.declared.value.Value.{Value as AnyValue}
 use Rattle.awk_values.specs.declared.value.Value.TheVariants as value
-use Rattle.awk_state.specs.Constants.{InConstant}
-use Rattle.awk_state.specs.ValueRows.{truncated, within_limit}
-use Rattle.awk_state.specs.declared.sorts.Constant.{Constant}
-use Rattle.awk_state.specs.declared.sorts.Constant.TheVariants as constant
+use Rattle.sem_primitives.specs.Constants.{InConstant}
+use Rattle.sem_primitives.specs.ValueMeaning.{truncated, within_limit}
+use Rattle.sem_primitives.specs.declared.sorts.Constant.{Constant}
+use Rattle.sem_primitives.specs.declared.sorts.Constant.TheVariants as constant
 use Rattle.wasm_store.specs.declared.trap.TrapKind.{TrapKind}
 use Rattle.wasm_store.specs.declared.word.Word.{Word}
 use Rattle.host_step.specs.Arguments.{constant_front, no_more, number_front, place_front}

@@ -1,7 +1,7 @@
 -- The primitives on values alone.
 use Rattle.std.specs.Prelude.{Option, Some, None}
-use Rattle.awk_state.specs.declared.table.Primitive.{Primitive}
-use Rattle.awk_state.specs.declared.table.Primitive.TheVariants as row
+use Rattle.sem_primitives.specs.declared.table.Primitive.{Primitive}
+use Rattle.sem_primitives.specs.declared.table.Primitive.TheVariants as row
 use Rattle.host_values.specs.declared.primitive.ValuePrimitive.{ValuePrimitive}
 use Rattle.host_values.specs.declared.primitive.ValuePrimitive.TheVariants.{Num, Lit, Uninit, Dup, ToNum, IntOf, Truth, Compare, Concat, Pow, Fail}
 

@@ -3,8 +3,8 @@ use Rattle.std.specs.Prelude.{ℕ, ◌≡◌, ◌≢◌, ℤ, List, [], ◌∷�
 use Rattle.std.specs.Borrow.{Bor}
 use Rattle.std.specs.FinMap as map
 use Rattle.awk_values.specs.declared.value.Value.{Value}
-use Rattle.machine_model.specs.declared.host.HostAnswer.{HostAnswer}
-use Rattle.machine_model.specs.declared.host.HostAnswer.TheVariants as told
+use Rattle.wasm_model.specs.declared.host.HostAnswer.{HostAnswer}
+use Rattle.wasm_model.specs.declared.host.HostAnswer.TheVariants as told
 use Rattle.wasm_store.specs.declared.trap.TrapKind.{TrapKind}
 use Rattle.wasm_store.specs.declared.word.Word.{Word}
 use Rattle.host_step.specs.Arguments.{no_more}

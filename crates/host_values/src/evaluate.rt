@@ -1,6 +1,6 @@
 //! Primitives on values.
 ghost use Rattle.std.specs.Prelude.{◌≡◌, ◌+◌, ◌++◌, ◌^◌, ◌≤◌, [], IfOk, OnOk, length, nat_le, true};
-ghost use Rattle.awk_state.specs.ValueRows.{truncated, within_limit};
+ghost use Rattle.sem_primitives.specs.ValueMeaning.{truncated, within_limit};
 ghost use Rattle.host_values.specs.declared.primitive.ValuePrimitive.{ValuePrimitive};
 ghost use Rattle.awk_values.specs.Values.{as_fault, text_of_value};
 ghost use Rattle.awk_text.specs.Number.{truncated_of_text};

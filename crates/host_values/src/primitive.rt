@@ -2,7 +2,7 @@
 ghost use Rattle.std.specs.Prelude.{◌≡◌};
 ghost use Rattle.host_values.specs.Primitives.{value_primitive};
 
-use awk_state::Primitive;
+use sem_primitives::Primitive;
 
 /// A primitive that takes values, numbers and constants, and looks at nothing else.
 #[derive(Clone, Copy, Debug, PartialEq, Eq, Drop)]

@@ -1,6 +1,6 @@
 -- Laws of doing one thing after another.
 use Rattle.std.proofs.Common.{◌≡◌, refl, sym, ◌∙◌}
-use Rattle.mid_program.specs.ScriptState.{Outcome, Gives, Stops, Doing, go_on, ◌>>=◌, ◌>>◌, give, nothing}
+use Rattle.sem_scripts.specs.ScriptState.{Outcome, Gives, Stops, Doing, go_on, ◌>>=◌, ◌>>◌, give, nothing}
 
 -- the same, followed by what is the same
 pub under : {A B : Type 0} (m : Doing A) (f f' : A → Doing B) → ((a : A) → f a ≡ f' a) → (◌>>=◌ m f) ≡ (◌>>=◌ m f')

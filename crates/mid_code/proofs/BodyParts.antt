@@ -7,8 +7,8 @@ use Rattle.awk_grammar.specs.declared.tree.Stmt.{Stmt}
 use Rattle.awk_resolve.specs.ViewFunctions.{view_functions}
 use Rattle.awk_resolve.specs.ViewKinds.{view_name_kinds}
 use Rattle.awk_resolve.specs.declared.function_names.FunctionNames.{FunctionNames}
-use Rattle.mid_program.specs.Kinds.{with_bodies}
-use Rattle.mid_program.specs.Names.{Function}
+use Rattle.sem_scripts.specs.Kinds.{with_bodies}
+use Rattle.sem_scripts.specs.Names.{Function}
 use Rattle.mid_program.specs.Texts.{functions_texts, stmts_texts}
 use Rattle.mid_code.specs.ViewBodies.{body_in}
 use Rattle.mid_code.specs.ViewNames.{view_bodies}

@@ -3,13 +3,13 @@ use Rattle.std.proofs.Common.{◌≡◌, ℕ, Bool, true, false, List, [], ◌�
 use Rattle.std.specs.Prelude.{if◌then◌else◌, map, None}
 use Rattle.awk_values.specs.declared.value.Value.{Value}
 use Rattle.awk_values.specs.declared.value.Value.TheVariants as value
-use Rattle.awk_state.specs.declared.sorts.Sort.TheVariants as sort
-use Rattle.awk_state.specs.declared.sorts.Answer.TheVariants as answer
-use Rattle.awk_state.specs.declared.table.Primitive.TheVariants as row
-use Rattle.mid_program.specs.Names.{Name, ArrayName, Variable}
-use Rattle.mid_program.specs.ScriptState.{Local, Scalar, Array as ArrayOf, Doing, ◌>>=◌, give, does}
-use Rattle.mid_program.specs.Steps.{array_number, read_variable, fresh_all}
-use Rattle.mid_program.specs.Meaning.{Calls}
+use Rattle.sem_primitives.specs.declared.sorts.Sort.TheVariants as sort
+use Rattle.sem_primitives.specs.declared.sorts.Answer.TheVariants as answer
+use Rattle.sem_primitives.specs.declared.table.Primitive.TheVariants as row
+use Rattle.sem_scripts.specs.Names.{Name, ArrayName, Variable}
+use Rattle.sem_scripts.specs.ScriptState.{Local, Scalar, Array as ArrayOf, Doing, ◌>>=◌, give, does}
+use Rattle.sem_scripts.specs.Steps.{array_number, read_variable, fresh_all}
+use Rattle.sem_scripts.specs.Meaning.{Calls}
 use Rattle.mid_program.specs.Mid.{Kind, Boxed, Many, Code, Unset, Array, Codes, At, Fresh, Form, Answered, Bare, Perhaps, form_of}
 use Rattle.mid_program.specs.MidMeaning.{Env, Holds, Values, all_evaluated, array_in, boxed, evaluated, locals_of}
 use Rattle.mid_program.specs.Translation.{variable_code, fresh_codes, kind_of}

@@ -15,16 +15,16 @@ use Rattle.std.specs.declared.alloc.Global.{Global}
 use Rattle.awk_resolve.specs.Marks.{bare_name}
 use Rattle.awk_resolve.specs.ViewKinds.{view_name, view_name_kinds}
 use Rattle.awk_resolve.specs.declared.function_names.NameKind.{NameKind}
-use Rattle.awk_state.specs.Constants.{flag_number}
-use Rattle.awk_state.specs.declared.constants.Special.TheVariants.{Fs}
-use Rattle.awk_state.specs.declared.sorts.Sort.TheVariants as sort
-use Rattle.awk_state.specs.declared.table.Listed.TheVariants as listed
-use Rattle.awk_state.specs.declared.table.Primitive.TheVariants as row
+use Rattle.sem_primitives.specs.Constants.{flag_number}
+use Rattle.sem_primitives.specs.declared.constants.Special.TheVariants.{Fs}
+use Rattle.sem_primitives.specs.declared.sorts.Sort.TheVariants as sort
+use Rattle.sem_primitives.specs.declared.table.Listed.TheVariants as listed
+use Rattle.sem_primitives.specs.declared.table.Primitive.TheVariants as row
 use Rattle.awk_tokens.specs.declared.words.Builtin.{Builtin}
 use Rattle.awk_tokens.specs.declared.words.Builtin.TheVariants as builtin
 use Rattle.mid_program.specs.Mid.{Code, Codes, End, At, Fixed, Do, Over, Choose, Let, Array, Unset, Call as Called}
-use Rattle.mid_program.specs.Names.{Name, Scope, array_of, function_at, function_number}
-use Rattle.mid_program.specs.Steps.{ere_in, is_ere}
+use Rattle.sem_scripts.specs.Names.{Name, Scope, array_of, function_at, function_number}
+use Rattle.sem_scripts.specs.Steps.{ere_in, is_ere}
 use Rattle.mid_program.specs.Translation.{FieldTarget, applied_code, argument_codes, code_of, codes_of, ere_code, fresh_codes, given_code, host, keeping, kept_code, key_code, one, passed_code, record_code, special_code, substituted_at, target_in, truncated_code, two, zero_code}
 use Rattle.mid_program.specs.ViewCode.{before, followed, view, views}
 use Rattle.mid_code.specs.Keys.{each_code, key_of}

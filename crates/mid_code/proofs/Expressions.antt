@@ -4,24 +4,24 @@ use Rattle.std.specs.Prelude.{if◌then◌else◌, Some}
 use Rattle.awk_values.specs.Values.{truth_of_value}
 use Rattle.awk_values.specs.declared.value.Value.{Value}
 use Rattle.awk_values.specs.declared.value.Value.TheVariants as value
-use Rattle.awk_state.specs.Constants.{special_number, special_at, flag_number, flag_at}
-use Rattle.awk_state.specs.Numbers.{Number as AnyNumber}
-use Rattle.awk_state.specs.Table.{arguments_of}
-use Rattle.awk_state.specs.declared.constants.Special.{Special}
-use Rattle.awk_state.specs.declared.constants.Special.TheVariants.{Argc, Convfmt, Filename, Fnr, Fs, Nf, Nr, Ofmt, Ofs, Ors, Rlength, Rs, Rstart, Subsep}
-use Rattle.awk_state.specs.declared.sorts.Sort.TheVariants as sort
-use Rattle.awk_state.specs.declared.sorts.Constant.TheVariants as constant
-use Rattle.awk_state.specs.declared.sorts.Argument.TheVariants as argument
-use Rattle.awk_state.specs.declared.table.Primitive.TheVariants as row
+use Rattle.sem_primitives.specs.Constants.{special_number, special_at, flag_number, flag_at}
+use Rattle.sem_primitives.specs.Numbers.{Number as AnyNumber}
+use Rattle.sem_primitives.specs.Table.{arguments_of}
+use Rattle.sem_primitives.specs.declared.constants.Special.{Special}
+use Rattle.sem_primitives.specs.declared.constants.Special.TheVariants.{Argc, Convfmt, Filename, Fnr, Fs, Nf, Nr, Ofmt, Ofs, Ors, Rlength, Rs, Rstart, Subsep}
+use Rattle.sem_primitives.specs.declared.sorts.Sort.TheVariants as sort
+use Rattle.sem_primitives.specs.declared.sorts.Constant.TheVariants as constant
+use Rattle.sem_primitives.specs.declared.sorts.Argument.TheVariants as argument
+use Rattle.sem_primitives.specs.declared.table.Primitive.TheVariants as row
 use Rattle.awk_values.specs.declared.comparison.CompareOp.{CompareOp}
-use Rattle.awk_state.proofs.Words.{number_again}
+use Rattle.sem_primitives.proofs.Words.{number_again}
 use Rattle.mid_program.specs.declared.mid.Operation.TheVariants.{Inline, AsNumber}
 use Rattle.mid_program.specs.declared.mid.Arithmetic.{Arithmetic}
-use Rattle.mid_program.specs.Names.{ArrayName, Scope, Variable, Reserved, variable_of, array_of}
-use Rattle.mid_program.specs.Names as names
-use Rattle.mid_program.specs.ScriptState.{Doing, ◌>>=◌, give, settled, does, asks}
-use Rattle.mid_program.specs.Steps.{compared, stream_number, input_number, numeric, zero_number, one_number, truth_value, number_in, computed, power_operator, array_number, read_variable}
-use Rattle.mid_program.specs.Meaning.{Calls, asked}
+use Rattle.sem_scripts.specs.Names.{ArrayName, Scope, Variable, Reserved, variable_of, array_of}
+use Rattle.sem_scripts.specs.Names as names
+use Rattle.sem_scripts.specs.ScriptState.{Doing, ◌>>=◌, give, settled, does, asks}
+use Rattle.sem_scripts.specs.Steps.{compared, stream_number, input_number, numeric, zero_number, one_number, truth_value, number_in, computed, power_operator, array_number, read_variable}
+use Rattle.sem_scripts.specs.Meaning.{Calls, asked}
 use Rattle.mid_program.specs.Mid.{Kind, Code, Do, Compare, Ask, Number, Text, Unset, Array, Choose, Codes, End, At, Fixed, Form, form_of}
 use Rattle.mid_program.specs.MidMeaning.{Env, Holds, Values, all_evaluated, boxed, evaluated, numbered, or_constant, or_zero, row_of, then_row, truth_in, operated}
 use Rattle.mid_program.specs.Translation.{host, one, two, zero_code, one_code, truth_code, untruth_code, record_code, variable_code}

@@ -12,8 +12,8 @@ use Rattle.awk_resolve.specs.ViewFunctions.{view_functions}
 use Rattle.awk_resolve.specs.ViewKinds.{view_name_kinds}
 use Rattle.awk_resolve.specs.declared.function_names.NameKind.{NameKind}
 use Rattle.awk_resolve.specs.declared.function_names.FunctionNames.{FunctionNames}
-use Rattle.mid_program.specs.Kinds.{with_bodies}
-use Rattle.mid_program.specs.Names.{Name, same_name, next_place, or_past, names_length, functions_length, function_in, function_at, place_in, arrays_before, kind_at}
+use Rattle.sem_scripts.specs.Kinds.{with_bodies}
+use Rattle.sem_scripts.specs.Names.{Name, same_name, next_place, or_past, names_length, functions_length, function_in, function_at, place_in, arrays_before, kind_at}
 use Rattle.mid_program.specs.Texts.{text_place}
 use Rattle.mid_program.specs.View.{view_texts}
 use Rattle.mid_code.specs.ViewNames.{array_numbers, function_from, place_found, place_from, place_of_function}

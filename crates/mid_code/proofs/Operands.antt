@@ -3,14 +3,14 @@ use Rattle.std.proofs.Common.{◌≡◌, ℕ, Bool, true, false, List, Some, Non
 use Rattle.awk_values.specs.Values.{truth_of_value}
 use Rattle.awk_values.specs.declared.fault.Fault.{Fault}
 use Rattle.awk_values.specs.declared.value.Value.{Value}
-use Rattle.awk_state.specs.Numbers.{Number as AnyNumber, or_range}
-use Rattle.awk_state.specs.ValueRows.{number_of_row}
-use Rattle.awk_state.specs.declared.sorts.Sort.TheVariants as sort
-use Rattle.awk_state.specs.declared.sorts.Answer.TheVariants as answer
-use Rattle.awk_state.proofs.Words.{number_again}
-use Rattle.mid_program.specs.ScriptState.{Doing, ◌>>=◌, give, settled}
-use Rattle.mid_program.specs.Steps.{truth_number, truth_value, number_in, zero_number}
-use Rattle.mid_program.specs.Meaning.{Calls}
+use Rattle.sem_primitives.specs.Numbers.{Number as AnyNumber, or_range}
+use Rattle.sem_primitives.specs.ValueMeaning.{number_of_row}
+use Rattle.sem_primitives.specs.declared.sorts.Sort.TheVariants as sort
+use Rattle.sem_primitives.specs.declared.sorts.Answer.TheVariants as answer
+use Rattle.sem_primitives.proofs.Words.{number_again}
+use Rattle.sem_scripts.specs.ScriptState.{Doing, ◌>>=◌, give, settled}
+use Rattle.sem_scripts.specs.Steps.{truth_number, truth_value, number_in, zero_number}
+use Rattle.sem_scripts.specs.Meaning.{Calls}
 use Rattle.mid_program.specs.Mid.{Kind, Code, Codes, End, At, Form, Answered, Bare, Perhaps, form_of}
 use Rattle.mid_program.specs.MidMeaning.{Env, Holds, Values, all_evaluated, boxed, evaluated, numbered, then_row, truth_in}
 use Rattle.mid_code.proofs.Binding.{As, assoc, bind_as, over, under}

@@ -4,24 +4,24 @@ use Rattle.std.specs.Prelude.{if◌then◌else◌, None}
 use Rattle.awk_values.specs.Operators.{is_zero}
 use Rattle.awk_values.specs.declared.value.Value.{Value}
 use Rattle.awk_values.specs.declared.value.Value.TheVariants as value
-use Rattle.awk_state.specs.Numbers.{Number as AnyNumber}
-use Rattle.awk_state.specs.declared.answers.InputAnswer.{InputAnswer}
-use Rattle.awk_state.specs.declared.answers.InputAnswer.TheVariants as input
-use Rattle.awk_state.specs.declared.sorts.Sort.TheVariants as sort
-use Rattle.awk_state.specs.declared.sorts.Answer.TheVariants as answer
-use Rattle.awk_state.specs.declared.sorts.Constant.TheVariants as constant
-use Rattle.awk_state.specs.declared.sorts.Argument.TheVariants as argument
-use Rattle.awk_state.specs.declared.table.Primitive.TheVariants as row
+use Rattle.sem_primitives.specs.Numbers.{Number as AnyNumber}
+use Rattle.sem_primitives.specs.declared.answers.InputAnswer.{InputAnswer}
+use Rattle.sem_primitives.specs.declared.answers.InputAnswer.TheVariants as input
+use Rattle.sem_primitives.specs.declared.sorts.Sort.TheVariants as sort
+use Rattle.sem_primitives.specs.declared.sorts.Answer.TheVariants as answer
+use Rattle.sem_primitives.specs.declared.sorts.Constant.TheVariants as constant
+use Rattle.sem_primitives.specs.declared.sorts.Argument.TheVariants as argument
+use Rattle.sem_primitives.specs.declared.table.Primitive.TheVariants as row
 use Rattle.awk_grammar.specs.Token as token
 use Rattle.awk_grammar.specs.Tree.{Tree, Var, Index}
 use Rattle.mid_program.specs.declared.mid.Arithmetic.TheVariants as inline
 use Rattle.mid_program.specs.declared.mid.Operation.{Operation}
 use Rattle.mid_program.specs.declared.mid.Operation.TheVariants.{AsNumber}
-use Rattle.mid_program.specs.Names.{ArrayName, Numbered, Given, Scope, Variable, Reserved, variable_of, array_of}
-use Rattle.mid_program.specs.Names as names
-use Rattle.mid_program.specs.ScriptState.{Doing, ◌>>=◌, ◌>>◌, give, nothing, settled, does, asks}
-use Rattle.mid_program.specs.Steps.{Operator, numeric, zero_number, one_number, number_in, computed, step_operator, array_number, read_variable, store_variable, Place, Named, Element, FieldAt, read_place, store_place, stored, received, replaced_in}
-use Rattle.mid_program.specs.Meaning.{Calls, asked}
+use Rattle.sem_scripts.specs.Names.{ArrayName, Numbered, Given, Scope, Variable, Reserved, variable_of, array_of}
+use Rattle.sem_scripts.specs.Names as names
+use Rattle.sem_scripts.specs.ScriptState.{Doing, ◌>>=◌, ◌>>◌, give, nothing, settled, does, asks}
+use Rattle.sem_scripts.specs.Steps.{Operator, numeric, zero_number, one_number, number_in, computed, step_operator, array_number, read_variable, store_variable, Place, Named, Element, FieldAt, read_place, store_place, stored, received, replaced_in}
+use Rattle.sem_scripts.specs.Meaning.{Calls, asked}
 use Rattle.mid_program.specs.Mid.{Kind, Global, Parameter, Code, Do, AskLine, FileLine, Array, Seq, Let, Bound, End, At, Form, Answered, Bare, Perhaps, a_value, a_number, form_at, form_of}
 use Rattle.mid_program.specs.MidMeaning.{Env, Holds, all_evaluated, boxed, evaluated, held, numbered, or_constant, row_of, store_slot, then_row, three_values, replacing, when_read, when_replaced}
 use Rattle.mid_program.specs.Translation.{host, one, two, one_code, copied, moved, step_of, store_variable_code, set_variable_code, read_at, store_at, stored_at, stepped_at, step_after_at, updated_at, kept_at, substituted_at, target_in}

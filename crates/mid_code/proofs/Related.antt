@@ -7,26 +7,26 @@ use Rattle.awk_values.specs.Operators.{is_zero}
 use Rattle.awk_values.specs.declared.fault.Fault.{Fault}
 use Rattle.awk_values.specs.declared.value.Value.{Value}
 use Rattle.awk_values.specs.declared.value.Value.TheVariants as value
-use Rattle.awk_state.specs.Carried.{carried_out}
-use Rattle.awk_state.specs.Numbers.{Number as AnyNumber, number_of, outcome_of}
-use Rattle.awk_state.specs.SharedState.{Shared, Does}
-use Rattle.awk_state.specs.Sorts.{Row, InAnswer, OrFault}
-use Rattle.awk_state.specs.Table.{arguments_of, answer_of, can_fault, meaning, listed_meaning}
-use Rattle.awk_state.specs.declared.answers.InputAnswer.{InputAnswer}
-use Rattle.awk_state.specs.declared.answers.InputAnswer.TheVariants as input
-use Rattle.awk_state.specs.declared.table.Primitive.{Primitive}
-use Rattle.awk_state.specs.declared.table.Primitive.TheVariants as row
+use Rattle.sem_primitives.specs.Carried.{carried_out}
+use Rattle.sem_primitives.specs.Numbers.{Number as AnyNumber, number_of, outcome_of}
+use Rattle.sem_primitives.specs.SharedState.{Shared, Does}
+use Rattle.sem_primitives.specs.Sorts.{Row, InAnswer, OrFault}
+use Rattle.sem_primitives.specs.Table.{arguments_of, answer_of, can_fault, meaning, listed_meaning}
+use Rattle.sem_primitives.specs.declared.answers.InputAnswer.{InputAnswer}
+use Rattle.sem_primitives.specs.declared.answers.InputAnswer.TheVariants as input
+use Rattle.sem_primitives.specs.declared.table.Primitive.{Primitive}
+use Rattle.sem_primitives.specs.declared.table.Primitive.TheVariants as row
 use Rattle.mid_program.specs.declared.mid.Operation.{Operation}
 use Rattle.mid_program.specs.declared.mid.Operation.TheVariants.{Host, Inline, AsNumber, FieldNumber}
-use Rattle.awk_state.specs.declared.answers.AssignAnswer.{AssignAnswer}
-use Rattle.awk_state.specs.declared.answers.AssignAnswer.TheVariants as assign
-use Rattle.mid_program.specs.Names.{Name, ArrayName, Numbered, Given}
-use Rattle.mid_program.specs.ScriptState.{Local, State, Stop, OutOfTurns, TooDeep, Nexted, Exited, Returned, Doing, ◌>>=◌, ◌>>◌, give, nothing, stop, look, change, settled, perform, does, does_listed, asks, spend, spend_all, global_value, local_value, local_array, with_global, with_local, with_range}
-use Rattle.mid_program.specs.Steps.{one_number, input_number, array_number, field_checked}
-use Rattle.mid_program.specs.Meaning.{Calls, unless_pending, asked, assign_pending}
-use Rattle.mid_program.specs.Statements.{Flow, Normal, Broke, Continued, after, after_round, loop, at_key, over_keys, with_status, entered}
-use Rattle.mid_program.specs.Items.{range_open}
-use Rattle.mid_program.specs.ScriptRun.{kind_of, announced, arrays_made, on_assignment, first_assigned, for_record, on_input, records_done, part, Parts, all_parts}
+use Rattle.sem_primitives.specs.declared.answers.AssignAnswer.{AssignAnswer}
+use Rattle.sem_primitives.specs.declared.answers.AssignAnswer.TheVariants as assign
+use Rattle.sem_scripts.specs.Names.{Name, ArrayName, Numbered, Given}
+use Rattle.sem_scripts.specs.ScriptState.{Local, State, Stop, OutOfTurns, TooDeep, Nexted, Exited, Returned, Doing, ◌>>=◌, ◌>>◌, give, nothing, stop, look, change, settled, perform, does, does_listed, asks, spend, spend_all, global_value, local_value, local_array, with_global, with_local, with_range}
+use Rattle.sem_scripts.specs.Steps.{one_number, input_number, array_number, field_checked}
+use Rattle.sem_scripts.specs.Meaning.{Calls, unless_pending, asked, assign_pending}
+use Rattle.sem_scripts.specs.Statements.{Flow, Normal, Broke, Continued, after, after_round, loop, at_key, over_keys, with_status, entered}
+use Rattle.sem_scripts.specs.Items.{range_open}
+use Rattle.sem_scripts.specs.ScriptRun.{kind_of, announced, arrays_made, on_assignment, first_assigned, for_record, on_input, records_done, part, Parts, all_parts}
 use Rattle.mid_program.specs.Mid.{Kind, Slot, Global, Parameter, Code, Do, Over, Compare, Call, Ask, AskLine, FileLine, Replace, Number, Text, Unset, Get, Set, Array, IsOpen, Choose, Seq, Let, Bound, Codes, End, At, Fixed, Fresh, Step, Eval, Block, If, Loop, Each, Break, Continue, Next, Exit, ExitWith, Return, Mark, Steps, NoStep, Then, Program, Form, a_value, answer_by, slot_form, form_of, arguments, parameters_at}
 use Rattle.mid_program.specs.Sorted.{calls_of}
 use Rattle.mid_program.specs.MidMeaning.{global_name, routine_name, routine_at, mid_called, mid_done, mid_parts, Env, Holds, Values, all_evaluated, all_stepped, arithmetic_of, boxed, converted, evaluated, held, holds, keyed, listing, locals_of, numbered, operated, or_zero, read_as, read_slot, replacing, row_of, store_slot, stepped, three_values, truth_in, when_read, when_replaced}

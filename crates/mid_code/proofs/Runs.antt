@@ -1,13 +1,13 @@
 -- The laws of runs, of mid code and of scripts.
 use Rattle.std.proofs.Common.{Option, Some, None, subst}
 use Rattle.awk_values.specs.declared.fault.Fault.{Fault}
-use Rattle.awk_state.specs.Jobs.{fault_of_job}
-use Rattle.mid_program.specs.Names.{Resolved}
-use Rattle.mid_program.specs.ScriptState.{State, Faulted, OutOfTurns, TooDeep, Nexted, Exited, Returned, Outcome, Gives, Stops, Doing}
-use Rattle.mid_program.specs.ScriptRun.{Ending, all_parts, ending, resolved_run, start, unless}
-use Rattle.mid_program.specs.Names.{names_length}
+use Rattle.sem_primitives.specs.Jobs.{fault_of_job}
+use Rattle.sem_scripts.specs.Names.{Resolved}
+use Rattle.sem_scripts.specs.ScriptState.{State, Faulted, OutOfTurns, TooDeep, Nexted, Exited, Returned, Outcome, Gives, Stops, Doing}
+use Rattle.sem_scripts.specs.ScriptRun.{Ending, all_parts, ending, resolved_run, start, unless}
+use Rattle.sem_scripts.specs.Names.{names_length}
 use Rattle.std.specs.Prelude.{map}
-use Rattle.mid_program.specs.Kept.{IsKept, IsNoExhaustion, MoreTurnsKeep, NeverTooDeep}
+use Rattle.sem_scripts.specs.Kept.{IsKept, IsNoExhaustion, MoreTurnsKeep, NeverTooDeep}
 use Rattle.mid_program.specs.Mid.{Program}
 use Rattle.mid_program.specs.MidMeaning.{global_name, mid_parts, mid_run_in}
 use Rattle.mid_program.specs.Translation.{program_of}

@@ -2,14 +2,14 @@
 use Rattle.std.proofs.Common.{◌≡◌, ℕ, zero, suc, ◌+◌, Bool, true, false, List, [], ◌∷◌, refl, sym, ◌∙◌}
 use Rattle.std.specs.Prelude.{if◌then◌else◌}
 use Rattle.awk_grammar.specs.Tree.{Tree}
-use Rattle.mid_program.specs.Names.{Scope}
-use Rattle.mid_program.specs.ScriptState.{Doing, ◌>>=◌, ◌>>◌, give, look}
-use Rattle.mid_program.specs.Meaning.{Calls}
+use Rattle.sem_scripts.specs.Names.{Scope}
+use Rattle.sem_scripts.specs.ScriptState.{Doing, ◌>>=◌, ◌>>◌, give, look}
+use Rattle.sem_scripts.specs.Meaning.{Calls}
 use Rattle.mid_program.specs.MidMeaning.{evaluated}
 use Rattle.mid_program.specs.Translation.{code_of}
 use Rattle.mid_code.proofs.Binding.{assoc, under}
-use Rattle.mid_program.specs.ScriptState.{nothing, change}
-use Rattle.mid_program.specs.Statements.{Flow, Normal, after, test_of, all_done}
+use Rattle.sem_scripts.specs.ScriptState.{nothing, change}
+use Rattle.sem_scripts.specs.Statements.{Flow, Normal, after, test_of, all_done}
 use Rattle.mid_program.specs.Mid.{Step, Block, If, NoStep, Then}
 use Rattle.mid_program.specs.MidMeaning.{stepped, all_stepped}
 use Rattle.mid_program.specs.Translation.{steps_code}
@@ -18,12 +18,12 @@ use Rattle.mid_code.proofs.Stands.{AllStand, all_stand, first_part, second_part}
 use Rattle.std.specs.Prelude.{map}
 use Rattle.awk_grammar.specs.Item as item
 use Rattle.awk_grammar.specs.Item.{Item, Pattern}
-use Rattle.mid_program.specs.Names.{Function, Resolved, function_at}
-use Rattle.mid_program.specs.ScriptState.{with_range}
-use Rattle.mid_program.specs.Statements.{called, entered, scope_in}
-use Rattle.mid_program.specs.Items.{top, print_record, pattern_ranges, range_open, range_opens, range_closes, where_met, items_done, begun, ended}
-use Rattle.mid_program.specs.Items.{reads_records}
-use Rattle.mid_program.specs.ScriptRun.{as_name, run_with, parts_of}
+use Rattle.sem_scripts.specs.Names.{Function, Resolved, function_at}
+use Rattle.sem_scripts.specs.ScriptState.{with_range}
+use Rattle.sem_scripts.specs.Statements.{called, entered, scope_in}
+use Rattle.sem_scripts.specs.Items.{top, print_record, pattern_ranges, range_open, range_opens, range_closes, where_met, items_done, begun, ended}
+use Rattle.sem_scripts.specs.Items.{reads_records}
+use Rattle.sem_scripts.specs.ScriptRun.{as_name, run_with, parts_of}
 use Rattle.mid_program.specs.Mid.{IsOpen, Mark, Routine}
 use Rattle.mid_program.specs.MidMeaning.{EndsAs, global_name, routine_name, mid_called, mid_parts, routine_at}
 use Rattle.mid_program.specs.Texts.{texts_of_script}
@@ -32,7 +32,7 @@ use Rattle.mid_code.proofs.Expressions.{chosen}
 use Rattle.mid_program.specs.Mid.{Kind, Boxed, Many, parameters_at}
 use Rattle.mid_program.specs.Sorted.{calls_of, is_many}
 use Rattle.mid_program.specs.Texts.{stmt_texts, all_texts}
-use Rattle.mid_program.specs.Names.{Name}
+use Rattle.sem_scripts.specs.Names.{Name}
 use Rattle.mid_program.specs.Translation.{kind_of, declared_code}
 use Rattle.mid_code.proofs.Trees.{Heads}
 use Rattle.mid_code.proofs.Statements.{alone, plainly, holds_same, steps_same}

@@ -4,8 +4,8 @@ use Rattle.std.specs.Prelude.{if◌then◌else◌}
 use Rattle.std.proofs.lemmas.Slice.Eq.{bytes_eq-Decides}
 use Rattle.awk_grammar.specs.Token.{Number, Quoted, Ere}
 use Rattle.awk_grammar.specs.Tree.{Tree, Leaf, Group}
-use Rattle.mid_program.specs.Names.{Resolved, same_name}
-use Rattle.mid_program.specs.Steps.{ere_in}
+use Rattle.sem_scripts.specs.Names.{Resolved, same_name}
+use Rattle.sem_scripts.specs.Steps.{ere_in}
 use Rattle.mid_program.specs.Texts.{texts_in, has_text, once, text_place, texts_of_script, items_texts, functions_texts}
 
 -- the text stands among the texts

@@ -3,22 +3,22 @@ use Rattle.std.proofs.Common.{◌≡◌, ℕ, List, [], ◌++◌, refl, sym, ◌
 use Rattle.std.specs.Prelude.{if◌then◌else◌, Option, Some, None}
 use Rattle.awk_values.specs.Values.{truth_of_value}
 use Rattle.awk_values.specs.declared.value.Value.{Value}
-use Rattle.awk_state.specs.Table.{arguments_of}
-use Rattle.awk_state.specs.Constants.{special_number, special_at}
-use Rattle.awk_state.specs.declared.constants.Destination.{Destination}
-use Rattle.awk_state.specs.declared.sorts.Constant.TheVariants as constant
-use Rattle.awk_state.specs.declared.table.Primitive.TheVariants as row
-use Rattle.awk_state.specs.declared.table.Listed.TheVariants as listed
+use Rattle.sem_primitives.specs.Table.{arguments_of}
+use Rattle.sem_primitives.specs.Constants.{special_number, special_at}
+use Rattle.sem_primitives.specs.declared.constants.Destination.{Destination}
+use Rattle.sem_primitives.specs.declared.sorts.Constant.TheVariants as constant
+use Rattle.sem_primitives.specs.declared.table.Primitive.TheVariants as row
+use Rattle.sem_primitives.specs.declared.table.Listed.TheVariants as listed
 use Rattle.awk_grammar.specs.Tree as tree
 use Rattle.awk_grammar.specs.Tree.{Tree, Trees, NoTree}
 use Rattle.awk_grammar.specs.Stmt as stmt
 use Rattle.awk_grammar.specs.Stmt.{Stmt, Stmts, NoStmt, And, Args, Target, Printing}
-use Rattle.mid_program.specs.Names.{Scope, Variable, Reserved, ArrayName, array_of, variable_of}
-use Rattle.mid_program.specs.Names as names
-use Rattle.mid_program.specs.ScriptState.{Outcome, Gives, Stops, Doing, go_on, ◌>>=◌, ◌>>◌, give, nothing, settled, stop, change, does, does_listed, Nexted, Exited, Returned}
-use Rattle.mid_program.specs.Steps.{number_in, array_number, store_variable}
-use Rattle.mid_program.specs.Meaning.{Calls, value_of, values_of, key_of}
-use Rattle.mid_program.specs.Statements.{Flow, Normal, Broke, Continued, after, after_round, loop, over_keys, operands_of, with_last, with_target, destination_of, listed_of, put, with_status, test_of, maybe_test, plain_done, maybe_done, done_by, all_done}
+use Rattle.sem_scripts.specs.Names.{Scope, Variable, Reserved, ArrayName, array_of, variable_of}
+use Rattle.sem_scripts.specs.Names as names
+use Rattle.sem_scripts.specs.ScriptState.{Outcome, Gives, Stops, Doing, go_on, ◌>>=◌, ◌>>◌, give, nothing, settled, stop, change, does, does_listed, Nexted, Exited, Returned}
+use Rattle.sem_scripts.specs.Steps.{number_in, array_number, store_variable}
+use Rattle.sem_scripts.specs.Meaning.{Calls, value_of, values_of, key_of}
+use Rattle.sem_scripts.specs.Statements.{Flow, Normal, Broke, Continued, after, after_round, loop, over_keys, operands_of, with_last, with_target, destination_of, listed_of, put, with_status, test_of, maybe_test, plain_done, maybe_done, done_by, all_done}
 use Rattle.mid_program.specs.Mid.{Kind, Code, Over, Array, Codes, form_of, Step, Eval as EvalStep}
 use Rattle.mid_program.specs.MidMeaning.{Holds, Values, all_evaluated, boxed, evaluated, holds, keyed, listing, numbered, or_constant, row_of, stepped, all_stepped, truth_in}
 use Rattle.mid_program.specs.Texts.{texts_in, all_texts, target_texts, args_texts, plain_texts, maybe_texts, maybe_plain_texts, stmt_texts, stmts_texts}

@@ -3,18 +3,18 @@ use Rattle.std.proofs.Common.{◌≡◌, ℕ, zero, suc, ◌≤◌, ◌+◌, ◌
 use Rattle.std.specs.Prelude.{if◌then◌else◌, map}
 use Rattle.awk_values.specs.declared.fault.Fault.{Fault}
 use Rattle.awk_values.specs.declared.value.Value.{Value}
-use Rattle.awk_state.specs.Jobs.{fault_of_job}
-use Rattle.awk_state.specs.declared.answers.AssignAnswer.{AssignAnswer}
-use Rattle.awk_state.specs.declared.answers.AssignAnswer.TheVariants as assign
-use Rattle.awk_state.specs.declared.answers.InputAnswer.{InputAnswer}
-use Rattle.awk_state.specs.declared.answers.InputAnswer.TheVariants as input
-use Rattle.mid_program.specs.Names.{names_length}
-use Rattle.awk_state.specs.declared.table.Primitive.TheVariants as row
-use Rattle.mid_program.specs.ScriptState.{Local, Own, State, Stop, Faulted, OutOfTurns, TooDeep, Nexted, Exited, Returned, Outcome, Gives, Stops, Doing, go_on, ◌>>=◌, ◌>>◌, give, nothing, stop, change, settled, or_fault, does, asks, spent, spend}
-use Rattle.mid_program.specs.Meaning.{Calls, unless_pending, asked, assign_pending}
-use Rattle.mid_program.specs.Statements.{Flow, Normal, after_round, loop, at_key, over_keys, returned, entered_with, entered}
-use Rattle.mid_program.specs.ScriptRun.{on_assignment, first_assigned, next_over, for_record, on_input, records_done, part_over, part, all_parts, ending, unless, start, Setting}
-use Rattle.mid_program.specs.Kept.{Grows, IsKept, output_of}
+use Rattle.sem_primitives.specs.Jobs.{fault_of_job}
+use Rattle.sem_primitives.specs.declared.answers.AssignAnswer.{AssignAnswer}
+use Rattle.sem_primitives.specs.declared.answers.AssignAnswer.TheVariants as assign
+use Rattle.sem_primitives.specs.declared.answers.InputAnswer.{InputAnswer}
+use Rattle.sem_primitives.specs.declared.answers.InputAnswer.TheVariants as input
+use Rattle.sem_scripts.specs.Names.{names_length}
+use Rattle.sem_primitives.specs.declared.table.Primitive.TheVariants as row
+use Rattle.sem_scripts.specs.ScriptState.{Local, Own, State, Stop, Faulted, OutOfTurns, TooDeep, Nexted, Exited, Returned, Outcome, Gives, Stops, Doing, go_on, ◌>>=◌, ◌>>◌, give, nothing, stop, change, settled, or_fault, does, asks, spent, spend}
+use Rattle.sem_scripts.specs.Meaning.{Calls, unless_pending, asked, assign_pending}
+use Rattle.sem_scripts.specs.Statements.{Flow, Normal, after_round, loop, at_key, over_keys, returned, entered_with, entered}
+use Rattle.sem_scripts.specs.ScriptRun.{on_assignment, first_assigned, next_over, for_record, on_input, records_done, part_over, part, all_parts, ending, unless, start, Setting}
+use Rattle.sem_scripts.specs.Kept.{Grows, IsKept, output_of}
 use Rattle.mid_program.specs.Mid.{Steps, Program}
 use Rattle.mid_program.specs.Sorted.{calls_of}
 use Rattle.mid_program.specs.MidMeaning.{all_stepped, global_name, routine_name, routine_at, mid_called, mid_done, mid_parts, mid_run_in}

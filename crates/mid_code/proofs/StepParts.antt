@@ -10,12 +10,12 @@ use Rattle.awk_grammar.specs.declared.tree.Stmt.{Stmt}
 use Rattle.awk_resolve.proofs.Names.{drop_at}
 use Rattle.awk_text.specs.Number.{denominator, numerator}
 use Rattle.awk_text.specs.Reading.{exponent_at, fraction_at, numeral_at, sign_at}
-use Rattle.awk_state.specs.declared.constants.Destination.TheVariants as destination
-use Rattle.awk_state.specs.declared.table.Listed.TheVariants as listed
-use Rattle.mid_program.specs.Items.{print_record}
+use Rattle.sem_primitives.specs.declared.constants.Destination.TheVariants as destination
+use Rattle.sem_primitives.specs.declared.table.Listed.TheVariants as listed
+use Rattle.sem_scripts.specs.Items.{print_record}
 use Rattle.mid_program.specs.Mid.{Code as PlainCode, Codes, End, At, Over, Eval, Steps, NoStep, Then}
-use Rattle.mid_program.specs.Names.{Scope}
-use Rattle.mid_program.specs.Statements.{operands_of, with_last}
+use Rattle.sem_scripts.specs.Names.{Scope}
+use Rattle.sem_scripts.specs.Statements.{operands_of, with_last}
 use Rattle.mid_program.specs.Translation.{code_of, codes_of, record_code, step_code, steps_code}
 use Rattle.mid_program.specs.ViewCode.{followed, maybe_then, view, views}
 use Rattle.mid_program.specs.declared.code.Code.{Code}

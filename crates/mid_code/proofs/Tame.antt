@@ -2,12 +2,12 @@
 use Rattle.std.proofs.Common.{◌≡◌, ℕ, zero, suc, ◌≤◌, Bool, List, [], ◌++◌, Result, Ok, Err, append_assoc, append-nil, refl, sym, ap, subst, ◌∙◌, arith}
 use Rattle.awk_values.specs.declared.fault.Fault.{Fault}
 use Rattle.world_core.specs.WorldState.{Action}
-use Rattle.awk_state.specs.SharedState.{Shared, Does, shared_after}
-use Rattle.awk_state.specs.Sorts.{OrFault}
-use Rattle.mid_program.specs.ScriptState.{Local, Own, State, Stop, Faulted, OutOfTurns, TooDeep, Nexted, Exited, Returned, Outcome, Gives, Stops, Doing, go_on, ◌>>=◌, give, stop, change, settled, or_fault, perform, spent, spend}
-use Rattle.mid_program.specs.Statements.{Flow, returned, entered_with, entered}
-use Rattle.mid_program.specs.ScriptRun.{next_over, for_record, part_over, part, all_parts}
-use Rattle.mid_program.specs.Kept.{Grows}
+use Rattle.sem_primitives.specs.SharedState.{Shared, Does, shared_after}
+use Rattle.sem_primitives.specs.Sorts.{OrFault}
+use Rattle.sem_scripts.specs.ScriptState.{Local, Own, State, Stop, Faulted, OutOfTurns, TooDeep, Nexted, Exited, Returned, Outcome, Gives, Stops, Doing, go_on, ◌>>=◌, give, stop, change, settled, or_fault, perform, spent, spend}
+use Rattle.sem_scripts.specs.Statements.{Flow, returned, entered_with, entered}
+use Rattle.sem_scripts.specs.ScriptRun.{next_over, for_record, part_over, part, all_parts}
+use Rattle.sem_scripts.specs.Kept.{Grows}
 use Rattle.mid_program.specs.Mid.{Program}
 use Rattle.mid_program.specs.MidMeaning.{mid_parts, mid_called}
 use Rattle.mid_code.proofs.Related.{Relation, Closed, ClosedRun, ClosedCalls, IsPlainStop, Still, run_same_fuel, called_same_fuel}

@@ -12,7 +12,7 @@ use Rattle.awk_grammar.specs.ViewStmt.{view_stmt, view_stmts}
 use Rattle.awk_grammar.specs.declared.tree.Expr.{Expr, Element, Call, Apply, InList}
 use Rattle.awk_grammar.specs.declared.tree.Stmt.{Stmt, Block}
 use Rattle.awk_grammar.proofs.Views.{apply_is, block_is, call_is, element_is, in_list_is}
-use Rattle.mid_program.specs.Names.{same_name}
+use Rattle.sem_scripts.specs.Names.{same_name}
 use Rattle.mid_program.specs.Texts.{all_texts, has_text, once, stmt_texts, stmts_texts, texts_in}
 use Rattle.mid_program.specs.View.{view_texts}
 

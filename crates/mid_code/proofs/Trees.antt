@@ -5,12 +5,12 @@ use Rattle.awk_text.specs.Escapes.{string_text}
 use Rattle.awk_values.specs.Values.{truth_of_value}
 use Rattle.awk_values.specs.declared.value.Value.{Value}
 use Rattle.awk_values.specs.declared.value.Value.TheVariants as value
-use Rattle.awk_state.specs.Numbers.{Number as AnyNumber}
-use Rattle.awk_state.specs.declared.constants.Special.TheVariants.{Fs}
-use Rattle.awk_state.specs.declared.sorts.Sort.TheVariants as sort
-use Rattle.awk_state.specs.declared.sorts.Argument.TheVariants as argument
-use Rattle.awk_state.specs.declared.table.Primitive.TheVariants as row
-use Rattle.awk_state.specs.declared.table.Listed.TheVariants as listed
+use Rattle.sem_primitives.specs.Numbers.{Number as AnyNumber}
+use Rattle.sem_primitives.specs.declared.constants.Special.TheVariants.{Fs}
+use Rattle.sem_primitives.specs.declared.sorts.Sort.TheVariants as sort
+use Rattle.sem_primitives.specs.declared.sorts.Argument.TheVariants as argument
+use Rattle.sem_primitives.specs.declared.table.Primitive.TheVariants as row
+use Rattle.sem_primitives.specs.declared.table.Listed.TheVariants as listed
 use Rattle.awk_tokens.specs.declared.words.Builtin.{Builtin}
 use Rattle.awk_tokens.specs.declared.words.Builtin.TheVariants as builtin
 use Rattle.awk_grammar.specs.Token.{Plus, Minus, Not, Signed, Times, Over as Divided, Modulo, Set as Put, SetSum, SetProduct, SetPower, Assign, Or, And as Both, Match, Matching, Matches, Differs, Compare, Mul, Pow, Number as Numeral, Quoted, Ere}
@@ -18,10 +18,10 @@ use Rattle.awk_grammar.specs.Tree as tree
 use Rattle.awk_grammar.specs.Tree.{Tree, Leaf, Length, Var, Index, Field, Group, Unary, Pre, Post, Bin, Join, Add, Other, Has, HasList, Cond, Trees, NoTree}
 use Rattle.mid_program.specs.declared.mid.Arithmetic.TheVariants as inline
 use Rattle.mid_program.specs.declared.mid.Operation.TheVariants.{Host, FieldNumber}
-use Rattle.mid_program.specs.Names.{Name, ArrayName, Scope, Reserved, variable_of, array_of, function_number, function_at, is_array}
-use Rattle.mid_program.specs.ScriptState.{Local, Doing, ◌>>=◌, ◌>>◌, give, settled, does, does_listed, asks, spend}
-use Rattle.mid_program.specs.Steps.{Place, Named, Element, FieldAt, constant as number_of_constant, or_nought, numeric, zero_number, truth_value, comparison_of, number_in, computed, sign_operator, product_operator, power_operator, field_checked, array_number, stored, one_number, step_operator, read_place, store_place, received, replaced_in, substituted, ere_text, ere_in, ere_or, is_ere, given_value}
-use Rattle.mid_program.specs.Meaning.{Calls, asked, matched, value_of, values_of, key_of, place_of, name_passed, passed, truncated_of, applied}
+use Rattle.sem_scripts.specs.Names.{Name, ArrayName, Scope, Reserved, variable_of, array_of, function_number, function_at, is_array}
+use Rattle.sem_scripts.specs.ScriptState.{Local, Doing, ◌>>=◌, ◌>>◌, give, settled, does, does_listed, asks, spend}
+use Rattle.sem_scripts.specs.Steps.{Place, Named, Element, FieldAt, constant as number_of_constant, or_nought, numeric, zero_number, truth_value, comparison_of, number_in, computed, sign_operator, product_operator, power_operator, field_checked, array_number, stored, one_number, step_operator, read_place, store_place, received, replaced_in, substituted, ere_text, ere_in, ere_or, is_ere, given_value}
+use Rattle.sem_scripts.specs.Meaning.{Calls, asked, matched, value_of, values_of, key_of, place_of, name_passed, passed, truncated_of, applied}
 use Rattle.mid_program.specs.Mid.{Kind, Code, Do, AskLine, FileLine, Text, Array, Let, At, Form, a_number, form_of, parameters_at}
 use Rattle.mid_program.specs.MidMeaning.{Env, Holds, all_evaluated, boxed, evaluated, listing, row_of}
 use Rattle.mid_program.specs.Texts.{texts_in, all_texts, text_place}

@@ -3,7 +3,7 @@ use Rattle.std.proofs.Common.{◌≡◌, ℕ, Bool, List, [], ◌∷◌, ◌++�
 use Rattle.std.specs.declared.vec.Vec.{Vec}
 use Rattle.std.specs.declared.boxed.Box.{Box}
 use Rattle.std.specs.declared.alloc.Global.{Global}
-use Rattle.awk_state.specs.declared.table.Listed.{Listed}
+use Rattle.sem_primitives.specs.declared.table.Listed.{Listed}
 use Rattle.mid_program.specs.Mid as plain
 use Rattle.mid_program.specs.ViewCode.{before, followed, view, view_row, view_step, view_step_row, view_steps, views}
 use Rattle.mid_program.specs.declared.mid.Operation.{Operation}

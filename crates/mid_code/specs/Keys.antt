@@ -1,9 +1,9 @@
 -- The key of subscripts, from the code of each.
 use Rattle.std.specs.Prelude.{ℕ, List, [], ◌∷◌}
-use Rattle.awk_state.specs.declared.table.Primitive.TheVariants as row
+use Rattle.sem_primitives.specs.declared.table.Primitive.TheVariants as row
 use Rattle.awk_grammar.specs.Tree.{Trees, NoTree, Then}
 use Rattle.mid_program.specs.Mid.{Code, Unset}
-use Rattle.mid_program.specs.Names.{Scope}
+use Rattle.sem_scripts.specs.Names.{Scope}
 use Rattle.mid_program.specs.Translation.{code_of, host, two}
 
 abbrev pub each_code : List (List ℕ) → Scope → Trees → List Code

@@ -2,16 +2,16 @@
 use Rattle.std.specs.Prelude.{ℕ, suc, ◌+◌, if◌then◌else◌, List, [], ◌∷◌, map, Option, Some, None}
 use Rattle.std.specs.Borrow.{Bor}
 use Rattle.std.specs.Map.{lookup}
-use Rattle.awk_state.specs.declared.constants.Special.{Special}
+use Rattle.sem_primitives.specs.declared.constants.Special.{Special}
 use Rattle.awk_grammar.specs.Stmt.{Stmts}
 use Rattle.awk_grammar.specs.ViewStmt.{view_script, view_stmts}
 use Rattle.awk_grammar.specs.declared.tree.Stmt.{Stmt}
 use Rattle.awk_resolve.specs.Kinds.{Function}
 use Rattle.awk_resolve.specs.ViewResolved.{view_resolved}
 use Rattle.awk_resolve.specs.declared.resolved.Resolved.{Resolved as Answer}
-use Rattle.mid_program.specs.Kinds.{scripted}
-use Rattle.mid_program.specs.Names.{Name, Resolved, same_name, next_place, or_past, names_length, place_in}
-use Rattle.mid_program.specs.Names as names
+use Rattle.sem_scripts.specs.Kinds.{scripted}
+use Rattle.sem_scripts.specs.Names.{Name, Resolved, same_name, next_place, or_past, names_length, place_in}
+use Rattle.sem_scripts.specs.Names as names
 use Rattle.mid_code.specs.declared.names.Variable.{Variable}
 use Rattle.mid_code.specs.declared.names.Variable.TheVariants.{Global, Parameter, Reserved}
 

@@ -1,7 +1,7 @@
 -- Where an expression stands, as the code has it.
 use Rattle.std.specs.Prelude.{ℕ, List}
 use Rattle.awk_resolve.specs.ViewKinds.{view_name_kinds}
-use Rattle.mid_program.specs.Names as names
+use Rattle.sem_scripts.specs.Names as names
 use Rattle.mid_program.specs.View.{view_texts}
 use Rattle.mid_code.specs.ViewNames.{script_of}
 use Rattle.mid_code.specs.declared.scope.Scope.{Scope}

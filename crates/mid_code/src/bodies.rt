@@ -2,7 +2,7 @@
 
 ghost use Rattle.std.specs.Prelude.{◌≡◌, IfOk};
 ghost use Rattle.awk_grammar.specs.ViewStmt.{view_script, view_stmts};
-ghost use Rattle.mid_program.specs.Kinds.{bodies as bodies_of};
+ghost use Rattle.sem_scripts.specs.Kinds.{bodies as bodies_of};
 ghost use Rattle.mid_code.specs.ViewBodies.{body_in};
 ghost use Rattle.mid_code.specs.ViewNames.{view_bodies};
 

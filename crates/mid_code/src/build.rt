@@ -1,14 +1,14 @@
 //! Small codes.
 
 ghost use Rattle.std.specs.Prelude.{◌≡◌, true, false, IfOk, pos};
-ghost use Rattle.awk_state.specs.declared.sorts.Sort.TheVariants as sort;
+ghost use Rattle.sem_primitives.specs.declared.sorts.Sort.TheVariants as sort;
 ghost use Rattle.mid_program.specs.Mid as plain;
 ghost use Rattle.mid_program.specs.Translation.{one, two, record_code, set_variable_code, special_code, store_variable_code, truth_code, untruth_code, variable_code};
 ghost use Rattle.mid_program.specs.ViewCode.{view, view_slot, views};
 ghost use Rattle.mid_code.specs.ViewNames.{view_variable};
 
 use crate::names::Variable;
-use awk_state::{Listed, Primitive, Sort, Special};
+use sem_primitives::{Listed, Primitive, Sort, Special};
 use awk_values::CompareOp;
 use mid_program::{Code, Operand, Operation, Slot};
 use std::alloc::{AllocError, Global};

@@ -3,7 +3,7 @@
 ghost use Rattle.std.specs.Prelude.{◌≡◌, ◌≤◌, length, map, IfOk, OnOk};
 ghost use Rattle.awk_grammar.specs.Tree.{Apply, Call, GetInto, Has, Index, NoTree, Post, Pre, Then};
 ghost use Rattle.awk_grammar.specs.View.{view as tree, views as trees, view_binary, view_step};
-ghost use Rattle.awk_state.specs.declared.table.Primitive.TheVariants as row;
+ghost use Rattle.sem_primitives.specs.declared.table.Primitive.TheVariants as row;
 ghost use Rattle.mid_program.specs.Mid as plain;
 ghost use Rattle.mid_program.specs.Translation.{applied_code, code_of, codes_of, ere_code, ere_for, key_code, kept_code, one, truncated_code};
 ghost use Rattle.mid_program.specs.ViewCode.{followed, view, views};
@@ -23,7 +23,7 @@ use crate::parts::{
 use crate::peek::{bare_name, ere_in, is_ere, is_match, is_quotient};
 use crate::scope::Scope;
 use awk_grammar::{BinaryOp, Builtin, Expr, StepOp};
-use awk_state::{Listed, Primitive, Sort};
+use sem_primitives::{Listed, Primitive, Sort};
 use mid_program::{Arithmetic, Code, Operand};
 use std::alloc::AllocError;
 

@@ -5,7 +5,7 @@ ghost use Rattle.std.specs.Prelude.{◌≡◌, ◌≤◌, ◌+◌, ◌||◌, Lis
 ghost use Rattle.awk_grammar.specs.Item.{Item as PlainItem};
 ghost use Rattle.awk_grammar.specs.View.{view as tree};
 ghost use Rattle.awk_grammar.specs.ViewStmt.{view_item, view_items, view_pattern, view_stmts as tree_stmts};
-ghost use Rattle.mid_program.specs.Items.{item_ranges, print_record, range_count, reads_records};
+ghost use Rattle.sem_scripts.specs.Items.{item_ranges, print_record, range_count, reads_records};
 ghost use Rattle.mid_program.specs.Mid as plain;
 ghost use Rattle.mid_program.specs.Translation.{begin_code, code_of, end_code, items_code, one, record_code, steps_code, where_code};
 ghost use Rattle.mid_program.specs.ViewCode.{maybe_then, view_step, view_steps};
@@ -19,7 +19,7 @@ use crate::statement::{
     block, boxed, chosen, done_where, evaluated, in_turn, nothing, push_step, steps,
 };
 use awk_grammar::{Expr, Item, Pattern, Stmt};
-use awk_state::{Destination, Listed};
+use sem_primitives::{Destination, Listed};
 use mid_program::{Code, Operand, Step};
 use std::alloc::{AllocError, Global};
 

@@ -1,9 +1,9 @@
 //! Laws of scripts and of their code, each the contract of a function that does nothing.
-ghost use Rattle.mid_program.specs.Kept.{MoreTurnsKeep, NeverTooDeep};
+ghost use Rattle.sem_scripts.specs.Kept.{MoreTurnsKeep, NeverTooDeep};
 ghost use Rattle.mid_program.specs.Mid.{Program};
 ghost use Rattle.mid_program.specs.MidMeaning.{EndsAs, mid_run_in};
-ghost use Rattle.mid_program.specs.Names.{Resolved};
-ghost use Rattle.mid_program.specs.ScriptRun.{resolved_run};
+ghost use Rattle.sem_scripts.specs.Names.{Resolved};
+ghost use Rattle.sem_scripts.specs.ScriptRun.{resolved_run};
 ghost use Rattle.mid_program.specs.Translation.{program_of};
 
 /// The code of a script ends as the script does: with the same status or fault, or still going on, and with the same output, whatever its job,

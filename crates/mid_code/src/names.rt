@@ -3,11 +3,11 @@
 ghost use Rattle.std.specs.Prelude.{◌≡◌, ℕ, ◌+◌, List, map, IfOk};
 ghost use Rattle.awk_resolve.specs.ViewFunctions.{view_functions};
 ghost use Rattle.awk_resolve.specs.ViewKinds.{view_name_kinds};
-ghost use Rattle.mid_program.specs.Names.{arrays_before, function_number, kind_at, special_array, special_in, special_named, special_names};
+ghost use Rattle.sem_scripts.specs.Names.{arrays_before, function_number, kind_at, special_array, special_in, special_named, special_names};
 ghost use Rattle.mid_code.specs.ViewNames.{array_numbers, function_from, global_number, place_found, place_from, plain_special, script_of};
 
 use awk_resolve::{FunctionNames, NameKind, Resolved};
-use awk_state::Special;
+use sem_primitives::Special;
 use indexmap::IndexMap;
 use std::alloc::{AllocError, Global};
 

@@ -2,15 +2,15 @@
 
 ghost use Rattle.std.specs.Prelude.{◌≡◌, IfOk};
 ghost use Rattle.awk_grammar.specs.View.{view_binary, view_unary};
-ghost use Rattle.awk_state.specs.declared.sorts.Sort.TheVariants as sort;
+ghost use Rattle.sem_primitives.specs.declared.sorts.Sort.TheVariants as sort;
 ghost use Rattle.mid_program.specs.Mid as plain;
-ghost use Rattle.mid_program.specs.Steps.{constant, or_nought};
+ghost use Rattle.sem_scripts.specs.Steps.{constant, or_nought};
 ghost use Rattle.mid_program.specs.Translation.{combined, one_code, prefixed, truth_code, two, zero_code};
 ghost use Rattle.mid_program.specs.ViewCode.{view};
 
 use crate::build::{binary, boxed, chosen, compared, number, truth, unary, untruth};
 use awk_grammar::{BinaryOp, UnaryOp};
-use awk_state::{Primitive, Sort};
+use sem_primitives::{Primitive, Sort};
 use awk_text::number_of;
 use awk_values::CompareOp;
 use mid_program::{Arithmetic, Code, Operation};

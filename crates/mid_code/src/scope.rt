@@ -1,7 +1,7 @@
 //! Where an expression stands.
 
 ghost use Rattle.std.specs.Prelude.{◌≡◌};
-ghost use Rattle.mid_program.specs.Names.{array_of, function_at, function_number, is_array, variable_of};
+ghost use Rattle.sem_scripts.specs.Names.{array_of, function_at, function_number, is_array, variable_of};
 ghost use Rattle.mid_program.specs.Texts.{text_place};
 ghost use Rattle.mid_program.specs.ViewCode.{view_array};
 ghost use Rattle.mid_code.specs.ViewNames.{view_variable};

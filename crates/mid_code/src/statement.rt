@@ -4,11 +4,11 @@ ghost use Rattle.std.specs.Prelude.{◌≡◌, ℕ, List, [], ◌∷◌, ◌++�
 ghost use Rattle.awk_grammar.specs.View.{view as tree};
 ghost use Rattle.awk_grammar.specs.ViewStmt.{view_args, view_jump, view_leaving, view_maybe, view_maybe_simple, view_simple, view_stmt as tree_stmt, view_stmts as tree_stmts, view_target as tree_target, view_word};
 ghost use Rattle.awk_grammar.specs.Stmt.{Jumping, Leave};
-ghost use Rattle.awk_state.specs.declared.table.Primitive.TheVariants as row;
+ghost use Rattle.sem_primitives.specs.declared.table.Primitive.TheVariants as row;
 ghost use Rattle.mid_program.specs.Mid as plain;
-ghost use Rattle.mid_program.specs.Names as names;
-ghost use Rattle.mid_program.specs.Names.{array_of, variable_of};
-ghost use Rattle.mid_program.specs.Statements.{destination_of, listed_of, operands_of, with_target};
+ghost use Rattle.sem_scripts.specs.Names as names;
+ghost use Rattle.sem_scripts.specs.Names.{array_of, variable_of};
+ghost use Rattle.sem_scripts.specs.Statements.{destination_of, listed_of, operands_of, with_target};
 ghost use Rattle.mid_program.specs.Translation.{code_of, codes_of, maybe_step, moved, plain_step, step_code, steps_code, store_variable_code, test_code};
 ghost use Rattle.mid_program.specs.ViewCode.{view, view_array, view_step, view_steps, views};
 ghost use Rattle.mid_code.specs.ViewScope.{scope_of, texts_of};
@@ -18,7 +18,7 @@ use crate::expression::{code, key, push_operands};
 use crate::parts::{host_array, host_whole};
 use crate::scope::Scope;
 use awk_grammar::{Expr, Jump, Leaving, PrintArgs, PrintTarget, PrintWord, SimpleStmt, Stmt};
-use awk_state::{Destination, Listed, Primitive};
+use sem_primitives::{Destination, Listed, Primitive};
 use mid_program::{ArrayName, Code, Operand, Operation, Step};
 use std::alloc::{AllocError, Global};
 

@@ -14,7 +14,7 @@ use crate::build::{
 use crate::names::Variable;
 use crate::scope::Scope;
 use awk_grammar::{AssignOp, Expr, StepOp};
-use awk_state::Primitive;
+use sem_primitives::Primitive;
 use mid_program::{Arithmetic, ArrayName, Code, Operation};
 use std::alloc::{AllocError, Global};
 

@@ -4,7 +4,7 @@ ghost use Rattle.std.specs.Prelude.{◌≡◌, [], ◌∷◌, IfOk, OnOk};
 ghost use Rattle.awk_grammar.specs.View.{view as tree, views as trees};
 ghost use Rattle.awk_grammar.specs.ViewStmt.{view_args, view_item, view_items, view_maybe, view_maybe_simple, view_pattern, view_script, view_simple, view_stmt, view_stmts, view_target};
 ghost use Rattle.awk_resolve.specs.ViewFunctions.{view_functions};
-ghost use Rattle.mid_program.specs.Kinds.{bodies as bodies_of, with_bodies};
+ghost use Rattle.sem_scripts.specs.Kinds.{bodies as bodies_of, with_bodies};
 ghost use Rattle.mid_program.specs.Texts.{all_texts, args_texts, functions_texts, item_texts, items_texts, maybe_plain_texts, maybe_texts, once, pattern_texts, plain_texts, stmt_texts, stmts_texts, target_texts, texts_in, texts_of_script};
 ghost use Rattle.mid_program.specs.View.{view_texts};
 ghost use Rattle.mid_code.specs.ViewNames.{script_of, view_bodies};

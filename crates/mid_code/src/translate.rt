@@ -3,7 +3,7 @@
 ghost use Rattle.std.specs.Prelude.{◌≡◌, List, map, IfOk};
 ghost use Rattle.awk_resolve.specs.ViewKinds.{view_name, view_name_kinds};
 ghost use Rattle.awk_grammar.specs.ViewStmt.{view_items, view_script, view_stmts};
-ghost use Rattle.mid_program.specs.Kinds.{bodies as bodies_of};
+ghost use Rattle.sem_scripts.specs.Kinds.{bodies as bodies_of};
 ghost use Rattle.mid_program.specs.MidMeaning.{EndsAs};
 ghost use Rattle.mid_program.specs.Translation.{begin_code, declared_code, end_code, items_code, kind_of, program_of, program_with, routine_code};
 ghost use Rattle.mid_program.specs.View.{view_declared, view_kind, view_mid, view_routine, view_steps, view_texts};

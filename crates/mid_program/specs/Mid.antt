@@ -4,17 +4,17 @@
 -- by how many others were kept after it (`Bound`); its last use says that it moves what an earlier one copies.
 use Rattle.std.specs.Prelude.{ℕ, zero, suc, Bool, true, false, List, [], ◌∷◌, ℤ}
 use Rattle.awk_values.specs.declared.comparison.CompareOp.{CompareOp}
-use Rattle.awk_state.specs.Table.{arguments_of, answer_of, listed_answer}
-use Rattle.awk_state.specs.declared.sorts.Sort.{Sort}
-use Rattle.awk_state.specs.declared.sorts.Sort.TheVariants as sort
-use Rattle.awk_state.specs.declared.sorts.Argument.{Argument}
-use Rattle.awk_state.specs.declared.sorts.Argument.TheVariants as argument
-use Rattle.awk_state.specs.declared.sorts.Answer.{Answer}
-use Rattle.awk_state.specs.declared.sorts.Answer.TheVariants as answer
-use Rattle.awk_state.specs.declared.table.Listed.{Listed}
+use Rattle.sem_primitives.specs.Table.{arguments_of, answer_of, listed_answer}
+use Rattle.sem_primitives.specs.declared.sorts.Sort.{Sort}
+use Rattle.sem_primitives.specs.declared.sorts.Sort.TheVariants as sort
+use Rattle.sem_primitives.specs.declared.sorts.Argument.{Argument}
+use Rattle.sem_primitives.specs.declared.sorts.Argument.TheVariants as argument
+use Rattle.sem_primitives.specs.declared.sorts.Answer.{Answer}
+use Rattle.sem_primitives.specs.declared.sorts.Answer.TheVariants as answer
+use Rattle.sem_primitives.specs.declared.table.Listed.{Listed}
 use Rattle.mid_program.specs.declared.mid.Operation.{Operation}
 use Rattle.mid_program.specs.declared.mid.Operation.TheVariants.{Host, Inline, AsNumber, FieldNumber}
-use Rattle.mid_program.specs.Names.{ArrayName}
+use Rattle.sem_scripts.specs.Names.{ArrayName}
 
 -- what a name of the program is: a scalar whose value is boxed, one that is a number unless the command line gave it a text, or an array
 pub data Kind : Type 0 where

@@ -6,38 +6,38 @@ use Rattle.awk_values.specs.declared.fault.Fault.{Fault}
 use Rattle.awk_values.specs.declared.value.Value.{Value}
 use Rattle.awk_values.specs.declared.value.Value.TheVariants as value
 use Rattle.world_core.specs.WorldState.{Outside, Source}
-use Rattle.awk_state.specs.Constants.{InConstant, constant_at}
-use Rattle.awk_state.specs.Jobs.{JobForm}
-use Rattle.awk_state.specs.Numbers.{Number as AnyNumber, number_of, outcome_of}
-use Rattle.awk_state.specs.Sorts.{In, InArgument, Row, InAnswer}
-use Rattle.awk_state.specs.ValueRows.{number_of_row}
-use Rattle.awk_state.specs.declared.answers.InputAnswer.{InputAnswer}
-use Rattle.awk_state.specs.declared.answers.InputAnswer.TheVariants as input
-use Rattle.awk_state.specs.declared.constants.Destination.TheVariants.{Standard}
-use Rattle.awk_state.specs.declared.constants.NameKind.TheVariants as kind
-use Rattle.awk_state.specs.declared.constants.Special.TheVariants.{Nf}
-use Rattle.awk_state.specs.declared.sorts.Constant.{Constant}
-use Rattle.awk_state.specs.declared.sorts.Constant.TheVariants as constant
-use Rattle.awk_state.specs.declared.sorts.Sort.{Sort}
-use Rattle.awk_state.specs.declared.sorts.Sort.TheVariants as sort
-use Rattle.awk_state.specs.declared.sorts.Argument.{Argument}
-use Rattle.awk_state.specs.declared.sorts.Argument.TheVariants as argument
-use Rattle.awk_state.specs.declared.sorts.Answer.{Answer}
-use Rattle.awk_state.specs.declared.sorts.Answer.TheVariants as answer
-use Rattle.awk_state.specs.declared.table.Primitive.TheVariants as row
+use Rattle.sem_primitives.specs.Constants.{InConstant, constant_at}
+use Rattle.sem_primitives.specs.Jobs.{JobForm}
+use Rattle.sem_primitives.specs.Numbers.{Number as AnyNumber, number_of, outcome_of}
+use Rattle.sem_primitives.specs.Sorts.{In, InArgument, Row, InAnswer}
+use Rattle.sem_primitives.specs.ValueMeaning.{number_of_row}
+use Rattle.sem_primitives.specs.declared.answers.InputAnswer.{InputAnswer}
+use Rattle.sem_primitives.specs.declared.answers.InputAnswer.TheVariants as input
+use Rattle.sem_primitives.specs.declared.constants.Destination.TheVariants.{Standard}
+use Rattle.sem_primitives.specs.declared.constants.NameKind.TheVariants as kind
+use Rattle.sem_primitives.specs.declared.constants.Special.TheVariants.{Nf}
+use Rattle.sem_primitives.specs.declared.sorts.Constant.{Constant}
+use Rattle.sem_primitives.specs.declared.sorts.Constant.TheVariants as constant
+use Rattle.sem_primitives.specs.declared.sorts.Sort.{Sort}
+use Rattle.sem_primitives.specs.declared.sorts.Sort.TheVariants as sort
+use Rattle.sem_primitives.specs.declared.sorts.Argument.{Argument}
+use Rattle.sem_primitives.specs.declared.sorts.Argument.TheVariants as argument
+use Rattle.sem_primitives.specs.declared.sorts.Answer.{Answer}
+use Rattle.sem_primitives.specs.declared.sorts.Answer.TheVariants as answer
+use Rattle.sem_primitives.specs.declared.table.Primitive.TheVariants as row
 use Rattle.awk_values.specs.declared.comparison.CompareOp.TheVariants.{Equal}
 use Rattle.awk_values.specs.declared.fault.Fault.TheVariants.{Range}
 use Rattle.mid_program.specs.declared.mid.Arithmetic.{Arithmetic}
 use Rattle.mid_program.specs.declared.mid.Arithmetic.TheVariants as inline
 use Rattle.mid_program.specs.declared.mid.Operation.{Operation}
 use Rattle.mid_program.specs.declared.mid.Operation.TheVariants.{Host, Inline, AsNumber, FieldNumber}
-use Rattle.mid_program.specs.ScriptState.{Local, Scalar, Array as ArrayOf, Nexted, Exited, Returned, OutOfTurns, Doing, ◌>>=◌, ◌>>◌, give, nothing, stop, look, change, settled, does, does_listed, asks, spend, global_value, local_value, with_global, with_local, with_range}
-use Rattle.mid_program.specs.Steps.{numeric, zero_number, one_number, truth_number, truth_value, input_number, stream_number, field_checked, array_number, compared}
-use Rattle.mid_program.specs.Meaning.{Calls, asked}
-use Rattle.mid_program.specs.Statements.{Flow, Normal, Broke, Continued, after, after_round, loop, over_keys, with_status, entered}
-use Rattle.mid_program.specs.Items.{range_open}
-use Rattle.mid_program.specs.ScriptRun.{Ending, Parts, Setting, setting_of, run_with, resolved_run}
-use Rattle.mid_program.specs.Names.{Name, Resolved}
+use Rattle.sem_scripts.specs.ScriptState.{Local, Scalar, Array as ArrayOf, Nexted, Exited, Returned, OutOfTurns, Doing, ◌>>=◌, ◌>>◌, give, nothing, stop, look, change, settled, does, does_listed, asks, spend, global_value, local_value, with_global, with_local, with_range}
+use Rattle.sem_scripts.specs.Steps.{numeric, zero_number, one_number, truth_number, truth_value, input_number, stream_number, field_checked, array_number, compared}
+use Rattle.sem_scripts.specs.Meaning.{Calls, asked}
+use Rattle.sem_scripts.specs.Statements.{Flow, Normal, Broke, Continued, after, after_round, loop, over_keys, with_status, entered}
+use Rattle.sem_scripts.specs.Items.{range_open}
+use Rattle.sem_scripts.specs.ScriptRun.{Ending, Parts, Setting, setting_of, run_with, resolved_run}
+use Rattle.sem_scripts.specs.Names.{Name, Resolved}
 use Rattle.mid_program.specs.Mid.{Kind, Boxed, Unboxed, Many, Slot, Global, Parameter, Code, Do, Over, Compare, Call, Ask, AskLine, FileLine, Replace, Number, Text, Unset, Get, Set, Array, IsOpen, Choose, Seq, Let, Bound, Codes, End, At, Fixed, Fresh, Step, Eval, Block, If, Loop, Each, Break, Continue, Next, Exit, ExitWith, Return, Mark, Steps, NoStep, Then, Declared, Routine, Program, Form, Answered, Bare, Perhaps, a_value, answer_by, read_form, slot_form, form_at, form_of, arguments, parameters_at}
 use Rattle.mid_program.specs.Sorted.{calls_of, is_many}
 

@@ -1,19 +1,19 @@
 -- Which mid code is well sorted. Lowering speaks of such code alone; the meaning is total.
 use Rattle.std.specs.Prelude.{ℕ, zero, suc, ◌^◌, T, Bool, true, false, not, ◌&&◌, ◌||◌, nat_le, nat_lt, if◌then◌else◌, List, [], ◌∷◌, ◌++◌, length, map, is_some, unsigned_abs}
-use Rattle.awk_state.specs.Constants.{constant_at}
-use Rattle.awk_state.specs.declared.sorts.Sort.{Sort}
-use Rattle.awk_state.specs.declared.sorts.Sort.TheVariants as sort
-use Rattle.awk_state.specs.declared.sorts.Constant.{Constant}
-use Rattle.awk_state.specs.declared.sorts.Argument.{Argument}
-use Rattle.awk_state.specs.declared.sorts.Argument.TheVariants as argument
-use Rattle.awk_state.specs.declared.sorts.Answer.TheVariants as answer
-use Rattle.awk_state.specs.InTurn.{values_wanted}
-use Rattle.awk_state.specs.declared.table.Listed.{Listed}
-use Rattle.awk_state.specs.declared.table.Primitive.{Primitive}
-use Rattle.awk_state.specs.declared.table.Primitive.TheVariants.{IntOf, Concat, Pow, GetSpecial, SetSpecial, Field, SetField, Elem, SetElem, Has, Delete, Join, Length, Matches, Match, Split, Substr, SubstrFrom, Index, Lower, Upper, GetlineFile, Close, NextFile, Clear, Flush}
+use Rattle.sem_primitives.specs.Constants.{constant_at}
+use Rattle.sem_primitives.specs.declared.sorts.Sort.{Sort}
+use Rattle.sem_primitives.specs.declared.sorts.Sort.TheVariants as sort
+use Rattle.sem_primitives.specs.declared.sorts.Constant.{Constant}
+use Rattle.sem_primitives.specs.declared.sorts.Argument.{Argument}
+use Rattle.sem_primitives.specs.declared.sorts.Argument.TheVariants as argument
+use Rattle.sem_primitives.specs.declared.sorts.Answer.TheVariants as answer
+use Rattle.sem_primitives.specs.InTurn.{values_wanted}
+use Rattle.sem_primitives.specs.declared.table.Listed.{Listed}
+use Rattle.sem_primitives.specs.declared.table.Primitive.{Primitive}
+use Rattle.sem_primitives.specs.declared.table.Primitive.TheVariants.{IntOf, Concat, Pow, GetSpecial, SetSpecial, Field, SetField, Elem, SetElem, Has, Delete, Join, Length, Matches, Match, Split, Substr, SubstrFrom, Index, Lower, Upper, GetlineFile, Close, NextFile, Clear, Flush}
 use Rattle.mid_program.specs.declared.mid.Operation.{Operation}
 use Rattle.mid_program.specs.declared.mid.Operation.TheVariants.{Host}
-use Rattle.mid_program.specs.Names.{ArrayName, Numbered, Given, same_name}
+use Rattle.sem_scripts.specs.Names.{ArrayName, Numbered, Given, same_name}
 use Rattle.mid_program.specs.Mid.{Kind, Boxed, Unboxed, Many, Slot, Global, Parameter, Code, Do, Over, Compare, Call, Ask, AskLine, FileLine, Replace, Number, Text, Unset, Get, Set, Array, IsOpen, Choose, Seq, Let, Bound, Codes, End, At, Fixed, Fresh, Step, Eval, Block, If, Loop, Each, Break, Continue, Next, Exit, ExitWith, Return, Mark, Steps, NoStep, Then, Declared, Routine, Program, Form, Answered, Bare, Perhaps, a_value, form_of, arguments, parameters_at}
 
 -- The primitives that are operations. The others stand behind codes of their own (`Ask`, `AskLine`, `FileLine`, `Replace`, `Compare`, `Text`, `Unset`, `Each`, `Fresh`), behind conversions, or in the run of

@@ -5,8 +5,8 @@ use Rattle.awk_grammar.specs.Token.{Literal, Number, Quoted, Ere}
 use Rattle.awk_grammar.specs.Tree.{Tree, Leaf, Length, Var, Index, Field, Group, Call, Apply, Unary, Pre, Post, Bin, Has, HasList, Cond, Get, GetInto, GetFrom, GetIntoFrom, Trees, NoTree, Then}
 use Rattle.awk_grammar.specs.Stmt.{Args, NoArgs, Listed, Enclosed, Target, NoTarget, Written, Appended, Plain, Eval, Put, Delete, Clear, Stmt, Block, Empty, Simple, If, IfElse, While, Do, For, ForIn, Jumping, Leave, Stmts, NoStmt, And}
 use Rattle.awk_grammar.specs.Item.{Pattern, One, Between, Item, Function, Begin, End, Always, When, Lone, Nothing}
-use Rattle.mid_program.specs.Names.{Function as Defined, Resolved, same_name}
-use Rattle.mid_program.specs.Steps.{ere_text}
+use Rattle.sem_scripts.specs.Names.{Function as Defined, Resolved, same_name}
+use Rattle.sem_scripts.specs.Steps.{ere_text}
 
 abbrev pub literal_texts : Literal → List (List ℕ)
 literal_texts (Number text) = []

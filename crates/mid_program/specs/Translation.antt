@@ -1,14 +1,14 @@
 -- The mid code of a script. It need not be believed: `EndsAs` says that its meaning is the script's.
 use Rattle.std.specs.Prelude.{ℕ, suc, ◌+◌, Bool, true, false, if◌then◌else◌, List, [], ◌∷◌, map, Option, Some, None, pos}
 use Rattle.awk_text.specs.Escapes.{string_text}
-use Rattle.awk_state.specs.Numbers.{Number as AnyNumber}
-use Rattle.awk_state.specs.Constants.{special_number, flag_number}
-use Rattle.awk_state.specs.declared.sorts.Sort.TheVariants as sort
-use Rattle.awk_state.specs.declared.constants.Special.{Special}
-use Rattle.awk_state.specs.declared.constants.Special.TheVariants.{Fs}
-use Rattle.awk_state.specs.declared.table.Primitive.{Primitive}
-use Rattle.awk_state.specs.declared.table.Primitive.TheVariants as row
-use Rattle.awk_state.specs.declared.table.Listed.TheVariants as listed
+use Rattle.sem_primitives.specs.Numbers.{Number as AnyNumber}
+use Rattle.sem_primitives.specs.Constants.{special_number, flag_number}
+use Rattle.sem_primitives.specs.declared.sorts.Sort.TheVariants as sort
+use Rattle.sem_primitives.specs.declared.constants.Special.{Special}
+use Rattle.sem_primitives.specs.declared.constants.Special.TheVariants.{Fs}
+use Rattle.sem_primitives.specs.declared.table.Primitive.{Primitive}
+use Rattle.sem_primitives.specs.declared.table.Primitive.TheVariants as row
+use Rattle.sem_primitives.specs.declared.table.Listed.TheVariants as listed
 use Rattle.awk_tokens.specs.declared.words.Builtin.{Builtin}
 use Rattle.awk_tokens.specs.declared.words.Builtin.TheVariants as builtin
 use Rattle.awk_grammar.specs.Token.{Sign, Plus, Minus, Prefix, Not, Signed, Increment, Decrement, Product, Times, Over as Divided, Modulo, Assigning, Set as Put, SetSum, SetProduct, SetPower, Assign, Or, And as Both, Match, Matching, Matches, Differs, Compare as Compared, Mul, Pow, Number as Numeral, Quoted, Ere}
@@ -23,11 +23,11 @@ use Rattle.mid_program.specs.declared.mid.Arithmetic.{Arithmetic}
 use Rattle.mid_program.specs.declared.mid.Arithmetic.TheVariants as inline
 use Rattle.mid_program.specs.declared.mid.Operation.{Operation}
 use Rattle.mid_program.specs.declared.mid.Operation.TheVariants.{Host, Inline, AsNumber, FieldNumber}
-use Rattle.mid_program.specs.Names.{Name, Function, Resolved, Scope, Variable, Reserved, ArrayName, same_name, function_number, function_at, variable_of, array_of, is_array}
-use Rattle.mid_program.specs.Names as names
-use Rattle.mid_program.specs.Steps.{constant, or_nought, comparison_of, ere_text, ere_in, is_ere}
-use Rattle.mid_program.specs.Statements.{operands_of, with_target, destination_of, listed_of, scope_in}
-use Rattle.mid_program.specs.Items.{top, print_record, pattern_ranges, range_count, reads_records}
+use Rattle.sem_scripts.specs.Names.{Name, Function, Resolved, Scope, Variable, Reserved, ArrayName, same_name, function_number, function_at, variable_of, array_of, is_array}
+use Rattle.sem_scripts.specs.Names as names
+use Rattle.sem_scripts.specs.Steps.{constant, or_nought, comparison_of, ere_text, ere_in, is_ere}
+use Rattle.sem_scripts.specs.Statements.{operands_of, with_target, destination_of, listed_of, scope_in}
+use Rattle.sem_scripts.specs.Items.{top, print_record, pattern_ranges, range_count, reads_records}
 use Rattle.mid_program.specs.Texts.{text_place, texts_of_script}
 use Rattle.mid_program.specs.Mid.{Kind, Boxed, Many, Global, Parameter, Code, Do, Over, Compare, Call, Ask, AskLine, FileLine, Replace, Number, Text, Unset, Get, Set, Array, IsOpen, Choose, Seq, Let, Bound, Codes, End, At, Fixed, Fresh, Declared, Step, Eval, Block, If, Loop, Each, Break, Continue, Next, Exit, ExitWith, Return, Mark, Steps, NoStep, Then, Routine, Program}
 

@@ -1,7 +1,7 @@
 -- The plain code that the types of code stand for.
 use Rattle.std.specs.Prelude.{List, [], ◌∷◌, Option, Some, None}
-use Rattle.awk_state.specs.declared.table.Primitive.TheVariants as row
-use Rattle.mid_program.specs.Names as names
+use Rattle.sem_primitives.specs.declared.table.Primitive.TheVariants as row
+use Rattle.sem_scripts.specs.Names as names
 use Rattle.mid_program.specs.Mid as plain
 use Rattle.mid_program.specs.declared.mid.Operation.TheVariants as operation
 use Rattle.mid_program.specs.declared.code.Slot.{Slot}

@@ -1,7 +1,7 @@
 //! The code of an expression.
 
 use crate::mid::Operation;
-use awk_state::{Listed, Sort};
+use sem_primitives::{Listed, Sort};
 use awk_values::CompareOp;
 
 /// Where a scalar is kept: a global by its number, or a parameter by its place; and whether it is unboxed, which is kept as a number.

@@ -1,6 +1,6 @@
 //! The operations of the code.
 
-use awk_state::Primitive;
+use sem_primitives::Primitive;
 
 /// An operator that the module carries out itself, with a check of the range.
 #[derive(Clone, Copy, Debug, PartialEq, Eq, Drop)]

@@ -2,17 +2,17 @@
 use Rattle.std.proofs.Common.{◌≡◌, ℕ, Bool, true, false, List, [], ◌∷◌, Result, refl, ap, ◌∙◌}
 use Rattle.std.specs.Prelude.{if◌then◌else◌}
 use Rattle.awk_values.specs.declared.value.Value.{Value}
-use Rattle.awk_state.specs.Constants.{constant_at}
-use Rattle.awk_state.specs.declared.sorts.Sort.{Sort}
-use Rattle.awk_state.specs.declared.sorts.Argument.{Argument}
-use Rattle.awk_state.specs.declared.sorts.Argument.TheVariants as argument
-use Rattle.awk_state.specs.declared.sorts.Answer.TheVariants as answer
-use Rattle.awk_state.specs.declared.table.Primitive.TheVariants as row
+use Rattle.sem_primitives.specs.Constants.{constant_at}
+use Rattle.sem_primitives.specs.declared.sorts.Sort.{Sort}
+use Rattle.sem_primitives.specs.declared.sorts.Argument.{Argument}
+use Rattle.sem_primitives.specs.declared.sorts.Argument.TheVariants as argument
+use Rattle.sem_primitives.specs.declared.sorts.Answer.TheVariants as answer
+use Rattle.sem_primitives.specs.declared.table.Primitive.TheVariants as row
 use Rattle.mid_program.specs.declared.mid.Operation.{Operation}
-use Rattle.mid_program.specs.Meaning.{Calls, asked}
-use Rattle.mid_program.specs.ScriptState.{State, Returned, Exited, Gives, Stops, Doing, ◌>>=◌, ◌>>◌, give, nothing, stop, change, settled, does, does_listed, asks, spend}
-use Rattle.mid_program.specs.Statements.{Normal, after, after_round, loop, over_keys, with_status}
-use Rattle.mid_program.specs.Steps.{array_number, compared}
+use Rattle.sem_scripts.specs.Meaning.{Calls, asked}
+use Rattle.sem_scripts.specs.ScriptState.{State, Returned, Exited, Gives, Stops, Doing, ◌>>=◌, ◌>>◌, give, nothing, stop, change, settled, does, does_listed, asks, spend}
+use Rattle.sem_scripts.specs.Statements.{Normal, after, after_round, loop, over_keys, with_status}
+use Rattle.sem_scripts.specs.Steps.{array_number, compared}
 use Rattle.mid_program.specs.Mid.{Kind, Slot, Code, Do, Over, Compare, Call, Ask, AskLine, FileLine, Replace, Number, Text, Unset, Get, Set, Array, IsOpen, Choose, Seq, Let, Bound, Codes, End, At, Fixed, Fresh, Step, Eval, Block, If, Loop, Each, Break, Continue, Next, Exit, ExitWith, Return, Mark, Steps, NoStep, Then, Form, Answered, a_value, answer_by, form_of, arguments, parameters_at}
 use Rattle.mid_program.specs.MidMeaning.{Holds, Env, Values, boxed, numbered, converted, truth_in, then_row, or_constant, row_of, listing, locals_of, fresh_of, store_slot, operated, when_read, when_replaced, three_values, replacing, evaluated, all_evaluated, holds, keyed, stepped, all_stepped}
 use Rattle.mid_rewriting.specs.Rewriting.{code_in, codes_in, step_in, steps_in}

@@ -1,6 +1,6 @@
 -- The key of subscripts, written anew.
 use Rattle.std.proofs.Common.{◌≡◌, List, [], ◌∷◌, map, refl, ap, ◌∙◌}
-use Rattle.awk_state.specs.declared.table.Primitive.TheVariants.{Join}
+use Rattle.sem_primitives.specs.declared.table.Primitive.TheVariants.{Join}
 use Rattle.mid_program.specs.declared.mid.Operation.{Operation}
 use Rattle.mid_program.specs.declared.mid.Operation.TheVariants.{Host}
 use Rattle.mid_program.specs.Mid.{Slot, Code, Do, Codes, End, At}

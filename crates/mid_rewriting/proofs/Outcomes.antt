@@ -1,6 +1,6 @@
 -- Laws of outcomes that are alike.
 use Rattle.std.proofs.Common.{◌≡◌, refl, ap, subst, ◌∙◌}
-use Rattle.mid_program.specs.ScriptState.{State, Outcome, Gives, Stops, Doing, go_on}
+use Rattle.sem_scripts.specs.ScriptState.{State, Outcome, Gives, Stops, Doing, go_on}
 use Rattle.mid_rewriting.specs.Alike.{LikeR}
 
 -- what is done after them

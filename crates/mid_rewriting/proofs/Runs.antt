@@ -2,10 +2,10 @@
 use Rattle.std.proofs.Common.{◌≡◌, ℕ, zero, suc, List, refl, ap, sym, ◌∙◌}
 use Rattle.mid_program.specs.Mid.{Slot, Steps, Program}
 use Rattle.mid_program.specs.MidMeaning.{all_stepped, routine_at, mid_called, mid_done, mid_parts}
-use Rattle.mid_program.specs.ScriptRun.{run_with}
-use Rattle.mid_program.specs.ScriptState.{Local, ◌>>◌, nothing}
+use Rattle.sem_scripts.specs.ScriptRun.{run_with}
+use Rattle.sem_scripts.specs.ScriptState.{Local, ◌>>◌, nothing}
 use Rattle.mid_program.specs.Sorted.{calls_of}
-use Rattle.mid_program.specs.Statements.{entered}
+use Rattle.sem_scripts.specs.Statements.{entered}
 use Rattle.mid_rewriting.specs.Rewriting.{steps_in}
 use Rattle.mid_rewriting.specs.Rewritten.{SameSlots, Rewritten}
 use Rattle.mid_rewriting.specs.SameRuns.{SameRuns}

@@ -1,9 +1,9 @@
 -- What is made of answers sees no lanes.
 use Rattle.std.proofs.Common.{◌≡◌, ℕ, zero, suc, List, [], ◌∷◌, refl, ap, sym, ◌∙◌}
-use Rattle.awk_state.specs.declared.sorts.Answer.TheVariants as answer
-use Rattle.awk_state.specs.declared.sorts.Sort.{Sort}
-use Rattle.awk_state.specs.declared.sorts.Sort.TheVariants as sort
-use Rattle.mid_program.specs.ScriptState.{Scalar, Array as ArrayOf}
+use Rattle.sem_primitives.specs.declared.sorts.Answer.TheVariants as answer
+use Rattle.sem_primitives.specs.declared.sorts.Sort.{Sort}
+use Rattle.sem_primitives.specs.declared.sorts.Sort.TheVariants as sort
+use Rattle.sem_scripts.specs.ScriptState.{Scalar, Array as ArrayOf}
 use Rattle.mid_program.specs.Mid.{Kind, Boxed, Unboxed, Many, Form, Answered, Bare, Perhaps, form_at}
 use Rattle.mid_program.specs.MidMeaning.{Holds, boxed, numbered, array_in, converted, truth_in, Env, held, local_of, fresh_of}
 use Rattle.mid_program.specs.Sorted.{is_many}

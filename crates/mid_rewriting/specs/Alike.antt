@@ -1,6 +1,6 @@
 -- Answers that are the same but for lanes: what an unboxed name has is a value.
 use Rattle.std.specs.Prelude.{◌≡◌, List, [], ◌∷◌}
-use Rattle.mid_program.specs.ScriptState.{Outcome, Gives, Stops}
+use Rattle.sem_scripts.specs.ScriptState.{Outcome, Gives, Stops}
 use Rattle.mid_program.specs.Mid.{Kind, Form, Answered, Bare, Perhaps, a_value}
 use Rattle.mid_program.specs.MidMeaning.{Holds}
 use Rattle.mid_program.specs.Sorted.{is_many}

@@ -2,8 +2,8 @@
 use Rattle.std.specs.Prelude.{◌≡◌, ℕ, List, map}
 use Rattle.awk_values.specs.declared.value.Value.{Value}
 use Rattle.mid_program.specs.declared.mid.Operation.{Operation}
-use Rattle.mid_program.specs.Meaning.{Calls}
-use Rattle.mid_program.specs.ScriptState.{State}
+use Rattle.sem_scripts.specs.Meaning.{Calls}
+use Rattle.sem_scripts.specs.ScriptState.{State}
 use Rattle.mid_program.specs.Mid.{Kind, Slot, Code, Do, Codes, Program, Form, Answered, answer_by, slot_form, form_of, parameters_at}
 use Rattle.mid_program.specs.MidMeaning.{Env, read_slot, store_slot, evaluated, routine_at, global_name, routine_name}
 use Rattle.mid_program.specs.Sorted.{calls_of}

@@ -2,7 +2,7 @@
 use Rattle.std.specs.Prelude.{◌≡◌, ℕ}
 use Rattle.mid_program.specs.Mid.{Program}
 use Rattle.mid_program.specs.MidMeaning.{mid_run_in}
-use Rattle.mid_program.specs.ScriptRun.{Setting}
+use Rattle.sem_scripts.specs.ScriptRun.{Setting}
 
 -- the same ends, faults and outputs, at each job, input, outside and number of turns, however deeply calls may be nested
 abbrev pub SameRuns : Program → Program → Type 0

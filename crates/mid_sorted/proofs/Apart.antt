@@ -9,7 +9,7 @@ use Rattle.awk_resolve.specs.Marks.{Mark, Defined, parameter_marks, stmts_marks,
 use Rattle.awk_resolve.specs.Kinds.{Key, Whole, Inside, Head, heads, same_name, has_name, specials, same_key, parameters_of, is_function, defined, declared, duplicate, first_duplicate, is_global}
 use Rattle.awk_resolve.proofs.Names.{same_sound, same_refl}
 use Rattle.awk_resolve.proofs.Marks.{defined_append}
-use Rattle.mid_program.specs.Names.{Name}
+use Rattle.sem_scripts.specs.Names.{Name}
 use Rattle.mid_program.specs.Sorted.{is_named, all_differ}
 use Rattle.mid_sorted.proofs.Names.{differs}
 use Rattle.mid_sorted.proofs.Marked.{neither, not_refused}

@@ -1,8 +1,8 @@
 -- What the code of a script may name is what the script's names are.
 use Rattle.std.proofs.Common.{◌≡◌, ℕ, zero, suc, ◌+◌, ◌<◌, Bool, true, false, not, ◌||◌, List, [], ◌∷◌, length, refl, sym, ap, ◌∙◌, true≢false, lt-ltb, arith}
 use Rattle.std.specs.Prelude.{if◌then◌else◌, map, is_some, codes, Option, Some, None}
-use Rattle.awk_state.specs.declared.constants.Special.{Special}
-use Rattle.mid_program.specs.Names.{Name, Function, Resolved, Scope, Variable, Global, Parameter, Reserved, same_name, next_place, place_in, function_in, or_past, names_length, functions_length, function_at, special_named, special_array, is_special_array, variable_by, variable_of, global_or_special, own_or_special, arrays_before, array_by, kind_at, variable_is_array}
+use Rattle.sem_primitives.specs.declared.constants.Special.{Special}
+use Rattle.sem_scripts.specs.Names.{Name, Function, Resolved, Scope, Variable, Global, Parameter, Reserved, same_name, next_place, place_in, function_in, or_past, names_length, functions_length, function_at, special_named, special_array, is_special_array, variable_by, variable_of, global_or_special, own_or_special, arrays_before, array_by, kind_at, variable_is_array}
 use Rattle.mid_program.specs.Mid.{Kind, Boxed, Many, Routine, parameters_at}
 use Rattle.mid_program.specs.Sorted.{Context, same_kind, has_kind, is_array_place, kinds_of, is_many, arrays_among, context_of}
 use Rattle.mid_program.specs.Translation.{kind_of, declared_code, routine_code, program_with}

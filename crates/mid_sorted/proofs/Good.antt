@@ -3,23 +3,23 @@ use Rattle.std.proofs.Common.{◌≡◌, ℕ, ◌^◌, Bool, true, false, List, 
 use Rattle.std.proofs.lemmas.Bool.{and_parts}
 use Rattle.std.specs.Prelude.{nat_lt, nat_le, unsigned_abs}
 use Rattle.std.specs.List.{list_all}
-use Rattle.awk_state.specs.Constants.{special_number, flag_number}
-use Rattle.awk_state.specs.declared.constants.Special.{Special}
-use Rattle.awk_state.specs.declared.constants.Special.TheVariants.{Argc}
-use Rattle.awk_state.specs.declared.sorts.Sort.{Sort}
-use Rattle.awk_state.specs.declared.sorts.Sort.TheVariants as sort
-use Rattle.awk_state.specs.declared.sorts.Constant.TheVariants as constant
-use Rattle.awk_state.specs.declared.sorts.Argument.TheVariants as argument
-use Rattle.awk_state.specs.declared.sorts.Answer.TheVariants as answer
-use Rattle.awk_state.specs.Table.{arguments_of, answer_of}
-use Rattle.awk_state.specs.declared.table.Primitive.{Primitive}
-use Rattle.awk_state.specs.declared.table.Primitive.TheVariants as row
+use Rattle.sem_primitives.specs.Constants.{special_number, flag_number}
+use Rattle.sem_primitives.specs.declared.constants.Special.{Special}
+use Rattle.sem_primitives.specs.declared.constants.Special.TheVariants.{Argc}
+use Rattle.sem_primitives.specs.declared.sorts.Sort.{Sort}
+use Rattle.sem_primitives.specs.declared.sorts.Sort.TheVariants as sort
+use Rattle.sem_primitives.specs.declared.sorts.Constant.TheVariants as constant
+use Rattle.sem_primitives.specs.declared.sorts.Argument.TheVariants as argument
+use Rattle.sem_primitives.specs.declared.sorts.Answer.TheVariants as answer
+use Rattle.sem_primitives.specs.Table.{arguments_of, answer_of}
+use Rattle.sem_primitives.specs.declared.table.Primitive.{Primitive}
+use Rattle.sem_primitives.specs.declared.table.Primitive.TheVariants as row
 use Rattle.awk_grammar.specs.Token.{Matching, Matches, Differs}
 use Rattle.awk_values.specs.declared.comparison.CompareOp.{CompareOp}
 use Rattle.mid_program.specs.declared.mid.Operation.{Operation}
 use Rattle.mid_program.specs.declared.mid.Operation.TheVariants.{Host, AsNumber}
-use Rattle.mid_program.specs.Names as names
-use Rattle.mid_program.specs.Names.{ArrayName, Variable, Reserved}
+use Rattle.sem_scripts.specs.Names as names
+use Rattle.sem_scripts.specs.Names.{ArrayName, Variable, Reserved}
 use Rattle.mid_program.specs.Mid.{Code, Do, Compare, Ask, Number, Text, Array, Choose, At, End, Fixed, Boxed, Form, Answered, Bare, form_of, arguments, answer_by}
 use Rattle.mid_program.specs.Sorted.{Context, Held, There, Moved, Misused, either_way, fits, is_tested, is_dropped, is_chosen, is_operation, is_done_here, is_constant, is_array_place, is_bound, has_kind, held_after, sorted, all_sorted}
 use Rattle.mid_program.specs.Translation.{host, one, two, zero_code, one_code, truth_code, untruth_code, record_code, special_code, variable_code, matching_code, ere_code}

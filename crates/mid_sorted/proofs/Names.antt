@@ -3,7 +3,7 @@ use Rattle.std.proofs.Common.{◌≡◌, ℕ, suc, Bool, true, false, not, List,
 use Rattle.std.proofs.lemmas.Bool.{and_parts, or_parts, not-true, false_from_ne_true}
 use Rattle.std.specs.Prelude.{if◌then◌else◌}
 use Rattle.awk_resolve.proofs.Names.{same_sound, same_refl}
-use Rattle.mid_program.specs.Names.{Function, same_name, next_place, function_in, or_past, functions_length, function_at}
+use Rattle.sem_scripts.specs.Names.{Function, same_name, next_place, function_in, or_past, functions_length, function_at}
 use Rattle.mid_program.specs.Sorted.{is_named, all_differ}
 use Rattle.mid_sorted.specs.Fits.{function_names}
 

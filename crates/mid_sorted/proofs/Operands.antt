@@ -1,9 +1,9 @@
 -- Operands of a list, and arguments of a call.
 use Rattle.std.proofs.Common.{◌≡◌, ℕ, ◌+◌, Bool, true, false, not, ◌&&◌, ◌||◌, List, [], ◌∷◌, length, refl, sym, true≢false, arith}
 use Rattle.std.specs.Prelude.{if◌then◌else◌, nat_lt, nat_le, map}
-use Rattle.awk_state.specs.InTurn.{values_wanted}
-use Rattle.awk_state.specs.declared.table.Listed.{Listed}
-use Rattle.mid_program.specs.Names.{Name, ArrayName, Variable}
+use Rattle.sem_primitives.specs.InTurn.{values_wanted}
+use Rattle.sem_primitives.specs.declared.table.Listed.{Listed}
+use Rattle.sem_scripts.specs.Names.{Name, ArrayName, Variable}
 use Rattle.mid_program.specs.Mid.{Kind, Boxed, Many, Code, Over, Call, Unset, Array, Codes, End, At, Fresh, Form, parameters_at}
 use Rattle.mid_program.specs.Sorted.{Context, Held, is_array_place, fit_call, all_values, count_of, held_after_all, are_missing, sorted, all_sorted}
 use Rattle.mid_program.specs.Translation.{variable_code, fresh_codes, kind_of}

@@ -1,8 +1,8 @@
 -- Code at the places of trees.
 use Rattle.std.proofs.Common.{◌≡◌, ℕ, true, List, ◌∷◌, length, refl}
 use Rattle.std.specs.Prelude.{nat_lt, map}
-use Rattle.awk_state.specs.declared.sorts.Sort.TheVariants as sort
-use Rattle.awk_state.specs.declared.table.Primitive.TheVariants as row
+use Rattle.sem_primitives.specs.declared.sorts.Sort.TheVariants as sort
+use Rattle.sem_primitives.specs.declared.table.Primitive.TheVariants as row
 use Rattle.awk_grammar.specs.Token as token
 use Rattle.awk_grammar.specs.Token.{Sign, Plus, Minus, Product, Times, Over as Divided, Modulo}
 use Rattle.awk_grammar.specs.Tree.{Tree, Var, Index}
@@ -10,7 +10,7 @@ use Rattle.mid_program.specs.declared.mid.Arithmetic.{Arithmetic}
 use Rattle.mid_program.specs.declared.mid.Arithmetic.TheVariants as inline
 use Rattle.mid_program.specs.declared.mid.Operation.{Operation}
 use Rattle.mid_program.specs.declared.mid.Operation.TheVariants.{Host, Inline}
-use Rattle.mid_program.specs.Names.{Scope, variable_of, array_of, function_number, function_at, is_array}
+use Rattle.sem_scripts.specs.Names.{Scope, variable_of, array_of, function_number, function_at, is_array}
 use Rattle.mid_program.specs.Mid.{Code, Do, AskLine, FileLine, Form, parameters_at}
 use Rattle.mid_program.specs.Sorted.{Context, is_tested, is_array_place}
 use Rattle.mid_program.specs.Translation.{two, one_code, variable_code, sign_of, product_of, step_arithmetic, step_of, target_in, received_at, stored_at, stepped_at, step_after_at, updated_at, kind_of}

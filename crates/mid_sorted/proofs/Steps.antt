@@ -3,17 +3,17 @@ use Rattle.std.proofs.Common.{◌≡◌, ℕ, ◌+◌, ◌≤◌, Bool, true, fa
 use Rattle.std.proofs.lemmas.Bool.{and_parts}
 use Rattle.std.specs.Prelude.{nat_le, IsTrue, Option, Some, None}
 use Rattle.std.specs.List.{list_all}
-use Rattle.awk_state.specs.InTurn.{values_wanted}
-use Rattle.awk_state.specs.Table.{listed_answer}
-use Rattle.awk_state.specs.declared.constants.Destination.{Destination}
-use Rattle.awk_state.specs.declared.table.Primitive.TheVariants as row
+use Rattle.sem_primitives.specs.InTurn.{values_wanted}
+use Rattle.sem_primitives.specs.Table.{listed_answer}
+use Rattle.sem_primitives.specs.declared.constants.Destination.{Destination}
+use Rattle.sem_primitives.specs.declared.table.Primitive.TheVariants as row
 use Rattle.awk_grammar.specs.Tree.{Tree, Trees, NoTree, Then, IsWellFormed, count}
 use Rattle.awk_grammar.specs.Stmt as stmt
 use Rattle.awk_grammar.specs.Stmt.{Printing, Print, Printf, Args, NoArgs, Listed, Enclosed, Target, NoTarget, Written, Appended, Plain, Stmt, Stmts, NoStmt, And, IsArgs, IsTarget, IsPlain, IsMaybe, IsMaybePlain, IsStmt, AreStmts}
 use Rattle.awk_resolve.specs.Marks.{Array, Scalar, Mark, Used, marks, all_marks, args_marks, target_marks, plain_marks, maybe_marks, maybe_plain_marks, stmt_marks, stmts_marks}
 use Rattle.mid_program.specs.declared.mid.Operation.TheVariants.{Host}
-use Rattle.mid_program.specs.Names.{Resolved, Scope, variable_of, array_of}
-use Rattle.mid_program.specs.Statements.{operands_of, with_last, with_target, destination_of, listed_of}
+use Rattle.sem_scripts.specs.Names.{Resolved, Scope, variable_of, array_of}
+use Rattle.sem_scripts.specs.Statements.{operands_of, with_last, with_target, destination_of, listed_of}
 use Rattle.mid_program.specs.Texts.{texts_in, all_texts, args_texts, target_texts, plain_texts, maybe_texts, maybe_plain_texts, stmt_texts, stmts_texts}
 use Rattle.mid_program.specs.Mid.{Form, Answered, form_of}
 use Rattle.mid_program.specs.Sorted.{Context, is_dropped, sorted, all_sorted, test_sorted, step_sorted, steps_sorted}

@@ -2,7 +2,7 @@
 use Rattle.std.proofs.Common.{◌≡◌, ℕ, suc, ◌<◌, Bool, true, false, List, [], ◌∷◌, ◌++◌, length, refl, sym, true≢false, lt-ltb, arith}
 use Rattle.std.proofs.lemmas.Slice.Eq.{bytes_eq-Decides}
 use Rattle.std.specs.Prelude.{if◌then◌else◌}
-use Rattle.mid_program.specs.Names.{Resolved, same_name}
+use Rattle.sem_scripts.specs.Names.{Resolved, same_name}
 use Rattle.mid_program.specs.Texts.{has_text, once, text_place, texts_of_script, items_texts, functions_texts}
 use Rattle.mid_sorted.proofs.Sound.{AllWithin}
 

@@ -4,10 +4,10 @@ use Rattle.std.proofs.lemmas.Bool.{and_parts}
 use Rattle.std.specs.Prelude.{nat_le, unsigned_abs, map}
 use Rattle.std.specs.List.{list_all}
 use Rattle.awk_text.specs.Escapes.{string_text}
-use Rattle.awk_state.specs.declared.constants.Special.TheVariants.{Fs}
-use Rattle.awk_state.specs.declared.sorts.Sort.TheVariants as sort
-use Rattle.awk_state.specs.declared.table.Primitive.TheVariants as row
-use Rattle.awk_state.specs.declared.table.Listed.TheVariants as listed
+use Rattle.sem_primitives.specs.declared.constants.Special.TheVariants.{Fs}
+use Rattle.sem_primitives.specs.declared.sorts.Sort.TheVariants as sort
+use Rattle.sem_primitives.specs.declared.table.Primitive.TheVariants as row
+use Rattle.sem_primitives.specs.declared.table.Listed.TheVariants as listed
 use Rattle.awk_tokens.specs.declared.words.Builtin.{Builtin}
 use Rattle.awk_tokens.specs.declared.words.Builtin.TheVariants as builtin
 use Rattle.awk_grammar.specs.Token.{Plus, Minus, Not, Signed, Over as Divided, Set as Put, SetSum, SetProduct, SetPower, Assign, Or, And as Both, Match, Compare as Compared, Mul, Pow, Number as Numeral, Quoted, Ere}
@@ -16,8 +16,8 @@ use Rattle.awk_grammar.specs.Tree.{Tree, Leaf, Length, Var, Index, Field, Group,
 use Rattle.mid_program.specs.declared.mid.Arithmetic.TheVariants as inline
 use Rattle.mid_program.specs.declared.mid.Operation.{Operation}
 use Rattle.mid_program.specs.declared.mid.Operation.TheVariants.{Host, Inline, AsNumber, FieldNumber}
-use Rattle.mid_program.specs.Names.{Name, Scope, variable_of, array_of, function_number, function_at, is_array}
-use Rattle.mid_program.specs.Steps.{constant as number_of_constant, or_nought, comparison_of, ere_text, ere_in, is_ere}
+use Rattle.sem_scripts.specs.Names.{Name, Scope, variable_of, array_of, function_number, function_at, is_array}
+use Rattle.sem_scripts.specs.Steps.{constant as number_of_constant, or_nought, comparison_of, ere_text, ere_in, is_ere}
 use Rattle.mid_program.specs.Texts.{text_place}
 use Rattle.mid_program.specs.Mid.{Code, Do, Over, AskLine, FileLine, Text, Let, Codes, Form, a_number, form_of}
 use Rattle.mid_program.specs.Sorted.{Context}

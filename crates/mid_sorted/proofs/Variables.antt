@@ -2,8 +2,8 @@
 use Rattle.std.proofs.Common.{◌≡◌, ℕ, suc, Bool, true, List, ◌∷◌, refl}
 use Rattle.mid_program.specs.declared.mid.Operation.{Operation}
 use Rattle.mid_program.specs.declared.mid.Operation.TheVariants.{AsNumber}
-use Rattle.mid_program.specs.Names as names
-use Rattle.mid_program.specs.Names.{Variable, Reserved}
+use Rattle.sem_scripts.specs.Names as names
+use Rattle.sem_scripts.specs.Names.{Variable, Reserved}
 use Rattle.mid_program.specs.Mid.{Code, Do, AskLine, FileLine, Replace, Seq, Let, At, End, Form, Answered, a_value, a_number, form_of, answer_by}
 use Rattle.mid_program.specs.Sorted.{Context, Held, There, Moved, is_tested, is_dropped, held_after, stores_well, sorted, all_sorted}
 use Rattle.mid_program.specs.Translation.{one, two, one_code, copied, moved, variable_code, store_variable_code, set_variable_code}

@@ -1,11 +1,11 @@
 -- Elements and fields: what is done at a place once its key or its field's number is kept.
 use Rattle.std.proofs.Common.{◌≡◌, ℕ, suc, Bool, true, List, [], ◌∷◌, refl, ap, ◌∙◌}
-use Rattle.awk_state.specs.declared.sorts.Sort.TheVariants as sort
-use Rattle.awk_state.specs.declared.sorts.Argument.TheVariants as argument
-use Rattle.awk_state.specs.declared.table.Primitive.TheVariants as row
+use Rattle.sem_primitives.specs.declared.sorts.Sort.TheVariants as sort
+use Rattle.sem_primitives.specs.declared.sorts.Argument.TheVariants as argument
+use Rattle.sem_primitives.specs.declared.table.Primitive.TheVariants as row
 use Rattle.mid_program.specs.declared.mid.Operation.{Operation}
 use Rattle.mid_program.specs.declared.mid.Operation.TheVariants.{AsNumber}
-use Rattle.mid_program.specs.Names.{ArrayName}
+use Rattle.sem_scripts.specs.Names.{ArrayName}
 use Rattle.mid_program.specs.Mid.{Code, Do, AskLine, FileLine, Replace, Array, Seq, Let, At, End, Form, Answered, a_value, a_number, form_of, form_at, arguments, answer_by}
 use Rattle.mid_program.specs.Sorted.{Context, Held, There, Moved, is_tested, is_dropped, is_done_here, is_array_place, is_bound, held_after, keeps_well, sorted, all_sorted}
 use Rattle.mid_program.specs.Translation.{host, one, two, one_code, copied, moved}

@@ -1,3 +1,3 @@
 pub mod Fits
 pub mod Placed
-pub mod Rows
+pub mod Examples

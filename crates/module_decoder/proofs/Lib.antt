@@ -8,4 +8,4 @@ pub mod CompleteBody
 pub mod CompleteParts
 pub mod CompleteModule
 mod Nested
-pub mod Rows
+pub mod Examples

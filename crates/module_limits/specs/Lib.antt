@@ -1,3 +1,3 @@
 pub mod Size
 pub mod Limits
-pub mod Rows
+pub mod Examples

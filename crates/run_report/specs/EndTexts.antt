@@ -23,8 +23,8 @@ use Rattle.module_decoder.specs.declared.fault.DecodeFault.{DecodeFault}
 use Rattle.module_decoder.specs.declared.fault.DecodeFault.TheVariants as decoding
 use Rattle.module_validator.specs.declared.valid.InvalidFault.{InvalidFault}
 use Rattle.module_validator.specs.declared.valid.InvalidFault.TheVariants as typing
-use Rattle.machine_model.specs.declared.fault.LinkFault.{LinkFault}
-use Rattle.machine_model.specs.declared.fault.LinkFault.TheVariants as linking
+use Rattle.wasm_model.specs.declared.fault.LinkFault.{LinkFault}
+use Rattle.wasm_model.specs.declared.fault.LinkFault.TheVariants as linking
 use Rattle.wasm_store.specs.declared.trap.TrapKind.{TrapKind}
 use Rattle.wasm_store.specs.declared.trap.TrapKind.TheVariants as traps
 use Rattle.run_report.specs.declared.report.FileFault.{FileFault}

@@ -15,7 +15,7 @@ use Rattle.awk_run.specs.declared.end.RunEnd.TheVariants.{Ended, Exhausted, Faul
 use Rattle.awk_values.specs.declared.fault.Fault.TheVariants.{Range}
 use Rattle.module_decoder.specs.declared.fault.DecodeFault.TheVariants.{BadInteger, Truncated}
 use Rattle.module_validator.specs.declared.valid.InvalidFault.TheVariants.{BadType}
-use Rattle.machine_model.specs.declared.fault.LinkFault.TheVariants.{NoMain}
+use Rattle.wasm_model.specs.declared.fault.LinkFault.TheVariants.{NoMain}
 use Rattle.wasm_store.specs.declared.trap.TrapKind.TheVariants.{BadHandle}
 use Rattle.run_report.specs.declared.report.FileFault.TheVariants.{CannotRead}
 use Rattle.run_report.specs.EndTexts.{end_text, exit_code, file_text, left_out_word, line_of}

@@ -2,4 +2,4 @@ pub mod EndTexts
 pub mod Parts
 pub mod Topics
 pub mod Examples
-pub mod TopicRows
+pub mod TopicExamples

@@ -11,7 +11,7 @@ use awk_run::{CompileFault, Refusal, RunEnd};
 use awk_tokens::TokenFault;
 use awk_values::Fault;
 use ere_syntax::EreFault;
-use machine_model::LinkFault;
+use wasm_model::LinkFault;
 use module_decoder::DecodeFault;
 use module_validator::InvalidFault;
 use wasm_store::TrapKind;

@@ -4,7 +4,7 @@ use Rattle.awk_tokens.specs.Cutting.{IsTokens, Spelled}
 use Rattle.awk_parse.specs.Parsing.{IsParsed}
 use Rattle.awk_grammar.specs.Item.{Item}
 use Rattle.awk_resolve.specs.Kinds.{refusal}
-use Rattle.mid_program.specs.Kinds.{resolved}
+use Rattle.sem_scripts.specs.Kinds.{resolved}
 use Rattle.mid_program.specs.Mid.{Program}
 use Rattle.mid_program.specs.MidMeaning.{EndsAs}
 use Rattle.mid_program.specs.Sorted.{IsSorted}

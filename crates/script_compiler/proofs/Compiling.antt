@@ -1,37 +1,37 @@
 -- From the parts of a compilation to what is said of the whole.
 use Rattle.std.proofs.Common.{◌≡◌, ◌⊎◌, inl, inr, ℕ, ◌≤◌, ◌^◌, List, length, Option, Some, MatchOption, refl, ap, subst, sym}
 use Rattle.std.proofs.lemmas.List.Elements.{recursion_from_All}
-use Rattle.awk_state.specs.Jobs.{JobForm}
+use Rattle.sem_primitives.specs.Jobs.{JobForm}
 use Rattle.world_core.specs.WorldState.{Outside, Source}
-use Rattle.mid_program.specs.Kinds.{resolved}
+use Rattle.sem_scripts.specs.Kinds.{resolved}
 use Rattle.mid_program.specs.Mid.{Program}
 use Rattle.mid_program.specs.MidMeaning.{mid_run_in}
-use Rattle.mid_program.specs.ScriptRun.{resolved_run}
-use Rattle.mid_program.specs.Names.{Resolved}
+use Rattle.sem_scripts.specs.ScriptRun.{resolved_run}
+use Rattle.sem_scripts.specs.Names.{Resolved}
 use Rattle.mid_program.specs.Sorted.{IsSorted}
 use Rattle.mid_program.specs.Translation.{program_of}
 use Rattle.mid_program.specs.View.{view_mid}
 use Rattle.mid_program.specs.declared.program.Mid.{Mid}
 use Rattle.wasm_types.specs.ModuleGrammar.{IsModule}
 use Rattle.wasm_types.specs.Typing.{ModuleOk}
-use Rattle.machine_model.specs.Links.{SegmentsFit, main_of}
-use Rattle.value_machine.specs.Modules.{module_of}
-use Rattle.value_refined.proofs.Links.{numbers_are, program}
-use Rattle.module_agreement.specs.Agreement.{Agreement}
-use Rattle.module_agreement.proofs.Exchanged.{agreement_as}
-use Rattle.passed_places.specs.Passed.{Passes}
-use Rattle.script_places.specs.Places.{final_program}
-use Rattle.script_places.specs.Probed.{probed_script}
-use Rattle.run_places.specs.Existence.{HasRuns}
-use Rattle.run_places.proofs.Parameters.{few_parameters}
-use Rattle.run_places.proofs.Spelled.{spelled_small}
-use Rattle.value_machine.specs.Functions.{texts_of}
-use Rattle.value_machine.specs.Places.{memory_of}
-use Rattle.expression_emission.specs.Spans.{IsSmall}
-use Rattle.expression_emission.specs.declared.tables.Tables.{Tables}
-use Rattle.number_names.specs.Unboxed.{UnboxesNumbers}
+use Rattle.wasm_model.specs.Links.{SegmentsFit, main_of}
+use Rattle.lower_model.specs.Modules.{module_of}
+use Rattle.agree_refined.proofs.Links.{numbers_are, program}
+use Rattle.agree_modules.specs.Agreement.{Agreement}
+use Rattle.agree_modules.proofs.Exchanged.{agreement_as}
+use Rattle.agree_passed.specs.Passed.{Passes}
+use Rattle.agree_spots.specs.Places.{final_program}
+use Rattle.agree_spots.specs.Probed.{probed_script}
+use Rattle.agree_places.specs.Existence.{HasRuns}
+use Rattle.agree_places.proofs.Parameters.{few_parameters}
+use Rattle.agree_places.proofs.Spelled.{spelled_small}
+use Rattle.lower_model.specs.Functions.{texts_of}
+use Rattle.lower_model.specs.Places.{memory_of}
+use Rattle.lower_expressions.specs.Spans.{IsSmall}
+use Rattle.lower_expressions.specs.declared.tables.Tables.{Tables}
+use Rattle.mid_number_names.specs.Unboxed.{UnboxesNumbers}
 use Rattle.module_limits.specs.Size.{module_size}
-use Rattle.code_words.specs.Past.{IsPast}
+use Rattle.agree_sizes.specs.Past.{IsPast}
 use Rattle.script_code.specs.Coded.{HasTokens, IsCodeOf, unboxed}
 use Rattle.script_code.specs.Refusals.{IsNotCoded}
 use Rattle.script_code.specs.declared.fault.CompileFault.{CompileFault}

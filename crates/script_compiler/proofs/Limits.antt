@@ -4,10 +4,10 @@ use Rattle.std.specs.List.{All, AllByRecursion as ByRecursion}
 use Rattle.std.proofs.lemmas.List.Elements.{All-from_recursion, recursion_from_All}
 use Rattle.awk_tokens.specs.Cutting.{Spelled}
 use Rattle.awk_grammar.specs.Item.{Item, Function, Begin, End, Always, When, Lone, Nothing}
-use Rattle.mid_program.specs.Items.{reads_records, top}
-use Rattle.mid_program.specs.Kinds.{resolved}
+use Rattle.sem_scripts.specs.Items.{reads_records, top}
+use Rattle.sem_scripts.specs.Kinds.{resolved}
 use Rattle.mid_program.specs.Mid.{Kind, NoStep, Program, Routine, Steps}
-use Rattle.mid_program.specs.Names.{Scope}
+use Rattle.sem_scripts.specs.Names.{Scope}
 use Rattle.mid_program.specs.Translation.{items_code, program_of}
 use Rattle.mid_program.specs.Texts.{texts_of_script}
 use Rattle.folding.specs.Folding.{fold, folded_routine, folded_steps}
@@ -15,14 +15,14 @@ use Rattle.value_kinds.specs.Applied.{is_unboxed, kinds_with, routines_with, ste
 use Rattle.value_kinds.specs.Lanes.{infer}
 use Rattle.wasm_types.specs.Instructions.{depths}
 use Rattle.wasm_types.specs.ModuleGrammar.{IsModule}
-use Rattle.value_machine.specs.Functions.{main_callee, routine_callee}
-use Rattle.value_machine.specs.Machine.{Callee}
-use Rattle.value_machine.specs.Modules.{all_callees, module_of}
-use Rattle.run_places.proofs.Spelled.{IsLimited, spelled_limited}
-use Rattle.code_needs.proofs.Nested.{begin_labelled, end_labelled, items_labelled, routine_labelled}
-use Rattle.expression_emission.specs.Spans.{IsSmall}
-use Rattle.module_emission.specs.Limits.{IsTooLarge}
-use Rattle.statement_emission.specs.Limits.{AreSmallEnough, IsShallow, RoutineIsSmall}
+use Rattle.lower_model.specs.Functions.{main_callee, routine_callee}
+use Rattle.lower_model.specs.Machine.{Callee}
+use Rattle.lower_model.specs.Modules.{all_callees, module_of}
+use Rattle.agree_places.proofs.Spelled.{IsLimited, spelled_limited}
+use Rattle.lower_needs.proofs.Nested.{begin_labelled, end_labelled, items_labelled, routine_labelled}
+use Rattle.lower_expressions.specs.Spans.{IsSmall}
+use Rattle.lower_modules.specs.Limits.{IsTooLarge}
+use Rattle.lower_statements.specs.Limits.{AreSmallEnough, IsShallow, RoutineIsSmall}
 use Rattle.script_code.specs.Coded.{IsCodeOf, unboxed}
 
 -- Folding and lanes leave a function as many parameters.

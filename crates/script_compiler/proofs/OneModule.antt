@@ -4,9 +4,9 @@ use Rattle.awk_tokens.specs.Cutting.{Spelled}
 use Rattle.awk_tokens.proofs.Whole.{one_outcome}
 use Rattle.awk_grammar.specs.Item.{Item}
 use Rattle.awk_grammar.proofs.ItemComplete.{one_script}
-use Rattle.mid_program.specs.Kinds.{resolved}
+use Rattle.sem_scripts.specs.Kinds.{resolved}
 use Rattle.mid_program.specs.Translation.{program_of}
-use Rattle.value_machine.specs.Modules.{module_of}
+use Rattle.lower_model.specs.Modules.{module_of}
 use Rattle.script_code.specs.Coded.{IsSound, unboxed}
 use Rattle.script_compiler.specs.Compiled.{IsCompiled}
 

@@ -1,42 +1,42 @@
 -- What a script is compiled to, whichever it is.
 use Rattle.std.specs.Prelude.{◌≡◌, ◌⊎◌, ◌≤◌, ◌^◌, ℕ, List, Ok, Some, false, length, map, true}
-use Rattle.awk_state.specs.Jobs.{JobForm}
+use Rattle.sem_primitives.specs.Jobs.{JobForm}
 use Rattle.awk_tokens.specs.Cutting.{IsTokens, Spelled}
 use Rattle.awk_grammar.specs.Item.{Item}
 use Rattle.world_core.specs.WorldState.{Outside, Source}
-use Rattle.mid_program.specs.Kinds.{resolved}
+use Rattle.sem_scripts.specs.Kinds.{resolved}
 use Rattle.mid_program.specs.Mid.{Program, Routine, Then}
-use Rattle.mid_program.specs.Names.{Resolved}
-use Rattle.mid_program.specs.ScriptRun.{resolved_run}
+use Rattle.sem_scripts.specs.Names.{Resolved}
+use Rattle.sem_scripts.specs.ScriptRun.{resolved_run}
 use Rattle.mid_program.specs.Translation.{program_of}
 use Rattle.wasm_types.specs.ModuleGrammar.{IsModule}
 use Rattle.wasm_types.specs.Syntax.{ModuleForm}
 use Rattle.wasm_types.specs.Typing.{ModuleOk}
-use Rattle.machine_model.specs.Links.{SegmentsFit, main_of, numbers_for}
-use Rattle.machine_model.specs.Machines.{Conf, Ends, turn}
-use Rattle.machine_model.specs.Runs.{MachineForm}
-use Rattle.machine_model.specs.declared.ends.End.TheVariants as ends
+use Rattle.wasm_model.specs.Links.{SegmentsFit, main_of, numbers_for}
+use Rattle.wasm_model.specs.Machines.{Conf, Ends, turn}
+use Rattle.wasm_model.specs.Runs.{MachineForm}
+use Rattle.wasm_model.specs.declared.ends.End.TheVariants as ends
 use Rattle.wasm_store.specs.declared.word.Word.TheVariants.{I32}
 use Rattle.host_step.specs.HostState.{HostState}
 use Rattle.host_step.specs.Imports.{host_finds}
-use Rattle.value_machine.specs.Boundaries.{nops_in, steps_places}
-use Rattle.value_machine.specs.Functions.{main_callee, routine_callee}
-use Rattle.value_machine.specs.Modules.{module_of}
-use Rattle.module_agreement.specs.Agreement.{Agreement}
-use Rattle.passed_places.specs.Passed.{Passes}
-use Rattle.script_places.specs.Probed.{probed_script}
-use Rattle.run_places.specs.Assigned.{IsAssigned}
-use Rattle.run_places.specs.Existence.{HasRuns}
-use Rattle.run_places.specs.Kept.{AtReturn, AtStatement, Reached, begins_statement}
-use Rattle.run_places.specs.Nodes.{nodes_of}
-use Rattle.run_places.specs.Pending.{FewAlive}
-use Rattle.run_places.specs.Statements.{main_places}
-use Rattle.quiet_statements.specs.Laned.{AtNumeric, IsNext}
-use Rattle.quiet_statements.specs.Quiet.{Quietly}
-use Rattle.quiet_statements.specs.Sums.{AtFault}
-use Rattle.job_words.specs.Naming.{program_names}
-use Rattle.job_words.specs.Words.{AssignsName}
-use Rattle.number_names.specs.Unboxed.{UnboxesNumbers}
+use Rattle.lower_model.specs.Boundaries.{nops_in, steps_places}
+use Rattle.lower_model.specs.Functions.{main_callee, routine_callee}
+use Rattle.lower_model.specs.Modules.{module_of}
+use Rattle.agree_modules.specs.Agreement.{Agreement}
+use Rattle.agree_passed.specs.Passed.{Passes}
+use Rattle.agree_spots.specs.Probed.{probed_script}
+use Rattle.agree_places.specs.Assigned.{IsAssigned}
+use Rattle.agree_places.specs.Existence.{HasRuns}
+use Rattle.agree_places.specs.Kept.{AtReturn, AtStatement, Reached, begins_statement}
+use Rattle.agree_places.specs.Nodes.{nodes_of}
+use Rattle.agree_places.specs.Pending.{FewAlive}
+use Rattle.agree_places.specs.Statements.{main_places}
+use Rattle.agree_quiet.specs.Laned.{AtNumeric, IsNext}
+use Rattle.agree_quiet.specs.Quiet.{Quietly}
+use Rattle.agree_quiet.specs.Sums.{AtFault}
+use Rattle.agree_job_words.specs.Naming.{program_names}
+use Rattle.agree_job_words.specs.Words.{AssignsName}
+use Rattle.mid_number_names.specs.Unboxed.{UnboxesNumbers}
 use Rattle.script_code.specs.Coded.{IsSound, unboxed}
 
 -- a module that links with the host

@@ -3,11 +3,11 @@ use Rattle.std.specs.Prelude.{◌⊎◌, ◌<◌, ◌^◌, ℕ, List, length}
 use Rattle.awk_tokens.specs.Cutting.{Spelled}
 use Rattle.mid_program.specs.Mid.{Program}
 use Rattle.wasm_types.specs.ModuleGrammar.{IsModule}
-use Rattle.value_machine.specs.Modules.{module_of}
-use Rattle.code_words.specs.Past.{IsPast}
-use Rattle.expression_emission.specs.Spans.{IsSmall}
-use Rattle.module_emission.specs.Limits.{IsTooLarge}
-use Rattle.statement_emission.specs.Limits.{AreSmallEnough}
+use Rattle.lower_model.specs.Modules.{module_of}
+use Rattle.agree_sizes.specs.Past.{IsPast}
+use Rattle.lower_expressions.specs.Spans.{IsSmall}
+use Rattle.lower_modules.specs.Limits.{IsTooLarge}
+use Rattle.lower_statements.specs.Limits.{AreSmallEnough}
 use Rattle.script_code.specs.Coded.{HasTokens, IsCodeOf}
 use Rattle.script_code.specs.Refusals.{IsNotCoded}
 use Rattle.script_code.specs.declared.fault.CompileFault.{CompileFault}

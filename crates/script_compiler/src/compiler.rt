@@ -2,26 +2,26 @@
 ghost use Rattle.std.specs.Prelude.{IfOk, IfErr};
 ghost use Rattle.mid_program.specs.Sorted.{IsSorted};
 ghost use Rattle.mid_program.specs.View.{view_mid};
-ghost use Rattle.value_machine.specs.Modules.{module_of};
+ghost use Rattle.lower_model.specs.Modules.{module_of};
 ghost use Rattle.wasm_types.specs.ModuleGrammar.{IsModule};
 ghost use Rattle.script_compiler.specs.Compiled.{IsCompiled};
 ghost use Rattle.script_compiler.specs.Refusals.{HasNoBytes, IsNotCompiled};
 
-use code_words::laws::code_has_bytes;
-use expression_emission::Tables;
-use job_words::laws::quiet_by_the_job;
+use agree_sizes::laws::code_has_bytes;
+use lower_expressions::Tables;
+use agree_job_words::laws::quiet_by_the_job;
 use mid_program::Mid;
-use module_agreement::laws::modules_agree;
-use module_emission::EmitFault;
+use agree_modules::laws::modules_agree;
+use lower_modules::EmitFault;
 use module_writer::{WriteFault, write};
-use number_names::laws::names_of_numbers_are_unboxed;
-use quiet_statements::laws::statements_are_quiet;
-use run_places::laws::{few_parameters, modules_run, nothing_kept, statements_have_places};
+use mid_number_names::laws::names_of_numbers_are_unboxed;
+use agree_quiet::laws::statements_are_quiet;
+use agree_places::laws::{few_parameters, modules_run, nothing_kept, statements_have_places};
 use script_code::{CompileFault, code_of};
-use script_places::laws::statements_are_passed;
-use statement_emission::module;
+use agree_spots::laws::statements_are_passed;
+use lower_statements::module;
 use std::alloc::Global;
-use value_typed::laws::{links, typed};
+use agree_typed::laws::{links, typed};
 
 /// The bytes of the module of some code.
 fn bytes_of(alloc: Global, mid: &Mid) -> Result<Vec<u8>, CompileFault>

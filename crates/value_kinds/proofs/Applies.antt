@@ -1,11 +1,11 @@
 -- A program with other lanes at its names runs as before.
 use Rattle.std.proofs.Common.{◌≡◌, ℕ, zero, suc, Bool, true, false, List, [], ◌∷◌, map, refl, ap}
 use Rattle.awk_values.specs.declared.value.Value.{Value}
-use Rattle.mid_program.specs.Meaning.{Calls}
+use Rattle.sem_scripts.specs.Meaning.{Calls}
 use Rattle.mid_program.specs.Mid.{Kind, Boxed, Unboxed, Many, Slot, Global, Parameter, Do, Declared, Routine, Program, read_form, slot_form, parameters_at}
 use Rattle.mid_program.specs.MidMeaning.{read_as, read_slot, store_slot, routine_at, global_name, routine_name}
-use Rattle.mid_program.specs.Names.{Name}
-use Rattle.mid_program.specs.ScriptState.{State, global_value, local_value}
+use Rattle.sem_scripts.specs.Names.{Name}
+use Rattle.sem_scripts.specs.ScriptState.{State, global_value, local_value}
 use Rattle.mid_program.specs.Sorted.{calls_of, is_many}
 use Rattle.mid_rewriting.specs.Alike.{Alike, AlikeKinds, LikeR}
 use Rattle.mid_rewriting.specs.Rewritten.{SameSlots, SameOperations, Rewritten}

@@ -1,7 +1,7 @@
 -- Names that are boxed in their places, and what is kept, by its place.
 use Rattle.std.proofs.Common.{◌≡◌, ℕ, zero, suc, ◌-◌, ◌<◌, ◌≤◌, List, [], ◌∷◌, length, map, reverse, get_or, set, refl, sym, ap, ◌∙◌, arith}
 use Rattle.std.proofs.lemmas.List as list
-use Rattle.awk_state.specs.declared.sorts.Answer.TheVariants as answer
+use Rattle.sem_primitives.specs.declared.sorts.Answer.TheVariants as answer
 use Rattle.std.specs.declared.vec.Vec.{Vec}
 use Rattle.std.specs.declared.alloc.Global.{Global}
 use Rattle.mid_program.specs.Mid as plain

@@ -1,10 +1,10 @@
 -- Code with other lanes at its names is well sorted, where no name is unboxed into which something else than a number is stored.
 use Rattle.std.proofs.Common.{◌≡◌, ℕ, zero, suc, ◌+◌, Bool, true, false, List, [], ◌∷◌, length, refl, sym, ap, ◌∙◌, arith}
 use Rattle.std.proofs.lemmas.Bool.{and_parts, and_from}
-use Rattle.awk_state.specs.declared.sorts.Sort.TheVariants as sort
-use Rattle.awk_state.specs.declared.sorts.Answer.TheVariants as answer
-use Rattle.mid_program.specs.Names.{ArrayName}
-use Rattle.mid_program.specs.Names as names
+use Rattle.sem_primitives.specs.declared.sorts.Sort.TheVariants as sort
+use Rattle.sem_primitives.specs.declared.sorts.Answer.TheVariants as answer
+use Rattle.sem_scripts.specs.Names.{ArrayName}
+use Rattle.sem_scripts.specs.Names as names
 use Rattle.mid_program.specs.Mid.{Kind, Boxed, Unboxed, Many, Slot, Global, Parameter, Do, Codes, End, At, Fixed, Fresh, Steps, Form, Answered, Bare, Perhaps, slot_form, form_of, parameters_at}
 use Rattle.mid_program.specs.Sorted.{Context, fits, is_number, same_kind, has_kind, scalar_kind, is_slot, takes, is_array_place, is_given, fit_call, steps_sorted}
 use Rattle.mid_rewriting.specs.Alike.{erased}

@@ -3,4 +3,4 @@ pub mod Applied
 pub mod Walks
 pub mod View
 pub mod Found
-pub mod Rows
+pub mod Examples

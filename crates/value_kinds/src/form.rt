@@ -7,7 +7,7 @@ ghost use Rattle.mid_program.specs.ViewCode.{view_slot};
 ghost use Rattle.value_kinds.specs.Lanes.{is_plain};
 ghost use Rattle.value_kinds.specs.View.{view_form};
 
-use awk_state::{Answer, Sort};
+use sem_primitives::{Answer, Sort};
 use mid_program::{Operation, Slot};
 
 /// What is there once code is evaluated.

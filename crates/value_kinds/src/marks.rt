@@ -8,7 +8,7 @@ ghost use Rattle.value_kinds.specs.Walks.{form_in, kept_too, walked, walked_each
 
 use crate::form::{Form, answer_by};
 use crate::walk::Walk;
-use awk_state::{Answer, Primitive, Sort};
+use sem_primitives::{Answer, Primitive, Sort};
 use mid_program::{Code, Operand};
 use std::alloc::AllocError;
 

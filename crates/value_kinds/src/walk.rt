@@ -11,7 +11,7 @@ ghost use Rattle.value_kinds.specs.Walks.{after, kept_too, last_let_go};
 
 use crate::form::Form;
 use crate::names::Lanes;
-use awk_state::Answer;
+use sem_primitives::Answer;
 use mid_program::{Kind, Slot};
 use std::alloc::AllocError;
 

@@ -1,11 +1,11 @@
 //! Laws of machines, and of what they mean.
 ghost use Rattle.std.specs.Prelude.{◌≡◌, ◌+◌, None};
-ghost use Rattle.machine_model.specs.Runs.{Did, IsPrefix};
-ghost use Rattle.machine_model.specs.Typed.{Linked};
+ghost use Rattle.wasm_model.specs.Runs.{Did, IsPrefix};
+ghost use Rattle.wasm_model.specs.Typed.{Linked};
 
 use crate::machine::Machine;
-pub use machine_model::laws::{never_stuck, step_is_reduced, turn_safe};
-use machine_model::{HostCalls, MachineEnd};
+pub use wasm_model::laws::{never_stuck, step_is_reduced, turn_safe};
+use wasm_model::{HostCalls, MachineEnd};
 
 /// Two runs, one after the other, are one run of all their steps.
 pub fn run_on<H: HostCalls>(

@@ -9,4 +9,4 @@ mod run;
 mod steps;
 
 pub use machine::Machine;
-pub use machine_model::{End, HostAnswer, HostCalls, LinkFault, MachineEnd, RunEnd};
+pub use wasm_model::{End, HostAnswer, HostCalls, LinkFault, MachineEnd, RunEnd};

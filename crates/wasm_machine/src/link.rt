@@ -1,21 +1,21 @@
 //! Linking: from a module and a host to the beginning of a run (Core 1.0, section 4.5.4).
 ghost use Rattle.std.specs.List.{All};
 ghost use Rattle.std.specs.Prelude.{ℕ, ◌≡◌, ◌↔◌, ◌*◌, ◌≤◌, ◌^◌, IfErr, IfOk, IsTrue, None, OnErr, Some, length, map, MatchResult};
-ghost use Rattle.machine_registers.specs.Laid.{code_at};
-ghost use Rattle.machine_model.specs.Frames.{IsConstantAt};
-ghost use Rattle.machine_model.specs.Links.{first_some, first_none, main_at, main_of, number_for, numbers_for, place_of, value_of, least, ElemFits, DataFits, SegmentsFit, filled, poured, limits_or_none, entry_code, beginning, Numbers, Refuses};
-ghost use Rattle.machine_model.specs.Machines.{agree};
-ghost use Rattle.machine_frames.specs.Standing.{Stand};
-ghost use Rattle.machine_states.specs.Confs.{conf_of};
+ghost use Rattle.wasm_registers.specs.Laid.{code_at};
+ghost use Rattle.wasm_model.specs.Frames.{IsConstantAt};
+ghost use Rattle.wasm_model.specs.Links.{first_some, first_none, main_at, main_of, number_for, numbers_for, place_of, value_of, least, ElemFits, DataFits, SegmentsFit, filled, poured, limits_or_none, entry_code, beginning, Numbers, Refuses};
+ghost use Rattle.wasm_model.specs.Machines.{agree};
+ghost use Rattle.wasm_frames.specs.Standing.{Stand};
+ghost use Rattle.wasm_states.specs.Confs.{conf_of};
 ghost use Rattle.wasm_machine.specs.ViewConf.{Begins, Lays};
 ghost use Rattle.wasm_types.specs.Typing.{callee_in, typed_in};
 ghost use Rattle.wasm_types.specs.View.{signature_of, view_data, view_elem, view_export, view_import, view_module, views};
 
 use crate::program::{callee, typed};
-use machine_frames::Frames;
-use machine_loader::Code;
-use machine_model::{HostCalls, LinkFault};
-use machine_states::State;
+use wasm_frames::Frames;
+use wasm_loader::Code;
+use wasm_model::{HostCalls, LinkFault};
+use wasm_states::State;
 use std::alloc::{AllocError, Global};
 use wasm_store::{Globals, Memory, Table, Word};
 use wasm_types::{
@@ -150,7 +150,7 @@ trait Segment {
 }
 
 impl Segment for Elem {
-    ghost use Rattle.machine_model.specs.Links.{ElemFits, DataFits};
+    ghost use Rattle.wasm_model.specs.Links.{ElemFits, DataFits};
     ghost use Rattle.wasm_types.specs.View.{view_elem};
 
     ghost Fits = { λ size e. ElemFits size (view_elem e) };

@@ -1,16 +1,16 @@
 //! Machines.
 ghost use Rattle.std.specs.Prelude.{◌≡◌, IfErr, IfOk, IfSome, None, Some};
-ghost use Rattle.machine_model.specs.Links.{IsNew, Refuses};
-ghost use Rattle.machine_model.specs.Reductions.{Reduced};
-ghost use Rattle.machine_model.specs.Runs.{Did, lasting, told_run};
-ghost use Rattle.machine_model.specs.Typed.{Linked, SafeRun};
+ghost use Rattle.wasm_model.specs.Links.{IsNew, Refuses};
+ghost use Rattle.wasm_model.specs.Reductions.{Reduced};
+ghost use Rattle.wasm_model.specs.Runs.{Did, lasting, told_run};
+ghost use Rattle.wasm_model.specs.Typed.{Linked, SafeRun};
 ghost use Rattle.wasm_types.specs.View.{view_module};
 
 use crate::link::{codes_of, first_state, link};
 use crate::program::Program;
 use crate::run::run;
-use machine_model::{End, HostCalls, LinkFault, MachineEnd, RunEnd};
-use machine_states::State;
+use wasm_model::{End, HostCalls, LinkFault, MachineEnd, RunEnd};
+use wasm_states::State;
 use module_validator::ValidModule;
 use std::alloc::Global;
 use std::marker::Model;
@@ -43,11 +43,11 @@ impl Model for Machine {
     ghost use Rattle.std.specs.Coded.{codes};
     ghost use Rattle.wasm_machine.specs.Codes.{instructions_code};
     ghost use Rattle.std.specs.Prelude.{◌≡◌, None};
-    ghost use Rattle.machine_frames.specs.Standing.{Stand};
-    ghost use Rattle.machine_states.specs.Confs.{conf_of};
+    ghost use Rattle.wasm_frames.specs.Standing.{Stand};
+    ghost use Rattle.wasm_states.specs.Confs.{conf_of};
     ghost use Rattle.wasm_machine.specs.ViewConf.{HasCodes, program_of};
-    ghost use Rattle.machine_model.specs.Runs.{MachineForm};
-    ghost use Rattle.machine_model.specs.Typed.{MachineOk};
+    ghost use Rattle.wasm_model.specs.Runs.{MachineForm};
+    ghost use Rattle.wasm_model.specs.Typed.{MachineOk};
 
     ghost Value = { MachineForm };
 

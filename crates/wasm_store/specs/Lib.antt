@@ -1,5 +1,5 @@
 pub mod Integers
 pub mod Memories
-pub mod Rows
+pub mod Examples
 pub mod Tables
 pub mod Words

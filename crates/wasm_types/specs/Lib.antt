@@ -5,4 +5,4 @@ pub mod Leb128
 pub mod Instructions
 pub mod ModuleGrammar
 pub mod Typing
-pub mod Rows
+pub mod Examples

@@ -1,6 +1,6 @@
 use Rattle.std.proofs.Common.{◌≡◌, sym, ap, ◌∙◌, subst, Option}
 use Rattle.awk_values.specs.declared.fault.Fault.{Fault}
-use Rattle.form_runs.proofs.Telling.{anyhow_run, did_tell}
+use Rattle.agree_runs.proofs.Telling.{anyhow_run, did_tell}
 use Rattle.host_calls.specs.Forms.{host_form}
 use Rattle.host_step.specs.Starts.{state_at_start}
 use Rattle.wasm_types.specs.View.{view_module}

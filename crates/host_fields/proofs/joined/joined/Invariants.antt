@@ -1,5 +1,5 @@
 use Rattle.std.proofs.Common.{◌≡◌, ◌++◌, ◌^◌, ◌≤◌, drop, length}
-use Rattle.awk_state.specs.FieldRows.{joined}
+use Rattle.sem_primitives.specs.FieldMeaning.{joined}
 use Rattle.host_fields.proofs.Joins.{followed}
 use Rattle.host_fields.proofs.joined.joined.Given as goal
 

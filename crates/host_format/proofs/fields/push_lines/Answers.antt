@@ -1,6 +1,6 @@
 use Rattle.std.proofs.Common.{◌+◌, Bool, arith, length, subst}
 use Rattle.memchr.specs.Find.{is_byte}
-use Rattle.awk_state.specs.Fields.{between, separators}
+use Rattle.sem_primitives.specs.Fields.{between, separators}
 use Rattle.host_format.proofs.Opens.{Agrees, in_range, line_at, no_lines, opened, ready}
 use Rattle.host_format.proofs.fields.push_lines.Goals as goal
 

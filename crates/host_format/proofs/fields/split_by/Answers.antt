@@ -1,6 +1,6 @@
 use Rattle.std.proofs.Common.{◌+◌, ℕ, List, [], ap, arith, drop, length, le_refl, subst, Some, None}
 use Rattle.memchr.specs.Find.{IsFirstByte}
-use Rattle.awk_state.specs.Fields.{parted}
+use Rattle.sem_primitives.specs.Fields.{parted}
 use Rattle.host_format.specs.Marks.{is_mark, kept, pieces_by, skips_empty}
 use Rattle.host_format.proofs.Pieces.{all_parts, kept_none, last_piece, mark_inside, pieces_at, rest_of, with_rest}
 use Rattle.host_format.proofs.fields.split_by.Goals as goal

@@ -1,5 +1,5 @@
 use Rattle.std.proofs.Common.{◌-◌, ◌≤◌, drop, length}
-use Rattle.awk_state.specs.Fields.{parted}
+use Rattle.sem_primitives.specs.Fields.{parted}
 use Rattle.host_format.specs.Marks.{is_mark, kept, pieces_by, skips_empty}
 use Rattle.host_format.specs.Spans.{IsSoFar}
 use Rattle.host_format.proofs.fields.split_by.Given as goal

@@ -1,5 +1,5 @@
 use Rattle.std.proofs.Common.{◌+◌, ◌≤◌, ℕ, List, [], Option, arith, length, le_refl, subst, sym, rules}
-use Rattle.awk_state.specs.Fields.{Expression, between, pieces, separators}
+use Rattle.sem_primitives.specs.Fields.{Expression, between, pieces, separators}
 use Rattle.host_format.specs.Between.{IsOpen, separator_end}
 use Rattle.host_format.specs.Expressions.{IsFirstBy, not_empty}
 use Rattle.host_format.specs.declared.span.Span.{Span}

@@ -1,7 +1,7 @@
 use Rattle.std.proofs.Common.{◌-◌, ◌≤◌, length}
 use Rattle.ere_syntax.specs.Tree.{Tree}
 use Rattle.ere_match.specs.Autos.{IsAutoOf}
-use Rattle.awk_state.specs.Fields.{Expression, pieces}
+use Rattle.sem_primitives.specs.Fields.{Expression, pieces}
 use Rattle.host_format.specs.Between.{IsOpen, separator_end}
 use Rattle.host_format.specs.Expressions.{IsAuto}
 use Rattle.host_format.proofs.fields.split_by_ere.Given as goal

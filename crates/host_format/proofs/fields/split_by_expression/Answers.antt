@@ -1,5 +1,5 @@
 use Rattle.std.proofs.Common.{refl}
-use Rattle.awk_state.specs.Fields.{Expression, pieces}
+use Rattle.sem_primitives.specs.Fields.{Expression, pieces}
 use Rattle.host_format.proofs.Fielded.{parts_of}
 use Rattle.host_format.proofs.fields.split_by_expression.Goals as goal
 

@@ -1,6 +1,6 @@
 use Rattle.std.proofs.Common.{◌+◌, ◌≤◌, ap, drop, length, subst, sym, ◌∙◌}
 use Rattle.std.proofs.lemmas.Result.{err_from_is_err_and}
-use Rattle.awk_state.specs.Formats.{conversion_at}
+use Rattle.sem_primitives.specs.Formats.{conversion_at}
 use Rattle.host_format.specs.Conversions.{piece_is}
 use Rattle.host_format.proofs.Pieces.{rest_of}
 use Rattle.host_format.proofs.Steps.{after_directive, after_plain, directive_stops, end_added, end_stopped, malformed_stops, plain_stops}

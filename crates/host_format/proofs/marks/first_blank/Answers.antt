@@ -3,7 +3,7 @@ use Rattle.std.specs.Prelude.{◌==◌, ◌||◌}
 use Rattle.std.proofs.lemmas.Bool.{cases_lt}
 use Rattle.std.proofs.lemmas.List.{get_or-drop, length-drop}
 use Rattle.memchr.specs.Find.{IsFirstByte, Nowhere, Passes, is_byte3}
-use Rattle.awk_state.specs.Fields.{is_blank}
+use Rattle.sem_primitives.specs.Fields.{is_blank}
 use Rattle.host_format.proofs.Pieces.{rest_of}
 use Rattle.host_format.proofs.marks.first_blank.Goals as goal
 

@@ -1,4 +1,4 @@
-use Rattle.awk_state.specs.Fields.{is_blank}
+use Rattle.sem_primitives.specs.Fields.{is_blank}
 use Rattle.memchr.specs.Find.{Nowhere, Passes}
 use Rattle.host_format.proofs.marks.first_blank.Given as goal
 

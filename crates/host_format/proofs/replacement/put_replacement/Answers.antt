@@ -1,6 +1,6 @@
 use Rattle.std.proofs.Common.{◌≡◌, ◌+◌, ◌++◌, ℕ, List, ap, drop, refl, sym, take, ◌∙◌}
 use Rattle.std.proofs.lemmas.Result.{err_from_is_err_and, on_ok_weaker}
-use Rattle.awk_state.specs.TextRows.{escaped, replacement}
+use Rattle.sem_primitives.specs.TextMeaning.{escaped, replacement}
 use Rattle.host_format.proofs.Pieces.{rest_of}
 use Rattle.host_format.proofs.Replaced.{at_any, at_ampersand, at_backslash, err_at, no_special, past_same, stepped}
 use Rattle.host_format.proofs.replacement.put_replacement.Goals as goal

@@ -1,5 +1,5 @@
 use Rattle.std.proofs.Common.{◌≡◌, ◌++◌, length}
-use Rattle.awk_state.specs.TextRows.{replacement}
+use Rattle.sem_primitives.specs.TextMeaning.{replacement}
 use Rattle.host_format.proofs.replacement.put_replacement.Given as goal
 
 abbrev pub invariant-loop-at : goal.invariant-loop-at

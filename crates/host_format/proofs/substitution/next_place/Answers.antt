@@ -1,5 +1,5 @@
 use Rattle.std.proofs.Common.{◌≡◌, ◌≤◌, ◌+◌, None, length, arith, rules, sym, true, false, ◌∙◌}
-use Rattle.awk_state.specs.TextRows.{is_empty_at}
+use Rattle.sem_primitives.specs.TextMeaning.{is_empty_at}
 use Rattle.host_format.proofs.Places.{next_after, next_past, next_skipped, next_some}
 use Rattle.host_format.proofs.substitution.next_place.Goals as goal
 

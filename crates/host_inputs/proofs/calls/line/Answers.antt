@@ -1,9 +1,9 @@
 use Rattle.std.proofs.Common.{[], Err, subst, sym, ◌∙◌}
-use Rattle.awk_state.specs.declared.table.Primitive.TheVariants as row
+use Rattle.sem_primitives.specs.declared.table.Primitive.TheVariants as row
 use Rattle.wasm_store.specs.declared.trap.TrapKind.TheVariants.{BadArgument}
 use Rattle.host_step.specs.declared.import.Import.TheVariants.{Of}
 use Rattle.host_values.specs.declared.reply.Refusal.TheVariants as why
-use Rattle.form_meaning.specs.WorldCalls.{IsCalled}
+use Rattle.host_meaning.specs.WorldCalls.{IsCalled}
 use Rattle.host_inputs.specs.Calls.{with_values}
 use Rattle.host_inputs.specs.Keeps.{with_line}
 use Rattle.host_inputs.specs.States.{over_world}

@@ -3,7 +3,7 @@ use Rattle.std.specs.FinMap as map
 use Rattle.host_step.specs.declared.import.Import.TheVariants.{Of}
 use Rattle.host_values.specs.Calls.{spare}
 use Rattle.host_values.proofs.Spare.{spare_removed}
-use Rattle.form_meaning.specs.WorldCalls.{IsCalled}
+use Rattle.host_meaning.specs.WorldCalls.{IsCalled}
 use Rattle.host_inputs.specs.Calls.{shown_after, with_values}
 use Rattle.host_inputs.specs.Givens.{file_primitive}
 use Rattle.host_inputs.specs.States.{over_world}

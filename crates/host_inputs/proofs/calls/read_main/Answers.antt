@@ -1,6 +1,6 @@
 use Rattle.std.proofs.Common.{[], subst, sym}
 use Rattle.host_step.specs.declared.import.Import.TheVariants.{Of}
-use Rattle.form_meaning.specs.WorldCalls.{IsCalled}
+use Rattle.host_meaning.specs.WorldCalls.{IsCalled}
 use Rattle.host_inputs.specs.Calls.{shown_after}
 use Rattle.host_inputs.specs.Givens.{main_primitive}
 use Rattle.host_inputs.specs.States.{over_world}

@@ -1,7 +1,7 @@
 use Rattle.std.proofs.Common.{refl, sym, ap, subst, ◌∙◌}
 use Rattle.awk_values.specs.Values.{text_of_value}
-use Rattle.awk_state.specs.InputRows.{getline_file_by}
-use Rattle.awk_state.specs.Records.{record_separator}
+use Rattle.sem_primitives.specs.InputMeaning.{getline_file_by}
+use Rattle.sem_primitives.specs.Records.{record_separator}
 use Rattle.host_streams.specs.OpenFiles.{has_room, names_of, readers_in}
 use Rattle.host_inputs.specs.Givens.{FileGives}
 use Rattle.host_inputs.specs.States.{with_tables}

@@ -1,5 +1,5 @@
 use Rattle.std.proofs.Common.{ap, sym, ◌∙◌}
-use Rattle.awk_state.specs.InputRows.{main_input}
+use Rattle.sem_primitives.specs.InputMeaning.{main_input}
 use Rattle.host_inputs.specs.States.{with_tables}
 use Rattle.host_inputs.proofs.Turns.{moved_on, none_pends, turn_none, turn_some}
 use Rattle.host_inputs.proofs.main_record.given.Goals as goal

@@ -1,6 +1,6 @@
 use Rattle.std.proofs.Common.{◌≡◌}
-use Rattle.awk_state.specs.InputRows.{main_input}
-use Rattle.awk_state.specs.SharedState.{Inner}
+use Rattle.sem_primitives.specs.InputMeaning.{main_input}
+use Rattle.sem_primitives.specs.SharedState.{Inner}
 use Rattle.host_streams.specs.OpenFiles.{WritersGo}
 use Rattle.host_inputs.specs.Givens.{OffersTexts, left_to_open}
 use Rattle.host_inputs.specs.Keeps.{IsMoved, KeepsSubstituted}

@@ -1,7 +1,7 @@
 use Rattle.std.proofs.Common.{Ok, ap, subst, sym, ◌∙◌}
 use Rattle.std.proofs.lemmas.Result.{IfErr-weaker, on_ok_weaker}
-use Rattle.awk_state.specs.SharedState.{◌>>=◌}
-use Rattle.awk_state.specs.declared.answers.InputAnswer.TheVariants.{Read}
+use Rattle.sem_primitives.specs.SharedState.{◌>>=◌}
+use Rattle.sem_primitives.specs.declared.answers.InputAnswer.TheVariants.{Read}
 use Rattle.host_format.specs.Outcomes.{IsStopOf}
 use Rattle.host_inputs.specs.Givens.{kept_by}
 use Rattle.host_inputs.specs.States.{with_input, with_tables}

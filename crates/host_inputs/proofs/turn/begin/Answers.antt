@@ -1,7 +1,7 @@
 use Rattle.std.proofs.Common.{pos, ap, ◌∙◌}
 use Rattle.awk_values.specs.declared.value.Value.TheVariants.{Num}
-use Rattle.awk_state.specs.SharedState.{with_special}
-use Rattle.awk_state.specs.declared.constants.Special.TheVariants.{Fnr}
+use Rattle.sem_primitives.specs.SharedState.{with_special}
+use Rattle.sem_primitives.specs.declared.constants.Special.TheVariants.{Fnr}
 use Rattle.host_inputs.proofs.turn.begin.Goals as goal
 
 pub returns-clause-set : goal.returns-clause-set

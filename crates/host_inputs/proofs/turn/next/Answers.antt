@@ -1,7 +1,7 @@
 use Rattle.std.proofs.Common.{sym, ap, subst, ◌∙◌}
 use Rattle.awk_values.specs.Values.{number_of_value, text_of_value}
-use Rattle.awk_state.specs.InputRows.{main_input}
-use Rattle.awk_state.specs.Records.{record_separator}
+use Rattle.sem_primitives.specs.InputMeaning.{main_input}
+use Rattle.sem_primitives.specs.Records.{record_separator}
 use Rattle.host_streams.specs.Mains.{AnswerIs}
 use Rattle.host_inputs.specs.States.{with_tables}
 use Rattle.host_inputs.proofs.Apart.{holds_next, tables_next, writers_stay}

@@ -1,5 +1,5 @@
 use Rattle.std.proofs.Common.{◌≡◌, ◌++◌, ◌∷◌, [], ℕ, false, is_some, List, sym, ap, ◌∙◌}
-use Rattle.awk_state.specs.Assignments.{declared}
+use Rattle.sem_primitives.specs.Assignments.{declared}
 use Rattle.host_names.specs.Forms.{announced, of_names, with_names}
 use Rattle.host_names.proofs.Steps.{declare_call, declare_memory}
 use Rattle.host_names.proofs.calls.declare.Goals as goal

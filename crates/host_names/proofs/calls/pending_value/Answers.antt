@@ -1,6 +1,6 @@
 use Rattle.std.proofs.Common.{ℕ, Option, sym, subst, ◌∙◌}
 use Rattle.awk_values.specs.declared.value.Value.{Value}
-use Rattle.awk_state.specs.declared.table.Primitive.TheVariants as row
+use Rattle.sem_primitives.specs.declared.table.Primitive.TheVariants as row
 use Rattle.host_step.specs.declared.import.Import.TheVariants.{Of}
 use Rattle.host_elements.specs.Calls.{IsTableCall}
 use Rattle.host_names.specs.Forms.{of_names}

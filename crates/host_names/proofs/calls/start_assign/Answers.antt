@@ -1,7 +1,7 @@
 use Rattle.std.proofs.Common.{rules, ◌≡◌, false, is_some, Some, Ok, sym, subst}
 use Rattle.awk_values.specs.declared.fault.Stop.{Stop}
-use Rattle.awk_state.specs.InputRows.{start_assign_row}
-use Rattle.awk_state.specs.declared.table.Primitive.TheVariants as row
+use Rattle.sem_primitives.specs.InputMeaning.{start_assign_row}
+use Rattle.sem_primitives.specs.declared.table.Primitive.TheVariants as row
 use Rattle.wasm_store.specs.declared.word.Word.{Word}
 use Rattle.host_step.specs.declared.import.Import.TheVariants.{Of}
 use Rattle.host_format.specs.Outcomes.{IsStopOf}

@@ -1,10 +1,10 @@
 use Rattle.std.proofs.Common.{◌≡◌, Ok, Option, IfErr, IfOk, List, ℕ, sym, ap, subst, ◌∙◌}
 use Rattle.std.proofs.lemmas.Result.{IfErr-weaker, IfOk-weaker}
 use Rattle.awk_values.specs.declared.value.Value.TheVariants.{StrNum}
-use Rattle.awk_state.specs.Assignments.{assigned_by, assigned_global, declared, made_here}
-use Rattle.awk_state.specs.FieldRows.{set_special}
-use Rattle.awk_state.specs.SharedState.{Inner}
-use Rattle.awk_state.specs.declared.constants.Special.{Special}
+use Rattle.sem_primitives.specs.Assignments.{assigned_by, assigned_global, declared, made_here}
+use Rattle.sem_primitives.specs.FieldMeaning.{set_special}
+use Rattle.sem_primitives.specs.SharedState.{Inner}
+use Rattle.sem_primitives.specs.declared.constants.Special.{Special}
 use Rattle.host_format.specs.Outcomes.{IsStopOf}
 use Rattle.host_texts.specs.States.{with_texts}
 use Rattle.host_names.specs.Forms.{announced, with_all, with_names}

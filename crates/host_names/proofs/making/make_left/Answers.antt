@@ -1,6 +1,6 @@
 use Rattle.std.proofs.Common.{ℕ, List, Option, true, false, ◌∙◌, sym, ap, subst}
 use Rattle.std.proofs.lemmas.Result.{err_from_is_err_and}
-use Rattle.awk_state.specs.SharedState.{Inner}
+use Rattle.sem_primitives.specs.SharedState.{Inner}
 use Rattle.host_format.specs.Outcomes.{IsStopOf}
 use Rattle.host_names.specs.Forms.{Takes, left_of}
 use Rattle.host_names.proofs.Assigned.{made_by, made_here, made_there, not_made, stop_read, taken}

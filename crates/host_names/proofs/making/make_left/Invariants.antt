@@ -1,5 +1,5 @@
 use Rattle.std.proofs.Common.{◌≡◌, length}
-use Rattle.awk_state.specs.SharedState.{Inner}
+use Rattle.sem_primitives.specs.SharedState.{Inner}
 use Rattle.host_names.specs.Forms.{left_of}
 use Rattle.host_names.proofs.Assigned.{rest_by}
 use Rattle.host_names.proofs.making.make_left.Given as goal

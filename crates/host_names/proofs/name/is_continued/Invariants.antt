@@ -1,6 +1,6 @@
 use Rattle.std.proofs.Common.{◌≡◌, List, ℕ, Bool, drop, length, take_while}
-use Rattle.awk_state.specs.Assignments.{continues_name}
-use Rattle.awk_state.specs.Texts.{is_empty}
+use Rattle.sem_primitives.specs.Assignments.{continues_name}
+use Rattle.sem_primitives.specs.Texts.{is_empty}
 use Rattle.host_names.proofs.name.is_continued.Given as goal
 
 -- whether all bytes go on with a name

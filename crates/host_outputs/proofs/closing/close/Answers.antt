@@ -1,10 +1,10 @@
 use Rattle.std.proofs.Common.{rules, ◌≡◌, [], Some, Ok, ap, subst, sym, ◌∙◌}
 use Rattle.std.specs.FinMap as map
-use Rattle.awk_state.specs.declared.table.Primitive.TheVariants as row
+use Rattle.sem_primitives.specs.declared.table.Primitive.TheVariants as row
 use Rattle.host_step.specs.declared.import.Import.TheVariants.{Of}
 use Rattle.host_values.specs.Calls.{spare}
 use Rattle.host_values.proofs.Spare.{spare_removed}
-use Rattle.form_meaning.specs.WorldCalls.{IsCalled}
+use Rattle.host_meaning.specs.WorldCalls.{IsCalled}
 use Rattle.host_outputs.specs.Forms.{closing}
 use Rattle.host_outputs.proofs.Closings.{close_closes, close_traps, close_wants}
 use Rattle.host_outputs.proofs.closing.close.Goals as goal

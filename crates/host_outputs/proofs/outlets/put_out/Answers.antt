@@ -1,6 +1,6 @@
 use Rattle.std.proofs.Common.{false, true, subst, ◌∙◌}
-use Rattle.awk_state.specs.OutputRows.{put_text}
-use Rattle.awk_state.specs.declared.constants.Destination.TheVariants as destination
+use Rattle.sem_primitives.specs.OutputMeaning.{put_text}
+use Rattle.sem_primitives.specs.declared.constants.Destination.TheVariants as destination
 use Rattle.host_outputs.specs.Calls.{Could}
 use Rattle.host_outputs.proofs.Outsides.{file_could, standard_could}
 use Rattle.host_outputs.proofs.outlets.put_out.Goals as goal

@@ -1,12 +1,12 @@
 use Rattle.std.proofs.Common.{◌≡◌, ◌-◌, List, [], take, Ok, Err, ap, subst, sym, ◌∙◌}
-use Rattle.awk_state.specs.OutputRows.{print_row}
+use Rattle.sem_primitives.specs.OutputMeaning.{print_row}
 use Rattle.world_core.specs.WorldState.{Action}
 use Rattle.host_step.specs.declared.import.Import.TheVariants.{Over}
 use Rattle.host_step.specs.declared.import.Listing.TheVariants.{Print}
 use Rattle.host_streams.specs.OpenFiles.{names_of, readers_in}
 use Rattle.host_streams.specs.Outputs.{IsOf, PutsIs}
 use Rattle.host_streams.specs.Puts.{BeginsBy}
-use Rattle.form_meaning.specs.WorldCalls.{IsCalled}
+use Rattle.host_meaning.specs.WorldCalls.{IsCalled}
 use Rattle.host_outputs.specs.Calls.{Could, answer_of}
 use Rattle.host_outputs.specs.Forms.{printing, shared_with}
 use Rattle.host_outputs.specs.Lists.{listed}

@@ -1,5 +1,5 @@
 use Rattle.std.proofs.Common.{ap, subst, ◌∙◌}
-use Rattle.awk_state.specs.OutputRows.{file_name, printed, put_text}
+use Rattle.sem_primitives.specs.OutputMeaning.{file_name, printed, put_text}
 use Rattle.host_streams.specs.OpenFiles.{names_of}
 use Rattle.host_streams.specs.Outputs.{PutsIs}
 use Rattle.host_outputs.specs.Forms.{inner_with, shared_with}

@@ -1,6 +1,6 @@
 use Rattle.std.proofs.Common.{◌≤◌, Ok, length, ap, subst, sym, ◌∙◌}
 use Rattle.std.proofs.lemmas.Result.{err_from_is_err_and}
-use Rattle.awk_state.specs.OutputRows.{formatted_values, printf_row}
+use Rattle.sem_primitives.specs.OutputMeaning.{formatted_values, printf_row}
 use Rattle.host_format.specs.Outcomes.{IsStopOf}
 use Rattle.host_outputs.proofs.Faults.{stop_counts}
 use Rattle.host_outputs.proofs.Lasts.{some_operand}

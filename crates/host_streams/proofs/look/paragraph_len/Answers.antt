@@ -1,5 +1,5 @@
 use Rattle.std.proofs.Common.{◌≡◌, ℕ, List, [], ◌∷◌, length, arith, ◌-◌, ◌≤◌, refl}
-use Rattle.awk_state.specs.Records.{without_last}
+use Rattle.sem_primitives.specs.Records.{without_last}
 use Rattle.host_streams.proofs.Cuts.{last_newline, last_other}
 use Rattle.host_streams.proofs.look.paragraph_len.Goals as goal
 use Rattle.host_streams.proofs.look.paragraph_len.Goals.{else-len-gt0-via-then-len-gt0+else-bytes-len-eq10, else-len-gt0-via-else-len-gt0}

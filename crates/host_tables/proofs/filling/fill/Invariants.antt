@@ -1,6 +1,6 @@
 use Rattle.std.proofs.Common.{◌≡◌, map, take}
 use Rattle.std.specs.FinMap as tables
-use Rattle.awk_state.specs.ArrayRows.{numbered}
+use Rattle.sem_primitives.specs.ArrayMeaning.{numbered}
 use Rattle.host_format.specs.Spans.{span_text}
 use Rattle.host_tables.proofs.filling.fill.Given as goal
 

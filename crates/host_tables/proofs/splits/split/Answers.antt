@@ -1,8 +1,8 @@
 use Rattle.std.proofs.Common.{rules, ◌≡◌, length, map as map_list, sym, ap, subst, ◌∙◌}
 use Rattle.std.specs.FinMap as map
 use Rattle.awk_values.specs.Values.{text_of_value}
-use Rattle.awk_state.specs.ArrayRows.{numbered}
-use Rattle.awk_state.specs.TextRows.{splits_at}
+use Rattle.sem_primitives.specs.ArrayMeaning.{numbered}
+use Rattle.sem_primitives.specs.TextMeaning.{splits_at}
 use Rattle.host_format.specs.Spans.{span_text}
 use Rattle.host_values.specs.Calls.{spare}
 use Rattle.host_values.proofs.Spare.{spare_removed}

@@ -1,6 +1,6 @@
 use Rattle.std.proofs.Common.{◌≡◌, ◌∷◌, pos, take, codes}
 use Rattle.std.specs.FinMap as maps
-use Rattle.awk_state.specs.ArrayRows.{numbered}
+use Rattle.sem_primitives.specs.ArrayMeaning.{numbered}
 use Rattle.host_tables.proofs.start.fill_argv.Given as goal
 
 abbrev pub invariant-loop-at : goal.invariant-loop-at

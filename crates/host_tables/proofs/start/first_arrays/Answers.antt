@@ -1,6 +1,6 @@
 use Rattle.std.proofs.Common.{ℕ, ◌∷◌, [], pos, List, map, codes, ap, ◌∙◌}
 use Rattle.std.specs.FinMap as maps
-use Rattle.awk_state.specs.Jobs.{arguments_from, environment_in}
+use Rattle.sem_primitives.specs.Jobs.{arguments_from, environment_in}
 use Rattle.host_elements.specs.Forms.{Arrays}
 use Rattle.host_names.specs.Forms.{pair_of}
 use Rattle.host_names.specs.declared.names.NamedText.{NamedText}

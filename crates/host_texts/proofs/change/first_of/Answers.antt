@@ -1,10 +1,10 @@
 use Rattle.std.proofs.Common.{◌≡◌, ◌∙◌, Ok, ap, sym}
 use Rattle.std.proofs.lemmas.Result.{IfOk-weaker}
 use Rattle.ere_syntax.specs.Tree.{Tree}
-use Rattle.awk_state.specs.FirstMatch.{expression_of, first_match}
-use Rattle.awk_state.specs.SharedState.{Inner}
-use Rattle.awk_state.specs.TextRows.{match_row, match_start, with_match}
-use Rattle.awk_state.specs.Texts.{counted}
+use Rattle.sem_primitives.specs.FirstMatch.{expression_of, first_match}
+use Rattle.sem_primitives.specs.SharedState.{Inner}
+use Rattle.sem_primitives.specs.TextMeaning.{match_row, match_start, with_match}
+use Rattle.sem_primitives.specs.Texts.{counted}
 use Rattle.host_texts.proofs.Outcomes.{match_row_is}
 use Rattle.host_texts.proofs.change.first_of.Goals as goal
 

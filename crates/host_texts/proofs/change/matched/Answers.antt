@@ -1,9 +1,9 @@
 use Rattle.std.proofs.Common.{Ok, pos, sym, ap, ◌∙◌}
 use Rattle.awk_values.specs.declared.value.Value.TheVariants.{Num}
-use Rattle.awk_state.specs.SharedState.{with_special}
-use Rattle.awk_state.specs.TextRows.{match_start}
-use Rattle.awk_state.specs.Texts.{counted}
-use Rattle.awk_state.specs.declared.constants.Special.TheVariants.{Rlength, Rstart}
+use Rattle.sem_primitives.specs.SharedState.{with_special}
+use Rattle.sem_primitives.specs.TextMeaning.{match_start}
+use Rattle.sem_primitives.specs.Texts.{counted}
+use Rattle.sem_primitives.specs.declared.constants.Special.TheVariants.{Rlength, Rstart}
 use Rattle.host_texts.specs.States.{with_texts}
 use Rattle.host_texts.proofs.change.matched.Goals as goal
 

@@ -1,7 +1,7 @@
 use Rattle.std.proofs.Common.{◌≡◌, Err, subst}
 use Rattle.std.specs.Int.{w64}
 use Rattle.std.proofs.lemmas.Int.{to_z-of_z}
-use Rattle.awk_state.specs.FieldRows.{done}
+use Rattle.sem_primitives.specs.FieldMeaning.{done}
 use Rattle.host_fields.specs.Calls.{field_set}
 use Rattle.host_texts.proofs.Outcomes.{done_stop, refused_outcome}
 use Rattle.host_texts.specs.Evaluations.{Outcome, done_reply, settled}

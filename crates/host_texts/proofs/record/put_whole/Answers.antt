@@ -1,6 +1,6 @@
 use Rattle.std.proofs.Common.{sym, ap, subst, ◌∙◌}
 use Rattle.awk_values.specs.Values.{text_of_value}
-use Rattle.awk_state.specs.FieldRows.{with_record}
+use Rattle.sem_primitives.specs.FieldMeaning.{with_record}
 use Rattle.host_format.specs.Outcomes.{IsStopOf}
 use Rattle.host_texts.specs.States.{with_texts}
 use Rattle.host_texts.proofs.record.put_whole.Goals as goal

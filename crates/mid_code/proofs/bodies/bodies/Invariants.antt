@@ -1,6 +1,6 @@
 use Rattle.std.proofs.Common.{◌≡◌, ◌++◌, drop}
 use Rattle.awk_grammar.specs.ViewStmt.{view_items}
-use Rattle.mid_program.specs.Kinds.{bodies}
+use Rattle.sem_scripts.specs.Kinds.{bodies}
 use Rattle.mid_code.specs.ViewNames.{view_bodies}
 use Rattle.mid_code.proofs.bodies.bodies.Given as goal
 

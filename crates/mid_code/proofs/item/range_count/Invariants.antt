@@ -1,6 +1,6 @@
 use Rattle.std.proofs.Common.{◌≡◌, ◌+◌, ◌≤◌, drop}
 use Rattle.awk_grammar.specs.ViewStmt.{view_items}
-use Rattle.mid_program.specs.Items.{range_count}
+use Rattle.sem_scripts.specs.Items.{range_count}
 use Rattle.mid_code.proofs.item.range_count.Given as goal
 
 abbrev pub invariant-loop-item : goal.invariant-loop-item

@@ -1,6 +1,6 @@
 use Rattle.std.proofs.Common.{◌≡◌, drop}
 use Rattle.awk_grammar.specs.ViewStmt.{view_items}
-use Rattle.mid_program.specs.Items.{reads_records}
+use Rattle.sem_scripts.specs.Items.{reads_records}
 use Rattle.mid_code.proofs.item.reads_records.Given as goal
 
 abbrev pub invariant-loop-item : goal.invariant-loop-item

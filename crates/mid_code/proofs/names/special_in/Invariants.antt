@@ -1,5 +1,5 @@
 use Rattle.std.proofs.Common.{◌≡◌, drop, map}
-use Rattle.mid_program.specs.Names.{special_in}
+use Rattle.sem_scripts.specs.Names.{special_in}
 use Rattle.mid_code.specs.ViewNames.{plain_special}
 use Rattle.mid_code.proofs.names.special_in.Given as goal
 

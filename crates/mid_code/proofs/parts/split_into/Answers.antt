@@ -2,7 +2,7 @@ use Rattle.std.proofs.Common.{ℕ, ap, ◌∙◌}
 use Rattle.mid_program.specs.Mid as plain
 use Rattle.mid_program.specs.ViewCode.{view, view_array, views}
 use Rattle.mid_program.specs.declared.mid.Operation.TheVariants.{Host}
-use Rattle.awk_state.specs.declared.table.Primitive.TheVariants as row
+use Rattle.sem_primitives.specs.declared.table.Primitive.TheVariants as row
 use Rattle.mid_code.proofs.CodeParts.{flag_is}
 use Rattle.mid_code.proofs.Views.{views_push}
 use Rattle.mid_code.proofs.parts.split_into.Goals as goal

@@ -2,7 +2,7 @@ use Rattle.std.proofs.Common.{List, [], ◌∷◌, ◌++◌, ap, sym, ◌∙◌}
 use Rattle.awk_grammar.specs.ViewStmt.{view_args}
 use Rattle.awk_grammar.specs.declared.tree.PrintArgs.{PrintArgs}
 use Rattle.mid_program.specs.Mid.{Code, At, End}
-use Rattle.mid_program.specs.Statements.{operands_of}
+use Rattle.sem_scripts.specs.Statements.{operands_of}
 use Rattle.mid_program.specs.Translation.{codes_of}
 use Rattle.mid_program.specs.ViewCode.{views}
 use Rattle.mid_code.specs.ViewScope.{scope_of, texts_of}

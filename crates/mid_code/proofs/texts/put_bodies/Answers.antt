@@ -1,7 +1,7 @@
 use Rattle.std.proofs.Common.{◌+◌, ℕ, List, drop, ap, sym, ◌∙◌}
 use Rattle.awk_grammar.specs.Stmt.{Stmts}
 use Rattle.awk_resolve.specs.ViewFunctions.{view_functions}
-use Rattle.mid_program.specs.Kinds.{with_bodies}
+use Rattle.sem_scripts.specs.Kinds.{with_bodies}
 use Rattle.mid_program.specs.Texts.{functions_texts, once, stmts_texts}
 use Rattle.mid_program.specs.View.{view_texts}
 use Rattle.mid_code.specs.ViewBodies.{body_in}

@@ -1,6 +1,6 @@
 use Rattle.std.proofs.Common.{◌≡◌, drop}
 use Rattle.awk_resolve.specs.ViewFunctions.{view_functions}
-use Rattle.mid_program.specs.Kinds.{with_bodies}
+use Rattle.sem_scripts.specs.Kinds.{with_bodies}
 use Rattle.mid_program.specs.Texts.{functions_texts, once}
 use Rattle.mid_program.specs.View.{view_texts}
 use Rattle.mid_code.specs.ViewNames.{view_bodies}

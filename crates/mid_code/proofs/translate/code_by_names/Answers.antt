@@ -4,7 +4,7 @@ use Rattle.awk_grammar.specs.declared.tree.Item.{Item}
 use Rattle.awk_resolve.specs.ViewKinds.{view_name_kinds}
 use Rattle.awk_resolve.specs.declared.function_names.NameKind.{NameKind}
 use Rattle.awk_resolve.specs.declared.resolved.Resolved.{Resolved}
-use Rattle.mid_program.specs.Items.{range_count, reads_records, top}
+use Rattle.sem_scripts.specs.Items.{range_count, reads_records, top}
 use Rattle.mid_program.specs.Translation.{begin_code, declared_code, end_code, items_code, program_with, routine_code}
 use Rattle.mid_program.specs.View.{view_declared, view_routine, view_steps, view_texts}
 use Rattle.mid_code.specs.ViewNames.{script_of}

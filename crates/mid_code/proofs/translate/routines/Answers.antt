@@ -6,9 +6,9 @@ use Rattle.awk_resolve.specs.declared.function_names.NameKind.{NameKind}
 use Rattle.awk_resolve.proofs.Names.{drop_at}
 use Rattle.awk_grammar.specs.Stmt.{Stmts}
 use Rattle.awk_grammar.specs.ViewStmt.{view_stmts}
-use Rattle.mid_program.specs.Kinds.{with_bodies}
+use Rattle.sem_scripts.specs.Kinds.{with_bodies}
 use Rattle.mid_program.specs.Mid.{Routine as PlainRoutine}
-use Rattle.mid_program.specs.Names.{Function}
+use Rattle.sem_scripts.specs.Names.{Function}
 use Rattle.mid_program.specs.Translation.{routine_code}
 use Rattle.mid_program.specs.View.{view_routine, view_texts}
 use Rattle.mid_code.specs.ViewNames.{script_of, view_bodies}

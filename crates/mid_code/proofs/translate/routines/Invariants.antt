@@ -1,6 +1,6 @@
 use Rattle.std.proofs.Common.{◌≡◌, ◌++◌, drop, map}
 use Rattle.awk_resolve.specs.ViewFunctions.{view_functions}
-use Rattle.mid_program.specs.Kinds.{with_bodies}
+use Rattle.sem_scripts.specs.Kinds.{with_bodies}
 use Rattle.mid_program.specs.Translation.{routine_code}
 use Rattle.mid_program.specs.View.{view_routine, view_texts}
 use Rattle.mid_code.specs.ViewNames.{script_of, view_bodies}

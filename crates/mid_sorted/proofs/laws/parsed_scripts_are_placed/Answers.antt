@@ -1,4 +1,4 @@
-use Rattle.mid_program.specs.Kinds.{resolved}
+use Rattle.sem_scripts.specs.Kinds.{resolved}
 use Rattle.mid_sorted.proofs.Parsed.{parsed_placed}
 use Rattle.mid_sorted.proofs.Resolves.{script_fits}
 use Rattle.mid_sorted.proofs.Scripts.{script_sorted}

@@ -3,8 +3,8 @@ use Rattle.mid_program.specs.View.{view_mid}
 use Rattle.mid_program.specs.declared.program.Mid.{Mid}
 use Rattle.wasm_types.specs.ModuleGrammar.{IsModule}
 use Rattle.wasm_types.specs.Syntax.{ModuleForm}
-use Rattle.module_emission.specs.Limits.{IsTooLarge}
-use Rattle.statement_emission.specs.Limits.{AreSmallEnough}
+use Rattle.lower_modules.specs.Limits.{IsTooLarge}
+use Rattle.lower_statements.specs.Limits.{AreSmallEnough}
 use Rattle.script_compiler.proofs.Compiling.{module_same, program_same}
 use Rattle.script_compiler.proofs.compiler.bytes_of.Goals as goal
 

@@ -1,9 +1,9 @@
 use Rattle.std.proofs.Common.{rules, ◌≡◌, ◌≢◌, ◌∙◌, ap, subst}
-use Rattle.machine_model.specs.Machines.{ProgramForm}
-use Rattle.machine_model.specs.Runs.{Did, lasting}
-use Rattle.machine_model.specs.declared.ends.MachineEnd.{MachineEnd}
-use Rattle.machine_model.specs.declared.ends.MachineEnd.TheVariants as told
-use Rattle.machine_model.proofs.Chains.{did_less, did_on}
+use Rattle.wasm_model.specs.Machines.{ProgramForm}
+use Rattle.wasm_model.specs.Runs.{Did, lasting}
+use Rattle.wasm_model.specs.declared.ends.MachineEnd.{MachineEnd}
+use Rattle.wasm_model.specs.declared.ends.MachineEnd.TheVariants as told
+use Rattle.wasm_model.proofs.Chains.{did_less, did_on}
 use Rattle.wasm_machine.proofs.laws.run_on.Goals as goal
 
 pub returns : goal.returns

@@ -1,4 +1,4 @@
-use Rattle.machine_model.proofs.Chains.{wanted}
+use Rattle.wasm_model.proofs.Chains.{wanted}
 use Rattle.wasm_machine.proofs.laws.run_wanting.Goals as goal
 
 pub returns-clause-prefix : goal.returns-clause-prefix

@@ -4,8 +4,8 @@ use Rattle.wasm_types.specs.declared.instr.Instr.{Instr}
 use Rattle.wasm_types.specs.declared.module.Elem.{Elem}
 use Rattle.wasm_types.specs.View.{view_elem, views}
 use Rattle.wasm_store.specs.Tables.{with_functions}
-use Rattle.machine_model.specs.Links.{ElemFits, place_of}
-use Rattle.machine_model.proofs.Linking.{length_with, filled_more}
+use Rattle.wasm_model.specs.Links.{ElemFits, place_of}
+use Rattle.wasm_model.proofs.Linking.{length_with, filled_more}
 use Rattle.wasm_machine.proofs.link.fill.Goals as goal
 
 pub loop-elem-preserved : goal.loop-elem-preserved

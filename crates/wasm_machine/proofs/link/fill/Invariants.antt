@@ -1,6 +1,6 @@
 use Rattle.std.proofs.Common.{◌≡◌, map, take, length}
 use Rattle.wasm_types.specs.View.{view_elem}
-use Rattle.machine_model.specs.Links.{filled}
+use Rattle.wasm_model.specs.Links.{filled}
 use Rattle.wasm_machine.proofs.link.fill.Given as goal
 
 abbrev pub invariant-loop-elem : goal.invariant-loop-elem

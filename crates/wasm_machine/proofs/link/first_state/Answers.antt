@@ -13,15 +13,15 @@ use Rattle.wasm_types.specs.Syntax.{Instructions}
 use Rattle.wasm_types.specs.View.{view_data, view_elem, view_global, view_module, views}
 use Rattle.wasm_store.specs.declared.word.Word.{Word}
 use Rattle.wasm_store.specs.Memories.{MemoryForm, fresh}
-use Rattle.machine_model.specs.Frames.{begun}
-use Rattle.machine_model.specs.Links.{DataFits, ElemFits, entry_code, filled, least, limits_or_none, poured, value_of}
-use Rattle.machine_model.proofs.Beginning.{least_is, beginning_is}
-use Rattle.machine_model.proofs.Linking.{all_of_map}
-use Rattle.machine_registers.specs.Laid.{Laid, code_at}
-use Rattle.machine_registers.specs.Landings.{framed_at}
-use Rattle.machine_frames.specs.declared.frames.Frame.{Frame}
-use Rattle.machine_frames.specs.Standing.{code_of, code_with, nothing}
-use Rattle.machine_frames.proofs.Waiting.{conf_is}
+use Rattle.wasm_model.specs.Frames.{begun}
+use Rattle.wasm_model.specs.Links.{DataFits, ElemFits, entry_code, filled, least, limits_or_none, poured, value_of}
+use Rattle.wasm_model.proofs.Beginning.{least_is, beginning_is}
+use Rattle.wasm_model.proofs.Linking.{all_of_map}
+use Rattle.wasm_registers.specs.Laid.{Laid, code_at}
+use Rattle.wasm_registers.specs.Landings.{framed_at}
+use Rattle.wasm_frames.specs.declared.frames.Frame.{Frame}
+use Rattle.wasm_frames.specs.Standing.{code_of, code_with, nothing}
+use Rattle.wasm_frames.proofs.Waiting.{conf_is}
 use Rattle.wasm_machine.proofs.Laying.{begin_of, begun_frame, entry_of}
 use Rattle.wasm_machine.proofs.link.first_state.Goals as goal
 

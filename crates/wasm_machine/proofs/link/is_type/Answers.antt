@@ -1,7 +1,7 @@
 use Rattle.std.proofs.Common.{Some, refl}
 use Rattle.wasm_types.specs.Typing.{typed_in}
 use Rattle.wasm_types.specs.View.{signature_of, view_module}
-use Rattle.machine_model.proofs.Types.{agree_is}
+use Rattle.wasm_model.proofs.Types.{agree_is}
 use Rattle.wasm_machine.proofs.link.is_type.Goals as goal
 
 pub returns : goal.returns

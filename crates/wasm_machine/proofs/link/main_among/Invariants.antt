@@ -1,6 +1,6 @@
 use Rattle.std.proofs.Common.{◌≡◌, drop}
 use Rattle.wasm_types.specs.View.{view_export, view_module}
-use Rattle.machine_model.specs.Links.{first_some, main_at}
+use Rattle.wasm_model.specs.Links.{first_some, main_at}
 use Rattle.wasm_machine.proofs.link.main_among.Given as goal
 
 abbrev pub invariant-loop-export : goal.invariant-loop-export

@@ -1,8 +1,8 @@
 use Rattle.std.proofs.Common.{List, ap, ◌∙◌}
 use Rattle.wasm_types.specs.declared.module.Export.{Export}
 use Rattle.wasm_types.specs.View.{view_export, view_module}
-use Rattle.machine_model.specs.Links.{first_some, main_at}
-use Rattle.machine_model.proofs.Linking.{first_some_map}
+use Rattle.wasm_model.specs.Links.{first_some, main_at}
+use Rattle.wasm_model.proofs.Linking.{first_some_map}
 use Rattle.wasm_machine.proofs.link.main_of.Goals as goal
 
 pub returns : goal.returns

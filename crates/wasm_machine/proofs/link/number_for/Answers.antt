@@ -1,6 +1,6 @@
 use Rattle.std.proofs.Common.{◌∙◌, Some, None, Bool, ap, if◌then◌else◌}
 use Rattle.wasm_types.specs.View.{signature_of, view_import, view_module}
-use Rattle.machine_model.proofs.Linking.{number_is}
+use Rattle.wasm_model.proofs.Linking.{number_is}
 use Rattle.wasm_machine.proofs.link.number_for.Goals as goal
 
 pub returns-then-is_type : goal.returns-then-is_type

@@ -1,7 +1,7 @@
 use Rattle.std.proofs.Common.{◌∙◌}
 use Rattle.wasm_types.specs.View.{view_import, view_module}
-use Rattle.machine_model.specs.Links.{number_for}
-use Rattle.machine_model.proofs.Linking.{missing_at}
+use Rattle.wasm_model.specs.Links.{number_for}
+use Rattle.wasm_model.proofs.Linking.{missing_at}
 use Rattle.wasm_machine.proofs.link.numbers_among.Goals as goal
 
 pub returns-in_default : goal.returns-in_default

@@ -1,6 +1,6 @@
 use Rattle.std.proofs.Common.{◌≡◌, map, take, Some}
 use Rattle.wasm_types.specs.View.{view_import, view_module}
-use Rattle.machine_model.specs.Links.{number_for}
+use Rattle.wasm_model.specs.Links.{number_for}
 use Rattle.wasm_machine.proofs.link.numbers_among.Given as goal
 
 abbrev pub invariant-loop-index : goal.invariant-loop-index

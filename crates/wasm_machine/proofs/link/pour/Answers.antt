@@ -4,8 +4,8 @@ use Rattle.wasm_types.specs.declared.instr.Instr.{Instr}
 use Rattle.wasm_types.specs.declared.module.Data.{Data}
 use Rattle.wasm_types.specs.View.{view_data, views}
 use Rattle.wasm_store.specs.Memories.{MemoryForm, written}
-use Rattle.machine_model.specs.Links.{DataFits, place_of}
-use Rattle.machine_model.proofs.Linking.{length_written, poured_more}
+use Rattle.wasm_model.specs.Links.{DataFits, place_of}
+use Rattle.wasm_model.proofs.Linking.{length_written, poured_more}
 use Rattle.wasm_machine.proofs.link.pour.Goals as goal
 
 pub loop-segment-preserved : goal.loop-segment-preserved

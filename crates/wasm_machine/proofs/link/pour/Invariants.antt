@@ -1,6 +1,6 @@
 use Rattle.std.proofs.Common.{◌≡◌, map, take, length}
 use Rattle.wasm_types.specs.View.{view_data}
-use Rattle.machine_model.specs.Links.{poured}
+use Rattle.wasm_model.specs.Links.{poured}
 use Rattle.wasm_machine.proofs.link.pour.Given as goal
 
 abbrev pub invariant-loop-segment : goal.invariant-loop-segment

@@ -4,8 +4,8 @@ use Rattle.std.specs.List.{All}
 use Rattle.wasm_types.specs.declared.module.Elem.{Elem}
 use Rattle.wasm_types.specs.declared.module.Data.{Data}
 use Rattle.wasm_types.specs.View.{view_data, view_elem}
-use Rattle.machine_model.specs.Links.{ElemFits, DataFits, least}
-use Rattle.machine_model.proofs.Linking.{mapped, both}
+use Rattle.wasm_model.specs.Links.{ElemFits, DataFits, least}
+use Rattle.wasm_model.proofs.Linking.{mapped, both}
 use Rattle.wasm_machine.proofs.link.segments_fit.Goals as goal
 
 pub returns : goal.returns

@@ -1,6 +1,6 @@
 use Rattle.std.proofs.Common.{◌≡◌, map, take}
 use Rattle.wasm_types.specs.View.{views}
-use Rattle.machine_model.specs.Links.{value_of}
+use Rattle.wasm_model.specs.Links.{value_of}
 use Rattle.wasm_machine.proofs.link.values_of.Given as goal
 
 abbrev pub invariant-loop-global : goal.invariant-loop-global

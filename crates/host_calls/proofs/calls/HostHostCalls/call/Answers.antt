@@ -1,9 +1,9 @@
 use Rattle.std.proofs.Common.{[], Option, refl, subst}
-use Rattle.machine_model.specs.declared.host.HostAnswer.TheVariants.{Trap}
+use Rattle.wasm_model.specs.declared.host.HostAnswer.TheVariants.{Trap}
 use Rattle.wasm_store.specs.declared.trap.TrapKind.TheVariants.{BadArgument}
 use Rattle.host_step.specs.declared.import.Import.{Import}
-use Rattle.form_meaning.specs.FormMeaning.{FormMeans}
-use Rattle.form_meaning.proofs.Means.{unknown_called}
+use Rattle.host_meaning.specs.FormMeaning.{FormMeans}
+use Rattle.host_meaning.proofs.Means.{unknown_called}
 use Rattle.host_calls.specs.Forms.{host_form}
 use Rattle.host_calls.proofs.calls.HostHostCalls.call.Goals as goal
 

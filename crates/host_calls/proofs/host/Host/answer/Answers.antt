@@ -1,9 +1,9 @@
 use Rattle.std.proofs.Common.{[], Option, ap, subst, sym, ◌∙◌}
-use Rattle.machine_model.specs.declared.host.HostAnswer.TheVariants as told
+use Rattle.wasm_model.specs.declared.host.HostAnswer.TheVariants as told
 use Rattle.wasm_store.specs.declared.word.Word.{Word}
 use Rattle.host_step.specs.Answers.{refusal}
 use Rattle.host_step.specs.HostStep.{refuses}
-use Rattle.import_host.proofs.Tellings.{refused_means}
+use Rattle.host_table_calls.proofs.Tellings.{refused_means}
 use Rattle.host_calls.specs.Calls.{MeansSome}
 use Rattle.host_calls.specs.Forms.{host_form}
 use Rattle.host_calls.proofs.host.Host.answer.Goals as goal

@@ -1,5 +1,5 @@
 use Rattle.std.proofs.Common.{[], refl}
-use Rattle.awk_state.specs.declared.table.Primitive.TheVariants as row
+use Rattle.sem_primitives.specs.declared.table.Primitive.TheVariants as row
 use Rattle.host_step.specs.declared.import.Import.TheVariants.{Of}
 use Rattle.host_inputs.proofs.Apart.{holds_file}
 use Rattle.host_outputs.specs.Forms.{closing}

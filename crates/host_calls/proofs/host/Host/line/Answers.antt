@@ -1,5 +1,5 @@
 use Rattle.std.proofs.Common.{[]}
-use Rattle.awk_state.specs.declared.table.Primitive.TheVariants as row
+use Rattle.sem_primitives.specs.declared.table.Primitive.TheVariants as row
 use Rattle.host_step.specs.declared.import.Import.TheVariants.{Of}
 use Rattle.host_elements.specs.Forms.{HostForm}
 use Rattle.host_calls.specs.Forms.{form_in}

@@ -1,5 +1,5 @@
 use Rattle.std.proofs.Common.{◌++◌, ap, ◌∙◌}
-use Rattle.awk_state.specs.Formats.{zeros}
+use Rattle.sem_primitives.specs.Formats.{zeros}
 use Rattle.host_format.specs.Conversions.{places_text}
 use Rattle.host_format.proofs.Padded.{filled_more}
 use Rattle.host_format.proofs.padding.Parts.filled.Goals as goal

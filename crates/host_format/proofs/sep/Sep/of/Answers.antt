@@ -1,4 +1,4 @@
-use Rattle.awk_state.specs.Fields.{Expression}
+use Rattle.sem_primitives.specs.Fields.{Expression}
 use Rattle.host_format.proofs.Refusals.{ere_separates}
 use Rattle.host_format.proofs.sep.Sep.of.Goals as goal
 

@@ -1,5 +1,5 @@
 use Rattle.std.proofs.Common.{get_or, refl}
-use Rattle.awk_state.specs.Fields.{Byte}
+use Rattle.sem_primitives.specs.Fields.{Byte}
 use Rattle.host_format.proofs.Refusals.{byte_separates, long_text}
 use Rattle.host_format.proofs.sep.Sep.plain.Goals as goal
 

@@ -1,6 +1,6 @@
 use Rattle.std.proofs.Common.{◌≡◌}
-use Rattle.awk_state.specs.InputRows.{main_input}
-use Rattle.awk_state.specs.SharedState.{Inner}
+use Rattle.sem_primitives.specs.InputMeaning.{main_input}
+use Rattle.sem_primitives.specs.SharedState.{Inner}
 use Rattle.host_streams.specs.Mains.{HoldsMain, IsAsked, IsOffered, SparesKinds, SparesPlaces, main_of, main_phase, with_main, work}
 use Rattle.awk_values.specs.Values.{number_of_value}
 use Rattle.host_streams.specs.Passing.{AreThere, Skips, StandardStays}

@@ -1,7 +1,7 @@
 use Rattle.std.proofs.Common.{◌∙◌, ◌||◌, sym, ap, subst}
 use Rattle.awk_values.specs.declared.value.Value.TheVariants.{Text}
-use Rattle.awk_state.specs.InputRows.{close_row, without_writer}
-use Rattle.awk_state.specs.OutputRows.{is_writing}
+use Rattle.sem_primitives.specs.InputMeaning.{close_row, without_writer}
+use Rattle.sem_primitives.specs.OutputMeaning.{is_writing}
 use Rattle.host_streams.specs.Closing.{ClosesBy}
 use Rattle.host_streams.specs.OpenFiles.{names_of}
 use Rattle.host_streams.proofs.Closed.{closes_both}

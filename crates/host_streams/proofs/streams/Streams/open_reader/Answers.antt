@@ -1,6 +1,6 @@
 use Rattle.std.proofs.Common.{◌≡◌, ◌∙◌, ◌++◌, ◌∷◌, [], ◌<◌, ◌+◌, sym, ap, subst, List, Some, length, arith}
 use Rattle.std.proofs.lemmas.Bool.{lt-ltb}
-use Rattle.awk_state.specs.InputRows.{with_reader}
+use Rattle.sem_primitives.specs.InputMeaning.{with_reader}
 use Rattle.host_streams.specs.declared.streams.NamedReader.{NamedReader}
 use Rattle.host_streams.specs.OpenFiles.{IsAdded, is_reader, kept_named, phase_named, reader_place, readers_beside, readers_in}
 use Rattle.host_streams.specs.declared.reader.Phase.TheVariants.{Open}

@@ -1,5 +1,5 @@
 use Rattle.std.proofs.Common.{◌∙◌, false, sym, ap, subst}
-use Rattle.awk_state.specs.OutputRows.{is_writing, written, written_by}
+use Rattle.sem_primitives.specs.OutputMeaning.{is_writing, written, written_by}
 use Rattle.host_streams.specs.OpenFiles.{has_room, writer_place}
 use Rattle.host_streams.specs.Outputs.{IsOf}
 use Rattle.host_streams.specs.Puts.{EndsPut, IsOver}

@@ -1,6 +1,6 @@
 use Rattle.std.proofs.Common.{◌≡◌, ◌∙◌, ◌++◌, ◌∷◌, ◌+◌, ◌<◌, [], ℕ, true, false, length, sym, ap, arith}
 use Rattle.std.proofs.lemmas.Result.{err_from_is_err_and}
-use Rattle.awk_state.specs.OutputRows.{opened_if, written_by}
+use Rattle.sem_primitives.specs.OutputMeaning.{opened_if, written_by}
 use Rattle.world_core.specs.WorldState.{Named}
 use Rattle.host_streams.specs.declared.streams.NamedWriter.{NamedWriter}
 use Rattle.host_streams.specs.OpenFiles.{names_of, writer_place}

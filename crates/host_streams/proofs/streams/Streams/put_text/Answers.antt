@@ -1,6 +1,6 @@
 use Rattle.std.proofs.Common.{[], ap, false, true}
-use Rattle.awk_state.specs.OutputRows.{put_text, written}
-use Rattle.awk_state.specs.declared.constants.Destination.TheVariants as destination
+use Rattle.sem_primitives.specs.OutputMeaning.{put_text, written}
+use Rattle.sem_primitives.specs.declared.constants.Destination.TheVariants as destination
 use Rattle.host_streams.specs.OpenFiles.{has_room}
 use Rattle.host_streams.specs.Outputs.{IsOf}
 use Rattle.host_streams.specs.Puts.{IsOver}

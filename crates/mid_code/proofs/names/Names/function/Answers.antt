@@ -1,8 +1,8 @@
 use Rattle.std.proofs.Common.{◌≡◌, length, ap, sym, ◌∙◌, arith}
 use Rattle.awk_grammar.specs.ViewStmt.{view_script}
 use Rattle.awk_resolve.specs.ViewFunctions.{view_functions}
-use Rattle.mid_program.specs.Kinds.{bodies, with_bodies}
-use Rattle.mid_program.specs.Names.{functions_length, or_past}
+use Rattle.sem_scripts.specs.Kinds.{bodies, with_bodies}
+use Rattle.sem_scripts.specs.Names.{functions_length, or_past}
 use Rattle.mid_code.proofs.NameTables.{function_from_is, function_in_bodies, functions_length_bodies}
 use Rattle.mid_code.proofs.names.Names.function.Goals as goal
 

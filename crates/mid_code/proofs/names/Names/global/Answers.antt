@@ -1,6 +1,6 @@
 use Rattle.std.proofs.Common.{◌≡◌, length, ap, sym, ◌∙◌, arith}
 use Rattle.awk_resolve.specs.ViewKinds.{view_name_kinds}
-use Rattle.mid_program.specs.Names.{names_length, or_past}
+use Rattle.sem_scripts.specs.Names.{names_length, or_past}
 use Rattle.mid_code.proofs.NameTables.{length_kinds, place_from_is}
 use Rattle.mid_code.proofs.names.Names.global.Goals as goal
 

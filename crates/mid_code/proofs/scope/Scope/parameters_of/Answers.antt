@@ -2,7 +2,7 @@ use Rattle.std.proofs.Common.{◌<◌, ◌≤◌, List, get_or, length, ap, subs
 use Rattle.awk_grammar.specs.ViewStmt.{view_script}
 use Rattle.awk_resolve.specs.ViewKinds.{view_name_kinds}
 use Rattle.awk_resolve.specs.declared.function_names.FunctionNames.{FunctionNames}
-use Rattle.mid_program.specs.Kinds.{bodies}
+use Rattle.sem_scripts.specs.Kinds.{bodies}
 use Rattle.mid_code.specs.ViewScope.{scope_of}
 use Rattle.mid_code.proofs.NameTables.{parameters_is, parameters_past}
 use Rattle.mid_code.proofs.scope.Scope.parameters_of.Goals as goal

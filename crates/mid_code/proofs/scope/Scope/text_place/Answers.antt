@@ -1,7 +1,7 @@
 use Rattle.std.proofs.Common.{◌≡◌, ◌≤◌, false, length, nat_lt, sym, ◌∙◌, arith}
 use Rattle.std.specs.List.{position_or_len}
 use Rattle.std.proofs.lemmas.Bool.{ltb-false}
-use Rattle.mid_program.specs.Names.{same_name}
+use Rattle.sem_scripts.specs.Names.{same_name}
 use Rattle.mid_code.specs.ViewScope.{texts_of}
 use Rattle.mid_code.proofs.NameTables.{none_place, position_within, some_place, text_place_is}
 use Rattle.mid_code.proofs.scope.Scope.text_place.Goals as goal

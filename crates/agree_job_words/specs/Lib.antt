@@ -1,0 +1,3 @@
+pub mod Naming
+pub mod Words
+pub mod Examples

@@ -1,0 +1,5 @@
+pub mod Quiet
+pub mod Sums
+pub mod Statements
+pub mod Laned
+pub mod Examples

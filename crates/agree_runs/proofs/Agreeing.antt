@@ -1,0 +1,42 @@
+-- What was told of a run is what the script does, where it and the module agree.
+use Rattle.std.proofs.Common.{◌≡◌, ℕ, List, ◌++◌, Option, Some, None, refl, sym, ◌∙◌, subst, append_assoc}
+use Rattle.awk_values.specs.declared.fault.Fault.{Fault}
+use Rattle.sem_primitives.specs.Jobs.{JobForm}
+use Rattle.world_core.specs.WorldState.{Action, Outside, Source}
+use Rattle.wasm_types.specs.Syntax.{ModuleForm}
+use Rattle.wasm_model.specs.declared.ends.MachineEnd.{MachineEnd}
+use Rattle.wasm_model.specs.declared.ends.MachineEnd.TheVariants as machine
+use Rattle.host_elements.specs.Forms.{HostForm}
+use Rattle.sem_scripts.specs.Kept.{Grows, output_of}
+use Rattle.sem_scripts.specs.ScriptRun.{Ending, Exhausted, GoesOn, Setting}
+use Rattle.agree_modules.specs.Agreement.{Agreement, Like, MayEnd, ModuleEnding, Trapped, ended_with, ending_told, setting_of}
+use Rattle.agree_runs.specs.ToldRuns.{DoesSo, Says, Tells, TellsEnding, ToldRun}
+
+-- what grows from more grows from less
+grows_less : (a b xs : List Action) → Grows (a ++ b) xs → Grows a xs
+grows_less a b xs g = (b ++ g.0, g.1 ∙ append_assoc a b g.0)
+
+module _ (script : Setting → ℕ → Ending) (m : ModuleForm) (agree : Agreement script m) (job : JobForm) (input : Source) (outside : Outside) (steps : ℕ) where
+  abbrev Does : Option Fault → MachineEnd → List Action → Type 0
+  Does kept e output = (turns : ℕ) × Says kept e output (script (setting_of job input outside) turns)
+
+  -- the ending that is told
+  the_ending : (kept : Option Fault) (e : MachineEnd) (output : List Action) (d : ModuleEnding) → ending_told kept e output ≡ Some d → TellsEnding m job input outside steps kept e output
+      → MayEnd m job input outside steps d
+  the_ending kept e output d is t = subst (λ (x : ModuleEnding). MayEnd m job input outside steps x) (same t.0 d (sym t.1 ∙ is)) t.2
+    where
+      same : (x y : ModuleEnding) → Some x ≡ Some y → x ≡ y
+      same x y q = cc
+
+  does : (kept : Option Fault) (e : MachineEnd) (output : List Action) → Tells m job input outside steps kept e output → Does kept e output
+  does None (machine.Returned n) output t = agree.backward job input outside steps _ tt (the_ending None (machine.Returned n) output (Like (ended_with None n output)) refl t)
+  does (Some f) (machine.Returned n) output t = agree.backward job input outside steps _ tt (the_ending (Some f) (machine.Returned n) output (Like (ended_with (Some f) n output)) refl t)
+  does kept machine.Exhausted output t = agree.backward job input outside steps (Exhausted output) tt (the_ending kept machine.Exhausted output (Like (Exhausted output)) refl t)
+  does kept machine.OutOfSteps output t = agree.output_module job input outside steps (Like (GoesOn output)) (the_ending kept machine.OutOfSteps output (Like (GoesOn output)) refl t)
+  does kept (machine.Trapped kind) output t = absurd (agree.never_trapped job input outside steps kind output (the_ending kept (machine.Trapped kind) output (Trapped kind output) refl t))
+  does kept machine.NoMemory output t =
+      let g = agree.output_module job input outside t.0 t.2 t.5 in
+      (g.0, grows_less output t.3 _ (subst (λ (o : List Action). Grows o (output_of (script (setting_of job input outside) g.0))) t.4 g.1))
+
+  pub does_so : (e : MachineEnd) (f : HostForm) → ToldRun m job input outside steps e f → DoesSo script job input outside e f
+  does_so e f r = let d = does f.fault e r.output r.tells in record { turns = d.0; output = r.output; says = d.1; applied = r.applied }

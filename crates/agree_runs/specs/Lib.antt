@@ -1,0 +1,2 @@
+pub mod ToldRuns
+pub mod Examples

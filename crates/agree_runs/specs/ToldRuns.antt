@@ -1,0 +1,56 @@
+-- What a machine tells of a run whose host is told by its tables.
+use Rattle.std.specs.Prelude.{◌≡◌, ℕ, ◌≤◌, List, ◌++◌, Option, Some}
+use Rattle.awk_values.specs.declared.fault.Fault.{Fault}
+use Rattle.sem_primitives.specs.Jobs.{JobForm}
+use Rattle.world_core.specs.WorldState.{Action, Outside, Source, after as outside_after}
+use Rattle.wasm_types.specs.Syntax.{ModuleForm}
+use Rattle.wasm_model.specs.Machines.{Conf, ProgramForm}
+use Rattle.wasm_model.specs.Runs.{Ran}
+use Rattle.wasm_model.specs.declared.ends.RunEnd.{RunEnd}
+use Rattle.wasm_model.specs.declared.ends.MachineEnd.{MachineEnd}
+use Rattle.wasm_model.specs.declared.ends.MachineEnd.TheVariants as machine
+use Rattle.host_step.specs.HostState.{HostState}
+use Rattle.host_elements.specs.Forms.{HostForm}
+use Rattle.host_meaning.specs.Shown.{Shown}
+use Rattle.agree_refined.proofs.Exchanging.{anyhow_meaning}
+use Rattle.sem_scripts.specs.Kept.{Grows, output_of}
+use Rattle.sem_scripts.specs.ScriptRun.{Ending, Exhausted, Setting}
+use Rattle.agree_modules.specs.Agreement.{MayEnd, ModuleEnding, ended_with, ending_told, output_in, setting_of}
+
+-- what was told, with this fault kept and this output, is how the module may end
+abbrev pub TellsEnding : ModuleForm → JobForm → Source → Outside → ℕ → Option Fault → MachineEnd → List Action → Type 0
+TellsEnding m job input outside steps kept e output = (ending : ModuleEnding) × (ending_told kept e output ≡ Some ending) × MayEnd m job input outside steps ending
+
+-- Where memory was wanting, the module may end with an output that begins so.
+abbrev pub Tells : ModuleForm → JobForm → Source → Outside → ℕ → Option Fault → MachineEnd → List Action → Type 0
+Tells m job input outside steps kept machine.NoMemory output =
+    (fewer : ℕ) × (fewer ≤ steps) × (ending : ModuleEnding) × (rest : List Action) × (output_in ending ≡ output ++ rest) × MayEnd m job input outside fewer ending
+Tells m job input outside steps kept e output = TellsEnding m job input outside steps kept e output
+
+-- A run of a module in a job, over a world that tells what it holds: what was told of it, and what the names outside hold then.
+pub record ToldRun (m : ModuleForm) (job : JobForm) (input : Source) (outside : Outside) (steps : ℕ) (e : MachineEnd) (after-run : HostForm) : Type 0 where
+  pub output : List Action
+  pub tells : Tells m job input outside steps after-run.fault e output
+  pub applied : after-run.shared.outside ≡ outside_after output outside
+
+-- A run over any world: each of its calls is as it is said of every world, from one state that is shown to another.
+pub record AnyhowRun (m : ProgramForm) (steps : ℕ) (conf : Conf) (state : HostState) (output : List Action) (e : RunEnd) (conf' : Conf) (after-run : HostForm) : Type 0 where
+  pub state' : HostState
+  pub shown : Shown after-run state'
+  pub ran : Ran anyhow_meaning m steps conf state output e conf' state'
+
+-- What an end that is told, with this fault kept and after this output, says of how a script ends: the same, or, where steps or memory did not suffice, that it
+-- has put out so much at least. A script never traps.
+abbrev pub Says : Option Fault → MachineEnd → List Action → Ending → Type 0
+Says kept (machine.Returned n) output ending = ending ≡ ended_with kept n output
+Says kept machine.Exhausted output ending = ending ≡ Exhausted output
+Says kept machine.OutOfSteps output ending = Grows output (output_of ending)
+Says kept machine.NoMemory output ending = Grows output (output_of ending)
+Says kept (machine.Trapped kind) output ending = ⊥
+
+-- The script does so within some number of turns, and the names outside hold what this output makes of them.
+pub record DoesSo (script : Setting → ℕ → Ending) (job : JobForm) (input : Source) (outside : Outside) (e : MachineEnd) (after-run : HostForm) : Type 0 where
+  pub turns : ℕ
+  pub output : List Action
+  pub says : Says after-run.fault e output (script (setting_of job input outside) turns)
+  pub applied : after-run.shared.outside ≡ outside_after output outside

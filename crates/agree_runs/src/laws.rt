@@ -1,0 +1,49 @@
+//! Laws of the definitions, each the contract of a function that does nothing.
+ghost use Rattle.std.specs.Prelude.{◌≢◌, List, ℕ};
+ghost use Rattle.sem_primitives.specs.Jobs.{JobForm};
+ghost use Rattle.wasm_model.specs.Links.{IsNew};
+ghost use Rattle.wasm_model.specs.Machines.{Conf, ProgramForm};
+ghost use Rattle.wasm_model.specs.Runs.{Did, MachineForm, Ran};
+ghost use Rattle.wasm_model.specs.declared.ends.MachineEnd.{MachineEnd};
+ghost use Rattle.wasm_model.specs.declared.ends.RunEnd.{RunEnd};
+ghost use Rattle.wasm_types.specs.Syntax.{ModuleForm};
+ghost use Rattle.wasm_types.specs.Typing.{ModuleOk};
+ghost use Rattle.world_core.specs.WorldState.{Action, Outside, Source};
+ghost use Rattle.host_step.specs.HostState.{HostState};
+ghost use Rattle.host_step.specs.Imports.{host_finds};
+ghost use Rattle.host_step.specs.Starts.{state_at_start};
+ghost use Rattle.host_elements.specs.Forms.{HostForm};
+ghost use Rattle.host_meaning.specs.FormMeaning.{FormState, form_meaning};
+ghost use Rattle.host_meaning.specs.Shown.{Shown};
+ghost use Rattle.sem_scripts.specs.ScriptRun.{Ending, Setting};
+ghost use Rattle.agree_modules.specs.Agreement.{Agreement};
+ghost use Rattle.agree_runs.specs.ToldRuns.{AnyhowRun, DoesSo, ToldRun};
+
+use world_core::World;
+
+/// Over a world that tells what it holds, what a machine did with a typed module is how the module may end over a host of the table: with the same
+/// output and the same fault, where the host shows the state at the start of a job. Where memory was wanting, its output is how that of another run
+/// begins.
+pub fn did<W: World>()
+    ensures { W.tells → (m : ModuleForm) → ModuleOk m → (a : MachineForm) → IsNew host_finds m a
+        → (job : JobForm) (input : Source) (outside : Outside)
+        → (f : HostForm) → Shown f (state_at_start job input outside)
+        → (steps : ℕ) (e : MachineEnd) (c : Conf) (g : HostForm)
+        → Did (form_meaning W.tells) a.program steps a.conf (FormState.Told f) e c (FormState.Told g)
+        → ToldRun m job input outside steps e g }
+{}
+
+/// Where a script and the module agree, the script does what was told.
+pub fn does_so()
+    ensures { (script : Setting → ℕ → Ending) (m : ModuleForm) → Agreement script m
+        → (job : JobForm) (input : Source) (outside : Outside) (steps : ℕ) (e : MachineEnd) (f : HostForm)
+        → ToldRun m job input outside steps e f → DoesSo script job input outside e f }
+{}
+
+/// Over any world, each call of a run that did not want memory is as it is said of every world.
+pub fn anyhow<W: World>()
+    ensures { (m : ProgramForm) (steps : ℕ) (c : Conf) (f : HostForm) (output : List Action) (e : RunEnd)
+        (c' : Conf) (g : HostForm) (s : HostState) → Shown f s → e ≢ RunEnd.NoMemory
+        → Ran (form_meaning W.tells) m steps c (FormState.Told f) output e c' (FormState.Told g)
+        → AnyhowRun m steps c s output e c' g }
+{}

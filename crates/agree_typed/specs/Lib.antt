@@ -1,0 +1,2 @@
+pub mod Finds
+pub mod Examples

@@ -1,9 +1,0 @@
-use Rattle.std.proofs.Common.{List, [], refl, sym, subst}
-use Rattle.wasm_types.specs.declared.instr.Instr.{Instr}
-use Rattle.code_emission.specs.Emits.{Emits}
-use Rattle.code_emission.proofs.Appended.{blocked}
-use Rattle.code_emission.proofs.emit.block.Goals as goal
-
-pub returns : goal.returns
-returns c = λ a emits. blocked c.args.out.now.items c.push.new.self.items c.in_ok-code.code c.in_ok-code.code.value a refl c.in_ok-push.ensures.items
-    (subst (λ (is : List Instr). Emits [] is a) (sym c.in_ok-code.ensures) emits)

@@ -1,8 +1,0 @@
-use Rattle.std.proofs.Common.{OnOk, sym, subst}
-use Rattle.awk_state.specs.declared.sorts.Answer.{Answer}
-use Rattle.value_machine.specs.Small.{kept}
-use Rattle.code_emission.specs.Emits.{Emits}
-use Rattle.code_emission.proofs.keeping.kept.Goals as goal
-
-pub returns-in-Done : goal.returns-in-Done
-returns-in-Done c = subst (λ (a : Answer). OnOk c.kept_done.result (Emits c.args.out.now.items c.kept_done.new.out.items (kept c.args.b.now c.args.faults a c.args.t c.args.exit))) (sym c.in-Done.is) (c.kept_done.ensures c.args.b.now)

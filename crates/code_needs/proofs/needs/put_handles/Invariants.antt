@@ -1,6 +1,0 @@
-use Rattle.std.proofs.Common.{◌≡◌, ◌++◌}
-use Rattle.value_machine.specs.Places.{handle_types}
-use Rattle.code_needs.proofs.needs.put_handles.Given as goal
-
-abbrev pub invariant-loop-i : goal.invariant-loop-i
-invariant-loop-i l = l.types.items ≡ l.fn.types.items ++ handle_types l._i

@@ -1,6 +1,0 @@
-use Rattle.std.proofs.Common.{◌≡◌, ◌++◌}
-use Rattle.value_machine.specs.Places.{temporary_types}
-use Rattle.code_needs.proofs.needs.put_temporaries.Given as goal
-
-abbrev pub invariant-loop-i : goal.invariant-loop-i
-invariant-loop-i l = l.types.items ≡ l.fn.types.items ++ temporary_types l._i

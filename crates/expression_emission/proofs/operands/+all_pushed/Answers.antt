@@ -1,8 +1,0 @@
-use Rattle.std.proofs.Common.{ap}
-use Rattle.code_emission.specs.Emits.{followed}
-use Rattle.expression_emission.specs.View.{view_layout}
-use Rattle.expression_emission.proofs.WalkLemmas.{none_put}
-use Rattle.expression_emission.proofs.operands.+all_pushed.Goals as goal
-
-pub returns-in_default : goal.returns-in_default
-returns-in_default t c = λ k. ap (followed c.args.out.now.items) (none_put (view_layout c.args.y.now) c.args.wanted.now c.args.operands.now c.args.t k c.in_default.ensures.cases)

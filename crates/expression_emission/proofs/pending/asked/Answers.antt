@@ -1,6 +1,0 @@
-use Rattle.expression_emission.specs.Parts.{one_asked}
-use Rattle.expression_emission.specs.View.{view_layout}
-use Rattle.expression_emission.proofs.pending.asked.Goals as goal
-
-pub returns : goal.returns
-returns c = c.again.ensures (one_asked (view_layout c.args.y.now) c.args.primitive c.args.t c.args.exit) c.in_ok-one_asked.ensures

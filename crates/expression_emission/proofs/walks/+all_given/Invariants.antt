@@ -1,5 +1,0 @@
-use Rattle.std.proofs.Common.{length}
-use Rattle.expression_emission.proofs.walks.+all_given.Given as goal
-
-abbrev pub decreases-all_given : goal.decreases-all_given
-decreases-all_given l = length l.operands.now

@@ -1,7 +1,0 @@
-use Rattle.std.proofs.Common.{◌≡◌, ◌+◌, drop}
-use Rattle.mid_program.specs.ViewCode.{views}
-use Rattle.value_machine.specs.Places.{made_in}
-use Rattle.expression_emission.proofs.walks.made_in.Given as goal
-
-abbrev pub invariant-loop-operand : goal.invariant-loop-operand
-invariant-loop-operand l = l.count + made_in (views (drop l.operand-index l.operands)) ≡ made_in (views l.operands)

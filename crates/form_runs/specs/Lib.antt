@@ -1,2 +1,0 @@
-pub mod ToldRuns
-pub mod Rows

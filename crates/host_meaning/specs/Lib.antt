@@ -1,0 +1,6 @@
+pub mod Shown
+pub mod FormMeaning
+pub mod FormLaws
+pub mod TableCalls
+pub mod WorldCalls
+pub mod Examples

@@ -1,0 +1,58 @@
+-- What lets something go does so whatever else is shared: also once a fault is kept, where the tables are told in part.
+use Rattle.std.proofs.Common.{ℕ, List, Option, Some, None, Result, refl, sym, ap, subst}
+use Rattle.awk_values.specs.declared.fault.Fault.{Fault}
+use Rattle.wasm_store.specs.declared.word.Word.{Word}
+use Rattle.host_step.specs.declared.import.Import.TheVariants.{Drop, IterFree, FreeArray}
+use Rattle.host_values.specs.Evaluations.{Values}
+use Rattle.host_values.specs.declared.reply.Refusal.{Refusal}
+use Rattle.host_elements.specs.Calls.{IsTableCall, with_arrays, with_iterators}
+use Rattle.host_elements.specs.Forms.{Arrays, HostForm, Iterators}
+use Rattle.host_meaning.specs.Shown.{SharesBy, form_with_output}
+use Rattle.host_meaning.specs.TableCalls.{TableCalls}
+use Rattle.host_meaning.proofs.Showing.{shares_tables}
+use Rattle.host_tables.specs.Families.{of_values}
+
+-- the same with another table of these
+
+with_values_by : (o : Option Fault) (x : Values) (form f : HostForm) → SharesBy o form f → SharesBy o (of_values x form) (of_values x f)
+with_values_by None x form f e = ap (of_values x) e
+with_values_by (Some fault) x form f e =
+    record { values = refl; arrays = e.arrays; iterators = e.iterators; fault = e.fault; outside = e.outside; output = e.output }
+
+with_iterators_by : (o : Option Fault) (x : Iterators) (form f : HostForm) → SharesBy o form f → SharesBy o (record form { iterators = x }) (record f { iterators = x })
+with_iterators_by None x form f e = ap (λ (z : HostForm). record z { iterators = x }) e
+with_iterators_by (Some fault) x form f e =
+    record { values = e.values; arrays = e.arrays; iterators = refl; fault = e.fault; outside = e.outside; output = e.output }
+
+with_arrays_by : (o : Option Fault) (x : Arrays) (form f : HostForm) → SharesBy o form f → SharesBy o (record form { arrays = x }) (record f { arrays = x })
+with_arrays_by None x form f e = ap (λ (z : HostForm). record z { arrays = x }) e
+with_arrays_by (Some fault) x form f e =
+    record { values = e.values; arrays = refl; iterators = e.iterators; fault = e.fault; outside = e.outside; output = e.output }
+
+module _ (before : HostForm) (words : List Word) (memory : List ℕ) (r : Result (Option Word) Refusal) where
+  pub value_goes : (x : Values) → ((f : HostForm) → IsTableCall Drop (of_values before.values f) words memory r (of_values x f))
+      → TableCalls Drop before words memory r (of_values x before)
+  value_goes x calls so_far form shares = (
+    of_values x form,
+    with_values_by before.fault x form (form_with_output so_far before) shares,
+    subst (λ (y : Values). IsTableCall Drop (of_values y form) words memory r (of_values x form))
+        (sym (shares_tables before.fault form (form_with_output so_far before) shares).values) (calls form),
+  )
+
+  pub iterator_goes : (x : Iterators) → ((f : HostForm) → IsTableCall IterFree (with_iterators f.values before.iterators f) words memory r (with_iterators f.values x f))
+      → TableCalls IterFree before words memory r (record before { iterators = x })
+  iterator_goes x calls so_far form shares = (
+    record form { iterators = x },
+    with_iterators_by before.fault x form (form_with_output so_far before) shares,
+    subst (λ (y : Iterators). IsTableCall IterFree (record form { iterators = y }) words memory r (record form { iterators = x }))
+        (sym (shares_tables before.fault form (form_with_output so_far before) shares).iterators) (calls form),
+  )
+
+  pub array_goes : (x : Arrays) → ((f : HostForm) → IsTableCall FreeArray (with_arrays f.values before.arrays f) words memory r (with_arrays f.values x f))
+      → TableCalls FreeArray before words memory r (record before { arrays = x })
+  array_goes x calls so_far form shares = (
+    record form { arrays = x },
+    with_arrays_by before.fault x form (form_with_output so_far before) shares,
+    subst (λ (y : Arrays). IsTableCall FreeArray (record form { arrays = y }) words memory r (record form { arrays = x }))
+        (sym (shares_tables before.fault form (form_with_output so_far before) shares).arrays) (calls form),
+  )

@@ -1,7 +1,0 @@
-use Rattle.value_machine.proofs.CodeFollows.{code_follows}
-use Rattle.module_agreement.proofs.Agreeing.{agreement}
-use Rattle.job_words.proofs.Runs.{argv_there}
-use Rattle.job_words.proofs.laws.argv_stays.Goals as goal
-
-pub returns : goal.returns
-returns c = λ p sorted names. argv_there p sorted names (agreement p (code_follows p sorted))

@@ -1,0 +1,46 @@
+-- Code that fits has places, labels and arrays that do.
+use Rattle.std.proofs.Common.{ℕ, suc, ◌+◌, ◌≤◌, arith}
+use Rattle.mid_program.specs.Mid.{Code, Do, Over, Compare, Call, Ask, AskLine, FileLine, Replace, Number, Text, Unset, Get, Set, Array, IsOpen, Choose, Seq, Let, Bound, Codes, End, At, Fixed, Fresh}
+use Rattle.mid_program.specs.Sorted.{count_of}
+use Rattle.lower_model.specs.Emission.{Layout, array_meant}
+use Rattle.lower_pieces.specs.Bounds.{most_places}
+use Rattle.lower_expressions.specs.Fits.{AllFit, ArrayFits, ArraysFit, Fits, Within}
+
+pub all_places : (y : Layout) (es : Codes) (t w d : ℕ) → AllFit y es t w d → suc (suc (t + count_of es)) ≤ most_places
+all_places y End t w d q = let a = q.0 in omega (arith, a)
+all_places y (At e es) t w d q = let a = all_places y es (suc t) w d q.1.1 in omega (arith, a)
+all_places y (Fixed m es) t w d q = all_places y es t w d q
+all_places y (Fresh es) t w d q = all_places y es t (suc w) d q.1
+
+pub all_within : (y : Layout) (es : Codes) (t w d : ℕ) → AllFit y es t w d → Within t w d
+all_within y End t w d q = q
+all_within y (At e es) t w d q = q.0
+all_within y (Fixed m es) t w d q = all_within y es t w d q
+all_within y (Fresh es) t w d q = q.0
+
+meant_fits : (y : Layout) (e : Code) (t w d : ℕ) → Fits y e t w d → ArrayFits (array_meant e)
+meant_fits y (Array a) t w d q = q
+meant_fits y (Seq a b) t w d q = meant_fits y b t w d q.1.1
+meant_fits y (Let a b) t w d q = meant_fits y b (suc t) w d q.1.1
+meant_fits y (Do o es) t w d q = tt
+meant_fits y (Over l es) t w d q = tt
+meant_fits y (Compare c a b) t w d q = tt
+meant_fits y (Call f es) t w d q = tt
+meant_fits y Ask t w d q = tt
+meant_fits y (AskLine s) t w d q = tt
+meant_fits y (FileLine e s) t w d q = tt
+meant_fits y (Replace all es s) t w d q = tt
+meant_fits y (Number z) t w d q = tt
+meant_fits y (Text i) t w d q = tt
+meant_fits y Unset t w d q = tt
+meant_fits y (Get x) t w d q = tt
+meant_fits y (Set x e) t w d q = tt
+meant_fits y (IsOpen i) t w d q = tt
+meant_fits y (Choose s c a b) t w d q = tt
+meant_fits y (Bound m i) t w d q = tt
+
+pub arrays_fit : (y : Layout) (es : Codes) (t w d : ℕ) → AllFit y es t w d → ArraysFit es
+arrays_fit y End t w d q = tt
+arrays_fit y (At e es) t w d q = (meant_fits y e t w d q.1.0, arrays_fit y es (suc t) w d q.1.1)
+arrays_fit y (Fixed m es) t w d q = arrays_fit y es t w d q
+arrays_fit y (Fresh es) t w d q = arrays_fit y es t (suc w) d q.1

@@ -1,0 +1,16 @@
+use Rattle.std.proofs.lemmas.Result.{on_ok_weaker}
+use Rattle.wasm_types.specs.Syntax.{Instructions, Done}
+use Rattle.wasm_types.specs.declared.instr.Simple.TheVariants.{Br}
+use Rattle.lower_model.specs.Emission.{pending_assigned}
+use Rattle.lower_model.specs.Small.{does, when}
+use Rattle.lower_pieces.proofs.Appended.{emits_then}
+use Rattle.lower_expressions.specs.Parts.{asked_once}
+use Rattle.lower_expressions.specs.View.{view_layout}
+use Rattle.lower_expressions.proofs.pending.one_turn.Goals as goal
+
+pub returns : goal.returns
+returns c =
+    let code : Instructions → Instructions = λ k. pending_assigned (view_layout c.args.y.now) c.args.t (does (Br 1) k) in
+    on_ok_weaker c.when.result
+    (emits_then (asked_once c.args.y.now.bases.now c.args.primitive c.args.t c.args.exit) (when (code Done)) _ _ _ c.in_ok-asked_once.ensures)
+    (c.when.ensures code c.in_ok-pending_code.ensures)

@@ -1,0 +1,27 @@
+-- What is kept where code is emitted, the last one first.
+use Rattle.std.specs.Prelude.{ℕ, List, [], ◌∷◌}
+use Rattle.mid_program.specs.Mid as plain
+use Rattle.lower_pieces.specs.Forms.{view_form}
+use Rattle.lower_expressions.specs.declared.kept.Entry.{Entry}
+
+-- the forms of what is kept, and the temporaries that it stands in
+pub record Keeping : Type 0 where
+  pub forms : List plain.Form
+  pub temporaries : List ℕ
+
+abbrev pub kept_none : Keeping
+kept_none = record { forms = []; temporaries = [] }
+
+abbrev pub kept_more : plain.Form → ℕ → Keeping → Keeping
+kept_more f t k = record { forms = f ∷ k.forms; temporaries = t ∷ k.temporaries }
+
+abbrev pub rest_of : {A : Type 0} → List A → List A
+rest_of [] = []
+rest_of (x ∷ xs) = xs
+
+abbrev pub kept_but_one : Keeping → Keeping
+kept_but_one k = record { forms = rest_of k.forms; temporaries = rest_of k.temporaries }
+
+abbrev pub keeping_of : List Entry → Keeping
+keeping_of [] = kept_none
+keeping_of (e ∷ es) = kept_more (view_form e.form) e.temporary (keeping_of es)

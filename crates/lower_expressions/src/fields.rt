@@ -1,0 +1,91 @@
+//! Fields whose numbers are constants.
+ghost use Rattle.std.specs.Prelude.{◌≡◌, ◌≤◌, IfOk, OnOk};
+ghost use Rattle.mid_program.specs.Mid.{a_value};
+ghost use Rattle.mid_program.specs.ViewCode.{view, views};
+ghost use Rattle.lower_model.specs.Emission.{constant_field, field_in, field_read, one_field};
+ghost use Rattle.lower_pieces.specs.Bounds.{most_places};
+ghost use Rattle.lower_pieces.specs.Emits.{Emits};
+ghost use Rattle.lower_pieces.specs.Forms.{view_form};
+ghost use Rattle.lower_expressions.specs.View.{view_layout};
+
+use crate::layout::Layout;
+use sem_primitives::{Answer, Primitive, Sort};
+use lower_pieces::{Form, ask_row, does};
+use mid_program::{Code, Operand, Operation};
+use std::alloc::AllocError;
+use wasm_types::{Instr, Simple};
+
+/// The greatest number of a field.
+const LAST_FIELD: i64 = 1 << 20;
+
+/// The constant that code is, where it is the number of a field.
+fn constant_field(code: &Code) -> Option<i64>
+    ensures { result ≡ constant_field (view code.now) }
+{
+    match code {
+        Code::Number(number) => {
+            if (0..=LAST_FIELD).contains(number) {
+                Some(*number)
+            } else {
+                None
+            }
+        }
+        Code::Do(_, _)
+        | Code::Joined(_, _, _)
+        | Code::Over(_, _)
+        | Code::Compare(_, _, _)
+        | Code::Call(_, _)
+        | Code::Ask
+        | Code::AskLine(_)
+        | Code::FileLine(_, _)
+        | Code::Replace(_, _, _)
+        | Code::Text(_)
+        | Code::Unset
+        | Code::Get(_)
+        | Code::Set(_, _)
+        | Code::Array(_)
+        | Code::IsOpen(_)
+        | Code::Choose(_, _, _, _)
+        | Code::Seq(_, _)
+        | Code::Let(_, _)
+        | Code::Bound(_, _) => None,
+    }
+}
+
+/// The same of an operand, where there is one and no more.
+fn one_field(operands: &[Operand]) -> Option<i64>
+    ensures { result ≡ one_field (views operands.now) }
+{
+    match operands {
+        [Operand::Code(code)] => constant_field(code),
+        _ => None,
+    }
+}
+
+/// The number of the field that an operation reads, where it is a constant.
+pub(crate) fn field_in(operation: Operation, operands: &[Operand]) -> Option<i64>
+    ensures { result ≡ field_in operation (views operands.now) }
+{
+    match operation {
+        Operation::Host(Primitive::Field) => one_field(operands),
+        Operation::Host(_) | Operation::Inline(_) | Operation::AsNumber | Operation::FieldNumber =>
+            None,
+    }
+}
+
+/// Adds the reading of such a field, which cannot fail.
+pub(crate) fn field_read(
+    y: &Layout<'_>,
+    out: &mut Vec<Instr>,
+    number: i64,
+    t: u32,
+) -> Result<Form, AllocError>
+    requires { t ≤ most_places }
+    ensures form { IfOk result (λ form. view_form form ≡ a_value) }
+    ensures emits { OnOk result (Emits out.old.items out.new.items (field_read (view_layout y.now) number t)) }
+{
+    does(out, Simple::I64Const(number.cast_unsigned()))?;
+    ask_row(out, Primitive::Field)?;
+    does(out, Simple::LocalSet(y.bases.handle(t)))?;
+    Ok(Form::Answered(Answer::Of(Sort::Value)))
+}

@@ -1,0 +1,151 @@
+//! Code with no code within it.
+ghost use Rattle.std.specs.Prelude.{◌≡◌, ◌<◌, ◌≤◌, get_or, IfOk, length, OnOk, suc, true};
+ghost use Rattle.sem_primitives.specs.declared.table.Primitive.TheVariants.{Getline, Lit};
+ghost use Rattle.wasm_types.specs.declared.instr.CvtOp.TheVariants.{I64ExtendI32U};
+ghost use Rattle.wasm_types.specs.declared.instr.Simple.TheVariants.{Convert, GlobalGet, I64Const, LocalSet};
+ghost use Rattle.mid_program.specs.Mid.{Answered, Perhaps, a_number, a_value, form_at, slot_form};
+ghost use Rattle.mid_program.specs.ViewCode.{view_slot};
+ghost use Rattle.lower_model.specs.Emission.{asked, bound_read, slot_read, text_pushed};
+ghost use Rattle.lower_model.specs.Places.{range_global};
+ghost use Rattle.lower_model.specs.Small.{ask_row, code_number, does, h, least, n};
+ghost use Rattle.lower_pieces.specs.Bounds.{most_places};
+ghost use Rattle.lower_pieces.specs.Emits.{Emits};
+ghost use Rattle.lower_pieces.specs.Forms.{view_form};
+ghost use Rattle.lower_expressions.specs.Fits.{SlotFits, Within};
+ghost use Rattle.lower_expressions.specs.View.{view_layout};
+
+use crate::at::At;
+use crate::kept::Kept;
+use crate::layout::Layout;
+use crate::pending::asked;
+use crate::places::text_pushed;
+use crate::slots::{slot_form, slot_read};
+use sem_primitives::{Answer, Primitive, Sort};
+use lower_pieces::{Form, LEAST, ask_row, bound_from, code_number, does, does_all};
+use mid_program::Slot;
+use std::alloc::AllocError;
+use wasm_types::{CvtOp, Instr, Simple};
+
+/// Adds the reading of a record of the main input.
+pub(crate) fn line(y: &Layout<'_>, out: &mut Vec<Instr>, at: At) -> Result<Form, AllocError>
+    requires { Within at.temporary at.arrays at.exit }
+    ensures form { IfOk result (λ form. view_form form ≡ a_number) }
+    ensures emits { OnOk result (Emits out.old.items out.new.items (λ k. asked (view_layout y.now) Getline at.temporary at.exit (code_number y.now.bases.now at.temporary k))) }
+{
+    asked(y, out, Primitive::Getline, at.temporary, at.exit)?;
+    code_number(y.bases, out, at.temporary)?;
+    Ok(Form::Answered(Answer::Of(Sort::Number)))
+}
+
+/// Adds a number, by its bits.
+pub(crate) fn constant(
+    y: &Layout<'_>,
+    out: &mut Vec<Instr>,
+    bits: u64,
+    at: At,
+) -> Result<Form, AllocError>
+    requires { Within at.temporary at.arrays at.exit }
+    ensures form { IfOk result (λ form. view_form form ≡ a_number) }
+    ensures emits { OnOk result (Emits out.old.items out.new.items (λ k. does (I64Const bits) (does (LocalSet (n y.now.bases.now at.temporary)) k))) }
+{
+    let put = Simple::LocalSet(y.bases.number(at.temporary));
+    does_all(out, &[Simple::I64Const(bits), put])?;
+    Ok(Form::Answered(Answer::Of(Sort::Number)))
+}
+
+/// Adds a text of the script.
+pub(crate) fn text(
+    y: &Layout<'_>,
+    out: &mut Vec<Instr>,
+    place: usize,
+    at: At,
+) -> Result<Form, AllocError>
+    requires within { Within at.temporary at.arrays at.exit }
+    requires there { place < length (view_layout y.now).texts }
+    ensures form { IfOk result (λ form. view_form form ≡ a_value) }
+    ensures emits { OnOk result (Emits out.old.items out.new.items (λ k. text_pushed (view_layout y.now) place (ask_row Lit (does (LocalSet (h y.now.bases.now at.temporary)) k)))) }
+{
+    text_pushed(y, out, place)?;
+    ask_row(out, Primitive::Lit)?;
+    does(out, Simple::LocalSet(y.bases.handle(at.temporary)))?;
+    Ok(Form::Answered(Answer::Of(Sort::Value)))
+}
+
+/// Adds what a parameter is without an argument.
+pub(crate) fn unset(y: &Layout<'_>, out: &mut Vec<Instr>, at: At) -> Result<Form, AllocError>
+    requires { Within at.temporary at.arrays at.exit }
+    ensures form { IfOk result (λ form. view_form form ≡ Perhaps) }
+    ensures emits { OnOk result (Emits out.old.items out.new.items (λ k. does (I64Const least) (does (LocalSet (n y.now.bases.now at.temporary)) k))) }
+{
+    let put = Simple::LocalSet(y.bases.number(at.temporary));
+    does_all(out, &[Simple::I64Const(LEAST), put])?;
+    Ok(Form::Perhaps)
+}
+
+/// Adds the reading of a scalar.
+pub(crate) fn variable(
+    y: &Layout<'_>,
+    out: &mut Vec<Instr>,
+    slot: Slot,
+    at: At,
+) -> Result<Form, AllocError>
+    requires within { Within at.temporary at.arrays at.exit }
+    requires slot { SlotFits (view_slot slot) }
+    ensures form { IfOk result (λ form. view_form form ≡ slot_form (view_slot slot)) }
+    ensures emits { OnOk result (Emits out.old.items out.new.items (slot_read (view_layout y.now) (view_slot slot) at.temporary)) }
+{
+    slot_read(y, out, slot, at.temporary)?;
+    Ok(slot_form(slot))
+}
+
+/// Adds whether the range of an item is open.
+pub(crate) fn is_open(
+    y: &Layout<'_>,
+    out: &mut Vec<Instr>,
+    item: usize,
+    at: At,
+) -> Result<Form, AllocError>
+    requires within { Within at.temporary at.arrays at.exit }
+    requires few { item ≤ most_places }
+    ensures form { IfOk result (λ form. view_form form ≡ Answered Answer.Truth) }
+    ensures emits { OnOk result (Emits out.old.items out.new.items (λ k. does (GlobalGet (range_global item)) (does (Convert I64ExtendI32U) (does (LocalSet (n y.now.bases.now at.temporary)) k)))) }
+{
+    let all = [
+        Simple::GlobalGet(item as u32 + 2),
+        Simple::Convert(CvtOp::I64ExtendI32U),
+        Simple::LocalSet(y.bases.number(at.temporary)),
+    ];
+    does_all(out, &all)?;
+    Ok(Form::Answered(Answer::Truth))
+}
+
+/// Adds what was kept. Where `only` what is done counts, that is nothing.
+pub(crate) fn bound(
+    y: &Layout<'_>,
+    kept: &Kept,
+    out: &mut Vec<Instr>,
+    only: bool,
+    moves: bool,
+    after: usize,
+    at: At,
+) -> Result<Form, AllocError>
+    requires { Within at.temporary at.arrays at.exit }
+    ensures form { IfOk result (λ form. view_form form ≡ form_at kept.now.forms after) }
+    ensures emits { OnOk result (Emits out.old.items out.new.items (bound_read (view_layout y.now) only moves (form_at kept.now.forms after) (get_or kept.now.temporaries after 0) at.temporary)) }
+{
+    let entry = kept.at(after);
+    if only {
+        return Ok(entry.form);
+    }
+    let to = at.temporary;
+    bound_from(
+        y.alloc,
+        y.bases,
+        out,
+        moves,
+        entry.form,
+        entry.temporary,
+        to,
+    )?;
+    Ok(entry.form)
+}

@@ -1,0 +1,81 @@
+//! Lists of values, and what takes them.
+ghost use Rattle.std.specs.Prelude.{[], ◌≡◌, ◌+◌, suc, ◌≤◌, OnOk, length, map};
+ghost use Rattle.sem_primitives.specs.Constants.{destination_number};
+ghost use Rattle.lower_model.specs.Emission.{listed_asked, values_counted};
+ghost use Rattle.lower_pieces.specs.Bounds.{most_places};
+ghost use Rattle.lower_pieces.specs.Emits.{Emits};
+ghost use Rattle.lower_pieces.specs.Forms.{view_form};
+ghost use Rattle.lower_expressions.specs.Parts.{listed_with};
+ghost use Rattle.lower_expressions.specs.View.{view_layout};
+
+use crate::layout::Layout;
+use crate::walks::{all_appended, all_boxed};
+use sem_primitives::{Answer, Destination, Listed};
+use lower_pieces::{Form, ask, does, does_all, kept, kept_value};
+use std::alloc::AllocError;
+use lower_model::{Import, Listing};
+use wasm_types::{Instr, Simple};
+
+fn destination_number(to: Destination) -> u32
+    ensures { result ≡ destination_number to }
+{
+    match to {
+        Destination::Standard => 0,
+        Destination::Emptied => 1,
+        Destination::Appended => 2,
+    }
+}
+
+/// How many values are taken, beside the name of a file.
+fn values_counted(to: Destination, count: u32) -> u32
+    ensures { result ≡ values_counted to count }
+{
+    match to {
+        Destination::Standard => count,
+        Destination::Emptied | Destination::Appended => count.saturating_sub(1),
+    }
+}
+
+/// Asks the host for what takes a list of values.
+fn listed_asked(
+    y: &Layout<'_>,
+    out: &mut Vec<Instr>,
+    listed: Listed,
+    count: u32,
+    t: u32,
+    exit: u32,
+) -> Result<(), AllocError>
+    requires { t ≤ most_places }
+    ensures { OnOk result (Emits out.old.items out.new.items (listed_asked (view_layout y.now) listed count t exit)) }
+{
+    let (listing, to) = match listed {
+        Listed::Sprintf => {
+            does(out, Simple::I32Const(count))?;
+            ask(out, Import::Over(Listing::Sprintf))?;
+            return kept_value(y.bases, out, true, t, exit);
+        }
+        Listed::Print(to) => (Listing::Print, to),
+        Listed::Printf(to) => (Listing::Printf, to),
+    };
+    let count = Simple::I32Const(values_counted(to, count));
+    does_all(out, &[count, Simple::I32Const(destination_number(to))])?;
+    ask(out, Import::Over(listing))?;
+    kept(y.bases, out, true, Answer::Done, t, exit)
+}
+
+/// Adds what takes a list of values that are evaluated.
+pub(crate) fn listed(
+    y: &Layout<'_>,
+    out: &mut Vec<Instr>,
+    forms: &[Form],
+    listed: Listed,
+    t: u32,
+    exit: u32,
+) -> Result<(), AllocError>
+    requires { t + length forms.now ≤ most_places }
+    ensures { OnOk result (Emits out.old.items out.new.items (listed_with (view_layout y.now) (map view_form forms.now) listed t exit)) }
+{
+    all_boxed(y.alloc, y.bases, out, forms, t)?;
+    all_appended(y.bases, out, forms, t)?;
+    listed_asked(y, out, listed, forms.len() as u32, t, exit)
+}

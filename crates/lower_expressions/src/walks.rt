@@ -1,0 +1,171 @@
+//! Operands that are evaluated, one after the other.
+ghost use Rattle.std.specs.Prelude.{◌≡◌, ◌+◌, ◌≤◌, OnOk, length, map};
+ghost use Rattle.mid_program.specs.Sorted.{count_of};
+ghost use Rattle.mid_program.specs.View.{view_kind};
+ghost use Rattle.mid_program.specs.ViewCode.{views};
+ghost use Rattle.lower_model.specs.Places.{made_in};
+ghost use Rattle.lower_pieces.specs.Bounds.{most_labels, most_places};
+ghost use Rattle.lower_pieces.specs.Emits.{Emits};
+ghost use Rattle.lower_pieces.specs.Forms.{view_form};
+ghost use Rattle.lower_expressions.specs.Parts.{appended_with, boxed_with, converted_with, freed_with, given_one, given_with};
+
+use sem_primitives::Argument;
+use lower_pieces::{Bases, Form, ask, converted, moved_out, to_value};
+use mid_program::{Kind, Operand};
+use std::alloc::{AllocError, Global};
+use lower_model::Import;
+use wasm_types::Instr;
+
+/// Converts operands to what is wanted.
+pub(crate) fn all_converted(
+    alloc: Global,
+    b: &Bases,
+    out: &mut Vec<Instr>,
+    forms: &[Form],
+    wanted: &[Argument],
+    operands: &[Operand],
+    t: u32,
+    exit: u32,
+) -> Result<(), AllocError>
+    requires places { t + count_of (views operands.now) ≤ most_places }
+    requires labels { exit ≤ most_labels }
+    ensures { OnOk result (Emits out.old.items out.new.items (converted_with b.now (map view_form forms.now) wanted.now (views operands.now) t exit)) }
+{
+    let Some((operand, operands)) = operands.split_first() else {
+        return Ok(());
+    };
+    let Some((first, wanted)) = wanted.split_first() else {
+        return Ok(());
+    };
+    match (first, operand, forms.split_first()) {
+        (Argument::Of(sort), Operand::Code(_), Some((form, forms))) => {
+            converted(alloc, b, out, *form, *sort, t, exit)?;
+            all_converted(alloc, b, out, forms, wanted, operands, t + 1, exit)
+        }
+        (_, Operand::Constant(_), _) => {
+            all_converted(alloc, b, out, forms, wanted, operands, t, exit)
+        }
+        _ => Ok(()),
+    }
+}
+
+/// Makes values of what stands in temporaries.
+pub(crate) fn all_boxed(
+    alloc: Global,
+    b: &Bases,
+    out: &mut Vec<Instr>,
+    forms: &[Form],
+    t: u32,
+) -> Result<(), AllocError>
+    requires { t + length forms.now ≤ most_places }
+    ensures { OnOk result (Emits out.old.items out.new.items (boxed_with b.now (map view_form forms.now) t)) }
+{
+    let mut left = forms;
+    let mut place = t;
+    while let Some((form, rest)) = left.split_first() {
+        to_value(alloc, b, out, *form, place)?;
+        left = rest;
+        place += 1;
+    }
+    Ok(())
+}
+
+/// Puts the values of temporaries onto the argument list.
+pub(crate) fn all_appended(
+    b: &Bases,
+    out: &mut Vec<Instr>,
+    forms: &[Form],
+    t: u32,
+) -> Result<(), AllocError>
+    requires { t + length forms.now ≤ most_places }
+    ensures { OnOk result (Emits out.old.items out.new.items (appended_with b.now (map view_form forms.now) t)) }
+{
+    let mut left = forms;
+    let mut place = t;
+    while let Some((_, rest)) = left.split_first() {
+        moved_out(out, b.handle(place))?;
+        ask(out, Import::Arg)?;
+        left = rest;
+        place += 1;
+    }
+    Ok(())
+}
+
+/// Makes a value of what a boxed parameter is given.
+pub(crate) fn given_one(
+    alloc: Global,
+    b: &Bases,
+    out: &mut Vec<Instr>,
+    kind: Kind,
+    form: Form,
+    t: u32,
+) -> Result<(), AllocError>
+    requires { t ≤ most_places }
+    ensures { OnOk result (Emits out.old.items out.new.items (given_one b.now (view_kind kind) (view_form form) t)) }
+{
+    match kind {
+        Kind::Boxed => to_value(alloc, b, out, form, t),
+        Kind::Unboxed | Kind::Many => Ok(()),
+    }
+}
+
+/// Makes values of what boxed parameters are given.
+pub(crate) fn all_given(
+    alloc: Global,
+    b: &Bases,
+    out: &mut Vec<Instr>,
+    forms: &[Form],
+    kinds: &[Kind],
+    operands: &[Operand],
+    t: u32,
+) -> Result<(), AllocError>
+    requires { t + count_of (views operands.now) ≤ most_places }
+    ensures { OnOk result (Emits out.old.items out.new.items (given_with b.now (map view_form forms.now) (map view_kind kinds.now) (views operands.now) t)) }
+{
+    let Some((operand, operands)) = operands.split_first() else {
+        return Ok(());
+    };
+    let Some((kind, kinds)) = kinds.split_first() else {
+        return Ok(());
+    };
+    match (operand, forms.split_first()) {
+        (Operand::Code(_), Some((form, forms))) => {
+            given_one(alloc, b, out, *kind, *form, t)?;
+            all_given(alloc, b, out, forms, kinds, operands, t + 1)
+        }
+        _ => all_given(alloc, b, out, forms, kinds, operands, t),
+    }
+}
+
+/// How many arrays are made for a call.
+pub(crate) fn made_in(operands: &[Operand]) -> u32
+    requires { made_in (views operands.now) ≤ most_places }
+    ensures { result ≡ made_in (views operands.now) }
+{
+    let mut count = 0;
+    for operand in operands {
+        if let Operand::Fresh = operand {
+            count += 1;
+        }
+    }
+    count
+}
+
+/// Frees the arrays of a call, the last one first.
+pub(crate) fn all_freed(
+    b: &Bases,
+    out: &mut Vec<Instr>,
+    arrays: u32,
+    count: u32,
+) -> Result<(), AllocError>
+    requires { arrays + count ≤ most_places }
+    ensures { OnOk result (Emits out.old.items out.new.items (freed_with b.now arrays count)) }
+{
+    let mut left = count;
+    while left > 0 {
+        left -= 1;
+        moved_out(out, b.array(arrays + left))?;
+        ask(out, Import::FreeArray)?;
+    }
+    Ok(())
+}

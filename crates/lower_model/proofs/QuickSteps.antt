@@ -1,0 +1,780 @@
+-- Steps with a quick way: sums that go to a name, and tests of names and constants.
+use Rattle.std.proofs.Common.{◌≡◌, ℕ, zero, suc, ◌+◌, ◌^◌, ◌<◌, ◌≤◌, Bool, true, false, nat_eq, nat_le, List, [], ◌∷◌, length, Some, None, Option, Ok, Err, Result, ℤ, pos, ◌+ℤ◌, unsigned_abs, w64, refl, sym, ap, ap₂, ◌∙◌, subst, arith, if◌then◌else◌}
+use Rattle.std.specs.Prelude.{◌&&◌, not, cond, bit_or}
+use Rattle.std.proofs.Common.{true≢false}
+use Rattle.std.proofs.lemmas.Int.{ints}
+use Rattle.std.proofs.lemmas.Bool.{and_parts, eqb-true, le-leb, leb-true}
+use Rattle.awk_values.specs.declared.fault.Fault.{Fault}
+use Rattle.awk_values.specs.declared.value.Value.TheVariants as value
+use Rattle.awk_values.specs.Comparison.{comparison, numeric_side, order_by, held, holds}
+use Rattle.awk_values.specs.declared.comparison.CompareOp.{CompareOp}
+use Rattle.awk_values.specs.declared.comparison.CompareOp.TheVariants as op
+use Rattle.std.specs.Ordering.{int_cmp}
+use Rattle.sem_primitives.specs.Constants.{comparison_number, flag_number, special_number}
+use Rattle.sem_primitives.specs.declared.constants.Special.TheVariants.{Nf}
+use Rattle.sem_primitives.specs.declared.sorts.Argument.TheVariants as argument
+use Rattle.sem_primitives.specs.declared.sorts.Constant.TheVariants as constant
+use Rattle.sem_primitives.specs.declared.sorts.Sort.TheVariants as sort
+use Rattle.sem_primitives.specs.declared.table.Primitive.TheVariants as row
+use Rattle.wasm_store.specs.Integers.{compare_at, binary_at}
+use Rattle.lower_model.specs.Arithmetic.{relation}
+use Rattle.lower_model.proofs.Watch.{Watch}
+use Rattle.lower_model.proofs.Orders.{words_compared}
+use Rattle.sem_primitives.specs.Numbers.{Number as AnyNumber, number_of, number_word, outcome_of}
+use Rattle.sem_primitives.proofs.Words.{small, constant_again}
+use Rattle.wasm_types.specs.Syntax.{Instructions, Done as NoMore}
+use Rattle.wasm_types.specs.declared.types.ValType.TheVariants.{I32}
+use Rattle.wasm_types.specs.declared.instr.Simple.{Simple}
+use Rattle.wasm_types.specs.declared.instr.Simple.TheVariants.{GlobalGet, GlobalSet, I32Const, BrIf, Test}
+use Rattle.wasm_types.specs.declared.instr.IRelOp.TheVariants.{LeS}
+use Rattle.wasm_types.specs.declared.instr.ITestOp.TheVariants.{Eqz}
+use Rattle.wasm_store.specs.declared.word.Word.TheVariants.{I64}
+use Rattle.wasm_store.specs.declared.word.Word.TheVariants as word
+use Rattle.wasm_store.specs.Words.{flag, given_by}
+use Rattle.mid_program.specs.declared.mid.Arithmetic.{Arithmetic}
+use Rattle.mid_program.specs.declared.mid.Operation.TheVariants.{Host, Inline, AsNumber}
+use Rattle.mid_program.specs.Mid.{Kind, Unboxed, Program, Global, Code, Do, Compare, Number, Get, Set, Seq, Let, Bound, Codes, End, At, Fixed, Eval, a_number, Form, form_of}
+use Rattle.mid_program.specs.MidMeaning.{evaluated, all_evaluated, stepped, or_zero, then_row, store_slot, arithmetic_of}
+use Rattle.sem_scripts.specs.ScriptState.{State, Gives, Outcome, go_on, settled, give, ◌>>◌, global_value, with_global}
+use Rattle.mid_program.specs.Sorted.{sorted, all_sorted, has_kind, kinds_of, fits as fits_sort, is_tested, is_dropped, is_kept, keeps_well, test_sorted, step_sorted, steps_sorted}
+use Rattle.sem_scripts.specs.Statements.{Flow, Normal}
+use Rattle.lower_model.specs.Cells.{Cell, Bits, Held}
+use Rattle.lower_model.specs.Emission.{tested}
+use Rattle.lower_model.specs.Machine.{Conf, Label, Frame, Store, at, br, label, with_operands, push_result}
+use Rattle.lower_model.specs.Noted.{step_noted, steps_noted}
+use Rattle.lower_model.specs.Places.{Bases, number_global, room, arrays_in, step_room, step_arrays}
+use Rattle.lower_model.specs.Quick.{Within, unsure, name_in, constant_in, first_ones, compared_within, both_within, test_within, Source, Named, Constant, source_in, is_among, and_name, and_source, shifted, joined, all_unsure, Sum, sum_names, update_in, is_near, is_sum, sum_op, sum_of, two_sum, set_sum, kept_sum, update_sum, old_source, stored_name, new_sum, let_sum, sum_in, Counted, field_count, counted_of, counted_in, Pair, pair_names, pair_of, pair_in, contrary}
+use Rattle.lower_model.specs.Small.{does, ask_row, text_beside}
+use Rattle.lower_model.specs.Statements.{counted_left, left_unless_counted, source_pushed, summed, summed_anyway, quickly_dropped, pair_left, left_unless_pair, left_unless, step_emitted, steps_emitted}
+use Rattle.lower_model.proofs.Runs.{Goes, goes_from, goes_to, then_goes, by_steps, stays, first, within, there, then_on, then_step, Onward}
+use Rattle.lower_model.proofs.Locals.{Locals, laid}
+use Rattle.lower_model.proofs.Globals.{Hand as NameHand, Number as NameNumber, with_global_at, placed_again}
+use Rattle.lower_model.proofs.GlobalSteps.{storing, global_copied, global_set_ok}
+use Rattle.lower_model.proofs.Steps.{empty}
+use Rattle.lower_model.proofs.State.{bare, beside, bare_number, beside_number, cells_of, host_of, kind_here, arrays_before, name_hand, name_word}
+use Rattle.lower_model.proofs.Relation.{Away}
+use Rattle.lower_model.proofs.Pieces.{chooses, closes}
+use Rattle.lower_model.proofs.Answers.{machine, beside_state, row_called, Reached}
+use Rattle.lower_model.proofs.Conversions.{BareIs, IsBeside, IsNone, IsNumber, bare_is, same_state, ask_num}
+use Rattle.lower_model.specs.ImportCalls.{with_some, and_rest, row_in}
+use Rattle.lower_model.proofs.Converting.{blocked, own_number}
+use Rattle.lower_model.proofs.Products.{word}
+use Rattle.lower_model.proofs.Written.{fit_global, global_written}
+use Rattle.lower_model.proofs.Reading.{kind_below, kind_found}
+use Rattle.lower_model.proofs.Simulation.{work_of, context, layout, ExprOk}
+use Rattle.lower_model.proofs.StatementForms.{flows_on, plain_meant, Starts, starts_after, starts_among, StepDone, StepOk}
+use Rattle.lower_model.proofs.Tidy.{begun_step}
+use Rattle.lower_model.proofs.Branches.{TestDone, test_meant, test_ok, block_ends}
+use Rattle.lower_model.proofs.Quick.{Sure, sure, shown_by, name_is, constant_is, shift_pos, shifted_less, shifted_most, less_holds, most_holds}
+use Rattle.lower_model.proofs.QuickNames.{num_of, word_of, val_of, source_steps, shift_word, joined_word, all_flag, joined_steps, all_steps, AllSure, StandsAmong, source_code, some_is, nought_number, all_sure, among_sure, name_among, source_among, source_still, source_beside, source_is, contrary_holds, pair_few, one_few, near_sum, stored_is, none_new, result_of, sum_few}
+use Rattle.lower_model.proofs.Summing.{Summed, summed_in_turn, IsSource, anyway_ok}
+use Rattle.lower_model.proofs.Evaluating.{plainly_ok}
+
+module _ (p : Program) (deepest : Watch) (ks : List Kind) (F : List Frame) (b : Bases) (M n : ℕ) where
+  abbrev kinds : List Kind
+  kinds = kinds_of p.globals
+
+  -- What the tests mean that are sure.
+
+  pub record TestIs (e : Code) (q : Within) : Type 0 where
+    pub kind : has_kind kinds q.name Unboxed ≡ true
+    pub shift : unsigned_abs q.shift ≤ 2 ^ 54
+    pub width : q.width ≤ 2 ^ 54
+    pub means : (σ : State) → Sure (global_value q.name σ) q.shift q.width → test_meant p deepest ks F b M n e σ ≡ Gives true σ
+
+  compare_means : (c : CompareOp) (i : ℕ) (z : ℤ) (m : AnyNumber) (σ : State) → nat_le (unsigned_abs z) (2 ^ 53) ≡ true → global_value i σ ≡ value.Num m.number → holds c (int_cmp m.number z) ≡ true → test_meant p deepest ks F b M n (Compare c (Get (Global true i)) (Number z)) σ ≡ Gives true σ
+  unfolding evaluated all_evaluated
+  compare_means c i z m σ hz ev h =
+      let nz = or_zero (number_of z) in
+      let v = global_value i σ in
+      let r : comparison v (value.Num nz.number) c ≡ Ok true =
+      ap (λ o. held c (order_by v (value.Num nz.number) o (Some (Ok nz.number)))) (ap numeric_side ev)
+      ∙ (ap (λ x. Ok (holds c (int_cmp m.number x))) (nought_number z hz) ∙ ap Ok h) in
+      ap (λ o. go_on (settled o σ) (λ x. give x)) r
+
+  first_is : (c : CompareOp) (i : ℕ) (z : ℤ) (k : ℕ) (q : Within) → first_ones i k ≡ Some q → has_kind kinds i Unboxed ≡ true → nat_le (unsigned_abs z) (2 ^ 53) ≡ true → k ≤ suc (2 ^ 54) →
+      ((m : AnyNumber) (j : ℕ) → m.number +ℤ pos (2 ^ 53) ≡ pos j → j < k → holds c (int_cmp m.number z) ≡ true) → TestIs (Compare c (Get (Global true i)) (Number z)) q
+  first_is c i z zero q eq hk hz hb f = cc
+  first_is c i z (suc k) q eq hk hz hb f = subst (TestIs (Compare c (Get (Global true i)) (Number z))) (some_is _ q eq)
+      (record {
+        kind = hk;
+        shift = omega arith;
+        width = omega (arith, hb);
+        means = λ σ s. compare_means c i z s.number σ hz s.value (f s.number s.above s.sum (let w = s.few in omega (arith, w)));
+      })
+
+  named_is : (c : CompareOp) (i : ℕ) (z : ℤ) (q : Within) → compared_within c i z ≡ Some q → sorted (context p deepest ks F b M n) [] (Compare c (Get (Global true i)) (Number z)) ≡ true → TestIs (Compare c (Get (Global true i)) (Number z)) q
+  unfolding sorted all_sorted
+  named_is op.Less i z q eq so =
+      let s = and_parts (has_kind kinds i Unboxed) (nat_le (unsigned_abs z) (2 ^ 53)) so in
+      let hz = leb-true (unsigned_abs z) (2 ^ 53) s.1 in
+      first_is op.Less i z (unsigned_abs (z +ℤ pos (2 ^ 53))) q eq s.0 s.1 (let x = (shift_pos z hz).1 in omega (arith, x))
+      (λ m j e lt. less_holds m.number z (shifted_less m.number z (small m) hz (let x : unsigned_abs (m.number +ℤ pos (2 ^ 53)) ≡ j = ap unsigned_abs e in omega (arith, x, lt))))
+  named_is op.LessOrEqual i z q eq so =
+      let s = and_parts (has_kind kinds i Unboxed) (nat_le (unsigned_abs z) (2 ^ 53)) so in
+      let hz = leb-true (unsigned_abs z) (2 ^ 53) s.1 in
+      first_is op.LessOrEqual i z (suc (unsigned_abs (z +ℤ pos (2 ^ 53)))) q eq s.0 s.1 (let x = (shift_pos z hz).1 in omega (arith, x))
+      (λ m j e lt. most_holds m.number z (shifted_most m.number z (small m) hz (let x : unsigned_abs (m.number +ℤ pos (2 ^ 53)) ≡ j = ap unsigned_abs e in omega (arith, x, lt))))
+  named_is c i z q eq so = cc
+
+  pub test_is : (e : Code) (q : Within) → test_within e ≡ Some q → sorted (context p deepest ks F b M n) [] e ≡ true → TestIs e q
+  test_is (Compare c a e) q eq so = by (name_in a) refl (constant_in e) refl eq
+    where
+      by : (o : Option ℕ) → name_in a ≡ o → (r : Option ℤ) → constant_in e ≡ r → both_within c o r ≡ Some q → TestIs (Compare c a e) q
+      by (Some i) e1 (Some z) e2 eq = subst (λ t. sorted (context p deepest ks F b M n) [] t ≡ true → TestIs t q) (sym (ap₂ (λ x y. Compare c x y) (name_is a i e1) (constant_is e z e2))) (named_is c i z q eq) so
+      by (Some i) e1 None e2 eq = cc
+      by None e1 r e2 eq = cc
+  test_is e q eq so = cc
+
+  -- one comparison of a name's number
+  pub unsure_ok : {K : List Label} {k : Instructions} → (i : ℕ) (q : ℤ) (w : ℕ) (l : Locals) (σ : State) → has_kind kinds i Unboxed ≡ true →
+      Goes (machine p deepest ks F) 3 (at ks [] K (laid b l) F (unsure (GlobalGet (number_global p.ranges i)) q w k) (beside_state p deepest ks F σ)) (at ks (Bits (flag (shown_by (global_value i σ) q w)) ∷ []) K (laid b l) F k (beside_state p deepest ks F σ))
+  unsure_ok i q w l σ hk =
+      let x = global_value i σ in
+      then_goes (global_copied p.ranges (length kinds) (cells_of kinds 0 σ) (NameNumber i) (Bits (I64 (bare x))) (kind_below kinds i Unboxed hk) (ap (λ c. Bits (I64 (name_word c x))) (kind_found kinds i Unboxed hk)) refl) (by_steps 2 refl)
+
+  -- the machine goes on where a test holds, and elsewhere some labels further out
+  abbrev pub way_of : Bool → Conf → Conf → Conf
+  way_of true on out = on
+  way_of false on out = out
+
+  pub record Left (out : ℕ) (k : Instructions) (K : List Label) (u : ℕ) (l : Locals) (x : Bool) (σ : State) (c : Conf) : Type 0 where
+    pub next : Locals
+    pub comes : c ≡ way_of x (at ks [] K (laid b next) F k (beside_state p deepest ks F σ)) (br out ks K (laid b next) F (beside_state p deepest ks F σ))
+    pub starts : Starts p deepest ks F b M n u K next σ
+    pub iterators : (y : ℕ) → next.iterator y ≡ l.iterator y
+
+  branched : (out u : ℕ) (k : Instructions) (K : List Label) (l : Locals) (t : Bool) (σ : State) (c : Conf) → TestDone p deepest ks F b M n (does (Test I32 Eqz) (does (BrIf out) k)) K u l t σ c → Onward (machine p deepest ks F) M 2 (Left out k K u l t σ) c
+  branched out u k K l true σ c h = record { conf = at ks [] K (laid b h.next) F k (beside_state p deepest ks F σ); steps = 2; few = omega arith; goes = goes_from h.comes (by_steps 2 refl); holds = record { next = h.next; comes = refl; starts = h.starts; iterators = h.iterators } }
+  branched out u k K l false σ c h = record { conf = br out ks K (laid b h.next) F (beside_state p deepest ks F σ); steps = 2; few = omega arith; goes = goes_from h.comes (by_steps 2 refl); holds = record { next = h.next; comes = refl; starts = h.starts; iterators = h.iterators } }
+
+  -- the test as it is
+  plain_ok : (e : Code) → ExprOk p deepest ks F b M n e → (u d out : ℕ) (k : Instructions) (K : List Label) (l : Locals) (σ : State) → test_sorted (context p deepest ks F b M n) e ≡ true → room e ≤ b.temporaries → arrays_in e ≤ b.arrays → Starts p deepest ks F b M n u K l σ →
+      Reached p deepest ks F b M (work_of e + 16) σ.turns (at ks [] K (laid b l) F (tested (layout p deepest ks F b M n) [] [] e zero zero d (does (Test I32 Eqz) (does (BrIf out) k))) (beside_state p deepest ks F σ)) (Left out k K u l) (Away p deepest ks F b d K) (test_meant p deepest ks F b M n e σ)
+  plain_ok e ok u d out k K l σ so rm ar s =
+      then_step (machine p deepest ks F) M 2 (work_of e + 14) (work_of e + 16) σ.turns _ (TestDone p deepest ks F b M n (does (Test I32 Eqz) (does (BrIf out) k)) K u l) (Left out k K u l) (Away p deepest ks F b d K) (test_meant p deepest ks F b M n e σ) (omega arith)
+      (λ t τ c h. branched out u k K l t τ c h)
+      (test_ok p deepest ks F b M n e ok u d (does (Test I32 Eqz) (does (BrIf out) k)) K l σ so rm ar s)
+
+  left_closes : (out u : ℕ) (k : Instructions) (K : List Label) (l : Locals) (t : Bool) (σ : State) (c : Conf) → Left (suc out) NoMore (label [] None k ∷ K) u l t σ c → Onward (machine p deepest ks F) M 1 (Left out k K u l t σ) c
+  left_closes out u k K l true σ c h = record { conf = at ks [] K (laid b h.next) F k (beside_state p deepest ks F σ); steps = 1; few = omega arith; goes = goes_from h.comes closes; holds = record { next = h.next; comes = refl; starts = starts_among p deepest ks F b M n u (label [] None k ∷ K) K h.next σ refl h.starts; iterators = h.iterators } }
+  left_closes out u k K l false σ c h = record { conf = c; steps = 0; few = omega arith; goes = stays; holds = record { next = h.next; comes = h.comes; starts = starts_among p deepest ks F b M n u (label [] None k ∷ K) K h.next σ refl h.starts; iterators = h.iterators } }
+
+  -- Sources: what they push, and what they are as operands.
+
+  abbrev pub AllUnboxed : List ℕ → Type 0
+  AllUnboxed [] = Unit {0}
+  AllUnboxed (i ∷ is) = (has_kind kinds i Unboxed ≡ true) × AllUnboxed is
+
+  abbrev pub SourceFits : ℕ → Source → Type 0
+  SourceFits most (Named i) = has_kind kinds i Unboxed ≡ true
+  SourceFits most (Constant z) = nat_le (unsigned_abs z) most ≡ true
+
+  name_got : {vs : List Cell} {K : List Label} {k : Instructions} → (i : ℕ) (l : Locals) (σ : State) → has_kind kinds i Unboxed ≡ true →
+      Goes (machine p deepest ks F) 1 (at ks vs K (laid b l) F (does (GlobalGet (number_global p.ranges i)) k) (beside_state p deepest ks F σ)) (at ks (Bits (I64 (bare (global_value i σ))) ∷ vs) K (laid b l) F k (beside_state p deepest ks F σ))
+  name_got i l σ hk =
+      let x = global_value i σ in
+      global_copied p.ranges (length kinds) (cells_of kinds 0 σ) (NameNumber i) (Bits (I64 (bare x))) (kind_below kinds i Unboxed hk) (ap (λ c. Bits (I64 (name_word c x))) (kind_found kinds i Unboxed hk)) refl
+
+  source_ok : (vs : List Cell) (K : List Label) (k : Instructions) → (m : ℕ) (s : Source) (l : Locals) (σ : State) → SourceFits m s →
+      Goes (machine p deepest ks F) (source_steps s) (at ks vs K (laid b l) F (source_pushed (layout p deepest ks F b M n) s k) (beside_state p deepest ks F σ)) (at ks (Bits (I64 (word_of s σ)) ∷ vs) K (laid b l) F k (beside_state p deepest ks F σ))
+  source_ok vs K k m (Named i) l σ h = name_got i l σ h
+  source_ok vs K k m (Constant z) l σ h = stays
+
+  -- Several names within the same bounds.
+
+  abbrev all_read : ℕ → Simple
+  all_read i = GlobalGet (number_global p.ranges i)
+
+  shifted_ok : {vs : List Cell} {K : List Label} {k : Instructions} → (i : ℕ) (q : ℤ) (l : Locals) (σ : State) → has_kind kinds i Unboxed ≡ true →
+      Goes (machine p deepest ks F) 2 (at ks vs K (laid b l) F (shifted (all_read i) q k) (beside_state p deepest ks F σ)) (at ks (Bits (I64 (shift_word σ q i)) ∷ vs) K (laid b l) F k (beside_state p deepest ks F σ))
+  shifted_ok i q l σ hk = then_goes (name_got i l σ hk) (by_steps 1 refl)
+
+  joined_ok : (K : List Label) (k : Instructions) → (is : List ℕ) (v : ℕ) (q : ℤ) (l : Locals) (σ : State) → AllUnboxed is →
+      Goes (machine p deepest ks F) (joined_steps is) (at ks (Bits (I64 v) ∷ []) K (laid b l) F (joined all_read is q k) (beside_state p deepest ks F σ)) (at ks (Bits (I64 (joined_word σ q v is)) ∷ []) K (laid b l) F k (beside_state p deepest ks F σ))
+  joined_ok K k [] v q l σ h = stays
+  joined_ok K k (i ∷ is) v q l σ h = then_goes (shifted_ok i q l σ h.0) (then_goes (by_steps 1 refl) (joined_ok K k is (bit_or v (shift_word σ q i)) q l σ h.1))
+
+  all_unsure_ok : (K : List Label) (k : Instructions) → (is : List ℕ) (q : ℤ) (w : ℕ) (l : Locals) (σ : State) → AllUnboxed is →
+      Goes (machine p deepest ks F) (all_steps is) (at ks [] K (laid b l) F (all_unsure all_read is q w k) (beside_state p deepest ks F σ)) (at ks (Bits (flag (all_flag σ q w is)) ∷ []) K (laid b l) F k (beside_state p deepest ks F σ))
+  all_unsure_ok K k [] q w l σ h = stays
+  all_unsure_ok K k (i ∷ is) q w l σ h = then_goes (shifted_ok i q l σ h.0) (then_goes (joined_ok K _ is (shift_word σ q i) q l σ h.1) (by_steps 1 refl))
+
+  name_unboxed : (i : ℕ) (is : List ℕ) → has_kind kinds i Unboxed ≡ true → AllUnboxed is → AllUnboxed (and_name i is)
+  name_unboxed i is hk h = by (is_among i is)
+    where
+      by : (t : Bool) → AllUnboxed (if t then is else i ∷ is)
+      by true = h
+      by false = (hk, h)
+
+  source_unboxed : (m : ℕ) (s : Source) (is : List ℕ) → SourceFits m s → AllUnboxed is → AllUnboxed (and_source s is)
+  source_unboxed m (Named i) is hs h = name_unboxed i is hs h
+  source_unboxed m (Constant z) is hs h = h
+
+  -- a source as an operand
+  record Operand (s : Source) (σ : State) (most : ℕ) : Type 0 where
+    number : AnyNumber
+    num : num_of s σ ≡ Ok number
+    few : unsigned_abs number.number ≤ most
+    words : word_of s σ ≡ number_word number
+    side : numeric_side (val_of s σ) ≡ Some (Ok number.number)
+
+  operand : (s : Source) (is : List ℕ) (c w : ℕ) (σ : State) → w ≤ c + c → SourceFits c s → c ≤ 2 ^ 53 → StandsAmong s is → AllSure σ (pos c) w is → Operand s σ c
+  operand (Named i) is c w σ hw hf hc h a =
+      let s = among_sure i is (pos c) w σ h a in
+      record {
+        number = s.number;
+        num = own_number p deepest ks F b M (global_value i σ) s.number s.value;
+        few = let x = s.sum in let y = s.few in grind (arith, ints, x, y, hw);
+        words = ap bare s.value ∙ bare_number s.number;
+        side = ap numeric_side s.value;
+      }
+  operand (Constant z) is c w σ hw hf hc h a =
+      let le = leb-true (unsigned_abs z) c hf in
+      let nz = or_zero (number_of z) in
+      let e : nz.number ≡ z = nought_number z (le-leb (unsigned_abs z) (2 ^ 53) (omega (arith, le, hc))) in
+      record { number = nz; num = refl; few = subst (λ x. unsigned_abs x ≤ c) (sym e) le; words = ap word (sym e); side = refl }
+
+  -- Comparisons of two sources.
+
+  pub record PairIs (e : Code) (q : Pair) : Type 0 where
+    pub left : SourceFits (2 ^ 53) q.left
+    pub right : SourceFits (2 ^ 53) q.right
+    pub means : (σ : State) (t : Bool) → comparison (val_of q.left σ) (val_of q.right σ) q.op ≡ Ok t → test_meant p deepest ks F b M n e σ ≡ Gives t σ
+
+  pair_means : (c : CompareOp) (a e : Source) (σ : State) → test_meant p deepest ks F b M n (Compare c (source_code a) (source_code e)) σ ≡ go_on (settled (comparison (val_of a σ) (val_of e σ) c) σ) (λ x. give x)
+  unfolding evaluated all_evaluated
+  pair_means c (Named i) (Named j) σ = refl
+  pair_means c (Named i) (Constant z) σ = refl
+  pair_means c (Constant z) (Named j) σ = refl
+  pair_means c (Constant z) (Constant y) σ = refl
+
+  range_fits : (fs : List Form) (s : Source) → sorted (context p deepest ks F b M n) fs (source_code s) ≡ true → SourceFits (2 ^ 53) s
+  unfolding sorted all_sorted
+  range_fits fs (Named i) so = so
+  range_fits fs (Constant z) so = so
+
+  pair_sorted : (c : CompareOp) (x y : Code) → sorted (context p deepest ks F b M n) [] (Compare c x y) ≡ true → (sorted (context p deepest ks F b M n) [] x ≡ true) × (sorted (context p deepest ks F b M n) [] y ≡ true)
+  unfolding sorted all_sorted
+  pair_sorted c x y so =
+      let ctx = context p deepest ks F b M n in
+      let s1 = and_parts (fits_sort (form_of [] x) sort.Value) (fits_sort (form_of [] y) sort.Value && (sorted ctx [] x && sorted ctx [] y)) so in
+      let s2 = and_parts (fits_sort (form_of [] y) sort.Value) (sorted ctx [] x && sorted ctx [] y) s1.1 in
+      and_parts (sorted ctx [] x) (sorted ctx [] y) s2.1
+
+  pub pair_is : (e : Code) (q : Pair) → pair_in e ≡ Some q → sorted (context p deepest ks F b M n) [] e ≡ true → PairIs e q
+  pair_is (Compare c x y) q eq so = by (source_in x) refl (source_in y) refl eq
+    where
+      by : (o : Option Source) → source_in x ≡ o → (r : Option Source) → source_in y ≡ r → pair_of c o r ≡ Some q → PairIs (Compare c x y) q
+      by (Some a) e1 (Some e) e2 eq =
+          subst (λ t. sorted (context p deepest ks F b M n) [] t ≡ true → PairIs t q) (sym (ap₂ (λ x y. Compare c x y) (source_is x a e1) (source_is y e e2)))
+          (λ so1.
+          let s = pair_sorted c (source_code a) (source_code e) so1 in
+          subst (PairIs (Compare c (source_code a) (source_code e))) (some_is _ q eq)
+          (record { left = range_fits [] a s.0; right = range_fits [] e s.1; means = λ σ t h. pair_means c a e σ ∙ ap (λ r. go_on (settled r σ) (λ x. give x)) h })) so
+      by (Some a) e1 None e2 eq = cc
+      by None e1 r e2 eq = cc
+  pair_is e q eq so = cc
+
+  pub pair_unboxed : (e : Code) (q : Pair) → PairIs e q → AllUnboxed (pair_names q)
+  pair_unboxed e q t = source_unboxed (2 ^ 53) q.left (and_source q.right []) t.left (source_unboxed (2 ^ 53) q.right [] t.right tt)
+
+  -- Comparisons with how many fields there are.
+
+  pub record CountedIs (e : Code) (q : Counted) : Type 0 where
+    pub kind : has_kind kinds q.name Unboxed ≡ true
+    pub means : (σ : State) (m : AnyNumber) → global_value q.name σ ≡ value.Num m.number → test_meant p deepest ks F b M n e σ ≡ Gives (holds q.op (int_cmp m.number (pos (length σ.shared.inner.fields)))) σ
+
+  abbrev count_code : CompareOp → ℕ → Code
+  count_code c i = Compare c (Get (Global true i)) (Do (Host row.GetSpecial) (Fixed (special_number Nf) End))
+
+  count_means : (c : CompareOp) (i : ℕ) (m : AnyNumber) (σ : State) → global_value i σ ≡ value.Num m.number → test_meant p deepest ks F b M n (count_code c i) σ ≡ Gives (holds c (int_cmp m.number (pos (length σ.shared.inner.fields)))) σ
+  unfolding evaluated all_evaluated
+  count_means c i m σ ev =
+      let v = value.Num (pos (length σ.shared.inner.fields)) in
+      ap (λ τ. go_on (settled (comparison (global_value i σ) v c) τ) (λ x. give x)) (same_state σ v)
+      ∙ ap (λ x. go_on (settled (comparison x v c) σ) (λ y. give y)) ev
+
+  count_of : (e : Code) → field_count e ≡ true → e ≡ Do (Host row.GetSpecial) (Fixed (special_number Nf) End)
+  count_of (Do (Host row.GetSpecial) (Fixed m End)) h = ap (λ (z : ℕ). Do (Host row.GetSpecial) (Fixed z End)) (eqb-true m (special_number Nf) h)
+  count_of e h = cc
+
+  pub counted_is : (e : Code) (q : Counted) → counted_in e ≡ Some q → sorted (context p deepest ks F b M n) [] e ≡ true → CountedIs e q
+  counted_is (Compare c x y) q eq so = by (name_in x) refl (field_count y) refl eq
+    where
+      by : (o : Option ℕ) → name_in x ≡ o → (t : Bool) → field_count y ≡ t → counted_of c o t ≡ Some q → CountedIs (Compare c x y) q
+      by (Some i) e1 true e2 eq =
+          subst (λ z. sorted (context p deepest ks F b M n) [] z ≡ true → CountedIs z q) (sym (ap₂ (λ a g. Compare c a g) (name_is x i e1) (count_of y e2)))
+          (λ so1.
+          let s = pair_sorted c (Get (Global true i)) (Do (Host row.GetSpecial) (Fixed (special_number Nf) End)) so1 in
+          subst (CountedIs (count_code c i)) (some_is _ q eq)
+          (record { kind = range_fits [] (Named i) s.0; means = λ σ m ev. count_means c i m σ ev })) so
+      by (Some i) e1 false e2 eq = cc
+      by None e1 t e2 eq = cc
+  counted_is e q eq so = cc
+
+  -- both ways of a comparison
+  module _ (e : Code) (ok : ExprOk p deepest ks F b M n e) (u d out : ℕ) (k : Instructions) (K : List Label) (l : Locals) (σ : State) (so : test_sorted (context p deepest ks F b M n) e ≡ true) (rm : room e ≤ b.temporaries) (ar : arrays_in e ≤ b.arrays) (s : Starts p deepest ks F b M n u K l σ) where
+    abbrev PS : Store
+    PS = beside_state p deepest ks F σ
+
+    abbrev PK : List Label
+    PK = label [] None k ∷ K
+
+    abbrev pair_slow : Instructions
+    pair_slow = tested (layout p deepest ks F b M n) [] [] e zero zero (suc d) (does (Test I32 Eqz) (does (BrIf (suc out)) NoMore))
+
+    slow_way : Reached p deepest ks F b M (work_of e + 17) σ.turns (at ks [] PK (laid b l) F pair_slow PS) (Left out k K u l) (Away p deepest ks F b d K) (test_meant p deepest ks F b M n e σ)
+    slow_way =
+        within (machine p deepest ks F) M ((work_of e + 16) + 1) (work_of e + 17) σ.turns _ (Left out k K u l) (Away p deepest ks F b d K) (test_meant p deepest ks F b M n e σ) (omega arith)
+        (blocked p deepest ks F b M (work_of e + 16) σ.turns d k K _ (Left (suc out) NoMore PK u l) (Left out k K u l) (test_meant p deepest ks F b M n e σ) (λ x τ c h. left_closes out u k K l x τ c h)
+        (plain_ok e ok u (suc d) (suc out) NoMore PK l σ so rm ar (starts_among p deepest ks F b M n u K PK l σ refl s)))
+
+    -- the last step of a comparison
+    leaves_if : (z : Bool) → (j : ℕ) × (j ≤ 2) × Goes (machine p deepest ks F) j (at ks (Bits (flag (not z)) ∷ []) PK (laid b l) F (does (BrIf (suc out)) NoMore) PS) (way_of z (at ks [] K (laid b l) F k PS) (br out ks K (laid b l) F PS))
+    leaves_if true = (2, omega arith, by_steps 2 refl)
+    leaves_if false = (1, omega arith, by_steps 1 refl)
+
+    fast_way : (q : Pair) → PairIs e q → AllSure σ (pos (2 ^ 53)) (2 ^ 54) (pair_names q) →
+        Reached p deepest ks F b M (work_of e + 17) σ.turns (at ks [] PK (laid b l) F (pair_left (layout p deepest ks F b M n) q (suc out) NoMore) PS) (Left out k K u l) (Away p deepest ks F b d K) (test_meant p deepest ks F b M n e σ)
+    fast_way q t a =
+        let o1 = operand q.left (pair_names q) (2 ^ 53) (2 ^ 54) σ (omega arith) t.left (omega arith) (source_among q.left (and_source q.right [])) a in
+        let o2 = operand q.right (pair_names q) (2 ^ 53) (2 ^ 54) σ (omega arith) t.right (omega arith) (source_beside q.right q.left (and_source q.right []) (source_among q.right [])) a in
+        let z = holds q.op (int_cmp o1.number.number o2.number.number) in
+        let c : comparison (val_of q.left σ) (val_of q.right σ) q.op ≡ Ok z = ap₂ (λ x y. held q.op (order_by (val_of q.left σ) (val_of q.right σ) x y)) o1.side o2.side in
+        let f : compare_at w64 (relation (contrary q.op)) (word_of q.left σ) (word_of q.right σ) ≡ not z =
+        ap₂ (compare_at w64 (relation (contrary q.op))) o1.words o2.words ∙ (words_compared o1.number o2.number (contrary q.op) ∙ contrary_holds q.op (int_cmp o1.number.number o2.number.number)) in
+        let w = leaves_if z in
+        let w1 = w.1 in
+        let f1 = one_few q.left in
+        let f2 = one_few q.right in
+        subst (λ o. Reached p deepest ks F b M (work_of e + 17) σ.turns (at ks [] PK (laid b l) F (pair_left (layout p deepest ks F b M n) q (suc out) NoMore) PS) (Left out k K u l) (Away p deepest ks F b d K) o) (sym (t.means σ z c))
+        (there (machine p deepest ks F) M (work_of e + 17) (source_steps q.left + (source_steps q.right + (1 + w.0))) _ _ z σ (Left out k K u l) (Away p deepest ks F b d K)
+        (then_goes (source_ok _ _ _ (2 ^ 53) q.left l σ t.left) (then_goes (source_ok _ _ _ (2 ^ 53) q.right l σ t.right)
+        (then_goes (goes_to (by_steps 1 refl) (ap (λ x. at ks (Bits (flag x) ∷ []) PK (laid b l) F (does (BrIf (suc out)) NoMore) PS) f)) w.2))) (omega (arith, w1, f1, f2))
+        (record { next = l; comes = refl; starts = s; iterators = λ y. refl }))
+
+    -- the host compares two numbers
+    count_way : (q : Counted) → CountedIs e q → (m : AnyNumber) → global_value q.name σ ≡ value.Num m.number →
+        Reached p deepest ks F b M (work_of e + 17) σ.turns (at ks [] PK (laid b l) F (counted_left (layout p deepest ks F b M n) q (suc out) NoMore) PS) (Left out k K u l) (Away p deepest ks F b d K) (test_meant p deepest ks F b M n e σ)
+    count_way q t m ev =
+        let mach = machine p deepest ks F in
+        let z = holds q.op (int_cmp m.number (pos (length σ.shared.inner.fields))) in
+        let v = value.Num (pos (length σ.shared.inner.fields)) in
+        let w = leaves_if z in
+        let w1 = w.1 in
+        let op = Bits (word.I32 (comparison_number q.op)) in
+        let r : comparison (value.Num m.number) v q.op ≡ Ok z = refl in
+        let k3 = does (Test I32 Eqz) (does (BrIf (suc out)) NoMore) in
+        let k2 = ask_row row.Compare k3 in
+        subst (λ o. Reached p deepest ks F b M (work_of e + 17) σ.turns (at ks [] PK (laid b l) F (counted_left (layout p deepest ks F b M n) q (suc out) NoMore) PS) (Left out k K u l) (Away p deepest ks F b d K) o) (sym (t.means σ m ev))
+        (there mach M (work_of e + 17) (1 + (1 + (1 + (1 + (1 + w.0))))) _ _ z σ (Left out k K u l) (Away p deepest ks F b d K)
+        (then_goes (goes_to (name_got q.name l σ t.kind) (ap (λ x. at ks (Bits (I64 x) ∷ (op ∷ [])) PK (laid b l) F (ask_row row.Num (does (I32Const (special_number Nf)) (ask_row row.GetSpecial k2))) PS) (ap bare ev ∙ bare_number m)))
+        (then_goes (ask_num p deepest ks F (op ∷ []) σ m)
+        (then_goes (goes_to (row_called p deepest ks F row.GetSpecial (Nf, tt) (Bits (word.I32 (special_number Nf)) ∷ []) (Held (value.Num m.number) ∷ (op ∷ [])) σ refl refl refl refl refl)
+        (ap (λ τ. at ks (Held v ∷ (Held (value.Num m.number) ∷ (op ∷ []))) PK (laid b l) F k2 (beside_state p deepest ks F τ)) (same_state σ v)))
+        (then_goes (goes_to (row_called p deepest ks F row.Compare (q.op, (value.Num m.number, (v, tt))) (op ∷ (Held (value.Num m.number) ∷ (Held v ∷ []))) [] σ refl refl refl
+        (ap (λ o. with_some (and_rest o (Held (value.Num m.number) ∷ (Held v ∷ []))) (λ x. with_some (row_in mach.memory (argument.Of sort.Value ∷ argument.Of sort.Value ∷ []) x.1) (λ rest. Some (x.0, rest)))) (constant_again constant.Comparison q.op)) refl)
+        (ap (λ τ. at ks (Bits (word.I32 (flag_number z)) ∷ []) PK (laid b l) F k3 (beside_state p deepest ks F τ)) (same_state {A = Result Bool Fault} σ (Ok z))))
+        (then_goes (eqz_goes z) w.2))))) (omega (arith, w1))
+        (record { next = l; comes = refl; starts = s; iterators = λ y. refl }))
+      where
+        eqz_goes : (z : Bool) → Goes (machine p deepest ks F) 1 (at ks (Bits (word.I32 (flag_number z)) ∷ []) PK (laid b l) F (does (Test I32 Eqz) (does (BrIf (suc out)) NoMore)) PS) (at ks (Bits (flag (not z)) ∷ []) PK (laid b l) F (does (BrIf (suc out)) NoMore) PS)
+        eqz_goes true = by_steps 1 refl
+        eqz_goes false = by_steps 1 refl
+
+    count_chosen : (q : Counted) → CountedIs e q → (f : Bool) → compare_at w64 LeS (bare (global_value q.name σ)) text_beside ≡ f → BareIs (global_value q.name σ) →
+        Reached p deepest ks F b M (work_of e + 17) σ.turns (at ks [] PK (laid b l) F (cond (nat_eq (if f then 1 else 0) 0) (counted_left (layout p deepest ks F b M n) q (suc out) NoMore) pair_slow) PS) (Left out k K u l) (Away p deepest ks F b d K) (test_meant p deepest ks F b M n e σ)
+    count_chosen q t true eq is = slow_way
+    count_chosen q t false eq (IsBeside eb eh) = absurd (true≢false (sym (ap (λ y. compare_at w64 LeS y text_beside) eb) ∙ eq))
+    count_chosen q t false eq (IsNone ev eb eh) = absurd (true≢false (sym (ap (λ y. compare_at w64 LeS y text_beside) eb) ∙ eq))
+    count_chosen q t false eq (IsNumber m ev eb eh) = count_way q t m ev
+
+    counted : (o : Option Counted) → counted_in e ≡ o → Reached p deepest ks F b M (work_of e + 24) σ.turns (at ks [] K (laid b l) F (left_unless_counted (layout p deepest ks F b M n) o e d out k) PS) (Left out k K u l) (Away p deepest ks F b d K) (test_meant p deepest ks F b M n e σ)
+    counted None eq = within (machine p deepest ks F) M (work_of e + 16) (work_of e + 24) σ.turns _ (Left out k K u l) (Away p deepest ks F b d K) (test_meant p deepest ks F b M n e σ) (omega arith) (plain_ok e ok u d out k K l σ so rm ar s)
+    counted (Some q) eq =
+        let t = counted_is e q eq (and_parts (is_tested (form_of [] e)) (sorted (context p deepest ks F b M n) [] e) so).1 in
+        let f = compare_at w64 LeS (bare (global_value q.name σ)) text_beside in
+        first (machine p deepest ks F) M 3 (work_of e + 17) (work_of e + 24) σ.turns _ _ (Left out k K u l) (Away p deepest ks F b d K) (test_meant p deepest ks F b M n e σ)
+        (then_goes (name_got q.name l σ t.kind) (then_goes (by_steps 1 refl) (chooses pair_slow (counted_left (layout p deepest ks F b M n) q (suc out) NoMore) (if f then 1 else 0)))) (omega arith)
+        (count_chosen q t f refl (bare_is (global_value q.name σ)))
+
+    pub left_unless_pair_ok : Reached p deepest ks F b M (work_of e + 24) σ.turns (at ks [] K (laid b l) F (left_unless_pair (layout p deepest ks F b M n) (pair_in e) e d out k) PS) (Left out k K u l) (Away p deepest ks F b d K) (test_meant p deepest ks F b M n e σ)
+    left_unless_pair_ok = by (pair_in e) refl
+      where
+        chosen : (q : Pair) → PairIs e q → (f : Bool) → all_flag σ (pos (2 ^ 53)) (2 ^ 54) (pair_names q) ≡ f →
+            Reached p deepest ks F b M (work_of e + 17) σ.turns (at ks [] PK (laid b l) F (cond (nat_eq (if f then 1 else 0) 0) (pair_left (layout p deepest ks F b M n) q (suc out) NoMore) pair_slow) PS) (Left out k K u l) (Away p deepest ks F b d K) (test_meant p deepest ks F b M n e σ)
+        chosen q t true eq = slow_way
+        chosen q t false eq = fast_way q t (all_sure (pair_names q) (pos (2 ^ 53)) (2 ^ 54) σ (omega arith) (omega arith) eq)
+
+        by : (o : Option Pair) → pair_in e ≡ o → Reached p deepest ks F b M (work_of e + 24) σ.turns (at ks [] K (laid b l) F (left_unless_pair (layout p deepest ks F b M n) o e d out k) PS) (Left out k K u l) (Away p deepest ks F b d K) (test_meant p deepest ks F b M n e σ)
+        by None eq = counted (counted_in e) refl
+        by (Some q) eq =
+            let t = pair_is e q eq (and_parts (is_tested (form_of [] e)) (sorted (context p deepest ks F b M n) [] e) so).1 in
+            let un = source_unboxed (2 ^ 53) q.left (and_source q.right []) t.left (source_unboxed (2 ^ 53) q.right [] t.right tt) in
+            let fw = pair_few q in
+            first (machine p deepest ks F) M (all_steps (pair_names q) + 1) (work_of e + 17) (work_of e + 24) σ.turns _ _ (Left out k K u l) (Away p deepest ks F b d K) (test_meant p deepest ks F b M n e σ)
+            (then_goes (all_unsure_ok _ _ (pair_names q) (pos (2 ^ 53)) (2 ^ 54) l σ un) (chooses pair_slow (pair_left (layout p deepest ks F b M n) q (suc out) NoMore) (if all_flag σ (pos (2 ^ 53)) (2 ^ 54) (pair_names q) then 1 else 0))) (omega (arith, fw))
+            (chosen q t (all_flag σ (pos (2 ^ 53)) (2 ^ 54) (pair_names q)) refl)
+
+  -- any test
+  pub left_unless_ok : (e : Code) → ExprOk p deepest ks F b M n e → (u d out : ℕ) (k : Instructions) (K : List Label) (l : Locals) (σ : State) → test_sorted (context p deepest ks F b M n) e ≡ true → room e ≤ b.temporaries → arrays_in e ≤ b.arrays → Starts p deepest ks F b M n u K l σ →
+      Reached p deepest ks F b M (work_of e + 24) σ.turns (at ks [] K (laid b l) F (left_unless (layout p deepest ks F b M n) (test_within e) e d out k) (beside_state p deepest ks F σ)) (Left out k K u l) (Away p deepest ks F b d K) (test_meant p deepest ks F b M n e σ)
+  left_unless_ok e ok u d out k K l σ so rm ar s = by (test_within e) refl
+    where
+      S : Store
+      S = beside_state p deepest ks F σ
+
+      K1 : List Label
+      K1 = label [] None k ∷ K
+
+      slow : Instructions
+      slow = tested (layout p deepest ks F b M n) [] [] e zero zero (suc d) (does (Test I32 Eqz) (does (BrIf (suc out)) NoMore))
+
+      chosen : (q : Within) → TestIs e q → (f : Bool) → shown_by (global_value q.name σ) q.shift q.width ≡ f →
+          Reached p deepest ks F b M (work_of e + 17) σ.turns (at ks [] K1 (laid b l) F (cond (nat_eq (if f then 1 else 0) 0) NoMore slow) S) (Left out k K u l) (Away p deepest ks F b d K) (test_meant p deepest ks F b M n e σ)
+      chosen q t true eq =
+          within (machine p deepest ks F) M ((work_of e + 16) + 1) (work_of e + 17) σ.turns _ (Left out k K u l) (Away p deepest ks F b d K) (test_meant p deepest ks F b M n e σ) (omega arith)
+          (blocked p deepest ks F b M (work_of e + 16) σ.turns d k K _ (Left (suc out) NoMore K1 u l) (Left out k K u l) (test_meant p deepest ks F b M n e σ) (λ x τ c h. left_closes out u k K l x τ c h)
+          (plain_ok e ok u (suc d) (suc out) NoMore K1 l σ so rm ar (starts_among p deepest ks F b M n u K K1 l σ refl s)))
+      chosen q t false eq =
+          subst (λ o. Reached p deepest ks F b M (work_of e + 17) σ.turns (at ks [] K1 (laid b l) F NoMore S) (Left out k K u l) (Away p deepest ks F b d K) o) (sym (t.means σ (sure (global_value q.name σ) q.shift q.width t.shift t.width eq)))
+          (there (machine p deepest ks F) M (work_of e + 17) 1 _ _ true σ (Left out k K u l) (Away p deepest ks F b d K) closes (omega arith) (record { next = l; comes = refl; starts = s; iterators = λ y. refl }))
+
+      by : (o : Option Within) → test_within e ≡ o → Reached p deepest ks F b M (work_of e + 24) σ.turns (at ks [] K (laid b l) F (left_unless (layout p deepest ks F b M n) o e d out k) S) (Left out k K u l) (Away p deepest ks F b d K) (test_meant p deepest ks F b M n e σ)
+      by None eq = left_unless_pair_ok e ok u d out k K l σ so rm ar s
+      by (Some q) eq =
+          let t = test_is e q eq (and_parts (is_tested (form_of [] e)) (sorted (context p deepest ks F b M n) [] e) so).1 in
+          first (machine p deepest ks F) M 4 (work_of e + 17) (work_of e + 24) σ.turns _ _ (Left out k K u l) (Away p deepest ks F b d K) (test_meant p deepest ks F b M n e σ)
+          (then_goes (unsure_ok q.name q.shift q.width l σ t.kind) (chooses slow NoMore (if shown_by (global_value q.name σ) q.shift q.width then 1 else 0))) (omega arith)
+          (chosen q t (shown_by (global_value q.name σ) q.shift q.width) refl)
+
+  -- Sums.
+
+  abbrev Two : Type 0
+  Two = AnyNumber × (AnyNumber × Unit {0})
+
+  -- what becomes of two operands that are evaluated, and of their sum
+  abbrev sum_stored : ℕ → State → Result AnyNumber Fault → Outcome Flow
+  sum_stored i σ r = go_on (go_on (settled r σ) (λ y. store_slot (Global true i) (value.Num y.number) >> give y)) (λ y. give Normal)
+
+  abbrev two_summed : ℕ → Arithmetic → State → Result AnyNumber Fault → Result AnyNumber Fault → Outcome Flow
+  two_summed i o σ r1 r2 =
+      go_on (go_on (go_on {A = Two} {B = AnyNumber} (settled (then_row {A = AnyNumber} {B = Two} r1 (λ x. then_row {A = AnyNumber × Unit {0}} {B = Two} (then_row {A = AnyNumber} {B = AnyNumber × Unit {0}} r2 (λ z. Ok (z, tt))) (λ zs. Ok (x, zs)))) σ)
+      (λ given. settled (outcome_of (arithmetic_of o given.0.number given.1.0.number)))) (λ y. store_slot (Global true i) (value.Num y.number) >> give y)) (λ y. give Normal)
+
+  pub record SumIs (e : Code) (s : Sum) : Type 0 where
+    pub kind : has_kind kinds s.target Unboxed ≡ true
+    pub left : SourceFits (2 ^ 52) s.left
+    pub right : SourceFits (2 ^ 52) s.right
+    pub sum : is_sum s.op ≡ true
+    pub means : (σ : State) (m1 m2 y : AnyNumber) → num_of s.left σ ≡ Ok m1 → num_of s.right σ ≡ Ok m2 → outcome_of (arithmetic_of s.op m1.number m2.number) ≡ Ok y →
+        plain_meant p deepest ks F b M n (Eval e) σ ≡ Gives Normal (with_global s.target (value.Num y.number) σ)
+    pub room : 2 ≤ room e
+    pub whole : (σ : State) → plain_meant p deepest ks F b M n (Eval e) σ ≡ two_summed s.target s.op σ (num_of s.left σ) (num_of s.right σ)
+
+  summed_means : (i : ℕ) (o : Arithmetic) (σ : State) (r1 r2 : Result AnyNumber Fault) (m1 m2 y : AnyNumber) → r1 ≡ Ok m1 → r2 ≡ Ok m2 → outcome_of (arithmetic_of o m1.number m2.number) ≡ Ok y → two_summed i o σ r1 r2 ≡ Gives Normal (with_global i (value.Num y.number) σ)
+  summed_means i o σ r1 r2 m1 m2 y e1 e2 e = ap₂ (two_summed i o σ) e1 e2 ∙ ap (sum_stored i σ) e
+
+  near_fits : (fs : List Form) (s : Source) → sorted (context p deepest ks F b M n) fs (source_code s) ≡ true → is_near s ≡ true → SourceFits (2 ^ 52) s
+  unfolding sorted all_sorted
+  near_fits fs (Named i) so h = so
+  near_fits fs (Constant z) so h = h
+
+  -- `n = a + e`
+
+  abbrev set_code : ℕ → Arithmetic → Code → Code → Code
+  set_code i o x y = Set (Global true i) (Do (Inline o) (At x (At y End)))
+
+  set_means : (i : ℕ) (o : Arithmetic) (a e : Source) (σ : State) → plain_meant p deepest ks F b M n (Eval (set_code i o (source_code a) (source_code e))) σ ≡ two_summed i o σ (num_of a σ) (num_of e σ)
+  unfolding evaluated all_evaluated stepped
+  set_means i o (Named j) (Named k) σ = refl
+  set_means i o (Named j) (Constant z) σ = refl
+  set_means i o (Constant z) (Named j) σ = refl
+  set_means i o (Constant z) (Constant y) σ = refl
+
+  record Parts (i : ℕ) (fs : List Form) (x : Code) (gs : List Form) (y : Code) : Type 0 where
+    kind : has_kind kinds i Unboxed ≡ true
+    first_one : sorted (context p deepest ks F b M n) fs x ≡ true
+    second : sorted (context p deepest ks F b M n) gs y ≡ true
+
+  set_sorted : (fs : List Form) (i : ℕ) (o : Arithmetic) (x y : Code) → sorted (context p deepest ks F b M n) fs (set_code i o x y) ≡ true → Parts i fs x fs y
+  unfolding sorted all_sorted
+  set_sorted fs i o x y so =
+      let ctx = context p deepest ks F b M n in
+      let fx = fits_sort (form_of fs x) sort.Number in
+      let fy = fits_sort (form_of fs y) sort.Number in
+      let s = and_parts (has_kind kinds i Unboxed) ((fx && (fy && true)) && (sorted ctx fs x && (sorted ctx fs y && true))) so in
+      let s1 = and_parts (fx && (fy && true)) (sorted ctx fs x && (sorted ctx fs y && true)) s.1 in
+      let s2 = and_parts (sorted ctx fs x) (sorted ctx fs y && true) s1.1 in
+      record { kind = s.0; first_one = s2.0; second = (and_parts (sorted ctx fs y) true s2.1).0 }
+
+  set_is : (i : ℕ) (o : Arithmetic) (x y : Code) (s : Sum) → sum_of i o (source_in x) (source_in y) ≡ Some s → sorted (context p deepest ks F b M n) [] (set_code i o x y) ≡ true → SumIs (set_code i o x y) s
+  set_is i o x y s eq so = by (source_in x) refl (source_in y) refl eq
+    where
+      by : (q : Option Source) → source_in x ≡ q → (r : Option Source) → source_in y ≡ r → sum_of i o q r ≡ Some s → SumIs (set_code i o x y) s
+      by (Some a) e1 (Some e) e2 eq =
+          subst (λ t. sorted (context p deepest ks F b M n) [] t ≡ true → SumIs t s) (sym (ap₂ (set_code i o) (source_is x a e1) (source_is y e e2)))
+          (λ so1.
+          let g = near_sum i o a e s eq in
+          let h = set_sorted [] i o (source_code a) (source_code e) so1 in
+          subst (SumIs (set_code i o (source_code a) (source_code e))) g.1
+          (record { kind = h.kind; left = near_fits [] a h.first_one g.0.1; right = near_fits [] e h.second g.0.2; sum = g.0.0; means = λ σ m1 m2 y z1 z2 z. set_means i o a e σ ∙ summed_means i o σ (num_of a σ) (num_of e σ) m1 m2 y z1 z2 z; room = omega arith; whole = λ σ. set_means i o a e σ })) so
+      by (Some a) e1 None e2 eq = cc
+      by None e1 r e2 eq = cc
+
+  -- `n += e`
+
+  abbrev update_code : ℕ → Arithmetic → Code → Code → Code
+  update_code i o a x = Let a (set_code i o x (Bound true zero))
+
+  update_means : (i : ℕ) (o : Arithmetic) (a e : Source) (σ : State) → plain_meant p deepest ks F b M n (Eval (update_code i o (source_code e) (source_code a))) σ ≡ two_summed i o σ (num_of a σ) (num_of e σ)
+  unfolding evaluated all_evaluated stepped
+  update_means i o (Named j) (Named k) σ = refl
+  update_means i o (Named j) (Constant z) σ = refl
+  update_means i o (Constant z) (Named j) σ = refl
+  update_means i o (Constant z) (Constant y) σ = refl
+
+  update_sorted : (i : ℕ) (o : Arithmetic) (a x : Code) → sorted (context p deepest ks F b M n) [] (update_code i o a x) ≡ true → Parts i (form_of [] a ∷ []) x [] a
+  unfolding sorted all_sorted
+  update_sorted i o a x so =
+      let ctx = context p deepest ks F b M n in
+      let f = form_of [] a in
+      let c = set_code i o x (Bound true zero) in
+      let s = and_parts (is_kept f) (keeps_well c && (sorted ctx [] a && sorted ctx (f ∷ []) c)) so in
+      let s1 = and_parts (keeps_well c) (sorted ctx [] a && sorted ctx (f ∷ []) c) s.1 in
+      let s2 = and_parts (sorted ctx [] a) (sorted ctx (f ∷ []) c) s1.1 in
+      let h = set_sorted (f ∷ []) i o x (Bound true zero) s2.1 in
+      record { kind = h.kind; first_one = h.first_one; second = s2.0 }
+
+  update_is : (i : ℕ) (o : Arithmetic) (a x : Code) (s : Sum) → sum_of i o (source_in x) (source_in a) ≡ Some s → sorted (context p deepest ks F b M n) [] (update_code i o a x) ≡ true → SumIs (update_code i o a x) s
+  update_is i o a x s eq so = by (source_in x) refl (source_in a) refl eq
+    where
+      by : (q : Option Source) → source_in x ≡ q → (r : Option Source) → source_in a ≡ r → sum_of i o q r ≡ Some s → SumIs (update_code i o a x) s
+      by (Some l) e1 (Some e) e2 eq =
+          subst (λ t. sorted (context p deepest ks F b M n) [] t ≡ true → SumIs t s) (sym (ap₂ (λ u v. update_code i o v u) (source_is x l e1) (source_is a e e2)))
+          (λ so1.
+          let g = near_sum i o l e s eq in
+          let h = update_sorted i o (source_code e) (source_code l) so1 in
+          subst (SumIs (update_code i o (source_code e) (source_code l))) g.1
+          (record { kind = h.kind; left = near_fits (form_of [] (source_code e) ∷ []) l h.first_one g.0.1; right = near_fits [] e h.second g.0.2; sum = g.0.0; means = λ σ m1 m2 y z1 z2 z. update_means i o l e σ ∙ summed_means i o σ (num_of l σ) (num_of e σ) m1 m2 y z1 z2 z; room = omega arith; whole = λ σ. update_means i o l e σ })) so
+      by (Some l) e1 None e2 eq = cc
+      by None e1 r e2 eq = cc
+
+  -- `n++`
+
+  abbrev old_code : ℕ → Arithmetic → Code → Code → Code
+  old_code i o a z = Let (Do AsNumber (At a End)) (Let (Do (Inline o) (At (Bound false zero) (At z End))) (Seq (Set (Global true i) (Bound true zero)) (Bound true (suc zero))))
+
+  abbrev old_summed : ℕ → Arithmetic → State → Result AnyNumber Fault → Result AnyNumber Fault → Outcome Flow
+  old_summed i o σ r1 r2 =
+      go_on (go_on (go_on {A = AnyNumber × Unit {0}} {B = AnyNumber} (settled (then_row {A = AnyNumber} {B = AnyNumber × Unit {0}} r1 (λ x. Ok (x, tt))) σ) (λ given. give given.0))
+      (λ x τ. go_on (go_on {A = Two} {B = AnyNumber} (settled (then_row {A = AnyNumber × Unit {0}} {B = Two} (then_row {A = AnyNumber} {B = AnyNumber × Unit {0}} r2 (λ z. Ok (z, tt))) (λ zs. Ok (x, zs))) τ)
+      (λ given. settled (outcome_of (arithmetic_of o given.0.number given.1.0.number)))) (λ y. (store_slot (Global true i) (value.Num y.number) >> give y) >> give x))) (λ y. give Normal)
+
+  abbrev old_stored : ℕ → AnyNumber → State → Result AnyNumber Fault → Outcome Flow
+  old_stored i x σ r = go_on (go_on (settled r σ) (λ y. (store_slot (Global true i) (value.Num y.number) >> give y) >> give x)) (λ y. give Normal)
+
+  old_means : (i : ℕ) (o : Arithmetic) (a : Source) (z : ℤ) (σ : State) → plain_meant p deepest ks F b M n (Eval (old_code i o (source_code a) (Number z))) σ ≡ old_summed i o σ (num_of a σ) (num_of (Constant z) σ)
+  unfolding evaluated all_evaluated stepped
+  old_means i o (Named j) z σ = refl
+  old_means i o (Constant y) z σ = refl
+
+  old_same : (i : ℕ) (o : Arithmetic) (σ : State) (r1 r2 : Result AnyNumber Fault) → old_summed i o σ r1 r2 ≡ two_summed i o σ r1 r2
+  old_same i o σ (Ok x) (Ok z) = by (outcome_of (arithmetic_of o x.number z.number))
+    where
+      by : (r : Result AnyNumber Fault) → old_stored i x σ r ≡ sum_stored i σ r
+      by (Ok y) = refl
+      by (Err f) = refl
+  old_same i o σ (Ok x) (Err f) = refl
+  old_same i o σ (Err f) r2 = refl
+
+  old_sorted : (i : ℕ) (o : Arithmetic) (a z : Code) → sorted (context p deepest ks F b M n) [] (old_code i o a z) ≡ true → Parts i [] a (a_number ∷ []) z
+  unfolding sorted all_sorted
+  old_sorted i o a z so =
+      let ctx = context p deepest ks F b M n in
+      let c = Seq (Set (Global true i) (Bound true zero)) (Bound true (suc zero)) in
+      let d = Do (Inline o) (At (Bound false zero) (At z End)) in
+      let fs = a_number ∷ [] in
+      let fa = fits_sort (form_of [] a) sort.Number && true in
+      let fz = fits_sort (form_of fs z) sort.Number && true in
+      let s = and_parts (keeps_well (Let d c)) ((fa && (sorted ctx [] a && true)) && sorted ctx fs (Let d c)) so in
+      let s1 = and_parts (fa && (sorted ctx [] a && true)) (sorted ctx fs (Let d c)) s.1 in
+      let s2 = and_parts fa (sorted ctx [] a && true) s1.0 in
+      let s3 = and_parts (sorted ctx [] a) true s2.1 in
+      let t = and_parts (keeps_well c) (sorted ctx fs d && sorted ctx (a_number ∷ fs) c) s1.1 in
+      let t1 = and_parts (sorted ctx fs d) (sorted ctx (a_number ∷ fs) c) t.1 in
+      let t2 = and_parts fz (sorted ctx fs z && true) t1.0 in
+      let t3 = and_parts (sorted ctx fs z) true t2.1 in
+      record { kind = (and_parts (has_kind kinds i Unboxed) true (and_parts (has_kind kinds i Unboxed && true) true t1.1).0).0; first_one = s3.0; second = t3.0 }
+
+  old_is : (i : ℕ) (o : Arithmetic) (a : Code) (z : ℤ) (s : Sum) → sum_of i o (source_in a) (Some (Constant z)) ≡ Some s → sorted (context p deepest ks F b M n) [] (old_code i o a (Number z)) ≡ true → SumIs (old_code i o a (Number z)) s
+  old_is i o a z s eq so = by (source_in a) refl eq
+    where
+      by : (q : Option Source) → source_in a ≡ q → sum_of i o q (Some (Constant z)) ≡ Some s → SumIs (old_code i o a (Number z)) s
+      by (Some l) e1 eq =
+          subst (λ t. sorted (context p deepest ks F b M n) [] t ≡ true → SumIs t s) (sym (ap (λ x. old_code i o x (Number z)) (source_is a l e1)))
+          (λ so1.
+          let g = near_sum i o l (Constant z) s eq in
+          let h = old_sorted i o (source_code l) (Number z) so1 in
+          subst (SumIs (old_code i o (source_code l) (Number z))) g.1
+          (record { kind = h.kind; left = near_fits [] l h.first_one g.0.1; right = near_fits (a_number ∷ []) (Constant z) h.second g.0.2; sum = g.0.0; means = λ σ m1 m2 y z1 z2 z0. old_means i o l z σ ∙ (ap₂ (old_summed i o σ) z1 z2 ∙ ap (old_stored i m1 σ) z0); room = omega arith; whole = λ σ. old_means i o l z σ ∙ old_same i o σ (num_of l σ) (num_of (Constant z) σ) })) so
+      by None e1 eq = cc
+
+  -- Which code is such a step.
+
+  abbrev WellSorted : Code → Type 0
+  WellSorted e = sorted (context p deepest ks F b M n) [] e ≡ true
+
+  two_is : (i : ℕ) (o : Arithmetic) (es : Codes) (s : Sum) → two_sum i o es ≡ Some s → WellSorted (Set (Global true i) (Do (Inline o) es)) → SumIs (Set (Global true i) (Do (Inline o) es)) s
+  two_is i o (At x (At y End)) s eq so = set_is i o x y s eq so
+  two_is i o es s eq so = cc
+
+  do_is : (i : ℕ) (e : Code) (s : Sum) → set_sum i e ≡ Some s → WellSorted (Set (Global true i) e) → SumIs (Set (Global true i) e) s
+  do_is i (Do (Inline o) es) s eq so = two_is i o es s eq so
+  do_is i e s eq so = cc
+
+  kept_is : (i : ℕ) (o : Arithmetic) (a : Code) (es : Codes) (s : Sum) → kept_sum i o a es ≡ Some s → WellSorted (Let a (Set (Global true i) (Do (Inline o) es))) → SumIs (Let a (Set (Global true i) (Do (Inline o) es))) s
+  kept_is i o a (At x (At (Bound true zero) End)) s eq so = update_is i o a x s eq so
+  kept_is i o a es s eq so = cc
+
+  set_kept_is : (i : ℕ) (a e : Code) (s : Sum) → update_sum i a e ≡ Some s → WellSorted (Let a (Set (Global true i) e)) → SumIs (Let a (Set (Global true i) e)) s
+  set_kept_is i a (Do (Inline o) es) s eq so = kept_is i o a es s eq so
+  set_kept_is i a e s eq so = cc
+
+  new_is : (a : Code) (i : ℕ) (x : Code) (s : Sum) → new_sum (source_in a) (Some i) x ≡ Some s → WellSorted (Let (Do AsNumber (At a End)) (Let x (Seq (Set (Global true i) (Bound true zero)) (Bound true (suc zero))))) →
+      SumIs (Let (Do AsNumber (At a End)) (Let x (Seq (Set (Global true i) (Bound true zero)) (Bound true (suc zero))))) s
+  new_is a i (Do (Inline o) (At (Bound false zero) (At (Number z) End))) s eq so = old_is i o a z s eq so
+  new_is a i x s eq so = cc
+
+  step_is : (a x y : Code) (s : Sum) → new_sum (old_source a) (stored_name y) x ≡ Some s → WellSorted (Let a (Let x y)) → SumIs (Let a (Let x y)) s
+  step_is (Do AsNumber (At a End)) x y s eq so = by (stored_name y) refl eq
+    where
+      by : (i : Option ℕ) → stored_name y ≡ i → new_sum (source_in a) i x ≡ Some s → SumIs (Let (Do AsNumber (At a End)) (Let x y)) s
+      by (Some i) e1 e2 = subst (λ t. WellSorted (Let (Do AsNumber (At a End)) (Let x t)) → SumIs (Let (Do AsNumber (At a End)) (Let x t)) s) (sym (stored_is y i e1)) (new_is a i x s e2) so
+      by None e1 e2 = cc
+  step_is a x y s eq so = absurd (none_new (stored_name y) x s eq)
+
+  let_is : (a e : Code) (s : Sum) → let_sum a e ≡ Some s → WellSorted (Let a e) → SumIs (Let a e) s
+  let_is a (Set (Global true i) e) s eq so = set_kept_is i a e s eq so
+  let_is a (Let x y) s eq so = step_is a x y s eq so
+  let_is a e s eq so = cc
+
+  pub sum_is : (e : Code) (s : Sum) → sum_in e ≡ Some s → WellSorted e → SumIs e s
+  sum_is (Set (Global true i) e) s eq so = do_is i e s eq so
+  sum_is (Let a e) s eq so = let_is a e s eq so
+  sum_is e s eq so = cc
+
+  -- the machine adds
+  summed_ok : (s : Sum) (y : AnyNumber) (K : List Label) (k : Instructions) (l : Locals) (σ : State) → has_kind kinds s.target Unboxed ≡ true → SourceFits (2 ^ 52) s.left → SourceFits (2 ^ 52) s.right → length σ.globals ≡ length p.globals → beside (global_value s.target σ) ≡ empty →
+      binary_at w64 (sum_op s.op) (word_of s.left σ) (word_of s.right σ) ≡ Ok (number_word y) →
+      Goes (machine p deepest ks F) (source_steps s.left + (source_steps s.right + 2)) (at ks [] K (laid b l) F (summed (layout p deepest ks F b M n) s k) (beside_state p deepest ks F σ)) (at ks [] K (laid b l) F k (beside_state p deepest ks F (with_global s.target (value.Num y.number) σ)))
+  summed_ok s y K k l σ hk f1 f2 sz none e =
+      let nn = length kinds in
+      let i = s.target in
+      let li = kind_below kinds i Unboxed hk in
+      let kh = kind_found kinds i Unboxed hk in
+      let g = cells_of kinds 0 σ in
+      let old = global_value i σ in
+      let c = Bits (I64 (number_word y)) in
+      let g1 = with_global_at p.ranges nn g (NameNumber i) c in
+      let hand : name_hand (kind_here kinds i) (suc (suc (arrays_before kinds i))) old ≡ empty = ap (λ z. name_hand z (suc (suc (arrays_before kinds i))) old) kh ∙ none in
+      then_goes (source_ok _ _ _ (2 ^ 52) s.left l σ f1) (then_goes (source_ok _ _ _ (2 ^ 52) s.right l σ f2)
+      (then_goes (by_steps 1 (ap (λ r. with_operands (push_result [] (Some (given_by I64 r))) ks K (laid b l) F (does (GlobalSet (number_global p.ranges i)) k) (beside_state p deepest ks F σ)) e))
+      (goes_to (global_set_ok p.ranges nn g (NameNumber i) c li refl refl)
+      (ap (λ x. at ks [] K (laid b l) F k (storing x (host_of σ None)))
+      (sym (placed_again p.ranges nn g1 (NameHand i) empty li hand)
+      ∙ global_written p deepest ks F b M n i (value.Num y.number) σ empty c sz li
+      (ap (λ z. name_hand z (suc (suc (arrays_before kinds i))) (value.Num y.number)) kh ∙ beside_number y)
+      (ap (λ z. Bits (I64 (name_word z (value.Num y.number)))) kh ∙ ap (λ z. Bits (I64 z)) (bare_number y)))))))
+
+  pub sum_unboxed : (e : Code) (s : Sum) → SumIs e s → AllUnboxed (sum_names s)
+  sum_unboxed e s t = name_unboxed s.target (and_source s.left (and_source s.right [])) t.kind (source_unboxed (2 ^ 52) s.left (and_source s.right []) t.left (source_unboxed (2 ^ 52) s.right [] t.right tt))
+
+  -- the same, one after the other
+  summed_again : (i : ℕ) (o : Arithmetic) (σ : State) (r1 r2 : Result AnyNumber Fault) → two_summed i o σ r1 r2 ≡ go_on (summed_in_turn p deepest ks F b M n i o r1 r2 σ) (λ y. give Normal)
+  summed_again i o σ (Ok x) (Ok z) = refl
+  summed_again i o σ (Ok x) (Err f) = refl
+  summed_again i o σ (Err f) r2 = refl
+
+  pub near_source : (s : Source) → SourceFits (2 ^ 52) s → IsSource p deepest ks F b M n s
+  near_source (Named i) h = h
+  near_source (Constant z) h = let le = leb-true (unsigned_abs z) (2 ^ 52) h in le-leb (unsigned_abs z) (2 ^ 53) (omega (arith, le))
+
+  -- what is done once its place is noted
+  eval_rest : (exprs : (x : Code) → ExprOk p deepest ks F b M n x) (e : Code) (r lo : Bool) (u d bk ct : ℕ) (k : Instructions) (K : List Label) (l : Locals) (σ : State) →
+      step_sorted (context p deepest ks F b M n) r lo (Eval e) ≡ true → step_room (Eval e) ≤ b.temporaries → step_arrays (Eval e) ≤ b.arrays → Starts p deepest ks F b M n u K l σ →
+      Reached p deepest ks F b M (work_of e + 110) σ.turns (at ks [] K (laid b l) F (quickly_dropped (layout p deepest ks F b M n) (sum_in e) e d k) (beside_state p deepest ks F σ)) (StepDone p deepest ks F b M n lo u bk ct k K l) (Away p deepest ks F b d K) (plain_meant p deepest ks F b M n (Eval e) σ)
+  unfolding step_sorted steps_sorted
+  eval_rest exprs e r lo u d bk ct k K l σ so rm ar s = by (sum_in e) refl
+    where
+      S : Store
+      S = beside_state p deepest ks F σ
+
+      K1 : List Label
+      K1 = label [] None k ∷ K
+
+      srt : sorted (context p deepest ks F b M n) [] e ≡ true
+      srt = (and_parts (is_dropped (form_of [] e)) (sorted (context p deepest ks F b M n) [] e) so).1
+
+      slow : Sum → Instructions
+      slow q = summed_anyway (layout p deepest ks F b M n) q (suc d) NoMore
+
+      fast : Sum → Instructions
+      fast q = summed (layout p deepest ks F b M n) q NoMore
+
+      sums : (q : Sum) → SumIs e q → AllSure σ (pos (2 ^ 52)) (2 ^ 53) (sum_names q) →
+          Reached p deepest ks F b M (work_of e + 10) σ.turns (at ks [] K1 (laid b l) F (fast q) S) (StepDone p deepest ks F b M n lo u bk ct k K l) (Away p deepest ks F b d K) (plain_meant p deepest ks F b M n (Eval e) σ)
+      sums q t w =
+          let is2 = and_source q.right [] in
+          let is1 = and_source q.left is2 in
+          let o1 = operand q.left (sum_names q) (2 ^ 52) (2 ^ 53) σ (omega arith) t.left (omega arith) (source_still q.left q.target is1 (source_among q.left is2)) w in
+          let o2 = operand q.right (sum_names q) (2 ^ 52) (2 ^ 53) σ (omega arith) t.right (omega arith) (source_still q.right q.target is1 (source_beside q.right q.left is2 (source_among q.right []))) w in
+          let own = among_sure q.target (sum_names q) (pos (2 ^ 52)) (2 ^ 53) σ (name_among q.target is1) w in
+          let r = result_of q.op o1.number o2.number t.sum o1.few o2.few in
+          let y = r.number in
+          let σ1 = with_global q.target (value.Num y.number) σ in
+          let f1 = one_few q.left in
+          let f2 = one_few q.right in
+          let g = summed_ok q y K1 NoMore l σ t.kind t.left t.right s.fit.sound.names (ap beside own.value ∙ beside_number own.number) (ap₂ (binary_at w64 (sum_op q.op)) o1.words o2.words ∙ r.words) in
+          subst (λ o. Reached p deepest ks F b M (work_of e + 10) σ.turns (at ks [] K1 (laid b l) F (fast q) S) (StepDone p deepest ks F b M n lo u bk ct k K l) (Away p deepest ks F b d K) o) (sym (t.means σ o1.number o2.number y o1.num o2.num r.outcome))
+          (there (machine p deepest ks F) M (work_of e + 10) ((source_steps q.left + (source_steps q.right + 2)) + 1) _ _ Normal σ1 (StepDone p deepest ks F b M n lo u bk ct k K l) (Away p deepest ks F b d K) (then_goes g closes) (omega (arith, f1, f2))
+          (record { next = l; comes = refl; starts = starts_after p deepest ks F b M n u K K l l σ σ1 s refl (omega arith) (λ x. refl) (fit_global p deepest ks F b M n q.target (value.Num y.number) 0 u 0 l σ s.fit); iterators = λ x. refl; flows = flows_on lo }))
+
+      -- in all cases
+      anyway : (a : Sum) → SumIs e a → Reached p deepest ks F b M (work_of e + 90) σ.turns (at ks [] K1 (laid b l) F (slow a) S) (StepDone p deepest ks F b M n lo u bk ct k K l) (Away p deepest ks F b d K) (plain_meant p deepest ks F b M n (Eval e) σ)
+      anyway a t =
+          let Q1 = Away p deepest ks F b (suc d) K1 in
+          let P0 : AnyNumber → State → Conf → Type 0 = λ w. Summed p deepest ks F b M n u NoMore K1 l in
+          let P1 = StepDone p deepest ks F b M n lo u (suc bk) (suc ct) NoMore K1 l in
+          let whole = t.whole σ ∙ summed_again a.target a.op σ (num_of a.left σ) (num_of a.right σ) in
+          let few = t.room in
+          within (machine p deepest ks F) M (80 + 1) (work_of e + 90) σ.turns _ (StepDone p deepest ks F b M n lo u bk ct k K l) (Away p deepest ks F b d K) (plain_meant p deepest ks F b M n (Eval e) σ) (omega arith)
+          (blocked p deepest ks F b M 80 σ.turns d k K _ P1 (StepDone p deepest ks F b M n lo u bk ct k K l) (plain_meant p deepest ks F b M n (Eval e) σ) (λ f τ c h. block_ends p deepest ks F b M n lo u bk ct k K l f τ c h)
+          (subst (λ o. Reached p deepest ks F b M 80 σ.turns (at ks [] K1 (laid b l) F (slow a) S) P1 Q1 o) (sym whole)
+          (then_on (machine p deepest ks F) M 80 0 80 σ.turns _ P0 P1 Q1 (summed_in_turn p deepest ks F b M n a.target a.op (num_of a.left σ) (num_of a.right σ) σ) _ (omega arith)
+          (anyway_ok p deepest ks F b M n a u (suc d) NoMore K1 l σ t.sum t.kind (near_source a.left t.left) (near_source a.right t.right) (omega (arith, rm, few)) s.fit)
+          (λ w τ c le h.
+          there (machine p deepest ks F) M 0 0 c c Normal τ P1 Q1 stays (omega arith)
+          (record { next = h.next; comes = h.comes; starts = starts_after p deepest ks F b M n u K K1 l h.next σ τ s refl le h.iterators h.fit; iterators = h.iterators; flows = flows_on lo })))))
+
+      chosen : (a : Sum) → SumIs e a → (f : Bool) → all_flag σ (pos (2 ^ 52)) (2 ^ 53) (sum_names a) ≡ f →
+          Reached p deepest ks F b M (work_of e + 90) σ.turns (at ks [] K1 (laid b l) F (cond (nat_eq (if f then 1 else 0) 0) (fast a) (slow a)) S) (StepDone p deepest ks F b M n lo u bk ct k K l) (Away p deepest ks F b d K) (plain_meant p deepest ks F b M n (Eval e) σ)
+      chosen a t true eq = anyway a t
+      chosen a t false eq = within (machine p deepest ks F) M (work_of e + 10) (work_of e + 90) σ.turns _ (StepDone p deepest ks F b M n lo u bk ct k K l) (Away p deepest ks F b d K) (plain_meant p deepest ks F b M n (Eval e) σ) (omega arith) (sums a t (all_sure (sum_names a) (pos (2 ^ 52)) (2 ^ 53) σ (omega arith) (omega arith) eq))
+
+      by : (o : Option Sum) → sum_in e ≡ o → Reached p deepest ks F b M (work_of e + 110) σ.turns (at ks [] K (laid b l) F (quickly_dropped (layout p deepest ks F b M n) o e d k) S) (StepDone p deepest ks F b M n lo u bk ct k K l) (Away p deepest ks F b d K) (plain_meant p deepest ks F b M n (Eval e) σ)
+      by None eq = plainly_ok p deepest ks F b M n exprs lo u d bk ct k K l σ s (update_in e) e refl srt rm ar
+      by (Some a) eq =
+          let t = sum_is e a eq srt in
+          let fw = sum_few a in
+          let un = name_unboxed a.target (and_source a.left (and_source a.right [])) t.kind (source_unboxed (2 ^ 52) a.left (and_source a.right []) t.left (source_unboxed (2 ^ 52) a.right [] t.right tt)) in
+          first (machine p deepest ks F) M (all_steps (sum_names a) + 1) (work_of e + 90) (work_of e + 110) σ.turns _ _ (StepDone p deepest ks F b M n lo u bk ct k K l) (Away p deepest ks F b d K) (plain_meant p deepest ks F b M n (Eval e) σ)
+          (then_goes (all_unsure_ok _ _ (sum_names a) (pos (2 ^ 52)) (2 ^ 53) l σ un) (chooses (slow a) (fast a) (if all_flag σ (pos (2 ^ 52)) (2 ^ 53) (sum_names a) then 1 else 0))) (omega (arith, fw))
+          (chosen a t (all_flag σ (pos (2 ^ 52)) (2 ^ 53) (sum_names a)) refl)
+
+  pub eval_step : (exprs : (x : Code) → ExprOk p deepest ks F b M n x) (e : Code) → StepOk p deepest ks F b M n (Eval e)
+  unfolding step_emitted steps_emitted step_noted steps_noted
+  eval_step exprs e r lo u d bk ct k K l σ so rm it ar wk s =
+      begun_step p deepest ks F b M n _ (work_of e + 110) (120 + work_of e) u K l σ (StepDone p deepest ks F b M n lo u bk ct k K l) (Away p deepest ks F b d K) (plain_meant p deepest ks F b M n (Eval e)) (omega arith) s
+      (λ τ s1. eval_rest exprs e r lo u d bk ct k K l τ so rm ar s1)

@@ -1,0 +1,115 @@
+-- The machine's store beside a script's state.
+use Rattle.std.proofs.Common.{◌≡◌, ℕ, zero, suc, ◌^◌, false, List, [], ◌∷◌, length, Some, None, Option, sym, ap, ◌∙◌, arith, w64, unsigned_abs}
+use Rattle.std.specs.Prelude.{get_or, nat_eq, ◌-◌}
+use Rattle.std.specs.Int.{cast_signed}
+use Rattle.std.proofs.lemmas.Bool.{ne_eqb}
+use Rattle.std.proofs.lemmas.Int.{to_z-of_z}
+use Rattle.awk_values.specs.declared.fault.Fault.{Fault}
+use Rattle.awk_values.specs.declared.value.Value.{Value}
+use Rattle.awk_values.specs.declared.value.Value.TheVariants as value
+use Rattle.sem_primitives.specs.Constants.{flag_number}
+use Rattle.sem_primitives.specs.Numbers.{Number, number_of, number_word}
+use Rattle.sem_primitives.proofs.Words.{word_no_fault, small, fits, number_again}
+use Rattle.wasm_store.specs.declared.word.Word.TheVariants.{I32, I64}
+use Rattle.mid_program.specs.Mid.{Kind, Boxed, Unboxed, Many}
+use Rattle.sem_scripts.specs.ScriptState.{State, Stop, Faulted, OutOfTurns, TooDeep, Nexted, Exited, Returned, global_value}
+use Rattle.lower_model.specs.Cells.{Cell, Bits, Held, OwnedArray}
+use Rattle.lower_model.specs.ImportCalls.{Host}
+use Rattle.lower_model.specs.Machine.{Store}
+use Rattle.lower_model.specs.Small.{least, text_beside}
+use Rattle.lower_model.specs.Statements.{way_none, way_next, way_exit}
+use Rattle.lower_model.proofs.Globals.{Globals, placed}
+use Rattle.lower_model.proofs.Steps.{empty}
+
+-- What an unboxed name has: its number's word, and the text beside it. A number out of range would stand beside too; there is none.
+
+abbrev pub word_or_beside : Option Number → ℕ
+word_or_beside (Some n) = number_word n
+word_or_beside None = text_beside
+
+abbrev pub bare : Value → ℕ
+bare value.Uninit = least
+bare (value.Num z) = word_or_beside (number_of z)
+bare (value.Text s) = text_beside
+bare (value.StrNum s) = text_beside
+
+abbrev pub unless_number : Value → Option Number → Cell
+unless_number v (Some n) = empty
+unless_number v None = Held v
+
+abbrev pub beside : Value → Cell
+beside value.Uninit = empty
+beside (value.Num z) = unless_number (value.Num z) (number_of z)
+beside (value.Text s) = Held (value.Text s)
+beside (value.StrNum s) = Held (value.StrNum s)
+
+abbrev pub perhaps : Option Number → ℕ
+perhaps (Some n) = number_word n
+perhaps None = least
+
+-- a number's word is none of the two that stand for something else
+pub word_not_least : (n : Number) → nat_eq (number_word n) least ≡ false
+word_not_least n = ne_eqb (number_word n) least (word_no_fault n)
+
+pub word_not_beside : (n : Number) → nat_eq (number_word n) text_beside ≡ false
+word_not_beside n = ne_eqb (number_word n) text_beside (λ e.
+    let z : unsigned_abs n.number ≡ 2 ^ 63 - 1 = ap unsigned_abs (sym (to_z-of_z w64 n.number (fits n.number (small n))) ∙ ap (cast_signed w64) e) in
+    absurd (omega (arith, z, small n)))
+
+pub bare_number : (n : Number) → bare (value.Num n.number) ≡ number_word n
+bare_number n = ap word_or_beside (number_again n)
+
+pub beside_number : (n : Number) → beside (value.Num n.number) ≡ empty
+beside_number n = ap (unless_number (value.Num n.number)) (number_again n)
+
+-- Names.
+
+abbrev pub kind_here : List Kind → ℕ → Kind
+kind_here kinds i = get_or kinds i Boxed
+
+-- how many arrays stand before a name
+abbrev pub arrays_before : List Kind → ℕ → ℕ
+arrays_before [] i = zero
+arrays_before (k ∷ ks) zero = zero
+arrays_before (Many ∷ ks) (suc i) = suc (arrays_before ks i)
+arrays_before (Boxed ∷ ks) (suc i) = arrays_before ks i
+arrays_before (Unboxed ∷ ks) (suc i) = arrays_before ks i
+
+abbrev pub name_hand : Kind → (array : ℕ) → Value → Cell
+name_hand Boxed a v = Held v
+name_hand Unboxed a v = beside v
+name_hand Many a v = OwnedArray a
+
+abbrev pub name_word : Kind → Value → ℕ
+name_word Unboxed v = bare v
+name_word Boxed v = least
+name_word Many v = least
+
+abbrev pub cells_of : List Kind → (way : ℕ) → State → Globals
+cells_of kinds way σ = record {
+  way = Bits (I32 way);
+  status = Bits (I64 (number_word σ.status));
+  range = λ i. Bits (I32 (flag_number (σ.ranges i)));
+  hand = λ i. name_hand (kind_here kinds i) (suc (suc (arrays_before kinds i))) (global_value i σ);
+  number = λ i. Bits (I64 (name_word (kind_here kinds i) (global_value i σ)));
+}
+
+abbrev pub host_of : State → Option Fault → Host
+host_of σ fault = record { shared = σ.shared; arguments = []; fault = fault }
+
+module _ (ranges : ℕ) (kinds : List Kind) where
+  abbrev pub store_with : (way : ℕ) → Option Fault → State → Store
+  store_with way fault σ = record { globals = placed ranges (length kinds) (cells_of kinds way σ); host = host_of σ fault; assigning = None }
+
+  -- between two parts of code
+  abbrev pub store : State → Store
+  store σ = store_with way_none None σ
+
+  -- where a function is being left
+  abbrev pub gone : Stop → State → Store
+  gone (Faulted f) σ = store_with way_none (Some f) σ
+  gone Nexted σ = store_with way_next None σ
+  gone Exited σ = store_with way_exit None σ
+  gone (Returned v) σ = store σ
+  gone OutOfTurns σ = store σ
+  gone TooDeep σ = store σ

@@ -1,0 +1,145 @@
+-- Texts of the script, where they lie in memory; and names that are unboxed.
+use Rattle.std.proofs.Common.{◌≡◌, inr, ℕ, zero, suc, ◌+◌, ◌<◌, ◌≤◌, true, false, List, [], ◌∷◌, ◌++◌, length, Some, None, refl, sym, ap, ◌∙◌, arith}
+use Rattle.std.specs.Prelude.{get_or, take, drop, nat_eq, if◌then◌else◌}
+use Rattle.std.proofs.lemmas.Bool.{ltb-true, le-leb}
+use Rattle.std.proofs.lemmas.List.{take_at, drop_at, drop-drop, length-append, get_or_append_left}
+use Rattle.awk_values.specs.declared.value.Value.{Value}
+use Rattle.awk_values.specs.declared.value.Value.TheVariants as value
+use Rattle.sem_primitives.specs.declared.table.Primitive.TheVariants as row
+use Rattle.wasm_types.specs.Syntax.{Instructions, Done as NoMore}
+use Rattle.wasm_types.specs.declared.instr.Simple.TheVariants.{LocalSet, GlobalGet, GlobalSet}
+use Rattle.wasm_store.specs.Words.{flag}
+use Rattle.wasm_store.specs.declared.word.Word.TheVariants.{I32, I64}
+use Rattle.mid_program.specs.Mid.{Kind, Unboxed, Program, Global, Parameter, Bare, Text, Get}
+use Rattle.mid_program.specs.MidMeaning.{evaluated, all_evaluated}
+use Rattle.sem_scripts.specs.ScriptState.{State, global_value, local_value}
+use Rattle.mid_program.specs.Sorted.{sorted, all_sorted, kinds_of, announced_names}
+use Rattle.lower_model.specs.Cells.{Bits, Held, is_owned}
+use Rattle.lower_model.specs.Emission.{emitted, all_emitted, slot_read}
+use Rattle.lower_model.specs.Functions.{texts_of}
+use Rattle.lower_model.specs.ImportCalls.{with_some, and_rest, row_in, text_at}
+use Rattle.lower_model.specs.Machine.{Conf, Label, Frame, at}
+use Rattle.lower_model.specs.Places.{Bases, place_of, memory_of}
+use Rattle.lower_model.specs.Small.{does, when, copied, text_beside, h}
+use Rattle.lower_model.proofs.Watch.{Watch}
+use Rattle.lower_model.proofs.Runs.{Goes, then_goes, goes_to, by_steps, there}
+use Rattle.lower_model.proofs.Regions.{upd_same}
+use Rattle.lower_model.proofs.Locals.{Locals, Param, Hand, Number as NumberAt, with_at, laid}
+use Rattle.lower_model.proofs.Globals.{Hand as NameHand, Number as NameNumber, global_of}
+use Rattle.lower_model.proofs.Steps.{empty, get_copied, set_ok, tee_ok}
+use Rattle.lower_model.proofs.GlobalSteps.{global_copied}
+use Rattle.lower_model.proofs.State.{bare, beside, kind_here, name_hand, name_word, cells_of, arrays_before, word_not_beside}
+use Rattle.lower_model.proofs.Relation.{same_self, same_then, same_hand, same_number, Fit, fit_hand, fit_number, fit_more, Away}
+use Rattle.lower_model.proofs.Answers.{machine, beside_state, row_called, Put, put_value, put_word}
+use Rattle.lower_model.proofs.Conversions.{BareIs, IsBeside, IsNone, IsNumber, bare_is, same_state}
+use Rattle.lower_model.proofs.Copies.{copied_global}
+use Rattle.lower_model.proofs.Pieces.{chooses, closes}
+use Rattle.lower_model.proofs.Simulation.{Done, ExprOk, layout}
+use Rattle.lower_model.proofs.Expressions.{put_done}
+use Rattle.lower_model.proofs.Reading.{kind_below, kind_found}
+
+-- The texts lie in memory one after the other.
+
+text_within : (ts : List (List ℕ)) (i : ℕ) → place_of ts i + length (get_or ts i []) ≤ length (memory_of ts)
+text_within [] i = omega arith
+text_within (s ∷ ts) zero = let a = length-append s (memory_of ts) in omega (arith, a)
+text_within (s ∷ ts) (suc i) = let r = text_within ts i in let a = length-append s (memory_of ts) in omega (arith, r, a)
+
+text_read : (ts : List (List ℕ)) (i : ℕ) → take (length (get_or ts i [])) (drop (place_of ts i) (memory_of ts)) ≡ get_or ts i []
+text_read [] i = refl
+text_read (s ∷ ts) zero = take_at s (memory_of ts) (length s) refl
+text_read (s ∷ ts) (suc i) =
+    ap (λ m. take (length (get_or ts i [])) m) (sym (drop-drop (place_of ts i) (length s) (s ++ memory_of ts)) ∙ ap (drop (place_of ts i)) (drop_at s (memory_of ts) (length s) refl))
+    ∙ text_read ts i
+
+pub text_placed : (ts : List (List ℕ)) (i : ℕ) → text_at (memory_of ts) (place_of ts i) (length (get_or ts i [])) ≡ Some (get_or ts i [])
+text_placed ts i =
+    ap (λ t. if t then Some (take (length (get_or ts i [])) (drop (place_of ts i) (memory_of ts))) else None) (le-leb (place_of ts i + length (get_or ts i [])) (length (memory_of ts)) (text_within ts i))
+    ∙ ap Some (text_read ts i)
+
+module _ (p : Program) (deepest : Watch) (ks : List Kind) (F : List Frame) (b : Bases) (M n : ℕ) where
+  pub text_expr : (i : ℕ) → ExprOk p deepest ks F b M n (Text i)
+  unfolding emitted all_emitted evaluated all_evaluated sorted all_sorted
+  text_expr i v fs env ts st t u w d k K l σ so us rm ar rd =
+      let mach = machine p deepest ks F in
+      let S = beside_state p deepest ks F σ in
+      let all = texts_of p in
+      let s = get_or all i [] in
+      let e : s ≡ get_or p.texts i [] = get_or_append_left p.texts (announced_names p) [] i (ltb-true i (length p.texts) so) in
+      let x : Value = value.Text (get_or p.texts i []) in
+      there mach M 2 2 _ _ x σ (Done p deepest ks F b M n v (Text i) fs env ts st t u w k K l σ) (Away p deepest ks F b d K)
+      (then_goes
+      (goes_to
+      (row_called p deepest ks F row.Lit (s, tt) (Bits (I32 (place_of all i)) ∷ (Bits (I32 (length s)) ∷ [])) [] σ refl refl refl (ap (λ o. with_some (and_rest o []) (λ z. with_some (row_in mach.memory [] z.1) (λ rest. Some (z.0, rest)))) (text_placed all i)) refl)
+      (ap (λ τ. at ks (Held (value.Text s) ∷ []) K (laid b l) F (does (LocalSet (h b t)) k) (beside_state p deepest ks F τ)) (same_state σ (value.Text s))
+      ∙ ap (λ z. at ks (Held (value.Text z) ∷ []) K (laid b l) F (does (LocalSet (h b t)) k) S) e))
+      (set_ok b l (Hand t) (Held x) (omega (arith, rm)) (ap is_owned (rd.fit.free t (omega arith))))) (omega arith)
+      (put_done p deepest ks F b M n (Text i) v fs env ts st t u w k K l l σ σ x _ rd.below (same_self ts t w l) (λ j q. refl) rd.kept refl tt (put_value p deepest ks F b M t u w k K l x σ rd.fit))
+
+  -- Unboxed names.
+
+  pub get_bare_parameter : (i : ℕ) → ExprOk p deepest ks F b M n (Get (Parameter true i))
+  unfolding emitted all_emitted evaluated all_evaluated sorted all_sorted
+  get_bare_parameter i v fs env ts st t u w d k K l σ so us rm ar rd =
+      let x = local_value i σ in
+      let lt = kind_below ks i Unboxed so in
+      let pk = rd.parameters in
+      let q = rd.fit.params i Unboxed so in
+      there (machine p deepest ks F) M 12 2 _ _ x σ (Done p deepest ks F b M n v (Get (Parameter true i)) fs env ts st t u w k K l σ) (Away p deepest ks F b d K)
+      (then_goes (get_copied b l (Param i) (Bits (I64 (bare x))) (omega (arith, lt, pk)) q.0 refl) (set_ok b l (NumberAt t) (Bits (I64 (bare x))) (omega (arith, rm)) (rd.fit.numbers t))) (omega arith)
+      (put_done p deepest ks F b M n (Get (Parameter true i)) v fs env ts st t u w k K l l σ σ x _ rd.below (same_self ts t w l) (λ j z. refl) rd.kept refl tt (put_word p deepest ks F b M t u w (bare x) Bare k K l x σ q.1 (λ c z. z) rd.fit))
+
+  record BareRead (i t u w : ℕ) (k : Instructions) (K : List Label) (l : Locals) (σ : State) (x : Value) : Type 0 where
+    conf : Conf
+    steps : ℕ
+    few : steps ≤ 12
+    goes : Goes (machine p deepest ks F) steps (at ks [] K (laid b l) F (slot_read (layout p deepest ks F b M n) (Global true i) t k) (beside_state p deepest ks F σ)) conf
+    put : Put p deepest ks F b t u w Bare k K l x σ conf
+
+  bare_read : (i t u w : ℕ) (k : Instructions) (K : List Label) (l : Locals) (σ : State) → i < length (kinds_of p.globals) → kind_here (kinds_of p.globals) i ≡ Unboxed → t < b.temporaries → Fit p deepest ks F t u w l σ → BareIs (global_value i σ) → BareRead i t u w k K l σ (global_value i σ)
+  bare_read i t u w k K l σ li kh lt ft z = by z
+    where
+      by : BareIs (global_value i σ) → BareRead i t u w k K l σ (global_value i σ)
+      by z =
+          let kinds = kinds_of p.globals in
+          let g = cells_of kinds 0 σ in
+          let x = global_value i σ in
+          let e0 = ft.free t (omega arith) in
+          let l1 = with_at l (NumberAt t) (Bits (I64 (bare x))) in
+          let copy = copied (GlobalGet (global_of p.ranges (length kinds) (NameHand i))) (GlobalSet (global_of p.ranges (length kinds) (NameHand i))) (h b t) NoMore in
+          let start = then_goes (global_copied p.ranges (length kinds) g (NameNumber i) (Bits (I64 (bare x))) li (ap (λ c. Bits (I64 (name_word c x))) kh) refl) (then_goes (tee_ok b l (NumberAt t) (Bits (I64 (bare x))) lt (ft.numbers t)) (by_steps 1 refl)) in
+          let f1 = fit_number p deepest ks F t (suc t) u w l σ (Bits (I64 (bare x))) refl (fit_more p deepest ks F t u w l σ ft) in
+          let hand : name_hand (kind_here kinds i) (suc (suc (arrays_before kinds i))) x ≡ beside x = ap (λ c. name_hand c (suc (suc (arrays_before kinds i))) x) kh in
+          let none : nat_eq (bare x) text_beside ≡ false → beside x ≡ empty → BareRead i t u w k K l σ x = λ ne eh. record {
+            conf = at ks [] K (laid b l1) F k (beside_state p deepest ks F σ);
+            steps = 5;
+            few = omega arith;
+            goes = then_goes (goes_to start (ap (λ q. at ks (Bits (flag q) ∷ []) K (laid b l1) F (when copy k) (beside_state p deepest ks F σ)) ne)) (then_goes (chooses copy NoMore 0) closes);
+            put = record { next = l1; comes = refl; fit = f1; same = same_number [] t w t l (Bits (I64 (bare x))) (omega arith); holds = (e0 ∙ sym eh, upd_same l.number t (Bits (I64 (bare x)))) };
+          } in
+          elim z [
+            | IsBeside eb eh ↦ record {
+              conf = at ks [] K (laid b (with_at l1 (Hand t) (Held x))) F k (beside_state p deepest ks F σ);
+              steps = 9;
+              few = omega arith;
+              goes = then_goes (goes_to start (ap (λ m. at ks (Bits (flag (nat_eq m text_beside)) ∷ []) K (laid b l1) F (when copy k) (beside_state p deepest ks F σ)) eb)) (then_goes (chooses copy NoMore 1) (then_goes (copied_global p deepest ks F b l1 (NameHand i) t x σ li lt (hand ∙ eh) (ap is_owned e0)) closes));
+              put = record {
+                next = with_at l1 (Hand t) (Held x);
+                comes = refl;
+                fit = fit_hand p deepest ks F t (suc t) u w l1 σ (Held x) (inr (x, refl)) (omega arith) f1;
+                same = same_then [] t t w w l l1 (with_at l1 (Hand t) (Held x)) (omega arith) (omega arith) (same_number [] t w t l (Bits (I64 (bare x))) (omega arith)) (same_hand [] t w t l1 (Held x) (omega arith));
+                holds = (upd_same l.hand t (Held x) ∙ sym eh, upd_same l.number t (Bits (I64 (bare x))));
+              };
+            }
+            | IsNone q eb eh ↦ none (ap (λ m. nat_eq m text_beside) eb) eh
+            | IsNumber m q eb eh ↦ none (ap (λ z. nat_eq z text_beside) eb ∙ word_not_beside m) eh
+          ]
+
+  pub get_bare_global : (i : ℕ) → ExprOk p deepest ks F b M n (Get (Global true i))
+  unfolding emitted all_emitted evaluated all_evaluated sorted all_sorted
+  get_bare_global i v fs env ts st t u w d k K l σ so us rm ar rd =
+      let kinds = kinds_of p.globals in
+      let x = global_value i σ in
+      let r = bare_read i t u w k K l σ (kind_below kinds i Unboxed so) (kind_found kinds i Unboxed so) (omega (arith, rm)) rd.fit (bare_is x) in
+      there (machine p deepest ks F) M 12 r.steps _ _ x σ (Done p deepest ks F b M n v (Get (Global true i)) fs env ts st t u w k K l σ) (Away p deepest ks F b d K) r.goes r.few
+      (put_done p deepest ks F b M n (Get (Global true i)) v fs env ts st t u w k K l l σ σ x r.conf rd.below (same_self ts t w l) (λ j q. refl) rd.kept refl tt r.put)

@@ -1,0 +1,173 @@
+-- `n += e`: what is added is evaluated first, the name's number is asked then, and the sum goes to the name.
+use Rattle.std.proofs.Common.{◌≡◌, ℕ, zero, suc, ◌+◌, ◌<◌, ◌≤◌, Bool, true, false, List, [], ◌∷◌, Some, None, Option, Ok, Err, Result, refl, sym, ap, ◌∙◌, subst, arith, if◌then◌else◌}
+use Rattle.std.specs.Prelude.{◌&&◌}
+use Rattle.std.proofs.lemmas.Bool.{and_parts}
+use Rattle.awk_values.specs.declared.fault.Fault.{Fault}
+use Rattle.awk_values.specs.declared.value.Value.TheVariants as value
+use Rattle.sem_primitives.specs.Numbers.{Number as AnyNumber, number_word, outcome_of}
+use Rattle.sem_primitives.specs.ValueMeaning.{number_of_row}
+use Rattle.sem_primitives.specs.declared.sorts.Sort.TheVariants as sort
+use Rattle.wasm_types.specs.Syntax.{Instructions}
+use Rattle.wasm_types.specs.declared.instr.Simple.TheVariants.{LocalGet}
+use Rattle.wasm_store.specs.declared.word.Word.TheVariants.{I64}
+use Rattle.mid_program.specs.declared.mid.Arithmetic.{Arithmetic}
+use Rattle.mid_program.specs.declared.mid.Operation.TheVariants.{Inline}
+use Rattle.mid_program.specs.Mid.{Kind, Unboxed, Program, Form, Global, Code, Do, Get, Set, Let, Bound, Codes, End, At, Eval, a_number, form_of}
+use Rattle.mid_program.specs.MidMeaning.{Holds, converted, evaluated, all_evaluated, stepped, then_row, arithmetic_of, store_slot}
+use Rattle.sem_scripts.specs.ScriptState.{State, Outcome, Gives, ◌>>◌, give, go_on, settled, global_value}
+use Rattle.mid_program.specs.Sorted.{There, has_kind, kinds_of, sorted, all_sorted, is_kept, keeps_well, fits as fits_sort}
+use Rattle.sem_scripts.specs.Statements.{Normal}
+use Rattle.lower_model.specs.Cells.{Bits}
+use Rattle.lower_model.specs.Emission.{emitted, all_emitted}
+use Rattle.lower_model.specs.Machine.{Conf, Label, Frame, at}
+use Rattle.lower_model.specs.Places.{Bases, room, arrays_in}
+use Rattle.lower_model.specs.Quick.{Update, is_sum, sum_op, name_in, update_of, kept_update, set_update, let_update, update_in}
+use Rattle.lower_model.specs.Small.{does}
+use Rattle.lower_model.specs.Small
+use Rattle.lower_model.specs.Statements.{name_numbered, sum_taken, updated}
+use Rattle.lower_model.proofs.Watch.{Watch}
+use Rattle.lower_model.proofs.Runs.{Goes, then_goes, goes_from, same_goes, first, weaker, then_on, then_settled, there, stays}
+use Rattle.lower_model.proofs.Locals.{Locals, Number as NumberAt, laid}
+use Rattle.lower_model.proofs.Steps.{get_copied}
+use Rattle.lower_model.proofs.Relation.{HoldsAt, Fit, fit_less, fit_more, Away}
+use Rattle.lower_model.proofs.Answers.{machine, beside_state, Reached}
+use Rattle.lower_model.proofs.Converting.{Converted, converted_ok}
+use Rattle.lower_model.proofs.Operands.{holds_same}
+use Rattle.lower_model.proofs.Quick.{name_is}
+use Rattle.lower_model.proofs.QuickNames.{some_is}
+use Rattle.lower_model.proofs.Simulation.{work_of, context, layout, meant, Done, ExprOk, room_one, still_stands}
+use Rattle.lower_model.proofs.StatementForms.{flows_on, plain_meant, Starts, ready, starts_after, StepDone}
+use Rattle.lower_model.proofs.Summing.{Summed, name_numbered_ok, sum_given, summed_in_turn, added_ok, summed_since}
+
+-- which code such a step is
+
+abbrev pub added_code : Update → Code
+added_code q = Let q.added (Set (Global true q.target) (Do (Inline q.op) (At (Get (Global true q.name)) (At (Bound true zero) End))))
+
+pub added_is : (e : Code) (q : Update) → update_in e ≡ Some q → (e ≡ added_code q) × (is_sum q.op ≡ true)
+added_is (Let a c) q e = let_is a c q e
+  where
+    kept_is : (i : ℕ) (o : Arithmetic) (a : Code) (es : Codes) (q : Update) → kept_update i o a es ≡ Some q → (Let a (Set (Global true i) (Do (Inline o) es)) ≡ added_code q) × (is_sum q.op ≡ true)
+    kept_is i o a (At x (At (Bound true zero) End)) q e = by (name_in x) refl e
+      where
+        sums : (j : ℕ) (t : Bool) → is_sum o ≡ t → x ≡ Get (Global true j) → (if t then Some (record { target = i; op = o; name = j; added = a }) else None) ≡ Some q → (Let a (Set (Global true i) (Do (Inline o) (At x (At (Bound true zero) End)))) ≡ added_code q) × (is_sum q.op ≡ true)
+        sums j true et ex e1 =
+            let r = some_is (record { target = i; op = o; name = j; added = a }) q e1 in
+            (ap (λ (z : Code). Let a (Set (Global true i) (Do (Inline o) (At z (At (Bound true zero) End))))) ex ∙ ap added_code r, ap (λ (z : Update). is_sum z.op) (sym r) ∙ et)
+        sums j false et ex e1 = cc
+
+        by : (j : Option ℕ) → name_in x ≡ j → update_of i o j a ≡ Some q → (Let a (Set (Global true i) (Do (Inline o) (At x (At (Bound true zero) End)))) ≡ added_code q) × (is_sum q.op ≡ true)
+        by (Some j) ej e1 = sums j (is_sum o) refl (name_is x j ej) e1
+        by None ej e1 = cc
+    kept_is i o a es q e = cc
+
+    set_is : (i : ℕ) (a c : Code) (q : Update) → set_update i a c ≡ Some q → (Let a (Set (Global true i) c) ≡ added_code q) × (is_sum q.op ≡ true)
+    set_is i a (Do (Inline o) es) q e = kept_is i o a es q e
+    set_is i a c q e = cc
+
+    let_is : (a c : Code) (q : Update) → let_update a c ≡ Some q → (Let a c ≡ added_code q) × (is_sum q.op ≡ true)
+    let_is a (Set (Global true i) c) q e = set_is i a c q e
+    let_is a c q e = cc
+added_is e q eq = cc
+
+module _ (p : Program) (deepest : Watch) (ks : List Kind) (F : List Frame) (b : Bases) (M n : ℕ) where
+  abbrev kinds : List Kind
+  kinds = kinds_of p.globals
+
+  pub record UpdateParts (q : Update) : Type 0 where
+    pub added : sorted (context p deepest ks F b M n) [] q.added ≡ true
+    pub kind : has_kind kinds q.target Unboxed ≡ true
+    pub name : has_kind kinds q.name Unboxed ≡ true
+    pub numeric : fits_sort (form_of [] q.added) sort.Number ≡ true
+
+  pub added_sorted : (q : Update) → sorted (context p deepest ks F b M n) [] (added_code q) ≡ true → UpdateParts q
+  unfolding sorted all_sorted
+  added_sorted q so =
+      let ctx = context p deepest ks F b M n in
+      let g = form_of [] q.added in
+      let fg = fits_sort g sort.Number in
+      let c = Set (Global true q.target) (Do (Inline q.op) (At (Get (Global true q.name)) (At (Bound true zero) End))) in
+      let s = and_parts (is_kept g) (keeps_well c && (sorted ctx [] q.added && sorted ctx (g ∷ []) c)) so in
+      let s1 = and_parts (keeps_well c) (sorted ctx [] q.added && sorted ctx (g ∷ []) c) s.1 in
+      let s2 = and_parts (sorted ctx [] q.added) (sorted ctx (g ∷ []) c) s1.1 in
+      let s3 = and_parts (has_kind kinds q.target Unboxed) ((fg && true) && (has_kind kinds q.name Unboxed && true)) s2.1 in
+      let s4 = and_parts (fg && true) (has_kind kinds q.name Unboxed && true) s3.1 in
+      record { added = s2.0; kind = s3.0; name = (and_parts (has_kind kinds q.name Unboxed) true s4.1).0; numeric = (and_parts fg true s4.0).0 }
+
+  -- what the name and what was added give
+
+  abbrev Two : Type 0
+  Two = AnyNumber × (AnyNumber × Unit {0})
+
+  abbrev row_summed : ℕ → Arithmetic → Result AnyNumber Fault → Result AnyNumber Fault → State → Outcome AnyNumber
+  row_summed i o r1 r2 σ =
+      go_on (go_on {A = Two} {B = AnyNumber} (settled (then_row {A = AnyNumber} {B = Two} r1 (λ x. then_row {A = AnyNumber × Unit {0}} {B = Two} (then_row {A = AnyNumber} {B = AnyNumber × Unit {0}} r2 (λ z. Ok (z, tt))) (λ zs. Ok (x, zs)))) σ)
+      (λ given. settled (outcome_of (arithmetic_of o given.0.number given.1.0.number)))) (λ y. store_slot (Global true i) (value.Num y.number) >> give y)
+
+  row_in_turn : (i : ℕ) (o : Arithmetic) (r1 r2 : Result AnyNumber Fault) (σ : State) → row_summed i o r1 r2 σ ≡ summed_in_turn p deepest ks F b M n i o r1 r2 σ
+  row_in_turn i o (Ok x) (Ok z) σ = refl
+  row_in_turn i o (Ok x) (Err f) σ = refl
+  row_in_turn i o (Err f) r2 σ = refl
+
+  abbrev added_meant : (q : Update) → Holds (form_of [] q.added) → State → Outcome AnyNumber
+  added_meant q x τ = summed_in_turn p deepest ks F b M n q.target q.op (number_of_row (global_value q.name τ)) (converted (form_of [] q.added) sort.Number x) τ
+
+  stored_means : (q : Update) (x : Holds (form_of [] q.added)) (τ : State) → meant p deepest ks F b M n (form_of [] q.added ∷ []) (x, tt) (Set (Global true q.target) (Do (Inline q.op) (At (Get (Global true q.name)) (At (Bound true zero) End)))) τ ≡ added_meant q x τ
+  unfolding evaluated all_evaluated
+  stored_means q x τ = row_in_turn q.target q.op (number_of_row (global_value q.name τ)) (converted (form_of [] q.added) sort.Number x) τ
+
+  -- the name takes the sum, once what is added is there
+  name_takes : (q : Update) (u d : ℕ) (k : Instructions) (K : List Label) (l : Locals) (x : Holds (form_of [] q.added)) (τ : State) → UpdateParts q → is_sum q.op ≡ true → 1 < b.temporaries → Fit p deepest ks F 1 u 0 l τ → HoldsAt (form_of [] q.added) 0 l x →
+      Reached p deepest ks F b M 70 τ.turns (at ks [] K (laid b l) F (name_numbered (layout p deepest ks F b M n) q.name 1 d (Small.to_number b (form_of [] q.added) zero d (does (LocalGet (Small.n b 1)) (does (LocalGet (Small.n b zero)) (sum_taken (layout p deepest ks F b M n) (sum_op q.op) q.target zero d k))))) (beside_state p deepest ks F τ))
+      (λ a. Summed p deepest ks F b M n u k K l) (Away p deepest ks F b d K) (added_meant q x τ)
+  name_takes q u d k K l x τ parts so lt ft hd =
+      let mach = machine p deepest ks F in
+      let y = layout p deepest ks F b M n in
+      let g = form_of [] q.added in
+      let Q = Away p deepest ks F b d K in
+      let P : AnyNumber → State → Conf → Type 0 = λ a. Summed p deepest ks F b M n u k K l in
+      let k3 = sum_taken y (sum_op q.op) q.target zero d k in
+      let k2 = does (LocalGet (Small.n b 1)) (does (LocalGet (Small.n b zero)) k3) in
+      let k1 = Small.to_number b g zero d k2 in
+      let own = number_of_row (global_value q.name τ) in
+      let f2 = fit_more p deepest ks F 1 u 0 l τ ft in
+      then_settled mach M 22 48 70 _ τ (Converted p deepest ks F b M 2 u 0 1 a_number k1 K l) P Q own (λ m σ1. go_on (settled (converted g sort.Number x) σ1) (λ z σ2. sum_given p deepest ks F b M n q.target σ2 (outcome_of (arithmetic_of q.op m.number z.number)))) (omega arith)
+      (name_numbered_ok p deepest ks F b M n q.name 2 u 0 1 d k1 K l τ parts.name (omega arith) lt f2 (ft.free 1 (omega arith)))
+      (λ m c1 e1 a1.
+      first mach M 0 48 48 τ.turns c1 _ P Q _ (same_goes a1.comes) (omega arith)
+      (then_settled mach M 16 32 48 _ τ (Converted p deepest ks F b M 2 u 0 0 a_number k2 K a1.next) P Q (converted g sort.Number x) (λ z σ2. sum_given p deepest ks F b M n q.target σ2 (outcome_of (arithmetic_of q.op m.number z.number))) (omega arith)
+      (converted_ok p deepest ks F b M g sort.Number x 2 u 0 0 d k2 K a1.next τ parts.numeric (omega arith) (omega (arith, lt)) a1.fit (holds_same g 0 l a1.next x (a1.keeps.hands 0 (λ e. omega (arith, e))) (a1.keeps.numbers 0 (λ e. omega (arith, e))) hd))
+      (λ z c2 e2 a2.
+      let l2 = a2.next in
+      let sum = sum_given p deepest ks F b M n q.target τ (outcome_of (arithmetic_of q.op m.number z.number)) in
+      weaker mach M 32 τ.turns c2 (λ a. Summed p deepest ks F b M n u k K l2) P Q Q sum (λ w σ1 c e. summed_since p deepest ks F b M n u k K l l2 σ1 c (λ v. a2.keeps.iterators v ∙ a1.keeps.iterators v) e) (λ why σ1 c e. e)
+      (first mach M 2 30 32 τ.turns c2 _ (λ a. Summed p deepest ks F b M n u k K l2) Q sum
+      (goes_from a2.comes (then_goes (get_copied b l2 (NumberAt 1) (Bits (I64 (number_word m))) lt (a2.keeps.numbers 1 (λ e. omega (arith, e)) ∙ a1.holds.1) refl) (get_copied b l2 (NumberAt 0) (Bits (I64 (number_word z))) (omega (arith, lt)) a2.holds.1 refl))) (omega arith)
+      (added_ok p deepest ks F b M n q.op q.target m z u d k K l2 τ so parts.kind (omega (arith, lt)) (fit_less p deepest ks F 1 u 0 l2 τ (a2.keeps.hands 1 (λ e. omega (arith, e)) ∙ a1.holds.0) a2.fit) a2.holds.0)))))
+
+  pub updated_ok : (q : Update) → ExprOk p deepest ks F b M n q.added → (lo : Bool) (u d bk ct : ℕ) (k : Instructions) (K : List Label) (l : Locals) (σ : State) → sorted (context p deepest ks F b M n) [] (added_code q) ≡ true → is_sum q.op ≡ true → room (added_code q) ≤ b.temporaries → arrays_in (added_code q) ≤ b.arrays → Starts p deepest ks F b M n u K l σ →
+      Reached p deepest ks F b M (work_of q.added + 70) σ.turns (at ks [] K (laid b l) F (updated (layout p deepest ks F b M n) q d k) (beside_state p deepest ks F σ)) (StepDone p deepest ks F b M n lo u bk ct k K l) (Away p deepest ks F b d K) (plain_meant p deepest ks F b M n (Eval (added_code q)) σ)
+  unfolding stepped evaluated all_evaluated
+  updated_ok q ok lo u d bk ct k K l σ so sm rm ar s =
+      let mach = machine p deepest ks F in
+      let y = layout p deepest ks F b M n in
+      let g = form_of [] q.added in
+      let parts = added_sorted q so in
+      let Q = Away p deepest ks F b d K in
+      let P0 : AnyNumber → State → Conf → Type 0 = λ a. Summed p deepest ks F b M n u k K l in
+      let P = StepDone p deepest ks F b M n lo u bk ct k K l in
+      let k2 = does (LocalGet (Small.n b 1)) (does (LocalGet (Small.n b zero)) (sum_taken y (sum_op q.op) q.target zero d k)) in
+      let k1 = name_numbered y q.name 1 d (Small.to_number b g zero d k2) in
+      let r1 = room_one q.added in
+      then_on mach M (work_of q.added + 70) 0 (work_of q.added + 70) σ.turns _ P0 P Q (meant p deepest ks F b M n [] tt (added_code q) σ) _ (omega arith)
+      (then_on mach M (work_of q.added) 70 (work_of q.added + 70) σ.turns _ (Done p deepest ks F b M n false q.added [] tt [] (λ i. There) zero u zero k1 K l σ) P0 Q (meant p deepest ks F b M n [] tt q.added σ) _ (omega arith)
+      (ok false [] tt [] (λ i. There) zero u zero d k1 K l σ parts.added (λ i lt. absurd (omega (arith, lt))) (omega (arith, rm)) (omega (arith, ar)) (ready p deepest ks F b M n u K l σ s))
+      (λ x τ c1 le h.
+      let l1 = h.next in
+      first mach M 0 70 70 τ.turns c1 _ P0 Q _ (same_goes h.comes) (omega arith)
+      (weaker mach M 70 τ.turns _ (λ a. Summed p deepest ks F b M n u k K l1) P0 Q Q _ (λ w σ1 c e. summed_since p deepest ks F b M n u k K l l1 σ1 c h.same.iterators e) (λ why σ1 c e. e)
+      (subst (λ r. Reached p deepest ks F b M 70 τ.turns (at ks [] K (laid b l1) F k1 (beside_state p deepest ks F τ)) (λ a. Summed p deepest ks F b M n u k K l1) Q r) (sym (stored_means q x τ))
+      (name_takes q u d k K l1 x τ parts sm (omega (arith, rm, r1)) h.fit (still_stands q.added g zero l1 x h.stands))))))
+      (λ w τ c1 le h.
+      there mach M 0 0 c1 c1 Normal τ P Q stays (omega arith)
+      (record { next = h.next; comes = h.comes; starts = starts_after p deepest ks F b M n u K K l h.next σ τ s refl le h.iterators h.fit; iterators = h.iterators; flows = flows_on lo }))

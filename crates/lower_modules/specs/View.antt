@@ -1,0 +1,12 @@
+-- The plain function that an emitted one stands for.
+use Rattle.std.specs.Prelude.{List, map}
+use Rattle.mid_program.specs.View.{view_kind}
+use Rattle.wasm_types.specs.View.{views}
+use Rattle.lower_model.specs.Machine.{Callee}
+use Rattle.lower_modules.specs.declared.function.Function.{Function}
+
+abbrev pub view_function : Function → Callee
+view_function f = record { kinds = map view_kind f.kinds.items; locals = f.locals.items; body = views f.body.items }
+
+abbrev pub view_functions : List Function → List Callee
+view_functions fs = map view_function fs

@@ -1,0 +1,150 @@
+//! Which imports are called, and the numbers of functions once the others are left out.
+ghost use Rattle.std.specs.Prelude.{◌≡◌, ◌≤◌, length, map, IfOk};
+ghost use Rattle.lower_modules.specs.Calls.{noted};
+ghost use Rattle.lower_modules.specs.View.{view_functions};
+ghost use Rattle.lower_model.specs.Imports.{imports};
+ghost use Rattle.lower_model.specs.Modules.{called_from, calls_by, calls_in, chosen, is_call, new_number, renumbered, renumbered_one, renumbered_simple};
+ghost use Rattle.wasm_types.specs.View.{view, views};
+
+use crate::function::Function;
+use crate::imports::{COUNT, IMPORTS};
+use std::alloc::{AllocError, Global};
+use std::rc::Rc;
+use lower_model::Import;
+use wasm_types::{Instr, Simple};
+
+/// Notes what an instruction calls, if that is an import.
+fn note_simple(called: &mut Vec<bool>, simple: Simple)
+    ensures { called.new.items ≡ noted (λ i. is_call i simple) called.old.items }
+{
+    match simple {
+        Simple::Call(number) => {
+            let number = number as usize;
+            if number < called.len() {
+                called[number] = true;
+            }
+        }
+        _ => {}
+    }
+}
+
+/// Notes which imports an instruction calls.
+#[cycle(calls)]
+fn note_calls_by(called: &mut Vec<bool>, instr: &Instr)
+    ensures { called.new.items ≡ noted (λ i. calls_by i (view instr.now)) called.old.items }
+{
+    match instr {
+        Instr::Plain(simple) => note_simple(called, *simple),
+        Instr::BrTable(_, _) => {}
+        Instr::Block(_, inner) => note_calls_in(called, inner),
+        Instr::Loop(_, inner) => note_calls_in(called, inner),
+        Instr::If(_, inner, other) => {
+            note_calls_in(called, inner);
+            note_calls_in(called, other);
+        }
+    }
+}
+
+/// Notes which imports code calls.
+#[cycle(calls)]
+fn note_calls_in(called: &mut Vec<bool>, code: &[Instr])
+    ensures { called.new.items ≡ noted (λ i. calls_in i (views code.now)) called.old.items }
+{
+    for instr in code {
+        note_calls_by(called, instr);
+    }
+}
+
+/// For each import, whether it is called: one walk over the code finds all of them.
+pub(crate) fn called_imports(alloc: Global, fs: &[Function]) -> Result<Vec<bool>, AllocError>
+    ensures { IfOk result (λ bs. bs.items ≡ called_from 0 imports (view_functions fs.now)) }
+{
+    let mut called = vec![in alloc; false; COUNT]?;
+    for f in fs {
+        note_calls_in(&mut called, &f.body);
+    }
+    Ok(called)
+}
+
+/// The imports that are called.
+pub(crate) fn chosen(alloc: Global, called: &[bool]) -> Result<Vec<Import>, AllocError>
+    requires { length called.now ≡ length imports }
+    ensures chosen { IfOk result (λ used. used.items ≡ chosen called.now imports) }
+    ensures few { IfOk result (λ used. length used.items ≤ length imports) }
+{
+    let mut used = Vec::new(alloc);
+    for i in 0..COUNT {
+        if called[i] {
+            used.push(IMPORTS[i])?;
+        }
+    }
+    Ok(used)
+}
+
+/// The number of a function once imports are left out that are not called.
+fn new_number(called: &[bool], number: u32) -> u32
+    ensures number { result ≡ new_number called.now number }
+    ensures less { result ≤ number }
+{
+    match called {
+        [] => number,
+        [first, rest @ ..] => {
+            if number == 0 {
+                0
+            } else if *first {
+                new_number(rest, number - 1) + 1
+            } else {
+                new_number(rest, number - 1)
+            }
+        }
+    }
+}
+
+fn renumbered_simple(called: &[bool], simple: Simple) -> Simple
+    ensures { result ≡ renumbered_simple called.now simple }
+{
+    match simple {
+        Simple::Call(number) => Simple::Call(new_number(called, number)),
+        _ => simple,
+    }
+}
+
+/// An instruction whose calls have the new numbers.
+#[cycle(renumbering)]
+fn renumbered_one(alloc: Global, called: &[bool], instr: &Instr) -> Result<Instr, AllocError>
+    ensures { IfOk result (λ r. view r ≡ renumbered_one called.now (view instr.now)) }
+{
+    match instr {
+        Instr::Plain(simple) => Ok(Instr::Plain(renumbered_simple(called, *simple))),
+        Instr::BrTable(labels, last) => Ok(Instr::BrTable(labels.as_slice().to_vec(alloc)?, *last)),
+        Instr::Block(kind, inner) => {
+            let inner = Rc::new(alloc, renumbered(alloc, called, inner)?)?;
+            Ok(Instr::Block(*kind, inner))
+        }
+        Instr::Loop(kind, inner) => {
+            let inner = Rc::new(alloc, renumbered(alloc, called, inner)?)?;
+            Ok(Instr::Loop(*kind, inner))
+        }
+        Instr::If(kind, inner, other) => {
+            let inner = Rc::new(alloc, renumbered(alloc, called, inner)?)?;
+            let other = Rc::new(alloc, renumbered(alloc, called, other)?)?;
+            Ok(Instr::If(*kind, inner, other))
+        }
+    }
+}
+
+/// Code whose calls have the new numbers.
+#[cycle(renumbering)]
+pub(crate) fn renumbered(
+    alloc: Global,
+    called: &[bool],
+    code: &[Instr],
+) -> Result<Vec<Instr>, AllocError>
+    ensures { IfOk result (λ out. views out.items ≡ renumbered called.now (views code.now)) }
+{
+    let mut out = Vec::with_capacity(alloc, code.len())?;
+    for instr in code {
+        out.push(renumbered_one(alloc, called, instr)?)?;
+    }
+    Ok(out)
+}

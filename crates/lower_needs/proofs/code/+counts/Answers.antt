@@ -1,0 +1,161 @@
+use Rattle.std.proofs.Common.{◌≡◌, ◌-◌, ℕ, suc, max, List, map, drop, ap, sym, ◌∙◌, arith}
+use Rattle.mid_program.specs.Mid as plain
+use Rattle.mid_program.specs.ViewCode.{joined, view, views}
+use Rattle.mid_program.specs.declared.code.Code.{Code}
+use Rattle.mid_program.specs.declared.code.Operand.{Operand}
+use Rattle.lower_model.specs.Places.{arrays_among, arrays_in, room, rooms}
+use Rattle.lower_needs.specs.Counted.{counted}
+use Rattle.lower_needs.specs.Labels.{labels_among, labels_in}
+use Rattle.mid_program.proofs.Views.{view_joined}
+use Rattle.lower_needs.proofs.Keys.{arrays_joined, labels_joined, one_more, room_joined}
+use Rattle.lower_quick.proofs.Views.{view_call, view_do, view_over, view_replace}
+use Rattle.lower_needs.proofs.code.+counts.Goals as goal
+
+pub counts_in-returns-in-Do-clause-temporaries : goal.counts_in-returns-in-Do-clause-temporaries
+counts_in-returns-in-Do-clause-temporaries t c =
+    let r = c.counts_among.ensures.temporaries ∙ ap (λ (es : List Operand). counted (rooms (views es))) c.deref.ensures.value in
+    let k = c.least_room.ensures (views c.in-Do.operands.items) in
+    let few = c.least_room.type_inv in
+    let whole = ap room (ap view c.in-Do.is ∙ view_do c.in-Do.operation c.in-Do.operands) in
+    let l = c.at_least.ensures.temporaries in
+    omega (arith, r, k, few, whole, l)
+
+pub counts_in-returns-in-Do-clause-arrays : goal.counts_in-returns-in-Do-clause-arrays
+counts_in-returns-in-Do-clause-arrays t c =
+    c.at_least.ensures.arrays ∙ c.counts_among.ensures.arrays ∙ ap (λ (es : List Operand). counted (arrays_among (views es))) c.deref.ensures.value
+    ∙ sym (ap (λ (e : plain.Code). counted (arrays_in e)) (ap view c.in-Do.is ∙ view_do c.in-Do.operation c.in-Do.operands))
+
+pub counts_in-returns-in-Do-clause-labels : goal.counts_in-returns-in-Do-clause-labels
+counts_in-returns-in-Do-clause-labels t c =
+    c.at_least.ensures.labels ∙ c.counts_among.ensures.labels ∙ ap (λ (es : List Operand). counted (labels_among (views es))) c.deref.ensures.value
+    ∙ sym (ap (λ (e : plain.Code). counted (labels_in e)) (ap view c.in-Do.is ∙ view_do c.in-Do.operation c.in-Do.operands))
+
+pub counts_in-returns-in-Joined-clause-temporaries : goal.counts_in-returns-in-Joined-clause-temporaries
+counts_in-returns-in-Joined-clause-temporaries t c =
+    let e = view c.in-Joined.first.value in
+    let es = map view c.in-Joined.others.items in
+    let last = view c.in-Joined.last.value in
+    let a = c.counts_in-in-Joined.ensures.temporaries ∙ ap (λ (x : Code). counted (room (view x))) c.deref-in-Joined-3.ensures in
+    let z = c.counts_in.ensures.temporaries ∙ ap (λ (x : Code). counted (room (view x))) c.deref-in-Joined-2.ensures in
+    let j = c.joined_counts-after.ensures.temporaries last z ∙ ap (λ (xs : List Code). counted (room (joined (map view xs) last))) c.deref-in-Joined.ensures.value in
+    let k = c.later.ensures.temporaries ∙ ap (λ (n : ℕ). counted (suc n)) j in
+    c.both.ensures.temporaries ∙ (λ i. max (a i) (k i)) ∙ room_joined e es last
+    ∙ sym (ap (λ (x : plain.Code). counted (room x)) (ap view c.in-Joined.is ∙ view_joined c.in-Joined.first c.in-Joined.others c.in-Joined.last))
+
+pub counts_in-returns-in-Joined-clause-arrays : goal.counts_in-returns-in-Joined-clause-arrays
+counts_in-returns-in-Joined-clause-arrays t c =
+    let e = view c.in-Joined.first.value in
+    let es = map view c.in-Joined.others.items in
+    let last = view c.in-Joined.last.value in
+    let a = c.counts_in-in-Joined.ensures.arrays ∙ ap (λ (x : Code). counted (arrays_in (view x))) c.deref-in-Joined-3.ensures in
+    let z = c.counts_in.ensures.arrays ∙ ap (λ (x : Code). counted (arrays_in (view x))) c.deref-in-Joined-2.ensures in
+    let j = c.joined_counts-after.ensures.arrays last z ∙ ap (λ (xs : List Code). counted (arrays_in (joined (map view xs) last))) c.deref-in-Joined.ensures.value in
+    let k = c.later.ensures.arrays ∙ j in
+    c.both.ensures.arrays ∙ (λ i. max (a i) (k i)) ∙ arrays_joined e es last
+    ∙ sym (ap (λ (x : plain.Code). counted (arrays_in x)) (ap view c.in-Joined.is ∙ view_joined c.in-Joined.first c.in-Joined.others c.in-Joined.last))
+
+pub counts_in-returns-in-Joined-clause-labels : goal.counts_in-returns-in-Joined-clause-labels
+counts_in-returns-in-Joined-clause-labels t c =
+    let e = view c.in-Joined.first.value in
+    let es = map view c.in-Joined.others.items in
+    let last = view c.in-Joined.last.value in
+    let a = c.counts_in-in-Joined.ensures.labels ∙ ap (λ (x : Code). counted (labels_in (view x))) c.deref-in-Joined-3.ensures in
+    let z = c.counts_in.ensures.labels ∙ ap (λ (x : Code). counted (labels_in (view x))) c.deref-in-Joined-2.ensures in
+    let j = c.joined_counts-after.ensures.labels last z ∙ ap (λ (xs : List Code). counted (labels_in (joined (map view xs) last))) c.deref-in-Joined.ensures.value in
+    let k = c.later.ensures.labels ∙ j in
+    c.both.ensures.labels ∙ (λ i. max (a i) (k i)) ∙ labels_joined e es last
+    ∙ sym (ap (λ (x : plain.Code). counted (labels_in x)) (ap view c.in-Joined.is ∙ view_joined c.in-Joined.first c.in-Joined.others c.in-Joined.last))
+
+pub joined_counts-loop-i-preserved : goal.joined_counts-loop-i-preserved
+joined_counts-loop-i-preserved t c = record {
+  temporaries = λ z h. let k = c.later.ensures.temporaries ∙ ap (λ (n : ℕ). counted (suc n)) (c.loop-i.invariant.temporaries z h) in
+      c.both-needed.ensures.temporaries ∙ (λ i. max (c.counts_in.ensures.temporaries i) (k i)) ∙ room_joined (view c.index-others-i.result) (map view (drop c.loop-i.i c.args.others.now)) z
+      ∙ ap (λ (x : plain.Code). counted (room x)) (one_more c.args.others.now c.loop-i.i (c.loop-i.i - 1) c.index-others-i.result z (omega arith) c.loop-i.invariant.inside c.index-others-i.is);
+  arrays = λ z h. let k = c.later.ensures.arrays ∙ c.loop-i.invariant.arrays z h in
+      c.both-needed.ensures.arrays ∙ (λ i. max (c.counts_in.ensures.arrays i) (k i)) ∙ arrays_joined (view c.index-others-i.result) (map view (drop c.loop-i.i c.args.others.now)) z
+      ∙ ap (λ (x : plain.Code). counted (arrays_in x)) (one_more c.args.others.now c.loop-i.i (c.loop-i.i - 1) c.index-others-i.result z (omega arith) c.loop-i.invariant.inside c.index-others-i.is);
+  iterators = λ h. c.both-needed.ensures.iterators ∙ (λ i. max (c.counts_in.ensures.iterators i) ((c.later.ensures.iterators ∙ c.loop-i.invariant.iterators h) i));
+  labels = λ z h. let k = c.later.ensures.labels ∙ c.loop-i.invariant.labels z h in
+      c.both-needed.ensures.labels ∙ (λ i. max (c.counts_in.ensures.labels i) (k i)) ∙ labels_joined (view c.index-others-i.result) (map view (drop c.loop-i.i c.args.others.now)) z
+      ∙ ap (λ (x : plain.Code). counted (labels_in x)) (one_more c.args.others.now c.loop-i.i (c.loop-i.i - 1) c.index-others-i.result z (omega arith) c.loop-i.invariant.inside c.index-others-i.is);
+  inside = omega arith;
+}
+
+pub joined_counts-returns-clause-temporaries : goal.joined_counts-returns-clause-temporaries
+joined_counts-returns-clause-temporaries t c = λ z h.
+    let first : c.loop-i.i ≡ 0 = omega arith in
+    c.loop-i.invariant.temporaries z h ∙ ap (λ (n : ℕ). counted (room (joined (map view (drop n c.args.others.now)) z))) first
+
+pub joined_counts-returns-clause-arrays : goal.joined_counts-returns-clause-arrays
+joined_counts-returns-clause-arrays t c = λ z h.
+    let first : c.loop-i.i ≡ 0 = omega arith in
+    c.loop-i.invariant.arrays z h ∙ ap (λ (n : ℕ). counted (arrays_in (joined (map view (drop n c.args.others.now)) z))) first
+
+pub joined_counts-returns-clause-labels : goal.joined_counts-returns-clause-labels
+joined_counts-returns-clause-labels t c = λ z h.
+    let first : c.loop-i.i ≡ 0 = omega arith in
+    c.loop-i.invariant.labels z h ∙ ap (λ (n : ℕ). counted (labels_in (joined (map view (drop n c.args.others.now)) z))) first
+
+pub counts_in-returns-in-Over-clause-temporaries : goal.counts_in-returns-in-Over-clause-temporaries
+counts_in-returns-in-Over-clause-temporaries t c =
+    let r = c.counts_among-in-Over.ensures.temporaries ∙ ap (λ (es : List Operand). counted (rooms (views es))) c.deref-in-Over.ensures.value in
+    let whole = ap room (ap view c.in-Over.is ∙ view_over c.in-Over.field-0 c.in-Over.operands) in
+    let l = c.at_least-in-Over.ensures.temporaries in
+    omega (arith, r, whole, l)
+
+pub counts_in-returns-in-Over-clause-arrays : goal.counts_in-returns-in-Over-clause-arrays
+counts_in-returns-in-Over-clause-arrays t c =
+    c.at_least-in-Over.ensures.arrays ∙ c.counts_among-in-Over.ensures.arrays ∙ ap (λ (es : List Operand). counted (arrays_among (views es))) c.deref-in-Over.ensures.value
+    ∙ sym (ap (λ (e : plain.Code). counted (arrays_in e)) (ap view c.in-Over.is ∙ view_over c.in-Over.field-0 c.in-Over.operands))
+
+pub counts_in-returns-in-Over-clause-labels : goal.counts_in-returns-in-Over-clause-labels
+counts_in-returns-in-Over-clause-labels t c =
+    c.at_least-in-Over.ensures.labels ∙ c.counts_among-in-Over.ensures.labels ∙ ap (λ (es : List Operand). counted (labels_among (views es))) c.deref-in-Over.ensures.value
+    ∙ sym (ap (λ (e : plain.Code). counted (labels_in e)) (ap view c.in-Over.is ∙ view_over c.in-Over.field-0 c.in-Over.operands))
+
+pub counts_in-returns-in-Call-clause-temporaries : goal.counts_in-returns-in-Call-clause-temporaries
+counts_in-returns-in-Call-clause-temporaries t c =
+    let r = c.counts_among-in-Call.ensures.temporaries ∙ ap (λ (es : List Operand). counted (rooms (views es))) c.deref-in-Call.ensures.value in
+    let whole = ap room (ap view c.in-Call.is ∙ view_call c.in-Call.field-0 c.in-Call.operands) in
+    let l = c.at_least-in-Call.ensures.temporaries in
+    omega (arith, r, whole, l)
+
+pub counts_in-returns-in-Call-clause-arrays : goal.counts_in-returns-in-Call-clause-arrays
+counts_in-returns-in-Call-clause-arrays t c =
+    c.at_least-in-Call.ensures.arrays ∙ c.counts_among-in-Call.ensures.arrays ∙ ap (λ (es : List Operand). counted (arrays_among (views es))) c.deref-in-Call.ensures.value
+    ∙ sym (ap (λ (e : plain.Code). counted (arrays_in e)) (ap view c.in-Call.is ∙ view_call c.in-Call.field-0 c.in-Call.operands))
+
+pub counts_in-returns-in-Call-clause-labels : goal.counts_in-returns-in-Call-clause-labels
+counts_in-returns-in-Call-clause-labels t c =
+    c.at_least-in-Call.ensures.labels ∙ c.counts_among-in-Call.ensures.labels ∙ ap (λ (es : List Operand). counted (labels_among (views es))) c.deref-in-Call.ensures.value
+    ∙ sym (ap (λ (e : plain.Code). counted (labels_in e)) (ap view c.in-Call.is ∙ view_call c.in-Call.field-0 c.in-Call.operands))
+
+pub counts_in-returns-in-Replace-clause-temporaries : goal.counts_in-returns-in-Replace-clause-temporaries
+counts_in-returns-in-Replace-clause-temporaries t c =
+    let a = c.counts_among-in-Replace.ensures.temporaries ∙ ap (λ (es : List Operand). counted (rooms (views es))) c.deref-in-Replace.ensures.value in
+    let b = c.counts_in-in-Replace.ensures.temporaries ∙ ap (λ (e : Code). counted (room (view e))) c.deref-in-Replace-2.ensures in
+    let whole = ap room (ap view c.in-Replace.is ∙ view_replace c.in-Replace.field-0 c.in-Replace.operands c.in-Replace.store) in
+    let l = c.at_least-in-Replace.ensures.temporaries in
+    let s = c.stored-in-Replace.ensures.temporaries in
+    let m = c.both-in-Replace.ensures.temporaries in
+    omega (arith, a, b, whole, l, s, m)
+
+pub counts_in-returns-in-Replace-clause-arrays : goal.counts_in-returns-in-Replace-clause-arrays
+counts_in-returns-in-Replace-clause-arrays t c =
+    let a = c.counts_among-in-Replace.ensures.arrays ∙ ap (λ (es : List Operand). counted (arrays_among (views es))) c.deref-in-Replace.ensures.value in
+    let b = c.counts_in-in-Replace.ensures.arrays ∙ ap (λ (e : Code). counted (arrays_in (view e))) c.deref-in-Replace-2.ensures in
+    let whole = ap arrays_in (ap view c.in-Replace.is ∙ view_replace c.in-Replace.field-0 c.in-Replace.operands c.in-Replace.store) in
+    let l = c.at_least-in-Replace.ensures.arrays in
+    let s = c.stored-in-Replace.ensures.arrays in
+    let m = c.both-in-Replace.ensures.arrays in
+    omega (arith, a, b, whole, l, s, m)
+
+pub counts_in-returns-in-Replace-clause-labels : goal.counts_in-returns-in-Replace-clause-labels
+counts_in-returns-in-Replace-clause-labels t c =
+    let a = c.counts_among-in-Replace.ensures.labels ∙ ap (λ (es : List Operand). counted (labels_among (views es))) c.deref-in-Replace.ensures.value in
+    let b = c.counts_in-in-Replace.ensures.labels ∙ ap (λ (e : Code). counted (labels_in (view e))) c.deref-in-Replace-2.ensures in
+    let whole = ap labels_in (ap view c.in-Replace.is ∙ view_replace c.in-Replace.field-0 c.in-Replace.operands c.in-Replace.store) in
+    let l = c.at_least-in-Replace.ensures.labels in
+    let s = c.stored-in-Replace.ensures.labels in
+    let m = c.both-in-Replace.ensures.labels in
+    omega (arith, a, b, whole, l, s, m)

@@ -1,0 +1,4 @@
+pub mod Counted
+pub mod Fits
+pub mod Labels
+pub mod Examples

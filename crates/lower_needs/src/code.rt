@@ -1,0 +1,125 @@
+//! What the code of an expression needs.
+ghost use Rattle.std.specs.Prelude.{◌≡◌, ◌+◌, map, max};
+ghost use Rattle.lower_needs.specs.Counted.{counted};
+ghost use Rattle.lower_needs.specs.Labels.{labels_among, labels_in};
+ghost use Rattle.mid_program.specs.Mid.{Code as Plain, Codes, Do};
+ghost use Rattle.mid_program.specs.ViewCode.{before, joined, view, views};
+ghost use Rattle.lower_model.specs.Places.{arrays_among, arrays_in, room, rooms};
+
+use crate::counts::{Counts, at_least, both, inside, later, made, only};
+use mid_program::{Code, Operand, Operation};
+
+/// How many temporaries an operation needs at least.
+fn least_room(operation: Operation) -> u32
+    ensures { (es : Codes) → max result (rooms es) ≡ room (Do operation es) }
+{
+    match operation {
+        Operation::Inline(_) => 3,
+        Operation::Host(_) | Operation::AsNumber | Operation::FieldNumber => 1,
+    }
+}
+
+/// What code needs that stores a text, which is kept, within a label.
+fn stored(counts: Counts) -> Counts
+    ensures temporaries { result.temporaries ≡ counted (counts.temporaries + 2) }
+    ensures arrays { result.arrays ≡ counts.arrays }
+    ensures iterators { result.iterators ≡ counts.iterators }
+    ensures labels { result.labels ≡ counted (counts.labels + 1) }
+{
+    inside(later(later(counts)), 1)
+}
+
+/// What code needs whose value goes into the first temporary.
+#[cycle(counts)]
+pub(crate) fn counts_in(code: &Code) -> Counts
+    ensures temporaries { result.temporaries ≡ counted (room (view code.now)) }
+    ensures arrays { result.arrays ≡ counted (arrays_in (view code.now)) }
+    ensures iterators { result.iterators ≡ 0 }
+    ensures labels { result.labels ≡ counted (labels_in (view code.now)) }
+{
+    match code {
+        Code::Do(operation, operands) => at_least(least_room(*operation), counts_among(operands)),
+        Code::Joined(first, others, last) => {
+            let after = joined_counts(others, counts_in(last));
+            both(counts_in(first), later(after))
+        }
+        Code::Over(_, operands) => at_least(1, counts_among(operands)),
+        Code::Call(_, operands) => at_least(1, counts_among(operands)),
+        Code::Compare(_, a, b) => both(counts_in(a), later(counts_in(b))),
+        Code::Let(a, b) => both(counts_in(a), later(counts_in(b))),
+        Code::Seq(a, b) => both(counts_in(a), counts_in(b)),
+        Code::AskLine(store) => stored(counts_in(store)),
+        Code::FileLine(name, store) => both(counts_in(name), stored(counts_in(store))),
+        Code::Replace(_, operands, store) => both(
+            at_least(3, counts_among(operands)),
+            stored(counts_in(store)),
+        ),
+        Code::Set(_, value) => counts_in(value),
+        Code::Choose(_, test, a, b) => {
+            both(counts_in(test), inside(both(counts_in(a), counts_in(b)), 1))
+        }
+        Code::Ask => only(2),
+        Code::Number(_)
+        | Code::Text(_)
+        | Code::Unset
+        | Code::Get(_)
+        | Code::Array(_)
+        | Code::IsOpen(_)
+        | Code::Bound(_, _) => only(1),
+    }
+}
+
+/// What an operand and those after it need.
+#[cycle(counts)]
+fn operand_counts(operand: &Operand, after: Counts) -> Counts
+    ensures temporaries { (rest : Codes) → after.temporaries ≡ counted (rooms rest)
+        → result.temporaries ≡ counted (rooms (before operand.now rest)) }
+    ensures arrays { (rest : Codes) → after.arrays ≡ counted (arrays_among rest)
+        → result.arrays ≡ counted (arrays_among (before operand.now rest)) }
+    ensures iterators { result.iterators ≡ after.iterators }
+    ensures labels { (rest : Codes) → after.labels ≡ counted (labels_among rest)
+        → result.labels ≡ counted (labels_among (before operand.now rest)) }
+{
+    match operand {
+        Operand::Code(code) => both(counts_in(code), later(after)),
+        Operand::Constant(_) => after,
+        Operand::Fresh => made(after),
+    }
+}
+
+/// What operands need, one after the other.
+#[cycle(counts)]
+fn counts_among(operands: &[Operand]) -> Counts
+    ensures temporaries { result.temporaries ≡ counted (rooms (views operands.now)) }
+    ensures arrays { result.arrays ≡ counted (arrays_among (views operands.now)) }
+    ensures iterators { result.iterators ≡ 0 }
+    ensures labels { result.labels ≡ counted (labels_among (views operands.now)) }
+{
+    let mut needed = only(0);
+    let mut i = operands.len();
+    while i > 0 {
+        i -= 1;
+        needed = operand_counts(&operands[i], needed);
+    }
+    needed
+}
+
+/// What the last of some subscripts needs, after those before it.
+#[cycle(counts)]
+fn joined_counts(others: &[Code], last: Counts) -> Counts
+    ensures temporaries { (z : Plain) → last.temporaries ≡ counted (room z)
+        → result.temporaries ≡ counted (room (joined (map view others.now) z)) }
+    ensures arrays { (z : Plain) → last.arrays ≡ counted (arrays_in z)
+        → result.arrays ≡ counted (arrays_in (joined (map view others.now) z)) }
+    ensures iterators { last.iterators ≡ 0 → result.iterators ≡ 0 }
+    ensures labels { (z : Plain) → last.labels ≡ counted (labels_in z)
+        → result.labels ≡ counted (labels_in (joined (map view others.now) z)) }
+{
+    let mut needed = last;
+    let mut i = others.len();
+    while i > 0 {
+        i -= 1;
+        needed = both(counts_in(&others[i]), later(needed));
+    }
+    needed
+}

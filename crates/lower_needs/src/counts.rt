@@ -1,0 +1,128 @@
+//! Counts of what may have no bound.
+ghost use Rattle.std.specs.Prelude.{◌≡◌, ◌+◌, max, suc};
+ghost use Rattle.lower_needs.specs.Counted.{counted};
+
+/// The larger of two.
+pub(crate) fn larger(a: u32, b: u32) -> u32
+    ensures { result ≡ max a b }
+{
+    if a < b { b } else { a }
+}
+
+/// One more.
+fn next(n: u32) -> u32
+    ensures { result ≡ counted (suc n) }
+{
+    n.saturating_add(1)
+}
+
+/// How many temporaries, arrays of calls and iterators code needs at once, and how many labels stand around its parts.
+#[derive(Clone, Copy)]
+pub(crate) struct Counts {
+    pub temporaries: u32,
+    pub arrays: u32,
+    pub iterators: u32,
+    pub labels: u32,
+}
+
+/// Temporaries alone.
+pub(crate) fn only(temporaries: u32) -> Counts
+    ensures { result ≡ record { temporaries = temporaries; arrays = 0; iterators = 0; labels = 0 } }
+{
+    Counts {
+        temporaries,
+        arrays: 0,
+        iterators: 0,
+        labels: 0,
+    }
+}
+
+/// The larger ones.
+pub(crate) fn both(a: Counts, b: Counts) -> Counts
+    ensures temporaries { result.temporaries ≡ max a.temporaries b.temporaries }
+    ensures arrays { result.arrays ≡ max a.arrays b.arrays }
+    ensures iterators { result.iterators ≡ max a.iterators b.iterators }
+    ensures labels { result.labels ≡ max a.labels b.labels }
+{
+    Counts {
+        temporaries: larger(a.temporaries, b.temporaries),
+        arrays: larger(a.arrays, b.arrays),
+        iterators: larger(a.iterators, b.iterators),
+        labels: larger(a.labels, b.labels),
+    }
+}
+
+/// The same, and so many temporaries at least.
+pub(crate) fn at_least(temporaries: u32, counts: Counts) -> Counts
+    ensures temporaries { result.temporaries ≡ max temporaries counts.temporaries }
+    ensures arrays { result.arrays ≡ counts.arrays }
+    ensures iterators { result.iterators ≡ counts.iterators }
+    ensures labels { result.labels ≡ counts.labels }
+{
+    Counts {
+        temporaries: larger(temporaries, counts.temporaries),
+        arrays: counts.arrays,
+        iterators: counts.iterators,
+        labels: counts.labels,
+    }
+}
+
+/// One temporary further.
+pub(crate) fn later(counts: Counts) -> Counts
+    ensures temporaries { result.temporaries ≡ counted (suc counts.temporaries) }
+    ensures arrays { result.arrays ≡ counts.arrays }
+    ensures iterators { result.iterators ≡ counts.iterators }
+    ensures labels { result.labels ≡ counts.labels }
+{
+    Counts {
+        temporaries: next(counts.temporaries),
+        arrays: counts.arrays,
+        iterators: counts.iterators,
+        labels: counts.labels,
+    }
+}
+
+/// With one array of a call more.
+pub(crate) fn made(counts: Counts) -> Counts
+    ensures temporaries { result.temporaries ≡ counts.temporaries }
+    ensures arrays { result.arrays ≡ counted (suc counts.arrays) }
+    ensures iterators { result.iterators ≡ counts.iterators }
+    ensures labels { result.labels ≡ counts.labels }
+{
+    Counts {
+        temporaries: counts.temporaries,
+        arrays: next(counts.arrays),
+        iterators: counts.iterators,
+        labels: counts.labels,
+    }
+}
+
+/// With one iterator more.
+pub(crate) fn walking(counts: Counts) -> Counts
+    ensures temporaries { result.temporaries ≡ counts.temporaries }
+    ensures arrays { result.arrays ≡ counts.arrays }
+    ensures iterators { result.iterators ≡ counted (suc counts.iterators) }
+    ensures labels { result.labels ≡ counts.labels }
+{
+    Counts {
+        temporaries: counts.temporaries,
+        arrays: counts.arrays,
+        iterators: next(counts.iterators),
+        labels: counts.labels,
+    }
+}
+
+/// Within so many labels more.
+pub(crate) fn inside(counts: Counts, labels: u32) -> Counts
+    ensures temporaries { result.temporaries ≡ counts.temporaries }
+    ensures arrays { result.arrays ≡ counts.arrays }
+    ensures iterators { result.iterators ≡ counts.iterators }
+    ensures labels { result.labels ≡ counted (counts.labels + labels) }
+{
+    Counts {
+        temporaries: counts.temporaries,
+        arrays: counts.arrays,
+        iterators: counts.iterators,
+        labels: counts.labels.saturating_add(labels),
+    }
+}

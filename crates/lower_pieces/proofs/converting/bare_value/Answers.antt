@@ -1,0 +1,14 @@
+use Rattle.std.proofs.Common.{[]}
+use Rattle.std.proofs.lemmas.Result.{on_ok_weaker}
+use Rattle.wasm_types.specs.Syntax.{Instructions, Done}
+use Rattle.wasm_types.specs.declared.instr.Simple.TheVariants.{LocalSet}
+use Rattle.lower_model.specs.Small.{boxed_perhaps, either, h, n, number_is, text_beside}
+use Rattle.lower_pieces.proofs.Appended.{emits_none, emits_then}
+use Rattle.lower_pieces.proofs.converting.bare_value.Goals as goal
+
+pub returns : goal.returns
+returns c =
+    let some : Instructions → Instructions = boxed_perhaps c.args.b.now c.args.t (LocalSet (h c.args.b.now c.args.t)) in
+    on_ok_weaker c.either.result
+    (emits_then (number_is (n c.args.b.now c.args.t) text_beside) (either Done (some Done)) _ _ _ (rw c.number.ensures at c.in_ok-number_is.ensures))
+    (c.either.ensures (λ k. k) some (emits_none [] c.new-nothing.result.items c.new-nothing.ensures.items) c.in_ok-perhaps_code.ensures)

@@ -1,0 +1,16 @@
+use Rattle.std.proofs.lemmas.Result.{on_ok_weaker}
+use Rattle.sem_primitives.specs.declared.table.Primitive.TheVariants.{Truth}
+use Rattle.wasm_types.specs.Syntax.{Instructions, Done}
+use Rattle.wasm_types.specs.declared.instr.CvtOp.TheVariants.{I64ExtendI32U}
+use Rattle.wasm_types.specs.declared.instr.Simple.TheVariants.{Convert, LocalSet}
+use Rattle.lower_model.specs.Small.{ask_row, does, either, h, moved_out, n, number_is, text_beside, zeroed}
+use Rattle.lower_pieces.proofs.Appended.{emits_then}
+use Rattle.lower_pieces.proofs.telling.bare_told.Goals as goal
+
+pub returns : goal.returns
+returns c =
+    let some : Instructions → Instructions = λ k. moved_out (h c.args.b.now c.args.t) (ask_row Truth (does (Convert I64ExtendI32U) (does (LocalSet (n c.args.b.now c.args.t)) k))) in
+    let none : Instructions → Instructions = zeroed c.args.b.now c.args.t in
+    on_ok_weaker c.either.result
+    (emits_then (number_is (n c.args.b.now c.args.t) text_beside) (either (some Done) (none Done)) _ _ _ (rw c.number.ensures at c.in_ok-number_is.ensures))
+    (c.either.ensures some none c.in_ok-some.ensures c.in_ok-zeroed_code.ensures)

@@ -1,0 +1,66 @@
+//! Numbers as values.
+ghost use Rattle.std.specs.Prelude.{[], ◌≤◌, IfOk, OnOk};
+ghost use Rattle.sem_primitives.specs.declared.table.Primitive.TheVariants.{Uninit};
+ghost use Rattle.wasm_types.specs.declared.instr.Simple.TheVariants.{LocalSet};
+ghost use Rattle.lower_model.specs.Small.{ask_row, boxed_number, boxed_perhaps, does, h, least, n, text_beside, to_value};
+ghost use Rattle.lower_pieces.specs.Bounds.{most_places};
+ghost use Rattle.lower_pieces.specs.Emits.{Emits};
+ghost use Rattle.lower_pieces.specs.Forms.{view_form};
+
+use crate::bases::Bases;
+use crate::emit::{ask_row, does, either};
+use crate::faults::number_is;
+use crate::form::Form;
+use crate::keeping::LEAST;
+use sem_primitives::{Answer, Primitive, Sort};
+use std::alloc::{AllocError, Global};
+use wasm_types::{Instr, Simple};
+
+/// In an unboxed name: that a text stands beside it.
+pub const TEXT_BESIDE: u64 = LEAST + 1;
+
+/// Boxes the number of a temporary.
+pub fn boxed_number(b: &Bases, out: &mut Vec<Instr>, t: u32) -> Result<(), AllocError>
+    requires { t ≤ most_places }
+    ensures { OnOk result (Emits out.old.items out.new.items (boxed_number b.now t)) }
+{
+    does(out, Simple::LocalGet(b.number(t)))?;
+    ask_row(out, Primitive::Num)
+}
+
+/// What puts the uninitialised value.
+fn uninit_put(alloc: Global, put: Simple) -> Result<Vec<Instr>, AllocError>
+    ensures { IfOk result (λ v. Emits [] v.items (λ k. ask_row Uninit (does put k))) }
+{
+    let mut code = Vec::new(alloc);
+    ask_row(&mut code, Primitive::Uninit)?;
+    does(&mut code, put)?;
+    Ok(code)
+}
+
+/// What boxes the number of a temporary and puts it.
+fn number_put(alloc: Global, b: &Bases, t: u32, put: Simple) -> Result<Vec<Instr>, AllocError>
+    requires { t ≤ most_places }
+    ensures { IfOk result (λ v. Emits [] v.items (λ k. boxed_number b.now t (does put k))) }
+{
+    let mut code = Vec::new(alloc);
+    boxed_number(b, &mut code, t)?;
+    does(&mut code, put)?;
+    Ok(code)
+}
+
+/// Puts a number, or that there is none yet, as a value.
+pub fn boxed_perhaps(
+    alloc: Global,
+    b: &Bases,
+    out: &mut Vec<Instr>,
+    t: u32,
+    put: Simple,
+) -> Result<(), AllocError>
+    requires { t ≤ most_places }
+    ensures { OnOk result (Emits out.old.items out.new.items (boxed_perhaps b.now t put)) }
+{
+    number_is(out, b.number(t), LEAST)?;
+    let none = uninit_put(alloc, put)?;
+    either(alloc, out, none, number_put(alloc, b, t, put)?)
+}

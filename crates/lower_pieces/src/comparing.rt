@@ -1,0 +1,275 @@
+//! Comparison: by the host where one is a value, or a text stands beside one; else of numbers, of which one that is not there yet is 0.
+ghost use Rattle.std.specs.Prelude.{[], ◌≡◌, suc, ◌≤◌, IfOk, OnOk};
+ghost use Rattle.sem_primitives.specs.Constants.{comparison_number};
+ghost use Rattle.lower_model.specs.Arithmetic.{bare_compared, compared, is_value, may_be_text, numbers_compared, relation, texts_beside, values_compared, zeroed_if};
+ghost use Rattle.lower_pieces.specs.Bounds.{most_labels, most_places};
+ghost use Rattle.lower_pieces.specs.Emits.{Emits};
+ghost use Rattle.lower_pieces.specs.Forms.{view_form};
+ghost use Rattle.lower_pieces.specs.Told.{host_compared, parted};
+
+use crate::bases::Bases;
+use crate::boxing::TEXT_BESIDE;
+use crate::converting::to_value;
+use crate::emit::{ask_row, does, does_all, either};
+use crate::faults::number_is;
+use crate::form::Form;
+use crate::handles::moved_out;
+use crate::keeping::kept_code;
+use crate::numbers::zeroed;
+use sem_primitives::{Answer, Primitive, Sort};
+use awk_values::CompareOp;
+use std::alloc::{AllocError, Global};
+use wasm_types::{CvtOp, IBinOp, IRelOp, Instr, Simple, ValType};
+
+/// The comparison of words that an operator is, once both are numbers.
+pub fn relation(op: CompareOp) -> IRelOp
+    ensures { result ≡ relation op }
+{
+    match op {
+        CompareOp::Less => IRelOp::LtS,
+        CompareOp::LessOrEqual => IRelOp::LeS,
+        CompareOp::Equal => IRelOp::Eq,
+        CompareOp::NotEqual => IRelOp::Ne,
+        CompareOp::Greater => IRelOp::GtS,
+        CompareOp::GreaterOrEqual => IRelOp::GeS,
+    }
+}
+
+/// The number of an operator, as modules give it.
+pub fn comparison_number(op: CompareOp) -> u32
+    ensures { result ≡ comparison_number op }
+{
+    match op {
+        CompareOp::Less => 0,
+        CompareOp::LessOrEqual => 1,
+        CompareOp::Equal => 2,
+        CompareOp::NotEqual => 3,
+        CompareOp::Greater => 4,
+        CompareOp::GreaterOrEqual => 5,
+    }
+}
+
+/// Whether a form is a value that only the host compares.
+fn is_value(form: Form) -> bool
+    ensures { result ≡ is_value (view_form form) }
+{
+    match form {
+        Form::Answered(Answer::Of(Sort::Number) | Answer::Truth) | Form::Bare | Form::Perhaps => {
+            false
+        }
+        Form::Answered(_) => true,
+    }
+}
+
+/// Whether a text may stand beside a number.
+fn may_be_text(form: Form) -> bool
+    ensures { result ≡ may_be_text (view_form form) }
+{
+    match form {
+        Form::Bare => true,
+        Form::Perhaps | Form::Answered(_) => false,
+    }
+}
+
+/// Asks the host for a comparison of two values.
+fn host_compared(
+    b: &Bases,
+    out: &mut Vec<Instr>,
+    op: CompareOp,
+    t: u32,
+    exit: u32,
+) -> Result<(), AllocError>
+    requires { suc t ≤ most_places }
+    ensures { OnOk result (Emits out.old.items out.new.items (host_compared b.now op t exit)) }
+{
+    does(out, Simple::I32Const(comparison_number(op)))?;
+    moved_out(out, b.handle(t))?;
+    moved_out(out, b.handle(t + 1))?;
+    ask_row(out, Primitive::Compare)?;
+    kept_code(b, out, true, t, exit)
+}
+
+/// Adds the host's comparison.
+fn values_compared(
+    alloc: Global,
+    b: &Bases,
+    out: &mut Vec<Instr>,
+    op: CompareOp,
+    left: Form,
+    right: Form,
+    t: u32,
+    exit: u32,
+) -> Result<(), AllocError>
+    requires { suc t ≤ most_places }
+    ensures { OnOk result (Emits out.old.items out.new.items (values_compared b.now op (view_form left) (view_form right) t exit)) }
+{
+    to_value(alloc, b, out, left, t)?;
+    to_value(alloc, b, out, right, t + 1)?;
+    host_compared(b, out, op, t, exit)
+}
+
+/// Makes 0 of a number that may not be there yet.
+fn zeroed_if(
+    alloc: Global,
+    b: &Bases,
+    out: &mut Vec<Instr>,
+    form: Form,
+    t: u32,
+) -> Result<(), AllocError>
+    requires { t ≤ most_places }
+    ensures { OnOk result (Emits out.old.items out.new.items (zeroed_if b.now (view_form form) t)) }
+{
+    match form {
+        Form::Bare | Form::Perhaps => zeroed(alloc, b, out, t),
+        Form::Answered(_) => Ok(()),
+    }
+}
+
+/// Adds a comparison of numbers.
+fn numbers_compared(
+    alloc: Global,
+    b: &Bases,
+    out: &mut Vec<Instr>,
+    op: CompareOp,
+    left: Form,
+    right: Form,
+    t: u32,
+) -> Result<(), AllocError>
+    requires { suc t ≤ most_places }
+    ensures { OnOk result (Emits out.old.items out.new.items (numbers_compared b.now op (view_form left) (view_form right) t)) }
+{
+    zeroed_if(alloc, b, out, left, t)?;
+    zeroed_if(alloc, b, out, right, t + 1)?;
+    let all = [
+        Simple::LocalGet(b.number(t)),
+        Simple::LocalGet(b.number(t + 1)),
+        Simple::Compare(ValType::I64, relation(op)),
+        Simple::Convert(CvtOp::I64ExtendI32U),
+        Simple::LocalSet(b.number(t)),
+    ];
+    does_all(out, &all)
+}
+
+/// Adds the test whether a text stands beside one of the two.
+fn texts_beside(
+    b: &Bases,
+    out: &mut Vec<Instr>,
+    left: Form,
+    right: Form,
+    t: u32,
+) -> Result<(), AllocError>
+    requires { suc t ≤ most_places }
+    ensures { OnOk result (Emits out.old.items out.new.items (texts_beside b.now (view_form left) (view_form right) t)) }
+{
+    let first = b.number(t);
+    let second = b.number(t + 1);
+    match (left, right) {
+        (Form::Bare, Form::Bare) => {
+            number_is(out, first, TEXT_BESIDE)?;
+            number_is(out, second, TEXT_BESIDE)?;
+            does(out, Simple::Binary(ValType::I32, IBinOp::Or))
+        }
+        (Form::Bare, Form::Perhaps | Form::Answered(_)) => number_is(out, first, TEXT_BESIDE),
+        (Form::Perhaps | Form::Answered(_), _) => number_is(out, second, TEXT_BESIDE),
+    }
+}
+
+/// The host's comparison, from within one label more.
+fn values_code(
+    alloc: Global,
+    b: &Bases,
+    op: CompareOp,
+    left: Form,
+    right: Form,
+    t: u32,
+    exit: u32,
+) -> Result<Vec<Instr>, AllocError>
+    requires places { suc t ≤ most_places }
+    requires labels { exit ≤ most_labels }
+    ensures { IfOk result (λ v. Emits [] v.items (values_compared b.now op (view_form left) (view_form right) t (suc exit))) }
+{
+    let mut code = Vec::new(alloc);
+    values_compared(alloc, b, &mut code, op, left, right, t, exit + 1)?;
+    Ok(code)
+}
+
+fn numbers_code(
+    alloc: Global,
+    b: &Bases,
+    op: CompareOp,
+    left: Form,
+    right: Form,
+    t: u32,
+) -> Result<Vec<Instr>, AllocError>
+    requires { suc t ≤ most_places }
+    ensures { IfOk result (λ v. Emits [] v.items (numbers_compared b.now op (view_form left) (view_form right) t)) }
+{
+    let mut code = Vec::new(alloc);
+    numbers_compared(alloc, b, &mut code, op, left, right, t)?;
+    Ok(code)
+}
+
+/// Adds both comparisons, and the test which of them is made.
+fn parted(
+    alloc: Global,
+    b: &Bases,
+    out: &mut Vec<Instr>,
+    op: CompareOp,
+    left: Form,
+    right: Form,
+    t: u32,
+    exit: u32,
+) -> Result<(), AllocError>
+    requires places { suc t ≤ most_places }
+    requires labels { exit ≤ most_labels }
+    ensures { OnOk result (Emits out.old.items out.new.items (parted b.now op (view_form left) (view_form right) t exit)) }
+{
+    texts_beside(b, out, left, right, t)?;
+    let values = values_code(alloc, b, op, left, right, t, exit)?;
+    let numbers = numbers_code(alloc, b, op, left, right, t)?;
+    either(alloc, out, values, numbers)
+}
+
+/// Adds a comparison of two numbers, beside which texts may stand.
+fn bare_compared(
+    alloc: Global,
+    b: &Bases,
+    out: &mut Vec<Instr>,
+    op: CompareOp,
+    left: Form,
+    right: Form,
+    t: u32,
+    exit: u32,
+) -> Result<(), AllocError>
+    requires places { suc t ≤ most_places }
+    requires labels { exit ≤ most_labels }
+    ensures { OnOk result (Emits out.old.items out.new.items (bare_compared b.now op (view_form left) (view_form right) t exit)) }
+{
+    if may_be_text(left) || may_be_text(right) {
+        parted(alloc, b, out, op, left, right, t, exit)
+    } else {
+        numbers_compared(alloc, b, out, op, left, right, t)
+    }
+}
+
+/// Adds a comparison of what stands in two temporaries.
+pub fn compared(
+    alloc: Global,
+    b: &Bases,
+    out: &mut Vec<Instr>,
+    op: CompareOp,
+    left: Form,
+    right: Form,
+    t: u32,
+    exit: u32,
+) -> Result<(), AllocError>
+    requires places { suc t ≤ most_places }
+    requires labels { exit ≤ most_labels }
+    ensures { OnOk result (Emits out.old.items out.new.items (compared b.now op (view_form left) (view_form right) t exit)) }
+{
+    if is_value(left) || is_value(right) {
+        values_compared(alloc, b, out, op, left, right, t, exit)
+    } else {
+        bare_compared(alloc, b, out, op, left, right, t, exit)
+    }
+}

@@ -1,0 +1,94 @@
+//! Single instructions, and choices.
+ghost use Rattle.std.specs.Prelude.{◌≡◌, [], ◌∷◌, IfOk, OnOk};
+ghost use Rattle.wasm_types.specs.Syntax.{Instructions, Done};
+ghost use Rattle.lower_model.specs.Small.{ask, ask_row, does, either, when};
+ghost use Rattle.lower_model.specs.Statements.{again, block};
+ghost use Rattle.lower_pieces.specs.Emits.{does_all, Emits};
+
+use crate::imports::import_number;
+use sem_primitives::Primitive;
+use std::alloc::{AllocError, Global};
+use std::rc::Rc;
+use lower_model::Import;
+use wasm_types::{Instr, Simple};
+
+/// Adds an instruction.
+pub fn does(out: &mut Vec<Instr>, simple: Simple) -> Result<(), AllocError>
+    ensures { OnOk result (Emits out.old.items out.new.items (does simple)) }
+{
+    out.push(Instr::Plain(simple))?;
+    Ok(())
+}
+
+/// Adds instructions.
+pub fn does_all(out: &mut Vec<Instr>, all: &[Simple]) -> Result<(), AllocError>
+    ensures { OnOk result (Emits out.old.items out.new.items (does_all all.now)) }
+{
+    for simple in all {
+        does(out, *simple)?;
+    }
+    Ok(())
+}
+
+/// Adds a call of an import.
+pub fn ask(out: &mut Vec<Instr>, import: Import) -> Result<(), AllocError>
+    ensures { OnOk result (Emits out.old.items out.new.items (ask import)) }
+{
+    does(out, Simple::Call(import_number(import)))
+}
+
+/// Adds a call of a primitive.
+pub fn ask_row(out: &mut Vec<Instr>, primitive: Primitive) -> Result<(), AllocError>
+    ensures { OnOk result (Emits out.old.items out.new.items (ask_row primitive)) }
+{
+    ask(out, Import::Of(primitive))
+}
+
+/// Code within an instruction, in no more memory than it takes: nothing is added to it any more, and large scripts have much of it.
+fn enclosed(alloc: Global, code: Vec<Instr>) -> Result<Rc<Vec<Instr>>, AllocError>
+    ensures { IfOk result (λ inner. inner.value.items ≡ code.items) }
+{
+    let mut code = code;
+    code.shrink_to_fit();
+    Ok(Rc::new(alloc, code)?)
+}
+
+/// Adds what is done where the topmost operand is not 0, and what is done where it is.
+pub fn either(
+    alloc: Global,
+    out: &mut Vec<Instr>,
+    yes: Vec<Instr>,
+    no: Vec<Instr>,
+) -> Result<(), AllocError>
+    ensures { (a b : Instructions → Instructions) → Emits [] yes.items a → Emits [] no.items b → OnOk result (Emits out.old.items out.new.items (either (a Done) (b Done))) }
+{
+    let yes = enclosed(alloc, yes)?;
+    let no = enclosed(alloc, no)?;
+    out.push(Instr::If(None, yes, no))?;
+    Ok(())
+}
+
+/// Adds what is done where the topmost operand is not 0.
+pub fn when(alloc: Global, out: &mut Vec<Instr>, yes: Vec<Instr>) -> Result<(), AllocError>
+    ensures { (a : Instructions → Instructions) → Emits [] yes.items a → OnOk result (Emits out.old.items out.new.items (when (a Done))) }
+{
+    either(alloc, out, yes, Vec::new(alloc))
+}
+
+/// Adds a block.
+pub fn block(alloc: Global, out: &mut Vec<Instr>, code: Vec<Instr>) -> Result<(), AllocError>
+    ensures { (a : Instructions → Instructions) → Emits [] code.items a → OnOk result (Emits out.old.items out.new.items (block (a Done))) }
+{
+    let code = enclosed(alloc, code)?;
+    out.push(Instr::Block(None, code))?;
+    Ok(())
+}
+
+/// Adds a loop.
+pub fn again(alloc: Global, out: &mut Vec<Instr>, code: Vec<Instr>) -> Result<(), AllocError>
+    ensures { (a : Instructions → Instructions) → Emits [] code.items a → OnOk result (Emits out.old.items out.new.items (again (a Done))) }
+{
+    let code = enclosed(alloc, code)?;
+    out.push(Instr::Loop(None, code))?;
+    Ok(())
+}

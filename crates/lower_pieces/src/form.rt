@@ -1,0 +1,14 @@
+//! What stands in a temporary.
+
+use sem_primitives::Answer;
+
+/// What code leaves in its temporary.
+#[derive(Clone, Copy, Debug, PartialEq, Eq, Drop)]
+pub enum Form {
+    /// What a primitive answers.
+    Answered(Answer),
+    /// What an unboxed name has: a number or nothing, and perhaps a text beside it.
+    Bare,
+    /// What an unboxed parameter is given: a number or nothing.
+    Perhaps,
+}

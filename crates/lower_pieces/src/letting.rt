@@ -1,0 +1,152 @@
+//! What is in a temporary: dropped, moved to another one, or copied there.
+ghost use Rattle.std.specs.Prelude.{◌≤◌, OnOk};
+ghost use Rattle.mid_program.specs.Mid.{Bare};
+ghost use Rattle.lower_model.specs.Small.{bound_from, copied_from, moved_from, number_copied, released, unused};
+ghost use Rattle.lower_pieces.specs.Bounds.{most_places};
+ghost use Rattle.lower_pieces.specs.Emits.{Emits};
+ghost use Rattle.lower_pieces.specs.Forms.{view_form};
+
+use crate::bases::Bases;
+use crate::emit::{ask, does_all};
+use crate::form::Form;
+use crate::handles::{copied, copied_if_any, let_go, moved, moved_out};
+use sem_primitives::{Answer, Sort};
+use std::alloc::{AllocError, Global};
+use lower_model::Import;
+use wasm_types::{Instr, Simple};
+
+/// Drops what is not used.
+pub fn unused(
+    alloc: Global,
+    b: &Bases,
+    out: &mut Vec<Instr>,
+    form: Form,
+    t: u32,
+) -> Result<(), AllocError>
+    requires { t ≤ most_places }
+    ensures { OnOk result (Emits out.old.items out.new.items (unused b.now (view_form form) t)) }
+{
+    let local = b.handle(t);
+    match form {
+        Form::Answered(Answer::Of(Sort::Value)) => {
+            moved_out(out, local)?;
+            ask(out, Import::Drop)
+        }
+        Form::Bare => let_go(alloc, out, Import::Drop, local),
+        Form::Perhaps | Form::Answered(_) => Ok(()),
+    }
+}
+
+/// Drops what was kept, unless it was moved away.
+pub fn released(
+    alloc: Global,
+    b: &Bases,
+    out: &mut Vec<Instr>,
+    form: Form,
+    t: u32,
+) -> Result<(), AllocError>
+    requires { t ≤ most_places }
+    ensures { OnOk result (Emits out.old.items out.new.items (released b.now (view_form form) t)) }
+{
+    let local = b.handle(t);
+    match form {
+        Form::Answered(Answer::Of(Sort::Value)) | Form::Bare => {
+            let_go(alloc, out, Import::Drop, local)
+        }
+        Form::Perhaps | Form::Answered(_) => Ok(()),
+    }
+}
+
+/// Copies a number.
+fn number_copied(b: &Bases, out: &mut Vec<Instr>, from: u32, to: u32) -> Result<(), AllocError>
+    requires first { from ≤ most_places }
+    requires second { to ≤ most_places }
+    ensures { OnOk result (Emits out.old.items out.new.items (number_copied b.now from to)) }
+{
+    let all = [
+        Simple::LocalGet(b.number(from)),
+        Simple::LocalSet(b.number(to)),
+    ];
+    does_all(out, &all)
+}
+
+/// Moves what is in a temporary to another one.
+pub fn moved_from(
+    b: &Bases,
+    out: &mut Vec<Instr>,
+    form: Form,
+    from: u32,
+    to: u32,
+) -> Result<(), AllocError>
+    requires first { from ≤ most_places }
+    requires second { to ≤ most_places }
+    ensures { OnOk result (Emits out.old.items out.new.items (moved_from b.now (view_form form) from to)) }
+{
+    match form {
+        Form::Answered(Answer::Of(Sort::Value)) => moved(out, b.handle(from), b.handle(to)),
+        Form::Bare => {
+            number_copied(b, out, from, to)?;
+            moved(out, b.handle(from), b.handle(to))
+        }
+        Form::Perhaps | Form::Answered(_) => number_copied(b, out, from, to),
+    }
+}
+
+/// Copies what an unboxed name had.
+fn bare_copied(
+    alloc: Global,
+    b: &Bases,
+    out: &mut Vec<Instr>,
+    from: u32,
+    to: u32,
+) -> Result<(), AllocError>
+    requires first { from ≤ most_places }
+    requires second { to ≤ most_places }
+    ensures { OnOk result (Emits out.old.items out.new.items (copied_from b.now Bare from to)) }
+{
+    number_copied(b, out, from, to)?;
+    let local = b.handle(from);
+    let get = Simple::LocalGet(local);
+    copied_if_any(alloc, out, get, Simple::LocalSet(local), b.handle(to))
+}
+
+/// Copies what is in a temporary to another one.
+fn copied_from(
+    alloc: Global,
+    b: &Bases,
+    out: &mut Vec<Instr>,
+    form: Form,
+    from: u32,
+    to: u32,
+) -> Result<(), AllocError>
+    requires first { from ≤ most_places }
+    requires second { to ≤ most_places }
+    ensures { OnOk result (Emits out.old.items out.new.items (copied_from b.now (view_form form) from to)) }
+{
+    match form {
+        Form::Answered(Answer::Of(Sort::Value)) => copied(out, b.handle(from), b.handle(to)),
+        Form::Bare => bare_copied(alloc, b, out, from, to),
+        Form::Perhaps | Form::Answered(_) => number_copied(b, out, from, to),
+    }
+}
+
+/// Moves or copies what is in a temporary to another one.
+pub fn bound_from(
+    alloc: Global,
+    b: &Bases,
+    out: &mut Vec<Instr>,
+    moves: bool,
+    form: Form,
+    from: u32,
+    to: u32,
+) -> Result<(), AllocError>
+    requires first { from ≤ most_places }
+    requires second { to ≤ most_places }
+    ensures { OnOk result (Emits out.old.items out.new.items (bound_from b.now moves (view_form form) from to)) }
+{
+    if moves {
+        moved_from(b, out, form, from, to)
+    } else {
+        copied_from(alloc, b, out, form, from, to)
+    }
+}

@@ -1,0 +1,166 @@
+//! What stands in a temporary, converted there to a number.
+ghost use Rattle.std.specs.Prelude.{[], suc, ◌≤◌, IfOk, OnOk};
+ghost use Rattle.sem_primitives.specs.declared.table.Primitive.TheVariants.{ToNum};
+ghost use Rattle.mid_program.specs.Mid.{Bare};
+ghost use Rattle.wasm_types.specs.Syntax.{Done};
+ghost use Rattle.wasm_types.specs.declared.instr.Simple.TheVariants.{I64Const, LocalSet};
+ghost use Rattle.lower_model.specs.Small.{code_number, converted, does, n, number_made, number_of_value, to_number, zeroed};
+ghost use Rattle.lower_pieces.specs.Bounds.{most_labels, most_places};
+ghost use Rattle.lower_pieces.specs.Emits.{Emits};
+ghost use Rattle.lower_pieces.specs.Forms.{view_form};
+
+use crate::bases::Bases;
+use crate::boxing::TEXT_BESIDE;
+use crate::converting::to_value;
+use crate::emit::{ask_row, does_all, either, when};
+use crate::faults::number_is;
+use crate::form::Form;
+use crate::handles::moved_out;
+use crate::keeping::{LEAST, kept_number};
+use sem_primitives::{Answer, Primitive, Sort};
+use std::alloc::{AllocError, Global};
+use wasm_types::{CvtOp, IBinOp, IRelOp, Instr, Simple, ValType};
+
+/// What puts 0 into a local.
+fn zero_put(alloc: Global, local: u32) -> Result<Vec<Instr>, AllocError>
+    ensures { IfOk result (λ v. Emits [] v.items (λ k. does (I64Const 0) (does (LocalSet local) k))) }
+{
+    let mut code = Vec::new(alloc);
+    does_all(&mut code, &[Simple::I64Const(0), Simple::LocalSet(local)])?;
+    Ok(code)
+}
+
+/// Makes 0 of what is no number yet.
+pub fn zeroed(alloc: Global, b: &Bases, out: &mut Vec<Instr>, t: u32) -> Result<(), AllocError>
+    requires { t ≤ most_places }
+    ensures { OnOk result (Emits out.old.items out.new.items (zeroed b.now t)) }
+{
+    let local = b.number(t);
+    number_is(out, local, LEAST)?;
+    when(alloc, out, zero_put(alloc, local)?)
+}
+
+/// Makes the number of a code: 1 stays, 3 is -1, and all else is 0.
+pub fn code_number(b: &Bases, out: &mut Vec<Instr>, t: u32) -> Result<(), AllocError>
+    requires { t ≤ most_places }
+    ensures { OnOk result (Emits out.old.items out.new.items (code_number b.now t)) }
+{
+    let local = b.number(t);
+    number_is(out, local, 1)?;
+    number_is(out, local, 3)?;
+    let all = [
+        Simple::Binary(ValType::I32, IBinOp::Sub),
+        Simple::Convert(CvtOp::I64ExtendI32S),
+        Simple::LocalSet(local),
+    ];
+    does_all(out, &all)
+}
+
+/// Asks for a value's number.
+fn number_of_value(b: &Bases, out: &mut Vec<Instr>, t: u32, exit: u32) -> Result<(), AllocError>
+    requires { t ≤ most_places }
+    ensures { OnOk result (Emits out.old.items out.new.items (number_of_value b.now t exit)) }
+{
+    moved_out(out, b.handle(t))?;
+    ask_row(out, Primitive::ToNum)?;
+    kept_number(b, out, true, t, exit)
+}
+
+/// What asks for a value's number, from within two labels more.
+fn value_number(alloc: Global, b: &Bases, t: u32, exit: u32) -> Result<Vec<Instr>, AllocError>
+    requires places { t ≤ most_places }
+    requires labels { exit ≤ most_labels }
+    ensures { IfOk result (λ v. Emits [] v.items (number_of_value b.now t (suc (suc exit)))) }
+{
+    let mut code = Vec::new(alloc);
+    number_of_value(b, &mut code, t, exit + 2)?;
+    Ok(code)
+}
+
+/// What makes 0 of what is no number yet.
+pub(crate) fn zeroed_code(alloc: Global, b: &Bases, t: u32) -> Result<Vec<Instr>, AllocError>
+    requires { t ≤ most_places }
+    ensures { IfOk result (λ v. Emits [] v.items (zeroed b.now t)) }
+{
+    let mut code = Vec::new(alloc);
+    zeroed(alloc, b, &mut code, t)?;
+    Ok(code)
+}
+
+/// What makes the number of a text beside, and 0 where there is no number yet, from within one label more.
+fn number_made(alloc: Global, b: &Bases, t: u32, exit: u32) -> Result<Vec<Instr>, AllocError>
+    requires places { t ≤ most_places }
+    requires labels { exit ≤ most_labels }
+    ensures { IfOk result (λ v. Emits [] v.items (number_made b.now t exit)) }
+{
+    let local = b.number(t);
+    let mut code = Vec::new(alloc);
+    number_is(&mut code, local, TEXT_BESIDE)?;
+    let some = value_number(alloc, b, t, exit)?;
+    either(alloc, &mut code, some, zero_put(alloc, local)?)?;
+    Ok(code)
+}
+
+/// Makes a number of what an unboxed name has.
+fn bare_number(
+    alloc: Global,
+    b: &Bases,
+    out: &mut Vec<Instr>,
+    t: u32,
+    exit: u32,
+) -> Result<(), AllocError>
+    requires places { t ≤ most_places }
+    requires labels { exit ≤ most_labels }
+    ensures { OnOk result (Emits out.old.items out.new.items (to_number b.now Bare t exit)) }
+{
+    let all = [
+        Simple::LocalGet(b.number(t)),
+        Simple::I64Const(TEXT_BESIDE),
+        Simple::Compare(ValType::I64, IRelOp::LeS),
+    ];
+    does_all(out, &all)?;
+    when(alloc, out, number_made(alloc, b, t, exit)?)
+}
+
+/// Makes a number of what stands in a temporary.
+pub fn to_number(
+    alloc: Global,
+    b: &Bases,
+    out: &mut Vec<Instr>,
+    form: Form,
+    t: u32,
+    exit: u32,
+) -> Result<(), AllocError>
+    requires places { t ≤ most_places }
+    requires labels { exit ≤ most_labels }
+    ensures { OnOk result (Emits out.old.items out.new.items (to_number b.now (view_form form) t exit)) }
+{
+    match form {
+        Form::Answered(Answer::Of(Sort::Value)) => number_of_value(b, out, t, exit),
+        Form::Answered(Answer::Input | Answer::Stream) => code_number(b, out, t),
+        Form::Bare => bare_number(alloc, b, out, t, exit),
+        Form::Perhaps => zeroed(alloc, b, out, t),
+        Form::Answered(_) => Ok(()),
+    }
+}
+
+/// Makes of what stands in a temporary what is wanted.
+pub fn converted(
+    alloc: Global,
+    b: &Bases,
+    out: &mut Vec<Instr>,
+    form: Form,
+    sort: Sort,
+    t: u32,
+    exit: u32,
+) -> Result<(), AllocError>
+    requires places { t ≤ most_places }
+    requires labels { exit ≤ most_labels }
+    ensures { OnOk result (Emits out.old.items out.new.items (converted b.now (view_form form) sort t exit)) }
+{
+    match sort {
+        Sort::Value => to_value(alloc, b, out, form, t),
+        Sort::Number => to_number(alloc, b, out, form, t, exit),
+        Sort::Array | Sort::Iterator => Ok(()),
+    }
+}

@@ -1,0 +1,169 @@
+-- The parts of code and of steps as they stand in memory.
+use Rattle.std.proofs.Common.{◌≡◌, ℕ, zero, ◌≢◌, Bool, true, false, List, [], ◌∷◌, length, get_or, Option, Some, None, refl, sym, ap, ◌∙◌, arith}
+use Rattle.std.specs.Prelude.{cond, nat_eq, ◌||◌, ◌&&◌}
+use Rattle.std.specs.Bool.{◌==◌}
+use Rattle.std.proofs.lemmas.Bool.{eqb-true}
+use Rattle.std.proofs.lemmas.Bool.Decides.{nat_tests}
+use Rattle.std.specs.List.{list_any}
+use Rattle.std.specs.declared.vec.Vec.{Vec}
+use Rattle.std.specs.declared.alloc.Global.{Global}
+use Rattle.mid_program.specs.Mid as plain
+use Rattle.mid_program.specs.ViewCode.{before, view, view_step, view_steps, views}
+use Rattle.mid_program.specs.declared.mid.Arithmetic.{Arithmetic}
+use Rattle.sem_primitives.specs.declared.table.Primitive.{Primitive}
+use Rattle.sem_primitives.specs.declared.table.Primitive.TheVariants as row
+use Rattle.mid_program.specs.declared.mid.Operation.{Operation}
+use Rattle.mid_program.specs.declared.mid.Operation.TheVariants.{Host}
+use Rattle.mid_program.specs.declared.code.Operand.{Operand}
+use Rattle.mid_program.specs.declared.code.Operand.TheVariants as operand
+use Rattle.mid_program.specs.declared.code.Code.{Code, Do}
+use Rattle.mid_program.specs.declared.step.Step.{Step, Block}
+use Rattle.lower_model.specs.Quick.{array_here, array_where, element_at, element_read, element_set, field_count, is_among, is_bound, is_count, is_nothing, kept_sum, kept_update, name_in, source_in, sum_of, taker_at, update_of}
+use Rattle.lower_model.proofs.Tallies.{bound_is}
+use Rattle.lower_quick.specs.Operands.{is_elem, is_set_elem, one_code, reads_special, three_codes, two_codes}
+use Rattle.lower_quick.proofs.Views.{view_block, view_do}
+
+pub do_view : (c : Code) (o : Operation) (v : Vec Operand Global) (es : List Operand) → c ≡ Do o v → es ≡ v.items → plain.Do o (views es) ≡ view c
+do_view c o v es is e = ap (λ (xs : List Operand). plain.Do o (views xs)) e ∙ sym (ap view is ∙ view_do o v)
+
+pub block_view : (s : Step) (v : Vec Step Global) (ss : List Step) → s ≡ Block v → ss ≡ v.items → plain.Block (view_steps ss) ≡ view_step s
+block_view s v ss is e = ap (λ (xs : List Step). plain.Block (view_steps xs)) e ∙ sym (ap view_step is ∙ view_block v)
+
+-- how many operands there are
+
+pub no_count : (xs : List Operand) → length xs ≢ 1 → false ≡ is_count (views xs)
+no_count [] h = refl
+no_count (x ∷ []) h = absurd (h refl)
+no_count (operand.Code e ∷ y ∷ xs) h = refl
+no_count (operand.Constant n ∷ operand.Code e ∷ xs) h = refl
+no_count (operand.Constant n ∷ operand.Constant m ∷ xs) h = refl
+no_count (operand.Constant n ∷ operand.Fresh ∷ xs) h = refl
+no_count (operand.Fresh ∷ y ∷ xs) h = refl
+
+pub count_of : (xs : List Operand) (a : Operand) → length xs ≡ 1 → a ≡ get_or xs 0 a → is_count (before a plain.End) ≡ is_count (views xs)
+count_of [] a n h = absurd cc
+count_of (x ∷ []) a n h = ap (λ (y : Operand). is_count (before y plain.End)) h
+count_of (x ∷ y ∷ xs) a n h = absurd cc
+
+pub not_one : (xs : List Operand) → length xs ≢ 1 → None ≡ one_code (views xs)
+not_one [] h = refl
+not_one (x ∷ []) h = absurd (h refl)
+not_one (operand.Code e ∷ operand.Code f ∷ xs) h = refl
+not_one (operand.Code e ∷ operand.Constant n ∷ xs) h = refl
+not_one (operand.Code e ∷ operand.Fresh ∷ xs) h = refl
+not_one (operand.Constant n ∷ y ∷ xs) h = refl
+not_one (operand.Fresh ∷ y ∷ xs) h = refl
+
+third_none : (a b : plain.Code) (x : Operand) (rest : plain.Codes) → two_codes (plain.At a (plain.At b (before x rest))) ≡ None
+third_none a b (operand.Code e) rest = refl
+third_none a b (operand.Constant n) rest = refl
+third_none a b operand.Fresh rest = refl
+
+pub one_of : (xs : List Operand) (a : Operand) → length xs ≡ 1 → a ≡ get_or xs 0 a → one_code (before a plain.End) ≡ one_code (views xs)
+one_of [] a n h = absurd cc
+one_of (x ∷ []) a n h = ap (λ (y : Operand). one_code (before y plain.End)) h
+one_of (x ∷ y ∷ xs) a n h = absurd cc
+
+pub not_two : (xs : List Operand) → length xs ≢ 2 → None ≡ two_codes (views xs)
+not_two [] h = refl
+not_two (operand.Code e ∷ []) h = refl
+not_two (operand.Constant n ∷ []) h = refl
+not_two (operand.Fresh ∷ []) h = refl
+not_two (x ∷ y ∷ []) h = absurd (h refl)
+not_two (operand.Code a ∷ operand.Code b ∷ z ∷ xs) h = sym (third_none (view a) (view b) z (views xs))
+not_two (operand.Code a ∷ operand.Constant n ∷ z ∷ xs) h = refl
+not_two (operand.Code a ∷ operand.Fresh ∷ z ∷ xs) h = refl
+not_two (operand.Constant n ∷ y ∷ z ∷ xs) h = refl
+not_two (operand.Fresh ∷ y ∷ z ∷ xs) h = refl
+
+pub two_of : (xs : List Operand) (a b : Operand) → length xs ≡ 2 → a ≡ get_or xs 0 a → b ≡ get_or xs 1 b → two_codes (before a (before b plain.End)) ≡ two_codes (views xs)
+two_of [] a b n h k = absurd cc
+two_of (x ∷ []) a b n h k = absurd cc
+two_of (x ∷ y ∷ []) a b n h k = λ i. two_codes (before (h i) (before (k i) plain.End))
+two_of (x ∷ y ∷ z ∷ xs) a b n h k = absurd cc
+
+fourth_none : (a b c : plain.Code) (x : Operand) (rest : plain.Codes) → three_codes (plain.At a (plain.At b (plain.At c (before x rest)))) ≡ None
+fourth_none a b c (operand.Code e) rest = refl
+fourth_none a b c (operand.Constant n) rest = refl
+fourth_none a b c operand.Fresh rest = refl
+
+pub not_three : (xs : List Operand) → length xs ≢ 3 → None ≡ three_codes (views xs)
+not_three [] h = refl
+not_three (operand.Constant n ∷ xs) h = refl
+not_three (operand.Fresh ∷ xs) h = refl
+not_three (operand.Code a ∷ []) h = refl
+not_three (operand.Code a ∷ operand.Constant n ∷ xs) h = refl
+not_three (operand.Code a ∷ operand.Fresh ∷ xs) h = refl
+not_three (operand.Code a ∷ operand.Code b ∷ []) h = refl
+not_three (operand.Code a ∷ operand.Code b ∷ operand.Constant n ∷ xs) h = refl
+not_three (operand.Code a ∷ operand.Code b ∷ operand.Fresh ∷ xs) h = refl
+not_three (operand.Code a ∷ operand.Code b ∷ operand.Code c ∷ []) h = absurd (h refl)
+not_three (operand.Code a ∷ operand.Code b ∷ operand.Code c ∷ y ∷ xs) h = sym (fourth_none (view a) (view b) (view c) y (views xs))
+
+pub three_of : (xs : List Operand) (a b c : Operand) → length xs ≡ 3 → a ≡ get_or xs 0 a → b ≡ get_or xs 1 b → c ≡ get_or xs 2 c → three_codes (before a (before b (before c plain.End))) ≡ three_codes (views xs)
+three_of [] a b c n h k l = absurd cc
+three_of (x ∷ []) a b c n h k l = absurd cc
+three_of (x ∷ y ∷ []) a b c n h k l = absurd cc
+three_of (x ∷ y ∷ z ∷ []) a b c n h k l = λ i. three_codes (before (h i) (before (k i) (before (l i) plain.End)))
+three_of (x ∷ y ∷ z ∷ w ∷ xs) a b c n h k l = absurd cc
+
+-- two operands that are code are all of them
+two_are : (es : plain.Codes) (x y : plain.Code) → Some (x, y) ≡ two_codes es → es ≡ plain.At x (plain.At y plain.End)
+two_are (plain.At a (plain.At b plain.End)) x y h = λ i. plain.At (first (sym h i)) (plain.At (second (sym h i)) plain.End)
+  where
+    first : Option (plain.Code × plain.Code) → plain.Code
+    first (Some p) = p.0
+    first None = a
+
+    second : Option (plain.Code × plain.Code) → plain.Code
+    second (Some p) = p.1
+    second None = b
+two_are _ x y h = absurd cc
+
+three_are : (es : plain.Codes) (x y z : plain.Code) → Some (x, y, z) ≡ three_codes es → es ≡ plain.At x (plain.At y (plain.At z plain.End))
+three_are (plain.At a (plain.At b (plain.At c plain.End))) x y z h = λ i. plain.At (part (λ p. p.0) a (sym h i)) (plain.At (part (λ p. p.1) b (sym h i)) (plain.At (part (λ p. p.2) c (sym h i)) plain.End))
+  where
+    part : (plain.Code × plain.Code × plain.Code → plain.Code) → plain.Code → Option (plain.Code × plain.Code × plain.Code) → plain.Code
+    part f e (Some p) = f p
+    part f e None = e
+three_are _ x y z h = absurd cc
+
+pub taker_is : (m : Bool) (i : ℕ) (es : plain.Codes) (x k v : plain.Code) → Some (x, k, v) ≡ three_codes es → is_bound true i k ≡ true → is_bound m zero v ≡ true → array_here x ≡ taker_at m i es
+taker_is m i es x k v h e f = sym (ap (taker_at m i) (three_are es x k v h) ∙ (λ j. array_where (e j && f j) (array_here x)))
+
+pub kept_is : (i : ℕ) (o : Arithmetic) (a : plain.Code) (es : plain.Codes) (x y : plain.Code) → Some (x, y) ≡ two_codes es → is_bound true zero y ≡ true → sum_of i o (source_in x) (source_in a) ≡ kept_sum i o a es
+kept_is i o a es x y h k = sym (ap (kept_sum i o a) (two_are es x y h ∙ ap (λ (e : plain.Code). plain.At x (plain.At e plain.End)) (bound_is true zero y k)))
+
+pub added_is : (i : ℕ) (o : Arithmetic) (a : plain.Code) (es : plain.Codes) (x y : plain.Code) → Some (x, y) ≡ two_codes es → is_bound true zero y ≡ true → update_of i o (name_in x) a ≡ kept_update i o a es
+added_is i o a es x y h k = sym (ap (kept_update i o a) (two_are es x y h ∙ ap (λ (e : plain.Code). plain.At x (plain.At e plain.End)) (bound_is true zero y k)))
+
+-- elements of arrays
+
+pub elem_is : (p : Primitive) (i : ℕ) (es : plain.Codes) → cond (is_elem p) (element_at i es) None ≡ element_read i (plain.Do (Host p) es)
+elem_is row.Elem i es = refl
+elem_is _ i es = refl
+
+pub set_elem_is : (p : Primitive) (m : Bool) (i : ℕ) (es : plain.Codes) → cond (is_set_elem p) (taker_at m i es) None ≡ element_set m i (plain.Do (Host p) es)
+set_elem_is row.SetElem m i es = refl
+set_elem_is _ m i es = refl
+
+-- names
+
+same_test : (a b : ℕ) → nat_eq a b ≡ nat_eq b a
+same_test a b = grind (arith, nat_tests)
+
+pub among_any : (i : ℕ) (js : List ℕ) → list_any (λ j. nat_eq j i) js ≡ is_among i js
+among_any i [] = refl
+among_any i (j ∷ js) = λ k. same_test j i k || among_any i js k
+
+-- how many fields there are
+
+pub count_is : (p : Primitive) (es : plain.Codes) → cond (reads_special p) (is_count es) false ≡ field_count (plain.Do (Host p) es)
+count_is row.GetSpecial es = refl
+count_is _ es = refl
+
+-- steps
+
+pub nothing_in : (ss : List Step) → is_nothing (plain.Block (view_steps ss)) ≡ (length ss == 0)
+nothing_in [] = refl
+nothing_in (s ∷ ss) = grind (arith, nat_tests)

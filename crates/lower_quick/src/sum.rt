@@ -1,0 +1,150 @@
+//! Sums and differences that go to an unboxed name.
+ghost use Rattle.std.specs.Option.{option_map};
+ghost use Rattle.std.specs.Prelude.{◌≡◌};
+ghost use Rattle.mid_program.specs.ViewCode.{view, views};
+ghost use Rattle.lower_quick.specs.Operands.{set_last};
+ghost use Rattle.lower_quick.specs.View.{view_source, view_sum};
+ghost use Rattle.lower_model.specs.Quick.{is_sum, kept_sum, let_sum, new_sum, old_source, set_sum, step_sum, stored_name, sum_in, sum_of, two_sum, update_sum};
+
+use crate::operands::{calculated_in, is_bound, number_of, one_code, two_codes};
+use crate::source::{Source, constant_in, is_near, source_in};
+use mid_program::{Arithmetic, Code, Operand, Slot};
+
+/// A sum or a difference, and the name that it goes to.
+#[derive(Clone, Copy, Debug, PartialEq, Eq, Drop)]
+pub struct Sum {
+    pub target: usize,
+    pub op: Arithmetic,
+    pub left: Source,
+    pub right: Source,
+}
+
+pub(crate) fn is_sum(op: Arithmetic) -> bool
+    ensures { result ≡ is_sum op }
+{
+    matches!(op, Arithmetic::Plus | Arithmetic::Minus)
+}
+
+/// The sum of two sources.
+fn sum_of(target: usize, op: Arithmetic, left: Option<Source>, right: Option<Source>) -> Option<Sum>
+    ensures { option_map view_sum result ≡ sum_of target op (option_map view_source left) (option_map view_source right) }
+{
+    let (left, right) = (left?, right?);
+    if is_sum(op) && is_near(left) && is_near(right) {
+        Some(Sum {
+            target,
+            op,
+            left,
+            right,
+        })
+    } else {
+        None
+    }
+}
+
+/// `n = a + e`, of the operands of `+`.
+fn two_sum(target: usize, op: Arithmetic, operands: &[Operand]) -> Option<Sum>
+    ensures { option_map view_sum result ≡ two_sum target op (views operands.now) }
+{
+    let (left, right) = two_codes(operands)?;
+    sum_of(target, op, source_in(left), source_in(right))
+}
+
+/// The same, of what `n` takes.
+fn set_sum(target: usize, value: &Code) -> Option<Sum>
+    ensures { option_map view_sum result ≡ set_sum target (view value.now) }
+{
+    let (op, operands) = calculated_in(value)?;
+    two_sum(target, op, operands)
+}
+
+/// `n += e`, of what is kept first and the operands of `+`.
+fn kept_sum(target: usize, op: Arithmetic, kept: &Code, operands: &[Operand]) -> Option<Sum>
+    ensures { option_map view_sum result ≡ kept_sum target op (view kept.now) (views operands.now) }
+{
+    let (left, right) = two_codes(operands)?;
+    if is_bound(right, true, 0) {
+        sum_of(target, op, source_in(left), source_in(kept))
+    } else {
+        None
+    }
+}
+
+/// The same, of what `n` takes.
+fn update_sum(target: usize, kept: &Code, value: &Code) -> Option<Sum>
+    ensures { option_map view_sum result ≡ update_sum target (view kept.now) (view value.now) }
+{
+    let (op, operands) = calculated_in(value)?;
+    kept_sum(target, op, kept, operands)
+}
+
+/// The source whose number is kept first in `n++`.
+fn old_source(code: &Code) -> Option<Source>
+    ensures { option_map view_source result ≡ old_source (view code.now) }
+{
+    let operands = number_of(code)?;
+    source_in(one_code(operands)?)
+}
+
+/// The unboxed name that takes what was kept last.
+fn set_last(code: &Code) -> Option<usize>
+    ensures { result ≡ set_last (view code.now) }
+{
+    match code {
+        Code::Set(Slot::Global(true, name), value) if is_bound(value, true, 0) => Some(*name),
+        _ => None,
+    }
+}
+
+/// The name that `n++` stores in, where its old number is the answer.
+fn stored_name(code: &Code) -> Option<usize>
+    ensures { result ≡ stored_name (view code.now) }
+{
+    match code {
+        Code::Seq(store, answer) if is_bound(answer, true, 1) => set_last(store),
+        _ => None,
+    }
+}
+
+/// What the number that was kept and a constant are together.
+fn new_sum(old: Option<Source>, target: Option<usize>, code: &Code) -> Option<Sum>
+    ensures { option_map view_sum result ≡ new_sum (option_map view_source old) target (view code.now) }
+{
+    let target = target?;
+    let (op, operands) = calculated_in(code)?;
+    let (left, right) = two_codes(operands)?;
+    if !is_bound(left, false, 0) {
+        return None;
+    }
+    let number = constant_in(right)?;
+    sum_of(target, op, old, Some(Source::Constant(number)))
+}
+
+/// `n++`: the number before is kept, then the one after.
+fn step_sum(kept: &Code, new: &Code, stores: &Code) -> Option<Sum>
+    ensures { option_map view_sum result ≡ step_sum (view kept.now) (view new.now) (view stores.now) }
+{
+    new_sum(old_source(kept), stored_name(stores), new)
+}
+
+/// The sum of code after something that is kept.
+fn let_sum(kept: &Code, body: &Code) -> Option<Sum>
+    ensures { option_map view_sum result ≡ let_sum (view kept.now) (view body.now) }
+{
+    match body {
+        Code::Set(Slot::Global(true, target), value) => update_sum(*target, kept, value),
+        Code::Let(new, stores) => step_sum(kept, new, stores),
+        _ => None,
+    }
+}
+
+/// The sum that code evaluates and stores, if that is all that it does.
+pub fn sum_in(code: &Code) -> Option<Sum>
+    ensures { option_map view_sum result ≡ sum_in (view code.now) }
+{
+    match code {
+        Code::Set(Slot::Global(true, target), value) => set_sum(*target, value),
+        Code::Let(kept, body) => let_sum(kept, body),
+        _ => None,
+    }
+}

@@ -1,0 +1,87 @@
+//! Sums and differences of an unboxed name and what is evaluated first.
+ghost use Rattle.std.specs.Option.{option_map};
+ghost use Rattle.std.specs.Prelude.{◌≡◌};
+ghost use Rattle.mid_program.specs.ViewCode.{view, views};
+ghost use Rattle.lower_quick.specs.View.{view_update};
+ghost use Rattle.lower_model.specs.Quick.{kept_update, let_update, set_update, update_in, update_of};
+
+use crate::operands::{calculated_in, is_bound, two_codes};
+use crate::source::name_in;
+use crate::sum::is_sum;
+use mid_program::{Arithmetic, Code, Operand, Slot};
+
+/// A sum or a difference of a name and what is added, and the name that it goes to.
+#[derive(Clone, Copy)]
+pub struct Update<'a> {
+    pub target: usize,
+    pub op: Arithmetic,
+    pub name: usize,
+    pub added: &'a Code,
+}
+
+/// The sum of a name and what is added.
+fn update_of<'a>(
+    target: usize,
+    op: Arithmetic,
+    name: Option<usize>,
+    added: &'a Code,
+) -> Option<Update<'a>>
+    ensures { option_map view_update result ≡ update_of target op name (view added.now) }
+{
+    let name = name?;
+    if is_sum(op) {
+        Some(Update {
+            target,
+            op,
+            name,
+            added,
+        })
+    } else {
+        None
+    }
+}
+
+/// `n += e`, of what is added and the operands of `+`.
+fn kept_update<'a>(
+    target: usize,
+    op: Arithmetic,
+    added: &'a Code,
+    operands: &[Operand],
+) -> Option<Update<'a>>
+    ensures { option_map view_update result ≡ kept_update target op (view added.now) (views operands.now) }
+{
+    let (left, right) = two_codes(operands)?;
+    if is_bound(right, true, 0) {
+        update_of(target, op, name_in(left), added)
+    } else {
+        None
+    }
+}
+
+/// The same, of what `n` takes.
+fn set_update<'a>(target: usize, added: &'a Code, value: &Code) -> Option<Update<'a>>
+    ensures { option_map view_update result ≡ set_update target (view added.now) (view value.now) }
+{
+    let (op, operands) = calculated_in(value)?;
+    kept_update(target, op, added, operands)
+}
+
+/// The same, of code after what is added.
+fn let_update<'a>(added: &'a Code, body: &Code) -> Option<Update<'a>>
+    ensures { option_map view_update result ≡ let_update (view added.now) (view body.now) }
+{
+    match body {
+        Code::Set(Slot::Global(true, target), value) => set_update(*target, added, value),
+        _ => None,
+    }
+}
+
+/// The sum with what is evaluated first, if code is one.
+pub fn update_in(code: &Code) -> Option<Update<'_>>
+    ensures { option_map view_update result ≡ update_in (view code.now) }
+{
+    match code {
+        Code::Let(added, body) => let_update(added, body),
+        _ => None,
+    }
+}

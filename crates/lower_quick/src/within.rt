@@ -1,0 +1,46 @@
+//! Comparisons of an unboxed name with a constant.
+ghost use Rattle.std.specs.Option.{option_map};
+ghost use Rattle.std.specs.Prelude.{◌≡◌};
+ghost use Rattle.mid_program.specs.ViewCode.{view};
+ghost use Rattle.lower_quick.specs.View.{view_within};
+ghost use Rattle.lower_model.specs.Quick.{compared_within, test_within};
+
+use crate::source::{constant_in, name_in};
+use awk_values::CompareOp;
+use mid_program::Code;
+
+/// The least number.
+const LEAST_NUMBER: i64 = -(1 << 53);
+
+/// Of a name the numbers from the least one on, up to one that is so much greater.
+#[derive(Clone, Copy, Debug, PartialEq, Eq, Drop)]
+pub struct Within {
+    pub name: usize,
+    pub width: u64,
+}
+
+/// The numbers of which the comparison with a constant is true.
+fn compared_within(op: CompareOp, name: usize, number: i64) -> Option<Within>
+    ensures { option_map view_within result ≡ compared_within op name number }
+{
+    let below = number.abs_diff(LEAST_NUMBER);
+    let width = match op {
+        CompareOp::Less => below.checked_sub(1)?,
+        CompareOp::LessOrEqual => below,
+        CompareOp::Equal | CompareOp::NotEqual | CompareOp::Greater | CompareOp::GreaterOrEqual =>
+            return None,
+    };
+    Some(Within { name, width })
+}
+
+/// The numbers of a name of which a test is true, where it compares the name with a constant.
+pub fn test_within(test: &Code) -> Option<Within>
+    ensures { option_map view_within result ≡ test_within (view test.now) }
+{
+    match test {
+        Code::Compare(op, left, right) => {
+            compared_within(*op, name_in(left)?, constant_in(right)?)
+        }
+        _ => None,
+    }
+}

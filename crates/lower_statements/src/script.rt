@@ -1,0 +1,184 @@
+//! The functions of a script, and its module.
+ghost use Rattle.std.specs.Prelude.{[], true, false, ◌≡◌, ◌<◌, ◌≤◌, IfErr, IfOk, length, map, MatchOption, OnOk};
+ghost use Rattle.std.specs.List.{AllByRecursion};
+ghost use Rattle.mid_program.specs.Sorted.{context_of, parts_sorted, routines_sorted, steps_sorted, IsSorted};
+ghost use Rattle.mid_program.specs.View.{view_mid, view_routine};
+ghost use Rattle.lower_model.specs.Functions.{main_bases, main_callee, routine_bases, routine_callee};
+ghost use Rattle.lower_model.specs.Modules.{all_callees, module_of};
+ghost use Rattle.lower_needs.specs.Fits.{view_needs, FewLocals};
+ghost use Rattle.lower_pieces.specs.Bounds.{most_places};
+ghost use Rattle.lower_modules.specs.Lengths.{least_in};
+ghost use Rattle.lower_modules.specs.Limits.{most_bytes, IsTooLarge};
+ghost use Rattle.lower_modules.specs.View.{view_function, view_functions};
+ghost use Rattle.lower_statements.specs.Limits.{AreSmallEnough, MainIsSmall, RoutineIsSmall};
+ghost use Rattle.wasm_types.specs.View.{view_module};
+
+use crate::lengths::{MOST_BYTES, main_length};
+use crate::parts::main_code;
+use crate::routines::routine_code;
+use lower_pieces::Bases;
+use lower_needs::{Needs, local_types, main_needs, routine_needs, steps_labels};
+use lower_expressions::{Layout, Tables};
+use mid_program::{Mid, Routine};
+use lower_modules::{EmitFault, Function, module_for};
+use std::alloc::Global;
+use wasm_types::Module;
+
+/// How many labels may stand in one another.
+const MOST_NESTED: u32 = 4000;
+
+/// How many functions there may be, beside `main`.
+const MOST_ROUTINES: usize = 1 << 24;
+
+/// The places of a function of these needs.
+fn bases(needs: Needs) -> Bases
+    requires { FewLocals (view_needs needs) }
+    ensures { result ≡ view_needs needs }
+{
+    Bases::new(
+        needs.parameters,
+        needs.temporaries,
+        needs.iterators,
+        needs.arrays,
+    )
+}
+
+/// What a function needs, if it is small enough.
+fn small_routine(routine: &Routine) -> Option<Needs>
+    ensures { MatchOption result (RoutineIsSmall (view_routine routine.now) → ⊥) (λ n. (view_needs n ≡ routine_bases (view_routine routine.now)) × RoutineIsSmall (view_routine routine.now)) }
+{
+    if steps_labels(&routine.body) > MOST_NESTED {
+        return None;
+    }
+    routine_needs(&routine.parameters, &routine.body)
+}
+
+/// A function.
+fn routine_function(
+    alloc: Global,
+    tables: &Tables<'_>,
+    routine: &Routine,
+) -> Result<Function, EmitFault>
+    requires few { length (view_mid tables.now.program.now).routines ≤ most_places }
+    requires sorted { steps_sorted (context_of (view_mid tables.now.program.now) (view_routine routine.now).parameters) true false (view_routine routine.now).body ≡ true }
+    ensures function { IfOk result (λ f. view_function f ≡ routine_callee (view_mid tables.now.program.now) (view_routine routine.now)) }
+    ensures small { OnOk result (RoutineIsSmall (view_routine routine.now)) }
+    ensures too_large { IfErr result (λ fault. fault ≡ EmitFault.TooLarge → RoutineIsSmall (view_routine routine.now) → ⊥) }
+{
+    let Some(needs) = small_routine(routine) else {
+        return Err(EmitFault::TooLarge);
+    };
+    let bases = bases(needs);
+    let y = Layout {
+        alloc,
+        tables,
+        bases: &bases,
+    };
+    let body = routine_code(&y, &routine.parameters, &routine.body)?;
+    let kinds = routine.parameters.as_slice().to_vec(alloc)?;
+    let locals = local_types(alloc, needs)?;
+    Ok(Function {
+        kinds,
+        locals,
+        body,
+    })
+}
+
+/// What `main` needs, if it is small enough.
+fn small_main(mid: &Mid) -> Option<Needs>
+    ensures { MatchOption result (MainIsSmall (view_mid mid.now) → ⊥) (λ n. (view_needs n ≡ main_bases (view_mid mid.now)) × MainIsSmall (view_mid mid.now)) }
+{
+    if steps_labels(&mid.begin) > MOST_NESTED
+        || steps_labels(&mid.items) > MOST_NESTED
+        || steps_labels(&mid.end) > MOST_NESTED
+    {
+        return None;
+    }
+    main_needs(mid)
+}
+
+/// `main`.
+fn main_function(alloc: Global, tables: &Tables<'_>) -> Result<Function, EmitFault>
+    requires few { length (view_mid tables.now.program.now).routines ≤ most_places }
+    requires sorted { parts_sorted (view_mid tables.now.program.now) (context_of (view_mid tables.now.program.now) []) ≡ true }
+    ensures function { IfOk result (λ f. view_function f ≡ main_callee (view_mid tables.now.program.now)) }
+    ensures small { OnOk result (MainIsSmall (view_mid tables.now.program.now)) }
+    ensures too_large { IfErr result (λ fault. fault ≡ EmitFault.TooLarge → MainIsSmall (view_mid tables.now.program.now) → most_bytes < least_in (main_callee (view_mid tables.now.program.now)).body) }
+{
+    let Some(needs) = small_main(tables.program) else {
+        return Err(EmitFault::TooLarge);
+    };
+    let bases = bases(needs);
+    let y = Layout {
+        alloc,
+        tables,
+        bases: &bases,
+    };
+    if main_length(&y)? > MOST_BYTES {
+        return Err(EmitFault::TooLarge);
+    }
+    let body = main_code(&y)?;
+    let locals = local_types(alloc, needs)?;
+    Ok(Function {
+        kinds: Vec::new(alloc),
+        locals,
+        body,
+    })
+}
+
+/// The functions of a script, without `main`.
+fn routine_functions(alloc: Global, tables: &Tables<'_>) -> Result<Vec<Function>, EmitFault>
+    requires few { length (view_mid tables.now.program.now).routines ≤ most_places }
+    requires sorted { routines_sorted (view_mid tables.now.program.now) (view_mid tables.now.program.now).routines ≡ true }
+    ensures functions { IfOk result (λ fs. view_functions fs.items ≡ map (routine_callee (view_mid tables.now.program.now)) (view_mid tables.now.program.now).routines) }
+    ensures small { OnOk result (AllByRecursion RoutineIsSmall (view_mid tables.now.program.now).routines) }
+    ensures too_large { IfErr result (λ fault. fault ≡ EmitFault.TooLarge → AllByRecursion RoutineIsSmall (view_mid tables.now.program.now).routines → ⊥) }
+{
+    let mut all = Vec::new(alloc);
+    for routine in tables.routines() {
+        let function = routine_function(alloc, tables, routine)?;
+        all.push(function)?;
+    }
+    Ok(all)
+}
+
+/// The functions of a script, `main` last.
+///
+/// # Errors
+///
+/// [`EmitFault::TooLarge`] where a function has more than 50,000 locals or its labels are nested past 4,000, or there are more than
+/// 16,777,216 functions, or the code of `main` takes more bytes than that, and [`EmitFault::NoMemory`].
+pub fn functions(alloc: Global, tables: &Tables<'_>) -> Result<Vec<Function>, EmitFault>
+    requires { IsSorted (view_mid tables.now.program.now) }
+    ensures functions { IfOk result
+        (λ fs. view_functions fs.items ≡ all_callees (view_mid tables.now.program.now)) }
+    ensures small { OnOk result (AreSmallEnough (view_mid tables.now.program.now)) }
+    ensures too_large { IfErr result (λ fault. fault ≡ EmitFault.TooLarge
+        → AreSmallEnough (view_mid tables.now.program.now)
+        → IsTooLarge (view_mid tables.now.program.now)) }
+{
+    if tables.routines().len() > MOST_ROUTINES {
+        return Err(EmitFault::TooLarge);
+    }
+    let mut all = routine_functions(alloc, tables)?;
+    let main = main_function(alloc, tables)?;
+    all.push(main)?;
+    Ok(all)
+}
+
+/// The module of a script.
+///
+/// # Errors
+///
+/// Those of [`functions`] and of [`module_for`].
+pub fn module(alloc: Global, tables: &Tables<'_>) -> Result<Module, EmitFault>
+    requires { IsSorted (view_mid tables.now.program.now) }
+    ensures module { IfOk result
+        (λ m. view_module m ≡ module_of (view_mid tables.now.program.now)) }
+    ensures too_large { IfErr result (λ fault. fault ≡ EmitFault.TooLarge
+        → AreSmallEnough (view_mid tables.now.program.now)
+        → IsTooLarge (view_mid tables.now.program.now)) }
+{
+    let fs = functions(alloc, tables)?;
+    module_for(alloc, tables.program, &fs)
+}

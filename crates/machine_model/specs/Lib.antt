@@ -1,9 +1,0 @@
-pub mod Frames
-pub mod Hosts
-pub mod Links
-pub mod Machines
-pub mod Reductions
-pub mod Rows
-pub mod Runs
-pub mod Stacks
-pub mod Typed

@@ -1,4 +1,0 @@
-use Rattle.module_emission.proofs.calls.+new_number.Given as goal
-
-abbrev pub decreases-new_number : goal.decreases-new_number
-decreases-new_number l = l.number

@@ -1,7 +1,0 @@
-use Rattle.std.proofs.Common.{◌+◌, ◌≤◌, drop}
-use Rattle.wasm_types.specs.View.{views}
-use Rattle.module_emission.specs.Lengths.{least_in}
-use Rattle.module_emission.proofs.lengths.+lengths.Given as goal
-
-abbrev pub invariant-least_in-loop-instr : goal.invariant-least_in-loop-instr
-invariant-least_in-loop-instr l = l.bytes + least_in (views (drop l.instr-index l.code)) ≤ least_in (views l.code)

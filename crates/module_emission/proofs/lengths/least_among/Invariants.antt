@@ -1,7 +1,0 @@
-use Rattle.std.proofs.Common.{◌+◌, ◌≤◌, drop}
-use Rattle.module_emission.specs.Lengths.{least_among}
-use Rattle.module_emission.specs.View.{view_functions}
-use Rattle.module_emission.proofs.lengths.least_among.Given as goal
-
-abbrev pub invariant-loop-f : goal.invariant-loop-f
-invariant-loop-f l = l.bytes + least_among (view_functions (drop l.f-index l.fs)) ≤ least_among (view_functions l.fs)

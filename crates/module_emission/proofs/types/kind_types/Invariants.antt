@@ -1,7 +1,0 @@
-use Rattle.std.proofs.Common.{◌≡◌, map, take}
-use Rattle.mid_program.specs.View.{view_kind}
-use Rattle.value_machine.specs.Places.{kind_type}
-use Rattle.module_emission.proofs.types.kind_types.Given as goal
-
-abbrev pub invariant-loop-kind : goal.invariant-loop-kind
-invariant-loop-kind l = l.types.items ≡ map kind_type (map view_kind (take l.kind-index l.kinds))

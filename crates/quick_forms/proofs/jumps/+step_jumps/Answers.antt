@@ -1,7 +1,0 @@
-use Rattle.std.proofs.Common.{ap, ◌∙◌}
-use Rattle.value_machine.specs.Quick.{step_jumps}
-use Rattle.quick_forms.proofs.Shapes.{block_view}
-use Rattle.quick_forms.proofs.jumps.+step_jumps.Goals as goal
-
-pub step_jumps-returns-in-Block : goal.step_jumps-returns-in-Block
-step_jumps-returns-in-Block t c = c.steps_jump.ensures ∙ ap step_jumps (block_view c.args.step.now c.in-Block.steps c.deref.result.now c.in-Block.is c.deref.ensures.value)

@@ -1,7 +1,0 @@
-use Rattle.std.proofs.Common.{◌≡◌, drop}
-use Rattle.mid_program.specs.ViewCode.{view_steps}
-use Rattle.value_machine.specs.Quick.{steps_jump}
-use Rattle.quick_forms.proofs.jumps.+step_jumps.Given as goal
-
-abbrev pub invariant-steps_jump-loop-step : goal.invariant-steps_jump-loop-step
-invariant-steps_jump-loop-step l = steps_jump (view_steps (drop l.step-index l.steps)) ≡ steps_jump (view_steps l.steps)

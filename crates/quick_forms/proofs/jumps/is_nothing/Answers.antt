@@ -1,8 +1,0 @@
-use Rattle.std.proofs.Common.{ap, sym, ◌∙◌}
-use Rattle.value_machine.specs.Quick.{is_nothing}
-use Rattle.quick_forms.proofs.Shapes.{block_view, nothing_in}
-use Rattle.quick_forms.proofs.jumps.is_nothing.Goals as goal
-
-pub returns-in-Block : goal.returns-in-Block
-returns-in-Block c =
-    c.is_empty.ensures ∙ sym (nothing_in c.as_slice.result.now) ∙ ap is_nothing (block_view c.args.step.now c.in-Block.steps c.as_slice.result.now c.in-Block.is c.as_slice.ensures.value)

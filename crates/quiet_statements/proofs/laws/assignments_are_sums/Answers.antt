@@ -1,6 +1,0 @@
-use Rattle.std.specs.List.{Contains}
-use Rattle.quiet_statements.proofs.Written.{assigned}
-use Rattle.quiet_statements.proofs.laws.assignments_are_sums.Goals as goal
-
-pub returns : goal.returns
-returns c = λ names texts scope gs ps x t. assigned (Contains names) gs ps texts scope x t

@@ -1,5 +1,0 @@
-pub mod Quiet
-pub mod Sums
-pub mod Statements
-pub mod Laned
-pub mod Rows

@@ -1,5 +1,0 @@
-pub mod Spots
-pub mod Marked
-pub mod Places
-pub mod Probed
-pub mod Rows

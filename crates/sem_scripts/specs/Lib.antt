@@ -1,0 +1,9 @@
+pub mod ScriptState
+pub mod Names
+pub mod Kinds
+pub mod Steps
+pub mod Meaning
+pub mod Statements
+pub mod Items
+pub mod ScriptRun
+pub mod Kept

@@ -1,0 +1,9 @@
+pub mod Frames
+pub mod Hosts
+pub mod Links
+pub mod Machines
+pub mod Reductions
+pub mod Examples
+pub mod Runs
+pub mod Stacks
+pub mod Typed

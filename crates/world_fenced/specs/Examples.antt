@@ -1,0 +1,69 @@
+-- What fences let through, and what is seen behind them, computed.
+use Rattle.std.specs.Prelude.{◌≡◌, [], ◌∷◌, codes, true, false, None, Some, refl}
+use Rattle.world_core.specs.WorldState.{Named, Standard}
+use Rattle.world_core.specs.Examples.{with_small}
+use Rattle.world_fenced.specs.Behind.{outside_behind}
+use Rattle.world_fenced.specs.Fences.{FenceForm, lets_read, lets_write, no_name}
+
+-- `f` holds `ab`, and opens
+pub it_opens : (with_small (Named (codes "f"))).opens ≡ true
+it_opens = refl
+
+pub kept_out : (outside_behind no_name with_small (Named (codes "f"))).opens ≡ false
+kept_out = refl
+
+-- what it holds stays
+pub bytes_stay : (outside_behind no_name with_small (Named (codes "f"))).bytes ≡ Some (codes "ab")
+bytes_stay = refl
+
+-- the standard output is seen as it is
+pub standard_output : (outside_behind no_name with_small Standard).opens ≡ true
+standard_output = refl
+
+pub let_through : (outside_behind (λ name. true) with_small (Named (codes "f"))).opens ≡ true
+let_through = refl
+
+-- the fences of `--no-files`, `--read-only` and `--only-operands f`
+abbrev pub unset : FenceForm
+unset = record { no_files = false; read_only = false; operands = None }
+
+abbrev pub no_files : FenceForm
+no_files = record unset { no_files = true }
+
+abbrev pub read_only : FenceForm
+read_only = record unset { read_only = true }
+
+abbrev pub only_f : FenceForm
+only_f = record unset { operands = Some (codes "f" ∷ []) }
+
+pub unset_read : lets_read unset (codes "g") ≡ true
+unset_read = refl
+
+pub unset_write : lets_write unset (codes "g") ≡ true
+unset_write = refl
+
+pub no_files_read : lets_read no_files (codes "f") ≡ false
+no_files_read = refl
+
+pub no_files_write : lets_write no_files (codes "f") ≡ false
+no_files_write = refl
+
+pub read_only_read : lets_read read_only (codes "g") ≡ true
+read_only_read = refl
+
+pub read_only_write : lets_write read_only (codes "g") ≡ false
+read_only_write = refl
+
+pub operand_read : lets_read only_f (codes "f") ≡ true
+operand_read = refl
+
+-- a name is let through as it is written
+pub other_read : lets_read only_f (codes "./f") ≡ false
+other_read = refl
+
+pub operand_write : lets_write only_f (codes "f") ≡ false
+operand_write = refl
+
+-- of two fences each takes names away
+pub both_read : lets_read (record only_f { no_files = true }) (codes "f") ≡ false
+both_read = refl

@@ -1,0 +1,3 @@
+pub mod Fences
+pub mod Behind
+pub mod Examples

@@ -1,0 +1,204 @@
+//! A world over real files, which tells nothing of what they hold.
+ghost use Rattle.std.specs.Prelude.{◌≡◌, ◌<◌, ◌≤◌, [], length, Err, IfErr, IfOk, MatchOption, OnErr};
+ghost use Rattle.world_os.specs.OsStreams.{os_kind, os_kinds, IsPath};
+ghost use Rattle.std.specs.Io.KnownBytes.{ReadConsumes, WriteAppends};
+ghost use Rattle.world_core.specs.Calls.{next_count, Opens, Reading, Writing};
+
+use std::alloc::Global;
+use std::fs;
+use std::fs::OpenOptions;
+use std::io::{Read, Write};
+use std::rt::Files;
+use world_core::{World, WorldFault};
+
+/// Counts a failure.
+fn failed<T>(failures: &mut u64) -> Result<T, WorldFault>
+    ensures fault { result ≡ Err WorldFault.Failed }
+    ensures count { failures.new ≡ next_count result failures.old }
+{
+    *failures = failures.wrapping_add(1);
+    Err(WorldFault::Failed)
+}
+
+/// The path of a name; none where the name is empty or not UTF-8.
+fn path_of(name: &[u8]) -> Option<&str>
+    ensures { MatchOption result (¬ (IsPath name.now)) (λ path. (path.now ≡ name.now) × IsPath name.now) }
+{
+    match str::from_utf8(name) {
+        Ok(path) if !name.is_empty() => Some(path),
+        _ => None,
+    }
+}
+
+/// Reads once. An interrupted call is a failure.
+fn counted_read<I: Read>(
+    from: &mut I,
+    buffer: &mut [u8],
+    failures: &mut u64,
+) -> Result<usize, WorldFault>
+    ensures within { IfOk result (λ n. n ≤ length buffer.old) }
+    ensures bytes { ReadConsumes (I.remaining from.old) (I.remaining from.new) result buffer.new }
+    ensures count { failures.new ≡ next_count result failures.old }
+{
+    match from.read(buffer) {
+        Ok(n) => Ok(n),
+        Err(_) => failed(failures),
+    }
+}
+
+/// Writes once. An interrupted call is a failure, and so is one that takes nothing of a text that is not empty.
+fn counted_write<O: Write>(to: &mut O, text: &[u8], failures: &mut u64) -> Result<usize, WorldFault>
+    ensures within { IfOk result (λ n. n ≤ length text.now) }
+    ensures some { IfOk result (λ n. 0 < length text.now → 0 < n) }
+    ensures bytes { WriteAppends (O.contents to.old) (O.contents to.new) result text.now }
+    ensures count { failures.new ≡ next_count result failures.old }
+{
+    match to.write(text) {
+        Ok(n) if n > 0 || text.is_empty() => Ok(n),
+        _ => failed(failures),
+    }
+}
+
+#[derive(Drop)]
+pub(crate) enum OsStream<F: Drop> {
+    Closed,
+    Reader(F),
+    Writer(F),
+}
+
+fn open_to_write<R: Files>(files: &R, path: &str, append: bool) -> Option<R::File> {
+    OpenOptions::new()
+        .write(true)
+        .create(true)
+        .append(append)
+        .truncate(!append)
+        .open(files, path)
+        .ok()
+}
+
+/// Puts a stream behind the others, and gives its number.
+fn add_stream<F: Drop>(
+    streams: &mut Vec<OsStream<F>>,
+    stream: OsStream<F>,
+) -> Result<u32, WorldFault>
+    ensures opened { IfOk result (λ id. Opens (os_kind stream) id (os_kinds streams.old.items) (os_kinds streams.new.items)) }
+    ensures err { OnErr result (streams.new.items ≡ streams.old.items) }
+    ensures not_failed { IfErr result (λ fault. fault ≡ WorldFault.NoMemory) }
+{
+    let Ok(id) = u32::try_from(streams.as_slice().len() + 2) else {
+        return Err(WorldFault::NoMemory);
+    };
+    match streams.push(stream) {
+        Ok(()) => {}
+        Err(_) => return Err(WorldFault::NoMemory),
+    }
+    Ok(id)
+}
+
+/// A world over real files, a standard input and a standard output. It keeps nothing back: each write is one call of the system.
+#[derive(Drop)]
+pub struct OsWorld<'a, R: Files, I: Read + Drop, O: Write + Drop> {
+    files: &'a R,
+    input: I,
+    output: O,
+    streams: Vec<OsStream<R::File>>,
+    failures: u64,
+}
+
+impl<'a, R: Files, I: Read + Drop, O: Write + Drop> OsWorld<'a, R, I, O> {
+    /// A world with nothing open but the standard streams, in which nothing has failed. It takes no memory.
+    pub fn new(alloc: Global, files: &'a R, input: I, output: O) -> OsWorld<'a, R, I, O>
+        ensures streams { result.streams.items ≡ [] }
+        ensures count { result.failures ≡ 0 }
+    {
+        OsWorld {
+            files,
+            input,
+            output,
+            streams: Vec::new(alloc),
+            failures: 0,
+        }
+    }
+}
+
+impl<'a, R: Files, I: Read + Drop, O: Write + Drop> World for OsWorld<'a, R, I, O> {
+    ghost use Rattle.std.specs.Prelude.{refl};
+    ghost use Rattle.world_os.specs.OsStreams.{os_kinds, no_state};
+
+    ghost tells = { ⊥ };
+
+    ghost state = { λ _. no_state };
+
+    ghost kinds = { λ w. os_kinds w.streams.items };
+
+    ghost count = { λ w. w.failures };
+
+    fn open_read(&mut self, name: &[u8]) -> Result<u32, WorldFault> {
+        let opened = match path_of(name) {
+            Some(path) => fs::open(self.files, path).ok(),
+            None => None,
+        };
+        match opened {
+            Some(file) => add_stream(&mut self.streams, OsStream::Reader(file)),
+            None => failed(&mut self.failures),
+        }
+    }
+
+    fn open_write(&mut self, name: &[u8], append: bool) -> Result<u32, WorldFault> {
+        let opened = match path_of(name) {
+            Some(path) => open_to_write(self.files, path, append),
+            None => None,
+        };
+        match opened {
+            Some(file) => add_stream(&mut self.streams, OsStream::Writer(file)),
+            None => failed(&mut self.failures),
+        }
+    }
+
+    fn read(&mut self, id: u32, buffer: &mut [u8]) -> Result<usize, WorldFault>
+        requires { os_kinds self.old.streams.items id ≡ Reading }
+        ensures within { IfOk result (λ n. n ≤ length buffer.old) }
+        ensures kinds { os_kinds self.new.streams.items ≡ os_kinds self.old.streams.items }
+        ensures count { self.new.failures ≡ next_count result self.old.failures }
+        ensures standard { id ≡ 0 → ReadConsumes (I.remaining self.old.input) (I.remaining self.new.input) result buffer.new }
+    {
+        if id == 0 {
+            return counted_read(&mut self.input, buffer, &mut self.failures);
+        }
+        match &mut self.streams[id as usize - 2] {
+            OsStream::Reader(file) => counted_read(file, buffer, &mut self.failures),
+            _ => unreachable!(),
+        }
+    }
+
+    fn write(&mut self, id: u32, text: &[u8]) -> Result<usize, WorldFault>
+        requires { os_kinds self.old.streams.items id ≡ Writing }
+        ensures within { IfOk result (λ n. n ≤ length text.now) }
+        ensures some { IfOk result (λ n. 0 < length text.now → 0 < n) }
+        ensures kinds { os_kinds self.new.streams.items ≡ os_kinds self.old.streams.items }
+        ensures count { self.new.failures ≡ next_count result self.old.failures }
+        ensures standard { id ≡ 1 → WriteAppends (O.contents self.old.output) (O.contents self.new.output) result text.now }
+    {
+        if id == 1 {
+            return counted_write(&mut self.output, text, &mut self.failures);
+        }
+        match &mut self.streams[id as usize - 2] {
+            OsStream::Writer(file) => counted_write(file, text, &mut self.failures),
+            _ => unreachable!(),
+        }
+    }
+
+    fn close(&mut self, id: u32) {
+        self.streams[id as usize - 2] = OsStream::Closed;
+    }
+
+    fn failures(&self) -> u64 {
+        self.failures
+    }
+
+    ghost input = { λ w. refl };
+
+    ghost output = { λ w. refl };
+
+    ghost standard = { λ w. refl };
+}
