@@ -101,7 +101,7 @@ fractions (c ∷ cs) = by (c == 46) refl
         same zero = refl
         same (suc m) = ap (λ b. cond b (is_exponent (after_digits (take m cs))) (is_exponent (c ∷ take m cs))) e
 
--- behind a point
+-- after a point
 pointed : (cs : List ℕ) → Closed (λ t. begins_digit t && is_exponent (after_digits t)) cs (if begins_digit cs then Some (digits_length cs) else None)
 pointed [] = λ m le. by m
   where

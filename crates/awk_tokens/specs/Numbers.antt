@@ -10,7 +10,7 @@ abbrev pub every : (ℕ → Bool) → List ℕ → Bool
 every p [] = true
 every p (c ∷ cs) = if p c then every p cs else false
 
--- what stands behind the digits at the front
+-- what stands after the digits at the front
 abbrev pub after_digits : List ℕ → List ℕ
 after_digits [] = []
 after_digits (c ∷ cs) = if is_digit c then after_digits cs else c ∷ cs
@@ -24,7 +24,7 @@ are_digits (c ∷ cs) = is_digit c && every is_digit cs
 abbrev pub is_sign : ℕ → Bool
 is_sign c = (c == plus) || (c == minus)
 
--- digits behind a sign or none
+-- digits after a sign or none
 abbrev pub is_scale : List ℕ → Bool
 is_scale [] = false
 is_scale (c ∷ cs) = if is_sign c then are_digits cs else are_digits (c ∷ cs)
@@ -38,7 +38,7 @@ abbrev pub is_exponent : List ℕ → Bool
 is_exponent [] = true
 is_exponent (c ∷ cs) = is_exponent_mark c && is_scale cs
 
--- what may stand behind the digits before the point: a point and digits or none, and an exponent or none
+-- what may stand after the digits before the point: a point and digits or none, and an exponent or none
 abbrev pub is_fraction : List ℕ → Bool
 is_fraction [] = true
 is_fraction (c ∷ cs) = if c == point then is_exponent (after_digits cs) else is_exponent (c ∷ cs)

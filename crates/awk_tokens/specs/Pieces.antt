@@ -23,7 +23,7 @@ goes_on c = starts_name c || is_digit c
 abbrev pub on_line : ℕ → Bool
 on_line c = not (c == newline)
 
--- The text behind an opening q: its one unescaped q is its last byte. A newline stands in it only behind a
+-- The text after an opening q: its one unescaped q is its last byte. A newline stands in it only after a
 -- backslash, and only where `newlines` says so. `escaped` says whether a backslash that is not escaped stands before.
 abbrev pub closes : Bool → ℕ → Bool → List ℕ → Bool
 closes newlines q escaped [] = false

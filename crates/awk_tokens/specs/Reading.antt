@@ -47,7 +47,7 @@ unfoldable pub fraction_length : List ℕ → ℕ
 fraction_length [] = 0
 fraction_length (c ∷ cs) = if c == point then suc (digits_length cs) else exponent_length (c ∷ cs)
 
--- how much of a number stands behind its first byte
+-- how much of a number stands after its first byte
 unfoldable pub number_at : ℕ → List ℕ → Option ℕ
 number_at c cs =
     if is_digit c then Some (digit_count cs + fraction_length (drop (digit_count cs) cs))
