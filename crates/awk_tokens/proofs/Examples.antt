@@ -1,20 +1,25 @@
 -- Worked scripts: what the longest cutting gives, computed.
-use Rattle.std.proofs.Common.{Ok, Err, [], ◌∷◌, codes}
+use Rattle.std.proofs.Common.{◌≡◌, Ok, Err, [], ◌∷◌, codes, refl}
 use Rattle.awk_tokens.specs.declared.words.Keyword.TheVariants as words
 use Rattle.awk_tokens.specs.declared.words.Builtin.TheVariants as functions
 use Rattle.awk_tokens.specs.declared.token.Punctuator.TheVariants as marks
 use Rattle.awk_tokens.specs.declared.token.TokenKind.TheVariants.{Name, FuncName, Number, Str, Ere, Keyword, Builtin, Punctuator}
 use Rattle.awk_tokens.specs.declared.token.TokenFault.TheVariants.{BadByte, OpenString, OpenEre}
+use Rattle.awk_tokens.specs.Bytes.{tab, newline, space, quote, hash, open_paren, plus, minus, point, slash, digit_zero, digit_nine, upper_a, upper_e, upper_z, backslash, underscore, lower_a, lower_e, lower_z}
 use Rattle.awk_tokens.specs.Words.{keywords, builtins, left_out_words}
 use Rattle.awk_tokens.specs.Pieces.{punctuators}
 use Rattle.awk_tokens.specs.Cutting.{IsTokens}
 use Rattle.awk_tokens.specs.Reading.{scale_at, exponent_length, fraction_length, number_at, close_at, mark_at, joined_at, name_at, front_at, cut_at, raw_of}
 use Rattle.awk_tokens.proofs.Whole.{read_is_tokens}
 
--- a slash behind the condition of `if` begins an ERE, one behind a name divides
-a_slash_behind_the_condition_of_if_begins_an_ere_one_behind_a_name_divides : IsTokens (codes "{ if (NF) /x/ || n++ } END { print n/1 }") (Ok (record { kind = Punctuator marks.OpenBrace; line = 1; text = codes "{" } ∷ record { kind = Keyword words.If; line = 1; text = codes "if" } ∷ record { kind = Punctuator marks.OpenParen; line = 1; text = codes "(" } ∷ record { kind = Name; line = 1; text = codes "NF" } ∷ record { kind = Punctuator marks.CloseParen; line = 1; text = codes ")" } ∷ record { kind = Ere; line = 1; text = codes "/x/" } ∷ record { kind = Punctuator marks.Or; line = 1; text = codes "||" } ∷ record { kind = Name; line = 1; text = codes "n" } ∷ record { kind = Punctuator marks.Increment; line = 1; text = codes "++" } ∷ record { kind = Punctuator marks.Semicolon; line = 1; text = [] } ∷ record { kind = Punctuator marks.CloseBrace; line = 1; text = codes "}" } ∷ record { kind = Keyword words.End; line = 1; text = codes "END" } ∷ record { kind = Punctuator marks.OpenBrace; line = 1; text = codes "{" } ∷ record { kind = Keyword words.Print; line = 1; text = codes "print" } ∷ record { kind = Name; line = 1; text = codes "n" } ∷ record { kind = Punctuator marks.Slash; line = 1; text = codes "/" } ∷ record { kind = Number; line = 1; text = codes "1" } ∷ record { kind = Punctuator marks.Semicolon; line = 1; text = [] } ∷ record { kind = Punctuator marks.CloseBrace; line = 1; text = codes "}" } ∷ []))
+-- the bytes that are named
+named_bytes : codes "\t\n \"#(+-./09AEZ\\_aez" ≡ tab ∷ newline ∷ space ∷ quote ∷ hash ∷ open_paren ∷ plus ∷ minus ∷ point ∷ slash ∷ digit_zero ∷ digit_nine ∷ upper_a ∷ upper_e ∷ upper_z ∷ backslash ∷ underscore ∷ lower_a ∷ lower_e ∷ lower_z ∷ []
+named_bytes = refl
+
+-- a slash after the condition of `if` begins an ERE, one after a name divides
+a_slash_after_the_condition_of_if_begins_an_ere_one_after_a_name_divides : IsTokens (codes "{ if (NF) /x/ || n++ } END { print n/1 }") (Ok (record { kind = Punctuator marks.OpenBrace; line = 1; text = codes "{" } ∷ record { kind = Keyword words.If; line = 1; text = codes "if" } ∷ record { kind = Punctuator marks.OpenParen; line = 1; text = codes "(" } ∷ record { kind = Name; line = 1; text = codes "NF" } ∷ record { kind = Punctuator marks.CloseParen; line = 1; text = codes ")" } ∷ record { kind = Ere; line = 1; text = codes "/x/" } ∷ record { kind = Punctuator marks.Or; line = 1; text = codes "||" } ∷ record { kind = Name; line = 1; text = codes "n" } ∷ record { kind = Punctuator marks.Increment; line = 1; text = codes "++" } ∷ record { kind = Punctuator marks.Semicolon; line = 1; text = [] } ∷ record { kind = Punctuator marks.CloseBrace; line = 1; text = codes "}" } ∷ record { kind = Keyword words.End; line = 1; text = codes "END" } ∷ record { kind = Punctuator marks.OpenBrace; line = 1; text = codes "{" } ∷ record { kind = Keyword words.Print; line = 1; text = codes "print" } ∷ record { kind = Name; line = 1; text = codes "n" } ∷ record { kind = Punctuator marks.Slash; line = 1; text = codes "/" } ∷ record { kind = Number; line = 1; text = codes "1" } ∷ record { kind = Punctuator marks.Semicolon; line = 1; text = [] } ∷ record { kind = Punctuator marks.CloseBrace; line = 1; text = codes "}" } ∷ []))
 unfolding raw_of cut_at front_at joined_at mark_at name_at number_at fraction_length exponent_length scale_at close_at keywords builtins left_out_words punctuators
-a_slash_behind_the_condition_of_if_begins_an_ere_one_behind_a_name_divides = read_is_tokens (codes "{ if (NF) /x/ || n++ } END { print n/1 }")
+a_slash_after_the_condition_of_if_begins_an_ere_one_after_a_name_divides = read_is_tokens (codes "{ if (NF) /x/ || n++ } END { print n/1 }")
 
 -- a string that is not closed
 a_string_that_is_not_closed : IsTokens (codes "BEGIN { print \"x") (Err (OpenString 1))
@@ -36,10 +41,10 @@ a_newline_that_is_kept_is_for_the_slash : IsTokens (codes "x = 6\n/a/") (Ok (rec
 unfolding raw_of cut_at front_at joined_at mark_at name_at number_at fraction_length exponent_length scale_at close_at keywords builtins left_out_words punctuators
 a_newline_that_is_kept_is_for_the_slash = read_is_tokens (codes "x = 6\n/a/")
 
--- a newline behind parameters is dropped, and the slash divides
-a_newline_behind_parameters_is_dropped_and_the_slash_divides : IsTokens (codes "function f(a)\n/x") (Ok (record { kind = Keyword words.Function; line = 1; text = codes "function" } ∷ record { kind = FuncName; line = 1; text = codes "f" } ∷ record { kind = Punctuator marks.OpenParen; line = 1; text = codes "(" } ∷ record { kind = Name; line = 1; text = codes "a" } ∷ record { kind = Punctuator marks.CloseParen; line = 1; text = codes ")" } ∷ record { kind = Punctuator marks.Slash; line = 2; text = codes "/" } ∷ record { kind = Name; line = 2; text = codes "x" } ∷ record { kind = Punctuator marks.Semicolon; line = 2; text = [] } ∷ []))
+-- a newline after parameters is dropped, and the slash divides
+a_newline_after_parameters_is_dropped_and_the_slash_divides : IsTokens (codes "function f(a)\n/x") (Ok (record { kind = Keyword words.Function; line = 1; text = codes "function" } ∷ record { kind = FuncName; line = 1; text = codes "f" } ∷ record { kind = Punctuator marks.OpenParen; line = 1; text = codes "(" } ∷ record { kind = Name; line = 1; text = codes "a" } ∷ record { kind = Punctuator marks.CloseParen; line = 1; text = codes ")" } ∷ record { kind = Punctuator marks.Slash; line = 2; text = codes "/" } ∷ record { kind = Name; line = 2; text = codes "x" } ∷ record { kind = Punctuator marks.Semicolon; line = 2; text = [] } ∷ []))
 unfolding raw_of cut_at front_at joined_at mark_at name_at number_at fraction_length exponent_length scale_at close_at keywords builtins left_out_words punctuators
-a_newline_behind_parameters_is_dropped_and_the_slash_divides = read_is_tokens (codes "function f(a)\n/x")
+a_newline_after_parameters_is_dropped_and_the_slash_divides = read_is_tokens (codes "function f(a)\n/x")
 
 -- one `;` between `}` and `else` is dropped
 one_between_and_else_is_dropped : IsTokens (codes "{ if (a) { b };\nelse c }") (Ok (record { kind = Punctuator marks.OpenBrace; line = 1; text = codes "{" } ∷ record { kind = Keyword words.If; line = 1; text = codes "if" } ∷ record { kind = Punctuator marks.OpenParen; line = 1; text = codes "(" } ∷ record { kind = Name; line = 1; text = codes "a" } ∷ record { kind = Punctuator marks.CloseParen; line = 1; text = codes ")" } ∷ record { kind = Punctuator marks.OpenBrace; line = 1; text = codes "{" } ∷ record { kind = Name; line = 1; text = codes "b" } ∷ record { kind = Punctuator marks.Semicolon; line = 1; text = [] } ∷ record { kind = Punctuator marks.CloseBrace; line = 1; text = codes "}" } ∷ record { kind = Keyword words.Else; line = 2; text = codes "else" } ∷ record { kind = Name; line = 2; text = codes "c" } ∷ record { kind = Punctuator marks.Semicolon; line = 2; text = [] } ∷ record { kind = Punctuator marks.CloseBrace; line = 2; text = codes "}" } ∷ []))

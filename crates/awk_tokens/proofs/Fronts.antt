@@ -24,7 +24,7 @@ shifted : (i : ℕ) (o : Option ℕ) → option_map (λ n. i + n) (option_map su
 shifted i None = refl
 shifted i (Some n) = ap (λ (k : ℕ). Some k) (omega arith)
 
--- one byte on, behind a backslash
+-- one byte on, after a backslash
 pub step_escaped : (nl : Bool) (q i : ℕ) (bytes : List ℕ) → i < length bytes → ((get_or bytes i 0 == 10) && not nl) ≡ false →
     option_map (λ n. i + n) (close_at nl q true (drop i bytes)) ≡ option_map (λ n. (i + 1) + n) (close_at nl q false (drop (i + 1) bytes))
 unfolding close_at

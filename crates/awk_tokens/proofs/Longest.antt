@@ -27,7 +27,7 @@ choose : (b : Bool) (f g : List ℕ → Option Piece) (cs : List ℕ) (x y : Opt
 choose true f g cs x y a h = a
 choose false f g cs x y a h = h
 
--- nothing behind the first byte
+-- nothing after the first byte
 nothing : (p : Piece) (cs : List ℕ) → Best (λ t. where_ p (length t == 0)) cs (Some (p, 0))
 nothing p cs = (omega arith, refl, past cs)
   where

@@ -67,9 +67,9 @@ after_none zero = refl
 after_none (suc m) = refl
 
 -- digits in front of what passes a test that passes nothing at all, too
-behind_digits : (g : List ℕ → Bool) (cs : List ℕ) (n : ℕ) → Closed g (drop (digit_count cs) cs) (Some n) → Closed (λ t. g (after_digits t)) cs (Some (digit_count cs + n))
-behind_digits g [] n h = subst (λ (k : ℕ). Closed (λ t. g (after_digits t)) [] (Some k)) (sym (zero-add n)) (same_test (λ t. g (after_digits t)) g [] (Some n) (λ m. ap g (after_none m)) h)
-behind_digits g (c ∷ cs) n h = by (is_digit c) refl (λ k. behind_digits g cs n k)
+past_digits : (g : List ℕ → Bool) (cs : List ℕ) (n : ℕ) → Closed g (drop (digit_count cs) cs) (Some n) → Closed (λ t. g (after_digits t)) cs (Some (digit_count cs + n))
+past_digits g [] n h = subst (λ (k : ℕ). Closed (λ t. g (after_digits t)) [] (Some k)) (sym (zero-add n)) (same_test (λ t. g (after_digits t)) g [] (Some n) (λ m. ap g (after_none m)) h)
+past_digits g (c ∷ cs) n h = by (is_digit c) refl (λ k. past_digits g cs n k)
   where
     by : (b : Bool) → is_digit c ≡ b → (Closed g (drop (digit_count cs) cs) (Some n) → Closed (λ t. g (after_digits t)) cs (Some (digit_count cs + n))) → Closed (λ t. g (after_digits t)) (c ∷ cs) (Some (digit_count (c ∷ cs) + n))
     by true e go =
@@ -86,7 +86,7 @@ behind_digits g (c ∷ cs) n h = by (is_digit c) refl (λ k. behind_digits g cs 
         same (suc m) = ap (λ b. g (cond b (after_digits (take m cs)) (c ∷ take m cs))) e
 
 digits_exponents : (cs : List ℕ) → Closed (λ t. is_exponent (after_digits t)) cs (Some (digits_length cs))
-digits_exponents cs = behind_digits is_exponent cs (exponent_length (drop (digit_count cs) cs)) (exponents (drop (digit_count cs) cs))
+digits_exponents cs = past_digits is_exponent cs (exponent_length (drop (digit_count cs) cs)) (exponents (drop (digit_count cs) cs))
 
 fractions : (cs : List ℕ) → Closed is_fraction cs (Some (fraction_length cs))
 unfolding fraction_length
@@ -101,7 +101,7 @@ fractions (c ∷ cs) = by (c == 46) refl
         same zero = refl
         same (suc m) = ap (λ b. cond b (is_exponent (after_digits (take m cs))) (is_exponent (c ∷ take m cs))) e
 
--- behind a point
+-- after a point
 pointed : (cs : List ℕ) → Closed (λ t. begins_digit t && is_exponent (after_digits t)) cs (if begins_digit cs then Some (digits_length cs) else None)
 pointed [] = λ m le. by m
   where
@@ -128,7 +128,7 @@ numbers c cs = by (is_digit c) refl (c == 46) refl
     by : (b : Bool) → is_digit c ≡ b → (b' : Bool) → (c == 46) ≡ b' → Closed (λ t. is_number (c ∷ t)) cs (if b then Some (digit_count cs + fraction_length (drop (digit_count cs) cs)) else if b' then (if begins_digit cs then Some (digits_length cs) else None) else None)
     by true e b' e' = same_test (λ t. is_number (c ∷ t)) (λ t. is_fraction (after_digits t)) cs (Some (digit_count cs + fraction_length (drop (digit_count cs) cs)))
         (λ m. ap (λ b. cond b (is_fraction (after_digits (take m cs))) (cond (c == 46) (begins_digit (take m cs) && is_exponent (after_digits (take m cs))) false)) e)
-        (behind_digits is_fraction cs (fraction_length (drop (digit_count cs) cs)) (fractions (drop (digit_count cs) cs)))
+        (past_digits is_fraction cs (fraction_length (drop (digit_count cs) cs)) (fractions (drop (digit_count cs) cs)))
     by false e true e' = same_test (λ t. is_number (c ∷ t)) (λ t. begins_digit t && is_exponent (after_digits t)) cs (if begins_digit cs then Some (digits_length cs) else None)
         (λ m. ap (λ b. cond b (is_fraction (after_digits (take m cs))) (cond (c == 46) (begins_digit (take m cs) && is_exponent (after_digits (take m cs))) false)) e
         ∙ ap (λ b. cond b (begins_digit (take m cs) && is_exponent (after_digits (take m cs))) false) e')

@@ -7,7 +7,7 @@ use Rattle.awk_tokens.specs.declared.token.Piece.{Piece}
 use Rattle.awk_tokens.specs.declared.token.TokenFault.{TokenFault}
 use Rattle.awk_tokens.specs.declared.token.TokenFault.TheVariants.{NoMemory}
 use Rattle.awk_tokens.specs.Pieces.{piece_of}
-use Rattle.awk_tokens.specs.Cutting.{Spelled, kept, with_kind, behind, divides, newlines, with_token, outcome, without, with_ends, finished, IsLongest, joined, IsCutting, IsTokens}
+use Rattle.awk_tokens.specs.Cutting.{Spelled, kept, with_kind, kinds_after, divides, newlines, with_token, outcome, without, with_ends, finished, IsLongest, joined, IsCutting, IsTokens}
 use Rattle.awk_tokens.specs.Reading.{front_at, from_front, cut_at, raw_of}
 use Rattle.awk_tokens.proofs.Longest.{Best, best}
 use Rattle.awk_tokens.proofs.Unique.{one_cutting}
@@ -59,7 +59,7 @@ found (suc n) line before (c ∷ cs) le = by (front_at (divides before) c cs) ((
         let after : List TokenKind = with_kind (kept before (drop x.1 cs) (Some x.0)) before in
         let f = go (line + newlines t) after (drop x.1 cs) (omega (arith, length-drop x.1 cs)) in
         let kind : kept before (joined f.texts ++ f.rest) (piece_of (divides before) t) ≡ kept before (drop x.1 cs) (Some x.0) = ap (λ (r : List ℕ). kept before r (piece_of (divides before) t)) f.whole ∙ ap (kept before (drop x.1 cs)) h.1 in
-        let same : behind before t (joined f.texts ++ f.rest) ≡ after = ap (λ (k : Option TokenKind). with_kind k before) kind in
+        let same : kinds_after before t (joined f.texts ++ f.rest) ≡ after = ap (λ (k : Option TokenKind). with_kind k before) kind in
         record {
           texts = t ∷ f.texts;
           rest = f.rest;

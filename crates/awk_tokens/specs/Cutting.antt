@@ -1,6 +1,7 @@
 -- Cuttings of a script into pieces, and the tokens of a cutting.
 use Rattle.std.specs.Prelude.{◌≡◌, ℕ, zero, suc, ◌+◌, ◌<◌, ◌≤◌, Bool, true, false, ◌&&◌, ◌||◌, ◌==◌, not, if◌then◌else◌, Option, Some, None, is_some, Result, Ok, Err, List, [], ◌∷◌, ◌++◌, length, take}
 use Rattle.std.specs.List.{count_by}
+use Rattle.awk_tokens.specs.Bytes.{newline, quote, open_paren, slash}
 use Rattle.awk_tokens.specs.Pieces.{piece_of}
 use Rattle.awk_tokens.specs.declared.words.Keyword.TheVariants.{Function, If, Else, While, For, Do, Getline}
 use Rattle.awk_tokens.specs.declared.words.Builtin.TheVariants.{Length}
@@ -20,9 +21,11 @@ pub record Spelled : Type 0 where
   pub line : ℕ
   pub text : List ℕ
 
--- ---- what the kept tokens before a place say; lists of kinds have the newest first
+-- ---- parentheses
 
--- what a parenthesis that stands behind these kinds is opened for
+-- From here on `before` and `ks` are the kinds of the kept tokens before a place, the newest first.
+
+-- what a parenthesis that stands after these kinds is opened for
 abbrev pub role_of : List TokenKind → Role
 role_of (Keyword If ∷ _) = Control
 role_of (Keyword While ∷ _) = Control
@@ -31,7 +34,7 @@ role_of (Name ∷ Keyword Function ∷ _) = Params
 role_of (FuncName ∷ Keyword Function ∷ _) = Params
 role_of _ = Plain
 
--- the role of the parenthesis that a `)` behind these kinds closes, with n more to be closed before it
+-- the role of the parenthesis that a `)` after these kinds closes, with n more to be closed before it
 abbrev pub opened : ℕ → List TokenKind → Role
 opened n [] = Plain
 opened n (Punctuator CloseParen ∷ ks) = opened (suc n) ks
@@ -47,7 +50,10 @@ abbrev pub is_plain : Role → Bool
 is_plain Plain = true
 is_plain _ = false
 
--- whether a slash divides behind these kinds
+-- ---- slashes
+
+-- A slash divides after a number, string, ERE, name, `length`, `getline`, `]`, `++` and `--`, and after a `)` that does
+-- not close a control parenthesis. Everywhere else it begins an ERE.
 abbrev pub divides : List TokenKind → Bool
 divides (Number ∷ _) = true
 divides (Str ∷ _) = true
@@ -61,7 +67,20 @@ divides (Punctuator Decrement ∷ _) = true
 divides (Punctuator CloseParen ∷ ks) = not (is_control (opened 0 ks))
 divides _ = false
 
--- whether a newline is dropped behind these kinds
+-- ---- names before `(`
+
+-- the kind of a token with what follows it: a name directly before `(` is a FuncName
+abbrev pub followed : List ℕ → TokenKind → TokenKind
+followed (c ∷ _) Name = if c == open_paren then FuncName else Name
+followed _ k = k
+
+-- ---- newlines and semicolons: the three rules, in the order in which they are applied
+
+-- Rule 1, while the script is cut. A newline is dropped at the start, after another newline, after `; { } && || , do else`,
+-- and after a `)` that closes a control parenthesis or the parameter list of `function`. Every other newline is the token `;`.
+-- (A newline after another newline stands after its `;`, or, where that one was dropped, after what it was dropped after.)
+
+-- whether a newline after these kinds is dropped
 abbrev pub drops : List TokenKind → Bool
 drops [] = true
 drops (Punctuator Semicolon ∷ _) = true
@@ -75,69 +94,15 @@ drops (Keyword Else ∷ _) = true
 drops (Punctuator CloseParen ∷ ks) = not (is_plain (opened 0 ks))
 drops _ = false
 
--- the kind of a token with what follows it: a name directly before `(` is a FuncName
-abbrev pub followed : List ℕ → TokenKind → TokenKind
-followed (c ∷ _) Name = if c == 40 then FuncName else Name
-followed _ k = k
-
--- the kind that a piece is kept as, if it is kept: a newline is dropped or is the token `;`
+-- The kind that a piece is kept as, if it is kept: a blank never, a newline by rule 1, a token always. `rest` is what
+-- follows the piece.
 abbrev pub kept : List TokenKind → List ℕ → Option Piece → Option TokenKind
 kept before rest None = None
 kept before rest (Some Blank) = None
 kept before rest (Some Newline) = if drops before then None else Some (Punctuator Semicolon)
 kept before rest (Some (Token k)) = Some (followed rest k)
 
-abbrev pub with_kind : Option TokenKind → List TokenKind → List TokenKind
-with_kind None ks = ks
-with_kind (Some k) ks = k ∷ ks
-
--- the kinds behind a piece
-abbrev pub behind : List TokenKind → List ℕ → List ℕ → List TokenKind
-behind before text rest = with_kind (kept before rest (piece_of (divides before) text)) before
-
--- ---- the longest cutting
-
--- the text is a piece, and no longer front of what stands here is one
-pub record IsLongest (division : Bool) (text rest : List ℕ) : Type 0 where
-  pub piece : is_some (piece_of division text) ≡ true
-  pub longest : (n : ℕ) → length text < n → n ≤ length (text ++ rest) → piece_of division (take n (text ++ rest)) ≡ None
-
--- no front is a piece: the end, or what no piece begins with
-abbrev pub IsStop : Bool → List ℕ → Type 0
-IsStop division rest = (n : ℕ) → n ≤ length rest → piece_of division (take n rest) ≡ None
-
-abbrev pub joined : List (List ℕ) → List ℕ
-joined [] = []
-joined (t ∷ ts) = t ++ joined ts
-
--- the texts are the longest pieces, each slash of the kind that the kept tokens before it say, as far as there are pieces
-abbrev pub IsCutting : List TokenKind → List (List ℕ) → List ℕ → Type 0
-IsCutting before [] rest = IsStop (divides before) rest
-IsCutting before (t ∷ ts) rest = IsLongest (divides before) t (joined ts ++ rest) × IsCutting (behind before t (joined ts ++ rest)) ts rest
-
-abbrev pub newlines : List ℕ → ℕ
-newlines bytes = count_by (λ c. c == 10) bytes
-
--- why there is no piece that begins with this byte
-abbrev pub refusal : Bool → ℕ → ℕ → TokenFault
-refusal division line c =
-    if c == 34 then OpenString line
-    else if (c == 47) && not division then OpenEre line
-    else BadByte line
-
-abbrev pub with_token : Option TokenKind → ℕ → List ℕ → Result (List Spelled) TokenFault → Result (List Spelled) TokenFault
-with_token None line text r = r
-with_token (Some k) line text (Ok ts) = Ok (record { kind = k; line = line; text = text } ∷ ts)
-with_token (Some k) line text (Err e) = Err e
-
--- the tokens of a cutting that takes the whole script, or why it does not
-abbrev pub outcome : ℕ → List TokenKind → List (List ℕ) → List ℕ → Result (List Spelled) TokenFault
-outcome line before [] [] = Ok []
-outcome line before [] (c ∷ _) = Err (refusal (divides before) line c)
-outcome line before (t ∷ ts) rest = with_token (kept before (joined ts ++ rest) (piece_of (divides before) t)) line t
-    (outcome (line + newlines t) (behind before t (joined ts ++ rest)) ts rest)
-
--- ---- `;` dropped and put
+-- Rule 2, over the tokens of the whole script. A `;` directly between `}` and `else`, or between `}` and `while`, is dropped.
 
 abbrev pub is_semicolon : TokenKind → Bool
 is_semicolon (Punctuator Semicolon) = true
@@ -161,40 +126,101 @@ abbrev pub leads : List Spelled → Bool
 leads [] = false
 leads (t ∷ _) = is_lead t.kind
 
--- a `;` directly between `}` and `else` or `while` is dropped; the first argument says whether a `}` stands before
+-- rule 2; the first argument says whether a `}` stands directly before
 abbrev pub without : Bool → List Spelled → List Spelled
 without brace [] = []
 without brace (t ∷ ts) =
     if brace && (is_semicolon t.kind && leads ts) then without (is_close_brace t.kind) ts
     else t ∷ without (is_close_brace t.kind) ts
 
--- the `;` behind a token, which the script does not have
+-- Rule 3, over what rule 2 leaves. A `;` is put before each `}` whose former token is not `{`, `}` or `;`, and at the end if
+-- there is a token and the last one is not `}` or `;`.
+
+-- the `;` that is put after a token: it has that token's line, and no text
 abbrev pub inserted : Option Spelled → Spelled
 inserted None = record { kind = Punctuator Semicolon; line = 1; text = [] }
 inserted (Some former) = record { kind = Punctuator Semicolon; line = former.line; text = [] }
 
--- whether a `}` behind this token needs a `;` before it
+-- whether a `}` after this token needs a `;` before it
 abbrev pub is_open_end : Option Spelled → Bool
 is_open_end None = true
 is_open_end (Some former) = not (is_open_brace former.kind || (is_close_brace former.kind || is_semicolon former.kind))
 
--- whether a script may not end in this token
+-- whether a script that ends in this token needs a `;` at the end
 abbrev pub is_unended : Option Spelled → Bool
 is_unended None = false
 is_unended (Some former) = not (is_close_brace former.kind || is_semicolon former.kind)
 
--- a `;` is put before each `}` that needs one, and at the end; the first argument is the token before
+-- rule 3; the first argument is the former token
 abbrev pub with_ends : Option Spelled → List Spelled → List Spelled
 with_ends former [] = if is_unended former then inserted former ∷ [] else []
 with_ends former (t ∷ ts) =
     if is_close_brace t.kind && is_open_end former then inserted former ∷ (t ∷ with_ends (Some t) ts)
     else t ∷ with_ends (Some t) ts
 
+-- rules 2 and 3
 abbrev pub finished : Result (List Spelled) TokenFault → Result (List Spelled) TokenFault
 finished (Ok ts) = Ok (with_ends None (without false ts))
 finished (Err e) = Err e
 
--- what a script's longest cutting gives
+-- ---- the longest cutting
+
+-- the text is a piece, and no longer front of what stands here is one
+pub record IsLongest (division : Bool) (text rest : List ℕ) : Type 0 where
+  pub piece : is_some (piece_of division text) ≡ true
+  pub longest : (n : ℕ) → length text < n → n ≤ length (text ++ rest) → piece_of division (take n (text ++ rest)) ≡ None
+
+-- no front is a piece: the end, or what no piece begins with
+abbrev pub IsStop : Bool → List ℕ → Type 0
+IsStop division rest = (n : ℕ) → n ≤ length rest → piece_of division (take n rest) ≡ None
+
+abbrev pub joined : List (List ℕ) → List ℕ
+joined [] = []
+joined (t ∷ ts) = t ++ joined ts
+
+abbrev pub with_kind : Option TokenKind → List TokenKind → List TokenKind
+with_kind None ks = ks
+with_kind (Some k) ks = k ∷ ks
+
+-- the kinds after a piece: those before, and the one that the piece is kept as
+abbrev pub kinds_after : List TokenKind → List ℕ → List ℕ → List TokenKind
+kinds_after before text rest = with_kind (kept before rest (piece_of (divides before) text)) before
+
+-- the texts are the longest pieces, each slash of the kind that the kept tokens before it say, as far as there are pieces
+abbrev pub IsCutting : List TokenKind → List (List ℕ) → List ℕ → Type 0
+IsCutting before [] rest = IsStop (divides before) rest
+IsCutting before (t ∷ ts) rest = IsLongest (divides before) t (joined ts ++ rest) × IsCutting (kinds_after before t (joined ts ++ rest)) ts rest
+
+-- ---- lines and refusals
+
+-- how many newlines there are
+abbrev pub newlines : List ℕ → ℕ
+newlines bytes = count_by (λ c. c == newline) bytes
+
+-- why there is no piece that begins with this byte
+abbrev pub refusal : Bool → ℕ → ℕ → TokenFault
+refusal division line c =
+    if c == quote then OpenString line
+    else if (c == slash) && not division then OpenEre line
+    else BadByte line
+
+-- ---- the tokens of a script
+
+-- a token in front of those that follow, or none
+abbrev pub with_token : Option TokenKind → ℕ → List ℕ → Result (List Spelled) TokenFault → Result (List Spelled) TokenFault
+with_token None line text r = r
+with_token (Some k) line text (Ok ts) = Ok (record { kind = k; line = line; text = text } ∷ ts)
+with_token (Some k) line text (Err e) = Err e
+
+-- The tokens of a cutting that takes the whole script, each on the line where it begins, or why the cutting does not take it.
+-- Newlines are kept by rule 1.
+abbrev pub outcome : ℕ → List TokenKind → List (List ℕ) → List ℕ → Result (List Spelled) TokenFault
+outcome line before [] [] = Ok []
+outcome line before [] (c ∷ _) = Err (refusal (divides before) line c)
+outcome line before (t ∷ ts) rest = with_token (kept before (joined ts ++ rest) (piece_of (divides before) t)) line t
+    (outcome (line + newlines t) (kinds_after before t (joined ts ++ rest)) ts rest)
+
+-- what a script's longest cutting gives, with rules 2 and 3 applied to its tokens
 pub record IsTokens (script : List ℕ) (found : Result (List Spelled) TokenFault) : Type 0 where
   pub texts : List (List ℕ)
   pub rest : List ℕ

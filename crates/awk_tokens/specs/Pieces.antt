@@ -1,6 +1,7 @@
 -- Which texts are pieces of a script: blanks, comments, newlines and tokens.
 use Rattle.std.specs.Prelude.{ℕ, Bool, true, false, ◌&&◌, ◌||◌, ◌==◌, not, nat_le, if◌then◌else◌, Option, Some, None, option_map, List, [], ◌∷◌, length, codes}
 use Rattle.std.specs.Cmp.Lexicographic.{pointwise}
+use Rattle.awk_tokens.specs.Bytes.{tab, newline, space, quote, hash, point, slash, upper_a, upper_z, backslash, underscore, lower_a, lower_z}
 use Rattle.awk_tokens.specs.Numbers.{is_digit, every, is_number}
 use Rattle.awk_tokens.specs.Words.{entry, reserved_word_of}
 use Rattle.awk_tokens.specs.declared.words.ReservedWord.{ReservedWord}
@@ -14,23 +15,23 @@ use Rattle.awk_tokens.specs.declared.token.Piece.TheVariants.{Blank, Newline, To
 
 -- a letter or _
 abbrev pub starts_name : ℕ → Bool
-starts_name c = (nat_le 65 c && nat_le c 90) || (nat_le 97 c && nat_le c 122) || (c == 95)
+starts_name c = (nat_le upper_a c && nat_le c upper_z) || (nat_le lower_a c && nat_le c lower_z) || (c == underscore)
 
 abbrev pub goes_on : ℕ → Bool
 goes_on c = starts_name c || is_digit c
 
 abbrev pub on_line : ℕ → Bool
-on_line c = not (c == 10)
+on_line c = not (c == newline)
 
--- The text behind an opening q: its one unescaped q is its last byte. A newline stands in it only behind a
+-- The text after an opening q: its one unescaped q is its last byte. A newline stands in it only after a
 -- backslash, and only where `newlines` says so. `escaped` says whether a backslash that is not escaped stands before.
 abbrev pub closes : Bool → ℕ → Bool → List ℕ → Bool
 closes newlines q escaped [] = false
-closes newlines q true (c ∷ cs) = if (c == 10) && not newlines then false else closes newlines q false cs
+closes newlines q true (c ∷ cs) = if (c == newline) && not newlines then false else closes newlines q false cs
 closes newlines q false (c ∷ cs) =
     if c == q then length cs == 0
-    else if c == 10 then false
-    else closes newlines q (c == 92) cs
+    else if c == newline then false
+    else closes newlines q (c == backslash) cs
 
 unfoldable pub punctuators : List (List ℕ × AnyPunctuator)
 punctuators =
@@ -93,12 +94,12 @@ mark_of p = Token (Punctuator p)
 unfoldable pub piece_of : Bool → List ℕ → Option Piece
 piece_of division [] = None
 piece_of division (c ∷ cs) =
-    if (c == 32) || (c == 9) then where_ Blank (length cs == 0)
-    else if c == 92 then where_ Blank (pointwise ◌==◌ cs (10 ∷ []))
-    else if c == 10 then where_ Newline (length cs == 0)
-    else if c == 35 then where_ Blank (every on_line cs)
+    if (c == space) || (c == tab) then where_ Blank (length cs == 0)
+    else if c == backslash then where_ Blank (pointwise ◌==◌ cs (newline ∷ []))
+    else if c == newline then where_ Newline (length cs == 0)
+    else if c == hash then where_ Blank (every on_line cs)
     else if starts_name c then where_ (Token (word_kind (reserved_word_of (c ∷ cs)))) (every goes_on cs)
-    else if is_digit c || (c == 46) then where_ (Token Number) (is_number (c ∷ cs))
-    else if c == 34 then where_ (Token Str) (closes true 34 false cs)
-    else if (c == 47) && not division then where_ (Token Ere) (closes false 47 false cs)
+    else if is_digit c || (c == point) then where_ (Token Number) (is_number (c ∷ cs))
+    else if c == quote then where_ (Token Str) (closes true quote false cs)
+    else if (c == slash) && not division then where_ (Token Ere) (closes false slash false cs)
     else option_map mark_of (entry (c ∷ cs) punctuators)

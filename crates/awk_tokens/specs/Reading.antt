@@ -6,6 +6,7 @@ use Rattle.awk_tokens.specs.declared.token.TokenKind.TheVariants.{Number, Str, E
 use Rattle.awk_tokens.specs.declared.token.Piece.{Piece}
 use Rattle.awk_tokens.specs.declared.token.Piece.TheVariants.{Blank, Newline, Token}
 use Rattle.awk_tokens.specs.declared.token.TokenFault.{TokenFault}
+use Rattle.awk_tokens.specs.Bytes.{tab, newline, space, quote, hash, point, slash, backslash}
 use Rattle.awk_tokens.specs.Numbers.{is_digit, is_sign, is_exponent_mark, begins_digit}
 use Rattle.awk_tokens.specs.Words.{entry, reserved_word_of}
 use Rattle.awk_tokens.specs.Pieces.{starts_name, goes_on, on_line, punctuators, word_kind, mark_of}
@@ -44,23 +45,23 @@ digits_length bytes = digit_count bytes + exponent_length (drop (digit_count byt
 -- how long the point, digits and exponent at the front are
 unfoldable pub fraction_length : List ℕ → ℕ
 fraction_length [] = 0
-fraction_length (c ∷ cs) = if c == 46 then suc (digits_length cs) else exponent_length (c ∷ cs)
+fraction_length (c ∷ cs) = if c == point then suc (digits_length cs) else exponent_length (c ∷ cs)
 
--- how much of a number stands behind its first byte
+-- how much of a number stands after its first byte
 unfoldable pub number_at : ℕ → List ℕ → Option ℕ
 number_at c cs =
     if is_digit c then Some (digit_count cs + fraction_length (drop (digit_count cs) cs))
-    else if c == 46 then (if begins_digit cs then Some (digits_length cs) else None)
+    else if c == point then (if begins_digit cs then Some (digits_length cs) else None)
     else None
 
 -- how many bytes there are up to the closing q
 unfoldable pub close_at : Bool → ℕ → Bool → List ℕ → Option ℕ
 close_at newlines q escaped [] = None
-close_at newlines q true (c ∷ cs) = if (c == 10) && not newlines then None else option_map suc (close_at newlines q false cs)
+close_at newlines q true (c ∷ cs) = if (c == newline) && not newlines then None else option_map suc (close_at newlines q false cs)
 close_at newlines q false (c ∷ cs) =
     if c == q then Some 1
-    else if c == 10 then None
-    else option_map suc (close_at newlines q (c == 92) cs)
+    else if c == newline then None
+    else option_map suc (close_at newlines q (c == backslash) cs)
 
 abbrev pub with_piece : Piece → Option ℕ → Option (Piece × ℕ)
 with_piece p o = option_map (λ n. (p, n)) o
@@ -80,7 +81,7 @@ mark_at c (d ∷ ds) = mark_by (entry (c ∷ d ∷ []) punctuators) (entry (c �
 
 unfoldable pub joined_at : List ℕ → Option (Piece × ℕ)
 joined_at [] = None
-joined_at (c ∷ cs) = if c == 10 then Some (Blank, 1) else None
+joined_at (c ∷ cs) = if c == newline then Some (Blank, 1) else None
 
 unfoldable pub name_at : ℕ → List ℕ → Option (Piece × ℕ)
 name_at c cs = Some (Token (word_kind (reserved_word_of (c ∷ take (count_while goes_on cs) cs))), count_while goes_on cs)
@@ -88,14 +89,14 @@ name_at c cs = Some (Token (word_kind (reserved_word_of (c ∷ take (count_while
 -- the longest piece that begins with this byte, and how many bytes of the next it takes
 unfoldable pub front_at : Bool → ℕ → List ℕ → Option (Piece × ℕ)
 front_at division c cs =
-    if (c == 32) || (c == 9) then Some (Blank, 0)
-    else if c == 92 then joined_at cs
-    else if c == 10 then Some (Newline, 0)
-    else if c == 35 then Some (Blank, count_while on_line cs)
+    if (c == space) || (c == tab) then Some (Blank, 0)
+    else if c == backslash then joined_at cs
+    else if c == newline then Some (Newline, 0)
+    else if c == hash then Some (Blank, count_while on_line cs)
     else if starts_name c then name_at c cs
-    else if is_digit c || (c == 46) then with_piece (Token Number) (number_at c cs)
-    else if c == 34 then with_piece (Token Str) (close_at true 34 false cs)
-    else if (c == 47) && not division then with_piece (Token Ere) (close_at false 47 false cs)
+    else if is_digit c || (c == point) then with_piece (Token Number) (number_at c cs)
+    else if c == quote then with_piece (Token Str) (close_at true quote false cs)
+    else if (c == slash) && not division then with_piece (Token Ere) (close_at false slash false cs)
     else mark_at c cs
 
 -- what is read from here: the first piece, and so on

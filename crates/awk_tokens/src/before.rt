@@ -90,7 +90,7 @@ impl Before {
         }
     }
 
-    /// Goes on behind a token of this kind.
+    /// Goes on after a token of this kind.
     pub(crate) fn push(&mut self, kind: TokenKind) -> Result<(), AllocError>
         ensures { IfOk result (λ _. (ks : List AnyKind) → Tells self.old ks → Tells self.new (kind ∷ ks)) }
     {

@@ -105,7 +105,7 @@ pub(crate) fn cut<'a>(alloc: Global, script: &'a [u8]) -> Result<Vec<Token<'a>>,
 /// The tokens of a script, each with its kind, its line and its bytes.
 ///
 /// The script is cut from the left into the longest pieces: blanks, comments, newlines and tokens. A slash divides
-/// behind an operand and begins an ERE elsewhere; behind `)` it begins one only where the parenthesis is that of
+/// after an operand and begins an ERE elsewhere; after `)` it begins one only where the parenthesis is that of
 /// `if`, `while` or `for`. A newline is dropped where a statement goes on, and is a `;` elsewhere. A `;` directly
 /// between `}` and `else` or `while` is dropped, and one is put before each `}` that needs it and at the end.
 ///

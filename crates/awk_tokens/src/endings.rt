@@ -60,7 +60,7 @@ pub(crate) fn without_dropped<'a>(
     Ok(kept)
 }
 
-fn inserted_behind<'a>(former: Option<Token<'a>>) -> Token<'a>
+fn inserted_after<'a>(former: Option<Token<'a>>) -> Token<'a>
     ensures { spelled result ≡ inserted (option_map spelled former.entry) }
 {
     Token {
@@ -102,14 +102,14 @@ pub(crate) fn with_inserted<'a>(
     let mut rest = tokens;
     while let [token, after @ ..] = rest {
         if closes_brace(token.kind) && needs_end(former) {
-            ended.push(inserted_behind(former))?;
+            ended.push(inserted_after(former))?;
         }
         ended.push(*token)?;
         former = Some(*token);
         rest = after;
     }
     if stays_open(former) {
-        ended.push(inserted_behind(former))?;
+        ended.push(inserted_after(former))?;
     }
     Ok(ended)
 }

@@ -70,7 +70,7 @@ fn fraction(bytes: &[u8]) -> usize
     }
 }
 
-/// How many bytes of the longest number stand behind its first byte.
+/// How many bytes of the longest number stand after its first byte.
 #[tactic(auto, unfolding(crate::specs::Reading::number_at))]
 pub(crate) fn number(bytes: &[u8]) -> Option<usize>
     ensures { result ≡ number_of bytes.now }
