@@ -17,9 +17,9 @@ ghost use Rattle.lower_model.specs.Places.{memory_of};
 ghost use Rattle.wasm_types.specs.Typing.{ModuleOk};
 ghost use Rattle.agree_modules.specs.Agreement.{Agreement};
 
+use agree_modules::laws::modules_agree;
 use mid_code::laws::same_meaning;
 use mid_sorted::laws::parsed_scripts_are_placed;
-use agree_modules::laws::modules_agree;
 
 /// Every script that has a tree, and whose names are not refused, agrees with the module of its code, over every host of the table: in every job and
 /// whatever the outside is, what one does the other does, faults and too many nested calls included; the module never traps, and its work for each

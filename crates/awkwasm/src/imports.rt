@@ -5,9 +5,9 @@ ghost use Rattle.run_imports.specs.Calls.{AsksOnly, HasImports};
 
 use awk_run::{Refusal, RunEnd};
 use host_step::Import;
-use wasm_model::LinkFault;
 use run_imports::{Reads, Unlisted, Writes, imports_of, reads_of, writes_of};
 use std::alloc::{AllocError, Global};
+use wasm_model::LinkFault;
 
 /// The imports of a module; else what is told of it, as where it is run.
 pub(crate) fn listed(alloc: Global, bytes: &[u8]) -> Result<Vec<Import>, RunEnd>

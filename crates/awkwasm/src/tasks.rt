@@ -15,9 +15,7 @@ use crate::job::{environment_of, job_on};
 use crate::undone::{Undone, undone_status, undone_text};
 use awk_run::{CompileFault, Refusal, RunEnd, compile, run_module, run_script};
 use command_line::{Request, Task};
-use world_fenced::{FencedWorld, FileFence};
 use host_calls::NamedText;
-use world_os::OsWorld;
 use run_report::{FileFault, fault_text, no_memory_text, status_of, topic_named};
 use std::alloc::Global;
 use std::hash::RandomState;
@@ -25,6 +23,8 @@ use std::io::{Print, Read};
 use std::rt::Files;
 use std::{fs, io};
 use world_core::World;
+use world_fenced::{FencedWorld, FileFence};
+use world_os::OsWorld;
 
 /// How many bytes of a script's file are read at most: one past the greatest length of a script.
 const SCRIPT_LIMIT: u64 = (1 << 20) + 1;

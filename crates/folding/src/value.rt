@@ -8,9 +8,9 @@ ghost use Rattle.folding.specs.View.{numeral};
 ghost use Rattle.mid_program.specs.MidMeaning.{arithmetic_of};
 ghost use Rattle.mid_program.specs.ViewCode.{view, views};
 
-use sem_primitives::Primitive;
 use awk_values::{Fault, add, div, int_div, mul, pow, rem, sub};
 use mid_program::{Arithmetic, Code, Operand, Operation};
+use sem_primitives::Primitive;
 
 /// The greatest magnitude of a number.
 const LIMIT: u64 = 1 << 53;

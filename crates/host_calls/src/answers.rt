@@ -9,10 +9,10 @@ ghost use Rattle.host_table_calls.specs.Calls.{import_of_table};
 
 use crate::dispatch::{Call, call_of};
 use crate::host::Host;
-use sem_primitives::Primitive;
 use host_step::Import;
-use host_values::Refusal;
 use host_table_calls::{TableCall, refusal, refuses, told};
+use host_values::Refusal;
+use sem_primitives::Primitive;
 use wasm_model::HostAnswer;
 use wasm_store::Word;
 use world_core::World;

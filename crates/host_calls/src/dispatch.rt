@@ -3,12 +3,12 @@ ghost use Rattle.std.specs.Prelude.{◌≡◌};
 ghost use Rattle.host_calls.specs.Calls.{import_of};
 ghost use Rattle.host_step.specs.declared.import.Import.{Import};
 
-use sem_primitives::Primitive;
 use host_inputs::{Keep, MainRead};
 use host_step::{Import, Listing};
+use host_table_calls::TableCall;
 use host_texts::TextPrimitive;
 use host_values::ValuePrimitive;
-use host_table_calls::TableCall;
+use sem_primitives::Primitive;
 
 /// A call, by the family that answers it.
 #[derive(Clone, Copy, Debug, PartialEq, Eq, Drop)]

@@ -10,8 +10,8 @@ ghost use Rattle.host_table_calls.specs.Calls.{import_of_table};
 use crate::host::Host;
 use host_inputs::{begin_end, line};
 use host_names::{declare, pending_name, pending_value, start_assign};
-use host_values::Refusal;
 use host_table_calls::TableCall;
+use host_values::Refusal;
 use wasm_store::Word;
 use world_core::World;
 

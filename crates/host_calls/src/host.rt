@@ -5,8 +5,8 @@ ghost use Rattle.host_streams.specs.OpenFiles.{WritersGo};
 ghost use Rattle.std.specs.Coded.{→_prop};
 
 use host_inputs::Input;
-use host_table_calls::Tables;
 use host_links::Links;
+use host_table_calls::Tables;
 use std::alloc::Global;
 use world_core::World;
 

@@ -12,7 +12,7 @@ mod start;
 mod ways;
 
 pub use host::Host;
+pub use host_links::type_of;
 pub use host_names::NamedText;
 pub use host_step::{IMPORTS, Import, Listing};
 pub use host_tables::Job;
-pub use host_links::type_of;

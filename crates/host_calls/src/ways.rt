@@ -6,11 +6,11 @@ ghost use Rattle.host_calls.specs.Forms.{host_form};
 ghost use Rattle.host_step.specs.HostStep.{refuses};
 
 use crate::host::Host;
-use sem_primitives::Primitive;
 use host_step::Import;
+use host_table_calls::TableCall;
 use host_texts::TextPrimitive;
 use host_values::ValuePrimitive;
-use host_table_calls::TableCall;
+use sem_primitives::Primitive;
 use wasm_model::HostAnswer;
 use wasm_store::Word;
 use world_core::World;

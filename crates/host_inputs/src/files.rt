@@ -13,10 +13,10 @@ ghost use Rattle.host_inputs.specs.States.{HoldsInput, with_tables};
 
 use crate::input::{Input, Keep};
 use crate::main_record::keep;
-use sem_primitives::{InputAnswer, Special};
 use awk_values::{Stop, to_text};
 use host_streams::FileNext;
 use host_texts::Texts;
+use sem_primitives::{InputAnswer, Special};
 use std::alloc::Global;
 use world_core::World;
 

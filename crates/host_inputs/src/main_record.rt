@@ -12,10 +12,10 @@ ghost use Rattle.host_inputs.specs.States.{HoldsInput, with_tables};
 use crate::input::{Given, Input, Keep, MainRead};
 use crate::record::{count_record, set_record};
 use crate::turn::turn;
-use sem_primitives::InputAnswer;
 use awk_values::{Bytes, Fault, Stop, Value};
 use host_streams::Operands;
 use host_texts::Texts;
+use sem_primitives::InputAnswer;
 use std::alloc::Global;
 use world_core::World;
 

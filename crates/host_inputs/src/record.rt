@@ -10,9 +10,9 @@ ghost use Rattle.host_format.specs.Outcomes.{IsStopOf};
 ghost use Rattle.host_texts.specs.States.{specials_of, with_texts};
 ghost use Rattle.host_inputs.specs.Keeps.{KeepsSubstituted};
 
-use sem_primitives::Special;
 use awk_values::{Bytes, Fault, Stop, Value, to_number, to_text};
 use host_texts::Texts;
+use sem_primitives::Special;
 use std::alloc::Global;
 
 /// The greatest number.

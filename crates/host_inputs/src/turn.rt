@@ -15,11 +15,11 @@ ghost use Rattle.host_inputs.specs.States.{HoldsInput, with_tables};
 
 use crate::input::{Given, Input};
 use crate::record::give;
-use sem_primitives::Special;
 use awk_values::{Bytes, Fault, Stop, Value, to_text};
 use host_names::assign;
 use host_streams::{MainNext, Operands};
 use host_texts::Texts;
+use sem_primitives::Special;
 use std::alloc::Global;
 use world_core::World;
 

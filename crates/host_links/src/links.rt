@@ -5,8 +5,8 @@ ghost use Rattle.host_links.specs.Links.{signature_if};
 ghost use Rattle.wasm_model.specs.Hosts.{found_as};
 ghost use Rattle.wasm_types.specs.View.{signature_of};
 
-use sem_primitives::{Answer, Argument, Sort};
 use host_step::{IMPORTS, Import, imports_in};
+use sem_primitives::{Answer, Argument, Sort};
 use std::alloc::{AllocError, Global};
 use std::marker::Model;
 use wasm_types::{FuncType, ValType};

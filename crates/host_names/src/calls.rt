@@ -12,11 +12,11 @@ ghost use Rattle.host_names.specs.Forms.{left_after, of_all, of_names};
 use crate::making::make_left;
 use crate::names::Names;
 use crate::words::declare_front;
-use sem_primitives::{AssignAnswer, NameKind};
 use awk_values::{Bytes, Stop};
 use host_handles::Handles;
 use host_texts::Texts;
 use host_values::{Refusal, Reply, ends, give};
+use sem_primitives::{AssignAnswer, NameKind};
 use std::alloc::Global;
 use wasm_store::{TrapKind, Word};
 

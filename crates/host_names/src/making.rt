@@ -8,10 +8,10 @@ ghost use Rattle.host_names.specs.Forms.{PendsBy, with_all, with_pending};
 
 use crate::name::{special_named, takes_none};
 use crate::names::Names;
-use sem_primitives::{AssignAnswer, Special};
 use awk_text::unescape;
 use awk_values::{Bytes, Fault, Stop, Value};
 use host_texts::{Texts, put_special};
+use sem_primitives::{AssignAnswer, Special};
 use std::alloc::Global;
 
 /// A special variable takes a text, or a name of the script is to.

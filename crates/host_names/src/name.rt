@@ -4,8 +4,8 @@ ghost use Rattle.sem_primitives.specs.Assignments.{begins_name, continues_name, 
 ghost use Rattle.sem_primitives.specs.Constants.{specials};
 ghost use Rattle.sem_primitives.specs.Texts.{is_empty};
 
-use sem_primitives::Special;
 use awk_tokens::reserved_word;
+use sem_primitives::Special;
 
 /// Whether a name may begin with this byte.
 fn begins_name(byte: u8) -> bool

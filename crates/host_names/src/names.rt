@@ -5,9 +5,9 @@ ghost use Rattle.sem_primitives.specs.SharedState.{Inner};
 ghost use Rattle.host_format.specs.Outcomes.{IsStopOf};
 ghost use Rattle.host_names.specs.Forms.{PendsBy, Takes, announced, left_of, pair_of, with_names, with_pending};
 
-use sem_primitives::NameKind;
 use awk_values::{Bytes, Fault, Stop, Value};
 use indexmap::IndexMap;
+use sem_primitives::NameKind;
 use std::alloc::{AllocError, Global};
 use std::hash::RandomState;
 

@@ -6,8 +6,8 @@ ghost use Rattle.host_names.specs.Words.{declare_front, lent_declare};
 ghost use Rattle.host_step.specs.Arguments.{constant_front, place_front, text_at};
 ghost use Rattle.host_values.specs.Fronts.{lent, owned};
 
-use sem_primitives::NameKind;
 use host_values::ends;
+use sem_primitives::NameKind;
 use wasm_store::{TrapKind, Word};
 
 const UNFIT: TrapKind = TrapKind::BadArgument;

@@ -7,10 +7,10 @@ ghost use Rattle.sem_primitives.specs.SharedState.{Inner};
 ghost use Rattle.host_outputs.specs.Forms.{inner_with};
 ghost use Rattle.host_outputs.specs.Lines.{followed};
 
-use sem_primitives::Special;
 use awk_values::Value;
 use host_texts::Specials;
 use host_values::push_text;
+use sem_primitives::Special;
 use std::alloc::AllocError;
 
 /// Adds the texts of values, another's text in front of each.

@@ -8,9 +8,9 @@ ghost use Rattle.host_streams.specs.Outputs.{IsOf, PutsIs};
 ghost use Rattle.host_streams.specs.Puts.{BeginsBy, PutCounts};
 ghost use Rattle.host_outputs.specs.Calls.{Could, Keeps};
 
-use sem_primitives::Destination;
 use awk_values::{Bytes, Stop, Value, to_text};
 use host_streams::{Streams, Target};
+use sem_primitives::Destination;
 use std::alloc::{AllocError, Global};
 use world_core::World;
 

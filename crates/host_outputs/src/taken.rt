@@ -9,9 +9,9 @@ ghost use Rattle.host_step.specs.HostStep.{last_of};
 ghost use Rattle.host_values.specs.Fronts.{owned};
 ghost use Rattle.host_outputs.specs.Lists.{enough, listed, listing_words};
 
-use sem_primitives::Destination;
 use awk_values::Value;
 use host_values::ends;
+use sem_primitives::Destination;
 use wasm_store::{TrapKind, Word};
 
 const UNFIT: TrapKind = TrapKind::BadArgument;

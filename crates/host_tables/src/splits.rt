@@ -16,11 +16,11 @@ use crate::pieces::split_outcome;
 use crate::words::split_front;
 use awk_values::Bytes;
 use host_arrays::Arrays;
+use host_expressions::Expressions;
 use host_format::Span;
 use host_handles::Handles;
 use host_texts::counted;
 use host_values::Refusal;
-use host_expressions::Expressions;
 use std::alloc::Global;
 use wasm_store::Word;
 

@@ -16,11 +16,11 @@ use crate::reply::{Evaluated, Reply, counted};
 use crate::spent::Spent;
 use crate::texts::Texts;
 use crate::words::{flag_front, value_third};
-use sem_primitives::Special;
 use awk_values::{Fault, Stop, Value};
+use host_expressions::Expressions;
 use host_handles::Handles;
 use host_values::{Refusal, ends, value_after, value_front};
-use host_expressions::Expressions;
+use sem_primitives::Special;
 use std::alloc::{AllocError, Global};
 use wasm_store::{TrapKind, Word};
 

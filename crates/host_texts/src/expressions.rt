@@ -14,9 +14,9 @@ use crate::evaluate::text_value;
 use crate::reply::{Evaluated, Reply};
 use crate::spent::Spent;
 use awk_values::{Fault, Stop, Value};
+use host_expressions::{Expressions, Matcher};
 use host_handles::Handles;
 use host_values::{Refusal, ends, value_after, value_front};
-use host_expressions::{Expressions, Matcher};
 use std::alloc::{AllocError, Global};
 use wasm_store::Word;
 

@@ -11,10 +11,10 @@ ghost use Rattle.host_texts.specs.declared.primitive.TextPrimitive.{TextPrimitiv
 use crate::reply::{Evaluated, Reply};
 use crate::spent::Spent;
 use crate::texts::Texts;
-use sem_primitives::Special;
 use awk_values::{Bytes, Fault, Value};
 use host_handles::Handles;
 use host_values::{Refusal, ends, push_text, text_len, value_after, value_front};
+use sem_primitives::Special;
 use std::alloc::{AllocError, Global};
 use wasm_store::Word;
 

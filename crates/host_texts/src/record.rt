@@ -15,10 +15,10 @@ use crate::reply::{Evaluated, Reply};
 use crate::spent::Spent;
 use crate::texts::Texts;
 use crate::words::special_front;
-use sem_primitives::Special;
 use awk_values::{Fault, Stop, Value, to_number};
 use host_handles::Handles;
 use host_values::{Refusal, ends, number_front, value_front};
+use sem_primitives::Special;
 use std::alloc::{AllocError, Global};
 use wasm_store::Word;
 

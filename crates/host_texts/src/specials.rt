@@ -6,8 +6,8 @@ ghost use Rattle.sem_primitives.specs.declared.constants.Special.{Special as Any
 ghost use Rattle.host_texts.specs.Starts.{with_blanks, with_ends, with_formats, with_text};
 ghost use Rattle.host_texts.specs.States.{specials_of};
 
-use sem_primitives::Special;
 use awk_values::{Bytes, Value};
+use sem_primitives::Special;
 use std::alloc::{AllocError, Global};
 
 /// The values of the special variables, in the order of their numbers (POSIX.1-2017 awk, "Variables and Special Variables"). That of NF is

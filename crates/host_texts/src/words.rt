@@ -6,9 +6,9 @@ ghost use Rattle.sem_primitives.specs.declared.sorts.Constant.{Constant};
 ghost use Rattle.host_step.specs.Arguments.{constant_front};
 ghost use Rattle.host_values.specs.Fronts.{handle_front, lent_handle, owned};
 
-use sem_primitives::Special;
 use awk_values::Value;
 use host_handles::Handles;
+use sem_primitives::Special;
 use wasm_store::{TrapKind, Word};
 
 const UNFIT: TrapKind = TrapKind::BadArgument;

@@ -24,12 +24,12 @@ use crate::storing::{
     array_made, file_asked, keeping_closed, left_over, replaced, sequence_closed, stored_when,
     text_kept,
 };
-use sem_primitives::{Answer, Listed, Primitive, Sort};
 use awk_values::CompareOp;
+use lower_model::Import;
 use lower_pieces::{Form, code_number, compared, converted, either, let_go, truth};
 use mid_program::{Code, Operand, Operation, Slot};
+use sem_primitives::{Answer, Listed, Primitive, Sort};
 use std::alloc::AllocError;
-use lower_model::Import;
 use wasm_types::Instr;
 
 #[tactic(auto, unfolding(lower_model::specs::Emission::emitted))]

@@ -9,9 +9,9 @@ ghost use Rattle.lower_pieces.specs.Forms.{view_form};
 ghost use Rattle.lower_expressions.specs.View.{view_layout};
 
 use crate::layout::Layout;
-use sem_primitives::{Answer, Primitive, Sort};
 use lower_pieces::{Form, ask_row, does};
 use mid_program::{Code, Operand, Operation};
+use sem_primitives::{Answer, Primitive, Sort};
 use std::alloc::AllocError;
 use wasm_types::{Instr, Simple};
 

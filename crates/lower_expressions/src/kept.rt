@@ -5,8 +5,8 @@ ghost use Rattle.lower_pieces.specs.Bounds.{most_places};
 ghost use Rattle.lower_pieces.specs.Forms.{view_form};
 ghost use Rattle.lower_expressions.specs.Keeping.{kept_but_one, kept_more, kept_none};
 
-use sem_primitives::Answer;
 use lower_pieces::Form;
+use sem_primitives::Answer;
 use std::alloc::{AllocError, Global};
 use std::marker::Model;
 

@@ -20,9 +20,9 @@ use crate::layout::Layout;
 use crate::pending::asked;
 use crate::places::text_pushed;
 use crate::slots::{slot_form, slot_read};
-use sem_primitives::{Answer, Primitive, Sort};
 use lower_pieces::{Form, LEAST, ask_row, bound_from, code_number, does, does_all};
 use mid_program::Slot;
+use sem_primitives::{Answer, Primitive, Sort};
 use std::alloc::AllocError;
 use wasm_types::{CvtOp, Instr, Simple};
 

@@ -10,10 +10,10 @@ ghost use Rattle.lower_expressions.specs.View.{view_layout};
 
 use crate::layout::Layout;
 use crate::walks::{all_appended, all_boxed};
-use sem_primitives::{Answer, Destination, Listed};
-use lower_pieces::{Form, ask, does, does_all, kept, kept_value};
-use std::alloc::AllocError;
 use lower_model::{Import, Listing};
+use lower_pieces::{Form, ask, does, does_all, kept, kept_value};
+use sem_primitives::{Answer, Destination, Listed};
+use std::alloc::AllocError;
 use wasm_types::{Instr, Simple};
 
 fn destination_number(to: Destination) -> u32

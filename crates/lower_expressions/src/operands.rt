@@ -14,9 +14,9 @@ ghost use Rattle.lower_expressions.specs.View.{view_layout};
 use crate::layout::Layout;
 use crate::places::array_pushed;
 use crate::walks::all_converted;
-use sem_primitives::{Answer, Argument, Primitive, Sort};
 use lower_pieces::{Form, ask_row, calculated, does, field_checked, kept, moved_out};
 use mid_program::{ArrayName, Code, Operand, Operation};
+use sem_primitives::{Answer, Argument, Primitive, Sort};
 use std::alloc::AllocError;
 use wasm_types::{Instr, Simple};
 

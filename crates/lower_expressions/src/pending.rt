@@ -13,13 +13,13 @@ ghost use Rattle.lower_expressions.specs.View.{view_layout};
 use crate::layout::Layout;
 use crate::places::{global_handle, global_number};
 use crate::slots::text_dropped;
-use sem_primitives::Primitive;
+use lower_model::Import;
 use lower_pieces::{
     Bases, TEXT_BESIDE, again, ask, ask_row, does, does_all, kept_code, moved_out, number_is, when,
 };
 use mid_program::Kind;
+use sem_primitives::Primitive;
 use std::alloc::AllocError;
-use lower_model::Import;
 use wasm_types::{CvtOp, Instr, Simple};
 
 /// Gives a boxed name the value of a temporary.

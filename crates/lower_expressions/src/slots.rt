@@ -14,14 +14,14 @@ ghost use Rattle.lower_expressions.specs.View.{view_layout};
 
 use crate::layout::Layout;
 use crate::places::{global_handle, global_number};
-use sem_primitives::{Answer, Primitive, Sort};
+use lower_model::Import;
 use lower_pieces::{
     Form, MINUS_ONE, TEXT_BESIDE, ask, ask_row, boxed_number, boxed_perhaps, copied_by, does,
     does_all, either, moved_out, number_is, when,
 };
 use mid_program::Slot;
+use sem_primitives::{Answer, Primitive, Sort};
 use std::alloc::AllocError;
-use lower_model::Import;
 use wasm_types::{IRelOp, Instr, Simple, ValType};
 
 /// What a scalar is once it is read.

@@ -18,12 +18,12 @@ ghost use Rattle.lower_expressions.specs.View.{view_layout};
 use crate::layout::Layout;
 use crate::operands::all_pushed;
 use crate::walks::all_converted;
-use sem_primitives::{Answer, Argument, Primitive, Sort};
 use lower_pieces::{
     Bases, Form, ask_row, does, does_all, kept, kept_code, moved_from, moved_out, number_is,
     released, to_value, unused, when,
 };
 use mid_program::{Code, Operand};
+use sem_primitives::{Answer, Argument, Primitive, Sort};
 use std::alloc::AllocError;
 use wasm_types::{ITestOp, Instr, Simple, ValType};
 

@@ -8,9 +8,9 @@ ghost use Rattle.wasm_types.specs.View.{view, views};
 
 use crate::function::Function;
 use crate::imports::{COUNT, IMPORTS};
+use lower_model::Import;
 use std::alloc::{AllocError, Global};
 use std::rc::Rc;
-use lower_model::Import;
 use wasm_types::{Instr, Simple};
 
 /// Notes what an instruction calls, if that is an import.

@@ -2,8 +2,8 @@
 ghost use Rattle.std.specs.Prelude.{◌≡◌};
 ghost use Rattle.lower_model.specs.Imports.{import_name, listing_name, primitive_name};
 
-use sem_primitives::Primitive;
 use lower_model::{Import, Listing};
+use sem_primitives::Primitive;
 
 /// How many imports there are.
 pub(crate) const COUNT: usize = 56;

@@ -17,9 +17,9 @@ use crate::parts::{
     function_forms, globals, import_forms, main_export, memory, memory_for, text_segment,
 };
 use crate::types::{function_types, import_types};
+use lower_model::Import;
 use mid_program::Mid;
 use std::alloc::{AllocError, Global};
-use lower_model::Import;
 use wasm_types::{FuncType, Module};
 
 /// The most bytes of a module.

@@ -17,10 +17,10 @@ ghost use Rattle.wasm_types.specs.declared.module.ExportDesc.TheVariants as desc
 use crate::calls::renumbered;
 use crate::function::Function;
 use crate::imports::import_name;
+use lower_model::Import;
 use mid_program::{Declared, Kind, Mid, Routine};
 use std::alloc::{AllocError, Global};
 use std::rc::Rc;
-use lower_model::Import;
 use wasm_types::{Data, Export, ExportDesc, Func, GlobalType, Instr, Limits, Simple, ValType};
 
 fn import_form(alloc: Global, import: Import, ty: u32) -> Result<wasm_types::Import, AllocError>

@@ -8,10 +8,10 @@ ghost use Rattle.lower_model.specs.Places.{kind_type};
 ghost use Rattle.wasm_types.specs.View.{signature_of};
 
 use crate::function::Function;
-use sem_primitives::{Answer, Argument, Constant, Sort};
-use mid_program::Kind;
-use std::alloc::{AllocError, Global};
 use lower_model::{Import, Listing};
+use mid_program::Kind;
+use sem_primitives::{Answer, Argument, Constant, Sort};
+use std::alloc::{AllocError, Global};
 use wasm_types::{FuncType, ValType};
 
 fn listing_arguments(listing: Listing) -> &'static [Argument]

@@ -8,8 +8,8 @@ ghost use Rattle.lower_model.specs.Places.{arrays_in, room, step_arrays, step_it
 
 use crate::code::counts_in;
 use crate::counts::{Counts, both, inside, later, only, walking};
-use mid_program::{Code, Step};
 use lower_quick::{pair_in, step_jumps, sum_in};
+use mid_program::{Code, Step};
 
 /// One label more where this is so.
 fn more_if(more: bool, counts: Counts) -> Counts

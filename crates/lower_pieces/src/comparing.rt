@@ -16,8 +16,8 @@ use crate::form::Form;
 use crate::handles::moved_out;
 use crate::keeping::kept_code;
 use crate::numbers::zeroed;
-use sem_primitives::{Answer, Primitive, Sort};
 use awk_values::CompareOp;
+use sem_primitives::{Answer, Primitive, Sort};
 use std::alloc::{AllocError, Global};
 use wasm_types::{CvtOp, IBinOp, IRelOp, Instr, Simple, ValType};
 

@@ -6,10 +6,10 @@ ghost use Rattle.lower_model.specs.Statements.{again, block};
 ghost use Rattle.lower_pieces.specs.Emits.{does_all, Emits};
 
 use crate::imports::import_number;
+use lower_model::Import;
 use sem_primitives::Primitive;
 use std::alloc::{AllocError, Global};
 use std::rc::Rc;
-use lower_model::Import;
 use wasm_types::{Instr, Simple};
 
 /// Adds an instruction.

@@ -8,8 +8,8 @@ ghost use Rattle.lower_pieces.specs.Bounds.{most_labels};
 ghost use Rattle.lower_pieces.specs.Emits.{Emits};
 
 use crate::emit::{ask_row, does, does_all, when};
-use sem_primitives::Primitive;
 use awk_values::Fault;
+use sem_primitives::Primitive;
 use std::alloc::{AllocError, Global};
 use wasm_types::{IRelOp, Instr, Simple, ValType};
 

@@ -6,9 +6,9 @@ ghost use Rattle.lower_model.specs.Small.{ask, copied, copied_if_any, emptied, h
 ghost use Rattle.lower_pieces.specs.Emits.{Emits};
 
 use crate::emit::{ask, ask_row, does, does_all, when};
+use lower_model::Import;
 use sem_primitives::Primitive;
 use std::alloc::{AllocError, Global};
-use lower_model::Import;
 use wasm_types::{IRelOp, Instr, Simple, ValType};
 
 /// -1, which stands for a fault where an answer is a word of 32 bits, and for no handle in a local.

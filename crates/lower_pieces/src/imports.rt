@@ -2,8 +2,8 @@
 ghost use Rattle.std.specs.Prelude.{◌≡◌};
 ghost use Rattle.lower_model.specs.Imports.{import_number, listing_number, primitive_number};
 
-use sem_primitives::Primitive;
 use lower_model::{Import, Listing};
+use sem_primitives::Primitive;
 
 /// The number of a primitive among the imports.
 fn primitive_number(primitive: Primitive) -> u32

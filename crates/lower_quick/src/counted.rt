@@ -7,9 +7,9 @@ ghost use Rattle.lower_quick.specs.View.{view_counted};
 ghost use Rattle.lower_model.specs.Quick.{counted_in, field_count, is_count};
 
 use crate::source::name_in;
-use sem_primitives::{Primitive, Special};
 use awk_values::CompareOp;
 use mid_program::{Code, Operand, Operation};
+use sem_primitives::{Primitive, Special};
 
 /// A comparison of a name with how many fields there are.
 #[derive(Clone, Copy, Debug, PartialEq, Eq, Drop)]

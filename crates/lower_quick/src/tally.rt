@@ -10,8 +10,8 @@ use crate::operands::{
     calculated_in, is_bound, let_in, number_of, one_code, three_codes, two_codes,
 };
 use crate::sum::is_sum;
-use sem_primitives::Primitive;
 use mid_program::{Arithmetic, ArrayName, Code, Operand, Operation};
+use sem_primitives::Primitive;
 
 /// A counter: the arrays of the element that is read and of the one that is written, their key, and what is added.
 #[derive(Clone, Copy)]

@@ -9,10 +9,10 @@ ghost use Rattle.lower_pieces.specs.Emits.{Emits};
 ghost use Rattle.lower_expressions.specs.View.{view_layout};
 ghost use Rattle.lower_statements.specs.Parts.{name_made, names_told};
 
-use sem_primitives::{NameKind, Primitive};
-use lower_pieces::{ask_row, does, does_all, kept_number};
 use lower_expressions::{Layout, asked, global_handle, text_pushed};
+use lower_pieces::{ask_row, does, does_all, kept_number};
 use mid_program::Kind;
+use sem_primitives::{NameKind, Primitive};
 use std::alloc::AllocError;
 use wasm_types::{Instr, Simple};
 

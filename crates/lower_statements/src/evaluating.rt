@@ -18,10 +18,10 @@ use crate::leaving::{WAY_EXIT, left_by};
 use crate::quick::{all_unsure, sum_code};
 use crate::summing::{anyway_code, updated};
 use crate::tallying::tallied;
-use lower_pieces::{Bases, Form, does_all, either, moved_out, to_number, to_value, truth};
 use lower_expressions::{At, Kept, Layout, expression, left_over};
-use mid_program::Code;
+use lower_pieces::{Bases, Form, does_all, either, moved_out, to_number, to_value, truth};
 use lower_quick::{Sum, sum_in, sum_names, tally_in, update_in};
+use mid_program::Code;
 use std::alloc::{AllocError, Global};
 use wasm_types::{Instr, Simple};
 

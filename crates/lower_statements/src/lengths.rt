@@ -12,8 +12,8 @@ ghost use Rattle.lower_statements.specs.StepFits.{PartsFit, StepFits, StepsFit};
 use crate::around::OUTERMOST;
 use crate::steps::inner;
 use lower_expressions::Layout;
-use mid_program::Step;
 use lower_modules::least_in;
+use mid_program::Step;
 use std::alloc::AllocError;
 
 /// The most bytes of a module.

@@ -12,14 +12,14 @@ ghost use Rattle.lower_expressions.specs.View.{view_layout};
 ghost use Rattle.lower_statements.specs.Parts.{iterator_made, key_asked, rounds, tested_on};
 
 use crate::evaluating::{dropped, tested};
-use sem_primitives::{Answer, Primitive, Sort};
+use lower_expressions::{At, Kept, Layout, array_pushed};
+use lower_model::Import;
 use lower_pieces::{
     Bases, Form, again, ask, ask_row, block, does, does_all, emptied, let_go, moved_out,
 };
-use lower_expressions::{At, Kept, Layout, array_pushed};
 use mid_program::{ArrayName, Code};
+use sem_primitives::{Answer, Primitive, Sort};
 use std::alloc::{AllocError, Global};
-use lower_model::Import;
 use wasm_types::{IRelOp, Instr, Simple, ValType};
 
 /// -2, which an iterator answers past the last key.

@@ -17,11 +17,11 @@ use crate::holding::{all_emptied, swept};
 use crate::leaving::WAY_NEXT;
 use crate::records::{goes_on, items_code, records_read};
 use crate::steps::statements;
-use sem_primitives::Primitive;
 use awk_values::Fault;
-use lower_pieces::{ask_row, block, does, does_all, fail_if};
 use lower_expressions::Layout;
+use lower_pieces::{ask_row, block, does, does_all, fail_if};
 use mid_program::Step;
+use sem_primitives::Primitive;
 use std::alloc::AllocError;
 use wasm_types::{CvtOp, IRelOp, ITestOp, Instr, Simple, ValType};
 

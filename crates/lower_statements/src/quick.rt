@@ -10,11 +10,11 @@ ghost use Rattle.lower_quick.specs.View.{view_counted, view_pair, view_source, v
 ghost use Rattle.lower_statements.specs.Parts.{past, unnumbered};
 ghost use Rattle.lower_statements.specs.QuickFits.{NamesFit, PairFits, SourceFits, SumFits};
 
-use sem_primitives::{Primitive, Special};
-use lower_pieces::{TEXT_BESIDE, ask_row, comparison_number, does, does_all, relation};
 use lower_expressions::{Layout, global_number};
-use mid_program::Arithmetic;
+use lower_pieces::{TEXT_BESIDE, ask_row, comparison_number, does, does_all, relation};
 use lower_quick::{Counted, Pair, Source, Sum, Within, contrary};
+use mid_program::Arithmetic;
+use sem_primitives::{Primitive, Special};
 use std::alloc::AllocError;
 use wasm_types::{IBinOp, IRelOp, ITestOp, Instr, Simple, ValType};
 

@@ -12,10 +12,10 @@ use crate::around::OUTERMOST;
 use crate::holding::left_swept;
 use crate::leaving::{WAY_NEXT, WAY_NONE};
 use crate::steps::statements;
-use sem_primitives::Primitive;
-use lower_pieces::{Bases, again, ask_row, block, does, does_all, kept_code, number_is, when};
 use lower_expressions::{Layout, pending_code};
+use lower_pieces::{Bases, again, ask_row, block, does, does_all, kept_code, number_is, when};
 use mid_program::Step;
+use sem_primitives::Primitive;
 use std::alloc::AllocError;
 use wasm_types::{IRelOp, Instr, Simple, ValType};
 

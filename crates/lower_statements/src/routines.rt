@@ -13,12 +13,12 @@ ghost use Rattle.lower_statements.specs.StepFits.{StepsFit};
 use crate::around::OUTERMOST;
 use crate::holding::{all_emptied, swept};
 use crate::steps::statements;
-use sem_primitives::Primitive;
-use lower_pieces::{ask, ask_row, block, does};
 use lower_expressions::Layout;
-use mid_program::{Kind, Step};
-use std::alloc::AllocError;
 use lower_model::Import;
+use lower_pieces::{ask, ask_row, block, does};
+use mid_program::{Kind, Step};
+use sem_primitives::Primitive;
+use std::alloc::AllocError;
 use wasm_types::{Instr, Simple};
 
 /// Drops the value of a parameter.

@@ -16,11 +16,11 @@ ghost use Rattle.wasm_types.specs.View.{view_module};
 use crate::lengths::{MOST_BYTES, main_length};
 use crate::parts::main_code;
 use crate::routines::routine_code;
-use lower_pieces::Bases;
-use lower_needs::{Needs, local_types, main_needs, routine_needs, steps_labels};
 use lower_expressions::{Layout, Tables};
-use mid_program::{Mid, Routine};
 use lower_modules::{EmitFault, Function, module_for};
+use lower_needs::{Needs, local_types, main_needs, routine_needs, steps_labels};
+use lower_pieces::Bases;
+use mid_program::{Mid, Routine};
 use std::alloc::Global;
 use wasm_types::Module;
 

@@ -18,10 +18,10 @@ use crate::evaluating::{done, exit_with, returned, tested};
 use crate::leaving::{WAY_EXIT, WAY_NEXT, left_by, marked};
 use crate::loops::{iterator_left, iterator_made, key_stored, rounds, tested_on};
 use crate::testing::{left_unless, left_unless_pair};
-use lower_pieces::{block, does, either};
 use lower_expressions::Layout;
-use mid_program::{ArrayName, Code, Step};
+use lower_pieces::{block, does, either};
 use lower_quick::{is_nothing, pair_in, step_jumps};
+use mid_program::{ArrayName, Code, Step};
 use std::alloc::AllocError;
 use wasm_types::{Instr, Simple};
 

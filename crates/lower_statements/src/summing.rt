@@ -15,13 +15,13 @@ ghost use Rattle.lower_statements.specs.QuickFits.{SourceFits, SumFits};
 
 use crate::evaluating::answered;
 use crate::quick::sum_op;
-use sem_primitives::{Answer, Sort};
 use awk_values::Fault;
+use lower_expressions::{Layout, global_handle, global_number, text_dropped};
 use lower_pieces::{
     Form, TEXT_BESIDE, copied_by, does, does_all, either, fail_if, number_is, to_number, when,
 };
-use lower_expressions::{Layout, global_handle, global_number, text_dropped};
 use lower_quick::{Source, Sum, Update};
+use sem_primitives::{Answer, Sort};
 use std::alloc::AllocError;
 use wasm_types::{IBinOp, IRelOp, Instr, Simple, ValType};
 

@@ -15,11 +15,11 @@ ghost use Rattle.lower_statements.specs.QuickFits.{TallyFits};
 use crate::evaluating::at_first;
 use crate::quick::sum_op;
 use crate::summing::sum_kept;
-use sem_primitives::Primitive;
-use lower_pieces::{Form, ask_row, does, does_all, kept_number, moved_out, to_number, to_value};
 use lower_expressions::{At, Kept, Layout, array_pushed, expression};
-use mid_program::ArrayName;
+use lower_pieces::{Form, ask_row, does, does_all, kept_number, moved_out, to_number, to_value};
 use lower_quick::Tally;
+use mid_program::ArrayName;
+use sem_primitives::Primitive;
 use std::alloc::AllocError;
 use wasm_types::{Instr, Simple};
 

@@ -15,10 +15,10 @@ ghost use Rattle.lower_statements.specs.StepFits.{TestFits};
 
 use crate::evaluating::tested;
 use crate::quick::{all_unsure, counted_code, pair_code, unnumbered, unsure};
-use lower_pieces::{does_all, either, when};
 use lower_expressions::Layout;
-use mid_program::Code;
+use lower_pieces::{does_all, either, when};
 use lower_quick::{Counted, Pair, Within, counted_in, pair_in, pair_names, test_within};
+use mid_program::Code;
 use std::alloc::AllocError;
 use wasm_types::{ITestOp, Instr, Simple, ValType};
 

@@ -8,9 +8,9 @@ ghost use Rattle.mid_program.specs.ViewCode.{view, view_slot, views};
 ghost use Rattle.mid_code.specs.ViewNames.{view_variable};
 
 use crate::names::Variable;
-use sem_primitives::{Listed, Primitive, Sort, Special};
 use awk_values::CompareOp;
 use mid_program::{Code, Operand, Operation, Slot};
+use sem_primitives::{Listed, Primitive, Sort, Special};
 use std::alloc::{AllocError, Global};
 
 pub(crate) fn applied(operation: Operation, operands: Vec<Operand>) -> Code

@@ -23,8 +23,8 @@ use crate::parts::{
 use crate::peek::{bare_name, ere_in, is_ere, is_match, is_quotient};
 use crate::scope::Scope;
 use awk_grammar::{BinaryOp, Builtin, Expr, StepOp};
-use sem_primitives::{Listed, Primitive, Sort};
 use mid_program::{Arithmetic, Code, Operand};
+use sem_primitives::{Listed, Primitive, Sort};
 use std::alloc::AllocError;
 
 /// The code of an expression.

@@ -19,8 +19,8 @@ use crate::statement::{
     block, boxed, chosen, done_where, evaluated, in_turn, nothing, push_step, steps,
 };
 use awk_grammar::{Expr, Item, Pattern, Stmt};
-use sem_primitives::{Destination, Listed};
 use mid_program::{Code, Operand, Step};
+use sem_primitives::{Destination, Listed};
 use std::alloc::{AllocError, Global};
 
 /// The code of an action.

@@ -7,8 +7,8 @@ ghost use Rattle.sem_scripts.specs.Names.{arrays_before, function_number, kind_a
 ghost use Rattle.mid_code.specs.ViewNames.{array_numbers, function_from, global_number, place_found, place_from, plain_special, script_of};
 
 use awk_resolve::{FunctionNames, NameKind, Resolved};
-use sem_primitives::Special;
 use indexmap::IndexMap;
+use sem_primitives::Special;
 use std::alloc::{AllocError, Global};
 
 /// What a name stands for that is used as a scalar.

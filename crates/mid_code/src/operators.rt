@@ -10,10 +10,10 @@ ghost use Rattle.mid_program.specs.ViewCode.{view};
 
 use crate::build::{binary, boxed, chosen, compared, number, truth, unary, untruth};
 use awk_grammar::{BinaryOp, UnaryOp};
-use sem_primitives::{Primitive, Sort};
 use awk_text::number_of;
 use awk_values::CompareOp;
 use mid_program::{Arithmetic, Code, Operation};
+use sem_primitives::{Primitive, Sort};
 use std::alloc::{AllocError, Global};
 
 /// The number of a constant; constants of a script are in range, and for others it is 0.

@@ -30,9 +30,9 @@ use crate::target::{
 };
 use awk_grammar::{AssignOp, Builtin, Expr, StepOp};
 use awk_resolve::NameKind;
-use sem_primitives::{Primitive, Special};
 use awk_text::string_text;
 use mid_program::{ArrayName, Code, Operand, Operation};
+use sem_primitives::{Primitive, Special};
 use std::alloc::{AllocError, Global};
 
 /// A string.

@@ -18,8 +18,8 @@ use crate::expression::{code, key, push_operands};
 use crate::parts::{host_array, host_whole};
 use crate::scope::Scope;
 use awk_grammar::{Expr, Jump, Leaving, PrintArgs, PrintTarget, PrintWord, SimpleStmt, Stmt};
-use sem_primitives::{Destination, Listed, Primitive};
 use mid_program::{ArrayName, Code, Operand, Operation, Step};
+use sem_primitives::{Destination, Listed, Primitive};
 use std::alloc::{AllocError, Global};
 
 /// Where a print statement writes to.

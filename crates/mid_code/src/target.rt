@@ -14,8 +14,8 @@ use crate::build::{
 use crate::names::Variable;
 use crate::scope::Scope;
 use awk_grammar::{AssignOp, Expr, StepOp};
-use sem_primitives::Primitive;
 use mid_program::{Arithmetic, ArrayName, Code, Operation};
+use sem_primitives::Primitive;
 use std::alloc::{AllocError, Global};
 
 /// What takes a value, once its key or its field's number is kept.

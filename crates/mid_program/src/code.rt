@@ -1,8 +1,8 @@
 //! The code of an expression.
 
 use crate::mid::Operation;
-use sem_primitives::{Listed, Sort};
 use awk_values::CompareOp;
+use sem_primitives::{Listed, Sort};
 
 /// Where a scalar is kept: a global by its number, or a parameter by its place; and whether it is unboxed, which is kept as a number.
 #[derive(Clone, Copy, Debug, PartialEq, Eq, Drop)]

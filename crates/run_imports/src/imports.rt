@@ -8,8 +8,8 @@ ghost use Rattle.wasm_types.specs.Typing.{typed_in};
 ghost use Rattle.wasm_types.specs.View.{signature_of, view_import, view_module};
 
 use crate::powers::Writes;
-use host_step::Import;
 use host_links::Links;
+use host_step::Import;
 use module_decoder::{DecodeFault, decode};
 use module_validator::{InvalidFault, ValidModule, validate};
 use std::alloc::Global;

@@ -9,9 +9,9 @@ use awk_resolve::ResolveFault;
 use awk_run::{CompileFault, Refusal};
 use awk_tokens::{LeftOut, TokenFault};
 use ere_syntax::EreFault;
-use wasm_model::LinkFault;
 use module_decoder::DecodeFault;
 use module_validator::InvalidFault;
+use wasm_model::LinkFault;
 use wasm_store::TrapKind;
 
 fn token_words(fault: &TokenFault) -> Told<'_>

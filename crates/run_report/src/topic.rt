@@ -11,9 +11,9 @@ use awk_run::{CompileFault, Refusal, RunEnd};
 use awk_tokens::TokenFault;
 use awk_values::Fault;
 use ere_syntax::EreFault;
-use wasm_model::LinkFault;
 use module_decoder::DecodeFault;
 use module_validator::InvalidFault;
+use wasm_model::LinkFault;
 use wasm_store::TrapKind;
 
 /// Why a script is refused. Of an expression that is refused the name is that of a fault.

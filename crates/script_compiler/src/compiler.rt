@@ -7,21 +7,21 @@ ghost use Rattle.wasm_types.specs.ModuleGrammar.{IsModule};
 ghost use Rattle.script_compiler.specs.Compiled.{IsCompiled};
 ghost use Rattle.script_compiler.specs.Refusals.{HasNoBytes, IsNotCompiled};
 
-use agree_sizes::laws::code_has_bytes;
-use lower_expressions::Tables;
 use agree_job_words::laws::quiet_by_the_job;
-use mid_program::Mid;
 use agree_modules::laws::modules_agree;
-use lower_modules::EmitFault;
-use module_writer::{WriteFault, write};
-use mid_number_names::laws::names_of_numbers_are_unboxed;
-use agree_quiet::laws::statements_are_quiet;
 use agree_places::laws::{few_parameters, modules_run, nothing_kept, statements_have_places};
-use script_code::{CompileFault, code_of};
+use agree_quiet::laws::statements_are_quiet;
+use agree_sizes::laws::code_has_bytes;
 use agree_spots::laws::statements_are_passed;
-use lower_statements::module;
-use std::alloc::Global;
 use agree_typed::laws::{links, typed};
+use lower_expressions::Tables;
+use lower_modules::EmitFault;
+use lower_statements::module;
+use mid_number_names::laws::names_of_numbers_are_unboxed;
+use mid_program::Mid;
+use module_writer::{WriteFault, write};
+use script_code::{CompileFault, code_of};
+use std::alloc::Global;
 
 /// The bytes of the module of some code.
 fn bytes_of(alloc: Global, mid: &Mid) -> Result<Vec<u8>, CompileFault>

@@ -1,8 +1,8 @@
 //! Real files.
-use world_os::OsWorld;
 use std::test::Fail;
 use std::{fs, io};
 use world_core::{World, WorldFault};
+use world_os::OsWorld;
 
 const NAME: &str = "world_os.txt";
 

@@ -3,9 +3,9 @@ ghost use Rattle.std.specs.Prelude.{◌≡◌};
 ghost use Rattle.test_machine.specs.Small.{answers, gives, takes};
 ghost use Rattle.wasm_types.specs.View.{signature_of};
 
-use wasm_model::{HostAnswer, HostCalls};
 use std::alloc::{AllocError, Global};
 use std::marker::Model;
+use wasm_model::{HostAnswer, HostCalls};
 use wasm_store::{Memory, TrapKind, Word};
 use wasm_types::{FuncType, ValType};
 

@@ -1,8 +1,8 @@
 //! Rows that are run behind a fence.
 use crate::outside::RowWorld;
 use crate::row::Row;
-use world_fenced::{FencedWorld, FileFence};
 use std::alloc::{AllocError, Global};
+use world_fenced::{FencedWorld, FileFence};
 
 /// The operands of a row, as words; one that is not UTF-8 is empty.
 pub(crate) fn operands_of(alloc: Global, row: &Row) -> Result<Vec<&str>, AllocError> {

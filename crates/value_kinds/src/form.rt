@@ -7,8 +7,8 @@ ghost use Rattle.mid_program.specs.ViewCode.{view_slot};
 ghost use Rattle.value_kinds.specs.Lanes.{is_plain};
 ghost use Rattle.value_kinds.specs.View.{view_form};
 
-use sem_primitives::{Answer, Sort};
 use mid_program::{Operation, Slot};
+use sem_primitives::{Answer, Sort};
 
 /// What is there once code is evaluated.
 #[derive(Clone, Copy, Drop)]

@@ -8,8 +8,8 @@ ghost use Rattle.value_kinds.specs.Walks.{form_in, kept_too, walked, walked_each
 
 use crate::form::{Form, answer_by};
 use crate::walk::Walk;
-use sem_primitives::{Answer, Primitive, Sort};
 use mid_program::{Code, Operand};
+use sem_primitives::{Answer, Primitive, Sort};
 use std::alloc::AllocError;
 
 /// Marks what code stores, and answers the code's form.

@@ -10,8 +10,8 @@ ghost use Rattle.value_kinds.specs.Walks.{after, walked_step, walked_steps};
 use crate::form::Form;
 use crate::marks::{mark_code, mark_under};
 use crate::walk::Walk;
-use sem_primitives::{Answer, Sort};
 use mid_program::{Code, Step};
+use sem_primitives::{Answer, Sort};
 use std::alloc::{AllocError, Global};
 use std::mem;
 

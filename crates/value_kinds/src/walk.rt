@@ -11,8 +11,8 @@ ghost use Rattle.value_kinds.specs.Walks.{after, kept_too, last_let_go};
 
 use crate::form::Form;
 use crate::names::Lanes;
-use sem_primitives::Answer;
 use mid_program::{Kind, Slot};
+use sem_primitives::Answer;
 use std::alloc::AllocError;
 
 /// The walk over the code of a function.

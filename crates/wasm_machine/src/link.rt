@@ -12,11 +12,11 @@ ghost use Rattle.wasm_types.specs.Typing.{callee_in, typed_in};
 ghost use Rattle.wasm_types.specs.View.{signature_of, view_data, view_elem, view_export, view_import, view_module, views};
 
 use crate::program::{callee, typed};
+use std::alloc::{AllocError, Global};
 use wasm_frames::Frames;
 use wasm_loader::Code;
 use wasm_model::{HostCalls, LinkFault};
 use wasm_states::State;
-use std::alloc::{AllocError, Global};
 use wasm_store::{Globals, Memory, Table, Word};
 use wasm_types::{
     Data, Elem, Export, ExportDesc, Func, FuncType, Global as ModuleGlobal, Import, Instr, Limits,

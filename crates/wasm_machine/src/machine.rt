@@ -9,11 +9,11 @@ ghost use Rattle.wasm_types.specs.View.{view_module};
 use crate::link::{codes_of, first_state, link};
 use crate::program::Program;
 use crate::run::run;
-use wasm_model::{End, HostCalls, LinkFault, MachineEnd, RunEnd};
-use wasm_states::State;
 use module_validator::ValidModule;
 use std::alloc::Global;
 use std::marker::Model;
+use wasm_model::{End, HostCalls, LinkFault, MachineEnd, RunEnd};
+use wasm_states::State;
 use wasm_store::{TrapKind, Word};
 
 /// What a machine tells of a run's end.
