@@ -16,13 +16,13 @@ use Rattle.sem_scripts.specs.Names.{ArrayName}
 use Rattle.mid_program.specs.Mid.{Kind, Boxed, Unboxed, Many, Code, Let, Step, Eval, Block as Steps_, If as Either, Loop, Each, Break, Continue, Next, Exit, ExitWith, Return, Mark, Steps, NoStep, Then as AndThen, Program, a_value, form_of, parameters_at}
 use Rattle.mid_program.specs.Sorted.{Context, all_sorted, calls_of, context_of, fits, is_array_place, is_dropped, is_kept, is_tested, keeps_well, sorted, step_sorted, steps_sorted, stores_well, test_sorted}
 use Rattle.lower_model.specs.Cells.{cell_at}
-use Rattle.lower_model.specs.Emission.{Layout, asked, tested}
+use Rattle.lower_model.specs.Emission.{Layout, asked, dropped, tested}
 use Rattle.lower_model.specs.Machine.{zeros}
 use Rattle.wasm_types.specs.declared.types.ValType.{ValType}
 use Rattle.lower_model.specs.Places.{Bases, answer_local, array_local, handle_local, handle_types, iterator_local, local_types, number_global, number_local, status_global, temporary_types, way_global}
-use Rattle.lower_model.specs.Quick.{Within, test_within, Source, Named, Constant, joined, all_unsure, Sum, sum_names, sum_op, sum_in, Update, update_in, Tally, tally_in, Counted, counted_in, Pair, pair_names, pair_in, step_jumps, is_nothing}
+use Rattle.lower_model.specs.Quick.{Within, test_within, Source, Named, Constant, joined, all_unsure, Sum, sum_names, sum_op, sum_in, Update, update_in, Tally, tally_in, Remainder, remainder_in, remainder_names, multiplied, Counted, counted_in, Pair, pair_names, pair_in, step_jumps, is_nothing}
 use Rattle.lower_model.specs.Small.{ask_row, does, either, moved_out}
-use Rattle.lower_model.specs.Statements.{again, left_by, pair_left, summed, way_exit, way_next, name_read, source_pushed, name_numbered, source_numbered, source_taken, sum_kept, sum_taken, summed_anyway, element_numbered, element_given, barely_dropped, plainly_dropped, quickly_dropped, left_unless_counted, left_unless_pair, left_unless, all_emptied, arrays_emptied, arrays_swept, block, first_part, goes_on, has_functions, iterator_left, iterators_emptied, iterators_swept, key_stored, last_part, left_swept, main_body, names_declared, names_made, parameters_dropped, part_done, record_done, records_read, routine_body, routines_declared, step_emitted, steps_emitted, swept, temporaries_emptied, temporaries_swept}
+use Rattle.lower_model.specs.Statements.{again, left_by, pair_left, summed, way_exit, way_next, name_read, source_pushed, name_numbered, source_numbered, source_taken, sum_kept, sum_taken, summed_anyway, element_numbered, element_given, remainder_taken, remainder_dropped, barely_dropped, plainly_dropped, quickly_dropped, left_unless_counted, left_unless_pair, left_unless, all_emptied, arrays_emptied, arrays_swept, block, first_part, goes_on, has_functions, iterator_left, iterators_emptied, iterators_swept, key_stored, last_part, left_swept, main_body, names_declared, names_made, parameters_dropped, part_done, record_done, records_read, routine_body, routines_declared, step_emitted, steps_emitted, swept, temporaries_emptied, temporaries_swept}
 use Rattle.lower_model.proofs.Tallies.{Shape, Updating, Following, Leading, tally_code, tally_is, tally_sorted}
 use Rattle.lower_model.proofs.Updating.{added_code, added_is}
 use Rattle.agree_job_words.specs.Naming.{is_argv, names_argv, step_names, steps_name}
@@ -145,12 +145,27 @@ module _ (tells : Bool) (y : Layout) (sizes : ℕ → Option ℕ) (whole : Progr
         stored : So e (does (LocalGet (number_local b t)) (does (GlobalSet (number_global y.ranges i)) k))
         stored = record { so = λ A. (refl, r.so A) }
 
+  -- a remainder of the number on the stack goes to a name
+  multiplied_spares : {e : Bool} {k : Instructions} (f : Option ℤ) (A : Tags) → At e k (true ∷ A) → At e (multiplied f k) (true ∷ A)
+  multiplied_spares None A r = r
+  multiplied_spares (Some z) A r = r
+
   module _ {e : Bool} {k : Instructions} (r : So e k) where
     anyway_spares : (x : Sum) (d : ℕ) → So e (summed_anyway y x d k)
     anyway_spares x d = numbered_spares (numbered_spares (taken_spares (taken_spares (sum_spares r (sum_op x.op) x.target zero d) x.right 1) x.left zero) x.right 1 d) x.left zero d
 
+    remainder_spares : (o : Option Remainder) (s : Code) (d : ℕ) → sorted c [] s ≡ true → names_argv s ≡ false → So e (remainder_dropped y o s d k)
+    remainder_spares None s d o q = dropped_spares tells y sizes c sized same r [] [] s zero zero d none_kept o q
+    remainder_spares (Some x) s d o q = all_spares both (remainder_names x) _ _
+      where
+        slow : So false (dropped y [] [] s zero zero (suc d) Done)
+        slow = dropped_spares tells y sizes c sized same done [] [] s zero zero (suc d) none_kept o q
+
+        both : So e (either (dropped y [] [] s zero zero (suc d) Done) (remainder_taken y x Done) k)
+        both = record { so = λ A. (slow.so [], ((true, (λ z. numbered tells y sizes x.multiple.name), multiplied_spares x.multiple.factor _ (refl, tt)), r.so [])) }
+
     barely_spares : (o : Option Tally) (s : Code) (d : ℕ) → tally_in s ≡ o → sorted c [] s ≡ true → names_argv s ≡ false → So e (barely_dropped y o s d k)
-    barely_spares None s d h o q = dropped_spares tells y sizes c sized same r [] [] s zero zero d none_kept o q
+    barely_spares None s d h o q = remainder_spares (remainder_in s) s d o q
     barely_spares (Some x) s d h o q =
         let i = tally_is s x h in
         let t = tally_sorted whole own i.shape x i.added (subst (λ z. sorted c [] z ≡ true) i.code o) in

@@ -13,9 +13,9 @@ use Rattle.lower_model.specs.Boundaries.{is_nop, nops_in, nops_of, step_places, 
 use Rattle.lower_model.specs.Emission.{Layout, tested}
 use Rattle.lower_model.specs.Functions.{layout_of, main_bases, main_callee, routine_bases, routine_callee}
 use Rattle.lower_model.specs.Places.{Bases, answer_local}
-use Rattle.lower_model.specs.Quick.{Within, test_within, Source, Named, Constant, joined, all_unsure, Sum, sum_names, sum_op, sum_in, Update, update_in, Tally, tally_in, Counted, counted_in, Pair, pair_names, pair_in, step_jumps, is_nothing}
+use Rattle.lower_model.specs.Quick.{Within, test_within, Source, Named, Constant, joined, all_unsure, Sum, sum_names, sum_op, sum_in, Update, update_in, Tally, tally_in, Remainder, remainder_in, remainder_names, multiplied, Counted, counted_in, Pair, pair_names, pair_in, step_jumps, is_nothing}
 use Rattle.lower_model.specs.Small.{ask_row, does, either}
-use Rattle.lower_model.specs.Statements.{name_read, source_pushed, name_numbered, source_numbered, source_taken, sum_kept, sum_taken, summed_anyway, element_numbered, element_given, barely_dropped, plainly_dropped, quickly_dropped, left_unless_counted, left_unless_pair, left_unless, all_emptied, arrays_emptied, arrays_swept, before_parts, block, first_part, goes_on, has_functions, iterator_left, iterators_emptied, iterators_swept, key_stored, left_by, left_swept, main_body, names_declared, names_made, parameters_dropped, part_done, record_done, records_read, routine_body, routines_declared, started, step_emitted, steps_emitted, swept, temporaries_emptied, temporaries_swept}
+use Rattle.lower_model.specs.Statements.{name_read, source_pushed, name_numbered, source_numbered, source_taken, sum_kept, sum_taken, summed_anyway, element_numbered, element_given, remainder_taken, remainder_dropped, barely_dropped, plainly_dropped, quickly_dropped, left_unless_counted, left_unless_pair, left_unless, all_emptied, arrays_emptied, arrays_swept, before_parts, block, first_part, goes_on, has_functions, iterator_left, iterators_emptied, iterators_swept, key_stored, left_by, left_swept, main_body, names_declared, names_made, parameters_dropped, part_done, record_done, records_read, routine_body, routines_declared, started, step_emitted, steps_emitted, swept, temporaries_emptied, temporaries_swept}
 use Rattle.lower_model.proofs.Tallies.{Shape, Updating, Following, Leading, tally_code, IsAdded, tally_is}
 use Rattle.lower_model.proofs.Updating.{added_is}
 use Rattle.agree_places.specs.Statements.{main_places, main_starts, routine_starts, starts_in, starts_of, step_starts, steps_starts}
@@ -127,9 +127,22 @@ module _ (y : Layout) (asks : Bool) (most : ℕ) where
   given_nops : {k : Instructions} {m : List Instructions} (a : ArrayName) → Nops l k m → Nops l (element_given y a k) m
   given_nops a r = array_nops y asks most a (record { are = r.are; calls = r.calls })
 
+  -- remainders
+
+  multiplied_nops : {k : Instructions} {m : List Instructions} (f : Option ℤ) → Nops l k m → Nops l (multiplied f k) m
+  multiplied_nops None r = r
+  multiplied_nops (Some c) r = plain _ refl (plain _ refl r)
+
+  taken_remainder_nops : {k : Instructions} {m : List Instructions} (q : Remainder) → Nops l k m → Nops l (remainder_taken y q k) m
+  taken_remainder_nops q r = plain _ refl (multiplied_nops q.multiple.factor (plain _ refl (plain _ refl (plain _ refl r))))
+
+  remainder_nops : {k : Instructions} {m : List Instructions} (o : Option Remainder) (e : Code) (d : ℕ) → (asks ≡ true → Few most zero e) → Nops l k m → Nops l (remainder_dropped y o e d k) m
+  remainder_nops None e d lo r = dropped_nops y asks most [] [] e zero zero d lo r
+  remainder_nops (Some q) e d lo r = all_nops (remainder_names q) _ _ (choice (dropped_nops y asks most [] [] e zero zero (suc d) lo none) (taken_remainder_nops q none) r)
+
   module _ {k : Instructions} {m : List Instructions} where
     barely_nops : (o : Option Tally) (e : Code) (d : ℕ) → tally_in e ≡ o → (asks ≡ true → Few most zero e) → Nops l k m → Nops l (barely_dropped y o e d k) m
-    barely_nops None e d h lo r = dropped_nops y asks most [] [] e zero zero d lo r
+    barely_nops None e d h lo r = remainder_nops (remainder_in e) e d lo r
     barely_nops (Some q) e d h lo r =
         let f = form_of [] q.key in
         emitted_nops y asks most false [] [] q.key zero zero d (λ z. (counter_few most e q h (lo z)).0)

@@ -1,17 +1,18 @@
 -- The whole statement, with its place before it and the next statement after it. Where it has a quick way, this calls nothing either: whatever the words of its names are, they are joined and compared, and one of two ways is
 -- taken.
-use Rattle.std.proofs.Common.{◌≡◌, ℕ, zero, suc, Bool, true, false, List, [], ◌∷◌, Option, Some, None, ℤ, refl, ap, ◌∙◌, subst}
+use Rattle.std.proofs.Common.{◌≡◌, ℕ, zero, suc, Bool, true, false, List, [], ◌∷◌, Option, Some, None, ℤ, refl, sym, ap, ◌∙◌, subst}
 use Rattle.wasm_types.specs.Syntax.{Instructions}
 use Rattle.wasm_types.specs.declared.instr.IBinOp.{IBinOp}
 use Rattle.wasm_store.specs.declared.word.Word.{Word}
 use Rattle.wasm_model.specs.Frames.{LabelForm}
 use Rattle.wasm_model.specs.Machines.{Conf, ProgramForm}
+use Rattle.mid_program.specs.declared.mid.Arithmetic.TheVariants as inline
 use Rattle.mid_program.specs.Mid.{Code, Eval, Global, Parameter, Set, Slot, Step, Steps, Then, form_of}
 use Rattle.lower_model.specs.Emission.{Layout, dropped, emitted, all_emitted}
 use Rattle.lower_model.specs.Places.{number_local}
-use Rattle.lower_model.specs.Quick.{Constant, Named, Source, Sum, all_unsure, joined, set_sum, source_in, sum_in, sum_names, sum_of, sum_op}
+use Rattle.lower_model.specs.Quick.{Constant, Named, Remainder, Source, Sum, all_unsure, joined, remainder_in, set_sum, source_in, sum_in, sum_names, sum_of, sum_op}
 use Rattle.lower_model.specs.Small.{text_beside}
-use Rattle.lower_model.specs.Statements.{name_numbered, name_read, quickly_dropped, source_numbered, source_pushed, source_taken, step_emitted, steps_emitted, sum_taken, summed, summed_anyway}
+use Rattle.lower_model.specs.Statements.{name_numbered, name_read, quickly_dropped, remainder_dropped, source_numbered, source_pushed, source_taken, step_emitted, steps_emitted, sum_taken, summed, summed_anyway}
 use Rattle.lower_model.proofs.QuickNames.{near_sum, some_is}
 use Rattle.agree_quiet.specs.Sums.{HasNoText, IsSum, constant, itself, joined as sum_of_two, name}
 use Rattle.agree_quiet.proofs.Flowing.{Flows, arrived, at, binary, branch, compare, const32, const64, ended, get, get_global, nop, set, set_global, tee}
@@ -76,6 +77,20 @@ module _ (m : ProgramForm) (P : Conf → Type 0) (bs : List Bool) (base : Conf) 
   sum_clear (Parameter true i) e s h t p = cc
   sum_clear (Parameter false i) e s h t p = cc
 
+  -- a sum is no remainder
+  no_remainder : (x : Slot) (e : Code) → IsSum NoText e → remainder_in (Set x e) ≡ None
+  no_remainder (Global true i) _ (constant z) = refl
+  no_remainder (Global true i) _ (name x h) = refl
+  no_remainder (Global true i) _ (sum_of_two inline.Plus a f p q r) = refl
+  no_remainder (Global true i) _ (sum_of_two inline.Minus a f p q r) = refl
+  no_remainder (Global true i) _ (sum_of_two inline.Times a f p q r) = refl
+  no_remainder (Global true i) _ (sum_of_two inline.Over a f p q r) = absurd p
+  no_remainder (Global true i) _ (sum_of_two inline.Modulo a f p q r) = absurd p
+  no_remainder (Global true i) _ (sum_of_two inline.Truncated a f p q r) = absurd p
+  no_remainder (Global true i) _ (itself a p) = refl
+  no_remainder (Global false i) e p = refl
+  no_remainder (Parameter u i) e p = refl
+
   numbered_flows : {K : List LabelForm} {k : Instructions} (i t d : ℕ) (L : List Word) → NoText (Global true i) → ((M : List Word) → Flows m P bs base K base.globals M [] k) →
       Flows m P bs base K base.globals L [] (name_numbered y i t d k)
   numbered_flows i t d L h next =
@@ -116,7 +131,7 @@ module _ (m : ProgramForm) (P : Conf → Type 0) (bs : List Bool) (base : Conf) 
 
     quick_flows : {K : List LabelForm} (o : Option Sum) (d : ℕ) (k : Instructions) → sum_in (Set x e) ≡ o → ((gs L : List Word) → Flows m P bs base K gs L [] k) →
         Flows m P bs base K base.globals base.frame.locals [] (quickly_dropped y o (Set x e) d k)
-    quick_flows None d k h next = dropped_flows d k next
+    quick_flows {K = K0} None d k h next = subst (λ (r : Option Remainder). Flows m P bs base K0 base.globals base.frame.locals [] (remainder_dropped y r (Set x e) d k)) (sym (no_remainder x e sum)) (dropped_flows d k next)
     quick_flows (Some s) d k h next =
         all_flows (sum_names s) _ _ (λ v. branch (λ n q z. anyway_flows s (suc d) (sum_clear x e s h target sum) (λ gs L. ended (next gs L))) (λ n q z. summed_flows s (λ gs. ended (next gs _))))
 

@@ -17,12 +17,13 @@ use Rattle.mid_program.specs.Mid.{Kind, Boxed, Unboxed, Many, Global, Code, Do, 
 use Rattle.sem_scripts.specs.Names.{ArrayName}
 use Rattle.lower_model.specs.Emission.{Layout}
 use Rattle.lower_model.specs.Places.{Bases, memory_of}
-use Rattle.lower_model.specs.Quick.{Within, test_within, both_within, compared_within, constant_in, first_ones, name_in, joined, all_unsure, Source, Named, Constant, source_in, Sum, sum_names, sum_op, sum_in, Update, update_in, Tally, tally_in, Counted, counted_in, sum_of, two_sum, set_sum, kept_sum, update_sum, old_source, stored_name, new_sum, let_sum, is_near, Pair, pair_names, pair_in, pair_of, step_jumps, is_nothing}
-use Rattle.lower_model.specs.Statements.{name_read, source_pushed, summed, name_numbered, source_numbered, source_taken, sum_kept, sum_taken, summed_anyway, element_numbered, element_given, barely_dropped, plainly_dropped, quickly_dropped, left_unless_counted, pair_left, left_unless_pair, left_unless, all_emptied, arrays_emptied, arrays_swept, before_parts, declared, goes_on, iterator_left, iterators_emptied, iterators_swept, key_stored, left_by, main_body, names_declared, names_made, parameters_dropped, part_done, record_done, records_read, routine_body, routines_declared, step_emitted, steps_emitted, swept, temporaries_emptied, temporaries_swept, has_functions, left_swept}
+use Rattle.lower_model.specs.Quick.{Within, test_within, both_within, compared_within, constant_in, first_ones, name_in, joined, all_unsure, Source, Named, Constant, source_in, Sum, sum_names, sum_op, sum_in, Update, update_in, Tally, tally_in, Remainder, remainder_in, remainder_names, most_multiplied, multiplied, Counted, counted_in, sum_of, two_sum, set_sum, kept_sum, update_sum, old_source, stored_name, new_sum, let_sum, is_near, Pair, pair_names, pair_in, pair_of, step_jumps, is_nothing}
+use Rattle.lower_model.specs.Statements.{name_read, source_pushed, summed, name_numbered, source_numbered, source_taken, sum_kept, sum_taken, summed_anyway, element_numbered, element_given, remainder_taken, remainder_dropped, barely_dropped, plainly_dropped, quickly_dropped, left_unless_counted, pair_left, left_unless_pair, left_unless, all_emptied, arrays_emptied, arrays_swept, before_parts, declared, goes_on, iterator_left, iterators_emptied, iterators_swept, key_stored, left_by, main_body, names_declared, names_made, parameters_dropped, part_done, record_done, records_read, routine_body, routines_declared, step_emitted, steps_emitted, swept, temporaries_emptied, temporaries_swept, has_functions, left_swept}
 use Rattle.std.proofs.lemmas.Bool.{leb-true}
 use Rattle.lower_model.proofs.Quick.{constant_is, shift_pos}
 use Rattle.lower_model.proofs.QuickNames.{near_sum, some_is, source_code, source_is}
 use Rattle.lower_model.proofs.Tallies.{Shape, Updating, Following, Leading, tally_code, tally_is}
+use Rattle.lower_model.proofs.Remainders.{factored_code, most_few, remainder_code, remainder_is}
 use Rattle.lower_model.proofs.Updating.{added_is}
 use Rattle.agree_sizes.proofs.Emitted.{array_fits, asked_fits, comparison_fits, dropped_fits, emitted_fits, flag_fits, kept_code_fits, kept_number_fits, number_small, pending_fits, tested_fits, text_fits_there, to_number_fits, to_value_fits, whichever}
 use Rattle.agree_sizes.proofs.Fits.{Fits, choice, fits_simple, in_block, in_loop, long_fits, none, plain}
@@ -188,9 +189,27 @@ module _ (y : Layout) (names : length y.names ≤ 2 ^ 24) (memory : length (memo
   given_fits : {k : Instructions} (a : ArrayName) → Fits k → Fits (element_given y a k)
   given_fits a r = array_fits y names memory a (record { has = r.has })
 
+  -- remainders
+
+  multiplied_fits : {k : Instructions} (i : ℕ) (f : Option ℤ) → Small (factored_code i f) → Fits k → Fits (multiplied f k)
+  multiplied_fits i None h r = r
+  multiplied_fits i (Some c) h r = plain (I64Const (cast_unsigned w64 c)) (long_fits (cast_unsigned w64 c) (number_small c h.1.0)) (plain _ refl r)
+
+  taken_remainder_fits : {k : Instructions} (q : Remainder) → Small (remainder_code q) → Fits k → Fits (remainder_taken y q k)
+  taken_remainder_fits q h r =
+      plain _ refl (multiplied_fits q.multiple.name q.multiple.factor h.0 (plain (I64Const (cast_unsigned w64 q.divisor)) (long_fits (cast_unsigned w64 q.divisor) (number_small q.divisor h.1.0)) (plain _ refl (plain _ refl r))))
+
+  remainder_fits : {k : Instructions} (o : Option Remainder) (e : Code) (d : ℕ) → remainder_in e ≡ o → Small e → Fits k → Fits (remainder_dropped y o e d k)
+  remainder_fits None e d h s r = dropped_fits y names memory [] [] e zero zero d s r
+  remainder_fits (Some q) e d h s r =
+      let t = remainder_is e q h in
+      let few = most_few q.multiple.factor t.factor in
+      unsure_fits (remainder_names q) (pos (most_multiplied q.multiple.factor)) (most_multiplied q.multiple.factor + most_multiplied q.multiple.factor) (omega (arith, few)) (omega (arith, few))
+      (choice (dropped_fits y names memory [] [] e zero zero (suc d) s none) (taken_remainder_fits q (subst Small t.code s) none) r)
+
   module _ {k : Instructions} where
     barely_fits : (o : Option Tally) (e : Code) (d : ℕ) → tally_in e ≡ o → Small e → Fits k → Fits (barely_dropped y o e d k)
-    barely_fits None e d h s r = dropped_fits y names memory [] [] e zero zero d s r
+    barely_fits None e d h s r = remainder_fits (remainder_in e) e d refl s r
     barely_fits (Some q) e d h s r =
         let t = tally_is e q h in
         let m = tally_small t.shape q (subst Small t.code s) in

@@ -16,14 +16,16 @@ use Rattle.mid_program.specs.Sorted.{context_of, kinds_of, is_array_place, fits,
 use Rattle.lower_model.specs.Emission.{dropped, tested}
 use Rattle.lower_model.specs.Functions.{layout_of}
 use Rattle.lower_model.specs.Places.{Bases, room, arrays_in, step_room, steps_room, step_arrays, steps_arrays, step_iterators, steps_iterators}
-use Rattle.lower_model.specs.Quick.{Within, unsure, test_within, Source, Named, Constant, joined, all_unsure, Sum, sum_names, sum_op, sum_in, Update, update_in, Tally, tally_in, Counted, counted_in, Pair, pair_names, pair_in, step_jumps, is_nothing}
+use Rattle.lower_model.specs.Quick.{Within, unsure, test_within, Source, Named, Constant, joined, all_unsure, Sum, sum_names, sum_op, sum_in, Update, update_in, Tally, tally_in, Remainder, remainder_in, remainder_names, most_multiplied, multiplied, Counted, counted_in, Pair, pair_names, pair_in, step_jumps, is_nothing}
 use Rattle.lower_model.specs.Machine.{no_notes}
-use Rattle.lower_model.proofs.QuickSteps.{AllUnboxed, SourceFits, near_source, test_is, sum_is, sum_unboxed, pair_is, pair_unboxed, counted_is}
+use Rattle.lower_model.proofs.QuickParts.{AllUnboxed}
+use Rattle.lower_model.proofs.Remainders.{remainder_is, remainder_sorted, remainder_unboxed}
+use Rattle.lower_model.proofs.QuickSteps.{SourceFits, near_source, test_is, sum_is, sum_unboxed, pair_is, pair_unboxed, counted_is}
 use Rattle.lower_model.proofs.Summing.{IsSource}
 use Rattle.lower_model.proofs.Tallies.{Shape, tally_code, IsAdded, tally_is, tally_room, tally_sorted}
 use Rattle.lower_model.proofs.Updating.{added_code, added_is, added_sorted}
 use Rattle.lower_model.proofs.Watch.{Watch}
-use Rattle.lower_model.specs.Statements.{name_read, source_pushed, name_numbered, source_numbered, source_taken, sum_kept, sum_taken, summed_anyway, updated, element_numbered, element_given, tallied, barely_dropped, plainly_dropped, quickly_dropped, left_unless_counted, left_unless_pair, left_unless, left_by, key_stored, iterator_left, step_emitted, steps_emitted}
+use Rattle.lower_model.specs.Statements.{name_read, source_pushed, name_numbered, source_numbered, source_taken, sum_kept, sum_taken, summed_anyway, updated, element_numbered, element_given, tallied, remainder_taken, remainder_dropped, barely_dropped, plainly_dropped, quickly_dropped, left_unless_counted, left_unless_pair, left_unless, left_by, key_stored, iterator_left, step_emitted, steps_emitted}
 use Rattle.lower_model.specs.declared.import.Import.TheVariants.{Of, Drop, IterFree}
 use Rattle.agree_typed.proofs.Singles.{Stack, Labels, Exit, inner, nearest, reads_global, writes_global, nothing, called, get, put, tee, read, write, word, long, binary, variable, compare, test, discard, leave, leave_if, blocked, looped, branched}
 use Rattle.agree_typed.proofs.Standing.{Stands, kind_below}
@@ -148,9 +150,30 @@ module _ {p : Program} {ks : List Kind} {b : Bases} {C : Context} (at : Stands p
         (to_value_ok at f l0 (element_numbered_ok q.read t.reads lt x (to_number_ok at (form_of (f ∷ []) q.added) l1 x (get (at.number 2 lt) (get (at.number 1 l1)
         (sum_kept_ok {t = 2} (sum_op q.op) lt x (element_given_ok q.written t.writes lt r))))))))
 
+  -- remainders
+  module _ {L : Labels} {rs : Stack} where
+    multiplied_ok : {k : Instructions} {ps : Stack} (f : Option ℤ) → CodeOk C L k (I64 ∷ ps) rs → CodeOk C L (multiplied f k) (I64 ∷ ps) rs
+    multiplied_ok None r = r
+    multiplied_ok (Some c) r = long (binary r)
+
+    remainder_taken_ok : {k : Instructions} (q : Remainder) → q.multiple.name < length (kinds_of p.globals) → q.target < length (kinds_of p.globals) → CodeOk C L k [] rs → CodeOk C L (remainder_taken (layout_of p b) q k) [] rs
+    remainder_taken_ok q ln lt r = read (at.name_number q.multiple.name ln) (multiplied_ok q.multiple.factor (long (binary (write (at.name_number q.target lt) r))))
+
+  module _ {L : Labels} {k : Instructions} {rs : Stack} where
+    remainder_dropped_ok : (o : Option Remainder) (e : Code) (d : ℕ) → remainder_in e ≡ o → sorted (context_of p ks) [] e ≡ true → room e ≤ b.temporaries → arrays_in e ≤ b.arrays → Exit L d →
+        CodeOk C L k [] rs → CodeOk C L (remainder_dropped (layout_of p b) o e d k) [] rs
+    remainder_dropped_ok None e d eq s h g x r = let he = room_there e in dropped_ok [] [] e 0 0 d (none_below b.temporaries (omega (arith, h, he))) s (omega (arith, h)) (omega (arith, g)) x r
+    remainder_dropped_ok (Some q) e d eq s h g x r =
+        let he = room_there e in
+        let t = remainder_sorted p unwatched ks [] b 0 0 q (subst (λ (c : Code). sorted (context_of p ks) [] c ≡ true) (remainder_is e q eq).code s) in
+        all_unsure_ok (remainder_names q) (pos (most_multiplied q.multiple.factor)) (most_multiplied q.multiple.factor + most_multiplied q.multiple.factor) (remainder_unboxed p unwatched ks [] b 0 0 q t)
+        (branched (dropped_ok [] [] e 0 0 (suc d) (none_below b.temporaries (omega (arith, h, he))) s (omega (arith, h)) (omega (arith, g)) (inner x) done)
+        (remainder_taken_ok q (kind_below (kinds_of p.globals) q.multiple.name Unboxed t.name) (kind_below (kinds_of p.globals) q.target Unboxed t.target) done) r)
+
+  module _ {L : Labels} {k : Instructions} {rs : Stack} where
     barely_dropped_ok : (o : Option Tally) (e : Code) (d : ℕ) → tally_in e ≡ o → sorted (context_of p ks) [] e ≡ true → room e ≤ b.temporaries → arrays_in e ≤ b.arrays → Exit L d →
         CodeOk C L k [] rs → CodeOk C L (barely_dropped (layout_of p b) o e d k) [] rs
-    barely_dropped_ok None e d eq s h g x r = let he = room_there e in dropped_ok [] [] e 0 0 d (none_below b.temporaries (omega (arith, h, he))) s (omega (arith, h)) (omega (arith, g)) x r
+    barely_dropped_ok None e d eq s h g x r = remainder_dropped_ok (remainder_in e) e d refl s h g x r
     barely_dropped_ok (Some q) e d eq s h g x r =
         let t = tally_is e q eq in
         subst (λ (c : Code). sorted (context_of p ks) [] c ≡ true → room c ≤ b.temporaries → arrays_in c ≤ b.arrays → CodeOk C L (tallied (layout_of p b) q d k) [] rs) (sym t.code)

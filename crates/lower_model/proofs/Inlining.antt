@@ -54,7 +54,7 @@ use Rattle.lower_model.proofs.Simulation.{work_of, past, context, Done, ExprOk, 
 
 -- The outcome of an operator.
 
-in_range : (z : ℤ) (e : nat_le (unsigned_abs z) (2 ^ 53) ≡ true) → outcome_of (Ok z) ≡ Ok (record { number = z; in_range = subst T (sym e) tt })
+pub in_range : (z : ℤ) (e : nat_le (unsigned_abs z) (2 ^ 53) ≡ true) → outcome_of (Ok z) ≡ Ok (record { number = z; in_range = subst T (sym e) tt })
 in_range z e = ap or_range (number_again (record { number = z; in_range = subst T (sym e) tt }))
 
 pub checked_in : (z : ℤ) (e : nat_le (unsigned_abs z) (2 ^ 53) ≡ true) → outcome_of (checked z) ≡ Ok (record { number = z; in_range = subst T (sym e) tt })

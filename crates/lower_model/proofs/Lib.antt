@@ -42,6 +42,8 @@ pub mod Summing
 pub mod Updating
 pub mod Tallies
 pub mod Tallying
+pub mod QuickParts
+pub mod Remainders
 pub mod Evaluating
 pub mod QuickSteps
 pub mod QuickIfs

@@ -68,6 +68,7 @@ use Rattle.lower_model.proofs.Branches.{TestDone, test_meant, test_ok, block_end
 use Rattle.lower_model.proofs.Quick.{Sure, sure, shown_by, name_is, constant_is, shift_pos, shifted_less, shifted_most, less_holds, most_holds}
 use Rattle.lower_model.proofs.QuickNames.{num_of, word_of, val_of, source_steps, shift_word, joined_word, all_flag, joined_steps, all_steps, AllSure, StandsAmong, source_code, some_is, nought_number, all_sure, among_sure, name_among, source_among, source_still, source_beside, source_is, contrary_holds, pair_few, one_few, near_sum, stored_is, none_new, result_of, sum_few}
 use Rattle.lower_model.proofs.Summing.{Summed, summed_in_turn, IsSource, anyway_ok}
+use Rattle.lower_model.proofs.QuickParts.{Two, sum_stored, two_summed, set_code, AllUnboxed, name_got, name_taken, all_unsure_ok, name_unboxed, summed_means, set_means, Parts, set_sorted}
 use Rattle.lower_model.proofs.Evaluating.{plainly_ok}
 
 module _ (p : Program) (deepest : Watch) (ks : List Kind) (F : List Frame) (b : Bases) (M n : ℕ) where
@@ -162,53 +163,17 @@ module _ (p : Program) (deepest : Watch) (ks : List Kind) (F : List Frame) (b : 
 
   -- Sources: what they push, and what they are as operands.
 
-  abbrev pub AllUnboxed : List ℕ → Type 0
-  AllUnboxed [] = Unit {0}
-  AllUnboxed (i ∷ is) = (has_kind kinds i Unboxed ≡ true) × AllUnboxed is
-
   abbrev pub SourceFits : ℕ → Source → Type 0
   SourceFits most (Named i) = has_kind kinds i Unboxed ≡ true
   SourceFits most (Constant z) = nat_le (unsigned_abs z) most ≡ true
 
-  name_got : {vs : List Cell} {K : List Label} {k : Instructions} → (i : ℕ) (l : Locals) (σ : State) → has_kind kinds i Unboxed ≡ true →
-      Goes (machine p deepest ks F) 1 (at ks vs K (laid b l) F (does (GlobalGet (number_global p.ranges i)) k) (beside_state p deepest ks F σ)) (at ks (Bits (I64 (bare (global_value i σ))) ∷ vs) K (laid b l) F k (beside_state p deepest ks F σ))
-  name_got i l σ hk =
-      let x = global_value i σ in
-      global_copied p.ranges (length kinds) (cells_of kinds 0 σ) (NameNumber i) (Bits (I64 (bare x))) (kind_below kinds i Unboxed hk) (ap (λ c. Bits (I64 (name_word c x))) (kind_found kinds i Unboxed hk)) refl
-
   source_ok : (vs : List Cell) (K : List Label) (k : Instructions) → (m : ℕ) (s : Source) (l : Locals) (σ : State) → SourceFits m s →
       Goes (machine p deepest ks F) (source_steps s) (at ks vs K (laid b l) F (source_pushed (layout p deepest ks F b M n) s k) (beside_state p deepest ks F σ)) (at ks (Bits (I64 (word_of s σ)) ∷ vs) K (laid b l) F k (beside_state p deepest ks F σ))
-  source_ok vs K k m (Named i) l σ h = name_got i l σ h
+  source_ok vs K k m (Named i) l σ h = name_got p deepest ks F b M n i l σ h
   source_ok vs K k m (Constant z) l σ h = stays
 
-  -- Several names within the same bounds.
-
-  abbrev all_read : ℕ → Simple
-  all_read i = GlobalGet (number_global p.ranges i)
-
-  shifted_ok : {vs : List Cell} {K : List Label} {k : Instructions} → (i : ℕ) (q : ℤ) (l : Locals) (σ : State) → has_kind kinds i Unboxed ≡ true →
-      Goes (machine p deepest ks F) 2 (at ks vs K (laid b l) F (shifted (all_read i) q k) (beside_state p deepest ks F σ)) (at ks (Bits (I64 (shift_word σ q i)) ∷ vs) K (laid b l) F k (beside_state p deepest ks F σ))
-  shifted_ok i q l σ hk = then_goes (name_got i l σ hk) (by_steps 1 refl)
-
-  joined_ok : (K : List Label) (k : Instructions) → (is : List ℕ) (v : ℕ) (q : ℤ) (l : Locals) (σ : State) → AllUnboxed is →
-      Goes (machine p deepest ks F) (joined_steps is) (at ks (Bits (I64 v) ∷ []) K (laid b l) F (joined all_read is q k) (beside_state p deepest ks F σ)) (at ks (Bits (I64 (joined_word σ q v is)) ∷ []) K (laid b l) F k (beside_state p deepest ks F σ))
-  joined_ok K k [] v q l σ h = stays
-  joined_ok K k (i ∷ is) v q l σ h = then_goes (shifted_ok i q l σ h.0) (then_goes (by_steps 1 refl) (joined_ok K k is (bit_or v (shift_word σ q i)) q l σ h.1))
-
-  all_unsure_ok : (K : List Label) (k : Instructions) → (is : List ℕ) (q : ℤ) (w : ℕ) (l : Locals) (σ : State) → AllUnboxed is →
-      Goes (machine p deepest ks F) (all_steps is) (at ks [] K (laid b l) F (all_unsure all_read is q w k) (beside_state p deepest ks F σ)) (at ks (Bits (flag (all_flag σ q w is)) ∷ []) K (laid b l) F k (beside_state p deepest ks F σ))
-  all_unsure_ok K k [] q w l σ h = stays
-  all_unsure_ok K k (i ∷ is) q w l σ h = then_goes (shifted_ok i q l σ h.0) (then_goes (joined_ok K _ is (shift_word σ q i) q l σ h.1) (by_steps 1 refl))
-
-  name_unboxed : (i : ℕ) (is : List ℕ) → has_kind kinds i Unboxed ≡ true → AllUnboxed is → AllUnboxed (and_name i is)
-  name_unboxed i is hk h = by (is_among i is)
-    where
-      by : (t : Bool) → AllUnboxed (if t then is else i ∷ is)
-      by true = h
-      by false = (hk, h)
-
-  source_unboxed : (m : ℕ) (s : Source) (is : List ℕ) → SourceFits m s → AllUnboxed is → AllUnboxed (and_source s is)
-  source_unboxed m (Named i) is hs h = name_unboxed i is hs h
+  source_unboxed : (m : ℕ) (s : Source) (is : List ℕ) → SourceFits m s → AllUnboxed p deepest ks F b M n is → AllUnboxed p deepest ks F b M n (and_source s is)
+  source_unboxed m (Named i) is hs h = name_unboxed p deepest ks F b M n i is hs h
   source_unboxed m (Constant z) is hs h = h
 
   -- a source as an operand
@@ -276,7 +241,7 @@ module _ (p : Program) (deepest : Watch) (ks : List Kind) (F : List Frame) (b : 
       by None e1 r e2 eq = cc
   pair_is e q eq so = cc
 
-  pub pair_unboxed : (e : Code) (q : Pair) → PairIs e q → AllUnboxed (pair_names q)
+  pub pair_unboxed : (e : Code) (q : Pair) → PairIs e q → AllUnboxed p deepest ks F b M n (pair_names q)
   pair_unboxed e q t = source_unboxed (2 ^ 53) q.left (and_source q.right []) t.left (source_unboxed (2 ^ 53) q.right [] t.right tt)
 
   -- Comparisons with how many fields there are.
@@ -369,7 +334,7 @@ module _ (p : Program) (deepest : Watch) (ks : List Kind) (F : List Frame) (b : 
         let k2 = ask_row row.Compare k3 in
         subst (λ o. Reached p deepest ks F b M (work_of e + 17) σ.turns (at ks [] PK (laid b l) F (counted_left (layout p deepest ks F b M n) q (suc out) NoMore) PS) (Left out k K u l) (Away p deepest ks F b d K) o) (sym (t.means σ m ev))
         (there mach M (work_of e + 17) (1 + (1 + (1 + (1 + (1 + w.0))))) _ _ z σ (Left out k K u l) (Away p deepest ks F b d K)
-        (then_goes (goes_to (name_got q.name l σ t.kind) (ap (λ x. at ks (Bits (I64 x) ∷ (op ∷ [])) PK (laid b l) F (ask_row row.Num (does (I32Const (special_number Nf)) (ask_row row.GetSpecial k2))) PS) (ap bare ev ∙ bare_number m)))
+        (then_goes (goes_to (name_got p deepest ks F b M n q.name l σ t.kind) (ap (λ x. at ks (Bits (I64 x) ∷ (op ∷ [])) PK (laid b l) F (ask_row row.Num (does (I32Const (special_number Nf)) (ask_row row.GetSpecial k2))) PS) (ap bare ev ∙ bare_number m)))
         (then_goes (ask_num p deepest ks F (op ∷ []) σ m)
         (then_goes (goes_to (row_called p deepest ks F row.GetSpecial (Nf, tt) (Bits (word.I32 (special_number Nf)) ∷ []) (Held (value.Num m.number) ∷ (op ∷ [])) σ refl refl refl refl refl)
         (ap (λ τ. at ks (Held v ∷ (Held (value.Num m.number) ∷ (op ∷ []))) PK (laid b l) F k2 (beside_state p deepest ks F τ)) (same_state σ v)))
@@ -396,7 +361,7 @@ module _ (p : Program) (deepest : Watch) (ks : List Kind) (F : List Frame) (b : 
         let t = counted_is e q eq (and_parts (is_tested (form_of [] e)) (sorted (context p deepest ks F b M n) [] e) so).1 in
         let f = compare_at w64 LeS (bare (global_value q.name σ)) text_beside in
         first (machine p deepest ks F) M 3 (work_of e + 17) (work_of e + 24) σ.turns _ _ (Left out k K u l) (Away p deepest ks F b d K) (test_meant p deepest ks F b M n e σ)
-        (then_goes (name_got q.name l σ t.kind) (then_goes (by_steps 1 refl) (chooses pair_slow (counted_left (layout p deepest ks F b M n) q (suc out) NoMore) (if f then 1 else 0)))) (omega arith)
+        (then_goes (name_got p deepest ks F b M n q.name l σ t.kind) (then_goes (by_steps 1 refl) (chooses pair_slow (counted_left (layout p deepest ks F b M n) q (suc out) NoMore) (if f then 1 else 0)))) (omega arith)
         (count_chosen q t f refl (bare_is (global_value q.name σ)))
 
     pub left_unless_pair_ok : Reached p deepest ks F b M (work_of e + 24) σ.turns (at ks [] K (laid b l) F (left_unless_pair (layout p deepest ks F b M n) (pair_in e) e d out k) PS) (Left out k K u l) (Away p deepest ks F b d K) (test_meant p deepest ks F b M n e σ)
@@ -414,7 +379,7 @@ module _ (p : Program) (deepest : Watch) (ks : List Kind) (F : List Frame) (b : 
             let un = source_unboxed (2 ^ 53) q.left (and_source q.right []) t.left (source_unboxed (2 ^ 53) q.right [] t.right tt) in
             let fw = pair_few q in
             first (machine p deepest ks F) M (all_steps (pair_names q) + 1) (work_of e + 17) (work_of e + 24) σ.turns _ _ (Left out k K u l) (Away p deepest ks F b d K) (test_meant p deepest ks F b M n e σ)
-            (then_goes (all_unsure_ok _ _ (pair_names q) (pos (2 ^ 53)) (2 ^ 54) l σ un) (chooses pair_slow (pair_left (layout p deepest ks F b M n) q (suc out) NoMore) (if all_flag σ (pos (2 ^ 53)) (2 ^ 54) (pair_names q) then 1 else 0))) (omega (arith, fw))
+            (then_goes (all_unsure_ok p deepest ks F b M n _ _ (pair_names q) (pos (2 ^ 53)) (2 ^ 54) l σ un) (chooses pair_slow (pair_left (layout p deepest ks F b M n) q (suc out) NoMore) (if all_flag σ (pos (2 ^ 53)) (2 ^ 54) (pair_names q) then 1 else 0))) (omega (arith, fw))
             (chosen q t (all_flag σ (pos (2 ^ 53)) (2 ^ 54) (pair_names q)) refl)
 
   -- any test
@@ -451,18 +416,6 @@ module _ (p : Program) (deepest : Watch) (ks : List Kind) (F : List Frame) (b : 
 
   -- Sums.
 
-  abbrev Two : Type 0
-  Two = AnyNumber × (AnyNumber × Unit {0})
-
-  -- what becomes of two operands that are evaluated, and of their sum
-  abbrev sum_stored : ℕ → State → Result AnyNumber Fault → Outcome Flow
-  sum_stored i σ r = go_on (go_on (settled r σ) (λ y. store_slot (Global true i) (value.Num y.number) >> give y)) (λ y. give Normal)
-
-  abbrev two_summed : ℕ → Arithmetic → State → Result AnyNumber Fault → Result AnyNumber Fault → Outcome Flow
-  two_summed i o σ r1 r2 =
-      go_on (go_on (go_on {A = Two} {B = AnyNumber} (settled (then_row {A = AnyNumber} {B = Two} r1 (λ x. then_row {A = AnyNumber × Unit {0}} {B = Two} (then_row {A = AnyNumber} {B = AnyNumber × Unit {0}} r2 (λ z. Ok (z, tt))) (λ zs. Ok (x, zs)))) σ)
-      (λ given. settled (outcome_of (arithmetic_of o given.0.number given.1.0.number)))) (λ y. store_slot (Global true i) (value.Num y.number) >> give y)) (λ y. give Normal)
-
   pub record SumIs (e : Code) (s : Sum) : Type 0 where
     pub kind : has_kind kinds s.target Unboxed ≡ true
     pub left : SourceFits (2 ^ 52) s.left
@@ -473,41 +426,12 @@ module _ (p : Program) (deepest : Watch) (ks : List Kind) (F : List Frame) (b : 
     pub room : 2 ≤ room e
     pub whole : (σ : State) → plain_meant p deepest ks F b M n (Eval e) σ ≡ two_summed s.target s.op σ (num_of s.left σ) (num_of s.right σ)
 
-  summed_means : (i : ℕ) (o : Arithmetic) (σ : State) (r1 r2 : Result AnyNumber Fault) (m1 m2 y : AnyNumber) → r1 ≡ Ok m1 → r2 ≡ Ok m2 → outcome_of (arithmetic_of o m1.number m2.number) ≡ Ok y → two_summed i o σ r1 r2 ≡ Gives Normal (with_global i (value.Num y.number) σ)
-  summed_means i o σ r1 r2 m1 m2 y e1 e2 e = ap₂ (two_summed i o σ) e1 e2 ∙ ap (sum_stored i σ) e
-
   near_fits : (fs : List Form) (s : Source) → sorted (context p deepest ks F b M n) fs (source_code s) ≡ true → is_near s ≡ true → SourceFits (2 ^ 52) s
   unfolding sorted all_sorted
   near_fits fs (Named i) so h = so
   near_fits fs (Constant z) so h = h
 
   -- `n = a + e`
-
-  abbrev set_code : ℕ → Arithmetic → Code → Code → Code
-  set_code i o x y = Set (Global true i) (Do (Inline o) (At x (At y End)))
-
-  set_means : (i : ℕ) (o : Arithmetic) (a e : Source) (σ : State) → plain_meant p deepest ks F b M n (Eval (set_code i o (source_code a) (source_code e))) σ ≡ two_summed i o σ (num_of a σ) (num_of e σ)
-  unfolding evaluated all_evaluated stepped
-  set_means i o (Named j) (Named k) σ = refl
-  set_means i o (Named j) (Constant z) σ = refl
-  set_means i o (Constant z) (Named j) σ = refl
-  set_means i o (Constant z) (Constant y) σ = refl
-
-  record Parts (i : ℕ) (fs : List Form) (x : Code) (gs : List Form) (y : Code) : Type 0 where
-    kind : has_kind kinds i Unboxed ≡ true
-    first_one : sorted (context p deepest ks F b M n) fs x ≡ true
-    second : sorted (context p deepest ks F b M n) gs y ≡ true
-
-  set_sorted : (fs : List Form) (i : ℕ) (o : Arithmetic) (x y : Code) → sorted (context p deepest ks F b M n) fs (set_code i o x y) ≡ true → Parts i fs x fs y
-  unfolding sorted all_sorted
-  set_sorted fs i o x y so =
-      let ctx = context p deepest ks F b M n in
-      let fx = fits_sort (form_of fs x) sort.Number in
-      let fy = fits_sort (form_of fs y) sort.Number in
-      let s = and_parts (has_kind kinds i Unboxed) ((fx && (fy && true)) && (sorted ctx fs x && (sorted ctx fs y && true))) so in
-      let s1 = and_parts (fx && (fy && true)) (sorted ctx fs x && (sorted ctx fs y && true)) s.1 in
-      let s2 = and_parts (sorted ctx fs x) (sorted ctx fs y && true) s1.1 in
-      record { kind = s.0; first_one = s2.0; second = (and_parts (sorted ctx fs y) true s2.1).0 }
 
   set_is : (i : ℕ) (o : Arithmetic) (x y : Code) (s : Sum) → sum_of i o (source_in x) (source_in y) ≡ Some s → sorted (context p deepest ks F b M n) [] (set_code i o x y) ≡ true → SumIs (set_code i o x y) s
   set_is i o x y s eq so = by (source_in x) refl (source_in y) refl eq
@@ -517,9 +441,9 @@ module _ (p : Program) (deepest : Watch) (ks : List Kind) (F : List Frame) (b : 
           subst (λ t. sorted (context p deepest ks F b M n) [] t ≡ true → SumIs t s) (sym (ap₂ (set_code i o) (source_is x a e1) (source_is y e e2)))
           (λ so1.
           let g = near_sum i o a e s eq in
-          let h = set_sorted [] i o (source_code a) (source_code e) so1 in
+          let h = set_sorted p deepest ks F b M n [] i o (source_code a) (source_code e) so1 in
           subst (SumIs (set_code i o (source_code a) (source_code e))) g.1
-          (record { kind = h.kind; left = near_fits [] a h.first_one g.0.1; right = near_fits [] e h.second g.0.2; sum = g.0.0; means = λ σ m1 m2 y z1 z2 z. set_means i o a e σ ∙ summed_means i o σ (num_of a σ) (num_of e σ) m1 m2 y z1 z2 z; room = omega arith; whole = λ σ. set_means i o a e σ })) so
+          (record { kind = h.kind; left = near_fits [] a h.first_one g.0.1; right = near_fits [] e h.second g.0.2; sum = g.0.0; means = λ σ m1 m2 y z1 z2 z. set_means p deepest ks F b M n i o a e σ ∙ summed_means p deepest ks F b M n i o σ (num_of a σ) (num_of e σ) m1 m2 y z1 z2 z; room = omega arith; whole = λ σ. set_means p deepest ks F b M n i o a e σ })) so
       by (Some a) e1 None e2 eq = cc
       by None e1 r e2 eq = cc
 
@@ -535,7 +459,7 @@ module _ (p : Program) (deepest : Watch) (ks : List Kind) (F : List Frame) (b : 
   update_means i o (Constant z) (Named j) σ = refl
   update_means i o (Constant z) (Constant y) σ = refl
 
-  update_sorted : (i : ℕ) (o : Arithmetic) (a x : Code) → sorted (context p deepest ks F b M n) [] (update_code i o a x) ≡ true → Parts i (form_of [] a ∷ []) x [] a
+  update_sorted : (i : ℕ) (o : Arithmetic) (a x : Code) → sorted (context p deepest ks F b M n) [] (update_code i o a x) ≡ true → Parts p deepest ks F b M n i (form_of [] a ∷ []) x [] a
   unfolding sorted all_sorted
   update_sorted i o a x so =
       let ctx = context p deepest ks F b M n in
@@ -544,7 +468,7 @@ module _ (p : Program) (deepest : Watch) (ks : List Kind) (F : List Frame) (b : 
       let s = and_parts (is_kept f) (keeps_well c && (sorted ctx [] a && sorted ctx (f ∷ []) c)) so in
       let s1 = and_parts (keeps_well c) (sorted ctx [] a && sorted ctx (f ∷ []) c) s.1 in
       let s2 = and_parts (sorted ctx [] a) (sorted ctx (f ∷ []) c) s1.1 in
-      let h = set_sorted (f ∷ []) i o x (Bound true zero) s2.1 in
+      let h = set_sorted p deepest ks F b M n (f ∷ []) i o x (Bound true zero) s2.1 in
       record { kind = h.kind; first_one = h.first_one; second = s2.0 }
 
   update_is : (i : ℕ) (o : Arithmetic) (a x : Code) (s : Sum) → sum_of i o (source_in x) (source_in a) ≡ Some s → sorted (context p deepest ks F b M n) [] (update_code i o a x) ≡ true → SumIs (update_code i o a x) s
@@ -557,7 +481,7 @@ module _ (p : Program) (deepest : Watch) (ks : List Kind) (F : List Frame) (b : 
           let g = near_sum i o l e s eq in
           let h = update_sorted i o (source_code e) (source_code l) so1 in
           subst (SumIs (update_code i o (source_code e) (source_code l))) g.1
-          (record { kind = h.kind; left = near_fits (form_of [] (source_code e) ∷ []) l h.first_one g.0.1; right = near_fits [] e h.second g.0.2; sum = g.0.0; means = λ σ m1 m2 y z1 z2 z. update_means i o l e σ ∙ summed_means i o σ (num_of l σ) (num_of e σ) m1 m2 y z1 z2 z; room = omega arith; whole = λ σ. update_means i o l e σ })) so
+          (record { kind = h.kind; left = near_fits (form_of [] (source_code e) ∷ []) l h.first_one g.0.1; right = near_fits [] e h.second g.0.2; sum = g.0.0; means = λ σ m1 m2 y z1 z2 z. update_means i o l e σ ∙ summed_means p deepest ks F b M n i o σ (num_of l σ) (num_of e σ) m1 m2 y z1 z2 z; room = omega arith; whole = λ σ. update_means i o l e σ })) so
       by (Some l) e1 None e2 eq = cc
       by None e1 r e2 eq = cc
 
@@ -589,7 +513,7 @@ module _ (p : Program) (deepest : Watch) (ks : List Kind) (F : List Frame) (b : 
   old_same i o σ (Ok x) (Err f) = refl
   old_same i o σ (Err f) r2 = refl
 
-  old_sorted : (i : ℕ) (o : Arithmetic) (a z : Code) → sorted (context p deepest ks F b M n) [] (old_code i o a z) ≡ true → Parts i [] a (a_number ∷ []) z
+  old_sorted : (i : ℕ) (o : Arithmetic) (a z : Code) → sorted (context p deepest ks F b M n) [] (old_code i o a z) ≡ true → Parts p deepest ks F b M n i [] a (a_number ∷ []) z
   unfolding sorted all_sorted
   old_sorted i o a z so =
       let ctx = context p deepest ks F b M n in
@@ -670,26 +594,12 @@ module _ (p : Program) (deepest : Watch) (ks : List Kind) (F : List Frame) (b : 
       binary_at w64 (sum_op s.op) (word_of s.left σ) (word_of s.right σ) ≡ Ok (number_word y) →
       Goes (machine p deepest ks F) (source_steps s.left + (source_steps s.right + 2)) (at ks [] K (laid b l) F (summed (layout p deepest ks F b M n) s k) (beside_state p deepest ks F σ)) (at ks [] K (laid b l) F k (beside_state p deepest ks F (with_global s.target (value.Num y.number) σ)))
   summed_ok s y K k l σ hk f1 f2 sz none e =
-      let nn = length kinds in
-      let i = s.target in
-      let li = kind_below kinds i Unboxed hk in
-      let kh = kind_found kinds i Unboxed hk in
-      let g = cells_of kinds 0 σ in
-      let old = global_value i σ in
-      let c = Bits (I64 (number_word y)) in
-      let g1 = with_global_at p.ranges nn g (NameNumber i) c in
-      let hand : name_hand (kind_here kinds i) (suc (suc (arrays_before kinds i))) old ≡ empty = ap (λ z. name_hand z (suc (suc (arrays_before kinds i))) old) kh ∙ none in
       then_goes (source_ok _ _ _ (2 ^ 52) s.left l σ f1) (then_goes (source_ok _ _ _ (2 ^ 52) s.right l σ f2)
-      (then_goes (by_steps 1 (ap (λ r. with_operands (push_result [] (Some (given_by I64 r))) ks K (laid b l) F (does (GlobalSet (number_global p.ranges i)) k) (beside_state p deepest ks F σ)) e))
-      (goes_to (global_set_ok p.ranges nn g (NameNumber i) c li refl refl)
-      (ap (λ x. at ks [] K (laid b l) F k (storing x (host_of σ None)))
-      (sym (placed_again p.ranges nn g1 (NameHand i) empty li hand)
-      ∙ global_written p deepest ks F b M n i (value.Num y.number) σ empty c sz li
-      (ap (λ z. name_hand z (suc (suc (arrays_before kinds i))) (value.Num y.number)) kh ∙ beside_number y)
-      (ap (λ z. Bits (I64 (name_word z (value.Num y.number)))) kh ∙ ap (λ z. Bits (I64 z)) (bare_number y)))))))
+      (then_goes (by_steps 1 (ap (λ r. with_operands (push_result [] (Some (given_by I64 r))) ks K (laid b l) F (does (GlobalSet (number_global p.ranges s.target)) k) (beside_state p deepest ks F σ)) e))
+      (name_taken p deepest ks F b M n s.target y K k l σ hk sz none)))
 
-  pub sum_unboxed : (e : Code) (s : Sum) → SumIs e s → AllUnboxed (sum_names s)
-  sum_unboxed e s t = name_unboxed s.target (and_source s.left (and_source s.right [])) t.kind (source_unboxed (2 ^ 52) s.left (and_source s.right []) t.left (source_unboxed (2 ^ 52) s.right [] t.right tt))
+  pub sum_unboxed : (e : Code) (s : Sum) → SumIs e s → AllUnboxed p deepest ks F b M n (sum_names s)
+  sum_unboxed e s t = name_unboxed p deepest ks F b M n s.target (and_source s.left (and_source s.right [])) t.kind (source_unboxed (2 ^ 52) s.left (and_source s.right []) t.left (source_unboxed (2 ^ 52) s.right [] t.right tt))
 
   -- the same, one after the other
   summed_again : (i : ℕ) (o : Arithmetic) (σ : State) (r1 r2 : Result AnyNumber Fault) → two_summed i o σ r1 r2 ≡ go_on (summed_in_turn p deepest ks F b M n i o r1 r2 σ) (λ y. give Normal)
@@ -768,9 +678,9 @@ module _ (p : Program) (deepest : Watch) (ks : List Kind) (F : List Frame) (b : 
       by (Some a) eq =
           let t = sum_is e a eq srt in
           let fw = sum_few a in
-          let un = name_unboxed a.target (and_source a.left (and_source a.right [])) t.kind (source_unboxed (2 ^ 52) a.left (and_source a.right []) t.left (source_unboxed (2 ^ 52) a.right [] t.right tt)) in
+          let un = name_unboxed p deepest ks F b M n a.target (and_source a.left (and_source a.right [])) t.kind (source_unboxed (2 ^ 52) a.left (and_source a.right []) t.left (source_unboxed (2 ^ 52) a.right [] t.right tt)) in
           first (machine p deepest ks F) M (all_steps (sum_names a) + 1) (work_of e + 90) (work_of e + 110) σ.turns _ _ (StepDone p deepest ks F b M n lo u bk ct k K l) (Away p deepest ks F b d K) (plain_meant p deepest ks F b M n (Eval e) σ)
-          (then_goes (all_unsure_ok _ _ (sum_names a) (pos (2 ^ 52)) (2 ^ 53) l σ un) (chooses (slow a) (fast a) (if all_flag σ (pos (2 ^ 52)) (2 ^ 53) (sum_names a) then 1 else 0))) (omega (arith, fw))
+          (then_goes (all_unsure_ok p deepest ks F b M n _ _ (sum_names a) (pos (2 ^ 52)) (2 ^ 53) l σ un) (chooses (slow a) (fast a) (if all_flag σ (pos (2 ^ 52)) (2 ^ 53) (sum_names a) then 1 else 0))) (omega (arith, fw))
           (chosen a t (all_flag σ (pos (2 ^ 52)) (2 ^ 53) (sum_names a)) refl)
 
   pub eval_step : (exprs : (x : Code) → ExprOk p deepest ks F b M n x) (e : Code) → StepOk p deepest ks F b M n (Eval e)

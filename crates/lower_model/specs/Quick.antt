@@ -1,7 +1,8 @@
 -- Quick ways of statements. An unboxed name's number stands in one word, and the two words that are no number's lie far from all numbers: so one comparison without sign says that a name has a number, and that it is
 -- between two bounds. Where it is, a step on numbers is a few instructions; elsewhere, the code of all cases.
-use Rattle.std.specs.Prelude.{ℕ, zero, suc, ◌^◌, Bool, true, false, ◌&&◌, ◌||◌, nat_eq, nat_le, if◌then◌else◌, List, [], ◌∷◌, Option, Some, None, ℤ, pos, ◌+ℤ◌, unsigned_abs}
+use Rattle.std.specs.Prelude.{ℕ, zero, suc, ◌/◌, ◌^◌, Bool, true, false, ◌&&◌, ◌||◌, nat_eq, nat_le, if◌then◌else◌, List, [], ◌∷◌, Option, Some, None, ℤ, pos, ◌+ℤ◌, unsigned_abs}
 use Rattle.std.specs.Int.{w64, cast_unsigned}
+use Rattle.awk_values.specs.Operators.{is_zero}
 use Rattle.awk_values.specs.declared.comparison.CompareOp.{CompareOp}
 use Rattle.awk_values.specs.declared.comparison.CompareOp.TheVariants as compare
 use Rattle.sem_primitives.specs.Constants.{special_number}
@@ -12,7 +13,7 @@ use Rattle.wasm_types.specs.declared.types.ValType.TheVariants.{I64}
 use Rattle.wasm_types.specs.declared.instr.Simple.{Simple}
 use Rattle.wasm_types.specs.declared.instr.Simple.TheVariants.{I32Const, I64Const, Binary, Compare as Comparing}
 use Rattle.wasm_types.specs.declared.instr.IBinOp.{IBinOp}
-use Rattle.wasm_types.specs.declared.instr.IBinOp.TheVariants.{Add, Sub, Or}
+use Rattle.wasm_types.specs.declared.instr.IBinOp.TheVariants.{Add, Sub, Mul, Or}
 use Rattle.wasm_types.specs.declared.instr.IRelOp.TheVariants.{GtU}
 use Rattle.mid_program.specs.declared.mid.Arithmetic.{Arithmetic}
 use Rattle.mid_program.specs.declared.mid.Arithmetic.TheVariants as inline
@@ -286,6 +287,64 @@ tally_kept k c = None
 abbrev pub tally_in : Code → Option Tally
 tally_in (Let k c) = tally_kept k c
 tally_in e = None
+
+-- Remainders that go to a name: of a name by a constant, or of its product with a constant, `x = y % m` and `x = y * c % m`. Neither constant is 0.
+
+-- a name, and what it is multiplied by, if it is
+pub record Multiple : Type 0 where
+  pub name : ℕ
+  pub factor : Option ℤ
+
+pub record Remainder : Type 0 where
+  pub target : ℕ
+  pub multiple : Multiple
+  pub divisor : ℤ
+
+abbrev pub factor_in : Code → Option ℤ
+factor_in (Number z) = if is_zero z then None else Some z
+factor_in e = None
+
+abbrev pub product_of : Option ℕ → Option ℤ → Option Multiple
+product_of (Some i) (Some c) = Some (record { name = i; factor = Some c })
+product_of i c = None
+
+abbrev pub two_product : Arithmetic → Codes → Option Multiple
+two_product inline.Times (At a (At e End)) = product_of (name_in a) (factor_in e)
+two_product o es = None
+
+abbrev pub multiple_in : Code → Option Multiple
+multiple_in (Get (Global true i)) = Some (record { name = i; factor = None })
+multiple_in (Do (Inline o) es) = two_product o es
+multiple_in e = None
+
+abbrev pub remainder_of : ℕ → Option Multiple → Option ℤ → Option Remainder
+remainder_of i (Some m) (Some z) = Some (record { target = i; multiple = m; divisor = z })
+remainder_of i m z = None
+
+abbrev pub two_remainder : ℕ → Arithmetic → Codes → Option Remainder
+two_remainder i inline.Modulo (At a (At e End)) = remainder_of i (multiple_in a) (factor_in e)
+two_remainder i o es = None
+
+abbrev pub set_remainder : ℕ → Code → Option Remainder
+set_remainder i (Do (Inline o) es) = two_remainder i o es
+set_remainder i e = None
+
+abbrev pub remainder_in : Code → Option Remainder
+remainder_in (Set (Global true i) e) = set_remainder i e
+remainder_in e = None
+
+abbrev pub remainder_names : Remainder → List ℕ
+remainder_names q = and_name q.target (q.multiple.name ∷ [])
+
+-- a number of at most so much has a product in range
+abbrev pub most_multiplied : Option ℤ → ℕ
+most_multiplied None = 2 ^ 53
+most_multiplied (Some c) = 2 ^ 53 / unsigned_abs c
+
+-- the number on the stack is multiplied
+abbrev pub multiplied : Option ℤ → Instructions → Instructions
+multiplied None k = k
+multiplied (Some c) k = does (I64Const (cast_unsigned w64 c)) (does (Binary I64 Mul) k)
 
 -- Comparisons of sources: where all names are in range the module compares.
 pub record Pair : Type 0 where

@@ -13,7 +13,7 @@ use Rattle.wasm_types.specs.declared.types.ValType.TheVariants.{I32, I64}
 use Rattle.wasm_types.specs.declared.instr.Simple.{Simple}
 use Rattle.wasm_types.specs.declared.instr.Simple.TheVariants.{Nop, Br, BrIf, LocalGet, LocalSet, LocalTee, GlobalGet, GlobalSet, I32Const, I64Const, Test, Compare as Comparing, Binary, Convert}
 use Rattle.wasm_types.specs.declared.instr.IBinOp.{IBinOp}
-use Rattle.wasm_types.specs.declared.instr.IBinOp.TheVariants.{Add}
+use Rattle.wasm_types.specs.declared.instr.IBinOp.TheVariants.{Add, RemS}
 use Rattle.wasm_types.specs.declared.instr.IRelOp.TheVariants.{Eq, GtU, LeS, Ne}
 use Rattle.wasm_types.specs.declared.instr.ITestOp.TheVariants.{Eqz}
 use Rattle.wasm_types.specs.declared.instr.CvtOp.TheVariants.{I32WrapI64}
@@ -21,7 +21,7 @@ use Rattle.sem_scripts.specs.Names.{ArrayName}
 use Rattle.mid_program.specs.Mid.{Kind, Boxed, Unboxed, Many, Code, Step, Eval, Block as Steps_, If as Either, Loop, Each, Break, Continue, Next, Exit, ExitWith, Return, Mark, Steps, NoStep, Then as AndThen, Program, a_value, form_of}
 use Rattle.lower_model.specs.Places.{Bases, way_global, status_global, range_global, handle_global, number_global, answer_local, iterator_local, array_local}
 use Rattle.lower_model.specs.Small.{does, ask, ask_row, when, either, end_code, text_beside, copied, moved_out, emptied, let_go, fail_if, number_is, h, n, kept_code, kept_number, kept_done, to_value, number_of_value, to_number}
-use Rattle.lower_model.specs.Quick.{Within, unsure, test_within, Source, Named, Constant, all_unsure, Sum, sum_names, sum_op, sum_in, Update, update_in, Tally, tally_in, Counted, counted_in, Pair, pair_names, pair_in, contrary, step_jumps, is_nothing}
+use Rattle.lower_model.specs.Quick.{Within, unsure, test_within, Source, Named, Constant, all_unsure, Sum, sum_names, sum_op, sum_in, Update, update_in, Tally, tally_in, Remainder, remainder_in, remainder_names, most_multiplied, multiplied, Counted, counted_in, Pair, pair_names, pair_in, contrary, step_jumps, is_nothing}
 use Rattle.lower_model.specs.Arithmetic.{relation}
 use Rattle.lower_model.specs.Emission.{Layout, array_pushed, text_pushed, pending_assigned, asked, text_dropped, emitted, dropped, tested}
 use Rattle.lower_model.specs.declared.import.Import.TheVariants.{Drop, IterFree, FreeArray}
@@ -138,8 +138,20 @@ module _ (y : Layout) where
       (to_value b g zero (element_numbered q.read d (to_number b (form_of (g ∷ []) q.added) 1 d
       (does (LocalGet (n b 2)) (does (LocalGet (n b 1)) (sum_kept (sum_op q.op) 2 d (element_given q.written k))))))))
 
+  -- A name takes a remainder that is in range: by the module itself where no product leaves it.
+
+  abbrev pub remainder_taken : Remainder → Instructions → Instructions
+  remainder_taken q k =
+      does (name_read q.multiple.name) (multiplied q.multiple.factor (does (I64Const (cast_unsigned w64 q.divisor)) (does (Binary I64 RemS) (does (GlobalSet (name_number q.target)) k))))
+
+  abbrev pub remainder_dropped : Option Remainder → Code → ℕ → Instructions → Instructions
+  remainder_dropped None e d k = dropped y [] [] e zero zero d k
+  remainder_dropped (Some q) e d k =
+      let most = most_multiplied q.multiple.factor in
+      all_unsure name_read (remainder_names q) (pos most) (most + most) (either (dropped y [] [] e zero zero (suc d) Done) (remainder_taken q Done) k)
+
   abbrev pub barely_dropped : Option Tally → Code → ℕ → Instructions → Instructions
-  barely_dropped None e d k = dropped y [] [] e zero zero d k
+  barely_dropped None e d k = remainder_dropped (remainder_in e) e d k
   barely_dropped (Some q) e d k = tallied q d k
 
   abbrev pub plainly_dropped : Option Update → Code → ℕ → Instructions → Instructions

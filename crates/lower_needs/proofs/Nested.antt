@@ -21,9 +21,9 @@ use Rattle.sem_scripts.specs.Names.{ArrayName}
 use Rattle.lower_model.specs.Emission.{Layout, all_emitted, constant_field, emitted, field_in, field_or, one_field, text_kept}
 use Rattle.lower_model.specs.Functions.{layout_of, main_bases, main_callee, routine_bases, routine_callee}
 use Rattle.lower_model.specs.Places.{Bases}
-use Rattle.lower_model.specs.Quick.{Within, test_within, joined, all_unsure, Source, source_in, Sum, sum_names, sum_op, sum_in, sum_of, two_sum, set_sum, kept_sum, update_sum, old_source, stored_name, new_sum, let_sum, Update, update_in, Tally, tally_in, Counted, counted_in, Pair, pair_names, pair_in, step_jumps, is_nothing}
+use Rattle.lower_model.specs.Quick.{Within, test_within, joined, all_unsure, Source, source_in, Sum, sum_names, sum_op, sum_in, sum_of, two_sum, set_sum, kept_sum, update_sum, old_source, stored_name, new_sum, let_sum, Update, update_in, Tally, tally_in, Remainder, remainder_in, remainder_names, Counted, counted_in, Pair, pair_names, pair_in, step_jumps, is_nothing}
 use Rattle.lower_model.specs.Small.{does, either}
-use Rattle.lower_model.specs.Statements.{name_read, name_numbered, sum_kept, sum_taken, element_numbered, element_given, barely_dropped, plainly_dropped, quickly_dropped, left_unless_counted, left_unless_pair, left_unless, again, all_emptied, arrays_emptied, before_parts, block, iterator_left, iterators_emptied, key_stored, left_by, names_declared, names_made, part_done, record_done, records_read, routines_declared, step_emitted, steps_emitted, temporaries_emptied}
+use Rattle.lower_model.specs.Statements.{name_read, name_numbered, sum_kept, sum_taken, element_numbered, element_given, remainder_dropped, barely_dropped, plainly_dropped, quickly_dropped, left_unless_counted, left_unless_pair, left_unless, again, all_emptied, arrays_emptied, before_parts, block, iterator_left, iterators_emptied, key_stored, left_by, names_declared, names_made, part_done, record_done, records_read, routines_declared, step_emitted, steps_emitted, temporaries_emptied}
 use Rattle.lower_model.proofs.Tallies.{Shape, Updating, Following, Leading, tally_code, tally_is}
 use Rattle.lower_model.proofs.Updating.{added_is}
 use Rattle.lower_needs.specs.Labels.{choice_labels, labels_among, labels_in, more_if, step_labels, steps_labels}
@@ -248,9 +248,13 @@ module _ (y : Layout) where
   given_deep : {k : Instructions} {m : ℕ} (a : ArrayName) → Deep k m → Deep (element_given y a k) m
   given_deep a r = array_deep y a (past _ (past _ (past _ (past _ (past _ (past _ (past _ r)))))))
 
+  remainder_deep : {k : Instructions} {m : ℕ} (o : Option Remainder) (e : Code) (d : ℕ) → Deep k m → Deep (remainder_dropped y o e d k) m
+  remainder_deep None e d r = dropped_deep y [] [] e zero zero d r
+  remainder_deep (Some q) e d r = all_deep (remainder_names q) _ _ (behind_either r)
+
   module _ {k : Instructions} {m : ℕ} where
     barely_deep : (o : Option Tally) (e : Code) (d : ℕ) → Deep k m → Deep (barely_dropped y o e d k) m
-    barely_deep None e d r = dropped_deep y [] [] e zero zero d r
+    barely_deep None e d r = remainder_deep (remainder_in e) e d r
     barely_deep (Some q) e d r =
         let f = form_of [] q.key in
         emitted_deep y false [] [] q.key zero zero d (emitted_deep y false (f ∷ []) (zero ∷ []) q.added 1 zero d
@@ -279,8 +283,12 @@ module _ (y : Layout) where
     unless_deep None e d out r = pair_deep (pair_in e) e d out r
     unless_deep (Some q) e d out r = past _ (past _ (past _ (past _ (past _ (behind_either r)))))
 
+  remainder_labelled : (k : Instructions) (o : Option Remainder) (e : Code) (d : ℕ) → Deep (remainder_dropped y o e d k) (labels_in e)
+  remainder_labelled k None e d = labelled _ true [] [] e zero zero d
+  remainder_labelled k (Some q) e d = all_deep (remainder_names q) _ _ (at_least (inside_either (labelled _ true [] [] e zero zero (suc d)) any) (omega arith))
+
   barely_labelled : (k : Instructions) (o : Option Tally) (e : Code) (d : ℕ) → tally_in e ≡ o → Deep (barely_dropped y o e d k) (labels_in e)
-  barely_labelled k None e d h = labelled _ true [] [] e zero zero d
+  barely_labelled k None e d h = remainder_labelled k (remainder_in e) e d
   barely_labelled k (Some q) e d h =
       let t = tally_is e q h in
       at_least (both (labelled _ false [] [] q.key zero zero d) (emitted_deep y false [] [] q.key zero zero d (labelled _ false (form_of [] q.key ∷ []) (zero ∷ []) q.added 1 zero d)))

@@ -5,11 +5,13 @@ use Rattle.std.specs.Bool.{◌==◌}
 use Rattle.std.proofs.lemmas.Bool.{eqb-true}
 use Rattle.std.proofs.lemmas.Bool.Decides.{nat_tests}
 use Rattle.std.specs.List.{list_any}
+use Rattle.std.specs.Option.{option_map}
 use Rattle.std.specs.declared.vec.Vec.{Vec}
 use Rattle.std.specs.declared.alloc.Global.{Global}
 use Rattle.mid_program.specs.Mid as plain
 use Rattle.mid_program.specs.ViewCode.{before, view, view_step, view_steps, views}
 use Rattle.mid_program.specs.declared.mid.Arithmetic.{Arithmetic}
+use Rattle.mid_program.specs.declared.mid.Arithmetic.TheVariants as inline
 use Rattle.sem_primitives.specs.declared.table.Primitive.{Primitive}
 use Rattle.sem_primitives.specs.declared.table.Primitive.TheVariants as row
 use Rattle.mid_program.specs.declared.mid.Operation.{Operation}
@@ -18,9 +20,9 @@ use Rattle.mid_program.specs.declared.code.Operand.{Operand}
 use Rattle.mid_program.specs.declared.code.Operand.TheVariants as operand
 use Rattle.mid_program.specs.declared.code.Code.{Code, Do}
 use Rattle.mid_program.specs.declared.step.Step.{Step, Block}
-use Rattle.lower_model.specs.Quick.{array_here, array_where, element_at, element_read, element_set, field_count, is_among, is_bound, is_count, is_nothing, kept_sum, kept_update, name_in, source_in, sum_of, taker_at, update_of}
+use Rattle.lower_model.specs.Quick.{array_here, array_where, element_at, element_read, element_set, field_count, is_among, is_bound, is_count, is_nothing, kept_sum, kept_update, multiple_in, name_in, source_in, sum_of, taker_at, two_product, two_remainder, update_of}
 use Rattle.lower_model.proofs.Tallies.{bound_is}
-use Rattle.lower_quick.specs.Operands.{is_elem, is_set_elem, one_code, reads_special, three_codes, two_codes}
+use Rattle.lower_quick.specs.Operands.{divided_by, is_elem, is_modulo, is_set_elem, is_times, one_code, product_in, reads_special, three_codes, two_codes, two_factors}
 use Rattle.lower_quick.proofs.Views.{view_block, view_do}
 
 pub do_view : (c : Code) (o : Operation) (v : Vec Operand Global) (es : List Operand) → c ≡ Do o v → es ≡ v.items → plain.Do o (views es) ≡ view c
@@ -136,6 +138,34 @@ kept_is i o a es x y h k = sym (ap (kept_sum i o a) (two_are es x y h ∙ ap (λ
 
 pub added_is : (i : ℕ) (o : Arithmetic) (a : plain.Code) (es : plain.Codes) (x y : plain.Code) → Some (x, y) ≡ two_codes es → is_bound true zero y ≡ true → update_of i o (name_in x) a ≡ kept_update i o a es
 added_is i o a es x y h k = sym (ap (kept_update i o a) (two_are es x y h ∙ ap (λ (e : plain.Code). plain.At x (plain.At e plain.End)) (bound_is true zero y k)))
+
+-- products and remainders
+
+pub product_here : (o : Arithmetic) (es : plain.Codes) → is_times o ≡ true → two_factors es ≡ two_product o es
+product_here inline.Times (plain.At a (plain.At e plain.End)) h = refl
+product_here inline.Times es h = refl
+product_here o es h = cc
+
+pub no_product : (o : Arithmetic) (es : plain.Codes) → is_times o ≡ false → None ≡ two_product o es
+no_product inline.Times es h = cc
+no_product o es h = refl
+
+pub remainder_here : (i : ℕ) (o : Arithmetic) (es : plain.Codes) → is_modulo o ≡ true → divided_by i es ≡ two_remainder i o es
+remainder_here i inline.Modulo (plain.At a (plain.At e plain.End)) h = refl
+remainder_here i inline.Modulo es h = refl
+remainder_here i o es h = cc
+
+pub no_remainder : (i : ℕ) (o : Arithmetic) (es : plain.Codes) → is_modulo o ≡ false → None ≡ two_remainder i o es
+no_remainder i inline.Modulo es h = cc
+no_remainder i o es h = refl
+
+pub name_multiple : (e : plain.Code) (i : ℕ) → Some i ≡ name_in e → Some (record { name = i; factor = None }) ≡ multiple_in e
+name_multiple (plain.Get (plain.Global true j)) i h = ap (option_map (λ (k : ℕ). record { name = k; factor = None })) h
+name_multiple e i h = cc
+
+pub product_multiple : (e : plain.Code) → None ≡ name_in e → product_in e ≡ multiple_in e
+product_multiple (plain.Get (plain.Global true j)) h = cc
+product_multiple e h = refl
 
 -- elements of arrays
 

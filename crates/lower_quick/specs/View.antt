@@ -5,6 +5,8 @@ use Rattle.mid_program.specs.ViewCode.{view, view_array}
 use Rattle.lower_quick.specs.declared.counted.Counted.{Counted}
 use Rattle.lower_quick.specs.declared.source.Source.{Source}
 use Rattle.lower_quick.specs.declared.source.Source.TheVariants.{Named, Constant}
+use Rattle.lower_quick.specs.declared.remainder.Multiple.{Multiple}
+use Rattle.lower_quick.specs.declared.remainder.Remainder.{Remainder}
 use Rattle.lower_quick.specs.declared.sum.Sum.{Sum}
 use Rattle.lower_quick.specs.declared.pair.Pair.{Pair}
 use Rattle.lower_quick.specs.declared.tally.Tally.{Tally}
@@ -33,3 +35,9 @@ view_update u = record { target = u.target; op = u.op; name = u.name; added = vi
 
 abbrev pub view_tally : Tally → plain.Tally
 view_tally t = record { read = view_array t.read; written = view_array t.written; key = view t.key.now; op = t.op; added = view t.added.now }
+
+abbrev pub view_multiple : Multiple → plain.Multiple
+view_multiple m = record { name = m.name; factor = m.factor }
+
+abbrev pub view_remainder : Remainder → plain.Remainder
+view_remainder q = record { target = q.target; multiple = view_multiple q.multiple; divisor = q.divisor }

@@ -6,6 +6,7 @@ mod jumps;
 mod names;
 mod operands;
 mod pair;
+mod remainder;
 mod source;
 mod sum;
 mod tally;
@@ -14,8 +15,9 @@ mod within;
 
 pub use counted::{Counted, counted_in};
 pub use jumps::{is_nothing, step_jumps};
-pub use names::{pair_names, sum_names};
+pub use names::{pair_names, remainder_names, sum_names};
 pub use pair::{Pair, contrary, pair_in};
+pub use remainder::{Multiple, Remainder, remainder_in};
 pub use source::Source;
 pub use sum::{Sum, sum_in};
 pub use tally::{Tally, tally_in};

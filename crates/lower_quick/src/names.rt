@@ -1,9 +1,10 @@
-//! The names of sums and of comparisons, each once.
+//! The names of sums, of remainders and of comparisons, each once.
 ghost use Rattle.std.specs.Prelude.{◌≡◌, IfOk, OnOk};
-ghost use Rattle.lower_quick.specs.View.{view_pair, view_source, view_sum};
-ghost use Rattle.lower_model.specs.Quick.{and_name, and_source, is_among, pair_names, sum_names};
+ghost use Rattle.lower_quick.specs.View.{view_pair, view_remainder, view_source, view_sum};
+ghost use Rattle.lower_model.specs.Quick.{and_name, and_source, is_among, pair_names, remainder_names, sum_names};
 
 use crate::pair::Pair;
+use crate::remainder::Remainder;
 use crate::source::Source;
 use crate::sum::Sum;
 use std::alloc::{AllocError, Global};
@@ -51,5 +52,15 @@ pub fn pair_names(alloc: Global, pair: Pair) -> Result<Vec<usize>, AllocError>
     let mut names = Vec::new(alloc);
     and_source(&mut names, pair.right)?;
     and_source(&mut names, pair.left)?;
+    Ok(names)
+}
+
+/// The names of a remainder, the one that it goes to among them.
+pub fn remainder_names(alloc: Global, remainder: Remainder) -> Result<Vec<usize>, AllocError>
+    ensures { IfOk result (λ names. names.items ≡ remainder_names (view_remainder remainder)) }
+{
+    let mut names = Vec::new(alloc);
+    and_name(&mut names, remainder.multiple.name)?;
+    and_name(&mut names, remainder.target)?;
     Ok(names)
 }

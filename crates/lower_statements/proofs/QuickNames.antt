@@ -1,5 +1,5 @@
 -- The names of quick ways are numbers of globals, where the code can be emitted.
-use Rattle.std.proofs.Common.{◌≡◌, ℕ, zero, suc, ◌^◌, ◌<◌, ◌≤◌, Bool, true, false, List, [], ◌∷◌, length, get_or, take, drop, drop-cons, ◌-◌, Option, Some, None, ℤ, pos, ◌+ℤ◌, unsigned_abs, refl, sym, ap, subst, arith, if◌then◌else◌}
+use Rattle.std.proofs.Common.{◌≡◌, ℕ, zero, suc, ◌^◌, ◌<◌, ◌≤◌, Bool, true, false, nat_eq, List, [], ◌∷◌, length, get_or, take, drop, drop-cons, ◌-◌, Option, Some, None, ℤ, pos, ◌+ℤ◌, unsigned_abs, refl, sym, ap, subst, arith, if◌then◌else◌}
 use Rattle.std.proofs.lemmas.List.{take_all}
 use Rattle.awk_values.specs.declared.comparison.CompareOp.{CompareOp}
 use Rattle.awk_values.specs.declared.comparison.CompareOp.TheVariants as compare
@@ -9,15 +9,16 @@ use Rattle.mid_program.specs.declared.mid.Arithmetic.{Arithmetic}
 use Rattle.mid_program.specs.declared.mid.Operation.TheVariants.{Inline, AsNumber}
 use Rattle.mid_program.specs.Mid.{Global, Code, Do, Compare, Number, Set, Let, Bound, Codes, End, At}
 use Rattle.lower_model.specs.Emission.{Layout}
-use Rattle.lower_model.specs.Quick.{Source, Named, Constant, Sum, Update, update_in, Tally, tally_in, Counted, counted_of, counted_in, field_count, Pair, Within, all_unsure, joined, shifted, and_name, and_source, both_within, compared_within, constant_in, first_ones, is_among, kept_sum, let_sum, name_in, new_sum, old_source, pair_in, pair_names, pair_of, set_sum, source_in, stored_name, sum_in, sum_names, sum_of, test_within, two_sum, update_sum}
+use Rattle.lower_model.specs.Quick.{Source, Named, Constant, Sum, Update, update_in, Tally, tally_in, Remainder, remainder_in, remainder_names, Counted, counted_of, counted_in, field_count, Pair, Within, all_unsure, joined, shifted, and_name, and_source, both_within, compared_within, constant_in, first_ones, is_among, kept_sum, let_sum, name_in, new_sum, old_source, pair_in, pair_names, pair_of, set_sum, source_in, stored_name, sum_in, sum_names, sum_of, test_within, two_sum, update_sum}
 use Rattle.lower_model.proofs.Quick.{name_is}
 use Rattle.lower_model.proofs.Tallies.{Shape, Updating, Following, Leading, tally_code, IsAdded, tally_is}
+use Rattle.lower_model.proofs.Remainders.{IsRemainder, factored_code, remainder_code, remainder_is}
 use Rattle.lower_model.proofs.Updating.{added_is}
 use Rattle.lower_model.proofs.QuickNames.{near_sum, some_is, source_code, source_is, stored_is}
-use Rattle.lower_pieces.specs.Bounds.{most_places}
+use Rattle.lower_pieces.specs.Bounds.{most_labels, most_places}
 use Rattle.lower_expressions.specs.Fits.{AllFit, Fits}
 use Rattle.lower_statements.specs.Parts.{past}
-use Rattle.lower_statements.specs.QuickFits.{NamesFit, PairFits, SourceFits, SumFits, TallyFits}
+use Rattle.lower_statements.specs.QuickFits.{FactorFits, NamesFit, PairFits, RemainderFits, SourceFits, SumFits, TallyFits}
 
 -- lists of names
 
@@ -34,6 +35,9 @@ source_list (Constant z) is le f = f
 
 pub sum_list : (s : Sum) → SumFits s → NamesFit (sum_names s)
 sum_list s f = name_list s.target (and_source s.left (and_source s.right [])) f.0 (source_list s.left (and_source s.right []) f.1.0 (source_list s.right [] f.1.1 tt))
+
+pub remainder_list : (q : Remainder) → RemainderFits q → NamesFit (remainder_names q)
+remainder_list q f = name_list q.target (q.multiple.name ∷ []) f.0 (f.1.0, tt)
 
 pub pair_list : (q : Pair) → PairFits q → NamesFit (pair_names q)
 pair_list q f = source_list q.left (and_source q.right []) f.0 (source_list q.right [] f.1 tt)
@@ -152,6 +156,47 @@ module _ (y : Layout) where
 
   pub tally_fits : (e : Code) (q : Tally) (d : ℕ) → tally_in e ≡ Some q → Fits y e 0 0 d → TallyFits y q d
   tally_fits e q d h f = let t = tally_is e q h in counter_fits t.shape q d t.added (subst (λ (x : Code). Fits y x 0 0 d) t.code f)
+
+  -- a remainder
+
+  factor_fits : (e : Code) (i j : ℕ) (f : Option ℤ) (z : ℤ) → IsRemainder e (record { target = i; multiple = record { name = j; factor = f }; divisor = z }) → FactorFits f
+  factor_fits e i j None z s = tt
+  factor_fits e i j (Some c) z s = by (unsigned_abs c) s.factor
+    where
+      by : (k : ℕ) → nat_eq k 0 ≡ false → 0 < k
+      by zero h = cc
+      by (suc k) h = omega arith
+
+  factored_fits : (i : ℕ) (f : Option ℤ) (t w d : ℕ) → Fits y (factored_code i f) t w d → i ≤ most_places
+  factored_fits i None t w d f = f.1
+  factored_fits i (Some c) t w d f = f.1.0.1
+
+  pub remainder_fits : (e : Code) (q : Remainder) (t w d : ℕ) → remainder_in e ≡ Some q → Fits y e t w d → RemainderFits q
+  remainder_fits e q t w d h f =
+      let s = remainder_is e q h in
+      let g = subst (λ (x : Code). Fits y x t w d) s.code f in
+      (g.1.0, (factored_fits q.multiple.name q.multiple.factor t w d g.1.1.1.0, factor_fits e q.target q.multiple.name q.multiple.factor q.divisor s))
+
+  factored_deeper : (i : ℕ) (f : Option ℤ) (t w d : ℕ) → suc (suc (suc d)) ≤ most_labels → Fits y (factored_code i f) t w d → Fits y (factored_code i f) t w (suc d)
+  factored_deeper i None t w d l f = ((f.0.0, (f.0.1.0, l)), f.1)
+  factored_deeper i (Some c) t w d l f =
+      let a = f.0 in
+      let g = f.1.0 in
+      let n = f.1.1 in
+      ((a.0, (a.1.0, l)), (((g.0.0, (g.0.1.0, l)), g.1), ((n.0.0, (n.0.1.0, l)), ((n.1.0.0, (n.1.0.1.0, l)), (n.1.1.0, (n.1.1.1.0, l))))))
+
+  -- one label deeper
+  pub remainder_deeper : (e : Code) (q : Remainder) (d : ℕ) → remainder_in e ≡ Some q → suc (suc (suc d)) ≤ most_labels → Fits y e 0 0 d → Fits y e 0 0 (suc d)
+  remainder_deeper e q d h l f =
+      let s = remainder_is e q h in
+      subst (λ (x : Code). Fits y x 0 0 (suc d)) (sym s.code) (by (subst (λ (x : Code). Fits y x 0 0 d) s.code f))
+    where
+      by : Fits y (remainder_code q) 0 0 d → Fits y (remainder_code q) 0 0 (suc d)
+      by g =
+          let a = g.0 in
+          let x = g.1.1 in
+          let n = x.1.1 in
+          ((a.0, (a.1.0, l)), (g.1.0, ((x.0.0, (x.0.1.0, l)), (factored_deeper q.multiple.name q.multiple.factor 0 0 d l x.1.0, ((n.0.0, (n.0.1.0, l)), ((n.1.0.0, (n.1.0.1.0, l)), (n.1.1.0, (n.1.1.1.0, l))))))))
 
   -- a comparison with how many fields there are
   counted_of_fits : (c : CompareOp) (a : Code) (i : Option ℕ) (j : Bool) (q : Counted) (t w d : ℕ) → name_in a ≡ i → counted_of c i j ≡ Some q → Fits y a t w d → q.name ≤ most_places

@@ -11,10 +11,10 @@ use Rattle.wasm_types.specs.declared.instr.Simple.TheVariants.{Nop, Br, BrIf, Lo
 use Rattle.sem_scripts.specs.Names.{ArrayName}
 use Rattle.mid_program.specs.Mid.{Kind, Boxed, Unboxed, Many, Code, Form, Step, Steps, Program, form_of}
 use Rattle.lower_model.specs.Emission.{Layout, array_pushed, emitted, pending_assigned, tested}
-use Rattle.lower_model.specs.Quick.{Counted, Pair, Sum, all_unsure, sum_names, sum_op, Tally, Within, is_nothing, pair_in, step_jumps, test_within}
+use Rattle.lower_model.specs.Quick.{Counted, Pair, Remainder, Sum, all_unsure, sum_names, sum_op, Tally, Within, is_nothing, pair_in, step_jumps, test_within}
 use Rattle.lower_model.specs.Places.{Bases, answer_local, handle_global, iterator_local, status_global, way_global}
 use Rattle.lower_model.specs.Small.{ask, ask_row, does, either, end_code, fail_if, h, kept_code, moved_out, n, number_is, text_beside, to_number, to_value, when}
-use Rattle.lower_model.specs.Statements.{again, all_emptied, before_parts, block, first_part, goes_on, iterator_left, key_stored, last_part, left_by, left_unless, left_unless_counted, left_unless_pair, name_numbered, name_read, names_declared, parameters_dropped, part_done, record_done, records_read, routines_declared, step_emitted, steps_emitted, sum_kept, element_given, summed, summed_anyway, swept, way_exit, way_next}
+use Rattle.lower_model.specs.Statements.{again, all_emptied, before_parts, block, first_part, goes_on, iterator_left, key_stored, last_part, left_by, left_unless, left_unless_counted, left_unless_pair, name_numbered, name_read, names_declared, parameters_dropped, part_done, record_done, records_read, routines_declared, step_emitted, steps_emitted, sum_kept, element_given, remainder_dropped, summed, summed_anyway, swept, way_exit, way_next}
 use Rattle.lower_model.specs.declared.import.Import.TheVariants.{Drop}
 use Rattle.lower_statements.specs.declared.around.Around.{Around}
 
@@ -51,6 +51,10 @@ within_tested y q e d out k = left_unless y (Some q) e d out k
 -- a sum that a name takes: quickly where all numbers are near
 abbrev pub sum_done : Layout → Sum → ℕ → Instructions → Instructions
 sum_done y s d k = all_unsure (name_read y) (sum_names s) (pos (2 ^ 52)) (2 ^ 53) (either (summed_anyway y s (suc d) Done) (summed y s Done) k)
+
+-- a remainder that a name takes: quickly where no product leaves the range
+abbrev pub remainder_done : Layout → Remainder → Code → ℕ → Instructions → Instructions
+remainder_done y q e d k = remainder_dropped y (Some q) e d k
 
 -- whether a name has no number
 abbrev pub unnumbered : Layout → ℕ → Instructions → Instructions

@@ -1,7 +1,7 @@
 -- Which quick ways can be emitted: the names in them are numbers of globals, and their code fits.
-use Rattle.std.specs.Prelude.{ℕ, ◌≤◌, List, [], ◌∷◌}
+use Rattle.std.specs.Prelude.{ℕ, ◌≤◌, ◌<◌, List, [], ◌∷◌, Option, Some, None, ℤ, unsigned_abs}
 use Rattle.lower_model.specs.Emission.{Layout}
-use Rattle.lower_model.specs.Quick.{Source, Named, Constant, Sum, Tally, Pair}
+use Rattle.lower_model.specs.Quick.{Source, Named, Constant, Sum, Tally, Remainder, Pair}
 use Rattle.lower_pieces.specs.Bounds.{most_places}
 use Rattle.lower_expressions.specs.Fits.{ArrayFits, Fits}
 
@@ -18,6 +18,14 @@ SumFits s = (s.target ≤ most_places) × (SourceFits s.left × SourceFits s.rig
 
 abbrev pub PairFits : Pair → Type 0
 PairFits q = SourceFits q.left × SourceFits q.right
+
+-- a factor is not 0
+abbrev pub FactorFits : Option ℤ → Type 0
+FactorFits None = Unit {0}
+FactorFits (Some c) = 0 < unsigned_abs c
+
+abbrev pub RemainderFits : Remainder → Type 0
+RemainderFits q = (q.target ≤ most_places) × ((q.multiple.name ≤ most_places) × FactorFits q.multiple.factor)
 
 -- a counter's key in temporary 0, and what is added in the next one
 abbrev pub TallyFits : Layout → Tally → ℕ → Type 0

@@ -1,26 +1,29 @@
 //! Code of expressions in statements.
 ghost use Rattle.std.specs.Prelude.{[], ◌∷◌, ◌≡◌, ◌≤◌, IfOk, OnOk, false, suc};
+ghost use Rattle.wasm_types.specs.Syntax.{Done};
 ghost use Rattle.mid_program.specs.Mid.{form_of};
 ghost use Rattle.mid_program.specs.ViewCode.{view};
 ghost use Rattle.lower_model.specs.Emission.{dropped, emitted, tested};
-ghost use Rattle.lower_model.specs.Quick.{sum_in, tally_in, update_in};
-ghost use Rattle.lower_model.specs.Statements.{barely_dropped, plainly_dropped, quickly_dropped};
+ghost use Rattle.lower_model.specs.Quick.{remainder_in, sum_in, tally_in, update_in};
+ghost use Rattle.lower_model.specs.Statements.{barely_dropped, plainly_dropped, quickly_dropped, remainder_dropped};
 ghost use Rattle.lower_pieces.specs.Bounds.{most_labels, most_places};
 ghost use Rattle.lower_pieces.specs.Emits.{Emits};
 ghost use Rattle.lower_pieces.specs.Forms.{view_form};
 ghost use Rattle.lower_expressions.specs.Fits.{Fits};
 ghost use Rattle.lower_expressions.specs.View.{view_layout};
-ghost use Rattle.lower_quick.specs.View.{view_sum};
-ghost use Rattle.lower_statements.specs.Parts.{answer_left, status_left, sum_done};
-ghost use Rattle.lower_statements.specs.QuickFits.{SumFits};
+ghost use Rattle.lower_quick.specs.View.{view_remainder, view_sum};
+ghost use Rattle.lower_statements.specs.Parts.{answer_left, remainder_done, status_left, sum_done};
+ghost use Rattle.lower_statements.specs.QuickFits.{RemainderFits, SumFits};
 
 use crate::leaving::{WAY_EXIT, left_by};
-use crate::quick::{all_unsure, sum_code};
+use crate::quick::{all_unsure, most_multiplied, remainder_code, sum_code};
 use crate::summing::{anyway_code, updated};
 use crate::tallying::tallied;
 use lower_expressions::{At, Kept, Layout, expression, left_over};
 use lower_pieces::{Bases, Form, does_all, either, moved_out, to_number, to_value, truth};
-use lower_quick::{Sum, sum_in, sum_names, tally_in, update_in};
+use lower_quick::{
+    Remainder, Sum, remainder_in, remainder_names, sum_in, sum_names, tally_in, update_in,
+};
 use mid_program::Code;
 use std::alloc::{AllocError, Global};
 use wasm_types::{Instr, Simple};
@@ -66,6 +69,54 @@ fn done_alone(
     dropped(y, &mut kept, out, code, at_first(exit))
 }
 
+/// The same in a list of its own.
+fn alone_code(y: &Layout<'_>, code: &Code, exit: u32) -> Result<Vec<Instr>, AllocError>
+    requires { Fits (view_layout y.now) (view code.now) 0 0 exit }
+    ensures { IfOk result (λ v. Emits [] v.items (dropped (view_layout y.now) [] [] (view code.now) 0 0 exit)) }
+{
+    let mut all = Vec::new(y.alloc);
+    done_alone(y, &mut all, code, exit)?;
+    Ok(all)
+}
+
+/// Adds a remainder that a name takes: by the module itself where no product leaves the range.
+fn remainder_done(
+    y: &Layout<'_>,
+    out: &mut Vec<Instr>,
+    remainder: Remainder,
+    code: &Code,
+    exit: u32,
+) -> Result<(), AllocError>
+    requires labels { suc (suc (suc exit)) ≤ most_labels }
+    requires remainder { RemainderFits (view_remainder remainder) }
+    requires fit { Fits (view_layout y.now) (view code.now) 0 0 (suc exit) }
+    ensures { OnOk result (Emits out.old.items out.new.items (remainder_done (view_layout y.now) (view_remainder remainder) (view code.now) exit)) }
+{
+    let names = remainder_names(y.alloc, remainder)?;
+    let most = most_multiplied(remainder.multiple.factor);
+    all_unsure(y, out, &names, most, most + most)?;
+    let all_cases = alone_code(y, code, exit + 1)?;
+    let quick = remainder_code(y, remainder)?;
+    either(y.alloc, out, all_cases, quick)
+}
+
+/// Adds code for what it does alone that is no sum for a name, and no counter.
+fn rest_done(
+    y: &Layout<'_>,
+    out: &mut Vec<Instr>,
+    code: &Code,
+    exit: u32,
+) -> Result<(), AllocError>
+    requires labels { suc (suc (suc exit)) ≤ most_labels }
+    requires fit { Fits (view_layout y.now) (view code.now) 0 0 exit }
+    ensures { OnOk result (Emits out.old.items out.new.items (remainder_dropped (view_layout y.now) (remainder_in (view code.now)) (view code.now) exit)) }
+{
+    match remainder_in(code) {
+        Some(remainder) => remainder_done(y, out, remainder, code, exit),
+        None => done_alone(y, out, code, exit),
+    }
+}
+
 /// Adds a sum that a name takes: by the module itself where all numbers are near.
 fn sum_done(y: &Layout<'_>, out: &mut Vec<Instr>, sum: Sum, exit: u32) -> Result<(), AllocError>
     requires labels { suc (suc (suc exit)) ≤ most_labels }
@@ -86,13 +137,13 @@ fn barely_done(
     code: &Code,
     exit: u32,
 ) -> Result<(), AllocError>
-    requires labels { suc (suc exit) ≤ most_labels }
+    requires labels { suc (suc (suc exit)) ≤ most_labels }
     requires fit { Fits (view_layout y.now) (view code.now) 0 0 exit }
     ensures { OnOk result (Emits out.old.items out.new.items (barely_dropped (view_layout y.now) (tally_in (view code.now)) (view code.now) exit)) }
 {
     match tally_in(code) {
         Some(tally) => tallied(y, out, tally, exit),
-        None => done_alone(y, out, code, exit),
+        None => rest_done(y, out, code, exit),
     }
 }
 
@@ -103,7 +154,7 @@ fn plainly_done(
     code: &Code,
     exit: u32,
 ) -> Result<(), AllocError>
-    requires labels { suc (suc exit) ≤ most_labels }
+    requires labels { suc (suc (suc exit)) ≤ most_labels }
     requires fit { Fits (view_layout y.now) (view code.now) 0 0 exit }
     ensures { OnOk result (Emits out.old.items out.new.items (plainly_dropped (view_layout y.now) (update_in (view code.now)) (view code.now) exit)) }
 {

@@ -1,18 +1,18 @@
 //! Quick ways of statements on numbers: names whose numbers are within bounds, and what is done with them on the stack.
 ghost use Rattle.std.specs.Prelude.{[], ◌≡◌, ◌≤◌, ◌^◌, IfOk, OnOk, pos, suc};
 ghost use Rattle.wasm_types.specs.Syntax.{Done};
-ghost use Rattle.lower_model.specs.Quick.{all_unsure, joined, shifted, sum_op, unsure};
-ghost use Rattle.lower_model.specs.Statements.{counted_left, name_read, pair_left, source_pushed, summed};
+ghost use Rattle.lower_model.specs.Quick.{all_unsure, joined, most_multiplied, multiplied, shifted, sum_op, unsure};
+ghost use Rattle.lower_model.specs.Statements.{counted_left, name_read, pair_left, remainder_taken, source_pushed, summed};
 ghost use Rattle.lower_pieces.specs.Bounds.{most_labels, most_places};
 ghost use Rattle.lower_pieces.specs.Emits.{Emits};
 ghost use Rattle.lower_expressions.specs.View.{view_layout};
-ghost use Rattle.lower_quick.specs.View.{view_counted, view_pair, view_source, view_sum};
+ghost use Rattle.lower_quick.specs.View.{view_counted, view_pair, view_remainder, view_source, view_sum};
 ghost use Rattle.lower_statements.specs.Parts.{past, unnumbered};
-ghost use Rattle.lower_statements.specs.QuickFits.{NamesFit, PairFits, SourceFits, SumFits};
+ghost use Rattle.lower_statements.specs.QuickFits.{FactorFits, NamesFit, PairFits, RemainderFits, SourceFits, SumFits};
 
 use lower_expressions::{Layout, global_number};
 use lower_pieces::{TEXT_BESIDE, ask_row, comparison_number, does, does_all, relation};
-use lower_quick::{Counted, Pair, Source, Sum, Within, contrary};
+use lower_quick::{Counted, Pair, Remainder, Source, Sum, Within, contrary};
 use mid_program::Arithmetic;
 use sem_primitives::{Primitive, Special};
 use std::alloc::AllocError;
@@ -139,6 +139,62 @@ pub(crate) fn sum_code(y: &Layout<'_>, sum: Sum) -> Result<Vec<Instr>, AllocErro
 {
     let mut code = Vec::new(y.alloc);
     summed(y, &mut code, sum)?;
+    Ok(code)
+}
+
+/// The greatest number whose product with a factor is in range.
+pub(crate) fn most_multiplied(factor: Option<i64>) -> u64
+    requires { FactorFits factor }
+    ensures value { result ≡ most_multiplied factor }
+    ensures few { result ≤ 2 ^ 53 }
+{
+    match factor {
+        Some(factor) => (1 << 53) / factor.unsigned_abs(),
+        None => 1 << 53,
+    }
+}
+
+/// Multiplies the number on the stack.
+fn multiplied(out: &mut Vec<Instr>, factor: Option<i64>) -> Result<(), AllocError>
+    ensures { OnOk result (Emits out.old.items out.new.items (multiplied factor)) }
+{
+    let Some(factor) = factor else { return Ok(()) };
+    let all = [
+        Simple::I64Const(factor.cast_unsigned()),
+        Simple::Binary(ValType::I64, IBinOp::Mul),
+    ];
+    does_all(out, &all)
+}
+
+/// Adds a remainder of a number in range, which its name takes.
+fn remainder_taken(
+    y: &Layout<'_>,
+    out: &mut Vec<Instr>,
+    remainder: Remainder,
+) -> Result<(), AllocError>
+    requires { RemainderFits (view_remainder remainder) }
+    ensures { OnOk result (Emits out.old.items out.new.items (remainder_taken (view_layout y.now) (view_remainder remainder))) }
+{
+    does(out, name_read(y, remainder.multiple.name))?;
+    multiplied(out, remainder.multiple.factor)?;
+    let all = [
+        Simple::I64Const(remainder.divisor.cast_unsigned()),
+        Simple::Binary(ValType::I64, IBinOp::RemS),
+        Simple::GlobalSet(global_number(y, remainder.target)),
+    ];
+    does_all(out, &all)
+}
+
+/// The same in a list of its own.
+pub(crate) fn remainder_code(
+    y: &Layout<'_>,
+    remainder: Remainder,
+) -> Result<Vec<Instr>, AllocError>
+    requires { RemainderFits (view_remainder remainder) }
+    ensures { IfOk result (λ v. Emits [] v.items (remainder_taken (view_layout y.now) (view_remainder remainder))) }
+{
+    let mut code = Vec::new(y.alloc);
+    remainder_taken(y, &mut code, remainder)?;
     Ok(code)
 }
 

@@ -9,7 +9,7 @@ use Rattle.sem_primitives.specs.declared.constants.Destination.TheVariants as to
 use Rattle.sem_primitives.specs.declared.table.Primitive.TheVariants.{Elem, SetElem}
 use Rattle.sem_primitives.specs.declared.table.Listed.TheVariants.{Print}
 use Rattle.sem_scripts.specs.ScriptRun.{Setting, Ended, FaultedBy, setting_of}
-use Rattle.mid_program.specs.declared.mid.Arithmetic.TheVariants.{Plus}
+use Rattle.mid_program.specs.declared.mid.Arithmetic.TheVariants.{Modulo, Plus, Times}
 use Rattle.mid_program.specs.declared.mid.Operation.TheVariants.{AsNumber, Host, Inline}
 use Rattle.sem_scripts.specs.Names.{Numbered}
 use Rattle.mid_program.specs.Mid.{Kind, Boxed, Unboxed, Many, Global, Code, Do, Over, Compare, Number, Text, Array, Get, Set, Seq, Let, Bound, End, At, Declared, Step, Eval, Block, Loop, Steps, NoStep, Then, Program}
@@ -145,3 +145,29 @@ tallying k = record {
 pub tallying_rounds : (steps_of (tallying 20) ≡ steps_of (tallying 10) + 440) × (imports_of (tallying 20) ≡ imports_of (tallying 10) + 60)
 unfolding emitted all_emitted step_emitted steps_emitted digits
 tallying_rounds = (refl, refl)
+
+-- BEGIN { x = 1; while (n < k) { n = n + 1; x = x * 3 % 7 } print x }: n and x in this order
+abbrev residue : Step
+residue = Eval (Set (Global true 1) (Do (Inline Modulo) (At (Do (Inline Times) (At (nth 1) (At (Number (pos 3)) End))) (At (Number (pos 7)) End))))
+
+abbrev dividing : ℕ → Program
+dividing k = record {
+  texts = [];
+  globals = unboxed_name (codes "n") ∷ (unboxed_name (codes "x") ∷ []);
+  routines = [];
+  ranges = 1;
+  begin = Then (Eval (Set (Global true 1) (Number (pos 1)))) (Then (Loop true (Compare Less (n_of true) (Number (pos k))) (Block (Then (n_plus_one true) (Then residue NoStep))) (Block NoStep)) (Then (Eval (Over (Print to.Standard) (At (nth 1) End))) NoStep));
+  reads = false;
+  items = NoStep;
+  end = NoStep;
+}
+
+-- 3 to the power of 10 is 4 of 7
+pub divided_to_ten : is_sorted (dividing 10) ≡ true × value_run (dividing 10) plain_setting 2000 ≡ Some (Ended 0 (puts Standard (codes "4\n")))
+unfolding emitted all_emitted step_emitted steps_emitted digits sorted all_sorted step_sorted steps_sorted
+divided_to_ten = (refl, refl)
+
+-- 27 steps a round, 11 of them for the remainder, and no import
+pub dividing_rounds : (steps_of (dividing 20) ≡ steps_of (dividing 10) + 270) × (imports_of (dividing 20) ≡ imports_of (dividing 10))
+unfolding emitted all_emitted step_emitted steps_emitted digits
+dividing_rounds = (refl, refl)

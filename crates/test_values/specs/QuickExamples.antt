@@ -3,11 +3,11 @@ use Rattle.std.specs.Prelude.{◌≡◌, ℕ, ◌+◌, ◌-◌, ◌^◌, Bool, t
 use Rattle.awk_values.specs.declared.comparison.CompareOp.TheVariants.{Equal, Less, LessOrEqual}
 use Rattle.sem_primitives.specs.declared.table.Primitive.TheVariants.{Elem, Field, GetSpecial, SetElem}
 use Rattle.mid_program.specs.declared.mid.Arithmetic.{Arithmetic}
-use Rattle.mid_program.specs.declared.mid.Arithmetic.TheVariants.{Minus, Plus, Times}
+use Rattle.mid_program.specs.declared.mid.Arithmetic.TheVariants.{Minus, Modulo, Over, Plus, Times}
 use Rattle.mid_program.specs.declared.mid.Operation.TheVariants.{AsNumber, Host, Inline}
 use Rattle.mid_program.specs.Mid.{Array, At, Block, Bound, Break, Code, Compare, Continue, Do, Each, End, Eval, Fixed, Get, Global, If, Let, Loop, NoStep, Number, Parameter, Seq, Set, Step, Then}
 use Rattle.sem_scripts.specs.Names.{Numbered}
-use Rattle.lower_model.specs.Quick.{Constant, Named, counted_in, is_nothing, pair_in, step_jumps, sum_in, sum_names, tally_in, test_within, update_in}
+use Rattle.lower_model.specs.Quick.{Constant, Named, counted_in, is_nothing, most_multiplied, pair_in, remainder_in, remainder_names, step_jumps, sum_in, sum_names, tally_in, test_within, update_in}
 
 -- unboxed names
 abbrev name : ℕ → Code
@@ -76,6 +76,29 @@ pub no_counters : (tally_in (added_to Times first_field) ≡ None)
     × ((tally_in (Let first_field (Let first_field (joined Plus (element 1) (Bound true 0)))) ≡ None)
     × (tally_in (Let first_field (Let first_field (Let (joined Plus (element 2) (Bound true 0)) (Seq (set_element false 2) (Bound true 0))))) ≡ None))
 no_counters = (refl, (refl, refl))
+
+-- `x = x % 7`, `x = y * 3 % 7`, and constants less than 0
+pub remainders : (remainder_in (assigned 7 (joined Modulo (name 7) (Number (pos 7)))) ≡ Some (record { target = 7; multiple = record { name = 7; factor = None }; divisor = pos 7 }))
+    × ((remainder_in (assigned 7 (joined Modulo (joined Times (name 5) (Number (pos 3))) (Number (pos 7)))) ≡ Some (record { target = 7; multiple = record { name = 5; factor = Some (pos 3) }; divisor = pos 7 }))
+    × (remainder_in (assigned 7 (joined Modulo (joined Times (name 7) (Number (negsuc 2))) (Number (negsuc 6)))) ≡ Some (record { target = 7; multiple = record { name = 7; factor = Some (negsuc 2) }; divisor = negsuc 6 })))
+remainders = (refl, (refl, refl))
+
+-- 0 as a factor or a divisor, a quotient, a product alone, a boxed name, and a parameter
+pub no_remainders : (remainder_in (assigned 7 (joined Modulo (joined Times (name 7) (Number (pos 0))) (Number (pos 7)))) ≡ None)
+    × ((remainder_in (assigned 7 (joined Modulo (name 7) (Number (pos 0)))) ≡ None)
+    × ((remainder_in (assigned 7 (joined Over (name 7) (Number (pos 7)))) ≡ None)
+    × ((remainder_in (assigned 7 (joined Times (name 7) (Number (pos 3)))) ≡ None)
+    × ((remainder_in (assigned 7 (joined Modulo (Get (Global false 5)) (Number (pos 7)))) ≡ None)
+    × (remainder_in (Set (Parameter true 0) (joined Modulo (name 7) (Number (pos 7)))) ≡ None)))))
+no_remainders = (refl, (refl, (refl, (refl, (refl, refl)))))
+
+-- so far a product with 3 is in range, and with the greatest constant; the target is asked too, and each name once
+pub multiplied_most : (most_multiplied (Some (pos 3)) ≡ 3002399751580330) × ((most_multiplied (Some (negsuc (2 ^ 53 - 1))) ≡ 1) × (most_multiplied None ≡ 2 ^ 53))
+multiplied_most = (refl, (refl, refl))
+
+pub remainder_asks : (remainder_names (record { target = 7; multiple = record { name = 7; factor = None }; divisor = pos 7 }) ≡ 7 ∷ [])
+    × (remainder_names (record { target = 7; multiple = record { name = 5; factor = Some (pos 3) }; divisor = pos 7 }) ≡ 7 ∷ (5 ∷ []))
+remainder_asks = (refl, refl)
 
 -- NF has the number 5
 pub counts : (counted_in (Compare LessOrEqual (name 7) (Do (Host GetSpecial) (Fixed 5 End))) ≡ Some (record { op = LessOrEqual; name = 7 }))

@@ -18,5 +18,5 @@ returns-in-Some c =
 
 pub returns-in-None : goal.returns-in-None
 returns-in-None c =
-    subst (λ (o : Option Tally). OnOk c.done_alone.result (Emits c.args.out.now.items c.done_alone.new.out.items (barely_dropped (view_layout c.args.y.now) o (view c.args.code.now) c.args.exit))) c.in-None.ensures
-    c.done_alone.ensures
+    subst (λ (o : Option Tally). OnOk c.rest_done.result (Emits c.args.out.now.items c.rest_done.new.out.items (barely_dropped (view_layout c.args.y.now) o (view c.args.code.now) c.args.exit))) c.in-None.ensures
+    c.rest_done.ensures

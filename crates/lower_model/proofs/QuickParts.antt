@@ -1,0 +1,178 @@
+-- Quick ways of statements: how names are read and written, several within the same bounds, and what `n = a + e` means.
+use Rattle.std.proofs.Common.{◌≡◌, ℕ, zero, suc, ◌+◌, ◌^◌, ◌<◌, ◌≤◌, Bool, true, false, nat_eq, nat_le, List, [], ◌∷◌, length, Some, None, Option, Ok, Err, Result, ℤ, pos, ◌+ℤ◌, unsigned_abs, w64, refl, sym, ap, ap₂, ◌∙◌, subst, arith, if◌then◌else◌}
+use Rattle.std.specs.Prelude.{◌&&◌, not, cond, bit_or}
+use Rattle.std.proofs.Common.{true≢false}
+use Rattle.std.proofs.lemmas.Int.{ints}
+use Rattle.std.proofs.lemmas.Bool.{and_parts, eqb-true, le-leb, leb-true}
+use Rattle.awk_values.specs.declared.fault.Fault.{Fault}
+use Rattle.awk_values.specs.declared.value.Value.TheVariants as value
+use Rattle.awk_values.specs.Comparison.{comparison, numeric_side, order_by, held, holds}
+use Rattle.awk_values.specs.declared.comparison.CompareOp.{CompareOp}
+use Rattle.awk_values.specs.declared.comparison.CompareOp.TheVariants as op
+use Rattle.std.specs.Ordering.{int_cmp}
+use Rattle.sem_primitives.specs.Constants.{comparison_number, flag_number, special_number}
+use Rattle.sem_primitives.specs.declared.constants.Special.TheVariants.{Nf}
+use Rattle.sem_primitives.specs.declared.sorts.Argument.TheVariants as argument
+use Rattle.sem_primitives.specs.declared.sorts.Constant.TheVariants as constant
+use Rattle.sem_primitives.specs.declared.sorts.Sort.TheVariants as sort
+use Rattle.sem_primitives.specs.declared.table.Primitive.TheVariants as row
+use Rattle.wasm_store.specs.Integers.{compare_at, binary_at}
+use Rattle.lower_model.specs.Arithmetic.{relation}
+use Rattle.lower_model.proofs.Watch.{Watch}
+use Rattle.lower_model.proofs.Orders.{words_compared}
+use Rattle.sem_primitives.specs.Numbers.{Number as AnyNumber, number_of, number_word, outcome_of}
+use Rattle.sem_primitives.proofs.Words.{small, constant_again}
+use Rattle.wasm_types.specs.Syntax.{Instructions, Done as NoMore}
+use Rattle.wasm_types.specs.declared.types.ValType.TheVariants.{I32}
+use Rattle.wasm_types.specs.declared.instr.Simple.{Simple}
+use Rattle.wasm_types.specs.declared.instr.Simple.TheVariants.{GlobalGet, GlobalSet, I32Const, BrIf, Test}
+use Rattle.wasm_types.specs.declared.instr.IRelOp.TheVariants.{LeS}
+use Rattle.wasm_types.specs.declared.instr.ITestOp.TheVariants.{Eqz}
+use Rattle.wasm_store.specs.declared.word.Word.TheVariants.{I64}
+use Rattle.wasm_store.specs.declared.word.Word.TheVariants as word
+use Rattle.wasm_store.specs.Words.{flag, given_by}
+use Rattle.mid_program.specs.declared.mid.Arithmetic.{Arithmetic}
+use Rattle.mid_program.specs.declared.mid.Operation.TheVariants.{Host, Inline, AsNumber}
+use Rattle.mid_program.specs.Mid.{Kind, Unboxed, Program, Global, Code, Do, Compare, Number, Get, Set, Seq, Let, Bound, Codes, End, At, Fixed, Eval, a_number, Form, form_of}
+use Rattle.mid_program.specs.MidMeaning.{evaluated, all_evaluated, stepped, or_zero, then_row, store_slot, arithmetic_of}
+use Rattle.sem_scripts.specs.ScriptState.{State, Gives, Outcome, go_on, settled, give, ◌>>◌, global_value, with_global}
+use Rattle.mid_program.specs.Sorted.{sorted, all_sorted, has_kind, kinds_of, fits as fits_sort, is_tested, is_dropped, is_kept, keeps_well, test_sorted, step_sorted, steps_sorted}
+use Rattle.sem_scripts.specs.Statements.{Flow, Normal}
+use Rattle.lower_model.specs.Cells.{Cell, Bits, Held}
+use Rattle.lower_model.specs.Emission.{tested}
+use Rattle.lower_model.specs.Machine.{Conf, Label, Frame, Store, at, br, label, with_operands, push_result}
+use Rattle.lower_model.specs.Noted.{step_noted, steps_noted}
+use Rattle.lower_model.specs.Places.{Bases, number_global, room, arrays_in, step_room, step_arrays}
+use Rattle.lower_model.specs.Quick.{Within, unsure, name_in, constant_in, first_ones, compared_within, both_within, test_within, Source, Named, Constant, source_in, is_among, and_name, and_source, shifted, joined, all_unsure, Sum, sum_names, update_in, is_near, is_sum, sum_op, sum_of, two_sum, set_sum, kept_sum, update_sum, old_source, stored_name, new_sum, let_sum, sum_in, Counted, field_count, counted_of, counted_in, Pair, pair_names, pair_of, pair_in, contrary}
+use Rattle.lower_model.specs.Small.{does, ask_row, text_beside}
+use Rattle.lower_model.specs.Statements.{counted_left, left_unless_counted, source_pushed, summed, summed_anyway, quickly_dropped, pair_left, left_unless_pair, left_unless, step_emitted, steps_emitted}
+use Rattle.lower_model.proofs.Runs.{Goes, goes_from, goes_to, then_goes, by_steps, stays, first, within, there, then_on, then_step, Onward}
+use Rattle.lower_model.proofs.Locals.{Locals, laid}
+use Rattle.lower_model.proofs.Globals.{Hand as NameHand, Number as NameNumber, with_global_at, placed_again}
+use Rattle.lower_model.proofs.GlobalSteps.{storing, global_copied, global_set_ok}
+use Rattle.lower_model.proofs.Steps.{empty}
+use Rattle.lower_model.proofs.State.{bare, beside, bare_number, beside_number, cells_of, host_of, kind_here, arrays_before, name_hand, name_word}
+use Rattle.lower_model.proofs.Relation.{Away}
+use Rattle.lower_model.proofs.Pieces.{chooses, closes}
+use Rattle.lower_model.proofs.Answers.{machine, beside_state, row_called, Reached}
+use Rattle.lower_model.proofs.Conversions.{BareIs, IsBeside, IsNone, IsNumber, bare_is, same_state, ask_num}
+use Rattle.lower_model.specs.ImportCalls.{with_some, and_rest, row_in}
+use Rattle.lower_model.proofs.Converting.{blocked, own_number}
+use Rattle.lower_model.proofs.Products.{word}
+use Rattle.lower_model.proofs.Written.{fit_global, global_written}
+use Rattle.lower_model.proofs.Reading.{kind_below, kind_found}
+use Rattle.lower_model.proofs.Simulation.{work_of, context, layout, ExprOk}
+use Rattle.lower_model.proofs.StatementForms.{flows_on, plain_meant, Starts, starts_after, starts_among, StepDone, StepOk}
+use Rattle.lower_model.proofs.Tidy.{begun_step}
+use Rattle.lower_model.proofs.Branches.{TestDone, test_meant, test_ok, block_ends}
+use Rattle.lower_model.proofs.Quick.{Sure, sure, shown_by, name_is, constant_is, shift_pos, shifted_less, shifted_most, less_holds, most_holds}
+use Rattle.lower_model.proofs.QuickNames.{num_of, word_of, val_of, source_steps, shift_word, joined_word, all_flag, joined_steps, all_steps, AllSure, StandsAmong, source_code, some_is, nought_number, all_sure, among_sure, name_among, source_among, source_still, source_beside, source_is, contrary_holds, pair_few, one_few, near_sum, stored_is, none_new, result_of, sum_few}
+use Rattle.lower_model.proofs.Summing.{Summed, summed_in_turn, IsSource, anyway_ok}
+
+-- Two operands.
+
+abbrev pub Two : Type 0
+Two = AnyNumber × (AnyNumber × Unit {0})
+
+-- what becomes of two operands that are evaluated, and of their sum
+abbrev pub sum_stored : ℕ → State → Result AnyNumber Fault → Outcome Flow
+sum_stored i σ r = go_on (go_on (settled r σ) (λ y. store_slot (Global true i) (value.Num y.number) >> give y)) (λ y. give Normal)
+
+abbrev pub two_summed : ℕ → Arithmetic → State → Result AnyNumber Fault → Result AnyNumber Fault → Outcome Flow
+two_summed i o σ r1 r2 =
+    go_on (go_on (go_on {A = Two} {B = AnyNumber} (settled (then_row {A = AnyNumber} {B = Two} r1 (λ x. then_row {A = AnyNumber × Unit {0}} {B = Two} (then_row {A = AnyNumber} {B = AnyNumber × Unit {0}} r2 (λ z. Ok (z, tt))) (λ zs. Ok (x, zs)))) σ)
+    (λ given. settled (outcome_of (arithmetic_of o given.0.number given.1.0.number)))) (λ y. store_slot (Global true i) (value.Num y.number) >> give y)) (λ y. give Normal)
+
+-- `n = a + e`
+abbrev pub set_code : ℕ → Arithmetic → Code → Code → Code
+set_code i o x y = Set (Global true i) (Do (Inline o) (At x (At y End)))
+
+module _ (p : Program) (deepest : Watch) (ks : List Kind) (F : List Frame) (b : Bases) (M n : ℕ) where
+  abbrev kinds : List Kind
+  kinds = kinds_of p.globals
+
+  -- names that are unboxed
+
+  abbrev pub AllUnboxed : List ℕ → Type 0
+  AllUnboxed [] = Unit {0}
+  AllUnboxed (i ∷ is) = (has_kind kinds i Unboxed ≡ true) × AllUnboxed is
+
+  pub name_got : {vs : List Cell} {K : List Label} {k : Instructions} → (i : ℕ) (l : Locals) (σ : State) → has_kind kinds i Unboxed ≡ true →
+      Goes (machine p deepest ks F) 1 (at ks vs K (laid b l) F (does (GlobalGet (number_global p.ranges i)) k) (beside_state p deepest ks F σ)) (at ks (Bits (I64 (bare (global_value i σ))) ∷ vs) K (laid b l) F k (beside_state p deepest ks F σ))
+  name_got i l σ hk =
+      let x = global_value i σ in
+      global_copied p.ranges (length kinds) (cells_of kinds 0 σ) (NameNumber i) (Bits (I64 (bare x))) (kind_below kinds i Unboxed hk) (ap (λ c. Bits (I64 (name_word c x))) (kind_found kinds i Unboxed hk)) refl
+
+  -- a name takes a number, where no text stands beside it
+  pub name_taken : (i : ℕ) (y : AnyNumber) (K : List Label) (k : Instructions) (l : Locals) (σ : State) → has_kind kinds i Unboxed ≡ true → length σ.globals ≡ length p.globals → beside (global_value i σ) ≡ empty →
+      Goes (machine p deepest ks F) 1 (at ks (Bits (I64 (number_word y)) ∷ []) K (laid b l) F (does (GlobalSet (number_global p.ranges i)) k) (beside_state p deepest ks F σ)) (at ks [] K (laid b l) F k (beside_state p deepest ks F (with_global i (value.Num y.number) σ)))
+  name_taken i y K k l σ hk sz none =
+      let nn = length kinds in
+      let li = kind_below kinds i Unboxed hk in
+      let kh = kind_found kinds i Unboxed hk in
+      let g = cells_of kinds 0 σ in
+      let old = global_value i σ in
+      let c = Bits (I64 (number_word y)) in
+      let g1 = with_global_at p.ranges nn g (NameNumber i) c in
+      let hand : name_hand (kind_here kinds i) (suc (suc (arrays_before kinds i))) old ≡ empty = ap (λ z. name_hand z (suc (suc (arrays_before kinds i))) old) kh ∙ none in
+      goes_to (global_set_ok p.ranges nn g (NameNumber i) c li refl refl)
+      (ap (λ x. at ks [] K (laid b l) F k (storing x (host_of σ None)))
+      (sym (placed_again p.ranges nn g1 (NameHand i) empty li hand)
+      ∙ global_written p deepest ks F b M n i (value.Num y.number) σ empty c sz li
+      (ap (λ z. name_hand z (suc (suc (arrays_before kinds i))) (value.Num y.number)) kh ∙ beside_number y)
+      (ap (λ z. Bits (I64 (name_word z (value.Num y.number)))) kh ∙ ap (λ z. Bits (I64 z)) (bare_number y))))
+
+  -- Several names within the same bounds.
+
+  abbrev pub all_read : ℕ → Simple
+  all_read i = GlobalGet (number_global p.ranges i)
+
+  shifted_ok : {vs : List Cell} {K : List Label} {k : Instructions} → (i : ℕ) (q : ℤ) (l : Locals) (σ : State) → has_kind kinds i Unboxed ≡ true →
+      Goes (machine p deepest ks F) 2 (at ks vs K (laid b l) F (shifted (all_read i) q k) (beside_state p deepest ks F σ)) (at ks (Bits (I64 (shift_word σ q i)) ∷ vs) K (laid b l) F k (beside_state p deepest ks F σ))
+  shifted_ok i q l σ hk = then_goes (name_got i l σ hk) (by_steps 1 refl)
+
+  joined_ok : (K : List Label) (k : Instructions) → (is : List ℕ) (v : ℕ) (q : ℤ) (l : Locals) (σ : State) → AllUnboxed is →
+      Goes (machine p deepest ks F) (joined_steps is) (at ks (Bits (I64 v) ∷ []) K (laid b l) F (joined all_read is q k) (beside_state p deepest ks F σ)) (at ks (Bits (I64 (joined_word σ q v is)) ∷ []) K (laid b l) F k (beside_state p deepest ks F σ))
+  joined_ok K k [] v q l σ h = stays
+  joined_ok K k (i ∷ is) v q l σ h = then_goes (shifted_ok i q l σ h.0) (then_goes (by_steps 1 refl) (joined_ok K k is (bit_or v (shift_word σ q i)) q l σ h.1))
+
+  pub all_unsure_ok : (K : List Label) (k : Instructions) → (is : List ℕ) (q : ℤ) (w : ℕ) (l : Locals) (σ : State) → AllUnboxed is →
+      Goes (machine p deepest ks F) (all_steps is) (at ks [] K (laid b l) F (all_unsure all_read is q w k) (beside_state p deepest ks F σ)) (at ks (Bits (flag (all_flag σ q w is)) ∷ []) K (laid b l) F k (beside_state p deepest ks F σ))
+  all_unsure_ok K k [] q w l σ h = stays
+  all_unsure_ok K k (i ∷ is) q w l σ h = then_goes (shifted_ok i q l σ h.0) (then_goes (joined_ok K _ is (shift_word σ q i) q l σ h.1) (by_steps 1 refl))
+
+  pub name_unboxed : (i : ℕ) (is : List ℕ) → has_kind kinds i Unboxed ≡ true → AllUnboxed is → AllUnboxed (and_name i is)
+  name_unboxed i is hk h = by (is_among i is)
+    where
+      by : (t : Bool) → AllUnboxed (if t then is else i ∷ is)
+      by true = h
+      by false = (hk, h)
+
+  pub summed_means : (i : ℕ) (o : Arithmetic) (σ : State) (r1 r2 : Result AnyNumber Fault) (m1 m2 y : AnyNumber) → r1 ≡ Ok m1 → r2 ≡ Ok m2 → outcome_of (arithmetic_of o m1.number m2.number) ≡ Ok y → two_summed i o σ r1 r2 ≡ Gives Normal (with_global i (value.Num y.number) σ)
+  summed_means i o σ r1 r2 m1 m2 y e1 e2 e = ap₂ (two_summed i o σ) e1 e2 ∙ ap (sum_stored i σ) e
+
+  -- Two operands.
+
+  pub set_means : (i : ℕ) (o : Arithmetic) (a e : Source) (σ : State) → plain_meant p deepest ks F b M n (Eval (set_code i o (source_code a) (source_code e))) σ ≡ two_summed i o σ (num_of a σ) (num_of e σ)
+  unfolding evaluated all_evaluated stepped
+  set_means i o (Named j) (Named k) σ = refl
+  set_means i o (Named j) (Constant z) σ = refl
+  set_means i o (Constant z) (Named j) σ = refl
+  set_means i o (Constant z) (Constant y) σ = refl
+
+  pub record Parts (i : ℕ) (fs : List Form) (x : Code) (gs : List Form) (y : Code) : Type 0 where
+    pub kind : has_kind kinds i Unboxed ≡ true
+    pub first_one : sorted (context p deepest ks F b M n) fs x ≡ true
+    pub second : sorted (context p deepest ks F b M n) gs y ≡ true
+
+  pub set_sorted : (fs : List Form) (i : ℕ) (o : Arithmetic) (x y : Code) → sorted (context p deepest ks F b M n) fs (set_code i o x y) ≡ true → Parts i fs x fs y
+  unfolding sorted all_sorted
+  set_sorted fs i o x y so =
+      let ctx = context p deepest ks F b M n in
+      let fx = fits_sort (form_of fs x) sort.Number in
+      let fy = fits_sort (form_of fs y) sort.Number in
+      let s = and_parts (has_kind kinds i Unboxed) ((fx && (fy && true)) && (sorted ctx fs x && (sorted ctx fs y && true))) so in
+      let s1 = and_parts (fx && (fy && true)) (sorted ctx fs x && (sorted ctx fs y && true)) s.1 in
+      let s2 = and_parts (sorted ctx fs x) (sorted ctx fs y && true) s1.1 in
+      record { kind = s.0; first_one = s2.0; second = (and_parts (sorted ctx fs y) true s2.1).0 }
+

@@ -1,0 +1,160 @@
+//! Remainders by constants that go to an unboxed name.
+ghost use Rattle.std.specs.Option.{option_map};
+ghost use Rattle.std.specs.Prelude.{◌≡◌, cond, None};
+ghost use Rattle.mid_program.specs.ViewCode.{view, views};
+ghost use Rattle.lower_quick.specs.Operands.{divided_by, is_modulo, is_times, product_in, two_factors, unless_zero};
+ghost use Rattle.lower_quick.specs.View.{view_multiple, view_remainder};
+ghost use Rattle.lower_model.specs.Quick.{factor_in, multiple_in, product_of, remainder_in, remainder_of, set_remainder, two_product, two_remainder};
+
+use crate::operands::{calculated_in, two_codes};
+use crate::source::name_in;
+use mid_program::{Arithmetic, Code, Operand, Slot};
+
+/// A name, and what it is multiplied by, if it is.
+#[derive(Clone, Copy, Debug, PartialEq, Eq, Drop)]
+pub struct Multiple {
+    pub name: usize,
+    pub factor: Option<i64>,
+}
+
+/// A remainder of a multiple, and the name that it goes to.
+#[derive(Clone, Copy, Debug, PartialEq, Eq, Drop)]
+pub struct Remainder {
+    pub target: usize,
+    pub multiple: Multiple,
+    pub divisor: i64,
+}
+
+fn is_times(op: Arithmetic) -> bool
+    ensures { result ≡ is_times op }
+{
+    matches!(op, Arithmetic::Times)
+}
+
+fn is_modulo(op: Arithmetic) -> bool
+    ensures { result ≡ is_modulo op }
+{
+    matches!(op, Arithmetic::Modulo)
+}
+
+/// The number, unless it is 0.
+fn unless_zero(number: i64) -> Option<i64>
+    ensures { result ≡ unless_zero number }
+{
+    if number.unsigned_abs() == 0 {
+        None
+    } else {
+        Some(number)
+    }
+}
+
+/// The constant that code is, unless it is 0.
+fn factor_in(code: &Code) -> Option<i64>
+    ensures { result ≡ factor_in (view code.now) }
+{
+    match code {
+        Code::Number(number) => unless_zero(*number),
+        _ => None,
+    }
+}
+
+/// The product of a name and a constant.
+fn product_of(name: Option<usize>, factor: Option<i64>) -> Option<Multiple>
+    ensures { option_map view_multiple result ≡ product_of name factor }
+{
+    let (name, factor) = (name?, factor?);
+    Some(Multiple {
+        name,
+        factor: Some(factor),
+    })
+}
+
+/// The product that the operands of `*` have.
+fn two_factors(operands: &[Operand]) -> Option<Multiple>
+    ensures { option_map view_multiple result ≡ two_factors (views operands.now) }
+{
+    let (left, right) = two_codes(operands)?;
+    product_of(name_in(left), factor_in(right))
+}
+
+/// The same, if the operator is `*`.
+fn two_product(op: Arithmetic, operands: &[Operand]) -> Option<Multiple>
+    ensures { option_map view_multiple result ≡ two_product op (views operands.now) }
+{
+    if is_times(op) {
+        two_factors(operands)
+    } else {
+        None
+    }
+}
+
+/// The product of a name and a constant that code is.
+fn product_in(code: &Code) -> Option<Multiple>
+    ensures { option_map view_multiple result ≡ product_in (view code.now) }
+{
+    let (op, operands) = calculated_in(code)?;
+    two_product(op, operands)
+}
+
+/// The name that code reads, or its product with a constant.
+fn multiple_in(code: &Code) -> Option<Multiple>
+    ensures { option_map view_multiple result ≡ multiple_in (view code.now) }
+{
+    match name_in(code) {
+        Some(name) => Some(Multiple { name, factor: None }),
+        None => product_in(code),
+    }
+}
+
+/// The remainder of a multiple by a constant.
+fn remainder_of(
+    target: usize,
+    multiple: Option<Multiple>,
+    divisor: Option<i64>,
+) -> Option<Remainder>
+    ensures { option_map view_remainder result ≡ remainder_of target (option_map view_multiple multiple) divisor }
+{
+    let (multiple, divisor) = (multiple?, divisor?);
+    Some(Remainder {
+        target,
+        multiple,
+        divisor,
+    })
+}
+
+/// The remainder that the operands of `%` have.
+fn divided_by(target: usize, operands: &[Operand]) -> Option<Remainder>
+    ensures { option_map view_remainder result ≡ divided_by target (views operands.now) }
+{
+    let (left, right) = two_codes(operands)?;
+    remainder_of(target, multiple_in(left), factor_in(right))
+}
+
+/// The same, if the operator is `%`.
+fn two_remainder(target: usize, op: Arithmetic, operands: &[Operand]) -> Option<Remainder>
+    ensures { option_map view_remainder result ≡ two_remainder target op (views operands.now) }
+{
+    if is_modulo(op) {
+        divided_by(target, operands)
+    } else {
+        None
+    }
+}
+
+/// The same, of what the name takes.
+fn set_remainder(target: usize, value: &Code) -> Option<Remainder>
+    ensures { option_map view_remainder result ≡ set_remainder target (view value.now) }
+{
+    let (op, operands) = calculated_in(value)?;
+    two_remainder(target, op, operands)
+}
+
+/// The remainder that code evaluates and stores, if that is all that it does.
+pub fn remainder_in(code: &Code) -> Option<Remainder>
+    ensures { option_map view_remainder result ≡ remainder_in (view code.now) }
+{
+    match code {
+        Code::Set(Slot::Global(true, target), value) => set_remainder(*target, value),
+        _ => None,
+    }
+}
