@@ -175,4 +175,3 @@ module _ (p : Program) (deepest : Watch) (ks : List Kind) (F : List Frame) (b : 
       let s1 = and_parts (fx && (fy && true)) (sorted ctx fs x && (sorted ctx fs y && true)) s.1 in
       let s2 = and_parts (sorted ctx fs x) (sorted ctx fs y && true) s1.1 in
       record { kind = s.0; first_one = s2.0; second = (and_parts (sorted ctx fs y) true s2.1).0 }
-

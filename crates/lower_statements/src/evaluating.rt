@@ -101,12 +101,7 @@ fn remainder_done(
 }
 
 /// Adds code for what it does alone that is no sum for a name, and no counter.
-fn rest_done(
-    y: &Layout<'_>,
-    out: &mut Vec<Instr>,
-    code: &Code,
-    exit: u32,
-) -> Result<(), AllocError>
+fn rest_done(y: &Layout<'_>, out: &mut Vec<Instr>, code: &Code, exit: u32) -> Result<(), AllocError>
     requires labels { suc (suc (suc exit)) ≤ most_labels }
     requires fit { Fits (view_layout y.now) (view code.now) 0 0 exit }
     ensures { OnOk result (Emits out.old.items out.new.items (remainder_dropped (view_layout y.now) (remainder_in (view code.now)) (view code.now) exit)) }

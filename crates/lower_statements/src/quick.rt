@@ -186,10 +186,7 @@ fn remainder_taken(
 }
 
 /// The same in a list of its own.
-pub(crate) fn remainder_code(
-    y: &Layout<'_>,
-    remainder: Remainder,
-) -> Result<Vec<Instr>, AllocError>
+pub(crate) fn remainder_code(y: &Layout<'_>, remainder: Remainder) -> Result<Vec<Instr>, AllocError>
     requires { RemainderFits (view_remainder remainder) }
     ensures { IfOk result (λ v. Emits [] v.items (remainder_taken (view_layout y.now) (view_remainder remainder))) }
 {
