@@ -1,6 +1,8 @@
 pub mod Calls
 pub mod Following
+pub mod KnownTurns
 pub mod Laying
+pub mod Placing
 pub mod Refusals
 pub mod Stretching
 pub mod Turning

@@ -6,6 +6,7 @@ mod link;
 mod machine;
 mod program;
 mod run;
+mod sites;
 mod steps;
 
 pub use machine::Machine;

@@ -9,6 +9,7 @@ ghost use Rattle.wasm_types.specs.View.{view_module};
 use crate::link::{codes_of, first_state, link};
 use crate::program::Program;
 use crate::run::run;
+use crate::sites::all_sites;
 use module_validator::ValidModule;
 use std::alloc::Global;
 use std::marker::Model;
@@ -90,11 +91,16 @@ impl Machine {
             return Err(LinkFault::NoMemory);
         };
         let whole = valid.into_module();
-        let program = Program {
+        let mut program = Program {
             whole,
             numbers,
             codes,
+            sites: Vec::new(alloc),
         };
+        let Ok(sites) = all_sites(alloc, &program) else {
+            return Err(LinkFault::NoMemory);
+        };
+        program.sites = sites;
         Ok(Machine {
             program,
             state,

@@ -1,4 +1,4 @@
-use Rattle.std.proofs.Common.{◌≡◌, ◌≤◌, ◌+◌, ◌∷◌, ◌++◌, [], ℕ, List, Some, length, map, take, get_or, refl, ap, sym, ◌∙◌, subst, arith}
+use Rattle.std.proofs.Common.{◌≡◌, ◌∷◌, ◌++◌, [], List, Some, length, map, take, ap, sym, ◌∙◌, subst, arith}
 use Rattle.std.specs.List.{All}
 use Rattle.std.specs.Prelude.{slice_get}
 use Rattle.std.proofs.lemmas.List.{length-map, map_more, map_push, take_all}
@@ -6,7 +6,6 @@ use Rattle.std.proofs.lemmas.List.Elements.{All-nil, All-push}
 use Rattle.wasm_types.specs.declared.module.Func.{Func}
 use Rattle.wasm_types.specs.Syntax.{Instructions}
 use Rattle.wasm_types.specs.View.{views}
-use Rattle.wasm_model.specs.Links.{entry_code}
 use Rattle.wasm_registers.specs.Laid.{Laid, code_at}
 use Rattle.wasm_machine.specs.ViewConf.{Begins}
 use Rattle.wasm_machine.proofs.Laying.{slice_get_last}

@@ -1,4 +1,4 @@
-use Rattle.std.proofs.Common.{◌≡◌, ◌∙◌, ◌*◌, ◌<◌, [], List, Option, Some, None, ℕ, drop, length, map, reverse, refl, ap, sym, subst, replicate, arith}
+use Rattle.std.proofs.Common.{◌≡◌, ◌∙◌, ◌*◌, [], List, Option, Some, None, ℕ, length, map, reverse, refl, ap, sym, subst, replicate, arith}
 use Rattle.std.specs.List.{All}
 use Rattle.std.specs.Prelude.{slice_get}
 use Rattle.std.proofs.lemmas.Option.{get_or_from_slice_get, slice_get_read, slice_get_within}
@@ -7,17 +7,14 @@ use Rattle.wasm_types.specs.declared.types.Limits.{Limits}
 use Rattle.wasm_types.specs.declared.types.ValType.TheVariants as ty
 use Rattle.wasm_types.specs.declared.module.Data.{Data}
 use Rattle.wasm_types.specs.declared.module.Elem.{Elem}
-use Rattle.wasm_types.specs.declared.module.Func.{Func}
 use Rattle.wasm_types.specs.declared.module.Global.{Global as ModuleGlobal}
-use Rattle.wasm_types.specs.Syntax.{Instructions}
 use Rattle.wasm_types.specs.View.{view_data, view_elem, view_global, view_module, views}
-use Rattle.wasm_store.specs.declared.word.Word.{Word}
 use Rattle.wasm_store.specs.Memories.{MemoryForm, fresh}
 use Rattle.wasm_model.specs.Frames.{begun}
 use Rattle.wasm_model.specs.Links.{DataFits, ElemFits, entry_code, filled, least, limits_or_none, poured, value_of}
 use Rattle.wasm_model.proofs.Beginning.{least_is, beginning_is}
 use Rattle.wasm_model.proofs.Linking.{all_of_map}
-use Rattle.wasm_registers.specs.Laid.{Laid, code_at}
+use Rattle.wasm_registers.specs.Laid.{Laid}
 use Rattle.wasm_registers.specs.Landings.{framed_at}
 use Rattle.wasm_frames.specs.declared.frames.Frame.{Frame}
 use Rattle.wasm_frames.specs.Standing.{code_of, code_with, nothing}
