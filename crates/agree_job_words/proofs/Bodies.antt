@@ -146,9 +146,9 @@ module _ (tells : Bool) (y : Layout) (sizes : ℕ → Option ℕ) (whole : Progr
         stored = record { so = λ A. (refl, r.so A) }
 
   -- a remainder of the number on the stack goes to a name
-  multiplied_spares : {e : Bool} {k : Instructions} (f : Option ℤ) (A : Tags) → At e k (true ∷ A) → At e (multiplied f k) (true ∷ A)
-  multiplied_spares None A r = r
-  multiplied_spares (Some z) A r = r
+  multiplied_spares : (e : Bool) (k : Instructions) (f : Option ℤ) (A : Tags) → At e k (true ∷ A) → At e (multiplied f k) (true ∷ A)
+  multiplied_spares e k None A r = r
+  multiplied_spares e k (Some z) A r = r
 
   module _ {e : Bool} {k : Instructions} (r : So e k) where
     anyway_spares : (x : Sum) (d : ℕ) → So e (summed_anyway y x d k)
@@ -162,7 +162,7 @@ module _ (tells : Bool) (y : Layout) (sizes : ℕ → Option ℕ) (whole : Progr
         slow = dropped_spares tells y sizes c sized same done [] [] s zero zero (suc d) none_kept o q
 
         both : So e (either (dropped y [] [] s zero zero (suc d) Done) (remainder_taken y x Done) k)
-        both = record { so = λ A. (slow.so [], ((true, (λ z. numbered tells y sizes x.multiple.name), multiplied_spares x.multiple.factor _ (refl, tt)), r.so [])) }
+        both = record { so = λ A. (slow.so [], ((true, (λ z. numbered tells y sizes x.multiple.name), multiplied_spares _ _ x.multiple.factor _ (refl, tt)), r.so [])) }
 
     barely_spares : (o : Option Tally) (s : Code) (d : ℕ) → tally_in s ≡ o → sorted c [] s ≡ true → names_argv s ≡ false → So e (barely_dropped y o s d k)
     barely_spares None s d h o q = remainder_spares (remainder_in s) s d o q

@@ -167,7 +167,7 @@ pub divided_to_ten : is_sorted (dividing 10) ≡ true × value_run (dividing 10)
 unfolding emitted all_emitted step_emitted steps_emitted digits sorted all_sorted step_sorted steps_sorted
 divided_to_ten = (refl, refl)
 
--- 27 steps a round, 11 of them for the remainder, and no import
-pub dividing_rounds : (steps_of (dividing 20) ≡ steps_of (dividing 10) + 270) × (imports_of (dividing 20) ≡ imports_of (dividing 10))
+-- 26 steps a round, 11 of them for the remainder, and no import
+pub dividing_rounds : (steps_of (dividing 20) ≡ steps_of (dividing 10) + 260) × (imports_of (dividing 20) ≡ imports_of (dividing 10))
 unfolding emitted all_emitted step_emitted steps_emitted digits
 dividing_rounds = (refl, refl)
