@@ -1,9 +1,14 @@
 -- Numbers of texts, and texts of strings, computed from the definitions.
 use Rattle.std.specs.Prelude.{◌≡◌, ◌^◌, true, false, Ok, Err, pos, neg_ℤ, codes, [], ◌∷◌, refl}
+use Rattle.awk_text.specs.Bytes.{tab, newline, carriage_return, space, quote, plus, minus, point, slash, digit_zero, digit_seven, digit_nine, upper_e, backslash, lower_a, lower_b, lower_e, lower_f, lower_n, lower_r, lower_t, lower_v}
 use Rattle.awk_text.specs.Reading.{numeral_at, sign_at, fraction_at, exponent_at}
 use Rattle.awk_text.specs.Number.{numerator, denominator, number_of_text, truncated_of_text, looks_numeric_text}
 use Rattle.awk_text.specs.Escapes.{escaped, octal, string_text, unescaped}
 use Rattle.awk_text.specs.declared.number.NumberFault.TheVariants.{Range, Fraction}
+
+-- the bytes that are named
+pub named_bytes : codes "\t\n\r \"+-./079E\\abefnrtv" ≡ tab ∷ newline ∷ carriage_return ∷ space ∷ quote ∷ plus ∷ minus ∷ point ∷ slash ∷ digit_zero ∷ digit_seven ∷ digit_nine ∷ upper_e ∷ backslash ∷ lower_a ∷ lower_b ∷ lower_e ∷ lower_f ∷ lower_n ∷ lower_r ∷ lower_t ∷ lower_v ∷ []
+named_bytes = refl
 
 pub signed_with_exponent : number_of_text (codes " +1.50e1 x") ≡ Ok (pos 15)
 unfolding numeral_at sign_at fraction_at exponent_at numerator denominator

@@ -1,5 +1,6 @@
 -- The value of a number text.
 use Rattle.std.specs.Prelude.{min, ℕ, ◌+◌, ◌-◌, ◌*◌, ◌/◌, ◌%◌, ◌^◌, Bool, false, not, ◌==◌, nat_le, if◌then◌else◌, Option, Some, None, Result, Ok, Err, List, [], ◌∷◌, ◌++◌, length, ℤ, pos, neg_ℤ}
+use Rattle.awk_text.specs.Bytes.{digit_zero}
 use Rattle.awk_text.specs.Reading.{Numeral, numeral_at, count_while, is_space}
 use Rattle.awk_text.specs.declared.number.NumberFault.{NumberFault}
 use Rattle.awk_text.specs.declared.number.NumberFault.TheVariants.{Range, Fraction}
@@ -7,7 +8,7 @@ use Rattle.awk_text.specs.declared.number.NumberFault.TheVariants.{Range, Fracti
 -- the number that digits go on from a
 abbrev pub value_after : ℕ → List ℕ → ℕ
 value_after a [] = a
-value_after a (c ∷ cs) = value_after (a * 10 + (c - 48)) cs
+value_after a (c ∷ cs) = value_after (a * 10 + (c - digit_zero)) cs
 
 -- the digits without the point
 abbrev pub mantissa : Numeral → ℕ

@@ -1,3 +1,4 @@
+pub mod Bytes
 pub mod Tree
 pub mod Reading
 pub mod Bracket
