@@ -1,14 +1,14 @@
 -- What number text is, and which number a text stands for.
-use Rattle.std.specs.Prelude.{◌≡◌, ◌⊎◌, ℕ, ◌+◌, ◌*◌, ◌^◌, ◌<◌, ◌≤◌, Bool, true, false, ◌==◌, Result, Ok, Err, List, [], ◌∷◌, ◌++◌, length, ℤ, pos, neg_ℤ, ◌≤ℤ◌}
+use Rattle.std.specs.Prelude.{◌≡◌, ◌⊎◌, ℕ, ◌+◌, ◌*◌, ◌<◌, ◌≤◌, Bool, true, false, ◌==◌, Result, Ok, Err, List, [], ◌∷◌, ◌++◌, length, ℤ, pos, neg_ℤ, ◌≤ℤ◌}
 use Rattle.awk_text.specs.Bytes.{plus, minus, point, digit_zero, upper_e, lower_e}
 use Rattle.awk_text.specs.Reading.{AllPass, AreDigits, Numeral, is_space}
-use Rattle.awk_text.specs.Number.{numerator, denominator, signed}
+use Rattle.awk_text.specs.Number.{largest, numerator, denominator, signed}
 use Rattle.awk_text.specs.declared.number.NumberFault.{NumberFault}
 use Rattle.awk_text.specs.declared.number.NumberFault.TheVariants.{Range, Fraction}
 
 -- The numbers of this awk are the whole ones from -2^53 to 2^53, both included.
 abbrev pub InRange : ℤ → Type 0
-InRange z = (neg_ℤ (pos (2 ^ 53)) ≤ℤ z) × (z ≤ℤ pos (2 ^ 53))
+InRange z = (neg_ℤ (pos largest) ≤ℤ z) × (z ≤ℤ pos largest)
 
 -- nothing, a plus or a minus
 abbrev pub IsSign : List ℕ → Bool → Type 0
