@@ -13,7 +13,7 @@ use Rattle.wasm_model.specs.Runs.{MachineForm, TakenAs, told_end}
 use Rattle.wasm_model.specs.declared.ends.MachineEnd.{MachineEnd}
 use Rattle.wasm_model.specs.declared.ends.End.{End}
 use Rattle.host_step.specs.HostState.{HostState}
-use Rattle.host_step.specs.Imports.{host_finds}
+use Rattle.host_imports.specs.Imports.{host_finds}
 use Rattle.host_step.specs.Starts.{state_at_start}
 use Rattle.sem_scripts.specs.Kept.{Grows, output_of}
 use Rattle.mid_program.specs.Mid.{Program}

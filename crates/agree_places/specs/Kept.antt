@@ -16,17 +16,17 @@ use Rattle.wasm_model.specs.Links.{IsNew}
 use Rattle.wasm_model.specs.Machines.{CallerForm, Conf}
 use Rattle.wasm_model.specs.Runs.{MachineForm, Steps}
 use Rattle.host_step.specs.HostState.{HostState, live_arrays, live_iterators, live_values}
-use Rattle.host_step.specs.Imports.{host_finds}
+use Rattle.host_imports.specs.Imports.{host_finds}
 use Rattle.host_step.specs.Starts.{state_at_start}
 use Rattle.mid_program.specs.Mid.{Kind, Boxed, Unboxed, Many, Program}
 use Rattle.mid_program.specs.Sorted.{kinds_of}
 use Rattle.sem_primitives.specs.declared.table.Primitive.TheVariants as row
 use Rattle.lower_model.specs.Emission.{function_number}
-use Rattle.lower_model.specs.Imports.{import_number}
+use Rattle.host_imports.specs.Imports.{import_number}
 use Rattle.lower_model.specs.Machine.{Callee, answers_to, freed_next}
 use Rattle.lower_model.specs.Modules.{all_callees, called_imports, imports_of, renumbered}
 use Rattle.lower_model.specs.Small.{minus_one, text_beside}
-use Rattle.lower_model.specs.declared.import.Import.TheVariants.{Of}
+use Rattle.host_imports.specs.declared.import.Import.TheVariants.{Of}
 use Rattle.agree_places.specs.Places.{IsPart}
 use Rattle.agree_places.specs.Statements.{starts_in}
 use Rattle.agree_refined.specs.Owners.{wanted}

@@ -14,9 +14,9 @@ use Rattle.wasm_model.specs.declared.ends.End.{End}
 use Rattle.world_core.specs.WorldState.{Action}
 use Rattle.host_step.specs.HostState.{HostState, Names}
 use Rattle.host_step.specs.HostStep.{StepIf}
-use Rattle.host_step.specs.Imports.{import_at}
+use Rattle.host_imports.specs.Imports.{import_at}
 use Rattle.host_step.specs.Worlds.{Anyhow, AnyhowIf, reads, unseen}
-use Rattle.host_step.specs.declared.import.Import.{Import}
+use Rattle.host_imports.specs.declared.import.Import.{Import}
 use Rattle.lower_model.specs.ImportCalls.{Host}
 use Rattle.lower_model.specs.Cells.{Cell}
 use Rattle.lower_model.specs.Machine.{Code, Conf, Deep, Frame, Label, Look, Over, Run, Store, Stuck, step}

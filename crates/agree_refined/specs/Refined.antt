@@ -14,10 +14,10 @@ use Rattle.wasm_model.specs.declared.ends.End.TheVariants as ends
 use Rattle.host_step.specs.HostState.{HostState, Names}
 use Rattle.host_step.specs.HostStep.{HostStep}
 use Rattle.lower_model.specs.Cells.{Cell, none_owned, is_owned}
-use Rattle.lower_model.specs.Imports.{import_at, import_count, import_type}
+use Rattle.host_imports.specs.Imports.{import_at, import_count, import_type}
 use Rattle.lower_model.specs.Machine.{Callee, Code, Conf, Deep, Frame, Label, Look, Over, Run, Store, Stuck}
 use Rattle.lower_model.specs.Modules.{calls_in, callee_type, new_number, renumbered}
-use Rattle.lower_model.specs.declared.import.Import.{Import}
+use Rattle.host_imports.specs.declared.import.Import.{Import}
 use Rattle.agree_refined.specs.Owners.{OwnedOnce}
 use Rattle.agree_refined.specs.Words.{ArraysFit, WordAs, WordsAs, arrays_made, state_with}
 

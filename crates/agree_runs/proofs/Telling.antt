@@ -24,7 +24,7 @@ use Rattle.wasm_model.proofs.Beginning.{begun_ok, linked_is, numbered}
 use Rattle.wasm_model.proofs.Whole.{ran_safe}
 use Rattle.host_step.specs.HostLaws.{host_found, step_typed}
 use Rattle.host_step.specs.HostState.{HostState}
-use Rattle.host_step.specs.Imports.{host_finds, host_types, import_at}
+use Rattle.host_imports.specs.Imports.{host_finds, host_types, import_at}
 use Rattle.host_step.specs.Starts.{state_at_start}
 use Rattle.host_elements.specs.Forms.{HostForm}
 use Rattle.host_meaning.specs.FormMeaning.{Told, form_meaning}

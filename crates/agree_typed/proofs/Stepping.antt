@@ -24,7 +24,7 @@ use Rattle.lower_model.proofs.Tallies.{Shape, tally_code, IsAdded, tally_is, tal
 use Rattle.lower_model.proofs.Updating.{added_code, added_is, added_sorted}
 use Rattle.lower_model.proofs.Watch.{Watch}
 use Rattle.lower_model.specs.Statements.{name_read, source_pushed, name_numbered, source_numbered, source_taken, sum_kept, sum_taken, summed_anyway, updated, element_numbered, element_given, tallied, barely_dropped, plainly_dropped, quickly_dropped, left_unless_counted, left_unless_pair, left_unless, left_by, key_stored, iterator_left, step_emitted, steps_emitted}
-use Rattle.lower_model.specs.declared.import.Import.TheVariants.{Of, Drop, IterFree}
+use Rattle.host_imports.specs.declared.import.Import.TheVariants.{Of, Drop, IterFree}
 use Rattle.agree_typed.proofs.Singles.{Stack, Labels, Exit, inner, nearest, reads_global, writes_global, nothing, called, get, put, tee, read, write, word, long, binary, variable, compare, test, discard, leave, leave_if, blocked, looped, branched}
 use Rattle.agree_typed.proofs.Standing.{Stands, kind_below}
 use Rattle.agree_typed.proofs.Pieces.{moved_out_ok, emptied_ok, copied_ok, let_go_ok, fail_if_ok, number_is_ok, kept_number_ok, number_of_value_ok, to_value_ok, to_number_ok, truth_ok}

@@ -9,7 +9,7 @@ ghost use Rattle.host_table_calls.specs.Calls.{import_of_table};
 
 use crate::dispatch::{Call, call_of};
 use crate::host::Host;
-use host_step::Import;
+use host_imports::Import;
 use host_table_calls::{TableCall, refusal, refuses, told};
 use host_values::Refusal;
 use sem_primitives::Primitive;

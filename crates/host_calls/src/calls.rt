@@ -2,7 +2,7 @@
 ghost use Rattle.std.specs.Prelude.{◌≡◌};
 
 use crate::host::Host;
-use host_step::Import;
+use host_imports::Import;
 use wasm_model::{HostAnswer, HostCalls};
 use wasm_store::{Memory, TrapKind, Word};
 use wasm_types::FuncType;
@@ -13,7 +13,7 @@ impl<W: World> HostCalls for Host<W> {
     ghost use Rattle.host_meaning.specs.FormMeaning.{FormState, Told, form_meaning};
     ghost use Rattle.host_calls.specs.Forms.{host_form};
     ghost use Rattle.host_step.specs.HostLaws.{host_found};
-    ghost use Rattle.host_step.specs.Imports.{host_finds, host_types};
+    ghost use Rattle.host_imports.specs.Imports.{host_finds, host_types};
     ghost use Rattle.world_core.specs.WorldState.{Action};
 
     ghost Output = { Action };

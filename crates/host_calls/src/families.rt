@@ -4,7 +4,7 @@ ghost use Rattle.sem_primitives.specs.declared.table.Primitive.TheVariants as ro
 ghost use Rattle.host_calls.specs.Calls.{ComesTo};
 ghost use Rattle.host_calls.specs.Forms.{host_form};
 ghost use Rattle.host_step.specs.HostStep.{refuses};
-ghost use Rattle.host_step.specs.declared.import.Import.{Import};
+ghost use Rattle.host_imports.specs.declared.import.Import.{Import};
 ghost use Rattle.host_table_calls.specs.Calls.{import_of_table};
 
 use crate::host::Host;

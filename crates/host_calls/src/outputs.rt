@@ -3,8 +3,8 @@ ghost use Rattle.std.specs.Prelude.{◌≡◌, List, ℕ, None};
 ghost use Rattle.sem_primitives.specs.declared.table.Primitive.TheVariants as row;
 ghost use Rattle.host_calls.specs.Calls.{ComesTo};
 ghost use Rattle.host_calls.specs.Forms.{host_form};
-ghost use Rattle.host_step.specs.declared.import.Import.{Import};
-ghost use Rattle.host_step.specs.declared.import.Listing.{Listing};
+ghost use Rattle.host_imports.specs.declared.import.Import.{Import};
+ghost use Rattle.host_imports.specs.declared.import.Listing.{Listing};
 
 use crate::host::Host;
 use host_outputs::{close, flush, print, printf};

@@ -6,7 +6,7 @@ ghost use Rattle.host_calls.specs.Forms.{host_form};
 ghost use Rattle.host_step.specs.HostStep.{refuses};
 
 use crate::host::Host;
-use host_step::Import;
+use host_imports::Import;
 use host_table_calls::TableCall;
 use host_texts::TextPrimitive;
 use host_values::ValuePrimitive;

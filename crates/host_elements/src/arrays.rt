@@ -2,7 +2,7 @@
 ghost use Rattle.std.specs.Prelude.{◌≡◌, List, [], ℕ, None, true};
 ghost use Rattle.std.specs.FinMap as map;
 ghost use Rattle.sem_primitives.specs.declared.table.Primitive.TheVariants as row;
-ghost use Rattle.host_step.specs.declared.import.Import.{Import};
+ghost use Rattle.host_imports.specs.declared.import.Import.{Import};
 ghost use Rattle.host_values.specs.Calls.{spare};
 ghost use Rattle.host_elements.specs.Calls.{IsNumbered, IsPut, IsTableCall, with_arrays};
 ghost use Rattle.host_elements.specs.Forms.{HostForm};

@@ -10,7 +10,7 @@ use Rattle.wasm_store.specs.declared.trap.TrapKind.{TrapKind}
 use Rattle.wasm_store.specs.declared.trap.TrapKind.TheVariants.{BadArgument}
 use Rattle.wasm_store.specs.declared.word.Word.{Word}
 use Rattle.world_core.specs.WorldState.{Action}
-use Rattle.host_step.specs.Imports.{host_types, import_at}
+use Rattle.host_imports.specs.Imports.{host_types, import_at}
 use Rattle.host_elements.specs.Forms.{HostForm}
 use Rattle.host_meaning.specs.FormMeaning.{Begins, FormMeans, FormState, Told, Untold, form_meaning}
 

@@ -2,8 +2,8 @@
 ghost use Rattle.std.specs.Prelude.{◌≡◌, List, ℕ, None};
 ghost use Rattle.std.specs.FinMap as map;
 ghost use Rattle.sem_primitives.specs.declared.table.Primitive.TheVariants as row;
-ghost use Rattle.host_step.specs.Answers.{assign_code};
-ghost use Rattle.host_step.specs.declared.import.Import.{Import};
+ghost use Rattle.host_imports.specs.Codes.{assign_code};
+ghost use Rattle.host_imports.specs.declared.import.Import.{Import};
 ghost use Rattle.host_values.specs.Calls.{spare};
 ghost use Rattle.host_elements.specs.Calls.{IsTableCall};
 ghost use Rattle.host_elements.specs.Forms.{HostForm};

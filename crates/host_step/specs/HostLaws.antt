@@ -13,11 +13,11 @@ use Rattle.wasm_model.specs.declared.host.HostAnswer.{HostAnswer}
 use Rattle.wasm_model.specs.declared.host.HostAnswer.TheVariants as told
 use Rattle.wasm_store.specs.declared.word.Word.{Word}
 use Rattle.world_core.specs.WorldState.{Action}
-use Rattle.host_step.specs.Imports.{host_finds, host_types, import_answer, import_at, import_type, imports_in, number_below, number_named, numbered, result_of, type_if_there, with_type}
+use Rattle.host_imports.specs.Imports.{host_finds, host_types, import_answer, import_at, import_type, imports_in, number_below, number_named, numbered, result_of, type_if_there, with_type}
 use Rattle.host_step.specs.HostState.{HostState, Names}
 use Rattle.host_step.specs.Answers.{encode, refusal}
 use Rattle.host_step.specs.HostStep.{Acts, Comes, Goes, Given, HostStep, IsGiven, Refuses, Settles, StepBy, StepIf, Traps, comes}
-use Rattle.host_step.specs.declared.import.Import.{Import}
+use Rattle.host_imports.specs.declared.import.Import.{Import}
 
 found_numbered : (n : ℕ) (t : Option Signature) (r : ℕ × Signature) → host_types n ≡ t → numbered n t ≡ Some r → host_types r.0 ≡ Some r.1
 found_numbered n None r e h = cc

@@ -15,12 +15,13 @@ use Rattle.wasm_store.specs.declared.word.Word.{Word}
 use Rattle.wasm_store.specs.declared.word.Word.TheVariants.{I32}
 use Rattle.world_core.specs.declared.world.Ending.TheVariants as ending
 use Rattle.world_core.specs.WorldState.{Action, Outside, Source, absent, after}
-use Rattle.host_step.specs.Imports.{import_answer, type_if_there}
+use Rattle.host_imports.specs.Imports.{import_answer, type_if_there}
 use Rattle.host_step.specs.HostState.{HostState, Names}
-use Rattle.host_step.specs.Answers.{input_code, refusal}
+use Rattle.host_imports.specs.Codes.{input_code}
+use Rattle.host_step.specs.Answers.{refusal}
 use Rattle.host_step.specs.HostStep.{Comes, Goes, IsTrap, StepBy, StepIf, StepOf, Traps, Refuses, comes}
-use Rattle.host_step.specs.declared.import.Import.{Import}
-use Rattle.host_step.specs.declared.import.Import.TheVariants.{Of}
+use Rattle.host_imports.specs.declared.import.Import.{Import}
+use Rattle.host_imports.specs.declared.import.Import.TheVariants.{Of}
 
 -- the state of a host over a world keeps no output: this much came before
 abbrev pub with_output : List Action → HostState → HostState

@@ -3,7 +3,7 @@ ghost use Rattle.std.specs.Prelude.{◌≡◌, List, ℕ, None};
 ghost use Rattle.sem_primitives.specs.declared.table.Primitive.TheVariants as row;
 ghost use Rattle.host_elements.specs.Calls.{IsTableCall, with_arrays, with_iterators};
 ghost use Rattle.host_elements.specs.Forms.{HostForm};
-ghost use Rattle.host_step.specs.declared.import.Import.{Import};
+ghost use Rattle.host_imports.specs.declared.import.Import.{Import};
 ghost use Rattle.host_table_calls.specs.Forms.{of_tables};
 
 use crate::held::Tables;

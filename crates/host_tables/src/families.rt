@@ -1,8 +1,8 @@
 //! Calls on values and on texts, as calls on the tables.
 ghost use Rattle.std.specs.Prelude.{◌≡◌, List, ℕ, None};
 ghost use Rattle.std.specs.FinMap as map;
-ghost use Rattle.host_step.specs.declared.import.Import.{Import};
-ghost use Rattle.host_step.specs.declared.import.Listing.{Listing};
+ghost use Rattle.host_imports.specs.declared.import.Import.{Import};
+ghost use Rattle.host_imports.specs.declared.import.Listing.{Listing};
 ghost use Rattle.host_values.specs.Calls.{spare};
 ghost use Rattle.host_values.specs.Primitives.{primitive_of};
 ghost use Rattle.host_texts.specs.Primitives.{row_of};

@@ -5,7 +5,7 @@ ghost use Rattle.std.specs.List.{All};
 ghost use Rattle.sem_primitives.specs.ArrayMeaning.{numbered};
 ghost use Rattle.sem_primitives.specs.declared.table.Primitive.TheVariants as row;
 ghost use Rattle.host_format.specs.Spans.{IsInside, span_text};
-ghost use Rattle.host_step.specs.declared.import.Import.{Import};
+ghost use Rattle.host_imports.specs.declared.import.Import.{Import};
 ghost use Rattle.host_values.specs.Calls.{spare};
 ghost use Rattle.host_elements.specs.Calls.{IsTableCall, with_arrays};
 ghost use Rattle.host_elements.specs.Forms.{HostForm};

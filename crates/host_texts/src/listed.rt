@@ -8,8 +8,8 @@ ghost use Rattle.sem_primitives.specs.declared.table.Listed.{Listed as AnyListed
 ghost use Rattle.host_step.specs.Arguments.{constant_front};
 ghost use Rattle.host_step.specs.HostState.{HostState};
 ghost use Rattle.host_step.specs.HostStep.{last_of};
-ghost use Rattle.host_step.specs.declared.import.Import.{Import};
-ghost use Rattle.host_step.specs.declared.import.Listing.{Listing};
+ghost use Rattle.host_imports.specs.declared.import.Import.{Import};
+ghost use Rattle.host_imports.specs.declared.import.Listing.{Listing};
 ghost use Rattle.host_format.specs.Outcomes.{IsStopOf};
 ghost use Rattle.host_values.specs.Calls.{spare};
 ghost use Rattle.host_values.specs.Evaluations.{Values};

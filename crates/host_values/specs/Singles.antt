@@ -10,7 +10,7 @@ use Rattle.wasm_store.specs.declared.word.Word.{Word}
 use Rattle.host_step.specs.Arguments.{no_more}
 use Rattle.host_step.specs.HostState.{HostState}
 use Rattle.host_step.specs.HostStep.{StepOf}
-use Rattle.host_step.specs.declared.import.Import.TheVariants.{Arg, Drop}
+use Rattle.host_imports.specs.declared.import.Import.TheVariants.{Arg, Drop}
 use Rattle.host_values.specs.Calls.{with_values}
 use Rattle.host_values.specs.Evaluations.{Values}
 use Rattle.host_values.specs.Fronts.{handle_front}

@@ -22,7 +22,7 @@ use Rattle.mid_program.specs.Mid.{Kind, Boxed, Unboxed, Many, Code, Codes, End, 
 use Rattle.lower_model.specs.Places.{Bases, array_local, made_in}
 use Rattle.lower_model.specs.Small.{ask, ask_row, does, h, kept, kept_code, kept_value, minus_one, moved_out, n, number_is, to_value, converted, when}
 use Rattle.lower_model.specs.Emission.{Layout, all_pushed, emitted, text_kept, text_let_go, assigned, function_number, global_handle, global_number, listed_asked, one_given, pending_assigned, performed, text_dropped}
-use Rattle.lower_model.specs.declared.import.Import.TheVariants.{Arg, Drop, FreeArray}
+use Rattle.host_imports.specs.declared.import.Import.TheVariants.{Arg, Drop, FreeArray}
 
 -- the text beside an unboxed name is dropped
 abbrev pub handle_dropped : Layout → ℕ → Instructions → Instructions

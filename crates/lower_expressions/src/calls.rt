@@ -18,6 +18,7 @@ use crate::layout::Layout;
 use crate::operands::array_meant;
 use crate::places::array_pushed;
 use crate::walks::{all_freed, all_given, made_in};
+use host_imports::IMPORT_COUNT;
 use lower_pieces::{Bases, Form, does, does_all, kept_value, moved_out};
 use mid_program::{Code, Kind, Operand};
 use std::alloc::AllocError;
@@ -117,7 +118,7 @@ fn entered(
     requires places { t ≤ most_places }
     ensures { OnOk result (Emits out.old.items out.new.items (entered b.now function t exit)) }
 {
-    does(out, Simple::Call(function as u32 + 56))?;
+    does(out, Simple::Call(function as u32 + IMPORT_COUNT as u32))?;
     kept_value(b, out, true, t, exit)
 }
 

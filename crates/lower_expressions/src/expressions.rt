@@ -25,7 +25,7 @@ use crate::storing::{
     text_kept,
 };
 use awk_values::CompareOp;
-use lower_model::Import;
+use host_imports::Import;
 use lower_pieces::{Form, code_number, compared, converted, either, let_go, truth};
 use mid_program::{Code, Operand, Operation, Slot};
 use sem_primitives::{Answer, Listed, Primitive, Sort};

@@ -10,7 +10,7 @@ ghost use Rattle.lower_expressions.specs.View.{view_layout};
 
 use crate::layout::Layout;
 use crate::walks::{all_appended, all_boxed};
-use lower_model::{Import, Listing};
+use host_imports::{Import, Listing};
 use lower_pieces::{Form, ask, does, does_all, kept, kept_value};
 use sem_primitives::{Answer, Destination, Listed};
 use std::alloc::AllocError;

@@ -13,7 +13,7 @@ ghost use Rattle.lower_expressions.specs.View.{view_layout};
 use crate::layout::Layout;
 use crate::places::{global_handle, global_number};
 use crate::slots::text_dropped;
-use lower_model::Import;
+use host_imports::Import;
 use lower_pieces::{
     Bases, TEXT_BESIDE, again, ask, ask_row, does, does_all, kept_code, moved_out, number_is, when,
 };

@@ -14,7 +14,7 @@ ghost use Rattle.lower_expressions.specs.View.{view_layout};
 
 use crate::layout::Layout;
 use crate::places::{global_handle, global_number};
-use lower_model::Import;
+use host_imports::Import;
 use lower_pieces::{
     Form, MINUS_ONE, TEXT_BESIDE, ask, ask_row, boxed_number, boxed_perhaps, copied_by, does,
     does_all, either, moved_out, number_is, when,

@@ -9,7 +9,7 @@ ghost use Rattle.lower_pieces.specs.Emits.{Emits};
 ghost use Rattle.lower_pieces.specs.Forms.{view_form};
 ghost use Rattle.lower_expressions.specs.Parts.{appended_with, boxed_with, converted_with, freed_with, given_one, given_with};
 
-use lower_model::Import;
+use host_imports::Import;
 use lower_pieces::{Bases, Form, ask, converted, moved_out, to_value};
 use mid_program::{Kind, Operand};
 use sem_primitives::Argument;

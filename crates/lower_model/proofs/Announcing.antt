@@ -33,7 +33,7 @@ use Rattle.lower_model.specs.Machine.{Label, Store, at}
 use Rattle.lower_model.specs.Places.{Bases, place_of, memory_of, handle_global}
 use Rattle.lower_model.specs.Small.{does as instruction}
 use Rattle.lower_model.specs.Statements.{declared, declared_kind, names_declared, routines_declared, names_made}
-use Rattle.lower_model.specs.declared.import.Import.TheVariants.{Of}
+use Rattle.host_imports.specs.declared.import.Import.TheVariants.{Of}
 use Rattle.lower_model.proofs.Watch.{Watch}
 use Rattle.lower_model.proofs.Runs.{Goes, goes_to, then_goes, stays}
 use Rattle.lower_model.proofs.Regions.{upd, upd_same, upd_other, behind_at}

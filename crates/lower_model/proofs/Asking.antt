@@ -23,13 +23,13 @@ use Rattle.sem_scripts.specs.ScriptState.{State, Stop, OutOfTurns, Gives, Doing,
 use Rattle.mid_program.specs.Sorted.{kinds_of}
 use Rattle.lower_model.specs.Cells.{Bits, Held, is_owned}
 use Rattle.lower_model.specs.Emission.{pending_assigned}
-use Rattle.lower_model.specs.ImportCalls.{input_code}
+use Rattle.host_imports.specs.Codes.{input_code}
 use Rattle.lower_model.specs.Machine.{Conf, Label, Frame, at, label, carried_if}
 use Rattle.lower_model.specs.Machine
 use Rattle.lower_model.specs.Places.{Bases}
 use Rattle.lower_model.specs.Small.{does, ask_row, when, number_is, kept_code}
 use Rattle.lower_model.specs.Small
-use Rattle.lower_model.specs.declared.import.Import.TheVariants.{Of}
+use Rattle.host_imports.specs.declared.import.Import.TheVariants.{Of}
 use Rattle.lower_model.proofs.Watch.{Watch}
 use Rattle.lower_model.proofs.Runs.{Goes, then_goes, goes_to, by_steps, there, faulted, turned, weaker}
 use Rattle.lower_model.proofs.Regions.{upd_same}

@@ -31,8 +31,8 @@ use Rattle.lower_model.specs.ImportCalls.{Host, Acts, with_some, and_rest, row_i
 use Rattle.lower_model.specs.Machine.{Conf, Label, Frame, at, onto}
 use Rattle.lower_model.specs.Places.{Bases}
 use Rattle.lower_model.specs.Small.{ask, kept, to_value}
-use Rattle.lower_model.specs.declared.import.Import.TheVariants.{Over as OverLast, Arg}
-use Rattle.lower_model.specs.declared.import.Listing.TheVariants as last
+use Rattle.host_imports.specs.declared.import.Import.TheVariants.{Over as OverLast, Arg}
+use Rattle.host_imports.specs.declared.import.Listing.TheVariants as last
 use Rattle.lower_model.proofs.Watch.{Watch}
 use Rattle.lower_model.proofs.Runs.{Goes, then_goes, goes_to, goes_from, stays, first, then_on, weaker_settled}
 use Rattle.lower_model.proofs.Regions.{upd_same, upd_other}

@@ -22,12 +22,12 @@ use Rattle.mid_program.specs.Sorted.{kinds_of}
 use Rattle.lower_model.specs.Cells.{Bits, Held}
 use Rattle.lower_model.specs.Emission.{asked, pending_assigned}
 use Rattle.lower_model.specs.Functions.{layout_of}
-use Rattle.lower_model.specs.ImportCalls.{input_code}
+use Rattle.host_imports.specs.Codes.{input_code}
 use Rattle.lower_model.specs.Machine.{Conf, Label, at, carried_if, loops_walked}
 use Rattle.lower_model.specs.Machine
 use Rattle.lower_model.specs.Places.{Bases}
 use Rattle.lower_model.specs.Small.{ask_row, kept_code}
-use Rattle.lower_model.specs.declared.import.Import.TheVariants.{Of}
+use Rattle.host_imports.specs.declared.import.Import.TheVariants.{Of}
 use Rattle.lower_model.proofs.Watch.{Watch}
 use Rattle.lower_model.proofs.Runs.{Arrives, Reaches, then_goes, stays, there, faulted, within, then_on}
 use Rattle.lower_model.proofs.Regions.{upd_same}

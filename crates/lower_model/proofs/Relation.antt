@@ -19,7 +19,7 @@ use Rattle.sem_scripts.specs.Names.{ArrayName, Numbered, Given}
 use Rattle.sem_scripts.specs.ScriptState.{State, Stop, TooDeep, Nexted, Exited, Returned, Local, Scalar, value_in_local, array_in_local, local_array}
 use Rattle.mid_program.specs.Sorted.{Held as Standing, There, Moved, Misused, has_kind, calls_of, kinds_of, arrays_among, context_of, is_array_place}
 use Rattle.lower_model.specs.Cells.{Cell, Bits, Held, IteratorOf, OwnedArray, LentArray, is_owned}
-use Rattle.lower_model.specs.ImportCalls.{input_code, stream_code}
+use Rattle.host_imports.specs.Codes.{input_code, stream_code}
 use Rattle.lower_model.specs.Machine.{Conf, Deep, Label, Frame, br, owner_waits}
 use Rattle.lower_model.specs.Places.{Bases}
 use Rattle.lower_model.proofs.Watch.{Watch}

@@ -23,7 +23,7 @@ use Rattle.lower_model.specs.Emission.{emitted, all_emitted, slot_set, text_drop
 use Rattle.lower_model.specs.Machine.{Conf, Label, Frame, at}
 use Rattle.lower_model.specs.Places.{Bases}
 use Rattle.lower_model.specs.Small.{does, ask, when, minus_one, least, text_beside, moved_out, h}
-use Rattle.lower_model.specs.declared.import.Import.TheVariants.{Drop}
+use Rattle.host_imports.specs.declared.import.Import.TheVariants.{Drop}
 use Rattle.lower_model.proofs.Watch.{Watch}
 use Rattle.lower_model.proofs.Runs.{Goes, then_goes, goes_to, goes_from, by_steps, there, then_on}
 use Rattle.lower_model.proofs.Locals.{Locals, Param, Hand, Number as NumberAt, local_of, with_at, has_with, laid, laid_at, laid_twice, laid_again}

@@ -20,7 +20,7 @@ use Rattle.lower_model.specs.Emission.{asked}
 use Rattle.lower_model.specs.Machine.{Conf, Label, Frame, at, carried_if}
 use Rattle.lower_model.specs.Places.{Bases}
 use Rattle.lower_model.specs.Small.{ask_row}
-use Rattle.lower_model.specs.declared.import.Import.TheVariants.{Of}
+use Rattle.host_imports.specs.declared.import.Import.TheVariants.{Of}
 use Rattle.lower_model.proofs.Watch.{Watch}
 use Rattle.lower_model.proofs.Runs.{by_steps, there, faulted, first, weaker}
 use Rattle.lower_model.proofs.Locals.{Locals, Number as NumberAt, with_at, laid}

@@ -28,12 +28,12 @@ use Rattle.sem_scripts.specs.Names.{ArrayName, Numbered, Given}
 use Rattle.sem_scripts.specs.Steps.{is_field_number}
 use Rattle.mid_program.specs.Mid.{Kind, Boxed, Unboxed, Many, Slot, Global, Parameter, Code, Do, Over, Compare, Call, Ask, AskLine, FileLine, Replace, Number, Text, Unset, Get, Set, Array, IsOpen, Choose, Seq, Let, Bound, Codes, End, At, Fixed, Fresh, Form, Answered, Bare, Perhaps, a_value, form_of, form_at, arguments, parameters_at}
 use Rattle.mid_program.specs.Sorted.{count_of}
-use Rattle.lower_model.specs.Imports.{import_count}
+use Rattle.host_imports.specs.Imports.{import_count}
 use Rattle.lower_model.specs.Places.{Bases, place_of, array_local, array_name, range_global, handle_global, number_global, made_in}
 use Rattle.lower_model.specs.Small.{does, ask, ask_row, when, either, minus_one, least, text_beside, moved_out, let_go, copied, number_is, h, n, kept, kept_code, kept_value, boxed_number, boxed_perhaps, to_value, converted, code_number, truth, unused, released, moved_from, bound_from}
 use Rattle.lower_model.specs.Arithmetic.{calculated, field_checked, compared}
-use Rattle.lower_model.specs.declared.import.Listing.TheVariants as listing
-use Rattle.lower_model.specs.declared.import.Import.TheVariants.{Over as OverLast, Arg, Drop, FreeArray}
+use Rattle.host_imports.specs.declared.import.Listing.TheVariants as listing
+use Rattle.host_imports.specs.declared.import.Import.TheVariants.{Over as OverLast, Arg, Drop, FreeArray}
 
 -- What the code of a function is emitted for: the texts in memory, how many ranges there are, the kinds of the names and of the functions' parameters, and where the function's own things stand.
 pub record Layout : Type 0 where

@@ -8,12 +8,12 @@ use Rattle.wasm_types.specs.declared.instr.Simple.TheVariants.{Call, I32Const, I
 use Rattle.wasm_types.specs.declared.module.ExportDesc.TheVariants.{Func}
 use Rattle.mid_program.specs.Mid.{Kind, Program}
 use Rattle.mid_program.specs.Sorted.{kinds_of}
-use Rattle.lower_model.specs.Imports.{imports, import_name, import_type, module_name}
+use Rattle.host_imports.specs.Imports.{imports, import_name, import_type, module_name}
 use Rattle.lower_model.specs.Machine.{Callee}
 use Rattle.lower_model.specs.Places.{memory_of, kind_type}
 use Rattle.lower_model.specs.Small.{does, minus_one, least}
 use Rattle.lower_model.specs.Functions.{texts_of, routine_callee, main_callee}
-use Rattle.lower_model.specs.declared.import.Import.{Import}
+use Rattle.host_imports.specs.declared.import.Import.{Import}
 
 -- the functions, `main` last
 abbrev pub all_callees : Program → List Callee

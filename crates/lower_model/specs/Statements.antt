@@ -24,7 +24,7 @@ use Rattle.lower_model.specs.Small.{does, ask, ask_row, when, either, end_code, 
 use Rattle.lower_model.specs.Quick.{Within, unsure, test_within, Source, Named, Constant, all_unsure, Sum, sum_names, sum_op, sum_in, Update, update_in, Tally, tally_in, Counted, counted_in, Pair, pair_names, pair_in, contrary, step_jumps, is_nothing}
 use Rattle.lower_model.specs.Arithmetic.{relation}
 use Rattle.lower_model.specs.Emission.{Layout, array_pushed, text_pushed, pending_assigned, asked, text_dropped, emitted, dropped, tested}
-use Rattle.lower_model.specs.declared.import.Import.TheVariants.{Drop, IterFree, FreeArray}
+use Rattle.host_imports.specs.declared.import.Import.TheVariants.{Drop, IterFree, FreeArray}
 
 abbrev pub block : Instructions → Instructions → Instructions
 block a k = Then (Block None a) k

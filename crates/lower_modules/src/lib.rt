@@ -4,7 +4,6 @@
 mod calls;
 mod fault;
 mod function;
-mod imports;
 mod lengths;
 mod module;
 mod parts;

@@ -4,7 +4,7 @@ ghost use Rattle.mid_program.specs.View.{view_mid};
 ghost use Rattle.lower_modules.specs.Limits.{most_bytes, IsTooLarge};
 ghost use Rattle.lower_modules.specs.View.{view_functions};
 ghost use Rattle.lower_model.specs.Functions.{texts_of};
-ghost use Rattle.lower_model.specs.Imports.{import_type};
+ghost use Rattle.host_imports.specs.Imports.{import_type};
 ghost use Rattle.lower_model.specs.Modules.{all_callees, callee_type, module_of};
 ghost use Rattle.lower_model.specs.Places.{memory_of};
 ghost use Rattle.wasm_types.specs.View.{signature_of, view_module};
@@ -17,7 +17,7 @@ use crate::parts::{
     function_forms, globals, import_forms, main_export, memory, memory_for, text_segment,
 };
 use crate::types::{function_types, import_types};
-use lower_model::Import;
+use host_imports::Import;
 use mid_program::Mid;
 use std::alloc::{AllocError, Global};
 use wasm_types::{FuncType, Module};

@@ -5,7 +5,7 @@ ghost use Rattle.mid_program.specs.View.{view_declared, view_mid, view_routine, 
 ghost use Rattle.lower_modules.specs.Limits.{most_bytes};
 ghost use Rattle.lower_modules.specs.View.{view_function, view_functions};
 ghost use Rattle.lower_model.specs.Functions.{texts_of};
-ghost use Rattle.lower_model.specs.Imports.{import_name, imports, module_name};
+ghost use Rattle.host_imports.specs.Imports.{import_name, imports, module_name};
 ghost use Rattle.lower_model.specs.Modules.{functions_from, globals_of, imported_from, long_global, memory_for, name_globals, renumbered, word_global};
 ghost use Rattle.lower_model.specs.Places.{memory_of};
 ghost use Rattle.lower_model.specs.Small.{does};
@@ -16,8 +16,7 @@ ghost use Rattle.wasm_types.specs.declared.module.ExportDesc.TheVariants as desc
 
 use crate::calls::renumbered;
 use crate::function::Function;
-use crate::imports::import_name;
-use lower_model::Import;
+use host_imports::Import;
 use mid_program::{Declared, Kind, Mid, Routine};
 use std::alloc::{AllocError, Global};
 use std::rc::Rc;
@@ -28,7 +27,7 @@ fn import_form(alloc: Global, import: Import, ty: u32) -> Result<wasm_types::Imp
 {
     Ok(wasm_types::Import {
         module: String::from_str(alloc, "awk2")?,
-        name: String::from_str(alloc, import_name(import))?,
+        name: String::from_str(alloc, import.name())?,
         ty,
     })
 }

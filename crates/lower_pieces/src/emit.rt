@@ -5,8 +5,7 @@ ghost use Rattle.lower_model.specs.Small.{ask, ask_row, does, either, when};
 ghost use Rattle.lower_model.specs.Statements.{again, block};
 ghost use Rattle.lower_pieces.specs.Emits.{does_all, Emits};
 
-use crate::imports::import_number;
-use lower_model::Import;
+use host_imports::Import;
 use sem_primitives::Primitive;
 use std::alloc::{AllocError, Global};
 use std::rc::Rc;
@@ -34,7 +33,7 @@ pub fn does_all(out: &mut Vec<Instr>, all: &[Simple]) -> Result<(), AllocError>
 pub fn ask(out: &mut Vec<Instr>, import: Import) -> Result<(), AllocError>
     ensures { OnOk result (Emits out.old.items out.new.items (ask import)) }
 {
-    does(out, Simple::Call(import_number(import)))
+    does(out, Simple::Call(import.number()))
 }
 
 /// Adds a call of a primitive.

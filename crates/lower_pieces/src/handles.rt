@@ -6,7 +6,7 @@ ghost use Rattle.lower_model.specs.Small.{ask, copied, copied_if_any, emptied, h
 ghost use Rattle.lower_pieces.specs.Emits.{Emits};
 
 use crate::emit::{ask, ask_row, does, does_all, when};
-use lower_model::Import;
+use host_imports::Import;
 use sem_primitives::Primitive;
 use std::alloc::{AllocError, Global};
 use wasm_types::{IRelOp, Instr, Simple, ValType};

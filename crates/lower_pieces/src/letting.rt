@@ -10,7 +10,7 @@ use crate::bases::Bases;
 use crate::emit::{ask, does_all};
 use crate::form::Form;
 use crate::handles::{copied, copied_if_any, let_go, moved, moved_out};
-use lower_model::Import;
+use host_imports::Import;
 use sem_primitives::{Answer, Sort};
 use std::alloc::{AllocError, Global};
 use wasm_types::{Instr, Simple};

@@ -10,7 +10,6 @@ mod emit;
 mod faults;
 mod form;
 mod handles;
-mod imports;
 mod keeping;
 mod letting;
 mod numbers;

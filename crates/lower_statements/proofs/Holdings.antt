@@ -8,7 +8,7 @@ use Rattle.lower_model.specs.Emission.{Layout}
 use Rattle.lower_model.specs.Places.{Bases, array_local, handle_local, iterator_local}
 use Rattle.lower_model.specs.Small.{emptied, let_go}
 use Rattle.lower_model.specs.Statements.{all_emptied, arrays_emptied, arrays_swept, has_functions, iterators_emptied, iterators_swept, left_swept, swept, temporaries_emptied, temporaries_swept}
-use Rattle.lower_model.specs.declared.import.Import.TheVariants.{Drop, FreeArray, IterFree}
+use Rattle.host_imports.specs.declared.import.Import.TheVariants.{Drop, FreeArray, IterFree}
 use Rattle.lower_statements.specs.Holding.{held_emptied, held_import, held_local, held_swept}
 use Rattle.lower_statements.specs.declared.holding.Held.{Held}
 use Rattle.lower_statements.specs.declared.holding.Held.TheVariants.{Temporaries, Iterators, Arrays}

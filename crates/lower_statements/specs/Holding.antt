@@ -3,8 +3,8 @@ use Rattle.std.specs.Prelude.{ℕ, zero, suc}
 use Rattle.wasm_types.specs.Syntax.{Instructions}
 use Rattle.lower_model.specs.Places.{Bases, array_local, handle_local, iterator_local}
 use Rattle.lower_model.specs.Small.{emptied, let_go}
-use Rattle.lower_model.specs.declared.import.Import.{Import}
-use Rattle.lower_model.specs.declared.import.Import.TheVariants.{Drop, FreeArray, IterFree}
+use Rattle.host_imports.specs.declared.import.Import.{Import}
+use Rattle.host_imports.specs.declared.import.Import.TheVariants.{Drop, FreeArray, IterFree}
 use Rattle.lower_statements.specs.declared.holding.Held.{Held}
 use Rattle.lower_statements.specs.declared.holding.Held.TheVariants.{Temporaries, Iterators, Arrays}
 

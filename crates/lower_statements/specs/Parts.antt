@@ -15,7 +15,7 @@ use Rattle.lower_model.specs.Quick.{Counted, Pair, Sum, all_unsure, sum_names, s
 use Rattle.lower_model.specs.Places.{Bases, answer_local, handle_global, iterator_local, status_global, way_global}
 use Rattle.lower_model.specs.Small.{ask, ask_row, does, either, end_code, fail_if, h, kept_code, moved_out, n, number_is, text_beside, to_number, to_value, when}
 use Rattle.lower_model.specs.Statements.{again, all_emptied, before_parts, block, first_part, goes_on, iterator_left, key_stored, last_part, left_by, left_unless, left_unless_counted, left_unless_pair, name_numbered, name_read, names_declared, parameters_dropped, part_done, record_done, records_read, routines_declared, step_emitted, steps_emitted, sum_kept, element_given, summed, summed_anyway, swept, way_exit, way_next}
-use Rattle.lower_model.specs.declared.import.Import.TheVariants.{Drop}
+use Rattle.host_imports.specs.declared.import.Import.TheVariants.{Drop}
 use Rattle.lower_statements.specs.declared.around.Around.{Around}
 
 -- the status of this form is set, and the function left by `exit`

@@ -7,7 +7,7 @@ ghost use Rattle.lower_expressions.specs.View.{view_layout};
 ghost use Rattle.lower_statements.specs.Holding.{held_count, held_emptied, held_import, held_local, held_swept};
 
 use lower_expressions::Layout;
-use lower_model::Import;
+use host_imports::Import;
 use lower_pieces::{Bases, emptied, let_go};
 use std::alloc::AllocError;
 use wasm_types::Instr;

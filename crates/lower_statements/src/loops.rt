@@ -13,7 +13,7 @@ ghost use Rattle.lower_statements.specs.Parts.{iterator_made, key_asked, rounds,
 
 use crate::evaluating::{dropped, tested};
 use lower_expressions::{At, Kept, Layout, array_pushed};
-use lower_model::Import;
+use host_imports::Import;
 use lower_pieces::{
     Bases, Form, again, ask, ask_row, block, does, does_all, emptied, let_go, moved_out,
 };

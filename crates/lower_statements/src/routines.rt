@@ -14,7 +14,7 @@ use crate::around::OUTERMOST;
 use crate::holding::{all_emptied, swept};
 use crate::steps::statements;
 use lower_expressions::Layout;
-use lower_model::Import;
+use host_imports::Import;
 use lower_pieces::{ask, ask_row, block, does};
 use mid_program::{Kind, Step};
 use sem_primitives::Primitive;

@@ -1,6 +1,6 @@
 //! The imports of a module.
 ghost use Rattle.std.specs.Prelude.{◌≡◌, IfErr, IfOk, MatchOption, None, Some, map};
-ghost use Rattle.host_step.specs.Imports.{host_finds};
+ghost use Rattle.host_imports.specs.Imports.{host_finds};
 ghost use Rattle.run_imports.specs.Calls.{AsksOnly, HasImports, IsImportOf, IsSilent, IsTyped, IsUnlisted, Lists, undecoded};
 ghost use Rattle.run_imports.specs.Powers.{writes_of};
 ghost use Rattle.wasm_model.specs.Links.{number_for};
@@ -9,7 +9,7 @@ ghost use Rattle.wasm_types.specs.View.{signature_of, view_import, view_module};
 
 use crate::powers::Writes;
 use host_links::Links;
-use host_step::Import;
+use host_imports::Import;
 use module_decoder::{DecodeFault, decode};
 use module_validator::{InvalidFault, ValidModule, validate};
 use std::alloc::Global;

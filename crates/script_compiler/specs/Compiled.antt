@@ -18,7 +18,7 @@ use Rattle.wasm_model.specs.Runs.{MachineForm}
 use Rattle.wasm_model.specs.declared.ends.End.TheVariants as ends
 use Rattle.wasm_store.specs.declared.word.Word.TheVariants.{I32}
 use Rattle.host_step.specs.HostState.{HostState}
-use Rattle.host_step.specs.Imports.{host_finds}
+use Rattle.host_imports.specs.Imports.{host_finds}
 use Rattle.lower_model.specs.Boundaries.{nops_in, steps_places}
 use Rattle.lower_model.specs.Functions.{main_callee, routine_callee}
 use Rattle.lower_model.specs.Modules.{module_of}

@@ -1,7 +1,7 @@
 use Rattle.std.proofs.Common.{[], Option, refl, subst}
 use Rattle.wasm_model.specs.declared.host.HostAnswer.TheVariants.{Trap}
 use Rattle.wasm_store.specs.declared.trap.TrapKind.TheVariants.{BadArgument}
-use Rattle.host_step.specs.declared.import.Import.{Import}
+use Rattle.host_imports.specs.declared.import.Import.{Import}
 use Rattle.host_meaning.specs.FormMeaning.{FormMeans}
 use Rattle.host_meaning.proofs.Means.{unknown_called}
 use Rattle.host_calls.specs.Forms.{host_form}

@@ -1,6 +1,6 @@
 //! The imports of the modules `awk1` and `awk2`.
 ghost use Rattle.std.specs.Prelude.{◌≡◌, slice_get};
-ghost use Rattle.host_step.specs.Imports.{can_fault, can_trap, import_answer, import_arguments, import_at, import_name, imports_in, lets_go, spends};
+ghost use Rattle.host_imports.specs.Imports.{can_fault, can_trap, import_answer, import_arguments, import_at, import_name, import_number, imports_in, lets_go, spends};
 
 use sem_primitives::{Answer, Argument, Constant, Primitive, Sort};
 
@@ -27,8 +27,11 @@ pub enum Import {
     FreeArray,
 }
 
+/// How many imports there are.
+pub const IMPORT_COUNT: usize = 56;
+
 /// The imports in the order of their numbers, from 0 on.
-pub const IMPORTS: [Import; 56] = [
+pub const IMPORTS: [Import; IMPORT_COUNT] = [
     Import::Of(Primitive::Num),
     Import::Of(Primitive::Lit),
     Import::Of(Primitive::Uninit),
@@ -156,7 +159,75 @@ fn primitive_name(primitive: Primitive) -> &'static str
     }
 }
 
+/// The number of a primitive among the imports.
+fn primitive_number(primitive: Primitive) -> u32
+    ensures { result ≡ import_number (Import.Of primitive) }
+{
+    match primitive {
+        Primitive::Num => 0,
+        Primitive::Lit => 1,
+        Primitive::Uninit => 2,
+        Primitive::Dup => 3,
+        Primitive::ToNum => 4,
+        Primitive::IntOf => 5,
+        Primitive::Truth => 6,
+        Primitive::Compare => 7,
+        Primitive::Concat => 8,
+        Primitive::Pow => 9,
+        Primitive::Fail => 10,
+        Primitive::GetSpecial => 11,
+        Primitive::SetSpecial => 12,
+        Primitive::Field => 13,
+        Primitive::SetField => 14,
+        Primitive::NewArray => 15,
+        Primitive::Elem => 16,
+        Primitive::SetElem => 17,
+        Primitive::Has => 18,
+        Primitive::Delete => 19,
+        Primitive::Join => 20,
+        Primitive::Iter => 21,
+        Primitive::IterNext => 22,
+        Primitive::Length => 23,
+        Primitive::Matches => 24,
+        Primitive::Match => 25,
+        Primitive::Sub => 26,
+        Primitive::SubResult => 27,
+        Primitive::Split => 28,
+        Primitive::Substr => 29,
+        Primitive::SubstrFrom => 30,
+        Primitive::Index => 31,
+        Primitive::Lower => 32,
+        Primitive::Upper => 33,
+        Primitive::NextMain => 34,
+        Primitive::Getline => 35,
+        Primitive::GetlineVar => 36,
+        Primitive::GetlineFile => 37,
+        Primitive::GetlineVarFile => 38,
+        Primitive::Line => 39,
+        Primitive::Declare => 40,
+        Primitive::StartAssign => 41,
+        Primitive::PendingName => 42,
+        Primitive::PendingValue => 43,
+        Primitive::BeginEnd => 44,
+        Primitive::Close => 45,
+        Primitive::NextFile => 53,
+        Primitive::Clear => 54,
+        Primitive::Flush => 55,
+    }
+}
+
 impl Listing {
+    /// Its number among the imports.
+    pub fn number(self) -> u32
+        ensures { result ≡ import_number (Import.Over self) }
+    {
+        match self {
+            Listing::Sprintf => 47,
+            Listing::Print => 48,
+            Listing::Printf => 49,
+        }
+    }
+
     /// Its name, by which modules import it.
     pub fn name(self) -> &'static str
         ensures { result.now ≡ import_name (Import.Over self) }
@@ -204,6 +275,20 @@ impl Import {
         ensures { result ≡ import_at number }
     {
         import_in(&IMPORTS, number as usize)
+    }
+
+    /// Its number.
+    pub fn number(self) -> u32
+        ensures { result ≡ import_number self }
+    {
+        match self {
+            Import::Of(primitive) => primitive_number(primitive),
+            Import::Over(listing) => listing.number(),
+            Import::Arg => 46,
+            Import::Drop => 50,
+            Import::IterFree => 51,
+            Import::FreeArray => 52,
+        }
     }
 
     /// Its name, by which modules import it.

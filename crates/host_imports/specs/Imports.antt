@@ -1,21 +1,25 @@
--- The imports of a module: their names, numbers, arguments and answers.
-use Rattle.std.specs.Prelude.{ℕ, List, [], ◌∷◌, ◌++◌, codes, Option, Some, None, slice_get, map}
+-- The table of imports of the modules `awk1` and `awk2`: number, name, arguments and answer of each, what it spends, whether it may trap or fault.
+use Rattle.std.specs.List.{position}
+use Rattle.std.specs.Cmp.Lexicographic.{pointwise}
+use Rattle.std.specs.Prelude.{ℕ, ◌==◌, nat_lt, Bool, true, false, List, [], ◌∷◌, ◌++◌, codes, Option, Some, None, slice_get, map, cond}
 use Rattle.wasm_types.specs.Syntax.{Signature}
 use Rattle.wasm_types.specs.declared.types.ValType.{ValType}
 use Rattle.wasm_types.specs.declared.types.ValType.TheVariants.{I32, I64}
 use Rattle.sem_primitives.specs.Table.{arguments_of, answer_of}
+use Rattle.sem_primitives.specs.Table as table
 use Rattle.sem_primitives.specs.declared.sorts.Argument.{Argument}
 use Rattle.sem_primitives.specs.declared.sorts.Argument.TheVariants as argument
 use Rattle.sem_primitives.specs.declared.sorts.Answer.{Answer}
 use Rattle.sem_primitives.specs.declared.sorts.Answer.TheVariants as answer
 use Rattle.sem_primitives.specs.declared.sorts.Constant.TheVariants as constant
+use Rattle.sem_primitives.specs.declared.sorts.Sort.{Sort}
 use Rattle.sem_primitives.specs.declared.sorts.Sort.TheVariants as sort
 use Rattle.sem_primitives.specs.declared.table.Primitive.{Primitive}
 use Rattle.sem_primitives.specs.declared.table.Primitive.TheVariants as row
-use Rattle.lower_model.specs.declared.import.Listing.{Listing}
-use Rattle.lower_model.specs.declared.import.Listing.TheVariants.{Sprintf, Print, Printf}
-use Rattle.lower_model.specs.declared.import.Import.{Import}
-use Rattle.lower_model.specs.declared.import.Import.TheVariants.{Of, Over, Arg, Drop, IterFree, FreeArray}
+use Rattle.host_imports.specs.declared.import.Listing.{Listing}
+use Rattle.host_imports.specs.declared.import.Listing.TheVariants.{Sprintf, Print, Printf}
+use Rattle.host_imports.specs.declared.import.Import.{Import}
+use Rattle.host_imports.specs.declared.import.Import.TheVariants.{Of, Over, Arg, Drop, IterFree, FreeArray}
 
 abbrev pub primitive_name : Primitive → List ℕ
 primitive_name row.Num = codes "num"
@@ -81,15 +85,19 @@ import_name Drop = codes "drop"
 import_name IterFree = codes "iter_free"
 import_name FreeArray = codes "free_array"
 
+-- the module that modules of scripts import from
 abbrev pub module_name : List ℕ
 module_name = codes "awk2"
 
--- in the order of their numbers; those that `awk1` does not have come last
-abbrev pub first_primitives : List Primitive
-first_primitives = row.Num ∷ row.Lit ∷ row.Uninit ∷ row.Dup ∷ row.ToNum ∷ row.IntOf ∷ row.Truth ∷ row.Compare ∷ row.Concat ∷ row.Pow ∷ row.Fail ∷ row.GetSpecial ∷ row.SetSpecial ∷ row.Field ∷ row.SetField ∷ row.NewArray ∷ row.Elem ∷ row.SetElem ∷ row.Has ∷ row.Delete ∷ row.Join ∷ row.Iter ∷ row.IterNext ∷ row.Length ∷ row.Matches ∷ row.Match ∷ row.Sub ∷ row.SubResult ∷ row.Split ∷ row.Substr ∷ row.SubstrFrom ∷ row.Index ∷ row.Lower ∷ row.Upper ∷ row.NextMain ∷ row.Getline ∷ row.GetlineVar ∷ row.GetlineFile ∷ row.GetlineVarFile ∷ row.Line ∷ row.Declare ∷ row.StartAssign ∷ row.PendingName ∷ row.PendingValue ∷ row.BeginEnd ∷ row.Close ∷ []
-
+-- in the order of their numbers
 abbrev pub imports : List Import
-imports = map Of first_primitives ++ (Arg ∷ Over Sprintf ∷ Over Print ∷ Over Printf ∷ Drop ∷ IterFree ∷ FreeArray ∷ Of row.NextFile ∷ Of row.Clear ∷ Of row.Flush ∷ [])
+imports = Of row.Num ∷ Of row.Lit ∷ Of row.Uninit ∷ Of row.Dup ∷ Of row.ToNum ∷ Of row.IntOf ∷ Of row.Truth ∷ Of row.Compare ∷ Of row.Concat
+    ∷ Of row.Pow ∷ Of row.Fail ∷ Of row.GetSpecial ∷ Of row.SetSpecial ∷ Of row.Field ∷ Of row.SetField ∷ Of row.NewArray ∷ Of row.Elem
+    ∷ Of row.SetElem ∷ Of row.Has ∷ Of row.Delete ∷ Of row.Join ∷ Of row.Iter ∷ Of row.IterNext ∷ Of row.Length ∷ Of row.Matches ∷ Of row.Match
+    ∷ Of row.Sub ∷ Of row.SubResult ∷ Of row.Split ∷ Of row.Substr ∷ Of row.SubstrFrom ∷ Of row.Index ∷ Of row.Lower ∷ Of row.Upper
+    ∷ Of row.NextMain ∷ Of row.Getline ∷ Of row.GetlineVar ∷ Of row.GetlineFile ∷ Of row.GetlineVarFile ∷ Of row.Line ∷ Of row.Declare
+    ∷ Of row.StartAssign ∷ Of row.PendingName ∷ Of row.PendingValue ∷ Of row.BeginEnd ∷ Of row.Close ∷ Arg ∷ Over Sprintf ∷ Over Print
+    ∷ Over Printf ∷ Drop ∷ IterFree ∷ FreeArray ∷ Of row.NextFile ∷ Of row.Clear ∷ Of row.Flush ∷ []
 
 abbrev pub import_at : ℕ → Option Import
 import_at n = slice_get imports n
@@ -173,6 +181,7 @@ listing_answer Sprintf = answer.Of sort.Value
 listing_answer Print = answer.Done
 listing_answer Printf = answer.Done
 
+-- an array and an iterator go by numbers of their own, which are not handles
 abbrev pub import_arguments : Import → List Argument
 import_arguments (Of p) = arguments_of p
 import_arguments (Over l) = listing_arguments l
@@ -188,6 +197,50 @@ import_answer Arg = answer.Nothing
 import_answer Drop = answer.Nothing
 import_answer IterFree = answer.Nothing
 import_answer FreeArray = answer.Nothing
+
+-- Which arguments are spent, by their sort: their numbers stand for nothing after the call. A handle is spent by every import but `dup`, which only
+-- looks; the number of an array by `free_array`, that of an iterator by `iter_free`.
+
+abbrev pub spends_handles : Import → Bool
+spends_handles (Of row.Dup) = false
+spends_handles _ = true
+
+abbrev pub spends_arrays : Import → Bool
+spends_arrays FreeArray = true
+spends_arrays _ = false
+
+abbrev pub spends_iterators : Import → Bool
+spends_iterators IterFree = true
+spends_iterators _ = false
+
+abbrev pub spends : Import → Sort → Bool
+spends i sort.Value = spends_handles i
+spends i sort.Number = false
+spends i sort.Array = spends_arrays i
+spends i sort.Iterator = spends_iterators i
+
+-- these let something go, and do so once a fault is kept too
+abbrev pub lets_go : Import → Bool
+lets_go Drop = true
+lets_go IterFree = true
+lets_go FreeArray = true
+lets_go _ = false
+
+-- whether a call may keep a fault
+abbrev pub can_fault : Import → Bool
+can_fault (Of p) = table.can_fault p
+can_fault (Over l) = true
+can_fault _ = false
+
+-- whether a call with words of its types may trap: what takes no argument and is always in turn never does
+abbrev pub can_trap : Import → Bool
+can_trap (Of row.Uninit) = false
+can_trap (Of row.NewArray) = false
+can_trap (Of row.BeginEnd) = false
+can_trap (Of row.NextFile) = false
+can_trap _ = true
+
+-- Types.
 
 -- a number is a word of 64 bits, a text in memory is its place and its length, and all else is a word of 32 bits
 abbrev pub words_of : Argument → List ValType
@@ -206,3 +259,42 @@ result_of _ = Some I32
 
 abbrev pub import_type : Import → Signature
 import_type i = record { params = params_of (import_arguments i); result = result_of (import_answer i) }
+
+-- Finding an import by its names.
+
+abbrev pub same_name : List ℕ → List ℕ → Bool
+same_name a b = pointwise ◌==◌ a b
+
+abbrev pub has_name : List ℕ → Import → Bool
+has_name name i = same_name (import_name i) name
+
+-- the number of the first import of a name
+abbrev pub number_named : List ℕ → Option ℕ
+number_named name = position (has_name name) imports
+
+abbrev pub type_if_there : Option Import → Option Signature
+type_if_there None = None
+type_if_there (Some i) = Some (import_type i)
+
+abbrev pub host_types : ℕ → Option Signature
+host_types n = type_if_there (import_at n)
+
+abbrev pub numbered : ℕ → Option Signature → Option (ℕ × Signature)
+numbered n None = None
+numbered n (Some t) = Some (n, t)
+
+abbrev pub with_type : Option ℕ → Option (ℕ × Signature)
+with_type None = None
+with_type (Some n) = numbered n (host_types n)
+
+-- how many of the imports a module of this name has, by the same numbers: `awk1` the first 53, `awk2` all
+abbrev pub imports_in : List ℕ → ℕ
+imports_in from = cond (same_name from (codes "awk1")) 53 (cond (same_name from module_name) import_count 0)
+
+abbrev pub number_below : ℕ → Option ℕ → Option ℕ
+number_below count None = None
+number_below count (Some n) = cond (nat_lt n count) (Some n) None
+
+-- the number and the type of an import, by the names of its module and of itself
+abbrev pub host_finds : List ℕ → List ℕ → Option (ℕ × Signature)
+host_finds from name = with_type (number_below (imports_in from) (number_named name))
