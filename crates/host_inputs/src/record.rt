@@ -10,13 +10,13 @@ ghost use Rattle.host_format.specs.Outcomes.{IsStopOf};
 ghost use Rattle.host_texts.specs.States.{specials_of, with_texts};
 ghost use Rattle.host_inputs.specs.Keeps.{KeepsSubstituted};
 
+use awk_text::MAX_NUMBER;
 use awk_values::{Bytes, Fault, Stop, Value, to_number, to_text};
 use host_texts::Texts;
 use sem_primitives::Special;
 use std::alloc::Global;
 
-/// The greatest number.
-const LARGEST: i64 = 1 << 53;
+const LARGEST: i64 = MAX_NUMBER as i64;
 
 /// The value of a special variable, among all of them, is another.
 #[tactic(auto, using(crate::proofs::SpecialNumbers::number_within))]

@@ -1,6 +1,7 @@
 -- Quick ways of statements. An unboxed name's number stands in one word, and the two words that are no number's lie far from all numbers: so one comparison without sign says that a name has a number, and that it is
 -- between two bounds. Where it is, a step on numbers is a few instructions; elsewhere, the code of all cases.
 use Rattle.std.specs.Prelude.{ℕ, zero, suc, ◌^◌, Bool, true, false, ◌&&◌, ◌||◌, nat_eq, nat_le, if◌then◌else◌, List, [], ◌∷◌, Option, Some, None, ℤ, pos, ◌+ℤ◌, unsigned_abs}
+use Rattle.awk_text.specs.Number.{largest}
 use Rattle.std.specs.Int.{w64, cast_unsigned}
 use Rattle.awk_values.specs.declared.comparison.CompareOp.{CompareOp}
 use Rattle.awk_values.specs.declared.comparison.CompareOp.TheVariants as compare
@@ -44,11 +45,11 @@ constant_in e = None
 -- so many numbers from -2^53 on
 abbrev pub first_ones : ℕ → ℕ → Option Within
 first_ones i zero = None
-first_ones i (suc k) = Some (record { name = i; shift = pos (2 ^ 53); width = k })
+first_ones i (suc k) = Some (record { name = i; shift = pos largest; width = k })
 
 abbrev pub compared_within : CompareOp → ℕ → ℤ → Option Within
-compared_within compare.Less i z = first_ones i (unsigned_abs (z +ℤ pos (2 ^ 53)))
-compared_within compare.LessOrEqual i z = first_ones i (suc (unsigned_abs (z +ℤ pos (2 ^ 53))))
+compared_within compare.Less i z = first_ones i (unsigned_abs (z +ℤ pos largest))
+compared_within compare.LessOrEqual i z = first_ones i (suc (unsigned_abs (z +ℤ pos largest)))
 compared_within c i z = None
 
 abbrev pub both_within : CompareOp → Option ℕ → Option ℤ → Option Within

@@ -1,5 +1,6 @@
 -- The code of steps, of functions and of `main`. A statement's place is the `nop` that begins its code: there the function holds nothing, iterators aside.
 use Rattle.std.specs.Prelude.{ℕ, zero, suc, ◌+◌, ◌^◌, Bool, true, false, if◌then◌else◌, List, [], ◌∷◌, length, Option, Some, None, is_some, pos}
+use Rattle.awk_text.specs.Number.{largest}
 use Rattle.std.specs.Int.{w64, cast_unsigned}
 use Rattle.awk_values.specs.Faults.{fault_number}
 use Rattle.awk_values.specs.declared.fault.Fault.TheVariants.{NextOutside, Range}
@@ -104,7 +105,7 @@ module _ (y : Layout) where
 
   -- two numbers are on the stack: what an operator gives of them goes to temporary t, and is tested
   abbrev pub sum_kept : IBinOp → (t d : ℕ) → Instructions → Instructions
-  sum_kept op t d k = does (Binary I64 op) (does (LocalTee (n b t)) (does (I64Const (2 ^ 53)) (does (Binary I64 Add) (does (I64Const (2 ^ 54)) (does (Comparing I64 GtU) (fail_if Range d k))))))
+  sum_kept op t d k = does (Binary I64 op) (does (LocalTee (n b t)) (does (I64Const largest) (does (Binary I64 Add) (does (I64Const (2 ^ 54)) (does (Comparing I64 GtU) (fail_if Range d k))))))
 
   -- the same, and a name takes it
   abbrev pub sum_taken : IBinOp → ℕ → (t d : ℕ) → Instructions → Instructions
@@ -169,7 +170,7 @@ module _ (y : Layout) where
   abbrev pub left_unless_pair : Option Pair → Code → (d out : ℕ) → Instructions → Instructions
   left_unless_pair None e d out k = left_unless_counted (counted_in e) e d out k
   left_unless_pair (Some q) e d out k =
-      all_unsure name_read (pair_names q) (pos (2 ^ 53)) (2 ^ 54) (either (tested y [] [] e zero zero (suc d) (does (Test I32 Eqz) (does (BrIf (suc out)) Done))) (pair_left q (suc out) Done) k)
+      all_unsure name_read (pair_names q) (pos largest) (2 ^ 54) (either (tested y [] [] e zero zero (suc d) (does (Test I32 Eqz) (does (BrIf (suc out)) Done))) (pair_left q (suc out) Done) k)
 
   -- where a test fails `out` labels further out are left
   abbrev pub left_unless : Option Within → Code → (d out : ℕ) → Instructions → Instructions

@@ -1,5 +1,6 @@
 //! Quick ways of statements on numbers: names whose numbers are within bounds, and what is done with them on the stack.
 ghost use Rattle.std.specs.Prelude.{[], ◌≡◌, ◌≤◌, ◌^◌, IfOk, OnOk, pos, suc};
+ghost use Rattle.awk_text.specs.Number.{largest};
 ghost use Rattle.wasm_types.specs.Syntax.{Done};
 ghost use Rattle.lower_model.specs.Quick.{all_unsure, joined, shifted, sum_op, unsure};
 ghost use Rattle.lower_model.specs.Statements.{counted_left, name_read, pair_left, source_pushed, summed};
@@ -10,6 +11,7 @@ ghost use Rattle.lower_quick.specs.View.{view_counted, view_pair, view_source, v
 ghost use Rattle.lower_statements.specs.Parts.{past, unnumbered};
 ghost use Rattle.lower_statements.specs.QuickFits.{NamesFit, PairFits, SourceFits, SumFits};
 
+use awk_text::MAX_NUMBER;
 use lower_expressions::{Layout, global_number};
 use lower_pieces::{TEXT_BESIDE, ask_row, comparison_number, does, does_all, relation};
 use lower_quick::{Counted, Pair, Source, Sum, Within, contrary};
@@ -52,9 +54,9 @@ fn past(out: &mut Vec<Instr>, width: u64) -> Result<(), AllocError>
 /// Adds the test whether a name has none of these numbers.
 pub(crate) fn unsure(y: &Layout<'_>, out: &mut Vec<Instr>, within: Within) -> Result<(), AllocError>
     requires { within.name ≤ most_places }
-    ensures { OnOk result (Emits out.old.items out.new.items (unsure (name_read (view_layout y.now) within.name) (pos (2 ^ 53)) within.width)) }
+    ensures { OnOk result (Emits out.old.items out.new.items (unsure (name_read (view_layout y.now) within.name) (pos largest) within.width)) }
 {
-    shifted(out, name_read(y, within.name), 1 << 53)?;
+    shifted(out, name_read(y, within.name), MAX_NUMBER)?;
     past(out, within.width)
 }
 

@@ -15,6 +15,7 @@ ghost use Rattle.lower_statements.specs.QuickFits.{SourceFits, SumFits};
 
 use crate::evaluating::answered;
 use crate::quick::sum_op;
+use awk_text::MAX_NUMBER;
 use awk_values::Fault;
 use lower_expressions::{Layout, global_handle, global_number, text_dropped};
 use lower_pieces::{
@@ -141,7 +142,7 @@ pub(crate) fn sum_kept(
     let all = [
         Simple::Binary(ValType::I64, op),
         Simple::LocalTee(y.bases.number(t)),
-        Simple::I64Const(1 << 53),
+        Simple::I64Const(MAX_NUMBER),
         Simple::Binary(ValType::I64, IBinOp::Add),
         Simple::I64Const(1 << 54),
         Simple::Compare(ValType::I64, IRelOp::GtU),

@@ -15,6 +15,7 @@ ghost use Rattle.lower_statements.specs.StepFits.{TestFits};
 
 use crate::evaluating::tested;
 use crate::quick::{all_unsure, counted_code, pair_code, unnumbered, unsure};
+use awk_text::MAX_NUMBER;
 use lower_expressions::Layout;
 use lower_pieces::{does_all, either, when};
 use lower_quick::{Counted, Pair, Within, counted_in, pair_in, pair_names, test_within};
@@ -69,7 +70,7 @@ fn pair_tested(
     ensures { OnOk result (Emits out.old.items out.new.items (pair_tested (view_layout y.now) (view_pair pair) (view test.now) exit label)) }
 {
     let names = pair_names(y.alloc, pair)?;
-    all_unsure(y, out, &names, 1 << 53, 1 << 54)?;
+    all_unsure(y, out, &names, MAX_NUMBER, 1 << 54)?;
     let all_cases = test_code(y, test, exit, label)?;
     let quick = pair_code(y, pair, label)?;
     either(y.alloc, out, all_cases, quick)

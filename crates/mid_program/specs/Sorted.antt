@@ -1,5 +1,6 @@
 -- Which mid code is well sorted. Lowering speaks of such code alone; the meaning is total.
 use Rattle.std.specs.Prelude.{ℕ, zero, suc, ◌^◌, T, Bool, true, false, not, ◌&&◌, ◌||◌, nat_le, nat_lt, if◌then◌else◌, List, [], ◌∷◌, ◌++◌, length, map, is_some, unsigned_abs}
+use Rattle.awk_text.specs.Number.{largest}
 use Rattle.sem_primitives.specs.Constants.{constant_at}
 use Rattle.sem_primitives.specs.declared.sorts.Sort.{Sort}
 use Rattle.sem_primitives.specs.declared.sorts.Sort.TheVariants as sort
@@ -261,7 +262,7 @@ module _ (c : Context) where
     sorted fs (AskLine s) = stores_well fs s && sorted (a_value ∷ fs) s
     sorted fs (FileLine e s) = fits (form_of fs e) sort.Value && (sorted fs e && (stores_well fs s && sorted (a_value ∷ fs) s))
     sorted fs (Replace all es s) = fit_row fs (argument.Of sort.Value ∷ argument.Of sort.Value ∷ argument.Of sort.Value ∷ []) es && (all_sorted fs es && (stores_well fs s && sorted (a_value ∷ fs) s))
-    sorted fs (Number z) = nat_le (unsigned_abs z) (2 ^ 53)
+    sorted fs (Number z) = nat_le (unsigned_abs z) largest
     sorted fs (Text i) = nat_lt i c.texts
     sorted fs Unset = true
     sorted fs (Get x) = is_slot c x
