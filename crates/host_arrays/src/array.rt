@@ -4,10 +4,10 @@ ghost use Rattle.std.specs.Map.{keys_of};
 ghost use Rattle.host_arrays.specs.Pairs.{get_pair, set_pair, delete_pair, created, value_or_uninit};
 ghost use Rattle.host_arrays.specs.Order.{Changes, IsOnce, SpecHeld, StandsIn, held_in, kept_value, place_in};
 
+use crate::keyed::Keys;
 use awk_values::{Bytes, Value};
 use indexmap::IndexMap;
 use std::alloc::{AllocError, Global};
-use std::hash::RandomState;
 use std::marker::Model;
 
 /// A value, and the place of its key in the order.
@@ -22,7 +22,7 @@ pub(crate) struct Held {
 /// The map finds a key's value. A key that is deleted leaves a hole in the order, so that the others need not move; where more than half are holes, they are closed.
 #[derive(Drop)]
 pub(crate) struct Array {
-    pairs: IndexMap<Bytes, Held, RandomState>,
+    pairs: IndexMap<Bytes, Held, Keys>,
     order: Vec<Option<Bytes>>,
     /// Where in the map the key stands that was read last: most often that key is written next, and then it is not hashed again.
     last: usize,
@@ -51,7 +51,7 @@ fn copy_of(value: &Value) -> Result<Value, AllocError>
 }
 
 /// Whether a key stands at this place of the map.
-fn stands_in(pairs: &IndexMap<Bytes, Held, RandomState>, place: usize, key: &Bytes) -> bool
+fn stands_in(pairs: &IndexMap<Bytes, Held, Keys>, place: usize, key: &Bytes) -> bool
     ensures { result ≡ true → StandsIn pairs.now.entries place key.now }
 {
     match pairs.get_index(place) {
@@ -61,7 +61,7 @@ fn stands_in(pairs: &IndexMap<Bytes, Held, RandomState>, place: usize, key: &Byt
 }
 
 /// Writes the value of the key at this place of the map.
-fn write_at(pairs: &mut IndexMap<Bytes, Held, RandomState>, place: usize, value: Value)
+fn write_at(pairs: &mut IndexMap<Bytes, Held, Keys>, place: usize, value: Value)
     ensures { (k : List ℕ) (h : SpecHeld) → slice_get pairs.old.entries place ≡ Some (k, h) → Changes (held_in pairs.old.entries) (held_in pairs.new.entries) k (Some (record { value = value; place = h.place })) }
 {
     if let Some(held) = pairs.get_index_mut(place) {
@@ -70,7 +70,7 @@ fn write_at(pairs: &mut IndexMap<Bytes, Held, RandomState>, place: usize, value:
 }
 
 /// Gives each key its place in an order without holes.
-fn renumber(pairs: &mut IndexMap<Bytes, Held, RandomState>, order: &[Option<Bytes>])
+fn renumber(pairs: &mut IndexMap<Bytes, Held, Keys>, order: &[Option<Bytes>])
     requires once { IsOnce order.now }
     requires held { (k : List ℕ) (i : ℕ) → get_or order.now i None ≡ Some k → IsSome (held_in pairs.old.entries k) }
     ensures values { (k : List ℕ) → kept_value (held_in pairs.new.entries k) ≡ kept_value (held_in pairs.old.entries k) }
@@ -86,12 +86,12 @@ fn renumber(pairs: &mut IndexMap<Bytes, Held, RandomState>, order: &[Option<Byte
 }
 
 impl Array {
-    /// An array without a pair, whose keys are hashed by the state. It takes no memory.
-    pub(crate) fn new(alloc: Global, state: RandomState) -> Self
+    /// An array without a pair, whose keys are hashed under these. It takes no memory.
+    pub(crate) fn new(alloc: Global, keys: Keys) -> Self
         ensures { result ≡ [] }
     {
         Array {
-            pairs: IndexMap::with_hasher(alloc, state),
+            pairs: IndexMap::with_hasher(alloc, keys),
             order: Vec::new(alloc),
             last: 0,
         }

@@ -2,6 +2,7 @@
 #![tactic(auto)]
 
 mod array;
+mod keyed;
 mod table;
 
 pub use table::Arrays;

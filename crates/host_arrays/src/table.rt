@@ -6,6 +6,7 @@ ghost use Rattle.std.specs.Borrow.{Lends, sem};
 ghost use Rattle.host_arrays.specs.Pairs.{Pairs, get_pair, set_pair, delete_pair, pairs_at, created, first_arrays, value_or_uninit};
 
 use crate::array::Array;
+use crate::keyed::Keys;
 use awk_values::{Bytes, Value};
 use slab::Slab;
 use std::alloc::{AllocError, Global};
@@ -22,7 +23,7 @@ const LIMIT: usize = (1 << 31) - 1;
 pub struct Arrays {
     slab: Slab<Array>,
     alloc: Global,
-    state: RandomState,
+    keys: Keys,
 }
 
 impl Model for Arrays {
@@ -57,7 +58,7 @@ impl Arrays {
     /// The number of ENVIRON.
     pub const ENVIRON: i32 = 1;
 
-    /// The arrays ARGV and ENVIRON, without a pair. The keys of all arrays are hashed by the state, so that who chooses keys can not choose them to
+    /// The arrays ARGV and ENVIRON, without a pair. The keys of all arrays are hashed under keys drawn from the state, so that who chooses keys can not choose them to
     /// collide unless the state is known. No answer depends on it.
     ///
     /// # Errors
@@ -69,7 +70,7 @@ impl Arrays {
         let mut arrays = Arrays {
             slab: Slab::new(alloc),
             alloc,
-            state,
+            keys: Keys::drawn(state),
         };
         let argv = arrays.new_array()?;
         let environ = arrays.new_array()?;
@@ -95,7 +96,7 @@ impl Arrays {
         if slab.vacant_key() >= LIMIT {
             return Err(AllocError);
         }
-        let Ok(key) = slab.insert(Array::new(self.alloc, self.state)) else {
+        let Ok(key) = slab.insert(Array::new(self.alloc, self.keys)) else {
             return Err(AllocError);
         };
         Ok(key as i32)
@@ -198,7 +199,7 @@ impl Arrays {
         requires { map.contains_key self.old number ≡ true }
         ensures { self.new ≡ map.insert self.old number [] }
     {
-        let none = Array::new(self.alloc, self.state);
+        let none = Array::new(self.alloc, self.keys);
         *self.array_mut(number) = none;
     }
 
