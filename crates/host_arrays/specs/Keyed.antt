@@ -1,4 +1,4 @@
--- SipHash-1-3 as functions of the state.
+-- SipHash-1-3 (Aumasson and Bernstein, with one round a word and three at the end) as functions of the state.
 use Rattle.std.specs.Prelude.{ℕ, ◌+◌, ◌*◌, ◌%◌, ◌^◌, cond, List, ◌==◌, bit_and, bit_or, bit_xor}
 use Rattle.std.specs.List.{fold}
 use Rattle.std.specs.Int.{w64, rotate_left}
