@@ -1,9 +1,9 @@
 //! How many fields a text has, where memory for their places is not to be taken.
 ghost use Rattle.std.specs.Prelude.{◌≡◌, ◌≢◌, ◌≤◌, ◌==◌, ◌||◌, ◌&&◌, Bool, [], filter, length};
 ghost use Rattle.sem_primitives.specs.Fields.{Blanks, Byte, is_blank, pieces_of};
-ghost use Rattle.host_fields.specs.Held.{separator_by};
+ghost use Rattle.host_format.specs.Separators.{separator_by};
 
-use crate::fields::Plain;
+use host_format::Plain;
 
 fn is_blank(byte: u8) -> bool
     ensures { result ≡ is_blank byte }

@@ -7,13 +7,13 @@ ghost use Rattle.sem_primitives.specs.Fields.{Expression, Nothing, Separator, ne
 ghost use Rattle.host_format.specs.Between.{IsOpen, separator_end};
 ghost use Rattle.host_format.specs.Expressions.{IsAuto};
 ghost use Rattle.host_format.specs.Marks.{kept, pieces_by, skips_empty};
-ghost use Rattle.host_format.specs.Separators.{IsAnySep, IsSep};
+ghost use Rattle.host_format.specs.Separators.{IsAnySep, IsSep, separator_by};
 ghost use Rattle.host_format.specs.declared.marks.Marks.TheVariants as marks;
 ghost use Rattle.host_format.specs.Spans.{AreSpans, IsSoFar};
 
 use crate::eres::first_not_empty;
 use crate::marks::Marks;
-use crate::sep::Sep;
+use crate::sep::{Plain, Sep};
 use crate::span::{Span, push};
 use awk_values::Stop;
 use ere_match::Auto;
@@ -173,6 +173,29 @@ pub fn split_into(
         Sep::Ere(auto) => split_by_ere(spans, text, auto, newlines)?,
     }
     Ok(())
+}
+
+/// The same by a separator that is no expression.
+///
+/// # Errors
+///
+/// There is no memory; the parts may be any then.
+pub fn split_plain(
+    spans: &mut Vec<Span>,
+    text: &[u8],
+    by: Plain,
+    newlines: bool,
+) -> Result<(), AllocError>
+    ensures { OnOk result (AreSpans text.now spans.new.items (pieces_of (separator_by by) newlines text.now)) }
+{
+    spans.clear();
+    if text.is_empty() {
+        return Ok(());
+    }
+    match by {
+        Plain::Blanks => split_by(spans, text, Marks::Blanks),
+        Plain::Byte(byte) => split_by(spans, text, byte_marks(byte, newlines)),
+    }
 }
 
 /// The fields of a text, as parts of it, as [`split_into`] has them.

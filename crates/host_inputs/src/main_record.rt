@@ -10,11 +10,11 @@ ghost use Rattle.host_inputs.specs.Keeps.{AnswerLine, AnswerPends, GivenPends, H
 ghost use Rattle.host_inputs.specs.States.{HoldsInput, with_tables};
 
 use crate::input::{Given, Input, Keep, MainRead};
-use crate::record::{count_record, set_record};
+use crate::record::count_record;
 use crate::turn::turn;
 use awk_values::{Bytes, Fault, Stop, Value};
 use host_streams::Operands;
-use host_texts::Texts;
+use host_texts::{Texts, put_record};
 use sem_primitives::InputAnswer;
 use std::alloc::Global;
 use world_core::World;
@@ -61,7 +61,7 @@ pub(crate) fn keep(
     ensures substituted { KeepsSubstituted texts.old texts.new }
 {
     match to {
-        Keep::Record => set_record(alloc, texts, text),
+        Keep::Record => put_record(alloc, texts, text),
         Keep::Line => {
             input.line = Some(Value::StrNum(text));
             Ok(())

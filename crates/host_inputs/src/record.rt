@@ -1,19 +1,16 @@
 //! The record, and the special variables that count and hold.
 ghost use Rattle.std.specs.Prelude.{◌≡◌, ◌≢◌, ◌==◌, cond, Err, IfErr, IfOk, Ok, OnErr, OnOk, pos};
 ghost use Rattle.awk_values.specs.Operators.{sum};
-ghost use Rattle.sem_primitives.specs.FieldMeaning.{with_record};
 ghost use Rattle.sem_primitives.specs.InputMeaning.{counted_by, counted_record};
 ghost use Rattle.sem_primitives.specs.SharedState.{Inner, with_special};
 ghost use Rattle.host_inputs.specs.Counts.{count_after, next_count};
 ghost use Rattle.sem_primitives.specs.Constants.{special_number};
-ghost use Rattle.host_format.specs.Outcomes.{IsStopOf};
 ghost use Rattle.host_texts.specs.States.{specials_of, with_texts};
 ghost use Rattle.host_inputs.specs.Keeps.{KeepsSubstituted};
 
-use awk_values::{Bytes, Fault, Stop, Value, to_number, to_text};
+use awk_values::{Fault, Value, to_number};
 use host_texts::Texts;
 use sem_primitives::Special;
-use std::alloc::Global;
 
 /// The greatest number.
 const LARGEST: i64 = 1 << 53;
@@ -89,18 +86,4 @@ pub(crate) fn count_record(texts: &mut Texts) -> Result<(), Fault>
 {
     count_by(texts, Special::Nr)?;
     count_by(texts, Special::Fnr)
-}
-
-/// Sets `$0`.
-pub(crate) fn set_record(alloc: Global, texts: &mut Texts, text: Bytes) -> Result<(), Stop>
-    ensures ok { OnOk result ((inner : Inner) → with_record text (with_texts texts.old inner) ≡ Ok (with_texts texts.new inner)) }
-    ensures err { IfErr result (λ stop. (inner : Inner) → IsStopOf (with_record text (with_texts texts.old inner)) stop) }
-    ensures substituted { KeepsSubstituted texts.old texts.new }
-{
-    let fs = to_text(alloc, texts.specials.get(Special::Fs))?;
-    let rs = to_text(alloc, texts.specials.get(Special::Rs))?;
-    match texts.held.set_whole(text, fs.as_slice(), rs.as_slice()) {
-        Ok(()) => Ok(()),
-        Err(stop) => Err(stop),
-    }
 }

@@ -1,5 +1,5 @@
 //! Primitives on special variables, the record and its fields.
-ghost use Rattle.std.specs.Prelude.{◌≡◌, ◌≢◌, pos, IfErr, IfOk, OnErr, OnOk};
+ghost use Rattle.std.specs.Prelude.{◌≡◌, ◌≢◌, pos, IfErr, IfOk, IfSome, OnErr, OnOk};
 ghost use Rattle.awk_values.specs.Values.{text_of_value};
 ghost use Rattle.sem_primitives.specs.FieldMeaning.{done, set_special, set_special_row, with_record};
 ghost use Rattle.sem_primitives.specs.SharedState.{Inner, special_of};
@@ -15,7 +15,7 @@ use crate::reply::{Evaluated, Reply};
 use crate::spent::Spent;
 use crate::texts::Texts;
 use crate::words::special_front;
-use awk_values::{Fault, Stop, Value, to_number};
+use awk_values::{Bytes, Fault, Stop, Value, to_number};
 use host_handles::Handles;
 use host_values::{Refusal, ends, number_front, value_front};
 use sem_primitives::Special;
@@ -158,19 +158,63 @@ pub(crate) fn field(
     })
 }
 
-/// Sets `$0`.
+/// The text of a value, where it is not to be made.
+#[inline(always)]
+fn text_in(value: &Value) -> Option<&[u8]>
+    ensures { IfSome result (λ text. text.now ≡ text_of_value value.now) }
+{
+    match value {
+        Value::Text(text) | Value::StrNum(text) => Some(text.as_slice()),
+        _ => None,
+    }
+}
+
+/// Sets `$0`, where the text of FS or RS is made first.
+#[inline(never)]
+fn put_record_by(alloc: Global, texts: &mut Texts, text: Bytes) -> Result<(), Stop>
+    ensures ok { OnOk result ((inner : Inner) → with_record text (with_texts texts.old inner) ≡ Ok (with_texts texts.new inner)) }
+    ensures err { IfErr result (λ stop. (inner : Inner) → IsStopOf (with_record text (with_texts texts.old inner)) stop) }
+    ensures refused { OnErr result (texts.new ≡ texts.old) }
+    ensures substituted { texts.new.substituted ≡ texts.old.substituted }
+{
+    let fs = text_value(alloc, texts.specials.get(Special::Fs))?;
+    let rs = text_value(alloc, texts.specials.get(Special::Rs))?;
+    match texts.held.set_whole(text, fs.as_slice(), rs.as_slice()) {
+        Ok(()) => Ok(()),
+        Err(stop) => Err(stop),
+    }
+}
+
+/// Sets `$0`. The texts of FS and RS are lent, where they are texts.
+///
+/// # Errors
+///
+/// The faults of FS and of the number of fields, or want of memory; nothing changes.
+pub fn put_record(alloc: Global, texts: &mut Texts, text: Bytes) -> Result<(), Stop>
+    ensures ok { OnOk result ((inner : Inner) → with_record text (with_texts texts.old inner) ≡ Ok (with_texts texts.new inner)) }
+    ensures err { IfErr result (λ stop. (inner : Inner) → IsStopOf (with_record text (with_texts texts.old inner)) stop) }
+    ensures refused { OnErr result (texts.new ≡ texts.old) }
+    ensures substituted { texts.new.substituted ≡ texts.old.substituted }
+{
+    if let Some(fs) = text_in(texts.specials.get(Special::Fs)) {
+        if let Some(rs) = text_in(texts.specials.get(Special::Rs)) {
+            return match texts.held.set_whole(text, fs, rs) {
+                Ok(()) => Ok(()),
+                Err(stop) => Err(stop),
+            };
+        }
+    }
+    put_record_by(alloc, texts, text)
+}
+
+/// Sets `$0` to the text of a value.
 fn put_whole(alloc: Global, texts: &mut Texts, value: &Value) -> Result<(), Stop>
     ensures ok { OnOk result ((inner : Inner) → with_record (text_of_value value.now) (with_texts texts.old inner) ≡ Ok (with_texts texts.new inner)) }
     ensures err { IfErr result (λ stop. (inner : Inner) → IsStopOf (with_record (text_of_value value.now) (with_texts texts.old inner)) stop) }
     ensures refused { OnErr result (texts.new ≡ texts.old) }
 {
-    let fs = text_value(alloc, texts.specials.get(Special::Fs))?;
-    let rs = text_value(alloc, texts.specials.get(Special::Rs))?;
     let text = text_value(alloc, value)?;
-    match texts.held.set_whole(text, fs.as_slice(), rs.as_slice()) {
-        Ok(()) => Ok(()),
-        Err(stop) => Err(stop),
-    }
+    put_record(alloc, texts, text)
 }
 
 /// Sets a field from `$1` on.
