@@ -17,7 +17,7 @@ use Rattle.lower_model.specs.Places.{Bases}
 use Rattle.lower_model.specs.Runs.{begun, code_of, first_globals, host_at_start}
 use Rattle.lower_model.specs.Small.{ask_row, kept_number}
 use Rattle.lower_model.specs.Statements.{block, first_part, last_part, part_done, started}
-use Rattle.lower_model.specs.declared.import.Import.TheVariants.{Of}
+use Rattle.host_imports.specs.declared.import.Import.TheVariants.{Of}
 use Rattle.lower_model.proofs.Announcing.{Telling}
 use Rattle.lower_model.proofs.Answers.{beside_state, machine}
 use Rattle.lower_model.proofs.Beginnings.{begins, first_cells, first_placed, named_ok, naming}

@@ -204,7 +204,7 @@ module _ (tells : Bool) (y : Layout) (sizes : ℕ → Option ℕ) (whole : Progr
 
     counted_spares : (o : Option Counted) (s : Code) (d out : ℕ) → sorted c [] s ≡ true → names_argv s ≡ false → So e (left_unless_counted y o s d out k)
     counted_spares None s d out o q = tested_spares tells y sizes c sized same (out_if r out) [] [] s zero zero d none_kept o q
-    counted_spares (Some x) s d out o q = record { so = λ A. (false, (λ z. cc), ((tested_out s d out o q).so [], ((false, (λ z. cc), (refl, (refl, (refl, tt)))), r.so []))) }
+    counted_spares (Some x) s d out o q = record { so = λ A. (false, (λ z. cc), ((tested_out s d out o q).so [], ((false, (λ z. cc), (refl, (refl, tt))), r.so []))) }
 
     pair_spares : (o : Option Pair) (s : Code) (d out : ℕ) → sorted c [] s ≡ true → names_argv s ≡ false → So e (left_unless_pair y o s d out k)
     pair_spares None s d out o q = counted_spares (counted_in s) s d out o q

@@ -19,12 +19,12 @@ use Rattle.sem_primitives.specs.declared.table.Listed.TheVariants as listed
 use Rattle.sem_primitives.specs.declared.table.Primitive.TheVariants as row
 use Rattle.wasm_store.specs.declared.word.Word.TheVariants.{I32, I64}
 use Rattle.lower_model.specs.Cells.{Cell, Bits, Held, IteratorOf, OwnedArray, LentArray, Gone, none_owned}
-use Rattle.lower_model.specs.ImportCalls.{Acts, Host, acted, and_rest, acts, after_fault, call, cell_of, fault_cell, in_sort, last_of, lets_go, listed_acts, look, looked_at, primitive_acts, replied, row_in, taken, where_so, with_some}
-use Rattle.lower_model.specs.Imports.{import_answer, import_arguments}
+use Rattle.lower_model.specs.ImportCalls.{Acts, Host, acted, and_rest, acts, after_fault, call, cell_of, fault_cell, in_sort, last_of, listed_acts, look, looked_at, primitive_acts, replied, row_in, taken, where_so, with_some}
+use Rattle.host_imports.specs.Imports.{import_answer, import_arguments, lets_go}
 use Rattle.lower_model.specs.Machine.{onto, width}
-use Rattle.lower_model.specs.declared.import.Import.{Import}
-use Rattle.lower_model.specs.declared.import.Import.TheVariants.{Arg, Drop, FreeArray, IterFree, Of, Over}
-use Rattle.lower_model.specs.declared.import.Listing.TheVariants.{Print, Printf, Sprintf}
+use Rattle.host_imports.specs.declared.import.Import.{Import}
+use Rattle.host_imports.specs.declared.import.Import.TheVariants.{Arg, Drop, FreeArray, IterFree, Of, Over}
+use Rattle.host_imports.specs.declared.import.Listing.TheVariants.{Print, Printf, Sprintf}
 use Rattle.agree_refined.specs.Growing.{NewIn}
 use Rattle.agree_refined.specs.Words.{arrays_made}
 use Rattle.agree_refined.proofs.ArrayRows.{SparedIf, array_changed, listed_kept, row_kept}

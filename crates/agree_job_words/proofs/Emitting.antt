@@ -28,12 +28,12 @@ use Rattle.mid_program.specs.Mid.{Kind, Boxed, Unboxed, Many, Slot, Global, Para
 use Rattle.mid_program.specs.Sorted.{Context, all_sorted, all_values, are_enough, are_missing, count_of, fit_call, fit_row, fits, is_chosen, is_constant, is_done_here, is_dropped, is_given, is_kept, is_number, is_operation, is_slot, is_tested, keeps_well, sorted, stores_well, takes}
 use Rattle.lower_model.specs.Arithmetic.{calculated, compared, field_checked, is_value, may_be_text, numbers_compared, texts_beside, values_compared, zeroed_if}
 use Rattle.lower_model.specs.Emission.{Layout, all_appended, all_boxed, all_converted, all_emitted, all_freed, all_given, all_given_pushed, all_pushed, array_meant, array_pushed, asked as asked_until, assigned, assigned_by_number, bound_read, dropped, emitted, field_in, field_or, function_number, handle_stored, keeping_closed, left_over, listed_asked, pending_assigned, performed, sequence_closed, slot_read, slot_set, tested, text_dropped, text_let_go, value_stored}
-use Rattle.lower_model.specs.Imports.{import_answer, import_at, import_count, import_number, imports}
+use Rattle.host_imports.specs.Imports.{import_answer, import_at, import_count, import_number, imports}
 use Rattle.lower_model.specs.Machine.{width}
 use Rattle.lower_model.specs.Places.{Bases, array_name, handle_global, made_in, number_global}
 use Rattle.lower_model.specs.Small.{ask, ask_row, bound_from, boxed_perhaps, code_number, converted, does, either, kept, kept_code, kept_done, kept_number, kept_value, moved_from, released, to_number, to_value, truth, unused}
-use Rattle.lower_model.specs.declared.import.Import.{Import}
-use Rattle.lower_model.specs.declared.import.Import.TheVariants.{Of}
+use Rattle.host_imports.specs.declared.import.Import.{Import}
+use Rattle.host_imports.specs.declared.import.Import.TheVariants.{Of}
 use Rattle.lower_model.proofs.Calls.{import_found}
 use Rattle.agree_job_words.specs.Naming.{any_argv, is_argv, names_argv}
 use Rattle.agree_job_words.proofs.Tags.{Spares, Tags, all_other, answered, asked, asks_well, entered, enters_well, first_of, is_name, popped, spares, third_of_four}

@@ -17,11 +17,11 @@ use Rattle.sem_primitives.specs.declared.table.Listed.TheVariants as listed
 use Rattle.sem_primitives.specs.declared.table.Primitive.{Primitive}
 use Rattle.sem_primitives.specs.declared.table.Primitive.TheVariants as row
 use Rattle.lower_model.specs.Cells.{Cell, none_owned}
-use Rattle.lower_model.specs.ImportCalls.{Acts, Host, acted, acts, after_fault, call, fault_cell, last_of, lets_go, listed_acts, look, looked_at, primitive_acts, replied, taken, where_so, with_some}
-use Rattle.lower_model.specs.Imports.{import_answer, import_arguments}
-use Rattle.lower_model.specs.declared.import.Import.{Import}
-use Rattle.lower_model.specs.declared.import.Import.TheVariants.{Arg, Drop, FreeArray, IterFree, Of, Over}
-use Rattle.lower_model.specs.declared.import.Listing.TheVariants.{Print, Printf, Sprintf}
+use Rattle.lower_model.specs.ImportCalls.{Acts, Host, acted, acts, after_fault, call, fault_cell, last_of, listed_acts, look, looked_at, primitive_acts, replied, taken, where_so, with_some}
+use Rattle.host_imports.specs.Imports.{import_answer, import_arguments, lets_go}
+use Rattle.host_imports.specs.declared.import.Import.{Import}
+use Rattle.host_imports.specs.declared.import.Import.TheVariants.{Arg, Drop, FreeArray, IterFree, Of, Over}
+use Rattle.host_imports.specs.declared.import.Listing.TheVariants.{Print, Printf, Sprintf}
 use Rattle.lower_model.proofs.HostLaws.{Keeps, listed_keeps, row_keeps}
 use Rattle.lower_model.proofs.InputLaws.{AfterInput, AfterStart, GoodInput, GoodStart, getline_line_row_good, getline_row_good, next_main_row_good, start_good}
 

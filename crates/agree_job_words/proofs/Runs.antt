@@ -21,7 +21,7 @@ use Rattle.wasm_model.specs.Machines.{ProgramForm}
 use Rattle.wasm_model.specs.Machines as real
 use Rattle.wasm_model.specs.Runs.{MachineForm, Steps}
 use Rattle.host_step.specs.HostState.{HostState}
-use Rattle.host_step.specs.Imports.{host_finds}
+use Rattle.host_imports.specs.Imports.{host_finds}
 use Rattle.host_step.specs.Starts.{state_at_start}
 use Rattle.mid_program.specs.Mid.{Kind, Program, Routine, parameters_at}
 use Rattle.sem_scripts.specs.ScriptRun.{Setting}

@@ -25,10 +25,10 @@ use Rattle.wasm_store.specs.Words.{binary_of, converted, given_by, test_of}
 use Rattle.mid_program.specs.Mid.{Kind}
 use Rattle.lower_model.specs.Cells.{Cell, Bits, Held, LentArray, OwnedArray, IteratorOf, Gone, cell_at, globals_by, has_room, is_owned, left_by, left_in_global, none_owned, read_global}
 use Rattle.lower_model.specs.ImportCalls.{Host, call, look}
-use Rattle.lower_model.specs.Imports.{import_at, import_count, imports}
+use Rattle.host_imports.specs.Imports.{import_at, import_count, imports}
 use Rattle.lower_model.specs.Machine.{Code, Callee, Conf, Run, Look, Over, Deep, Stuck, Frame, Label, Store, act, all_live, ask, ask_looking, assigning_after, at, br, br_if, call_number, choose, compared, ending_name, enter, guarded, label, leave, leave_function, onto, operated, push_result, push_word, run_looking, set_global, set_local, step, takes_look, tee_local, teed, width, with_answer, with_operands, work, zeros}
-use Rattle.lower_model.specs.declared.import.Import.{Import}
-use Rattle.lower_model.specs.declared.import.Import.TheVariants.{Of}
+use Rattle.host_imports.specs.declared.import.Import.{Import}
+use Rattle.host_imports.specs.declared.import.Import.TheVariants.{Of}
 use Rattle.agree_job_words.proofs.Calls.{InHost, Matches, call_fits, drop_match, look_fits, popped_match, taken_other}
 use Rattle.agree_job_words.proofs.Names.{is_telling, looked_kept, names_kept}
 use Rattle.agree_job_words.proofs.Tags.{Spares, Tags, all_other, asked, asks_well, called, calls_well, entered, enters_well, first_of, is_long, is_name, is_other, is_set, makes_long, popped, spares}

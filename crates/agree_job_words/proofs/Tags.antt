@@ -12,10 +12,10 @@ use Rattle.wasm_types.specs.declared.instr.CvtOp.TheVariants.{I64ExtendI32S, I64
 use Rattle.wasm_types.specs.declared.instr.Simple.TheVariants.{Nop, BrIf, Call, Drop, LocalGet, LocalSet, LocalTee, GlobalGet, GlobalSet, I32Const, I64Const, Test, Compare, Binary, Convert}
 use Rattle.wasm_store.specs.declared.word.Word.TheVariants.{I32, I64}
 use Rattle.lower_model.specs.Cells.{Cell, Bits, OwnedArray, LentArray}
-use Rattle.lower_model.specs.Imports.{import_answer, import_at, import_count}
+use Rattle.host_imports.specs.Imports.{import_answer, import_at, import_count}
 use Rattle.lower_model.specs.Machine.{width}
-use Rattle.lower_model.specs.declared.import.Import.{Import}
-use Rattle.lower_model.specs.declared.import.Import.TheVariants.{Of}
+use Rattle.host_imports.specs.declared.import.Import.{Import}
+use Rattle.host_imports.specs.declared.import.Import.TheVariants.{Of}
 
 -- where an array is wanted this cell is not ARGV
 abbrev pub is_other : Cell → Bool

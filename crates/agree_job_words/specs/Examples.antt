@@ -19,7 +19,8 @@ pub argv_is_named : names_argv (stores (Numbered 0)) ≡ true
 argv_is_named = refl
 
 -- ENVIRON, an array of the script, and one that is a parameter
-pub others_are_not : names_argv (stores (Numbered 1)) ∷ (names_argv (stores (Numbered 2)) ∷ (names_argv (stores (Given 0)) ∷ [])) ≡ false ∷ (false ∷ (false ∷ []))
+pub others_are_not : names_argv (stores (Numbered 1)) ∷ (names_argv (stores (Numbered 2)) ∷ (names_argv (stores (Given 0)) ∷ [])) ≡ false
+    ∷ (false ∷ (false ∷ []))
 others_are_not = refl
 
 -- f(ARGV), and a loop over the keys of ARGV

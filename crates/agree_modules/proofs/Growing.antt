@@ -9,10 +9,10 @@ use Rattle.sem_primitives.specs.declared.sorts.Answer.{Answer}
 use Rattle.sem_scripts.specs.Kept.{Grows, output_of}
 use Rattle.sem_scripts.specs.ScriptRun.{Ending, Ended, FaultedBy}
 use Rattle.lower_model.specs.Cells.{Cell, Bits, Held, LentArray, OwnedArray, IteratorOf, Gone, none_owned}
-use Rattle.lower_model.specs.ImportCalls.{Acts, Host, acted, acts, after_fault, call, fault_cell, lets_go, look, looked_at, replied, taken, where_so, with_some}
-use Rattle.lower_model.specs.Imports.{import_answer, import_arguments}
+use Rattle.lower_model.specs.ImportCalls.{Acts, Host, acted, acts, after_fault, call, fault_cell, look, looked_at, replied, taken, where_so, with_some}
+use Rattle.host_imports.specs.Imports.{import_answer, import_arguments, lets_go}
 use Rattle.lower_model.specs.Machine.{Code, Conf, Run, Look, Over, Deep, Stuck, Store, go, step, ending_at, status_of}
-use Rattle.lower_model.specs.declared.import.Import.{Import}
+use Rattle.host_imports.specs.declared.import.Import.{Import}
 use Rattle.agree_modules.proofs.Stores.{InStore, Leads, step_in}
 
 pub grows_self : (xs : List Action) → Grows xs xs

@@ -11,9 +11,9 @@ use Rattle.wasm_model.specs.Frames.{constant_of}
 use Rattle.mid_program.specs.Mid.{Kind}
 use Rattle.lower_model.specs.Cells.{Cell, Bits, Held, LentArray, OwnedArray, IteratorOf, Gone, cell_at, globals_by, has_room, is_owned, left_in_global, may_come, none_owned}
 use Rattle.lower_model.specs.ImportCalls.{Host, call, look}
-use Rattle.lower_model.specs.Imports.{import_at, import_count}
+use Rattle.host_imports.specs.Imports.{import_at, import_count}
 use Rattle.lower_model.specs.Machine.{Code, Callee, Conf, Run, Look, Over, Deep, Stuck, Frame, Label, Store, act, all_live, ask, ask_looking, assigning_after, assigning_then, at, br, br_if, call_number, choose, enter, guarded, label, leave, leave_function, noted as noted_in, operated, run_looking, set_global, set_local, step, takes_look, tee_local, teed, width, with_answer, with_operands, work, ending_name}
-use Rattle.lower_model.specs.declared.import.Import.{Import}
+use Rattle.host_imports.specs.declared.import.Import.{Import}
 
 -- so it is of the store at this place
 abbrev pub InStore : (Store → Type 0) → Conf → Type 0

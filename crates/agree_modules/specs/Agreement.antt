@@ -13,7 +13,7 @@ use Rattle.wasm_model.specs.declared.ends.RunEnd.{RunEnd}
 use Rattle.wasm_model.specs.declared.ends.MachineEnd.{MachineEnd}
 use Rattle.wasm_model.specs.declared.ends.MachineEnd.TheVariants as machine
 use Rattle.host_step.specs.HostState.{HostState}
-use Rattle.host_step.specs.Imports.{host_finds}
+use Rattle.host_imports.specs.Imports.{host_finds}
 use Rattle.host_step.specs.Starts.{state_at_start}
 use Rattle.sem_scripts.specs.Kept.{Grows, output_of}
 use Rattle.sem_scripts.specs.ScriptRun.{Setting, Ending, Ended, FaultedBy, GoesOn, Exhausted}
@@ -46,7 +46,8 @@ abbrev pub output_in : ModuleEnding → List Action
 output_in (Like e) = output_of e
 output_in (Trapped kind output) = output
 
--- How a module may end that is given so many steps, in a job and a world: linked with a host of the table, from the beginning, with whatever free numbers the host gives to what is new.
+-- How a module may end that is given so many steps, in a job and a world: linked with a host of the table, from the beginning, with whatever free
+-- numbers the host gives to what is new.
 pub record MayEnd (m : ModuleForm) (job : JobForm) (input : Source) (outside : Outside) (steps : ℕ) (e : ModuleEnding) : Type 0 where
   pub machine : MachineForm
   pub is_new : IsNew host_finds m machine
@@ -59,18 +60,21 @@ pub record MayEnd (m : ModuleForm) (job : JobForm) (input : Source) (outside : O
   pub ran : Ran table_meaning machine.program steps machine.conf (state_at_start job input outside) output run-end conf state
   pub ending : ending_told state.fault told output ≡ Some e
 
--- A script and a module agree, in every job and whatever the outside is: what one does the other does, faults and too many nested calls included, and while it goes on both have put out the same
--- so far. The module never traps, its work is bounded for each turn by one number for all jobs, outsides and turns, and it does not matter which free numbers the host picks. `script` is what
--- the script does within so many turns.
+-- A script and a module agree, in every job and whatever the outside is: what one does the other does, faults and too many nested calls included, and
+-- while it goes on both have put out the same so far. The module never traps, its work is bounded for each turn by one number for all jobs, outsides
+-- and turns, and it does not matter which free numbers the host picks. `script` is what the script does within so many turns.
 pub record Agreement (script : Setting → ℕ → Ending) (m : ModuleForm) : Type 0 where
   pub bound : ℕ
-  pub one_run : (job : JobForm) (input : Source) (outside : Outside) (steps : ℕ) (e f : ModuleEnding) → MayEnd m job input outside steps e → MayEnd m job input outside steps f → e ≡ f
+  pub one_run : (job : JobForm) (input : Source) (outside : Outside) (steps : ℕ) (e f : ModuleEnding) → MayEnd m job input outside steps e
+      → MayEnd m job input outside steps f → e ≡ f
   pub forward : (job : JobForm) (input : Source) (outside : Outside) (turns : ℕ) (e : Ending) → IsOver e → script (setting_of job input outside) turns ≡ e →
       (enough : ℕ) × (enough ≤ bound * (turns + 1)) × ((steps : ℕ) (f : ModuleEnding) → enough ≤ steps → MayEnd m job input outside steps f → f ≡ Like e)
   pub backward : (job : JobForm) (input : Source) (outside : Outside) (steps : ℕ) (e : Ending) → IsOver e → MayEnd m job input outside steps (Like e) →
       (turns : ℕ) × (script (setting_of job input outside) turns ≡ e)
-  pub never_trapped : (job : JobForm) (input : Source) (outside : Outside) (steps : ℕ) (kind : TrapKind) (output : List Action) → MayEnd m job input outside steps (Trapped kind output) → ⊥
+  pub never_trapped : (job : JobForm) (input : Source) (outside : Outside) (steps : ℕ) (kind : TrapKind) (output : List Action)
+      → MayEnd m job input outside steps (Trapped kind output) → ⊥
   pub output_module : (job : JobForm) (input : Source) (outside : Outside) (steps : ℕ) (e : ModuleEnding) → MayEnd m job input outside steps e →
       (turns : ℕ) × Grows (output_in e) (output_of (script (setting_of job input outside) turns))
   pub output_script : (job : JobForm) (input : Source) (outside : Outside) (turns : ℕ) →
-      (enough : ℕ) × (enough ≤ bound * (turns + 1)) × ((steps : ℕ) (e : ModuleEnding) → enough ≤ steps → MayEnd m job input outside steps e → Grows (output_of (script (setting_of job input outside) turns)) (output_in e))
+      (enough : ℕ) × (enough ≤ bound * (turns + 1)) × ((steps : ℕ) (e : ModuleEnding) → enough ≤ steps → MayEnd m job input outside steps e
+      → Grows (output_of (script (setting_of job input outside) turns)) (output_in e))

@@ -12,7 +12,7 @@ use Rattle.wasm_model.specs.Machines as real
 use Rattle.wasm_model.specs.Runs.{TakenAs}
 use Rattle.wasm_model.specs.declared.host.HostAnswer.TheVariants as told
 use Rattle.host_step.specs.HostState.{HostState}
-use Rattle.host_step.specs.Imports.{import_at}
+use Rattle.host_imports.specs.Imports.{import_at}
 use Rattle.host_step.specs.Worlds.{with_output}
 use Rattle.mid_program.specs.Mid.{Kind, Program}
 use Rattle.lower_model.specs.Cells.{Cell}

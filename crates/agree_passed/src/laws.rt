@@ -15,5 +15,6 @@ pub fn places_are_passed()
 
 /// With a probe that adds nothing a program does what it does: its run with probes is its own.
 pub fn runs_without_a_probe()
-    ensures { (p : Program) (s : Setting) (turns : ℕ) → probed_run p no_probe s turns ≡ mid_run_in p s turns }
+    ensures { (p : Program) (s : Setting) (turns : ℕ) → probed_run p no_probe s turns
+        ≡ mid_run_in p s turns }
 {}

@@ -7,8 +7,8 @@ use Rattle.sem_primitives.specs.declared.table.Primitive.TheVariants as row
 use Rattle.mid_program.specs.Mid.{Kind}
 use Rattle.lower_model.specs.Cells.{Cell, Bits, Held, IteratorOf, OwnedArray, LentArray, Gone, cell_at, is_bare_handle, is_gone, is_handle_of, is_word, left_in_global, may_come}
 use Rattle.lower_model.specs.Machine.{Code, Conf, Store, assigning_after, assigning_then, number_pending, step}
-use Rattle.lower_model.specs.declared.import.Import.{Import}
-use Rattle.lower_model.specs.declared.import.Import.TheVariants.{Of}
+use Rattle.host_imports.specs.declared.import.Import.{Import}
+use Rattle.host_imports.specs.declared.import.Import.TheVariants.{Of}
 use Rattle.agree_modules.proofs.Stores.{InStore, Leads, step_in}
 
 -- a global that was set has its new cell, where there is such a global

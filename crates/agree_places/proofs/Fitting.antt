@@ -16,9 +16,9 @@ use Rattle.wasm_model.specs.Frames.{constant_of}
 use Rattle.mid_program.specs.Mid.{Kind}
 use Rattle.lower_model.specs.Cells.{Cell, Bits, Held, LentArray, OwnedArray, IteratorOf, Gone, cell_at, globals_by, is_owned, left_by, left_in_global, none_owned}
 use Rattle.lower_model.specs.ImportCalls.{Host, call, look}
-use Rattle.lower_model.specs.Imports.{import_at, import_count}
+use Rattle.host_imports.specs.Imports.{import_at, import_count}
 use Rattle.lower_model.specs.Machine.{Code, Callee, Conf, Run, Look, Over, Deep, Stuck, Frame, Label, Store, act, ask, ask_looking, assigning_after, assigning_then, at, br, br_if, call_number, choose, compared, enter, go, guarded, label, leave, leave_function, onto, operated, push_result, push_word, run_looking, set_global, set_local, step, takes_look, tee_local, teed, waits, width, with_answer, with_operands, work, zeros, ending_name}
-use Rattle.lower_model.specs.declared.import.Import.{Import}
+use Rattle.host_imports.specs.declared.import.Import.{Import}
 use Rattle.agree_places.specs.Places.{IsWithin, size}
 
 -- under labels: operands, and the instructions that come after a block

@@ -29,13 +29,13 @@ use Rattle.mid_program.specs.Sorted.{count_of}
 use Rattle.lower_model.specs.Arithmetic.{calculated, compared, field_checked, is_value, may_be_text, numbers_compared, texts_beside, values_compared, zeroed_if}
 use Rattle.lower_model.specs.Boundaries.{is_nop}
 use Rattle.lower_model.specs.Emission.{Layout, all_appended, all_boxed, all_converted, all_emitted, all_freed, all_given, all_given_pushed, all_pushed, array_meant, array_pushed, asked, assigned, assigned_by_number, bound_read, dropped, emitted, field_in, field_or, function_number, handle_stored, keeping_closed, left_over, listed_asked, one_given, one_pushed, pending_assigned, performed, sequence_closed, slot_read, slot_set, tested, text_kept, text_let_go, value_stored}
-use Rattle.lower_model.specs.Imports.{import_count, import_number, imports}
+use Rattle.host_imports.specs.Imports.{import_count, import_number, imports}
 use Rattle.lower_model.specs.Machine.{answers_to}
 use Rattle.lower_model.specs.Places.{Bases, made_in}
 use Rattle.lower_model.specs.Small.{ask_row, bound_from, boxed_perhaps, code_number, converted, does, either, h, kept, kept_code, kept_done, kept_number, kept_value, moved_from, n, number_is, released, to_number, to_value, truth, unused, when}
 use Rattle.lower_model.specs.Statements.{again}
-use Rattle.lower_model.specs.declared.import.Import.{Import}
-use Rattle.lower_model.specs.declared.import.Import.TheVariants.{Of}
+use Rattle.host_imports.specs.declared.import.Import.{Import}
+use Rattle.host_imports.specs.declared.import.Import.TheVariants.{Of}
 use Rattle.lower_model.proofs.Calls.{import_found}
 use Rattle.agree_places.specs.Statements.{starts_in}
 use Rattle.agree_places.proofs.Pending.{AllFew, Few, Limit, calls_fit, last_local, simple_fits}

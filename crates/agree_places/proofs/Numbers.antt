@@ -25,10 +25,10 @@ use Rattle.host_step.specs.Answers.{FreeFor, encode}
 use Rattle.host_step.specs.Arguments.{removed_front, without_front}
 use Rattle.host_step.specs.HostState.{HostState, Names}
 use Rattle.host_step.specs.HostStep.{Acts, Comes, Goes, Refuses, Settles, StepBy, StepIf, Traps, comes}
-use Rattle.host_step.specs.Imports.{import_answer, import_at}
+use Rattle.host_imports.specs.Imports.{import_answer, import_at}
 use Rattle.host_step.specs.Starts.{first_names}
 use Rattle.host_step.specs.Tables.{Table, entered, look, without}
-use Rattle.host_step.specs.declared.import.Import.{Import}
+use Rattle.host_imports.specs.declared.import.Import.{Import}
 use Rattle.agree_refined.specs.Owners.{there}
 use Rattle.agree_refined.specs.Refined.{table_meaning}
 use Rattle.agree_refined.proofs.Replying.{KeptBy, comes_keeps}

@@ -8,8 +8,8 @@ use Rattle.std.proofs.lemmas.List.{length-map}
 use Rattle.std.proofs.lemmas.List.Elements.{All-from_recursion}
 use Rattle.awk_grammar.specs.Item.{Item}
 use Rattle.awk_grammar.specs.Stmt.{Stmts}
-use Rattle.awk_resolve.specs.Kinds.{Function as Typed, Head, Key, Refusal, TooMany, functions_by, head_keys, heads, is_used_as, named, or_else, refusal, too_many}
-use Rattle.awk_resolve.specs.Marks.{Array, script_marks}
+use Rattle.awk_kinds.specs.Kinds.{Function as Typed, Head, Key, Refusal, TooMany, functions_by, head_keys, heads, is_used_as, named, or_else, refusal, too_many}
+use Rattle.awk_kinds.specs.Marks.{Array, script_marks}
 use Rattle.sem_scripts.specs.Kinds.{bodies, resolved, with_bodies}
 use Rattle.mid_program.specs.Mid.{Routine}
 use Rattle.sem_scripts.specs.Names.{Function as Defined, Resolved}

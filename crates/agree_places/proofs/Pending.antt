@@ -7,7 +7,7 @@ use Rattle.wasm_types.specs.declared.instr.Simple.TheVariants.{Call as CallOf}
 use Rattle.mid_program.specs.Mid as mid
 use Rattle.mid_program.specs.Mid.{Code, Do, Over, Compare, Call, Ask, AskLine, FileLine, Replace, Number, Text, Unset, Get, Set, Array, IsOpen, Choose, Seq, Let, Bound, Codes, End, At, Fixed, Fresh, Step, Eval, Each, Break, Continue, Next, Exit, ExitWith, Return, Mark, Steps, NoStep, Program, Routine}
 use Rattle.lower_model.specs.Emission.{function_number}
-use Rattle.lower_model.specs.Imports.{import_count}
+use Rattle.host_imports.specs.Imports.{import_count}
 use Rattle.lower_model.specs.Machine.{Callee, answers_to}
 use Rattle.agree_places.specs.Places.{IsPart, all, further, in_block, in_loop, where_true, where_false}
 

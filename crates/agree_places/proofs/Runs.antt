@@ -19,7 +19,7 @@ use Rattle.wasm_model.proofs.Beginning.{begun_ok, linked_is, numbered}
 use Rattle.wasm_model.proofs.Whole.{ran_safe}
 use Rattle.host_step.specs.HostLaws.{host_found, step_typed}
 use Rattle.host_step.specs.HostState.{HostState}
-use Rattle.host_step.specs.Imports.{host_finds, host_types, import_at}
+use Rattle.host_imports.specs.Imports.{host_finds, host_types, import_at}
 use Rattle.host_step.specs.Starts.{first_names, state_at_start}
 use Rattle.mid_program.specs.Mid.{Program}
 use Rattle.sem_scripts.specs.ScriptRun.{GoesOn, Exhausted}

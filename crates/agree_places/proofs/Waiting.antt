@@ -15,10 +15,10 @@ use Rattle.host_step.specs.HostState.{Names}
 use Rattle.mid_program.specs.Mid.{Kind, Boxed, Unboxed, Many, Program}
 use Rattle.lower_model.specs.Cells.{Cell, Bits, Held, IteratorOf, OwnedArray, LentArray, Gone, arrays_owned, is_held, is_operand, is_owned, iterators_in, locals_wait, no_value, operands_wait}
 use Rattle.lower_model.specs.Emission.{function_number}
-use Rattle.lower_model.specs.Imports.{import_count, import_number, imports}
+use Rattle.host_imports.specs.Imports.{import_count, import_number, imports}
 use Rattle.lower_model.specs.Machine.{Code, Frame, Label, answers_to, freed_next, is_walk, loops_walked}
 use Rattle.lower_model.specs.Modules.{all_callees, called_imports, calls_in, imports_of, new_number, renumbered, renumbered_simple}
-use Rattle.lower_model.specs.declared.import.Import.TheVariants.{Drop, Of}
+use Rattle.host_imports.specs.declared.import.Import.TheVariants.{Drop, Of}
 use Rattle.agree_typed.proofs.Chosen.{functions_behind}
 use Rattle.agree_refined.specs.Refined.{AgainAs, FrameAs, FramesAs, LabelsAs}
 use Rattle.agree_refined.proofs.Links.{number_there, stays}

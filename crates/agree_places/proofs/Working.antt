@@ -12,9 +12,9 @@ use Rattle.mid_program.specs.Mid.{Kind}
 use Rattle.lower_model.specs.Cells.{Cell, Bits, Held, LentArray, OwnedArray, IteratorOf, Gone, cell_at, globals_by, is_owned, left_by, none_owned}
 use Rattle.lower_model.specs.Emission.{function_number}
 use Rattle.lower_model.specs.ImportCalls.{Host, call, look}
-use Rattle.lower_model.specs.Imports.{import_at, import_count}
+use Rattle.host_imports.specs.Imports.{import_at, import_count}
 use Rattle.lower_model.specs.Machine.{Code, Callee, Conf, Run, Look, Over, Deep, Stuck, Frame, Label, Store, act, ask, ask_looking, at, br, br_if, call_number, choose, enter, go, guarded, label, leave, leave_function, onto, operated, run_looking, set_global, set_local, step, takes_look, tee_local, teed, width, with_answer, with_operands, work, zeros, ending_name}
-use Rattle.lower_model.specs.declared.import.Import.{Import}
+use Rattle.host_imports.specs.declared.import.Import.{Import}
 use Rattle.std.specs.List.{Contains}
 use Rattle.std.proofs.lemmas.List.Elements.{Contains-append_left, Contains-append_right, Contains-push}
 use Rattle.std.proofs.Common.{map}

@@ -15,7 +15,8 @@ use Rattle.agree_refined.specs.Refined.{table_meaning}
 use Rattle.agree_places.specs.Kept.{Reached}
 
 -- so it was of the host somewhere on the way of a run, at its beginning and its end too
-abbrev pub Somewhere : (P : HostState → Type 0) (m : ProgramForm) (n : ℕ) (c : Conf) (s : HostState) (output : List Action) (c1 : Conf) (s1 : HostState) → Steps table_meaning m n c s output c1 s1 → Type 0
+abbrev pub Somewhere : (P : HostState → Type 0) (m : ProgramForm) (n : ℕ) (c : Conf) (s : HostState) (output : List Action) (c1 : Conf)
+    (s1 : HostState) → Steps table_meaning m n c s output c1 s1 → Type 0
 Somewhere P m zero c s output c1 s1 way = P s
 Somewhere P m (suc n) c s output c1 s1 way = P s ⊎ Somewhere P m n way.0 way.1 way.3 c1 s1 way.5
 
@@ -23,7 +24,8 @@ Somewhere P m (suc n) c s output c1 s1 way = P s ⊎ Somewhere P m n way.0 way.1
 abbrev pub IsPending : ℕ → HostState → Type 0
 IsPending i s = (v : Value) × (s.shared.inner.pending ≡ Some (i, v))
 
-abbrev pub IsAssigned : {m : ModuleForm} {job : JobForm} {input : Source} {outside : Outside} {a : MachineForm} {c : Conf} {s : HostState} → Reached m job input outside a c s → ℕ → Type 0
+abbrev pub IsAssigned : {m : ModuleForm} {job : JobForm} {input : Source} {outside : Outside} {a : MachineForm} {c : Conf} {s : HostState}
+    → Reached m job input outside a c s → ℕ → Type 0
 IsAssigned {job = job} {input = input} {outside = outside} {a = a} {c = c} {s = s} reached i =
     Somewhere (IsPending i) a.program reached.steps a.conf (state_at_start job input outside) reached.output c s reached.taken
 
@@ -39,6 +41,7 @@ abbrev pub IsWord : JobForm → ℕ → HostState → Type 0
 IsWord job i s = (name : List ℕ) × (declared 0 name s.shared.inner.names ≡ Some (i, Scalar)) × (IsOption job name ⊎ IsOperand name s)
 
 -- so a word did somewhere on the way
-abbrev pub HasWord : {m : ModuleForm} {job : JobForm} {input : Source} {outside : Outside} {a : MachineForm} {c : Conf} {s : HostState} → Reached m job input outside a c s → ℕ → Type 0
+abbrev pub HasWord : {m : ModuleForm} {job : JobForm} {input : Source} {outside : Outside} {a : MachineForm} {c : Conf} {s : HostState}
+    → Reached m job input outside a c s → ℕ → Type 0
 HasWord {job = job} {input = input} {outside = outside} {a = a} {c = c} {s = s} reached i =
     Somewhere (IsWord job i) a.program reached.steps a.conf (state_at_start job input outside) reached.output c s reached.taken

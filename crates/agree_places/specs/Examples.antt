@@ -14,10 +14,10 @@ use Rattle.awk_grammar.specs.Stmt.{Print, NoArgs, Written, Put, Return, Stmt, Si
 use Rattle.awk_grammar.specs.Item.{Begin}
 use Rattle.mid_program.specs.Mid.{Kind, Boxed, Unboxed, Many}
 use Rattle.sem_scripts.specs.Names.{Resolved}
-use Rattle.lower_model.specs.Imports.{import_number}
+use Rattle.host_imports.specs.Imports.{import_number}
 use Rattle.lower_model.specs.Machine.{freed_next}
 use Rattle.lower_model.specs.Small.{minus_one}
-use Rattle.lower_model.specs.declared.import.Import.TheVariants.{FreeArray, Of}
+use Rattle.host_imports.specs.declared.import.Import.TheVariants.{FreeArray, Of}
 use Rattle.agree_places.specs.Kept.{arrays, begins_statement, boxed, holders, is_keys, scalars, walks}
 use Rattle.agree_places.specs.Nodes.{nodes_of}
 use Rattle.agree_places.specs.Places.{size}

@@ -1,5 +1,5 @@
--- Nothing is kept: what is alive in the host where a statement begins, and where `main` has returned. Each number that stands for a value, an array or an iterator is in exactly one place:
--- a global, a local of the function at work, or a local of a caller that waits.
+-- Nothing is kept: what is alive in the host where a statement begins, and where `main` has returned. Each number that stands for a value, an array
+-- or an iterator is in exactly one place: a global, a local of the function at work, or a local of a caller that waits.
 use Rattle.std.specs.Prelude.{ℕ, zero, suc, ◌+◌, ◌≡◌, ◌≢◌, ◌⊎◌, ◌≤◌, nat_eq, Bool, true, false, ◌&&◌, cond, List, [], ◌∷◌, drop, length, map, slice_get, Option, Some, None}
 use Rattle.std.specs.List.{Contains}
 use Rattle.sem_primitives.specs.Jobs.{JobForm}
@@ -16,17 +16,17 @@ use Rattle.wasm_model.specs.Links.{IsNew}
 use Rattle.wasm_model.specs.Machines.{CallerForm, Conf}
 use Rattle.wasm_model.specs.Runs.{MachineForm, Steps}
 use Rattle.host_step.specs.HostState.{HostState, live_arrays, live_iterators, live_values}
-use Rattle.host_step.specs.Imports.{host_finds}
+use Rattle.host_imports.specs.Imports.{host_finds}
 use Rattle.host_step.specs.Starts.{state_at_start}
 use Rattle.mid_program.specs.Mid.{Kind, Boxed, Unboxed, Many, Program}
 use Rattle.mid_program.specs.Sorted.{kinds_of}
 use Rattle.sem_primitives.specs.declared.table.Primitive.TheVariants as row
 use Rattle.lower_model.specs.Emission.{function_number}
-use Rattle.lower_model.specs.Imports.{import_number}
+use Rattle.host_imports.specs.Imports.{import_number}
 use Rattle.lower_model.specs.Machine.{Callee, answers_to, freed_next}
 use Rattle.lower_model.specs.Modules.{all_callees, called_imports, imports_of, renumbered}
 use Rattle.lower_model.specs.Small.{minus_one, text_beside}
-use Rattle.lower_model.specs.declared.import.Import.TheVariants.{Of}
+use Rattle.host_imports.specs.declared.import.Import.TheVariants.{Of}
 use Rattle.agree_places.specs.Places.{IsPart}
 use Rattle.agree_places.specs.Statements.{starts_in}
 use Rattle.agree_refined.specs.Owners.{wanted}
@@ -137,7 +137,8 @@ abbrev pub walks_waiting : List ℕ → List CallerForm → ℕ
 walks_waiting numbers [] = 0
 walks_waiting numbers (r ∷ rs) = walks numbers r.frame.labels + walks_waiting numbers rs
 
--- What the locals of a caller that waits hold: a boxed parameter its value; so many operands that are pending a value each, or nothing; after them iterators, and arrays that were made for this call.
+-- What the locals of a caller that waits hold: a boxed parameter its value; so many operands that are pending a value each, or nothing; after them
+-- iterators, and arrays that were made for this call.
 
 abbrev pub NoValues : List (Option Sort) → Type 0
 NoValues [] = Unit {0}
@@ -156,8 +157,8 @@ LocalsWait m (Boxed ∷ ks) (o ∷ os) = (o ≡ Some sort.Value) × LocalsWait m
 LocalsWait m (Unboxed ∷ ks) (o ∷ os) = (o ≡ None) × LocalsWait m ks os
 LocalsWait m (Many ∷ ks) (o ∷ os) = (o ≡ None) × LocalsWait m ks os
 
--- A caller that waits for a call of a function in one of its expressions: what is left comes after that call, and the answer goes to the local of the operand after those that are pending.
--- Arrays that it holds were made for that call, and are let go right after it.
+-- A caller that waits for a call of a function in one of its expressions: what is left comes after that call, and the answer goes to the local of the
+-- operand after those that are pending. Arrays that it holds were made for that call, and are let go right after it.
 pub record CallerWaits (p : Program) (os : List (Option Sort)) (r : CallerForm) : Type 0 where
   pub function : Callee
   pub is_function : Contains (all_callees p) function
@@ -205,9 +206,10 @@ NamesMarked [] ws = Unit {0}
 NamesMarked (k ∷ ks) (h ∷ (n ∷ ws)) = IsMarked k h n × NamesMarked ks ws
 NamesMarked (k ∷ ks) _ = ⊥
 
--- WHERE A STATEMENT BEGINS: the code at work is that of a statement of a function, with what comes after it. Nothing is on the operands or the argument list; each number that stands for
--- something is in one place, and what is in none stands for nothing; names hold what their kinds say, and so do the parameters of the function at work, whose other locals hold nothing but an
--- iterator for each loop over keys that is walked. Callers that wait hold their parameters, operands that are pending, and an iterator for each such loop. So at most so much is alive.
+-- WHERE A STATEMENT BEGINS: the code at work is that of a statement of a function, with what comes after it. Nothing is on the operands or the
+-- argument list; each number that stands for something is in one place, and what is in none stands for nothing; names hold what their kinds say, and
+-- so do the parameters of the function at work, whose other locals hold nothing but an iterator for each loop over keys that is walked. Callers that
+-- wait hold their parameters, operands that are pending, and an iterator for each such loop. So at most so much is alive.
 pub record AtStatement (p : Program) (c : Conf) (s : HostState) : Type 0 where
   pub operands : c.frame.values ≡ []
   pub arguments : s.arguments ≡ []

@@ -19,7 +19,8 @@ AllFewPending limits p (os ∷ rest) [] h = Unit {0}
 AllFewPending limits p (os ∷ rest) (r ∷ rs) h = FewPending limits p os r h.0 × AllFewPending limits p rest rs h.1
 
 -- of each caller its boxed parameters, and as many operands as the limit of its function says
-abbrev pub values_within : (limits : List ℕ) (p : Program) (rest : List (List (Option Sort))) (rs : List CallerForm) (h : CallersWait p rest rs) → AllFewPending limits p rest rs h → ℕ
+abbrev pub values_within : (limits : List ℕ) (p : Program) (rest : List (List (Option Sort))) (rs : List CallerForm) (h : CallersWait p rest rs)
+    → AllFewPending limits p rest rs h → ℕ
 values_within limits p [] rs h few = 0
 values_within limits p (os ∷ rest) [] h few = 0
 values_within limits p (os ∷ rest) (r ∷ rs) h few = (boxed h.0.function.kinds + get_or limits few.0.number 0) + values_within limits p rest rs h.1 few.1

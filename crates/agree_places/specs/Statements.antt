@@ -25,9 +25,10 @@ abbrev mutual
   starts_of (Again r a) k = starts_in a
   starts_of (If r a b) k = starts_in a ++ starts_in b
 
--- The code of steps: of each its own, then those of the steps in it. The test of a loop whose first round goes without it comes last in that loop. Where a step stands is told by the iterators in use,
--- the labels to the function's exit and to where `break` and `continue` go, and the code after it. A choice by a comparison of two sources has one label more around what is done where it is true; a body that
--- nothing leaves has none around it, and after it comes the code of what is done between it and the next test, if there is any.
+-- The code of steps: of each its own, then those of the steps in it. The test of a loop whose first round goes without it comes last in that loop.
+-- Where a step stands is told by the iterators in use, the labels to the function's exit and to where `break` and `continue` go, and the code after
+-- it. A choice by a comparison of two sources has one label more around what is done where it is true; a body that nothing leaves has none around it,
+-- and after it comes the code of what is done between it and the next test, if there is any.
 module _ (y : Layout) where
   abbrev mutual
     pub step_starts : Step → (u d bk ct : ℕ) → Instructions → List Instructions
@@ -35,16 +36,19 @@ module _ (y : Layout) where
     step_starts (Body ss) u d bk ct k = step_emitted y (Body ss) u d bk ct k ∷ steps_starts ss u d bk ct k
     step_starts (Either e a c) u d bk ct k =
         step_emitted y (Either e a c) u d bk ct k
-        ∷ ((if is_some (pair_in e) then step_starts a u (suc (suc d)) (suc (suc bk)) (suc (suc ct)) (does (Br 1) Done) else step_starts a u (suc d) (suc bk) (suc ct) Done)
+        ∷ ((if is_some (pair_in e) then step_starts a u (suc (suc d)) (suc (suc bk)) (suc (suc ct)) (does (Br 1) Done) else
+        step_starts a u (suc d) (suc bk) (suc ct) Done)
         ++ step_starts c u (suc d) (suc bk) (suc ct) Done)
     step_starts (Loop true e a c) u d bk ct k =
         let again = does (Br zero) Done in
         let rest = if is_nothing c then again else step_emitted y c u (suc (suc d)) 1 zero again in
-        step_emitted y (Loop true e a c) u d bk ct k ∷ ((if step_jumps a then step_starts a u (suc (suc (suc d))) 2 zero Done else step_starts a u (suc (suc d)) 1 zero rest)
+        step_emitted y (Loop true e a c) u d bk ct k ∷ ((if step_jumps a then step_starts a u (suc (suc (suc d))) 2 zero Done else
+        step_starts a u (suc (suc d)) 1 zero rest)
         ++ (if is_nothing c then [] else step_starts c u (suc (suc d)) 1 zero again))
     step_starts (Loop false e a c) u d bk ct k =
         let test = does Nop (tested y [] [] e zero zero (suc (suc d)) (does (BrIf zero) Done)) in
-        step_emitted y (Loop false e a c) u d bk ct k ∷ (step_starts a u (suc (suc (suc d))) 2 zero Done ++ (step_starts c u (suc (suc d)) 1 zero test ++ (test ∷ [])))
+        step_emitted y (Loop false e a c) u d bk ct k
+        ∷ (step_starts a u (suc (suc (suc d))) 2 zero Done ++ (step_starts c u (suc (suc d)) 1 zero test ++ (test ∷ [])))
     step_starts (Each a e s) u d bk ct k = step_emitted y (Each a e s) u d bk ct k ∷ step_starts s (suc u) (suc (suc (suc d))) 2 zero Done
     step_starts Break u d bk ct k = step_emitted y Break u d bk ct k ∷ []
     step_starts Continue u d bk ct k = step_emitted y Continue u d bk ct k ∷ []
@@ -69,7 +73,8 @@ abbrev pub main_starts : Program → List Instructions
 main_starts p =
     let y = layout_of p (main_bases p) in
     let out = does (Br 1) Done in
-    (steps_starts y p.begin zero zero zero zero (if p.reads then records_read y p.items zero out else out) ++ (if p.reads then steps_starts y p.items zero zero zero zero out else []))
+    (steps_starts y p.begin zero zero zero zero (if p.reads then records_read y p.items zero out else out)
+    ++ (if p.reads then steps_starts y p.items zero zero zero zero out else []))
     ++ steps_starts y p.end zero zero zero zero out
 
 -- how many they are

@@ -3,7 +3,7 @@ ghost use Rattle.std.specs.List.{All};
 ghost use Rattle.std.specs.Prelude.{◌≡◌, ◌≤◌, true, ℕ, List, None, Some, length, slice_get};
 ghost use Rattle.sem_primitives.specs.Jobs.{JobForm};
 ghost use Rattle.awk_grammar.specs.Item.{Item};
-ghost use Rattle.awk_resolve.specs.Kinds.{refusal};
+ghost use Rattle.awk_kinds.specs.Kinds.{refusal};
 ghost use Rattle.host_step.specs.HostState.{HostState};
 ghost use Rattle.sem_scripts.specs.Kinds.{resolved};
 ghost use Rattle.mid_program.specs.Mid.{Program, Routine, Unboxed};
@@ -63,14 +63,17 @@ pub fn assignments_come_from_words()
 
 /// The functions of a script whose names are not refused have at most 100 parameters, and so have the routines of its code.
 pub fn few_parameters()
-    ensures { (items : List Item) → refusal items ≡ None → All (λ r. length r.parameters ≤ 100) (program_of (resolved items)).routines }
+    ensures { (items : List Item) → refusal items ≡ None
+        → All (λ r. length r.parameters ≤ 100) (program_of (resolved items)).routines }
 {}
 
 /// Each step of a program has a place of its own, the `nop` that begins its code, and a function's code has no other `nop`, but one before the test of a
 /// `do` loop. A loop without a third part has no code for it. So what begins with a `nop` in a function's code is the code of its steps, one after another.
 pub fn statements_have_places()
-    ensures starts { (p : Program) (r : Routine) → starts_in (routine_callee p r).body ≡ routine_starts p r }
+    ensures starts { (p : Program) (r : Routine) → starts_in (routine_callee p r).body
+        ≡ routine_starts p r }
     ensures main_starts { (p : Program) → starts_in (main_callee p).body ≡ main_starts p }
-    ensures routines { (p : Program) (r : Routine) → nops_in (routine_callee p r).body ≡ steps_places r.body }
+    ensures routines { (p : Program) (r : Routine) → nops_in (routine_callee p r).body
+        ≡ steps_places r.body }
     ensures main { (p : Program) → nops_in (main_callee p).body ≡ main_places p }
 {}

@@ -16,7 +16,7 @@ use Rattle.wasm_model.proofs.Chains.{steps_join}
 use Rattle.wasm_model.proofs.Whole.{steps_ok, turn_safe}
 use Rattle.host_step.specs.HostLaws.{host_found, step_typed}
 use Rattle.host_step.specs.HostState.{HostState}
-use Rattle.host_step.specs.Imports.{host_finds, host_types, import_at}
+use Rattle.host_imports.specs.Imports.{host_finds, host_types, import_at}
 use Rattle.host_step.specs.Starts.{state_at_start}
 use Rattle.mid_program.specs.Mid.{Eval, Program, Set, Then}
 use Rattle.mid_program.specs.MidMeaning.{mid_run_in}

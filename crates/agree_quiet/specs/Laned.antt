@@ -43,8 +43,8 @@ pub record IsNext (p : Program) (c : Conf) (b : Bases) (ss : Steps) (u d bk ct :
   pub labels : there.frame.labels ≡ c.frame.labels
   pub callers : there.callers ≡ c.callers
 
--- WHERE A STATEMENT `x = t` OF A SCRIPT BEGINS, after which another one comes in its block. In t there are number constants, names, groups, signs, `+`, `-` and `*` alone; x and each name of t is unboxed,
--- and the command line has assigned to none of them.
+-- WHERE A STATEMENT `x = t` OF A SCRIPT BEGINS, after which another one comes in its block. In t there are number constants, names, groups, signs,
+-- `+`, `-` and `*` alone; x and each name of t is unboxed, and the command line has assigned to none of them.
 pub record AtNumeric (p : Program) (c : Conf) (s : HostState) (here : AtStatement p c s) (Assigned : ℕ → Type 0) : Type 0 where
   pub bases : Bases
   pub parameters : bases.parameters ≡ length here.function.kinds
@@ -61,6 +61,7 @@ pub record AtNumeric (p : Program) (c : Conf) (s : HostState) (here : AtStatemen
   pub breaking : ℕ
   pub continuing : ℕ
   pub after : Instructions
-  pub code : c.frame.code ≡ code_in p bases (Then (assignment texts scope globals_lanes parameters_lanes target expression) (Then next further)) iterators out breaking continuing after
+  pub code : c.frame.code ≡ code_in p bases (Then (assignment texts scope globals_lanes parameters_lanes target expression)
+      (Then next further)) iterators out breaking continuing after
   pub target_is : IsSo (IsLaned p here.function.kinds Assigned) globals_lanes parameters_lanes (variable_of scope target)
   pub numeric : IsNumeric (IsSo (IsLaned p here.function.kinds Assigned) globals_lanes parameters_lanes) scope expression

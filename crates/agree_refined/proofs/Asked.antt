@@ -13,9 +13,9 @@ use Rattle.host_step.specs.HostState.{HostState}
 use Rattle.host_step.specs.HostStep.{HostStep}
 use Rattle.lower_model.specs.Cells.{Cell}
 use Rattle.lower_model.specs.ImportCalls.{call}
-use Rattle.lower_model.specs.Imports.{import_at, import_type}
+use Rattle.host_imports.specs.Imports.{import_at, import_type}
 use Rattle.lower_model.specs.Machine.{Code, Frame, Label, Store, all_live, ask, assigning_after, guarded, width, with_answer}
-use Rattle.lower_model.specs.declared.import.Import.{Import}
+use Rattle.host_imports.specs.declared.import.Import.{Import}
 use Rattle.agree_refined.specs.Growing.{ArraysGrow}
 use Rattle.agree_refined.specs.Owners.{owners, waiting, wanted}
 use Rattle.agree_refined.specs.Refined.{NextAs, RunAs}

@@ -18,7 +18,7 @@ use Rattle.wasm_model.specs.declared.ends.End.TheVariants as ends
 use Rattle.wasm_model.specs.declared.ends.RunEnd.{RunEnd}
 use Rattle.wasm_model.specs.declared.ends.RunEnd.TheVariants.{Ended, NoMemory, OutOfSteps}
 use Rattle.host_step.specs.HostState.{Names}
-use Rattle.host_step.specs.Imports.{host_finds}
+use Rattle.host_imports.specs.Imports.{host_finds}
 use Rattle.host_step.specs.Starts.{first_arrays, first_names, state_at_start}
 use Rattle.host_step.specs.Tables.{entered, look}
 use Rattle.mid_program.specs.Mid.{Kind, Program}

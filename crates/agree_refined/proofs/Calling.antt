@@ -24,19 +24,13 @@ use Rattle.host_step.specs.Arguments.{and_then, decode}
 use Rattle.host_step.specs.Answers.{encode, refusal}
 use Rattle.host_step.specs.HostStep.{Comes, Goes, Refuses, Given, IsGiven, Settles, StepBy, StepOf, answered, come, carried, faulted, refused, refuses}
 use Rattle.host_step.specs.HostStep as host
-use Rattle.host_step.specs.Imports.{spends}
-use Rattle.host_step.specs.Imports as table
-use Rattle.host_step.specs.declared.import.Listing.{Listing as HostListing}
-use Rattle.host_step.specs.declared.import.Listing.TheVariants as listing
-use Rattle.host_step.specs.declared.import.Import.{Import as HostImport}
-use Rattle.host_step.specs.declared.import.Import.TheVariants as hosted
 use Rattle.lower_model.specs.Cells.{Cell, none_owned}
-use Rattle.lower_model.specs.ImportCalls.{Acts, Host, acted, acts, after_fault, call, fault_cell, lets_go, listed_acts, primitive_acts, replied, row_in, taken, where_so, with_some}
-use Rattle.lower_model.specs.Imports.{import_answer, import_arguments}
-use Rattle.lower_model.specs.declared.import.Listing.{Listing}
-use Rattle.lower_model.specs.declared.import.Listing.TheVariants.{Sprintf, Print, Printf}
-use Rattle.lower_model.specs.declared.import.Import.{Import}
-use Rattle.lower_model.specs.declared.import.Import.TheVariants.{Of, Over, Arg, Drop, IterFree, FreeArray}
+use Rattle.lower_model.specs.ImportCalls.{Acts, Host, acted, acts, after_fault, call, fault_cell, listed_acts, primitive_acts, replied, row_in, taken, where_so, with_some}
+use Rattle.host_imports.specs.Imports.{import_answer, import_arguments, lets_go, spends}
+use Rattle.host_imports.specs.declared.import.Listing.{Listing}
+use Rattle.host_imports.specs.declared.import.Listing.TheVariants.{Sprintf, Print, Printf}
+use Rattle.host_imports.specs.declared.import.Import.{Import}
+use Rattle.host_imports.specs.declared.import.Import.TheVariants.{Of, Over, Arg, Drop, IterFree, FreeArray}
 use Rattle.agree_refined.specs.Growing.{ArraysGrow, GrowsBy, NewIn}
 use Rattle.agree_refined.specs.Words.{ArraysFit, WordsAs, arrays_made, state_with}
 use Rattle.agree_refined.specs.Owners.{owners, wanted}
@@ -44,41 +38,8 @@ use Rattle.agree_refined.proofs.Carrying.{Carried, carried_then, unowned_all}
 use Rattle.agree_refined.proofs.Decoding.{AllLive, AllSpentRight, RowAs, decode_as}
 use Rattle.agree_refined.proofs.Answering.{Told, encode_as, refusal_as}
 
--- The two tables of imports are one.
-
-abbrev pub to_listing : Listing → HostListing
-to_listing Sprintf = listing.Sprintf
-to_listing Print = listing.Print
-to_listing Printf = listing.Printf
-
-abbrev pub to_host : Import → HostImport
-to_host (Of p) = hosted.Of p
-to_host (Over l) = hosted.Over (to_listing l)
-to_host Arg = hosted.Arg
-to_host Drop = hosted.Drop
-to_host IterFree = hosted.IterFree
-to_host FreeArray = hosted.FreeArray
-
-pub answers_same : (i : Import) → table.import_answer (to_host i) ≡ import_answer i
-answers_same (Of p) = refl
-answers_same (Over Sprintf) = refl
-answers_same (Over Print) = refl
-answers_same (Over Printf) = refl
-answers_same Arg = refl
-answers_same Drop = refl
-answers_same IterFree = refl
-answers_same FreeArray = refl
-
-lets_go_same : (i : Import) → table.lets_go (to_host i) ≡ lets_go i
-lets_go_same (Of p) = refl
-lets_go_same (Over l) = refl
-lets_go_same Arg = refl
-lets_go_same Drop = refl
-lets_go_same IterFree = refl
-lets_go_same FreeArray = refl
-
 -- what a row takes it spends: `dup` and `iter_next` take nothing
-taking : (p : Primitive) → ((mem : List ℕ) (cs : List Cell) → taken mem (Of p) cs ≡ None) ⊎ (AllSpentRight (spends (hosted.Of p)) (arguments_of p) × ((mem : List ℕ) (cs : List Cell) → taken mem (Of p) cs ≡ row_in mem (arguments_of p) cs))
+taking : (p : Primitive) → ((mem : List ℕ) (cs : List Cell) → taken mem (Of p) cs ≡ None) ⊎ (AllSpentRight (spends (Of p)) (arguments_of p) × ((mem : List ℕ) (cs : List Cell) → taken mem (Of p) cs ≡ row_in mem (arguments_of p) cs))
 taking row.Num = inr ((refl, tt), λ mem cs. refl)
 taking row.Lit = inr ((tt, tt), λ mem cs. refl)
 taking row.Uninit = inr (tt, λ mem cs. refl)
@@ -212,7 +173,7 @@ module _ (N : Names) (h : Host) (others : Sort → ℕ → ℕ) where
 
 module _ (mem behind : List ℕ) (grow : ArraysGrow) (N : Names) (h : Host) (others : Sort → ℕ → ℕ) (cs : List Cell) (ws : List Word) (words : WordsAs (arrays_made h) N cs ws) (live : AllLive N.arrays cs) (fit : ArraysFit (arrays_made h) N.arrays)
     (once : (s : Sort) (q : ℕ) → owners s q cs ws + others s q ≡ wanted N s q)
-    (freed : (v : HostAnswer) (s1 : HostState) (out : List Action) → StepBy answer.Nothing (state_with N h) (come (carried hosted.FreeArray ws (mem ++ behind) (state_with N h))) v s1 out → Outcome N h others (acted FreeArray h (taken mem FreeArray cs)) v s1) where
+    (freed : (v : HostAnswer) (s1 : HostState) (out : List Action) → StepBy answer.Nothing (state_with N h) (come (carried FreeArray ws (mem ++ behind) (state_with N h))) v s1 out → Outcome N h others (acted FreeArray h (taken mem FreeArray cs)) v s1) where
   abbrev bytes : List ℕ
   bytes = mem ++ behind
 
@@ -230,31 +191,31 @@ module _ (mem behind : List ℕ) (grow : ArraysGrow) (N : Names) (h : Host) (oth
       (row_ok (row_in mem w cs) (decode spent bytes N w ws) (decode_as mem behind (arrays_made h) others spent w N cs ws right fit words live once))
       (λ r e. same r) grows v s1 out s
 
-  acted_by : (i : Import) (v : HostAnswer) (s1 : HostState) (out : List Action) → StepBy (table.import_answer (to_host i)) (state_with N h) (come (carried (to_host i) ws bytes (state_with N h))) v s1 out → Outcome N h others (acted i h (taken mem i cs)) v s1
+  acted_by : (i : Import) (v : HostAnswer) (s1 : HostState) (out : List Action) → StepBy (import_answer i) (state_with N h) (come (carried i ws bytes (state_with N h))) v s1 out → Outcome N h others (acted i h (taken mem i cs)) v s1
   acted_by (Of p) v s1 out s = by (taking p)
     where
-      by : ((m : List ℕ) (c : List Cell) → taken m (Of p) c ≡ None) ⊎ (AllSpentRight (spends (hosted.Of p)) (arguments_of p) × ((m : List ℕ) (c : List Cell) → taken m (Of p) c ≡ row_in m (arguments_of p) c)) → Outcome N h others (acted (Of p) h (taken mem (Of p) cs)) v s1
+      by : ((m : List ℕ) (c : List Cell) → taken m (Of p) c ≡ None) ⊎ (AllSpentRight (spends (Of p)) (arguments_of p) × ((m : List ℕ) (c : List Cell) → taken m (Of p) c ≡ row_in m (arguments_of p) c)) → Outcome N h others (acted (Of p) h (taken mem (Of p) cs)) v s1
       by (inl e) = subst (λ o. Outcome N h others (acted (Of p) h o) v s1) (sym (e mem cs)) tt
       by (inr e) =
           subst (λ o. Outcome N h others (acted (Of p) h o) v s1) (sym (e.1 mem cs))
-          (plain (arguments_of p) (answer_of p) (spends (hosted.Of p)) e.0 (λ r. acts (Of p) r h) (λ r. host.acts (hosted.Of p) r (state_with N h))
+          (plain (arguments_of p) (answer_of p) (spends (Of p)) e.0 (λ r. acts (Of p) r h) (λ r. host.acts (Of p) r (state_with N h))
           (λ r. fit_same (in_turn p r h.shared) _ _ (primitive_same h.arguments (can_fault p) (meaning p r h.shared))) (λ r d q. grow (Of p) r h d q) v s1 out s)
-  acted_by (Over Sprintf) v s1 out s = plain (import_arguments (Over Sprintf)) (import_answer (Over Sprintf)) (spends (hosted.Over listing.Sprintf)) (tt, tt) (λ r. acts (Over Sprintf) r h) (λ r. host.acts (hosted.Over listing.Sprintf) r (state_with N h))
+  acted_by (Over Sprintf) v s1 out s = plain (import_arguments (Over Sprintf)) (import_answer (Over Sprintf)) (spends (Over Sprintf)) (tt, tt) (λ r. acts (Over Sprintf) r h) (λ r. host.acts (Over Sprintf) r (state_with N h))
       (λ r. listed_same listed.Sprintf (values_taken listed.Sprintf r.0) N h) (λ r d q. grow (Over Sprintf) r h d q) v s1 out s
-  acted_by (Over Print) v s1 out s = plain (import_arguments (Over Print)) (import_answer (Over Print)) (spends (hosted.Over listing.Print)) (tt, (tt, tt)) (λ r. acts (Over Print) r h) (λ r. host.acts (hosted.Over listing.Print) r (state_with N h))
+  acted_by (Over Print) v s1 out s = plain (import_arguments (Over Print)) (import_answer (Over Print)) (spends (Over Print)) (tt, (tt, tt)) (λ r. acts (Over Print) r h) (λ r. host.acts (Over Print) r (state_with N h))
       (λ r. listed_same (listed.Print r.1.0) (values_taken (listed.Print r.1.0) r.0) N h) (λ r d q. grow (Over Print) r h d q) v s1 out s
-  acted_by (Over Printf) v s1 out s = plain (import_arguments (Over Printf)) (import_answer (Over Printf)) (spends (hosted.Over listing.Printf)) (tt, (tt, tt)) (λ r. acts (Over Printf) r h) (λ r. host.acts (hosted.Over listing.Printf) r (state_with N h))
+  acted_by (Over Printf) v s1 out s = plain (import_arguments (Over Printf)) (import_answer (Over Printf)) (spends (Over Printf)) (tt, (tt, tt)) (λ r. acts (Over Printf) r h) (λ r. host.acts (Over Printf) r (state_with N h))
       (λ r. listed_same (listed.Printf r.1.0) (values_taken (listed.Printf r.1.0) r.0) N h) (λ r d q. grow (Over Printf) r h d q) v s1 out s
-  acted_by Arg v s1 out s = plain (import_arguments Arg) (import_answer Arg) (spends hosted.Arg) (refl, tt) (λ r. acts Arg r h) (λ r. host.acts hosted.Arg r (state_with N h)) (λ r. refl) (λ r d q. grow Arg r h d q) v s1 out s
-  acted_by Drop v s1 out s = plain (import_arguments Drop) (import_answer Drop) (spends hosted.Drop) (refl, tt) (λ r. acts Drop r h) (λ r. host.acts hosted.Drop r (state_with N h)) (λ r. refl) (λ r d q. grow Drop r h d q) v s1 out s
-  acted_by IterFree v s1 out s = plain (import_arguments IterFree) (import_answer IterFree) (spends hosted.IterFree) (refl, tt) (λ r. acts IterFree r h) (λ r. host.acts hosted.IterFree r (state_with N h)) (λ r. refl) (λ r d q. grow IterFree r h d q) v s1 out s
+  acted_by Arg v s1 out s = plain (import_arguments Arg) (import_answer Arg) (spends Arg) (refl, tt) (λ r. acts Arg r h) (λ r. host.acts Arg r (state_with N h)) (λ r. refl) (λ r d q. grow Arg r h d q) v s1 out s
+  acted_by Drop v s1 out s = plain (import_arguments Drop) (import_answer Drop) (spends Drop) (refl, tt) (λ r. acts Drop r h) (λ r. host.acts Drop r (state_with N h)) (λ r. refl) (λ r d q. grow Drop r h d q) v s1 out s
+  acted_by IterFree v s1 out s = plain (import_arguments IterFree) (import_answer IterFree) (spends IterFree) (refl, tt) (λ r. acts IterFree r h) (λ r. host.acts IterFree r (state_with N h)) (λ r. refl) (λ r d q. grow IterFree r h d q) v s1 out s
   acted_by FreeArray v s1 out s = freed v s1 out s
 
-  abbrev Comes-so : (i : Import) → HostAnswer → HostState → List Action → Comes (InAnswer (table.import_answer (to_host i))) → Type 0
-  Comes-so i v s1 out c = StepBy (table.import_answer (to_host i)) (state_with N h) c v s1 out
+  abbrev Comes-so : (i : Import) → HostAnswer → HostState → List Action → Comes (InAnswer (import_answer i)) → Type 0
+  Comes-so i v s1 out c = StepBy (import_answer i) (state_with N h) c v s1 out
 
   -- ONE CALL: whatever the host answers, and whatever number it gives out, it is the call over cells
-  pub call_as : (i : Import) (v : HostAnswer) (s1 : HostState) (out : List Action) → StepOf (to_host i) (state_with N h) ws bytes v s1 out → Outcome N h others (call mem i cs h) v s1
+  pub call_as : (i : Import) (v : HostAnswer) (s1 : HostState) (out : List Action) → StepOf i (state_with N h) ws bytes v s1 out → Outcome N h others (call mem i cs h) v s1
   call_as i v s1 out s = by h.fault s
     where
       unowned : (e : none_owned cs ≡ true) (s : Sort) (q : ℕ) → others s q ≡ wanted N s q
@@ -263,13 +224,13 @@ module _ (mem behind : List ℕ) (grow : ArraysGrow) (N : Names) (h : Host) (oth
       refused_by : (b : Bool) → none_owned cs ≡ b → Comes-so i v s1 out Refuses → Outcome N h others (where_so b (Some (fault_cell (import_answer i), h))) v s1
       refused_by false e t = tt
       refused_by true e t =
-          given_as N h others (fault_cell (import_answer i), h) (refused (table.import_answer (to_host i)) (state_with N h)) v s1 out t
-          (record { host = refl; told = subst (λ x. Told (arrays_made h) (arrays_made h) N N others (fault_cell (import_answer i)) (refusal x)) (sym (answers_same i)) (refusal_as (arrays_made h) (arrays_made h) others N (unowned e) fit (omega arith) (import_answer i)) })
+          given_as N h others (fault_cell (import_answer i), h) (refused (import_answer i) (state_with N h)) v s1 out t
+          (record { host = refl; told = refusal_as (arrays_made h) (arrays_made h) others N (unowned e) fit (omega arith) (import_answer i) })
 
-      let_go : (b : Bool) → Comes-so i v s1 out (cond (not b) Refuses (come (carried (to_host i) ws bytes (state_with N h)))) → Outcome N h others (if b then acted i h (taken mem i cs) else where_so (none_owned cs) (Some (fault_cell (import_answer i), h))) v s1
+      let_go : (b : Bool) → Comes-so i v s1 out (cond (not b) Refuses (come (carried i ws bytes (state_with N h)))) → Outcome N h others (if b then acted i h (taken mem i cs) else where_so (none_owned cs) (Some (fault_cell (import_answer i), h))) v s1
       let_go true t = acted_by i v s1 out t
       let_go false t = refused_by (none_owned cs) refl t
 
-      by : (f : Option Fault) → Comes-so i v s1 out (cond (refuses (to_host i) f) Refuses (come (carried (to_host i) ws bytes (state_with N h)))) → Outcome N h others (elim f [ None ↦ acted i h (taken mem i cs) | Some k ↦ after_fault mem i cs h ]) v s1
+      by : (f : Option Fault) → Comes-so i v s1 out (cond (refuses i f) Refuses (come (carried i ws bytes (state_with N h)))) → Outcome N h others (elim f [ None ↦ acted i h (taken mem i cs) | Some k ↦ after_fault mem i cs h ]) v s1
       by None t = acted_by i v s1 out t
-      by (Some f) t = let_go (lets_go i) (subst (λ b. Comes-so i v s1 out (cond (not b) Refuses (come (carried (to_host i) ws bytes (state_with N h))))) (lets_go_same i) t)
+      by (Some f) t = let_go (lets_go i) t

@@ -14,9 +14,9 @@ use Rattle.wasm_model.specs.declared.ends.End.{End}
 use Rattle.world_core.specs.WorldState.{Action}
 use Rattle.host_step.specs.HostState.{HostState, Names}
 use Rattle.host_step.specs.HostStep.{StepIf}
-use Rattle.host_step.specs.Imports.{import_at}
-use Rattle.host_step.specs.Worlds.{Anyhow, AnyhowIf, reads, unseen}
-use Rattle.host_step.specs.declared.import.Import.{Import}
+use Rattle.host_imports.specs.Imports.{import_at}
+use Rattle.host_step.specs.Worlds.{Anyhow, AnyhowIf, anyhow_meaning, reads, unseen}
+use Rattle.host_imports.specs.declared.import.Import.{Import}
 use Rattle.lower_model.specs.ImportCalls.{Host}
 use Rattle.lower_model.specs.Cells.{Cell}
 use Rattle.lower_model.specs.Machine.{Code, Conf, Deep, Frame, Label, Look, Over, Run, Store, Stuck, step}
@@ -36,10 +36,6 @@ with_host h (Look x ks vs K L F code G) = Look x ks vs K L F code (record G { ho
 with_host h (Over v G) = Over v (record G { host = h })
 with_host h (Deep G) = Deep (record G { host = h })
 with_host h Stuck = Stuck
-
--- what is said of calls in every world
-abbrev pub anyhow_meaning : Meaning HostState Action
-anyhow_meaning before n words mem a after mem1 output = (mem1 ≡ mem) × Anyhow (import_at n) before words mem.bytes a after
 
 module _ (used : ℕ → Bool) (bs : List Bool) (u : Code) (c : real.Conf) (s s1 : HostState) (names : s1.names ≡ s.names)
     (made : length s1.shared.inner.arrays ≡ length s.shared.inner.arrays) where

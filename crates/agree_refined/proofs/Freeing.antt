@@ -19,11 +19,10 @@ use Rattle.host_step.specs.Tables.{look, without}
 use Rattle.host_step.specs.Arguments.{and_then, decode, said}
 use Rattle.host_step.specs.HostStep.{Comes, StepBy, StepOf, Refuses, come, carried, refuses}
 use Rattle.host_step.specs.HostStep as host
-use Rattle.host_step.specs.Imports.{spends}
-use Rattle.host_step.specs.declared.import.Import.TheVariants as hosted
+use Rattle.host_imports.specs.Imports.{spends}
 use Rattle.lower_model.specs.Cells.{Cell, Bits, Held, IteratorOf, OwnedArray, LentArray, Gone}
 use Rattle.lower_model.specs.ImportCalls.{Host, acted, acts, taken}
-use Rattle.lower_model.specs.declared.import.Import.TheVariants.{FreeArray}
+use Rattle.host_imports.specs.declared.import.Import.TheVariants.{FreeArray}
 use Rattle.agree_refined.specs.Growing.{ArraysGrow}
 use Rattle.agree_refined.specs.Words.{ArraysFit, WordsAs, arrays_made, state_with}
 use Rattle.agree_refined.specs.Owners.{owners, there, wanted}
@@ -91,27 +90,27 @@ module _ (N : Names) (h : Host) (others : Sort → ℕ → ℕ) (fit : ArraysFit
 
   module _ (bytes : List ℕ) (grow : ArraysGrow) (below : n < 2 ^ 31) where
     abbrev decoded : Option ℕ → Names → Result (Row (argument.Of sort.Array ∷ []) × Names) TrapKind
-    decoded o names = and_then (said BadHandle o []) (λ x. and_then (decode (spends hosted.FreeArray) bytes names [] x.1) (λ rest. Ok ((x.0, rest.0), rest.1)))
+    decoded o names = and_then (said BadHandle o []) (λ x. and_then (decode (spends FreeArray) bytes names [] x.1) (λ rest. Ok ((x.0, rest.0), rest.1)))
 
-    decoded_ok : RowOk (arrays_made h) N others (Some (a, tt)) (decode (spends hosted.FreeArray) bytes N (argument.Of sort.Array ∷ []) (I32 n ∷ []))
+    decoded_ok : RowOk (arrays_made h) N others (Some (a, tt)) (decode (spends FreeArray) bytes N (argument.Of sort.Array ∷ []) (I32 n ∷ []))
     decoded_ok =
         subst (λ k. RowOk (arrays_made h) N others (Some (a, tt)) (decoded (look N.arrays k) (record N { arrays = without k N.arrays }))) (sym (small_signed n below))
         (subst (λ o. RowOk (arrays_made h) N others (Some (a, tt)) (decoded o left)) (sym is) (refl, array_spent))
 
-    same : (x : Row (argument.Of sort.Array ∷ [])) → Some (a, tt) ≡ Some x → ActsAs (acts FreeArray x h) (host.acts hosted.FreeArray x (state_with N h))
+    same : (x : Row (argument.Of sort.Array ∷ [])) → Some (a, tt) ≡ Some x → ActsAs (acts FreeArray x h) (host.acts FreeArray x (state_with N h))
     same x e =
-        subst (λ (z : Row (argument.Of sort.Array ∷ [])). ActsAs (acts FreeArray z h) (host.acts hosted.FreeArray z (state_with N h))) (some_of (a, tt) x e)
+        subst (λ (z : Row (argument.Of sort.Array ∷ [])). ActsAs (acts FreeArray z h) (host.acts FreeArray z (state_with N h))) (some_of (a, tt) x e)
         (subst (λ b. ActsAs (acts FreeArray (a, tt) h) (host.where_fit b (host.only_answers (state_with N h) h.arguments))) (sym (le-leb 2 a own)) refl)
 
-    pub freed_one : (v : HostAnswer) (s1 : HostState) (out : List Action) → StepBy answer.Nothing (state_with N h) (come (carried hosted.FreeArray (I32 n ∷ []) bytes (state_with N h))) v s1 out →
+    pub freed_one : (v : HostAnswer) (s1 : HostState) (out : List Action) → StepBy answer.Nothing (state_with N h) (come (carried FreeArray (I32 n ∷ []) bytes (state_with N h))) v s1 out →
         Outcome N h others (acted FreeArray h (Some (a, tt))) v s1
-    freed_one v s1 out s = acted_as N h others (argument.Of sort.Array ∷ []) answer.Nothing (Some (a, tt)) (decode (spends hosted.FreeArray) bytes N (argument.Of sort.Array ∷ []) (I32 n ∷ []))
-        (λ r. acts FreeArray r h) (λ r. host.acts hosted.FreeArray r (state_with N h)) decoded_ok same (λ r d q. grow FreeArray r h d q) v s1 out s
+    freed_one v s1 out s = acted_as N h others (argument.Of sort.Array ∷ []) answer.Nothing (Some (a, tt)) (decode (spends FreeArray) bytes N (argument.Of sort.Array ∷ []) (I32 n ∷ []))
+        (λ r. acts FreeArray r h) (λ r. host.acts FreeArray r (state_with N h)) decoded_ok same (λ r d q. grow FreeArray r h d q) v s1 out s
 
 -- `free_array`, whatever it is given
 pub freed_as : (mem bytes : List ℕ) (grow : ArraysGrow) (N : Names) (h : Host) (others : Sort → ℕ → ℕ) → ArraysFit (arrays_made h) N.arrays → (cs : List Cell) (ws : List Word) → WordsAs (arrays_made h) N cs ws →
     ((s : Sort) (q : ℕ) → owners s q cs ws + others s q ≡ wanted N s q) → (v : HostAnswer) (s1 : HostState) (out : List Action) →
-    StepBy answer.Nothing (state_with N h) (come (carried hosted.FreeArray ws bytes (state_with N h))) v s1 out → Outcome N h others (acted FreeArray h (taken mem FreeArray cs)) v s1
+    StepBy answer.Nothing (state_with N h) (come (carried FreeArray ws bytes (state_with N h))) v s1 out → Outcome N h others (acted FreeArray h (taken mem FreeArray cs)) v s1
 freed_as mem bytes grow N h others fit [] ws a o v s1 out s = tt
 freed_as mem bytes grow N h others fit (Bits x ∷ cs) ws a o v s1 out s = tt
 freed_as mem bytes grow N h others fit (Held x ∷ cs) ws a o v s1 out s = tt

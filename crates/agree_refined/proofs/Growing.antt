@@ -14,8 +14,8 @@ use Rattle.sem_primitives.specs.declared.table.Listed.TheVariants as listed
 use Rattle.sem_primitives.specs.declared.table.Primitive.{Primitive}
 use Rattle.sem_primitives.specs.declared.table.Primitive.TheVariants as row
 use Rattle.lower_model.specs.ImportCalls.{Acts, Host, last_of, listed_acts, primitive_acts, where_so}
-use Rattle.lower_model.specs.declared.import.Listing.TheVariants.{Sprintf, Print, Printf}
-use Rattle.lower_model.specs.declared.import.Import.TheVariants.{Of, Over, Arg, Drop, IterFree, FreeArray}
+use Rattle.host_imports.specs.declared.import.Listing.TheVariants.{Sprintf, Print, Printf}
+use Rattle.host_imports.specs.declared.import.Import.TheVariants.{Of, Over, Arg, Drop, IterFree, FreeArray}
 use Rattle.agree_refined.specs.Growing.{ArraysGrow, GrowsBy, NewIn}
 use Rattle.agree_refined.specs.Words.{arrays_made}
 use Rattle.agree_refined.proofs.ArrayRows.{SparedIf, array_changed, listed_kept, row_kept}

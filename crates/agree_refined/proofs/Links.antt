@@ -11,18 +11,17 @@ use Rattle.wasm_types.specs.Syntax.{FuncForm, ImportForm, ModuleForm, Signature}
 use Rattle.wasm_model.specs.Links.{IsNew, number_for, number_if, numbers_for}
 use Rattle.wasm_model.specs.Machines.{Conf, ProgramForm, asked, asked_if, call_at, called, entered_func, entered_if}
 use Rattle.wasm_model.specs.Runs.{MachineForm}
-use Rattle.host_step.specs.Imports.{host_finds}
 use Rattle.sem_primitives.specs.declared.table.Primitive.TheVariants as row
 use Rattle.mid_program.specs.Mid.{Program}
-use Rattle.lower_model.specs.Imports.{import_at, import_count, import_name, import_number, import_type, imports, module_name}
+use Rattle.host_imports.specs.Imports.{host_finds, import_at, import_count, import_name, import_number, import_type, imports, module_name}
 use Rattle.lower_model.specs.Machine.{Callee}
 use Rattle.lower_model.specs.Functions.{routine_callee, main_callee}
 use Rattle.lower_model.specs.Modules.{all_callees, any_calls, called_imports, callee_type, calls_in, functions_from, imported_from, imports_of, module_of}
 use Rattle.lower_model.specs.Modules.{new_number, renumbered}
 use Rattle.lower_model.specs.Runs.{code_of}
-use Rattle.lower_model.specs.declared.import.Import.{Import}
-use Rattle.lower_model.specs.declared.import.Import.TheVariants.{Of, Over}
-use Rattle.lower_model.specs.declared.import.Listing.TheVariants.{Sprintf}
+use Rattle.host_imports.specs.declared.import.Import.{Import}
+use Rattle.host_imports.specs.declared.import.Import.TheVariants.{Of, Over}
+use Rattle.host_imports.specs.declared.import.Listing.TheVariants.{Sprintf}
 use Rattle.agree_typed.specs.Finds.{table_finds}
 use Rattle.agree_typed.proofs.Chosen.{functions_behind, renumbered_there}
 use Rattle.agree_typed.proofs.Links.{imports_there}

@@ -15,10 +15,10 @@ use Rattle.host_step.specs.HostState.{HostState}
 use Rattle.host_step.specs.HostStep.{HostStep}
 use Rattle.lower_model.specs.Cells.{Cell}
 use Rattle.lower_model.specs.ImportCalls.{Host, acted, look, looked_at}
-use Rattle.lower_model.specs.Imports.{import_at, import_type}
+use Rattle.host_imports.specs.Imports.{import_at, import_type}
 use Rattle.lower_model.specs.Machine.{Code, Frame, Label, Store, ask_looking, with_answer}
-use Rattle.lower_model.specs.declared.import.Import.{Import}
-use Rattle.lower_model.specs.declared.import.Import.TheVariants.{Of}
+use Rattle.host_imports.specs.declared.import.Import.{Import}
+use Rattle.host_imports.specs.declared.import.Import.TheVariants.{Of}
 use Rattle.agree_refined.specs.Growing.{ArraysGrow}
 use Rattle.agree_refined.specs.Refined.{CodeAs, NextAs, RestAs}
 use Rattle.agree_refined.specs.Words.{WordAs, WordsAs, arrays_made, state_with}

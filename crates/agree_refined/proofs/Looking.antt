@@ -17,20 +17,18 @@ use Rattle.host_step.specs.Tables.{look}
 use Rattle.host_step.specs.Arguments.{and_then, decode, said}
 use Rattle.host_step.specs.HostStep.{Comes, StepBy, StepOf, Refuses, come, carried, refuses}
 use Rattle.host_step.specs.HostStep as host
-use Rattle.host_step.specs.Imports.{spends}
-use Rattle.host_step.specs.Imports as table
-use Rattle.host_step.specs.declared.import.Import.TheVariants as hosted
+use Rattle.host_imports.specs.Imports.{import_answer, spends}
 use Rattle.lower_model.specs.Cells.{Cell, Bits, Held, IteratorOf, OwnedArray, LentArray, Gone}
 use Rattle.lower_model.specs.ImportCalls.{Host, acted, acts, looked_at, taken}
 use Rattle.lower_model.specs.ImportCalls as value
-use Rattle.lower_model.specs.declared.import.Import.{Import}
-use Rattle.lower_model.specs.declared.import.Import.TheVariants.{Of, Over, Arg, Drop, IterFree, FreeArray}
+use Rattle.host_imports.specs.declared.import.Import.{Import}
+use Rattle.host_imports.specs.declared.import.Import.TheVariants.{Of, Over, Arg, Drop, IterFree, FreeArray}
 use Rattle.agree_refined.specs.Growing.{ArraysGrow}
 use Rattle.agree_refined.specs.Words.{ArraysFit, WordAs, arrays_made, state_with}
 use Rattle.agree_refined.specs.Owners.{wanted}
 use Rattle.agree_refined.proofs.Carrying.{carried_same}
 use Rattle.agree_refined.proofs.Decoding.{small_signed}
-use Rattle.agree_refined.proofs.Calling.{Outcome, RowOk, Spent, acted_as, fit_same, primitive_same, to_host}
+use Rattle.agree_refined.proofs.Calling.{Outcome, RowOk, Spent, acted_as, fit_same, primitive_same}
 
 pub looking : (p : Primitive) → ((p ≡ row.Dup) ⊎ (p ≡ row.IterNext)) ⊎ ((c : Cell) → looked_at (Of p) c ≡ None)
 looking row.Num = inr (λ c. refl)
@@ -88,9 +86,9 @@ module _ (bytes : List ℕ) (grow : ArraysGrow) (N : Names) (h : Host) (others :
   unspent = record { carried = carried_same (arrays_made h) N others; once = once; arrays = fit }
 
   abbrev decoded : {A : Type 0} → Option A → Result ((A × Unit {0}) × Names) TrapKind
-  decoded o = and_then (said BadHandle o []) (λ x. and_then (decode (spends (hosted.Of row.Dup)) bytes N [] x.1) (λ rest. Ok ((x.0, rest.0), rest.1)))
+  decoded o = and_then (said BadHandle o []) (λ x. and_then (decode (spends (Of row.Dup)) bytes N [] x.1) (λ rest. Ok ((x.0, rest.0), rest.1)))
 
-  dup_as : (c : Cell) (w : Word) → WordAs (arrays_made h) N c w → (v : HostAnswer) (s1 : HostState) (out : List Action) → StepBy (answer_of row.Dup) (state_with N h) (come (carried (hosted.Of row.Dup) (w ∷ []) bytes (state_with N h))) v s1 out →
+  dup_as : (c : Cell) (w : Word) → WordAs (arrays_made h) N c w → (v : HostAnswer) (s1 : HostState) (out : List Action) → StepBy (answer_of row.Dup) (state_with N h) (come (carried (Of row.Dup) (w ∷ []) bytes (state_with N h))) v s1 out →
       Outcome N h others (acted (Of row.Dup) h (looked_at (Of row.Dup) c)) v s1
   dup_as (Bits x) w a v s1 out s = tt
   dup_as (IteratorOf x) w a v s1 out s = tt
@@ -99,16 +97,16 @@ module _ (bytes : List ℕ) (grow : ArraysGrow) (N : Names) (h : Host) (others :
   dup_as Gone w a v s1 out s = tt
   dup_as (Held x) (I64 n) a v s1 out s = absurd a
   dup_as (Held x) (I32 n) a v s1 out s =
-      acted_as N h others (arguments_of row.Dup) (answer_of row.Dup) (Some (x, tt)) (decode (spends (hosted.Of row.Dup)) bytes N (arguments_of row.Dup) (I32 n ∷ []))
-      (λ r. acts (Of row.Dup) r h) (λ r. host.acts (hosted.Of row.Dup) r (state_with N h)) ok
+      acted_as N h others (arguments_of row.Dup) (answer_of row.Dup) (Some (x, tt)) (decode (spends (Of row.Dup)) bytes N (arguments_of row.Dup) (I32 n ∷ []))
+      (λ r. acts (Of row.Dup) r h) (λ r. host.acts (Of row.Dup) r (state_with N h)) ok
       (λ r e. fit_same (in_turn row.Dup r h.shared) _ _ (primitive_same h.arguments (can_fault row.Dup) (meaning row.Dup r h.shared))) (λ r d q. grow (Of row.Dup) r h d q) v s1 out s
     where
-      ok : RowOk (arrays_made h) N others (Some (x, tt)) (decode (spends (hosted.Of row.Dup)) bytes N (arguments_of row.Dup) (I32 n ∷ []))
+      ok : RowOk (arrays_made h) N others (Some (x, tt)) (decode (spends (Of row.Dup)) bytes N (arguments_of row.Dup) (I32 n ∷ []))
       ok =
           subst (λ k. RowOk (arrays_made h) N others (Some (x, tt)) (decoded (look N.values k))) (sym (small_signed n a.0))
           (subst (λ o. RowOk (arrays_made h) N others (Some (x, tt)) (decoded o)) (sym a.1) (refl, unspent))
 
-  next_as : (c : Cell) (w : Word) → WordAs (arrays_made h) N c w → (v : HostAnswer) (s1 : HostState) (out : List Action) → StepBy (answer_of row.IterNext) (state_with N h) (come (carried (hosted.Of row.IterNext) (w ∷ []) bytes (state_with N h))) v s1 out →
+  next_as : (c : Cell) (w : Word) → WordAs (arrays_made h) N c w → (v : HostAnswer) (s1 : HostState) (out : List Action) → StepBy (answer_of row.IterNext) (state_with N h) (come (carried (Of row.IterNext) (w ∷ []) bytes (state_with N h))) v s1 out →
       Outcome N h others (acted (Of row.IterNext) h (looked_at (Of row.IterNext) c)) v s1
   next_as (Bits x) w a v s1 out s = tt
   next_as (Held x) w a v s1 out s = tt
@@ -117,26 +115,26 @@ module _ (bytes : List ℕ) (grow : ArraysGrow) (N : Names) (h : Host) (others :
   next_as Gone w a v s1 out s = tt
   next_as (IteratorOf x) (I64 n) a v s1 out s = absurd a
   next_as (IteratorOf x) (I32 n) a v s1 out s =
-      acted_as N h others (arguments_of row.IterNext) (answer_of row.IterNext) (Some (x, tt)) (decode (spends (hosted.Of row.IterNext)) bytes N (arguments_of row.IterNext) (I32 n ∷ []))
-      (λ r. acts (Of row.IterNext) r h) (λ r. host.acts (hosted.Of row.IterNext) r (state_with N h)) ok
+      acted_as N h others (arguments_of row.IterNext) (answer_of row.IterNext) (Some (x, tt)) (decode (spends (Of row.IterNext)) bytes N (arguments_of row.IterNext) (I32 n ∷ []))
+      (λ r. acts (Of row.IterNext) r h) (λ r. host.acts (Of row.IterNext) r (state_with N h)) ok
       (λ r e. fit_same (in_turn row.IterNext r h.shared) _ _ (primitive_same h.arguments (can_fault row.IterNext) (meaning row.IterNext r h.shared))) (λ r d q. grow (Of row.IterNext) r h d q) v s1 out s
     where
-      ok : RowOk (arrays_made h) N others (Some (x, tt)) (decode (spends (hosted.Of row.IterNext)) bytes N (arguments_of row.IterNext) (I32 n ∷ []))
+      ok : RowOk (arrays_made h) N others (Some (x, tt)) (decode (spends (Of row.IterNext)) bytes N (arguments_of row.IterNext) (I32 n ∷ []))
       ok =
           subst (λ k. RowOk (arrays_made h) N others (Some (x, tt)) (decoded (look N.iterators k))) (sym (small_signed n a.0))
           (subst (λ o. RowOk (arrays_made h) N others (Some (x, tt)) (decoded o)) (sym a.1) (refl, unspent))
 
-  acted_looking : (i : Import) (c : Cell) (w : Word) → WordAs (arrays_made h) N c w → (v : HostAnswer) (s1 : HostState) (out : List Action) → StepBy (table.import_answer (to_host i)) (state_with N h) (come (carried (to_host i) (w ∷ []) bytes (state_with N h))) v s1 out →
+  acted_looking : (i : Import) (c : Cell) (w : Word) → WordAs (arrays_made h) N c w → (v : HostAnswer) (s1 : HostState) (out : List Action) → StepBy (import_answer i) (state_with N h) (come (carried i (w ∷ []) bytes (state_with N h))) v s1 out →
       Outcome N h others (acted i h (looked_at i c)) v s1
   acted_looking (Of p) c w a v s1 out s = by (looking p)
     where
       by : ((p ≡ row.Dup) ⊎ (p ≡ row.IterNext)) ⊎ ((d : Cell) → looked_at (Of p) d ≡ None) → Outcome N h others (acted (Of p) h (looked_at (Of p) c)) v s1
       by (inl (inl e)) =
           subst (λ r. Outcome N h others (acted (Of r) h (looked_at (Of r) c)) v s1) (sym e)
-          (dup_as c w a v s1 out (subst (λ r. StepBy (table.import_answer (hosted.Of r)) (state_with N h) (come (carried (hosted.Of r) (w ∷ []) bytes (state_with N h))) v s1 out) e s))
+          (dup_as c w a v s1 out (subst (λ r. StepBy (import_answer (Of r)) (state_with N h) (come (carried (Of r) (w ∷ []) bytes (state_with N h))) v s1 out) e s))
       by (inl (inr e)) =
           subst (λ r. Outcome N h others (acted (Of r) h (looked_at (Of r) c)) v s1) (sym e)
-          (next_as c w a v s1 out (subst (λ r. StepBy (table.import_answer (hosted.Of r)) (state_with N h) (come (carried (hosted.Of r) (w ∷ []) bytes (state_with N h))) v s1 out) e s))
+          (next_as c w a v s1 out (subst (λ r. StepBy (import_answer (Of r)) (state_with N h) (come (carried (Of r) (w ∷ []) bytes (state_with N h))) v s1 out) e s))
       by (inr e) = subst (λ o. Outcome N h others (acted (Of p) h o) v s1) (sym (e c)) tt
   acted_looking (Over l) c w a v s1 out s = tt
   acted_looking Arg c w a v s1 out s = tt
@@ -145,10 +143,10 @@ module _ (bytes : List ℕ) (grow : ArraysGrow) (N : Names) (h : Host) (others :
   acted_looking FreeArray c w a v s1 out s = tt
 
   -- one look: whatever the host answers, and whatever number it gives out, it is the look over cells
-  pub look_as : (i : Import) (c : Cell) (w : Word) → WordAs (arrays_made h) N c w → (v : HostAnswer) (s1 : HostState) (out : List Action) → StepOf (to_host i) (state_with N h) (w ∷ []) bytes v s1 out → Outcome N h others (value.look i c h) v s1
+  pub look_as : (i : Import) (c : Cell) (w : Word) → WordAs (arrays_made h) N c w → (v : HostAnswer) (s1 : HostState) (out : List Action) → StepOf i (state_with N h) (w ∷ []) bytes v s1 out → Outcome N h others (value.look i c h) v s1
   look_as i c w a v s1 out s = by h.fault s
     where
-      by : (f : Option Fault) → StepBy (table.import_answer (to_host i)) (state_with N h) (cond (refuses (to_host i) f) Refuses (come (carried (to_host i) (w ∷ []) bytes (state_with N h)))) v s1 out →
+      by : (f : Option Fault) → StepBy (import_answer i) (state_with N h) (cond (refuses i f) Refuses (come (carried i (w ∷ []) bytes (state_with N h)))) v s1 out →
           Outcome N h others (elim f [ None ↦ acted i h (looked_at i c) | Some k ↦ None ]) v s1
       by None t = acted_looking i c w a v s1 out t
       by (Some f) t = tt

@@ -16,8 +16,8 @@ use Rattle.world_core.specs.WorldState.{Action}
 use Rattle.host_step.specs.HostState.{HostState, Names}
 use Rattle.host_step.specs.HostStep as host
 use Rattle.host_step.specs.HostStep.{Acts, Comes, Goes as Carried, HostStep, Refuses, Settles, StepBy, StepIf, Traps, comes}
-use Rattle.host_step.specs.Imports.{import_answer, import_at}
-use Rattle.host_step.specs.declared.import.Import.{Import}
+use Rattle.host_imports.specs.Imports.{import_answer, import_at}
+use Rattle.host_imports.specs.declared.import.Import.{Import}
 use Rattle.agree_refined.specs.Refined.{table_meaning}
 
 abbrev pub Adds : HostState → HostState → List Action → Type 0

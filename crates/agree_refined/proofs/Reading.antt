@@ -22,20 +22,17 @@ use Rattle.wasm_model.specs.declared.host.HostAnswer.{HostAnswer}
 use Rattle.wasm_model.specs.declared.host.HostAnswer.TheVariants as told
 use Rattle.wasm_model.specs.declared.ends.End.TheVariants as ends
 use Rattle.mid_program.specs.Mid.{Kind}
-use Rattle.host_step.specs.Answers.{input_code, minus_one}
+use Rattle.host_imports.specs.Codes.{input_code, minus_one}
 use Rattle.host_step.specs.Arguments.{and_then, decode}
 use Rattle.host_step.specs.HostState.{HostState, Names}
 use Rattle.host_step.specs.HostStep.{Comes, Goes, Refuses, Traps, carried, come, comes, refuses}
 use Rattle.host_step.specs.HostStep as host
-use Rattle.host_step.specs.Imports.{spends}
-use Rattle.host_step.specs.Imports as table
-use Rattle.host_step.specs.Worlds.{Anyhow, AnyhowIf, EndsRead, IsRead, KeepsOthers, ReadBy, reads}
-use Rattle.host_step.specs.declared.import.Import.TheVariants as hosted
+use Rattle.host_step.specs.Worlds.{Anyhow, AnyhowIf, EndsRead, IsRead, KeepsOthers, ReadBy, anyhow_meaning, reads}
 use Rattle.lower_model.specs.Cells.{Cell, Bits}
 use Rattle.lower_model.specs.ImportCalls.{Host, acted, after_fault, call, row_in, taken}
-use Rattle.lower_model.specs.Imports.{import_at, import_type}
+use Rattle.host_imports.specs.Imports.{import_answer, import_at, import_type, spends}
 use Rattle.lower_model.specs.Machine.{Code, Frame, Label, Store, all_live, ask, assigning_after, at, guarded, width, with_answer}
-use Rattle.lower_model.specs.declared.import.Import.TheVariants.{Of}
+use Rattle.host_imports.specs.declared.import.Import.TheVariants.{Of}
 use Rattle.agree_refined.specs.Growing.{ArraysGrow}
 use Rattle.agree_refined.specs.Owners.{owners, waiting, wanted}
 use Rattle.agree_refined.specs.Refined.{As, EndAs, RunAs, table_meaning}
@@ -45,13 +42,12 @@ use Rattle.agree_refined.proofs.Asked.{asked_as}
 use Rattle.agree_refined.proofs.Asking.{all_live_as, rest_after}
 use Rattle.agree_refined.proofs.Carrying.{unowned_one, words_carried}
 use Rattle.agree_refined.proofs.Decoding.{AllSpentRight, Left, RowAs, decode_as}
-use Rattle.agree_refined.proofs.Exchanging.{anyhow_meaning, host_of}
+use Rattle.agree_refined.proofs.Exchanging.{host_of}
 use Rattle.agree_refined.proofs.Moving.{owners_reverse, owners_split, words_drop, words_reverse, words_take}
-use Rattle.agree_refined.proofs.Numbering.{number_same}
 use Rattle.agree_refined.proofs.Settling.{at_as}
 
 -- the five calls that read take what they spend
-reading : (p : Primitive) → reads (hosted.Of p) ≡ true → AllSpentRight (spends (hosted.Of p)) (arguments_of p) ×
+reading : (p : Primitive) → reads (Of p) ≡ true → AllSpentRight (spends (Of p)) (arguments_of p) ×
     ((mem : List ℕ) (cs : List Cell) → taken mem (Of p) cs ≡ row_in mem (arguments_of p) cs)
 reading row.NextMain e = (tt, λ mem cs. refl)
 reading row.Getline e = (tt, λ mem cs. refl)
@@ -61,19 +57,19 @@ reading row.GetlineVarFile e = ((refl, tt), λ mem cs. refl)
 reading _ e = cc
 
 -- how a read went is told by a word
-word_read : (p : Primitive) (how : Result InputAnswer Fault) (s s1 : HostState) (x : Option Word) → EndsRead (hosted.Of p) how s (told.Done x) s1 →
+word_read : (p : Primitive) (how : Result InputAnswer Fault) (s s1 : HostState) (x : Option Word) → EndsRead (Of p) how s (told.Done x) s1 →
     (w : Word) × (x ≡ Some w)
 word_read p (Ok how) s s1 x h = (I32 (input_code how), let e = h.answer in cc)
 word_read p (Err f) s s1 x h = (minus_one, let e = h.answer in cc)
 
 -- where the host traps, it is a step of the table
-no_end : (p : Primitive) (how : Result InputAnswer Fault) (s s1 : HostState) (kind : TrapKind) → EndsRead (hosted.Of p) how s (told.Trap kind) s1 → ⊥
+no_end : (p : Primitive) (how : Result InputAnswer Fault) (s s1 : HostState) (kind : TrapKind) → EndsRead (Of p) how s (told.Trap kind) s1 → ⊥
 no_end p (Ok how) s s1 kind h = let e = h.answer in cc
 no_end p (Err f) s s1 kind h = let e = h.answer in cc
 
-trap_step : (p : Primitive) (s s1 : HostState) (kind : TrapKind) (x : Comes (InAnswer (table.import_answer (hosted.Of p)))) →
-    ReadBy (hosted.Of p) x s (told.Trap kind) s1 →
-    host.StepBy (table.import_answer (hosted.Of p)) s x (told.Trap kind) s1 []
+trap_step : (p : Primitive) (s s1 : HostState) (kind : TrapKind) (x : Comes (InAnswer (import_answer (Of p)))) →
+    ReadBy (Of p) x s (told.Trap kind) s1 →
+    host.StepBy (import_answer (Of p)) s x (told.Trap kind) s1 []
 trap_step p s s1 kind (Traps k) h = h
 trap_step p s s1 kind Refuses h = absurd (let e = h.0 in cc)
 trap_step p s s1 kind (Goes left d) h = absurd (no_end p h.how s s1 kind h.ends)
@@ -81,7 +77,7 @@ trap_step p s s1 kind (Goes left d) h = absurd (no_end p h.how s s1 kind h.ends)
 module _ (used : ℕ → Bool) (bs : List Bool) (u : Code) (grow : ArraysGrow) (ks : List Kind) (vs : List Cell) (K : List Label) (L : List Cell) (F : List Frame)
     (k : Instructions) (G : Store) (c : real.Conf) (s : HostState)
     (run : RunAs used bs u vs K L F k G c.frame.values c.frame.code c s) (n : ℕ) (p : Primitive) (at-n : import_at n ≡ Some (Of p))
-    (reads-p : reads (hosted.Of p) ≡ true) where
+    (reads-p : reads (Of p) ≡ true) where
   abbrev w : ℕ
   w = width (Of p)
 
@@ -132,7 +128,7 @@ module _ (used : ℕ → Bool) (bs : List Bool) (u : Code) (grow : ArraysGrow) (
       })
 
   read_to : (left : Names) (s1 : HostState) (x : Option Word) (m1 : MemoryForm) → m1 ≡ c.memory → Left (arrays_made G.host) s.names left others →
-      IsRead (hosted.Of p) left s (told.Done x) s1 → ReadAs (answered (record after { memory = m1 }) x) s1
+      IsRead (Of p) left s (told.Done x) s1 → ReadAs (answered (record after { memory = m1 }) x) s1
   read_to left s1 x m1 me l h =
       let r = word_read p h.how s s1 x h.ends in
       let t = told_read left s1 r.0 l h.names h.others.arrays in
@@ -151,10 +147,10 @@ module _ (used : ℕ → Bool) (bs : List Bool) (u : Code) (grow : ArraysGrow) (
             run.code-is (λ a q. (let z = t.once a q in omega arith));
       })
 
-  read_by : (a : HostAnswer) (s1 : HostState) → Anyhow (table.import_at n) s args c.memory.bytes a s1 →
-      ReadBy (hosted.Of p) (comes (hosted.Of p) args c.memory.bytes s) s a s1
-  read_by a s1 h = subst (λ b. AnyhowIf b (hosted.Of p) s args c.memory.bytes a s1) reads-p
-      (subst (λ o. Anyhow o s args c.memory.bytes a s1) (number_same n (Of p) at-n) h)
+  read_by : (a : HostAnswer) (s1 : HostState) → Anyhow (import_at n) s args c.memory.bytes a s1 →
+      ReadBy (Of p) (comes (Of p) args c.memory.bytes s) s a s1
+  read_by a s1 h = subst (λ b. AnyhowIf b (Of p) s args c.memory.bytes a s1) reads-p
+      (subst (λ o. Anyhow o s args c.memory.bytes a s1) at-n h)
 
   module _ (c1 : real.Conf) (s1 : HostState) (x : Option Word) (me : c1.memory ≡ c.memory) (to : c1 ≡ answered (record after { memory = c1.memory }) x) where
     -- nothing is promised where the machine over values is stuck
@@ -168,32 +164,32 @@ module _ (used : ℕ → Bool) (bs : List Bool) (u : Code) (grow : ArraysGrow) (
         (ap (λ (z : HostState). z.fault) (sym run.rest.host) ∙ f)
         ∙ ap (λ o. acted (Of p) G.host o) ((reading p reads-p).1 u.memory cells ∙ e)
 
-    abbrev Reads : Comes (InAnswer (table.import_answer (hosted.Of p))) → Type 0
-    Reads x1 = ReadBy (hosted.Of p) x1 s (told.Done x) s1
+    abbrev Reads : Comes (InAnswer (import_answer (Of p))) → Type 0
+    Reads x1 = ReadBy (Of p) x1 s (told.Done x) s1
 
     no_trap : (kind : TrapKind) → told.Done x ≡ told.Trap kind → ⊥
     no_trap kind e = cc
 
     by_acts : (left : Names) → Left (arrays_made G.host) s.names left others →
-        (d : Result (host.Acts (InAnswer (table.import_answer (hosted.Of p)))) TrapKind) → Reads (come (and_then d (λ z. Ok (left, z)))) → OwnOrRead c1 s1
+        (d : Result (host.Acts (InAnswer (import_answer (Of p)))) TrapKind) → Reads (come (and_then d (λ z. Ok (left, z)))) → OwnOrRead c1 s1
     by_acts left l (Err kind) h = absurd (no_trap kind h.trap)
     by_acts left l (Ok d) h = inr (subst (λ z. ReadAs z s1) (sym to) (read_to left s1 x c1.memory me l h))
 
     by_row : s.fault ≡ None → (o : Option (Row (arguments_of p))) → row_in u.memory (arguments_of p) cells ≡ o →
         (r : Result (Row (arguments_of p) × Names) TrapKind) → RowAs u.memory run.rest.behind (arrays_made G.host) others s.names o r →
-        Reads (come (and_then r (λ y. and_then (host.acts (hosted.Of p) y.0 s) (λ d. Ok (y.1, d))))) → OwnOrRead c1 s1
+        Reads (come (and_then r (λ y. and_then (host.acts (Of p) y.0 s) (λ d. Ok (y.1, d))))) → OwnOrRead c1 s1
     by_row f None e r a h = inl (stuck (all_live L F G.globals cells) (call u.memory (Of p) cells G.host) (no_row f e))
     by_row f (Some y) e (Err kind) a h = absurd a
-    by_row f (Some y) e (Ok z) a h = by_acts z.1 a.1 (host.acts (hosted.Of p) z.0 s) h
+    by_row f (Some y) e (Ok z) a h = by_acts z.1 a.1 (host.acts (Of p) z.0 s) h
 
-    by_live : s.fault ≡ None → (b : Bool) → all_live L F G.globals cells ≡ b → Reads (come (carried (hosted.Of p) args c.memory.bytes s)) → OwnOrRead c1 s1
+    by_live : s.fault ≡ None → (b : Bool) → all_live L F G.globals cells ≡ b → Reads (come (carried (Of p) args c.memory.bytes s)) → OwnOrRead c1 s1
     by_live f false e h = inl (subst (λ b. As used bs u (guarded b (with_answer (call u.memory (Of p) cells G.host) ks (drop w vs) K L F k (record G { assigning = assigning_after (Of p) G }))) c1 s1)
         (sym e) tt)
     by_live f true e h =
-        by_row f (row_in u.memory (arguments_of p) cells) refl (decode (spends (hosted.Of p)) c.memory.bytes s.names (arguments_of p) args)
+        by_row f (row_in u.memory (arguments_of p) cells) refl (decode (spends (Of p)) c.memory.bytes s.names (arguments_of p) args)
         (subst (λ (z : List ℕ). RowAs u.memory run.rest.behind (arrays_made G.host) others s.names (row_in u.memory (arguments_of p) cells)
-        (decode (spends (hosted.Of p)) z s.names (arguments_of p) args)) (sym run.rest.memory)
-        (decode_as u.memory run.rest.behind (arrays_made G.host) others (spends (hosted.Of p)) (arguments_of p) s.names cells args
+        (decode (spends (Of p)) z s.names (arguments_of p) args)) (sym run.rest.memory)
+        (decode_as u.memory run.rest.behind (arrays_made G.host) others (spends (Of p)) (arguments_of p) s.names cells args
         (reading p reads-p).0 run.rest.arrays
         (words_reverse (arrays_made G.host) s.names (take w vs) (take w c.frame.values)
         (words_take (arrays_made G.host) s.names w vs c.frame.values run.operands))
@@ -201,16 +197,16 @@ module _ (used : ℕ → Bool) (bs : List Bool) (u : Code) (grow : ArraysGrow) (
 
     -- once a fault is kept it is a step of the table
     by_fault : nat_lt (length c.frame.values) (length (import_type (Of p)).params) ≡ false → (f : Option Fault) → s.fault ≡ f →
-        Reads (cond (refuses (hosted.Of p) f) Refuses (come (carried (hosted.Of p) args c.memory.bytes s))) → OwnOrRead c1 s1
+        Reads (cond (refuses (Of p) f) Refuses (come (carried (Of p) args c.memory.bytes s))) → OwnOrRead c1 s1
     by_fault e None q h = by_live q (all_live L F G.globals cells) refl h
     by_fault e (Some f) q h = inl ((asked_as used bs u grow ks vs K L F k G c s run n (Of p) at-n).taken c1 s1 []
         (subst (λ b. TakenAs table_meaning (if b then Ends ends.Stuck else Asks n args after) s c.memory [] c1 s1) (sym e) (x, (me, refused_step), to)))
       where
         refused_step : host.HostStep n s args c.memory.bytes (told.Done x) s1 []
         refused_step =
-            subst (λ o. host.StepIf o s args c.memory.bytes (told.Done x) s1 []) (sym (number_same n (Of p) at-n))
-            (subst (λ (g : Option Fault). host.StepBy (table.import_answer (hosted.Of p)) s
-            (cond (refuses (hosted.Of p) g) Refuses (come (carried (hosted.Of p) args c.memory.bytes s))) (told.Done x) s1 []) (sym q)
+            subst (λ o. host.StepIf o s args c.memory.bytes (told.Done x) s1 []) (sym at-n)
+            (subst (λ (g : Option Fault). host.StepBy (import_answer (Of p)) s
+            (cond (refuses (Of p) g) Refuses (come (carried (Of p) args c.memory.bytes s))) (told.Done x) s1 []) (sym q)
             (record { word = h.0; state = h.1; added = refl }))
 
   -- A CALL THAT READS
@@ -233,11 +229,11 @@ module _ (used : ℕ → Bool) (bs : List Bool) (u : Code) (grow : ArraysGrow) (
       over : OverBy table_meaning (asked n (import_type (Of p)) c) s c.memory [] e s1 → EndAs used bs u (ask u.memory (Some (Of p)) ks vs K L F k G) e s s1 []
       over = (asked_as used bs u grow ks vs K L F k G c s run n (Of p) at-n).over e s1 []
 
-      trapped : (kind : TrapKind) → Anyhow (table.import_at n) s args c.memory.bytes (told.Trap kind) s1 →
+      trapped : (kind : TrapKind) → Anyhow (import_at n) s args c.memory.bytes (told.Trap kind) s1 →
           host.HostStep n s args c.memory.bytes (told.Trap kind) s1 []
       trapped kind h =
-          subst (λ o. host.StepIf o s args c.memory.bytes (told.Trap kind) s1 []) (sym (number_same n (Of p) at-n))
-          (trap_step p s s1 kind (comes (hosted.Of p) args c.memory.bytes s) (read_by (told.Trap kind) s1 h))
+          subst (λ o. host.StepIf o s args c.memory.bytes (told.Trap kind) s1 []) (sym at-n)
+          (trap_step p s s1 kind (comes (Of p) args c.memory.bytes s) (read_by (told.Trap kind) s1 h))
 
       within : (b : Bool) → nat_lt (length c.frame.values) (length (import_type (Of p)).params) ≡ b →
           OverBy anyhow_meaning (if b then Ends ends.Stuck else Asks n args after) s c.memory output e s1 →

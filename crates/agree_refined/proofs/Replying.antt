@@ -32,9 +32,9 @@ use Rattle.host_step.specs.Arguments.{and_then, decode, front, removed_front, sp
 use Rattle.host_step.specs.HostState.{HostState, Names}
 use Rattle.host_step.specs.HostStep.{Acts, Comes, Goes, HostStep, Refuses, Settles, StepBy, StepIf, Traps, acts, answered as given_answer, carried, come, comes}
 use Rattle.host_step.specs.HostStep.{faulted, refused, refuses}
-use Rattle.host_step.specs.Imports.{import_answer, import_arguments, import_at, spends}
+use Rattle.host_imports.specs.Imports.{import_answer, import_arguments, import_at, spends}
 use Rattle.host_step.specs.Tables.{Table, look, without}
-use Rattle.host_step.specs.declared.import.Import.{Import}
+use Rattle.host_imports.specs.declared.import.Import.{Import}
 use Rattle.lower_model.specs.Machine as Machine
 use Rattle.agree_refined.specs.Refined.{As, table_meaning}
 use Rattle.agree_refined.specs.Owners.{places_in}

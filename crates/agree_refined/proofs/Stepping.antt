@@ -17,10 +17,10 @@ use Rattle.wasm_model.specs.Machines as real
 use Rattle.mid_program.specs.Mid.{Kind}
 use Rattle.host_step.specs.HostState.{HostState}
 use Rattle.lower_model.specs.Cells.{Cell, cell_at}
-use Rattle.lower_model.specs.Imports.{import_at, import_count}
+use Rattle.host_imports.specs.Imports.{import_at, import_count}
 use Rattle.lower_model.specs.Machine.{Callee, Code, Conf, Deep, Frame, Label, Look, Over, Run, Store, Stuck, act, ask, ask_looking, at, call_number, enter, guarded, looked_compared, noted, run, run_looking, step, tidy, work}
 use Rattle.lower_model.specs.Modules.{is_call, calls_by, calls_in, new_number, renumbered, renumbered_one, renumbered_simple}
-use Rattle.lower_model.specs.declared.import.Import.{Import}
+use Rattle.host_imports.specs.declared.import.Import.{Import}
 use Rattle.agree_refined.specs.Growing.{ArraysGrow}
 use Rattle.agree_refined.specs.Refined.{As, CodeAs, Linked, LookAs, NextAs, RestAs}
 use Rattle.agree_refined.specs.Words.{WordAs, WordsAs, arrays_made}

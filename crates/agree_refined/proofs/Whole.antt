@@ -10,7 +10,7 @@ use Rattle.wasm_model.specs.declared.ends.MachineEnd.TheVariants as told
 use Rattle.wasm_model.specs.declared.ends.RunEnd.{RunEnd}
 use Rattle.wasm_model.specs.declared.ends.RunEnd.TheVariants.{NoMemory}
 use Rattle.host_step.specs.HostState.{HostState}
-use Rattle.host_step.specs.Imports.{host_finds}
+use Rattle.host_imports.specs.Imports.{host_finds}
 use Rattle.host_step.specs.Worlds.{with_output}
 use Rattle.host_step.specs.Starts.{state_at_start}
 use Rattle.mid_program.specs.Mid.{Program}

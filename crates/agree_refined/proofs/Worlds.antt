@@ -13,7 +13,7 @@ use Rattle.wasm_model.specs.declared.ends.RunEnd.{RunEnd}
 use Rattle.wasm_model.specs.declared.ends.RunEnd.TheVariants.{Ended, NoMemory, OutOfSteps}
 use Rattle.world_core.specs.WorldState.{Action}
 use Rattle.host_step.specs.HostState.{HostState}
-use Rattle.host_step.specs.Imports.{import_at}
+use Rattle.host_imports.specs.Imports.{import_at}
 use Rattle.host_step.specs.Worlds.{Called, with_output}
 use Rattle.agree_refined.specs.Refined.{table_meaning}
 

@@ -7,8 +7,8 @@ use Rattle.sem_primitives.specs.declared.sorts.Answer.{Answer}
 use Rattle.sem_primitives.specs.declared.sorts.Answer.TheVariants as answer
 use Rattle.sem_primitives.specs.declared.sorts.Sort.TheVariants as sort
 use Rattle.lower_model.specs.ImportCalls.{Acts, Host, acts}
-use Rattle.lower_model.specs.Imports.{import_answer, import_arguments}
-use Rattle.lower_model.specs.declared.import.Import.{Import}
+use Rattle.host_imports.specs.Imports.{import_answer, import_arguments}
+use Rattle.host_imports.specs.declared.import.Import.{Import}
 use Rattle.agree_refined.specs.Words.{arrays_made}
 
 abbrev pub NewIn : ℕ → ℕ → (a : Answer) → Result (InAnswer a) Fault → Type 0
@@ -20,4 +20,5 @@ pub record GrowsBy (made : ℕ) (a : Answer) (d : Does (Result (InAnswer a) Faul
   pub fresh : NewIn made (length d.inner.arrays) a d.answer
 
 abbrev pub ArraysGrow : Type 0
-ArraysGrow = (i : Import) (r : Row (import_arguments i)) (h : Host) (d : Acts (InAnswer (import_answer i))) → acts i r h ≡ Some d → GrowsBy (arrays_made h) (import_answer i) d.does
+ArraysGrow = (i : Import) (r : Row (import_arguments i)) (h : Host) (d : Acts (InAnswer (import_answer i))) → acts i r h ≡ Some d
+    → GrowsBy (arrays_made h) (import_answer i) d.does

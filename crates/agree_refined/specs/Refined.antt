@@ -14,10 +14,10 @@ use Rattle.wasm_model.specs.declared.ends.End.TheVariants as ends
 use Rattle.host_step.specs.HostState.{HostState, Names}
 use Rattle.host_step.specs.HostStep.{HostStep}
 use Rattle.lower_model.specs.Cells.{Cell, none_owned, is_owned}
-use Rattle.lower_model.specs.Imports.{import_at, import_count, import_type}
+use Rattle.host_imports.specs.Imports.{import_at, import_count, import_type}
 use Rattle.lower_model.specs.Machine.{Callee, Code, Conf, Deep, Frame, Label, Look, Over, Run, Store, Stuck}
 use Rattle.lower_model.specs.Modules.{calls_in, callee_type, new_number, renumbered}
-use Rattle.lower_model.specs.declared.import.Import.{Import}
+use Rattle.host_imports.specs.declared.import.Import.{Import}
 use Rattle.agree_refined.specs.Owners.{OwnedOnce}
 use Rattle.agree_refined.specs.Words.{ArraysFit, WordAs, WordsAs, arrays_made, state_with}
 
@@ -82,14 +82,16 @@ module _ (used : ℕ → Bool) (bs : List Bool) where
       pub memory : c.memory.bytes ≡ u.memory ++ behind
 
     -- at work with these operands and this code
-    pub record RunAs (vs : List Cell) (K : List Label) (L : List Cell) (F : List Frame) (code : Instructions) (G : Store) (ws : List Word) (rcode : Instructions) (c : real.Conf) (s : HostState) : Type 0 where
+    pub record RunAs (vs : List Cell) (K : List Label) (L : List Cell) (F : List Frame) (code : Instructions) (G : Store) (ws : List Word)
+        (rcode : Instructions) (c : real.Conf) (s : HostState) : Type 0 where
       pub operands : WordsAs (arrays_made G.host) s.names vs ws
       pub code-is : CodeAs code rcode
       pub rest : RestAs K L F G c s
       pub once : OwnedOnce s.names vs ws L c.frame.locals G.globals c.globals F c.callers
 
     -- the word of local x lies on the operands too, and owns nothing there
-    pub record LookAs (x : ℕ) (vs : List Cell) (K : List Label) (L : List Cell) (F : List Frame) (code : Instructions) (G : Store) (c : real.Conf) (s : HostState) : Type 0 where
+    pub record LookAs (x : ℕ) (vs : List Cell) (K : List Label) (L : List Cell) (F : List Frame) (code : Instructions) (G : Store) (c : real.Conf)
+        (s : HostState) : Type 0 where
       pub word : Word
       pub words : List Word
       pub there : x < length L
@@ -119,10 +121,12 @@ module _ (used : ℕ → Bool) (bs : List Bool) where
     As (Deep G) c s = ⊥
     As Stuck c s = Unit {0}
 
-    -- How the real machine may end in one step by which the machine over values comes to p: so that nothing is told, as no typed module does; anyhow, where p is stuck; or because a
-    -- call is too deep.
+    -- How the real machine may end in one step by which the machine over values comes to p: so that nothing is told, as no typed module does; anyhow,
+    -- where p is stuck; or because a call is too deep.
     abbrev pub EndAs : Conf → End → HostState → HostState → List Action → Type 0
-    EndAs p e before after output = (told_end e ≡ None) ⊎ ((p ≡ Stuck) ⊎ ((G : Store) × (p ≡ Deep G) × (e ≡ ends.Exhausted) × (before ≡ state_with before.names G.host) × (after ≡ before) × (output ≡ [])))
+    EndAs p e before after output = (told_end e ≡ None)
+        ⊎ ((p ≡ Stuck) ⊎ ((G : Store) × (p ≡ Deep G) × (e ≡ ends.Exhausted) × (before ≡ state_with before.names G.host) × (after ≡ before)
+        × (output ≡ [])))
 
     -- What a step leads to, where the machine over values comes to p by its own.
     pub record NextAs (p : Conf) (c : real.Conf) (s : HostState) (t : Turn) : Type 0 where

@@ -11,13 +11,13 @@ use Rattle.wasm_model.specs.declared.host.HostAnswer.TheVariants as told
 use Rattle.world_core.specs.WorldState.{Action}
 use Rattle.host_step.specs.HostState.{HostState, Names}
 use Rattle.host_step.specs.HostStep.{Acts, Comes, Goes, Refuses, Settles, StepBy, StepIf, Traps, comes}
-use Rattle.host_step.specs.Imports.{import_answer, import_at}
-use Rattle.host_step.specs.declared.import.Import.{Import}
+use Rattle.host_imports.specs.Imports.{import_answer, import_at}
+use Rattle.host_imports.specs.declared.import.Import.{Import}
 use Rattle.host_elements.specs.Forms.{HostForm}
 use Rattle.host_meaning.specs.FormMeaning.{FormCalled, FormMeans, Told, form_meaning}
 use Rattle.host_meaning.specs.Shown.{Shown, form_with_output}
 use Rattle.agree_refined.specs.Refined.{table_meaning}
-use Rattle.agree_refined.proofs.Exchanging.{anyhow_meaning}
+use Rattle.host_step.specs.Worlds.{anyhow_meaning}
 
 -- so much came before
 abbrev pub ShownAfter : List Action → HostForm → HostState → Type 0

@@ -14,8 +14,8 @@ use Rattle.wasm_model.specs.declared.ends.RunEnd.TheVariants.{Ended, NoMemory, O
 use Rattle.world_core.specs.WorldState.{Action, Outside, after, step}
 use Rattle.host_step.specs.HostState.{HostState, Names}
 use Rattle.host_step.specs.HostStep.{Acts, Comes, Goes as Carried, Refuses, Settles, StepBy, StepIf, Traps, comes}
-use Rattle.host_step.specs.Imports.{import_answer, import_at}
-use Rattle.host_step.specs.declared.import.Import.{Import}
+use Rattle.host_imports.specs.Imports.{import_answer, import_at}
+use Rattle.host_imports.specs.declared.import.Import.{Import}
 use Rattle.agree_refined.specs.Refined.{table_meaning}
 
 abbrev pub Makes : HostState → List Action → HostState → Type 0

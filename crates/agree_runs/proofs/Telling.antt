@@ -24,14 +24,14 @@ use Rattle.wasm_model.proofs.Beginning.{begun_ok, linked_is, numbered}
 use Rattle.wasm_model.proofs.Whole.{ran_safe}
 use Rattle.host_step.specs.HostLaws.{host_found, step_typed}
 use Rattle.host_step.specs.HostState.{HostState}
-use Rattle.host_step.specs.Imports.{host_finds, host_types, import_at}
+use Rattle.host_imports.specs.Imports.{host_finds, host_types, import_at}
 use Rattle.host_step.specs.Starts.{state_at_start}
 use Rattle.host_elements.specs.Forms.{HostForm}
 use Rattle.host_meaning.specs.FormMeaning.{Told, form_meaning}
 use Rattle.host_meaning.specs.Shown.{Shown, form_with_output}
 use Rattle.host_meaning.proofs.Showing.{shown_fault, shown_outside, shown_output}
 use Rattle.agree_refined.specs.Refined.{table_meaning}
-use Rattle.agree_refined.proofs.Exchanging.{anyhow_meaning}
+use Rattle.host_step.specs.Worlds.{anyhow_meaning}
 use Rattle.agree_modules.specs.Agreement.{Like, MayEnd, ModuleEnding, Trapped, ended_with, ending_told, output_in}
 use Rattle.sem_scripts.specs.ScriptRun.{Exhausted, GoesOn}
 use Rattle.sem_scripts.specs.Kept.{output_of}

@@ -13,7 +13,7 @@ use Rattle.wasm_model.proofs.Chains.{no_memory}
 use Rattle.world_core.specs.WorldState.{Action, after as outside_after}
 use Rattle.host_step.specs.HostState.{HostState}
 use Rattle.host_step.specs.HostStep.{StepIf}
-use Rattle.host_step.specs.Imports.{import_at}
+use Rattle.host_imports.specs.Imports.{import_at}
 use Rattle.host_elements.specs.Forms.{HostForm}
 use Rattle.host_meaning.specs.FormMeaning.{FormState, Told, Untold, form_meaning}
 use Rattle.host_meaning.specs.Shown.{form_with_output}

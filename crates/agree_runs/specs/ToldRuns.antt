@@ -12,19 +12,21 @@ use Rattle.wasm_model.specs.declared.ends.MachineEnd.TheVariants as machine
 use Rattle.host_step.specs.HostState.{HostState}
 use Rattle.host_elements.specs.Forms.{HostForm}
 use Rattle.host_meaning.specs.Shown.{Shown}
-use Rattle.agree_refined.proofs.Exchanging.{anyhow_meaning}
+use Rattle.host_step.specs.Worlds.{anyhow_meaning}
 use Rattle.sem_scripts.specs.Kept.{Grows, output_of}
 use Rattle.sem_scripts.specs.ScriptRun.{Ending, Exhausted, Setting}
 use Rattle.agree_modules.specs.Agreement.{MayEnd, ModuleEnding, ended_with, ending_told, output_in, setting_of}
 
 -- what was told, with this fault kept and this output, is how the module may end
 abbrev pub TellsEnding : ModuleForm → JobForm → Source → Outside → ℕ → Option Fault → MachineEnd → List Action → Type 0
-TellsEnding m job input outside steps kept e output = (ending : ModuleEnding) × (ending_told kept e output ≡ Some ending) × MayEnd m job input outside steps ending
+TellsEnding m job input outside steps kept e output = (ending : ModuleEnding) × (ending_told kept e output ≡ Some ending)
+    × MayEnd m job input outside steps ending
 
 -- Where memory was wanting, the module may end with an output that begins so.
 abbrev pub Tells : ModuleForm → JobForm → Source → Outside → ℕ → Option Fault → MachineEnd → List Action → Type 0
 Tells m job input outside steps kept machine.NoMemory output =
-    (fewer : ℕ) × (fewer ≤ steps) × (ending : ModuleEnding) × (rest : List Action) × (output_in ending ≡ output ++ rest) × MayEnd m job input outside fewer ending
+    (fewer : ℕ) × (fewer ≤ steps) × (ending : ModuleEnding) × (rest : List Action) × (output_in ending ≡ output ++ rest)
+    × MayEnd m job input outside fewer ending
 Tells m job input outside steps kept e output = TellsEnding m job input outside steps kept e output
 
 -- A run of a module in a job, over a world that tells what it holds: what was told of it, and what the names outside hold then.
@@ -34,7 +36,8 @@ pub record ToldRun (m : ModuleForm) (job : JobForm) (input : Source) (outside : 
   pub applied : after-run.shared.outside ≡ outside_after output outside
 
 -- A run over any world: each of its calls is as it is said of every world, from one state that is shown to another.
-pub record AnyhowRun (m : ProgramForm) (steps : ℕ) (conf : Conf) (state : HostState) (output : List Action) (e : RunEnd) (conf' : Conf) (after-run : HostForm) : Type 0 where
+pub record AnyhowRun (m : ProgramForm) (steps : ℕ) (conf : Conf) (state : HostState) (output : List Action) (e : RunEnd) (conf' : Conf)
+    (after-run : HostForm) : Type 0 where
   pub state' : HostState
   pub shown : Shown after-run state'
   pub ran : Ran anyhow_meaning m steps conf state output e conf' state'

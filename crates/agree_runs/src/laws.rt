@@ -10,7 +10,7 @@ ghost use Rattle.wasm_types.specs.Syntax.{ModuleForm};
 ghost use Rattle.wasm_types.specs.Typing.{ModuleOk};
 ghost use Rattle.world_core.specs.WorldState.{Action, Outside, Source};
 ghost use Rattle.host_step.specs.HostState.{HostState};
-ghost use Rattle.host_step.specs.Imports.{host_finds};
+ghost use Rattle.host_imports.specs.Imports.{host_finds};
 ghost use Rattle.host_step.specs.Starts.{state_at_start};
 ghost use Rattle.host_elements.specs.Forms.{HostForm};
 ghost use Rattle.host_meaning.specs.FormMeaning.{FormState, form_meaning};

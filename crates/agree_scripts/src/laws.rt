@@ -3,7 +3,7 @@ ghost use Rattle.std.specs.Prelude.{◌≡◌, ◌≤◌, ◌^◌, List, None, l
 ghost use Rattle.awk_tokens.specs.Cutting.{Spelled};
 ghost use Rattle.awk_grammar.specs.Item.{Item};
 ghost use Rattle.awk_parse.specs.Parsing.{IsParsed};
-ghost use Rattle.awk_resolve.specs.Kinds.{refusal};
+ghost use Rattle.awk_kinds.specs.Kinds.{refusal};
 ghost use Rattle.sem_scripts.specs.Kinds.{resolved};
 ghost use Rattle.mid_program.specs.Mid.{Program};
 ghost use Rattle.sem_scripts.specs.Names.{Resolved};
@@ -36,7 +36,8 @@ pub fn scripts_agree()
 /// A script agrees with the module of any well-sorted code that runs as the script's own does: once constant parts are computed and names of numbers
 /// are unboxed.
 pub fn rewritten_scripts_agree()
-    ensures { (script : Resolved) (p : Program) → SameRuns p (program_of script) → IsSorted p → Agreement (resolved_run script) (module_of p) }
+    ensures { (script : Resolved) (p : Program) → SameRuns p (program_of script) → IsSorted p
+        → Agreement (resolved_run script) (module_of p) }
 {
     same_meaning();
     modules_agree();

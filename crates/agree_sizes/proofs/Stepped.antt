@@ -4,7 +4,7 @@ use Rattle.std.specs.Int.{w64, cast_unsigned}
 use Rattle.std.specs.Prelude.{is_some, ℤ, pos, ◌+ℤ◌, unsigned_abs}
 use Rattle.awk_values.specs.declared.comparison.CompareOp.{CompareOp}
 use Rattle.awk_values.specs.declared.comparison.CompareOp.TheVariants as compare
-use Rattle.sem_primitives.specs.Constants.{comparison_number, flag_number, kind_number}
+use Rattle.sem_primitives.specs.Constants.{flag_number, kind_number}
 use Rattle.sem_primitives.specs.declared.constants.NameKind.{NameKind}
 use Rattle.sem_primitives.specs.declared.constants.NameKind.TheVariants.{Scalar, ArrayOrFunction}
 use Rattle.sem_primitives.specs.declared.table.Primitive.TheVariants as row
@@ -25,7 +25,7 @@ use Rattle.lower_model.proofs.QuickNames.{near_sum, some_is, source_code, source
 use Rattle.lower_model.proofs.Tallies.{Shape, Updating, Following, Leading, tally_code, tally_is}
 use Rattle.lower_model.proofs.Remainders.{factored_code, most_few, remainder_code, remainder_is}
 use Rattle.lower_model.proofs.Updating.{added_is}
-use Rattle.agree_sizes.proofs.Emitted.{array_fits, asked_fits, comparison_fits, dropped_fits, emitted_fits, flag_fits, kept_code_fits, kept_number_fits, number_small, pending_fits, tested_fits, text_fits_there, to_number_fits, to_value_fits, whichever}
+use Rattle.agree_sizes.proofs.Emitted.{array_fits, asked_fits, dropped_fits, emitted_fits, flag_fits, kept_code_fits, kept_number_fits, number_small, pending_fits, tested_fits, text_fits_there, to_number_fits, to_value_fits, whichever}
 use Rattle.agree_sizes.proofs.Fits.{Fits, choice, fits_simple, in_block, in_loop, long_fits, none, plain}
 use Rattle.agree_sizes.proofs.Small.{Small, SmallStep, SmallSteps}
 
@@ -236,7 +236,7 @@ module _ (y : Layout) (names : length y.names ≤ 2 ^ 24) (memory : length (memo
     counted_fits : (o : Option Counted) (e : Code) (d out : ℕ) → Small e → Fits k → Fits (left_unless_counted y o e d out k)
     counted_fits None e d out s r = tested_fits y names memory [] [] e zero zero d s (plain _ refl (plain _ refl r))
     counted_fits (Some q) e d out s r =
-        plain _ refl (plain _ refl (plain _ refl (choice (tested_fits y names memory [] [] e zero zero (suc d) s (plain _ refl (plain _ refl none))) (plain (I32Const (comparison_number q.op)) (comparison_fits q.op) (record { has = refl })) r)))
+        plain _ refl (plain _ refl (plain _ refl (choice (tested_fits y names memory [] [] e zero zero (suc d) s (plain _ refl (plain _ refl none))) (plain _ refl (plain _ refl (plain _ refl (plain _ refl (plain _ refl (plain _ refl none)))))) r)))
 
     pair_fits : (o : Option Pair) (e : Code) (d out : ℕ) → pair_in e ≡ o → Small e → Fits k → Fits (left_unless_pair y o e d out k)
     pair_fits None e d out h s r = counted_fits (counted_in e) e d out s r

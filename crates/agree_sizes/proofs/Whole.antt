@@ -13,13 +13,13 @@ use Rattle.wasm_types.specs.Typing.{ModuleOk}
 use Rattle.mid_program.specs.Mid.{Kind, Program, Routine}
 use Rattle.mid_program.specs.Sorted.{IsSorted, all_differ, announced_names, context_of, is_sorted, kinds_of, parts_sorted, routines_sorted, steps_sorted}
 use Rattle.lower_model.specs.Functions.{layout_of, main_bases, main_callee, routine_bases, routine_callee, texts_of}
-use Rattle.lower_model.specs.Imports.{import_name, module_name}
+use Rattle.host_imports.specs.Imports.{import_name, module_name}
 use Rattle.lower_model.specs.Machine.{Callee}
 use Rattle.lower_model.specs.Modules.{all_callees, called_imports, functions_from, imported_from, imports_of, module_of, name_globals, renumbered, word_global}
 use Rattle.lower_model.specs.Places.{Bases, handle_types, local_types, memory_of, temporary_types}
-use Rattle.lower_model.specs.declared.import.Import.{Import}
-use Rattle.lower_model.specs.declared.import.Import.TheVariants.{Of, Over, Arg, Drop, IterFree, FreeArray}
-use Rattle.lower_model.specs.declared.import.Listing.TheVariants.{Sprintf, Print, Printf}
+use Rattle.host_imports.specs.declared.import.Import.{Import}
+use Rattle.host_imports.specs.declared.import.Import.TheVariants.{Of, Over, Arg, Drop, IterFree, FreeArray}
+use Rattle.host_imports.specs.declared.import.Listing.TheVariants.{Sprintf, Print, Printf}
 use Rattle.module_limits.specs.Limits.{HaveWords, HoldsWords, PassesALimit}
 use Rattle.module_limits.specs.Limits as limit
 use Rattle.module_limits.specs.Size.{data_size, global_size, module_size}

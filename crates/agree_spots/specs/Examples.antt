@@ -9,7 +9,7 @@ use Rattle.world_core.specs.WorldState.{Standard, Outside, Source, absent, puts}
 use Rattle.world_core.specs.declared.world.Ending.TheVariants.{End}
 use Rattle.sem_primitives.specs.Jobs.{JobForm}
 use Rattle.awk_tokens.specs.Words.{keywords, builtins, left_out_words}
-use Rattle.awk_resolve.specs.Kinds.{special_arrays, special_scalars}
+use Rattle.awk_kinds.specs.Kinds.{special_arrays, special_scalars}
 use Rattle.awk_grammar.specs.Item as item
 use Rattle.awk_grammar.specs.Item.{Item}
 use Rattle.awk_grammar.specs.Stmt as stmt
@@ -24,7 +24,8 @@ use Rattle.sem_scripts.specs.Statements.{loop, over_keys, plain_done, done_by}
 use Rattle.agree_spots.specs.Marked.{Marks, done_marked, all_marked, marked_called, items_marked, begun_marked, ended_marked, marked_run}
 use Rattle.agree_spots.specs.Spots.{Part, Whole, First, Looping, Between, Testing, Unless, GivesUp, Leaves, PatternPart, Asked, Unmet, Opening, Already, FirstTest, Opens, StaysClosed, Inside, Entered, LastTest, Closes, StaysOpen, Spot, Of, OfPattern}
 
--- B: block, E: empty, S: plain, I: `if`, W: `while`, D: `do`, F: `for`, K: `for` over keys, J: `break`, `continue`, `next` and `nextfile`, R: `return` and `exit`
+-- B: block, E: empty, S: plain, I: `if`, W: `while`, D: `do`, F: `for`, K: `for` over keys, J: `break`, `continue`, `next` and `nextfile`, R:
+-- `return` and `exit`
 abbrev statement_letter : Stmt → List ℕ
 statement_letter (stmt.Block ss) = codes "B"
 statement_letter stmt.Empty = codes "E"
@@ -94,9 +95,11 @@ less a b = tree.Bin (tree.Other (token.Compare token.Less)) a b
 -- BEGIN { for (i = 0; i < 2; i++) if (i) n = f(i); while (1 < n) n--; do n++; while (n < 3) }
 abbrev loops : List Item
 loops =
-    item.Function (codes "f") ((codes "x") ∷ []) (stmt.And (stmt.Leave stmt.Return (Some (tree.Bin (tree.Add token.Plus) (name (codes "x")) (number (codes "1"))))) stmt.NoStmt)
+    item.Function (codes "f") ((codes "x") ∷ []) (stmt.And
+    (stmt.Leave stmt.Return (Some (tree.Bin (tree.Add token.Plus) (name (codes "x")) (number (codes "1"))))) stmt.NoStmt)
     ∷ item.Begin
-    (stmt.And (stmt.For (Some (set (codes "i") (number (codes "0")))) (Some (less (name (codes "i")) (number (codes "2")))) (Some (stmt.Eval (tree.Post token.Increment (name (codes "i")))))
+    (stmt.And (stmt.For (Some (set (codes "i") (number (codes "0")))) (Some (less (name (codes "i")) (number (codes "2"))))
+    (Some (stmt.Eval (tree.Post token.Increment (name (codes "i")))))
     (stmt.If (name (codes "i")) (stmt.Simple (set (codes "n") (tree.Call (codes "f") (tree.Then (name (codes "i")) tree.NoTree))))))
     (stmt.And (stmt.While (less (number (codes "1")) (name (codes "n"))) (stmt.Simple (stmt.Eval (tree.Post token.Decrement (name (codes "n"))))))
     (stmt.And (stmt.Do (stmt.Simple (stmt.Eval (tree.Post token.Increment (name (codes "n"))))) (less (name (codes "n")) (number (codes "3")))) stmt.NoStmt)))
@@ -113,14 +116,16 @@ ranges =
     ∷ item.Always (stmt.And (stmt.Simple (stmt.Eval (tree.Post token.Increment (name (codes "n"))))) stmt.NoStmt)
     ∷ []
 
-pub in_ranges : marked_run letters (resolved ranges) (setting_of no_job (reading (codes "a\nb\nc\na\n")) empty) 40 ≡ Ended 0 (puts Standard (codes "pofxi-BSpof(ielyBJpoaiel)BJpofxi-BS"))
+pub in_ranges : marked_run letters (resolved ranges) (setting_of no_job (reading (codes "a\nb\nc\na\n")) empty) 40
+    ≡ Ended 0 (puts Standard (codes "pofxi-BSpof(ielyBJpoaiel)BJpofxi-BS"))
 unfolding special_arrays special_scalars spend_all asked value_of values_of key_of place_of passed truncated_of applied loop over_keys plain_done done_by done_marked all_marked marked_called items_marked begun_marked ended_marked first_assigned records_done numeral_at sign_at fraction_at exponent_at numerator denominator digits unescaped escaped octal keywords builtins left_out_words table sign_of
 in_ranges = refl
 
 -- { n++; nextfile; n = 0 }, on two records: the second is given up
 abbrev next_files : List Item
 next_files =
-    item.Always (stmt.And (stmt.Simple (stmt.Eval (tree.Post token.Increment (name (codes "n"))))) (stmt.And (stmt.Jumping stmt.NextFile) (stmt.And (stmt.Simple (set (codes "n") (number (codes "0")))) stmt.NoStmt)))
+    item.Always (stmt.And (stmt.Simple (stmt.Eval (tree.Post token.Increment (name (codes "n")))))
+    (stmt.And (stmt.Jumping stmt.NextFile) (stmt.And (stmt.Simple (set (codes "n") (number (codes "0")))) stmt.NoStmt)))
     ∷ []
 
 pub in_next_files : marked_run letters (resolved next_files) (setting_of no_job (reading (codes "a\nb\n")) empty) 40 ≡ Ended 0 (puts Standard (codes "BSJ/>"))

@@ -1,5 +1,6 @@
--- The meaning of a script with marks: the meaning of statements, items and calls, by cases on the script's tree, where each execution of a statement marks the spot of the statement once, as it is
--- begun. What a statement does in several steps marks a spot for each of them. A mark is a change to the output. Where nothing is marked this is the meaning of scripts, to the letter.
+-- The meaning of a script with marks: the meaning of statements, items and calls, by cases on the script's tree, where each execution of a statement
+-- marks the spot of the statement once, as it is begun. What a statement does in several steps marks a spot for each of them. A mark is a change to
+-- the output. Where nothing is marked this is the meaning of scripts, to the letter.
 use Rattle.std.specs.Prelude.{ℕ, zero, suc, ◌+◌, true, false, if◌then◌else◌, List, [], ◌∷◌, map, Option, Some, None}
 use Rattle.world_core.specs.WorldState.{Action}
 use Rattle.sem_primitives.specs.declared.table.Primitive.TheVariants as row
@@ -103,7 +104,8 @@ module _ (marks : Marks) (scope : Scope) (n : ℕ) (calls : Calls) where
 
   -- and where it is open, it closes if the second is
   abbrev pub closes_marked : Home → ℕ → Tree → Doing (Unit {0})
-  closes_marked home i u = asking home LastTest >> tested scope n calls u >>= λ b. if b then (asking home Closes >> change (with_range i false)) else asking home StaysOpen
+  closes_marked home i u = asking home LastTest >> tested scope n calls u >>= λ b. if b then (asking home Closes >> change (with_range i false)) else
+      asking home StaysOpen
 
   -- an action where its pattern is met, which is the i-th range if it is one
   abbrev pub where_marked : Home → ℕ → Pattern → Doing Flow → Doing Flow

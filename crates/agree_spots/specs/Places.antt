@@ -1,5 +1,6 @@
--- The place that each spot of a script has in the script's module: the code that the module has for the step that is begun there, with what comes after it in its block. The steps are those of the
--- script's translation, with constants computed and names in their lanes. `module_of` has this code where it has the step (lower_model's `step_emitted`), so this page goes from the outside to the inside of a statement as it does.
+-- The place that each spot of a script has in the script's module: the code that the module has for the step that is begun there, with what comes
+-- after it in its block. The steps are those of the script's translation, with constants computed and names in their lanes. `module_of` has this code
+-- where it has the step (lower_model's `step_emitted`), so this page goes from the outside to the inside of a statement as it does.
 use Rattle.std.specs.Prelude.{ℕ, zero, suc, ◌+◌, true, false, if◌then◌else◌, List, [], ◌∷◌, Option, Some, None, is_some}
 use Rattle.wasm_types.specs.Syntax.{Instructions, Done}
 use Rattle.wasm_types.specs.declared.instr.Simple.TheVariants.{Br}
@@ -28,8 +29,8 @@ use Rattle.lower_model.specs.Small.{does as instruction}
 use Rattle.lower_model.specs.Statements.{step_emitted, steps_emitted}
 use Rattle.agree_spots.specs.Spots.{Frame, Before, Within, AfterElse, Home, OfBegin, OfEnd, OfRecord, OfFunction, Part, First, Looping, Between, Testing, Unless, GivesUp, Leaves, PatternPart, Asked, Unmet, Opening, Already, FirstTest, Opens, StaysClosed, Inside, Entered, LastTest, Closes, StaysOpen, Spot, Of, OfPattern}
 
--- Where code stands in a function: so many iterators are in use, and so many labels are between it and the function's exit, the place where `break` goes, and the one where `continue` goes; then what
--- comes after it in its block.
+-- Where code stands in a function: so many iterators are in use, and so many labels are between it and the function's exit, the place where `break`
+-- goes, and the one where `continue` goes; then what comes after it in its block.
 pub record Position : Type 0 where
   pub iterators : ℕ
   pub out : ℕ
@@ -48,7 +49,14 @@ aside p = record { iterators = p.iterators; out = suc p.out; breaking = suc p.br
 abbrev pub met : Code → Position → Position
 met e p =
     if is_some (pair_in e)
-    then record { iterators = p.iterators; out = suc (suc p.out); breaking = suc (suc p.breaking); continuing = suc (suc p.continuing); after = instruction (Br 1) Done }
+    then record {
+      iterators = p.iterators;
+      out = suc (suc p.out);
+      breaking = suc (suc p.breaking);
+      continuing = suc
+          (suc p.continuing);
+      after = instruction (Br 1) Done;
+    }
     else aside p
 
 -- between the rounds of a loop, before the code that goes back
@@ -224,7 +232,8 @@ code_after script (OfFunction f) = routine_rest (bases_at script (OfFunction f))
 code_after script home = out_of_part
 
 abbrev pub outermost_in : Resolved → Home → Position
-outermost_in script home = outermost (steps_emitted (layout_at script home) (final_steps (slots_at (lanes_of script) home) (later script home)) zero zero zero zero (code_after script home))
+outermost_in script home = outermost (steps_emitted (layout_at script home)
+    (final_steps (slots_at (lanes_of script) home) (later script home)) zero zero zero zero (code_after script home))
 
 abbrev pub pattern_of : Home → Option Pattern
 pattern_of (OfRecord i p ss items) = p
@@ -232,16 +241,19 @@ pattern_of home = None
 
 -- where an action stands, or the statements of a function
 abbrev pub start_in : Resolved → Home → Position
-start_in script home = after_pattern (layout_at script home) (slots_at (lanes_of script) home) (texts_of_script script) (scope_at script home) (pattern_of home) (outermost_in script home)
+start_in script home = after_pattern (layout_at script home) (slots_at (lanes_of script) home) (texts_of_script script) (scope_at script home)
+    (pattern_of home) (outermost_in script home)
 
 -- THE PLACE OF A SPOT
 abbrev pub place_of : Resolved → Home → Spot → Instructions
 place_of script home (Of s part w) =
     let y = layout_at script home in
     let slots = slots_at (lanes_of script) home in
-    part_place y slots (texts_of_script script) (scope_at script home) s part (position y slots (texts_of_script script) (scope_at script home) (start_in script home) w)
+    part_place y slots (texts_of_script script) (scope_at script home) s part
+    (position y slots (texts_of_script script) (scope_at script home) (start_in script home) w)
 place_of script (OfRecord i p ss items) (OfPattern part) =
     let home = OfRecord i p ss items in
     let slots = slots_at (lanes_of script) home in
-    pattern_place (layout_at script home) slots (texts_of_script script) (top script) i p (final slots (Block (steps_code (texts_of_script script) (top script) ss))) part (outermost_in script home)
+    pattern_place (layout_at script home) slots (texts_of_script script) (top script) i p
+    (final slots (Block (steps_code (texts_of_script script) (top script) ss))) part (outermost_in script home)
 place_of script home (OfPattern part) = Done

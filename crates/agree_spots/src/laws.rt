@@ -13,7 +13,8 @@ ghost use Rattle.agree_spots.specs.Probed.{probed_script};
 
 /// With nothing marked a script does what it does.
 pub fn scripts_without_marks()
-    ensures { (script : Resolved) (s : Setting) (turns : ℕ) → marked_run no_marks script s turns ≡ resolved_run script s turns }
+    ensures { (script : Resolved) (s : Setting) (turns : ℕ) → marked_run no_marks script s turns
+        ≡ resolved_run script s turns }
 {}
 
 /// A script's code notes the places of the script's spots as the script passes them.
@@ -25,5 +26,6 @@ pub fn spots_have_places()
 /// A run of a script's module passes the places of the spots that the script passes, as often and in the same order, and among the same actions. So each execution
 /// of a statement by the meaning of scripts passes the statement's place once.
 pub fn statements_are_passed()
-    ensures { (script : Resolved) → IsSorted (final_program script) → Passes (probed_script script) (module_of (final_program script)) }
+    ensures { (script : Resolved) → IsSorted (final_program script)
+        → Passes (probed_script script) (module_of (final_program script)) }
 {}

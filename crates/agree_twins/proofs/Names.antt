@@ -2,12 +2,12 @@
 use Rattle.std.proofs.Common.{◌≡◌, ℕ, Bool, true, false, ◌||◌, List, [], ◌∷◌, Some, None, refl, ap, ◌∙◌}
 use Rattle.std.specs.Prelude.{map, not, codes, if◌then◌else◌, is_some, slice_get}
 use Rattle.awk_tokens.specs.Words.{reserved_word_of}
-use Rattle.awk_resolve.specs.Kinds.{has_name, same_name, special_arrays, special_scalars}
+use Rattle.awk_kinds.specs.Kinds.{has_name, same_name, special_arrays, special_scalars}
 use Rattle.sem_primitives.specs.declared.constants.Special.{Special}
 use Rattle.sem_primitives.specs.declared.constants.Special.TheVariants.{Argc, Convfmt, Filename, Fnr, Fs, Nf, Nr, Ofmt, Ofs, Ors, Rlength, Rs, Rstart, Subsep}
 use Rattle.sem_primitives.specs.Constants.{special_number, specials}
 use Rattle.sem_primitives.specs.Assignments.{is_name, named, special_name, takes_none}
-use Rattle.sem_scripts.specs.Names.{is_special_array, special_array, special_in, special_named, special_names}
+use Rattle.sem_scripts.specs.Names.{is_special_array, special_array, special_in, special_named}
 use Rattle.agree_twins.proofs.Words.{same_turned}
 
 pub each : (s : Special) → slice_get specials (special_number s) ≡ Some s
@@ -32,9 +32,6 @@ scalars = refl
 
 abbrev entries : List Special → List (List ℕ × Special)
 entries ss = map (λ s. (special_name s, s)) ss
-
-pub meaning : special_names ≡ entries specials
-meaning = refl
 
 found : (ss : List Special) (name : List ℕ) → special_in (entries ss) name ≡ named name ss
 found [] name = refl

@@ -1,7 +1,7 @@
 -- Two texts are the same, in either order.
 use Rattle.std.proofs.Common.{◌≡◌, ℕ, Bool, true, false, List, refl, sym}
 use Rattle.std.specs.Cmp.Lexicographic.{bytes_decides}
-use Rattle.awk_resolve.specs.Kinds.{same_name}
+use Rattle.awk_kinds.specs.Kinds.{same_name}
 
 pub same_truth : (a b : Bool) → (a ≡ true → b ≡ true) → (b ≡ true → a ≡ true) → a ≡ b
 same_truth true true f g = refl

@@ -6,7 +6,7 @@ ghost use Rattle.awk_values.specs.declared.fault.Fault.{Fault};
 ghost use Rattle.awk_values.specs.declared.value.Value.{Value};
 ghost use Rattle.awk_values.specs.declared.value.Value.TheVariants.{Uninit};
 ghost use Rattle.ere_syntax.specs.Bracket.{IsEscape, Letter, Octal, escape_value};
-ghost use Rattle.awk_resolve.specs.Kinds.{has_name, special_arrays, special_scalars};
+ghost use Rattle.awk_kinds.specs.Kinds.{has_name, special_arrays, special_scalars};
 ghost use Rattle.sem_primitives.specs.declared.constants.Special.{Special};
 ghost use Rattle.sem_primitives.specs.Constants.{special_number, specials};
 ghost use Rattle.sem_primitives.specs.Numbers.{Number};
@@ -14,7 +14,7 @@ ghost use Rattle.sem_primitives.specs.SharedState.{Pairs};
 ghost use Rattle.sem_primitives.specs.FieldMeaning.{field_number};
 ghost use Rattle.sem_primitives.specs.ArrayMeaning.{element, stored, without};
 ghost use Rattle.sem_primitives.specs.Assignments.{is_name, named, special_name, takes_none};
-ghost use Rattle.sem_scripts.specs.Names.{is_special_array, special_array, special_named, special_names};
+ghost use Rattle.sem_scripts.specs.Names.{is_special_array, special_array, special_named};
 ghost use Rattle.sem_scripts.specs.Steps.{field_checked};
 ghost use Rattle.host_arrays.specs.Pairs.{created, delete_pair, get_pair, set_pair};
 
@@ -22,10 +22,11 @@ ghost use Rattle.host_arrays.specs.Pairs.{created, delete_pair, get_pair, set_pa
 pub fn special_names_agree()
     ensures each { (s : Special) → slice_get specials (special_number s) ≡ Some s }
     ensures scalars { special_scalars ≡ map special_name specials }
-    ensures meaning { special_names ≡ map (λ s. (special_name s, s)) specials }
     ensures named { (name : List ℕ) → special_named name ≡ named name specials }
-    ensures arrays { (name : List ℕ) → is_special_array (special_array name) ≡ has_name special_arrays name }
-    ensures assigned { (name : List ℕ) → takes_none name ≡ (not (is_name name) || (is_some (reserved_word_of name) || has_name special_arrays name)) }
+    ensures arrays { (name : List ℕ) → is_special_array (special_array name)
+        ≡ has_name special_arrays name }
+    ensures assigned { (name : List ℕ) → takes_none name ≡ (not (is_name name)
+        || (is_some (reserved_word_of name) || has_name special_arrays name)) }
 {}
 
 /// A backslash and what follows it stand for the same byte in a string and in a regular expression. Where no escape is meant a string keeps the
@@ -42,14 +43,18 @@ pub fn escapes_agree()
 /// What a table of arrays does with the pairs of an array is what the rows do with them.
 pub fn arrays_agree()
     ensures got { (key : List ℕ) (pairs : Pairs) → get_pair key pairs ≡ element key pairs }
-    ensures put { (key : List ℕ) (v : Value) (pairs : Pairs) → set_pair key v pairs ≡ stored key v pairs }
+    ensures put { (key : List ℕ) (v : Value) (pairs : Pairs) → set_pair key v pairs
+        ≡ stored key v pairs }
     ensures deleted { (key : List ℕ) (pairs : Pairs) → delete_pair key pairs ≡ without key pairs }
-    ensures made { (key : List ℕ) (pairs : Pairs) → element key pairs ≡ None → created key pairs ≡ stored key Uninit pairs }
-    ensures there { (key : List ℕ) (v : Value) (pairs : Pairs) → element key pairs ≡ Some v → created key pairs ≡ pairs }
+    ensures made { (key : List ℕ) (pairs : Pairs) → element key pairs ≡ None → created key pairs
+        ≡ stored key Uninit pairs }
+    ensures there { (key : List ℕ) (v : Value) (pairs : Pairs) → element key pairs ≡ Some v
+        → created key pairs ≡ pairs }
 {}
 
 /// The number of a field that is assigned is checked as that of a field that is read.
 pub fn field_numbers_agree()
     ensures taken { (n : Number) (k : ℕ) → field_number n.number ≡ Ok k → field_checked n ≡ Ok n }
-    ensures refused { (n : Number) (fault : Fault) → field_number n.number ≡ Err fault → field_checked n ≡ Err fault }
+    ensures refused { (n : Number) (fault : Fault) → field_number n.number ≡ Err fault
+        → field_checked n ≡ Err fault }
 {}

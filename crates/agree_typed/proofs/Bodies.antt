@@ -13,7 +13,7 @@ use Rattle.mid_program.specs.Sorted.{calls_of, context_of, kinds_of, has_kind, p
 use Rattle.lower_model.specs.Functions.{layout_of}
 use Rattle.lower_model.specs.Places.{Bases, kind_type, steps_room, steps_iterators, steps_arrays}
 use Rattle.lower_model.specs.Statements.{steps_emitted, temporaries_emptied, iterators_emptied, arrays_emptied, all_emptied, temporaries_swept, iterators_swept, arrays_swept, swept, left_swept, has_functions, parameters_dropped, routine_body, started, declared, declared_kind, names_declared, routines_declared, names_made, goes_on, record_done, records_read, part_done, before_parts, main_body}
-use Rattle.lower_model.specs.declared.import.Import.TheVariants.{Of, Drop, IterFree, FreeArray}
+use Rattle.host_imports.specs.declared.import.Import.TheVariants.{Of, Drop, IterFree, FreeArray}
 use Rattle.agree_typed.proofs.Singles.{Stack, Labels, Exit, inner, nearest, called, get, put, read, write, word, long, compare, test, convert, leave, leave_if, blocked, looped, branched}
 use Rattle.agree_typed.proofs.Standing.{Stands}
 use Rattle.agree_typed.proofs.Pieces.{one_of, emptied_ok, let_go_ok, number_is_ok, kept_code_ok, kept_number_ok}

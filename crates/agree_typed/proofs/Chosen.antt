@@ -7,12 +7,12 @@ use Rattle.std.proofs.lemmas.List.Elements.{All-cons, All-nil}
 use Rattle.sem_primitives.specs.declared.table.Primitive.TheVariants as row
 use Rattle.mid_program.specs.Mid.{Program}
 use Rattle.lower_model.specs.Emission.{function_number}
-use Rattle.lower_model.specs.Imports.{imports, import_number, import_at}
+use Rattle.host_imports.specs.Imports.{imports, import_number, import_at}
 use Rattle.lower_model.specs.Machine.{Callee}
 use Rattle.lower_model.specs.Modules.{all_callees, any_calls, called_from, called_imports, imports_of, chosen, new_number}
-use Rattle.lower_model.specs.declared.import.Import.{Import}
-use Rattle.lower_model.specs.declared.import.Import.TheVariants.{Of, Over}
-use Rattle.lower_model.specs.declared.import.Listing.TheVariants.{Sprintf}
+use Rattle.host_imports.specs.declared.import.Import.{Import}
+use Rattle.host_imports.specs.declared.import.Import.TheVariants.{Of, Over}
+use Rattle.host_imports.specs.declared.import.Listing.TheVariants.{Sprintf}
 
 -- what is chosen, and all that comes after, has its new number
 chosen_there : {A : Type 0} → (bs : List Bool) (xs ys : List A) (n : ℕ) → length bs ≡ length xs → get_or bs n true ≡ true →

@@ -15,7 +15,7 @@ use Rattle.mid_program.specs.Sorted.{context_of, calls_of, fits, fit_row, fit_ca
 use Rattle.lower_model.specs.Emission.{emitted, all_emitted, performed, field_in, field_or, left_over, sequence_closed, keeping_closed, bound_read, text_let_go}
 use Rattle.lower_model.specs.Functions.{layout_of}
 use Rattle.lower_model.specs.Places.{Bases, room, rooms, arrays_in, arrays_among, made_in}
-use Rattle.lower_model.specs.declared.import.Import.TheVariants.{Of, Drop}
+use Rattle.host_imports.specs.declared.import.Import.TheVariants.{Of, Drop}
 use Rattle.lower_model.proofs.HostCalls.{operation_plain}
 use Rattle.agree_typed.proofs.Singles.{Stack, Labels, Exit, inner, called, get, put, read, word, long, test, convert, branched}
 use Rattle.agree_typed.proofs.Standing.{Stands}

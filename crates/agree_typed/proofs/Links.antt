@@ -11,12 +11,12 @@ use Rattle.wasm_model.specs.Machines.{agree, same_signature}
 use Rattle.wasm_model.proofs.Types.{decided}
 use Rattle.mid_program.specs.Mid.{Routine, Program}
 use Rattle.lower_model.specs.Functions.{texts_of, routine_callee, main_callee}
-use Rattle.lower_model.specs.Imports.{import_number, import_name, import_type, module_name}
+use Rattle.host_imports.specs.Imports.{import_number, import_name, import_type, module_name}
 use Rattle.lower_model.specs.Modules.{all_callees, imports_of, callee_type, imported_from, pages_for, module_of}
 use Rattle.lower_model.specs.Places.{memory_of}
-use Rattle.lower_model.specs.declared.import.Import.{Import}
-use Rattle.lower_model.specs.declared.import.Import.TheVariants.{Of, Over}
-use Rattle.lower_model.specs.declared.import.Listing.TheVariants.{Sprintf}
+use Rattle.host_imports.specs.declared.import.Import.{Import}
+use Rattle.host_imports.specs.declared.import.Import.TheVariants.{Of, Over}
+use Rattle.host_imports.specs.declared.import.Listing.TheVariants.{Sprintf}
 use Rattle.agree_typed.specs.Finds.{table_finds}
 use Rattle.agree_typed.proofs.Places.{there_behind}
 use Rattle.agree_typed.proofs.Numbers.{callee_typed}

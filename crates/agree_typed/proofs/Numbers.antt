@@ -7,10 +7,10 @@ use Rattle.std.proofs.lemmas.Option.{slice_get_past}
 use Rattle.wasm_types.specs.Syntax.{Signature, ImportForm, FuncForm}
 use Rattle.wasm_types.specs.Typing.{function_types, callee_in}
 use Rattle.mid_program.specs.Mid.{Program}
-use Rattle.lower_model.specs.Imports.{imports, import_type}
+use Rattle.host_imports.specs.Imports.{imports, import_type}
 use Rattle.lower_model.specs.Machine.{Callee}
 use Rattle.lower_model.specs.Modules.{all_callees, any_calls, called_imports, imports_of, new_number, callee_type, imported_from, functions_from, module_of}
-use Rattle.lower_model.specs.declared.import.Import.{Import}
+use Rattle.host_imports.specs.declared.import.Import.{Import}
 use Rattle.agree_typed.proofs.Places.{all_types}
 use Rattle.agree_typed.proofs.Chosen.{chosen_map, renumbered_there}
 

@@ -19,11 +19,11 @@ use Rattle.mid_program.specs.declared.mid.Arithmetic.{Arithmetic}
 use Rattle.mid_program.specs.declared.mid.Arithmetic.TheVariants as inline
 use Rattle.mid_program.specs.Mid.{Kind, Program, Form, Answered, Bare, Perhaps}
 use Rattle.lower_model.specs.Arithmetic.{out_of_range, ranged, factors_differ, times, unless_zero, divided, unless_broken, is_value, may_be_text, calculated, field_checked, values_compared, zeroed_if, numbers_compared, texts_beside, bare_compared, compared}
-use Rattle.lower_model.specs.Imports.{import_type, import_number, result_of}
+use Rattle.host_imports.specs.Imports.{import_type, import_number, result_of}
 use Rattle.lower_model.specs.Places.{Bases}
 use Rattle.lower_model.specs.Small.{moved_out, moved, emptied, let_go, copied, copied_if_any, fail_if, number_is, n, kept_code, kept_value, kept_number, kept_done, kept, boxed_number, boxed_perhaps, to_value, zeroed, code_number, number_of_value, to_number, converted, not_zero, truth, unused, released, number_copied, moved_from, copied_from, bound_from}
-use Rattle.lower_model.specs.declared.import.Import.{Import}
-use Rattle.lower_model.specs.declared.import.Import.TheVariants.{Of, Drop}
+use Rattle.host_imports.specs.declared.import.Import.{Import}
+use Rattle.host_imports.specs.declared.import.Import.TheVariants.{Of, Drop}
 use Rattle.lower_model.proofs.Answers.{IsPlain}
 use Rattle.agree_typed.proofs.Singles.{Stack, Labels, Exit, Reads, Writes, reads_local, writes_local, called, gives, takes, get, put, tee, word, long, test, compare, binary, convert, discard, inner, leave, leave_if, branched}
 use Rattle.agree_typed.proofs.Standing.{Stands}

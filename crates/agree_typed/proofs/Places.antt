@@ -13,14 +13,14 @@ use Rattle.mid_program.specs.Mid.{Kind, Boxed, Unboxed, Many, Routine, Program, 
 use Rattle.mid_program.specs.Sorted.{kinds_of, calls_of, has_kind}
 use Rattle.lower_model.specs.Emission.{function_number}
 use Rattle.lower_model.specs.Functions.{routine_callee, main_callee}
-use Rattle.lower_model.specs.Imports.{imports, import_number, import_type}
+use Rattle.host_imports.specs.Imports.{imports, import_number, import_type}
 use Rattle.lower_model.specs.Machine.{Callee}
 use Rattle.lower_model.specs.Modules.{all_callees, callee_type, globals_of, word_global, long_global, name_globals}
 use Rattle.lower_model.specs.Places.{Bases, kind_type, local_types, temporary_types, handle_types, range_global, handle_global, number_global, answer_local, handle_local, number_local, iterator_local, array_local}
 use Rattle.lower_model.specs.Small.{minus_one, least}
-use Rattle.lower_model.specs.declared.import.Import.{Import}
-use Rattle.lower_model.specs.declared.import.Import.TheVariants.{Of, Over}
-use Rattle.lower_model.specs.declared.import.Listing.TheVariants.{Sprintf}
+use Rattle.host_imports.specs.declared.import.Import.{Import}
+use Rattle.host_imports.specs.declared.import.Import.TheVariants.{Of, Over}
+use Rattle.host_imports.specs.declared.import.Listing.TheVariants.{Sprintf}
 use Rattle.agree_typed.proofs.Standing.{Stands, routine_type}
 
 -- Lists that are put together.

@@ -18,10 +18,10 @@ use Rattle.mid_program.specs.Mid.{Kind, Boxed, Unboxed, Many, Program, Code, Do,
 use Rattle.mid_program.specs.Sorted.{context_of, is_array_place, fits, fit_row, is_given, fit_call, is_constant, is_kept, keeps_well, are_missing, sorted, all_sorted, arrays_among as count_arrays}
 use Rattle.lower_model.specs.Emission.{array_meant, all_converted, one_pushed, all_pushed, all_boxed, all_appended, listed_asked, all_given, one_given, all_given_pushed, all_freed}
 use Rattle.lower_model.specs.Functions.{layout_of}
-use Rattle.lower_model.specs.Imports.{params_of, words_of}
+use Rattle.host_imports.specs.Imports.{params_of, words_of}
 use Rattle.lower_model.specs.Places.{Bases, room, rooms, kind_type, arrays_among, made_in}
-use Rattle.lower_model.specs.declared.import.Listing.TheVariants as listing
-use Rattle.lower_model.specs.declared.import.Import.TheVariants.{Over as OverLast, Arg, FreeArray}
+use Rattle.host_imports.specs.declared.import.Listing.TheVariants as listing
+use Rattle.host_imports.specs.declared.import.Import.TheVariants.{Over as OverLast, Arg, FreeArray}
 use Rattle.agree_typed.proofs.Singles.{Stack, Labels, Exit, called, get, tee, word}
 use Rattle.agree_typed.proofs.Standing.{Stands}
 use Rattle.agree_typed.proofs.Pieces.{moved_out_ok, kept_value_ok, kept_done_ok, to_value_ok, converted_ok}

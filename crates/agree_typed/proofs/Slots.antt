@@ -15,9 +15,9 @@ use Rattle.sem_scripts.specs.Names.{ArrayName, Numbered, Given}
 use Rattle.mid_program.specs.Sorted.{context_of, is_array_place, is_slot, kinds_of, arrays_among}
 use Rattle.lower_model.specs.Emission.{array_pushed, slot_read, handle_stored, value_stored, text_dropped, slot_set, assigned, assigned_by_number, pending_assigned, asked}
 use Rattle.lower_model.specs.Functions.{layout_of}
-use Rattle.lower_model.specs.Imports.{primitive_number}
+use Rattle.host_imports.specs.Imports.{primitive_number}
 use Rattle.lower_model.specs.Places.{Bases, handle_global, array_name}
-use Rattle.lower_model.specs.declared.import.Import.TheVariants.{Of, Drop}
+use Rattle.host_imports.specs.declared.import.Import.TheVariants.{Of, Drop}
 use Rattle.lower_model.proofs.Arrays.{array_named}
 use Rattle.agree_typed.proofs.Singles.{Stack, Labels, Exit, inner, nearest, variable, Writes, reads_local, writes_local, reads_global, writes_global, called, takes, get, put, tee, read, write, word, long, compare, convert, leave, looped, branched}
 use Rattle.agree_typed.proofs.Standing.{Stands, kind_below}

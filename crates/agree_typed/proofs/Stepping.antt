@@ -26,7 +26,7 @@ use Rattle.lower_model.proofs.Tallies.{Shape, tally_code, IsAdded, tally_is, tal
 use Rattle.lower_model.proofs.Updating.{added_code, added_is, added_sorted}
 use Rattle.lower_model.proofs.Watch.{Watch}
 use Rattle.lower_model.specs.Statements.{name_read, source_pushed, name_numbered, source_numbered, source_taken, sum_kept, sum_taken, summed_anyway, updated, element_numbered, element_given, tallied, remainder_taken, remainder_dropped, barely_dropped, plainly_dropped, quickly_dropped, left_unless_counted, left_unless_pair, left_unless, left_by, key_stored, iterator_left, step_emitted, steps_emitted}
-use Rattle.lower_model.specs.declared.import.Import.TheVariants.{Of, Drop, IterFree}
+use Rattle.host_imports.specs.declared.import.Import.TheVariants.{Of, Drop, IterFree}
 use Rattle.agree_typed.proofs.Singles.{Stack, Labels, Exit, inner, nearest, reads_global, writes_global, nothing, called, get, put, tee, read, write, word, long, binary, variable, compare, test, discard, leave, leave_if, blocked, looped, branched}
 use Rattle.agree_typed.proofs.Standing.{Stands, kind_below}
 use Rattle.agree_typed.proofs.Pieces.{moved_out_ok, emptied_ok, copied_ok, let_go_ok, fail_if_ok, number_is_ok, kept_number_ok, number_of_value_ok, to_value_ok, to_number_ok, truth_ok}
@@ -203,7 +203,7 @@ module _ {p : Program} {ks : List Kind} {b : Bases} {C : Context} (at : Stands p
     left_unless_counted_ok (Some q) e d out eq s h g x z r =
         let g1 = at.name_number q.name (kind_below (kinds_of p.globals) q.name Unboxed (counted_is p unwatched ks [] b 0 0 e q eq (and_parts (is_tested (form_of [] e)) (sorted (context_of p ks) [] e) s).1).kind) in
         read g1 (long (compare (branched (tested_ok e s h g (inner x) (test (leave_if (inner z) done)))
-        (word (read g1 (called (I32 ∷ []) (at.imported (Of row.Num)) (word (called (I32 ∷ (I32 ∷ [])) (at.imported (Of row.GetSpecial)) (called [] (at.imported (Of row.Compare)) (test (leave_if (inner z) done)))))))) r)))
+        (read g1 (word (called (I64 ∷ []) (at.imported (Of row.GetSpecial)) (called (I64 ∷ []) (at.imported (Of row.ToNum)) (compare (leave_if (inner z) done)))))) r)))
 
     left_unless_pair_ok : (o : Option Pair) (e : Code) (d out : ℕ) → pair_in e ≡ o → test_sorted (context_of p ks) e ≡ true → room e ≤ b.temporaries → arrays_in e ≤ b.arrays → Exit L d → Exit L out →
         CodeOk C L k [] rs → CodeOk C L (left_unless_pair (layout_of p b) o e d out k) [] rs

@@ -11,12 +11,12 @@ use Rattle.wasm_types.specs.declared.types.ValType.TheVariants.{I32}
 use Rattle.mid_program.specs.Mid.{Kind, Routine, Program}
 use Rattle.mid_program.specs.Sorted.{context_of, kinds_of, announced_names, all_differ, routines_sorted, parts_sorted, steps_sorted, is_sorted, IsSorted}
 use Rattle.lower_model.specs.Functions.{texts_of, routine_bases, main_bases, routine_callee, main_callee}
-use Rattle.lower_model.specs.Imports.{import_type}
+use Rattle.host_imports.specs.Imports.{import_type}
 use Rattle.lower_model.specs.Machine.{Callee}
 use Rattle.lower_model.specs.Modules.{all_callees, calls_in, any_calls, called_imports, imports_of, renumbered, callee_type, imported_from, functions_from, word_global, long_global, name_globals, globals_of, memory_for, pages_for, module_of}
 use Rattle.lower_model.specs.Places.{memory_of}
 use Rattle.lower_model.specs.Small.{minus_one, least}
-use Rattle.lower_model.specs.declared.import.Import.{Import}
+use Rattle.host_imports.specs.declared.import.Import.{Import}
 use Rattle.agree_typed.proofs.Bodies.{Enough, routine_body_ok, main_body_ok}
 use Rattle.agree_typed.proofs.Places.{there_behind, whole_context, stands}
 use Rattle.agree_typed.proofs.Renumbering.{renumbered_ok}

@@ -25,7 +25,8 @@ pub(crate) fn contained<'a>(
     requires room { left_depth < 4294967295 }
     requires depth { left_depth ≡ depth (view left.value) }
     ensures tree { Gives seen_tree result (contained_at (view left.value) (seen tokens.now)) }
-    ensures depth { IfOk result (λ x. (x.depth ≡ depth (view x.tree)) × (x.depth ≡ left_depth + 1)) }
+    ensures depth { IfOk result
+        (λ x. (x.depth ≡ depth (view x.tree)) × (x.depth ≡ left_depth + 1)) }
 {
     let (array, rest) = name(alloc, tokens)?;
     Ok(Parsed {
@@ -46,7 +47,8 @@ pub(crate) fn in_array<'a>(
 ) -> Result<Parsed<'a>, Refusal>
     requires room { above < 4294967295 }
     requires depth { above ≡ max (depth (view first.value)) (depths (views others.items)) }
-    ensures tree { Gives seen_tree result (in_array_at (view first.value) (views others.items) (seen tokens.now)) }
+    ensures tree { Gives seen_tree result
+        (in_array_at (view first.value) (views others.items) (seen tokens.now)) }
     ensures depth { IfOk result (λ x. (x.depth ≡ depth (view x.tree)) × (x.depth ≡ above + 1)) }
 {
     let (array, rest) = array_after(alloc, tokens)?;

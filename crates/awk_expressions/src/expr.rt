@@ -35,7 +35,8 @@ pub fn expression<'a>(
     tokens: &'a [Token<'a>],
 ) -> Result<Parsed<'a>, Refusal>
     requires room { limit < 4294967295 }
-    ensures tree { Gives seen_tree result (expr_at limit greater (view_mode mode) (seen tokens.now)) }
+    ensures tree { Gives seen_tree result
+        (expr_at limit greater (view_mode mode) (seen tokens.now)) }
     ensures depth { IfOk result (λ x. x.depth ≡ depth (view x.tree)) }
     ensures small { IfOk result (λ x. x.depth ≤ limit) }
 {
@@ -57,7 +58,8 @@ fn read_part<'a>(
     tokens: &'a [Token<'a>],
 ) -> Result<Part<'a>, Refusal>
     requires room { limit < 4294967295 }
-    ensures tree { Gives seen_part result (expr_at limit greater (view_mode mode) (seen tokens.now)) }
+    ensures tree { Gives seen_part result
+        (expr_at limit greater (view_mode mode) (seen tokens.now)) }
     ensures depth { IfOk result (λ x. x.depth ≡ depth (view x.tree.value)) }
     ensures small { IfOk result (λ x. x.depth ≤ limit) }
 {
@@ -87,7 +89,8 @@ fn chain<'a>(
     requires room { limit < 4294967295 }
     requires depth { first.depth ≡ depth (view first.tree) }
     requires small { first.depth ≤ limit }
-    ensures tree { Gives seen_tree result (climb (expr_at (limit - 1)) greater limit (length (seen first.entry.rest.now)) least (view first.entry.tree) (seen first.entry.rest.now)) }
+    ensures tree { Gives seen_tree result (climb (expr_at (limit - 1)) greater limit (length
+        (seen first.entry.rest.now)) least (view first.entry.tree) (seen first.entry.rest.now)) }
     ensures depth { IfOk result (λ x. x.depth ≡ depth (view x.tree)) }
     ensures small { IfOk result (λ x. x.depth ≤ limit) }
 {
@@ -120,7 +123,8 @@ fn extended<'a>(
     requires room { limit < 4294967295 }
     requires depth { left.depth ≡ depth (view left.tree) }
     requires small { left.depth ≤ limit }
-    ensures tree { Gives seen_tree result (extended_at limit greater (view left.entry.tree) (view_link link) (seen tokens.now)) }
+    ensures tree { Gives seen_tree result
+        (extended_at limit greater (view left.entry.tree) (view_link link) (seen tokens.now)) }
     ensures depth { IfOk result (λ x. x.depth ≡ depth (view x.tree)) }
     ensures small { IfOk result (λ x. x.depth ≤ limit) }
 {
@@ -151,7 +155,8 @@ fn linked<'a>(
     requires room { limit < 4294967294 }
     requires depth { left_depth ≡ depth (view left.value) }
     requires small { left_depth ≤ limit + 1 }
-    ensures tree { Gives seen_tree result (after (expr_at limit) greater (view left.value) (view_link link) (seen tokens.now)) }
+    ensures tree { Gives seen_tree result
+        (after (expr_at limit) greater (view left.value) (view_link link) (seen tokens.now)) }
     ensures depth { IfOk result (λ x. x.depth ≡ depth (view x.tree)) }
     ensures small { IfOk result (λ x. x.depth ≤ limit + 2) }
 {
@@ -178,7 +183,8 @@ fn binary<'a>(
     requires room { limit < 4294967294 }
     requires depth { left_depth ≡ depth (view left.value) }
     requires small { left_depth ≤ limit + 1 }
-    ensures tree { Gives seen_tree result (after (expr_at limit) greater (view left.value) (Joined (view_binary op)) (seen tokens.now)) }
+    ensures tree { Gives seen_tree result (after (expr_at limit) greater (view left.value)
+        (Joined (view_binary op)) (seen tokens.now)) }
     ensures depth { IfOk result (λ x. x.depth ≡ depth (view x.tree)) }
     ensures small { IfOk result (λ x. x.depth ≤ limit + 2) }
 {
@@ -205,7 +211,8 @@ fn assignment<'a>(
     requires room { limit < 4294967294 }
     requires depth { left_depth ≡ depth (view left.value) }
     requires small { left_depth ≤ limit + 1 }
-    ensures tree { Gives seen_tree result (after (expr_at limit) greater (view left.value) (Joined (Other (Assign (view_assign op)))) (seen tokens.now)) }
+    ensures tree { Gives seen_tree result (after (expr_at limit) greater (view left.value)
+        (Joined (Other (Assign (view_assign op)))) (seen tokens.now)) }
     ensures depth { IfOk result (λ x. x.depth ≡ depth (view x.tree)) }
     ensures small { IfOk result (λ x. x.depth ≤ limit + 2) }
 {
@@ -231,7 +238,8 @@ fn conditional<'a>(
     requires room { limit < 4294967294 }
     requires depth { condition_depth ≡ depth (view condition.value) }
     requires small { condition_depth ≤ limit + 1 }
-    ensures tree { Gives seen_tree result (conditional_at (expr_at limit) greater (view condition.value) (seen tokens.now)) }
+    ensures tree { Gives seen_tree result
+        (conditional_at (expr_at limit) greater (view condition.value) (seen tokens.now)) }
     ensures depth { IfOk result (λ x. x.depth ≡ depth (view x.tree)) }
     ensures small { IfOk result (λ x. x.depth ≤ limit + 2) }
 {
@@ -257,7 +265,8 @@ fn otherwise<'a>(
     requires room { limit < 4294967294 }
     requires depth { above ≡ max (depth (view condition.value)) (depth (view then.value)) }
     requires small { above ≤ limit + 1 }
-    ensures tree { Gives seen_tree result (otherwise_at (expr_at limit) greater (view condition.value) (view then.value) (seen tokens.now)) }
+    ensures tree { Gives seen_tree result (otherwise_at (expr_at limit) greater
+        (view condition.value) (view then.value) (seen tokens.now)) }
     ensures depth { IfOk result (λ x. x.depth ≡ depth (view x.tree)) }
     ensures small { IfOk result (λ x. x.depth ≤ limit + 2) }
 {
@@ -340,7 +349,8 @@ fn named<'a>(
     tokens: &'a [Token<'a>],
 ) -> Result<Parsed<'a>, Refusal>
     requires room { limit < 4294967295 }
-    ensures tree { Gives seen_tree result (indexed_by (expr_at limit) text.now (seen tokens.now) (index_at (seen tokens.now))) }
+    ensures tree { Gives seen_tree result
+        (indexed_by (expr_at limit) text.now (seen tokens.now) (index_at (seen tokens.now))) }
     ensures depth { IfOk result (λ x. x.depth ≡ depth (view x.tree)) }
     ensures small { IfOk result (λ x. x.depth ≤ limit + 1) }
 {
@@ -371,7 +381,8 @@ fn call<'a>(
     tokens: &'a [Token<'a>],
 ) -> Result<Parsed<'a>, Refusal>
     requires room { limit < 4294967295 }
-    ensures tree { Gives seen_tree result (call_by (expr_at limit) text.now (open_at (seen tokens.now))) }
+    ensures tree { Gives seen_tree result
+        (call_by (expr_at limit) text.now (open_at (seen tokens.now))) }
     ensures depth { IfOk result (λ x. x.depth ≡ depth (view x.tree)) }
     ensures small { IfOk result (λ x. x.depth ≤ limit + 1) }
 {
@@ -397,7 +408,8 @@ fn applied<'a>(
     tokens: &'a [Token<'a>],
 ) -> Result<Parsed<'a>, Refusal>
     requires room { limit < 4294967295 }
-    ensures tree { Gives seen_tree result (applied_by (expr_at limit) function (seen tokens.now) (open_at (seen tokens.now))) }
+    ensures tree { Gives seen_tree result
+        (applied_by (expr_at limit) function (seen tokens.now) (open_at (seen tokens.now))) }
     ensures depth { IfOk result (λ x. x.depth ≡ depth (view x.tree)) }
     ensures small { IfOk result (λ x. x.depth ≤ limit + 1) }
 {
@@ -468,7 +480,8 @@ fn in_list<'a>(
     requires room { limit < 4294967295 }
     requires depth { first_depth ≡ depth (view first.value) }
     requires small { first_depth ≤ limit }
-    ensures tree { Gives seen_tree result (in_list_at (expr_at limit) (view first.value) (seen tokens.now)) }
+    ensures tree { Gives seen_tree result
+        (in_list_at (expr_at limit) (view first.value) (seen tokens.now)) }
     ensures depth { IfOk result (λ x. x.depth ≡ depth (view x.tree)) }
     ensures small { IfOk result (λ x. x.depth ≤ limit + 1) }
 {
@@ -510,7 +523,9 @@ fn getline_into<'a>(
     requires room { limit < 4294967295 }
     requires depth { variable.depth ≡ depth (view variable.tree.value) }
     requires small { variable.depth ≤ limit }
-    ensures tree { Gives seen_tree result (from_by (expr_at limit) greater (Some (view variable.entry.tree.value)) (seen variable.entry.rest.now) (less_at (seen variable.entry.rest.now))) }
+    ensures tree { Gives seen_tree result
+        (from_by (expr_at limit) greater (Some (view variable.entry.tree.value))
+        (seen variable.entry.rest.now) (less_at (seen variable.entry.rest.now))) }
     ensures depth { IfOk result (λ x. x.depth ≡ depth (view x.tree)) }
     ensures small { IfOk result (λ x. x.depth ≤ limit + 1) }
 {
@@ -539,7 +554,8 @@ fn getline_line<'a>(
     tokens: &'a [Token<'a>],
 ) -> Result<Parsed<'a>, Refusal>
     requires room { limit < 4294967295 }
-    ensures tree { Gives seen_tree result (from_by (expr_at limit) greater None (seen tokens.now) (less_at (seen tokens.now))) }
+    ensures tree { Gives seen_tree result
+        (from_by (expr_at limit) greater None (seen tokens.now) (less_at (seen tokens.now))) }
     ensures depth { IfOk result (λ x. x.depth ≡ depth (view x.tree)) }
     ensures small { IfOk result (λ x. x.depth ≤ limit + 1) }
 {
@@ -599,7 +615,8 @@ fn unary<'a>(
     tokens: &'a [Token<'a>],
 ) -> Result<Parsed<'a>, Refusal>
     requires room { limit < 4294967295 }
-    ensures tree { Gives seen_tree result (unary_at (expr_at limit) greater (view_mode mode) (view_unary op) (seen tokens.now)) }
+    ensures tree { Gives seen_tree result
+        (unary_at (expr_at limit) greater (view_mode mode) (view_unary op) (seen tokens.now)) }
     ensures depth { IfOk result (λ x. x.depth ≡ depth (view x.tree)) }
     ensures small { IfOk result (λ x. x.depth ≤ limit + 1) }
 {
@@ -622,7 +639,8 @@ fn pre_step<'a>(
     tokens: &'a [Token<'a>],
 ) -> Result<Parsed<'a>, Refusal>
     requires room { limit < 4294967295 }
-    ensures tree { Gives seen_tree result (pre_at (expr_at limit) greater (view_step op) (seen tokens.now)) }
+    ensures tree { Gives seen_tree result
+        (pre_at (expr_at limit) greater (view_step op) (seen tokens.now)) }
     ensures depth { IfOk result (λ x. x.depth ≡ depth (view x.tree)) }
     ensures small { IfOk result (λ x. x.depth ≤ limit + 1) }
 {
@@ -646,7 +664,8 @@ fn marked<'a>(
     tokens: &'a [Token<'a>],
 ) -> Result<Parsed<'a>, Refusal>
     requires room { limit < 4294967295 }
-    ensures tree { Gives seen_tree result (first_at (expr_at limit) greater (view_mode mode) (mark_lexeme mark ∷ seen tokens.now)) }
+    ensures tree { Gives seen_tree result
+        (first_at (expr_at limit) greater (view_mode mode) (mark_lexeme mark ∷ seen tokens.now)) }
     ensures depth { IfOk result (λ x. x.depth ≡ depth (view x.tree)) }
     ensures small { IfOk result (λ x. x.depth ≤ limit + 1) }
 {
@@ -672,7 +691,8 @@ fn operand<'a>(
     tokens: &'a [Token<'a>],
 ) -> Result<Parsed<'a>, Refusal>
     requires room { limit < 4294967295 }
-    ensures tree { Gives seen_tree result (first_at (expr_at limit) greater (view_mode mode) (seen tokens.now)) }
+    ensures tree { Gives seen_tree result
+        (first_at (expr_at limit) greater (view_mode mode) (seen tokens.now)) }
     ensures depth { IfOk result (λ x. x.depth ≡ depth (view x.tree)) }
     ensures small { IfOk result (λ x. x.depth ≤ limit + 1) }
 {

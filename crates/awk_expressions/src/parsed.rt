@@ -42,7 +42,8 @@ pub struct ParsedList<'a> {
 /// What was read, in a box.
 pub(crate) fn boxed<'a>(alloc: Global, read: Parsed<'a>) -> Result<Part<'a>, Refusal>
     ensures tree { Gives seen_part result (Ok (seen_tree read.entry)) }
-    ensures depth { IfOk result (λ x. (x.tree.value ≡ read.entry.tree) × (x.depth ≡ read.entry.depth)) }
+    ensures depth { IfOk result
+        (λ x. (x.tree.value ≡ read.entry.tree) × (x.depth ≡ read.entry.depth)) }
 {
     let tree = Box::new(alloc, read.tree)?;
     Ok(Part {
@@ -97,7 +98,8 @@ pub(crate) fn fitted<'a>(
 ) -> Result<Parsed<'a>, Refusal>
     requires room { bare.depth < 4294967295 }
     requires depth { bare.depth ≡ depth (view bare.tree) }
-    ensures tree { Gives seen_tree result (fitted_at limit (view_mode mode) (seen_tree bare.entry)) }
+    ensures tree { Gives seen_tree result
+        (fitted_at limit (view_mode mode) (seen_tree bare.entry)) }
     ensures depth { IfOk result (λ x. x.depth ≡ depth (view x.tree)) }
     ensures small { IfOk result (λ x. x.depth ≤ limit) }
 {

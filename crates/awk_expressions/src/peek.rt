@@ -36,7 +36,8 @@ pub fn stopped(tokens: &[Token<'_>]) -> Refusal
 
 /// The tokens behind `,`.
 pub fn after_comma<'a>(tokens: &'a [Token<'a>]) -> Option<&'a [Token<'a>]>
-    ensures { MatchOption result (comma_at (seen tokens.now) ≡ None) (λ r. comma_at (seen tokens.now) ≡ Some (seen r.now)) }
+    ensures { MatchOption result (comma_at (seen tokens.now) ≡ None)
+        (λ r. comma_at (seen tokens.now) ≡ Some (seen r.now)) }
 {
     match tokens {
         [
@@ -52,7 +53,8 @@ pub fn after_comma<'a>(tokens: &'a [Token<'a>]) -> Option<&'a [Token<'a>]>
 
 /// The tokens behind `(`.
 pub(crate) fn after_open<'a>(tokens: &'a [Token<'a>]) -> Option<&'a [Token<'a>]>
-    ensures { MatchOption result (open_at (seen tokens.now) ≡ None) (λ r. open_at (seen tokens.now) ≡ Some (seen r.now)) }
+    ensures { MatchOption result (open_at (seen tokens.now) ≡ None)
+        (λ r. open_at (seen tokens.now) ≡ Some (seen r.now)) }
 {
     match tokens {
         [
@@ -68,7 +70,8 @@ pub(crate) fn after_open<'a>(tokens: &'a [Token<'a>]) -> Option<&'a [Token<'a>]>
 
 /// The tokens behind `[`.
 pub(crate) fn after_bracket<'a>(tokens: &'a [Token<'a>]) -> Option<&'a [Token<'a>]>
-    ensures { MatchOption result (index_at (seen tokens.now) ≡ None) (λ r. index_at (seen tokens.now) ≡ Some (seen r.now)) }
+    ensures { MatchOption result (index_at (seen tokens.now) ≡ None)
+        (λ r. index_at (seen tokens.now) ≡ Some (seen r.now)) }
 {
     match tokens {
         [
@@ -84,7 +87,8 @@ pub(crate) fn after_bracket<'a>(tokens: &'a [Token<'a>]) -> Option<&'a [Token<'a
 
 /// The tokens behind `<`.
 pub(crate) fn after_less<'a>(tokens: &'a [Token<'a>]) -> Option<&'a [Token<'a>]>
-    ensures { MatchOption result (less_at (seen tokens.now) ≡ None) (λ r. less_at (seen tokens.now) ≡ Some (seen r.now)) }
+    ensures { MatchOption result (less_at (seen tokens.now) ≡ None)
+        (λ r. less_at (seen tokens.now) ≡ Some (seen r.now)) }
 {
     match tokens {
         [
@@ -100,7 +104,8 @@ pub(crate) fn after_less<'a>(tokens: &'a [Token<'a>]) -> Option<&'a [Token<'a>]>
 
 /// The tokens behind `)`.
 pub fn after_close<'a>(tokens: &'a [Token<'a>]) -> Option<&'a [Token<'a>]>
-    ensures { MatchOption result (close_at (seen tokens.now) ≡ Err SyntaxFault) (λ r. close_at (seen tokens.now) ≡ Ok (seen r.now)) }
+    ensures { MatchOption result (close_at (seen tokens.now) ≡ Err SyntaxFault)
+        (λ r. close_at (seen tokens.now) ≡ Ok (seen r.now)) }
 {
     match tokens {
         [
@@ -200,7 +205,8 @@ pub fn name<'a>(
 
 /// A step, and the tokens behind it.
 pub(crate) fn step<'a>(tokens: &'a [Token<'a>]) -> Option<(StepOp, &'a [Token<'a>])>
-    ensures { MatchOption result (step_at (seen tokens.now) ≡ None) (λ r. step_at (seen tokens.now) ≡ Some (view_step r.0, seen r.1.now)) }
+    ensures { MatchOption result (step_at (seen tokens.now) ≡ None)
+        (λ r. step_at (seen tokens.now) ≡ Some (view_step r.0, seen r.1.now)) }
 {
     match tokens {
         [
@@ -285,7 +291,8 @@ pub(crate) fn link_left(link: Link) -> u8
 
 /// The operator that a punctuator is, where `greater` says whether `>` may be one.
 fn infix_of(greater: bool, mark: Punctuator) -> Option<Link>
-    ensures { MatchOption result (infix_link greater (mark_lexeme mark) ≡ None) (λ l. infix_link greater (mark_lexeme mark) ≡ Some (view_link l)) }
+    ensures { MatchOption result (infix_link greater (mark_lexeme mark) ≡ None)
+        (λ l. infix_link greater (mark_lexeme mark) ≡ Some (view_link l)) }
 {
     let link = match mark {
         Punctuator::Plus => Link::Binary(BinaryOp::Add),
@@ -347,7 +354,8 @@ fn begins_operand(token: &Token<'_>) -> bool
 }
 
 fn infix_at(greater: bool, token: &Token<'_>) -> Option<Link>
-    ensures { MatchOption result (infix_link greater (lexeme_of (spelled token.now)) ≡ None) (λ l. infix_link greater (lexeme_of (spelled token.now)) ≡ Some (view_link l)) }
+    ensures { MatchOption result (infix_link greater (lexeme_of (spelled token.now)) ≡ None)
+        (λ l. infix_link greater (lexeme_of (spelled token.now)) ≡ Some (view_link l)) }
 {
     match token.kind {
         TokenKind::Keyword(Keyword::In) => Some(Link::In),
@@ -362,7 +370,8 @@ pub(crate) fn next_link<'a>(
     greater: bool,
     tokens: &'a [Token<'a>],
 ) -> Option<(Link, &'a [Token<'a>])>
-    ensures { MatchOption result (link_at greater (seen tokens.now) ≡ None) (λ o. link_at greater (seen tokens.now) ≡ Some (view_link o.0, seen o.1.now)) }
+    ensures { MatchOption result (link_at greater (seen tokens.now) ≡ None)
+        (λ o. link_at greater (seen tokens.now) ≡ Some (view_link o.0, seen o.1.now)) }
 {
     let [first, rest @ ..] = tokens else {
         return None;

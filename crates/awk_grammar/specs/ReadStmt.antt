@@ -62,7 +62,8 @@ starts_plain ts = starts_expr ts
 
 -- two or more expressions in parentheses, not followed by `in`; the form without parentheses where there are none
 abbrev pub enclosed_at : Reader → List Token → Read (Tree × Trees)
-enclosed_at expr ts = open_here ts >>= λ us. expr true Whole us >>= λ x. comma_here x.1 >>= λ vs. list_at expr true vs >>= λ y. close_at y.1 >>= λ ws. if is_in ws then Err Syntax else Ok ((x.0, y.0), ws)
+enclosed_at expr ts = open_here ts >>= λ us. expr true Whole us >>= λ x. comma_here x.1 >>= λ vs. list_at expr true vs >>= λ y. close_at y.1
+    >>= λ ws. if is_in ws then Err Syntax else Ok ((x.0, y.0), ws)
 
 abbrev pub listed_at : Reader → List Token → Read Args
 listed_at expr ts = list_at expr false ts >>= λ x. Ok (Listed x.0, x.1)
@@ -148,7 +149,8 @@ keys_at _ = None
 
 abbrev pub for_by : Reader → StmtReader → List Token → Option (List ℕ × List ℕ × List Token) → Read Stmt
 for_by expr stmt ts (Some o) = stmt o.2 >>= λ x. Ok (ForIn o.0 o.1 x.0, x.1)
-for_by expr stmt ts None = maybe_plain_at expr ts >>= λ i. semicolon_at i.1 >>= λ us. maybe_at expr us >>= λ c. semicolon_at c.1 >>= λ vs. maybe_plain_at expr vs >>= λ p. close_at p.1 >>= λ ws. stmt ws >>= λ x. Ok (For i.0 c.0 p.0 x.0, x.1)
+for_by expr stmt ts None = maybe_plain_at expr ts >>= λ i. semicolon_at i.1 >>= λ us. maybe_at expr us >>= λ c. semicolon_at c.1
+    >>= λ vs. maybe_plain_at expr vs >>= λ p. close_at p.1 >>= λ ws. stmt ws >>= λ x. Ok (For i.0 c.0 p.0 x.0, x.1)
 
 abbrev pub for_at : Reader → StmtReader → List Token → Read Stmt
 for_at expr stmt ts = open_here ts >>= λ us. for_by expr stmt us (keys_at us)

@@ -212,4 +212,5 @@ fitting m x = if fits m x.0 then Ok x else Err Syntax
 
 unfoldable pub expr_at : ℕ → Bool → Mode → List Token → Read
 expr_at zero g m ts = Err TooDeep
-expr_at (suc d) g m ts = first_at (expr_at d) g m ts >>= λ x. fitting m (posted m x) >>= checked (suc d) (λ t us. climb (expr_at d) g (suc d) (length us) (floor m) t us)
+expr_at (suc d) g m ts = first_at (expr_at d) g m ts >>= λ x. fitting m (posted m x)
+    >>= checked (suc d) (λ t us. climb (expr_at d) g (suc d) (length us) (floor m) t us)

@@ -101,7 +101,8 @@ abbrev mutual
   print_stmt (IfElse c s t) = Key IfWord ∷ (Open ∷ (print c ++ (Close ∷ (print_stmt s ++ (Key ElseWord ∷ print_stmt t)))))
   print_stmt (While c s) = Key WhileWord ∷ (Open ∷ (print c ++ (Close ∷ print_stmt s)))
   print_stmt (Do s c) = Key DoWord ∷ (print_stmt s ++ (Key WhileWord ∷ (Open ∷ (print c ++ (Close ∷ [])))))
-  print_stmt (For i c p s) = Key ForWord ∷ (Open ∷ (print_maybe_plain i ++ (Semicolon ∷ (print_maybe c ++ (Semicolon ∷ (print_maybe_plain p ++ (Close ∷ print_stmt s)))))))
+  print_stmt (For i c p s) = Key ForWord ∷ (Open
+      ∷ (print_maybe_plain i ++ (Semicolon ∷ (print_maybe c ++ (Semicolon ∷ (print_maybe_plain p ++ (Close ∷ print_stmt s)))))))
   print_stmt (ForIn k a s) = Key ForWord ∷ (Open ∷ (Name k ∷ (InWord ∷ (Name a ∷ (Close ∷ print_stmt s)))))
   print_stmt (Jumping j) = jump_token j ∷ (Semicolon ∷ [])
   print_stmt (Leave l e) = leaving_token l ∷ (print_maybe e ++ (Semicolon ∷ []))

@@ -348,7 +348,8 @@ abbrev mutual
   IsWellFormed g (Unary p t) = IsWellFormed g t × (fits Factor t ≡ true)
   IsWellFormed g (Pre s t) = IsWellFormed g t × (fits LValue t ≡ true)
   IsWellFormed g (Post s t) = IsWellFormed g t × (fits LValue t ≡ true)
-  IsWellFormed g (Bin op a b) = IsWellFormed g a × IsWellFormed g b × (op_left op ≤ edge a) × (fits (op_right op) b ≡ true) × MayJoin op (print b) × (takes true a (class_at (op_tokens op ++ print b)) ≡ false) × (op_allowed g op ≡ true)
+  IsWellFormed g (Bin op a b) = IsWellFormed g a × IsWellFormed g b × (op_left op ≤ edge a) × (fits (op_right op) b ≡ true) × MayJoin op (print b)
+      × (takes true a (class_at (op_tokens op ++ print b)) ≡ false) × (op_allowed g op ≡ true)
   IsWellFormed g (Has a n) = IsWellFormed g a × (3 ≤ edge a)
   IsWellFormed g (HasList t ts n) = IsWellFormed true t × AreWellFormed true ts × IsSome ts
   IsWellFormed g (Cond a b c) = IsWellFormed g a × IsWellFormed g b × IsWellFormed g c × (1 ≤ edge a)

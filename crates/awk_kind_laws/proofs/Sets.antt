@@ -3,9 +3,9 @@ use Rattle.std.proofs.Common.{◌≡◌, Bool, true, false, List, refl, sym, ap,
 use Rattle.std.specs.Prelude.{IsTrue}
 use Rattle.std.proofs.Math.Path.{fun_ext}
 use Rattle.awk_grammar.specs.Item.{Item}
-use Rattle.awk_resolve.specs.Marks.{Array, Kind, Scalar, script_marks}
-use Rattle.awk_resolve.specs.Least.{IsLeast}
-use Rattle.awk_resolve.specs.Kinds.{Key, heads, is_used_as, members, pairs, refusal, resolved, same_key}
+use Rattle.awk_kinds.specs.Marks.{Array, Kind, Scalar, script_marks}
+use Rattle.awk_kinds.specs.Least.{IsLeast}
+use Rattle.awk_kinds.specs.Kinds.{Key, heads, is_used_as, members, pairs, refusal, resolved, same_key}
 use Rattle.awk_resolve.proofs.Names.{key_refl, key_sound}
 use Rattle.awk_resolve.proofs.Least.{least_is}
 use Rattle.awk_kind_laws.specs.Sets.{AreUsedAs, names_by, refusal_by}

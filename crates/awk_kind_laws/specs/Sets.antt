@@ -2,9 +2,9 @@
 use Rattle.std.specs.Prelude.{Bool, List, Option}
 use Rattle.std.specs.Option.{option_map}
 use Rattle.awk_grammar.specs.Item.{Item}
-use Rattle.awk_resolve.specs.Marks.{Kind, script_marks}
-use Rattle.awk_resolve.specs.Least.{IsLeast}
-use Rattle.awk_resolve.specs.Kinds.{Key, KindClash, Refusal, Resolved, clash, first, functions_by, globals_by, heads, members, name_refusal, or_else, pairs, variables}
+use Rattle.awk_kinds.specs.Marks.{Kind, script_marks}
+use Rattle.awk_kinds.specs.Least.{IsLeast}
+use Rattle.awk_kinds.specs.Kinds.{Key, KindClash, Refusal, Resolved, clash, first, functions_by, globals_by, heads, members, name_refusal, or_else, pairs, variables}
 
 -- The variables of this kind: those used so where they stand, with the special ones, and each that is given, as a bare name, for a parameter of
 -- this kind; and no others.

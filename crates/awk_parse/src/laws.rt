@@ -10,7 +10,8 @@ ghost use Rattle.awk_parse.specs.Numbers.{IsUnsigned};
 /// There are as many words `next`, `break`, `continue` and `return` among a script's tokens as jumps in its tree. So the line of `Misplaced`
 /// is that of the jump's own word.
 pub fn jump_words_are_jumps()
-    ensures { (tokens : List Spelled) (script : List Item) → IsTreeOf tokens script → length (jump_lines tokens) ≡ length (script_jumps script) }
+    ensures { (tokens : List Spelled) (script : List Item) → IsTreeOf tokens script
+        → length (jump_lines tokens) ≡ length (script_jumps script) }
 {}
 
 /// A number of a script is number text without space bytes and without a sign, and every such text is a number of a script. So the parser

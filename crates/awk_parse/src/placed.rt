@@ -28,7 +28,8 @@ fn jump_fits(place: Place, looped: bool, jump: Jump) -> bool
 }
 
 fn push_leave(out: &mut Vec<bool>, place: Place, leaving: Leaving) -> Result<(), AllocError>
-    ensures { OnOk result (out.new.items ≡ out.old.items ++ leave_fits place (view_leaving leaving)) }
+    ensures { OnOk result
+        (out.new.items ≡ out.old.items ++ leave_fits place (view_leaving leaving)) }
 {
     match leaving {
         Leaving::Exit => Ok(()),
@@ -40,7 +41,8 @@ fn push_leave(out: &mut Vec<bool>, place: Place, leaving: Leaving) -> Result<(),
 }
 
 fn push_jump(out: &mut Vec<bool>, place: Place, looped: bool, jump: Jump) -> Result<(), AllocError>
-    ensures { OnOk result (out.new.items ≡ out.old.items ++ (jump_fits place looped (view_jump jump) ∷ [])) }
+    ensures { OnOk result
+        (out.new.items ≡ out.old.items ++ (jump_fits place looped (view_jump jump) ∷ [])) }
 {
     out.push(jump_fits(place, looped, jump))?;
     Ok(())
@@ -75,7 +77,8 @@ fn push_all(
     looped: bool,
     body: &[Stmt],
 ) -> Result<(), AllocError>
-    ensures { OnOk result (out.new.items ≡ out.old.items ++ all_jumps place looped (view_stmts body.now)) }
+    ensures { OnOk result
+        (out.new.items ≡ out.old.items ++ all_jumps place looped (view_stmts body.now)) }
 {
     for s in body {
         push_jumps(out, place, looped, s)?;
@@ -148,7 +151,8 @@ pub(crate) fn misplaced(
     script: &Script,
     tokens: &[Token<'_>],
 ) -> Result<Option<usize>, AllocError>
-    ensures { IfOk result (λ line. line ≡ first_misplaced (script_jumps (view_script script.now)) (jump_lines (map spelled tokens.now))) }
+    ensures { IfOk result (λ line. line ≡ first_misplaced (script_jumps (view_script script.now))
+        (jump_lines (map spelled tokens.now))) }
 {
     let mut fits = Vec::new(alloc);
     push_items(&mut fits, &script.items)?;

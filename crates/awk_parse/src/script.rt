@@ -50,7 +50,8 @@ fn line_at(place: Option<usize>, tokens: &[Token<'_>]) -> usize
 pub fn parse(alloc: Global, tokens: &[Token<'_>]) -> Result<Script, ParseFault>
     ensures parsed { IfOk result (λ s. IsParsed (map spelled tokens.now) (view_script s)) }
     ensures refused { IfErr result (λ e. IsRefused (map spelled tokens.now) e) }
-    ensures found { (script : List Item) → IsParsed (map spelled tokens.now) script → MatchResult result (λ s. view_script s ≡ script) (λ e. e ≡ NoMemory) }
+    ensures found { (script : List Item) → IsParsed (map spelled tokens.now) script
+        → MatchResult result (λ s. view_script s ≡ script) (λ e. e ≡ NoMemory) }
 {
     if let Some(fault) = scan(tokens) {
         return Err(fault);

@@ -12,7 +12,8 @@ use std::alloc::AllocError;
 
 /// Adds a token.
 pub fn put<'a>(out: &mut Vec<Printed<'a>>, token: Printed<'a>) -> Result<(), AllocError>
-    ensures { OnOk result (lexemes out.new.items ≡ lexemes out.old.items ++ lexeme token.entry ∷ []) }
+    ensures { OnOk result
+        (lexemes out.new.items ≡ lexemes out.old.items ++ lexeme token.entry ∷ []) }
 {
     out.push(token)?;
     Ok(())
@@ -20,20 +21,23 @@ pub fn put<'a>(out: &mut Vec<Printed<'a>>, token: Printed<'a>) -> Result<(), All
 
 /// Adds a punctuator.
 pub fn mark(out: &mut Vec<Printed>, punctuator: Punctuator) -> Result<(), AllocError>
-    ensures { OnOk result (lexemes out.new.items ≡ lexemes out.old.items ++ mark_lexeme punctuator ∷ []) }
+    ensures { OnOk result
+        (lexemes out.new.items ≡ lexemes out.old.items ++ mark_lexeme punctuator ∷ []) }
 {
     put(out, Printed::Punctuator(punctuator))
 }
 
 /// Adds a word.
 pub fn word(out: &mut Vec<Printed>, keyword: Keyword) -> Result<(), AllocError>
-    ensures { OnOk result (lexemes out.new.items ≡ lexemes out.old.items ++ keyword_lexeme keyword ∷ []) }
+    ensures { OnOk result
+        (lexemes out.new.items ≡ lexemes out.old.items ++ keyword_lexeme keyword ∷ []) }
 {
     put(out, Printed::Keyword(keyword))
 }
 
 fn push_step(out: &mut Vec<Printed>, step: StepOp) -> Result<(), AllocError>
-    ensures { OnOk result (lexemes out.new.items ≡ lexemes out.old.items ++ StepMark (view_step step) ∷ []) }
+    ensures { OnOk result
+        (lexemes out.new.items ≡ lexemes out.old.items ++ StepMark (view_step step) ∷ []) }
 {
     match step {
         StepOp::Increment => mark(out, Punctuator::Increment),
@@ -42,7 +46,8 @@ fn push_step(out: &mut Vec<Printed>, step: StepOp) -> Result<(), AllocError>
 }
 
 fn push_prefix(out: &mut Vec<Printed>, op: UnaryOp) -> Result<(), AllocError>
-    ensures { OnOk result (lexemes out.new.items ≡ lexemes out.old.items ++ prefix_token (view_unary op) ∷ []) }
+    ensures { OnOk result
+        (lexemes out.new.items ≡ lexemes out.old.items ++ prefix_token (view_unary op) ∷ []) }
 {
     match op {
         UnaryOp::Not => mark(out, Punctuator::Bang),
@@ -52,7 +57,8 @@ fn push_prefix(out: &mut Vec<Printed>, op: UnaryOp) -> Result<(), AllocError>
 }
 
 fn push_operator(out: &mut Vec<Printed>, op: BinaryOp) -> Result<(), AllocError>
-    ensures { OnOk result (lexemes out.new.items ≡ lexemes out.old.items ++ op_tokens (view_binary op)) }
+    ensures { OnOk result
+        (lexemes out.new.items ≡ lexemes out.old.items ++ op_tokens (view_binary op)) }
 {
     match op {
         BinaryOp::Or => mark(out, Punctuator::Or),
@@ -76,7 +82,8 @@ fn push_operator(out: &mut Vec<Printed>, op: BinaryOp) -> Result<(), AllocError>
 }
 
 fn push_assignment(out: &mut Vec<Printed>, op: AssignOp) -> Result<(), AllocError>
-    ensures { OnOk result (lexemes out.new.items ≡ lexemes out.old.items ++ Infix (Assign (view_assign op)) ∷ []) }
+    ensures { OnOk result
+        (lexemes out.new.items ≡ lexemes out.old.items ++ Infix (Assign (view_assign op)) ∷ []) }
 {
     match op {
         AssignOp::Set => mark(out, Punctuator::Assign),
@@ -176,7 +183,8 @@ pub(crate) fn push_element<'a>(
     name: &'a [u8],
     subscripts: &'a [Expr],
 ) -> Result<(), AllocError>
-    ensures { OnOk result (lexemes out.new.items ≡ lexemes out.old.items ++ print (Index name.now (views subscripts.now))) }
+    ensures { OnOk result (lexemes out.new.items
+        ≡ lexemes out.old.items ++ print (Index name.now (views subscripts.now))) }
 {
     put(out, Printed::Name(name))?;
     mark(out, Punctuator::OpenBracket)?;
@@ -190,7 +198,8 @@ fn push_call<'a>(
     name: &'a [u8],
     arguments: &'a [Expr],
 ) -> Result<(), AllocError>
-    ensures { OnOk result (lexemes out.new.items ≡ lexemes out.old.items ++ print (Call name.now (views arguments.now))) }
+    ensures { OnOk result (lexemes out.new.items
+        ≡ lexemes out.old.items ++ print (Call name.now (views arguments.now))) }
 {
     put(out, Printed::FuncName(name))?;
     mark(out, Punctuator::OpenParen)?;
@@ -204,7 +213,8 @@ fn push_apply<'a>(
     function: Builtin,
     arguments: &'a [Expr],
 ) -> Result<(), AllocError>
-    ensures { OnOk result (lexemes out.new.items ≡ lexemes out.old.items ++ print (Apply function (views arguments.now))) }
+    ensures { OnOk result (lexemes out.new.items
+        ≡ lexemes out.old.items ++ print (Apply function (views arguments.now))) }
 {
     put(out, Printed::Builtin(function))?;
     mark(out, Punctuator::OpenParen)?;
@@ -215,7 +225,8 @@ fn push_apply<'a>(
 /// Adds the front of a list in parentheses.
 #[cycle(printer)]
 pub(crate) fn push_first<'a>(out: &mut Vec<Printed<'a>>, first: &'a Expr) -> Result<(), AllocError>
-    ensures { OnOk result (lexemes out.new.items ≡ lexemes out.old.items ++ (Open ∷ (print (view first.now) ++ Comma ∷ []))) }
+    ensures { OnOk result (lexemes out.new.items
+        ≡ lexemes out.old.items ++ (Open ∷ (print (view first.now) ++ Comma ∷ []))) }
 {
     mark(out, Punctuator::OpenParen)?;
     push_expr(out, first)?;
@@ -229,7 +240,8 @@ fn push_others<'a>(
     others: &'a [Expr],
     name: &'a [u8],
 ) -> Result<(), AllocError>
-    ensures { OnOk result (lexemes out.new.items ≡ lexemes out.old.items ++ (print_list (views others.now) ++ (Close ∷ (InWord ∷ (Name name.now ∷ []))))) }
+    ensures { OnOk result (lexemes out.new.items ≡ lexemes out.old.items
+        ++ (print_list (views others.now) ++ (Close ∷ (InWord ∷ (Name name.now ∷ []))))) }
 {
     push_list(out, others)?;
     mark(out, Punctuator::CloseParen)?;
@@ -240,7 +252,8 @@ fn push_others<'a>(
 /// Adds expressions with commas between them.
 #[cycle(printer)]
 pub(crate) fn push_list<'a>(out: &mut Vec<Printed<'a>>, es: &'a [Expr]) -> Result<(), AllocError>
-    ensures { OnOk result (lexemes out.new.items ≡ lexemes out.old.items ++ print_list (views es.now)) }
+    ensures { OnOk result
+        (lexemes out.new.items ≡ lexemes out.old.items ++ print_list (views es.now)) }
 {
     if es.is_empty() {
         return Ok(());
@@ -252,7 +265,8 @@ pub(crate) fn push_list<'a>(out: &mut Vec<Printed<'a>>, es: &'a [Expr]) -> Resul
 #[cycle(printer)]
 fn push_more<'a>(out: &mut Vec<Printed<'a>>, es: &'a [Expr]) -> Result<(), AllocError>
     requires { 0 < length es.now }
-    ensures { OnOk result (lexemes out.new.items ≡ lexemes out.old.items ++ print_more (views (drop 1 es.now))) }
+    ensures { OnOk result
+        (lexemes out.new.items ≡ lexemes out.old.items ++ print_more (views (drop 1 es.now))) }
 {
     for i in 1..es.len() {
         mark(out, Punctuator::Comma)?;

@@ -17,7 +17,8 @@ use awk_tokens::{Keyword, Punctuator};
 use std::alloc::AllocError;
 
 fn push_args<'a>(out: &mut Vec<Printed<'a>>, args: &'a PrintArgs) -> Result<(), AllocError>
-    ensures { OnOk result (lexemes out.new.items ≡ lexemes out.old.items ++ print_args (view_args args.now)) }
+    ensures { OnOk result
+        (lexemes out.new.items ≡ lexemes out.old.items ++ print_args (view_args args.now)) }
 {
     match args {
         PrintArgs::Bare => Ok(()),
@@ -31,7 +32,8 @@ fn push_args<'a>(out: &mut Vec<Printed<'a>>, args: &'a PrintArgs) -> Result<(), 
 }
 
 fn push_target<'a>(out: &mut Vec<Printed<'a>>, target: &'a PrintTarget) -> Result<(), AllocError>
-    ensures { OnOk result (lexemes out.new.items ≡ lexemes out.old.items ++ print_target (view_target target.now)) }
+    ensures { OnOk result
+        (lexemes out.new.items ≡ lexemes out.old.items ++ print_target (view_target target.now)) }
 {
     match target {
         PrintTarget::Output => Ok(()),
@@ -47,7 +49,8 @@ fn push_target<'a>(out: &mut Vec<Printed<'a>>, target: &'a PrintTarget) -> Resul
 }
 
 fn push_print_word(out: &mut Vec<Printed>, print: PrintWord) -> Result<(), AllocError>
-    ensures { OnOk result (lexemes out.new.items ≡ lexemes out.old.items ++ printing_token (view_word print) ∷ []) }
+    ensures { OnOk result
+        (lexemes out.new.items ≡ lexemes out.old.items ++ printing_token (view_word print) ∷ []) }
 {
     match print {
         PrintWord::Print => word(out, Keyword::Print),
@@ -56,7 +59,8 @@ fn push_print_word(out: &mut Vec<Printed>, print: PrintWord) -> Result<(), Alloc
 }
 
 fn push_simple<'a>(out: &mut Vec<Printed<'a>>, simple: &'a SimpleStmt) -> Result<(), AllocError>
-    ensures { OnOk result (lexemes out.new.items ≡ lexemes out.old.items ++ print_plain (view_simple simple.now)) }
+    ensures { OnOk result
+        (lexemes out.new.items ≡ lexemes out.old.items ++ print_plain (view_simple simple.now)) }
 {
     match simple {
         SimpleStmt::Eval(e) => push_expr(out, e),
@@ -77,7 +81,8 @@ fn push_simple<'a>(out: &mut Vec<Printed<'a>>, simple: &'a SimpleStmt) -> Result
 }
 
 fn push_optional<'a>(out: &mut Vec<Printed<'a>>, e: &'a Option<Expr>) -> Result<(), AllocError>
-    ensures { OnOk result (lexemes out.new.items ≡ lexemes out.old.items ++ print_maybe (view_maybe e.now)) }
+    ensures { OnOk result
+        (lexemes out.new.items ≡ lexemes out.old.items ++ print_maybe (view_maybe e.now)) }
 {
     match e {
         None => Ok(()),
@@ -89,7 +94,8 @@ fn push_optional_simple<'a>(
     out: &mut Vec<Printed<'a>>,
     simple: &'a Option<SimpleStmt>,
 ) -> Result<(), AllocError>
-    ensures { OnOk result (lexemes out.new.items ≡ lexemes out.old.items ++ print_maybe_plain (view_maybe_simple simple.now)) }
+    ensures { OnOk result (lexemes out.new.items
+        ≡ lexemes out.old.items ++ print_maybe_plain (view_maybe_simple simple.now)) }
 {
     match simple {
         None => Ok(()),
@@ -99,7 +105,8 @@ fn push_optional_simple<'a>(
 
 /// Adds a condition in parentheses.
 fn push_condition<'a>(out: &mut Vec<Printed<'a>>, e: &'a Expr) -> Result<(), AllocError>
-    ensures { OnOk result (lexemes out.new.items ≡ lexemes out.old.items ++ (Open ∷ (print (view e.now) ++ Close ∷ []))) }
+    ensures { OnOk result (lexemes out.new.items
+        ≡ lexemes out.old.items ++ (Open ∷ (print (view e.now) ++ Close ∷ []))) }
 {
     mark(out, Punctuator::OpenParen)?;
     push_expr(out, e)?;
@@ -113,7 +120,10 @@ fn push_for_head<'a>(
     condition: &'a Option<Expr>,
     next: &'a Option<SimpleStmt>,
 ) -> Result<(), AllocError>
-    ensures { OnOk result (lexemes out.new.items ≡ lexemes out.old.items ++ (Open ∷ (print_maybe_plain (view_maybe_simple first.now) ++ (Semicolon ∷ (print_maybe (view_maybe condition.now) ++ (Semicolon ∷ (print_maybe_plain (view_maybe_simple next.now) ++ Close ∷ []))))))) }
+    ensures { OnOk result
+        (lexemes out.new.items ≡ lexemes out.old.items ++ (Open ∷ (print_maybe_plain
+        (view_maybe_simple first.now) ++ (Semicolon ∷ (print_maybe (view_maybe condition.now)
+        ++ (Semicolon ∷ (print_maybe_plain (view_maybe_simple next.now) ++ Close ∷ []))))))) }
 {
     mark(out, Punctuator::OpenParen)?;
     push_optional_simple(out, first)?;
@@ -125,7 +135,8 @@ fn push_for_head<'a>(
 }
 
 fn push_jump(out: &mut Vec<Printed>, jump: Jump) -> Result<(), AllocError>
-    ensures { OnOk result (lexemes out.new.items ≡ lexemes out.old.items ++ jump_token (view_jump jump) ∷ []) }
+    ensures { OnOk result
+        (lexemes out.new.items ≡ lexemes out.old.items ++ jump_token (view_jump jump) ∷ []) }
 {
     match jump {
         Jump::Break => word(out, Keyword::Break),
@@ -136,7 +147,8 @@ fn push_jump(out: &mut Vec<Printed>, jump: Jump) -> Result<(), AllocError>
 }
 
 fn push_leaving(out: &mut Vec<Printed>, leaving: Leaving) -> Result<(), AllocError>
-    ensures { OnOk result (lexemes out.new.items ≡ lexemes out.old.items ++ leaving_token (view_leaving leaving) ∷ []) }
+    ensures { OnOk result (lexemes out.new.items
+        ≡ lexemes out.old.items ++ leaving_token (view_leaving leaving) ∷ []) }
 {
     match leaving {
         Leaving::Exit => word(out, Keyword::Exit),
@@ -147,7 +159,8 @@ fn push_leaving(out: &mut Vec<Printed>, leaving: Leaving) -> Result<(), AllocErr
 /// Adds the tokens of a statement.
 #[cycle(printer_stmt)]
 fn push_stmt<'a>(out: &mut Vec<Printed<'a>>, s: &'a Stmt) -> Result<(), AllocError>
-    ensures { OnOk result (lexemes out.new.items ≡ lexemes out.old.items ++ print_stmt (view_stmt s.now)) }
+    ensures { OnOk result
+        (lexemes out.new.items ≡ lexemes out.old.items ++ print_stmt (view_stmt s.now)) }
 {
     match s {
         Stmt::Block(body) => push_block(out, body),
@@ -208,7 +221,8 @@ fn push_stmt<'a>(out: &mut Vec<Printed<'a>>, s: &'a Stmt) -> Result<(), AllocErr
 /// Adds statements in braces.
 #[cycle(printer_stmt)]
 pub fn push_block<'a>(out: &mut Vec<Printed<'a>>, body: &'a [Stmt]) -> Result<(), AllocError>
-    ensures { OnOk result (lexemes out.new.items ≡ lexemes out.old.items ++ print_body (view_stmts body.now)) }
+    ensures { OnOk result
+        (lexemes out.new.items ≡ lexemes out.old.items ++ print_body (view_stmts body.now)) }
 {
     mark(out, Punctuator::OpenBrace)?;
     push_stmts(out, body)?;
@@ -217,7 +231,8 @@ pub fn push_block<'a>(out: &mut Vec<Printed<'a>>, body: &'a [Stmt]) -> Result<()
 
 #[cycle(printer_stmt)]
 fn push_stmts<'a>(out: &mut Vec<Printed<'a>>, body: &'a [Stmt]) -> Result<(), AllocError>
-    ensures { OnOk result (lexemes out.new.items ≡ lexemes out.old.items ++ print_stmts (view_stmts body.now)) }
+    ensures { OnOk result
+        (lexemes out.new.items ≡ lexemes out.old.items ++ print_stmts (view_stmts body.now)) }
 {
     for s in body {
         push_stmt(out, s)?;

@@ -110,7 +110,8 @@ mutual
     compare_concat : {g : Bool} {t : Tree} {ts : List Token} → Derives g ConcatExpr t ts → Derives g CompareExpr t ts
     -- CompareExpr := ConcatExpr ('<' | '<=' | '==' | '!=' | '>' | '>=') ConcatExpr
     compare : {g : Bool} {how : Comparison} {a b : Tree} {ts us : List Token} →
-        Derives g ConcatExpr a ts → Derives g ConcatExpr b us → MayCompare g how a → Derives g CompareExpr (Bin (Other (Compare how)) a b) (ts ++ (Infix (Compare how) ∷ us))
+        Derives g ConcatExpr a ts → Derives g ConcatExpr b us → MayCompare g how a
+        → Derives g CompareExpr (Bin (Other (Compare how)) a b) (ts ++ (Infix (Compare how) ∷ us))
     -- ConcatExpr := AddExpr
     concat_add : {g : Bool} {t : Tree} {ts : List Token} → Derives g AddExpr t ts → Derives g ConcatExpr t ts
     -- ConcatExpr := ConcatExpr AddExpr

@@ -13,13 +13,16 @@ use awk_grammar::one_script;
 
 /// The productions of expressions derive a tree from tokens exactly where the tree is well formed and the tokens are its own.
 pub fn expressions_are_derived()
-    ensures { (greater : Bool) (t : Tree) (ts : List Token) → Derives greater Expr t ts ↔ (IsWellFormed greater t × (print t ≡ ts)) }
+    ensures { (greater : Bool) (t : Tree) (ts : List Token)
+        → Derives greater Expr t ts ↔ (IsWellFormed greater t × (print t ≡ ts)) }
 {}
 
 /// The productions of scripts derive a script from tokens exactly where it is well formed and the tokens are its own.
 pub fn scripts_are_derived()
-    ensures printed { (script : List Item) (ts : List Token) → ScriptOf script ts ↔ (IsScript script × (print_script script ≡ ts)) }
-    ensures tokens { (script : List Item) (tokens : List Spelled) → ScriptOf script (spoken tokens) ↔ IsTreeOf tokens script }
+    ensures printed { (script : List Item) (ts : List Token)
+        → ScriptOf script ts ↔ (IsScript script × (print_script script ≡ ts)) }
+    ensures tokens { (script : List Item) (tokens : List Spelled)
+        → ScriptOf script (spoken tokens) ↔ IsTreeOf tokens script }
 {}
 
 /// The grammar is unambiguous: from the same tokens it derives one script at most.

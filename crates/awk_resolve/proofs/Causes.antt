@@ -1,8 +1,8 @@
 -- Refusals one after another.
 use Rattle.std.proofs.Common.{◌≡◌, List, Bool, Option, None, ap, sym, ◌∙◌}
 use Rattle.std.specs.Option.{option_map}
-use Rattle.awk_resolve.specs.Marks.{Mark, Array, Scalar}
-use Rattle.awk_resolve.specs.Kinds.{Key, Head, Refusal, KindClash, or_else, first, clash, is_used_as, name_refusal, refusal_by}
+use Rattle.awk_kinds.specs.Marks.{Mark, Array, Scalar}
+use Rattle.awk_kinds.specs.Kinds.{Key, Head, Refusal, KindClash, or_else, first, clash, is_used_as, name_refusal, refusal_by}
 use Rattle.awk_resolve.specs.ViewResolved.{IsCause}
 use Rattle.awk_resolve.specs.declared.fault.ResolveFault.{ResolveFault}
 use Rattle.awk_resolve.specs.declared.fault.ResolveFault.TheVariants.{TooMany, DuplicateName, UnknownFunction, ArgCount, KindClash as KindClashFault, NoMemory}

@@ -2,8 +2,8 @@
 use Rattle.std.proofs.Common.{◌≡◌, ℕ, zero, suc, Bool, true, false, List, [], ◌∷◌, ◌++◌, map, Option, Some, None, refl, ap, sym, subst, ◌∙◌, append_assoc, append-nil, if◌then◌else◌}
 use Rattle.std.specs.List.{slice_get, list_any}
 use Rattle.std.proofs.lemmas.List.{map-append}
-use Rattle.awk_resolve.specs.Marks.{Kind, Mark, Defined, Parameter, Used, Called, Computed, Given}
-use Rattle.awk_resolve.specs.Kinds.{Key, Head, same_key, same_kind, with_key, with_maybe, used, members, specials_of, Whole, pairs, key_in, parameter_at, pair_of}
+use Rattle.awk_kinds.specs.Marks.{Kind, Mark, Defined, Parameter, Used, Called, Computed, Given}
+use Rattle.awk_kinds.specs.Kinds.{Key, Head, same_key, same_kind, with_key, with_maybe, used, members, specials_of, Whole, pairs, key_in, parameter_at, pair_of}
 use Rattle.std.specs.Borrow.{Bor}
 use Rattle.awk_resolve.specs.ViewNames.{names}
 use Rattle.awk_resolve.specs.Numbered.{AreNumbers, ArePairs, both_at, both_some, one_if, all_if}

@@ -2,7 +2,7 @@
 use Rattle.std.proofs.Common.{◌≡◌, ℕ, suc, ◌+◌, ◌<◌, length, Bool, true, false, List, [], ◌∷◌, ◌++◌, Option, Some, None, refl, ap, sym, subst, ◌∙◌, cond, if◌then◌else◌, is_some, true≢false, arith}
 use Rattle.std.specs.Borrow.{Bor}
 use Rattle.std.specs.Option.{option_map, IfSome}
-use Rattle.awk_resolve.specs.Kinds.{or_else, same_name}
+use Rattle.awk_kinds.specs.Kinds.{or_else, same_name}
 use Rattle.awk_resolve.specs.Places.{next_place, number_in, place_of}
 use Rattle.awk_resolve.proofs.Names.{same_sound, same_refl}
 

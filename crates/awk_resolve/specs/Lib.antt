@@ -1,7 +1,3 @@
-pub mod Marks
-pub mod Least
-pub mod Kinds
-pub mod Examples
 pub mod View
 pub mod ViewNames
 pub mod Marked
@@ -12,3 +8,7 @@ pub mod PlaceExamples
 pub mod ViewKinds
 pub mod ViewFunctions
 pub mod ViewResolved
+pub mod ViewScopes
+pub mod ViewUses
+pub mod ViewSets
+pub mod ViewSeen

@@ -1,6 +1,6 @@
 -- Worked rows of places.
 use Rattle.std.specs.Prelude.{◌≡◌, true, false, codes, List, [], ◌∷◌, Some, None, refl}
-use Rattle.awk_resolve.specs.Kinds.{Name}
+use Rattle.awk_kinds.specs.Kinds.{Name}
 use Rattle.awk_resolve.specs.Places.{function_in, place_in}
 
 abbrev globals : List Name
@@ -17,5 +17,6 @@ first_of_two = refl
 pub no_place : place_in globals (codes "xx") ≡ None
 no_place = refl
 
-pub third_function : function_in (record { name = codes "f"; parameters = globals } ∷ record { name = codes "g"; parameters = [] } ∷ record { name = codes "h"; parameters = [] } ∷ []) (codes "h") ≡ Some 2
+pub third_function : function_in (record { name = codes "f"; parameters = globals } ∷ record { name = codes "g"; parameters = [] }
+    ∷ record { name = codes "h"; parameters = [] } ∷ []) (codes "h") ≡ Some 2
 third_function = refl

@@ -1,8 +1,8 @@
 -- The place of a name in a list. Of two of one name it is the first.
-use Rattle.std.specs.Prelude.{ℕ, suc, if◌then◌else◌, List, [], ◌∷◌, map, Option, Some, None}
+use Rattle.std.specs.Prelude.{◌≡◌, ℕ, suc, if◌then◌else◌, List, [], ◌∷◌, map, Option, Some, None}
 use Rattle.std.specs.Borrow.{Bor}
 use Rattle.std.specs.Map.{lookup}
-use Rattle.awk_resolve.specs.Kinds.{Name, Function, same_name}
+use Rattle.awk_kinds.specs.Kinds.{Name, Function, same_name}
 
 abbrev pub next_place : Option ℕ → Option ℕ
 next_place (Some i) = Some (suc i)
@@ -22,3 +22,7 @@ function_in fs x = place_of (map (λ f. f.name) fs) x
 -- what a table of numbers has at a name
 abbrev pub number_in : List (Bor (List ℕ) × ℕ) → List ℕ → Option ℕ
 number_in es x = lookup (λ n. same_name x n.now) es
+
+-- the table has the place of each name
+abbrev pub ArePlaces : List (Bor (List ℕ) × ℕ) → (List ℕ → Option ℕ) → Type 0
+ArePlaces es place = (x : List ℕ) → number_in es x ≡ place x

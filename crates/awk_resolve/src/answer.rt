@@ -1,26 +1,26 @@
 //! From a script to the kinds of its names.
 
 ghost use Rattle.std.specs.Prelude.{◌≡◌, List, None, IfOk, IfErr, OnOk};
-ghost use Rattle.std.specs.Option.{option_map};
 ghost use Rattle.awk_grammar.specs.Item.{Item};
 ghost use Rattle.awk_grammar.specs.ViewStmt.{view_script};
-ghost use Rattle.awk_resolve.specs.Marks.{Kind, Array, script_marks};
-ghost use Rattle.awk_resolve.specs.Least.{IsLeast};
-ghost use Rattle.awk_resolve.specs.Kinds.{KindClash, clash, first, functions_by, globals_by, heads, is_used_as, members, name_refusal, pairs, refusal, refusal_by, resolved, resolved_by, variables};
-ghost use Rattle.awk_resolve.specs.Marked.{is_marked_in};
+ghost use Rattle.awk_kinds.specs.Marks.{Kind, Array, script_marks};
+ghost use Rattle.awk_kinds.specs.Least.{IsLeast};
+ghost use Rattle.awk_kinds.specs.Kinds.{functions_by, globals_by, heads, is_used_as, members, name_refusal, pairs, refusal, refusal_by, resolved, resolved_by, variables, kind_refusal};
 ghost use Rattle.awk_resolve.specs.View.{view_marks};
-ghost use Rattle.awk_resolve.specs.ViewNames.{view_heads, view_variables};
 ghost use Rattle.awk_resolve.specs.ViewKinds.{view_name_kinds};
 ghost use Rattle.awk_resolve.specs.ViewFunctions.{view_functions};
 ghost use Rattle.awk_resolve.specs.ViewResolved.{IsCause, view_resolved};
+ghost use Rattle.awk_resolve.specs.ViewScopes.{functions_in};
+ghost use Rattle.awk_resolve.specs.ViewSets.{variables_in, arrays_in, scalars_in};
 
 use crate::fault::{Name, ResolveFault};
-use crate::kinds::{Kinds, kinds_of};
+use crate::kinds::kinds_of;
 use crate::listing::{listed_functions, listed_globals};
 use crate::mark::Mark;
 use crate::refusals::{first_duplicate, first_excess, first_unknown, too_many};
 use crate::resolved::Resolved;
 use crate::scopes::Scopes;
+use crate::sets::Kinds;
 use crate::walk_stmt::marks_of;
 use awk_grammar::Script;
 use std::alloc::{AllocError, Global};
@@ -31,8 +31,10 @@ fn check_names<'a>(
     scopes: &Scopes<'a>,
     marks: &[Mark<'a>],
 ) -> Result<(), ResolveFault>
-    ensures fine { OnOk result (name_refusal (view_heads scopes.now.heads.items) (view_marks marks.now) ≡ None) }
-    ensures refused { IfErr result (λ fault. IsCause fault (name_refusal (view_heads scopes.now.heads.items) (view_marks marks.now))) }
+    ensures fine { OnOk result
+        (name_refusal (functions_in scopes.now) (view_marks marks.now) ≡ None) }
+    ensures refused { IfErr result
+        (λ fault. IsCause fault (name_refusal (functions_in scopes.now) (view_marks marks.now))) }
 {
     if let Some(name) = too_many(&scopes.heads) {
         return Err(ResolveFault::TooMany(Name::new(alloc, name)?));
@@ -56,8 +58,10 @@ fn check_kinds<'a>(
     marks: &[Mark<'a>],
     kinds: &Kinds<'a>,
 ) -> Result<(), ResolveFault>
-    ensures fine { OnOk result (option_map KindClash (first (clash (is_marked_in (view_variables kinds.now.variables.keys) kinds.now.arrays.items) (is_marked_in (view_variables kinds.now.variables.keys) kinds.now.scalars.items) (view_heads scopes.now.heads.items)) (view_marks marks.now)) ≡ None) }
-    ensures refused { IfErr result (λ fault. IsCause fault (option_map KindClash (first (clash (is_marked_in (view_variables kinds.now.variables.keys) kinds.now.arrays.items) (is_marked_in (view_variables kinds.now.variables.keys) kinds.now.scalars.items) (view_heads scopes.now.heads.items)) (view_marks marks.now)))) }
+    ensures fine { OnOk result (kind_refusal (arrays_in kinds.now) (scalars_in kinds.now)
+        (functions_in scopes.now) (view_marks marks.now) ≡ None) }
+    ensures refused { IfErr result (λ fault. IsCause fault (kind_refusal (arrays_in kinds.now)
+        (scalars_in kinds.now) (functions_in scopes.now) (view_marks marks.now))) }
 {
     if let Some(name) = kinds.first_clash(scopes, marks) {
         return Err(ResolveFault::KindClash(Name::new(alloc, name)?));
@@ -71,10 +75,14 @@ fn checked<'a>(
     scopes: &Scopes<'a>,
     marks: &[Mark<'a>],
 ) -> Result<Kinds<'a>, ResolveFault>
-    ensures fine { OnOk result (refusal_by (view_heads scopes.now.heads.items) (view_marks marks.now) ≡ None) }
-    ensures variables { IfOk result (λ kinds. view_variables kinds.variables.keys ≡ variables (view_heads scopes.now.heads.items) (view_marks marks.now)) }
-    ensures arrays { IfOk result (λ kinds. is_marked_in (view_variables kinds.variables.keys) kinds.arrays.items ≡ is_used_as Array (view_heads scopes.now.heads.items) (view_marks marks.now)) }
-    ensures refused { IfErr result (λ fault. IsCause fault (refusal_by (view_heads scopes.now.heads.items) (view_marks marks.now))) }
+    ensures fine { OnOk result
+        (refusal_by (functions_in scopes.now) (view_marks marks.now) ≡ None) }
+    ensures variables { IfOk result
+        (λ kinds. variables_in kinds ≡ variables (functions_in scopes.now) (view_marks marks.now)) }
+    ensures arrays { IfOk result (λ kinds. arrays_in kinds
+        ≡ is_used_as Array (functions_in scopes.now) (view_marks marks.now)) }
+    ensures refused { IfErr result
+        (λ fault. IsCause fault (refusal_by (functions_in scopes.now) (view_marks marks.now))) }
 {
     check_names(alloc, scopes, marks)?;
     let kinds = kinds_of(alloc, scopes, marks)?;
@@ -89,8 +97,10 @@ fn listed<'a>(
     scopes: &Scopes<'a>,
     kinds: &Kinds<'a>,
 ) -> Result<Resolved<'a>, AllocError>
-    ensures functions { IfOk result (λ names. view_functions names.functions.items ≡ functions_by (is_marked_in (view_variables kinds.now.variables.keys) kinds.now.arrays.items) (view_heads scopes.now.heads.items)) }
-    ensures globals { IfOk result (λ names. view_name_kinds names.globals.items ≡ globals_by (is_marked_in (view_variables kinds.now.variables.keys) kinds.now.arrays.items) (view_variables kinds.now.variables.keys)) }
+    ensures functions { IfOk result (λ names. view_functions names.functions.items
+        ≡ functions_by (arrays_in kinds.now) (functions_in scopes.now)) }
+    ensures globals { IfOk result (λ names. view_name_kinds names.globals.items
+        ≡ globals_by (arrays_in kinds.now) (variables_in kinds.now)) }
     ensures script { IfOk result (λ names. names.script.now ≡ script.now) }
 {
     let (functions, function_places) = listed_functions(alloc, kinds, &scopes.heads)?;
@@ -111,10 +121,13 @@ fn resolve_in<'a>(
     scopes: &Scopes<'a>,
     marks: &[Mark<'a>],
 ) -> Result<Resolved<'a>, ResolveFault>
-    ensures fine { OnOk result (refusal_by (view_heads scopes.now.heads.items) (view_marks marks.now) ≡ None) }
-    ensures kinds { IfOk result (λ names. view_resolved names ≡ resolved_by (view_heads scopes.now.heads.items) (view_marks marks.now)) }
+    ensures fine { OnOk result
+        (refusal_by (functions_in scopes.now) (view_marks marks.now) ≡ None) }
+    ensures kinds { IfOk result (λ names. view_resolved names
+        ≡ resolved_by (functions_in scopes.now) (view_marks marks.now)) }
     ensures script { IfOk result (λ names. names.script.now ≡ script.now) }
-    ensures refused { IfErr result (λ fault. IsCause fault (refusal_by (view_heads scopes.now.heads.items) (view_marks marks.now))) }
+    ensures refused { IfErr result
+        (λ fault. IsCause fault (refusal_by (functions_in scopes.now) (view_marks marks.now))) }
 {
     let kinds = checked(alloc, scopes, marks)?;
     Ok(listed(alloc, script, scopes, &kinds)?)
@@ -126,10 +139,13 @@ fn resolve_marks<'a>(
     script: &'a Script,
     marks: &[Mark<'a>],
 ) -> Result<Resolved<'a>, ResolveFault>
-    ensures fine { OnOk result (refusal_by (heads (view_script script.now)) (view_marks marks.now) ≡ None) }
-    ensures kinds { IfOk result (λ names. view_resolved names ≡ resolved_by (heads (view_script script.now)) (view_marks marks.now)) }
+    ensures fine { OnOk result
+        (refusal_by (heads (view_script script.now)) (view_marks marks.now) ≡ None) }
+    ensures kinds { IfOk result (λ names. view_resolved names
+        ≡ resolved_by (heads (view_script script.now)) (view_marks marks.now)) }
     ensures script { IfOk result (λ names. names.script.now ≡ script.now) }
-    ensures refused { IfErr result (λ fault. IsCause fault (refusal_by (heads (view_script script.now)) (view_marks marks.now))) }
+    ensures refused { IfErr result (λ fault. IsCause fault
+        (refusal_by (heads (view_script script.now)) (view_marks marks.now))) }
 {
     let scopes = Scopes::new(alloc, script)?;
     resolve_in(alloc, script, &scopes, marks)
@@ -155,5 +171,8 @@ pub fn resolve(alloc: Global, script: &Script) -> Result<Resolved<'_>, ResolveFa
 /// The names used as arrays, and those used as scalars, are the least sets: they have the names used so where they stand, and a bare name given for a
 /// parameter that they have, and they are within every set that does.
 pub fn kinds_are_least()
-    ensures { (kind : Kind) (script : List Item) → IsLeast (is_used_as kind (heads script) (script_marks script)) (members kind (heads script) (script_marks script)) (pairs (heads script) (script_marks script)) }
+    ensures { (kind : Kind) (script : List Item)
+        → IsLeast (is_used_as kind (heads script) (script_marks script))
+        (members kind (heads script) (script_marks script))
+        (pairs (heads script) (script_marks script)) }
 {}

@@ -1,9 +1,9 @@
 //! The least set of numbers that has given members and follows given pairs, by a work list.
 
-ghost use Rattle.std.specs.Prelude.{◌≡◌, ℕ, ◌++◌, ◌∷◌, ◌<◌, if◌then◌else◌, [], true, All, length, set, IfOk, OnOk};
-ghost use Rattle.awk_resolve.specs.Least.{IsLeast};
+ghost use Rattle.std.specs.Prelude.{◌≡◌, ℕ, ◌<◌, [], All, length, IfOk, OnOk};
+ghost use Rattle.awk_kinds.specs.Least.{IsLeast};
 ghost use Rattle.awk_resolve.specs.Marked.{is_marked};
-ghost use Rattle.awk_resolve.specs.Waiting.{Adds, given_for, numbers_at};
+ghost use Rattle.awk_resolve.specs.Waiting.{Adds, given_for, numbers_at, marked_with, waiting_with};
 
 use std::alloc::{AllocError, Global};
 
@@ -27,7 +27,8 @@ fn givers_of(
 ) -> Result<Vec<Vec<usize>>, AllocError>
     requires { All (λ p. (p.0 < count) × (p.1 < count)) pairs.now }
     ensures length { IfOk result (λ givers. length givers.items ≡ count) }
-    ensures givers { IfOk result (λ givers. (n : ℕ) → numbers_at givers.items n ≡ given_for pairs.now n) }
+    ensures givers { IfOk result
+        (λ givers. (n : ℕ) → numbers_at givers.items n ≡ given_for pairs.now n) }
 {
     let mut givers = no_numbers(alloc, count)?;
     for (given, parameter) in pairs {
@@ -47,8 +48,9 @@ impl Found {
     /// Marks a number, which waits from then on if it is new.
     fn mark(&mut self, n: usize) -> Result<(), AllocError>
         requires { n < length self.old.marked.items }
-        ensures marked { OnOk result (self.new.marked.items ≡ (if is_marked self.old.marked.items n then self.old.marked.items else set self.old.marked.items n true)) }
-        ensures waiting { OnOk result (self.new.waiting.items ≡ (if is_marked self.old.marked.items n then self.old.waiting.items else self.old.waiting.items ++ n ∷ [])) }
+        ensures marked { OnOk result (self.new.marked.items ≡ marked_with self.old.marked.items n) }
+        ensures waiting { OnOk result
+            (self.new.waiting.items ≡ waiting_with self.old.marked.items self.old.waiting.items n) }
     {
         if !self.marked[n] {
             self.marked[n] = true;
@@ -60,7 +62,9 @@ impl Found {
     /// Marks each of some numbers.
     fn mark_all(&mut self, numbers: &[usize]) -> Result<(), AllocError>
         requires { All (λ n. n < length self.old.marked.items) numbers.now }
-        ensures { OnOk result (Adds numbers.now self.old.marked.items self.old.waiting.items self.new.marked.items self.new.waiting.items) }
+        ensures { OnOk result
+            (Adds numbers.now self.old.marked.items self.old.waiting.items
+            self.new.marked.items self.new.waiting.items) }
     {
         for n in numbers {
             self.mark(*n)?;

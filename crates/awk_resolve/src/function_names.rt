@@ -1,7 +1,7 @@
 //! Names with their kinds.
 
-ghost use Rattle.std.specs.Prelude.{◌≡◌, ◌<◌, ℕ, List, length, IfSome};
-ghost use Rattle.awk_resolve.specs.Places.{number_in, place_in};
+ghost use Rattle.std.specs.Prelude.{◌≡◌, ◌<◌, length, IfSome};
+ghost use Rattle.awk_resolve.specs.Places.{place_in, ArePlaces};
 ghost use Rattle.awk_resolve.specs.ViewKinds.{view_name_kinds};
 
 use crate::index::place_at;
@@ -21,7 +21,7 @@ pub struct FunctionNames<'a> {
     pub name: &'a [u8],
     pub parameters: Vec<NameKind<'a>>,
     pub(crate) places: IndexMap<&'a [u8], usize>,
-    ghost places_known: { (x : List ℕ) → number_in places.entries x ≡ place_in (view_name_kinds parameters.items) x },
+    ghost places_known: { ArePlaces places.entries (place_in (view_name_kinds parameters.items)) },
 }
 
 impl FunctionNames<'_> {

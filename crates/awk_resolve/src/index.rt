@@ -1,7 +1,7 @@
 //! The places of names in a list, by hash.
 
-ghost use Rattle.std.specs.Prelude.{◌≡◌, ℕ, List, IfOk};
-ghost use Rattle.awk_resolve.specs.Places.{number_in, place_of};
+ghost use Rattle.std.specs.Prelude.{◌≡◌, IfOk};
+ghost use Rattle.awk_resolve.specs.Places.{number_in, place_of, ArePlaces};
 ghost use Rattle.awk_resolve.specs.ViewNames.{names};
 
 use indexmap::IndexMap;
@@ -12,7 +12,7 @@ pub(crate) fn places_of<'a>(
     alloc: Global,
     list: &[&'a [u8]],
 ) -> Result<IndexMap<&'a [u8], usize>, AllocError>
-    ensures { IfOk result (λ found. (x : List ℕ) → number_in found.entries x ≡ place_of (names list.now) x) }
+    ensures { IfOk result (λ found. ArePlaces found.entries (place_of (names list.now))) }
 {
     let mut found = IndexMap::new(alloc);
     for i in 0..list.len() {

@@ -1,29 +1,22 @@
 //! The kinds of a script's variables.
 
 ghost use Rattle.std.specs.Prelude.{◌≡◌, ◌<◌, All, length, IfOk};
-ghost use Rattle.awk_resolve.specs.Marks.{Array, Scalar};
-ghost use Rattle.awk_resolve.specs.Kinds.{name_of, variables, is_used_as, clashing, needing, clash, first};
-ghost use Rattle.awk_resolve.specs.Least.{IsLeast};
+ghost use Rattle.awk_kinds.specs.Marks.{Array, Scalar};
+ghost use Rattle.awk_kinds.specs.Kinds.{name_of, variables, is_used_as, clashing, needing, clash, first};
+ghost use Rattle.awk_kinds.specs.Least.{IsLeast};
 ghost use Rattle.awk_resolve.specs.Marked.{is_marked, is_marked_in};
 ghost use Rattle.awk_resolve.specs.View.{view_mark, view_marks, view_place};
-ghost use Rattle.awk_resolve.specs.ViewNames.{view_heads, view_variable, view_variables, view_maybe_variable};
+ghost use Rattle.awk_resolve.specs.ViewNames.{view_variable, view_variables, view_maybe_variable};
+ghost use Rattle.awk_resolve.specs.ViewScopes.{functions_in};
+ghost use Rattle.awk_resolve.specs.ViewSets.{variables_in, arrays_in, scalars_in};
 
 use crate::closure::closure;
 use crate::mark::Mark;
 use crate::scopes::{Scopes, Variable};
+use crate::sets::Kinds;
 use crate::uses::{Uses, uses_of};
 use indexmap::IndexSet;
 use std::alloc::{AllocError, Global};
-
-/// The variables of a script, and for each whether it is used as an array and as a scalar.
-#[derive(Drop)]
-pub(crate) struct Kinds<'a> {
-    pub variables: IndexSet<Variable<'a>>,
-    pub arrays: Vec<bool>,
-    pub scalars: Vec<bool>,
-    ghost arrays_known: { length arrays.items ≡ length variables.keys },
-    ghost scalars_known: { length scalars.items ≡ length variables.keys },
-}
 
 /// Whether a variable is marked.
 fn is_marked_in<'a>(
@@ -32,7 +25,8 @@ fn is_marked_in<'a>(
     variable: Variable<'a>,
 ) -> bool
     requires { length marked.now ≡ length variables.now.keys }
-    ensures { result ≡ is_marked_in (view_variables variables.now.keys) marked.now (view_variable variable.entry) }
+    ensures { result ≡ is_marked_in (view_variables variables.now.keys) marked.now
+        (view_variable variable.entry) }
 {
     match variables.get_index_of(&variable) {
         None => false,
@@ -44,10 +38,14 @@ fn is_marked_in<'a>(
 fn marked<'a>(alloc: Global, uses: &Uses<'a>) -> Result<(Vec<bool>, Vec<bool>), AllocError>
     requires arrays { All (λ n. n < length uses.now.variables.keys) uses.now.arrays.items }
     requires scalars { All (λ n. n < length uses.now.variables.keys) uses.now.scalars.items }
-    requires pairs { All (λ p. (p.0 < length uses.now.variables.keys) × (p.1 < length uses.now.variables.keys)) uses.now.pairs.items }
-    ensures lengths { IfOk result (λ found. (length found.0.items ≡ length uses.now.variables.keys) × (length found.1.items ≡ length uses.now.variables.keys)) }
-    ensures arrays { IfOk result (λ found. IsLeast (is_marked found.0.items) uses.now.arrays.items uses.now.pairs.items) }
-    ensures scalars { IfOk result (λ found. IsLeast (is_marked found.1.items) uses.now.scalars.items uses.now.pairs.items) }
+    requires pairs { All (λ p. (p.0 < length uses.now.variables.keys)
+        × (p.1 < length uses.now.variables.keys)) uses.now.pairs.items }
+    ensures lengths { IfOk result (λ found. (length found.0.items ≡ length uses.now.variables.keys)
+        × (length found.1.items ≡ length uses.now.variables.keys)) }
+    ensures arrays { IfOk result
+        (λ found. IsLeast (is_marked found.0.items) uses.now.arrays.items uses.now.pairs.items) }
+    ensures scalars { IfOk result
+        (λ found. IsLeast (is_marked found.1.items) uses.now.scalars.items uses.now.pairs.items) }
 {
     let count = uses.variables.len();
     let arrays = closure(alloc, count, &uses.arrays, &uses.pairs)?;
@@ -61,9 +59,12 @@ pub(crate) fn kinds_of<'a>(
     scopes: &Scopes<'a>,
     marks: &[Mark<'a>],
 ) -> Result<Kinds<'a>, AllocError>
-    ensures variables { IfOk result (λ kinds. view_variables kinds.variables.keys ≡ variables (view_heads scopes.now.heads.items) (view_marks marks.now)) }
-    ensures arrays { IfOk result (λ kinds. is_marked_in (view_variables kinds.variables.keys) kinds.arrays.items ≡ is_used_as Array (view_heads scopes.now.heads.items) (view_marks marks.now)) }
-    ensures scalars { IfOk result (λ kinds. is_marked_in (view_variables kinds.variables.keys) kinds.scalars.items ≡ is_used_as Scalar (view_heads scopes.now.heads.items) (view_marks marks.now)) }
+    ensures variables { IfOk result
+        (λ kinds. variables_in kinds ≡ variables (functions_in scopes.now) (view_marks marks.now)) }
+    ensures arrays { IfOk result (λ kinds. arrays_in kinds
+        ≡ is_used_as Array (functions_in scopes.now) (view_marks marks.now)) }
+    ensures scalars { IfOk result (λ kinds. scalars_in kinds
+        ≡ is_used_as Scalar (functions_in scopes.now) (view_marks marks.now)) }
 {
     let uses = uses_of(alloc, scopes, marks)?;
     let found = marked(alloc, &uses)?;
@@ -88,21 +89,22 @@ impl<'a> Variable<'a> {
 impl<'a> Kinds<'a> {
     /// Whether a variable is used as an array.
     pub fn is_array(&self, variable: Variable<'a>) -> bool
-        ensures { result ≡ is_marked_in (view_variables self.now.variables.keys) self.now.arrays.items (view_variable variable.entry) }
+        ensures { result ≡ arrays_in self.now (view_variable variable.entry) }
     {
         is_marked_in(&self.variables, &self.arrays, variable)
     }
 
     /// Whether a variable is used as a scalar.
     pub fn is_scalar(&self, variable: Variable<'a>) -> bool
-        ensures { result ≡ is_marked_in (view_variables self.now.variables.keys) self.now.scalars.items (view_variable variable.entry) }
+        ensures { result ≡ scalars_in self.now (view_variable variable.entry) }
     {
         is_marked_in(&self.variables, &self.scalars, variable)
     }
 
     /// The name of a variable of both kinds.
     fn clashing(&self, variable: Variable<'a>) -> Option<&'a [u8]>
-        ensures { view_place result ≡ clashing (is_marked_in (view_variables self.now.variables.keys) self.now.arrays.items) (is_marked_in (view_variables self.now.variables.keys) self.now.scalars.items) (view_variable variable.entry) }
+        ensures { view_place result
+            ≡ clashing (arrays_in self.now) (scalars_in self.now) (view_variable variable.entry) }
     {
         if self.is_array(variable) && self.is_scalar(variable) {
             Some(variable.name())
@@ -113,7 +115,8 @@ impl<'a> Kinds<'a> {
 
     /// The name of a parameter that is an array.
     fn needing(&self, parameter: Option<Variable<'a>>) -> Option<&'a [u8]>
-        ensures { view_place result ≡ needing (is_marked_in (view_variables self.now.variables.keys) self.now.arrays.items) (view_maybe_variable parameter.entry) }
+        ensures { view_place result
+            ≡ needing (arrays_in self.now) (view_maybe_variable parameter.entry) }
     {
         match parameter {
             Some(parameter) if self.is_array(parameter) => Some(parameter.name()),
@@ -123,7 +126,8 @@ impl<'a> Kinds<'a> {
 
     /// The name that a mark shows to be of both kinds.
     fn clash(&self, scopes: &Scopes<'a>, mark: Mark<'a>) -> Option<&'a [u8]>
-        ensures { view_place result ≡ clash (is_marked_in (view_variables self.now.variables.keys) self.now.arrays.items) (is_marked_in (view_variables self.now.variables.keys) self.now.scalars.items) (view_heads scopes.now.heads.items) (view_mark mark.entry) }
+        ensures { view_place result ≡ clash (arrays_in self.now) (scalars_in self.now)
+            (functions_in scopes.now) (view_mark mark.entry) }
     {
         match mark {
             Mark::Parameter(function, name) => self.clashing(Variable::Inside(function, name)),
@@ -139,7 +143,8 @@ impl<'a> Kinds<'a> {
 
     /// The first name of both kinds, or the first parameter that is an array where the argument is no bare name.
     pub fn first_clash(&self, scopes: &Scopes<'a>, marks: &[Mark<'a>]) -> Option<&'a [u8]>
-        ensures { view_place result ≡ first (clash (is_marked_in (view_variables self.now.variables.keys) self.now.arrays.items) (is_marked_in (view_variables self.now.variables.keys) self.now.scalars.items) (view_heads scopes.now.heads.items)) (view_marks marks.now) }
+        ensures { view_place result ≡ first (clash (arrays_in self.now) (scalars_in self.now)
+            (functions_in scopes.now)) (view_marks marks.now) }
     {
         for mark in marks {
             let found = self.clash(scopes, *mark);

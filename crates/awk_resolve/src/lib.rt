@@ -12,6 +12,7 @@ mod mark;
 mod refusals;
 mod resolved;
 mod scopes;
+mod sets;
 mod special;
 mod uses;
 mod walk;

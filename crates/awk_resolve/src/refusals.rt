@@ -2,9 +2,11 @@
 
 ghost use Rattle.std.specs.Prelude.{◌≡◌, ◌++◌, [], ◌∷◌, ◌||◌, false, IfOk};
 ghost use Rattle.std.specs.List.{list_any};
-ghost use Rattle.awk_resolve.specs.Kinds.{Inside, same_key, has_name, is_function, specials, only_if, too_many, defined, declared, duplicate, first_duplicate, unknown, excess, first};
+ghost use Rattle.awk_kinds.specs.Kinds.{Inside, same_key, has_name, is_function, specials, only_if, too_many, defined, declared, duplicate, first_duplicate, unknown, excess, first};
 ghost use Rattle.awk_resolve.specs.View.{view_place, view_mark, view_marks};
-ghost use Rattle.awk_resolve.specs.ViewNames.{names, view_heads, view_variables};
+ghost use Rattle.awk_resolve.specs.ViewNames.{view_heads};
+ghost use Rattle.awk_resolve.specs.ViewScopes.{functions_in};
+ghost use Rattle.awk_resolve.specs.ViewSeen.{functions_named, parameters_named};
 
 use crate::mark::Mark;
 use crate::scopes::{Head, Scopes, Variable};
@@ -39,8 +41,10 @@ struct Seen<'a> {
 
 /// Notes a function's name, and says whether it is taken.
 fn note_function<'a>(seen: &mut Seen<'a>, name: &'a [u8]) -> Result<bool, AllocError>
-    ensures taken { IfOk result (λ b. b ≡ (has_name specials name.now || has_name (names seen.old.functions.keys) name.now)) }
-    ensures noted { IfOk result (λ b. b ≡ false → names seen.new.functions.keys ≡ names seen.old.functions.keys ++ name.now ∷ []) }
+    ensures taken { IfOk result
+        (λ b. b ≡ (has_name specials name.now || has_name (functions_named seen.old) name.now)) }
+    ensures noted { IfOk result
+        (λ b. b ≡ false → functions_named seen.new ≡ functions_named seen.old ++ name.now ∷ []) }
     ensures parameters { seen.new.parameters.keys ≡ seen.old.parameters.keys }
 {
     if is_special(name) {
@@ -57,8 +61,12 @@ fn note_parameter<'a>(
     function: &'a [u8],
     name: &'a [u8],
 ) -> Result<bool, AllocError>
-    ensures taken { IfOk result (λ b. b ≡ (has_name specials name.now || (is_function (view_heads scopes.now.heads.items) name.now || list_any (same_key (Inside function.now name.now)) (view_variables seen.old.parameters.keys)))) }
-    ensures noted { IfOk result (λ b. b ≡ false → view_variables seen.new.parameters.keys ≡ view_variables seen.old.parameters.keys ++ Inside function.now name.now ∷ []) }
+    ensures taken { IfOk result
+        (λ b. b
+        ≡ (has_name specials name.now || (is_function (functions_in scopes.now) name.now || list_any
+        (same_key (Inside function.now name.now)) (parameters_named seen.old)))) }
+    ensures noted { IfOk result (λ b. b ≡ false → parameters_named seen.new
+        ≡ parameters_named seen.old ++ Inside function.now name.now ∷ []) }
     ensures functions { seen.new.functions.keys ≡ seen.old.functions.keys }
 {
     if is_special(name) || scopes.is_function(name) {
@@ -81,9 +89,12 @@ fn note<'a>(
     scopes: &Scopes<'a>,
     mark: Mark<'a>,
 ) -> Result<Option<&'a [u8]>, AllocError>
-    ensures taken { IfOk result (λ found. view_place found ≡ duplicate (view_heads scopes.now.heads.items) (names seen.old.functions.keys) (view_variables seen.old.parameters.keys) (view_mark mark.entry)) }
-    ensures functions { IfOk result (λ found. found ≡ None → names seen.new.functions.keys ≡ names seen.old.functions.keys ++ defined (view_mark mark.entry ∷ [])) }
-    ensures parameters { IfOk result (λ found. found ≡ None → view_variables seen.new.parameters.keys ≡ view_variables seen.old.parameters.keys ++ declared (view_mark mark.entry ∷ [])) }
+    ensures taken { IfOk result (λ found. view_place found ≡ duplicate (functions_in scopes.now)
+        (functions_named seen.old) (parameters_named seen.old) (view_mark mark.entry)) }
+    ensures functions { IfOk result (λ found. found ≡ None → functions_named seen.new
+        ≡ functions_named seen.old ++ defined (view_mark mark.entry ∷ [])) }
+    ensures parameters { IfOk result (λ found. found ≡ None → parameters_named seen.new
+        ≡ parameters_named seen.old ++ declared (view_mark mark.entry ∷ [])) }
 {
     match mark {
         Mark::Defined(name) => {
@@ -109,7 +120,8 @@ fn first_taken<'a>(
 ) -> Result<Option<&'a [u8]>, AllocError>
     requires functions { seen.old.functions.keys ≡ [] }
     requires parameters { seen.old.parameters.keys ≡ [] }
-    ensures { IfOk result (λ found. view_place found ≡ first_duplicate (view_heads scopes.now.heads.items) [] (view_marks marks.now)) }
+    ensures { IfOk result (λ found. view_place found
+        ≡ first_duplicate (functions_in scopes.now) [] (view_marks marks.now)) }
 {
     for mark in marks {
         let taken = note(seen, scopes, *mark)?;
@@ -126,7 +138,8 @@ pub(crate) fn first_duplicate<'a>(
     scopes: &Scopes<'a>,
     marks: &[Mark<'a>],
 ) -> Result<Option<&'a [u8]>, AllocError>
-    ensures { IfOk result (λ found. view_place found ≡ first_duplicate (view_heads scopes.now.heads.items) [] (view_marks marks.now)) }
+    ensures { IfOk result (λ found. view_place found
+        ≡ first_duplicate (functions_in scopes.now) [] (view_marks marks.now)) }
 {
     let mut seen = Seen {
         functions: IndexSet::new(alloc),
@@ -137,7 +150,7 @@ pub(crate) fn first_duplicate<'a>(
 
 /// The function of a call, if the script lacks it.
 fn unknown<'a>(scopes: &Scopes<'a>, mark: Mark<'a>) -> Option<&'a [u8]>
-    ensures { view_place result ≡ unknown (view_heads scopes.now.heads.items) (view_mark mark.entry) }
+    ensures { view_place result ≡ unknown (functions_in scopes.now) (view_mark mark.entry) }
 {
     match mark {
         Mark::Called(function, _) => only_if(!scopes.is_function(function), function),
@@ -147,7 +160,7 @@ fn unknown<'a>(scopes: &Scopes<'a>, mark: Mark<'a>) -> Option<&'a [u8]>
 
 /// The function of a call, if it has fewer parameters than the call has arguments.
 fn excess<'a>(scopes: &Scopes<'a>, mark: Mark<'a>) -> Option<&'a [u8]>
-    ensures { view_place result ≡ excess (view_heads scopes.now.heads.items) (view_mark mark.entry) }
+    ensures { view_place result ≡ excess (functions_in scopes.now) (view_mark mark.entry) }
 {
     match mark {
         Mark::Called(function, count) => match scopes.parameters_of(function) {
@@ -160,7 +173,7 @@ fn excess<'a>(scopes: &Scopes<'a>, mark: Mark<'a>) -> Option<&'a [u8]>
 
 /// The first call of a function that the script lacks.
 pub(crate) fn first_unknown<'a>(scopes: &Scopes<'a>, marks: &[Mark<'a>]) -> Option<&'a [u8]>
-    ensures { view_place result ≡ first (unknown (view_heads scopes.now.heads.items)) (view_marks marks.now) }
+    ensures { view_place result ≡ first (unknown (functions_in scopes.now)) (view_marks marks.now) }
 {
     for mark in marks {
         let found = unknown(scopes, *mark);
@@ -173,7 +186,7 @@ pub(crate) fn first_unknown<'a>(scopes: &Scopes<'a>, marks: &[Mark<'a>]) -> Opti
 
 /// The first call with too many arguments.
 pub(crate) fn first_excess<'a>(scopes: &Scopes<'a>, marks: &[Mark<'a>]) -> Option<&'a [u8]>
-    ensures { view_place result ≡ first (excess (view_heads scopes.now.heads.items)) (view_marks marks.now) }
+    ensures { view_place result ≡ first (excess (functions_in scopes.now)) (view_marks marks.now) }
 {
     for mark in marks {
         let found = excess(scopes, *mark);

@@ -1,7 +1,7 @@
 //! A script with the kinds of its names.
 
-ghost use Rattle.std.specs.Prelude.{◌≡◌, ◌<◌, ℕ, List, length, IfSome};
-ghost use Rattle.awk_resolve.specs.Places.{function_in, number_in, place_in};
+ghost use Rattle.std.specs.Prelude.{◌≡◌, ◌<◌, length, IfSome};
+ghost use Rattle.awk_resolve.specs.Places.{function_in, place_in, ArePlaces};
 ghost use Rattle.awk_resolve.specs.ViewFunctions.{view_functions};
 ghost use Rattle.awk_resolve.specs.ViewKinds.{view_name_kinds};
 
@@ -20,8 +20,10 @@ pub struct Resolved<'a> {
     pub globals: Vec<NameKind<'a>>,
     pub(crate) function_places: IndexMap<&'a [u8], usize>,
     pub(crate) global_places: IndexMap<&'a [u8], usize>,
-    ghost functions_known: { (x : List ℕ) → number_in function_places.entries x ≡ function_in (view_functions functions.items) x },
-    ghost globals_known: { (x : List ℕ) → number_in global_places.entries x ≡ place_in (view_name_kinds globals.items) x },
+    ghost functions_known: { ArePlaces function_places.entries
+        (function_in (view_functions functions.items)) },
+    ghost globals_known: { ArePlaces global_places.entries
+        (place_in (view_name_kinds globals.items)) },
 }
 
 impl Resolved<'_> {

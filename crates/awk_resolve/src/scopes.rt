@@ -1,11 +1,11 @@
 //! The functions of a script, and what a name stands for in each.
 
-ghost use Rattle.std.specs.Prelude.{◌≡◌, ℕ, List, [], IfOk, OnOk};
+ghost use Rattle.std.specs.Prelude.{◌≡◌, IfOk, OnOk};
 ghost use Rattle.std.specs.List.{list_any};
 ghost use Rattle.awk_grammar.specs.ViewStmt.{view_names, view_script};
-ghost use Rattle.awk_resolve.specs.Kinds.{Inside, same_key, heads, head_keys, is_function, parameters_of, parameter_keys, with_keys, key_in, parameter_at};
+ghost use Rattle.awk_kinds.specs.Kinds.{Inside, same_key, heads, head_keys, is_function, parameters_of, parameter_keys, with_keys, key_in, parameter_at, distinct_parameters};
 ghost use Rattle.awk_resolve.specs.View.{view_place};
-ghost use Rattle.awk_resolve.specs.ViewNames.{view_heads, parameters_in, view_variable, view_variables, view_parameters, view_maybe_variable};
+ghost use Rattle.awk_resolve.specs.ViewNames.{view_heads, view_variable, view_variables, view_parameters, view_maybe_variable, HasParameters};
 
 use awk_grammar::{Item, Script};
 use indexmap::{IndexMap, IndexSet};
@@ -32,8 +32,9 @@ pub(crate) struct Scopes<'a> {
     pub heads: Vec<Head<'a>>,
     functions: IndexMap<&'a [u8], &'a [Vec<u8>]>,
     parameters: IndexSet<Variable<'a>>,
-    ghost functions_found: { (f : List ℕ) → parameters_in functions.entries f ≡ parameters_of (view_heads heads.items) f },
-    ghost parameters_found: { view_variables parameters.keys ≡ with_keys [] (parameter_keys (view_heads heads.items)) },
+    ghost functions_found: { HasParameters functions.entries (view_heads heads.items) },
+    ghost parameters_found: { view_variables parameters.keys
+        ≡ distinct_parameters (view_heads heads.items) },
 }
 
 /// The functions of a script, in order.
@@ -54,7 +55,7 @@ fn functions_of<'a>(
     alloc: Global,
     heads: &[Head<'a>],
 ) -> Result<IndexMap<&'a [u8], &'a [Vec<u8>]>, AllocError>
-    ensures { IfOk result (λ found. (f : List ℕ) → parameters_in found.entries f ≡ parameters_of (view_heads heads.now) f) }
+    ensures { IfOk result (λ found. HasParameters found.entries (view_heads heads.now)) }
 {
     let mut found = IndexMap::new(alloc);
     for head in heads {
@@ -72,7 +73,8 @@ fn add_parameters<'a>(
     function: &'a [u8],
     parameters: &'a [Vec<u8>],
 ) -> Result<(), AllocError>
-    ensures { OnOk result (view_variables found.new.keys ≡ with_keys (view_variables found.old.keys) (head_keys function.now (view_names parameters.now))) }
+    ensures { OnOk result (view_variables found.new.keys ≡ with_keys (view_variables found.old.keys)
+        (head_keys function.now (view_names parameters.now))) }
 {
     for name in parameters {
         found.insert(Variable::Inside(function, name))?;
@@ -86,7 +88,8 @@ pub(crate) fn all_parameters<'a>(
     alloc: Global,
     heads: &[Head<'a>],
 ) -> Result<IndexSet<Variable<'a>>, AllocError>
-    ensures { IfOk result (λ found. view_variables found.keys ≡ with_keys [] (parameter_keys (view_heads heads.now))) }
+    ensures { IfOk result
+        (λ found. view_variables found.keys ≡ distinct_parameters (view_heads heads.now)) }
 {
     let mut found = IndexSet::new(alloc);
     for head in heads {
@@ -98,7 +101,8 @@ pub(crate) fn all_parameters<'a>(
 impl<'a> Scopes<'a> {
     /// The functions of a script.
     pub fn new(alloc: Global, script: &'a Script) -> Result<Self, AllocError>
-        ensures { IfOk result (λ scopes. view_heads scopes.heads.items ≡ heads (view_script script.now)) }
+        ensures { IfOk result
+            (λ scopes. view_heads scopes.heads.items ≡ heads (view_script script.now)) }
     {
         let heads = heads_of(alloc, script)?;
         let functions = functions_of(alloc, &heads)?;
@@ -112,7 +116,8 @@ impl<'a> Scopes<'a> {
 
     /// The parameters of a function.
     pub fn parameters_of(&self, function: &[u8]) -> Option<&'a [Vec<u8>]>
-        ensures { view_parameters result ≡ parameters_of (view_heads self.now.heads.items) function.now }
+        ensures { view_parameters result
+            ≡ parameters_of (view_heads self.now.heads.items) function.now }
     {
         self.functions.get(&function).copied()
     }
@@ -127,14 +132,16 @@ impl<'a> Scopes<'a> {
     /// Whether a function has a parameter of this name.
     #[tactic(auto, using(crate::proofs::Names::any_is, crate::proofs::Names::any_with_keys))]
     fn has_parameter(&self, function: &[u8], name: &[u8]) -> bool
-        ensures { result ≡ list_any (same_key (Inside function.now name.now)) (parameter_keys (view_heads self.now.heads.items)) }
+        ensures { result ≡ list_any (same_key (Inside function.now name.now))
+            (parameter_keys (view_heads self.now.heads.items)) }
     {
         self.parameters.contains(&Variable::Inside(function, name))
     }
 
     /// What a name stands for in a place.
     pub fn variable_in(&self, place: Option<&'a [u8]>, name: &'a [u8]) -> Variable<'a>
-        ensures { view_variable result ≡ key_in (view_heads self.now.heads.items) (view_place place.entry) name.now }
+        ensures { view_variable result
+            ≡ key_in (view_heads self.now.heads.items) (view_place place.entry) name.now }
     {
         match place {
             Some(function) if self.has_parameter(function, name) => {
@@ -146,7 +153,8 @@ impl<'a> Scopes<'a> {
 
     /// The parameter for which an argument of a call is given.
     pub fn parameter_at(&self, function: &'a [u8], argument: usize) -> Option<Variable<'a>>
-        ensures { view_maybe_variable result ≡ parameter_at (view_heads self.now.heads.items) function.now argument }
+        ensures { view_maybe_variable result
+            ≡ parameter_at (view_heads self.now.heads.items) function.now argument }
     {
         let parameters = self.parameters_of(function)?;
         let name = parameters.get(argument)?;

@@ -1,12 +1,14 @@
 //! The variables of a script by number, and their uses.
 
-ghost use Rattle.std.specs.Prelude.{◌≡◌, ◌++◌, ◌∷◌, [], List, Some, map, IfOk, OnOk};
+ghost use Rattle.std.specs.Prelude.{◌≡◌, ◌∷◌, [], Some, map, IfOk, OnOk};
 ghost use Rattle.std.specs.List.{slice_get};
-ghost use Rattle.awk_resolve.specs.Marks.{Array, Scalar};
-ghost use Rattle.awk_resolve.specs.Kinds.{Key, Whole, same_kind, parameter_keys, with_key, with_keys, with_maybe, with_mark, with_marks, variables, used, members, pair_of, pairs};
+ghost use Rattle.awk_kinds.specs.Marks.{Array, Scalar};
+ghost use Rattle.awk_kinds.specs.Kinds.{Whole, same_kind, with_key, with_keys, with_maybe, with_mark, variables, used, members, pair_of, pairs, distinct_parameters};
 ghost use Rattle.awk_resolve.specs.View.{view_kind, view_mark, view_marks};
 ghost use Rattle.awk_resolve.specs.ViewNames.{names, view_heads, view_variable, view_variables, view_maybe_variable};
-ghost use Rattle.awk_resolve.specs.Numbered.{AreNumbers, ArePairs, one_if, all_if};
+ghost use Rattle.awk_resolve.specs.Numbered.{one_if, all_if};
+ghost use Rattle.awk_resolve.specs.ViewScopes.{functions_in};
+ghost use Rattle.awk_resolve.specs.ViewUses.{numbered, AreArrays, AreScalars, AreGiven, AddsArrays, AddsScalars, AddsGiven};
 
 use crate::mark::{Kind, Mark};
 use crate::scopes::{Head, Scopes, Variable, all_parameters};
@@ -31,8 +33,10 @@ fn number_of<'a>(
     variables: &mut IndexSet<Variable<'a>>,
     variable: Variable<'a>,
 ) -> Result<usize, AllocError>
-    ensures variables { OnOk result (view_variables variables.new.keys ≡ with_key (view_variables variables.old.keys) (view_variable variable.entry)) }
-    ensures number { IfOk result (λ n. slice_get (view_variables variables.new.keys) n ≡ Some (view_variable variable.entry)) }
+    ensures variables { OnOk result (view_variables variables.new.keys
+        ≡ with_key (view_variables variables.old.keys) (view_variable variable.entry)) }
+    ensures number { IfOk result (λ n. slice_get (view_variables variables.new.keys) n
+        ≡ Some (view_variable variable.entry)) }
 {
     let (number, _) = variables.insert_full(variable)?;
     Ok(number)
@@ -40,9 +44,12 @@ fn number_of<'a>(
 
 /// Notes that a variable is used so.
 fn note_use<'a>(uses: &mut Uses<'a>, kind: Kind, variable: Variable<'a>) -> Result<(), AllocError>
-    ensures variables { OnOk result (view_variables uses.new.variables.keys ≡ with_key (view_variables uses.old.variables.keys) (view_variable variable.entry)) }
-    ensures arrays { OnOk result ((ks : List Key) → AreNumbers (view_variables uses.old.variables.keys) uses.old.arrays.items ks → AreNumbers (view_variables uses.new.variables.keys) uses.new.arrays.items (ks ++ one_if (same_kind Array (view_kind kind)) (view_variable variable.entry))) }
-    ensures scalars { OnOk result ((ks : List Key) → AreNumbers (view_variables uses.old.variables.keys) uses.old.scalars.items ks → AreNumbers (view_variables uses.new.variables.keys) uses.new.scalars.items (ks ++ one_if (same_kind Scalar (view_kind kind)) (view_variable variable.entry))) }
+    ensures variables { OnOk result
+        (numbered uses.new ≡ with_key (numbered uses.old) (view_variable variable.entry)) }
+    ensures arrays { OnOk result (AddsArrays uses.old uses.new
+        (one_if (same_kind Array (view_kind kind)) (view_variable variable.entry))) }
+    ensures scalars { OnOk result (AddsScalars uses.old uses.new
+        (one_if (same_kind Scalar (view_kind kind)) (view_variable variable.entry))) }
     ensures pairs { uses.new.pairs.items ≡ uses.old.pairs.items }
 {
     let number = number_of(&mut uses.variables, variable)?;
@@ -59,8 +66,10 @@ fn note_given<'a>(
     given: Variable<'a>,
     parameter: Option<Variable<'a>>,
 ) -> Result<(), AllocError>
-    ensures variables { OnOk result (view_variables uses.new.variables.keys ≡ with_maybe (with_key (view_variables uses.old.variables.keys) (view_variable given.entry)) (view_maybe_variable parameter.entry)) }
-    ensures pairs { OnOk result ((qs : List (Key × Key)) → ArePairs (view_variables uses.old.variables.keys) uses.old.pairs.items qs → ArePairs (view_variables uses.new.variables.keys) uses.new.pairs.items (qs ++ pair_of (view_variable given.entry) (view_maybe_variable parameter.entry))) }
+    ensures variables { OnOk result (numbered uses.new ≡ with_maybe (with_key (numbered uses.old)
+        (view_variable given.entry)) (view_maybe_variable parameter.entry)) }
+    ensures pairs { OnOk result (AddsGiven uses.old uses.new
+        (pair_of (view_variable given.entry) (view_maybe_variable parameter.entry))) }
     ensures arrays { uses.new.arrays.items ≡ uses.old.arrays.items }
     ensures scalars { uses.new.scalars.items ≡ uses.old.scalars.items }
 {
@@ -77,10 +86,14 @@ fn note_given<'a>(
 
 /// Notes what a mark says.
 fn note<'a>(uses: &mut Uses<'a>, scopes: &Scopes<'a>, mark: Mark<'a>) -> Result<(), AllocError>
-    ensures variables { OnOk result (view_variables uses.new.variables.keys ≡ with_mark (view_heads scopes.now.heads.items) (view_variables uses.old.variables.keys) (view_mark mark.entry)) }
-    ensures arrays { OnOk result ((ks : List Key) → AreNumbers (view_variables uses.old.variables.keys) uses.old.arrays.items ks → AreNumbers (view_variables uses.new.variables.keys) uses.new.arrays.items (ks ++ used Array (view_heads scopes.now.heads.items) (view_mark mark.entry ∷ []))) }
-    ensures scalars { OnOk result ((ks : List Key) → AreNumbers (view_variables uses.old.variables.keys) uses.old.scalars.items ks → AreNumbers (view_variables uses.new.variables.keys) uses.new.scalars.items (ks ++ used Scalar (view_heads scopes.now.heads.items) (view_mark mark.entry ∷ []))) }
-    ensures pairs { OnOk result ((qs : List (Key × Key)) → ArePairs (view_variables uses.old.variables.keys) uses.old.pairs.items qs → ArePairs (view_variables uses.new.variables.keys) uses.new.pairs.items (qs ++ pairs (view_heads scopes.now.heads.items) (view_mark mark.entry ∷ []))) }
+    ensures variables { OnOk result (numbered uses.new
+        ≡ with_mark (functions_in scopes.now) (numbered uses.old) (view_mark mark.entry)) }
+    ensures arrays { OnOk result (AddsArrays uses.old uses.new
+        (used Array (functions_in scopes.now) (view_mark mark.entry ∷ []))) }
+    ensures scalars { OnOk result (AddsScalars uses.old uses.new
+        (used Scalar (functions_in scopes.now) (view_mark mark.entry ∷ []))) }
+    ensures pairs { OnOk result (AddsGiven uses.old uses.new
+        (pairs (functions_in scopes.now) (view_mark mark.entry ∷ []))) }
 {
     match mark {
         Mark::Used(kind, place, name) => note_use(uses, kind, scopes.variable_in(place, name)),
@@ -98,9 +111,12 @@ fn note_specials<'a>(
     kind: Kind,
     specials: &[&'a [u8]],
 ) -> Result<(), AllocError>
-    ensures variables { OnOk result (view_variables uses.new.variables.keys ≡ with_keys (view_variables uses.old.variables.keys) (map Whole (names specials.now))) }
-    ensures arrays { OnOk result ((ks : List Key) → AreNumbers (view_variables uses.old.variables.keys) uses.old.arrays.items ks → AreNumbers (view_variables uses.new.variables.keys) uses.new.arrays.items (ks ++ all_if (same_kind Array (view_kind kind)) (map Whole (names specials.now)))) }
-    ensures scalars { OnOk result ((ks : List Key) → AreNumbers (view_variables uses.old.variables.keys) uses.old.scalars.items ks → AreNumbers (view_variables uses.new.variables.keys) uses.new.scalars.items (ks ++ all_if (same_kind Scalar (view_kind kind)) (map Whole (names specials.now)))) }
+    ensures variables { OnOk result
+        (numbered uses.new ≡ with_keys (numbered uses.old) (map Whole (names specials.now))) }
+    ensures arrays { OnOk result (AddsArrays uses.old uses.new
+        (all_if (same_kind Array (view_kind kind)) (map Whole (names specials.now)))) }
+    ensures scalars { OnOk result (AddsScalars uses.old uses.new
+        (all_if (same_kind Scalar (view_kind kind)) (map Whole (names specials.now)))) }
     ensures pairs { uses.new.pairs.items ≡ uses.old.pairs.items }
 {
     for name in specials {
@@ -111,7 +127,8 @@ fn note_specials<'a>(
 
 /// The parameters of all functions, and no uses.
 fn no_uses<'a>(alloc: Global, heads: &[Head<'a>]) -> Result<Uses<'a>, AllocError>
-    ensures variables { IfOk result (λ uses. view_variables uses.variables.keys ≡ with_keys [] (parameter_keys (view_heads heads.now))) }
+    ensures variables { IfOk result
+        (λ uses. numbered uses ≡ distinct_parameters (view_heads heads.now)) }
     ensures arrays { IfOk result (λ uses. uses.arrays.items ≡ []) }
     ensures scalars { IfOk result (λ uses. uses.scalars.items ≡ []) }
     ensures pairs { IfOk result (λ uses. uses.pairs.items ≡ []) }
@@ -130,14 +147,18 @@ fn note_all<'a>(
     scopes: &Scopes<'a>,
     marks: &[Mark<'a>],
 ) -> Result<(), AllocError>
-    requires variables { view_variables uses.old.variables.keys ≡ with_keys [] (parameter_keys (view_heads scopes.now.heads.items)) }
+    requires variables { numbered uses.old ≡ distinct_parameters (functions_in scopes.now) }
     requires arrays { uses.old.arrays.items ≡ [] }
     requires scalars { uses.old.scalars.items ≡ [] }
     requires pairs { uses.old.pairs.items ≡ [] }
-    ensures variables { OnOk result (view_variables uses.new.variables.keys ≡ variables (view_heads scopes.now.heads.items) (view_marks marks.now)) }
-    ensures arrays { OnOk result (AreNumbers (view_variables uses.new.variables.keys) uses.new.arrays.items (members Array (view_heads scopes.now.heads.items) (view_marks marks.now))) }
-    ensures scalars { OnOk result (AreNumbers (view_variables uses.new.variables.keys) uses.new.scalars.items (members Scalar (view_heads scopes.now.heads.items) (view_marks marks.now))) }
-    ensures pairs { OnOk result (ArePairs (view_variables uses.new.variables.keys) uses.new.pairs.items (pairs (view_heads scopes.now.heads.items) (view_marks marks.now))) }
+    ensures variables { OnOk result
+        (numbered uses.new ≡ variables (functions_in scopes.now) (view_marks marks.now)) }
+    ensures arrays { OnOk result
+        (AreArrays uses.new (members Array (functions_in scopes.now) (view_marks marks.now))) }
+    ensures scalars { OnOk result
+        (AreScalars uses.new (members Scalar (functions_in scopes.now) (view_marks marks.now))) }
+    ensures pairs { OnOk result
+        (AreGiven uses.new (pairs (functions_in scopes.now) (view_marks marks.now))) }
 {
     note_specials(uses, Kind::Array, &special_arrays())?;
     note_specials(uses, Kind::Scalar, &special_scalars())?;
@@ -153,10 +174,14 @@ pub(crate) fn uses_of<'a>(
     scopes: &Scopes<'a>,
     marks: &[Mark<'a>],
 ) -> Result<Uses<'a>, AllocError>
-    ensures variables { IfOk result (λ uses. view_variables uses.variables.keys ≡ variables (view_heads scopes.now.heads.items) (view_marks marks.now)) }
-    ensures arrays { IfOk result (λ uses. AreNumbers (view_variables uses.variables.keys) uses.arrays.items (members Array (view_heads scopes.now.heads.items) (view_marks marks.now))) }
-    ensures scalars { IfOk result (λ uses. AreNumbers (view_variables uses.variables.keys) uses.scalars.items (members Scalar (view_heads scopes.now.heads.items) (view_marks marks.now))) }
-    ensures pairs { IfOk result (λ uses. ArePairs (view_variables uses.variables.keys) uses.pairs.items (pairs (view_heads scopes.now.heads.items) (view_marks marks.now))) }
+    ensures variables { IfOk result
+        (λ uses. numbered uses ≡ variables (functions_in scopes.now) (view_marks marks.now)) }
+    ensures arrays { IfOk result
+        (λ uses. AreArrays uses (members Array (functions_in scopes.now) (view_marks marks.now))) }
+    ensures scalars { IfOk result (λ uses. AreScalars uses
+        (members Scalar (functions_in scopes.now) (view_marks marks.now))) }
+    ensures pairs { IfOk result
+        (λ uses. AreGiven uses (pairs (functions_in scopes.now) (view_marks marks.now))) }
 {
     let mut uses = no_uses(alloc, &scopes.heads)?;
     note_all(&mut uses, scopes, marks)?;

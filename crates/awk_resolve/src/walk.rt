@@ -3,8 +3,8 @@
 ghost use Rattle.std.specs.Prelude.{◌≡◌, ◌++◌, ◌∷◌, [], OnOk};
 ghost use Rattle.awk_grammar.specs.Tree.{Index, Call};
 ghost use Rattle.awk_grammar.specs.View.{view, views};
-ghost use Rattle.awk_resolve.specs.Marks.{Array, Used, bare_name, array_name, computed_marks, marks, all_marks, argument_marks, operand_marks};
-ghost use Rattle.awk_resolve.specs.View.{view_mark, view_marks, view_place};
+ghost use Rattle.awk_kinds.specs.Marks.{Array, Used, bare_name, array_name, computed_marks, marks, all_marks, argument_marks, operand_marks};
+ghost use Rattle.awk_resolve.specs.View.{view_mark, view_place, AddsMarks};
 
 use crate::mark::{Kind, Mark};
 use awk_grammar::{Builtin, Expr};
@@ -12,7 +12,7 @@ use std::alloc::AllocError;
 
 /// Adds a mark.
 pub(crate) fn put<'a>(out: &mut Vec<Mark<'a>>, mark: Mark<'a>) -> Result<(), AllocError>
-    ensures { OnOk result (view_marks out.new.items ≡ view_marks out.old.items ++ view_mark mark.entry ∷ []) }
+    ensures { OnOk result (AddsMarks out.old out.new (view_mark mark.entry ∷ [])) }
 {
     out.push(mark)?;
     Ok(())
@@ -64,7 +64,8 @@ fn push_computed<'a>(
     function: &'a [u8],
     arguments: &'a [Expr],
 ) -> Result<(), AllocError>
-    ensures { OnOk result (view_marks out.new.items ≡ view_marks out.old.items ++ computed_marks function.now 0 (views arguments.now)) }
+    ensures { OnOk result
+        (AddsMarks out.old out.new (computed_marks function.now 0 (views arguments.now))) }
 {
     for i in 0..arguments.len() {
         if bare_name(&arguments[i]).is_none() {
@@ -81,7 +82,8 @@ pub(crate) fn push_expr<'a>(
     place: Option<&'a [u8]>,
     e: &'a Expr,
 ) -> Result<(), AllocError>
-    ensures { OnOk result (view_marks out.new.items ≡ view_marks out.old.items ++ marks (view_place place.entry) (view e.now)) }
+    ensures { OnOk result
+        (AddsMarks out.old out.new (marks (view_place place.entry) (view e.now))) }
 {
     match e {
         Expr::Number(_) | Expr::Str(_) | Expr::Ere(_) | Expr::Length | Expr::Getline => Ok(()),
@@ -124,7 +126,8 @@ pub(crate) fn push_element<'a>(
     name: &'a [u8],
     subscripts: &'a [Expr],
 ) -> Result<(), AllocError>
-    ensures { OnOk result (view_marks out.new.items ≡ view_marks out.old.items ++ marks (view_place place.entry) (Index name.now (views subscripts.now))) }
+    ensures { OnOk result (AddsMarks out.old out.new
+        (marks (view_place place.entry) (Index name.now (views subscripts.now)))) }
 {
     put(out, Mark::Used(Kind::Array, place, name))?;
     push_all(out, place, subscripts)
@@ -137,7 +140,8 @@ fn push_call<'a>(
     name: &'a [u8],
     arguments: &'a [Expr],
 ) -> Result<(), AllocError>
-    ensures { OnOk result (view_marks out.new.items ≡ view_marks out.old.items ++ marks (view_place place.entry) (Call name.now (views arguments.now))) }
+    ensures { OnOk result (AddsMarks out.old out.new
+        (marks (view_place place.entry) (Call name.now (views arguments.now)))) }
 {
     put(out, Mark::Called(name, arguments.len()))?;
     push_computed(out, name, arguments)?;
@@ -152,7 +156,8 @@ fn push_others<'a>(
     others: &'a [Expr],
     name: &'a [u8],
 ) -> Result<(), AllocError>
-    ensures { OnOk result (view_marks out.new.items ≡ view_marks out.old.items ++ (all_marks (view_place place.entry) (views others.now) ++ Used Array (view_place place.entry) name.now ∷ [])) }
+    ensures { OnOk result (AddsMarks out.old out.new (all_marks (view_place place.entry)
+        (views others.now) ++ Used Array (view_place place.entry) name.now ∷ [])) }
 {
     push_all(out, place, others)?;
     put(out, Mark::Used(Kind::Array, place, name))
@@ -165,7 +170,8 @@ pub(crate) fn push_all<'a>(
     place: Option<&'a [u8]>,
     es: &'a [Expr],
 ) -> Result<(), AllocError>
-    ensures { OnOk result (view_marks out.new.items ≡ view_marks out.old.items ++ all_marks (view_place place.entry) (views es.now)) }
+    ensures { OnOk result
+        (AddsMarks out.old out.new (all_marks (view_place place.entry) (views es.now))) }
 {
     for e in es {
         push_expr(out, place, e)?;
@@ -181,7 +187,8 @@ fn push_arguments<'a>(
     function: &'a [u8],
     arguments: &'a [Expr],
 ) -> Result<(), AllocError>
-    ensures { OnOk result (view_marks out.new.items ≡ view_marks out.old.items ++ argument_marks (view_place place.entry) function.now 0 (views arguments.now)) }
+    ensures { OnOk result (AddsMarks out.old out.new
+        (argument_marks (view_place place.entry) function.now 0 (views arguments.now))) }
 {
     for i in 0..arguments.len() {
         match bare_name(&arguments[i]) {
@@ -200,7 +207,8 @@ fn push_operands<'a>(
     function: Builtin,
     arguments: &'a [Expr],
 ) -> Result<(), AllocError>
-    ensures { OnOk result (view_marks out.new.items ≡ view_marks out.old.items ++ operand_marks (view_place place.entry) function 0 (views arguments.now)) }
+    ensures { OnOk result (AddsMarks out.old out.new
+        (operand_marks (view_place place.entry) function 0 (views arguments.now))) }
 {
     for i in 0..arguments.len() {
         match array_name(function, i, &arguments[i]) {

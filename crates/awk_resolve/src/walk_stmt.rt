@@ -1,9 +1,9 @@
 //! The marks of a script.
 
-ghost use Rattle.std.specs.Prelude.{◌≡◌, ◌++◌, IfOk, OnOk};
-ghost use Rattle.awk_grammar.specs.ViewStmt.{view_args, view_target, view_simple, view_maybe, view_maybe_simple, view_stmt, view_stmts, view_pattern, view_names, view_item, view_items, view_script};
-ghost use Rattle.awk_resolve.specs.Marks.{args_marks, target_marks, plain_marks, maybe_marks, maybe_plain_marks, stmt_marks, stmts_marks, pattern_marks, parameter_marks, item_marks, script_marks};
-ghost use Rattle.awk_resolve.specs.View.{view_marks, view_place};
+ghost use Rattle.std.specs.Prelude.{◌≡◌, IfOk, OnOk};
+ghost use Rattle.awk_grammar.specs.ViewStmt.{view_args, view_target, view_simple, view_maybe, view_maybe_simple, view_stmt, view_stmts, view_pattern, view_names, view_item, view_script};
+ghost use Rattle.awk_kinds.specs.Marks.{args_marks, target_marks, plain_marks, maybe_marks, maybe_plain_marks, stmt_marks, stmts_marks, pattern_marks, parameter_marks, item_marks, script_marks};
+ghost use Rattle.awk_resolve.specs.View.{view_marks, view_place, AddsMarks};
 
 use crate::mark::{Kind, Mark};
 use crate::walk::{push_all, push_element, push_expr, put};
@@ -15,7 +15,8 @@ fn push_args<'a>(
     place: Option<&'a [u8]>,
     args: &'a PrintArgs,
 ) -> Result<(), AllocError>
-    ensures { OnOk result (view_marks out.new.items ≡ view_marks out.old.items ++ args_marks (view_place place.entry) (view_args args.now)) }
+    ensures { OnOk result
+        (AddsMarks out.old out.new (args_marks (view_place place.entry) (view_args args.now))) }
 {
     match args {
         PrintArgs::Bare => Ok(()),
@@ -32,7 +33,8 @@ fn push_target<'a>(
     place: Option<&'a [u8]>,
     target: &'a PrintTarget,
 ) -> Result<(), AllocError>
-    ensures { OnOk result (view_marks out.new.items ≡ view_marks out.old.items ++ target_marks (view_place place.entry) (view_target target.now)) }
+    ensures { OnOk result (AddsMarks out.old out.new
+        (target_marks (view_place place.entry) (view_target target.now))) }
 {
     match target {
         PrintTarget::Output => Ok(()),
@@ -45,7 +47,8 @@ fn push_simple<'a>(
     place: Option<&'a [u8]>,
     simple: &'a SimpleStmt,
 ) -> Result<(), AllocError>
-    ensures { OnOk result (view_marks out.new.items ≡ view_marks out.old.items ++ plain_marks (view_place place.entry) (view_simple simple.now)) }
+    ensures { OnOk result (AddsMarks out.old out.new
+        (plain_marks (view_place place.entry) (view_simple simple.now))) }
 {
     match simple {
         SimpleStmt::Eval(e) => push_expr(out, place, e),
@@ -63,7 +66,8 @@ fn push_optional<'a>(
     place: Option<&'a [u8]>,
     e: &'a Option<Expr>,
 ) -> Result<(), AllocError>
-    ensures { OnOk result (view_marks out.new.items ≡ view_marks out.old.items ++ maybe_marks (view_place place.entry) (view_maybe e.now)) }
+    ensures { OnOk result
+        (AddsMarks out.old out.new (maybe_marks (view_place place.entry) (view_maybe e.now))) }
 {
     match e {
         None => Ok(()),
@@ -76,7 +80,8 @@ fn push_optional_simple<'a>(
     place: Option<&'a [u8]>,
     simple: &'a Option<SimpleStmt>,
 ) -> Result<(), AllocError>
-    ensures { OnOk result (view_marks out.new.items ≡ view_marks out.old.items ++ maybe_plain_marks (view_place place.entry) (view_maybe_simple simple.now)) }
+    ensures { OnOk result (AddsMarks out.old out.new
+        (maybe_plain_marks (view_place place.entry) (view_maybe_simple simple.now))) }
 {
     match simple {
         None => Ok(()),
@@ -91,7 +96,8 @@ fn push_stmt<'a>(
     place: Option<&'a [u8]>,
     s: &'a Stmt,
 ) -> Result<(), AllocError>
-    ensures { OnOk result (view_marks out.new.items ≡ view_marks out.old.items ++ stmt_marks (view_place place.entry) (view_stmt s.now)) }
+    ensures { OnOk result
+        (AddsMarks out.old out.new (stmt_marks (view_place place.entry) (view_stmt s.now))) }
 {
     match s {
         Stmt::Block(body) => push_stmts(out, place, body),
@@ -131,7 +137,8 @@ fn push_stmts<'a>(
     place: Option<&'a [u8]>,
     body: &'a [Stmt],
 ) -> Result<(), AllocError>
-    ensures { OnOk result (view_marks out.new.items ≡ view_marks out.old.items ++ stmts_marks (view_place place.entry) (view_stmts body.now)) }
+    ensures { OnOk result
+        (AddsMarks out.old out.new (stmts_marks (view_place place.entry) (view_stmts body.now))) }
 {
     for s in body {
         push_stmt(out, place, s)?;
@@ -140,7 +147,8 @@ fn push_stmts<'a>(
 }
 
 fn push_pattern<'a>(out: &mut Vec<Mark<'a>>, pattern: &'a Pattern) -> Result<(), AllocError>
-    ensures { OnOk result (view_marks out.new.items ≡ view_marks out.old.items ++ pattern_marks None (view_pattern pattern.now)) }
+    ensures { OnOk result
+        (AddsMarks out.old out.new (pattern_marks None (view_pattern pattern.now))) }
 {
     match pattern {
         Pattern::One(e) => push_expr(out, None, e),
@@ -156,7 +164,8 @@ fn push_parameters<'a>(
     function: &'a [u8],
     parameters: &'a [Vec<u8>],
 ) -> Result<(), AllocError>
-    ensures { OnOk result (view_marks out.new.items ≡ view_marks out.old.items ++ parameter_marks function.now (view_names parameters.now)) }
+    ensures { OnOk result
+        (AddsMarks out.old out.new (parameter_marks function.now (view_names parameters.now))) }
 {
     for name in parameters {
         put(out, Mark::Parameter(function, name))?;
@@ -165,7 +174,7 @@ fn push_parameters<'a>(
 }
 
 fn push_item<'a>(out: &mut Vec<Mark<'a>>, item: &'a Item) -> Result<(), AllocError>
-    ensures { OnOk result (view_marks out.new.items ≡ view_marks out.old.items ++ item_marks (view_item item.now)) }
+    ensures { OnOk result (AddsMarks out.old out.new (item_marks (view_item item.now))) }
 {
     match item {
         Item::Function(name, parameters, body) => {
@@ -185,7 +194,8 @@ fn push_item<'a>(out: &mut Vec<Mark<'a>>, item: &'a Item) -> Result<(), AllocErr
 
 /// What a script says of names, from left to right.
 pub(crate) fn marks_of(alloc: Global, script: &Script) -> Result<Vec<Mark<'_>>, AllocError>
-    ensures { IfOk result (λ found. view_marks found.items ≡ script_marks (view_script script.now)) }
+    ensures { IfOk result
+        (λ found. view_marks found.items ≡ script_marks (view_script script.now)) }
 {
     let mut out = Vec::new(alloc);
     for item in &script.items {

@@ -31,7 +31,8 @@ pub(crate) fn statement<'a>(
     tokens: &'a [Token<'a>],
 ) -> Result<(Box<Stmt>, &'a [Token<'a>]), Refusal>
     requires room { limit < 4294967295 }
-    ensures { Gives (λ x. (view_stmt x.0.value, seen x.1.now)) result (stmt_at limit (seen tokens.now)) }
+    ensures { Gives (λ x. (view_stmt x.0.value, seen x.1.now)) result
+        (stmt_at limit (seen tokens.now)) }
 {
     if limit == 0 {
         return Err(Refusal::TooDeep(line_of(tokens)));
@@ -48,7 +49,8 @@ fn one<'a>(
     tokens: &'a [Token<'a>],
 ) -> Result<(Box<Stmt>, &'a [Token<'a>]), Refusal>
     requires room { limit < 4294967295 }
-    ensures { Gives (λ x. (view_stmt x.0.value, seen x.1.now)) result (one_at (expr_at limit) (stmt_at limit) (seen tokens.now)) }
+    ensures { Gives (λ x. (view_stmt x.0.value, seen x.1.now)) result
+        (one_at (expr_at limit) (stmt_at limit) (seen tokens.now)) }
 {
     let [first, rest @ ..] = tokens else {
         return simple_statement(alloc, limit, tokens);
@@ -86,7 +88,8 @@ pub(crate) fn statements<'a>(
     tokens: &'a [Token<'a>],
 ) -> Result<Body<'a>, Refusal>
     requires room { limit < 4294967295 }
-    ensures { Gives seen_body result (stmts_at (stmt_at limit) (length (seen tokens.now)) (seen tokens.now)) }
+    ensures { Gives seen_body result
+        (stmts_at (stmt_at limit) (length (seen tokens.now)) (seen tokens.now)) }
 {
     let turns = tokens.len();
     let mut read = Body {
@@ -110,7 +113,8 @@ pub(crate) fn statements<'a>(
 #[inline(never)]
 fn with_statement<'a>(alloc: Global, limit: u32, front: Body<'a>) -> Result<Body<'a>, Refusal>
     requires room { limit < 4294967295 }
-    ensures { Gives seen_body result (with_one (stmt_at limit) (view_stmts front.entry.statements.items) (seen front.entry.rest.now)) }
+    ensures { Gives seen_body result (with_one (stmt_at limit)
+        (view_stmts front.entry.statements.items) (seen front.entry.rest.now)) }
 {
     let (next, rest) = statement(alloc, limit, front.rest)?;
     let statements = pushed_boxed(front.statements, next)?;
@@ -125,7 +129,8 @@ fn block<'a>(
     tokens: &'a [Token<'a>],
 ) -> Result<(Box<Stmt>, &'a [Token<'a>]), Refusal>
     requires room { limit < 4294967295 }
-    ensures { Gives (λ x. (view_stmt x.0.value, seen x.1.now)) result (block_at (stmt_at limit) (seen tokens.now)) }
+    ensures { Gives (λ x. (view_stmt x.0.value, seen x.1.now)) result
+        (block_at (stmt_at limit) (seen tokens.now)) }
 {
     let body = statements(alloc, limit, tokens)?;
     Ok((block_of(alloc, body.statements)?, body.rest))
@@ -140,7 +145,8 @@ fn if_statement<'a>(
     tokens: &'a [Token<'a>],
 ) -> Result<(Box<Stmt>, &'a [Token<'a>]), Refusal>
     requires room { limit < 4294967295 }
-    ensures { Gives (λ x. (view_stmt x.0.value, seen x.1.now)) result (if_at (expr_at limit) (stmt_at limit) (seen tokens.now)) }
+    ensures { Gives (λ x. (view_stmt x.0.value, seen x.1.now)) result
+        (if_at (expr_at limit) (stmt_at limit) (seen tokens.now)) }
 {
     let (test, behind) = condition(alloc, limit, tokens)?;
     let (test, (then, behind)) = beside(test, statement(alloc, limit, behind))?;
@@ -158,7 +164,8 @@ fn else_part<'a>(
     tokens: &'a [Token<'a>],
 ) -> Result<(Box<Stmt>, &'a [Token<'a>]), Refusal>
     requires room { limit < 4294967295 }
-    ensures { Gives (λ x. (view_stmt x.0.value, seen x.1.now)) result (else_by (stmt_at limit) (view test) (view_stmt then.value) (seen tokens.now) (else_at (seen tokens.now))) }
+    ensures { Gives (λ x. (view_stmt x.0.value, seen x.1.now)) result (else_by (stmt_at limit)
+        (view test) (view_stmt then.value) (seen tokens.now) (else_at (seen tokens.now))) }
 {
     let Some(behind) = after_else(tokens) else {
         return Ok((if_of(alloc, test, then)?, tokens));
@@ -176,7 +183,8 @@ fn while_loop<'a>(
     tokens: &'a [Token<'a>],
 ) -> Result<(Box<Stmt>, &'a [Token<'a>]), Refusal>
     requires room { limit < 4294967295 }
-    ensures { Gives (λ x. (view_stmt x.0.value, seen x.1.now)) result (loop_at (expr_at limit) (stmt_at limit) (seen tokens.now)) }
+    ensures { Gives (λ x. (view_stmt x.0.value, seen x.1.now)) result
+        (loop_at (expr_at limit) (stmt_at limit) (seen tokens.now)) }
 {
     let (test, behind) = condition(alloc, limit, tokens)?;
     let (test, (body, rest)) = beside(test, statement(alloc, limit, behind))?;
@@ -192,7 +200,8 @@ fn do_loop<'a>(
     tokens: &'a [Token<'a>],
 ) -> Result<(Box<Stmt>, &'a [Token<'a>]), Refusal>
     requires room { limit < 4294967295 }
-    ensures { Gives (λ x. (view_stmt x.0.value, seen x.1.now)) result (do_at (expr_at limit) (stmt_at limit) (seen tokens.now)) }
+    ensures { Gives (λ x. (view_stmt x.0.value, seen x.1.now)) result
+        (do_at (expr_at limit) (stmt_at limit) (seen tokens.now)) }
 {
     let (body, behind) = statement(alloc, limit, tokens)?;
     do_test(alloc, limit, body, behind)
@@ -207,7 +216,8 @@ fn do_test<'a>(
     tokens: &'a [Token<'a>],
 ) -> Result<(Box<Stmt>, &'a [Token<'a>]), Refusal>
     requires room { limit < 4294967295 }
-    ensures { Gives (λ x. (view_stmt x.0.value, seen x.1.now)) result (do_test_at (expr_at limit) (view_stmt body.value) (seen tokens.now)) }
+    ensures { Gives (λ x. (view_stmt x.0.value, seen x.1.now)) result
+        (do_test_at (expr_at limit) (view_stmt body.value) (seen tokens.now)) }
 {
     let behind = while_word(tokens)?;
     let (test, rest) = condition(alloc, limit, behind)?;
@@ -223,7 +233,8 @@ fn for_loop<'a>(
     tokens: &'a [Token<'a>],
 ) -> Result<(Box<Stmt>, &'a [Token<'a>]), Refusal>
     requires room { limit < 4294967295 }
-    ensures { Gives (λ x. (view_stmt x.0.value, seen x.1.now)) result (for_at (expr_at limit) (stmt_at limit) (seen tokens.now)) }
+    ensures { Gives (λ x. (view_stmt x.0.value, seen x.1.now)) result
+        (for_at (expr_at limit) (stmt_at limit) (seen tokens.now)) }
 {
     let behind = open(tokens)?;
     match keys(behind) {
@@ -243,7 +254,8 @@ fn loop_over<'a>(
     tokens: &'a [Token<'a>],
 ) -> Result<(Box<Stmt>, &'a [Token<'a>]), Refusal>
     requires room { limit < 4294967295 }
-    ensures { Gives (λ x. (view_stmt x.0.value, seen x.1.now)) result (loop_over_at (stmt_at limit) key.now array.now (seen tokens.now)) }
+    ensures { Gives (λ x. (view_stmt x.0.value, seen x.1.now)) result
+        (loop_over_at (stmt_at limit) key.now array.now (seen tokens.now)) }
 {
     let (body, rest) = statement(alloc, limit, tokens)?;
     Ok((for_in_of(alloc, key, array, body)?, rest))
@@ -258,7 +270,8 @@ fn counted_loop<'a>(
     tokens: &'a [Token<'a>],
 ) -> Result<(Box<Stmt>, &'a [Token<'a>]), Refusal>
     requires room { limit < 4294967295 }
-    ensures { Gives (λ x. (view_stmt x.0.value, seen x.1.now)) result (for_by (expr_at limit) (stmt_at limit) (seen tokens.now) None) }
+    ensures { Gives (λ x. (view_stmt x.0.value, seen x.1.now)) result
+        (for_by (expr_at limit) (stmt_at limit) (seen tokens.now) None) }
 {
     let (head, behind) = loop_head(alloc, limit, tokens)?;
     let (head, (body, rest)) = beside(head, statement(alloc, limit, behind))?;
@@ -282,7 +295,8 @@ fn jump<'a>(
     kind: Jump,
     tokens: &'a [Token<'a>],
 ) -> Result<(Box<Stmt>, &'a [Token<'a>]), Refusal>
-    ensures { Gives (λ x. (view_stmt x.0.value, seen x.1.now)) result (jump_at (view_jump kind) (seen tokens.now)) }
+    ensures { Gives (λ x. (view_stmt x.0.value, seen x.1.now)) result
+        (jump_at (view_jump kind) (seen tokens.now)) }
 {
     let rest = semicolon(tokens)?;
     Ok((boxed(alloc, Stmt::Jump(kind))?, rest))
@@ -297,7 +311,8 @@ fn leave<'a>(
     tokens: &'a [Token<'a>],
 ) -> Result<(Box<Stmt>, &'a [Token<'a>]), Refusal>
     requires room { limit < 4294967295 }
-    ensures { Gives (λ x. (view_stmt x.0.value, seen x.1.now)) result (leave_at (expr_at limit) (view_leaving kind) (seen tokens.now)) }
+    ensures { Gives (λ x. (view_stmt x.0.value, seen x.1.now)) result
+        (leave_at (expr_at limit) (view_leaving kind) (seen tokens.now)) }
 {
     let (value, behind) = optional(alloc, limit, tokens)?;
     let (value, rest) = beside(value, semicolon(behind))?;
@@ -311,7 +326,8 @@ fn simple_statement<'a>(
     tokens: &'a [Token<'a>],
 ) -> Result<(Box<Stmt>, &'a [Token<'a>]), Refusal>
     requires room { limit < 4294967295 }
-    ensures { Gives (λ x. (view_stmt x.0.value, seen x.1.now)) result (simple_at (expr_at limit) (seen tokens.now)) }
+    ensures { Gives (λ x. (view_stmt x.0.value, seen x.1.now)) result
+        (simple_at (expr_at limit) (seen tokens.now)) }
 {
     let (inner, behind) = simple(alloc, limit, tokens)?;
     let (inner, rest) = beside(inner, semicolon(behind))?;

@@ -30,7 +30,8 @@ pub(crate) fn loop_head<'a>(
     tokens: &'a [Token<'a>],
 ) -> Result<(Box<Head>, &'a [Token<'a>]), Refusal>
     requires room { limit < 4294967295 }
-    ensures { Gives (λ x. (view_head x.0.value, seen x.1.now)) result (head_at (expr_at limit) (seen tokens.now)) }
+    ensures { Gives (λ x. (view_head x.0.value, seen x.1.now)) result
+        (head_at (expr_at limit) (seen tokens.now)) }
 {
     let (first, behind) = optional_simple(alloc, limit, tokens)?;
     let (first, behind) = beside(first, semicolon(behind))?;
@@ -45,7 +46,8 @@ fn head_test<'a>(
     tokens: &'a [Token<'a>],
 ) -> Result<(Box<Head>, &'a [Token<'a>]), Refusal>
     requires room { limit < 4294967295 }
-    ensures { Gives (λ x. (view_head x.0.value, seen x.1.now)) result (head_test_at (expr_at limit) (view_maybe_simple first) (seen tokens.now)) }
+    ensures { Gives (λ x. (view_head x.0.value, seen x.1.now)) result
+        (head_test_at (expr_at limit) (view_maybe_simple first) (seen tokens.now)) }
 {
     let (first, (test, behind)) = beside(first, optional(alloc, limit, tokens))?;
     let ((first, test), behind) = beside((first, test), semicolon(behind))?;
@@ -61,7 +63,8 @@ fn head_step<'a>(
     tokens: &'a [Token<'a>],
 ) -> Result<(Box<Head>, &'a [Token<'a>]), Refusal>
     requires room { limit < 4294967295 }
-    ensures { Gives (λ x. (view_head x.0.value, seen x.1.now)) result (head_step_at (expr_at limit) (view_maybe_simple first) (view_maybe test) (seen tokens.now)) }
+    ensures { Gives (λ x. (view_head x.0.value, seen x.1.now)) result (head_step_at (expr_at limit)
+        (view_maybe_simple first) (view_maybe test) (seen tokens.now)) }
 {
     let ((first, test), (step, behind)) = beside(
         (first, test),

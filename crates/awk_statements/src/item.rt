@@ -47,7 +47,8 @@ struct NamesRead<'a> {
 /// The parameters behind the first, each behind a comma.
 #[tactic(auto, using(crate::proofs::Names::names_none, crate::proofs::Names::names_done))]
 fn names<'a>(alloc: Global, first: &[u8], tokens: &'a [Token<'a>]) -> Result<NamesRead<'a>, Refusal>
-    ensures { Gives seen_names result (with_names (first.now ∷ []) (names_at (length (seen tokens.now)) (seen tokens.now))) }
+    ensures { Gives seen_names result
+        (with_names (first.now ∷ []) (names_at (length (seen tokens.now)) (seen tokens.now))) }
 {
     let turns = tokens.len();
     let mut read = only_name(alloc, first, tokens)?;
@@ -109,7 +110,8 @@ fn function<'a>(
     text: &[u8],
     tokens: &'a [Token<'a>],
 ) -> Result<(Item, &'a [Token<'a>]), Refusal>
-    ensures { Gives (λ x. (view_item x.0, seen x.1.now)) result (function_by 1000 text.now (seen tokens.now)) }
+    ensures { Gives (λ x. (view_item x.0, seen x.1.now)) result
+        (function_by 1000 text.now (seen tokens.now)) }
 {
     let behind = open(tokens)?;
     let parameters = params(alloc, behind)?;
@@ -123,7 +125,8 @@ fn defined<'a>(
     parameters: Vec<Vec<u8>>,
     tokens: &'a [Token<'a>],
 ) -> Result<(Item, &'a [Token<'a>]), Refusal>
-    ensures { Gives (λ x. (view_item x.0, seen x.1.now)) result (defined_at text.now (view_names parameters.items) (seen tokens.now)) }
+    ensures { Gives (λ x. (view_item x.0, seen x.1.now)) result
+        (defined_at text.now (view_names parameters.items) (seen tokens.now)) }
 {
     let behind = close(tokens)?;
     let action = body(alloc, behind)?;
@@ -139,7 +142,8 @@ fn named_function<'a>(
     alloc: Global,
     tokens: &'a [Token<'a>],
 ) -> Result<(Item, &'a [Token<'a>]), Refusal>
-    ensures { Gives (λ x. (view_item x.0, seen x.1.now)) result (function_at 1000 (spoken_after true (map spelled tokens.now))) }
+    ensures { Gives (λ x. (view_item x.0, seen x.1.now)) result
+        (function_at 1000 (spoken_after true (map spelled tokens.now))) }
 {
     match tokens {
         [
@@ -160,7 +164,8 @@ fn pattern<'a>(
     alloc: Global,
     tokens: &'a [Token<'a>],
 ) -> Result<(Pattern, &'a [Token<'a>]), Refusal>
-    ensures { Gives (λ x. (view_pattern x.0, seen x.1.now)) result (pattern_at 1000 (seen tokens.now)) }
+    ensures { Gives (λ x. (view_pattern x.0, seen x.1.now)) result
+        (pattern_at 1000 (seen tokens.now)) }
 {
     let first = expression(alloc, LIMIT, true, Mode::Whole, tokens)?;
     let Some(behind) = after_comma(first.rest) else {
@@ -185,7 +190,8 @@ fn action<'a>(
     condition: Pattern,
     tokens: &'a [Token<'a>],
 ) -> Result<(Item, &'a [Token<'a>]), Refusal>
-    ensures { Gives (λ x. (view_item x.0, seen x.1.now)) result (action_at 1000 (view_pattern condition) (seen tokens.now)) }
+    ensures { Gives (λ x. (view_item x.0, seen x.1.now)) result
+        (action_at 1000 (view_pattern condition) (seen tokens.now)) }
 {
     match after_semicolon(tokens) {
         Some(rest) => Ok((Item::PatternOnly(condition), rest)),
@@ -233,7 +239,8 @@ struct ItemsRead<'a> {
 /// Items and one more.
 #[tactic(auto, using(crate::proofs::Names::view_items_push))]
 fn with_item<'a>(alloc: Global, front: ItemsRead<'a>) -> Result<ItemsRead<'a>, Refusal>
-    ensures { Gives seen_items result (one_item (view_items front.entry.items.items) (seen front.entry.rest.now)) }
+    ensures { Gives seen_items result
+        (one_item (view_items front.entry.items.items) (seen front.entry.rest.now)) }
 {
     let (next, rest) = item(alloc, front.rest)?;
     let items = pushed(front.items, next)?;

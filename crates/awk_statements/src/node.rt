@@ -36,7 +36,8 @@ pub(crate) fn if_else_of(
     then: Box<Stmt>,
     otherwise: Box<Stmt>,
 ) -> Result<Box<Stmt>, Refusal>
-    ensures value { IfOk result (λ s. view_stmt s.value ≡ IfElse (view test) (view_stmt then.value) (view_stmt otherwise.value)) }
+    ensures value { IfOk result (λ s. view_stmt s.value
+        ≡ IfElse (view test) (view_stmt then.value) (view_stmt otherwise.value)) }
     ensures refused { IfErr result (λ e. e ≡ NoMemory) }
 {
     boxed(alloc, Stmt::IfElse(test, then, otherwise))
@@ -44,7 +45,8 @@ pub(crate) fn if_else_of(
 
 #[inline(never)]
 pub(crate) fn while_of(alloc: Global, test: Expr, body: Box<Stmt>) -> Result<Box<Stmt>, Refusal>
-    ensures value { IfOk result (λ s. view_stmt s.value ≡ While (view test) (view_stmt body.value)) }
+    ensures value { IfOk result
+        (λ s. view_stmt s.value ≡ While (view test) (view_stmt body.value)) }
     ensures refused { IfErr result (λ e. e ≡ NoMemory) }
 {
     boxed(alloc, Stmt::While(test, body))
@@ -60,7 +62,8 @@ pub(crate) fn do_of(alloc: Global, body: Box<Stmt>, test: Expr) -> Result<Box<St
 
 #[inline(never)]
 pub(crate) fn for_of(alloc: Global, head: Box<Head>, body: Box<Stmt>) -> Result<Box<Stmt>, Refusal>
-    ensures value { IfOk result (λ s. view_stmt s.value ≡ For (view_maybe_simple head.value.first) (view_maybe head.value.test) (view_maybe_simple head.value.step) (view_stmt body.value)) }
+    ensures value { IfOk result (λ s. view_stmt s.value ≡ For (view_maybe_simple head.value.first)
+        (view_maybe head.value.test) (view_maybe_simple head.value.step) (view_stmt body.value)) }
     ensures refused { IfErr result (λ e. e ≡ NoMemory) }
 {
     let Head { first, test, step } = Box::into_inner(head);
@@ -74,7 +77,8 @@ pub(crate) fn for_in_of(
     array: &[u8],
     body: Box<Stmt>,
 ) -> Result<Box<Stmt>, Refusal>
-    ensures value { IfOk result (λ s. view_stmt s.value ≡ ForIn key.now array.now (view_stmt body.value)) }
+    ensures value { IfOk result
+        (λ s. view_stmt s.value ≡ ForIn key.now array.now (view_stmt body.value)) }
     ensures refused { IfErr result (λ e. e ≡ NoMemory) }
 {
     let key = key.to_vec(alloc)?;

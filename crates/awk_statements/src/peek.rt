@@ -75,7 +75,8 @@ pub(crate) fn while_word<'a>(tokens: &'a [Token<'a>]) -> Result<&'a [Token<'a>],
 
 /// The tokens behind `else`.
 pub(crate) fn after_else<'a>(tokens: &'a [Token<'a>]) -> Option<&'a [Token<'a>]>
-    ensures { MatchOption result (else_at (seen tokens.now) ≡ None) (λ r. else_at (seen tokens.now) ≡ Some (seen r.now)) }
+    ensures { MatchOption result (else_at (seen tokens.now) ≡ None)
+        (λ r. else_at (seen tokens.now) ≡ Some (seen r.now)) }
 {
     match tokens {
         [
@@ -91,7 +92,8 @@ pub(crate) fn after_else<'a>(tokens: &'a [Token<'a>]) -> Option<&'a [Token<'a>]>
 
 /// The tokens behind `}`.
 pub(crate) fn after_brace<'a>(tokens: &'a [Token<'a>]) -> Option<&'a [Token<'a>]>
-    ensures { MatchOption result (brace_at (seen tokens.now) ≡ None) (λ r. brace_at (seen tokens.now) ≡ Some (seen r.now)) }
+    ensures { MatchOption result (brace_at (seen tokens.now) ≡ None)
+        (λ r. brace_at (seen tokens.now) ≡ Some (seen r.now)) }
 {
     match tokens {
         [
@@ -107,7 +109,8 @@ pub(crate) fn after_brace<'a>(tokens: &'a [Token<'a>]) -> Option<&'a [Token<'a>]
 
 /// The tokens behind `in`.
 pub(crate) fn after_in<'a>(tokens: &'a [Token<'a>]) -> Option<&'a [Token<'a>]>
-    ensures { MatchOption result (in_at (seen tokens.now) ≡ Err SyntaxFault) (λ r. in_at (seen tokens.now) ≡ Ok (seen r.now)) }
+    ensures { MatchOption result (in_at (seen tokens.now) ≡ Err SyntaxFault)
+        (λ r. in_at (seen tokens.now) ≡ Ok (seen r.now)) }
 {
     match tokens {
         [
@@ -123,7 +126,8 @@ pub(crate) fn after_in<'a>(tokens: &'a [Token<'a>]) -> Option<&'a [Token<'a>]>
 
 /// The tokens behind `;`.
 pub(crate) fn after_semicolon<'a>(tokens: &'a [Token<'a>]) -> Option<&'a [Token<'a>]>
-    ensures { MatchOption result (semicolon_at (seen tokens.now) ≡ Err SyntaxFault) (λ r. semicolon_at (seen tokens.now) ≡ Ok (seen r.now)) }
+    ensures { MatchOption result (semicolon_at (seen tokens.now) ≡ Err SyntaxFault)
+        (λ r. semicolon_at (seen tokens.now) ≡ Ok (seen r.now)) }
 {
     match tokens {
         [
@@ -139,7 +143,8 @@ pub(crate) fn after_semicolon<'a>(tokens: &'a [Token<'a>]) -> Option<&'a [Token<
 
 /// A name, and the tokens behind it.
 pub(crate) fn after_name<'a>(tokens: &'a [Token<'a>]) -> Option<(&'a [u8], &'a [Token<'a>])>
-    ensures { MatchOption result (name_at (seen tokens.now) ≡ Err SyntaxFault) (λ n. name_at (seen tokens.now) ≡ Ok (n.0.now, seen n.1.now)) }
+    ensures { MatchOption result (name_at (seen tokens.now) ≡ Err SyntaxFault)
+        (λ n. name_at (seen tokens.now) ≡ Ok (n.0.now, seen n.1.now)) }
 {
     match tokens {
         [
@@ -156,7 +161,8 @@ pub(crate) fn after_name<'a>(tokens: &'a [Token<'a>]) -> Option<(&'a [u8], &'a [
 
 /// The key, the array and what is behind them, where the tokens are those of `key in array )`.
 pub(crate) fn keys<'a>(tokens: &'a [Token<'a>]) -> Option<(&'a [u8], &'a [u8], &'a [Token<'a>])>
-    ensures { MatchOption result (keys_at (seen tokens.now) ≡ None) (λ o. keys_at (seen tokens.now) ≡ Some (o.0.now, o.1.now, seen o.2.now)) }
+    ensures { MatchOption result (keys_at (seen tokens.now) ≡ None)
+        (λ o. keys_at (seen tokens.now) ≡ Some (o.0.now, o.1.now, seen o.2.now)) }
 {
     let (key, behind) = after_name(tokens)?;
     let behind = after_in(behind)?;

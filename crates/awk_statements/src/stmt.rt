@@ -26,7 +26,8 @@ fn enclosed<'a>(
     tokens: &'a [Token<'a>],
 ) -> Result<(Expr, Vec<Expr>, &'a [Token<'a>]), Refusal>
     requires room { limit < 4294967295 }
-    ensures { Gives (λ x. ((view x.0, views x.1.items), seen x.2.now)) result (enclosed_at (expr_at limit) (seen tokens.now)) }
+    ensures { Gives (λ x. ((view x.0, views x.1.items), seen x.2.now)) result
+        (enclosed_at (expr_at limit) (seen tokens.now)) }
 {
     let behind = open(tokens)?;
     let first = expression(alloc, limit, true, Mode::Whole, behind)?;
@@ -41,7 +42,8 @@ fn others<'a>(
     tokens: &'a [Token<'a>],
 ) -> Result<(Expr, Vec<Expr>, &'a [Token<'a>]), Refusal>
     requires room { limit < 4294967295 }
-    ensures { Gives (λ x. ((view x.0, views x.1.items), seen x.2.now)) result (others_at (expr_at limit) (view first) (seen tokens.now)) }
+    ensures { Gives (λ x. ((view x.0, views x.1.items), seen x.2.now)) result
+        (others_at (expr_at limit) (view first) (seen tokens.now)) }
 {
     let (first, behind) = beside(first, comma(tokens))?;
     let (first, others) = beside(first, list(alloc, limit, true, behind))?;
@@ -55,7 +57,8 @@ fn ended<'a>(
     others: Vec<Expr>,
     tokens: &'a [Token<'a>],
 ) -> Result<(Expr, Vec<Expr>, &'a [Token<'a>]), Refusal>
-    ensures { Gives (λ x. ((view x.0, views x.1.items), seen x.2.now)) result (ended_at (view first) (views others.items) (seen tokens.now)) }
+    ensures { Gives (λ x. ((view x.0, views x.1.items), seen x.2.now)) result
+        (ended_at (view first) (views others.items) (seen tokens.now)) }
 {
     let ((first, others), rest) = beside((first, others), close(tokens))?;
     let ((first, others), ()) = beside((first, others), no_in(rest))?;
@@ -64,7 +67,8 @@ fn ended<'a>(
 
 /// Refuses tokens that begin with `in`.
 fn no_in(tokens: &[Token<'_>]) -> Result<(), Refusal>
-    ensures { MatchResult result (λ _. is_in (seen tokens.now) ≡ false) (λ e. (is_in (seen tokens.now) ≡ true) × (e ≡ Syntax (first_line (map spelled tokens.now)))) }
+    ensures { MatchResult result (λ _. is_in (seen tokens.now) ≡ false) (λ e.
+        (is_in (seen tokens.now) ≡ true) × (e ≡ Syntax (first_line (map spelled tokens.now)))) }
 {
     if is_in(tokens) {
         return Err(stopped(tokens));
@@ -79,7 +83,8 @@ fn listed<'a>(
     tokens: &'a [Token<'a>],
 ) -> Result<(PrintArgs, &'a [Token<'a>]), Refusal>
     requires room { limit < 4294967295 }
-    ensures { Gives (λ x. (view_args x.0, seen x.1.now)) result (listed_at (expr_at limit) (seen tokens.now)) }
+    ensures { Gives (λ x. (view_args x.0, seen x.1.now)) result
+        (listed_at (expr_at limit) (seen tokens.now)) }
 {
     let inner = list(alloc, limit, false, tokens)?;
     Ok((PrintArgs::Listed(inner.trees), inner.rest))
@@ -89,7 +94,8 @@ fn no_args<'a>(
     word: PrintWord,
     tokens: &'a [Token<'a>],
 ) -> Result<(PrintArgs, &'a [Token<'a>]), Refusal>
-    ensures { Gives (λ x. (view_args x.0, seen x.1.now)) result (no_args (view_word word) (seen tokens.now)) }
+    ensures { Gives (λ x. (view_args x.0, seen x.1.now)) result
+        (no_args (view_word word) (seen tokens.now)) }
 {
     match word {
         PrintWord::Print => Ok((PrintArgs::Bare, tokens)),
@@ -105,7 +111,8 @@ fn print_args<'a>(
     tokens: &'a [Token<'a>],
 ) -> Result<(PrintArgs, &'a [Token<'a>]), Refusal>
     requires room { limit < 4294967295 }
-    ensures { Gives (λ x. (view_args x.0, seen x.1.now)) result (args_at (expr_at limit) (view_word word) (seen tokens.now)) }
+    ensures { Gives (λ x. (view_args x.0, seen x.1.now)) result
+        (args_at (expr_at limit) (view_word word) (seen tokens.now)) }
 {
     if !begins_expr(tokens) {
         return no_args(word, tokens);
@@ -126,7 +133,8 @@ fn print_target<'a>(
     tokens: &'a [Token<'a>],
 ) -> Result<(PrintTarget, &'a [Token<'a>]), Refusal>
     requires room { limit < 4294967295 }
-    ensures { Gives (λ x. (view_target x.0, seen x.1.now)) result (target_at (expr_at limit) (seen tokens.now)) }
+    ensures { Gives (λ x. (view_target x.0, seen x.1.now)) result
+        (target_at (expr_at limit) (seen tokens.now)) }
 {
     match tokens {
         [
@@ -161,7 +169,8 @@ fn printing<'a>(
     tokens: &'a [Token<'a>],
 ) -> Result<(SimpleStmt, &'a [Token<'a>]), Refusal>
     requires room { limit < 4294967295 }
-    ensures { Gives (λ x. (view_simple x.0, seen x.1.now)) result (put_at (expr_at limit) (view_word word) (seen tokens.now)) }
+    ensures { Gives (λ x. (view_simple x.0, seen x.1.now)) result
+        (put_at (expr_at limit) (view_word word) (seen tokens.now)) }
 {
     let (args, behind) = print_args(alloc, limit, word, tokens)?;
     let (args, (target, rest)) = beside(args, print_target(alloc, limit, behind))?;
@@ -177,7 +186,8 @@ fn deleted<'a>(
     tokens: &'a [Token<'a>],
 ) -> Result<(SimpleStmt, &'a [Token<'a>]), Refusal>
     requires room { limit < 4294967295 }
-    ensures { Gives (λ x. (view_simple x.0, seen x.1.now)) result (delete_by (expr_at limit) array.items (seen tokens.now)) }
+    ensures { Gives (λ x. (view_simple x.0, seen x.1.now)) result
+        (delete_by (expr_at limit) array.items (seen tokens.now)) }
 {
     match tokens {
         [
@@ -202,7 +212,8 @@ fn deletion<'a>(
     tokens: &'a [Token<'a>],
 ) -> Result<(SimpleStmt, &'a [Token<'a>]), Refusal>
     requires room { limit < 4294967295 }
-    ensures { Gives (λ x. (view_simple x.0, seen x.1.now)) result (delete_at (expr_at limit) (seen tokens.now)) }
+    ensures { Gives (λ x. (view_simple x.0, seen x.1.now)) result
+        (delete_at (expr_at limit) (seen tokens.now)) }
 {
     let (array, behind) = name(alloc, tokens)?;
     deleted(alloc, limit, array, behind)
@@ -214,7 +225,8 @@ fn evaluation<'a>(
     tokens: &'a [Token<'a>],
 ) -> Result<(SimpleStmt, &'a [Token<'a>]), Refusal>
     requires room { limit < 4294967295 }
-    ensures { Gives (λ x. (view_simple x.0, seen x.1.now)) result (eval_at (expr_at limit) (seen tokens.now)) }
+    ensures { Gives (λ x. (view_simple x.0, seen x.1.now)) result
+        (eval_at (expr_at limit) (seen tokens.now)) }
 {
     let value = expression(alloc, limit, true, Mode::Whole, tokens)?;
     Ok((SimpleStmt::Eval(value.tree), value.rest))
@@ -227,7 +239,8 @@ pub(crate) fn simple<'a>(
     tokens: &'a [Token<'a>],
 ) -> Result<(SimpleStmt, &'a [Token<'a>]), Refusal>
     requires room { limit < 4294967295 }
-    ensures { Gives (λ x. (view_simple x.0, seen x.1.now)) result (plain_at (expr_at limit) (seen tokens.now)) }
+    ensures { Gives (λ x. (view_simple x.0, seen x.1.now)) result
+        (plain_at (expr_at limit) (seen tokens.now)) }
 {
     let [first, rest @ ..] = tokens else {
         return evaluation(alloc, limit, tokens);
@@ -248,7 +261,8 @@ pub(crate) fn optional<'a>(
     tokens: &'a [Token<'a>],
 ) -> Result<(Option<Expr>, &'a [Token<'a>]), Refusal>
     requires room { limit < 4294967295 }
-    ensures { Gives (λ x. (view_maybe x.0, seen x.1.now)) result (maybe_at (expr_at limit) (seen tokens.now)) }
+    ensures { Gives (λ x. (view_maybe x.0, seen x.1.now)) result
+        (maybe_at (expr_at limit) (seen tokens.now)) }
 {
     if !begins_expr(tokens) {
         return Ok((None, tokens));
@@ -278,7 +292,8 @@ pub(crate) fn optional_simple<'a>(
     tokens: &'a [Token<'a>],
 ) -> Result<(Option<SimpleStmt>, &'a [Token<'a>]), Refusal>
     requires room { limit < 4294967295 }
-    ensures { Gives (λ x. (view_maybe_simple x.0, seen x.1.now)) result (maybe_plain_at (expr_at limit) (seen tokens.now)) }
+    ensures { Gives (λ x. (view_maybe_simple x.0, seen x.1.now)) result
+        (maybe_plain_at (expr_at limit) (seen tokens.now)) }
 {
     if !begins_simple(tokens) {
         return Ok((None, tokens));
@@ -295,7 +310,8 @@ pub(crate) fn condition<'a>(
     tokens: &'a [Token<'a>],
 ) -> Result<(Expr, &'a [Token<'a>]), Refusal>
     requires room { limit < 4294967295 }
-    ensures { Gives (λ x. (view x.0, seen x.1.now)) result (condition_at (expr_at limit) (seen tokens.now)) }
+    ensures { Gives (λ x. (view x.0, seen x.1.now)) result
+        (condition_at (expr_at limit) (seen tokens.now)) }
 {
     let behind = open(tokens)?;
     let value = expression(alloc, limit, true, Mode::Whole, behind)?;

@@ -1,9 +1,17 @@
 -- Numbers of texts, and texts of strings, computed from the definitions.
 use Rattle.std.specs.Prelude.{◌≡◌, ◌^◌, true, false, Ok, Err, pos, neg_ℤ, codes, [], ◌∷◌, refl}
+use Rattle.awk_text.specs.Bytes.{tab, newline, carriage_return, space, quote, hash, percent, open_paren, plus, minus, point, slash, digit_zero, digit_seven, digit_nine, equals, upper_a, upper_e, upper_x, upper_z, backslash, underscore, lower_a, lower_b, lower_c, lower_d, lower_e, lower_f, lower_i, lower_n, lower_o, lower_r, lower_s, lower_t, lower_u, lower_v, lower_x, lower_z}
 use Rattle.awk_text.specs.Reading.{numeral_at, sign_at, fraction_at, exponent_at}
 use Rattle.awk_text.specs.Number.{numerator, denominator, number_of_text, truncated_of_text, looks_numeric_text}
 use Rattle.awk_text.specs.Escapes.{escaped, octal, string_text, unescaped}
 use Rattle.awk_text.specs.declared.number.NumberFault.TheVariants.{Range, Fraction}
+
+-- the bytes that are named
+pub named_bytes : codes "\t\n\r \"#%(+-./079=AEXZ\\_abcdefinorstuvxz" ≡ tab ∷ newline ∷ carriage_return ∷ space ∷ quote ∷ hash ∷ percent
+    ∷ open_paren ∷ plus ∷ minus ∷ point ∷ slash ∷ digit_zero ∷ digit_seven ∷ digit_nine ∷ equals ∷ upper_a ∷ upper_e ∷ upper_x ∷ upper_z
+    ∷ backslash ∷ underscore ∷ lower_a ∷ lower_b ∷ lower_c ∷ lower_d ∷ lower_e ∷ lower_f ∷ lower_i ∷ lower_n ∷ lower_o ∷ lower_r ∷ lower_s
+    ∷ lower_t ∷ lower_u ∷ lower_v ∷ lower_x ∷ lower_z ∷ []
+named_bytes = refl
 
 pub signed_with_exponent : number_of_text (codes " +1.50e1 x") ≡ Ok (pos 15)
 unfolding numeral_at sign_at fraction_at exponent_at numerator denominator
@@ -87,7 +95,8 @@ truncated_into_range = refl
 
 -- Texts of strings.
 
-pub each_letter : unescaped (92 ∷ 34 ∷ 92 ∷ 47 ∷ 92 ∷ 92 ∷ 92 ∷ 97 ∷ 92 ∷ 98 ∷ 92 ∷ 102 ∷ 92 ∷ 110 ∷ 92 ∷ 114 ∷ 92 ∷ 116 ∷ 92 ∷ 118 ∷ []) ≡ 34 ∷ 47 ∷ 92 ∷ 7 ∷ 8 ∷ 12 ∷ 10 ∷ 13 ∷ 9 ∷ 11 ∷ []
+pub each_letter : unescaped (92 ∷ 34 ∷ 92 ∷ 47 ∷ 92 ∷ 92 ∷ 92 ∷ 97 ∷ 92 ∷ 98 ∷ 92 ∷ 102 ∷ 92 ∷ 110 ∷ 92 ∷ 114 ∷ 92 ∷ 116 ∷ 92 ∷ 118 ∷ []) ≡ 34 ∷ 47
+    ∷ 92 ∷ 7 ∷ 8 ∷ 12 ∷ 10 ∷ 13 ∷ 9 ∷ 11 ∷ []
 unfolding unescaped escaped octal
 each_letter = refl
 

@@ -1,3 +1,4 @@
+pub mod Bytes
 pub mod Reading
 pub mod Number
 pub mod NumberText

@@ -1,13 +1,18 @@
 -- The value of a number text.
 use Rattle.std.specs.Prelude.{min, ℕ, ◌+◌, ◌-◌, ◌*◌, ◌/◌, ◌%◌, ◌^◌, Bool, false, not, ◌==◌, nat_le, if◌then◌else◌, Option, Some, None, Result, Ok, Err, List, [], ◌∷◌, ◌++◌, length, ℤ, pos, neg_ℤ}
+use Rattle.awk_text.specs.Bytes.{digit_zero}
 use Rattle.awk_text.specs.Reading.{Numeral, numeral_at, count_while, is_space}
 use Rattle.awk_text.specs.declared.number.NumberFault.{NumberFault}
 use Rattle.awk_text.specs.declared.number.NumberFault.TheVariants.{Range, Fraction}
 
+-- The greatest number. POSIX knows none: a number there is a floating one. Here numbers are the whole ones from -2^53 to 2^53, both included.
+abbrev pub largest : ℕ
+largest = 2 ^ 53
+
 -- the number that digits go on from a
 abbrev pub value_after : ℕ → List ℕ → ℕ
 value_after a [] = a
-value_after a (c ∷ cs) = value_after (a * 10 + (c - 48)) cs
+value_after a (c ∷ cs) = value_after (a * 10 + (c - digit_zero)) cs
 
 -- the digits without the point
 abbrev pub mantissa : Numeral → ℕ
@@ -27,7 +32,7 @@ abbrev pub signed : Bool → ℕ → ℤ
 signed negative n = if negative then neg_ℤ (pos n) else pos n
 
 abbrev pub ranged : Bool → ℕ → Result ℤ NumberFault
-ranged negative n = if nat_le n (2 ^ 53) then Ok (signed negative n) else Err Range
+ranged negative n = if nat_le n largest then Ok (signed negative n) else Err Range
 
 abbrev pub truncated_value : Numeral → Result ℤ NumberFault
 truncated_value n = ranged n.negative (numerator n / denominator n)
@@ -62,4 +67,4 @@ is_nonzero_text text = has_nonzero_mantissa (numeral_at text)
 
 -- what the code keeps of a magnitude: past the range every one is alike
 abbrev pub capped : ℕ → ℕ
-capped n = min n (2 ^ 53 + 1)
+capped n = min n (largest + 1)

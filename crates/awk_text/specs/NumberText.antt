@@ -1,29 +1,30 @@
 -- What number text is, and which number a text stands for.
-use Rattle.std.specs.Prelude.{◌≡◌, ◌⊎◌, ℕ, ◌+◌, ◌*◌, ◌^◌, ◌<◌, ◌≤◌, Bool, true, false, ◌==◌, Result, Ok, Err, List, [], ◌∷◌, ◌++◌, length, ℤ, pos, neg_ℤ, ◌≤ℤ◌}
+use Rattle.std.specs.Prelude.{◌≡◌, ◌⊎◌, ℕ, ◌+◌, ◌*◌, ◌<◌, ◌≤◌, Bool, true, false, ◌==◌, Result, Ok, Err, List, [], ◌∷◌, ◌++◌, length, ℤ, pos, neg_ℤ, ◌≤ℤ◌}
+use Rattle.awk_text.specs.Bytes.{plus, minus, point, digit_zero, upper_e, lower_e}
 use Rattle.awk_text.specs.Reading.{AllPass, AreDigits, Numeral, is_space}
-use Rattle.awk_text.specs.Number.{numerator, denominator, signed}
+use Rattle.awk_text.specs.Number.{largest, numerator, denominator, signed}
 use Rattle.awk_text.specs.declared.number.NumberFault.{NumberFault}
 use Rattle.awk_text.specs.declared.number.NumberFault.TheVariants.{Range, Fraction}
 
 -- The numbers of this awk are the whole ones from -2^53 to 2^53, both included.
 abbrev pub InRange : ℤ → Type 0
-InRange z = (neg_ℤ (pos (2 ^ 53)) ≤ℤ z) × (z ≤ℤ pos (2 ^ 53))
+InRange z = (neg_ℤ (pos largest) ≤ℤ z) × (z ≤ℤ pos largest)
 
 -- nothing, a plus or a minus
 abbrev pub IsSign : List ℕ → Bool → Type 0
 IsSign text negative =
-    ((text ≡ []) × (negative ≡ false)) ⊎ (((text ≡ 43 ∷ []) × (negative ≡ false)) ⊎ ((text ≡ 45 ∷ []) × (negative ≡ true)))
+    ((text ≡ []) × (negative ≡ false)) ⊎ (((text ≡ plus ∷ []) × (negative ≡ false)) ⊎ ((text ≡ minus ∷ []) × (negative ≡ true)))
 
 -- nothing, or a point and digits
 abbrev pub IsFraction : List ℕ → List ℕ → Type 0
-IsFraction text digits = ((text ≡ []) × (digits ≡ [])) ⊎ ((text ≡ 46 ∷ digits) × AreDigits digits)
+IsFraction text digits = ((text ≡ []) × (digits ≡ [])) ⊎ ((text ≡ point ∷ digits) × AreDigits digits)
 
 -- a mark, a sign and digits
 pub record IsMarked (text : List ℕ) (negative : Bool) (digits : List ℕ) : Type 0 where
   pub mark : ℕ
   pub sign : List ℕ
   pub parted : text ≡ mark ∷ (sign ++ digits)
-  pub marked : (mark ≡ 101) ⊎ (mark ≡ 69)
+  pub marked : (mark ≡ lower_e) ⊎ (mark ≡ upper_e)
   pub signed : IsSign sign negative
   pub all_digits : AreDigits digits
   pub some : 1 ≤ length digits
@@ -94,7 +95,7 @@ pub record IsNumericLooking (text : List ℕ) : Type 0 where
   pub blank : AllPass is_space rest
 
 abbrev pub is_zero : ℕ → Bool
-is_zero c = c == 48
+is_zero c = c == digit_zero
 
 -- a mantissa digit other than 0 in the longest prefix that is number text
 pub record IsNonzero (text : List ℕ) : Type 0 where

@@ -29,7 +29,8 @@ fn is_octal(byte: u8) -> bool
 
 /// The octal digit at the front, and what follows it.
 fn digit_at(text: &[u8]) -> Option<(u8, &[u8])>
-    ensures { MatchOption result ((n more : ℕ) → octal n more text.now ≡ (n % 256) ∷ unescaped text.now) (λ d. (text.now ≡ d.0 ∷ d.1.now) × (is_octal d.0 ≡ true)) }
+    ensures { MatchOption result ((n more : ℕ) → octal n more text.now ≡ (n % 256) ∷ unescaped
+        text.now) (λ d. (text.now ≡ d.0 ∷ d.1.now) × (is_octal d.0 ≡ true)) }
 {
     match text {
         [] => None,
@@ -78,7 +79,8 @@ fn octal(first: u8, text: &[u8]) -> (u8, &[u8])
 
 /// Adds what a backslash, this byte and the front of what follows it stand for, and gives what is left.
 fn push_escape<'a>(out: &mut Vec<u8>, byte: u8, text: &'a [u8]) -> Result<&'a [u8], AllocError>
-    ensures value { IfOk result (λ rest. out.new.items ++ unescaped rest.now ≡ out.old.items ++ escaped (byte ∷ text.now)) }
+    ensures value { IfOk result
+        (λ rest. out.new.items ++ unescaped rest.now ≡ out.old.items ++ escaped (byte ∷ text.now)) }
     ensures behind { IfOk result (λ rest. length rest.now ≤ length text.now) }
 {
     if is_octal(byte) {
@@ -103,7 +105,8 @@ fn push_escape<'a>(out: &mut Vec<u8>, byte: u8, text: &'a [u8]) -> Result<&'a [u
 
 /// Adds what a backslash before this text stands for, and gives what is left.
 fn push_behind<'a>(out: &mut Vec<u8>, text: &'a [u8]) -> Result<&'a [u8], AllocError>
-    ensures value { IfOk result (λ rest. out.new.items ++ unescaped rest.now ≡ out.old.items ++ escaped text.now) }
+    ensures value { IfOk result
+        (λ rest. out.new.items ++ unescaped rest.now ≡ out.old.items ++ escaped text.now) }
     ensures behind { IfOk result (λ rest. length rest.now ≤ length text.now) }
 {
     match text {

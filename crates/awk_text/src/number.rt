@@ -1,5 +1,5 @@
 ghost use Rattle.std.specs.Prelude.{◌≡◌, ℕ, ◌+◌, ◌-◌, ◌*◌, ◌/◌, ◌%◌, ◌^◌, ◌<◌, ◌≤◌, ◌==◌, ◌↔◌, IfSome, IsTrue, min, pos};
-ghost use Rattle.awk_text.specs.Number.{capped, ranged, denominator, is_nonzero_text, looks_numeric_text, number_of_text, numerator, truncated_of_text, value_after};
+ghost use Rattle.awk_text.specs.Number.{capped, largest, ranged, denominator, is_nonzero_text, looks_numeric_text, number_of_text, numerator, truncated_of_text, value_after};
 ghost use Rattle.awk_text.specs.NumberText.{IsNonzero, IsNumberOf, IsNumericLooking, IsTruncatedValue, IsWholeValue};
 ghost use Rattle.awk_text.specs.Parts.{parts};
 ghost use Rattle.awk_text.specs.Reading.{AreDigits};
@@ -15,19 +15,20 @@ pub enum NumberFault {
     Fraction,
 }
 
-/// The greatest number; the least is its negation.
-const LIMIT: u64 = 1 << 53;
+/// The largest number; the least is its negation. POSIX has none, since its numbers are floating ones. Here they are the whole ones from -2^53 to 2^53, both
+/// included.
+pub const MAX_NUMBER: u64 = 1 << 53;
 
 /// The number that digits go on from `before`, cut to one past the range.
 #[tactic(auto, using(crate::proofs::Values::cut_step))]
 fn more_digits(before: u64, digits: &[u8]) -> u64
-    requires { before ≤ 2 ^ 53 + 1 }
+    requires { before ≤ largest + 1 }
     ensures { result ≡ capped (value_after before digits.now) }
 {
     let mut number = before;
     for digit in digits {
         let next = number * 10 + u64::from(digit.saturating_sub(b'0'));
-        number = next.min(LIMIT + 1);
+        number = next.min(MAX_NUMBER + 1);
     }
     number
 }
@@ -49,12 +50,12 @@ fn scale_of(digits: &[u8]) -> u64
 /// The number with zeros behind it, cut to one past the range.
 #[tactic(auto, using(crate::proofs::Values::power_step, crate::proofs::Values::zeros_end))]
 fn with_zeros(before: u64, zeros: u64) -> u64
-    requires { before ≤ 2 ^ 53 + 1 }
+    requires { before ≤ largest + 1 }
     ensures { result ≡ capped (before * 10 ^ zeros) }
 {
     let mut number = before;
     for _place in 0..zeros.min(16) {
-        number = (number * 10).min(LIMIT + 1);
+        number = (number * 10).min(MAX_NUMBER + 1);
     }
     number
 }
@@ -77,7 +78,7 @@ fn are_zeros(digits: &[u8]) -> bool
 fn plain_number(text: &[u8]) -> Option<i64>
     ensures digits { IfSome result (λ n. AreDigits text.now) }
     ensures value { IfSome result (λ n. n ≡ pos (value_after 0 text.now)) }
-    ensures in_range { IfSome result (λ n. value_after 0 text.now ≤ 2 ^ 53) }
+    ensures in_range { IfSome result (λ n. value_after 0 text.now ≤ largest) }
 {
     let mut number = 0u64;
     for byte in text {
@@ -85,7 +86,7 @@ fn plain_number(text: &[u8]) -> Option<i64>
             return None;
         }
         number = number * 10 + u64::from(*byte - b'0');
-        if number > LIMIT {
+        if number > MAX_NUMBER {
             return None;
         }
     }
@@ -96,8 +97,10 @@ fn plain_number(text: &[u8]) -> Option<i64>
 fn magnitude(numeral: &Numeral<'_>) -> (u64, bool)
     requires whole { AreDigits (parts numeral.now).whole }
     requires fraction { AreDigits (parts numeral.now).fraction }
-    ensures towards_zero { result.0 ≡ capped (numerator (parts numeral.now) / denominator (parts numeral.now)) }
-    ensures exact { result.1 ≡ (numerator (parts numeral.now) % denominator (parts numeral.now) == 0) }
+    ensures towards_zero { result.0
+        ≡ capped (numerator (parts numeral.now) / denominator (parts numeral.now)) }
+    ensures exact { result.1
+        ≡ (numerator (parts numeral.now) % denominator (parts numeral.now) == 0) }
 {
     let scale = scale_of(numeral.exponent);
     if numeral.exponent_negative {
@@ -116,7 +119,7 @@ fn magnitude(numeral: &Numeral<'_>) -> (u64, bool)
 fn ranged_number(negative: bool, magnitude: u64) -> Result<i64, NumberFault>
     ensures { result ≡ ranged negative magnitude }
 {
-    if magnitude > LIMIT {
+    if magnitude > MAX_NUMBER {
         return Err(NumberFault::Range);
     }
     let number = magnitude as i64;

@@ -5,16 +5,11 @@ use Rattle.awk_tokens.specs.declared.words.Builtin.TheVariants as functions
 use Rattle.awk_tokens.specs.declared.token.Punctuator.TheVariants as marks
 use Rattle.awk_tokens.specs.declared.token.TokenKind.TheVariants.{Name, FuncName, Number, Str, Ere, Keyword, Builtin, Punctuator}
 use Rattle.awk_tokens.specs.declared.token.TokenFault.TheVariants.{BadByte, OpenString, OpenEre}
-use Rattle.awk_tokens.specs.Bytes.{tab, newline, space, quote, hash, open_paren, plus, minus, point, slash, digit_zero, digit_nine, upper_a, upper_e, upper_z, backslash, underscore, lower_a, lower_e, lower_z}
 use Rattle.awk_tokens.specs.Words.{keywords, builtins, left_out_words}
 use Rattle.awk_tokens.specs.Pieces.{punctuators}
 use Rattle.awk_tokens.specs.Cutting.{IsTokens}
 use Rattle.awk_tokens.specs.Reading.{scale_at, exponent_length, fraction_length, number_at, close_at, mark_at, joined_at, name_at, front_at, cut_at, raw_of}
 use Rattle.awk_tokens.proofs.Whole.{read_is_tokens}
-
--- the bytes that are named
-named_bytes : codes "\t\n \"#(+-./09AEZ\\_aez" ≡ tab ∷ newline ∷ space ∷ quote ∷ hash ∷ open_paren ∷ plus ∷ minus ∷ point ∷ slash ∷ digit_zero ∷ digit_nine ∷ upper_a ∷ upper_e ∷ upper_z ∷ backslash ∷ underscore ∷ lower_a ∷ lower_e ∷ lower_z ∷ []
-named_bytes = refl
 
 -- a slash after the condition of `if` begins an ERE, one after a name divides
 a_slash_after_the_condition_of_if_begins_an_ere_one_after_a_name_divides : IsTokens (codes "{ if (NF) /x/ || n++ } END { print n/1 }") (Ok (record { kind = Punctuator marks.OpenBrace; line = 1; text = codes "{" } ∷ record { kind = Keyword words.If; line = 1; text = codes "if" } ∷ record { kind = Punctuator marks.OpenParen; line = 1; text = codes "(" } ∷ record { kind = Name; line = 1; text = codes "NF" } ∷ record { kind = Punctuator marks.CloseParen; line = 1; text = codes ")" } ∷ record { kind = Ere; line = 1; text = codes "/x/" } ∷ record { kind = Punctuator marks.Or; line = 1; text = codes "||" } ∷ record { kind = Name; line = 1; text = codes "n" } ∷ record { kind = Punctuator marks.Increment; line = 1; text = codes "++" } ∷ record { kind = Punctuator marks.Semicolon; line = 1; text = [] } ∷ record { kind = Punctuator marks.CloseBrace; line = 1; text = codes "}" } ∷ record { kind = Keyword words.End; line = 1; text = codes "END" } ∷ record { kind = Punctuator marks.OpenBrace; line = 1; text = codes "{" } ∷ record { kind = Keyword words.Print; line = 1; text = codes "print" } ∷ record { kind = Name; line = 1; text = codes "n" } ∷ record { kind = Punctuator marks.Slash; line = 1; text = codes "/" } ∷ record { kind = Number; line = 1; text = codes "1" } ∷ record { kind = Punctuator marks.Semicolon; line = 1; text = [] } ∷ record { kind = Punctuator marks.CloseBrace; line = 1; text = codes "}" } ∷ []))

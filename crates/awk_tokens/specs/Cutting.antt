@@ -1,7 +1,7 @@
 -- Cuttings of a script into pieces, and the tokens of a cutting.
 use Rattle.std.specs.Prelude.{◌≡◌, ℕ, zero, suc, ◌+◌, ◌<◌, ◌≤◌, Bool, true, false, ◌&&◌, ◌||◌, ◌==◌, not, if◌then◌else◌, Option, Some, None, is_some, Result, Ok, Err, List, [], ◌∷◌, ◌++◌, length, take}
 use Rattle.std.specs.List.{count_by}
-use Rattle.awk_tokens.specs.Bytes.{newline, quote, open_paren, slash}
+use Rattle.awk_text.specs.Bytes.{newline, quote, open_paren, slash}
 use Rattle.awk_tokens.specs.Pieces.{piece_of}
 use Rattle.awk_tokens.specs.declared.words.Keyword.TheVariants.{Function, If, Else, While, For, Do, Getline}
 use Rattle.awk_tokens.specs.declared.words.Builtin.TheVariants.{Length}

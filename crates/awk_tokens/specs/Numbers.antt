@@ -1,6 +1,6 @@
 -- Which whole texts are numbers: digits with or without a point, at least one of them, then an exponent or none.
 use Rattle.std.specs.Prelude.{ℕ, Bool, true, false, ◌&&◌, ◌||◌, ◌==◌, nat_le, if◌then◌else◌, List, [], ◌∷◌}
-use Rattle.awk_tokens.specs.Bytes.{plus, minus, point, digit_zero, digit_nine, upper_e, lower_e}
+use Rattle.awk_text.specs.Bytes.{plus, minus, point, digit_zero, digit_nine, upper_e, lower_e}
 
 abbrev pub is_digit : ℕ → Bool
 is_digit c = nat_le digit_zero c && nat_le c digit_nine

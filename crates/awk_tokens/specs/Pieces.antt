@@ -1,7 +1,7 @@
 -- Which texts are pieces of a script: blanks, comments, newlines and tokens.
 use Rattle.std.specs.Prelude.{ℕ, Bool, true, false, ◌&&◌, ◌||◌, ◌==◌, not, nat_le, if◌then◌else◌, Option, Some, None, option_map, List, [], ◌∷◌, length, codes}
 use Rattle.std.specs.Cmp.Lexicographic.{pointwise}
-use Rattle.awk_tokens.specs.Bytes.{tab, newline, space, quote, hash, point, slash, upper_a, upper_z, backslash, underscore, lower_a, lower_z}
+use Rattle.awk_text.specs.Bytes.{tab, newline, space, quote, hash, point, slash, upper_a, upper_z, backslash, underscore, lower_a, lower_z}
 use Rattle.awk_tokens.specs.Numbers.{is_digit, every, is_number}
 use Rattle.awk_tokens.specs.Words.{entry, reserved_word_of}
 use Rattle.awk_tokens.specs.declared.words.ReservedWord.{ReservedWord}

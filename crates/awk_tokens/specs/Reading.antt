@@ -6,7 +6,7 @@ use Rattle.awk_tokens.specs.declared.token.TokenKind.TheVariants.{Number, Str, E
 use Rattle.awk_tokens.specs.declared.token.Piece.{Piece}
 use Rattle.awk_tokens.specs.declared.token.Piece.TheVariants.{Blank, Newline, Token}
 use Rattle.awk_tokens.specs.declared.token.TokenFault.{TokenFault}
-use Rattle.awk_tokens.specs.Bytes.{tab, newline, space, quote, hash, point, slash, backslash}
+use Rattle.awk_text.specs.Bytes.{tab, newline, space, quote, hash, point, slash, backslash}
 use Rattle.awk_tokens.specs.Numbers.{is_digit, is_sign, is_exponent_mark, begins_digit}
 use Rattle.awk_tokens.specs.Words.{entry, reserved_word_of}
 use Rattle.awk_tokens.specs.Pieces.{starts_name, goes_on, on_line, punctuators, word_kind, mark_of}
@@ -100,7 +100,8 @@ front_at division c cs =
     else mark_at c cs
 
 -- what is read from here: the first piece, and so on
-abbrev pub from_front : (ℕ → List TokenKind → List ℕ → Result (List Spelled) TokenFault) → ℕ → List TokenKind → ℕ → List ℕ → Option (Piece × ℕ) → Result (List Spelled) TokenFault
+abbrev pub from_front : (ℕ → List TokenKind → List ℕ → Result (List Spelled) TokenFault) → ℕ → List TokenKind → ℕ → List ℕ → Option (Piece × ℕ)
+    → Result (List Spelled) TokenFault
 from_front go line before c cs None = Err (refusal (divides before) line c)
 from_front go line before c cs (Some x) =
     with_token (kept before (drop x.1 cs) (Some x.0)) line (c ∷ take x.1 cs)

@@ -92,7 +92,8 @@ impl Before {
 
     /// Goes on after a token of this kind.
     pub(crate) fn push(&mut self, kind: TokenKind) -> Result<(), AllocError>
-        ensures { IfOk result (λ _. (ks : List AnyKind) → Tells self.old ks → Tells self.new (kind ∷ ks)) }
+        ensures { IfOk result
+            (λ _. (ks : List AnyKind) → Tells self.old ks → Tells self.new (kind ∷ ks)) }
     {
         let opened = role(self.last, self.former);
         self.former = self.last;

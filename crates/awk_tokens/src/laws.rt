@@ -6,10 +6,12 @@ ghost use Rattle.awk_tokens.specs.Cutting.{Spelled, IsTokens};
 
 /// A script has at most one list of tokens or one refusal, and never both.
 pub fn one_token_list()
-    ensures { (script : List ℕ) (a b : Result (List Spelled) TokenFault) → IsTokens script a → IsTokens script b → a ≡ b }
+    ensures { (script : List ℕ) (a b : Result (List Spelled) TokenFault) → IsTokens script a
+        → IsTokens script b → a ≡ b }
 {}
 
 /// Every script has a list of tokens or a refusal.
 pub fn some_token_list()
-    ensures { (script : List ℕ) → (found : Result (List Spelled) TokenFault) × IsTokens script found }
+    ensures { (script : List ℕ) → (found : Result (List Spelled) TokenFault)
+        × IsTokens script found }
 {}

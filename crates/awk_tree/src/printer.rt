@@ -11,7 +11,8 @@ use awk_tokens::{Keyword, Punctuator};
 use std::alloc::{AllocError, Global};
 
 fn push_names<'a>(out: &mut Vec<Printed<'a>>, names: &'a [Vec<u8>]) -> Result<(), AllocError>
-    ensures { OnOk result (lexemes out.new.items ≡ lexemes out.old.items ++ print_names (view_names names.now)) }
+    ensures { OnOk result
+        (lexemes out.new.items ≡ lexemes out.old.items ++ print_names (view_names names.now)) }
 {
     for name in names {
         mark(out, Punctuator::Comma)?;
@@ -21,7 +22,8 @@ fn push_names<'a>(out: &mut Vec<Printed<'a>>, names: &'a [Vec<u8>]) -> Result<()
 }
 
 fn push_params<'a>(out: &mut Vec<Printed<'a>>, names: &'a [Vec<u8>]) -> Result<(), AllocError>
-    ensures { OnOk result (lexemes out.new.items ≡ lexemes out.old.items ++ print_params (view_names names.now)) }
+    ensures { OnOk result
+        (lexemes out.new.items ≡ lexemes out.old.items ++ print_params (view_names names.now)) }
 {
     match names {
         [] => Ok(()),
@@ -33,7 +35,8 @@ fn push_params<'a>(out: &mut Vec<Printed<'a>>, names: &'a [Vec<u8>]) -> Result<(
 }
 
 fn push_pattern<'a>(out: &mut Vec<Printed<'a>>, pattern: &'a Pattern) -> Result<(), AllocError>
-    ensures { OnOk result (lexemes out.new.items ≡ lexemes out.old.items ++ print_pattern (view_pattern pattern.now)) }
+    ensures { OnOk result (lexemes out.new.items
+        ≡ lexemes out.old.items ++ print_pattern (view_pattern pattern.now)) }
 {
     match pattern {
         Pattern::One(e) => push_expr(out, e),
@@ -46,7 +49,8 @@ fn push_pattern<'a>(out: &mut Vec<Printed<'a>>, pattern: &'a Pattern) -> Result<
 }
 
 fn push_item<'a>(out: &mut Vec<Printed<'a>>, item: &'a Item) -> Result<(), AllocError>
-    ensures { OnOk result (lexemes out.new.items ≡ lexemes out.old.items ++ print_item (view_item item.now)) }
+    ensures { OnOk result
+        (lexemes out.new.items ≡ lexemes out.old.items ++ print_item (view_item item.now)) }
 {
     match item {
         Item::Function(name, params, body) => {
@@ -79,7 +83,8 @@ fn push_item<'a>(out: &mut Vec<Printed<'a>>, item: &'a Item) -> Result<(), Alloc
 }
 
 fn push_items<'a>(out: &mut Vec<Printed<'a>>, items: &'a [Item]) -> Result<(), AllocError>
-    ensures { OnOk result (lexemes out.new.items ≡ lexemes out.old.items ++ print_script (view_items items.now)) }
+    ensures { OnOk result
+        (lexemes out.new.items ≡ lexemes out.old.items ++ print_script (view_items items.now)) }
 {
     for item in items {
         push_item(out, item)?;

@@ -1,6 +1,7 @@
 -- The operators, over whole numbers without bound; the result is checked afterwards (POSIX.1-2017 awk, "Expressions in awk", in whole numbers).
 use Rattle.std.specs.Prelude.{ℕ, suc, ◌^◌, Bool, ◌==◌, nat_le, if◌then◌else◌, Result, Ok, Err, ℤ, pos, negsuc, neg_ℤ, ◌+ℤ◌, ◌*ℤ◌, unsigned_abs, int_div, int_rem}
 use Rattle.std.specs.Int.{int_pow}
+use Rattle.awk_text.specs.Number.{largest}
 use Rattle.awk_values.specs.declared.fault.Fault.{Fault}
 use Rattle.awk_values.specs.declared.fault.Fault.TheVariants.{DivisionByZero, Inexact, Range}
 
@@ -12,7 +13,7 @@ is_zero z = unsigned_abs z == 0
 
 -- a result is from -2^53 to 2^53
 abbrev pub checked : ℤ → Outcome
-checked z = if nat_le (unsigned_abs z) (2 ^ 53) then Ok z else Err Range
+checked z = if nat_le (unsigned_abs z) largest then Ok z else Err Range
 
 abbrev pub sum : ℤ → ℤ → Outcome
 sum a b = checked (a +ℤ b)

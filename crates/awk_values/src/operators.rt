@@ -5,14 +5,12 @@ ghost use Rattle.awk_text.specs.NumberText.{InRange};
 ghost use Rattle.awk_values.specs.Operators.{checked, difference, inverse_power, power, product, quotient, remainder, sum, truncated_quotient};
 
 use crate::Fault;
-
-/// The greatest magnitude of a number.
-const LIMIT: u64 = 1 << 53;
+use awk_text::MAX_NUMBER;
 
 fn checked(number: i64) -> Result<i64, Fault>
     ensures { result ≡ checked number }
 {
-    if number.unsigned_abs() <= LIMIT {
+    if number.unsigned_abs() <= MAX_NUMBER {
         Ok(number)
     } else {
         Err(Fault::Range)

@@ -4,7 +4,7 @@ ghost use Rattle.awkwasm.specs.Tasks.{IsUnreadable};
 ghost use Rattle.run_imports.specs.Calls.{AsksOnly, HasImports};
 
 use awk_run::{Refusal, RunEnd};
-use host_step::Import;
+use host_imports::Import;
 use run_imports::{Reads, Unlisted, Writes, imports_of, reads_of, writes_of};
 use std::alloc::{AllocError, Global};
 use wasm_model::LinkFault;

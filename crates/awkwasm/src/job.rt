@@ -76,7 +76,8 @@ pub(crate) fn job_on(
     task: &Task<'_>,
     environment: Vec<NamedText>,
 ) -> Result<Job, AllocError>
-    ensures { IfOk result (λ job. job_of job ≡ job_of_task task.now (map pair_of environment.items)) }
+    ensures { IfOk result
+        (λ job. job_of job ≡ job_of_task task.now (map pair_of environment.items)) }
 {
     let mut assigns = assigns_of(alloc, &task.assigns)?;
     push_separators(alloc, &mut assigns, &task.separators)?;

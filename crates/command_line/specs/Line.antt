@@ -46,7 +46,8 @@ options_app name = with_rule (with_rule (with_rule (new_app name) separator_rule
 
 -- `NAME [-F s] [-v n=t].. [--steps N] [--no-files] [--read-only] [--only-operands]`
 abbrev pub fences_app : Text → App
-fences_app name = with_rule (with_rule (with_rule (options_app name) (flag_rule (codes "no-files"))) (flag_rule (codes "read-only"))) (flag_rule (codes "only-operands"))
+fences_app name = with_rule (with_rule (with_rule (options_app name) (flag_rule (codes "no-files"))) (flag_rule (codes "read-only")))
+    (flag_rule (codes "only-operands"))
 
 -- `NAME [-F s] [-v n=t].. [--steps N] [--no-files] [--read-only] [--only-operands] SUBJECT WORDS..`
 abbrev pub task_app : Text → Text → App

@@ -44,8 +44,10 @@ pub record IsTask (of : Text) (rows : List Row) (t : Task) : Type 0 where
 
 -- What is asked for, by the subcommand's name and what is found for it. The line has five subcommands.
 abbrev pub Asks : Text → List Row → Request → Type 0
-Asks name rows (Compile script_file out) = (name ≡ codes "compile") × (script_file.now ≡ word_at (codes "scriptfile") rows) × (out.now ≡ word_at (codes "out") rows)
+Asks name rows (Compile script_file out) = (name ≡ codes "compile") × (script_file.now ≡ word_at (codes "scriptfile") rows)
+    × (out.now ≡ word_at (codes "out") rows)
 Asks name rows (Run task) = (name ≡ codes "run") × IsTask (codes "script") rows task
-Asks name rows (Exec task) = (name ≡ codes "compile" → ⊥) × (name ≡ codes "run" → ⊥) × (name ≡ codes "imports" → ⊥) × (name ≡ codes "explain" → ⊥) × IsTask (codes "module") rows task
+Asks name rows (Exec task) = (name ≡ codes "compile" → ⊥) × (name ≡ codes "run" → ⊥) × (name ≡ codes "imports" → ⊥) × (name ≡ codes "explain" → ⊥)
+    × IsTask (codes "module") rows task
 Asks name rows (Imports file) = (name ≡ codes "imports") × (file.now ≡ word_at (codes "module") rows)
 Asks name rows (Explain topic) = (name ≡ codes "explain") × (option_map (λ t. t.now) topic ≡ first_of (codes "name") rows)

@@ -248,8 +248,11 @@ fn command<'a>(alloc: Global) -> Result<Command<'a>, AllocError>
 ///
 /// Where the words are not taken (help and the version are such answers), or for want of memory.
 pub fn matches_of_line<'a>(alloc: Global, words: &'a [&'a str]) -> Result<ArgMatches<'a>, Error>
-    ensures ok { IfOk result (λ m. (rows_of (found_of m) ≡ matches_of line_app (map (λ s. s.now) words.now)) × (subcommand_rows_of m ≡ subcommand_of line_app (map (λ s. s.now) words.now))) }
-    ensures err { IfErr result (λ e. takes line_app (map (λ s. s.now) words.now) ≡ true → kind_of e ≡ ErrorKind.OutOfMemory) }
+    ensures ok { IfOk result
+        (λ m. (rows_of (found_of m) ≡ matches_of line_app (map (λ s. s.now) words.now))
+        × (subcommand_rows_of m ≡ subcommand_of line_app (map (λ s. s.now) words.now))) }
+    ensures err { IfErr result (λ e. takes line_app (map (λ s. s.now) words.now) ≡ true
+        → kind_of e ≡ ErrorKind.OutOfMemory) }
 {
     command(alloc)?.try_get_matches_from(words)
 }
@@ -289,7 +292,8 @@ fn has_file_option(words: &[&str]) -> bool
 /// Whether a line is refused for an unknown option, and has the option `-f` of other awks. The script's file that it names is to be given as text, or
 /// compiled.
 pub fn is_script_file(error: &Error, words: &[&str]) -> bool
-    ensures { IsTrue result ↔ (kind_of error.now ≡ ErrorKind.UnknownArgument) × (has_file_option words.now ≡ true) }
+    ensures { IsTrue result ↔ (kind_of error.now ≡ ErrorKind.UnknownArgument)
+        × (has_file_option words.now ≡ true) }
 {
     match error.kind() {
         ErrorKind::UnknownArgument => has_file_option(words),
@@ -299,7 +303,8 @@ pub fn is_script_file(error: &Error, words: &[&str]) -> bool
 
 /// The words of an argument that may be given often.
 fn texts<'a>(alloc: Global, matches: &ArgMatches<'a>, id: &str) -> Result<Vec<&'a str>, AllocError>
-    ensures { IfOk result (λ found. texts found.items ≡ words_at id.now (rows_of (found_of matches.now))) }
+    ensures { IfOk result
+        (λ found. texts found.items ≡ words_at id.now (rows_of (found_of matches.now))) }
 {
     match matches.get_strs(id) {
         Some(values) => values.to_vec(alloc),
@@ -347,7 +352,8 @@ fn fences(matches: &ArgMatches<'_>) -> FenceOptions
 
 /// The name that is to be explained.
 fn topic<'a>(matches: &ArgMatches<'a>) -> Option<&'a str>
-    ensures { option_map (λ name. name.now) result ≡ first_of (codes "name") (rows_of (found_of matches.now)) }
+    ensures { option_map (λ name. name.now) result
+        ≡ first_of (codes "name") (rows_of (found_of matches.now)) }
 {
     matches.get_str("name")
 }
@@ -372,7 +378,8 @@ fn task_of<'a>(
 
 /// What a line asks for, by its subcommand.
 fn request_in<'a>(alloc: Global, matches: &ArgMatches<'a>) -> Result<Request<'a>, AllocError>
-    ensures { IfOk result (λ request. IfSome (subcommand_rows_of matches.now) (λ found. Asks found.0 found.1 request)) }
+    ensures { IfOk result (λ request. IfSome (subcommand_rows_of matches.now)
+        (λ found. Asks found.0 found.1 request)) }
 {
     match matches.subcommand() {
         Some(("compile", inner)) => Ok(Request::Compile {
@@ -394,8 +401,10 @@ fn request_in<'a>(alloc: Global, matches: &ArgMatches<'a>) -> Result<Request<'a>
 /// Where the words are not taken, with the text to print (help and the version are such answers), or for want of memory. [`exit_status`]
 /// gives the program's status.
 pub fn request_of<'a>(alloc: Global, words: &'a [&'a str]) -> Result<Request<'a>, Error>
-    ensures asks { IfOk result (λ request. IfSome (subcommand_of line_app (map (λ s. s.now) words.now)) (λ found. Asks found.0 found.1 request)) }
-    ensures err { IfErr result (λ e. takes line_app (map (λ s. s.now) words.now) ≡ true → kind_of e ≡ ErrorKind.OutOfMemory) }
+    ensures asks { IfOk result (λ request. IfSome (subcommand_of line_app
+        (map (λ s. s.now) words.now)) (λ found. Asks found.0 found.1 request)) }
+    ensures err { IfErr result (λ e. takes line_app (map (λ s. s.now) words.now) ≡ true
+        → kind_of e ≡ ErrorKind.OutOfMemory) }
 {
     let matches = matches_of_line(alloc, words)?;
     let request = request_in(alloc, &matches)?;

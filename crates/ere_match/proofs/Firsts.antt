@@ -12,7 +12,7 @@ use Rattle.ere_match.specs.Runs.{Runs}
 use Rattle.ere_match.specs.Means.{Means, IsBuilt}
 use Rattle.ere_match.specs.Threads.{IsBest}
 use Rattle.ere_match.specs.Autos.{IsAutoOf}
-use Rattle.ere_match.specs.FirstMatch.{IsFirstMatch, IsMatch}
+use Rattle.ere_syntax.specs.FirstMatch.{IsFirstMatch, IsMatch}
 use Rattle.ere_match.proofs.Paths.{go, gone}
 
 match_run : (all : List Node) (text : List ℕ) (t : Tree) (entry accept i j : ℕ) → Means all text (Matches t text) entry accept → slice_get all accept ≡ Some nodes.Accept → Matches t text i j → (m : ℕ) × Runs all text j m entry i

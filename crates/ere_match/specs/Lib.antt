@@ -1,7 +1,6 @@
 pub mod Runs
 pub mod Means
 pub mod Threads
-pub mod FirstMatch
 pub mod Leads
 pub mod Autos
 pub mod Rows

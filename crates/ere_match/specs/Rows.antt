@@ -121,11 +121,13 @@ pub record IsStep (all : List Node) (entry byte : ℕ) (found : Bool) (old : Row
 
 -- bytes of one class are told apart by no node
 abbrev pub AreClasses : List Node → List ℕ → Type 0
-AreClasses all classes = (b c : ℕ) → b < 256 → c < 256 → get_or classes b 0 ≡ get_or classes c 0 → (id to : ℕ) (f : Filter) → slice_get all id ≡ Some (nodes.Take f to) → slice_get (filter_set f) b ≡ Some true → slice_get (filter_set f) c ≡ Some true
+AreClasses all classes = (b c : ℕ) → b < 256 → c < 256 → get_or classes b 0 ≡ get_or classes c 0 → (id to : ℕ) (f : Filter) → slice_get all id
+    ≡ Some (nodes.Take f to) → slice_get (filter_set f) b ≡ Some true → slice_get (filter_set f) c ≡ Some true
 
 -- the same for the nodes below n
 abbrev pub ClassesTo : ℕ → List Node → List ℕ → Type 0
-ClassesTo n all classes = (b c : ℕ) → b < 256 → c < 256 → get_or classes b 0 ≡ get_or classes c 0 → (id to : ℕ) (f : Filter) → id < n → slice_get all id ≡ Some (nodes.Take f to) → slice_get (filter_set f) b ≡ Some true → slice_get (filter_set f) c ≡ Some true
+ClassesTo n all classes = (b c : ℕ) → b < 256 → c < 256 → get_or classes b 0 ≡ get_or classes c 0 → (id to : ℕ) (f : Filter) → id < n
+    → slice_get all id ≡ Some (nodes.Take f to) → slice_get (filter_set f) b ≡ Some true → slice_get (filter_set f) c ≡ Some true
 
 abbrev pub column_at : Bool → Option Moves → ℕ → Option Move
 column_at found None c = None
@@ -151,7 +153,8 @@ pub record IsTable (all : List Node) (entry : ℕ) (classes : List ℕ) (t : Tab
   pub next_len : length t.next.items ≡ length all
   pub wide : length t.rows.items ≤ length t.moves.items
   pub rows : (r : ℕ) (row : Row) → slice_get t.rows.items r ≡ Some row → IsKnownRow all t.starts.items row
-  pub moves : (found : Bool) (r c : ℕ) (m : Move) → column_at found (slice_get t.moves.items r) c ≡ Some m → IsColumn all entry classes t.rows.items t.sources.items found r c m
+  pub moves : (found : Bool) (r c : ℕ) (m : Move) → column_at found (slice_get t.moves.items r) c ≡ Some m
+      → IsColumn all entry classes t.rows.items t.sources.items found r c m
   pub begins : (first : Bool) (m : Move) → begin_at first t ≡ Some m → IsBegin all entry first t.rows.items t.sources.items m
 
 -- the rows of before are there still, and others are right
@@ -329,7 +332,8 @@ pub record CanEnter (t : Table) (count : ℕ) (m : Move) : Type 0 where
 pub record HasEntered (old : Table) (count : ℕ) (m : Move) (at : ℕ) (new : Table) (to : ℕ) : Type 0 where
   pub goes : to ≡ m.to
   pub rows : new.rows ≡ old.rows
-  pub shifted : (row : Row) → slice_get old.rows.items m.to ≡ Some row → IsShifted old.starts.items new.starts.items count at row.count (source old.sources.items m)
+  pub shifted : (row : Row) → slice_get old.rows.items m.to ≡ Some row
+      → IsShifted old.starts.items new.starts.items count at row.count (source old.sources.items m)
 
 abbrev pub started_with : (ℕ → ℕ) → Option ℕ → Option ℕ
 started_with f None = None

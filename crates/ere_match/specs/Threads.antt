@@ -99,7 +99,8 @@ pub record IsFollowed (first last : Bool) (bound n start : ℕ) (node : Node) (o
 
 -- what runs from the new set at such a place runs from the old, with the same start
 pub record IsFrom (all : List Node) (first last : Bool) (old new : List (Option ℕ)) : Type 0 where
-  pub at : (text : List ℕ) (i : ℕ) → IsNear text i first last → (j n id s : ℕ) → Holds new id s → Runs all text j n id i → (m : ℕ) × (from : ℕ) × Holds old from s × Runs all text j m from i
+  pub at : (text : List ℕ) (i : ℕ) → IsNear text i first last → (j n id s : ℕ) → Holds new id s → Runs all text j n id i → (m : ℕ) × (from : ℕ)
+      × Holds old from s × Runs all text j m from i
 
 -- each start of the new set is one of the old
 pub record AreStarts (old new : List (Option ℕ)) : Type 0 where
@@ -155,7 +156,8 @@ pub record IsStepped (all : List Node) (byte n : ℕ) (set new : List (Option �
 
 -- where a node leads by a byte
 abbrev pub IsTarget : Node → ℕ → Option ℕ → Type 0
-IsTarget (nodes.Take f a) byte found = ((slice_index_or (filter_set f) byte false ≡ true) × (found ≡ Some a)) ⊎ ((slice_index_or (filter_set f) byte false ≡ false) × (found ≡ None))
+IsTarget (nodes.Take f a) byte found = ((slice_index_or (filter_set f) byte false ≡ true) × (found ≡ Some a))
+    ⊎ ((slice_index_or (filter_set f) byte false ≡ false) × (found ≡ None))
 IsTarget other byte found = found ≡ None
 
 abbrev pub AcceptNode : Node
@@ -173,7 +175,8 @@ least_of (Some a) (Some b) = if nat_le a b then Some a else Some b
 -- the least start at an accepting node below n
 abbrev pub IsAccepted : List Node → List (Option ℕ) → ℕ → Option ℕ → Type 0
 IsAccepted all set n None = (id s : ℕ) → id < n → Holds set id s → slice_get all id ≡ Some nodes.Accept → ⊥
-IsAccepted all set n (Some f) = ((k : ℕ) × Holds set k f × (slice_get all k ≡ Some nodes.Accept)) × ((id s : ℕ) → id < n → Holds set id s → slice_get all id ≡ Some nodes.Accept → f ≤ s)
+IsAccepted all set n (Some f) = ((k : ℕ) × Holds set k f × (slice_get all k ≡ Some nodes.Accept))
+    × ((id s : ℕ) → id < n → Holds set id s → slice_get all id ≡ Some nodes.Accept → f ≤ s)
 
 -- a thread from this start runs on to an accepting node at j
 pub record SetRuns (all : List Node) (text : List ℕ) (j i : ℕ) (set : List (Option ℕ)) (s : ℕ) : Type 0 where

@@ -30,14 +30,17 @@ pub(crate) fn lead(nodes: &[Node], table: &mut Table, state: usize, byte: u8, fo
     requires state { state < length table.old.rows.items }
     requires set_len { length table.old.set.items ≡ length nodes.now }
     requires next_len { length table.old.next.items ≡ length nodes.now }
-    requires ranks { (row : SpecRow) → slice_get table.old.rows.items state ≡ Some row → length row.ranks.items ≡ length nodes.now }
-    ensures led { HasLed nodes.now byte found table.old.rows.items state table.new.next.items result }
+    requires ranks { (row : SpecRow) → slice_get table.old.rows.items state ≡ Some row
+        → length row.ranks.items ≡ length nodes.now }
+    ensures led { HasLed nodes.now byte found table.old.rows.items state table.new.next.items
+        result }
     ensures rows { table.new.rows ≡ table.old.rows }
     ensures sources { table.new.sources ≡ table.old.sources }
     ensures set_len { length table.new.set.items ≡ length nodes.now }
     ensures next_len { length table.new.next.items ≡ length nodes.now }
     ensures starts { table.new.starts ≡ table.old.starts }
-    ensures table { (entry : ℕ) (classes : List ℕ) → IsTable nodes.now entry classes table.old → IsKnownTable nodes.now entry classes table.old table.new }
+    ensures table { (entry : ℕ) (classes : List ℕ) → IsTable nodes.now entry classes table.old
+        → IsKnownTable nodes.now entry classes table.old table.new }
 {
     let row = &table.rows[state];
     let count = row.count;
@@ -54,7 +57,8 @@ fn make_room(table: &mut Table) -> bool
     ensures set { table.new.set ≡ table.old.set }
     ensures next { table.new.next ≡ table.old.next }
     ensures starts { table.new.starts ≡ table.old.starts }
-    ensures table { (all : List SpecNode) (entry : ℕ) (classes : List ℕ) → IsTable all entry classes table.old → IsTable all entry classes table.new }
+    ensures table { (all : List SpecNode) (entry : ℕ) (classes : List ℕ)
+        → IsTable all entry classes table.old → IsTable all entry classes table.new }
 {
     if table.is_full() {
         table.empty();
@@ -69,7 +73,11 @@ fn keep(table: &mut Table, state: usize, found: bool, class: u8, to: Move)
     ensures rows { table.new.rows ≡ table.old.rows }
     ensures sources { table.new.sources ≡ table.old.sources }
     ensures starts { table.new.starts ≡ table.old.starts }
-    ensures table { (all : List SpecNode) (entry byte : ℕ) (classes : List ℕ) (row : SpecRow) → AreClasses all classes → byte < 256 → class ≡ get_or classes byte 0 → IsTable all entry classes table.old → slice_get table.old.rows.items state ≡ Some row → IsStep all entry byte found row table.old.rows.items table.old.sources.items to → IsTable all entry classes table.new }
+    ensures table { (all : List SpecNode) (entry byte : ℕ) (classes : List ℕ) (row : SpecRow)
+        → AreClasses all classes → byte < 256 → class ≡ get_or classes byte 0
+        → IsTable all entry classes table.old → slice_get table.old.rows.items state ≡ Some row
+        → IsStep all entry byte found row table.old.rows.items table.old.sources.items to
+        → IsTable all entry classes table.new }
 {
     table.moves[state].put(found, class, to);
 }
@@ -87,7 +95,8 @@ fn compute(
     requires classes { AreClasses nodes.now classes.now }
     requires table { ∥ IsTable nodes.now entry classes.now table.old ∥₁ }
     requires state { state < length table.old.rows.items }
-    ensures step { IfOk result (λ to. ∥ IsStepOf nodes.now entry byte found table.old state table.new to ∥₁) }
+    ensures step { IfOk result
+        (λ to. ∥ IsStepOf nodes.now entry byte found table.old state table.new to ∥₁) }
     ensures table { ∥ IsTable nodes.now entry classes.now table.new ∥₁ }
     ensures starts { IsSame table.old.starts.items table.new.starts.items }
 {
@@ -113,7 +122,8 @@ fn move_by(
     requires classes { AreClasses nodes.now classes.now }
     requires table { ∥ IsTable nodes.now entry classes.now table.old ∥₁ }
     requires state { state < length table.old.rows.items }
-    ensures step { IfOk result (λ to. ∥ IsStepOf nodes.now entry byte found table.old state table.new to ∥₁) }
+    ensures step { IfOk result
+        (λ to. ∥ IsStepOf nodes.now entry byte found table.old state table.new to ∥₁) }
     ensures table { ∥ IsTable nodes.now entry classes.now table.new ∥₁ }
     ensures starts { IsSame table.old.starts.items table.new.starts.items }
 {
@@ -148,7 +158,8 @@ pub(crate) fn enter(table: &mut Table, count: usize, to: Move, at: usize) -> usi
     ensures entered { HasEntered table.old count to at table.new result }
     ensures starts { length table.new.starts.items ≡ length table.old.starts.items }
     ensures moves { table.new.moves ≡ table.old.moves }
-    ensures table { (all : List SpecNode) (entry : ℕ) (classes : List ℕ) → IsTable all entry classes table.old → IsTable all entry classes table.new }
+    ensures table { (all : List SpecNode) (entry : ℕ) (classes : List ℕ)
+        → IsTable all entry classes table.old → IsTable all entry classes table.new }
 {
     let fewer = table.rows[to.to as usize].count;
     shift(&mut table.starts, &table.sources, count, fewer, to, at);
@@ -159,7 +170,9 @@ pub(crate) fn enter(table: &mut Table, count: usize, to: Move, at: usize) -> usi
 fn keep_first(table: &mut Table, first: bool, to: Move)
     ensures rows { table.new.rows ≡ table.old.rows }
     ensures sources { table.new.sources ≡ table.old.sources }
-    ensures table { (all : List SpecNode) (entry : ℕ) (classes : List ℕ) → IsBegin all entry first table.old.rows.items table.old.sources.items to → IsTable all entry classes table.old → IsTable all entry classes table.new }
+    ensures table { (all : List SpecNode) (entry : ℕ) (classes : List ℕ)
+        → IsBegin all entry first table.old.rows.items table.old.sources.items to
+        → IsTable all entry classes table.old → IsTable all entry classes table.new }
 {
     if first {
         table.at_first = Some(to);
@@ -186,7 +199,8 @@ pub(crate) fn no_threads(table: &mut Table)
     ensures set { table.new.set ≡ table.old.set }
     ensures rows { table.new.rows ≡ table.old.rows }
     ensures sources { table.new.sources ≡ table.old.sources }
-    ensures table { (all : List SpecNode) (entry : ℕ) (classes : List ℕ) → IsTable all entry classes table.old → IsTable all entry classes table.new }
+    ensures table { (all : List SpecNode) (entry : ℕ) (classes : List ℕ)
+        → IsTable all entry classes table.old → IsTable all entry classes table.new }
 {
     clear(&mut table.next);
 }
@@ -200,7 +214,8 @@ fn first_move(
     first: bool,
 ) -> Result<Move, AllocError>
     requires table { ∥ IsTable nodes.now entry classes.now table.old ∥₁ }
-    ensures begin { IfOk result (λ to. ∥ IsBegin nodes.now entry first table.new.rows.items table.new.sources.items to ∥₁) }
+    ensures begin { IfOk result
+        (λ to. ∥ IsBegin nodes.now entry first table.new.rows.items table.new.sources.items to ∥₁) }
     ensures table { ∥ IsTable nodes.now entry classes.now table.new ∥₁ }
 {
     match known_first(table, first) {
@@ -244,7 +259,8 @@ pub(crate) fn advance(
     requires classes { AreClasses nodes.now classes.now }
     requires table { ∥ IsTable nodes.now entry classes.now table.old ∥₁ }
     requires state { state < length table.old.rows.items }
-    ensures moved { IfOk result (λ to. ∥ HasMoved nodes.now entry byte found at table.old state table.new to ∥₁) }
+    ensures moved { IfOk result
+        (λ to. ∥ HasMoved nodes.now entry byte found at table.old state table.new to ∥₁) }
     ensures table { ∥ IsTable nodes.now entry classes.now table.new ∥₁ }
 {
     let count = table.rows[state].count;

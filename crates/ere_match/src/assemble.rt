@@ -11,7 +11,8 @@ use std::alloc::{AllocError, Global};
 
 /// Adds a node, and tells its place.
 pub(crate) fn add(nodes: &mut Vec<Node>, node: Node) -> Result<usize, AllocError>
-    ensures place { IfOk result (λ place. (place ≡ length nodes.old.items) × (slice_get nodes.new.items place ≡ Some node)) }
+    ensures place { IfOk result (λ place. (place ≡ length nodes.old.items)
+        × (slice_get nodes.new.items place ≡ Some node)) }
     ensures longer { OnOk result (IsLonger nodes.old.items nodes.new.items) }
     ensures one { OnOk result (length nodes.new.items ≡ length nodes.old.items + 1) }
 {
@@ -28,7 +29,8 @@ pub(crate) fn build(
     ere: &Ere,
     next: usize,
 ) -> Result<usize, AllocError>
-    ensures { IfOk result (λ entry. IsBuilt nodes.old.items nodes.new.items (view ere.now) entry next) }
+    ensures { IfOk result
+        (λ entry. IsBuilt nodes.old.items nodes.new.items (view ere.now) entry next) }
 {
     match ere {
         Ere::Empty => Ok(next),
@@ -55,7 +57,8 @@ fn all_of(
     parts: &[Ere],
     next: usize,
 ) -> Result<usize, AllocError>
-    ensures { IfOk result (λ entry. IsBuilt nodes.old.items nodes.new.items (concat_all (views parts.now)) entry next) }
+    ensures { IfOk result (λ entry. IsBuilt nodes.old.items nodes.new.items
+        (concat_all (views parts.now)) entry next) }
 {
     let mut entry = next;
     for done in 0..parts.len() {
@@ -72,7 +75,8 @@ fn any_of(
     parts: &[Ere],
     next: usize,
 ) -> Result<usize, AllocError>
-    ensures { IfOk result (λ entry. IsBuilt nodes.old.items nodes.new.items (or_all (views parts.now)) entry next) }
+    ensures { IfOk result
+        (λ entry. IsBuilt nodes.old.items nodes.new.items (or_all (views parts.now)) entry next) }
 {
     let before = nodes.len();
     let mut entry = next;
@@ -98,7 +102,8 @@ fn repeat(
     times: Times,
     next: usize,
 ) -> Result<usize, AllocError>
-    ensures { IfOk result (λ entry. IsBuilt nodes.old.items nodes.new.items (Repeat (view inner.now) times.low times.high) entry next) }
+    ensures { IfOk result (λ entry. IsBuilt nodes.old.items nodes.new.items
+        (Repeat (view inner.now) times.low times.high) entry next) }
 {
     match times.high {
         None => {
@@ -131,8 +136,10 @@ fn endless(
     inner: &Ere,
     next: usize,
 ) -> Result<(usize, usize), AllocError>
-    ensures any { IfOk result (λ x. AreBuilt nodes.old.items nodes.new.items (Turns (Matches (view inner.now)) 0 None) x.0 next) }
-    ensures some { IfOk result (λ x. AreBuilt nodes.old.items nodes.new.items (Turns (Matches (view inner.now)) 1 None) x.1 next) }
+    ensures any { IfOk result (λ x. AreBuilt nodes.old.items nodes.new.items
+        (Turns (Matches (view inner.now)) 0 None) x.0 next) }
+    ensures some { IfOk result (λ x. AreBuilt nodes.old.items nodes.new.items
+        (Turns (Matches (view inner.now)) 1 None) x.1 next) }
 {
     let place = add(nodes, Node::Never)?;
     let body = build(alloc, nodes, inner, place)?;
@@ -153,7 +160,8 @@ fn copies(
     count: u8,
     next: usize,
 ) -> Result<usize, AllocError>
-    ensures { IfOk result (λ entry. AreBuilt nodes.old.items nodes.new.items (Power (Matches (view inner.now)) count) entry next) }
+    ensures { IfOk result (λ entry. AreBuilt nodes.old.items nodes.new.items
+        (Power (Matches (view inner.now)) count) entry next) }
 {
     let mut entry = next;
     for _turn in 0..count {
@@ -175,7 +183,8 @@ fn up_to(
     count: u8,
     next: usize,
 ) -> Result<usize, AllocError>
-    ensures { IfOk result (λ entry. AreBuilt nodes.old.items nodes.new.items (Turns (Matches (view inner.now)) 0 (Some count)) entry next) }
+    ensures { IfOk result (λ entry. AreBuilt nodes.old.items nodes.new.items
+        (Turns (Matches (view inner.now)) 0 (Some count)) entry next) }
 {
     let mut entry = next;
     for _turn in 0..count {

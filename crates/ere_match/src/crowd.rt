@@ -66,7 +66,8 @@ fn compute(
     requires classes { AreClasses nodes.now classes.now }
     requires crowd { IsCrowd nodes.now entry classes.now crowd.old }
     requires state { state < length crowd.old.table.rows.items }
-    requires single { (row : SpecRow) → slice_get crowd.old.table.rows.items state ≡ Some row → row.count ≤ 1 }
+    requires single { (row : SpecRow) → slice_get crowd.old.table.rows.items state ≡ Some row
+        → row.count ≤ 1 }
     ensures leapt { IfOk result (HasLeapt nodes.now entry byte crowd.old state crowd.new) }
     ensures crowd { IfOk result (λ to. IsCrowd nodes.now entry classes.now crowd.new) }
 {
@@ -89,8 +90,10 @@ fn leap(
     requires classes { AreClasses nodes.now classes.now }
     requires crowd { IsCrowd nodes.now entry classes.now crowd.old }
     requires state { state < length crowd.old.table.rows.items }
-    requires single { (row : SpecRow) → slice_get crowd.old.table.rows.items state ≡ Some row → row.count ≤ 1 }
-    ensures leapt { IfOk result (λ to. IfSome to (HasLeapt nodes.now entry byte crowd.old state crowd.new)) }
+    requires single { (row : SpecRow) → slice_get crowd.old.table.rows.items state ≡ Some row
+        → row.count ≤ 1 }
+    ensures leapt { IfOk result
+        (λ to. IfSome to (HasLeapt nodes.now entry byte crowd.old state crowd.new)) }
     ensures crowd { IfOk result (λ to. IsCrowd nodes.now entry classes.now crowd.new) }
 {
     match crowd.leaps[state].at(false, classes[usize::from(byte)]) {
@@ -115,7 +118,8 @@ pub(crate) fn may_match(
 ) -> Result<bool, AllocError>
     requires inside { from ≤ length text.now }
     requires classes { AreClasses nodes.now classes.now }
-    ensures { IfOk result (λ may. may ≡ false → IsBest nodes.now text.now entry from (length text.now + 1) None) }
+    ensures { IfOk result
+        (λ may. may ≡ false → IsBest nodes.now text.now entry from (length text.now + 1) None) }
 {
     let mut crowd = no_crowd(alloc, nodes)?;
     let mut at = from;

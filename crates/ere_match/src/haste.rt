@@ -35,7 +35,9 @@ fn jump(
     requires idle { IsIdle table.old state at }
     ensures after { IfOk result (λ to. at ≤ to.0) }
     ensures inside { IfOk result (λ to. to.0 ≤ length text.now) }
-    ensures search { (from : ℕ) → from ≤ at → ∥ IsSearching nodes.now text.now entry from at state None table.old ∥₁ → IfOk result (λ to. ∥ IsSearching nodes.now text.now entry from to.0 to.1 None table.new ∥₁) }
+    ensures search { (from : ℕ) → from ≤ at
+        → ∥ IsSearching nodes.now text.now entry from at state None table.old ∥₁ → IfOk result
+        (λ to. ∥ IsSearching nodes.now text.now entry from to.0 to.1 None table.new ∥₁) }
     ensures table { ∥ IsTable nodes.now entry classes.now table.new ∥₁ }
 {
     let to = lead.find(text, at);
@@ -78,7 +80,9 @@ fn pass_over(
     requires is_loop { IsLoop table.old classes.now state byte to }
     ensures after { at ≤ result }
     ensures inside { result ≤ length text.now }
-    ensures search { (from : ℕ) → from ≤ at → ∥ IsSearching nodes.now text.now entry from at state None table.old ∥₁ → ∥ IsSearching nodes.now text.now entry from result state None table.new ∥₁ }
+    ensures search { (from : ℕ) → from ≤ at
+        → ∥ IsSearching nodes.now text.now entry from at state None table.old ∥₁
+        → ∥ IsSearching nodes.now text.now entry from result state None table.new ∥₁ }
     ensures table { ∥ IsTable nodes.now entry classes.now table.new ∥₁ }
 {
     let count = table.rows[state].count;
@@ -110,7 +114,9 @@ pub(crate) fn hasten(
     requires state { state < length table.old.rows.items }
     ensures after { IfOk result (λ to. at ≤ to.0) }
     ensures inside { IfOk result (λ to. to.0 ≤ length text.now) }
-    ensures search { (from : ℕ) → from ≤ at → ∥ IsSearching nodes.now text.now entry from at state None table.old ∥₁ → IfOk result (λ to. ∥ IsSearching nodes.now text.now entry from to.0 to.1 None table.new ∥₁) }
+    ensures search { (from : ℕ) → from ≤ at
+        → ∥ IsSearching nodes.now text.now entry from at state None table.old ∥₁ → IfOk result
+        (λ to. ∥ IsSearching nodes.now text.now entry from to.0 to.1 None table.new ∥₁) }
     ensures table { ∥ IsTable nodes.now entry classes.now table.new ∥₁ }
 {
     if lead.are_told() && is_idle(table, state, at) {

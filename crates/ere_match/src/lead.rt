@@ -25,7 +25,8 @@ pub(crate) enum Lead {
 
 /// These marks and that of one byte more.
 fn marked(marks: [bool; 256], byte: u8) -> [bool; 256]
-    ensures kept { (other : ℕ) → get_or marks other false ≡ true → get_or result other false ≡ true }
+    ensures kept { (other : ℕ) → get_or marks other false ≡ true → get_or result other false
+        ≡ true }
     ensures here { get_or result byte false ≡ true }
 {
     let mut marks = marks;
@@ -47,8 +48,10 @@ fn find_marked(marks: &[bool; 256], text: &[u8], at: usize) -> usize
     requires { at ≤ length text.now }
     ensures after { at ≤ result }
     ensures inside { result ≤ length text.now }
-    ensures none { (place : ℕ) → at ≤ place → place < result → get_or marks.now (get_or text.now place 0) false ≡ false }
-    ensures found { result < length text.now → get_or marks.now (get_or text.now result 0) false ≡ true }
+    ensures none { (place : ℕ) → at ≤ place → place < result
+        → get_or marks.now (get_or text.now place 0) false ≡ false }
+    ensures found { result < length text.now → get_or marks.now (get_or text.now result 0) false
+        ≡ true }
 {
     for place in at..text.len() {
         if marks[usize::from(text[place])] {
@@ -94,7 +97,8 @@ impl Lead {
     /// These bytes and those that the filter lets through.
     fn with_filter(self, filter: &Filter) -> Lead
         ensures wider { IsWider self result }
-        ensures has { (byte : ℕ) → byte < 256 → slice_get (filter_set filter.now) byte ≡ Some true → lead_has result byte ≡ true }
+        ensures has { (byte : ℕ) → byte < 256 → slice_get (filter_set filter.now) byte ≡ Some true
+            → lead_has result byte ≡ true }
     {
         let mut lead = self;
         for byte in 0..256usize {
@@ -130,8 +134,10 @@ impl Lead {
         requires { at ≤ length text.now }
         ensures after { at ≤ result }
         ensures inside { result ≤ length text.now }
-        ensures none { (place : ℕ) → at ≤ place → place < result → lead_has self.now (get_or text.now place 0) ≡ false }
-        ensures found { result < length text.now → lead_has self.now (get_or text.now result 0) ≡ true }
+        ensures none { (place : ℕ) → at ≤ place → place < result
+            → lead_has self.now (get_or text.now place 0) ≡ false }
+        ensures found { result < length text.now → lead_has self.now (get_or text.now result 0)
+            ≡ true }
     {
         let rest = &text[at..];
         let found = match self {

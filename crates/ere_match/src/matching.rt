@@ -4,7 +4,7 @@ ghost use Rattle.ere_syntax.specs.Tree.{Tree};
 ghost use Rattle.ere_syntax.specs.View.{view};
 ghost use Rattle.ere_syntax.specs.declared.fault.EreFault.TheVariants.{NoMemory};
 ghost use Rattle.ere_match.specs.Autos.{IsAutoOf};
-ghost use Rattle.ere_match.specs.FirstMatch.{IsFirstMatch, IsMatch};
+ghost use Rattle.ere_syntax.specs.FirstMatch.{IsFirstMatch, IsMatch};
 
 use crate::assemble::{add, build as build_nodes};
 use crate::automaton::Auto;
@@ -39,7 +39,8 @@ pub fn build(alloc: Global, ere: &Ere) -> Result<Auto, EreFault>
 
 /// Whether the expression matches somewhere in the text.
 pub fn is_match(auto: &mut Auto, text: &[u8]) -> Result<bool, AllocError>
-    ensures found { (t : Tree) → IsAutoOf auto.old t → IfOk result (λ found. IsMatch t text.now found) }
+    ensures found { (t : Tree) → IsAutoOf auto.old t
+        → IfOk result (λ found. IsMatch t text.now found) }
     ensures kept { (t : Tree) → IsAutoOf auto.old t → IsAutoOf auto.new t }
 {
     let found = first_match(auto, text, 0)?;
@@ -54,7 +55,8 @@ pub fn first_match(
     from: usize,
 ) -> Result<Option<(usize, usize)>, AllocError>
     requires { from ≤ length text.now }
-    ensures found { (t : Tree) → IsAutoOf auto.old t → IfOk result (λ found. IsFirstMatch t text.now from found) }
+    ensures found { (t : Tree) → IsAutoOf auto.old t
+        → IfOk result (λ found. IsFirstMatch t text.now from found) }
     ensures kept { (t : Tree) → IsAutoOf auto.old t → IsAutoOf auto.new t }
 {
     let found = search(

@@ -68,7 +68,8 @@ fn mark_numbers(set: &[Option<usize>], used: &mut [u32])
 fn rank_numbers(used: &mut [u32], sources: &mut Vec<u32>) -> Result<usize, AllocError>
     requires { length used.old < 2 ^ 31 }
     ensures same { IsSame sources.old.items sources.new.items }
-    ensures ranked { IfOk result (λ count. IsRanked (length sources.old.items) used.old used.new sources.new.items count) }
+    ensures ranked { IfOk result
+        (λ count. IsRanked (length sources.old.items) used.old used.new sources.new.items count) }
 {
     let mut count = 0;
     for number in 0..used.len() {
@@ -116,7 +117,8 @@ pub(crate) fn rank_threads(
     requires bound { length used.old < 2 ^ 31 }
     requires numbers { (id s : ℕ) → Holds set.now id s → s < length used.old }
     ensures same { IsSame sources.old.items sources.new.items }
-    ensures numbered { IfOk result (λ x. IsNumbered (length sources.old.items) (length used.old) set.now sources.new.items x.0.items x.1) }
+    ensures numbered { IfOk result (λ x. IsNumbered (length sources.old.items) (length used.old)
+        set.now sources.new.items x.0.items x.1) }
 {
     mark_numbers(set, used);
     let count = rank_numbers(used, sources)?;

@@ -46,7 +46,9 @@ fn is_empty(set: &[Option<usize>]) -> bool
 fn seed(set: &mut [Option<usize>], entry: usize, at: usize, best: Option<(usize, usize)>)
     requires { (k s : ℕ) → Holds set.old k s → s ≤ at }
     ensures starts { (k s : ℕ) → Holds set.new k s → s ≤ at }
-    ensures threads { (nodes : List SpecNode) (text : List ℕ) (from : ℕ) → from ≤ at → AreThreads nodes text entry from at at set.old best → IsBest nodes text entry from at best → AreThreads nodes text entry from at (at + 1) set.new best }
+    ensures threads { (nodes : List SpecNode) (text : List ℕ) (from : ℕ) → from ≤ at
+        → AreThreads nodes text entry from at at set.old best → IsBest nodes text entry from at best
+        → AreThreads nodes text entry from at (at + 1) set.new best }
 {
     match best {
         None => {
@@ -68,7 +70,10 @@ fn settle(
     requires same_len { length set.old ≡ length nodes.now }
     requires starts { (k s : ℕ) → Holds set.old k s → s ≤ at }
     ensures starts { (k s : ℕ) → Holds set.new k s → s ≤ at }
-    ensures settled { (from : ℕ) → from ≤ at → at ≤ length text.now → AreThreads nodes.now text.now entry from at at set.old best → IsBest nodes.now text.now entry from at best → IsSettled nodes.now text.now entry from at (nat_eq at 0) (nat_eq at (length text.now)) set.new result }
+    ensures settled { (from : ℕ) → from ≤ at → at ≤ length text.now
+        → AreThreads nodes.now text.now entry from at at set.old best
+        → IsBest nodes.now text.now entry from at best → IsSettled nodes.now text.now entry from at
+        (nat_eq at 0) (nat_eq at (length text.now)) set.new result }
 {
     seed(set, entry, at, best);
     close(nodes, set, at, at == 0, at == text.len());
@@ -92,8 +97,12 @@ fn cross(
     requires starts { (k s : ℕ) → Holds set.old k s → s ≤ at }
     ensures next_len { length next.new ≡ length nodes.now }
     ensures starts { (k s : ℕ) → Holds next.new k s → s ≤ at }
-    ensures threads { (from : ℕ) → from ≤ at → AreThreads nodes.now text.now entry from at at set.old best → IsBest nodes.now text.now entry from at best → AreThreads nodes.now text.now entry from (at + 1) (at + 1) next.new result }
-    ensures best { (from : ℕ) → from ≤ at → AreThreads nodes.now text.now entry from at at set.old best → IsBest nodes.now text.now entry from at best → IsBest nodes.now text.now entry from (at + 1) result }
+    ensures threads { (from : ℕ) → from ≤ at → AreThreads nodes.now text.now entry from at at
+        set.old best → IsBest nodes.now text.now entry from at best
+        → AreThreads nodes.now text.now entry from (at + 1) (at + 1) next.new result }
+    ensures best { (from : ℕ) → from ≤ at → AreThreads nodes.now text.now entry from at at set.old
+        best → IsBest nodes.now text.now entry from at best
+        → IsBest nodes.now text.now entry from (at + 1) result }
 {
     seed(set, entry, at, best);
     sweep(nodes, set, next, at, text[at], at == 0);
@@ -115,7 +124,9 @@ pub(crate) fn scan_on(
     requires next_len { length next.old ≡ length nodes.now }
     requires set_len { length set.old ≡ length nodes.now }
     requires starts { (k s : ℕ) → Holds set.old k s → s ≤ at }
-    ensures { (from : ℕ) → from ≤ at → AreThreads nodes.now text.now entry from at at set.old best → IsBest nodes.now text.now entry from at best → IsBest nodes.now text.now entry from (length text.now + 1) result }
+    ensures { (from : ℕ) → from ≤ at → AreThreads nodes.now text.now entry from at at set.old best
+        → IsBest nodes.now text.now entry from at best
+        → IsBest nodes.now text.now entry from (length text.now + 1) result }
 {
     let mut best = best;
     for place in at..text.len() {

@@ -110,7 +110,8 @@ pub(crate) fn search(
     requires lead { IsLead nodes.now entry lead.now }
     requires classes { AreClasses nodes.now classes.now }
     requires table { ∥ IsTable nodes.now entry classes.now table.old ∥₁ }
-    ensures best { IfOk result (λ found. ∥ IsBest nodes.now text.now entry from (length text.now + 1) found ∥₁) }
+    ensures best { IfOk result
+        (λ found. ∥ IsBest nodes.now text.now entry from (length text.now + 1) found ∥₁) }
     ensures table { ∥ IsTable nodes.now entry classes.now table.new ∥₁ }
 {
     let mut at = lead.find(text, from);

@@ -17,8 +17,10 @@ fn pass(
 ) -> bool
     requires set_len { length set.old ≡ length nodes.now }
     requires next_len { length next.old ≡ length nodes.now }
-    ensures passed { (bound : ℕ) → ((k s : ℕ) → Holds set.old k s → s < bound) → IsPassed nodes.now first false bound 0 set.old set.new result }
-    ensures stepped { (bound : ℕ) → ((k s : ℕ) → Holds set.old k s → s < bound) → result ≡ false → IsStepped nodes.now byte (length nodes.now) set.new next.new }
+    ensures passed { (bound : ℕ) → ((k s : ℕ) → Holds set.old k s → s < bound)
+        → IsPassed nodes.now first false bound 0 set.old set.new result }
+    ensures stepped { (bound : ℕ) → ((k s : ℕ) → Holds set.old k s → s < bound) → result ≡ false
+        → IsStepped nodes.now byte (length nodes.now) set.new next.new }
     ensures next_len { length next.new ≡ length nodes.now }
 {
     clear(next);

@@ -109,7 +109,8 @@ fn row_of(
     requires starts { count < length table.old.starts.items }
     ensures row { IfOk result (FoundRow table.new.rows.items ranks.items count first) }
     ensures most { IfOk result (λ row. row ≤ length table.old.rows.items) }
-    ensures table { (entry : ℕ) (classes : List ℕ) → IsTable nodes.now entry classes table.old → IsKnownTable nodes.now entry classes table.old table.new }
+    ensures table { (entry : ℕ) (classes : List ℕ) → IsTable nodes.now entry classes table.old
+        → IsKnownTable nodes.now entry classes table.old table.new }
     ensures sources { table.new.sources ≡ table.old.sources }
     ensures starts { table.new.starts ≡ table.old.starts }
 {
@@ -135,7 +136,8 @@ fn place(nodes: &[Node], table: &mut Table, first: bool, bound: usize) -> Result
     requires numbers { (id s : ℕ) → Holds table.old.next.items id s → s < bound }
     requires closed { IsClosedFrom nodes.now first false 0 table.old.next.items }
     ensures placed { IfOk result (IsPlaced first bound table.old.next.items table.new) }
-    ensures table { (entry : ℕ) (classes : List ℕ) → IsTable nodes.now entry classes table.old → IsKnownTable nodes.now entry classes table.old table.new }
+    ensures table { (entry : ℕ) (classes : List ℕ) → IsTable nodes.now entry classes table.old
+        → IsKnownTable nodes.now entry classes table.old table.new }
     ensures starts { IsSame table.old.starts.items table.new.starts.items }
 {
     let alloc = *table.sources.allocator();
@@ -196,8 +198,10 @@ pub(crate) fn make(
     requires set_len { length table.old.set.items ≡ length nodes.now }
     requires next_len { length table.old.next.items ≡ length nodes.now }
     requires numbers { (id s : ℕ) → Holds table.old.next.items id s → s < count + 1 }
-    ensures made { IfOk result (IsMadeMove nodes.now entry found first count table.old.next.items table.new) }
-    ensures table { (classes : List ℕ) → IsTable nodes.now entry classes table.old → IsKnownTable nodes.now entry classes table.old table.new }
+    ensures made { IfOk result
+        (IsMadeMove nodes.now entry found first count table.old.next.items table.new) }
+    ensures table { (classes : List ℕ) → IsTable nodes.now entry classes table.old
+        → IsKnownTable nodes.now entry classes table.old table.new }
     ensures starts { IsSame table.old.starts.items table.new.starts.items }
 {
     if count >= MOST_NUMBERS {

@@ -54,7 +54,8 @@ fn follow(
     first: bool,
     last: bool,
 ) -> bool
-    ensures { (bound : ℕ) → start < bound → IsFollowed first last bound id start node.now set.old set.new result }
+    ensures { (bound : ℕ) → start < bound
+        → IsFollowed first last bound id start node.now set.old set.new result }
 {
     match node {
         Node::Split(to, other) => {
@@ -78,7 +79,8 @@ pub(crate) fn visit(
 ) -> bool
     requires within { id < length nodes.now }
     requires same_len { length set.old ≡ length nodes.now }
-    ensures { (bound : ℕ) → ((k s : ℕ) → Holds set.old k s → s < bound) → IsVisited nodes.now first last bound id set.old set.new result }
+    ensures { (bound : ℕ) → ((k s : ℕ) → Holds set.old k s → s < bound)
+        → IsVisited nodes.now first last bound id set.old set.new result }
 {
     match set[id] {
         Some(start) => follow(&nodes[id], id, set, start, first, last),
@@ -89,7 +91,8 @@ pub(crate) fn visit(
 /// Leads each thread on once, from the last node to the first, and tells whether one has come to a node that was passed by then.
 fn pass(nodes: &[Node], set: &mut [Option<usize>], first: bool, last: bool) -> bool
     requires { length set.old ≡ length nodes.now }
-    ensures { (bound : ℕ) → ((k s : ℕ) → Holds set.old k s → s < bound) → IsPassed nodes.now first last bound 0 set.old set.new result }
+    ensures { (bound : ℕ) → ((k s : ℕ) → Holds set.old k s → s < bound)
+        → IsPassed nodes.now first last bound 0 set.old set.new result }
 {
     let mut added = false;
     for done in 0..nodes.len() {

@@ -1,39 +1,11 @@
 -- Bytes, escapes and bracket expressions: how they are spelled, and how they are read from the front of a text.
 use Rattle.std.specs.Prelude.{codes, ◌≡◌, ℕ, zero, suc, ◌+◌, ◌-◌, ◌*◌, ◌%◌, Bool, true, false, ◌&&◌, ◌||◌, ◌==◌, nat_le, if◌then◌else◌, Option, Some, None, List, [], ◌∷◌, ◌++◌, length}
+use Rattle.ere_syntax.specs.Bytes.{alert, backspace, tab, newline, vertical_tab, form_feed, carriage_return, dash, dot, digit_zero, digit_seven, colon, equals, open_bracket, backslash, close_bracket, hat, lower_a, lower_b, lower_f, lower_n, lower_r, lower_t, lower_v}
 use Rattle.ere_syntax.specs.Reading.{◌>>=◌}
 use Rattle.ere_syntax.specs.declared.bracket.Front.{Front}
 use Rattle.ere_syntax.specs.declared.bracket.Front.TheVariants.{Closes, Names, Begins, Wrong}
 use Rattle.ere_syntax.specs.declared.class.Class.{Class}
 use Rattle.ere_syntax.specs.declared.class.Class.TheVariants.{Alnum, Alpha, Blank, Cntrl, Digit, Graph, Lower, Print, Punct, Space, Upper, Xdigit}
-
--- ---- bytes by name
-
-abbrev pub backslash : ℕ
-backslash = 92
-
-abbrev pub open_bracket : ℕ
-open_bracket = 91
-
-abbrev pub close_bracket : ℕ
-close_bracket = 93
-
-abbrev pub dash : ℕ
-dash = 45
-
-abbrev pub hat : ℕ
-hat = 94
-
-abbrev pub colon : ℕ
-colon = 58
-
-abbrev pub dot : ℕ
-dot = 46
-
-abbrev pub equals : ℕ
-equals = 61
-
-abbrev pub digit_zero : ℕ
-digit_zero = 48
 
 abbrev pub not : Bool → Bool
 not true = false
@@ -47,7 +19,7 @@ starts b (c ∷ cs) = c == b
 
 -- `0` to `7`
 abbrev pub is_octal : ℕ → Bool
-is_octal c = nat_le digit_zero c && nat_le c 55
+is_octal c = nat_le digit_zero c && nat_le c digit_seven
 
 pub data Escape : Type 0 where
   Octal : ℕ → List ℕ → Escape
@@ -77,13 +49,13 @@ octal_value n (d ∷ ds) = octal_value (n * 8 + (d - digit_zero)) ds
 -- the letters `a` (alert), `b` (backspace), `f` (form feed), `n` (newline), `r` (return), `t` (tab), `v` (vertical tab); any other byte is itself
 abbrev pub letter_value : ℕ → ℕ
 letter_value c =
-    if c == 97 then 7 else
-    if c == 98 then 8 else
-    if c == 102 then 12 else
-    if c == 110 then 10 else
-    if c == 114 then 13 else
-    if c == 116 then 9 else
-    if c == 118 then 11 else c
+    if c == lower_a then alert else
+    if c == lower_b then backspace else
+    if c == lower_f then form_feed else
+    if c == lower_n then newline else
+    if c == lower_r then carriage_return else
+    if c == lower_t then tab else
+    if c == lower_v then vertical_tab else c
 
 abbrev pub escape_value : Escape → ℕ
 escape_value (Octal d ds) = octal_value 0 (d ∷ ds)

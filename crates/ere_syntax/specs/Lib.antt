@@ -1,3 +1,4 @@
+pub mod Bytes
 pub mod Tree
 pub mod Reading
 pub mod Bracket
@@ -11,3 +12,4 @@ pub mod Sizes
 pub mod Frames
 pub mod Steps
 pub mod Answers
+pub mod FirstMatch

@@ -1,8 +1,9 @@
 -- The tokens of a text: how they are spelled and read, and the tree of a text.
 use Rattle.std.specs.Prelude.{◌≡◌, ℕ, zero, suc, ◌+◌, ◌-◌, ◌*◌, ◌≤◌, Bool, true, false, ◌&&◌, ◌||◌, ◌==◌, nat_le, if◌then◌else◌, Option, Some, None, List, [], ◌∷◌, ◌++◌, length}
+use Rattle.ere_syntax.specs.Bytes.{tab, carriage_return, last_control, space, exclamation, dollar, open_paren, close_paren, star, plus, comma, dot, slash, digit_zero, digit_nine, colon, query, at_sign, upper_a, upper_f, upper_z, open_bracket, backslash, hat, backquote, lower_a, lower_f, lower_z, open_brace, bar, close_brace, tilde, delete}
 use Rattle.ere_syntax.specs.Tree.{Bytes, Token, Atom, Begin, Stop, Open, Close, Bar, Times, Tree, print, IsEre}
 use Rattle.ere_syntax.specs.Reading.{◌>>=◌, tree_of}
-use Rattle.ere_syntax.specs.Bracket.{backslash, digit_zero, dot, hat, open_bracket, not, starts, behind, Escape, spell_escape, IsEscape, escape_value, escape_at, value, Member, Single, Range, Named, Bracket, spell_bracket, IsBracket, bracket_at}
+use Rattle.ere_syntax.specs.Bracket.{not, starts, behind, Escape, spell_escape, IsEscape, escape_value, escape_at, value, Member, Single, Range, Named, Bracket, spell_bracket, IsBracket, bracket_at}
 use Rattle.ere_syntax.specs.declared.class.Class.{Class}
 use Rattle.ere_syntax.specs.declared.class.Class.TheVariants.{Alnum, Alpha, Blank, Cntrl, Digit, Graph, Lower, Print, Punct, Space, Upper, Xdigit}
 use Rattle.ere_syntax.specs.declared.sign.Sign.{Sign}
@@ -21,20 +22,19 @@ table p = table_by p 256 0
 abbrev pub between : ℕ → ℕ → ℕ → Bool
 between low high c = nat_le low c && nat_le c high
 
--- digits are 48 to 57, capital letters 65 to 90, small ones 97 to 122; 32 is the blank, 9 the tab
 abbrev pub in_class : Class → ℕ → Bool
-in_class Alnum c = between 48 57 c || (between 65 90 c || between 97 122 c)
-in_class Alpha c = between 65 90 c || between 97 122 c
-in_class Blank c = (c == 32) || (c == 9)
-in_class Cntrl c = between 0 31 c || (c == 127)
-in_class Digit c = between 48 57 c
-in_class Graph c = between 33 126 c
-in_class Lower c = between 97 122 c
-in_class Print c = between 32 126 c
-in_class Punct c = between 33 47 c || (between 58 64 c || (between 91 96 c || between 123 126 c))
-in_class Space c = (c == 32) || between 9 13 c
-in_class Upper c = between 65 90 c
-in_class Xdigit c = between 48 57 c || (between 65 70 c || between 97 102 c)
+in_class Alnum c = between digit_zero digit_nine c || (between upper_a upper_z c || between lower_a lower_z c)
+in_class Alpha c = between upper_a upper_z c || between lower_a lower_z c
+in_class Blank c = (c == space) || (c == tab)
+in_class Cntrl c = between 0 last_control c || (c == delete)
+in_class Digit c = between digit_zero digit_nine c
+in_class Graph c = between exclamation tilde c
+in_class Lower c = between lower_a lower_z c
+in_class Print c = between space tilde c
+in_class Punct c = between exclamation slash c || (between colon at_sign c || (between open_bracket backquote c || between open_brace tilde c))
+in_class Space c = (c == space) || between tab carriage_return c
+in_class Upper c = between upper_a upper_z c
+in_class Xdigit c = between digit_zero digit_nine c || (between upper_a upper_f c || between lower_a lower_f c)
 
 abbrev pub in_member : Member → ℕ → Bool
 in_member (Single o) c = c == value o
@@ -50,18 +50,9 @@ in_bracket b c = if b.negated then not (in_members b.members c) else in_members 
 
 -- ---- intervals, after the `{`
 
-abbrev pub open_brace : ℕ
-open_brace = 123
-
-abbrev pub close_brace : ℕ
-close_brace = 125
-
-abbrev pub comma : ℕ
-comma = 44
-
 -- `0` to `9`
 abbrev pub is_digit : ℕ → Bool
-is_digit c = nat_le digit_zero c && nat_le c 57
+is_digit c = nat_le digit_zero c && nat_le c digit_nine
 
 abbrev pub digits_at : List ℕ → List ℕ × List ℕ
 digits_at [] = ([], [])
@@ -126,13 +117,13 @@ fits i = counts_fit (low_of i) (high_of i)
 abbrev pub code : Sign → ℕ
 code Dot = dot
 code Hat = hat
-code Dollar = 36
-code OpenMark = 40
-code CloseMark = 41
-code BarMark = 124
-code Star = 42
-code Plus = 43
-code Query = 63
+code Dollar = dollar
+code OpenMark = open_paren
+code CloseMark = close_paren
+code BarMark = bar
+code Star = star
+code Plus = plus
+code Query = query
 code Brace = open_brace
 code BracketMark = open_bracket
 code Backslash = backslash

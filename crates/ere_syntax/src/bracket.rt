@@ -39,7 +39,8 @@ pub(crate) fn dash(text: &[u8]) -> Option<&[u8]>
 
 /// One byte in brackets, and what follows; or what was left where reading stopped.
 pub(crate) fn one(text: &[u8]) -> Result<(u8, &[u8]), &[u8]>
-    ensures { option_map (λ x. byte_and x.0 x.1.now) (kept result) ≡ option_map (λ x. byte_and (value x.0) x.1) (one_at text.now) }
+    ensures { option_map (λ x. byte_and x.0 x.1.now) (kept result)
+        ≡ option_map (λ x. byte_and (value x.0) x.1) (one_at text.now) }
 {
     match text {
         [] => Err(text),
@@ -131,7 +132,8 @@ impl Item {
 
 /// The class that is named at the front, with its bracket.
 fn named(text: &[u8]) -> Result<(Item, &[u8]), &[u8]>
-    ensures { option_map (λ x. item_and x.0 x.1.now) (kept result) ≡ option_map (λ x. item_and (item_of x.0) x.1) (named_at text.now) }
+    ensures { option_map (λ x. item_and x.0 x.1.now) (kept result)
+        ≡ option_map (λ x. item_and (item_of x.0) x.1) (named_at text.now) }
 {
     match text {
         [_, b':', rest @ ..] => match class_of(rest) {
@@ -161,7 +163,8 @@ fn begun(text: &[u8]) -> Result<(Item, &[u8]), &[u8]>
 /// The member at the front, and what follows; or what was left where reading stopped.
 #[tactic(auto, using(crate::proofs::Members::begun_is))]
 fn member(text: &[u8], front: Front) -> Result<(Item, &[u8]), &[u8]>
-    ensures { option_map (λ x. item_and x.0 x.1.now) (kept result) ≡ option_map (λ x. item_and (item_of x.0) x.1) (member_at text.now front) }
+    ensures { option_map (λ x. item_and x.0 x.1.now) (kept result)
+        ≡ option_map (λ x. item_and (item_of x.0) x.1) (member_at text.now front) }
 {
     match front {
         Front::Names => named(text),
@@ -186,7 +189,8 @@ fn behind_close(front: Front, text: &[u8]) -> Option<&[u8]>
 /// Puts the bytes of a member into the set.
 fn insert(set: &mut ByteSet, item: Item)
     ensures size { length set.new.has ≡ 256 }
-    ensures bytes { (c : ℕ) → c < 256 → slice_index_or set.new.has c false ≡ (slice_index_or set.old.has c false || in_item item c) }
+    ensures bytes { (c : ℕ) → c < 256 → slice_index_or set.new.has c false
+        ≡ (slice_index_or set.old.has c false || in_item item c) }
 {
     for byte in 0..256usize {
         if item.contains(byte as u8) {

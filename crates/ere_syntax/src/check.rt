@@ -65,7 +65,8 @@ fn follow(token: &Token, groups: usize, last: Last) -> Option<(usize, Last)>
 
 /// Whether the text has a tree; if not, what was left where reading stopped.
 pub(crate) fn check(text: &[u8]) -> Result<(), &[u8]>
-    ensures { MatchResult result (λ _. is_some (ere_of text.now) ≡ true) (λ _. ere_of text.now ≡ None) }
+    ensures { MatchResult result (λ _. is_some (ere_of text.now) ≡ true)
+        (λ _. ere_of text.now ≡ None) }
 {
     if text.is_empty() {
         return Ok(());

@@ -11,7 +11,8 @@ fn is_octal(byte: u8) -> bool
 
 /// The byte of an escape, behind its backslash, and what follows; or what was left where reading stopped.
 pub(crate) fn escape(text: &[u8]) -> Result<(u8, &[u8]), &[u8]>
-    ensures { option_map (λ x. byte_and x.0 x.1.now) (kept result) ≡ option_map (λ x. byte_and (escape_value x.0) x.1) (escape_at text.now) }
+    ensures { option_map (λ x. byte_and x.0 x.1.now) (kept result)
+        ≡ option_map (λ x. byte_and (escape_value x.0) x.1) (escape_at text.now) }
 {
     match text {
         [] => Err(text),
@@ -28,7 +29,8 @@ pub(crate) fn escape(text: &[u8]) -> Result<(u8, &[u8]), &[u8]>
 /// The byte of the octal digit and at most two further ones, and what follows.
 fn octal(first: u8, text: &[u8]) -> (u8, &[u8])
     requires { is_octal first ≡ true }
-    ensures { byte_and result.0 result.1.now ≡ byte_and (octal_value 0 (first ∷ (octals_at 2 text.now).0)) (octals_at 2 text.now).1 }
+    ensures { byte_and result.0 result.1.now
+        ≡ byte_and (octal_value 0 (first ∷ (octals_at 2 text.now).0)) (octals_at 2 text.now).1 }
 {
     let one = u16::from(first - b'0');
     match text {

@@ -53,7 +53,8 @@ pub(crate) fn atom(alloc: Global, atom: Atom) -> Result<Ere, AllocError>
 
 /// The pieces and the last one as one.
 fn joined(pieces: Vec<Ere>, last: Ere) -> Result<Ere, AllocError>
-    ensures { IfOk result (λ e. Some (view e) ≡ joined (some_concat (views pieces.items)) (Some (view last))) }
+    ensures { IfOk result
+        (λ e. Some (view e) ≡ joined (some_concat (views pieces.items)) (Some (view last))) }
 {
     if pieces.is_empty() {
         return Ok(last);
@@ -77,8 +78,10 @@ fn either(branches: Vec<Ere>, last: Ere) -> Result<Ere, AllocError>
 
 /// The frame with one more piece.
 pub(crate) fn put(frame: Frame, part: Part) -> Result<Frame, AllocError>
-    ensures same { IsNeat (frame_view frame) → IfOk result (λ f. frame_view f ≡ put (frame_view frame) (view part.ere)) }
-    ensures sized { IsSized frame → IsSize part.size (view part.ere) → IfOk result (λ f. IsSized f) }
+    ensures same { IsNeat (frame_view frame)
+        → IfOk result (λ f. frame_view f ≡ put (frame_view frame) (view part.ere)) }
+    ensures sized { IsSized frame → IsSize part.size (view part.ere)
+        → IfOk result (λ f. IsSized f) }
 {
     let Frame {
         branches,
@@ -161,7 +164,8 @@ pub(crate) fn finish(frame: Frame) -> Result<Option<Part>, AllocError>
 pub(crate) fn grouped(alloc: Global, part: Part) -> Result<Option<Part>, AllocError>
     ensures same { IfOk result (λ r. IfSome r (λ p. view p.ere ≡ Group (view part.ere))) }
     ensures deep { IfOk result (λ r. r ≡ None → 1000 < part.size.nesting + 1) }
-    ensures sized { IsSize part.size (view part.ere) → IfOk result (λ r. IfSome r (λ p. IsSize p.size (view p.ere))) }
+    ensures sized { IsSize part.size (view part.ere)
+        → IfOk result (λ r. IfSome r (λ p. IsSize p.size (view p.ere))) }
 {
     match part.size.deeper() {
         None => Ok(None),
@@ -174,9 +178,11 @@ pub(crate) fn grouped(alloc: Global, part: Part) -> Result<Option<Part>, AllocEr
 
 /// The part, repeated; nothing where that is nested too deeply.
 pub(crate) fn repeated(alloc: Global, part: Part, times: Times) -> Result<Option<Part>, AllocError>
-    ensures same { IfOk result (λ r. IfSome r (λ p. view p.ere ≡ Repeat (view part.ere) times.low times.high)) }
+    ensures same { IfOk result
+        (λ r. IfSome r (λ p. view p.ere ≡ Repeat (view part.ere) times.low times.high)) }
     ensures deep { IfOk result (λ r. r ≡ None → 1000 < part.size.nesting + 1) }
-    ensures sized { IsSize part.size (view part.ere) → IfOk result (λ r. IfSome r (λ p. IsSize p.size (view p.ere))) }
+    ensures sized { IsSize part.size (view part.ere)
+        → IfOk result (λ r. IfSome r (λ p. IsSize p.size (view p.ere))) }
 {
     match part.size.repeated(times).deeper() {
         None => Ok(None),

@@ -89,7 +89,8 @@ fn digits(text: &[u8]) -> (u16, &[u8])
 
 /// The counts, where the closing brace stands at the front.
 fn closing(low: u16, high: Option<u16>, text: &[u8]) -> Option<(Counts, &[u8])>
-    ensures { option_map (λ x. counts_and x.0.low x.0.high x.1.now) result ≡ closing low high text.now }
+    ensures { option_map (λ x. counts_and x.0.low x.0.high x.1.now) result
+        ≡ closing low high text.now }
 {
     if starts(b'}', text) {
         Some((Counts { low, high }, behind(text)))

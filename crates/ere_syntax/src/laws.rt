@@ -11,5 +11,6 @@ pub fn one_tree()
 
 /// A match begins and ends within the text, and does not end before it begins.
 pub fn matches_inside()
-    ensures { (t : Tree) (text : List ℕ) (i j : ℕ) → Matches t text i j → (i ≤ j) × (j ≤ length text) }
+    ensures { (t : Tree) (text : List ℕ) (i j : ℕ) → Matches t text i j → (i ≤ j)
+        × (j ≤ length text) }
 {}

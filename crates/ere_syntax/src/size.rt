@@ -69,7 +69,8 @@ impl Size {
 
     /// One level of nesting more; nothing past the limit.
     pub(crate) fn deeper(self) -> Option<Size>
-        ensures some { IfSome result (λ s. (s.positions ≡ self.positions) × (s.nesting ≡ self.nesting + 1)) }
+        ensures some { IfSome result
+            (λ s. (s.positions ≡ self.positions) × (s.nesting ≡ self.nesting + 1)) }
         ensures none { IsNone result ↔ (1000 < self.nesting + 1) }
     {
         if self.nesting < NESTING {
@@ -84,7 +85,8 @@ impl Size {
 
     /// So many times.
     pub(crate) fn repeated(self, counts: Times) -> Size
-        ensures positions { result.positions ≡ min (self.positions * times counts.low counts.high) 10001 }
+        ensures positions { result.positions
+            ≡ min (self.positions * times counts.low counts.high) 10001 }
         ensures nesting { result.nesting ≡ self.nesting }
     {
         let factor = match counts.high {

@@ -17,7 +17,8 @@ use std::alloc::Global;
 
 /// Puts a piece of one position into the frame.
 fn put_one(frame: Frame, ere: Ere) -> Result<Option<Frame>, EreFault>
-    ensures { (t : Tree) → view ere ≡ t → IsOne t → IsNeat (frame_view frame) → IsSized frame → FrameAnswer (put (frame_view frame) t) result }
+    ensures { (t : Tree) → view ere ≡ t → IsOne t → IsNeat (frame_view frame) → IsSized frame
+        → FrameAnswer (put (frame_view frame) t) result }
 {
     let part = Part {
         ere,
@@ -28,7 +29,8 @@ fn put_one(frame: Frame, ere: Ere) -> Result<Option<Frame>, EreFault>
 
 /// Repeats the last piece; nothing where there is none.
 fn repeat_last(alloc: Global, frame: Frame, times: Times) -> Result<Option<Frame>, EreFault>
-    ensures { (g : SpecFrame) → IsSized frame → repeated (frame_view frame) times.low times.high ≡ Some g → FrameAnswer g result }
+    ensures { (g : SpecFrame) → IsSized frame → repeated (frame_view frame) times.low times.high
+        ≡ Some g → FrameAnswer g result }
 {
     let Frame {
         branches,
@@ -56,7 +58,9 @@ fn open_group(
     stack: &mut Vec<Frame>,
     frame: Frame,
 ) -> Result<Option<Frame>, EreFault>
-    ensures { (x : List SpecFrame × SpecFrame) → AreReady stack.old.items frame → opening_step (stack_view stack.old.items) (frame_view frame) ≡ Some x → StepAnswer x stack.new.items result }
+    ensures { (x : List SpecFrame × SpecFrame) → AreReady stack.old.items frame
+        → opening_step (stack_view stack.old.items) (frame_view frame) ≡ Some x
+        → StepAnswer x stack.new.items result }
 {
     if stack.len() >= NESTING as usize {
         return Err(EreFault::EreTooLarge);
@@ -71,7 +75,9 @@ fn close_group(
     stack: &mut Vec<Frame>,
     frame: Frame,
 ) -> Result<Option<Frame>, EreFault>
-    ensures { (x : List SpecFrame × SpecFrame) → AreReady stack.old.items frame → closing_step (stack_view stack.old.items) (frame_view frame) ≡ Some x → StepAnswer x stack.new.items result }
+    ensures { (x : List SpecFrame × SpecFrame) → AreReady stack.old.items frame
+        → closing_step (stack_view stack.old.items) (frame_view frame) ≡ Some x
+        → StepAnswer x stack.new.items result }
 {
     match finish(frame)? {
         None => Ok(None),
@@ -92,7 +98,9 @@ pub(crate) fn step(
     frame: Frame,
     token: Token,
 ) -> Result<Option<Frame>, EreFault>
-    ensures { (x : List SpecFrame × SpecFrame) → AreReady stack.old.items frame → stepped (token_view token) (stack_view stack.old.items) (frame_view frame) ≡ Some x → StepAnswer x stack.new.items result }
+    ensures { (x : List SpecFrame × SpecFrame) → AreReady stack.old.items frame
+        → stepped (token_view token) (stack_view stack.old.items) (frame_view frame) ≡ Some x
+        → StepAnswer x stack.new.items result }
 {
     match token {
         Token::Atom(kind) => put_one(frame, atom(alloc, kind)?),

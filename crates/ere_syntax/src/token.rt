@@ -32,7 +32,8 @@ pub(crate) enum Token {
 
 /// An interval and what follows it, or an ordinary brace where none begins; nothing where its counts are wrong.
 fn counted(rest: &[u8]) -> Option<(Token, &[u8])>
-    ensures { option_map (λ x. token_and (token_view x.0) x.1.now) result ≡ counted_token rest.now (counted rest.now) }
+    ensures { option_map (λ x. token_and (token_view x.0) x.1.now) result
+        ≡ counted_token rest.now (counted rest.now) }
 {
     match interval(rest) {
         None => Some((Token::Atom(Atom::Byte(b'{')), rest)),
@@ -45,7 +46,8 @@ fn counted(rest: &[u8]) -> Option<(Token, &[u8])>
 
 /// The bracket expression behind its first bracket, and what follows.
 fn bracketed(rest: &[u8]) -> Result<(Token, &[u8]), &[u8]>
-    ensures { option_map (λ x. token_and (token_view x.0) x.1.now) (kept result) ≡ bracket_token rest.now }
+    ensures { option_map (λ x. token_and (token_view x.0) x.1.now) (kept result)
+        ≡ bracket_token rest.now }
 {
     match bracket(rest) {
         Ok((set, after)) => Ok((Token::Atom(Atom::Bracket(set)), after)),
@@ -55,7 +57,8 @@ fn bracketed(rest: &[u8]) -> Result<(Token, &[u8]), &[u8]>
 
 /// The byte behind a backslash, and what follows.
 fn escaped(rest: &[u8]) -> Result<(Token, &[u8]), &[u8]>
-    ensures { option_map (λ x. token_and (token_view x.0) x.1.now) (kept result) ≡ escape_token rest.now }
+    ensures { option_map (λ x. token_and (token_view x.0) x.1.now) (kept result)
+        ≡ escape_token rest.now }
 {
     match escape(rest) {
         Ok((byte, after)) => Ok((Token::Atom(Atom::Byte(byte)), after)),
@@ -65,7 +68,8 @@ fn escaped(rest: &[u8]) -> Result<(Token, &[u8]), &[u8]>
 
 /// The token at the front where so many groups are open, and what follows; or what was left where reading stopped.
 pub(crate) fn next_token(text: &[u8], groups: usize) -> Result<(Token, &[u8]), &[u8]>
-    ensures { option_map (λ x. token_and (token_view x.0) x.1.now) (kept result) ≡ lexed groups text.now }
+    ensures { option_map (λ x. token_and (token_view x.0) x.1.now) (kept result)
+        ≡ lexed groups text.now }
 {
     let [byte, rest @ ..] = text else {
         return Err(text);

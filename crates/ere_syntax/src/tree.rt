@@ -26,7 +26,8 @@ impl ByteSet {
 
     /// The bytes that are not in the set.
     pub(crate) fn complement(self) -> ByteSet
-        ensures { (c : ℕ) → c < 256 → slice_index_or result.has c false ≡ not (slice_index_or self.has c false) }
+        ensures { (c : ℕ) → c < 256 → slice_index_or result.has c false
+            ≡ not (slice_index_or self.has c false) }
     {
         let mut has = self.has;
         for byte in has.iter_mut() {

@@ -18,7 +18,8 @@ fn fold_routine(routine: &mut Routine)
 }
 
 fn fold_routines(routines: &mut Vec<Routine>)
-    ensures { map view_routine routines.new.items ≡ map folded_routine (map view_routine routines.old.items) }
+    ensures { map view_routine routines.new.items
+        ≡ map folded_routine (map view_routine routines.old.items) }
 {
     for routine in routines.iter_mut() {
         fold_routine(routine);

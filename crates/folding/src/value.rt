@@ -8,12 +8,10 @@ ghost use Rattle.folding.specs.View.{numeral};
 ghost use Rattle.mid_program.specs.MidMeaning.{arithmetic_of};
 ghost use Rattle.mid_program.specs.ViewCode.{view, views};
 
+use awk_text::MAX_NUMBER;
 use awk_values::{Fault, add, div, int_div, mul, pow, rem, sub};
 use mid_program::{Arithmetic, Code, Operand, Operation};
 use sem_primitives::Primitive;
-
-/// The greatest magnitude of a number.
-const LIMIT: u64 = 1 << 53;
 
 /// The greatest number of a field.
 const LAST_FIELD: i64 = 1 << 20;
@@ -22,7 +20,7 @@ const LAST_FIELD: i64 = 1 << 20;
 fn in_range(number: i64) -> Option<i64>
     ensures { result ≡ numeral (number_of number) }
 {
-    if number.unsigned_abs() <= LIMIT {
+    if number.unsigned_abs() <= MAX_NUMBER {
         Some(number)
     } else {
         None
@@ -94,7 +92,8 @@ fn of_one(operation: Operation, operand: i64) -> Option<i64>
 fn of_two(operation: Operation, left: i64, right: i64) -> Option<i64>
     requires left { InRange left }
     requires right { InRange right }
-    ensures { (m n : Number) → m.number ≡ left → n.number ≡ right → result ≡ numeral (of_two operation (Some m) (Some n)) }
+    ensures { (m n : Number) → m.number ≡ left → n.number ≡ right → result
+        ≡ numeral (of_two operation (Some m) (Some n)) }
 {
     let outcome = match operation {
         Operation::Inline(arithmetic) => outcome(arithmetic, left, right),

@@ -62,7 +62,9 @@ fn stands_in(pairs: &IndexMap<Bytes, Held, RandomState>, place: usize, key: &Byt
 
 /// Writes the value of the key at this place of the map.
 fn write_at(pairs: &mut IndexMap<Bytes, Held, RandomState>, place: usize, value: Value)
-    ensures { (k : List ℕ) (h : SpecHeld) → slice_get pairs.old.entries place ≡ Some (k, h) → Changes (held_in pairs.old.entries) (held_in pairs.new.entries) k (Some (record { value = value; place = h.place })) }
+    ensures { (k : List ℕ) (h : SpecHeld) → slice_get pairs.old.entries place ≡ Some (k, h)
+        → Changes (held_in pairs.old.entries) (held_in pairs.new.entries) k
+        (Some (record { value = value; place = h.place })) }
 {
     if let Some(held) = pairs.get_index_mut(place) {
         held.value = value;
@@ -72,9 +74,12 @@ fn write_at(pairs: &mut IndexMap<Bytes, Held, RandomState>, place: usize, value:
 /// Gives each key its place in an order without holes.
 fn renumber(pairs: &mut IndexMap<Bytes, Held, RandomState>, order: &[Option<Bytes>])
     requires once { IsOnce order.now }
-    requires held { (k : List ℕ) (i : ℕ) → get_or order.now i None ≡ Some k → IsSome (held_in pairs.old.entries k) }
-    ensures values { (k : List ℕ) → kept_value (held_in pairs.new.entries k) ≡ kept_value (held_in pairs.old.entries k) }
-    ensures places { (k : List ℕ) (i : ℕ) → get_or order.now i None ≡ Some k → place_in (held_in pairs.new.entries k) ≡ Some i }
+    requires held { (k : List ℕ) (i : ℕ) → get_or order.now i None ≡ Some k
+        → IsSome (held_in pairs.old.entries k) }
+    ensures values { (k : List ℕ) → kept_value (held_in pairs.new.entries k)
+        ≡ kept_value (held_in pairs.old.entries k) }
+    ensures places { (k : List ℕ) (i : ℕ) → get_or order.now i None ≡ Some k
+        → place_in (held_in pairs.new.entries k) ≡ Some i }
 {
     for place in 0..order.len() {
         if let Some(key) = &order[place] {

@@ -40,6 +40,22 @@ impl Model for Arrays {
     ghost view = { λ t. table t.slab.slots };
 }
 
+/// The same value, to be kept for long ([`Value::kept`]), or handed back where there is no memory. What is no text is kept as it is.
+#[inline(always)]
+fn to_keep(alloc: Global, value: Value) -> Result<Value, Value>
+    ensures kept { IfOk result (λ kept. kept ≡ value) }
+    ensures handed_back { IfErr result (λ v. v ≡ value) }
+{
+    match value {
+        Value::Uninit => Ok(Value::Uninit),
+        Value::Num(number) => Ok(Value::Num(number)),
+        text => match text.kept(alloc) {
+            Ok(kept) => Ok(kept),
+            Err(_) => Err(text),
+        },
+    }
+}
+
 fn slot_of(number: i32) -> usize
     requires { pos 0 ≤ℤ number }
     ensures { number ≡ pos result }
@@ -129,7 +145,8 @@ impl Arrays {
 
     fn array_mut(&mut self, number: i32) -> &mut Array
         requires { map.contains_key self.old number ≡ true }
-        ensures* writes_back { sem 𝓛 (Lends the_row one.the_row self.entry result (map.insert self.old number)) }
+        ensures* writes_back { sem 𝓛
+            (Lends the_row one.the_row self.entry result (map.insert self.old number)) }
         ensures value { result.now ≡ pairs_at self.old number }
     {
         &mut self.slab[slot_of(number)]
@@ -160,8 +177,10 @@ impl Arrays {
     /// There is no memory; nothing changes.
     pub fn get_or_create(&mut self, number: i32, key: &Bytes) -> Result<Value, AllocError>
         requires { map.contains_key self.old number ≡ true }
-        ensures value { IfOk result (λ v. v ≡ value_or_uninit (get_pair key.now (pairs_at self.old number))) }
-        ensures created { OnOk result (self.new ≡ map.insert self.old number (created key.now (pairs_at self.old number))) }
+        ensures value { IfOk result
+            (λ v. v ≡ value_or_uninit (get_pair key.now (pairs_at self.old number))) }
+        ensures created { OnOk result
+            (self.new ≡ map.insert self.old number (created key.now (pairs_at self.old number))) }
         ensures refused { OnErr result (self.new ≡ self.old) }
     {
         self.array_mut(number).get_or_create(key)
@@ -175,20 +194,20 @@ impl Arrays {
     /// The value is handed back where there is no memory; nothing changes.
     pub fn set(&mut self, number: i32, key: &Bytes, value: Value) -> Result<(), Value>
         requires { map.contains_key self.old number ≡ true }
-        ensures set { OnOk result (self.new ≡ map.insert self.old number (set_pair key.now value (pairs_at self.old number))) }
+        ensures set { OnOk result (self.new
+            ≡ map.insert self.old number (set_pair key.now value (pairs_at self.old number))) }
         ensures refused { OnErr result (self.new ≡ self.old) }
         ensures handed_back { IfErr result (λ v. v ≡ value) }
     {
-        let Ok(kept) = value.kept(self.alloc) else {
-            return Err(value);
-        };
+        let kept = to_keep(self.alloc, value)?;
         self.array_mut(number).set(key, kept)
     }
 
     /// Takes a key out of the array, where it has one. The others keep their order. It takes no memory, and the time of a few calls on average.
     pub fn delete(&mut self, number: i32, key: &Bytes)
         requires { map.contains_key self.old number ≡ true }
-        ensures { self.new ≡ map.insert self.old number (delete_pair key.now (pairs_at self.old number)) }
+        ensures { self.new
+            ≡ map.insert self.old number (delete_pair key.now (pairs_at self.old number)) }
     {
         self.array_mut(number).delete(key);
     }

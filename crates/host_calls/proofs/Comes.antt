@@ -5,7 +5,7 @@ use Rattle.awk_values.specs.declared.fault.Fault.{Fault}
 use Rattle.wasm_store.specs.declared.word.Word.{Word}
 use Rattle.world_core.specs.WorldState.{Action}
 use Rattle.host_step.specs.Worlds.{reads}
-use Rattle.host_step.specs.declared.import.Import.{Import}
+use Rattle.host_imports.specs.declared.import.Import.{Import}
 use Rattle.host_values.specs.declared.reply.Refusal.{Refusal}
 use Rattle.host_values.specs.declared.reply.Refusal.TheVariants as why
 use Rattle.host_elements.specs.Calls.{IsTableCall}

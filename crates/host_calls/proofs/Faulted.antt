@@ -9,10 +9,10 @@ use Rattle.world_core.specs.WorldState.{Outside}
 use Rattle.host_step.specs.Answers.{refusal}
 use Rattle.host_step.specs.HostState.{HostState}
 use Rattle.host_step.specs.HostStep.{Comes, Goes, Refuses, StepIf, Traps, comes}
-use Rattle.host_step.specs.Imports.{import_answer}
+use Rattle.host_imports.specs.Imports.{import_answer}
 use Rattle.host_step.specs.Worlds.{AnyhowIf, Called, EndsRead, ReadBy, reads, with_output}
-use Rattle.host_step.specs.declared.import.Import.{Import}
-use Rattle.host_step.specs.declared.import.Import.TheVariants.{Of}
+use Rattle.host_imports.specs.declared.import.Import.{Import}
+use Rattle.host_imports.specs.declared.import.Import.TheVariants.{Of}
 use Rattle.host_values.specs.declared.reply.Refusal.{Refusal}
 use Rattle.host_values.specs.declared.reply.Refusal.TheVariants as why
 use Rattle.host_elements.specs.Forms.{HostForm, state_of}

@@ -8,7 +8,7 @@ use Rattle.wasm_store.specs.declared.word.Word.{Word}
 use Rattle.world_core.specs.WorldState.{Action, State}
 use Rattle.host_step.specs.HostState.{HostState}
 use Rattle.host_step.specs.Worlds.{AnyhowIf, IsStepInSomeWorld, reads, unseen, unseen_main, unseen_reading}
-use Rattle.host_step.specs.declared.import.Import.{Import}
+use Rattle.host_imports.specs.declared.import.Import.{Import}
 use Rattle.host_values.specs.declared.reply.Refusal.{Refusal}
 use Rattle.host_values.specs.declared.reply.Refusal.TheVariants as why
 use Rattle.host_elements.specs.Forms.{HostForm, Past, Stands, state_of}

@@ -4,7 +4,7 @@ use Rattle.wasm_store.specs.declared.word.Word.{Word}
 use Rattle.world_core.specs.Calls.{Kind, Reading}
 use Rattle.world_core.specs.WorldState.{Action, State}
 use Rattle.host_step.specs.Worlds.{reads}
-use Rattle.host_step.specs.declared.import.Import.{Import}
+use Rattle.host_imports.specs.declared.import.Import.{Import}
 use Rattle.host_values.specs.declared.reply.Refusal.{Refusal}
 use Rattle.host_elements.specs.Forms.{HostForm}
 use Rattle.host_streams.specs.Mains.{main_of}

@@ -4,9 +4,9 @@ use Rattle.sem_primitives.specs.declared.table.Primitive.TheVariants as row
 use Rattle.wasm_model.specs.declared.host.HostAnswer.{HostAnswer}
 use Rattle.wasm_store.specs.declared.word.Word.{Word}
 use Rattle.world_core.specs.WorldState.{Action}
-use Rattle.host_step.specs.declared.import.Import.{Import}
-use Rattle.host_step.specs.declared.import.Import.TheVariants as import
-use Rattle.host_step.specs.declared.import.Listing.TheVariants as listing
+use Rattle.host_imports.specs.declared.import.Import.{Import}
+use Rattle.host_imports.specs.declared.import.Import.TheVariants as import
+use Rattle.host_imports.specs.declared.import.Listing.TheVariants as listing
 use Rattle.host_values.specs.declared.reply.Refusal.{Refusal}
 use Rattle.host_elements.specs.Forms.{HostForm}
 use Rattle.host_inputs.specs.Givens.{file_primitive, main_primitive}

@@ -2,6 +2,8 @@
 ghost use Rattle.std.specs.Prelude.{◌≡◌, false};
 ghost use Rattle.host_calls.specs.Calls.{ComesTo, MeansSome, import_of};
 ghost use Rattle.host_calls.specs.Forms.{host_form};
+ghost use Rattle.host_imports.specs.Imports.{import_answer};
+ghost use Rattle.host_step.specs.Answers.{refusal};
 ghost use Rattle.host_step.specs.HostStep.{refuses};
 ghost use Rattle.host_meaning.specs.TableCalls.{left_by_call};
 ghost use Rattle.host_table_calls.specs.Answers.{told_as};
@@ -9,7 +11,7 @@ ghost use Rattle.host_table_calls.specs.Calls.{import_of_table};
 
 use crate::dispatch::{Call, call_of};
 use crate::host::Host;
-use host_step::Import;
+use host_imports::{Import, Listing};
 use host_table_calls::{TableCall, refusal, refuses, told};
 use host_values::Refusal;
 use sem_primitives::Primitive;
@@ -17,8 +19,17 @@ use wasm_model::HostAnswer;
 use wasm_store::Word;
 use world_core::World;
 
+/// What is answered once a fault is kept. It stands apart, so that the ways of the other calls hand their answers on as they are.
+#[inline(never)]
+fn refused(import: Import) -> HostAnswer
+    ensures { result ≡ HostAnswer.Done (refusal (import_answer import)) }
+{
+    HostAnswer::Done(refusal(import.answer()))
+}
+
 impl<W: World> Host<W> {
     /// What a call comes to that is not refused. A fault is to be kept.
+    #[inline(always)]
     fn outcome(
         &mut self,
         call: Call,
@@ -26,7 +37,8 @@ impl<W: World> Host<W> {
         memory: &[u8],
     ) -> Result<Option<Word>, Refusal>
         requires { refuses (import_of call) self.old.tables.fault ≡ false }
-        ensures { ComesTo W.tells (import_of call) (host_form W.state self.old) words.now memory.now result (host_form W.state self.new) }
+        ensures { ComesTo W.tells (import_of call) (host_form W.state self.old) words.now memory.now
+            result (host_form W.state self.new) }
     {
         match call {
             Call::Table(call) => self.on_tables(call, words, memory),
@@ -50,7 +62,8 @@ impl<W: World> Host<W> {
     #[inline(always)]
     fn tell(&mut self, import: Import, outcome: Result<Option<Word>, Refusal>) -> HostAnswer
         ensures told { result ≡ told_as import outcome }
-        ensures kept { host_form W.state self.new ≡ left_by_call outcome (host_form W.state self.old) }
+        ensures kept { host_form W.state self.new
+            ≡ left_by_call outcome (host_form W.state self.old) }
     {
         self.tables.keep(outcome);
         told(import, outcome)
@@ -67,29 +80,50 @@ impl<W: World> Host<W> {
     ) -> HostAnswer
         requires same { import_of_table call ≡ import }
         requires goes { refuses import self.old.tables.fault ≡ false }
-        ensures { MeansSome W.tells import (host_form W.state self.old) words.now memory.now result (host_form W.state self.new) }
+        ensures { MeansSome W.tells import (host_form W.state self.old) words.now memory.now result
+            (host_form W.state self.new) }
     {
         let outcome = self.on_tables(call, words, memory);
         self.tell(import, outcome)
     }
 
-    /// Answers a call that is not refused. It stands apart, so that the way to the others is short.
-    #[inline(never)]
-    fn on_any(&mut self, import: Import, words: &[Word], memory: &[u8]) -> HostAnswer
-        requires { refuses import self.old.tables.fault ≡ false }
-        ensures { MeansSome W.tells import (host_form W.state self.old) words.now memory.now result (host_form W.state self.new) }
+    /// Answers any call that is not refused.
+    #[inline(always)]
+    pub(crate) fn on_call(
+        &mut self,
+        import: Import,
+        call: Call,
+        words: &[Word],
+        memory: &[u8],
+    ) -> HostAnswer
+        requires same { import_of call ≡ import }
+        requires goes { refuses import self.old.tables.fault ≡ false }
+        ensures { MeansSome W.tells import (host_form W.state self.old) words.now memory.now result
+            (host_form W.state self.new) }
     {
-        let outcome = self.outcome(call_of(import), words, memory);
+        let outcome = self.outcome(call, words, memory);
         self.tell(import, outcome)
     }
 
+    /// Answers a call that has no way of its own. It stands apart, so that the way to the others is short.
+    #[inline(never)]
+    fn on_any(&mut self, import: Import, words: &[Word], memory: &[u8]) -> HostAnswer
+        requires { refuses import self.old.tables.fault ≡ false }
+        ensures { MeansSome W.tells import (host_form W.state self.old) words.now memory.now result
+            (host_form W.state self.new) }
+    {
+        self.on_call(import, call_of(import), words, memory)
+    }
+
     /// Answers a call of an import. Once a fault is kept every import but those that let something go only refuses. The imports that scripts call most
-    /// have ways of their own.
+    /// have ways of their own. It stands apart, so that the machine's loop has one call for all of them.
+    #[inline(never)]
     pub(crate) fn answer(&mut self, import: Import, words: &[Word], memory: &[u8]) -> HostAnswer
-        ensures { MeansSome W.tells import (host_form W.state self.old) words.now memory.now result (host_form W.state self.new) }
+        ensures { MeansSome W.tells import (host_form W.state self.old) words.now memory.now result
+            (host_form W.state self.new) }
     {
         if refuses(import, self.tables.fault()) {
-            return HostAnswer::Done(refusal(import.answer()));
+            return refused(import);
         }
         match import {
             Import::Drop => self.on_drop(words, memory),
@@ -110,6 +144,9 @@ impl<W: World> Host<W> {
             Import::Of(Primitive::Elem) => self.on_elem(words, memory),
             Import::Of(Primitive::SetElem) => self.on_set_elem(words, memory),
             Import::Of(Primitive::Has) => self.on_has(words, memory),
+            Import::Of(Primitive::NextMain) => self.on_next_main(words, memory),
+            Import::Over(Listing::Print) => self.on_print(words, memory),
+            Import::Over(Listing::Printf) => self.on_printf(words, memory),
             _ => self.on_any(import, words, memory),
         }
     }

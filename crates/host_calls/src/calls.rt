@@ -2,18 +2,26 @@
 ghost use Rattle.std.specs.Prelude.{◌≡◌};
 
 use crate::host::Host;
-use host_step::Import;
+use host_imports::Import;
 use wasm_model::{HostAnswer, HostCalls};
 use wasm_store::{Memory, TrapKind, Word};
 use wasm_types::FuncType;
 use world_core::World;
+
+/// What is answered to a number that no import has.
+#[inline(never)]
+fn unknown() -> HostAnswer
+    ensures { result ≡ HostAnswer.Trap TrapKind.BadArgument }
+{
+    HostAnswer::Trap(TrapKind::BadArgument)
+}
 
 impl<W: World> HostCalls for Host<W> {
     ghost use Rattle.host_meaning.specs.FormLaws.{form_refused, form_typed};
     ghost use Rattle.host_meaning.specs.FormMeaning.{FormState, Told, form_meaning};
     ghost use Rattle.host_calls.specs.Forms.{host_form};
     ghost use Rattle.host_step.specs.HostLaws.{host_found};
-    ghost use Rattle.host_step.specs.Imports.{host_finds, host_types};
+    ghost use Rattle.host_imports.specs.Imports.{host_finds, host_types};
     ghost use Rattle.world_core.specs.WorldState.{Action};
 
     ghost Output = { Action };
@@ -32,10 +40,12 @@ impl<W: World> HostCalls for Host<W> {
         self.links.find(from, name)
     }
 
+    // In the machine's loop, so that the answer is not copied on the way.
+    #[inline(always)]
     fn call(&mut self, import: u32, args: &[Word], memory: &mut Memory) -> HostAnswer {
         match Import::of_number(import) {
             Some(import) => self.answer(import, args, memory.bytes()),
-            None => HostAnswer::Trap(TrapKind::BadArgument),
+            None => unknown(),
         }
     }
 

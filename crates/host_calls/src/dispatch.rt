@@ -1,10 +1,10 @@
 //! Which family answers an import.
 ghost use Rattle.std.specs.Prelude.{◌≡◌};
 ghost use Rattle.host_calls.specs.Calls.{import_of};
-ghost use Rattle.host_step.specs.declared.import.Import.{Import};
+ghost use Rattle.host_imports.specs.declared.import.Import.{Import};
 
+use host_imports::{Import, Listing};
 use host_inputs::{Keep, MainRead};
-use host_step::{Import, Listing};
 use host_table_calls::TableCall;
 use host_texts::TextPrimitive;
 use host_values::ValuePrimitive;

@@ -4,7 +4,7 @@ ghost use Rattle.sem_primitives.specs.declared.table.Primitive.TheVariants as ro
 ghost use Rattle.host_calls.specs.Calls.{ComesTo};
 ghost use Rattle.host_calls.specs.Forms.{host_form};
 ghost use Rattle.host_step.specs.HostStep.{refuses};
-ghost use Rattle.host_step.specs.declared.import.Import.{Import};
+ghost use Rattle.host_imports.specs.declared.import.Import.{Import};
 ghost use Rattle.host_table_calls.specs.Calls.{import_of_table};
 
 use crate::host::Host;
@@ -25,7 +25,8 @@ impl<W: World> Host<W> {
         memory: &[u8],
     ) -> Result<Option<Word>, Refusal>
         requires { refuses (import_of_table call) self.old.tables.fault ≡ false }
-        ensures { ComesTo W.tells (import_of_table call) (host_form W.state self.old) words.now memory.now result (host_form W.state self.new) }
+        ensures { ComesTo W.tells (import_of_table call) (host_form W.state self.old) words.now
+            memory.now result (host_form W.state self.new) }
     {
         self.tables.call(call, words, memory)
     }
@@ -33,7 +34,8 @@ impl<W: World> Host<W> {
     /// A name of the script is announced.
     pub(crate) fn declare(&mut self, words: &[Word], memory: &[u8]) -> Result<Option<Word>, Refusal>
         requires { self.old.tables.fault ≡ None }
-        ensures { ComesTo W.tells (Import.Of row.Declare) (host_form W.state self.old) words.now memory.now result (host_form W.state self.new) }
+        ensures { ComesTo W.tells (Import.Of row.Declare) (host_form W.state self.old) words.now
+            memory.now result (host_form W.state self.new) }
     {
         declare(self.alloc, &mut self.input.names, words, memory)
     }
@@ -41,7 +43,8 @@ impl<W: World> Host<W> {
     /// The assignments of the command line are made, up to one that the script is to make.
     pub(crate) fn start_assign(&mut self, words: &[Word]) -> Result<Option<Word>, Refusal>
         requires { self.old.tables.fault ≡ None }
-        ensures { (memory : List ℕ) → ComesTo W.tells (Import.Of row.StartAssign) (host_form W.state self.old) words.now memory result (host_form W.state self.new) }
+        ensures { (memory : List ℕ) → ComesTo W.tells (Import.Of row.StartAssign)
+            (host_form W.state self.old) words.now memory result (host_form W.state self.new) }
     {
         start_assign(
             self.alloc,
@@ -54,7 +57,8 @@ impl<W: World> Host<W> {
     /// The number of the name that the script is to assign to.
     pub(crate) fn pending_name(&mut self, words: &[Word]) -> Result<Option<Word>, Refusal>
         requires { self.old.tables.fault ≡ None }
-        ensures { (memory : List ℕ) → ComesTo W.tells (Import.Of row.PendingName) (host_form W.state self.old) words.now memory result (host_form W.state self.new) }
+        ensures { (memory : List ℕ) → ComesTo W.tells (Import.Of row.PendingName)
+            (host_form W.state self.old) words.now memory result (host_form W.state self.new) }
     {
         pending_name(&self.input.names, words)
     }
@@ -62,7 +66,8 @@ impl<W: World> Host<W> {
     /// The value that the script is to assign, once.
     pub(crate) fn pending_value(&mut self, words: &[Word]) -> Result<Option<Word>, Refusal>
         requires { self.old.tables.fault ≡ None }
-        ensures { (memory : List ℕ) → ComesTo W.tells (Import.Of row.PendingValue) (host_form W.state self.old) words.now memory result (host_form W.state self.new) }
+        ensures { (memory : List ℕ) → ComesTo W.tells (Import.Of row.PendingValue)
+            (host_form W.state self.old) words.now memory result (host_form W.state self.new) }
     {
         pending_value(&mut self.input.names, &mut self.tables.handles, words)
     }
@@ -70,7 +75,8 @@ impl<W: World> Host<W> {
     /// What was read for a variable, once.
     pub(crate) fn line(&mut self, words: &[Word]) -> Result<Option<Word>, Refusal>
         requires { self.old.tables.fault ≡ None }
-        ensures { (memory : List ℕ) → ComesTo W.tells (Import.Of row.Line) (host_form W.state self.old) words.now memory result (host_form W.state self.new) }
+        ensures { (memory : List ℕ) → ComesTo W.tells (Import.Of row.Line)
+            (host_form W.state self.old) words.now memory result (host_form W.state self.new) }
     {
         line(
             &self.world,
@@ -83,7 +89,8 @@ impl<W: World> Host<W> {
     /// The actions of END begin.
     pub(crate) fn begin_end(&mut self, words: &[Word]) -> Result<Option<Word>, Refusal>
         requires { self.old.tables.fault ≡ None }
-        ensures { (memory : List ℕ) → ComesTo W.tells (Import.Of row.BeginEnd) (host_form W.state self.old) words.now memory result (host_form W.state self.new) }
+        ensures { (memory : List ℕ) → ComesTo W.tells (Import.Of row.BeginEnd)
+            (host_form W.state self.old) words.now memory result (host_form W.state self.new) }
     {
         begin_end(&mut self.input, words)
     }

@@ -2,7 +2,7 @@
 ghost use Rattle.std.specs.Prelude.{◌≡◌, List, ℕ, None};
 ghost use Rattle.sem_primitives.specs.declared.table.Primitive.TheVariants as row;
 ghost use Rattle.host_inputs.specs.Givens.{file_primitive, main_primitive};
-ghost use Rattle.host_step.specs.declared.import.Import.{Import};
+ghost use Rattle.host_imports.specs.declared.import.Import.{Import};
 ghost use Rattle.host_calls.specs.Calls.{ComesTo};
 ghost use Rattle.host_calls.specs.Forms.{host_form};
 
@@ -20,7 +20,8 @@ impl<W: World> Host<W> {
         words: &[Word],
     ) -> Result<Option<Word>, Refusal>
         requires { self.old.tables.fault ≡ None }
-        ensures { (memory : List ℕ) → ComesTo W.tells (Import.Of (main_primitive how)) (host_form W.state self.old) words.now memory result (host_form W.state self.new) }
+        ensures { (memory : List ℕ) → ComesTo W.tells (Import.Of (main_primitive how))
+            (host_form W.state self.old) words.now memory result (host_form W.state self.new) }
     {
         host_inputs::read_main(
             self.alloc,
@@ -36,7 +37,8 @@ impl<W: World> Host<W> {
     /// Reads a file (`getline_file`, `getline_var_file`), where no fault is kept.
     pub(crate) fn read_file(&mut self, to: Keep, words: &[Word]) -> Result<Option<Word>, Refusal>
         requires { self.old.tables.fault ≡ None }
-        ensures { (memory : List ℕ) → ComesTo W.tells (Import.Of (file_primitive to)) (host_form W.state self.old) words.now memory result (host_form W.state self.new) }
+        ensures { (memory : List ℕ) → ComesTo W.tells (Import.Of (file_primitive to))
+            (host_form W.state self.old) words.now memory result (host_form W.state self.new) }
     {
         host_inputs::read_file(
             self.alloc,
@@ -52,7 +54,8 @@ impl<W: World> Host<W> {
     /// Gives up the rest of what the main input reads (`next_file`), where no fault is kept.
     pub(crate) fn next_file(&mut self, words: &[Word]) -> Result<Option<Word>, Refusal>
         requires { self.old.tables.fault ≡ None }
-        ensures { (memory : List ℕ) → ComesTo W.tells (Import.Of row.NextFile) (host_form W.state self.old) words.now memory result (host_form W.state self.new) }
+        ensures { (memory : List ℕ) → ComesTo W.tells (Import.Of row.NextFile)
+            (host_form W.state self.old) words.now memory result (host_form W.state self.new) }
     {
         host_inputs::next_file(&mut self.world, &mut self.input, words)
     }

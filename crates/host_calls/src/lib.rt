@@ -12,7 +12,6 @@ mod start;
 mod ways;
 
 pub use host::Host;
-pub use host_links::type_of;
+pub use host_imports::{IMPORTS, Import, Listing, type_of};
 pub use host_names::NamedText;
-pub use host_step::{IMPORTS, Import, Listing};
 pub use host_tables::Job;

@@ -3,8 +3,8 @@ ghost use Rattle.std.specs.Prelude.{◌≡◌, List, ℕ, None};
 ghost use Rattle.sem_primitives.specs.declared.table.Primitive.TheVariants as row;
 ghost use Rattle.host_calls.specs.Calls.{ComesTo};
 ghost use Rattle.host_calls.specs.Forms.{host_form};
-ghost use Rattle.host_step.specs.declared.import.Import.{Import};
-ghost use Rattle.host_step.specs.declared.import.Listing.{Listing};
+ghost use Rattle.host_imports.specs.declared.import.Import.{Import};
+ghost use Rattle.host_imports.specs.declared.import.Listing.{Listing};
 
 use crate::host::Host;
 use host_outputs::{close, flush, print, printf};
@@ -16,7 +16,8 @@ impl<W: World> Host<W> {
     /// The last values of the argument list are printed.
     pub(crate) fn print(&mut self, words: &[Word]) -> Result<Option<Word>, Refusal>
         requires { self.old.tables.fault ≡ None }
-        ensures { (memory : List ℕ) → ComesTo W.tells (Import.Over Listing.Print) (host_form W.state self.old) words.now memory result (host_form W.state self.new) }
+        ensures { (memory : List ℕ) → ComesTo W.tells (Import.Over Listing.Print)
+            (host_form W.state self.old) words.now memory result (host_form W.state self.new) }
     {
         print(
             self.alloc,
@@ -32,7 +33,8 @@ impl<W: World> Host<W> {
     /// The last values of the argument list are printed by a format.
     pub(crate) fn printf(&mut self, words: &[Word]) -> Result<Option<Word>, Refusal>
         requires { self.old.tables.fault ≡ None }
-        ensures { (memory : List ℕ) → ComesTo W.tells (Import.Over Listing.Printf) (host_form W.state self.old) words.now memory result (host_form W.state self.new) }
+        ensures { (memory : List ℕ) → ComesTo W.tells (Import.Over Listing.Printf)
+            (host_form W.state self.old) words.now memory result (host_form W.state self.new) }
     {
         printf(
             self.alloc,
@@ -47,7 +49,8 @@ impl<W: World> Host<W> {
     /// The file of a name is closed.
     pub(crate) fn close(&mut self, words: &[Word]) -> Result<Option<Word>, Refusal>
         requires { self.old.tables.fault ≡ None }
-        ensures { (memory : List ℕ) → ComesTo W.tells (Import.Of row.Close) (host_form W.state self.old) words.now memory result (host_form W.state self.new) }
+        ensures { (memory : List ℕ) → ComesTo W.tells (Import.Of row.Close)
+            (host_form W.state self.old) words.now memory result (host_form W.state self.new) }
     {
         close(
             self.alloc,
@@ -61,7 +64,8 @@ impl<W: World> Host<W> {
     /// Whether the file of a name is open for writing: then all that was printed to it is out.
     pub(crate) fn flush(&mut self, words: &[Word]) -> Result<Option<Word>, Refusal>
         requires { self.old.tables.fault ≡ None }
-        ensures { (memory : List ℕ) → ComesTo W.tells (Import.Of row.Flush) (host_form W.state self.old) words.now memory result (host_form W.state self.new) }
+        ensures { (memory : List ℕ) → ComesTo W.tells (Import.Of row.Flush)
+            (host_form W.state self.old) words.now memory result (host_form W.state self.new) }
     {
         flush(
             self.alloc,

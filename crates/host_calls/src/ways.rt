@@ -1,12 +1,15 @@
 //! The imports that scripts call most, each in a way of its own.
 ghost use Rattle.std.specs.Prelude.{◌≡◌, false};
 ghost use Rattle.sem_primitives.specs.declared.table.Primitive.TheVariants as row;
+ghost use Rattle.host_imports.specs.declared.import.Listing.TheVariants as listing;
 ghost use Rattle.host_calls.specs.Calls.{MeansSome};
 ghost use Rattle.host_calls.specs.Forms.{host_form};
 ghost use Rattle.host_step.specs.HostStep.{refuses};
 
+use crate::dispatch::Call;
 use crate::host::Host;
-use host_step::Import;
+use host_imports::{Import, Listing};
+use host_inputs::MainRead;
 use host_table_calls::TableCall;
 use host_texts::TextPrimitive;
 use host_values::ValuePrimitive;
@@ -20,7 +23,8 @@ impl<W: World> Host<W> {
     #[inline(never)]
     pub(crate) fn on_drop(&mut self, words: &[Word], memory: &[u8]) -> HostAnswer
         requires { refuses Import.Drop self.old.tables.fault ≡ false }
-        ensures { MeansSome W.tells Import.Drop (host_form W.state self.old) words.now memory.now result (host_form W.state self.new) }
+        ensures { MeansSome W.tells Import.Drop (host_form W.state self.old) words.now memory.now
+            result (host_form W.state self.new) }
     {
         self.on_known(Import::Drop, TableCall::Drop, words, memory)
     }
@@ -29,7 +33,8 @@ impl<W: World> Host<W> {
     #[inline(never)]
     pub(crate) fn on_arg(&mut self, words: &[Word], memory: &[u8]) -> HostAnswer
         requires { refuses Import.Arg self.old.tables.fault ≡ false }
-        ensures { MeansSome W.tells Import.Arg (host_form W.state self.old) words.now memory.now result (host_form W.state self.new) }
+        ensures { MeansSome W.tells Import.Arg (host_form W.state self.old) words.now memory.now
+            result (host_form W.state self.new) }
     {
         self.on_known(Import::Arg, TableCall::Arg, words, memory)
     }
@@ -38,7 +43,8 @@ impl<W: World> Host<W> {
     #[inline(never)]
     pub(crate) fn on_num(&mut self, words: &[Word], memory: &[u8]) -> HostAnswer
         requires { refuses (Import.Of row.Num) self.old.tables.fault ≡ false }
-        ensures { MeansSome W.tells (Import.Of row.Num) (host_form W.state self.old) words.now memory.now result (host_form W.state self.new) }
+        ensures { MeansSome W.tells (Import.Of row.Num) (host_form W.state self.old) words.now
+            memory.now result (host_form W.state self.new) }
     {
         let call = TableCall::Values(ValuePrimitive::Num);
         self.on_known(Import::Of(Primitive::Num), call, words, memory)
@@ -48,7 +54,8 @@ impl<W: World> Host<W> {
     #[inline(never)]
     pub(crate) fn on_dup(&mut self, words: &[Word], memory: &[u8]) -> HostAnswer
         requires { refuses (Import.Of row.Dup) self.old.tables.fault ≡ false }
-        ensures { MeansSome W.tells (Import.Of row.Dup) (host_form W.state self.old) words.now memory.now result (host_form W.state self.new) }
+        ensures { MeansSome W.tells (Import.Of row.Dup) (host_form W.state self.old) words.now
+            memory.now result (host_form W.state self.new) }
     {
         let call = TableCall::Values(ValuePrimitive::Dup);
         self.on_known(Import::Of(Primitive::Dup), call, words, memory)
@@ -58,7 +65,8 @@ impl<W: World> Host<W> {
     #[inline(never)]
     pub(crate) fn on_to_num(&mut self, words: &[Word], memory: &[u8]) -> HostAnswer
         requires { refuses (Import.Of row.ToNum) self.old.tables.fault ≡ false }
-        ensures { MeansSome W.tells (Import.Of row.ToNum) (host_form W.state self.old) words.now memory.now result (host_form W.state self.new) }
+        ensures { MeansSome W.tells (Import.Of row.ToNum) (host_form W.state self.old) words.now
+            memory.now result (host_form W.state self.new) }
     {
         let call = TableCall::Values(ValuePrimitive::ToNum);
         self.on_known(Import::Of(Primitive::ToNum), call, words, memory)
@@ -68,7 +76,8 @@ impl<W: World> Host<W> {
     #[inline(never)]
     pub(crate) fn on_truth(&mut self, words: &[Word], memory: &[u8]) -> HostAnswer
         requires { refuses (Import.Of row.Truth) self.old.tables.fault ≡ false }
-        ensures { MeansSome W.tells (Import.Of row.Truth) (host_form W.state self.old) words.now memory.now result (host_form W.state self.new) }
+        ensures { MeansSome W.tells (Import.Of row.Truth) (host_form W.state self.old) words.now
+            memory.now result (host_form W.state self.new) }
     {
         let call = TableCall::Values(ValuePrimitive::Truth);
         self.on_known(Import::Of(Primitive::Truth), call, words, memory)
@@ -78,7 +87,8 @@ impl<W: World> Host<W> {
     #[inline(never)]
     pub(crate) fn on_compare(&mut self, words: &[Word], memory: &[u8]) -> HostAnswer
         requires { refuses (Import.Of row.Compare) self.old.tables.fault ≡ false }
-        ensures { MeansSome W.tells (Import.Of row.Compare) (host_form W.state self.old) words.now memory.now result (host_form W.state self.new) }
+        ensures { MeansSome W.tells (Import.Of row.Compare) (host_form W.state self.old) words.now
+            memory.now result (host_form W.state self.new) }
     {
         let call = TableCall::Values(ValuePrimitive::Compare);
         self.on_known(Import::Of(Primitive::Compare), call, words, memory)
@@ -88,7 +98,8 @@ impl<W: World> Host<W> {
     #[inline(never)]
     pub(crate) fn on_lit(&mut self, words: &[Word], memory: &[u8]) -> HostAnswer
         requires { refuses (Import.Of row.Lit) self.old.tables.fault ≡ false }
-        ensures { MeansSome W.tells (Import.Of row.Lit) (host_form W.state self.old) words.now memory.now result (host_form W.state self.new) }
+        ensures { MeansSome W.tells (Import.Of row.Lit) (host_form W.state self.old) words.now
+            memory.now result (host_form W.state self.new) }
     {
         let call = TableCall::Values(ValuePrimitive::Lit);
         self.on_known(Import::Of(Primitive::Lit), call, words, memory)
@@ -98,7 +109,8 @@ impl<W: World> Host<W> {
     #[inline(never)]
     pub(crate) fn on_concat(&mut self, words: &[Word], memory: &[u8]) -> HostAnswer
         requires { refuses (Import.Of row.Concat) self.old.tables.fault ≡ false }
-        ensures { MeansSome W.tells (Import.Of row.Concat) (host_form W.state self.old) words.now memory.now result (host_form W.state self.new) }
+        ensures { MeansSome W.tells (Import.Of row.Concat) (host_form W.state self.old) words.now
+            memory.now result (host_form W.state self.new) }
     {
         let call = TableCall::Values(ValuePrimitive::Concat);
         self.on_known(Import::Of(Primitive::Concat), call, words, memory)
@@ -108,7 +120,8 @@ impl<W: World> Host<W> {
     #[inline(never)]
     pub(crate) fn on_field(&mut self, words: &[Word], memory: &[u8]) -> HostAnswer
         requires { refuses (Import.Of row.Field) self.old.tables.fault ≡ false }
-        ensures { MeansSome W.tells (Import.Of row.Field) (host_form W.state self.old) words.now memory.now result (host_form W.state self.new) }
+        ensures { MeansSome W.tells (Import.Of row.Field) (host_form W.state self.old) words.now
+            memory.now result (host_form W.state self.new) }
     {
         let call = TableCall::Texts(TextPrimitive::Field);
         self.on_known(Import::Of(Primitive::Field), call, words, memory)
@@ -118,7 +131,8 @@ impl<W: World> Host<W> {
     #[inline(never)]
     pub(crate) fn on_get_special(&mut self, words: &[Word], memory: &[u8]) -> HostAnswer
         requires { refuses (Import.Of row.GetSpecial) self.old.tables.fault ≡ false }
-        ensures { MeansSome W.tells (Import.Of row.GetSpecial) (host_form W.state self.old) words.now memory.now result (host_form W.state self.new) }
+        ensures { MeansSome W.tells (Import.Of row.GetSpecial) (host_form W.state self.old)
+            words.now memory.now result (host_form W.state self.new) }
     {
         let call = TableCall::Texts(TextPrimitive::GetSpecial);
         self.on_known(Import::Of(Primitive::GetSpecial), call, words, memory)
@@ -128,7 +142,8 @@ impl<W: World> Host<W> {
     #[inline(never)]
     pub(crate) fn on_set_field(&mut self, words: &[Word], memory: &[u8]) -> HostAnswer
         requires { refuses (Import.Of row.SetField) self.old.tables.fault ≡ false }
-        ensures { MeansSome W.tells (Import.Of row.SetField) (host_form W.state self.old) words.now memory.now result (host_form W.state self.new) }
+        ensures { MeansSome W.tells (Import.Of row.SetField) (host_form W.state self.old) words.now
+            memory.now result (host_form W.state self.new) }
     {
         let call = TableCall::Texts(TextPrimitive::SetField);
         self.on_known(Import::Of(Primitive::SetField), call, words, memory)
@@ -138,7 +153,8 @@ impl<W: World> Host<W> {
     #[inline(never)]
     pub(crate) fn on_length(&mut self, words: &[Word], memory: &[u8]) -> HostAnswer
         requires { refuses (Import.Of row.Length) self.old.tables.fault ≡ false }
-        ensures { MeansSome W.tells (Import.Of row.Length) (host_form W.state self.old) words.now memory.now result (host_form W.state self.new) }
+        ensures { MeansSome W.tells (Import.Of row.Length) (host_form W.state self.old) words.now
+            memory.now result (host_form W.state self.new) }
     {
         let call = TableCall::Texts(TextPrimitive::Length);
         self.on_known(Import::Of(Primitive::Length), call, words, memory)
@@ -148,7 +164,8 @@ impl<W: World> Host<W> {
     #[inline(never)]
     pub(crate) fn on_matches(&mut self, words: &[Word], memory: &[u8]) -> HostAnswer
         requires { refuses (Import.Of row.Matches) self.old.tables.fault ≡ false }
-        ensures { MeansSome W.tells (Import.Of row.Matches) (host_form W.state self.old) words.now memory.now result (host_form W.state self.new) }
+        ensures { MeansSome W.tells (Import.Of row.Matches) (host_form W.state self.old) words.now
+            memory.now result (host_form W.state self.new) }
     {
         let call = TableCall::Texts(TextPrimitive::Matches);
         self.on_known(Import::Of(Primitive::Matches), call, words, memory)
@@ -158,7 +175,8 @@ impl<W: World> Host<W> {
     #[inline(never)]
     pub(crate) fn on_sub(&mut self, words: &[Word], memory: &[u8]) -> HostAnswer
         requires { refuses (Import.Of row.Sub) self.old.tables.fault ≡ false }
-        ensures { MeansSome W.tells (Import.Of row.Sub) (host_form W.state self.old) words.now memory.now result (host_form W.state self.new) }
+        ensures { MeansSome W.tells (Import.Of row.Sub) (host_form W.state self.old) words.now
+            memory.now result (host_form W.state self.new) }
     {
         let call = TableCall::Texts(TextPrimitive::Sub);
         self.on_known(Import::Of(Primitive::Sub), call, words, memory)
@@ -168,7 +186,8 @@ impl<W: World> Host<W> {
     #[inline(never)]
     pub(crate) fn on_elem(&mut self, words: &[Word], memory: &[u8]) -> HostAnswer
         requires { refuses (Import.Of row.Elem) self.old.tables.fault ≡ false }
-        ensures { MeansSome W.tells (Import.Of row.Elem) (host_form W.state self.old) words.now memory.now result (host_form W.state self.new) }
+        ensures { MeansSome W.tells (Import.Of row.Elem) (host_form W.state self.old) words.now
+            memory.now result (host_form W.state self.new) }
     {
         self.on_known(Import::Of(Primitive::Elem), TableCall::Elem, words, memory)
     }
@@ -177,7 +196,8 @@ impl<W: World> Host<W> {
     #[inline(never)]
     pub(crate) fn on_set_elem(&mut self, words: &[Word], memory: &[u8]) -> HostAnswer
         requires { refuses (Import.Of row.SetElem) self.old.tables.fault ≡ false }
-        ensures { MeansSome W.tells (Import.Of row.SetElem) (host_form W.state self.old) words.now memory.now result (host_form W.state self.new) }
+        ensures { MeansSome W.tells (Import.Of row.SetElem) (host_form W.state self.old) words.now
+            memory.now result (host_form W.state self.new) }
     {
         self.on_known(
             Import::Of(Primitive::SetElem),
@@ -191,8 +211,40 @@ impl<W: World> Host<W> {
     #[inline(never)]
     pub(crate) fn on_has(&mut self, words: &[Word], memory: &[u8]) -> HostAnswer
         requires { refuses (Import.Of row.Has) self.old.tables.fault ≡ false }
-        ensures { MeansSome W.tells (Import.Of row.Has) (host_form W.state self.old) words.now memory.now result (host_form W.state self.new) }
+        ensures { MeansSome W.tells (Import.Of row.Has) (host_form W.state self.old) words.now
+            memory.now result (host_form W.state self.new) }
     {
         self.on_known(Import::Of(Primitive::Has), TableCall::Has, words, memory)
+    }
+
+    /// The next record of the main input.
+    #[inline(never)]
+    pub(crate) fn on_next_main(&mut self, words: &[Word], memory: &[u8]) -> HostAnswer
+        requires { refuses (Import.Of row.NextMain) self.old.tables.fault ≡ false }
+        ensures { MeansSome W.tells (Import.Of row.NextMain) (host_form W.state self.old) words.now
+            memory.now result (host_form W.state self.new) }
+    {
+        let call = Call::Main(MainRead::Loop);
+        self.on_call(Import::Of(Primitive::NextMain), call, words, memory)
+    }
+
+    /// Values are printed.
+    #[inline(never)]
+    pub(crate) fn on_print(&mut self, words: &[Word], memory: &[u8]) -> HostAnswer
+        requires { refuses (Import.Over listing.Print) self.old.tables.fault ≡ false }
+        ensures { MeansSome W.tells (Import.Over listing.Print) (host_form W.state self.old)
+            words.now memory.now result (host_form W.state self.new) }
+    {
+        self.on_call(Import::Over(Listing::Print), Call::Print, words, memory)
+    }
+
+    /// Values are printed by a format.
+    #[inline(never)]
+    pub(crate) fn on_printf(&mut self, words: &[Word], memory: &[u8]) -> HostAnswer
+        requires { refuses (Import.Over listing.Printf) self.old.tables.fault ≡ false }
+        ensures { MeansSome W.tells (Import.Over listing.Printf) (host_form W.state self.old)
+            words.now memory.now result (host_form W.state self.new) }
+    {
+        self.on_call(Import::Over(Listing::Printf), Call::Printf, words, memory)
     }
 }

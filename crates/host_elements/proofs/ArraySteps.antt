@@ -21,10 +21,10 @@ use Rattle.wasm_store.specs.declared.word.Word.TheVariants.{I32}
 use Rattle.host_step.specs.Arguments.{and_then, no_more}
 use Rattle.host_step.specs.HostState.{HostState, Names}
 use Rattle.host_step.specs.HostStep.{Acts, acts, carried}
-use Rattle.host_step.specs.Imports.{import_answer, import_arguments, spends}
+use Rattle.host_imports.specs.Imports.{import_answer, import_arguments, spends}
 use Rattle.host_step.specs.Tables.{Table}
-use Rattle.host_step.specs.declared.import.Import.{Import}
-use Rattle.host_step.specs.declared.import.Import.TheVariants.{Of}
+use Rattle.host_imports.specs.declared.import.Import.{Import}
+use Rattle.host_imports.specs.declared.import.Import.TheVariants.{Of}
 use Rattle.host_values.specs.Calls.{names_with}
 use Rattle.host_values.specs.Evaluations.{Values}
 use Rattle.host_values.specs.declared.reply.Refusal.TheVariants as why

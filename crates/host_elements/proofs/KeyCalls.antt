@@ -8,8 +8,8 @@ use Rattle.wasm_model.specs.declared.host.HostAnswer.TheVariants as told
 use Rattle.wasm_store.specs.declared.trap.TrapKind.TheVariants.{BadArgument}
 use Rattle.wasm_store.specs.declared.word.Word.{Word}
 use Rattle.wasm_store.specs.declared.word.Word.TheVariants.{I32}
-use Rattle.host_step.specs.Answers.{end_word}
-use Rattle.host_step.specs.declared.import.Import.TheVariants.{FreeArray, IterFree, Of}
+use Rattle.host_imports.specs.Codes.{end_word}
+use Rattle.host_imports.specs.declared.import.Import.TheVariants.{FreeArray, IterFree, Of}
 use Rattle.host_values.specs.Calls.{Gives, spare}
 use Rattle.host_values.specs.Evaluations.{Values}
 use Rattle.host_values.specs.declared.reply.Refusal.{Refusal}

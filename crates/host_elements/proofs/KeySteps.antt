@@ -18,12 +18,12 @@ use Rattle.wasm_store.specs.declared.trap.TrapKind.{TrapKind}
 use Rattle.wasm_store.specs.declared.trap.TrapKind.TheVariants.{BadArgument}
 use Rattle.wasm_store.specs.declared.word.Word.{Word}
 use Rattle.wasm_store.specs.declared.word.Word.TheVariants.{I32}
-use Rattle.host_step.specs.Answers.{end_word}
+use Rattle.host_imports.specs.Codes.{end_word}
 use Rattle.host_step.specs.Arguments.{and_then}
 use Rattle.host_step.specs.HostStep.{only_answers, where_fit}
-use Rattle.host_step.specs.Imports.{spends}
+use Rattle.host_imports.specs.Imports.{spends}
 use Rattle.host_step.specs.Tables.{Table}
-use Rattle.host_step.specs.declared.import.Import.TheVariants.{Of, IterFree, FreeArray}
+use Rattle.host_imports.specs.declared.import.Import.TheVariants.{Of, IterFree, FreeArray}
 use Rattle.host_values.specs.Evaluations.{Values}
 use Rattle.host_values.specs.declared.reply.Refusal.TheVariants as why
 use Rattle.host_values.proofs.Entries.{entries_insert, look_entries}

@@ -60,6 +60,34 @@ array_by : (values : Values) (r : Result (ℤ × List Word) TrapKind) (x : ℤ �
 array_by values (Ok y) x e = behind_by values y.0 (two_handles values y.1) x (λ z is. two_by values (handle_front values y.1) z is) e
 array_by values (Err k) x e = cc
 
+abbrev FirstHeld : Values → ℤ × Value × ℤ × Value → Type 0
+FirstHeld values x = map.get values x.0 ≡ Some x.1
+
+first_by : (values : Values) (h : ℤ) (v : Value) (r : Result (ℤ × Value) TrapKind) (x : ℤ × Value × ℤ × Value) → map.get values h ≡ Some v → and_then r (λ y. Ok (h, v, y.0, y.1)) ≡ Ok x → FirstHeld values x
+first_by values h v (Ok y) x g e = subst (FirstHeld values) (same_ok (h, v, y.0, y.1) x e) g
+first_by values h v (Err k) x g e = cc
+
+two_first : (values : Values) (r : Result (ℤ × Value × List Word) TrapKind) (x : ℤ × Value × ℤ × Value) → ((y : ℤ × Value × List Word) → r ≡ Ok y → map.get values y.0 ≡ Some y.1)
+    → and_then r (λ y. and_then (only_handle (map.remove values y.0) y.2) (λ z. Ok (y.0, y.1, z.0, z.1))) ≡ Ok x → FirstHeld values x
+two_first values (Ok y) x g e = first_by values y.0 y.1 (only_handle (map.remove values y.0) y.2) x (g y refl) e
+two_first values (Err k) x g e = cc
+
+abbrev KeyHeld : Values → ℤ × ℤ × Value × ℤ × Value → Type 0
+KeyHeld values x = map.get values x.1 ≡ Some x.2
+
+key_by : (values : Values) (a : ℤ) (r : Result (ℤ × Value × ℤ × Value) TrapKind) (x : ℤ × ℤ × Value × ℤ × Value) → ((y : ℤ × Value × ℤ × Value) → r ≡ Ok y → FirstHeld values y)
+    → and_then r (λ y. Ok (a, y.0, y.1, y.2, y.3)) ≡ Ok x → KeyHeld values x
+key_by values a (Ok y) x g e = subst (KeyHeld values) (same_ok (a, y.0, y.1, y.2, y.3) x e) (g y refl)
+key_by values a (Err k) x g e = cc
+
+key_in : (values : Values) (r : Result (ℤ × List Word) TrapKind) (x : ℤ × ℤ × Value × ℤ × Value) → and_then r (λ y. and_then (two_handles values y.1) (λ z. Ok (y.0, z.0, z.1, z.2, z.3))) ≡ Ok x → KeyHeld values x
+key_in values (Ok y) x e = key_by values y.0 (two_handles values y.1) x (λ z is. two_first values (handle_front values y.1) z (front_held values y.1) is) e
+key_in values (Err k) x e = cc
+
+-- the key under the first handle
+pub key_held : (arrays : Arrays) (values : Values) (words : List Word) (x : ℤ × ℤ × Value × ℤ × Value) → array_and_two arrays values words ≡ Ok x → KeyHeld values x
+key_held arrays values words x e = key_in values (number_front arrays words) x e
+
 -- the value under the second handle
 pub value_held : (arrays : Arrays) (values : Values) (words : List Word) (x : ℤ × ℤ × Value × ℤ × Value) → array_and_two arrays values words ≡ Ok x → BothHeld values x
 value_held arrays values words x e = array_by values (number_front arrays words) x e

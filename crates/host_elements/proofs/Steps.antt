@@ -10,8 +10,8 @@ use Rattle.wasm_store.specs.declared.word.Word.{Word}
 use Rattle.host_step.specs.Answers.{FreeFor, encode, refusal}
 use Rattle.host_step.specs.HostState.{HostState, Names}
 use Rattle.host_step.specs.HostStep.{Acts, Refuses, StepBy, StepOf, carried, come, refuses}
-use Rattle.host_step.specs.Imports.{import_answer}
-use Rattle.host_step.specs.declared.import.Import.{Import}
+use Rattle.host_imports.specs.Imports.{import_answer}
+use Rattle.host_imports.specs.declared.import.Import.{Import}
 use Rattle.host_values.specs.declared.reply.Refusal.TheVariants as why
 use Rattle.host_values.proofs.Steps.{unshared}
 use Rattle.host_elements.specs.Calls.{IsTableCall, Leads}

@@ -2,17 +2,17 @@
 ghost use Rattle.std.specs.Prelude.{◌≡◌, List, [], ℕ, None, true};
 ghost use Rattle.std.specs.FinMap as map;
 ghost use Rattle.sem_primitives.specs.declared.table.Primitive.TheVariants as row;
-ghost use Rattle.host_step.specs.declared.import.Import.{Import};
+ghost use Rattle.host_imports.specs.declared.import.Import.{Import};
 ghost use Rattle.host_values.specs.Calls.{spare};
 ghost use Rattle.host_elements.specs.Calls.{IsNumbered, IsPut, IsTableCall, with_arrays};
 ghost use Rattle.host_elements.specs.Forms.{HostForm};
 ghost use Rattle.host_arrays.specs.Pairs.{pairs_at, set_pair};
 
-use crate::words::{array_and_key, array_key_value, key_text, only_array};
+use crate::words::{array_and_key, array_key_value, only_array};
 use awk_values::{Bytes, Value};
 use host_arrays::Arrays;
 use host_handles::Handles;
-use host_values::{Refusal, Reply, ends, give};
+use host_values::{Refusal, Reply, ends, give, value_text};
 use std::alloc::Global;
 use wasm_store::{TrapKind, Word};
 
@@ -38,7 +38,9 @@ fn add_array(arrays: &mut Arrays) -> Result<Option<Word>, Refusal>
 /// A trap, where there is a word, or want of memory; nothing changes.
 pub fn new_array(arrays: &mut Arrays, words: &[Word]) -> Result<Option<Word>, Refusal>
     requires { map.get arrays.old spare ≡ None }
-    ensures step { (f : HostForm) (memory : List ℕ) → f.fault ≡ None → IsTableCall (Import.Of row.NewArray) (with_arrays f.values arrays.old f) words.now memory result (with_arrays f.values arrays.new f) }
+    ensures step { (f : HostForm) (memory : List ℕ) → f.fault ≡ None
+        → IsTableCall (Import.Of row.NewArray) (with_arrays f.values arrays.old f) words.now memory
+        result (with_arrays f.values arrays.new f) }
     ensures spare { map.get arrays.new spare ≡ None }
 {
     match ends(words) {
@@ -60,7 +62,9 @@ pub fn elem(
     words: &[Word],
 ) -> Result<Option<Word>, Refusal>
     requires { map.get handles.old spare ≡ None }
-    ensures step { (f : HostForm) (memory : List ℕ) → f.fault ≡ None → IsTableCall (Import.Of row.Elem) (with_arrays handles.old arrays.old f) words.now memory result (with_arrays handles.new arrays.new f) }
+    ensures step { (f : HostForm) (memory : List ℕ) → f.fault ≡ None
+        → IsTableCall (Import.Of row.Elem) (with_arrays handles.old arrays.old f) words.now memory
+        result (with_arrays handles.new arrays.new f) }
     ensures spare { map.get handles.new spare ≡ None }
     ensures spare_array { map.get arrays.old spare ≡ None → map.get arrays.new spare ≡ None }
 {
@@ -68,20 +72,22 @@ pub fn elem(
         Ok(read) => read,
         Err(kind) => return Err(Refusal::Trap(kind)),
     };
-    let Ok(key) = key_text(alloc, value) else {
+    let Ok(key) = value_text(alloc, value) else {
         return Err(Refusal::NoMemory);
     };
+    let Ok(found) = arrays.get_or_create(array, key.bytes()) else {
+        return Err(Refusal::NoMemory);
+    };
+    drop(key);
     handles.take(handle);
-    match arrays.get_or_create(array, &key) {
-        Ok(value) => give(handles, Reply::Value(value)),
-        Err(_) => Err(Refusal::NoMemory),
-    }
+    give(handles, Reply::Value(found))
 }
 
 /// Puts a value at a key.
 fn put(arrays: &mut Arrays, array: i32, key: &Bytes, value: Value) -> Result<Option<Word>, Refusal>
     requires { map.contains_key arrays.old array ≡ true }
-    ensures put { IsPut result (map.insert arrays.old array (set_pair key.now value (pairs_at arrays.old array))) arrays.new }
+    ensures put { IsPut result (map.insert arrays.old array
+        (set_pair key.now value (pairs_at arrays.old array))) arrays.new }
     ensures spare_array { map.get arrays.old spare ≡ None → map.get arrays.new spare ≡ None }
 {
     match arrays.set(array, key, value) {
@@ -95,28 +101,33 @@ fn put(arrays: &mut Arrays, array: i32, key: &Bytes, value: Value) -> Result<Opt
 /// # Errors
 ///
 /// A trap, which changes nothing, or want of memory.
+#[inline(always)]
 pub fn set_elem(
     alloc: Global,
     arrays: &mut Arrays,
     handles: &mut Handles,
     words: &[Word],
 ) -> Result<Option<Word>, Refusal>
-    ensures step { (f : HostForm) (memory : List ℕ) → f.fault ≡ None → IsTableCall (Import.Of row.SetElem) (with_arrays handles.old arrays.old f) words.now memory result (with_arrays handles.new arrays.new f) }
+    ensures step { (f : HostForm) (memory : List ℕ) → f.fault ≡ None
+        → IsTableCall (Import.Of row.SetElem) (with_arrays handles.old arrays.old f) words.now
+        memory result (with_arrays handles.new arrays.new f) }
     ensures spare { map.get handles.old spare ≡ None → map.get handles.new spare ≡ None }
     ensures spare_array { map.get arrays.old spare ≡ None → map.get arrays.new spare ≡ None }
 {
-    let (array, first, key, second) = match array_key_value(arrays, handles, words) {
+    let (array, first, _, second) = match array_key_value(arrays, handles, words) {
         Ok(read) => read,
         Err(kind) => return Err(Refusal::Trap(kind)),
     };
-    let Ok(key) = key_text(alloc, key) else {
+    let Some(key) = handles.take(first) else {
+        unreachable!();
+    };
+    let Some(value) = handles.take(second) else {
+        unreachable!();
+    };
+    let Ok(text) = value_text(alloc, &key) else {
         return Err(Refusal::NoMemory);
     };
-    handles.take(first);
-    match handles.take(second) {
-        Some(value) => put(arrays, array, &key, value),
-        None => unreachable!(),
-    }
+    put(arrays, array, text.bytes(), value)
 }
 
 /// Whether an array has an element; none is made.
@@ -131,18 +142,22 @@ pub fn has(
     handles: &mut Handles,
     words: &[Word],
 ) -> Result<Option<Word>, Refusal>
-    ensures step { (f : HostForm) (memory : List ℕ) → f.fault ≡ None → IsTableCall (Import.Of row.Has) (with_arrays handles.old arrays.now f) words.now memory result (with_arrays handles.new arrays.now f) }
+    ensures step { (f : HostForm) (memory : List ℕ) → f.fault ≡ None
+        → IsTableCall (Import.Of row.Has) (with_arrays handles.old arrays.now f) words.now memory
+        result (with_arrays handles.new arrays.now f) }
     ensures spare { map.get handles.old spare ≡ None → map.get handles.new spare ≡ None }
 {
     let (array, handle, value) = match array_and_key(arrays, handles, words) {
         Ok(read) => read,
         Err(kind) => return Err(Refusal::Trap(kind)),
     };
-    let Ok(key) = key_text(alloc, value) else {
+    let Ok(key) = value_text(alloc, value) else {
         return Err(Refusal::NoMemory);
     };
+    let found = arrays.has(array, key.bytes());
+    drop(key);
     handles.take(handle);
-    Ok(Some(Word::I32(u32::from(arrays.has(array, &key)))))
+    Ok(Some(Word::I32(u32::from(found))))
 }
 
 /// Takes an element away, where there is one.
@@ -156,7 +171,9 @@ pub fn delete(
     handles: &mut Handles,
     words: &[Word],
 ) -> Result<Option<Word>, Refusal>
-    ensures step { (f : HostForm) (memory : List ℕ) → f.fault ≡ None → IsTableCall (Import.Of row.Delete) (with_arrays handles.old arrays.old f) words.now memory result (with_arrays handles.new arrays.new f) }
+    ensures step { (f : HostForm) (memory : List ℕ) → f.fault ≡ None
+        → IsTableCall (Import.Of row.Delete) (with_arrays handles.old arrays.old f) words.now memory
+        result (with_arrays handles.new arrays.new f) }
     ensures spare { map.get handles.old spare ≡ None → map.get handles.new spare ≡ None }
     ensures spare_array { map.get arrays.old spare ≡ None → map.get arrays.new spare ≡ None }
 {
@@ -164,11 +181,12 @@ pub fn delete(
         Ok(read) => read,
         Err(kind) => return Err(Refusal::Trap(kind)),
     };
-    let Ok(key) = key_text(alloc, value) else {
+    let Ok(key) = value_text(alloc, value) else {
         return Err(Refusal::NoMemory);
     };
+    arrays.delete(array, key.bytes());
+    drop(key);
     handles.take(handle);
-    arrays.delete(array, &key);
     Ok(Some(DONE))
 }
 
@@ -178,7 +196,9 @@ pub fn delete(
 ///
 /// A trap, which changes nothing.
 pub fn clear(arrays: &mut Arrays, words: &[Word]) -> Result<Option<Word>, Refusal>
-    ensures step { (f : HostForm) (memory : List ℕ) → f.fault ≡ None → IsTableCall (Import.Of row.Clear) (with_arrays f.values arrays.old f) words.now memory result (with_arrays f.values arrays.new f) }
+    ensures step { (f : HostForm) (memory : List ℕ) → f.fault ≡ None
+        → IsTableCall (Import.Of row.Clear) (with_arrays f.values arrays.old f) words.now memory
+        result (with_arrays f.values arrays.new f) }
     ensures spare { map.get arrays.old spare ≡ None → map.get arrays.new spare ≡ None }
 {
     let number = match only_array(arrays, words) {
@@ -195,7 +215,8 @@ pub fn clear(arrays: &mut Arrays, words: &[Word]) -> Result<Option<Word>, Refusa
 ///
 /// A trap, which changes nothing.
 pub fn free_array(arrays: &mut Arrays, words: &[Word]) -> Result<Option<Word>, Refusal>
-    ensures step { (f : HostForm) (memory : List ℕ) → IsTableCall Import.FreeArray (with_arrays f.values arrays.old f) words.now memory result (with_arrays f.values arrays.new f) }
+    ensures step { (f : HostForm) (memory : List ℕ) → IsTableCall Import.FreeArray (with_arrays
+        f.values arrays.old f) words.now memory result (with_arrays f.values arrays.new f) }
     ensures spare { map.get arrays.old spare ≡ None → map.get arrays.new spare ≡ None }
 {
     let number = match only_array(arrays, words) {

@@ -125,7 +125,8 @@ impl Iterators {
 
     fn visit(&mut self, number: i32) -> &mut Visit
         requires { map.contains_key self.old number ≡ true }
-        ensures* writes_back { sem 𝓛 (Lends the_row one.the_row self.entry result (map.insert self.old number)) }
+        ensures* writes_back { sem 𝓛
+            (Lends the_row one.the_row self.entry result (map.insert self.old number)) }
         ensures value { result.now ≡ keys_at self.old number }
     {
         &mut self.slab[slot_of(number)]
@@ -139,7 +140,8 @@ impl Iterators {
     pub fn next(&mut self, number: i32) -> Result<Option<Bytes>, AllocError>
         requires { map.contains_key self.old number ≡ true }
         ensures key { IfOk result (λ key. key ≡ first_key (keys_at self.old number)) }
-        ensures left { OnOk result (self.new ≡ map.insert self.old number (other_keys (keys_at self.old number))) }
+        ensures left { OnOk result
+            (self.new ≡ map.insert self.old number (other_keys (keys_at self.old number))) }
         ensures refused { OnErr result (self.new ≡ self.old) }
     {
         self.visit(number).next()

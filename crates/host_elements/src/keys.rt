@@ -2,7 +2,7 @@
 ghost use Rattle.std.specs.Prelude.{◌≡◌, List, ℕ, None};
 ghost use Rattle.std.specs.FinMap as map;
 ghost use Rattle.sem_primitives.specs.declared.table.Primitive.TheVariants as row;
-ghost use Rattle.host_step.specs.declared.import.Import.{Import};
+ghost use Rattle.host_imports.specs.declared.import.Import.{Import};
 ghost use Rattle.host_values.specs.Calls.{spare};
 ghost use Rattle.host_elements.specs.Calls.{IsNumbered, IsTableCall, with_both, with_iterators};
 ghost use Rattle.host_elements.specs.Forms.{HostForm};
@@ -41,7 +41,9 @@ pub fn iter(
     words: &[Word],
 ) -> Result<Option<Word>, Refusal>
     requires { map.get iterators.old spare ≡ None }
-    ensures step { (f : HostForm) (memory : List ℕ) → f.fault ≡ None → IsTableCall (Import.Of row.Iter) (with_both arrays.now iterators.old f) words.now memory result (with_both arrays.now iterators.new f) }
+    ensures step { (f : HostForm) (memory : List ℕ) → f.fault ≡ None
+        → IsTableCall (Import.Of row.Iter) (with_both arrays.now iterators.old f) words.now memory
+        result (with_both arrays.now iterators.new f) }
     ensures spare { map.get iterators.new spare ≡ None }
 {
     let array = match only_array(arrays, words) {
@@ -65,9 +67,12 @@ pub fn iter_next(
     words: &[Word],
 ) -> Result<Option<Word>, Refusal>
     requires { map.get handles.old spare ≡ None }
-    ensures step { (f : HostForm) (memory : List ℕ) → f.fault ≡ None → IsTableCall (Import.Of row.IterNext) (with_iterators handles.old iterators.old f) words.now memory result (with_iterators handles.new iterators.new f) }
+    ensures step { (f : HostForm) (memory : List ℕ) → f.fault ≡ None
+        → IsTableCall (Import.Of row.IterNext) (with_iterators handles.old iterators.old f)
+        words.now memory result (with_iterators handles.new iterators.new f) }
     ensures spare { map.get handles.new spare ≡ None }
-    ensures spare_iterator { map.get iterators.old spare ≡ None → map.get iterators.new spare ≡ None }
+    ensures spare_iterator { map.get iterators.old spare ≡ None → map.get iterators.new spare
+        ≡ None }
 {
     let number = match only_iterator(iterators, words) {
         Ok(number) => number,
@@ -86,7 +91,9 @@ pub fn iter_next(
 ///
 /// A trap, which changes nothing.
 pub fn iter_free(iterators: &mut Iterators, words: &[Word]) -> Result<Option<Word>, Refusal>
-    ensures step { (f : HostForm) (memory : List ℕ) → IsTableCall Import.IterFree (with_iterators f.values iterators.old f) words.now memory result (with_iterators f.values iterators.new f) }
+    ensures step { (f : HostForm) (memory : List ℕ)
+        → IsTableCall Import.IterFree (with_iterators f.values iterators.old f) words.now memory
+        result (with_iterators f.values iterators.new f) }
     ensures spare { map.get iterators.old spare ≡ None → map.get iterators.new spare ≡ None }
 {
     let number = match only_iterator(iterators, words) {

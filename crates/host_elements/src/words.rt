@@ -1,16 +1,13 @@
 //! What words say: arrays and iterators by their numbers, and the values of keys.
 ghost use Rattle.std.specs.Prelude.{◌≡◌, IfOk, true};
 ghost use Rattle.std.specs.FinMap as map;
-ghost use Rattle.awk_values.specs.Values.{text_of_value};
 ghost use Rattle.host_elements.specs.Reads.{array_and_two, array_and_value, but_value, lent_key, lent_two, lent_value, number_front, only_number, owned_number, two_handles};
 
 use crate::iterators::Iterators;
-use awk_text::text_of;
-use awk_values::{Bytes, Value};
+use awk_values::Value;
 use host_arrays::Arrays;
 use host_handles::Handles;
 use host_values::{ends, value_after, value_front};
-use std::alloc::{AllocError, Global};
 use wasm_store::{TrapKind, Word};
 
 /// The number of an array, and the words behind it.
@@ -105,16 +102,4 @@ pub(crate) fn array_key_value<'a>(
     let (array, behind) = array_front(arrays, words)?;
     let (first, key, second, _) = two_values(handles, behind)?;
     Ok((array, first, key, second))
-}
-
-/// The text of a value, which a text of its own shares.
-#[inline(always)]
-pub(crate) fn key_text(alloc: Global, value: &Value) -> Result<Bytes, AllocError>
-    ensures { IfOk result (λ text. text ≡ text_of_value value.now) }
-{
-    match value {
-        Value::Uninit => Bytes::from_slice(alloc, &[]),
-        Value::Num(number) => Bytes::from_slice(alloc, text_of(*number).as_bytes()),
-        Value::Text(text) | Value::StrNum(text) => text.clone(),
-    }
 }

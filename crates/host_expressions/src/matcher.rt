@@ -1,7 +1,7 @@
 //! An expression's text, with its automaton.
 ghost use Rattle.std.specs.Prelude.{◌≡◌, ◌↔◌, IfErr, IfOk, IsTrue, Ok, false};
 ghost use Rattle.ere_syntax.specs.Tree.{Tree};
-ghost use Rattle.ere_match.specs.FirstMatch.{IsFirstMatch, IsMatch};
+ghost use Rattle.ere_syntax.specs.FirstMatch.{IsFirstMatch, IsMatch};
 ghost use Rattle.sem_primitives.specs.FirstMatch.{expression_of};
 ghost use Rattle.sem_primitives.specs.Fields.{Expression, pieces_of};
 ghost use Rattle.host_format.specs.Spans.{AreSpans};
@@ -62,7 +62,8 @@ impl Matcher {
 
     /// Whether the expression matches somewhere in the text.
     pub fn is_match(&mut self, text: &[u8]) -> Result<bool, AllocError>
-        ensures found { IfOk result (λ found. (t : Tree) × (expression_of self.old ≡ Ok t) × IsMatch t text.now found) }
+        ensures found { IfOk result
+            (λ found. (t : Tree) × (expression_of self.old ≡ Ok t) × IsMatch t text.now found) }
         ensures kept { self.new ≡ self.old }
     {
         let found = is_match(&mut self.auto, text)?;
@@ -71,7 +72,8 @@ impl Matcher {
 
     /// The first match in the text, and the longest of those that begin there.
     pub fn first_match(&mut self, text: &[u8]) -> Result<Option<(usize, usize)>, AllocError>
-        ensures found { IfOk result (λ found. (t : Tree) × (expression_of self.old ≡ Ok t) × IsFirstMatch t text.now 0 found) }
+        ensures found { IfOk result (λ found. (t : Tree) × (expression_of self.old ≡ Ok t)
+            × IsFirstMatch t text.now 0 found) }
         ensures kept { self.new ≡ self.old }
     {
         let found = first_match(&mut self.auto, text, 0)?;
@@ -80,7 +82,8 @@ impl Matcher {
 
     /// The pieces of the text between the matches that are not empty, as parts of it. An empty text has none.
     pub fn split(&mut self, alloc: Global, text: &[u8]) -> Result<Vec<Span>, AllocError>
-        ensures pieces { IfOk result (λ spans. (t : Tree) × (expression_of self.old ≡ Ok t) × AreSpans text.now spans.items (pieces_of (Expression t) false text.now)) }
+        ensures pieces { IfOk result (λ spans. (t : Tree) × (expression_of self.old ≡ Ok t)
+            × AreSpans text.now spans.items (pieces_of (Expression t) false text.now)) }
         ensures kept { self.new ≡ self.old }
     {
         let spans = split_by_expression(alloc, text, &mut self.auto, false)?;
@@ -99,8 +102,10 @@ impl Matcher {
         text: &[u8],
         all: bool,
     ) -> Result<Substituted, Stop>
-        ensures ok { IfOk result (λ new. (t : Tree) × (expression_of self.old ≡ Ok t) × (substitution t by.now text.now all ≡ Ok (new.count, new.text))) }
-        ensures err { IfErr result (λ stop. (t : Tree) × (expression_of self.old ≡ Ok t) × IsStopOf (substitution t by.now text.now all) stop) }
+        ensures ok { IfOk result (λ new. (t : Tree) × (expression_of self.old ≡ Ok t)
+            × (substitution t by.now text.now all ≡ Ok (new.count, new.text))) }
+        ensures err { IfErr result (λ stop. (t : Tree) × (expression_of self.old ≡ Ok t)
+            × IsStopOf (substitution t by.now text.now all) stop) }
         ensures kept { self.new ≡ self.old }
     {
         let new = match substitute(alloc, &mut self.auto, by, text, all) {

@@ -6,10 +6,11 @@ use Rattle.awk_values.specs.declared.value.Value.TheVariants.{StrNum}
 use Rattle.sem_primitives.specs.Fields.{pieces_of}
 use Rattle.host_format.specs.Spans.{AreSpans}
 use Rattle.host_format.specs.declared.span.Span.{Span}
-use Rattle.host_fields.specs.Held.{fields_in, separator_by}
+use Rattle.host_fields.specs.Held.{fields_in}
+use Rattle.host_format.specs.Separators.{separator_by}
 use Rattle.host_fields.specs.declared.fields.Form.{Form}
 use Rattle.host_fields.specs.declared.fields.Form.TheVariants.{Later, Parts}
-use Rattle.host_fields.specs.declared.fields.Plain.{Plain}
+use Rattle.host_format.specs.declared.sep.Plain.{Plain}
 use Rattle.host_fields.proofs.Splitting.{fields_are}
 
 pub same_fields : (form : Form) (by : Plain) (newlines : Bool) (whole : Value) (before spans : List Span) (own : List Value) → form ≡ Later by newlines → AreSpans (text_of_value whole) spans (pieces_of (separator_by by) newlines (text_of_value whole)) → fields_in Parts whole spans own ≡ fields_in form whole before own

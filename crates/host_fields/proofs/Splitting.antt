@@ -15,9 +15,10 @@ use Rattle.sem_primitives.specs.FieldMeaning.{field_number, special_text, with_r
 use Rattle.sem_primitives.specs.declared.constants.Special.TheVariants.{Fs, Rs}
 use Rattle.host_format.specs.Spans.{span_text}
 use Rattle.host_format.specs.declared.span.Span.{Span}
-use Rattle.host_fields.specs.Held.{field_at, separator_by, with_held}
-use Rattle.host_fields.specs.declared.fields.Plain.{Plain}
-use Rattle.host_fields.specs.declared.fields.Plain.TheVariants.{Blanks, Byte}
+use Rattle.host_fields.specs.Held.{field_at, with_held}
+use Rattle.host_format.specs.Separators.{separator_by}
+use Rattle.host_format.specs.declared.sep.Plain.{Plain}
+use Rattle.host_format.specs.declared.sep.Plain.TheVariants.{Blanks, Byte}
 use Rattle.host_fields.specs.Splits.{AreFields}
 use Rattle.host_fields.proofs.Counting.{parted_length}
 

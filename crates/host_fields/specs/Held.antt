@@ -7,14 +7,12 @@ use Rattle.awk_values.specs.declared.value.Value.{Value}
 use Rattle.awk_values.specs.declared.value.Value.TheVariants.{StrNum}
 use Rattle.sem_primitives.specs.SharedState.{Inner}
 use Rattle.awk_values.specs.Values.{text_of_value}
-use Rattle.sem_primitives.specs.Fields.{Separator, pieces_of}
-use Rattle.sem_primitives.specs.Fields as separators
+use Rattle.sem_primitives.specs.Fields.{pieces_of}
+use Rattle.host_format.specs.Separators.{separator_by}
 use Rattle.host_format.specs.Spans.{IsInside, span_text}
 use Rattle.host_format.specs.declared.span.Span.{Span}
 use Rattle.host_fields.specs.declared.fields.Form.{Form}
 use Rattle.host_fields.specs.declared.fields.Form.TheVariants.{Later, Own, Parts}
-use Rattle.host_fields.specs.declared.fields.Plain.{Plain}
-use Rattle.host_fields.specs.declared.fields.Plain.TheVariants.{Blanks, Byte}
 
 -- `$0`, and the fields from `$1` on
 pub record Held : Type 0 where
@@ -23,7 +21,10 @@ pub record Held : Type 0 where
 
 abbrev pub held_code : Coded Held
 held_code =
-    code_by (Value × List Value) (coded× stored.the_row.coded (coded_list stored.the_row.coded)) (λ r. (r.whole, r.fields)) (λ p. record { whole = p.0; fields = p.1 }) (λ _. refl)
+    code_by (Value × List Value) (coded× stored.the_row.coded (coded_list stored.the_row.coded)) (λ r. (
+      r.whole,
+      r.fields,
+    )) (λ p. record { whole = p.0; fields = p.1 }) (λ _. refl)
 
 -- the shared state with this record, where nothing else is another
 abbrev pub with_held : Held → Inner → Inner
@@ -42,11 +43,6 @@ IsPartOf whole span = ⊥
 abbrev pub IsNumericText : Value → Type 0
 IsNumericText (StrNum text) = Unit {0}
 IsNumericText whole = ⊥
-
--- what separates fields
-abbrev pub separator_by : Plain → Separator
-separator_by Blanks = separators.Blanks
-separator_by (Byte b) = separators.Byte b
 
 -- the fields: those that `$0` is to be split into, parts of `$0`, or values of their own
 abbrev pub fields_in : Form → (whole : Value) → List Span → List Value → List Value

@@ -1,9 +1,9 @@
 //! How many fields a text has, where memory for their places is not to be taken.
 ghost use Rattle.std.specs.Prelude.{◌≡◌, ◌≢◌, ◌≤◌, ◌==◌, ◌||◌, ◌&&◌, Bool, [], filter, length};
 ghost use Rattle.sem_primitives.specs.Fields.{Blanks, Byte, is_blank, pieces_of};
-ghost use Rattle.host_fields.specs.Held.{separator_by};
+ghost use Rattle.host_format.specs.Separators.{separator_by};
 
-use crate::fields::Plain;
+use host_format::Plain;
 
 fn is_blank(byte: u8) -> bool
     ensures { result ≡ is_blank byte }
@@ -30,7 +30,8 @@ fn count_words(text: &[u8]) -> usize
 
 /// How many of the bytes are this one, or a newline where the flag says so.
 fn count_ends(text: &[u8], byte: u8, newlines: bool) -> usize
-    ensures count { result ≡ length (filter (λ c. (c == byte) || (newlines && (c == 10))) text.now) }
+    ensures count { result
+        ≡ length (filter (λ c. (c == byte) || (newlines && (c == 10))) text.now) }
     ensures few { result ≤ length text.now }
 {
     text.iter()

@@ -1,26 +1,17 @@
 //! Where the fields of a record stand.
-ghost use Rattle.std.specs.Prelude.{◌≡◌, IfOk, IfSome, List, Ok, OnOk, length};
+ghost use Rattle.std.specs.Prelude.{◌≡◌, IfOk, List, OnOk, length};
 ghost use Rattle.awk_values.specs.Values.{text_of_value};
 ghost use Rattle.awk_values.specs.declared.value.Value.{Value as AnyValue};
-ghost use Rattle.sem_primitives.specs.Fields.{pieces_of, separator_of};
-ghost use Rattle.host_format.specs.Separators.{IsSep};
+ghost use Rattle.sem_primitives.specs.Fields.{pieces_of};
+ghost use Rattle.host_format.specs.Separators.{separator_by};
 ghost use Rattle.host_format.specs.Spans.{AreSpans};
-ghost use Rattle.host_fields.specs.Held.{AreHeld, IsNumericText, IsPartOf, IsSplit, field_at, fields_in, separator_by};
+ghost use Rattle.host_fields.specs.Held.{AreHeld, IsNumericText, IsPartOf, IsSplit, field_at, fields_in};
 ghost use Rattle.host_fields.specs.declared.fields.Form.TheVariants.{Own, Parts};
 
 use crate::counted::count_pieces;
 use awk_values::Value;
-use host_format::{Sep, Span, split_into};
+use host_format::{Plain, Span, split_plain};
 use std::alloc::AllocError;
-
-/// What separates fields where that is no expression, and where it cannot fail to be one.
-#[derive(Clone, Copy, Debug, Drop)]
-pub(crate) enum Plain {
-    /// Runs of spaces, tabs and newlines.
-    Blanks,
-    /// Each of these bytes.
-    Byte(u8),
-}
 
 /// Where fields stand.
 #[derive(Clone, Copy, Debug, Drop)]
@@ -31,34 +22,6 @@ pub(crate) enum Form {
     Parts,
     /// They are values of their own.
     Own,
-}
-
-impl Plain {
-    /// What an FS means, where it has one byte.
-    pub(crate) fn of(fs: &[u8]) -> Option<Plain>
-        ensures { IfSome result (λ by. separator_of fs.now ≡ Ok (separator_by by)) }
-    {
-        match fs {
-            [byte] => {
-                if *byte == b' ' {
-                    Some(Plain::Blanks)
-                } else {
-                    Some(Plain::Byte(*byte))
-                }
-            }
-            _ => None,
-        }
-    }
-
-    /// The same as a separator.
-    fn sep(self) -> Sep
-        ensures { IsSep result (separator_by self) }
-    {
-        match self {
-            Plain::Blanks => Sep::Blanks,
-            Plain::Byte(byte) => Sep::Byte(byte),
-        }
-    }
 }
 
 /// A part of `$0`, as a field that shares its text.
@@ -93,16 +56,13 @@ fn split_whole(
     newlines: bool,
 ) -> Result<(), AllocError>
     requires { IsNumericText whole.now }
-    ensures { OnOk result (AreSpans (text_of_value whole.now) spans.new.items (pieces_of (separator_by by) newlines (text_of_value whole.now))) }
+    ensures { OnOk result (AreSpans (text_of_value whole.now) spans.new.items
+        (pieces_of (separator_by by) newlines (text_of_value whole.now))) }
 {
     let Value::StrNum(text) = whole else {
         unreachable!();
     };
-    let mut sep = by.sep();
-    match split_into(spans, text.as_slice(), &mut sep, newlines) {
-        Ok(()) => Ok(()),
-        Err(_) => Err(AllocError),
-    }
+    split_plain(spans, text.as_slice(), by, newlines)
 }
 
 /// Splits `$0`, if that was put off.
@@ -114,7 +74,8 @@ pub(crate) fn to_split(
 ) -> Result<(), AllocError>
     requires { AreHeld form.old whole.now spans.old.items }
     ensures held { AreHeld form.new whole.now spans.new.items }
-    ensures same { (own : List AnyValue) → fields_in form.new whole.now spans.new.items own ≡ fields_in form.old whole.now spans.old.items own }
+    ensures same { (own : List AnyValue) → fields_in form.new whole.now spans.new.items own
+        ≡ fields_in form.old whole.now spans.old.items own }
     ensures ok { OnOk result (IsSplit form.new) }
 {
     if let Form::Later(by, newlines) = *form {
@@ -144,7 +105,8 @@ pub(crate) fn to_own(
 ) -> Result<(), AllocError>
     requires { AreHeld form.old whole.now spans.old.items }
     ensures held { AreHeld form.new whole.now spans.new.items }
-    ensures same { fields_in form.new whole.now spans.new.items own.new.items ≡ fields_in form.old whole.now spans.old.items own.old.items }
+    ensures same { fields_in form.new whole.now spans.new.items own.new.items
+        ≡ fields_in form.old whole.now spans.old.items own.old.items }
     ensures ok { OnOk result (form.new ≡ Own) }
 {
     to_split(form, whole, spans)?;

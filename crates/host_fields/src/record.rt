@@ -6,12 +6,12 @@ ghost use Rattle.sem_primitives.specs.FieldMeaning.{at_least, field_number};
 ghost use Rattle.host_format.specs.Outcomes.{IsStopOf};
 ghost use Rattle.host_fields.specs.Calls.{IsRecordOf, IsStopOfChange, IsStopOfRecord, Makes, Reads, count_set, field_set};
 
-use crate::fields::{Form, Plain, count_fields, part_of, to_own, to_split};
+use crate::fields::{Form, count_fields, part_of, to_own, to_split};
 use crate::joined::joined;
 use crate::number::{MOST, field_number};
 use crate::splitter::{LastSep, split};
 use awk_values::{Bytes, Fault, Stop, Value};
-use host_format::Span;
+use host_format::{Plain, Span};
 use std::alloc::{AllocError, Global};
 use std::marker::Model;
 use std::mem::{replace, swap};
@@ -199,6 +199,7 @@ impl Record {
     /// # Errors
     ///
     /// `FieldNumber` where the number is below 0 or above 1,048,576; [`Stop::NoMemory`], also where the count of those who share the text is full.
+    #[inline(always)]
     pub fn field(&mut self, n: i64) -> Result<Value, Stop>
         ensures ok { IfOk result (Reads n self.old) }
         ensures err { IfErr result (IsStopOf (field_number n)) }

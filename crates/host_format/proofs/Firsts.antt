@@ -6,7 +6,7 @@ use Rattle.std.proofs.lemmas.Bool.Decides.{nat_tests}
 use Rattle.ere_syntax.specs.Matches.{Matches}
 use Rattle.ere_syntax.specs.Tree.{Tree}
 use Rattle.ere_syntax.proofs.Meaning.{matches_inside}
-use Rattle.ere_match.specs.FirstMatch.{IsFirst, IsFirstMatch}
+use Rattle.ere_syntax.specs.FirstMatch.{IsFirst, IsFirstMatch}
 use Rattle.sem_primitives.specs.FirstMatch.{first_by, first_match, longest, or_next}
 use Rattle.sem_primitives.proofs.Firsts.{first_match_is}
 use Rattle.host_format.specs.Expressions.{IsFirstAt, IsFirstBy, not_empty, unless_empty}

@@ -4,6 +4,8 @@ use Rattle.ere_match.specs.Autos.{IsAutoOf}
 use Rattle.sem_primitives.specs.Fields.{Separator, Blanks, Nothing, Byte, Expression, separator_of}
 use Rattle.sem_primitives.specs.FirstMatch.{expression_of}
 use Rattle.sem_primitives.specs.SharedState.{◌>>=◌}
+use Rattle.host_format.specs.declared.sep.Plain.{Plain}
+use Rattle.host_format.specs.declared.sep.Plain.TheVariants as plains
 use Rattle.host_format.specs.declared.sep.Sep.{Sep}
 use Rattle.host_format.specs.declared.sep.Sep.TheVariants as seps
 
@@ -24,3 +26,7 @@ Separates text sep = (s : Separator) × (separator_of text ≡ Ok s) × IsSep se
 
 abbrev pub IsAnySep : Sep → Type 0
 IsAnySep sep = (s : Separator) × IsSep sep s
+
+abbrev pub separator_by : Plain → Separator
+separator_by plains.Blanks = Blanks
+separator_by (plains.Byte b) = Byte b

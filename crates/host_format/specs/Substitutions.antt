@@ -14,7 +14,8 @@ substitution t by text all = limited (replaced text by 0 (places_of t text all))
 -- the matches from a place on, as the next of them says
 abbrev pub IsNextPlace : Tree → List ℕ → ℕ → Option ℕ → Option (ℕ × ℕ) → Type 0
 IsNextPlace t text at last None = (n : ℕ) → length text + 1 ≤ n + at → places (first_match t text) n at last ≡ []
-IsNextPlace t text at last (Some p) = (n : ℕ) → length text + 1 ≤ n + at → (m : ℕ) × (length text + 1 ≤ m + behind p) × (places (first_match t text) n at last ≡ p ∷ places (first_match t text) m (behind p) (Some p.1))
+IsNextPlace t text at last (Some p) = (n : ℕ) → length text + 1 ≤ n + at → (m : ℕ) × (length text + 1 ≤ m + behind p)
+    × (places (first_match t text) n at last ≡ p ∷ places (first_match t text) m (behind p) (Some p.1))
 
 -- so many matches were replaced, and this is the new text, which is within the limit
 pub record IsReplaced (t : Tree) (by text : List ℕ) (all : Bool) (count : ℕ) (new : List ℕ) : Type 0 where

@@ -84,7 +84,9 @@ fn number_of(digits: &[u8]) -> u32
 
 /// The number of the digits at the front, and what follows, unless it is past 65,535.
 fn split_number(text: &[u8]) -> Option<(u16, &[u8])>
-    ensures value { MatchOption result (is_narrow (Some (value_after 0 (digits_at text.now).0)) ≡ false) (λ x. (is_narrow (Some x.0) ≡ true) × ((x.0 ≡ value_after 0 (digits_at text.now).0) × (x.1.now ≡ (digits_at text.now).1))) }
+    ensures value { MatchOption result (is_narrow (Some (value_after 0 (digits_at text.now).0))
+        ≡ false) (λ x. (is_narrow (Some x.0) ≡ true)
+        × ((x.0 ≡ value_after 0 (digits_at text.now).0) × (x.1.now ≡ (digits_at text.now).1))) }
     ensures shorter { IfSome result (λ x. length x.1.now ≤ length text.now) }
 {
     let (digits, rest) = text.split_at(count_digits(text));
@@ -96,7 +98,9 @@ fn split_number(text: &[u8]) -> Option<(u16, &[u8])>
 
 /// What the point and its digits say, and what follows, unless it is past 65,535.
 fn split_precision(text: &[u8]) -> Option<(Option<u16>, &[u8])>
-    ensures value { MatchOption result (is_narrow (precision_at text.now).0 ≡ false) (λ x. (is_narrow x.0 ≡ true) × ((x.0 ≡ (precision_at text.now).0) × (x.1.now ≡ (precision_at text.now).1))) }
+    ensures value { MatchOption result (is_narrow (precision_at text.now).0 ≡ false)
+        (λ x. (is_narrow x.0 ≡ true)
+        × ((x.0 ≡ (precision_at text.now).0) × (x.1.now ≡ (precision_at text.now).1))) }
     ensures shorter { IfSome result (λ x. length x.1.now ≤ length text.now) }
 {
     match text {
@@ -127,7 +131,8 @@ fn specifier_of(letter: u8) -> Option<Specifier>
 
 /// The conversion at the front, and what follows it, if there is one.
 fn split_conversion(text: &[u8]) -> Option<(Conversion<'_>, &[u8])>
-    ensures value { MatchOption result ((wide_at text.now).0 ≡ Malformed) (λ x. wide_at text.now ≡ (Converts (conversion_is x.0), x.1.now)) }
+    ensures value { MatchOption result ((wide_at text.now).0 ≡ Malformed)
+        (λ x. wide_at text.now ≡ (Converts (conversion_is x.0), x.1.now)) }
     ensures shorter { IfSome result (λ x. length x.1.now ≤ length text.now) }
 {
     let (flags, rest) = split_flags(text);
@@ -152,7 +157,8 @@ fn split_conversion(text: &[u8]) -> Option<(Conversion<'_>, &[u8])>
 
 /// What a percent sign before this text stands for, and what follows that, unless it is malformed.
 pub(crate) fn split_directive(text: &[u8]) -> Option<(Directive<'_>, &[u8])>
-    ensures value { MatchOption result ((conversion_at text.now).0 ≡ Malformed) (λ x. conversion_at text.now ≡ (piece_is x.0, x.1.now)) }
+    ensures value { MatchOption result ((conversion_at text.now).0 ≡ Malformed)
+        (λ x. conversion_at text.now ≡ (piece_is x.0, x.1.now)) }
     ensures shorter { IfSome result (λ x. length x.1.now ≤ length text.now) }
 {
     match text {

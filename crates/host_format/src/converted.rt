@@ -59,8 +59,10 @@ fn put_integer(
     number: u64,
     digits: &[u8],
 ) -> Result<(), Stop>
-    ensures ok { OnOk result (Adds out.old.items out.new.items (integer_text (conversion_is conversion.entry) number front.now digits.now)) }
-    ensures err { IfErr result (IsPast (out.old.items ++ integer_text (conversion_is conversion.entry) number front.now digits.now)) }
+    ensures ok { OnOk result (Adds out.old.items out.new.items
+        (integer_text (conversion_is conversion.entry) number front.now digits.now)) }
+    ensures err { IfErr result (IsPast (out.old.items ++ integer_text
+        (conversion_is conversion.entry) number front.now digits.now)) }
 {
     let parts = Parts::whole(front, conversion.precision, number, digits);
     put_number(out, conversion, conversion.precision, parts)
@@ -68,8 +70,12 @@ fn put_integer(
 
 /// Adds a number in decimal, after its sign.
 fn put_signed(out: &mut Vec<u8>, conversion: Conversion<'_>, number: i64) -> Result<(), Stop>
-    ensures ok { OnOk result (Adds out.old.items out.new.items (integer_text (conversion_is conversion.entry) (unsigned_abs number) (sign_of (conversion_is conversion.entry) number) (decimal (unsigned_abs number)))) }
-    ensures err { IfErr result (IsPast (out.old.items ++ integer_text (conversion_is conversion.entry) (unsigned_abs number) (sign_of (conversion_is conversion.entry) number) (decimal (unsigned_abs number)))) }
+    ensures ok { OnOk result (Adds out.old.items out.new.items
+        (integer_text (conversion_is conversion.entry) (unsigned_abs number)
+        (sign_of (conversion_is conversion.entry) number) (decimal (unsigned_abs number)))) }
+    ensures err { IfErr result (IsPast
+        (out.old.items ++ integer_text (conversion_is conversion.entry) (unsigned_abs number)
+        (sign_of (conversion_is conversion.entry) number) (decimal (unsigned_abs number)))) }
 {
     let magnitude = number.unsigned_abs();
     let digits = Digits::of(magnitude, 10, false);
@@ -79,8 +85,10 @@ fn put_signed(out: &mut Vec<u8>, conversion: Conversion<'_>, number: i64) -> Res
 
 /// Adds a number in decimal, without a sign.
 fn put_unsigned(out: &mut Vec<u8>, conversion: Conversion<'_>, number: u64) -> Result<(), Stop>
-    ensures ok { OnOk result (Adds out.old.items out.new.items (integer_text (conversion_is conversion.entry) number [] (decimal number))) }
-    ensures err { IfErr result (IsPast (out.old.items ++ integer_text (conversion_is conversion.entry) number [] (decimal number))) }
+    ensures ok { OnOk result (Adds out.old.items out.new.items
+        (integer_text (conversion_is conversion.entry) number [] (decimal number))) }
+    ensures err { IfErr result (IsPast (out.old.items ++ integer_text
+        (conversion_is conversion.entry) number [] (decimal number))) }
 {
     let digits = Digits::of(number, 10, false);
     put_integer(out, conversion, &[], number, digits.as_slice())
@@ -89,7 +97,8 @@ fn put_unsigned(out: &mut Vec<u8>, conversion: Conversion<'_>, number: u64) -> R
 /// The parts of an octal number: with the flag `#` a 0 before digits that do not begin with one.
 fn marked_octal<'a>(conversion: Conversion<'_>, parts: Parts<'a>) -> Parts<'a>
     ensures front { result.front.now ≡ parts.entry.front.now }
-    ensures body { body_text result ≡ octal_mark (conversion_is conversion.entry) (body_text parts.entry) }
+    ensures body { body_text result
+        ≡ octal_mark (conversion_is conversion.entry) (body_text parts.entry) }
 {
     let has_zero = parts.zeros > 0 || matches!(parts.digits, [b'0', ..]);
     if conversion.has(b'#') && !has_zero {
@@ -101,8 +110,12 @@ fn marked_octal<'a>(conversion: Conversion<'_>, parts: Parts<'a>) -> Parts<'a>
 
 /// Adds a number in octal.
 fn put_octal(out: &mut Vec<u8>, conversion: Conversion<'_>, number: u64) -> Result<(), Stop>
-    ensures ok { OnOk result (Adds out.old.items out.new.items (number_text (conversion_is conversion.entry) conversion.entry.precision [] (octal_mark (conversion_is conversion.entry) (with_precision conversion.entry.precision number (digits 8 false number))))) }
-    ensures err { IfErr result (IsPast (out.old.items ++ number_text (conversion_is conversion.entry) conversion.entry.precision [] (octal_mark (conversion_is conversion.entry) (with_precision conversion.entry.precision number (digits 8 false number))))) }
+    ensures ok { OnOk result (Adds out.old.items out.new.items (number_text (conversion_is
+        conversion.entry) conversion.entry.precision [] (octal_mark (conversion_is conversion.entry)
+        (with_precision conversion.entry.precision number (digits 8 false number))))) }
+    ensures err { IfErr result (IsPast (out.old.items ++ number_text (conversion_is
+        conversion.entry) conversion.entry.precision [] (octal_mark (conversion_is conversion.entry)
+        (with_precision conversion.entry.precision number (digits 8 false number))))) }
 {
     let digits = Digits::of(number, 8, false);
     let parts = Parts::whole(&[], conversion.precision, number, digits.as_slice());
@@ -133,8 +146,12 @@ fn put_hex(
     upper: bool,
     mark: &'static [u8],
 ) -> Result<(), Stop>
-    ensures ok { OnOk result (Adds out.old.items out.new.items (integer_text (conversion_is conversion.entry) number (hex_mark (conversion_is conversion.entry) number mark.now) (digits 16 upper number))) }
-    ensures err { IfErr result (IsPast (out.old.items ++ integer_text (conversion_is conversion.entry) number (hex_mark (conversion_is conversion.entry) number mark.now) (digits 16 upper number))) }
+    ensures ok { OnOk result
+        (Adds out.old.items out.new.items (integer_text (conversion_is conversion.entry) number
+        (hex_mark (conversion_is conversion.entry) number mark.now) (digits 16 upper number))) }
+    ensures err { IfErr result
+        (IsPast (out.old.items ++ integer_text (conversion_is conversion.entry) number
+        (hex_mark (conversion_is conversion.entry) number mark.now) (digits 16 upper number))) }
 {
     let digits = Digits::of(number, 16, upper);
     let front = hex_mark(conversion, number, mark);
@@ -143,7 +160,8 @@ fn put_hex(
 
 /// How many zeros stand after the point of a number that is whole, if the point stands.
 fn places_of(conversion: Conversion<'_>) -> Option<usize>
-    ensures { places_text result ≡ fraction_text (conversion_is conversion.entry) conversion.entry.precision }
+    ensures { places_text result
+        ≡ fraction_text (conversion_is conversion.entry) conversion.entry.precision }
 {
     match conversion.precision {
         None => Some(6),
@@ -154,8 +172,14 @@ fn places_of(conversion: Conversion<'_>) -> Option<usize>
 
 /// Adds a number with a point and places.
 fn put_fixed(out: &mut Vec<u8>, conversion: Conversion<'_>, number: i64) -> Result<(), Stop>
-    ensures ok { OnOk result (Adds out.old.items out.new.items (number_text (conversion_is conversion.entry) None (sign_of (conversion_is conversion.entry) number) (decimal (unsigned_abs number) ++ fraction_text (conversion_is conversion.entry) conversion.entry.precision))) }
-    ensures err { IfErr result (IsPast (out.old.items ++ number_text (conversion_is conversion.entry) None (sign_of (conversion_is conversion.entry) number) (decimal (unsigned_abs number) ++ fraction_text (conversion_is conversion.entry) conversion.entry.precision))) }
+    ensures ok { OnOk result
+        (Adds out.old.items out.new.items (number_text (conversion_is conversion.entry) None
+        (sign_of (conversion_is conversion.entry) number) (decimal (unsigned_abs number)
+        ++ fraction_text (conversion_is conversion.entry) conversion.entry.precision))) }
+    ensures err { IfErr result
+        (IsPast (out.old.items ++ number_text (conversion_is conversion.entry) None
+        (sign_of (conversion_is conversion.entry) number) (decimal (unsigned_abs number)
+        ++ fraction_text (conversion_is conversion.entry) conversion.entry.precision))) }
 {
     let digits = Digits::of(number.unsigned_abs(), 10, false);
     let parts = Parts {
@@ -179,8 +203,10 @@ fn first_bytes(precision: Option<u16>, text: &[u8]) -> &[u8]
 
 /// Adds a text, cut to the precision.
 fn put_text(out: &mut Vec<u8>, conversion: Conversion<'_>, text: &[u8]) -> Result<(), Stop>
-    ensures ok { OnOk result (Adds out.old.items out.new.items (padded (conversion_is conversion.entry) (first_bytes conversion.entry.precision text.now))) }
-    ensures err { IfErr result (IsPast (out.old.items ++ padded (conversion_is conversion.entry) (first_bytes conversion.entry.precision text.now))) }
+    ensures ok { OnOk result (Adds out.old.items out.new.items (padded
+        (conversion_is conversion.entry) (first_bytes conversion.entry.precision text.now))) }
+    ensures err { IfErr result (IsPast (out.old.items ++ padded (conversion_is conversion.entry)
+        (first_bytes conversion.entry.precision text.now))) }
 {
     put_padded(
         out,
@@ -191,8 +217,10 @@ fn put_text(out: &mut Vec<u8>, conversion: Conversion<'_>, text: &[u8]) -> Resul
 
 /// Adds the text of a value.
 fn put_string(out: &mut Vec<u8>, conversion: Conversion<'_>, value: &Value) -> Result<(), Stop>
-    ensures ok { OnOk result (Adds out.old.items out.new.items (padded (conversion_is conversion.entry) (first_bytes conversion.entry.precision (text_of_value value.now)))) }
-    ensures err { IfErr result (IsPast (out.old.items ++ padded (conversion_is conversion.entry) (first_bytes conversion.entry.precision (text_of_value value.now)))) }
+    ensures ok { OnOk result (Adds out.old.items out.new.items (padded (conversion_is
+        conversion.entry) (first_bytes conversion.entry.precision (text_of_value value.now)))) }
+    ensures err { IfErr result (IsPast (out.old.items ++ padded (conversion_is conversion.entry)
+        (first_bytes conversion.entry.precision (text_of_value value.now)))) }
 {
     match value {
         Value::Uninit => put_text(out, conversion, &[]),
@@ -230,8 +258,10 @@ fn char_of(value: &Value) -> Result<Option<u8>, Fault>
 
 /// Adds a byte, or nothing.
 fn put_char(out: &mut Vec<u8>, conversion: Conversion<'_>, byte: Option<u8>) -> Result<(), Stop>
-    ensures ok { OnOk result (Adds out.old.items out.new.items (padded (conversion_is conversion.entry) (option_to_list byte))) }
-    ensures err { IfErr result (IsPast (out.old.items ++ padded (conversion_is conversion.entry) (option_to_list byte))) }
+    ensures ok { OnOk result (Adds out.old.items out.new.items
+        (padded (conversion_is conversion.entry) (option_to_list byte))) }
+    ensures err { IfErr result
+        (IsPast (out.old.items ++ padded (conversion_is conversion.entry) (option_to_list byte))) }
 {
     match byte {
         None => put_padded(out, conversion, Parts::text(&[])),
@@ -245,8 +275,10 @@ pub(crate) fn put_converted(
     conversion: Conversion<'_>,
     value: &Value,
 ) -> Result<(), Stop>
-    ensures ok { OnOk result (AddsOutcome out.old.items out.new.items (converted (conversion_is conversion.entry) (conversion_is conversion.entry).specifier value.now)) }
-    ensures err { IfErr result (IsStopAfter out.old.items (converted (conversion_is conversion.entry) (conversion_is conversion.entry).specifier value.now)) }
+    ensures ok { OnOk result (AddsOutcome out.old.items out.new.items (converted
+        (conversion_is conversion.entry) (conversion_is conversion.entry).specifier value.now)) }
+    ensures err { IfErr result (IsStopAfter out.old.items (converted
+        (conversion_is conversion.entry) (conversion_is conversion.entry).specifier value.now)) }
 {
     match conversion.specifier {
         Specifier::Signed => put_signed(out, conversion, truncated(value)?),

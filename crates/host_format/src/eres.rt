@@ -49,8 +49,10 @@ pub(crate) fn first(
 ) -> Result<Option<(usize, usize)>, AllocError>
     requires auto { IsAuto auto.old }
     requires within { from ≤ length text.now }
-    ensures found { (t : Tree) → IsAutoOf auto.old t → IfOk result (λ found. found ≡ first_match t text.now from) }
-    ensures inside { IfOk result (λ found. IfSome found (λ m. (from ≤ m.0) × (m.0 ≤ m.1) × (m.1 ≤ length text.now))) }
+    ensures found { (t : Tree) → IsAutoOf auto.old t
+        → IfOk result (λ found. found ≡ first_match t text.now from) }
+    ensures inside { IfOk result
+        (λ found. IfSome found (λ m. (from ≤ m.0) × (m.0 ≤ m.1) × (m.1 ≤ length text.now))) }
     ensures kept { (t : Tree) → IsAutoOf auto.old t → IsAutoOf auto.new t }
     ensures auto { IsAuto auto.new }
 {
@@ -65,8 +67,10 @@ pub(crate) fn first_not_empty(
 ) -> Result<Option<(usize, usize)>, AllocError>
     requires auto { IsAuto auto.old }
     requires within { from ≤ length text.now }
-    ensures found { (t : Tree) → IsAutoOf auto.old t → IfOk result (λ found. IsFirstBy (not_empty t text.now) from (length text.now) found) }
-    ensures inside { IfOk result (λ found. IfSome found (λ m. (from ≤ m.0) × (m.0 + 1 ≤ m.1) × (m.1 ≤ length text.now))) }
+    ensures found { (t : Tree) → IsAutoOf auto.old t
+        → IfOk result (λ found. IsFirstBy (not_empty t text.now) from (length text.now) found) }
+    ensures inside { IfOk result
+        (λ found. IfSome found (λ m. (from ≤ m.0) × (m.0 + 1 ≤ m.1) × (m.1 ≤ length text.now))) }
     ensures kept { (t : Tree) → IsAutoOf auto.old t → IsAutoOf auto.new t }
     ensures auto { IsAuto auto.new }
 {

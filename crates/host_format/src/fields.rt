@@ -7,13 +7,13 @@ ghost use Rattle.sem_primitives.specs.Fields.{Expression, Nothing, Separator, ne
 ghost use Rattle.host_format.specs.Between.{IsOpen, separator_end};
 ghost use Rattle.host_format.specs.Expressions.{IsAuto};
 ghost use Rattle.host_format.specs.Marks.{kept, pieces_by, skips_empty};
-ghost use Rattle.host_format.specs.Separators.{IsAnySep, IsSep};
+ghost use Rattle.host_format.specs.Separators.{IsAnySep, IsSep, separator_by};
 ghost use Rattle.host_format.specs.declared.marks.Marks.TheVariants as marks;
 ghost use Rattle.host_format.specs.Spans.{AreSpans, IsSoFar};
 
 use crate::eres::first_not_empty;
 use crate::marks::Marks;
-use crate::sep::Sep;
+use crate::sep::{Plain, Sep};
 use crate::span::{Span, push};
 use awk_values::Stop;
 use ere_match::Auto;
@@ -27,7 +27,10 @@ fn push_piece(
     start: usize,
     end: usize,
 ) -> Result<(), AllocError>
-    ensures { (text : List ℕ) (rest total : List (List ℕ)) → start ≤ end → end ≤ length text → IsSoFar text spans.old.items (kept (skips_empty marks) (slice_range text start end ∷ rest)) total → OnOk result (IsSoFar text spans.new.items (kept (skips_empty marks) rest) total) }
+    ensures { (text : List ℕ) (rest total : List (List ℕ)) → start ≤ end → end ≤ length text
+        → IsSoFar text spans.old.items
+        (kept (skips_empty marks) (slice_range text start end ∷ rest)) total
+        → OnOk result (IsSoFar text spans.new.items (kept (skips_empty marks) rest) total) }
 {
     if start < end || !marks.skips_empty() {
         push(spans, start, end)?;
@@ -72,8 +75,11 @@ fn push_lines(
     requires from { from ≤ to }
     requires to { to ≤ length text.now }
     ensures from { IfOk result (λ line. (from ≤ line) × (line ≤ to)) }
-    ensures rest { (end : ℕ → Option ℕ) → ((k : ℕ) → from ≤ k → k < to → end k ≡ newline_end newlines text.now k) → IfOk result (λ line. (k : ℕ) → line ≤ k → k < to → end k ≡ None) }
-    ensures lines { (end : ℕ → Option ℕ) (total : List (List ℕ)) → ((k : ℕ) → from ≤ k → k < to → end k ≡ newline_end newlines text.now k) → IsOpen end text.now spans.old.items from total → IfOk result (λ line. IsOpen end text.now spans.new.items line total) }
+    ensures rest { (end : ℕ → Option ℕ) → ((k : ℕ) → from ≤ k → k < to → end k ≡ newline_end
+        newlines text.now k) → IfOk result (λ line. (k : ℕ) → line ≤ k → k < to → end k ≡ None) }
+    ensures lines { (end : ℕ → Option ℕ) (total : List (List ℕ)) → ((k : ℕ) → from ≤ k → k < to
+        → end k ≡ newline_end newlines text.now k) → IsOpen end text.now spans.old.items from total
+        → IfOk result (λ line. IsOpen end text.now spans.new.items line total) }
 {
     let mut line = from;
     if newlines {
@@ -94,7 +100,8 @@ fn split_by_ere(
 ) -> Result<(), AllocError>
     requires none { spans.old.items ≡ [] }
     requires auto { IsAuto auto.old }
-    ensures ok { (t : Tree) → IsAutoOf auto.old t → OnOk result (AreSpans text.now spans.new.items (pieces (Expression t) newlines text.now)) }
+    ensures ok { (t : Tree) → IsAutoOf auto.old t → OnOk result
+        (AreSpans text.now spans.new.items (pieces (Expression t) newlines text.now)) }
     ensures kept { (t : Tree) → IsAutoOf auto.old t → IsAutoOf auto.new t }
 {
     let mut from = 0;
@@ -121,7 +128,8 @@ pub fn split_by_expression(
     newlines: bool,
 ) -> Result<Vec<Span>, AllocError>
     requires { IsAuto auto.old }
-    ensures ok { (t : Tree) → IsAutoOf auto.old t → IfOk result (λ spans. AreSpans text.now spans.items (pieces_of (Expression t) newlines text.now)) }
+    ensures ok { (t : Tree) → IsAutoOf auto.old t → IfOk result
+        (λ spans. AreSpans text.now spans.items (pieces_of (Expression t) newlines text.now)) }
     ensures kept { (t : Tree) → IsAutoOf auto.old t → IsAutoOf auto.new t }
 {
     let mut spans = Vec::new(alloc);
@@ -155,7 +163,8 @@ pub fn split_into(
     newlines: bool,
 ) -> Result<(), Stop>
     requires { IsAnySep sep.old }
-    ensures ok { (s : Separator) → IsSep sep.old s → OnOk result (AreSpans text.now spans.new.items (pieces_of s newlines text.now)) }
+    ensures ok { (s : Separator) → IsSep sep.old s
+        → OnOk result (AreSpans text.now spans.new.items (pieces_of s newlines text.now)) }
     ensures kept { (s : Separator) → IsSep sep.old s → IsSep sep.new s }
     ensures err { IfErr result (λ stop. stop ≡ stops.NoMemory) }
 {
@@ -175,6 +184,30 @@ pub fn split_into(
     Ok(())
 }
 
+/// The same by a separator that is no expression.
+///
+/// # Errors
+///
+/// There is no memory; the parts may be any then.
+pub fn split_plain(
+    spans: &mut Vec<Span>,
+    text: &[u8],
+    by: Plain,
+    newlines: bool,
+) -> Result<(), AllocError>
+    ensures { OnOk result
+        (AreSpans text.now spans.new.items (pieces_of (separator_by by) newlines text.now)) }
+{
+    spans.clear();
+    if text.is_empty() {
+        return Ok(());
+    }
+    match by {
+        Plain::Blanks => split_by(spans, text, Marks::Blanks),
+        Plain::Byte(byte) => split_by(spans, text, byte_marks(byte, newlines)),
+    }
+}
+
 /// The fields of a text, as parts of it, as [`split_into`] has them.
 ///
 /// # Errors
@@ -187,7 +220,8 @@ pub fn split_text(
     newlines: bool,
 ) -> Result<Vec<Span>, Stop>
     requires { IsAnySep sep.old }
-    ensures ok { (s : Separator) → IsSep sep.old s → IfOk result (λ spans. AreSpans text.now spans.items (pieces_of s newlines text.now)) }
+    ensures ok { (s : Separator) → IsSep sep.old s
+        → IfOk result (λ spans. AreSpans text.now spans.items (pieces_of s newlines text.now)) }
     ensures kept { (s : Separator) → IsSep sep.old s → IsSep sep.new s }
     ensures err { IfErr result (λ stop. stop ≡ stops.NoMemory) }
 {

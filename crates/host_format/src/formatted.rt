@@ -18,8 +18,10 @@ fn put_directive<'a>(
     directive: Directive<'_>,
     values: &'a [Value],
 ) -> Result<&'a [Value], Stop>
-    ensures ok { IfOk result (λ left. AddsStep out.old.items out.new.items left.now (step (piece_is directive.entry) values.now)) }
-    ensures err { IfErr result (IsStopAfter out.old.items (text_of_step (step (piece_is directive.entry) values.now))) }
+    ensures ok { IfOk result (λ left. AddsStep out.old.items out.new.items left.now
+        (step (piece_is directive.entry) values.now)) }
+    ensures err { IfErr result
+        (IsStopAfter out.old.items (text_of_step (step (piece_is directive.entry) values.now))) }
 {
     match directive {
         Directive::Percent => {

@@ -17,9 +17,9 @@ mod substitution;
 mod text;
 
 pub use eres::expression;
-pub use fields::{split_by_expression, split_into, split_text};
+pub use fields::{split_by_expression, split_into, split_plain, split_text};
 pub use formatted::{format, format_into};
-pub use sep::Sep;
+pub use sep::{Plain, Sep};
 pub use span::Span;
 pub use substitution::{Substituted, substitute};
 pub use text::{index_of, lower, substr, upper};

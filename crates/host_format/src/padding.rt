@@ -78,7 +78,8 @@ impl<'a> Parts<'a> {
     /// The same with zeros before the digits up to a width.
     fn filled(self, width: u16) -> Parts<'a>
         ensures front { result.front.now ≡ self.entry.front.now }
-        ensures body { body_text result ≡ filled (width - length self.entry.front.now) (body_text self.entry) }
+        ensures body { body_text result
+            ≡ filled (width - length self.entry.front.now) (body_text self.entry) }
     {
         let bare = Parts { zeros: 0, ..self };
         let zeros = self.zeros.max(bare.gap(width));
@@ -117,8 +118,10 @@ pub(crate) fn put_padded(
     conversion: Conversion<'_>,
     parts: Parts<'_>,
 ) -> Result<(), Stop>
-    ensures ok { OnOk result (Adds out.old.items out.new.items (padded (conversion_is conversion.entry) (parts_text parts.entry))) }
-    ensures err { IfErr result (IsPast (out.old.items ++ padded (conversion_is conversion.entry) (parts_text parts.entry))) }
+    ensures ok { OnOk result (Adds out.old.items out.new.items
+        (padded (conversion_is conversion.entry) (parts_text parts.entry))) }
+    ensures err { IfErr result (IsPast
+        (out.old.items ++ padded (conversion_is conversion.entry) (parts_text parts.entry))) }
 {
     let gap = parts.gap(conversion.width);
     if conversion.has(b'-') {
@@ -137,8 +140,10 @@ pub(crate) fn put_number(
     precision: Option<u16>,
     parts: Parts<'_>,
 ) -> Result<(), Stop>
-    ensures ok { OnOk result (Adds out.old.items out.new.items (number_text (conversion_is conversion.entry) precision parts.entry.front.now (body_text parts.entry))) }
-    ensures err { IfErr result (IsPast (out.old.items ++ number_text (conversion_is conversion.entry) precision parts.entry.front.now (body_text parts.entry))) }
+    ensures ok { OnOk result (Adds out.old.items out.new.items (number_text
+        (conversion_is conversion.entry) precision parts.entry.front.now (body_text parts.entry))) }
+    ensures err { IfErr result (IsPast (out.old.items ++ number_text
+        (conversion_is conversion.entry) precision parts.entry.front.now (body_text parts.entry))) }
 {
     let is_filled = precision.is_none() && conversion.has(b'0') && !conversion.has(b'-');
     let parts = if is_filled {

@@ -9,9 +9,11 @@ use memchr::memchr2;
 
 /// Adds what a backslash before this text stands for, and gives what is left.
 fn put_escaped<'a>(out: &mut Vec<u8>, by: &'a [u8]) -> Result<&'a [u8], Stop>
-    ensures ok { (matched : List ℕ) → IfOk result (λ rest. out.new.items ++ replacement matched rest.now ≡ out.old.items ++ escaped matched by.now) }
+    ensures ok { (matched : List ℕ) → IfOk result (λ rest. out.new.items ++ replacement matched
+        rest.now ≡ out.old.items ++ escaped matched by.now) }
     ensures left { IfOk result (λ rest. length rest.now ≤ length by.now) }
-    ensures err { (matched : List ℕ) → IfErr result (IsPast (out.old.items ++ escaped matched by.now)) }
+    ensures err { (matched : List ℕ)
+        → IfErr result (IsPast (out.old.items ++ escaped matched by.now)) }
 {
     match by {
         [byte, rest @ ..] if *byte == b'&' || *byte == b'\\' => {

@@ -1,8 +1,8 @@
 //! What stands between fields.
-ghost use Rattle.std.specs.Prelude.{IfErr, IfNone, IfOk, IfSome};
+ghost use Rattle.std.specs.Prelude.{◌≡◌, IfErr, IfNone, IfOk, IfSome, Ok};
 ghost use Rattle.sem_primitives.specs.Fields.{separator_of};
 ghost use Rattle.host_format.specs.Outcomes.{IsStopOf};
-ghost use Rattle.host_format.specs.Separators.{IsAnySep, IsLong, Separates};
+ghost use Rattle.host_format.specs.Separators.{IsAnySep, IsLong, Separates, separator_by};
 
 use crate::eres::expression;
 use awk_values::Stop;
@@ -20,6 +20,33 @@ pub enum Sep {
     Byte(u8),
     /// The matches of an expression that are not empty.
     Ere(Auto),
+}
+
+/// What stands between fields where that is no expression, and some byte is no field.
+#[derive(Clone, Copy, Debug, Drop)]
+pub enum Plain {
+    /// Runs of spaces, tabs and newlines, as [`Sep::Blanks`].
+    Blanks,
+    /// Each of these bytes.
+    Byte(u8),
+}
+
+impl Plain {
+    /// What a separator's text means, where it has one byte.
+    pub fn of(text: &[u8]) -> Option<Plain>
+        ensures { IfSome result (λ by. separator_of text.now ≡ Ok (separator_by by)) }
+    {
+        match text {
+            [byte] => {
+                if *byte == b' ' {
+                    Some(Plain::Blanks)
+                } else {
+                    Some(Plain::Byte(*byte))
+                }
+            }
+            _ => None,
+        }
+    }
 }
 
 impl Sep {

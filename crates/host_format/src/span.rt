@@ -13,7 +13,9 @@ pub struct Span {
 
 /// Adds a part.
 pub(crate) fn push(spans: &mut Vec<Span>, start: usize, end: usize) -> Result<(), AllocFailed<Span>>
-    ensures { (text : List ℕ) (rest total : List (List ℕ)) → start ≤ end → end ≤ length text → IsSoFar text spans.old.items (slice_range text start end ∷ rest) total → OnOk result (IsSoFar text spans.new.items rest total) }
+    ensures { (text : List ℕ) (rest total : List (List ℕ)) → start ≤ end → end ≤ length text
+        → IsSoFar text spans.old.items (slice_range text start end ∷ rest) total
+        → OnOk result (IsSoFar text spans.new.items rest total) }
 {
     spans.push(Span { start, end })
 }

@@ -41,8 +41,10 @@ fn next_place(
     last: Option<usize>,
 ) -> Result<Option<(usize, usize)>, AllocError>
     requires auto { IsAuto auto.old }
-    ensures found { (t : Tree) → IsAutoOf auto.old t → IfOk result (IsNextPlace t text.now at last) }
-    ensures inside { IfOk result (λ found. IfSome found (λ m. (at ≤ m.0) × (m.0 ≤ m.1) × (m.1 ≤ length text.now))) }
+    ensures found { (t : Tree) → IsAutoOf auto.old t
+        → IfOk result (IsNextPlace t text.now at last) }
+    ensures inside { IfOk result
+        (λ found. IfSome found (λ m. (at ≤ m.0) × (m.0 ≤ m.1) × (m.1 ≤ length text.now))) }
     ensures kept { (t : Tree) → IsAutoOf auto.old t → IsAutoOf auto.new t }
     ensures auto { IsAuto auto.new }
 {
@@ -85,8 +87,10 @@ fn put_place(
     requires from { from ≤ place.0 }
     requires start { place.0 ≤ place.1 }
     requires end { place.1 ≤ length text.now }
-    ensures ok { OnOk result (out.new.items ≡ out.old.items ++ (slice_range text.now from place.0 ++ replacement (slice_range text.now place.0 place.1) by.now)) }
-    ensures err { IfErr result (IsPast (out.old.items ++ (slice_range text.now from place.0 ++ replacement (slice_range text.now place.0 place.1) by.now))) }
+    ensures ok { OnOk result (out.new.items ≡ out.old.items ++ (slice_range text.now from place.0
+        ++ replacement (slice_range text.now place.0 place.1) by.now)) }
+    ensures err { IfErr result (IsPast (out.old.items ++ (slice_range text.now from place.0
+        ++ replacement (slice_range text.now place.0 place.1) by.now))) }
 {
     put(out, &text[from..place.0])?;
     put_replacement(out, &text[place.0..place.1], by)
@@ -96,9 +100,11 @@ fn put_place(
 fn put_all(out: &mut Vec<u8>, auto: &mut Auto, by: &[u8], text: &[u8]) -> Result<usize, Stop>
     requires auto { IsAuto auto.old }
     requires empty { out.old.items ≡ [] }
-    ensures ok { (t : Tree) → IsAutoOf auto.old t → IfOk result (λ count. IsReplaced t by.now text.now true count out.new.items) }
+    ensures ok { (t : Tree) → IsAutoOf auto.old t
+        → IfOk result (λ count. IsReplaced t by.now text.now true count out.new.items) }
     ensures kept { (t : Tree) → IsAutoOf auto.old t → IsAutoOf auto.new t }
-    ensures err { (t : Tree) → IsAutoOf auto.old t → IfErr result (IsPast (replaced text.now by.now 0 (places_of t text.now true))) }
+    ensures err { (t : Tree) → IsAutoOf auto.old t
+        → IfErr result (IsPast (replaced text.now by.now 0 (places_of t text.now true))) }
 {
     let mut count = 0;
     let mut from = 0;
@@ -119,9 +125,11 @@ fn put_all(out: &mut Vec<u8>, auto: &mut Auto, by: &[u8], text: &[u8]) -> Result
 fn put_first(out: &mut Vec<u8>, auto: &mut Auto, by: &[u8], text: &[u8]) -> Result<usize, Stop>
     requires auto { IsAuto auto.old }
     requires empty { out.old.items ≡ [] }
-    ensures ok { (t : Tree) → IsAutoOf auto.old t → IfOk result (λ count. IsReplaced t by.now text.now false count out.new.items) }
+    ensures ok { (t : Tree) → IsAutoOf auto.old t
+        → IfOk result (λ count. IsReplaced t by.now text.now false count out.new.items) }
     ensures kept { (t : Tree) → IsAutoOf auto.old t → IsAutoOf auto.new t }
-    ensures err { (t : Tree) → IsAutoOf auto.old t → IfErr result (IsPast (replaced text.now by.now 0 (places_of t text.now false))) }
+    ensures err { (t : Tree) → IsAutoOf auto.old t
+        → IfErr result (IsPast (replaced text.now by.now 0 (places_of t text.now false))) }
 {
     let Some(place) = next_place(auto, text, 0, None)? else {
         put(out, text)?;
@@ -142,9 +150,11 @@ fn put_replaced(
 ) -> Result<usize, Stop>
     requires auto { IsAuto auto.old }
     requires empty { out.old.items ≡ [] }
-    ensures ok { (t : Tree) → IsAutoOf auto.old t → IfOk result (λ count. IsReplaced t by.now text.now all count out.new.items) }
+    ensures ok { (t : Tree) → IsAutoOf auto.old t
+        → IfOk result (λ count. IsReplaced t by.now text.now all count out.new.items) }
     ensures kept { (t : Tree) → IsAutoOf auto.old t → IsAutoOf auto.new t }
-    ensures err { (t : Tree) → IsAutoOf auto.old t → IfErr result (IsPast (replaced text.now by.now 0 (places_of t text.now all))) }
+    ensures err { (t : Tree) → IsAutoOf auto.old t
+        → IfErr result (IsPast (replaced text.now by.now 0 (places_of t text.now all))) }
 {
     if all {
         put_all(out, auto, by, text)
@@ -167,11 +177,13 @@ pub fn substitute(
     all: bool,
 ) -> Result<Substituted, Stop>
     requires { IsAuto auto.old }
-    ensures ok { (t : Tree) → IsAutoOf auto.old t → IfOk result (λ new. substitution t by.now text.now all ≡ Ok (new.count, new.text)) }
+    ensures ok { (t : Tree) → IsAutoOf auto.old t
+        → IfOk result (λ new. substitution t by.now text.now all ≡ Ok (new.count, new.text)) }
     ensures kept { (t : Tree) → IsAutoOf auto.old t → IsAutoOf auto.new t }
-    ensures err { (t : Tree) → IsAutoOf auto.old t → IfErr result (IsStopOf (substitution t by.now text.now all)) }
+    ensures err { (t : Tree) → IsAutoOf auto.old t
+        → IfErr result (IsStopOf (substitution t by.now text.now all)) }
 {
-    let mut out = Vec::new(alloc);
+    let mut out = Vec::with_capacity(alloc, text.len())?;
     let count = put_replaced(&mut out, auto, by, text, all)?;
     let text = Bytes::from_vec(out)?;
     Ok(Substituted { count, text })

@@ -11,7 +11,8 @@ use std::alloc::Global;
 /// How many of the text's places, counted from 1, lie before this one.
 fn places_before(text: &[u8], place: i128) -> usize
     ensures within { result ≤ length text.now }
-    ensures before { (k : ℕ) → k ≤ length text.now → 1 ≤ k → nat_le k result ≡ int_lt (pos k) place }
+    ensures before { (k : ℕ) → k ≤ length text.now → 1 ≤ k → nat_le k result
+        ≡ int_lt (pos k) place }
 {
     if place < 1 {
         return 0;
@@ -25,7 +26,8 @@ fn places_before(text: &[u8], place: i128) -> usize
 /// How many of the text's places, counted from 1, lie before the end of a part.
 fn places_before_end(text: &[u8], start: i64, len: Option<i64>) -> usize
     ensures within { result ≤ length text.now }
-    ensures before { (k : ℕ) → k ≤ length text.now → 1 ≤ k → nat_le k result ≡ is_before_end start len k }
+    ensures before { (k : ℕ) → k ≤ length text.now → 1 ≤ k → nat_le k result
+        ≡ is_before_end start len k }
 {
     match len {
         Some(len) => places_before(text, i128::from(start) + i128::from(len)),

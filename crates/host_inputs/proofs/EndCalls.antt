@@ -7,7 +7,7 @@ use Rattle.wasm_store.specs.declared.trap.TrapKind.{TrapKind}
 use Rattle.wasm_store.specs.declared.word.Word.{Word}
 use Rattle.host_step.specs.Arguments.{and_then, no_more}
 use Rattle.host_step.specs.HostStep.{carried}
-use Rattle.host_step.specs.declared.import.Import.TheVariants.{Of}
+use Rattle.host_imports.specs.declared.import.Import.TheVariants.{Of}
 use Rattle.host_values.specs.declared.reply.Refusal.TheVariants as why
 use Rattle.host_elements.specs.Calls.{IsTableCall}
 use Rattle.host_elements.specs.Forms.{HostForm, state_of}

@@ -15,13 +15,14 @@ use Rattle.wasm_store.specs.declared.trap.TrapKind.{TrapKind}
 use Rattle.wasm_store.specs.declared.word.Word.{Word}
 use Rattle.wasm_store.specs.declared.word.Word.TheVariants.{I32}
 use Rattle.world_core.specs.WorldState.{Action, Outside, State}
-use Rattle.host_step.specs.Answers.{input_code, refusal}
+use Rattle.host_imports.specs.Codes.{input_code}
+use Rattle.host_step.specs.Answers.{refusal}
 use Rattle.host_step.specs.Arguments.{and_then}
 use Rattle.host_step.specs.HostState.{HostState, Names}
 use Rattle.host_step.specs.HostStep.{Acts, acts, carried}
-use Rattle.host_step.specs.Imports.{import_answer, spends}
+use Rattle.host_imports.specs.Imports.{import_answer, spends}
 use Rattle.host_step.specs.Worlds.{HasLine, HasPending, KeepsOthers, Wanted, reads_line, reads_main}
-use Rattle.host_step.specs.declared.import.Import.TheVariants.{Of}
+use Rattle.host_imports.specs.declared.import.Import.TheVariants.{Of}
 use Rattle.host_streams.specs.OpenFiles.{names_of}
 use Rattle.host_texts.specs.declared.texts.Texts.{Texts}
 use Rattle.host_values.specs.Calls.{names_with}

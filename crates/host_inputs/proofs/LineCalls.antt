@@ -16,7 +16,7 @@ use Rattle.host_step.specs.Arguments.{and_then, no_more}
 use Rattle.host_step.specs.HostStep.{StepOf, carried, primitive_acts, where_fit}
 use Rattle.host_step.specs.Tables.{Table}
 use Rattle.host_step.specs.Worlds.{Called, Wanted, with_output}
-use Rattle.host_step.specs.declared.import.Import.TheVariants.{Of}
+use Rattle.host_imports.specs.declared.import.Import.TheVariants.{Of}
 use Rattle.host_texts.specs.declared.texts.Texts.{Texts}
 use Rattle.host_values.specs.Calls.{Gives, spare}
 use Rattle.host_values.specs.Evaluations.{Values}

@@ -13,12 +13,13 @@ use Rattle.wasm_store.specs.declared.trap.TrapKind.{TrapKind}
 use Rattle.wasm_store.specs.declared.word.Word.{Word}
 use Rattle.wasm_store.specs.declared.word.Word.TheVariants.{I32}
 use Rattle.world_core.specs.WorldState.{Action}
-use Rattle.host_step.specs.Answers.{FreeFor, encode, input_code, refusal}
+use Rattle.host_imports.specs.Codes.{input_code}
+use Rattle.host_step.specs.Answers.{FreeFor, encode, refusal}
 use Rattle.host_step.specs.HostState.{HostState, Names}
 use Rattle.host_step.specs.HostStep.{Acts, Refuses, StepOf, carried, come}
-use Rattle.host_step.specs.Imports.{import_answer, result_of}
+use Rattle.host_imports.specs.Imports.{import_answer, result_of}
 use Rattle.host_step.specs.Worlds.{Anyhow, AnyhowIf, Called, IsRead, ReadBy, Wanted, reads, with_output}
-use Rattle.host_step.specs.declared.import.Import.{Import}
+use Rattle.host_imports.specs.declared.import.Import.{Import}
 use Rattle.host_elements.specs.Forms.{HostForm, IsHeld, Past, state_of}
 use Rattle.host_elements.proofs.Steps.{IsPast, acts_of, done_is_some, faults_of, goes, keeps_fault, state_with, traps, unrefused}
 use Rattle.host_meaning.specs.WorldCalls.{LeadsIn}

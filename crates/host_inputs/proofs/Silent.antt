@@ -7,7 +7,7 @@ use Rattle.wasm_store.specs.declared.word.Word.{Word}
 use Rattle.world_core.specs.WorldState.{Action}
 use Rattle.host_step.specs.HostStep.{StepOf, carried}
 use Rattle.host_step.specs.Worlds.{AnyhowIf, reads, with_output}
-use Rattle.host_step.specs.declared.import.Import.{Import}
+use Rattle.host_imports.specs.declared.import.Import.{Import}
 use Rattle.host_values.specs.declared.reply.Refusal.TheVariants as why
 use Rattle.host_elements.specs.Forms.{HostForm, Past, state_of}
 use Rattle.host_elements.proofs.Steps.{traps, unrefused}

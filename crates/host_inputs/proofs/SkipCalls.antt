@@ -13,7 +13,7 @@ use Rattle.host_step.specs.Arguments.{and_then, no_more}
 use Rattle.host_step.specs.HostState.{HostState, Names}
 use Rattle.host_step.specs.HostStep.{Acts, StepOf, carried, primitive_acts}
 use Rattle.host_step.specs.Worlds.{Called, IsStepInSomeWorld, nothing_left, unseen, unseen_inner, unseen_main, unseen_reading, with_output}
-use Rattle.host_step.specs.declared.import.Import.TheVariants.{Of}
+use Rattle.host_imports.specs.declared.import.Import.TheVariants.{Of}
 use Rattle.host_streams.specs.Mains.{main_of, operands_of, reading_of}
 use Rattle.host_streams.specs.OpenFiles.{readers_in}
 use Rattle.host_streams.specs.declared.main_input.Found.{Found}

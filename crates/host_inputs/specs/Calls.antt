@@ -5,7 +5,7 @@ use Rattle.wasm_store.specs.declared.word.Word.TheVariants.{I32}
 use Rattle.awk_values.specs.declared.fault.Stop.{Stop}
 use Rattle.awk_values.specs.declared.fault.Stop.TheVariants.{Fault as IsFault, NoMemory}
 use Rattle.sem_primitives.specs.declared.answers.InputAnswer.{InputAnswer}
-use Rattle.host_step.specs.Answers.{input_code}
+use Rattle.host_imports.specs.Codes.{input_code}
 use Rattle.host_values.specs.Evaluations.{Values}
 use Rattle.host_values.specs.declared.reply.Refusal.{Refusal}
 use Rattle.host_values.specs.declared.reply.Refusal.TheVariants as why

@@ -29,7 +29,8 @@ with_input i state inner = with_names i.names (record inner {
 
 -- that before anything is read, with these names
 abbrev pub input_at_start : Names → State → Inner → Inner
-input_at_start names state inner = with_names names (record inner { readers = []; writers = []; main = main_at_start (state.readers 0); in_end = false; line = None })
+input_at_start names state inner = with_names names
+    (record inner { readers = []; writers = []; main = main_at_start (state.readers 0); in_end = false; line = None })
 
 -- and with these texts
 abbrev pub with_tables : Texts → Input → State → Inner → Inner

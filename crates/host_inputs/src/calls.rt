@@ -3,8 +3,8 @@ ghost use Rattle.std.specs.Prelude.{◌≡◌, ℕ, List, [], None};
 ghost use Rattle.std.specs.FinMap as map;
 ghost use Rattle.world_core.specs.WorldState.{State};
 ghost use Rattle.sem_primitives.specs.declared.table.Primitive.TheVariants as row;
-ghost use Rattle.host_step.specs.Answers.{input_code};
-ghost use Rattle.host_step.specs.declared.import.Import.{Import};
+ghost use Rattle.host_imports.specs.Codes.{input_code};
+ghost use Rattle.host_imports.specs.declared.import.Import.{Import};
 ghost use Rattle.host_streams.specs.OpenFiles.{WritersGo};
 ghost use Rattle.host_texts.specs.declared.texts.Texts.{Texts as AnyTexts};
 ghost use Rattle.host_values.specs.Calls.{spare};
@@ -76,7 +76,10 @@ pub fn read_main<W: World>(
     ensures goes { W.tells → WritersGo input.new.files.writers.items (W.state world.new) }
     ensures outside { W.tells → (W.state world.new).outside ≡ (W.state world.old).outside }
     ensures rest { IsMovedOn input.old input.new }
-    ensures called { (f : HostForm) (memory : List ℕ) → f.fault ≡ None → f.arrays ≡ arrays.now → IsCalled W.tells (Import.Of (main_primitive how)) (over_world texts.old input.old (W.state world.old) f) words.now memory result (shown_after result (over_world texts.old input.old (W.state world.old) f) (over_world texts.new input.new (W.state world.new) f)) [] }
+    ensures called { (f : HostForm) (memory : List ℕ) → f.fault ≡ None → f.arrays ≡ arrays.now
+        → IsCalled W.tells (Import.Of (main_primitive how)) (over_world texts.old input.old (W.state
+        world.old) f) words.now memory result (shown_after result (over_world texts.old input.old
+        (W.state world.old) f) (over_world texts.new input.new (W.state world.new) f)) [] }
 {
     if let Err(kind) = ends(words) {
         return Err(Refusal::Trap(kind));
@@ -118,7 +121,11 @@ pub fn read_file<W: World>(
     ensures outside { W.tells → (W.state world.new).outside ≡ (W.state world.old).outside }
     ensures rest { IsReadOn input.old input.new }
     ensures spare { map.get handles.old spare ≡ None → map.get handles.new spare ≡ None }
-    ensures called { (f : HostForm) (memory : List ℕ) → f.fault ≡ None → IsCalled W.tells (Import.Of (file_primitive to)) (with_values handles.old (over_world texts.old input.old (W.state world.old) f)) words.now memory result (shown_after result (with_values handles.old (over_world texts.old input.old (W.state world.old) f)) (with_values handles.new (over_world texts.new input.new (W.state world.new) f))) [] }
+    ensures called { (f : HostForm) (memory : List ℕ) → f.fault ≡ None
+        → IsCalled W.tells (Import.Of (file_primitive to)) (with_values handles.old
+        (over_world texts.old input.old (W.state world.old) f)) words.now memory result (shown_after
+        result (with_values handles.old (over_world texts.old input.old (W.state world.old) f))
+        (with_values handles.new (over_world texts.new input.new (W.state world.new) f))) [] }
 {
     let (handle, value) = match only_value(handles, words) {
         Ok(read) => read,
@@ -145,7 +152,10 @@ pub fn line<W: World>(
     requires { map.get handles.old spare ≡ None }
     ensures rest { input.new ≡ with_line input.new.line input.old }
     ensures spare { map.get handles.new spare ≡ None }
-    ensures called { (f : HostForm) (memory : List ℕ) (texts : AnyTexts) → f.fault ≡ None → IsCalled W.tells (Import.Of row.Line) (with_values handles.old (over_world texts input.old (W.state _world.now) f)) words.now memory result (with_values handles.new (over_world texts input.new (W.state _world.now) f)) [] }
+    ensures called { (f : HostForm) (memory : List ℕ) (texts : AnyTexts) → f.fault ≡ None
+        → IsCalled W.tells (Import.Of row.Line) (with_values handles.old
+        (over_world texts input.old (W.state _world.now) f)) words.now memory result
+        (with_values handles.new (over_world texts input.new (W.state _world.now) f)) [] }
 {
     if let Err(kind) = ends(words) {
         return Err(Refusal::Trap(kind));
@@ -163,7 +173,9 @@ pub fn line<W: World>(
 /// A trap where there are words, which changes nothing.
 pub fn begin_end(input: &mut Input, words: &[Word]) -> Result<Option<Word>, Refusal>
     ensures rest { input.new ≡ with_end input.new.in_end input.old }
-    ensures step { (f : HostForm) (memory : List ℕ) (texts : AnyTexts) (state : State) → f.fault ≡ None → IsTableCall (Import.Of row.BeginEnd) (over_world texts input.old state f) words.now memory result (over_world texts input.new state f) }
+    ensures step { (f : HostForm) (memory : List ℕ) (texts : AnyTexts) (state : State) → f.fault
+        ≡ None → IsTableCall (Import.Of row.BeginEnd) (over_world texts input.old state f) words.now
+        memory result (over_world texts input.new state f) }
 {
     if let Err(kind) = ends(words) {
         return Err(Refusal::Trap(kind));
@@ -188,7 +200,9 @@ pub fn next_file<W: World>(
     ensures goes { W.tells → WritersGo input.new.files.writers.items (W.state world.new) }
     ensures outside { W.tells → (W.state world.new).outside ≡ (W.state world.old).outside }
     ensures rest { input.new ≡ with_main_input input.new.main input.old }
-    ensures called { (f : HostForm) (memory : List ℕ) (texts : AnyTexts) → f.fault ≡ None → IsCalled W.tells (Import.Of row.NextFile) (over_world texts input.old (W.state world.old) f) words.now memory result (over_world texts input.new (W.state world.new) f) [] }
+    ensures called { (f : HostForm) (memory : List ℕ) (texts : AnyTexts) → f.fault ≡ None → IsCalled
+        W.tells (Import.Of row.NextFile) (over_world texts input.old (W.state world.old) f)
+        words.now memory result (over_world texts input.new (W.state world.new) f) [] }
 {
     if let Err(kind) = ends(words) {
         return Err(Refusal::Trap(kind));

@@ -13,9 +13,10 @@ ghost use Rattle.host_inputs.specs.States.{HoldsInput, with_tables};
 
 use crate::input::{Input, Keep};
 use crate::main_record::keep;
-use awk_values::{Stop, to_text};
+use awk_values::Stop;
 use host_streams::FileNext;
 use host_texts::Texts;
+use host_values::value_text;
 use sem_primitives::{InputAnswer, Special};
 use std::alloc::Global;
 use world_core::World;
@@ -32,12 +33,15 @@ fn next<W: World>(
     requires goes { W.tells → WritersGo input.old.files.writers.items (W.state world.old) }
     ensures held { HoldsInput input.new (W.kinds world.new) }
     ensures goes { W.tells → WritersGo input.new.files.writers.items (W.state world.new) }
-    ensures told { W.tells → (inner : Inner) (keep : List ℕ → Inner → Result (Inner × AnyAnswer) AnyFault) (value : AnyValue) → text_of_value value ≡ name.now → FileGives (getline_file_by keep value (W.state world.old).outside (with_tables texts.now input.old (W.state world.old) inner)) keep result (with_tables texts.now input.new (W.state world.new) inner) }
+    ensures told { W.tells → (inner : Inner) (keep : List ℕ → Inner → Result (Inner × AnyAnswer)
+        AnyFault) (value : AnyValue) → text_of_value value ≡ name.now → FileGives (getline_file_by
+        keep value (W.state world.old).outside (with_tables texts.now input.old (W.state world.old)
+        inner)) keep result (with_tables texts.now input.new (W.state world.new) inner) }
     ensures outside { W.tells → (W.state world.new).outside ≡ (W.state world.old).outside }
     ensures rest { input.new ≡ with_files input.new.files input.old }
     ensures writers { input.new.files.writers ≡ input.old.files.writers }
 {
-    let rs = to_text(alloc, texts.specials.get(Special::Rs))?;
+    let rs = value_text(alloc, texts.specials.get(Special::Rs))?;
     input.files.file_next(world, name, rs.as_slice())
 }
 
@@ -54,7 +58,10 @@ pub(crate) fn read<W: World>(
     requires goes { W.tells → WritersGo input.old.files.writers.items (W.state world.old) }
     ensures held { HoldsInput input.new (W.kinds world.new) }
     ensures goes { W.tells → WritersGo input.new.files.writers.items (W.state world.new) }
-    ensures told { W.tells → (inner : Inner) (value : AnyValue) → text_of_value value ≡ name.now → RowGives (file_row to value (W.state world.old).outside (with_tables texts.old input.old (W.state world.old) inner)) result (with_tables texts.new input.new (W.state world.new) inner) }
+    ensures told { W.tells → (inner : Inner) (value : AnyValue) → text_of_value value ≡ name.now
+        → RowGives (file_row to value (W.state world.old).outside
+        (with_tables texts.old input.old (W.state world.old) inner)) result
+        (with_tables texts.new input.new (W.state world.new) inner) }
     ensures outside { W.tells → (W.state world.new).outside ≡ (W.state world.old).outside }
     ensures rest { IsReadOn input.old input.new }
     ensures writers { input.new.files.writers ≡ input.old.files.writers }

@@ -29,7 +29,8 @@ impl Input {
     pub fn new(alloc: Global, names: Names) -> Input
         ensures held { (kinds : ℕ → Kind) → HoldsInput result kinds }
         ensures goes { (state : State) → WritersGo result.files.writers.items state }
-        ensures begins { (state : State) (inner : Inner) → with_input result state inner ≡ input_at_start names state inner }
+        ensures begins { (state : State) (inner : Inner) → with_input result state inner
+            ≡ input_at_start names state inner }
     {
         Input {
             main: MainInput::new(alloc),

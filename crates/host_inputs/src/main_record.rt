@@ -10,11 +10,11 @@ ghost use Rattle.host_inputs.specs.Keeps.{AnswerLine, AnswerPends, GivenPends, H
 ghost use Rattle.host_inputs.specs.States.{HoldsInput, with_tables};
 
 use crate::input::{Given, Input, Keep, MainRead};
-use crate::record::{count_record, set_record};
+use crate::record::count_record;
 use crate::turn::turn;
 use awk_values::{Bytes, Fault, Stop, Value};
 use host_streams::Operands;
-use host_texts::Texts;
+use host_texts::{Texts, put_record};
 use sem_primitives::InputAnswer;
 use std::alloc::Global;
 use world_core::World;
@@ -31,7 +31,9 @@ fn given<W: World, O: Operands>(
     requires goes { W.tells → WritersGo input.old.files.writers.items (W.state world.old) }
     ensures held { HoldsInput input.new (W.kinds world.new) }
     ensures goes { W.tells → WritersGo input.new.files.writers.items (W.state world.new) }
-    ensures told { W.tells → (inner : Inner) → OffersTexts (O.text operands.now) inner → GivesMain (main_input (W.state world.old).outside (with_tables texts.old input.old (W.state world.old) inner)) result (with_tables texts.new input.new (W.state world.new) inner) }
+    ensures told { W.tells → (inner : Inner) → OffersTexts (O.text operands.now) inner → GivesMain
+        (main_input (W.state world.old).outside (with_tables texts.old input.old (W.state world.old)
+        inner)) result (with_tables texts.new input.new (W.state world.new) inner) }
     ensures outside { W.tells → (W.state world.new).outside ≡ (W.state world.old).outside }
     ensures rest { IsMoved input.old input.new }
     ensures substituted { KeepsSubstituted texts.old texts.new }
@@ -54,14 +56,17 @@ pub(crate) fn keep(
     text: Bytes,
     to: Keep,
 ) -> Result<(), Stop>
-    ensures ok { OnOk result ((state : State) (inner : Inner) → kept_by to text (with_tables texts.old input.old state inner) ≡ Ok (with_tables texts.new input.new state inner, InputAnswer.Read)) }
-    ensures err { IfErr result (λ stop. (state : State) (inner : Inner) → IsStopOf (kept_by to text (with_tables texts.old input.old state inner)) stop) }
+    ensures ok { OnOk result ((state : State) (inner : Inner)
+        → kept_by to text (with_tables texts.old input.old state inner)
+        ≡ Ok (with_tables texts.new input.new state inner, InputAnswer.Read)) }
+    ensures err { IfErr result (λ stop. (state : State) (inner : Inner)
+        → IsStopOf (kept_by to text (with_tables texts.old input.old state inner)) stop) }
     ensures rest { input.new ≡ with_line input.new.line input.old }
     ensures line { OnOk result (HasLineBy to input.old input.new) }
     ensures substituted { KeepsSubstituted texts.old texts.new }
 {
     match to {
-        Keep::Record => set_record(alloc, texts, text),
+        Keep::Record => put_record(alloc, texts, text),
         Keep::Line => {
             input.line = Some(Value::StrNum(text));
             Ok(())
@@ -87,8 +92,11 @@ fn take(
     text: Bytes,
     how: MainRead,
 ) -> Result<(), Stop>
-    ensures ok { OnOk result ((state : State) (inner : Inner) → answer_of how (with_tables texts.old input.old state inner, main_of_given (Given.Taken text)) ≡ Ok (with_tables texts.new input.new state inner, InputAnswer.Read)) }
-    ensures err { IfErr result (λ stop. (state : State) (inner : Inner) → IsStopOf (answer_of how (with_tables texts.old input.old state inner, main_of_given (Given.Taken text))) stop) }
+    ensures ok { OnOk result ((state : State) (inner : Inner) → answer_of how
+        (with_tables texts.old input.old state inner, main_of_given (Given.Taken text))
+        ≡ Ok (with_tables texts.new input.new state inner, InputAnswer.Read)) }
+    ensures err { IfErr result (λ stop. (state : State) (inner : Inner) → IsStopOf (answer_of how
+        (with_tables texts.old input.old state inner, main_of_given (Given.Taken text))) stop) }
     ensures rest { input.new ≡ with_line input.new.line input.old }
     ensures line { OnOk result (HasLineBy (keep_of how) input.old input.new) }
     ensures substituted { KeepsSubstituted texts.old texts.new }
@@ -117,7 +125,9 @@ fn answer(
     given: Given,
     how: MainRead,
 ) -> Result<InputAnswer, Stop>
-    ensures told { (state : State) (inner : Inner) → RowGives (answer_of how (with_tables texts.old input.old state inner, main_of_given given)) result (with_tables texts.new input.new state inner) }
+    ensures told { (state : State) (inner : Inner) → RowGives
+        (answer_of how (with_tables texts.old input.old state inner, main_of_given given)) result
+        (with_tables texts.new input.new state inner) }
     ensures rest { input.new ≡ with_line input.new.line input.old }
     ensures line { AnswerLine (keep_of how) result input.old input.new }
     ensures pends { AnswerTells given result }
@@ -158,7 +168,9 @@ pub(crate) fn read<W: World, O: Operands>(
     requires goes { W.tells → WritersGo input.old.files.writers.items (W.state world.old) }
     ensures held { HoldsInput input.new (W.kinds world.new) }
     ensures goes { W.tells → WritersGo input.new.files.writers.items (W.state world.new) }
-    ensures told { W.tells → (inner : Inner) → OffersTexts (O.text operands.now) inner → RowGives (main_row how (W.state world.old).outside (with_tables texts.old input.old (W.state world.old) inner)) result (with_tables texts.new input.new (W.state world.new) inner) }
+    ensures told { W.tells → (inner : Inner) → OffersTexts (O.text operands.now) inner → RowGives
+        (main_row how (W.state world.old).outside (with_tables texts.old input.old (W.state
+        world.old) inner)) result (with_tables texts.new input.new (W.state world.new) inner) }
     ensures outside { W.tells → (W.state world.new).outside ≡ (W.state world.old).outside }
     ensures rest { IsMovedOn input.old input.new }
     ensures line { AnswerLine (keep_of how) result input.old input.new }

@@ -1,34 +1,33 @@
 //! The record, and the special variables that count and hold.
 ghost use Rattle.std.specs.Prelude.{◌≡◌, ◌≢◌, ◌==◌, cond, Err, IfErr, IfOk, Ok, OnErr, OnOk, pos};
 ghost use Rattle.awk_values.specs.Operators.{sum};
-ghost use Rattle.sem_primitives.specs.FieldMeaning.{with_record};
 ghost use Rattle.sem_primitives.specs.InputMeaning.{counted_by, counted_record};
 ghost use Rattle.sem_primitives.specs.SharedState.{Inner, with_special};
 ghost use Rattle.host_inputs.specs.Counts.{count_after, next_count};
 ghost use Rattle.sem_primitives.specs.Constants.{special_number};
-ghost use Rattle.host_format.specs.Outcomes.{IsStopOf};
 ghost use Rattle.host_texts.specs.States.{specials_of, with_texts};
 ghost use Rattle.host_inputs.specs.Keeps.{KeepsSubstituted};
 
-use awk_values::{Bytes, Fault, Stop, Value, to_number, to_text};
+use awk_text::MAX_NUMBER;
+use awk_values::{Fault, Value, to_number};
 use host_texts::Texts;
 use sem_primitives::Special;
-use std::alloc::Global;
 
-/// The greatest number.
-const LARGEST: i64 = 1 << 53;
+const LARGEST: i64 = MAX_NUMBER as i64;
 
 /// The value of a special variable, among all of them, is another.
 #[tactic(auto, using(crate::proofs::SpecialNumbers::number_within))]
 fn put(values: &mut [Value; 14], special: Special, value: Value)
-    ensures { specials_of values.new ≡ (λ t. cond (special_number special == special_number t) value (specials_of values.old t)) }
+    ensures { specials_of values.new ≡ (λ t. cond (special_number special == special_number t) value
+        (specials_of values.old t)) }
 {
     values[usize::from(special.number())] = value;
 }
 
 /// Gives a special variable another value; NF is not kept so.
 pub(crate) fn give(texts: &mut Texts, special: Special, value: Value)
-    ensures set { (inner : Inner) → with_texts texts.new inner ≡ with_special special value (with_texts texts.old inner) }
+    ensures set { (inner : Inner) → with_texts texts.new inner
+        ≡ with_special special value (with_texts texts.old inner) }
     ensures substituted { KeepsSubstituted texts.old texts.new }
 {
     put(&mut texts.specials.values, special, value);
@@ -71,8 +70,10 @@ fn next_count(value: &Value) -> Result<Value, Fault>
 /// A special variable counts a record, by its own number.
 fn count_by(texts: &mut Texts, special: Special) -> Result<(), Fault>
     requires { special ≢ Special.Nf }
-    ensures ok { OnOk result ((inner : Inner) → counted_by special (with_texts texts.old inner) ≡ Ok (with_texts texts.new inner)) }
-    ensures err { IfErr result (λ fault. (inner : Inner) → counted_by special (with_texts texts.old inner) ≡ Err fault) }
+    ensures ok { OnOk result ((inner : Inner) → counted_by special (with_texts texts.old inner)
+        ≡ Ok (with_texts texts.new inner)) }
+    ensures err { IfErr result
+        (λ fault. (inner : Inner) → counted_by special (with_texts texts.old inner) ≡ Err fault) }
     ensures refused { OnErr result (texts.new ≡ texts.old) }
     ensures substituted { KeepsSubstituted texts.old texts.new }
 {
@@ -83,24 +84,12 @@ fn count_by(texts: &mut Texts, special: Special) -> Result<(), Fault>
 
 /// NR counts a record, and then FNR.
 pub(crate) fn count_record(texts: &mut Texts) -> Result<(), Fault>
-    ensures ok { OnOk result ((inner : Inner) → counted_record (with_texts texts.old inner) ≡ Ok (with_texts texts.new inner)) }
-    ensures err { IfErr result (λ fault. (inner : Inner) → counted_record (with_texts texts.old inner) ≡ Err fault) }
+    ensures ok { OnOk result ((inner : Inner) → counted_record (with_texts texts.old inner)
+        ≡ Ok (with_texts texts.new inner)) }
+    ensures err { IfErr result
+        (λ fault. (inner : Inner) → counted_record (with_texts texts.old inner) ≡ Err fault) }
     ensures substituted { KeepsSubstituted texts.old texts.new }
 {
     count_by(texts, Special::Nr)?;
     count_by(texts, Special::Fnr)
-}
-
-/// Sets `$0`.
-pub(crate) fn set_record(alloc: Global, texts: &mut Texts, text: Bytes) -> Result<(), Stop>
-    ensures ok { OnOk result ((inner : Inner) → with_record text (with_texts texts.old inner) ≡ Ok (with_texts texts.new inner)) }
-    ensures err { IfErr result (λ stop. (inner : Inner) → IsStopOf (with_record text (with_texts texts.old inner)) stop) }
-    ensures substituted { KeepsSubstituted texts.old texts.new }
-{
-    let fs = to_text(alloc, texts.specials.get(Special::Fs))?;
-    let rs = to_text(alloc, texts.specials.get(Special::Rs))?;
-    match texts.held.set_whole(text, fs.as_slice(), rs.as_slice()) {
-        Ok(()) => Ok(()),
-        Err(stop) => Err(stop),
-    }
 }

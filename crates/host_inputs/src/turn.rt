@@ -15,17 +15,20 @@ ghost use Rattle.host_inputs.specs.States.{HoldsInput, with_tables};
 
 use crate::input::{Given, Input};
 use crate::record::give;
-use awk_values::{Bytes, Fault, Stop, Value, to_text};
+use awk_values::{Bytes, Fault, Stop, Value};
 use host_names::assign;
 use host_streams::{MainNext, Operands};
 use host_texts::Texts;
+use host_values::value_text;
 use sem_primitives::Special;
 use std::alloc::Global;
 use world_core::World;
 
 /// A file, or the standard input, is opened: FILENAME and FNR are set.
 fn begin(texts: &mut Texts, name: Bytes)
-    ensures set { (inner : Inner) → with_texts texts.new inner ≡ with_special AnySpecial.Fnr (AnyValue.Num (pos 0)) (with_special AnySpecial.Filename (AnyValue.StrNum name) (with_texts texts.old inner)) }
+    ensures set { (inner : Inner) → with_texts texts.new inner
+        ≡ with_special AnySpecial.Fnr (AnyValue.Num (pos 0))
+        (with_special AnySpecial.Filename (AnyValue.StrNum name) (with_texts texts.old inner)) }
     ensures substituted { KeepsSubstituted texts.old texts.new }
 {
     give(texts, Special::Filename, Value::StrNum(name));
@@ -44,14 +47,17 @@ fn next<W: World, O: Operands>(
     requires goes { W.tells → WritersGo input.old.files.writers.items (W.state world.old) }
     ensures held { HoldsInput input.new (W.kinds world.new) }
     ensures goes { W.tells → WritersGo input.new.files.writers.items (W.state world.new) }
-    ensures told { W.tells → (inner : Inner) → OffersTexts (O.text operands.now) inner → AnswerIs (main_input (W.state world.old).outside (with_tables texts.now input.old (W.state world.old) inner)) result (W.state world.old).outside (with_tables texts.now input.old (W.state world.old) inner) (with_tables texts.now input.new (W.state world.new) inner) }
+    ensures told { W.tells → (inner : Inner) → OffersTexts (O.text operands.now) inner → AnswerIs
+        (main_input (W.state world.old).outside (with_tables texts.now input.old (W.state world.old)
+        inner)) result (W.state world.old).outside (with_tables texts.now input.old
+        (W.state world.old) inner) (with_tables texts.now input.new (W.state world.new) inner) }
     ensures outside { W.tells → (W.state world.new).outside ≡ (W.state world.old).outside }
     ensures rest { input.new ≡ with_main_input input.new.main input.old }
     ensures passes { NextPasses input.old.main result input.new.main }
     ensures rests { RestsAfter result input.new.main.reading input.new.main.found }
     ensures live { AssignLive result input.new.main }
 {
-    let rs = to_text(alloc, texts.specials.get(Special::Rs))?;
+    let rs = value_text(alloc, texts.specials.get(Special::Rs))?;
     let argc = texts.specials.get(Special::Argc);
     input.main.next(world, operands, argc, rs.as_slice())
 }
@@ -79,7 +85,10 @@ pub(crate) fn turn<W: World, O: Operands>(
     requires goes { W.tells → WritersGo input.old.files.writers.items (W.state world.old) }
     ensures held { HoldsInput input.new (W.kinds world.new) }
     ensures goes { W.tells → WritersGo input.new.files.writers.items (W.state world.new) }
-    ensures told { W.tells → (inner : Inner) → OffersTexts (O.text operands.now) inner → TurnGives (main_input (W.state world.old).outside (with_tables texts.old input.old (W.state world.old) inner)) result (W.state world.old).outside (with_tables texts.new input.new (W.state world.new) inner) }
+    ensures told { W.tells → (inner : Inner) → OffersTexts (O.text operands.now) inner
+        → TurnGives (main_input (W.state world.old).outside
+        (with_tables texts.old input.old (W.state world.old) inner)) result
+        (W.state world.old).outside (with_tables texts.new input.new (W.state world.new) inner) }
     ensures outside { W.tells → (W.state world.new).outside ≡ (W.state world.old).outside }
     ensures rest { IsMoved input.old input.new }
     ensures substituted { KeepsSubstituted texts.old texts.new }

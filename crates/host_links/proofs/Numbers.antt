@@ -1,25 +1,16 @@
 -- What the table of imports gives.
-use Rattle.std.proofs.Common.{◌≡◌, ℕ, suc, ◌<◌, List, [], ◌∷◌, ◌++◌, length, take, get_or, map, Option, Some, None, refl, sym, ap, ◌∙◌, append_assoc}
+use Rattle.std.proofs.Common.{◌≡◌, ℕ, suc, ◌<◌, List, [], ◌∷◌, ◌++◌, length, take, get_or, map, Option, Some, None, refl, sym, ap, ◌∙◌}
 use Rattle.std.proofs.Math.Seq.{take-suc}
-use Rattle.std.proofs.lemmas.List.{append-nil, map-append}
+use Rattle.std.proofs.lemmas.List.{map-append}
 use Rattle.std.specs.Prelude.{slice_get}
 use Rattle.wasm_types.specs.View.{signature_of}
 use Rattle.wasm_types.specs.declared.types.FuncType.{FuncType}
-use Rattle.sem_primitives.specs.declared.sorts.Argument.{Argument}
 use Rattle.wasm_types.specs.Syntax.{Signature}
 use Rattle.std.proofs.lemmas.Option.{slice_get-map}
 use Rattle.std.specs.Option.{option_map}
-use Rattle.host_step.specs.declared.import.Import.{Import}
-use Rattle.host_step.specs.Imports.{host_types, import_type, imports, params_of, type_if_there, words_of}
+use Rattle.host_imports.specs.declared.import.Import.{Import}
+use Rattle.host_imports.specs.Imports.{host_types, import_type, imports, type_if_there}
 use Rattle.host_links.specs.Links.{signature_if}
-
-params_of-push : (xs : List Argument) (a : Argument) → params_of (xs ++ a ∷ []) ≡ params_of xs ++ words_of a
-params_of-push [] a = append-nil (words_of a)
-params_of-push (x ∷ xs) a = ap (λ r. words_of x ++ r) (params_of-push xs a) ∙ sym (append_assoc (words_of x) (params_of xs) (words_of a))
-
--- the words of one argument more
-pub params_of_next : (xs : List Argument) (i : ℕ) (d : Argument) → i < length xs → params_of (take (suc i) xs) ≡ params_of (take i xs) ++ words_of (get_or xs i d)
-params_of_next xs i d below = ap params_of (take-suc xs i d below) ∙ params_of-push (take i xs) (get_or xs i d)
 
 signature_if-map : (o : Option FuncType) → signature_if o ≡ option_map signature_of o
 signature_if-map None = refl

@@ -3,7 +3,7 @@ use Rattle.std.specs.Prelude.{◌≡◌, map, Option, Some, None}
 use Rattle.wasm_types.specs.Syntax.{Signature}
 use Rattle.wasm_types.specs.View.{signature_of}
 use Rattle.wasm_types.specs.declared.types.FuncType.{FuncType}
-use Rattle.host_step.specs.Imports.{import_type, imports}
+use Rattle.host_imports.specs.Imports.{import_type, imports}
 use Rattle.host_links.specs.declared.links.Links.TheInside.{Inside}
 
 abbrev pub signature_if : Option FuncType → Option Signature

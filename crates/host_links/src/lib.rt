@@ -1,6 +1,6 @@
-//! Finding the imports of the modules `awk1` and `awk2` by their names, and their types.
+//! Finding the imports of the modules `awk1` and `awk2` by their names.
 #![tactic(auto)]
 
 mod links;
 
-pub use links::{Links, type_of};
+pub use links::Links;

@@ -1,15 +1,14 @@
 //! Finding imports.
 ghost use Rattle.std.specs.Prelude.{◌≡◌, ◌<◌, IfOk, IfSome, Some, map, option_copied, slice_get};
-ghost use Rattle.host_step.specs.Imports.{host_finds, host_types, import_type, imports_in, number_below, number_named, params_of, result_of, with_type, words_of};
+ghost use Rattle.host_imports.specs.Imports.{host_finds, host_types, import_type, imports_in, number_below, number_named, with_type};
 ghost use Rattle.host_links.specs.Links.{signature_if};
 ghost use Rattle.wasm_model.specs.Hosts.{found_as};
 ghost use Rattle.wasm_types.specs.View.{signature_of};
 
-use host_step::{IMPORTS, Import, imports_in};
-use sem_primitives::{Answer, Argument, Sort};
+use host_imports::{IMPORTS, Import, imports_in, type_of};
 use std::alloc::{AllocError, Global};
 use std::marker::Model;
-use wasm_types::{FuncType, ValType};
+use wasm_types::FuncType;
 
 /// The types of the imports, by their numbers.
 #[derive(Drop)]
@@ -27,49 +26,6 @@ impl Model for Links {
     ghost view = { λ l. tt };
 
     ghost invariant = { HasTypes };
-}
-
-/// The words that an argument is passed as.
-fn words_of(argument: Argument) -> &'static [ValType]
-    ensures { result.now ≡ words_of argument }
-{
-    match argument {
-        Argument::Of(Sort::Number) => &[ValType::I64],
-        Argument::Place => &[ValType::I32, ValType::I32],
-        _ => &[ValType::I32],
-    }
-}
-
-#[tactic(auto, using(crate::proofs::Numbers::params_of_next))]
-fn params_of(alloc: Global, arguments: &[Argument]) -> Result<Vec<ValType>, AllocError>
-    ensures { IfOk result (λ params. params.items ≡ params_of arguments.now) }
-{
-    let mut params = Vec::new(alloc);
-    for argument in arguments {
-        params.extend_from_slice(words_of(*argument))?;
-    }
-    Ok(params)
-}
-
-/// The word that an answer is given as.
-fn result_of(answer: Answer) -> Option<ValType>
-    ensures { result ≡ result_of answer }
-{
-    match answer {
-        Answer::Nothing => None,
-        Answer::Of(Sort::Number) => Some(ValType::I64),
-        _ => Some(ValType::I32),
-    }
-}
-
-/// The type of an import: the words of its arguments, in order, and that of its answer.
-pub fn type_of(alloc: Global, import: Import) -> Result<FuncType, AllocError>
-    ensures { IfOk result (λ ty. signature_of ty ≡ import_type import) }
-{
-    Ok(FuncType {
-        params: params_of(alloc, import.arguments())?,
-        result: result_of(import.answer()),
-    })
 }
 
 /// The place of the import of a name.

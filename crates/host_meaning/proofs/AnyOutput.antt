@@ -24,11 +24,11 @@ use Rattle.world_core.specs.WorldState.{Action, Named}
 use Rattle.host_step.specs.Arguments.{and_then, decode}
 use Rattle.host_step.specs.HostState.{HostState, Names}
 use Rattle.host_step.specs.HostStep.{Acts, Comes, Goes, Refuses, Settles, StepBy, StepIf, Traps, acts, answered, before_last_of, come, comes, faulted, last_of, listed_acts, primitive_acts, refuses, where_fit}
-use Rattle.host_step.specs.Imports.{import_answer, import_arguments, spends}
+use Rattle.host_imports.specs.Imports.{import_answer, import_arguments, spends}
 use Rattle.host_step.specs.Worlds.{with_output}
-use Rattle.host_step.specs.declared.import.Import.{Import}
-use Rattle.host_step.specs.declared.import.Import.TheVariants.{Of, Over, Arg, Drop, IterFree, FreeArray}
-use Rattle.host_step.specs.declared.import.Listing.TheVariants.{Sprintf, Print, Printf}
+use Rattle.host_imports.specs.declared.import.Import.{Import}
+use Rattle.host_imports.specs.declared.import.Import.TheVariants.{Of, Over, Arg, Drop, IterFree, FreeArray}
+use Rattle.host_imports.specs.declared.import.Listing.TheVariants.{Sprintf, Print, Printf}
 
 abbrev shared_with : List Action → Shared → Shared
 shared_with o state = record state { output = o }

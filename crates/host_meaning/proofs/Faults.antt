@@ -5,7 +5,7 @@ use Rattle.wasm_model.specs.declared.host.HostAnswer.{HostAnswer}
 use Rattle.wasm_store.specs.declared.word.Word.{Word}
 use Rattle.world_core.specs.WorldState.{Action}
 use Rattle.host_step.specs.HostState.{HostState}
-use Rattle.host_step.specs.declared.import.Import.{Import}
+use Rattle.host_imports.specs.declared.import.Import.{Import}
 use Rattle.host_elements.specs.Forms.{HostForm}
 use Rattle.host_meaning.specs.FormMeaning.{AnyhowShown, FormCalled, StepShown}
 use Rattle.host_meaning.specs.Shown.{SharesTables, Shown, form_with_output}

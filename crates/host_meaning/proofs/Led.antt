@@ -10,9 +10,9 @@ use Rattle.host_step.specs.Answers.{refusal}
 use Rattle.host_step.specs.HostLaws.{refusal_typed}
 use Rattle.host_step.specs.HostState.{HostState}
 use Rattle.host_step.specs.HostStep.{StepIf}
-use Rattle.host_step.specs.Imports.{import_answer, import_type}
+use Rattle.host_imports.specs.Imports.{import_answer, import_type}
 use Rattle.host_step.specs.Worlds.{with_output}
-use Rattle.host_step.specs.declared.import.Import.{Import}
+use Rattle.host_imports.specs.declared.import.Import.{Import}
 use Rattle.host_values.specs.declared.reply.Refusal.{Refusal}
 use Rattle.host_values.specs.declared.reply.Refusal.TheVariants as why
 use Rattle.host_elements.specs.Forms.{HostForm, Stands}

@@ -12,9 +12,9 @@ use Rattle.host_step.specs.Answers.{refusal}
 use Rattle.host_step.specs.HostLaws.{refusal_typed, step_typed}
 use Rattle.host_step.specs.HostState.{HostState}
 use Rattle.host_step.specs.HostStep.{Comes, Refuses, StepBy, carried, come, comes, refuses}
-use Rattle.host_step.specs.Imports.{import_answer, import_type, lets_go}
+use Rattle.host_imports.specs.Imports.{import_answer, import_type, lets_go}
 use Rattle.host_step.specs.Worlds.{Anyhow, AnyhowIf, ReadBy, reads}
-use Rattle.host_step.specs.declared.import.Import.{Import}
+use Rattle.host_imports.specs.declared.import.Import.{Import}
 use Rattle.host_values.specs.declared.reply.Refusal.{Refusal}
 use Rattle.host_values.specs.declared.reply.Refusal.TheVariants as why
 use Rattle.host_elements.specs.Calls.{IsTableCall}

@@ -5,7 +5,7 @@ use Rattle.sem_primitives.specs.declared.table.Primitive.TheVariants.{Elem, IntO
 use Rattle.wasm_model.specs.declared.host.HostAnswer.TheVariants as told
 use Rattle.wasm_store.specs.declared.trap.TrapKind.TheVariants.{BadHandle}
 use Rattle.wasm_store.specs.declared.word.Word.TheVariants.{I32, I64}
-use Rattle.host_step.specs.declared.import.Import.TheVariants.{Arg, Of}
+use Rattle.host_imports.specs.declared.import.Import.TheVariants.{Arg, Of}
 use Rattle.host_values.specs.declared.reply.Refusal.TheVariants as why
 use Rattle.host_elements.specs.Forms.{HostForm}
 use Rattle.host_meaning.specs.Shown.{SharesBy, form_with_output}

@@ -8,14 +8,15 @@ use Rattle.wasm_store.specs.declared.word.Word.{Word}
 use Rattle.world_core.specs.WorldState.{Action, after as outside_after}
 use Rattle.host_step.specs.HostState.{HostState}
 use Rattle.host_step.specs.HostStep.{StepIf}
-use Rattle.host_step.specs.Imports.{import_at, type_if_there}
+use Rattle.host_imports.specs.Imports.{import_at, type_if_there}
 use Rattle.host_step.specs.Worlds.{Anyhow}
-use Rattle.host_step.specs.declared.import.Import.{Import}
+use Rattle.host_imports.specs.declared.import.Import.{Import}
 use Rattle.host_elements.specs.Forms.{HostForm}
 use Rattle.host_meaning.specs.Shown.{Shown, form_with_output}
 
 -- a state that is shown after a call, to which there is such a step
-pub record StepShown (import : Option Import) (s : HostState) (words : List Word) (memory : List ℕ) (a : HostAnswer) (after-call : HostForm) (output : List Action) : Type 0 where
+pub record StepShown (import : Option Import) (s : HostState) (words : List Word) (memory : List ℕ) (a : HostAnswer) (after-call : HostForm)
+    (output : List Action) : Type 0 where
   pub state : HostState
   pub shown : Shown after-call state
   pub step : StepIf import s words memory a state output
@@ -28,7 +29,8 @@ pub record AnyhowShown (import : Option Import) (s : HostState) (words : List Wo
 
 -- A call that wants no memory. From every state that is shown before it, there is one that is shown after it: a step leads there, where the world tells what
 -- it holds, whatever was put out before; and so does what is said in every world.
-pub record FormCalled (tells : Type 0) (import : Option Import) (before : HostForm) (words : List Word) (memory : List ℕ) (a : HostAnswer) (after-call : HostForm) (output : List Action) : Type 0 where
+pub record FormCalled (tells : Type 0) (import : Option Import) (before : HostForm) (words : List Word) (memory : List ℕ) (a : HostAnswer)
+    (after-call : HostForm) (output : List Action) : Type 0 where
   pub typed : Typed (type_if_there import) a
   pub step : tells → (so_far : List Action) (s : HostState) → Shown (form_with_output so_far before) s
       → StepShown import s words memory a (form_with_output (so_far ++ output) after-call) output
@@ -49,13 +51,15 @@ Begins import before words memory output = (so_far : List Action) (s : HostState
 
 -- Memory was wanting. Where the world tells what it holds, it holds what was put out, and so the output of another answer begins. Of the tables nothing is
 -- told.
-pub record FormWanted (tells : Type 0) (import : Option Import) (before : HostForm) (words : List Word) (memory : List ℕ) (after-call : HostForm) (output : List Action) : Type 0 where
+pub record FormWanted (tells : Type 0) (import : Option Import) (before : HostForm) (words : List Word) (memory : List ℕ) (after-call : HostForm)
+    (output : List Action) : Type 0 where
   pub outside : tells → (so_far : List Action) (s : HostState) → Shown (form_with_output so_far before) s
       → after-call.shared.outside ≡ outside_after output s.shared.outside
   pub begins : tells → Begins import before words memory output
 
 -- What stands for the answers that a call would have given with more memory: which one it is depends on the state, so only the output is told.
-pub record Instead (tells : Type 0) (import : Option Import) (before : HostForm) (words : List Word) (memory : List ℕ) (a : HostAnswer) (output : List Action) : Type 0 where
+pub record Instead (tells : Type 0) (import : Option Import) (before : HostForm) (words : List Word) (memory : List ℕ) (a : HostAnswer)
+    (output : List Action) : Type 0 where
   pub typed : Typed (type_if_there import) a
   pub other : a ≢ told.NoMemory
   pub begins : tells → Begins import before words memory output
@@ -71,6 +75,7 @@ FormMeans tells import before words memory a after-call output = FormCalled tell
 
 -- what the calls of a host mean, by the import's number; no import writes to memory
 abbrev pub form_meaning : (tells : Type 0) → FormState → ℕ → List Word → MemoryForm → HostAnswer → FormState → MemoryForm → List Action → Type 0
-form_meaning tells (Told before) n words mem a (Told after-call) mem' output = (mem' ≡ mem) × FormMeans tells (import_at n) before words mem.bytes a after-call output
+form_meaning tells (Told before) n words mem a (Told after-call) mem' output = (mem' ≡ mem)
+    × FormMeans tells (import_at n) before words mem.bytes a after-call output
 form_meaning tells (Told before) n words mem a Untold mem' output = (mem' ≡ mem) × Instead tells (import_at n) before words mem.bytes a output
 form_meaning tells Untold n words mem a after-call mem' output = ⊥

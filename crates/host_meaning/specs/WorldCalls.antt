@@ -6,9 +6,9 @@ use Rattle.wasm_store.specs.declared.word.Word.{Word}
 use Rattle.world_core.specs.WorldState.{Action}
 use Rattle.host_step.specs.Answers.{refusal}
 use Rattle.host_step.specs.HostState.{HostState}
-use Rattle.host_step.specs.Imports.{import_answer}
+use Rattle.host_imports.specs.Imports.{import_answer}
 use Rattle.host_step.specs.Worlds.{Called, Wanted}
-use Rattle.host_step.specs.declared.import.Import.{Import}
+use Rattle.host_imports.specs.declared.import.Import.{Import}
 use Rattle.host_values.specs.declared.reply.Refusal.{Refusal}
 use Rattle.host_values.specs.declared.reply.Refusal.TheVariants as why
 use Rattle.host_elements.specs.Forms.{HostForm, Stands}

@@ -16,13 +16,14 @@ use Rattle.wasm_store.specs.declared.trap.TrapKind.{TrapKind}
 use Rattle.wasm_store.specs.declared.trap.TrapKind.TheVariants.{BadArgument}
 use Rattle.wasm_store.specs.declared.word.Word.{Word}
 use Rattle.wasm_store.specs.declared.word.Word.TheVariants.{I32}
-use Rattle.host_step.specs.Answers.{assign_code, refusal}
+use Rattle.host_imports.specs.Codes.{assign_code}
+use Rattle.host_step.specs.Answers.{refusal}
 use Rattle.host_step.specs.Arguments.{and_then, no_more}
 use Rattle.host_step.specs.HostState.{HostState}
 use Rattle.host_step.specs.HostStep.{StepOf, carried, primitive_acts, where_fit}
-use Rattle.host_step.specs.Imports.{import_answer, spends}
+use Rattle.host_imports.specs.Imports.{import_answer, spends}
 use Rattle.host_step.specs.Tables.{Table}
-use Rattle.host_step.specs.declared.import.Import.TheVariants.{Of}
+use Rattle.host_imports.specs.declared.import.Import.TheVariants.{Of}
 use Rattle.host_values.specs.Calls.{Gives, spare}
 use Rattle.host_values.specs.Evaluations.{Values}
 use Rattle.host_values.specs.declared.reply.Refusal.{Refusal}

@@ -43,7 +43,8 @@ with_all t n inner = with_names n (with_texts t inner)
 -- the next assignment is taken, or none is left
 abbrev pub Takes : Names → Option (List ℕ × List ℕ) → Names → Type 0
 Takes old None new = (left_of old ≡ []) × (new ≡ old)
-Takes old (Some pair) new = (left_of old ≡ pair ∷ left_of new) × ((inner : Inner) → with_names new inner ≡ record (with_names old inner) { assigns = left_of new })
+Takes old (Some pair) new = (left_of old ≡ pair ∷ left_of new)
+    × ((inner : Inner) → with_names new inner ≡ record (with_names old inner) { assigns = left_of new })
 
 -- forms
 

@@ -2,8 +2,8 @@
 ghost use Rattle.std.specs.Prelude.{◌≡◌, List, ℕ, None};
 ghost use Rattle.std.specs.FinMap as map;
 ghost use Rattle.sem_primitives.specs.declared.table.Primitive.TheVariants as row;
-ghost use Rattle.host_step.specs.Answers.{assign_code};
-ghost use Rattle.host_step.specs.declared.import.Import.{Import};
+ghost use Rattle.host_imports.specs.Codes.{assign_code};
+ghost use Rattle.host_imports.specs.declared.import.Import.{Import};
 ghost use Rattle.host_values.specs.Calls.{spare};
 ghost use Rattle.host_elements.specs.Calls.{IsTableCall};
 ghost use Rattle.host_elements.specs.Forms.{HostForm};
@@ -34,7 +34,8 @@ pub fn declare(
     words: &[Word],
     memory: &[u8],
 ) -> Result<Option<Word>, Refusal>
-    ensures step { (f : HostForm) → f.fault ≡ None → IsTableCall (Import.Of row.Declare) (of_names names.old f.values f) words.now memory.now result (of_names names.new f.values f) }
+    ensures step { (f : HostForm) → f.fault ≡ None → IsTableCall (Import.Of row.Declare) (of_names
+        names.old f.values f) words.now memory.now result (of_names names.new f.values f) }
 {
     let (text, kind) = match declare_front(memory, words) {
         Ok(said) => said,
@@ -73,7 +74,9 @@ pub fn start_assign(
     names: &mut Names,
     words: &[Word],
 ) -> Result<Option<Word>, Refusal>
-    ensures step { (f : HostForm) (memory : List ℕ) → f.fault ≡ None → IsTableCall (Import.Of row.StartAssign) (of_all texts.old names.old f) words.now memory result (left_after result (of_all texts.old names.old f) (of_all texts.new names.new f)) }
+    ensures step { (f : HostForm) (memory : List ℕ) → f.fault ≡ None
+        → IsTableCall (Import.Of row.StartAssign) (of_all texts.old names.old f) words.now memory
+        result (left_after result (of_all texts.old names.old f) (of_all texts.new names.new f)) }
 {
     match ends(words) {
         Ok(()) => {}
@@ -95,7 +98,9 @@ pub fn start_assign(
 ///
 /// A trap, also where none is.
 pub fn pending_name(names: &Names, words: &[Word]) -> Result<Option<Word>, Refusal>
-    ensures step { (f : HostForm) (memory : List ℕ) → f.fault ≡ None → IsTableCall (Import.Of row.PendingName) (of_names names.now f.values f) words.now memory result (of_names names.now f.values f) }
+    ensures step { (f : HostForm) (memory : List ℕ) → f.fault ≡ None
+        → IsTableCall (Import.Of row.PendingName) (of_names names.now f.values f) words.now memory
+        result (of_names names.now f.values f) }
 {
     match ends(words) {
         Ok(()) => {}
@@ -118,7 +123,9 @@ pub fn pending_value(
     words: &[Word],
 ) -> Result<Option<Word>, Refusal>
     requires { map.get handles.old spare ≡ None }
-    ensures step { (f : HostForm) (memory : List ℕ) → f.fault ≡ None → IsTableCall (Import.Of row.PendingValue) (of_names names.old handles.old f) words.now memory result (of_names names.new handles.new f) }
+    ensures step { (f : HostForm) (memory : List ℕ) → f.fault ≡ None
+        → IsTableCall (Import.Of row.PendingValue) (of_names names.old handles.old f) words.now
+        memory result (of_names names.new handles.new f) }
     ensures spare { map.get handles.new spare ≡ None }
 {
     match ends(words) {

@@ -23,8 +23,10 @@ fn assign_by(
     name: &[u8],
     text: Bytes,
 ) -> Result<bool, Stop>
-    ensures ok { IfOk result (λ pending. (inner : Inner) → assigned_by special name.now text (with_all texts.old names.old inner) ≡ Ok (with_all texts.new names.new inner, pending)) }
-    ensures err { IfErr result (λ stop. (inner : Inner) → IsStopOf (assigned_by special name.now text (with_all texts.old names.old inner)) stop) }
+    ensures ok { IfOk result (λ pending. (inner : Inner) → assigned_by special name.now text
+        (with_all texts.old names.old inner) ≡ Ok (with_all texts.new names.new inner, pending)) }
+    ensures err { IfErr result (λ stop. (inner : Inner)
+        → IsStopOf (assigned_by special name.now text (with_all texts.old names.old inner)) stop) }
     ensures rest { names.new ≡ with_pending names.new.pending names.old }
     ensures pending { IfOk result (λ pending. PendsBy pending names.old names.new) }
     ensures substituted { texts.new.substituted ≡ texts.old.substituted }
@@ -52,8 +54,10 @@ pub fn assign(
     name: &[u8],
     text: &[u8],
 ) -> Result<bool, Stop>
-    ensures ok { IfOk result (λ pending. (inner : Inner) → assigned name.now text.now (with_all texts.old names.old inner) ≡ Ok (with_all texts.new names.new inner, pending)) }
-    ensures err { IfErr result (λ stop. (inner : Inner) → IsStopOf (assigned name.now text.now (with_all texts.old names.old inner)) stop) }
+    ensures ok { IfOk result (λ pending. (inner : Inner) → assigned name.now text.now
+        (with_all texts.old names.old inner) ≡ Ok (with_all texts.new names.new inner, pending)) }
+    ensures err { IfErr result (λ stop. (inner : Inner)
+        → IsStopOf (assigned name.now text.now (with_all texts.old names.old inner)) stop) }
     ensures rest { names.new ≡ with_pending names.new.pending names.old }
     ensures pending { IfOk result (λ pending. PendsBy pending names.old names.new) }
     ensures substituted { texts.new.substituted ≡ texts.old.substituted }
@@ -71,8 +75,10 @@ pub(crate) fn make_left(
     texts: &mut Texts,
     names: &mut Names,
 ) -> Result<AssignAnswer, Stop>
-    ensures ok { IfOk result (λ answer. (inner : Inner) → start_assign_row (with_all texts.old names.old inner) ≡ Ok (with_all texts.new names.new inner, answer)) }
-    ensures err { IfErr result (λ stop. (inner : Inner) → IsStopOf (start_assign_row (with_all texts.old names.old inner)) stop) }
+    ensures ok { IfOk result (λ answer. (inner : Inner) → start_assign_row
+        (with_all texts.old names.old inner) ≡ Ok (with_all texts.new names.new inner, answer)) }
+    ensures err { IfErr result (λ stop. (inner : Inner)
+        → IsStopOf (start_assign_row (with_all texts.old names.old inner)) stop) }
 {
     while let Some((name, text)) = names.take_next()? {
         if assign(alloc, texts, names, name.as_slice(), text.as_slice())? {

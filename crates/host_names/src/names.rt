@@ -63,7 +63,8 @@ impl Names {
     /// Adds a name that is not there yet.
     pub(crate) fn add(&mut self, text: Bytes, kind: NameKind) -> Result<(), AllocError>
         requires { is_some (declared 0 text (announced self.old)) ≡ false }
-        ensures { OnOk result ((inner : Inner) → with_names self.new inner ≡ record (with_names self.old inner) { names = announced self.old ++ (text, kind) ∷ [] }) }
+        ensures { OnOk result ((inner : Inner) → with_names self.new inner ≡ record
+            (with_names self.old inner) { names = announced self.old ++ (text, kind) ∷ [] }) }
     {
         self.names.insert(text, kind)?;
         Ok(())
@@ -84,8 +85,11 @@ impl Names {
 
     /// An assignment to a name that is no special variable: of a scalar it is to be made by the script, of a name that the script does not have it is none.
     pub(crate) fn keep(&mut self, name: &Bytes, text: Bytes) -> Result<bool, Stop>
-        ensures ok { IfOk result (λ kept. (inner : Inner) → assigned_global (declared 0 name.now (announced self.old)) text (with_names self.old inner) ≡ Ok (with_names self.new inner, kept)) }
-        ensures err { IfErr result (λ stop. (inner : Inner) → IsStopOf (assigned_global (declared 0 name.now (announced self.old)) text (with_names self.old inner)) stop) }
+        ensures ok { IfOk result
+            (λ kept. (inner : Inner) → assigned_global (declared 0 name.now (announced self.old))
+            text (with_names self.old inner) ≡ Ok (with_names self.new inner, kept)) }
+        ensures err { IfErr result (λ stop. (inner : Inner) → IsStopOf (assigned_global
+            (declared 0 name.now (announced self.old)) text (with_names self.old inner)) stop) }
         ensures refused { OnErr result (self.new ≡ self.old) }
         ensures rest { self.new ≡ with_pending self.new.pending self.old }
         ensures pending { IfOk result (λ kept. PendsBy kept self.old self.new) }

@@ -17,13 +17,13 @@ use Rattle.wasm_store.specs.declared.trap.TrapKind.{TrapKind}
 use Rattle.wasm_store.specs.declared.word.Word.{Word}
 use Rattle.wasm_store.specs.declared.word.Word.TheVariants.{I32}
 use Rattle.world_core.specs.WorldState.{Action, Outside, Source, State}
-use Rattle.host_step.specs.Answers.{stream_code}
+use Rattle.host_imports.specs.Codes.{stream_code}
 use Rattle.host_step.specs.HostState.{HostState}
 use Rattle.host_step.specs.HostStep.{StepOf, acts, carried}
 use Rattle.host_step.specs.Arguments.{and_then}
-use Rattle.host_step.specs.Imports.{spends}
+use Rattle.host_imports.specs.Imports.{spends}
 use Rattle.host_step.specs.Worlds.{Called, Wanted, nothing_left, unseen, with_output}
-use Rattle.host_step.specs.declared.import.Import.TheVariants.{Of}
+use Rattle.host_imports.specs.declared.import.Import.TheVariants.{Of}
 use Rattle.host_values.specs.Calls.{names_with}
 use Rattle.host_values.specs.Evaluations.{Values}
 use Rattle.host_values.specs.Singles.{only_handle}

@@ -13,8 +13,8 @@ use Rattle.world_core.specs.WorldState.{Action, State}
 use Rattle.host_step.specs.HostState.{HostState}
 use Rattle.host_step.specs.HostStep.{before_last_of, last_of}
 use Rattle.host_step.specs.Worlds.{Called, with_output}
-use Rattle.host_step.specs.declared.import.Import.TheVariants.{Over}
-use Rattle.host_step.specs.declared.import.Listing.TheVariants.{Print, Printf}
+use Rattle.host_imports.specs.declared.import.Import.TheVariants.{Over}
+use Rattle.host_imports.specs.declared.import.Listing.TheVariants.{Print, Printf}
 use Rattle.host_texts.specs.declared.specials.Specials.{Specials}
 use Rattle.host_values.specs.declared.reply.Refusal.TheVariants as why
 use Rattle.host_elements.specs.Forms.{HostForm, state_of}

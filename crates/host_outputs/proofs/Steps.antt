@@ -23,10 +23,10 @@ use Rattle.host_step.specs.Answers.{refusal}
 use Rattle.host_step.specs.Arguments.{and_then, decode, no_more, said}
 use Rattle.host_step.specs.HostState.{HostState, Names}
 use Rattle.host_step.specs.HostStep.{Acts, Refuses, Settles, StepBy, StepOf, before_last_of, carried, come, last_of, refuses, where_fit}
-use Rattle.host_step.specs.Imports.{import_answer, spends}
-use Rattle.host_step.specs.declared.import.Import.{Import}
-use Rattle.host_step.specs.declared.import.Import.TheVariants.{Over}
-use Rattle.host_step.specs.declared.import.Listing.TheVariants.{Print, Printf}
+use Rattle.host_imports.specs.Imports.{import_answer, spends}
+use Rattle.host_imports.specs.declared.import.Import.{Import}
+use Rattle.host_imports.specs.declared.import.Import.TheVariants.{Over}
+use Rattle.host_imports.specs.declared.import.Listing.TheVariants.{Print, Printf}
 use Rattle.host_elements.proofs.Steps.{unrefused}
 use Rattle.host_outputs.specs.Lists.{enough, listed, listing_words}
 

@@ -15,9 +15,9 @@ use Rattle.world_core.specs.WorldState.{Action, Outside, Source, State, after}
 use Rattle.host_step.specs.Answers.{refusal}
 use Rattle.host_step.specs.HostState.{HostState}
 use Rattle.host_step.specs.HostStep.{StepOf}
-use Rattle.host_step.specs.Imports.{import_answer}
+use Rattle.host_imports.specs.Imports.{import_answer}
 use Rattle.host_step.specs.Worlds.{Called, Wanted, reads, unseen, with_output}
-use Rattle.host_step.specs.declared.import.Import.{Import}
+use Rattle.host_imports.specs.declared.import.Import.{Import}
 use Rattle.host_values.specs.declared.reply.Refusal.TheVariants as why
 use Rattle.host_elements.specs.Forms.{HostForm, Past, state_of}
 use Rattle.host_streams.specs.OpenFiles.{AreOpen, names_of, reader_handle, readers_in}

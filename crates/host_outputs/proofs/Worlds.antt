@@ -13,7 +13,7 @@ use Rattle.host_step.specs.HostLaws.{step_typed}
 use Rattle.host_step.specs.HostState.{HostState}
 use Rattle.host_step.specs.HostStep.{StepOf}
 use Rattle.host_step.specs.Worlds.{AnyhowIf, Called, IsStepInSomeWorld, Wanted, reads, unseen, with_output}
-use Rattle.host_step.specs.declared.import.Import.{Import}
+use Rattle.host_imports.specs.declared.import.Import.{Import}
 use Rattle.host_outputs.specs.Calls.{over}
 use Rattle.host_outputs.proofs.Puts.{so_far_in}
 use Rattle.host_outputs.proofs.Steps.{Puts, after_put, done_by}

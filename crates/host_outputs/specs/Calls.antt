@@ -12,6 +12,7 @@ use Rattle.wasm_store.specs.declared.word.Word.TheVariants.{I32}
 use Rattle.host_values.specs.declared.reply.Refusal.{Refusal}
 use Rattle.host_values.specs.declared.reply.Refusal.TheVariants as why
 use Rattle.host_streams.specs.OpenFiles.{HoldsOpen, OthersStay, WritersGo, names_of}
+use Rattle.host_streams.specs.Outputs.{IsOf, PutsIs}
 use Rattle.host_streams.specs.Puts.{Spares}
 use Rattle.host_streams.specs.declared.streams.Streams.{Streams}
 
@@ -36,6 +37,12 @@ abbrev pub answer_of : Result (Unit {0}) Stop → Result (Option Word) Refusal
 answer_of (Ok u) = Ok (Some (I32 0))
 answer_of (Err (stop.Fault f)) = Err (why.Fault f)
 answer_of (Err stop.NoMemory) = Err why.NoMemory
+
+-- What went out, the answer and the files that are open for writing are those of the definition.
+abbrev pub PutsAs : (Shared → Does (Result (Unit {0}) Fault)) → Streams → State → Result (Unit {0}) Stop → Streams → State → Type 0
+PutsAs does old before answer new after =
+    (shared : Shared) → IsOf old before shared
+    → PutsIs (does shared) answer before after (names_of old.writers.items) (names_of new.writers.items)
 
 -- In every world.
 

@@ -6,7 +6,7 @@ use Rattle.sem_primitives.specs.declared.answers.StreamAnswer.TheVariants as str
 use Rattle.wasm_store.specs.declared.word.Word.{Word}
 use Rattle.wasm_store.specs.declared.word.Word.TheVariants.{I32}
 use Rattle.world_core.specs.WorldState.{State}
-use Rattle.host_step.specs.Answers.{stream_code}
+use Rattle.host_imports.specs.Codes.{stream_code}
 use Rattle.host_streams.specs.OpenFiles.{names_of, readers_in}
 use Rattle.host_streams.specs.declared.streams.Streams.{Streams}
 use Rattle.host_texts.specs.States.{specials_of}

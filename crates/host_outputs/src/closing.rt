@@ -2,8 +2,8 @@
 ghost use Rattle.std.specs.Prelude.{◌≡◌, List, [], ℕ, None};
 ghost use Rattle.std.specs.FinMap as map;
 ghost use Rattle.sem_primitives.specs.declared.table.Primitive.TheVariants as row;
-ghost use Rattle.host_step.specs.Answers.{stream_code};
-ghost use Rattle.host_step.specs.declared.import.Import.{Import};
+ghost use Rattle.host_imports.specs.Codes.{stream_code};
+ghost use Rattle.host_imports.specs.declared.import.Import.{Import};
 ghost use Rattle.host_elements.specs.Forms.{HostForm};
 ghost use Rattle.host_streams.specs.OpenFiles.{HoldsOpen, OthersKeep, OthersStay, WritersGo, readers_beside};
 ghost use Rattle.host_values.specs.Calls.{spare};
@@ -53,14 +53,17 @@ pub fn close<W: World>(
 ) -> Result<Option<Word>, Refusal>
     requires held { HoldsOpen streams.old (W.kinds world.old) }
     requires goes { W.tells → WritersGo streams.old.writers.items (W.state world.old) }
-    ensures step { (f : HostForm) (memory : List ℕ) → f.fault ≡ None → IsCalled W.tells (Import.Of row.Close) (closing handles.old streams.old (W.state world.old) f) words.now memory result (closing handles.new streams.new (W.state world.new) f) [] }
+    ensures step { (f : HostForm) (memory : List ℕ) → f.fault ≡ None → IsCalled W.tells
+        (Import.Of row.Close) (closing handles.old streams.old (W.state world.old) f) words.now
+        memory result (closing handles.new streams.new (W.state world.new) f) [] }
     ensures spare { map.get handles.old spare ≡ None → map.get handles.new spare ≡ None }
     ensures held { HoldsOpen streams.new (W.kinds world.new) }
     ensures goes { W.tells → WritersGo streams.new.writers.items (W.state world.new) }
     ensures count { W.count world.new ≡ W.count world.old }
     ensures others { OthersStay streams.old streams.new (W.kinds world.old) (W.kinds world.new) }
     ensures no_others { OthersStay streams.new streams.old (W.kinds world.new) (W.kinds world.old) }
-    ensures places { W.tells → OthersKeep streams.old (W.kinds world.old) (W.state world.old) (W.state world.new) }
+    ensures places { W.tells
+        → OthersKeep streams.old (W.kinds world.old) (W.state world.old) (W.state world.new) }
 {
     let (handle, value) = match only_value(handles, words) {
         Ok(read) => read,

@@ -3,7 +3,7 @@ ghost use Rattle.std.specs.Prelude.{◌≡◌, List, ℕ, None};
 ghost use Rattle.std.specs.FinMap as map;
 ghost use Rattle.world_core.specs.WorldState.{State};
 ghost use Rattle.sem_primitives.specs.declared.table.Primitive.TheVariants as row;
-ghost use Rattle.host_step.specs.declared.import.Import.{Import};
+ghost use Rattle.host_imports.specs.declared.import.Import.{Import};
 ghost use Rattle.host_elements.specs.Calls.{IsTableCall};
 ghost use Rattle.host_elements.specs.Forms.{HostForm};
 ghost use Rattle.host_values.specs.Calls.{spare};
@@ -29,7 +29,9 @@ pub fn flush(
     streams: &Streams,
     words: &[Word],
 ) -> Result<Option<Word>, Refusal>
-    ensures step { (f : HostForm) (memory : List ℕ) (state : State) → f.fault ≡ None → IsTableCall (Import.Of row.Flush) (closing handles.old streams.now state f) words.now memory result (closing handles.new streams.now state f) }
+    ensures step { (f : HostForm) (memory : List ℕ) (state : State) → f.fault ≡ None
+        → IsTableCall (Import.Of row.Flush) (closing handles.old streams.now state f) words.now
+        memory result (closing handles.new streams.now state f) }
     ensures spare { map.get handles.old spare ≡ None → map.get handles.new spare ≡ None }
 {
     let (handle, value) = match only_value(handles, words) {

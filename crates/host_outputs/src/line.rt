@@ -15,7 +15,8 @@ use std::alloc::AllocError;
 
 /// Adds the texts of values, another's text in front of each.
 fn push_others(out: &mut Vec<u8>, between: &Value, values: &[Value]) -> Result<(), AllocError>
-    ensures { OnOk result (out.new.items ≡ out.old.items ++ followed (text_of_value between.now) values.now) }
+    ensures { OnOk result
+        (out.new.items ≡ out.old.items ++ followed (text_of_value between.now) values.now) }
 {
     for value in values {
         push_text(out, between)?;
@@ -43,7 +44,8 @@ pub(crate) fn fill(
     specials: &Specials,
     operands: &[Value],
 ) -> Result<(), AllocError>
-    ensures { OnOk result ((inner : Inner) → line.new.items ≡ printed (inner_with specials.now inner) operands.now) }
+    ensures { OnOk result
+        ((inner : Inner) → line.new.items ≡ printed (inner_with specials.now inner) operands.now) }
 {
     line.clear();
     push_joined(line, specials.get(Special::Ofs), operands)?;

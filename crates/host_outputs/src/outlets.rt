@@ -2,11 +2,10 @@
 ghost use Rattle.std.specs.Prelude.{◌≡◌, ◌≤◌, IfOk, Ok, length};
 ghost use Rattle.sem_primitives.specs.InTurn.{with_name};
 ghost use Rattle.sem_primitives.specs.OutputMeaning.{file_name, last_text, put_text};
-ghost use Rattle.sem_primitives.specs.SharedState.{Shared};
-ghost use Rattle.host_streams.specs.OpenFiles.{HoldsOpen, WritersGo, names_of};
-ghost use Rattle.host_streams.specs.Outputs.{IsOf, PutsIs};
+ghost use Rattle.host_streams.specs.OpenFiles.{HoldsOpen, WritersGo};
+ghost use Rattle.host_streams.specs.Outputs.{IsOf};
 ghost use Rattle.host_streams.specs.Puts.{BeginsBy, PutCounts};
-ghost use Rattle.host_outputs.specs.Calls.{Could, Keeps};
+ghost use Rattle.host_outputs.specs.Calls.{Could, Keeps, PutsAs};
 
 use awk_values::{Bytes, Stop, Value, to_text};
 use host_streams::{Streams, Target};
@@ -38,11 +37,15 @@ pub(crate) fn put_out<W: World>(
     requires held { HoldsOpen streams.old (W.kinds world.old) }
     requires goes { W.tells → WritersGo streams.old.writers.items (W.state world.old) }
     requires named { with_name to 0 ≤ length values.now }
-    ensures keeps { Keeps W.tells (W.kinds world.old) (W.kinds world.new) (W.state world.old) (W.state world.new) streams.old streams.new }
+    ensures keeps { Keeps W.tells (W.kinds world.old) (W.kinds world.new) (W.state world.old)
+        (W.state world.new) streams.old streams.new }
     ensures count { PutCounts result (W.count world.old) (W.count world.new) }
-    ensures anyhow { Could (put_text to (file_name to values.now) text.now) streams.old streams.new result }
-    ensures begun { BeginsBy W.tells (IsOf streams.old (W.state world.old)) (put_text to (file_name to values.now) text.now) result (W.state world.old) (W.state world.new) }
-    ensures told { W.tells → (shared : Shared) → IsOf streams.old (W.state world.old) shared → PutsIs (put_text to (file_name to values.now) text.now shared) result (W.state world.old) (W.state world.new) (names_of streams.old.writers.items) (names_of streams.new.writers.items) }
+    ensures anyhow { Could (put_text to (file_name to values.now) text.now) streams.old streams.new
+        result }
+    ensures begun { BeginsBy W.tells (IsOf streams.old (W.state world.old)) (put_text to
+        (file_name to values.now) text.now) result (W.state world.old) (W.state world.new) }
+    ensures told { W.tells → PutsAs (put_text to (file_name to values.now) text.now) streams.old
+        (W.state world.old) result streams.new (W.state world.new) }
 {
     match to {
         Destination::Standard => streams.put_text(world, Target::Standard, text),

@@ -2,17 +2,16 @@
 ghost use Rattle.std.specs.Prelude.{◌≡◌, ◌≤◌, IfErr, List, None, Ok, OnOk, ℕ, length};
 ghost use Rattle.sem_primitives.specs.InTurn.{with_name};
 ghost use Rattle.sem_primitives.specs.OutputMeaning.{formatted_values, operands_of, print_row, printf_row};
-ghost use Rattle.sem_primitives.specs.SharedState.{Shared};
 ghost use Rattle.world_core.specs.WorldState.{Action};
-ghost use Rattle.host_step.specs.declared.import.Import.{Import};
-ghost use Rattle.host_step.specs.declared.import.Listing.{Listing};
+ghost use Rattle.host_imports.specs.declared.import.Import.{Import};
+ghost use Rattle.host_imports.specs.declared.import.Listing.{Listing};
 ghost use Rattle.host_elements.specs.Forms.{HostForm};
 ghost use Rattle.host_format.specs.Outcomes.{IsStopOf};
-ghost use Rattle.host_streams.specs.OpenFiles.{HoldsOpen, WritersGo, names_of};
-ghost use Rattle.host_streams.specs.Outputs.{IsOf, PutsIs};
+ghost use Rattle.host_streams.specs.OpenFiles.{HoldsOpen, WritersGo};
+ghost use Rattle.host_streams.specs.Outputs.{IsOf};
 ghost use Rattle.host_streams.specs.Puts.{BeginsBy, PutCounts};
 ghost use Rattle.host_meaning.specs.WorldCalls.{IsCalled};
-ghost use Rattle.host_outputs.specs.Calls.{Could, FailsBy, Keeps, answer_of};
+ghost use Rattle.host_outputs.specs.Calls.{Could, FailsBy, Keeps, PutsAs, answer_of};
 ghost use Rattle.host_outputs.specs.Forms.{printing, shared_with, writing};
 
 use crate::line::fill;
@@ -53,11 +52,17 @@ fn print_values<W: World>(
     requires held { HoldsOpen streams.old (W.kinds world.old) }
     requires goes { W.tells → WritersGo streams.old.writers.items (W.state world.old) }
     requires named { with_name to 0 ≤ length values.now }
-    ensures keeps { Keeps W.tells (W.kinds world.old) (W.kinds world.new) (W.state world.old) (W.state world.new) streams.old streams.new }
+    ensures keeps { Keeps W.tells (W.kinds world.old) (W.kinds world.new) (W.state world.old)
+        (W.state world.new) streams.old streams.new }
     ensures count { PutCounts result (W.count world.old) (W.count world.new) }
-    ensures anyhow { Could (λ shared. print_row to values.now (shared_with specials.now shared)) streams.old streams.new result }
-    ensures begun { BeginsBy W.tells (IsOf streams.old (W.state world.old)) (λ shared. print_row to values.now (shared_with specials.now shared)) result (W.state world.old) (W.state world.new) }
-    ensures told { W.tells → (shared : Shared) → IsOf streams.old (W.state world.old) shared → PutsIs (print_row to values.now (shared_with specials.now shared)) result (W.state world.old) (W.state world.new) (names_of streams.old.writers.items) (names_of streams.new.writers.items) }
+    ensures anyhow { Could (λ shared. print_row to values.now (shared_with specials.now shared))
+        streams.old streams.new result }
+    ensures begun { BeginsBy W.tells (IsOf streams.old (W.state world.old))
+        (λ shared. print_row to values.now (shared_with specials.now shared)) result
+        (W.state world.old) (W.state world.new) }
+    ensures told { W.tells
+        → PutsAs (λ shared. print_row to values.now (shared_with specials.now shared)) streams.old
+        (W.state world.old) result streams.new (W.state world.new) }
 {
     fill(line, specials, operands(to, values))?;
     put_out(alloc, streams, world, to, values, line.as_slice())
@@ -88,11 +93,14 @@ fn printf_values<W: World>(
     requires held { HoldsOpen streams.old (W.kinds world.old) }
     requires goes { W.tells → WritersGo streams.old.writers.items (W.state world.old) }
     requires named { with_name to 1 ≤ length values.now }
-    ensures keeps { Keeps W.tells (W.kinds world.old) (W.kinds world.new) (W.state world.old) (W.state world.new) streams.old streams.new }
+    ensures keeps { Keeps W.tells (W.kinds world.old) (W.kinds world.new) (W.state world.old)
+        (W.state world.new) streams.old streams.new }
     ensures count { FailsBy (answer_of result) (W.count world.old) (W.count world.new) }
     ensures anyhow { Could (printf_row to values.now) streams.old streams.new result }
-    ensures begun { BeginsBy W.tells (IsOf streams.old (W.state world.old)) (printf_row to values.now) result (W.state world.old) (W.state world.new) }
-    ensures told { W.tells → (shared : Shared) → IsOf streams.old (W.state world.old) shared → PutsIs (printf_row to values.now shared) result (W.state world.old) (W.state world.new) (names_of streams.old.writers.items) (names_of streams.new.writers.items) }
+    ensures begun { BeginsBy W.tells (IsOf streams.old (W.state world.old))
+        (printf_row to values.now) result (W.state world.old) (W.state world.new) }
+    ensures told { W.tells → PutsAs (printf_row to values.now) streams.old (W.state world.old)
+        result streams.new (W.state world.new) }
 {
     fill_formatted(alloc, line, operands(to, values))?;
     put_out(alloc, streams, world, to, values, line.as_slice())
@@ -115,8 +123,12 @@ pub fn print<W: World>(
 ) -> Result<Option<Word>, Refusal>
     requires held { HoldsOpen streams.old (W.kinds world.old) }
     requires goes { W.tells → WritersGo streams.old.writers.items (W.state world.old) }
-    ensures step { (f : HostForm) (memory : List ℕ) → f.fault ≡ None → (output : List Action) × IsCalled W.tells (Import.Over Listing.Print) (printing arguments.old.items specials.now streams.old (W.state world.old) f) words.now memory result (printing arguments.new.items specials.now streams.new (W.state world.new) f) output }
-    ensures keeps { Keeps W.tells (W.kinds world.old) (W.kinds world.new) (W.state world.old) (W.state world.new) streams.old streams.new }
+    ensures step { (f : HostForm) (memory : List ℕ) → f.fault ≡ None → (output : List Action)
+        × IsCalled W.tells (Import.Over Listing.Print) (printing arguments.old.items specials.now
+        streams.old (W.state world.old) f) words.now memory result
+        (printing arguments.new.items specials.now streams.new (W.state world.new) f) output }
+    ensures keeps { Keeps W.tells (W.kinds world.old) (W.kinds world.new) (W.state world.old)
+        (W.state world.new) streams.old streams.new }
     ensures count { FailsBy result (W.count world.old) (W.count world.new) }
 {
     let (count, to) = match taken(arguments.as_slice(), 0, words) {
@@ -146,8 +158,12 @@ pub fn printf<W: World>(
 ) -> Result<Option<Word>, Refusal>
     requires held { HoldsOpen streams.old (W.kinds world.old) }
     requires goes { W.tells → WritersGo streams.old.writers.items (W.state world.old) }
-    ensures step { (f : HostForm) (memory : List ℕ) → f.fault ≡ None → (output : List Action) × IsCalled W.tells (Import.Over Listing.Printf) (writing arguments.old.items streams.old (W.state world.old) f) words.now memory result (writing arguments.new.items streams.new (W.state world.new) f) output }
-    ensures keeps { Keeps W.tells (W.kinds world.old) (W.kinds world.new) (W.state world.old) (W.state world.new) streams.old streams.new }
+    ensures step { (f : HostForm) (memory : List ℕ) → f.fault ≡ None → (output : List Action)
+        × IsCalled W.tells (Import.Over Listing.Printf)
+        (writing arguments.old.items streams.old (W.state world.old) f) words.now memory result
+        (writing arguments.new.items streams.new (W.state world.new) f) output }
+    ensures keeps { Keeps W.tells (W.kinds world.old) (W.kinds world.new) (W.state world.old)
+        (W.state world.new) streams.old streams.new }
     ensures count { FailsBy result (W.count world.old) (W.count world.new) }
 {
     let (count, to) = match taken(arguments.as_slice(), 1, words) {

@@ -15,9 +15,9 @@ use Rattle.world_core.specs.WorldState.{Action}
 use Rattle.host_step.specs.Arguments.{and_then, decode}
 use Rattle.host_step.specs.HostState.{HostState, Names}
 use Rattle.host_step.specs.HostStep.{Acts, Comes, Given, Goes, IsGiven, Refuses, Settles, StepBy, StepOf, Traps, acts, carried, come, comes, is_freed, or_fault, primitive_acts, refuses, where_fit}
-use Rattle.host_step.specs.Imports.{can_fault, can_trap, import_answer, import_arguments, spends}
-use Rattle.host_step.specs.declared.import.Import.{Import}
-use Rattle.host_step.specs.declared.import.Import.TheVariants.{Of, Over, Arg, Drop, IterFree, FreeArray}
+use Rattle.host_imports.specs.Imports.{can_fault, can_trap, import_answer, import_arguments, spends}
+use Rattle.host_imports.specs.declared.import.Import.{Import}
+use Rattle.host_imports.specs.declared.import.Import.TheVariants.{Of, Over, Arg, Drop, IterFree, FreeArray}
 
 same_ok : {A E : Type 0} (x y : A) → ◌≡◌ {A = Result A E} (Ok x) (Ok y) → x ≡ y
 same_ok x y e = cc

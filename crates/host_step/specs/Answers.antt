@@ -4,42 +4,15 @@ use Rattle.awk_values.specs.declared.value.Value.{Value as AnyValue}
 use Rattle.sem_primitives.specs.Constants.{flag_number}
 use Rattle.sem_primitives.specs.Numbers.{faulted_word, number_word}
 use Rattle.sem_primitives.specs.Sorts.{In, InAnswer}
-use Rattle.sem_primitives.specs.declared.answers.InputAnswer.{InputAnswer}
-use Rattle.sem_primitives.specs.declared.answers.InputAnswer.TheVariants as input
-use Rattle.sem_primitives.specs.declared.answers.AssignAnswer.{AssignAnswer}
-use Rattle.sem_primitives.specs.declared.answers.AssignAnswer.TheVariants as assign
-use Rattle.sem_primitives.specs.declared.answers.StreamAnswer.{StreamAnswer}
-use Rattle.sem_primitives.specs.declared.answers.StreamAnswer.TheVariants as stream
 use Rattle.sem_primitives.specs.declared.sorts.Sort.{Sort}
 use Rattle.sem_primitives.specs.declared.sorts.Sort.TheVariants.{Value, Number, Array, Iterator}
 use Rattle.sem_primitives.specs.declared.sorts.Answer.{Answer}
 use Rattle.sem_primitives.specs.declared.sorts.Answer.TheVariants as answer
 use Rattle.wasm_store.specs.declared.word.Word.{Word}
 use Rattle.wasm_store.specs.declared.word.Word.TheVariants.{I32, I64}
+use Rattle.host_imports.specs.Codes.{input_code, assign_code, stream_code, minus_one, end_word}
 use Rattle.host_step.specs.HostState.{Names}
 use Rattle.host_step.specs.Tables.{Table, look, entered}
-
-abbrev pub input_code : InputAnswer → ℕ
-input_code input.End = 0
-input_code input.Read = 1
-input_code input.Pending = 2
-input_code input.Failed = 3
-
-abbrev pub assign_code : AssignAnswer → ℕ
-assign_code assign.NoneLeft = 0
-assign_code assign.Pending = 2
-
-abbrev pub stream_code : StreamAnswer → ℕ
-stream_code stream.Done = 0
-stream_code stream.NotOpen = 3
-
--- -1
-abbrev pub minus_one : Word
-minus_one = I32 (2 ^ 32 - 1)
-
--- -2: that no key is left
-abbrev pub end_word : Word
-end_word = I32 (2 ^ 32 - 2)
 
 -- What is new gets a number.
 

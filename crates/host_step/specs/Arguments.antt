@@ -1,6 +1,5 @@
--- How the words of a call stand for its arguments. They are read from left to right, and the first unfit one traps. What is spent leaves its table
--- as it
--- is read, so one handle for two arguments that are spent is unfit at the second.
+-- How the words of a call stand for its arguments. They are read from left to right, and the first unfit one traps. What is spent leaves its table as
+-- it is read, so one handle for two arguments that are spent is unfit at the second.
 use Rattle.std.specs.Prelude.{ℕ, ◌+◌, pos, nat_le, Bool, true, false, List, [], ◌∷◌, length, take, drop, Option, Some, None, Result, Ok, Err, if◌then◌else◌}
 use Rattle.std.specs.Int.{w32, cast_signed}
 use Rattle.awk_values.specs.declared.value.Value.{Value as AnyValue}

@@ -14,8 +14,8 @@ use Rattle.world_core.specs.WorldState.{Action, Open, Standard, Named, absent, p
 use Rattle.host_step.specs.HostState.{HostState, live_values}
 use Rattle.host_step.specs.Examples.{Call, new, call, answers, after, done, gives, counts, fails, fails_wide, start, holding, with_outside}
 use Rattle.host_step.specs.Tables.{look}
-use Rattle.host_step.specs.declared.import.Import.TheVariants.{Of, Over, Arg, Drop, IterFree, FreeArray}
-use Rattle.host_step.specs.declared.import.Listing.TheVariants.{Sprintf, Print, Printf}
+use Rattle.host_imports.specs.declared.import.Import.TheVariants.{Of, Over, Arg, Drop, IterFree, FreeArray}
+use Rattle.host_imports.specs.declared.import.Listing.TheVariants.{Sprintf, Print, Printf}
 
 -- the value that a handle stands for after some calls
 abbrev value_after : HostState → List Call → ℕ → Option Value

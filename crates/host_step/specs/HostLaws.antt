@@ -13,11 +13,11 @@ use Rattle.wasm_model.specs.declared.host.HostAnswer.{HostAnswer}
 use Rattle.wasm_model.specs.declared.host.HostAnswer.TheVariants as told
 use Rattle.wasm_store.specs.declared.word.Word.{Word}
 use Rattle.world_core.specs.WorldState.{Action}
-use Rattle.host_step.specs.Imports.{host_finds, host_types, import_answer, import_at, import_type, imports_in, number_below, number_named, numbered, result_of, type_if_there, with_type}
+use Rattle.host_imports.specs.Imports.{host_finds, host_types, import_answer, import_at, import_type, imports_in, number_below, number_named, numbered, result_of, type_if_there, with_type}
 use Rattle.host_step.specs.HostState.{HostState, Names}
 use Rattle.host_step.specs.Answers.{encode, refusal}
 use Rattle.host_step.specs.HostStep.{Acts, Comes, Goes, Given, HostStep, IsGiven, Refuses, Settles, StepBy, StepIf, Traps, comes}
-use Rattle.host_step.specs.declared.import.Import.{Import}
+use Rattle.host_imports.specs.declared.import.Import.{Import}
 
 found_numbered : (n : ℕ) (t : Option Signature) (r : ℕ × Signature) → host_types n ≡ t → numbered n t ≡ Some r → host_types r.0 ≡ Some r.1
 found_numbered n None r e h = cc
@@ -72,16 +72,20 @@ given_typed : (i : Import) (g : Given) (a : HostAnswer) (after : HostState) (out
     ≡ result_of (import_answer i) → IsGiven g a after out → Typed (Some (import_type i)) a
 given_typed i g a after out t is = subst (Typed (Some (import_type i))) (sym is.word) t
 
-settles_typed : (i : Import) (before : HostState) (left : Names) (d : Acts (InAnswer (import_answer i))) (r : Result (InAnswer (import_answer i)) Fault) (a : HostAnswer) (after : HostState) (out : List Action) → Settles (import_answer i) before left d r a after out → Typed (Some (import_type i)) a
+settles_typed : (i : Import) (before : HostState) (left : Names) (d : Acts (InAnswer (import_answer i)))
+    (r : Result (InAnswer (import_answer i)) Fault) (a : HostAnswer) (after : HostState) (out : List Action)
+    → Settles (import_answer i) before left d r a after out → Typed (Some (import_type i)) a
 settles_typed i before left d (Ok x) a after out s = given_typed i _ a after out (answer_typed s.0 left (import_answer i) x) s.2
 settles_typed i before left d (Err f) a after out s = given_typed i _ a after out (refusal_typed (import_answer i)) s
 
-step_typed_by : (i : Import) (before : HostState) (c : Comes (InAnswer (import_answer i))) (a : HostAnswer) (after : HostState) (out : List Action) → StepBy (import_answer i) before c a after out → Typed (Some (import_type i)) a
+step_typed_by : (i : Import) (before : HostState) (c : Comes (InAnswer (import_answer i))) (a : HostAnswer) (after : HostState) (out : List Action)
+    → StepBy (import_answer i) before c a after out → Typed (Some (import_type i)) a
 step_typed_by i before (Traps k) a after out s = subst (Typed (Some (import_type i))) (sym s.trap) tt
 step_typed_by i before Refuses a after out s = given_typed i _ a after out (refusal_typed (import_answer i)) s
 step_typed_by i before (Goes left d) a after out s = settles_typed i before left d d.does.answer a after out s
 
 -- an answer is of its import's type
-pub step_typed : (o : Option Import) (before : HostState) (words : List Word) (memory : List ℕ) (a : HostAnswer) (after : HostState) (out : List Action) → StepIf o before words memory a after out → Typed (type_if_there o) a
+pub step_typed : (o : Option Import) (before : HostState) (words : List Word) (memory : List ℕ) (a : HostAnswer) (after : HostState)
+    (out : List Action) → StepIf o before words memory a after out → Typed (type_if_there o) a
 step_typed None before words memory a after out s = tt
 step_typed (Some i) before words memory a after out s = step_typed_by i before (comes i words memory before) a after out s

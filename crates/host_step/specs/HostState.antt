@@ -6,8 +6,7 @@ use Rattle.sem_primitives.specs.SharedState.{Shared}
 use Rattle.host_step.specs.Tables.{Table, size}
 
 -- What the numbers that the host gave out stand for: handles for values; an array's and an iterator's number for its number in the shared state,
--- where
--- numbers only grow. ARGV is 0 and ENVIRON is 1 here and there.
+-- where numbers only grow. ARGV is 0 and ENVIRON is 1 here and there.
 pub record Names : Type 0 where
   pub values : Table Value
   pub arrays : Table ℕ

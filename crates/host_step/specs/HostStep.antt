@@ -16,13 +16,13 @@ use Rattle.wasm_store.specs.declared.trap.TrapKind.{TrapKind}
 use Rattle.wasm_store.specs.declared.trap.TrapKind.TheVariants.{BadArgument}
 use Rattle.wasm_store.specs.declared.word.Word.{Word}
 use Rattle.world_core.specs.WorldState.{Action}
-use Rattle.host_step.specs.Imports.{import_answer, import_arguments, import_at, lets_go, spends}
+use Rattle.host_imports.specs.Imports.{import_answer, import_arguments, import_at, lets_go, spends}
 use Rattle.host_step.specs.HostState.{HostState, Names}
 use Rattle.host_step.specs.Arguments.{and_then, decode}
 use Rattle.host_step.specs.Answers.{FreeFor, encode, refusal}
-use Rattle.host_step.specs.declared.import.Listing.TheVariants.{Sprintf, Print, Printf}
-use Rattle.host_step.specs.declared.import.Import.{Import}
-use Rattle.host_step.specs.declared.import.Import.TheVariants.{Of, Over, Arg, Drop, IterFree, FreeArray}
+use Rattle.host_imports.specs.declared.import.Listing.TheVariants.{Sprintf, Print, Printf}
+use Rattle.host_imports.specs.declared.import.Import.{Import}
+use Rattle.host_imports.specs.declared.import.Import.TheVariants.{Of, Over, Arg, Drop, IterFree, FreeArray}
 
 -- What an import does with its arguments: to what a script and its host share, and to the argument list.
 

@@ -17,8 +17,8 @@ use Rattle.host_step.specs.HostState.{HostState, live_arrays}
 use Rattle.host_step.specs.Examples.{Call, new, call, answers, after, done, gives, counts, fails, fails_wide, start, holding, with_outside, input, nowhere, file, no_job}
 use Rattle.host_step.specs.Starts.{state_at_start}
 use Rattle.host_step.specs.Tables.{look}
-use Rattle.host_step.specs.declared.import.Import.{Import}
-use Rattle.host_step.specs.declared.import.Import.TheVariants.{Of, Over, Arg, Drop, IterFree, FreeArray}
+use Rattle.host_imports.specs.declared.import.Import.{Import}
+use Rattle.host_imports.specs.declared.import.Import.TheVariants.{Of, Over, Arg, Drop, IterFree, FreeArray}
 
 abbrev value_after : List ℕ → HostState → List Call → ℕ → Option Value
 value_after memory s calls h = look (after memory s calls).names.values (pos h)

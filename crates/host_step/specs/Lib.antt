@@ -1,4 +1,3 @@
-pub mod Imports
 pub mod Tables
 pub mod HostState
 pub mod Arguments

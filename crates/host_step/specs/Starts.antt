@@ -13,8 +13,7 @@ abbrev pub first_names : Names
 first_names = record { values = []; arrays = first_arrays; iterators = [] }
 
 -- No value has a handle, and no iterator is there; operands and environment are ARGV and ENVIRON; no fault is kept but `TextLimit`, where a text of
--- the job is
--- past the limit. The standard input and what names hold are the world's.
+-- the job is past the limit. The standard input and what names hold are the world's.
 abbrev pub state_at_start : JobForm → Source → Outside → HostState
 state_at_start job input outside = record {
   names = first_names;

@@ -7,7 +7,7 @@ use Rattle.sem_primitives.specs.declared.answers.InputAnswer.{InputAnswer}
 use Rattle.sem_primitives.specs.declared.answers.InputAnswer.TheVariants.{End, Read, Pending, Failed}
 use Rattle.sem_primitives.specs.declared.sorts.Answer.TheVariants as answer
 use Rattle.sem_primitives.specs.declared.table.Primitive.TheVariants as row
-use Rattle.wasm_model.specs.Hosts.{Typed}
+use Rattle.wasm_model.specs.Hosts.{Meaning, Typed}
 use Rattle.wasm_model.specs.declared.host.HostAnswer.{HostAnswer}
 use Rattle.wasm_model.specs.declared.host.HostAnswer.TheVariants as told
 use Rattle.wasm_store.specs.declared.trap.TrapKind.TheVariants.{BadArgument}
@@ -15,12 +15,13 @@ use Rattle.wasm_store.specs.declared.word.Word.{Word}
 use Rattle.wasm_store.specs.declared.word.Word.TheVariants.{I32}
 use Rattle.world_core.specs.declared.world.Ending.TheVariants as ending
 use Rattle.world_core.specs.WorldState.{Action, Outside, Source, absent, after}
-use Rattle.host_step.specs.Imports.{import_answer, type_if_there}
+use Rattle.host_imports.specs.Imports.{import_answer, import_at, type_if_there}
 use Rattle.host_step.specs.HostState.{HostState, Names}
-use Rattle.host_step.specs.Answers.{input_code, refusal}
+use Rattle.host_imports.specs.Codes.{input_code}
+use Rattle.host_step.specs.Answers.{refusal}
 use Rattle.host_step.specs.HostStep.{Comes, Goes, IsTrap, StepBy, StepIf, StepOf, Traps, Refuses, comes}
-use Rattle.host_step.specs.declared.import.Import.{Import}
-use Rattle.host_step.specs.declared.import.Import.TheVariants.{Of}
+use Rattle.host_imports.specs.declared.import.Import.{Import}
+use Rattle.host_imports.specs.declared.import.Import.TheVariants.{Of}
 
 -- the state of a host over a world keeps no output: this much came before
 abbrev pub with_output : List Action → HostState → HostState
@@ -50,8 +51,7 @@ abbrev pub unseen : HostState → HostState
 unseen s = record s { shared = record { inner = unseen_inner s.shared.inner; outside = λ target. absent; output = [] } }
 
 -- There is a world in which the call is a step. So handles, arrays, specials, the record, the argument list, the names of open files and the fault
--- are
--- what a step leaves; only what the world holds may be anything.
+-- are what a step leaves; only what the world holds may be anything.
 pub record IsStepInSomeWorld (i : Import) (before : HostState) (words : List Word) (memory : List ℕ) (a : HostAnswer) (after-call : HostState) : Type 0 where
   pub old : HostState
   pub new : HostState
@@ -60,9 +60,8 @@ pub record IsStepInSomeWorld (i : Import) (before : HostState) (words : List Wor
   pub same_after : unseen new ≡ unseen after-call
   pub step : StepOf i old words memory a new output
 
--- Reading. Within one call several files may be opened, one of them twice, so no one world need be there for it. What is read may be anything; what
--- a read
--- leaves alone is said.
+-- Reading. Within one call several files may be opened, one of them twice, so no one world need be there for it. What is read may be anything; what a
+-- read leaves alone is said.
 
 abbrev pub reads : Import → Bool
 reads (Of row.NextMain) = true
@@ -142,15 +141,21 @@ abbrev pub Anyhow : Option Import → HostState → List Word → List ℕ → H
 Anyhow None before words memory a after-call = (a ≡ told.Trap BadArgument) × (after-call ≡ before)
 Anyhow (Some i) before words memory a after-call = AnyhowIf (reads i) i before words memory a after-call
 
+-- the host of a module, as far as it is the same in every world
+abbrev pub anyhow_meaning : Meaning HostState Action
+anyhow_meaning before n words mem a after mem1 output = (mem1 ≡ mem) × Anyhow (import_at n) before words mem.bytes a after
+
 -- A call that wants no memory: a step, where the world tells its state; and what is said in every world.
-pub record Called (tells : Type 0) (import : Option Import) (before : HostState) (words : List Word) (memory : List ℕ) (a : HostAnswer) (after-call : HostState) (output : List Action) : Type 0 where
+pub record Called (tells : Type 0) (import : Option Import) (before : HostState) (words : List Word) (memory : List ℕ) (a : HostAnswer)
+    (after-call : HostState) (output : List Action) : Type 0 where
   pub typed : Typed (type_if_there import) a
   pub step : tells → (so_far : List Action)
       → StepIf import (with_output so_far before) words memory a (with_output (so_far ++ output) after-call) output
   pub anyhow : Anyhow import before words memory a after-call
 
 -- Memory was wanting in a call. Where the world tells its state, what was written by then is how the output of another answer begins.
-pub record Wanted (import : Option Import) (before : HostState) (words : List Word) (memory : List ℕ) (after-call : HostState) (output : List Action) : Type 0 where
+pub record Wanted (import : Option Import) (before : HostState) (words : List Word) (memory : List ℕ) (after-call : HostState)
+    (output : List Action) : Type 0 where
   pub outside : after-call.shared.outside ≡ after output before.shared.outside
   pub answer : HostAnswer
   pub answered : answer ≢ told.NoMemory

@@ -1,8 +1,4 @@
-//! The definition of the whole host: the table of imports, what each does to the host's state, and what it answers. Definitions alone, apart from
-//! the table.
+//! The definition of the whole host: what each import does to the host's state, and what it answers. Definitions alone.
 #![tactic(auto)]
 
-mod import;
 pub mod laws;
-
-pub use import::{IMPORTS, Import, Listing, imports_in};

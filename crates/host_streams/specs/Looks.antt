@@ -31,14 +31,16 @@ searched None bytes = all_but_one bytes
 pub record IsScanned (rs : Option ℕ) (bytes : List ℕ) (known : Known) : Type 0 where
   pub within : known.skipped + known.searched ≤ length bytes
   pub skips : (more : List ℕ) → skipped rs (bytes ++ more) ≡ known.skipped + cond (known.searched == 0) (skipped rs (drop known.skipped bytes ++ more)) 0
-  pub none : (more : List ℕ) → cut rs (drop known.skipped bytes ++ more) ≡ before (take known.searched (drop known.skipped bytes)) (cut rs (drop known.searched (drop known.skipped bytes) ++ more))
+  pub none : (more : List ℕ) → cut rs (drop known.skipped bytes ++ more)
+      ≡ before (take known.searched (drop known.skipped bytes)) (cut rs (drop known.searched (drop known.skipped bytes) ++ more))
 
 -- whatever follows, the record is there
 pub record IsThere (rs : Option ℕ) (bytes : List ℕ) (from to next : ℕ) : Type 0 where
   pub order : from ≤ to
   pub within : to ≤ length bytes
   pub next_within : next ≤ length bytes
-  pub found : (more : List ℕ) (ending : Ending) → first_record rs (record { rest = bytes ++ more; ending = ending }) ≡ Ok (IsRecord (slice_range bytes from to), record { rest = drop next bytes ++ more; ending = ending })
+  pub found : (more : List ℕ) (ending : Ending) → first_record rs (record { rest = bytes ++ more; ending = ending })
+      ≡ Ok (IsRecord (slice_range bytes from to), record { rest = drop next bytes ++ more; ending = ending })
 
 -- whatever follows, it is too long
 abbrev pub IsLong : Option ℕ → List ℕ → Type 0

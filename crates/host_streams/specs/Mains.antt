@@ -10,7 +10,7 @@ use Rattle.world_core.specs.WorldState.{Outside, Source, State}
 use Rattle.world_core.specs.Calls.{Kind, Closed, Reading as IsReading}
 use Rattle.sem_primitives.specs.Assignments.{assigned, assignment_of, begins_name}
 use Rattle.sem_primitives.specs.FieldMeaning.{special_text}
-use Rattle.sem_primitives.specs.InputMeaning.{Main, Taken, Over, NotOpened, Failed as ReadingFailed, main_input, is_below, made, operand_text, reach}
+use Rattle.sem_primitives.specs.InputMeaning.{Main, Taken, Over, NotOpened, Failed as ReadingFailed, main_input, is_below, made, next_file_row, operand_text, reach, taken}
 use Rattle.sem_primitives.specs.Records.{record_separator}
 use Rattle.sem_primitives.specs.SharedState.{Inner, MainInput, MainReader, Standard, File, Operands, NoFile, SomeFile, NoneLeft, ◌>>=◌, with_special}
 use Rattle.sem_primitives.specs.declared.constants.Special.TheVariants.{Argc, Filename, Fnr, Rs}
@@ -40,7 +40,14 @@ reading_of (reading.File r) state = Some (File (left r (state.readers r.id)))
 
 -- the main input that the definition speaks of
 abbrev pub main_of : Mains → State → MainInput
-main_of m state = record { standard = left m.standard (state.readers m.standard.id); next = m.next; operands = operands_of m.found; reading = reading_of m.reading state; ended = m.ended }
+main_of m state = record {
+  standard = left m.standard
+      (state.readers m.standard.id);
+  next = m.next;
+  operands = operands_of m.found;
+  reading = reading_of m.reading state;
+  ended = m.ended;
+}
 
 -- a file that is read is open, and no standard stream
 abbrev pub FileIsOpen : Reading → (ℕ → Kind) → Type 0
@@ -187,8 +194,8 @@ FaultIs given OpenInput outside new = given ≡ Ok (new, NotOpened)
 FaultIs given ReadFailed outside new = given ≡ Ok (new, ReadingFailed)
 FaultIs given fault outside new = (given ≡ Err fault) × (main_input outside new ≡ Err fault)
 
--- How what is to be given follows from what the definition gives after the call; short of memory the same is to be given. Who is told of an assignment makes it, and who is told of a file
--- that was opened sets FILENAME and FNR.
+-- How what is to be given follows from what the definition gives after the call; short of memory the same is to be given. Who is told of an
+-- assignment makes it, and who is told of a file that was opened sets FILENAME and FNR.
 abbrev pub GivenIs : Result (Inner × Main) Fault → Result (Option MainNext) Stop → Outside → Inner → Inner → Type 0
 GivenIs given (Ok None) outside old new = given ≡ main_input outside new
 GivenIs given (Ok (Some (Record text))) outside old new = given ≡ Ok (new, Taken text)
@@ -216,6 +223,36 @@ abbrev pub AnswerIs : Result (Inner × Main) Fault → Result MainNext Stop → 
 AnswerIs given (Ok answer) outside old new = GivenIs given (Ok (Some answer)) outside old new
 AnswerIs given (Err stop) outside old new = GivenIs given (Err stop) outside old new
 
+-- the main input, over other things of the state
+abbrev pub main_in : Mains → State → Inner → Inner
+main_in m state inner = with_main (main_of m state) inner
+
+-- a step gives what the definition of the main input does
+abbrev pub GivesStep : Inner → Mains → State → Result (Option MainNext) Stop → Mains → State → Type 0
+GivesStep inner old before answer new after =
+    GivenIs (main_input before.outside (main_in old before inner)) answer before.outside
+    (main_in old before inner) (main_in new after inner)
+
+-- the operand at hand is passed, and this text of it gives what the definition does
+abbrev pub GivesOperand : List ℕ → Inner → Mains → State → Result (Option MainNext) Stop → Mains → State → Type 0
+GivesOperand text inner old before answer new after =
+    GivenIs
+    (taken (rest_of (passed (main_of old before)) before.outside) before.outside text
+    (with_main (passed (main_of old before)) inner))
+    answer before.outside (main_in old before inner) (main_in new after inner)
+
+-- The answer is what the definition of the main input gives, for this RS, this ARGC and these elements of ARGV.
+abbrev pub GivesMain : Option ℕ → Value → (ℕ → List ℕ) → Mains → State → Result MainNext Stop → Mains → State → Type 0
+GivesMain rs argc texts old before answer new after =
+    (inner : Inner) → IsAsked rs inner → IsOffered argc texts inner
+    → AnswerIs (main_input before.outside (main_in old before inner)) answer before.outside
+    (main_in old before inner) (main_in new after inner)
+
+-- the rest of what is read is given up, as `nextfile` does
+abbrev pub SkipsMain : Mains → State → Mains → State → Type 0
+SkipsMain old before new after =
+    (inner : Inner) → next_file_row (main_in old before inner) ≡ (main_in new after inner, tt)
+
 -- before anything is read
 abbrev pub main_at_start : Source → MainInput
 main_at_start input = record { standard = input; next = 1; operands = NoFile; reading = None; ended = false }
@@ -229,6 +266,13 @@ IsApartFrom k (reading.File r) = k ≢ r.id
 -- every other stream that is open stays so
 abbrev pub SparesKinds : Reading → Reading → (ℕ → Kind) → (ℕ → Kind) → Type 0
 SparesKinds was is old new = (k : ℕ) → IsApartFrom k was → old k ≢ Closed → (new k ≡ old k) × IsApartFrom k is
+
+abbrev pub SparesOthers : Mains → Mains → (ℕ → Kind) → (ℕ → Kind) → Type 0
+SparesOthers old new before after = SparesKinds old.reading new.reading before after
+
+-- a stream that is open then, but for the file that is read, was open before
+abbrev pub OpensNoOther : Mains → Mains → (ℕ → Kind) → (ℕ → Kind) → Type 0
+OpensNoOther old new before after = SparesKinds new.reading old.reading after before
 
 -- and where it is
 abbrev pub SparesPlaces : Reading → (ℕ → Kind) → State → State → Type 0

@@ -7,6 +7,7 @@ use Rattle.world_core.specs.WorldState.{State, Source, Named, Entry}
 use Rattle.world_core.specs.Calls.{Kind, Closed, Reading, Writing}
 use Rattle.sem_primitives.specs.Texts.{same_text}
 use Rattle.sem_primitives.specs.InputMeaning.{reader_named, with_reader, source_of}
+use Rattle.sem_primitives.specs.OutputMeaning.{is_writing}
 use Rattle.host_streams.specs.declared.reader.Phase.{Phase}
 use Rattle.host_streams.specs.declared.reader.Phase.TheVariants.{Open, Broken}
 use Rattle.host_streams.specs.declared.reader.FileNext.{FileNext}
@@ -15,7 +16,7 @@ use Rattle.host_streams.specs.declared.streams.NamedReader.{NamedReader}
 use Rattle.host_streams.specs.declared.streams.NamedWriter.{NamedWriter}
 use Rattle.host_streams.specs.declared.streams.Streams.{Streams}
 use Rattle.host_streams.specs.declared.reader.Reader.{Reader}
-use Rattle.host_streams.specs.Readers.{left, unread, Answers, HandsOver, OnlyLimit}
+use Rattle.host_streams.specs.Readers.{left, unread, Answers, HandsOver, NextCounts, NextPhase, OnlyLimit}
 
 -- the name and the number of an open stream
 abbrev pub reader_handle : NamedReader → List ℕ × ℕ
@@ -53,6 +54,9 @@ readers_in readers state = map (λ r. (r.name, left r.reader (state.readers r.re
 -- the names that are open for reading
 abbrev pub reader_names : List NamedReader → List (List ℕ)
 reader_names readers = map (λ r. r.name) readers
+
+abbrev pub has_reader : List ℕ → List NamedReader → Bool
+has_reader name readers = is_writing name (reader_names readers)
 
 abbrev pub is_reader : List ℕ → NamedReader → Bool
 is_reader name r = same_text name r.name
@@ -99,7 +103,8 @@ has_room s = nat_lt (length s.readers.items + length s.writers.items) 256
 
 -- a file is opened, or there is no room for it, or it does not open
 abbrev pub OpensFile : List ℕ → Bool → State → List (List ℕ × Source) → Result (Option ℕ) Stop → List (List ℕ × Source) → Type 0
-OpensFile name room state old (Ok (Some at)) new = (room ≡ true) × (source : Source) × (source_of (state.outside (Named name)) ≡ Some source) × (new ≡ with_reader name source old)
+OpensFile name room state old (Ok (Some at)) new = (room ≡ true) × (source : Source) × (source_of (state.outside (Named name)) ≡ Some source)
+    × (new ≡ with_reader name source old)
 OpensFile name room state old (Ok None) new = (room ≡ true) × (source_of (state.outside (Named name)) ≡ None) × (new ≡ old)
 OpensFile name room state old (Err (IsFault fault)) new = (room ≡ false) × (fault ≡ TooManyStreams) × (new ≡ old)
 OpensFile name room state old (Err NoMemory) new = (room ≡ true) × (new ≡ old)
@@ -119,7 +124,8 @@ OpensReader room name old (Ok None) new = (room ≡ true) × (new ≡ old)
 OpensReader room name old (Err (IsFault fault)) new = (room ≡ false) × (fault ≡ TooManyStreams) × (new ≡ old)
 OpensReader room name old (Err NoMemory) new = (room ≡ true) × (new ≡ old)
 
--- A file without a reader is opened, if memory suffices, and read. One that does not open has no reader; one of which a read failed has one, and the answer is the same.
+-- A file without a reader is opened, if memory suffices, and read. One that does not open has no reader; one of which a read failed has one, and the
+-- answer is the same.
 abbrev pub StartsReader : List ℕ → List NamedReader → Result FileNext Stop → List NamedReader → Type 0
 StartsReader name old (Ok (Record text)) new = IsAdded name old new
 StartsReader name old (Ok End) new = IsAdded name old new
@@ -134,7 +140,8 @@ ReadersAfter false false name old answer new = (answer ≡ Err (IsFault TooManyS
 ReadersAfter false true name old answer new = StartsReader name old answer new
 
 -- the next record of a file that is open
-pub record ReadsFile (name : List ℕ) (rs : Option ℕ) (old : List (List ℕ × Source)) (answer : Result FileNext Stop) (new : List (List ℕ × Source)) : Type 0 where
+pub record ReadsFile (name : List ℕ) (rs : Option ℕ) (old : List (List ℕ × Source)) (answer : Result FileNext Stop) (new : List (List ℕ
+    × Source)) : Type 0 where
   pub before : Source
   pub named : reader_named name old ≡ Some before
   pub later : Source
@@ -154,6 +161,42 @@ FileNextBy None name rs room entry old answer new = StartsFile room (source_of e
 -- the next record of a file: what the name holds is read when it is opened
 abbrev pub FileNextIs : List ℕ → Option ℕ → Bool → Entry → List (List ℕ × Source) → Result FileNext Stop → List (List ℕ × Source) → Type 0
 FileNextIs name rs room entry old answer new = FileNextBy (reader_named name old) name rs room entry old answer new
+
+-- The next record of a name was asked for, of what the name held before.
+abbrev pub ReadsNext : List ℕ → Option ℕ → Streams → State → Result FileNext Stop → Streams → State → Type 0
+ReadsNext name rs old before answer new after =
+    FileNextIs name rs (has_room old) (before.outside (Named name))
+    (readers_in old.readers.items before) answer (readers_in new.readers.items after)
+
+-- In every world, where the next record of a name was asked for:
+
+-- which files are open for reading then
+abbrev pub FileReaders : List ℕ → Streams → Result FileNext Stop → Streams → Type 0
+FileReaders name old answer new =
+    ReadersAfter (has_reader name old.readers.items) (has_room old) name
+    old.readers.items answer new.readers.items
+
+-- a reader that the name has then is broken exactly where the answer is a failure
+abbrev pub FileBreaks : List ℕ → Streams → Result FileNext Stop → Streams → Type 0
+FileBreaks name old answer new =
+    has_reader name new.readers.items ≡ true
+    → NextPhase (phase_named name old.readers.items) answer (phase_named name new.readers.items)
+
+-- and the answer is that of the bytes that it kept and of those that the file handed over
+abbrev pub FileHands : List ℕ → Option ℕ → Streams → Result FileNext Stop → Streams → Type 0
+FileHands name rs old answer new =
+    has_reader name new.readers.items ≡ true
+    → HandsFile name rs old.readers.items answer new.readers.items
+
+-- once a read failed, it is told for ever
+abbrev pub FileGoesOnFailing : List ℕ → Streams → Result FileNext Stop → Streams → Type 0
+FileGoesOnFailing name old answer new =
+    phase_named name old.readers.items ≡ Broken
+    → (answer ≡ Ok Failed) × (phase_named name new.readers.items ≡ Broken)
+
+-- a failure is counted once for each reader
+abbrev pub FileCounts : List ℕ → Streams → Result FileNext Stop → ℕ → ℕ → Type 0
+FileCounts name old answer n m = NextCounts (phase_named name old.readers.items) answer n m
 
 -- no stream of these has the number
 abbrev pub IsNone : ℕ → List (List ℕ × ℕ) → Type 0

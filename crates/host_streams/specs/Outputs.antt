@@ -5,14 +5,14 @@ use Rattle.awk_values.specs.declared.fault.Stop.{Stop}
 use Rattle.awk_values.specs.declared.fault.Stop.TheVariants.{Fault as IsFault, NoMemory}
 use Rattle.world_core.specs.WorldState.{State}
 use Rattle.sem_primitives.specs.SharedState.{Shared, Does}
-use Rattle.sem_primitives.specs.OutputMeaning.{is_writing}
+use Rattle.sem_primitives.specs.OutputMeaning.{is_writing, put_text}
 use Rattle.sem_primitives.specs.declared.constants.Destination.{Destination}
 use Rattle.sem_primitives.specs.declared.constants.Destination.TheVariants as destination
 use Rattle.host_streams.specs.declared.output.Target.{Target}
 use Rattle.host_streams.specs.declared.output.Target.TheVariants.{Standard, Emptied, Appended}
 use Rattle.host_streams.specs.declared.streams.Streams.{Streams}
-use Rattle.host_streams.specs.OpenFiles.{names_of, readers_in}
-use Rattle.host_streams.specs.Puts.{HasBegun, HasDone}
+use Rattle.host_streams.specs.OpenFiles.{has_room, names_of, readers_in}
+use Rattle.host_streams.specs.Puts.{BeginsBy, EndsPut, HasBegun, HasDone}
 
 -- this is what the definition speaks of: the files that are open, and the outside
 pub record IsOf (s : Streams) (state : State) (shared : Shared) : Type 0 where
@@ -50,3 +50,21 @@ abbrev pub open_before : Target → List (List ℕ) → Bool
 open_before Standard names = true
 open_before (Emptied name) names = is_writing name.now names
 open_before (Appended name) names = is_writing name.now names
+
+-- A text was put to a target as printing has it: what was done, the answer, and the files that are open for writing.
+abbrev pub PutsTo : Target → List ℕ → Streams → State → Result (Unit {0}) Stop → Streams → State → Type 0
+PutsTo target text old before answer new after =
+    (shared : Shared) → IsOf old before shared
+    → PutsIs (put_text (destination_of target) (name_of target) text shared) answer before after
+    (names_of old.writers.items) (names_of new.writers.items)
+
+-- short of memory a number of the first actions was done
+abbrev pub BeginsPutTo : Type 0 → Target → List ℕ → Streams → State → Result (Unit {0}) Stop → State → Type 0
+BeginsPutTo tells target text old before answer after =
+    BeginsBy tells (IsOf old before) (put_text (destination_of target) (name_of target) text) answer
+    before after
+
+-- how putting a text ends, by what was open before
+abbrev pub EndsPutTo : Target → List ℕ → Streams → Result (Unit {0}) Stop → Type 0
+EndsPutTo target text old answer =
+    EndsPut (open_before target (names_of old.writers.items)) (has_room old) text answer

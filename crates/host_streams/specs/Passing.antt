@@ -56,7 +56,8 @@ pub record ReadsAt (rs : Option ℕ) (old : Mains) (answer : Result FileNext Sto
 abbrev pub NoRecord : Option ℕ → Mains → Mains → Type 0
 NoRecord rs old new = (old.ended ≡ true) ⊎ IsAtEnd rs old.reading old.standard new.standard
 
--- a record, a failed read and a text that is too long are answers of the reader at hand; before any other answer it has no record left; short of memory it may be as it was
+-- a record, a failed read and a text that is too long are answers of the reader at hand; before any other answer it has no record left; short of
+-- memory it may be as it was
 abbrev pub HandsMain : Option ℕ → Mains → Result MainNext Stop → Mains → Type 0
 HandsMain rs old (Ok (Record text)) new = ReadsAt rs old (Ok (file.Record text)) new
 HandsMain rs old (Err (IsFault ReadFailed)) new = ReadsAt rs old (Ok file.Failed) new
@@ -89,7 +90,8 @@ pub record TakesFile (texts : ℕ → List ℕ) (from : ℕ) (found : Found) (na
   pub named : name ≢ []
   pub file : assignment_of name ≡ None
 
--- Which operands are passed: those that are empty, and at most one that is told, or that names a file that does not open. Whether one of them named a file is kept; where none did the standard input follows.
+-- Which operands are passed: those that are empty, and at most one that is told, or that names a file that does not open. Whether one of them named a
+-- file is kept; where none did the standard input follows.
 abbrev pub Passes : (ℕ → List ℕ) → ℕ → Found → Result MainNext Stop → ℕ → Found → Type 0
 Passes texts n f (Ok (Record text)) m g = (m ≡ n) × (g ≡ f)
 Passes texts n f (Ok (Assign name value)) m g = (text : List ℕ) × Takes texts n f text m × (assignment_of text ≡ Some (name, value)) × (g ≡ f)

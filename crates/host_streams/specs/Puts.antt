@@ -27,8 +27,10 @@ pub record PutsSome (id : ℕ) (text : List ℕ) (old new : State) : Type 0 wher
 
 -- what fits goes out, and it is a failure that not all does
 abbrev pub PutsText : ℕ → List ℕ → State → Result (Unit {0}) WorldFault → State → Type 0
-PutsText id text old (Ok _) new = (all_fits (free (entry_written id old)) text ≡ true) × Does (puts (old.writers id) (what_fits (free (entry_written id old)) text)) old new
-PutsText id text old (Err Failed) new = (all_fits (free (entry_written id old)) text ≡ false) × Does (puts (old.writers id) (what_fits (free (entry_written id old)) text)) old new
+PutsText id text old (Ok _) new = (all_fits (free (entry_written id old)) text ≡ true)
+    × Does (puts (old.writers id) (what_fits (free (entry_written id old)) text)) old new
+PutsText id text old (Err Failed) new = (all_fits (free (entry_written id old)) text ≡ false)
+    × Does (puts (old.writers id) (what_fits (free (entry_written id old)) text)) old new
 PutsText id text old (Err NoMemory) new = PutsSome id text old new
 
 -- the outside is as after these actions, and this was to be answered
@@ -83,7 +85,8 @@ EndsPut ready room text (Err OutOfMemory) = Unit {0}
 
 -- Where memory was wanting, so many of the actions were done; what these are, a world tells that tells its state.
 abbrev pub BeginsBy : {A : Type 0} → Type 0 → (Shared → Type 0) → (Shared → Doing (Result (Unit {0}) Fault)) → Result A Stop → State → State → Type 0
-BeginsBy tells is does (Err OutOfMemory) old new = (n : ℕ) × (tells → (shared : Shared) → is shared → new.outside ≡ after (take n (does shared).added) old.outside)
+BeginsBy tells is does (Err OutOfMemory) old new = (n : ℕ)
+    × (tells → (shared : Shared) → is shared → new.outside ≡ after (take n (does shared).added) old.outside)
 BeginsBy tells is does r old new = Unit {0}
 
 -- where memory was wanting, so many bytes of what fits have gone out

@@ -56,7 +56,8 @@ handed bytes Ended later = record { rest = bytes; ending = IsEnd }
 handed bytes Broken later = record { rest = bytes; ending = IsFailure }
 
 -- In every world: the stream handed over some bytes, and whatever is to come after them, the answer is that of the whole bytes.
-pub record HandsOver (rs : Option ℕ) (old_phase : Phase) (old_kept : List ℕ) (answer : Result FileNext Stop) (new_phase : Phase) (new_kept : List ℕ) : Type 0 where
+pub record HandsOver (rs : Option ℕ) (old_phase : Phase) (old_kept : List ℕ) (answer : Result FileNext Stop) (new_phase : Phase)
+    (new_kept : List ℕ) : Type 0 where
   pub bytes : List ℕ
   pub answers : (later : Source) → Answers rs (left_in old_phase old_kept (handed bytes new_phase later)) answer (left_in new_phase new_kept later)
 
@@ -87,7 +88,8 @@ IsLast text (Err stop) old new = (stop ≡ OutOfMemory) × (new ≡ old)
 
 -- one piece is read
 abbrev pub Fills : ℕ → State → List ℕ → Result Bool WorldFault → List ℕ → State → Type 0
-Fills id old kept (Ok true) now new = (now ++ (new.readers id).rest ≡ kept ++ (old.readers id).rest) × ((new.readers id).ending ≡ (old.readers id).ending) × OnlyReads id old new
+Fills id old kept (Ok true) now new = (now ++ (new.readers id).rest ≡ kept ++ (old.readers id).rest)
+    × ((new.readers id).ending ≡ (old.readers id).ending) × OnlyReads id old new
 Fills id old kept (Ok false) now new = ((old.readers id).rest ≡ []) × ((old.readers id).ending ≡ IsEnd) × OnlyReads id old new
 Fills id old kept (Err DeviceFailed) now new = (new ≡ old) × ((old.readers id).rest ≡ []) × ((old.readers id).ending ≡ IsFailure)
 Fills id old kept (Err NoMemory) now new = new ≡ old

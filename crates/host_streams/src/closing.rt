@@ -1,12 +1,9 @@
 //! Files that are closed.
-ghost use Rattle.std.specs.Prelude.{◌≡◌, ◌||◌};
-ghost use Rattle.sem_primitives.specs.InputMeaning.{close_row, without_reader, without_writer};
+ghost use Rattle.std.specs.Prelude.{◌≡◌};
+ghost use Rattle.sem_primitives.specs.InputMeaning.{without_reader, without_writer};
 ghost use Rattle.sem_primitives.specs.OutputMeaning.{is_writing};
-ghost use Rattle.sem_primitives.specs.SharedState.{Shared};
-ghost use Rattle.awk_values.specs.declared.value.Value.TheVariants.{Text};
-ghost use Rattle.host_streams.specs.Closing.{ClosesBy};
+ghost use Rattle.host_streams.specs.Closing.{ClosesName, is_open};
 ghost use Rattle.host_streams.specs.OpenFiles.{HoldsOpen, OthersKeep, OthersStay, WritersGo, names_of, reader_names, readers_beside, readers_in, writers_beside};
-ghost use Rattle.host_streams.specs.Outputs.{IsOf};
 
 use crate::output::find_writer;
 use crate::streams::{Streams, find_reader};
@@ -23,12 +20,15 @@ impl Streams {
         ensures count { W.count world.new ≡ W.count world.old }
         ensures answer { result ≡ is_writing name.now (reader_names self.old.readers.items) }
         ensures kept { self.new.readers.items ≡ readers_beside name.now self.old.readers.items }
-        ensures names { reader_names self.new.readers.items ≡ without_writer name.now (reader_names self.old.readers.items) }
-        ensures told { W.tells → readers_in self.new.readers.items (W.state world.new) ≡ without_reader name.now (readers_in self.old.readers.items (W.state world.old)) }
+        ensures names { reader_names self.new.readers.items
+            ≡ without_writer name.now (reader_names self.old.readers.items) }
+        ensures told { W.tells → readers_in self.new.readers.items (W.state world.new)
+            ≡ without_reader name.now (readers_in self.old.readers.items (W.state world.old)) }
         ensures outside { W.tells → (W.state world.new).outside ≡ (W.state world.old).outside }
         ensures others { OthersStay self.old self.new (W.kinds world.old) (W.kinds world.new) }
         ensures no_others { OthersStay self.new self.old (W.kinds world.new) (W.kinds world.old) }
-        ensures places { W.tells → OthersKeep self.old (W.kinds world.old) (W.state world.old) (W.state world.new) }
+        ensures places { W.tells
+            → OthersKeep self.old (W.kinds world.old) (W.state world.old) (W.state world.new) }
     {
         match find_reader(self.readers.as_slice(), name) {
             Some(at) => {
@@ -50,12 +50,15 @@ impl Streams {
         ensures count { W.count world.new ≡ W.count world.old }
         ensures answer { result ≡ is_writing name.now (names_of self.old.writers.items) }
         ensures kept { self.new.writers.items ≡ writers_beside name.now self.old.writers.items }
-        ensures names { names_of self.new.writers.items ≡ without_writer name.now (names_of self.old.writers.items) }
-        ensures told { W.tells → readers_in self.new.readers.items (W.state world.new) ≡ readers_in self.old.readers.items (W.state world.old) }
+        ensures names { names_of self.new.writers.items
+            ≡ without_writer name.now (names_of self.old.writers.items) }
+        ensures told { W.tells → readers_in self.new.readers.items (W.state world.new)
+            ≡ readers_in self.old.readers.items (W.state world.old) }
         ensures outside { W.tells → (W.state world.new).outside ≡ (W.state world.old).outside }
         ensures others { OthersStay self.old self.new (W.kinds world.old) (W.kinds world.new) }
         ensures no_others { OthersStay self.new self.old (W.kinds world.new) (W.kinds world.old) }
-        ensures places { W.tells → OthersKeep self.old (W.kinds world.old) (W.state world.old) (W.state world.new) }
+        ensures places { W.tells
+            → OthersKeep self.old (W.kinds world.old) (W.state world.old) (W.state world.new) }
     {
         match find_writer(self.writers.as_slice(), name) {
             Some(at) => {
@@ -74,17 +77,21 @@ impl Streams {
         requires goes { W.tells → WritersGo self.old.writers.items (W.state world.old) }
         ensures held { HoldsOpen self.new (W.kinds world.new) }
         ensures goes { W.tells → WritersGo self.new.writers.items (W.state world.new) }
-        ensures answer { result ≡ (is_writing name.now (reader_names self.old.readers.items) || is_writing name.now (names_of self.old.writers.items)) }
+        ensures answer { result ≡ is_open name.now self.old }
         ensures readers { self.new.readers.items ≡ readers_beside name.now self.old.readers.items }
         ensures writers { self.new.writers.items ≡ writers_beside name.now self.old.writers.items }
-        ensures reader_names { reader_names self.new.readers.items ≡ without_writer name.now (reader_names self.old.readers.items) }
-        ensures writer_names { names_of self.new.writers.items ≡ without_writer name.now (names_of self.old.writers.items) }
+        ensures reader_names { reader_names self.new.readers.items
+            ≡ without_writer name.now (reader_names self.old.readers.items) }
+        ensures writer_names { names_of self.new.writers.items
+            ≡ without_writer name.now (names_of self.old.writers.items) }
         ensures count { W.count world.new ≡ W.count world.old }
-        ensures told { W.tells → (shared : Shared) → IsOf self.old (W.state world.old) shared → ClosesBy (close_row (Text name.now) shared.inner) result self.new (W.state world.new) }
+        ensures told { W.tells
+            → ClosesName name.now self.old (W.state world.old) result self.new (W.state world.new) }
         ensures outside { W.tells → (W.state world.new).outside ≡ (W.state world.old).outside }
         ensures others { OthersStay self.old self.new (W.kinds world.old) (W.kinds world.new) }
         ensures no_others { OthersStay self.new self.old (W.kinds world.new) (W.kinds world.old) }
-        ensures places { W.tells → OthersKeep self.old (W.kinds world.old) (W.state world.old) (W.state world.new) }
+        ensures places { W.tells
+            → OthersKeep self.old (W.kinds world.old) (W.state world.old) (W.state world.new) }
     {
         let reading = self.close_reader(world, name);
         let writing = self.close_writer(world, name);

@@ -5,12 +5,12 @@ ghost use Rattle.world_core.specs.WorldState.{State};
 ghost use Rattle.world_core.specs.Calls.{Kind};
 ghost use Rattle.awk_values.specs.Values.{number_of_value};
 ghost use Rattle.sem_primitives.specs.Assignments.{assignment_of, continues_name};
-ghost use Rattle.sem_primitives.specs.InputMeaning.{follows, main_input, next_file_row, reader_of, taken};
+ghost use Rattle.sem_primitives.specs.InputMeaning.{follows, reader_of};
 ghost use Rattle.sem_primitives.specs.Records.{record_separator};
 ghost use Rattle.sem_primitives.specs.SharedState.{Inner};
 ghost use Rattle.host_streams.specs.declared.reader.Phase.TheVariants.{Broken, Open};
 ghost use Rattle.host_streams.specs.Readers.{NextCounts, NextPhase, OnlyLimit};
-ghost use Rattle.host_streams.specs.Mains.{AnswerIs, FileIsOpen, GivenIs, GoesOn, HoldsMain, IsApartFrom, IsAsked, IsFresh, IsOfNumber, IsOffered, MainCounts, MainEnds, MainPhase, NameLen, OperandCounts, ReadsMain, SparesKinds, SparesPlaces, StandardIs, StepEnds, begins, has_operand, idle, is_equals, main_at_start, main_of, main_phase, passed, phase_at, reading_of, rest_of, with_main};
+ghost use Rattle.host_streams.specs.Mains.{FileIsOpen, GivenIs, GivesMain, GivesOperand, GivesStep, GoesOn, HoldsMain, IsApartFrom, IsAsked, IsFresh, IsOfNumber, IsOffered, MainCounts, MainEnds, MainPhase, NameLen, OpensNoOther, OperandCounts, ReadsMain, SkipsMain, SparesKinds, SparesOthers, SparesPlaces, StandardIs, StepEnds, begins, has_operand, idle, is_equals, main_at_start, main_in, main_of, main_phase, phase_at, reading_of};
 ghost use Rattle.host_streams.specs.Passing.{AreThere, FollowsAll, HandsAt, HandsMain, HandsStep, IdleAfter, IsOfOperands, IsOfReader, IsOne, NoneMore, Passes, RestsAfter, StandardSkips, StandardStays, StepNoneMore, StepPasses, StepRests};
 
 use crate::reader::{FileNext, Reader};
@@ -131,16 +131,20 @@ fn name_len(text: &[u8]) -> Option<usize>
 /// Opens what an operand names, `-` being the standard input; nothing where it does not open.
 fn open_operand<W: World>(world: &mut W, alloc: Global, name: &[u8]) -> Result<Reading, Stop>
     ensures held { IfOk result (λ r. FileIsOpen r (W.kinds world.new)) }
-    ensures told { W.tells → IfOk result (λ r. reader_of (W.state world.old).outside name.now ≡ reading_of r (W.state world.new)) }
+    ensures told { W.tells → IfOk result
+        (λ r. reader_of (W.state world.old).outside name.now ≡ reading_of r (W.state world.new)) }
     ensures refused { W.tells → OnErr result (W.state world.new ≡ W.state world.old) }
     ensures memory { IfErr result (λ stop. stop ≡ Stop.NoMemory) }
     ensures count { OperandCounts result (W.count world.old) (W.count world.new) }
     ensures fresh { IfOk result (λ r. IsFresh r) }
-    ensures no_others { IfOk result (λ r. SparesKinds r Reading.Nothing (W.kinds world.new) (W.kinds world.old)) }
+    ensures no_others { IfOk result
+        (λ r. SparesKinds r Reading.Nothing (W.kinds world.new) (W.kinds world.old)) }
     ensures standard { W.tells → (W.state world.new).readers 0 ≡ (W.state world.old).readers 0 }
-    ensures opened { IfOk result (λ r. SparesKinds Reading.Nothing r (W.kinds world.old) (W.kinds world.new)) }
+    ensures opened { IfOk result
+        (λ r. SparesKinds Reading.Nothing r (W.kinds world.old) (W.kinds world.new)) }
     ensures not_opened { OnErr result (W.kinds world.new ≡ W.kinds world.old) }
-    ensures places { W.tells → SparesPlaces Reading.Nothing (W.kinds world.old) (W.state world.old) (W.state world.new) }
+    ensures places { W.tells
+        → SparesPlaces Reading.Nothing (W.kinds world.old) (W.state world.old) (W.state world.new) }
     ensures outside { W.tells → (W.state world.new).outside ≡ (W.state world.old).outside }
 {
     if name == b"-".as_slice() {
@@ -187,19 +191,24 @@ impl MainInput {
         ensures held { HoldsMain self.new (W.kinds world.new) }
         ensures kinds { W.kinds world.new ≡ W.kinds world.old }
         ensures ended { self.new.ended ≡ self.old.ended }
-        ensures count { NextCounts (phase_at self.old.reading self.old.standard) result (W.count world.old) (W.count world.new) }
-        ensures phase { NextPhase (phase_at self.old.reading self.old.standard) result (phase_at self.new.reading self.new.standard) }
+        ensures count { NextCounts (phase_at self.old.reading self.old.standard) result
+            (W.count world.old) (W.count world.new) }
+        ensures phase { NextPhase (phase_at self.old.reading self.old.standard) result
+            (phase_at self.new.reading self.new.standard) }
         ensures limit { OnlyLimit result }
         ensures next { self.new.next ≡ self.old.next }
         ensures busy { self.new.reading ≢ Reading.Nothing }
-        ensures told { W.tells → ReadsMain rs (main_of self.old (W.state world.old)) result (main_of self.new (W.state world.new)) }
-        ensures spares { SparesKinds self.old.reading self.new.reading (W.kinds world.old) (W.kinds world.new) }
-        ensures no_others { SparesKinds self.new.reading self.old.reading (W.kinds world.new) (W.kinds world.old) }
-        ensures places { W.tells → SparesPlaces self.old.reading (W.kinds world.old) (W.state world.old) (W.state world.new) }
+        ensures told { W.tells → ReadsMain rs (main_of self.old (W.state world.old)) result
+            (main_of self.new (W.state world.new)) }
+        ensures spares { SparesOthers self.old self.new (W.kinds world.old) (W.kinds world.new) }
+        ensures no_others { OpensNoOther self.old self.new (W.kinds world.old) (W.kinds world.new) }
+        ensures places { W.tells → SparesPlaces self.old.reading (W.kinds world.old)
+            (W.state world.old) (W.state world.new) }
         ensures outside { W.tells → (W.state world.new).outside ≡ (W.state world.old).outside }
         ensures found { self.new.found ≡ self.old.found }
         ensures standard { StandardStays self.old.reading self.old.standard self.new.standard }
-        ensures handed { HandsAt rs self.old.reading self.old.standard result self.new.reading self.new.standard }
+        ensures handed { HandsAt rs self.old.reading self.old.standard result self.new.reading
+            self.new.standard }
     {
         match &mut self.reading {
             Reading::Nothing => Ok(FileNext::End),
@@ -217,10 +226,12 @@ impl MainInput {
         ensures ended { self.new.ended ≡ self.old.ended }
         ensures next { self.new.next ≡ self.old.next }
         ensures count { W.count world.new ≡ W.count world.old }
-        ensures told { W.tells → main_of self.new (W.state world.new) ≡ idle (main_of self.old (W.state world.old)) }
-        ensures spares { SparesKinds self.old.reading self.new.reading (W.kinds world.old) (W.kinds world.new) }
-        ensures no_others { SparesKinds self.new.reading self.old.reading (W.kinds world.new) (W.kinds world.old) }
-        ensures places { W.tells → SparesPlaces self.old.reading (W.kinds world.old) (W.state world.old) (W.state world.new) }
+        ensures told { W.tells → main_of self.new (W.state world.new)
+            ≡ idle (main_of self.old (W.state world.old)) }
+        ensures spares { SparesOthers self.old self.new (W.kinds world.old) (W.kinds world.new) }
+        ensures no_others { OpensNoOther self.old self.new (W.kinds world.old) (W.kinds world.new) }
+        ensures places { W.tells → SparesPlaces self.old.reading (W.kinds world.old)
+            (W.state world.old) (W.state world.new) }
         ensures outside { W.tells → (W.state world.new).outside ≡ (W.state world.old).outside }
         ensures found { self.new.found ≡ self.old.found }
         ensures standard { self.new.standard ≡ self.old.standard }
@@ -237,14 +248,17 @@ impl MainInput {
         requires busy { self.old.reading ≢ Reading.Nothing }
         requires live { self.old.ended ≡ false }
         ensures held { HoldsMain self.new (W.kinds world.new) }
-        ensures told { W.tells → (inner : Inner) → IsAsked rs inner → GivenIs (main_input (W.state world.old).outside (with_main (main_of self.old (W.state world.old)) inner)) result (W.state world.old).outside (with_main (main_of self.old (W.state world.old)) inner) (with_main (main_of self.new (W.state world.new)) inner) }
+        ensures told { W.tells → (inner : Inner) → IsAsked rs inner
+            → GivesStep inner self.old (W.state world.old) result self.new (W.state world.new) }
         ensures goes_on { GoesOn result self.old self.new }
-        ensures count { MainCounts (main_phase self.old) result (W.count world.old) (W.count world.new) }
+        ensures count { MainCounts (main_phase self.old) result (W.count world.old)
+            (W.count world.new) }
         ensures phase { MainPhase (main_phase self.old) result (main_phase self.new) }
         ensures ends { StepEnds self.old.ended result self.new.ended }
-        ensures spares { SparesKinds self.old.reading self.new.reading (W.kinds world.old) (W.kinds world.new) }
-        ensures no_others { SparesKinds self.new.reading self.old.reading (W.kinds world.new) (W.kinds world.old) }
-        ensures places { W.tells → SparesPlaces self.old.reading (W.kinds world.old) (W.state world.old) (W.state world.new) }
+        ensures spares { SparesOthers self.old self.new (W.kinds world.old) (W.kinds world.new) }
+        ensures no_others { OpensNoOther self.old self.new (W.kinds world.old) (W.kinds world.new) }
+        ensures places { W.tells → SparesPlaces self.old.reading (W.kinds world.old)
+            (W.state world.old) (W.state world.new) }
         ensures outside { W.tells → (W.state world.new).outside ≡ (W.state world.old).outside }
         ensures next { self.new.next ≡ self.old.next }
         ensures found { self.new.found ≡ self.old.found }
@@ -273,7 +287,9 @@ impl MainInput {
         ensures held { (kinds : ℕ → Kind) → FileIsOpen self.new.reading kinds }
         ensures whole { StandardIs self.new.reading self.new.standard.phase }
         ensures apart { (k : ℕ) → IsApartFrom k self.new.reading }
-        ensures told { (state : State) (inner : Inner) → GivenIs (follows (main_of self.old state).operands (with_main (main_of self.old state) inner)) result state.outside (with_main (main_of self.old state) inner) (with_main (main_of self.new state) inner) }
+        ensures told { (state : State) (inner : Inner)
+            → GivenIs (follows (main_of self.old state).operands (main_in self.old state inner))
+            result state.outside (main_in self.old state inner) (main_in self.new state inner) }
         ensures goes_on { GoesOn result self.old self.new }
         ensures count { (n : ℕ) → MainCounts Open result n n }
         ensures phase { MainPhase Open result (main_phase self.new) }
@@ -302,23 +318,27 @@ impl MainInput {
         requires file { assignment_of name ≡ None }
         requires left { self.old.found ≢ Found.NoneLeft }
         ensures held { HoldsMain self.new (W.kinds world.new) }
-        ensures told { W.tells → (inner : Inner) → GivenIs (taken (rest_of (passed (main_of self.old (W.state world.old))) (W.state world.old).outside) (W.state world.old).outside name (with_main (passed (main_of self.old (W.state world.old))) inner)) result (W.state world.old).outside (with_main (main_of self.old (W.state world.old)) inner) (with_main (main_of self.new (W.state world.new)) inner) }
-        ensures spares { SparesKinds self.old.reading self.new.reading (W.kinds world.old) (W.kinds world.new) }
-        ensures no_others { SparesKinds self.new.reading self.old.reading (W.kinds world.new) (W.kinds world.old) }
-        ensures places { W.tells → SparesPlaces self.old.reading (W.kinds world.old) (W.state world.old) (W.state world.new) }
+        ensures told { W.tells → (inner : Inner) → GivesOperand name inner self.old
+            (W.state world.old) result self.new (W.state world.new) }
+        ensures spares { SparesOthers self.old self.new (W.kinds world.old) (W.kinds world.new) }
+        ensures no_others { OpensNoOther self.old self.new (W.kinds world.old) (W.kinds world.new) }
+        ensures places { W.tells → SparesPlaces self.old.reading (W.kinds world.old)
+            (W.state world.old) (W.state world.new) }
         ensures outside { W.tells → (W.state world.new).outside ≡ (W.state world.old).outside }
         ensures goes_on { GoesOn result self.old self.new }
         ensures count { MainCounts Open result (W.count world.old) (W.count world.new) }
         ensures phase { MainPhase Open result (main_phase self.new) }
         ensures ends { StepEnds self.old.ended result self.new.ended }
-        ensures passes { (texts : ℕ → List ℕ) → texts self.old.next ≡ name → StepPasses texts self.old.next self.old.found result self.new.next self.new.found }
+        ensures passes { (texts : ℕ → List ℕ) → texts self.old.next ≡ name
+            → StepPasses texts self.old.next self.old.found result self.new.next self.new.found }
         ensures standard { self.new.standard ≡ self.old.standard }
         ensures one { IsOne self.old.next self.new.next }
         ensures answers { IsOfOperands result }
         ensures idle { IdleAfter result self.new.reading }
         ensures rests { StepRests result self.new.reading self.new.found }
         ensures named { self.new.found ≢ Found.NoneLeft }
-        ensures more { (count : Result ℤ Fault) → StepNoneMore count false self.old.found result self.new.next self.new.found }
+        ensures more { (count : Result ℤ Fault)
+            → StepNoneMore count false self.old.found result self.new.next self.new.found }
     {
         let opened = open_operand(world, self.alloc, name.as_slice())?;
         self.next += 1;
@@ -339,18 +359,21 @@ impl MainInput {
         requires left { self.old.found ≢ Found.NoneLeft }
         ensures standard { self.new.standard ≡ self.old.standard }
         ensures reading { self.new.reading ≡ self.old.reading }
-        ensures told { (state : State) (inner : Inner) → GivenIs (taken (rest_of (passed (main_of self.old state)) state.outside) state.outside text.now (with_main (passed (main_of self.old state)) inner)) result state.outside (with_main (main_of self.old state) inner) (with_main (main_of self.new state) inner) }
+        ensures told { (state : State) (inner : Inner)
+            → GivesOperand text.now inner self.old state result self.new state }
         ensures goes_on { GoesOn result self.old self.new }
         ensures count { (n : ℕ) → MainCounts Open result n n }
         ensures phase { MainPhase Open result (main_phase self.new) }
         ensures ends { StepEnds self.old.ended result self.new.ended }
-        ensures passes { (texts : ℕ → List ℕ) → texts self.old.next ≡ text.now → StepPasses texts self.old.next self.old.found result self.new.next self.new.found }
+        ensures passes { (texts : ℕ → List ℕ) → texts self.old.next ≡ text.now
+            → StepPasses texts self.old.next self.old.found result self.new.next self.new.found }
         ensures one { IsOne self.old.next self.new.next }
         ensures answers { IsOfOperands result }
         ensures idle { IdleAfter result self.new.reading }
         ensures rests { StepRests result self.new.reading self.new.found }
         ensures named { self.new.found ≢ Found.NoneLeft }
-        ensures more { (count : Result ℤ Fault) → StepNoneMore count false self.old.found result self.new.next self.new.found }
+        ensures more { (count : Result ℤ Fault)
+            → StepNoneMore count false self.old.found result self.new.next self.new.found }
     {
         let name = Bytes::from_slice(self.alloc, &text[..len])?;
         let value = Bytes::from_slice(self.alloc, &text[len + 1..])?;
@@ -370,23 +393,27 @@ impl MainInput {
         requires left { self.old.found ≢ Found.NoneLeft }
         requires held { HoldsMain self.old (W.kinds world.old) }
         ensures held { HoldsMain self.new (W.kinds world.new) }
-        ensures told { W.tells → (inner : Inner) → GivenIs (taken (rest_of (passed (main_of self.old (W.state world.old))) (W.state world.old).outside) (W.state world.old).outside (O.text operands.now self.old.next) (with_main (passed (main_of self.old (W.state world.old))) inner)) result (W.state world.old).outside (with_main (main_of self.old (W.state world.old)) inner) (with_main (main_of self.new (W.state world.new)) inner) }
+        ensures told { W.tells → (inner : Inner) → GivesOperand (O.text operands.now self.old.next)
+            inner self.old (W.state world.old) result self.new (W.state world.new) }
         ensures goes_on { GoesOn result self.old self.new }
         ensures count { MainCounts Open result (W.count world.old) (W.count world.new) }
         ensures phase { MainPhase Open result (main_phase self.new) }
         ensures ends { StepEnds self.old.ended result self.new.ended }
-        ensures spares { SparesKinds self.old.reading self.new.reading (W.kinds world.old) (W.kinds world.new) }
-        ensures no_others { SparesKinds self.new.reading self.old.reading (W.kinds world.new) (W.kinds world.old) }
-        ensures places { W.tells → SparesPlaces self.old.reading (W.kinds world.old) (W.state world.old) (W.state world.new) }
+        ensures spares { SparesOthers self.old self.new (W.kinds world.old) (W.kinds world.new) }
+        ensures no_others { OpensNoOther self.old self.new (W.kinds world.old) (W.kinds world.new) }
+        ensures places { W.tells → SparesPlaces self.old.reading (W.kinds world.old)
+            (W.state world.old) (W.state world.new) }
         ensures outside { W.tells → (W.state world.new).outside ≡ (W.state world.old).outside }
-        ensures passes { StepPasses (O.text operands.now) self.old.next self.old.found result self.new.next self.new.found }
+        ensures passes { StepPasses (O.text operands.now) self.old.next self.old.found result
+            self.new.next self.new.found }
         ensures standard { self.new.standard ≡ self.old.standard }
         ensures one { IsOne self.old.next self.new.next }
         ensures answers { IsOfOperands result }
         ensures idle { IdleAfter result self.new.reading }
         ensures rests { StepRests result self.new.reading self.new.found }
         ensures named { self.new.found ≢ Found.NoneLeft }
-        ensures more { (count : Result ℤ Fault) → StepNoneMore count false self.old.found result self.new.next self.new.found }
+        ensures more { (count : Result ℤ Fault)
+            → StepNoneMore count false self.old.found result self.new.next self.new.found }
     {
         let text = operands.operand(self.next)?;
         if text.as_slice().is_empty() {
@@ -410,18 +437,22 @@ impl MainInput {
         requires live { self.old.ended ≡ false }
         requires held { HoldsMain self.old (W.kinds world.old) }
         ensures held { HoldsMain self.new (W.kinds world.new) }
-        ensures told { W.tells → (inner : Inner) → IsOffered argc.now (O.text operands.now) inner → GivenIs (main_input (W.state world.old).outside (with_main (main_of self.old (W.state world.old)) inner)) result (W.state world.old).outside (with_main (main_of self.old (W.state world.old)) inner) (with_main (main_of self.new (W.state world.new)) inner) }
+        ensures told { W.tells → (inner : Inner) → IsOffered argc.now (O.text operands.now) inner
+            → GivesStep inner self.old (W.state world.old) result self.new (W.state world.new) }
         ensures goes_on { GoesOn result self.old self.new }
         ensures count { MainCounts Open result (W.count world.old) (W.count world.new) }
         ensures phase { MainPhase Open result (main_phase self.new) }
         ensures ends { StepEnds self.old.ended result self.new.ended }
-        ensures spares { SparesKinds self.old.reading self.new.reading (W.kinds world.old) (W.kinds world.new) }
-        ensures no_others { SparesKinds self.new.reading self.old.reading (W.kinds world.new) (W.kinds world.old) }
-        ensures places { W.tells → SparesPlaces self.old.reading (W.kinds world.old) (W.state world.old) (W.state world.new) }
+        ensures spares { SparesOthers self.old self.new (W.kinds world.old) (W.kinds world.new) }
+        ensures no_others { OpensNoOther self.old self.new (W.kinds world.old) (W.kinds world.new) }
+        ensures places { W.tells → SparesPlaces self.old.reading (W.kinds world.old)
+            (W.state world.old) (W.state world.new) }
         ensures outside { W.tells → (W.state world.new).outside ≡ (W.state world.old).outside }
-        ensures passes { StepPasses (O.text operands.now) self.old.next self.old.found result self.new.next self.new.found }
+        ensures passes { StepPasses (O.text operands.now) self.old.next self.old.found result
+            self.new.next self.new.found }
         ensures there { AreThere (number_of_value argc.now) self.old.next self.new.next }
-        ensures more { StepNoneMore (number_of_value argc.now) false self.old.found result self.new.next self.new.found }
+        ensures more { StepNoneMore (number_of_value argc.now) false self.old.found result
+            self.new.next self.new.found }
         ensures standard { self.new.standard ≡ self.old.standard }
         ensures answers { IsOfOperands result }
         ensures idle { IdleAfter result self.new.reading }
@@ -447,19 +478,25 @@ impl MainInput {
     ) -> Result<Option<MainNext>, Stop>
         requires held { HoldsMain self.old (W.kinds world.old) }
         ensures held { HoldsMain self.new (W.kinds world.new) }
-        ensures told { W.tells → (inner : Inner) → IsAsked rs inner → IsOffered argc.now (O.text operands.now) inner → GivenIs (main_input (W.state world.old).outside (with_main (main_of self.old (W.state world.old)) inner)) result (W.state world.old).outside (with_main (main_of self.old (W.state world.old)) inner) (with_main (main_of self.new (W.state world.new)) inner) }
+        ensures told { W.tells → (inner : Inner) → IsAsked rs inner
+            → IsOffered argc.now (O.text operands.now) inner
+            → GivesStep inner self.old (W.state world.old) result self.new (W.state world.new) }
         ensures goes_on { GoesOn result self.old self.new }
-        ensures count { MainCounts (main_phase self.old) result (W.count world.old) (W.count world.new) }
+        ensures count { MainCounts (main_phase self.old) result (W.count world.old)
+            (W.count world.new) }
         ensures phase { MainPhase (main_phase self.old) result (main_phase self.new) }
         ensures ends { StepEnds self.old.ended result self.new.ended }
-        ensures spares { SparesKinds self.old.reading self.new.reading (W.kinds world.old) (W.kinds world.new) }
-        ensures no_others { SparesKinds self.new.reading self.old.reading (W.kinds world.new) (W.kinds world.old) }
-        ensures places { W.tells → SparesPlaces self.old.reading (W.kinds world.old) (W.state world.old) (W.state world.new) }
+        ensures spares { SparesOthers self.old self.new (W.kinds world.old) (W.kinds world.new) }
+        ensures no_others { OpensNoOther self.old self.new (W.kinds world.old) (W.kinds world.new) }
+        ensures places { W.tells → SparesPlaces self.old.reading (W.kinds world.old)
+            (W.state world.old) (W.state world.new) }
         ensures outside { W.tells → (W.state world.new).outside ≡ (W.state world.old).outside }
         ensures handed { HandsStep rs self.old result self.new }
-        ensures passes { StepPasses (O.text operands.now) self.old.next self.old.found result self.new.next self.new.found }
+        ensures passes { StepPasses (O.text operands.now) self.old.next self.old.found result
+            self.new.next self.new.found }
         ensures there { AreThere (number_of_value argc.now) self.old.next self.new.next }
-        ensures more { StepNoneMore (number_of_value argc.now) self.old.ended self.old.found result self.new.next self.new.found }
+        ensures more { StepNoneMore (number_of_value argc.now) self.old.ended self.old.found result
+            self.new.next self.new.found }
         ensures rests { StepRests result self.new.reading self.new.found }
         ensures standard { StandardStays self.old.reading self.old.standard self.new.standard }
     {
@@ -477,16 +514,18 @@ impl MainInput {
     pub fn skip<W: World>(&mut self, world: &mut W)
         requires held { HoldsMain self.old (W.kinds world.old) }
         ensures held { HoldsMain self.new (W.kinds world.new) }
-        ensures told { W.tells → (inner : Inner) → next_file_row (with_main (main_of self.old (W.state world.old)) inner) ≡ (with_main (main_of self.new (W.state world.new)) inner, tt) }
+        ensures told { W.tells
+            → SkipsMain self.old (W.state world.old) self.new (W.state world.new) }
         ensures nothing { self.new.reading ≡ Reading.Nothing }
         ensures standard { StandardSkips self.old.reading self.old.standard self.new.standard }
         ensures next { self.new.next ≡ self.old.next }
         ensures found { self.new.found ≡ self.old.found }
         ensures ended { self.new.ended ≡ self.old.ended }
         ensures count { W.count world.new ≡ W.count world.old }
-        ensures spares { SparesKinds self.old.reading self.new.reading (W.kinds world.old) (W.kinds world.new) }
-        ensures no_others { SparesKinds self.new.reading self.old.reading (W.kinds world.new) (W.kinds world.old) }
-        ensures places { W.tells → SparesPlaces self.old.reading (W.kinds world.old) (W.state world.old) (W.state world.new) }
+        ensures spares { SparesOthers self.old self.new (W.kinds world.old) (W.kinds world.new) }
+        ensures no_others { OpensNoOther self.old self.new (W.kinds world.old) (W.kinds world.new) }
+        ensures places { W.tells → SparesPlaces self.old.reading (W.kinds world.old)
+            (W.state world.old) (W.state world.new) }
         ensures outside { W.tells → (W.state world.new).outside ≡ (W.state world.old).outside }
     {
         if let Reading::Standard = &self.reading {
@@ -512,18 +551,23 @@ impl MainInput {
     ) -> Result<MainNext, Stop>
         requires held { HoldsMain self.old (W.kinds world.old) }
         ensures held { HoldsMain self.new (W.kinds world.new) }
-        ensures told { W.tells → (inner : Inner) → IsAsked (record_separator rs.now) inner → IsOffered argc.now (O.text operands.now) inner → AnswerIs (main_input (W.state world.old).outside (with_main (main_of self.old (W.state world.old)) inner)) result (W.state world.old).outside (with_main (main_of self.old (W.state world.old)) inner) (with_main (main_of self.new (W.state world.new)) inner) }
-        ensures count { MainCounts (main_phase self.old) result (W.count world.old) (W.count world.new) }
+        ensures told { W.tells → GivesMain (record_separator rs.now) argc.now (O.text operands.now)
+            self.old (W.state world.old) result self.new (W.state world.new) }
+        ensures count { MainCounts (main_phase self.old) result (W.count world.old)
+            (W.count world.new) }
         ensures phase { MainPhase (main_phase self.old) result (main_phase self.new) }
         ensures ends { MainEnds self.old.ended result self.new.ended }
-        ensures spares { SparesKinds self.old.reading self.new.reading (W.kinds world.old) (W.kinds world.new) }
-        ensures no_others { SparesKinds self.new.reading self.old.reading (W.kinds world.new) (W.kinds world.old) }
-        ensures places { W.tells → SparesPlaces self.old.reading (W.kinds world.old) (W.state world.old) (W.state world.new) }
+        ensures spares { SparesOthers self.old self.new (W.kinds world.old) (W.kinds world.new) }
+        ensures no_others { OpensNoOther self.old self.new (W.kinds world.old) (W.kinds world.new) }
+        ensures places { W.tells → SparesPlaces self.old.reading (W.kinds world.old)
+            (W.state world.old) (W.state world.new) }
         ensures outside { W.tells → (W.state world.new).outside ≡ (W.state world.old).outside }
         ensures handed { HandsMain (record_separator rs.now) self.old result self.new }
-        ensures passes { Passes (O.text operands.now) self.old.next self.old.found result self.new.next self.new.found }
+        ensures passes { Passes (O.text operands.now) self.old.next self.old.found result
+            self.new.next self.new.found }
         ensures there { AreThere (number_of_value argc.now) self.old.next self.new.next }
-        ensures more { NoneMore (number_of_value argc.now) self.old.ended self.old.found result self.new.next self.new.found }
+        ensures more { NoneMore (number_of_value argc.now) self.old.ended self.old.found result
+            self.new.next self.new.found }
         ensures rests { RestsAfter result self.new.reading self.new.found }
         ensures standard { StandardStays self.old.reading self.old.standard self.new.standard }
     {

@@ -3,9 +3,9 @@ ghost use Rattle.std.specs.Prelude.{◌≡◌, [], None, true, false, take, vec_
 ghost use Rattle.world_core.specs.WorldState.{Named};
 ghost use Rattle.world_core.specs.Calls.{Opens, Writing};
 ghost use Rattle.sem_primitives.specs.SharedState.{Shared};
-ghost use Rattle.sem_primitives.specs.OutputMeaning.{all_out, is_writing, opened_if, put_text, written_by};
+ghost use Rattle.sem_primitives.specs.OutputMeaning.{all_out, is_writing, opened_if, written_by};
 ghost use Rattle.host_streams.specs.OpenFiles.{HoldsOpen, OthersStay, WritersGo, has_room, names_of, writer_place};
-ghost use Rattle.host_streams.specs.Outputs.{IsOf, PutsIs, destination_of, name_of, open_before, writers_to, with_writer};
+ghost use Rattle.host_streams.specs.Outputs.{BeginsPutTo, EndsPutTo, IsOf, PutsTo, writers_to, with_writer};
 ghost use Rattle.host_streams.specs.Puts.{BeginsBy, EndsPut, IsOver, OpensOr, PutCounts, PutsBy, Spares};
 
 use crate::put::put_open;
@@ -37,7 +37,8 @@ fn open_file<W: World>(world: &mut W, name: &[u8], append: bool) -> Result<u32, 
     ensures not_opened { OnErr result (W.kinds world.new ≡ W.kinds world.old) }
     ensures count { PutCounts result (W.count world.old) (W.count world.new) }
     ensures ends { EndsPut false true [] result }
-    ensures told { W.tells → OpensOr name.now append (W.state world.old) result (W.state world.new) }
+    ensures told { W.tells
+        → OpensOr name.now append (W.state world.old) result (W.state world.new) }
 {
     match world.open_write(name, append) {
         Ok(id) => Ok(id),
@@ -54,8 +55,12 @@ fn put_new<W: World>(world: &mut W, name: &[u8], append: bool, text: &[u8]) -> R
     ensures goes { W.tells → IfOk result (λ id. (W.state world.new).writers id ≡ Named name.now) }
     ensures spares { W.tells → Spares (W.kinds world.old) (W.state world.old) (W.state world.new) }
     ensures ends { EndsPut false true text.now result }
-    ensures begun { BeginsBy W.tells (IsOver (W.state world.old)) (λ shared. opened_if true (shared.outside (Named name.now)).opens name.now append text.now shared) result (W.state world.old) (W.state world.new) }
-    ensures told { W.tells → (shared : Shared) → shared.outside ≡ (W.state world.old).outside → PutsBy (opened_if true (shared.outside (Named name.now)).opens name.now append text.now shared) result (W.state world.old) (W.state world.new) }
+    ensures begun { BeginsBy W.tells (IsOver (W.state world.old)) (λ shared. opened_if true
+        (shared.outside (Named name.now)).opens name.now append text.now shared) result
+        (W.state world.old) (W.state world.new) }
+    ensures told { W.tells → (shared : Shared) → shared.outside ≡ (W.state world.old).outside
+        → PutsBy (opened_if true (shared.outside (Named name.now)).opens name.now append text.now
+        shared) result (W.state world.old) (W.state world.new) }
 {
     let id = open_file(world, name, append)?;
     match put_open(world, id, text) {
@@ -94,16 +99,22 @@ impl Streams {
         ensures held { HoldsOpen self.new (W.kinds world.new) }
         ensures goes { W.tells → WritersGo self.new.writers.items (W.state world.new) }
         ensures readers { self.new.readers ≡ self.old.readers }
-        ensures stay { take (vec_len self.old.writers) self.new.writers.items ≡ self.old.writers.items }
-        ensures opened { OnOk result (names_of self.new.writers.items ≡ with_writer name.now (names_of self.old.writers.items)) }
+        ensures stay { take (vec_len self.old.writers) self.new.writers.items
+            ≡ self.old.writers.items }
+        ensures opened { OnOk result (names_of self.new.writers.items
+            ≡ with_writer name.now (names_of self.old.writers.items)) }
         ensures refused { OnErr result (self.new.writers.items ≡ self.old.writers.items) }
         ensures count { PutCounts result (W.count world.old) (W.count world.new) }
         ensures others { OthersStay self.old self.new (W.kinds world.old) (W.kinds world.new) }
         ensures no_others { OthersStay self.new self.old (W.kinds world.new) (W.kinds world.old) }
-        ensures spares { W.tells → Spares (W.kinds world.old) (W.state world.old) (W.state world.new) }
+        ensures spares { W.tells
+            → Spares (W.kinds world.old) (W.state world.old) (W.state world.new) }
         ensures ends { EndsPut false (has_room self.old) text.now result }
-        ensures begun { BeginsBy W.tells (IsOf self.old (W.state world.old)) (written_by false name.now append text.now) result (W.state world.old) (W.state world.new) }
-        ensures told { W.tells → (shared : Shared) → IsOf self.old (W.state world.old) shared → PutsBy (written_by false name.now append text.now shared) result (W.state world.old) (W.state world.new) }
+        ensures begun { BeginsBy W.tells (IsOf self.old (W.state world.old)) (written_by false
+            name.now append text.now) result (W.state world.old) (W.state world.new) }
+        ensures told { W.tells → (shared : Shared) → IsOf self.old (W.state world.old) shared
+            → PutsBy (written_by false name.now append text.now shared) result (W.state world.old)
+            (W.state world.new) }
     {
         if self.readers.as_slice().len() + self.writers.as_slice().len() >= STREAMS {
             return Err(Stop::Fault(Fault::TooManyStreams));
@@ -128,16 +139,24 @@ impl Streams {
         ensures held { HoldsOpen self.new (W.kinds world.new) }
         ensures goes { W.tells → WritersGo self.new.writers.items (W.state world.new) }
         ensures readers { self.new.readers ≡ self.old.readers }
-        ensures stay { take (vec_len self.old.writers) self.new.writers.items ≡ self.old.writers.items }
-        ensures opened { OnOk result (names_of self.new.writers.items ≡ with_writer name.now (names_of self.old.writers.items)) }
+        ensures stay { take (vec_len self.old.writers) self.new.writers.items
+            ≡ self.old.writers.items }
+        ensures opened { OnOk result (names_of self.new.writers.items
+            ≡ with_writer name.now (names_of self.old.writers.items)) }
         ensures refused { OnErr result (self.new.writers.items ≡ self.old.writers.items) }
         ensures count { PutCounts result (W.count world.old) (W.count world.new) }
         ensures others { OthersStay self.old self.new (W.kinds world.old) (W.kinds world.new) }
         ensures no_others { OthersStay self.new self.old (W.kinds world.new) (W.kinds world.old) }
-        ensures spares { W.tells → Spares (W.kinds world.old) (W.state world.old) (W.state world.new) }
-        ensures ends { EndsPut (is_writing name.now (names_of self.old.writers.items)) (has_room self.old) text.now result }
-        ensures begun { BeginsBy W.tells (IsOf self.old (W.state world.old)) (λ shared. written_by (is_writing name.now shared.inner.writers) name.now append text.now shared) result (W.state world.old) (W.state world.new) }
-        ensures told { W.tells → (shared : Shared) → IsOf self.old (W.state world.old) shared → PutsBy (written_by (is_writing name.now shared.inner.writers) name.now append text.now shared) result (W.state world.old) (W.state world.new) }
+        ensures spares { W.tells
+            → Spares (W.kinds world.old) (W.state world.old) (W.state world.new) }
+        ensures ends { EndsPut (is_writing name.now (names_of self.old.writers.items))
+            (has_room self.old) text.now result }
+        ensures begun { BeginsBy W.tells (IsOf self.old (W.state world.old)) (λ shared. written_by
+            (is_writing name.now shared.inner.writers) name.now append text.now shared) result
+            (W.state world.old) (W.state world.new) }
+        ensures told { W.tells → (shared : Shared) → IsOf self.old (W.state world.old) shared
+            → PutsBy (written_by (is_writing name.now shared.inner.writers) name.now append text.now
+            shared) result (W.state world.old) (W.state world.new) }
     {
         match find_writer(self.writers.as_slice(), name) {
             Some(at) => put_open(world, self.writers[at].id, text),
@@ -164,16 +183,21 @@ impl Streams {
         ensures held { HoldsOpen self.new (W.kinds world.new) }
         ensures goes { W.tells → WritersGo self.new.writers.items (W.state world.new) }
         ensures readers { self.new.readers ≡ self.old.readers }
-        ensures stay { take (vec_len self.old.writers) self.new.writers.items ≡ self.old.writers.items }
-        ensures opened { OnOk result (names_of self.new.writers.items ≡ writers_to target.entry (names_of self.old.writers.items)) }
+        ensures stay { take (vec_len self.old.writers) self.new.writers.items
+            ≡ self.old.writers.items }
+        ensures opened { OnOk result (names_of self.new.writers.items
+            ≡ writers_to target.entry (names_of self.old.writers.items)) }
         ensures refused { OnErr result (self.new.writers.items ≡ self.old.writers.items) }
         ensures count { PutCounts result (W.count world.old) (W.count world.new) }
         ensures others { OthersStay self.old self.new (W.kinds world.old) (W.kinds world.new) }
         ensures no_others { OthersStay self.new self.old (W.kinds world.new) (W.kinds world.old) }
-        ensures spares { W.tells → Spares (W.kinds world.old) (W.state world.old) (W.state world.new) }
-        ensures ends { EndsPut (open_before target.entry (names_of self.old.writers.items)) (has_room self.old) text.now result }
-        ensures begun { BeginsBy W.tells (IsOf self.old (W.state world.old)) (put_text (destination_of target.entry) (name_of target.entry) text.now) result (W.state world.old) (W.state world.new) }
-        ensures told { W.tells → (shared : Shared) → IsOf self.old (W.state world.old) shared → PutsIs (put_text (destination_of target.entry) (name_of target.entry) text.now shared) result (W.state world.old) (W.state world.new) (names_of self.old.writers.items) (names_of self.new.writers.items) }
+        ensures spares { W.tells
+            → Spares (W.kinds world.old) (W.state world.old) (W.state world.new) }
+        ensures ends { EndsPutTo target.entry text.now self.old result }
+        ensures begun { BeginsPutTo W.tells target.entry text.now self.old (W.state world.old)
+            result (W.state world.new) }
+        ensures told { W.tells → PutsTo target.entry text.now self.old (W.state world.old) result
+            self.new (W.state world.new) }
     {
         match target {
             Target::Standard => put_open(world, 1, text),

@@ -31,9 +31,12 @@ pub(crate) fn put_open<W: World>(world: &mut W, id: u32, text: &[u8]) -> Result<
     requires { W.kinds world.old id ≡ Writing }
     ensures kinds { W.kinds world.new ≡ W.kinds world.old }
     ensures count { PutCounts result (W.count world.old) (W.count world.new) }
-    ensures told { W.tells → (shared : Shared) → shared.outside ≡ (W.state world.old).outside → PutsBy (written ((W.state world.old).writers id) text.now shared) result (W.state world.old) (W.state world.new) }
+    ensures told { W.tells → (shared : Shared) → shared.outside ≡ (W.state world.old).outside
+        → PutsBy (written ((W.state world.old).writers id) text.now shared) result
+        (W.state world.old) (W.state world.new) }
     ensures ends { EndsPut true true text.now result }
-    ensures begun { BeginsBy W.tells (IsOver (W.state world.old)) (written ((W.state world.old).writers id) text.now) result (W.state world.old) (W.state world.new) }
+    ensures begun { BeginsBy W.tells (IsOver (W.state world.old)) (written
+        ((W.state world.old).writers id) text.now) result (W.state world.old) (W.state world.new) }
     ensures readers { W.tells → (W.state world.new).readers ≡ (W.state world.old).readers }
     ensures writers { W.tells → (W.state world.new).writers ≡ (W.state world.old).writers }
 {

@@ -134,7 +134,8 @@ fn fill<W: World>(
     ensures grows { IfOk result (λ more. IsTrue more → vec_len kept.old < vec_len kept.new) }
     ensures ended { IfOk result (λ more. IsFalse more → kept.new.items ≡ kept.old.items) }
     ensures failed { OnErr result (kept.new.items ≡ kept.old.items) }
-    ensures told { W.tells → Fills id (W.state world.old) kept.old.items result kept.new.items (W.state world.new) }
+    ensures told { W.tells
+        → Fills id (W.state world.old) kept.old.items result kept.new.items (W.state world.new) }
 {
     provide(piece)?;
     kept.reserve(piece.as_slice().len())?;
@@ -196,8 +197,11 @@ impl Reader {
         ensures count { MoreCounts result (W.count world.old) (W.count world.new) }
         ensures keeps { MoreKeeps self.old result self.new }
         ensures stays { EndStays self.old.phase self.new.phase }
-        ensures handed { HandsMore self.old.phase (unread self.old) result self.new.phase (unread self.new) }
-        ensures told { W.tells → MoreIs (unread self.old) (left self.old ((W.state world.old).readers self.old.id)) result (left self.new ((W.state world.new).readers self.old.id)) }
+        ensures handed { HandsMore self.old.phase (unread self.old) result self.new.phase
+            (unread self.new) }
+        ensures told { W.tells
+            → MoreIs (unread self.old) (left self.old ((W.state world.old).readers self.old.id))
+            result (left self.new ((W.state world.new).readers self.old.id)) }
         ensures only { W.tells → OnlyReads self.old.id (W.state world.old) (W.state world.new) }
     {
         self.compact(alloc)?;
@@ -233,8 +237,10 @@ impl Reader {
         ensures again { ScannedAgain rs result self.new }
         ensures goes_on { GoesOn result (work self.old) (work self.new) }
         ensures stays { EndStays self.old.phase self.new.phase }
-        ensures handed { HandsTurn rs self.old.phase (unread self.old) result self.new.phase (unread self.new) }
-        ensures told { W.tells → Turns rs (left self.old ((W.state world.old).readers self.old.id)) result (left self.new ((W.state world.new).readers self.old.id)) }
+        ensures handed { HandsTurn rs self.old.phase (unread self.old) result self.new.phase
+            (unread self.new) }
+        ensures told { W.tells → Turns rs (left self.old ((W.state world.old).readers self.old.id))
+            result (left self.new ((W.state world.new).readers self.old.id)) }
         ensures only { W.tells → OnlyReads self.old.id (W.state world.old) (W.state world.new) }
     {
         match seen(self.unread(), rs, known) {
@@ -306,8 +312,10 @@ impl Reader {
         ensures phase { NextPhase self.old.phase result self.new.phase }
         ensures limit { OnlyLimit result }
         ensures stays { EndStays self.old.phase self.new.phase }
-        ensures handed { HandsOver rs self.old.phase (unread self.old) result self.new.phase (unread self.new) }
-        ensures told { W.tells → Answers rs (left self.old ((W.state world.old).readers self.old.id)) result (left self.new ((W.state world.new).readers self.old.id)) }
+        ensures handed { HandsOver rs self.old.phase (unread self.old) result self.new.phase
+            (unread self.new) }
+        ensures told { W.tells → Answers rs (left self.old ((W.state world.old).readers
+            self.old.id)) result (left self.new ((W.state world.new).readers self.old.id)) }
         ensures only { W.tells → OnlyReads self.old.id (W.state world.old) (W.state world.new) }
     {
         if let Phase::Broken = self.phase {

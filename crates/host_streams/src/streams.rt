@@ -7,7 +7,7 @@ ghost use Rattle.sem_primitives.specs.OutputMeaning.{is_writing};
 ghost use Rattle.sem_primitives.specs.Records.{record_separator};
 ghost use Rattle.host_streams.specs.declared.reader.Phase.TheVariants.{Broken, Open};
 ghost use Rattle.host_streams.specs.declared.reader.FileNext.TheVariants.{Failed};
-ghost use Rattle.host_streams.specs.OpenFiles.{FileNextIs, HandsFile, HoldsOpen, IsMissing, OpensFile, OpensReader, OpenCounts, OthersKeep, OthersStay, ReadersAfter, ReadsFile, StartsFile, WritersGo, has_room, kept_named, phase_named, reader_handle, reader_names, reader_place, readers_beside, readers_in};
+ghost use Rattle.host_streams.specs.OpenFiles.{FileBreaks, FileCounts, FileGoesOnFailing, FileHands, FileReaders, HandsFile, HoldsOpen, IsMissing, OpensFile, OpensReader, OpenCounts, OthersKeep, OthersStay, ReadersAfter, ReadsFile, ReadsNext, StartsFile, WritersGo, has_room, kept_named, phase_named, reader_handle, reader_names, reader_place, readers_beside, readers_in};
 ghost use Rattle.host_streams.specs.Readers.{HandsOver, NextCounts, NextPhase, OnlyLimit};
 
 use crate::FileNext;
@@ -77,17 +77,25 @@ impl Streams {
         ensures held { HoldsOpen self.new (W.kinds world.new) }
         ensures writers { self.new.writers ≡ self.old.writers }
         ensures count { OpenCounts result (W.count world.old) (W.count world.new) }
-        ensures readers { OpensReader (has_room self.old) name.now self.old.readers.items result self.new.readers.items }
-        ensures kept { readers_beside name.now self.new.readers.items ≡ readers_beside name.now self.old.readers.items }
-        ensures place { IfOk result (λ found. IfSome found (λ at. reader_place name.now self.new.readers.items ≡ Some at)) }
-        ensures phase { IfOk result (λ found. IfSome found (λ at. phase_named name.now self.new.readers.items ≡ Open)) }
-        ensures nothing { IfOk result (λ found. IfSome found (λ at. kept_named name.now self.new.readers.items ≡ [])) }
+        ensures readers { OpensReader (has_room self.old) name.now self.old.readers.items result
+            self.new.readers.items }
+        ensures kept { readers_beside name.now self.new.readers.items
+            ≡ readers_beside name.now self.old.readers.items }
+        ensures place { IfOk result
+            (λ found. IfSome found (λ at. reader_place name.now self.new.readers.items ≡ Some at)) }
+        ensures phase { IfOk result
+            (λ found. IfSome found (λ at. phase_named name.now self.new.readers.items ≡ Open)) }
+        ensures nothing { IfOk result
+            (λ found. IfSome found (λ at. kept_named name.now self.new.readers.items ≡ [])) }
         ensures goes { W.tells → WritersGo self.new.writers.items (W.state world.new) }
-        ensures told { W.tells → OpensFile name.now (has_room self.old) (W.state world.old) (readers_in self.old.readers.items (W.state world.old)) result (readers_in self.new.readers.items (W.state world.new)) }
+        ensures told { W.tells → OpensFile name.now (has_room self.old) (W.state world.old)
+            (readers_in self.old.readers.items (W.state world.old)) result
+            (readers_in self.new.readers.items (W.state world.new)) }
         ensures outside { W.tells → (W.state world.new).outside ≡ (W.state world.old).outside }
         ensures others { OthersStay self.old self.new (W.kinds world.old) (W.kinds world.new) }
         ensures no_others { OthersStay self.new self.old (W.kinds world.new) (W.kinds world.old) }
-        ensures places { W.tells → OthersKeep self.old (W.kinds world.old) (W.state world.old) (W.state world.new) }
+        ensures places { W.tells
+            → OthersKeep self.old (W.kinds world.old) (W.state world.old) (W.state world.new) }
     {
         if self.readers.as_slice().len() + self.writers.as_slice().len() >= STREAMS {
             return Err(Stop::Fault(Fault::TooManyStreams));
@@ -120,18 +128,25 @@ impl Streams {
         requires goes { W.tells → WritersGo self.old.writers.items (W.state world.old) }
         ensures held { HoldsOpen self.new (W.kinds world.new) }
         ensures writers { self.new.writers ≡ self.old.writers }
-        ensures count { NextCounts (phase_named name.now self.old.readers.items) result (W.count world.old) (W.count world.new) }
-        ensures phase { NextPhase (phase_named name.now self.old.readers.items) result (phase_named name.now self.new.readers.items) }
-        ensures handed { HandsFile name.now rs self.old.readers.items result self.new.readers.items }
+        ensures count { NextCounts (phase_named name.now self.old.readers.items) result
+            (W.count world.old) (W.count world.new) }
+        ensures phase { NextPhase (phase_named name.now self.old.readers.items) result
+            (phase_named name.now self.new.readers.items) }
+        ensures handed { HandsFile name.now rs self.old.readers.items result
+            self.new.readers.items }
         ensures limit { OnlyLimit result }
-        ensures handles { map reader_handle self.new.readers.items ≡ map reader_handle self.old.readers.items }
-        ensures kept { readers_beside name.now self.new.readers.items ≡ readers_beside name.now self.old.readers.items }
+        ensures handles { map reader_handle self.new.readers.items
+            ≡ map reader_handle self.old.readers.items }
+        ensures kept { readers_beside name.now self.new.readers.items
+            ≡ readers_beside name.now self.old.readers.items }
         ensures goes { W.tells → WritersGo self.new.writers.items (W.state world.new) }
-        ensures told { W.tells → ReadsFile name.now rs (readers_in self.old.readers.items (W.state world.old)) result (readers_in self.new.readers.items (W.state world.new)) }
+        ensures told { W.tells → ReadsFile name.now rs (readers_in self.old.readers.items
+            (W.state world.old)) result (readers_in self.new.readers.items (W.state world.new)) }
         ensures outside { W.tells → (W.state world.new).outside ≡ (W.state world.old).outside }
         ensures others { OthersStay self.old self.new (W.kinds world.old) (W.kinds world.new) }
         ensures no_others { OthersStay self.new self.old (W.kinds world.new) (W.kinds world.old) }
-        ensures places { W.tells → OthersKeep self.old (W.kinds world.old) (W.state world.old) (W.state world.new) }
+        ensures places { W.tells
+            → OthersKeep self.old (W.kinds world.old) (W.state world.old) (W.state world.new) }
     {
         let _ = name;
         let named = &mut self.readers[at];
@@ -151,16 +166,24 @@ impl Streams {
         ensures held { HoldsOpen self.new (W.kinds world.new) }
         ensures writers { self.new.writers ≡ self.old.writers }
         ensures count { NextCounts Open result (W.count world.old) (W.count world.new) }
-        ensures readers { ReadersAfter false (has_room self.old) name.now self.old.readers.items result self.new.readers.items }
-        ensures kept { readers_beside name.now self.new.readers.items ≡ readers_beside name.now self.old.readers.items }
-        ensures breaks { is_writing name.now (reader_names self.new.readers.items) ≡ true → NextPhase Open result (phase_named name.now self.new.readers.items) }
-        ensures handed { is_writing name.now (reader_names self.new.readers.items) ≡ true → HandsOver rs Open [] result (phase_named name.now self.new.readers.items) (kept_named name.now self.new.readers.items) }
+        ensures readers { ReadersAfter false (has_room self.old) name.now self.old.readers.items
+            result self.new.readers.items }
+        ensures kept { readers_beside name.now self.new.readers.items
+            ≡ readers_beside name.now self.old.readers.items }
+        ensures breaks { is_writing name.now (reader_names self.new.readers.items) ≡ true
+            → NextPhase Open result (phase_named name.now self.new.readers.items) }
+        ensures handed { is_writing name.now (reader_names self.new.readers.items) ≡ true
+            → HandsOver rs Open [] result (phase_named name.now self.new.readers.items)
+            (kept_named name.now self.new.readers.items) }
         ensures goes { W.tells → WritersGo self.new.writers.items (W.state world.new) }
-        ensures told { W.tells → StartsFile (has_room self.old) (source_of ((W.state world.old).outside (Named name.now))) name.now rs (readers_in self.old.readers.items (W.state world.old)) result (readers_in self.new.readers.items (W.state world.new)) }
+        ensures told { W.tells → StartsFile (has_room self.old) (source_of ((W.state
+            world.old).outside (Named name.now))) name.now rs (readers_in self.old.readers.items
+            (W.state world.old)) result (readers_in self.new.readers.items (W.state world.new)) }
         ensures outside { W.tells → (W.state world.new).outside ≡ (W.state world.old).outside }
         ensures others { OthersStay self.old self.new (W.kinds world.old) (W.kinds world.new) }
         ensures no_others { OthersStay self.new self.old (W.kinds world.new) (W.kinds world.old) }
-        ensures places { W.tells → OthersKeep self.old (W.kinds world.old) (W.state world.old) (W.state world.new) }
+        ensures places { W.tells
+            → OthersKeep self.old (W.kinds world.old) (W.state world.old) (W.state world.new) }
     {
         match self.open_reader(world, name) {
             Ok(Some(at)) => self.next_at(world, name, at, rs),
@@ -190,17 +213,21 @@ impl Streams {
         ensures held { HoldsOpen self.new (W.kinds world.new) }
         ensures goes { W.tells → WritersGo self.new.writers.items (W.state world.new) }
         ensures writers { self.new.writers ≡ self.old.writers }
-        ensures count { NextCounts (phase_named name.now self.old.readers.items) result (W.count world.old) (W.count world.new) }
-        ensures readers { ReadersAfter (is_writing name.now (reader_names self.old.readers.items)) (has_room self.old) name.now self.old.readers.items result self.new.readers.items }
-        ensures kept { readers_beside name.now self.new.readers.items ≡ readers_beside name.now self.old.readers.items }
-        ensures breaks { is_writing name.now (reader_names self.new.readers.items) ≡ true → NextPhase (phase_named name.now self.old.readers.items) result (phase_named name.now self.new.readers.items) }
-        ensures handed { is_writing name.now (reader_names self.new.readers.items) ≡ true → HandsFile name.now (record_separator rs.now) self.old.readers.items result self.new.readers.items }
-        ensures failing { phase_named name.now self.old.readers.items ≡ Broken → (result ≡ Ok Failed) × (phase_named name.now self.new.readers.items ≡ Broken) }
-        ensures told { W.tells → FileNextIs name.now (record_separator rs.now) (has_room self.old) ((W.state world.old).outside (Named name.now)) (readers_in self.old.readers.items (W.state world.old)) result (readers_in self.new.readers.items (W.state world.new)) }
+        ensures count { FileCounts name.now self.old result (W.count world.old)
+            (W.count world.new) }
+        ensures readers { FileReaders name.now self.old result self.new }
+        ensures kept { readers_beside name.now self.new.readers.items
+            ≡ readers_beside name.now self.old.readers.items }
+        ensures breaks { FileBreaks name.now self.old result self.new }
+        ensures handed { FileHands name.now (record_separator rs.now) self.old result self.new }
+        ensures failing { FileGoesOnFailing name.now self.old result self.new }
+        ensures told { W.tells → ReadsNext name.now (record_separator rs.now) self.old
+            (W.state world.old) result self.new (W.state world.new) }
         ensures outside { W.tells → (W.state world.new).outside ≡ (W.state world.old).outside }
         ensures others { OthersStay self.old self.new (W.kinds world.old) (W.kinds world.new) }
         ensures no_others { OthersStay self.new self.old (W.kinds world.new) (W.kinds world.old) }
-        ensures places { W.tells → OthersKeep self.old (W.kinds world.old) (W.state world.old) (W.state world.new) }
+        ensures places { W.tells
+            → OthersKeep self.old (W.kinds world.old) (W.state world.old) (W.state world.new) }
     {
         let separator = first_byte(rs);
         match find_reader(self.readers.as_slice(), name) {

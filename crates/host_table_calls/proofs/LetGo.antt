@@ -2,7 +2,7 @@
 use Rattle.std.proofs.Common.{ℕ, List, Option, Some, None, Result, refl, sym, ap, subst}
 use Rattle.awk_values.specs.declared.fault.Fault.{Fault}
 use Rattle.wasm_store.specs.declared.word.Word.{Word}
-use Rattle.host_step.specs.declared.import.Import.TheVariants.{Drop, IterFree, FreeArray}
+use Rattle.host_imports.specs.declared.import.Import.TheVariants.{Drop, IterFree, FreeArray}
 use Rattle.host_values.specs.Evaluations.{Values}
 use Rattle.host_values.specs.declared.reply.Refusal.{Refusal}
 use Rattle.host_elements.specs.Calls.{IsTableCall, with_arrays, with_iterators}

@@ -1,7 +1,7 @@
 -- A call on the tables alone reads nothing.
 use Rattle.std.proofs.Common.{◌≡◌, false, refl}
 use Rattle.host_step.specs.Worlds.{reads}
-use Rattle.host_step.specs.declared.import.Import.TheVariants.{Of}
+use Rattle.host_imports.specs.declared.import.Import.TheVariants.{Of}
 use Rattle.host_texts.specs.Primitives.{row_of}
 use Rattle.host_texts.specs.declared.primitive.TextPrimitive.{TextPrimitive}
 use Rattle.host_texts.specs.declared.primitive.TextPrimitive.TheVariants as text

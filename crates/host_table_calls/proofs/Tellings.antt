@@ -12,9 +12,9 @@ use Rattle.wasm_store.specs.declared.word.Word.{Word}
 use Rattle.wasm_store.specs.declared.word.Word.TheVariants.{I32, I64}
 use Rattle.host_step.specs.Answers.{refusal}
 use Rattle.host_step.specs.HostStep.{refuses}
-use Rattle.host_step.specs.Imports.{import_answer, lets_go, result_of}
+use Rattle.host_imports.specs.Imports.{import_answer, lets_go, result_of}
 use Rattle.host_step.specs.Worlds.{reads}
-use Rattle.host_step.specs.declared.import.Import.{Import}
+use Rattle.host_imports.specs.declared.import.Import.{Import}
 use Rattle.host_values.specs.declared.reply.Refusal.{Refusal}
 use Rattle.host_values.specs.declared.reply.Refusal.TheVariants as why
 use Rattle.world_core.specs.WorldState.{Action}

@@ -8,8 +8,8 @@ use Rattle.wasm_model.specs.declared.host.HostAnswer.TheVariants as told
 use Rattle.wasm_store.specs.declared.trap.TrapKind.TheVariants.{BadArgument}
 use Rattle.wasm_store.specs.declared.word.Word.{Word}
 use Rattle.wasm_store.specs.declared.word.Word.TheVariants.{I32, I64}
-use Rattle.host_step.specs.Imports.{import_answer}
-use Rattle.host_step.specs.declared.import.Import.{Import}
+use Rattle.host_imports.specs.Imports.{import_answer}
+use Rattle.host_imports.specs.declared.import.Import.{Import}
 use Rattle.host_values.specs.declared.reply.Refusal.{Refusal}
 use Rattle.host_meaning.specs.TableCalls.{answer_of_call}
 

@@ -1,8 +1,8 @@
 -- The imports that touch nothing but the tables.
 use Rattle.sem_primitives.specs.declared.table.Primitive.TheVariants as row
-use Rattle.host_step.specs.declared.import.Import.{Import}
-use Rattle.host_step.specs.declared.import.Import.TheVariants as import
-use Rattle.host_step.specs.declared.import.Listing.TheVariants as listing
+use Rattle.host_imports.specs.declared.import.Import.{Import}
+use Rattle.host_imports.specs.declared.import.Import.TheVariants as import
+use Rattle.host_imports.specs.declared.import.Listing.TheVariants as listing
 use Rattle.host_texts.specs.Primitives.{row_of}
 use Rattle.host_values.specs.Primitives.{primitive_of}
 use Rattle.host_table_calls.specs.declared.table_call.TableCall.{TableCall}

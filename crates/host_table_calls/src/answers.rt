@@ -5,7 +5,7 @@ ghost use Rattle.host_step.specs.HostStep.{refuses};
 ghost use Rattle.host_table_calls.specs.Answers.{fits, told_as};
 
 use awk_values::Fault;
-use host_step::Import;
+use host_imports::Import;
 use host_values::Refusal;
 use sem_primitives::{Answer, Sort};
 use wasm_model::HostAnswer;

@@ -26,7 +26,8 @@ impl Tables {
         memory: &[u8],
     ) -> Result<Option<Word>, Refusal>
         requires { refuses (import_of_table call) self.old.fault ≡ false }
-        ensures { (f : HostForm) → TableCalls (import_of_table call) (of_tables self.old f) words.now memory.now result (of_tables self.new f) }
+        ensures { (f : HostForm) → TableCalls (import_of_table call) (of_tables self.old f)
+            words.now memory.now result (of_tables self.new f) }
     {
         match call {
             TableCall::Values(primitive) => self.on_values(primitive, words, memory),
@@ -51,7 +52,8 @@ impl Tables {
     /// Keeps the fault that a call met.
     #[inline(always)]
     pub fn keep(&mut self, outcome: Result<Option<Word>, Refusal>)
-        ensures { (f : HostForm) → of_tables self.new f ≡ left_by_call outcome (of_tables self.old f) }
+        ensures { (f : HostForm) → of_tables self.new f
+            ≡ left_by_call outcome (of_tables self.old f) }
     {
         if let Err(Refusal::Fault(fault)) = outcome {
             self.fault = Some(fault);

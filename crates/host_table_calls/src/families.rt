@@ -3,8 +3,8 @@ ghost use Rattle.std.specs.Prelude.{◌≡◌, List, ℕ, None};
 ghost use Rattle.sem_primitives.specs.declared.table.Primitive.TheVariants as row;
 ghost use Rattle.host_elements.specs.Calls.{IsTableCall};
 ghost use Rattle.host_elements.specs.Forms.{HostForm};
-ghost use Rattle.host_step.specs.declared.import.Import.{Import};
-ghost use Rattle.host_step.specs.declared.import.Listing.{Listing};
+ghost use Rattle.host_imports.specs.declared.import.Import.{Import};
+ghost use Rattle.host_imports.specs.declared.import.Listing.{Listing};
 ghost use Rattle.host_tables.specs.Families.{of_values};
 ghost use Rattle.host_texts.specs.Primitives.{row_of};
 ghost use Rattle.host_values.specs.Primitives.{primitive_of};
@@ -26,7 +26,8 @@ impl Tables {
         memory: &[u8],
     ) -> Result<Option<Word>, Refusal>
         requires { self.old.fault ≡ None }
-        ensures { (f : HostForm) → IsTableCall (Import.Of (primitive_of primitive)) (of_tables self.old f) words.now memory.now result (of_tables self.new f) }
+        ensures { (f : HostForm) → IsTableCall (Import.Of (primitive_of primitive))
+            (of_tables self.old f) words.now memory.now result (of_tables self.new f) }
     {
         on_values(
             self.alloc,
@@ -46,7 +47,8 @@ impl Tables {
         words: &[Word],
     ) -> Result<Option<Word>, Refusal>
         requires { self.old.fault ≡ None }
-        ensures { (f : HostForm) (memory : List ℕ) → IsTableCall (Import.Of (row_of primitive)) (of_tables self.old f) words.now memory result (of_tables self.new f) }
+        ensures { (f : HostForm) (memory : List ℕ) → IsTableCall (Import.Of (row_of primitive))
+            (of_tables self.old f) words.now memory result (of_tables self.new f) }
     {
         on_texts(
             self.alloc,
@@ -60,15 +62,18 @@ impl Tables {
     /// The last values of the argument list are taken, and make a text.
     pub(crate) fn sprintf(&mut self, words: &[Word]) -> Result<Option<Word>, Refusal>
         requires { self.old.fault ≡ None }
-        ensures { (f : HostForm) (memory : List ℕ) → IsTableCall (Import.Over Listing.Sprintf) (of_tables self.old f) words.now memory result (of_tables self.new f) }
+        ensures { (f : HostForm) (memory : List ℕ) → IsTableCall (Import.Over Listing.Sprintf)
+            (of_tables self.old f) words.now memory result (of_tables self.new f) }
     {
         format_last(self.alloc, &mut self.handles, &mut self.arguments, words)
     }
 
     /// A value goes onto the argument list.
+    #[inline(always)]
     pub(crate) fn arg(&mut self, words: &[Word]) -> Result<Option<Word>, Refusal>
         requires { self.old.fault ≡ None }
-        ensures { (f : HostForm) (memory : List ℕ) → IsTableCall Import.Arg (of_tables self.old f) words.now memory result (of_tables self.new f) }
+        ensures { (f : HostForm) (memory : List ℕ) → IsTableCall Import.Arg (of_tables self.old f)
+            words.now memory result (of_tables self.new f) }
     {
         append(&mut self.handles, &mut self.arguments, words)
     }
@@ -76,7 +81,8 @@ impl Tables {
     /// An array takes the pieces of a text.
     pub(crate) fn split(&mut self, words: &[Word]) -> Result<Option<Word>, Refusal>
         requires { self.old.fault ≡ None }
-        ensures { (f : HostForm) (memory : List ℕ) → IsTableCall (Import.Of row.Split) (of_tables self.old f) words.now memory result (of_tables self.new f) }
+        ensures { (f : HostForm) (memory : List ℕ) → IsTableCall (Import.Of row.Split)
+            (of_tables self.old f) words.now memory result (of_tables self.new f) }
     {
         split(
             self.alloc,
@@ -90,8 +96,10 @@ impl Tables {
     /// Gives a value up, also where a fault is kept.
     #[inline(always)]
     pub(crate) fn release(&mut self, words: &[Word]) -> Result<Option<Word>, Refusal>
-        ensures step { (f : HostForm) (memory : List ℕ) → IsTableCall Import.Drop (of_values self.old.handles f) words.now memory result (of_values self.new.handles f) }
-        ensures others { (f : HostForm) → of_tables self.new f ≡ of_values self.new.handles (of_tables self.old f) }
+        ensures step { (f : HostForm) (memory : List ℕ) → IsTableCall Import.Drop
+            (of_values self.old.handles f) words.now memory result (of_values self.new.handles f) }
+        ensures others { (f : HostForm) → of_tables self.new f
+            ≡ of_values self.new.handles (of_tables self.old f) }
     {
         release(&mut self.handles, words)
     }

@@ -18,7 +18,8 @@ impl Tables {
         requires values { map.get first.handles spare ≡ None }
         requires arrays { map.get first.arrays spare ≡ None }
         requires iterators { map.get first.iterators spare ≡ None }
-        ensures form { (f : HostForm) → of_tables_and_names result.0 result.1 f ≡ form_of first f.shared }
+        ensures form { (f : HostForm) → of_tables_and_names result.0 result.1 f
+            ≡ form_of first f.shared }
         ensures names { result.1 ≡ first.names }
         ensures fault { result.0.fault ≡ first.fault }
     {

@@ -18,8 +18,8 @@ use Rattle.wasm_store.specs.declared.word.Word.{Word}
 use Rattle.wasm_store.specs.declared.word.Word.TheVariants.{I64}
 use Rattle.host_step.specs.Answers.{refusal}
 use Rattle.host_step.specs.HostStep.{carried, primitive_acts}
-use Rattle.host_step.specs.Imports.{import_answer, spends}
-use Rattle.host_step.specs.declared.import.Import.TheVariants.{Of}
+use Rattle.host_imports.specs.Imports.{import_answer, spends}
+use Rattle.host_imports.specs.declared.import.Import.TheVariants.{Of}
 use Rattle.host_values.specs.Calls.{names_with}
 use Rattle.host_values.specs.Evaluations.{Values}
 use Rattle.host_values.specs.declared.reply.Refusal.{Refusal}

@@ -1,8 +1,8 @@
 //! Calls on values and on texts, as calls on the tables.
 ghost use Rattle.std.specs.Prelude.{◌≡◌, List, ℕ, None};
 ghost use Rattle.std.specs.FinMap as map;
-ghost use Rattle.host_step.specs.declared.import.Import.{Import};
-ghost use Rattle.host_step.specs.declared.import.Listing.{Listing};
+ghost use Rattle.host_imports.specs.declared.import.Import.{Import};
+ghost use Rattle.host_imports.specs.declared.import.Listing.{Listing};
 ghost use Rattle.host_values.specs.Calls.{spare};
 ghost use Rattle.host_values.specs.Primitives.{primitive_of};
 ghost use Rattle.host_texts.specs.Primitives.{row_of};
@@ -33,7 +33,9 @@ pub fn on_values(
     memory: &[u8],
 ) -> Result<Option<Word>, Refusal>
     requires { map.get handles.old spare ≡ None }
-    ensures step { (f : HostForm) → f.fault ≡ None → IsTableCall (Import.Of (primitive_of primitive)) (of_values handles.old f) words.now memory.now result (of_values handles.new f) }
+    ensures step { (f : HostForm) → f.fault ≡ None
+        → IsTableCall (Import.Of (primitive_of primitive)) (of_values handles.old f) words.now
+        memory.now result (of_values handles.new f) }
     ensures spare { map.get handles.new spare ≡ None }
 {
     host_values::call(alloc, literals, primitive, handles, words, memory)
@@ -53,7 +55,9 @@ pub fn on_texts(
     words: &[Word],
 ) -> Result<Option<Word>, Refusal>
     requires { map.get handles.old spare ≡ None }
-    ensures step { (f : HostForm) (memory : List ℕ) → f.fault ≡ None → IsTableCall (Import.Of (row_of primitive)) (of_texts texts.old handles.old f) words.now memory result (of_texts texts.new handles.new f) }
+    ensures step { (f : HostForm) (memory : List ℕ) → f.fault ≡ None
+        → IsTableCall (Import.Of (row_of primitive)) (of_texts texts.old handles.old f) words.now
+        memory result (of_texts texts.new handles.new f) }
     ensures spare { map.get handles.new spare ≡ None }
 {
     host_texts::call(alloc, primitive, handles, texts, words)
@@ -71,7 +75,9 @@ pub fn format_last(
     words: &[Word],
 ) -> Result<Option<Word>, Refusal>
     requires { map.get handles.old spare ≡ None }
-    ensures step { (f : HostForm) (memory : List ℕ) → f.fault ≡ None → IsTableCall (Import.Over Listing.Sprintf) (of_listed arguments.old.items handles.old f) words.now memory result (of_listed arguments.new.items handles.new f) }
+    ensures step { (f : HostForm) (memory : List ℕ) → f.fault ≡ None
+        → IsTableCall (Import.Over Listing.Sprintf) (of_listed arguments.old.items handles.old f)
+        words.now memory result (of_listed arguments.new.items handles.new f) }
     ensures spare { map.get handles.new spare ≡ None }
 {
     host_texts::sprintf(alloc, handles, arguments, words)
@@ -82,12 +88,15 @@ pub fn format_last(
 /// # Errors
 ///
 /// A trap, which changes nothing, or want of memory.
+#[inline(always)]
 pub fn append(
     handles: &mut Handles,
     arguments: &mut SmallVec<Value, 8>,
     words: &[Word],
 ) -> Result<Option<Word>, Refusal>
-    ensures step { (f : HostForm) (memory : List ℕ) → f.fault ≡ None → IsTableCall Import.Arg (of_listed arguments.old.items handles.old f) words.now memory result (of_listed arguments.new.items handles.new f) }
+    ensures step { (f : HostForm) (memory : List ℕ) → f.fault ≡ None
+        → IsTableCall Import.Arg (of_listed arguments.old.items handles.old f) words.now memory
+        result (of_listed arguments.new.items handles.new f) }
     ensures spare { map.get handles.old spare ≡ None → map.get handles.new spare ≡ None }
 {
     match host_values::append(handles, arguments, words) {
@@ -101,8 +110,10 @@ pub fn append(
 /// # Errors
 ///
 /// A trap, which changes nothing.
+#[inline(always)]
 pub fn release(handles: &mut Handles, words: &[Word]) -> Result<Option<Word>, Refusal>
-    ensures step { (f : HostForm) (memory : List ℕ) → IsTableCall Import.Drop (of_values handles.old f) words.now memory result (of_values handles.new f) }
+    ensures step { (f : HostForm) (memory : List ℕ) → IsTableCall Import.Drop
+        (of_values handles.old f) words.now memory result (of_values handles.new f) }
     ensures spare { map.get handles.old spare ≡ None → map.get handles.new spare ≡ None }
 {
     match host_values::release(handles, words) {

@@ -23,7 +23,8 @@ pub(crate) fn put_text(
     text: Bytes,
 ) -> Result<(), AllocError>
     requires { maps.contains_key arrays.old array ≡ true }
-    ensures put { OnOk result (arrays.new ≡ maps.insert arrays.old array (set_pair (decimal number) (AnyValue.StrNum text) (pairs_at arrays.old array))) }
+    ensures put { OnOk result (arrays.new ≡ maps.insert arrays.old array
+        (set_pair (decimal number) (AnyValue.StrNum text) (pairs_at arrays.old array))) }
     ensures refused { OnErr result (arrays.new ≡ arrays.old) }
 {
     let Ok(number) = i64::try_from(number) else {
@@ -46,7 +47,8 @@ pub(crate) fn fill(
 ) -> Result<(), AllocError>
     requires there { maps.contains_key arrays.old array ≡ true }
     requires inside { All (IsInside text.now) spans.now }
-    ensures filled { OnOk result (arrays.new ≡ maps.insert arrays.old array (numbered 1 (map (span_text text.now) spans.now))) }
+    ensures filled { OnOk result (arrays.new
+        ≡ maps.insert arrays.old array (numbered 1 (map (span_text text.now) spans.now))) }
     ensures spare { maps.get arrays.old spare ≡ None → maps.get arrays.new spare ≡ None }
 {
     arrays.clear(array);

@@ -61,7 +61,8 @@ fn any_long_pair(pairs: &[NamedText]) -> bool
 
 /// Whether a text of the job is past the limit.
 fn has_long(job: &Job) -> bool
-    ensures { result ≡ (list_any is_long job.now.operands.items || (list_any is_long_pair job.now.assigns.items || list_any is_long_pair job.now.environment.items)) }
+    ensures { result ≡ (list_any is_long job.now.operands.items || (list_any is_long_pair
+        job.now.assigns.items || list_any is_long_pair job.now.environment.items)) }
 {
     any_long(&job.operands) || any_long_pair(&job.assigns) || any_long_pair(&job.environment)
 }

@@ -17,7 +17,8 @@ use std::alloc::{AllocError, Global};
 /// The pieces of a text at a separator.
 fn plain_pieces(alloc: Global, text: Bytes, mut sep: Sep) -> Result<(Bytes, Vec<Span>), Stop>
     requires { IsAnySep sep }
-    ensures ok { (s : Separator) → IsSep sep s → IfOk result (λ x. (x.0 ≡ text) × AreSpans x.0 x.1.items (pieces_of s false x.0)) }
+    ensures ok { (s : Separator) → IsSep sep s
+        → IfOk result (λ x. (x.0 ≡ text) × AreSpans x.0 x.1.items (pieces_of s false x.0)) }
     ensures err { IfErr result (λ stop. stop ≡ stops.NoMemory) }
 {
     let spans = split_text(alloc, text.as_slice(), &mut sep, false)?;
@@ -44,7 +45,8 @@ fn pieces(
     between: &Value,
     is_ere: bool,
 ) -> Result<(Bytes, Vec<Span>), Stop>
-    ensures ok { IfOk result (λ x. ArePieces (text_of_value value.now) (splits_at is_ere (text_of_value between.now)) x.0 x.1.items) }
+    ensures ok { IfOk result (λ x. ArePieces (text_of_value value.now)
+        (splits_at is_ere (text_of_value between.now)) x.0 x.1.items) }
     ensures err { IfErr result (IsStopOf (splits_at is_ere (text_of_value between.now))) }
 {
     let between = to_text(alloc, between)?;
@@ -65,7 +67,8 @@ pub(crate) fn split_outcome(
     between: &Value,
     is_ere: bool,
 ) -> Result<Result<(Bytes, Vec<Span>), Fault>, AllocError>
-    ensures { IfOk result (λ found. IsFound (text_of_value value.now) (splits_at is_ere (text_of_value between.now)) found) }
+    ensures { IfOk result (λ found. IsFound (text_of_value value.now)
+        (splits_at is_ere (text_of_value between.now)) found) }
 {
     match pieces(alloc, expressions, value, between, is_ere) {
         Ok(found) => Ok(Ok(found)),

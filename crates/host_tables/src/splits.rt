@@ -5,7 +5,7 @@ ghost use Rattle.std.specs.List.{All};
 ghost use Rattle.sem_primitives.specs.ArrayMeaning.{numbered};
 ghost use Rattle.sem_primitives.specs.declared.table.Primitive.TheVariants as row;
 ghost use Rattle.host_format.specs.Spans.{IsInside, span_text};
-ghost use Rattle.host_step.specs.declared.import.Import.{Import};
+ghost use Rattle.host_imports.specs.declared.import.Import.{Import};
 ghost use Rattle.host_values.specs.Calls.{spare};
 ghost use Rattle.host_elements.specs.Calls.{IsTableCall, with_arrays};
 ghost use Rattle.host_elements.specs.Forms.{HostForm};
@@ -34,7 +34,8 @@ fn take_pieces(
 ) -> Result<Option<Word>, Refusal>
     requires there { maps.contains_key arrays.old array ≡ true }
     requires inside { All (IsInside text.now) spans.now }
-    ensures filled { IsFilled result (length spans.now) (maps.insert arrays.old array (numbered 1 (map (span_text text.now) spans.now))) arrays.new }
+    ensures filled { IsFilled result (length spans.now) (maps.insert arrays.old array
+        (numbered 1 (map (span_text text.now) spans.now))) arrays.new }
     ensures spare { maps.get arrays.old spare ≡ None → maps.get arrays.new spare ≡ None }
 {
     match fill(alloc, arrays, array, text, spans) {
@@ -55,7 +56,9 @@ pub fn split(
     handles: &mut Handles,
     words: &[Word],
 ) -> Result<Option<Word>, Refusal>
-    ensures step { (f : HostForm) (memory : List ℕ) → f.fault ≡ None → IsTableCall (Import.Of row.Split) (with_arrays handles.old arrays.old f) words.now memory result (with_arrays handles.new arrays.new f) }
+    ensures step { (f : HostForm) (memory : List ℕ) → f.fault ≡ None
+        → IsTableCall (Import.Of row.Split) (with_arrays handles.old arrays.old f) words.now memory
+        result (with_arrays handles.new arrays.new f) }
     ensures spare { maps.get handles.old spare ≡ None → maps.get handles.new spare ≡ None }
     ensures spare_array { maps.get arrays.old spare ≡ None → maps.get arrays.new spare ≡ None }
 {

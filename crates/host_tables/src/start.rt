@@ -58,7 +58,8 @@ fn copied_pairs(alloc: Global, pairs: &[NamedText]) -> Result<Vec<NamedText>, Al
 /// ARGV: the name of awk, and the operands by their numbers.
 fn fill_argv(alloc: Global, arrays: &mut Arrays, operands: &[Bytes]) -> Result<(), AllocError>
     requires { maps.contains_key arrays.old (pos 0) ≡ true }
-    ensures { OnOk result (arrays.new ≡ maps.insert arrays.old (pos 0) (arguments_from 0 (codes "awk" ∷ operands.now))) }
+    ensures { OnOk result (arrays.new
+        ≡ maps.insert arrays.old (pos 0) (arguments_from 0 (codes "awk" ∷ operands.now))) }
 {
     arrays.clear(Arrays::ARGV);
     let awk = Bytes::from_slice(alloc, b"awk")?;
@@ -73,7 +74,8 @@ fn fill_argv(alloc: Global, arrays: &mut Arrays, operands: &[Bytes]) -> Result<(
 /// ENVIRON: a later pair replaces an earlier one of its name.
 fn fill_environ(arrays: &mut Arrays, environment: &[NamedText]) -> Result<(), AllocError>
     requires { maps.contains_key arrays.old (pos 1) ≡ true }
-    ensures { OnOk result (arrays.new ≡ maps.insert arrays.old (pos 1) (environment_in [] (map pair_of environment.now))) }
+    ensures { OnOk result (arrays.new
+        ≡ maps.insert arrays.old (pos 1) (environment_in [] (map pair_of environment.now))) }
 {
     arrays.clear(Arrays::ENVIRON);
     for pair in environment {
@@ -103,7 +105,9 @@ impl FirstTables {
     ///
     /// There is no memory.
     pub fn at_start(alloc: Global, job: &Job, state: RandomState) -> Result<FirstTables, AllocError>
-        ensures stands { IfOk result (λ t. (input : Source) (outside : Outside) → Stands (form_of t (shared_at_start (job_of job.now) input outside)) (state_at_start (job_of job.now) input outside)) }
+        ensures stands { IfOk result (λ t. (input : Source) (outside : Outside)
+            → Stands (form_of t (shared_at_start (job_of job.now) input outside))
+            (state_at_start (job_of job.now) input outside)) }
         ensures values { IfOk result (λ t. maps.get t.handles spare ≡ None) }
         ensures arrays { IfOk result (λ t. maps.get t.arrays spare ≡ None) }
         ensures iterators { IfOk result (λ t. maps.get t.iterators spare ≡ None) }

@@ -16,9 +16,9 @@ use Rattle.wasm_store.specs.declared.word.Word.{Word}
 use Rattle.host_step.specs.Arguments.{and_then, constant_front, decode, no_more}
 use Rattle.host_step.specs.HostState.{HostState}
 use Rattle.host_step.specs.HostStep.{before_last_of, carried, last_of, where_fit}
-use Rattle.host_step.specs.Imports.{spends}
-use Rattle.host_step.specs.declared.import.Import.TheVariants.{Over}
-use Rattle.host_step.specs.declared.import.Listing.TheVariants.{Sprintf}
+use Rattle.host_imports.specs.Imports.{spends}
+use Rattle.host_imports.specs.declared.import.Import.TheVariants.{Over}
+use Rattle.host_imports.specs.declared.import.Listing.TheVariants.{Sprintf}
 use Rattle.host_values.specs.Calls.{names_with, spare, with_values}
 use Rattle.host_values.specs.Evaluations.{Values}
 use Rattle.host_values.specs.Singles.{with_arguments}

@@ -7,7 +7,7 @@ use Rattle.awk_values.specs.declared.fault.Stop.TheVariants as stops
 use Rattle.awk_values.specs.declared.value.Value.{Value}
 use Rattle.awk_values.specs.declared.value.Value.TheVariants.{Text}
 use Rattle.ere_syntax.specs.Tree.{Tree}
-use Rattle.ere_match.specs.FirstMatch.{IsMatch}
+use Rattle.ere_syntax.specs.FirstMatch.{IsMatch}
 use Rattle.sem_primitives.specs.FirstMatch.{expression_of, first_match, has_match}
 use Rattle.sem_primitives.proofs.Firsts.{has_match_is}
 use Rattle.sem_primitives.specs.Numbers.{Number}

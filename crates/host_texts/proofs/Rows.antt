@@ -23,8 +23,8 @@ use Rattle.wasm_store.specs.declared.word.Word.{Word}
 use Rattle.host_step.specs.Arguments.{and_then, constant_front, decode, no_more, number_front}
 use Rattle.host_step.specs.HostState.{HostState, Names}
 use Rattle.host_step.specs.HostStep.{Acts, carried, primitive_acts, where_fit}
-use Rattle.host_step.specs.Imports.{spends}
-use Rattle.host_step.specs.declared.import.Import.TheVariants.{Of}
+use Rattle.host_imports.specs.Imports.{spends}
+use Rattle.host_imports.specs.declared.import.Import.TheVariants.{Of}
 use Rattle.host_format.specs.Parts.{part}
 use Rattle.host_fields.specs.Calls.{field_set}
 use Rattle.host_values.specs.Calls.{names_with, with_values}

@@ -18,8 +18,8 @@ use Rattle.wasm_store.specs.declared.word.Word.TheVariants.{I32, I64}
 use Rattle.host_step.specs.Answers.{FreeFor, encode, refusal, with_value}
 use Rattle.host_step.specs.HostState.{HostState, Names}
 use Rattle.host_step.specs.HostStep.{Acts, Refuses, Settles, StepBy, StepOf, carried, come, refuses}
-use Rattle.host_step.specs.Imports.{import_answer}
-use Rattle.host_step.specs.declared.import.Import.{Import}
+use Rattle.host_imports.specs.Imports.{import_answer}
+use Rattle.host_imports.specs.declared.import.Import.{Import}
 use Rattle.host_values.specs.Calls.{names_with, spare, with_values}
 use Rattle.host_values.specs.Evaluations.{Values}
 use Rattle.host_values.specs.Singles.{with_arguments}

@@ -10,8 +10,8 @@ use Rattle.wasm_store.specs.declared.word.Word.TheVariants.{I32, I64}
 use Rattle.host_step.specs.Answers.{refusal}
 use Rattle.host_step.specs.HostState.{HostState}
 use Rattle.host_step.specs.HostStep.{StepOf}
-use Rattle.host_step.specs.Imports.{import_answer}
-use Rattle.host_step.specs.declared.import.Import.{Import}
+use Rattle.host_imports.specs.Imports.{import_answer}
+use Rattle.host_imports.specs.declared.import.Import.{Import}
 use Rattle.host_values.specs.Calls.{with_values}
 use Rattle.host_values.specs.Evaluations.{Values}
 use Rattle.host_values.specs.declared.reply.Refusal.{Refusal}
@@ -34,6 +34,8 @@ Gives r before (Err (why.Fault f)) after = ⊥
 -- call could have been.
 abbrev pub IsStep : Import → List Word → List ℕ → Values → HostState → Result (Option Word) Refusal → Values → HostState → Type 0
 IsStep i words memory m before (Ok w) m' after = StepOf i (with_values m before) words memory (told.Done w) (with_values m' after) []
-IsStep i words memory m before (Err (why.Fault f)) m' after = StepOf i (with_values m before) words memory (told.Done (refusal (import_answer i))) (record (with_values m' after) { fault = Some f }) []
+IsStep i words memory m before (Err (why.Fault f)) m' after = StepOf i (with_values m before) words memory (told.Done (refusal (import_answer i)))
+    (record (with_values m' after) { fault = Some f }) []
 IsStep i words memory m before (Err (why.Trap k)) m' after = StepOf i (with_values m before) words memory (told.Trap k) (with_values m' after) []
-IsStep i words memory m before (Err why.NoMemory) m' after = (a : HostAnswer) × (a ≢ told.NoMemory) × (left : HostState) × StepOf i (with_values m before) words memory a left []
+IsStep i words memory m before (Err why.NoMemory) m' after = (a : HostAnswer) × (a ≢ told.NoMemory) × (left : HostState)
+    × StepOf i (with_values m before) words memory a left []

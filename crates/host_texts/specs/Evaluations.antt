@@ -88,17 +88,32 @@ abbrev pub text_reply : List ℕ → Result Reply Fault
 text_reply text = Ok (reply.Value (value.Text text))
 
 abbrev pub evaluation : TextPrimitive → Values → HostState → List Word → Evaluation
-evaluation GetSpecial m s words = constant_then constant.Special words (λ t rest. ends_then (no_more rest) (Ok (m, (s, Ok (reply.Value (special_of s.shared.inner t))))))
+evaluation GetSpecial m s words = constant_then constant.Special words (λ t rest. ends_then (no_more rest) (Ok (
+  m,
+  (s, Ok (reply.Value (special_of s.shared.inner t))),
+)))
 evaluation SetSpecial m s words =
-    constant_then constant.Special words (λ t behind. value_then m behind (λ v left rest. ends_then (no_more rest) (Ok (left, settled s done_reply (set_special_row t v s.shared.inner)))))
+    constant_then constant.Special words (λ t behind. value_then m behind (λ v left rest. ends_then (no_more rest) (Ok (
+      left,
+      settled s done_reply (set_special_row t v s.shared.inner),
+    ))))
 evaluation Field m s words = number_then words (λ n rest. ends_then (no_more rest) (Ok (m, (s, replied reply.Value (field_read n s.shared.inner)))))
 evaluation SetField m s words =
-    number_then words (λ n behind. value_then m behind (λ v left rest. ends_then (no_more rest) (Ok (left, settled s done_reply (done (field_set n v s.shared.inner))))))
+    number_then words (λ n behind. value_then m behind (λ v left rest. ends_then (no_more rest) (Ok (
+      left,
+      settled s done_reply (done (field_set n v s.shared.inner)),
+    ))))
 evaluation Length m s words = value_then m words (λ v left rest. ends_then (no_more rest) (Ok (left, (s, Ok (number_reply (length_row v))))))
 evaluation Matches m s words =
-    value_then m words (λ v without_v behind. value_then without_v behind (λ ere left rest. ends_then (no_more rest) (Ok (left, (s, replied reply.Truth (matches_row v ere))))))
+    value_then m words (λ v without_v behind. value_then without_v behind (λ ere left rest. ends_then (no_more rest) (Ok (
+      left,
+      (s, replied reply.Truth (matches_row v ere)),
+    ))))
 evaluation Match m s words =
-    value_then m words (λ v without_v behind. value_then without_v behind (λ ere left rest. ends_then (no_more rest) (Ok (left, settled s number_reply (match_row v ere s.shared.inner)))))
+    value_then m words (λ v without_v behind. value_then without_v behind (λ ere left rest. ends_then (no_more rest) (Ok (
+      left,
+      settled s number_reply (match_row v ere s.shared.inner),
+    ))))
 evaluation Sub m s words =
     value_then m words (λ ere without_ere behind_ere.
     value_then without_ere behind_ere (λ by without_by behind_by.
@@ -106,17 +121,33 @@ evaluation Sub m s words =
     constant_then constant.Flag behind (λ all rest.
     ends_then (no_more rest) (Ok (left, settled s number_reply (substitute_row ere by target all s.shared.inner)))))))
 evaluation SubResult m s words =
-    ends_then (no_more words) (where_fit (is_some s.shared.inner.substituted) (m, (with_inner (substituted_row s.shared.inner).0 s, Ok (reply.Value (substituted_row s.shared.inner).1))))
+    ends_then (no_more words) (where_fit (is_some s.shared.inner.substituted) (
+      m,
+      (with_inner (substituted_row s.shared.inner).0 s, Ok (reply.Value (substituted_row s.shared.inner).1)),
+    ))
 evaluation Substr m s words =
-    value_then m words (λ v left behind. number_then behind (λ from behind_from. number_then behind_from (λ count rest. ends_then (no_more rest) (Ok (left, (s, text_reply (part (text_of_value v) from (Some count))))))))
+    value_then m words (λ v left behind. number_then behind
+    (λ from behind_from. number_then behind_from (λ count rest. ends_then (no_more rest) (Ok (
+      left,
+      (s, text_reply (part (text_of_value v) from (Some count))),
+    )))))
 evaluation SubstrFrom m s words =
-    value_then m words (λ v left behind. number_then behind (λ from rest. ends_then (no_more rest) (Ok (left, (s, text_reply (part (text_of_value v) from None))))))
+    value_then m words (λ v left behind. number_then behind (λ from rest. ends_then (no_more rest) (Ok (
+      left,
+      (s, text_reply (part (text_of_value v) from None)),
+    ))))
 evaluation Index m s words =
-    value_then m words (λ v without_v behind. value_then without_v behind (λ wanted left rest. ends_then (no_more rest) (Ok (left, (s, Ok (number_reply (index_row v wanted)))))))
+    value_then m words (λ v without_v behind. value_then without_v behind (λ wanted left rest. ends_then (no_more rest) (Ok (
+      left,
+      (s, Ok (number_reply (index_row v wanted))),
+    ))))
 evaluation Lower m s words = value_then m words (λ v left rest. ends_then (no_more rest) (Ok (left, (s, Ok (reply.Value (lower_row v))))))
 evaluation Upper m s words = value_then m words (λ v left rest. ends_then (no_more rest) (Ok (left, (s, Ok (reply.Value (upper_row v))))))
 evaluation Join m s words =
-    value_then m words (λ v without_v behind. value_then without_v behind (λ w left rest. ends_then (no_more rest) (Ok (left, (s, replied reply.Value (join_row v w s.shared.inner))))))
+    value_then m words (λ v without_v behind. value_then without_v behind (λ w left rest. ends_then (no_more rest) (Ok (
+      left,
+      (s, replied reply.Value (join_row v w s.shared.inner)),
+    ))))
 
 -- What the code gives.
 

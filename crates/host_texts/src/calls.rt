@@ -2,7 +2,7 @@
 ghost use Rattle.std.specs.Prelude.{◌≡◌, List, ℕ, None};
 ghost use Rattle.std.specs.FinMap as map;
 ghost use Rattle.host_step.specs.HostState.{HostState};
-ghost use Rattle.host_step.specs.declared.import.Import.{Import};
+ghost use Rattle.host_imports.specs.declared.import.Import.{Import};
 ghost use Rattle.host_values.specs.Calls.{spare};
 ghost use Rattle.host_texts.specs.Calls.{Gives, IsStep};
 ghost use Rattle.host_texts.specs.Primitives.{row_of};
@@ -49,7 +49,9 @@ pub fn call(
     words: &[Word],
 ) -> Result<Option<Word>, Refusal>
     requires { map.get handles.old spare ≡ None }
-    ensures step { (s : HostState) (memory : List ℕ) → s.fault ≡ None → IsStep (Import.Of (row_of primitive)) words.now memory handles.old (holding texts.old s) result handles.new (holding texts.new s) }
+    ensures step { (s : HostState) (memory : List ℕ) → s.fault ≡ None
+        → IsStep (Import.Of (row_of primitive)) words.now memory handles.old (holding texts.old s)
+        result handles.new (holding texts.new s) }
     ensures spare { map.get handles.new spare ≡ None }
 {
     let evaluated = match evaluate(alloc, primitive, handles, texts, words) {

@@ -10,7 +10,6 @@ ghost use Rattle.host_texts.specs.Evaluations.{Evaluates, evaluation, number_rep
 ghost use Rattle.host_texts.specs.States.{holding, with_texts};
 ghost use Rattle.host_texts.specs.declared.primitive.TextPrimitive.{TextPrimitive};
 
-use crate::evaluate::text_value;
 use crate::expressions::{first, matcher};
 use crate::reply::{Evaluated, Reply, counted};
 use crate::spent::Spent;
@@ -19,7 +18,7 @@ use crate::words::{flag_front, value_third};
 use awk_values::{Fault, Stop, Value};
 use host_expressions::Expressions;
 use host_handles::Handles;
-use host_values::{Refusal, ends, value_after, value_front};
+use host_values::{Refusal, ends, value_after, value_front, value_text};
 use sem_primitives::Special;
 use std::alloc::{AllocError, Global};
 use wasm_store::{TrapKind, Word};
@@ -31,19 +30,22 @@ fn first_of(
     value: &Value,
     ere: &Value,
 ) -> Result<Option<(usize, usize)>, Stop>
-    ensures ok { IfOk result (λ found. (inner : Inner) → match_row value.now ere.now inner ≡ Ok (with_match found inner, counted (match_start found))) }
+    ensures ok { IfOk result (λ found. (inner : Inner) → match_row value.now ere.now inner
+        ≡ Ok (with_match found inner, counted (match_start found))) }
     ensures inside { IfOk result (λ found. IfSome found (λ m. (m.0 ≤ m.1) × (m.1 < 2 ^ 63))) }
-    ensures err { IfErr result (λ stop. (inner : Inner) → IsStopOf (match_row value.now ere.now inner) stop) }
+    ensures err { IfErr result
+        (λ stop. (inner : Inner) → IsStopOf (match_row value.now ere.now inner) stop) }
 {
     let matcher = matcher(alloc, expressions, ere)?;
-    let text = text_value(alloc, value)?;
+    let text = value_text(alloc, value)?;
     first(matcher, text.as_slice())
 }
 
 /// Where a match begins, counted from 1, and its length; 0 and -1 of none.
 fn numbers_of(found: Option<(usize, usize)>) -> Result<(Value, Value), AllocError>
     requires { IfSome found (λ m. (m.0 ≤ m.1) × (m.1 < 2 ^ 63)) }
-    ensures { IfOk result (λ r. (r.0 ≡ Value.Num (pos (match_start found))) × (r.1 ≡ Value.Num (match_length found))) }
+    ensures { IfOk result (λ r. (r.0 ≡ Value.Num (pos (match_start found)))
+        × (r.1 ≡ Value.Num (match_length found))) }
 {
     let Some((from, to)) = found else {
         return Ok((Value::Num(0), Value::Num(-1)));
@@ -67,7 +69,8 @@ fn start_of(found: Option<(usize, usize)>) -> usize
 
 /// Keeps where a match begins, and its length.
 fn keep_match(texts: &mut Texts, start: Value, length: Value)
-    ensures { (inner : Inner) → with_texts texts.new inner ≡ with_special AnySpecial.Rlength length (with_special AnySpecial.Rstart start (with_texts texts.old inner)) }
+    ensures { (inner : Inner) → with_texts texts.new inner ≡ with_special AnySpecial.Rlength length
+        (with_special AnySpecial.Rstart start (with_texts texts.old inner)) }
 {
     texts.specials.set(Special::Rstart, start);
     texts.specials.set(Special::Rlength, length);
@@ -75,8 +78,10 @@ fn keep_match(texts: &mut Texts, start: Value, length: Value)
 
 /// Matches, and sets RSTART and RLENGTH.
 fn matched(alloc: Global, texts: &mut Texts, value: &Value, ere: &Value) -> Result<usize, Stop>
-    ensures ok { IfOk result (λ start. (inner : Inner) → match_row value.now ere.now (with_texts texts.old inner) ≡ Ok (with_texts texts.new inner, counted start)) }
-    ensures err { IfErr result (λ stop. (inner : Inner) → IsStopOf (match_row value.now ere.now inner) stop) }
+    ensures ok { IfOk result (λ start. (inner : Inner) → match_row value.now ere.now
+        (with_texts texts.old inner) ≡ Ok (with_texts texts.new inner, counted start)) }
+    ensures err { IfErr result
+        (λ stop. (inner : Inner) → IsStopOf (match_row value.now ere.now inner) stop) }
     ensures refused { OnErr result (texts.new ≡ texts.old) }
 {
     let found = first_of(alloc, &mut texts.expressions, value, ere)?;
@@ -92,7 +97,9 @@ fn match_outcome(
     value: &Value,
     ere: &Value,
 ) -> Result<Result<Reply, Fault>, AllocError>
-    ensures { IfOk result (λ outcome. (s : HostState) → settled (holding texts.old s) number_reply (match_row value.now ere.now (with_texts texts.old s.shared.inner)) ≡ (holding texts.new s, outcome)) }
+    ensures { IfOk result (λ outcome. (s : HostState) → settled (holding texts.old s) number_reply
+        (match_row value.now ere.now (with_texts texts.old s.shared.inner))
+        ≡ (holding texts.new s, outcome)) }
 {
     match matched(alloc, texts, value, ere) {
         Ok(start) => Ok(Ok(Reply::Number(counted(start)))),
@@ -107,7 +114,8 @@ pub(crate) fn match_at(
     texts: &mut Texts,
     words: &[Word],
 ) -> Result<Evaluated, Refusal>
-    ensures { (s : HostState) → Evaluates handles.now (holding texts.old s) result (holding texts.new s) (evaluation TextPrimitive.Match handles.now (holding texts.old s) words.now) }
+    ensures { (s : HostState) → Evaluates handles.now (holding texts.old s) result (holding
+        texts.new s) (evaluation TextPrimitive.Match handles.now (holding texts.old s) words.now) }
 {
     let (first, value, behind) = value_front(handles, words)?;
     let (second, ere, rest) = value_after(handles, first, behind)?;
@@ -127,13 +135,15 @@ fn substituted(
     target: &Value,
     all: bool,
 ) -> Result<usize, Stop>
-    ensures ok { IfOk result (λ count. (inner : Inner) → substitute_row ere.now by.now target.now all (with_texts texts.old inner) ≡ Ok (with_texts texts.new inner, counted count)) }
-    ensures err { IfErr result (λ stop. (inner : Inner) → IsStopOf (substitute_row ere.now by.now target.now all inner) stop) }
+    ensures ok { IfOk result (λ count. (inner : Inner) → substitute_row ere.now by.now target.now
+        all (with_texts texts.old inner) ≡ Ok (with_texts texts.new inner, counted count)) }
+    ensures err { IfErr result (λ stop. (inner : Inner)
+        → IsStopOf (substitute_row ere.now by.now target.now all inner) stop) }
     ensures refused { OnErr result (texts.new ≡ texts.old) }
 {
     let matcher = matcher(alloc, &mut texts.expressions, ere)?;
-    let by = text_value(alloc, by)?;
-    let target = text_value(alloc, target)?;
+    let by = value_text(alloc, by)?;
+    let target = value_text(alloc, target)?;
     match matcher.substitute(alloc, by.as_slice(), target.as_slice(), all) {
         Ok(new) => {
             texts.substituted = Some(Value::Text(new.text));
@@ -152,7 +162,9 @@ fn sub_outcome(
     target: &Value,
     all: bool,
 ) -> Result<Result<Reply, Fault>, AllocError>
-    ensures { IfOk result (λ outcome. (s : HostState) → settled (holding texts.old s) number_reply (substitute_row ere.now by.now target.now all (with_texts texts.old s.shared.inner)) ≡ (holding texts.new s, outcome)) }
+    ensures { IfOk result (λ outcome. (s : HostState) → settled (holding texts.old s) number_reply
+        (substitute_row ere.now by.now target.now all (with_texts texts.old s.shared.inner))
+        ≡ (holding texts.new s, outcome)) }
 {
     match substituted(alloc, texts, ere, by, target, all) {
         Ok(count) => Ok(Ok(Reply::Number(counted(count)))),
@@ -167,7 +179,8 @@ pub(crate) fn sub(
     texts: &mut Texts,
     words: &[Word],
 ) -> Result<Evaluated, Refusal>
-    ensures { (s : HostState) → Evaluates handles.now (holding texts.old s) result (holding texts.new s) (evaluation TextPrimitive.Sub handles.now (holding texts.old s) words.now) }
+    ensures { (s : HostState) → Evaluates handles.now (holding texts.old s) result (holding
+        texts.new s) (evaluation TextPrimitive.Sub handles.now (holding texts.old s) words.now) }
 {
     let (first, ere, behind_ere) = value_front(handles, words)?;
     let (second, by, behind_by) = value_after(handles, first, behind_ere)?;
@@ -185,7 +198,9 @@ pub(crate) fn sub_result(
     texts: &mut Texts,
     words: &[Word],
 ) -> Result<Evaluated, Refusal>
-    ensures { (s : HostState) → Evaluates handles.now (holding texts.old s) result (holding texts.new s) (evaluation TextPrimitive.SubResult handles.now (holding texts.old s) words.now) }
+    ensures { (s : HostState)
+        → Evaluates handles.now (holding texts.old s) result (holding texts.new s)
+        (evaluation TextPrimitive.SubResult handles.now (holding texts.old s) words.now) }
 {
     ends(words)?;
     match texts.substituted.take() {

@@ -16,22 +16,12 @@ use crate::reply::{Evaluated, Reply, counted};
 use crate::spent::Spent;
 use crate::texts::Texts;
 use awk_text::text_of;
-use awk_values::{Bytes, Stop, Value, to_text};
+use awk_values::{Bytes, Value};
 use host_format::{index_of, lower, substr, upper};
 use host_handles::Handles;
-use host_values::{Refusal, ends, number_front, value_after, value_front};
+use host_values::{Refusal, ends, number_front, value_after, value_front, value_text};
 use std::alloc::{AllocError, Global};
 use wasm_store::Word;
-
-/// The text of a value; it is shared, where the value is a text.
-pub(crate) fn text_value(alloc: Global, value: &Value) -> Result<Bytes, AllocError>
-    ensures { IfOk result (λ text. text ≡ text_of_value value.now) }
-{
-    match to_text(alloc, value) {
-        Ok(text) => Ok(text),
-        Err(_) => Err(AllocError),
-    }
-}
 
 /// The length of a value's text.
 fn text_len(value: &Value) -> usize
@@ -44,8 +34,10 @@ fn text_len(value: &Value) -> usize
     }
 }
 
+#[inline(always)]
 fn length(handles: &Handles, words: &[Word]) -> Result<Evaluated, Refusal>
-    ensures { (s : HostState) → Evaluates handles.now s result s (evaluation TextPrimitive.Length handles.now s words.now) }
+    ensures { (s : HostState) → Evaluates handles.now s result s
+        (evaluation TextPrimitive.Length handles.now s words.now) }
 {
     let (handle, value, rest) = value_front(handles, words)?;
     ends(rest)?;
@@ -56,13 +48,14 @@ fn length(handles: &Handles, words: &[Word]) -> Result<Evaluated, Refusal>
 }
 
 fn index(alloc: Global, handles: &Handles, words: &[Word]) -> Result<Evaluated, Refusal>
-    ensures { (s : HostState) → Evaluates handles.now s result s (evaluation TextPrimitive.Index handles.now s words.now) }
+    ensures { (s : HostState) → Evaluates handles.now s result s
+        (evaluation TextPrimitive.Index handles.now s words.now) }
 {
     let (first, value, behind) = value_front(handles, words)?;
     let (second, wanted, rest) = value_after(handles, first, behind)?;
     ends(rest)?;
-    let text = text_value(alloc, value)?;
-    let wanted = text_value(alloc, wanted)?;
+    let text = value_text(alloc, value)?;
+    let wanted = value_text(alloc, wanted)?;
     Ok(Evaluated {
         spent: Spent::Two(first, second),
         outcome: Ok(Reply::Number(counted(index_of(text.as_slice(), wanted.as_slice())))),
@@ -70,11 +63,12 @@ fn index(alloc: Global, handles: &Handles, words: &[Word]) -> Result<Evaluated, 
 }
 
 fn lower_case(alloc: Global, handles: &Handles, words: &[Word]) -> Result<Evaluated, Refusal>
-    ensures { (s : HostState) → Evaluates handles.now s result s (evaluation TextPrimitive.Lower handles.now s words.now) }
+    ensures { (s : HostState) → Evaluates handles.now s result s
+        (evaluation TextPrimitive.Lower handles.now s words.now) }
 {
     let (handle, value, rest) = value_front(handles, words)?;
     ends(rest)?;
-    let text = text_value(alloc, value)?;
+    let text = value_text(alloc, value)?;
     match lower(alloc, text.as_slice()) {
         Ok(text) => Ok(Evaluated {
             spent: Spent::One(handle),
@@ -85,11 +79,12 @@ fn lower_case(alloc: Global, handles: &Handles, words: &[Word]) -> Result<Evalua
 }
 
 fn upper_case(alloc: Global, handles: &Handles, words: &[Word]) -> Result<Evaluated, Refusal>
-    ensures { (s : HostState) → Evaluates handles.now s result s (evaluation TextPrimitive.Upper handles.now s words.now) }
+    ensures { (s : HostState) → Evaluates handles.now s result s
+        (evaluation TextPrimitive.Upper handles.now s words.now) }
 {
     let (handle, value, rest) = value_front(handles, words)?;
     ends(rest)?;
-    let text = text_value(alloc, value)?;
+    let text = value_text(alloc, value)?;
     match upper(alloc, text.as_slice()) {
         Ok(text) => Ok(Evaluated {
             spent: Spent::One(handle),
@@ -103,13 +98,14 @@ fn upper_case(alloc: Global, handles: &Handles, words: &[Word]) -> Result<Evalua
 fn part(alloc: Global, value: &Value, from: i64, count: Option<i64>) -> Result<Value, AllocError>
     ensures { IfOk result (λ new. new ≡ Value.Text (part (text_of_value value.now) from count)) }
 {
-    let text = text_value(alloc, value)?;
+    let text = value_text(alloc, value)?;
     let part = Bytes::from_slice(alloc, substr(text.as_slice(), from, count))?;
     Ok(Value::Text(part))
 }
 
 fn substr_of(alloc: Global, handles: &Handles, words: &[Word]) -> Result<Evaluated, Refusal>
-    ensures { (s : HostState) → Evaluates handles.now s result s (evaluation TextPrimitive.Substr handles.now s words.now) }
+    ensures { (s : HostState) → Evaluates handles.now s result s
+        (evaluation TextPrimitive.Substr handles.now s words.now) }
 {
     let (handle, value, behind) = value_front(handles, words)?;
     let (from, behind_from) = number_front(behind)?;
@@ -122,7 +118,8 @@ fn substr_of(alloc: Global, handles: &Handles, words: &[Word]) -> Result<Evaluat
 }
 
 fn substr_from(alloc: Global, handles: &Handles, words: &[Word]) -> Result<Evaluated, Refusal>
-    ensures { (s : HostState) → Evaluates handles.now s result s (evaluation TextPrimitive.SubstrFrom handles.now s words.now) }
+    ensures { (s : HostState) → Evaluates handles.now s result s
+        (evaluation TextPrimitive.SubstrFrom handles.now s words.now) }
 {
     let (handle, value, behind) = value_front(handles, words)?;
     let (from, rest) = number_front(behind)?;
@@ -142,7 +139,8 @@ pub(crate) fn evaluate(
     texts: &mut Texts,
     words: &[Word],
 ) -> Result<Evaluated, Refusal>
-    ensures { (s : HostState) → Evaluates handles.now (holding texts.old s) result (holding texts.new s) (evaluation primitive handles.now (holding texts.old s) words.now) }
+    ensures { (s : HostState) → Evaluates handles.now (holding texts.old s) result
+        (holding texts.new s) (evaluation primitive handles.now (holding texts.old s) words.now) }
 {
     match primitive {
         TextPrimitive::GetSpecial => get_special(handles, texts, words),

@@ -10,13 +10,12 @@ ghost use Rattle.host_format.specs.Outcomes.{IsStopOf};
 ghost use Rattle.host_texts.specs.Evaluations.{Evaluates, evaluation, replied};
 ghost use Rattle.host_texts.specs.declared.primitive.TextPrimitive.{TextPrimitive};
 
-use crate::evaluate::text_value;
 use crate::reply::{Evaluated, Reply};
 use crate::spent::Spent;
 use awk_values::{Fault, Stop, Value};
 use host_expressions::{Expressions, Matcher};
 use host_handles::Handles;
-use host_values::{Refusal, ends, value_after, value_front};
+use host_values::{Refusal, ends, value_after, value_front, value_text};
 use std::alloc::{AllocError, Global};
 use wasm_store::Word;
 
@@ -29,13 +28,14 @@ pub(crate) fn matcher<'a>(
     ensures ok { IfOk result (λ matcher. matcher.now ≡ text_of_value ere.now) }
     ensures err { IfErr result (IsStopOf (expression_of (text_of_value ere.now))) }
 {
-    let text = text_value(alloc, ere)?;
-    expressions.automaton(alloc, &text)
+    let text = value_text(alloc, ere)?;
+    expressions.automaton(alloc, text.bytes())
 }
 
 /// The first match, as places in the text.
 pub(crate) fn first(matcher: &mut Matcher, text: &[u8]) -> Result<Option<(usize, usize)>, Stop>
-    ensures found { IfOk result (λ found. (t : Tree) × (expression_of matcher.old ≡ Ok t) × (found ≡ first_match t text.now 0)) }
+    ensures found { IfOk result (λ found. (t : Tree) × (expression_of matcher.old ≡ Ok t)
+        × (found ≡ first_match t text.now 0)) }
     ensures inside { IfOk result (λ found. IfSome found (λ m. (m.0 ≤ m.1) × (m.1 < 2 ^ 63))) }
     ensures err { IfErr result (λ stop. stop ≡ stops.NoMemory) }
 {
@@ -56,7 +56,7 @@ fn matched(
     ensures err { IfErr result (IsStopOf (matches_row value.now ere.now)) }
 {
     let matcher = matcher(alloc, expressions, ere)?;
-    let text = text_value(alloc, value)?;
+    let text = value_text(alloc, value)?;
     match matcher.is_match(text.as_slice()) {
         Ok(found) => Ok(found),
         Err(_) => Err(Stop::NoMemory),
@@ -70,7 +70,8 @@ fn truth_outcome(
     value: &Value,
     ere: &Value,
 ) -> Result<Result<Reply, Fault>, AllocError>
-    ensures { IfOk result (λ outcome. replied Reply.Truth (matches_row value.now ere.now) ≡ outcome) }
+    ensures { IfOk result
+        (λ outcome. replied Reply.Truth (matches_row value.now ere.now) ≡ outcome) }
 {
     match matched(alloc, expressions, value, ere) {
         Ok(found) => Ok(Ok(Reply::Truth(found))),
@@ -79,13 +80,15 @@ fn truth_outcome(
     }
 }
 
+#[inline(always)]
 pub(crate) fn matches(
     alloc: Global,
     handles: &Handles,
     expressions: &mut Expressions,
     words: &[Word],
 ) -> Result<Evaluated, Refusal>
-    ensures { (s : HostState) → Evaluates handles.now s result s (evaluation TextPrimitive.Matches handles.now s words.now) }
+    ensures { (s : HostState) → Evaluates handles.now s result s
+        (evaluation TextPrimitive.Matches handles.now s words.now) }
 {
     let (first, value, behind) = value_front(handles, words)?;
     let (second, ere, rest) = value_after(handles, first, behind)?;

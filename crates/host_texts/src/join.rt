@@ -33,7 +33,8 @@ fn fits(left: usize, between: usize, right: usize) -> bool
 
 /// The texts of two values with another between them.
 fn joined(alloc: Global, left: &Value, between: &Value, right: &Value) -> Result<Bytes, AllocError>
-    ensures { IfOk result (λ text. text ≡ text_of_value left.now ++ (text_of_value between.now ++ text_of_value right.now)) }
+    ensures { IfOk result (λ text. text
+        ≡ text_of_value left.now ++ (text_of_value between.now ++ text_of_value right.now)) }
 {
     let mut text = Vec::new(alloc);
     push_text(&mut text, left)?;
@@ -49,7 +50,9 @@ fn join_outcome(
     left: &Value,
     right: &Value,
 ) -> Result<Result<Reply, Fault>, AllocError>
-    ensures { IfOk result (λ outcome. replied Reply.Value (within_limit (text_of_value left.now ++ (text_of_value (specials_of texts.now.specials.values AnySpecial.Subsep) ++ text_of_value right.now))) ≡ outcome) }
+    ensures { IfOk result (λ outcome. replied Reply.Value
+        (within_limit (text_of_value left.now ++ (text_of_value (specials_of
+        texts.now.specials.values AnySpecial.Subsep) ++ text_of_value right.now))) ≡ outcome) }
 {
     let between = texts.specials.get(Special::Subsep);
     if !fits(text_len(left), text_len(between), text_len(right)) {
@@ -64,7 +67,8 @@ pub(crate) fn join(
     texts: &Texts,
     words: &[Word],
 ) -> Result<Evaluated, Refusal>
-    ensures { (s : HostState) → Evaluates handles.now (holding texts.now s) result (holding texts.now s) (evaluation TextPrimitive.Join handles.now (holding texts.now s) words.now) }
+    ensures { (s : HostState) → Evaluates handles.now (holding texts.now s) result (holding
+        texts.now s) (evaluation TextPrimitive.Join handles.now (holding texts.now s) words.now) }
 {
     let (first, left, behind) = value_front(handles, words)?;
     let (second, right, rest) = value_after(handles, first, behind)?;

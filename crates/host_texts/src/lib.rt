@@ -19,7 +19,7 @@ mod words;
 pub use calls::call;
 pub use listed::sprintf;
 pub use primitive::TextPrimitive;
-pub use record::put_special;
+pub use record::{put_record, put_special};
 pub use reply::counted;
 pub use specials::Specials;
 pub use texts::Texts;

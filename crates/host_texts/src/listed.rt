@@ -8,8 +8,8 @@ ghost use Rattle.sem_primitives.specs.declared.table.Listed.{Listed as AnyListed
 ghost use Rattle.host_step.specs.Arguments.{constant_front};
 ghost use Rattle.host_step.specs.HostState.{HostState};
 ghost use Rattle.host_step.specs.HostStep.{last_of};
-ghost use Rattle.host_step.specs.declared.import.Import.{Import};
-ghost use Rattle.host_step.specs.declared.import.Listing.{Listing};
+ghost use Rattle.host_imports.specs.declared.import.Import.{Import};
+ghost use Rattle.host_imports.specs.declared.import.Listing.{Listing};
 ghost use Rattle.host_format.specs.Outcomes.{IsStopOf};
 ghost use Rattle.host_values.specs.Calls.{spare};
 ghost use Rattle.host_values.specs.Evaluations.{Values};
@@ -19,12 +19,11 @@ ghost use Rattle.host_texts.specs.Calls.{IsStep};
 ghost use Rattle.host_texts.specs.LastFormatted.{Formats, formatting};
 
 use crate::calls::give;
-use crate::evaluate::text_value;
 use crate::reply::Reply;
 use awk_values::{Fault, Stop, Value};
 use host_format::format;
 use host_handles::Handles;
-use host_values::{Refusal, ends};
+use host_values::{Refusal, ends, value_text};
 use smallvec::SmallVec;
 use std::alloc::Global;
 use wasm_store::{TrapKind, Word};
@@ -42,7 +41,8 @@ fn count_front(words: &[Word]) -> Result<(usize, &[Word]), TrapKind>
 /// Whether so many values are there, and a format among them.
 #[tactic(auto, using(crate::proofs::LastOnes::enough, crate::proofs::LastOnes::no_format, crate::proofs::LastOnes::too_many))]
 fn suffices(arguments: &[Value], count: usize) -> bool
-    ensures { result ≡ (nat_le count (length arguments.now) && listed_in_turn AnyListed.Sprintf (last_of count arguments.now)) }
+    ensures { result ≡ (nat_le count (length arguments.now) && listed_in_turn AnyListed.Sprintf
+        (last_of count arguments.now)) }
 {
     if arguments.len() < count {
         return false;
@@ -59,7 +59,7 @@ fn formatted(alloc: Global, values: &[Value]) -> Result<Value, Stop>
     let Some((first, operands)) = values.split_first() else {
         unreachable!()
     };
-    let text = text_value(alloc, first)?;
+    let text = value_text(alloc, first)?;
     Ok(Value::Text(format(alloc, text.as_slice(), operands)?))
 }
 
@@ -69,7 +69,8 @@ fn formatting(
     arguments: &[Value],
     words: &[Word],
 ) -> Result<(usize, Result<Reply, Fault>), Refusal>
-    ensures step { (m : Values) (s : HostState) → Formats m (with_arguments arguments.now s) result (formatting m (with_arguments arguments.now s) words.now) }
+    ensures step { (m : Values) (s : HostState) → Formats m (with_arguments arguments.now s) result
+        (formatting m (with_arguments arguments.now s) words.now) }
     ensures within { IfOk result (λ x. x.0 ≤ length arguments.now) }
 {
     let (count, rest) = count_front(words)?;
@@ -97,7 +98,9 @@ pub fn sprintf(
     words: &[Word],
 ) -> Result<Option<Word>, Refusal>
     requires { map.get handles.old spare ≡ None }
-    ensures step { (s : HostState) (memory : List ℕ) → s.fault ≡ None → IsStep (Import.Over Listing.Sprintf) words.now memory handles.old (with_arguments arguments.old.items s) result handles.new (with_arguments arguments.new.items s) }
+    ensures step { (s : HostState) (memory : List ℕ) → s.fault ≡ None
+        → IsStep (Import.Over Listing.Sprintf) words.now memory handles.old (with_arguments
+        arguments.old.items s) result handles.new (with_arguments arguments.new.items s) }
     ensures spare { map.get handles.new spare ≡ None }
 {
     let (count, outcome) = match formatting(alloc, arguments.as_slice(), words) {

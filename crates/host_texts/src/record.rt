@@ -10,14 +10,13 @@ ghost use Rattle.host_texts.specs.Evaluations.{Evaluates, done_reply, evaluation
 ghost use Rattle.host_texts.specs.States.{holding, with_texts};
 ghost use Rattle.host_texts.specs.declared.primitive.TextPrimitive.{TextPrimitive};
 
-use crate::evaluate::text_value;
 use crate::reply::{Evaluated, Reply};
 use crate::spent::Spent;
 use crate::texts::Texts;
 use crate::words::special_front;
-use awk_values::{Fault, Stop, Value, to_number};
+use awk_values::{Bytes, Fault, Stop, Value, to_number};
 use host_handles::Handles;
-use host_values::{Refusal, ends, number_front, value_front};
+use host_values::{Refusal, ends, number_front, shared_text, value_front, value_text};
 use sem_primitives::Special;
 use std::alloc::{AllocError, Global};
 use wasm_store::Word;
@@ -25,7 +24,8 @@ use wasm_store::Word;
 /// The value of a special variable.
 #[inline(always)]
 fn special_value(texts: &mut Texts, special: Special) -> Result<Value, AllocError>
-    ensures value { IfOk result (λ value. (inner : Inner) → value ≡ special_of (with_texts texts.old inner) special) }
+    ensures value { IfOk result
+        (λ value. (inner : Inner) → value ≡ special_of (with_texts texts.old inner) special) }
     ensures same { texts.new ≡ texts.old }
 {
     if special != Special::Nf {
@@ -43,7 +43,9 @@ pub(crate) fn get_special(
     texts: &mut Texts,
     words: &[Word],
 ) -> Result<Evaluated, Refusal>
-    ensures { (s : HostState) → Evaluates handles.now (holding texts.old s) result (holding texts.new s) (evaluation TextPrimitive.GetSpecial handles.now (holding texts.old s) words.now) }
+    ensures { (s : HostState)
+        → Evaluates handles.now (holding texts.old s) result (holding texts.new s)
+        (evaluation TextPrimitive.GetSpecial handles.now (holding texts.old s) words.now) }
 {
     let (special, rest) = special_front(words)?;
     ends(rest)?;
@@ -55,15 +57,16 @@ pub(crate) fn get_special(
 
 /// Sets NF.
 fn set_count(alloc: Global, texts: &mut Texts, count: i64) -> Result<(), Stop>
-    ensures ok { OnOk result ((inner : Inner) → count_set count (with_texts texts.old inner) ≡ Ok (with_texts texts.new inner)) }
-    ensures err { IfErr result (λ stop. (inner : Inner) → IsStopOf (count_set count (with_texts texts.old inner)) stop) }
+    ensures ok { OnOk result ((inner : Inner) → count_set count (with_texts texts.old inner)
+        ≡ Ok (with_texts texts.new inner)) }
+    ensures err { IfErr result
+        (λ stop. (inner : Inner) → IsStopOf (count_set count (with_texts texts.old inner)) stop) }
     ensures refused { OnErr result (texts.new ≡ texts.old) }
 {
-    let ofs = text_value(alloc, texts.specials.get(Special::Ofs))?;
-    match texts.held.set_count(count, ofs.as_slice()) {
-        Ok(()) => Ok(()),
-        Err(stop) => Err(stop),
-    }
+    let ofs = value_text(alloc, texts.specials.get(Special::Ofs))?;
+    let set = texts.held.set_count(count, ofs.as_slice());
+    drop(ofs);
+    set
 }
 
 /// Gives a special variable a value; NF cuts or extends the fields.
@@ -77,8 +80,10 @@ pub fn put_special(
     special: Special,
     value: &Value,
 ) -> Result<(), Stop>
-    ensures ok { OnOk result ((inner : Inner) → set_special special value.now (with_texts texts.old inner) ≡ Ok (with_texts texts.new inner)) }
-    ensures err { IfErr result (λ stop. (inner : Inner) → IsStopOf (set_special special value.now (with_texts texts.old inner)) stop) }
+    ensures ok { OnOk result ((inner : Inner) → set_special special value.now
+        (with_texts texts.old inner) ≡ Ok (with_texts texts.new inner)) }
+    ensures err { IfErr result (λ stop. (inner : Inner)
+        → IsStopOf (set_special special value.now (with_texts texts.old inner)) stop) }
     ensures refused { OnErr result (texts.new ≡ texts.old) }
 {
     if special == Special::Nf {
@@ -96,7 +101,9 @@ fn special_outcome(
     special: Special,
     value: &Value,
 ) -> Result<Result<Reply, Fault>, AllocError>
-    ensures { IfOk result (λ outcome. (s : HostState) → settled (holding texts.old s) done_reply (set_special_row special value.now (with_texts texts.old s.shared.inner)) ≡ (holding texts.new s, outcome)) }
+    ensures { IfOk result (λ outcome. (s : HostState) → settled (holding texts.old s) done_reply
+        (set_special_row special value.now (with_texts texts.old s.shared.inner))
+        ≡ (holding texts.new s, outcome)) }
 {
     match put_special(alloc, texts, special, value) {
         Ok(()) => Ok(Ok(Reply::Done)),
@@ -111,7 +118,9 @@ pub(crate) fn set_special(
     texts: &mut Texts,
     words: &[Word],
 ) -> Result<Evaluated, Refusal>
-    ensures { (s : HostState) → Evaluates handles.now (holding texts.old s) result (holding texts.new s) (evaluation TextPrimitive.SetSpecial handles.now (holding texts.old s) words.now) }
+    ensures { (s : HostState)
+        → Evaluates handles.now (holding texts.old s) result (holding texts.new s)
+        (evaluation TextPrimitive.SetSpecial handles.now (holding texts.old s) words.now) }
 {
     let (special, behind) = special_front(words)?;
     let (handle, value, rest) = value_front(handles, behind)?;
@@ -132,7 +141,8 @@ fn copied(value: &Value) -> Result<Value, AllocError>
 /// What reading a field comes to.
 #[inline(always)]
 fn read_outcome(texts: &mut Texts, number: i64) -> Result<Result<Reply, Fault>, AllocError>
-    ensures outcome { IfOk result (λ outcome. (inner : Inner) → replied Reply.Value (field_read number (with_texts texts.old inner)) ≡ outcome) }
+    ensures outcome { IfOk result (λ outcome. (inner : Inner)
+        → replied Reply.Value (field_read number (with_texts texts.old inner)) ≡ outcome) }
     ensures same { texts.new ≡ texts.old }
 {
     match texts.held.field(number) {
@@ -148,7 +158,8 @@ pub(crate) fn field(
     texts: &mut Texts,
     words: &[Word],
 ) -> Result<Evaluated, Refusal>
-    ensures { (s : HostState) → Evaluates handles.now (holding texts.old s) result (holding texts.new s) (evaluation TextPrimitive.Field handles.now (holding texts.old s) words.now) }
+    ensures { (s : HostState) → Evaluates handles.now (holding texts.old s) result (holding
+        texts.new s) (evaluation TextPrimitive.Field handles.now (holding texts.old s) words.now) }
 {
     let (number, rest) = number_front(words)?;
     ends(rest)?;
@@ -159,38 +170,59 @@ pub(crate) fn field(
 }
 
 /// Sets `$0`.
+///
+/// # Errors
+///
+/// The faults of FS and of the number of fields, or want of memory; nothing changes.
+pub fn put_record(alloc: Global, texts: &mut Texts, text: Bytes) -> Result<(), Stop>
+    ensures ok { OnOk result ((inner : Inner) → with_record text (with_texts texts.old inner)
+        ≡ Ok (with_texts texts.new inner)) }
+    ensures err { IfErr result
+        (λ stop. (inner : Inner) → IsStopOf (with_record text (with_texts texts.old inner)) stop) }
+    ensures refused { OnErr result (texts.new ≡ texts.old) }
+    ensures substituted { texts.new.substituted ≡ texts.old.substituted }
+{
+    let fs = value_text(alloc, texts.specials.get(Special::Fs))?;
+    let rs = value_text(alloc, texts.specials.get(Special::Rs))?;
+    let set = texts.held.set_whole(text, fs.as_slice(), rs.as_slice());
+    drop(fs);
+    drop(rs);
+    set
+}
+
+/// Sets `$0` to the text of a value.
 fn put_whole(alloc: Global, texts: &mut Texts, value: &Value) -> Result<(), Stop>
-    ensures ok { OnOk result ((inner : Inner) → with_record (text_of_value value.now) (with_texts texts.old inner) ≡ Ok (with_texts texts.new inner)) }
-    ensures err { IfErr result (λ stop. (inner : Inner) → IsStopOf (with_record (text_of_value value.now) (with_texts texts.old inner)) stop) }
+    ensures ok { OnOk result ((inner : Inner) → with_record (text_of_value value.now)
+        (with_texts texts.old inner) ≡ Ok (with_texts texts.new inner)) }
+    ensures err { IfErr result (λ stop. (inner : Inner)
+        → IsStopOf (with_record (text_of_value value.now) (with_texts texts.old inner)) stop) }
     ensures refused { OnErr result (texts.new ≡ texts.old) }
 {
-    let fs = text_value(alloc, texts.specials.get(Special::Fs))?;
-    let rs = text_value(alloc, texts.specials.get(Special::Rs))?;
-    let text = text_value(alloc, value)?;
-    match texts.held.set_whole(text, fs.as_slice(), rs.as_slice()) {
-        Ok(()) => Ok(()),
-        Err(stop) => Err(stop),
-    }
+    let text = shared_text(alloc, value)?;
+    put_record(alloc, texts, text)
 }
 
 /// Sets a field from `$1` on.
 fn put_field(alloc: Global, texts: &mut Texts, number: i64, value: &Value) -> Result<(), Stop>
     requires { number ≢ pos 0 }
-    ensures ok { OnOk result ((inner : Inner) → field_set number value.now (with_texts texts.old inner) ≡ Ok (with_texts texts.new inner)) }
-    ensures err { IfErr result (λ stop. (inner : Inner) → IsStopOf (field_set number value.now (with_texts texts.old inner)) stop) }
+    ensures ok { OnOk result ((inner : Inner) → field_set number value.now
+        (with_texts texts.old inner) ≡ Ok (with_texts texts.new inner)) }
+    ensures err { IfErr result (λ stop. (inner : Inner)
+        → IsStopOf (field_set number value.now (with_texts texts.old inner)) stop) }
     ensures refused { OnErr result (texts.new ≡ texts.old) }
 {
-    let ofs = text_value(alloc, texts.specials.get(Special::Ofs))?;
-    match texts.held.set_field(number, copied(value)?, ofs.as_slice()) {
-        Ok(()) => Ok(()),
-        Err(stop) => Err(stop),
-    }
+    let ofs = value_text(alloc, texts.specials.get(Special::Ofs))?;
+    let set = texts.held.set_field(number, copied(value)?, ofs.as_slice());
+    drop(ofs);
+    set
 }
 
 /// Sets a field; that of 0 is `$0`.
 fn store_field(alloc: Global, texts: &mut Texts, number: i64, value: &Value) -> Result<(), Stop>
-    ensures ok { OnOk result ((inner : Inner) → field_set number value.now (with_texts texts.old inner) ≡ Ok (with_texts texts.new inner)) }
-    ensures err { IfErr result (λ stop. (inner : Inner) → IsStopOf (field_set number value.now (with_texts texts.old inner)) stop) }
+    ensures ok { OnOk result ((inner : Inner) → field_set number value.now
+        (with_texts texts.old inner) ≡ Ok (with_texts texts.new inner)) }
+    ensures err { IfErr result (λ stop. (inner : Inner)
+        → IsStopOf (field_set number value.now (with_texts texts.old inner)) stop) }
     ensures refused { OnErr result (texts.new ≡ texts.old) }
 {
     if number == 0 {
@@ -206,7 +238,9 @@ fn field_outcome(
     number: i64,
     value: &Value,
 ) -> Result<Result<Reply, Fault>, AllocError>
-    ensures { IfOk result (λ outcome. (s : HostState) → settled (holding texts.old s) done_reply (done (field_set number value.now (with_texts texts.old s.shared.inner))) ≡ (holding texts.new s, outcome)) }
+    ensures { IfOk result (λ outcome. (s : HostState) → settled (holding texts.old s) done_reply
+        (done (field_set number value.now (with_texts texts.old s.shared.inner)))
+        ≡ (holding texts.new s, outcome)) }
 {
     match store_field(alloc, texts, number, value) {
         Ok(()) => Ok(Ok(Reply::Done)),
@@ -215,13 +249,16 @@ fn field_outcome(
     }
 }
 
+#[inline(always)]
 pub(crate) fn set_field(
     alloc: Global,
     handles: &Handles,
     texts: &mut Texts,
     words: &[Word],
 ) -> Result<Evaluated, Refusal>
-    ensures { (s : HostState) → Evaluates handles.now (holding texts.old s) result (holding texts.new s) (evaluation TextPrimitive.SetField handles.now (holding texts.old s) words.now) }
+    ensures { (s : HostState)
+        → Evaluates handles.now (holding texts.old s) result (holding texts.new s)
+        (evaluation TextPrimitive.SetField handles.now (holding texts.old s) words.now) }
 {
     let (number, behind) = number_front(words)?;
     let (handle, value, rest) = value_front(handles, behind)?;

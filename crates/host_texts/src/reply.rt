@@ -3,6 +3,7 @@ ghost use Rattle.std.specs.Prelude.{◌≡◌};
 ghost use Rattle.sem_primitives.specs.Texts.{counted};
 
 use crate::spent::Spent;
+use awk_text::MAX_NUMBER;
 use awk_values::{Fault, Value};
 
 /// An answer.
@@ -21,8 +22,7 @@ pub(crate) struct Evaluated {
     pub(crate) outcome: Result<Reply, Fault>,
 }
 
-/// The greatest number.
-const LARGEST: i64 = 1 << 53;
+const LARGEST: i64 = MAX_NUMBER as i64;
 
 /// A count as a number.
 #[tactic(auto, using(crate::proofs::Counts::counted_within, crate::proofs::Counts::counted_past))]

@@ -40,7 +40,8 @@ impl Specials {
     /// There is no memory.
     #[tactic(auto, using(crate::proofs::Starts::started))]
     pub fn at_start(alloc: Global, operands: u32) -> Result<Specials, AllocError>
-        ensures { IfOk result (λ specials. (t : AnySpecial) → specials_of specials.values t ≡ specials_at_start operands t) }
+        ensures { IfOk result (λ specials. (t : AnySpecial) → specials_of specials.values t
+            ≡ specials_at_start operands t) }
     {
         let mut specials = Specials {
             values: [
@@ -66,7 +67,8 @@ impl Specials {
 
     /// Gives those that are texts theirs.
     fn set_texts(&mut self, alloc: Global) -> Result<(), AllocError>
-        ensures { OnOk result (self.new.values ≡ with_ends (with_blanks (with_formats self.old.values))) }
+        ensures { OnOk result
+            (self.new.values ≡ with_ends (with_blanks (with_formats self.old.values))) }
     {
         self.set_formats(alloc)?;
         self.set_blanks(alloc)?;

@@ -29,7 +29,8 @@ impl Texts {
     ///
     /// There is no memory.
     pub fn at_start(alloc: Global, operands: u32) -> Result<Texts, AllocError>
-        ensures specials { IfOk result (λ texts. (t : AnySpecial) → specials_of texts.specials.values t ≡ specials_at_start operands t) }
+        ensures specials { IfOk result (λ texts. (t : AnySpecial)
+            → specials_of texts.specials.values t ≡ specials_at_start operands t) }
         ensures fields { IfOk result (λ texts. texts.held ≡ no_record) }
         ensures substituted { IfOk result (λ texts. texts.substituted ≡ None) }
     {

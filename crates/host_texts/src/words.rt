@@ -21,7 +21,8 @@ pub(crate) fn value_third<'a, 'b>(
     second: i32,
     words: &'b [Word],
 ) -> Result<(i32, &'a Value, &'b [Word]), TrapKind>
-    ensures { lent_handle result ≡ handle_front (map.remove (map.remove handles.now first) second) words.now }
+    ensures { lent_handle result
+        ≡ handle_front (map.remove (map.remove handles.now first) second) words.now }
 {
     let Some((Word::I32(handle), rest)) = words.split_first() else {
         return Err(UNFIT);

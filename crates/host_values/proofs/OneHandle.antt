@@ -19,10 +19,10 @@ use Rattle.wasm_store.specs.declared.word.Word.TheVariants.{I32, I64}
 use Rattle.host_step.specs.Arguments.{and_then, decode, said, spent_if}
 use Rattle.host_step.specs.HostState.{HostState, Names}
 use Rattle.host_step.specs.HostStep.{Acts, Refuses, StepBy, StepOf, acts, carried, come, only_answers}
-use Rattle.host_step.specs.Imports.{spends}
+use Rattle.host_imports.specs.Imports.{spends}
 use Rattle.host_step.specs.Tables.{Table, look}
-use Rattle.host_step.specs.declared.import.Import.{Import}
-use Rattle.host_step.specs.declared.import.Import.TheVariants.{Arg, Drop}
+use Rattle.host_imports.specs.declared.import.Import.{Import}
+use Rattle.host_imports.specs.declared.import.Import.TheVariants.{Arg, Drop}
 use Rattle.host_values.specs.Calls.{names_with, spare, with_values}
 use Rattle.host_values.specs.Evaluations.{Values}
 use Rattle.host_values.specs.Fronts.{found}

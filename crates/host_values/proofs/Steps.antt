@@ -29,8 +29,8 @@ use Rattle.host_step.specs.Answers.{FreeFor, encode, refusal, with_value}
 use Rattle.host_step.specs.Arguments.{constant_front, decode, no_more, number_front, place_front}
 use Rattle.host_step.specs.HostState.{HostState, Names}
 use Rattle.host_step.specs.HostStep.{Acts, Refuses, Settles, StepBy, StepOf, carried, come, refuses}
-use Rattle.host_step.specs.Imports.{spends}
-use Rattle.host_step.specs.declared.import.Import.TheVariants.{Of}
+use Rattle.host_imports.specs.Imports.{spends}
+use Rattle.host_imports.specs.declared.import.Import.TheVariants.{Of}
 use Rattle.host_values.specs.Calls.{Gives, IsCall, names_with, spare, with_values}
 use Rattle.host_values.specs.Evaluations.{Evaluates, Evaluation, NoTrap, Values, evaluation}
 use Rattle.host_values.specs.Primitives.{primitive_of}

@@ -11,8 +11,8 @@ use Rattle.wasm_store.specs.declared.word.Word.TheVariants.{I32, I64}
 use Rattle.host_step.specs.Answers.{refusal}
 use Rattle.host_step.specs.HostState.{HostState, Names}
 use Rattle.host_step.specs.HostStep.{StepOf}
-use Rattle.host_step.specs.Imports.{import_answer}
-use Rattle.host_step.specs.declared.import.Import.{Import}
+use Rattle.host_imports.specs.Imports.{import_answer}
+use Rattle.host_imports.specs.declared.import.Import.{Import}
 use Rattle.host_values.specs.Evaluations.{Values}
 use Rattle.host_values.specs.declared.reply.Reply.{Reply}
 use Rattle.host_values.specs.declared.reply.Reply.TheVariants as reply
@@ -41,10 +41,11 @@ Gives r before (Err (refusal.Trap k)) after = ⊥
 Gives r before (Err (refusal.Fault f)) after = ⊥
 
 -- In every state that has these values, the call is a step, which changes the values and, at a fault, the fault that is kept. Where memory was
--- wanting, there is
--- a step that the call could have been.
+-- wanting, there is a step that the call could have been.
 abbrev pub IsCall : Import → HostState → List Word → List ℕ → Values → Result (Option Word) Refusal → Values → Type 0
 IsCall i s words memory before (Ok w) after = StepOf i (with_values before s) words memory (told.Done w) (with_values after s) []
-IsCall i s words memory before (Err (refusal.Fault f)) after = StepOf i (with_values before s) words memory (told.Done (refusal (import_answer i))) (record (with_values after s) { fault = Some f }) []
+IsCall i s words memory before (Err (refusal.Fault f)) after = StepOf i (with_values before s) words memory (told.Done (refusal (import_answer i)))
+    (record (with_values after s) { fault = Some f }) []
 IsCall i s words memory before (Err (refusal.Trap k)) after = StepOf i (with_values before s) words memory (told.Trap k) (with_values after s) []
-IsCall i s words memory before (Err refusal.NoMemory) after = (a : HostAnswer) × (a ≢ told.NoMemory) × (left : HostState) × StepOf i (with_values before s) words memory a left []
+IsCall i s words memory before (Err refusal.NoMemory) after = (a : HostAnswer) × (a ≢ told.NoMemory) × (left : HostState)
+    × StepOf i (with_values before s) words memory a left []

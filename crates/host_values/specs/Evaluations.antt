@@ -83,9 +83,11 @@ evaluation ToNum values memory words = value_then values words (λ v left rest. 
 evaluation IntOf values memory words = value_then values words (λ v left rest. ends_then (no_more rest) left (number_reply (truncated v)))
 evaluation Truth values memory words = value_then values words (λ v left rest. ends_then (no_more rest) left (Ok (reply.Truth (truth_of_value v))))
 evaluation Compare values memory words =
-    constant_then constant.Comparison words (λ op behind_op. value_then values behind_op (λ a without_a behind_a. value_then without_a behind_a (λ b left rest. ends_then (no_more rest) left (truth_reply (comparison a b op)))))
+    constant_then constant.Comparison words (λ op behind_op. value_then values behind_op
+    (λ a without_a behind_a. value_then without_a behind_a (λ b left rest. ends_then (no_more rest) left (truth_reply (comparison a b op)))))
 evaluation Concat values memory words =
-    value_then values words (λ a without_a behind_a. value_then without_a behind_a (λ b left rest. ends_then (no_more rest) left (value_reply (within_limit (text_of_value a ++ text_of_value b)))))
+    value_then values words (λ a without_a behind_a. value_then without_a behind_a
+    (λ b left rest. ends_then (no_more rest) left (value_reply (within_limit (text_of_value a ++ text_of_value b)))))
 evaluation Pow values memory words =
     number_then words (λ base behind_base. number_then behind_base (λ exponent rest. ends_then (no_more rest) values (number_reply (power base exponent))))
 evaluation Fail values memory words = constant_then constant.Fault words (λ fault rest. ends_then (no_more rest) values (Err fault))

@@ -3,3 +3,4 @@ pub mod Fronts
 pub mod Evaluations
 pub mod Calls
 pub mod Singles
+pub mod Texts

@@ -10,7 +10,7 @@ use Rattle.wasm_store.specs.declared.word.Word.{Word}
 use Rattle.host_step.specs.Arguments.{no_more}
 use Rattle.host_step.specs.HostState.{HostState}
 use Rattle.host_step.specs.HostStep.{StepOf}
-use Rattle.host_step.specs.declared.import.Import.TheVariants.{Arg, Drop}
+use Rattle.host_imports.specs.declared.import.Import.TheVariants.{Arg, Drop}
 use Rattle.host_values.specs.Calls.{with_values}
 use Rattle.host_values.specs.Evaluations.{Values}
 use Rattle.host_values.specs.Fronts.{handle_front}
@@ -63,7 +63,10 @@ with_arguments arguments s = record s { arguments = arguments }
 
 -- In every state that has these values and these arguments the call is a step; where memory was wanting, there is one that it could have been.
 abbrev pub IsAppended : HostState → List Word → List ℕ → Values → List Value → Result (Unit {0}) Refusal → Values → List Value → Type 0
-IsAppended s words memory before arguments (Ok u) after now = StepOf Arg (with_arguments arguments (with_values before s)) words memory (told.Done None) (with_arguments now (with_values after s)) []
-IsAppended s words memory before arguments (Err (refusal.Trap k)) after now = StepOf Arg (with_arguments arguments (with_values before s)) words memory (told.Trap k) (with_arguments now (with_values after s)) []
+IsAppended s words memory before arguments (Ok u) after now = StepOf Arg (with_arguments arguments (with_values before s)) words memory
+    (told.Done None) (with_arguments now (with_values after s)) []
+IsAppended s words memory before arguments (Err (refusal.Trap k)) after now = StepOf Arg
+    (with_arguments arguments (with_values before s)) words memory (told.Trap k) (with_arguments now (with_values after s)) []
 IsAppended s words memory before arguments (Err (refusal.Fault f)) after now = ⊥
-IsAppended s words memory before arguments (Err refusal.NoMemory) after now = (a : HostAnswer) × (a ≢ told.NoMemory) × (left : HostState) × StepOf Arg (with_arguments arguments (with_values before s)) words memory a left []
+IsAppended s words memory before arguments (Err refusal.NoMemory) after now = (a : HostAnswer) × (a ≢ told.NoMemory) × (left : HostState)
+    × StepOf Arg (with_arguments arguments (with_values before s)) words memory a left []

@@ -2,7 +2,7 @@
 ghost use Rattle.std.specs.Prelude.{◌≡◌, None};
 ghost use Rattle.std.specs.FinMap as map;
 ghost use Rattle.host_step.specs.HostState.{HostState};
-ghost use Rattle.host_step.specs.declared.import.Import.{Import};
+ghost use Rattle.host_imports.specs.declared.import.Import.{Import};
 ghost use Rattle.host_values.specs.Calls.{Gives, IsCall, spare};
 ghost use Rattle.host_values.specs.Primitives.{primitive_of};
 
@@ -51,7 +51,8 @@ pub fn call(
     memory: &[u8],
 ) -> Result<Option<Word>, Refusal>
     requires { map.get handles.old spare ≡ None }
-    ensures step { (s : HostState) → s.fault ≡ None → IsCall (Import.Of (primitive_of primitive)) s words.now memory.now handles.old result handles.new }
+    ensures step { (s : HostState) → s.fault ≡ None → IsCall (Import.Of (primitive_of primitive)) s
+        words.now memory.now handles.old result handles.new }
     ensures spare { map.get handles.new spare ≡ None }
 {
     let evaluated = match evaluate(alloc, literals, primitive, handles, words, memory) {

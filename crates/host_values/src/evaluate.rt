@@ -2,6 +2,8 @@
 ghost use Rattle.std.specs.Prelude.{◌≡◌, ◌+◌, ◌++◌, ◌^◌, ◌≤◌, [], IfOk, OnOk, length, nat_le, true};
 ghost use Rattle.sem_primitives.specs.ValueMeaning.{truncated, within_limit};
 ghost use Rattle.host_values.specs.declared.primitive.ValuePrimitive.{ValuePrimitive};
+ghost use Rattle.std.specs.Ordering.{int_cmp};
+ghost use Rattle.awk_values.specs.Comparison.{comparison, holds};
 ghost use Rattle.awk_values.specs.Values.{as_fault, text_of_value};
 ghost use Rattle.awk_text.specs.Number.{truncated_of_text};
 ghost use Rattle.host_values.specs.declared.spent.Spent.{Spent};
@@ -15,7 +17,7 @@ use crate::words::{
     comparison_front, ends, fault_front, number_front, place_front, value_after, value_front,
 };
 use awk_text::{NumberFault, text_of, truncated_of};
-use awk_values::{Bytes, Fault, Value, compare, pow, to_number, truth};
+use awk_values::{Bytes, CompareOp, Fault, Value, compare, pow, to_number, truth};
 use host_handles::Handles;
 use std::alloc::{AllocError, Global};
 use wasm_store::Word;
@@ -36,7 +38,8 @@ fn unspent(outcome: Result<Reply, Fault>) -> Evaluated
 
 #[inline(always)]
 fn num(words: &[Word]) -> Result<Evaluated, Refusal>
-    ensures { (values : Values) → Evaluates values result (evaluation ValuePrimitive.Num values [] words.now) }
+    ensures { (values : Values)
+        → Evaluates values result (evaluation ValuePrimitive.Num values [] words.now) }
 {
     let (number, rest) = number_front(words)?;
     ends(rest)?;
@@ -51,13 +54,15 @@ fn first_place(words: &[Word]) -> usize {
     }
 }
 
+#[inline(always)]
 fn lit(
     alloc: Global,
     literals: &mut Literals,
     words: &[Word],
     memory: &[u8],
 ) -> Result<Evaluated, Refusal>
-    ensures { (values : Values) → Evaluates values result (evaluation ValuePrimitive.Lit values memory.now words.now) }
+    ensures { (values : Values)
+        → Evaluates values result (evaluation ValuePrimitive.Lit values memory.now words.now) }
 {
     let (text, rest) = place_front(memory, words)?;
     ends(rest)?;
@@ -67,7 +72,8 @@ fn lit(
 
 #[inline(always)]
 fn uninit(words: &[Word]) -> Result<Evaluated, Refusal>
-    ensures { (values : Values) → Evaluates values result (evaluation ValuePrimitive.Uninit values [] words.now) }
+    ensures { (values : Values)
+        → Evaluates values result (evaluation ValuePrimitive.Uninit values [] words.now) }
 {
     ends(words)?;
     Ok(unspent(Ok(Reply::Value(Value::Uninit))))
@@ -75,7 +81,8 @@ fn uninit(words: &[Word]) -> Result<Evaluated, Refusal>
 
 #[inline(always)]
 fn dup(handles: &Handles, words: &[Word]) -> Result<Evaluated, Refusal>
-    ensures { Evaluates handles.now result (evaluation ValuePrimitive.Dup handles.now [] words.now) }
+    ensures { Evaluates handles.now result
+        (evaluation ValuePrimitive.Dup handles.now [] words.now) }
 {
     let (_, value, rest) = value_front(handles, words)?;
     ends(rest)?;
@@ -84,7 +91,8 @@ fn dup(handles: &Handles, words: &[Word]) -> Result<Evaluated, Refusal>
 
 #[inline(always)]
 fn to_num(handles: &Handles, words: &[Word]) -> Result<Evaluated, Refusal>
-    ensures { Evaluates handles.now result (evaluation ValuePrimitive.ToNum handles.now [] words.now) }
+    ensures { Evaluates handles.now result
+        (evaluation ValuePrimitive.ToNum handles.now [] words.now) }
 {
     let (handle, value, rest) = value_front(handles, words)?;
     ends(rest)?;
@@ -119,7 +127,8 @@ fn truncated(value: &Value) -> Result<i64, Fault>
 
 #[inline(always)]
 fn int_of(handles: &Handles, words: &[Word]) -> Result<Evaluated, Refusal>
-    ensures { Evaluates handles.now result (evaluation ValuePrimitive.IntOf handles.now [] words.now) }
+    ensures { Evaluates handles.now result
+        (evaluation ValuePrimitive.IntOf handles.now [] words.now) }
 {
     let (handle, value, rest) = value_front(handles, words)?;
     ends(rest)?;
@@ -131,7 +140,8 @@ fn int_of(handles: &Handles, words: &[Word]) -> Result<Evaluated, Refusal>
 
 #[inline(always)]
 fn truth_of(handles: &Handles, words: &[Word]) -> Result<Evaluated, Refusal>
-    ensures { Evaluates handles.now result (evaluation ValuePrimitive.Truth handles.now [] words.now) }
+    ensures { Evaluates handles.now result
+        (evaluation ValuePrimitive.Truth handles.now [] words.now) }
 {
     let (handle, value, rest) = value_front(handles, words)?;
     ends(rest)?;
@@ -141,9 +151,36 @@ fn truth_of(handles: &Handles, words: &[Word]) -> Result<Evaluated, Refusal>
     })
 }
 
+/// Whether a comparison of numbers holds.
+#[inline(always)]
+fn numbers_compared(left: i64, right: i64, op: CompareOp) -> bool
+    ensures { result ≡ holds op (int_cmp left right) }
+{
+    match op {
+        CompareOp::Less => left < right,
+        CompareOp::LessOrEqual => left <= right,
+        CompareOp::Equal => left == right,
+        CompareOp::NotEqual => left != right,
+        CompareOp::Greater => left > right,
+        CompareOp::GreaterOrEqual => left >= right,
+    }
+}
+
+/// Whether a comparison holds. Mostly both sides are numbers.
+#[inline(always)]
+fn compared(left: &Value, right: &Value, op: CompareOp) -> Result<bool, Fault>
+    ensures { result ≡ comparison left.now right.now op }
+{
+    match (left, right) {
+        (Value::Num(left), Value::Num(right)) => Ok(numbers_compared(*left, *right, op)),
+        _ => compare(left, right, op),
+    }
+}
+
 #[inline(always)]
 fn comparison(handles: &Handles, words: &[Word]) -> Result<Evaluated, Refusal>
-    ensures { Evaluates handles.now result (evaluation ValuePrimitive.Compare handles.now [] words.now) }
+    ensures { Evaluates handles.now result
+        (evaluation ValuePrimitive.Compare handles.now [] words.now) }
 {
     let (op, behind_op) = comparison_front(words)?;
     let (first, left, behind_left) = value_front(handles, behind_op)?;
@@ -151,7 +188,7 @@ fn comparison(handles: &Handles, words: &[Word]) -> Result<Evaluated, Refusal>
     ends(rest)?;
     Ok(Evaluated {
         spent: Spent::Two(first, second),
-        outcome: truth_reply(compare(left, right, op)),
+        outcome: truth_reply(compared(left, right, op)),
     })
 }
 
@@ -205,7 +242,8 @@ fn concatenation(
     left: &Value,
     right: &Value,
 ) -> Result<Result<Reply, Fault>, AllocError>
-    ensures { IfOk result (λ outcome. outcome ≡ value_reply (within_limit (text_of_value left.now ++ text_of_value right.now))) }
+    ensures { IfOk result (λ outcome. outcome
+        ≡ value_reply (within_limit (text_of_value left.now ++ text_of_value right.now))) }
 {
     let first = text_len(left);
     let second = text_len(right);
@@ -216,8 +254,10 @@ fn concatenation(
     Ok(Ok(Reply::Value(Value::Text(text))))
 }
 
+#[inline(always)]
 fn concat(alloc: Global, handles: &Handles, words: &[Word]) -> Result<Evaluated, Refusal>
-    ensures { Evaluates handles.now result (evaluation ValuePrimitive.Concat handles.now [] words.now) }
+    ensures { Evaluates handles.now result
+        (evaluation ValuePrimitive.Concat handles.now [] words.now) }
 {
     let (first, left, behind_left) = value_front(handles, words)?;
     let (second, right, rest) = value_after(handles, first, behind_left)?;
@@ -229,7 +269,8 @@ fn concat(alloc: Global, handles: &Handles, words: &[Word]) -> Result<Evaluated,
 }
 
 fn power(words: &[Word]) -> Result<Evaluated, Refusal>
-    ensures { (values : Values) → Evaluates values result (evaluation ValuePrimitive.Pow values [] words.now) }
+    ensures { (values : Values)
+        → Evaluates values result (evaluation ValuePrimitive.Pow values [] words.now) }
 {
     let (base, behind_base) = number_front(words)?;
     let (exponent, rest) = number_front(behind_base)?;
@@ -238,7 +279,8 @@ fn power(words: &[Word]) -> Result<Evaluated, Refusal>
 }
 
 fn fail(words: &[Word]) -> Result<Evaluated, Refusal>
-    ensures { (values : Values) → Evaluates values result (evaluation ValuePrimitive.Fail values [] words.now) }
+    ensures { (values : Values)
+        → Evaluates values result (evaluation ValuePrimitive.Fail values [] words.now) }
 {
     let (fault, rest) = fault_front(words)?;
     ends(rest)?;

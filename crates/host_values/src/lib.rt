@@ -8,6 +8,7 @@ mod primitive;
 mod reply;
 mod single;
 mod spent;
+mod text;
 mod words;
 
 pub use calls::{call, give};
@@ -16,4 +17,5 @@ pub use literals::Literals;
 pub use primitive::ValuePrimitive;
 pub use reply::{Refusal, Reply};
 pub use single::{append, release};
+pub use text::{ValueText, shared_text, value_text};
 pub use words::{ends, number_front, value_after, value_front};

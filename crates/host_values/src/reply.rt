@@ -3,6 +3,7 @@ ghost use Rattle.std.specs.Prelude.{◌≡◌};
 ghost use Rattle.host_values.specs.Evaluations.{number_reply, truth_reply};
 
 use crate::spent::Spent;
+use awk_text::MAX_NUMBER;
 use awk_values::{Fault, Value};
 use std::alloc::AllocError;
 use wasm_store::TrapKind;
@@ -54,16 +55,13 @@ impl From<TrapKind> for Refusal {
     }
 }
 
-/// The greatest magnitude of a number.
-const LIMIT: u64 = 1 << 53;
-
 /// A number as an answer, where it is in range.
 #[inline(always)]
 pub(crate) fn number_reply(outcome: Result<i64, Fault>) -> Result<Reply, Fault>
     ensures { result ≡ number_reply outcome }
 {
     let number = outcome?;
-    if number.unsigned_abs() <= LIMIT {
+    if number.unsigned_abs() <= MAX_NUMBER {
         Ok(Reply::Number(number))
     } else {
         Err(Fault::Range)

@@ -63,7 +63,8 @@ fn push_value(arguments: &mut SmallVec<Value, 8>, value: Value) -> Result<(), Re
 /// A trap, which changes nothing.
 #[inline(always)]
 pub fn release(handles: &mut Handles, words: &[Word]) -> Result<(), TrapKind>
-    ensures step { (s : HostState) (memory : List ℕ) → IsReleased s words.now memory handles.old result handles.new }
+    ensures step { (s : HostState) (memory : List ℕ)
+        → IsReleased s words.now memory handles.old result handles.new }
     ensures spare { map.get handles.old spare ≡ None → map.get handles.new spare ≡ None }
 {
     match take_one(handles, words) {
@@ -85,7 +86,8 @@ pub fn append(
     arguments: &mut SmallVec<Value, 8>,
     words: &[Word],
 ) -> Result<(), Refusal>
-    ensures step { (s : HostState) (memory : List ℕ) → s.fault ≡ None → IsAppended s words.now memory handles.old arguments.old.items result handles.new arguments.new.items }
+    ensures step { (s : HostState) (memory : List ℕ) → s.fault ≡ None → IsAppended s words.now
+        memory handles.old arguments.old.items result handles.new arguments.new.items }
     ensures spare { map.get handles.old spare ≡ None → map.get handles.new spare ≡ None }
 {
     match take_one(handles, words) {

@@ -7,6 +7,7 @@ ghost use Rattle.awk_text.specs.NumberText.{InRange};
 ghost use Rattle.host_step.specs.Arguments.{constant_front, no_more, number_front, place_front, text_at};
 ghost use Rattle.host_values.specs.Fronts.{handle_front, lent, lent_handle, owned, plain_number};
 
+use awk_text::MAX_NUMBER;
 use awk_values::{CompareOp, Fault, Value};
 use host_handles::Handles;
 use wasm_store::{TrapKind, Word};
@@ -40,9 +41,6 @@ const FAULTS: [Fault; 16] = [
     Fault::NextOutside,
     Fault::BadAssignment,
 ];
-
-/// The greatest magnitude of a number.
-const LIMIT: u64 = 1 << 53;
 
 const UNFIT: TrapKind = TrapKind::BadArgument;
 
@@ -141,7 +139,7 @@ pub fn number_front(words: &[Word]) -> Result<(i64, &[Word]), TrapKind>
         return Err(UNFIT);
     };
     let number = bits.cast_signed();
-    if number.unsigned_abs() <= LIMIT {
+    if number.unsigned_abs() <= MAX_NUMBER {
         Ok((number, rest))
     } else {
         Err(UNFIT)

@@ -19,7 +19,7 @@ use Rattle.lower_model.specs.Arithmetic.{compared}
 use Rattle.lower_model.specs.Emission.{Layout, all_appended, all_boxed, all_converted, all_emitted, all_freed, all_given, all_given_pushed, asked, emitted, field_in, field_or, field_read, function_number, keeping_closed, left_over, listed_asked, performed, sequence_closed, slot_set}
 use Rattle.lower_model.specs.Places.{made_in, array_local}
 use Rattle.lower_model.specs.Small.{ask_row, code_number, converted, does, either, h, kept_value, let_go, truth}
-use Rattle.lower_model.specs.declared.import.Import.TheVariants.{Drop}
+use Rattle.host_imports.specs.declared.import.Import.TheVariants.{Drop}
 use Rattle.lower_pieces.specs.Emits.{followed, Emits}
 use Rattle.lower_pieces.specs.Forms.{view_form}
 use Rattle.lower_pieces.specs.declared.form.Form.{Form}

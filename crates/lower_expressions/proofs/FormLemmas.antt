@@ -10,7 +10,7 @@ use Rattle.mid_program.specs.Sorted.{count_of}
 use Rattle.lower_model.specs.Emission.{Layout, all_appended, all_boxed, all_converted, all_freed, all_given, all_given_pushed, one_given}
 use Rattle.lower_model.specs.Places.{Bases, array_local}
 use Rattle.lower_model.specs.Small.{ask, converted, does, h, moved_out, to_value}
-use Rattle.lower_model.specs.declared.import.Import.TheVariants.{Arg, FreeArray}
+use Rattle.host_imports.specs.declared.import.Import.TheVariants.{Arg, FreeArray}
 use Rattle.lower_expressions.specs.Fits.{AllCode, IsGiven}
 use Rattle.lower_expressions.specs.Parts.{appended_with, boxed_with, converted_with, forms_in, freed_with, given_with, pushed_with}
 use Rattle.lower_expressions.proofs.WalkLemmas.{unwanted}

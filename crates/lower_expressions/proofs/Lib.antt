@@ -1,11 +1,9 @@
 mod Arms
-mod ArrayLemmas
 mod FitLemmas
 mod FormLemmas
 mod Keepings
 mod Keys
 mod RoutineLemmas
-mod SpanLemmas
 mod Views
 mod WalkLemmas
 mod Weights

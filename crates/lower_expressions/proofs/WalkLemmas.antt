@@ -13,7 +13,7 @@ use Rattle.mid_program.specs.declared.code.Operand.TheVariants as operand
 use Rattle.lower_model.specs.Emission.{Layout, all_pushed}
 use Rattle.lower_model.specs.Places.{Bases, array_local}
 use Rattle.lower_model.specs.Small.{ask, moved_out}
-use Rattle.lower_model.specs.declared.import.Import.TheVariants.{FreeArray}
+use Rattle.host_imports.specs.declared.import.Import.TheVariants.{FreeArray}
 use Rattle.lower_pieces.specs.Forms.{view_form}
 use Rattle.lower_pieces.specs.declared.form.Form.{Form}
 use Rattle.lower_expressions.specs.Parts.{appended_with, boxed_with, converted_with, freed_with, given_with, pushed_with}

@@ -35,36 +35,36 @@ AllCode (Fresh es) = ⊥
 -- an operand for each parameter, none of them a constant, and an array that is made only for one that is an array
 abbrev pub IsGiven : List Kind → Codes → Type 0
 IsGiven [] End = Unit {0}
-IsGiven (k ∷ ks) (At e es) = IsGiven ks es
-IsGiven (Many ∷ ks) (Fresh es) = IsGiven ks es
+IsGiven (kind ∷ kinds) (At e es) = IsGiven kinds es
+IsGiven (Many ∷ kinds) (Fresh es) = IsGiven kinds es
 IsGiven _ _ = ⊥
 
 -- code that is emitted for temporary t, with w arrays of calls in use and d labels around it
 abbrev mutual
-  pub Fits : (y : Layout) → Code → (t w d : ℕ) → Type 0
-  Fits y (Do o es) t w d = AllFit y es t w d
-  Fits y (Over l es) t w d = AllCode es × AllFit y es t w d
-  Fits y (Compare c a b) t w d = Within t w d × (Fits y a t w d × Fits y b (suc t) w d)
-  Fits y (Call f es) t w d = IsGiven (parameters_at y.calls f) es × ((f ≤ most_places) × ((w + made_in es ≤ most_places) × AllFit y es t w d))
-  Fits y Ask t w d = Within t w d
-  Fits y (AskLine s) t w d = Within t w d × Fits y s (suc (suc t)) w (suc d)
-  Fits y (FileLine e s) t w d = Within t w d × (Fits y e t w d × Fits y s (suc (suc t)) w (suc d))
-  Fits y (Replace all es s) t w d = Within t w d × (AllFit y es t w d × Fits y s (suc (suc t)) w (suc d))
-  Fits y (Number z) t w d = Within t w d
-  Fits y (Text i) t w d = Within t w d × (i < length y.texts)
-  Fits y Unset t w d = Within t w d
-  Fits y (Get x) t w d = Within t w d × SlotFits x
-  Fits y (Set x e) t w d = Within t w d × (SlotFits x × Fits y e t w d)
-  Fits y (Array a) t w d = ArrayFits a
-  Fits y (IsOpen i) t w d = Within t w d × (i ≤ most_places)
-  Fits y (Choose s c a b) t w d = Within t w d × (Fits y c t w d × (Fits y a t w (suc d) × Fits y b t w (suc d)))
-  Fits y (Seq a b) t w d = Within t w d × (Fits y a t w d × Fits y b t w d)
-  Fits y (Let a b) t w d = Within t w d × (Fits y a t w d × Fits y b (suc t) w d)
-  Fits y (Bound m i) t w d = Within t w d
+  pub Fits : (layout : Layout) → Code → (t w d : ℕ) → Type 0
+  Fits layout (Do o es) t w d = AllFit layout es t w d
+  Fits layout (Over l es) t w d = AllCode es × AllFit layout es t w d
+  Fits layout (Compare c a b) t w d = Within t w d × (Fits layout a t w d × Fits layout b (suc t) w d)
+  Fits layout (Call f es) t w d = IsGiven (parameters_at layout.calls f) es × ((f ≤ most_places) × ((w + made_in es ≤ most_places) × AllFit layout es t w d))
+  Fits layout Ask t w d = Within t w d
+  Fits layout (AskLine s) t w d = Within t w d × Fits layout s (suc (suc t)) w (suc d)
+  Fits layout (FileLine e s) t w d = Within t w d × (Fits layout e t w d × Fits layout s (suc (suc t)) w (suc d))
+  Fits layout (Replace all es s) t w d = Within t w d × (AllFit layout es t w d × Fits layout s (suc (suc t)) w (suc d))
+  Fits layout (Number z) t w d = Within t w d
+  Fits layout (Text i) t w d = Within t w d × (i < length layout.texts)
+  Fits layout Unset t w d = Within t w d
+  Fits layout (Get x) t w d = Within t w d × SlotFits x
+  Fits layout (Set x e) t w d = Within t w d × (SlotFits x × Fits layout e t w d)
+  Fits layout (Array a) t w d = ArrayFits a
+  Fits layout (IsOpen i) t w d = Within t w d × (i ≤ most_places)
+  Fits layout (Choose s c a b) t w d = Within t w d × (Fits layout c t w d × (Fits layout a t w (suc d) × Fits layout b t w (suc d)))
+  Fits layout (Seq a b) t w d = Within t w d × (Fits layout a t w d × Fits layout b t w d)
+  Fits layout (Let a b) t w d = Within t w d × (Fits layout a t w d × Fits layout b (suc t) w d)
+  Fits layout (Bound m i) t w d = Within t w d
 
   -- operands one after the other
-  pub AllFit : (y : Layout) → Codes → (t w d : ℕ) → Type 0
-  AllFit y End t w d = Within t w d
-  AllFit y (At e es) t w d = Within t w d × (Fits y e t w d × AllFit y es (suc t) w d)
-  AllFit y (Fixed m es) t w d = AllFit y es t w d
-  AllFit y (Fresh es) t w d = Within t w d × AllFit y es t (suc w) d
+  pub AllFit : (layout : Layout) → Codes → (t w d : ℕ) → Type 0
+  AllFit layout End t w d = Within t w d
+  AllFit layout (At e es) t w d = Within t w d × (Fits layout e t w d × AllFit layout es (suc t) w d)
+  AllFit layout (Fixed m es) t w d = AllFit layout es t w d
+  AllFit layout (Fresh es) t w d = Within t w d × AllFit layout es t (suc w) d

@@ -13,14 +13,14 @@ abbrev pub kept_none : Keeping
 kept_none = record { forms = []; temporaries = [] }
 
 abbrev pub kept_more : plain.Form → ℕ → Keeping → Keeping
-kept_more f t k = record { forms = f ∷ k.forms; temporaries = t ∷ k.temporaries }
+kept_more form temporary keeping = record { forms = form ∷ keeping.forms; temporaries = temporary ∷ keeping.temporaries }
 
 abbrev pub rest_of : {A : Type 0} → List A → List A
 rest_of [] = []
 rest_of (x ∷ xs) = xs
 
 abbrev pub kept_but_one : Keeping → Keeping
-kept_but_one k = record { forms = rest_of k.forms; temporaries = rest_of k.temporaries }
+kept_but_one keeping = record { forms = rest_of keeping.forms; temporaries = rest_of keeping.temporaries }
 
 abbrev pub keeping_of : List Entry → Keeping
 keeping_of [] = kept_none

@@ -1,5 +1,5 @@
+pub mod CodeAt
 pub mod Fits
 pub mod Keeping
 pub mod Parts
-pub mod Spans
 pub mod View

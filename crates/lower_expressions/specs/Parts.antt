@@ -1,4 +1,5 @@
--- Parts of the definitions, which are added by functions of their own.
+-- Parts of the definitions, which are added by functions of their own. `after` is the code that comes after; t, w and d are as in the definitions (lower_model,
+-- `Emission`): the temporary that the value goes to, how many arrays of calls are in use, how many labels further out the exit is.
 use Rattle.std.specs.Prelude.{ℕ, zero, suc, ◌+◌, Bool, true, false, List, [], ◌∷◌, length}
 use Rattle.sem_primitives.specs.Constants.{flag_number}
 use Rattle.sem_primitives.specs.Table.{arguments_of, answer_of, can_fault}
@@ -22,86 +23,88 @@ use Rattle.mid_program.specs.Mid.{Kind, Boxed, Unboxed, Many, Code, Codes, End, 
 use Rattle.lower_model.specs.Places.{Bases, array_local, made_in}
 use Rattle.lower_model.specs.Small.{ask, ask_row, does, h, kept, kept_code, kept_value, minus_one, moved_out, n, number_is, to_value, converted, when}
 use Rattle.lower_model.specs.Emission.{Layout, all_pushed, emitted, text_kept, text_let_go, assigned, function_number, global_handle, global_number, listed_asked, one_given, pending_assigned, performed, text_dropped}
-use Rattle.lower_model.specs.declared.import.Import.TheVariants.{Arg, Drop, FreeArray}
+use Rattle.host_imports.specs.declared.import.Import.TheVariants.{Arg, Drop, FreeArray}
 
 -- the text beside an unboxed name is dropped
 abbrev pub handle_dropped : Layout → ℕ → Instructions → Instructions
-handle_dropped y i k = does (GlobalGet (global_handle y i)) (ask Drop (does (I32Const minus_one) (does (GlobalSet (global_handle y i)) k)))
+handle_dropped layout i after =
+    does (GlobalGet (global_handle layout i)) (ask Drop (does (I32Const minus_one) (does (GlobalSet (global_handle layout i)) after)))
 
 -- an unboxed name takes a number
 abbrev pub bare_set : Layout → ℕ → ℕ → Instructions → Instructions
-bare_set y i t k = text_dropped y i (does (LocalGet (n y.bases t)) (does (GlobalSet (global_number y i)) k))
+bare_set layout i t after = text_dropped layout i (does (LocalGet (n layout.bases t)) (does (GlobalSet (global_number layout i)) after))
 
 -- what becomes of one name where the command line assigns
 abbrev pub number_assigned : Layout → Kind → ℕ → ℕ → Instructions → Instructions
-number_assigned y kind i t k = number_is (n y.bases t) i (when (assigned y kind i t Done) k)
+number_assigned layout kind i t after = number_is (n layout.bases t) i (when (assigned layout kind i t Done) after)
 
 abbrev pub one_assigned : Layout → Kind → ℕ → ℕ → Instructions → Instructions
-one_assigned y Many i t k = k
-one_assigned y kind i t k = number_assigned y kind i t k
+one_assigned layout Many i t after = after
+one_assigned layout kind i t after = number_assigned layout kind i t after
 
 -- an import is asked, and whether an assignment is pending
 abbrev pub asked_once : Bases → Primitive → ℕ → ℕ → Instructions → Instructions
-asked_once b p t d k = ask_row p (kept_code b true t (suc d) (number_is (n b t) 2 k))
+asked_once bases p t d after = ask_row p (kept_code bases true t (suc d) (number_is (n bases t) 2 after))
 
 -- one turn of asking
 abbrev pub one_asked : Layout → Primitive → ℕ → ℕ → Instructions → Instructions
-one_asked y p t d k = asked_once y.bases p t d (when (pending_assigned y t (does (Br 1) Done)) k)
+one_asked layout p t d after = asked_once layout.bases p t d (when (pending_assigned layout t (does (Br 1) Done)) after)
 
 -- the forms of operands that are code
 abbrev pub forms_in : List plain.Form → Codes → List plain.Form
-forms_in fs End = []
-forms_in fs (At e es) = form_of fs e ∷ forms_in fs es
-forms_in fs (Fixed m es) = forms_in fs es
-forms_in fs (Fresh es) = forms_in fs es
+forms_in forms End = []
+forms_in forms (At e es) = form_of forms e ∷ forms_in forms es
+forms_in forms (Fixed m es) = forms_in forms es
+forms_in forms (Fresh es) = forms_in forms es
 
 -- the same as what the definitions say, where the operands' forms are known
 
 abbrev pub converted_with : Bases → List plain.Form → List Argument → Codes → ℕ → ℕ → Instructions → Instructions
-converted_with b (f ∷ fs) (argument.Of s ∷ rest) (At e es) t d k = converted b f s t d (converted_with b fs rest es (suc t) d k)
-converted_with b fs (a ∷ rest) (Fixed m es) t d k = converted_with b fs rest es t d k
-converted_with b _ _ _ t d k = k
+converted_with bases (f ∷ forms) (argument.Of s ∷ rest) (At e es) t d after = converted bases f s t d (converted_with bases forms rest es (suc t) d after)
+converted_with bases forms (a ∷ rest) (Fixed m es) t d after = converted_with bases forms rest es t d after
+converted_with bases _ _ _ t d after = after
 
 abbrev pub boxed_with : Bases → List plain.Form → ℕ → Instructions → Instructions
-boxed_with b [] t k = k
-boxed_with b (f ∷ fs) t k = to_value b f t (boxed_with b fs (suc t) k)
+boxed_with bases [] t after = after
+boxed_with bases (f ∷ forms) t after = to_value bases f t (boxed_with bases forms (suc t) after)
 
 abbrev pub appended_with : Bases → List plain.Form → ℕ → Instructions → Instructions
-appended_with b [] t k = k
-appended_with b (f ∷ fs) t k = moved_out (h b t) (ask Arg (appended_with b fs (suc t) k))
+appended_with bases [] t after = after
+appended_with bases (f ∷ forms) t after = moved_out (h bases t) (ask Arg (appended_with bases forms (suc t) after))
 
 abbrev pub given_one : Bases → Kind → plain.Form → ℕ → Instructions → Instructions
-given_one b Boxed f t k = to_value b f t k
-given_one b kind f t k = k
+given_one bases Boxed f t after = to_value bases f t after
+given_one bases kind f t after = after
 
 abbrev pub given_with : Bases → List plain.Form → List Kind → Codes → ℕ → Instructions → Instructions
-given_with b (f ∷ fs) (kind ∷ ks) (At e es) t k = given_one b kind f t (given_with b fs ks es (suc t) k)
-given_with b fs (kind ∷ ks) (At e es) t k = given_with b fs ks es t k
-given_with b fs (kind ∷ ks) (Fixed m es) t k = given_with b fs ks es t k
-given_with b fs (kind ∷ ks) (Fresh es) t k = given_with b fs ks es t k
-given_with b fs _ _ t k = k
+given_with bases (f ∷ forms) (kind ∷ kinds) (At e es) t after = given_one bases kind f t (given_with bases forms kinds es (suc t) after)
+given_with bases forms (kind ∷ kinds) (At e es) t after = given_with bases forms kinds es t after
+given_with bases forms (kind ∷ kinds) (Fixed m es) t after = given_with bases forms kinds es t after
+given_with bases forms (kind ∷ kinds) (Fresh es) t after = given_with bases forms kinds es t after
+given_with bases forms _ _ t after = after
 
 abbrev pub pushed_with : Layout → List Kind → Codes → ℕ → ℕ → Instructions → Instructions
-pushed_with y (kind ∷ ks) (At e es) t w k = one_given y kind e t (pushed_with y ks es (suc t) w k)
-pushed_with y (kind ∷ ks) (Fixed m es) t w k = pushed_with y ks es t w k
-pushed_with y (kind ∷ ks) (Fresh es) t w k = does (LocalGet (array_local y.bases w)) (does (LocalTee (array_local y.bases w)) (pushed_with y ks es t (suc w) k))
-pushed_with y _ _ t w k = k
+pushed_with layout (kind ∷ kinds) (At e es) t w after = one_given layout kind e t (pushed_with layout kinds es (suc t) w after)
+pushed_with layout (kind ∷ kinds) (Fixed m es) t w after = pushed_with layout kinds es t w after
+pushed_with layout (kind ∷ kinds) (Fresh es) t w after =
+    does (LocalGet (array_local layout.bases w)) (does (LocalTee (array_local layout.bases w)) (pushed_with layout kinds es t (suc w) after))
+pushed_with layout _ _ t w after = after
 
 abbrev pub freed_with : Bases → ℕ → ℕ → Instructions → Instructions
-freed_with b w zero k = k
-freed_with b w (suc i) k = moved_out (array_local b (w + i)) (ask FreeArray (freed_with b w i k))
+freed_with bases w zero after = after
+freed_with bases w (suc i) after = moved_out (array_local bases (w + i)) (ask FreeArray (freed_with bases w i after))
 
 -- an operation of the host
 abbrev pub host_performed : Layout → Primitive → Codes → ℕ → ℕ → Instructions → Instructions
-host_performed y p es t d k = all_pushed y (arguments_of p) es t (ask_row p (kept y.bases (can_fault p) (answer_of p) t d k))
+host_performed layout p es t d after = all_pushed layout (arguments_of p) es t (ask_row p (kept layout.bases (can_fault p) (answer_of p) t d after))
 
 -- an operation once its operands, of these forms, are evaluated
 abbrev pub operated : Layout → List plain.Form → Operation → Codes → ℕ → ℕ → Instructions → Instructions
-operated y fs o es t d k = converted_with y.bases fs (arguments o) es t d (performed y o es t d k)
+operated layout forms o es t d after = converted_with layout.bases forms (arguments o) es t d (performed layout o es t d after)
 
 -- two subscripts of these forms are joined
 abbrev pub joined_with : Layout → plain.Form → plain.Form → ℕ → ℕ → Instructions → Instructions
-joined_with y f g t d k = operated y (f ∷ g ∷ []) (Host Join) (At plain.Unset (At plain.Unset End)) t d k
+joined_with layout f g t d after = operated layout (f ∷ g ∷ []) (Host Join) (At plain.Unset (At plain.Unset End)) t d after
 
 abbrev pub joined_form : plain.Form
 joined_form = plain.Answered (answer_of Join)
@@ -109,50 +112,54 @@ joined_form = plain.Answered (answer_of Join)
 -- the form of the key of subscripts, the last one apart
 abbrev pub key_form : List plain.Form → plain.Form → plain.Form
 key_form [] last = last
-key_form (f ∷ fs) last = joined_form
+key_form (f ∷ forms) last = joined_form
 
 -- subscripts of these forms, the last one apart, are joined from the last one on
 abbrev pub all_joined : Layout → List plain.Form → plain.Form → ℕ → ℕ → Instructions → Instructions
-all_joined y [] last t d k = k
-all_joined y (f ∷ fs) last t d k = all_joined y fs last (suc t) d (joined_with y f (key_form fs last) t d k)
+all_joined layout [] last t d after = after
+all_joined layout (f ∷ forms) last t d after = all_joined layout forms last (suc t) d (joined_with layout f (key_form forms last) t d after)
 
 -- what takes a list of values, of these forms, that are evaluated
 abbrev pub listed_with : Layout → List plain.Form → Listed → ℕ → ℕ → Instructions → Instructions
-listed_with y fs l t d k = boxed_with y.bases fs t (appended_with y.bases fs t (listed_asked y l (length fs) t d k))
+listed_with layout forms l t d after = boxed_with layout.bases forms t (appended_with layout.bases forms t (listed_asked layout l (length forms) t d after))
 
 -- what a function is given, where its operands, of these forms, are evaluated
 abbrev pub passed_with : Layout → List plain.Form → List Kind → Codes → ℕ → ℕ → Instructions → Instructions
-passed_with y fs ks es t w k = given_with y.bases fs ks es t (pushed_with y ks es t w k)
+passed_with layout forms kinds es t w after = given_with layout.bases forms kinds es t (pushed_with layout kinds es t w after)
 
 -- a function is entered, and its answer kept
 abbrev pub entered : Bases → ℕ → ℕ → ℕ → Instructions → Instructions
-entered b f t d k = does (CallOf (function_number f)) (kept_value b true t d k)
+entered bases f t d after = does (CallOf (function_number f)) (kept_value bases true t d after)
 
 -- a call whose operands, of these forms, are evaluated
 abbrev pub called_with : Layout → List plain.Form → ℕ → Codes → ℕ → ℕ → ℕ → Instructions → Instructions
-called_with y fs f es t w d k = passed_with y fs (parameters_at y.calls f) es t w (entered y.bases f t d (freed_with y.bases w (made_in es) k))
+called_with layout forms f es t w d after =
+    passed_with layout forms (parameters_at layout.calls f) es t w (entered layout.bases f t d (freed_with layout.bases w (made_in es) after))
 
 -- a record of a file is asked for
 abbrev pub file_asked : Bases → plain.Form → ℕ → ℕ → Instructions → Instructions
-file_asked b f t d k = to_value b f t (moved_out (h b t) (ask_row GetlineVarFile (kept_code b true t d k)))
+file_asked bases f t d after = to_value bases f t (moved_out (h bases t) (ask_row GetlineVarFile (kept_code bases true t d after)))
 
 -- code that stores is run where a text was read
 abbrev pub stored_when : Bases → Instructions → ℕ → Instructions → Instructions
-stored_when b store t k = number_is (n b t) 1 (when store k)
+stored_when bases store t after = number_is (n bases t) 1 (when store after)
 
 -- the host is asked for a replacement
 abbrev pub replaced_asked : Layout → Bool → Codes → ℕ → ℕ → Instructions → Instructions
-replaced_asked y every es t d k = all_pushed y three_values es t (does (I32Const (flag_number every)) (ask_row Sub (kept y.bases true (answer.Of sort.Number) t d k)))
+replaced_asked layout every es t d after = all_pushed layout three_values es t
+    (does (I32Const (flag_number every)) (ask_row Sub (kept layout.bases true (answer.Of sort.Number) t d after)))
 
 -- code that stores a text, from within one label more
 abbrev pub stored_with : Layout → List plain.Form → List ℕ → Primitive → Code → ℕ → ℕ → ℕ → Instructions → Instructions
-stored_with y fs ts p s t w d k = text_kept y p t (emitted y true (plain.a_value ∷ fs) (suc t ∷ ts) s (suc (suc t)) w (suc d) (text_let_go y fs s t k))
+stored_with layout forms temporaries p s t w d after =
+    text_kept layout p t (emitted layout true (plain.a_value ∷ forms) (suc t ∷ temporaries) s (suc (suc t)) w (suc d) (text_let_go layout forms s t after))
 
 -- a replacement once its operands, of these forms, are evaluated, and the test whether nothing was replaced
 abbrev pub replaced_with : Layout → List plain.Form → Bool → Codes → ℕ → ℕ → Instructions → Instructions
-replaced_with y fs every es t d k =
-    converted_with y.bases fs three_values es t d (replaced_asked y every es t d (does (LocalGet (n y.bases t)) (does (Test I64 Eqz) k)))
+replaced_with layout forms every es t d after =
+    converted_with layout.bases forms three_values es t d (replaced_asked layout every es t d (does (LocalGet (n layout.bases t)) (does (Test I64 Eqz) after)))
 
 -- one of two ways, as the sort that is wanted
 abbrev pub branch_with : Layout → List plain.Form → List ℕ → Sort → Code → ℕ → ℕ → ℕ → Instructions → Instructions
-branch_with y fs ts s e t w d k = emitted y false fs ts e t w (suc d) (converted y.bases (form_of fs e) s t (suc d) k)
+branch_with layout forms temporaries s e t w d after =
+    emitted layout false forms temporaries e t w (suc d) (converted layout.bases (form_of forms e) s t (suc d) after)

@@ -2,7 +2,7 @@
 use Rattle.mid_program.specs.View.{view_mid}
 use Rattle.lower_model.specs.Emission as plain
 use Rattle.lower_model.specs.Functions.{layout_of}
-use Rattle.lower_expressions.specs.declared.layout.Layout.{Layout}
+use Rattle.lower_expressions.specs.declared.function_layout.FunctionLayout.{FunctionLayout}
 
-abbrev pub view_layout : Layout → plain.Layout
-view_layout y = layout_of (view_mid y.tables.now.program.now) y.bases.now
+abbrev pub view_layout : FunctionLayout → plain.Layout
+view_layout layout = layout_of (view_mid layout.script.now.program.now) layout.bases.now

@@ -50,7 +50,8 @@ pub(crate) fn inner_at(at: At) -> At
 /// Where a text that is kept is stored.
 pub(crate) fn stored_at(at: At) -> At
     requires { Within at.temporary at.arrays at.exit }
-    ensures { result ≡ record { temporary = suc (suc at.temporary); arrays = at.arrays; exit = suc at.exit } }
+    ensures { result
+        ≡ record { temporary = suc (suc at.temporary); arrays = at.arrays; exit = suc at.exit } }
 {
     At {
         temporary: at.temporary + 2,

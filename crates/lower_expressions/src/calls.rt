@@ -14,10 +14,11 @@ ghost use Rattle.lower_expressions.specs.Parts.{called_with, entered, passed_wit
 ghost use Rattle.lower_expressions.specs.View.{view_layout};
 
 use crate::at::At;
-use crate::layout::Layout;
+use crate::function_layout::FunctionLayout;
 use crate::operands::array_meant;
 use crate::places::array_pushed;
 use crate::walks::{all_freed, all_given, made_in};
+use host_imports::IMPORT_COUNT;
 use lower_pieces::{Bases, Form, does, does_all, kept_value, moved_out};
 use mid_program::{Code, Kind, Operand};
 use std::alloc::AllocError;
@@ -25,7 +26,7 @@ use wasm_types::{Instr, Simple};
 
 /// Puts what a parameter is given on the stack.
 fn one_given(
-    y: &Layout<'_>,
+    y: &FunctionLayout<'_>,
     out: &mut Vec<Instr>,
     kind: Kind,
     code: &Code,
@@ -33,7 +34,8 @@ fn one_given(
 ) -> Result<(), AllocError>
     requires places { t ≤ most_places }
     requires array { ArrayFits (array_meant (view code.now)) }
-    ensures { OnOk result (Emits out.old.items out.new.items (one_given (view_layout y.now) (view_kind kind) (view code.now) t)) }
+    ensures { OnOk result (Emits out.old.items out.new.items
+        (one_given (view_layout y.now) (view_kind kind) (view code.now) t)) }
 {
     match kind {
         Kind::Boxed => moved_out(out, y.bases.handle(t)),
@@ -44,7 +46,7 @@ fn one_given(
 
 /// Puts what parameters are given on the stack.
 fn all_pushed(
-    y: &Layout<'_>,
+    y: &FunctionLayout<'_>,
     out: &mut Vec<Instr>,
     kinds: &[Kind],
     operands: &[Operand],
@@ -54,7 +56,8 @@ fn all_pushed(
     requires places { t + count_of (views operands.now) ≤ most_places }
     requires made { arrays + made_in (views operands.now) ≤ most_places }
     requires fit { ArraysFit (views operands.now) }
-    ensures { OnOk result (Emits out.old.items out.new.items (pushed_with (view_layout y.now) (map view_kind kinds.now) (views operands.now) t arrays)) }
+    ensures { OnOk result (Emits out.old.items out.new.items
+        (pushed_with (view_layout y.now) (map view_kind kinds.now) (views operands.now) t arrays)) }
 {
     let Some((operand, operands)) = operands.split_first() else {
         return Ok(());
@@ -77,10 +80,10 @@ fn all_pushed(
 }
 
 /// The parameters of a function; of one that is not there, none.
-fn parameters<'a>(y: &Layout<'a>, function: usize) -> &'a [Kind]
+fn parameters<'a>(y: &FunctionLayout<'a>, function: usize) -> &'a [Kind]
     ensures { map view_kind result.now ≡ parameters_at (view_layout y.now).calls function }
 {
-    match y.tables.program.routines.get(function) {
+    match y.script.program.routines.get(function) {
         Some(routine) => &routine.parameters,
         None => &[],
     }
@@ -88,7 +91,7 @@ fn parameters<'a>(y: &Layout<'a>, function: usize) -> &'a [Kind]
 
 /// Adds what a function is given, whose operands are evaluated.
 fn all_passed(
-    y: &Layout<'_>,
+    y: &FunctionLayout<'_>,
     out: &mut Vec<Instr>,
     forms: &[Form],
     kinds: &[Kind],
@@ -99,7 +102,8 @@ fn all_passed(
     requires places { t + count_of (views operands.now) ≤ most_places }
     requires made { arrays + made_in (views operands.now) ≤ most_places }
     requires fit { ArraysFit (views operands.now) }
-    ensures { OnOk result (Emits out.old.items out.new.items (passed_with (view_layout y.now) (map view_form forms.now) (map view_kind kinds.now) (views operands.now) t arrays)) }
+    ensures { OnOk result (Emits out.old.items out.new.items (passed_with (view_layout y.now)
+        (map view_form forms.now) (map view_kind kinds.now) (views operands.now) t arrays)) }
 {
     all_given(y.alloc, y.bases, out, forms, kinds, operands, t)?;
     all_pushed(y, out, kinds, operands, t, arrays)
@@ -117,13 +121,13 @@ fn entered(
     requires places { t ≤ most_places }
     ensures { OnOk result (Emits out.old.items out.new.items (entered b.now function t exit)) }
 {
-    does(out, Simple::Call(function as u32 + 56))?;
+    does(out, Simple::Call(function as u32 + IMPORT_COUNT as u32))?;
     kept_value(b, out, true, t, exit)
 }
 
 /// Adds a call of a function, whose operands are evaluated.
 pub(crate) fn called(
-    y: &Layout<'_>,
+    y: &FunctionLayout<'_>,
     out: &mut Vec<Instr>,
     forms: &[Form],
     function: usize,
@@ -134,7 +138,8 @@ pub(crate) fn called(
     requires places { at.temporary + count_of (views operands.now) ≤ most_places }
     requires made { at.arrays + made_in (views operands.now) ≤ most_places }
     requires fit { ArraysFit (views operands.now) }
-    ensures { OnOk result (Emits out.old.items out.new.items (called_with (view_layout y.now) (map view_form forms.now) function (views operands.now) at.temporary at.arrays at.exit)) }
+    ensures { OnOk result (Emits out.old.items out.new.items (called_with (view_layout y.now)
+        (map view_form forms.now) function (views operands.now) at.temporary at.arrays at.exit)) }
 {
     let kinds = parameters(y, function);
     all_passed(y, out, forms, kinds, operands, at.temporary, at.arrays)?;

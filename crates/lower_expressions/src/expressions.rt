@@ -3,18 +3,18 @@ ghost use Rattle.std.specs.Prelude.{[], ◌∷◌, ◌++◌, ◌≡◌, suc, Boo
 ghost use Rattle.mid_program.specs.Mid as plain;
 ghost use Rattle.mid_program.specs.Mid.{form_of};
 ghost use Rattle.mid_program.specs.ViewCode.{joined, view, view_slot, views};
-ghost use Rattle.lower_model.specs.Emission.{all_emitted, emitted};
+ghost use Rattle.lower_expressions.specs.CodeAt.{AllFitAt, FitsAt, all_emitted_at, emitted_at};
 ghost use Rattle.lower_pieces.specs.Emits.{Emits};
 ghost use Rattle.lower_pieces.specs.Forms.{view_form};
-ghost use Rattle.lower_expressions.specs.Fits.{AllFit, Fits, Within};
+ghost use Rattle.lower_expressions.specs.Fits.{Fits, Within};
 ghost use Rattle.lower_expressions.specs.Parts.{branch_with, forms_in, stored_with};
 ghost use Rattle.lower_expressions.specs.View.{view_layout};
 
 use crate::at::{At, after_array, inner_at, next, stored_at};
 use crate::calls::called;
 use crate::fields::{field_in, field_read};
+use crate::function_layout::FunctionLayout;
 use crate::kept::Kept;
-use crate::layout::Layout;
 use crate::leaves::{bound, constant, is_open, line, text, unset, variable};
 use crate::lists::listed;
 use crate::operands::{all_joined, operated, operation_form};
@@ -25,7 +25,7 @@ use crate::storing::{
     text_kept,
 };
 use awk_values::CompareOp;
-use lower_model::Import;
+use host_imports::Import;
 use lower_pieces::{Form, code_number, compared, converted, either, let_go, truth};
 use mid_program::{Code, Operand, Operation, Slot};
 use sem_primitives::{Answer, Listed, Primitive, Sort};
@@ -37,16 +37,17 @@ use wasm_types::Instr;
 /// its place that would be dropped there.
 #[cycle(expressions)]
 pub fn expression(
-    y: &Layout<'_>,
+    y: &FunctionLayout<'_>,
     kept: &mut Kept,
     out: &mut Vec<Instr>,
     only: bool,
     code: &Code,
     at: At,
 ) -> Result<Form, AllocError>
-    requires { Fits (view_layout y.now) (view code.now) at.temporary at.arrays at.exit }
+    requires { FitsAt y.now (view code.now) at }
     ensures form { IfOk result (λ form. view_form form ≡ form_of kept.old.forms (view code.now)) }
-    ensures emits { OnOk result (Emits out.old.items out.new.items (emitted (view_layout y.now) only kept.old.forms kept.old.temporaries (view code.now) at.temporary at.arrays at.exit)) }
+    ensures emits { OnOk result
+        (Emits out.old.items out.new.items (emitted_at y.now only kept.old (view code.now) at)) }
     ensures kept { OnOk result (kept.new ≡ kept.old) }
 {
     match code {
@@ -76,16 +77,18 @@ pub fn expression(
 /// Adds the code of operands, one after the other, and the forms of those that are code.
 #[cycle(expressions)]
 fn operands(
-    y: &Layout<'_>,
+    y: &FunctionLayout<'_>,
     kept: &mut Kept,
     out: &mut Vec<Instr>,
     forms: &mut Vec<Form>,
     es: &[Operand],
     at: At,
 ) -> Result<(), AllocError>
-    requires { AllFit (view_layout y.now) (views es.now) at.temporary at.arrays at.exit }
-    ensures forms { OnOk result (map view_form forms.new.items ≡ map view_form forms.old.items ++ forms_in kept.old.forms (views es.now)) }
-    ensures emits { OnOk result (Emits out.old.items out.new.items (all_emitted (view_layout y.now) kept.old.forms kept.old.temporaries (views es.now) at.temporary at.arrays at.exit)) }
+    requires { AllFitAt y.now (views es.now) at }
+    ensures forms { OnOk result (map view_form forms.new.items
+        ≡ map view_form forms.old.items ++ forms_in kept.old.forms (views es.now)) }
+    ensures emits { OnOk result
+        (Emits out.old.items out.new.items (all_emitted_at y.now kept.old (views es.now) at)) }
     ensures kept { OnOk result (kept.new ≡ kept.old) }
 {
     let Some((operand, rest)) = es.split_first() else {
@@ -108,16 +111,18 @@ fn operands(
 /// Adds an operation.
 #[cycle(expressions)]
 fn operation(
-    y: &Layout<'_>,
+    y: &FunctionLayout<'_>,
     kept: &mut Kept,
     out: &mut Vec<Instr>,
     what: Operation,
     es: &[Operand],
     at: At,
 ) -> Result<Form, AllocError>
-    requires { Fits (view_layout y.now) (plain.Do what (views es.now)) at.temporary at.arrays at.exit }
-    ensures form { IfOk result (λ form. view_form form ≡ form_of kept.old.forms (plain.Do what (views es.now))) }
-    ensures emits { (v : Bool) → OnOk result (Emits out.old.items out.new.items (emitted (view_layout y.now) v kept.old.forms kept.old.temporaries (plain.Do what (views es.now)) at.temporary at.arrays at.exit)) }
+    requires { FitsAt y.now (plain.Do what (views es.now)) at }
+    ensures form { IfOk result
+        (λ form. view_form form ≡ form_of kept.old.forms (plain.Do what (views es.now))) }
+    ensures emits { (v : Bool) → OnOk result (Emits out.old.items out.new.items
+        (emitted_at y.now v kept.old (plain.Do what (views es.now)) at)) }
     ensures kept { OnOk result (kept.new ≡ kept.old) }
 {
     if let Some(number) = field_in(what, es) {
@@ -132,7 +137,7 @@ fn operation(
 /// Adds the key of subscripts. All are evaluated before any are joined.
 #[cycle(expressions)]
 fn key(
-    y: &Layout<'_>,
+    y: &FunctionLayout<'_>,
     kept: &mut Kept,
     out: &mut Vec<Instr>,
     first: &Code,
@@ -140,9 +145,11 @@ fn key(
     last: &Code,
     at: At,
 ) -> Result<Form, AllocError>
-    requires { Fits (view_layout y.now) (joined (view first.now ∷ map view others.now) (view last.now)) at.temporary at.arrays at.exit }
-    ensures form { IfOk result (λ form. view_form form ≡ form_of kept.old.forms (joined (view first.now ∷ map view others.now) (view last.now))) }
-    ensures emits { (v : Bool) → OnOk result (Emits out.old.items out.new.items (emitted (view_layout y.now) v kept.old.forms kept.old.temporaries (joined (view first.now ∷ map view others.now) (view last.now)) at.temporary at.arrays at.exit)) }
+    requires { FitsAt y.now (joined (view first.now ∷ map view others.now) (view last.now)) at }
+    ensures form { IfOk result (λ form. view_form form
+        ≡ form_of kept.old.forms (joined (view first.now ∷ map view others.now) (view last.now))) }
+    ensures emits { (v : Bool) → OnOk result (Emits out.old.items out.new.items (emitted_at y.now v
+        kept.old (joined (view first.now ∷ map view others.now) (view last.now)) at)) }
     ensures kept { OnOk result (kept.new ≡ kept.old) }
 {
     let form = expression(y, kept, out, false, first, at)?;
@@ -163,16 +170,18 @@ fn key(
 /// Adds what takes a list of values.
 #[cycle(expressions)]
 fn listing(
-    y: &Layout<'_>,
+    y: &FunctionLayout<'_>,
     kept: &mut Kept,
     out: &mut Vec<Instr>,
     what: Listed,
     es: &[Operand],
     at: At,
 ) -> Result<Form, AllocError>
-    requires { Fits (view_layout y.now) (plain.Over what (views es.now)) at.temporary at.arrays at.exit }
-    ensures form { IfOk result (λ form. view_form form ≡ form_of kept.old.forms (plain.Over what (views es.now))) }
-    ensures emits { (v : Bool) → OnOk result (Emits out.old.items out.new.items (emitted (view_layout y.now) v kept.old.forms kept.old.temporaries (plain.Over what (views es.now)) at.temporary at.arrays at.exit)) }
+    requires { FitsAt y.now (plain.Over what (views es.now)) at }
+    ensures form { IfOk result
+        (λ form. view_form form ≡ form_of kept.old.forms (plain.Over what (views es.now))) }
+    ensures emits { (v : Bool) → OnOk result (Emits out.old.items out.new.items
+        (emitted_at y.now v kept.old (plain.Over what (views es.now)) at)) }
     ensures kept { OnOk result (kept.new ≡ kept.old) }
 {
     let mut forms = Vec::new(y.alloc);
@@ -184,16 +193,18 @@ fn listing(
 /// Adds a call of a function.
 #[cycle(expressions)]
 fn call(
-    y: &Layout<'_>,
+    y: &FunctionLayout<'_>,
     kept: &mut Kept,
     out: &mut Vec<Instr>,
     function: usize,
     es: &[Operand],
     at: At,
 ) -> Result<Form, AllocError>
-    requires { Fits (view_layout y.now) (plain.Call function (views es.now)) at.temporary at.arrays at.exit }
-    ensures form { IfOk result (λ form. view_form form ≡ form_of kept.old.forms (plain.Call function (views es.now))) }
-    ensures emits { (v : Bool) → OnOk result (Emits out.old.items out.new.items (emitted (view_layout y.now) v kept.old.forms kept.old.temporaries (plain.Call function (views es.now)) at.temporary at.arrays at.exit)) }
+    requires { FitsAt y.now (plain.Call function (views es.now)) at }
+    ensures form { IfOk result
+        (λ form. view_form form ≡ form_of kept.old.forms (plain.Call function (views es.now))) }
+    ensures emits { (v : Bool) → OnOk result (Emits out.old.items out.new.items
+        (emitted_at y.now v kept.old (plain.Call function (views es.now)) at)) }
     ensures kept { OnOk result (kept.new ≡ kept.old) }
 {
     let mut forms = Vec::new(y.alloc);
@@ -205,7 +216,7 @@ fn call(
 /// Adds a comparison.
 #[cycle(expressions)]
 fn comparison(
-    y: &Layout<'_>,
+    y: &FunctionLayout<'_>,
     kept: &mut Kept,
     out: &mut Vec<Instr>,
     op: CompareOp,
@@ -213,9 +224,11 @@ fn comparison(
     right: &Code,
     at: At,
 ) -> Result<Form, AllocError>
-    requires { Fits (view_layout y.now) (plain.Compare op (view left.now) (view right.now)) at.temporary at.arrays at.exit }
-    ensures form { IfOk result (λ form. view_form form ≡ form_of kept.old.forms (plain.Compare op (view left.now) (view right.now))) }
-    ensures emits { (v : Bool) → OnOk result (Emits out.old.items out.new.items (emitted (view_layout y.now) v kept.old.forms kept.old.temporaries (plain.Compare op (view left.now) (view right.now)) at.temporary at.arrays at.exit)) }
+    requires { FitsAt y.now (plain.Compare op (view left.now) (view right.now)) at }
+    ensures form { IfOk result (λ form. view_form form
+        ≡ form_of kept.old.forms (plain.Compare op (view left.now) (view right.now))) }
+    ensures emits { (v : Bool) → OnOk result (Emits out.old.items out.new.items
+        (emitted_at y.now v kept.old (plain.Compare op (view left.now) (view right.now)) at)) }
     ensures kept { OnOk result (kept.new ≡ kept.old) }
 {
     let first = expression(y, kept, out, false, left, at)?;
@@ -228,15 +241,18 @@ fn comparison(
 /// Adds code that stores a text, which is kept, and lets go of what is left of it; in a list of its own, from within one label more.
 #[cycle(expressions)]
 fn stored(
-    y: &Layout<'_>,
+    y: &FunctionLayout<'_>,
     kept: &mut Kept,
     primitive: Primitive,
     store: &Code,
     at: At,
 ) -> Result<Vec<Instr>, AllocError>
-    requires fit { Fits (view_layout y.now) (view store.now) (suc (suc at.temporary)) at.arrays (suc at.exit) }
+    requires fit { Fits (view_layout y.now) (view store.now) (suc (suc at.temporary)) at.arrays
+        (suc at.exit) }
     requires within { Within at.temporary at.arrays at.exit }
-    ensures emits { IfOk result (λ v. Emits [] v.items (stored_with (view_layout y.now) kept.old.forms kept.old.temporaries primitive (view store.now) at.temporary at.arrays at.exit)) }
+    ensures emits { IfOk result
+        (λ v. Emits [] v.items (stored_with (view_layout y.now) kept.old.forms kept.old.temporaries
+        primitive (view store.now) at.temporary at.arrays at.exit)) }
     ensures kept { OnOk result (kept.new ≡ kept.old) }
 {
     let mut code = Vec::new(y.alloc);
@@ -254,15 +270,17 @@ fn stored(
 /// Adds the reading of a record into a variable.
 #[cycle(expressions)]
 fn line_into(
-    y: &Layout<'_>,
+    y: &FunctionLayout<'_>,
     kept: &mut Kept,
     out: &mut Vec<Instr>,
     store: &Code,
     at: At,
 ) -> Result<Form, AllocError>
-    requires { Fits (view_layout y.now) (plain.AskLine (view store.now)) at.temporary at.arrays at.exit }
-    ensures form { IfOk result (λ form. view_form form ≡ form_of kept.old.forms (plain.AskLine (view store.now))) }
-    ensures emits { (v : Bool) → OnOk result (Emits out.old.items out.new.items (emitted (view_layout y.now) v kept.old.forms kept.old.temporaries (plain.AskLine (view store.now)) at.temporary at.arrays at.exit)) }
+    requires { FitsAt y.now (plain.AskLine (view store.now)) at }
+    ensures form { IfOk result
+        (λ form. view_form form ≡ form_of kept.old.forms (plain.AskLine (view store.now))) }
+    ensures emits { (v : Bool) → OnOk result (Emits out.old.items out.new.items
+        (emitted_at y.now v kept.old (plain.AskLine (view store.now)) at)) }
     ensures kept { OnOk result (kept.new ≡ kept.old) }
 {
     asked(y, out, Primitive::GetlineVar, at.temporary, at.exit)?;
@@ -275,16 +293,18 @@ fn line_into(
 /// Adds the reading of a record of a file.
 #[cycle(expressions)]
 fn file_line(
-    y: &Layout<'_>,
+    y: &FunctionLayout<'_>,
     kept: &mut Kept,
     out: &mut Vec<Instr>,
     file: &Code,
     store: &Code,
     at: At,
 ) -> Result<Form, AllocError>
-    requires { Fits (view_layout y.now) (plain.FileLine (view file.now) (view store.now)) at.temporary at.arrays at.exit }
-    ensures form { IfOk result (λ form. view_form form ≡ form_of kept.old.forms (plain.FileLine (view file.now) (view store.now))) }
-    ensures emits { (v : Bool) → OnOk result (Emits out.old.items out.new.items (emitted (view_layout y.now) v kept.old.forms kept.old.temporaries (plain.FileLine (view file.now) (view store.now)) at.temporary at.arrays at.exit)) }
+    requires { FitsAt y.now (plain.FileLine (view file.now) (view store.now)) at }
+    ensures form { IfOk result (λ form. view_form form
+        ≡ form_of kept.old.forms (plain.FileLine (view file.now) (view store.now))) }
+    ensures emits { (v : Bool) → OnOk result (Emits out.old.items out.new.items
+        (emitted_at y.now v kept.old (plain.FileLine (view file.now) (view store.now)) at)) }
     ensures kept { OnOk result (kept.new ≡ kept.old) }
 {
     let form = expression(y, kept, out, false, file, at)?;
@@ -298,7 +318,7 @@ fn file_line(
 /// Adds a replacement.
 #[cycle(expressions)]
 fn replacement(
-    y: &Layout<'_>,
+    y: &FunctionLayout<'_>,
     kept: &mut Kept,
     out: &mut Vec<Instr>,
     all: bool,
@@ -306,9 +326,11 @@ fn replacement(
     store: &Code,
     at: At,
 ) -> Result<Form, AllocError>
-    requires { Fits (view_layout y.now) (plain.Replace all (views es.now) (view store.now)) at.temporary at.arrays at.exit }
-    ensures form { IfOk result (λ form. view_form form ≡ form_of kept.old.forms (plain.Replace all (views es.now) (view store.now))) }
-    ensures emits { (v : Bool) → OnOk result (Emits out.old.items out.new.items (emitted (view_layout y.now) v kept.old.forms kept.old.temporaries (plain.Replace all (views es.now) (view store.now)) at.temporary at.arrays at.exit)) }
+    requires { FitsAt y.now (plain.Replace all (views es.now) (view store.now)) at }
+    ensures form { IfOk result (λ form. view_form form
+        ≡ form_of kept.old.forms (plain.Replace all (views es.now) (view store.now))) }
+    ensures emits { (v : Bool) → OnOk result (Emits out.old.items out.new.items
+        (emitted_at y.now v kept.old (plain.Replace all (views es.now) (view store.now)) at)) }
     ensures kept { OnOk result (kept.new ≡ kept.old) }
 {
     let mut forms = Vec::new(y.alloc);
@@ -323,7 +345,7 @@ fn replacement(
 /// Adds an assignment.
 #[cycle(expressions)]
 fn assignment(
-    y: &Layout<'_>,
+    y: &FunctionLayout<'_>,
     kept: &mut Kept,
     out: &mut Vec<Instr>,
     only: bool,
@@ -331,9 +353,11 @@ fn assignment(
     value: &Code,
     at: At,
 ) -> Result<Form, AllocError>
-    requires { Fits (view_layout y.now) (plain.Set (view_slot slot) (view value.now)) at.temporary at.arrays at.exit }
-    ensures form { IfOk result (λ form. view_form form ≡ form_of kept.old.forms (plain.Set (view_slot slot) (view value.now))) }
-    ensures emits { OnOk result (Emits out.old.items out.new.items (emitted (view_layout y.now) only kept.old.forms kept.old.temporaries (plain.Set (view_slot slot) (view value.now)) at.temporary at.arrays at.exit)) }
+    requires { FitsAt y.now (plain.Set (view_slot slot) (view value.now)) at }
+    ensures form { IfOk result (λ form. view_form form
+        ≡ form_of kept.old.forms (plain.Set (view_slot slot) (view value.now))) }
+    ensures emits { OnOk result (Emits out.old.items out.new.items
+        (emitted_at y.now only kept.old (plain.Set (view_slot slot) (view value.now)) at)) }
     ensures kept { OnOk result (kept.new ≡ kept.old) }
 {
     let form = expression(y, kept, out, false, value, at)?;
@@ -344,7 +368,7 @@ fn assignment(
 /// The code of one of two ways, as the sort that is wanted; in a list of its own, from within one label more.
 #[cycle(expressions)]
 fn branch(
-    y: &Layout<'_>,
+    y: &FunctionLayout<'_>,
     kept: &mut Kept,
     sort: Sort,
     code: &Code,
@@ -352,7 +376,8 @@ fn branch(
 ) -> Result<Vec<Instr>, AllocError>
     requires fit { Fits (view_layout y.now) (view code.now) at.temporary at.arrays (suc at.exit) }
     requires within { Within at.temporary at.arrays at.exit }
-    ensures emits { IfOk result (λ v. Emits [] v.items (branch_with (view_layout y.now) kept.old.forms kept.old.temporaries sort (view code.now) at.temporary at.arrays at.exit)) }
+    ensures emits { IfOk result (λ v. Emits [] v.items (branch_with (view_layout y.now)
+        kept.old.forms kept.old.temporaries sort (view code.now) at.temporary at.arrays at.exit)) }
     ensures kept { OnOk result (kept.new ≡ kept.old) }
 {
     let mut list = Vec::new(y.alloc);
@@ -373,7 +398,7 @@ fn branch(
 /// Adds a choice of two.
 #[cycle(expressions)]
 fn choice(
-    y: &Layout<'_>,
+    y: &FunctionLayout<'_>,
     kept: &mut Kept,
     out: &mut Vec<Instr>,
     sort: Sort,
@@ -382,9 +407,11 @@ fn choice(
     no: &Code,
     at: At,
 ) -> Result<Form, AllocError>
-    requires { Fits (view_layout y.now) (plain.Choose sort (view test.now) (view yes.now) (view no.now)) at.temporary at.arrays at.exit }
-    ensures form { IfOk result (λ form. view_form form ≡ form_of kept.old.forms (plain.Choose sort (view test.now) (view yes.now) (view no.now))) }
-    ensures emits { (v : Bool) → OnOk result (Emits out.old.items out.new.items (emitted (view_layout y.now) v kept.old.forms kept.old.temporaries (plain.Choose sort (view test.now) (view yes.now) (view no.now)) at.temporary at.arrays at.exit)) }
+    requires { FitsAt y.now (plain.Choose sort (view test.now) (view yes.now) (view no.now)) at }
+    ensures form { IfOk result (λ form. view_form form
+        ≡ form_of kept.old.forms (plain.Choose sort (view test.now) (view yes.now) (view no.now))) }
+    ensures emits { (v : Bool) → OnOk result (Emits out.old.items out.new.items (emitted_at y.now v
+        kept.old (plain.Choose sort (view test.now) (view yes.now) (view no.now)) at)) }
     ensures kept { OnOk result (kept.new ≡ kept.old) }
 {
     let form = expression(y, kept, out, false, test, at)?;
@@ -398,7 +425,7 @@ fn choice(
 /// Adds one expression after another, whose answer is dropped.
 #[cycle(expressions)]
 fn sequence(
-    y: &Layout<'_>,
+    y: &FunctionLayout<'_>,
     kept: &mut Kept,
     out: &mut Vec<Instr>,
     only: bool,
@@ -406,9 +433,11 @@ fn sequence(
     second: &Code,
     at: At,
 ) -> Result<Form, AllocError>
-    requires { Fits (view_layout y.now) (plain.Seq (view first.now) (view second.now)) at.temporary at.arrays at.exit }
-    ensures form { IfOk result (λ form. view_form form ≡ form_of kept.old.forms (plain.Seq (view first.now) (view second.now))) }
-    ensures emits { OnOk result (Emits out.old.items out.new.items (emitted (view_layout y.now) only kept.old.forms kept.old.temporaries (plain.Seq (view first.now) (view second.now)) at.temporary at.arrays at.exit)) }
+    requires { FitsAt y.now (plain.Seq (view first.now) (view second.now)) at }
+    ensures form { IfOk result (λ form. view_form form
+        ≡ form_of kept.old.forms (plain.Seq (view first.now) (view second.now))) }
+    ensures emits { OnOk result (Emits out.old.items out.new.items
+        (emitted_at y.now only kept.old (plain.Seq (view first.now) (view second.now)) at)) }
     ensures kept { OnOk result (kept.new ≡ kept.old) }
 {
     let form = expression(y, kept, out, true, first, at)?;
@@ -421,7 +450,7 @@ fn sequence(
 /// Adds an expression whose answer is kept while another one is evaluated.
 #[cycle(expressions)]
 fn keeping(
-    y: &Layout<'_>,
+    y: &FunctionLayout<'_>,
     kept: &mut Kept,
     out: &mut Vec<Instr>,
     only: bool,
@@ -429,9 +458,11 @@ fn keeping(
     rest: &Code,
     at: At,
 ) -> Result<Form, AllocError>
-    requires { Fits (view_layout y.now) (plain.Let (view value.now) (view rest.now)) at.temporary at.arrays at.exit }
-    ensures form { IfOk result (λ form. view_form form ≡ form_of kept.old.forms (plain.Let (view value.now) (view rest.now))) }
-    ensures emits { OnOk result (Emits out.old.items out.new.items (emitted (view_layout y.now) only kept.old.forms kept.old.temporaries (plain.Let (view value.now) (view rest.now)) at.temporary at.arrays at.exit)) }
+    requires { FitsAt y.now (plain.Let (view value.now) (view rest.now)) at }
+    ensures form { IfOk result (λ form. view_form form
+        ≡ form_of kept.old.forms (plain.Let (view value.now) (view rest.now))) }
+    ensures emits { OnOk result (Emits out.old.items out.new.items
+        (emitted_at y.now only kept.old (plain.Let (view value.now) (view rest.now)) at)) }
     ensures kept { OnOk result (kept.new ≡ kept.old) }
 {
     let held = expression(y, kept, out, false, value, at)?;

@@ -8,7 +8,7 @@ ghost use Rattle.lower_pieces.specs.Emits.{Emits};
 ghost use Rattle.lower_pieces.specs.Forms.{view_form};
 ghost use Rattle.lower_expressions.specs.View.{view_layout};
 
-use crate::layout::Layout;
+use crate::function_layout::FunctionLayout;
 use lower_pieces::{Form, ask_row, does};
 use mid_program::{Code, Operand, Operation};
 use sem_primitives::{Answer, Primitive, Sort};
@@ -75,14 +75,15 @@ pub(crate) fn field_in(operation: Operation, operands: &[Operand]) -> Option<i64
 
 /// Adds the reading of such a field, which cannot fail.
 pub(crate) fn field_read(
-    y: &Layout<'_>,
+    y: &FunctionLayout<'_>,
     out: &mut Vec<Instr>,
     number: i64,
     t: u32,
 ) -> Result<Form, AllocError>
     requires { t ≤ most_places }
     ensures form { IfOk result (λ form. view_form form ≡ a_value) }
-    ensures emits { OnOk result (Emits out.old.items out.new.items (field_read (view_layout y.now) number t)) }
+    ensures emits { OnOk result
+        (Emits out.old.items out.new.items (field_read (view_layout y.now) number t)) }
 {
     does(out, Simple::I64Const(number.cast_unsigned()))?;
     ask_row(out, Primitive::Field)?;

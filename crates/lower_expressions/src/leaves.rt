@@ -15,8 +15,8 @@ ghost use Rattle.lower_expressions.specs.Fits.{SlotFits, Within};
 ghost use Rattle.lower_expressions.specs.View.{view_layout};
 
 use crate::at::At;
+use crate::function_layout::FunctionLayout;
 use crate::kept::Kept;
-use crate::layout::Layout;
 use crate::pending::asked;
 use crate::places::text_pushed;
 use crate::slots::{slot_form, slot_read};
@@ -27,10 +27,11 @@ use std::alloc::AllocError;
 use wasm_types::{CvtOp, Instr, Simple};
 
 /// Adds the reading of a record of the main input.
-pub(crate) fn line(y: &Layout<'_>, out: &mut Vec<Instr>, at: At) -> Result<Form, AllocError>
+pub(crate) fn line(y: &FunctionLayout<'_>, out: &mut Vec<Instr>, at: At) -> Result<Form, AllocError>
     requires { Within at.temporary at.arrays at.exit }
     ensures form { IfOk result (λ form. view_form form ≡ a_number) }
-    ensures emits { OnOk result (Emits out.old.items out.new.items (λ k. asked (view_layout y.now) Getline at.temporary at.exit (code_number y.now.bases.now at.temporary k))) }
+    ensures emits { OnOk result (Emits out.old.items out.new.items (λ k. asked (view_layout y.now)
+        Getline at.temporary at.exit (code_number y.now.bases.now at.temporary k))) }
 {
     asked(y, out, Primitive::Getline, at.temporary, at.exit)?;
     code_number(y.bases, out, at.temporary)?;
@@ -39,14 +40,15 @@ pub(crate) fn line(y: &Layout<'_>, out: &mut Vec<Instr>, at: At) -> Result<Form,
 
 /// Adds a number, by its bits.
 pub(crate) fn constant(
-    y: &Layout<'_>,
+    y: &FunctionLayout<'_>,
     out: &mut Vec<Instr>,
     bits: u64,
     at: At,
 ) -> Result<Form, AllocError>
     requires { Within at.temporary at.arrays at.exit }
     ensures form { IfOk result (λ form. view_form form ≡ a_number) }
-    ensures emits { OnOk result (Emits out.old.items out.new.items (λ k. does (I64Const bits) (does (LocalSet (n y.now.bases.now at.temporary)) k))) }
+    ensures emits { OnOk result (Emits out.old.items out.new.items
+        (λ k. does (I64Const bits) (does (LocalSet (n y.now.bases.now at.temporary)) k))) }
 {
     let put = Simple::LocalSet(y.bases.number(at.temporary));
     does_all(out, &[Simple::I64Const(bits), put])?;
@@ -55,7 +57,7 @@ pub(crate) fn constant(
 
 /// Adds a text of the script.
 pub(crate) fn text(
-    y: &Layout<'_>,
+    y: &FunctionLayout<'_>,
     out: &mut Vec<Instr>,
     place: usize,
     at: At,
@@ -63,7 +65,8 @@ pub(crate) fn text(
     requires within { Within at.temporary at.arrays at.exit }
     requires there { place < length (view_layout y.now).texts }
     ensures form { IfOk result (λ form. view_form form ≡ a_value) }
-    ensures emits { OnOk result (Emits out.old.items out.new.items (λ k. text_pushed (view_layout y.now) place (ask_row Lit (does (LocalSet (h y.now.bases.now at.temporary)) k)))) }
+    ensures emits { OnOk result (Emits out.old.items out.new.items (λ k. text_pushed (view_layout
+        y.now) place (ask_row Lit (does (LocalSet (h y.now.bases.now at.temporary)) k)))) }
 {
     text_pushed(y, out, place)?;
     ask_row(out, Primitive::Lit)?;
@@ -72,10 +75,15 @@ pub(crate) fn text(
 }
 
 /// Adds what a parameter is without an argument.
-pub(crate) fn unset(y: &Layout<'_>, out: &mut Vec<Instr>, at: At) -> Result<Form, AllocError>
+pub(crate) fn unset(
+    y: &FunctionLayout<'_>,
+    out: &mut Vec<Instr>,
+    at: At,
+) -> Result<Form, AllocError>
     requires { Within at.temporary at.arrays at.exit }
     ensures form { IfOk result (λ form. view_form form ≡ Perhaps) }
-    ensures emits { OnOk result (Emits out.old.items out.new.items (λ k. does (I64Const least) (does (LocalSet (n y.now.bases.now at.temporary)) k))) }
+    ensures emits { OnOk result (Emits out.old.items out.new.items
+        (λ k. does (I64Const least) (does (LocalSet (n y.now.bases.now at.temporary)) k))) }
 {
     let put = Simple::LocalSet(y.bases.number(at.temporary));
     does_all(out, &[Simple::I64Const(LEAST), put])?;
@@ -84,7 +92,7 @@ pub(crate) fn unset(y: &Layout<'_>, out: &mut Vec<Instr>, at: At) -> Result<Form
 
 /// Adds the reading of a scalar.
 pub(crate) fn variable(
-    y: &Layout<'_>,
+    y: &FunctionLayout<'_>,
     out: &mut Vec<Instr>,
     slot: Slot,
     at: At,
@@ -92,7 +100,8 @@ pub(crate) fn variable(
     requires within { Within at.temporary at.arrays at.exit }
     requires slot { SlotFits (view_slot slot) }
     ensures form { IfOk result (λ form. view_form form ≡ slot_form (view_slot slot)) }
-    ensures emits { OnOk result (Emits out.old.items out.new.items (slot_read (view_layout y.now) (view_slot slot) at.temporary)) }
+    ensures emits { OnOk result (Emits out.old.items out.new.items
+        (slot_read (view_layout y.now) (view_slot slot) at.temporary)) }
 {
     slot_read(y, out, slot, at.temporary)?;
     Ok(slot_form(slot))
@@ -100,7 +109,7 @@ pub(crate) fn variable(
 
 /// Adds whether the range of an item is open.
 pub(crate) fn is_open(
-    y: &Layout<'_>,
+    y: &FunctionLayout<'_>,
     out: &mut Vec<Instr>,
     item: usize,
     at: At,
@@ -108,7 +117,9 @@ pub(crate) fn is_open(
     requires within { Within at.temporary at.arrays at.exit }
     requires few { item ≤ most_places }
     ensures form { IfOk result (λ form. view_form form ≡ Answered Answer.Truth) }
-    ensures emits { OnOk result (Emits out.old.items out.new.items (λ k. does (GlobalGet (range_global item)) (does (Convert I64ExtendI32U) (does (LocalSet (n y.now.bases.now at.temporary)) k)))) }
+    ensures emits { OnOk result
+        (Emits out.old.items out.new.items (λ k. does (GlobalGet (range_global item))
+        (does (Convert I64ExtendI32U) (does (LocalSet (n y.now.bases.now at.temporary)) k)))) }
 {
     let all = [
         Simple::GlobalGet(item as u32 + 2),
@@ -121,7 +132,7 @@ pub(crate) fn is_open(
 
 /// Adds what was kept. Where `only` what is done counts, that is nothing.
 pub(crate) fn bound(
-    y: &Layout<'_>,
+    y: &FunctionLayout<'_>,
     kept: &Kept,
     out: &mut Vec<Instr>,
     only: bool,
@@ -131,7 +142,9 @@ pub(crate) fn bound(
 ) -> Result<Form, AllocError>
     requires { Within at.temporary at.arrays at.exit }
     ensures form { IfOk result (λ form. view_form form ≡ form_at kept.now.forms after) }
-    ensures emits { OnOk result (Emits out.old.items out.new.items (bound_read (view_layout y.now) only moves (form_at kept.now.forms after) (get_or kept.now.temporaries after 0) at.temporary)) }
+    ensures emits { OnOk result
+        (Emits out.old.items out.new.items (bound_read (view_layout y.now) only moves
+        (form_at kept.now.forms after) (get_or kept.now.temporaries after 0) at.temporary)) }
 {
     let entry = kept.at(after);
     if only {

@@ -8,9 +8,9 @@ ghost use Rattle.lower_pieces.specs.Forms.{view_form};
 ghost use Rattle.lower_expressions.specs.Parts.{listed_with};
 ghost use Rattle.lower_expressions.specs.View.{view_layout};
 
-use crate::layout::Layout;
+use crate::function_layout::FunctionLayout;
 use crate::walks::{all_appended, all_boxed};
-use lower_model::{Import, Listing};
+use host_imports::{Import, Listing};
 use lower_pieces::{Form, ask, does, does_all, kept, kept_value};
 use sem_primitives::{Answer, Destination, Listed};
 use std::alloc::AllocError;
@@ -38,7 +38,7 @@ fn values_counted(to: Destination, count: u32) -> u32
 
 /// Asks the host for what takes a list of values.
 fn listed_asked(
-    y: &Layout<'_>,
+    y: &FunctionLayout<'_>,
     out: &mut Vec<Instr>,
     listed: Listed,
     count: u32,
@@ -46,7 +46,8 @@ fn listed_asked(
     exit: u32,
 ) -> Result<(), AllocError>
     requires { t ≤ most_places }
-    ensures { OnOk result (Emits out.old.items out.new.items (listed_asked (view_layout y.now) listed count t exit)) }
+    ensures { OnOk result
+        (Emits out.old.items out.new.items (listed_asked (view_layout y.now) listed count t exit)) }
 {
     let (listing, to) = match listed {
         Listed::Sprintf => {
@@ -65,7 +66,7 @@ fn listed_asked(
 
 /// Adds what takes a list of values that are evaluated.
 pub(crate) fn listed(
-    y: &Layout<'_>,
+    y: &FunctionLayout<'_>,
     out: &mut Vec<Instr>,
     forms: &[Form],
     listed: Listed,
@@ -73,7 +74,8 @@ pub(crate) fn listed(
     exit: u32,
 ) -> Result<(), AllocError>
     requires { t + length forms.now ≤ most_places }
-    ensures { OnOk result (Emits out.old.items out.new.items (listed_with (view_layout y.now) (map view_form forms.now) listed t exit)) }
+    ensures { OnOk result (Emits out.old.items out.new.items
+        (listed_with (view_layout y.now) (map view_form forms.now) listed t exit)) }
 {
     all_boxed(y.alloc, y.bases, out, forms, t)?;
     all_appended(y.bases, out, forms, t)?;

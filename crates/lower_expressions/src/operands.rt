@@ -11,7 +11,7 @@ ghost use Rattle.lower_expressions.specs.Fits.{ArrayFits, ArraysFit};
 ghost use Rattle.lower_expressions.specs.Parts.{all_joined, host_performed, joined_with, operated};
 ghost use Rattle.lower_expressions.specs.View.{view_layout};
 
-use crate::layout::Layout;
+use crate::function_layout::FunctionLayout;
 use crate::places::array_pushed;
 use crate::walks::all_converted;
 use lower_pieces::{Form, ask_row, calculated, does, field_checked, kept, moved_out};
@@ -60,7 +60,7 @@ fn arguments(operation: Operation) -> &'static [Argument]
 
 /// Puts an operand on the stack.
 fn one_pushed(
-    y: &Layout<'_>,
+    y: &FunctionLayout<'_>,
     out: &mut Vec<Instr>,
     wanted: Argument,
     code: &Code,
@@ -68,7 +68,8 @@ fn one_pushed(
 ) -> Result<(), AllocError>
     requires places { t ≤ most_places }
     requires array { ArrayFits (array_meant (view code.now)) }
-    ensures { OnOk result (Emits out.old.items out.new.items (one_pushed (view_layout y.now) wanted (view code.now) t)) }
+    ensures { OnOk result (Emits out.old.items out.new.items
+        (one_pushed (view_layout y.now) wanted (view code.now) t)) }
 {
     match wanted {
         Argument::Of(Sort::Value) => moved_out(out, y.bases.handle(t)),
@@ -80,7 +81,7 @@ fn one_pushed(
 
 /// Puts operands on the stack.
 pub(crate) fn all_pushed(
-    y: &Layout<'_>,
+    y: &FunctionLayout<'_>,
     out: &mut Vec<Instr>,
     wanted: &[Argument],
     operands: &[Operand],
@@ -88,7 +89,8 @@ pub(crate) fn all_pushed(
 ) -> Result<(), AllocError>
     requires places { t + count_of (views operands.now) ≤ most_places }
     requires arrays { ArraysFit (views operands.now) }
-    ensures { OnOk result (Emits out.old.items out.new.items (all_pushed (view_layout y.now) wanted.now (views operands.now) t)) }
+    ensures { OnOk result (Emits out.old.items out.new.items
+        (all_pushed (view_layout y.now) wanted.now (views operands.now) t)) }
 {
     let Some((operand, operands)) = operands.split_first() else {
         return Ok(());
@@ -111,7 +113,7 @@ pub(crate) fn all_pushed(
 
 /// Asks the host for an operation on operands.
 fn host_performed(
-    y: &Layout<'_>,
+    y: &FunctionLayout<'_>,
     out: &mut Vec<Instr>,
     primitive: Primitive,
     operands: &[Operand],
@@ -120,7 +122,8 @@ fn host_performed(
 ) -> Result<(), AllocError>
     requires places { suc (suc t) + count_of (views operands.now) ≤ most_places }
     requires arrays { ArraysFit (views operands.now) }
-    ensures { OnOk result (Emits out.old.items out.new.items (host_performed (view_layout y.now) primitive (views operands.now) t exit)) }
+    ensures { OnOk result (Emits out.old.items out.new.items
+        (host_performed (view_layout y.now) primitive (views operands.now) t exit)) }
 {
     all_pushed(y, out, primitive.arguments(), operands, t)?;
     ask_row(out, primitive)?;
@@ -136,7 +139,7 @@ fn host_performed(
 
 /// Adds an operation on operands that are converted.
 fn performed(
-    y: &Layout<'_>,
+    y: &FunctionLayout<'_>,
     out: &mut Vec<Instr>,
     operation: Operation,
     operands: &[Operand],
@@ -146,7 +149,8 @@ fn performed(
     requires places { suc (suc t) + count_of (views operands.now) ≤ most_places }
     requires labels { exit ≤ most_labels }
     requires arrays { ArraysFit (views operands.now) }
-    ensures { OnOk result (Emits out.old.items out.new.items (performed (view_layout y.now) operation (views operands.now) t exit)) }
+    ensures { OnOk result (Emits out.old.items out.new.items
+        (performed (view_layout y.now) operation (views operands.now) t exit)) }
 {
     match operation {
         Operation::Host(primitive) => host_performed(y, out, primitive, operands, t, exit),
@@ -158,7 +162,7 @@ fn performed(
 
 /// Adds an operation on operands that are evaluated.
 pub(crate) fn operated(
-    y: &Layout<'_>,
+    y: &FunctionLayout<'_>,
     out: &mut Vec<Instr>,
     forms: &[Form],
     operation: Operation,
@@ -169,7 +173,8 @@ pub(crate) fn operated(
     requires places { suc (suc t) + count_of (views operands.now) ≤ most_places }
     requires labels { exit ≤ most_labels }
     requires arrays { ArraysFit (views operands.now) }
-    ensures { OnOk result (Emits out.old.items out.new.items (operated (view_layout y.now) (map view_form forms.now) operation (views operands.now) t exit)) }
+    ensures { OnOk result (Emits out.old.items out.new.items (operated (view_layout y.now)
+        (map view_form forms.now) operation (views operands.now) t exit)) }
 {
     let wanted = arguments(operation);
     all_converted(y.alloc, y.bases, out, forms, wanted, operands, t, exit)?;
@@ -190,7 +195,7 @@ pub(crate) fn operation_form(operation: Operation) -> Form
 
 /// Joins two subscripts that are evaluated.
 fn joined(
-    y: &Layout<'_>,
+    y: &FunctionLayout<'_>,
     out: &mut Vec<Instr>,
     first: Form,
     second: Form,
@@ -199,7 +204,8 @@ fn joined(
 ) -> Result<(), AllocError>
     requires places { suc (suc (suc (suc t))) ≤ most_places }
     requires labels { exit ≤ most_labels }
-    ensures { OnOk result (Emits out.old.items out.new.items (joined_with (view_layout y.now) (view_form first) (view_form second) t exit)) }
+    ensures { OnOk result (Emits out.old.items out.new.items
+        (joined_with (view_layout y.now) (view_form first) (view_form second) t exit)) }
 {
     let values = [Operand::Code(Code::Unset), Operand::Code(Code::Unset)];
     let join = Operation::Host(Primitive::Join);
@@ -208,7 +214,7 @@ fn joined(
 
 /// Joins subscripts that are evaluated: the last one, whose form stands apart, to the one before it, and so on.
 pub(crate) fn all_joined(
-    y: &Layout<'_>,
+    y: &FunctionLayout<'_>,
     out: &mut Vec<Instr>,
     forms: &[Form],
     last: Form,
@@ -217,7 +223,8 @@ pub(crate) fn all_joined(
 ) -> Result<(), AllocError>
     requires places { suc (suc (suc t)) + length forms.now ≤ most_places }
     requires labels { exit ≤ most_labels }
-    ensures { OnOk result (Emits out.old.items out.new.items (all_joined (view_layout y.now) (map view_form forms.now) (view_form last) t exit)) }
+    ensures { OnOk result (Emits out.old.items out.new.items
+        (all_joined (view_layout y.now) (map view_form forms.now) (view_form last) t exit)) }
 {
     let mut second = last;
     let mut left = forms;

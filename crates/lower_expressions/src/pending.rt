@@ -10,10 +10,10 @@ ghost use Rattle.lower_pieces.specs.Emits.{Emits};
 ghost use Rattle.lower_expressions.specs.Parts.{asked_once, number_assigned, one_asked, one_assigned};
 ghost use Rattle.lower_expressions.specs.View.{view_layout};
 
-use crate::layout::Layout;
+use crate::function_layout::FunctionLayout;
 use crate::places::{global_handle, global_number};
 use crate::slots::text_dropped;
-use lower_model::Import;
+use host_imports::Import;
 use lower_pieces::{
     Bases, TEXT_BESIDE, again, ask, ask_row, does, does_all, kept_code, moved_out, number_is, when,
 };
@@ -24,14 +24,15 @@ use wasm_types::{CvtOp, Instr, Simple};
 
 /// Gives a boxed name the value of a temporary.
 fn boxed_assigned(
-    y: &Layout<'_>,
+    y: &FunctionLayout<'_>,
     out: &mut Vec<Instr>,
     name: usize,
     t: u32,
 ) -> Result<(), AllocError>
     requires name { name ≤ most_places }
     requires places { t ≤ most_places }
-    ensures { OnOk result (Emits out.old.items out.new.items (assigned (view_layout y.now) Boxed name t)) }
+    ensures { OnOk result
+        (Emits out.old.items out.new.items (assigned (view_layout y.now) Boxed name t)) }
 {
     let global = global_handle(y, name);
     does(out, Simple::GlobalGet(global))?;
@@ -42,14 +43,15 @@ fn boxed_assigned(
 
 /// Gives an unboxed name the text of a temporary.
 fn text_assigned(
-    y: &Layout<'_>,
+    y: &FunctionLayout<'_>,
     out: &mut Vec<Instr>,
     name: usize,
     t: u32,
 ) -> Result<(), AllocError>
     requires name { name ≤ most_places }
     requires places { t ≤ most_places }
-    ensures { OnOk result (Emits out.old.items out.new.items (assigned (view_layout y.now) Unboxed name t)) }
+    ensures { OnOk result
+        (Emits out.old.items out.new.items (assigned (view_layout y.now) Unboxed name t)) }
 {
     text_dropped(y, out, name)?;
     moved_out(out, y.bases.handle(t))?;
@@ -62,10 +64,16 @@ fn text_assigned(
 }
 
 /// What gives a name the value of a temporary.
-fn assigned_code(y: &Layout<'_>, kind: Kind, name: usize, t: u32) -> Result<Vec<Instr>, AllocError>
+fn assigned_code(
+    y: &FunctionLayout<'_>,
+    kind: Kind,
+    name: usize,
+    t: u32,
+) -> Result<Vec<Instr>, AllocError>
     requires name { name ≤ most_places }
     requires places { suc t ≤ most_places }
-    ensures { IfOk result (λ v. Emits [] v.items (assigned (view_layout y.now) (view_kind kind) name t)) }
+    ensures { IfOk result
+        (λ v. Emits [] v.items (assigned (view_layout y.now) (view_kind kind) name t)) }
 {
     let mut code = Vec::new(y.alloc);
     match kind {
@@ -78,7 +86,7 @@ fn assigned_code(y: &Layout<'_>, kind: Kind, name: usize, t: u32) -> Result<Vec<
 
 /// Gives a scalar the value of a temporary, where its number is the one there.
 fn number_assigned(
-    y: &Layout<'_>,
+    y: &FunctionLayout<'_>,
     out: &mut Vec<Instr>,
     kind: Kind,
     name: usize,
@@ -86,7 +94,8 @@ fn number_assigned(
 ) -> Result<(), AllocError>
     requires name { name ≤ most_places }
     requires places { suc t ≤ most_places }
-    ensures { OnOk result (Emits out.old.items out.new.items (number_assigned (view_layout y.now) (view_kind kind) name t)) }
+    ensures { OnOk result (Emits out.old.items out.new.items
+        (number_assigned (view_layout y.now) (view_kind kind) name t)) }
 {
     number_is(out, y.bases.number(t), name as u64)?;
     when(y.alloc, out, assigned_code(y, kind, name, t)?)
@@ -94,7 +103,7 @@ fn number_assigned(
 
 /// Gives a name the value of a temporary, where its number is the one there.
 fn one_assigned(
-    y: &Layout<'_>,
+    y: &FunctionLayout<'_>,
     out: &mut Vec<Instr>,
     kind: Kind,
     name: usize,
@@ -102,7 +111,8 @@ fn one_assigned(
 ) -> Result<(), AllocError>
     requires name { name ≤ most_places }
     requires places { suc t ≤ most_places }
-    ensures { OnOk result (Emits out.old.items out.new.items (one_assigned (view_layout y.now) (view_kind kind) name t)) }
+    ensures { OnOk result (Emits out.old.items out.new.items
+        (one_assigned (view_layout y.now) (view_kind kind) name t)) }
 {
     match kind {
         Kind::Boxed | Kind::Unboxed => number_assigned(y, out, kind, name, t),
@@ -111,12 +121,17 @@ fn one_assigned(
 }
 
 /// Gives the name that has the number in a temporary the value there.
-fn assigned_by_number(y: &Layout<'_>, out: &mut Vec<Instr>, t: u32) -> Result<(), AllocError>
+fn assigned_by_number(
+    y: &FunctionLayout<'_>,
+    out: &mut Vec<Instr>,
+    t: u32,
+) -> Result<(), AllocError>
     requires { suc t ≤ most_places }
-    ensures { OnOk result (Emits out.old.items out.new.items (assigned_by_number (view_layout y.now) (view_layout y.now).names zero t)) }
+    ensures { OnOk result (Emits out.old.items out.new.items
+        (assigned_by_number (view_layout y.now) (view_layout y.now).names zero t)) }
 {
     let mut name = 0;
-    for declared in y.tables.names() {
+    for declared in y.script.names() {
         one_assigned(y, out, declared.kind, name, t)?;
         name += 1;
     }
@@ -124,9 +139,14 @@ fn assigned_by_number(y: &Layout<'_>, out: &mut Vec<Instr>, t: u32) -> Result<()
 }
 
 /// Makes an assignment of the command line, whose number and value go to a temporary.
-pub fn pending_assigned(y: &Layout<'_>, out: &mut Vec<Instr>, t: u32) -> Result<(), AllocError>
+pub fn pending_assigned(
+    y: &FunctionLayout<'_>,
+    out: &mut Vec<Instr>,
+    t: u32,
+) -> Result<(), AllocError>
     requires { suc t ≤ most_places }
-    ensures { OnOk result (Emits out.old.items out.new.items (pending_assigned (view_layout y.now) t)) }
+    ensures { OnOk result
+        (Emits out.old.items out.new.items (pending_assigned (view_layout y.now) t)) }
 {
     ask_row(out, Primitive::PendingName)?;
     let number = Simple::LocalSet(y.bases.number(t));
@@ -137,9 +157,10 @@ pub fn pending_assigned(y: &Layout<'_>, out: &mut Vec<Instr>, t: u32) -> Result<
 }
 
 /// What makes an assignment and begins again.
-pub fn pending_code(y: &Layout<'_>, t: u32) -> Result<Vec<Instr>, AllocError>
+pub fn pending_code(y: &FunctionLayout<'_>, t: u32) -> Result<Vec<Instr>, AllocError>
     requires { suc t ≤ most_places }
-    ensures { IfOk result (λ v. Emits [] v.items (λ k. pending_assigned (view_layout y.now) t (does (Br 1) k))) }
+    ensures { IfOk result
+        (λ v. Emits [] v.items (λ k. pending_assigned (view_layout y.now) t (does (Br 1) k))) }
 {
     let mut code = Vec::new(y.alloc);
     pending_assigned(y, &mut code, t)?;
@@ -166,7 +187,7 @@ fn asked_once(
 
 /// Adds one turn of asking.
 fn one_turn(
-    y: &Layout<'_>,
+    y: &FunctionLayout<'_>,
     out: &mut Vec<Instr>,
     primitive: Primitive,
     t: u32,
@@ -174,7 +195,8 @@ fn one_turn(
 ) -> Result<(), AllocError>
     requires places { suc t ≤ most_places }
     requires labels { exit ≤ most_labels }
-    ensures { OnOk result (Emits out.old.items out.new.items (one_asked (view_layout y.now) primitive t exit)) }
+    ensures { OnOk result
+        (Emits out.old.items out.new.items (one_asked (view_layout y.now) primitive t exit)) }
 {
     asked_once(y.bases, out, primitive, t, exit)?;
     when(y.alloc, out, pending_code(y, t)?)
@@ -182,7 +204,7 @@ fn one_turn(
 
 /// One turn of asking.
 fn one_asked(
-    y: &Layout<'_>,
+    y: &FunctionLayout<'_>,
     primitive: Primitive,
     t: u32,
     exit: u32,
@@ -198,7 +220,7 @@ fn one_asked(
 
 /// Asks an import until no assignment is pending.
 pub fn asked(
-    y: &Layout<'_>,
+    y: &FunctionLayout<'_>,
     out: &mut Vec<Instr>,
     primitive: Primitive,
     t: u32,
@@ -206,7 +228,8 @@ pub fn asked(
 ) -> Result<(), AllocError>
     requires places { suc t ≤ most_places }
     requires labels { exit ≤ most_labels }
-    ensures { OnOk result (Emits out.old.items out.new.items (asked (view_layout y.now) primitive t exit)) }
+    ensures { OnOk result
+        (Emits out.old.items out.new.items (asked (view_layout y.now) primitive t exit)) }
 {
     again(y.alloc, out, one_asked(y, primitive, t, exit)?)
 }

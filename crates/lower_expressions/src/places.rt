@@ -7,44 +7,45 @@ ghost use Rattle.lower_pieces.specs.Emits.{Emits};
 ghost use Rattle.lower_expressions.specs.Fits.{ArrayFits};
 ghost use Rattle.lower_expressions.specs.View.{view_layout};
 
-use crate::layout::Layout;
+use crate::function_layout::FunctionLayout;
 use lower_pieces::{does, does_all};
 use mid_program::ArrayName;
 use std::alloc::AllocError;
 use wasm_types::{Instr, Simple};
 
 /// The global of a name's handle.
-pub fn global_handle(y: &Layout<'_>, name: usize) -> u32
+pub fn global_handle(y: &FunctionLayout<'_>, name: usize) -> u32
     requires { name ≤ most_places }
     ensures { result ≡ global_handle (view_layout y.now) name }
 {
     let name = name as u32;
-    y.tables.ranges() + 2 + (name + name)
+    y.script.ranges() + 2 + (name + name)
 }
 
 /// The global of a name's number.
-pub fn global_number(y: &Layout<'_>, name: usize) -> u32
+pub fn global_number(y: &FunctionLayout<'_>, name: usize) -> u32
     requires { name ≤ most_places }
     ensures { result ≡ global_number (view_layout y.now) name }
 {
     let name = name as u32;
-    y.tables.ranges() + 3 + (name + name)
+    y.script.ranges() + 3 + (name + name)
 }
 
 /// Adds an array.
 pub fn array_pushed(
-    y: &Layout<'_>,
+    y: &FunctionLayout<'_>,
     out: &mut Vec<Instr>,
     array: ArrayName,
 ) -> Result<(), AllocError>
     requires { ArrayFits (view_array array) }
-    ensures { OnOk result (Emits out.old.items out.new.items (array_pushed (view_layout y.now) (view_array array))) }
+    ensures { OnOk result
+        (Emits out.old.items out.new.items (array_pushed (view_layout y.now) (view_array array))) }
 {
     match array {
         ArrayName::Numbered(0) => does(out, Simple::I32Const(0)),
         ArrayName::Numbered(1) => does(out, Simple::I32Const(1)),
         ArrayName::Numbered(number) => {
-            let name = y.tables.array_name(number - 2);
+            let name = y.script.array_name(number - 2);
             does(out, Simple::GlobalGet(global_handle(y, name)))
         }
         ArrayName::Given(parameter) => does(out, Simple::LocalGet(parameter as u32)),
@@ -52,11 +53,16 @@ pub fn array_pushed(
 }
 
 /// Adds a text's place and its length.
-pub fn text_pushed(y: &Layout<'_>, out: &mut Vec<Instr>, text: usize) -> Result<(), AllocError>
+pub fn text_pushed(
+    y: &FunctionLayout<'_>,
+    out: &mut Vec<Instr>,
+    text: usize,
+) -> Result<(), AllocError>
     requires { text < length (view_layout y.now).texts }
-    ensures { OnOk result (Emits out.old.items out.new.items (text_pushed (view_layout y.now) text)) }
+    ensures { OnOk result
+        (Emits out.old.items out.new.items (text_pushed (view_layout y.now) text)) }
 {
-    let span = y.tables.span(text);
+    let span = y.script.span(text);
     does_all(
         out,
         &[Simple::I32Const(span.place), Simple::I32Const(span.size)],

@@ -12,9 +12,9 @@ ghost use Rattle.lower_expressions.specs.Fits.{SlotFits};
 ghost use Rattle.lower_expressions.specs.Parts.{bare_set, handle_dropped};
 ghost use Rattle.lower_expressions.specs.View.{view_layout};
 
-use crate::layout::Layout;
+use crate::function_layout::FunctionLayout;
 use crate::places::{global_handle, global_number};
-use lower_model::Import;
+use host_imports::Import;
 use lower_pieces::{
     Form, MINUS_ONE, TEXT_BESIDE, ask, ask_row, boxed_number, boxed_perhaps, copied_by, does,
     does_all, either, moved_out, number_is, when,
@@ -37,10 +37,11 @@ pub(crate) fn slot_form(slot: Slot) -> Form
 }
 
 /// What copies the handle of a global.
-fn handle_copied(y: &Layout<'_>, name: usize, t: u32) -> Result<Vec<Instr>, AllocError>
+fn handle_copied(y: &FunctionLayout<'_>, name: usize, t: u32) -> Result<Vec<Instr>, AllocError>
     requires name { name ≤ most_places }
     requires places { t ≤ most_places }
-    ensures { IfOk result (λ v. Emits [] v.items (slot_read (view_layout y.now) (GlobalSlot false name) t)) }
+    ensures { IfOk result
+        (λ v. Emits [] v.items (slot_read (view_layout y.now) (GlobalSlot false name) t)) }
 {
     let mut code = Vec::new(y.alloc);
     let global = global_handle(y, name);
@@ -50,10 +51,16 @@ fn handle_copied(y: &Layout<'_>, name: usize, t: u32) -> Result<Vec<Instr>, Allo
 }
 
 /// Reads an unboxed global. Its number says whether a text stands beside it.
-fn bare_read(y: &Layout<'_>, out: &mut Vec<Instr>, name: usize, t: u32) -> Result<(), AllocError>
+fn bare_read(
+    y: &FunctionLayout<'_>,
+    out: &mut Vec<Instr>,
+    name: usize,
+    t: u32,
+) -> Result<(), AllocError>
     requires name { name ≤ most_places }
     requires places { t ≤ most_places }
-    ensures { OnOk result (Emits out.old.items out.new.items (slot_read (view_layout y.now) (GlobalSlot true name) t)) }
+    ensures { OnOk result (Emits out.old.items out.new.items
+        (slot_read (view_layout y.now) (GlobalSlot true name) t)) }
 {
     let all = [
         Simple::GlobalGet(global_number(y, name)),
@@ -67,14 +74,15 @@ fn bare_read(y: &Layout<'_>, out: &mut Vec<Instr>, name: usize, t: u32) -> Resul
 
 /// Reads a scalar.
 pub(crate) fn slot_read(
-    y: &Layout<'_>,
+    y: &FunctionLayout<'_>,
     out: &mut Vec<Instr>,
     slot: Slot,
     t: u32,
 ) -> Result<(), AllocError>
     requires slot { SlotFits (view_slot slot) }
     requires places { t ≤ most_places }
-    ensures { OnOk result (Emits out.old.items out.new.items (slot_read (view_layout y.now) (view_slot slot) t)) }
+    ensures { OnOk result
+        (Emits out.old.items out.new.items (slot_read (view_layout y.now) (view_slot slot) t)) }
 {
     match slot {
         Slot::Global(false, name) => {
@@ -97,14 +105,15 @@ pub(crate) fn slot_read(
 
 /// Stores a value: a second handle, where the first stays the answer, or the only one.
 fn handle_stored(
-    y: &Layout<'_>,
+    y: &FunctionLayout<'_>,
     out: &mut Vec<Instr>,
     only: bool,
     t: u32,
     put: Simple,
 ) -> Result<(), AllocError>
     requires { t ≤ most_places }
-    ensures { OnOk result (Emits out.old.items out.new.items (handle_stored (view_layout y.now) only t put)) }
+    ensures { OnOk result
+        (Emits out.old.items out.new.items (handle_stored (view_layout y.now) only t put)) }
 {
     let local = y.bases.handle(t);
     if only {
@@ -117,7 +126,12 @@ fn handle_stored(
 }
 
 /// What stores a value.
-fn handle_code(y: &Layout<'_>, only: bool, t: u32, put: Simple) -> Result<Vec<Instr>, AllocError>
+fn handle_code(
+    y: &FunctionLayout<'_>,
+    only: bool,
+    t: u32,
+    put: Simple,
+) -> Result<Vec<Instr>, AllocError>
     requires { t ≤ most_places }
     ensures { IfOk result (λ v. Emits [] v.items (handle_stored (view_layout y.now) only t put)) }
 {
@@ -127,7 +141,7 @@ fn handle_code(y: &Layout<'_>, only: bool, t: u32, put: Simple) -> Result<Vec<In
 }
 
 /// What stores a number, or that there is none yet, as a value.
-fn perhaps_code(y: &Layout<'_>, t: u32, put: Simple) -> Result<Vec<Instr>, AllocError>
+fn perhaps_code(y: &FunctionLayout<'_>, t: u32, put: Simple) -> Result<Vec<Instr>, AllocError>
     requires { t ≤ most_places }
     ensures { IfOk result (λ v. Emits [] v.items (boxed_perhaps y.now.bases.now t put)) }
 {
@@ -138,14 +152,15 @@ fn perhaps_code(y: &Layout<'_>, t: u32, put: Simple) -> Result<Vec<Instr>, Alloc
 
 /// Stores what an unboxed name has, as a value.
 fn bare_stored(
-    y: &Layout<'_>,
+    y: &FunctionLayout<'_>,
     out: &mut Vec<Instr>,
     only: bool,
     t: u32,
     put: Simple,
 ) -> Result<(), AllocError>
     requires { t ≤ most_places }
-    ensures { OnOk result (Emits out.old.items out.new.items (value_stored (view_layout y.now) only Bare t put)) }
+    ensures { OnOk result
+        (Emits out.old.items out.new.items (value_stored (view_layout y.now) only Bare t put)) }
 {
     number_is(out, y.bases.number(t), TEXT_BESIDE)?;
     let text = handle_code(y, only, t, put)?;
@@ -154,7 +169,7 @@ fn bare_stored(
 
 /// Stores what stands in a temporary, as a value.
 fn value_stored(
-    y: &Layout<'_>,
+    y: &FunctionLayout<'_>,
     out: &mut Vec<Instr>,
     only: bool,
     form: Form,
@@ -162,7 +177,8 @@ fn value_stored(
     put: Simple,
 ) -> Result<(), AllocError>
     requires { t ≤ most_places }
-    ensures { OnOk result (Emits out.old.items out.new.items (value_stored (view_layout y.now) only (view_form form) t put)) }
+    ensures { OnOk result (Emits out.old.items out.new.items
+        (value_stored (view_layout y.now) only (view_form form) t put)) }
 {
     match form {
         Form::Answered(Answer::Of(Sort::Value)) => handle_stored(y, out, only, t, put),
@@ -180,7 +196,7 @@ fn value_stored(
 }
 
 /// What drops the text beside an unboxed name.
-fn text_let_go(y: &Layout<'_>, name: usize) -> Result<Vec<Instr>, AllocError>
+fn text_let_go(y: &FunctionLayout<'_>, name: usize) -> Result<Vec<Instr>, AllocError>
     requires { name ≤ most_places }
     ensures { IfOk result (λ v. Emits [] v.items (handle_dropped (view_layout y.now) name)) }
 {
@@ -194,9 +210,14 @@ fn text_let_go(y: &Layout<'_>, name: usize) -> Result<Vec<Instr>, AllocError>
 }
 
 /// Drops the text beside an unboxed name, if its number says that there is one.
-pub fn text_dropped(y: &Layout<'_>, out: &mut Vec<Instr>, name: usize) -> Result<(), AllocError>
+pub fn text_dropped(
+    y: &FunctionLayout<'_>,
+    out: &mut Vec<Instr>,
+    name: usize,
+) -> Result<(), AllocError>
     requires { name ≤ most_places }
-    ensures { OnOk result (Emits out.old.items out.new.items (text_dropped (view_layout y.now) name)) }
+    ensures { OnOk result
+        (Emits out.old.items out.new.items (text_dropped (view_layout y.now) name)) }
 {
     let all = [
         Simple::GlobalGet(global_number(y, name)),
@@ -208,10 +229,16 @@ pub fn text_dropped(y: &Layout<'_>, out: &mut Vec<Instr>, name: usize) -> Result
 }
 
 /// Writes an unboxed global.
-fn bare_set(y: &Layout<'_>, out: &mut Vec<Instr>, name: usize, t: u32) -> Result<(), AllocError>
+fn bare_set(
+    y: &FunctionLayout<'_>,
+    out: &mut Vec<Instr>,
+    name: usize,
+    t: u32,
+) -> Result<(), AllocError>
     requires name { name ≤ most_places }
     requires places { t ≤ most_places }
-    ensures { OnOk result (Emits out.old.items out.new.items (bare_set (view_layout y.now) name t)) }
+    ensures { OnOk result
+        (Emits out.old.items out.new.items (bare_set (view_layout y.now) name t)) }
 {
     text_dropped(y, out, name)?;
     let all = [
@@ -223,7 +250,7 @@ fn bare_set(y: &Layout<'_>, out: &mut Vec<Instr>, name: usize, t: u32) -> Result
 
 /// Writes a scalar.
 pub(crate) fn slot_set(
-    y: &Layout<'_>,
+    y: &FunctionLayout<'_>,
     out: &mut Vec<Instr>,
     only: bool,
     slot: Slot,
@@ -232,7 +259,8 @@ pub(crate) fn slot_set(
 ) -> Result<(), AllocError>
     requires slot { SlotFits (view_slot slot) }
     requires places { t ≤ most_places }
-    ensures { OnOk result (Emits out.old.items out.new.items (slot_set (view_layout y.now) only (view_slot slot) (view_form form) t)) }
+    ensures { OnOk result (Emits out.old.items out.new.items
+        (slot_set (view_layout y.now) only (view_slot slot) (view_form form) t)) }
 {
     match slot {
         Slot::Global(false, name) => {

@@ -15,7 +15,7 @@ ghost use Rattle.lower_expressions.specs.Fits.{ArraysFit};
 ghost use Rattle.lower_expressions.specs.Parts.{file_asked, replaced_asked, replaced_with, stored_when};
 ghost use Rattle.lower_expressions.specs.View.{view_layout};
 
-use crate::layout::Layout;
+use crate::function_layout::FunctionLayout;
 use crate::operands::all_pushed;
 use crate::walks::all_converted;
 use lower_pieces::{
@@ -30,7 +30,8 @@ use wasm_types::{ITestOp, Instr, Simple, ValType};
 /// Adds an array that is made for a call.
 pub(crate) fn array_made(b: &Bases, out: &mut Vec<Instr>, arrays: u32) -> Result<(), AllocError>
     requires { arrays ≤ most_places }
-    ensures { OnOk result (Emits out.old.items out.new.items (λ k. ask_row NewArray (does (LocalSet (array_local b.now arrays)) k))) }
+    ensures { OnOk result (Emits out.old.items out.new.items
+        (λ k. ask_row NewArray (does (LocalSet (array_local b.now arrays)) k))) }
 {
     ask_row(out, Primitive::NewArray)?;
     does(out, Simple::LocalSet(b.array(arrays)))
@@ -44,7 +45,8 @@ pub(crate) fn text_kept(
     t: u32,
 ) -> Result<(), AllocError>
     requires { suc t ≤ most_places }
-    ensures { OnOk result (Emits out.old.items out.new.items (λ k. ask_row primitive (does (LocalSet (h b.now (suc t))) k))) }
+    ensures { OnOk result (Emits out.old.items out.new.items
+        (λ k. ask_row primitive (does (LocalSet (h b.now (suc t))) k))) }
 {
     ask_row(out, primitive)?;
     does(out, Simple::LocalSet(b.handle(t + 1)))
@@ -53,14 +55,15 @@ pub(crate) fn text_kept(
 /// Drops what code left that was evaluated for what it does alone. An assignment has given its value away then, what was kept is dropped where it was kept, and
 /// code in which something comes last has dropped that.
 pub fn left_over(
-    y: &Layout<'_>,
+    y: &FunctionLayout<'_>,
     out: &mut Vec<Instr>,
     code: &Code,
     form: Form,
     t: u32,
 ) -> Result<(), AllocError>
     requires { t ≤ most_places }
-    ensures { OnOk result (Emits out.old.items out.new.items (left_over (view_layout y.now) (view code.now) (view_form form) t)) }
+    ensures { OnOk result (Emits out.old.items out.new.items
+        (left_over (view_layout y.now) (view code.now) (view_form form) t)) }
 {
     match code {
         Code::Set(_, _) | Code::Seq(_, _) | Code::Let(_, _) | Code::Bound(_, _) => Ok(()),
@@ -85,7 +88,7 @@ pub fn left_over(
 
 /// Adds the end of a sequence, whose last code is given, with the form of its answer. Where `only` what it does counts, the answer is dropped.
 pub(crate) fn sequence_closed(
-    y: &Layout<'_>,
+    y: &FunctionLayout<'_>,
     out: &mut Vec<Instr>,
     only: bool,
     code: &Code,
@@ -93,7 +96,8 @@ pub(crate) fn sequence_closed(
     t: u32,
 ) -> Result<(), AllocError>
     requires { t ≤ most_places }
-    ensures { OnOk result (Emits out.old.items out.new.items (sequence_closed (view_layout y.now) only (view code.now) (view_form form) t)) }
+    ensures { OnOk result (Emits out.old.items out.new.items
+        (sequence_closed (view_layout y.now) only (view code.now) (view_form form) t)) }
 {
     if only {
         left_over(y, out, code, form, t)
@@ -105,7 +109,7 @@ pub(crate) fn sequence_closed(
 /// Adds the end of what is kept: it is dropped, unless it was moved away. The answer of the code that was evaluated meanwhile takes its place; where `only` what
 /// it does counts, the answer is dropped.
 pub(crate) fn keeping_closed(
-    y: &Layout<'_>,
+    y: &FunctionLayout<'_>,
     out: &mut Vec<Instr>,
     only: bool,
     code: &Code,
@@ -114,7 +118,8 @@ pub(crate) fn keeping_closed(
     t: u32,
 ) -> Result<(), AllocError>
     requires { suc t ≤ most_places }
-    ensures { OnOk result (Emits out.old.items out.new.items (keeping_closed (view_layout y.now) only (view code.now) (view_form held) (view_form form) t)) }
+    ensures { OnOk result (Emits out.old.items out.new.items (keeping_closed (view_layout y.now)
+        only (view code.now) (view_form held) (view_form form) t)) }
 {
     if only {
         left_over(y, out, code, form, t + 1)?;
@@ -127,14 +132,15 @@ pub(crate) fn keeping_closed(
 
 /// Asks for a record of a file, whose name is evaluated.
 pub(crate) fn file_asked(
-    y: &Layout<'_>,
+    y: &FunctionLayout<'_>,
     out: &mut Vec<Instr>,
     form: Form,
     t: u32,
     exit: u32,
 ) -> Result<(), AllocError>
     requires { t ≤ most_places }
-    ensures { OnOk result (Emits out.old.items out.new.items (file_asked y.now.bases.now (view_form form) t exit)) }
+    ensures { OnOk result
+        (Emits out.old.items out.new.items (file_asked y.now.bases.now (view_form form) t exit)) }
 {
     to_value(y.alloc, y.bases, out, form, t)?;
     moved_out(out, y.bases.handle(t))?;
@@ -144,13 +150,14 @@ pub(crate) fn file_asked(
 
 /// Stores a text where one was read.
 pub(crate) fn stored_when(
-    y: &Layout<'_>,
+    y: &FunctionLayout<'_>,
     out: &mut Vec<Instr>,
     store: Vec<Instr>,
     t: u32,
 ) -> Result<(), AllocError>
     requires { t ≤ most_places }
-    ensures { (a : Instructions → Instructions) → Emits [] store.items a → OnOk result (Emits out.old.items out.new.items (stored_when y.now.bases.now (a Done) t)) }
+    ensures { (a : Instructions → Instructions) → Emits [] store.items a
+        → OnOk result (Emits out.old.items out.new.items (stored_when y.now.bases.now (a Done) t)) }
 {
     number_is(out, y.bases.number(t), 1)?;
     when(y.alloc, out, store)
@@ -158,7 +165,7 @@ pub(crate) fn stored_when(
 
 /// Asks the host for a replacement, whose operands are converted.
 fn replaced_asked(
-    y: &Layout<'_>,
+    y: &FunctionLayout<'_>,
     out: &mut Vec<Instr>,
     every: bool,
     operands: &[Operand],
@@ -167,7 +174,8 @@ fn replaced_asked(
 ) -> Result<(), AllocError>
     requires places { t + count_of (views operands.now) ≤ most_places }
     requires arrays { ArraysFit (views operands.now) }
-    ensures { OnOk result (Emits out.old.items out.new.items (replaced_asked (view_layout y.now) every (views operands.now) t exit)) }
+    ensures { OnOk result (Emits out.old.items out.new.items
+        (replaced_asked (view_layout y.now) every (views operands.now) t exit)) }
 {
     let wanted = [
         Argument::Of(Sort::Value),
@@ -182,7 +190,7 @@ fn replaced_asked(
 
 /// Adds a replacement, whose operands are evaluated, and the test whether nothing was replaced.
 pub(crate) fn replaced(
-    y: &Layout<'_>,
+    y: &FunctionLayout<'_>,
     out: &mut Vec<Instr>,
     forms: &[Form],
     every: bool,
@@ -193,7 +201,8 @@ pub(crate) fn replaced(
     requires places { t + count_of (views operands.now) ≤ most_places }
     requires labels { exit ≤ most_labels }
     requires arrays { ArraysFit (views operands.now) }
-    ensures { OnOk result (Emits out.old.items out.new.items (replaced_with (view_layout y.now) (map view_form forms.now) every (views operands.now) t exit)) }
+    ensures { OnOk result (Emits out.old.items out.new.items (replaced_with (view_layout y.now)
+        (map view_form forms.now) every (views operands.now) t exit)) }
 {
     let wanted = [
         Argument::Of(Sort::Value),

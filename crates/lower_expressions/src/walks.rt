@@ -9,7 +9,7 @@ ghost use Rattle.lower_pieces.specs.Emits.{Emits};
 ghost use Rattle.lower_pieces.specs.Forms.{view_form};
 ghost use Rattle.lower_expressions.specs.Parts.{appended_with, boxed_with, converted_with, freed_with, given_one, given_with};
 
-use lower_model::Import;
+use host_imports::Import;
 use lower_pieces::{Bases, Form, ask, converted, moved_out, to_value};
 use mid_program::{Kind, Operand};
 use sem_primitives::Argument;
@@ -29,7 +29,8 @@ pub(crate) fn all_converted(
 ) -> Result<(), AllocError>
     requires places { t + count_of (views operands.now) ≤ most_places }
     requires labels { exit ≤ most_labels }
-    ensures { OnOk result (Emits out.old.items out.new.items (converted_with b.now (map view_form forms.now) wanted.now (views operands.now) t exit)) }
+    ensures { OnOk result (Emits out.old.items out.new.items
+        (converted_with b.now (map view_form forms.now) wanted.now (views operands.now) t exit)) }
 {
     let Some((operand, operands)) = operands.split_first() else {
         return Ok(());
@@ -58,7 +59,8 @@ pub(crate) fn all_boxed(
     t: u32,
 ) -> Result<(), AllocError>
     requires { t + length forms.now ≤ most_places }
-    ensures { OnOk result (Emits out.old.items out.new.items (boxed_with b.now (map view_form forms.now) t)) }
+    ensures { OnOk result
+        (Emits out.old.items out.new.items (boxed_with b.now (map view_form forms.now) t)) }
 {
     let mut left = forms;
     let mut place = t;
@@ -78,7 +80,8 @@ pub(crate) fn all_appended(
     t: u32,
 ) -> Result<(), AllocError>
     requires { t + length forms.now ≤ most_places }
-    ensures { OnOk result (Emits out.old.items out.new.items (appended_with b.now (map view_form forms.now) t)) }
+    ensures { OnOk result
+        (Emits out.old.items out.new.items (appended_with b.now (map view_form forms.now) t)) }
 {
     let mut left = forms;
     let mut place = t;
@@ -101,7 +104,8 @@ pub(crate) fn given_one(
     t: u32,
 ) -> Result<(), AllocError>
     requires { t ≤ most_places }
-    ensures { OnOk result (Emits out.old.items out.new.items (given_one b.now (view_kind kind) (view_form form) t)) }
+    ensures { OnOk result
+        (Emits out.old.items out.new.items (given_one b.now (view_kind kind) (view_form form) t)) }
 {
     match kind {
         Kind::Boxed => to_value(alloc, b, out, form, t),
@@ -120,7 +124,8 @@ pub(crate) fn all_given(
     t: u32,
 ) -> Result<(), AllocError>
     requires { t + count_of (views operands.now) ≤ most_places }
-    ensures { OnOk result (Emits out.old.items out.new.items (given_with b.now (map view_form forms.now) (map view_kind kinds.now) (views operands.now) t)) }
+    ensures { OnOk result (Emits out.old.items out.new.items (given_with b.now
+        (map view_form forms.now) (map view_kind kinds.now) (views operands.now) t)) }
 {
     let Some((operand, operands)) = operands.split_first() else {
         return Ok(());

@@ -33,7 +33,8 @@ use Rattle.lower_model.specs.Machine.{Label, Store, at}
 use Rattle.lower_model.specs.Places.{Bases, place_of, memory_of, handle_global}
 use Rattle.lower_model.specs.Small.{does as instruction}
 use Rattle.lower_model.specs.Statements.{declared, declared_kind, names_declared, routines_declared, names_made}
-use Rattle.lower_model.specs.declared.import.Import.TheVariants.{Of}
+use Rattle.host_imports.specs.declared.import.Import.TheVariants.{Of}
+use Rattle.lower_model.proofs.HostLaws.{Few}
 use Rattle.lower_model.proofs.Watch.{Watch}
 use Rattle.lower_model.proofs.Runs.{Goes, goes_to, then_goes, stays}
 use Rattle.lower_model.proofs.Regions.{upd, upd_same, upd_other, behind_at}
@@ -171,9 +172,10 @@ module _ (p : Program) (deepest : Watch) (b : Bases) (K : List Label) (L gs : Li
     pub names : last.inner.names ≡ σ.shared.inner.names ++ ts
     pub pending : last.inner.pending ≡ σ.shared.inner.pending
     pub arrays : last.inner.arrays ≡ σ.shared.inner.arrays
+    pub fields : Few σ.shared.inner → Few last.inner
 
   pub tells_ok : (ts : List Telling) (i : ℕ) (front rest : List (List ℕ)) (k : Instructions) (σ : State) → texts_of p ≡ front ++ (names_in ts ++ rest) → length front ≡ i → Differ (names_in ts) → Untold (names_in ts) σ.shared.inner.names → Told ts i k σ
-  tells_ok [] i front rest k σ e n d u = record { last = σ.shared; goes = stays; means = refl; names = sym (append-nil σ.shared.inner.names); pending = refl; arrays = refl }
+  tells_ok [] i front rest k σ e n d u = record { last = σ.shared; goes = stays; means = refl; names = sym (append-nil σ.shared.inner.names); pending = refl; arrays = refl; fields = λ h. h }
   tells_ok (t ∷ ts) i front rest k σ e n d u =
       let sh = shared_after σ.shared (meaning row.Declare (t.0, (t.1, tt)) σ.shared) in
       let here : i ≡ i + 0 = omega arith in
@@ -187,6 +189,7 @@ module _ (p : Program) (deepest : Watch) (b : Bases) (K : List Label) (L gs : Li
         names = r.names ∙ append_assoc σ.shared.inner.names (t ∷ []) ts;
         pending = r.pending;
         arrays = r.arrays;
+        fields = r.fields;
       }
 
 -- What names have.
@@ -224,6 +227,7 @@ module _ (p : Program) (deepest : Watch) (b : Bases) (K : List Label) (L : List 
     pub each : (x : ℕ) → x < length kinds → hands x ≡ first_hand x
     pub names : last.inner.names ≡ σ.shared.inner.names
     pub pending : last.inner.pending ≡ σ.shared.inner.pending
+    pub fields : Few σ.shared.inner → Few last.inner
 
   -- names from i on are still to be made, and a arrays were
   pub record Halfway (ks : List Kind) (i a : ℕ) (g : Globals) (sh : Shared) : Type 0 where
@@ -263,10 +267,10 @@ module _ (p : Program) (deepest : Watch) (b : Bases) (K : List Label) (L : List 
       ap (λ j. same_kind j Unboxed) (ap (kind_here kinds) z ∙ h.alike 0) ∙ e
 
   pub names_ok : (ks : List Kind) (i a : ℕ) (k : Instructions) (g : Globals) (σ : State) → Halfway ks i a g σ.shared → Made ks i k g σ
-  names_ok [] i a k g σ h = record { hands = g.hand; last = σ.shared; steps = 0; few = omega arith; goes = stays; means = refl; each = λ x lt. h.made x (let q = h.size in omega (arith, q, lt)); names = refl; pending = refl }
+  names_ok [] i a k g σ h = record { hands = g.hand; last = σ.shared; steps = 0; few = omega arith; goes = stays; means = refl; each = λ x lt. h.made x (let q = h.size in omega (arith, q, lt)); names = refl; pending = refl; fields = λ x. x }
   names_ok (Unboxed ∷ ks) i a k g σ h =
       let r = names_ok ks (suc i) a k g σ (unboxed_on g h) in
-      record { hands = r.hands; last = r.last; steps = r.steps; few = (let q = r.few in omega (arith, q)); goes = r.goes; means = r.means; each = r.each; names = r.names; pending = r.pending }
+      record { hands = r.hands; last = r.last; steps = r.steps; few = (let q = r.few in omega (arith, q)); goes = r.goes; means = r.means; each = r.each; names = r.names; pending = r.pending; fields = r.fields }
     where
       unboxed_on : (g : Globals) → Halfway (Unboxed ∷ ks) i a g σ.shared → Halfway ks (suc i) a g σ.shared
       unboxed_on g h = record {
@@ -298,6 +302,7 @@ module _ (p : Program) (deepest : Watch) (b : Bases) (K : List Label) (L : List 
         each = r.each;
         names = r.names;
         pending = r.pending;
+        fields = r.fields;
       }
   names_ok (Many ∷ ks) i a k g σ h =
       let sh1 = shared_after σ.shared (meaning row.NewArray tt σ.shared) in
@@ -320,4 +325,5 @@ module _ (p : Program) (deepest : Watch) (b : Bases) (K : List Label) (L : List 
         each = r.each;
         names = r.names;
         pending = r.pending;
+        fields = r.fields;
       }

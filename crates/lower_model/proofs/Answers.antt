@@ -25,13 +25,14 @@ use Rattle.mid_program.specs.MidMeaning.{Holds}
 use Rattle.sem_scripts.specs.ScriptState.{State, Stop, Faulted, Outcome, settled, or_fault}
 use Rattle.mid_program.specs.Sorted.{kinds_of}
 use Rattle.lower_model.specs.Cells.{Cell, Bits, Held, is_owned}
-use Rattle.lower_model.specs.ImportCalls.{Host, Acts, with_some, where_so, row_in, taken, acts, acted, replied, call, primitive_acts, cell_of, fault_cell, input_code, stream_code}
+use Rattle.host_imports.specs.Codes.{input_code, stream_code}
+use Rattle.lower_model.specs.ImportCalls.{Acts, with_some, where_so, row_in, taken, acted, replied, primitive_acts, cell_of, fault_cell}
 use Rattle.lower_model.specs.ImportCalls
 use Rattle.lower_model.specs.Machine.{Code, Conf, Label, Frame, Store, at, br, all_live, assigning_after, onto, width}
 use Rattle.lower_model.specs.Places.{Bases}
 use Rattle.lower_model.specs.Runs.{noting_code}
 use Rattle.lower_model.specs.Small.{ask_row, kept, least}
-use Rattle.lower_model.specs.declared.import.Import.TheVariants.{Of}
+use Rattle.host_imports.specs.declared.import.Import.TheVariants.{Of}
 use Rattle.lower_model.proofs.Watch.{Watch}
 use Rattle.lower_model.proofs.Runs.{Goes, goes_to, Arrives, there, faulted}
 use Rattle.lower_model.proofs.Locals.{Locals, Hand, Number as NumberAt, with_at, laid}

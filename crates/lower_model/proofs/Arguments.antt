@@ -24,7 +24,7 @@ use Rattle.mid_program.specs.Sorted.{fits, fit_row, is_constant}
 use Rattle.lower_model.specs.Cells.{Cell, Bits, Held}
 use Rattle.lower_model.specs.Emission.{array_meant, all_converted, all_pushed, one_pushed}
 use Rattle.lower_model.specs.ImportCalls.{with_some, and_rest, in_sort, row_in}
-use Rattle.lower_model.specs.Imports.{params_of}
+use Rattle.host_imports.specs.Imports.{params_of}
 use Rattle.lower_model.specs.Machine.{Conf, Label, Frame, at, all_live, live_if_lent}
 use Rattle.lower_model.specs.Places.{Bases}
 use Rattle.lower_model.proofs.Watch.{Watch}

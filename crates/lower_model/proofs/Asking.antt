@@ -23,13 +23,13 @@ use Rattle.sem_scripts.specs.ScriptState.{State, Stop, OutOfTurns, Gives, Doing,
 use Rattle.mid_program.specs.Sorted.{kinds_of}
 use Rattle.lower_model.specs.Cells.{Bits, Held, is_owned}
 use Rattle.lower_model.specs.Emission.{pending_assigned}
-use Rattle.lower_model.specs.ImportCalls.{input_code}
+use Rattle.host_imports.specs.Codes.{input_code}
 use Rattle.lower_model.specs.Machine.{Conf, Label, Frame, at, label, carried_if}
 use Rattle.lower_model.specs.Machine
 use Rattle.lower_model.specs.Places.{Bases}
 use Rattle.lower_model.specs.Small.{does, ask_row, when, number_is, kept_code}
 use Rattle.lower_model.specs.Small
-use Rattle.lower_model.specs.declared.import.Import.TheVariants.{Of}
+use Rattle.host_imports.specs.declared.import.Import.TheVariants.{Of}
 use Rattle.lower_model.proofs.Watch.{Watch}
 use Rattle.lower_model.proofs.Runs.{Goes, then_goes, goes_to, by_steps, there, faulted, turned, weaker}
 use Rattle.lower_model.proofs.Regions.{upd_same}
@@ -39,7 +39,7 @@ use Rattle.lower_model.proofs.Calls.{import_found}
 use Rattle.lower_model.proofs.Relation.{HoldsAt, Same, same_then, same_hand, same_number, Calm, Fit, fit_shared, fit_turns, fit_more, fit_less, fit_hand, fit_number, SameOwn, Away}
 use Rattle.lower_model.proofs.Pieces.{chooses, closes, number_is_ok, code_kept, code_failed}
 use Rattle.lower_model.proofs.Answers.{machine, beside_state, row_called, away_with, Reached}
-use Rattle.lower_model.proofs.HostLaws.{Keeps}
+use Rattle.lower_model.proofs.HostLaws.{Few, Keeps}
 use Rattle.lower_model.proofs.InputLaws.{IsPending, GoodInput, LineAt, LineThere, getline_row_good, getline_line_row_good, line_there}
 use Rattle.lower_model.proofs.Spending.{Asks, state_after, conf_after, asking, spends_ok}
 use Rattle.lower_model.proofs.Pending.{made_locals, made_state, pending_meant, pending_made}
@@ -84,18 +84,18 @@ module _ (p : Program) (deepest : Watch) (ks : List Kind) (F : List Frame) (b : 
       (then_goes (goes_to (number_is_ok b l1 t m 2 lt (upd_same l.number t (Bits (I64 m)))) (ap (λ f. at ks (Bits (flag f) ∷ []) (loop_at code t d k ∷ K) (laid b l1) F (when block NoMore) (beside_state p deepest ks F σ)) e))
       (then_goes (chooses block NoMore 0) (then_goes closes (by_steps 1 refl))))
 
-  calm_kept : (i j : Inner) (s : Shared) → s.inner ≡ j → j.pending ≡ i.pending → j.names ≡ i.names → (s0 : Shared) → s0.inner ≡ i → Calm p s0 → Calm p s
-  calm_kept i j s e hp hn s0 e0 c = record { pending = ap (λ z. z.pending) e ∙ (hp ∙ (ap (λ z. z.pending) (sym e0) ∙ c.pending)); names = ap (λ z. z.names) e ∙ (hn ∙ (ap (λ z. z.names) (sym e0) ∙ c.names)) }
+  calm_kept : (i j : Inner) (s : Shared) → s.inner ≡ j → j.pending ≡ i.pending → j.names ≡ i.names → (Few i → Few j) → (s0 : Shared) → s0.inner ≡ i → Calm p s0 → Calm p s
+  calm_kept i j s e hp hn hf s0 e0 c = record { pending = ap (λ z. z.pending) e ∙ (hp ∙ (ap (λ z. z.pending) (sym e0) ∙ c.pending)); names = ap (λ z. z.names) e ∙ (hn ∙ (ap (λ z. z.names) (sym e0) ∙ c.names)); few = subst Few (sym e) (hf (subst Few e0 c.few)) }
 
   -- with turns spent, and the host's part changed
   fit_after : (t u w : ℕ) (l : Locals) (σ : State) (m : ℕ) (sh : Shared) → Calm p sh → Fit p deepest ks F t u w l σ → Fit p deepest ks F t u w l (record σ { turns = m; shared = sh })
   fit_after t u w l σ m sh c ft = fit_shared p deepest ks F t u w l (record σ { turns = m }) sh c (fit_turns p deepest ks F t u w l σ m ft)
 
-  pub fit_answered : (a : Answer) (t u w : ℕ) (l : Locals) (σ : State) (m : ℕ) (j : Inner) (x : InAnswer a) → j.pending ≡ σ.shared.inner.pending → j.names ≡ σ.shared.inner.names → Fit p deepest ks F t u w l σ → Fit p deepest ks F t u w l (state_after p deepest ks F M a σ m (Ok (j, x)))
-  fit_answered a t u w l σ m j x hp hn ft = fit_after t u w l σ m (shared_after σ.shared (settles {A = InAnswer a} σ.shared (Ok (j, x)))) (calm_kept σ.shared.inner j (shared_after σ.shared (settles {A = InAnswer a} σ.shared (Ok (j, x)))) refl hp hn σ.shared refl ft.sound.calm) ft
+  pub fit_answered : (a : Answer) (t u w : ℕ) (l : Locals) (σ : State) (m : ℕ) (j : Inner) (x : InAnswer a) → j.pending ≡ σ.shared.inner.pending → j.names ≡ σ.shared.inner.names → (Few σ.shared.inner → Few j) → Fit p deepest ks F t u w l σ → Fit p deepest ks F t u w l (state_after p deepest ks F M a σ m (Ok (j, x)))
+  fit_answered a t u w l σ m j x hp hn hf ft = fit_after t u w l σ m (shared_after σ.shared (settles {A = InAnswer a} σ.shared (Ok (j, x)))) (calm_kept σ.shared.inner j (shared_after σ.shared (settles {A = InAnswer a} σ.shared (Ok (j, x)))) refl hp hn hf σ.shared refl ft.sound.calm) ft
 
   pub fit_faulted : (a : Answer) (t u w : ℕ) (l : Locals) (σ : State) (m : ℕ) (g : Fault) → Fit p deepest ks F t u w l σ → Fit p deepest ks F t u w l (state_after p deepest ks F M a σ m (Err g))
-  fit_faulted a t u w l σ m g ft = fit_after t u w l σ m (shared_after σ.shared (settles {A = InAnswer a} σ.shared (Err g))) (record { pending = ft.sound.calm.pending; names = ft.sound.calm.names }) ft
+  fit_faulted a t u w l σ m g ft = fit_after t u w l σ m (shared_after σ.shared (settles {A = InAnswer a} σ.shared (Err g))) (record { pending = ft.sound.calm.pending; names = ft.sound.calm.names; few = ft.sound.calm.few }) ft
 
   -- an assignment is made, for a turn, and the call is made again
   abbrev pub assign_work : ℕ
@@ -104,10 +104,10 @@ module _ (p : Program) (deepest : Watch) (ks : List Kind) (F : List Frame) (b : 
   same_steps : {i j : ℕ} {c c1 : Conf} → i ≡ j → Goes (machine p deepest ks F) i c c1 → Goes (machine p deepest ks F) j c c1
   same_steps {c = c} {c1 = c1} q g = subst (λ z. Goes (machine p deepest ks F) z c c1) q g
 
-  pub pends_ok : {B : Type 0} → (code : Instructions → Instructions) (rest : Doing B) (m : ℕ) → assign_work ≤ M → (t u w d : ℕ) (k : Instructions) (K : List Label) (l : Locals) (σ : State) (P : B → State → Conf → Type 0) (Q : Stop → State → Conf → Type 0) → suc t < b.temporaries → Fit p deepest ks F t u w l σ → (τ : State) → IsPending τ.shared.inner → τ.shared.inner.names ≡ σ.shared.inner.names → τ ≡ record σ { turns = τ.turns; shared = τ.shared } → τ.turns ≤ suc m →
+  pub pends_ok : {B : Type 0} → (code : Instructions → Instructions) (rest : Doing B) (m : ℕ) → assign_work ≤ M → (t u w d : ℕ) (k : Instructions) (K : List Label) (l : Locals) (σ : State) (P : B → State → Conf → Type 0) (Q : Stop → State → Conf → Type 0) → suc t < b.temporaries → Fit p deepest ks F t u w l σ → (τ : State) → IsPending τ.shared.inner → τ.shared.inner.names ≡ σ.shared.inner.names → (Few σ.shared.inner → Few τ.shared.inner) → τ ≡ record σ { turns = τ.turns; shared = τ.shared } → τ.turns ≤ suc m →
       ((l2 : Locals) (σ2 : State) → Fit p deepest ks F t u w l2 σ2 → σ2.turns ≤ m → Same [] t w l l2 → SameOwn p deepest ks F σ σ2 → Reached p deepest ks F b M 10 σ2.turns (at ks [] (loop_at code t d k ∷ K) (laid b l2) F (code (behind_call t d)) (beside_state p deepest ks F σ2)) P Q (rest σ2)) →
       Reached p deepest ks F b M 9 τ.turns (at ks (Bits (I32 2) ∷ []) (loop_at code t d k ∷ K) (laid b l) F (behind_call t d) (beside_state p deepest ks F (record σ { turns = τ.turns; shared = τ.shared }))) P Q ((spend >> (assign_pending >> rest)) (record σ { turns = τ.turns; shared = τ.shared }))
-  pends_ok code rest m enough t u w d k K l σ P Q lt ft τ1 ip nm eτ tm next =
+  pends_ok code rest m enough t u w d k K l σ P Q lt ft τ1 ip nm fw eτ tm next =
       let mach = machine p deepest ks F in
       let τ = record σ { turns = τ1.turns; shared = τ1.shared } in
       let c2 = Bits (I64 2) in
@@ -133,7 +133,7 @@ module _ (p : Program) (deepest : Watch) (ks : List Kind) (F : List Frame) (b : 
       let σ2 = made_state p deepest ks F b M n ip.number ip.text τm in
       let sh2 = σ2.shared in
       let σ1 = record σ { turns = mm; shared = sh2 } in
-      let f2 = fit_after t u w l σ mm sh2 (record { pending = refl; names = nm ∙ ft.sound.calm.names }) ft in
+      let f2 = fit_after t u w l σ mm sh2 (record { pending = refl; names = nm ∙ ft.sound.calm.names; few = fw ft.sound.calm.few }) ft in
       let f3 = fit_number p deepest ks F t t u w l σ1 c2 refl f2 in
       let f4 = fit_more p deepest ks F t u w l3 σ1 (fit_number p deepest ks F t t u w l1 σ1 number refl f3) in
       let f5 = fit_hand p deepest ks F t (suc t) u w l3 σ1 value (inr (StrNum ip.text, refl)) (omega arith) f4 in
@@ -190,7 +190,7 @@ module _ (p : Program) (deepest : Watch) (ks : List Kind) (F : List Frame) (b : 
         let τ = after_call m (Ok (j, x)) in
         let c = Bits (I64 (input_code x)) in
         let l1 = with_at l (NumberAt t) c in
-        let f0 = fit_answered answer.Input t u w l σ m j x h.pending h.names ft in
+        let f0 = fit_answered answer.Input t u w l σ m j x h.pending h.names h.few ft in
         there mach M 9 9 _ _ x τ P Q (came_out a.asks.code (input_code x) t d k K l τ (codes_fit x).0 (codes_fit x).1 e lt (ft.numbers t)) (omega arith)
         (record {
           next = l1;
@@ -204,7 +204,7 @@ module _ (p : Program) (deepest : Watch) (ks : List Kind) (F : List Frame) (b : 
 
     -- what is done with an assignment that is pending
     abbrev Pends : (InputAnswer → Doing InputAnswer) → Type 0
-    Pends f = (m : ℕ) (j : Inner) → m ≤ σ.turns → j.names ≡ σ.shared.inner.names → IsPending j → Reached p deepest ks F b M 9 m (after_reply_of (Ok (j, input.Pending))) P Q (f input.Pending (after_call m (Ok (j, input.Pending))))
+    Pends f = (m : ℕ) (j : Inner) → m ≤ σ.turns → j.names ≡ σ.shared.inner.names → (Few σ.shared.inner → Few j) → IsPending j → Reached p deepest ks F b M 9 m (after_reply_of (Ok (j, input.Pending))) P Q (f input.Pending (after_call m (Ok (j, input.Pending))))
 
     abbrev Passes : (InputAnswer → Doing InputAnswer) → Type 0
     Passes f = (x : InputAnswer) → nat_eq (input_code x) 2 ≡ false → f x ≡ give x
@@ -216,7 +216,7 @@ module _ (p : Program) (deepest : Watch) (ks : List Kind) (F : List Frame) (b : 
     answered m (Err g) f le h li pa pe =
         let τ = after_call m (Err g) in
         faulted mach M 9 4 _ _ g τ P Q (code_failed b l t (suc d) lt (ft.numbers t)) (omega arith) (away_with p deepest ks F b M t u w d (2 ^ 64 - 1) K l τ g (fit_faulted answer.Input t u w l σ m g ft))
-    answered m (Ok (j, input.Pending)) f le h li pa pe = pe m j le h.0 h.1
+    answered m (Ok (j, input.Pending)) f le h li pa pe = pe m j le h.0 h.4 h.1
     answered m (Ok (j, input.End)) f le h li pa pe = passed_on m j input.End f (pa input.End refl) refl h li
     answered m (Ok (j, input.Read)) f le h li pa pe = passed_on m j input.Read f (pa input.Read refl) refl h li
     answered m (Ok (j, input.Failed)) f le h li pa pe = passed_on m j input.Failed f (pa input.Failed refl) refl h li
@@ -238,12 +238,12 @@ module _ (p : Program) (deepest : Watch) (ks : List Kind) (F : List Frame) (b : 
   unfolding asked
   asked_ok a enough zero t u w d k K l σ lt ft tm =
       once_ok a t u w d k K l σ (omega (arith, lt)) ft (unless_pending (stop OutOfTurns) give) (passes (stop OutOfTurns))
-      (λ m j le nm ip. record { steps = 0; few = omega arith; enough = omega (arith, le, tm); shows = refl })
+      (λ m j le nm fw ip. record { steps = 0; few = omega arith; enough = omega (arith, le, tm); shows = refl })
   asked_ok a enough (suc m) t u w d k K l σ lt ft tm =
       let again = asked m (asking p deepest ks F M answer.Input a.asks) in
       once_ok a t u w d k K l σ (omega (arith, lt)) ft (unless_pending (spend >> (assign_pending >> again)) give) (passes (spend >> (assign_pending >> again)))
-      (λ m1 j le nm ip.
-      pends_ok a.asks.code again m enough t u w d k K l σ (Asked a.reads t u w k K l σ) (Away p deepest ks F b d K) lt ft (state_after p deepest ks F M answer.Input σ m1 (Ok (j, input.Pending))) ip nm refl (omega (arith, le, tm))
+      (λ m1 j le nm fw ip.
+      pends_ok a.asks.code again m enough t u w d k K l σ (Asked a.reads t u w k K l σ) (Away p deepest ks F b d K) lt ft (state_after p deepest ks F M answer.Input σ m1 (Ok (j, input.Pending))) ip nm fw refl (omega (arith, le, tm))
       (λ l2 σ2 f2 t2 same own.
       weaker (machine p deepest ks F) M 10 σ2.turns _ (Asked a.reads t u w k K l2 σ2) (Asked a.reads t u w k K l σ) (Away p deepest ks F b d K) (Away p deepest ks F b d K) (again σ2)
       (λ x τ2 c4 g. record { next = g.next; comes = g.comes; fit = g.fit; same = same_then [] t t w w l l2 g.next (omega arith) (omega arith) same g.same; own = λ i q. g.own i q ∙ own i q; holds = g.holds; line = g.line })

@@ -1,10 +1,9 @@
 -- The beginning of `main`: a fault that the job brings ends it; else its names are announced and made, and it is where a script begins.
-use Rattle.std.proofs.Common.{◌≡◌, ℕ, zero, suc, ◌+◌, ◌<◌, ◌≤◌, true, List, [], ◌∷◌, ◌++◌, length, None, refl, sym, ap, ap₂, ◌∙◌, append-nil, subst, arith}
+use Rattle.std.proofs.Common.{◌≡◌, ℕ, zero, suc, ◌+◌, ◌<◌, ◌≤◌, ◌^◌, true, List, [], ◌∷◌, ◌++◌, length, None, refl, sym, ap, ap₂, ◌∙◌, append-nil, subst, arith}
 use Rattle.std.specs.Prelude.{get_or, replicate, map}
 use Rattle.awk_values.specs.declared.value.Value.TheVariants.{Uninit}
 use Rattle.sem_primitives.specs.SharedState.{Shared}
 use Rattle.sem_primitives.specs.declared.constants.NameKind.{NameKind}
-use Rattle.sem_primitives.specs.declared.table.Primitive.TheVariants as row
 use Rattle.wasm_types.specs.Syntax.{Instructions}
 use Rattle.wasm_store.specs.declared.word.Word.TheVariants.{I32, I64}
 use Rattle.mid_program.specs.Mid.{Kind, Boxed, Unboxed, Many, Program, Declared, Routine}
@@ -172,7 +171,7 @@ module _ (p : Program) (notes : Notes) (s : Setting) (b : Bases) (turns : ℕ) (
             ∙ (ap (λ r. go_on r (λ v. arrays_made (map global_name p.globals) >>= λ w. rest))
             (ap₂ (λ (m n : Doing (Unit {0})). (m >> n) begins) (globals_meant p.globals) (routines_meant p.routines) ∙ (sym (telling_both (globals_told p.globals []) (routines_told p.routines) begins) ∙ told.means))
             ∙ ap (λ r. go_on r (λ w. rest)) (ap (λ (m : Doing (Unit {0})). m σ1) (making_meant p.globals) ∙ made.means));
-        calm = record { pending = made.pending ∙ told.pending; names = made.names ∙ (told.names ∙ told_both p.globals (routines_told p.routines)) };
+        calm = record { pending = made.pending ∙ told.pending; names = made.names ∙ (told.names ∙ told_both p.globals (routines_told p.routines)); few = made.fields (told.fields (let none : 0 ≤ 2 ^ 20 = omega arith in none)) };
       }
 
   -- as many values as names

@@ -7,13 +7,13 @@ use Rattle.sem_primitives.specs.declared.table.Primitive.TheVariants as row
 use Rattle.wasm_types.specs.Syntax.{Instructions}
 use Rattle.mid_program.specs.Mid.{Kind}
 use Rattle.lower_model.specs.Cells.{Cell}
-use Rattle.lower_model.specs.Imports.{import_at, import_number, import_count}
+use Rattle.host_imports.specs.Imports.{import_at, import_number, import_count}
 use Rattle.lower_model.specs.ImportCalls.{Host, call}
 use Rattle.lower_model.specs.Machine.{Code, Label, Frame, Store, at, guarded, all_live, with_answer, assigning_after, onto, width, ask as asked, enter}
 use Rattle.lower_model.specs.Small.{ask}
-use Rattle.lower_model.specs.declared.import.Import.{Import}
-use Rattle.lower_model.specs.declared.import.Import.TheVariants.{Of, Over, Arg, Drop, IterFree, FreeArray}
-use Rattle.lower_model.specs.declared.import.Listing.TheVariants.{Sprintf, Print, Printf}
+use Rattle.host_imports.specs.declared.import.Import.{Import}
+use Rattle.host_imports.specs.declared.import.Import.TheVariants.{Of, Over, Arg, Drop, IterFree, FreeArray}
+use Rattle.host_imports.specs.declared.import.Listing.TheVariants.{Sprintf, Print, Printf}
 use Rattle.lower_model.proofs.Runs.{Goes}
 
 -- each import is found by its number

@@ -28,7 +28,7 @@ use Rattle.lower_model.specs.Cells.{Cell, Bits, Held}
 use Rattle.lower_model.specs.Emission.{emitted, all_emitted}
 use Rattle.lower_model.specs.Machine.{Conf, Label, Frame, at, label, loops_walked}
 use Rattle.lower_model.specs.Places.{Bases, room, arrays_in}
-use Rattle.lower_model.specs.Small.{does, ask_row, either, moved_out, number_is, not_zero, zeroed, truth, text_beside, least, h}
+use Rattle.lower_model.specs.Small.{does, ask_row, either, moved_out, not_zero, zeroed, truth, text_beside, h}
 use Rattle.lower_model.specs.Small
 use Rattle.lower_model.proofs.Watch.{Watch}
 use Rattle.lower_model.proofs.Runs.{Goes, then_goes, goes_to, goes_from, by_steps, first, then_on, step_settled, within, weaker}

@@ -1,8 +1,8 @@
 -- The machine shows what a program does, for every well-sorted program: with notes, and so without.
-use Rattle.std.proofs.Common.{ℕ, ◌+◌, ◌*◌, length, refl, subst, arith}
+use Rattle.std.proofs.Common.{◌+◌, ◌*◌, length, refl, subst, arith}
 use Rattle.mid_program.specs.Mid.{Program}
 use Rattle.sem_scripts.specs.ScriptRun.{Ending}
-use Rattle.mid_program.specs.Sorted.{IsSorted, kinds_of}
+use Rattle.mid_program.specs.Sorted.{kinds_of}
 use Rattle.lower_model.specs.Follows.{Shown, EmissionFollows, EmissionNotes}
 use Rattle.lower_model.specs.Functions.{main_bases}
 use Rattle.lower_model.specs.Machine.{no_notes}

@@ -30,7 +30,7 @@ use Rattle.sem_scripts.specs.ScriptState.{State, Faulted, Outcome, Gives, settle
 use Rattle.lower_model.specs.Cells.{Cell, Bits, Held, is_owned}
 use Rattle.lower_model.specs.Machine.{Code, Conf, Label, Frame, Store, at, br, label}
 use Rattle.lower_model.specs.Places.{Bases}
-use Rattle.lower_model.specs.Small.{does, ask_row, either, least, text_beside, moved_out, number_is, boxed_perhaps, number_of_value, number_made, unnumbered, kept_number, h, n}
+use Rattle.lower_model.specs.Small.{does, either, least, text_beside, boxed_perhaps, number_of_value, number_made, unnumbered, kept_number, h, n}
 use Rattle.lower_model.specs.Small
 use Rattle.lower_model.proofs.Watch.{Watch}
 use Rattle.lower_model.proofs.Runs.{Goes, by_steps, then_goes, goes_to, goes_from, stays, there, faulted, first, within, weaker, then_step, Onward}

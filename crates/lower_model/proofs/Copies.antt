@@ -16,7 +16,7 @@ use Rattle.lower_model.specs.Cells.{Cell, Bits, Held, Gone, is_owned, cell_at}
 use Rattle.lower_model.specs.Machine.{Look, Label, Frame, Store, at, label, ask_looking, with_operands, push_word, looked_compared}
 use Rattle.lower_model.specs.Places.{Bases}
 use Rattle.lower_model.specs.Small.{does, ask_row, copied, copied_if_any, when, minus_one, h}
-use Rattle.lower_model.specs.declared.import.Import.TheVariants.{Of}
+use Rattle.host_imports.specs.declared.import.Import.TheVariants.{Of}
 use Rattle.lower_model.proofs.Watch.{Watch}
 use Rattle.lower_model.proofs.Runs.{Goes, then_goes, goes_to, by_steps}
 use Rattle.lower_model.proofs.Globals.{Global, global_of, IsGlobal, has_global, with_global_at, has_global_with, placed, placed_twice, placed_again}

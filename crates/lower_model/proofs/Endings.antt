@@ -1,5 +1,5 @@
 -- The end of `main`, with the status that the script has, and how whole runs show: what the machine comes to is what the script's run is.
-use Rattle.std.proofs.Common.{◌≡◌, ℕ, zero, suc, ◌+◌, ◌-◌, ◌*◌, ◌^◌, ◌<◌, ◌≤◌, cond, true, [], length, Some, None, Option, ℤ, pos, negsuc, unsigned_abs, w64, refl, ap, ◌∙◌, arith}
+use Rattle.std.proofs.Common.{◌≡◌, ℕ, zero, suc, ◌+◌, ◌*◌, ◌^◌, ◌<◌, ◌≤◌, cond, true, [], length, Some, None, Option, ℤ, pos, negsuc, unsigned_abs, w64, refl, ap, ◌∙◌, arith}
 use Rattle.std.specs.Prelude.{◌%◌, ◌&&◌}
 use Rattle.std.proofs.lemmas.Bool.{lt-ltb}
 use Rattle.std.specs.Int.{cast_unsigned, int_rem_euclid}

@@ -16,7 +16,7 @@ use Rattle.lower_model.proofs.Answers.{machine, beside_state, Reached}
 use Rattle.lower_model.proofs.Simulation.{work_of, context, layout, ExprOk}
 use Rattle.lower_model.proofs.StatementForms.{plain_meant, Starts, StepDone}
 use Rattle.lower_model.proofs.Sequences.{dropped_ok}
-use Rattle.lower_model.proofs.Tallies.{TallyIs, tally_is}
+use Rattle.lower_model.proofs.Tallies.{tally_is}
 use Rattle.lower_model.proofs.Tallying.{tallied_ok}
 use Rattle.lower_model.proofs.Remainders.{IsRemainder, remainder_is, remainder_ok, remainder_code}
 use Rattle.lower_model.proofs.Updating.{added_is, updated_ok}

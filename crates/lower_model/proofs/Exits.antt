@@ -13,8 +13,8 @@ use Rattle.lower_model.specs.Machine.{Code, Label, Frame, Store, at, guarded, le
 use Rattle.lower_model.specs.Places.{Bases, answer_local, iterator_local, array_local}
 use Rattle.lower_model.specs.Small.{does, emptied, let_go, h}
 use Rattle.lower_model.specs.Statements.{temporaries_emptied, iterators_emptied, arrays_emptied, temporaries_swept, iterators_swept, arrays_swept, swept, left_swept, has_functions, parameters_dropped}
-use Rattle.lower_model.specs.declared.import.Import.{Import}
-use Rattle.lower_model.specs.declared.import.Import.TheVariants.{Drop, IterFree, FreeArray}
+use Rattle.host_imports.specs.declared.import.Import.{Import}
+use Rattle.host_imports.specs.declared.import.Import.TheVariants.{Drop, IterFree, FreeArray}
 use Rattle.lower_model.proofs.Watch.{Watch}
 use Rattle.lower_model.proofs.Runs.{Goes, goes_from, then_goes, by_steps, stays}
 use Rattle.lower_model.proofs.Regions.{cells, upd_other}

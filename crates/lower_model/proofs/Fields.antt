@@ -14,7 +14,6 @@ use Rattle.sem_primitives.specs.declared.table.Primitive.{Primitive}
 use Rattle.sem_primitives.specs.declared.table.Primitive.TheVariants as row
 use Rattle.sem_primitives.proofs.Words.{number_again, word_again}
 use Rattle.wasm_store.specs.declared.word.Word.TheVariants.{I64}
-use Rattle.mid_program.specs.declared.mid.Operation.{Operation}
 use Rattle.mid_program.specs.declared.mid.Operation.TheVariants.{Host}
 use Rattle.mid_program.specs.Mid.{Kind, Program, Code, Do, Number, Codes, End, At}
 use Rattle.mid_program.specs.MidMeaning.{evaluated, all_evaluated, or_zero}
@@ -35,7 +34,7 @@ use Rattle.lower_model.proofs.Steps.{set_ok}
 use Rattle.lower_model.proofs.Relation.{same_self, Away}
 use Rattle.lower_model.proofs.Answers.{machine, beside_state, row_called, reply, after_reply, put_value, Reached}
 use Rattle.lower_model.proofs.Conversions.{same_state}
-use Rattle.lower_model.proofs.Simulation.{work_of, layout, meant, Done, ExprOk, CodesOk}
+use Rattle.lower_model.proofs.Simulation.{work_of, layout, Done, ExprOk, CodesOk}
 use Rattle.lower_model.proofs.Expressions.{host_expr, put_done}
 
 -- what is read so is a field whose number is a constant

@@ -9,7 +9,7 @@ use Rattle.sem_scripts.specs.ScriptRun.{unless}
 use Rattle.mid_program.specs.Sorted.{IsSorted, is_sorted, all_differ, announced_names, routines_sorted, parts_sorted, steps_sorted, context_of, kinds_of}
 use Rattle.lower_model.specs.Follows.{FollowsNoted, EmissionNotes}
 use Rattle.lower_model.specs.Functions.{main_bases}
-use Rattle.lower_model.specs.Machine.{Notes, Frame}
+use Rattle.lower_model.specs.Machine.{Frame}
 use Rattle.lower_model.specs.Places.{Bases}
 use Rattle.lower_model.proofs.Watch.{Watch, watched}
 use Rattle.lower_model.proofs.Relation.{globals_told, routines_told}

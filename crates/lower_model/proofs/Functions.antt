@@ -20,7 +20,7 @@ use Rattle.lower_model.specs.Cells.{Cell, Bits, Held, Gone, is_owned, none_owned
 use Rattle.lower_model.specs.Emission.{function_number}
 use Rattle.lower_model.specs.Functions.{layout_of, routine_bases, routine_callee}
 use Rattle.lower_model.specs.Machine.{Conf, Deep, Label, Frame, Store, at, label, zeros, guarded, enter, waits, ask as asked}
-use Rattle.lower_model.specs.Imports.{import_at, import_count}
+use Rattle.host_imports.specs.Imports.{import_at, import_count}
 use Rattle.lower_model.specs.Noted.{noted_called, steps_noted, routine_rest}
 use Rattle.lower_model.specs.Places.{Bases, answer_local, local_types, temporary_types, handle_types, steps_room, steps_iterators, steps_arrays}
 use Rattle.lower_model.specs.Small.{does, ask_row}

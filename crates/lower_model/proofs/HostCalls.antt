@@ -72,7 +72,7 @@ operation_plain row.BeginEnd e = absurd cc
 operation_plain _ e = tt
 
 pub calm_after : (p : Program) (q : Primitive) (r : Row (arguments_of q)) (s : Shared) → is_quiet q ≡ true → Calm p s → Calm p (shared_after s (meaning q r s))
-calm_after p q r s e c = let k = row_keeps q r s e in record { pending = k.pending ∙ c.pending; names = k.names ∙ c.names }
+calm_after p q r s e c = let k = row_keeps q r s e in record { pending = k.pending ∙ c.pending; names = k.names ∙ c.names; few = k.few c.few }
 
 -- a row makes no array
 pub row_makes_none : (fs : List Form) (wanted : List Argument) (es : Codes) (w : ℕ) → fit_row fs wanted es ≡ true → made_past w es ≡ w

@@ -30,7 +30,7 @@ use Rattle.sem_primitives.specs.declared.constants.NameKind.{NameKind}
 use Rattle.sem_primitives.specs.declared.constants.NameKind.TheVariants.{Scalar, ArrayOrFunction}
 use Rattle.sem_primitives.specs.declared.constants.Special.{Special}
 use Rattle.sem_primitives.specs.declared.constants.Special.TheVariants.{Nr, Fnr}
-use Rattle.lower_model.proofs.HostLaws.{Keeps, Still, Good, GoodBy, kept_by, special_good, keeps_same}
+use Rattle.lower_model.proofs.HostLaws.{Few, Keeps, Still, Good, GoodBy, kept_by, special_good, keeps_same}
 use Rattle.lower_model.proofs.HostLaws
 
 -- an assignment that the script is to make
@@ -46,11 +46,11 @@ abbrev pub IsNamed : Inner → ℕ → Type 0
 IsNamed i number = (n : ℕ) × (name : List ℕ) × (text : List ℕ) × (assignment_of (operand_text n i) ≡ Some (name, text)) × (declared 0 name i.names ≡ Some (number, Scalar))
 
 abbrev pub AfterAssigned : List ℕ → Inner → Inner → Bool → Type 0
-AfterAssigned name i j true = (j.names ≡ i.names) × (p : IsPending j) × (j.assigns ≡ i.assigns) × (declared 0 name i.names ≡ Some (p.number, Scalar))
+AfterAssigned name i j true = (j.names ≡ i.names) × (p : IsPending j) × (j.assigns ≡ i.assigns) × (declared 0 name i.names ≡ Some (p.number, Scalar)) × (Few i → Few j)
 AfterAssigned name i j false = Still i j
 
 abbrev pub AfterMain : Inner → Inner → Main → Type 0
-AfterMain i j Pending = (j.names ≡ i.names) × (p : IsPending j) × (j.assigns ≡ i.assigns) × IsNamed i p.number
+AfterMain i j Pending = (j.names ≡ i.names) × (p : IsPending j) × (j.assigns ≡ i.assigns) × IsNamed i p.number × (Few i → Few j)
 AfterMain i j _ = Still i j
 
 abbrev pub GoodMain : Inner → Result (Inner × Main) Fault → Type 0
@@ -62,7 +62,7 @@ GoodAssigned name i (Ok x) = AfterAssigned name i x.0 x.1
 GoodAssigned name i (Err f) = Unit {0}
 
 keeps_then : (i j k : Inner) → Keeps i j → Keeps j k → Keeps i k
-keeps_then i j k a c = record { pending = c.pending ∙ a.pending; names = c.names ∙ a.names; assigns = c.assigns ∙ a.assigns }
+keeps_then i j k a c = record { pending = c.pending ∙ a.pending; names = c.names ∙ a.names; assigns = c.assigns ∙ a.assigns; few = λ x. c.few (a.few x) }
 
 still_then : (i j k : Inner) → Still i j → Still j k → Still i k
 still_then i j k a c = record { keeps = keeps_then i j k a.keeps c.keeps; arrays = c.arrays ∙ a.arrays }
@@ -78,7 +78,7 @@ named_then i j number a h = (
 )
 
 main_then : (i j k : Inner) (m : Main) → Still i j → AfterMain j k m → AfterMain i k m
-main_then i j k Pending a c = (c.0 ∙ a.keeps.names, c.1, c.2 ∙ a.keeps.assigns, named_then i j c.1.number a c.3)
+main_then i j k Pending a c = (c.0 ∙ a.keeps.names, c.1, c.2 ∙ a.keeps.assigns, named_then i j c.1.number a c.3, λ x. c.4 (a.keeps.few x))
 main_then i j k (Taken t) a c = still_then i j k a c
 main_then i j k Over a c = still_then i j k a c
 main_then i j k NotOpened a c = still_then i j k a c
@@ -97,7 +97,7 @@ still_same i = record { keeps = keeps_same i; arrays = refl }
 
 global_good : (name text : List ℕ) (i : Inner) (o : Option (ℕ × NameKind)) → declared 0 name i.names ≡ o → GoodAssigned name i (assigned_global o text i)
 global_good name text i None e = still_same i
-global_good name text i (Some (n, Scalar)) e = (refl, record { number = n; name = name; text = text; told = e; there = refl }, refl, e)
+global_good name text i (Some (n, Scalar)) e = (refl, record { number = n; name = name; text = text; told = e; there = refl }, refl, e, λ x. x)
 global_good name text i (Some (n, ArrayOrFunction)) e = tt
 
 by_good : (o : Option Special) (name text : List ℕ) (i : Inner) → GoodAssigned name i (assigned_by o name text i)
@@ -113,14 +113,14 @@ assigned_good name text i = by (takes_none name)
 
 -- the main input alone, or a special variable, is another
 leaves_keeps : (reader : MainReader) (left : Source) (i : Inner) → Still i (leaves reader left i)
-leaves_keeps Standard left i = record { keeps = record { pending = refl; names = refl; assigns = refl }; arrays = refl }
-leaves_keeps (File s) left i = record { keeps = record { pending = refl; names = refl; assigns = refl }; arrays = refl }
+leaves_keeps Standard left i = record { keeps = record { pending = refl; names = refl; assigns = refl; few = λ h. h }; arrays = refl }
+leaves_keeps (File s) left i = record { keeps = record { pending = refl; names = refl; assigns = refl; few = λ h. h }; arrays = refl }
 
 -- where the rest of the input is good
 module _ (on : Inner → Result (Inner × Main) Fault) (good : (i : Inner) → GoodMain i (on i)) where
   got_good : (reader : MainReader) (i : Inner) (g : Got) (left : Source) → GoodMain i (got_main on reader i (g, left))
   got_good reader i (Record text) left = leaves_keeps reader left i
-  got_good reader i AtEnd left = let k = leaves_keeps reader left i in later i (stops_reading (leaves reader left i)) (on (stops_reading (leaves reader left i))) (record { keeps = record { pending = k.keeps.pending; names = k.keeps.names; assigns = k.keeps.assigns }; arrays = k.arrays }) (good (stops_reading (leaves reader left i)))
+  got_good reader i AtEnd left = let k = leaves_keeps reader left i in later i (stops_reading (leaves reader left i)) (on (stops_reading (leaves reader left i))) (record { keeps = record { pending = k.keeps.pending; names = k.keeps.names; assigns = k.keeps.assigns; few = k.keeps.few }; arrays = k.arrays }) (good (stops_reading (leaves reader left i)))
   got_good reader i Broken left = leaves_keeps reader left i
 
   read_good : (reader : MainReader) (i : Inner) → GoodMain i (read_main on reader i)
@@ -132,29 +132,29 @@ module _ (on : Inner → Result (Inner × Main) Fault) (good : (i : Inner) → G
 
   opened_good : (name : List ℕ) (r : Option MainReader) (i : Inner) → GoodMain i (opened on name r i)
   opened_good name None i = still_same i
-  opened_good name (Some reader) i = later i (begins_reading name reader i) (read_main on reader (begins_reading name reader i)) (record { keeps = record { pending = refl; names = refl; assigns = refl }; arrays = refl }) (read_good reader (begins_reading name reader i))
+  opened_good name (Some reader) i = later i (begins_reading name reader i) (read_main on reader (begins_reading name reader i)) (record { keeps = record { pending = refl; names = refl; assigns = refl; few = λ h. h }; arrays = refl }) (read_good reader (begins_reading name reader i))
 
   -- the n-th operand is one
   assigned_then : (n : ℕ) (name text : List ℕ) (i : Inner) → assignment_of (operand_text n i) ≡ Some (name, text) → (r : Result (Inner × Bool) Fault) → GoodAssigned name i r → GoodMain i (r >>= λ x. made on x)
-  assigned_then n name text i e (Ok (j, true)) h = (h.0, h.1, h.2, (n, name, text, e, h.3))
+  assigned_then n name text i e (Ok (j, true)) h = (h.0, h.1, h.2, (n, name, text, e, h.3), h.4)
   assigned_then n name text i e (Ok (j, false)) h = later i j (on j) h (good j)
   assigned_then n name text i e (Err f) h = tt
 
   operand_good : (o : Outside) (n : ℕ) (text : List ℕ) (a : Option (List ℕ × List ℕ)) (i : Inner) → assignment_of (operand_text n i) ≡ a → GoodMain i (file_or_assignment on o text a i)
   operand_good o n text (Some pair) i e = assigned_then n pair.0 pair.1 i e (assigned pair.0 pair.1 i) (assigned_good pair.0 pair.1 i)
-  operand_good o n text None i e = later i (with_operands SomeFile i) (opened on text (reader_of o text) (with_operands SomeFile i)) (record { keeps = record { pending = refl; names = refl; assigns = refl }; arrays = refl }) (opened_good text (reader_of o text) (with_operands SomeFile i))
+  operand_good o n text None i e = later i (with_operands SomeFile i) (opened on text (reader_of o text) (with_operands SomeFile i)) (record { keeps = record { pending = refl; names = refl; assigns = refl; few = λ h. h }; arrays = refl }) (opened_good text (reader_of o text) (with_operands SomeFile i))
 
   taken_good : (o : Outside) (n : ℕ) (text : List ℕ) (i : Inner) → operand_text n i ≡ text → GoodMain i (taken on o text i)
   taken_good o n [] i e = good i
   taken_good o n (c ∷ cs) i e = operand_good o n (c ∷ cs) (assignment_of (c ∷ cs)) i (ap assignment_of e)
 
 over_good : (i : Inner) → GoodMain i (over i)
-over_good i = record { keeps = record { pending = refl; names = refl; assigns = refl }; arrays = refl }
+over_good i = record { keeps = record { pending = refl; names = refl; assigns = refl; few = λ h. h }; arrays = refl }
 
 follows_good : (ops : Operands) (i : Inner) → GoodMain i (follows ops i)
 follows_good NoFile i =
     let j = begins_reading [] Standard (with_operands NoneLeft i) in
-    later i j (read_main over Standard j) (record { keeps = record { pending = refl; names = refl; assigns = refl }; arrays = refl }) (read_good over over_good Standard j)
+    later i j (read_main over Standard j) (record { keeps = record { pending = refl; names = refl; assigns = refl; few = λ h. h }; arrays = refl }) (read_good over over_good Standard j)
 follows_good SomeFile i = over_good i
 follows_good NoneLeft i = over_good i
 
@@ -162,7 +162,7 @@ reached_good : (on : Inner → Result (Inner × Main) Fault) → ((i : Inner) �
 reached_good on good o i argc = by (is_below i.main.next argc)
   where
     by : (t : Bool) → GoodMain i (elim t [ true ↦ taken on o (operand_text i.main.next i) (passes_operand i) | false ↦ follows i.main.operands i ])
-    by true = later i (passes_operand i) (taken on o (operand_text i.main.next i) (passes_operand i)) (record { keeps = record { pending = refl; names = refl; assigns = refl }; arrays = refl }) (taken_good on good o i.main.next (operand_text i.main.next i) (passes_operand i) refl)
+    by true = later i (passes_operand i) (taken on o (operand_text i.main.next i) (passes_operand i)) (record { keeps = record { pending = refl; names = refl; assigns = refl; few = λ h. h }; arrays = refl }) (taken_good on good o i.main.next (operand_text i.main.next i) (passes_operand i) refl)
     by false = follows_good i.main.operands i
 
 argc_good : (i : Inner) (go : ℤ → Result (Inner × Main) Fault) → ((z : ℤ) → GoodMain i (go z)) → (r : Result ℤ Fault) → GoodMain i (r >>= go)
@@ -203,32 +203,32 @@ AreAmong pairs all = (name : List ℕ) → IsAmong pairs name → IsAmong all na
 
 -- some of the assignments are left
 abbrev pub AfterStart : List (List ℕ × List ℕ) → Inner → Inner → AssignAnswer → Type 0
-AfterStart pairs i j assign.Pending = (j.names ≡ i.names) × (p : IsPending j) × AreAmong j.assigns pairs × IsNamedAmong pairs i p.number
-AfterStart pairs i j assign.NoneLeft = (j.pending ≡ i.pending) × (j.names ≡ i.names) × (j.assigns ≡ [])
+AfterStart pairs i j assign.Pending = (j.names ≡ i.names) × (p : IsPending j) × AreAmong j.assigns pairs × IsNamedAmong pairs i p.number × (Few i → Few j)
+AfterStart pairs i j assign.NoneLeft = (j.pending ≡ i.pending) × (j.names ≡ i.names) × (j.assigns ≡ []) × (Few i → Few j)
 
 abbrev pub GoodStart : List (List ℕ × List ℕ) → Inner → Result (Inner × AssignAnswer) Fault → Type 0
 GoodStart pairs i (Ok x) = AfterStart pairs i x.0 x.1
 GoodStart pairs i (Err f) = Unit {0}
 
 -- behind the first of them, where the state has the same names, and as much is pending
-start_later : (pair : List ℕ × List ℕ) (rest : List (List ℕ × List ℕ)) (i j : Inner) (r : Result (Inner × AssignAnswer) Fault) → j.pending ≡ i.pending → j.names ≡ i.names → GoodStart rest j r → GoodStart (pair ∷ rest) i r
-start_later pair rest i j (Ok (k, assign.Pending)) a b c = (c.0 ∙ b, c.1, (λ name h. inr (c.2 name h)), (c.3.0, inr c.3.1, ap (declared 0 c.3.0) (sym b) ∙ c.3.2))
-start_later pair rest i j (Ok (k, assign.NoneLeft)) a b c = (c.0 ∙ a, c.1 ∙ b, c.2)
-start_later pair rest i j (Err f) a b c = tt
+start_later : (pair : List ℕ × List ℕ) (rest : List (List ℕ × List ℕ)) (i j : Inner) (r : Result (Inner × AssignAnswer) Fault) → j.pending ≡ i.pending → j.names ≡ i.names → (Few i → Few j) → GoodStart rest j r → GoodStart (pair ∷ rest) i r
+start_later pair rest i j (Ok (k, assign.Pending)) a b f c = (c.0 ∙ b, c.1, (λ name h. inr (c.2 name h)), (c.3.0, inr c.3.1, ap (declared 0 c.3.0) (sym b) ∙ c.3.2), λ x. c.4 (f x))
+start_later pair rest i j (Ok (k, assign.NoneLeft)) a b f c = (c.0 ∙ a, c.1 ∙ b, c.2, λ x. c.3 (f x))
+start_later pair rest i j (Err g) a b f c = tt
 
 start_then : (pair : List ℕ × List ℕ) (rest : List (List ℕ × List ℕ)) (i : Inner) → i.assigns ≡ rest → ((k : Inner) → GoodStart rest k (start_from rest k)) → (r : Result (Inner × Bool) Fault) → GoodAssigned pair.0 i r → GoodStart (pair ∷ rest) i (r >>= λ x. start_by (start_from rest) x)
-start_then pair rest i e good (Ok (k, true)) h = (h.0, h.1, (λ name q. inr (subst (λ ps. IsAmong ps name) (h.2 ∙ e) q)), (pair.0, inl refl, h.3))
-start_then pair rest i e good (Ok (k, false)) h = start_later pair rest i k (start_from rest k) h.keeps.pending h.keeps.names (good k)
+start_then pair rest i e good (Ok (k, true)) h = (h.0, h.1, (λ name q. inr (subst (λ ps. IsAmong ps name) (h.2 ∙ e) q)), (pair.0, inl refl, h.3), h.4)
+start_then pair rest i e good (Ok (k, false)) h = start_later pair rest i k (start_from rest k) h.keeps.pending h.keeps.names h.keeps.few (good k)
 start_then pair rest i e good (Err f) h = tt
 
 pub start_good : (pairs : List (List ℕ × List ℕ)) (i : Inner) → GoodStart pairs i (start_from pairs i)
-start_good [] i = (refl, refl, refl)
+start_good [] i = (refl, refl, refl, λ x. x)
 start_good (pair ∷ rest) i = let j = record i { assigns = rest } in start_then pair rest j refl (start_good rest) (assigned pair.0 pair.1 j) (assigned_good pair.0 pair.1 j)
 
 -- A record, or a line for a variable.
 
 abbrev pub AfterInput : Inner → Inner → InputAnswer → Type 0
-AfterInput i j input.Pending = (j.names ≡ i.names) × (p : IsPending j) × (j.assigns ≡ i.assigns) × IsNamed i p.number
+AfterInput i j input.Pending = (j.names ≡ i.names) × (p : IsPending j) × (j.assigns ≡ i.assigns) × IsNamed i p.number × (Few i → Few j)
 AfterInput i j _ = Keeps i j
 
 abbrev pub GoodInput : Inner → Result (Inner × InputAnswer) Fault → Type 0
@@ -239,7 +239,7 @@ counted_good : (s : Special) (i j : Inner) → Keeps i j → Good (λ k. k) i (c
 counted_good s i j h = by (number_of_value (special_of j s))
   where
     on : (m : Result ℤ Fault) → Good (λ k. k) i (m >>= λ m. Ok (with_special s (Num m) j))
-    on (Ok m) = record { pending = h.pending; names = h.names; assigns = h.assigns }
+    on (Ok m) = record { pending = h.pending; names = h.names; assigns = h.assigns; few = h.few }
     on (Err f) = tt
 
     by : (r : Result ℤ Fault) → Good (λ k. k) i (r >>= λ n. sum n (pos 1) >>= λ m. Ok (with_special s (Num m) j))
@@ -281,7 +281,7 @@ record_input text i j h = by (with_record text j) (kept_by j (with_record text j
     by (Err f) g = tt
 
 line_input : (text : List ℕ) (i j : Inner) → Keeps i j → GoodInput i (as_line text j)
-line_input text i j h = record { pending = h.pending; names = h.names; assigns = h.assigns }
+line_input text i j h = record { pending = h.pending; names = h.names; assigns = h.assigns; few = h.few }
 
 pub getline_row_good : (o : Outside) (i : Inner) → GoodInput i (getline_row o i)
 getline_row_good o i = getline_good as_record record_input i.in_end o i

@@ -14,9 +14,9 @@ use Rattle.lower_model.specs.Emission.{emitted, all_emitted, left_over, sequence
 use Rattle.lower_model.specs.Machine.{Conf, Label, Frame, at, loops_walked}
 use Rattle.lower_model.specs.Places.{Bases}
 use Rattle.lower_model.specs.Small.{unused, released, moved_from, number_copied, let_go, h, moved}
-use Rattle.lower_model.specs.declared.import.Import.TheVariants.{Drop}
+use Rattle.host_imports.specs.declared.import.Import.TheVariants.{Drop}
 use Rattle.lower_model.proofs.Watch.{Watch}
-use Rattle.lower_model.proofs.Runs.{Goes, then_goes, stays, goes_from, first, then_on, then_step, weaker}
+use Rattle.lower_model.proofs.Runs.{Goes, then_goes, stays, goes_from, first, then_on, then_step}
 use Rattle.lower_model.proofs.Regions.{upd_same, upd_other}
 use Rattle.lower_model.proofs.Locals.{Locals, Hand, Number as NumberAt, with_at, laid}
 use Rattle.lower_model.proofs.Steps.{empty, set_ok, get_copied, moved_out_ok}

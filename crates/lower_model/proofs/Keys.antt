@@ -18,13 +18,14 @@ use Rattle.sem_scripts.specs.Statements.{Flow, Normal, Broke, Continued, at_key,
 use Rattle.sem_scripts.specs.Steps.{array_number}
 use Rattle.lower_model.specs.Cells.{Cell, Bits, Held, IteratorOf, Gone, is_owned}
 use Rattle.lower_model.specs.Emission.{array_pushed, dropped, left_over}
-use Rattle.lower_model.specs.ImportCalls.{key_or_end, end_word, with_some, and_rest, row_in}
+use Rattle.host_imports.specs.Codes.{end_word}
+use Rattle.lower_model.specs.ImportCalls.{key_or_end, with_some, and_rest, row_in}
 use Rattle.lower_model.specs.Machine.{Conf, Look, Label, Frame, at, label, ask_looking, with_operands, push_word, looked_compared, go}
 use Rattle.lower_model.specs.Noted.{noted_called, step_noted, steps_noted}
 use Rattle.lower_model.specs.Places.{Bases, room, arrays_in, iterator_local, step_room, step_iterators, step_arrays}
 use Rattle.lower_model.specs.Small.{does as instruction, ask_row, ask, let_go, moved_out, end_code, h}
 use Rattle.lower_model.specs.Statements.{block, again, key_stored, iterator_left, step_emitted, steps_emitted}
-use Rattle.lower_model.specs.declared.import.Import.TheVariants.{Of, Drop, IterFree}
+use Rattle.host_imports.specs.declared.import.Import.TheVariants.{Of, Drop, IterFree}
 use Rattle.lower_model.proofs.Watch.{Watch}
 use Rattle.lower_model.proofs.Runs.{Goes, goes_to, goes_from, then_goes, by_steps, stays, first, then_on, then_step, there, turned, weaker, Onward}
 use Rattle.lower_model.proofs.Regions.{upd_same, upd_other, upd_all}

@@ -31,8 +31,8 @@ use Rattle.lower_model.specs.ImportCalls.{Host, Acts, with_some, and_rest, row_i
 use Rattle.lower_model.specs.Machine.{Conf, Label, Frame, at, onto}
 use Rattle.lower_model.specs.Places.{Bases}
 use Rattle.lower_model.specs.Small.{ask, kept, to_value}
-use Rattle.lower_model.specs.declared.import.Import.TheVariants.{Over as OverLast, Arg}
-use Rattle.lower_model.specs.declared.import.Listing.TheVariants as last
+use Rattle.host_imports.specs.declared.import.Import.TheVariants.{Over as OverLast, Arg}
+use Rattle.host_imports.specs.declared.import.Listing.TheVariants as last
 use Rattle.lower_model.proofs.Watch.{Watch}
 use Rattle.lower_model.proofs.Runs.{Goes, then_goes, goes_to, goes_from, stays, first, then_on, weaker_settled}
 use Rattle.lower_model.proofs.Regions.{upd_same, upd_other}
@@ -258,7 +258,7 @@ module _ (p : Program) (deepest : Watch) (ks : List Kind) (F : List Frame) (b : 
       let d1 = listed_meaning lo args τ.shared in
       let τ1 : State = record τ { shared = shared_after τ.shared d1 } in
       let kp = listed_keeps lo args τ.shared in
-      let f1 = fit_shared p deepest ks F t u w y.next τ (shared_after τ.shared d1) (record { pending = kp.pending ∙ a.fit.sound.calm.pending; names = kp.names ∙ a.fit.sound.calm.names }) y.fit in
+      let f1 = fit_shared p deepest ks F t u w y.next τ (shared_after τ.shared d1) (record { pending = kp.pending ∙ a.fit.sound.calm.pending; names = kp.names ∙ a.fit.sound.calm.names; few = kp.few a.fit.sound.calm.few }) y.fit in
       let un : Under t a.next y.next = under_then t t a.next bx.next y.next (omega arith) bx.under y.under in
       first mach M (bx.steps + (list_work 3 es + 1)) 4 (extra_of es + 10) τ.turns c1 _ P Q _
       (goes_from a.comes (then_goes bx.goes (then_goes y.goes (listed_called lo (count_of es) t d k K (laid b y.next) args τ (values_counted_so fs es vs s2.0) s1.0)))) (omega (arith, bx.few, ex))

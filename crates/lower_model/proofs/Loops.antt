@@ -1,12 +1,12 @@
 -- Loops with a test. A turn is a test, which is paid; then the body, and what stands between the body and the next test.
-use Rattle.std.proofs.Common.{◌≡◌, ℕ, zero, suc, ◌+◌, ◌^◌, ◌≤◌, Bool, true, false, List, [], ◌∷◌, Some, None, Option, refl, sym, ap, ◌∙◌, subst, arith}
+use Rattle.std.proofs.Common.{◌≡◌, ℕ, zero, suc, ◌+◌, ◌^◌, ◌≤◌, Bool, true, false, List, [], ◌∷◌, Some, None, Option, refl, sym, ap, ◌∙◌, arith}
 use Rattle.std.specs.Prelude.{◌&&◌, cond, if◌then◌else◌, pos}
 use Rattle.std.proofs.lemmas.Bool.{and_parts}
 use Rattle.wasm_types.specs.Syntax.{Instructions, Done as NoMore}
 use Rattle.wasm_types.specs.declared.types.ValType.TheVariants.{I32}
 use Rattle.wasm_types.specs.declared.instr.Simple.TheVariants.{Nop, Br, BrIf, Test}
 use Rattle.wasm_types.specs.declared.instr.ITestOp.TheVariants.{Eqz}
-use Rattle.mid_program.specs.Mid.{Kind, Program, Code, Step, Block, Loop, NoStep}
+use Rattle.mid_program.specs.Mid.{Kind, Program, Code, Step, Loop}
 use Rattle.sem_scripts.specs.ScriptRun.{GoesOn}
 use Rattle.sem_scripts.specs.ScriptState.{State, Stop, Outcome, Doing, ◌>>=◌, ◌>>◌, nothing, give, go_on}
 use Rattle.mid_program.specs.Sorted.{test_sorted, step_sorted, steps_sorted}
@@ -19,7 +19,7 @@ use Rattle.lower_model.specs.Places.{Bases, step_room, step_iterators, step_arra
 use Rattle.lower_model.specs.Small.{does}
 use Rattle.lower_model.specs.Statements.{block, again, left_unless, left_unless_counted, left_unless_pair, name_read, step_emitted, steps_emitted}
 use Rattle.lower_model.proofs.Watch.{Watch}
-use Rattle.lower_model.proofs.Runs.{Goes, goes_from, then_goes, by_steps, stays, first, then_on, then_step, there, turned, weaker, Onward}
+use Rattle.lower_model.proofs.Runs.{Goes, goes_from, by_steps, stays, first, then_on, then_step, there, turned, weaker, Onward}
 use Rattle.lower_model.proofs.Locals.{Locals, laid}
 use Rattle.lower_model.proofs.Relation.{Away, away_out, fit_turns}
 use Rattle.lower_model.proofs.Pieces.{closes}

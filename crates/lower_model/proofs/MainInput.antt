@@ -1,11 +1,11 @@
 -- What `main` is given: the assignments before BEGIN, and the records of the main input with the assignments between them, do what they mean.
-use Rattle.std.proofs.Common.{◌≡◌, inl, inr, ℕ, zero, suc, ◌+◌, ◌*◌, ◌-◌, ◌^◌, ◌<◌, ◌≤◌, true, false, List, [], ◌∷◌, length, Some, None, Result, Ok, Err, refl, sym, ap, ◌∙◌, arith, subst}
+use Rattle.std.proofs.Common.{◌≡◌, inl, inr, ℕ, zero, suc, ◌+◌, ◌*◌, ◌-◌, ◌^◌, ◌<◌, ◌≤◌, true, List, [], length, Result, Ok, Err, refl, sym, ap, ◌∙◌, arith, subst}
 use Rattle.std.specs.Prelude.{not, is_some}
 use Rattle.awk_values.specs.declared.fault.Fault.{Fault}
 use Rattle.awk_values.specs.declared.value.Value.TheVariants.{StrNum}
 use Rattle.sem_primitives.specs.Carried.{carried_out}
 use Rattle.sem_primitives.specs.InputMeaning.{next_main_row}
-use Rattle.sem_primitives.specs.SharedState.{Inner, Shared, settles, shared_after}
+use Rattle.sem_primitives.specs.SharedState.{Inner, Shared, settles}
 use Rattle.sem_primitives.specs.declared.answers.InputAnswer.{InputAnswer}
 use Rattle.sem_primitives.specs.declared.answers.InputAnswer.TheVariants as input
 use Rattle.sem_primitives.specs.declared.answers.AssignAnswer.{AssignAnswer}
@@ -17,30 +17,30 @@ use Rattle.wasm_store.specs.declared.word.Word.TheVariants.{I64}
 use Rattle.sem_scripts.specs.Meaning.{assign_pending}
 use Rattle.mid_program.specs.Mid.{Program}
 use Rattle.sem_scripts.specs.ScriptRun.{first_assigned, on_assignment}
-use Rattle.sem_scripts.specs.ScriptState.{State, Stop, Faulted, OutOfTurns, TooDeep, Nexted, Exited, Returned, Outcome, Gives, Stops, Doing, ◌>>◌, go_on, give, nothing, stop, spend, spend_all, spent, settled, asks, does}
+use Rattle.sem_scripts.specs.ScriptState.{State, Faulted, OutOfTurns, TooDeep, Nexted, Exited, Returned, Outcome, Gives, Stops, Doing, ◌>>◌, go_on, give, stop, spend_all, spent, settled, asks, does}
 use Rattle.mid_program.specs.Sorted.{kinds_of}
 use Rattle.lower_model.specs.Cells.{Bits, Held}
 use Rattle.lower_model.specs.Emission.{asked, pending_assigned}
 use Rattle.lower_model.specs.Functions.{layout_of}
-use Rattle.lower_model.specs.ImportCalls.{input_code}
+use Rattle.host_imports.specs.Codes.{input_code}
 use Rattle.lower_model.specs.Machine.{Conf, Label, at, carried_if, loops_walked}
 use Rattle.lower_model.specs.Machine
 use Rattle.lower_model.specs.Places.{Bases}
 use Rattle.lower_model.specs.Small.{ask_row, kept_code}
-use Rattle.lower_model.specs.declared.import.Import.TheVariants.{Of}
+use Rattle.host_imports.specs.declared.import.Import.TheVariants.{Of}
 use Rattle.lower_model.proofs.Watch.{Watch}
-use Rattle.lower_model.proofs.Runs.{Arrives, Reaches, then_goes, stays, there, faulted, within, then_on}
+use Rattle.lower_model.proofs.Runs.{Arrives, stays, there, faulted, then_on}
 use Rattle.lower_model.proofs.Regions.{upd_same}
 use Rattle.lower_model.proofs.Locals.{Locals, Hand, Number as NumberAt, with_at, laid}
 use Rattle.lower_model.proofs.Steps.{empty}
 use Rattle.lower_model.proofs.Calls.{import_found}
-use Rattle.lower_model.proofs.Relation.{Calm, Fit, fit_shared, fit_turns, fit_more, fit_less, fit_hand, fit_number, Away}
+use Rattle.lower_model.proofs.Relation.{Fit, fit_shared, fit_turns, fit_more, fit_less, fit_hand, fit_number, Away}
 use Rattle.lower_model.proofs.Pieces.{code_kept, code_failed}
 use Rattle.lower_model.proofs.Answers.{machine, beside_state, row_called, away_with}
-use Rattle.lower_model.proofs.HostLaws.{Keeps}
+use Rattle.lower_model.proofs.HostLaws.{Few, Keeps}
 use Rattle.lower_model.proofs.InputLaws.{IsPending, GoodInput, next_main_row_good}
-use Rattle.lower_model.proofs.Spending.{Asks, state_after, conf_after, asking, spends_ok}
-use Rattle.lower_model.proofs.Asking.{codes_fit, fit_answered, fit_faulted, assign_work}
+use Rattle.lower_model.proofs.Spending.{Asks, state_after, conf_after, spends_ok}
+use Rattle.lower_model.proofs.Asking.{codes_fit, fit_answered, fit_faulted}
 use Rattle.lower_model.proofs.Pending.{made_locals, made_state, pending_meant, pending_made}
 use Rattle.lower_model.proofs.Written.{fit_global}
 use Rattle.lower_model.proofs.StatementForms.{Starts}
@@ -97,14 +97,15 @@ module _ (p : Program) (deepest : Watch) (b : Bases) (M n : ℕ) (none : zero �
     same : σ ≡ record before { turns = σ.turns; shared = σ.shared }
     pending : IsPending σ.shared.inner
     names : σ.shared.inner.names ≡ before.shared.inner.names
+    few : Few before.shared.inner → Few σ.shared.inner
 
   starts_of : (K : List Label) (l : Locals) (σ : State) → loops_walked K ≡ 0 → σ.turns ≤ n → Fit p deepest [] [] 0 0 0 l σ → Starts p deepest [] [] b M n 0 K l σ
   starts_of K l σ walks le fit = record { fit = fit; walked = λ x lt. absurd (omega (arith, lt)); walks = omega arith; loops = walks; turns = le; parameters = none }
 
-  assigned_at : (before : State) (m : ℕ) (sh : Shared) (d : ℕ) (k : Instructions) (K : List Label) (l : Locals) → loops_walked K ≡ 0 → m ≤ n → Fit p deepest [] [] 0 0 0 l before → IsPending sh.inner → sh.inner.names ≡ before.shared.inner.names →
+  assigned_at : (before : State) (m : ℕ) (sh : Shared) (d : ℕ) (k : Instructions) (K : List Label) (l : Locals) → loops_walked K ≡ 0 → m ≤ n → Fit p deepest [] [] 0 0 0 l before → IsPending sh.inner → sh.inner.names ≡ before.shared.inner.names → (Few before.shared.inner → Few sh.inner) →
       Arrives mach M (21 + 4 * length (kinds_of p.globals)) m (at [] [] K (laid b l) [] (pending_assigned (layout_of p b) zero k) (beside_state p deepest [] [] (record before { turns = m; shared = sh })))
       (λ u. On p deepest b M n k K) (Away p deepest [] [] b d K) (assign_pending (record before { turns = m; shared = sh }))
-  assigned_at before m sh d k K l walks le ft ip nm =
+  assigned_at before m sh d k K l walks le ft ip nm fw =
       let σ = record before { turns = m; shared = sh } in
       let e0 = ft.free 0 (omega arith) in
       let e1 = ft.free 1 (omega arith) in
@@ -117,7 +118,7 @@ module _ (p : Program) (deepest : Watch) (b : Bases) (M n : ℕ) (none : zero �
       let l4 = with_at l3 (Hand 0) value in
       let σ2 = made_state p deepest [] [] b M n ip.number ip.text σ in
       let σ1 = record before { turns = m; shared = σ2.shared } in
-      let f2 = fit_shared p deepest [] [] 0 0 0 l (record before { turns = m }) σ2.shared (record { pending = refl; names = nm ∙ ft.sound.calm.names }) (fit_turns p deepest [] [] 0 0 0 l before m ft) in
+      let f2 = fit_shared p deepest [] [] 0 0 0 l (record before { turns = m }) σ2.shared (record { pending = refl; names = nm ∙ ft.sound.calm.names; few = fw ft.sound.calm.few }) (fit_turns p deepest [] [] 0 0 0 l before m ft) in
       let f4 = fit_more p deepest [] [] 0 0 0 l3 σ1 (fit_number p deepest [] [] 0 0 0 0 l σ1 number refl f2) in
       let f5 = fit_hand p deepest [] [] 0 1 0 0 l3 σ1 value (inr (StrNum ip.text, refl)) (omega arith) f4 in
       let f6 = fit_hand p deepest [] [] 0 1 0 0 l4 σ1 empty (inl refl) (omega arith) f5 in
@@ -130,7 +131,7 @@ module _ (p : Program) (deepest : Watch) (b : Bases) (M n : ℕ) (none : zero �
       Arrives mach M (21 + 4 * length (kinds_of p.globals)) σ.turns (at [] [] K (laid b l) [] (pending_assigned (layout_of p b) zero k) (beside_state p deepest [] [] σ)) (λ u. On p deepest b M n k K) (Away p deepest [] [] b d K) (assign_pending σ)
   assigned d k K l σ walks le h =
       subst (λ (τ : State). Arrives mach M (21 + 4 * length (kinds_of p.globals)) τ.turns (at [] [] K (laid b l) [] (pending_assigned (layout_of p b) zero k) (beside_state p deepest [] [] τ)) (λ u. On p deepest b M n k K) (Away p deepest [] [] b d K) (assign_pending τ)) (sym h.same)
-      (assigned_at h.before σ.turns σ.shared d k K l walks le h.fit h.pending h.names)
+      (assigned_at h.before σ.turns σ.shared d k K l walks le h.fit h.pending h.names h.few)
 
   -- ---- the next record
 
@@ -163,7 +164,7 @@ module _ (p : Program) (deepest : Watch) (b : Bases) (M n : ℕ) (none : zero �
         let τ = after_call m (Ok (j, x)) in
         let most = st.turns in
         subst (λ (l2 : Locals). Starts p deepest [] [] b M n 0 K l2 τ) (sym e)
-        (starts_of K (with_at l (NumberAt 0) c) τ st.loops (omega (arith, le, most)) (fit_number p deepest [] [] 0 0 0 0 l τ c refl (fit_answered p deepest [] [] b M n answer.Input 0 0 0 l σ m j x h.pending h.names st.fit)))
+        (starts_of K (with_at l (NumberAt 0) c) τ st.loops (omega (arith, le, most)) (fit_number p deepest [] [] 0 0 0 0 l τ c refl (fit_answered p deepest [] [] b M n answer.Input 0 0 0 l σ m j x h.pending h.names h.few st.fit)))
 
     answered : (m : ℕ) (r : Result (Inner × InputAnswer) Fault) → m ≤ σ.turns → GoodInput σ.shared.inner r →
         Arrives mach M 5 m (after_reply_of r) (Answered p deepest b M n Pending k K) (Away p deepest [] [] b d K) (go_on (settled (settles σ.shared r).answer (after_call m r)) give)
@@ -177,6 +178,7 @@ module _ (p : Program) (deepest : Watch) (b : Bases) (M n : ℕ) (none : zero �
           same = refl;
           pending = h.1;
           names = h.0;
+          few = h.4;
         })
     answered m (Ok (j, input.End)) le h = gave m j input.End (λ l1 e. calm_answer m j input.End le h l1 e)
     answered m (Ok (j, input.Read)) le h = gave m j input.Read (λ l1 e. calm_answer m j input.Read le h l1 e)
@@ -191,7 +193,7 @@ module _ (p : Program) (deepest : Watch) (b : Bases) (M n : ℕ) (none : zero �
   pub reading : Reading p deepest b M n (21 + 4 * length (kinds_of p.globals))
   reading = record {
     Pends = Pending;
-    spent = λ l σ m h. record { before = h.before; fit = h.fit; same = ap (λ (τ : State). record τ { turns = m }) h.same; pending = h.pending; names = h.names };
+    spent = λ l σ m h. record { before = h.before; fit = h.fit; same = ap (λ (τ : State). record τ { turns = m }) h.same; pending = h.pending; names = h.names; few = h.few };
     asked = λ d k K l σ st. next_asked d k K l σ st;
     assigned = assigned;
   }

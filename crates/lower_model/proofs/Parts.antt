@@ -22,7 +22,7 @@ use Rattle.lower_model.specs.Noted.{noted_done, out_of_part}
 use Rattle.lower_model.specs.Places.{Bases, way_global, steps_room, steps_iterators, steps_arrays}
 use Rattle.lower_model.specs.Small.{does, ask_row, when}
 use Rattle.lower_model.specs.Statements.{way_next, goes_on, record_done, part_done, steps_emitted}
-use Rattle.lower_model.specs.declared.import.Import.TheVariants.{Of}
+use Rattle.host_imports.specs.declared.import.Import.TheVariants.{Of}
 use Rattle.lower_model.proofs.Watch.{Watch}
 use Rattle.lower_model.proofs.Runs.{Goes, goes_to, goes_from, then_goes, by_steps, stays, first, then_on, then_step, there, within, Arrives, reaches_on}
 use Rattle.lower_model.proofs.Regions.{cells, cells_same, pairs_same}

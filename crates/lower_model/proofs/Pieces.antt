@@ -17,8 +17,8 @@ use Rattle.lower_model.specs.ImportCalls.{Host, call}
 use Rattle.lower_model.specs.Machine.{Code, Look, Label, Frame, Store, at, br, label, with_operands, push_word, looked_compared, go}
 use Rattle.lower_model.specs.Places.{Bases}
 use Rattle.lower_model.specs.Small.{does, ask, minus_one, least, moved_out, has_handle, either, let_go, number_is, h, n, kept_code, kept_value, kept_number, kept_done}
-use Rattle.lower_model.specs.declared.import.Import.{Import}
-use Rattle.lower_model.specs.declared.import.Import.TheVariants.{Drop, IterFree, FreeArray}
+use Rattle.host_imports.specs.declared.import.Import.{Import}
+use Rattle.host_imports.specs.declared.import.Import.TheVariants.{Drop, IterFree, FreeArray}
 use Rattle.lower_model.proofs.Runs.{Goes, then_goes, goes_to, by_steps}
 use Rattle.lower_model.proofs.Locals.{Locals, Place, Hand, Number, local_of, IsPlace, has, with_at, has_with, laid, laid_at, laid_again, laid_twice}
 use Rattle.lower_model.proofs.Steps.{empty, get_moved, get_copied, set_ok, tee_ok, moved_out_ok}

@@ -1,73 +1,41 @@
 -- Quick ways of statements: how names are read and written, several within the same bounds, and what `n = a + e` means.
-use Rattle.std.proofs.Common.{◌≡◌, ℕ, zero, suc, ◌+◌, ◌^◌, ◌<◌, ◌≤◌, Bool, true, false, nat_eq, nat_le, List, [], ◌∷◌, length, Some, None, Option, Ok, Err, Result, ℤ, pos, ◌+ℤ◌, unsigned_abs, w64, refl, sym, ap, ap₂, ◌∙◌, subst, arith, if◌then◌else◌}
-use Rattle.std.specs.Prelude.{◌&&◌, not, cond, bit_or}
-use Rattle.std.proofs.Common.{true≢false}
-use Rattle.std.proofs.lemmas.Int.{ints}
-use Rattle.std.proofs.lemmas.Bool.{and_parts, eqb-true, le-leb, leb-true}
+use Rattle.std.proofs.Common.{◌≡◌, ℕ, suc, Bool, true, false, List, [], ◌∷◌, length, None, Ok, Result, ℤ, refl, sym, ap, ap₂, ◌∙◌, if◌then◌else◌}
+use Rattle.std.specs.Prelude.{◌&&◌, bit_or}
+use Rattle.std.proofs.lemmas.Bool.{and_parts}
 use Rattle.awk_values.specs.declared.fault.Fault.{Fault}
 use Rattle.awk_values.specs.declared.value.Value.TheVariants as value
-use Rattle.awk_values.specs.Comparison.{comparison, numeric_side, order_by, held, holds}
-use Rattle.awk_values.specs.declared.comparison.CompareOp.{CompareOp}
-use Rattle.awk_values.specs.declared.comparison.CompareOp.TheVariants as op
-use Rattle.std.specs.Ordering.{int_cmp}
-use Rattle.sem_primitives.specs.Constants.{comparison_number, flag_number, special_number}
-use Rattle.sem_primitives.specs.declared.constants.Special.TheVariants.{Nf}
-use Rattle.sem_primitives.specs.declared.sorts.Argument.TheVariants as argument
-use Rattle.sem_primitives.specs.declared.sorts.Constant.TheVariants as constant
 use Rattle.sem_primitives.specs.declared.sorts.Sort.TheVariants as sort
-use Rattle.sem_primitives.specs.declared.table.Primitive.TheVariants as row
-use Rattle.wasm_store.specs.Integers.{compare_at, binary_at}
-use Rattle.lower_model.specs.Arithmetic.{relation}
 use Rattle.lower_model.proofs.Watch.{Watch}
-use Rattle.lower_model.proofs.Orders.{words_compared}
-use Rattle.sem_primitives.specs.Numbers.{Number as AnyNumber, number_of, number_word, outcome_of}
-use Rattle.sem_primitives.proofs.Words.{small, constant_again}
-use Rattle.wasm_types.specs.Syntax.{Instructions, Done as NoMore}
-use Rattle.wasm_types.specs.declared.types.ValType.TheVariants.{I32}
+use Rattle.sem_primitives.specs.Numbers.{Number as AnyNumber, number_word, outcome_of}
+use Rattle.wasm_types.specs.Syntax.{Instructions}
 use Rattle.wasm_types.specs.declared.instr.Simple.{Simple}
-use Rattle.wasm_types.specs.declared.instr.Simple.TheVariants.{GlobalGet, GlobalSet, I32Const, BrIf, Test}
-use Rattle.wasm_types.specs.declared.instr.IRelOp.TheVariants.{LeS}
-use Rattle.wasm_types.specs.declared.instr.ITestOp.TheVariants.{Eqz}
+use Rattle.wasm_types.specs.declared.instr.Simple.TheVariants.{GlobalGet, GlobalSet}
 use Rattle.wasm_store.specs.declared.word.Word.TheVariants.{I64}
-use Rattle.wasm_store.specs.declared.word.Word.TheVariants as word
-use Rattle.wasm_store.specs.Words.{flag, given_by}
+use Rattle.wasm_store.specs.Words.{flag}
 use Rattle.mid_program.specs.declared.mid.Arithmetic.{Arithmetic}
-use Rattle.mid_program.specs.declared.mid.Operation.TheVariants.{Host, Inline, AsNumber}
-use Rattle.mid_program.specs.Mid.{Kind, Unboxed, Program, Global, Code, Do, Compare, Number, Get, Set, Seq, Let, Bound, Codes, End, At, Fixed, Eval, a_number, Form, form_of}
-use Rattle.mid_program.specs.MidMeaning.{evaluated, all_evaluated, stepped, or_zero, then_row, store_slot, arithmetic_of}
+use Rattle.mid_program.specs.declared.mid.Operation.TheVariants.{Inline}
+use Rattle.mid_program.specs.Mid.{Kind, Unboxed, Program, Global, Code, Do, Set, End, At, Eval, Form, form_of}
+use Rattle.mid_program.specs.MidMeaning.{evaluated, all_evaluated, stepped, then_row, store_slot, arithmetic_of}
 use Rattle.sem_scripts.specs.ScriptState.{State, Gives, Outcome, go_on, settled, give, ◌>>◌, global_value, with_global}
-use Rattle.mid_program.specs.Sorted.{sorted, all_sorted, has_kind, kinds_of, fits as fits_sort, is_tested, is_dropped, is_kept, keeps_well, test_sorted, step_sorted, steps_sorted}
+use Rattle.mid_program.specs.Sorted.{sorted, all_sorted, has_kind, kinds_of, fits as fits_sort}
 use Rattle.sem_scripts.specs.Statements.{Flow, Normal}
-use Rattle.lower_model.specs.Cells.{Cell, Bits, Held}
-use Rattle.lower_model.specs.Emission.{tested}
-use Rattle.lower_model.specs.Machine.{Conf, Label, Frame, Store, at, br, label, with_operands, push_result}
-use Rattle.lower_model.specs.Noted.{step_noted, steps_noted}
-use Rattle.lower_model.specs.Places.{Bases, number_global, room, arrays_in, step_room, step_arrays}
-use Rattle.lower_model.specs.Quick.{Within, unsure, name_in, constant_in, first_ones, compared_within, both_within, test_within, Source, Named, Constant, source_in, is_among, and_name, and_source, shifted, joined, all_unsure, Sum, sum_names, update_in, is_near, is_sum, sum_op, sum_of, two_sum, set_sum, kept_sum, update_sum, old_source, stored_name, new_sum, let_sum, sum_in, Counted, field_count, counted_of, counted_in, Pair, pair_names, pair_of, pair_in, contrary}
-use Rattle.lower_model.specs.Small.{does, ask_row, text_beside}
-use Rattle.lower_model.specs.Statements.{counted_left, left_unless_counted, source_pushed, summed, summed_anyway, quickly_dropped, pair_left, left_unless_pair, left_unless, step_emitted, steps_emitted}
-use Rattle.lower_model.proofs.Runs.{Goes, goes_from, goes_to, then_goes, by_steps, stays, first, within, there, then_on, then_step, Onward}
+use Rattle.lower_model.specs.Cells.{Cell, Bits}
+use Rattle.lower_model.specs.Machine.{Label, Frame, at}
+use Rattle.lower_model.specs.Places.{Bases, number_global}
+use Rattle.lower_model.specs.Quick.{Source, Named, Constant, is_among, and_name, shifted, joined, all_unsure}
+use Rattle.lower_model.specs.Small.{does}
+use Rattle.lower_model.proofs.Runs.{Goes, goes_to, then_goes, by_steps, stays}
 use Rattle.lower_model.proofs.Locals.{Locals, laid}
 use Rattle.lower_model.proofs.Globals.{Hand as NameHand, Number as NameNumber, with_global_at, placed_again}
 use Rattle.lower_model.proofs.GlobalSteps.{storing, global_copied, global_set_ok}
 use Rattle.lower_model.proofs.Steps.{empty}
 use Rattle.lower_model.proofs.State.{bare, beside, bare_number, beside_number, cells_of, host_of, kind_here, arrays_before, name_hand, name_word}
-use Rattle.lower_model.proofs.Relation.{Away}
-use Rattle.lower_model.proofs.Pieces.{chooses, closes}
-use Rattle.lower_model.proofs.Answers.{machine, beside_state, row_called, Reached}
-use Rattle.lower_model.proofs.Conversions.{BareIs, IsBeside, IsNone, IsNumber, bare_is, same_state, ask_num}
-use Rattle.lower_model.specs.ImportCalls.{with_some, and_rest, row_in}
-use Rattle.lower_model.proofs.Converting.{blocked, own_number}
-use Rattle.lower_model.proofs.Products.{word}
-use Rattle.lower_model.proofs.Written.{fit_global, global_written}
+use Rattle.lower_model.proofs.Answers.{machine, beside_state}
+use Rattle.lower_model.proofs.Written.{global_written}
 use Rattle.lower_model.proofs.Reading.{kind_below, kind_found}
-use Rattle.lower_model.proofs.Simulation.{work_of, context, layout, ExprOk}
-use Rattle.lower_model.proofs.StatementForms.{flows_on, plain_meant, Starts, starts_after, starts_among, StepDone, StepOk}
-use Rattle.lower_model.proofs.Tidy.{begun_step}
-use Rattle.lower_model.proofs.Branches.{TestDone, test_meant, test_ok, block_ends}
-use Rattle.lower_model.proofs.Quick.{Sure, sure, shown_by, name_is, constant_is, shift_pos, shifted_less, shifted_most, less_holds, most_holds}
-use Rattle.lower_model.proofs.QuickNames.{num_of, word_of, val_of, source_steps, shift_word, joined_word, all_flag, joined_steps, all_steps, AllSure, StandsAmong, source_code, some_is, nought_number, all_sure, among_sure, name_among, source_among, source_still, source_beside, source_is, contrary_holds, pair_few, one_few, near_sum, stored_is, none_new, result_of, sum_few}
-use Rattle.lower_model.proofs.Summing.{Summed, summed_in_turn, IsSource, anyway_ok}
+use Rattle.lower_model.proofs.Simulation.{context}
+use Rattle.lower_model.proofs.StatementForms.{plain_meant}
+use Rattle.lower_model.proofs.QuickNames.{num_of, shift_word, joined_word, all_flag, joined_steps, all_steps, source_code}
 
 -- Two operands.
 

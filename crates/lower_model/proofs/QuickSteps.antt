@@ -1,6 +1,6 @@
 -- Steps with a quick way: sums that go to a name, and tests of names and constants.
 use Rattle.std.proofs.Common.{◌≡◌, ℕ, zero, suc, ◌+◌, ◌^◌, ◌<◌, ◌≤◌, Bool, true, false, nat_eq, nat_le, List, [], ◌∷◌, length, Some, None, Option, Ok, Err, Result, ℤ, pos, ◌+ℤ◌, unsigned_abs, w64, refl, sym, ap, ap₂, ◌∙◌, subst, arith, if◌then◌else◌}
-use Rattle.std.specs.Prelude.{◌&&◌, not, cond, bit_or}
+use Rattle.std.specs.Prelude.{◌&&◌, T, not, cond}
 use Rattle.std.proofs.Common.{true≢false}
 use Rattle.std.proofs.lemmas.Int.{ints}
 use Rattle.std.proofs.lemmas.Bool.{and_parts, eqb-true, le-leb, leb-true}
@@ -10,10 +10,9 @@ use Rattle.awk_values.specs.Comparison.{comparison, numeric_side, order_by, held
 use Rattle.awk_values.specs.declared.comparison.CompareOp.{CompareOp}
 use Rattle.awk_values.specs.declared.comparison.CompareOp.TheVariants as op
 use Rattle.std.specs.Ordering.{int_cmp}
-use Rattle.sem_primitives.specs.Constants.{comparison_number, flag_number, special_number}
+use Rattle.sem_primitives.specs.Constants.{special_number}
 use Rattle.sem_primitives.specs.declared.constants.Special.TheVariants.{Nf}
-use Rattle.sem_primitives.specs.declared.sorts.Argument.TheVariants as argument
-use Rattle.sem_primitives.specs.declared.sorts.Constant.TheVariants as constant
+use Rattle.sem_primitives.specs.declared.sorts.Answer.TheVariants as answer
 use Rattle.sem_primitives.specs.declared.sorts.Sort.TheVariants as sort
 use Rattle.sem_primitives.specs.declared.table.Primitive.TheVariants as row
 use Rattle.wasm_store.specs.Integers.{compare_at, binary_at}
@@ -21,11 +20,11 @@ use Rattle.lower_model.specs.Arithmetic.{relation}
 use Rattle.lower_model.proofs.Watch.{Watch}
 use Rattle.lower_model.proofs.Orders.{words_compared}
 use Rattle.sem_primitives.specs.Numbers.{Number as AnyNumber, number_of, number_word, outcome_of}
-use Rattle.sem_primitives.proofs.Words.{small, constant_again}
+use Rattle.sem_primitives.proofs.Words.{small}
 use Rattle.wasm_types.specs.Syntax.{Instructions, Done as NoMore}
 use Rattle.wasm_types.specs.declared.types.ValType.TheVariants.{I32}
-use Rattle.wasm_types.specs.declared.instr.Simple.{Simple}
-use Rattle.wasm_types.specs.declared.instr.Simple.TheVariants.{GlobalGet, GlobalSet, I32Const, BrIf, Test}
+use Rattle.wasm_types.specs.declared.types.ValType.TheVariants as wide
+use Rattle.wasm_types.specs.declared.instr.Simple.TheVariants.{GlobalGet, GlobalSet, I32Const, BrIf, Compare as Comparing, Test}
 use Rattle.wasm_types.specs.declared.instr.IRelOp.TheVariants.{LeS}
 use Rattle.wasm_types.specs.declared.instr.ITestOp.TheVariants.{Eqz}
 use Rattle.wasm_store.specs.declared.word.Word.TheVariants.{I64}
@@ -43,30 +42,29 @@ use Rattle.lower_model.specs.Emission.{tested}
 use Rattle.lower_model.specs.Machine.{Conf, Label, Frame, Store, at, br, label, with_operands, push_result}
 use Rattle.lower_model.specs.Noted.{step_noted, steps_noted}
 use Rattle.lower_model.specs.Places.{Bases, number_global, room, arrays_in, step_room, step_arrays}
-use Rattle.lower_model.specs.Quick.{Within, unsure, name_in, constant_in, first_ones, compared_within, both_within, test_within, Source, Named, Constant, source_in, is_among, and_name, and_source, shifted, joined, all_unsure, Sum, sum_names, update_in, is_near, is_sum, sum_op, sum_of, two_sum, set_sum, kept_sum, update_sum, old_source, stored_name, new_sum, let_sum, sum_in, Counted, field_count, counted_of, counted_in, Pair, pair_names, pair_of, pair_in, contrary}
+use Rattle.lower_model.specs.Quick.{Within, unsure, name_in, constant_in, first_ones, compared_within, both_within, test_within, Source, Named, Constant, source_in, and_source, Sum, sum_names, update_in, is_near, is_sum, sum_op, sum_of, two_sum, set_sum, kept_sum, update_sum, old_source, stored_name, new_sum, let_sum, sum_in, Counted, field_count, counted_of, counted_in, Pair, pair_names, pair_of, pair_in, contrary}
 use Rattle.lower_model.specs.Small.{does, ask_row, text_beside}
 use Rattle.lower_model.specs.Statements.{counted_left, left_unless_counted, source_pushed, summed, summed_anyway, quickly_dropped, pair_left, left_unless_pair, left_unless, step_emitted, steps_emitted}
 use Rattle.lower_model.proofs.Runs.{Goes, goes_from, goes_to, then_goes, by_steps, stays, first, within, there, then_on, then_step, Onward}
 use Rattle.lower_model.proofs.Locals.{Locals, laid}
-use Rattle.lower_model.proofs.Globals.{Hand as NameHand, Number as NameNumber, with_global_at, placed_again}
-use Rattle.lower_model.proofs.GlobalSteps.{storing, global_copied, global_set_ok}
+use Rattle.lower_model.proofs.Globals.{Number as NameNumber}
+use Rattle.lower_model.proofs.GlobalSteps.{global_copied}
 use Rattle.lower_model.proofs.Steps.{empty}
-use Rattle.lower_model.proofs.State.{bare, beside, bare_number, beside_number, cells_of, host_of, kind_here, arrays_before, name_hand, name_word}
+use Rattle.lower_model.proofs.State.{bare, beside, bare_number, beside_number, cells_of, name_word}
 use Rattle.lower_model.proofs.Relation.{Away}
 use Rattle.lower_model.proofs.Pieces.{chooses, closes}
-use Rattle.lower_model.proofs.Answers.{machine, beside_state, row_called, Reached}
-use Rattle.lower_model.proofs.Conversions.{BareIs, IsBeside, IsNone, IsNumber, bare_is, same_state, ask_num}
-use Rattle.lower_model.specs.ImportCalls.{with_some, and_rest, row_in}
+use Rattle.lower_model.proofs.Answers.{machine, beside_state, reply, after_reply, row_called, Reached}
+use Rattle.lower_model.proofs.Conversions.{BareIs, IsBeside, IsNone, IsNumber, bare_is, same_state, ask_to_num}
 use Rattle.lower_model.proofs.Converting.{blocked, own_number}
 use Rattle.lower_model.proofs.Products.{word}
-use Rattle.lower_model.proofs.Written.{fit_global, global_written}
+use Rattle.lower_model.proofs.Written.{fit_global}
 use Rattle.lower_model.proofs.Reading.{kind_below, kind_found}
 use Rattle.lower_model.proofs.Simulation.{work_of, context, layout, ExprOk}
 use Rattle.lower_model.proofs.StatementForms.{flows_on, plain_meant, Starts, starts_after, starts_among, StepDone, StepOk}
 use Rattle.lower_model.proofs.Tidy.{begun_step}
 use Rattle.lower_model.proofs.Branches.{TestDone, test_meant, test_ok, block_ends}
 use Rattle.lower_model.proofs.Quick.{Sure, sure, shown_by, name_is, constant_is, shift_pos, shifted_less, shifted_most, less_holds, most_holds}
-use Rattle.lower_model.proofs.QuickNames.{num_of, word_of, val_of, source_steps, shift_word, joined_word, all_flag, joined_steps, all_steps, AllSure, StandsAmong, source_code, some_is, nought_number, all_sure, among_sure, name_among, source_among, source_still, source_beside, source_is, contrary_holds, pair_few, one_few, near_sum, stored_is, none_new, result_of, sum_few}
+use Rattle.lower_model.proofs.QuickNames.{num_of, word_of, val_of, source_steps, all_flag, all_steps, AllSure, StandsAmong, source_code, some_is, nought_number, all_sure, among_sure, name_among, source_among, source_still, source_beside, source_is, contrary_holds, pair_few, one_few, near_sum, stored_is, none_new, result_of, sum_few}
 use Rattle.lower_model.proofs.Summing.{Summed, summed_in_turn, IsSource, anyway_ok}
 use Rattle.lower_model.proofs.QuickParts.{Two, sum_stored, two_summed, set_code, AllUnboxed, name_got, name_taken, all_unsure_ok, name_unboxed, summed_means, set_means, Parts, set_sorted}
 use Rattle.lower_model.proofs.Evaluating.{plainly_ok}
@@ -319,34 +317,34 @@ module _ (p : Program) (deepest : Watch) (ks : List Kind) (F : List Frame) (b : 
         (then_goes (goes_to (by_steps 1 refl) (ap (λ x. at ks (Bits (flag x) ∷ []) PK (laid b l) F (does (BrIf (suc out)) NoMore) PS) f)) w.2))) (omega (arith, w1, f1, f2))
         (record { next = l; comes = refl; starts = s; iterators = λ y. refl }))
 
-    -- the host compares two numbers
+    -- how many fields there are is in range
+    fields_number : AnyNumber
+    fields_number =
+        let few : length σ.shared.inner.fields ≤ 2 ^ 20 = s.fit.sound.calm.few in
+        record { number = pos (length σ.shared.inner.fields); in_range = subst T (sym (le-leb (length σ.shared.inner.fields) (2 ^ 53) (omega (arith, few)))) tt }
+
+    -- both numbers are there, and are compared
     count_way : (q : Counted) → CountedIs e q → (m : AnyNumber) → global_value q.name σ ≡ value.Num m.number →
         Reached p deepest ks F b M (work_of e + 17) σ.turns (at ks [] PK (laid b l) F (counted_left (layout p deepest ks F b M n) q (suc out) NoMore) PS) (Left out k K u l) (Away p deepest ks F b d K) (test_meant p deepest ks F b M n e σ)
+    unfolding fields_number
     count_way q t m ev =
         let mach = machine p deepest ks F in
-        let z = holds q.op (int_cmp m.number (pos (length σ.shared.inner.fields))) in
-        let v = value.Num (pos (length σ.shared.inner.fields)) in
+        let f = fields_number in
+        let z = holds q.op (int_cmp m.number f.number) in
+        let v = value.Num f.number in
+        let x = Bits (I64 (number_word m)) in
         let w = leaves_if z in
         let w1 = w.1 in
-        let op = Bits (word.I32 (comparison_number q.op)) in
-        let r : comparison (value.Num m.number) v q.op ≡ Ok z = refl in
-        let k3 = does (Test I32 Eqz) (does (BrIf (suc out)) NoMore) in
-        let k2 = ask_row row.Compare k3 in
+        let k2 = does (Comparing wide.I64 (relation (contrary q.op))) (does (BrIf (suc out)) NoMore) in
+        let c : compare_at w64 (relation (contrary q.op)) (number_word m) (number_word f) ≡ not z = words_compared m f (contrary q.op) ∙ contrary_holds q.op (int_cmp m.number f.number) in
         subst (λ o. Reached p deepest ks F b M (work_of e + 17) σ.turns (at ks [] PK (laid b l) F (counted_left (layout p deepest ks F b M n) q (suc out) NoMore) PS) (Left out k K u l) (Away p deepest ks F b d K) o) (sym (t.means σ m ev))
-        (there mach M (work_of e + 17) (1 + (1 + (1 + (1 + (1 + w.0))))) _ _ z σ (Left out k K u l) (Away p deepest ks F b d K)
-        (then_goes (goes_to (name_got p deepest ks F b M n q.name l σ t.kind) (ap (λ x. at ks (Bits (I64 x) ∷ (op ∷ [])) PK (laid b l) F (ask_row row.Num (does (I32Const (special_number Nf)) (ask_row row.GetSpecial k2))) PS) (ap bare ev ∙ bare_number m)))
-        (then_goes (ask_num p deepest ks F (op ∷ []) σ m)
-        (then_goes (goes_to (row_called p deepest ks F row.GetSpecial (Nf, tt) (Bits (word.I32 (special_number Nf)) ∷ []) (Held (value.Num m.number) ∷ (op ∷ [])) σ refl refl refl refl refl)
-        (ap (λ τ. at ks (Held v ∷ (Held (value.Num m.number) ∷ (op ∷ []))) PK (laid b l) F k2 (beside_state p deepest ks F τ)) (same_state σ v)))
-        (then_goes (goes_to (row_called p deepest ks F row.Compare (q.op, (value.Num m.number, (v, tt))) (op ∷ (Held (value.Num m.number) ∷ (Held v ∷ []))) [] σ refl refl refl
-        (ap (λ o. with_some (and_rest o (Held (value.Num m.number) ∷ (Held v ∷ []))) (λ x. with_some (row_in mach.memory (argument.Of sort.Value ∷ argument.Of sort.Value ∷ []) x.1) (λ rest. Some (x.0, rest)))) (constant_again constant.Comparison q.op)) refl)
-        (ap (λ τ. at ks (Bits (word.I32 (flag_number z)) ∷ []) PK (laid b l) F k3 (beside_state p deepest ks F τ)) (same_state {A = Result Bool Fault} σ (Ok z))))
-        (then_goes (eqz_goes z) w.2))))) (omega (arith, w1))
+        (there mach M (work_of e + 17) (1 + (1 + (1 + (1 + w.0)))) _ _ z σ (Left out k K u l) (Away p deepest ks F b d K)
+        (then_goes (goes_to (name_got p deepest ks F b M n q.name l σ t.kind) (ap (λ g. at ks (Bits (I64 g) ∷ []) PK (laid b l) F (does (I32Const (special_number Nf)) (ask_row row.GetSpecial (ask_row row.ToNum k2))) PS) (ap bare ev ∙ bare_number m)))
+        (then_goes (goes_to (row_called p deepest ks F row.GetSpecial (Nf, tt) (Bits (word.I32 (special_number Nf)) ∷ []) (x ∷ []) σ refl refl refl refl refl)
+        (ap (λ τ. at ks (Held v ∷ (x ∷ [])) PK (laid b l) F (ask_row row.ToNum k2) (beside_state p deepest ks F τ)) (same_state σ v)))
+        (then_goes (goes_to (ask_to_num p deepest ks F (x ∷ []) σ v) (ap (λ (o : Result AnyNumber Fault). at ks (reply (answer.Of sort.Number) o (x ∷ [])) PK (laid b l) F k2 (after_reply p deepest ks F o σ)) (own_number p deepest ks F b M v f refl)))
+        (then_goes (goes_to (by_steps 1 refl) (ap (λ g. at ks (Bits (flag g) ∷ []) PK (laid b l) F (does (BrIf (suc out)) NoMore) PS) c)) w.2)))) (omega (arith, w1))
         (record { next = l; comes = refl; starts = s; iterators = λ y. refl }))
-      where
-        eqz_goes : (z : Bool) → Goes (machine p deepest ks F) 1 (at ks (Bits (word.I32 (flag_number z)) ∷ []) PK (laid b l) F (does (Test I32 Eqz) (does (BrIf (suc out)) NoMore)) PS) (at ks (Bits (flag (not z)) ∷ []) PK (laid b l) F (does (BrIf (suc out)) NoMore) PS)
-        eqz_goes true = by_steps 1 refl
-        eqz_goes false = by_steps 1 refl
 
     count_chosen : (q : Counted) → CountedIs e q → (f : Bool) → compare_at w64 LeS (bare (global_value q.name σ)) text_beside ≡ f → BareIs (global_value q.name σ) →
         Reached p deepest ks F b M (work_of e + 17) σ.turns (at ks [] PK (laid b l) F (cond (nat_eq (if f then 1 else 0) 0) (counted_left (layout p deepest ks F b M n) q (suc out) NoMore) pair_slow) PS) (Left out k K u l) (Away p deepest ks F b d K) (test_meant p deepest ks F b M n e σ)

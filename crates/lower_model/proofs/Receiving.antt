@@ -24,13 +24,13 @@ use Rattle.mid_program.specs.Sorted.{Held as Standing, There, either_way, sorted
 use Rattle.sem_scripts.specs.Steps.{input_number}
 use Rattle.lower_model.specs.Cells.{Bits, Held, is_owned}
 use Rattle.lower_model.specs.Emission.{emitted, text_kept, text_let_go}
-use Rattle.lower_model.specs.ImportCalls.{input_code}
+use Rattle.host_imports.specs.Codes.{input_code}
 use Rattle.lower_model.specs.Machine
 use Rattle.lower_model.specs.Machine.{Conf, Label, Frame, at, label, loops_walked}
 use Rattle.lower_model.specs.Places.{Bases, room, arrays_in}
 use Rattle.lower_model.specs.Small.{does, number_is, when, either, code_number, let_go, h}
 use Rattle.lower_model.specs.Small
-use Rattle.lower_model.specs.declared.import.Import.TheVariants.{Drop}
+use Rattle.host_imports.specs.declared.import.Import.TheVariants.{Drop}
 use Rattle.lower_model.proofs.Watch.{Watch}
 use Rattle.lower_model.proofs.Runs.{Goes, then_goes, goes_to, goes_from, by_steps, stays, there, first, then_on, weaker_settled, within, Onward}
 use Rattle.lower_model.proofs.Regions.{upd_same, upd_other}

@@ -16,7 +16,7 @@ use Rattle.mid_program.specs.Sorted.{context_of, steps_sorted}
 use Rattle.lower_model.specs.Cells.{Bits}
 use Rattle.lower_model.specs.Emission.{pending_assigned}
 use Rattle.lower_model.specs.Functions.{layout_of}
-use Rattle.lower_model.specs.ImportCalls.{input_code}
+use Rattle.host_imports.specs.Codes.{input_code}
 use Rattle.lower_model.specs.Machine.{Conf, Label, at, label, ending_at, loops_walked}
 use Rattle.lower_model.specs.Noted.{noted_done, out_of_part}
 use Rattle.lower_model.specs.Places.{Bases, steps_room, steps_iterators, steps_arrays}

@@ -19,9 +19,10 @@ use Rattle.sem_scripts.specs.Names.{ArrayName, Numbered, Given}
 use Rattle.sem_scripts.specs.ScriptState.{State, Stop, TooDeep, Nexted, Exited, Returned, Local, Scalar, value_in_local, array_in_local, local_array}
 use Rattle.mid_program.specs.Sorted.{Held as Standing, There, Moved, Misused, has_kind, calls_of, kinds_of, arrays_among, context_of, is_array_place}
 use Rattle.lower_model.specs.Cells.{Cell, Bits, Held, IteratorOf, OwnedArray, LentArray, is_owned}
-use Rattle.lower_model.specs.ImportCalls.{input_code, stream_code}
+use Rattle.host_imports.specs.Codes.{input_code, stream_code}
 use Rattle.lower_model.specs.Machine.{Conf, Deep, Label, Frame, br, owner_waits}
 use Rattle.lower_model.specs.Places.{Bases}
+use Rattle.lower_model.proofs.HostLaws.{Few}
 use Rattle.lower_model.proofs.Watch.{Watch}
 use Rattle.lower_model.proofs.Regions.{upd_other, upd_all}
 use Rattle.lower_model.proofs.Locals.{Locals, Hand, Number as NumberAt, Array, with_at, laid}
@@ -155,10 +156,11 @@ abbrev pub routines_told : List Routine → List (List ℕ × NameKind)
 routines_told [] = []
 routines_told (r ∷ rs) = (r.name, name_kind.ArrayOrFunction) ∷ routines_told rs
 
--- no assignment is pending, and the names are the program's
+-- no assignment is pending, the names are the program's, and there are as many fields as there may be
 pub record Calm (p : Program) (sh : Shared) : Type 0 where
   pub pending : sh.inner.pending ≡ None
   pub names : sh.inner.names ≡ globals_told p.globals (routines_told p.routines)
+  pub few : Few sh.inner
 
 abbrev pub answer_of : Stop → Cell
 answer_of (Returned v) = Held v

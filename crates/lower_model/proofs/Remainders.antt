@@ -1,8 +1,8 @@
 -- Remainders that go to a name: where the name's number is small enough no product leaves the range, and the module takes the remainder itself.
-use Rattle.std.proofs.Common.{◌≡◌, ℕ, zero, suc, ◌+◌, ◌*◌, ◌/◌, ◌%◌, ◌^◌, ◌≤◌, Bool, true, false, T, nat_eq, nat_le, List, [], ◌∷◌, length, Some, None, Option, Ok, Err, Result, ℤ, pos, ◌+ℤ◌, ◌*ℤ◌, unsigned_abs, int_rem, w64, refl, sym, ap, ap₂, ◌∙◌, subst, arith, if◌then◌else◌}
+use Rattle.std.proofs.Common.{◌≡◌, ℕ, zero, suc, ◌+◌, ◌*◌, ◌/◌, ◌%◌, ◌^◌, ◌≤◌, Bool, true, false, T, nat_eq, nat_le, List, [], ◌∷◌, Some, None, Option, Ok, Err, Result, ℤ, pos, ◌*ℤ◌, unsigned_abs, int_rem, w64, refl, sym, ap, ap₂, ◌∙◌, subst, arith, if◌then◌else◌}
 use Rattle.std.specs.Prelude.{◌&&◌, cond}
 use Rattle.std.proofs.lemmas.Int.{ints, unsigned_abs-mul}
-use Rattle.std.proofs.lemmas.Bool.{and_parts, le-leb, leb-true}
+use Rattle.std.proofs.lemmas.Bool.{and_parts, le-leb}
 use Rattle.std.proofs.Math.Nat.{div-mul-le_self, mul-le-mul_right}
 use Rattle.awk_values.specs.Operators.{is_zero}
 use Rattle.awk_values.specs.declared.fault.Fault.{Fault}
@@ -49,7 +49,7 @@ use Rattle.lower_model.proofs.Simulation.{work_of, context, layout, ExprOk}
 use Rattle.lower_model.proofs.StatementForms.{flows_on, plain_meant, Starts, starts_after, starts_among, StepDone}
 use Rattle.lower_model.proofs.Branches.{block_ends}
 use Rattle.lower_model.proofs.Sequences.{dropped_ok}
-use Rattle.lower_model.proofs.Quick.{Sure, name_is}
+use Rattle.lower_model.proofs.Quick.{name_is}
 use Rattle.lower_model.proofs.QuickNames.{all_flag, all_steps, all_few, name_longer, AllSure, some_is, nought_number, all_sure, among_sure, name_among, still_among}
 use Rattle.lower_model.proofs.QuickParts.{Two, sum_stored, two_summed, set_code, AllUnboxed, name_got, name_taken, all_unsure_ok, name_unboxed, set_means, set_sorted}
 

@@ -22,20 +22,19 @@ use Rattle.lower_model.specs.Cells.{Cell, Bits, Held, Gone, is_owned}
 use Rattle.lower_model.specs.Emission.{emitted, all_emitted, slot_set, text_dropped}
 use Rattle.lower_model.specs.Machine.{Conf, Label, Frame, at}
 use Rattle.lower_model.specs.Places.{Bases}
-use Rattle.lower_model.specs.Small.{does, ask, when, minus_one, least, text_beside, moved_out, h}
-use Rattle.lower_model.specs.declared.import.Import.TheVariants.{Drop}
+use Rattle.lower_model.specs.Small.{does, ask, when, minus_one, least, text_beside, h}
+use Rattle.host_imports.specs.declared.import.Import.TheVariants.{Drop}
 use Rattle.lower_model.proofs.Watch.{Watch}
 use Rattle.lower_model.proofs.Runs.{Goes, then_goes, goes_to, goes_from, by_steps, there, then_on}
-use Rattle.lower_model.proofs.Locals.{Locals, Param, Hand, Number as NumberAt, local_of, with_at, has_with, laid, laid_at, laid_twice, laid_again}
+use Rattle.lower_model.proofs.Locals.{Locals, Param, Hand, Number as NumberAt, local_of, with_at, has_with, laid, laid_twice}
 use Rattle.lower_model.proofs.Globals.{Globals, Hand as NameHand, Number as NameNumber, global_of, with_global_at, has_global_with, placed, placed_twice, placed_again}
-use Rattle.lower_model.proofs.Steps.{empty, get_moved, get_copied, set_ok, tee_ok, moved_out_ok}
+use Rattle.lower_model.proofs.Steps.{empty, get_moved, get_copied, set_ok}
 use Rattle.lower_model.proofs.GlobalSteps.{storing, while_assigning, comes_back, global_moved, global_copied, global_set_ok}
 use Rattle.lower_model.proofs.Pieces.{chooses, closes, drop_ok}
 use Rattle.lower_model.proofs.State.{bare, beside, bare_number, beside_number, cells_of, host_of, kind_here, arrays_before, name_hand, name_word, word_not_beside}
 use Rattle.lower_model.proofs.Relation.{HoldsAt, Below, kept_same, Same, same_self, same_hand, same_then, Fit, SameOwn, Away}
 use Rattle.lower_model.proofs.Answers.{machine, beside_state, Reached}
 use Rattle.lower_model.proofs.Conversions.{BareIs, IsBeside, IsNone, IsNumber, bare_is}
-use Rattle.lower_model.proofs.Copies.{looked}
 use Rattle.lower_model.proofs.Storing.{handed, handed_stands, handed_fit, stored_ok}
 use Rattle.lower_model.proofs.Written.{fit_global, global_written}
 use Rattle.lower_model.proofs.Setting.{number_of_form, number_boxed, number_held, number_plain, fit_param, kinds_apart, stands_number}

@@ -6,16 +6,16 @@ use Rattle.wasm_types.specs.Syntax.{Instructions, Done}
 use Rattle.wasm_types.specs.declared.instr.Simple.TheVariants.{Br}
 use Rattle.sem_scripts.specs.Meaning.{Calls}
 use Rattle.mid_program.specs.Mid.{Kind, Code, Step, Eval, Block, If, Loop, Each, Break, Continue, Next, Exit, ExitWith, Return, Mark, Steps, NoStep, Then, Program}
-use Rattle.mid_program.specs.MidMeaning.{stepped, all_stepped, holds, keyed, mid_called, mid_done, mid_run_in, mid_parts, routine_at, global_name, routine_name}
-use Rattle.sem_scripts.specs.ScriptRun.{Setting, Parts, run_with}
-use Rattle.sem_scripts.specs.ScriptState.{Doing, Local, ◌>>=◌, ◌>>◌, nothing, does}
+use Rattle.mid_program.specs.MidMeaning.{stepped, all_stepped, holds, keyed, mid_called, mid_done, mid_run_in, routine_at, global_name, routine_name}
+use Rattle.sem_scripts.specs.ScriptRun.{Setting, run_with}
+use Rattle.sem_scripts.specs.ScriptState.{Doing, ◌>>=◌, ◌>>◌, nothing, does}
 use Rattle.mid_program.specs.Sorted.{calls_of}
 use Rattle.sem_scripts.specs.Statements.{Flow, after, after_round, loop, over_keys, entered}
 use Rattle.sem_scripts.specs.Steps.{array_number}
 use Rattle.lower_model.specs.Emission.{Layout}
 use Rattle.lower_model.specs.Functions.{layout_of, main_bases, routine_bases}
 use Rattle.lower_model.specs.Machine.{no_notes}
-use Rattle.lower_model.specs.Noted.{step_noted, steps_noted, noted_called, noted_done, noted_parts, noted_run_in, routine_rest, begin_rest, out_of_part, test_place}
+use Rattle.lower_model.specs.Noted.{step_noted, steps_noted, noted_called, noted_done, noted_run_in, routine_rest, begin_rest, out_of_part, test_place}
 use Rattle.lower_model.specs.Places.{Bases}
 use Rattle.lower_model.specs.Quick.{pair_in, step_jumps, is_nothing}
 use Rattle.lower_model.specs.Small.{does as instruction}

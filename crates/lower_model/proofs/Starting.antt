@@ -20,7 +20,7 @@ use Rattle.lower_model.specs.Emission.{asked}
 use Rattle.lower_model.specs.Machine.{Conf, Label, Frame, at, carried_if}
 use Rattle.lower_model.specs.Places.{Bases}
 use Rattle.lower_model.specs.Small.{ask_row}
-use Rattle.lower_model.specs.declared.import.Import.TheVariants.{Of}
+use Rattle.host_imports.specs.declared.import.Import.TheVariants.{Of}
 use Rattle.lower_model.proofs.Watch.{Watch}
 use Rattle.lower_model.proofs.Runs.{by_steps, there, faulted, first, weaker}
 use Rattle.lower_model.proofs.Locals.{Locals, Number as NumberAt, with_at, laid}
@@ -28,6 +28,7 @@ use Rattle.lower_model.proofs.Calls.{import_found}
 use Rattle.lower_model.proofs.Relation.{Same, same_then, same_number, Fit, fit_number, SameOwn, Away}
 use Rattle.lower_model.proofs.Pieces.{code_failed}
 use Rattle.lower_model.proofs.Answers.{machine, beside_state, row_called, away_with, Reached}
+use Rattle.lower_model.proofs.HostLaws.{Few}
 use Rattle.lower_model.proofs.InputLaws.{IsPending, GoodStart, start_good}
 use Rattle.lower_model.proofs.Spending.{Asks, state_after, conf_after, asking, spends_ok}
 use Rattle.lower_model.proofs.Asking.{behind_call, loop_at, came_out, fit_answered, fit_faulted, assign_work, pends_ok}
@@ -65,15 +66,15 @@ module _ (p : Program) (deepest : Watch) (ks : List Kind) (F : List Frame) (b : 
     after_reply_of r = conf_after p deepest ks F M answer.Assign (loop_at p deepest ks F b M n (ask_row row.StartAssign) t d k ∷ K) (laid b l) (behind_call p deepest ks F b M n t d) σ r
 
     abbrev Pends : Doing (Unit {0}) → Type 0
-    Pends go = (m : ℕ) (j : Inner) → m ≤ σ.turns → j.names ≡ σ.shared.inner.names → IsPending j → Reached p deepest ks F b M 9 m (after_reply_of (Ok (j, assign.Pending))) P Q ((spend >> go) (after_call m (Ok (j, assign.Pending))))
+    Pends go = (m : ℕ) (j : Inner) → m ≤ σ.turns → j.names ≡ σ.shared.inner.names → (Few σ.shared.inner → Few j) → IsPending j → Reached p deepest ks F b M 9 m (after_reply_of (Ok (j, assign.Pending))) P Q ((spend >> go) (after_call m (Ok (j, assign.Pending))))
 
     answered : (m : ℕ) (r : Result (Inner × AssignAnswer) Fault) (go : Doing (Unit {0})) → m ≤ σ.turns → GoodStart σ.shared.inner.assigns σ.shared.inner r → Pends go → Reached p deepest ks F b M 9 m (after_reply_of r) P Q (go_on (settled (settles σ.shared r).answer (after_call m r)) (on_assignment go))
     answered m (Err g) go le h pe =
         faulted (machine p deepest ks F) M 9 4 _ _ g (after_call m (Err g)) P Q (code_failed b l t (suc d) lt (ft.numbers t)) (omega arith) (away_with p deepest ks F b M t u w d (2 ^ 64 - 1) K l (after_call m (Err g)) g (fit_faulted p deepest ks F b M n answer.Assign t u w l σ m g ft))
-    answered m (Ok (j, assign.Pending)) go le h pe = pe m j le h.0 h.1
+    answered m (Ok (j, assign.Pending)) go le h pe = pe m j le h.0 h.4 h.1
     answered m (Ok (j, assign.NoneLeft)) go le h pe =
         let τ = after_call m (Ok (j, assign.NoneLeft)) in
-        let f0 = fit_answered p deepest ks F b M n answer.Assign t u w l σ m j assign.NoneLeft h.0 h.1 ft in
+        let f0 = fit_answered p deepest ks F b M n answer.Assign t u w l σ m j assign.NoneLeft h.0 h.1 h.3 ft in
         there (machine p deepest ks F) M 9 9 _ _ tt τ P Q (came_out p deepest ks F b M n (ask_row row.StartAssign) 0 t d k K l τ refl refl refl lt (ft.numbers t)) (omega arith)
         (record { next = with_at l (NumberAt t) (Bits (I64 0)); comes = refl; fit = fit_number p deepest ks F t t u w l τ (Bits (I64 0)) refl f0; same = same_number [] t w t l (Bits (I64 0)) (omega arith); own = λ i q. refl })
 
@@ -94,11 +95,11 @@ module _ (p : Program) (deepest : Watch) (ks : List Kind) (F : List Frame) (b : 
   unfolding first_assigned
   loop_ok enough zero t u w d k K l σ lt ft tm =
       once_ok t u w d k K l σ (omega (arith, lt)) ft (stop OutOfTurns)
-      (λ m j le nm ip. none_more t u w d k K l σ (omega (arith, lt)) ft m (Ok (j, assign.Pending)) j (omega (arith, le, tm)))
+      (λ m j le nm fw ip. none_more t u w d k K l σ (omega (arith, lt)) ft m (Ok (j, assign.Pending)) j (omega (arith, le, tm)))
   loop_ok enough (suc m) t u w d k K l σ lt ft tm =
       once_ok t u w d k K l σ (omega (arith, lt)) ft (assign_pending >> first_assigned m)
-      (λ m1 j le nm ip.
-      pends_ok p deepest ks F b M n (ask_row row.StartAssign) (first_assigned m) m enough t u w d k K l σ (Started t u w k K l σ) (Away p deepest ks F b d K) lt ft (state_after p deepest ks F M answer.Assign σ m1 (Ok (j, assign.Pending))) ip nm refl (omega (arith, le, tm))
+      (λ m1 j le nm fw ip.
+      pends_ok p deepest ks F b M n (ask_row row.StartAssign) (first_assigned m) m enough t u w d k K l σ (Started t u w k K l σ) (Away p deepest ks F b d K) lt ft (state_after p deepest ks F M answer.Assign σ m1 (Ok (j, assign.Pending))) ip nm fw refl (omega (arith, le, tm))
       (λ l2 σ2 f2 t2 same own.
       weaker (machine p deepest ks F) M 10 σ2.turns _ (Started t u w k K l2 σ2) (Started t u w k K l σ) (Away p deepest ks F b d K) (Away p deepest ks F b d K) (first_assigned m σ2)
       (λ x τ2 c4 g. record { next = g.next; comes = g.comes; fit = g.fit; same = same_then [] t t w w l l2 g.next (omega arith) (omega arith) same g.same; own = λ i q. g.own i q ∙ own i q })

@@ -22,7 +22,7 @@ use Rattle.lower_model.specs.ImportCalls.{with_some, and_rest, row_in, acted}
 use Rattle.lower_model.specs.Machine.{Look, Label, Frame, Store, at, label}
 use Rattle.lower_model.specs.Places.{Bases}
 use Rattle.lower_model.specs.Small.{does, ask_row, either, least, text_beside, boxed_number, boxed_perhaps, h}
-use Rattle.lower_model.specs.declared.import.Import.TheVariants.{Of}
+use Rattle.host_imports.specs.declared.import.Import.TheVariants.{Of}
 use Rattle.lower_model.proofs.Watch.{Watch}
 use Rattle.lower_model.proofs.Runs.{Goes, then_goes, goes_to}
 use Rattle.lower_model.proofs.Regions.{upd_same}

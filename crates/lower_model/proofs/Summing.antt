@@ -1,15 +1,13 @@
 -- Sums in all cases: the number of a name, the sum with its range tested, and the name that takes it.
-use Rattle.std.proofs.Common.{◌≡◌, ◌≢◌, inl, inr, ℕ, zero, suc, ◌+◌, ◌^◌, ◌<◌, ◌≤◌, Bool, true, false, nat_le, List, [], ◌∷◌, length, None, Some, Ok, Err, Result, ℤ, ◌+ℤ◌, neg_ℤ, unsigned_abs, w64, refl, sym, ap, ◌∙◌, subst, arith}
+use Rattle.std.proofs.Common.{◌≡◌, ◌≢◌, inr, ℕ, zero, suc, ◌+◌, ◌^◌, ◌<◌, ◌≤◌, Bool, true, false, nat_le, List, [], ◌∷◌, length, None, Some, Ok, Result, ℤ, ◌+ℤ◌, neg_ℤ, unsigned_abs, w64, refl, sym, ap, ◌∙◌, subst, arith}
 use Rattle.std.specs.Prelude.{FitsSigned}
 use Rattle.awk_values.specs.Operators.{checked}
 use Rattle.awk_values.specs.declared.fault.Fault.{Fault}
 use Rattle.awk_values.specs.declared.fault.Fault.TheVariants.{Range}
-use Rattle.awk_values.specs.declared.value.Value.{Value}
 use Rattle.awk_values.specs.declared.value.Value.TheVariants as value
 use Rattle.sem_primitives.specs.Numbers.{Number as AnyNumber, number_of, number_word, outcome_of}
 use Rattle.sem_primitives.specs.ValueMeaning.{number_of_row}
 use Rattle.sem_primitives.proofs.Words.{small, fits}
-use Rattle.sem_primitives.specs.declared.sorts.Sort.TheVariants as sort
 use Rattle.wasm_types.specs.Syntax.{Instructions, Done as NoMore}
 use Rattle.wasm_types.specs.declared.types.ValType.TheVariants as ty
 use Rattle.wasm_types.specs.declared.instr.IBinOp.{IBinOp}
@@ -23,10 +21,9 @@ use Rattle.mid_program.specs.declared.mid.Arithmetic.{Arithmetic}
 use Rattle.mid_program.specs.declared.mid.Arithmetic.TheVariants as inline
 use Rattle.mid_program.specs.Mid.{Kind, Unboxed, Program, Global, a_number}
 use Rattle.mid_program.specs.MidMeaning.{or_zero, arithmetic_of, store_slot}
-use Rattle.sem_scripts.specs.ScriptState.{State, Outcome, Gives, Stop, Faulted, ◌>>◌, give, go_on, settled, global_value, with_global}
+use Rattle.sem_scripts.specs.ScriptState.{State, Outcome, ◌>>◌, give, go_on, settled, global_value, with_global}
 use Rattle.mid_program.specs.Sorted.{has_kind, kinds_of}
 use Rattle.sem_scripts.specs.Steps.{zero_number}
-use Rattle.lower_model.specs.Arithmetic.{out_of_range}
 use Rattle.lower_model.specs.Cells.{Cell, Bits, Held, is_owned}
 use Rattle.lower_model.specs.Emission.{slot_set}
 use Rattle.lower_model.specs.Machine.{Conf, Label, Frame, Store, at, label, with_operands, push_result}
@@ -36,14 +33,14 @@ use Rattle.lower_model.specs.Small.{does, fail_if, when, either, number_is, leas
 use Rattle.lower_model.specs.Small
 use Rattle.lower_model.specs.Statements.{number_there, name_numbered, source_numbered, source_taken, sum_kept, sum_taken, summed_anyway}
 use Rattle.lower_model.proofs.Watch.{Watch}
-use Rattle.lower_model.proofs.Runs.{Goes, then_goes, goes_to, goes_from, same_goes, by_steps, stays, there, first, within, weaker, then_settled}
-use Rattle.lower_model.proofs.Regions.{upd_same, upd_other}
+use Rattle.lower_model.proofs.Runs.{Goes, then_goes, goes_to, goes_from, same_goes, by_steps, stays, there, first, weaker, then_settled}
+use Rattle.lower_model.proofs.Regions.{upd_same}
 use Rattle.lower_model.proofs.Locals.{Locals, Hand, Number as NumberAt, with_at, laid}
 use Rattle.lower_model.proofs.Globals.{Hand as NameHand, Number as NameNumber}
 use Rattle.lower_model.proofs.GlobalSteps.{global_copied}
 use Rattle.lower_model.proofs.Steps.{empty, get_copied, set_ok, tee_ok}
-use Rattle.lower_model.proofs.State.{bare, beside, cells_of, kind_here, arrays_before, name_hand, name_word, word_not_beside}
-use Rattle.lower_model.proofs.Relation.{HoldsAt, Fit, fit_less, fit_more, fit_hand, fit_number, Same, same_self, same_number, Away}
+use Rattle.lower_model.proofs.State.{bare, cells_of, kind_here, arrays_before, name_hand, name_word}
+use Rattle.lower_model.proofs.Relation.{Fit, fit_less, fit_more, fit_hand, fit_number, same_number, Away}
 use Rattle.lower_model.proofs.Pieces.{chooses, closes, number_is_ok}
 use Rattle.lower_model.proofs.Answers.{machine, beside_state, Put, Reached}
 use Rattle.lower_model.proofs.Conversions.{BareIs, IsBeside, IsNone, IsNumber, bare_is}

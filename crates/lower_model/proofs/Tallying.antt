@@ -1,7 +1,6 @@
 -- Counters in arrays: the key and what is added are evaluated, a second handle of the key asks for the element, and the first one goes with the sum.
-use Rattle.std.proofs.Common.{◌≡◌, inl, ℕ, zero, suc, ◌+◌, ◌<◌, ◌≤◌, Bool, true, false, List, [], ◌∷◌, length, Some, None, Ok, Err, Result, refl, sym, ap, ◌∙◌, subst, arith}
+use Rattle.std.proofs.Common.{◌≡◌, inl, ℕ, zero, suc, ◌+◌, ◌<◌, ◌≤◌, Bool, true, false, List, [], ◌∷◌, length, Some, Ok, refl, sym, ap, ◌∙◌, subst, arith}
 use Rattle.std.specs.Prelude.{◌&&◌}
-use Rattle.awk_values.specs.declared.fault.Fault.{Fault}
 use Rattle.awk_values.specs.declared.value.Value.{Value}
 use Rattle.awk_values.specs.declared.value.Value.TheVariants as value
 use Rattle.sem_primitives.specs.Numbers.{Number as AnyNumber, number_word, outcome_of}
@@ -16,41 +15,41 @@ use Rattle.wasm_types.specs.Syntax.{Instructions}
 use Rattle.wasm_types.specs.declared.instr.Simple.TheVariants.{LocalGet, LocalTee}
 use Rattle.wasm_store.specs.declared.word.Word.TheVariants.{I64}
 use Rattle.mid_program.specs.declared.mid.Arithmetic.{Arithmetic}
-use Rattle.mid_program.specs.Mid.{Kind, Program, Form, Answered, Code, Eval, a_value, a_number, form_of, form_at}
+use Rattle.mid_program.specs.Mid.{Kind, Program, Form, Code, Eval, a_value, a_number, form_of, form_at}
 use Rattle.mid_program.specs.MidMeaning.{Holds, boxed, converted, arithmetic_of}
 use Rattle.sem_scripts.specs.Names.{ArrayName}
-use Rattle.sem_scripts.specs.ScriptState.{State, Outcome, go_on, give, settled, does}
-use Rattle.mid_program.specs.Sorted.{Held as Standing, There, context_of, sorted, held_after, is_well_used, is_kept, is_array_place, fits as fits_sort}
+use Rattle.sem_scripts.specs.ScriptState.{State, go_on, settled, does}
+use Rattle.mid_program.specs.Sorted.{There, context_of, sorted, held_after, is_well_used, is_kept, is_array_place, fits as fits_sort}
 use Rattle.sem_scripts.specs.Statements.{Normal}
-use Rattle.lower_model.specs.Cells.{Cell, Bits, Held, Gone, is_owned}
-use Rattle.lower_model.specs.Emission.{array_pushed, emitted}
+use Rattle.lower_model.specs.Cells.{Bits, Held, Gone, is_owned}
+use Rattle.lower_model.specs.Emission.{emitted}
 use Rattle.lower_model.specs.ImportCalls.{with_some, and_rest, row_in}
-use Rattle.lower_model.specs.Machine.{Conf, Look, Label, Frame, Store, at, loops_walked}
+use Rattle.lower_model.specs.Machine.{Conf, Look, Label, Frame, at, loops_walked}
 use Rattle.lower_model.specs.Places.{Bases, room, arrays_in}
 use Rattle.lower_model.specs.Quick.{Tally, is_sum, sum_op}
 use Rattle.lower_model.specs.Small.{does as instruction, ask_row, moved_out}
 use Rattle.lower_model.specs.Small
 use Rattle.lower_model.specs.Statements.{sum_kept, element_numbered, element_given, tallied}
 use Rattle.lower_model.proofs.Watch.{Watch}
-use Rattle.lower_model.proofs.Runs.{Goes, then_goes, goes_to, goes_from, same_goes, stays, first, there, weaker, then_on, then_settled}
+use Rattle.lower_model.proofs.Runs.{then_goes, goes_to, same_goes, stays, first, there, weaker, then_on, then_settled}
 use Rattle.lower_model.proofs.Regions.{upd_same, upd_other}
 use Rattle.lower_model.proofs.Locals.{Locals, Hand, Number as NumberAt, with_at, has_with, laid, laid_at, laid_twice, laid_again}
 use Rattle.lower_model.proofs.Steps.{empty, get_moved, get_copied, tee_ok, moved_out_ok}
 use Rattle.lower_model.proofs.Pieces.{done_dropped}
-use Rattle.lower_model.proofs.Relation.{array_at, HoldsAt, KeptAs, Same, Fit, fit_less, fit_hand, fit_shared, Away}
+use Rattle.lower_model.proofs.Relation.{array_at, HoldsAt, KeptAs, Fit, fit_less, fit_hand, fit_shared, Away}
 use Rattle.lower_model.proofs.Answers.{machine, beside_state, done_by, row_called, Put, kept_ok, Reached}
 use Rattle.lower_model.proofs.Arrays.{array_pushed_ok, array_live, array_in_sort}
 use Rattle.lower_model.proofs.Conversions.{ask_to_num}
-use Rattle.lower_model.proofs.Converting.{Keeps, Converted, converted_ok}
+use Rattle.lower_model.proofs.Converting.{Converted, converted_ok}
 use Rattle.lower_model.proofs.Copies.{dup_ok}
 use Rattle.lower_model.proofs.HostCalls.{calm_after}
 use Rattle.lower_model.proofs.Keeping.{kept_plain}
 use Rattle.lower_model.proofs.Operands.{holds_same}
-use Rattle.lower_model.proofs.Simulation.{work_of, context, layout, meant, Done, ExprOk, Ready, NoArray, WellUsed, still_stands, walking_same}
+use Rattle.lower_model.proofs.Simulation.{work_of, context, layout, meant, Done, ExprOk, NoArray, WellUsed, still_stands, walking_same}
 use Rattle.lower_model.proofs.StatementForms.{flows_on, plain_meant, Starts, ready, starts_after, StepDone}
 use Rattle.lower_model.proofs.Storing.{num_ok}
 use Rattle.lower_model.proofs.Summing.{Summed, any_sum, sum_kept_ok, summed_since}
-use Rattle.lower_model.proofs.Tallies.{Shape, tally_code, IsAdded, TallyParts, tally_sorted, tally_room, kept_value, given_to, numbers_summed, tally_meant, body_meant, tally_means}
+use Rattle.lower_model.proofs.Tallies.{Shape, tally_code, IsAdded, tally_sorted, tally_room, kept_value, given_to, tally_meant, body_meant, tally_means}
 
 module _ (p : Program) (deepest : Watch) (ks : List Kind) (F : List Frame) (b : Bases) (M n : ℕ) where
   -- the element's number comes to temporary 2

@@ -13,7 +13,7 @@ use Rattle.sem_scripts.specs.ScriptState.{State, Stop, Doing, ◌>>◌, Local, S
 use Rattle.sem_scripts.specs.Statements.{Flow}
 use Rattle.mid_program.specs.Sorted.{has_kind, same_kind, kinds_of}
 use Rattle.lower_model.specs.Cells.{Cell, Bits, Held, IteratorOf, OwnedArray, LentArray, Gone, is_owned, none_owned, is_held, is_array, is_iterator, no_temporary, count_cells, iterators_in, tidy_locals, tidy_name, each_name, globals_by, is_bare, mark_fits, marks_fit}
-use Rattle.lower_model.specs.Machine.{Conf, Label, Frame, at, guarded, tidy, loops_walked}
+use Rattle.lower_model.specs.Machine.{Conf, Label, Frame, at, guarded, loops_walked}
 use Rattle.lower_model.specs.Noted.{noted, noting}
 use Rattle.lower_model.specs.Places.{Bases}
 use Rattle.lower_model.specs.Small.{does}
@@ -227,7 +227,7 @@ module _ (p : Program) (deepest : Watch) (ks : List Kind) (F : List Frame) (b : 
   }
 
   fit_noted : (c : Instructions) (t u w : ℕ) (l : Locals) (σ : State) → Fit p deepest ks F t u w l σ → Fit p deepest ks F t u w l (noting deepest.notes c σ)
-  fit_noted c t u w l σ f = record { params = f.params; size = f.size; answer = f.answer; hands = f.hands; numbers = f.numbers; free = f.free; walks = f.walks; still = f.still; yards = f.yards; spare = f.spare; sound = record { room = f.sound.room; names = f.sound.names; calm = record { pending = f.sound.calm.pending; names = f.sound.calm.names } } }
+  fit_noted c t u w l σ f = record { params = f.params; size = f.size; answer = f.answer; hands = f.hands; numbers = f.numbers; free = f.free; walks = f.walks; still = f.still; yards = f.yards; spare = f.spare; sound = record { room = f.sound.room; names = f.sound.names; calm = record { pending = f.sound.calm.pending; names = f.sound.calm.names; few = f.sound.calm.few } } }
 
   pub starts_noted : (c : Instructions) (u : ℕ) (K : List Label) (l : Locals) (σ : State) → Starts p deepest ks F b M n u K l σ → Starts p deepest ks F b M n u K l (noting deepest.notes c σ)
   starts_noted c u K l σ s = record { fit = fit_noted c 0 u 0 l σ s.fit; walked = s.walked; walks = s.walks; loops = s.loops; turns = s.turns; parameters = s.parameters }

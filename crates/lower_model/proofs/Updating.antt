@@ -1,5 +1,5 @@
 -- `n += e`: what is added is evaluated first, the name's number is asked then, and the sum goes to the name.
-use Rattle.std.proofs.Common.{◌≡◌, ℕ, zero, suc, ◌+◌, ◌<◌, ◌≤◌, Bool, true, false, List, [], ◌∷◌, Some, None, Option, Ok, Err, Result, refl, sym, ap, ◌∙◌, subst, arith, if◌then◌else◌}
+use Rattle.std.proofs.Common.{◌≡◌, ℕ, zero, ◌+◌, ◌<◌, ◌≤◌, Bool, true, false, List, [], ◌∷◌, Some, None, Option, Ok, Err, Result, refl, sym, ap, ◌∙◌, subst, arith, if◌then◌else◌}
 use Rattle.std.specs.Prelude.{◌&&◌}
 use Rattle.std.proofs.lemmas.Bool.{and_parts}
 use Rattle.awk_values.specs.declared.fault.Fault.{Fault}
@@ -12,13 +12,12 @@ use Rattle.wasm_types.specs.declared.instr.Simple.TheVariants.{LocalGet}
 use Rattle.wasm_store.specs.declared.word.Word.TheVariants.{I64}
 use Rattle.mid_program.specs.declared.mid.Arithmetic.{Arithmetic}
 use Rattle.mid_program.specs.declared.mid.Operation.TheVariants.{Inline}
-use Rattle.mid_program.specs.Mid.{Kind, Unboxed, Program, Form, Global, Code, Do, Get, Set, Let, Bound, Codes, End, At, Eval, a_number, form_of}
+use Rattle.mid_program.specs.Mid.{Kind, Unboxed, Program, Global, Code, Do, Get, Set, Let, Bound, Codes, End, At, Eval, a_number, form_of}
 use Rattle.mid_program.specs.MidMeaning.{Holds, converted, evaluated, all_evaluated, stepped, then_row, arithmetic_of, store_slot}
-use Rattle.sem_scripts.specs.ScriptState.{State, Outcome, Gives, ◌>>◌, give, go_on, settled, global_value}
+use Rattle.sem_scripts.specs.ScriptState.{State, Outcome, ◌>>◌, give, go_on, settled, global_value}
 use Rattle.mid_program.specs.Sorted.{There, has_kind, kinds_of, sorted, all_sorted, is_kept, keeps_well, fits as fits_sort}
 use Rattle.sem_scripts.specs.Statements.{Normal}
 use Rattle.lower_model.specs.Cells.{Bits}
-use Rattle.lower_model.specs.Emission.{emitted, all_emitted}
 use Rattle.lower_model.specs.Machine.{Conf, Label, Frame, at}
 use Rattle.lower_model.specs.Places.{Bases, room, arrays_in}
 use Rattle.lower_model.specs.Quick.{Update, is_sum, sum_op, name_in, update_of, kept_update, set_update, let_update, update_in}
@@ -26,7 +25,7 @@ use Rattle.lower_model.specs.Small.{does}
 use Rattle.lower_model.specs.Small
 use Rattle.lower_model.specs.Statements.{name_numbered, sum_taken, updated}
 use Rattle.lower_model.proofs.Watch.{Watch}
-use Rattle.lower_model.proofs.Runs.{Goes, then_goes, goes_from, same_goes, first, weaker, then_on, then_settled, there, stays}
+use Rattle.lower_model.proofs.Runs.{then_goes, goes_from, same_goes, first, weaker, then_on, then_settled, there, stays}
 use Rattle.lower_model.proofs.Locals.{Locals, Number as NumberAt, laid}
 use Rattle.lower_model.proofs.Steps.{get_copied}
 use Rattle.lower_model.proofs.Relation.{HoldsAt, Fit, fit_less, fit_more, Away}

@@ -1,6 +1,6 @@
 -- Where a function is called its caller holds parameters, operands that are pending, and iterators of the loops that are walked: the machine goes on.
 use Rattle.std.proofs.Common.{◌≡◌, inl, inr, ℕ, zero, suc, ◌+◌, ◌<◌, ◌≤◌, Bool, true, false, List, [], ◌∷◌, ◌++◌, length, refl, sym, ap, ap₂, ◌∙◌, arith}
-use Rattle.std.specs.Prelude.{not, ◌&&◌, ◌||◌, cond, nat_eq, nat_le}
+use Rattle.std.specs.Prelude.{not, ◌&&◌, cond, nat_eq, nat_le}
 use Rattle.std.proofs.lemmas.Bool.{eq-eqb, le-leb}
 use Rattle.wasm_types.specs.Syntax.{Instructions}
 use Rattle.mid_program.specs.Mid.{Kind, Boxed, Unboxed, Many, Program}

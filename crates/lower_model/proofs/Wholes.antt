@@ -18,7 +18,7 @@ use Rattle.lower_model.specs.Runs.{begun, first_globals, host_at_start}
 use Rattle.lower_model.specs.Small.{ask_row, kept_number, least}
 use Rattle.lower_model.specs.Statements.{block, started, part_done, first_part, last_part}
 use Rattle.lower_model.specs.Emission.{asked}
-use Rattle.lower_model.specs.declared.import.Import.TheVariants.{Of}
+use Rattle.host_imports.specs.declared.import.Import.TheVariants.{Of}
 use Rattle.lower_model.proofs.Watch.{watched}
 use Rattle.lower_model.proofs.Runs.{Goes, goes_to, goes_from, then_goes, by_steps, first, within, faulted, Arrives}
 use Rattle.lower_model.proofs.Regions.{upd_all}

@@ -1,5 +1,6 @@
 -- Arithmetic and comparison that the module carries out itself. Operands stand in temporaries t and t + 1; the result goes to t.
 use Rattle.std.specs.Prelude.{ℕ, suc, ◌^◌, Bool, true, false, ◌||◌, if◌then◌else◌}
+use Rattle.awk_text.specs.Number.{largest}
 use Rattle.awk_values.specs.declared.fault.Fault.TheVariants.{Range, DivisionByZero, Inexact, FieldNumber}
 use Rattle.awk_values.specs.declared.comparison.CompareOp.{CompareOp}
 use Rattle.awk_values.specs.declared.comparison.CompareOp.TheVariants as compare
@@ -24,7 +25,7 @@ use Rattle.lower_model.specs.Small.{does, ask_row, either, text_beside, moved_ou
 
 -- whether the number in a local is out of range
 abbrev pub out_of_range : ℕ → Instructions → Instructions
-out_of_range x k = does (LocalGet x) (does (I64Const (2 ^ 53)) (does (Binary I64 Add) (does (I64Const (2 ^ 54)) (does (Compare I64 GtU) k))))
+out_of_range x k = does (LocalGet x) (does (I64Const largest) (does (Binary I64 Add) (does (I64Const (2 ^ 54)) (does (Compare I64 GtU) k))))
 
 abbrev pub two_numbers : ℕ → ℕ → IBinOp → Instructions → Instructions
 two_numbers x y op k = does (LocalGet x) (does (LocalGet y) (does (Binary I64 op) k))
@@ -41,7 +42,8 @@ factors_differ p x y k =
     (does (LocalGet x) (does (I64Const 0) (does (Compare I64 Ne) (does (Binary I32 And) k))))))))))))
 
 abbrev pub times : ℕ → ℕ → ℕ → ℕ → Instructions → Instructions
-times x y p d k = two_numbers x y Mul (does (LocalSet p) (factors_differ p x y (out_of_range p (does (Binary I32 Or) (fail_if Range d (does (LocalGet p) (does (LocalSet x) k)))))))
+times x y p d k = two_numbers x y Mul (does (LocalSet p)
+    (factors_differ p x y (out_of_range p (does (Binary I32 Or) (fail_if Range d (does (LocalGet p) (does (LocalSet x) k)))))))
 
 abbrev pub unless_zero : ℕ → ℕ → Instructions → Instructions
 unless_zero y d k = does (LocalGet y) (does (Test I64 Eqz) (fail_if DivisionByZero d k))

@@ -1,4 +1,5 @@
--- The places of statements: each step of a function has the `nop` that begins its code, and these differ. A place is the number of its `nop` among those of the function's code.
+-- The places of statements: each step of a function has the `nop` that begins its code, and these differ. A place is the number of its `nop` among
+-- those of the function's code.
 use Rattle.std.specs.Prelude.{ℕ, suc, ◌+◌, true, false, if◌then◌else◌}
 use Rattle.wasm_types.specs.Syntax.{Instruction, Plain, BrTable, Block, Loop, If, Instructions, Done, Then}
 use Rattle.wasm_types.specs.declared.instr.Simple.{Simple}
@@ -6,7 +7,8 @@ use Rattle.wasm_types.specs.declared.instr.Simple.TheVariants.{Nop}
 use Rattle.mid_program.specs.Mid.{Step, Eval, Block as Body, If as Either, Loop as Rounds, Each, Break, Continue, Next, Exit, ExitWith, Return, Mark, Steps, NoStep, Then as AndThen}
 use Rattle.lower_model.specs.Quick.{is_nothing}
 
--- how many places a step takes: its own, those of the steps in it, and that of the test of a loop whose first round goes without it. A third part in which there is nothing has no code.
+-- how many places a step takes: its own, those of the steps in it, and that of the test of a loop whose first round goes without it. A third part in
+-- which there is nothing has no code.
 abbrev mutual
   pub step_places : Step → ℕ
   step_places (Eval e) = 1

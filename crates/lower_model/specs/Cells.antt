@@ -1,5 +1,5 @@
--- What stands on the stack, in locals and in globals of the machine over values: a word, or what the number of a handle, of an array or of an iterator stands for.
--- A cell that is owned has one place: who reads it moves it, and nothing may be put over it.
+-- What stands on the stack, in locals and in globals of the machine over values: a word, or what the number of a handle, of an array or of an
+-- iterator stands for. A cell that is owned has one place: who reads it moves it, and nothing may be put over it.
 use Rattle.std.specs.Prelude.{ℕ, zero, ◌+◌, ◌-◌, Bool, true, false, not, ◌&&◌, ◌||◌, nat_eq, nat_lt, List, [], ◌∷◌, take, drop, get_or, length, suc, cond, Option, Some, None}
 use Rattle.awk_values.specs.declared.value.Value.{Value as AnyValue}
 use Rattle.wasm_store.specs.declared.word.Word.{Word}
@@ -111,7 +111,8 @@ tidy_locals (Unboxed ∷ ks) (c ∷ cs) = is_bare c && tidy_locals ks cs
 tidy_locals (Many ∷ ks) (c ∷ cs) = not (is_owned c) && tidy_locals ks cs
 tidy_locals (k ∷ ks) [] = false
 
--- Where a caller waits for the answer of a call: its parameters have what they are to have, temporaries before the answer's may have a value each, and no other local has one.
+-- Where a caller waits for the answer of a call: its parameters have what they are to have, temporaries before the answer's may have a value each,
+-- and no other local has one.
 
 abbrev pub no_value : List Cell → Bool
 no_value [] = true

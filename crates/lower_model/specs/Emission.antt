@@ -1,5 +1,5 @@
--- The code of mid code, each part with the code after it. The value of code goes to temporary t, where those from t on are free; w arrays of calls are in use, and the function's exit is d labels further out.
--- Between two parts of code nothing is on the stack.
+-- The code of mid code, each part with the code after it. The value of code goes to temporary t, where those from t on are free; w arrays of calls
+-- are in use, and the function's exit is d labels further out. Between two parts of code nothing is on the stack.
 use Rattle.std.specs.Prelude.{ℕ, zero, suc, ◌+◌, ◌-◌, Bool, true, false, if◌then◌else◌, List, [], ◌∷◌, length, get_or, Option, Some, None, ℤ}
 use Rattle.std.specs.Int.{w64, cast_unsigned}
 use Rattle.sem_primitives.specs.Constants.{destination_number, flag_number}
@@ -28,14 +28,15 @@ use Rattle.sem_scripts.specs.Names.{ArrayName, Numbered, Given}
 use Rattle.sem_scripts.specs.Steps.{is_field_number}
 use Rattle.mid_program.specs.Mid.{Kind, Boxed, Unboxed, Many, Slot, Global, Parameter, Code, Do, Over, Compare, Call, Ask, AskLine, FileLine, Replace, Number, Text, Unset, Get, Set, Array, IsOpen, Choose, Seq, Let, Bound, Codes, End, At, Fixed, Fresh, Form, Answered, Bare, Perhaps, a_value, form_of, form_at, arguments, parameters_at}
 use Rattle.mid_program.specs.Sorted.{count_of}
-use Rattle.lower_model.specs.Imports.{import_count}
+use Rattle.host_imports.specs.Imports.{import_count}
 use Rattle.lower_model.specs.Places.{Bases, place_of, array_local, array_name, range_global, handle_global, number_global, made_in}
 use Rattle.lower_model.specs.Small.{does, ask, ask_row, when, either, minus_one, least, text_beside, moved_out, let_go, copied, number_is, h, n, kept, kept_code, kept_value, boxed_number, boxed_perhaps, to_value, converted, code_number, truth, unused, released, moved_from, bound_from}
 use Rattle.lower_model.specs.Arithmetic.{calculated, field_checked, compared}
-use Rattle.lower_model.specs.declared.import.Listing.TheVariants as listing
-use Rattle.lower_model.specs.declared.import.Import.TheVariants.{Over as OverLast, Arg, Drop, FreeArray}
+use Rattle.host_imports.specs.declared.import.Listing.TheVariants as listing
+use Rattle.host_imports.specs.declared.import.Import.TheVariants.{Over as OverLast, Arg, Drop, FreeArray}
 
--- What the code of a function is emitted for: the texts in memory, how many ranges there are, the kinds of the names and of the functions' parameters, and where the function's own things stand.
+-- What the code of a function is emitted for: the texts in memory, how many ranges there are, the kinds of the names and of the functions'
+-- parameters, and where the function's own things stand.
 pub record Layout : Type 0 where
   pub texts : List (List ℕ)
   pub ranges : ℕ
@@ -190,8 +191,10 @@ module _ (y : Layout) where
 
   abbrev pub listed_asked : Listed → ℕ → ℕ → ℕ → Instructions → Instructions
   listed_asked listed.Sprintf count t d k = does (I32Const count) (ask (OverLast listing.Sprintf) (kept_value b true t d k))
-  listed_asked (listed.Print to) count t d k = does (I32Const (values_counted to count)) (does (I32Const (destination_number to)) (ask (OverLast listing.Print) (kept b true answer.Done t d k)))
-  listed_asked (listed.Printf to) count t d k = does (I32Const (values_counted to count)) (does (I32Const (destination_number to)) (ask (OverLast listing.Printf) (kept b true answer.Done t d k)))
+  listed_asked (listed.Print to) count t d k = does (I32Const (values_counted to count))
+      (does (I32Const (destination_number to)) (ask (OverLast listing.Print) (kept b true answer.Done t d k)))
+  listed_asked (listed.Printf to) count t d k = does (I32Const (values_counted to count))
+      (does (I32Const (destination_number to)) (ask (OverLast listing.Printf) (kept b true answer.Done t d k)))
 
   -- What a call is given. An array that is made for it stays where it can be freed, and its number is lent.
 
@@ -228,7 +231,8 @@ module _ (y : Layout) where
   field_or (Some z) t k other = field_read z t k
   field_or None t k other = other
 
-  -- What is evaluated for what it does alone leaves this to be dropped. An assignment has given its value away then, what was kept is dropped where it was kept, and code in which something comes last has dropped that.
+  -- What is evaluated for what it does alone leaves this to be dropped. An assignment has given its value away then, what was kept is dropped where
+  -- it was kept, and code in which something comes last has dropped that.
   abbrev pub left_over : Code → Form → ℕ → Instructions → Instructions
   left_over (Set x e) f t k = k
   left_over (Seq e c) f t k = k
@@ -255,7 +259,8 @@ module _ (y : Layout) where
   abbrev pub text_let_go : List Form → Code → ℕ → Instructions → Instructions
   text_let_go fs s t k = left_over s (form_of (a_value ∷ fs) s) (suc (suc t)) (let_go Drop (h b (suc t)) k)
 
-  -- Code. What is kept is of forms fs and stands in temporaries ts. Where code is evaluated for what it does alone, an assignment moves its value, and no answer is brought to its place that would be dropped there.
+  -- Code. What is kept is of forms fs and stands in temporaries ts. Where code is evaluated for what it does alone, an assignment moves its value,
+  -- and no answer is brought to its place that would be dropped there.
   unfoldable mutual
     pub emitted : (only : Bool) → List Form → List ℕ → Code → (t w d : ℕ) → Instructions → Instructions
     emitted v fs ts (Do o es) t w d k = field_or (field_in o es) t k (all_emitted fs ts es t w d (all_converted fs (arguments o) es t d (performed o es t d k)))
@@ -289,7 +294,8 @@ module _ (y : Layout) where
         emitted false fs ts c t w d (truth b (form_of fs c) t (either
         (emitted false fs ts e t w (suc d) (converted b (form_of fs e) s t (suc d) Done))
         (emitted false fs ts f t w (suc d) (converted b (form_of fs f) s t (suc d) Done)) k))
-    emitted v fs ts (Seq e f) t w d k = emitted true fs ts e t w d (left_over e (form_of fs e) t (emitted v fs ts f t w d (sequence_closed v f (form_of fs f) t k)))
+    emitted v fs ts (Seq e f) t w d k = emitted true fs ts e t w d
+        (left_over e (form_of fs e) t (emitted v fs ts f t w d (sequence_closed v f (form_of fs f) t k)))
     emitted v fs ts (Let e f) t w d k =
         let g = form_of fs e in
         emitted false fs ts e t w d (emitted v (g ∷ fs) (t ∷ ts) f (suc t) w d (keeping_closed v f g (form_of (g ∷ fs) f) t k))

@@ -27,7 +27,12 @@ main_bases p = record {
 }
 
 abbrev pub routine_callee : Program → Routine → Callee
-routine_callee p r = record { kinds = r.parameters; locals = local_types (routine_bases r); body = routine_body (layout_of p (routine_bases r)) r.parameters r.body }
+routine_callee p r = record {
+  kinds = r.parameters;
+  locals = local_types (routine_bases r);
+  body = routine_body
+      (layout_of p (routine_bases r)) r.parameters r.body;
+}
 
 abbrev pub main_callee : Program → Callee
 main_callee p = record { kinds = []; locals = local_types (main_bases p); body = main_body (layout_of p (main_bases p)) p }

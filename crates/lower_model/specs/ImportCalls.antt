@@ -1,4 +1,5 @@
--- What an import does on cells. Its meaning is the table's; here is how arguments are taken and answers are given, and what becomes of a call once a fault is kept.
+-- What an import does on cells. Its meaning is the table's; here is how arguments are taken and answers are given, and what becomes of a call once a
+-- fault is kept.
 use Rattle.std.specs.Prelude.{ℕ, ◌-◌, ◌+◌, ◌^◌, nat_le, nat_lt, Bool, true, false, ◌&&◌, if◌then◌else◌, List, [], ◌∷◌, ◌++◌, length, take, drop, Option, Some, None, Result, Ok, Err}
 use Rattle.awk_values.specs.declared.fault.Fault.{Fault}
 use Rattle.awk_values.specs.declared.value.Value.{Value as AnyValue}
@@ -9,12 +10,6 @@ use Rattle.sem_primitives.specs.Numbers.{faulted_word, number_of_word, number_wo
 use Rattle.sem_primitives.specs.SharedState.{Shared, Does, gives, shared_after}
 use Rattle.sem_primitives.specs.Sorts.{In, InAnswer, InArgument, OrFault, Row}
 use Rattle.sem_primitives.specs.Table.{can_fault, meaning, listed_answer, listed_meaning}
-use Rattle.sem_primitives.specs.declared.answers.InputAnswer.{InputAnswer}
-use Rattle.sem_primitives.specs.declared.answers.InputAnswer.TheVariants as input
-use Rattle.sem_primitives.specs.declared.answers.AssignAnswer.{AssignAnswer}
-use Rattle.sem_primitives.specs.declared.answers.AssignAnswer.TheVariants as assign
-use Rattle.sem_primitives.specs.declared.answers.StreamAnswer.{StreamAnswer}
-use Rattle.sem_primitives.specs.declared.answers.StreamAnswer.TheVariants as stream
 use Rattle.sem_primitives.specs.declared.sorts.Sort.{Sort}
 use Rattle.sem_primitives.specs.declared.sorts.Sort.TheVariants as sort
 use Rattle.sem_primitives.specs.declared.sorts.Constant.{Constant}
@@ -27,11 +22,12 @@ use Rattle.sem_primitives.specs.declared.table.Listed.TheVariants as listed
 use Rattle.sem_primitives.specs.declared.table.Primitive.TheVariants as row
 use Rattle.wasm_store.specs.declared.word.Word.{Word}
 use Rattle.wasm_store.specs.declared.word.Word.TheVariants.{I32, I64}
+use Rattle.host_imports.specs.Codes.{input_code, assign_code, stream_code, end_word}
 use Rattle.lower_model.specs.Cells.{Cell, Bits, Held, IteratorOf, OwnedArray, LentArray, none_owned}
-use Rattle.lower_model.specs.Imports.{import_arguments, import_answer}
-use Rattle.lower_model.specs.declared.import.Listing.TheVariants.{Sprintf, Print, Printf}
-use Rattle.lower_model.specs.declared.import.Import.{Import}
-use Rattle.lower_model.specs.declared.import.Import.TheVariants.{Of, Over, Arg, Drop, IterFree, FreeArray}
+use Rattle.host_imports.specs.Imports.{import_arguments, import_answer, lets_go}
+use Rattle.host_imports.specs.declared.import.Listing.TheVariants.{Sprintf, Print, Printf}
+use Rattle.host_imports.specs.declared.import.Import.{Import}
+use Rattle.host_imports.specs.declared.import.Import.TheVariants.{Of, Over, Arg, Drop, IterFree, FreeArray}
 
 -- the host beside its tables: what it shares with the script, the argument list, and the fault that is kept
 pub record Host : Type 0 where
@@ -103,24 +99,6 @@ looked_at (Of row.IterNext) (IteratorOf t) = Some (t, tt)
 looked_at i c = None
 
 -- Answers.
-
-abbrev pub input_code : InputAnswer → ℕ
-input_code input.End = 0
-input_code input.Read = 1
-input_code input.Pending = 2
-input_code input.Failed = 3
-
-abbrev pub assign_code : AssignAnswer → ℕ
-assign_code assign.NoneLeft = 0
-assign_code assign.Pending = 2
-
-abbrev pub stream_code : StreamAnswer → ℕ
-stream_code stream.Done = 0
-stream_code stream.NotOpen = 3
-
--- that no key is left
-abbrev pub end_word : Word
-end_word = I32 (2 ^ 32 - 2)
 
 abbrev pub cell_of_sort : (s : Sort) → In s → Cell
 cell_of_sort sort.Value v = Held v
@@ -196,11 +174,6 @@ abbrev pub acted : (i : Import) → Host → Option (Row (import_arguments i)) �
 acted i h given = with_some given (λ r. with_some (acts i r h) (λ d. Some (replied (import_answer i) h d d.does.answer)))
 
 -- once a fault is kept these still let go, and the others only refuse: nothing that is owned may be given to them
-abbrev pub lets_go : Import → Bool
-lets_go Drop = true
-lets_go IterFree = true
-lets_go FreeArray = true
-lets_go _ = false
 
 abbrev pub after_fault : List ℕ → (i : Import) → List Cell → Host → Option (Option Cell × Host)
 after_fault memory i cs h = if lets_go i then acted i h (taken memory i cs) else where_so (none_owned cs) (Some (fault_cell (import_answer i), h))

@@ -1,5 +1,4 @@
 pub mod Cells
-pub mod Imports
 pub mod ImportCalls
 pub mod Machine
 pub mod Places

@@ -1,6 +1,6 @@
--- The machine over values: it runs emitted code with values in place of handles, and is a function. What is owned is moved and never copied: a read leaves nothing behind, and where
--- something would be lost or doubled, a call would be out of turn, or a statement would begin while something is held, the machine is stuck.
--- A look at what was just stored serves the next instruction alone.
+-- The machine over values: it runs emitted code with values in place of handles, and is a function. What is owned is moved and never copied: a read
+-- leaves nothing behind, and where something would be lost or doubled, a call would be out of turn, or a statement would begin while something is
+-- held, the machine is stuck. A look at what was just stored serves the next instruction alone.
 use Rattle.std.specs.Prelude.{ℕ, zero, suc, ◌+◌, ◌-◌, ◌^◌, ◌%◌, Bool, true, false, not, ◌&&◌, ◌||◌, cond, nat_eq, nat_le, nat_lt, List, [], ◌∷◌, ◌++◌, length, map, take, drop, reverse, set, slice_get, Option, Some, None, Result, Ok, Err}
 use Rattle.wasm_types.specs.Syntax.{Instruction, Plain, Block, Loop, If, Instructions, Done, Then}
 use Rattle.wasm_types.specs.declared.types.ValType.{ValType}
@@ -19,10 +19,10 @@ use Rattle.awk_values.specs.declared.value.Value.{Value}
 use Rattle.world_core.specs.WorldState.{Action}
 use Rattle.sem_scripts.specs.ScriptRun.{Ending, Ended, FaultedBy, GoesOn, Exhausted}
 use Rattle.lower_model.specs.Cells.{Cell, Bits, Held, IteratorOf, OwnedArray, LentArray, Gone, is_owned, left_by, read_global, left_in_global, cell_at, has_room, none_owned, has_owner, arrays_owned, iterators_in, tidy_locals, locals_wait, tidy_name, ended_name, globals_by, marks_fit, may_come}
-use Rattle.lower_model.specs.Imports.{import_at, import_arguments, import_count, import_number, params_of}
+use Rattle.host_imports.specs.Imports.{import_at, import_arguments, import_count, import_number, params_of}
 use Rattle.lower_model.specs.ImportCalls.{Host, call, look, carried_by}
-use Rattle.lower_model.specs.declared.import.Import.{Import}
-use Rattle.lower_model.specs.declared.import.Import.TheVariants.{FreeArray, Of}
+use Rattle.host_imports.specs.declared.import.Import.{Import}
+use Rattle.host_imports.specs.declared.import.Import.TheVariants.{FreeArray, Of}
 use Rattle.sem_primitives.specs.declared.table.Primitive.TheVariants as row
 
 pub record Label : Type 0 where
@@ -50,14 +50,16 @@ pub record Callee : Type 0 where
   pub locals : List ValType
   pub body : Instructions
 
--- What is noted in the output where a statement begins, by the code from its place on. A module notes nothing; a run with notes shows at which places it passes, and when.
+-- What is noted in the output where a statement begins, by the code from its place on. A module notes nothing; a run with notes shows at which places
+-- it passes, and when.
 abbrev pub Notes : Type 0
 Notes = Instructions → List Action → List Action
 
 abbrev pub no_notes : Notes
 no_notes c output = output
 
--- what the machine runs: its functions, the texts in memory, how many globals stand before those of the names, the names' kinds, how many callers may wait, and what is noted
+-- what the machine runs: its functions, the texts in memory, how many globals stand before those of the names, the names' kinds, how many callers may
+-- wait, and what is noted
 pub record Code : Type 0 where
   pub memory : List ℕ
   pub before : ℕ
@@ -190,7 +192,8 @@ assigning_then _ name = None
 abbrev pub set_global : Code → ℕ → List Kind → List Cell → List Label → List Cell → List Frame → Instructions → Store → Conf
 set_global u x ks [] K L F c G = Stuck
 set_global u x ks (v ∷ vs) K L F c G =
-    guarded (has_room G.globals x && may_come u.before u.names G.assigning x (cell_at G.globals x) v) (at ks vs K L F c (record G { globals = set G.globals x v; assigning = assigning_then v G.assigning }))
+    guarded (has_room G.globals x && may_come u.before u.names G.assigning x (cell_at G.globals x) v)
+    (at ks vs K L F c (record G { globals = set G.globals x v; assigning = assigning_then v G.assigning }))
 
 -- Calls.
 
@@ -215,7 +218,8 @@ abbrev pub ask : List ℕ → Option Import → List Kind → List Cell → List
 ask memory None ks vs K L F c G = Stuck
 ask memory (Some i) ks vs K L F c G =
     let given = reverse (take (width i) vs) in
-    guarded (all_live L F G.globals given) (with_answer (call memory i given G.host) ks (drop (width i) vs) K L F c (record G { assigning = assigning_after i G }))
+    guarded (all_live L F G.globals given) (with_answer (call memory i given G.host) ks (drop (width i) vs) K L F c
+    (record G { assigning = assigning_after i G }))
 
 abbrev pub ask_looking : Option Import → Cell → List Kind → List Cell → List Label → List Cell → List Frame → Instructions → Store → Conf
 ask_looking None v ks vs K L F c G = Stuck
@@ -240,7 +244,8 @@ answers_to _ = 0
 
 -- how many arrays are let go, one after another
 abbrev pub arrays_freed : Instructions → ℕ
-arrays_freed (Then (Plain (LocalGet x)) (Then (Plain (I32Const m)) (Then (Plain (LocalSet y)) (Then (Plain (Call n)) c)))) = cond (nat_eq n (import_number FreeArray)) (suc (arrays_freed c)) 0
+arrays_freed (Then (Plain (LocalGet x)) (Then (Plain (I32Const m)) (Then (Plain (LocalSet y)) (Then (Plain (Call n)) c)))) = cond
+    (nat_eq n (import_number FreeArray)) (suc (arrays_freed c)) 0
 arrays_freed _ = 0
 
 -- after a call, once its answer is kept
@@ -279,20 +284,24 @@ leave u ks vs (l ∷ K) L F G = guarded (none_owned vs) (at ks (vs ++ l.under) K
 leave u ks [] [] L F G = Stuck
 leave u ks (v ∷ vs) [] L F G = guarded (none_owned vs && none_owned L) (leave_function u v F G)
 
--- where a statement begins nothing is on the stack or the argument list, names and parameters have what they are to have, and no other local of the function has a value or an array
+-- where a statement begins nothing is on the stack or the argument list, names and parameters have what they are to have, and no other local of the
+-- function has a value or an array
 abbrev pub is_empty : {A : Type 0} → List A → Bool
 is_empty [] = true
 is_empty (x ∷ xs) = false
 
 abbrev pub tidy : Code → List Kind → List Cell → List Label → List Cell → Store → Bool
-tidy u ks vs K L G = (is_empty vs && is_empty G.host.arguments) && ((tidy_locals ks L && nat_eq (iterators_in L) (loops_walked K)) && (globals_by tidy_name u.before u.names G.globals && marks_fit u.names (drop u.before G.globals)))
+tidy u ks vs K L G = (is_empty vs && is_empty G.host.arguments)
+    && ((tidy_locals ks L && nat_eq (iterators_in L) (loops_walked K))
+    && (globals_by tidy_name u.before u.names G.globals && marks_fit u.names (drop u.before G.globals)))
 
 abbrev pub with_operands : Option (List Cell) → List Kind → List Label → List Cell → List Frame → Instructions → Store → Conf
 with_operands None ks K L F c G = Stuck
 with_operands (Some vs) ks K L F c G = at ks vs K L F c G
 
 abbrev pub call_number : Code → ℕ → List Kind → List Cell → List Label → List Cell → List Frame → Instructions → Store → Conf
-call_number u n ks vs K L F c G = cond (nat_lt n import_count) (ask u.memory (import_at n) ks vs K L F c G) (enter u.deepest (slice_get u.callees (n - import_count)) ks vs K L F c G)
+call_number u n ks vs K L F c G = cond (nat_lt n import_count) (ask u.memory (import_at n) ks vs K L F c G)
+    (enter u.deepest (slice_get u.callees (n - import_count)) ks vs K L F c G)
 
 abbrev pub noted : Code → Instructions → Store → Store
 noted u c G = record G { host = record G.host { shared = record G.host.shared { output = u.notes c G.host.shared.output } } }
@@ -302,7 +311,8 @@ act u Nop ks vs K L F c G = guarded (tidy u ks vs K L G) (at ks vs K L F c (note
 act u (LocalGet x) ks vs K L F c G = guarded (nat_lt x (length L)) (at ks (cell_at L x ∷ vs) K (set L x (left_by (cell_at L x))) F c G)
 act u (LocalSet x) ks vs K L F c G = set_local x ks vs K L F c G
 act u (LocalTee x) ks vs K L F c G = tee_local x ks vs K L F c G
-act u (GlobalGet x) ks vs K L F c G = at ks (read_global (cell_at G.globals x) ∷ vs) K L F c (record G { globals = set G.globals x (left_in_global (cell_at G.globals x)) })
+act u (GlobalGet x) ks vs K L F c G = at ks (read_global (cell_at G.globals x)
+    ∷ vs) K L F c (record G { globals = set G.globals x (left_in_global (cell_at G.globals x)) })
 act u (GlobalSet x) ks vs K L F c G = set_global u x ks vs K L F c G
 act u (Br d) ks vs K L F c G = guarded (none_owned vs) (br d ks K L F G)
 act u (BrIf d) ks vs K L F c G = br_if d ks vs K L F c G
@@ -321,7 +331,8 @@ run u ks vs K L F Done G = leave u ks vs K L F G
 run u ks vs K L F (Then i c) G = work u i ks vs K L F c G
 
 abbrev pub run_looking : Code → ℕ → List Kind → List Cell → List Label → List Cell → List Frame → Instructions → Store → Conf
-run_looking u x ks vs K L F (Then (Plain (I32Const n)) (Then (Plain (Compare ty.I32 op)) c)) G = with_operands (push_word vs (looked_compared op (cell_at L x) n)) ks K L F c G
+run_looking u x ks vs K L F (Then (Plain (I32Const n)) (Then (Plain (Compare ty.I32 op)) c)) G = with_operands
+    (push_word vs (looked_compared op (cell_at L x) n)) ks K L F c G
 run_looking u x ks vs K L F (Then (Plain (Call n)) c) G = ask_looking (import_at n) (cell_at L x) ks vs K L F c G
 run_looking u x ks vs K L F c G = Stuck
 

@@ -1,4 +1,5 @@
--- The module of a program. Its code is emitted for all imports; then those that no function calls are left out, and the others and the functions are numbered anew.
+-- The module of a program. Its code is emitted for all imports; then those that no function calls are left out, and the others and the functions are
+-- numbered anew.
 use Rattle.std.specs.Prelude.{ℕ, zero, suc, ◌+◌, ◌/◌, nat_eq, Bool, true, false, ◌||◌, List, [], ◌∷◌, ◌++◌, length, map, codes, replicate, Some, None}
 use Rattle.wasm_types.specs.Syntax.{Instruction, Plain, BrTable, Block, Loop, If, Instructions, Done, Then, Signature, ImportForm, FuncForm, GlobalForm, ModuleForm}
 use Rattle.wasm_types.specs.declared.types.ValType.TheVariants.{I32, I64}
@@ -8,12 +9,12 @@ use Rattle.wasm_types.specs.declared.instr.Simple.TheVariants.{Call, I32Const, I
 use Rattle.wasm_types.specs.declared.module.ExportDesc.TheVariants.{Func}
 use Rattle.mid_program.specs.Mid.{Kind, Program}
 use Rattle.mid_program.specs.Sorted.{kinds_of}
-use Rattle.lower_model.specs.Imports.{imports, import_name, import_type, module_name}
+use Rattle.host_imports.specs.Imports.{imports, import_name, import_type, module_name}
 use Rattle.lower_model.specs.Machine.{Callee}
 use Rattle.lower_model.specs.Places.{memory_of, kind_type}
 use Rattle.lower_model.specs.Small.{does, minus_one, least}
 use Rattle.lower_model.specs.Functions.{texts_of, routine_callee, main_callee}
-use Rattle.lower_model.specs.declared.import.Import.{Import}
+use Rattle.host_imports.specs.declared.import.Import.{Import}
 
 -- the functions, `main` last
 abbrev pub all_callees : Program → List Callee

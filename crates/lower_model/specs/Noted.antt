@@ -1,5 +1,6 @@
--- Mid code with notes: the meaning of steps where each of them, as it is begun, notes its place in the output. A place is the code that a step has, with what comes after it in its block; so
--- steps are walked as `step_emitted` walks them. The test of a loop whose first round goes without it has a place too. Where nothing is noted this is the meaning of mid code, to the letter.
+-- Mid code with notes: the meaning of steps where each of them, as it is begun, notes its place in the output. A place is the code that a step has,
+-- with what comes after it in its block; so steps are walked as `step_emitted` walks them. The test of a loop whose first round goes without it has a
+-- place too. Where nothing is noted this is the meaning of mid code, to the letter.
 use Rattle.std.specs.Prelude.{ℕ, zero, suc, true, false, if◌then◌else◌, List, [], map, is_some}
 use Rattle.sem_primitives.specs.declared.table.Primitive.TheVariants as row
 use Rattle.wasm_types.specs.Syntax.{Instructions, Done}
@@ -41,8 +42,10 @@ module _ (notes : Notes) (y : Layout) (texts : List (List ℕ)) (parameters : Li
     step_noted (Eval e) u d bk ct k = plain_noted (Eval e) (step_emitted y (Eval e) u d bk ct k)
     step_noted (Block ss) u d bk ct k = noted notes (step_emitted y (Block ss) u d bk ct k) >> steps_noted ss u d bk ct k
     step_noted (If e a b) u d bk ct k =
-        let yes = if is_some (pair_in e) then step_noted a u (suc (suc d)) (suc (suc bk)) (suc (suc ct)) (instruction (Br 1) Done) else step_noted a u (suc d) (suc bk) (suc ct) Done in
-        noted notes (step_emitted y (If e a b) u d bk ct k) >> holds texts parameters n calls e >>= λ truth. if truth then yes else step_noted b u (suc d) (suc bk) (suc ct) Done
+        let yes = if is_some (pair_in e) then step_noted a u (suc (suc d)) (suc (suc bk)) (suc (suc ct)) (instruction (Br 1) Done) else
+        step_noted a u (suc d) (suc bk) (suc ct) Done in
+        noted notes (step_emitted y (If e a b) u d bk ct k) >> holds texts parameters n calls e >>= λ truth. if truth then yes else
+        step_noted b u (suc d) (suc bk) (suc ct) Done
     step_noted (Loop true e a b) u d bk ct k =
         let back = instruction (Br zero) Done in
         let rest = if is_nothing b then back else step_emitted y b u (suc (suc d)) 1 zero back in
@@ -79,7 +82,8 @@ unfoldable pub noted_called : Notes → Program → ℕ → Calls
 noted_called notes p zero f locals = stop OutOfTurns
 noted_called notes p (suc n) f locals =
     let r = routine_at p.routines f in
-    entered locals (steps_noted notes (layout_of p (routine_bases r)) p.texts (calls_of p) n (noted_called notes p n) r.body zero zero zero zero (routine_rest (routine_bases r)))
+    entered locals (steps_noted notes (layout_of p (routine_bases r)) p.texts (calls_of p) n (noted_called notes p n) r.body zero zero zero zero
+    (routine_rest (routine_bases r)))
 
 -- steps of `main`, with the code after them
 abbrev pub noted_done : Notes → Program → Bases → ℕ → Steps → Instructions → Doing (Unit {0})

@@ -1,4 +1,5 @@
--- Where things stand: the locals of a function, the globals of a module, and the texts in its memory; and how many temporaries, iterators and arrays of calls code needs at once.
+-- Where things stand: the locals of a function, the globals of a module, and the texts in its memory; and how many temporaries, iterators and arrays
+-- of calls code needs at once.
 use Rattle.std.specs.Prelude.{ℕ, zero, suc, ◌+◌, max, List, [], ◌∷◌, ◌++◌, length}
 use Rattle.wasm_types.specs.declared.types.ValType.{ValType}
 use Rattle.wasm_types.specs.declared.types.ValType.TheVariants.{I32, I64}

@@ -1,6 +1,8 @@
--- Quick ways of statements. An unboxed name's number stands in one word, and the two words that are no number's lie far from all numbers: so one comparison without sign says that a name has a number, and that it is
--- between two bounds. Where it is, a step on numbers is a few instructions; elsewhere, the code of all cases.
+-- Quick ways of statements. An unboxed name's number stands in one word, and the two words that are no number's lie far from all numbers: so one
+-- comparison without sign says that a name has a number, and that it is between two bounds. Where it is, a step on numbers is a few instructions;
+-- elsewhere, the code of all cases.
 use Rattle.std.specs.Prelude.{ℕ, zero, suc, ◌/◌, ◌^◌, Bool, true, false, ◌&&◌, ◌||◌, nat_eq, nat_le, if◌then◌else◌, List, [], ◌∷◌, Option, Some, None, ℤ, pos, ◌+ℤ◌, unsigned_abs}
+use Rattle.awk_text.specs.Number.{largest}
 use Rattle.std.specs.Int.{w64, cast_unsigned}
 use Rattle.awk_values.specs.Operators.{is_zero}
 use Rattle.awk_values.specs.declared.comparison.CompareOp.{CompareOp}
@@ -45,11 +47,11 @@ constant_in e = None
 -- so many numbers from -2^53 on
 abbrev pub first_ones : ℕ → ℕ → Option Within
 first_ones i zero = None
-first_ones i (suc k) = Some (record { name = i; shift = pos (2 ^ 53); width = k })
+first_ones i (suc k) = Some (record { name = i; shift = pos largest; width = k })
 
 abbrev pub compared_within : CompareOp → ℕ → ℤ → Option Within
-compared_within compare.Less i z = first_ones i (unsigned_abs (z +ℤ pos (2 ^ 53)))
-compared_within compare.LessOrEqual i z = first_ones i (suc (unsigned_abs (z +ℤ pos (2 ^ 53))))
+compared_within compare.Less i z = first_ones i (unsigned_abs (z +ℤ pos largest))
+compared_within compare.LessOrEqual i z = first_ones i (suc (unsigned_abs (z +ℤ pos largest)))
 compared_within c i z = None
 
 abbrev pub both_within : CompareOp → Option ℕ → Option ℤ → Option Within
@@ -193,7 +195,8 @@ abbrev pub update_in : Code → Option Update
 update_in (Let a e) = let_update a e
 update_in e = None
 
--- Counters in arrays, `a[k]++`, `a[k] += e` and their like: the key is kept, what is added is evaluated after it, and an element takes the sum of its number and that. Nobody asks for an answer.
+-- Counters in arrays, `a[k]++`, `a[k] += e` and their like: the key is kept, what is added is evaluated after it, and an element takes the sum of its
+-- number and that. Nobody asks for an answer.
 pub record Tally : Type 0 where
   pub read : ArrayName
   pub written : ArrayName
@@ -338,8 +341,8 @@ remainder_names q = and_name q.target (q.multiple.name ∷ [])
 
 -- a number of at most so much has a product in range
 abbrev pub most_multiplied : Option ℤ → ℕ
-most_multiplied None = 2 ^ 53
-most_multiplied (Some c) = 2 ^ 53 / unsigned_abs c
+most_multiplied None = largest
+most_multiplied (Some c) = largest / unsigned_abs c
 
 -- the number on the stack is multiplied
 abbrev pub multiplied : Option ℤ → Instructions → Instructions

@@ -18,10 +18,10 @@ use Rattle.wasm_types.specs.declared.instr.IRelOp.TheVariants.{Eq, LeS, Ne}
 use Rattle.wasm_types.specs.declared.instr.ITestOp.TheVariants.{Eqz}
 use Rattle.wasm_types.specs.declared.instr.CvtOp.TheVariants.{I64ExtendI32S, I64ExtendI32U}
 use Rattle.mid_program.specs.Mid.{Form, Answered, Bare, Perhaps}
-use Rattle.lower_model.specs.Imports.{import_number}
+use Rattle.host_imports.specs.Imports.{import_number}
 use Rattle.lower_model.specs.Places.{Bases, handle_local, number_local}
-use Rattle.lower_model.specs.declared.import.Import.{Import}
-use Rattle.lower_model.specs.declared.import.Import.TheVariants.{Of, Drop}
+use Rattle.host_imports.specs.declared.import.Import.{Import}
+use Rattle.host_imports.specs.declared.import.Import.TheVariants.{Of, Drop}
 
 -- one instruction before others
 abbrev pub does : Simple → Instructions → Instructions
@@ -39,7 +39,8 @@ when a k = Then (If None a Done) k
 abbrev pub either : Instructions → Instructions → Instructions → Instructions
 either a b k = Then (If None a b) k
 
--- -1 and the least number of 64 bits stand for a fault. In an unboxed name the least one says that there is no number yet, and the next one that a text stands beside.
+-- -1 and the least number of 64 bits stand for a fault. In an unboxed name the least one says that there is no number yet, and the next one that a
+-- text stands beside.
 abbrev pub minus_one : ℕ
 minus_one = 2 ^ 32 - 1
 

@@ -1,9 +1,10 @@
 -- The code of steps, of functions and of `main`. A statement's place is the `nop` that begins its code: there the function holds nothing, iterators aside.
 use Rattle.std.specs.Prelude.{ℕ, zero, suc, ◌+◌, ◌^◌, Bool, true, false, if◌then◌else◌, List, [], ◌∷◌, length, Option, Some, None, is_some, pos}
+use Rattle.awk_text.specs.Number.{largest}
 use Rattle.std.specs.Int.{w64, cast_unsigned}
 use Rattle.awk_values.specs.Faults.{fault_number}
 use Rattle.awk_values.specs.declared.fault.Fault.TheVariants.{NextOutside, Range}
-use Rattle.sem_primitives.specs.Constants.{comparison_number, flag_number, kind_number, special_number}
+use Rattle.sem_primitives.specs.Constants.{flag_number, kind_number, special_number}
 use Rattle.sem_primitives.specs.declared.constants.NameKind.{NameKind}
 use Rattle.sem_primitives.specs.declared.constants.NameKind.TheVariants.{Scalar, ArrayOrFunction}
 use Rattle.sem_primitives.specs.declared.constants.Special.TheVariants.{Nf}
@@ -24,7 +25,7 @@ use Rattle.lower_model.specs.Small.{does, ask, ask_row, when, either, end_code, 
 use Rattle.lower_model.specs.Quick.{Within, unsure, test_within, Source, Named, Constant, all_unsure, Sum, sum_names, sum_op, sum_in, Update, update_in, Tally, tally_in, Remainder, remainder_in, remainder_names, most_multiplied, multiplied, Counted, counted_in, Pair, pair_names, pair_in, contrary, step_jumps, is_nothing}
 use Rattle.lower_model.specs.Arithmetic.{relation}
 use Rattle.lower_model.specs.Emission.{Layout, array_pushed, text_pushed, pending_assigned, asked, text_dropped, emitted, dropped, tested}
-use Rattle.lower_model.specs.declared.import.Import.TheVariants.{Drop, IterFree, FreeArray}
+use Rattle.host_imports.specs.declared.import.Import.TheVariants.{Drop, IterFree, FreeArray}
 
 abbrev pub block : Instructions → Instructions → Instructions
 block a k = Then (Block None a) k
@@ -104,7 +105,8 @@ module _ (y : Layout) where
 
   -- two numbers are on the stack: what an operator gives of them goes to temporary t, and is tested
   abbrev pub sum_kept : IBinOp → (t d : ℕ) → Instructions → Instructions
-  sum_kept op t d k = does (Binary I64 op) (does (LocalTee (n b t)) (does (I64Const (2 ^ 53)) (does (Binary I64 Add) (does (I64Const (2 ^ 54)) (does (Comparing I64 GtU) (fail_if Range d k))))))
+  sum_kept op t d k = does (Binary I64 op) (does (LocalTee (n b t))
+      (does (I64Const largest) (does (Binary I64 Add) (does (I64Const (2 ^ 54)) (does (Comparing I64 GtU) (fail_if Range d k))))))
 
   -- the same, and a name takes it
   abbrev pub sum_taken : IBinOp → ℕ → (t d : ℕ) → Instructions → Instructions
@@ -112,7 +114,8 @@ module _ (y : Layout) where
 
   abbrev pub summed_anyway : Sum → ℕ → Instructions → Instructions
   summed_anyway s d k =
-      source_numbered s.left zero d (source_numbered s.right 1 d (source_taken s.left zero (source_taken s.right 1 (sum_taken (sum_op s.op) s.target zero d k))))
+      source_numbered s.left zero d (source_numbered s.right 1 d
+      (source_taken s.left zero (source_taken s.right 1 (sum_taken (sum_op s.op) s.target zero d k))))
 
   -- what is added stands in temporary 0, the name's number in the next one
   abbrev pub updated : Update → ℕ → Instructions → Instructions
@@ -125,7 +128,8 @@ module _ (y : Layout) where
   -- the number of the element, whose key stays where it is
   abbrev pub element_numbered : ArrayName → ℕ → Instructions → Instructions
   element_numbered a d k =
-      array_pushed y a (does (LocalGet (h b zero)) (does (LocalTee (h b zero)) (ask_row row.Dup (ask_row row.Elem (ask_row row.ToNum (kept_number b true 2 d k))))))
+      array_pushed y a (does (LocalGet (h b zero)) (does (LocalTee (h b zero))
+      (ask_row row.Dup (ask_row row.Elem (ask_row row.ToNum (kept_number b true 2 d k))))))
 
   -- the element takes that number, and the key is given away
   abbrev pub element_given : ArrayName → Instructions → Instructions
@@ -142,7 +146,8 @@ module _ (y : Layout) where
 
   abbrev pub remainder_taken : Remainder → Instructions → Instructions
   remainder_taken q k =
-      does (name_read q.multiple.name) (multiplied q.multiple.factor (does (I64Const (cast_unsigned w64 q.divisor)) (does (Binary I64 RemS) (does (GlobalSet (name_number q.target)) k))))
+      does (name_read q.multiple.name) (multiplied q.multiple.factor
+      (does (I64Const (cast_unsigned w64 q.divisor)) (does (Binary I64 RemS) (does (GlobalSet (name_number q.target)) k))))
 
   abbrev pub remainder_dropped : Option Remainder → Code → ℕ → Instructions → Instructions
   remainder_dropped None e d k = dropped y [] [] e zero zero d k
@@ -166,11 +171,11 @@ module _ (y : Layout) where
   abbrev pub pair_left : Pair → ℕ → Instructions → Instructions
   pair_left q out k = source_pushed q.left (source_pushed q.right (does (Comparing I64 (relation (contrary q.op))) (does (BrIf out) k)))
 
-  -- the host compares a name's number with that of the fields
+  -- a name's number is compared with that of the fields, which is in range: no fault comes of asking for it
   abbrev pub counted_left : Counted → ℕ → Instructions → Instructions
   counted_left q out k =
-      does (I32Const (comparison_number q.op)) (does (name_read q.name) (ask_row row.Num
-      (does (I32Const (special_number Nf)) (ask_row row.GetSpecial (ask_row row.Compare (does (Test I32 Eqz) (does (BrIf out) k)))))))
+      does (name_read q.name) (does (I32Const (special_number Nf)) (ask_row row.GetSpecial (ask_row row.ToNum
+      (does (Comparing I64 (relation (contrary q.op))) (does (BrIf out) k)))))
 
   abbrev pub left_unless_counted : Option Counted → Code → (d out : ℕ) → Instructions → Instructions
   left_unless_counted None e d out k = tested y [] [] e zero zero d (does (Test I32 Eqz) (does (BrIf out) k))
@@ -181,7 +186,8 @@ module _ (y : Layout) where
   abbrev pub left_unless_pair : Option Pair → Code → (d out : ℕ) → Instructions → Instructions
   left_unless_pair None e d out k = left_unless_counted (counted_in e) e d out k
   left_unless_pair (Some q) e d out k =
-      all_unsure name_read (pair_names q) (pos (2 ^ 53)) (2 ^ 54) (either (tested y [] [] e zero zero (suc d) (does (Test I32 Eqz) (does (BrIf (suc out)) Done))) (pair_left q (suc out) Done) k)
+      all_unsure name_read (pair_names q) (pos largest) (2 ^ 54)
+      (either (tested y [] [] e zero zero (suc d) (does (Test I32 Eqz) (does (BrIf (suc out)) Done))) (pair_left q (suc out) Done) k)
 
   -- where a test fails `out` labels further out are left
   abbrev pub left_unless : Option Within → Code → (d out : ℕ) → Instructions → Instructions
@@ -189,14 +195,16 @@ module _ (y : Layout) where
   left_unless (Some q) e d out k =
       unsure (name_read q.name) q.shift q.width (when (tested y [] [] e zero zero (suc d) (does (Test I32 Eqz) (does (BrIf (suc out)) Done))) k)
 
-  -- Steps: u iterators are in use; so many labels are between the code and the function's exit, the place where `break` goes, and the one where `continue` goes.
+  -- Steps: u iterators are in use; so many labels are between the code and the function's exit, the place where `break` goes, and the one where
+  -- `continue` goes.
   unfoldable mutual
     pub step_emitted : Step → (u d bk ct : ℕ) → Instructions → Instructions
     step_emitted (Eval e) u d bk ct k = does Nop (quickly_dropped (sum_in e) e d k)
     step_emitted (Steps_ ss) u d bk ct k = does Nop (steps_emitted ss u d bk ct k)
     step_emitted (Either e a c) u d bk ct k =
         does Nop (if is_some (pair_in e)
-        then block (block (left_unless_pair (pair_in e) e (suc (suc d)) zero (step_emitted a u (suc (suc d)) (suc (suc bk)) (suc (suc ct)) (does (Br 1) Done))) (step_emitted c u (suc d) (suc bk) (suc ct) Done)) k
+        then block (block (left_unless_pair (pair_in e) e (suc (suc d)) zero
+        (step_emitted a u (suc (suc d)) (suc (suc bk)) (suc (suc ct)) (does (Br 1) Done))) (step_emitted c u (suc d) (suc bk) (suc ct) Done)) k
         else tested y [] [] e zero zero d (either (step_emitted a u (suc d) (suc bk) (suc ct) Done) (step_emitted c u (suc d) (suc bk) (suc ct) Done) k))
     step_emitted (Loop true e a c) u d bk ct k =
         let rest = if is_nothing c then does (Br zero) Done else step_emitted c u (suc (suc d)) 1 zero (does (Br zero) Done) in

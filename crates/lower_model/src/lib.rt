@@ -2,7 +2,4 @@
 //! what programs do.
 #![tactic(auto)]
 
-mod import;
 pub mod laws;
-
-pub use import::{Import, Listing};

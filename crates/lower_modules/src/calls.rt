@@ -2,13 +2,12 @@
 ghost use Rattle.std.specs.Prelude.{◌≡◌, ◌≤◌, length, map, IfOk};
 ghost use Rattle.lower_modules.specs.Calls.{noted};
 ghost use Rattle.lower_modules.specs.View.{view_functions};
-ghost use Rattle.lower_model.specs.Imports.{imports};
+ghost use Rattle.host_imports.specs.Imports.{imports};
 ghost use Rattle.lower_model.specs.Modules.{called_from, calls_by, calls_in, chosen, is_call, new_number, renumbered, renumbered_one, renumbered_simple};
 ghost use Rattle.wasm_types.specs.View.{view, views};
 
 use crate::function::Function;
-use crate::imports::{COUNT, IMPORTS};
-use lower_model::Import;
+use host_imports::{IMPORT_COUNT, IMPORTS, Import};
 use std::alloc::{AllocError, Global};
 use std::rc::Rc;
 use wasm_types::{Instr, Simple};
@@ -59,7 +58,7 @@ fn note_calls_in(called: &mut Vec<bool>, code: &[Instr])
 pub(crate) fn called_imports(alloc: Global, fs: &[Function]) -> Result<Vec<bool>, AllocError>
     ensures { IfOk result (λ bs. bs.items ≡ called_from 0 imports (view_functions fs.now)) }
 {
-    let mut called = vec![in alloc; false; COUNT]?;
+    let mut called = vec![in alloc; false; IMPORT_COUNT]?;
     for f in fs {
         note_calls_in(&mut called, &f.body);
     }
@@ -73,7 +72,7 @@ pub(crate) fn chosen(alloc: Global, called: &[bool]) -> Result<Vec<Import>, Allo
     ensures few { IfOk result (λ used. length used.items ≤ length imports) }
 {
     let mut used = Vec::new(alloc);
-    for i in 0..COUNT {
+    for i in 0..IMPORT_COUNT {
         if called[i] {
             used.push(IMPORTS[i])?;
         }

@@ -2,15 +2,12 @@
 #![tactic(auto)]
 
 mod calls;
-mod fault;
 mod function;
-mod imports;
 mod lengths;
 mod module;
 mod parts;
 mod types;
 
-pub use fault::EmitFault;
 pub use function::Function;
 pub use lengths::least_in;
 pub use module::module_for;

@@ -4,20 +4,20 @@ ghost use Rattle.mid_program.specs.View.{view_mid};
 ghost use Rattle.lower_modules.specs.Limits.{most_bytes, IsTooLarge};
 ghost use Rattle.lower_modules.specs.View.{view_functions};
 ghost use Rattle.lower_model.specs.Functions.{texts_of};
-ghost use Rattle.lower_model.specs.Imports.{import_type};
+ghost use Rattle.host_imports.specs.Imports.{import_type};
 ghost use Rattle.lower_model.specs.Modules.{all_callees, callee_type, module_of};
 ghost use Rattle.lower_model.specs.Places.{memory_of};
 ghost use Rattle.wasm_types.specs.View.{signature_of, view_module};
 
 use crate::calls::{called_imports, chosen};
-use crate::fault::EmitFault;
 use crate::function::Function;
 use crate::lengths::least_among;
 use crate::parts::{
     function_forms, globals, import_forms, main_export, memory, memory_for, text_segment,
 };
 use crate::types::{function_types, import_types};
-use lower_model::Import;
+use host_imports::Import;
+use lower_layout::LowerFault;
 use mid_program::Mid;
 use std::alloc::{AllocError, Global};
 use wasm_types::{FuncType, Module};
@@ -38,19 +38,19 @@ fn types(alloc: Global, used: &[Import], fs: &[Function]) -> Result<Vec<FuncType
 }
 
 /// The texts in memory, if the script is small enough.
-fn small_memory(alloc: Global, mid: &Mid) -> Result<Vec<u8>, EmitFault>
+fn small_memory(alloc: Global, mid: &Mid) -> Result<Vec<u8>, LowerFault>
     ensures bytes { IfOk result (λ bytes. bytes.items ≡ memory_of (texts_of (view_mid mid.now))) }
     ensures few { IfOk result (λ bytes. length bytes.items ≤ most_bytes) }
     ensures functions { IfOk result (λ bytes. length (view_mid mid.now).routines ≤ most_bytes) }
     ensures too_large { IfErr result
-        (λ fault. fault ≡ EmitFault.TooLarge → IsTooLarge (view_mid mid.now)) }
+        (λ fault. fault ≡ LowerFault.TooLarge → IsTooLarge (view_mid mid.now)) }
 {
     if mid.routines.len() > MOST_BYTES {
-        return Err(EmitFault::TooLarge);
+        return Err(LowerFault::TooLarge);
     }
     let bytes = memory(alloc, mid)?;
     if bytes.len() > MOST_BYTES {
-        return Err(EmitFault::TooLarge);
+        return Err(LowerFault::TooLarge);
     }
     Ok(bytes)
 }
@@ -59,19 +59,19 @@ fn small_memory(alloc: Global, mid: &Mid) -> Result<Vec<u8>, EmitFault>
 ///
 /// # Errors
 ///
-/// [`EmitFault::TooLarge`] where texts and names take more than 16,777,216 bytes, or there are more functions than that, or the code takes more at least,
-/// which is told before any more is made of it; and [`EmitFault::NoMemory`].
-pub fn module_for(alloc: Global, mid: &Mid, fs: &[Function]) -> Result<Module, EmitFault>
+/// [`LowerFault::TooLarge`] where texts and names take more than 16,777,216 bytes, or there are more functions than that, or the code takes more at least,
+/// which is told before any more is made of it; and [`LowerFault::NoMemory`].
+pub fn module_for(alloc: Global, mid: &Mid, fs: &[Function]) -> Result<Module, LowerFault>
     requires { view_functions fs.now ≡ all_callees (view_mid mid.now) }
     ensures module { IfOk result (λ m. view_module m ≡ module_of (view_mid mid.now)) }
     ensures small { IfOk result
         (λ m. (length (memory_of (texts_of (view_mid mid.now))) ≤ most_bytes)
         × (length (view_mid mid.now).routines ≤ most_bytes)) }
     ensures too_large { IfErr result
-        (λ fault. fault ≡ EmitFault.TooLarge → IsTooLarge (view_mid mid.now)) }
+        (λ fault. fault ≡ LowerFault.TooLarge → IsTooLarge (view_mid mid.now)) }
 {
     if least_among(fs) > MOST_BYTES as u64 {
-        return Err(EmitFault::TooLarge);
+        return Err(LowerFault::TooLarge);
     }
     let bytes = small_memory(alloc, mid)?;
     let called = called_imports(alloc, fs)?;

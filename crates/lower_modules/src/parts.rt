@@ -5,7 +5,7 @@ ghost use Rattle.mid_program.specs.View.{view_declared, view_mid, view_routine, 
 ghost use Rattle.lower_modules.specs.Limits.{most_bytes};
 ghost use Rattle.lower_modules.specs.View.{view_function, view_functions};
 ghost use Rattle.lower_model.specs.Functions.{texts_of};
-ghost use Rattle.lower_model.specs.Imports.{import_name, imports, module_name};
+ghost use Rattle.host_imports.specs.Imports.{import_name, imports, module_name};
 ghost use Rattle.lower_model.specs.Modules.{functions_from, globals_of, imported_from, long_global, memory_for, name_globals, renumbered, word_global};
 ghost use Rattle.lower_model.specs.Places.{memory_of};
 ghost use Rattle.lower_model.specs.Small.{does};
@@ -16,19 +16,19 @@ ghost use Rattle.wasm_types.specs.declared.module.ExportDesc.TheVariants as desc
 
 use crate::calls::renumbered;
 use crate::function::Function;
-use crate::imports::import_name;
-use lower_model::Import;
+use host_imports::Import;
 use mid_program::{Declared, Kind, Mid, Routine};
 use std::alloc::{AllocError, Global};
 use std::rc::Rc;
 use wasm_types::{Data, Export, ExportDesc, Func, GlobalType, Instr, Limits, Simple, ValType};
 
 fn import_form(alloc: Global, import: Import, ty: u32) -> Result<wasm_types::Import, AllocError>
-    ensures { IfOk result (λ i. view_import i ≡ record { from = module_name; name = import_name import; ty = ty }) }
+    ensures { IfOk result
+        (λ i. view_import i ≡ record { from = module_name; name = import_name import; ty = ty }) }
 {
     Ok(wasm_types::Import {
         module: String::from_str(alloc, "awk2")?,
-        name: String::from_str(alloc, import_name(import))?,
+        name: String::from_str(alloc, import.name())?,
         ty,
     })
 }
@@ -51,7 +51,12 @@ pub(crate) fn import_forms(
 }
 
 fn function_form(alloc: Global, called: &[bool], ty: u32, f: &Function) -> Result<Func, AllocError>
-    ensures { IfOk result (λ r. view_func r ≡ record { ty = ty; locals = f.now.locals.items; body = renumbered called.now (views f.now.body.items) }) }
+    ensures { IfOk result (λ r. view_func r ≡ record {
+      ty = ty;
+      locals = f.now.locals.items;
+      body =
+          renumbered called.now (views f.now.body.items);
+    }) }
 {
     let body = renumbered(alloc, called, &f.body)?;
     Ok(Func {
@@ -69,7 +74,8 @@ pub(crate) fn function_forms(
     fs: &[Function],
 ) -> Result<Vec<Func>, AllocError>
     requires { first + length fs.now ≤ 2 * most_bytes }
-    ensures { IfOk result (λ all. map view_func all.items ≡ functions_from called.now first (view_functions fs.now)) }
+    ensures { IfOk result
+        (λ all. map view_func all.items ≡ functions_from called.now first (view_functions fs.now)) }
 {
     let mut all = Vec::new(alloc);
     let mut ty = first;
@@ -114,7 +120,8 @@ fn long_global(alloc: Global, number: u64) -> Result<wasm_types::Global, AllocEr
 
 /// The module's own globals, and one for each range.
 fn first_globals(alloc: Global, ranges: usize) -> Result<Vec<wasm_types::Global>, AllocError>
-    ensures { IfOk result (λ all. map view_global all.items ≡ word_global 0 ∷ (long_global 0 ∷ replicate ranges (word_global 0))) }
+    ensures { IfOk result (λ all. map view_global all.items
+        ≡ word_global 0 ∷ (long_global 0 ∷ replicate ranges (word_global 0))) }
 {
     let mut all = vec![in alloc; word_global(alloc, 0)?, long_global(alloc, 0)?]?;
     for _i in 0..ranges {
@@ -146,7 +153,8 @@ fn text_bytes(alloc: Global, texts: &[Vec<u8>]) -> Result<Vec<u8>, AllocError>
 }
 
 fn put_names(bytes: &mut Vec<u8>, globals: &[Declared]) -> Result<(), AllocError>
-    ensures { OnOk result (bytes.new.items ≡ bytes.old.items ++ memory_of (map (λ d. d.name.items) globals.now)) }
+    ensures { OnOk result
+        (bytes.new.items ≡ bytes.old.items ++ memory_of (map (λ d. d.name.items) globals.now)) }
 {
     for declared in globals {
         bytes.extend_from_slice(&declared.name)?;
@@ -155,7 +163,8 @@ fn put_names(bytes: &mut Vec<u8>, globals: &[Declared]) -> Result<(), AllocError
 }
 
 fn put_routine_names(bytes: &mut Vec<u8>, routines: &[Routine]) -> Result<(), AllocError>
-    ensures { OnOk result (bytes.new.items ≡ bytes.old.items ++ memory_of (map (λ r. r.name.items) routines.now)) }
+    ensures { OnOk result
+        (bytes.new.items ≡ bytes.old.items ++ memory_of (map (λ r. r.name.items) routines.now)) }
 {
     for routine in routines {
         bytes.extend_from_slice(&routine.name)?;
@@ -187,7 +196,8 @@ pub(crate) fn memory_for(bytes: u32) -> Limits
 
 /// The texts at address 0.
 pub(crate) fn text_segment(alloc: Global, memory: Vec<u8>) -> Result<Data, AllocError>
-    ensures { IfOk result (λ d. view_data d ≡ record { memory = 0; offset = does (I32Const 0) Done; init = memory.items }) }
+    ensures { IfOk result (λ d. view_data d
+        ≡ record { memory = 0; offset = does (I32Const 0) Done; init = memory.items }) }
 {
     Ok(Data {
         memory: 0,
@@ -198,7 +208,8 @@ pub(crate) fn text_segment(alloc: Global, memory: Vec<u8>) -> Result<Data, Alloc
 
 /// The export of `main`.
 pub(crate) fn main_export(alloc: Global, number: u32) -> Result<Export, AllocError>
-    ensures { IfOk result (λ e. view_export e ≡ record { name = codes "main"; desc = desc.Func number }) }
+    ensures { IfOk result
+        (λ e. view_export e ≡ record { name = codes "main"; desc = desc.Func number }) }
 {
     Ok(Export {
         name: String::from_str(alloc, "main")?,

@@ -36,7 +36,8 @@ sum_beside : step_labels (one_more true) ≡ 1 × step_labels (one_more false) �
 sum_beside = (refl, refl)
 
 -- in a loop that nothing leaves the sum stands in `block`, `loop` and the `if` beside its quick way
-counting_loop : step_labels (Loop true (below_three true) (one_more true) (Block NoStep)) ≡ 3 × step_labels (Loop true (below_three false) (one_more false) (Block NoStep)) ≡ 2
+counting_loop : step_labels (Loop true (below_three true) (one_more true) (Block NoStep)) ≡ 3
+    × step_labels (Loop true (below_three false) (one_more false) (Block NoStep)) ≡ 2
 counting_loop = (refl, refl)
 
 -- what a comparison of sources chooses stands in two blocks

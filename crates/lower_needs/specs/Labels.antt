@@ -37,7 +37,8 @@ abbrev pub more_if : Bool → ℕ → ℕ
 more_if true n = suc n
 more_if false n = n
 
--- Where a choice's test has a quick way, what is done where it holds stands in two blocks, and the test with it; what is done elsewhere in the outer one. Else the two ways are those of an `if`.
+-- Where a choice's test has a quick way, what is done where it holds stands in two blocks, and the test with it; what is done elsewhere in the outer
+-- one. Else the two ways are those of an `if`.
 abbrev pub choice_labels : (quick : Bool) → (test whole other : ℕ) → ℕ
 choice_labels true t a b = max (suc (suc (suc t))) (suc (max (suc a) b))
 choice_labels false t a b = max t (suc (max a b))
@@ -46,7 +47,8 @@ choice_labels false t a b = max t (suc (max a b))
 abbrev pub loop_labels : (test body last : ℕ) → ℕ
 loop_labels t a b = max (suc (suc t)) (max (suc (suc a)) (suc (suc b)))
 
--- Where a sum or a test has a quick way, the code of all cases stands in an `if` beside it. A loop's body is a `block`; where a test comes first, only one that `break` or `continue` leaves is.
+-- Where a sum or a test has a quick way, the code of all cases stands in an `if` beside it. A loop's body is a `block`; where a test comes first,
+-- only one that `break` or `continue` leaves is.
 abbrev mutual
   pub step_labels : Step → ℕ
   step_labels (Eval e) = more_if (is_some (sum_in e)) (labels_in e)

@@ -16,7 +16,8 @@ fn more_if(more: bool, counts: Counts) -> Counts
     ensures temporaries { result.temporaries ≡ counts.temporaries }
     ensures arrays { result.arrays ≡ counts.arrays }
     ensures iterators { result.iterators ≡ counts.iterators }
-    ensures labels { (n : ℕ) → counts.labels ≡ counted n → result.labels ≡ counted (more_if more n) }
+    ensures labels { (n : ℕ) → counts.labels ≡ counted n → result.labels
+        ≡ counted (more_if more n) }
 {
     if more { inside(counts, 1) } else { counts }
 }
@@ -26,14 +27,16 @@ fn test_counts(test: &Code) -> Counts
     ensures temporaries { result.temporaries ≡ counted (room (view test.now)) }
     ensures arrays { result.arrays ≡ counted (arrays_in (view test.now)) }
     ensures iterators { result.iterators ≡ 0 }
-    ensures labels { result.labels ≡ counted (more_if (is_some (pair_in (view test.now))) (labels_in (view test.now))) }
+    ensures labels { result.labels
+        ≡ counted (more_if (is_some (pair_in (view test.now))) (labels_in (view test.now))) }
 {
     more_if(pair_in(test).is_some(), counts_in(test))
 }
 
 /// What a choice needs, by whether its test has a quick way.
 fn choice_counts(quick: bool, test: Counts, yes: Counts, no: Counts) -> Counts
-    ensures temporaries { result.temporaries ≡ max test.temporaries (max yes.temporaries no.temporaries) }
+    ensures temporaries { result.temporaries
+        ≡ max test.temporaries (max yes.temporaries no.temporaries) }
     ensures arrays { result.arrays ≡ max test.arrays (max yes.arrays no.arrays) }
     ensures iterators { result.iterators ≡ max test.iterators (max yes.iterators no.iterators) }
     ensures labels { (t a b : ℕ) → test.labels ≡ counted t → yes.labels ≡ counted a → no.labels ≡ counted b

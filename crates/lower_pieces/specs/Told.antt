@@ -13,7 +13,8 @@ use Rattle.lower_model.specs.Small.{ask_row, does, either, h, kept_code, moved_o
 
 -- what an unboxed name has becomes a number with its truth
 abbrev pub told : Bases → ℕ → Instructions → Instructions
-told b t k = number_is (n b t) text_beside (either (moved_out (h b t) (ask_row Truth (does (Convert I64ExtendI32U) (does (LocalSet (n b t)) Done)))) (zeroed b t Done) k)
+told b t k = number_is (n b t) text_beside (either (moved_out (h b t) (ask_row Truth (does (Convert I64ExtendI32U) (does (LocalSet (n b t)) Done))))
+    (zeroed b t Done) k)
 
 -- the host is asked for a comparison of two values
 abbrev pub host_compared : Bases → CompareOp → ℕ → ℕ → Instructions → Instructions

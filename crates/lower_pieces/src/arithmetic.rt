@@ -7,6 +7,7 @@ ghost use Rattle.lower_pieces.specs.Emits.{Emits};
 use crate::bases::Bases;
 use crate::emit::{does, does_all};
 use crate::faults::fail_if;
+use awk_text::MAX_NUMBER;
 use awk_values::Fault;
 use mid_program::Arithmetic;
 use std::alloc::{AllocError, Global};
@@ -18,7 +19,7 @@ fn out_of_range(out: &mut Vec<Instr>, local: u32) -> Result<(), AllocError>
 {
     let all = [
         Simple::LocalGet(local),
-        Simple::I64Const(1 << 53),
+        Simple::I64Const(MAX_NUMBER),
         Simple::Binary(ValType::I64, IBinOp::Add),
         Simple::I64Const(1 << 54),
         Simple::Compare(ValType::I64, IRelOp::GtU),

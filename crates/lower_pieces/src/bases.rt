@@ -34,7 +34,13 @@ impl Bases {
         requires temporaries { temporaries ≤ most_places }
         requires iterators { iterators ≤ most_places }
         requires arrays { arrays ≤ most_places }
-        ensures { result ≡ record { parameters = parameters; temporaries = temporaries; iterators = iterators; arrays = arrays } }
+        ensures { result ≡ record {
+          parameters = parameters;
+          temporaries = temporaries;
+          iterators =
+              iterators;
+          arrays = arrays;
+        } }
     {
         Bases {
             parameters,

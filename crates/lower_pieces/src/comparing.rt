@@ -36,7 +36,7 @@ pub fn relation(op: CompareOp) -> IRelOp
 }
 
 /// The number of an operator, as modules give it.
-pub fn comparison_number(op: CompareOp) -> u32
+fn comparison_number(op: CompareOp) -> u32
     ensures { result ≡ comparison_number op }
 {
     match op {
@@ -101,7 +101,8 @@ fn values_compared(
     exit: u32,
 ) -> Result<(), AllocError>
     requires { suc t ≤ most_places }
-    ensures { OnOk result (Emits out.old.items out.new.items (values_compared b.now op (view_form left) (view_form right) t exit)) }
+    ensures { OnOk result (Emits out.old.items out.new.items
+        (values_compared b.now op (view_form left) (view_form right) t exit)) }
 {
     to_value(alloc, b, out, left, t)?;
     to_value(alloc, b, out, right, t + 1)?;
@@ -136,7 +137,8 @@ fn numbers_compared(
     t: u32,
 ) -> Result<(), AllocError>
     requires { suc t ≤ most_places }
-    ensures { OnOk result (Emits out.old.items out.new.items (numbers_compared b.now op (view_form left) (view_form right) t)) }
+    ensures { OnOk result (Emits out.old.items out.new.items
+        (numbers_compared b.now op (view_form left) (view_form right) t)) }
 {
     zeroed_if(alloc, b, out, left, t)?;
     zeroed_if(alloc, b, out, right, t + 1)?;
@@ -159,7 +161,8 @@ fn texts_beside(
     t: u32,
 ) -> Result<(), AllocError>
     requires { suc t ≤ most_places }
-    ensures { OnOk result (Emits out.old.items out.new.items (texts_beside b.now (view_form left) (view_form right) t)) }
+    ensures { OnOk result (Emits out.old.items out.new.items
+        (texts_beside b.now (view_form left) (view_form right) t)) }
 {
     let first = b.number(t);
     let second = b.number(t + 1);
@@ -186,7 +189,8 @@ fn values_code(
 ) -> Result<Vec<Instr>, AllocError>
     requires places { suc t ≤ most_places }
     requires labels { exit ≤ most_labels }
-    ensures { IfOk result (λ v. Emits [] v.items (values_compared b.now op (view_form left) (view_form right) t (suc exit))) }
+    ensures { IfOk result (λ v. Emits [] v.items
+        (values_compared b.now op (view_form left) (view_form right) t (suc exit))) }
 {
     let mut code = Vec::new(alloc);
     values_compared(alloc, b, &mut code, op, left, right, t, exit + 1)?;
@@ -202,7 +206,8 @@ fn numbers_code(
     t: u32,
 ) -> Result<Vec<Instr>, AllocError>
     requires { suc t ≤ most_places }
-    ensures { IfOk result (λ v. Emits [] v.items (numbers_compared b.now op (view_form left) (view_form right) t)) }
+    ensures { IfOk result
+        (λ v. Emits [] v.items (numbers_compared b.now op (view_form left) (view_form right) t)) }
 {
     let mut code = Vec::new(alloc);
     numbers_compared(alloc, b, &mut code, op, left, right, t)?;
@@ -222,7 +227,8 @@ fn parted(
 ) -> Result<(), AllocError>
     requires places { suc t ≤ most_places }
     requires labels { exit ≤ most_labels }
-    ensures { OnOk result (Emits out.old.items out.new.items (parted b.now op (view_form left) (view_form right) t exit)) }
+    ensures { OnOk result (Emits out.old.items out.new.items
+        (parted b.now op (view_form left) (view_form right) t exit)) }
 {
     texts_beside(b, out, left, right, t)?;
     let values = values_code(alloc, b, op, left, right, t, exit)?;
@@ -243,7 +249,8 @@ fn bare_compared(
 ) -> Result<(), AllocError>
     requires places { suc t ≤ most_places }
     requires labels { exit ≤ most_labels }
-    ensures { OnOk result (Emits out.old.items out.new.items (bare_compared b.now op (view_form left) (view_form right) t exit)) }
+    ensures { OnOk result (Emits out.old.items out.new.items
+        (bare_compared b.now op (view_form left) (view_form right) t exit)) }
 {
     if may_be_text(left) || may_be_text(right) {
         parted(alloc, b, out, op, left, right, t, exit)
@@ -265,7 +272,8 @@ pub fn compared(
 ) -> Result<(), AllocError>
     requires places { suc t ≤ most_places }
     requires labels { exit ≤ most_labels }
-    ensures { OnOk result (Emits out.old.items out.new.items (compared b.now op (view_form left) (view_form right) t exit)) }
+    ensures { OnOk result (Emits out.old.items out.new.items
+        (compared b.now op (view_form left) (view_form right) t exit)) }
 {
     if is_value(left) || is_value(right) {
         values_compared(alloc, b, out, op, left, right, t, exit)

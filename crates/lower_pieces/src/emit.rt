@@ -5,8 +5,7 @@ ghost use Rattle.lower_model.specs.Small.{ask, ask_row, does, either, when};
 ghost use Rattle.lower_model.specs.Statements.{again, block};
 ghost use Rattle.lower_pieces.specs.Emits.{does_all, Emits};
 
-use crate::imports::import_number;
-use lower_model::Import;
+use host_imports::Import;
 use sem_primitives::Primitive;
 use std::alloc::{AllocError, Global};
 use std::rc::Rc;
@@ -34,7 +33,7 @@ pub fn does_all(out: &mut Vec<Instr>, all: &[Simple]) -> Result<(), AllocError>
 pub fn ask(out: &mut Vec<Instr>, import: Import) -> Result<(), AllocError>
     ensures { OnOk result (Emits out.old.items out.new.items (ask import)) }
 {
-    does(out, Simple::Call(import_number(import)))
+    does(out, Simple::Call(import.number()))
 }
 
 /// Adds a call of a primitive.
@@ -60,7 +59,8 @@ pub fn either(
     yes: Vec<Instr>,
     no: Vec<Instr>,
 ) -> Result<(), AllocError>
-    ensures { (a b : Instructions → Instructions) → Emits [] yes.items a → Emits [] no.items b → OnOk result (Emits out.old.items out.new.items (either (a Done) (b Done))) }
+    ensures { (a b : Instructions → Instructions) → Emits [] yes.items a → Emits [] no.items b
+        → OnOk result (Emits out.old.items out.new.items (either (a Done) (b Done))) }
 {
     let yes = enclosed(alloc, yes)?;
     let no = enclosed(alloc, no)?;
@@ -70,14 +70,16 @@ pub fn either(
 
 /// Adds what is done where the topmost operand is not 0.
 pub fn when(alloc: Global, out: &mut Vec<Instr>, yes: Vec<Instr>) -> Result<(), AllocError>
-    ensures { (a : Instructions → Instructions) → Emits [] yes.items a → OnOk result (Emits out.old.items out.new.items (when (a Done))) }
+    ensures { (a : Instructions → Instructions) → Emits [] yes.items a
+        → OnOk result (Emits out.old.items out.new.items (when (a Done))) }
 {
     either(alloc, out, yes, Vec::new(alloc))
 }
 
 /// Adds a block.
 pub fn block(alloc: Global, out: &mut Vec<Instr>, code: Vec<Instr>) -> Result<(), AllocError>
-    ensures { (a : Instructions → Instructions) → Emits [] code.items a → OnOk result (Emits out.old.items out.new.items (block (a Done))) }
+    ensures { (a : Instructions → Instructions) → Emits [] code.items a
+        → OnOk result (Emits out.old.items out.new.items (block (a Done))) }
 {
     let code = enclosed(alloc, code)?;
     out.push(Instr::Block(None, code))?;
@@ -86,7 +88,8 @@ pub fn block(alloc: Global, out: &mut Vec<Instr>, code: Vec<Instr>) -> Result<()
 
 /// Adds a loop.
 pub fn again(alloc: Global, out: &mut Vec<Instr>, code: Vec<Instr>) -> Result<(), AllocError>
-    ensures { (a : Instructions → Instructions) → Emits [] code.items a → OnOk result (Emits out.old.items out.new.items (again (a Done))) }
+    ensures { (a : Instructions → Instructions) → Emits [] code.items a
+        → OnOk result (Emits out.old.items out.new.items (again (a Done))) }
 {
     let code = enclosed(alloc, code)?;
     out.push(Instr::Loop(None, code))?;

@@ -6,7 +6,7 @@ ghost use Rattle.lower_model.specs.Small.{ask, copied, copied_if_any, emptied, h
 ghost use Rattle.lower_pieces.specs.Emits.{Emits};
 
 use crate::emit::{ask, ask_row, does, does_all, when};
-use lower_model::Import;
+use host_imports::Import;
 use sem_primitives::Primitive;
 use std::alloc::{AllocError, Global};
 use wasm_types::{IRelOp, Instr, Simple, ValType};
@@ -79,7 +79,8 @@ pub fn let_go(
 
 /// Adds a second handle for what a local has, which goes to another local and stays where it was.
 pub fn copied(out: &mut Vec<Instr>, from: u32, to: u32) -> Result<(), AllocError>
-    ensures { OnOk result (Emits out.old.items out.new.items (copied (LocalGet from) (LocalSet from) to)) }
+    ensures { OnOk result
+        (Emits out.old.items out.new.items (copied (LocalGet from) (LocalSet from) to)) }
 {
     copied_by(out, Simple::LocalGet(from), Simple::LocalSet(from), to)
 }

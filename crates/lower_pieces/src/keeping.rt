@@ -97,7 +97,8 @@ pub fn kept_number(
 
 /// Takes the answer that something is done.
 fn kept_done(out: &mut Vec<Instr>, faults: bool, exit: u32) -> Result<(), AllocError>
-    ensures { (b : PlainBases) → OnOk result (Emits out.old.items out.new.items (kept_done b faults exit)) }
+    ensures { (b : PlainBases)
+        → OnOk result (Emits out.old.items out.new.items (kept_done b faults exit)) }
 {
     if faults {
         let all = [

@@ -10,7 +10,7 @@ use crate::bases::Bases;
 use crate::emit::{ask, does_all};
 use crate::form::Form;
 use crate::handles::{copied, copied_if_any, let_go, moved, moved_out};
-use lower_model::Import;
+use host_imports::Import;
 use sem_primitives::{Answer, Sort};
 use std::alloc::{AllocError, Global};
 use wasm_types::{Instr, Simple};
@@ -80,7 +80,8 @@ pub fn moved_from(
 ) -> Result<(), AllocError>
     requires first { from ≤ most_places }
     requires second { to ≤ most_places }
-    ensures { OnOk result (Emits out.old.items out.new.items (moved_from b.now (view_form form) from to)) }
+    ensures { OnOk result
+        (Emits out.old.items out.new.items (moved_from b.now (view_form form) from to)) }
 {
     match form {
         Form::Answered(Answer::Of(Sort::Value)) => moved(out, b.handle(from), b.handle(to)),
@@ -121,7 +122,8 @@ fn copied_from(
 ) -> Result<(), AllocError>
     requires first { from ≤ most_places }
     requires second { to ≤ most_places }
-    ensures { OnOk result (Emits out.old.items out.new.items (copied_from b.now (view_form form) from to)) }
+    ensures { OnOk result
+        (Emits out.old.items out.new.items (copied_from b.now (view_form form) from to)) }
 {
     match form {
         Form::Answered(Answer::Of(Sort::Value)) => copied(out, b.handle(from), b.handle(to)),
@@ -142,7 +144,8 @@ pub fn bound_from(
 ) -> Result<(), AllocError>
     requires first { from ≤ most_places }
     requires second { to ≤ most_places }
-    ensures { OnOk result (Emits out.old.items out.new.items (bound_from b.now moves (view_form form) from to)) }
+    ensures { OnOk result
+        (Emits out.old.items out.new.items (bound_from b.now moves (view_form form) from to)) }
 {
     if moves {
         moved_from(b, out, form, from, to)

@@ -23,7 +23,8 @@ use wasm_types::{CvtOp, IBinOp, IRelOp, Instr, Simple, ValType};
 
 /// What puts 0 into a local.
 fn zero_put(alloc: Global, local: u32) -> Result<Vec<Instr>, AllocError>
-    ensures { IfOk result (λ v. Emits [] v.items (λ k. does (I64Const 0) (does (LocalSet local) k))) }
+    ensures { IfOk result
+        (λ v. Emits [] v.items (λ k. does (I64Const 0) (does (LocalSet local) k))) }
 {
     let mut code = Vec::new(alloc);
     does_all(&mut code, &[Simple::I64Const(0), Simple::LocalSet(local)])?;
@@ -133,7 +134,8 @@ pub fn to_number(
 ) -> Result<(), AllocError>
     requires places { t ≤ most_places }
     requires labels { exit ≤ most_labels }
-    ensures { OnOk result (Emits out.old.items out.new.items (to_number b.now (view_form form) t exit)) }
+    ensures { OnOk result
+        (Emits out.old.items out.new.items (to_number b.now (view_form form) t exit)) }
 {
     match form {
         Form::Answered(Answer::Of(Sort::Value)) => number_of_value(b, out, t, exit),
@@ -156,7 +158,8 @@ pub fn converted(
 ) -> Result<(), AllocError>
     requires places { t ≤ most_places }
     requires labels { exit ≤ most_labels }
-    ensures { OnOk result (Emits out.old.items out.new.items (converted b.now (view_form form) sort t exit)) }
+    ensures { OnOk result
+        (Emits out.old.items out.new.items (converted b.now (view_form form) sort t exit)) }
 {
     match sort {
         Sort::Value => to_value(alloc, b, out, form, t),

@@ -37,7 +37,8 @@ fn not_zero(b: &Bases, out: &mut Vec<Instr>, t: u32) -> Result<(), AllocError>
 /// What puts a value's truth in the place of the number.
 fn truth_put(alloc: Global, b: &Bases, t: u32) -> Result<Vec<Instr>, AllocError>
     requires { t ≤ most_places }
-    ensures { IfOk result (λ v. Emits [] v.items (λ k. moved_out (h b.now t) (ask_row Truth (does (Convert I64ExtendI32U) (does (LocalSet (n b.now t)) k))))) }
+    ensures { IfOk result (λ v. Emits [] v.items (λ k. moved_out (h b.now t)
+        (ask_row Truth (does (Convert I64ExtendI32U) (does (LocalSet (n b.now t)) k))))) }
 {
     let mut code = Vec::new(alloc);
     moved_out(&mut code, b.handle(t))?;

@@ -1,5 +1,6 @@
 -- The shapes that are found, as the definitions see them.
 use Rattle.std.specs.Prelude.{pos, ◌^◌}
+use Rattle.awk_text.specs.Number.{largest}
 use Rattle.lower_model.specs.Quick as plain
 use Rattle.mid_program.specs.ViewCode.{view, view_array}
 use Rattle.lower_quick.specs.declared.counted.Counted.{Counted}
@@ -25,7 +26,7 @@ view_pair q = record { op = q.op; left = view_source q.left; right = view_source
 
 -- numbers from -2^53 on
 abbrev pub view_within : Within → plain.Within
-view_within w = record { name = w.name; shift = pos (2 ^ 53); width = w.width }
+view_within w = record { name = w.name; shift = pos largest; width = w.width }
 
 abbrev pub view_counted : Counted → plain.Counted
 view_counted q = record { op = q.op; name = q.name }

@@ -20,7 +20,8 @@ fn code_in(operand: &Operand) -> Option<&Code>
 
 /// The code that two operands are.
 fn codes_in<'a>(left: &'a Operand, right: &'a Operand) -> Option<(&'a Code, &'a Code)>
-    ensures { option_map (λ p. (view p.0.now, view p.1.now)) result ≡ two_codes (before left.now (before right.now End)) }
+    ensures { option_map (λ p. (view p.0.now, view p.1.now)) result
+        ≡ two_codes (before left.now (before right.now End)) }
 {
     match (left, right) {
         (Operand::Code(left), Operand::Code(right)) => Some((left, right)),
@@ -34,7 +35,8 @@ fn codes_of<'a>(
     second: &'a Operand,
     third: &'a Operand,
 ) -> Option<(&'a Code, &'a Code, &'a Code)>
-    ensures { option_map (λ p. (view p.0.now, view p.1.now, view p.2.now)) result ≡ three_codes (before first.now (before second.now (before third.now End))) }
+    ensures { option_map (λ p. (view p.0.now, view p.1.now, view p.2.now)) result
+        ≡ three_codes (before first.now (before second.now (before third.now End))) }
 {
     match (first, second, third) {
         (Operand::Code(first), Operand::Code(second), Operand::Code(third)) => {
@@ -56,7 +58,8 @@ pub(crate) fn one_code(operands: &[Operand]) -> Option<&Code>
 
 /// The operands, where there are two and both are code.
 pub(crate) fn two_codes(operands: &[Operand]) -> Option<(&Code, &Code)>
-    ensures { option_map (λ p. (view p.0.now, view p.1.now)) result ≡ two_codes (views operands.now) }
+    ensures { option_map (λ p. (view p.0.now, view p.1.now)) result
+        ≡ two_codes (views operands.now) }
 {
     if operands.len() != 2 {
         return None;
@@ -66,7 +69,8 @@ pub(crate) fn two_codes(operands: &[Operand]) -> Option<(&Code, &Code)>
 
 /// The operands, where there are three and all are code.
 pub(crate) fn three_codes(operands: &[Operand]) -> Option<(&Code, &Code, &Code)>
-    ensures { option_map (λ p. (view p.0.now, view p.1.now, view p.2.now)) result ≡ three_codes (views operands.now) }
+    ensures { option_map (λ p. (view p.0.now, view p.1.now, view p.2.now)) result
+        ≡ three_codes (views operands.now) }
 {
     if operands.len() != 3 {
         return None;

@@ -112,7 +112,8 @@ fn remainder_of(
     multiple: Option<Multiple>,
     divisor: Option<i64>,
 ) -> Option<Remainder>
-    ensures { option_map view_remainder result ≡ remainder_of target (option_map view_multiple multiple) divisor }
+    ensures { option_map view_remainder result
+        ≡ remainder_of target (option_map view_multiple multiple) divisor }
 {
     let (multiple, divisor) = (multiple?, divisor?);
     Some(Remainder {

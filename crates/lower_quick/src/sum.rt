@@ -27,7 +27,8 @@ pub(crate) fn is_sum(op: Arithmetic) -> bool
 
 /// The sum of two sources.
 fn sum_of(target: usize, op: Arithmetic, left: Option<Source>, right: Option<Source>) -> Option<Sum>
-    ensures { option_map view_sum result ≡ sum_of target op (option_map view_source left) (option_map view_source right) }
+    ensures { option_map view_sum result
+        ≡ sum_of target op (option_map view_source left) (option_map view_source right) }
 {
     let (left, right) = (left?, right?);
     if is_sum(op) && is_near(left) && is_near(right) {
@@ -108,7 +109,8 @@ fn stored_name(code: &Code) -> Option<usize>
 
 /// What the number that was kept and a constant are together.
 fn new_sum(old: Option<Source>, target: Option<usize>, code: &Code) -> Option<Sum>
-    ensures { option_map view_sum result ≡ new_sum (option_map view_source old) target (view code.now) }
+    ensures { option_map view_sum result
+        ≡ new_sum (option_map view_source old) target (view code.now) }
 {
     let target = target?;
     let (op, operands) = calculated_in(code)?;
@@ -122,7 +124,8 @@ fn new_sum(old: Option<Source>, target: Option<usize>, code: &Code) -> Option<Su
 
 /// `n++`: the number before is kept, then the one after.
 fn step_sum(kept: &Code, new: &Code, stores: &Code) -> Option<Sum>
-    ensures { option_map view_sum result ≡ step_sum (view kept.now) (view new.now) (view stores.now) }
+    ensures { option_map view_sum result
+        ≡ step_sum (view kept.now) (view new.now) (view stores.now) }
 {
     new_sum(old_source(kept), stored_name(stores), new)
 }

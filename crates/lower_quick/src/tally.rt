@@ -54,7 +54,8 @@ fn is_elem(primitive: Primitive) -> bool
 
 /// The same, where a primitive reads an element.
 fn element_of(primitive: Primitive, operands: &[Operand], after: usize) -> Option<ArrayName>
-    ensures { option_map view_array result ≡ cond (is_elem primitive) (element_at after (views operands.now)) None }
+    ensures { option_map view_array result
+        ≡ cond (is_elem primitive) (element_at after (views operands.now)) None }
 {
     if is_elem(primitive) {
         element_at(operands, after)
@@ -110,7 +111,8 @@ fn taker_of(
     moves: bool,
     after: usize,
 ) -> Option<ArrayName>
-    ensures { option_map view_array result ≡ cond (is_set_elem primitive) (taker_at moves after (views operands.now)) None }
+    ensures { option_map view_array result
+        ≡ cond (is_set_elem primitive) (taker_at moves after (views operands.now)) None }
 {
     if is_set_elem(primitive) {
         taker_at(operands, moves, after)
@@ -150,7 +152,8 @@ fn tally_of<'a>(
     read: Option<ArrayName>,
     written: Option<ArrayName>,
 ) -> Option<Tally<'a>>
-    ensures { option_map view_tally result ≡ tally_of op (view key.now) (view added.now) (option_map view_array read) (option_map view_array written) }
+    ensures { option_map view_tally result ≡ tally_of op (view key.now) (view added.now)
+        (option_map view_array read) (option_map view_array written) }
 {
     let (read, written) = (read?, written?);
     if is_sum(op) {
@@ -168,7 +171,8 @@ fn tally_of<'a>(
 
 /// The array of an element whose number was kept, if that is what an operand is.
 fn number_kept(operand: &Code, kept: &Code) -> Option<ArrayName>
-    ensures { option_map view_array result ≡ array_where (is_bound false zero (view operand.now)) (number_read (view kept.now)) }
+    ensures { option_map view_array result
+        ≡ array_where (is_bound false zero (view operand.now)) (number_read (view kept.now)) }
 {
     if is_bound(operand, false, 0) {
         number_read(kept)
@@ -186,7 +190,8 @@ fn tally_by<'a>(
     right: &'a Code,
     last: &Code,
 ) -> Option<Tally<'a>>
-    ensures { option_map view_tally result ≡ tally_by op (view key.now) (view kept.now) (view left.now) (view right.now) (view last.now) }
+    ensures { option_map view_tally result ≡ tally_by op (view key.now) (view kept.now)
+        (view left.now) (view right.now) (view last.now) }
 {
     match right {
         Code::Bound(true, 0) => {
@@ -209,7 +214,8 @@ fn tally_two<'a>(
     operands: &'a [Operand],
     last: &Code,
 ) -> Option<Tally<'a>>
-    ensures { option_map view_tally result ≡ tally_two op (view key.now) (view kept.now) (views operands.now) (view last.now) }
+    ensures { option_map view_tally result
+        ≡ tally_two op (view key.now) (view kept.now) (views operands.now) (view last.now) }
 {
     let (left, right) = two_codes(operands)?;
     tally_by(op, key, kept, left, right, last)
@@ -217,7 +223,8 @@ fn tally_two<'a>(
 
 /// The same, of the sum.
 fn tally_sum<'a>(key: &'a Code, kept: &'a Code, sum: &'a Code, last: &Code) -> Option<Tally<'a>>
-    ensures { option_map view_tally result ≡ tally_sum (view key.now) (view kept.now) (view sum.now) (view last.now) }
+    ensures { option_map view_tally result
+        ≡ tally_sum (view key.now) (view kept.now) (view sum.now) (view last.now) }
 {
     let (op, operands) = calculated_in(sum)?;
     tally_two(op, key, kept, operands, last)
@@ -231,7 +238,8 @@ fn tally_first<'a>(
     right: &'a Code,
     last: &Code,
 ) -> Option<Tally<'a>>
-    ensures { option_map view_tally result ≡ tally_first op (view key.now) (view left.now) (view right.now) (view last.now) }
+    ensures { option_map view_tally result
+        ≡ tally_first op (view key.now) (view left.now) (view right.now) (view last.now) }
 {
     match right {
         Code::Number(_) => {
@@ -249,7 +257,8 @@ fn first_two<'a>(
     operands: &'a [Operand],
     last: &Code,
 ) -> Option<Tally<'a>>
-    ensures { option_map view_tally result ≡ first_two op (view key.now) (views operands.now) (view last.now) }
+    ensures { option_map view_tally result
+        ≡ first_two op (view key.now) (views operands.now) (view last.now) }
 {
     let (left, right) = two_codes(operands)?;
     tally_first(op, key, left, right, last)
@@ -257,7 +266,8 @@ fn first_two<'a>(
 
 /// The same, of the sum.
 fn first_sum<'a>(key: &'a Code, sum: &'a Code, last: &Code) -> Option<Tally<'a>>
-    ensures { option_map view_tally result ≡ first_sum (view key.now) (view sum.now) (view last.now) }
+    ensures { option_map view_tally result
+        ≡ first_sum (view key.now) (view sum.now) (view last.now) }
 {
     let (op, operands) = calculated_in(sum)?;
     first_two(op, key, operands, last)
@@ -265,7 +275,8 @@ fn first_sum<'a>(key: &'a Code, sum: &'a Code, last: &Code) -> Option<Tally<'a>>
 
 /// A counter, of what is kept after the key and the code after that.
 fn tally_after<'a>(key: &'a Code, kept: &'a Code, body: &'a Code) -> Option<Tally<'a>>
-    ensures { option_map view_tally result ≡ tally_after (view key.now) (view kept.now) (view body.now) }
+    ensures { option_map view_tally result
+        ≡ tally_after (view key.now) (view kept.now) (view body.now) }
 {
     match body {
         Code::Let(sum, last) => tally_sum(key, kept, sum, last),

@@ -48,7 +48,8 @@ fn kept_update<'a>(
     added: &'a Code,
     operands: &[Operand],
 ) -> Option<Update<'a>>
-    ensures { option_map view_update result ≡ kept_update target op (view added.now) (views operands.now) }
+    ensures { option_map view_update result
+        ≡ kept_update target op (view added.now) (views operands.now) }
 {
     let (left, right) = two_codes(operands)?;
     if is_bound(right, true, 0) {

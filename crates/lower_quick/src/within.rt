@@ -6,11 +6,12 @@ ghost use Rattle.lower_quick.specs.View.{view_within};
 ghost use Rattle.lower_model.specs.Quick.{compared_within, test_within};
 
 use crate::source::{constant_in, name_in};
+use awk_text::MAX_NUMBER;
 use awk_values::CompareOp;
 use mid_program::Code;
 
 /// The least number.
-const LEAST_NUMBER: i64 = -(1 << 53);
+const LEAST_NUMBER: i64 = -(MAX_NUMBER as i64);
 
 /// Of a name the numbers from the least one on, up to one that is so much greater.
 #[derive(Clone, Copy, Debug, PartialEq, Eq, Drop)]

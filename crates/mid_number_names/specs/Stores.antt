@@ -50,8 +50,8 @@ answers_number builtin.Sprintf = false
 answers_number builtin.ToLower = false
 answers_number builtin.ToUpper = false
 
--- Number constants, results of arithmetic, of comparisons, of matches and of `! && || in`, and of `getline`. What a name, an element or a field holds may be a text, and so may
--- what a function of the script returns, and what is chosen by `? :`.
+-- Number constants, results of arithmetic, of comparisons, of matches and of `! && || in`, and of `getline`. What a name, an element or a field holds
+-- may be a text, and so may what a function of the script returns, and what is chosen by `? :`.
 abbrev pub gives_number : Tree → Bool
 gives_number (Leaf (Number text)) = true
 gives_number (Leaf (Quoted text)) = false

@@ -13,7 +13,10 @@ TakesNumbers script x = All (λ (s : Store). s.scalar ≡ x → is_number s.stor
 abbrev pub scalar_name : List ℕ → Name
 scalar_name x = record { name = x; is_array = false }
 
--- THE SCALARS INTO WHICH A SCRIPT STORES NUMBERS ALONE ARE UNBOXED IN ITS CODE: globals by their numbers, and parameters by those of their functions and their places
+-- THE SCALARS INTO WHICH A SCRIPT STORES NUMBERS ALONE ARE UNBOXED IN ITS CODE: globals by their numbers, and parameters by those of their functions
+-- and their places
 pub record UnboxesNumbers (script : Resolved) (code : Program) : Type 0 where
-  pub globals : (i : ℕ) (x : List ℕ) → slice_get script.globals i ≡ Some (scalar_name x) → TakesNumbers script (Global i) → has_kind (kinds_of code.globals) i Unboxed ≡ true
-  pub parameters : (f i : ℕ) (x : List ℕ) → slice_get (function_at script.functions f).parameters i ≡ Some (scalar_name x) → TakesNumbers script (Parameter f i) → has_kind (parameters_at (calls_of code) f) i Unboxed ≡ true
+  pub globals : (i : ℕ) (x : List ℕ) → slice_get script.globals i ≡ Some (scalar_name x) → TakesNumbers script (Global i)
+      → has_kind (kinds_of code.globals) i Unboxed ≡ true
+  pub parameters : (f i : ℕ) (x : List ℕ) → slice_get (function_at script.functions f).parameters i ≡ Some (scalar_name x)
+      → TakesNumbers script (Parameter f i) → has_kind (parameters_at (calls_of code) f) i Unboxed ≡ true

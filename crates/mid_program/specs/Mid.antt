@@ -1,7 +1,7 @@
--- Mid code: structured code over the table of primitives. Operands are evaluated from left to right, and once all of them are, each is
--- converted to the sort that its operation wants. A conversion belongs to the operation, by the form that is there and the sort that is wanted: no code stands for it.
--- A name's code says whether the name is unboxed, which is where it is kept and not what it means. What is evaluated once and used later is kept (`Let`) and named
--- by how many others were kept after it (`Bound`); its last use says that it moves what an earlier one copies.
+-- Mid code: structured code over the table of primitives. Operands are evaluated from left to right, and once all of them are, each is converted to
+-- the sort that its operation wants. A conversion belongs to the operation, by the form that is there and the sort that is wanted: no code stands for
+-- it. A name's code says whether the name is unboxed, which is where it is kept and not what it means. What is evaluated once and used later is kept
+-- (`Let`) and named by how many others were kept after it (`Bound`); its last use says that it moves what an earlier one copies.
 use Rattle.std.specs.Prelude.{ℕ, zero, suc, Bool, true, false, List, [], ◌∷◌, ℤ}
 use Rattle.awk_values.specs.declared.comparison.CompareOp.{CompareOp}
 use Rattle.sem_primitives.specs.Table.{arguments_of, answer_of, listed_answer}

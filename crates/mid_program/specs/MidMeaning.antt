@@ -238,8 +238,10 @@ module _ (texts : List (List ℕ)) (parameters : List (List Kind)) (n : ℕ) (ca
     evaluated fs env (Call f es) = all_evaluated fs env es >>= λ vs. spend >> calls f (locals_of fs (parameters_at parameters f) es vs)
     evaluated fs env Ask = asked n (asks row.Getline tt) >>= λ answer. give (input_number answer)
     evaluated fs env (AskLine s) = asked n (asks row.GetlineVar tt) >>= when_read (λ text. evaluated (a_value ∷ fs) (text, env) s >> nothing)
-    evaluated fs env (FileLine e s) = evaluated fs env e >>= λ file. does row.GetlineVarFile (boxed (form_of fs e) file, tt) >>= when_read (λ text. evaluated (a_value ∷ fs) (text, env) s >> nothing)
-    evaluated fs env (Replace all es s) = all_evaluated fs env es >>= λ vs. settled (row_of fs three_values es vs) >>= λ given. replacing all given >>= when_replaced (λ text. evaluated (a_value ∷ fs) (text, env) s >> nothing)
+    evaluated fs env (FileLine e s) = evaluated fs env e >>= λ file. does row.GetlineVarFile (boxed (form_of fs e) file, tt)
+        >>= when_read (λ text. evaluated (a_value ∷ fs) (text, env) s >> nothing)
+    evaluated fs env (Replace all es s) = all_evaluated fs env es >>= λ vs. settled (row_of fs three_values es vs) >>= λ given. replacing all given
+        >>= when_replaced (λ text. evaluated (a_value ∷ fs) (text, env) s >> nothing)
     evaluated fs env (Number z) = give (or_zero (number_of z))
     evaluated fs env (Text i) = give (value.Text (get_or texts i []))
     evaluated fs env Unset = give None
@@ -247,7 +249,9 @@ module _ (texts : List (List ℕ)) (parameters : List (List Kind)) (n : ℕ) (ca
     evaluated fs env (Set x e) = evaluated fs env e >>= λ v. store_slot x (boxed (form_of fs e) v) >> give v
     evaluated fs env (Array a) = array_number a
     evaluated fs env (IsOpen i) = look (range_open i)
-    evaluated fs env (Choose s c a b) = evaluated fs env c >>= λ v. if truth_in (form_of fs c) v then (evaluated fs env a >>= λ x. settled (converted (form_of fs a) s x)) else (evaluated fs env b >>= λ x. settled (converted (form_of fs b) s x))
+    evaluated fs env (Choose s c a b) = evaluated fs env c
+        >>= λ v. if truth_in (form_of fs c) v then (evaluated fs env a >>= λ x. settled (converted (form_of fs a) s x)) else
+        (evaluated fs env b >>= λ x. settled (converted (form_of fs b) s x))
     evaluated fs env (Seq a b) = evaluated fs env a >> evaluated fs env b
     evaluated fs env (Let a b) = evaluated fs env a >>= λ x. evaluated (form_of fs a ∷ fs) (x, env) b
     evaluated fs env (Bound m i) = give (held fs env i)

@@ -1,5 +1,6 @@
 -- Which mid code is well sorted. Lowering speaks of such code alone; the meaning is total.
 use Rattle.std.specs.Prelude.{ℕ, zero, suc, ◌^◌, T, Bool, true, false, not, ◌&&◌, ◌||◌, nat_le, nat_lt, if◌then◌else◌, List, [], ◌∷◌, ◌++◌, length, map, is_some, unsigned_abs}
+use Rattle.awk_text.specs.Number.{largest}
 use Rattle.sem_primitives.specs.Constants.{constant_at}
 use Rattle.sem_primitives.specs.declared.sorts.Sort.{Sort}
 use Rattle.sem_primitives.specs.declared.sorts.Sort.TheVariants as sort
@@ -16,8 +17,9 @@ use Rattle.mid_program.specs.declared.mid.Operation.TheVariants.{Host}
 use Rattle.sem_scripts.specs.Names.{ArrayName, Numbered, Given, same_name}
 use Rattle.mid_program.specs.Mid.{Kind, Boxed, Unboxed, Many, Slot, Global, Parameter, Code, Do, Over, Compare, Call, Ask, AskLine, FileLine, Replace, Number, Text, Unset, Get, Set, Array, IsOpen, Choose, Seq, Let, Bound, Codes, End, At, Fixed, Fresh, Step, Eval, Block, If, Loop, Each, Break, Continue, Next, Exit, ExitWith, Return, Mark, Steps, NoStep, Then, Declared, Routine, Program, Form, Answered, Bare, Perhaps, a_value, form_of, arguments, parameters_at}
 
--- The primitives that are operations. The others stand behind codes of their own (`Ask`, `AskLine`, `FileLine`, `Replace`, `Compare`, `Text`, `Unset`, `Each`, `Fresh`), behind conversions, or in the run of
--- every script: so each read is followed by its line, and each array and iterator is made where a call or a loop ends it.
+-- The primitives that are operations. The others stand behind codes of their own (`Ask`, `AskLine`, `FileLine`, `Replace`, `Compare`, `Text`,
+-- `Unset`, `Each`, `Fresh`), behind conversions, or in the run of every script: so each read is followed by its line, and each array and iterator is
+-- made where a call or a loop ends it.
 abbrev pub is_operation : Primitive → Bool
 is_operation IntOf = true
 is_operation Concat = true
@@ -260,15 +262,17 @@ module _ (c : Context) where
     sorted fs Ask = true
     sorted fs (AskLine s) = stores_well fs s && sorted (a_value ∷ fs) s
     sorted fs (FileLine e s) = fits (form_of fs e) sort.Value && (sorted fs e && (stores_well fs s && sorted (a_value ∷ fs) s))
-    sorted fs (Replace all es s) = fit_row fs (argument.Of sort.Value ∷ argument.Of sort.Value ∷ argument.Of sort.Value ∷ []) es && (all_sorted fs es && (stores_well fs s && sorted (a_value ∷ fs) s))
-    sorted fs (Number z) = nat_le (unsigned_abs z) (2 ^ 53)
+    sorted fs (Replace all es s) = fit_row fs (argument.Of sort.Value ∷ argument.Of sort.Value ∷ argument.Of sort.Value ∷ []) es
+        && (all_sorted fs es && (stores_well fs s && sorted (a_value ∷ fs) s))
+    sorted fs (Number z) = nat_le (unsigned_abs z) largest
     sorted fs (Text i) = nat_lt i c.texts
     sorted fs Unset = true
     sorted fs (Get x) = is_slot c x
     sorted fs (Set x e) = is_slot c x && (takes x (form_of fs e) && sorted fs e)
     sorted fs (Array a) = is_array_place c a
     sorted fs (IsOpen i) = nat_lt i c.ranges
-    sorted fs (Choose s e a b) = is_chosen s && (is_tested (form_of fs e) && (fits (form_of fs a) s && (fits (form_of fs b) s && (sorted fs e && (sorted fs a && sorted fs b)))))
+    sorted fs (Choose s e a b) = is_chosen s && (is_tested (form_of fs e)
+        && (fits (form_of fs a) s && (fits (form_of fs b) s && (sorted fs e && (sorted fs a && sorted fs b)))))
     sorted fs (Seq a b) = is_dropped (form_of fs a) && (sorted fs a && sorted fs b)
     sorted fs (Let a b) = is_kept (form_of fs a) && (keeps_well b && (sorted fs a && sorted (form_of fs a ∷ fs) b))
     sorted fs (Bound m i) = is_bound fs i
@@ -320,7 +324,15 @@ arrays_among (d ∷ ds) = if is_many d.kind then suc (arrays_among ds) else arra
 
 -- ARGV and ENVIRON stand before the script's own arrays
 abbrev pub context_of : Program → List Kind → Context
-context_of p parameters = record { texts = length p.texts; globals = kinds_of p.globals; arrays = suc (suc (arrays_among p.globals)); ranges = p.ranges; calls = calls_of p; parameters = parameters }
+context_of p parameters = record {
+  texts = length p.texts;
+  globals = kinds_of p.globals;
+  arrays = suc
+      (suc (arrays_among p.globals));
+  ranges = p.ranges;
+  calls = calls_of p;
+  parameters = parameters;
+}
 
 abbrev pub routines_sorted : Program → List Routine → Bool
 routines_sorted p [] = true

@@ -1,4 +1,4 @@
-//! Programs in mid code: their types and their meaning, the meaning of scripts, and which program a script stands for.
+//! Programs in mid code: their types and their meaning, and which program a script stands for.
 #![tactic(auto)]
 
 mod code;

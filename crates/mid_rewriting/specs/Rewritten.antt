@@ -19,7 +19,8 @@ pub record SameSlots (slots : Slot → Slot) : Type 0 where
 abbrev pub SameOperations : List (List ℕ) → List (List Kind) → ℕ → Calls → (Operation → Codes → Code) → Type 0
 SameOperations texts qs n calls operation =
     (gs : List Form) (env : Env gs) (o : Operation) (es : Codes) (s : State) →
-    LikeR (Alike (Answered (answer_by o)) (form_of gs (operation o es))) (evaluated texts qs n calls gs env (Do o es) s) (evaluated texts qs n calls gs env (operation o es) s)
+    LikeR (Alike (Answered (answer_by o)) (form_of gs (operation o es))) (evaluated texts qs n calls gs env (Do o es) s)
+    (evaluated texts qs n calls gs env (operation o es) s)
 
 pub record Rewritten (p q : Program) : Type 0 where
   pub operation : Operation → Codes → Code

@@ -5,8 +5,8 @@ use Rattle.std.proofs.lemmas.List.Folds.{list_any-append}
 use Rattle.std.specs.Prelude.{if◌then◌else◌, map}
 use Rattle.std.specs.List.{list_any}
 use Rattle.std.specs.Option.{option_map}
-use Rattle.awk_resolve.specs.Marks.{Mark, Defined, Parameter, Used, Called, Computed, Given}
-use Rattle.awk_resolve.specs.Kinds.{Key, Whole, Inside, Head, has_name, specials, same_key, parameters_of, is_function, parameter_name, head_keys, parameter_keys, key_in, parameter_at, defined, declared, duplicate, first_duplicate, with_key, with_maybe, with_mark, with_marks, with_keys, variables}
+use Rattle.awk_kinds.specs.Marks.{Mark, Defined, Parameter, Used, Called, Computed, Given}
+use Rattle.awk_kinds.specs.Kinds.{Key, Whole, Inside, Head, has_name, specials, same_key, parameters_of, is_function, parameter_name, head_keys, parameter_keys, key_in, parameter_at, defined, declared, duplicate, first_duplicate, with_key, with_maybe, with_mark, with_marks, with_keys, variables}
 use Rattle.awk_resolve.proofs.Names.{same_sound, key_sound, key_refl, any_with_key, any_with_keys}
 use Rattle.mid_sorted.proofs.Marked.{In, neither, not_refused, whole_any}
 

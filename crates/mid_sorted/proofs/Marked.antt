@@ -6,9 +6,9 @@ use Rattle.std.proofs.lemmas.List.Folds.{list_any-append}
 use Rattle.std.specs.Prelude.{if◌then◌else◌, map, IsTrue}
 use Rattle.std.specs.List.{list_all, list_any}
 use Rattle.std.specs.Option.{option_map}
-use Rattle.awk_resolve.specs.Marks.{Kind, Array, Scalar, Mark, Defined, Parameter, Used, Called, Computed, Given}
-use Rattle.awk_resolve.specs.Kinds.{Key, Whole, Head, same_name, has_name, same_key, same_kind, key_in, parameter_at, specials_of, used, members, pair_of, pairs, is_used_as, only_if, or_else, first}
-use Rattle.awk_resolve.specs.Least.{IsClosed}
+use Rattle.awk_kinds.specs.Marks.{Kind, Array, Scalar, Mark, Defined, Parameter, Used, Called, Computed, Given}
+use Rattle.awk_kinds.specs.Kinds.{Key, Whole, Head, same_name, has_name, same_key, same_kind, key_in, parameter_at, specials_of, used, members, pair_of, pairs, is_used_as, only_if, or_else, first}
+use Rattle.awk_kinds.specs.Least.{IsClosed}
 use Rattle.awk_resolve.proofs.Names.{key_sound, key_refl}
 use Rattle.awk_resolve.proofs.Least.{least_closed}
 

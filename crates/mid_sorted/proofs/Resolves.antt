@@ -7,8 +7,8 @@ use Rattle.std.specs.Option.{option_map}
 use Rattle.sem_primitives.specs.declared.constants.Special.{Special}
 use Rattle.awk_grammar.specs.Stmt.{Stmts}
 use Rattle.awk_grammar.specs.Item.{Item, Begin, End, Always, When, Lone, Nothing, Function as FunctionItem, IsItem, IsScript}
-use Rattle.awk_resolve.specs.Marks.{Kind, Array, Scalar, Mark, Defined, Parameter as ParameterMark, Used, Called, Computed, Given, pattern_marks, stmts_marks, parameter_marks, item_marks, script_marks}
-use Rattle.awk_resolve.specs.Kinds.{Key, Whole, Inside, Head, heads, same_name, has_name, special_arrays, special_scalars, specials, same_key, name_of, key_in, parameters_of, parameter_at, parameter_keys, is_function as is_defined, is_used_as, TooMany, DuplicateName, UnknownFunction, ArgCount, KindClash, or_else, first, too_many, first_duplicate, unknown, excess, needing, clash, name_refusal, refusal, variables, is_global}
+use Rattle.awk_kinds.specs.Marks.{Kind, Array, Scalar, Mark, Defined, Parameter as ParameterMark, Used, Called, Computed, Given, pattern_marks, stmts_marks, parameter_marks, item_marks, script_marks}
+use Rattle.awk_kinds.specs.Kinds.{Key, Whole, Inside, Head, heads, same_name, has_name, special_arrays, special_scalars, specials, same_key, name_of, key_in, parameters_of, parameter_at, parameter_keys, is_function as is_defined, is_used_as, TooMany, DuplicateName, UnknownFunction, ArgCount, KindClash, or_else, first, too_many, first_duplicate, unknown, excess, needing, clash, name_refusal, refusal, variables, is_global}
 use Rattle.awk_resolve.proofs.Names.{special_is}
 use Rattle.sem_scripts.specs.Names.{Name, Resolved, Scope, place_in, or_past, names_length, special_names, special_in, special_named, special_array, is_special_array, variable_by, global_or_special, kind_at, variable_is_array, is_array}
 use Rattle.mid_program.specs.Sorted.{is_named, all_differ}

@@ -4,7 +4,7 @@ use Rattle.std.specs.Prelude.{is_some, nat_lt, map, Option, Some, None}
 use Rattle.awk_grammar.specs.Stmt.{Stmts}
 use Rattle.awk_grammar.specs.Item as item
 use Rattle.awk_grammar.specs.Item.{Item, Pattern}
-use Rattle.awk_resolve.specs.Marks.{marks}
+use Rattle.awk_kinds.specs.Marks.{marks}
 use Rattle.sem_scripts.specs.Names.{Name, Function, Resolved, Scope}
 use Rattle.sem_scripts.specs.Items.{top, print_record, pattern_ranges, range_count}
 use Rattle.mid_program.specs.Texts.{texts_in, all_texts, stmt_texts, stmts_texts, pattern_texts, item_texts, items_texts, functions_texts, texts_of_script}

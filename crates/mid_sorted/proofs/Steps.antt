@@ -10,7 +10,7 @@ use Rattle.sem_primitives.specs.declared.table.Primitive.TheVariants as row
 use Rattle.awk_grammar.specs.Tree.{Tree, Trees, NoTree, Then, IsWellFormed, count}
 use Rattle.awk_grammar.specs.Stmt as stmt
 use Rattle.awk_grammar.specs.Stmt.{Printing, Print, Printf, Args, NoArgs, Listed, Enclosed, Target, NoTarget, Written, Appended, Plain, Stmt, Stmts, NoStmt, And, IsArgs, IsTarget, IsPlain, IsMaybe, IsMaybePlain, IsStmt, AreStmts}
-use Rattle.awk_resolve.specs.Marks.{Array, Scalar, Mark, Used, marks, all_marks, args_marks, target_marks, plain_marks, maybe_marks, maybe_plain_marks, stmt_marks, stmts_marks}
+use Rattle.awk_kinds.specs.Marks.{Array, Scalar, Mark, Used, marks, all_marks, args_marks, target_marks, plain_marks, maybe_marks, maybe_plain_marks, stmt_marks, stmts_marks}
 use Rattle.mid_program.specs.declared.mid.Operation.TheVariants.{Host}
 use Rattle.sem_scripts.specs.Names.{Resolved, Scope, variable_of, array_of}
 use Rattle.sem_scripts.specs.Statements.{operands_of, with_last, with_target, destination_of, listed_of}

@@ -5,8 +5,8 @@ use Rattle.awk_grammar.specs.Token.{Number, Set, Assign}
 use Rattle.awk_grammar.specs.Tree.{Tree, Leaf, Var, Index, Call, Bin, Other, NoTree, Then}
 use Rattle.awk_grammar.specs.Stmt.{Eval, Simple, While, Jumping, Break, Leave, Return, Stmt, Stmts, NoStmt, And}
 use Rattle.awk_grammar.specs.Item.{Item, Function, Begin}
-use Rattle.awk_resolve.specs.Marks.{script_marks}
-use Rattle.awk_resolve.specs.Kinds.{special_arrays, special_scalars}
+use Rattle.awk_kinds.specs.Marks.{script_marks}
+use Rattle.awk_kinds.specs.Kinds.{special_arrays, special_scalars}
 use Rattle.mid_program.specs.Sorted.{all_differ}
 use Rattle.mid_sorted.specs.Fits.{is_met, all_names}
 use Rattle.sem_scripts.specs.Kinds.{resolved}

@@ -3,7 +3,7 @@ ghost use Rattle.std.specs.Prelude.{◌≡◌, List, None};
 ghost use Rattle.awk_tokens.specs.Cutting.{Spelled};
 ghost use Rattle.awk_grammar.specs.Item.{Item, IsScript};
 ghost use Rattle.awk_parse.specs.Parsing.{IsParsed};
-ghost use Rattle.awk_resolve.specs.Kinds.{refusal};
+ghost use Rattle.awk_kinds.specs.Kinds.{refusal};
 ghost use Rattle.sem_scripts.specs.Kinds.{resolved};
 ghost use Rattle.sem_scripts.specs.Names.{Resolved};
 ghost use Rattle.mid_program.specs.Sorted.{IsSorted};
@@ -20,12 +20,16 @@ pub fn code_is_sorted()
 /// A script with well-formed trees, and jumps in their places, whose names are not refused fits with the kinds of its names; so its code is
 /// well sorted.
 pub fn resolved_scripts_fit()
-    ensures fits { (items : List Item) → IsScript items → ArePlaced items → refusal items ≡ None → Fits (resolved items) }
-    ensures code { (items : List Item) → IsScript items → ArePlaced items → refusal items ≡ None → IsSorted (program_of (resolved items)) }
+    ensures fits { (items : List Item) → IsScript items → ArePlaced items → refusal items ≡ None
+        → Fits (resolved items) }
+    ensures code { (items : List Item) → IsScript items → ArePlaced items → refusal items ≡ None
+        → IsSorted (program_of (resolved items)) }
 {}
 
 /// A script that the parser gives has its jumps in their places; so its code is well sorted, where its names are not refused.
 pub fn parsed_scripts_are_placed()
-    ensures placed { (tokens : List Spelled) (items : List Item) → IsParsed tokens items → ArePlaced items }
-    ensures code { (tokens : List Spelled) (items : List Item) → IsParsed tokens items → refusal items ≡ None → IsSorted (program_of (resolved items)) }
+    ensures placed { (tokens : List Spelled) (items : List Item) → IsParsed tokens items
+        → ArePlaced items }
+    ensures code { (tokens : List Spelled) (items : List Item) → IsParsed tokens items
+        → refusal items ≡ None → IsSorted (program_of (resolved items)) }
 {}

@@ -34,7 +34,8 @@ use Rattle.module_decoder.specs.Readers.{◌>>=◌, Read, both_at, mapped, malfo
 
 -- by a byte and the bytes from it on
 abbrev pub val_type_by : Span → ℕ → List ℕ → Result ValType DecodeFault
-val_type_by c b bytes = if b == 0x7f then Ok I32 else if b == 0x7e then Ok I64 else if (if b == 0x7d then true else b == 0x7c) then Err (Float (place c bytes)) else malformed c
+val_type_by c b bytes = if b == 0x7f then Ok I32 else if b == 0x7e then Ok I64 else
+    if (if b == 0x7d then true else b == 0x7c) then Err (Float (place c bytes)) else malformed c
 
 abbrev pub val_type_at : Span → List ℕ → Read ValType
 val_type_at c [] = malformed c
@@ -248,7 +249,8 @@ code_at c bytes = bytes_at c bytes >>= code_in c
 
 abbrev pub all_sections : List SectionId
 all_sections =
-    section.Type ∷ section.Import ∷ section.Function ∷ section.Table ∷ section.Memory ∷ section.Global ∷ section.Export ∷ section.Start ∷ section.Element ∷ section.Code ∷
+    section.Type ∷ section.Import ∷ section.Function ∷ section.Table ∷ section.Memory ∷ section.Global ∷ section.Export ∷ section.Start
+    ∷ section.Element ∷ section.Code ∷
     section.Data ∷ []
 
 abbrev pub find_section : List SectionId → ℕ → Option SectionId
@@ -314,7 +316,8 @@ functions_at section.Function at old = at
 functions_at k at old = old
 
 abbrev pub known_in : ℕ → ℕ → SectionId → Progress → Frame → Result (Progress × List ℕ) DecodeFault
-known_in total at k s f = part_at (span_of total at f) k s.parts f.contents >>= λ p. Ok (record { last = number k; functions = functions_at k at s.functions; parts = p }, f.after)
+known_in total at k s f = part_at (span_of total at f) k s.parts f.contents
+    >>= λ p. Ok (record { last = number k; functions = functions_at k at s.functions; parts = p }, f.after)
 
 abbrev pub known_by : ℕ → ℕ → Option SectionId → Progress → List ℕ → Result (Progress × List ℕ) DecodeFault
 known_by total at None s bytes = Err (BadSection at)

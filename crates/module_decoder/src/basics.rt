@@ -48,7 +48,8 @@ pub(crate) fn unfinished(bytes: &[u8], most: u8) -> bool
 }
 
 fn no_integer(c: Span, most: u8, bytes: &[u8]) -> DecodeFault
-    ensures { result ≡ (if unfinished most bytes.now then BadSection c.section else BadInteger (place c bytes.now)) }
+    ensures { result ≡ (if unfinished most bytes.now then BadSection c.section else BadInteger
+        (place c bytes.now)) }
 {
     if unfinished(bytes, most) {
         c.malformed()

@@ -73,7 +73,8 @@ fn step_of(lead: Lead) -> Step
 }
 
 fn next_of(bytes: &[u8]) -> Option<(Step, &[u8])>
-    ensures { MatchOption result (step_at bytes.now ≡ None) (λ o. step_at bytes.now ≡ Some (o.0, o.1.now)) }
+    ensures { MatchOption result (step_at bytes.now ≡ None)
+        (λ o. step_at bytes.now ≡ Some (o.0, o.1.now)) }
 {
     match bytes {
         [] => None,
@@ -89,35 +90,40 @@ fn behind(c: Span, bytes: &[u8]) -> usize
 }
 
 fn indexed(c: Span, op: IndexOp, bytes: &[u8]) -> Result<(Instr, &[u8]), DecodeFault>
-    ensures { Gives (λ x. (view x.0, x.1.now)) result (mapped (λ n. Plain (indexed op n)) (index_at c) bytes.now) }
+    ensures { Gives (λ x. (view x.0, x.1.now)) result
+        (mapped (λ n. Plain (indexed op n)) (index_at c) bytes.now) }
 {
     let (n, rest) = index(c, bytes)?;
     Ok((Instr::Plain(op.with(n)), rest))
 }
 
 fn load(c: Span, op: LoadOp, bytes: &[u8]) -> Result<(Instr, &[u8]), DecodeFault>
-    ensures { Gives (λ x. (view x.0, x.1.now)) result (mapped (λ m. Plain (simple.Load op m)) (mem_arg_at c) bytes.now) }
+    ensures { Gives (λ x. (view x.0, x.1.now)) result
+        (mapped (λ m. Plain (simple.Load op m)) (mem_arg_at c) bytes.now) }
 {
     let (arg, rest) = mem_arg(c, bytes)?;
     Ok((Instr::Plain(Simple::Load(op, arg)), rest))
 }
 
 fn store(c: Span, op: StoreOp, bytes: &[u8]) -> Result<(Instr, &[u8]), DecodeFault>
-    ensures { Gives (λ x. (view x.0, x.1.now)) result (mapped (λ m. Plain (simple.Store op m)) (mem_arg_at c) bytes.now) }
+    ensures { Gives (λ x. (view x.0, x.1.now)) result
+        (mapped (λ m. Plain (simple.Store op m)) (mem_arg_at c) bytes.now) }
 {
     let (arg, rest) = mem_arg(c, bytes)?;
     Ok((Instr::Plain(Simple::Store(op, arg)), rest))
 }
 
 fn i32_const(c: Span, bytes: &[u8]) -> Result<(Instr, &[u8]), DecodeFault>
-    ensures { Gives (λ x. (view x.0, x.1.now)) result (mapped (λ n. Plain (simple.I32Const n)) (bits32_at c) bytes.now) }
+    ensures { Gives (λ x. (view x.0, x.1.now)) result
+        (mapped (λ n. Plain (simple.I32Const n)) (bits32_at c) bytes.now) }
 {
     let (n, rest) = bits32(c, bytes)?;
     Ok((Instr::Plain(Simple::I32Const(n)), rest))
 }
 
 fn i64_const(c: Span, bytes: &[u8]) -> Result<(Instr, &[u8]), DecodeFault>
-    ensures { Gives (λ x. (view x.0, x.1.now)) result (mapped (λ n. Plain (simple.I64Const n)) (bits64_at c) bytes.now) }
+    ensures { Gives (λ x. (view x.0, x.1.now)) result
+        (mapped (λ n. Plain (simple.I64Const n)) (bits64_at c) bytes.now) }
 {
     let (n, rest) = bits64(c, bytes)?;
     Ok((Instr::Plain(Simple::I64Const(n)), rest))
@@ -132,7 +138,8 @@ fn call_indirect(c: Span, bytes: &[u8]) -> Result<(Instr, &[u8]), DecodeFault>
 }
 
 fn with_reserved(c: Span, instr: Simple, bytes: &[u8]) -> Result<(Instr, &[u8]), DecodeFault>
-    ensures { Gives (λ x. (view x.0, x.1.now)) result (mapped (λ r. Plain instr) (reserved_at c) bytes.now) }
+    ensures { Gives (λ x. (view x.0, x.1.now)) result
+        (mapped (λ r. Plain instr) (reserved_at c) bytes.now) }
 {
     let (_, rest) = reserved(c, bytes)?;
     Ok((Instr::Plain(instr), rest))
@@ -198,7 +205,8 @@ fn two_sided<'a>(
     yes: Vec<Instr>,
     no: Sequence<'a>,
 ) -> Result<(Instr, &'a [u8]), DecodeFault>
-    ensures { Gives (λ x. (view x.0, x.1.now)) result (by_end c (If kind (views yes.items)) (made_body (views no.entry.instrs.items) no.entry.ending no.entry.rest.now)) }
+    ensures { Gives (λ x. (view x.0, x.1.now)) result (by_end c (If kind (views yes.items))
+        (made_body (views no.entry.instrs.items) no.entry.ending no.entry.rest.now)) }
 {
     match no.ending {
         Ending::End => {
@@ -244,7 +252,8 @@ fn instr(
     lead: Lead,
     bytes: &[u8],
 ) -> Result<(Instr, &[u8]), DecodeFault>
-    ensures { Gives (λ x. (view x.0, x.1.now)) result (instr_by c (body_at c limit) lead bytes.now) }
+    ensures { Gives (λ x. (view x.0, x.1.now)) result
+        (instr_by c (body_at c limit) lead bytes.now) }
 {
     match lead {
         Lead::Bare(p) => Ok((Instr::Plain(p), bytes)),
@@ -273,7 +282,8 @@ pub(crate) fn body_of(
     limit: u32,
     bytes: &[u8],
 ) -> Result<Sequence<'_>, DecodeFault>
-    ensures { Gives (λ x. made_body (views x.instrs.items) x.ending x.rest.now) result (body_at c limit bytes.now) }
+    ensures { Gives (λ x. made_body (views x.instrs.items) x.ending x.rest.now) result
+        (body_at c limit bytes.now) }
 {
     if limit == 0 {
         return Err(DecodeFault::TooLarge);

@@ -52,7 +52,8 @@ pub(crate) fn fill<T: Entry>(
     c: Span,
     bytes: &[u8],
 ) -> Result<(), DecodeFault>
-    ensures { MatchResult result (λ _. whole c (vec_at c (T.reads c)) bytes.now ≡ Ok (map T.form all.new.items)) (λ e. Fails e (whole c (vec_at c (T.reads c)) bytes.now)) }
+    ensures { MatchResult result (λ _. whole c (vec_at c (T.reads c)) bytes.now
+        ≡ Ok (map T.form all.new.items)) (λ e. Fails e (whole c (vec_at c (T.reads c)) bytes.now)) }
 {
     let (read, rest) = entries(alloc, c, bytes)?;
     ended(c, rest)?;

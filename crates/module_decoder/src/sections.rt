@@ -88,7 +88,8 @@ fn number(id: SectionId) -> u8
 
 // What was read, if nothing is left behind it.
 fn whole<T: Drop>(c: Span, read: Result<(T, &[u8]), DecodeFault>) -> Result<T, DecodeFault>
-    ensures { MatchResult read.entry (λ x. Gives (λ y. y) result (ended c (x.0, x.1.now))) (λ e. result ≡ Err e) }
+    ensures { MatchResult read.entry (λ x. Gives (λ y. y) result (ended c (x.0, x.1.now)))
+        (λ e. result ≡ Err e) }
 {
     let (value, rest) = read?;
     ended(c, rest)?;
@@ -97,7 +98,8 @@ fn whole<T: Drop>(c: Span, read: Result<(T, &[u8]), DecodeFault>) -> Result<T, D
 
 // Puts the index of the function that starts, if it was read.
 fn put_start(place: &mut Option<u32>, read: Result<u32, DecodeFault>) -> Result<(), DecodeFault>
-    ensures { MatchResult read (λ n. (result ≡ Ok tt) × (place.new ≡ Some n)) (λ e. result ≡ Err e) }
+    ensures { MatchResult read (λ n. (result ≡ Ok tt) × (place.new ≡ Some n))
+        (λ e. result ≡ Err e) }
 {
     *place = Some(read?);
     Ok(())
@@ -143,7 +145,8 @@ impl Parts {
         id: SectionId,
         bytes: &[u8],
     ) -> Result<(), DecodeFault>
-        ensures { MatchResult result (λ _. part_at c id (view_parts self.old) bytes.now ≡ Ok (view_parts self.new)) (λ e. Fails e (part_at c id (view_parts self.old) bytes.now)) }
+        ensures { MatchResult result (λ _. part_at c id (view_parts self.old) bytes.now ≡ Ok
+            (view_parts self.new)) (λ e. Fails e (part_at c id (view_parts self.old) bytes.now)) }
     {
         match id {
             SectionId::Type => fill(&mut self.types, alloc, c, bytes),
@@ -194,7 +197,8 @@ impl Progress {
         at: usize,
         bytes: &'a [u8],
     ) -> Result<&'a [u8], DecodeFault>
-        ensures { Gives (λ x. (view_progress self.now, x.now)) result (custom_at total at (view_progress self.now) bytes.now) }
+        ensures { Gives (λ x. (view_progress self.now, x.now)) result
+            (custom_at total at (view_progress self.now) bytes.now) }
     {
         let (contents, after) = frame(total, bytes)?;
         let c = Span {
@@ -213,7 +217,9 @@ impl Progress {
         id: SectionId,
         bytes: &'a [u8],
     ) -> Result<&'a [u8], DecodeFault>
-        ensures { MatchResult result (λ x. known_by total at (Some id) (view_progress self.old) bytes.now ≡ Ok (view_progress self.new, x.now)) (λ e. Fails e (known_by total at (Some id) (view_progress self.old) bytes.now)) }
+        ensures { MatchResult result (λ x. known_by total at (Some id) (view_progress self.old)
+            bytes.now ≡ Ok (view_progress self.new, x.now))
+            (λ e. Fails e (known_by total at (Some id) (view_progress self.old) bytes.now)) }
     {
         if number(id) <= self.last {
             return Err(DecodeFault::BadSection(at));
@@ -238,7 +244,9 @@ impl Progress {
         id: u8,
         bytes: &'a [u8],
     ) -> Result<&'a [u8], DecodeFault>
-        ensures { MatchResult result (λ x. section_at total (view_progress self.old) id bytes.now ≡ Ok (view_progress self.new, x.now)) (λ e. Fails e (section_at total (view_progress self.old) id bytes.now)) }
+        ensures { MatchResult result (λ x. section_at total (view_progress self.old) id bytes.now
+            ≡ Ok (view_progress self.new, x.now))
+            (λ e. Fails e (section_at total (view_progress self.old) id bytes.now)) }
     {
         let at = total.saturating_sub(bytes.len() + 1);
         if id == 0 {
@@ -270,7 +278,8 @@ fn first_index(indices: &[u32]) -> Option<(u32, &[u32])>
 }
 
 fn sections(alloc: Global, total: usize, bytes: &[u8]) -> Result<Progress, DecodeFault>
-    ensures { Gives view_progress result (sections_at total (length bytes.now) no_progress bytes.now) }
+    ensures { Gives view_progress result
+        (sections_at total (length bytes.now) no_progress bytes.now) }
 {
     let mut progress = Progress {
         last: 0,
@@ -295,7 +304,8 @@ fn sections(alloc: Global, total: usize, bytes: &[u8]) -> Result<Progress, Decod
 
 /// The functions from the indices of their types and their codes, of which there are as many.
 fn joined(alloc: Global, type_indices: Vec<u32>, codes: Vec<Code>) -> Result<Vec<Func>, AllocError>
-    ensures { IfOk result (λ v. map view_func v.items ≡ joined type_indices.items (map view_code codes.items)) }
+    ensures { IfOk result
+        (λ v. map view_func v.items ≡ joined type_indices.items (map view_code codes.items)) }
 {
     let mut funcs = Vec::new(alloc);
     let mut rest = type_indices.as_slice();

@@ -50,8 +50,8 @@ pub record HoldsWords (m : ModuleForm) : Type 0 where
 
 -- ---- limits
 
--- A module passes a limit: it has more than 16 MiB of bytes, a function with more than 50,000 locals or with more than 4,000 blocks in one another, a table of more
--- than 65,536 elements, or a memory of more than 256 pages at first.
+-- A module passes a limit: it has more than 16 MiB of bytes, a function with more than 50,000 locals or with more than 4,000 blocks in one another, a
+-- table of more than 65,536 elements, or a memory of more than 256 pages at first.
 pub data PassesALimit (m : ModuleForm) : Type 0 where
   bytes : 2 ^ 24 < module_size m → PassesALimit m
   locals : (f : FuncForm) → Contains m.funcs f → 50000 < length f.locals → PassesALimit m

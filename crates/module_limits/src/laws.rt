@@ -15,5 +15,6 @@ pub fn typed_modules_have_bytes()
 
 /// No bytes of a module are fewer than `module_size` counts, and a module that passes a limit has none.
 pub fn no_bytes_are_fewer()
-    ensures { (m : ModuleForm) (bytes : List ℕ) → IsModule bytes m → (module_size m ≤ length bytes) × (PassesALimit m → ⊥) }
+    ensures { (m : ModuleForm) (bytes : List ℕ) → IsModule bytes m → (module_size m ≤ length bytes)
+        × (PassesALimit m → ⊥) }
 {}

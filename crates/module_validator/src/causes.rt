@@ -108,7 +108,9 @@ impl<'a> Scope<'a> {
     /// What is told of the function with this body.
     pub(crate) fn name(&self, function: usize, code: &[Instr]) -> InvalidFault
         requires { depths (views code.now) ≤ 4000 }
-        ensures { result ≡ named (any_in (faulty (context_of self.now) Cause.Index) 1 (views code.now)) (any_in (faulty (context_of self.now) Cause.Align) 1 (views code.now)) function }
+        ensures { result
+            ≡ named (any_in (faulty (context_of self.now) Cause.Index) 1 (views code.now))
+            (any_in (faulty (context_of self.now) Cause.Align) 1 (views code.now)) function }
     {
         if self.has(Cause::Index, 1, code) {
             InvalidFault::BadIndex(function)

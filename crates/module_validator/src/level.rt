@@ -97,7 +97,8 @@ fn exports_ok(m: &Module, exports: &[Export]) -> bool
 
 /// Whether no two exports have one name.
 fn names_differ(alloc: alloc::Global, exports: &[Export]) -> Result<bool, AllocError>
-    ensures { IfOk result (λ b. IsTrue b ↔ AreDistinct (map (λ e. string_bytes e.name) exports.now)) }
+    ensures { IfOk result
+        (λ b. IsTrue b ↔ AreDistinct (map (λ e. string_bytes e.name) exports.now)) }
 {
     let mut seen: HashSet<&str> = HashSet::new(alloc);
     for export in exports {

@@ -86,7 +86,8 @@ fn locals_of(alloc: Global, t: &FuncType, f: &Func) -> Result<Vec<ValType>, Allo
 
 fn check_func(alloc: Global, m: &Module, f: &Func, function: usize) -> Result<(), InvalidFault>
     requires { depths (view_func f.now).body ≤ 4000 }
-    ensures { MatchResult result (λ _. FuncOk (view_module m.now) (view_func f.now)) (Untypes (view_module m.now) (view_func f.now) function) }
+    ensures { MatchResult result (λ _. FuncOk (view_module m.now) (view_func f.now))
+        (Untypes (view_module m.now) (view_func f.now) function) }
 {
     let Some(t) = typed(m, f.ty) else {
         return Err(InvalidFault::BadIndex(function));
@@ -111,7 +112,8 @@ fn check_func(alloc: Global, m: &Module, f: &Func, function: usize) -> Result<()
 fn check_funcs(alloc: Global, m: &Module, imports: usize) -> Result<(), InvalidFault>
     requires imports { imports ≡ length (view_module m.now).imports }
     requires nested { All (λ f. depths f.body ≤ 4000) (view_module m.now).funcs }
-    ensures { MatchResult result (λ _. All (FuncOk (view_module m.now)) (view_module m.now).funcs) (Refuses (view_module m.now)) }
+    ensures { MatchResult result (λ _. All (FuncOk (view_module m.now)) (view_module m.now).funcs)
+        (Refuses (view_module m.now)) }
 {
     for (index, f) in m.funcs.iter().enumerate() {
         check_func(alloc, m, f, imports + index)?;
@@ -144,7 +146,8 @@ pub fn validate(alloc: Global, m: Module) -> Result<ValidModule, (Module, Invali
     ensures valid { OnOk result (ModuleOk (view_module m)) }
     ensures handed_back { IfErr result (λ e. e.0 ≡ m) }
     ensures cause { IfErr result (λ e. Refuses (view_module m) e.1) }
-    ensures untyped { IfErr result (λ e. (e.1 ≡ InvalidFault.NoMemory) ⊎ (ModuleOk (view_module m) → ⊥)) }
+    ensures untyped { IfErr result
+        (λ e. (e.1 ≡ InvalidFault.NoMemory) ⊎ (ModuleOk (view_module m) → ⊥)) }
 {
     match check(alloc, &m) {
         Ok(()) => Ok(ValidModule { whole: m }),

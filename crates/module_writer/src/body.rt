@@ -72,7 +72,8 @@ fn block(
     kind: BlockType,
     inner: &[Instr],
 ) -> Result<(), WriteFault>
-    ensures { Puts result (within_to limit (λ e. opened_to opcode kind (instrs_to e (views inner.now))) out.old.items) out.new.items }
+    ensures { Puts result (within_to limit
+        (λ e. opened_to opcode kind (instrs_to e (views inner.now))) out.old.items) out.new.items }
 {
     if limit == 0 {
         return Err(WriteFault::TooLarge);
@@ -85,7 +86,8 @@ fn block(
 
 #[cycle(body)]
 fn otherwise(out: &mut Vec<u8>, limit: u32, other: &[Instr]) -> Result<(), WriteFault>
-    ensures { Puts result (else_to (views other.now) (instrs_to limit (views other.now)) out.old.items) out.new.items }
+    ensures { Puts result (else_to (views other.now) (instrs_to limit (views other.now))
+        out.old.items) out.new.items }
 {
     match other {
         [] => Ok(()),
@@ -104,7 +106,9 @@ fn choice(
     then: &[Instr],
     other: &[Instr],
 ) -> Result<(), WriteFault>
-    ensures { Puts result (within_to limit (λ e. opened_to 0x04 kind (λ o. and_then (instrs_to e (views then.now) o) (else_to (views other.now) (instrs_to e (views other.now))))) out.old.items) out.new.items }
+    ensures { Puts result
+        (within_to limit (λ e. opened_to 0x04 kind (λ o. and_then (instrs_to e (views then.now) o)
+        (else_to (views other.now) (instrs_to e (views other.now))))) out.old.items) out.new.items }
 {
     if limit == 0 {
         return Err(WriteFault::TooLarge);

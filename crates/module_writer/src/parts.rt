@@ -26,7 +26,8 @@ fn func_type(out: &mut Vec<u8>, t: &FuncType) -> Result<(), WriteFault>
 
 /// The contents of a type section.
 pub(crate) fn func_types(out: &mut Vec<u8>, all: &[FuncType]) -> Result<(), WriteFault>
-    ensures { Puts result (vec_to func_type_to (map signature_of all.now) out.old.items) out.new.items }
+    ensures { Puts result (vec_to func_type_to (map signature_of all.now) out.old.items)
+        out.new.items }
 {
     count(out, all.len())?;
     for t in all {
@@ -57,7 +58,8 @@ pub(crate) fn imports(out: &mut Vec<u8>, all: &[Import]) -> Result<(), WriteFaul
 
 /// The contents of a function section.
 pub(crate) fn type_indices(out: &mut Vec<u8>, all: &[Func]) -> Result<(), WriteFault>
-    ensures { Puts result (vec_to type_index_to (map view_func all.now) out.old.items) out.new.items }
+    ensures { Puts result (vec_to type_index_to (map view_func all.now) out.old.items)
+        out.new.items }
 {
     count(out, all.len())?;
     for f in all {
@@ -236,7 +238,8 @@ fn runs(alloc: alloc::Global, locals: &[ValType]) -> Result<Vec<(u32, ValType)>,
 }
 
 fn push_runs(out: &mut Vec<u8>, all: &[(u32, ValType)]) -> Result<(), WriteFault>
-    ensures { Puts result (vec_to (both_to index_to val_type_to) all.now out.old.items) out.new.items }
+    ensures { Puts result (vec_to (both_to index_to val_type_to) all.now out.old.items)
+        out.new.items }
 {
     count(out, all.len())?;
     for (n, t) in all {

@@ -46,7 +46,8 @@ fn section(out: &mut Vec<u8>, id: SectionId, contents: &[u8]) -> Result<(), Writ
 }
 
 fn type_section(alloc: alloc::Global, out: &mut Vec<u8>, all: &[FuncType]) -> Result<(), WriteFault>
-    ensures { Puts result (vec_section_to section.Type func_type_to (map signature_of all.now) out.old.items) out.new.items }
+    ensures { Puts result (vec_section_to section.Type func_type_to (map signature_of all.now)
+        out.old.items) out.new.items }
 {
     match all {
         [] => Ok(()),
@@ -59,7 +60,8 @@ fn type_section(alloc: alloc::Global, out: &mut Vec<u8>, all: &[FuncType]) -> Re
 }
 
 fn import_section(alloc: alloc::Global, out: &mut Vec<u8>, all: &[Import]) -> Result<(), WriteFault>
-    ensures { Puts result (vec_section_to section.Import import_to (map view_import all.now) out.old.items) out.new.items }
+    ensures { Puts result (vec_section_to section.Import import_to (map view_import all.now)
+        out.old.items) out.new.items }
 {
     match all {
         [] => Ok(()),
@@ -72,7 +74,8 @@ fn import_section(alloc: alloc::Global, out: &mut Vec<u8>, all: &[Import]) -> Re
 }
 
 fn function_section(alloc: alloc::Global, out: &mut Vec<u8>, all: &[Func]) -> Result<(), WriteFault>
-    ensures { Puts result (vec_section_to section.Function type_index_to (map view_func all.now) out.old.items) out.new.items }
+    ensures { Puts result (vec_section_to section.Function type_index_to (map view_func all.now)
+        out.old.items) out.new.items }
 {
     match all {
         [] => Ok(()),
@@ -113,7 +116,8 @@ fn memory_section(alloc: alloc::Global, out: &mut Vec<u8>, all: &[Limits]) -> Re
 }
 
 fn global_section(alloc: alloc::Global, out: &mut Vec<u8>, all: &[Global]) -> Result<(), WriteFault>
-    ensures { Puts result (vec_section_to section.Global global_to (map view_global all.now) out.old.items) out.new.items }
+    ensures { Puts result (vec_section_to section.Global global_to (map view_global all.now)
+        out.old.items) out.new.items }
 {
     match all {
         [] => Ok(()),
@@ -126,7 +130,8 @@ fn global_section(alloc: alloc::Global, out: &mut Vec<u8>, all: &[Global]) -> Re
 }
 
 fn export_section(alloc: alloc::Global, out: &mut Vec<u8>, all: &[Export]) -> Result<(), WriteFault>
-    ensures { Puts result (vec_section_to section.Export export_to (map view_export all.now) out.old.items) out.new.items }
+    ensures { Puts result (vec_section_to section.Export export_to (map view_export all.now)
+        out.old.items) out.new.items }
 {
     match all {
         [] => Ok(()),
@@ -156,7 +161,8 @@ fn start_section(
 }
 
 fn element_section(alloc: alloc::Global, out: &mut Vec<u8>, all: &[Elem]) -> Result<(), WriteFault>
-    ensures { Puts result (vec_section_to section.Element elem_to (map view_elem all.now) out.old.items) out.new.items }
+    ensures { Puts result (vec_section_to section.Element elem_to (map view_elem all.now)
+        out.old.items) out.new.items }
 {
     match all {
         [] => Ok(()),
@@ -169,7 +175,8 @@ fn element_section(alloc: alloc::Global, out: &mut Vec<u8>, all: &[Elem]) -> Res
 }
 
 fn code_section(alloc: alloc::Global, out: &mut Vec<u8>, all: &[Func]) -> Result<(), WriteFault>
-    ensures { Puts result (vec_section_to section.Code code_to (map view_func all.now) out.old.items) out.new.items }
+    ensures { Puts result
+        (vec_section_to section.Code code_to (map view_func all.now) out.old.items) out.new.items }
 {
     match all {
         [] => Ok(()),
@@ -182,7 +189,8 @@ fn code_section(alloc: alloc::Global, out: &mut Vec<u8>, all: &[Func]) -> Result
 }
 
 fn data_section(alloc: alloc::Global, out: &mut Vec<u8>, all: &[Data]) -> Result<(), WriteFault>
-    ensures { Puts result (vec_section_to section.Data data_to (map view_data all.now) out.old.items) out.new.items }
+    ensures { Puts result
+        (vec_section_to section.Data data_to (map view_data all.now) out.old.items) out.new.items }
 {
     match all {
         [] => Ok(()),
@@ -217,8 +225,10 @@ fn sections(alloc: alloc::Global, out: &mut Vec<u8>, m: &Module) -> Result<(), W
 /// more than 50,000 locals in a function, more than 256 pages or more than 65,536 table elements at first. `NoMemory` where there was no memory.
 pub fn write(alloc: alloc::Global, m: &Module) -> Result<Vec<u8>, WriteFault>
     ensures spelled { IfOk result (λ v. IsModule v.items (view_module m.now)) }
-    ensures shortest { IfOk result (λ v. (other : List ℕ) → IsModule other (view_module m.now) → length v.items ≤ length other) }
-    ensures refused { IfErr result (λ e. e ≡ TooLarge → (bytes : List ℕ) → IsModule bytes (view_module m.now) → ⊥) }
+    ensures shortest { IfOk result (λ v. (other : List ℕ) → IsModule other (view_module m.now)
+        → length v.items ≤ length other) }
+    ensures refused { IfErr result
+        (λ e. e ≡ TooLarge → (bytes : List ℕ) → IsModule bytes (view_module m.now) → ⊥) }
 {
     write_module(alloc, m)
 }

@@ -9,8 +9,8 @@ use Rattle.wasm_model.specs.Machines.{Asks, Ends, Goes, Turn, agree}
 use Rattle.wasm_model.proofs.Linking.{missing_at, number_is}
 use Rattle.wasm_model.proofs.Types.{agree_is}
 use Rattle.host_step.specs.HostLaws.{host_found}
-use Rattle.host_step.specs.Imports.{host_finds, import_at, type_if_there}
-use Rattle.host_step.specs.declared.import.Import.{Import}
+use Rattle.host_imports.specs.Imports.{host_finds, import_at, type_if_there}
+use Rattle.host_imports.specs.declared.import.Import.{Import}
 use Rattle.run_imports.specs.Calls.{AreImportsOf, AsksAmong, IsAmong, IsImportOf}
 use Rattle.run_imports.proofs.Turns.{AsksOneOf}
 

@@ -16,10 +16,10 @@ use Rattle.world_core.specs.WorldState.{Action}
 use Rattle.host_step.specs.Arguments.{and_then, decode}
 use Rattle.host_step.specs.HostState.{HostState, Names}
 use Rattle.host_step.specs.HostStep.{Acts, Comes, Goes, Refuses, Settles, StepBy, StepOf, Traps, acts, carried, come, comes, is_freed, only_answers, primitive_acts, refuses, where_fit}
-use Rattle.host_step.specs.Imports.{import_answer, import_arguments, spends}
-use Rattle.host_step.specs.declared.import.Import.{Import}
-use Rattle.host_step.specs.declared.import.Import.TheVariants.{Arg, Drop, FreeArray, IterFree, Of, Over}
-use Rattle.host_step.specs.declared.import.Listing.TheVariants.{Print, Printf, Sprintf}
+use Rattle.host_imports.specs.Imports.{import_answer, import_arguments, spends}
+use Rattle.host_imports.specs.declared.import.Import.{Import}
+use Rattle.host_imports.specs.declared.import.Import.TheVariants.{Arg, Drop, FreeArray, IterFree, Of, Over}
+use Rattle.host_imports.specs.declared.import.Listing.TheVariants.{Print, Printf, Sprintf}
 use Rattle.run_imports.specs.Powers.{writes}
 
 settles_none : {A : Type 0} (state : Shared) (r : Result (Inner × A) Fault) → (settles state r).added ≡ []

@@ -19,8 +19,8 @@ use Rattle.wasm_model.specs.declared.host.HostAnswer.{HostAnswer}
 use Rattle.world_core.specs.WorldState.{Action}
 use Rattle.host_step.specs.HostState.{HostState}
 use Rattle.host_step.specs.HostStep.{HostStep, StepIf}
-use Rattle.host_step.specs.Imports.{host_finds}
-use Rattle.host_step.specs.declared.import.Import.{Import}
+use Rattle.host_imports.specs.Imports.{host_finds}
+use Rattle.host_imports.specs.declared.import.Import.{Import}
 use Rattle.run_imports.specs.Calls.{AreImportsOf, AsksOnly, HasImports, IsAmong, IsSilent, IsTyped, IsUnlisted, Lists, step_meaning}
 use Rattle.run_imports.specs.Powers.{writes, writes_of}
 use Rattle.run_imports.specs.declared.imports.Unlisted.{Unlisted}

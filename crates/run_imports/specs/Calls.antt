@@ -19,8 +19,8 @@ use Rattle.wasm_model.specs.declared.ends.RunEnd.{RunEnd}
 use Rattle.world_core.specs.WorldState.{Action}
 use Rattle.host_step.specs.HostState.{HostState}
 use Rattle.host_step.specs.HostStep.{HostStep}
-use Rattle.host_step.specs.Imports.{host_finds, import_at}
-use Rattle.host_step.specs.declared.import.Import.{Import}
+use Rattle.host_imports.specs.Imports.{host_finds, import_at}
+use Rattle.host_imports.specs.declared.import.Import.{Import}
 use Rattle.run_imports.specs.declared.imports.Unlisted.{Unlisted}
 use Rattle.run_imports.specs.declared.imports.Unlisted.TheVariants.{Decode, Invalid, BadImport, NoMemory}
 

@@ -1,9 +1,9 @@
 -- What imports tell, computed: of a module that sums a column, of one that names a file, of one that sets an element.
 use Rattle.std.specs.Prelude.{◌≡◌, List, [], ◌∷◌, refl}
 use Rattle.sem_primitives.specs.declared.table.Primitive.TheVariants as row
-use Rattle.host_step.specs.declared.import.Import.{Import}
-use Rattle.host_step.specs.declared.import.Import.TheVariants.{Arg, Of, Over}
-use Rattle.host_step.specs.declared.import.Listing.TheVariants.{Print, Sprintf}
+use Rattle.host_imports.specs.declared.import.Import.{Import}
+use Rattle.host_imports.specs.declared.import.Import.TheVariants.{Arg, Of, Over}
+use Rattle.host_imports.specs.declared.import.Listing.TheVariants.{Print, Sprintf}
 use Rattle.run_imports.specs.Powers.{reads_of, writes_of}
 use Rattle.run_imports.specs.declared.powers.Reads.TheVariants as reading
 use Rattle.run_imports.specs.declared.powers.Writes.TheVariants as writing

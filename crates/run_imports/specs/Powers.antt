@@ -3,9 +3,9 @@ use Rattle.std.specs.Prelude.{Bool, true, false, List, if◌then◌else◌}
 use Rattle.std.specs.List.{list_any}
 use Rattle.sem_primitives.specs.declared.table.Primitive.TheVariants as row
 use Rattle.host_step.specs.Worlds.{reads_main}
-use Rattle.host_step.specs.declared.import.Import.{Import}
-use Rattle.host_step.specs.declared.import.Import.TheVariants.{Of, Over}
-use Rattle.host_step.specs.declared.import.Listing.TheVariants.{Print, Printf}
+use Rattle.host_imports.specs.declared.import.Import.{Import}
+use Rattle.host_imports.specs.declared.import.Import.TheVariants.{Of, Over}
+use Rattle.host_imports.specs.declared.import.Listing.TheVariants.{Print, Printf}
 use Rattle.run_imports.specs.declared.powers.Reads.{Reads}
 use Rattle.run_imports.specs.declared.powers.Reads.TheVariants as reading
 use Rattle.run_imports.specs.declared.powers.Writes.{Writes}

@@ -1,6 +1,6 @@
 //! The imports of a module.
 ghost use Rattle.std.specs.Prelude.{◌≡◌, IfErr, IfOk, MatchOption, None, Some, map};
-ghost use Rattle.host_step.specs.Imports.{host_finds};
+ghost use Rattle.host_imports.specs.Imports.{host_finds};
 ghost use Rattle.run_imports.specs.Calls.{AsksOnly, HasImports, IsImportOf, IsSilent, IsTyped, IsUnlisted, Lists, undecoded};
 ghost use Rattle.run_imports.specs.Powers.{writes_of};
 ghost use Rattle.wasm_model.specs.Links.{number_for};
@@ -8,8 +8,8 @@ ghost use Rattle.wasm_types.specs.Typing.{typed_in};
 ghost use Rattle.wasm_types.specs.View.{signature_of, view_import, view_module};
 
 use crate::powers::Writes;
+use host_imports::Import;
 use host_links::Links;
-use host_step::Import;
 use module_decoder::{DecodeFault, decode};
 use module_validator::{InvalidFault, ValidModule, validate};
 use std::alloc::Global;
@@ -64,7 +64,8 @@ fn type_at(whole: &Module, number: u32) -> Option<&FuncType>
 
 /// The host's import that a module's is, by the names of its module and of itself, and by its type.
 fn import_for(whole: &Module, links: &Links, wanted: &ModuleImport) -> Option<Import>
-    ensures { IsImportOf result (number_for host_finds (view_module whole.now) (view_import wanted.now)) }
+    ensures { IsImportOf result
+        (number_for host_finds (view_module whole.now) (view_import wanted.now)) }
 {
     let Some((number, found)) = links.find(wanted.module.as_bytes(), wanted.name.as_bytes()) else {
         return None;

@@ -4,7 +4,7 @@ ghost use Rattle.std.specs.List.{list_any};
 ghost use Rattle.host_step.specs.Worlds.{reads_main};
 ghost use Rattle.run_imports.specs.Powers.{reads_named, reads_of, sets_elements, writes, writes_of};
 
-use host_step::{Import, Listing};
+use host_imports::{Import, Listing};
 use sem_primitives::Primitive;
 
 /// What a module may read.

@@ -84,15 +84,21 @@ abbrev pub all_topics : List Topic
 all_topics =
     Fault faults.Range ∷ Fault faults.Fraction ∷ Fault faults.DivisionByZero ∷ Fault faults.Inexact ∷ Fault faults.FieldNumber ∷ Fault faults.Format ∷
     Fault faults.BadEre ∷ Fault faults.EreTooLarge ∷ Fault faults.TextLimit ∷ Fault faults.OpenInput ∷ Fault faults.ReadFailed ∷ Fault faults.OpenOutput ∷
-    Fault faults.WriteFailed ∷ Fault faults.TooManyStreams ∷ Fault faults.NextOutside ∷ Fault faults.BadAssignment ∷ Script scripts.TooLarge ∷ Script scripts.BadByte ∷
-    Script scripts.OpenString ∷ Script scripts.OpenEre ∷ Script scripts.LeftOut ∷ Script scripts.NotWhole ∷ Script scripts.ConstantRange ∷ Script scripts.Syntax ∷
-    Script scripts.TooDeep ∷ Script scripts.Misplaced ∷ Script scripts.TooMany ∷ Script scripts.DuplicateName ∷ Script scripts.UnknownFunction ∷ Script scripts.ArgCount ∷
-    Script scripts.KindClash ∷ Module modules.BadHeader ∷ Module modules.Truncated ∷ Module modules.BadSection ∷ Module modules.BadInteger ∷ Module modules.BadOpcode ∷
+    Fault faults.WriteFailed ∷ Fault faults.TooManyStreams ∷ Fault faults.NextOutside ∷ Fault faults.BadAssignment ∷ Script scripts.TooLarge
+    ∷ Script scripts.BadByte ∷
+    Script scripts.OpenString ∷ Script scripts.OpenEre ∷ Script scripts.LeftOut ∷ Script scripts.NotWhole ∷ Script scripts.ConstantRange
+    ∷ Script scripts.Syntax ∷
+    Script scripts.TooDeep ∷ Script scripts.Misplaced ∷ Script scripts.TooMany ∷ Script scripts.DuplicateName ∷ Script scripts.UnknownFunction
+    ∷ Script scripts.ArgCount ∷
+    Script scripts.KindClash ∷ Module modules.BadHeader ∷ Module modules.Truncated ∷ Module modules.BadSection ∷ Module modules.BadInteger
+    ∷ Module modules.BadOpcode ∷
     Module modules.Float ∷ Module modules.BadIndex ∷ Module modules.BadType ∷ Module modules.BadAlign ∷ Module modules.BadModule ∷ Module modules.NoMain ∷
-    Module modules.BadImport ∷ Module modules.SegmentBounds ∷ Trap traps.Unreachable ∷ Trap traps.DivideByZero ∷ Trap traps.IntegerOverflow ∷ Trap traps.MemoryBounds ∷
+    Module modules.BadImport ∷ Module modules.SegmentBounds ∷ Trap traps.Unreachable ∷ Trap traps.DivideByZero ∷ Trap traps.IntegerOverflow
+    ∷ Trap traps.MemoryBounds ∷
     Trap traps.TableBounds ∷ Trap traps.EmptyElement ∷ Trap traps.WrongType ∷ Trap traps.BadHandle ∷ Trap traps.BadPointer ∷ Trap traps.BadArgument ∷
     End ends.OutOfSteps ∷ End ends.Exhausted ∷ End ends.NoMemory ∷ File files.CannotRead ∷ File files.CannotWrite ∷ Status statuses.Own ∷
-    Status statuses.Faulted ∷ Status statuses.Refused ∷ Status statuses.OutOfSteps ∷ Status statuses.NoMemory ∷ Status statuses.Exhausted ∷ Status statuses.Trapped ∷
+    Status statuses.Faulted ∷ Status statuses.Refused ∷ Status statuses.OutOfSteps ∷ Status statuses.NoMemory ∷ Status statuses.Exhausted
+    ∷ Status statuses.Trapped ∷
     Status statuses.Line ∷ []
 
 abbrev pub is_named : List ℕ → Topic → Bool

@@ -3,7 +3,7 @@ use Rattle.std.specs.Prelude.{◌≡◌, ◌≤◌, ◌^◌, ℕ, List, Ok, None
 use Rattle.awk_tokens.specs.Cutting.{IsTokens, Spelled}
 use Rattle.awk_parse.specs.Parsing.{IsParsed}
 use Rattle.awk_grammar.specs.Item.{Item}
-use Rattle.awk_resolve.specs.Kinds.{refusal}
+use Rattle.awk_kinds.specs.Kinds.{refusal}
 use Rattle.sem_scripts.specs.Kinds.{resolved}
 use Rattle.mid_program.specs.Mid.{Program}
 use Rattle.mid_program.specs.MidMeaning.{EndsAs}

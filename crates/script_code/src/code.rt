@@ -78,7 +78,8 @@ fn code_of_tokens(alloc: Global, tokens: &[Token<'_>]) -> Result<Mid, CompileFau
 /// [`CompileFault::NoMemory`] where memory was wanting, in place of any answer.
 #[tactic(auto, using(crate::proofs::Codes::no_tokens, crate::proofs::Codes::no_code))]
 pub fn code_of(alloc: Global, script: &[u8]) -> Result<Mid, CompileFault>
-    ensures coded { IfOk result (λ mid. HasTokens script.now (λ tokens. IsCodeOf tokens (view_mid mid))) }
+    ensures coded { IfOk result
+        (λ mid. HasTokens script.now (λ tokens. IsCodeOf tokens (view_mid mid))) }
     ensures refused { IfErr result (IsNotCoded script.now) }
 {
     if script.len() > MOST_BYTES {

@@ -1,5 +1,5 @@
 -- From the parts of a compilation to what is said of the whole.
-use Rattle.std.proofs.Common.{◌≡◌, ◌⊎◌, inl, inr, ℕ, ◌≤◌, ◌^◌, List, length, Option, Some, MatchOption, refl, ap, subst, sym}
+use Rattle.std.proofs.Common.{◌≡◌, ◌⊎◌, inl, inr, ℕ, ◌≤◌, ◌^◌, List, length, Some, Result, Ok, Err, IfErr, refl, subst, sym}
 use Rattle.std.proofs.lemmas.List.Elements.{recursion_from_All}
 use Rattle.sem_primitives.specs.Jobs.{JobForm}
 use Rattle.world_core.specs.WorldState.{Outside, Source}
@@ -10,8 +10,6 @@ use Rattle.sem_scripts.specs.ScriptRun.{resolved_run}
 use Rattle.sem_scripts.specs.Names.{Resolved}
 use Rattle.mid_program.specs.Sorted.{IsSorted}
 use Rattle.mid_program.specs.Translation.{program_of}
-use Rattle.mid_program.specs.View.{view_mid}
-use Rattle.mid_program.specs.declared.program.Mid.{Mid}
 use Rattle.wasm_types.specs.ModuleGrammar.{IsModule}
 use Rattle.wasm_types.specs.Typing.{ModuleOk}
 use Rattle.wasm_model.specs.Links.{SegmentsFit, main_of}
@@ -27,8 +25,10 @@ use Rattle.agree_places.proofs.Parameters.{few_parameters}
 use Rattle.agree_places.proofs.Spelled.{spelled_small}
 use Rattle.lower_model.specs.Functions.{texts_of}
 use Rattle.lower_model.specs.Places.{memory_of}
-use Rattle.lower_expressions.specs.Spans.{IsSmall}
-use Rattle.lower_expressions.specs.declared.tables.Tables.{Tables}
+use Rattle.lower_layout.specs.declared.fault.LowerFault.{LowerFault}
+use Rattle.lower_layout.specs.declared.fault.LowerFault.TheVariants.{TooLarge as Large}
+use Rattle.lower_modules.specs.Limits.{IsTooLarge}
+use Rattle.lowering.specs.Limits.{AreSmallEnough}
 use Rattle.mid_number_names.specs.Unboxed.{UnboxesNumbers}
 use Rattle.module_limits.specs.Size.{module_size}
 use Rattle.agree_sizes.specs.Past.{IsPast}
@@ -37,18 +37,14 @@ use Rattle.script_code.specs.Refusals.{IsNotCoded}
 use Rattle.script_code.specs.declared.fault.CompileFault.{CompileFault}
 use Rattle.script_code.specs.declared.fault.CompileFault.TheVariants.{TooLarge, Token, Parse, Ere, Resolve, NoMemory}
 use Rattle.script_compiler.specs.Compiled.{HasPlaces, IsCompiled, IsQuiet, IsQuietByWords, KeepsNothing}
-use Rattle.script_compiler.specs.Refusals.{HasNoBytes, IsNotCompiled, IsPastLimits}
+use Rattle.script_compiler.specs.Refusals.{HasNoBytes, IsNotCompiled, IsPastCounts, IsPastLimits}
 use Rattle.script_compiler.proofs.Operands.{few_operands}
 use Rattle.script_compiler.proofs.Limits.{Few, FewParameters, ReadsItsItems, few, no_module, reads}
 
--- tables are of the code that they were made of
-pub program_same : (mid : Mid) (tables : Tables) (made : Option Tables) → made ≡ Some tables → MatchOption made (IsSmall (view_mid mid) → ⊥) (λ t. t.program.now ≡ mid) →
-    tables.program.now ≡ mid
-program_same mid tables made is h = subst (λ (o : Option Tables). MatchOption o (IsSmall (view_mid mid) → ⊥) (λ t. t.program.now ≡ mid)) is h
-
-pub module_same : (mid : Mid) (tables : Tables) (made : Option Tables) → made ≡ Some tables → MatchOption made (IsSmall (view_mid mid) → ⊥) (λ t. t.program.now ≡ mid) →
-    module_of (view_mid tables.program.now) ≡ module_of (view_mid mid)
-module_same mid tables made is h = ap (λ (m : Mid). module_of (view_mid m)) (program_same mid tables made is h)
+-- what the functions and the module are refused for is past what the compiler counts
+pub past_counts : {A : Type 0} (r : Result A LowerFault) (p : Program) → IfErr r (λ e. e ≡ Large → AreSmallEnough p → IsTooLarge p) → IfErr r (λ e. e ≡ Large → IsPastCounts p)
+past_counts (Ok x) p h = tt
+past_counts (Err e) p h = λ large small. h large
 
 -- texts of a module that has bytes are small
 pub texts_small : (p : Program) (v : List ℕ) → IsModule v (module_of p) → FewParameters p.routines → length (memory_of (texts_of p)) ≤ 2 ^ 32

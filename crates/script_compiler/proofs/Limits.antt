@@ -20,9 +20,9 @@ use Rattle.lower_model.specs.Machine.{Callee}
 use Rattle.lower_model.specs.Modules.{all_callees, module_of}
 use Rattle.agree_places.proofs.Spelled.{IsLimited, spelled_limited}
 use Rattle.lower_needs.proofs.Nested.{begin_labelled, end_labelled, items_labelled, routine_labelled}
-use Rattle.lower_expressions.specs.Spans.{IsSmall}
+use Rattle.lower_layout.specs.Spans.{IsSmall}
 use Rattle.lower_modules.specs.Limits.{IsTooLarge}
-use Rattle.lower_statements.specs.Limits.{AreSmallEnough, IsShallow, RoutineIsSmall}
+use Rattle.lowering.specs.Limits.{AreSmallEnough, IsShallow, RoutineIsSmall}
 use Rattle.script_code.specs.Coded.{IsCodeOf, unboxed}
 
 -- Folding and lanes leave a function as many parameters.

@@ -1,5 +1,5 @@
 -- Computing constant parts and unboxing names leaves the operands under each call as few as they were.
-use Rattle.std.proofs.Common.{◌≡◌, ℕ, zero, suc, List, [], ◌∷◌, ◌++◌, map, Option, Some, None, sym, subst}
+use Rattle.std.proofs.Common.{◌≡◌, ℕ, zero, suc, List, [], ◌∷◌, map, Option, Some, None, sym, subst}
 use Rattle.sem_primitives.specs.Numbers.{Number as AnyNumber}
 use Rattle.wasm_model.specs.Machines.{Conf}
 use Rattle.host_step.specs.HostState.{HostState}

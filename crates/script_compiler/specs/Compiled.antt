@@ -18,7 +18,7 @@ use Rattle.wasm_model.specs.Runs.{MachineForm}
 use Rattle.wasm_model.specs.declared.ends.End.TheVariants as ends
 use Rattle.wasm_store.specs.declared.word.Word.TheVariants.{I32}
 use Rattle.host_step.specs.HostState.{HostState}
-use Rattle.host_step.specs.Imports.{host_finds}
+use Rattle.host_imports.specs.Imports.{host_finds}
 use Rattle.lower_model.specs.Boundaries.{nops_in, steps_places}
 use Rattle.lower_model.specs.Functions.{main_callee, routine_callee}
 use Rattle.lower_model.specs.Modules.{module_of}
@@ -47,40 +47,46 @@ pub record Links (m : ModuleForm) : Type 0 where
   pub main_is : main_of m ≡ Some main
   pub segments : SegmentsFit m
 
--- A module keeps nothing: where a statement begins, and where `main` has returned, names, parameters, loops over keys and callers that wait hold what is alive in the host. The code is the
--- script's: it says which names and functions there are, and of what kinds.
+-- A module keeps nothing: where a statement begins, and where `main` has returned, names, parameters, loops over keys and callers that wait hold what
+-- is alive in the host. The code is the script's: it says which names and functions there are, and of what kinds.
 pub record KeepsNothing (code : Program) (m : ModuleForm) : Type 0 where
   pub statement : (job : JobForm) (input : Source) (outside : Outside) (a : MachineForm) (c : Conf) (s : HostState)
       → Reached m job input outside a c s → begins_statement c.frame.code ≡ true → AtStatement code c s
   pub returned : (job : JobForm) (input : Source) (outside : Outside) (a : MachineForm) (c : Conf) (s : HostState)
       → Reached m job input outside a c s → (n : ℕ) → turn a.program c ≡ Ends (ends.Returned (Some (I32 n))) → AtReturn code c s
 
--- A module is quiet on numbers. Where a run stands at a statement `name = Expr` of the script, with number constants, names, groups, `+`, `-` and `*` in Expr, and each name is unboxed and none of
--- those to which the command line has assigned in this run, it calls no import up to the next statement of the block, or to the fault.
+-- A module is quiet on numbers. Where a run stands at a statement `name = Expr` of the script, with number constants, names, groups, `+`, `-` and `*`
+-- in Expr, and each name is unboxed and none of those to which the command line has assigned in this run, it calls no import up to the next statement
+-- of the block, or to the fault.
 abbrev pub IsQuiet : Program → ModuleForm → Type 0
 IsQuiet code m = (job : JobForm) (input : Source) (outside : Outside) (a : MachineForm) (c : Conf) (s : HostState)
     → (reached : Reached m job input outside a c s) → (here : AtStatement code c s) → (on : AtNumeric code c s here (IsAssigned reached))
-    → Quietly a.program c (λ there. IsNext code c on.bases (Then on.next on.further) on.iterators on.out on.breaking on.continuing on.after there ⊎ AtFault code c there)
+    → Quietly a.program c (λ there. IsNext code c on.bases (Then on.next on.further) on.iterators on.out on.breaking on.continuing on.after there
+    ⊎ AtFault code c there)
 
--- The same, said of the script and the job alone. Where the script's code does not name ARGV, a statement on numbers whose names are all unboxed is so quiet in each job of which no word, a `-v` or an
--- operand, assigns to one of these names.
+-- The same, said of the script and the job alone. Where the script's code does not name ARGV, a statement on numbers whose names are all unboxed is
+-- so quiet in each job of which no word, a `-v` or an operand, assigns to one of these names.
 abbrev pub IsQuietByWords : Program → ModuleForm → Type 0
 IsQuietByWords code m = program_names code ≡ false → (job : JobForm) (input : Source) (outside : Outside) (a : MachineForm) (c : Conf) (s : HostState)
     → (reached : Reached m job input outside a c s) → (here : AtStatement code c s) → (on : AtNumeric code c s here (λ i. AssignsName code job i))
-    → Quietly a.program c (λ there. IsNext code c on.bases (Then on.next on.further) on.iterators on.out on.breaking on.continuing on.after there ⊎ AtFault code c there)
+    → Quietly a.program c (λ there. IsNext code c on.bases (Then on.next on.further) on.iterators on.out on.breaking on.continuing on.after there
+    ⊎ AtFault code c there)
 
--- Where a statement begins each caller that waits has at most as many operands pending as its function has expressions in the script, each part of one counted too; `main` as many as stand in no
--- function. So at most so many values are alive.
+-- Where a statement begins each caller that waits has at most as many operands pending as its function has expressions in the script, each part of
+-- one counted too; `main` as many as stand in no function. So at most so many values are alive.
 abbrev pub HasFewOperands : Resolved → Program → Type 0
 HasFewOperands script code = (c : Conf) (s : HostState) (here : AtStatement code c s) → FewAlive (nodes_of script) code c s here
 
--- Each step of a function's code, and of `main`, has a place of its own in the module: a `nop` with which its code begins. There are no others, but for one before the test of a `do` loop, which counts too.
+-- Each step of a function's code, and of `main`, has a place of its own in the module: a `nop` with which its code begins. There are no others, but
+-- for one before the test of a `do` loop, which counts too.
 pub record HasPlaces (code : Program) : Type 0 where
   pub functions : (r : Routine) → nops_in (routine_callee code r).body ≡ steps_places r.body
   pub main : nops_in (main_callee code).body ≡ main_places code
 
--- THE MAIN THEOREM, of a script and the bytes that it is compiled to: they are a module, which the rules type, which links with the host, which has runs, which agrees with the script in every
--- job and world, and which keeps nothing, and whose runs pass the places of statements as the script executes them. It is the module of the script's code, so that a script has one module; in this code a scalar into which the script stores numbers alone is unboxed.
+-- THE MAIN THEOREM, of a script and the bytes that it is compiled to: they are a module, which the rules type, which links with the host, which has
+-- runs, which agrees with the script in every job and world, and which keeps nothing, and whose runs pass the places of statements as the script
+-- executes them. It is the module of the script's code, so that a script has one module; in this code a scalar into which the script stores numbers
+-- alone is unboxed.
 pub record IsCompiled (bytes : List ℕ) (compiled : List ℕ) : Type 0 where
   pub short : length bytes ≤ 2 ^ 20
   pub tokens : List Spelled

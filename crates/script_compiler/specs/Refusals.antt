@@ -5,9 +5,9 @@ use Rattle.mid_program.specs.Mid.{Program}
 use Rattle.wasm_types.specs.ModuleGrammar.{IsModule}
 use Rattle.lower_model.specs.Modules.{module_of}
 use Rattle.agree_sizes.specs.Past.{IsPast}
-use Rattle.lower_expressions.specs.Spans.{IsSmall}
+use Rattle.lower_layout.specs.Spans.{IsSmall}
 use Rattle.lower_modules.specs.Limits.{IsTooLarge}
-use Rattle.lower_statements.specs.Limits.{AreSmallEnough}
+use Rattle.lowering.specs.Limits.{AreSmallEnough}
 use Rattle.script_code.specs.Coded.{HasTokens, IsCodeOf}
 use Rattle.script_code.specs.Refusals.{IsNotCoded}
 use Rattle.script_code.specs.declared.fault.CompileFault.{CompileFault}
@@ -17,8 +17,8 @@ use Rattle.script_code.specs.declared.fault.CompileFault.TheVariants.{TooLarge, 
 abbrev pub IsPastLimits : Program → Type 0
 IsPastLimits p = (bytes : List ℕ) → IsModule bytes (module_of p) → ⊥
 
--- No bytes are the module of the script's code, and why: it has more than 16 MiB of them, a function with more than 50,000 locals, or one with more than 4,000 blocks
--- in one another. Nothing else makes it too large.
+-- No bytes are the module of the script's code, and why: it has more than 16 MiB of them, a function with more than 50,000 locals, or one with more
+-- than 4,000 blocks in one another. Nothing else makes it too large.
 pub record HasLargeCode (tokens : List Spelled) : Type 0 where
   pub code : Program
   pub is_code : IsCodeOf tokens code
@@ -31,8 +31,12 @@ IsNotCompiled bytes fault = IsNotCoded bytes fault
 
 -- The rest serves contracts inside the crate.
 
--- why code has no bytes: it has too many or too long names and texts, or a function past the limits, as the compiler counts them; or no bytes are its module
+-- too many or too long names and texts, or a function past the limits, as the compiler counts them; or no bytes are its module
+abbrev pub IsPastCounts : Program → Type 0
+IsPastCounts p = IsSmall p → AreSmallEnough p → IsTooLarge p
+
+-- why code has no bytes
 abbrev pub HasNoBytes : Program → CompileFault → Type 0
-HasNoBytes p TooLarge = (IsSmall p → AreSmallEnough p → IsTooLarge p) ⊎ IsPastLimits p
+HasNoBytes p TooLarge = IsPastCounts p ⊎ IsPastLimits p
 HasNoBytes p NoMemory = Unit {0}
 HasNoBytes p _ = ⊥

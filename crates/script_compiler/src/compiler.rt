@@ -1,11 +1,12 @@
 //! From a script to a module's bytes.
-ghost use Rattle.std.specs.Prelude.{IfOk, IfErr};
+ghost use Rattle.std.specs.Prelude.{◌≡◌, IfOk, IfErr};
 ghost use Rattle.mid_program.specs.Sorted.{IsSorted};
 ghost use Rattle.mid_program.specs.View.{view_mid};
 ghost use Rattle.lower_model.specs.Modules.{module_of};
 ghost use Rattle.wasm_types.specs.ModuleGrammar.{IsModule};
+ghost use Rattle.wasm_types.specs.View.{view_module};
 ghost use Rattle.script_compiler.specs.Compiled.{IsCompiled};
-ghost use Rattle.script_compiler.specs.Refusals.{HasNoBytes, IsNotCompiled};
+ghost use Rattle.script_compiler.specs.Refusals.{HasNoBytes, IsNotCompiled, IsPastCounts};
 
 use agree_job_words::laws::quiet_by_the_job;
 use agree_modules::laws::modules_agree;
@@ -14,14 +15,25 @@ use agree_quiet::laws::statements_are_quiet;
 use agree_sizes::laws::code_has_bytes;
 use agree_spots::laws::statements_are_passed;
 use agree_typed::laws::{links, typed};
-use lower_expressions::Tables;
-use lower_modules::EmitFault;
-use lower_statements::module;
+use lower_layout::{LowerFault, layout};
+use lowering::lower;
 use mid_number_names::laws::names_of_numbers_are_unboxed;
 use mid_program::Mid;
 use module_writer::{WriteFault, write};
 use script_code::{CompileFault, code_of};
 use std::alloc::Global;
+use wasm_types::Module;
+
+/// The module of some code.
+fn lowered(alloc: Global, mid: &Mid) -> Result<Module, LowerFault>
+    requires { IsSorted (view_mid mid.now) }
+    ensures module { IfOk result (λ m. view_module m ≡ module_of (view_mid mid.now)) }
+    ensures too_large { IfErr result
+        (λ fault. fault ≡ LowerFault.TooLarge → IsPastCounts (view_mid mid.now)) }
+{
+    let layout = layout(alloc, mid)?;
+    lower(alloc, &layout)
+}
 
 /// The bytes of the module of some code.
 fn bytes_of(alloc: Global, mid: &Mid) -> Result<Vec<u8>, CompileFault>
@@ -29,15 +41,10 @@ fn bytes_of(alloc: Global, mid: &Mid) -> Result<Vec<u8>, CompileFault>
     ensures ok { IfOk result (λ v. IsModule v.items (module_of (view_mid mid.now))) }
     ensures err { IfErr result (HasNoBytes (view_mid mid.now)) }
 {
-    let tables = match Tables::new(alloc, mid) {
-        Ok(Some(tables)) => tables,
-        Ok(None) => return Err(CompileFault::TooLarge),
-        Err(_) => return Err(CompileFault::NoMemory),
-    };
-    let module = match module(alloc, &tables) {
+    let module = match lowered(alloc, mid) {
         Ok(module) => module,
-        Err(EmitFault::TooLarge) => return Err(CompileFault::TooLarge),
-        Err(EmitFault::NoMemory) => return Err(CompileFault::NoMemory),
+        Err(LowerFault::TooLarge) => return Err(CompileFault::TooLarge),
+        Err(LowerFault::NoMemory) => return Err(CompileFault::NoMemory),
     };
     match write(alloc, &module) {
         Ok(bytes) => Ok(bytes),

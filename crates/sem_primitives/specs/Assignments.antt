@@ -1,5 +1,6 @@
 -- Assignments of the command line (POSIX.1-2017 awk, "OPTIONS", -v; "OPERANDS", assignment).
 use Rattle.std.specs.Prelude.{ℕ, ◌+◌, ◌==◌, ◌||◌, ◌&&◌, not, nat_le, Bool, true, false, if◌then◌else◌, List, [], ◌∷◌, codes, length, drop, take_while, Option, Some, None, Result, Ok, Err, is_some}
+use Rattle.awk_text.specs.Bytes.{digit_zero, digit_nine, equals, upper_a, upper_z, underscore, lower_a, lower_z}
 use Rattle.awk_text.specs.Escapes.{unescaped}
 use Rattle.awk_tokens.specs.Words.{reserved_word_of}
 use Rattle.awk_values.specs.declared.fault.Fault.{Fault}
@@ -16,10 +17,10 @@ use Rattle.sem_primitives.specs.declared.constants.Special.TheVariants.{Argc, Co
 
 -- a letter or an underscore, then these and digits (POSIX.1-2017 XBD 3.235)
 abbrev pub begins_name : ℕ → Bool
-begins_name c = (nat_le 65 c && nat_le c 90) || ((nat_le 97 c && nat_le c 122) || (c == 95))
+begins_name c = (nat_le upper_a c && nat_le c upper_z) || ((nat_le lower_a c && nat_le c lower_z) || (c == underscore))
 
 abbrev pub continues_name : ℕ → Bool
-continues_name c = begins_name c || (nat_le 48 c && nat_le c 57)
+continues_name c = begins_name c || (nat_le digit_zero c && nat_le c digit_nine)
 
 abbrev pub is_name : List ℕ → Bool
 is_name [] = false
@@ -28,7 +29,7 @@ is_name (c ∷ cs) = begins_name c && is_empty (drop (length (take_while continu
 -- an operand that is an assignment: a name, `=` and a text
 abbrev pub behind_name : List ℕ → List ℕ → Option (List ℕ × List ℕ)
 behind_name name [] = None
-behind_name name (c ∷ cs) = if (c == 61) && is_name name then Some (name, cs) else None
+behind_name name (c ∷ cs) = if (c == equals) && is_name name then Some (name, cs) else None
 
 abbrev pub assignment_of : List ℕ → Option (List ℕ × List ℕ)
 assignment_of text = behind_name (take_while continues_name text) (drop (length (take_while continues_name text)) text)

@@ -1,5 +1,6 @@
 -- States for the examples, and calls one after another.
-use Rattle.std.specs.Prelude.{ℕ, T, true, List, [], nat_le, unsigned_abs, ◌^◌, Some, None, Result, Ok, Err, ℤ, pos}
+use Rattle.std.specs.Prelude.{ℕ, T, true, List, [], nat_le, unsigned_abs, Some, None, Result, Ok, Err, ℤ, pos}
+use Rattle.awk_text.specs.Number.{largest}
 use Rattle.awk_values.specs.declared.fault.Fault.{Fault}
 use Rattle.awk_values.specs.declared.value.Value.{Value}
 use Rattle.awk_values.specs.declared.value.Value.TheVariants.{Text}
@@ -16,7 +17,7 @@ use Rattle.sem_primitives.specs.declared.table.Listed.{Listed}
 use Rattle.sem_primitives.specs.declared.constants.Special.{Special}
 use Rattle.sem_primitives.specs.declared.table.Primitive.TheVariants.{GetSpecial, SetSpecial, SetField}
 
-abbrev pub number : (z : ℤ) → T (nat_le (unsigned_abs z) (2 ^ 53)) → Number
+abbrev pub number : (z : ℤ) → T (nat_le (unsigned_abs z) largest) → Number
 number z in_range = record { number = z; in_range = in_range }
 
 abbrev pub job_of : List (List ℕ) → JobForm

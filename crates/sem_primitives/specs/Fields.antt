@@ -1,5 +1,6 @@
 -- The fields of a text (POSIX.1-2017 awk, "Regular Expressions", the use of FS; "Variables and Special Variables", RS).
 use Rattle.std.specs.Prelude.{ℕ, zero, suc, ◌+◌, ◌-◌, ◌==◌, ◌||◌, ◌&&◌, not, nat_lt, Bool, true, false, if◌then◌else◌, List, [], ◌∷◌, map, length, drop, get_or, slice_range, filter, Option, Some, None, Result, Ok}
+use Rattle.awk_text.specs.Bytes.{tab, newline, space}
 use Rattle.awk_values.specs.declared.fault.Fault.{Fault}
 use Rattle.ere_syntax.specs.Tree.{Tree}
 use Rattle.sem_primitives.specs.SharedState.{◌>>=◌}
@@ -16,11 +17,11 @@ pub data Separator : Type 0 where
 -- the separator that a text means; a bad expression is one even if there is nothing to part
 abbrev pub separator_of : List ℕ → Result Separator Fault
 separator_of [] = Ok Nothing
-separator_of (c ∷ []) = Ok (if c == 32 then Blanks else Byte c)
+separator_of (c ∷ []) = Ok (if c == space then Blanks else Byte c)
 separator_of (c ∷ d ∷ rest) = expression_of (c ∷ d ∷ rest) >>= λ t. Ok (Expression t)
 
 abbrev pub is_blank : ℕ → Bool
-is_blank c = (c == 32) || ((c == 9) || (c == 10))
+is_blank c = (c == space) || ((c == tab) || (c == newline))
 
 abbrev pub behind : Bool → ℕ → List (List ℕ) → List (List ℕ)
 behind true c pieces = [] ∷ pieces
@@ -34,7 +35,7 @@ parted test (c ∷ cs) = behind (test c) c (parted test cs)
 
 -- where a separator that begins here ends: a match that is not empty, or a newline where these separate too; a match is never the shorter
 abbrev pub newline_end : Bool → List ℕ → ℕ → Option ℕ
-newline_end newlines text at = if newlines && (get_or text at 0 == 10) then Some (at + 1) else None
+newline_end newlines text at = if newlines && (get_or text at 0 == newline) then Some (at + 1) else None
 
 abbrev pub end_or_newline : Bool → List ℕ → ℕ → Option ℕ → Option ℕ
 end_or_newline newlines text at None = newline_end newlines text at
@@ -54,7 +55,7 @@ between text from (p ∷ ps) = slice_range text from p.0 ∷ between text p.1 ps
 abbrev pub pieces : Separator → Bool → List ℕ → List (List ℕ)
 pieces Blanks newlines text = filter (λ piece. not (is_empty piece)) (parted is_blank text)
 pieces Nothing newlines text = map (λ c. c ∷ []) text
-pieces (Byte b) newlines text = parted (λ c. (c == b) || (newlines && (c == 10))) text
+pieces (Byte b) newlines text = parted (λ c. (c == b) || (newlines && (c == newline))) text
 pieces (Expression t) newlines text = between text 0 (separators (λ at. end_or_newline newlines text at (longest t text at)) (length text) (length text) 0)
 
 -- an empty text has none

@@ -2,6 +2,7 @@
 use Rattle.std.specs.Prelude.{ℕ, zero, suc, ◌+◌, ◌-◌, ◌%◌, ◌^◌, ◌==◌, ◌||◌, ◌&&◌, not, nat_le, nat_lt, Bool, true, false, if◌then◌else◌, List, [], ◌∷◌, ◌++◌, length, take, drop, take_while, replicate, codes, Option, Some, None, Result, Ok, Err, ℤ, pos, negsuc, unsigned_abs, decimal}
 use Rattle.std.specs.Fmt.{digits}
 use Rattle.std.specs.Int.{w64, cast_unsigned}
+use Rattle.awk_text.specs.Bytes.{space, hash, percent, plus, minus, point, digit_zero, upper_x, lower_c, lower_d, lower_f, lower_i, lower_o, lower_s, lower_u, lower_x}
 use Rattle.awk_text.specs.Reading.{digits_at}
 use Rattle.awk_text.specs.Number.{value_after, looks_numeric_text}
 use Rattle.awk_values.specs.Values.{number_of_value, text_of_value}
@@ -38,43 +39,21 @@ pub data Piece : Type 0 where
 
 -- Reading a format.
 
-abbrev pub percent : ℕ
-percent = 37
-
-abbrev pub point : ℕ
-point = 46
-
 -- the five flags
-
-abbrev pub minus : ℕ
-minus = 45
-
-abbrev pub plus : ℕ
-plus = 43
-
-abbrev pub blank : ℕ
-blank = 32
-
-abbrev pub number_sign : ℕ
-number_sign = 35
-
-abbrev pub digit_zero : ℕ
-digit_zero = 48
-
 abbrev pub is_flag : ℕ → Bool
-is_flag c = (c == minus) || ((c == plus) || ((c == blank) || ((c == number_sign) || (c == digit_zero))))
+is_flag c = (c == minus) || ((c == plus) || ((c == space) || ((c == hash) || (c == digit_zero))))
 
 -- `d` and `i`, `o`, `u`, `x`, `X`, `f`, `s`, `c`
 abbrev pub specifier_of : ℕ → Option Specifier
 specifier_of c =
-    if (c == 100) || (c == 105) then Some Signed else
-    if c == 111 then Some Octal else
-    if c == 117 then Some Unsigned else
-    if c == 120 then Some LowerHex else
-    if c == 88 then Some UpperHex else
-    if c == 102 then Some Fixed else
-    if c == 115 then Some String else
-    if c == 99 then Some Char else None
+    if (c == lower_d) || (c == lower_i) then Some Signed else
+    if c == lower_o then Some Octal else
+    if c == lower_u then Some Unsigned else
+    if c == lower_x then Some LowerHex else
+    if c == upper_x then Some UpperHex else
+    if c == lower_f then Some Fixed else
+    if c == lower_s then Some String else
+    if c == lower_c then Some Char else None
 
 -- what the point and its digits say, and what follows them
 abbrev pub precision_at : List ℕ → Option ℕ × List ℕ
@@ -131,7 +110,7 @@ abbrev pub zeros : ℕ → List ℕ
 zeros n = replicate n digit_zero
 
 abbrev pub blanks : ℕ → List ℕ
-blanks n = replicate n blank
+blanks n = replicate n space
 
 -- zeros before a text up to a width
 abbrev pub filled : ℕ → List ℕ → List ℕ
@@ -159,7 +138,7 @@ with_precision (Some p) n digits = if (p == 0) && (n == 0) then [] else filled p
 -- a plus beats a blank
 abbrev pub sign_of : Conversion → ℤ → List ℕ
 sign_of d (negsuc n) = minus ∷ []
-sign_of d (pos n) = if has_flag plus d then plus ∷ [] else if has_flag blank d then blank ∷ [] else []
+sign_of d (pos n) = if has_flag plus d then plus ∷ [] else if has_flag space d then space ∷ [] else []
 
 abbrev pub number_text : Conversion → Option ℕ → List ℕ → List ℕ → List ℕ
 number_text d precision sign digits = padded d (zero_filled (is_zero_filled d precision) d sign digits)
@@ -169,17 +148,17 @@ integer_text d n sign digits = number_text d d.precision sign (with_precision d.
 
 -- the number sign puts a 0 before octal digits that do not begin with one
 abbrev pub octal_mark : Conversion → List ℕ → List ℕ
-octal_mark d [] = if has_flag number_sign d then digit_zero ∷ [] else []
-octal_mark d (c ∷ cs) = if has_flag number_sign d && not (c == digit_zero) then digit_zero ∷ (c ∷ cs) else c ∷ cs
+octal_mark d [] = if has_flag hash d then digit_zero ∷ [] else []
+octal_mark d (c ∷ cs) = if has_flag hash d && not (c == digit_zero) then digit_zero ∷ (c ∷ cs) else c ∷ cs
 
 -- and `0x` before a number that is not 0
 abbrev pub hex_mark : Conversion → ℕ → List ℕ → List ℕ
-hex_mark d n mark = if has_flag number_sign d && not (n == 0) then mark else []
+hex_mark d n mark = if has_flag hash d && not (n == 0) then mark else []
 
 -- a point and as many zeros as the precision says; the number sign keeps the point
 abbrev pub fraction_text : Conversion → Option ℕ → List ℕ
 fraction_text d None = point ∷ zeros 6
-fraction_text d (Some zero) = if has_flag number_sign d then point ∷ [] else []
+fraction_text d (Some zero) = if has_flag hash d then point ∷ [] else []
 fraction_text d (Some (suc p)) = point ∷ zeros (suc p)
 
 -- the first bytes of a text

@@ -345,7 +345,8 @@ unfolding digits
 twice_given_up = refl
 
 -- `-` is at its end at its second place, whatever was left of it
-pub standard_input_given_up : record_of (next_of_file (first (shared_at_start (job_of (codes "-" ∷ codes "-" ∷ codes "g" ∷ [])) (source (codes "a\nb\n") Fails) files)))
+pub standard_input_given_up : record_of (next_of_file (first (shared_at_start (job_of (codes "-" ∷ codes "-" ∷ codes "g"
+    ∷ [])) (source (codes "a\nb\n") Fails) files)))
     ≡ value.StrNum (codes "q")
 unfolding digits
 standard_input_given_up = refl

@@ -1,5 +1,6 @@
 -- What primitives on texts mean (POSIX.1-2017 awk, "String Functions").
 use Rattle.std.specs.Prelude.{ℕ, zero, suc, ◌+◌, ◌-◌, ◌==◌, ◌||◌, ◌&&◌, nat_le, Bool, true, false, if◌then◌else◌, List, [], ◌∷◌, ◌++◌, map, length, take, drop, slice_range, Option, Some, None, Result, Ok, ℤ, pos, neg_ℤ, ◌+ℤ◌, int_le, int_lt}
+use Rattle.awk_text.specs.Bytes.{upper_a, upper_z, lower_a, lower_z}
 use Rattle.awk_values.specs.Values.{text_of_value}
 use Rattle.awk_values.specs.declared.fault.Fault.{Fault}
 use Rattle.awk_values.specs.declared.value.Value.{Value}
@@ -45,10 +46,10 @@ index_row v wanted = counted (place_of (text_of_value v) (text_of_value wanted))
 
 -- ASCII letters
 abbrev pub lower : ℕ → ℕ
-lower c = if nat_le 65 c && nat_le c 90 then c + 32 else c
+lower c = if nat_le upper_a c && nat_le c upper_z then c + 32 else c
 
 abbrev pub upper : ℕ → ℕ
-upper c = if nat_le 97 c && nat_le c 122 then c - 32 else c
+upper c = if nat_le lower_a c && nat_le c lower_z then c - 32 else c
 
 abbrev pub lower_row : Value → Value
 lower_row v = Text (map lower (text_of_value v))

@@ -1,6 +1,7 @@
 -- Small words on texts, and the numbers that count in them.
 use Rattle.std.specs.Prelude.{ℕ, ◌^◌, ◌==◌, ◌&&◌, ◌||◌, nat_le, Bool, true, false, if◌then◌else◌, List, [], ◌∷◌, length, Option, Some, None, Result, Ok, Err, pos}
 use Rattle.std.specs.Cmp.Lexicographic.{pointwise}
+use Rattle.awk_text.specs.Number as numbers
 use Rattle.awk_values.specs.declared.fault.Fault.{Fault}
 use Rattle.awk_values.specs.declared.fault.Fault.TheVariants.{TextLimit}
 use Rattle.awk_values.specs.declared.value.Value.{Value}
@@ -29,7 +30,7 @@ abbrev pub limited : List ℕ → Result (List ℕ) Fault
 limited text = if nat_le (length text) (2 ^ 26) then Ok text else Err TextLimit
 
 abbrev pub largest : Number
-largest = record { number = pos (2 ^ 53); in_range = tt }
+largest = record { number = pos numbers.largest; in_range = tt }
 
 abbrev pub or_largest : Option Number → Number
 or_largest (Some n) = n

@@ -1,10 +1,11 @@
 -- A script with the kinds of its names, and what a name stands for where it is used.
-use Rattle.std.specs.Prelude.{ℕ, zero, suc, ◌+◌, Bool, true, false, ◌||◌, if◌then◌else◌, List, [], ◌∷◌, codes, Option, Some, None}
+use Rattle.std.specs.Prelude.{ℕ, zero, suc, ◌+◌, Bool, true, false, ◌||◌, if◌then◌else◌, List, [], ◌∷◌, map, codes, Option, Some, None}
 use Rattle.sem_primitives.specs.declared.constants.Special.{Special}
-use Rattle.sem_primitives.specs.declared.constants.Special.TheVariants.{Argc, Convfmt, Filename, Fnr, Fs, Nf, Nr, Ofmt, Ofs, Ors, Rlength, Rs, Rstart, Subsep}
+use Rattle.sem_primitives.specs.Assignments.{special_name}
+use Rattle.sem_primitives.specs.Constants.{specials}
 use Rattle.awk_grammar.specs.Stmt.{Stmts, NoStmt}
 use Rattle.awk_grammar.specs.Item.{Item}
-pub use Rattle.awk_resolve.specs.Kinds.{Name, same_name}
+pub use Rattle.awk_kinds.specs.Kinds.{Name, same_name}
 
 pub record Function : Type 0 where
   pub name : List ℕ
@@ -62,9 +63,7 @@ function_at (f ∷ fs) (suc i) = function_at fs i
 -- The special variables (POSIX.1-2017 awk, "Variables and Special Variables").
 
 abbrev pub special_names : List (List ℕ × Special)
-special_names =
-    (codes "ARGC", Argc) ∷ (codes "CONVFMT", Convfmt) ∷ (codes "FILENAME", Filename) ∷ (codes "FNR", Fnr) ∷ (codes "FS", Fs) ∷ (codes "NF", Nf) ∷ (codes "NR", Nr) ∷
-    (codes "OFMT", Ofmt) ∷ (codes "OFS", Ofs) ∷ (codes "ORS", Ors) ∷ (codes "RLENGTH", Rlength) ∷ (codes "RS", Rs) ∷ (codes "RSTART", Rstart) ∷ (codes "SUBSEP", Subsep) ∷ []
+special_names = map (λ s. (special_name s, s)) specials
 
 abbrev pub special_in : List (List ℕ × Special) → List ℕ → Option Special
 special_in [] x = None

@@ -50,7 +50,8 @@ at_key go (Some key) = spend >> go key
 
 unfoldable pub over_keys : ℕ → ℕ → (Value → Doing (Unit {0})) → Doing Flow → Doing Flow
 over_keys zero keys store body = does row.IterNext (keys, tt) >>= at_key (λ key. stop OutOfTurns)
-over_keys (suc n) keys store body = does row.IterNext (keys, tt) >>= at_key (λ key. store key >> body >>= λ flow. after_round flow (over_keys n keys store body))
+over_keys (suc n) keys store body = does row.IterNext (keys, tt)
+    >>= at_key (λ key. store key >> body >>= λ flow. after_round flow (over_keys n keys store body))
 
 -- the values of a print statement, with its target as the last one. Without operands it is `print $0`
 
@@ -170,4 +171,5 @@ scope_in script f = record { script = script; parameters = f.parameters }
 -- calls, at most n of which are nested; each has cost a turn
 unfoldable pub called : Resolved → ℕ → Calls
 called script zero f locals = stop OutOfTurns
-called script (suc n) f locals = entered locals (all_done (scope_in script (function_at script.functions f)) n (called script n) (function_at script.functions f).body)
+called script (suc n) f locals = entered locals (all_done (scope_in script (function_at script.functions f)) n (called script n)
+    (function_at script.functions f).body)

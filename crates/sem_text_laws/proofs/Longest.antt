@@ -6,7 +6,7 @@ use Rattle.std.proofs.lemmas.Option.{slice_get_within, slice_get-get_or, get_or_
 use Rattle.ere_syntax.specs.Tree.{Tree}
 use Rattle.ere_syntax.specs.Matches.{Matches}
 use Rattle.ere_syntax.proofs.Meaning.{matches_inside}
-use Rattle.ere_match.specs.FirstMatch.{IsFirstMatch}
+use Rattle.ere_syntax.specs.FirstMatch.{IsFirstMatch}
 use Rattle.sem_primitives.specs.FirstMatch.{longest, or_next, first_by, first_match}
 use Rattle.sem_primitives.specs.Fields.{newline_end, end_or_newline}
 use Rattle.sem_primitives.proofs.Firsts.{first_match_is}

@@ -5,7 +5,7 @@ use Rattle.std.proofs.lemmas.Bool.{cases_lt, cases_Bool, false≢true}
 use Rattle.ere_syntax.specs.Tree.{Tree}
 use Rattle.ere_syntax.specs.Matches.{Matches}
 use Rattle.ere_syntax.proofs.Meaning.{matches_inside}
-use Rattle.ere_match.specs.FirstMatch.{IsFirst, IsFirstMatch}
+use Rattle.ere_syntax.specs.FirstMatch.{IsFirst, IsFirstMatch}
 use Rattle.sem_primitives.specs.FirstMatch.{first_match}
 use Rattle.sem_primitives.specs.TextMeaning.{behind, is_empty_at, places, places_of}
 use Rattle.sem_primitives.proofs.Firsts.{first_match_is}

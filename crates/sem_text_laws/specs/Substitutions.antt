@@ -16,7 +16,8 @@ IsTaken t text former i j = Matches t text i j × (former ≡ Some i → i < j)
 -- the places of a gsub, after a former match that ends so: the leftmost match that is taken, of these the longest; then the others
 pub data ArePlaces (t : Tree) (text : List ℕ) : Option ℕ → List (ℕ × ℕ) → Type 0 where
   no_more : {former : Option ℕ} → IsNone (IsTaken t text former) (end_of former) → ArePlaces t text former []
-  next : {former : Option ℕ} {p : ℕ × ℕ} {ps : List (ℕ × ℕ)} → IsLeftmost (IsTaken t text former) (end_of former) p.0 p.1 → ArePlaces t text (Some p.1) ps → ArePlaces t text former (p ∷ ps)
+  next : {former : Option ℕ} {p : ℕ × ℕ} {ps : List (ℕ × ℕ)} → IsLeftmost (IsTaken t text former) (end_of former) p.0 p.1
+      → ArePlaces t text (Some p.1) ps → ArePlaces t text former (p ∷ ps)
 
 -- the place of a sub: the first match, if there is one
 abbrev pub IsPlace : Tree → List ℕ → List (ℕ × ℕ) → Type 0

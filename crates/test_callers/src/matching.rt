@@ -2,7 +2,7 @@
 ghost use Rattle.std.specs.Prelude.{IfOk, IfErr};
 ghost use Rattle.ere_syntax.specs.Answers.{IsRefused, IsTreeOf};
 ghost use Rattle.ere_syntax.specs.Tree.{Tree};
-ghost use Rattle.ere_match.specs.FirstMatch.{IsMatch};
+ghost use Rattle.ere_syntax.specs.FirstMatch.{IsMatch};
 
 use ere_match::{build, is_match};
 use ere_syntax::{EreFault, read_ere};
@@ -14,7 +14,8 @@ use std::alloc::Global;
 ///
 /// What [`read_ere`] says of a text that is no expression, or one past the limits; [`EreFault::NoMemory`].
 pub fn matches(alloc: Global, expression: &[u8], text: &[u8]) -> Result<bool, EreFault>
-    ensures found { IfOk result (λ found. (t : Tree) × IsTreeOf expression.now t × IsMatch t text.now found) }
+    ensures found { IfOk result
+        (λ found. (t : Tree) × IsTreeOf expression.now t × IsMatch t text.now found) }
     ensures refused { IfErr result (λ fault. IsRefused expression.now fault) }
 {
     let ere = read_ere(alloc, expression)?;

@@ -11,7 +11,7 @@ use Rattle.world_core.specs.WorldState.{Standard, Named, Open, puts}
 use Rattle.world_core.specs.declared.world.Ending.{Ending}
 use Rattle.world_core.specs.declared.world.Ending.TheVariants.{End, Fails}
 use Rattle.sem_scripts.specs.ScriptState.{spend_all}
-use Rattle.awk_resolve.specs.Kinds.{special_arrays, special_scalars}
+use Rattle.awk_kinds.specs.Kinds.{special_arrays, special_scalars}
 use Rattle.sem_scripts.specs.Meaning.{asked, value_of, values_of, key_of, place_of, passed, truncated_of, applied}
 use Rattle.sem_scripts.specs.Statements.{loop, over_keys, plain_done, done_by, all_done, called}
 use Rattle.sem_scripts.specs.Items.{items_done, begun, ended}
@@ -25,7 +25,8 @@ unfolding special_arrays special_scalars spend_all asked value_of values_of key_
 name_read_when_met = refl
 
 -- { print $1, (getline), $1, NF, NR }
-pub getline_among_operands : run_of scripts.getline_among_operands no_job (record { rest = (codes "a b\nc\n"); ending = End }) empty 40 ≡ Ended 0 (puts Standard (codes "a 1 c 1 2\n"))
+pub getline_among_operands : run_of scripts.getline_among_operands no_job (record { rest = (codes "a b\nc\n"); ending = End }) empty 40
+    ≡ Ended 0 (puts Standard (codes "a 1 c 1 2\n"))
 unfolding special_arrays special_scalars spend_all asked value_of values_of key_of place_of passed truncated_of applied loop over_keys plain_done done_by all_done called items_done begun ended first_assigned records_done numeral_at sign_at fraction_at exponent_at numerator denominator digits unescaped escaped octal keywords builtins left_out_words table sign_of
 getline_among_operands = refl
 
@@ -60,22 +61,37 @@ unfolding special_arrays special_scalars spend_all asked value_of values_of key_
 special_steps = refl
 
 -- BEGIN { while ((getline a[n++]) > 0) ; print n, a[0], (1 in a), (2 in a) }
-pub read_into_elements : run_of scripts.read_into_elements no_job (record { rest = (codes "l\nm\n"); ending = End }) empty 40 ≡ Ended 0 (puts Standard (codes "3 l 1 0\n"))
+pub read_into_elements : run_of scripts.read_into_elements no_job (record { rest = (codes "l\nm\n"); ending = End }) empty 40
+    ≡ Ended 0 (puts Standard (codes "3 l 1 0\n"))
 unfolding special_arrays special_scalars spend_all asked value_of values_of key_of place_of passed truncated_of applied loop over_keys plain_done done_by all_done called items_done begun ended first_assigned records_done numeral_at sign_at fraction_at exponent_at numerator denominator digits unescaped escaped octal keywords builtins left_out_words table sign_of
 read_into_elements = refl
 
 -- BEGIN { while ((getline $2 < "f") > 0) print NF, $0 }
-pub read_into_field : run_of scripts.read_into_field no_job no_input (with_file (codes "f") (codes "p q\nr\n") End empty) 40 ≡ Ended 0 (puts Standard (codes "2  p q\n2  r\n"))
+pub read_into_field : run_of scripts.read_into_field no_job no_input (with_file (codes "f") (codes "p q\nr\n") End empty) 40
+    ≡ Ended 0 (puts Standard (codes "2  p q\n2  r\n"))
 unfolding special_arrays special_scalars spend_all asked value_of values_of key_of place_of passed truncated_of applied loop over_keys plain_done done_by all_done called items_done begun ended first_assigned records_done numeral_at sign_at fraction_at exponent_at numerator denominator digits unescaped escaped octal keywords builtins left_out_words table sign_of
 read_into_field = refl
 
 -- BEGIN { while ((getline x) > 0) print x, v, NR; print v }
-pub assignments_among_reads : run_of scripts.assignments_among_reads (record { operands = ((codes "v=1") ∷ (codes "f") ∷ (codes "v=2") ∷ (codes "g") ∷ (codes "v=3") ∷ []); assigns = []; environment = [] }) no_input (with_file (codes "g") (codes "s\n") End (with_file (codes "f") (codes "p q\nr\n") End empty)) 40 ≡ Ended 0 (puts Standard (codes "p q 1 1\nr 1 2\ns 2 3\n3\n"))
+pub assignments_among_reads : run_of scripts.assignments_among_reads (record {
+  operands = ((codes "v=1") ∷ (codes "f") ∷ (codes "v=2") ∷ (codes "g")
+      ∷ (codes "v=3") ∷ []);
+  assigns = [];
+  environment = [];
+}) no_input
+    (with_file (codes "g") (codes "s\n") End (with_file (codes "f") (codes "p q\nr\n") End empty)) 40
+    ≡ Ended 0 (puts Standard (codes "p q 1 1\nr 1 2\ns 2 3\n3\n"))
 unfolding special_arrays special_scalars spend_all asked value_of values_of key_of place_of passed truncated_of applied loop over_keys plain_done done_by all_done called items_done begun ended first_assigned records_done numeral_at sign_at fraction_at exponent_at numerator denominator digits unescaped escaped octal keywords builtins left_out_words table sign_of
 assignments_among_reads = refl
 
 -- function f(v) { getline; return v } BEGIN { print f(4), v, $0 }
-pub assignment_in_a_call : run_of scripts.assignment_in_a_call (record { operands = ((codes "v=1") ∷ (codes "f") ∷ []); assigns = []; environment = [] }) no_input (with_file (codes "f") (codes "p q\nr\n") End empty) 40 ≡ Ended 0 (puts Standard (codes "4 1 p q\n"))
+pub assignment_in_a_call : run_of scripts.assignment_in_a_call (record {
+  operands = ((codes "v=1") ∷ (codes "f")
+      ∷ []);
+  assigns = [];
+  environment = [];
+}) no_input (with_file (codes "f") (codes "p q\nr\n") End empty) 40
+    ≡ Ended 0 (puts Standard (codes "4 1 p q\n"))
 unfolding special_arrays special_scalars spend_all asked value_of values_of key_of place_of passed truncated_of applied loop over_keys plain_done done_by all_done called items_done begun ended first_assigned records_done numeral_at sign_at fraction_at exponent_at numerator denominator digits unescaped escaped octal keywords builtins left_out_words table sign_of
 assignment_in_a_call = refl
 
@@ -100,17 +116,20 @@ unfolding special_arrays special_scalars spend_all asked value_of values_of key_
 next_in_a_pattern = refl
 
 -- function f() { next } { print } END { f() }
-pub next_in_end : run_of scripts.next_in_end no_job (record { rest = (codes "a\n"); ending = End }) empty 40 ≡ FaultedBy NextOutside (puts Standard (codes "a\n"))
+pub next_in_end : run_of scripts.next_in_end no_job (record { rest = (codes "a\n"); ending = End }) empty 40
+    ≡ FaultedBy NextOutside (puts Standard (codes "a\n"))
 unfolding special_arrays special_scalars spend_all asked value_of values_of key_of place_of passed truncated_of applied loop over_keys plain_done done_by all_done called items_done begun ended first_assigned records_done numeral_at sign_at fraction_at exponent_at numerator denominator digits unescaped escaped octal keywords builtins left_out_words table sign_of
 next_in_end = refl
 
 -- function f() { exit -257 } { print "x" f() } END { print "e"; exit; print "no" }
-pub status_below_zero : run_of scripts.status_below_zero no_job (record { rest = (codes "a\n"); ending = End }) empty 40 ≡ Ended 255 (puts Standard (codes "e\n"))
+pub status_below_zero : run_of scripts.status_below_zero no_job (record { rest = (codes "a\n"); ending = End }) empty 40
+    ≡ Ended 255 (puts Standard (codes "e\n"))
 unfolding special_arrays special_scalars spend_all asked value_of values_of key_of place_of passed truncated_of applied loop over_keys plain_done done_by all_done called items_done begun ended first_assigned records_done numeral_at sign_at fraction_at exponent_at numerator denominator digits unescaped escaped octal keywords builtins left_out_words table sign_of
 status_below_zero = refl
 
 -- BEGIN { exit 5 } { print "no" } END { print NR; exit "3x" + 300 }
-pub exit_before_records : run_of scripts.exit_before_records no_job (record { rest = (codes "a\n"); ending = End }) empty 40 ≡ Ended 47 (puts Standard (codes "0\n"))
+pub exit_before_records : run_of scripts.exit_before_records no_job (record { rest = (codes "a\n"); ending = End }) empty 40
+    ≡ Ended 47 (puts Standard (codes "0\n"))
 unfolding special_arrays special_scalars spend_all asked value_of values_of key_of place_of passed truncated_of applied loop over_keys plain_done done_by all_done called items_done begun ended first_assigned records_done numeral_at sign_at fraction_at exponent_at numerator denominator digits unescaped escaped octal keywords builtins left_out_words table sign_of
 exit_before_records = refl
 
@@ -165,157 +184,276 @@ unfolding special_arrays special_scalars spend_all asked value_of values_of key_
 keys_and_turns = refl
 
 -- { print } END { print "e" }
-pub records_and_turns : run_of scripts.records_and_turns no_job (record { rest = (codes "a\nb\n"); ending = End }) empty 1 ≡ GoesOn (puts Standard (codes "a\n"))
+pub records_and_turns : run_of scripts.records_and_turns no_job (record { rest = (codes "a\nb\n"); ending = End }) empty 1
+    ≡ GoesOn (puts Standard (codes "a\n"))
 unfolding special_arrays special_scalars spend_all asked value_of values_of key_of place_of passed truncated_of applied loop over_keys plain_done done_by all_done called items_done begun ended first_assigned records_done numeral_at sign_at fraction_at exponent_at numerator denominator digits unescaped escaped octal keywords builtins left_out_words table sign_of
 records_and_turns = refl
 
 -- { print } END { print "e" }
-pub turn_for_each_record : run_of scripts.turn_for_each_record no_job (record { rest = (codes "a\nb\n"); ending = End }) empty 2 ≡ Ended 0 (puts Standard (codes "a\nb\ne\n"))
+pub turn_for_each_record : run_of scripts.turn_for_each_record no_job (record { rest = (codes "a\nb\n"); ending = End }) empty 2
+    ≡ Ended 0 (puts Standard (codes "a\nb\ne\n"))
 unfolding special_arrays special_scalars spend_all asked value_of values_of key_of place_of passed truncated_of applied loop over_keys plain_done done_by all_done called items_done begun ended first_assigned records_done numeral_at sign_at fraction_at exponent_at numerator denominator digits unescaped escaped octal keywords builtins left_out_words table sign_of
 turn_for_each_record = refl
 
 -- BEGIN { print v }
-pub assignment_without_turns : run_of scripts.assignment_without_turns (record { operands = []; assigns = (((codes "v"), (codes "1")) ∷ []); environment = [] }) no_input empty 0 ≡ GoesOn []
+pub assignment_without_turns : run_of scripts.assignment_without_turns (record {
+  operands = [];
+  assigns = (((codes "v"), (codes "1"))
+      ∷ []);
+  environment = [];
+}) no_input empty 0 ≡ GoesOn []
 unfolding special_arrays special_scalars spend_all asked value_of values_of key_of place_of passed truncated_of applied loop over_keys plain_done done_by all_done called items_done begun ended first_assigned records_done numeral_at sign_at fraction_at exponent_at numerator denominator digits unescaped escaped octal keywords builtins left_out_words table sign_of
 assignment_without_turns = refl
 
 -- BEGIN { print "x" }
-pub special_assigned_without_turns : run_of scripts.special_assigned_without_turns (record { operands = []; assigns = (((codes "FS"), (codes ":")) ∷ []); environment = [] }) no_input empty 0 ≡ GoesOn []
+pub special_assigned_without_turns : run_of scripts.special_assigned_without_turns (record {
+  operands = [];
+  assigns = (((codes "FS"), (codes ":"))
+      ∷ []);
+  environment = [];
+}) no_input empty 0 ≡ GoesOn []
 unfolding special_arrays special_scalars spend_all asked value_of values_of key_of place_of passed truncated_of applied loop over_keys plain_done done_by all_done called items_done begun ended first_assigned records_done numeral_at sign_at fraction_at exponent_at numerator denominator digits unescaped escaped octal keywords builtins left_out_words table sign_of
 special_assigned_without_turns = refl
 
 -- BEGIN { print "x" }
-pub unused_name_without_turns : run_of scripts.unused_name_without_turns (record { operands = []; assigns = (((codes "w"), (codes "1")) ∷ []); environment = [] }) no_input empty 0 ≡ GoesOn []
+pub unused_name_without_turns : run_of scripts.unused_name_without_turns (record {
+  operands = [];
+  assigns = (((codes "w"), (codes "1"))
+      ∷ []);
+  environment = [];
+}) no_input empty 0 ≡ GoesOn []
 unfolding special_arrays special_scalars spend_all asked value_of values_of key_of place_of passed truncated_of applied loop over_keys plain_done done_by all_done called items_done begun ended first_assigned records_done numeral_at sign_at fraction_at exponent_at numerator denominator digits unescaped escaped octal keywords builtins left_out_words table sign_of
 unused_name_without_turns = refl
 
 -- BEGIN { print v FS OFS "x" }
-pub turn_for_each_assignment : run_of scripts.turn_for_each_assignment (record { operands = []; assigns = (((codes "FS"), (codes ":")) ∷ ((codes "w"), (codes "1")) ∷ ((codes "v"), (codes "1")) ∷ ((codes "OFS"), (codes ":")) ∷ []); environment = [] }) no_input empty 4 ≡ Ended 0 (puts Standard (codes "1::x\n"))
+pub turn_for_each_assignment : run_of scripts.turn_for_each_assignment (record {
+  operands = [];
+  assigns = (((codes "FS"), (codes ":"))
+      ∷ ((codes "w"), (codes "1")) ∷ ((codes "v"), (codes "1")) ∷ ((codes "OFS"), (codes ":")) ∷ []);
+  environment = [];
+}) no_input empty 4
+    ≡ Ended 0 (puts Standard (codes "1::x\n"))
 unfolding special_arrays special_scalars spend_all asked value_of values_of key_of place_of passed truncated_of applied loop over_keys plain_done done_by all_done called items_done begun ended first_assigned records_done numeral_at sign_at fraction_at exponent_at numerator denominator digits unescaped escaped octal keywords builtins left_out_words table sign_of
 turn_for_each_assignment = refl
 
 -- BEGIN { print v FS OFS "x" }
-pub too_few_turns_for_assignments : run_of scripts.too_few_turns_for_assignments (record { operands = []; assigns = (((codes "FS"), (codes ":")) ∷ ((codes "w"), (codes "1")) ∷ ((codes "v"), (codes "1")) ∷ ((codes "OFS"), (codes ":")) ∷ []); environment = [] }) no_input empty 3 ≡ GoesOn []
+pub too_few_turns_for_assignments : run_of scripts.too_few_turns_for_assignments (record {
+  operands = [];
+  assigns = (((codes "FS"), (codes ":"))
+      ∷ ((codes "w"), (codes "1")) ∷ ((codes "v"), (codes "1")) ∷ ((codes "OFS"), (codes ":")) ∷ []);
+  environment = [];
+}) no_input empty 3 ≡ GoesOn []
 unfolding special_arrays special_scalars spend_all asked value_of values_of key_of place_of passed truncated_of applied loop over_keys plain_done done_by all_done called items_done begun ended first_assigned records_done numeral_at sign_at fraction_at exponent_at numerator denominator digits unescaped escaped octal keywords builtins left_out_words table sign_of
 too_few_turns_for_assignments = refl
 
 -- BEGIN { print "x" }
-pub bad_assignment_not_reached : run_of scripts.bad_assignment_not_reached (record { operands = []; assigns = (((codes "w"), (codes "1")) ∷ ((codes "sin"), (codes "1")) ∷ []); environment = [] }) no_input empty 1 ≡ GoesOn []
+pub bad_assignment_not_reached : run_of scripts.bad_assignment_not_reached (record {
+  operands = [];
+  assigns = (((codes "w"), (codes "1"))
+      ∷ ((codes "sin"), (codes "1")) ∷ []);
+  environment = [];
+}) no_input empty 1 ≡ GoesOn []
 unfolding special_arrays special_scalars spend_all asked value_of values_of key_of place_of passed truncated_of applied loop over_keys plain_done done_by all_done called items_done begun ended first_assigned records_done numeral_at sign_at fraction_at exponent_at numerator denominator digits unescaped escaped octal keywords builtins left_out_words table sign_of
 bad_assignment_not_reached = refl
 
 -- BEGIN { print "x" }
-pub bad_assignment_reached : run_of scripts.bad_assignment_reached (record { operands = []; assigns = (((codes "w"), (codes "1")) ∷ ((codes "sin"), (codes "1")) ∷ []); environment = [] }) no_input empty 2 ≡ FaultedBy BadAssignment []
+pub bad_assignment_reached : run_of scripts.bad_assignment_reached (record {
+  operands = [];
+  assigns = (((codes "w"), (codes "1"))
+      ∷ ((codes "sin"), (codes "1")) ∷ []);
+  environment = [];
+}) no_input empty 2 ≡ FaultedBy BadAssignment []
 unfolding special_arrays special_scalars spend_all asked value_of values_of key_of place_of passed truncated_of applied loop over_keys plain_done done_by all_done called items_done begun ended first_assigned records_done numeral_at sign_at fraction_at exponent_at numerator denominator digits unescaped escaped octal keywords builtins left_out_words table sign_of
 bad_assignment_reached = refl
 
 -- BEGIN { print "b" } { print "x" }
-pub operand_without_turns : run_of scripts.operand_without_turns (record { operands = ((codes "FS=q") ∷ (codes "f") ∷ []); assigns = []; environment = [] }) no_input (with_file (codes "f") (codes "p q\nr\n") End empty) 0 ≡ GoesOn (puts Standard (codes "b\n"))
+pub operand_without_turns : run_of scripts.operand_without_turns (record {
+  operands = ((codes "FS=q") ∷ (codes "f")
+      ∷ []);
+  assigns = [];
+  environment = [];
+}) no_input (with_file (codes "f") (codes "p q\nr\n") End empty) 0 ≡ GoesOn (puts Standard (codes "b\n"))
 unfolding special_arrays special_scalars spend_all asked value_of values_of key_of place_of passed truncated_of applied loop over_keys plain_done done_by all_done called items_done begun ended first_assigned records_done numeral_at sign_at fraction_at exponent_at numerator denominator digits unescaped escaped octal keywords builtins left_out_words table sign_of
 operand_without_turns = refl
 
 -- { print $1 }
-pub turns_of_operands : run_of scripts.turns_of_operands (record { operands = ((codes "FS=:") ∷ (codes "w=1") ∷ (codes "f") ∷ []); assigns = []; environment = [] }) no_input (with_file (codes "f") (codes "p q\nr\n") End empty) 3 ≡ GoesOn (puts Standard (codes "p q\n"))
+pub turns_of_operands : run_of scripts.turns_of_operands (record {
+  operands = ((codes "FS=:") ∷ (codes "w=1") ∷ (codes "f")
+      ∷ []);
+  assigns = [];
+  environment = [];
+}) no_input (with_file (codes "f") (codes "p q\nr\n") End empty) 3 ≡ GoesOn (puts Standard (codes "p q\n"))
 unfolding special_arrays special_scalars spend_all asked value_of values_of key_of place_of passed truncated_of applied loop over_keys plain_done done_by all_done called items_done begun ended first_assigned records_done numeral_at sign_at fraction_at exponent_at numerator denominator digits unescaped escaped octal keywords builtins left_out_words table sign_of
 turns_of_operands = refl
 
 -- BEGIN { getline; print $1; getline; print $1 }
-pub turns_of_getline : run_of scripts.turns_of_getline (record { operands = ((codes "FS=:") ∷ (codes "w=1") ∷ (codes "f") ∷ (codes "RS=:") ∷ (codes "g") ∷ []); assigns = []; environment = [] }) no_input (with_file (codes "g") (codes "r\n") End (with_file (codes "f") (codes "p q\n") End empty)) 2 ≡ GoesOn (puts Standard (codes "p q\n"))
+pub turns_of_getline : run_of scripts.turns_of_getline (record {
+  operands = ((codes "FS=:") ∷ (codes "w=1") ∷ (codes "f") ∷ (codes "RS=:")
+      ∷ (codes "g") ∷ []);
+  assigns = [];
+  environment = [];
+}) no_input
+    (with_file (codes "g") (codes "r\n") End (with_file (codes "f") (codes "p q\n") End empty)) 2 ≡ GoesOn (puts Standard (codes "p q\n"))
 unfolding special_arrays special_scalars spend_all asked value_of values_of key_of place_of passed truncated_of applied loop over_keys plain_done done_by all_done called items_done begun ended first_assigned records_done numeral_at sign_at fraction_at exponent_at numerator denominator digits unescaped escaped octal keywords builtins left_out_words table sign_of
 turns_of_getline = refl
 
 -- NR==1{ARGC="1.5"}{print}
-pub argc_read_at_the_end : run_of scripts.argc_read_at_the_end no_job (record { rest = (codes "a\nb\n"); ending = End }) empty 40 ≡ Ended 0 (puts Standard (codes "a\nb\n"))
+pub argc_read_at_the_end : run_of scripts.argc_read_at_the_end no_job (record { rest = (codes "a\nb\n"); ending = End }) empty 40
+    ≡ Ended 0 (puts Standard (codes "a\nb\n"))
 unfolding special_arrays special_scalars spend_all asked value_of values_of key_of place_of passed truncated_of applied loop over_keys plain_done done_by all_done called items_done begun ended first_assigned records_done numeral_at sign_at fraction_at exponent_at numerator denominator digits unescaped escaped octal keywords builtins left_out_words table sign_of
 argc_read_at_the_end = refl
 
 -- NR==1{ARGC="1.5"}{print}
-pub argc_read_after_a_file : run_of scripts.argc_read_after_a_file (record { operands = ((codes "f") ∷ []); assigns = []; environment = [] }) no_input (with_file (codes "f") (codes "a\nb\n") End empty) 40 ≡ FaultedBy Fraction (puts Standard (codes "a\nb\n"))
+pub argc_read_after_a_file : run_of scripts.argc_read_after_a_file (record {
+  operands = ((codes "f")
+      ∷ []);
+  assigns = [];
+  environment = [];
+}) no_input (with_file (codes "f") (codes "a\nb\n") End empty) 40
+    ≡ FaultedBy Fraction (puts Standard (codes "a\nb\n"))
 unfolding special_arrays special_scalars spend_all asked value_of values_of key_of place_of passed truncated_of applied loop over_keys plain_done done_by all_done called items_done begun ended first_assigned records_done numeral_at sign_at fraction_at exponent_at numerator denominator digits unescaped escaped octal keywords builtins left_out_words table sign_of
 argc_read_after_a_file = refl
 
 -- {print}
-pub argc_hides_an_operand : run_of scripts.argc_hides_an_operand (record { operands = ((codes "ARGC=2") ∷ (codes "f") ∷ []); assigns = []; environment = [] }) (record { rest = (codes "s"); ending = End }) (with_file (codes "f") (codes "a\n") End empty) 40 ≡ Ended 0 (puts Standard (codes "s\n"))
+pub argc_hides_an_operand : run_of scripts.argc_hides_an_operand (record {
+  operands = ((codes "ARGC=2") ∷ (codes "f")
+      ∷ []);
+  assigns = [];
+  environment = [];
+}) (record { rest = (codes "s"); ending = End }) (with_file (codes "f") (codes "a\n") End empty) 40
+    ≡ Ended 0 (puts Standard (codes "s\n"))
 unfolding special_arrays special_scalars spend_all asked value_of values_of key_of place_of passed truncated_of applied loop over_keys plain_done done_by all_done called items_done begun ended first_assigned records_done numeral_at sign_at fraction_at exponent_at numerator denominator digits unescaped escaped octal keywords builtins left_out_words table sign_of
 argc_hides_an_operand = refl
 
 -- {print FILENAME,$0}
-pub argc_from_an_operand : run_of scripts.argc_from_an_operand (record { operands = ((codes "f") ∷ (codes "ARGC=3") ∷ (codes "g") ∷ []); assigns = []; environment = [] }) no_input (with_file (codes "g") (codes "b\n") End (with_file (codes "f") (codes "a\n") End empty)) 40 ≡ Ended 0 (puts Standard (codes "f a\n"))
+pub argc_from_an_operand : run_of scripts.argc_from_an_operand (record {
+  operands = ((codes "f") ∷ (codes "ARGC=3") ∷ (codes "g")
+      ∷ []);
+  assigns = [];
+  environment = [];
+}) no_input (with_file (codes "g") (codes "b\n") End (with_file (codes "f") (codes "a\n") End empty)) 40
+    ≡ Ended 0 (puts Standard (codes "f a\n"))
 unfolding special_arrays special_scalars spend_all asked value_of values_of key_of place_of passed truncated_of applied loop over_keys plain_done done_by all_done called items_done begun ended first_assigned records_done numeral_at sign_at fraction_at exponent_at numerator denominator digits unescaped escaped octal keywords builtins left_out_words table sign_of
 argc_from_an_operand = refl
 
 -- {print FILENAME "," FNR "," NR} END{print FILENAME,FNR,NR}
-pub names_and_counts : run_of scripts.names_and_counts (record { operands = ((codes "e") ∷ (codes "f") ∷ (codes "-") ∷ []); assigns = []; environment = [] }) (record { rest = (codes "s\n"); ending = End }) (with_file (codes "f") (codes "p\nq\n") End (with_file (codes "e") [] End empty)) 40 ≡ Ended 0 (puts Standard (codes "f,1,1\nf,2,2\n-,1,3\n- 1 3\n"))
+pub names_and_counts : run_of scripts.names_and_counts (record {
+  operands = ((codes "e") ∷ (codes "f") ∷ (codes "-")
+      ∷ []);
+  assigns = [];
+  environment = [];
+}) (record { rest = (codes "s\n"); ending = End })
+    (with_file (codes "f") (codes "p\nq\n") End (with_file (codes "e") [] End empty)) 40
+    ≡ Ended 0 (puts Standard (codes "f,1,1\nf,2,2\n-,1,3\n- 1 3\n"))
 unfolding special_arrays special_scalars spend_all asked value_of values_of key_of place_of passed truncated_of applied loop over_keys plain_done done_by all_done called items_done begun ended first_assigned records_done numeral_at sign_at fraction_at exponent_at numerator denominator digits unescaped escaped octal keywords builtins left_out_words table sign_of
 names_and_counts = refl
 
 -- BEGIN{print (getline),(getline x),x,(getline),NR}
-pub absent_file_passed_over : run_of scripts.absent_file_passed_over (record { operands = ((codes "h") ∷ (codes "f") ∷ []); assigns = []; environment = [] }) no_input (with_file (codes "f") (codes "c\n") End empty) 40 ≡ Ended 0 (puts Standard (codes "-1 1 c 0 1\n"))
+pub absent_file_passed_over : run_of scripts.absent_file_passed_over (record {
+  operands = ((codes "h") ∷ (codes "f")
+      ∷ []);
+  assigns = [];
+  environment = [];
+}) no_input (with_file (codes "f") (codes "c\n") End empty) 40
+    ≡ Ended 0 (puts Standard (codes "-1 1 c 0 1\n"))
 unfolding special_arrays special_scalars spend_all asked value_of values_of key_of place_of passed truncated_of applied loop over_keys plain_done done_by all_done called items_done begun ended first_assigned records_done numeral_at sign_at fraction_at exponent_at numerator denominator digits unescaped escaped octal keywords builtins left_out_words table sign_of
 absent_file_passed_over = refl
 
 -- BEGIN{print (getline),(getline),(getline) $0}{print "no"}
-pub failing_main_input : run_of scripts.failing_main_input (record { operands = ((codes "g") ∷ (codes "f") ∷ []); assigns = []; environment = [] }) no_input (with_file (codes "f") (codes "c\n") End (with_file (codes "g") (codes "a\nb") Fails empty)) 40 ≡ FaultedBy ReadFailed (puts Standard (codes "1 -1 -1a\n"))
+pub failing_main_input : run_of scripts.failing_main_input (record {
+  operands = ((codes "g") ∷ (codes "f")
+      ∷ []);
+  assigns = [];
+  environment = [];
+}) no_input (with_file (codes "f") (codes "c\n") End (with_file (codes "g") (codes "a\nb") Fails empty)) 40
+    ≡ FaultedBy ReadFailed (puts Standard (codes "1 -1 -1a\n"))
 unfolding special_arrays special_scalars spend_all asked value_of values_of key_of place_of passed truncated_of applied loop over_keys plain_done done_by all_done called items_done begun ended first_assigned records_done numeral_at sign_at fraction_at exponent_at numerator denominator digits unescaped escaped octal keywords builtins left_out_words table sign_of
 failing_main_input = refl
 
 -- {print $1,NF}
-pub specials_among_operands : run_of scripts.specials_among_operands (record { operands = ((codes "FS=,") ∷ (codes "f") ∷ (codes "NF=2") ∷ (codes "RS=") ∷ (codes "g") ∷ []); assigns = []; environment = [] }) no_input (with_file (codes "g") (codes "c\nd,e\n\nf") End (with_file (codes "f") (codes "a,b\n") End empty)) 40 ≡ Ended 0 (puts Standard (codes "a 2\nc 3\nf 1\n"))
+pub specials_among_operands : run_of scripts.specials_among_operands (record {
+  operands = ((codes "FS=,") ∷ (codes "f") ∷ (codes "NF=2")
+      ∷ (codes "RS=") ∷ (codes "g") ∷ []);
+  assigns = [];
+  environment = [];
+}) no_input
+    (with_file (codes "g") (codes "c\nd,e\n\nf") End (with_file (codes "f") (codes "a,b\n") End empty)) 40
+    ≡ Ended 0 (puts Standard (codes "a 2\nc 3\nf 1\n"))
 unfolding special_arrays special_scalars spend_all asked value_of values_of key_of place_of passed truncated_of applied loop over_keys plain_done done_by all_done called items_done begun ended first_assigned records_done numeral_at sign_at fraction_at exponent_at numerator denominator digits unescaped escaped octal keywords builtins left_out_words table sign_of
 specials_among_operands = refl
 
 -- BEGIN{NR="7x";FNR=100}{print NR,FNR}
-pub counts_assigned : run_of scripts.counts_assigned no_job (record { rest = (codes "a\nb\n"); ending = End }) empty 40 ≡ Ended 0 (puts Standard (codes "8 1\n9 2\n"))
+pub counts_assigned : run_of scripts.counts_assigned no_job (record { rest = (codes "a\nb\n"); ending = End }) empty 40
+    ≡ Ended 0 (puts Standard (codes "8 1\n9 2\n"))
 unfolding special_arrays special_scalars spend_all asked value_of values_of key_of place_of passed truncated_of applied loop over_keys plain_done done_by all_done called items_done begun ended first_assigned records_done numeral_at sign_at fraction_at exponent_at numerator denominator digits unescaped escaped octal keywords builtins left_out_words table sign_of
 counts_assigned = refl
 
 -- BEGIN{while((getline x)>0)print x;ARGV[2]="f";ARGC=3;print getline}{print "no"}
-pub input_stays_ended : run_of scripts.input_stays_ended (record { operands = ((codes "-") ∷ []); assigns = []; environment = [] }) (record { rest = (codes "s"); ending = End }) (with_file (codes "f") (codes "a\n") End empty) 40 ≡ Ended 0 (puts Standard (codes "s\n0\n"))
+pub input_stays_ended : run_of scripts.input_stays_ended (record {
+  operands = ((codes "-")
+      ∷ []);
+  assigns = [];
+  environment = [];
+}) (record { rest = (codes "s"); ending = End }) (with_file (codes "f") (codes "a\n") End empty) 40
+    ≡ Ended 0 (puts Standard (codes "s\n0\n"))
 unfolding special_arrays special_scalars spend_all asked value_of values_of key_of place_of passed truncated_of applied loop over_keys plain_done done_by all_done called items_done begun ended first_assigned records_done numeral_at sign_at fraction_at exponent_at numerator denominator digits unescaped escaped octal keywords builtins left_out_words table sign_of
 input_stays_ended = refl
 
 -- BEGIN{ARGV[1]=5}{print FILENAME,FILENAME==5}
-pub operand_from_a_number : run_of scripts.operand_from_a_number (record { operands = ((codes "x") ∷ []); assigns = []; environment = [] }) no_input (with_file (codes "5") (codes "a\n") End empty) 40 ≡ Ended 0 (puts Standard (codes "5 1\n"))
+pub operand_from_a_number : run_of scripts.operand_from_a_number (record {
+  operands = ((codes "x")
+      ∷ []);
+  assigns = [];
+  environment = [];
+}) no_input (with_file (codes "5") (codes "a\n") End empty) 40 ≡ Ended 0 (puts Standard (codes "5 1\n"))
 unfolding special_arrays special_scalars spend_all asked value_of values_of key_of place_of passed truncated_of applied loop over_keys plain_done done_by all_done called items_done begun ended first_assigned records_done numeral_at sign_at fraction_at exponent_at numerator denominator digits unescaped escaped octal keywords builtins left_out_words table sign_of
 operand_from_a_number = refl
 
 -- END{$0="x y z";print NF,$2;NF=2;print;print getline,$0;print (getline<"f"),$0,NF,NR}
-pub record_kept_in_end : run_of scripts.record_kept_in_end no_job (record { rest = (codes "a b"); ending = End }) (with_file (codes "f") (codes "1 2 3\n") End empty) 40 ≡ Ended 0 (puts Standard (codes "3 y\nx y\n0 x y\n1 1 2 3 3 1\n"))
+pub record_kept_in_end : run_of scripts.record_kept_in_end no_job (record { rest = (codes "a b"); ending = End })
+    (with_file (codes "f") (codes "1 2 3\n") End empty) 40 ≡ Ended 0 (puts Standard (codes "3 y\nx y\n0 x y\n1 1 2 3 3 1\n"))
 unfolding special_arrays special_scalars spend_all asked value_of values_of key_of place_of passed truncated_of applied loop over_keys plain_done done_by all_done called items_done begun ended first_assigned records_done numeral_at sign_at fraction_at exponent_at numerator denominator digits unescaped escaped octal keywords builtins left_out_words table sign_of
 record_kept_in_end = refl
 
 -- BEGIN{RS="";print (getline<"f") $0;RS="\n";print (getline<"f") $0;print (getline<"f")}
-pub failing_after_paragraph : run_of scripts.failing_after_paragraph no_job no_input (with_file (codes "f") (codes "\n\na\nb\n\nc\n") Fails empty) 40 ≡ Ended 0 (puts Standard (codes "1a\nb\n1c\n-1\n"))
+pub failing_after_paragraph : run_of scripts.failing_after_paragraph no_job no_input (with_file (codes "f") (codes "\n\na\nb\n\nc\n") Fails empty) 40
+    ≡ Ended 0 (puts Standard (codes "1a\nb\n1c\n-1\n"))
 unfolding special_arrays special_scalars spend_all asked value_of values_of key_of place_of passed truncated_of applied loop over_keys plain_done done_by all_done called items_done begun ended first_assigned records_done numeral_at sign_at fraction_at exponent_at numerator denominator digits unescaped escaped octal keywords builtins left_out_words table sign_of
 failing_after_paragraph = refl
 
 -- BEGIN{print (getline y<"-")}
-pub hyphen_is_a_file_for_getline : run_of scripts.hyphen_is_a_file_for_getline no_job (record { rest = (codes "s"); ending = End }) empty 40 ≡ Ended 0 (puts Standard (codes "-1\n"))
+pub hyphen_is_a_file_for_getline : run_of scripts.hyphen_is_a_file_for_getline no_job (record { rest = (codes "s"); ending = End }) empty 40
+    ≡ Ended 0 (puts Standard (codes "-1\n"))
 unfolding special_arrays special_scalars spend_all asked value_of values_of key_of place_of passed truncated_of applied loop over_keys plain_done done_by all_done called items_done begun ended first_assigned records_done numeral_at sign_at fraction_at exponent_at numerator denominator digits unescaped escaped octal keywords builtins left_out_words table sign_of
 hyphen_is_a_file_for_getline = refl
 
 -- BEGIN{RS="ab"}{print}
-pub number_as_separator : run_of scripts.number_as_separator no_job (record { rest = (codes "1b2a3"); ending = End }) empty 40 ≡ Ended 0 (puts Standard (codes "1b2\n3\n"))
+pub number_as_separator : run_of scripts.number_as_separator no_job (record { rest = (codes "1b2a3"); ending = End }) empty 40
+    ≡ Ended 0 (puts Standard (codes "1b2\n3\n"))
 unfolding special_arrays special_scalars spend_all asked value_of values_of key_of place_of passed truncated_of applied loop over_keys plain_done done_by all_done called items_done begun ended first_assigned records_done numeral_at sign_at fraction_at exponent_at numerator denominator digits unescaped escaped octal keywords builtins left_out_words table sign_of
 number_as_separator = refl
 
 -- BEGIN{print (getline x<"f"),close("f"),(getline x<"f"),close("f")}
-pub failing_empty_file : run_of scripts.failing_empty_file no_job no_input (with_file (codes "f") [] Fails empty) 40 ≡ Ended 0 (puts Standard (codes "-1 0 -1 0\n"))
+pub failing_empty_file : run_of scripts.failing_empty_file no_job no_input (with_file (codes "f") [] Fails empty) 40
+    ≡ Ended 0 (puts Standard (codes "-1 0 -1 0\n"))
 unfolding special_arrays special_scalars spend_all asked value_of values_of key_of place_of passed truncated_of applied loop over_keys plain_done done_by all_done called items_done begun ended first_assigned records_done numeral_at sign_at fraction_at exponent_at numerator denominator digits unescaped escaped octal keywords builtins left_out_words table sign_of
 failing_empty_file = refl
 
 -- BEGIN{print "x">"f";getline y<"f";print y,close("f"),close("f")}
-pub written_then_read : run_of scripts.written_then_read no_job no_input empty 40 ≡ Ended 0 ((Open (codes "f") false ∷ []) ++ (puts (Named (codes "f")) (codes "x\n") ++ (puts Standard (codes "x 0 -1\n"))))
+pub written_then_read : run_of scripts.written_then_read no_job no_input empty 40
+    ≡ Ended 0 ((Open (codes "f") false ∷ []) ++ (puts (Named (codes "f")) (codes "x\n") ++ (puts Standard (codes "x 0 -1\n"))))
 unfolding special_arrays special_scalars spend_all asked value_of values_of key_of place_of passed truncated_of applied loop over_keys plain_done done_by all_done called items_done begun ended first_assigned records_done numeral_at sign_at fraction_at exponent_at numerator denominator digits unescaped escaped octal keywords builtins left_out_words table sign_of
 written_then_read = refl
 
 -- BEGIN{print "abc">>"f"}
-pub appended_past_room : run_of scripts.appended_past_room no_job no_input (with_room (codes "f") (codes "xy") 4 empty) 40 ≡ FaultedBy WriteFailed ((Open (codes "f") true ∷ []) ++ (puts (Named (codes "f")) (codes "ab")))
+pub appended_past_room : run_of scripts.appended_past_room no_job no_input (with_room (codes "f") (codes "xy") 4 empty) 40
+    ≡ FaultedBy WriteFailed ((Open (codes "f") true ∷ []) ++ (puts (Named (codes "f")) (codes "ab")))
 unfolding special_arrays special_scalars spend_all asked value_of values_of key_of place_of passed truncated_of applied loop over_keys plain_done done_by all_done called items_done begun ended first_assigned records_done numeral_at sign_at fraction_at exponent_at numerator denominator digits unescaped escaped octal keywords builtins left_out_words table sign_of
 appended_past_room = refl
 
 -- BEGIN{print "abc">"f"}
-pub emptied_then_past_room : run_of scripts.emptied_then_past_room no_job no_input (with_room (codes "f") (codes "xyzxyz") 3 empty) 40 ≡ FaultedBy WriteFailed ((Open (codes "f") false ∷ []) ++ (puts (Named (codes "f")) (codes "abc")))
+pub emptied_then_past_room : run_of scripts.emptied_then_past_room no_job no_input (with_room (codes "f") (codes "xyzxyz") 3 empty) 40
+    ≡ FaultedBy WriteFailed ((Open (codes "f") false ∷ []) ++ (puts (Named (codes "f")) (codes "abc")))
 unfolding special_arrays special_scalars spend_all asked value_of values_of key_of place_of passed truncated_of applied loop over_keys plain_done done_by all_done called items_done begun ended first_assigned records_done numeral_at sign_at fraction_at exponent_at numerator denominator digits unescaped escaped octal keywords builtins left_out_words table sign_of
 emptied_then_past_room = refl
 
@@ -330,12 +468,24 @@ unfolding special_arrays special_scalars spend_all asked value_of values_of key_
 count_lowered_and_raised = refl
 
 -- BEGIN{print $0}
-pub count_on_command_line : run_of scripts.count_on_command_line (record { operands = []; assigns = (((codes "OFS"), (codes "-")) ∷ ((codes "NF"), (codes "3")) ∷ []); environment = [] }) no_input empty 40 ≡ Ended 0 (puts Standard (codes "--\n"))
+pub count_on_command_line : run_of scripts.count_on_command_line (record {
+  operands = [];
+  assigns = (((codes "OFS"), (codes "-"))
+      ∷ ((codes "NF"), (codes "3")) ∷ []);
+  environment = [];
+}) no_input empty 40 ≡ Ended 0 (puts Standard (codes "--\n"))
 unfolding special_arrays special_scalars spend_all asked value_of values_of key_of place_of passed truncated_of applied loop over_keys plain_done done_by all_done called items_done begun ended first_assigned records_done numeral_at sign_at fraction_at exponent_at numerator denominator digits unescaped escaped octal keywords builtins left_out_words table sign_of
 count_on_command_line = refl
 
 -- BEGIN{print $0}
-pub count_below_zero_on_command_line : run_of scripts.count_below_zero_on_command_line (record { operands = []; assigns = (((codes "NF"), (codes "-1")) ∷ []); environment = [] }) no_input empty 40 ≡ FaultedBy FieldNumber []
+pub count_below_zero_on_command_line : run_of scripts.count_below_zero_on_command_line (record {
+  operands = [];
+  assigns = ((
+    (codes "NF"),
+    (codes "-1"),
+  ) ∷ []);
+  environment = [];
+}) no_input empty 40 ≡ FaultedBy FieldNumber []
 unfolding special_arrays special_scalars spend_all asked value_of values_of key_of place_of passed truncated_of applied loop over_keys plain_done done_by all_done called items_done begun ended first_assigned records_done numeral_at sign_at fraction_at exponent_at numerator denominator digits unescaped escaped octal keywords builtins left_out_words table sign_of
 count_below_zero_on_command_line = refl
 
@@ -350,12 +500,14 @@ unfolding special_arrays special_scalars spend_all asked value_of values_of key_
 separator_without_value = refl
 
 -- BEGIN{RS="";FS="\t"}{print NF}
-pub tab_and_newline : run_of scripts.tab_and_newline no_job (record { rest = (97 ∷ 9 ∷ 98 ∷ 10 ∷ 99 ∷ []); ending = End }) empty 40 ≡ Ended 0 (puts Standard (codes "3\n"))
+pub tab_and_newline : run_of scripts.tab_and_newline no_job (record { rest = (97 ∷ 9 ∷ 98 ∷ 10 ∷ 99 ∷ []); ending = End }) empty 40
+    ≡ Ended 0 (puts Standard (codes "3\n"))
 unfolding special_arrays special_scalars spend_all asked value_of values_of key_of place_of passed truncated_of applied loop over_keys plain_done done_by all_done called items_done begun ended first_assigned records_done numeral_at sign_at fraction_at exponent_at numerator denominator digits unescaped escaped octal keywords builtins left_out_words table sign_of
 tab_and_newline = refl
 
 -- BEGIN{RS="";FS="b*"}{print NF,"[" $2 "]"}
-pub expression_and_newline : run_of scripts.expression_and_newline no_job (record { rest = (codes "abb\nc"); ending = End }) empty 40 ≡ Ended 0 (puts Standard (codes "3 []\n"))
+pub expression_and_newline : run_of scripts.expression_and_newline no_job (record { rest = (codes "abb\nc"); ending = End }) empty 40
+    ≡ Ended 0 (puts Standard (codes "3 []\n"))
 unfolding special_arrays special_scalars spend_all asked value_of values_of key_of place_of passed truncated_of applied loop over_keys plain_done done_by all_done called items_done begun ended first_assigned records_done numeral_at sign_at fraction_at exponent_at numerator denominator digits unescaped escaped octal keywords builtins left_out_words table sign_of
 expression_and_newline = refl
 
@@ -370,7 +522,8 @@ unfolding special_arrays special_scalars spend_all asked value_of values_of key_
 split_of_its_own_element = refl
 
 -- BEGIN{FS="((";print (getline x<"f");print (getline<"f")}
-pub bad_separator_unused : run_of scripts.bad_separator_unused no_job no_input (with_file (codes "f") (codes "p q\nr\n") End empty) 40 ≡ FaultedBy BadEre (puts Standard (codes "1\n"))
+pub bad_separator_unused : run_of scripts.bad_separator_unused no_job no_input (with_file (codes "f") (codes "p q\nr\n") End empty) 40
+    ≡ FaultedBy BadEre (puts Standard (codes "1\n"))
 unfolding special_arrays special_scalars spend_all asked value_of values_of key_of place_of passed truncated_of applied loop over_keys plain_done done_by all_done called items_done begun ended first_assigned records_done numeral_at sign_at fraction_at exponent_at numerator denominator digits unescaped escaped octal keywords builtins left_out_words table sign_of
 bad_separator_unused = refl
 
@@ -425,12 +578,23 @@ unfolding special_arrays special_scalars spend_all asked value_of values_of key_
 do_while_counts = refl
 
 -- BEGIN { print n; print n + 1 }
-pub fraction_from_command_line : run_of scripts.fraction_from_command_line (record { operands = []; assigns = (((codes "n"), (codes "0.5")) ∷ []); environment = [] }) no_input empty 40 ≡ FaultedBy Fraction (puts Standard (codes "0.5\n"))
+pub fraction_from_command_line : run_of scripts.fraction_from_command_line (record {
+  operands = [];
+  assigns = (((codes "n"), (codes "0.5"))
+      ∷ []);
+  environment = [];
+}) no_input empty 40 ≡ FaultedBy Fraction (puts Standard (codes "0.5\n"))
 unfolding special_arrays special_scalars spend_all asked value_of values_of key_of place_of passed truncated_of applied loop over_keys plain_done done_by all_done called items_done begun ended first_assigned records_done numeral_at sign_at fraction_at exponent_at numerator denominator digits unescaped escaped octal keywords builtins left_out_words table sign_of
 fraction_from_command_line = refl
 
 -- { n++; print n }
-pub count_across_an_assignment : run_of scripts.count_across_an_assignment (record { operands = ((codes "f") ∷ (codes "n=07") ∷ (codes "g") ∷ []); assigns = []; environment = [] }) no_input (with_file (codes "g") (codes "b\n") End (with_file (codes "f") (codes "a\n") End empty)) 40 ≡ Ended 0 (puts Standard (codes "1\n8\n"))
+pub count_across_an_assignment : run_of scripts.count_across_an_assignment (record {
+  operands = ((codes "f") ∷ (codes "n=07") ∷ (codes "g")
+      ∷ []);
+  assigns = [];
+  environment = [];
+}) no_input (with_file (codes "g") (codes "b\n") End (with_file (codes "f") (codes "a\n") End empty)) 40
+    ≡ Ended 0 (puts Standard (codes "1\n8\n"))
 unfolding special_arrays special_scalars spend_all asked value_of values_of key_of place_of passed truncated_of applied loop over_keys plain_done done_by all_done called items_done begun ended first_assigned records_done numeral_at sign_at fraction_at exponent_at numerator denominator digits unescaped escaped octal keywords builtins left_out_words table sign_of
 count_across_an_assignment = refl
 
@@ -459,38 +623,69 @@ pub one_turn_too_few : run_of scripts.one_turn_too_few no_job no_input empty 3 �
 unfolding special_arrays special_scalars spend_all asked value_of values_of key_of place_of passed truncated_of applied loop over_keys plain_done done_by all_done called items_done begun ended first_assigned records_done numeral_at sign_at fraction_at exponent_at numerator denominator digits unescaped escaped octal keywords builtins left_out_words table sign_of
 one_turn_too_few = refl
 
--- function f(x, y) { if (x < y) return x; y = x = x * 2; return y } BEGIN { print f(3, 5), f(7), f("10", 9), f() "." ; n = -n; n += !m; print n, n++ + ++n, n-- }
+-- function f(x, y) { if (x < y) return x; y = x = x * 2; return y } BEGIN { print f(3, 5), f(7), f("10", 9), f() "." ; n = -n; n += !m; print n, n++
+-- + ++n, n-- }
 pub numbers_in_names : run_of scripts.numbers_in_names no_job no_input empty 40 ≡ Ended 0 (puts Standard (codes "3 14 10 0.\n1 4 3\n"))
 unfolding special_arrays special_scalars spend_all asked value_of values_of key_of place_of passed truncated_of applied loop over_keys plain_done done_by all_done called items_done begun ended first_assigned records_done numeral_at sign_at fraction_at exponent_at numerator denominator digits unescaped escaped octal keywords builtins left_out_words table sign_of
 numbers_in_names = refl
 
 -- BEGIN { print n < 10, n < "10", n == 9; n = n + 1; print n < 10 }
-pub text_in_a_number : run_of scripts.text_in_a_number (record { operands = []; assigns = (((codes "n"), (codes "9")) ∷ []); environment = [] }) no_input empty 40 ≡ Ended 0 (puts Standard (codes "1 0 1\n0\n"))
+pub text_in_a_number : run_of scripts.text_in_a_number (record {
+  operands = [];
+  assigns = (((codes "n"), (codes "9"))
+      ∷ []);
+  environment = [];
+}) no_input empty 40 ≡ Ended 0 (puts Standard (codes "1 0 1\n0\n"))
 unfolding special_arrays special_scalars spend_all asked value_of values_of key_of place_of passed truncated_of applied loop over_keys plain_done done_by all_done called items_done begun ended first_assigned records_done numeral_at sign_at fraction_at exponent_at numerator denominator digits unescaped escaped octal keywords builtins left_out_words table sign_of
 text_in_a_number = refl
 
 -- FNR == 2 { nextfile } { print FILENAME, $0 }
-pub rest_of_a_file : run_of scripts.rest_of_a_file (record { operands = ((codes "f") ∷ (codes "g") ∷ []); assigns = []; environment = [] }) no_input two_files 40 ≡ Ended 0 (puts Standard (codes "f p\ng s\n"))
+pub rest_of_a_file : run_of scripts.rest_of_a_file (record {
+  operands = ((codes "f") ∷ (codes "g")
+      ∷ []);
+  assigns = [];
+  environment = [];
+}) no_input two_files 40 ≡ Ended 0 (puts Standard (codes "f p\ng s\n"))
 unfolding special_arrays special_scalars spend_all asked value_of values_of key_of place_of passed truncated_of applied loop over_keys plain_done done_by all_done called items_done begun ended first_assigned records_done numeral_at sign_at fraction_at exponent_at numerator denominator digits unescaped escaped octal keywords builtins left_out_words table sign_of
 rest_of_a_file = refl
 
 -- function h(x) { if (x == "q") nextfile; return x } { print FNR, h($0), NR }
-pub file_left_among_operands : run_of scripts.file_left_among_operands (record { operands = ((codes "f") ∷ (codes "g") ∷ []); assigns = []; environment = [] }) no_input two_files 40 ≡ Ended 0 (puts Standard (codes "1 p 1\n1 s 3\n"))
+pub file_left_among_operands : run_of scripts.file_left_among_operands (record {
+  operands = ((codes "f") ∷ (codes "g")
+      ∷ []);
+  assigns = [];
+  environment = [];
+}) no_input two_files 40 ≡ Ended 0 (puts Standard (codes "1 p 1\n1 s 3\n"))
 unfolding special_arrays special_scalars spend_all asked value_of values_of key_of place_of passed truncated_of applied loop over_keys plain_done done_by all_done called items_done begun ended first_assigned records_done numeral_at sign_at fraction_at exponent_at numerator denominator digits unescaped escaped octal keywords builtins left_out_words table sign_of
 file_left_among_operands = refl
 
 -- { print; while (1) { n++; if (n > 2) nextfile } } END { print n, NR }
-pub file_left_in_a_loop : run_of scripts.file_left_in_a_loop (record { operands = ((codes "f") ∷ (codes "g") ∷ []); assigns = []; environment = [] }) no_input two_files 40 ≡ Ended 0 (puts Standard (codes "p\ns\n4 2\n"))
+pub file_left_in_a_loop : run_of scripts.file_left_in_a_loop (record {
+  operands = ((codes "f") ∷ (codes "g")
+      ∷ []);
+  assigns = [];
+  environment = [];
+}) no_input two_files 40 ≡ Ended 0 (puts Standard (codes "p\ns\n4 2\n"))
 unfolding special_arrays special_scalars spend_all asked value_of values_of key_of place_of passed truncated_of applied loop over_keys plain_done done_by all_done called items_done begun ended first_assigned records_done numeral_at sign_at fraction_at exponent_at numerator denominator digits unescaped escaped octal keywords builtins left_out_words table sign_of
 file_left_in_a_loop = refl
 
 -- BEGIN { a[1]; a[2]; a[3] } { for (k in a) { n++; if (k > 1) nextfile } } END { print n, NR }
-pub file_left_in_a_walk : run_of scripts.file_left_in_a_walk (record { operands = ((codes "f") ∷ (codes "g") ∷ []); assigns = []; environment = [] }) no_input two_files 40 ≡ Ended 0 (puts Standard (codes "4 2\n"))
+pub file_left_in_a_walk : run_of scripts.file_left_in_a_walk (record {
+  operands = ((codes "f") ∷ (codes "g")
+      ∷ []);
+  assigns = [];
+  environment = [];
+}) no_input two_files 40 ≡ Ended 0 (puts Standard (codes "4 2\n"))
 unfolding special_arrays special_scalars spend_all asked value_of values_of key_of place_of passed truncated_of applied loop over_keys plain_done done_by all_done called items_done begun ended first_assigned records_done numeral_at sign_at fraction_at exponent_at numerator denominator digits unescaped escaped octal keywords builtins left_out_words table sign_of
 file_left_in_a_walk = refl
 
 -- /q/, /s/ { print "r", $0; nextfile } { print $0 }
-pub file_left_in_a_range : run_of scripts.file_left_in_a_range (record { operands = ((codes "f") ∷ (codes "g") ∷ []); assigns = []; environment = [] }) no_input two_files 40 ≡ Ended 0 (puts Standard (codes "p\nr q\nr s\n"))
+pub file_left_in_a_range : run_of scripts.file_left_in_a_range (record {
+  operands = ((codes "f") ∷ (codes "g")
+      ∷ []);
+  assigns = [];
+  environment = [];
+}) no_input two_files 40 ≡ Ended 0 (puts Standard (codes "p\nr q\nr s\n"))
 unfolding special_arrays special_scalars spend_all asked value_of values_of key_of place_of passed truncated_of applied loop over_keys plain_done done_by all_done called items_done begun ended first_assigned records_done numeral_at sign_at fraction_at exponent_at numerator denominator digits unescaped escaped octal keywords builtins left_out_words table sign_of
 file_left_in_a_range = refl
 
@@ -505,7 +700,13 @@ unfolding special_arrays special_scalars spend_all asked value_of values_of key_
 failing_rest_given_up = refl
 
 -- NR == 2 { nextfile } { print FILENAME $0 }
-pub standard_input_given_up : run_of scripts.standard_input_given_up (record { operands = ((codes "-") ∷ (codes "-") ∷ (codes "g") ∷ []); assigns = []; environment = [] }) (record { rest = (codes "a\nb\nc\n"); ending = Fails }) two_files 40 ≡ Ended 0 (puts Standard (codes "-a\ngs\n"))
+pub standard_input_given_up : run_of scripts.standard_input_given_up (record {
+  operands = ((codes "-") ∷ (codes "-") ∷ (codes "g")
+      ∷ []);
+  assigns = [];
+  environment = [];
+}) (record { rest = (codes "a\nb\nc\n"); ending = Fails }) two_files 40
+    ≡ Ended 0 (puts Standard (codes "-a\ngs\n"))
 unfolding special_arrays special_scalars spend_all asked value_of values_of key_of place_of passed truncated_of applied loop over_keys plain_done done_by all_done called items_done begun ended first_assigned records_done numeral_at sign_at fraction_at exponent_at numerator denominator digits unescaped escaped octal keywords builtins left_out_words table sign_of
 standard_input_given_up = refl
 
@@ -525,16 +726,24 @@ unfolding special_arrays special_scalars spend_all asked value_of values_of key_
 emptied_parameter = refl
 
 -- FNR == 1 { delete ARGV; ARGV[2] = "g" } { print FILENAME $0 }
-pub emptied_operands : run_of scripts.emptied_operands (record { operands = ((codes "f") ∷ (codes "h") ∷ []); assigns = []; environment = [] }) no_input two_files 40 ≡ Ended 0 (puts Standard (codes "fp\nfq\nfr\ngs\n"))
+pub emptied_operands : run_of scripts.emptied_operands (record {
+  operands = ((codes "f") ∷ (codes "h")
+      ∷ []);
+  assigns = [];
+  environment = [];
+}) no_input two_files 40 ≡ Ended 0 (puts Standard (codes "fp\nfq\nfr\ngs\n"))
 unfolding special_arrays special_scalars spend_all asked value_of values_of key_of place_of passed truncated_of applied loop over_keys plain_done done_by all_done called items_done begun ended first_assigned records_done numeral_at sign_at fraction_at exponent_at numerator denominator digits unescaped escaped octal keywords builtins left_out_words table sign_of
 emptied_operands = refl
 
 -- BEGIN { print "x" > "f"; print fflush("f"), fflush("g"), fflush() }
-pub flushed : run_of scripts.flushed no_job no_input empty 40 ≡ Ended 0 ((Open (codes "f") false ∷ []) ++ (puts (Named (codes "f")) (codes "x\n") ++ (puts Standard (codes "0 -1 0\n"))))
+pub flushed : run_of scripts.flushed no_job no_input empty 40
+    ≡ Ended 0 ((Open (codes "f") false ∷ []) ++ (puts (Named (codes "f")) (codes "x\n") ++ (puts Standard (codes "0 -1 0\n"))))
 unfolding special_arrays special_scalars spend_all asked value_of values_of key_of place_of passed truncated_of applied loop over_keys plain_done done_by all_done called items_done begun ended first_assigned records_done numeral_at sign_at fraction_at exponent_at numerator denominator digits unescaped escaped octal keywords builtins left_out_words table sign_of
 flushed = refl
 
 -- BEGIN { print (getline x < "f"), fflush("f"); print x >> "f"; print fflush("f"), close("f"), fflush("f"), fflush("") }
-pub reader_not_flushed : run_of scripts.reader_not_flushed no_job no_input (with_file (codes "f") (codes "a\n") End empty) 40 ≡ Ended 0 (puts Standard (codes "1 -1\n") ++ ((Open (codes "f") true ∷ []) ++ (puts (Named (codes "f")) (codes "a\n") ++ (puts Standard (codes "0 0 -1 0\n")))))
+pub reader_not_flushed : run_of scripts.reader_not_flushed no_job no_input (with_file (codes "f") (codes "a\n") End empty) 40
+    ≡ Ended 0 (puts Standard (codes "1 -1\n")
+    ++ ((Open (codes "f") true ∷ []) ++ (puts (Named (codes "f")) (codes "a\n") ++ (puts Standard (codes "0 0 -1 0\n")))))
 unfolding special_arrays special_scalars spend_all asked value_of values_of key_of place_of passed truncated_of applied loop over_keys plain_done done_by all_done called items_done begun ended first_assigned records_done numeral_at sign_at fraction_at exponent_at numerator denominator digits unescaped escaped octal keywords builtins left_out_words table sign_of
 reader_not_flushed = refl

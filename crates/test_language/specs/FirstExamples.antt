@@ -12,7 +12,7 @@ use Rattle.world_core.specs.declared.world.Ending.{Ending}
 use Rattle.world_core.specs.declared.world.Ending.TheVariants.{End, Fails}
 use Rattle.sem_primitives.specs.Jobs.{JobForm}
 use Rattle.sem_scripts.specs.ScriptState.{spend_all}
-use Rattle.awk_resolve.specs.Kinds.{special_arrays, special_scalars}
+use Rattle.awk_kinds.specs.Kinds.{special_arrays, special_scalars}
 use Rattle.sem_scripts.specs.Kinds.{resolved}
 use Rattle.sem_scripts.specs.Meaning.{asked, value_of, values_of, key_of, place_of, passed, truncated_of, applied}
 use Rattle.sem_scripts.specs.Statements.{loop, over_keys, plain_done, done_by, all_done, called}
@@ -60,7 +60,8 @@ unfolding special_arrays special_scalars spend_all asked value_of values_of key_
 powers = refl
 
 -- { if (NF) /x/ || n++ } END { print n/1 }
-pub matched_or_counted : run_of scripts.matched_or_counted no_job (record { rest = (codes "x\ny\n"); ending = End }) empty 20 ≡ Ended 0 (puts Standard (codes "1\n"))
+pub matched_or_counted : run_of scripts.matched_or_counted no_job (record { rest = (codes "x\ny\n"); ending = End }) empty 20
+    ≡ Ended 0 (puts Standard (codes "1\n"))
 unfolding special_arrays special_scalars spend_all asked value_of values_of key_of place_of passed truncated_of applied loop over_keys plain_done done_by all_done called items_done begun ended first_assigned records_done numeral_at sign_at fraction_at exponent_at numerator denominator digits unescaped escaped octal keywords builtins left_out_words table sign_of
 matched_or_counted = refl
 
@@ -70,22 +71,34 @@ unfolding special_arrays special_scalars spend_all asked value_of values_of key_
 unset_name = refl
 
 -- { print ($1 > $2), ($1 > "9") }
-pub compared_fields : run_of scripts.compared_fields no_job (record { rest = (codes "10 9\n"); ending = End }) empty 20 ≡ Ended 0 (puts Standard (codes "1 0\n"))
+pub compared_fields : run_of scripts.compared_fields no_job (record { rest = (codes "10 9\n"); ending = End }) empty 20
+    ≡ Ended 0 (puts Standard (codes "1 0\n"))
 unfolding special_arrays special_scalars spend_all asked value_of values_of key_of place_of passed truncated_of applied loop over_keys plain_done done_by all_done called items_done begun ended first_assigned records_done numeral_at sign_at fraction_at exponent_at numerator denominator digits unescaped escaped octal keywords builtins left_out_words table sign_of
 compared_fields = refl
 
 -- BEGIN { print n; n++; print n }
-pub assigned_before : run_of scripts.assigned_before (record { operands = []; assigns = (((codes "n"), (codes "007")) ∷ []); environment = [] }) no_input empty 20 ≡ Ended 0 (puts Standard (codes "007\n8\n"))
+pub assigned_before : run_of scripts.assigned_before (record {
+  operands = [];
+  assigns = (((codes "n"), (codes "007"))
+      ∷ []);
+  environment = [];
+}) no_input empty 20 ≡ Ended 0 (puts Standard (codes "007\n8\n"))
 unfolding special_arrays special_scalars spend_all asked value_of values_of key_of place_of passed truncated_of applied loop over_keys plain_done done_by all_done called items_done begun ended first_assigned records_done numeral_at sign_at fraction_at exponent_at numerator denominator digits unescaped escaped octal keywords builtins left_out_words table sign_of
 assigned_before = refl
 
 -- { print $2 }
-pub separator_assigned : run_of scripts.separator_assigned (record { operands = []; assigns = (((codes "FS"), (codes ":")) ∷ []); environment = [] }) (record { rest = (codes "a:b\n"); ending = End }) empty 20 ≡ Ended 0 (puts Standard (codes "b\n"))
+pub separator_assigned : run_of scripts.separator_assigned (record {
+  operands = [];
+  assigns = (((codes "FS"), (codes ":"))
+      ∷ []);
+  environment = [];
+}) (record { rest = (codes "a:b\n"); ending = End }) empty 20 ≡ Ended 0 (puts Standard (codes "b\n"))
 unfolding special_arrays special_scalars spend_all asked value_of values_of key_of place_of passed truncated_of applied loop over_keys plain_done done_by all_done called items_done begun ended first_assigned records_done numeral_at sign_at fraction_at exponent_at numerator denominator digits unescaped escaped octal keywords builtins left_out_words table sign_of
 separator_assigned = refl
 
 -- function f(x) { if (x == "b") next; return x } { print "<" f($1) ">" }
-pub next_in_function : run_of scripts.next_in_function no_job (record { rest = (codes "a\nb\nc\n"); ending = End }) empty 20 ≡ Ended 0 (puts Standard (codes "<a>\n<c>\n"))
+pub next_in_function : run_of scripts.next_in_function no_job (record { rest = (codes "a\nb\nc\n"); ending = End }) empty 20
+    ≡ Ended 0 (puts Standard (codes "<a>\n<c>\n"))
 unfolding special_arrays special_scalars spend_all asked value_of values_of key_of place_of passed truncated_of applied loop over_keys plain_done done_by all_done called items_done begun ended first_assigned records_done numeral_at sign_at fraction_at exponent_at numerator denominator digits unescaped escaped octal keywords builtins left_out_words table sign_of
 next_in_function = refl
 
@@ -105,12 +118,14 @@ unfolding special_arrays special_scalars spend_all asked value_of values_of key_
 all_replaced = refl
 
 -- BEGIN { RS = ""; FS = "," } { print NF ":" $1 "|" $NF }
-pub paragraphs : run_of scripts.paragraphs no_job (record { rest = (codes "\n\na,b\nc\n\n\nd\n"); ending = End }) empty 20 ≡ Ended 0 (puts Standard (codes "3:a|c\n1:d|d\n"))
+pub paragraphs : run_of scripts.paragraphs no_job (record { rest = (codes "\n\na,b\nc\n\n\nd\n"); ending = End }) empty 20
+    ≡ Ended 0 (puts Standard (codes "3:a|c\n1:d|d\n"))
 unfolding special_arrays special_scalars spend_all asked value_of values_of key_of place_of passed truncated_of applied loop over_keys plain_done done_by all_done called items_done begun ended first_assigned records_done numeral_at sign_at fraction_at exponent_at numerator denominator digits unescaped escaped octal keywords builtins left_out_words table sign_of
 paragraphs = refl
 
 -- { print }
-pub input_fails : run_of scripts.input_fails no_job (record { rest = (codes "a\nb"); ending = Fails }) empty 20 ≡ FaultedBy ReadFailed (puts Standard (codes "a\n"))
+pub input_fails : run_of scripts.input_fails no_job (record { rest = (codes "a\nb"); ending = Fails }) empty 20
+    ≡ FaultedBy ReadFailed (puts Standard (codes "a\n"))
 unfolding special_arrays special_scalars spend_all asked value_of values_of key_of place_of passed truncated_of applied loop over_keys plain_done done_by all_done called items_done begun ended first_assigned records_done numeral_at sign_at fraction_at exponent_at numerator denominator digits unescaped escaped octal keywords builtins left_out_words table sign_of
 input_fails = refl
 
@@ -125,22 +140,26 @@ unfolding special_arrays special_scalars spend_all asked value_of values_of key_
 little_room = refl
 
 -- BEGIN { OFS = "-" } { $5 = "e"; print; print NF; NF = 2; print }
-pub fields_joined : run_of scripts.fields_joined no_job (record { rest = (codes "a b c\n"); ending = End }) empty 20 ≡ Ended 0 (puts Standard (codes "a-b-c--e\n5\na-b\n"))
+pub fields_joined : run_of scripts.fields_joined no_job (record { rest = (codes "a b c\n"); ending = End }) empty 20
+    ≡ Ended 0 (puts Standard (codes "a-b-c--e\n5\na-b\n"))
 unfolding special_arrays special_scalars spend_all asked value_of values_of key_of place_of passed truncated_of applied loop over_keys plain_done done_by all_done called items_done begun ended first_assigned records_done numeral_at sign_at fraction_at exponent_at numerator denominator digits unescaped escaped octal keywords builtins left_out_words table sign_of
 fields_joined = refl
 
 -- { print $1; print int($1); print $1+0 }
-pub fraction_read : run_of scripts.fraction_read no_job (record { rest = (codes "0.5\n"); ending = End }) empty 20 ≡ FaultedBy Fraction (puts Standard (codes "0.5\n0\n"))
+pub fraction_read : run_of scripts.fraction_read no_job (record { rest = (codes "0.5\n"); ending = End }) empty 20
+    ≡ FaultedBy Fraction (puts Standard (codes "0.5\n0\n"))
 unfolding special_arrays special_scalars spend_all asked value_of values_of key_of place_of passed truncated_of applied loop over_keys plain_done done_by all_done called items_done begun ended first_assigned records_done numeral_at sign_at fraction_at exponent_at numerator denominator digits unescaped escaped octal keywords builtins left_out_words table sign_of
 fraction_read = refl
 
 -- function r(n) { return n ? r(n-1) : 7 } BEGIN { print r(3) }
-pub calls_nested : resolved_run (resolved scripts.calls_nested) (record { job = no_job; input = no_input; outside = empty; deepest = 4 }) 20 ≡ Ended 0 (puts Standard (codes "7\n"))
+pub calls_nested : resolved_run (resolved scripts.calls_nested) (record { job = no_job; input = no_input; outside = empty; deepest = 4 }) 20
+    ≡ Ended 0 (puts Standard (codes "7\n"))
 unfolding special_arrays special_scalars spend_all asked value_of values_of key_of place_of passed truncated_of applied loop over_keys plain_done done_by all_done called items_done begun ended first_assigned records_done numeral_at sign_at fraction_at exponent_at numerator denominator digits unescaped escaped octal keywords builtins left_out_words table sign_of
 calls_nested = refl
 
 -- function r(n) { return n ? r(n-1) : 7 } BEGIN { print "x"; print r(4) }
-pub calls_too_deep : resolved_run (resolved scripts.calls_too_deep) (record { job = no_job; input = no_input; outside = empty; deepest = 4 }) 20 ≡ Exhausted (puts Standard (codes "x\n"))
+pub calls_too_deep : resolved_run (resolved scripts.calls_too_deep) (record { job = no_job; input = no_input; outside = empty; deepest = 4 }) 20
+    ≡ Exhausted (puts Standard (codes "x\n"))
 unfolding special_arrays special_scalars spend_all asked value_of values_of key_of place_of passed truncated_of applied loop over_keys plain_done done_by all_done called items_done begun ended first_assigned records_done numeral_at sign_at fraction_at exponent_at numerator denominator digits unescaped escaped octal keywords builtins left_out_words table sign_of
 calls_too_deep = refl
 
@@ -165,12 +184,22 @@ unfolding special_arrays special_scalars spend_all asked value_of values_of key_
 keys_visited = refl
 
 -- BEGIN { print "a" > "f"; print "b" > "f"; print close("f"), close("f"); while ((getline x < "f") > 0) print "got " x; print "c" >> "f" }
-pub file_written_and_read : run_of scripts.file_written_and_read no_job no_input empty 20 ≡ Ended 0 ((Open (codes "f") false ∷ []) ++ (puts (Named (codes "f")) (codes "a\nb\n") ++ (puts Standard (codes "0 -1\ngot a\ngot b\n") ++ ((Open (codes "f") true ∷ []) ++ (puts (Named (codes "f")) (codes "c\n"))))))
+pub file_written_and_read : run_of scripts.file_written_and_read no_job no_input empty 20
+    ≡ Ended 0 ((Open (codes "f") false ∷ [])
+    ++ (puts (Named (codes "f")) (codes "a\nb\n")
+    ++ (puts Standard (codes "0 -1\ngot a\ngot b\n") ++ ((Open (codes "f") true ∷ []) ++ (puts (Named (codes "f")) (codes "c\n"))))))
 unfolding special_arrays special_scalars spend_all asked value_of values_of key_of place_of passed truncated_of applied loop over_keys plain_done done_by all_done called items_done begun ended first_assigned records_done numeral_at sign_at fraction_at exponent_at numerator denominator digits unescaped escaped octal keywords builtins left_out_words table sign_of
 file_written_and_read = refl
 
 -- { print v, FILENAME, FNR, NR }
-pub assignments_between_files : run_of scripts.assignments_between_files (record { operands = ((codes "v=1") ∷ (codes "f") ∷ (codes "v=a b") ∷ (codes "g") ∷ (codes "h") ∷ []); assigns = []; environment = [] }) no_input (with_file (codes "g") (codes "q") End (with_file (codes "f") (codes "p\n") End empty)) 20 ≡ FaultedBy OpenInput (puts Standard (codes "1 f 1 1\na b g 1 2\n"))
+pub assignments_between_files : run_of scripts.assignments_between_files (record {
+  operands = ((codes "v=1") ∷ (codes "f") ∷ (codes "v=a b")
+      ∷ (codes "g") ∷ (codes "h") ∷ []);
+  assigns = [];
+  environment = [];
+}) no_input
+    (with_file (codes "g") (codes "q") End (with_file (codes "f") (codes "p\n") End empty)) 20
+    ≡ FaultedBy OpenInput (puts Standard (codes "1 f 1 1\na b g 1 2\n"))
 unfolding special_arrays special_scalars spend_all asked value_of values_of key_of place_of passed truncated_of applied loop over_keys plain_done done_by all_done called items_done begun ended first_assigned records_done numeral_at sign_at fraction_at exponent_at numerator denominator digits unescaped escaped octal keywords builtins left_out_words table sign_of
 assignments_between_files = refl
 
@@ -195,7 +224,12 @@ unfolding special_arrays special_scalars spend_all asked value_of values_of key_
 status_modulo = refl
 
 -- function f() { } BEGIN { print 1 }
-pub function_assigned : run_of scripts.function_assigned (record { operands = []; assigns = (((codes "f"), (codes "1")) ∷ []); environment = [] }) no_input empty 20 ≡ FaultedBy BadAssignment []
+pub function_assigned : run_of scripts.function_assigned (record {
+  operands = [];
+  assigns = (((codes "f"), (codes "1"))
+      ∷ []);
+  environment = [];
+}) no_input empty 20 ≡ FaultedBy BadAssignment []
 unfolding special_arrays special_scalars spend_all asked value_of values_of key_of place_of passed truncated_of applied loop over_keys plain_done done_by all_done called items_done begun ended first_assigned records_done numeral_at sign_at fraction_at exponent_at numerator denominator digits unescaped escaped octal keywords builtins left_out_words table sign_of
 function_assigned = refl
 
@@ -205,12 +239,14 @@ unfolding special_arrays special_scalars spend_all asked value_of values_of key_
 file_that_does_not_open = refl
 
 -- { print ($1 == 1), ($1 == "1"), (u == 0), (u == "") }
-pub numeric_strings : run_of scripts.numeric_strings no_job (record { rest = (codes "1.0\n"); ending = End }) empty 20 ≡ Ended 0 (puts Standard (codes "1 0 1 1\n"))
+pub numeric_strings : run_of scripts.numeric_strings no_job (record { rest = (codes "1.0\n"); ending = End }) empty 20
+    ≡ Ended 0 (puts Standard (codes "1 0 1 1\n"))
 unfolding special_arrays special_scalars spend_all asked value_of values_of key_of place_of passed truncated_of applied loop over_keys plain_done done_by all_done called items_done begun ended first_assigned records_done numeral_at sign_at fraction_at exponent_at numerator denominator digits unescaped escaped octal keywords builtins left_out_words table sign_of
 numeric_strings = refl
 
 -- NR == 1 { getline; print; getline x; print x, NR, $0 }
-pub getline_in_loop : run_of scripts.getline_in_loop no_job (record { rest = (codes "a\nb\nc\n"); ending = End }) empty 20 ≡ Ended 0 (puts Standard (codes "b\nc 3 b\n"))
+pub getline_in_loop : run_of scripts.getline_in_loop no_job (record { rest = (codes "a\nb\nc\n"); ending = End }) empty 20
+    ≡ Ended 0 (puts Standard (codes "b\nc 3 b\n"))
 unfolding special_arrays special_scalars spend_all asked value_of values_of key_of place_of passed truncated_of applied loop over_keys plain_done done_by all_done called items_done begun ended first_assigned records_done numeral_at sign_at fraction_at exponent_at numerator denominator digits unescaped escaped octal keywords builtins left_out_words table sign_of
 getline_in_loop = refl
 
@@ -219,7 +255,8 @@ pub ranges : run_of scripts.ranges no_job (record { rest = (codes "a\nb\nc\nb\n"
 unfolding special_arrays special_scalars spend_all asked value_of values_of key_of place_of passed truncated_of applied loop over_keys plain_done done_by all_done called items_done begun ended first_assigned records_done numeral_at sign_at fraction_at exponent_at numerator denominator digits unescaped escaped octal keywords builtins left_out_words table sign_of
 ranges = refl
 
--- BEGIN { print substr("hello", 0, 3), substr("hello", -1), substr("hello", 4, 99), index("hello", "l"), split("a:b::c", p, ":"), "[" p[3] "]", toupper("ab") tolower("CD") }
+-- BEGIN { print substr("hello", 0, 3), substr("hello", -1), substr("hello", 4, 99), index("hello", "l"), split("a:b::c", p, ":"), "[" p[3] "]",
+-- toupper("ab") tolower("CD") }
 pub text_functions : run_of scripts.text_functions no_job no_input empty 20 ≡ Ended 0 (puts Standard (codes "he hello lo 3 4 [] ABcd\n"))
 unfolding special_arrays special_scalars spend_all asked value_of values_of key_of place_of passed truncated_of applied loop over_keys plain_done done_by all_done called items_done begun ended first_assigned records_done numeral_at sign_at fraction_at exponent_at numerator denominator digits unescaped escaped octal keywords builtins left_out_words table sign_of
 text_functions = refl
@@ -295,6 +332,7 @@ unfolding special_arrays special_scalars spend_all asked value_of values_of key_
 sub_keeps_key = refl
 
 -- BEGIN { $0 = "a b"; print > ($0 = "f") }
-pub target_after_operands : run_of scripts.target_after_operands no_job no_input empty 20 ≡ Ended 0 ((Open (codes "f") false ∷ []) ++ (puts (Named (codes "f")) (codes "a b\n")))
+pub target_after_operands : run_of scripts.target_after_operands no_job no_input empty 20
+    ≡ Ended 0 ((Open (codes "f") false ∷ []) ++ (puts (Named (codes "f")) (codes "a b\n")))
 unfolding special_arrays special_scalars spend_all asked value_of values_of key_of place_of passed truncated_of applied loop over_keys plain_done done_by all_done called items_done begun ended first_assigned records_done numeral_at sign_at fraction_at exponent_at numerator denominator digits unescaped escaped octal keywords builtins left_out_words table sign_of
 target_after_operands = refl

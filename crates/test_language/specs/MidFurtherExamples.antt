@@ -11,7 +11,7 @@ use Rattle.world_core.specs.WorldState.{Standard, puts}
 use Rattle.world_core.specs.declared.world.Ending.{Ending}
 use Rattle.world_core.specs.declared.world.Ending.TheVariants.{End}
 use Rattle.sem_scripts.specs.ScriptState.{spend_all}
-use Rattle.awk_resolve.specs.Kinds.{special_arrays, special_scalars}
+use Rattle.awk_kinds.specs.Kinds.{special_arrays, special_scalars}
 use Rattle.sem_scripts.specs.Kinds.{resolved}
 use Rattle.sem_scripts.specs.Meaning.{asked}
 use Rattle.sem_scripts.specs.Statements.{loop, over_keys}
@@ -24,12 +24,19 @@ use Rattle.test_language.specs.Scripts as scripts
 use Rattle.test_language.specs.Settings.{no_job, no_input, empty, with_file}
 
 -- { n++; print n }
-pub count_across_an_assignment : mid_run_in (program_of (resolved scripts.count_across_an_assignment)) (setting_of (record { operands = ((codes "f") ∷ (codes "n=07") ∷ (codes "g") ∷ []); assigns = []; environment = [] }) no_input (with_file (codes "g") (codes "b\n") End (with_file (codes "f") (codes "a\n") End empty))) 40 ≡ Ended 0 (puts Standard (codes "1\n8\n"))
+pub count_across_an_assignment : mid_run_in (program_of (resolved scripts.count_across_an_assignment)) (setting_of (record {
+  operands = ((codes "f")
+      ∷ (codes "n=07") ∷ (codes "g") ∷ []);
+  assigns = [];
+  environment = [];
+}) no_input
+    (with_file (codes "g") (codes "b\n") End (with_file (codes "f") (codes "a\n") End empty))) 40 ≡ Ended 0 (puts Standard (codes "1\n8\n"))
 unfolding special_arrays special_scalars spend_all asked loop over_keys first_assigned records_done evaluated all_evaluated stepped all_stepped mid_called texts_in all_texts stmt_texts stmts_texts code_of codes_of key_code kept_code argument_codes truncated_code applied_code step_code steps_code numeral_at sign_at fraction_at exponent_at numerator denominator digits unescaped escaped octal keywords builtins left_out_words table sign_of
 count_across_an_assignment = refl
 
 -- BEGIN { if (0) print 1/0; print 2^3*4 }
-pub fault_not_reached : mid_run_in (program_of (resolved scripts.fault_not_reached)) (setting_of no_job no_input empty) 40 ≡ Ended 0 (puts Standard (codes "32\n"))
+pub fault_not_reached : mid_run_in (program_of (resolved scripts.fault_not_reached)) (setting_of no_job no_input empty) 40
+    ≡ Ended 0 (puts Standard (codes "32\n"))
 unfolding special_arrays special_scalars spend_all asked loop over_keys first_assigned records_done evaluated all_evaluated stepped all_stepped mid_called texts_in all_texts stmt_texts stmts_texts code_of codes_of key_code kept_code argument_codes truncated_code applied_code step_code steps_code numeral_at sign_at fraction_at exponent_at numerator denominator digits unescaped escaped octal keywords builtins left_out_words table sign_of
 fault_not_reached = refl
 
@@ -44,7 +51,8 @@ unfolding special_arrays special_scalars spend_all asked loop over_keys first_as
 loop_on_numbers = refl
 
 -- BEGIN { while (n < 3) n = n + 1; print n }
-pub turns_just_enough : mid_run_in (program_of (resolved scripts.turns_just_enough)) (setting_of no_job no_input empty) 4 ≡ Ended 0 (puts Standard (codes "3\n"))
+pub turns_just_enough : mid_run_in (program_of (resolved scripts.turns_just_enough)) (setting_of no_job no_input empty) 4
+    ≡ Ended 0 (puts Standard (codes "3\n"))
 unfolding special_arrays special_scalars spend_all asked loop over_keys first_assigned records_done evaluated all_evaluated stepped all_stepped mid_called texts_in all_texts stmt_texts stmts_texts code_of codes_of key_code kept_code argument_codes truncated_code applied_code step_code steps_code numeral_at sign_at fraction_at exponent_at numerator denominator digits unescaped escaped octal keywords builtins left_out_words table sign_of
 turns_just_enough = refl
 
@@ -53,13 +61,22 @@ pub one_turn_too_few : mid_run_in (program_of (resolved scripts.one_turn_too_few
 unfolding special_arrays special_scalars spend_all asked loop over_keys first_assigned records_done evaluated all_evaluated stepped all_stepped mid_called texts_in all_texts stmt_texts stmts_texts code_of codes_of key_code kept_code argument_codes truncated_code applied_code step_code steps_code numeral_at sign_at fraction_at exponent_at numerator denominator digits unescaped escaped octal keywords builtins left_out_words table sign_of
 one_turn_too_few = refl
 
--- function f(x, y) { if (x < y) return x; y = x = x * 2; return y } BEGIN { print f(3, 5), f(7), f("10", 9), f() "." ; n = -n; n += !m; print n, n++ + ++n, n-- }
-pub numbers_in_names : mid_run_in (program_of (resolved scripts.numbers_in_names)) (setting_of no_job no_input empty) 40 ≡ Ended 0 (puts Standard (codes "3 14 10 0.\n1 4 3\n"))
+-- function f(x, y) { if (x < y) return x; y = x = x * 2; return y } BEGIN { print f(3, 5), f(7), f("10", 9), f() "." ; n = -n; n += !m; print n, n++
+-- + ++n, n-- }
+pub numbers_in_names : mid_run_in (program_of (resolved scripts.numbers_in_names)) (setting_of no_job no_input empty) 40
+    ≡ Ended 0 (puts Standard (codes "3 14 10 0.\n1 4 3\n"))
 unfolding special_arrays special_scalars spend_all asked loop over_keys first_assigned records_done evaluated all_evaluated stepped all_stepped mid_called texts_in all_texts stmt_texts stmts_texts code_of codes_of key_code kept_code argument_codes truncated_code applied_code step_code steps_code numeral_at sign_at fraction_at exponent_at numerator denominator digits unescaped escaped octal keywords builtins left_out_words table sign_of
 numbers_in_names = refl
 
 -- BEGIN { print n < 10, n < "10", n == 9; n = n + 1; print n < 10 }
-pub text_in_a_number : mid_run_in (program_of (resolved scripts.text_in_a_number)) (setting_of (record { operands = []; assigns = (((codes "n"), (codes "9")) ∷ []); environment = [] }) no_input empty) 40 ≡ Ended 0 (puts Standard (codes "1 0 1\n0\n"))
+pub text_in_a_number : mid_run_in (program_of (resolved scripts.text_in_a_number)) (setting_of (record {
+  operands = [];
+  assigns = ((
+    (codes "n"),
+    (codes "9"),
+  ) ∷ []);
+  environment = [];
+}) no_input empty) 40 ≡ Ended 0 (puts Standard (codes "1 0 1\n0\n"))
 unfolding special_arrays special_scalars spend_all asked loop over_keys first_assigned records_done evaluated all_evaluated stepped all_stepped mid_called texts_in all_texts stmt_texts stmts_texts code_of codes_of key_code kept_code argument_codes truncated_code applied_code step_code steps_code numeral_at sign_at fraction_at exponent_at numerator denominator digits unescaped escaped octal keywords builtins left_out_words table sign_of
 text_in_a_number = refl
 

@@ -20,7 +20,8 @@ abbrev pub answers : Signature
 answers = record { params = []; result = Some ty.I32 }
 
 abbrev pub small_types : ℕ → Option Signature
-small_types i = if nat_eq i 4 then Some takes else if nat_eq i 5 then Some gives else if nat_eq i 6 then Some takes else if nat_eq i 7 then Some answers else None
+small_types i = if nat_eq i 4 then Some takes else if nat_eq i 5 then Some gives else if nat_eq i 6 then Some takes else
+    if nat_eq i 7 then Some answers else None
 
 -- an import's number is the length of its name
 abbrev pub with_number : ℕ → Option Signature → Option (ℕ × Signature)
@@ -42,11 +43,13 @@ small_found from name r e = numbered (length name) (small_types (length name)) r
 abbrev pub small_meaning : ℕ → ℕ → List Word → MemoryForm → HostAnswer → ℕ → MemoryForm → List ℕ → Type 0
 small_meaning h i args mem a h' mem' out = Typed (small_types i) a × (mem' ≡ mem) × (out ≡ [])
 
-pub small_typed : (h : ℕ) (i : ℕ) (args : List Word) (mem : MemoryForm) (a : HostAnswer) (h' : ℕ) (mem' : MemoryForm) (out : List ℕ) → small_meaning h i args mem a h' mem' out → Typed (small_types i) a
+pub small_typed : (h : ℕ) (i : ℕ) (args : List Word) (mem : MemoryForm) (a : HostAnswer) (h' : ℕ) (mem' : MemoryForm) (out : List ℕ)
+    → small_meaning h i args mem a h' mem' out → Typed (small_types i) a
 small_typed h i args mem a h' mem' out m = m.0
 
 -- it writes nothing, and could have trapped
-pub small_refused : (h : ℕ) (i : ℕ) (args : List Word) (mem : MemoryForm) (h' : ℕ) (mem' : MemoryForm) (out : List ℕ) → small_meaning h i args mem NoMemory h' mem' out → GoesOn small_meaning h i args mem out
+pub small_refused : (h : ℕ) (i : ℕ) (args : List Word) (mem : MemoryForm) (h' : ℕ) (mem' : MemoryForm) (out : List ℕ)
+    → small_meaning h i args mem NoMemory h' mem' out → GoesOn small_meaning h i args mem out
 small_refused h i args mem h' mem' out m = (Trap BadArgument, (λ e. cc), h', mem', [], (by_type (small_types i), m.1, ap (λ (o : List ℕ). o ++ []) m.2)) where
   by_type : (s : Option Signature) → Typed s (Trap BadArgument)
   by_type None = tt

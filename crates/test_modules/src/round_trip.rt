@@ -16,9 +16,12 @@ use wasm_types::Module;
 /// Writes a module and decodes its bytes: what comes back is the same module, and the decoder's only fault is want of memory.
 /// A module that is not written is past a limit, so no bytes are its, or there was no memory.
 pub fn decode_written(alloc: Global, m: &Module) -> Result<Result<Module, DecodeFault>, WriteFault>
-    ensures again { IfOk result (λ r. MatchResult r (λ again. view_module again ≡ view_module m.now) (λ e. e ≡ NoMemory)) }
-    ensures nested { IfOk result (λ r. IfOk r (λ again. All (λ f. depths f.body ≤ 4000) (view_module again).funcs)) }
-    ensures refused { IfErr result (λ e. e ≡ TooLarge → (bytes : List ℕ) → IsModule bytes (view_module m.now) → ⊥) }
+    ensures again { IfOk result
+        (λ r. MatchResult r (λ again. view_module again ≡ view_module m.now) (λ e. e ≡ NoMemory)) }
+    ensures nested { IfOk result
+        (λ r. IfOk r (λ again. All (λ f. depths f.body ≤ 4000) (view_module again).funcs)) }
+    ensures refused { IfErr result
+        (λ e. e ≡ TooLarge → (bytes : List ℕ) → IsModule bytes (view_module m.now) → ⊥) }
 {
     let bytes = write(alloc, m)?;
     Ok(decode(alloc, &bytes))

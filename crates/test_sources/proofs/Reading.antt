@@ -13,7 +13,7 @@ use Rattle.awk_parse.specs.declared.fault.ParseFault.{ParseFault}
 use Rattle.awk_parse.specs.Scan.{scan}
 use Rattle.awk_parse.specs.Parsing.{IsParsed, misplaced}
 use Rattle.awk_parse.proofs.Parsing.{parsed_of, no_tree, no_small_tree, is_misplaced}
-use Rattle.awk_resolve.specs.Kinds.{Refusal, refusal}
+use Rattle.awk_kinds.specs.Kinds.{Refusal, refusal}
 use Rattle.sem_scripts.specs.Kinds.{resolved}
 use Rattle.sem_scripts.specs.ScriptRun.{Ending, Setting, resolved_run}
 use Rattle.test_sources.specs.Sources.{Refused, by_names, by_places, by_tree, by_scan, by_tokens, script_of, run_from, run_in}

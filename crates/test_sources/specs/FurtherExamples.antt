@@ -653,6 +653,7 @@ pub reader_not_flushed : RunsAs scripts.reader_not_flushed
     (codes "BEGIN { print (getline x < \"f\"), fflush(\"f\"); print x >> \"f\"; print fflush(\"f\"), close(\"f\"), " ++
     codes "fflush(\"f\"), fflush(\"\") }")
     no_job no_input (with_file (codes "f") (codes "a\n") End empty) 40
-    (Ended 0 (puts Standard (codes "1 -1\n") ++ ((Open (codes "f") true ∷ []) ++ (puts (Named (codes "f")) (codes "a\n") ++ (puts Standard (codes "0 0 -1 0\n"))))))
+    (Ended 0 (puts Standard (codes "1 -1\n") ++ ((Open (codes "f") true ∷ [])
+    ++ (puts (Named (codes "f")) (codes "a\n") ++ (puts Standard (codes "0 0 -1 0\n"))))))
 unfolding computed
 reader_not_flushed = (refl, refl)

@@ -4,7 +4,7 @@ use Rattle.awk_tokens.specs.Cutting.{Spelled, IsTokens}
 use Rattle.awk_grammar.specs.Item.{Item}
 use Rattle.awk_parse.specs.Scan.{scan}
 use Rattle.awk_parse.specs.Parsing.{IsParsed, HasNoTree, HasNoSmallTree, IsMisplaced}
-use Rattle.awk_resolve.specs.Kinds.{Refusal, refusal}
+use Rattle.awk_kinds.specs.Kinds.{Refusal, refusal}
 use Rattle.sem_scripts.specs.Kinds.{resolved}
 use Rattle.sem_scripts.specs.ScriptRun.{Ending, Setting, resolved_run}
 use Rattle.test_sources.specs.Sources.{Refused, NoTokens, NotTaken, NoTree, TooDeep, OutOfPlace, BadName}

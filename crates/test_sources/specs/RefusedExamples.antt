@@ -4,7 +4,7 @@ use Rattle.awk_tokens.specs.declared.token.TokenFault.TheVariants.{BadByte, Open
 use Rattle.awk_tokens.specs.declared.words.LeftOut.TheVariants.{System}
 use Rattle.awk_parse.specs.declared.fault.Feature.TheVariants.{Word, Pipe}
 use Rattle.awk_parse.specs.declared.fault.ParseFault.TheVariants.{LeftOut, NotWhole, ConstantRange}
-use Rattle.awk_resolve.specs.Kinds.{UnknownFunction, ArgCount, DuplicateName, KindClash}
+use Rattle.awk_kinds.specs.Kinds.{UnknownFunction, ArgCount, DuplicateName, KindClash}
 use Rattle.test_sources.specs.Sources.{IsRefused, NoTokens, NotTaken, NoTree, OutOfPlace, BadName, computed}
 
 pub byte_of_no_token : IsRefused (codes "BEGIN { @ }") (NoTokens (BadByte 1))

@@ -18,7 +18,7 @@ use Rattle.awk_grammar.specs.ReadItem.{script_at}
 use Rattle.awk_parse.specs.declared.fault.ParseFault.{ParseFault}
 use Rattle.awk_parse.specs.Scan.{scan}
 use Rattle.awk_parse.specs.Parsing.{misplaced}
-use Rattle.awk_resolve.specs.Kinds.{Refusal, refusal, special_arrays, special_scalars}
+use Rattle.awk_kinds.specs.Kinds.{Refusal, refusal, special_arrays, special_scalars}
 use Rattle.ere_syntax.specs.Scan.{table, sign_of}
 use Rattle.world_core.specs.WorldState.{Outside, Source}
 use Rattle.sem_primitives.specs.Jobs.{JobForm}

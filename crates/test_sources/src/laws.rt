@@ -8,8 +8,10 @@ ghost use Rattle.test_sources.specs.Meant.{IsRefusedFor, IsRunOf, IsScriptOf};
 /// The script that is read from bytes is the one that they spell: their tokens' only tree, in which nothing is left out, out of place or refused.
 /// Where none is read, the cause that is named holds.
 pub fn scripts_are_read()
-    ensures script { (bytes : List ℕ) (script : List Item) → (script_of bytes ≡ Ok script) ↔ IsScriptOf bytes script }
-    ensures refused { (bytes : List ℕ) (why : Refused) → script_of bytes ≡ Err why → IsRefusedFor bytes why }
+    ensures script { (bytes : List ℕ) (script : List Item)
+        → (script_of bytes ≡ Ok script) ↔ IsScriptOf bytes script }
+    ensures refused { (bytes : List ℕ) (why : Refused) → script_of bytes ≡ Err why
+        → IsRefusedFor bytes why }
 {}
 
 /// The run that is computed from bytes is the run of the script that they spell.

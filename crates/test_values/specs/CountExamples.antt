@@ -6,13 +6,13 @@ use Rattle.awk_values.specs.declared.fault.Fault.TheVariants.{TextLimit}
 use Rattle.world_core.specs.WorldState.{Standard, absent, puts}
 use Rattle.world_core.specs.declared.world.Ending.TheVariants as outside
 use Rattle.sem_primitives.specs.declared.constants.Destination.TheVariants as to
-use Rattle.sem_primitives.specs.declared.table.Primitive.TheVariants.{Elem, SetElem}
+use Rattle.sem_primitives.specs.declared.table.Primitive.TheVariants.{Elem, GetSpecial, SetElem, SetSpecial}
 use Rattle.sem_primitives.specs.declared.table.Listed.TheVariants.{Print}
 use Rattle.sem_scripts.specs.ScriptRun.{Setting, Ended, FaultedBy, setting_of}
 use Rattle.mid_program.specs.declared.mid.Arithmetic.TheVariants.{Modulo, Plus, Times}
 use Rattle.mid_program.specs.declared.mid.Operation.TheVariants.{AsNumber, Host, Inline}
 use Rattle.sem_scripts.specs.Names.{Numbered}
-use Rattle.mid_program.specs.Mid.{Kind, Boxed, Unboxed, Many, Global, Code, Do, Over, Compare, Number, Text, Array, Get, Set, Seq, Let, Bound, End, At, Declared, Step, Eval, Block, Loop, Steps, NoStep, Then, Program}
+use Rattle.mid_program.specs.Mid.{Kind, Boxed, Unboxed, Many, Global, Code, Do, Over, Compare, Number, Text, Array, Get, Set, Seq, Let, Bound, End, At, Fixed, Declared, Step, Eval, Block, Loop, Steps, NoStep, Then, Program}
 use Rattle.mid_program.specs.Sorted.{sorted, all_sorted, step_sorted, steps_sorted, is_sorted}
 use Rattle.lower_model.specs.Emission.{emitted, all_emitted}
 use Rattle.lower_model.specs.Statements.{step_emitted, steps_emitted}
@@ -38,7 +38,17 @@ kind_for true = Unboxed
 kind_for false = Boxed
 
 abbrev with_begin : Bool → Steps → Program
-with_begin u ss = record { texts = []; globals = (record { name = codes "n"; kind = kind_for u }) ∷ []; routines = []; ranges = 1; begin = ss; reads = false; items = NoStep; end = NoStep }
+with_begin u ss = record {
+  texts = [];
+  globals = (record { name = codes "n"; kind = kind_for u })
+      ∷ [];
+  routines = [];
+  ranges = 1;
+  begin = ss;
+  reads = false;
+  items = NoStep;
+  end = NoStep;
+}
 
 -- BEGIN { while (n < k) n = n + 1; print n }
 abbrev counting : Bool → ℕ → Program
@@ -72,7 +82,12 @@ no_import_between = refl
 abbrev faulted_at_start : Program → Conf
 faulted_at_start p =
     let f = main_callee p in
-    at [] [] [] (zeros f.locals) [] f.body (record { globals = first_globals p; host = record (host_at_start plain_setting) { fault = Some TextLimit }; assigning = None })
+    at [] [] [] (zeros f.locals) [] f.body (record {
+      globals = first_globals p;
+      host = record
+          (host_at_start plain_setting) { fault = Some TextLimit };
+      assigning = None;
+    })
 
 pub kept_from_the_start : ending_at (go (code_of (counting false 3) 9999) 1000 (faulted_at_start (counting false 3))) ≡ Some (FaultedBy TextLimit [])
 unfolding emitted all_emitted step_emitted steps_emitted digits
@@ -83,9 +98,21 @@ pub unboxed_rounds : (steps_of (counting true 10) ≡ 296) × ((steps_of (counti
 unfolding emitted all_emitted step_emitted steps_emitted digits
 unboxed_rounds = (refl, (refl, refl))
 
-pub boxed_rounds : (steps_of (counting false 10) ≡ 575) × ((steps_of (counting false 20) ≡ 1065) × ((imports_of (counting false 10) ≡ 81) × (imports_of (counting false 20) ≡ 151)))
+pub boxed_rounds : (steps_of (counting false 10) ≡ 575)
+    × ((steps_of (counting false 20) ≡ 1065) × ((imports_of (counting false 10) ≡ 81) × (imports_of (counting false 20) ≡ 151)))
 unfolding emitted all_emitted step_emitted steps_emitted digits
 boxed_rounds = (refl, (refl, (refl, refl)))
+
+-- BEGIN { NF = k; while (n < NF) n = n + 1 }
+abbrev walking : ℕ → Program
+walking k = with_begin true
+    (Then (Eval (Do (Host SetSpecial) (Fixed 5 (At (Number (pos k)) End))))
+    (Then (Loop true (Compare Less (n_of true) (Do (Host GetSpecial) (Fixed 5 End))) (n_plus_one true) (Block NoStep)) NoStep))
+
+-- 19 steps a round, and 2 imports
+pub walking_rounds : (steps_of (walking 20) ≡ steps_of (walking 10) + 190) × (imports_of (walking 20) ≡ imports_of (walking 10) + 20)
+unfolding emitted all_emitted step_emitted steps_emitted digits
+walking_rounds = (refl, refl)
 
 -- BEGIN { m = k; for (i = 1; i <= m; i++) s += i; print s }: m, i and s in this order
 abbrev nth : ℕ → Code
@@ -99,7 +126,8 @@ first_and_next =
     Then (Eval (Set (Global true 1) (Number (pos 1))))
     (Then (Loop true (Compare LessOrEqual (nth 1) (nth 0))
     (Eval (Let (nth 1) (Set (Global true 2) (Do (Inline Plus) (At (nth 2) (At (Bound true 0) End))))))
-    (Eval (Let (Do AsNumber (At (nth 1) End)) (Let (Do (Inline Plus) (At (Bound false 0) (At (Number (pos 1)) End))) (Seq (Set (Global true 1) (Bound true 0)) (Bound true 1))))))
+    (Eval (Let (Do AsNumber (At (nth 1) End)) (Let (Do (Inline Plus) (At (Bound false 0) (At (Number (pos 1)) End)))
+    (Seq (Set (Global true 1) (Bound true 0)) (Bound true 1))))))
     NoStep)
 
 abbrev summing : ℕ → Program
@@ -127,7 +155,8 @@ summing_rounds = (refl, refl)
 abbrev counter : Code
 counter =
     Let (Text 0) (Let (Do AsNumber (At (Do (Host Elem) (At (Array (Numbered 2)) (At (Bound false 0) End))) End))
-    (Let (Do (Inline Plus) (At (Bound false 0) (At (Number (pos 1)) End))) (Seq (Do (Host SetElem) (At (Array (Numbered 2)) (At (Bound true 2) (At (Bound true 0) End)))) (Bound true 1))))
+    (Let (Do (Inline Plus) (At (Bound false 0) (At (Number (pos 1)) End)))
+    (Seq (Do (Host SetElem) (At (Array (Numbered 2)) (At (Bound true 2) (At (Bound true 0) End)))) (Bound true 1))))
 
 abbrev tallying : ℕ → Program
 tallying k = record {
@@ -156,7 +185,9 @@ dividing k = record {
   globals = unboxed_name (codes "n") ∷ (unboxed_name (codes "x") ∷ []);
   routines = [];
   ranges = 1;
-  begin = Then (Eval (Set (Global true 1) (Number (pos 1)))) (Then (Loop true (Compare Less (n_of true) (Number (pos k))) (Block (Then (n_plus_one true) (Then residue NoStep))) (Block NoStep)) (Then (Eval (Over (Print to.Standard) (At (nth 1) End))) NoStep));
+  begin = Then (Eval (Set (Global true 1) (Number (pos 1))))
+      (Then (Loop true (Compare Less (n_of true) (Number (pos k))) (Block (Then (n_plus_one true) (Then residue NoStep))) (Block NoStep))
+      (Then (Eval (Over (Print to.Standard) (At (nth 1) End))) NoStep));
   reads = false;
   items = NoStep;
   end = NoStep;

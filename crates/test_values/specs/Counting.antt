@@ -2,7 +2,7 @@
 use Rattle.std.specs.Prelude.{ℕ, zero, suc, ◌+◌, nat_lt, if◌then◌else◌, Bool, true, false}
 use Rattle.wasm_types.specs.Syntax.{Plain, Instructions, Then}
 use Rattle.wasm_types.specs.declared.instr.Simple.TheVariants.{Nop, Call}
-use Rattle.lower_model.specs.Imports.{import_count}
+use Rattle.host_imports.specs.Imports.{import_count}
 use Rattle.lower_model.specs.Machine.{Code, Conf, Run, Look, Over, Deep, Stuck, step}
 
 abbrev calls_import : Instructions → ℕ

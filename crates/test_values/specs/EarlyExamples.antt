@@ -10,7 +10,7 @@ use Rattle.world_core.specs.WorldState.{Standard, Named, Outside, Source, absent
 use Rattle.world_core.specs.declared.world.Ending.{Ending}
 use Rattle.world_core.specs.declared.world.Ending.TheVariants.{End}
 use Rattle.sem_primitives.specs.Jobs.{JobForm}
-use Rattle.awk_resolve.specs.Kinds.{special_arrays, special_scalars}
+use Rattle.awk_kinds.specs.Kinds.{special_arrays, special_scalars}
 use Rattle.sem_scripts.specs.Kinds.{resolved}
 use Rattle.sem_scripts.specs.ScriptRun.{setting_of}
 use Rattle.mid_program.specs.Texts.{texts_in, all_texts, stmt_texts, stmts_texts}
@@ -45,7 +45,8 @@ abbrev without_opening : List ℕ → Outside → Outside
 without_opening name outside = replaced (Named name) (record { bytes = Some []; ending = End; room = None; opens = false }) outside
 
 -- function f(x) { if (x == "b") next; return x } { print "<" f($1) ">" }
-pub next_in_function : AgreesEarly (program_of (resolved scripts.next_in_function)) (setting_of no_job (record { rest = (codes "a\nb\nc\n"); ending = End }) empty)
+pub next_in_function : AgreesEarly (program_of (resolved scripts.next_in_function))
+    (setting_of no_job (record { rest = (codes "a\nb\nc\n"); ending = End }) empty)
 unfolding special_arrays special_scalars emitted all_emitted step_emitted steps_emitted texts_in all_texts stmt_texts stmts_texts code_of codes_of key_code kept_code argument_codes truncated_code applied_code step_code steps_code numeral_at sign_at fraction_at exponent_at numerator denominator digits unescaped escaped octal keywords builtins left_out_words table sign_of spend_all asked loop over_keys first_assigned records_done evaluated all_evaluated stepped all_stepped mid_called
 next_in_function = (refl, (refl, refl))
 

@@ -10,7 +10,7 @@ use Rattle.world_core.specs.WorldState.{Standard, Named, Outside, Source, absent
 use Rattle.world_core.specs.declared.world.Ending.{Ending}
 use Rattle.world_core.specs.declared.world.Ending.TheVariants.{End}
 use Rattle.sem_primitives.specs.Jobs.{JobForm}
-use Rattle.awk_resolve.specs.Kinds.{special_arrays, special_scalars}
+use Rattle.awk_kinds.specs.Kinds.{special_arrays, special_scalars}
 use Rattle.sem_scripts.specs.Kinds.{resolved}
 use Rattle.sem_scripts.specs.ScriptRun.{setting_of}
 use Rattle.mid_program.specs.Texts.{texts_in, all_texts, stmt_texts, stmts_texts}
@@ -64,47 +64,80 @@ unfolding special_arrays special_scalars emitted all_emitted step_emitted steps_
 keys_and_turns = refl
 
 -- { print } END { print "e" }
-pub records_and_turns : AgreesWith (program_of (resolved scripts.records_and_turns)) (setting_of no_job (record { rest = (codes "a\nb\n"); ending = End }) empty) 1500 1
+pub records_and_turns : AgreesWith (program_of (resolved scripts.records_and_turns))
+    (setting_of no_job (record { rest = (codes "a\nb\n"); ending = End }) empty) 1500 1
 unfolding special_arrays special_scalars emitted all_emitted step_emitted steps_emitted texts_in all_texts stmt_texts stmts_texts code_of codes_of key_code kept_code argument_codes truncated_code applied_code step_code steps_code numeral_at sign_at fraction_at exponent_at numerator denominator digits unescaped escaped octal keywords builtins left_out_words table sign_of spend_all asked loop over_keys first_assigned records_done evaluated all_evaluated stepped all_stepped mid_called
 records_and_turns = refl
 
 -- BEGIN { print v }
-pub assignment_without_turns : AgreesWith (program_of (resolved scripts.assignment_without_turns)) (setting_of (record { operands = []; assigns = (((codes "v"), (codes "1")) ∷ []); environment = [] }) no_input empty) 1500 0
+pub assignment_without_turns : AgreesWith (program_of (resolved scripts.assignment_without_turns))
+    (setting_of (record { operands = []; assigns = (((codes "v"), (codes "1")) ∷ []); environment = [] }) no_input empty) 1500 0
 unfolding special_arrays special_scalars emitted all_emitted step_emitted steps_emitted texts_in all_texts stmt_texts stmts_texts code_of codes_of key_code kept_code argument_codes truncated_code applied_code step_code steps_code numeral_at sign_at fraction_at exponent_at numerator denominator digits unescaped escaped octal keywords builtins left_out_words table sign_of spend_all asked loop over_keys first_assigned records_done evaluated all_evaluated stepped all_stepped mid_called
 assignment_without_turns = refl
 
 -- BEGIN { print "x" }
-pub special_assigned_without_turns : AgreesWith (program_of (resolved scripts.special_assigned_without_turns)) (setting_of (record { operands = []; assigns = (((codes "FS"), (codes ":")) ∷ []); environment = [] }) no_input empty) 1500 0
+pub special_assigned_without_turns : AgreesWith (program_of (resolved scripts.special_assigned_without_turns))
+    (setting_of (record { operands = []; assigns = (((codes "FS"), (codes ":")) ∷ []); environment = [] }) no_input empty) 1500 0
 unfolding special_arrays special_scalars emitted all_emitted step_emitted steps_emitted texts_in all_texts stmt_texts stmts_texts code_of codes_of key_code kept_code argument_codes truncated_code applied_code step_code steps_code numeral_at sign_at fraction_at exponent_at numerator denominator digits unescaped escaped octal keywords builtins left_out_words table sign_of spend_all asked loop over_keys first_assigned records_done evaluated all_evaluated stepped all_stepped mid_called
 special_assigned_without_turns = refl
 
 -- BEGIN { print "x" }
-pub unused_name_without_turns : AgreesWith (program_of (resolved scripts.unused_name_without_turns)) (setting_of (record { operands = []; assigns = (((codes "w"), (codes "1")) ∷ []); environment = [] }) no_input empty) 1500 0
+pub unused_name_without_turns : AgreesWith (program_of (resolved scripts.unused_name_without_turns))
+    (setting_of (record { operands = []; assigns = (((codes "w"), (codes "1")) ∷ []); environment = [] }) no_input empty) 1500 0
 unfolding special_arrays special_scalars emitted all_emitted step_emitted steps_emitted texts_in all_texts stmt_texts stmts_texts code_of codes_of key_code kept_code argument_codes truncated_code applied_code step_code steps_code numeral_at sign_at fraction_at exponent_at numerator denominator digits unescaped escaped octal keywords builtins left_out_words table sign_of spend_all asked loop over_keys first_assigned records_done evaluated all_evaluated stepped all_stepped mid_called
 unused_name_without_turns = refl
 
 -- BEGIN { print v FS OFS "x" }
-pub too_few_turns_for_assignments : AgreesWith (program_of (resolved scripts.too_few_turns_for_assignments)) (setting_of (record { operands = []; assigns = (((codes "FS"), (codes ":")) ∷ ((codes "w"), (codes "1")) ∷ ((codes "v"), (codes "1")) ∷ ((codes "OFS"), (codes ":")) ∷ []); environment = [] }) no_input empty) 1500 3
+pub too_few_turns_for_assignments : AgreesWith (program_of (resolved scripts.too_few_turns_for_assignments))
+    (setting_of (record {
+      operands = [];
+      assigns = (((codes "FS"), (codes ":")) ∷ ((codes "w"), (codes "1")) ∷ ((codes "v"), (codes "1"))
+          ∷ ((codes "OFS"), (codes ":")) ∷ []);
+      environment = [];
+    }) no_input empty) 1500 3
 unfolding special_arrays special_scalars emitted all_emitted step_emitted steps_emitted texts_in all_texts stmt_texts stmts_texts code_of codes_of key_code kept_code argument_codes truncated_code applied_code step_code steps_code numeral_at sign_at fraction_at exponent_at numerator denominator digits unescaped escaped octal keywords builtins left_out_words table sign_of spend_all asked loop over_keys first_assigned records_done evaluated all_evaluated stepped all_stepped mid_called
 too_few_turns_for_assignments = refl
 
 -- BEGIN { print "x" }
-pub bad_assignment_not_reached : AgreesWith (program_of (resolved scripts.bad_assignment_not_reached)) (setting_of (record { operands = []; assigns = (((codes "w"), (codes "1")) ∷ ((codes "sin"), (codes "1")) ∷ []); environment = [] }) no_input empty) 1500 1
+pub bad_assignment_not_reached : AgreesWith (program_of (resolved scripts.bad_assignment_not_reached))
+    (setting_of (record {
+      operands = [];
+      assigns = (((codes "w"), (codes "1")) ∷ ((codes "sin"), (codes "1"))
+          ∷ []);
+      environment = [];
+    }) no_input empty) 1500 1
 unfolding special_arrays special_scalars emitted all_emitted step_emitted steps_emitted texts_in all_texts stmt_texts stmts_texts code_of codes_of key_code kept_code argument_codes truncated_code applied_code step_code steps_code numeral_at sign_at fraction_at exponent_at numerator denominator digits unescaped escaped octal keywords builtins left_out_words table sign_of spend_all asked loop over_keys first_assigned records_done evaluated all_evaluated stepped all_stepped mid_called
 bad_assignment_not_reached = refl
 
 -- BEGIN { print "b" } { print "x" }
-pub operand_without_turns : AgreesWith (program_of (resolved scripts.operand_without_turns)) (setting_of (record { operands = ((codes "FS=q") ∷ (codes "f") ∷ []); assigns = []; environment = [] }) no_input (with_file (codes "f") (codes "p q\nr\n") End empty)) 1500 0
+pub operand_without_turns : AgreesWith (program_of (resolved scripts.operand_without_turns)) (setting_of (record {
+  operands = ((codes "FS=q")
+      ∷ (codes "f") ∷ []);
+  assigns = [];
+  environment = [];
+}) no_input (with_file (codes "f") (codes "p q\nr\n") End empty)) 1500 0
 unfolding special_arrays special_scalars emitted all_emitted step_emitted steps_emitted texts_in all_texts stmt_texts stmts_texts code_of codes_of key_code kept_code argument_codes truncated_code applied_code step_code steps_code numeral_at sign_at fraction_at exponent_at numerator denominator digits unescaped escaped octal keywords builtins left_out_words table sign_of spend_all asked loop over_keys first_assigned records_done evaluated all_evaluated stepped all_stepped mid_called
 operand_without_turns = refl
 
 -- { print $1 }
-pub turns_of_operands : AgreesWith (program_of (resolved scripts.turns_of_operands)) (setting_of (record { operands = ((codes "FS=:") ∷ (codes "w=1") ∷ (codes "f") ∷ []); assigns = []; environment = [] }) no_input (with_file (codes "f") (codes "p q\nr\n") End empty)) 1500 3
+pub turns_of_operands : AgreesWith (program_of (resolved scripts.turns_of_operands)) (setting_of (record {
+  operands = ((codes "FS=:") ∷ (codes "w=1")
+      ∷ (codes "f") ∷ []);
+  assigns = [];
+  environment = [];
+}) no_input (with_file (codes "f") (codes "p q\nr\n") End empty)) 1500 3
 unfolding special_arrays special_scalars emitted all_emitted step_emitted steps_emitted texts_in all_texts stmt_texts stmts_texts code_of codes_of key_code kept_code argument_codes truncated_code applied_code step_code steps_code numeral_at sign_at fraction_at exponent_at numerator denominator digits unescaped escaped octal keywords builtins left_out_words table sign_of spend_all asked loop over_keys first_assigned records_done evaluated all_evaluated stepped all_stepped mid_called
 turns_of_operands = refl
 
 -- BEGIN { getline; print $1; getline; print $1 }
-pub turns_of_getline : AgreesWith (program_of (resolved scripts.turns_of_getline)) (setting_of (record { operands = ((codes "FS=:") ∷ (codes "w=1") ∷ (codes "f") ∷ (codes "RS=:") ∷ (codes "g") ∷ []); assigns = []; environment = [] }) no_input (with_file (codes "g") (codes "r\n") End (with_file (codes "f") (codes "p q\n") End empty))) 1500 2
+pub turns_of_getline : AgreesWith (program_of (resolved scripts.turns_of_getline)) (setting_of (record {
+  operands = ((codes "FS=:") ∷ (codes "w=1")
+      ∷ (codes "f") ∷ (codes "RS=:") ∷ (codes "g")
+      ∷ []);
+  assigns = [];
+  environment = [];
+}) no_input
+    (with_file (codes "g") (codes "r\n") End (with_file (codes "f") (codes "p q\n") End empty))) 1500 2
 unfolding special_arrays special_scalars emitted all_emitted step_emitted steps_emitted texts_in all_texts stmt_texts stmts_texts code_of codes_of key_code kept_code argument_codes truncated_code applied_code step_code steps_code numeral_at sign_at fraction_at exponent_at numerator denominator digits unescaped escaped octal keywords builtins left_out_words table sign_of spend_all asked loop over_keys first_assigned records_done evaluated all_evaluated stepped all_stepped mid_called
 turns_of_getline = refl
 

@@ -26,7 +26,17 @@ name kind text = record { name = text; kind = kind }
 
 -- names: k, and an array a; texts: x and y
 abbrev program : List Routine → Steps → Program
-program rs ss = record { texts = codes "x" ∷ (codes "y" ∷ []); globals = name Boxed (codes "k") ∷ (name Many (codes "a") ∷ []); routines = rs; ranges = 0; begin = ss; reads = false; items = NoStep; end = NoStep }
+program rs ss = record {
+  texts = codes "x" ∷ (codes "y" ∷ []);
+  globals = name Boxed (codes "k")
+      ∷ (name Many (codes "a") ∷ []);
+  routines = rs;
+  ranges = 0;
+  begin = ss;
+  reads = false;
+  items = NoStep;
+  end = NoStep;
+}
 
 abbrev printed : Code → Step
 printed e = Eval (Over (Print to.Standard) (At e End))
@@ -42,7 +52,8 @@ each s = Each (Numbered 2) (Set (Global false 0) (Bound true 0)) s
 
 -- a["x"]; a["y"]; for (k in a) print k; for (k in a) break; for (k in a) { for (k in a) print k; continue }
 abbrev loops : Program
-loops = program [] (Then (element 0) (Then (element 1) (Then (each (printed k)) (Then (each Break) (Then (each (each (printed k))) (Then (each Continue) NoStep))))))
+loops = program [] (Then (element 0) (Then (element 1)
+    (Then (each (printed k)) (Then (each Break) (Then (each (each (printed k))) (Then (each Continue) NoStep))))))
 
 pub loops_in_turn : is_sorted loops ≡ true × value_run loops plain_setting 2000 ≡ Some (Ended 0 (puts Standard (codes "x\ny\nx\ny\nx\ny\n")))
 unfolding sorted all_sorted step_sorted steps_sorted emitted all_emitted step_emitted steps_emitted digits
@@ -59,8 +70,15 @@ kept_and_copied = (refl, refl)
 -- function f(b) { b["x"]; for (k in b) print k }  BEGIN { f(); f() "x"; print (f() "x") + 1 }
 abbrev made : Program
 made =
-    program ((record { name = codes "f"; parameters = Many ∷ []; body = Then (Eval (Do (Host Elem) (At (Array (Given 0)) (At (Text 0) End)))) (Then (Each (Given 0) (Set (Global false 0) (Bound true 0)) (printed k)) NoStep) }) ∷ [])
-    (Then (Eval (Call 0 (Fresh End))) (Then (Eval (Do (Host Concat) (At (Call 0 (Fresh End)) (At (Text 0) End)))) (Then (printed (Do (Inline Plus) (At (Number (pos 1)) (At (Call 0 (Fresh End)) End)))) NoStep)))
+    program ((record {
+      name = codes "f";
+      parameters = Many
+          ∷ [];
+      body = Then (Eval (Do (Host Elem) (At (Array (Given 0)) (At (Text 0) End))))
+          (Then (Each (Given 0) (Set (Global false 0) (Bound true 0)) (printed k)) NoStep);
+    }) ∷ [])
+    (Then (Eval (Call 0 (Fresh End))) (Then (Eval (Do (Host Concat) (At (Call 0 (Fresh End)) (At (Text 0) End))))
+    (Then (printed (Do (Inline Plus) (At (Number (pos 1)) (At (Call 0 (Fresh End)) End)))) NoStep)))
 
 pub arrays_made : is_sorted made ≡ true × value_run made plain_setting 2000 ≡ Some (Ended 0 (puts Standard (codes "x\nx\nx\n1\n")))
 unfolding sorted all_sorted step_sorted steps_sorted emitted all_emitted step_emitted steps_emitted digits
@@ -69,8 +87,17 @@ arrays_made = (refl, refl)
 -- function f(b) { for (k in a) print ("x" + 0.5 as a text) }: a fault inside a walk, an open call and a half-evaluated list
 abbrev faulted : Program
 faulted =
-    record (program ((record { name = codes "f"; parameters = Many ∷ []; body = Then (each (Eval (Over (Print to.Standard) (At (Text 0) (At (Do (Inline Plus) (At (Text 2) (At (Number (pos 1)) End))) End))))) NoStep }) ∷ [])
-    (Then (element 0) (Then (Eval (Over (Print to.Standard) (At (Text 1) (At (Call 0 (Fresh End)) End)))) NoStep))) { texts = codes "x" ∷ (codes "y" ∷ (codes "0.5" ∷ [])) }
+    record (program ((record {
+      name = codes "f";
+      parameters = Many
+          ∷ [];
+      body = Then (each (Eval (Over (Print to.Standard)
+          (At (Text 0) (At (Do (Inline Plus) (At (Text 2) (At (Number (pos 1)) End))) End))))) NoStep;
+    }) ∷ [])
+    (Then (element 0) (Then (Eval (Over (Print to.Standard) (At (Text 1) (At (Call 0 (Fresh End)) End)))) NoStep))) {
+      texts = codes "x"
+          ∷ (codes "y" ∷ (codes "0.5" ∷ []));
+    }
 
 pub fault_while_held : is_sorted faulted ≡ true × value_run faulted plain_setting 2000 ≡ Some (FaultedBy Fraction [])
 unfolding sorted all_sorted step_sorted steps_sorted emitted all_emitted step_emitted steps_emitted digits numeral_at sign_at fraction_at exponent_at numerator denominator

@@ -58,7 +58,8 @@ abbrev set_element : Bool → ℕ → Code
 set_element m i = Do (Host SetElem) (At (Array (Numbered 2)) (At (Bound true i) (At (Bound m 0) End)))
 
 abbrev stepped_after : Arithmetic → Code
-stepped_after o = Let first_field (Let (Do AsNumber (At (element 0) End)) (Let (joined o (Bound false 0) (Number (pos 1))) (Seq (set_element true 2) (Bound true 1))))
+stepped_after o = Let first_field (Let (Do AsNumber (At (element 0) End))
+    (Let (joined o (Bound false 0) (Number (pos 1))) (Seq (set_element true 2) (Bound true 1))))
 
 abbrev added_to : Arithmetic → Code → Code
 added_to o e = Let first_field (Let e (Let (joined o (element 1) (Bound true 0)) (Seq (set_element false 2) (Bound true 0))))
@@ -66,7 +67,8 @@ added_to o e = Let first_field (Let e (Let (joined o (element 1) (Bound true 0))
 abbrev stepped_before : Arithmetic → Code
 stepped_before o = Let first_field (Let (joined o (element 0) (Number (pos 1))) (Seq (set_element false 1) (Bound true 0)))
 
-pub counters : (tally_in (stepped_after Minus) ≡ Some (record { read = Numbered 2; written = Numbered 2; key = first_field; op = Minus; added = Number (pos 1) }))
+pub counters : (tally_in (stepped_after Minus)
+    ≡ Some (record { read = Numbered 2; written = Numbered 2; key = first_field; op = Minus; added = Number (pos 1) }))
     × ((tally_in (added_to Plus first_field) ≡ Some (record { read = Numbered 2; written = Numbered 2; key = first_field; op = Plus; added = first_field }))
     × (tally_in (stepped_before Plus) ≡ Some (record { read = Numbered 2; written = Numbered 2; key = first_field; op = Plus; added = Number (pos 1) })))
 counters = (refl, (refl, refl))
@@ -78,9 +80,12 @@ pub no_counters : (tally_in (added_to Times first_field) ≡ None)
 no_counters = (refl, (refl, refl))
 
 -- `x = x % 7`, `x = y * 3 % 7`, and constants less than 0
-pub remainders : (remainder_in (assigned 7 (joined Modulo (name 7) (Number (pos 7)))) ≡ Some (record { target = 7; multiple = record { name = 7; factor = None }; divisor = pos 7 }))
-    × ((remainder_in (assigned 7 (joined Modulo (joined Times (name 5) (Number (pos 3))) (Number (pos 7)))) ≡ Some (record { target = 7; multiple = record { name = 5; factor = Some (pos 3) }; divisor = pos 7 }))
-    × (remainder_in (assigned 7 (joined Modulo (joined Times (name 7) (Number (negsuc 2))) (Number (negsuc 6)))) ≡ Some (record { target = 7; multiple = record { name = 7; factor = Some (negsuc 2) }; divisor = negsuc 6 })))
+pub remainders : (remainder_in (assigned 7 (joined Modulo (name 7) (Number (pos 7))))
+    ≡ Some (record { target = 7; multiple = record { name = 7; factor = None }; divisor = pos 7 }))
+    × ((remainder_in (assigned 7 (joined Modulo (joined Times (name 5) (Number (pos 3))) (Number (pos 7))))
+    ≡ Some (record { target = 7; multiple = record { name = 5; factor = Some (pos 3) }; divisor = pos 7 }))
+    × (remainder_in (assigned 7 (joined Modulo (joined Times (name 7) (Number (negsuc 2))) (Number (negsuc 6))))
+    ≡ Some (record { target = 7; multiple = record { name = 7; factor = Some (negsuc 2) }; divisor = negsuc 6 })))
 remainders = (refl, (refl, refl))
 
 -- 0 as a factor or a divisor, a quotient, a product alone, a boxed name, and a parameter
@@ -93,7 +98,8 @@ pub no_remainders : (remainder_in (assigned 7 (joined Modulo (joined Times (name
 no_remainders = (refl, (refl, (refl, (refl, (refl, refl)))))
 
 -- so far a product with 3 is in range, and with the greatest constant; the target is asked too, and each name once
-pub multiplied_most : (most_multiplied (Some (pos 3)) ≡ 3002399751580330) × ((most_multiplied (Some (negsuc (2 ^ 53 - 1))) ≡ 1) × (most_multiplied None ≡ 2 ^ 53))
+pub multiplied_most : (most_multiplied (Some (pos 3)) ≡ 3002399751580330)
+    × ((most_multiplied (Some (negsuc (2 ^ 53 - 1))) ≡ 1) × (most_multiplied None ≡ 2 ^ 53))
 multiplied_most = (refl, (refl, refl))
 
 pub remainder_asks : (remainder_names (record { target = 7; multiple = record { name = 7; factor = None }; divisor = pos 7 }) ≡ 7 ∷ [])

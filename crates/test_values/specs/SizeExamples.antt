@@ -11,7 +11,17 @@ use Rattle.lower_model.specs.Modules.{module_of}
 use Rattle.test_values.specs.Sizes.{module_size, times}
 
 abbrev repeated : Kind → ℕ → Step → Program
-repeated kind n s = record { texts = []; globals = (record { name = codes "x"; kind = kind }) ∷ []; routines = []; ranges = 1; begin = times n s; reads = false; items = NoStep; end = NoStep }
+repeated kind n s = record {
+  texts = [];
+  globals = (record { name = codes "x"; kind = kind })
+      ∷ [];
+  routines = [];
+  ranges = 1;
+  begin = times n s;
+  reads = false;
+  items = NoStep;
+  end = NoStep;
+}
 
 abbrev size_of : Kind → ℕ → Step → ℕ
 size_of kind n s = module_size (module_of (repeated kind n s))

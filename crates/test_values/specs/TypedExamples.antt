@@ -10,7 +10,7 @@ use Rattle.world_core.specs.WorldState.{Standard, Named, Outside, Source, absent
 use Rattle.world_core.specs.declared.world.Ending.{Ending}
 use Rattle.world_core.specs.declared.world.Ending.TheVariants.{End}
 use Rattle.sem_primitives.specs.Jobs.{JobForm}
-use Rattle.awk_resolve.specs.Kinds.{special_arrays, special_scalars}
+use Rattle.awk_kinds.specs.Kinds.{special_arrays, special_scalars}
 use Rattle.sem_scripts.specs.Kinds.{resolved}
 use Rattle.mid_program.specs.Texts.{texts_in, all_texts, stmt_texts, stmts_texts}
 use Rattle.mid_program.specs.Translation.{code_of, codes_of, key_code, kept_code, argument_codes, truncated_code, applied_code, step_code, steps_code, program_of}
@@ -149,7 +149,8 @@ pub ranges : is_typed (module_of (program_of (resolved scripts.ranges))) ≡ tru
 unfolding special_arrays special_scalars emitted all_emitted step_emitted steps_emitted texts_in all_texts stmt_texts stmts_texts code_of codes_of key_code kept_code argument_codes truncated_code applied_code step_code steps_code numeral_at sign_at fraction_at exponent_at numerator denominator digits unescaped escaped octal keywords builtins left_out_words table sign_of
 ranges = refl
 
--- BEGIN { print substr("hello", 0, 3), substr("hello", -1), substr("hello", 4, 99), index("hello", "l"), split("a:b::c", p, ":"), "[" p[3] "]", toupper("ab") tolower("CD") }
+-- BEGIN { print substr("hello", 0, 3), substr("hello", -1), substr("hello", 4, 99), index("hello", "l"), split("a:b::c", p, ":"), "[" p[3] "]",
+-- toupper("ab") tolower("CD") }
 pub text_functions : is_typed (module_of (program_of (resolved scripts.text_functions))) ≡ true
 unfolding special_arrays special_scalars emitted all_emitted step_emitted steps_emitted texts_in all_texts stmt_texts stmts_texts code_of codes_of key_code kept_code argument_codes truncated_code applied_code step_code steps_code numeral_at sign_at fraction_at exponent_at numerator denominator digits unescaped escaped octal keywords builtins left_out_words table sign_of
 text_functions = refl

@@ -10,7 +10,7 @@ use Rattle.world_core.specs.WorldState.{Standard, Named, Outside, Source, absent
 use Rattle.world_core.specs.declared.world.Ending.{Ending}
 use Rattle.world_core.specs.declared.world.Ending.TheVariants.{End}
 use Rattle.sem_primitives.specs.Jobs.{JobForm}
-use Rattle.awk_resolve.specs.Kinds.{special_arrays, special_scalars}
+use Rattle.awk_kinds.specs.Kinds.{special_arrays, special_scalars}
 use Rattle.sem_scripts.specs.Kinds.{resolved}
 use Rattle.mid_program.specs.Texts.{texts_in, all_texts, stmt_texts, stmts_texts}
 use Rattle.mid_program.specs.Translation.{code_of, codes_of, key_code, kept_code, argument_codes, truncated_code, applied_code, step_code, steps_code, program_of}
@@ -95,12 +95,14 @@ pub exit_before_records : is_typed (module_of (program_of (resolved scripts.exit
 unfolding special_arrays special_scalars emitted all_emitted step_emitted steps_emitted texts_in all_texts stmt_texts stmts_texts code_of codes_of key_code kept_code argument_codes truncated_code applied_code step_code steps_code numeral_at sign_at fraction_at exponent_at numerator denominator digits unescaped escaped octal keywords builtins left_out_words table sign_of
 exit_before_records = refl
 
--- function f(x, y) { if (x < y) return x; y = x = x * 2; return y } BEGIN { print f(3, 5), f(7), f("10", 9), f() "." ; n = -n; n += !m; print n, n++ + ++n, n-- }
+-- function f(x, y) { if (x < y) return x; y = x = x * 2; return y } BEGIN { print f(3, 5), f(7), f("10", 9), f() "." ; n = -n; n += !m; print n, n++
+-- + ++n, n-- }
 pub numbers_in_names : is_typed (module_of (program_of (resolved scripts.numbers_in_names))) ≡ true
 unfolding special_arrays special_scalars emitted all_emitted step_emitted steps_emitted texts_in all_texts stmt_texts stmts_texts code_of codes_of key_code kept_code argument_codes truncated_code applied_code step_code steps_code numeral_at sign_at fraction_at exponent_at numerator denominator digits unescaped escaped octal keywords builtins left_out_words table sign_of
 numbers_in_names = refl
 
-pub numbers_in_names_unboxed : is_typed (module_of (unboxed (true ∷ true ∷ []) ((false ∷ true ∷ []) ∷ []) (program_of (resolved scripts.numbers_in_names)))) ≡ true
+pub numbers_in_names_unboxed : is_typed (module_of (unboxed (true ∷ true ∷ []) ((false ∷ true ∷ [])
+    ∷ []) (program_of (resolved scripts.numbers_in_names)))) ≡ true
 unfolding special_arrays special_scalars emitted all_emitted step_emitted steps_emitted texts_in all_texts stmt_texts stmts_texts code_of codes_of key_code kept_code argument_codes truncated_code applied_code step_code steps_code numeral_at sign_at fraction_at exponent_at numerator denominator digits unescaped escaped octal keywords builtins left_out_words table sign_of
 numbers_in_names_unboxed = refl
 

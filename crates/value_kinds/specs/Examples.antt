@@ -8,7 +8,7 @@ use Rattle.awk_values.specs.declared.fault.Fault.TheVariants.{Fraction, Range}
 use Rattle.world_core.specs.WorldState.{Standard, Named, Outside, Source, absent, replaced, puts}
 use Rattle.world_core.specs.declared.world.Ending.TheVariants.{End}
 use Rattle.sem_primitives.specs.Jobs.{JobForm}
-use Rattle.awk_resolve.specs.Kinds.{special_arrays, special_scalars}
+use Rattle.awk_kinds.specs.Kinds.{special_arrays, special_scalars}
 use Rattle.awk_tokens.specs.Words.{keywords, builtins, left_out_words}
 use Rattle.awk_grammar.specs.Token as token
 use Rattle.awk_grammar.specs.Tree as tree
@@ -49,27 +49,44 @@ with_file name bytes outside = replaced (Named name) (record { bytes = Some byte
 
 -- BEGIN { print n; print n + 1 }
 abbrev printed_then_added : List Item
-printed_then_added = (item.Begin (stmt.And (stmt.Simple (stmt.Put stmt.Print (stmt.Listed (tree.Then (tree.Var (codes "n")) tree.NoTree)) stmt.NoTarget)) (stmt.And (stmt.Simple (stmt.Put stmt.Print (stmt.Listed (tree.Then (tree.Bin (tree.Add token.Plus) (tree.Var (codes "n")) (tree.Leaf (token.Number (codes "1")))) tree.NoTree)) stmt.NoTarget)) stmt.NoStmt))) ∷ []
+printed_then_added = (item.Begin (stmt.And (stmt.Simple
+    (stmt.Put stmt.Print (stmt.Listed (tree.Then (tree.Var (codes "n")) tree.NoTree)) stmt.NoTarget))
+    (stmt.And (stmt.Simple (stmt.Put stmt.Print
+    (stmt.Listed (tree.Then (tree.Bin (tree.Add token.Plus) (tree.Var (codes "n"))
+    (tree.Leaf (token.Number (codes "1")))) tree.NoTree)) stmt.NoTarget)) stmt.NoStmt))) ∷ []
 
 -- { n++; print n }
 abbrev counted : List Item
-counted = (item.Always (stmt.And (stmt.Simple (stmt.Eval (tree.Post token.Increment (tree.Var (codes "n"))))) (stmt.And (stmt.Simple (stmt.Put stmt.Print (stmt.Listed (tree.Then (tree.Var (codes "n")) tree.NoTree)) stmt.NoTarget)) stmt.NoStmt))) ∷ []
+counted = (item.Always (stmt.And (stmt.Simple (stmt.Eval (tree.Post token.Increment (tree.Var (codes "n")))))
+    (stmt.And (stmt.Simple (stmt.Put stmt.Print (stmt.Listed (tree.Then (tree.Var (codes "n")) tree.NoTree)) stmt.NoTarget)) stmt.NoStmt))) ∷ []
 
 -- BEGIN { n = 2^53; n++; print "no" }
 abbrev past_range : List Item
-past_range = (item.Begin (stmt.And (stmt.Simple (stmt.Eval (tree.Bin (tree.Other (token.Assign token.Set)) (tree.Var (codes "n")) (tree.Bin (tree.Other token.Pow) (tree.Leaf (token.Number (codes "2"))) (tree.Leaf (token.Number (codes "53"))))))) (stmt.And (stmt.Simple (stmt.Eval (tree.Post token.Increment (tree.Var (codes "n"))))) (stmt.And (stmt.Simple (stmt.Put stmt.Print (stmt.Listed (tree.Then (tree.Leaf (token.Quoted (34 ∷ 110 ∷ 111 ∷ 34 ∷ []))) tree.NoTree)) stmt.NoTarget)) stmt.NoStmt)))) ∷ []
+past_range = (item.Begin (stmt.And (stmt.Simple
+    (stmt.Eval (tree.Bin (tree.Other (token.Assign token.Set)) (tree.Var (codes "n"))
+    (tree.Bin (tree.Other token.Pow) (tree.Leaf (token.Number (codes "2"))) (tree.Leaf (token.Number (codes "53")))))))
+    (stmt.And (stmt.Simple (stmt.Eval (tree.Post token.Increment (tree.Var (codes "n")))))
+    (stmt.And (stmt.Simple (stmt.Put stmt.Print (stmt.Listed (tree.Then (tree.Leaf (token.Quoted (34 ∷ 110 ∷ 111 ∷ 34
+    ∷ []))) tree.NoTree)) stmt.NoTarget)) stmt.NoStmt)))) ∷ []
 
 -- -v n=0.5: the text is printed as it is; its number is a fraction
-pub text_before_a_number : lanes_of printed_then_added ≡ record { globals = Unboxed ∷ []; parameters = [] } × is_sorted (with_lanes printed_then_added) ≡ true × mid_run_in (with_lanes printed_then_added) (setting_of (job_with [] ((codes "n", codes "0.5") ∷ [])) no_input empty) 20 ≡ FaultedBy Fraction (puts Standard (codes "0.5\n"))
+pub text_before_a_number : lanes_of printed_then_added ≡ record { globals = Unboxed ∷ []; parameters = [] }
+    × is_sorted (with_lanes printed_then_added) ≡ true
+    × mid_run_in (with_lanes printed_then_added) (setting_of (job_with [] ((codes "n", codes "0.5") ∷ [])) no_input empty) 20
+    ≡ FaultedBy Fraction (puts Standard (codes "0.5\n"))
 unfolding special_arrays special_scalars spend_all asked loop over_keys first_assigned records_done evaluated all_evaluated stepped all_stepped mid_called sorted all_sorted step_sorted steps_sorted texts_in all_texts stmt_texts stmts_texts code_of codes_of key_code kept_code argument_codes truncated_code applied_code step_code steps_code numeral_at sign_at fraction_at exponent_at numerator denominator digits unescaped escaped octal keywords builtins left_out_words
 text_before_a_number = (refl, refl, refl)
 
 -- operands f, n=07, g
-pub text_between_records : lanes_of counted ≡ record { globals = Unboxed ∷ []; parameters = [] } × is_sorted (with_lanes counted) ≡ true × mid_run_in (with_lanes counted) (setting_of (job_with (codes "f" ∷ codes "n=07" ∷ codes "g" ∷ []) []) no_input (with_file (codes "f") (codes "a\n") (with_file (codes "g") (codes "b\n") empty))) 20 ≡ Ended 0 (puts Standard (codes "1\n8\n"))
+pub text_between_records : lanes_of counted ≡ record { globals = Unboxed ∷ []; parameters = [] } × is_sorted (with_lanes counted) ≡ true
+    × mid_run_in (with_lanes counted) (setting_of (job_with (codes "f" ∷ codes "n=07" ∷ codes "g"
+    ∷ []) []) no_input (with_file (codes "f") (codes "a\n") (with_file (codes "g") (codes "b\n") empty))) 20
+    ≡ Ended 0 (puts Standard (codes "1\n8\n"))
 unfolding special_arrays special_scalars spend_all asked loop over_keys first_assigned records_done evaluated all_evaluated stepped all_stepped mid_called sorted all_sorted step_sorted steps_sorted texts_in all_texts stmt_texts stmts_texts code_of codes_of key_code kept_code argument_codes truncated_code applied_code step_code steps_code numeral_at sign_at fraction_at exponent_at numerator denominator digits unescaped escaped octal keywords builtins left_out_words
 text_between_records = (refl, refl, refl)
 
-pub range_of_a_number : lanes_of past_range ≡ record { globals = Unboxed ∷ []; parameters = [] } × is_sorted (with_lanes past_range) ≡ true × mid_run_in (with_lanes past_range) (setting_of (job_with [] []) no_input empty) 20 ≡ FaultedBy Range []
+pub range_of_a_number : lanes_of past_range ≡ record { globals = Unboxed ∷ []; parameters = [] } × is_sorted (with_lanes past_range) ≡ true
+    × mid_run_in (with_lanes past_range) (setting_of (job_with [] []) no_input empty) 20 ≡ FaultedBy Range []
 unfolding special_arrays special_scalars spend_all asked loop over_keys first_assigned records_done evaluated all_evaluated stepped all_stepped mid_called sorted all_sorted step_sorted steps_sorted texts_in all_texts stmt_texts stmts_texts code_of codes_of key_code kept_code argument_codes truncated_code applied_code step_code steps_code numeral_at sign_at fraction_at exponent_at numerator denominator digits unescaped escaped octal keywords builtins left_out_words
 range_of_a_number = (refl, refl, refl)
 
@@ -79,40 +96,55 @@ unfolding special_arrays special_scalars texts_in all_texts stmt_texts stmts_tex
 text_is_boxed = refl
 
 -- function r(n) { return n ? r(n-1) : 7 } BEGIN { print "x"; print r(4) }: numbers alone are given for n
-pub parameter_is_unboxed : lanes_of scripts.calls_too_deep ≡ record { globals = []; parameters = (Unboxed ∷ []) ∷ [] } × is_sorted (with_lanes scripts.calls_too_deep) ≡ true
+pub parameter_is_unboxed : lanes_of scripts.calls_too_deep ≡ record { globals = []; parameters = (Unboxed ∷ []) ∷ [] }
+    × is_sorted (with_lanes scripts.calls_too_deep) ≡ true
 unfolding special_arrays special_scalars sorted all_sorted step_sorted steps_sorted texts_in all_texts stmt_texts stmts_texts code_of codes_of key_code kept_code argument_codes truncated_code applied_code step_code steps_code numeral_at sign_at fraction_at exponent_at numerator denominator digits unescaped escaped octal keywords builtins left_out_words
 parameter_is_unboxed = (refl, refl)
 
--- function f(a, n, own) { .. n = 9; .. } BEGIN { n = 12; print f(t, n), t["k"], n }: the global n is given for the parameter n, which is a copy of what a name has, so that one is boxed
-pub copies_are_boxed : lanes_of scripts.arrays_by_reference ≡ record { globals = Unboxed ∷ Many ∷ []; parameters = (Many ∷ Boxed ∷ Many ∷ []) ∷ [] } × is_sorted (with_lanes scripts.arrays_by_reference) ≡ true
+-- function f(a, n, own) { .. n = 9; .. } BEGIN { n = 12; print f(t, n), t["k"], n }: the global n is given for the parameter n, which is a copy of
+-- what a name has, so that one is boxed
+pub copies_are_boxed : lanes_of scripts.arrays_by_reference ≡ record { globals = Unboxed ∷ Many ∷ []; parameters = (Many ∷ Boxed ∷ Many ∷ []) ∷ [] }
+    × is_sorted (with_lanes scripts.arrays_by_reference) ≡ true
 unfolding special_arrays special_scalars sorted all_sorted step_sorted steps_sorted texts_in all_texts stmt_texts stmts_texts code_of codes_of key_code kept_code argument_codes truncated_code applied_code step_code steps_code numeral_at sign_at fraction_at exponent_at numerator denominator digits unescaped escaped octal keywords builtins left_out_words
 copies_are_boxed = (refl, refl)
 
 -- BEGIN { while (n < 10) n = n + 1; print n }
 abbrev counted_up : List Item
-counted_up = (item.Begin (stmt.And (stmt.While (tree.Bin (tree.Other (token.Compare token.Less)) (tree.Var (codes "n")) (tree.Leaf (token.Number (codes "10")))) (stmt.Simple (stmt.Eval (tree.Bin (tree.Other (token.Assign token.Set)) (tree.Var (codes "n")) (tree.Bin (tree.Add token.Plus) (tree.Var (codes "n")) (tree.Leaf (token.Number (codes "1")))))))) (stmt.And (stmt.Simple (stmt.Put stmt.Print (stmt.Listed (tree.Then (tree.Var (codes "n")) tree.NoTree)) stmt.NoTarget)) stmt.NoStmt))) ∷ []
+counted_up = (item.Begin (stmt.And (stmt.While (tree.Bin (tree.Other (token.Compare token.Less)) (tree.Var (codes "n"))
+    (tree.Leaf (token.Number (codes "10"))))
+    (stmt.Simple (stmt.Eval (tree.Bin (tree.Other (token.Assign token.Set)) (tree.Var (codes "n"))
+    (tree.Bin (tree.Add token.Plus) (tree.Var (codes "n")) (tree.Leaf (token.Number (codes "1"))))))))
+    (stmt.And (stmt.Simple (stmt.Put stmt.Print (stmt.Listed (tree.Then (tree.Var (codes "n")) tree.NoTree)) stmt.NoTarget)) stmt.NoStmt))) ∷ []
 
 -- a test on numbers, and a sum
-pub counted_in_a_loop : lanes_of counted_up ≡ record { globals = Unboxed ∷ []; parameters = [] } × is_sorted (with_lanes counted_up) ≡ true × mid_run_in (with_lanes counted_up) (setting_of (job_with [] []) no_input empty) 20 ≡ Ended 0 (puts Standard (codes "10\n"))
+pub counted_in_a_loop : lanes_of counted_up ≡ record { globals = Unboxed ∷ []; parameters = [] } × is_sorted (with_lanes counted_up) ≡ true
+    × mid_run_in (with_lanes counted_up) (setting_of (job_with [] []) no_input empty) 20 ≡ Ended 0 (puts Standard (codes "10\n"))
 unfolding special_arrays special_scalars spend_all asked loop over_keys first_assigned records_done evaluated all_evaluated stepped all_stepped mid_called sorted all_sorted step_sorted steps_sorted texts_in all_texts stmt_texts stmts_texts code_of codes_of key_code kept_code argument_codes truncated_code applied_code step_code steps_code numeral_at sign_at fraction_at exponent_at numerator denominator digits unescaped escaped octal keywords builtins left_out_words
 counted_in_a_loop = (refl, refl, refl)
 
 -- what was never stored is the empty text, and nought
-pub never_stored : lanes_of scripts.unset_name ≡ record { globals = Unboxed ∷ []; parameters = [] } × is_sorted (with_lanes scripts.unset_name) ≡ true × mid_run_in (with_lanes scripts.unset_name) (setting_of (job_with [] []) no_input empty) 20 ≡ Ended 0 (puts Standard (codes "[] 0\n"))
+pub never_stored : lanes_of scripts.unset_name ≡ record { globals = Unboxed ∷ []; parameters = [] } × is_sorted (with_lanes scripts.unset_name) ≡ true
+    × mid_run_in (with_lanes scripts.unset_name) (setting_of (job_with [] []) no_input empty) 20 ≡ Ended 0 (puts Standard (codes "[] 0\n"))
 unfolding special_arrays special_scalars spend_all asked loop over_keys first_assigned records_done evaluated all_evaluated stepped all_stepped mid_called sorted all_sorted step_sorted steps_sorted texts_in all_texts stmt_texts stmts_texts code_of codes_of key_code kept_code argument_codes truncated_code applied_code step_code steps_code numeral_at sign_at fraction_at exponent_at numerator denominator digits unescaped escaped octal keywords builtins left_out_words
 never_stored = (refl, refl, refl)
 
 -- -v n=007: the text is printed as it is, and counted as its number
-pub text_then_number : lanes_of scripts.assigned_before ≡ record { globals = Unboxed ∷ []; parameters = [] } × is_sorted (with_lanes scripts.assigned_before) ≡ true × mid_run_in (with_lanes scripts.assigned_before) (setting_of (job_with [] ((codes "n", codes "007") ∷ [])) no_input empty) 20 ≡ Ended 0 (puts Standard (codes "007\n8\n"))
+pub text_then_number : lanes_of scripts.assigned_before ≡ record { globals = Unboxed ∷ []; parameters = [] }
+    × is_sorted (with_lanes scripts.assigned_before) ≡ true
+    × mid_run_in (with_lanes scripts.assigned_before) (setting_of (job_with [] ((codes "n", codes "007") ∷ [])) no_input empty) 20
+    ≡ Ended 0 (puts Standard (codes "007\n8\n"))
 unfolding special_arrays special_scalars spend_all asked loop over_keys first_assigned records_done evaluated all_evaluated stepped all_stepped mid_called sorted all_sorted step_sorted steps_sorted texts_in all_texts stmt_texts stmts_texts code_of codes_of key_code kept_code argument_codes truncated_code applied_code step_code steps_code numeral_at sign_at fraction_at exponent_at numerator denominator digits unescaped escaped octal keywords builtins left_out_words
 text_then_number = (refl, refl, refl)
 
 -- BEGIN { a = 2^53; print a * a }
-pub range_of_a_product : lanes_of scripts.product_past_range ≡ record { globals = Unboxed ∷ []; parameters = [] } × is_sorted (with_lanes scripts.product_past_range) ≡ true × mid_run_in (with_lanes scripts.product_past_range) (setting_of (job_with [] []) no_input empty) 20 ≡ FaultedBy Range []
+pub range_of_a_product : lanes_of scripts.product_past_range ≡ record { globals = Unboxed ∷ []; parameters = [] }
+    × is_sorted (with_lanes scripts.product_past_range) ≡ true
+    × mid_run_in (with_lanes scripts.product_past_range) (setting_of (job_with [] []) no_input empty) 20 ≡ FaultedBy Range []
 unfolding special_arrays special_scalars spend_all asked loop over_keys first_assigned records_done evaluated all_evaluated stepped all_stepped mid_called sorted all_sorted step_sorted steps_sorted texts_in all_texts stmt_texts stmts_texts code_of codes_of key_code kept_code argument_codes truncated_code applied_code step_code steps_code numeral_at sign_at fraction_at exponent_at numerator denominator digits unescaped escaped octal keywords builtins left_out_words
 range_of_a_product = (refl, refl, refl)
 
 -- BEGIN { n = 1; print n ++ 2; print "a" ++n; x = 1 + 2 " " 3; .. }: the steps of n are numbers, and what x is given is a text
-pub steps_are_numbers : lanes_of scripts.steps_and_powers ≡ record { globals = Unboxed ∷ Boxed ∷ []; parameters = [] } × is_sorted (with_lanes scripts.steps_and_powers) ≡ true
+pub steps_are_numbers : lanes_of scripts.steps_and_powers ≡ record { globals = Unboxed ∷ Boxed ∷ []; parameters = [] }
+    × is_sorted (with_lanes scripts.steps_and_powers) ≡ true
 unfolding special_arrays special_scalars sorted all_sorted step_sorted steps_sorted texts_in all_texts stmt_texts stmts_texts code_of codes_of key_code kept_code argument_codes truncated_code applied_code step_code steps_code numeral_at sign_at fraction_at exponent_at numerator denominator digits unescaped escaped octal keywords builtins left_out_words
 steps_are_numbers = (refl, refl)

@@ -37,4 +37,5 @@ is_scalar (k ∷ ks) (suc i) = is_scalar ks i
 
 pub record FindsNumbers (p : Program) : Type 0 where
   pub globals : (i : ℕ) → is_scalar (kinds_of p.globals) i ≡ true → Throughout (GlobalNumber i) p → is_unboxed (infer p).globals i ≡ true
-  pub parameters : (h i : ℕ) → is_scalar (parameters_at (calls_of p) h) i ≡ true → Throughout (ParameterNumber h i) p → is_unboxed (parameters_at (infer p).parameters h) i ≡ true
+  pub parameters : (h i : ℕ) → is_scalar (parameters_at (calls_of p) h) i ≡ true → Throughout (ParameterNumber h i) p
+      → is_unboxed (parameters_at (infer p).parameters h) i ≡ true

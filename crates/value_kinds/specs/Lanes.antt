@@ -1,11 +1,12 @@
--- Which names are unboxed: a scalar into which the script stores numbers alone, as arguments too. What the command line assigns to a global stays a text until then.
+-- Which names are unboxed: a scalar into which the script stores numbers alone, as arguments too. What the command line assigns to a global stays a
+-- text until then.
 use Rattle.std.specs.Prelude.{ℕ, zero, suc, Bool, true, false, List, [], ◌∷◌, map}
 use Rattle.mid_program.specs.Mid.{Kind, Boxed, Unboxed, Many, Global, Parameter, Routine, Program, Form, Perhaps}
 use Rattle.mid_program.specs.Sorted.{is_number, kinds_of, calls_of}
 use Rattle.mid_rewriting.specs.Stores.{Store, Into, Given, steps_stores}
 
--- by the numbers of the globals, and for each function by those of its parameters. An unboxed global has a boxed twin, since the command line may give it a text; an
--- unboxed parameter is a number, or nothing yet
+-- by the numbers of the globals, and for each function by those of its parameters. An unboxed global has a boxed twin, since the command line may
+-- give it a text; an unboxed parameter is a number, or nothing yet
 pub record Lanes : Type 0 where
   pub globals : List Kind
   pub parameters : List (List Kind)
@@ -67,4 +68,5 @@ function_count (r ∷ rs) = suc (function_count rs)
 abbrev pub infer : Program → Lanes
 infer p =
     let none = function_count p.routines in
-    all_marked none (all_marked none (all_marked none (routines_marked 0 (at_first p) p.routines) (steps_stores p.begin)) (steps_stores p.items)) (steps_stores p.end)
+    all_marked none (all_marked none (all_marked none (routines_marked 0 (at_first p) p.routines) (steps_stores p.begin)) (steps_stores p.items))
+    (steps_stores p.end)

@@ -104,7 +104,8 @@ fn lane_operand(names: Names<'_>, operand: &mut Operand)
 
 #[cycle(lanes)]
 fn lane_operands(names: Names<'_>, operands: &mut Vec<Operand>)
-    ensures { views operands.new.items ≡ codes_in (slots names.entry) Do (views operands.old.items) }
+    ensures { views operands.new.items
+        ≡ codes_in (slots names.entry) Do (views operands.old.items) }
 {
     for operand in operands.iter_mut() {
         lane_operand(names, operand);
@@ -113,7 +114,8 @@ fn lane_operands(names: Names<'_>, operands: &mut Vec<Operand>)
 
 #[cycle(lanes)]
 fn lane_codes(names: Names<'_>, codes: &mut Vec<Code>)
-    ensures { map view codes.new.items ≡ map (code_in (slots names.entry) Do) (map view codes.old.items) }
+    ensures { map view codes.new.items
+        ≡ map (code_in (slots names.entry) Do) (map view codes.old.items) }
 {
     for code in codes.iter_mut() {
         lane_code(names, code);

@@ -23,7 +23,8 @@ fn opened(kind: Kind) -> Kind
 }
 
 fn open_globals(alloc: Global, globals: &[Declared]) -> Result<Vec<Kind>, AllocError>
-    ensures { IfOk result (λ kinds. map view_kind kinds.items ≡ map opened (kinds_of (map view_declared globals.now))) }
+    ensures { IfOk result (λ kinds. map view_kind kinds.items
+        ≡ map opened (kinds_of (map view_declared globals.now))) }
 {
     let mut kinds = Vec::new(alloc);
     for global in globals {
@@ -33,7 +34,8 @@ fn open_globals(alloc: Global, globals: &[Declared]) -> Result<Vec<Kind>, AllocE
 }
 
 fn open_parameters(alloc: Global, parameters: &[Kind]) -> Result<Vec<Kind>, AllocError>
-    ensures { IfOk result (λ kinds. map view_kind kinds.items ≡ map opened (map view_kind parameters.now)) }
+    ensures { IfOk result
+        (λ kinds. map view_kind kinds.items ≡ map opened (map view_kind parameters.now)) }
 {
     let mut kinds = Vec::new(alloc);
     for kind in parameters {
@@ -43,7 +45,8 @@ fn open_parameters(alloc: Global, parameters: &[Kind]) -> Result<Vec<Kind>, Allo
 }
 
 fn open_routines(alloc: Global, routines: &[Routine]) -> Result<Vec<Vec<Kind>>, AllocError>
-    ensures { IfOk result (λ kinds. map view_kinds kinds.items ≡ map (map opened) (parameters_in (map view_routine routines.now))) }
+    ensures { IfOk result (λ kinds. map view_kinds kinds.items
+        ≡ map (map opened) (parameters_in (map view_routine routines.now))) }
 {
     let mut kinds = Vec::new(alloc);
     for routine in routines {
@@ -64,7 +67,8 @@ fn at_first(alloc: Global, mid: &Mid) -> Result<Lanes, AllocError>
 
 /// Marks what functions store. The main parts come next, which stand in none of them.
 fn mark_routines(alloc: Global, walk: &mut Walk, routines: &[Routine]) -> Result<(), AllocError>
-    ensures { OnOk result (view_walk walk.new ≡ after_routines (view_walk walk.old) (map view_routine routines.now)) }
+    ensures { OnOk result
+        (view_walk walk.new ≡ after_routines (view_walk walk.old) (map view_routine routines.now)) }
 {
     for place in 0..routines.len() {
         walk.function = place;

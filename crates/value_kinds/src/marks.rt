@@ -15,7 +15,8 @@ use std::alloc::AllocError;
 /// Marks what code stores, and answers the code's form.
 #[cycle(marks)]
 pub(crate) fn mark_code(walk: &mut Walk, code: &Code) -> Result<Form, AllocError>
-    ensures form { IfOk result (λ form. view_form form ≡ form_in (view_walk walk.old) (view code.now)) }
+    ensures form { IfOk result
+        (λ form. view_form form ≡ form_in (view_walk walk.old) (view code.now)) }
     ensures walk { OnOk result (view_walk walk.new ≡ walked (view_walk walk.old) (view code.now)) }
 {
     match code {
@@ -88,8 +89,10 @@ pub(crate) fn mark_code(walk: &mut Walk, code: &Code) -> Result<Form, AllocError
 /// Marks what code stores while something of this form is kept, and answers the code's form.
 #[cycle(marks)]
 pub(crate) fn mark_under(walk: &mut Walk, form: Form, code: &Code) -> Result<Form, AllocError>
-    ensures form { IfOk result (λ found. view_form found ≡ form_in (kept_too (view_form form) (view_walk walk.old)) (view code.now)) }
-    ensures walk { OnOk result (view_walk walk.new ≡ walked_under (view_form form) (view_walk walk.old) (view code.now)) }
+    ensures form { IfOk result (λ found. view_form found
+        ≡ form_in (kept_too (view_form form) (view_walk walk.old)) (view code.now)) }
+    ensures walk { OnOk result
+        (view_walk walk.new ≡ walked_under (view_form form) (view_walk walk.old) (view code.now)) }
 {
     walk.keep(form)?;
     let found = mark_code(walk, code)?;
@@ -100,7 +103,8 @@ pub(crate) fn mark_under(walk: &mut Walk, form: Form, code: &Code) -> Result<For
 /// Marks what codes store, one after the other.
 #[cycle(marks)]
 fn mark_codes(walk: &mut Walk, codes: &[Code]) -> Result<(), AllocError>
-    ensures { OnOk result (view_walk walk.new ≡ walked_each (view_walk walk.old) (map view codes.now)) }
+    ensures { OnOk result
+        (view_walk walk.new ≡ walked_each (view_walk walk.old) (map view codes.now)) }
 {
     for code in codes {
         mark_code(walk, code)?;
@@ -110,7 +114,8 @@ fn mark_codes(walk: &mut Walk, codes: &[Code]) -> Result<(), AllocError>
 
 #[cycle(marks)]
 fn mark_operand(walk: &mut Walk, operand: &Operand) -> Result<(), AllocError>
-    ensures { OnOk result (view_walk walk.new ≡ walked_in (view_walk walk.old) (before operand.now End)) }
+    ensures { OnOk result
+        (view_walk walk.new ≡ walked_in (view_walk walk.old) (before operand.now End)) }
 {
     match operand {
         Operand::Code(code) => {
@@ -124,7 +129,8 @@ fn mark_operand(walk: &mut Walk, operand: &Operand) -> Result<(), AllocError>
 /// Marks what operands store.
 #[cycle(marks)]
 fn mark_operands(walk: &mut Walk, operands: &[Operand]) -> Result<(), AllocError>
-    ensures { OnOk result (view_walk walk.new ≡ walked_in (view_walk walk.old) (views operands.now)) }
+    ensures { OnOk result
+        (view_walk walk.new ≡ walked_in (view_walk walk.old) (views operands.now)) }
 {
     for operand in operands {
         mark_operand(walk, operand)?;
@@ -139,7 +145,8 @@ fn mark_argument(
     place: usize,
     operand: &Operand,
 ) -> Result<(), AllocError>
-    ensures { OnOk result (view_walk walk.new ≡ walked_given function place (view_walk walk.old) (before operand.now End)) }
+    ensures { OnOk result (view_walk walk.new
+        ≡ walked_given function place (view_walk walk.old) (before operand.now End)) }
 {
     match operand {
         Operand::Code(code) => {
@@ -154,7 +161,8 @@ fn mark_argument(
 /// Marks what the arguments of a call store, and the arguments themselves.
 #[cycle(marks)]
 fn mark_arguments(walk: &mut Walk, function: usize, operands: &[Operand]) -> Result<(), AllocError>
-    ensures { OnOk result (view_walk walk.new ≡ walked_given function 0 (view_walk walk.old) (views operands.now)) }
+    ensures { OnOk result
+        (view_walk walk.new ≡ walked_given function 0 (view_walk walk.old) (views operands.now)) }
 {
     for place in 0..operands.len() {
         mark_argument(walk, function, place, &operands[place])?;

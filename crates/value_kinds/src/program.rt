@@ -19,7 +19,8 @@ fn lane_kind(unboxed: bool, kind: &mut Kind)
 }
 
 fn lane_kinds(lanes: &[Kind], kinds: &mut Vec<Kind>)
-    ensures { map view_kind kinds.new.items ≡ kinds_with (is_unboxed (map view_kind lanes.now)) (map view_kind kinds.old.items) }
+    ensures { map view_kind kinds.new.items
+        ≡ kinds_with (is_unboxed (map view_kind lanes.now)) (map view_kind kinds.old.items) }
 {
     let mut place = 0;
     for kind in kinds.iter_mut() {
@@ -29,13 +30,15 @@ fn lane_kinds(lanes: &[Kind], kinds: &mut Vec<Kind>)
 }
 
 fn lane_global(unboxed: bool, global: &mut Declared)
-    ensures { view_declared global.new ≡ record (view_declared global.old) { kind = kind_with unboxed (view_kind global.old.kind) } }
+    ensures { view_declared global.new ≡ record (view_declared global.old)
+        { kind = kind_with unboxed (view_kind global.old.kind) } }
 {
     global.kind = kind_with(unboxed, global.kind);
 }
 
 fn lane_globals(lanes: &[Kind], globals: &mut Vec<Declared>)
-    ensures { map view_declared globals.new.items ≡ globals_with (is_unboxed (map view_kind lanes.now)) (map view_declared globals.old.items) }
+    ensures { map view_declared globals.new.items ≡ globals_with
+        (is_unboxed (map view_kind lanes.now)) (map view_declared globals.old.items) }
 {
     let mut place = 0;
     for global in globals.iter_mut() {
@@ -45,7 +48,8 @@ fn lane_globals(lanes: &[Kind], globals: &mut Vec<Declared>)
 }
 
 fn lane_routine(globals: &[Kind], parameters: &[Kind], routine: &mut Routine)
-    ensures { view_routine routine.new ≡ routine_with (map view_kind globals.now) (map view_kind parameters.now) (view_routine routine.old) }
+    ensures { view_routine routine.new ≡ routine_with (map view_kind globals.now)
+        (map view_kind parameters.now) (view_routine routine.old) }
 {
     lane_kinds(parameters, &mut routine.parameters);
     lane_steps(
@@ -68,7 +72,8 @@ fn parameters_at(lanes: &Lanes, place: usize) -> &[Kind]
 }
 
 fn lane_routines(lanes: &Lanes, routines: &mut Vec<Routine>)
-    ensures { map view_routine routines.new.items ≡ routines_with (view_lanes lanes.now).globals (parameters_at (view_lanes lanes.now).parameters) (map view_routine routines.old.items) }
+    ensures { map view_routine routines.new.items ≡ routines_with (view_lanes lanes.now).globals
+        (parameters_at (view_lanes lanes.now).parameters) (map view_routine routines.old.items) }
 {
     let mut place = 0;
     for routine in routines.iter_mut() {

@@ -65,7 +65,8 @@ fn lane_step(names: Names<'_>, step: &mut Step)
 /// Gives lanes to the names in steps.
 #[cycle(step_lanes)]
 pub(crate) fn lane_steps(names: Names<'_>, steps: &mut Vec<Step>)
-    ensures { view_steps steps.new.items ≡ steps_in (slots names.entry) Do (view_steps steps.old.items) }
+    ensures { view_steps steps.new.items
+        ≡ steps_in (slots names.entry) Do (view_steps steps.old.items) }
 {
     for step in steps.iter_mut() {
         lane_step(names, step);

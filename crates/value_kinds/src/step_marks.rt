@@ -17,7 +17,8 @@ use std::mem;
 
 /// Marks what the code of a statement stores: nothing is kept outside it.
 fn mark_alone(alloc: Global, walk: &mut Walk, code: &Code) -> Result<(), AllocError>
-    ensures { OnOk result (view_walk walk.new ≡ after (view_walk walk.old) (stores [] (view code.now))) }
+    ensures { OnOk result
+        (view_walk walk.new ≡ after (view_walk walk.old) (stores [] (view code.now))) }
 {
     let kept = mem::replace(&mut walk.kept, Vec::new(alloc));
     mark_code(walk, code)?;
@@ -27,7 +28,8 @@ fn mark_alone(alloc: Global, walk: &mut Walk, code: &Code) -> Result<(), AllocEr
 
 /// The same of code that stores a value, which is kept.
 fn mark_store(alloc: Global, walk: &mut Walk, code: &Code) -> Result<(), AllocError>
-    ensures { OnOk result (view_walk walk.new ≡ after (view_walk walk.old) (stores (a_value ∷ []) (view code.now))) }
+    ensures { OnOk result
+        (view_walk walk.new ≡ after (view_walk walk.old) (stores (a_value ∷ []) (view code.now))) }
 {
     let kept = mem::replace(&mut walk.kept, Vec::new(alloc));
     mark_under(walk, Form::Answered(Answer::Of(Sort::Value)), code)?;
@@ -38,7 +40,8 @@ fn mark_store(alloc: Global, walk: &mut Walk, code: &Code) -> Result<(), AllocEr
 /// Marks what a step stores.
 #[cycle(step_marks)]
 fn mark_step(alloc: Global, walk: &mut Walk, step: &Step) -> Result<(), AllocError>
-    ensures { OnOk result (view_walk walk.new ≡ walked_step (view_walk walk.old) (view_step step.now)) }
+    ensures { OnOk result
+        (view_walk walk.new ≡ walked_step (view_walk walk.old) (view_step step.now)) }
 {
     match step {
         Step::Eval(code) | Step::ExitWith(code) | Step::Return(code) => mark_alone(
@@ -66,7 +69,8 @@ fn mark_step(alloc: Global, walk: &mut Walk, step: &Step) -> Result<(), AllocErr
 /// Marks what steps store.
 #[cycle(step_marks)]
 pub(crate) fn mark_steps(alloc: Global, walk: &mut Walk, steps: &[Step]) -> Result<(), AllocError>
-    ensures { OnOk result (view_walk walk.new ≡ walked_steps (view_walk walk.old) (view_steps steps.now)) }
+    ensures { OnOk result
+        (view_walk walk.new ≡ walked_steps (view_walk walk.old) (view_steps steps.now)) }
 {
     for step in steps {
         mark_step(alloc, walk, step)?;

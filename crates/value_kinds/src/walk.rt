@@ -46,7 +46,8 @@ fn close_at(kinds: &mut Vec<Kind>, place: usize)
 
 /// Boxes a parameter of a function, if it is a scalar.
 fn close_in(functions: &mut Vec<Vec<Kind>>, function: usize, place: usize)
-    ensures { map view_kinds functions.new.items ≡ close_in (map view_kinds functions.old.items) function place }
+    ensures { map view_kinds functions.new.items
+        ≡ close_in (map view_kinds functions.old.items) function place }
 {
     if function < functions.len() {
         close_at(&mut functions[function], place);
@@ -67,7 +68,8 @@ impl Walk {
 
     /// Keeps what has this form.
     pub(crate) fn keep(&mut self, form: Form) -> Result<(), AllocError>
-        ensures { OnOk result (view_walk self.new ≡ kept_too (view_form form) (view_walk self.old)) }
+        ensures { OnOk result
+            (view_walk self.new ≡ kept_too (view_form form) (view_walk self.old)) }
     {
         self.kept.push(form)?;
         Ok(())
@@ -82,7 +84,8 @@ impl Walk {
 
     /// Marks what is stored into a name.
     pub(crate) fn store(&mut self, slot: Slot, form: Form)
-        ensures { view_walk self.new ≡ after (view_walk self.old) (Into (view_slot slot) (view_form form) ∷ []) }
+        ensures { view_walk self.new
+            ≡ after (view_walk self.old) (Into (view_slot slot) (view_form form) ∷ []) }
     {
         if form.is_number() {
             return;
@@ -95,7 +98,8 @@ impl Walk {
 
     /// Marks what is given for a function's parameter.
     pub(crate) fn give(&mut self, function: usize, place: usize, form: Form)
-        ensures { view_walk self.new ≡ after (view_walk self.old) (Given function place (view_form form) ∷ []) }
+        ensures { view_walk self.new
+            ≡ after (view_walk self.old) (Given function place (view_form form) ∷ []) }
     {
         if !form.is_plain() {
             close_in(&mut self.lanes.parameters, function, place);

@@ -273,7 +273,8 @@ fn code_of(alloc: Global, whole: &Module, func: &Func) -> Result<Code, AllocErro
 
 /// The code of each function, and after them that of the first frame.
 pub(crate) fn codes_of(alloc: Global, whole: &Module, main: u32) -> Result<Vec<Code>, AllocError>
-    ensures codes { IfOk result (λ v. Lays (whole.now.funcs.items) (entry_code whole.now.start main) v.items) }
+    ensures codes { IfOk result
+        (λ v. Lays (whole.now.funcs.items) (entry_code whole.now.start main) v.items) }
 {
     let mut codes = Vec::new(alloc);
     for func in &whole.funcs {

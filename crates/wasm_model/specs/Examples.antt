@@ -20,7 +20,14 @@ use Rattle.wasm_model.specs.Reductions.{Const, Looped, Invoke, LabelOf, FrameOf,
 use Rattle.wasm_model.specs.Reductions as core
 
 -- the operand 1 before `i32.const 2 i32.add`, in a block below whose operands 5 lies and behind which `drop` stands
-form : in_body (Some ty.I32) [] (in_place (record { values = I32 1 ∷ []; labels = (record { under = I32 5 ∷ []; again = None; gives = Some ty.I32; rest = Then (Plain Drop) Done }) ∷ []; locals = []; code = Then (Plain (I32Const 2)) (Then (Plain (Binary ty.I32 Add)) Done) }) ε)
+form : in_body (Some ty.I32) [] (in_place (record {
+  values = I32 1
+      ∷ [];
+  labels = (record { under = I32 5 ∷ []; again = None; gives = Some ty.I32; rest = Then (Plain Drop) Done })
+      ∷ [];
+  locals = [];
+  code = Then (Plain (I32Const 2)) (Then (Plain (Binary ty.I32 Add)) Done);
+}) ε)
     ≡ FrameOf 1 [] (LabelOf 1 ε (Const (I32 5) ⨾ LabelOf 1 ε (Const (I32 1) ⨾ Const (I32 2) ⨾ op (Binary ty.I32 Add) ⨾ ε) ⨾ op Drop ⨾ ε) ⨾ ε) ⨾ ε
 form = refl
 
@@ -29,7 +36,8 @@ module _ {H O : Type 0} (M : Meaning H O) (m : ProgramForm) (S : StoreForm H O) 
   sum = more 1 0 refl (core.rule (core.binary refl)) none
 
   -- `loop br 0 end` begins again: one step
-  around : Chain M m 1 S F (LabelOf 0 (Looped (Then (Plain (Br 0)) Done) ⨾ ε) (op (Br 0) ⨾ ε) ⨾ ε) S F (LabelOf 0 (Looped (Then (Plain (Br 0)) Done) ⨾ ε) (op (Br 0) ⨾ ε) ⨾ ε)
+  around : Chain M m 1 S F (LabelOf 0 (Looped (Then (Plain (Br 0)) Done) ⨾ ε) (op (Br 0) ⨾ ε) ⨾ ε) S F
+      (LabelOf 0 (Looped (Then (Plain (Br 0)) Done) ⨾ ε) (op (Br 0) ⨾ ε) ⨾ ε)
   around = more 0 1 refl (core.rule (core.branch (Here [] ε) [] refl)) (more 1 0 refl (core.rule core.loop) none)
 
   -- a branch that is taken takes one step, and leaves what lies below its result
@@ -88,7 +96,17 @@ GoesOn M m n h = (c : Conf) × Ran M m n (beginning m.whole 0) h [] OutOfSteps c
 module _ {H O : Type 0} (M : Meaning H O) (h h' : H) (out : List O) where
   -- the call, and the end of the body
   main_in_two : Returns M alone 2 h [] (I32 0) h
-  main_in_two = (2, omega arith, _, _, _, _, (_, _, _, _, (refl, refl, refl), (_, _, _, _, (refl, refl, refl), (refl, refl, refl), refl), refl), (refl, refl, refl), refl)
+  main_in_two = (
+    2,
+    omega arith,
+    _,
+    _,
+    _,
+    _,
+    (_, _, _, _, (refl, refl, refl), (_, _, _, _, (refl, refl, refl), (refl, refl, refl), refl), refl),
+    (refl, refl, refl),
+    refl,
+  )
 
   main_not_in_one : GoesOn M alone 1 h
   main_not_in_one = (_, ((_, _, _, _, (refl, refl, refl), (refl, refl, refl), refl), tt))
@@ -102,14 +120,56 @@ module _ {H O : Type 0} (M : Meaning H O) (h h' : H) (out : List O) where
 
   -- the start function before it takes two more
   start_in_four : Returns M with_start 4 h [] (I32 0) h
-  start_in_four = (4, omega arith, _, _, _, _, (_, _, _, _, (refl, refl, refl), (_, _, _, _, (refl, refl, refl), (_, _, _, _, (refl, refl, refl), (_, _, _, _, (refl, refl, refl), (refl, refl, refl), refl), refl), refl), refl), (refl, refl, refl), refl)
+  start_in_four = (
+    4,
+    omega arith,
+    _,
+    _,
+    _,
+    _,
+    (
+      _,
+      _,
+      _,
+      _,
+      (refl, refl, refl),
+      (_, _, _, _, (refl, refl, refl), (_, _, _, _, (refl, refl, refl), (_, _, _, _, (refl, refl, refl), (refl, refl, refl), refl), refl), refl),
+      refl,
+    ),
+    (refl, refl, refl),
+    refl,
+  )
 
   start_not_in_three : GoesOn M with_start 3 h
-  start_not_in_three = (_, ((_, _, _, _, (refl, refl, refl), (_, _, _, _, (refl, refl, refl), (_, _, _, _, (refl, refl, refl), (refl, refl, refl), refl), refl), refl), tt))
+  start_not_in_three = (
+    _,
+    (
+      (
+        _,
+        _,
+        _,
+        _,
+        (refl, refl, refl),
+        (_, _, _, _, (refl, refl, refl), (_, _, _, _, (refl, refl, refl), (refl, refl, refl), refl), refl),
+        refl,
+      ),
+      tt,
+    ),
+  )
 
   -- a `main` of the host's is one call
   import_in_one : (mem : MemoryForm) → M h 7 [] (beginning imported.whole 0).memory (Answered (Some (I32 5))) h' mem out → Returns M imported 1 h out (I32 5) h'
-  import_in_one mem x = (1, omega arith, _, _, _, _, (_, _, _, _, (_, x, refl), (refl, refl, refl), refl), (refl, refl, refl), sym (append-nil (out ++ []) ∙ append-nil out))
+  import_in_one mem x = (
+    1,
+    omega arith,
+    _,
+    _,
+    _,
+    _,
+    (_, _, _, _, (_, x, refl), (refl, refl, refl), refl),
+    (refl, refl, refl),
+    sym (append-nil (out ++ []) ∙ append-nil out),
+  )
 
   import_not_in_none : GoesOn M imported 0 h
   import_not_in_none = (_, ((refl, refl, refl), tt))

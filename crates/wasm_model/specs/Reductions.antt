@@ -184,7 +184,8 @@ results (Some w) = w ∷ []
 
 -- S; F; instr* ↪ S'; F'; instr'*, which counts so many steps. A function's address is its index in the module; the host has its own number
 -- for an import.
-pub data Reduces {H O : Type 0} (M : Meaning H O) (m : ProgramForm) : ℕ → StoreForm H O → List Word → Sequence → StoreForm H O → List Word → Sequence → Type 0 where
+pub data Reduces {H O : Type 0} (M : Meaning H O) (m : ProgramForm) : ℕ → StoreForm H O → List Word → Sequence → StoreForm H O → List Word → Sequence
+    → Type 0 where
   -- a rule instr* ↪ instr'*, in any store and frame
   rule : {n : ℕ} {S : StoreForm H O} {F : List Word} {es es' : Sequence} → Rewrites n es es' → Reduces M m n S F es S F es'
   -- S; F; E[instr*] ↪ S'; F'; E[instr'*] where S; F; instr* ↪ S'; F'; instr'*
@@ -243,17 +244,20 @@ pub data Reduces {H O : Type 0} (M : Meaning H O) (m : ProgramForm) : ℕ → St
       typed_in m.whole f.ty ≡ Some t → length vs ≡ length t.params →
       Reduces M m 0 S F (on vs (Invoke a ⨾ ε)) S F (FrameOf (arity t.result) (reverse vs ++ map zero_of f.locals) (Does (Block t.result f.body) ⨾ ε) ⨾ ε)
   -- S; val^n (invoke a) ↪ S'; result where S.funcs[a] is a function [t1^n] → [t2^m] of the host, which may answer so
-  invoke_host : {S : StoreForm H O} {F : List Word} (a i : ℕ) (x : ImportForm) (t : Signature) (w : Option Word) (h : H) (mem : MemoryForm) (out : List O) (vs : List Word) →
+  invoke_host : {S : StoreForm H O} {F : List Word} (a i : ℕ) (x : ImportForm) (t : Signature) (w : Option Word) (h : H) (mem : MemoryForm)
+      (out : List O) (vs : List Word) →
       slice_get m.whole.imports a ≡ Some x → slice_get m.numbers a ≡ Some i → typed_in m.whole x.ty ≡ Some t → length vs ≡ length t.params →
       M S.host i (reverse vs) S.memory (answer.Done w) h mem out →
       Reduces M m 1 S F (on vs (Invoke a ⨾ ε)) (after_host S h mem out) F (on (results w) ε)
-  invoke_host_traps : {S : StoreForm H O} {F : List Word} (a i : ℕ) (x : ImportForm) (t : Signature) (k : TrapKind) (h : H) (mem : MemoryForm) (out : List O) (vs : List Word) →
+  invoke_host_traps : {S : StoreForm H O} {F : List Word} (a i : ℕ) (x : ImportForm) (t : Signature) (k : TrapKind) (h : H) (mem : MemoryForm)
+      (out : List O) (vs : List Word) →
       slice_get m.whole.imports a ≡ Some x → slice_get m.numbers a ≡ Some i → typed_in m.whole x.ty ≡ Some t → length vs ≡ length t.params →
       M S.host i (reverse vs) S.memory (answer.Trap k) h mem out →
       Reduces M m 1 S F (on vs (Invoke a ⨾ ε)) (after_host S h mem out) F (Trapped k ⨾ ε)
 
 -- Reductions one after the other, which count so many steps in all.
-pub data Chain {H O : Type 0} (M : Meaning H O) (m : ProgramForm) : ℕ → StoreForm H O → List Word → Sequence → StoreForm H O → List Word → Sequence → Type 0 where
+pub data Chain {H O : Type 0} (M : Meaning H O) (m : ProgramForm) : ℕ → StoreForm H O → List Word → Sequence → StoreForm H O → List Word → Sequence
+    → Type 0 where
   none : {S : StoreForm H O} {F : List Word} {es : Sequence} → Chain M m 0 S F es S F es
   more : {n : ℕ} {S S1 S2 : StoreForm H O} {F F1 F2 : List Word} {es es1 es2 : Sequence} (i k : ℕ) →
       n ≡ i + k → Reduces M m i S F es S1 F1 es1 → Chain M m k S1 F1 es1 S2 F2 es2 → Chain M m n S F es S2 F2 es2
@@ -296,15 +300,19 @@ IsReduced M m n c h out c' h' out' = Chain M m n (store_of c h out) [] (nested c
 -- in the innermost frame the call of a function of the module stands next, with 10,000 frames open besides the first
 abbrev pub CallsDeep : ProgramForm → Sequence → Type 0
 CallsDeep m es = (callers : List CallerForm) × (r : Option ValType) × (f : FrameForm) × (a : ℕ) × (g : FuncForm) × (10000 ≤ length callers)
-    × (slice_get m.whole.imports a ≡ None) × (slice_get m.whole.funcs (a - length m.whole.imports) ≡ Some g) × (es ≡ in_frames r f.locals callers (in_place f (Invoke a ⨾ ε)))
+    × (slice_get m.whole.imports a ≡ None) × (slice_get m.whole.funcs (a - length m.whole.imports) ≡ Some g)
+    × (es ≡ in_frames r f.locals callers (in_place f (Invoke a ⨾ ε)))
 
 -- A run that ends after so many steps. Where it returns, reductions that count these lead to the result. Where it traps, reductions that count
 -- one more lead to the trap. Where the machine is exhausted they lead to where a call stands next with 10,000 frames open besides the first, a
 -- limit that the specification does not have. No run is stuck.
 abbrev pub EndsIn : {H O : Type 0} → Meaning H O → ProgramForm → ℕ → Conf → H → List O → End → H → List O → Type 0
-EndsIn {H} {O} M m n c h out (ends.Returned w) h' out' = (S : StoreForm H O) × (S.host ≡ h') × (S.output ≡ out') × Chain M m n (store_of c h out) [] (nested c) S [] (on (results w) ε)
-EndsIn {H} {O} M m n c h out (ends.Trapped k) h' out' = (S : StoreForm H O) × (S.host ≡ h') × (S.output ≡ out') × Chain M m (suc n) (store_of c h out) [] (nested c) S [] (Trapped k ⨾ ε)
-EndsIn {H} {O} M m n c h out ends.Exhausted h' out' = (S : StoreForm H O) × (S.host ≡ h') × (S.output ≡ out') × (es : Sequence) × CallsDeep m es × Chain M m n (store_of c h out) [] (nested c) S [] es
+EndsIn {H} {O} M m n c h out (ends.Returned w) h' out' = (S : StoreForm H O) × (S.host ≡ h') × (S.output ≡ out')
+    × Chain M m n (store_of c h out) [] (nested c) S [] (on (results w) ε)
+EndsIn {H} {O} M m n c h out (ends.Trapped k) h' out' = (S : StoreForm H O) × (S.host ≡ h') × (S.output ≡ out')
+    × Chain M m (suc n) (store_of c h out) [] (nested c) S [] (Trapped k ⨾ ε)
+EndsIn {H} {O} M m n c h out ends.Exhausted h' out' = (S : StoreForm H O) × (S.host ≡ h') × (S.output ≡ out') × (es : Sequence) × CallsDeep m es
+    × Chain M m n (store_of c h out) [] (nested c) S [] es
 EndsIn M m n c h out ends.Stuck h' out' = ⊥
 
 -- A step is reductions that count one step, whatever was written before. An end is reductions too.
@@ -317,8 +325,10 @@ IsStepReduced {H} {O} M m t c h =
 abbrev pub IsRunReduced : {H O : Type 0} → Meaning H O → ProgramForm → ℕ → Conf → H → List O → List O → RunEnd → Conf → H → Type 0
 IsRunReduced M m n c h out new OutOfSteps c' h' = IsReduced M m n c h out c' h' (out ++ new)
 IsRunReduced M m n c h out new (Ended e) c' h' = (k : ℕ) × IsWithin k n e × EndsIn M m k c h out e h' (out ++ new)
-IsRunReduced {H} {O} M m n c h out new NoMemory c' h' = (k : ℕ) × (k < n) × (c1 : Conf) × (h1 : H) × (before rest : List O) × (new ≡ before ++ rest) × IsReduced M m k c h out c1 h1 (out ++ before)
+IsRunReduced {H} {O} M m n c h out new NoMemory c' h' = (k : ℕ) × (k < n) × (c1 : Conf) × (h1 : H) × (before rest : List O) × (new ≡ before ++ rest)
+    × IsReduced M m k c h out c1 h1 (out ++ before)
 
 -- what a machine tells of a run, what the run was, and the reductions that it was, whatever had been written before
 abbrev pub Reduced : {H O : Type 0} → Meaning H O → ProgramForm → ℕ → Conf → H → MachineEnd → Conf → H → Type 0
-Reduced {O = O} M m n c h e c' h' = (new : List O) × (r : RunEnd) × (told_run r ≡ Some e) × Ran M m n c h new r c' h' × ((out : List O) → IsRunReduced M m n c h out new r c' h')
+Reduced {O = O} M m n c h e c' h' = (new : List O) × (r : RunEnd) × (told_run r ≡ Some e) × Ran M m n c h new r c' h'
+    × ((out : List O) → IsRunReduced M m n c h out new r c' h')

@@ -302,4 +302,37 @@ sign_extensions :
     × (converted I64Extend32S (I64 0xffffffff) ≡ Some (I64 0xffffffffffffffff))
     × (converted I64Extend32S (I64 0x123456700000000) ≡ Some (I64 0x0))
     × (converted I64Extend32S (I64 0xfedcba9880000000) ≡ Some (I64 0xffffffff80000000))
-sign_extensions = (refl, refl, refl, refl, refl, refl, refl, refl, refl, refl, refl, refl, refl, refl, refl, refl, refl, refl, refl, refl, refl, refl, refl, refl, refl, refl, refl, refl, refl, refl, refl, refl)
+sign_extensions = (
+  refl,
+  refl,
+  refl,
+  refl,
+  refl,
+  refl,
+  refl,
+  refl,
+  refl,
+  refl,
+  refl,
+  refl,
+  refl,
+  refl,
+  refl,
+  refl,
+  refl,
+  refl,
+  refl,
+  refl,
+  refl,
+  refl,
+  refl,
+  refl,
+  refl,
+  refl,
+  refl,
+  refl,
+  refl,
+  refl,
+  refl,
+  refl,
+)

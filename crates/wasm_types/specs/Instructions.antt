@@ -54,7 +54,8 @@ abbrev mutual
   Spells (Block k is) text = (body : List ℕ) × SpellAll is body × (text ≡ 0x02 ∷ block_code k ∷ body ++ 0x0b ∷ [])
   Spells (Loop k is) text = (body : List ℕ) × SpellAll is body × (text ≡ 0x03 ∷ block_code k ∷ body ++ 0x0b ∷ [])
   -- an else with nothing behind it may be left out
-  Spells (If k is js) text = (a : List ℕ) × (b : List ℕ) × SpellAll is a × SpellAll js b × ((text ≡ 0x04 ∷ block_code k ∷ a ++ 0x05 ∷ b ++ 0x0b ∷ []) ⊎ ((js ≡ Done) × (text ≡ 0x04 ∷ block_code k ∷ a ++ 0x0b ∷ [])))
+  Spells (If k is js) text = (a : List ℕ) × (b : List ℕ) × SpellAll is a × SpellAll js b
+      × ((text ≡ 0x04 ∷ block_code k ∷ a ++ 0x05 ∷ b ++ 0x0b ∷ []) ⊎ ((js ≡ Done) × (text ≡ 0x04 ∷ block_code k ∷ a ++ 0x0b ∷ [])))
 
   pub SpellAll : Instructions → List ℕ → Type 0
   SpellAll Done text = text ≡ []

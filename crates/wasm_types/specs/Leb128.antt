@@ -5,7 +5,8 @@ use Rattle.std.specs.Prelude.{◌≡◌, ◌^◌, ℤ, ℕ, zero, suc, ◌+◌, 
 -- bytes from 128 on go on; the number, and the weight of the next group
 abbrev pub IsRaw : List ℕ → ℕ → ℕ → Type 0
 IsRaw [] n w = ⊥
-IsRaw (b ∷ bs) n w = ((b < 128) × (bs ≡ []) × (n ≡ b) × (w ≡ 128)) ⊎ ((128 ≤ b) × (b < 256) × (high : ℕ) × (v : ℕ) × IsRaw bs high v × (n + 128 ≡ b + 128 * high) × (w ≡ 128 * v))
+IsRaw (b ∷ bs) n w = ((b < 128) × (bs ≡ []) × (n ≡ b) × (w ≡ 128))
+    ⊎ ((128 ≤ b) × (b < 256) × (high : ℕ) × (v : ℕ) × IsRaw bs high v × (n + 128 ≡ b + 128 * high) × (w ≡ 128 * v))
 
 -- an unsigned number below limit, in at most so many bytes
 pub record IsUnsigned (most limit : ℕ) (text : List ℕ) (n : ℕ) : Type 0 where
@@ -16,7 +17,8 @@ pub record IsUnsigned (most limit : ℕ) (text : List ℕ) (n : ℕ) : Type 0 wh
 
 -- the number n below 2 * half is two's complement of what the groups are, by the sign of the first
 abbrev pub Extends : ℕ → ℕ → ℕ → ℕ → Type 0
-Extends half raw weight n = ((2 * raw < weight) × (n ≡ raw) × (n < half)) ⊎ ((weight ≤ 2 * raw) × (raw < weight) × (half ≤ n) × (n < 2 * half) × (n + weight ≡ raw + 2 * half))
+Extends half raw weight n = ((2 * raw < weight) × (n ≡ raw) × (n < half))
+    ⊎ ((weight ≤ 2 * raw) × (raw < weight) × (half ≤ n) × (n < 2 * half) × (n + weight ≡ raw + 2 * half))
 
 pub record IsSigned (most half : ℕ) (text : List ℕ) (n : ℕ) : Type 0 where
   pub number : ℕ

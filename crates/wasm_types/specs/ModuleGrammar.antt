@@ -100,7 +100,20 @@ pub record Parts : Type 0 where
   pub data_segments : List DataForm
 
 abbrev pub no_parts : Parts
-no_parts = record { types = []; imports = []; type_indices = []; tables = []; memories = []; globals = []; exports = []; start = None; elems = []; codes = []; data_segments = [] }
+no_parts = record {
+  types = [];
+  imports = [];
+  type_indices = [];
+  tables = [];
+  memories = [];
+  globals = [];
+  exports = [];
+  start = None;
+  elems =
+      [];
+  codes = [];
+  data_segments = [];
+}
 
 abbrev pub number : SectionId → ℕ
 number section.Type = 1

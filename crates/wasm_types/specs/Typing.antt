@@ -124,15 +124,21 @@ mutual
   -- Code takes operands of these types to operands of those, inside labels of such types. What lies under an instruction's operands is not touched.
   pub data CodeOk : Context → List (Option ValType) → Instructions → List ValType → List ValType → Type 0 where
     done : {C : Context} {L : List (Option ValType)} {ks : List ValType} → CodeOk C L Done ks ks
-    more : {C : Context} {L : List (Option ValType)} {i : Instruction} {is : Instructions} {ks ns : List ValType} (ps rs under : List ValType) → InstrOk C L i ps rs → ks ≡ ps ++ under → CodeOk C L is (rs ++ under) ns → CodeOk C L (Then i is) ks ns
+    more : {C : Context} {L : List (Option ValType)} {i : Instruction} {is : Instructions} {ks ns : List ValType} (ps rs under : List ValType)
+        → InstrOk C L i ps rs → ks ≡ ps ++ under → CodeOk C L is (rs ++ under) ns → CodeOk C L (Then i is) ks ns
 
   -- [ps] to [rs]
   pub data InstrOk : Context → List (Option ValType) → Instruction → List ValType → List ValType → Type 0 where
-    simple : {C : Context} {L : List (Option ValType)} {p : Simple} {ps rs : List ValType} (e : Effect) → effect_of C L p ≡ Some e → Types e ps rs → InstrOk C L (Plain p) ps rs
-    table : {C : Context} {L : List (Option ValType)} {ns : List ℕ} {n : ℕ} {ps rs : List ValType} (r : Option ValType) → slice_get L n ≡ Some r → All (λ k. slice_get L k ≡ Some r) ns → Types (Leaves (I32 ∷ one r)) ps rs → InstrOk C L (BrTable ns n) ps rs
-    block : {C : Context} {L : List (Option ValType)} {r : Option ValType} {b : Instructions} {ps rs : List ValType} → CodeOk C (r ∷ L) b [] (one r) → Types (Fixed [] r) ps rs → InstrOk C L (Block r b) ps rs
-    loop : {C : Context} {L : List (Option ValType)} {r : Option ValType} {b : Instructions} {ps rs : List ValType} → CodeOk C (None ∷ L) b [] (one r) → Types (Fixed [] r) ps rs → InstrOk C L (Loop r b) ps rs
-    choice : {C : Context} {L : List (Option ValType)} {r : Option ValType} {b c : Instructions} {ps rs : List ValType} → CodeOk C (r ∷ L) b [] (one r) → CodeOk C (r ∷ L) c [] (one r) → Types (Fixed (I32 ∷ []) r) ps rs → InstrOk C L (If r b c) ps rs
+    simple : {C : Context} {L : List (Option ValType)} {p : Simple} {ps rs : List ValType} (e : Effect) → effect_of C L p ≡ Some e → Types e ps rs
+        → InstrOk C L (Plain p) ps rs
+    table : {C : Context} {L : List (Option ValType)} {ns : List ℕ} {n : ℕ} {ps rs : List ValType} (r : Option ValType) → slice_get L n ≡ Some r
+        → All (λ k. slice_get L k ≡ Some r) ns → Types (Leaves (I32 ∷ one r)) ps rs → InstrOk C L (BrTable ns n) ps rs
+    block : {C : Context} {L : List (Option ValType)} {r : Option ValType} {b : Instructions} {ps rs : List ValType} → CodeOk C (r ∷ L) b [] (one r)
+        → Types (Fixed [] r) ps rs → InstrOk C L (Block r b) ps rs
+    loop : {C : Context} {L : List (Option ValType)} {r : Option ValType} {b : Instructions} {ps rs : List ValType} → CodeOk C (None ∷ L) b [] (one r)
+        → Types (Fixed [] r) ps rs → InstrOk C L (Loop r b) ps rs
+    choice : {C : Context} {L : List (Option ValType)} {r : Option ValType} {b c : Instructions} {ps rs : List ValType}
+        → CodeOk C (r ∷ L) b [] (one r) → CodeOk C (r ∷ L) c [] (one r) → Types (Fixed (I32 ∷ []) r) ps rs → InstrOk C L (If r b c) ps rs
 
 -- The module level.
 

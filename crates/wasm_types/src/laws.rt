@@ -13,10 +13,12 @@ pub fn opcodes_differ()
 
 /// Whatever follows, bytes begin with at most one unsigned integer of a width, in one form.
 pub fn one_unsigned()
-    ensures { (most limit n m : ℕ) (a b x y : List ℕ) → IsUnsigned most limit a n → IsUnsigned most limit b m → a ++ x ≡ b ++ y → (n ≡ m) × (x ≡ y) }
+    ensures { (most limit n m : ℕ) (a b x y : List ℕ) → IsUnsigned most limit a n
+        → IsUnsigned most limit b m → a ++ x ≡ b ++ y → (n ≡ m) × (x ≡ y) }
 {}
 
 /// Whatever follows, bytes begin with at most one signed integer of a width, in one form.
 pub fn one_signed()
-    ensures { (most half n m : ℕ) (a b x y : List ℕ) → IsSigned most half a n → IsSigned most half b m → a ++ x ≡ b ++ y → (n ≡ m) × (x ≡ y) }
+    ensures { (most half n m : ℕ) (a b x y : List ℕ) → IsSigned most half a n
+        → IsSigned most half b m → a ++ x ≡ b ++ y → (n ≡ m) × (x ≡ y) }
 {}

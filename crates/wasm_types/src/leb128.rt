@@ -10,7 +10,8 @@ use std::alloc::{AllocError, Global};
 #[tactic(auto, using(crate::proofs::Groups::pow_step, crate::proofs::Groups::pow_low, crate::proofs::Groups::pow_top))]
 fn raw_at(bytes: &[u8], most: u8) -> Option<(u128, u128, &[u8])>
     requires { most ≤ 10 }
-    ensures found { MatchOption result (raw_at most bytes.now ≡ None) (λ x. raw_at most bytes.now ≡ Some (x.0, x.1, x.2.now)) }
+    ensures found { MatchOption result (raw_at most bytes.now ≡ None)
+        (λ x. raw_at most bytes.now ≡ Some (x.0, x.1, x.2.now)) }
     ensures small { IfSome result (λ x. x.0 < 128 ^ most) }
     ensures weight { IfSome result (λ x. x.1 ≤ 128 ^ most) }
     ensures shorter { IfSome result (λ x. length x.2.now < length bytes.now) }
@@ -32,7 +33,8 @@ fn raw_at(bytes: &[u8], most: u8) -> Option<(u128, u128, &[u8])>
 
 fn unsigned_at(bytes: &[u8], most: u8, limit: u128) -> Option<(u128, &[u8])>
     requires { most ≤ 10 }
-    ensures found { MatchOption result (unsigned_at most limit bytes.now ≡ None) (λ x. unsigned_at most limit bytes.now ≡ Some (x.0, x.1.now)) }
+    ensures found { MatchOption result (unsigned_at most limit bytes.now ≡ None)
+        (λ x. unsigned_at most limit bytes.now ≡ Some (x.0, x.1.now)) }
     ensures small { IfSome result (λ x. x.0 < limit) }
     ensures shorter { IfSome result (λ x. length x.1.now < length bytes.now) }
 {
@@ -44,7 +46,8 @@ fn unsigned_at(bytes: &[u8], most: u8, limit: u128) -> Option<(u128, &[u8])>
 fn signed_at(bytes: &[u8], most: u8, half: u128) -> Option<(u128, &[u8])>
     requires most { most ≤ 10 }
     requires half { half ≤ 2 ^ 63 }
-    ensures found { MatchOption result (signed_at most half bytes.now ≡ None) (λ x. signed_at most half bytes.now ≡ Some (x.0, x.1.now)) }
+    ensures found { MatchOption result (signed_at most half bytes.now ≡ None)
+        (λ x. signed_at most half bytes.now ≡ Some (x.0, x.1.now)) }
     ensures small { IfSome result (λ x. x.0 < 2 * half) }
     ensures shorter { IfSome result (λ x. length x.1.now < length bytes.now) }
 {
@@ -61,7 +64,8 @@ fn signed_at(bytes: &[u8], most: u8, half: u128) -> Option<(u128, &[u8])>
 /// The unsigned integer of 32 bits at the front, and the bytes after it; `None` where there is none.
 #[tactic(auto, unfolding(crate::specs::Leb128::u32_at))]
 pub fn take_u32(bytes: &[u8]) -> Option<(u32, &[u8])>
-    ensures found { MatchOption result (u32_at bytes.now ≡ None) (λ x. u32_at bytes.now ≡ Some (x.0, x.1.now)) }
+    ensures found { MatchOption result (u32_at bytes.now ≡ None)
+        (λ x. u32_at bytes.now ≡ Some (x.0, x.1.now)) }
     ensures shorter { IfSome result (λ x. length x.1.now < length bytes.now) }
 {
     let (n, rest) = unsigned_at(bytes, 5, 4294967296)?;
@@ -71,7 +75,8 @@ pub fn take_u32(bytes: &[u8]) -> Option<(u32, &[u8])>
 /// The signed integer of 32 bits at the front as its bit pattern, and the bytes after it; `None` where there is none.
 #[tactic(auto, unfolding(crate::specs::Leb128::s32_at))]
 pub fn take_s32(bytes: &[u8]) -> Option<(u32, &[u8])>
-    ensures found { MatchOption result (s32_at bytes.now ≡ None) (λ x. s32_at bytes.now ≡ Some (x.0, x.1.now)) }
+    ensures found { MatchOption result (s32_at bytes.now ≡ None)
+        (λ x. s32_at bytes.now ≡ Some (x.0, x.1.now)) }
     ensures shorter { IfSome result (λ x. length x.1.now < length bytes.now) }
 {
     let (n, rest) = signed_at(bytes, 5, 2147483648)?;
@@ -81,7 +86,8 @@ pub fn take_s32(bytes: &[u8]) -> Option<(u32, &[u8])>
 /// The signed integer of 64 bits at the front as its bit pattern, and the bytes after it; `None` where there is none.
 #[tactic(auto, unfolding(crate::specs::Leb128::s64_at))]
 pub fn take_s64(bytes: &[u8]) -> Option<(u64, &[u8])>
-    ensures found { MatchOption result (s64_at bytes.now ≡ None) (λ x. s64_at bytes.now ≡ Some (x.0, x.1.now)) }
+    ensures found { MatchOption result (s64_at bytes.now ≡ None)
+        (λ x. s64_at bytes.now ≡ Some (x.0, x.1.now)) }
     ensures shorter { IfSome result (λ x. length x.1.now < length bytes.now) }
 {
     let (n, rest) = signed_at(bytes, 10, 9223372036854775808)?;
@@ -92,7 +98,8 @@ pub fn take_s64(bytes: &[u8]) -> Option<(u64, &[u8])>
 pub fn read_u32(bytes: &[u8]) -> Option<(u32, usize)>
     ensures len { IfSome result (λ x. x.1 ≤ length bytes.now) }
     ensures found { IfSome result (λ x. IsU32 (take x.1 bytes.now) x.0) }
-    ensures again { (n : ℕ) (text rest : List ℕ) → IsU32 text n → bytes.now ≡ text ++ rest → IsRead result n (length text) }
+    ensures again { (n : ℕ) (text rest : List ℕ) → IsU32 text n → bytes.now ≡ text ++ rest
+        → IsRead result n (length text) }
 {
     let (n, rest) = take_u32(bytes)?;
     Some((n, bytes.len() - rest.len()))
@@ -102,7 +109,8 @@ pub fn read_u32(bytes: &[u8]) -> Option<(u32, usize)>
 pub fn read_s32(bytes: &[u8]) -> Option<(i32, usize)>
     ensures len { IfSome result (λ x. x.1 ≤ length bytes.now) }
     ensures found { IfSome result (λ x. IsS32 (take x.1 bytes.now) (cast_unsigned w32 x.0)) }
-    ensures again { (n : ℕ) (text rest : List ℕ) → IsS32 text n → bytes.now ≡ text ++ rest → IsReadAs w32 result n (length text) }
+    ensures again { (n : ℕ) (text rest : List ℕ) → IsS32 text n → bytes.now ≡ text ++ rest
+        → IsReadAs w32 result n (length text) }
 {
     let (n, rest) = take_s32(bytes)?;
     Some((n.cast_signed(), bytes.len() - rest.len()))
@@ -112,7 +120,8 @@ pub fn read_s32(bytes: &[u8]) -> Option<(i32, usize)>
 pub fn read_s64(bytes: &[u8]) -> Option<(i64, usize)>
     ensures len { IfSome result (λ x. x.1 ≤ length bytes.now) }
     ensures found { IfSome result (λ x. IsS64 (take x.1 bytes.now) (cast_unsigned w64 x.0)) }
-    ensures again { (n : ℕ) (text rest : List ℕ) → IsS64 text n → bytes.now ≡ text ++ rest → IsReadAs w64 result n (length text) }
+    ensures again { (n : ℕ) (text rest : List ℕ) → IsS64 text n → bytes.now ≡ text ++ rest
+        → IsReadAs w64 result n (length text) }
 {
     let (n, rest) = take_s64(bytes)?;
     Some((n.cast_signed(), bytes.len() - rest.len()))
@@ -198,7 +207,8 @@ pub fn push_s64(out: &mut Vec<u8>, n: u64) -> Result<(), AllocError>
 /// The shortest form of an unsigned integer.
 pub fn write_u32(alloc: Global, n: u32) -> Result<Vec<u8>, AllocError>
     ensures spelled { IfOk result (λ v. IsU32 v.items n) }
-    ensures minimal { IfOk result (λ v. (other : List ℕ) → IsU32 other n → length v.items ≤ length other) }
+    ensures minimal { IfOk result
+        (λ v. (other : List ℕ) → IsU32 other n → length v.items ≤ length other) }
 {
     let mut out = Vec::new(alloc);
     push_u32(&mut out, n)?;
@@ -208,7 +218,8 @@ pub fn write_u32(alloc: Global, n: u32) -> Result<Vec<u8>, AllocError>
 /// The shortest form of a signed integer.
 pub fn write_s32(alloc: Global, n: i32) -> Result<Vec<u8>, AllocError>
     ensures spelled { IfOk result (λ v. IsS32 v.items (cast_unsigned w32 n)) }
-    ensures minimal { IfOk result (λ v. (other : List ℕ) → IsS32 other (cast_unsigned w32 n) → length v.items ≤ length other) }
+    ensures minimal { IfOk result (λ v. (other : List ℕ) → IsS32 other (cast_unsigned w32 n)
+        → length v.items ≤ length other) }
 {
     let mut out = Vec::new(alloc);
     push_s32(&mut out, n.cast_unsigned())?;
@@ -218,7 +229,8 @@ pub fn write_s32(alloc: Global, n: i32) -> Result<Vec<u8>, AllocError>
 /// The shortest form of a signed integer.
 pub fn write_s64(alloc: Global, n: i64) -> Result<Vec<u8>, AllocError>
     ensures spelled { IfOk result (λ v. IsS64 v.items (cast_unsigned w64 n)) }
-    ensures minimal { IfOk result (λ v. (other : List ℕ) → IsS64 other (cast_unsigned w64 n) → length v.items ≤ length other) }
+    ensures minimal { IfOk result (λ v. (other : List ℕ) → IsS64 other (cast_unsigned w64 n)
+        → length v.items ≤ length other) }
 {
     let mut out = Vec::new(alloc);
     push_s64(&mut out, n.cast_unsigned())?;

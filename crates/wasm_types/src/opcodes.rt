@@ -233,7 +233,8 @@ fn is_float(byte: u8) -> bool
 }
 
 fn control_of(byte: u8) -> Lead
-    ensures { result ≡ find_lead control_leads (find_lead memory_leads (find_lead i32_leads (find_lead i64_leads (find_lead convert_leads Unknown byte) byte) byte) byte) byte }
+    ensures { result ≡ find_lead control_leads (find_lead memory_leads (find_lead i32_leads
+        (find_lead i64_leads (find_lead convert_leads Unknown byte) byte) byte) byte) byte }
 {
     match byte {
         0x00 => Lead::Bare(Simple::Unreachable),
@@ -261,7 +262,8 @@ fn control_of(byte: u8) -> Lead
 }
 
 fn memory_of(byte: u8) -> Lead
-    ensures { result ≡ find_lead memory_leads (find_lead i32_leads (find_lead i64_leads (find_lead convert_leads Unknown byte) byte) byte) byte }
+    ensures { result ≡ find_lead memory_leads (find_lead i32_leads
+        (find_lead i64_leads (find_lead convert_leads Unknown byte) byte) byte) byte }
 {
     match byte {
         0x28 => Lead::Load(LoadOp::I32Load),
@@ -292,7 +294,8 @@ fn memory_of(byte: u8) -> Lead
 }
 
 fn i32_of(byte: u8) -> Lead
-    ensures { result ≡ find_lead i32_leads (find_lead i64_leads (find_lead convert_leads Unknown byte) byte) byte }
+    ensures { result ≡ find_lead i32_leads
+        (find_lead i64_leads (find_lead convert_leads Unknown byte) byte) byte }
 {
     match byte {
         0x45 => Lead::Bare(Simple::Test(ValType::I32, ITestOp::Eqz)),

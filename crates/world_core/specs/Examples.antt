@@ -29,7 +29,8 @@ emptied = refl
 pub others_kept : (after (Open (codes "f") false ∷ puts Standard (codes "x")) with_small (Named (codes "g"))).bytes ≡ None
 others_kept = refl
 
-pub standard_output : (after (puts Standard (codes "x") ++ puts (Named (codes "f")) (codes "c") ++ puts Standard (codes "y")) with_small Standard).bytes ≡ Some (codes "xy")
+pub standard_output : (after (puts Standard (codes "x") ++ puts (Named (codes "f")) (codes "c")
+    ++ puts Standard (codes "y")) with_small Standard).bytes ≡ Some (codes "xy")
 standard_output = refl
 
 pub one_more_fits : free small ≡ Some 1

@@ -39,7 +39,8 @@ impl<W: World> FaultyWorld<W> {
         ensures result { IsTrue result ↔ (calls_left self.old ≡ 1) }
         ensures inside { inside self.new ≡ inside self.old }
         ensures call { calls_left self.new ≡ calls_left self.old - 1 }
-        ensures counted { IsTrue result → failed_here self.new ≡ (failed_here self.old + 1) % 2 ^ 64 }
+        ensures counted { IsTrue result → failed_here self.new
+            ≡ (failed_here self.old + 1) % 2 ^ 64 }
         ensures same { IsFalse result → failed_here self.new ≡ failed_here self.old }
     {
         let fails = self.calls_left == 1;
@@ -65,9 +66,11 @@ impl<W: World> World for FaultyWorld<W> {
     ghost count = { failures_of W.count };
 
     fn open_read(&mut self, name: &[u8]) -> Result<u32, WorldFault>
-        ensures opened { IfOk result (λ id. Opens Reading id (W.kinds (inside self.old)) (W.kinds (inside self.new))) }
+        ensures opened { IfOk result
+            (λ id. Opens Reading id (W.kinds (inside self.old)) (W.kinds (inside self.new))) }
         ensures not_opened { OnErr result (W.kinds (inside self.new) ≡ W.kinds (inside self.old)) }
-        ensures count { failures_of W.count self.new ≡ next_count result (failures_of W.count self.old) }
+        ensures count { failures_of W.count self.new
+            ≡ next_count result (failures_of W.count self.old) }
         ensures calls { calls_left self.new ≡ calls_left self.old - 1 }
         ensures fails { calls_left self.old ≡ 1 → Fails self.old result self.new }
         ensures counted_inside { calls_left self.old ≢ 1
@@ -83,9 +86,11 @@ impl<W: World> World for FaultyWorld<W> {
     }
 
     fn open_write(&mut self, name: &[u8], append: bool) -> Result<u32, WorldFault>
-        ensures opened { IfOk result (λ id. Opens Writing id (W.kinds (inside self.old)) (W.kinds (inside self.new))) }
+        ensures opened { IfOk result
+            (λ id. Opens Writing id (W.kinds (inside self.old)) (W.kinds (inside self.new))) }
         ensures not_opened { OnErr result (W.kinds (inside self.new) ≡ W.kinds (inside self.old)) }
-        ensures count { failures_of W.count self.new ≡ next_count result (failures_of W.count self.old) }
+        ensures count { failures_of W.count self.new
+            ≡ next_count result (failures_of W.count self.old) }
         ensures calls { calls_left self.new ≡ calls_left self.old - 1 }
         ensures fails { calls_left self.old ≡ 1 → Fails self.old result self.new }
         ensures counted_inside { calls_left self.old ≢ 1
@@ -104,7 +109,8 @@ impl<W: World> World for FaultyWorld<W> {
         requires { W.kinds (inside self.old) id ≡ Reading }
         ensures within { IfOk result (λ n. n ≤ length buffer.old) }
         ensures kinds { W.kinds (inside self.new) ≡ W.kinds (inside self.old) }
-        ensures count { failures_of W.count self.new ≡ next_count result (failures_of W.count self.old) }
+        ensures count { failures_of W.count self.new
+            ≡ next_count result (failures_of W.count self.old) }
         ensures calls { calls_left self.new ≡ calls_left self.old - 1 }
         ensures fails { calls_left self.old ≡ 1 → Fails self.old result self.new }
         ensures counted_inside { calls_left self.old ≢ 1
@@ -124,7 +130,8 @@ impl<W: World> World for FaultyWorld<W> {
         ensures within { IfOk result (λ n. n ≤ length text.now) }
         ensures some { IfOk result (λ n. 0 < length text.now → 0 < n) }
         ensures kinds { W.kinds (inside self.new) ≡ W.kinds (inside self.old) }
-        ensures count { failures_of W.count self.new ≡ next_count result (failures_of W.count self.old) }
+        ensures count { failures_of W.count self.new
+            ≡ next_count result (failures_of W.count self.old) }
         ensures calls { calls_left self.new ≡ calls_left self.old - 1 }
         ensures fails { calls_left self.old ≡ 1 → Fails self.old result self.new }
         ensures counted_inside { calls_left self.old ≢ 1
@@ -144,7 +151,8 @@ impl<W: World> World for FaultyWorld<W> {
         requires own { 1 < id }
         ensures kinds { W.kinds (inside self.new) ≡ set_kind id Closed (W.kinds (inside self.old)) }
         ensures count { failures_of W.count self.new ≡ failures_of W.count self.old }
-        ensures handed_on { W.tells → Closes id (W.state (inside self.old)) (W.state (inside self.new)) }
+        ensures handed_on { W.tells
+            → Closes id (W.state (inside self.old)) (W.state (inside self.new)) }
         ensures calls { calls_left self.new ≡ calls_left self.old }
         ensures same { failed_here self.new ≡ failed_here self.old }
     {

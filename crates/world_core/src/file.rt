@@ -23,7 +23,8 @@ pub struct MemFile {
 impl MemFile {
     /// A file that holds bytes, ends, opens and has no limit.
     pub fn holding(bytes: Vec<u8>) -> MemFile
-        ensures { result ≡ record { bytes = Some bytes.items; ending = Ending.End; room = None; opens = true } }
+        ensures { result
+            ≡ record { bytes = Some bytes.items; ending = Ending.End; room = None; opens = true } }
     {
         MemFile {
             bytes: Some(Octets::from_vec(bytes)),

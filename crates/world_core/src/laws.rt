@@ -5,6 +5,8 @@ ghost use Rattle.world_core.specs.WorldState.{Action, Outside, Target, after, is
 /// What names hold after one output and then another is what they hold after both as one list; and a name that no action of an output is about
 /// holds what it held.
 pub fn outputs_add_up()
-    ensures follow { (first second : List Action) (outside : Outside) → after (first ++ second) outside ≡ after second (after first outside) }
-    ensures others { (output : List Action) (outside : Outside) (target : Target) → is_about target output ≡ false → after output outside target ≡ outside target }
+    ensures follow { (first second : List Action) (outside : Outside)
+        → after (first ++ second) outside ≡ after second (after first outside) }
+    ensures others { (output : List Action) (outside : Outside) (target : Target)
+        → is_about target output ≡ false → after output outside target ≡ outside target }
 {}

@@ -61,7 +61,8 @@ impl MemWorld {
     ///
     /// Of no memory; then nothing changes.
     pub fn add(&mut self, name: &[u8], file: MemFile) -> Result<(), AllocError>
-        ensures added { OnOk result (state_of self.new ≡ with_entry name.now (entry_of file) (state_of self.old)) }
+        ensures added { OnOk result
+            (state_of self.new ≡ with_entry name.now (entry_of file) (state_of self.old)) }
         ensures refused { OnErr result (state_of self.new ≡ state_of self.old) }
         ensures kinds { open_for self.new ≡ open_for self.old }
         ensures count { count_of self.new ≡ count_of self.old }

@@ -45,7 +45,8 @@ pub(crate) fn write_named(
     name: &[u8],
     text: &[u8],
 ) -> Result<usize, WorldFault>
-    ensures entry { Takes result text.now (entry_at files.old.items name.now) (entry_at files.new.items name.now) }
+    ensures entry { Takes result text.now (entry_at files.old.items name.now)
+        (entry_at files.new.items name.now) }
     ensures others { KeepsOtherNames name.now files.old.items files.new.items }
 {
     let at = place_of(files, alloc, name)?;

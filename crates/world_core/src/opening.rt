@@ -18,9 +18,12 @@ pub(crate) fn open_to_read(
     alloc: Global,
     name: &[u8],
 ) -> Result<u32, WorldFault>
-    ensures opened { IfOk result (λ id. Opens Reading id (kinds_of streams.old.items) (kinds_of streams.new.items)) }
+    ensures opened { IfOk result
+        (λ id. Opens Reading id (kinds_of streams.old.items) (kinds_of streams.new.items)) }
     ensures not_opened { OnErr result (streams.new.items ≡ streams.old.items) }
-    ensures told { (input : Source) (output : AnyFile) → OpensToRead name.now (memory_state input (outside_of output files.now) streams.old.items) result (memory_state input (outside_of output files.now) streams.new.items) }
+    ensures told { (input : Source) (output : AnyFile)
+        → OpensToRead name.now (memory_state input (outside_of output files.now) streams.old.items)
+        result (memory_state input (outside_of output files.now) streams.new.items) }
 {
     let source = source_of_name(files, alloc, name)?;
     add_stream(streams, MemStream::Reader(source))
@@ -34,9 +37,12 @@ pub(crate) fn open_to_write(
     name: &[u8],
     append: bool,
 ) -> Result<u32, WorldFault>
-    ensures opened { IfOk result (λ id. Opens Writing id (kinds_of streams.old.items) (kinds_of streams.new.items)) }
+    ensures opened { IfOk result
+        (λ id. Opens Writing id (kinds_of streams.old.items) (kinds_of streams.new.items)) }
     ensures not_opened { OnErr result (streams.new.items ≡ streams.old.items) }
-    ensures told { (input : Source) (output : AnyFile) → OpensToWrite name.now append (memory_state input (outside_of output files.old.items) streams.old.items) result (memory_state input (outside_of output files.new.items) streams.new.items) }
+    ensures told { (input : Source) (output : AnyFile) → OpensToWrite name.now append
+        (memory_state input (outside_of output files.old.items) streams.old.items) result
+        (memory_state input (outside_of output files.new.items) streams.new.items) }
 {
     let at = place_of(files, alloc, name)?;
     if !files[at].file.opens {

@@ -19,7 +19,8 @@ pub(crate) fn read_stream(stream: &mut MemStream, buffer: &mut [u8]) -> Result<u
     requires { kind_of stream.old ≡ Reading }
     ensures kind { kind_of stream.new ≡ Reading }
     ensures writer { writer_of stream.new ≡ writer_of stream.old }
-    ensures gives { Gives result (reader_of stream.old) (reader_of stream.new) buffer.old buffer.new }
+    ensures gives { Gives result (reader_of stream.old) (reader_of stream.new) buffer.old
+        buffer.new }
 {
     match stream {
         MemStream::Reader(source) => read_source(source, buffer),

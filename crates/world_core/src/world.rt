@@ -72,7 +72,8 @@ pub trait World {
         ensures opened { IfOk result (λ id. Opens Writing id (kinds self.old) (kinds self.new)) }
         ensures not_opened { OnErr result (kinds self.new ≡ kinds self.old) }
         ensures count { count self.new ≡ next_count result (count self.old) }
-        ensures told { tells → OpensToWrite name.now append (state self.old) result (state self.new) };
+        ensures told { tells
+            → OpensToWrite name.now append (state self.old) result (state self.new) };
 
     /// Reads into a buffer, and gives how many bytes: at least one into a buffer that is not empty, or 0 at the end.
     ///
@@ -84,7 +85,8 @@ pub trait World {
         ensures within { IfOk result (λ n. n ≤ length buffer.old) }
         ensures kinds { kinds self.new ≡ kinds self.old }
         ensures count { count self.new ≡ next_count result (count self.old) }
-        ensures told { tells → Reads id (state self.old) buffer.old result buffer.new (state self.new) };
+        ensures told { tells
+            → Reads id (state self.old) buffer.old result buffer.new (state self.new) };
 
     /// Appends the first bytes of a text, and gives how many: at least one of a text that is not empty.
     ///

@@ -61,12 +61,18 @@ impl<W: World, F: Fence> World for FencedWorld<W, F> {
     ghost count = { λ w. (W.count w.inner + w.kept_out) % 2 ^ 64 };
 
     fn open_read(&mut self, name: &[u8]) -> Result<u32, WorldFault>
-        ensures opened { IfOk result (λ id. Opens Reading id (W.kinds self.old.inner) (W.kinds self.new.inner)) }
+        ensures opened { IfOk result
+            (λ id. Opens Reading id (W.kinds self.old.inner) (W.kinds self.new.inner)) }
         ensures not_opened { OnErr result (W.kinds self.new.inner ≡ W.kinds self.old.inner) }
-        ensures count { (W.count self.new.inner + self.new.kept_out) % 2 ^ 64 ≡ next_count result ((W.count self.old.inner + self.old.kept_out) % 2 ^ 64) }
-        ensures told { W.tells × F.alike → OpensToRead name.now (behind (F.reads self.old.fence) (W.state self.old.inner)) result (behind (F.reads self.new.fence) (W.state self.new.inner)) }
-        ensures kept_out { F.reads self.old.fence name.now ≡ false → (result ≡ Err WorldFault.Failed) × (self.new.inner ≡ self.old.inner) }
-        ensures let_through { F.reads self.old.fence name.now ≡ true → W.tells → OpensToRead name.now (W.state self.old.inner) result (W.state self.new.inner) }
+        ensures count { (W.count self.new.inner + self.new.kept_out) % 2 ^ 64
+            ≡ next_count result ((W.count self.old.inner + self.old.kept_out) % 2 ^ 64) }
+        ensures told { W.tells × F.alike
+            → OpensToRead name.now (behind (F.reads self.old.fence) (W.state self.old.inner)) result
+            (behind (F.reads self.new.fence) (W.state self.new.inner)) }
+        ensures kept_out { F.reads self.old.fence name.now ≡ false
+            → (result ≡ Err WorldFault.Failed) × (self.new.inner ≡ self.old.inner) }
+        ensures let_through { F.reads self.old.fence name.now ≡ true → W.tells
+            → OpensToRead name.now (W.state self.old.inner) result (W.state self.new.inner) }
         ensures fence { self.new.fence ≡ self.old.fence }
     {
         if !self.fence.lets_read(name) {
@@ -76,12 +82,18 @@ impl<W: World, F: Fence> World for FencedWorld<W, F> {
     }
 
     fn open_write(&mut self, name: &[u8], append: bool) -> Result<u32, WorldFault>
-        ensures opened { IfOk result (λ id. Opens Writing id (W.kinds self.old.inner) (W.kinds self.new.inner)) }
+        ensures opened { IfOk result
+            (λ id. Opens Writing id (W.kinds self.old.inner) (W.kinds self.new.inner)) }
         ensures not_opened { OnErr result (W.kinds self.new.inner ≡ W.kinds self.old.inner) }
-        ensures count { (W.count self.new.inner + self.new.kept_out) % 2 ^ 64 ≡ next_count result ((W.count self.old.inner + self.old.kept_out) % 2 ^ 64) }
-        ensures told { W.tells × F.alike → OpensToWrite name.now append (behind (F.reads self.old.fence) (W.state self.old.inner)) result (behind (F.reads self.new.fence) (W.state self.new.inner)) }
-        ensures kept_out { F.writes self.old.fence name.now ≡ false → (result ≡ Err WorldFault.Failed) × (self.new.inner ≡ self.old.inner) }
-        ensures let_through { F.writes self.old.fence name.now ≡ true → W.tells → OpensToWrite name.now append (W.state self.old.inner) result (W.state self.new.inner) }
+        ensures count { (W.count self.new.inner + self.new.kept_out) % 2 ^ 64
+            ≡ next_count result ((W.count self.old.inner + self.old.kept_out) % 2 ^ 64) }
+        ensures told { W.tells × F.alike → OpensToWrite name.now append
+            (behind (F.reads self.old.fence) (W.state self.old.inner)) result
+            (behind (F.reads self.new.fence) (W.state self.new.inner)) }
+        ensures kept_out { F.writes self.old.fence name.now ≡ false
+            → (result ≡ Err WorldFault.Failed) × (self.new.inner ≡ self.old.inner) }
+        ensures let_through { F.writes self.old.fence name.now ≡ true → W.tells → OpensToWrite
+            name.now append (W.state self.old.inner) result (W.state self.new.inner) }
         ensures fence { self.new.fence ≡ self.old.fence }
     {
         if !self.fence.lets_write(name) {
@@ -94,9 +106,13 @@ impl<W: World, F: Fence> World for FencedWorld<W, F> {
         requires { W.kinds self.old.inner id ≡ Reading }
         ensures within { IfOk result (λ n. n ≤ length buffer.old) }
         ensures kinds { W.kinds self.new.inner ≡ W.kinds self.old.inner }
-        ensures count { (W.count self.new.inner + self.new.kept_out) % 2 ^ 64 ≡ next_count result ((W.count self.old.inner + self.old.kept_out) % 2 ^ 64) }
-        ensures told { W.tells × F.alike → Reads id (behind (F.reads self.old.fence) (W.state self.old.inner)) buffer.old result buffer.new (behind (F.reads self.new.fence) (W.state self.new.inner)) }
-        ensures inner { W.tells → Reads id (W.state self.old.inner) buffer.old result buffer.new (W.state self.new.inner) }
+        ensures count { (W.count self.new.inner + self.new.kept_out) % 2 ^ 64
+            ≡ next_count result ((W.count self.old.inner + self.old.kept_out) % 2 ^ 64) }
+        ensures told { W.tells × F.alike
+            → Reads id (behind (F.reads self.old.fence) (W.state self.old.inner)) buffer.old result
+            buffer.new (behind (F.reads self.new.fence) (W.state self.new.inner)) }
+        ensures inner { W.tells → Reads id (W.state self.old.inner) buffer.old result buffer.new
+            (W.state self.new.inner) }
         ensures fence { self.new.fence ≡ self.old.fence }
     {
         self.inner.read(id, buffer)
@@ -107,9 +123,13 @@ impl<W: World, F: Fence> World for FencedWorld<W, F> {
         ensures within { IfOk result (λ n. n ≤ length text.now) }
         ensures some { IfOk result (λ n. 0 < length text.now → 0 < n) }
         ensures kinds { W.kinds self.new.inner ≡ W.kinds self.old.inner }
-        ensures count { (W.count self.new.inner + self.new.kept_out) % 2 ^ 64 ≡ next_count result ((W.count self.old.inner + self.old.kept_out) % 2 ^ 64) }
-        ensures told { W.tells × F.alike → Writes id text.now (behind (F.reads self.old.fence) (W.state self.old.inner)) result (behind (F.reads self.new.fence) (W.state self.new.inner)) }
-        ensures inner { W.tells → Writes id text.now (W.state self.old.inner) result (W.state self.new.inner) }
+        ensures count { (W.count self.new.inner + self.new.kept_out) % 2 ^ 64
+            ≡ next_count result ((W.count self.old.inner + self.old.kept_out) % 2 ^ 64) }
+        ensures told { W.tells × F.alike
+            → Writes id text.now (behind (F.reads self.old.fence) (W.state self.old.inner)) result
+            (behind (F.reads self.new.fence) (W.state self.new.inner)) }
+        ensures inner { W.tells
+            → Writes id text.now (W.state self.old.inner) result (W.state self.new.inner) }
         ensures fence { self.new.fence ≡ self.old.fence }
     {
         self.inner.write(id, text)
@@ -119,8 +139,10 @@ impl<W: World, F: Fence> World for FencedWorld<W, F> {
         requires open { W.kinds self.old.inner id ≢ Closed }
         requires own { 1 < id }
         ensures kinds { W.kinds self.new.inner ≡ set_kind id Closed (W.kinds self.old.inner) }
-        ensures count { (W.count self.new.inner + self.new.kept_out) % 2 ^ 64 ≡ (W.count self.old.inner + self.old.kept_out) % 2 ^ 64 }
-        ensures told { W.tells × F.alike → Closes id (behind (F.reads self.old.fence) (W.state self.old.inner)) (behind (F.reads self.new.fence) (W.state self.new.inner)) }
+        ensures count { (W.count self.new.inner + self.new.kept_out) % 2 ^ 64
+            ≡ (W.count self.old.inner + self.old.kept_out) % 2 ^ 64 }
+        ensures told { W.tells × F.alike → Closes id (behind (F.reads self.old.fence)
+            (W.state self.old.inner)) (behind (F.reads self.new.fence) (W.state self.new.inner)) }
         ensures inner { W.tells → Closes id (W.state self.old.inner) (W.state self.new.inner) }
         ensures fence { self.new.fence ≡ self.old.fence }
     {

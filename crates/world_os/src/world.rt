@@ -22,7 +22,8 @@ fn failed<T>(failures: &mut u64) -> Result<T, WorldFault>
 
 /// The path of a name; none where the name is empty or not UTF-8.
 fn path_of(name: &[u8]) -> Option<&str>
-    ensures { MatchOption result (¬ (IsPath name.now)) (λ path. (path.now ≡ name.now) × IsPath name.now) }
+    ensures { MatchOption result (¬ (IsPath name.now))
+        (λ path. (path.now ≡ name.now) × IsPath name.now) }
 {
     match str::from_utf8(name) {
         Ok(path) if !name.is_empty() => Some(path),
@@ -81,7 +82,8 @@ fn add_stream<F: Drop>(
     streams: &mut Vec<OsStream<F>>,
     stream: OsStream<F>,
 ) -> Result<u32, WorldFault>
-    ensures opened { IfOk result (λ id. Opens (os_kind stream) id (os_kinds streams.old.items) (os_kinds streams.new.items)) }
+    ensures opened { IfOk result (λ id. Opens (os_kind stream) id (os_kinds streams.old.items)
+        (os_kinds streams.new.items)) }
     ensures err { OnErr result (streams.new.items ≡ streams.old.items) }
     ensures not_failed { IfErr result (λ fault. fault ≡ WorldFault.NoMemory) }
 {
@@ -160,7 +162,8 @@ impl<'a, R: Files, I: Read + Drop, O: Write + Drop> World for OsWorld<'a, R, I, 
         ensures within { IfOk result (λ n. n ≤ length buffer.old) }
         ensures kinds { os_kinds self.new.streams.items ≡ os_kinds self.old.streams.items }
         ensures count { self.new.failures ≡ next_count result self.old.failures }
-        ensures standard { id ≡ 0 → ReadConsumes (I.remaining self.old.input) (I.remaining self.new.input) result buffer.new }
+        ensures standard { id ≡ 0 → ReadConsumes (I.remaining self.old.input)
+            (I.remaining self.new.input) result buffer.new }
     {
         if id == 0 {
             return counted_read(&mut self.input, buffer, &mut self.failures);
@@ -177,7 +180,8 @@ impl<'a, R: Files, I: Read + Drop, O: Write + Drop> World for OsWorld<'a, R, I, 
         ensures some { IfOk result (λ n. 0 < length text.now → 0 < n) }
         ensures kinds { os_kinds self.new.streams.items ≡ os_kinds self.old.streams.items }
         ensures count { self.new.failures ≡ next_count result self.old.failures }
-        ensures standard { id ≡ 1 → WriteAppends (O.contents self.old.output) (O.contents self.new.output) result text.now }
+        ensures standard { id ≡ 1 → WriteAppends (O.contents self.old.output)
+            (O.contents self.new.output) result text.now }
     {
         if id == 1 {
             return counted_write(&mut self.output, text, &mut self.failures);

@@ -1,4 +1,4 @@
-use Rattle.agree_twins.proofs.Names.{arrays, assigned, each, meaning, named_is, scalars}
+use Rattle.agree_twins.proofs.Names.{arrays, assigned, each, named_is, scalars}
 use Rattle.agree_twins.proofs.laws.special_names_agree.Goals as goal
 
 pub returns-clause-each : goal.returns-clause-each
@@ -6,9 +6,6 @@ returns-clause-each c = each
 
 pub returns-clause-scalars : goal.returns-clause-scalars
 returns-clause-scalars c = scalars
-
-pub returns-clause-meaning : goal.returns-clause-meaning
-returns-clause-meaning c = meaning
 
 pub returns-clause-named : goal.returns-clause-named
 returns-clause-named c = named_is

@@ -1,6 +1,6 @@
 use Rattle.std.proofs.Common.{Option, sym, subst, ◌∙◌}
 use Rattle.std.proofs.lemmas.Result.{err_from_is_err_and}
-use Rattle.awk_resolve.specs.Kinds.{Refusal}
+use Rattle.awk_kinds.specs.Kinds.{Refusal}
 use Rattle.awk_resolve.specs.Marked.{is_marked_in}
 use Rattle.awk_resolve.specs.View.{view_marks}
 use Rattle.awk_resolve.specs.ViewNames.{view_heads, view_variables}

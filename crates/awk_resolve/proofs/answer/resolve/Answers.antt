@@ -1,8 +1,8 @@
 use Rattle.std.proofs.Common.{◌≡◌, List, None, ap, subst, ◌∙◌}
 use Rattle.std.specs.Result.{IfErr, IfOk, OnOk}
 use Rattle.awk_grammar.specs.ViewStmt.{view_script}
-use Rattle.awk_resolve.specs.Marks.{Mark}
-use Rattle.awk_resolve.specs.Kinds.{heads, refusal_by, resolved_by}
+use Rattle.awk_kinds.specs.Marks.{Mark}
+use Rattle.awk_kinds.specs.Kinds.{heads, refusal_by, resolved_by}
 use Rattle.awk_resolve.specs.View.{view_marks}
 use Rattle.awk_resolve.specs.ViewResolved.{IsCause, view_resolved}
 use Rattle.awk_resolve.proofs.answer.resolve.Goals as goal

@@ -1,6 +1,6 @@
 use Rattle.std.proofs.Common.{◌≡◌, List, None, subst}
 use Rattle.std.specs.Result.{IfErr, IfOk, OnOk}
-use Rattle.awk_resolve.specs.Kinds.{Head, refusal_by, resolved_by}
+use Rattle.awk_kinds.specs.Kinds.{Head, refusal_by, resolved_by}
 use Rattle.awk_resolve.specs.View.{view_marks}
 use Rattle.awk_resolve.specs.ViewResolved.{IsCause, view_resolved}
 use Rattle.awk_resolve.proofs.answer.resolve_marks.Goals as goal

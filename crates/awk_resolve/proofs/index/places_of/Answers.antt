@@ -2,7 +2,7 @@ use Rattle.std.proofs.Common.{◌≡◌, ℕ, ◌+◌, List, [], ◌∷◌, drop
 use Rattle.std.specs.Borrow.{Bor}
 use Rattle.std.proofs.lemmas.List.{drop_all}
 use Rattle.indexmap.proofs.CallerLemmas.{insert_entry-new}
-use Rattle.awk_resolve.specs.Kinds.{or_else, same_name}
+use Rattle.awk_kinds.specs.Kinds.{or_else, same_name}
 use Rattle.awk_resolve.specs.Places.{number_in, place_of}
 use Rattle.awk_resolve.specs.ViewNames.{names}
 use Rattle.awk_resolve.proofs.Names.{absent, drop_any}

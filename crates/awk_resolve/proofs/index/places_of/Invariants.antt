@@ -1,5 +1,5 @@
 use Rattle.std.proofs.Common.{◌≡◌, ℕ, List, drop}
-use Rattle.awk_resolve.specs.Kinds.{or_else}
+use Rattle.awk_kinds.specs.Kinds.{or_else}
 use Rattle.awk_resolve.specs.Places.{number_in, place_of}
 use Rattle.awk_resolve.specs.ViewNames.{names}
 use Rattle.awk_resolve.proofs.Tables.{shifted}

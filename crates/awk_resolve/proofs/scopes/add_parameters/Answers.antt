@@ -1,7 +1,7 @@
 use Rattle.std.proofs.Common.{ℕ, List, drop, ◌+◌, ap, sym, ◌∙◌}
 use Rattle.std.specs.Global.{Vec}
 use Rattle.awk_grammar.specs.ViewStmt.{view_names}
-use Rattle.awk_resolve.specs.Kinds.{Key, Inside as InsideKey, head_keys, with_key, with_keys}
+use Rattle.awk_kinds.specs.Kinds.{Key, Inside as InsideKey, head_keys, with_key, with_keys}
 use Rattle.awk_resolve.specs.ViewNames.{view_variables}
 use Rattle.awk_resolve.specs.declared.scopes.Variable.TheVariants.{Inside}
 use Rattle.awk_resolve.proofs.Names.{insert_is, drop_at}

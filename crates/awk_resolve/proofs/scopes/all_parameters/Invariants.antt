@@ -1,5 +1,5 @@
 use Rattle.std.proofs.Common.{◌≡◌, [], drop}
-use Rattle.awk_resolve.specs.Kinds.{parameter_keys, with_keys}
+use Rattle.awk_kinds.specs.Kinds.{parameter_keys, with_keys}
 use Rattle.awk_resolve.specs.ViewNames.{view_heads, view_variables}
 use Rattle.awk_resolve.proofs.scopes.all_parameters.Given as goal
 

@@ -2,7 +2,7 @@ use Rattle.std.proofs.Common.{◌≡◌, ℕ, ◌+◌, List, [], ◌∷◌, ◌+
 use Rattle.std.specs.Borrow.{Bor}
 use Rattle.indexmap.proofs.CallerLemmas.{insert_entry-new}
 use Rattle.awk_grammar.specs.ViewStmt.{view_names}
-use Rattle.awk_resolve.specs.Kinds.{or_else, same_name, parameters_of}
+use Rattle.awk_kinds.specs.Kinds.{or_else, same_name, parameters_of}
 use Rattle.awk_resolve.specs.ViewNames.{view_heads, parameters_in}
 use Rattle.awk_resolve.specs.declared.scopes.Head.{Head}
 use Rattle.awk_resolve.proofs.Names.{Entry, absent, present, drop_at, one_more, repeated}

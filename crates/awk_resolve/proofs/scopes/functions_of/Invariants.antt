@@ -1,5 +1,5 @@
 use Rattle.std.proofs.Common.{◌≡◌, ℕ, List, drop}
-use Rattle.awk_resolve.specs.Kinds.{or_else, parameters_of}
+use Rattle.awk_kinds.specs.Kinds.{or_else, parameters_of}
 use Rattle.awk_resolve.specs.ViewNames.{view_heads, parameters_in}
 use Rattle.awk_resolve.proofs.scopes.functions_of.Given as goal
 

@@ -1,8 +1,8 @@
 use Rattle.std.proofs.Common.{◌≡◌, ℕ, ◌+◌, List, [], ◌∷◌, ◌++◌, map, take, drop, get_or, ap, sym, subst, ◌∙◌, append-nil}
 use Rattle.std.specs.List.{slice_get}
 use Rattle.std.proofs.lemmas.List.{map-append}
-use Rattle.awk_resolve.specs.Marks.{Array, Scalar}
-use Rattle.awk_resolve.specs.Kinds.{Key, Whole, special_arrays, special_scalars, specials, parameter_keys, with_keys, with_marks, members, pairs}
+use Rattle.awk_kinds.specs.Marks.{Array, Scalar}
+use Rattle.awk_kinds.specs.Kinds.{Key, Whole, special_arrays, special_scalars, specials, parameter_keys, with_keys, with_marks, members, pairs}
 use Rattle.awk_resolve.specs.View.{view_mark, view_marks}
 use Rattle.awk_resolve.specs.ViewNames.{names, view_heads, view_variables}
 use Rattle.awk_resolve.specs.Numbered.{AreNumbers, ArePairs, both_at}

@@ -1,6 +1,6 @@
 use Rattle.std.proofs.Common.{◌≡◌, take, drop}
-use Rattle.awk_resolve.specs.Marks.{Array, Scalar}
-use Rattle.awk_resolve.specs.Kinds.{members, pairs, variables, with_marks}
+use Rattle.awk_kinds.specs.Marks.{Array, Scalar}
+use Rattle.awk_kinds.specs.Kinds.{members, pairs, variables, with_marks}
 use Rattle.awk_resolve.specs.View.{view_marks}
 use Rattle.awk_resolve.specs.ViewNames.{view_heads, view_variables}
 use Rattle.awk_resolve.specs.Numbered.{AreNumbers, ArePairs}

@@ -1,6 +1,6 @@
 use Rattle.std.proofs.Common.{◌≡◌, ◌++◌, List, map, take, drop}
-use Rattle.awk_resolve.specs.Marks.{Array, Scalar}
-use Rattle.awk_resolve.specs.Kinds.{Key, Whole, same_kind, with_keys}
+use Rattle.awk_kinds.specs.Marks.{Array, Scalar}
+use Rattle.awk_kinds.specs.Kinds.{Key, Whole, same_kind, with_keys}
 use Rattle.awk_resolve.specs.View.{view_kind}
 use Rattle.awk_resolve.specs.ViewNames.{names, view_variables}
 use Rattle.awk_resolve.specs.Numbered.{AreNumbers, all_if}

@@ -3,7 +3,7 @@ use Rattle.std.proofs.lemmas.Result.{on_ok_weaker}
 use Rattle.awk_grammar.specs.Tree.{Tree, Trees, HasList}
 use Rattle.awk_grammar.specs.View.{view, views}
 use Rattle.awk_grammar.proofs.Views.{count_views, element_is, call_is, apply_is, in_list_is}
-use Rattle.awk_resolve.specs.Marks.{Mark, Array, Used, Called, marks, all_marks}
+use Rattle.awk_kinds.specs.Marks.{Mark, Array, Used, Called, marks, all_marks}
 use Rattle.awk_resolve.specs.View.{view_marks, view_place}
 use Rattle.awk_resolve.proofs.walk.+walk.Goals as goal
 

@@ -2,7 +2,7 @@ use Rattle.std.proofs.Common.{◌++◌, ap, ◌∙◌}
 use Rattle.std.proofs.lemmas.Result.{on_ok_weaker}
 use Rattle.awk_grammar.specs.Stmt.{Stmt}
 use Rattle.awk_grammar.proofs.Views.{block_is}
-use Rattle.awk_resolve.specs.Marks.{stmt_marks}
+use Rattle.awk_kinds.specs.Marks.{stmt_marks}
 use Rattle.awk_resolve.specs.View.{view_marks, view_place}
 use Rattle.awk_resolve.proofs.walk_stmt.+walk_stmt.Goals as goal
 

@@ -1,6 +1,6 @@
 use Rattle.std.proofs.Common.{◌≡◌, ◌++◌, drop}
 use Rattle.awk_grammar.specs.ViewStmt.{view_names}
-use Rattle.awk_resolve.specs.Marks.{parameter_marks}
+use Rattle.awk_kinds.specs.Marks.{parameter_marks}
 use Rattle.awk_resolve.specs.View.{view_marks}
 use Rattle.awk_resolve.proofs.walk_stmt.push_parameters.Given as goal
 

@@ -1,6 +1,6 @@
 use Rattle.std.specs.Prelude.{◌≡◌, IfSome, ◌≤◌, length}
 use Rattle.std.proofs.lemmas.Result.{IfOk-weaker}
-use Rattle.ere_match.specs.FirstMatch.{IsFirstMatch}
+use Rattle.ere_syntax.specs.FirstMatch.{IsFirstMatch}
 use Rattle.sem_primitives.specs.FirstMatch.{first_match}
 use Rattle.host_format.proofs.Firsts.{computed_first, first_inside}
 use Rattle.host_format.proofs.eres.first.Goals as goal

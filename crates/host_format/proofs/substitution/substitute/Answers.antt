@@ -4,5 +4,5 @@ use Rattle.host_format.proofs.substitution.substitute.Goals as goal
 
 pub returns-in_err-count-clause-err : goal.returns-in_err-count-clause-err
 returns-in_err-count-clause-err c = λ t a.
-    let p = err_from_is_err_and c.from_residual.result c.from_residual.ensures.1 in
+    let p = err_from_is_err_and c.from_residual-in_err-count.result c.from_residual-in_err-count.ensures.1 in
     rw (p.1, p.2) (outcome_past t c.args.by.now c.args.text.now c.args.all _ (c.in_err-count.ensures.err t a))

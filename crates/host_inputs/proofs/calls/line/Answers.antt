@@ -1,7 +1,7 @@
 use Rattle.std.proofs.Common.{[], Err, subst, sym, ◌∙◌}
 use Rattle.sem_primitives.specs.declared.table.Primitive.TheVariants as row
 use Rattle.wasm_store.specs.declared.trap.TrapKind.TheVariants.{BadArgument}
-use Rattle.host_step.specs.declared.import.Import.TheVariants.{Of}
+use Rattle.host_imports.specs.declared.import.Import.TheVariants.{Of}
 use Rattle.host_values.specs.declared.reply.Refusal.TheVariants as why
 use Rattle.host_meaning.specs.WorldCalls.{IsCalled}
 use Rattle.host_inputs.specs.Calls.{with_values}

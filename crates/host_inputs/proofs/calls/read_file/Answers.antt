@@ -1,6 +1,6 @@
 use Rattle.std.proofs.Common.{rules, ◌≡◌, [], ap, subst, sym, ◌∙◌}
 use Rattle.std.specs.FinMap as map
-use Rattle.host_step.specs.declared.import.Import.TheVariants.{Of}
+use Rattle.host_imports.specs.declared.import.Import.TheVariants.{Of}
 use Rattle.host_values.specs.Calls.{spare}
 use Rattle.host_values.proofs.Spare.{spare_removed}
 use Rattle.host_meaning.specs.WorldCalls.{IsCalled}

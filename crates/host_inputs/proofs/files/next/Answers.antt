@@ -20,5 +20,5 @@ returns-clause-told g c = λ tells inner keep value same.
     let now = with_tables c.args.texts.now c.args.input.now old inner in
     subst (λ x. FileGives (getline_file_by keep value old.outside now) keep c.file_next.result x)
     (tables_file c.args.input.now (g.W.World.kinds c.args.world.now) c.requires.held (g.met.W.World.input c.args.world.now) old new (c.file_next.ensures.places tells) c.args.texts.now c.file_next.new.self inner (ap (λ w. names_of w.items) c.file_next.ensures.writers))
-    (file_gives_named keep c.args.name.now value _ now (sym (ap record_separator (c.as_slice.ensures.value ∙ c.in_ok-rs.ensures.ok ∙ ap text_of_value c.get.ensures))) same old.outside (has_room c.args.input.now.files) c.file_next.result (readers_in c.file_next.new.self.readers.items new)
+    (file_gives_named keep c.args.name.now value _ now (sym (ap record_separator (c.as_slice.ensures ∙ c.in_ok-rs.ensures ∙ ap text_of_value c.get.ensures))) same old.outside (has_room c.args.input.now.files) c.file_next.result (readers_in c.file_next.new.self.readers.items new)
     (room_is c.args.input.now.files c.args.texts.now c.args.input.now old inner refl) (c.file_next.ensures.told tells))

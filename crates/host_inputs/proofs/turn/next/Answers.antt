@@ -23,7 +23,7 @@ returns-clause-told g c = λ tells inner offered.
     let now = with_tables c.args.texts.now c.args.input.now old inner in
     subst (λ x. AnswerIs (main_input old.outside now) c.next.result old.outside now x)
     (tables_next c.args.texts.now c.args.input.now c.next.new.self (g.W.World.kinds c.args.world.now) old (g.W.World.state c.next.new.world) inner c.requires.held (c.next.ensures.places tells))
-    (c.next.ensures.told tells now (record { separator = ap record_separator (sym (c.as_slice.ensures.value ∙ c.in_ok-rs.ensures.ok ∙ ap text_of_value c.get.ensures)) }) (record { count = sym c.get-argc.ensures; operands = offered }))
+    (c.next.ensures.told tells now (record { separator = ap record_separator (sym (c.as_slice.ensures ∙ c.in_ok-rs.ensures ∙ ap text_of_value c.get.ensures)) }) (record { count = sym c.get-argc.ensures; operands = offered }))
 
 pub returns-clause-passes : goal.returns-clause-passes
 returns-clause-passes g c =

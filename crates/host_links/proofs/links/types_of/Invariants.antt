@@ -1,6 +1,6 @@
 use Rattle.std.proofs.Common.{◌≡◌, map, take}
 use Rattle.wasm_types.specs.View.{signature_of}
-use Rattle.host_step.specs.Imports.{import_type}
+use Rattle.host_imports.specs.Imports.{import_type}
 use Rattle.host_links.proofs.links.types_of.Given as goal
 
 abbrev pub invariant-loop-import : goal.invariant-loop-import

@@ -3,7 +3,7 @@ use Rattle.awk_values.specs.declared.fault.Stop.{Stop}
 use Rattle.sem_primitives.specs.InputMeaning.{start_assign_row}
 use Rattle.sem_primitives.specs.declared.table.Primitive.TheVariants as row
 use Rattle.wasm_store.specs.declared.word.Word.{Word}
-use Rattle.host_step.specs.declared.import.Import.TheVariants.{Of}
+use Rattle.host_imports.specs.declared.import.Import.TheVariants.{Of}
 use Rattle.host_format.specs.Outcomes.{IsStopOf}
 use Rattle.host_elements.specs.Calls.{IsTableCall}
 use Rattle.host_elements.specs.Forms.{inner_of}

@@ -1,7 +1,7 @@
 use Rattle.std.proofs.Common.{rules, ◌≡◌, [], Some, Ok, ap, subst, sym, ◌∙◌}
 use Rattle.std.specs.FinMap as map
 use Rattle.sem_primitives.specs.declared.table.Primitive.TheVariants as row
-use Rattle.host_step.specs.declared.import.Import.TheVariants.{Of}
+use Rattle.host_imports.specs.declared.import.Import.TheVariants.{Of}
 use Rattle.host_values.specs.Calls.{spare}
 use Rattle.host_values.proofs.Spare.{spare_removed}
 use Rattle.host_meaning.specs.WorldCalls.{IsCalled}

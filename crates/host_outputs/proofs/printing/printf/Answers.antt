@@ -1,8 +1,8 @@
 use Rattle.std.proofs.Common.{◌≡◌, ◌-◌, List, [], take, Ok, Err, ap, subst, sym, ◌∙◌}
 use Rattle.sem_primitives.specs.OutputMeaning.{printf_row}
 use Rattle.world_core.specs.WorldState.{Action}
-use Rattle.host_step.specs.declared.import.Import.TheVariants.{Over}
-use Rattle.host_step.specs.declared.import.Listing.TheVariants.{Printf}
+use Rattle.host_imports.specs.declared.import.Import.TheVariants.{Over}
+use Rattle.host_imports.specs.declared.import.Listing.TheVariants.{Printf}
 use Rattle.host_streams.specs.OpenFiles.{names_of, readers_in}
 use Rattle.host_streams.specs.Outputs.{IsOf, PutsIs}
 use Rattle.host_streams.specs.Puts.{BeginsBy}

@@ -1,5 +1,5 @@
 use Rattle.host_step.specs.HostLaws.{host_found, step_typed}
-use Rattle.host_step.specs.Imports.{import_at}
+use Rattle.host_imports.specs.Imports.{import_at}
 use Rattle.host_step.proofs.laws.types.Goals as goal
 
 pub returns-clause-found : goal.returns-clause-found

@@ -1,4 +1,4 @@
-use Rattle.host_step.specs.declared.import.Import.TheVariants.{Of}
+use Rattle.host_imports.specs.declared.import.Import.TheVariants.{Of}
 use Rattle.host_values.specs.Primitives.{primitive_of}
 use Rattle.host_tables.proofs.Bridge.{values_call}
 use Rattle.host_tables.proofs.families.on_values.Goals as goal

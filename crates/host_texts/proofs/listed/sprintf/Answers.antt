@@ -1,6 +1,6 @@
 use Rattle.std.proofs.Common.{Ok, Err, refl, subst}
-use Rattle.host_step.specs.declared.import.Import.TheVariants.{Over}
-use Rattle.host_step.specs.declared.import.Listing.TheVariants.{Sprintf}
+use Rattle.host_imports.specs.declared.import.Import.TheVariants.{Over}
+use Rattle.host_imports.specs.declared.import.Listing.TheVariants.{Sprintf}
 use Rattle.host_values.specs.Singles.{with_arguments}
 use Rattle.host_texts.specs.LastFormatted.{Formats, formatting}
 use Rattle.host_texts.proofs.LastFormats.{matched_last, matching_last, refused_last, spare_last, taken_last}

@@ -12,7 +12,7 @@ use Rattle.mid_program.specs.declared.code.Code.{Code}
 use Rattle.lower_model.specs.Emission.{emitted}
 use Rattle.lower_model.specs.Places.{handle_local}
 use Rattle.lower_model.specs.Small.{let_go}
-use Rattle.lower_model.specs.declared.import.Import.TheVariants.{Drop}
+use Rattle.host_imports.specs.declared.import.Import.TheVariants.{Drop}
 use Rattle.lower_pieces.specs.Emits.{followed, Emits}
 use Rattle.lower_pieces.specs.Forms.{view_form}
 use Rattle.lower_pieces.specs.declared.form.Form.{Form}

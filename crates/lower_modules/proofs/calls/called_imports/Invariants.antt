@@ -1,5 +1,5 @@
 use Rattle.std.proofs.Common.{◌≡◌, drop}
-use Rattle.lower_model.specs.Imports.{imports}
+use Rattle.host_imports.specs.Imports.{imports}
 use Rattle.lower_model.specs.Modules.{any_calls, called_from}
 use Rattle.lower_modules.specs.Calls.{noted}
 use Rattle.lower_modules.specs.View.{view_functions}

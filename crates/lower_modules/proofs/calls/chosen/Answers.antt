@@ -1,8 +1,8 @@
 use Rattle.std.proofs.Common.{◌<◌, ◌+◌, ◌++◌, ℕ, List, Vec, Global, drop, length, length-append, sym, ap, subst, ◌∙◌, append_assoc, arith}
-use Rattle.lower_model.specs.Imports.{imports}
+use Rattle.host_imports.specs.Imports.{imports}
 use Rattle.lower_model.specs.Modules.{chosen}
-use Rattle.lower_model.specs.declared.import.Import.{Import}
-use Rattle.lower_model.specs.declared.import.Import.TheVariants.{Drop}
+use Rattle.host_imports.specs.declared.import.Import.{Import}
+use Rattle.host_imports.specs.declared.import.Import.TheVariants.{Drop}
 use Rattle.lower_modules.proofs.Steps.{chosen_in, chosen_out}
 use Rattle.lower_modules.proofs.calls.chosen.Goals as goal
 use Rattle.lower_modules.proofs.calls.chosen.Goals.{then-called-i+in_ok-push, else-called-i}

@@ -1,5 +1,5 @@
 use Rattle.std.proofs.Common.{◌≡◌, ◌≤◌, ◌++◌, drop, length}
-use Rattle.lower_model.specs.Imports.{imports}
+use Rattle.host_imports.specs.Imports.{imports}
 use Rattle.lower_model.specs.Modules.{chosen}
 use Rattle.lower_modules.proofs.calls.chosen.Given as goal
 

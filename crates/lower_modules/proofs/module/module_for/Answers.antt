@@ -8,12 +8,12 @@ use Rattle.wasm_types.specs.declared.types.Limits.{Limits}
 use Rattle.wasm_types.specs.declared.module.ExportDesc.TheVariants.{Func}
 use Rattle.wasm_types.specs.declared.instr.Simple.TheVariants.{I32Const}
 use Rattle.lower_model.specs.Functions.{texts_of}
-use Rattle.lower_model.specs.Imports.{imports, import_type}
+use Rattle.host_imports.specs.Imports.{imports, import_type}
 use Rattle.lower_model.specs.Machine.{Callee}
 use Rattle.lower_model.specs.Modules.{called_from, called_imports, callee_type, chosen, functions_from, imported_from, imports_of, memory_for}
 use Rattle.lower_model.specs.Places.{memory_of}
 use Rattle.lower_model.specs.Small.{does}
-use Rattle.lower_model.specs.declared.import.Import.{Import}
+use Rattle.host_imports.specs.declared.import.Import.{Import}
 use Rattle.lower_modules.specs.Lengths.{least_among}
 use Rattle.lower_modules.specs.Limits.{most_bytes}
 use Rattle.lower_modules.specs.View.{view_functions}

@@ -1,6 +1,6 @@
 use Rattle.std.proofs.Common.{◌≡◌, map, take}
 use Rattle.wasm_types.specs.View.{signature_of}
-use Rattle.lower_model.specs.Imports.{import_type}
+use Rattle.host_imports.specs.Imports.{import_type}
 use Rattle.lower_modules.proofs.types.import_types.Given as goal
 
 abbrev pub invariant-loop-import : goal.invariant-loop-import

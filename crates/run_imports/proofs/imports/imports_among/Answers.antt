@@ -1,8 +1,8 @@
 use Rattle.std.proofs.Common.{rules, arith, ◌++◌, ◌∷◌, [], ◌≡◌, Option, subst}
 use Rattle.wasm_types.specs.View.{view_import, view_module}
 use Rattle.wasm_model.specs.Links.{number_for}
-use Rattle.host_step.specs.Imports.{host_finds}
-use Rattle.host_step.specs.declared.import.Import.{Import}
+use Rattle.host_imports.specs.Imports.{host_finds}
+use Rattle.host_imports.specs.declared.import.Import.{Import}
 use Rattle.run_imports.specs.Calls.{IsImportOf}
 use Rattle.run_imports.proofs.Listing.{first_missing, one_more_at, all_taken}
 use Rattle.run_imports.proofs.imports.imports_among.Goals as goal

@@ -1,7 +1,7 @@
 use Rattle.std.proofs.Common.{map, take}
 use Rattle.wasm_types.specs.View.{view_import, view_module}
 use Rattle.wasm_model.specs.Links.{number_for}
-use Rattle.host_step.specs.Imports.{host_finds}
+use Rattle.host_imports.specs.Imports.{host_finds}
 use Rattle.run_imports.specs.Calls.{AreImportsOf}
 use Rattle.run_imports.proofs.imports.imports_among.Given as goal
 

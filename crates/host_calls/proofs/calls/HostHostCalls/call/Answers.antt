@@ -1,7 +1,9 @@
-use Rattle.std.proofs.Common.{[], Option, refl, subst}
+use Rattle.std.proofs.Common.{[], Option, refl, subst, sym}
+use Rattle.wasm_model.specs.declared.host.HostAnswer.{HostAnswer}
 use Rattle.wasm_model.specs.declared.host.HostAnswer.TheVariants.{Trap}
 use Rattle.wasm_store.specs.declared.trap.TrapKind.TheVariants.{BadArgument}
-use Rattle.host_step.specs.declared.import.Import.{Import}
+use Rattle.host_imports.specs.Imports.{import_at}
+use Rattle.host_imports.specs.declared.import.Import.{Import}
 use Rattle.host_meaning.specs.FormMeaning.{FormMeans}
 use Rattle.host_meaning.proofs.Means.{unknown_called}
 use Rattle.host_calls.specs.Forms.{host_form}
@@ -14,4 +16,5 @@ returns-in-None g c =
     let memory = c.args.memory.now.bytes in
     let means = subst (λ (i : Option Import). FormMeans g.W.World.tells i before words memory (Trap BadArgument) before []) c.in-None.ensures
     (unknown_called g.W.World.tells before words memory) in
-    record { means = ([], (refl, means)) }
+    let told = subst (λ (a : HostAnswer). FormMeans g.W.World.tells (import_at c.args.import) before words memory a before []) (sym c.unknown.ensures) means in
+    record { means = ([], (refl, told)) }

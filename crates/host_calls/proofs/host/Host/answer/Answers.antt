@@ -1,7 +1,5 @@
-use Rattle.std.proofs.Common.{[], Option, ap, subst, sym, ◌∙◌}
-use Rattle.wasm_model.specs.declared.host.HostAnswer.TheVariants as told
-use Rattle.wasm_store.specs.declared.word.Word.{Word}
-use Rattle.host_step.specs.Answers.{refusal}
+use Rattle.std.proofs.Common.{[], ap, subst, sym, ◌∙◌}
+use Rattle.wasm_model.specs.declared.host.HostAnswer.{HostAnswer}
 use Rattle.host_step.specs.HostStep.{refuses}
 use Rattle.host_table_calls.proofs.Tellings.{refused_means}
 use Rattle.host_calls.specs.Calls.{MeansSome}
@@ -13,8 +11,7 @@ returns-then-refuses g c =
     let before = host_form g.W.World.state c.args.self.now in
     let words = c.args.words.now in
     let memory = c.args.memory.now in
-    subst (λ (w : Option Word). MeansSome g.W.World.tells c.args.import before words memory (told.Done w) before)
-    (sym (c.refusal.ensures ∙ ap refusal c.answer.ensures)) (
+    subst (λ (a : HostAnswer). MeansSome g.W.World.tells c.args.import before words memory a before) (sym c.refused.ensures) (
       [],
       refused_means g.W.World.tells c.args.import before words memory
           (ap (refuses c.args.import) (sym c.fault.ensures) ∙ (sym c.refuses.ensures ∙ c.if-refuses.true)),

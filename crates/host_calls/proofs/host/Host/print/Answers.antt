@@ -1,6 +1,6 @@
 use Rattle.std.proofs.Common.{refl}
-use Rattle.host_step.specs.declared.import.Import.TheVariants.{Over}
-use Rattle.host_step.specs.declared.import.Listing.TheVariants.{Print}
+use Rattle.host_imports.specs.declared.import.Import.TheVariants.{Over}
+use Rattle.host_imports.specs.declared.import.Listing.TheVariants.{Print}
 use Rattle.host_inputs.proofs.Apart.{holds_file}
 use Rattle.host_outputs.specs.Forms.{printing}
 use Rattle.host_calls.specs.Forms.{host_form}

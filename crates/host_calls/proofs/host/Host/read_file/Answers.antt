@@ -1,5 +1,5 @@
 use Rattle.std.proofs.Common.{[], refl}
-use Rattle.host_step.specs.declared.import.Import.TheVariants.{Of}
+use Rattle.host_imports.specs.declared.import.Import.TheVariants.{Of}
 use Rattle.host_inputs.specs.Calls.{with_values}
 use Rattle.host_inputs.specs.Givens.{file_primitive}
 use Rattle.host_inputs.specs.States.{over_world}

@@ -1,5 +1,5 @@
 use Rattle.std.proofs.Common.{[], refl}
-use Rattle.host_step.specs.declared.import.Import.TheVariants.{Of}
+use Rattle.host_imports.specs.declared.import.Import.TheVariants.{Of}
 use Rattle.host_inputs.specs.Givens.{main_primitive}
 use Rattle.host_inputs.specs.States.{over_world}
 use Rattle.host_calls.specs.Forms.{host_form}

@@ -1,5 +1,5 @@
 use Rattle.std.proofs.Common.{rules, sym, subst}
-use Rattle.host_step.specs.declared.import.Import.TheVariants as import
+use Rattle.host_imports.specs.declared.import.Import.TheVariants as import
 use Rattle.host_elements.specs.Forms.{HostForm}
 use Rattle.host_meaning.specs.TableCalls.{TableCalls}
 use Rattle.host_table_calls.specs.Forms.{of_tables}

@@ -1,0 +1,4 @@
+pub mod Marks
+pub mod Least
+pub mod Kinds
+pub mod Examples

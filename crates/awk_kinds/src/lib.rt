@@ -1,0 +1,2 @@
+//! What the names of a script are, from its tree: definitions alone, no function.
+#![tactic(auto)]

@@ -1,0 +1,300 @@
+-- The table of imports of the modules `awk1` and `awk2`: number, name, arguments and answer of each, what it spends, whether it may trap or fault.
+use Rattle.std.specs.List.{position}
+use Rattle.std.specs.Cmp.Lexicographic.{pointwise}
+use Rattle.std.specs.Prelude.{ℕ, ◌==◌, nat_lt, Bool, true, false, List, [], ◌∷◌, ◌++◌, codes, Option, Some, None, slice_get, map, cond}
+use Rattle.wasm_types.specs.Syntax.{Signature}
+use Rattle.wasm_types.specs.declared.types.ValType.{ValType}
+use Rattle.wasm_types.specs.declared.types.ValType.TheVariants.{I32, I64}
+use Rattle.sem_primitives.specs.Table.{arguments_of, answer_of}
+use Rattle.sem_primitives.specs.Table as table
+use Rattle.sem_primitives.specs.declared.sorts.Argument.{Argument}
+use Rattle.sem_primitives.specs.declared.sorts.Argument.TheVariants as argument
+use Rattle.sem_primitives.specs.declared.sorts.Answer.{Answer}
+use Rattle.sem_primitives.specs.declared.sorts.Answer.TheVariants as answer
+use Rattle.sem_primitives.specs.declared.sorts.Constant.TheVariants as constant
+use Rattle.sem_primitives.specs.declared.sorts.Sort.{Sort}
+use Rattle.sem_primitives.specs.declared.sorts.Sort.TheVariants as sort
+use Rattle.sem_primitives.specs.declared.table.Primitive.{Primitive}
+use Rattle.sem_primitives.specs.declared.table.Primitive.TheVariants as row
+use Rattle.host_imports.specs.declared.import.Listing.{Listing}
+use Rattle.host_imports.specs.declared.import.Listing.TheVariants.{Sprintf, Print, Printf}
+use Rattle.host_imports.specs.declared.import.Import.{Import}
+use Rattle.host_imports.specs.declared.import.Import.TheVariants.{Of, Over, Arg, Drop, IterFree, FreeArray}
+
+abbrev pub primitive_name : Primitive → List ℕ
+primitive_name row.Num = codes "num"
+primitive_name row.Lit = codes "lit"
+primitive_name row.Uninit = codes "uninit"
+primitive_name row.Dup = codes "dup"
+primitive_name row.ToNum = codes "to_num"
+primitive_name row.IntOf = codes "int_of"
+primitive_name row.Truth = codes "truth"
+primitive_name row.Compare = codes "compare"
+primitive_name row.Concat = codes "concat"
+primitive_name row.Pow = codes "pow"
+primitive_name row.Fail = codes "fail"
+primitive_name row.GetSpecial = codes "get_special"
+primitive_name row.SetSpecial = codes "set_special"
+primitive_name row.Field = codes "field"
+primitive_name row.SetField = codes "set_field"
+primitive_name row.NewArray = codes "new_array"
+primitive_name row.Elem = codes "elem"
+primitive_name row.SetElem = codes "set_elem"
+primitive_name row.Has = codes "has"
+primitive_name row.Delete = codes "delete"
+primitive_name row.Join = codes "join"
+primitive_name row.Iter = codes "iter"
+primitive_name row.IterNext = codes "iter_next"
+primitive_name row.Length = codes "length"
+primitive_name row.Matches = codes "matches"
+primitive_name row.Match = codes "match"
+primitive_name row.Sub = codes "sub"
+primitive_name row.SubResult = codes "sub_result"
+primitive_name row.Split = codes "split"
+primitive_name row.Substr = codes "substr"
+primitive_name row.SubstrFrom = codes "substr_from"
+primitive_name row.Index = codes "index"
+primitive_name row.Lower = codes "lower"
+primitive_name row.Upper = codes "upper"
+primitive_name row.NextMain = codes "next_main"
+primitive_name row.Getline = codes "getline"
+primitive_name row.GetlineVar = codes "getline_var"
+primitive_name row.GetlineFile = codes "getline_file"
+primitive_name row.GetlineVarFile = codes "getline_var_file"
+primitive_name row.Line = codes "line"
+primitive_name row.Declare = codes "declare"
+primitive_name row.StartAssign = codes "start_assign"
+primitive_name row.PendingName = codes "pending_name"
+primitive_name row.PendingValue = codes "pending_value"
+primitive_name row.BeginEnd = codes "begin_end"
+primitive_name row.Close = codes "close"
+primitive_name row.NextFile = codes "next_file"
+primitive_name row.Clear = codes "clear"
+primitive_name row.Flush = codes "flush"
+
+abbrev pub listing_name : Listing → List ℕ
+listing_name Sprintf = codes "sprintf"
+listing_name Print = codes "print"
+listing_name Printf = codes "printf"
+
+abbrev pub import_name : Import → List ℕ
+import_name (Of p) = primitive_name p
+import_name (Over l) = listing_name l
+import_name Arg = codes "arg"
+import_name Drop = codes "drop"
+import_name IterFree = codes "iter_free"
+import_name FreeArray = codes "free_array"
+
+-- the module that modules of scripts import from
+abbrev pub module_name : List ℕ
+module_name = codes "awk2"
+
+-- in the order of their numbers
+abbrev pub imports : List Import
+imports = Of row.Num ∷ Of row.Lit ∷ Of row.Uninit ∷ Of row.Dup ∷ Of row.ToNum ∷ Of row.IntOf ∷ Of row.Truth ∷ Of row.Compare ∷ Of row.Concat
+    ∷ Of row.Pow ∷ Of row.Fail ∷ Of row.GetSpecial ∷ Of row.SetSpecial ∷ Of row.Field ∷ Of row.SetField ∷ Of row.NewArray ∷ Of row.Elem
+    ∷ Of row.SetElem ∷ Of row.Has ∷ Of row.Delete ∷ Of row.Join ∷ Of row.Iter ∷ Of row.IterNext ∷ Of row.Length ∷ Of row.Matches ∷ Of row.Match
+    ∷ Of row.Sub ∷ Of row.SubResult ∷ Of row.Split ∷ Of row.Substr ∷ Of row.SubstrFrom ∷ Of row.Index ∷ Of row.Lower ∷ Of row.Upper
+    ∷ Of row.NextMain ∷ Of row.Getline ∷ Of row.GetlineVar ∷ Of row.GetlineFile ∷ Of row.GetlineVarFile ∷ Of row.Line ∷ Of row.Declare
+    ∷ Of row.StartAssign ∷ Of row.PendingName ∷ Of row.PendingValue ∷ Of row.BeginEnd ∷ Of row.Close ∷ Arg ∷ Over Sprintf ∷ Over Print
+    ∷ Over Printf ∷ Drop ∷ IterFree ∷ FreeArray ∷ Of row.NextFile ∷ Of row.Clear ∷ Of row.Flush ∷ []
+
+abbrev pub import_at : ℕ → Option Import
+import_at n = slice_get imports n
+
+-- how many there are; the functions of a module come after them
+abbrev pub import_count : ℕ
+import_count = 56
+
+abbrev pub primitive_number : Primitive → ℕ
+primitive_number row.Num = 0
+primitive_number row.Lit = 1
+primitive_number row.Uninit = 2
+primitive_number row.Dup = 3
+primitive_number row.ToNum = 4
+primitive_number row.IntOf = 5
+primitive_number row.Truth = 6
+primitive_number row.Compare = 7
+primitive_number row.Concat = 8
+primitive_number row.Pow = 9
+primitive_number row.Fail = 10
+primitive_number row.GetSpecial = 11
+primitive_number row.SetSpecial = 12
+primitive_number row.Field = 13
+primitive_number row.SetField = 14
+primitive_number row.NewArray = 15
+primitive_number row.Elem = 16
+primitive_number row.SetElem = 17
+primitive_number row.Has = 18
+primitive_number row.Delete = 19
+primitive_number row.Join = 20
+primitive_number row.Iter = 21
+primitive_number row.IterNext = 22
+primitive_number row.Length = 23
+primitive_number row.Matches = 24
+primitive_number row.Match = 25
+primitive_number row.Sub = 26
+primitive_number row.SubResult = 27
+primitive_number row.Split = 28
+primitive_number row.Substr = 29
+primitive_number row.SubstrFrom = 30
+primitive_number row.Index = 31
+primitive_number row.Lower = 32
+primitive_number row.Upper = 33
+primitive_number row.NextMain = 34
+primitive_number row.Getline = 35
+primitive_number row.GetlineVar = 36
+primitive_number row.GetlineFile = 37
+primitive_number row.GetlineVarFile = 38
+primitive_number row.Line = 39
+primitive_number row.Declare = 40
+primitive_number row.StartAssign = 41
+primitive_number row.PendingName = 42
+primitive_number row.PendingValue = 43
+primitive_number row.BeginEnd = 44
+primitive_number row.Close = 45
+primitive_number row.NextFile = 53
+primitive_number row.Clear = 54
+primitive_number row.Flush = 55
+
+abbrev pub listing_number : Listing → ℕ
+listing_number Sprintf = 47
+listing_number Print = 48
+listing_number Printf = 49
+
+abbrev pub import_number : Import → ℕ
+import_number (Of p) = primitive_number p
+import_number Arg = 46
+import_number (Over l) = listing_number l
+import_number Drop = 50
+import_number IterFree = 51
+import_number FreeArray = 52
+
+-- how many of the last values are taken, and, of those that write, where to
+abbrev pub listing_arguments : Listing → List Argument
+listing_arguments Sprintf = argument.Constant constant.Count ∷ []
+listing_arguments Print = argument.Constant constant.Count ∷ argument.Constant constant.Destination ∷ []
+listing_arguments Printf = argument.Constant constant.Count ∷ argument.Constant constant.Destination ∷ []
+
+abbrev pub listing_answer : Listing → Answer
+listing_answer Sprintf = answer.Of sort.Value
+listing_answer Print = answer.Done
+listing_answer Printf = answer.Done
+
+-- an array and an iterator go by numbers of their own, which are not handles
+abbrev pub import_arguments : Import → List Argument
+import_arguments (Of p) = arguments_of p
+import_arguments (Over l) = listing_arguments l
+import_arguments Arg = argument.Of sort.Value ∷ []
+import_arguments Drop = argument.Of sort.Value ∷ []
+import_arguments IterFree = argument.Of sort.Iterator ∷ []
+import_arguments FreeArray = argument.Of sort.Array ∷ []
+
+abbrev pub import_answer : Import → Answer
+import_answer (Of p) = answer_of p
+import_answer (Over l) = listing_answer l
+import_answer Arg = answer.Nothing
+import_answer Drop = answer.Nothing
+import_answer IterFree = answer.Nothing
+import_answer FreeArray = answer.Nothing
+
+-- Which arguments are spent, by their sort: their numbers stand for nothing after the call. A handle is spent by every import but `dup`, which only
+-- looks; the number of an array by `free_array`, that of an iterator by `iter_free`.
+
+abbrev pub spends_handles : Import → Bool
+spends_handles (Of row.Dup) = false
+spends_handles _ = true
+
+abbrev pub spends_arrays : Import → Bool
+spends_arrays FreeArray = true
+spends_arrays _ = false
+
+abbrev pub spends_iterators : Import → Bool
+spends_iterators IterFree = true
+spends_iterators _ = false
+
+abbrev pub spends : Import → Sort → Bool
+spends i sort.Value = spends_handles i
+spends i sort.Number = false
+spends i sort.Array = spends_arrays i
+spends i sort.Iterator = spends_iterators i
+
+-- these let something go, and do so once a fault is kept too
+abbrev pub lets_go : Import → Bool
+lets_go Drop = true
+lets_go IterFree = true
+lets_go FreeArray = true
+lets_go _ = false
+
+-- whether a call may keep a fault
+abbrev pub can_fault : Import → Bool
+can_fault (Of p) = table.can_fault p
+can_fault (Over l) = true
+can_fault _ = false
+
+-- whether a call with words of its types may trap: what takes no argument and is always in turn never does
+abbrev pub can_trap : Import → Bool
+can_trap (Of row.Uninit) = false
+can_trap (Of row.NewArray) = false
+can_trap (Of row.BeginEnd) = false
+can_trap (Of row.NextFile) = false
+can_trap _ = true
+
+-- Types.
+
+-- a number is a word of 64 bits, a text in memory is its place and its length, and all else is a word of 32 bits
+abbrev pub words_of : Argument → List ValType
+words_of (argument.Of sort.Number) = I64 ∷ []
+words_of argument.Place = I32 ∷ I32 ∷ []
+words_of _ = I32 ∷ []
+
+abbrev pub params_of : List Argument → List ValType
+params_of [] = []
+params_of (a ∷ rest) = words_of a ++ params_of rest
+
+abbrev pub result_of : Answer → Option ValType
+result_of answer.Nothing = None
+result_of (answer.Of sort.Number) = Some I64
+result_of _ = Some I32
+
+abbrev pub import_type : Import → Signature
+import_type i = record { params = params_of (import_arguments i); result = result_of (import_answer i) }
+
+-- Finding an import by its names.
+
+abbrev pub same_name : List ℕ → List ℕ → Bool
+same_name a b = pointwise ◌==◌ a b
+
+abbrev pub has_name : List ℕ → Import → Bool
+has_name name i = same_name (import_name i) name
+
+-- the number of the first import of a name
+abbrev pub number_named : List ℕ → Option ℕ
+number_named name = position (has_name name) imports
+
+abbrev pub type_if_there : Option Import → Option Signature
+type_if_there None = None
+type_if_there (Some i) = Some (import_type i)
+
+abbrev pub host_types : ℕ → Option Signature
+host_types n = type_if_there (import_at n)
+
+abbrev pub numbered : ℕ → Option Signature → Option (ℕ × Signature)
+numbered n None = None
+numbered n (Some t) = Some (n, t)
+
+abbrev pub with_type : Option ℕ → Option (ℕ × Signature)
+with_type None = None
+with_type (Some n) = numbered n (host_types n)
+
+-- how many of the imports a module of this name has, by the same numbers: `awk1` the first 53, `awk2` all
+abbrev pub imports_in : List ℕ → ℕ
+imports_in from = cond (same_name from (codes "awk1")) 53 (cond (same_name from module_name) import_count 0)
+
+abbrev pub number_below : ℕ → Option ℕ → Option ℕ
+number_below count None = None
+number_below count (Some n) = cond (nat_lt n count) (Some n) None
+
+-- the number and the type of an import, by the names of its module and of itself
+abbrev pub host_finds : List ℕ → List ℕ → Option (ℕ × Signature)
+host_finds from name = with_type (number_below (imports_in from) (number_named name))

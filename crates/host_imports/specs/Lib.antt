@@ -1,0 +1,3 @@
+pub mod Imports
+pub mod Codes
+pub mod Lines

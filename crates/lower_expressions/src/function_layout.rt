@@ -1,0 +1,13 @@
+//! What the code of a function is emitted for.
+
+use lower_layout::Layout;
+use lower_pieces::Bases;
+use std::alloc::Global;
+
+/// Where the things of the script stand, and where those of the function.
+#[derive(Clone, Copy)]
+pub struct FunctionLayout<'a> {
+    pub alloc: Global,
+    pub script: &'a Layout<'a>,
+    pub bases: &'a Bases,
+}

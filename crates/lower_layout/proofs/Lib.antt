@@ -1,0 +1,3 @@
+mod ArrayLemmas
+pub mod Refusals
+mod SpanLemmas

@@ -1,7 +1,0 @@
-use Rattle.wasm_types.specs.Syntax.{Done}
-use Rattle.lower_expressions.specs.View.{view_layout}
-use Rattle.lower_statements.specs.Parts.{part_code}
-use Rattle.lower_statements.proofs.parts.part_done.Goals as goal
-
-pub returns : goal.returns
-returns c = λ a emits. c.block.ensures (part_code (view_layout c.args.y.now) (a Done) c.args.exit) (c.in_ok-inside.ensures a emits)

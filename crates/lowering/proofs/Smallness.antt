@@ -1,0 +1,60 @@
+-- The code of a well-sorted script that is small enough can be emitted.
+use Rattle.std.proofs.Common.{◌≡◌, ℕ, zero, suc, ◌+◌, ◌<◌, ◌≤◌, Bool, true, false, List, [], ◌∷◌, length, map, get_or, drop, drop-cons, refl, sym, ap, ◌∙◌, arith, length-append}
+use Rattle.std.specs.Prelude.{◌&&◌}
+use Rattle.std.proofs.lemmas.Bool.{and_parts}
+use Rattle.std.proofs.lemmas.List.{length-map}
+use Rattle.mid_program.specs.Mid.{Kind, Declared, Routine, Program, Steps}
+use Rattle.mid_program.specs.View.{view_routine}
+use Rattle.mid_program.specs.declared.program.Routine.{Routine as RoutineCode}
+use Rattle.mid_program.specs.Sorted.{announced_names, context_of, parts_sorted, steps_sorted}
+use Rattle.lower_model.specs.Functions.{layout_of, main_bases, routine_bases}
+use Rattle.lower_model.specs.Places.{Bases, steps_arrays, steps_iterators, steps_room}
+use Rattle.lower_pieces.specs.Bounds.{most_places}
+use Rattle.lower_needs.proofs.Lengths.{local_count}
+use Rattle.lower_needs.specs.Fits.{FewLocals}
+use Rattle.lower_layout.specs.Spans.{IsSmall}
+use Rattle.lowering.specs.Limits.{IsShallow, MainIsSmall, RoutineIsSmall}
+use Rattle.lowering.specs.StepFits.{PartsFit, StepsFit}
+use Rattle.lowering.proofs.Fitting.{Named, steps_fit}
+
+module _ (p : Program) (small : IsSmall p) (few : length p.routines ≤ most_places) where
+  named : (ks : List Kind) (b : Bases) → length ks ≤ most_places → Named (context_of p ks) (layout_of p b)
+  named ks b le = record {
+    texts = let e = length-append p.texts (announced_names p) in omega (arith, e);
+    globals = let e = length-map p.globals (λ (d : Declared). d.kind) in let s = small.0 in omega (arith, e, s);
+    ranges = small.1.0;
+    calls = refl;
+    functions = let e = length-map p.routines (λ (r : Routine). r.parameters) in omega (arith, e, few);
+    parameters = le;
+  }
+
+  -- statements that need no more than a function with few locals has
+  part_fits : (ks : List Kind) (b : Bases) (o : Bool) (ss : Steps) → length ks ≤ most_places → FewLocals b → steps_room ss ≤ b.temporaries → steps_iterators ss ≤ b.iterators → steps_arrays ss ≤ b.arrays → IsShallow ss →
+      steps_sorted (context_of p ks) o false ss ≡ true → StepsFit (layout_of p b) ss zero zero
+  part_fits ks b o ss le f t u w shallow s =
+      let c = local_count b in
+      let l = f.locals in
+      steps_fit (named ks b le) o false ss 0 0 s
+      (record { places = omega (arith, c, l, t); arrays = omega (arith, c, l, w); iterators = omega (arith, c, l, u); labels = omega (arith, shallow) })
+
+  pub routine_fits : (r : Routine) → RoutineIsSmall r → steps_sorted (context_of p r.parameters) true false r.body ≡ true → StepsFit (layout_of p (routine_bases r)) r.body zero zero
+  routine_fits r f s = part_fits r.parameters (routine_bases r) true r.body f.0.parameters f.0 (omega arith) (omega arith) (omega arith) f.1 s
+
+  pub main_fits : MainIsSmall p → parts_sorted p (context_of p []) ≡ true → PartsFit (layout_of p (main_bases p)) p
+  main_fits f s =
+      let b = main_bases p in
+      let s1 = and_parts (steps_sorted (context_of p []) false false p.begin) (steps_sorted (context_of p []) false false p.items && steps_sorted (context_of p []) false false p.end) s in
+      let s2 = and_parts (steps_sorted (context_of p []) false false p.items) (steps_sorted (context_of p []) false false p.end) s1.1 in (
+        part_fits [] b false p.begin (omega arith) f.0 (omega arith) (omega arith) (omega arith) f.1.0 s1.0,
+        (
+          part_fits [] b false p.items (omega arith) f.0 (omega arith) (omega arith) (omega arith) f.1.1.0 s2.0,
+          part_fits [] b false p.end (omega arith) f.0 (omega arith) (omega arith) (omega arith) f.1.1.1 s2.1,
+        ),
+      )
+
+-- the first of the functions that are left
+pub routines_left : (rs : List RoutineCode) (i : ℕ) (r : RoutineCode) → i < length rs → r ≡ get_or rs i r → map view_routine (drop i rs) ≡ view_routine r ∷ map view_routine (drop (i + 1) rs)
+routines_left rs i r lt at =
+    let next : suc i ≡ i + 1 = omega arith in
+    ap (map view_routine) (drop-cons rs i r lt)
+    ∙ (λ j. view_routine (sym at j) ∷ map view_routine (drop (next j) rs))

@@ -1,0 +1,9 @@
+use Rattle.std.proofs.Common.{◌≡◌, ◌-◌}
+use Rattle.wasm_types.specs.Syntax.{Instructions}
+use Rattle.lower_pieces.specs.Emits.{followed}
+use Rattle.lowering.specs.Holding.{held_count, held_emptied}
+use Rattle.lowering.proofs.holding.held_emptied.Given as goal
+
+abbrev pub invariant-loop-place : goal.invariant-loop-place
+invariant-loop-place l =
+    (k : Instructions) → followed l.out.items (held_emptied l.held l.fn.b l.place (l.count - l.place) k) ≡ followed l.fn.out.items (held_emptied l.held l.fn.b 0 (held_count l.held l.fn.b) k)

@@ -1,0 +1,11 @@
+use Rattle.std.proofs.Common.{◌∙◌}
+use Rattle.std.proofs.lemmas.Result.{on_ok_weaker}
+use Rattle.mid_program.specs.View.{view_mid}
+use Rattle.lower_expressions.specs.View.{view_layout}
+use Rattle.lowering.specs.Parts.{parts_code}
+use Rattle.lowering.proofs.main_parts.main_added.Goals as goal
+
+pub returns : goal.returns
+returns c = on_ok_weaker c.status_given.result
+    (λ h k. h k ∙ c.in_ok-block.ensures (parts_code (view_layout c.args.y.now) (view_mid c.args.y.now.script.now.program.now)) c.in_ok-inside.ensures _ ∙ c.in_ok-all_emptied.ensures _)
+    c.status_given.ensures

@@ -1,0 +1,14 @@
+use Rattle.std.proofs.Common.{pos, ap, ◌∙◌, arith}
+use Rattle.std.proofs.lemmas.Result.{on_ok_weaker}
+use Rattle.lower_model.specs.Statements.{name_read}
+use Rattle.lower_pieces.specs.Emits.{followed}
+use Rattle.lower_expressions.specs.View.{view_layout}
+use Rattle.lowering.proofs.QuickNames.{all_of}
+use Rattle.lowering.proofs.quick.all_unsure.Goals as goal
+
+pub returns : goal.returns
+returns c =
+    on_ok_weaker c.past.result
+    (λ h k. h k ∙ c.in_ok-joined.ensures _ ∙ (rw c.name_read.ensures at c.in_ok-shifted.ensures) _
+    ∙ ap (followed c.args.out.now.items) (all_of (name_read (view_layout c.args.y.now)) c.args.names.now (pos c.args.shift) c.args.width k (omega arith)))
+    c.past.ensures

@@ -1,0 +1,10 @@
+use Rattle.std.proofs.Common.{inr}
+use Rattle.mid_program.specs.View.{view_mid}
+use Rattle.lower_layout.proofs.Refusals.{refused}
+use Rattle.lowering.proofs.Weighing.{no_module}
+use Rattle.lowering.proofs.script.functions.Goals as goal
+
+pub returns-in_err-main-clause-too_large : goal.returns-in_err-main-clause-too_large
+returns-in_err-main-clause-too_large c =
+    refused c.from_residual-in_err-main.result c.in_err-main.field-0.0 _ c.from_residual-in_err-main.ensures.1
+    (λ e small. inr (inr (no_module (view_mid c.args.layout.now.program.now) (c.in_err-main.ensures.too_large e small.1.1))))

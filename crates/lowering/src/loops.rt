@@ -1,0 +1,145 @@
+//! Parts of loops.
+ghost use Rattle.std.specs.Prelude.{[], ◌∷◌, ◌≤◌, OnOk, suc, zero};
+ghost use Rattle.wasm_types.specs.Syntax.{Done, Instructions};
+ghost use Rattle.mid_program.specs.Mid.{a_value};
+ghost use Rattle.mid_program.specs.ViewCode.{view, view_array};
+ghost use Rattle.lower_model.specs.Emission.{dropped};
+ghost use Rattle.lower_model.specs.Statements.{iterator_left, key_stored};
+ghost use Rattle.lower_pieces.specs.Bounds.{most_labels, most_places};
+ghost use Rattle.lower_pieces.specs.Emits.{Emits};
+ghost use Rattle.lower_expressions.specs.Fits.{ArrayFits, Fits};
+ghost use Rattle.lower_expressions.specs.View.{view_layout};
+ghost use Rattle.lowering.specs.Parts.{iterator_made, key_asked, rounds, tested_on};
+
+use crate::evaluating::{dropped, tested};
+use host_imports::Import;
+use lower_expressions::{At, FunctionLayout, Kept, array_pushed};
+use lower_pieces::{
+    Bases, Form, again, ask, ask_row, block, does, does_all, emptied, let_go, moved_out,
+};
+use mid_program::{ArrayName, Code};
+use sem_primitives::{Answer, Primitive, Sort};
+use std::alloc::{AllocError, Global};
+use wasm_types::{IRelOp, Instr, Simple, ValType};
+
+/// -2, which an iterator answers past the last key.
+const END_CODE: u32 = u32::MAX - 1;
+
+/// Adds what is done over and over, within a label for its end.
+pub(crate) fn rounds(
+    alloc: Global,
+    out: &mut Vec<Instr>,
+    turn: Vec<Instr>,
+) -> Result<(), AllocError>
+    ensures { (a : Instructions → Instructions) → Emits [] turn.items a
+        → OnOk result (Emits out.old.items out.new.items (rounds (a Done))) }
+{
+    let mut code = Vec::new(alloc);
+    again(alloc, &mut code, turn)?;
+    block(alloc, out, code)
+}
+
+/// Begins a turn again where a test holds.
+pub(crate) fn tested_on(
+    y: &FunctionLayout<'_>,
+    out: &mut Vec<Instr>,
+    test: &Code,
+    exit: u32,
+) -> Result<(), AllocError>
+    requires fit { Fits (view_layout y.now) (view test.now) 0 0 (suc (suc exit)) }
+    requires labels { suc (suc exit) ≤ most_labels }
+    ensures { OnOk result
+        (Emits out.old.items out.new.items (tested_on (view_layout y.now) (view test.now) exit)) }
+{
+    does(out, Simple::Nop)?;
+    tested(y, out, test, exit + 2)?;
+    does(out, Simple::BrIf(0))
+}
+
+/// Makes an iterator over an array.
+pub(crate) fn iterator_made(
+    y: &FunctionLayout<'_>,
+    out: &mut Vec<Instr>,
+    array: ArrayName,
+    iterator: u32,
+) -> Result<(), AllocError>
+    requires array { ArrayFits (view_array array) }
+    requires few { iterator ≤ most_places }
+    ensures { OnOk result (Emits out.old.items out.new.items
+        (iterator_made (view_layout y.now) (view_array array) iterator)) }
+{
+    array_pushed(y, out, array)?;
+    ask_row(out, Primitive::Iter)?;
+    does(out, Simple::LocalSet(y.bases.iterator(iterator)))
+}
+
+/// Asks for the next key, and leaves the loop where there is none.
+fn key_asked(b: &Bases, out: &mut Vec<Instr>, iterator: u32) -> Result<(), AllocError>
+    requires { iterator ≤ most_places }
+    ensures { OnOk result (Emits out.old.items out.new.items (key_asked b.now iterator)) }
+{
+    let local = b.iterator(iterator);
+    does_all(out, &[Simple::LocalGet(local), Simple::LocalTee(local)])?;
+    ask_row(out, Primitive::IterNext)?;
+    let all = [
+        Simple::LocalTee(b.handle(0)),
+        Simple::I32Const(END_CODE),
+        Simple::Compare(ValType::I32, IRelOp::Eq),
+        Simple::BrIf(1),
+    ];
+    does_all(out, &all)
+}
+
+/// Stores the next key, which is kept in the first temporary meanwhile.
+pub(crate) fn key_stored(
+    y: &FunctionLayout<'_>,
+    out: &mut Vec<Instr>,
+    store: &Code,
+    iterator: u32,
+    exit: u32,
+) -> Result<(), AllocError>
+    requires few { iterator ≤ most_places }
+    requires fit { Fits (view_layout y.now) (view store.now) 1 0 exit }
+    ensures { OnOk result (Emits out.old.items out.new.items
+        (key_stored (view_layout y.now) iterator (view store.now) exit)) }
+{
+    key_asked(y.bases, out, iterator)?;
+    key_kept(y, out, store, exit)?;
+    let_go(y.alloc, out, Import::Drop, y.bases.handle(0))
+}
+
+/// Adds the code that stores what is kept in the first temporary.
+fn key_kept(
+    y: &FunctionLayout<'_>,
+    out: &mut Vec<Instr>,
+    store: &Code,
+    exit: u32,
+) -> Result<(), AllocError>
+    requires { Fits (view_layout y.now) (view store.now) 1 0 exit }
+    ensures { OnOk result (Emits out.old.items out.new.items
+        (dropped (view_layout y.now) (a_value ∷ []) (zero ∷ []) (view store.now) 1 0 exit)) }
+{
+    let mut kept = Kept::none(y.alloc);
+    kept.push(Form::Answered(Answer::Of(Sort::Value)), 0)?;
+    let at = At {
+        temporary: 1,
+        arrays: 0,
+        exit,
+    };
+    dropped(y, &mut kept, out, store, at)
+}
+
+/// Lets an iterator go.
+pub(crate) fn iterator_left(
+    y: &FunctionLayout<'_>,
+    out: &mut Vec<Instr>,
+    iterator: u32,
+) -> Result<(), AllocError>
+    requires { iterator ≤ most_places }
+    ensures { OnOk result
+        (Emits out.old.items out.new.items (iterator_left (view_layout y.now) iterator)) }
+{
+    emptied(out, y.bases.handle(0))?;
+    moved_out(out, y.bases.iterator(iterator))?;
+    ask(out, Import::IterFree)
+}

@@ -1,0 +1,148 @@
+//! The records of the main input.
+ghost use Rattle.std.specs.Prelude.{[], ◌≤◌, IfOk, OnOk};
+ghost use Rattle.mid_program.specs.ViewCode.{view_steps};
+ghost use Rattle.lower_model.specs.Statements.{goes_on, record_done, records_read};
+ghost use Rattle.lower_pieces.specs.Bounds.{most_labels};
+ghost use Rattle.lower_pieces.specs.Emits.{Emits};
+ghost use Rattle.lower_expressions.specs.View.{view_layout};
+ghost use Rattle.lowering.specs.Parts.{assignment_made, items_code, next_taken, record_asked, record_code, record_turn, record_way};
+ghost use Rattle.lowering.specs.StepFits.{LoopFits, StepsFit};
+
+use crate::around::OUTERMOST;
+use crate::holding::left_swept;
+use crate::leaving::{WAY_NEXT, WAY_NONE};
+use crate::steps::statements;
+use lower_expressions::{FunctionLayout, pending_code};
+use lower_pieces::{Bases, again, ask_row, block, does, does_all, kept_code, number_is, when};
+use mid_program::Step;
+use sem_primitives::Primitive;
+use std::alloc::AllocError;
+use wasm_types::{IRelOp, Instr, Simple, ValType};
+
+/// Goes on after `next` or `exit`, once what was held is let go.
+pub(crate) fn goes_on(y: &FunctionLayout<'_>, out: &mut Vec<Instr>) -> Result<(), AllocError>
+    ensures { OnOk result (Emits out.old.items out.new.items (goes_on (view_layout y.now))) }
+{
+    does_all(out, &[Simple::I32Const(WAY_NONE), Simple::GlobalSet(0)])?;
+    left_swept(y, out)
+}
+
+/// Goes on after `next`; all else leads out.
+fn next_taken(y: &FunctionLayout<'_>, out: &mut Vec<Instr>, exit: u32) -> Result<(), AllocError>
+    requires { exit ≤ most_labels }
+    ensures { OnOk result
+        (Emits out.old.items out.new.items (next_taken (view_layout y.now) exit)) }
+{
+    let all = [
+        Simple::GlobalGet(0),
+        Simple::I32Const(WAY_NEXT),
+        Simple::Compare(ValType::I32, IRelOp::Ne),
+        Simple::BrIf(exit + 1),
+    ];
+    does_all(out, &all)?;
+    goes_on(y, out)
+}
+
+/// Statements of `main` that nothing left.
+pub(crate) fn items_code(y: &FunctionLayout<'_>, items: &[Step]) -> Result<Vec<Instr>, AllocError>
+    requires { StepsFit (view_layout y.now) (view_steps items.now) 0 0 }
+    ensures { IfOk result
+        (λ v. Emits [] v.items (items_code (view_layout y.now) (view_steps items.now))) }
+{
+    let mut code = Vec::new(y.alloc);
+    statements(y, &mut code, items, OUTERMOST)?;
+    does(&mut code, Simple::Br(1))?;
+    Ok(code)
+}
+
+/// The items for a record, and how they were left.
+fn record_code(y: &FunctionLayout<'_>, items: &[Step], exit: u32) -> Result<Vec<Instr>, AllocError>
+    requires labels { exit ≤ most_labels }
+    requires fit { StepsFit (view_layout y.now) (view_steps items.now) 0 0 }
+    ensures { IfOk result
+        (λ v. Emits [] v.items (record_code (view_layout y.now) (view_steps items.now) exit)) }
+{
+    let mut code = Vec::new(y.alloc);
+    let inside = items_code(y, items)?;
+    block(y.alloc, &mut code, inside)?;
+    next_taken(y, &mut code, exit)?;
+    Ok(code)
+}
+
+/// Adds the items for a record.
+fn record_done(
+    y: &FunctionLayout<'_>,
+    out: &mut Vec<Instr>,
+    items: &[Step],
+    exit: u32,
+) -> Result<(), AllocError>
+    requires labels { exit ≤ most_labels }
+    requires fit { StepsFit (view_layout y.now) (view_steps items.now) 0 0 }
+    ensures { OnOk result (Emits out.old.items out.new.items
+        (record_done (view_layout y.now) (view_steps items.now) exit)) }
+{
+    let inside = record_code(y, items, exit)?;
+    block(y.alloc, out, inside)
+}
+
+/// Asks for a record, and adds the test whether there is one.
+fn record_asked(b: &Bases, out: &mut Vec<Instr>, exit: u32) -> Result<(), AllocError>
+    requires { exit ≤ most_labels }
+    ensures { OnOk result (Emits out.old.items out.new.items (record_asked b.now exit)) }
+{
+    ask_row(out, Primitive::NextMain)?;
+    kept_code(b, out, true, 0, exit + 1)?;
+    number_is(out, b.number(0), 1)
+}
+
+/// What is done where there is a record.
+fn record_way(y: &FunctionLayout<'_>, items: &[Step], exit: u32) -> Result<Vec<Instr>, AllocError>
+    requires labels { exit ≤ most_labels }
+    requires fit { StepsFit (view_layout y.now) (view_steps items.now) 0 0 }
+    ensures { IfOk result
+        (λ v. Emits [] v.items (record_way (view_layout y.now) (view_steps items.now) exit)) }
+{
+    let mut code = Vec::new(y.alloc);
+    record_done(y, &mut code, items, exit)?;
+    does(&mut code, Simple::Br(1))?;
+    Ok(code)
+}
+
+/// Makes an assignment of the command line, where one stands before the next record.
+fn assignment_made(y: &FunctionLayout<'_>, out: &mut Vec<Instr>) -> Result<(), AllocError>
+    ensures { OnOk result
+        (Emits out.old.items out.new.items (assignment_made (view_layout y.now))) }
+{
+    number_is(out, y.bases.number(0), 2)?;
+    when(y.alloc, out, pending_code(y, 0)?)
+}
+
+/// One record, or one assignment.
+fn record_turn(y: &FunctionLayout<'_>, items: &[Step], exit: u32) -> Result<Vec<Instr>, AllocError>
+    requires labels { LoopFits exit }
+    requires fit { StepsFit (view_layout y.now) (view_steps items.now) 0 0 }
+    ensures { IfOk result
+        (λ v. Emits [] v.items (record_turn (view_layout y.now) (view_steps items.now) exit)) }
+{
+    let mut code = Vec::new(y.alloc);
+    record_asked(y.bases, &mut code, exit)?;
+    when(y.alloc, &mut code, record_way(y, items, exit + 2)?)?;
+    assignment_made(y, &mut code)?;
+    Ok(code)
+}
+
+/// Reads records to the last one, with the items for each.
+pub(crate) fn records_read(
+    y: &FunctionLayout<'_>,
+    out: &mut Vec<Instr>,
+    items: &[Step],
+    exit: u32,
+) -> Result<(), AllocError>
+    requires labels { LoopFits exit }
+    requires fit { StepsFit (view_layout y.now) (view_steps items.now) 0 0 }
+    ensures { OnOk result (Emits out.old.items out.new.items
+        (records_read (view_layout y.now) (view_steps items.now) exit)) }
+{
+    let turn = record_turn(y, items, exit)?;
+    again(y.alloc, out, turn)
+}

@@ -1,0 +1,116 @@
+//! The code of a function.
+ghost use Rattle.std.specs.Prelude.{[], ◌≡◌, ◌≤◌, IfOk, OnOk, length, map};
+ghost use Rattle.wasm_types.specs.View.{views};
+ghost use Rattle.mid_program.specs.View.{view_kind};
+ghost use Rattle.mid_program.specs.ViewCode.{view_steps};
+ghost use Rattle.lower_model.specs.Statements.{parameters_dropped, routine_body};
+ghost use Rattle.lower_pieces.specs.Bounds.{most_places};
+ghost use Rattle.lower_pieces.specs.Emits.{Emits};
+ghost use Rattle.lower_expressions.specs.View.{view_layout};
+ghost use Rattle.lowering.specs.Parts.{answer_given, parameter_dropped, routine_code, routine_steps};
+ghost use Rattle.lowering.specs.StepFits.{StepsFit};
+
+use crate::around::OUTERMOST;
+use crate::holding::{all_emptied, swept};
+use crate::steps::statements;
+use host_imports::Import;
+use lower_expressions::FunctionLayout;
+use lower_pieces::{ask, ask_row, block, does};
+use mid_program::{Kind, Step};
+use sem_primitives::Primitive;
+use std::alloc::AllocError;
+use wasm_types::{Instr, Simple};
+
+/// Drops the value of a parameter.
+fn parameter_dropped(out: &mut Vec<Instr>, kind: Kind, local: u32) -> Result<(), AllocError>
+    ensures { OnOk result
+        (Emits out.old.items out.new.items (parameter_dropped (view_kind kind) local)) }
+{
+    match kind {
+        Kind::Boxed => {
+            does(out, Simple::LocalGet(local))?;
+            ask(out, Import::Drop)
+        }
+        Kind::Unboxed | Kind::Many => Ok(()),
+    }
+}
+
+/// Drops the values of parameters.
+fn parameters_dropped(
+    y: &FunctionLayout<'_>,
+    out: &mut Vec<Instr>,
+    kinds: &[Kind],
+) -> Result<(), AllocError>
+    requires { length kinds.now ≤ most_places }
+    ensures { OnOk result (Emits out.old.items out.new.items
+        (parameters_dropped (view_layout y.now) 0 (map view_kind kinds.now))) }
+{
+    let mut local = 0;
+    for kind in kinds {
+        parameter_dropped(out, *kind, local)?;
+        local += 1;
+    }
+    Ok(())
+}
+
+/// The statements of a function, after which the answer is the uninitialised value.
+fn body_code(y: &FunctionLayout<'_>, body: &[Step]) -> Result<Vec<Instr>, AllocError>
+    requires { StepsFit (view_layout y.now) (view_steps body.now) 0 0 }
+    ensures { IfOk result
+        (λ v. Emits [] v.items (routine_steps (view_layout y.now) (view_steps body.now))) }
+{
+    let mut code = Vec::new(y.alloc);
+    statements(y, &mut code, body, OUTERMOST)?;
+    ask_row(&mut code, Primitive::Uninit)?;
+    does(&mut code, Simple::LocalSet(y.bases.answer()))?;
+    Ok(code)
+}
+
+/// Lets go of what a function has, and gives its answer.
+fn answer_given(
+    y: &FunctionLayout<'_>,
+    out: &mut Vec<Instr>,
+    kinds: &[Kind],
+) -> Result<(), AllocError>
+    requires { length kinds.now ≤ most_places }
+    ensures { OnOk result (Emits out.old.items out.new.items
+        (answer_given (view_layout y.now) (map view_kind kinds.now))) }
+{
+    swept(y, out)?;
+    parameters_dropped(y, out, kinds)?;
+    does(out, Simple::LocalGet(y.bases.answer()))
+}
+
+/// Adds the code of a function.
+fn routine_added(
+    y: &FunctionLayout<'_>,
+    out: &mut Vec<Instr>,
+    kinds: &[Kind],
+    body: &[Step],
+) -> Result<(), AllocError>
+    requires parameters { length kinds.now ≤ most_places }
+    requires fit { StepsFit (view_layout y.now) (view_steps body.now) 0 0 }
+    ensures { OnOk result (Emits out.old.items out.new.items
+        (routine_code (view_layout y.now) (map view_kind kinds.now) (view_steps body.now))) }
+{
+    all_emptied(y, out)?;
+    let inside = body_code(y, body)?;
+    block(y.alloc, out, inside)?;
+    answer_given(y, out, kinds)
+}
+
+/// The code of a function: its body is a block, whose end is the function's exit.
+pub(crate) fn routine_code(
+    y: &FunctionLayout<'_>,
+    kinds: &[Kind],
+    body: &[Step],
+) -> Result<Vec<Instr>, AllocError>
+    requires parameters { length kinds.now ≤ most_places }
+    requires fit { StepsFit (view_layout y.now) (view_steps body.now) 0 0 }
+    ensures { IfOk result (λ v. views v.items
+        ≡ routine_body (view_layout y.now) (map view_kind kinds.now) (view_steps body.now)) }
+{
+    let mut code = Vec::new(y.alloc);
+    routine_added(y, &mut code, kinds, body)?;
+    Ok(code)
+}

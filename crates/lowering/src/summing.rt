@@ -1,0 +1,265 @@
+//! Sums in all cases: a name's number may not be there yet, or be that of the text beside it.
+ghost use Rattle.std.specs.Prelude.{[], ◌≤◌, IfOk, OnOk, suc};
+ghost use Rattle.mid_program.specs.Mid.{form_of};
+ghost use Rattle.mid_program.specs.ViewCode.{view};
+ghost use Rattle.lower_model.specs.Quick.{sum_op};
+ghost use Rattle.lower_model.specs.Statements.{name_numbered, number_found, number_there, source_numbered, source_taken, sum_kept, sum_taken, summed_anyway, updated};
+ghost use Rattle.lower_pieces.specs.Bounds.{most_labels, most_places};
+ghost use Rattle.lower_pieces.specs.Emits.{Emits};
+ghost use Rattle.lower_pieces.specs.Forms.{view_form};
+ghost use Rattle.lower_expressions.specs.Fits.{Fits};
+ghost use Rattle.lower_expressions.specs.View.{view_layout};
+ghost use Rattle.lower_quick.specs.View.{view_source, view_sum, view_update};
+ghost use Rattle.lowering.specs.Parts.{number_asked, zero_put};
+ghost use Rattle.lowering.specs.QuickFits.{SourceFits, SumFits};
+
+use crate::evaluating::answered;
+use crate::quick::sum_op;
+use awk_text::MAX_NUMBER;
+use awk_values::Fault;
+use lower_expressions::{FunctionLayout, global_handle, global_number, text_dropped};
+use lower_pieces::{
+    Form, TEXT_BESIDE, copied_by, does, does_all, either, fail_if, number_is, to_number, when,
+};
+use lower_quick::{Source, Sum, Update};
+use sem_primitives::{Answer, Sort};
+use std::alloc::AllocError;
+use wasm_types::{IBinOp, IRelOp, Instr, Simple, ValType};
+
+/// What makes a number of the text beside a name, from within two labels more.
+fn number_there(
+    y: &FunctionLayout<'_>,
+    name: usize,
+    t: u32,
+    exit: u32,
+) -> Result<Vec<Instr>, AllocError>
+    requires name { name ≤ most_places }
+    requires places { t ≤ most_places }
+    requires labels { suc (suc exit) ≤ most_labels }
+    ensures { IfOk result
+        (λ v. Emits [] v.items (number_there (view_layout y.now) name t (suc (suc exit)))) }
+{
+    let mut code = Vec::new(y.alloc);
+    let global = global_handle(y, name);
+    let (get, set) = (Simple::GlobalGet(global), Simple::GlobalSet(global));
+    copied_by(&mut code, get, set, y.bases.handle(t))?;
+    let value = Form::Answered(Answer::Of(Sort::Value));
+    to_number(y.alloc, y.bases, &mut code, value, t, exit + 2)?;
+    Ok(code)
+}
+
+/// What makes 0 of what is no number yet.
+fn zero_put(y: &FunctionLayout<'_>, t: u32) -> Result<Vec<Instr>, AllocError>
+    requires { t ≤ most_places }
+    ensures { IfOk result (λ v. Emits [] v.items (zero_put y.now.bases.now t)) }
+{
+    let mut code = Vec::new(y.alloc);
+    does_all(
+        &mut code,
+        &[Simple::I64Const(0), Simple::LocalSet(y.bases.number(t))],
+    )?;
+    Ok(code)
+}
+
+/// What makes a number of what a name has that has none, from within one label more.
+fn number_found(
+    y: &FunctionLayout<'_>,
+    name: usize,
+    t: u32,
+    exit: u32,
+) -> Result<Vec<Instr>, AllocError>
+    requires name { name ≤ most_places }
+    requires places { t ≤ most_places }
+    requires labels { suc (suc exit) ≤ most_labels }
+    ensures { IfOk result (λ v. Emits [] v.items (number_found (view_layout y.now) name t exit)) }
+{
+    let mut code = Vec::new(y.alloc);
+    number_is(&mut code, y.bases.number(t), TEXT_BESIDE)?;
+    let some = number_there(y, name, t, exit)?;
+    either(y.alloc, &mut code, some, zero_put(y, t)?)?;
+    Ok(code)
+}
+
+/// Puts a name's number into a temporary.
+fn name_numbered(
+    y: &FunctionLayout<'_>,
+    out: &mut Vec<Instr>,
+    name: usize,
+    t: u32,
+    exit: u32,
+) -> Result<(), AllocError>
+    requires name { name ≤ most_places }
+    requires places { t ≤ most_places }
+    requires labels { suc (suc exit) ≤ most_labels }
+    ensures { OnOk result
+        (Emits out.old.items out.new.items (name_numbered (view_layout y.now) name t exit)) }
+{
+    let all = [
+        Simple::GlobalGet(global_number(y, name)),
+        Simple::LocalTee(y.bases.number(t)),
+        Simple::I64Const(TEXT_BESIDE),
+        Simple::Compare(ValType::I64, IRelOp::LeS),
+    ];
+    does_all(out, &all)?;
+    when(y.alloc, out, number_found(y, name, t, exit)?)
+}
+
+/// The same of a source: a constant needs no temporary.
+fn source_numbered(
+    y: &FunctionLayout<'_>,
+    out: &mut Vec<Instr>,
+    source: Source,
+    t: u32,
+    exit: u32,
+) -> Result<(), AllocError>
+    requires fits { SourceFits (view_source source) }
+    requires places { t ≤ most_places }
+    requires labels { suc (suc exit) ≤ most_labels }
+    ensures { OnOk result (Emits out.old.items out.new.items
+        (source_numbered (view_layout y.now) (view_source source) t exit)) }
+{
+    match source {
+        Source::Named(name) => name_numbered(y, out, name, t, exit),
+        Source::Constant(_) => Ok(()),
+    }
+}
+
+/// Puts a source's number on the stack.
+fn source_taken(
+    y: &FunctionLayout<'_>,
+    out: &mut Vec<Instr>,
+    source: Source,
+    t: u32,
+) -> Result<(), AllocError>
+    requires places { t ≤ most_places }
+    ensures { OnOk result (Emits out.old.items out.new.items
+        (source_taken (view_layout y.now) (view_source source) t)) }
+{
+    match source {
+        Source::Named(_) => does(out, Simple::LocalGet(y.bases.number(t))),
+        Source::Constant(number) => does(out, Simple::I64Const(number.cast_unsigned())),
+    }
+}
+
+/// Puts what an operator gives of two numbers on the stack into a temporary, and tests it.
+pub(crate) fn sum_kept(
+    y: &FunctionLayout<'_>,
+    out: &mut Vec<Instr>,
+    op: IBinOp,
+    t: u32,
+    exit: u32,
+) -> Result<(), AllocError>
+    requires places { t ≤ most_places }
+    requires labels { exit ≤ most_labels }
+    ensures { OnOk result
+        (Emits out.old.items out.new.items (sum_kept (view_layout y.now) op t exit)) }
+{
+    let all = [
+        Simple::Binary(ValType::I64, op),
+        Simple::LocalTee(y.bases.number(t)),
+        Simple::I64Const(MAX_NUMBER),
+        Simple::Binary(ValType::I64, IBinOp::Add),
+        Simple::I64Const(1 << 54),
+        Simple::Compare(ValType::I64, IRelOp::GtU),
+    ];
+    does_all(out, &all)?;
+    fail_if(y.alloc, out, Fault::Range, exit)
+}
+
+/// A name takes what an operator gives of two numbers on the stack.
+fn sum_taken(
+    y: &FunctionLayout<'_>,
+    out: &mut Vec<Instr>,
+    op: IBinOp,
+    name: usize,
+    exit: u32,
+) -> Result<(), AllocError>
+    requires name { name ≤ most_places }
+    requires labels { exit ≤ most_labels }
+    ensures { OnOk result
+        (Emits out.old.items out.new.items (sum_taken (view_layout y.now) op name 0 exit)) }
+{
+    sum_kept(y, out, op, 0, exit)?;
+    text_dropped(y, out, name)?;
+    let all = [
+        Simple::LocalGet(y.bases.number(0)),
+        Simple::GlobalSet(global_number(y, name)),
+    ];
+    does_all(out, &all)
+}
+
+/// Adds a sum of sources.
+fn summed_anyway(
+    y: &FunctionLayout<'_>,
+    out: &mut Vec<Instr>,
+    sum: Sum,
+    exit: u32,
+) -> Result<(), AllocError>
+    requires sum { SumFits (view_sum sum) }
+    requires labels { suc (suc exit) ≤ most_labels }
+    ensures { OnOk result (Emits out.old.items out.new.items
+        (summed_anyway (view_layout y.now) (view_sum sum) exit)) }
+{
+    source_numbered(y, out, sum.left, 0, exit)?;
+    source_numbered(y, out, sum.right, 1, exit)?;
+    source_taken(y, out, sum.left, 0)?;
+    source_taken(y, out, sum.right, 1)?;
+    sum_taken(y, out, sum_op(sum.op), sum.target, exit)
+}
+
+/// The same in a list of its own.
+pub(crate) fn anyway_code(
+    y: &FunctionLayout<'_>,
+    sum: Sum,
+    exit: u32,
+) -> Result<Vec<Instr>, AllocError>
+    requires sum { SumFits (view_sum sum) }
+    requires labels { suc (suc exit) ≤ most_labels }
+    ensures { IfOk result
+        (λ v. Emits [] v.items (summed_anyway (view_layout y.now) (view_sum sum) exit)) }
+{
+    let mut code = Vec::new(y.alloc);
+    summed_anyway(y, &mut code, sum, exit)?;
+    Ok(code)
+}
+
+/// Asks for the number of a name, and then for that of what is added; both are put on the stack.
+fn number_asked(
+    y: &FunctionLayout<'_>,
+    out: &mut Vec<Instr>,
+    name: usize,
+    form: Form,
+    exit: u32,
+) -> Result<(), AllocError>
+    requires name { name ≤ most_places }
+    requires labels { suc (suc exit) ≤ most_labels }
+    ensures { OnOk result (Emits out.old.items out.new.items
+        (number_asked (view_layout y.now) name (view_form form) exit)) }
+{
+    name_numbered(y, out, name, 1, exit)?;
+    to_number(y.alloc, y.bases, out, form, 0, exit)?;
+    let all = [
+        Simple::LocalGet(y.bases.number(1)),
+        Simple::LocalGet(y.bases.number(0)),
+    ];
+    does_all(out, &all)
+}
+
+/// Adds a sum of a name and what is evaluated first.
+pub(crate) fn updated(
+    y: &FunctionLayout<'_>,
+    out: &mut Vec<Instr>,
+    update: Update<'_>,
+    exit: u32,
+) -> Result<(), AllocError>
+    requires target { update.target ≤ most_places }
+    requires name { update.name ≤ most_places }
+    requires fit { Fits (view_layout y.now) (view update.added.now) 0 0 exit }
+    requires labels { suc (suc exit) ≤ most_labels }
+    ensures { OnOk result (Emits out.old.items out.new.items
+        (updated (view_layout y.now) (view_update update.entry) exit)) }
+{
+    let form = answered(y, out, update.added, exit)?;
+    number_asked(y, out, update.name, form, exit)?;
+    sum_taken(y, out, sum_op(update.op), update.target, exit)
+}

@@ -1,0 +1,188 @@
+//! Tests of loops and of choices: where one does not hold, code is left to a label.
+ghost use Rattle.std.specs.Prelude.{[], ◌≤◌, IfOk, OnOk, suc};
+ghost use Rattle.wasm_types.specs.Syntax.{Done};
+ghost use Rattle.mid_program.specs.ViewCode.{view};
+ghost use Rattle.lower_model.specs.Quick.{counted_in, pair_in, test_within};
+ghost use Rattle.lower_model.specs.Statements.{left_unless, left_unless_counted, left_unless_pair};
+ghost use Rattle.lower_pieces.specs.Bounds.{most_labels, most_places};
+ghost use Rattle.lower_pieces.specs.Emits.{Emits};
+ghost use Rattle.lower_expressions.specs.Fits.{Fits};
+ghost use Rattle.lower_expressions.specs.View.{view_layout};
+ghost use Rattle.lower_quick.specs.View.{view_counted, view_pair, view_within};
+ghost use Rattle.lowering.specs.Parts.{counted_tested, pair_tested, test_left, within_tested};
+ghost use Rattle.lowering.specs.QuickFits.{PairFits};
+ghost use Rattle.lowering.specs.StepFits.{TestFits};
+
+use crate::evaluating::tested;
+use crate::quick::{all_unsure, counted_code, pair_code, unnumbered, unsure};
+use awk_text::MAX_NUMBER;
+use lower_expressions::FunctionLayout;
+use lower_pieces::{does_all, either, when};
+use lower_quick::{Counted, Pair, Within, counted_in, pair_in, pair_names, test_within};
+use mid_program::Code;
+use std::alloc::AllocError;
+use wasm_types::{ITestOp, Instr, Simple, ValType};
+
+/// Adds a test in all cases, and leaves to a label where it does not hold.
+fn test_left(
+    y: &FunctionLayout<'_>,
+    out: &mut Vec<Instr>,
+    test: &Code,
+    exit: u32,
+    label: u32,
+) -> Result<(), AllocError>
+    requires { Fits (view_layout y.now) (view test.now) 0 0 exit }
+    ensures { OnOk result (Emits out.old.items out.new.items
+        (test_left (view_layout y.now) (view test.now) exit label)) }
+{
+    tested(y, out, test, exit)?;
+    let all = [
+        Simple::Test(ValType::I32, ITestOp::Eqz),
+        Simple::BrIf(label),
+    ];
+    does_all(out, &all)
+}
+
+/// The same in a list of its own, from within one label more.
+fn test_code(
+    y: &FunctionLayout<'_>,
+    test: &Code,
+    exit: u32,
+    label: u32,
+) -> Result<Vec<Instr>, AllocError>
+    requires labels { suc exit ≤ most_labels }
+    requires label { label ≤ exit }
+    requires fit { Fits (view_layout y.now) (view test.now) 0 0 (suc exit) }
+    ensures { IfOk result (λ v. Emits [] v.items
+        (test_left (view_layout y.now) (view test.now) (suc exit) (suc label))) }
+{
+    let mut code = Vec::new(y.alloc);
+    test_left(y, &mut code, test, exit + 1, label + 1)?;
+    Ok(code)
+}
+
+/// Adds a comparison of sources: by the module itself where their numbers are in range.
+fn pair_tested(
+    y: &FunctionLayout<'_>,
+    out: &mut Vec<Instr>,
+    pair: Pair,
+    test: &Code,
+    exit: u32,
+    label: u32,
+) -> Result<(), AllocError>
+    requires labels { suc exit ≤ most_labels }
+    requires label { label ≤ exit }
+    requires pair { PairFits (view_pair pair) }
+    requires fit { Fits (view_layout y.now) (view test.now) 0 0 (suc exit) }
+    ensures { OnOk result (Emits out.old.items out.new.items
+        (pair_tested (view_layout y.now) (view_pair pair) (view test.now) exit label)) }
+{
+    let names = pair_names(y.alloc, pair)?;
+    all_unsure(y, out, &names, MAX_NUMBER, 1 << 54)?;
+    let all_cases = test_code(y, test, exit, label)?;
+    let quick = pair_code(y, pair, label)?;
+    either(y.alloc, out, all_cases, quick)
+}
+
+/// Adds a comparison of a name with how many fields there are: of two numbers where the name has one.
+fn counted_tested(
+    y: &FunctionLayout<'_>,
+    out: &mut Vec<Instr>,
+    counted: Counted,
+    test: &Code,
+    exit: u32,
+    label: u32,
+) -> Result<(), AllocError>
+    requires labels { suc exit ≤ most_labels }
+    requires label { label ≤ exit }
+    requires name { counted.name ≤ most_places }
+    requires fit { Fits (view_layout y.now) (view test.now) 0 0 (suc exit) }
+    ensures { OnOk result (Emits out.old.items out.new.items
+        (counted_tested (view_layout y.now) (view_counted counted) (view test.now) exit label)) }
+{
+    unnumbered(y, out, counted.name)?;
+    let all_cases = test_code(y, test, exit, label)?;
+    let quick = counted_code(y, counted, label)?;
+    either(y.alloc, out, all_cases, quick)
+}
+
+/// Adds a test that may compare a name with how many fields there are, and leaves to a label where it does not hold.
+fn left_unless_counted(
+    y: &FunctionLayout<'_>,
+    out: &mut Vec<Instr>,
+    test: &Code,
+    exit: u32,
+    label: u32,
+) -> Result<(), AllocError>
+    requires labels { suc exit ≤ most_labels }
+    requires label { label ≤ exit }
+    requires fit { TestFits (view_layout y.now) (view test.now) exit }
+    ensures { OnOk result (Emits out.old.items out.new.items (left_unless_counted
+        (view_layout y.now) (counted_in (view test.now)) (view test.now) exit label)) }
+{
+    match counted_in(test) {
+        Some(counted) => counted_tested(y, out, counted, test, exit, label),
+        None => test_left(y, out, test, exit, label),
+    }
+}
+
+/// Adds a test that may compare sources, and leaves to a label where it does not hold.
+pub(crate) fn left_unless_pair(
+    y: &FunctionLayout<'_>,
+    out: &mut Vec<Instr>,
+    test: &Code,
+    exit: u32,
+    label: u32,
+) -> Result<(), AllocError>
+    requires labels { suc exit ≤ most_labels }
+    requires label { label ≤ exit }
+    requires fit { TestFits (view_layout y.now) (view test.now) exit }
+    ensures { OnOk result (Emits out.old.items out.new.items (left_unless_pair (view_layout y.now)
+        (pair_in (view test.now)) (view test.now) exit label)) }
+{
+    match pair_in(test) {
+        Some(pair) => pair_tested(y, out, pair, test, exit, label),
+        None => left_unless_counted(y, out, test, exit, label),
+    }
+}
+
+/// Adds a test that holds of some numbers of a name.
+fn within_tested(
+    y: &FunctionLayout<'_>,
+    out: &mut Vec<Instr>,
+    within: Within,
+    test: &Code,
+    exit: u32,
+    label: u32,
+) -> Result<(), AllocError>
+    requires labels { suc exit ≤ most_labels }
+    requires label { label ≤ exit }
+    requires name { within.name ≤ most_places }
+    requires fit { Fits (view_layout y.now) (view test.now) 0 0 (suc exit) }
+    ensures { OnOk result (Emits out.old.items out.new.items
+        (within_tested (view_layout y.now) (view_within within) (view test.now) exit label)) }
+{
+    unsure(y, out, within)?;
+    let all_cases = test_code(y, test, exit, label)?;
+    when(y.alloc, out, all_cases)
+}
+
+/// Adds a test, and leaves to a label where it does not hold.
+pub(crate) fn left_unless(
+    y: &FunctionLayout<'_>,
+    out: &mut Vec<Instr>,
+    test: &Code,
+    exit: u32,
+    label: u32,
+) -> Result<(), AllocError>
+    requires labels { suc exit ≤ most_labels }
+    requires label { label ≤ exit }
+    requires fit { TestFits (view_layout y.now) (view test.now) exit }
+    ensures { OnOk result (Emits out.old.items out.new.items (left_unless (view_layout y.now)
+        (test_within (view test.now)) (view test.now) exit label)) }
+{
+    match test_within(test) {
+        Some(within) => within_tested(y, out, within, test, exit, label),
+        None => left_unless_pair(y, out, test, exit, label),
+    }
+}
